@@ -1,0 +1,5 @@
+pub mod Errno
+pub mod Inet
+pub mod Link
+pub mod Name
+pub mod Padded

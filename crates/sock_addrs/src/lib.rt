@@ -1,0 +1,15 @@
+//! Addresses as routing messages write them: names, IPv4 addresses, link-layer addresses and masks, and the errnos
+//! that a routing socket answers.
+#![tactic(auto)]
+
+mod errno;
+mod gate;
+mod inet;
+mod link;
+mod name;
+
+pub use errno::Errno;
+pub use gate::Gate;
+pub use inet::Inet;
+pub use link::Link;
+pub use name::Name;
