@@ -3,3 +3,5 @@ pub mod Inet
 pub mod Link
 pub mod Name
 pub mod Padded
+pub mod Rounding
+pub mod Texts

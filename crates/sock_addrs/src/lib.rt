@@ -7,9 +7,15 @@ mod gate;
 mod inet;
 mod link;
 mod name;
+mod reading;
+mod rounding;
+mod writing;
 
 pub use errno::Errno;
 pub use gate::Gate;
 pub use inet::Inet;
 pub use link::Link;
 pub use name::Name;
+pub use reading::family_of;
+pub use rounding::round;
+pub use writing::{write_inet, write_link, write_mask};
