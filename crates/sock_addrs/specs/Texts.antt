@@ -1,5 +1,5 @@
 -- The texts of addresses: the bytes of `struct sockaddr_in`, and of a mask that is cut behind its last bit.
-use Rattle.std.specs.Prelude.{ℕ, ◌+◌, ◌-◌, ◌^◌, List, [], ◌∷◌, ◌++◌, replicate, slice_index, cond, nat_le, zero, suc}
+use Rattle.std.specs.Prelude.{◌≡◌, ℕ, ◌+◌, ◌-◌, ◌/◌, ◌%◌, ◌^◌, ◌<◌, ◌≤◌, List, [], ◌∷◌, ◌++◌, replicate, slice_index, cond, nat_le, nat_lt, if◌then◌else◌, zero, suc}
 use Rattle.std.specs.Int.{w32, to_be_bytes, div_ceil}
 
 -- an address's family: byte 1 of its text, or 0 where the length byte says that there is none (where the text ends before it, byte 1 is 0 too)
@@ -18,3 +18,11 @@ mask_number p = 2 ^ 32 - 2 ^ (32 - p)
 abbrev pub mask_text : ℕ → List ℕ
 mask_text zero = 0 ∷ 0 ∷ 0 ∷ 0 ∷ []
 mask_text (suc p) = (4 + div_ceil (suc p) 8) ∷ 0 ∷ 0 ∷ 0 ∷ to_be_bytes w32 (mask_number (suc p))
+
+-- from the highest on, the bits of a mask's number are ones as far as the mask goes, and then zeros
+abbrev pub MaskIsOnesThenZeros : Type 0
+MaskIsOnesThenZeros = (p i : ℕ) → p ≤ 32 → i < 32 → mask_number p / 2 ^ (31 - i) % 2 ≡ (if nat_lt i p then 1 else 0)
+
+-- two masks with one text are one
+abbrev pub MaskTextsDiffer : Type 0
+MaskTextsDiffer = (p q : ℕ) → p ≤ 32 → q ≤ 32 → mask_text p ≡ mask_text q → p ≡ q

@@ -2,6 +2,7 @@
 //! that a routing socket answers.
 #![tactic(auto)]
 
+mod bad_addr;
 mod errno;
 mod gate;
 mod inet;
@@ -11,11 +12,12 @@ mod reading;
 mod rounding;
 mod writing;
 
+pub use bad_addr::BadAddr;
 pub use errno::Errno;
 pub use gate::Gate;
 pub use inet::Inet;
 pub use link::Link;
 pub use name::Name;
-pub use reading::family_of;
+pub use reading::{family_of, read_inet};
 pub use rounding::round;
 pub use writing::{write_inet, write_link, write_mask};
