@@ -1,6 +1,7 @@
 //! Masks by their lengths: the rank of a route, and which addresses agree with it.
 #![tactic(auto)]
 
+pub mod laws;
 mod prefix;
 mod rank;
 
