@@ -6,6 +6,7 @@ mod bad_addr;
 mod errno;
 mod gate;
 mod inet;
+pub mod laws;
 mod link;
 mod name;
 mod reading;
