@@ -4,6 +4,8 @@
 pub mod laws;
 mod prefix;
 mod rank;
+#[cfg(test)]
+mod tests;
 
 pub use prefix::Prefix;
 pub use rank::{Rank, agrees, masked};

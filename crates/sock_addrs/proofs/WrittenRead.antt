@@ -1,5 +1,5 @@
 -- What is written of an address is read again, and of two masks the texts differ.
-use Rattle.std.proofs.Common.{◌≡◌, ℕ, ◌+◌, ◌-◌, ◌/◌, ◌%◌, ◌^◌, ◌<◌, ◌≤◌, Bool, true, false, nat_eq, nat_le, nat_lt, suc, zero, inl, inr, List, ◌++◌, length, take, drop, sym, ◌∙◌, ap, refl, arith, lit≤, length-append}
+use Rattle.std.proofs.Common.{◌≡◌, ℕ, ◌+◌, ◌-◌, ◌/◌, ◌%◌, ◌^◌, ◌<◌, ◌≤◌, Bool, true, false, nat_eq, nat_le, nat_lt, not, eq-eqb, suc, zero, inl, inr, List, ◌++◌, length, take, drop, sym, ◌∙◌, ap, refl, arith, lit≤, length-append}
 use Rattle.std.specs.Int.{w32, from_be_bytes}
 use Rattle.std.specs.Prelude.{slice_index, if◌then◌else◌}
 use Rattle.std.proofs.Math.Pow.{pow_mono}
@@ -99,3 +99,12 @@ bits_are_right p h = passes_at 33 (λ p. passes_below 32 (bit_is_right p)) p ref
 pub mask_is_ones_then_zeros : MaskIsOnesThenZeros
 unfolding bit_is_right
 mask_is_ones_then_zeros p i hp hi = eqb-true _ _ (passes_at 32 (bit_is_right p) i (bits_are_right p (omega arith)) hi)
+
+-- 255.0.255.0 is the number of no mask
+pub scattered_is_no_mask : (bits : ℕ) → bits ≤ 32 → 0xff00_ff00 ≡ mask_number bits → ⊥
+unfolding passes_below
+scattered_is_no_mask bits h e =
+    let test : ℕ → Bool = λ p. not (nat_eq 0xff00_ff00 (mask_number p)) in
+    let no : not (nat_eq 0xff00_ff00 (mask_number bits)) ≡ true = passes_at 33 test bits refl (omega arith) in
+    let yes : nat_eq 0xff00_ff00 (mask_number bits) ≡ true = eq-eqb _ _ e in
+    cc
