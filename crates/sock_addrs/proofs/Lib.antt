@@ -1,1 +1,5 @@
+mod Below
 mod LinkCells
+mod ReadOnce
+mod RoundingLaws
+mod WrittenRead

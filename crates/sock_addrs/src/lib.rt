@@ -2,14 +2,25 @@
 //! that a routing socket answers.
 #![tactic(auto)]
 
+mod bad_addr;
 mod errno;
 mod gate;
 mod inet;
+pub mod laws;
 mod link;
 mod name;
+mod reading;
+mod rounding;
+#[cfg(test)]
+mod tests;
+mod writing;
 
+pub use bad_addr::BadAddr;
 pub use errno::Errno;
 pub use gate::Gate;
 pub use inet::Inet;
 pub use link::Link;
 pub use name::Name;
+pub use reading::{family_of, read_inet};
+pub use rounding::round;
+pub use writing::{write_inet, write_link, write_mask};

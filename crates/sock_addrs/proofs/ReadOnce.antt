@@ -1,0 +1,115 @@
+-- Each text is read, and in one way alone.
+use Rattle.std.proofs.Common.{◌≡◌, ℕ, ◌<◌, ◌≤◌, ◌⊎◌, inl, inr, zero, suc, List, length, Result, Ok, Err, sym, ◌∙◌, ap, refl, arith}
+use Rattle.std.specs.Int.{IsOutOfRange}
+use Rattle.std.proofs.lemmas.Bool.{cases_eq, cases_lt}
+use Rattle.sock_addrs.specs.Texts.{family, mask_number}
+use Rattle.sock_addrs.specs.Reading.{length_byte, number_of_mask, IsShort, IsWhole, ReadsInet, ReadsGate, ReadsMask, IsReadOnce}
+use Rattle.sock_addrs.specs.declared.bad_addr.BadAddr.{BadAddr}
+use Rattle.sock_addrs.specs.declared.bad_addr.BadAddr.TheVariants as bad
+use Rattle.sock_addrs.specs.declared.gate.Gate.{Gate}
+use Rattle.sock_addrs.specs.declared.gate.Gate.TheVariants as gate
+use Rattle.sock_addrs.proofs.WrittenRead.{same_mask}
+
+short_or_whole : (text : List ℕ) → IsShort text ⊎ IsWhole text
+short_or_whole text = elim (cases_eq (length text) 0) [
+  | inl none ↦ inl (inl none)
+  | inr some ↦ elim (cases_lt (length text) (length_byte text)) [
+    | inl short ↦ inl (inr short)
+    | inr all ↦ inr (record { some = omega arith; all = all })
+  ]
+]
+
+in_or_out : (lo hi c : ℕ) → IsOutOfRange lo hi c ⊎ ((lo ≤ c) × (c ≤ hi))
+in_or_out lo hi c = elim (cases_lt c lo) [
+  | inl below ↦ inl (inl below)
+  | inr least ↦ elim (cases_lt hi c) [ inl above ↦ inl (inr above) | inr most ↦ inr (least, most) ]
+]
+
+inet_single : (text : List ℕ) (r s : Result ℕ BadAddr) → ReadsInet text r → ReadsInet text s → s ≡ r
+inet_single text (Ok a) (Ok b) h k = ap Ok (sym k.number ∙ h.number)
+inet_single text (Err bad.Short) (Err bad.Short) h k = refl
+inet_single text (Err bad.Family) (Err bad.Family) h k = refl
+inet_single text (Err bad.Length) (Err bad.Length) h k = refl
+inet_single text r s h k = absurd (grind arith)
+
+inet_by : (text : List ℕ) (result : Result ℕ BadAddr) → ReadsInet text result
+    → (result : Result ℕ BadAddr) × ReadsInet text result × ((other : Result ℕ BadAddr) → ReadsInet text other → other ≡ result)
+inet_by text result h = (result, h, λ other k. inet_single text result other h k)
+
+pub inet_read_once : IsReadOnce ReadsInet
+inet_read_once text = elim (short_or_whole text) [
+  | inl short ↦ inet_by text (Err bad.Short) short
+  | inr whole ↦ elim (cases_eq (family text) 2) [
+    | inr other ↦ inet_by text (Err bad.Family) (whole, other)
+    | inl two ↦ elim (in_or_out 8 16 (length_byte text)) [
+      | inl out ↦ inet_by text (Err bad.Length) (whole, two, out)
+      | inr within ↦ inet_by text (Ok _) (record { whole = whole; family = two; least = within.0; most = within.1; number = refl })
+    ]
+  ]
+]
+
+gate_single : (text : List ℕ) (r s : Result Gate BadAddr) → ReadsGate text r → ReadsGate text s → s ≡ r
+gate_single text (Ok (gate.Inet a)) (Ok (gate.Inet b)) h k = ap (λ (n : ℕ). Ok (gate.Inet n)) (sym k.number ∙ h.number)
+gate_single text (Ok (gate.Link a)) (Ok (gate.Link b)) h k = ap (λ (bytes : List ℕ). Ok (gate.Link bytes)) (sym k.bytes ∙ h.bytes)
+gate_single text (Err bad.Short) (Err bad.Short) h k = refl
+gate_single text (Err bad.Family) (Err bad.Family) h k = refl
+gate_single text (Err bad.Length) (Err bad.Length) h k = refl
+gate_single text r s h k = absurd (grind arith)
+
+gate_by : (text : List ℕ) (result : Result Gate BadAddr) → ReadsGate text result
+    → (result : Result Gate BadAddr) × ReadsGate text result × ((other : Result Gate BadAddr) → ReadsGate text other → other ≡ result)
+gate_by text result h = (result, h, λ other k. gate_single text result other h k)
+
+pub gate_read_once : IsReadOnce ReadsGate
+gate_read_once text = elim (short_or_whole text) [
+  | inl short ↦ gate_by text (Err bad.Short) short
+  | inr whole ↦ elim (cases_eq (family text) 2) [
+    | inl two ↦ elim (in_or_out 8 16 (length_byte text)) [
+      | inl out ↦ gate_by text (Err bad.Length) (whole, inl (two, out))
+      | inr within ↦ gate_by text (Ok (gate.Inet _)) (record { whole = whole; family = two; least = within.0; most = within.1; number = refl })
+    ]
+    | inr not_inet ↦ elim (cases_eq (family text) 18) [
+      | inr other ↦ gate_by text (Err bad.Family) (whole, not_inet, other)
+      | inl eighteen ↦ elim (in_or_out 8 32 (length_byte text)) [
+        | inl out ↦ gate_by text (Err bad.Length) (whole, inr (eighteen, out))
+        | inr within ↦ gate_by text (Ok (gate.Link _)) (record { whole = whole; family = eighteen; least = within.0; most = within.1; bytes = refl })
+      ]
+    ]
+  ]
+]
+
+-- the number is that of a mask of fewer bits than k, or of none of these
+mask_or_none : (k number : ℕ) → ((p : ℕ) × (p < k) × (number ≡ mask_number p)) ⊎ ((p : ℕ) → p < k → number ≡ mask_number p → ⊥)
+mask_or_none zero number = inr (λ p lt e. omega arith)
+mask_or_none (suc k) number = elim (cases_eq number (mask_number k)) [
+  | inl e ↦ inl (k, omega arith, e)
+  | inr ne ↦ elim (mask_or_none k number) [
+    | inl found ↦ inl (found.0, omega (arith, found.1), found.2)
+    | inr none ↦ inr (λ p lt e. elim (cases_eq p k) [ inl same ↦ ne (e ∙ ap mask_number same) | inr apart ↦ none p (omega arith) e ])
+  ]
+]
+
+mask_single : (text : List ℕ) (r s : Result ℕ BadAddr) → ReadsMask text r → ReadsMask text s → s ≡ r
+mask_single text (Ok p) (Ok q) h k = ap Ok (same_mask q p k.fits h.fits (sym k.ones_first ∙ h.ones_first))
+mask_single text (Ok p) (Err bad.NotContiguous) h k = absurd (k.2 p h.fits h.ones_first)
+mask_single text (Err bad.NotContiguous) (Ok q) h k = absurd (h.2 q k.fits k.ones_first)
+mask_single text (Err bad.Short) (Err bad.Short) h k = refl
+mask_single text (Err bad.Length) (Err bad.Length) h k = refl
+mask_single text (Err bad.NotContiguous) (Err bad.NotContiguous) h k = refl
+mask_single text r s h k = absurd (grind arith)
+
+mask_by : (text : List ℕ) (result : Result ℕ BadAddr) → ReadsMask text result
+    → (result : Result ℕ BadAddr) × ReadsMask text result × ((other : Result ℕ BadAddr) → ReadsMask text other → other ≡ result)
+mask_by text result h = (result, h, λ other k. mask_single text result other h k)
+
+pub mask_read_once : IsReadOnce ReadsMask
+mask_read_once text = elim (short_or_whole text) [
+  | inl short ↦ mask_by text (Err bad.Short) short
+  | inr whole ↦ elim (cases_lt 16 (length_byte text)) [
+    | inl long ↦ mask_by text (Err bad.Length) (whole, long)
+    | inr most ↦ elim (mask_or_none 33 (number_of_mask text)) [
+      | inl found ↦ mask_by text (Ok found.0) (record { whole = whole; most = most; fits = omega (arith, found.1); ones_first = found.2 })
+      | inr none ↦ mask_by text (Err bad.NotContiguous) (whole, most, λ bits fits e. none bits (omega arith) e)
+    ]
+  ]
+]

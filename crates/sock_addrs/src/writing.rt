@@ -1,0 +1,58 @@
+ghost use Rattle.std.specs.Prelude.{◌≡◌, ◌≤◌, ◌++◌, length, drop};
+ghost use Rattle.std.specs.Int.{w32, to_be_bytes};
+ghost use Rattle.sock_addrs.specs.Texts.{inet_text, mask_number, mask_text};
+
+use crate::{Inet, Link};
+
+/// Writes the address as a `struct sockaddr_in` of 16 bytes at the front of `out`: port 0, the address highest byte
+/// first, and zeros. Answers the bytes used.
+pub fn write_inet(address: Inet, out: &mut [u8]) -> usize
+    requires { length (inet_text address) ≤ length out.old }
+    ensures used { result ≡ length (inet_text address) }
+    ensures text { out.new ≡ inet_text address ++ drop (length (inet_text address)) out.old }
+{
+    let [a, b, c, d] = address.number().to_be_bytes();
+    put(&[16, 2, 0, 0, a, b, c, d, 0, 0, 0, 0, 0, 0, 0, 0], out)
+}
+
+/// Writes the link-layer address as it stands at the front of `out`. Answers the bytes used, 8 to 32.
+pub fn write_link(link: Link, out: &mut [u8]) -> usize
+    requires { length link ≤ length out.old }
+    ensures used { result ≡ length link }
+    ensures text { out.new ≡ link ++ drop (length link) out.old }
+{
+    put(link.as_bytes(), out)
+}
+
+/// Writes the mask of so many bits at the front of `out`: the length up to the last byte that has a one, no family, and
+/// the mask highest byte first, 8 bytes in all; the mask of no bit is four zeros. Answers the bytes used.
+pub fn write_mask(prefix: u8, out: &mut [u8]) -> usize
+    requires bits { prefix ≤ 32 }
+    requires room { length (mask_text prefix) ≤ length out.old }
+    ensures used { result ≡ length (mask_text prefix) }
+    ensures text { out.new ≡ mask_text prefix ++ drop (length (mask_text prefix)) out.old }
+{
+    if prefix == 0 {
+        return put(&[0; 4], out);
+    }
+    let [a, b, c, d] = mask_bits(prefix).to_be_bytes();
+    put(&[4 + prefix.div_ceil(8), 0, 0, 0, a, b, c, d], out)
+}
+
+/// The mask of so many bits as a number.
+fn mask_bits(prefix: u8) -> u32
+    requires { prefix ≤ 32 }
+    ensures { result ≡ mask_number prefix }
+{
+    let clear = 1u64 << (32 - prefix);
+    ((1u64 << 32) - clear) as u32
+}
+
+fn put(text: &[u8], out: &mut [u8]) -> usize
+    requires { length text.now ≤ length out.old }
+    ensures used { result ≡ length text.now }
+    ensures text { out.new ≡ text.now ++ drop (length text.now) out.old }
+{
+    out[..text.len()].copy_from_slice(text);
+    text.len()
+}
