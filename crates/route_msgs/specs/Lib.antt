@@ -1,0 +1,5 @@
+pub mod Headers
+pub mod Layout
+pub mod Slots
+pub mod Text
+pub mod Texts
