@@ -1,1 +1,3 @@
+mod LinkText
 mod Placed
+mod Places

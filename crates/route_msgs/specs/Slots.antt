@@ -13,36 +13,39 @@ use Rattle.route_msgs.specs.declared.parsed.MsgErr.TheVariants as fault
 abbrev pub is_named : List ℕ → ℕ → Bool
 is_named m k = bit_at (number_at 12 4 m) k == 1
 
--- it is named, and the message doesn't end before it
+-- it is named, and the message doesn't end before the place where it would begin
 abbrev pub is_there_at : List ℕ → ℕ → ℕ → Bool
 is_there_at m k at = is_named m k && nat_lt at (length m)
 
--- the bytes that it takes, if it would begin here
+-- the bytes that it takes there
 abbrev pub room_at : List ℕ → ℕ → ℕ → ℕ
 room_at m k at = if is_there_at m k at then rounded (slice_index m at) else 0
 
--- where an address would begin: behind the header and all that stand before it
+-- its length byte counts bytes past the message's end
+abbrev pub overruns_at : List ℕ → ℕ → ℕ → Bool
+overruns_at m k at = is_there_at m k at && nat_lt (length m) (at + slice_index m at)
+
+-- its slot: as many bytes as its length byte says, and at least that byte
+abbrev pub slot_at : List ℕ → ℕ → ℕ → Option Slot
+slot_at m k at = if is_there_at m k at then Some (record { start = at; len = max 1 (slice_index m at) }) else None
+
+-- where an address would begin: behind the header and all named addresses before it that are there
 unfoldable pub place : List ℕ → ℕ → ℕ
 place m zero = 76
 place m (suc k) = place m k + room_at m k (place m k)
 
--- the address is there
-abbrev pub is_there : List ℕ → ℕ → Bool
-is_there m k = is_there_at m k (place m k)
-
--- it is there, and its length byte counts bytes past the message's end
 abbrev pub overruns : List ℕ → ℕ → Bool
-overruns m k = is_there m k && nat_lt (length m) (place m k + slice_index m (place m k))
+overruns m k = overruns_at m k (place m k)
 
--- one of the first addresses does
+abbrev pub slot_in : List ℕ → ℕ → Option Slot
+slot_in m k = slot_at m k (place m k)
+
+-- one of the first addresses overruns
 abbrev pub overruns_below : List ℕ → ℕ → Bool
 overruns_below m zero = false
 overruns_below m (suc k) = overruns_below m k || overruns m k
 
--- where an address stands: as many bytes as its length byte says, and at least that byte
-abbrev pub slot_in : List ℕ → ℕ → Option Slot
-slot_in m k = if is_there m k then Some (record { start = place m k; len = max 1 (slice_index m (place m k)) }) else None
-
+-- the slots of all eight
 abbrev pub slots_in : List ℕ → List (Option Slot)
 slots_in m =
     slot_in m 0 ∷ slot_in m 1 ∷ slot_in m 2 ∷ slot_in m 3 ∷ slot_in m 4 ∷ slot_in m 5 ∷ slot_in m 6 ∷ slot_in m 7 ∷ []

@@ -3,11 +3,10 @@
 #![tactic(auto)]
 
 pub mod bits;
-pub mod flags;
-pub mod kinds;
-
 mod fields;
+pub mod flags;
 mod header;
+pub mod kinds;
 mod parsed;
 mod reading;
 mod text;

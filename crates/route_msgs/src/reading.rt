@@ -1,7 +1,7 @@
-ghost use Rattle.std.specs.Prelude.{◌≡◌, ◌+◌, ◌≤◌, ◌<◌, true, false, length, MatchResult, IfOk, OnErr};
+ghost use Rattle.std.specs.Prelude.{◌≡◌, ◌+◌, ◌≤◌, ◌<◌, true, false, length, MatchResult, IfErr, IfOk};
 ghost use Rattle.route_msgs.specs.Layout.{number_at};
 ghost use Rattle.route_msgs.specs.Headers.{header_in, metrics_in};
-ghost use Rattle.route_msgs.specs.Slots.{ReadsMessage, has_room, slots_in, SlotsAreWithin};
+ghost use Rattle.route_msgs.specs.Slots.{IsWithin, ReadsMessage, SlotsAreWithin, has_length as has_length_said, has_room, overruns_at, slot_at as slot_at_place, slots_in};
 
 use crate::fields::{u8_at, u16_at, u32_at};
 use crate::{Header, MsgErr, Parsed, Slot};
@@ -20,15 +20,24 @@ pub fn read_message(message: &[u8]) -> Result<Parsed, MsgErr>
     ensures reads { ReadsMessage message.now result }
     ensures within { IfOk result (λ p. SlotsAreWithin (length message.now) p.slots) }
 {
-    if message.len() < 76 || usize::from(u16_at(message, 0)) != message.len() {
+    if !has_length(message) {
         return Err(MsgErr::Length);
     }
-    if message[2] != VERSION {
+    if u8_at(message, 2) != VERSION {
         return Err(MsgErr::Version);
     }
     let header = read_header(message);
     let slots = read_slots(message, header.addrs)?;
     Ok(Parsed { header, slots })
+}
+
+/// Whether there is a whole header, which says the length that the message has.
+fn has_length(message: &[u8]) -> bool
+    ensures length { result ≡ has_length_said message.now }
+    ensures header { result ≡ true → 76 ≤ length message.now }
+    ensures most { result ≡ true → length message.now < 65536 }
+{
+    message.len() >= 76 && usize::from(u16_at(message, 0)) == message.len()
 }
 
 fn read_header(message: &[u8]) -> Header
@@ -69,6 +78,7 @@ fn read_metrics(message: &[u8]) -> [u32; 10]
 }
 
 /// The places of the addresses that `addrs` names, or `Overrun`.
+#[tactic(auto, using(crate::proofs::Places::place_first, crate::proofs::Places::no_room))]
 fn read_slots(message: &[u8], addrs: u32) -> Result<[Option<Slot>; 8], MsgErr>
     requires header { 76 ≤ length message.now }
     requires most { length message.now < 65536 }
@@ -79,17 +89,34 @@ fn read_slots(message: &[u8], addrs: u32) -> Result<[Option<Slot>; 8], MsgErr>
     let mut slots = [None; 8];
     let mut at = 76;
     for bit in 0..8 {
-        if addrs >> bit & 1 == 1 && at < message.len() {
-            let len = message[at];
-            if at + usize::from(len) > message.len() {
-                return Err(MsgErr::Overrun);
-            }
-            slots[bit] = Some(Slot {
-                start: at,
-                len: usize::from(len.max(1)),
-            });
-            at += round(len);
+        let slot = slot_at(message, addrs, bit, at)?;
+        if slot.is_some() {
+            at += round(message[at]);
         }
+        slots[bit] = slot;
     }
     Ok(slots)
+}
+
+/// The place of one address, which would begin at `at`, or `Overrun`.
+fn slot_at(message: &[u8], addrs: u32, bit: usize, at: usize) -> Result<Option<Slot>, MsgErr>
+    requires bit { bit < 8 }
+    requires small { at < 65536 }
+    requires addrs { addrs ≡ number_at 12 4 message.now }
+    ensures slot { IfOk result (λ slot. slot ≡ slot_at_place message.now bit at) }
+    ensures fits { IfOk result (λ _. overruns_at message.now bit at ≡ false) }
+    ensures overrun { IfErr result (λ e. (e ≡ MsgErr.Overrun) × (overruns_at message.now bit at ≡ true)) }
+    ensures within { 76 ≤ at → IfOk result (λ slot. IsWithin (length message.now) slot) }
+{
+    if addrs >> bit & 1 == 0 || at >= message.len() {
+        return Ok(None);
+    }
+    let len = message[at];
+    if at + usize::from(len) > message.len() {
+        return Err(MsgErr::Overrun);
+    }
+    Ok(Some(Slot {
+        start: at,
+        len: usize::from(len.max(1)),
+    }))
 }

@@ -2,7 +2,7 @@ ghost use Rattle.std.specs.Prelude.{◌≡◌, ◌≤◌, length, ℕ};
 ghost use Rattle.sock_addrs.specs.Texts.{inet_text, mask_text};
 ghost use Rattle.route_msgs.specs.Texts.{gate_text, padded};
 
-use sock_addrs::{Gate, Inet, Link, write_inet, write_link, write_mask};
+use sock_addrs::{Gate, Inet, Link, round, write_inet, write_link, write_mask};
 use std::marker::Model;
 
 /// An address as it stands in a message: its bytes, and zeros behind them to whole words of four bytes, at most 32 bytes
@@ -60,7 +60,8 @@ impl Text {
         ensures most { length result ≤ 32 }
     {
         let mut bytes = [0; 32];
-        let len = write_link(link, &mut bytes).next_multiple_of(4) as u8;
+        write_link(link, &mut bytes);
+        let len = round(link.as_bytes()[0]) as u8;
         Text { len, bytes }
     }
 

@@ -64,7 +64,18 @@ fn write_metrics(metrics: &[u32; 10], head: &mut [u8])
     requires { length head.old ≡ 76 }
     ensures { head.new ≡ with_fields (metric_fields metrics.now) head.old }
 {
-    let [locks, mtu, hopcount, expire, recvpipe, sendpipe, ssthresh, rtt, rttvar, pksent] = *metrics;
+    let [
+        locks,
+        mtu,
+        hopcount,
+        expire,
+        recvpipe,
+        sendpipe,
+        ssthresh,
+        rtt,
+        rttvar,
+        pksent,
+    ] = *metrics;
     patch_u32(head, 36, locks);
     patch_u32(head, 40, mtu);
     patch_u32(head, 44, hopcount);
