@@ -77,11 +77,11 @@ overruns_among m (suc n) k less h =
 pub no_room : (m : List ℕ) (k : ℕ) → overruns m k ≡ true → k < 8 → has_room m ≡ false
 no_room m k h less = ap not (overruns_among m 8 k less h)
 
-counted : {X : Type 0} → (ℕ → X) → ℕ → ℕ → List X
+unfoldable pub counted : {X : Type 0} → (ℕ → X) → ℕ → ℕ → List X
 counted f i zero = []
 counted f i (suc n) = f i ∷ counted f (suc i) n
 
-built : {X : Type 0} (f : ℕ → X) (d : X) (i n : ℕ) (xs : List X) → length xs ≡ n → ((k : ℕ) → k < n → get_or xs k d ≡ f (i + k)) → xs ≡ counted f i n
+pub built : {X : Type 0} (f : ℕ → X) (d : X) (i n : ℕ) (xs : List X) → length xs ≡ n → ((k : ℕ) → k < n → get_or xs k d ≡ f (i + k)) → xs ≡ counted f i n
 unfolding counted
 built f d i zero [] size each = refl
 built f d i zero (x ∷ xs) size each = absurd (omega arith)

@@ -7,8 +7,11 @@ mod fields;
 pub mod flags;
 mod header;
 pub mod kinds;
+pub mod laws;
 mod parsed;
 mod reading;
+#[cfg(test)]
+mod tests;
 mod text;
 mod texts;
 mod writing;
