@@ -1,5 +1,5 @@
 -- Where the addresses of a message stand that was written.
-use Rattle.std.proofs.Common.{◌≡◌, ℕ, zero, suc, ◌+◌, ◌<◌, ◌≤◌, Bool, true, false, ◌&&◌, ◌||◌, not, ◌==◌, nat_lt, max, List, [], ◌∷◌, ◌++◌, length, take, get_or, refl, sym, ap, ◌∙◌, arith, add-one, length-append, append-nil, get_or-append-add, take-suc, Option, Some, None, is_some}
+use Rattle.std.proofs.Common.{◌≡◌, ℕ, zero, suc, ◌+◌, ◌<◌, ◌≤◌, Bool, true, false, ◌&&◌, ◌||◌, not, ◌==◌, nat_lt, max, List, [], ◌∷◌, ◌++◌, length, take, get_or, refl, sym, ap, ◌∙◌, arith, add-one, length-append, append-nil, append_assoc, take-append-drop, drop, drop_at, take_at, drop-cons, get_or-append-add, take-suc, Option, Some, None, is_some}
 use Rattle.std.specs.Prelude.{slice_index, if◌then◌else◌}
 use Rattle.std.specs.List.{flat_map}
 use Rattle.std.proofs.lemmas.Bool.{lt-ltb, le-ltb}
@@ -113,3 +113,20 @@ eight_same f g h =
 pub slots_written : (m head : List ℕ) (xs : List (Option (List ℕ))) → IsJoined m head xs
     → slots_in m ≡ slot_among xs 0 ∷ slot_among xs 1 ∷ slot_among xs 2 ∷ slot_among xs 3 ∷ slot_among xs 4 ∷ slot_among xs 5 ∷ slot_among xs 6 ∷ slot_among xs 7 ∷ []
 slots_written m head xs h = eight_same (slot_in m) (slot_among xs) (λ k less. slot_written m head xs k h less)
+
+-- the bytes of an address
+pub text_written : (head : List ℕ) (xs : List (Option (List ℕ))) (k : ℕ) (text : List ℕ) → length head ≡ 76 → k < length xs → get_or xs k None ≡ Some text
+    → take (length text) (drop (start_among xs k) (head ++ flat_map bytes_or_none xs)) ≡ text
+text_written head xs k text size less e =
+    let before : List ℕ = flat_map bytes_or_none (take k xs) in
+    let behind : List ℕ = flat_map bytes_or_none (drop (suc k) xs) in
+    let its : bytes_or_none (get_or xs k None) ≡ text = ap bytes_or_none e in
+    let split : flat_map bytes_or_none xs ≡ before ++ (text ++ behind) =
+    ap (flat_map bytes_or_none) (sym (take-append-drop k xs) ∙ ap (λ ys. take k xs ++ ys) (drop-cons xs k None less))
+    ∙ flat_map-append bytes_or_none (take k xs) (get_or xs k None ∷ drop (suc k) xs)
+    ∙ ap (λ (ys : List ℕ). before ++ (ys ++ behind)) its in
+    let whole : head ++ flat_map bytes_or_none xs ≡ (head ++ before) ++ (text ++ behind) = ap (λ (ys : List ℕ). head ++ ys) split ∙ sym (append_assoc head before (text ++ behind)) in
+    let front : length (head ++ before) ≡ start_among xs k = omega (arith, length-append head before, size) in
+    ap (λ (ys : List ℕ). take (length text) (drop (start_among xs k) ys)) whole
+    ∙ ap (λ (ys : List ℕ). take (length text) ys) (drop_at (head ++ before) (text ++ behind) (start_among xs k) front)
+    ∙ take_at text behind (length text) refl

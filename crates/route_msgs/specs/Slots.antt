@@ -50,9 +50,18 @@ abbrev pub slots_in : List ℕ → List (Option Slot)
 slots_in m =
     slot_in m 0 ∷ slot_in m 1 ∷ slot_in m 2 ∷ slot_in m 3 ∷ slot_in m 4 ∷ slot_in m 5 ∷ slot_in m 6 ∷ slot_in m 7 ∷ []
 
--- the bytes of an address
+-- the bytes of a slot
 abbrev pub slot_text : Slot → List ℕ → List ℕ
 slot_text s m = take s.len (drop s.start m)
+
+-- the bytes of the address that a slot has, where there is one
+abbrev pub address_at : Option Slot → List ℕ → Option (List ℕ)
+address_at None m = None
+address_at (Some s) m = Some (slot_text s m)
+
+-- the bytes of the message's address of this bit, without padding
+abbrev pub address_in : List ℕ → ℕ → Option (List ℕ)
+address_in m k = address_at (slot_in m k) m
 
 -- the message has a whole header, which says the message's own length
 abbrev pub has_length : List ℕ → Bool

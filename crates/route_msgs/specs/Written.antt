@@ -64,6 +64,11 @@ abbrev pub WrittenIsRead : Type 0
 WrittenIsRead = (h : Header) (ts : Texts) → IsHeader h → AreTexts ts
     → ReadsMessage (route_message h ts) (Ok (record { header = record h { addrs = addrs_of ts }; slots = slots_of ts }))
 
+-- and the bytes of each address stand where its slot begins
+abbrev pub TextsAreRead : Type 0
+TextsAreRead = (h : Header) (ts : Texts) (k : ℕ) (text : List ℕ) → IsHeader h → AreTexts ts → k < 8 → get_or (in_order ts) k None ≡ Some text
+    → take (length text) (drop (start_among (in_order ts) k) (route_message h ts)) ≡ text
+
 -- a message about an interface's address has its fields at their offsets, and its addresses behind them
 pub record IsLaidOut (h : IfaHeader) (ts : Texts) (m : List ℕ) : Type 0 where
   pub size : number_at 0 2 m ≡ length m

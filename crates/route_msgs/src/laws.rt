@@ -4,11 +4,16 @@ ghost use Rattle.std.specs.Prelude.{◌≡◌};
 ghost use Rattle.route_msgs.specs.Examples.{added, added_header, announced, announced_header, announced_texts, bare, bare_parsed, question, question_parsed, reply, reply_header, route_texts, short, short_parsed};
 ghost use Rattle.route_msgs.specs.Headers.{ifa_message, route_message};
 ghost use Rattle.route_msgs.specs.Slots.{ReadsMessage};
-ghost use Rattle.route_msgs.specs.Written.{IfaMessageIsLaidOut, NamedBitsAreTexts, WrittenIsRead};
+ghost use Rattle.route_msgs.specs.Written.{IfaMessageIsLaidOut, NamedBitsAreTexts, TextsAreRead, WrittenIsRead};
 
 /// A message about a route that was written is read as the header and the addresses that it was written from.
 pub fn written_is_read()
     ensures { WrittenIsRead }
+{}
+
+/// Where a slot of such a message begins stand the bytes of its address.
+pub fn texts_are_read()
+    ensures { TextsAreRead }
 {}
 
 /// A message about an interface's address that was written has its fields at their offsets, and its addresses behind them.

@@ -1,5 +1,5 @@
-ghost use Rattle.std.specs.Prelude.{◌≡◌, ◌+◌, ◌≤◌, length};
-ghost use Rattle.route_msgs.specs.Slots.{slot_text};
+ghost use Rattle.std.specs.Prelude.{◌≡◌, ◌+◌, ◌<◌, ◌≤◌, length, get_or, MatchOption};
+ghost use Rattle.route_msgs.specs.Slots.{SlotsAreWithin, address_at, slot_text};
 
 use crate::Header;
 use thiserror::Error;
@@ -30,6 +30,19 @@ pub struct Parsed {
     pub header: Header,
     /// The addresses that are there, in the order of the bits of addrs.
     pub slots: [Option<Slot>; 8],
+}
+
+impl Parsed {
+    /// The bytes of the address of this bit of addrs, counted from 0, in the message that was taken apart, without
+    /// padding; `None` where the address is not there.
+    pub fn address<'a>(&self, bit: usize, message: &'a [u8]) -> Option<&'a [u8]>
+        requires bit { bit < 8 }
+        requires within { SlotsAreWithin (length message.now) self.now.slots }
+        ensures { let address = address_at (get_or self.now.slots bit None) message.now in MatchOption result (address ≡ None) (λ text. address ≡ Some text.now) }
+    {
+        let slot = self.slots[bit]?;
+        Some(slot.text(message))
+    }
 }
 
 /// Why bytes are no message, the first of these that holds.

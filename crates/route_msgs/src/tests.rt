@@ -47,6 +47,14 @@ fn takes_a_question_apart(rt: HostRuntime) {
 }
 
 #[test]
+fn finds_the_addresses_of_a_question(rt: HostRuntime) {
+    if let Ok(parsed) = read_message(&QUESTION) {
+        assert_eq!(rt; parsed.address(0, &QUESTION), Some(&QUESTION[76..]));
+        assert_eq!(rt; parsed.address(1, &QUESTION), None);
+    }
+}
+
+#[test]
 fn writes_a_reply(rt: HostRuntime) {
     let header = Header {
         kind: RTM_GET,
