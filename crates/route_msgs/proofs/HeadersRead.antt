@@ -1,5 +1,5 @@
 -- The fields of a message that was written.
-use Rattle.std.proofs.Common.{◌≡◌, ℕ, ◌+◌, ◌<◌, ◌≤◌, ◌^◌, Bool, true, List, ◌++◌, length, replicate, drop, refl, sym, ap, ◌∙◌, arith, lit≤, lit<, length-append, drop_at}
+use Rattle.std.proofs.Common.{◌≡◌, ℕ, ◌+◌, ◌<◌, ◌≤◌, ◌^◌, true, List, length, replicate, refl, sym, ap, ◌∙◌, arith, lit≤, lit<, length-append, drop_at}
 use Rattle.std.specs.Prelude.{slice_index}
 use Rattle.route_msgs.specs.Layout.{number_at}
 use Rattle.route_msgs.specs.Headers.{route_fields, route_head, route_message, ifa_fields, ifa_head, ifa_message, header_in, metrics_in}
@@ -8,7 +8,7 @@ use Rattle.route_msgs.specs.Written.{IsHeader, IsIfaHeader, AreTexts, IsLaidOut}
 use Rattle.route_msgs.specs.declared.header.Header.{Header}
 use Rattle.route_msgs.specs.declared.header.IfaHeader.{IfaHeader}
 use Rattle.route_msgs.specs.declared.texts.Texts.{Texts}
-use Rattle.route_msgs.proofs.FieldsRead.{FitsIn, AllFitIn, are_clear, value_among, read_fields, length-with_fields, number_at-append}
+use Rattle.route_msgs.proofs.FieldsRead.{AllFitIn, are_clear, value_among, read_fields, length-with_fields, number_at-append}
 use Rattle.route_msgs.proofs.Places.{built, counted}
 use Rattle.route_msgs.proofs.TextSizes.{texts_fit, addrs_of-lt}
 

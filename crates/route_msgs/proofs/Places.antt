@@ -1,6 +1,6 @@
 -- Where the next address begins, and which addresses have been found on the way.
 use Rattle.std.proofs.Common.{◌≡◌, ◌≢◌, ℕ, ◌+◌, ◌<◌, ◌≤◌, Bool, true, false, ◌||◌, not, zero, suc, List, [], ◌∷◌, length, get_or, set, get_or-set_same, get_or-set_other, refl, ap, sym, ◌∙◌, add-one, arith, Option, Some, None, is_some, if◌then◌else◌, slice_index, ◌⊎◌, inl, inr}
-use Rattle.std.proofs.Math.Bool.{or-true, true-or}
+use Rattle.std.proofs.Math.Bool.{or-true}
 use Rattle.route_msgs.specs.Slots.{place, is_there_at, slot_at, room_at, overruns, overruns_at, overruns_below, has_room, slot_in, slots_in}
 use Rattle.sock_addrs.specs.Rounding.{rounded}
 use Rattle.route_msgs.specs.declared.parsed.Slot.{Slot}

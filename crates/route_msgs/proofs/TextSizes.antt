@@ -1,10 +1,8 @@
 -- How long texts are, and the field that names them.
-use Rattle.std.proofs.Common.{◌≡◌, ℕ, zero, suc, ◌+◌, ◌*◌, ◌%◌, ◌/◌, ◌<◌, ◌≤◌, Bool, true, false, ◌==◌, List, [], ◌∷◌, ◌++◌, length, get_or, slice_index, refl, sym, ap, ◌∙◌, arith, length-append, Option, Some, None, is_some, add-one}
+use Rattle.std.proofs.Common.{◌≡◌, ℕ, zero, suc, ◌+◌, ◌*◌, ◌/◌, ◌<◌, ◌≤◌, ◌==◌, List, [], ◌∷◌, length, get_or, refl, ap, ◌∙◌, arith, length-append, Option, Some, None, is_some}
 use Rattle.std.specs.List.{flat_map}
 use Rattle.std.specs.Int.{bit_at}
 use Rattle.std.proofs.lemmas.Nat.Bits.{bit_at_lowest, bit_at-suc}
-use Rattle.sock_addrs.specs.Rounding.{rounded}
-use Rattle.route_msgs.specs.Text.{IsText}
 use Rattle.route_msgs.specs.Texts.{in_order, bytes_or_none, text_bytes, bit_of, addrs_of}
 use Rattle.route_msgs.specs.Written.{IsTextOrNone, AreTexts}
 use Rattle.route_msgs.specs.declared.texts.Texts.{Texts}

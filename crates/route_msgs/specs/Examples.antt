@@ -1,5 +1,5 @@
 -- Messages worked out by hand: an interface le0 with the address 10.0.0.1/8, and a question for the route to 10.9.9.9.
-use Rattle.std.specs.Prelude.{ℕ, List, [], ◌∷◌, ◌++◌, replicate, Option, Some, None}
+use Rattle.std.specs.Prelude.{ℕ, List, [], ◌∷◌, ◌++◌, replicate, Some, None}
 use Rattle.std.specs.List.{flat_map}
 use Rattle.sock_addrs.specs.Texts.{inet_text, mask_text}
 use Rattle.byteorder.specs.Endian.{big_bytes}

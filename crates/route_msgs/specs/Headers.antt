@@ -1,5 +1,5 @@
 -- The two headers, as tables of offset, width and value; every byte that no field names is 0.
-use Rattle.std.specs.Prelude.{◌≡◌, ℕ, ◌+◌, List, [], ◌∷◌, ◌++◌, length, replicate, slice_index}
+use Rattle.std.specs.Prelude.{ℕ, ◌+◌, List, [], ◌∷◌, ◌++◌, length, replicate, slice_index}
 use Rattle.route_msgs.specs.Layout.{Field, field, number_at, with_fields}
 use Rattle.route_msgs.specs.Texts.{text_bytes, addrs_of}
 use Rattle.route_msgs.specs.declared.header.Header.{Header}

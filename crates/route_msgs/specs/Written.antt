@@ -1,5 +1,5 @@
 -- What is written of a message is read again.
-use Rattle.std.specs.Prelude.{◌≡◌, ℕ, ◌+◌, ◌<◌, ◌^◌, max, List, [], ◌∷◌, length, take, drop, slice_index, get_or, Option, Some, None, Ok, Bool, ◌==◌, is_some, ⊤}
+use Rattle.std.specs.Prelude.{◌≡◌, ℕ, ◌+◌, ◌<◌, ◌^◌, max, List, [], ◌∷◌, length, take, drop, slice_index, get_or, Option, Some, None, Ok, ◌==◌, is_some, ⊤}
 use Rattle.std.specs.List.{flat_map}
 use Rattle.std.specs.Int.{bit_at}
 use Rattle.route_msgs.specs.Layout.{number_at}

@@ -9,7 +9,7 @@ pub struct Header {
     pub padding: u16,
     /// The route's flags, of `flags`.
     pub flags: u32,
-    /// Which addresses follow, of `bits`.
+    /// Which addresses follow, of `bits`. A writer sets it by the addresses that it is given.
     pub addrs: u32,
     /// The process that wrote the message.
     pub pid: u32,
@@ -31,7 +31,7 @@ pub struct Header {
 pub struct IfaHeader {
     /// The type, one of `kinds`.
     pub kind: u8,
-    /// Which addresses follow, of `bits`.
+    /// Which addresses follow, of `bits`. A writer sets it by the addresses that it is given.
     pub addrs: u32,
     /// The address's flags.
     pub flags: u32,

@@ -1,4 +1,4 @@
-use Rattle.std.proofs.Common.{ℕ, ◌+◌, length}
+use Rattle.std.proofs.Common.{◌+◌, length}
 use Rattle.route_msgs.specs.Headers.{route_head}
 use Rattle.route_msgs.specs.Texts.{in_order, text_bytes, addrs_of}
 use Rattle.route_msgs.proofs.HeadersRead.{length-head}

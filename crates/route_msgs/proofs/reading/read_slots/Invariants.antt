@@ -1,4 +1,4 @@
-use Rattle.std.proofs.Common.{◌≡◌, ℕ, ◌+◌, ◌*◌, ◌<◌, ◌≤◌, length, get_or, Bool, false, None}
+use Rattle.std.proofs.Common.{◌≡◌, ℕ, ◌+◌, ◌*◌, ◌<◌, ◌≤◌, length, get_or, false, None}
 use Rattle.route_msgs.specs.Slots.{place, slot_in, overruns_below, SlotsAreWithin}
 use Rattle.route_msgs.proofs.reading.read_slots.Given as goal
 
