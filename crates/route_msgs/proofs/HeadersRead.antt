@@ -1,0 +1,236 @@
+-- The fields of a message that was written.
+use Rattle.std.proofs.Common.{◌≡◌, ℕ, ◌+◌, ◌<◌, ◌≤◌, ◌^◌, true, List, length, replicate, refl, sym, ap, ◌∙◌, arith, lit≤, lit<, length-append, drop_at}
+use Rattle.std.specs.Prelude.{slice_index}
+use Rattle.route_msgs.specs.Layout.{number_at}
+use Rattle.route_msgs.specs.Headers.{route_fields, route_head, route_message, ifa_fields, ifa_head, ifa_message, header_in, metrics_in}
+use Rattle.route_msgs.specs.Texts.{text_bytes, addrs_of}
+use Rattle.route_msgs.specs.Written.{IsHeader, IsIfaHeader, AreTexts, IsLaidOut}
+use Rattle.route_msgs.specs.declared.header.Header.{Header}
+use Rattle.route_msgs.specs.declared.header.IfaHeader.{IfaHeader}
+use Rattle.route_msgs.specs.declared.texts.Texts.{Texts}
+use Rattle.route_msgs.proofs.FieldsRead.{AllFitIn, are_clear, value_among, read_fields, length-with_fields, number_at-append}
+use Rattle.route_msgs.proofs.Places.{built, counted}
+use Rattle.route_msgs.proofs.TextSizes.{texts_fit, addrs_of-lt}
+
+route_fits : (size addrs : ℕ) (h : Header) → size < 2 ^ 16 → addrs < 2 ^ 32 → IsHeader h → AllFitIn 76 (route_fields size addrs h)
+route_fits size addrs h a b f = (
+  record { within = lit≤ tt; small = a },
+  (
+    record { within = lit≤ tt; small = lit< tt },
+    (
+      record { within = lit≤ tt; small = f.of_kind },
+      (
+        record { within = lit≤ tt; small = f.of_index },
+        (
+          record { within = lit≤ tt; small = f.of_padding },
+          (
+            record { within = lit≤ tt; small = f.of_flags },
+            (
+              record { within = lit≤ tt; small = b },
+              (
+                record { within = lit≤ tt; small = f.of_pid },
+                (
+                  record { within = lit≤ tt; small = f.of_seq },
+                  (
+                    record { within = lit≤ tt; small = f.of_errno },
+                    (
+                      record { within = lit≤ tt; small = f.of_use_count },
+                      (
+                        record { within = lit≤ tt; small = f.of_inits },
+                        (
+                          record { within = lit≤ tt; small = f.of_metrics 0 },
+                          (
+                            record { within = lit≤ tt; small = f.of_metrics 1 },
+                            (
+                              record { within = lit≤ tt; small = f.of_metrics 2 },
+                              (
+                                record { within = lit≤ tt; small = f.of_metrics 3 },
+                                (
+                                  record { within = lit≤ tt; small = f.of_metrics 4 },
+                                  (
+                                    record { within = lit≤ tt; small = f.of_metrics 5 },
+                                    (
+                                      record { within = lit≤ tt; small = f.of_metrics 6 },
+                                      (
+                                        record { within = lit≤ tt; small = f.of_metrics 7 },
+                                        (
+                                          record { within = lit≤ tt; small = f.of_metrics 8 },
+                                          (
+                                            record { within = lit≤ tt; small = f.of_metrics 9 },
+                                            tt,
+                                          ),
+                                        ),
+                                      ),
+                                    ),
+                                  ),
+                                ),
+                              ),
+                            ),
+                          ),
+                        ),
+                      ),
+                    ),
+                  ),
+                ),
+              ),
+            ),
+          ),
+        ),
+      ),
+    ),
+  ),
+)
+
+ifa_fits : (size addrs : ℕ) (h : IfaHeader) → size < 2 ^ 16 → addrs < 2 ^ 32 → IsIfaHeader h → AllFitIn 20 (ifa_fields size addrs h)
+ifa_fits size addrs h a b f = (
+  record { within = lit≤ tt; small = a },
+  (
+    record { within = lit≤ tt; small = lit< tt },
+    (
+      record { within = lit≤ tt; small = f.of_kind },
+      (
+        record { within = lit≤ tt; small = b },
+        (
+          record { within = lit≤ tt; small = f.of_flags },
+          (
+            record { within = lit≤ tt; small = f.of_index },
+            (
+              record { within = lit≤ tt; small = f.of_padding },
+              (
+                record { within = lit≤ tt; small = f.of_metric },
+                tt,
+              ),
+            ),
+          ),
+        ),
+      ),
+    ),
+  ),
+)
+
+-- a list of ten, by its elements
+ten_again : (ms : List ℕ) → length ms ≡ 10 → counted (slice_index ms) 0 10 ≡ ms
+ten_again ms ten = sym (built (slice_index ms) 0 0 10 ms ten (λ k less. ap (slice_index ms) (omega arith)))
+
+record MetricsStand (m ms : List ℕ) : Type 0 where
+  locks : number_at 36 4 m ≡ slice_index ms 0
+  mtu : number_at 40 4 m ≡ slice_index ms 1
+  hopcount : number_at 44 4 m ≡ slice_index ms 2
+  expire : number_at 48 4 m ≡ slice_index ms 3
+  recvpipe : number_at 52 4 m ≡ slice_index ms 4
+  sendpipe : number_at 56 4 m ≡ slice_index ms 5
+  ssthresh : number_at 60 4 m ≡ slice_index ms 6
+  rtt : number_at 64 4 m ≡ slice_index ms 7
+  rttvar : number_at 68 4 m ≡ slice_index ms 8
+  pksent : number_at 72 4 m ≡ slice_index ms 9
+
+metrics_stand : (m ms : List ℕ) → length ms ≡ 10 → MetricsStand m ms → metrics_in m ≡ ms
+unfolding counted
+metrics_stand m ms ten e =
+    rw (e.locks, e.mtu, e.hopcount, e.expire, e.recvpipe, e.sendpipe, e.ssthresh, e.rtt, e.rttvar, e.pksent) (ten_again ms ten)
+
+record HeaderStands (m : List ℕ) (h : Header) (named : ℕ) : Type 0 where
+  of_kind : number_at 3 1 m ≡ h.kind
+  of_index : number_at 4 2 m ≡ h.index
+  of_padding : number_at 6 2 m ≡ h.padding
+  of_flags : number_at 8 4 m ≡ h.flags
+  of_addrs : number_at 12 4 m ≡ named
+  of_pid : number_at 16 4 m ≡ h.pid
+  of_seq : number_at 20 4 m ≡ h.seq
+  of_errno : number_at 24 4 m ≡ h.errno
+  of_use_count : number_at 28 4 m ≡ h.use_count
+  of_inits : number_at 32 4 m ≡ h.inits
+  of_metrics : metrics_in m ≡ h.metrics
+
+header_stands : (m : List ℕ) (h : Header) (named : ℕ) → HeaderStands m h named → header_in m ≡ record h { addrs = named }
+header_stands m h named e =
+    let metrics : metrics_in m ≡ h.metrics = e.of_metrics in
+    rw (e.of_kind, e.of_index, e.of_padding, e.of_flags, e.of_addrs, e.of_pid, e.of_seq, e.of_errno, e.of_use_count, e.of_inits)
+    (ap (λ (ms : List ℕ). record h { addrs = named; metrics = ms }) metrics)
+
+module _ (h : Header) (ts : Texts) (is : IsHeader h) (are : AreTexts ts) where
+  fits : AllFitIn 76 (route_fields (76 + length (text_bytes ts)) (addrs_of ts) h)
+  fits =
+      let small : 76 + length (text_bytes ts) < 2 ^ 16 = omega (arith, texts_fit ts are) in
+      let few : addrs_of ts < 2 ^ 32 = omega (arith, addrs_of-lt ts) in
+      route_fits (76 + length (text_bytes ts)) (addrs_of ts) h small few is
+
+  pub length-head : length (route_head (76 + length (text_bytes ts)) (addrs_of ts) h) ≡ 76
+  length-head = length-with_fields (route_fields (76 + length (text_bytes ts)) (addrs_of ts) h) (replicate 76 0) fits
+
+  pub length-message : length (route_message h ts) ≡ 76 + length (text_bytes ts)
+  length-message = omega (arith, length-append (route_head (76 + length (text_bytes ts)) (addrs_of ts) h) (text_bytes ts), length-head)
+
+  pub field_read : (o w : ℕ) → o + w ≤ 76 → are_clear o w (route_fields (76 + length (text_bytes ts)) (addrs_of ts) h) ≡ true → number_at o w (route_message h ts) ≡ value_among o w (route_fields (76 + length (text_bytes ts)) (addrs_of ts) h) (number_at o w (replicate 76 0))
+  field_read o w within clear =
+      number_at-append o w (route_head (76 + length (text_bytes ts)) (addrs_of ts) h) (text_bytes ts) (rw length-head within)
+      ∙ read_fields o w (number_at o w (replicate 76 0)) (route_fields (76 + length (text_bytes ts)) (addrs_of ts) h) (replicate 76 0) fits clear refl
+
+  pub size_read : number_at 0 2 (route_message h ts) ≡ length (route_message h ts)
+  size_read = field_read 0 2 (lit≤ tt) refl ∙ sym length-message
+
+  pub version_read : number_at 2 1 (route_message h ts) ≡ 3
+  version_read = field_read 2 1 (lit≤ tt) refl
+
+  pub addrs_read : number_at 12 4 (route_message h ts) ≡ addrs_of ts
+  addrs_read = field_read 12 4 (lit≤ tt) refl
+
+  metrics_read : MetricsStand (route_message h ts) h.metrics
+  metrics_read = record {
+    locks = field_read 36 4 (lit≤ tt) refl;
+    mtu = field_read 40 4 (lit≤ tt) refl;
+    hopcount = field_read 44 4 (lit≤ tt) refl;
+    expire = field_read 48 4 (lit≤ tt) refl;
+    recvpipe = field_read 52 4 (lit≤ tt) refl;
+    sendpipe = field_read 56 4 (lit≤ tt) refl;
+    ssthresh = field_read 60 4 (lit≤ tt) refl;
+    rtt = field_read 64 4 (lit≤ tt) refl;
+    rttvar = field_read 68 4 (lit≤ tt) refl;
+    pksent = field_read 72 4 (lit≤ tt) refl;
+  }
+
+  pub header_read : header_in (route_message h ts) ≡ record h { addrs = addrs_of ts }
+  header_read = header_stands (route_message h ts) h (addrs_of ts) (record {
+    of_kind = field_read 3 1 (lit≤ tt) refl;
+    of_index = field_read 4 2 (lit≤ tt) refl;
+    of_padding = field_read 6 2 (lit≤ tt) refl;
+    of_flags = field_read 8 4 (lit≤ tt) refl;
+    of_addrs = addrs_read;
+    of_pid = field_read 16 4 (lit≤ tt) refl;
+    of_seq = field_read 20 4 (lit≤ tt) refl;
+    of_errno = field_read 24 4 (lit≤ tt) refl;
+    of_use_count = field_read 28 4 (lit≤ tt) refl;
+    of_inits = field_read 32 4 (lit≤ tt) refl;
+    of_metrics = metrics_stand (route_message h ts) h.metrics is.ten metrics_read;
+  })
+
+module _ (h : IfaHeader) (ts : Texts) (is : IsIfaHeader h) (are : AreTexts ts) where
+  fits_ifa : AllFitIn 20 (ifa_fields (20 + length (text_bytes ts)) (addrs_of ts) h)
+  fits_ifa =
+      let small : 20 + length (text_bytes ts) < 2 ^ 16 = omega (arith, texts_fit ts are) in
+      let few : addrs_of ts < 2 ^ 32 = omega (arith, addrs_of-lt ts) in
+      ifa_fits (20 + length (text_bytes ts)) (addrs_of ts) h small few is
+
+  length-ifa_head : length (ifa_head (20 + length (text_bytes ts)) (addrs_of ts) h) ≡ 20
+  length-ifa_head = length-with_fields (ifa_fields (20 + length (text_bytes ts)) (addrs_of ts) h) (replicate 20 0) fits_ifa
+
+  length-ifa_message : length (ifa_message h ts) ≡ 20 + length (text_bytes ts)
+  length-ifa_message = omega (arith, length-append (ifa_head (20 + length (text_bytes ts)) (addrs_of ts) h) (text_bytes ts), length-ifa_head)
+
+  ifa_read : (o w : ℕ) → o + w ≤ 20 → are_clear o w (ifa_fields (20 + length (text_bytes ts)) (addrs_of ts) h) ≡ true → number_at o w (ifa_message h ts) ≡ value_among o w (ifa_fields (20 + length (text_bytes ts)) (addrs_of ts) h) (number_at o w (replicate 20 0))
+  ifa_read o w within clear =
+      number_at-append o w (ifa_head (20 + length (text_bytes ts)) (addrs_of ts) h) (text_bytes ts) (rw length-ifa_head within)
+      ∙ read_fields o w (number_at o w (replicate 20 0)) (ifa_fields (20 + length (text_bytes ts)) (addrs_of ts) h) (replicate 20 0) fits_ifa clear refl
+
+  pub ifa_laid_out : IsLaidOut h ts (ifa_message h ts)
+  ifa_laid_out = record {
+    size = ifa_read 0 2 (lit≤ tt) refl ∙ sym length-ifa_message;
+    version = ifa_read 2 1 (lit≤ tt) refl;
+    kind_there = ifa_read 3 1 (lit≤ tt) refl;
+    addrs_there = ifa_read 4 4 (lit≤ tt) refl;
+    flags_there = ifa_read 8 4 (lit≤ tt) refl;
+    index_there = ifa_read 12 2 (lit≤ tt) refl;
+    padding_there = ifa_read 14 2 (lit≤ tt) refl;
+    metric_there = ifa_read 16 4 (lit≤ tt) refl;
+    behind = drop_at (ifa_head (20 + length (text_bytes ts)) (addrs_of ts) h) (text_bytes ts) 20 length-ifa_head;
+  }

@@ -1,0 +1,7 @@
+mod FieldsRead
+mod HeadersRead
+mod LinkText
+mod Placed
+mod Places
+mod SlotsWritten
+mod TextSizes

@@ -1,0 +1,7 @@
+pub mod Examples
+pub mod Headers
+pub mod Layout
+pub mod Slots
+pub mod Text
+pub mod Texts
+pub mod Written

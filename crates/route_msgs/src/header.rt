@@ -1,0 +1,44 @@
+/// The header of a message about a route (`struct rt_msghdr` of <net/route.h>), but for its length and its version.
+#[derive(Clone, Copy, Debug, Default, PartialEq, Eq)]
+pub struct Header {
+    /// The type, one of `kinds`.
+    pub kind: u8,
+    /// The interface's index.
+    pub index: u16,
+    /// Two bytes without a meaning.
+    pub padding: u16,
+    /// The route's flags, of `flags`.
+    pub flags: u32,
+    /// Which addresses follow, of `bits`. A writer sets it by the addresses that it is given.
+    pub addrs: u32,
+    /// The process that wrote the message.
+    pub pid: u32,
+    /// The number by which a writer knows its reply.
+    pub seq: u32,
+    /// Why a write was refused, or 0.
+    pub errno: u32,
+    /// How often the route was used.
+    pub use_count: u32,
+    /// Which metrics a writer sets.
+    pub inits: u32,
+    /// locks, mtu, hopcount, expire, recvpipe, sendpipe, ssthresh, rtt, rttvar and pksent (`struct rt_metrics`).
+    pub metrics: [u32; 10],
+}
+
+/// The header of a message about an interface's address (`struct ifa_msghdr` of <net/if.h>), but for its length and its
+/// version.
+#[derive(Clone, Copy, Debug, Default, PartialEq, Eq)]
+pub struct IfaHeader {
+    /// The type, one of `kinds`.
+    pub kind: u8,
+    /// Which addresses follow, of `bits`. A writer sets it by the addresses that it is given.
+    pub addrs: u32,
+    /// The address's flags.
+    pub flags: u32,
+    /// The interface's index.
+    pub index: u16,
+    /// Two bytes without a meaning.
+    pub padding: u16,
+    /// The metric.
+    pub metric: u32,
+}

@@ -1,0 +1,22 @@
+//! The types of a message, as <net/route.h> names them.
+
+/// A route was added, or is to be.
+pub const RTM_ADD: u8 = 1;
+/// A route was removed, or is to be.
+pub const RTM_DELETE: u8 = 2;
+/// A route was changed, or is to be.
+pub const RTM_CHANGE: u8 = 3;
+/// A route as it stands, or the wish to see it.
+pub const RTM_GET: u8 = 4;
+/// A redirect was followed.
+pub const RTM_REDIRECT: u8 = 6;
+/// No route was found.
+pub const RTM_MISS: u8 = 7;
+/// Metrics were locked, or are to be.
+pub const RTM_LOCK: u8 = 8;
+/// A cloned route wants its link-layer address.
+pub const RTM_RESOLVE: u8 = 11;
+/// An interface has a new address.
+pub const RTM_NEWADDR: u8 = 12;
+/// An interface lost an address.
+pub const RTM_DELADDR: u8 = 13;

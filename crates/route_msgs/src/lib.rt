@@ -1,0 +1,25 @@
+//! Messages of the routing socket, after route(4) and <net/route.h> of 4.4BSD: a header, and behind it the addresses that
+//! the header names, each in whole words of four bytes. All numbers are written highest byte first.
+#![tactic(auto)]
+
+pub mod bits;
+mod fields;
+pub mod flags;
+mod header;
+pub mod kinds;
+pub mod laws;
+mod parsed;
+mod reading;
+#[cfg(test)]
+mod tests;
+mod text;
+mod texts;
+mod writing;
+
+pub use fields::{patch_u32, u16_at, u32_at};
+pub use header::{Header, IfaHeader};
+pub use parsed::{MsgErr, Parsed, Slot};
+pub use reading::read_message;
+pub use text::Text;
+pub use texts::Texts;
+pub use writing::{write_ifa_msg, write_route_msg};

@@ -1,0 +1,60 @@
+ghost use Rattle.std.specs.Prelude.{◌≡◌, ◌+◌, ◌<◌, ◌≤◌, length, get_or, MatchOption};
+ghost use Rattle.route_msgs.specs.Slots.{SlotsAreWithin, address_at, slot_text};
+
+use crate::Header;
+use thiserror::Error;
+
+/// Where an address stands in a message: as many bytes as its length byte says, but at least that byte.
+#[derive(Clone, Copy, Debug, PartialEq, Eq)]
+pub struct Slot {
+    /// Its first byte.
+    pub start: usize,
+    /// The number of its bytes, without padding.
+    pub len: usize,
+}
+
+impl Slot {
+    /// The address's bytes in its message.
+    pub fn text(self, message: &[u8]) -> &[u8]
+        requires { self.start + self.len ≤ length message.now }
+        ensures { result.now ≡ slot_text self message.now }
+    {
+        &message[self.start..self.start + self.len]
+    }
+}
+
+/// A message taken apart.
+#[derive(Clone, Copy, Debug, PartialEq, Eq)]
+pub struct Parsed {
+    /// The fields of its header, as they are written.
+    pub header: Header,
+    /// The addresses that are there, in the order of the bits of addrs.
+    pub slots: [Option<Slot>; 8],
+}
+
+impl Parsed {
+    /// The bytes of the address of this bit of addrs, counted from 0, in the message that was taken apart, without
+    /// padding; `None` where the address is not there.
+    pub fn address<'a>(&self, bit: usize, message: &'a [u8]) -> Option<&'a [u8]>
+        requires bit { bit < 8 }
+        requires within { SlotsAreWithin (length message.now) self.now.slots }
+        ensures { let address = address_at (get_or self.now.slots bit None) message.now in MatchOption result (address ≡ None) (λ text. address ≡ Some text.now) }
+    {
+        let slot = self.slots[bit]?;
+        Some(slot.text(message))
+    }
+}
+
+/// Why bytes are no message, the first of these that holds.
+#[derive(Debug, Drop, Error)]
+pub enum MsgErr {
+    /// Fewer than 76 bytes, or the message says another length than it has.
+    #[error("the length is wrong")]
+    Length,
+    /// Another version than 3.
+    #[error("the version is not 3")]
+    Version,
+    /// An address's length byte counts bytes past the end.
+    #[error("an address passes the end")]
+    Overrun,
+}

@@ -1,0 +1,122 @@
+ghost use Rattle.std.specs.Prelude.{◌≡◌, ◌+◌, ◌≤◌, ◌<◌, true, false, length, MatchResult, IfErr, IfOk};
+ghost use Rattle.route_msgs.specs.Layout.{number_at};
+ghost use Rattle.route_msgs.specs.Headers.{header_in, metrics_in};
+ghost use Rattle.route_msgs.specs.Slots.{IsWithin, ReadsMessage, SlotsAreWithin, has_length as has_length_said, has_room, overruns_at, slot_at as slot_at_place, slots_in};
+
+use crate::fields::{u8_at, u16_at, u32_at};
+use crate::{Header, MsgErr, Parsed, Slot};
+use sock_addrs::round;
+
+/// The version of every message (`RTM_VERSION`).
+pub(crate) const VERSION: u8 = 3;
+
+/// Takes a message about a route apart, into the fields of its header and the places of its addresses.
+///
+/// Refused in this order: `Length` for fewer than 76 bytes or where the message says another length than it has,
+/// `Version` for another version than 3, `Overrun` where the length byte of an address counts bytes past the end. An
+/// address that would begin at or past the end is not there. Padding behind the last address may be missing, and bytes
+/// behind it, and higher bits of addrs, are passed over.
+pub fn read_message(message: &[u8]) -> Result<Parsed, MsgErr>
+    ensures reads { ReadsMessage message.now result }
+    ensures within { IfOk result (λ p. SlotsAreWithin (length message.now) p.slots) }
+{
+    if !has_length(message) {
+        return Err(MsgErr::Length);
+    }
+    if u8_at(message, 2) != VERSION {
+        return Err(MsgErr::Version);
+    }
+    let header = read_header(message);
+    let slots = read_slots(message, header.addrs)?;
+    Ok(Parsed { header, slots })
+}
+
+/// Whether there is a whole header, which says the length that the message has.
+fn has_length(message: &[u8]) -> bool
+    ensures length { result ≡ has_length_said message.now }
+    ensures header { result ≡ true → 76 ≤ length message.now }
+    ensures most { result ≡ true → length message.now < 65536 }
+{
+    message.len() >= 76 && usize::from(u16_at(message, 0)) == message.len()
+}
+
+fn read_header(message: &[u8]) -> Header
+    requires { 76 ≤ length message.now }
+    ensures { result ≡ header_in message.now }
+{
+    Header {
+        kind: u8_at(message, 3),
+        index: u16_at(message, 4),
+        padding: u16_at(message, 6),
+        flags: u32_at(message, 8),
+        addrs: u32_at(message, 12),
+        pid: u32_at(message, 16),
+        seq: u32_at(message, 20),
+        errno: u32_at(message, 24),
+        use_count: u32_at(message, 28),
+        inits: u32_at(message, 32),
+        metrics: read_metrics(message),
+    }
+}
+
+fn read_metrics(message: &[u8]) -> [u32; 10]
+    requires { 76 ≤ length message.now }
+    ensures { result ≡ metrics_in message.now }
+{
+    [
+        u32_at(message, 36),
+        u32_at(message, 40),
+        u32_at(message, 44),
+        u32_at(message, 48),
+        u32_at(message, 52),
+        u32_at(message, 56),
+        u32_at(message, 60),
+        u32_at(message, 64),
+        u32_at(message, 68),
+        u32_at(message, 72),
+    ]
+}
+
+/// The places of the addresses that `addrs` names, or `Overrun`.
+#[tactic(auto, using(crate::proofs::Places::place_first, crate::proofs::Places::no_room))]
+fn read_slots(message: &[u8], addrs: u32) -> Result<[Option<Slot>; 8], MsgErr>
+    requires header { 76 ≤ length message.now }
+    requires most { length message.now < 65536 }
+    requires addrs { addrs ≡ number_at 12 4 message.now }
+    ensures slots { MatchResult result (λ slots. (has_room message.now ≡ true) × (slots ≡ slots_in message.now)) (λ e. (e ≡ MsgErr.Overrun) × (has_room message.now ≡ false)) }
+    ensures within { IfOk result (λ slots. SlotsAreWithin (length message.now) slots) }
+{
+    let mut slots = [None; 8];
+    let mut at = 76;
+    for bit in 0..8 {
+        let slot = slot_at(message, addrs, bit, at)?;
+        if slot.is_some() {
+            at += round(message[at]);
+        }
+        slots[bit] = slot;
+    }
+    Ok(slots)
+}
+
+/// The place of one address, which would begin at `at`, or `Overrun`.
+fn slot_at(message: &[u8], addrs: u32, bit: usize, at: usize) -> Result<Option<Slot>, MsgErr>
+    requires bit { bit < 8 }
+    requires small { at < 65536 }
+    requires addrs { addrs ≡ number_at 12 4 message.now }
+    ensures slot { IfOk result (λ slot. slot ≡ slot_at_place message.now bit at) }
+    ensures fits { IfOk result (λ _. overruns_at message.now bit at ≡ false) }
+    ensures overrun { IfErr result (λ e. (e ≡ MsgErr.Overrun) × (overruns_at message.now bit at ≡ true)) }
+    ensures within { 76 ≤ at → IfOk result (λ slot. IsWithin (length message.now) slot) }
+{
+    if addrs >> bit & 1 == 0 || at >= message.len() {
+        return Ok(None);
+    }
+    let len = message[at];
+    if at + usize::from(len) > message.len() {
+        return Err(MsgErr::Overrun);
+    }
+    Ok(Some(Slot {
+        start: at,
+        len: usize::from(len.max(1)),
+    }))
+}

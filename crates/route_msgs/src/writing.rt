@@ -1,0 +1,104 @@
+ghost use Rattle.std.specs.Prelude.{◌≡◌, ◌+◌, ◌≤◌, ◌++◌, length};
+ghost use Rattle.route_msgs.specs.Texts.{text_bytes};
+ghost use Rattle.route_msgs.specs.Layout.{with_fields};
+ghost use Rattle.route_msgs.specs.Headers.{ifa_head, ifa_message, metric_fields, route_head, route_message};
+
+use crate::fields::{patch_u8, patch_u16, patch_u32};
+use crate::reading::VERSION;
+use crate::{Header, IfaHeader, Texts};
+use arrayvec::ArrayVec;
+
+/// Writes a message about a route: the header with the message's length and version 3, and behind it the addresses. The
+/// addrs field names the addresses that are given, whatever `header.addrs` says.
+pub fn write_route_msg(header: &Header, texts: &Texts) -> ArrayVec<u8, 256>
+    requires { 76 + length (text_bytes texts.now) ≤ 256 }
+    ensures { result.items ≡ route_message header.now texts.now }
+{
+    let behind = texts.bytes();
+    let size = 76 + behind.len();
+    joined(&route_header(header, size as u16, texts.addrs()), &behind)
+}
+
+/// Writes a message about an interface's address: the header with the message's length and version 3, and behind it the
+/// addresses. The addrs field names the addresses that are given, whatever `header.addrs` says.
+pub fn write_ifa_msg(header: &IfaHeader, texts: &Texts) -> ArrayVec<u8, 256>
+    requires { 20 + length (text_bytes texts.now) ≤ 256 }
+    ensures { result.items ≡ ifa_message header.now texts.now }
+{
+    let behind = texts.bytes();
+    let size = 20 + behind.len();
+    joined(&ifa_header(header, size as u16, texts.addrs()), &behind)
+}
+
+fn joined(head: &[u8], behind: &[u8]) -> ArrayVec<u8, 256>
+    requires { length head.now + length behind.now ≤ 256 }
+    ensures { result.items ≡ head.now ++ behind.now }
+{
+    let mut message = ArrayVec::new();
+    message.try_extend_from_slice(head).unwrap();
+    message.try_extend_from_slice(behind).unwrap();
+    message
+}
+
+fn route_header(header: &Header, size: u16, addrs: u32) -> [u8; 76]
+    ensures { result ≡ route_head size addrs header.now }
+{
+    let mut head = [0; 76];
+    patch_u16(&mut head, 0, size);
+    patch_u8(&mut head, 2, VERSION);
+    patch_u8(&mut head, 3, header.kind);
+    patch_u16(&mut head, 4, header.index);
+    patch_u16(&mut head, 6, header.padding);
+    patch_u32(&mut head, 8, header.flags);
+    patch_u32(&mut head, 12, addrs);
+    patch_u32(&mut head, 16, header.pid);
+    patch_u32(&mut head, 20, header.seq);
+    patch_u32(&mut head, 24, header.errno);
+    patch_u32(&mut head, 28, header.use_count);
+    patch_u32(&mut head, 32, header.inits);
+    write_metrics(&header.metrics, &mut head);
+    head
+}
+
+fn write_metrics(metrics: &[u32; 10], head: &mut [u8])
+    requires { length head.old ≡ 76 }
+    ensures { head.new ≡ with_fields (metric_fields metrics.now) head.old }
+{
+    let [
+        locks,
+        mtu,
+        hopcount,
+        expire,
+        recvpipe,
+        sendpipe,
+        ssthresh,
+        rtt,
+        rttvar,
+        pksent,
+    ] = *metrics;
+    patch_u32(head, 36, locks);
+    patch_u32(head, 40, mtu);
+    patch_u32(head, 44, hopcount);
+    patch_u32(head, 48, expire);
+    patch_u32(head, 52, recvpipe);
+    patch_u32(head, 56, sendpipe);
+    patch_u32(head, 60, ssthresh);
+    patch_u32(head, 64, rtt);
+    patch_u32(head, 68, rttvar);
+    patch_u32(head, 72, pksent);
+}
+
+fn ifa_header(header: &IfaHeader, size: u16, addrs: u32) -> [u8; 20]
+    ensures { result ≡ ifa_head size addrs header.now }
+{
+    let mut head = [0; 20];
+    patch_u16(&mut head, 0, size);
+    patch_u8(&mut head, 2, VERSION);
+    patch_u8(&mut head, 3, header.kind);
+    patch_u32(&mut head, 4, addrs);
+    patch_u32(&mut head, 8, header.flags);
+    patch_u16(&mut head, 12, header.index);
+    patch_u16(&mut head, 14, header.padding);
+    patch_u32(&mut head, 16, header.metric);
+    head
+}
