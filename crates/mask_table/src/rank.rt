@@ -65,7 +65,8 @@ impl Rank {
 
 /// The address with all bits past the rank cleared.
 pub fn masked(address: Inet, rank: Rank) -> Inet
-    ensures { result ≡ masked_by rank address }
+    ensures number { result ≡ masked_by rank address }
+    ensures clear { masked_by rank result ≡ result }
 {
     let free = rank.free_bits();
     let number = u64::from(address.number()) >> free << free;

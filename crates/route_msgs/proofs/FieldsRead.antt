@@ -35,7 +35,7 @@ length-with_field f m fits =
     omega (arith, length-append (front ++ bytes) rest, length-append front bytes, length-drop (f.offset + f.width) m, a, b)
 
 -- the field itself
-number_at-with_field : (f : Field) (m : List ℕ) → f.offset + f.width ≤ length m → f.value < 256 ^ f.width → number_at f.offset f.width (with_field f m) ≡ f.value
+pub number_at-with_field : (f : Field) (m : List ℕ) → f.offset + f.width ≤ length m → f.value < 256 ^ f.width → number_at f.offset f.width (with_field f m) ≡ f.value
 unfolding number_at with_field
 number_at-with_field f m fits small =
     let front = take f.offset m in
@@ -94,7 +94,7 @@ abbrev pub AllFitIn : ℕ → List Field → Type 0
 AllFitIn n [] = Unit {0}
 AllFitIn n (f ∷ fs) = FitsIn n f × AllFitIn n fs
 
-both : (a b : Bool) → (a && b) ≡ true → (a ≡ true) × (b ≡ true)
+pub both : (a b : Bool) → (a && b) ≡ true → (a ≡ true) × (b ≡ true)
 both true b h = (refl, h)
 both false b h = cc
 
@@ -102,7 +102,7 @@ either : (a b : Bool) → (a || b) ≡ true → (a ≡ true) ⊎ (b ≡ true)
 either true b h = inl refl
 either false b h = inr h
 
-read_apart : (o w : ℕ) (f : Field) (m : List ℕ) → f.offset + f.width ≤ length m → is_apart o w f ≡ true → number_at o w (with_field f m) ≡ number_at o w m
+pub read_apart : (o w : ℕ) (f : Field) (m : List ℕ) → f.offset + f.width ≤ length m → is_apart o w f ≡ true → number_at o w (with_field f m) ≡ number_at o w m
 read_apart o w f m fits h =
     number_at-same o w (with_field f m) m (λ j a b. byte-with_field f m j fits (elim (either _ _ h) [
       | inl before ↦ let l : o + w ≤ f.offset = leb-true (o + w) f.offset before in inl (omega arith)

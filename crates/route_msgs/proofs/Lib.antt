@@ -3,5 +3,6 @@ mod HeadersRead
 mod LinkText
 mod Placed
 mod Places
+mod SizesRead
 mod SlotsWritten
 mod TextSizes

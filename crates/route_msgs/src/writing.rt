@@ -1,6 +1,6 @@
 ghost use Rattle.std.specs.Prelude.{◌≡◌, ◌+◌, ◌≤◌, ◌++◌, length};
 ghost use Rattle.route_msgs.specs.Texts.{text_bytes};
-ghost use Rattle.route_msgs.specs.Layout.{with_fields};
+ghost use Rattle.route_msgs.specs.Layout.{number_at, with_fields};
 ghost use Rattle.route_msgs.specs.Headers.{ifa_head, ifa_message, metric_fields, route_head, route_message};
 
 use crate::fields::{patch_u8, patch_u16, patch_u32};
@@ -12,7 +12,9 @@ use arrayvec::ArrayVec;
 /// addrs field names the addresses that are given, whatever `header.addrs` says.
 pub fn write_route_msg(header: &Header, texts: &Texts) -> ArrayVec<u8, 256>
     requires { 76 + length (text_bytes texts.now) ≤ 256 }
-    ensures { result.items ≡ route_message header.now texts.now }
+    ensures message { result.items ≡ route_message header.now texts.now }
+    ensures size { length result.items ≡ 76 + length (text_bytes texts.now) }
+    ensures says_size { number_at 0 2 result.items ≡ length result.items }
 {
     let behind = texts.bytes();
     let size = 76 + behind.len();
@@ -23,7 +25,9 @@ pub fn write_route_msg(header: &Header, texts: &Texts) -> ArrayVec<u8, 256>
 /// addresses. The addrs field names the addresses that are given, whatever `header.addrs` says.
 pub fn write_ifa_msg(header: &IfaHeader, texts: &Texts) -> ArrayVec<u8, 256>
     requires { 20 + length (text_bytes texts.now) ≤ 256 }
-    ensures { result.items ≡ ifa_message header.now texts.now }
+    ensures message { result.items ≡ ifa_message header.now texts.now }
+    ensures size { length result.items ≡ 20 + length (text_bytes texts.now) }
+    ensures says_size { number_at 0 2 result.items ≡ length result.items }
 {
     let behind = texts.bytes();
     let size = 20 + behind.len();

@@ -1,0 +1,327 @@
+-- How the steps of a run are put together.
+use Rattle.std.proofs.Common.{◌≡◌, ℕ, Bool, true, false, not, ◌||◌, cond, List, [], ◌∷◌, ◌++◌, Option, Some, None, Result, Ok, Err, refl, sym, ap, ◌∙◌, subst, append_assoc, append-nil, inl, inr, suc, ◌+◌, ◌≤◌, length, take, drop, take-append-drop, arith, OnErr, OnOk}
+use Rattle.std.specs.Prelude.{is_none, is_err, IfSome}
+use Rattle.std.specs.Io.KnownBytes.{Appends, Consumes, IsAtEnd, Keeps}
+use Rattle.std.proofs.KnownBytes.{Appends-nil, Appends-trans, Consumes-kept, Consumes-nil, Consumes-trans, Consumes-whole}
+use Rattle.std.proofs.Math.Bool.{or_assoc}
+use Rattle.std.proofs.lemmas.Bool.{cond-true}
+use Rattle.std.proofs.lemmas.List.{take_all}
+use Rattle.route_main.specs.declared.run.outcome.Outcome.{Outcome}
+use Rattle.route_main.specs.declared.run.outcome.Outcome.TheVariants.{Done, BadLine, ReadFault, WriteFault, NoMemory}
+use Rattle.route_main.specs.declared.script.Bad.{Bad}
+use Rattle.route_main.specs.declared.world.answer.Answer.{Answer}
+use Rattle.route_main.specs.declared.world.command.Command.{Command}
+use Rattle.route_main.specs.Answers.{reply_text}
+use Rattle.route_main.specs.Counts.{Counts}
+use Rattle.route_main.specs.Lines.{Line, after_bytes, answered_lines, begun_line, ended_lines, extended, first_line, has_newline, is_answered, is_begun, is_passed, kept, no_line}
+use Rattle.route_main.specs.Output.{WroteFront}
+use Rattle.route_main.specs.Progress.{Standing, Answers, StopsWithin, Progress, Advances, Breaks, Finishes, Reached, answered_of, fresh}
+use Rattle.route_main.specs.Transcript.{Answered, AnsweredAll, Ends, IsAnswered, IsTranscript, Replies, command_in, has_bad_line, transcript_from, turn_by}
+use Rattle.route_main.specs.World.{World}
+use Rattle.route_main.proofs.LineLemmas.{answered_lines-ended, answered_lines-last, answered_lines-line, begun_line-end, begun_line-more, begun_line-no_newline, ended-append-begun, ended_lines-end, ended_lines-more, ended_lines-append, extended-kept, first_line-none, first_line-no_newline, has_newline-append, same_line, take-first_line}
+
+-- ---- answered lines, one part after another
+
+Answered-then : (l m : List (Option (List ℕ))) (a b c : World) (s t : List ℕ) → Answered a l s b → Answered b m t c → Answered a (l ++ m) (s ++ t) c
+Answered-then [] m a b c s t p q = subst (λ w. Answered w m (s ++ t) c) p.1 (subst (λ x. Answered b m (x ++ t) c) (sym p.0) q)
+Answered-then (line ∷ l) m a b c s t (reply, next, rest, replies, text, more) q =
+    (reply, next, rest ++ t, replies, ap (λ x. x ++ t) text ∙ append_assoc (reply_text reply) rest t, Answered-then l m next b c rest t more q)
+
+turn_replies : (old : World) (line : Option (List ℕ)) (said : Option Command) → command_in line ≡ said → Replies old line (turn_by old said).reply (turn_by old said).world
+turn_replies old line None is = (is, refl)
+turn_replies old line (Some command) is = (command, is, inl refl)
+
+-- the transcript of a run in which nothing is refused for want of memory is a transcript, whatever world it begins in
+pub transcript_from-is : (lines : List (Option (List ℕ))) (old : World) → (last : World) × Answered old lines (transcript_from lines old) last
+transcript_from-is [] old = (old, (refl, refl))
+transcript_from-is (line ∷ lines) old =
+    let turn = turn_by old (command_in line) in
+    let rest = transcript_from-is lines turn.world in
+    (rest.0, (turn.reply, turn.world, transcript_from lines turn.world, turn_replies old line (command_in line) refl, refl, rest.1))
+
+has_bad_line-append : (l m : List (Option (List ℕ))) → has_bad_line (l ++ m) ≡ (has_bad_line l || has_bad_line m)
+has_bad_line-append [] m = refl
+has_bad_line-append (line ∷ l) m = ap (λ t. is_none (command_in line) || t) (has_bad_line-append l m) ∙ sym (or_assoc (is_none (command_in line)) (has_bad_line l) (has_bad_line m))
+
+or-false : (t : Bool) → t ≡ (t || false)
+or-false true = refl
+or-false false = refl
+
+pub Answers-none : (s : Standing) (c : Option (List ℕ)) → Answers s s c c []
+Answers-none s c = record { written = []; appends = Appends-nil c; answered = (refl, refl); bad = or-false s.has_bad }
+
+pub Answers-then : {a b e : Standing} {c d f : Option (List ℕ)} {l m : List (Option (List ℕ))} → Answers a b c d l → Answers b e d f m → Answers a e c f (l ++ m)
+Answers-then {a} {b} {e} {c} {d} {f} {l} {m} p q = record {
+  written = p.written ++ q.written;
+  appends = Appends-trans c d f p.written q.written p.appends q.appends;
+  answered = Answered-then l m a.world b.world e.world p.written q.written p.answered q.answered;
+  bad = q.bad ∙ ap (λ t. t || has_bad_line m) p.bad ∙ or_assoc a.has_bad (has_bad_line l) (has_bad_line m) ∙ ap (λ t. a.has_bad || t) (sym (has_bad_line-append l m));
+}
+
+pub StopsWithin-then : {a b : Standing} {c d f : Option (List ℕ)} {l m : List (Option (List ℕ))} → Answers a b c d l → StopsWithin b d f m → StopsWithin a c f (l ++ m)
+StopsWithin-then {a} {b} {c} {d} {f} {l} {m} p q = record {
+  written = p.written ++ q.written;
+  unwritten = q.unwritten;
+  last = q.last;
+  appends = Appends-trans c d f p.written q.written p.appends q.appends;
+  answered = subst (λ t. Answered a.world (l ++ m) t q.last) (sym (append_assoc p.written q.written q.unwritten))
+      (Answered-then l m a.world b.world q.last p.written (q.written ++ q.unwritten) p.answered q.answered);
+}
+
+-- lines that would have come after it don't undo a stop
+pub StopsWithin-more : {a : Standing} {c d : Option (List ℕ)} {l : List (Option (List ℕ))} (m : List (Option (List ℕ))) → StopsWithin a c d l → StopsWithin a c d (l ++ m)
+StopsWithin-more {a} {c} {d} {l} m p =
+    let rest = transcript_from-is m p.last in
+    record {
+      written = p.written;
+      unwritten = p.unwritten ++ transcript_from m p.last;
+      last = rest.0;
+      appends = p.appends;
+      answered = subst (λ t. Answered a.world (l ++ m) t rest.0) (append_assoc p.written p.unwritten (transcript_from m p.last))
+          (Answered-then l m a.world p.last rest.0 (p.written ++ p.unwritten) (transcript_from m p.last) p.answered rest.1);
+    }
+
+-- ---- one line, and the writer
+
+pub on_err : {T E : Type 0} (r : Result T E) (P : Type 0) → P → OnErr r P
+on_err (Ok x) P p = tt
+on_err (Err e) P p = p
+
+pub at_err : {T E : Type 0} (r : Result T E) (P : Type 0) → is_err r ≡ true → OnErr r P → P
+at_err (Ok x) P is p = absurd (cc)
+at_err (Err e) P is p = p
+
+pub at_ok : {T E : Type 0} (r : Result T E) (P : Type 0) → is_err r ≡ false → OnOk r P → P
+at_ok (Ok x) P is p = p
+at_ok (Err e) P is p = absurd (cc)
+
+-- a line that gives an answer
+answered_of-line : (line : Option (List ℕ)) → is_passed line ≡ false → answered_of line ≡ line ∷ []
+answered_of-line line is = cond-true (is_answered line) (line ∷ []) [] (ap not is)
+
+-- the writer stopped within a line's answer
+pub StopsWithin-line : {W : Type 0} (contents : W → Option (List ℕ)) (old now : Counts W) (from : Standing) (line : Option (List ℕ)) (reply : Result Answer Bad) (next : World)
+    → is_passed line ≡ false → Replies from.world line reply next → WroteFront contents old now (reply_text reply)
+    → StopsWithin from (contents old.inner) (contents now.inner) (answered_of line)
+StopsWithin-line contents old now from line reply next is replies front =
+    subst (λ x. StopsWithin from (contents old.inner) (contents now.inner) x) (sym (answered_of-line line is)) (record {
+      written = front.written;
+      unwritten = front.unwritten;
+      last = next;
+      appends = front.appends;
+      answered = (reply, next, [], replies, sym front.whole ∙ sym (append-nil (reply_text reply)), (refl, refl));
+    })
+
+-- ---- a run that goes on
+
+kept_extended : {first from : Standing} {start old : Option (List ℕ)} {read : List ℕ} {line : Line} (bytes : List ℕ)
+    → Progress first from start old read line → extended line.text bytes ≡ kept (begun_line read ++ bytes)
+kept_extended {read = read} bytes p = ap (λ (l : Line). extended l.text bytes) p.line_is ∙ extended-kept (begun_line read) bytes
+
+begun_no_newline : (read bytes : List ℕ) → has_newline bytes ≡ false → has_newline (begun_line read ++ bytes) ≡ false
+begun_no_newline read bytes none = has_newline-append (begun_line read) bytes ∙ ap (λ t. t || has_newline bytes) (begun_line-no_newline read) ∙ none
+
+pub Advances-none : (s : Standing) (c : Option (List ℕ)) (line : Line) → Advances s s c c [] line line
+Advances-none s c line = record { on = λ first start read p. subst (λ x. Progress first s start c x line) (sym (append-nil read)) p }
+
+pub Advances-then : {a b e : Standing} {c d f : Option (List ℕ)} {bs cs : List ℕ} {l m n : Line} → Advances a b c d bs l m → Advances b e d f cs m n → Advances a e c f (bs ++ cs) l n
+Advances-then {e = e} {f = f} {bs = bs} {cs = cs} {n = n} p q = record {
+  on = λ first start read r. subst (λ x. Progress first e start f x n) (append_assoc read bs cs) (q.on first start (read ++ bs) (p.on first start read r));
+}
+
+-- bytes without a newline are kept
+pub Advances-begun : (s : Standing) (c : Option (List ℕ)) (bytes : List ℕ) (line : Line) → has_newline bytes ≡ false → Advances s s c c bytes line (after_bytes line bytes)
+Advances-begun s c bytes line none = record {
+  on = λ first start read p. record {
+    answers = subst (λ x. Answers first s start c (answered_lines x)) (sym (ended_lines-more read bytes none)) p.answers;
+    line_is = same_line (extended line.text (first_line bytes)) (kept (begun_line (read ++ bytes))) (has_newline bytes) false
+        (ap (extended line.text) (first_line-none bytes none) ∙ kept_extended bytes p ∙ ap kept (sym (begun_line-more read bytes none))) none;
+  };
+}
+
+-- the lines that are whole after a newline
+lines_after : {first from : Standing} {start old : Option (List ℕ)} {read : List ℕ} {line : Line} (bytes : List ℕ) → Progress first from start old read line
+    → answered_lines (ended_lines (read ++ (first_line bytes ++ 10 ∷ []))) ≡ answered_lines (ended_lines read) ++ answered_of (extended line.text (first_line bytes))
+lines_after {read = read} {line = line} bytes p =
+    let front = first_line bytes in
+    let begun = begun_line read ++ front in
+    let parted : (read ++ front) ++ 10 ∷ [] ≡ ended_lines read ++ (begun ++ 10 ∷ []) =
+    ap (λ x. (x ++ front) ++ 10 ∷ []) (sym (ended-append-begun read)) ∙ ap (λ x. x ++ 10 ∷ []) (append_assoc (ended_lines read) (begun_line read) front)
+    ∙ append_assoc (ended_lines read) begun (10 ∷ []) in
+    let whole : ended_lines (read ++ (front ++ 10 ∷ [])) ≡ ended_lines read ++ (begun ++ 10 ∷ []) =
+    ap ended_lines (sym (append_assoc read front (10 ∷ []))) ∙ ended_lines-end (read ++ front) ∙ parted in
+    ap answered_lines whole ∙ answered_lines-ended read (begun ++ 10 ∷ [])
+    ∙ ap (λ x. answered_lines (ended_lines read) ++ x) (answered_lines-line begun (begun_no_newline read front (first_line-no_newline bytes)) ∙ ap answered_of (sym (kept_extended front p)))
+
+-- a line that ends was answered
+pub Advances-line : {s t : Standing} {c d : Option (List ℕ)} (bytes : List ℕ) (line : Line) → Answers s t c d (answered_of (after_bytes line bytes).text)
+    → Advances s t c d (first_line bytes ++ 10 ∷ []) line no_line
+Advances-line {s} {t} {c} {d} bytes line q = record {
+  on = λ first start read p. record {
+    answers = subst (λ x. Answers first t start d x) (sym (lines_after bytes p)) (Answers-then p.answers q);
+    line_is = same_line (Some []) (kept (begun_line (read ++ (first_line bytes ++ 10 ∷ [])))) false false
+        (ap kept (sym (ap begun_line (sym (append_assoc read (first_line bytes) (10 ∷ []))) ∙ begun_line-end (read ++ first_line bytes)))) refl;
+  };
+}
+
+-- the writer stopped at a line that ends
+pub Breaks-line : {s : Standing} {c d : Option (List ℕ)} (bytes : List ℕ) (line : Line) → StopsWithin s c d (answered_of (after_bytes line bytes).text)
+    → Breaks s c d (first_line bytes ++ 10 ∷ []) line
+Breaks-line {s} {c} {d} bytes line q = record {
+  on = λ first start read p. subst (λ x. StopsWithin first start d x) (sym (lines_after bytes p)) (StopsWithin-then p.answers q);
+}
+
+pub Breaks-then : {a b : Standing} {c d f : Option (List ℕ)} {bs cs : List ℕ} {l m : Line} → Advances a b c d bs l m → Breaks b d f cs m → Breaks a c f (bs ++ cs) l
+Breaks-then {f = f} {bs = bs} {cs = cs} p q = record {
+  on = λ first start read r. subst (λ x. StopsWithin first start f (answered_lines (ended_lines x))) (append_assoc read bs cs) (q.on first start (read ++ bs) (p.on first start read r));
+}
+
+-- bytes that would have come after it don't undo a stop
+pub Breaks-more : {a : Standing} {c d : Option (List ℕ)} {bs : List ℕ} {l : Line} (cs : List ℕ) → Breaks a c d bs l → Breaks a c d (bs ++ cs) l
+Breaks-more {d = d} {bs = bs} cs q = record {
+  on = λ first start read p.
+      let rest = ended_lines (begun_line (read ++ bs) ++ cs) in
+      let lines : answered_lines (ended_lines (read ++ (bs ++ cs))) ≡ answered_lines (ended_lines (read ++ bs)) ++ answered_lines rest =
+      ap answered_lines (ap ended_lines (sym (append_assoc read bs cs)) ∙ ended_lines-append (read ++ bs) cs) ∙ answered_lines-ended (read ++ bs) rest in
+      subst (λ x. StopsWithin first start d x) (sym lines) (StopsWithin-more (answered_lines rest) (q.on first start read p));
+}
+
+-- what was taken from the front of the bytes
+taken_front : (bytes : List ℕ) (taken : ℕ) → has_newline bytes ≡ true → taken ≡ length (first_line bytes) + cond (has_newline bytes) 1 0 → take taken bytes ≡ first_line bytes ++ 10 ∷ []
+taken_front bytes taken has is =
+    let one : taken ≡ suc (length (first_line bytes)) = is ∙ ap (λ t. length (first_line bytes) + cond t 1 0) has ∙ omega arith in
+    ap (λ n. take n bytes) one ∙ take-first_line bytes has
+
+-- bytes that end no line were taken whole
+pub Advances-fed : (s : Standing) (c : Option (List ℕ)) (bytes : List ℕ) (taken : ℕ) (line next : Line) → has_newline bytes ≡ false
+    → taken ≡ length (first_line bytes) + cond (has_newline bytes) 1 0 → next ≡ after_bytes line bytes → Advances s s c c (take taken bytes) line next
+Advances-fed s c bytes taken line next none is fed =
+    let all : length bytes ≤ taken = omega (arith, is, ap length (first_line-none bytes none)) in
+    subst (λ n. Advances s s c c (take taken bytes) line n) (sym fed)
+    (subst (λ x. Advances s s c c x line (after_bytes line bytes)) (sym (take_all taken bytes all)) (Advances-begun s c bytes line none))
+
+-- bytes that end a line were taken up to its newline, and it was answered
+pub Advances-answered : {s t : Standing} {c d : Option (List ℕ)} (bytes : List ℕ) (taken : ℕ) (line mid next : Line) → has_newline bytes ≡ true
+    → taken ≡ length (first_line bytes) + cond (has_newline bytes) 1 0 → mid ≡ after_bytes line bytes → next ≡ no_line
+    → Answers s t c d (answered_of mid.text) → Advances s t c d (take taken bytes) line next
+Advances-answered {s} {t} {c} {d} bytes taken line mid next has is fed empty q =
+    subst (λ n. Advances s t c d (take taken bytes) line n) (sym empty)
+    (subst (λ x. Advances s t c d x line no_line) (sym (taken_front bytes taken has is))
+    (Advances-line bytes line (subst (λ (m : Line). Answers s t c d (answered_of m.text)) fed q)))
+
+-- the writer stopped at the first line that the bytes end
+pub Breaks-answered : {s : Standing} {c d : Option (List ℕ)} (bytes : List ℕ) (line mid : Line) → has_newline bytes ≡ true → mid ≡ after_bytes line bytes
+    → StopsWithin s c d (answered_of mid.text) → Breaks s c d bytes line
+Breaks-answered {s} {c} {d} bytes line mid has fed q =
+    let n = suc (length (first_line bytes)) in
+    let stop : Breaks s c d (first_line bytes ++ 10 ∷ []) line = Breaks-line bytes line (subst (λ (m : Line). StopsWithin s c d (answered_of m.text)) fed q) in
+    subst (λ x. Breaks s c d x line) (ap (λ x. x ++ drop n bytes) (sym (take-first_line bytes has)) ∙ take-append-drop n bytes) (Breaks-more (drop n bytes) stop)
+
+-- ---- a run at the end of its script
+
+lines_at_end : {first from : Standing} {start old : Option (List ℕ)} {read : List ℕ} {line : Line} → Progress first from start old read line
+    → answered_lines (ended_lines read) ++ answered_of line.text ≡ answered_lines read
+lines_at_end {read = read} {line = line} p =
+    ap (λ x. answered_lines (ended_lines read) ++ x) (ap (λ (l : Line). answered_of l.text) p.line_is ∙ sym (answered_lines-last (begun_line read) (begun_line-no_newline read)))
+    ∙ sym (answered_lines-ended read (begun_line read)) ∙ ap answered_lines (ended-append-begun read)
+
+-- what has come of a line was answered
+answered_all : {s t : Standing} {c d : Option (List ℕ)} {line : Line} (bad : Bool) → Answers s t c d (answered_of line.text) → t.has_bad ≡ bad
+    → (before after start : Option (List ℕ)) (read : List ℕ) → Consumes before after read → IsAtEnd after → Progress fresh s start c read line
+    → AnsweredAll before after start d bad
+answered_all {s} {t} {c} {d} bad q is before after start read consumes end p =
+    let all : Answers fresh t start d (answered_lines read) = subst (λ x. Answers fresh t start d x) (lines_at_end p) (Answers-then p.answers q) in
+    record {
+      read = read;
+      written = all.written;
+      consumes = consumes;
+      all = end;
+      appends = all.appends;
+      transcript = (t.world, all.answered);
+      bad = sym all.bad ∙ is;
+    }
+
+pub Finishes-done : {s t : Standing} {c d : Option (List ℕ)} {line : Line} → Answers s t c d (answered_of line.text) → t.has_bad ≡ false → Finishes Done s c d line
+Finishes-done q is = record { on = answered_all false q is }
+
+pub Finishes-bad_line : {s t : Standing} {c d : Option (List ℕ)} {line : Line} → Answers s t c d (answered_of line.text) → t.has_bad ≡ true → Finishes BadLine s c d line
+Finishes-bad_line q is = record { on = answered_all true q is }
+
+pub Finishes-write_fault : {s : Standing} {c d : Option (List ℕ)} {line : Line} → StopsWithin s c d (answered_of line.text) → Finishes WriteFault s c d line
+Finishes-write_fault {s} {c} {d} q = record {
+  on = λ before after start read consumes end p.
+      let all : StopsWithin fresh start d (answered_lines read) = subst (λ x. StopsWithin fresh start d x) (lines_at_end p) (StopsWithin-then p.answers q) in
+      record {
+        read = read;
+        consumes = consumes;
+        front = inr (end, record { written = all.written; unwritten = all.unwritten; appends = all.appends; transcript = (all.last, all.answered) });
+      };
+}
+
+-- a line without a byte is not answered
+pub answered_of-none : (line : Option (List ℕ)) → is_begun line ≡ false → answered_of line ≡ []
+answered_of-none None none = absurd (cc)
+answered_of-none (Some []) none = refl
+answered_of-none (Some (b ∷ bs)) none = absurd (cc)
+
+-- ---- a run that reads
+
+pub Reached-start : (before old : Option (List ℕ)) → Reached fresh before before old old no_line
+Reached-start before old = record {
+  read = [];
+  consumes = Consumes-nil before;
+  progress = record { answers = Answers-none fresh old; line_is = refl };
+}
+
+pub Reached-read : {s t : Standing} {before mid after c d e : Option (List ℕ)} {bytes : List ℕ} {l m : Line} → Reached s before mid c d l → Consumes mid after bytes → Advances s t d e bytes l m
+    → Reached t before after c e m
+Reached-read {before = before} {mid = mid} {after = after} {c = c} {bytes = bytes} p consumes q = record {
+  read = p.read ++ bytes;
+  consumes = Consumes-trans before mid after p.read bytes p.consumes consumes;
+  progress = q.on fresh c p.read p.progress;
+}
+
+pub Ends-read_fault : {s : Standing} {before mid after c d : Option (List ℕ)} {l : Line} → Reached s before mid c d l → Keeps mid after → Ends ReadFault before after c d
+Ends-read_fault {s} {before} {mid} {after} p keeps = record {
+  read = p.read;
+  written = p.progress.answers.written;
+  consumes = Consumes-kept before mid after p.read p.consumes keeps;
+  appends = p.progress.answers.appends;
+  transcript = (s.world, p.progress.answers.answered);
+}
+
+pub Ends-write_fault : {s : Standing} {before mid after c d e : Option (List ℕ)} {bytes : List ℕ} {l : Line} → Reached s before mid c d l → Consumes mid after bytes → Breaks s d e bytes l
+    → Ends WriteFault before after c e
+Ends-write_fault {s} {before} {mid} {after} {c} {bytes = bytes} p consumes q =
+    let stop = q.on fresh c p.read p.progress in
+    record {
+      read = p.read ++ bytes;
+      consumes = Consumes-trans before mid after p.read bytes p.consumes consumes;
+      front = inl (record { written = stop.written; unwritten = stop.unwritten; appends = stop.appends; transcript = (stop.last, stop.answered) });
+    }
+
+pub Ends-finish : {s : Standing} {c d e : Option (List ℕ)} {l : Line} (before mid after : Option (List ℕ)) (outcome : Outcome) → Reached s before mid c d l → Consumes mid after [] → IsAtEnd after
+    → Finishes outcome s d e l → Ends outcome before after c e
+Ends-finish {c = c} before mid after outcome p consumes end q =
+    q.on before after c p.read (subst (Consumes before after) (append-nil p.read) (Consumes-trans before mid after p.read [] p.consumes consumes)) end p.progress
+
+-- ---- what a whole run says
+
+pub transcript_of_all : (outcome : Outcome) (before after old new : Option (List ℕ)) → Ends outcome before after old new → IsAnswered outcome
+    → IfSome before (λ script. (text : List ℕ) × Appends old new text × IsTranscript script text)
+transcript_of_all Done before after old new p is = Consumes-whole before after p.read _ p.consumes p.all (p.written, p.appends, p.transcript)
+transcript_of_all BadLine before after old new p is = Consumes-whole before after p.read _ p.consumes p.all (p.written, p.appends, p.transcript)
+transcript_of_all ReadFault before after old new p is = absurd is
+transcript_of_all WriteFault before after old new p is = absurd is
+transcript_of_all NoMemory before after old new p is = absurd is
+
+bad_of_all : (before after old new : Option (List ℕ)) (bad : Bool) → AnsweredAll before after old new bad → IfSome before (λ script. has_bad_line (answered_lines script) ≡ bad)
+bad_of_all before after old new bad p = Consumes-whole before after p.read (λ script. has_bad_line (answered_lines script) ≡ bad) p.consumes p.all p.bad
+
+pub done_of_all : (outcome : Outcome) (before after old new : Option (List ℕ)) → Ends outcome before after old new → outcome ≡ Done
+    → IfSome before (λ script. has_bad_line (answered_lines script) ≡ false)
+done_of_all outcome before after old new p is = bad_of_all before after old new false (subst (λ (o : Outcome). Ends o before after old new) is p)
+
+pub bad_line_of_all : (outcome : Outcome) (before after old new : Option (List ℕ)) → Ends outcome before after old new → outcome ≡ BadLine
+    → IfSome before (λ script. has_bad_line (answered_lines script) ≡ true)
+bad_line_of_all outcome before after old new p is = bad_of_all before after old new true (subst (λ (o : Outcome). Ends o before after old new) is p)

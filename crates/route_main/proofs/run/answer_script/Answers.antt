@@ -1,0 +1,15 @@
+use Rattle.std.proofs.Common.{rules}
+use Rattle.route_main.proofs.ProgressLemmas.{Ends-write_fault, Reached-read}
+use Rattle.route_main.proofs.run.answer_script.Goals as goal
+
+pub returns-in_default-answer_bytes-clause-ends : goal.returns-in_default-answer_bytes-clause-ends
+returns-in_default-answer_bytes-clause-ends g c = Ends-write_fault c.loop-turn.invariant.reached c.in-Ok.ensures.bytes.0 c.in_default-answer_bytes.ensures.err
+
+pub loop-turn-preserved : goal.loop-turn-preserved
+loop-turn-preserved g c = record {
+  reads = search rules;
+  no_read_failure = search rules;
+  no_write_failure = search rules;
+  unended = search rules;
+  reached = Reached-read c.loop-turn.invariant.reached c.in-Ok.ensures.bytes.0 c.in-Ok-answer_bytes.ensures.ok;
+}

@@ -1,0 +1,13 @@
+use Rattle.std.proofs.Common.{◌≡◌, false}
+use Rattle.route_main.specs.Progress.{Reached}
+use Rattle.route_main.proofs.run.answer_script.Given as goal
+
+abbrev pub invariant-loop-turn : goal.invariant-loop-turn
+invariant-loop-turn g l = record {
+  reads : l.reader.reads ≡ l._turn;
+  no_read_failure : l.reader.failures ≡ 0;
+  no_write_failure : l.writer.failures ≡ 0;
+  unended : l.line.ended ≡ false;
+  reached : Reached l.answerer (g.R.Read.remaining l.initial.reader.inner) (g.R.Read.remaining l.reader.inner)
+      (g.W.Write.contents l.initial.writer.inner) (g.W.Write.contents l.writer.inner) l.line;
+}

@@ -1,0 +1,14 @@
+use Rattle.std.proofs.Common.{◌≡◌}
+use Rattle.route_main.specs.World.{World}
+use Rattle.route_main.proofs.StepLemmas.{take_done, take_refused}
+use Rattle.route_main.proofs.world.World.take.Goals as goal
+
+pub returns-in-Err : goal.returns-in-Err
+returns-in-Err c =
+    let w : World = record { table = c.self.inside.table.entries; interfaces = c.self.inside.interfaces; sockets = c.self.inside.listeners.sockets } in
+    rw (← c.self.view_is, c.in-Err.ensures.kept, c.in-Err.ensures.refused) (take_refused w c.args.id c.in-Err.ensures.none)
+
+pub returns-in-Ok : goal.returns-in-Ok
+returns-in-Ok c =
+    let w : World = record { table = c.self.inside.table.entries; interfaces = c.self.inside.interfaces; sockets = c.self.inside.listeners.sockets } in
+    rw (← c.self.view_is, c.in-Ok.ensures.taken, c.«new».ensures) (take_done w c.args.id _ c.in-Ok.ensures.messages)

@@ -1,0 +1,77 @@
+-- The lines of a script. A line ends with a newline byte, 10, and is the bytes before it.
+use Rattle.std.specs.Prelude.{ℕ, Bool, true, false, ◌==◌, ◌||◌, not, nat_lt, cond, List, [], ◌∷◌, ◌++◌, length, map, filter, Option, Some, None}
+
+-- a byte ends a line
+abbrev pub is_newline : ℕ → Bool
+is_newline byte = byte == 10
+
+-- some byte ends a line
+abbrev pub has_newline : List ℕ → Bool
+has_newline [] = false
+has_newline (b ∷ bs) = is_newline b || has_newline bs
+
+-- the bytes before the first newline; all of them where there is none
+abbrev pub first_line : List ℕ → List ℕ
+first_line [] = []
+first_line (b ∷ bs) = cond (is_newline b) [] (b ∷ first_line bs)
+
+-- the bytes up to and with the last newline: the lines that are whole
+abbrev pub ended_lines : List ℕ → List ℕ
+ended_lines [] = []
+ended_lines (b ∷ bs) = cond (has_newline (b ∷ bs)) (b ∷ ended_lines bs) []
+
+-- the bytes after the last newline: what has come of the next line
+abbrev pub begun_line : List ℕ → List ℕ
+begun_line [] = []
+begun_line (b ∷ bs) = cond (has_newline (b ∷ bs)) (begun_line bs) (b ∷ bs)
+
+-- a byte before these lines goes onto the first of them
+abbrev pub onto_first : ℕ → List (List ℕ) → List (List ℕ)
+onto_first b [] = (b ∷ []) ∷ []
+onto_first b (line ∷ lines) = (b ∷ line) ∷ lines
+
+-- the lines of these bytes; a last one without a newline counts where it has a byte
+abbrev pub lines_of : List ℕ → List (List ℕ)
+lines_of [] = []
+lines_of (b ∷ bs) = cond (is_newline b) ([] ∷ lines_of bs) (onto_first b (lines_of bs))
+
+-- a line as it is looked at: nothing of it where it has more than 16,500 bytes
+abbrev pub kept : List ℕ → Option (List ℕ)
+kept line = cond (nat_lt 16500 (length line)) None (Some line)
+
+-- a kept line with these bytes behind it
+abbrev pub extended : Option (List ℕ) → List ℕ → Option (List ℕ)
+extended None bytes = None
+extended (Some line) bytes = kept (line ++ bytes)
+
+-- a line has at least one byte; one that is too long has
+abbrev pub is_begun : Option (List ℕ) → Bool
+is_begun None = true
+is_begun (Some []) = false
+is_begun (Some (b ∷ bs)) = true
+
+-- a line that gives no answer: an empty one, or one that is not too long and begins with '#'
+abbrev pub is_passed : Option (List ℕ) → Bool
+is_passed None = false
+is_passed (Some []) = true
+is_passed (Some (b ∷ bs)) = b == 35
+
+abbrev pub is_answered : Option (List ℕ) → Bool
+is_answered line = not (is_passed line)
+
+-- the lines of a script that are answered
+abbrev pub answered_lines : List ℕ → List (Option (List ℕ))
+answered_lines script = filter is_answered (map kept (lines_of script))
+
+-- what a line buffer holds: the line so far, and whether its newline has come
+pub record Line : Type 0 where
+  pub text : Option (List ℕ)
+  pub ended : Bool
+
+-- no byte of a line
+abbrev pub no_line : Line
+no_line = record { text = Some []; ended = false }
+
+-- the line after these bytes, up to and with the first newline among them
+abbrev pub after_bytes : Line → List ℕ → Line
+after_bytes line bytes = record { text = extended line.text (first_line bytes); ended = has_newline bytes }

@@ -1,0 +1,114 @@
+-- The transcript of a script: what a run may write, from the empty world on.
+use Rattle.std.specs.Prelude.{◌≡◌, Bool, true, false, ◌||◌, is_none, List, [], ◌∷◌, ◌++◌, ℕ, Option, Some, None, Result, Ok, Err, ◌⊎◌}
+use Rattle.std.specs.Io.KnownBytes.{Appends, Consumes, IsAtEnd, Keeps}
+use Rattle.route_main.specs.declared.script.Bad.{Bad}
+use Rattle.route_main.specs.declared.world.answer.Answer.{Answer}
+use Rattle.route_main.specs.declared.world.command.Command.{Command}
+use Rattle.route_main.specs.declared.run.outcome.Outcome.{Outcome}
+use Rattle.route_main.specs.declared.run.outcome.Outcome.TheVariants.{Done, BadLine, ReadFault, WriteFault, NoMemory}
+use Rattle.route_main.specs.Answers.{reply_text}
+use Rattle.route_main.specs.Grammar.{command_of}
+use Rattle.route_main.specs.Lines.{answered_lines, ended_lines}
+use Rattle.route_main.specs.Step.{Steps, stepped}
+use Rattle.route_main.specs.World.{World, empty_world}
+
+-- ---- one line
+
+-- the command that a line says; one that is too long says none
+abbrev pub command_in : Option (List ℕ) → Option Command
+command_in None = None
+command_in (Some line) = command_of line
+
+-- a line may be answered so in the old world, and the world is then the new one: a command by a step, and a malformed
+-- line by `bad`, in a world that stays
+abbrev pub Replies : World → Option (List ℕ) → Result Answer Bad → World → Type 0
+Replies old line (Ok answer) new = (command : Command) × (command_in line ≡ Some command) × Steps old command answer new
+Replies old line (Err bad) new = (command_in line ≡ None) × (new ≡ old)
+
+-- ---- lines, one after another
+
+-- the lines may be answered by this text, and the world is then the new one
+abbrev pub Answered : World → List (Option (List ℕ)) → List ℕ → World → Type 0
+Answered old [] text new = (text ≡ []) × (new ≡ old)
+Answered old (line ∷ lines) text new = (reply : Result Answer Bad) × (next : World) × (rest : List ℕ)
+    × Replies old line reply next × (text ≡ reply_text reply ++ rest) × Answered next lines rest new
+
+-- the text is a transcript of the script
+abbrev pub IsTranscript : List ℕ → List ℕ → Type 0
+IsTranscript script text = (last : World) × Answered empty_world (answered_lines script) text last
+
+-- some line is malformed, and so is answered `bad`
+abbrev pub has_bad_line : List (Option (List ℕ)) → Bool
+has_bad_line [] = false
+has_bad_line (line ∷ lines) = is_none (command_in line) || has_bad_line lines
+
+-- ---- the transcript of a run in which nothing is refused for want of memory
+
+-- the answer to a line, and the world after it
+pub record Turn : Type 0 where
+  pub reply : Result Answer Bad
+  pub world : World
+
+abbrev pub turn_by : World → Option Command → Turn
+turn_by world None = record { reply = Err (record {}); world = world }
+turn_by world (Some command) = record { reply = Ok (stepped world command).answer; world = (stepped world command).world }
+
+-- the text of a turn, and then the text from its world on
+abbrev pub text_from : Turn → (World → List ℕ) → List ℕ
+text_from turn rest = reply_text turn.reply ++ rest turn.world
+
+abbrev pub transcript_from : List (Option (List ℕ)) → World → List ℕ
+transcript_from [] world = []
+transcript_from (line ∷ lines) world = text_from (turn_by world (command_in line)) (transcript_from lines)
+
+abbrev pub transcript_of : List ℕ → List ℕ
+transcript_of script = transcript_from (answered_lines script) empty_world
+
+-- ---- what a run did to its reader, which had `before` and has `after` left, and to its writer, which held `old` and holds `new`
+
+-- it wrote a transcript of all that the reader had; of a malformed line among it or of none
+pub record AnsweredAll (before after old new : Option (List ℕ)) (is_bad : Bool) : Type 0 where
+  pub read : List ℕ
+  pub written : List ℕ
+  pub consumes : Consumes before after read
+  pub all : IsAtEnd after
+  pub appends : Appends old new written
+  pub transcript : IsTranscript read written
+  pub bad : has_bad_line (answered_lines read) ≡ is_bad
+
+-- it wrote a transcript of the lines that were read to their ends
+pub record AnsweredEnded (before after old new : Option (List ℕ)) : Type 0 where
+  pub read : List ℕ
+  pub written : List ℕ
+  pub consumes : Consumes before after read
+  pub appends : Appends old new written
+  pub transcript : IsTranscript (ended_lines read) written
+
+-- a writer took what stands before some unwritten rest of a transcript
+pub record WroteFrontOf (script : List ℕ) (old new : Option (List ℕ)) : Type 0 where
+  pub written : List ℕ
+  pub unwritten : List ℕ
+  pub appends : Appends old new written
+  pub transcript : IsTranscript script (written ++ unwritten)
+
+-- it wrote a front of a transcript of the lines that were read to their ends, the last at the end of the script
+pub record AnsweredFront (before after old new : Option (List ℕ)) : Type 0 where
+  pub read : List ℕ
+  pub consumes : Consumes before after read
+  pub front : WroteFrontOf (ended_lines read) old new ⊎ (IsAtEnd after × WroteFrontOf read old new)
+
+-- all lines were answered
+abbrev pub IsAnswered : Outcome → Type 0
+IsAnswered Done = Unit {0}
+IsAnswered BadLine = Unit {0}
+IsAnswered ReadFault = ⊥
+IsAnswered WriteFault = ⊥
+IsAnswered NoMemory = ⊥
+
+-- what a run with this outcome did
+abbrev pub Ends : Outcome → Option (List ℕ) → Option (List ℕ) → Option (List ℕ) → Option (List ℕ) → Type 0
+Ends Done before after old new = AnsweredAll before after old new false
+Ends BadLine before after old new = AnsweredAll before after old new true
+Ends ReadFault before after old new = AnsweredEnded before after old new
+Ends WriteFault before after old new = AnsweredFront before after old new
+Ends NoMemory before after old new = Keeps before after × Keeps old new

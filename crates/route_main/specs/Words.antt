@@ -1,0 +1,57 @@
+-- What a word of a script says: a name, a number, bytes or an address, and None where it is no such word.
+use Rattle.std.specs.Prelude.{ℕ, ◌/◌, ◌==◌, ◌&&◌, ◌||◌, nat_le, Bool, if◌then◌else◌, List, [], ◌∷◌, length, codes, bytes_eq, decimal, Option, Some, None, Result, Ok, Err}
+use Rattle.std.specs.Char.{is_ascii_lowercase, is_ascii_digit}
+use Rattle.std.specs.Int.{w32, from_be_bytes}
+use Rattle.std.specs.List.{list_all, slice_split}
+use Rattle.std.specs.Str.Parse.{digits_value}
+use Rattle.hex.specs.Hex.{decode_of}
+use Rattle.hex.specs.declared.error.FromHexError.{FromHexError}
+
+-- the second step, if the first gave a value
+infixl 10 ◌>>=◌
+abbrev pub ◌>>=◌ : {A B : Type 0} → Option A → (A → Option B) → Option B
+Some x >>= f = f x
+None >>= f = None
+
+-- the parts of a text between the bytes of this value, empty ones among them
+abbrev pub parted_by : ℕ → List ℕ → List (List ℕ)
+parted_by byte text = slice_split (λ b. b == byte) text
+
+-- `a` to `z` and `0` to `9`
+abbrev pub is_name_byte : ℕ → Bool
+is_name_byte b = is_ascii_lowercase b || is_ascii_digit b
+
+-- 1 to 8 letters and digits
+abbrev pub name_of : List ℕ → Option (List ℕ)
+name_of word = if nat_le 1 (length word) && nat_le (length word) 8 && list_all is_name_byte word then Some word else None
+
+-- a decimal up to this number, as it is printed: without leading zeros
+abbrev pub number_to : ℕ → List ℕ → Option ℕ
+number_to most word = let n = digits_value 10 word in
+    if nat_le (length word) 10 && nat_le n most && bytes_eq word (decimal n) then Some n else None
+
+-- what was decoded
+abbrev pub decoded : Result (List ℕ) FromHexError → Option (List ℕ)
+decoded (Ok bytes) = Some bytes
+decoded (Err _) = None
+
+-- pairs of hexadecimal digits, at least one and at most so many; `-` is no byte
+abbrev pub bytes_to : ℕ → List ℕ → Option (List ℕ)
+bytes_to most word = let pairs = length word / 2 in
+    if bytes_eq word (codes "-") then Some []
+    else if nat_le 1 pairs && nat_le pairs most then decoded (decode_of word)
+    else None
+
+-- the address of the four numbers between its dots
+abbrev pub inet_of_parts : List (List ℕ) → Option ℕ
+inet_of_parts (a ∷ b ∷ c ∷ d ∷ []) = do
+  a ← number_to 255 a
+  b ← number_to 255 b
+  c ← number_to 255 c
+  d ← number_to 255 d
+  Some (from_be_bytes w32 (a ∷ b ∷ c ∷ d ∷ []))
+inet_of_parts parts = None
+
+-- an IPv4 address, as `10.0.0.1`
+abbrev pub inet_of : List ℕ → Option ℕ
+inet_of word = inet_of_parts (parted_by 46 word)

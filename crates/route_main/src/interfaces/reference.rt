@@ -1,0 +1,21 @@
+use mask_table::Prefix;
+use sock_addrs::Inet;
+
+/// An interface address of a route: an IPv4 address of an interface by its number, or the link-layer address of an interface
+/// by the interface's number.
+#[derive(Clone, Copy, Debug, PartialEq, Eq)]
+pub enum IfaRef {
+    Inet(u16),
+    Link(u16),
+}
+
+/// What is known of an interface's IPv4 address.
+#[derive(Clone, Copy, Debug, PartialEq, Eq)]
+pub struct Facts {
+    /// The length of its network.
+    pub prefix: Prefix,
+    /// Its flag word: 0x100 where its route is cloning, and 1 once its route was added.
+    pub flags: u32,
+    /// Its broadcast address.
+    pub far: Inet,
+}

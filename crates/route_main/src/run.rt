@@ -1,0 +1,127 @@
+//! A run: a script's bytes in, its transcript out.
+ghost use Rattle.std.specs.Prelude.{◌≡◌, ◌≢◌, ◌<◌, ◌≤◌, ◌⊎◌, ℕ, List, length, IfOk, IfSome, true, false};
+ghost use Rattle.std.specs.Io.KnownBytes.{Appends, IsAtEnd};
+ghost use Rattle.route_main.specs.Lines.{answered_lines, no_line};
+ghost use Rattle.route_main.specs.Progress.{fresh};
+ghost use Rattle.route_main.specs.Transcript.{Ends, IsAnswered, IsTranscript, has_bad_line};
+
+mod answerer;
+mod outcome;
+#[cfg(test)]
+mod tests;
+
+use crate::script::{Counted, LineBuffer};
+use answerer::Answerer;
+pub(crate) use outcome::{Outcome, fault_text, status};
+use std::alloc::{AllocError, Global};
+use std::io::{Read, Write};
+
+/// The most reads of a run. The one that tells the end of the script is one of them.
+const MOST_READS: u64 = 16_777_216;
+
+/// The room that each read is given, in bytes.
+const READ_ROOM: usize = 4096;
+
+/// Reads a script, and writes its transcript: each line is answered, and its answer written, before the next is looked at.
+/// Memory is taken at the start alone. A last line without a newline is answered at the end of the script, but not where
+/// a read fault comes first.
+pub(crate) fn run<R: Read, W: Write>(
+    alloc: Global,
+    reader: &mut Counted<R>,
+    writer: &mut Counted<W>,
+) -> Outcome
+    requires no_read { reader.old.reads ≡ 0 }
+    requires no_read_failure { reader.old.failures ≡ 0 }
+    requires no_read_of_writer { writer.old.reads ≡ 0 }
+    requires no_write_failure { writer.old.failures ≡ 0 }
+
+    // Where all lines were answered, what was written is a transcript of the whole script, and nothing else.
+    ensures transcript { IsAnswered result → IfSome (R.remaining reader.old.inner) (λ script. (text : List ℕ)
+        × Appends (W.contents writer.old.inner) (W.contents writer.new.inner) text × IsTranscript script text) }
+    ensures done { result ≡ Outcome.Done → IfSome (R.remaining reader.old.inner) (λ script.
+        has_bad_line (answered_lines script) ≡ false) }
+    ensures bad_line { result ≡ Outcome.BadLine → IfSome (R.remaining reader.old.inner) (λ script.
+        has_bad_line (answered_lines script) ≡ true) }
+
+    // What was read and written is said for each outcome.
+    ensures ends { Ends result (R.remaining reader.old.inner) (R.remaining reader.new.inner)
+        (W.contents writer.old.inner) (W.contents writer.new.inner) }
+    ensures reads { reader.new.reads ≤ MOST_READS }
+
+    // A fault comes only where a read or a write failed, or the reads are spent; and without memory nothing begins.
+    ensures read_fault { result ≡ Outcome.ReadFault → (0 < reader.new.failures) ⊎ (reader.new.reads ≡ MOST_READS) }
+    ensures write_fault { result ≡ Outcome.WriteFault → 0 < writer.new.failures }
+    ensures no_memory { result ≡ Outcome.NoMemory → (reader.new ≡ reader.old) × (writer.new ≡ writer.old) }
+{
+    let Ok(mut start) = Start::new(alloc) else {
+        return Outcome::NoMemory;
+    };
+    answer_script(
+        &mut start.answerer,
+        &mut start.line,
+        &mut start.chunk,
+        reader,
+        writer,
+    )
+}
+
+/// What a run takes memory for.
+#[derive(Drop)]
+struct Start {
+    line: LineBuffer,
+    chunk: Vec<u8>,
+    answerer: Answerer,
+}
+
+impl Start {
+    /// No line, the room of a read, and the empty world.
+    fn new(alloc: Global) -> Result<Start, AllocError>
+        ensures line { IfOk result (λ start. start.line ≡ no_line) }
+        ensures chunk { IfOk result (λ start. length start.chunk.items ≡ READ_ROOM) }
+        ensures answerer { IfOk result (λ start. start.answerer ≡ fresh) }
+    {
+        let line = LineBuffer::new(alloc)?;
+        let chunk = vec![in alloc; 0u8; READ_ROOM]?;
+        let answerer = Answerer::new(alloc)?;
+        Ok(Start {
+            line,
+            chunk,
+            answerer,
+        })
+    }
+}
+
+/// Reads the script to its end, or to a fault, and answers its lines.
+fn answer_script<R: Read, W: Write>(
+    answerer: &mut Answerer,
+    line: &mut LineBuffer,
+    chunk: &mut [u8],
+    reader: &mut Counted<R>,
+    writer: &mut Counted<W>,
+) -> Outcome
+    requires fresh { answerer.old ≡ fresh }
+    requires line { line.old ≡ no_line }
+    requires room { length chunk.old ≡ READ_ROOM }
+    requires no_read { reader.old.reads ≡ 0 }
+    requires no_read_failure { reader.old.failures ≡ 0 }
+    requires no_write_failure { writer.old.failures ≡ 0 }
+    ensures ends { Ends result (R.remaining reader.old.inner) (R.remaining reader.new.inner)
+        (W.contents writer.old.inner) (W.contents writer.new.inner) }
+    ensures reads { reader.new.reads ≤ MOST_READS }
+    ensures read_fault { result ≡ Outcome.ReadFault → (0 < reader.new.failures) ⊎ (reader.new.reads ≡ MOST_READS) }
+    ensures write_fault { result ≡ Outcome.WriteFault → 0 < writer.new.failures }
+    ensures begun { result ≢ Outcome.NoMemory }
+{
+    for _turn in 0..MOST_READS {
+        let Ok(taken) = reader.read(chunk) else {
+            return Outcome::ReadFault;
+        };
+        if taken == 0 {
+            return answerer.finish(line, writer);
+        }
+        let Ok(()) = answerer.answer_bytes(line, &chunk[..taken], writer) else {
+            return Outcome::WriteFault;
+        };
+    }
+    Outcome::ReadFault
+}

@@ -1,0 +1,179 @@
+ghost use Rattle.std.specs.Prelude.{◌≡◌, ◌≢◌, ◌<◌, ◌≤◌, false, length, take, IfOk, OnOk, OnErr, option_copied};
+ghost use Rattle.route_main.specs.Lines.{is_passed as passes, no_line};
+ghost use Rattle.route_main.specs.Progress.{Advances, Answers, Breaks, Finishes, StopsWithin, answered_of, fresh};
+ghost use Rattle.route_main.specs.Transcript.{Replies};
+
+use super::Outcome;
+use crate::script::{Bad, Counted, LineBuffer, Stopped, read_line, write_answer};
+use crate::world::{Answer, World};
+use std::alloc::{AllocError, Global};
+use std::io::Write;
+use std::marker::Model;
+
+/// The room for the text of an answer, in bytes.
+const TEXT_ROOM: usize = 4096;
+
+/// Gives lines to a world, and writes the answers. A contract sees the world, and whether some line was malformed.
+#[derive(Drop)]
+pub(super) struct Answerer {
+    world: World,
+    has_bad: bool,
+    text: Vec<u8>,
+}
+
+impl Model for Answerer {
+    ghost use Rattle.std.specs.Prelude.{◌≡◌, length};
+    ghost use Rattle.route_main.specs.Progress.{Standing};
+
+    ghost Value = { Standing };
+
+    ghost view = { λ a. record { world = a.world; has_bad = a.has_bad } };
+
+    ghost invariant = { λ a. length a.text.items ≡ 4096 };
+}
+
+impl Answerer {
+    /// Over the empty world. This call alone takes memory of its own.
+    pub(super) fn new(alloc: Global) -> Result<Answerer, AllocError>
+        ensures { IfOk result (λ answerer. answerer ≡ fresh) }
+    {
+        let world = World::new(alloc)?;
+        let text = vec![in alloc; 0u8; TEXT_ROOM]?;
+        Ok(Answerer {
+            world,
+            has_bad: false,
+            text,
+        })
+    }
+
+    /// Answers each line that these bytes end, and leaves what they begin in the line buffer.
+    pub(super) fn answer_bytes<W: Write>(
+        &mut self,
+        line: &mut LineBuffer,
+        bytes: &[u8],
+        writer: &mut Counted<W>,
+    ) -> Result<(), Stopped>
+        requires no_failure { writer.old.failures ≡ 0 }
+        requires unended { line.old.ended ≡ false }
+        ensures ok { OnOk result (Advances self.old self.new (W.contents writer.old.inner) (W.contents writer.new.inner)
+            bytes.now line.old line.new) }
+        ensures unended { OnOk result (line.new.ended ≡ false) }
+        ensures no_failure { OnOk result (writer.new.failures ≡ 0) }
+        ensures err { OnErr result (Breaks self.old (W.contents writer.old.inner) (W.contents writer.new.inner)
+            bytes.now line.old) }
+        ensures failure { OnErr result (0 < writer.new.failures) }
+    {
+        let mut at = 0;
+        while at < bytes.len() {
+            let taken = self.answer_next(line, &bytes[at..], writer)?;
+            at += taken;
+        }
+        Ok(())
+    }
+
+    /// Takes bytes up to and with the first newline, and answers the line that it ends. Answers how many bytes it took.
+    fn answer_next<W: Write>(
+        &mut self,
+        line: &mut LineBuffer,
+        bytes: &[u8],
+        writer: &mut Counted<W>,
+    ) -> Result<usize, Stopped>
+        requires no_failure { writer.old.failures ≡ 0 }
+        requires unended { line.old.ended ≡ false }
+        ensures most { IfOk result (λ taken. taken ≤ length bytes.now) }
+        ensures some { 0 < length bytes.now → IfOk result (λ taken. 0 < taken) }
+        ensures ok { IfOk result (λ taken. Advances self.old self.new (W.contents writer.old.inner)
+            (W.contents writer.new.inner) (take taken bytes.now) line.old line.new) }
+        ensures unended { OnOk result (line.new.ended ≡ false) }
+        ensures no_failure { OnOk result (writer.new.failures ≡ 0) }
+        ensures err { OnErr result (Breaks self.old (W.contents writer.old.inner) (W.contents writer.new.inner)
+            bytes.now line.old) }
+        ensures failure { OnErr result (0 < writer.new.failures) }
+    {
+        let (taken, has_ended) = line.feed(bytes);
+        if !has_ended {
+            return Ok(taken);
+        }
+        self.answer(line.line(), writer)?;
+        line.clear();
+        Ok(taken)
+    }
+
+    /// Answers what has come of a line at the end of the script, and says how the run ended.
+    pub(super) fn finish<W: Write>(&mut self, line: &LineBuffer, writer: &mut Counted<W>) -> Outcome
+        requires no_failure { writer.old.failures ≡ 0 }
+        ensures ends { Finishes result self.old (W.contents writer.old.inner) (W.contents writer.new.inner) line.now }
+        ensures write_fault { result ≡ Outcome.WriteFault → 0 < writer.new.failures }
+        ensures read { result ≢ Outcome.ReadFault }
+        ensures begun { result ≢ Outcome.NoMemory }
+    {
+        if self.answer_last(line, writer).is_err() {
+            return Outcome::WriteFault;
+        }
+        if self.has_bad {
+            return Outcome::BadLine;
+        }
+        Outcome::Done
+    }
+
+    /// Answers what has come of a line, where at least one byte has.
+    fn answer_last<W: Write>(
+        &mut self,
+        line: &LineBuffer,
+        writer: &mut Counted<W>,
+    ) -> Result<(), Stopped>
+        requires no_failure { writer.old.failures ≡ 0 }
+        ensures ok { OnOk result (Answers self.old self.new (W.contents writer.old.inner) (W.contents writer.new.inner)
+            (answered_of line.now.text)) }
+        ensures no_failure { OnOk result (writer.new.failures ≡ 0) }
+        ensures err { OnErr result (StopsWithin self.old (W.contents writer.old.inner) (W.contents writer.new.inner)
+            (answered_of line.now.text)) }
+        ensures failure { OnErr result (0 < writer.new.failures) }
+    {
+        if line.pending() {
+            self.answer(line.line(), writer)?;
+        }
+        Ok(())
+    }
+
+    /// Answers a line, unless it gives no answer.
+    fn answer<W: Write>(
+        &mut self,
+        line: Option<&[u8]>,
+        writer: &mut Counted<W>,
+    ) -> Result<(), Stopped>
+        requires no_failure { writer.old.failures ≡ 0 }
+        ensures ok { OnOk result (Answers self.old self.new (W.contents writer.old.inner) (W.contents writer.new.inner)
+            (answered_of (option_copied line.entry))) }
+        ensures no_failure { OnOk result (writer.new.failures ≡ 0) }
+        ensures err { OnErr result (StopsWithin self.old (W.contents writer.old.inner) (W.contents writer.new.inner)
+            (answered_of (option_copied line.entry))) }
+        ensures failure { OnErr result (0 < writer.new.failures) }
+    {
+        if is_passed(line) {
+            return Ok(());
+        }
+        let reply = reply_to(&mut self.world, line);
+        self.has_bad |= reply.is_err();
+        write_answer(&reply, &mut self.text, writer)?;
+        Ok(())
+    }
+}
+
+/// Whether a line gives no answer: an empty one, or one that begins with `#` and is not too long.
+fn is_passed(line: Option<&[u8]>) -> bool
+    ensures { result ≡ passes (option_copied line.entry) }
+{
+    matches!(line, Some([] | [b'#', ..]))
+}
+
+/// The world's reply to a line, which is nothing where it is too long.
+fn reply_to(world: &mut World, line: Option<&[u8]>) -> Result<Answer, Bad>
+    ensures { Replies world.old (option_copied line.entry) result world.new }
+{
+    let Some(line) = line else {
+        return Err(Bad);
+    };
+    let command = read_line(line)?;
+    Ok(world.step(&command))
+}

@@ -1,0 +1,57 @@
+-- A message that was written says its own length, whatever its other fields are.
+use Rattle.std.proofs.Common.{◌≡◌, ℕ, ◌+◌, ◌<◌, ◌≤◌, ◌^◌, Bool, true, ◌&&◌, nat_le, List, [], ◌∷◌, ◌++◌, length, drop, replicate, refl, sym, ◌∙◌, arith, lit≤, length-append}
+use Rattle.std.proofs.lemmas.Bool.{leb-true}
+use Rattle.route_msgs.specs.Layout.{Field, field, number_at, with_field, with_fields}
+use Rattle.route_msgs.specs.Headers.{ifa_fields, ifa_head, ifa_message, route_fields, route_head, route_message}
+use Rattle.route_msgs.specs.Texts.{addrs_of, text_bytes}
+use Rattle.route_msgs.specs.declared.header.Header.{Header}
+use Rattle.route_msgs.specs.declared.header.IfaHeader.{IfaHeader}
+use Rattle.route_msgs.specs.declared.texts.Texts.{Texts}
+use Rattle.route_msgs.proofs.FieldsRead.{both, is_apart, length-with_field, number_at-append, number_at-with_field, read_apart}
+
+-- all of the fields lie among so many bytes, and apart from this place
+abbrev are_apart : ℕ → ℕ → ℕ → List Field → Bool
+are_apart n o w [] = true
+are_apart n o w (f ∷ fs) = (nat_le (f.offset + f.width) n && is_apart o w f) && are_apart n o w fs
+
+-- what such fields leave as it was
+record Keeps (n o w : ℕ) (old new : List ℕ) : Type 0 where
+  number : number_at o w new ≡ number_at o w old
+  size : length new ≡ n
+
+kept : (n o w : ℕ) (fs : List Field) (m : List ℕ) → length m ≡ n → are_apart n o w fs ≡ true → Keeps n o w m (with_fields fs m)
+kept n o w [] m size h = record { number = refl; size = size }
+kept n o w (f ∷ fs) m size h =
+    let parts : ((nat_le (f.offset + f.width) n && is_apart o w f) ≡ true) × (are_apart n o w fs ≡ true) = both (nat_le (f.offset + f.width) n && is_apart o w f) (are_apart n o w fs) h in
+    let here : (nat_le (f.offset + f.width) n ≡ true) × (is_apart o w f ≡ true) = both (nat_le (f.offset + f.width) n) (is_apart o w f) parts.0 in
+    let fits : f.offset + f.width ≤ length m = rw size (leb-true (f.offset + f.width) n here.0) in
+    let rest = kept n o w fs (with_field f m) (length-with_field f m fits ∙ size) parts.1 in
+    record { number = rest.number ∙ read_apart o w f m fits here.1; size = rest.size }
+
+-- it has this length, and its first field says so
+pub record SaysLength (n : ℕ) (m : List ℕ) : Type 0 where
+  pub size : length m ≡ n
+  pub says : number_at 0 2 m ≡ n
+
+-- a header whose first field is the length of the header and of what follows
+headed : (head behind : List ℕ) (n : ℕ) → length head ≡ n → 2 ≤ n → number_at 0 2 head ≡ n + length behind → SaysLength (n + length behind) (head ++ behind)
+headed head behind n size some says = record {
+  size = omega (arith, length-append head behind, size);
+  says = number_at-append 0 2 head behind (rw size some) ∙ says;
+}
+
+pub route_says : (h : Header) (ts : Texts) → 76 + length (text_bytes ts) ≤ 256 → SaysLength (76 + length (text_bytes ts)) (route_message h ts)
+route_says h ts fits =
+    let size = 76 + length (text_bytes ts) in
+    let first = field 0 2 size in
+    let small : size < 256 ^ 2 = omega arith in
+    let rest = kept 76 0 2 (drop 1 (route_fields size (addrs_of ts) h)) (with_field first (replicate 76 0)) (length-with_field first (replicate 76 0) (lit≤ tt)) refl in
+    headed (route_head size (addrs_of ts) h) (text_bytes ts) 76 rest.size (lit≤ tt) (rest.number ∙ number_at-with_field first (replicate 76 0) (lit≤ tt) small)
+
+pub ifa_says : (h : IfaHeader) (ts : Texts) → 20 + length (text_bytes ts) ≤ 256 → SaysLength (20 + length (text_bytes ts)) (ifa_message h ts)
+ifa_says h ts fits =
+    let size = 20 + length (text_bytes ts) in
+    let first = field 0 2 size in
+    let small : size < 256 ^ 2 = omega arith in
+    let rest = kept 20 0 2 (drop 1 (ifa_fields size (addrs_of ts) h)) (with_field first (replicate 20 0)) (length-with_field first (replicate 20 0) (lit≤ tt)) refl in
+    headed (ifa_head size (addrs_of ts) h) (text_bytes ts) 20 rest.size (lit≤ tt) (rest.number ∙ number_at-with_field first (replicate 20 0) (lit≤ tt) small)
