@@ -11,7 +11,6 @@ use Rattle.route_main.specs.declared.interfaces.reference.IfaRef.{IfaRef}
 use Rattle.route_main.specs.declared.table.entry.Entry.{Entry}
 use Rattle.route_main.specs.declared.world.route.Route.{Route}
 
-
 inside : {X : Type 0} (x y : X) → Some x ≡ Some y → x ≡ y
 inside x y h = cc
 
@@ -22,6 +21,6 @@ pub announced_by : (is : List Interface) (ifa : IfaRef) (a : Address) (r : Entry
     → heard_both ≡ announced is ifa a r sockets
 announced_by is ifa a r sockets index link facts address first second heard heard_both at text known is_address one two so_far all =
     let link_is : link ≡ unwrap_or (link_text_of (interface_of ifa is) is) [] =
-        sym (ap (λ (o : Option (List ℕ)). unwrap_or o []) (ap (λ (i : ℕ). link_text_of i is) (sym at) ∙ text)) in
+    sym (ap (λ (o : Option (List ℕ)). unwrap_or o []) (ap (λ (i : ℕ). link_text_of i is) (sym at) ∙ text)) in
     let facts_are : facts ≡ facts_of a = inside facts (facts_of a) known in
     all ∙ rw (so_far, one, two, ← is_address, facts_are, link_is, at) refl

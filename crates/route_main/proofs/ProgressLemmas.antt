@@ -16,8 +16,8 @@ use Rattle.route_main.specs.Counts.{Counts}
 use Rattle.route_main.specs.Lines.{Line, after_bytes, answered_lines, begun_line, ended_lines, extended, first_line, has_newline, is_answered, is_begun, is_passed, kept, no_line}
 use Rattle.route_main.specs.Output.{WroteFront}
 use Rattle.route_main.specs.Progress.{Standing, Answers, StopsWithin, Progress, Advances, Breaks, Finishes, Reached, answered_of, fresh}
-use Rattle.route_main.specs.Transcript.{Answered, AnsweredAll, Ends, IsAnswered, IsTranscript, Replies, command_in, has_bad_line, transcript_from, turn_by}
-use Rattle.route_main.specs.World.{World}
+use Rattle.route_main.specs.Transcript.{Answered, AnsweredAll, Ends, IsAnswered, IsTranscript, Replies, command_in, has_bad_line, transcript_from, transcript_of, turn_by}
+use Rattle.route_main.specs.World.{World, empty_world}
 use Rattle.route_main.proofs.LineLemmas.{answered_lines-ended, answered_lines-last, answered_lines-line, begun_line-end, begun_line-more, begun_line-no_newline, ended-append-begun, ended_lines-end, ended_lines-more, ended_lines-append, extended-kept, first_line-none, first_line-no_newline, has_newline-append, same_line, take-first_line}
 
 -- ---- answered lines, one part after another
@@ -38,6 +38,10 @@ transcript_from-is (line ∷ lines) old =
     let turn = turn_by old (command_in line) in
     let rest = transcript_from-is lines turn.world in
     (rest.0, (turn.reply, turn.world, transcript_from lines turn.world, turn_replies old line (command_in line) refl, refl, rest.1))
+
+-- so what a run writes in which nothing is refused is a transcript
+pub transcript_of-is : (script : List ℕ) → IsTranscript script (transcript_of script)
+transcript_of-is script = transcript_from-is (answered_lines script) empty_world
 
 has_bad_line-append : (l m : List (Option (List ℕ))) → has_bad_line (l ++ m) ≡ (has_bad_line l || has_bad_line m)
 has_bad_line-append [] m = refl

@@ -36,8 +36,8 @@ begins_as f m behind fits =
     let b : length bytes ≡ f.width = length-bytes_high_first f.width f.value in
     let size : length (front ++ bytes ++ rest) ≡ length m = omega (arith, length-append (front ++ bytes) rest, length-append front bytes, length-drop (f.offset + f.width) m, a, b) in
     let at : (i : ℕ) → i < 2 → slice_index (front ++ bytes ++ rest) i ≡ slice_index m i = λ i less.
-        ap (λ (xs : List ℕ). get_or xs i 0) (append_assoc front bytes rest)
-        ∙ (get_or_append_left front (bytes ++ rest) 0 i (omega arith) ∙ get_or-take f.offset m i 0 (omega arith)) in
+    ap (λ (xs : List ℕ). get_or xs i 0) (append_assoc front bytes rest)
+    ∙ (get_or_append_left front (bytes ++ rest) 0 i (omega arith) ∙ get_or-take f.offset m i 0 (omega arith)) in
     record { size = size; first = at 0 (lit< tt); second = at 1 (lit< tt) }
 
 still_message : (old new : List ℕ) → BeginsAs old new → IsMessage old → IsMessage new

@@ -71,8 +71,8 @@ pub write_replied : (w : World) (id m : List ℕ) (pid : ℕ) (reply : List ℕ)
 unfolding stepped
 write_replied w id m pid reply answer next there replied by =
     elim by [
-      inl h ↦ inl (ap (write_step w id m) there ∙ (ap (reply_step w id pid m) replied ∙ rw (h.0, h.1) refl))
-    | inr h ↦ inr (write_takes w id m pid there (heard_reply _ _ reply replied), h.0, h.1)
+      | inl h ↦ inl (ap (write_step w id m) there ∙ (ap (reply_step w id pid m) replied ∙ rw (h.0, h.1) refl))
+      | inr h ↦ inr (write_takes w id m pid there (heard_reply _ _ reply replied), h.0, h.1)
     ]
 
 -- a refused write whose reply is heard by somebody, or by nobody
@@ -83,8 +83,8 @@ write_refused_by w id m pid r None answer next f there refusal silent by alone =
     inl (ap (write_step w id m) there ∙ (ap (reply_step w id pid m) refusal ∙ rw (f, (alone refl).0, (alone refl).1) refl))
 write_refused_by w id m pid r (Some family) answer next f there refusal silent by alone =
     elim by [
-      inl h ↦ inl (ap (write_step w id m) there ∙ (ap (reply_step w id pid m) refusal ∙ rw (h.0, h.1) refl))
-    | inr h ↦ inr (write_takes w id m pid there (silent ∙ ap is_none f), h.0, h.1)
+      | inl h ↦ inl (ap (write_step w id m) there ∙ (ap (reply_step w id pid m) refusal ∙ rw (h.0, h.1) refl))
+      | inr h ↦ inr (write_takes w id m pid there (silent ∙ ap is_none f), h.0, h.1)
     ]
 
 pub write_refused : (w : World) (id m : List ℕ) (pid : ℕ) (r : Refusal) (answer : Answer) (next : World) → pid_of id w.sockets ≡ Some pid → reply_of w.table pid m ≡ Err r → is_silent (first_refusal (message_rules m)) ≡ is_none r.family
@@ -112,13 +112,13 @@ address_without_route w name address prefix cloning h there = inl (ap (add_addre
 pub address_done : (w : World) (name : List ℕ) (address prefix : ℕ) (cloning : Bool) → addr_fault name address w.interfaces ≡ None
     → (let r = route_to_network (next_address w address prefix cloning) cloning in is_some (entry_at r.key r.rank w.table) ≡ false)
     → (let a = next_address w address prefix cloning in
-      let r = route_to_network a cloning in
-      let interfaces = with_address name address prefix cloning w.interfaces in
-      Steps w (AddAddress name address prefix cloning) Done (record {
-        table = with_entry r w.table;
-        interfaces = marked_routed (Inet a.number) interfaces;
-        sockets = announced interfaces (Inet a.number) a r w.sockets;
-      }))
+    let r = route_to_network a cloning in
+    let interfaces = with_address name address prefix cloning w.interfaces in
+    Steps w (AddAddress name address prefix cloning) Done (record {
+      table = with_entry r w.table;
+      interfaces = marked_routed (Inet a.number) interfaces;
+      sockets = announced interfaces (Inet a.number) a r w.sockets;
+    }))
 unfolding stepped takes_memory
 address_done w name address prefix cloning h there = inl (ap (add_address_step w name address prefix cloning) h ∙ rw there refl)
 
@@ -137,7 +137,7 @@ pub replied_by : (table : List (Entry Route)) (pid : ℕ) (m : List ℕ) (asked 
     → reply_of table pid m ≡ Ok reply
 replied_by table pid m asked d entries r reply passes is_destination is_header same best is_reply =
     let found : best_of (destination m) table ≡ Some r =
-        sym (best ∙ (ap (λ (x : ℕ). best_of x entries) is_destination ∙ ap (best_of (destination m)) same)) in
+    sym (best ∙ (ap (λ (x : ℕ). best_of x entries) is_destination ∙ ap (best_of (destination m)) same)) in
     ap (λ (o : Option Refusal). unless_refused o (reply_to_get (header_in m) pid (best_of (destination m) table))) passes
     ∙ (ap (reply_to_get (header_in m) pid) found
     ∙ (ap (λ (h : Header). Ok (route_got h pid r)) (sym is_header) ∙ ap Ok (sym is_reply)))

@@ -56,6 +56,7 @@ is_passed None = false
 is_passed (Some []) = true
 is_passed (Some (b ∷ bs)) = b == 35
 
+-- a line that gives an answer
 abbrev pub is_answered : Option (List ℕ) → Bool
 is_answered line = not (is_passed line)
 

@@ -52,10 +52,10 @@ returns c =
     let none = no_entry (entry_at r.key r.rank c.room.new.self.entries) (λ some. absurd (false≢true (c.in_default-add.ensures.there.1 some))) in
     rw (← c.self.view_is)
     (address_routed w c.args.name c.args.address c.args.prefix c.args.cloning c.masked-key.result c.of-rank.result c.in-Ok-add_addr.ifa c.of_address-route.result
-      c.add.new.self.entries c.add_addr.new.self c.mark_routed.new.self c.announce.new.listeners.sockets
-      (sym c.in_default.ensures) key_is c.of-rank.ensures c.in-Ok-add_addr.ensures.number c.of_address-route.ensures
-      (same_place c.masked-key.result _ c.of-rank.result _ c.room.new.self.entries w.table false key_is c.of-rank.ensures entries_are none)
-      (c.in_default-add.ensures.ok ∙ ap (λ (es : List (Entry Route)). with_entry r es) entries_are)
-      c.in-Ok-add_addr.ensures.added
-      c.mark_routed.ensures
-      (c.announce.ensures a c.in-Ok-add_addr.ensures.there refl ∙ ap (λ (l : Listening). announced c.add_addr.new.self c.in-Ok-add_addr.ifa a r l.sockets) c.in-Ok-reserve.ensures.ok))
+    c.add.new.self.entries c.add_addr.new.self c.mark_routed.new.self c.announce.new.listeners.sockets
+    (sym c.in_default.ensures) key_is c.of-rank.ensures c.in-Ok-add_addr.ensures.number c.of_address-route.ensures
+    (same_place c.masked-key.result _ c.of-rank.result _ c.room.new.self.entries w.table false key_is c.of-rank.ensures entries_are none)
+    (c.in_default-add.ensures.ok ∙ ap (λ (es : List (Entry Route)). with_entry r es) entries_are)
+    c.in-Ok-add_addr.ensures.added
+    c.mark_routed.ensures
+    (c.announce.ensures a c.in-Ok-add_addr.ensures.there refl ∙ ap (λ (l : Listening). announced c.add_addr.new.self c.in-Ok-add_addr.ifa a r l.sockets) c.in-Ok-reserve.ensures.ok))
