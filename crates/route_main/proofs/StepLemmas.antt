@@ -8,7 +8,8 @@ use Rattle.route_main.specs.Sockets.{Socket, listen_fault, opened, messages_of, 
 use Rattle.route_main.specs.Step.{AnswersOr, Steps, Stepped, stepped, takes_memory, refused, attach_step, open_step, read_step, write_step, reply_step, add_address_step, announced, inet_family, route_to_network, told, told_refusal}
 use Rattle.route_main.specs.Table.{best_of, entry_at, with_entry}
 use Rattle.route_main.specs.World.{World}
-use Rattle.route_main.specs.Writes.{destination, first_refusal, is_silent, message_rules, reply_of, reply_to_get, unless_refused}
+use Rattle.route_main.specs.Rules.{first_fault}
+use Rattle.route_main.specs.Writes.{destination, is_silent, message_rules, reply_of, reply_to_get, unless_refused}
 use Rattle.route_main.specs.Messages.{route_got}
 use Rattle.route_msgs.specs.Headers.{header_in}
 use Rattle.route_msgs.specs.declared.header.Header.{Header}
@@ -63,7 +64,7 @@ heard_reply None outcome x h = refl
 heard_reply (Some r) outcome x h = cc
 
 -- a write of an open socket may want memory unless it is refused silently
-write_takes : (w : World) (id m : List ℕ) (pid : ℕ) → pid_of id w.sockets ≡ Some pid → is_silent (first_refusal (message_rules m)) ≡ false → takes_memory w (Write id m) ≡ true
+write_takes : (w : World) (id m : List ℕ) (pid : ℕ) → pid_of id w.sockets ≡ Some pid → is_silent (first_fault (message_rules m)) ≡ false → takes_memory w (Write id m) ≡ true
 unfolding takes_memory
 write_takes w id m pid there silent = rw (there, silent) refl
 
@@ -76,7 +77,7 @@ write_replied w id m pid reply answer next there replied by =
     ]
 
 -- a refused write whose reply is heard by somebody, or by nobody
-write_refused_by : (w : World) (id m : List ℕ) (pid : ℕ) (r : Refusal) (family : Option ℕ) (answer : Answer) (next : World) → r.family ≡ family → pid_of id w.sockets ≡ Some pid → reply_of w.table pid m ≡ Err r → is_silent (first_refusal (message_rules m)) ≡ is_none r.family
+write_refused_by : (w : World) (id m : List ℕ) (pid : ℕ) (r : Refusal) (family : Option ℕ) (answer : Answer) (next : World) → r.family ≡ family → pid_of id w.sockets ≡ Some pid → reply_of w.table pid m ≡ Err r → is_silent (first_fault (message_rules m)) ≡ is_none r.family
     → AnswersOr (Refused r.errno) (told_refusal w id pid m r) w answer next → (IsNone family → (answer ≡ Refused r.errno) × (next ≡ w)) → Steps w (Write id m) answer next
 unfolding stepped
 write_refused_by w id m pid r None answer next f there refusal silent by alone =
@@ -87,7 +88,7 @@ write_refused_by w id m pid r (Some family) answer next f there refusal silent b
       | inr h ↦ inr (write_takes w id m pid there (silent ∙ ap is_none f), h.0, h.1)
     ]
 
-pub write_refused : (w : World) (id m : List ℕ) (pid : ℕ) (r : Refusal) (answer : Answer) (next : World) → pid_of id w.sockets ≡ Some pid → reply_of w.table pid m ≡ Err r → is_silent (first_refusal (message_rules m)) ≡ is_none r.family
+pub write_refused : (w : World) (id m : List ℕ) (pid : ℕ) (r : Refusal) (answer : Answer) (next : World) → pid_of id w.sockets ≡ Some pid → reply_of w.table pid m ≡ Err r → is_silent (first_fault (message_rules m)) ≡ is_none r.family
     → AnswersOr (Refused r.errno) (told_refusal w id pid m r) w answer next → (IsNone r.family → (answer ≡ Refused r.errno) × (next ≡ w)) → Steps w (Write id m) answer next
 write_refused w id m pid r answer next there refusal silent by alone = write_refused_by w id m pid r r.family answer next refl there refusal silent by alone
 
@@ -133,7 +134,7 @@ socket_there (Some found) pid d h = cc
 
 -- the reply to a GET that passes all checks is the best route's
 pub replied_by : (table : List (Entry Route)) (pid : ℕ) (m : List ℕ) (asked : Header) (d : ℕ) (entries : List (Entry Route)) (r : Entry Route) (reply : List ℕ)
-    → first_refusal (message_rules m) ≡ None → d ≡ destination m → asked ≡ header_in m → entries ≡ table → Some r ≡ best_of d entries → reply ≡ route_got asked pid r
+    → first_fault (message_rules m) ≡ None → d ≡ destination m → asked ≡ header_in m → entries ≡ table → Some r ≡ best_of d entries → reply ≡ route_got asked pid r
     → reply_of table pid m ≡ Ok reply
 replied_by table pid m asked d entries r reply passes is_destination is_header same best is_reply =
     let found : best_of (destination m) table ≡ Some r =

@@ -11,7 +11,8 @@ use Rattle.route_main.specs.Sockets.{Socket, pid_of, messages_of, listen_fault, 
 use Rattle.route_main.specs.Messages.{address_added, route_added}
 use Rattle.route_main.specs.Routes.{route_of_address}
 use Rattle.route_main.specs.World.{World}
-use Rattle.route_main.specs.Writes.{reply_of, refused_reply, first_refusal, message_rules, is_silent}
+use Rattle.route_main.specs.Rules.{first_fault}
+use Rattle.route_main.specs.Writes.{reply_of, refused_reply, message_rules, is_silent}
 use Rattle.route_main.specs.declared.interfaces.reference.IfaRef.{IfaRef}
 use Rattle.route_main.specs.declared.interfaces.reference.IfaRef.TheVariants.{Inet}
 use Rattle.route_main.specs.declared.table.entry.Entry.{Entry}
@@ -116,7 +117,7 @@ unfoldable pub takes_memory : World → Command → Bool
 takes_memory w (Attach name type_number link) = is_none (attach_fault name w.interfaces)
 takes_memory w (AddAddress name address prefix cloning) = is_none (addr_fault name address w.interfaces)
 takes_memory w (Open id pid protocol) = is_none (listen_fault id w.sockets)
-takes_memory w (Write id bytes) = is_some (pid_of id w.sockets) && not (is_silent (first_refusal (message_rules bytes)))
+takes_memory w (Write id bytes) = is_some (pid_of id w.sockets) && not (is_silent (first_fault (message_rules bytes)))
 takes_memory w (Read id) = is_some (messages_of id w.sockets)
 
 -- this answer and this world; or that there is no memory, and the old world

@@ -11,23 +11,15 @@ use Rattle.route_msgs.specs.Headers.{header_in}
 use Rattle.route_msgs.specs.declared.header.Header.{Header}
 use Rattle.route_msgs.specs.declared.parsed.Slot.{Slot}
 use Rattle.route_main.specs.Messages.{route_got}
+use Rattle.route_main.specs.Rules.{Rule, first_fault, rule}
 use Rattle.route_main.specs.Table.{best_of}
 use Rattle.route_main.specs.declared.table.entry.Entry.{Entry}
 use Rattle.route_main.specs.declared.world.refusal.Refusal.{Refusal}
 use Rattle.route_main.specs.declared.world.route.Route.{Route}
 
--- a reason to refuse a write, where it holds; the family of the reply, if anybody hears of it
-pub record Rule : Type 0 where
-  pub holds : Bool
-  pub refusal : Refusal
-
-abbrev pub refused_if : Bool → Errno → Option ℕ → Rule
-refused_if holds errno family = record { holds = holds; refusal = record { errno = errno; family = family } }
-
--- the first reason that holds
-abbrev pub first_refusal : List Rule → Option Refusal
-first_refusal [] = None
-first_refusal (r ∷ rs) = if r.holds then Some r.refusal else first_refusal rs
+-- a reason to refuse a write, and the family of the reply if anybody hears of it
+abbrev pub refused_if : Bool → Errno → Option ℕ → Rule Refusal
+refused_if holds errno family = rule holds (record { errno = errno; family = family })
 
 -- the bytes of an address in a message, none where it isn't there
 abbrev pub text_in_slot : Option Slot → List ℕ → List ℕ
@@ -51,7 +43,7 @@ abbrev pub is_plain_get : Header → Bool
 is_plain_get h = h.kind == 4 && bit_and h.addrs 254 == 0
 
 -- the reasons that lie in the destination, and in what is asked of it
-abbrev pub text_rules : List ℕ → Bool → List Rule
+abbrev pub text_rules : List ℕ → Bool → List (Rule Refusal)
 text_rules to is_get =
     refused_if (is_malformed_inet to) EINVAL (Some (family to))
     ∷ refused_if (not is_get) EOPNOTSUPP (Some (family to))
@@ -59,7 +51,7 @@ text_rules to is_get =
     ∷ []
 
 -- the reasons that lie in the message itself
-abbrev pub message_rules : List ℕ → List Rule
+abbrev pub message_rules : List ℕ → List (Rule Refusal)
 message_rules m =
     refused_if (nat_lt 8192 (length m)) EMSGSIZE None
     ∷ refused_if (not (has_length m)) EINVAL None
@@ -81,7 +73,7 @@ reply_to_get asked pid (Some r) = Ok (route_got asked pid r)
 -- the reply to a write of a process, or why it is refused
 abbrev pub reply_of : List (Entry Route) → ℕ → List ℕ → Result (List ℕ) Refusal
 reply_of table pid m =
-    unless_refused (first_refusal (message_rules m)) (reply_to_get (header_in m) pid (best_of (destination m) table))
+    unless_refused (first_fault (message_rules m)) (reply_to_get (header_in m) pid (best_of (destination m) table))
 
 -- the written bytes with the writer's pid
 abbrev pub with_pid : ℕ → List ℕ → List ℕ

@@ -83,8 +83,8 @@ fn announce(
     let index = interfaces.interface_of(ifa);
     let link = interfaces.link_text(index);
     let facts = interfaces.facts(ifa);
-    let added = messages::address_added(index, link, address, facts);
-    listeners.deliver(&added, AF_INET, None);
-    let added = messages::route_added(index, key, rank, route);
-    listeners.deliver(&added, AF_INET, None);
+    let announcement = messages::address_added(index, link, address, facts);
+    listeners.deliver(&announcement, AF_INET, None);
+    let addition = messages::route_added(index, key, rank, route);
+    listeners.deliver(&addition, AF_INET, None);
 }

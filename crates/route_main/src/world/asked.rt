@@ -4,7 +4,8 @@ ghost use Rattle.std.specs.Int.{w32, from_be_bytes};
 ghost use Rattle.std.specs.Prelude.{take, drop};
 ghost use Rattle.sock_addrs.specs.Reading.{IsWhole};
 ghost use Rattle.route_msgs.specs.Headers.{header_in};
-ghost use Rattle.route_main.specs.Writes.{IsEchoed, first_refusal, message_rules, text_rules, is_plain_get as is_plain, destination as destination_of};
+ghost use Rattle.route_main.specs.Rules.{first_fault};
+ghost use Rattle.route_main.specs.Writes.{IsEchoed, message_rules, text_rules, is_plain_get as is_plain, destination as destination_of};
 
 use crate::world::Refusal;
 use route_msgs::kinds::RTM_GET;
@@ -35,10 +36,10 @@ pub struct Asked {
 impl Asked {
     /// What the bytes of a write ask. Refused in the order of the reasons that lie in the message itself.
     pub(crate) fn read(bytes: &[u8]) -> Result<Asked, Refusal>
-        ensures passes { IfOk result (λ _. first_refusal (message_rules bytes.now) ≡ None) }
+        ensures passes { IfOk result (λ _. first_fault (message_rules bytes.now) ≡ None) }
         ensures destination { IfOk result (λ a. a.destination ≡ destination_of bytes.now) }
         ensures header { IfOk result (λ a. a.header ≡ header_in bytes.now) }
-        ensures refused { IfErr result (λ r. first_refusal (message_rules bytes.now) ≡ Some r) }
+        ensures refused { IfErr result (λ r. first_fault (message_rules bytes.now) ≡ Some r) }
         ensures whole { IfOk result (λ _. IsEchoed bytes.now) }
         ensures heard { IfErr result (λ r. IsSome r.family → IsEchoed bytes.now) }
     {
@@ -73,9 +74,9 @@ fn is_plain_get(header: &Header) -> bool
 /// The destination of a request, by the bytes of its address.
 fn destination_in(text: &[u8], is_plain_get: bool) -> Result<Inet, Refusal>
     requires { IsWhole text.now }
-    ensures passes { IfOk result (λ _. first_refusal (text_rules text.now is_plain_get) ≡ None) }
+    ensures passes { IfOk result (λ _. first_fault (text_rules text.now is_plain_get) ≡ None) }
     ensures address { IfOk result (λ a. a ≡ from_be_bytes w32 (drop 4 (take 8 text.now))) }
-    ensures refused { IfErr result (λ r. first_refusal (text_rules text.now is_plain_get) ≡ Some r) }
+    ensures refused { IfErr result (λ r. first_fault (text_rules text.now is_plain_get) ≡ Some r) }
 {
     let family = family_of(text);
     let address = match read_inet(text) {

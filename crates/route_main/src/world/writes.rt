@@ -2,7 +2,8 @@
 ghost use Rattle.std.specs.Prelude.{◌≡◌, ◌⊎◌, Some, Ok, Err, IsSome, IsNone, is_none, IfOk, IfErr, OnOk, OnErr, MatchResult};
 ghost use Rattle.route_main.specs.Queue.{IsMessage};
 ghost use Rattle.route_main.specs.Step.{Steps, AnswersOr, inet_family, told, told_refusal};
-ghost use Rattle.route_main.specs.Writes.{IsEchoed, first_refusal, is_silent, message_rules, refused_reply, reply_of};
+ghost use Rattle.route_main.specs.Rules.{first_fault};
+ghost use Rattle.route_main.specs.Writes.{IsEchoed, is_silent, message_rules, refused_reply, reply_of};
 ghost use Rattle.route_main.specs.declared.world.answer.Answer.TheVariants.{Done, Refused};
 ghost use Rattle.route_main.specs.declared.world.command.Command.TheVariants.{Write};
 
@@ -40,7 +41,7 @@ impl World {
         ensures reply { MatchResult result (λ reply. reply_of self.old.table pid bytes.now ≡ Ok reply.items) (λ r. reply_of self.old.table pid bytes.now ≡ Err r) }
         ensures message { IfOk result (λ reply. IsMessage reply.items) }
         ensures heard { IfErr result (λ r. IsSome r.family → IsEchoed bytes.now) }
-        ensures silent { IfErr result (λ r. is_silent (first_refusal (message_rules bytes.now)) ≡ is_none r.family) }
+        ensures silent { IfErr result (λ r. is_silent (first_fault (message_rules bytes.now)) ≡ is_none r.family) }
         ensures world { self.new ≡ self.old }
     {
         let asked = Asked::read(bytes)?;

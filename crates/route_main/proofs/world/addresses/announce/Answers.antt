@@ -16,7 +16,7 @@ returns c = λ a there is_address.
     c.link_text-link.ensures
     (sym c.facts-facts.ensures ∙ ap (option_map facts_of) there)
     is_address
-    (c.deref.ensures.0 ∙ c.address_added-added.ensures.message)
-    (c.deref-2.ensures.0 ∙ c.route_added-added.ensures.message)
+    (c.deref.ensures.0 ∙ c.address_added-announcement.ensures.message)
+    (c.deref-2.ensures.0 ∙ c.route_added-addition.ensures.message)
     (ap (λ l. l.sockets) c.deliver.ensures)
     (ap (λ l. l.sockets) c.deliver-2.ensures)

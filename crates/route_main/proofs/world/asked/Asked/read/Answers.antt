@@ -7,7 +7,8 @@ use Rattle.std.proofs.lemmas.Result.{err_from_is_err_and}
 use Rattle.route_msgs.specs.Headers.{header_in}
 use Rattle.route_msgs.specs.Slots.{slot_in, slot_text}
 use Rattle.route_msgs.specs.declared.parsed.Slot.{Slot}
-use Rattle.route_main.specs.Writes.{first_refusal, message_rules, text_rules, text_in_slot, is_plain_get}
+use Rattle.route_main.specs.Rules.{first_fault}
+use Rattle.route_main.specs.Writes.{message_rules, text_rules, text_in_slot, is_plain_get}
 use Rattle.route_main.proofs.Checks.{refused_by_text}
 use Rattle.route_main.proofs.world.asked.Asked.read.Goals as goal
 use Rattle.route_main.proofs.world.asked.Asked.read.Goals.{After-destination_in}
@@ -17,14 +18,14 @@ there : (c : After-destination_in) → slot_in c.args.bytes.now 0 ≡ Some c.in-
 there c = sym (ap (λ (slots : List (Option Slot)). get_or slots 0 None) c.in-Ok.ensures.reads.4) ∙ c.in-Some.is
 
 -- the message is refused as its destination is
-same : (c : After-destination_in) → first_refusal (message_rules c.args.bytes.now) ≡ first_refusal (text_rules c.text.result.now c.is_plain_get.result)
+same : (c : After-destination_in) → first_fault (message_rules c.args.bytes.now) ≡ first_fault (text_rules c.text.result.now c.is_plain_get.result)
 same c =
     let m = c.args.bytes.now in
     let reads = c.in-Ok.ensures.reads in
     let text : List ℕ = slot_text c.in-Some.slot m in
     refused_by_text m c.in-Some.slot (le-ltb _ _ c.if-bytes-gt-MOST_BYTES.false) reads.0 reads.1 reads.2 (there c)
-    ∙ (ap (λ (get : Bool). first_refusal (text_rules text get)) (sym (c.is_plain_get.ensures ∙ ap is_plain_get reads.3))
-    ∙ ap (λ (t : List ℕ). first_refusal (text_rules t c.is_plain_get.result)) (sym c.text.ensures))
+    ∙ (ap (λ (get : Bool). first_fault (text_rules text get)) (sym (c.is_plain_get.ensures ∙ ap is_plain_get reads.3))
+    ∙ ap (λ (t : List ℕ). first_fault (text_rules t c.is_plain_get.result)) (sym c.text.ensures))
 
 pub returns-in_err-destination-clause-refused : goal.returns-in_err-destination-clause-refused
 returns-in_err-destination-clause-refused c =
