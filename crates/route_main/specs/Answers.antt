@@ -1,5 +1,5 @@
 -- What a transcript shows of a line: the text of its answer, each of whose lines a newline ends.
-use Rattle.std.specs.Prelude.{ℕ, List, ◌++◌, flat_map, codes, decimal, Result, Ok, Err}
+use Rattle.std.specs.Prelude.{◌≡◌, ℕ, List, ◌++◌, flat_map, codes, decimal, Result, Ok, Err}
 use Rattle.hex.specs.Hex.{encode_lower}
 use Rattle.sock_addrs.specs.Errno.{errno_number}
 use Rattle.route_main.specs.declared.script.Bad.{Bad}
@@ -23,3 +23,7 @@ answer_text (Messages messages) = flat_map message_line messages ++ codes "ok\n"
 abbrev pub reply_text : Result Answer Bad → List ℕ
 reply_text (Ok answer) = answer_text answer
 reply_text (Err bad) = codes "bad\n"
+
+-- every reply's text ends in a newline
+abbrev pub RepliesEndInANewline : Type 0
+RepliesEndInANewline = (reply : Result Answer Bad) → (front : List ℕ) × (reply_text reply ≡ front ++ codes "\n")

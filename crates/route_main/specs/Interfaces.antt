@@ -3,6 +3,7 @@ use Rattle.std.specs.Prelude.{ℕ, ◌+◌, ◌-◌, ◌*◌, ◌/◌, ◌^◌, 
 use Rattle.std.specs.List.{find, list_any, flat_map, position, slice_get}
 use Rattle.std.specs.Int.{w16, to_be_bytes}
 use Rattle.sock_addrs.specs.Padded.{padded_to}
+use Rattle.sock_addrs.specs.Rounding.{rounded}
 use Rattle.sock_addrs.specs.declared.errno.Errno.{Errno}
 use Rattle.sock_addrs.specs.declared.errno.Errno.TheVariants.{ENXIO, EEXIST, ENOSPC, EADDRINUSE}
 use Rattle.mask_table.specs.Agreeing.{front}
@@ -52,10 +53,6 @@ attached name type_number link = record { name = name; kind = Broadcast; type_nu
 -- interfaces are numbered from 1 on
 abbrev pub interface_numbered : ℕ → List Interface → Option Interface
 interface_numbered index interfaces = slice_get interfaces (index - 1)
-
--- the least multiple of 4 that is at least n
-abbrev pub rounded : ℕ → ℕ
-rounded n = (n + 3) / 4 * 4
 
 -- how an interface's link-layer address stands in a message: its length, family, the interface's number and type, the
 -- lengths of name, address and selector, the name and the address, and zeros to the length

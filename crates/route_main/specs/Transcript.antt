@@ -64,6 +64,10 @@ transcript_from (line ∷ lines) world = text_from (turn_by world (command_in li
 abbrev pub transcript_of : List ℕ → List ℕ
 transcript_of script = transcript_from (answered_lines script) empty_world
 
+-- it is a transcript
+abbrev pub ComputedIsTranscript : Type 0
+ComputedIsTranscript = (script : List ℕ) → IsTranscript script (transcript_of script)
+
 -- ---- what a run did to its reader, which had `before` and has `after` left, and to its writer, which held `old` and holds `new`
 
 -- it wrote a transcript of all that the reader had; of a malformed line among it or of none

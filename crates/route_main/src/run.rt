@@ -6,6 +6,7 @@ ghost use Rattle.route_main.specs.Progress.{fresh};
 ghost use Rattle.route_main.specs.Transcript.{Ends, IsAnswered, IsTranscript, has_bad_line};
 
 mod answerer;
+mod laws;
 mod outcome;
 #[cfg(test)]
 mod tests;

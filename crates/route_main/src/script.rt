@@ -5,6 +5,7 @@ mod counted;
 #[cfg(test)]
 pub(crate) mod fakes;
 mod grammar;
+mod laws;
 mod line_buffer;
 mod numbers;
 mod output;
