@@ -12,7 +12,9 @@ use Rattle.route_main.specs.First.{change_first}
 use Rattle.sock_addrs.specs.declared.errno.Errno.TheVariants.{ENXIO, EADDRINUSE, ENOSPC}
 use Rattle.route_main.specs.Rules.{rule, first_fault}
 use Rattle.route_main.specs.Facts.{facts_of}
-use Rattle.route_main.specs.Interfaces.{Address, Interface, addresses_of, added, has_name, has_number, has_address, with_one_more, with_routed_flag, with_routed_flags, routed_flag, attached, addr_fault, holds, new_address, with_address}
+use Rattle.route_main.specs.declared.interfaces.reference.IfaRef.{IfaRef}
+use Rattle.route_main.specs.declared.interfaces.reference.IfaRef.TheVariants.{Inet, Link}
+use Rattle.route_main.specs.Interfaces.{Address, Interface, addresses_of, address_of, marked_routed, added, has_name, has_number, has_address, with_one_more, with_routed_flag, with_routed_flags, routed_flag, attached, addr_fault, holds, new_address, with_address}
 use Rattle.route_main.specs.Numbered.{AreNumbered}
 
 -- SEARCH BY NUMBER, an interface after the other
@@ -160,6 +162,27 @@ numbered-marked n k is h = record {
   numbers = rw (marked-addresses k is) (all-marked n k (addresses_of is) h.numbers);
   few = omega (arith, length-map is (with_routed_flags k), h.few);
 }
+
+-- an address that is there is there once it is marked
+same-number : (number : ℕ) (a : Address) (b : Bool) → (if b then record a { flags = bit_or a.flags routed_flag } else a).number ≡ a.number
+same-number number a true = refl
+same-number number a false = refl
+
+first-marked : (number : ℕ) (a : Address) (xs : List Address) (b : Bool)
+    → (IsSome (find (has_number number) xs) → IsSome (find (has_number number) (map (with_routed_flag number) xs)))
+    → IsSome (cond b (Some a) (find (has_number number) xs))
+    → IsSome (cond b (Some (with_routed_flag number a)) (find (has_number number) (map (with_routed_flag number) xs)))
+first-marked number a xs true g h = search rules
+first-marked number a xs false g h = g h
+
+found-marked : (number : ℕ) (xs : List Address) → IsSome (find (has_number number) xs) → IsSome (find (has_number number) (map (with_routed_flag number) xs))
+found-marked number [] h = h
+found-marked number (a ∷ xs) h =
+    rw (same-number number a (nat_eq a.number number)) (first-marked number a xs (nat_eq a.number number) (λ g. found-marked number xs g) h)
+
+pub marked_is_there : (ifa : IfaRef) (interfaces : List Interface) → IsSome (address_of ifa interfaces) → IsSome (address_of ifa (marked_routed ifa interfaces))
+marked_is_there (Inet number) interfaces h = rw (marked-addresses number interfaces) (found-marked number (addresses_of interfaces) h)
+marked_is_there (Link index) interfaces h = h
 
 not_found : (o : Option Address) → is_some o ≡ false → o ≡ None
 not_found None h = refl

@@ -6,6 +6,8 @@ ghost use Rattle.route_main.specs.Interfaces.{attach_fault, attached, addr_fault
 mod address;
 mod interface;
 mod reference;
+#[cfg(test)]
+mod tests;
 
 use address::Address;
 use interface::{Interface, is_in_use, is_there, place_of, place_of_number};

@@ -7,6 +7,8 @@ ghost use Rattle.route_main.specs.Sockets.{listening, has_id, listen_fault, open
 mod laws;
 mod queue;
 mod socket;
+#[cfg(test)]
+mod tests;
 
 use queue::Queue;
 use sock_addrs::{Errno, Name};
