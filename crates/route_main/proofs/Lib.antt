@@ -35,3 +35,4 @@ pub mod SocketLists
 pub mod StepLemmas
 pub mod TableLemmas
 pub mod Texts
+pub mod WorldLawsProved

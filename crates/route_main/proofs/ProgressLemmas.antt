@@ -1,5 +1,5 @@
 -- How the steps of a run are put together.
-use Rattle.std.proofs.Common.{◌≡◌, ℕ, Bool, true, false, not, ◌||◌, cond, List, [], ◌∷◌, ◌++◌, Option, Some, None, Result, Ok, Err, refl, sym, ap, ◌∙◌, subst, append_assoc, append-nil, inl, inr, suc, ◌+◌, ◌≤◌, length, take, drop, take-append-drop, arith, OnErr, OnOk}
+use Rattle.std.proofs.Common.{◌≡◌, ℕ, Bool, true, false, not, ◌||◌, cond, List, [], ◌∷◌, ◌++◌, Option, Some, None, Result, Ok, Err, refl, sym, ap, ◌∙◌, subst, append_assoc, append-nil, inl, inr, suc, ◌+◌, ◌≤◌, ◌≢◌, length, length-append, length-take-le, take, drop, take-append-drop, arith, OnErr, OnOk}
 use Rattle.std.specs.Prelude.{is_none, is_err, IfSome}
 use Rattle.std.specs.Io.KnownBytes.{Appends, Consumes, IsAtEnd, Keeps}
 use Rattle.std.proofs.KnownBytes.{Appends-nil, Appends-trans, Consumes-kept, Consumes-nil, Consumes-trans, Consumes-whole}
@@ -15,7 +15,7 @@ use Rattle.route_main.specs.Answers.{reply_text}
 use Rattle.route_main.specs.Counts.{Counts}
 use Rattle.route_main.specs.Lines.{Line, after_bytes, answered_lines, begun_line, ended_lines, extended, first_line, has_newline, is_answered, is_begun, is_passed, kept, no_line}
 use Rattle.route_main.specs.Output.{WroteFront}
-use Rattle.route_main.specs.Progress.{Standing, Answers, StopsWithin, Progress, Advances, Breaks, Finishes, Reached, answered_of, fresh}
+use Rattle.route_main.specs.Progress.{Standing, Answers, StopsWithin, Progress, Advances, Breaks, Finishes, Reached, HasRead, answered_of, fresh}
 use Rattle.route_main.specs.Transcript.{Answered, AnsweredAll, Ends, IsAnswered, IsTranscript, Replies, command_in, has_bad_line, transcript_from, transcript_of, turn_by}
 use Rattle.route_main.specs.World.{World, empty_world}
 use Rattle.route_main.proofs.LineLemmas.{answered_lines-ended, answered_lines-last, answered_lines-line, begun_line-end, begun_line-more, begun_line-no_newline, ended-append-begun, ended_lines-end, ended_lines-more, ended_lines-append, extended-kept, first_line-none, first_line-no_newline, has_newline-append, same_line, take-first_line}
@@ -284,6 +284,24 @@ Reached-read {before = before} {mid = mid} {after = after} {c = c} {bytes = byte
   consumes = Consumes-trans before mid after p.read bytes p.consumes consumes;
   progress = q.on fresh c p.read p.progress;
 }
+
+pub HasRead-start : (before : Option (List ℕ)) → HasRead 0 before before
+HasRead-start before = record { read = []; consumes = Consumes-nil before; many = omega (arith) }
+
+-- a read that gives some bytes makes them one more at least
+pub HasRead-more : {n : ℕ} {before mid after : Option (List ℕ)} (taken : ℕ) (buf : List ℕ) → HasRead n before mid → Consumes mid after (take taken buf) → taken ≤ length buf → taken ≢ 0
+    → HasRead (n + 1) before after
+HasRead-more {n} {before} {mid} {after} taken buf p consumes bound some = record {
+  read = p.read ++ take taken buf;
+  consumes = Consumes-trans before mid after p.read (take taken buf) p.consumes consumes;
+  many = omega (arith, p.many, length-append p.read (take taken buf), length-take-le taken buf bound, some);
+}
+
+-- so the script is at least so long
+pub HasRead-script : {n : ℕ} {before after : Option (List ℕ)} → HasRead n before after → IfSome before (λ script. n ≤ length script)
+HasRead-script {before = None} p = tt
+HasRead-script {before = Some script} {after = None} p = absurd p.consumes
+HasRead-script {before = Some script} {after = Some rest} p = omega (arith, p.many, ap length p.consumes, length-append p.read rest)
 
 pub Ends-read_fault : {s : Standing} {before mid after c d : Option (List ℕ)} {l : Line} → Reached s before mid c d l → Keeps mid after → Ends ReadFault before after c d
 Ends-read_fault {s} {before} {mid} {after} p keeps = record {

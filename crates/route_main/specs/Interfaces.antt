@@ -1,5 +1,5 @@
 -- The interfaces with their addresses.
-use Rattle.std.specs.Prelude.{ℕ, ◌+◌, ◌-◌, ◌*◌, ◌/◌, ◌^◌, ◌≤◌, ◌==◌, nat_le, Bool, true, false, not, ◌&&◌, List, [], ◌∷◌, ◌++◌, length, map, max, Option, Some, None, IsSome, option_map, unwrap_or, bytes_eq, bit_or, if◌then◌else◌}
+use Rattle.std.specs.Prelude.{ℕ, ◌+◌, ◌-◌, ◌*◌, ◌/◌, ◌^◌, ◌≤◌, ◌==◌, nat_le, zero, suc, Bool, true, false, not, ◌&&◌, List, [], ◌∷◌, ◌++◌, length, map, max, Option, Some, None, IsSome, option_map, unwrap_or, bytes_eq, bit_or, if◌then◌else◌}
 use Rattle.std.specs.List.{find, list_any, flat_map, position, slice_get}
 use Rattle.std.specs.Int.{w16, to_be_bytes}
 use Rattle.sock_addrs.specs.Padded.{padded_to}
@@ -52,7 +52,8 @@ attached name type_number link = record { name = name; kind = Broadcast; type_nu
 
 -- interfaces are numbered from 1 on
 abbrev pub interface_numbered : ℕ → List Interface → Option Interface
-interface_numbered index interfaces = slice_get interfaces (index - 1)
+interface_numbered zero interfaces = None
+interface_numbered (suc place) interfaces = slice_get interfaces place
 
 -- how an interface's link-layer address stands in a message: its length, family, the interface's number and type, the
 -- lengths of name, address and selector, the name and the address, and zeros to the length

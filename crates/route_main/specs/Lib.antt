@@ -26,4 +26,5 @@ pub mod TableLaws
 pub mod Transcript
 pub mod Words
 pub mod World
+pub mod WorldLaws
 pub mod Writes

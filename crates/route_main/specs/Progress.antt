@@ -1,5 +1,5 @@
 -- How far a run has come: its world and what its writer took, beside what was read.
-use Rattle.std.specs.Prelude.{◌≡◌, Bool, false, ◌||◌, filter, List, [], ◌∷◌, ◌++◌, ℕ, Option}
+use Rattle.std.specs.Prelude.{◌≡◌, Bool, false, ◌||◌, filter, List, [], ◌∷◌, ◌++◌, length, ◌≤◌, ℕ, Option}
 use Rattle.std.specs.Io.KnownBytes.{Appends, Consumes, IsAtEnd}
 use Rattle.route_main.specs.declared.run.outcome.Outcome.{Outcome}
 use Rattle.route_main.specs.Lines.{Line, answered_lines, begun_line, ended_lines, is_answered, kept}
@@ -58,3 +58,9 @@ pub record Reached (to : Standing) (before after old new : Option (List ℕ)) (l
   pub read : List ℕ
   pub consumes : Consumes before after read
   pub progress : Progress fresh to old new read line
+
+-- at least this many bytes have been read
+pub record HasRead (least : ℕ) (before after : Option (List ℕ)) : Type 0 where
+  pub read : List ℕ
+  pub consumes : Consumes before after read
+  pub many : least ≤ length read

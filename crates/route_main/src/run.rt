@@ -49,8 +49,10 @@ pub(crate) fn run<R: Read, W: Write>(
         (W.contents writer.old.inner) (W.contents writer.new.inner) }
     ensures reads { reader.new.reads ≤ MOST_READS }
 
-    // A fault comes only where a read or a write failed, or the reads are spent; and without memory nothing begins.
-    ensures read_fault { result ≡ Outcome.ReadFault → (0 < reader.new.failures) ⊎ (reader.new.reads ≡ MOST_READS) }
+    // A fault comes only where a read or a write failed, or the reads are spent on a script of at least as many bytes;
+    // and without memory nothing begins.
+    ensures read_fault { result ≡ Outcome.ReadFault → (0 < reader.new.failures) ⊎ ((reader.new.reads ≡ MOST_READS)
+        × IfSome (R.remaining reader.old.inner) (λ script. MOST_READS ≤ length script)) }
     ensures write_fault { result ≡ Outcome.WriteFault → 0 < writer.new.failures }
     ensures no_memory { result ≡ Outcome.NoMemory → (reader.new ≡ reader.old) × (writer.new ≡ writer.old) }
 {
@@ -109,7 +111,8 @@ fn answer_script<R: Read, W: Write>(
     ensures ends { Ends result (R.remaining reader.old.inner) (R.remaining reader.new.inner)
         (W.contents writer.old.inner) (W.contents writer.new.inner) }
     ensures reads { reader.new.reads ≤ MOST_READS }
-    ensures read_fault { result ≡ Outcome.ReadFault → (0 < reader.new.failures) ⊎ (reader.new.reads ≡ MOST_READS) }
+    ensures read_fault { result ≡ Outcome.ReadFault → (0 < reader.new.failures) ⊎ ((reader.new.reads ≡ MOST_READS)
+        × IfSome (R.remaining reader.old.inner) (λ script. MOST_READS ≤ length script)) }
     ensures write_fault { result ≡ Outcome.WriteFault → 0 < writer.new.failures }
     ensures begun { result ≢ Outcome.NoMemory }
 {

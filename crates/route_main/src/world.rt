@@ -8,6 +8,7 @@ mod addresses;
 mod answer;
 mod asked;
 mod command;
+mod laws;
 mod messages;
 mod refusal;
 mod route;

@@ -125,4 +125,14 @@ mod tests {
         }
         assert_eq!(rt; writer.into_inner().bytes.as_slice(), b"abc".as_slice());
     }
+
+    #[test]
+    fn counts_writes_that_fail(rt: HostRuntime) {
+        let mut writer = Counted::new(FakeWriter::new(rt.alloc(), 2, 2, Fault::Error));
+        for (bytes, moved, failures) in [("abc", Some(2), 0), ("c", None, 1), ("c", Some(1), 1)] {
+            assert_eq!(rt; writer.write(bytes.as_bytes()).ok(), moved, "{bytes}");
+            assert_eq!(rt; (writer.reads(), writer.failures()), (0, failures));
+        }
+        assert_eq!(rt; writer.into_inner().bytes.as_slice(), b"abc".as_slice());
+    }
 }

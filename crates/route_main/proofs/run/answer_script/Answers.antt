@@ -1,5 +1,5 @@
 use Rattle.std.proofs.Common.{rules}
-use Rattle.route_main.proofs.ProgressLemmas.{Ends-write_fault, Reached-read}
+use Rattle.route_main.proofs.ProgressLemmas.{Ends-write_fault, HasRead-more, Reached-read}
 use Rattle.route_main.proofs.run.answer_script.Goals as goal
 
 pub returns-in_default-answer_bytes-clause-ends : goal.returns-in_default-answer_bytes-clause-ends
@@ -12,4 +12,5 @@ loop-turn-preserved g c = record {
   no_write_failure = search rules;
   unended = search rules;
   reached = Reached-read c.loop-turn.invariant.reached c.in-Ok.ensures.bytes.0 c.in-Ok-answer_bytes.ensures.ok;
+  many = HasRead-more c.in-Ok.taken _ c.loop-turn.invariant.many c.in-Ok.ensures.bytes.0 c.in-Ok.ensures.bound.0 c.if-taken-eq0.false;
 }

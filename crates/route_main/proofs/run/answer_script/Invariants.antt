@@ -1,5 +1,5 @@
 use Rattle.std.proofs.Common.{◌≡◌, false}
-use Rattle.route_main.specs.Progress.{Reached}
+use Rattle.route_main.specs.Progress.{HasRead, Reached}
 use Rattle.route_main.proofs.run.answer_script.Given as goal
 
 abbrev pub invariant-loop-turn : goal.invariant-loop-turn
@@ -10,4 +10,5 @@ invariant-loop-turn g l = record {
   unended : l.line.ended ≡ false;
   reached : Reached l.answerer (g.R.Read.remaining l.initial.reader.inner) (g.R.Read.remaining l.reader.inner)
       (g.W.Write.contents l.initial.writer.inner) (g.W.Write.contents l.writer.inner) l.line;
+  many : HasRead l._turn (g.R.Read.remaining l.initial.reader.inner) (g.R.Read.remaining l.reader.inner);
 }
