@@ -1,6 +1,6 @@
 -- The addresses of all interfaces, after a change of one interface and after one more.
-use Rattle.std.proofs.Common.{◌≡◌, ℕ, zero, suc, ◌+◌, ◌<◌, ◌≤◌, Bool, true, false, cond, List, [], ◌∷◌, ◌++◌, length, map, take, drop, slice_index_or, Option, Some, None, is_some, IsSome, option_map, not, nat_le, slice_set, rules, bit_or, ◌||◌, if◌then◌else◌, refl, sym, ap, ◌∙◌, arith, length-append, append-nil, append_assoc, drop-cons, add-one, nat_eq}
-use Rattle.std.specs.List.{AllByRecursion, find, list_any, flat_map, position}
+use Rattle.std.proofs.Common.{◌≡◌, ℕ, suc, ◌+◌, ◌<◌, ◌≤◌, Bool, true, false, cond, List, [], ◌∷◌, ◌++◌, length, map, take, drop, slice_index_or, Option, Some, None, is_some, IsSome, option_map, not, nat_le, slice_set, rules, bit_or, ◌||◌, if◌then◌else◌, refl, sym, ap, ◌∙◌, arith, length-append, append-nil, drop-cons, add-one, nat_eq}
+use Rattle.std.specs.List.{AllByRecursion, find, list_any, position}
 use Rattle.std.specs.Option.{option_or}
 use Rattle.std.proofs.lemmas.Bool.{ne_eqb, eq-eqb}
 use Rattle.std.proofs.Math.Seq.{take-append_seam}

@@ -1,5 +1,5 @@
 -- What is left to look at in a written message, once its frame is found whole.
-use Rattle.std.proofs.Common.{◌≡◌, ℕ, List, ◌∷◌, [], length, nat_lt, Bool, true, false, not, ap, ◌∙◌, refl}
+use Rattle.std.proofs.Common.{◌≡◌, ℕ, List, ◌∷◌, length, nat_lt, true, false, not, ap, ◌∙◌, refl}
 use Rattle.std.specs.Prelude.{Option, Some, None, is_none}
 use Rattle.sock_addrs.specs.declared.errno.Errno.TheVariants.{EINVAL, EMSGSIZE, EPROTONOSUPPORT}
 use Rattle.route_msgs.specs.Headers.{header_in}

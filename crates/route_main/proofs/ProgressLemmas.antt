@@ -16,7 +16,8 @@ use Rattle.route_main.specs.Counts.{Counts}
 use Rattle.route_main.specs.Lines.{Line, after_bytes, answered_lines, begun_line, ended_lines, extended, first_line, has_newline, is_answered, is_begun, is_passed, kept, no_line}
 use Rattle.route_main.specs.Output.{WroteFront}
 use Rattle.route_main.specs.Progress.{Standing, Answers, StopsWithin, Progress, Advances, Breaks, Finishes, Reached, HasRead, answered_of, fresh}
-use Rattle.route_main.specs.Transcript.{Answered, AnsweredAll, Ends, IsAnswered, IsTranscript, Replies, command_in, has_bad_line, transcript_from, transcript_of, turn_by}
+use Rattle.route_main.specs.Step.{Stepped}
+use Rattle.route_main.specs.Transcript.{Answered, AnsweredAll, Ends, IsAnswered, IsTranscript, Replies, ReplyIsComputed, command_in, has_bad_line, transcript_from, transcript_of, turn_by}
 use Rattle.route_main.specs.World.{World, empty_world}
 use Rattle.route_main.proofs.LineLemmas.{answered_lines-ended, answered_lines-last, answered_lines-line, begun_line-end, begun_line-more, begun_line-no_newline, ended-append-begun, ended_lines-end, ended_lines-more, ended_lines-append, extended-kept, first_line-none, first_line-no_newline, has_newline-append, same_line, take-first_line}
 
@@ -42,6 +43,14 @@ transcript_from-is (line ∷ lines) old =
 -- so what a run writes in which nothing is refused is a transcript
 pub transcript_of-is : (script : List ℕ) → IsTranscript script (transcript_of script)
 transcript_of-is script = transcript_from-is (answered_lines script) empty_world
+
+pub reply-is_computed : ReplyIsComputed
+reply-is_computed old line (Ok answer) next (command, said, inl is) full =
+    subst (λ (o : Option Command). (Ok answer ≡ (turn_by old o).reply) × (next ≡ (turn_by old o).world)) (sym said)
+    (ap (λ (s : Stepped). Ok s.answer) (sym is), ap (λ (s : Stepped). s.world) (sym is))
+reply-is_computed old line (Ok answer) next (command, said, inr (takes, refused, same)) full = absurd (full (ap Ok refused))
+reply-is_computed old line (Err bad) next (said, same) full =
+    subst (λ (o : Option Command). (Err bad ≡ (turn_by old o).reply) × (next ≡ (turn_by old o).world)) (sym said) (refl, same)
 
 has_bad_line-append : (l m : List (Option (List ℕ))) → has_bad_line (l ++ m) ≡ (has_bad_line l || has_bad_line m)
 has_bad_line-append [] m = refl

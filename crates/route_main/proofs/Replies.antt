@@ -1,14 +1,13 @@
 -- The replies that the world delivers are messages.
-use Rattle.std.proofs.Common.{◌≡◌, ℕ, ◌+◌, ◌*◌, ◌<◌, ◌≤◌, Bool, true, false, not, ◌&&◌, nat_lt, ◌==◌, List, length, take, drop, ◌++◌, get_or, refl, sym, ap, ◌∙◌, arith, lit≤, lit<, length-append, length-drop, length-take-le, get_or-take, append_assoc}
+use Rattle.std.proofs.Common.{◌≡◌, ℕ, ◌+◌, ◌<◌, ◌≤◌, Bool, true, false, not, ◌&&◌, nat_lt, ◌==◌, List, length, take, drop, ◌++◌, get_or, refl, sym, ap, ◌∙◌, arith, lit≤, lit<, length-append, length-drop, length-take-le, get_or-take, append_assoc}
 use Rattle.std.specs.Prelude.{slice_index, if◌then◌else◌}
 use Rattle.std.proofs.lemmas.List.{get_or_append_left}
 use Rattle.std.proofs.lemmas.Bool.{eqb-true, ltb-false}
-use Rattle.byteorder.specs.Endian.{big_bytes, big_number}
+use Rattle.byteorder.specs.Endian.{big_bytes}
 use Rattle.byteorder.specs.Numbers.{length-bytes_high_first}
 use Rattle.sock_addrs.specs.Errno.{errno_number}
 use Rattle.sock_addrs.specs.declared.errno.Errno.{Errno}
 use Rattle.route_msgs.specs.Layout.{Field, field, number_at, with_field}
-use Rattle.route_msgs.specs.Slots.{has_length}
 use Rattle.route_main.specs.Queue.{IsMessage, length_field}
 use Rattle.route_main.specs.Writes.{IsEchoed, keeps_pid, refused_reply, with_pid}
 

@@ -3,7 +3,7 @@ use Rattle.std.proofs.Common.{◌≡◌, ℕ, Bool, true, false, cond, List, [],
 use Rattle.std.specs.List.{find}
 use Rattle.std.proofs.lemmas.Slice.Eq.{bytes_eq-Decides}
 use Rattle.route_main.specs.First.{change_first}
-use Rattle.route_main.specs.Sockets.{Socket, has_id, hears, socket_of, taken, delivered, after_delivery, emptied}
+use Rattle.route_main.specs.Sockets.{Socket, has_id, hears, socket_of, taken, delivered, emptied}
 use Rattle.route_main.specs.SocketLaws.{ReadingDisturbsNoOther, DeliveringOnlyAppends}
 
 reading_at : (id other : List ℕ) (s : Socket) (ss : List Socket) (b o : Bool) → (b ≡ true → o ≡ false)

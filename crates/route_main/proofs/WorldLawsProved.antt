@@ -1,14 +1,13 @@
 -- What a step that is refused leaves as it was, command by command.
-use Rattle.std.proofs.Common.{◌≡◌, ◌≢◌, ℕ, Bool, true, false, List, [], ◌∷◌, inl, inr, refl, sym, ap, ◌∙◌, subst}
+use Rattle.std.proofs.Common.{◌≡◌, ◌≢◌, ℕ, Bool, true, false, List, [], ◌∷◌, inl, inr, refl, sym, ap, subst}
 use Rattle.std.specs.Prelude.{Option, Some, None, Result, Ok, Err, ⊤, IfSome, if◌then◌else◌, is_some, length, nat_le, not, ◌+◌}
 use Rattle.std.specs.List.{list_any}
 use Rattle.sock_addrs.specs.declared.errno.Errno.{Errno}
 use Rattle.sock_addrs.specs.declared.errno.Errno.TheVariants.{EADDRINUSE, EBADF, EEXIST, EMFILE, ENOBUFS, ENOSPC, ENXIO}
 use Rattle.route_main.specs.Interfaces.{Address, Interface, added, addr_fault, attach_fault, has_name, holds, new_address, with_address}
-use Rattle.route_main.specs.Messages.{route_got}
 use Rattle.route_main.specs.Rules.{Rule, rule, first_fault}
 use Rattle.route_main.specs.Sockets.{Socket, has_id, listen_fault, messages_of, pid_of}
-use Rattle.route_main.specs.Step.{Steps, Stepped, stepped, refused, done, told, told_refusal, attach_step, add_address_step, add_route_step, open_step, read_step, reply_step, route_to_network, write_step}
+use Rattle.route_main.specs.Step.{Stepped, stepped, refused, done, told_refusal, attach_step, add_address_step, add_route_step, open_step, read_step, reply_step, route_to_network, write_step}
 use Rattle.route_main.specs.Table.{best_of, entry_at}
 use Rattle.route_main.specs.World.{World}
 use Rattle.route_main.specs.WorldLaws.{NoMemoryKeepsAll, RefusalKeepsInterfaces, RefusalKeepsRoutes}

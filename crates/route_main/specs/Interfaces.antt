@@ -1,5 +1,5 @@
 -- The interfaces with their addresses.
-use Rattle.std.specs.Prelude.{ℕ, ◌+◌, ◌-◌, ◌*◌, ◌/◌, ◌^◌, ◌≤◌, ◌==◌, nat_le, zero, suc, Bool, true, false, not, ◌&&◌, List, [], ◌∷◌, ◌++◌, length, map, max, Option, Some, None, IsSome, option_map, unwrap_or, bytes_eq, bit_or, if◌then◌else◌}
+use Rattle.std.specs.Prelude.{ℕ, ◌+◌, ◌-◌, ◌*◌, ◌^◌, ◌≤◌, ◌==◌, nat_le, zero, suc, Bool, false, not, ◌&&◌, List, [], ◌∷◌, ◌++◌, length, map, max, Option, None, IsSome, option_map, unwrap_or, bytes_eq, bit_or, if◌then◌else◌}
 use Rattle.std.specs.List.{find, list_any, flat_map, position, slice_get}
 use Rattle.std.specs.Int.{w16, to_be_bytes}
 use Rattle.sock_addrs.specs.Padded.{padded_to}

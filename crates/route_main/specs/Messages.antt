@@ -4,7 +4,6 @@ use Rattle.sock_addrs.specs.Texts.{inet_text, mask_text}
 use Rattle.route_msgs.specs.Headers.{route_message, ifa_message}
 use Rattle.route_msgs.specs.Texts.{gate_text, padded}
 use Rattle.route_msgs.specs.declared.header.Header.{Header}
-use Rattle.route_msgs.specs.declared.header.IfaHeader.{IfaHeader}
 use Rattle.route_msgs.specs.declared.texts.Texts.{Texts}
 use Rattle.route_main.specs.declared.interfaces.reference.Facts.{Facts}
 use Rattle.route_main.specs.declared.table.entry.Entry.{Entry}

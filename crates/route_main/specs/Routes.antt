@@ -1,9 +1,7 @@
 -- Routes, and the one that an interface's address brings with it.
-use Rattle.std.specs.Prelude.{ℕ, ◌+◌, Bool, if◌then◌else◌, Option, None, Some, nat_le, replicate}
+use Rattle.std.specs.Prelude.{ℕ, Bool, if◌then◌else◌, None, replicate}
 use Rattle.sock_addrs.specs.declared.gate.Gate.TheVariants as gate
-use Rattle.mask_table.specs.Agreeing.{masked}
 use Rattle.route_main.specs.declared.interfaces.reference.IfaRef.{IfaRef}
-use Rattle.route_main.specs.declared.table.entry.Entry.{Entry}
 use Rattle.route_main.specs.declared.world.route.Route.{Route}
 
 -- up, and cloning where the address is; by way of the address itself

@@ -1,5 +1,5 @@
 -- What sockets do not do to one another.
-use Rattle.std.specs.Prelude.{◌≡◌, ℕ, Bool, false, List, ◌∷◌, [], ◌++◌, map, Option, ◌⊎◌, bytes_eq}
+use Rattle.std.specs.Prelude.{◌≡◌, ℕ, false, List, ◌∷◌, [], ◌++◌, map, Option, ◌⊎◌, bytes_eq}
 use Rattle.route_main.specs.Sockets.{Socket, socket_of, taken, delivered, after_delivery, emptied}
 
 -- a socket that reads its messages leaves every other as it was

@@ -1,5 +1,5 @@
 -- One step of the world for each command: the world after it, and the answer.
-use Rattle.std.specs.Prelude.{◌≡◌, ◌⊎◌, ◌+◌, ◌&&◌, ℕ, Bool, true, false, not, is_some, is_none, if◌then◌else◌, List, [], ◌∷◌, ◌++◌, Option, Some, None, option_map, Result, Ok, Err, unwrap_or}
+use Rattle.std.specs.Prelude.{◌≡◌, ◌⊎◌, ◌+◌, ◌&&◌, ℕ, Bool, true, not, is_some, is_none, if◌then◌else◌, List, [], ◌∷◌, ◌++◌, Option, Some, None, Result, Ok, Err, unwrap_or}
 use Rattle.std.specs.Option.{option_map_or}
 use Rattle.sock_addrs.specs.declared.errno.Errno.{Errno}
 use Rattle.sock_addrs.specs.declared.errno.Errno.TheVariants.{EBADF, EEXIST, ENOBUFS}

@@ -1,8 +1,10 @@
 -- The transcript of a script: what a run may write, from the empty world on.
-use Rattle.std.specs.Prelude.{◌≡◌, Bool, true, false, ◌||◌, is_none, List, [], ◌∷◌, ◌++◌, ℕ, Option, Some, None, Result, Ok, Err, ◌⊎◌}
+use Rattle.std.specs.Prelude.{◌≡◌, ◌≢◌, Bool, true, false, ◌||◌, is_none, List, [], ◌∷◌, ◌++◌, ℕ, Option, Some, None, Result, Ok, Err, ◌⊎◌}
 use Rattle.std.specs.Io.KnownBytes.{Appends, Consumes, IsAtEnd, Keeps}
 use Rattle.route_main.specs.declared.script.Bad.{Bad}
 use Rattle.route_main.specs.declared.world.answer.Answer.{Answer}
+use Rattle.route_main.specs.declared.world.answer.Answer.TheVariants.{Refused}
+use Rattle.sock_addrs.specs.declared.errno.Errno.TheVariants.{ENOBUFS}
 use Rattle.route_main.specs.declared.world.command.Command.{Command}
 use Rattle.route_main.specs.declared.run.outcome.Outcome.{Outcome}
 use Rattle.route_main.specs.declared.run.outcome.Outcome.TheVariants.{Done, BadLine, ReadFault, WriteFault, NoMemory}
@@ -67,6 +69,12 @@ transcript_of script = transcript_from (answered_lines script) empty_world
 -- it is a transcript
 abbrev pub ComputedIsTranscript : Type 0
 ComputedIsTranscript = (script : List ℕ) → IsTranscript script (transcript_of script)
+
+-- and the only one where memory is never refused: any other answer to a line is the computed one, and so is the world after it
+abbrev pub ReplyIsComputed : Type 0
+ReplyIsComputed = (old : World) → (line : Option (List ℕ)) → (reply : Result Answer Bad) → (next : World) → Replies old line reply next
+    → reply ≢ Ok (Refused ENOBUFS)
+    → (reply ≡ (turn_by old (command_in line)).reply) × (next ≡ (turn_by old (command_in line)).world)
 
 -- ---- what a run did to its reader, which had `before` and has `after` left, and to its writer, which held `old` and holds `new`
 

@@ -1,4 +1,4 @@
-use Rattle.std.proofs.Common.{◌≡◌, ◌∙◌, ◌+◌, sym, ap, ℕ, Bool, true, List, Some, slice_set}
+use Rattle.std.proofs.Common.{◌≡◌, ◌∙◌, ◌+◌, sym, ap, true, List, Some, slice_set}
 use Rattle.std.specs.List.{position, list_any}
 use Rattle.route_main.specs.Interfaces.{Interface, has_name, with_address, new_address, added}
 use Rattle.route_main.proofs.AddressLists.{place_of_name, is_named, added_is, numbered_is, there_is}

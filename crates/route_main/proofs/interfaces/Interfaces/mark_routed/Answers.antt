@@ -1,4 +1,4 @@
-use Rattle.std.proofs.Common.{◌≡◌, ◌∙◌, sym, ap, List, length, map}
+use Rattle.std.proofs.Common.{◌∙◌, sym, ap, List, length, map}
 use Rattle.route_main.specs.Interfaces.{Interface, with_routed_flags}
 use Rattle.route_main.proofs.AddressLists.{numbered-marked, all_changed}
 use Rattle.route_main.proofs.interfaces.Interfaces.mark_routed.Goals as goal

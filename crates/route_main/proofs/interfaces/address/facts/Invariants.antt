@@ -1,4 +1,4 @@
-use Rattle.std.proofs.Common.{◌≡◌, take, drop}
+use Rattle.std.proofs.Common.{◌≡◌, drop}
 use Rattle.std.specs.List.{find}
 use Rattle.route_main.specs.Interfaces.{has_number}
 use Rattle.route_main.proofs.interfaces.address.facts.Given as goal

@@ -1,4 +1,4 @@
-use Rattle.std.proofs.Common.{◌≡◌, ◌∙◌, sym, ap, slice_set}
+use Rattle.std.proofs.Common.{◌∙◌, sym, ap, slice_set}
 use Rattle.std.proofs.lemmas.List.Edits.{map_over_more}
 use Rattle.route_main.specs.Interfaces.{Address, with_routed_flag}
 use Rattle.route_main.proofs.interfaces.address.mark_routed.Goals as goal

@@ -1,4 +1,4 @@
-use Rattle.std.proofs.Common.{◌≡◌, ◌∙◌, ◌+◌, sym, ap, Bool, true, false, Option, option_map, is_some, drop, slice_index_or}
+use Rattle.std.proofs.Common.{◌≡◌, ◌∙◌, ◌+◌, sym, ap, true, false, Option, option_map, is_some, drop, slice_index_or}
 use Rattle.std.specs.List.{find}
 use Rattle.route_main.specs.Facts.{facts_of}
 use Rattle.route_main.specs.Interfaces.{Address, Interface, has_number, addresses_of}

@@ -1,4 +1,4 @@
-use Rattle.std.proofs.Common.{◌≡◌, take, drop}
+use Rattle.std.proofs.Common.{◌≡◌, drop}
 use Rattle.std.specs.List.{find}
 use Rattle.route_main.specs.Interfaces.{has_number, addresses_of}
 use Rattle.route_main.proofs.interfaces.interface.facts.Given as goal

@@ -1,4 +1,4 @@
-use Rattle.std.proofs.Common.{◌≡◌, ◌-◌, ap, arith}
+use Rattle.std.proofs.Common.{◌-◌, ap, arith}
 use Rattle.route_main.proofs.Texts.{joined_is}
 use Rattle.route_main.proofs.interfaces.interface.joined.Goals as goal
 

@@ -1,4 +1,4 @@
-use Rattle.std.proofs.Common.{◌≡◌, ◌∙◌, sym, ap, slice_set}
+use Rattle.std.proofs.Common.{◌∙◌, sym, ap, slice_set}
 use Rattle.std.proofs.lemmas.List.Edits.{map_over_more}
 use Rattle.route_main.specs.Interfaces.{Interface, with_routed_flags}
 use Rattle.route_main.proofs.interfaces.interface.mark_routed.Goals as goal

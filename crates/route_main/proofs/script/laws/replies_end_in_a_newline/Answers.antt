@@ -1,4 +1,4 @@
-use Rattle.std.proofs.Common.{◌≡◌, List, ℕ, ◌++◌, codes, refl, append_assoc, sym}
+use Rattle.std.proofs.Common.{◌++◌, codes, refl, append_assoc, sym}
 use Rattle.std.specs.Prelude.{Ok, Err, decimal, flat_map}
 use Rattle.sock_addrs.specs.Errno.{errno_number}
 use Rattle.route_main.specs.Answers.{RepliesEndInANewline, message_line}

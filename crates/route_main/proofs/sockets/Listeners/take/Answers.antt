@@ -1,4 +1,4 @@
-use Rattle.std.proofs.Common.{◌≡◌, ◌∙◌, sym, ap, Bool, Option, option_map, Some, None, List, ℕ, slice_index_or}
+use Rattle.std.proofs.Common.{◌≡◌, ◌∙◌, sym, ap, Bool, Option, option_map, Some, None, List, ℕ}
 use Rattle.std.specs.List.{position}
 use Rattle.route_main.specs.Open.{Open, seen}
 use Rattle.route_main.specs.Sockets.{Listening, listening, Socket, has_id, socket_of, emptied, taken}

@@ -1,6 +1,5 @@
-use Rattle.std.proofs.Common.{◌≡◌, ℕ, ◌<◌, length, ◌∙◌, arith, slice_index_or}
+use Rattle.std.proofs.Common.{◌<◌, length, ◌∙◌, arith}
 use Rattle.std.proofs.lemmas.List.{get_or-set_other, get_or_default}
-use Rattle.route_main.specs.Open.{Open}
 use Rattle.route_main.specs.Sockets.{after_delivery}
 use Rattle.route_main.proofs.SocketLists.{changed-more, room-more}
 use Rattle.route_main.proofs.sockets.socket.deliver.Goals as goal

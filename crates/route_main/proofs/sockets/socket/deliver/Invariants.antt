@@ -1,5 +1,5 @@
 use Rattle.std.proofs.Common.{◌≡◌, ℕ, ◌≤◌, ◌++◌, length, map, take, drop, slice_index_or}
-use Rattle.route_main.specs.Open.{Open, seen, HaveRoom, KeepRoomBut}
+use Rattle.route_main.specs.Open.{Open, seen, KeepRoomBut}
 use Rattle.route_main.specs.Sockets.{after_delivery}
 use Rattle.route_main.proofs.sockets.socket.deliver.Given as goal
 

@@ -1,4 +1,4 @@
-use Rattle.std.proofs.Common.{◌≡◌, ◌<◌, length, ◌∙◌, arith, rules}
+use Rattle.std.proofs.Common.{◌<◌, length, ◌∙◌, arith, rules}
 use Rattle.std.proofs.Math.Seq.{map-set_same}
 use Rattle.route_main.specs.Open.{seen}
 use Rattle.route_main.proofs.SocketLists.{room-kept, ready-more}

@@ -1,13 +1,10 @@
 -- Each way out of adding an address is a step of the machine.
-use Rattle.std.proofs.Common.{◌≡◌, ℕ, List, Bool, true, false, refl, sym, ap, ◌∙◌}
-use Rattle.std.specs.Prelude.{Some, None, is_some}
+use Rattle.std.proofs.Common.{ℕ, List, true, false, refl, sym, ap, ◌∙◌}
 use Rattle.mask_table.specs.Agreeing.{masked}
-use Rattle.route_main.specs.Interfaces.{addr_fault, added}
 use Rattle.route_main.specs.Sockets.{Listening}
 use Rattle.route_main.specs.Step.{announced}
 use Rattle.route_main.specs.Table.{Contents, entry_at, with_entry}
 use Rattle.route_main.specs.World.{World}
-use Rattle.route_main.specs.declared.interfaces.reference.IfaRef.TheVariants.{Inet}
 use Rattle.route_main.specs.declared.table.entry.Entry.{Entry}
 use Rattle.route_main.specs.declared.world.route.Route.{Route}
 use Rattle.std.proofs.lemmas.Bool.{false≢true}

@@ -1,4 +1,3 @@
-use Rattle.std.proofs.Common.{◌≡◌, sym}
 use Rattle.route_main.specs.World.{World}
 use Rattle.route_main.proofs.StepLemmas.{attach_done, attach_refused}
 use Rattle.route_main.proofs.world.World.attach.Goals as goal

@@ -1,4 +1,3 @@
-use Rattle.std.proofs.Common.{◌≡◌}
 use Rattle.route_main.specs.World.{World}
 use Rattle.route_main.proofs.StepLemmas.{take_done, take_refused}
 use Rattle.route_main.proofs.world.World.take.Goals as goal

@@ -1,8 +1,7 @@
 -- Each of the two messages is the definition's, and goes to those that hear it.
-use Rattle.std.proofs.Common.{◌≡◌, ℕ, sym, ap, ◌∙◌}
-use Rattle.std.specs.Prelude.{Option, Some, option_map}
+use Rattle.std.proofs.Common.{sym, ap, ◌∙◌}
+use Rattle.std.specs.Prelude.{option_map}
 use Rattle.route_main.specs.Facts.{facts_of}
-use Rattle.route_main.specs.Interfaces.{Address}
 use Rattle.route_main.specs.declared.table.entry.Entry.{Entry}
 use Rattle.route_main.specs.declared.world.route.Route.{Route}
 use Rattle.route_main.proofs.Announcing.{announced_by}

@@ -1,4 +1,4 @@
-use Rattle.std.proofs.Common.{◌≡◌, arith, ◌≤◌, length}
+use Rattle.std.proofs.Common.{arith}
 use Rattle.route_main.proofs.Replies.{message_of_size}
 use Rattle.route_main.proofs.world.messages.route_added.Goals as goal
 

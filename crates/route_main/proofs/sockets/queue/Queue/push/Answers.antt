@@ -1,4 +1,4 @@
-use Rattle.std.proofs.Common.{◌≡◌, ◌∙◌, ap, List, ℕ, ◌++◌, ◌∷◌, []}
+use Rattle.std.proofs.Common.{◌∙◌, ap, List, ℕ, ◌++◌, ◌∷◌, []}
 use Rattle.route_main.specs.Queue.{cut, Waiting}
 use Rattle.route_main.proofs.QueueLemmas.{cut-push, whole-push}
 use Rattle.route_main.proofs.sockets.queue.Queue.push.Goals as goal

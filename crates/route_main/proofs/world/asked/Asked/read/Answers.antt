@@ -4,7 +4,6 @@ use Rattle.std.specs.Int.{w32, from_be_bytes}
 use Rattle.std.specs.Prelude.{Option, None, Some, get_or}
 use Rattle.std.proofs.lemmas.Bool.{le-ltb}
 use Rattle.std.proofs.lemmas.Result.{err_from_is_err_and}
-use Rattle.route_msgs.specs.Headers.{header_in}
 use Rattle.route_msgs.specs.Slots.{slot_in, slot_text}
 use Rattle.route_msgs.specs.declared.parsed.Slot.{Slot}
 use Rattle.route_main.specs.Rules.{first_fault}
