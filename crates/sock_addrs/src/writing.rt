@@ -25,10 +25,10 @@ pub fn write_link(link: Link, out: &mut [u8]) -> usize
 }
 
 /// Writes the mask of so many bits at the front of `out`: the length up to the last byte that has a one, no family, and
-/// the mask highest byte first, 8 bytes in all; the mask of no bit is four zeros. Answers the bytes used.
+/// the mask highest byte first, 8 bytes in all; the mask of no bit is four zeros. A mask has at most 32 bits. Answers the
+/// bytes used.
 pub fn write_mask(prefix: u8, out: &mut [u8]) -> usize
-    requires bits { prefix ≤ 32 }
-    requires room { length (mask_text prefix) ≤ length out.old }
+    requires { length (mask_text prefix) ≤ length out.old }
     ensures used { result ≡ length (mask_text prefix) }
     ensures text { out.new ≡ mask_text prefix ++ drop (length (mask_text prefix)) out.old }
 {
@@ -39,11 +39,13 @@ pub fn write_mask(prefix: u8, out: &mut [u8]) -> usize
     put(&[4 + prefix.div_ceil(8), 0, 0, 0, a, b, c, d], out)
 }
 
-/// The mask of so many bits as a number.
+/// The mask of so many bits as a number; from 32 on all ones.
 fn mask_bits(prefix: u8) -> u32
-    requires { prefix ≤ 32 }
     ensures { result ≡ mask_number prefix }
 {
+    if prefix > 32 {
+        return u32::MAX;
+    }
     let clear = 1u64 << (32 - prefix);
     ((1u64 << 32) - clear) as u32
 }
