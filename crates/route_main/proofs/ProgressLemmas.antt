@@ -8,18 +8,20 @@ use Rattle.std.proofs.lemmas.Bool.{cond-true}
 use Rattle.std.proofs.lemmas.List.{take_all}
 use Rattle.route_main.specs.declared.run.outcome.Outcome.{Outcome}
 use Rattle.route_main.specs.declared.run.outcome.Outcome.TheVariants.{Done, BadLine, ReadFault, WriteFault, NoMemory}
-use Rattle.route_main.specs.declared.script.Bad.{Bad}
-use Rattle.route_main.specs.declared.world.answer.Answer.{Answer}
-use Rattle.route_main.specs.declared.world.command.Command.{Command}
-use Rattle.route_main.specs.Answers.{reply_text}
-use Rattle.route_main.specs.Counts.{Counts}
-use Rattle.route_main.specs.Lines.{Line, after_bytes, answered_lines, begun_line, ended_lines, extended, first_line, has_newline, is_answered, is_begun, is_passed, kept, no_line}
-use Rattle.route_main.specs.Output.{WroteFront}
+use Rattle.event_file.specs.declared.bad.Bad.{Bad}
+use Rattle.route_core.specs.declared.answer.Answer.{Answer}
+use Rattle.route_core.specs.declared.command.Command.{Command}
+use Rattle.event_file.specs.Answers.{reply_text}
+use Rattle.event_file.specs.Counts.{Counts}
+use Rattle.event_file.specs.Lines.{Line, after_bytes, answered_lines, begun_line, ended_lines, extended, first_line, has_newline, is_answered, is_begun, is_passed, kept, no_line}
+use Rattle.event_file.specs.Output.{WroteFront}
 use Rattle.route_main.specs.Progress.{Standing, Answers, StopsWithin, Progress, Advances, Breaks, Finishes, Reached, HasRead, answered_of, fresh}
-use Rattle.route_main.specs.Step.{Stepped}
-use Rattle.route_main.specs.Transcript.{Answered, AnsweredAll, Ends, IsAnswered, IsTranscript, Replies, ReplyIsComputed, command_in, has_bad_line, transcript_from, transcript_of, turn_by}
-use Rattle.route_main.specs.World.{World, empty_world}
-use Rattle.route_main.proofs.LineLemmas.{answered_lines-ended, answered_lines-last, answered_lines-line, begun_line-end, begun_line-more, begun_line-no_newline, ended-append-begun, ended_lines-end, ended_lines-more, ended_lines-append, extended-kept, first_line-none, first_line-no_newline, has_newline-append, same_line, take-first_line}
+use Rattle.route_core.specs.Step.{Stepped}
+use Rattle.event_file.specs.Transcript.{Answered, IsTranscript, Replies, ReplyIsComputed, command_in, has_bad_line, transcript_from, transcript_of, turn_by}
+use Rattle.route_main.specs.Ends.{AnsweredAll, Ends, IsAnswered}
+use Rattle.route_core.specs.World.{World, empty_world}
+use Rattle.event_file.proofs.TranscriptLemmas.{transcript_from-is}
+use Rattle.event_file.proofs.LineLemmas.{answered_lines-ended, answered_lines-last, answered_lines-line, begun_line-end, begun_line-more, begun_line-no_newline, ended-append-begun, ended_lines-end, ended_lines-more, ended_lines-append, extended-kept, first_line-none, first_line-no_newline, has_newline-append, same_line, take-first_line}
 
 -- ---- answered lines, one part after another
 
@@ -27,30 +29,6 @@ Answered-then : (l m : List (Option (List ℕ))) (a b c : World) (s t : List ℕ
 Answered-then [] m a b c s t p q = subst (λ w. Answered w m (s ++ t) c) p.1 (subst (λ x. Answered b m (x ++ t) c) (sym p.0) q)
 Answered-then (line ∷ l) m a b c s t (reply, next, rest, replies, text, more) q =
     (reply, next, rest ++ t, replies, ap (λ x. x ++ t) text ∙ append_assoc (reply_text reply) rest t, Answered-then l m next b c rest t more q)
-
-turn_replies : (old : World) (line : Option (List ℕ)) (said : Option Command) → command_in line ≡ said → Replies old line (turn_by old said).reply (turn_by old said).world
-turn_replies old line None is = (is, refl)
-turn_replies old line (Some command) is = (command, is, inl refl)
-
--- the transcript of a run in which nothing is refused for want of memory is a transcript, whatever world it begins in
-pub transcript_from-is : (lines : List (Option (List ℕ))) (old : World) → (last : World) × Answered old lines (transcript_from lines old) last
-transcript_from-is [] old = (old, (refl, refl))
-transcript_from-is (line ∷ lines) old =
-    let turn = turn_by old (command_in line) in
-    let rest = transcript_from-is lines turn.world in
-    (rest.0, (turn.reply, turn.world, transcript_from lines turn.world, turn_replies old line (command_in line) refl, refl, rest.1))
-
--- so what a run writes in which nothing is refused is a transcript
-pub transcript_of-is : (script : List ℕ) → IsTranscript script (transcript_of script)
-transcript_of-is script = transcript_from-is (answered_lines script) empty_world
-
-pub reply-is_computed : ReplyIsComputed
-reply-is_computed old line (Ok answer) next (command, said, inl is) full =
-    subst (λ (o : Option Command). (Ok answer ≡ (turn_by old o).reply) × (next ≡ (turn_by old o).world)) (sym said)
-    (ap (λ (s : Stepped). Ok s.answer) (sym is), ap (λ (s : Stepped). s.world) (sym is))
-reply-is_computed old line (Ok answer) next (command, said, inr (takes, refused, same)) full = absurd (full (ap Ok refused))
-reply-is_computed old line (Err bad) next (said, same) full =
-    subst (λ (o : Option Command). (Err bad ≡ (turn_by old o).reply) × (next ≡ (turn_by old o).world)) (sym said) (refl, same)
 
 has_bad_line-append : (l m : List (Option (List ℕ))) → has_bad_line (l ++ m) ≡ (has_bad_line l || has_bad_line m)
 has_bad_line-append [] m = refl

@@ -2,9 +2,10 @@
 use Rattle.std.specs.Prelude.{◌≡◌, Bool, false, ◌||◌, filter, List, [], ◌∷◌, ◌++◌, length, ◌≤◌, ℕ, Option}
 use Rattle.std.specs.Io.KnownBytes.{Appends, Consumes, IsAtEnd}
 use Rattle.route_main.specs.declared.run.outcome.Outcome.{Outcome}
-use Rattle.route_main.specs.Lines.{Line, answered_lines, begun_line, ended_lines, is_answered, kept}
-use Rattle.route_main.specs.Transcript.{Answered, Ends, has_bad_line}
-use Rattle.route_main.specs.World.{World, empty_world}
+use Rattle.event_file.specs.Lines.{Line, answered_lines, begun_line, ended_lines, is_answered, kept}
+use Rattle.event_file.specs.Transcript.{Answered, has_bad_line}
+use Rattle.route_main.specs.Ends.{Ends}
+use Rattle.route_core.specs.World.{World, empty_world}
 
 -- the world, and whether some line was malformed
 pub record Standing : Type 0 where

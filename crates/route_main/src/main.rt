@@ -1,15 +1,12 @@
 //! Runs a script of routing-socket commands: the script on standard input, its transcript on standard output.
 #![tactic(auto)]
 
-mod interfaces;
 mod run;
-mod script;
-mod sockets;
-mod table;
-mod world;
+#[cfg(test)]
+mod tests;
 
+use event_file::Counted;
 use run::{fault_text, run, status};
-use script::Counted;
 use std::io;
 use std::process::ExitCode;
 

@@ -1,18 +1,16 @@
 //! A run: a script's bytes in, its transcript out.
 ghost use Rattle.std.specs.Prelude.{◌≡◌, ◌≢◌, ◌<◌, ◌≤◌, ◌⊎◌, ℕ, List, length, IfOk, IfSome, true, false};
 ghost use Rattle.std.specs.Io.KnownBytes.{Appends, IsAtEnd};
-ghost use Rattle.route_main.specs.Lines.{answered_lines, no_line};
+ghost use Rattle.event_file.specs.Lines.{answered_lines, no_line};
 ghost use Rattle.route_main.specs.Progress.{fresh};
-ghost use Rattle.route_main.specs.Transcript.{Ends, IsAnswered, IsTranscript, has_bad_line};
+ghost use Rattle.event_file.specs.Transcript.{IsTranscript, has_bad_line};
+ghost use Rattle.route_main.specs.Ends.{Ends, IsAnswered};
 
 mod answerer;
-mod laws;
 mod outcome;
-#[cfg(test)]
-mod tests;
 
-use crate::script::{Counted, LineBuffer};
 use answerer::Answerer;
+use event_file::{Counted, LineBuffer};
 pub(crate) use outcome::{Outcome, fault_text, status};
 use std::alloc::{AllocError, Global};
 use std::io::{Read, Write};

@@ -1,5 +1,6 @@
-mod Below
-mod LinkCells
-mod ReadOnce
-mod RoundingLaws
-mod WrittenRead
+pub mod Below
+pub mod FirstLemmas
+pub mod LinkCells
+pub mod ReadOnce
+pub mod RoundingLaws
+pub mod WrittenRead

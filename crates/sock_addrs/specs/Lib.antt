@@ -1,8 +1,10 @@
 pub mod Errno
+pub mod First
 pub mod Inet
 pub mod Link
 pub mod Name
 pub mod Padded
 pub mod Reading
 pub mod Rounding
+pub mod Rules
 pub mod Texts

@@ -1,11 +1,11 @@
 ghost use Rattle.std.specs.Prelude.{◌≡◌, ◌≢◌, ◌<◌, ◌≤◌, false, length, take, IfOk, OnOk, OnErr, option_copied};
-ghost use Rattle.route_main.specs.Lines.{is_passed as passes, no_line};
+ghost use Rattle.event_file.specs.Lines.{is_passed as passes, no_line};
 ghost use Rattle.route_main.specs.Progress.{Advances, Answers, Breaks, Finishes, StopsWithin, answered_of, fresh};
-ghost use Rattle.route_main.specs.Transcript.{Replies};
+ghost use Rattle.event_file.specs.Transcript.{Replies};
 
 use super::Outcome;
-use crate::script::{Bad, Counted, LineBuffer, Stopped, read_line, write_answer};
-use crate::world::{Answer, World};
+use event_file::{Bad, Counted, LineBuffer, Stopped, read_line, write_answer};
+use route_core::{Answer, World};
 use std::alloc::{AllocError, Global};
 use std::io::Write;
 use std::marker::Model;

@@ -1,8 +1,8 @@
 use Rattle.std.proofs.Common.{ap, subst, sym, ◌∙◌}
 use Rattle.std.specs.Prelude.{option_copied}
 use Rattle.route_main.specs.Progress.{Standing}
-use Rattle.route_main.specs.Transcript.{Replies}
-use Rattle.route_main.specs.World.{World}
+use Rattle.event_file.specs.Transcript.{Replies}
+use Rattle.route_core.specs.World.{World}
 use Rattle.route_main.proofs.ProgressLemmas.{StopsWithin-line, on_err}
 use Rattle.route_main.proofs.run.answerer.Answerer.answer.Goals as goal
 

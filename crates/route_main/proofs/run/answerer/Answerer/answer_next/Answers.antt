@@ -1,7 +1,7 @@
 use Rattle.std.proofs.Common.{◌≡◌, ap, subst, length, arith, rules, true, false, Option, List, ℕ}
-use Rattle.route_main.specs.Lines.{has_newline}
+use Rattle.event_file.specs.Lines.{has_newline}
 use Rattle.route_main.specs.Progress.{Answers, StopsWithin, answered_of}
-use Rattle.route_main.proofs.LineLemmas.{first_line-none}
+use Rattle.event_file.proofs.LineLemmas.{first_line-none}
 use Rattle.route_main.proofs.ProgressLemmas.{Advances-fed, Advances-answered, Breaks-answered, on_err}
 use Rattle.route_main.proofs.run.answerer.Answerer.answer_next.Goals as goal
 

@@ -1,0 +1,20 @@
+-- The transcript of a script, computed by the definitions.
+use Rattle.std.proofs.Common.{◌≡◌, ℕ, List, [], refl}
+use Rattle.std.specs.Fmt.{digits}
+use Rattle.hex.proofs.OnLiterals.{hex_on_literals}
+use Rattle.route_core.specs.Step.{stepped}
+use Rattle.route_msgs.specs.Layout.{number_at, with_field}
+use Rattle.route_msgs.specs.Slots.{place}
+use Rattle.event_file.specs.Transcript.{transcript_of}
+
+abbrev script : List ℕ
+script =
+    []
+
+abbrev transcript : List ℕ
+transcript =
+    []
+
+pub empty_script : transcript_of script ≡ transcript
+unfolding digits hex_on_literals stepped number_at with_field place
+empty_script = refl

@@ -1,0 +1,26 @@
+-- The transcript of a script, computed by the definitions.
+use Rattle.std.proofs.Common.{◌≡◌, ℕ, List, ◌++◌, codes, refl}
+use Rattle.std.specs.Fmt.{digits}
+use Rattle.hex.proofs.OnLiterals.{hex_on_literals}
+use Rattle.route_core.specs.Step.{stepped}
+use Rattle.route_msgs.specs.Layout.{number_at, with_field}
+use Rattle.route_msgs.specs.Slots.{place}
+use Rattle.event_file.specs.Transcript.{transcript_of}
+
+abbrev script : List ℕ
+script =
+    codes "if le0 broadcast 6 080020010203\n"
+    ++ codes "open a 100 any\n"
+    ++ codes "addr le0 10.0.0.1/8 cloning\n"
+    ++ codes "write a 005c0308000000000000000000000001000000000000000100000000000000000000000000000000000000000000000000000000000000000000000000000000000000000000000000000000100200000a0000000000000000000000\n"
+
+abbrev transcript : List ℕ
+transcript =
+    codes "ok\n"
+    ++ codes "ok\n"
+    ++ codes "ok\n"
+    ++ codes "err 45\n"
+
+pub lock : transcript_of script ≡ transcript
+unfolding digits hex_on_literals stepped number_at with_field place
+lock = refl

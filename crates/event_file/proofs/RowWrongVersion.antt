@@ -1,0 +1,31 @@
+-- The transcript of a script, computed by the definitions.
+use Rattle.std.proofs.Common.{◌≡◌, ℕ, List, ◌++◌, codes, refl}
+use Rattle.std.specs.Fmt.{digits}
+use Rattle.hex.proofs.OnLiterals.{hex_on_literals}
+use Rattle.route_core.specs.Step.{stepped}
+use Rattle.route_msgs.specs.Layout.{number_at, with_field}
+use Rattle.route_msgs.specs.Slots.{place}
+use Rattle.event_file.specs.Transcript.{transcript_of}
+
+abbrev script : List ℕ
+script =
+    codes "if le0 broadcast 6 080020010203\n"
+    ++ codes "open a 100 any\n"
+    ++ codes "addr le0 10.0.0.1/8 cloning\n"
+    ++ codes "write a 004c0404000000000000000000000000000000070000000000000000000000000000000000000000000000000000000000000000000000000000000000000000000000000000000000000000\n"
+    ++ codes "read a\n"
+
+abbrev transcript : List ℕ
+transcript =
+    codes "ok\n"
+    ++ codes "ok\n"
+    ++ codes "ok\n"
+    ++ codes "err 43\n"
+    ++ codes "msg 0050030c000000b400000100000100000000000005000000ff00000014120001060306006c6530080020010203000000100200000a0000010000000000000000100200000affffff0000000000000000\n"
+    ++ codes "msg 00740301000100000000010100000007000000000000000000000000000000000000000000000000000000000000000000000000000000000000000000000000000000000000000000000000100200000a0000000000000000000000100200000a000001000000000000000005000000ff000000\n"
+    ++ codes "msg 004c040400000000000000000000000000000007000000000000002b000000000000000000000000000000000000000000000000000000000000000000000000000000000000000000000000\n"
+    ++ codes "ok\n"
+
+pub wrong_version : transcript_of script ≡ transcript
+unfolding digits hex_on_literals stepped number_at with_field place
+wrong_version = refl

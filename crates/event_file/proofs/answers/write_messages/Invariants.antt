@@ -1,0 +1,9 @@
+use Rattle.std.proofs.Common.{length, ◌-◌, ◌≤◌, drop}
+use Rattle.event_file.proofs.MessageLines.{WroteMessages}
+use Rattle.event_file.proofs.answers.write_messages.Given as goal
+
+abbrev pub invariant-loop-at : goal.invariant-loop-at
+invariant-loop-at g l = (l.at ≤ length l.bytes) × WroteMessages g.W.Write.contents l.initial.writer l.writer l.bytes (drop l.at l.bytes)
+
+abbrev pub decreases-loop-at : goal.decreases-loop-at
+decreases-loop-at g l = length l.bytes - l.at

@@ -1,0 +1,103 @@
+-- The lines of a script: which command each says, if any.
+use Prim.Native.String.{String}
+use Rattle.std.specs.Prelude.{ℕ, nat_lt, Bool, true, false, if◌then◌else◌, List, [], ◌∷◌, length, codes, bytes_eq, Option, Some, None}
+use Rattle.event_file.specs.Words.{◌>>=◌, parted_by, name_of, number_to, bytes_to, inet_of}
+use Rattle.route_core.specs.declared.command.Command.{Command}
+use Rattle.route_core.specs.declared.command.Command.TheVariants.{Attach, AddAddress, Open, Write, Read}
+
+-- a link-layer address has at most 8 bytes
+abbrev pub most_link_bytes : ℕ
+most_link_bytes = 8
+
+-- the bytes of a write are at most as many as a line has room for
+abbrev pub most_written_bytes : ℕ
+most_written_bytes = 8246
+
+-- a longer line says nothing
+abbrev pub most_line_bytes : ℕ
+most_line_bytes = 16500
+
+-- `if NAME broadcast T HEX`, by the words behind `if`
+abbrev pub attach_form : List (List ℕ) → Option Command
+attach_form (name ∷ kind ∷ type ∷ link ∷ []) = do
+  name ← name_of name
+  type_number ← number_to 255 type
+  link ← bytes_to most_link_bytes link
+  if bytes_eq kind (codes "broadcast") then Some (Attach name type_number link) else None
+attach_form words = None
+
+-- `NAME A/P`, by the parts of A/P
+abbrev pub address_of_parts : List ℕ → List (List ℕ) → Bool → Option Command
+address_of_parts name (address ∷ prefix ∷ []) cloning = do
+  name ← name_of name
+  address ← inet_of address
+  prefix ← number_to 32 prefix
+  Some (AddAddress name address prefix cloning)
+address_of_parts name parts cloning = None
+
+-- whether an address's route clones, by the words behind A/P
+abbrev pub cloning_of : List (List ℕ) → Option Bool
+cloning_of [] = Some false
+cloning_of (option ∷ []) = if bytes_eq option (codes "cloning") then Some true else None
+cloning_of options = None
+
+-- `addr NAME A/P` and `addr NAME A/P cloning`
+abbrev pub add_address_form : List (List ℕ) → Option Command
+add_address_form (name ∷ address ∷ options) = do
+  cloning ← cloning_of options
+  address_of_parts name (parted_by 47 address) cloning
+add_address_form words = None
+
+-- `open ID PID any`
+abbrev pub open_form : List (List ℕ) → Option Command
+open_form (id ∷ pid ∷ protocol ∷ []) = do
+  id ← name_of id
+  pid ← number_to 4294967295 pid
+  if bytes_eq protocol (codes "any") then Some (Open id pid 0) else None
+open_form words = None
+
+-- `write ID HEX`
+abbrev pub write_form : List (List ℕ) → Option Command
+write_form (id ∷ bytes ∷ []) = do
+  id ← name_of id
+  bytes ← bytes_to most_written_bytes bytes
+  Some (Write id bytes)
+write_form words = None
+
+-- `read ID`
+abbrev pub read_form : List (List ℕ) → Option Command
+read_form (id ∷ []) = do
+  id ← name_of id
+  Some (Read id)
+read_form words = None
+
+-- a command's verb, and what the words behind it say
+pub record Form : Type 0 where
+  pub verb : String
+  pub says : List (List ℕ) → Option Command
+
+abbrev pub form : String → (List (List ℕ) → Option Command) → Form
+form verb says = record { verb = verb; says = says }
+
+-- every command that the grammar has
+abbrev pub forms : List Form
+forms = form "if" attach_form
+    ∷ form "addr" add_address_form
+    ∷ form "open" open_form
+    ∷ form "write" write_form
+    ∷ form "read" read_form
+    ∷ []
+
+-- the words as the form of this verb reads them
+abbrev pub by_forms : List Form → List ℕ → List (List ℕ) → Option Command
+by_forms [] verb words = None
+by_forms (f ∷ fs) verb words = if bytes_eq verb (codes f.verb) then f.says words else by_forms fs verb words
+
+-- the first word chooses the form
+abbrev pub said_by : List (List ℕ) → Option Command
+said_by [] = None
+said_by (verb ∷ words) = by_forms forms verb words
+
+-- the command that a line says: its words are parted by single spaces
+abbrev pub command_of : List ℕ → Option Command
+command_of line = if nat_lt most_line_bytes (length line) then None else said_by (parted_by 32 line)

@@ -1,0 +1,7 @@
+pub mod Answers
+pub mod Counts
+pub mod Grammar
+pub mod Lines
+pub mod Output
+pub mod Transcript
+pub mod Words

@@ -1,0 +1,127 @@
+ghost use Rattle.std.specs.Prelude.{◌≡◌, ◌++◌, ◌∷◌, ◌<◌, ◌≤◌, length, take, drop, flat_map, OnOk, OnErr};
+ghost use Rattle.hex.specs.Hex.{encode_lower};
+ghost use Rattle.sock_addrs.specs.Errno.{errno_number};
+ghost use Rattle.event_file.specs.Answers.{message_line, refusal_line, reply_text};
+ghost use Rattle.event_file.specs.Output.{Wrote, WroteFront};
+ghost use Rattle.listeners.specs.Queue.{cut, IsWhole};
+
+use crate::output::write_bytes;
+use crate::{Bad, Counted, Stopped};
+use arrayvec::ArrayVec;
+use route_core::{Answer, first_message};
+use sock_addrs::Errno;
+use std::io::Write;
+
+/// The bytes whose hexadecimal text fills the buffer.
+const PIECE: usize = 2048;
+
+/// Writes the text of a line's answer, going on behind what a short write took: `ok`, `err` with the errno's number,
+/// `msg` with its bytes for each message and then `ok`, or `bad`. It is refused at the first write that answers an
+/// error or takes no byte, and what was taken before is then a front of that text.
+pub fn write_answer<W: Write>(
+    answer: &Result<Answer, Bad>,
+    buffer: &mut [u8],
+    writer: &mut Counted<W>,
+) -> Result<(), Stopped>
+    requires buffer { length buffer.old ≡ 4096 }
+    requires no_failure { writer.old.failures ≡ 0 }
+    ensures ok { OnOk result (Wrote W.contents writer.old writer.new (reply_text answer.now)) }
+    ensures err { OnErr result (WroteFront W.contents writer.old writer.new (reply_text answer.now)) }
+{
+    match answer {
+        Ok(Answer::Done) => write_bytes(b"ok\n", writer),
+        Ok(Answer::Refused(errno)) => write_bytes(&refusal(*errno), writer),
+        Ok(Answer::Messages(received)) => {
+            write_messages(received.as_bytes(), buffer, writer)?;
+            write_bytes(b"ok\n", writer)
+        }
+        Err(Bad) => write_bytes(b"bad\n", writer),
+    }
+}
+
+/// The line of a refusal.
+fn refusal(errno: Errno) -> ArrayVec<u8, 16>
+    ensures { result.items ≡ refusal_line (errno_number errno) }
+{
+    let mut digits = itoa::Buffer::new();
+    let mut line = ArrayVec::new();
+    line.try_extend_from_slice(b"err ").unwrap();
+    line.try_extend_from_slice(digits.format(errno.number()).as_bytes())
+        .unwrap();
+    line.push(b'\n');
+    line
+}
+
+/// Writes the line of each message of `bytes`.
+fn write_messages<W: Write>(
+    bytes: &[u8],
+    buffer: &mut [u8],
+    writer: &mut Counted<W>,
+) -> Result<(), Stopped>
+    requires whole { IsWhole bytes.now }
+    requires buffer { length buffer.old ≡ 4096 }
+    requires no_failure { writer.old.failures ≡ 0 }
+    ensures ok { OnOk result (Wrote W.contents writer.old writer.new (flat_map message_line (cut bytes.now))) }
+    ensures err { OnErr result (WroteFront W.contents writer.old writer.new (flat_map message_line (cut bytes.now))) }
+{
+    let mut at = 0;
+    while at < bytes.len() {
+        let message = first_message(&bytes[at..]);
+        write_message(message, buffer, writer)?;
+        at += message.len();
+    }
+    Ok(())
+}
+
+/// Writes the line of one message.
+fn write_message<W: Write>(
+    message: &[u8],
+    buffer: &mut [u8],
+    writer: &mut Counted<W>,
+) -> Result<(), Stopped>
+    requires buffer { length buffer.old ≡ 4096 }
+    requires no_failure { writer.old.failures ≡ 0 }
+    ensures ok { OnOk result (Wrote W.contents writer.old writer.new (message_line message.now)) }
+    ensures err { OnErr result (WroteFront W.contents writer.old writer.new (message_line message.now)) }
+{
+    write_bytes(b"msg ", writer)?;
+    write_hex(message, buffer, writer)?;
+    write_bytes(b"\n", writer)
+}
+
+/// Writes the hexadecimal text of `bytes`, a buffer of it at a time.
+fn write_hex<W: Write>(
+    bytes: &[u8],
+    buffer: &mut [u8],
+    writer: &mut Counted<W>,
+) -> Result<(), Stopped>
+    requires buffer { length buffer.old ≡ 4096 }
+    requires no_failure { writer.old.failures ≡ 0 }
+    ensures ok { OnOk result (Wrote W.contents writer.old writer.new (encode_lower bytes.now)) }
+    ensures err { OnErr result (WroteFront W.contents writer.old writer.new (encode_lower bytes.now)) }
+{
+    let mut at = 0;
+    while at < bytes.len() {
+        let taken = (bytes.len() - at).min(PIECE);
+        write_piece(&bytes[at..at + taken], buffer, writer)?;
+        at += taken;
+    }
+    Ok(())
+}
+
+/// Writes the hexadecimal text of a piece, which fits the buffer.
+fn write_piece<W: Write>(
+    piece: &[u8],
+    buffer: &mut [u8],
+    writer: &mut Counted<W>,
+) -> Result<(), Stopped>
+    requires piece { length piece.now ≤ 2048 }
+    requires buffer { length buffer.old ≡ 4096 }
+    requires no_failure { writer.old.failures ≡ 0 }
+    ensures ok { OnOk result (Wrote W.contents writer.old writer.new (encode_lower piece.now)) }
+    ensures err { OnErr result (WroteFront W.contents writer.old writer.new (encode_lower piece.now)) }
+{
+    let text = &mut buffer[..2 * piece.len()];
+    hex::encode_to_slice(piece, text).unwrap();
+    write_bytes(text, writer)
+}

@@ -1,0 +1,254 @@
+ghost use Rattle.std.specs.Prelude.{◌≡◌, ℕ, List, map, bytes_eq, Some, None};
+ghost use Rattle.std.specs.Result.{MatchResult};
+ghost use Rattle.event_file.specs.Words.{parted_by};
+ghost use Rattle.event_file.specs.Grammar.{attach_form, address_of_parts, cloning_of, add_address_form, open_form, write_form, read_form, forms, by_forms, said_by, command_of};
+
+use crate::Bad;
+use crate::numbers::{read_byte, read_inet, read_number, read_prefix};
+use crate::texts::{read_link, read_name, read_written};
+use crate::words::parted;
+use route_core::Command;
+
+/// The longest line that is read, in bytes.
+const MOST_LINE_BYTES: usize = 16500;
+
+/// Whether a word is this one.
+fn is(word: &[u8], text: &str) -> bool
+    ensures { result ≡ bytes_eq word.now text.now }
+{
+    word == text.as_bytes()
+}
+
+/// `NAME broadcast T HEX`, behind `if`.
+fn attach(words: &[&[u8]]) -> Option<Command>
+    ensures { result ≡ attach_form (map (λ w. w.now) words.now) }
+{
+    let [name, kind, type_number, link] = words else {
+        return None;
+    };
+    let name = read_name(name)?;
+    let type_number = read_byte(type_number)?;
+    let link = read_link(link)?;
+    if !is(kind, "broadcast") {
+        return None;
+    }
+    Some(Command::Attach {
+        name,
+        type_number,
+        link,
+    })
+}
+
+/// `NAME A/P`, whose route clones or not.
+fn address(name: &[u8], word: &[u8], cloning: bool) -> Option<Command>
+    ensures { result ≡ address_of_parts name.now (parted_by 47 word.now) cloning }
+{
+    let parts = parted(b'/', word)?;
+    let [address, prefix] = parts.as_slice() else {
+        return None;
+    };
+    Some(Command::AddAddress {
+        name: read_name(name)?,
+        address: read_inet(address)?,
+        prefix: read_prefix(prefix)?,
+        cloning,
+    })
+}
+
+/// Whether an address's route clones: where the one word behind the address is `cloning`, and not where there is none.
+fn cloning(options: &[&[u8]]) -> Option<bool>
+    ensures { result ≡ cloning_of (map (λ w. w.now) options.now) }
+{
+    if options.is_empty() {
+        return Some(false);
+    }
+    let [option] = options else {
+        return None;
+    };
+    if !is(option, "cloning") {
+        return None;
+    }
+    Some(true)
+}
+
+/// `NAME A/P` and `NAME A/P cloning`, behind `addr`.
+fn add_address(words: &[&[u8]]) -> Option<Command>
+    ensures { result ≡ add_address_form (map (λ w. w.now) words.now) }
+{
+    let [name, word, options @ ..] = words else {
+        return None;
+    };
+    let cloning = cloning(options)?;
+    address(name, word, cloning)
+}
+
+/// `ID PID any`, behind `open`.
+fn open(words: &[&[u8]]) -> Option<Command>
+    ensures { result ≡ open_form (map (λ w. w.now) words.now) }
+{
+    let [id, pid, protocol] = words else {
+        return None;
+    };
+    let id = read_name(id)?;
+    let pid = read_number(u32::MAX, pid)?;
+    if !is(protocol, "any") {
+        return None;
+    }
+    Some(Command::Open {
+        id,
+        pid,
+        protocol: 0,
+    })
+}
+
+/// `ID HEX`, behind `write`.
+fn write(words: &[&[u8]]) -> Option<Command>
+    ensures { result ≡ write_form (map (λ w. w.now) words.now) }
+{
+    let [id, bytes] = words else {
+        return None;
+    };
+    Some(Command::Write {
+        id: read_name(id)?,
+        bytes: read_written(bytes)?,
+    })
+}
+
+/// `ID`, behind `read`.
+fn read(words: &[&[u8]]) -> Option<Command>
+    ensures { result ≡ read_form (map (λ w. w.now) words.now) }
+{
+    let [id] = words else {
+        return None;
+    };
+    Some(Command::Read { id: read_name(id)? })
+}
+
+/// The command that these words are behind this verb.
+fn said_behind(verb: &[u8], words: &[&[u8]]) -> Option<Command>
+    ensures { result ≡ by_forms forms verb.now (map (λ w. w.now) words.now) }
+{
+    if is(verb, "if") {
+        return attach(words);
+    }
+    if is(verb, "addr") {
+        return add_address(words);
+    }
+    if is(verb, "open") {
+        return open(words);
+    }
+    if is(verb, "write") {
+        return write(words);
+    }
+    if is(verb, "read") {
+        return read(words);
+    }
+    None
+}
+
+/// The command that these words are: the first chooses the form of the others.
+fn said(words: &[&[u8]]) -> Option<Command>
+    ensures { result ≡ said_by (map (λ w. w.now) words.now) }
+{
+    let [verb, words @ ..] = words else {
+        return None;
+    };
+    said_behind(verb, words)
+}
+
+/// The command that a line says, without its newline. `Bad` where the grammar has no such line, among them any of more
+/// than 16,500 bytes.
+pub fn read_line(line: &[u8]) -> Result<Command, Bad>
+    ensures { MatchResult result (λ c. command_of line.now ≡ Some c) (λ _. command_of line.now ≡ None) }
+{
+    if line.len() > MOST_LINE_BYTES {
+        return Err(Bad);
+    }
+    let words = parted(b' ', line).ok_or(Bad)?;
+    said(words.as_slice()).ok_or(Bad)
+}
+
+#[cfg(test)]
+mod tests {
+    use super::*;
+
+    #[test]
+    fn reads_each_form(rt: HostRuntime) {
+        for line in [
+            "if ed0 broadcast 6 080020010203",
+            "if 12345678 broadcast 0 -",
+            "if a broadcast 255 0102030405060708",
+            "addr ed0 10.0.0.1/8",
+            "addr ed0 0.0.0.0/0",
+            "addr ed0 255.255.255.255/32 cloning",
+            "open a 0 any",
+            "open a 4294967295 any",
+            "write a 5cFf00aB",
+            "write z -",
+            "read a",
+        ] {
+            assert!(rt; read_line(line.as_bytes()).is_ok(), "{line}");
+        }
+    }
+
+    #[test]
+    fn refuses_what_no_form_has(rt: HostRuntime) {
+        for line in [
+            "",
+            " ",
+            "read",
+            " read a",
+            "read a ",
+            "read  a",
+            "read a\r",
+            "read\ta",
+            "read a\0",
+            "read é",
+            "read A",
+            "READ a",
+            "read 123456789",
+            "read a b",
+            "if ed0 broadcast 256 -",
+            "if ed0 broadcast 6",
+            "if ed0 broadcast 6 01 02",
+            "if ed0 broadcast 6 010203040506070809",
+            "if le0 loopback 24 -",
+            "addr ed0 10.0.0.1",
+            "addr ed0 10.0.0.1/33",
+            "addr ed0 10.0.0.1/08",
+            "addr ed0 10.0.0.1/8/8",
+            "addr ed0 10.0.0.256/8",
+            "addr ed0 10.0.0/8",
+            "addr ed0 10.0.0.1.2/8",
+            "addr ed0 10.0..1/8",
+            "addr ed0 10.0.0.1/8 clone",
+            "addr ed0 10.0.0.1/8 cloning cloning",
+            "addr le0 11.0.0.1/8 to 11.0.0.2",
+            "open a 007 any",
+            "open a +7 any",
+            "open a 4294967296 any",
+            "open b 1 2",
+            "write a 0",
+            "write a 0123456789abcdef0",
+            "write a 0g",
+            "write a --",
+            "write a ",
+            "dump ask",
+        ] {
+            assert_eq!(rt; read_line(line.as_bytes()).err(), Some(Bad), "{line}");
+        }
+    }
+
+    #[test]
+    fn reads_the_longest_line(rt: HostRuntime) {
+        let mut line = [b'0'; 16501];
+        line[..8].copy_from_slice(b"write a ");
+        let count = match read_line(&line[..16500]) {
+            Ok(Command::Write { bytes, .. }) => bytes.as_slice().len(),
+            _ => 0,
+        };
+        assert_eq!(rt; count, 8246);
+        line[..9].copy_from_slice(b"write ab ");
+        assert_eq!(rt; read_line(&line).err(), Some(Bad));
+    }
+}

@@ -1,0 +1,114 @@
+ghost use Rattle.std.specs.Prelude.{◌≡◌, ◌≤◌, ◌<◌, ◌+◌, true, false, length, position, IfOk, IfSome, MatchOption, cond, option_copied};
+ghost use Rattle.event_file.specs.Lines.{Line, after_bytes, extended, first_line, has_newline, is_begun, is_newline, no_line};
+
+use std::alloc::{AllocError, Global};
+use std::marker::Model;
+
+/// The longest line that a script may have, in bytes and without its newline.
+pub const LONGEST_LINE: usize = 16_500;
+
+/// One line of a script, as its bytes come in pieces. A contract sees the bytes taken since the last `clear`, without a
+/// newline, or nothing of them where they are too many, and whether a newline was among them.
+#[derive(Drop)]
+pub struct LineBuffer {
+    bytes: Vec<u8>,
+    is_too_long: bool,
+    has_ended: bool,
+}
+
+impl Model for LineBuffer {
+    ghost use Rattle.std.specs.Prelude.{◌≤◌, cond, Some, None, vec_len, vec_capacity};
+    ghost use Rattle.event_file.specs.Lines.{Line};
+
+    ghost Value = { Line };
+
+    ghost view = { λ b. record { text = cond b.is_too_long None (Some b.bytes.items); ended = b.has_ended } };
+
+    ghost invariant = { λ b. (16500 ≤ vec_capacity b.bytes) × (vec_len b.bytes ≤ 16500) };
+}
+
+impl LineBuffer {
+    /// No byte yet. This call alone takes memory: room for the longest line.
+    pub fn new(alloc: Global) -> Result<LineBuffer, AllocError>
+        ensures { IfOk result (λ line. line ≡ no_line) }
+    {
+        let bytes = Vec::with_capacity(alloc, LONGEST_LINE)?;
+        Ok(LineBuffer {
+            bytes,
+            is_too_long: false,
+            has_ended: false,
+        })
+    }
+
+    /// Takes bytes up to and with the first newline. Answers how many it took, and whether a newline was among them; then
+    /// the line is whole, and `clear` begins the next.
+    pub fn feed(&mut self, bytes: &[u8]) -> (usize, bool)
+        requires { self.old.ended ≡ false }
+        ensures taken { result.0 ≡ length (first_line bytes.now) + cond (has_newline bytes.now) 1 0 }
+        ensures most { result.0 ≤ length bytes.now }
+        ensures newline { result.1 ≡ has_newline bytes.now }
+        ensures line { self.new ≡ after_bytes self.old bytes.now }
+    {
+        match newline_in(bytes) {
+            Some(at) => {
+                self.keep(&bytes[..at]);
+                self.has_ended = true;
+                (at + 1, true)
+            }
+            None => {
+                self.keep(bytes);
+                (bytes.len(), false)
+            }
+        }
+    }
+
+    /// The line so far, without its newline, or nothing where it has more than 16,500 bytes.
+    pub fn line(&self) -> Option<&[u8]>
+        ensures text { option_copied result ≡ self.now.text }
+        ensures most { IfSome result (λ line. length line.now ≤ 16500) }
+    {
+        if self.is_too_long {
+            None
+        } else {
+            Some(&self.bytes)
+        }
+    }
+
+    /// Begins the next line.
+    pub fn clear(&mut self)
+        ensures { self.new ≡ no_line }
+    {
+        self.bytes.clear();
+        self.is_too_long = false;
+        self.has_ended = false;
+    }
+
+    /// Whether the line so far has at least one byte.
+    pub fn pending(&self) -> bool
+        ensures { result ≡ is_begun self.now.text }
+    {
+        self.is_too_long || !self.bytes.is_empty()
+    }
+
+    /// Puts bytes behind the line, as far as it has room for all of them.
+    fn keep(&mut self, bytes: &[u8])
+        ensures text { self.new.text ≡ extended self.old.text bytes.now }
+        ensures ended { self.new.ended ≡ self.old.ended }
+    {
+        if self.is_too_long {
+            return;
+        }
+        if bytes.len() > LONGEST_LINE - self.bytes.len() {
+            self.is_too_long = true;
+            return;
+        }
+        self.bytes.extend_from_slice(bytes).unwrap();
+    }
+}
+
+/// The place of the first newline.
+fn newline_in(bytes: &[u8]) -> Option<usize>
+    ensures { result ≡ position is_newline bytes.now }
+{
+    bytes.iter().position(|byte| *byte == b'\n')
+}

@@ -1,0 +1,67 @@
+ghost use Rattle.std.specs.Prelude.{◌≡◌, ◌≢◌, ◌≤◌, ◌<◌, ◌^◌, ℕ, List, decimal, map};
+ghost use Rattle.std.specs.Option.{IfSome, MatchOption};
+ghost use Rattle.event_file.specs.Words.{number_to, inet_of_parts, inet_of};
+
+use crate::words::parted;
+use itoa::Buffer;
+use mask_table::Prefix;
+use sock_addrs::Inet;
+use std::str;
+
+/// The number of 32 bits that prints as this word.
+fn printed_as(word: &[u8]) -> Option<u32>
+    ensures { MatchOption result ((n : ℕ) → n < 2 ^ 32 → word.now ≢ decimal n) (λ n. word.now ≡ decimal n) }
+{
+    let number = str::from_utf8(word).ok()?.parse::<u32>().ok()?;
+    let mut buffer = Buffer::new();
+    if buffer.format(number).as_bytes() != word {
+        return None;
+    }
+    Some(number)
+}
+
+/// A decimal up to `most`, without leading zeros.
+pub(crate) fn read_number(most: u32, word: &[u8]) -> Option<u32>
+    ensures value { result ≡ number_to most word.now }
+    ensures most { IfSome result (λ n. n ≤ most) }
+{
+    let number = printed_as(word)?;
+    if number > most {
+        return None;
+    }
+    Some(number)
+}
+
+/// A decimal up to 255.
+pub(crate) fn read_byte(word: &[u8]) -> Option<u8>
+    ensures { result ≡ number_to 255 word.now }
+{
+    let number = read_number(255, word)?;
+    Some(number as u8)
+}
+
+/// The length of a mask: a decimal up to 32.
+pub(crate) fn read_prefix(word: &[u8]) -> Option<Prefix>
+    ensures { result ≡ number_to 32 word.now }
+{
+    let number = read_number(32, word)?;
+    Prefix::new(number as u8)
+}
+
+/// The IPv4 address of the four decimals that stand between its dots.
+fn read_inet_parts(parts: &[&[u8]]) -> Option<Inet>
+    ensures { result ≡ inet_of_parts (map (λ p. p.now) parts.now) }
+{
+    let [a, b, c, d] = parts else {
+        return None;
+    };
+    Some(Inet([read_byte(a)?, read_byte(b)?, read_byte(c)?, read_byte(d)?]))
+}
+
+/// An IPv4 address: four decimals up to 255, parted by dots.
+pub(crate) fn read_inet(word: &[u8]) -> Option<Inet>
+    ensures { result ≡ inet_of word.now }
+{
+    let parts = parted(b'.', word)?;
+    read_inet_parts(parts.as_slice())
+}

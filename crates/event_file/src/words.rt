@@ -1,0 +1,32 @@
+ghost use Rattle.std.specs.Prelude.{◌≡◌, ◌<◌, ℕ, List, [], ◌∷◌, length, map};
+ghost use Rattle.std.specs.Option.{MatchOption, IfSome, IfNone};
+ghost use Rattle.event_file.specs.Words.{parted_by};
+
+use arrayvec::ArrayVec;
+
+/// The parts of a text between the bytes of one value: as many as any line of the grammar has words.
+pub(crate) type Parts<'a> = ArrayVec<&'a [u8], 5>;
+
+/// What stands before the first byte of this value and what stands after it, or `None` where there is no such byte.
+fn cut(byte: u8, text: &[u8]) -> Option<(&[u8], &[u8])>
+    ensures first { IfSome result (λ p. parted_by byte text.now ≡ p.0.now ∷ parted_by byte p.1.now) }
+    ensures rest { IfSome result (λ p. length p.1.now < length text.now) }
+    ensures last { IfNone result (parted_by byte text.now ≡ text.now ∷ []) }
+{
+    let at = text.iter().position(|b| *b == byte)?;
+    Some((&text[..at], &text[at + 1..]))
+}
+
+/// The parts of a text between the bytes of this value, or `None` where there are more than 5.
+pub(crate) fn parted(byte: u8, text: &[u8]) -> Option<Parts<'_>>
+    ensures { MatchOption result (5 < length (parted_by byte text.now)) (λ parts. map (λ p. p.now) parts.items ≡ parted_by byte text.now) }
+{
+    let mut parts = Parts::new();
+    let mut rest = text;
+    while let Some((part, behind)) = cut(byte, rest) {
+        parts.try_push(part).ok()?;
+        rest = behind;
+    }
+    parts.try_push(rest).ok()?;
+    Some(parts)
+}

@@ -1,0 +1,3 @@
+pub mod AddressLists
+pub mod Networks
+pub mod Texts

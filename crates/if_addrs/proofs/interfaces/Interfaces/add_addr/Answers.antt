@@ -1,0 +1,38 @@
+use Rattle.std.proofs.Common.{◌≡◌, ◌∙◌, ◌+◌, sym, ap, true, List, Some, slice_set}
+use Rattle.std.specs.List.{position, list_any}
+use Rattle.if_addrs.specs.Interfaces.{Interface, has_name, with_address, new_address, added}
+use Rattle.if_addrs.proofs.AddressLists.{place_of_name, is_named, added_is, numbered_is, there_is}
+use Rattle.if_addrs.proofs.interfaces.Interfaces.add_addr.Goals as goal
+
+pub unwrap-at-requires : goal.unwrap-at-requires
+unwrap-at-requires c =
+    rw (c.place_of.ensures, c.deref.ensures.value, c.self.view_is) (place_of_name c.args.name c.args.address c.args.self.now c.requires)
+
+pub invariant_of-self : goal.invariant_of-self
+invariant_of-self c =
+    let items = c.self.inside.interfaces.items in
+    let place : position (has_name c.args.name) items ≡ Some c.unwrap-at.result = ap (λ (xs : List Interface). position (has_name c.args.name) xs) (sym c.deref.ensures.value) ∙ sym c.place_of.ensures ∙ c.unwrap-at.ensures in
+    let there : list_any (has_name c.args.name) items ≡ true = ap (λ (xs : List Interface). list_any (has_name c.args.name) xs) c.self.view_is ∙ is_named c.args.name c.args.address c.args.self.now c.requires in
+    numbered_is c.self.inside.added items (slice_set items c.unwrap-at.result c.add.new.self) c.args.name c.args.address c.args.prefix c.args.cloning
+    (added_is c.self.inside.added items c.args.name c.args.address c.args.prefix c.args.cloning c.unwrap-at.result c.add.new.self c.index_mut-interface.result.now c.index_mut-interface.result.now c.new-address.result
+    place c.in-Ok.ensures.ok c.index_mut-interface.ensures.value c.new-address.ensures c.self.invariant.counted)
+    c.self.invariant there
+
+pub returns-in-Ok-clause-added : goal.returns-in-Ok-clause-added
+returns-in-Ok-clause-added c =
+    let items = c.self.inside.interfaces.items in
+    let place : position (has_name c.args.name) items ≡ Some c.unwrap-at.result = ap (λ (xs : List Interface). position (has_name c.args.name) xs) (sym c.deref.ensures.value) ∙ sym c.place_of.ensures ∙ c.unwrap-at.ensures in
+    added_is c.self.inside.added items c.args.name c.args.address c.args.prefix c.args.cloning c.unwrap-at.result c.add.new.self c.index_mut-interface.result.now c.index_mut-interface.result.now c.new-address.result
+    place c.in-Ok.ensures.ok c.index_mut-interface.ensures.value c.new-address.ensures c.self.invariant.counted
+    ∙ ap (λ (xs : List Interface). with_address c.args.name c.args.address c.args.prefix c.args.cloning xs) c.self.view_is
+
+pub returns-in-Ok-clause-there : goal.returns-in-Ok-clause-there
+returns-in-Ok-clause-there c =
+    let items = c.self.inside.interfaces.items in
+    let place : position (has_name c.args.name) items ≡ Some c.unwrap-at.result = ap (λ (xs : List Interface). position (has_name c.args.name) xs) (sym c.deref.ensures.value) ∙ sym c.place_of.ensures ∙ c.unwrap-at.ensures in
+    let there : list_any (has_name c.args.name) items ≡ true = ap (λ (xs : List Interface). list_any (has_name c.args.name) xs) c.self.view_is ∙ is_named c.args.name c.args.address c.args.self.now c.requires in
+    there_is c.self.inside.added items (slice_set items c.unwrap-at.result c.add.new.self) c.args.name c.args.address c.args.prefix c.args.cloning
+    (added_is c.self.inside.added items c.args.name c.args.address c.args.prefix c.args.cloning c.unwrap-at.result c.add.new.self c.index_mut-interface.result.now c.index_mut-interface.result.now c.new-address.result
+    place c.in-Ok.ensures.ok c.index_mut-interface.ensures.value c.new-address.ensures c.self.invariant.counted)
+    c.self.invariant there
+    ∙ ap (λ (xs : List Interface). Some (new_address (added xs + 1) c.args.address c.args.prefix c.args.cloning)) c.self.view_is

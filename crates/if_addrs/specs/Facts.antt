@@ -1,0 +1,6 @@
+-- What a caller is told of an address.
+use Rattle.if_addrs.specs.Interfaces.{Address}
+use Rattle.if_addrs.specs.declared.reference.Facts.{Facts}
+
+abbrev pub facts_of : Address → Facts
+facts_of a = record { prefix = a.prefix; flags = a.flags; far = a.far }

@@ -1,0 +1,14 @@
+//! Network interfaces and their IPv4 addresses, and what is searched among them.
+#![tactic(auto)]
+
+mod address;
+mod interface;
+mod interfaces;
+mod link_address;
+mod reference;
+#[cfg(test)]
+mod tests;
+
+pub use interfaces::Interfaces;
+pub use link_address::LinkAddress;
+pub use reference::{Facts, IfaRef};

@@ -1,0 +1,3 @@
+pub mod QueueLemmas
+pub mod SocketLawsProved
+pub mod SocketLists

@@ -1,0 +1,4 @@
+pub mod Open
+pub mod Queue
+pub mod SocketLaws
+pub mod Sockets

@@ -1,0 +1,76 @@
+-- The open sockets, and what each of them hears.
+use Rattle.std.specs.Prelude.{ℕ, ◌==◌, nat_le, Bool, true, false, not, ◌&&◌, ◌||◌, List, [], ◌∷◌, ◌++◌, length, map, Option, Some, None, option_map, bytes_eq, if◌then◌else◌}
+use Rattle.std.specs.List.{find, list_any}
+use Rattle.sock_addrs.specs.declared.errno.Errno.{Errno}
+use Rattle.sock_addrs.specs.declared.errno.Errno.TheVariants.{EEXIST, EMFILE}
+use Rattle.sock_addrs.specs.Rules.{rule, first_fault}
+use Rattle.sock_addrs.specs.First.{change_first}
+
+-- a socket: the process that opened it, the family that it hears (0: all), whether it hears the replies to its own writes,
+-- and the messages that it has not yet read, the oldest first
+pub record Socket : Type 0 where
+  pub id : List ℕ
+  pub pid : ℕ
+  pub protocol : ℕ
+  pub loopback : Bool
+  pub messages : List (List ℕ)
+
+-- the sockets in the order in which they were opened, and for how many bytes more there is room in the queue of each
+pub record Listening : Type 0 where
+  pub sockets : List Socket
+  pub reserved : ℕ
+
+abbrev pub listening : List Socket → ℕ → Listening
+listening sockets reserved = record { sockets = sockets; reserved = reserved }
+
+abbrev pub has_id : List ℕ → Socket → Bool
+has_id id s = bytes_eq s.id id
+
+-- the socket with this id
+abbrev pub socket_of : List ℕ → List Socket → Option Socket
+socket_of id sockets = find (has_id id) sockets
+
+-- the pid of the process that opened it
+abbrev pub pid_of : List ℕ → List Socket → Option ℕ
+pid_of id sockets = option_map (λ s. s.pid) (socket_of id sockets)
+
+-- the messages that it has not yet read
+abbrev pub messages_of : List ℕ → List Socket → Option (List (List ℕ))
+messages_of id sockets = option_map (λ s. s.messages) (socket_of id sockets)
+
+-- why a socket with this id can't be opened
+abbrev pub listen_fault : List ℕ → List Socket → Option Errno
+listen_fault id sockets = first_fault
+    (rule (list_any (has_id id) sockets) EEXIST
+    ∷ rule (nat_le 64 (length sockets)) EMFILE
+    ∷ [])
+
+-- a socket as it is opened
+abbrev pub opened : List ℕ → ℕ → ℕ → Socket
+opened id pid protocol = record { id = id; pid = pid; protocol = protocol; loopback = true; messages = [] }
+
+-- the writer whose reply a message is, if it is one, is the socket with this id
+abbrev pub is_own : List ℕ → Option (List ℕ) → Bool
+is_own id None = false
+is_own id (Some writer) = bytes_eq id writer
+
+-- whether the socket hears a message of the family: it hears all families or this one, and it is not the reply to its own
+-- write while loopback is off
+abbrev pub hears : ℕ → Option (List ℕ) → Socket → Bool
+hears family own s = (s.protocol == 0 || s.protocol == family) && (s.loopback || not (is_own s.id own))
+
+-- a socket after a message was delivered
+abbrev pub after_delivery : List ℕ → ℕ → Option (List ℕ) → Socket → Socket
+after_delivery message family own s = if hears family own s then record s { messages = s.messages ++ message ∷ [] } else s
+
+-- the sockets after a message was delivered to all that hear it
+abbrev pub delivered : List ℕ → ℕ → Option (List ℕ) → List Socket → List Socket
+delivered message family own sockets = map (after_delivery message family own) sockets
+
+-- a socket after its messages were read
+abbrev pub emptied : Socket → Socket
+emptied s = record s { messages = [] }
+
+-- the sockets after the one with this id read its messages
+abbrev pub taken : List ℕ → List Socket → List Socket
+taken id sockets = change_first (has_id id) emptied sockets

@@ -1,0 +1,13 @@
+//! Open routing sockets and the messages that wait for them.
+#![tactic(auto)]
+
+mod cutting;
+pub mod laws;
+mod listeners;
+mod queue;
+mod socket;
+#[cfg(test)]
+mod tests;
+
+pub use cutting::first_message;
+pub use listeners::Listeners;

@@ -1,0 +1,6 @@
+pub mod BestLemmas
+pub mod HeldLemmas
+pub mod LawLemmas
+pub mod LentLemmas
+pub mod OrderLemmas
+pub mod TableLemmas

@@ -1,0 +1,6 @@
+pub mod Chain
+pub mod Counting
+pub mod Lending
+pub mod Lodged
+pub mod Table
+pub mod TableLaws

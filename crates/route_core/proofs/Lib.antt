@@ -1,0 +1,5 @@
+pub mod Announcing
+pub mod Checks
+pub mod Replies
+pub mod StepLemmas
+pub mod WorldLawsProved

@@ -1,0 +1,139 @@
+-- What a step that is refused leaves as it was, command by command.
+use Rattle.std.proofs.Common.{◌≡◌, ◌≢◌, ℕ, Bool, true, false, List, [], ◌∷◌, inl, inr, refl, sym, ap, subst}
+use Rattle.std.specs.Prelude.{Option, Some, None, Result, Ok, Err, ⊤, IfSome, if◌then◌else◌, is_some, length, nat_le, not, ◌+◌}
+use Rattle.std.specs.List.{list_any}
+use Rattle.sock_addrs.specs.declared.errno.Errno.{Errno}
+use Rattle.sock_addrs.specs.declared.errno.Errno.TheVariants.{EADDRINUSE, EBADF, EEXIST, EMFILE, ENOBUFS, ENOSPC, ENXIO}
+use Rattle.if_addrs.specs.Interfaces.{Address, Interface, added, addr_fault, attach_fault, has_name, holds, new_address, with_address}
+use Rattle.sock_addrs.specs.Rules.{Rule, rule, first_fault}
+use Rattle.listeners.specs.Sockets.{Socket, has_id, listen_fault, messages_of, pid_of}
+use Rattle.route_core.specs.Step.{Stepped, stepped, refused, done, told_refusal, attach_step, add_address_step, add_route_step, open_step, read_step, reply_step, route_to_network, write_step}
+use Rattle.radix_tree.specs.Table.{best_of, entry_at}
+use Rattle.route_core.specs.World.{World}
+use Rattle.route_core.specs.WorldLaws.{NoMemoryKeepsAll, RefusalKeepsInterfaces, RefusalKeepsRoutes}
+use Rattle.route_core.specs.Writes.{destination, message_rules, reply_of, reply_to_get, unless_refused}
+use Rattle.route_msgs.specs.Headers.{header_in}
+use Rattle.route_msgs.specs.declared.header.Header.{Header}
+use Rattle.radix_tree.specs.declared.entry.Entry.{Entry}
+use Rattle.route_core.specs.declared.answer.Answer.TheVariants.{Refused}
+use Rattle.route_core.specs.declared.command.Command.{Command}
+use Rattle.route_core.specs.declared.command.Command.TheVariants.{Attach, AddAddress, Open, Write, Read}
+use Rattle.route_core.specs.declared.refusal.Refusal.{Refusal}
+use Rattle.route_core.specs.declared.route.Route.{Route}
+
+-- ---- no rule is want of memory
+
+abbrev AllFaults : {T : Type 0} → (T → Type 0) → List (Rule T) → Type 0
+AllFaults P [] = ⊤
+AllFaults P (r ∷ rs) = P r.fault × AllFaults P rs
+
+chosen : {T : Type 0} (P : T → Type 0) (b : Bool) (x : T) (o : Option T) → P x → IfSome o P → IfSome (if b then Some x else o) P
+chosen P true x o p q = p
+chosen P false x o p q = q
+
+first_fault-all : {T : Type 0} (P : T → Type 0) (rs : List (Rule T)) → AllFaults P rs → IfSome (first_fault rs) P
+first_fault-all P [] h = tt
+first_fault-all P (r ∷ rs) h = chosen P r.holds r.fault (first_fault rs) h.0 (first_fault-all P rs h.1)
+
+abbrev IsFound : Errno → Type 0
+IsFound e = e ≢ ENOBUFS
+
+found-two : (a b : Bool) (x y : Errno) → IsFound x → IsFound y → IfSome (first_fault (rule a x ∷ rule b y ∷ [])) IsFound
+found-two a b x y p q = first_fault-all IsFound (rule a x ∷ rule b y ∷ []) (p, (q, tt))
+
+attach_fault-found : (name : List ℕ) (interfaces : List Interface) → IfSome (attach_fault name interfaces) IsFound
+attach_fault-found name interfaces = found-two (list_any (has_name name) interfaces) (nat_le 64 (length interfaces)) EEXIST ENOSPC (λ h. absurd (cc)) (λ h. absurd (cc))
+
+listen_fault-found : (id : List ℕ) (sockets : List Socket) → IfSome (listen_fault id sockets) IsFound
+listen_fault-found id sockets = found-two (list_any (has_id id) sockets) (nat_le 64 (length sockets)) EEXIST EMFILE (λ h. absurd (cc)) (λ h. absurd (cc))
+
+addr_fault-found : (name : List ℕ) (address : ℕ) (interfaces : List Interface) → IfSome (addr_fault name address interfaces) IsFound
+addr_fault-found name address interfaces =
+    chosen IsFound (not (list_any (has_name name) interfaces)) ENXIO _ (λ h. absurd (cc))
+    (found-two (list_any (holds address) interfaces) (nat_le 65535 (added interfaces)) EADDRINUSE ENOSPC (λ h. absurd (cc)) (λ h. absurd (cc)))
+
+message_rules-found : (m : List ℕ) → IfSome (first_fault (message_rules m)) (λ (r : Refusal). IsFound r.errno)
+message_rules-found m = first_fault-all (λ (r : Refusal). IsFound r.errno) (message_rules m)
+    (λ h. absurd (cc), (λ h. absurd (cc), (λ h. absurd (cc), (λ h. absurd (cc), (λ h. absurd (cc), (λ h. absurd (cc), (λ h. absurd (cc), (λ h. absurd (cc), tt))))))))
+
+-- ---- what a refusal leaves
+
+-- a step that is refused has left the routes, and the interfaces but for an address that is there; and it was not for want of memory
+record Spares (old : World) (s : Stepped) : Type 0 where
+  on : (e : Errno) → s.answer ≡ Refused e → (s.world.table ≡ old.table) × (e ≢ EEXIST → s.world.interfaces ≡ old.interfaces) × IsFound e
+
+spares-refused : (old w : World) (x : Errno) → w.table ≡ old.table → (x ≢ EEXIST → w.interfaces ≡ old.interfaces) → IsFound x → Spares old (refused w x)
+spares-refused old w x table interfaces found = record { on = λ e h. (table, λ ne. interfaces (λ is. ne (cc)), λ is. found (cc)) }
+
+spares-done : (old w : World) → Spares old (done w)
+spares-done old w = record { on = λ e h. absurd (cc) }
+
+spares-fault : (old : World) (step : Option Errno → Stepped) (fault : Option Errno) → ((x : Errno) → step (Some x) ≡ refused old x) → Spares old (step None) → IfSome fault IsFound → Spares old (step fault)
+spares-fault old step None by none found = none
+spares-fault old step (Some x) by none found = subst (Spares old) (sym (by x)) (spares-refused old old x refl (λ ne. refl) found)
+
+spares-route : (old w new : World) (there : Bool) → w.table ≡ old.table → Spares old (if there then refused w EEXIST else done new)
+spares-route old w new true table = spares-refused old w EEXIST table (λ ne. absurd (ne refl)) (λ h. absurd (cc))
+spares-route old w new false table = spares-done old new
+
+spares-add_route : (old w : World) (a : Address) (cloning : Bool) → w.table ≡ old.table → Spares old (add_route_step w a cloning)
+spares-add_route old w a cloning table =
+    let r = route_to_network a cloning in
+    spares-route old w _ (is_some (entry_at r.key r.rank w.table)) table
+
+told_refusal-spares : (old : World) (id : List ℕ) (pid : ℕ) (m : List ℕ) (errno : Errno) (family : Option ℕ)
+    → let w = told_refusal old id pid m (record { errno = errno; family = family }) in (w.table ≡ old.table) × (w.interfaces ≡ old.interfaces)
+told_refusal-spares old id pid m errno None = (refl, refl)
+told_refusal-spares old id pid m errno (Some family) = (refl, refl)
+
+abbrev FoundErr : Result (List ℕ) Refusal → Type 0
+FoundErr (Ok reply) = ⊤
+FoundErr (Err r) = IsFound r.errno
+
+spares-reply : (old : World) (id : List ℕ) (pid : ℕ) (m : List ℕ) (reply : Result (List ℕ) Refusal) → FoundErr reply → Spares old (reply_step old id pid m reply)
+spares-reply old id pid m (Ok reply) found = spares-done old _
+spares-reply old id pid m (Err r) found =
+    let kept = told_refusal-spares old id pid m r.errno r.family in
+    spares-refused old (told_refusal old id pid m r) r.errno kept.0 (λ ne. kept.1) found
+
+reply_to_get-found : (asked : Header) (pid : ℕ) (r : Option (Entry Route)) → FoundErr (reply_to_get asked pid r)
+reply_to_get-found asked pid None = λ h. absurd (cc)
+reply_to_get-found asked pid (Some r) = tt
+
+unless_refused-found : (fault : Option Refusal) (reply : Result (List ℕ) Refusal) → IfSome fault (λ (r : Refusal). IsFound r.errno) → FoundErr reply → FoundErr (unless_refused fault reply)
+unless_refused-found None reply p q = q
+unless_refused-found (Some r) reply p q = p
+
+reply_of-found : (w : World) (pid : ℕ) (m : List ℕ) → FoundErr (reply_of w.table pid m)
+reply_of-found w pid m = unless_refused-found (first_fault (message_rules m)) _ (message_rules-found m) (reply_to_get-found (header_in m) pid (best_of (destination m) w.table))
+
+spares-write : (old : World) (id m : List ℕ) (pid : Option ℕ) → Spares old (write_step old id m pid)
+spares-write old id m None = spares-refused old old EBADF refl (λ ne. refl) (λ h. absurd (cc))
+spares-write old id m (Some pid) = spares-reply old id pid m (reply_of old.table pid m) (reply_of-found old pid m)
+
+spares-read : (old : World) (id : List ℕ) (messages : Option (List (List ℕ))) → Spares old (read_step old id messages)
+spares-read old id None = spares-refused old old EBADF refl (λ ne. refl) (λ h. absurd (cc))
+spares-read old id (Some messages) = record { on = λ e h. absurd (cc) }
+
+step-spares : (old : World) (c : Command) → Spares old (stepped old c)
+unfolding stepped
+step-spares old (Attach name type_number link) =
+    spares-fault old (attach_step old name type_number link) (attach_fault name old.interfaces) (λ x. refl) (spares-done old _) (attach_fault-found name old.interfaces)
+step-spares old (AddAddress name address prefix cloning) =
+    spares-fault old (add_address_step old name address prefix cloning) (addr_fault name address old.interfaces) (λ x. refl)
+    (spares-add_route old (record old { interfaces = with_address name address prefix cloning old.interfaces }) (new_address (added old.interfaces + 1) address prefix cloning) cloning refl)
+    (addr_fault-found name address old.interfaces)
+step-spares old (Open id pid protocol) =
+    spares-fault old (open_step old id pid protocol) (listen_fault id old.sockets) (λ x. refl) (spares-done old _) (listen_fault-found id old.sockets)
+step-spares old (Write id m) = spares-write old id m (pid_of id old.sockets)
+step-spares old (Read id) = spares-read old id (messages_of id old.sockets)
+
+pub refusal_keeps_routes : RefusalKeepsRoutes
+refusal_keeps_routes w c errno h = ((step-spares w c).on errno h).0
+
+pub refusal_keeps_interfaces : RefusalKeepsInterfaces
+refusal_keeps_interfaces w c errno h ne = ((step-spares w c).on errno h).1 ne
+
+pub no_memory_keeps_all : NoMemoryKeepsAll
+no_memory_keeps_all old c new (inl is) = absurd (((step-spares old c).on ENOBUFS (ap (λ (s : Stepped). s.answer) is)).2 refl)
+no_memory_keeps_all old c new (inr (takes, answer, same)) = same

@@ -1,0 +1,6 @@
+pub mod Messages
+pub mod Routes
+pub mod Step
+pub mod World
+pub mod WorldLaws
+pub mod Writes

@@ -1,0 +1,49 @@
+ghost use Rattle.std.specs.Prelude.{◌≡◌, ℕ, List};
+ghost use Rattle.listeners.specs.Queue.{cut, IsWhole};
+
+use sock_addrs::Errno;
+use std::marker::Model;
+
+/// What a command is answered.
+#[derive(Debug, Drop)]
+pub enum Answer {
+    /// It was done.
+    Done,
+    /// It was refused.
+    Refused(Errno),
+    /// It read these messages.
+    Messages(Received),
+}
+
+/// The messages that a socket read, as bytes: whole messages, one after another, each of which begins with its length,
+/// two bytes, the high one first. A contract sees the list of messages.
+#[derive(Debug, Drop)]
+pub struct Received {
+    bytes: Vec<u8>,
+}
+
+impl Model for Received {
+    ghost Value = { List (List ℕ) };
+
+    ghost view = { λ r. cut r.bytes.items };
+
+    ghost invariant = { λ r. IsWhole r.bytes.items };
+}
+
+impl Received {
+    /// The messages that `bytes` are cut into.
+    pub fn new(bytes: Vec<u8>) -> Received
+        requires { IsWhole bytes.items }
+        ensures { result ≡ cut bytes.items }
+    {
+        Received { bytes }
+    }
+
+    /// Their bytes.
+    pub fn as_bytes(&self) -> &[u8]
+        ensures whole { IsWhole result.now }
+        ensures messages { cut result.now ≡ self.now }
+    {
+        &self.bytes
+    }
+}

@@ -1,0 +1,17 @@
+//! Laws of the machine's step.
+ghost use Rattle.route_core.specs.WorldLaws.{NoMemoryKeepsAll, RefusalKeepsInterfaces, RefusalKeepsRoutes};
+
+/// A refused request leaves every route as it was.
+pub fn refusal_keeps_routes()
+    ensures { RefusalKeepsRoutes }
+{}
+
+/// A refused request leaves every interface as it was, but that an address whose route is there already is kept.
+pub fn refusal_keeps_interfaces()
+    ensures { RefusalKeepsInterfaces }
+{}
+
+/// A step that answers that there is no memory has changed nothing at all.
+pub fn no_memory_keeps_all()
+    ensures { NoMemoryKeepsAll }
+{}

@@ -1,0 +1,149 @@
+//! The messages that the world makes.
+ghost use Rattle.std.specs.Prelude.{◌≡◌, ◌≤◌, length, option_map};
+ghost use Rattle.sock_addrs.specs.Texts.{mask_text};
+ghost use Rattle.route_msgs.specs.Texts.{text_bytes};
+ghost use Rattle.listeners.specs.Queue.{IsMessage};
+ghost use Rattle.route_core.specs.Messages.{address_added as address_message, address_texts as texts_of_address, blank as blank_header, netmask_of, route_texts as texts_of, route_added as added_message, route_got as got_message};
+
+use crate::Route;
+use arrayvec::ArrayVec;
+use if_addrs::Facts;
+use mask_table::{Prefix, Rank};
+use route_msgs::flags::RTF_DONE;
+use route_msgs::kinds::{RTM_ADD, RTM_GET, RTM_NEWADDR};
+use route_msgs::{Header, IfaHeader, Text, Texts, write_ifa_msg, write_route_msg};
+use sock_addrs::{Inet, Link};
+
+fn blank(kind: u8) -> Header
+    ensures { result ≡ blank_header kind }
+{
+    Header {
+        kind,
+        index: 0,
+        padding: 0,
+        flags: 0,
+        addrs: 0,
+        pid: 0,
+        seq: 0,
+        errno: 0,
+        use_count: 0,
+        inits: 0,
+        metrics: [0; 10],
+    }
+}
+
+/// A route's mask, where it has one.
+fn netmask(rank: Rank) -> Option<Text>
+    ensures { result ≡ netmask_of rank }
+{
+    let bits = rank.number();
+    if bits == 33 {
+        None
+    } else {
+        Some(Text::mask(bits))
+    }
+}
+
+/// The mask that a route's clones get, where there is one.
+fn genmask(prefix: Option<Prefix>) -> Option<Text>
+    ensures { result ≡ option_map mask_text prefix }
+{
+    match prefix {
+        Some(prefix) => Some(Text::mask(prefix.bits())),
+        None => None,
+    }
+}
+
+/// A route's destination, gateway and mask.
+fn route_texts(key: Inet, rank: Rank, route: &Route) -> Texts
+    ensures texts { result ≡ texts_of (record { key = key; rank = rank; value = route.now }) }
+    ensures size { length (text_bytes result) ≤ 56 }
+{
+    Texts {
+        dst: Some(Text::inet(key)),
+        gateway: Some(Text::gate(route.gateway)),
+        netmask: netmask(rank),
+        ..Texts::default()
+    }
+}
+
+/// An address of an interface, with its mask and its broadcast address, and the interface's link-layer address.
+fn address_texts(link: Link, address: Inet, facts: Facts) -> Texts
+    ensures texts { result ≡ texts_of_address link address facts }
+    ensures size { length (text_bytes result) ≤ 72 }
+{
+    Texts {
+        netmask: Some(Text::mask(facts.prefix.bits())),
+        ifp: Some(Text::link(link)),
+        ifa: Some(Text::inet(address)),
+        brd: Some(Text::inet(facts.far)),
+        ..Texts::default()
+    }
+}
+
+/// That an interface has a new address.
+pub(crate) fn address_added(
+    index: u16,
+    link: Link,
+    address: Inet,
+    facts: Facts,
+) -> ArrayVec<u8, 256>
+    ensures message { result.items ≡ address_message index link address facts }
+    ensures whole { IsMessage result.items }
+    ensures most { length result.items ≤ 256 }
+{
+    let header = IfaHeader {
+        kind: RTM_NEWADDR,
+        addrs: 0,
+        flags: facts.flags,
+        index,
+        padding: 0,
+        metric: 0,
+    };
+    write_ifa_msg(&header, &address_texts(link, address, facts))
+}
+
+/// That an interface's new address brought a route.
+pub(crate) fn route_added(index: u16, key: Inet, rank: Rank, route: &Route) -> ArrayVec<u8, 256>
+    ensures message { result.items ≡ added_message index (record { key = key; rank = rank; value = route.now }) }
+    ensures whole { IsMessage result.items }
+    ensures most { length result.items ≤ 256 }
+{
+    let header = Header {
+        index,
+        flags: u32::from(route.flags),
+        ..blank(RTM_ADD)
+    };
+    write_route_msg(&header, &route_texts(key, rank, route))
+}
+
+/// The reply to a GET: what was asked, and the route.
+pub(crate) fn route_got(
+    asked: &Header,
+    pid: u32,
+    key: Inet,
+    rank: Rank,
+    route: &Route,
+) -> ArrayVec<u8, 256>
+    ensures message { result.items ≡ got_message asked.now pid (record { key = key; rank = rank; value = route.now }) }
+    ensures whole { IsMessage result.items }
+    ensures most { length result.items ≤ 256 }
+{
+    let header = Header {
+        index: asked.index,
+        padding: asked.padding,
+        flags: u32::from(route.flags) | RTF_DONE,
+        pid,
+        seq: asked.seq,
+        errno: asked.errno,
+        use_count: route.use_count,
+        inits: asked.inits,
+        metrics: route.metrics,
+        ..blank(RTM_GET)
+    };
+    let texts = Texts {
+        genmask: genmask(route.genmask),
+        ..route_texts(key, rank, route)
+    };
+    write_route_msg(&header, &texts)
+}

@@ -1,0 +1,98 @@
+ghost use Rattle.std.specs.Prelude.{◌≡◌, IfOk};
+ghost use Rattle.route_core.specs.World.{empty_world};
+ghost use Rattle.route_core.specs.Step.{Steps};
+ghost use Rattle.route_core.specs.declared.command.Command.TheVariants.{Attach, Open, Read};
+
+use crate::{Answer, Command, LinkAddress, Received, Route};
+use if_addrs::Interfaces;
+use listeners::Listeners;
+use radix_tree::Table;
+use sock_addrs::Name;
+use std::alloc::{AllocError, Global};
+use std::marker::Model;
+
+/// The family of all messages about IPv4 (`AF_INET`).
+pub(crate) const AF_INET: u8 = 2;
+
+/// What a script works on. A contract sees its routes, interfaces and sockets.
+#[derive(Drop)]
+pub struct World {
+    pub(crate) table: Table<Route>,
+    pub(crate) interfaces: Interfaces,
+    pub(crate) listeners: Listeners,
+}
+
+impl Model for World {
+    ghost use Rattle.route_core.specs.World.{World};
+
+    ghost Value = { World };
+
+    ghost view = { λ w. record { table = w.table.entries; interfaces = w.interfaces; sockets = w.listeners.sockets } };
+}
+
+impl World {
+    /// A world without routes, interfaces and sockets.
+    pub fn new(alloc: Global) -> Result<World, AllocError>
+        ensures { IfOk result (λ w. w ≡ empty_world) }
+    {
+        Ok(World {
+            table: Table::new(alloc)?,
+            interfaces: Interfaces::new(alloc),
+            listeners: Listeners::new(alloc),
+        })
+    }
+
+    /// Takes one command: the answer and the world after it are the list machine's, or, where the command may want
+    /// memory, the answer is ENOBUFS and the world stays as it was.
+    pub fn step(&mut self, command: &Command) -> Answer
+        ensures { Steps self.old command.now result self.new }
+    {
+        match command {
+            Command::Attach {
+                name,
+                type_number,
+                link,
+            } => self.attach(*name, *type_number, link),
+            Command::AddAddress {
+                name,
+                address,
+                prefix,
+                cloning,
+            } => self.add_address(*name, *address, *prefix, *cloning),
+            Command::Open { id, pid, protocol } => self.listen(*id, *pid, *protocol),
+            Command::Write { id, bytes } => self.write(*id, bytes.as_slice()),
+            Command::Read { id } => self.take(*id),
+        }
+    }
+
+    /// Attaches an interface. EEXIST: the name is there; ENOSPC: there are 64 interfaces.
+    pub fn attach(&mut self, name: Name, type_number: u8, link: &LinkAddress) -> Answer
+        ensures { Steps self.old (Attach name type_number link.now) result self.new }
+    {
+        if let Err(errno) = self.interfaces.attach(name, type_number, link) {
+            return Answer::Refused(errno);
+        }
+        Answer::Done
+    }
+
+    /// Opens a socket. EEXIST: the id is open; EMFILE: 64 sockets are open.
+    pub fn listen(&mut self, id: Name, pid: u32, protocol: u8) -> Answer
+        ensures { Steps self.old (Open id pid protocol) result self.new }
+    {
+        if let Err(errno) = self.listeners.listen(id, pid, protocol) {
+            return Answer::Refused(errno);
+        }
+        Answer::Done
+    }
+
+    /// Takes the messages that a socket has heard. EBADF: it isn't open.
+    pub fn take(&mut self, id: Name) -> Answer
+        ensures { Steps self.old (Read id) result self.new }
+    {
+        let bytes = match self.listeners.take(id) {
+            Ok(bytes) => bytes,
+            Err(errno) => return Answer::Refused(errno),
+        };
+        Answer::Messages(Received::new(bytes))
+    }
+}

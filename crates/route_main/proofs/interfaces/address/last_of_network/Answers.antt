@@ -1,7 +1,0 @@
-use Rattle.std.proofs.Common.{arith, rules}
-use Rattle.route_main.proofs.Networks.{network_cast}
-use Rattle.route_main.proofs.interfaces.address.last_of_network.Goals as goal
-
-pub overflow_cast-next-2 : goal.overflow_cast-next-2
-overflow_cast-next-2 c =
-    search (rules, network_cast c.from.result c.from-free.result (omega (arith, c.from.ensures, c.number.type_inv)) (omega (arith, c.from-free.ensures)))

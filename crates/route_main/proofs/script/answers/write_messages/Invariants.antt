@@ -1,9 +1,0 @@
-use Rattle.std.proofs.Common.{length, ◌-◌, ◌≤◌, drop}
-use Rattle.route_main.proofs.MessageLines.{WroteMessages}
-use Rattle.route_main.proofs.script.answers.write_messages.Given as goal
-
-abbrev pub invariant-loop-at : goal.invariant-loop-at
-invariant-loop-at g l = (l.at ≤ length l.bytes) × WroteMessages g.W.Write.contents l.initial.writer l.writer l.bytes (drop l.at l.bytes)
-
-abbrev pub decreases-loop-at : goal.decreases-loop-at
-decreases-loop-at g l = length l.bytes - l.at

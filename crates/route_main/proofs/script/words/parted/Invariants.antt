@@ -1,9 +1,0 @@
-use Rattle.std.proofs.Common.{◌≡◌, length, map, ◌++◌}
-use Rattle.route_main.specs.Words.{parted_by}
-use Rattle.route_main.proofs.script.words.parted.Given as goal
-
-abbrev pub invariant-loop-part : goal.invariant-loop-part
-invariant-loop-part l = parted_by l.byte l.text ≡ map (λ p. p.now) l.parts.items ++ parted_by l.byte l.rest
-
-abbrev pub decreases-loop-part : goal.decreases-loop-part
-decreases-loop-part l = length l.rest

@@ -1,5 +1,0 @@
-use Rattle.route_main.proofs.LawLemmas.{best_is_greatest, best_is_unique, none_agrees}
-use Rattle.route_main.proofs.table.laws.best_is_greatest.Goals as goal
-
-pub returns : goal.returns
-returns g c = record { greatest = best_is_greatest; unique = best_is_unique; none = none_agrees }

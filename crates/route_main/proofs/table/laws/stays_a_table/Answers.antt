@@ -1,5 +1,0 @@
-use Rattle.route_main.proofs.LawLemmas.{with_is_table, without_is_table}
-use Rattle.route_main.proofs.table.laws.stays_a_table.Goals as goal
-
-pub returns : goal.returns
-returns g c = record { with = with_is_table; without = without_is_table }

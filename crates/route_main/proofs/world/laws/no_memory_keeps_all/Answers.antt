@@ -1,5 +1,0 @@
-use Rattle.route_main.proofs.WorldLawsProved.{no_memory_keeps_all}
-use Rattle.route_main.proofs.world.laws.no_memory_keeps_all.Goals as goal
-
-pub returns : goal.returns
-returns c = no_memory_keeps_all

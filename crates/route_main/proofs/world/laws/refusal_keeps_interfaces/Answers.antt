@@ -1,5 +1,0 @@
-use Rattle.route_main.proofs.WorldLawsProved.{refusal_keeps_interfaces}
-use Rattle.route_main.proofs.world.laws.refusal_keeps_interfaces.Goals as goal
-
-pub returns : goal.returns
-returns c = refusal_keeps_interfaces
