@@ -38,9 +38,9 @@ destination m = from_be_bytes w32 (drop 4 (take 8 (destination_text m)))
 abbrev pub is_malformed_inet : List ℕ → Bool
 is_malformed_inet text = family text == 2 && not (nat_le 8 (slice_index text 0) && nat_le (slice_index text 0) 16)
 
--- a GET that names no address but the destination
+-- a GET (RTM_GET, 4) that names no address but the destination, whose bit is 0x1
 abbrev pub is_plain_get : Header → Bool
-is_plain_get h = h.kind == 4 && bit_and h.addrs 254 == 0
+is_plain_get h = h.kind == 4 && bit_and h.addrs 0xfe == 0
 
 -- the reasons that lie in the destination, and in what is asked of it
 abbrev pub text_rules : List ℕ → Bool → List (Rule Refusal)

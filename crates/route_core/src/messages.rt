@@ -3,7 +3,8 @@ ghost use Rattle.std.specs.Prelude.{◌≡◌, ◌≤◌, length, option_map};
 ghost use Rattle.sock_addrs.specs.Texts.{mask_text};
 ghost use Rattle.route_msgs.specs.Texts.{text_bytes};
 ghost use Rattle.listeners.specs.Queue.{IsMessage};
-ghost use Rattle.route_core.specs.Messages.{address_added as address_message, address_texts as texts_of_address, blank as blank_header, netmask_of, route_texts as texts_of, route_added as added_message, route_got as got_message};
+ghost use Rattle.route_msgs.specs.Headers.{blank as blank_header};
+ghost use Rattle.route_core.specs.Messages.{address_added as address_message, address_texts as texts_of_address, netmask_of, route_texts as texts_of, route_added as added_message, route_got as got_message};
 
 use crate::Route;
 use arrayvec::ArrayVec;

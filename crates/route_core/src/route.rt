@@ -3,13 +3,8 @@ ghost use Rattle.route_core.specs.Routes.{route_of_address};
 
 use if_addrs::IfaRef;
 use mask_table::Prefix;
+use route_msgs::flags::{RTF_CLONING, RTF_UP};
 use sock_addrs::{Gate, Inet};
-
-/// The route is usable (`RTF_UP`).
-const UP: u16 = 0x1;
-
-/// Using the route clones it (`RTF_CLONING`).
-const CLONING: u16 = 0x100;
 
 /// What the table keeps of a route beside its key and its rank (`struct rtentry` of <net/route.h>).
 #[derive(Clone, Copy, Debug, PartialEq, Eq)]
@@ -33,8 +28,13 @@ impl Route {
     pub(crate) fn of_address(address: Inet, cloning: bool, ifa: IfaRef) -> Route
         ensures { result ≡ route_of_address address cloning ifa }
     {
+        let flags = if cloning {
+            RTF_UP | RTF_CLONING
+        } else {
+            RTF_UP
+        };
         Route {
-            flags: if cloning { UP | CLONING } else { UP },
+            flags: flags as u16,
             gateway: Gate::Inet(address),
             metrics: [0; 10],
             genmask: None,

@@ -3,7 +3,8 @@ use Rattle.std.specs.Prelude.{ℕ, List, [], ◌∷◌, ◌++◌, replicate, Som
 use Rattle.std.specs.List.{flat_map}
 use Rattle.sock_addrs.specs.Texts.{inet_text, mask_text}
 use Rattle.byteorder.specs.Endian.{big_bytes}
-use Rattle.route_msgs.specs.Texts.{padded}
+use Rattle.route_msgs.specs.Headers.{blank}
+use Rattle.route_msgs.specs.Texts.{no_texts, padded}
 use Rattle.route_msgs.specs.declared.header.Header.{Header}
 use Rattle.route_msgs.specs.declared.header.IfaHeader.{IfaHeader}
 use Rattle.route_msgs.specs.declared.parsed.Parsed.{Parsed}
@@ -12,12 +13,6 @@ use Rattle.route_msgs.specs.declared.texts.Texts.{Texts}
 -- words of four bytes
 abbrev pub words : List ℕ → List ℕ
 words ws = flat_map (big_bytes 4) ws
-
-abbrev pub no_texts : Texts
-no_texts = record { dst = None; gateway = None; netmask = None; genmask = None; ifp = None; ifa = None; author = None; brd = None }
-
-abbrev pub blank : ℕ → Header
-blank kind = record { kind = kind; index = 0; padding = 0; flags = 0; addrs = 0; pid = 0; seq = 0; errno = 0; use_count = 0; inits = 0; metrics = replicate 10 0 }
 
 -- the address is announced
 abbrev pub announced_header : IfaHeader

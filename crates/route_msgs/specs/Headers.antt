@@ -6,6 +6,10 @@ use Rattle.route_msgs.specs.declared.header.Header.{Header}
 use Rattle.route_msgs.specs.declared.header.IfaHeader.{IfaHeader}
 use Rattle.route_msgs.specs.declared.texts.Texts.{Texts}
 
+-- a header with no field set but its type
+abbrev pub blank : ℕ → Header
+blank kind = record { kind = kind; index = 0; padding = 0; flags = 0; addrs = 0; pid = 0; seq = 0; errno = 0; use_count = 0; inits = 0; metrics = replicate 10 0 }
+
 -- struct rt_metrics: locks, mtu, hopcount, expire, recvpipe, sendpipe, ssthresh, rtt, rttvar, pksent
 abbrev pub metric_fields : List ℕ → List Field
 metric_fields ms =

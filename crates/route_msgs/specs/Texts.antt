@@ -16,6 +16,10 @@ abbrev pub gate_text : Gate → List ℕ
 gate_text (gate.Inet n) = inet_text n
 gate_text (gate.Link text) = padded text
 
+-- no address
+abbrev pub no_texts : Texts
+no_texts = record { dst = None; gateway = None; netmask = None; genmask = None; ifp = None; ifa = None; author = None; brd = None }
+
 -- the addresses in the order of their bits
 abbrev pub in_order : Texts → List (Option (List ℕ))
 in_order ts = ts.dst ∷ ts.gateway ∷ ts.netmask ∷ ts.genmask ∷ ts.ifp ∷ ts.ifa ∷ ts.author ∷ ts.brd ∷ []

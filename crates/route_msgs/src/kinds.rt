@@ -8,9 +8,9 @@ pub const RTM_DELETE: u8 = 2;
 pub const RTM_CHANGE: u8 = 3;
 /// A route as it stands, or the wish to see it.
 pub const RTM_GET: u8 = 4;
-/// A redirect was followed.
+/// A redirect came; the errno says whether it was followed.
 pub const RTM_REDIRECT: u8 = 6;
-/// No route was found.
+/// A look-up found no route, or one whose clone could not be made.
 pub const RTM_MISS: u8 = 7;
 /// Metrics were locked, or are to be.
 pub const RTM_LOCK: u8 = 8;
