@@ -15,7 +15,7 @@ const ROUTED: u32 = 1;
 
 /// An address of an interface.
 #[derive(Drop)]
-pub struct Address {
+pub(crate) struct Address {
     number: u16,
     address: Inet,
     prefix: Prefix,
@@ -34,7 +34,7 @@ impl Model for Address {
 
 impl Address {
     /// An address with this number, whose route is not yet added.
-    pub fn new(number: u16, address: Inet, prefix: Prefix, cloning: bool) -> Address
+    pub(crate) fn new(number: u16, address: Inet, prefix: Prefix, cloning: bool) -> Address
         ensures { result ≡ new_address number address prefix cloning }
     {
         Address {
@@ -47,14 +47,14 @@ impl Address {
     }
 
     /// Whether it is this address.
-    pub fn is_at(&self, address: Inet) -> bool
+    pub(crate) fn is_at(&self, address: Inet) -> bool
         ensures { result ≡ is_at address self.now }
     {
         self.address == address
     }
 
     /// Whether this is its number.
-    pub fn has_number(&self, number: u16) -> bool
+    pub(crate) fn has_number(&self, number: u16) -> bool
         ensures { result ≡ is_numbered number self.now }
     {
         self.number == number
@@ -91,7 +91,7 @@ fn last_of_network(address: Inet, prefix: Prefix) -> Inet
 }
 
 /// What is known of the address with this number.
-pub fn facts(addresses: &[Address], number: u16) -> Option<Facts>
+pub(crate) fn facts(addresses: &[Address], number: u16) -> Option<Facts>
     ensures { result ≡ option_map facts_of (find (is_numbered number) addresses.now) }
 {
     for address in addresses {
@@ -103,7 +103,7 @@ pub fn facts(addresses: &[Address], number: u16) -> Option<Facts>
 }
 
 /// Marks the address with this number as one whose route was added.
-pub fn mark_routed(addresses: &mut [Address], number: u16)
+pub(crate) fn mark_routed(addresses: &mut [Address], number: u16)
     ensures { addresses.new ≡ map (with_routed_flag number) addresses.old }
 {
     for address in addresses {

@@ -13,7 +13,7 @@ use std::marker::Model;
 
 /// An interface with its addresses in the order in which they were added.
 #[derive(Drop)]
-pub struct Interface {
+pub(crate) struct Interface {
     name: Name,
     type_number: u8,
     link: ArrayVec<u8, 8>,
@@ -30,7 +30,7 @@ impl Model for Interface {
 
 impl Interface {
     /// An interface without addresses.
-    pub fn new(alloc: Global, name: Name, type_number: u8, link: &[u8]) -> Interface
+    pub(crate) fn new(alloc: Global, name: Name, type_number: u8, link: &[u8]) -> Interface
         requires { length link.now ≤ 8 }
         ensures { result ≡ attached name type_number link.now }
     {
@@ -45,7 +45,7 @@ impl Interface {
     }
 
     /// Whether this is its name.
-    pub fn has_name(&self, name: Name) -> bool
+    pub(crate) fn has_name(&self, name: Name) -> bool
         ensures { result ≡ is_named name self.now }
     {
         self.name.as_bytes() == name.as_bytes()
@@ -73,7 +73,7 @@ impl Interface {
     }
 
     /// Appends an address.
-    pub fn add(&mut self, address: Address) -> Result<(), AllocError>
+    pub(crate) fn add(&mut self, address: Address) -> Result<(), AllocError>
         ensures ok { OnOk result (self.new ≡ with_one_more address self.old) }
         ensures kept { OnErr result (self.new ≡ self.old) }
     {
@@ -84,7 +84,7 @@ impl Interface {
     }
 
     /// Its link-layer address as a message writes it, `index` being the interface's number.
-    pub fn link_text(&self, index: u16) -> Link
+    pub(crate) fn link_text(&self, index: u16) -> Link
         ensures { result ≡ link_text index self.now }
     {
         let name = self.name.as_bytes();
@@ -129,7 +129,7 @@ fn joined(head: &[u8], name: &[u8], link: &[u8], size: usize) -> ArrayVec<u8, 32
 }
 
 /// The place of the interface with this name.
-pub fn place_of(interfaces: &[Interface], name: Name) -> Option<usize>
+pub(crate) fn place_of(interfaces: &[Interface], name: Name) -> Option<usize>
     ensures { result ≡ position (is_named name) interfaces.now }
 {
     interfaces
@@ -138,7 +138,7 @@ pub fn place_of(interfaces: &[Interface], name: Name) -> Option<usize>
 }
 
 /// The place of the interface that has the address with this number.
-pub fn place_of_number(interfaces: &[Interface], number: u16) -> Option<usize>
+pub(crate) fn place_of_number(interfaces: &[Interface], number: u16) -> Option<usize>
     ensures { result ≡ position (holds_number number) interfaces.now }
 {
     interfaces
@@ -147,14 +147,14 @@ pub fn place_of_number(interfaces: &[Interface], number: u16) -> Option<usize>
 }
 
 /// Whether one of them has this name.
-pub fn is_there(interfaces: &[Interface], name: Name) -> bool
+pub(crate) fn is_there(interfaces: &[Interface], name: Name) -> bool
     ensures { result ≡ list_any (is_named name) interfaces.now }
 {
     interfaces.iter().any(|interface| interface.has_name(name))
 }
 
 /// Whether one of them has this address.
-pub fn is_in_use(interfaces: &[Interface], address: Inet) -> bool
+pub(crate) fn is_in_use(interfaces: &[Interface], address: Inet) -> bool
     ensures { result ≡ list_any (holds address) interfaces.now }
 {
     interfaces
@@ -163,7 +163,7 @@ pub fn is_in_use(interfaces: &[Interface], address: Inet) -> bool
 }
 
 /// What is known of the address with this number.
-pub fn facts(interfaces: &[Interface], number: u16) -> Option<Facts>
+pub(crate) fn facts(interfaces: &[Interface], number: u16) -> Option<Facts>
     ensures { result ≡ option_map facts_of (find (has_number number) (addresses_of interfaces.now)) }
 {
     for interface in interfaces {
@@ -176,7 +176,7 @@ pub fn facts(interfaces: &[Interface], number: u16) -> Option<Facts>
 }
 
 /// Marks the address with this number as one whose route was added.
-pub fn mark_routed(interfaces: &mut [Interface], number: u16)
+pub(crate) fn mark_routed(interfaces: &mut [Interface], number: u16)
     ensures { interfaces.new ≡ map (with_routed_flags number) interfaces.old }
 {
     for interface in interfaces {

@@ -7,7 +7,7 @@ use std::marker::Model;
 /// The messages that wait for a socket, one after another. A contract sees the messages, the oldest first, and for how many
 /// bytes more there is room.
 #[derive(Drop)]
-pub struct Queue {
+pub(crate) struct Queue {
     bytes: Vec<u8>,
 }
 
@@ -24,7 +24,7 @@ impl Model for Queue {
 
 impl Queue {
     /// A queue without a message.
-    pub fn new(alloc: Global) -> Queue
+    pub(crate) fn new(alloc: Global) -> Queue
         ensures { result.messages ≡ [] }
     {
         Queue {
@@ -33,7 +33,7 @@ impl Queue {
     }
 
     /// Makes room for so many bytes more.
-    pub fn reserve(&mut self, n: usize) -> Result<(), AllocError>
+    pub(crate) fn reserve(&mut self, n: usize) -> Result<(), AllocError>
         ensures ok { OnOk result (n ≤ self.new.room) }
         ensures messages { self.new.messages ≡ self.old.messages }
         ensures room { self.old.room ≤ self.new.room }
@@ -42,7 +42,7 @@ impl Queue {
     }
 
     /// Appends a message, for which there is room.
-    pub fn push(&mut self, message: &[u8])
+    pub(crate) fn push(&mut self, message: &[u8])
         requires message { IsMessage message.now }
         requires room { length message.now ≤ self.old.room }
         ensures messages { self.new.messages ≡ self.old.messages ++ message.now ∷ [] }
@@ -52,7 +52,7 @@ impl Queue {
     }
 
     /// Takes all messages out. The bytes are whole messages, one after another.
-    pub fn take(&mut self, alloc: Global) -> Vec<u8>
+    pub(crate) fn take(&mut self, alloc: Global) -> Vec<u8>
         ensures whole { IsWhole result.items }
         ensures messages { cut result.items ≡ self.old.messages }
         ensures empty { self.new.messages ≡ [] }

@@ -10,29 +10,29 @@ use std::alloc::{AllocError, Global};
 
 /// A message to be delivered.
 #[derive(Drop)]
-pub struct Message<'a> {
-    pub bytes: &'a [u8],
+pub(crate) struct Message<'a> {
+    pub(crate) bytes: &'a [u8],
     /// The family of the address that it is about.
-    pub family: u8,
+    pub(crate) family: u8,
     /// The writer whose reply it is, if it is one.
-    pub own: Option<Name>,
+    pub(crate) own: Option<Name>,
 }
 
 /// An open socket.
 #[derive(Drop)]
-pub struct Socket {
-    pub id: Name,
-    pub pid: u32,
+pub(crate) struct Socket {
+    pub(crate) id: Name,
+    pub(crate) pid: u32,
     /// The family whose messages it hears, or 0 for all.
-    pub protocol: u8,
+    pub(crate) protocol: u8,
     /// Whether it hears the replies to its own writes.
-    pub loopback: bool,
-    pub queue: Queue,
+    pub(crate) loopback: bool,
+    pub(crate) queue: Queue,
 }
 
 impl Socket {
     /// A socket as it is opened, with loopback on.
-    pub fn open(id: Name, pid: u32, protocol: u8, queue: Queue) -> Socket
+    pub(crate) fn open(id: Name, pid: u32, protocol: u8, queue: Queue) -> Socket
         requires { queue.messages ≡ [] }
         ensures { seen result ≡ opened id pid protocol }
     {
@@ -85,7 +85,7 @@ impl Socket {
     }
 
     /// Takes its messages out. The bytes are whole messages, one after another.
-    pub fn take(&mut self, alloc: Global) -> Vec<u8>
+    pub(crate) fn take(&mut self, alloc: Global) -> Vec<u8>
         ensures whole { IsWhole result.items }
         ensures messages { cut result.items ≡ self.old.queue.messages }
         ensures empty { seen self.new ≡ emptied (seen self.old) }
@@ -95,21 +95,21 @@ impl Socket {
 }
 
 /// The place of the socket with this id.
-pub fn place_of(sockets: &[Socket], id: Name) -> Option<usize>
+pub(crate) fn place_of(sockets: &[Socket], id: Name) -> Option<usize>
     ensures { result ≡ position (λ s. has_id id (seen s)) sockets.now }
 {
     sockets.iter().position(|socket| socket.has_id(id))
 }
 
 /// Whether a socket with this id is open.
-pub fn is_open(sockets: &[Socket], id: Name) -> bool
+pub(crate) fn is_open(sockets: &[Socket], id: Name) -> bool
     ensures { result ≡ list_any (λ s. has_id id (seen s)) sockets.now }
 {
     sockets.iter().any(|socket| socket.has_id(id))
 }
 
 /// Delivers a message to all sockets that hear it.
-pub fn deliver(sockets: &mut [Socket], message: &Message)
+pub(crate) fn deliver(sockets: &mut [Socket], message: &Message)
     requires message { IsMessage message.now.bytes.now }
     requires room { HaveRoom (length message.now.bytes.now) sockets.old }
     ensures delivered { map seen sockets.new ≡ delivered_to message.now.bytes.now message.now.family message.now.own (map seen sockets.old) }
@@ -121,7 +121,7 @@ pub fn deliver(sockets: &mut [Socket], message: &Message)
 }
 
 /// Makes room for so many bytes more in the queue of each.
-pub fn reserve(sockets: &mut [Socket], n: usize) -> Result<(), AllocError>
+pub(crate) fn reserve(sockets: &mut [Socket], n: usize) -> Result<(), AllocError>
     ensures ok { OnOk result (HaveRoom n sockets.new) }
     ensures seen { map seen sockets.new ≡ map seen sockets.old }
     ensures room { KeepRoomBut 0 sockets.old sockets.new }

@@ -26,11 +26,11 @@ const OTHER_ADDRESSES: u32 = bits::RTA_GATEWAY
 
 /// A GET of a destination.
 #[derive(Clone, Copy, Debug)]
-pub struct Asked {
+pub(crate) struct Asked {
     /// The address whose route is asked for.
-    pub destination: Inet,
+    pub(crate) destination: Inet,
     /// The header that asks.
-    pub header: Header,
+    pub(crate) header: Header,
 }
 
 impl Asked {
