@@ -1,6 +1,6 @@
 //! Laws of the definitions that the table's contracts cite. Each is the contract of a function that does nothing.
 ghost use Rattle.radix_tree.specs.Table.{IsTable};
-ghost use Rattle.radix_tree.specs.TableLaws.{BestIsGreatest, BestIsUnique, NoneAgrees, BestStays, WithIsTable, WithoutIsTable, WithThenWithout, WithoutThenWith};
+ghost use Rattle.radix_tree.specs.TableLaws.{PlaceIsOrder, PlaceIsOfOnePair, BestIsGreatest, BestIsUnique, NoneAgrees, BestStays, WithIsTable, WithoutIsTable, WithThenWithout, WithoutThenWith};
 
 use crate::routes::Table;
 
@@ -10,6 +10,13 @@ pub fn is_table<V>(table: &Table<V>)
 {
     let _ = &table.head;
 }
+
+/// Table order: keys rise, and for one key rank 33 comes first and then falling ranks. A pair's place is before another's
+/// exactly where it comes first in that order, and only one pair has it.
+pub fn table_order()
+    ensures order { PlaceIsOrder }
+    ensures one { PlaceIsOfOnePair }
+{}
 
 /// The best route of an address stands in the table, the address agrees with it, and with none of greater rank; no other
 /// route is so, and where there is none the address agrees with no route.
