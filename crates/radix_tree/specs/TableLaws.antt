@@ -4,7 +4,7 @@ use Rattle.mask_table.specs.Agreeing.{agrees}
 use Rattle.radix_tree.specs.Table.{place, IsRoute, IsTable, entry_at, without, with_entry, best_of}
 use Rattle.radix_tree.specs.declared.entry.Entry.{Entry}
 
--- a pair's place is before another's where its key is smaller, or where the keys are the same and its rank is greater
+-- a pair's place is before another's exactly where its key is smaller, or where the keys are the same and its rank is greater
 abbrev pub PlaceIsOrder : Type 0
 PlaceIsOrder = (key rank other_key other_rank : ℕ) → rank ≤ 33 → other_rank ≤ 33
     → (place key rank < place other_key other_rank) ↔ ((key < other_key) ⊎ ((key ≡ other_key) × (other_rank < rank)))

@@ -4,15 +4,15 @@ ghost use Rattle.radix_tree.specs.TableLaws.{PlaceIsOrder, PlaceIsOfOnePair, Bes
 
 use crate::routes::Table;
 
-/// What a table holds is in table order, no pair twice, and each key has no bit past its rank.
+/// What a table holds is in table order, no pair twice, and each key is an address with no bit past its rank.
 pub fn is_table<V>(table: &Table<V>)
     ensures { IsTable table.now.entries }
 {
     let _ = &table.head;
 }
 
-/// Table order: keys rise, and for one key rank 33 comes first and then falling ranks. A pair's place is before another's
-/// exactly where it comes first in that order, and only one pair has it.
+/// Table order: keys rise, and for one key rank 33 comes first and then falling ranks. The place of a key and a rank is before
+/// that of others exactly where they come first in this order, and no two pairs are at the same place.
 pub fn table_order()
     ensures order { PlaceIsOrder }
     ensures one { PlaceIsOfOnePair }
