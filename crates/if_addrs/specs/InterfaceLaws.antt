@@ -10,6 +10,7 @@ pub record IsLast (prefix address last : ℕ) : Type 0 where
   pub is_address : last < 2 ^ 32
   pub greatest : (other : ℕ) → front prefix other ≡ front prefix address → other ≤ last
 
--- what is taken for the last address of a network is that
+-- the number that stands for a network's last address is that one
 abbrev pub LastOfNetworkIsGreatest : Type 0
-LastOfNetworkIsGreatest = (prefix address : ℕ) → prefix ≤ 32 → address < 2 ^ 32 → IsLast prefix address (last_of_network prefix address)
+LastOfNetworkIsGreatest = (prefix address : ℕ) → prefix ≤ 32 → address < 2 ^ 32
+    → IsLast prefix address (last_of_network prefix address)
