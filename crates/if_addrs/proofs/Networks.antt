@@ -1,7 +1,9 @@
--- A network's last address is an address.
+-- A network's last address is an address, and the greatest of the network.
 use Rattle.std.proofs.Common.{◌≡◌, ℕ, ◌+◌, ◌-◌, ◌*◌, ◌/◌, ◌%◌, ◌^◌, ◌<◌, ◌≤◌, sym, ap, ◌∙◌, arith}
-use Rattle.std.proofs.lemmas.Nat.{pow_pos, pow-add, div_below}
-use Rattle.std.proofs.Math.Nat.{mul-le-mul_right, mod-le}
+use Rattle.std.proofs.lemmas.Nat.{pow_pos, pow-add, div_below, div-mul-add}
+use Rattle.std.proofs.Math.Nat.{mul-le-mul_right, mod-le, lt-div-mul-add}
+use Rattle.mask_table.specs.Agreeing.{front}
+use Rattle.if_addrs.specs.InterfaceLaws.{LastOfNetworkIsGreatest}
 
 -- with so many bits free
 pub network_fits : (a free : ℕ) → a < 2 ^ 32 → free ≤ 32 → (a / 2 ^ free + 1) * 2 ^ free ≤ 2 ^ 32
@@ -18,3 +20,24 @@ network_fits a free h few =
 -- also as it is computed in 64 bits
 pub network_cast : (a free : ℕ) → a < 2 ^ 32 → free ≤ 32 → (a / 2 ^ free + 1) * 2 ^ free % 2 ^ 64 - 1 < 2 ^ 32
 network_cast a free h few = omega (arith, network_fits a free h few, mod-le ((a / 2 ^ free + 1) * 2 ^ free) (2 ^ 64))
+
+-- the number before the next multiple has the quotient
+before_next : (n size : ℕ) → 0 < size → ((n + 1) * size - 1) / size ≡ n
+before_next n size some =
+    let last : (n + 1) * size - 1 ≡ n * size + (size - 1) = omega (arith, some) in
+    let less : size - 1 < size = omega (arith, some) in
+    ap (λ k. k / size) last ∙ div-mul-add n size (size - 1) less
+
+-- the law of a network's last address
+pub last_is_greatest : LastOfNetworkIsGreatest
+last_is_greatest prefix address h a =
+    let some : 0 < 2 ^ (32 - prefix) = pow_pos (32 - prefix) in
+    let fits : (front prefix address + 1) * 2 ^ (32 - prefix) ≤ 2 ^ 32 = network_fits address (32 - prefix) a (omega arith) in
+    record {
+      bits = before_next (front prefix address) (2 ^ (32 - prefix)) some;
+      is_address = omega (arith, fits);
+      greatest = λ other same.
+          let below : other < other / 2 ^ (32 - prefix) * 2 ^ (32 - prefix) + 2 ^ (32 - prefix) = lt-div-mul-add some in
+          let same_below : other < front prefix address * 2 ^ (32 - prefix) + 2 ^ (32 - prefix) = rw (← same) below in
+          omega (arith, same_below);
+    }

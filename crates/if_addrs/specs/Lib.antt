@@ -1,3 +1,4 @@
 pub mod Facts
+pub mod InterfaceLaws
 pub mod Interfaces
 pub mod Numbered

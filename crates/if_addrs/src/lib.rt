@@ -4,6 +4,7 @@
 mod address;
 mod interface;
 mod interfaces;
+pub mod laws;
 mod link_address;
 mod reference;
 #[cfg(test)]

@@ -1,4 +1,5 @@
 pub mod Open
 pub mod Queue
+pub mod QueueLaws
 pub mod SocketLaws
 pub mod Sockets

@@ -1,5 +1,6 @@
-//! Laws of what contracts say of the sockets.
+//! Laws of what contracts say of the sockets, and of the bytes of their messages.
 
+ghost use Rattle.listeners.specs.QueueLaws.{JoinedIsCut, JoinedIsWhole};
 ghost use Rattle.listeners.specs.SocketLaws.{ReadingDisturbsNoOther, DeliveringOnlyAppends};
 
 /// A socket that reads its messages leaves every other as it was.
@@ -10,4 +11,10 @@ pub fn reading_disturbs_no_other()
 /// A delivery changes nothing of any socket but its messages, and only adds the new one at their end.
 pub fn delivering_only_appends()
     ensures { DeliveringOnlyAppends }
+{}
+
+/// Messages whose bytes are joined are cut into the same messages again, and the bytes are whole messages.
+pub fn joined_is_cut()
+    ensures same { JoinedIsCut }
+    ensures whole { JoinedIsWhole }
 {}

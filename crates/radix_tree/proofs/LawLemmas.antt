@@ -4,9 +4,19 @@ use Rattle.std.proofs.lemmas.Bool.{cases_lt}
 use Rattle.std.proofs.lemmas.Bool.Decides.{nat_tests}
 use Rattle.mask_table.specs.Agreeing.{agrees, masked, front}
 use Rattle.radix_tree.specs.Table.{place, place_of, IsRoute, RisesFrom, IsTable, is_at, entry_at, without, with_entry, before, behind, agreeing, greater, greatest, best_of}
-use Rattle.radix_tree.specs.TableLaws.{StandsIn, Agrees, BestIsGreatest, BestIsUnique, NoneAgrees, BestStays, WithIsTable, WithoutIsTable, WithThenWithout, WithoutThenWith}
+use Rattle.radix_tree.specs.TableLaws.{PlaceIsOrder, PlaceIsOfOnePair, StandsIn, Agrees, BestIsGreatest, BestIsUnique, NoneAgrees, BestStays, WithIsTable, WithoutIsTable, WithThenWithout, WithoutThenWith}
 use Rattle.radix_tree.specs.declared.entry.Entry.{Entry}
 use Rattle.radix_tree.proofs.TableLemmas.{rises_filter, before_none, behind_all, place_same, rises_with, with_later, with_sooner, with_here, at_place, not_at, at_its_place, without_absent, absent_past, sooner, here, later, beside}
+
+-- the laws of table order
+pub place_is_order : PlaceIsOrder
+place_is_order key rank other_key other_rank most other_most = (
+  (λ before. elim (cases_lt key other_key) [ inl less ↦ inl less | inr least ↦ inr (omega arith, omega arith) ]),
+  (λ order. elim order [ inl less ↦ omega arith | inr same ↦ omega (arith, same.0, same.1) ]),
+)
+
+pub place_is_of_one_pair : PlaceIsOfOnePair
+place_is_of_one_pair key rank other_key other_rank most other_most same = place_same key rank other_key other_rank most other_most same
 
 -- an entry has its own pair
 is_at_self : {V : Type 0} (e : Entry V) → is_at e.key e.rank e ≡ true

@@ -12,7 +12,7 @@ use Rattle.radix_tree.proofs.HeldLemmas.{again, found, put_over}
 -- its order stays, which doesn't look at values
 rises_lent : {V : Type 0} (low : ℕ) (a b : List (Lodged V)) (value : V) → RisesFrom low (entries_of (a ++ b)) → RisesFrom low (entries_of (a ++ with_first b value))
 rises_lent low [] [] value r = tt
-rises_lent low [] (l ∷ ls) value r = (r.0, record { rank = r.1.rank; key = r.1.key }, r.2)
+rises_lent low [] (l ∷ ls) value r = (r.0, record { rank = r.1.rank; address = r.1.address; key = r.1.key }, r.2)
 rises_lent low (x ∷ xs) b value r = (r.0, r.1, rises_lent (place_of x.entry + 1) xs b value r.2)
 
 -- and so do its rooms

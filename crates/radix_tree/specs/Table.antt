@@ -1,6 +1,6 @@
 -- The routing table as contracts see it: a list of entries in table order, and what is found in it. An address is a number
 -- below 2^32; a rank is 0 to 32 for a mask of that many bits, or 33 for a route without a mask.
-use Rattle.std.specs.Prelude.{◌≡◌, ℕ, ◌+◌, ◌-◌, ◌*◌, ◌≤◌, Bool, true, not, ◌&&◌, ◌==◌, nat_lt, if◌then◌else◌, List, [], ◌∷◌, ◌++◌, filter, find, count_by, Option, Some, None}
+use Rattle.std.specs.Prelude.{◌≡◌, ℕ, ◌+◌, ◌-◌, ◌*◌, ◌^◌, ◌<◌, ◌≤◌, Bool, true, not, ◌&&◌, ◌==◌, nat_lt, if◌then◌else◌, List, [], ◌∷◌, ◌++◌, filter, find, count_by, Option, Some, None}
 use Rattle.std.specs.Borrow.{Bor}
 use Rattle.mask_table.specs.Agreeing.{agrees, masked}
 use Rattle.radix_tree.specs.declared.entry.Entry.{Entry}
@@ -12,9 +12,10 @@ place key rank = key * 34 + (33 - rank)
 abbrev pub place_of : {V : Type 0} → Entry V → ℕ
 place_of e = place e.key e.rank
 
--- an entry's rank is one, and its key has no bit past it
+-- an entry's rank is one, and its key is an address that has no bit past it
 pub record IsRoute {V : Type 0} (e : Entry V) : Type 0 where
   pub rank : e.rank ≤ 33
+  pub address : e.key < 2 ^ 32
   pub key : masked e.rank e.key ≡ e.key
 
 -- the entries are routes that stand at or past this place, each at a later place than the one before it

@@ -1,8 +1,18 @@
--- What follows from the definitions of a table, of its best routes, and of a table with or without an entry.
-use Rattle.std.specs.Prelude.{◌≡◌, ℕ, ◌≤◌, true, false, List, Some, None}
+-- What follows from the definitions of table order, of a table, of its best routes, and of a table with or without an entry.
+use Rattle.std.specs.Prelude.{◌≡◌, ℕ, ◌<◌, ◌≤◌, ◌⊎◌, ◌↔◌, true, false, List, Some, None}
 use Rattle.mask_table.specs.Agreeing.{agrees}
-use Rattle.radix_tree.specs.Table.{IsRoute, IsTable, entry_at, without, with_entry, best_of}
+use Rattle.radix_tree.specs.Table.{place, IsRoute, IsTable, entry_at, without, with_entry, best_of}
 use Rattle.radix_tree.specs.declared.entry.Entry.{Entry}
+
+-- a pair's place is before another's exactly where its key is smaller, or where the keys are the same and its rank is greater
+abbrev pub PlaceIsOrder : Type 0
+PlaceIsOrder = (key rank other_key other_rank : ℕ) → rank ≤ 33 → other_rank ≤ 33
+    → (place key rank < place other_key other_rank) ↔ ((key < other_key) ⊎ ((key ≡ other_key) × (other_rank < rank)))
+
+-- pairs at the same place are the same pair
+abbrev pub PlaceIsOfOnePair : Type 0
+PlaceIsOfOnePair = (key rank other_key other_rank : ℕ) → rank ≤ 33 → other_rank ≤ 33
+    → place key rank ≡ place other_key other_rank → (key ≡ other_key) × (rank ≡ other_rank)
 
 -- the entry stands in the table
 abbrev pub StandsIn : {V : Type 0} → List (Entry V) → Entry V → Type 0

@@ -1,5 +1,5 @@
 //! What a table holds.
-ghost use Rattle.std.specs.Prelude.{◌≡◌, ◌≤◌};
+ghost use Rattle.std.specs.Prelude.{◌≡◌, ◌^◌, ◌<◌, ◌≤◌};
 ghost use Rattle.radix_tree.specs.Table.{place};
 
 use mask_table::Rank;
@@ -25,6 +25,7 @@ pub(crate) struct Lodged<V> {
 pub(crate) fn place_of(key: Inet, rank: Rank) -> u64
     ensures place { result ≡ place key rank }
     ensures most { rank ≤ 33 }
+    ensures address { key < 2 ^ 32 }
 {
     u64::from(key.number()) * 34 + u64::from(33 - rank.number())
 }

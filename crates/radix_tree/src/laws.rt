@@ -1,15 +1,22 @@
 //! Laws of the definitions that the table's contracts cite. Each is the contract of a function that does nothing.
 ghost use Rattle.radix_tree.specs.Table.{IsTable};
-ghost use Rattle.radix_tree.specs.TableLaws.{BestIsGreatest, BestIsUnique, NoneAgrees, BestStays, WithIsTable, WithoutIsTable, WithThenWithout, WithoutThenWith};
+ghost use Rattle.radix_tree.specs.TableLaws.{PlaceIsOrder, PlaceIsOfOnePair, BestIsGreatest, BestIsUnique, NoneAgrees, BestStays, WithIsTable, WithoutIsTable, WithThenWithout, WithoutThenWith};
 
 use crate::routes::Table;
 
-/// What a table holds is in table order, no pair twice, and each key has no bit past its rank.
+/// What a table holds is in table order, no pair twice, and each key is an address with no bit past its rank.
 pub fn is_table<V>(table: &Table<V>)
     ensures { IsTable table.now.entries }
 {
     let _ = &table.head;
 }
+
+/// Table order: keys rise, and for one key rank 33 comes first and then falling ranks. The place of a key and a rank is before
+/// that of others exactly where they come first in this order, and no two pairs are at the same place.
+pub fn table_order()
+    ensures order { PlaceIsOrder }
+    ensures one { PlaceIsOfOnePair }
+{}
 
 /// The best route of an address stands in the table, the address agrees with it, and with none of greater rank; no other
 /// route is so, and where there is none the address agrees with no route.

@@ -28,7 +28,7 @@ invariant_of-self-2 g c =
     let absent : entry_at c.args.key c.args.rank (entries_of ls) ≡ None = none_is _
     (there c.args.key c.args.rank c.place_of.result ls c.cut.new.tail _ c.self.invariant.table refl c.place_of.ensures.most c.place_of.ensures.place c.cut.ensures.back
     ∙ sym c.begins_at.ensures ∙ c.if-begins_at.false) in
-    let route : IsRoute l.entry = record { rank = c.place_of.ensures.most; key = c.requires.masked } in
+    let route : IsRoute l.entry = record { rank = c.place_of.ensures.most; address = c.place_of.ensures.address; key = c.requires.masked } in
     let numbers : numbers_of ls ≡ c.args.self.now.numbers = ap (λ (t : Contents g.row.V.Denot). t.numbers) c.self.view_is in
     let next : c.self.inside.last + 1 ≡ c.args.self.now.next = ap (λ (t : Contents g.row.V.Denot). t.next) c.self.view_is in
     let made : c.room.inside.number ≤ c.self.inside.last = omega (arith, c.requires.made) in
@@ -52,7 +52,7 @@ returns-clause-ok g c =
     let absent : entry_at c.args.key c.args.rank (entries_of ls) ≡ None = none_is _
     (there c.args.key c.args.rank c.place_of.result ls c.cut.new.tail _ c.self.invariant.table refl c.place_of.ensures.most c.place_of.ensures.place c.cut.ensures.back
     ∙ sym c.begins_at.ensures ∙ c.if-begins_at.false) in
-    let route : IsRoute l.entry = record { rank = c.place_of.ensures.most; key = c.requires.masked } in
+    let route : IsRoute l.entry = record { rank = c.place_of.ensures.most; address = c.place_of.ensures.address; key = c.requires.masked } in
     let same : entries_of ls ≡ c.args.self.now.entries = ap (λ (t : Contents g.row.V.Denot). t.entries) c.self.view_is in
     rw (c.push.ensures, c.cut.ensures.front, c.cut.ensures.back, c.place_of.ensures.place, ← same)
     (put_in l 0 ls c.self.invariant.table route absent)
