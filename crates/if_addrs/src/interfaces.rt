@@ -164,7 +164,7 @@ impl Interfaces {
         self.interfaces[usize::from(index) - 1].link_text(index)
     }
 
-    /// Marks an IPv4 address of an interface as one whose route was added, which sets bit 1 of its flag word.
+    /// Marks an IPv4 address of an interface as one whose route was added, which sets 0x1 in its flag word.
     pub fn mark_routed(&mut self, ifa: IfaRef)
         requires { IsSome (address_of ifa self.old) }
         ensures { self.new ≡ marked_routed ifa self.old }

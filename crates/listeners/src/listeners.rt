@@ -7,7 +7,7 @@ ghost use Rattle.listeners.specs.Sockets.{listening, has_id, listen_fault, opene
 use crate::queue::Queue;
 use crate::socket::{self, Message, Socket, is_open, place_of};
 use sock_addrs::{Errno, Name};
-use std::alloc::{AllocError, Global};
+use std::alloc::Global;
 use std::marker::Model;
 
 /// How many sockets may be open.
@@ -95,12 +95,15 @@ impl Listeners {
         }
     }
 
-    /// Makes room for `n` bytes more in each queue.
-    pub fn reserve(&mut self, n: usize) -> Result<(), AllocError>
+    /// Makes room for `n` bytes more in each queue. ENOBUFS for want of memory.
+    pub fn reserve(&mut self, n: usize) -> Result<(), Errno>
         ensures ok { OnOk result (self.new ≡ listening self.old.sockets n) }
+        ensures refused { IfErr result (λ e. e ≡ Errno.ENOBUFS) }
         ensures kept { OnErr result (self.new ≡ self.old) }
     {
-        socket::reserve(&mut self.sockets, n)?;
+        if socket::reserve(&mut self.sockets, n).is_err() {
+            return Err(Errno::ENOBUFS);
+        }
         self.reserved = n;
         Ok(())
     }

@@ -10,7 +10,7 @@ ghost use Rattle.radix_tree.specs.Lending.{lends_value};
 use crate::chain::{Cell, Chain};
 use crate::entry::{Entry, Lodged, place_of};
 use crate::routes::{Room, Table};
-use crate::visits::Visits;
+use crate::visits::{Number, Visits};
 use mask_table::Rank;
 use sock_addrs::Inet;
 use std::alloc::AllocError;
@@ -63,14 +63,8 @@ impl<V: Drop> Table<V> {
         ensures next { self.new.next ≡ self.old.next }
         ensures turn { self.new.turn ≡ self.old.turn + 1 }
     {
-        self.turn.raise();
-        let mut visits = Visits::of(&self.turn);
-        cut(
-            &mut self.head,
-            &mut self.tail,
-            place_of(key, rank),
-            &mut visits,
-        );
+        let place = place_of(key, rank);
+        cut(&mut self.head, &mut self.tail, &mut self.turn, place);
         if self.tail.begins_at(key, rank) {
             return Err((room, value));
         }
@@ -90,14 +84,8 @@ impl<V: Drop> Table<V> {
         ensures next { self.new.next ≡ self.old.next }
         ensures turn { self.new.turn ≡ self.old.turn + 1 }
     {
-        self.turn.raise();
-        let mut visits = Visits::of(&self.turn);
-        cut(
-            &mut self.head,
-            &mut self.tail,
-            place_of(key, rank),
-            &mut visits,
-        );
+        let place = place_of(key, rank);
+        cut(&mut self.head, &mut self.tail, &mut self.turn, place);
         if !self.tail.begins_at(key, rank) {
             return None;
         }
@@ -110,14 +98,8 @@ impl<V: Drop> Table<V> {
         ensures* writes { sem 𝓛 (lends_value V.row key rank self.entry result) }
         ensures value { option_map (λ v. v.now) result ≡ option_map (λ e. e.value) (entry_at key rank self.old.entries) }
     {
-        self.turn.raise();
-        let mut visits = Visits::of(&self.turn);
-        cut(
-            &mut self.head,
-            &mut self.tail,
-            place_of(key, rank),
-            &mut visits,
-        );
+        let place = place_of(key, rank);
+        cut(&mut self.head, &mut self.tail, &mut self.turn, place);
         if !self.tail.begins_at(key, rank) {
             return None;
         }
@@ -125,17 +107,19 @@ impl<V: Drop> Table<V> {
     }
 }
 
-/// Cuts a table's list at a place: its front is then what stands before the place, and its back all else.
-fn cut<V: Drop>(head: &mut Chain<V>, tail: &mut Chain<V>, place: u64, visits: &mut Visits)
+/// Begins a turn, and cuts a table's list at a place: its front is then what stands before the place, and its back all else.
+fn cut<V: Drop>(head: &mut Chain<V>, tail: &mut Chain<V>, turn: &mut Number, place: u64)
     requires { RisesFrom 0 (entries_of (head.old ++ tail.old)) }
     ensures front { head.new ≡ below place (head.old ++ tail.old) }
     ensures back { tail.new ≡ past place (head.old ++ tail.old) }
-    ensures counter { visits.new.turn ≡ visits.old.turn }
+    ensures turn { turn.new ≡ turn.old + 1 }
 {
+    turn.raise();
+    let mut visits = Visits::of(turn);
     let front = mem::replace(head, Chain::new());
     let back = mem::replace(tail, Chain::new());
     let whole = front.poured(Chain::new()).poured(back);
-    let (front, back) = whole.split(place, visits);
+    let (front, back) = whole.split(place, &mut visits);
     *head = front.poured(Chain::new());
     *tail = back;
 }

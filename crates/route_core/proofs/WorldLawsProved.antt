@@ -1,6 +1,6 @@
 -- What a step that is refused leaves as it was, command by command.
 use Rattle.std.proofs.Common.{◌≡◌, ◌≢◌, ℕ, Bool, true, false, List, [], ◌∷◌, inl, inr, refl, sym, ap, subst}
-use Rattle.std.specs.Prelude.{Option, Some, None, Result, Ok, Err, ⊤, IfSome, if◌then◌else◌, is_some, length, nat_le, not, ◌+◌}
+use Rattle.std.specs.Prelude.{Option, Some, None, Result, Ok, Err, ⊤, ◌⊎◌, IfSome, if◌then◌else◌, is_some, length, nat_le, not, ◌+◌}
 use Rattle.std.specs.List.{list_any}
 use Rattle.sock_addrs.specs.declared.errno.Errno.{Errno}
 use Rattle.sock_addrs.specs.declared.errno.Errno.TheVariants.{EADDRINUSE, EBADF, EEXIST, EMFILE, ENOBUFS, ENOSPC, ENXIO}
@@ -10,8 +10,8 @@ use Rattle.listeners.specs.Sockets.{Socket, has_id, listen_fault, messages_of, p
 use Rattle.route_core.specs.Step.{Stepped, stepped, refused, done, told_refusal, attach_step, add_address_step, add_route_step, open_step, read_step, reply_step, route_to_network, write_step}
 use Rattle.radix_tree.specs.Table.{best_of, entry_at}
 use Rattle.route_core.specs.World.{World}
-use Rattle.route_core.specs.WorldLaws.{NoMemoryKeepsAll, RefusalKeepsInterfaces, RefusalKeepsRoutes}
-use Rattle.route_core.specs.Writes.{destination, message_rules, reply_of, reply_to_get, unless_refused}
+use Rattle.route_core.specs.WorldLaws.{HeardAtMostOne, KeepsAddress, NoMemoryKeepsAll, RefusalKeepsInterfaces, RefusalKeepsRoutes, RefusalKeepsSockets}
+use Rattle.route_core.specs.Writes.{destination, message_rules, refused_reply, reply_of, reply_to_get, unless_refused}
 use Rattle.route_msgs.specs.Headers.{header_in}
 use Rattle.route_msgs.specs.declared.header.Header.{Header}
 use Rattle.radix_tree.specs.declared.entry.Entry.{Entry}
@@ -58,43 +58,48 @@ message_rules-found m = first_fault-all (λ (r : Refusal). IsFound r.errno) (mes
 
 -- ---- what a refusal leaves
 
--- a step that is refused has left the routes, and the interfaces but for an address that is there; and it was not for want of memory
-record Spares (old : World) (s : Stepped) : Type 0 where
-  on : (e : Errno) → s.answer ≡ Refused e → (s.world.table ≡ old.table) × (e ≢ EEXIST → s.world.interfaces ≡ old.interfaces) × IsFound e
+-- the world that a command leaves which is refused, and not for want of memory
+abbrev Spared : Command → World → World → Errno → Type 0
+Spared c old new e =
+    (new.table ≡ old.table) × ((new.interfaces ≡ old.interfaces) ⊎ KeepsAddress c e old new) × HeardAtMostOne old.sockets new.sockets × IsFound e
 
-spares-refused : (old w : World) (x : Errno) → w.table ≡ old.table → (x ≢ EEXIST → w.interfaces ≡ old.interfaces) → IsFound x → Spares old (refused w x)
-spares-refused old w x table interfaces found = record { on = λ e h. (table, λ ne. interfaces (λ is. ne (cc)), λ is. found (cc)) }
+record Spares (c : Command) (old : World) (s : Stepped) : Type 0 where
+  on : (e : Errno) → s.answer ≡ Refused e → Spared c old s.world e
 
-spares-done : (old w : World) → Spares old (done w)
-spares-done old w = record { on = λ e h. absurd (cc) }
+spares-refused : (c : Command) (old w : World) (x : Errno) → Spared c old w x → Spares c old (refused w x)
+spares-refused c old w x spared = record { on = λ e h. let is : x ≡ e = cc in subst (Spared c old w) is spared }
 
-spares-fault : (old : World) (step : Option Errno → Stepped) (fault : Option Errno) → ((x : Errno) → step (Some x) ≡ refused old x) → Spares old (step None) → IfSome fault IsFound → Spares old (step fault)
-spares-fault old step None by none found = none
-spares-fault old step (Some x) by none found = subst (Spares old) (sym (by x)) (spares-refused old old x refl (λ ne. refl) found)
+spares-same : (c : Command) (w : World) (x : Errno) → IsFound x → Spares c w (refused w x)
+spares-same c w x found = spares-refused c w w x (refl, inl refl, inl refl, found)
 
-spares-route : (old w new : World) (there : Bool) → w.table ≡ old.table → Spares old (if there then refused w EEXIST else done new)
-spares-route old w new true table = spares-refused old w EEXIST table (λ ne. absurd (ne refl)) (λ h. absurd (cc))
-spares-route old w new false table = spares-done old new
+spares-done : (c : Command) (old w : World) → Spares c old (done w)
+spares-done c old w = record { on = λ e h. absurd (cc) }
 
-spares-add_route : (old w : World) (a : Address) (cloning : Bool) → w.table ≡ old.table → Spares old (add_route_step w a cloning)
-spares-add_route old w a cloning table =
+spares-fault : (c : Command) (old : World) (step : Option Errno → Stepped) (fault : Option Errno) → ((x : Errno) → step (Some x) ≡ refused old x) → Spares c old (step None) → IfSome fault IsFound → Spares c old (step fault)
+spares-fault c old step None by none found = none
+spares-fault c old step (Some x) by none found = subst (Spares c old) (sym (by x)) (spares-same c old x found)
+
+spares-route : (c : Command) (old w new : World) (there : Bool) → Spared c old w EEXIST → Spares c old (if there then refused w EEXIST else done new)
+spares-route c old w new true spared = spares-refused c old w EEXIST spared
+spares-route c old w new false spared = spares-done c old new
+
+spares-add_route : (c : Command) (old w : World) (a : Address) (cloning : Bool) → Spared c old w EEXIST → Spares c old (add_route_step w a cloning)
+spares-add_route c old w a cloning spared =
     let r = route_to_network a cloning in
-    spares-route old w _ (is_some (entry_at r.key r.rank w.table)) table
+    spares-route c old w _ (is_some (entry_at r.key r.rank w.table)) spared
 
-told_refusal-spares : (old : World) (id : List ℕ) (pid : ℕ) (m : List ℕ) (errno : Errno) (family : Option ℕ)
-    → let w = told_refusal old id pid m (record { errno = errno; family = family }) in (w.table ≡ old.table) × (w.interfaces ≡ old.interfaces)
-told_refusal-spares old id pid m errno None = (refl, refl)
-told_refusal-spares old id pid m errno (Some family) = (refl, refl)
+told_refusal-spares : (c : Command) (old : World) (id : List ℕ) (pid : ℕ) (m : List ℕ) (errno : Errno) (family : Option ℕ) → IsFound errno
+    → Spared c old (told_refusal old id pid m (record { errno = errno; family = family })) errno
+told_refusal-spares c old id pid m errno None found = (refl, inl refl, inl refl, found)
+told_refusal-spares c old id pid m errno (Some family) found = (refl, inl refl, inr (refused_reply errno pid m, family, Some id, refl), found)
 
 abbrev FoundErr : Result (List ℕ) Refusal → Type 0
 FoundErr (Ok reply) = ⊤
 FoundErr (Err r) = IsFound r.errno
 
-spares-reply : (old : World) (id : List ℕ) (pid : ℕ) (m : List ℕ) (reply : Result (List ℕ) Refusal) → FoundErr reply → Spares old (reply_step old id pid m reply)
-spares-reply old id pid m (Ok reply) found = spares-done old _
-spares-reply old id pid m (Err r) found =
-    let kept = told_refusal-spares old id pid m r.errno r.family in
-    spares-refused old (told_refusal old id pid m r) r.errno kept.0 (λ ne. kept.1) found
+spares-reply : (c : Command) (old : World) (id : List ℕ) (pid : ℕ) (m : List ℕ) (reply : Result (List ℕ) Refusal) → FoundErr reply → Spares c old (reply_step old id pid m reply)
+spares-reply c old id pid m (Ok reply) found = spares-done c old _
+spares-reply c old id pid m (Err r) found = spares-refused c old (told_refusal old id pid m r) r.errno (told_refusal-spares c old id pid m r.errno r.family found)
 
 reply_to_get-found : (asked : Header) (pid : ℕ) (r : Option (Entry Route)) → FoundErr (reply_to_get asked pid r)
 reply_to_get-found asked pid None = λ h. absurd (cc)
@@ -107,33 +112,40 @@ unless_refused-found (Some r) reply p q = p
 reply_of-found : (w : World) (pid : ℕ) (m : List ℕ) → FoundErr (reply_of w.table pid m)
 reply_of-found w pid m = unless_refused-found (first_fault (message_rules m)) _ (message_rules-found m) (reply_to_get-found (header_in m) pid (best_of (destination m) w.table))
 
-spares-write : (old : World) (id m : List ℕ) (pid : Option ℕ) → Spares old (write_step old id m pid)
-spares-write old id m None = spares-refused old old EBADF refl (λ ne. refl) (λ h. absurd (cc))
-spares-write old id m (Some pid) = spares-reply old id pid m (reply_of old.table pid m) (reply_of-found old pid m)
+spares-write : (c : Command) (old : World) (id m : List ℕ) (pid : Option ℕ) → Spares c old (write_step old id m pid)
+spares-write c old id m None = spares-same c old EBADF (λ h. absurd (cc))
+spares-write c old id m (Some pid) = spares-reply c old id pid m (reply_of old.table pid m) (reply_of-found old pid m)
 
-spares-read : (old : World) (id : List ℕ) (messages : Option (List (List ℕ))) → Spares old (read_step old id messages)
-spares-read old id None = spares-refused old old EBADF refl (λ ne. refl) (λ h. absurd (cc))
-spares-read old id (Some messages) = record { on = λ e h. absurd (cc) }
+spares-read : (c : Command) (old : World) (id : List ℕ) (messages : Option (List (List ℕ))) → Spares c old (read_step old id messages)
+spares-read c old id None = spares-same c old EBADF (λ h. absurd (cc))
+spares-read c old id (Some messages) = record { on = λ e h. absurd (cc) }
 
-step-spares : (old : World) (c : Command) → Spares old (stepped old c)
+step-spares : (old : World) (c : Command) → Spares c old (stepped old c)
 unfolding stepped
 step-spares old (Attach name type_number link) =
-    spares-fault old (attach_step old name type_number link) (attach_fault name old.interfaces) (λ x. refl) (spares-done old _) (attach_fault-found name old.interfaces)
+    let c = Attach name type_number link in
+    spares-fault c old (attach_step old name type_number link) (attach_fault name old.interfaces) (λ x. refl) (spares-done c old _) (attach_fault-found name old.interfaces)
 step-spares old (AddAddress name address prefix cloning) =
-    spares-fault old (add_address_step old name address prefix cloning) (addr_fault name address old.interfaces) (λ x. refl)
-    (spares-add_route old (record old { interfaces = with_address name address prefix cloning old.interfaces }) (new_address (added old.interfaces + 1) address prefix cloning) cloning refl)
+    let c = AddAddress name address prefix cloning in
+    spares-fault c old (add_address_step old name address prefix cloning) (addr_fault name address old.interfaces) (λ x. refl)
+    (spares-add_route c old (record old { interfaces = with_address name address prefix cloning old.interfaces }) (new_address (added old.interfaces + 1) address prefix cloning) cloning
+    (refl, inr refl, inl refl, λ h. absurd (cc)))
     (addr_fault-found name address old.interfaces)
 step-spares old (Open id pid protocol) =
-    spares-fault old (open_step old id pid protocol) (listen_fault id old.sockets) (λ x. refl) (spares-done old _) (listen_fault-found id old.sockets)
-step-spares old (Write id m) = spares-write old id m (pid_of id old.sockets)
-step-spares old (Read id) = spares-read old id (messages_of id old.sockets)
+    let c = Open id pid protocol in
+    spares-fault c old (open_step old id pid protocol) (listen_fault id old.sockets) (λ x. refl) (spares-done c old _) (listen_fault-found id old.sockets)
+step-spares old (Write id m) = spares-write (Write id m) old id m (pid_of id old.sockets)
+step-spares old (Read id) = spares-read (Read id) old id (messages_of id old.sockets)
 
 pub refusal_keeps_routes : RefusalKeepsRoutes
 refusal_keeps_routes w c errno h = ((step-spares w c).on errno h).0
 
 pub refusal_keeps_interfaces : RefusalKeepsInterfaces
-refusal_keeps_interfaces w c errno h ne = ((step-spares w c).on errno h).1 ne
+refusal_keeps_interfaces w c errno h = ((step-spares w c).on errno h).1
+
+pub refusal_keeps_sockets : RefusalKeepsSockets
+refusal_keeps_sockets w c errno h = ((step-spares w c).on errno h).2
 
 pub no_memory_keeps_all : NoMemoryKeepsAll
-no_memory_keeps_all old c new (inl is) = absurd (((step-spares old c).on ENOBUFS (ap (λ (s : Stepped). s.answer) is)).2 refl)
+no_memory_keeps_all old c new (inl is) = absurd (((step-spares old c).on ENOBUFS (ap (λ (s : Stepped). s.answer) is)).3 refl)
 no_memory_keeps_all old c new (inr (takes, answer, same)) = same

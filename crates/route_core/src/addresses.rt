@@ -17,7 +17,7 @@ const NEW_ADDRESS_BYTES: usize = 512;
 impl World {
     /// Gives an interface an address, and adds the route to its network; the sockets hear of both. Refused in this order:
     /// ENXIO: there is no such interface; EADDRINUSE: an interface holds the address; ENOSPC: 65,535 addresses were added;
-    /// EEXIST: the route is there, and the address stays without one.
+    /// ENOBUFS: there is no memory; EEXIST: the route is there, and the address stays without one.
     pub fn add_address(
         &mut self,
         name: Name,

@@ -1,14 +1,19 @@
 //! Laws of the machine's step.
-ghost use Rattle.route_core.specs.WorldLaws.{NoMemoryKeepsAll, RefusalKeepsInterfaces, RefusalKeepsRoutes};
+ghost use Rattle.route_core.specs.WorldLaws.{NoMemoryKeepsAll, RefusalKeepsInterfaces, RefusalKeepsRoutes, RefusalKeepsSockets};
 
 /// A refused request leaves every route as it was.
 pub fn refusal_keeps_routes()
     ensures { RefusalKeepsRoutes }
 {}
 
-/// A refused request leaves every interface as it was, but that an address whose route is there already is kept.
+/// A refused request leaves every interface as it was, but that an `addr` whose route is there already keeps its address.
 pub fn refusal_keeps_interfaces()
     ensures { RefusalKeepsInterfaces }
+{}
+
+/// A refused request leaves every socket as it was, but that one message may be delivered: the reply to a refused write.
+pub fn refusal_keeps_sockets()
+    ensures { RefusalKeepsSockets }
 {}
 
 /// A step that answers that there is no memory has changed nothing at all.

@@ -65,7 +65,7 @@ impl World {
         }
     }
 
-    /// Attaches an interface. EEXIST: the name is there; ENOSPC: there are 64 interfaces.
+    /// Attaches an interface. EEXIST: the name is there; ENOSPC: there are 64 interfaces; ENOBUFS: there is no memory.
     pub fn attach(&mut self, name: Name, type_number: u8, link: &LinkAddress) -> Answer
         ensures { Steps self.old (Attach name type_number link.now) result self.new }
     {
@@ -75,7 +75,7 @@ impl World {
         Answer::Done
     }
 
-    /// Opens a socket. EEXIST: the id is open; EMFILE: 64 sockets are open.
+    /// Opens a socket. EEXIST: the id is open; EMFILE: 64 sockets are open; ENOBUFS: there is no memory.
     pub fn listen(&mut self, id: Name, pid: u32, protocol: u8) -> Answer
         ensures { Steps self.old (Open id pid protocol) result self.new }
     {

@@ -14,7 +14,6 @@ use crate::{Answer, World, messages};
 use arrayvec::ArrayVec;
 use route_msgs::patch_u32;
 use sock_addrs::{Errno, Name};
-use std::alloc::AllocError;
 
 /// Where a message has its pid.
 const PID_OFFSET: usize = 16;
@@ -24,7 +23,7 @@ const ERRNO_OFFSET: usize = 24;
 
 impl World {
     /// Writes to a socket. EBADF: it isn't open. Otherwise as the message is refused, of which those learn too who hear the
-    /// reply; or the reply is delivered.
+    /// reply; or the reply is delivered. ENOBUFS: there is no memory for the reply.
     pub fn write(&mut self, id: Name, bytes: &[u8]) -> Answer
         ensures { Steps self.old (Write id bytes.now) result self.new }
     {
@@ -86,8 +85,8 @@ impl World {
         }
     }
 
-    /// Delivers the reply to a write of this socket. `Err`: there is no memory, and nothing is delivered.
-    fn reply(&mut self, id: Name, reply: &[u8], family: u8) -> Result<(), AllocError>
+    /// Delivers the reply to a write of this socket. ENOBUFS: there is no memory, and nothing is delivered.
+    fn reply(&mut self, id: Name, reply: &[u8], family: u8) -> Result<(), Errno>
         requires { IsMessage reply.now }
         ensures ok { OnOk result (self.new ≡ told reply.now family (Some id) self.old) }
         ensures err { OnErr result (self.new ≡ self.old) }

@@ -1,6 +1,7 @@
 -- The addresses that follow a header. An address stands in a message with zeros behind it, up to as many bytes as its length byte takes.
-use Rattle.std.specs.Prelude.{ℕ, ◌+◌, ◌-◌, List, [], ◌∷◌, ◌++◌, length, replicate, slice_index, Option, Some, None}
+use Rattle.std.specs.Prelude.{ℕ, ◌+◌, List, [], ◌∷◌, ◌++◌, slice_index, Option, Some, None}
 use Rattle.std.specs.List.{flat_map}
+use Rattle.sock_addrs.specs.Padded.{padded_to}
 use Rattle.sock_addrs.specs.Rounding.{rounded}
 use Rattle.sock_addrs.specs.Texts.{inet_text}
 use Rattle.sock_addrs.specs.declared.gate.Gate.{Gate}
@@ -9,7 +10,7 @@ use Rattle.route_msgs.specs.declared.texts.Texts.{Texts}
 
 -- an address with zeros behind it, to the bytes that its length byte takes
 abbrev pub padded : List ℕ → List ℕ
-padded text = text ++ replicate (rounded (slice_index text 0) - length text) 0
+padded text = padded_to (rounded (slice_index text 0)) text
 
 -- a gateway with its padding
 abbrev pub gate_text : Gate → List ℕ

@@ -1,4 +1,4 @@
-ghost use Rattle.std.specs.Prelude.{◌≡◌, ◌≤◌, ◌++◌, length, drop};
+ghost use Rattle.std.specs.Prelude.{◌≡◌, ◌≤◌, ◌++◌, length, drop, min};
 ghost use Rattle.std.specs.Int.{w32, to_be_bytes};
 ghost use Rattle.sock_addrs.specs.Texts.{inet_text, mask_number, mask_text};
 
@@ -25,13 +25,14 @@ pub fn write_link(link: Link, out: &mut [u8]) -> usize
 }
 
 /// Writes the mask of so many bits at the front of `out`: the length up to the last byte that has a one, no family, and
-/// the mask highest byte first, 8 bytes in all; the mask of no bit is four zeros. A mask has at most 32 bits. Answers the
-/// bytes used.
+/// the mask highest byte first, 8 bytes in all; the mask of no bit is four zeros. A mask has at most 32 bits, and one of more
+/// is written as that of 32. Answers the bytes used.
 pub fn write_mask(prefix: u8, out: &mut [u8]) -> usize
-    requires { length (mask_text prefix) ≤ length out.old }
-    ensures used { result ≡ length (mask_text prefix) }
-    ensures text { out.new ≡ mask_text prefix ++ drop (length (mask_text prefix)) out.old }
+    requires { length (mask_text (min prefix 32)) ≤ length out.old }
+    ensures used { result ≡ length (mask_text (min prefix 32)) }
+    ensures text { out.new ≡ mask_text (min prefix 32) ++ drop (length (mask_text (min prefix 32))) out.old }
 {
+    let prefix = prefix.min(32);
     if prefix == 0 {
         return put(&[0; 4], out);
     }
@@ -39,13 +40,11 @@ pub fn write_mask(prefix: u8, out: &mut [u8]) -> usize
     put(&[4 + prefix.div_ceil(8), 0, 0, 0, a, b, c, d], out)
 }
 
-/// The mask of so many bits as a number; from 32 on all ones.
+/// The mask of so many bits as a number.
 fn mask_bits(prefix: u8) -> u32
+    requires { prefix ≤ 32 }
     ensures { result ≡ mask_number prefix }
 {
-    if prefix > 32 {
-        return u32::MAX;
-    }
     let clear = 1u64 << (32 - prefix);
     ((1u64 << 32) - clear) as u32
 }

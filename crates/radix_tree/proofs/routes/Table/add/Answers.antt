@@ -6,19 +6,19 @@ use Rattle.radix_tree.proofs.HeldLemmas.{again, there, none_is, put_in, held_put
 use Rattle.radix_tree.proofs.routes.Table.add.Goals as goal
 
 pub invariant_of-self : goal.invariant_of-self
-invariant_of-self g c = rw (c.cut.ensures.front, c.cut.ensures.back, again c.place_of.result 0 _ c.self.invariant.table) c.self.invariant
+invariant_of-self g c = rw (c.cut.ensures.front, c.cut.ensures.back, again c.place_of-place.result 0 _ c.self.invariant.table) c.self.invariant
 
 pub returns-then-begins_at-clause-there : goal.returns-then-begins_at-clause-there
 returns-then-begins_at-clause-there g c =
     let same : entries_of (c.self.inside.head ++ c.self.inside.tail) ≡ c.args.self.now.entries = ap (λ (t : Contents g.row.V.Denot). t.entries) c.self.view_is in
     let is : is_some (entry_at c.args.key c.args.rank c.args.self.now.entries) ≡ true =
-    there c.args.key c.args.rank c.place_of.result _ c.cut.new.tail _ c.self.invariant.table same c.place_of.ensures.most c.place_of.ensures.place c.cut.ensures.back
+    there c.args.key c.args.rank c.place_of-place.result _ c.cut.new.tail _ c.self.invariant.table same c.place_of-place.ensures.most c.place_of-place.ensures.place c.cut.ensures.back
     ∙ sym c.begins_at.ensures ∙ c.if-begins_at.true in
     search rules
 
 pub returns-then-begins_at-clause-err : goal.returns-then-begins_at-clause-err
 returns-then-begins_at-clause-err g c =
-    rw (c.cut.ensures.front, c.cut.ensures.back, again c.place_of.result 0 _ c.self.invariant.table, c.raise.ensures, ← c.self.view_is) refl
+    rw (c.cut.ensures.front, c.cut.ensures.back, again c.place_of-place.result 0 _ c.self.invariant.table, c.cut.ensures.turn, ← c.self.view_is) refl
 
 pub invariant_of-self-2 : goal.invariant_of-self-2
 invariant_of-self-2 g c =
@@ -26,21 +26,21 @@ invariant_of-self-2 g c =
     let l : Lodged g.row.V.Denot = record { number = c.room.inside.number; entry = record { key = c.args.key; rank = c.args.rank; value = c.args.value } } in
     let number : c.room.inside.number ≡ c.args.room = c.room.view_is in
     let absent : entry_at c.args.key c.args.rank (entries_of ls) ≡ None = none_is _
-    (there c.args.key c.args.rank c.place_of.result ls c.cut.new.tail _ c.self.invariant.table refl c.place_of.ensures.most c.place_of.ensures.place c.cut.ensures.back
+    (there c.args.key c.args.rank c.place_of-place.result ls c.cut.new.tail _ c.self.invariant.table refl c.place_of-place.ensures.most c.place_of-place.ensures.place c.cut.ensures.back
     ∙ sym c.begins_at.ensures ∙ c.if-begins_at.false) in
-    let route : IsRoute l.entry = record { rank = c.place_of.ensures.most; address = c.place_of.ensures.address; key = c.requires.masked } in
+    let route : IsRoute l.entry = record { rank = c.place_of-place.ensures.most; address = c.place_of-place.ensures.address; key = c.requires.masked } in
     let numbers : numbers_of ls ≡ c.args.self.now.numbers = ap (λ (t : Contents g.row.V.Denot). t.numbers) c.self.view_is in
     let next : c.self.inside.last + 1 ≡ c.args.self.now.next = ap (λ (t : Contents g.row.V.Denot). t.next) c.self.view_is in
     let made : c.room.inside.number ≤ c.self.inside.last = omega (arith, c.requires.made) in
     let free : uses c.room.inside.number (numbers_of ls) ≡ 0 = rw (number, numbers) c.requires.free in
-    rw (c.push.ensures, c.cut.ensures.front, c.cut.ensures.back, c.place_of.ensures.place)
+    rw (c.push.ensures, c.cut.ensures.front, c.cut.ensures.back, c.place_of-place.ensures.place)
     (held_put_in c.self.inside.last l ls c.self.invariant route absent made free)
 
 pub returns-clause-there : goal.returns-clause-there
 returns-clause-there g c =
     let same : entries_of (c.self.inside.head ++ c.self.inside.tail) ≡ c.args.self.now.entries = ap (λ (t : Contents g.row.V.Denot). t.entries) c.self.view_is in
     let is : is_some (entry_at c.args.key c.args.rank c.args.self.now.entries) ≡ false =
-    there c.args.key c.args.rank c.place_of.result _ c.cut.new.tail _ c.self.invariant.table same c.place_of.ensures.most c.place_of.ensures.place c.cut.ensures.back
+    there c.args.key c.args.rank c.place_of-place.result _ c.cut.new.tail _ c.self.invariant.table same c.place_of-place.ensures.most c.place_of-place.ensures.place c.cut.ensures.back
     ∙ sym c.begins_at.ensures ∙ c.if-begins_at.false in
     search rules
 
@@ -50,11 +50,11 @@ returns-clause-ok g c =
     let l : Lodged g.row.V.Denot = record { number = c.room.inside.number; entry = record { key = c.args.key; rank = c.args.rank; value = c.args.value } } in
     let number : c.room.inside.number ≡ c.args.room = c.room.view_is in
     let absent : entry_at c.args.key c.args.rank (entries_of ls) ≡ None = none_is _
-    (there c.args.key c.args.rank c.place_of.result ls c.cut.new.tail _ c.self.invariant.table refl c.place_of.ensures.most c.place_of.ensures.place c.cut.ensures.back
+    (there c.args.key c.args.rank c.place_of-place.result ls c.cut.new.tail _ c.self.invariant.table refl c.place_of-place.ensures.most c.place_of-place.ensures.place c.cut.ensures.back
     ∙ sym c.begins_at.ensures ∙ c.if-begins_at.false) in
-    let route : IsRoute l.entry = record { rank = c.place_of.ensures.most; address = c.place_of.ensures.address; key = c.requires.masked } in
+    let route : IsRoute l.entry = record { rank = c.place_of-place.ensures.most; address = c.place_of-place.ensures.address; key = c.requires.masked } in
     let same : entries_of ls ≡ c.args.self.now.entries = ap (λ (t : Contents g.row.V.Denot). t.entries) c.self.view_is in
-    rw (c.push.ensures, c.cut.ensures.front, c.cut.ensures.back, c.place_of.ensures.place, ← same)
+    rw (c.push.ensures, c.cut.ensures.front, c.cut.ensures.back, c.place_of-place.ensures.place, ← same)
     (put_in l 0 ls c.self.invariant.table route absent)
 
 pub returns-clause-numbers : goal.returns-clause-numbers
@@ -64,4 +64,4 @@ returns-clause-numbers g c = λ n.
     let number : c.room.inside.number ≡ c.args.room = c.room.view_is in
     let numbers : numbers_of ls ≡ c.args.self.now.numbers = ap (λ (t : Contents g.row.V.Denot). t.numbers) c.self.view_is in
     rw (c.push.ensures, c.cut.ensures.front, c.cut.ensures.back, ← number, ← numbers)
-    (uses_put_in n c.place_of.result 0 l ls c.self.invariant.table)
+    (uses_put_in n c.place_of-place.result 0 l ls c.self.invariant.table)
