@@ -1,6 +1,15 @@
-//! Laws of what contracts say of answers and transcripts.
+//! Laws of what contracts say of lines, answers and transcripts.
 ghost use Rattle.event_file.specs.Answers.{RepliesEndInANewline};
+ghost use Rattle.event_file.specs.Lines.{EndedLinesAreRead, LastLineIsRead, ScriptIsItsLines};
 ghost use Rattle.event_file.specs.Transcript.{ComputedIsTranscript, ReplyIsComputed};
+
+/// Lines without a newline in them are read of the script in which a newline stands behind each but perhaps the last, and
+/// every script is the lines that are read of it.
+pub fn lines_are_read()
+    ensures ended { EndedLinesAreRead }
+    ensures last { LastLineIsRead }
+    ensures script { ScriptIsItsLines }
+{}
 
 /// Every reply's text ends in a newline.
 pub fn replies_end_in_a_newline()
