@@ -1,6 +1,7 @@
 //! Laws of what contracts say of lines, answers and transcripts.
 ghost use Rattle.event_file.specs.Answers.{RepliesEndInANewline};
 ghost use Rattle.event_file.specs.Lines.{EndedLinesAreRead, LastLineIsRead, ScriptIsItsLines};
+ghost use Rattle.event_file.specs.Printed.{PrintedFits, PrintedIsRead};
 ghost use Rattle.event_file.specs.Transcript.{ComputedIsTranscript, ReplyIsComputed};
 
 /// Lines without a newline in them are read of the script in which a newline stands behind each but perhaps the last, and
@@ -9,6 +10,12 @@ pub fn lines_are_read()
     ensures ended { EndedLinesAreRead }
     ensures last { LastLineIsRead }
     ensures script { ScriptIsItsLines }
+{}
+
+/// What is printed of a command that a line can say is a line's length at most, and is read as that command.
+pub fn printed_is_read()
+    ensures read { PrintedIsRead }
+    ensures fits { PrintedFits }
 {}
 
 /// Every reply's text ends in a newline.
