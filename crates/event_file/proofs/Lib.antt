@@ -7,6 +7,7 @@ pub mod Joined
 pub mod LineLemmas
 pub mod MessageLines
 pub mod PrintedWords
+pub mod ReadWords
 pub mod RowAddressIsAnnounced
 pub mod RowDumps
 pub mod RowEmptyScript

@@ -1,4 +1,4 @@
--- The plain line of each command, and which commands a line can say.
+-- The plain line of each command, and which commands have one.
 use Rattle.std.specs.Prelude.{◌≡◌, ℕ, ◌+◌, ◌*◌, ◌^◌, ◌<◌, ◌≤◌, true, false, List, [], ◌∷◌, length, map, codes, decimal, Some}
 use Rattle.std.specs.Int.{w32, to_be_bytes}
 use Rattle.std.specs.List.{join_with_byte, list_all}
@@ -35,25 +35,29 @@ words_of (Read id) = codes "read" ∷ id ∷ []
 abbrev pub line_of : Command → List ℕ
 line_of command = join_with_byte 32 (words_of command)
 
--- ---- what a line can say
+-- ---- the bounds of the grammar
 
 -- 1 to 8 letters and digits
 abbrev pub IsName : List ℕ → Type 0
 IsName name = (1 ≤ length name) × (length name ≤ 8) × (list_all is_name_byte name ≡ true)
 
--- names, numbers in their ranges, as many bytes as there may be, and of the protocols 0, which stands for any; a write has
--- as many bytes as a line has room for behind `write ID `
-abbrev pub CanBeSaid : Command → Type 0
-CanBeSaid (Attach name type_number link) = IsName name × (type_number ≤ 255) × (length link ≤ most_link_bytes) × IsBytes link
-CanBeSaid (AddAddress name address prefix cloning) = IsName name × (address < 2 ^ 32) × (prefix ≤ 32)
-CanBeSaid (Open id pid protocol) = IsName id × (pid < 2 ^ 32) × (protocol ≡ 0)
-CanBeSaid (Write id bytes) = IsName id × (7 + length id + 2 * length bytes ≤ most_line_bytes) × IsBytes bytes
-CanBeSaid (Read id) = IsName id
+-- names, numbers in their ranges and at most so many bytes; of the protocols 0, which stands for any; and a write of no more
+-- bytes than a line has room for behind `write ID `
+abbrev pub IsWithinBounds : Command → Type 0
+IsWithinBounds (Attach name type_number link) = IsName name × (type_number ≤ 255) × (length link ≤ most_link_bytes) × IsBytes link
+IsWithinBounds (AddAddress name address prefix cloning) = IsName name × (address < 2 ^ 32) × (prefix ≤ 32)
+IsWithinBounds (Open id pid protocol) = IsName id × (pid < 2 ^ 32) × (protocol ≡ 0)
+IsWithinBounds (Write id bytes) = IsName id × (7 + length id + 2 * length bytes ≤ most_line_bytes) × IsBytes bytes
+IsWithinBounds (Read id) = IsName id
 
--- what is printed of a command is read as that command
+-- what is printed of a command within the bounds is read as that command
 abbrev pub PrintedIsRead : Type 0
-PrintedIsRead = (command : Command) → CanBeSaid command → command_of (line_of command) ≡ Some command
+PrintedIsRead = (command : Command) → IsWithinBounds command → command_of (line_of command) ≡ Some command
 
--- and is no longer than a line may be
+-- and has no more bytes than a line may have
 abbrev pub PrintedFits : Type 0
-PrintedFits = (command : Command) → CanBeSaid command → length (line_of command) ≤ most_line_bytes
+PrintedFits = (command : Command) → IsWithinBounds command → length (line_of command) ≤ most_line_bytes
+
+-- every command that some line says is within the bounds
+abbrev pub ReadIsWithinBounds : Type 0
+ReadIsWithinBounds = (line : List ℕ) (command : Command) → command_of line ≡ Some command → IsWithinBounds command

@@ -4,7 +4,7 @@ use Rattle.std.proofs.lemmas.Bool.{cond-false, le-ltb}
 use Rattle.route_core.specs.declared.command.Command.{Command}
 use Rattle.route_core.specs.declared.command.Command.TheVariants.{Attach, AddAddress, Open, Write, Read}
 use Rattle.event_file.specs.Grammar.{add_address_form, cloning_of, command_of, most_line_bytes, most_link_bytes, most_written_bytes, said_by}
-use Rattle.event_file.specs.Printed.{CanBeSaid, PrintedFits, PrintedIsRead, bytes_word, inet_word, network_word}
+use Rattle.event_file.specs.Printed.{IsWithinBounds, PrintedFits, PrintedIsRead, bytes_word, inet_word, network_word}
 use Rattle.event_file.specs.Words.{parted_by}
 use Rattle.event_file.proofs.Decimals.{printed_read}
 use Rattle.event_file.proofs.Joined.{AllLack, parted-joined}
@@ -33,7 +33,7 @@ line_says verb words said short lack says =
     cond-false _ None (said_by (parted_by 32 line)) (le-ltb most_line_bytes (length line) short) ∙ ap said_by (parted-joined 32 verb words lack) ∙ says
 
 -- the words behind `addr` are an address with its name, where the options say whether its route clones
-address_says : (name : List ℕ) (address prefix : ℕ) (options : List (List ℕ)) (cloning : Bool) → CanBeSaid (AddAddress name address prefix cloning) → cloning_of options ≡ Some cloning
+address_says : (name : List ℕ) (address prefix : ℕ) (options : List (List ℕ)) (cloning : Bool) → IsWithinBounds (AddAddress name address prefix cloning) → cloning_of options ≡ Some cloning
     → add_address_form (name ∷ network_word address prefix ∷ options) ≡ Some (AddAddress name address prefix cloning)
 address_says name address prefix options cloning can option =
     let parts : parted_by 47 (network_word address prefix) ≡ inet_word address ∷ decimal prefix ∷ [] = parted-network_word address prefix can.2 in
