@@ -3,8 +3,11 @@ pub mod Decimals
 pub mod Fronts
 pub mod GrammarRows
 pub mod HexPieces
+pub mod Joined
 pub mod LineLemmas
 pub mod MessageLines
+pub mod PrintedWords
+pub mod ReadWords
 pub mod RowAddressIsAnnounced
 pub mod RowDumps
 pub mod RowEmptyScript

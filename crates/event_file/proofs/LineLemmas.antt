@@ -158,7 +158,7 @@ some_onto_first : (b : ℕ) (lines : List (List ℕ)) → 0 < length (onto_first
 some_onto_first b [] = omega arith
 some_onto_first b (line ∷ lines) = omega arith
 
-some_lines : (b : ℕ) (bs : List ℕ) → 0 < length (lines_of (b ∷ bs))
+pub some_lines : (b : ℕ) (bs : List ℕ) → 0 < length (lines_of (b ∷ bs))
 some_lines b bs = elim (is_newline b) as (λ t. 0 < length (cond t ([] ∷ lines_of bs) (onto_first b (lines_of bs)))) [
   | true ↦ omega arith
   | false ↦ some_onto_first b (lines_of bs)
@@ -188,13 +188,13 @@ lines_of-ended (b ∷ bs) ys =
       ] refl
     ] refl
 
-lines_of-line : (line more : List ℕ) → has_newline line ≡ false → lines_of (line ++ 10 ∷ more) ≡ line ∷ lines_of more
+pub lines_of-line : (line more : List ℕ) → has_newline line ≡ false → lines_of (line ++ 10 ∷ more) ≡ line ∷ lines_of more
 lines_of-line [] more none = refl
 lines_of-line (b ∷ bs) more none =
     let parts = or_parts (is_newline b) (has_newline bs) none in
     lines_other b (bs ++ 10 ∷ more) parts.0 ∙ ap (onto_first b) (lines_of-line bs more parts.1)
 
-lines_of-last : (b : ℕ) (bs : List ℕ) → has_newline (b ∷ bs) ≡ false → lines_of (b ∷ bs) ≡ (b ∷ bs) ∷ []
+pub lines_of-last : (b : ℕ) (bs : List ℕ) → has_newline (b ∷ bs) ≡ false → lines_of (b ∷ bs) ≡ (b ∷ bs) ∷ []
 lines_of-last b [] none = lines_other b [] (or_parts (is_newline b) false none).0
 lines_of-last b (c ∷ bs) none =
     let parts = or_parts (is_newline b) (has_newline (c ∷ bs)) none in

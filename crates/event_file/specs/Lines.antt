@@ -1,5 +1,6 @@
 -- The lines of a script. A line ends with a newline byte, 10, and is the bytes before it.
-use Rattle.std.specs.Prelude.{ℕ, Bool, true, false, ◌==◌, ◌||◌, not, nat_lt, cond, List, [], ◌∷◌, ◌++◌, length, map, filter, Option, Some, None}
+use Rattle.std.specs.Prelude.{◌≡◌, ◌≢◌, ◌⊎◌, ℕ, Bool, true, false, ◌==◌, ◌||◌, not, nat_lt, cond, List, [], ◌∷◌, ◌++◌, length, map, filter, Option, Some, None}
+use Rattle.std.specs.List.{All}
 
 -- a byte ends a line
 abbrev pub is_newline : ℕ → Bool
@@ -76,3 +77,29 @@ no_line = record { text = Some []; ended = false }
 -- the line after these bytes, up to and with the first newline among them
 abbrev pub after_bytes : Line → List ℕ → Line
 after_bytes line bytes = record { text = extended line.text (first_line bytes); ended = has_newline bytes }
+
+-- ---- what a script's lines are
+
+-- lines as a script has them, with a newline behind each
+abbrev pub with_newlines : List (List ℕ) → List ℕ
+with_newlines [] = []
+with_newlines (line ∷ lines) = line ++ 10 ∷ with_newlines lines
+
+-- no line has a newline in it
+abbrev pub AreLines : List (List ℕ) → Type 0
+AreLines lines = All (λ line. has_newline line ≡ false) lines
+
+-- lines with a newline behind each are read as those lines
+abbrev pub EndedLinesAreRead : Type 0
+EndedLinesAreRead = (lines : List (List ℕ)) → AreLines lines → lines_of (with_newlines lines) ≡ lines
+
+-- and so are they with a last line behind them that has a byte and no newline
+abbrev pub LastLineIsRead : Type 0
+LastLineIsRead = (lines : List (List ℕ)) (last : List ℕ) → AreLines lines → has_newline last ≡ false → last ≢ []
+    → lines_of (with_newlines lines ++ last) ≡ lines ++ last ∷ []
+
+-- each script is its lines again: no line has a newline, and with a newline behind each they are the script, or the script
+-- with a newline at its end
+abbrev pub ScriptIsItsLines : Type 0
+ScriptIsItsLines = (script : List ℕ) → AreLines (lines_of script)
+    × ((with_newlines (lines_of script) ≡ script) ⊎ (with_newlines (lines_of script) ≡ script ++ 10 ∷ []))

@@ -1,6 +1,40 @@
-//! Laws of what contracts say of answers and transcripts.
+//! Laws of what contracts say of lines, answers and transcripts.
+ghost use Rattle.std.specs.Prelude.{◌≡◌, ◌∷◌, [], true, false, codes};
+ghost use Rattle.route_core.specs.declared.command.Command.TheVariants.{Attach, AddAddress, Open, Write, Read};
 ghost use Rattle.event_file.specs.Answers.{RepliesEndInANewline};
+ghost use Rattle.event_file.specs.Lines.{EndedLinesAreRead, LastLineIsRead, ScriptIsItsLines};
+ghost use Rattle.event_file.specs.Printed.{PrintedFits, PrintedIsRead, ReadIsWithinBounds, line_of};
 ghost use Rattle.event_file.specs.Transcript.{ComputedIsTranscript, ReplyIsComputed};
+
+/// Lines without a newline in them are read of the script in which a newline stands behind each but perhaps the last, and
+/// every script is the lines that are read of it.
+pub fn lines_are_read()
+    ensures ended { EndedLinesAreRead }
+    ensures last { LastLineIsRead }
+    ensures script { ScriptIsItsLines }
+{}
+
+/// What is printed of a command within the grammar's bounds is read as that command, and is no longer than a line may be.
+pub fn printed_is_read()
+    ensures read { PrintedIsRead }
+    ensures fits { PrintedFits }
+{}
+
+/// Every command that some line says is within the grammar's bounds.
+pub fn read_is_within_bounds()
+    ensures { ReadIsWithinBounds }
+{}
+
+/// The lines of commands, worked out.
+pub fn printing_by_example()
+    ensures attach { line_of (Attach (codes "ed0") 6 (0x08 ∷ 0x00 ∷ 0x20 ∷ 0xfe ∷ [])) ≡ codes "if ed0 broadcast 6 080020fe" }
+    ensures no_link { line_of (Attach (codes "le0") 24 []) ≡ codes "if le0 broadcast 24 -" }
+    ensures add_address { line_of (AddAddress (codes "ed0") 0x0a00_0001 8 false) ≡ codes "addr ed0 10.0.0.1/8" }
+    ensures cloning { line_of (AddAddress (codes "ed0") 0xffff_ff00 32 true) ≡ codes "addr ed0 255.255.255.0/32 cloning" }
+    ensures open { line_of (Open (codes "a") 4294967295 0) ≡ codes "open a 4294967295 any" }
+    ensures write { line_of (Write (codes "a") (0x5c ∷ 0x00 ∷ [])) ≡ codes "write a 5c00" }
+    ensures read { line_of (Read (codes "a")) ≡ codes "read a" }
+{}
 
 /// Every reply's text ends in a newline.
 pub fn replies_end_in_a_newline()

@@ -1,0 +1,113 @@
+-- The words of a printed line: what they are read as, which bytes they lack, and how long they are.
+use Rattle.std.proofs.Common.{◌≡◌, ◌≢◌, ◌<◌, ◌≤◌, ◌∙◌, ◌*◌, ◌/◌, ◌^◌, ℕ, zero, suc, true, false, List, [], ◌∷◌, length, length-append, map, max, refl, ap, arith, nat_le, codes, decimal, bytes_eq, ◌==◌, Some, Ok}
+use Rattle.std.specs.Int.{w32, byte_at, bytes_high_first, from_be_bytes, to_be_bytes}
+use Rattle.std.specs.List.{list_all}
+use Rattle.std.proofs.lemmas.Bool.{le-leb}
+use Rattle.std.proofs.lemmas.Fmt.{decimal_is_IsNumeral, length-decimal-le}
+use Rattle.std.proofs.lemmas.List.Sums.{AllPass-from_list_all}
+use Rattle.std.proofs.lemmas.Nat.{from_be_bytes-to_be_bytes_4}
+use Rattle.std.proofs.lemmas.Slice.Eq.{bytes_eq-Decides}
+use Rattle.hex.specs.Hex.{IsBytes, decode_of, encode_lower, is_hex_digit, lower_digits}
+use Rattle.hex.proofs.HexLemmas.{IsDigits-lower_digits, decode_of-encode_lower, decode_pairs-encode_with, decode_pairs-ok, length-encode_with}
+use Rattle.event_file.specs.Words.{bytes_to, inet_of, inet_of_parts, is_name_byte, name_of, number_to, parted_by}
+use Rattle.event_file.specs.Printed.{IsName, bytes_word, inet_word, network_word}
+use Rattle.event_file.proofs.Decimals.{printed_read}
+use Rattle.event_file.proofs.Joined.{AllLack, Lacks, Lacks-digits, Lacks-joined, Lacks-tested, parted-joined}
+
+-- ---- names
+
+pub name_of-name : (name : List ℕ) → IsName name → name_of name ≡ Some name
+name_of-name name is =
+    let some : nat_le 1 (length name) ≡ true = le-leb _ _ is.0 in
+    let short : nat_le (length name) 8 ≡ true = le-leb _ _ is.1 in
+    rw (some, short, is.2) refl
+
+-- a word of letters and digits has no space
+pub Lacks-letters : (word : List ℕ) → list_all is_name_byte word ≡ true → Lacks 32 word
+Lacks-letters word are = Lacks-tested is_name_byte 32 word (AllPass-from_list_all is_name_byte word are) refl
+
+-- ---- decimals
+
+pub Lacks-decimal : (byte n : ℕ) → byte < 48 → n < 2 ^ 32 → Lacks byte (decimal n)
+Lacks-decimal byte n small fits = Lacks-digits byte (decimal n) small (decimal_is_IsNumeral n (omega arith)).0.1
+
+pub length-decimal : (n : ℕ) → n < 2 ^ 32 → length (decimal n) ≤ 10
+length-decimal n fits = length-decimal-le 10 n (omega arith) (omega arith) (omega arith)
+
+-- ---- bytes
+
+pub length-bytes_word : (bytes : List ℕ) → length (bytes_word bytes) ≤ max 1 (2 * length bytes)
+length-bytes_word [] = omega arith
+length-bytes_word (b ∷ bs) = omega (arith, length-encode_with lower_digits (b ∷ bs))
+
+pub Lacks-bytes_word : (bytes : List ℕ) → IsBytes bytes → Lacks 32 (bytes_word bytes)
+Lacks-bytes_word [] are = Lacks-tested (λ b. b == 45) 32 (codes "-") (AllPass-from_list_all (λ b. b == 45) (codes "-") refl) refl
+Lacks-bytes_word (b ∷ bs) are =
+    let word = encode_lower (b ∷ bs) in
+    Lacks-tested is_hex_digit 32 word (decode_pairs-ok 0 word (b ∷ bs) (decode_pairs-encode_with lower_digits IsDigits-lower_digits 0 (b ∷ bs) are)).0 refl
+
+other_length : (a b : List ℕ) → length a ≢ length b → bytes_eq a b ≡ false
+other_length a b differ = elim (bytes_eq a b) as (λ t. bytes_eq a b ≡ t → t ≡ false) [
+  | true ↦ λ e. absurd (differ (ap length ((bytes_eq-Decides a b).0 e)))
+  | false ↦ λ _. refl
+] refl
+
+decoded_word : (most : ℕ) (word bytes : List ℕ) → length word ≢ 1 → 1 ≤ length word / 2 → length word / 2 ≤ most → decode_of word ≡ Ok bytes → bytes_to most word ≡ Some bytes
+decoded_word most word bytes long some fits decodes =
+    let digits : bytes_eq word (codes "-") ≡ false = other_length word (codes "-") long in
+    let low : nat_le 1 (length word / 2) ≡ true = le-leb _ _ some in
+    let high : nat_le (length word / 2) most ≡ true = le-leb _ _ fits in
+    rw (digits, low, high, decodes) refl
+
+pub bytes_to-bytes_word : (most : ℕ) (bytes : List ℕ) → length bytes ≤ most → IsBytes bytes → bytes_to most (bytes_word bytes) ≡ Some bytes
+bytes_to-bytes_word most [] fits are = refl
+bytes_to-bytes_word most (b ∷ bs) fits are =
+    let long = length-encode_with lower_digits (b ∷ bs) in
+    decoded_word most (encode_lower (b ∷ bs)) (b ∷ bs) (λ e. omega arith) (omega arith) (omega arith) (decode_of-encode_lower (b ∷ bs) are)
+
+-- ---- addresses
+
+-- the numbers between the dots of an address
+abbrev numbers : ℕ → List (List ℕ)
+numbers n = map decimal (to_be_bytes w32 n)
+
+byte_at-small : (i n : ℕ) → byte_at i n ≤ 255
+byte_at-small zero n = omega arith
+byte_at-small (suc i) n = omega arith
+
+byte-lacks : (byte i n : ℕ) → byte < 48 → Lacks byte (decimal (byte_at i n))
+byte-lacks byte i n small = Lacks-decimal byte (byte_at i n) small (omega (arith, byte_at-small i n))
+
+bytes-lack : (byte n : ℕ) → byte < 48 → AllLack byte (numbers n)
+bytes-lack byte n small = (byte-lacks byte 3 n small, (byte-lacks byte 2 n small, (byte-lacks byte 1 n small, (byte-lacks byte 0 n small, tt))))
+
+pub Lacks-inet_word : (byte n : ℕ) → byte < 48 → 46 ≢ byte → Lacks byte (inet_word n)
+Lacks-inet_word byte n small other = Lacks-joined byte 46 (numbers n) other (bytes-lack byte n small)
+
+-- four numbers are read as the address of their bytes
+four_numbers : (a b c d : ℕ) → a ≤ 255 → b ≤ 255 → c ≤ 255 → d ≤ 255
+    → inet_of_parts (decimal a ∷ decimal b ∷ decimal c ∷ decimal d ∷ []) ≡ Some (from_be_bytes w32 (a ∷ b ∷ c ∷ d ∷ []))
+four_numbers a b c d fa fb fc fd =
+    let read : (k : ℕ) → k ≤ 255 → number_to 255 (decimal k) ≡ Some k = λ k fits. printed_read 255 k (decimal k) (omega arith) fits refl in
+    rw (read a fa, read b fb, read c fc, read d fd) refl
+
+pub inet_of-inet_word : (n : ℕ) → n < 2 ^ 32 → inet_of (inet_word n) ≡ Some n
+inet_of-inet_word n small =
+    ap inet_of_parts (parted-joined 46 (decimal (byte_at 3 n)) (map decimal (bytes_high_first 3 n)) (bytes-lack 46 n (omega arith)))
+    ∙ four_numbers _ _ _ _ (byte_at-small 3 n) (byte_at-small 2 n) (byte_at-small 1 n) (byte_at-small 0 n)
+    ∙ ap Some (from_be_bytes-to_be_bytes_4 n small)
+
+pub Lacks-network_word : (address prefix : ℕ) → prefix ≤ 32 → Lacks 32 (network_word address prefix)
+Lacks-network_word address prefix fits =
+    Lacks-joined 32 47 (inet_word address ∷ decimal prefix ∷ []) (λ e. omega arith)
+    (Lacks-inet_word 32 address (omega arith) (λ e. omega arith), (Lacks-decimal 32 prefix (omega arith) (omega arith), tt))
+
+pub parted-network_word : (address prefix : ℕ) → prefix ≤ 32 → parted_by 47 (network_word address prefix) ≡ inet_word address ∷ decimal prefix ∷ []
+parted-network_word address prefix fits =
+    parted-joined 47 (inet_word address) (decimal prefix ∷ [])
+    (Lacks-inet_word 47 address (omega arith) (λ e. omega arith), (Lacks-decimal 47 prefix (omega arith) (omega arith), tt))
+
+pub length-network_word : (address prefix : ℕ) → prefix ≤ 32 → length (network_word address prefix) ≤ 54
+length-network_word address prefix fits =
+    let short : (i : ℕ) → length (decimal (byte_at i address)) ≤ 10 = λ i. length-decimal (byte_at i address) (omega (arith, byte_at-small i address)) in
+    simp length-append (omega (arith, short 3, short 2, short 1, short 0, length-decimal prefix (omega arith)))
