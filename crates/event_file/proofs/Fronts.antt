@@ -1,5 +1,5 @@
 -- How what several writes took is put together.
-use Rattle.std.proofs.Common.{◌≡◌, ℕ, ◌<◌, ◌-◌, List, [], ◌++◌, Option, Some, None, refl, sym, ap, ◌∙◌, append_assoc, append-nil, take, drop, subst, arith, length-drop}
+use Rattle.std.proofs.Common.{◌≡◌, ℕ, ◌<◌, ◌+◌, ◌-◌, List, [], ◌++◌, Option, Some, None, refl, sym, ap, ◌∙◌, append_assoc, append-nil, take, drop, subst, arith, length-drop}
 use Rattle.std.specs.Prelude.{zero, suc, ◌≤◌, ◌∷◌, length, Result, Ok, Err, OnErr, true, false}
 use Rattle.std.proofs.lemmas.Bool.{ne_eqb}
 use Rattle.std.proofs.lemmas.List.{take_all}
@@ -48,7 +48,7 @@ module _ {T : Type 0} {contents : T → Option (List ℕ)} where
   }
 
   -- a failed write took nothing
-  pub WroteFront-here : (a b : Counts T) (t : List ℕ) → Appends (contents a.inner) (contents b.inner) [] → a.failures < b.failures → b.reads ≡ a.reads → WroteFront contents a b t
+  pub WroteFront-here : (a b : Counts T) (t : List ℕ) → Appends (contents a.inner) (contents b.inner) [] → b.failures ≡ a.failures + 1 → b.reads ≡ a.reads → WroteFront contents a b t
   WroteFront-here a b t p f r = record { written = []; unwritten = t; whole = refl; appends = p; failures = f; reads = r }
 
   pub WroteFront-more : {a b : Counts T} {t : List ℕ} (u : List ℕ) → WroteFront contents a b t → WroteFront contents a b (t ++ u)

@@ -4,7 +4,7 @@ use Rattle.std.specs.Prelude.{position, map, filter}
 use Rattle.std.specs.List.{position_or_len}
 use Rattle.std.proofs.lemmas.List.{take_all, map-append}
 use Rattle.std.proofs.lemmas.Bool.{ltb-true, ltb-false, or_parts, cond-true, cond-false, lt-ltb, le-ltb, eqb-true}
-use Rattle.event_file.specs.Lines.{Line, is_newline, has_newline, first_line, ended_lines, begun_line, onto_first, lines_of, kept, extended, is_begun, is_answered, answered_lines}
+use Rattle.event_file.specs.Lines.{Line, is_newline, has_newline, first_line, ended_lines, begun_line, onto_first, lines_of, kept, extended, is_begun, is_answered, answered_lines, most_line_bytes}
 
 -- ---- the first newline
 
@@ -231,10 +231,10 @@ answered_lines-last (b ∷ bs) none = ap (λ l. filter is_answered (map kept l))
 -- to keep a line and then to extend it is to keep the longer line
 pub extended-kept : (line bytes : List ℕ) → extended (kept line) bytes ≡ kept (line ++ bytes)
 extended-kept line bytes =
-    elim (nat_lt 16500 (length line)) as (λ t. nat_lt 16500 (length line) ≡ t → extended (cond t None (Some line)) bytes ≡ kept (line ++ bytes)) [
+    elim (nat_lt most_line_bytes (length line)) as (λ t. nat_lt most_line_bytes (length line) ≡ t → extended (cond t None (Some line)) bytes ≡ kept (line ++ bytes)) [
       | true ↦ λ long.
-          let longer : 16500 < length (line ++ bytes) = omega (arith, length-append line bytes, ltb-true 16500 (length line) long) in
-          sym (cond-true (nat_lt 16500 (length (line ++ bytes))) None (Some (line ++ bytes)) (lt-ltb 16500 (length (line ++ bytes)) longer))
+          let longer : most_line_bytes < length (line ++ bytes) = omega (arith, length-append line bytes, ltb-true most_line_bytes (length line) long) in
+          sym (cond-true (nat_lt most_line_bytes (length (line ++ bytes))) None (Some (line ++ bytes)) (lt-ltb most_line_bytes (length (line ++ bytes)) longer))
       | false ↦ λ _. refl
     ] refl
 
@@ -245,7 +245,7 @@ is_begun-cases false (b ∷ bs) none = absurd (cc)
 
 -- a kept line without a byte is the empty line
 pub is_begun-none : (line : List ℕ) → is_begun (kept line) ≡ false → line ≡ []
-is_begun-none line none = is_begun-cases (nat_lt 16500 (length line)) line none
+is_begun-none line none = is_begun-cases (nat_lt most_line_bytes (length line)) line none
 
 abbrev pub line_from : Option (List ℕ) → Bool → Line
 line_from t a = record { text = t; ended = a }

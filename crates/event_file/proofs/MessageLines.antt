@@ -5,7 +5,7 @@ use Rattle.std.specs.Prelude.{flat_map}
 use Rattle.event_file.specs.Answers.{message_line}
 use Rattle.event_file.specs.Counts.{Counts}
 use Rattle.event_file.specs.Output.{Wrote, WroteFront}
-use Rattle.listeners.specs.Queue.{cut, IsWhole}
+use Rattle.route_core.specs.Received.{cut, IsWhole}
 use Rattle.event_file.proofs.Fronts.{Wrote-nil, Wrote-then, WroteFront-then, WroteFront-more}
 
 abbrev pub lines : List (List ℕ) → List ℕ

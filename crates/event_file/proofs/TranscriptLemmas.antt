@@ -1,7 +1,5 @@
 -- The computed transcript is one, and the only one where memory is never refused.
 use Rattle.std.proofs.Common.{◌≡◌, ℕ, List, [], ◌∷◌, Option, Some, None, Ok, Err, refl, sym, ap, subst, inl, inr}
-use Rattle.event_file.specs.declared.bad.Bad.{Bad}
-use Rattle.route_core.specs.declared.answer.Answer.{Answer}
 use Rattle.route_core.specs.declared.command.Command.{Command}
 use Rattle.event_file.specs.Lines.{answered_lines}
 use Rattle.event_file.specs.Transcript.{Answered, IsTranscript, Replies, ReplyIsComputed, command_in, transcript_from, transcript_of, turn_by}

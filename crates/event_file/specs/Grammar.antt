@@ -1,6 +1,7 @@
 -- The lines of a script: which command each says, if any.
 use Prim.Native.String.{String}
 use Rattle.std.specs.Prelude.{ℕ, nat_lt, Bool, true, false, if◌then◌else◌, List, [], ◌∷◌, length, codes, bytes_eq, Option, Some, None}
+use Rattle.event_file.specs.Lines.{most_line_bytes}
 use Rattle.event_file.specs.Words.{◌>>=◌, parted_by, name_of, number_to, bytes_to, inet_of}
 use Rattle.route_core.specs.declared.command.Command.{Command}
 use Rattle.route_core.specs.declared.command.Command.TheVariants.{Attach, AddAddress, Open, Write, Read}
@@ -12,10 +13,6 @@ most_link_bytes = 8
 -- the bytes of a write are at most as many as a line has room for
 abbrev pub most_written_bytes : ℕ
 most_written_bytes = 8246
-
--- a longer line says nothing
-abbrev pub most_line_bytes : ℕ
-most_line_bytes = 16500
 
 -- `if NAME broadcast T HEX`, by the words behind `if`
 abbrev pub attach_form : List (List ℕ) → Option Command

@@ -36,9 +36,13 @@ abbrev pub lines_of : List ℕ → List (List ℕ)
 lines_of [] = []
 lines_of (b ∷ bs) = cond (is_newline b) ([] ∷ lines_of bs) (onto_first b (lines_of bs))
 
--- a line as it is looked at: nothing of it where it has more than 16,500 bytes
+-- the most bytes that are looked at in a line
+abbrev pub most_line_bytes : ℕ
+most_line_bytes = 16500
+
+-- a line as it is looked at: nothing of it where it has more bytes
 abbrev pub kept : List ℕ → Option (List ℕ)
-kept line = cond (nat_lt 16500 (length line)) None (Some line)
+kept line = cond (nat_lt most_line_bytes (length line)) None (Some line)
 
 -- a kept line with these bytes behind it
 abbrev pub extended : Option (List ℕ) → List ℕ → Option (List ℕ)

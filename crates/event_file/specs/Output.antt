@@ -1,5 +1,5 @@
 -- What a call that puts a text out did to its counted writer.
-use Rattle.std.specs.Prelude.{◌≡◌, ℕ, ◌<◌, List, ◌++◌, Option}
+use Rattle.std.specs.Prelude.{◌≡◌, ℕ, ◌+◌, List, ◌++◌, Option}
 use Rattle.std.specs.Io.KnownBytes.{Appends}
 use Rattle.event_file.specs.Counts.{Counts}
 
@@ -9,11 +9,11 @@ pub record Wrote {T : Type 0} (contents : T → Option (List ℕ)) (old new : Co
   pub failures : new.failures ≡ old.failures
   pub reads : new.reads ≡ old.reads
 
--- a write failed, and the writer took what stands before some unwritten rest of the text
+-- one write failed and none came after it, and the writer took what stands before some unwritten rest of the text
 pub record WroteFront {T : Type 0} (contents : T → Option (List ℕ)) (old new : Counts T) (text : List ℕ) : Type 0 where
   pub written : List ℕ
   pub unwritten : List ℕ
   pub whole : text ≡ written ++ unwritten
   pub appends : Appends (contents old.inner) (contents new.inner) written
-  pub failures : old.failures < new.failures
+  pub failures : new.failures ≡ old.failures + 1
   pub reads : new.reads ≡ old.reads

@@ -1,5 +1,5 @@
 -- The transcript of a script: what may be answered to its lines, from the empty world on.
-use Rattle.std.specs.Prelude.{◌≡◌, ◌≢◌, Bool, true, false, ◌||◌, is_none, List, [], ◌∷◌, ◌++◌, ℕ, Option, Some, None, Result, Ok, Err, ◌⊎◌}
+use Rattle.std.specs.Prelude.{◌≡◌, ◌≢◌, Bool, false, ◌||◌, is_none, List, [], ◌∷◌, ◌++◌, ℕ, Option, Some, None, Result, Ok, Err}
 use Rattle.event_file.specs.declared.bad.Bad.{Bad}
 use Rattle.route_core.specs.declared.answer.Answer.{Answer}
 use Rattle.route_core.specs.declared.answer.Answer.TheVariants.{Refused}
@@ -7,7 +7,7 @@ use Rattle.sock_addrs.specs.declared.errno.Errno.TheVariants.{ENOBUFS}
 use Rattle.route_core.specs.declared.command.Command.{Command}
 use Rattle.event_file.specs.Answers.{reply_text}
 use Rattle.event_file.specs.Grammar.{command_of}
-use Rattle.event_file.specs.Lines.{answered_lines, ended_lines}
+use Rattle.event_file.specs.Lines.{answered_lines}
 use Rattle.route_core.specs.Step.{Steps, stepped}
 use Rattle.route_core.specs.World.{World, empty_world}
 

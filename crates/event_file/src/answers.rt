@@ -3,7 +3,7 @@ ghost use Rattle.hex.specs.Hex.{encode_lower};
 ghost use Rattle.sock_addrs.specs.Errno.{errno_number};
 ghost use Rattle.event_file.specs.Answers.{message_line, refusal_line, reply_text};
 ghost use Rattle.event_file.specs.Output.{Wrote, WroteFront};
-ghost use Rattle.listeners.specs.Queue.{cut, IsWhole};
+ghost use Rattle.route_core.specs.Received.{cut, IsWhole};
 
 use crate::output::write_bytes;
 use crate::{Bad, Counted, Stopped};

@@ -4,13 +4,11 @@ ghost use Rattle.event_file.specs.Words.{parted_by};
 ghost use Rattle.event_file.specs.Grammar.{attach_form, address_of_parts, cloning_of, add_address_form, open_form, write_form, read_form, forms, by_forms, said_by, command_of};
 
 use crate::Bad;
+use crate::line_buffer::LONGEST_LINE;
 use crate::numbers::{read_byte, read_inet, read_number, read_prefix};
 use crate::texts::{read_link, read_name, read_written};
 use crate::words::parted;
 use route_core::Command;
-
-/// The longest line that is read, in bytes.
-const MOST_LINE_BYTES: usize = 16500;
 
 /// Whether a word is this one.
 fn is(word: &[u8], text: &str) -> bool
@@ -161,7 +159,7 @@ fn said(words: &[&[u8]]) -> Option<Command>
 pub fn read_line(line: &[u8]) -> Result<Command, Bad>
     ensures { MatchResult result (λ c. command_of line.now ≡ Some c) (λ _. command_of line.now ≡ None) }
 {
-    if line.len() > MOST_LINE_BYTES {
+    if line.len() > LONGEST_LINE {
         return Err(Bad);
     }
     let words = parted(b' ', line).ok_or(Bad)?;
@@ -243,7 +241,7 @@ mod tests {
     fn reads_the_longest_line(rt: HostRuntime) {
         let mut line = [b'0'; 16501];
         line[..8].copy_from_slice(b"write a ");
-        let count = match read_line(&line[..16500]) {
+        let count = match read_line(&line[..LONGEST_LINE]) {
             Ok(Command::Write { bytes, .. }) => bytes.as_slice().len(),
             _ => 0,
         };

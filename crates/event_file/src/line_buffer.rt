@@ -5,7 +5,7 @@ use std::alloc::{AllocError, Global};
 use std::marker::Model;
 
 /// The longest line that a script may have, in bytes and without its newline.
-pub const LONGEST_LINE: usize = 16_500;
+pub(crate) const LONGEST_LINE: usize = 16_500;
 
 /// One line of a script, as its bytes come in pieces. A contract sees the bytes taken since the last `clear`, without a
 /// newline, or nothing of them where they are too many, and whether a newline was among them.
@@ -18,13 +18,13 @@ pub struct LineBuffer {
 
 impl Model for LineBuffer {
     ghost use Rattle.std.specs.Prelude.{◌≤◌, cond, Some, None, vec_len, vec_capacity};
-    ghost use Rattle.event_file.specs.Lines.{Line};
+    ghost use Rattle.event_file.specs.Lines.{Line, most_line_bytes};
 
     ghost Value = { Line };
 
     ghost view = { λ b. record { text = cond b.is_too_long None (Some b.bytes.items); ended = b.has_ended } };
 
-    ghost invariant = { λ b. (16500 ≤ vec_capacity b.bytes) × (vec_len b.bytes ≤ 16500) };
+    ghost invariant = { λ b. (most_line_bytes ≤ vec_capacity b.bytes) × (vec_len b.bytes ≤ most_line_bytes) };
 }
 
 impl LineBuffer {
@@ -65,7 +65,7 @@ impl LineBuffer {
     /// The line so far, without its newline, or nothing where it has more than 16,500 bytes.
     pub fn line(&self) -> Option<&[u8]>
         ensures text { option_copied result ≡ self.now.text }
-        ensures most { IfSome result (λ line. length line.now ≤ 16500) }
+        ensures most { IfSome result (λ line. length line.now ≤ LONGEST_LINE) }
     {
         if self.is_too_long {
             None

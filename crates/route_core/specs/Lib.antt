@@ -1,4 +1,5 @@
 pub mod Messages
+pub mod Received
 pub mod Routes
 pub mod Step
 pub mod World

@@ -10,16 +10,14 @@ use Rattle.route_main.specs.declared.run.outcome.Outcome.{Outcome}
 use Rattle.route_main.specs.declared.run.outcome.Outcome.TheVariants.{Done, BadLine, ReadFault, WriteFault, NoMemory}
 use Rattle.event_file.specs.declared.bad.Bad.{Bad}
 use Rattle.route_core.specs.declared.answer.Answer.{Answer}
-use Rattle.route_core.specs.declared.command.Command.{Command}
 use Rattle.event_file.specs.Answers.{reply_text}
 use Rattle.event_file.specs.Counts.{Counts}
 use Rattle.event_file.specs.Lines.{Line, after_bytes, answered_lines, begun_line, ended_lines, extended, first_line, has_newline, is_answered, is_begun, is_passed, kept, no_line}
 use Rattle.event_file.specs.Output.{WroteFront}
 use Rattle.route_main.specs.Progress.{Standing, Answers, StopsWithin, Progress, Advances, Breaks, Finishes, Reached, HasRead, answered_of, fresh}
-use Rattle.route_core.specs.Step.{Stepped}
-use Rattle.event_file.specs.Transcript.{Answered, IsTranscript, Replies, ReplyIsComputed, command_in, has_bad_line, transcript_from, transcript_of, turn_by}
+use Rattle.event_file.specs.Transcript.{Answered, IsTranscript, Replies, command_in, has_bad_line, transcript_from}
 use Rattle.route_main.specs.Ends.{AnsweredAll, Ends, IsAnswered}
-use Rattle.route_core.specs.World.{World, empty_world}
+use Rattle.route_core.specs.World.{World}
 use Rattle.event_file.proofs.TranscriptLemmas.{transcript_from-is}
 use Rattle.event_file.proofs.LineLemmas.{answered_lines-ended, answered_lines-last, answered_lines-line, begun_line-end, begun_line-more, begun_line-no_newline, ended-append-begun, ended_lines-end, ended_lines-more, ended_lines-append, extended-kept, first_line-none, first_line-no_newline, has_newline-append, same_line, take-first_line}
 

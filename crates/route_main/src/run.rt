@@ -22,8 +22,8 @@ const MOST_READS: u64 = 16_777_216;
 const READ_ROOM: usize = 4096;
 
 /// Reads a script, and writes its transcript: each line is answered, and its answer written, before the next is looked at.
-/// Memory is taken at the start alone. A last line without a newline is answered at the end of the script, but not where
-/// a read fault comes first.
+/// The run itself takes memory at the start alone; a command that wants some and gets none is answered `err 55`. A last line
+/// without a newline is answered at the end of the script, but not where a read fault comes first.
 pub(crate) fn run<R: Read, W: Write>(
     alloc: Global,
     reader: &mut Counted<R>,
@@ -47,11 +47,14 @@ pub(crate) fn run<R: Read, W: Write>(
         (W.contents writer.old.inner) (W.contents writer.new.inner) }
     ensures reads { reader.new.reads ≤ MOST_READS }
 
-    // A fault comes only where a read or a write failed, or the reads are spent on a script of at least as many bytes;
-    // and without memory nothing begins.
-    ensures read_fault { result ≡ Outcome.ReadFault → (0 < reader.new.failures) ⊎ ((reader.new.reads ≡ MOST_READS)
+    // A run goes on as long as no read and no write fails, and a fault comes only where one failed, or the reads are spent on
+    // a script of at least as many bytes; and without memory nothing begins.
+    ensures unfailed { IsAnswered result → (reader.new.failures ≡ 0) × (writer.new.failures ≡ 0) }
+    ensures read_fault { result ≡ Outcome.ReadFault → (reader.new.failures ≡ 1) ⊎ ((reader.new.reads ≡ MOST_READS)
         × IfSome (R.remaining reader.old.inner) (λ script. MOST_READS ≤ length script)) }
-    ensures write_fault { result ≡ Outcome.WriteFault → 0 < writer.new.failures }
+    ensures unfailed_writes { result ≡ Outcome.ReadFault → writer.new.failures ≡ 0 }
+    ensures write_fault { result ≡ Outcome.WriteFault → writer.new.failures ≡ 1 }
+    ensures unfailed_reads { result ≡ Outcome.WriteFault → reader.new.failures ≡ 0 }
     ensures no_memory { result ≡ Outcome.NoMemory → (reader.new ≡ reader.old) × (writer.new ≡ writer.old) }
 {
     let Ok(mut start) = Start::new(alloc) else {
@@ -109,9 +112,12 @@ fn answer_script<R: Read, W: Write>(
     ensures ends { Ends result (R.remaining reader.old.inner) (R.remaining reader.new.inner)
         (W.contents writer.old.inner) (W.contents writer.new.inner) }
     ensures reads { reader.new.reads ≤ MOST_READS }
-    ensures read_fault { result ≡ Outcome.ReadFault → (0 < reader.new.failures) ⊎ ((reader.new.reads ≡ MOST_READS)
+    ensures unfailed { IsAnswered result → (reader.new.failures ≡ 0) × (writer.new.failures ≡ 0) }
+    ensures read_fault { result ≡ Outcome.ReadFault → (reader.new.failures ≡ 1) ⊎ ((reader.new.reads ≡ MOST_READS)
         × IfSome (R.remaining reader.old.inner) (λ script. MOST_READS ≤ length script)) }
-    ensures write_fault { result ≡ Outcome.WriteFault → 0 < writer.new.failures }
+    ensures unfailed_writes { result ≡ Outcome.ReadFault → writer.new.failures ≡ 0 }
+    ensures write_fault { result ≡ Outcome.WriteFault → writer.new.failures ≡ 1 }
+    ensures unfailed_reads { result ≡ Outcome.WriteFault → reader.new.failures ≡ 0 }
     ensures begun { result ≢ Outcome.NoMemory }
 {
     for _turn in 0..MOST_READS {

@@ -2,6 +2,7 @@ ghost use Rattle.std.specs.Prelude.{◌≡◌, ◌≢◌, ◌<◌, ◌≤◌, fa
 ghost use Rattle.event_file.specs.Lines.{is_passed as passes, no_line};
 ghost use Rattle.route_main.specs.Progress.{Advances, Answers, Breaks, Finishes, StopsWithin, answered_of, fresh};
 ghost use Rattle.event_file.specs.Transcript.{Replies};
+ghost use Rattle.route_main.specs.Ends.{IsAnswered};
 
 use super::Outcome;
 use event_file::{Bad, Counted, LineBuffer, Stopped, read_line, write_answer};
@@ -61,7 +62,7 @@ impl Answerer {
         ensures no_failure { OnOk result (writer.new.failures ≡ 0) }
         ensures err { OnErr result (Breaks self.old (W.contents writer.old.inner) (W.contents writer.new.inner)
             bytes.now line.old) }
-        ensures failure { OnErr result (0 < writer.new.failures) }
+        ensures failure { OnErr result (writer.new.failures ≡ 1) }
     {
         let mut at = 0;
         while at < bytes.len() {
@@ -88,7 +89,7 @@ impl Answerer {
         ensures no_failure { OnOk result (writer.new.failures ≡ 0) }
         ensures err { OnErr result (Breaks self.old (W.contents writer.old.inner) (W.contents writer.new.inner)
             bytes.now line.old) }
-        ensures failure { OnErr result (0 < writer.new.failures) }
+        ensures failure { OnErr result (writer.new.failures ≡ 1) }
     {
         let (taken, has_ended) = line.feed(bytes);
         if !has_ended {
@@ -103,7 +104,8 @@ impl Answerer {
     pub(super) fn finish<W: Write>(&mut self, line: &LineBuffer, writer: &mut Counted<W>) -> Outcome
         requires no_failure { writer.old.failures ≡ 0 }
         ensures ends { Finishes result self.old (W.contents writer.old.inner) (W.contents writer.new.inner) line.now }
-        ensures write_fault { result ≡ Outcome.WriteFault → 0 < writer.new.failures }
+        ensures unfailed { IsAnswered result → writer.new.failures ≡ 0 }
+        ensures write_fault { result ≡ Outcome.WriteFault → writer.new.failures ≡ 1 }
         ensures read { result ≢ Outcome.ReadFault }
         ensures begun { result ≢ Outcome.NoMemory }
     {
@@ -128,7 +130,7 @@ impl Answerer {
         ensures no_failure { OnOk result (writer.new.failures ≡ 0) }
         ensures err { OnErr result (StopsWithin self.old (W.contents writer.old.inner) (W.contents writer.new.inner)
             (answered_of line.now.text)) }
-        ensures failure { OnErr result (0 < writer.new.failures) }
+        ensures failure { OnErr result (writer.new.failures ≡ 1) }
     {
         if line.pending() {
             self.answer(line.line(), writer)?;
@@ -148,7 +150,7 @@ impl Answerer {
         ensures no_failure { OnOk result (writer.new.failures ≡ 0) }
         ensures err { OnErr result (StopsWithin self.old (W.contents writer.old.inner) (W.contents writer.new.inner)
             (answered_of (option_copied line.entry))) }
-        ensures failure { OnErr result (0 < writer.new.failures) }
+        ensures failure { OnErr result (writer.new.failures ≡ 1) }
     {
         if is_passed(line) {
             return Ok(());

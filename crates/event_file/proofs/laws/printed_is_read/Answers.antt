@@ -3,7 +3,8 @@ use Rattle.std.specs.List.{join_with_byte}
 use Rattle.std.proofs.lemmas.Bool.{cond-false, le-ltb}
 use Rattle.route_core.specs.declared.command.Command.{Command}
 use Rattle.route_core.specs.declared.command.Command.TheVariants.{Attach, AddAddress, Open, Write, Read}
-use Rattle.event_file.specs.Grammar.{add_address_form, cloning_of, command_of, most_line_bytes, most_link_bytes, most_written_bytes, said_by}
+use Rattle.event_file.specs.Grammar.{add_address_form, cloning_of, command_of, most_link_bytes, most_written_bytes, said_by}
+use Rattle.event_file.specs.Lines.{most_line_bytes}
 use Rattle.event_file.specs.Printed.{IsWithinBounds, PrintedFits, PrintedIsRead, bytes_word, inet_word, network_word}
 use Rattle.event_file.specs.Words.{parted_by}
 use Rattle.event_file.proofs.Decimals.{printed_read}

@@ -1,7 +1,8 @@
 use Rattle.std.proofs.Common.{◌≡◌, ◌≤◌, true, false, cond, length, sym, subst, refl, nat_lt, Some, None}
 use Rattle.std.proofs.lemmas.Bool.{ltb-false}
 use Rattle.std.proofs.lemmas.List.Splits.{join_with_byte-slice_split}
-use Rattle.event_file.specs.Grammar.{most_line_bytes, said_by}
+use Rattle.event_file.specs.Grammar.{said_by}
+use Rattle.event_file.specs.Lines.{most_line_bytes}
 use Rattle.event_file.specs.Printed.{IsWithinBounds, ReadIsWithinBounds}
 use Rattle.event_file.specs.Words.{parted_by}
 use Rattle.event_file.proofs.ReadWords.{said_by-says}
