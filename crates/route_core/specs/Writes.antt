@@ -1,15 +1,15 @@
 -- Writes to a routing socket: the reasons to refuse one, in the order in which they are looked at, and what the others get.
-use Rattle.std.specs.Prelude.{◌≡◌, ◌≤◌, ℕ, ◌==◌, ◌&&◌, not, nat_lt, nat_le, Bool, true, false, if◌then◌else◌, List, [], ◌∷◌, length, take, drop, slice_index, bit_and, Option, Some, None, is_none, Result, Ok, Err}
-use Rattle.std.specs.Int.{w32, from_be_bytes}
+use Rattle.std.specs.Prelude.{◌≡◌, ◌≤◌, ℕ, ◌==◌, ◌&&◌, not, nat_lt, nat_le, Bool, true, false, if◌then◌else◌, List, [], ◌∷◌, length, bit_and, Option, Some, None, is_none, Result, Ok, Err}
+use Rattle.sock_addrs.specs.Reading.{length_byte, number_of_inet}
 use Rattle.sock_addrs.specs.Texts.{family}
 use Rattle.sock_addrs.specs.Errno.{errno_number}
 use Rattle.sock_addrs.specs.declared.errno.Errno.{Errno}
 use Rattle.sock_addrs.specs.declared.errno.Errno.TheVariants.{ESRCH, EINVAL, EMSGSIZE, EPROTONOSUPPORT, EOPNOTSUPP}
 use Rattle.route_msgs.specs.Layout.{field, with_field}
-use Rattle.route_msgs.specs.Slots.{has_length, has_version, has_room, slot_in, slot_text}
+use Rattle.route_msgs.specs.Slots.{address_in, has_length, has_version, has_room, slot_in}
+use Rattle.route_msgs.specs.Texts.{bytes_or_none}
 use Rattle.route_msgs.specs.Headers.{header_in}
 use Rattle.route_msgs.specs.declared.header.Header.{Header}
-use Rattle.route_msgs.specs.declared.parsed.Slot.{Slot}
 use Rattle.route_core.specs.Messages.{route_got}
 use Rattle.sock_addrs.specs.Rules.{Rule, first_fault, rule}
 use Rattle.radix_tree.specs.Table.{best_of}
@@ -21,22 +21,17 @@ use Rattle.route_core.specs.declared.route.Route.{Route}
 abbrev pub refused_if : Bool → Errno → Option ℕ → Rule Refusal
 refused_if holds errno family = rule holds (record { errno = errno; family = family })
 
--- the bytes of an address in a message, none where it isn't there
-abbrev pub text_in_slot : Option Slot → List ℕ → List ℕ
-text_in_slot None m = []
-text_in_slot (Some s) m = slot_text s m
-
--- the bytes of the destination
+-- the bytes of the destination, none where it isn't there
 abbrev pub destination_text : List ℕ → List ℕ
-destination_text m = text_in_slot (slot_in m 0) m
+destination_text m = bytes_or_none (address_in m 0)
 
 -- the destination as an IPv4 address
 abbrev pub destination : List ℕ → ℕ
-destination m = from_be_bytes w32 (drop 4 (take 8 (destination_text m)))
+destination m = number_of_inet (destination_text m)
 
 -- an address of the family of IPv4, but of a length that none has
 abbrev pub is_malformed_inet : List ℕ → Bool
-is_malformed_inet text = family text == 2 && not (nat_le 8 (slice_index text 0) && nat_le (slice_index text 0) 16)
+is_malformed_inet text = family text == 2 && not (nat_le 8 (length_byte text) && nat_le (length_byte text) 16)
 
 -- a GET (RTM_GET, 4) that names no address but the destination, whose bit is 0x1
 abbrev pub is_plain_get : Header → Bool
@@ -50,10 +45,14 @@ text_rules to is_get =
     ∷ refused_if (not (family to == 2)) ESRCH (Some (family to))
     ∷ []
 
+-- the most bytes of a write that is looked at
+abbrev pub most_message_bytes : ℕ
+most_message_bytes = 8192
+
 -- the reasons that lie in the message itself
 abbrev pub message_rules : List ℕ → List (Rule Refusal)
 message_rules m =
-    refused_if (nat_lt 8192 (length m)) EMSGSIZE None
+    refused_if (nat_lt most_message_bytes (length m)) EMSGSIZE None
     ∷ refused_if (not (has_length m)) EINVAL None
     ∷ refused_if (not (has_version m)) EPROTONOSUPPORT (Some 0)
     ∷ refused_if (not (has_room m)) EINVAL (Some 0)
@@ -91,7 +90,7 @@ refused_reply errno pid m = with_field (field 24 4 (errno_number errno)) (if kee
 -- a write that is long enough for the header of a reply, says its own length, and isn't too long to be looked at
 pub record IsEchoed (m : List ℕ) : Type 0 where
   pub whole : has_length m ≡ true
-  pub most : length m ≤ 8192
+  pub most : length m ≤ most_message_bytes
 
 -- nobody hears of the refusal
 abbrev pub is_silent : Option Refusal → Bool

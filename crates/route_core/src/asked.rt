@@ -1,8 +1,6 @@
 //! What a write asks, or why it is refused before anything is looked up.
 ghost use Rattle.std.specs.Prelude.{◌≡◌, Some, None, IfOk, IfErr, IsSome};
-ghost use Rattle.std.specs.Int.{w32, from_be_bytes};
-ghost use Rattle.std.specs.Prelude.{take, drop};
-ghost use Rattle.sock_addrs.specs.Reading.{IsWhole};
+ghost use Rattle.sock_addrs.specs.Reading.{IsWhole, number_of_inet};
 ghost use Rattle.route_msgs.specs.Headers.{header_in};
 ghost use Rattle.sock_addrs.specs.Rules.{first_fault};
 ghost use Rattle.route_core.specs.Writes.{IsEchoed, message_rules, text_rules, is_plain_get as is_plain, destination as destination_of};
@@ -75,7 +73,7 @@ fn is_plain_get(header: &Header) -> bool
 fn destination_in(text: &[u8], is_plain_get: bool) -> Result<Inet, Refusal>
     requires { IsWhole text.now }
     ensures passes { IfOk result (λ _. first_fault (text_rules text.now is_plain_get) ≡ None) }
-    ensures address { IfOk result (λ a. a ≡ from_be_bytes w32 (drop 4 (take 8 text.now))) }
+    ensures address { IfOk result (λ a. a ≡ number_of_inet text.now) }
     ensures refused { IfErr result (λ r. first_fault (text_rules text.now is_plain_get) ≡ Some r) }
 {
     let family = family_of(text);

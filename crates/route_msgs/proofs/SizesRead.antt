@@ -1,5 +1,5 @@
 -- A message that was written says its own length, whatever its other fields are.
-use Rattle.std.proofs.Common.{◌≡◌, ℕ, ◌+◌, ◌<◌, ◌≤◌, ◌^◌, Bool, true, ◌&&◌, nat_le, List, [], ◌∷◌, ◌++◌, length, drop, replicate, refl, sym, ◌∙◌, arith, lit≤, length-append}
+use Rattle.std.proofs.Common.{◌≡◌, ℕ, ◌+◌, ◌<◌, ◌≤◌, ◌^◌, Bool, true, ◌&&◌, nat_le, List, [], ◌∷◌, ◌++◌, length, drop, replicate, refl, ◌∙◌, arith, lit≤, length-append}
 use Rattle.std.proofs.lemmas.Bool.{leb-true}
 use Rattle.route_msgs.specs.Layout.{Field, field, number_at, with_field, with_fields}
 use Rattle.route_msgs.specs.Headers.{ifa_fields, ifa_head, ifa_message, route_fields, route_head, route_message}

@@ -1,5 +1,5 @@
 -- The addresses that follow a header. An address stands in a message with zeros behind it, up to as many bytes as its length byte takes.
-use Rattle.std.specs.Prelude.{ℕ, ◌+◌, List, [], ◌∷◌, ◌++◌, slice_index, Option, Some, None}
+use Rattle.std.specs.Prelude.{ℕ, ◌+◌, List, [], ◌∷◌, slice_index, Option, Some, None}
 use Rattle.std.specs.List.{flat_map}
 use Rattle.sock_addrs.specs.Padded.{padded_to}
 use Rattle.sock_addrs.specs.Rounding.{rounded}

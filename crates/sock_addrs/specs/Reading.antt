@@ -22,13 +22,17 @@ pub record IsWhole (text : List ℕ) : Type 0 where
 abbrev pub IsShort : List ℕ → Type 0
 IsShort text = (length text ≡ 0) ⊎ (length text < length_byte text)
 
--- the text begins with this IPv4 address: bytes 4 to 7 spell it
+-- the number of an IPv4 address: bytes 4 to 7
+abbrev pub number_of_inet : List ℕ → ℕ
+number_of_inet text = from_be_bytes w32 (drop 4 (take 8 text))
+
+-- the text begins with this IPv4 address
 pub record IsInet (text : List ℕ) (address : ℕ) : Type 0 where
   pub whole : IsWhole text
   pub family : family text ≡ 2
   pub least : 8 ≤ length_byte text
   pub most : length_byte text ≤ 16
-  pub number : from_be_bytes w32 (drop 4 (take 8 text)) ≡ address
+  pub number : number_of_inet text ≡ address
 
 -- the text begins with this link-layer address: all the bytes that the length byte counts
 pub record IsLink (text link : List ℕ) : Type 0 where

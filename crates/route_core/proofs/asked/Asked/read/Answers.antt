@@ -1,13 +1,14 @@
 -- What is found of the destination is found of the message, whose frame is whole.
-use Rattle.std.proofs.Common.{◌≡◌, ℕ, List, Bool, take, drop, sym, ap, ◌∙◌}
-use Rattle.std.specs.Int.{w32, from_be_bytes}
+use Rattle.std.proofs.Common.{◌≡◌, ℕ, List, Bool, sym, ap, ◌∙◌}
 use Rattle.std.specs.Prelude.{Option, None, Some, get_or}
 use Rattle.std.proofs.lemmas.Bool.{le-ltb}
 use Rattle.std.proofs.lemmas.Result.{err_from_is_err_and}
-use Rattle.route_msgs.specs.Slots.{slot_in, slot_text}
+use Rattle.route_msgs.specs.Slots.{address_at, slot_in, slot_text}
+use Rattle.route_msgs.specs.Texts.{bytes_or_none}
+use Rattle.sock_addrs.specs.Reading.{number_of_inet}
 use Rattle.route_msgs.specs.declared.parsed.Slot.{Slot}
 use Rattle.sock_addrs.specs.Rules.{first_fault}
-use Rattle.route_core.specs.Writes.{message_rules, text_rules, text_in_slot, is_plain_get}
+use Rattle.route_core.specs.Writes.{message_rules, text_rules, is_plain_get}
 use Rattle.route_core.proofs.Checks.{refused_by_text}
 use Rattle.route_core.proofs.asked.Asked.read.Goals as goal
 use Rattle.route_core.proofs.asked.Asked.read.Goals.{After-destination_in}
@@ -38,5 +39,5 @@ returns-clause-passes c =
 pub returns-clause-destination : goal.returns-clause-destination
 returns-clause-destination c =
     let m = c.args.bytes.now in
-    let text = ap (λ (o : Option Slot). text_in_slot o m) (there (goal.at.returns-clause-destination c).After-destination_in) in
-    c.in_ok-destination.ensures.address ∙ ap (λ (t : List ℕ). from_be_bytes w32 (drop 4 (take 8 t))) (c.text.ensures ∙ sym text)
+    let text = ap (λ (o : Option Slot). bytes_or_none (address_at o m)) (there (goal.at.returns-clause-destination c).After-destination_in) in
+    c.in_ok-destination.ensures.address ∙ ap (λ (t : List ℕ). number_of_inet t) (c.text.ensures ∙ sym text)
