@@ -5,7 +5,7 @@ use Rattle.sock_addrs.specs.declared.errno.Errno.{Errno}
 use Rattle.sock_addrs.specs.declared.errno.Errno.TheVariants.{ENOBUFS, EBADF, EEXIST}
 use Rattle.if_addrs.specs.Interfaces.{attach_fault, attached, addr_fault, added, new_address, with_address, marked_routed, Address, Interface}
 use Rattle.listeners.specs.Sockets.{Socket, listen_fault, opened, messages_of, pid_of, taken}
-use Rattle.route_core.specs.Step.{AnswersOr, Steps, Stepped, stepped, takes_memory, refused, attach_step, open_step, read_step, write_step, reply_step, add_address_step, announced, inet_family, route_to_network, told, told_refusal}
+use Rattle.route_core.specs.Step.{IsStep, AnswersOr, Steps, Stepped, stepped, takes_memory, refused, attach_step, open_step, read_step, write_step, reply_step, add_address_step, announced, inet_family, route_to_network, told, told_refusal}
 use Rattle.radix_tree.specs.Table.{best_of, entry_at, with_entry}
 use Rattle.route_core.specs.World.{World}
 use Rattle.sock_addrs.specs.Rules.{first_fault}
@@ -46,13 +46,13 @@ pub listen_done : (w : World) (id : List ℕ) (pid protocol : ℕ) → listen_fa
 unfolding stepped takes_memory
 listen_done w id pid protocol h = inl (ap (open_step w id pid protocol) h)
 
-pub take_refused : (w : World) (id : List ℕ) → messages_of id w.sockets ≡ None → Steps w (Read id) (Refused EBADF) w
-unfolding stepped takes_memory
-take_refused w id h = inl (ap (read_step w id) h)
+pub take_refused : (w : World) (id : List ℕ) → messages_of id w.sockets ≡ None → IsStep w (Read id) (Refused EBADF) w
+unfolding stepped
+take_refused w id h = ap (read_step w id) h
 
-pub take_done : (w : World) (id : List ℕ) (messages : List (List ℕ)) → messages_of id w.sockets ≡ Some messages → Steps w (Read id) (Messages messages) (record w { sockets = taken id w.sockets })
-unfolding stepped takes_memory
-take_done w id messages h = inl (ap (read_step w id) h)
+pub take_done : (w : World) (id : List ℕ) (messages : List (List ℕ)) → messages_of id w.sockets ≡ Some messages → IsStep w (Read id) (Messages messages) (record w { sockets = taken id w.sockets })
+unfolding stepped
+take_done w id messages h = ap (read_step w id) h
 
 pub write_unknown : (w : World) (id m : List ℕ) → pid_of id w.sockets ≡ None → Steps w (Write id m) (Refused EBADF) w
 unfolding stepped takes_memory

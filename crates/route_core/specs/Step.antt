@@ -124,8 +124,12 @@ takes_memory w (Read id) = is_some (messages_of id w.sockets)
 abbrev pub AnswersOr : Answer → World → World → Answer → World → Type 0
 AnswersOr wanted next old answer new = ((answer ≡ wanted) × (new ≡ next)) ⊎ ((answer ≡ Refused ENOBUFS) × (new ≡ old))
 
+-- the machine's step: this answer and this world
+abbrev pub IsStep : World → Command → Answer → World → Type 0
+IsStep old command answer new = stepped old command ≡ record { world = new; answer = answer }
+
 -- the machine's step; or, where the command may want memory, the answer is that there is none and the world is the old one
 abbrev pub Steps : World → Command → Answer → World → Type 0
 Steps old command answer new =
-    (stepped old command ≡ record { world = new; answer = answer })
+    IsStep old command answer new
     ⊎ ((takes_memory old command ≡ true) × (answer ≡ Refused ENOBUFS) × (new ≡ old))

@@ -1,6 +1,6 @@
 ghost use Rattle.std.specs.Prelude.{◌≡◌, IfOk};
 ghost use Rattle.route_core.specs.World.{empty_world};
-ghost use Rattle.route_core.specs.Step.{Steps};
+ghost use Rattle.route_core.specs.Step.{IsStep, Steps};
 ghost use Rattle.route_core.specs.declared.command.Command.TheVariants.{Attach, Open, Read};
 
 use crate::{Answer, Command, LinkAddress, Received, Route};
@@ -85,9 +85,9 @@ impl World {
         Answer::Done
     }
 
-    /// Takes the messages that a socket has heard. EBADF: it isn't open.
+    /// Takes the messages that a socket has heard. EBADF: it isn't open. It wants no memory.
     pub fn take(&mut self, id: Name) -> Answer
-        ensures { Steps self.old (Read id) result self.new }
+        ensures { IsStep self.old (Read id) result self.new }
     {
         let bytes = match self.listeners.take(id) {
             Ok(bytes) => bytes,
