@@ -9,7 +9,7 @@ pub record Wrote {T : Type 0} (contents : T → Option (List ℕ)) (old new : Co
   pub failures : new.failures ≡ old.failures
   pub reads : new.reads ≡ old.reads
 
--- one write failed and none came after it, and the writer took what stands before some unwritten rest of the text
+-- one write failed, and the writer took what stands before some unwritten rest of the text
 pub record WroteFront {T : Type 0} (contents : T → Option (List ℕ)) (old new : Counts T) (text : List ℕ) : Type 0 where
   pub written : List ℕ
   pub unwritten : List ℕ

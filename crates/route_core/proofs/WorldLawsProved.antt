@@ -10,8 +10,8 @@ use Rattle.listeners.specs.Sockets.{Socket, has_id, listen_fault, messages_of, p
 use Rattle.route_core.specs.Step.{Stepped, stepped, refused, done, told_refusal, attach_step, add_address_step, add_route_step, open_step, read_step, reply_step, route_to_network, write_step}
 use Rattle.radix_tree.specs.Table.{best_of, entry_at}
 use Rattle.route_core.specs.World.{World}
-use Rattle.route_core.specs.WorldLaws.{HeardAtMostOne, KeepsAddress, NoMemoryKeepsAll, RefusalKeepsInterfaces, RefusalKeepsRoutes, RefusalKeepsSockets}
-use Rattle.route_core.specs.Writes.{destination, message_rules, refused_reply, reply_of, reply_to_get, unless_refused}
+use Rattle.route_core.specs.WorldLaws.{HeardReply, KeepsAddress, NoMemoryKeepsAll, RefusalKeepsInterfaces, RefusalKeepsRoutes, RefusalKeepsSockets}
+use Rattle.route_core.specs.Writes.{destination, message_rules, reply_of, reply_to_get, unless_refused}
 use Rattle.route_msgs.specs.Headers.{header_in}
 use Rattle.route_msgs.specs.declared.header.Header.{Header}
 use Rattle.radix_tree.specs.declared.entry.Entry.{Entry}
@@ -61,7 +61,7 @@ message_rules-found m = first_fault-all (λ (r : Refusal). IsFound r.errno) (mes
 -- the world that a command leaves which is refused, and not for want of memory
 abbrev Spared : Command → World → World → Errno → Type 0
 Spared c old new e =
-    (new.table ≡ old.table) × ((new.interfaces ≡ old.interfaces) ⊎ KeepsAddress c e old new) × HeardAtMostOne old.sockets new.sockets × IsFound e
+    (new.table ≡ old.table) × ((new.interfaces ≡ old.interfaces) ⊎ KeepsAddress c e old new) × ((new.sockets ≡ old.sockets) ⊎ HeardReply c e old.sockets new.sockets) × IsFound e
 
 record Spares (c : Command) (old : World) (s : Stepped) : Type 0 where
   on : (e : Errno) → s.answer ≡ Refused e → Spared c old s.world e
@@ -88,18 +88,18 @@ spares-add_route c old w a cloning spared =
     let r = route_to_network a cloning in
     spares-route c old w _ (is_some (entry_at r.key r.rank w.table)) spared
 
-told_refusal-spares : (c : Command) (old : World) (id : List ℕ) (pid : ℕ) (m : List ℕ) (errno : Errno) (family : Option ℕ) → IsFound errno
-    → Spared c old (told_refusal old id pid m (record { errno = errno; family = family })) errno
-told_refusal-spares c old id pid m errno None found = (refl, inl refl, inl refl, found)
-told_refusal-spares c old id pid m errno (Some family) found = (refl, inl refl, inr (refused_reply errno pid m, family, Some id, refl), found)
+told_refusal-spares : (old : World) (id : List ℕ) (pid : ℕ) (m : List ℕ) (errno : Errno) (family : Option ℕ) → IsFound errno
+    → Spared (Write id m) old (told_refusal old id pid m (record { errno = errno; family = family })) errno
+told_refusal-spares old id pid m errno None found = (refl, inl refl, inl refl, found)
+told_refusal-spares old id pid m errno (Some family) found = (refl, inl refl, inr (pid, family, refl), found)
 
 abbrev FoundErr : Result (List ℕ) Refusal → Type 0
 FoundErr (Ok reply) = ⊤
 FoundErr (Err r) = IsFound r.errno
 
-spares-reply : (c : Command) (old : World) (id : List ℕ) (pid : ℕ) (m : List ℕ) (reply : Result (List ℕ) Refusal) → FoundErr reply → Spares c old (reply_step old id pid m reply)
-spares-reply c old id pid m (Ok reply) found = spares-done c old _
-spares-reply c old id pid m (Err r) found = spares-refused c old (told_refusal old id pid m r) r.errno (told_refusal-spares c old id pid m r.errno r.family found)
+spares-reply : (old : World) (id : List ℕ) (pid : ℕ) (m : List ℕ) (reply : Result (List ℕ) Refusal) → FoundErr reply → Spares (Write id m) old (reply_step old id pid m reply)
+spares-reply old id pid m (Ok reply) found = spares-done (Write id m) old _
+spares-reply old id pid m (Err r) found = spares-refused (Write id m) old (told_refusal old id pid m r) r.errno (told_refusal-spares old id pid m r.errno r.family found)
 
 reply_to_get-found : (asked : Header) (pid : ℕ) (r : Option (Entry Route)) → FoundErr (reply_to_get asked pid r)
 reply_to_get-found asked pid None = λ h. absurd (cc)
@@ -112,9 +112,9 @@ unless_refused-found (Some r) reply p q = p
 reply_of-found : (w : World) (pid : ℕ) (m : List ℕ) → FoundErr (reply_of w.table pid m)
 reply_of-found w pid m = unless_refused-found (first_fault (message_rules m)) _ (message_rules-found m) (reply_to_get-found (header_in m) pid (best_of (destination m) w.table))
 
-spares-write : (c : Command) (old : World) (id m : List ℕ) (pid : Option ℕ) → Spares c old (write_step old id m pid)
-spares-write c old id m None = spares-same c old EBADF (λ h. absurd (cc))
-spares-write c old id m (Some pid) = spares-reply c old id pid m (reply_of old.table pid m) (reply_of-found old pid m)
+spares-write : (old : World) (id m : List ℕ) (pid : Option ℕ) → Spares (Write id m) old (write_step old id m pid)
+spares-write old id m None = spares-same (Write id m) old EBADF (λ h. absurd (cc))
+spares-write old id m (Some pid) = spares-reply old id pid m (reply_of old.table pid m) (reply_of-found old pid m)
 
 spares-read : (c : Command) (old : World) (id : List ℕ) (messages : Option (List (List ℕ))) → Spares c old (read_step old id messages)
 spares-read c old id None = spares-same c old EBADF (λ h. absurd (cc))
@@ -134,7 +134,7 @@ step-spares old (AddAddress name address prefix cloning) =
 step-spares old (Open id pid protocol) =
     let c = Open id pid protocol in
     spares-fault c old (open_step old id pid protocol) (listen_fault id old.sockets) (λ x. refl) (spares-done c old _) (listen_fault-found id old.sockets)
-step-spares old (Write id m) = spares-write (Write id m) old id m (pid_of id old.sockets)
+step-spares old (Write id m) = spares-write old id m (pid_of id old.sockets)
 step-spares old (Read id) = spares-read (Read id) old id (messages_of id old.sockets)
 
 pub refusal_keeps_routes : RefusalKeepsRoutes

@@ -1,14 +1,15 @@
 -- What a step that is refused leaves as it was.
-use Rattle.std.specs.Prelude.{◌≡◌, ◌⊎◌, ℕ, List, Option}
+use Rattle.std.specs.Prelude.{◌≡◌, ◌⊎◌, ℕ, List, Some}
 use Rattle.sock_addrs.specs.declared.errno.Errno.{Errno}
 use Rattle.sock_addrs.specs.declared.errno.Errno.TheVariants.{EEXIST, ENOBUFS}
 use Rattle.if_addrs.specs.Interfaces.{with_address}
 use Rattle.listeners.specs.Sockets.{Socket, delivered}
 use Rattle.route_core.specs.Step.{Steps, stepped}
 use Rattle.route_core.specs.World.{World}
+use Rattle.route_core.specs.Writes.{refused_reply}
 use Rattle.route_core.specs.declared.answer.Answer.TheVariants.{Refused}
 use Rattle.route_core.specs.declared.command.Command.{Command}
-use Rattle.route_core.specs.declared.command.Command.TheVariants.{AddAddress}
+use Rattle.route_core.specs.declared.command.Command.TheVariants.{AddAddress, Write}
 
 -- a refused request leaves every route as it was
 abbrev pub RefusalKeepsRoutes : Type 0
@@ -24,13 +25,15 @@ abbrev pub RefusalKeepsInterfaces : Type 0
 RefusalKeepsInterfaces = (w : World) → (c : Command) → (errno : Errno) → (stepped w c).answer ≡ Refused errno
     → ((stepped w c).world.interfaces ≡ w.interfaces) ⊎ KeepsAddress c errno w (stepped w c).world
 
--- the sockets are as they were, or one message was delivered to them
-abbrev pub HeardAtMostOne : List Socket → List Socket → Type 0
-HeardAtMostOne old new = (new ≡ old) ⊎ ((message : List ℕ) × (family : ℕ) × (own : Option (List ℕ)) × (new ≡ delivered message family own old))
+-- the reply to a refused write was delivered
+abbrev pub HeardReply : Command → Errno → List Socket → List Socket → Type 0
+HeardReply (Write id m) errno old new = (pid : ℕ) × (family : ℕ) × (new ≡ delivered (refused_reply errno pid m) family (Some id) old)
+HeardReply command errno old new = ⊥
 
 -- and every socket, but that the reply to a refused write may be delivered
 abbrev pub RefusalKeepsSockets : Type 0
-RefusalKeepsSockets = (w : World) → (c : Command) → (errno : Errno) → (stepped w c).answer ≡ Refused errno → HeardAtMostOne w.sockets (stepped w c).world.sockets
+RefusalKeepsSockets = (w : World) → (c : Command) → (errno : Errno) → (stepped w c).answer ≡ Refused errno
+    → ((stepped w c).world.sockets ≡ w.sockets) ⊎ HeardReply c errno w.sockets (stepped w c).world.sockets
 
 -- a step that answers that there is no memory has changed nothing at all
 abbrev pub NoMemoryKeepsAll : Type 0

@@ -11,7 +11,7 @@ pub fn refusal_keeps_interfaces()
     ensures { RefusalKeepsInterfaces }
 {}
 
-/// A refused request leaves every socket as it was, but that one message may be delivered: the reply to a refused write.
+/// A refused request leaves every socket as it was, but that the reply to a refused write may be delivered.
 pub fn refusal_keeps_sockets()
     ensures { RefusalKeepsSockets }
 {}

@@ -1,4 +1,4 @@
-ghost use Rattle.std.specs.Prelude.{◌≡◌, IfOk};
+ghost use Rattle.std.specs.Prelude.{◌≡◌, ℕ, List, IfOk};
 ghost use Rattle.route_core.specs.World.{empty_world};
 ghost use Rattle.route_core.specs.Step.{IsStep, Steps};
 ghost use Rattle.route_core.specs.declared.command.Command.TheVariants.{Attach, Open, Read};
@@ -43,9 +43,10 @@ impl World {
     }
 
     /// Takes one command: the answer and the world after it are the list machine's, or, where the command may want
-    /// memory, the answer is ENOBUFS and the world stays as it was.
+    /// memory, the answer is ENOBUFS and the world stays as it was. A read wants none.
     pub fn step(&mut self, command: &Command) -> Answer
-        ensures { Steps self.old command.now result self.new }
+        ensures step { Steps self.old command.now result self.new }
+        ensures read { (id : List ℕ) → command.now ≡ Read id → IsStep self.old command.now result self.new }
     {
         match command {
             Command::Attach {

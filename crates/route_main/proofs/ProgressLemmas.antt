@@ -288,6 +288,12 @@ HasRead-script {before = None} p = tt
 HasRead-script {before = Some script} {after = None} p = absurd p.consumes
 HasRead-script {before = Some script} {after = Some rest} p = omega (arith, p.many, ap length p.consumes, length-append p.read rest)
 
+-- each read but the last gave a byte
+pub HasRead-reads : (n r : ℕ) (before after : Option (List ℕ)) → HasRead n before after → r ≤ n + 1 → IfSome before (λ script. r ≤ length script + 1)
+HasRead-reads n r None after p h = tt
+HasRead-reads n r (Some script) None p h = absurd p.consumes
+HasRead-reads n r (Some script) (Some rest) p h = omega (arith, h, p.many, ap length p.consumes, length-append p.read rest)
+
 pub Ends-read_fault : {s : Standing} {before mid after c d : Option (List ℕ)} {l : Line} → Reached s before mid c d l → Keeps mid after → Ends ReadFault before after c d
 Ends-read_fault {s} {before} {mid} {after} p keeps = record {
   read = p.read;

@@ -1,5 +1,5 @@
 //! A run: a script's bytes in, its transcript out.
-ghost use Rattle.std.specs.Prelude.{◌≡◌, ◌≢◌, ◌<◌, ◌≤◌, ◌⊎◌, ℕ, List, length, IfOk, IfSome, true, false};
+ghost use Rattle.std.specs.Prelude.{◌≡◌, ◌≢◌, ◌+◌, ◌<◌, ◌≤◌, ◌⊎◌, ℕ, List, length, IfOk, IfSome, true, false};
 ghost use Rattle.std.specs.Io.KnownBytes.{Appends, IsAtEnd};
 ghost use Rattle.event_file.specs.Lines.{answered_lines, no_line};
 ghost use Rattle.route_main.specs.Progress.{fresh};
@@ -46,6 +46,7 @@ pub(crate) fn run<R: Read, W: Write>(
     ensures ends { Ends result (R.remaining reader.old.inner) (R.remaining reader.new.inner)
         (W.contents writer.old.inner) (W.contents writer.new.inner) }
     ensures reads { reader.new.reads ≤ MOST_READS }
+    ensures reads_needed { IfSome (R.remaining reader.old.inner) (λ script. reader.new.reads ≤ length script + 1) }
 
     // A run goes on as long as no read and no write fails, and a fault comes only where one failed, or the reads are spent on
     // a script of at least as many bytes; and without memory nothing begins.
@@ -112,6 +113,7 @@ fn answer_script<R: Read, W: Write>(
     ensures ends { Ends result (R.remaining reader.old.inner) (R.remaining reader.new.inner)
         (W.contents writer.old.inner) (W.contents writer.new.inner) }
     ensures reads { reader.new.reads ≤ MOST_READS }
+    ensures reads_needed { IfSome (R.remaining reader.old.inner) (λ script. reader.new.reads ≤ length script + 1) }
     ensures unfailed { IsAnswered result → (reader.new.failures ≡ 0) × (writer.new.failures ≡ 0) }
     ensures read_fault { result ≡ Outcome.ReadFault → (reader.new.failures ≡ 1) ⊎ ((reader.new.reads ≡ MOST_READS)
         × IfSome (R.remaining reader.old.inner) (λ script. MOST_READS ≤ length script)) }

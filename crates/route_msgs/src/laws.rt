@@ -6,6 +6,18 @@ ghost use Rattle.route_msgs.specs.Headers.{ifa_message, route_message};
 ghost use Rattle.route_msgs.specs.Slots.{ReadsMessage};
 ghost use Rattle.route_msgs.specs.Written.{IfaMessageIsLaidOut, NamedBitsAreTexts, TextsAreRead, WrittenIsRead};
 
+use crate::bits::{
+    RTA_AUTHOR, RTA_BRD, RTA_DST, RTA_GATEWAY, RTA_GENMASK, RTA_IFA, RTA_IFP, RTA_NETMASK,
+};
+use crate::flags::{
+    RTF_BLACKHOLE, RTF_CLONING, RTF_DONE, RTF_DYNAMIC, RTF_GATEWAY, RTF_HOST, RTF_LLINFO, RTF_MASK,
+    RTF_MODIFIED, RTF_REJECT, RTF_STATIC, RTF_UP, RTF_XRESOLVE,
+};
+use crate::kinds::{
+    RTM_ADD, RTM_CHANGE, RTM_DELADDR, RTM_DELETE, RTM_GET, RTM_LOCK, RTM_MISS, RTM_NEWADDR,
+    RTM_REDIRECT, RTM_RESOLVE,
+};
+
 /// A message about a route that was written is read as the header and the addresses that it was written from.
 pub fn written_is_read()
     ensures { WrittenIsRead }
@@ -39,4 +51,47 @@ pub fn reading_by_example()
     ensures question { ReadsMessage question (Ok question_parsed) }
     ensures bare { ReadsMessage bare (Ok bare_parsed) }
     ensures short { ReadsMessage short (Ok short_parsed) }
+{}
+
+/// The bits of the addrs field, by their numbers in <net/route.h>.
+pub fn bits_by_number()
+    ensures dst { RTA_DST ≡ 0x1 }
+    ensures gateway { RTA_GATEWAY ≡ 0x2 }
+    ensures netmask { RTA_NETMASK ≡ 0x4 }
+    ensures genmask { RTA_GENMASK ≡ 0x8 }
+    ensures ifp { RTA_IFP ≡ 0x10 }
+    ensures ifa { RTA_IFA ≡ 0x20 }
+    ensures author { RTA_AUTHOR ≡ 0x40 }
+    ensures brd { RTA_BRD ≡ 0x80 }
+{}
+
+/// A route's flags, by their numbers in <net/route.h>.
+pub fn flags_by_number()
+    ensures up { RTF_UP ≡ 0x1 }
+    ensures gateway { RTF_GATEWAY ≡ 0x2 }
+    ensures host { RTF_HOST ≡ 0x4 }
+    ensures reject { RTF_REJECT ≡ 0x8 }
+    ensures dynamic { RTF_DYNAMIC ≡ 0x10 }
+    ensures modified { RTF_MODIFIED ≡ 0x20 }
+    ensures done { RTF_DONE ≡ 0x40 }
+    ensures mask { RTF_MASK ≡ 0x80 }
+    ensures cloning { RTF_CLONING ≡ 0x100 }
+    ensures xresolve { RTF_XRESOLVE ≡ 0x200 }
+    ensures llinfo { RTF_LLINFO ≡ 0x400 }
+    ensures by_hand { RTF_STATIC ≡ 0x800 }
+    ensures blackhole { RTF_BLACKHOLE ≡ 0x1000 }
+{}
+
+/// A message's types, by their numbers in <net/route.h>.
+pub fn types_by_number()
+    ensures add { RTM_ADD ≡ 1 }
+    ensures delete { RTM_DELETE ≡ 2 }
+    ensures change { RTM_CHANGE ≡ 3 }
+    ensures get { RTM_GET ≡ 4 }
+    ensures redirect { RTM_REDIRECT ≡ 6 }
+    ensures miss { RTM_MISS ≡ 7 }
+    ensures lock { RTM_LOCK ≡ 8 }
+    ensures resolve { RTM_RESOLVE ≡ 11 }
+    ensures newaddr { RTM_NEWADDR ≡ 12 }
+    ensures deladdr { RTM_DELADDR ≡ 13 }
 {}
