@@ -4,7 +4,7 @@ use Rattle.std.specs.List.{find}
 use Rattle.std.proofs.lemmas.Slice.Eq.{bytes_eq-Decides}
 use Rattle.sock_addrs.specs.First.{change_first}
 use Rattle.listeners.specs.Sockets.{Socket, has_id, hears, socket_of, taken, delivered, emptied}
-use Rattle.listeners.specs.SocketLaws.{ReadingDisturbsNoOther, DeliveringOnlyAppends}
+use Rattle.listeners.specs.SocketLaws.{DeliveringOnlyAppends, ReadingChangesMessagesAlone, ReadingDisturbsNoOther}
 
 reading_at : (id other : List ℕ) (s : Socket) (ss : List Socket) (b o : Bool) → (b ≡ true → o ≡ false)
     → find (has_id other) (change_first (has_id id) emptied ss) ≡ find (has_id other) ss
@@ -24,6 +24,18 @@ reading id other (s ∷ ss) h = reading_at id other s ss (has_id id s) (has_id o
 
 pub reading_disturbs_no_other : ReadingDisturbsNoOther
 reading_disturbs_no_other = λ id other ss h. reading id other ss h
+
+reading_alone_at : (id : List ℕ) (s : Socket) (ss : List Socket) (b : Bool) → map emptied (taken id ss) ≡ map emptied ss
+    → map emptied (if b then emptied s ∷ ss else s ∷ taken id ss) ≡ map emptied (s ∷ ss)
+reading_alone_at id s ss true rest = refl
+reading_alone_at id s ss false rest = ap (λ (xs : List Socket). emptied s ∷ xs) rest
+
+reading_alone : (id : List ℕ) (ss : List Socket) → map emptied (taken id ss) ≡ map emptied ss
+reading_alone id [] = refl
+reading_alone id (s ∷ ss) = reading_alone_at id s ss (has_id id s) (reading_alone id ss)
+
+pub reading_changes_messages_alone : ReadingChangesMessagesAlone
+reading_changes_messages_alone = λ id ss. reading_alone id ss
 
 kept_at : (message : List ℕ) (s : Socket) (b : Bool) → emptied (if b then record s { messages = s.messages ++ message ∷ [] } else s) ≡ emptied s
 kept_at message s true = refl

@@ -1,11 +1,12 @@
 //! Laws of what contracts say of the sockets, and of the bytes of their messages.
 
 ghost use Rattle.listeners.specs.QueueLaws.{JoinedIsCut, JoinedIsWhole};
-ghost use Rattle.listeners.specs.SocketLaws.{ReadingDisturbsNoOther, DeliveringOnlyAppends};
+ghost use Rattle.listeners.specs.SocketLaws.{DeliveringOnlyAppends, ReadingChangesMessagesAlone, ReadingDisturbsNoOther};
 
-/// A socket that reads its messages leaves every other as it was.
+/// A socket that reads its messages leaves every other as it was, and of itself all but its messages.
 pub fn reading_disturbs_no_other()
-    ensures { ReadingDisturbsNoOther }
+    ensures others { ReadingDisturbsNoOther }
+    ensures alone { ReadingChangesMessagesAlone }
 {}
 
 /// A delivery changes nothing of any socket but its messages, and only adds the new one at their end.

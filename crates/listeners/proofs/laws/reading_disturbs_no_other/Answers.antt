@@ -1,5 +1,8 @@
-use Rattle.listeners.proofs.SocketLawsProved.{reading_disturbs_no_other}
+use Rattle.listeners.proofs.SocketLawsProved.{reading_changes_messages_alone, reading_disturbs_no_other}
 use Rattle.listeners.proofs.laws.reading_disturbs_no_other.Goals as goal
 
-pub returns : goal.returns
-returns c = reading_disturbs_no_other
+pub returns-clause-others : goal.returns-clause-others
+returns-clause-others c = reading_disturbs_no_other
+
+pub returns-clause-alone : goal.returns-clause-alone
+returns-clause-alone c = reading_changes_messages_alone
