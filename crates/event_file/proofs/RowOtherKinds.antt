@@ -1,4 +1,4 @@
--- The transcript of a script, computed by the definitions.
+-- Lines that the grammar doesn't have are answered `bad`: the transcript, computed by the definitions.
 use Rattle.std.proofs.Common.{◌≡◌, ℕ, List, ◌++◌, codes, refl}
 use Rattle.std.specs.Fmt.{digits}
 use Rattle.hex.proofs.OnLiterals.{hex_on_literals}

@@ -1,4 +1,4 @@
-ghost use Rattle.std.specs.Prelude.{◌≡◌, ◌++◌, ◌∷◌, ◌<◌, ◌≤◌, length, take, drop, flat_map, OnOk, OnErr};
+ghost use Rattle.std.specs.Prelude.{◌≡◌, ◌≤◌, length, flat_map, OnOk, OnErr};
 ghost use Rattle.hex.specs.Hex.{encode_lower};
 ghost use Rattle.sock_addrs.specs.Errno.{errno_number};
 ghost use Rattle.event_file.specs.Answers.{message_line, refusal_line, reply_text};
@@ -17,7 +17,8 @@ const PIECE: usize = 2048;
 
 /// Writes the text of a line's answer, going on behind what a short write took: `ok`, `err` with the errno's number,
 /// `msg` with its bytes for each message and then `ok`, or `bad`. It is refused at the first write that answers an
-/// error or takes no byte, and what was taken before is then a front of that text.
+/// error or takes no byte, and what was taken before is then a front of that text. `buffer` is room for 4,096 bytes of text;
+/// what it held is lost.
 pub fn write_answer<W: Write>(
     answer: &Result<Answer, Bad>,
     buffer: &mut [u8],
@@ -115,7 +116,7 @@ fn write_piece<W: Write>(
     buffer: &mut [u8],
     writer: &mut Counted<W>,
 ) -> Result<(), Stopped>
-    requires piece { length piece.now ≤ 2048 }
+    requires piece { length piece.now ≤ PIECE }
     requires buffer { length buffer.old ≡ 4096 }
     requires no_failure { writer.old.failures ≡ 0 }
     ensures ok { OnOk result (Wrote W.contents writer.old writer.new (encode_lower piece.now)) }

@@ -1,4 +1,4 @@
-ghost use Rattle.std.specs.Prelude.{◌≡◌, ℕ, List, map, bytes_eq, Some, None};
+ghost use Rattle.std.specs.Prelude.{◌≡◌, map, bytes_eq, Some, None};
 ghost use Rattle.std.specs.Result.{MatchResult};
 ghost use Rattle.event_file.specs.Words.{parted_by};
 ghost use Rattle.event_file.specs.Grammar.{attach_form, address_of_parts, cloning_of, add_address_form, open_form, write_form, read_form, forms, by_forms, said_by, command_of};
@@ -164,89 +164,4 @@ pub fn read_line(line: &[u8]) -> Result<Command, Bad>
     }
     let words = parted(b' ', line).ok_or(Bad)?;
     said(words.as_slice()).ok_or(Bad)
-}
-
-#[cfg(test)]
-mod tests {
-    use super::*;
-
-    #[test]
-    fn reads_each_form(rt: HostRuntime) {
-        for line in [
-            "if ed0 broadcast 6 080020010203",
-            "if 12345678 broadcast 0 -",
-            "if a broadcast 255 0102030405060708",
-            "addr ed0 10.0.0.1/8",
-            "addr ed0 0.0.0.0/0",
-            "addr ed0 255.255.255.255/32 cloning",
-            "open a 0 any",
-            "open a 4294967295 any",
-            "write a 5cFf00aB",
-            "write z -",
-            "read a",
-        ] {
-            assert!(rt; read_line(line.as_bytes()).is_ok(), "{line}");
-        }
-    }
-
-    #[test]
-    fn refuses_what_no_form_has(rt: HostRuntime) {
-        for line in [
-            "",
-            " ",
-            "read",
-            " read a",
-            "read a ",
-            "read  a",
-            "read a\r",
-            "read\ta",
-            "read a\0",
-            "read é",
-            "read A",
-            "READ a",
-            "read 123456789",
-            "read a b",
-            "if ed0 broadcast 256 -",
-            "if ed0 broadcast 6",
-            "if ed0 broadcast 6 01 02",
-            "if ed0 broadcast 6 010203040506070809",
-            "if le0 loopback 24 -",
-            "addr ed0 10.0.0.1",
-            "addr ed0 10.0.0.1/33",
-            "addr ed0 10.0.0.1/08",
-            "addr ed0 10.0.0.1/8/8",
-            "addr ed0 10.0.0.256/8",
-            "addr ed0 10.0.0/8",
-            "addr ed0 10.0.0.1.2/8",
-            "addr ed0 10.0..1/8",
-            "addr ed0 10.0.0.1/8 clone",
-            "addr ed0 10.0.0.1/8 cloning cloning",
-            "addr le0 11.0.0.1/8 to 11.0.0.2",
-            "open a 007 any",
-            "open a +7 any",
-            "open a 4294967296 any",
-            "open b 1 2",
-            "write a 0",
-            "write a 0123456789abcdef0",
-            "write a 0g",
-            "write a --",
-            "write a ",
-            "dump ask",
-        ] {
-            assert_eq!(rt; read_line(line.as_bytes()).err(), Some(Bad), "{line}");
-        }
-    }
-
-    #[test]
-    fn reads_the_longest_line(rt: HostRuntime) {
-        let mut line = [b'0'; 16501];
-        line[..8].copy_from_slice(b"write a ");
-        let count = match read_line(&line[..LONGEST_LINE]) {
-            Ok(Command::Write { bytes, .. }) => bytes.as_slice().len(),
-            _ => 0,
-        };
-        assert_eq!(rt; count, 8246);
-        line[..9].copy_from_slice(b"write ab ");
-        assert_eq!(rt; read_line(&line).err(), Some(Bad));
-    }
 }

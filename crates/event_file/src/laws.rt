@@ -1,4 +1,5 @@
-//! Laws of what contracts say of lines, answers and transcripts.
+//! Laws of lines, commands, answers and transcripts: each function does nothing, and its contract is the law.
+
 ghost use Rattle.std.specs.Prelude.{◌≡◌, ◌∷◌, [], true, false, codes};
 ghost use Rattle.route_core.specs.declared.command.Command.TheVariants.{Attach, AddAddress, Open, Write, Read};
 ghost use Rattle.event_file.specs.Answers.{RepliesEndInANewline};

@@ -9,6 +9,8 @@ pub mod laws;
 mod line_buffer;
 mod numbers;
 mod output;
+#[cfg(test)]
+mod tests;
 mod texts;
 mod words;
 

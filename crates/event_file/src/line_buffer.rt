@@ -1,4 +1,4 @@
-ghost use Rattle.std.specs.Prelude.{◌≡◌, ◌≤◌, ◌<◌, ◌+◌, true, false, length, position, IfOk, IfSome, MatchOption, cond, option_copied};
+ghost use Rattle.std.specs.Prelude.{◌≡◌, ◌≤◌, ◌+◌, false, length, position, IfOk, IfSome, cond, option_copied};
 ghost use Rattle.event_file.specs.Lines.{Line, after_bytes, extended, first_line, has_newline, is_begun, is_newline, no_line};
 
 use std::alloc::{AllocError, Global};
@@ -28,7 +28,7 @@ impl Model for LineBuffer {
 }
 
 impl LineBuffer {
-    /// No byte yet. This call alone takes memory: room for the longest line.
+    /// No byte yet. This call alone takes memory: room for the longest line. `Err` where there is none.
     pub fn new(alloc: Global) -> Result<LineBuffer, AllocError>
         ensures { IfOk result (λ line. line ≡ no_line) }
     {
@@ -90,7 +90,7 @@ impl LineBuffer {
         self.is_too_long || !self.bytes.is_empty()
     }
 
-    /// Puts bytes behind the line, as far as it has room for all of them.
+    /// Puts bytes behind the line, which is too long from then on where it has no room for all of them.
     fn keep(&mut self, bytes: &[u8])
         ensures text { self.new.text ≡ extended self.old.text bytes.now }
         ensures ended { self.new.ended ≡ self.old.ended }

@@ -1,4 +1,4 @@
-ghost use Rattle.std.specs.Prelude.{◌≡◌, ◌≢◌, ◌≤◌, ◌<◌, ◌^◌, ℕ, List, decimal, map};
+ghost use Rattle.std.specs.Prelude.{◌≡◌, ◌≢◌, ◌≤◌, ◌<◌, ◌^◌, ℕ, decimal, map};
 ghost use Rattle.std.specs.Option.{IfSome, MatchOption};
 ghost use Rattle.event_file.specs.Words.{number_to, inet_of_parts, inet_of};
 

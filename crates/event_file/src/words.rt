@@ -1,4 +1,4 @@
-ghost use Rattle.std.specs.Prelude.{◌≡◌, ◌<◌, ℕ, List, [], ◌∷◌, length, map};
+ghost use Rattle.std.specs.Prelude.{◌≡◌, ◌<◌, [], ◌∷◌, length, map};
 ghost use Rattle.std.specs.Option.{MatchOption, IfSome, IfNone};
 ghost use Rattle.event_file.specs.Words.{parted_by};
 

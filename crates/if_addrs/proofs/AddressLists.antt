@@ -14,7 +14,7 @@ use Rattle.sock_addrs.specs.Rules.{rule, first_fault}
 use Rattle.if_addrs.specs.Facts.{facts_of}
 use Rattle.if_addrs.specs.declared.reference.IfaRef.{IfaRef}
 use Rattle.if_addrs.specs.declared.reference.IfaRef.TheVariants.{Inet, Link}
-use Rattle.if_addrs.specs.Interfaces.{Address, Interface, addresses_of, address_of, marked_routed, added, has_name, has_number, has_address, with_one_more, with_routed_flag, with_routed_flags, routed_flag, attached, addr_fault, holds, new_address, with_address}
+use Rattle.if_addrs.specs.Interfaces.{Address, Interface, addresses_of, address_of, marked_routed, added, has_name, has_number, has_numbered, with_one_more, with_routed_flag, with_routed_flags, routed_flag, attached, addr_fault, holds, new_address, with_address}
 use Rattle.if_addrs.specs.Numbered.{AreNumbered}
 
 -- SEARCH BY NUMBER, an interface after the other
@@ -198,22 +198,22 @@ first_fails false x o h = (refl, h)
 none-anywhere_at : (k : ℕ) (xs : List Address) (rest : Option Address) → list_any (has_number k) xs ≡ is_some (find (has_number k) xs) → list_any (has_number k) xs ≡ false → rest ≡ None → option_or (find (has_number k) xs) rest ≡ None
 none-anywhere_at k xs rest e fails h = rw (not_found (find (has_number k) xs) (sym e ∙ fails)) h
 
-none-anywhere : (k : ℕ) (is : List Interface) → find (has_address k) is ≡ None → find (has_number k) (addresses_of is) ≡ None
+none-anywhere : (k : ℕ) (is : List Interface) → find (has_numbered k) is ≡ None → find (has_number k) (addresses_of is) ≡ None
 none-anywhere k [] h = refl
 none-anywhere k (i ∷ is) h =
-    let f = first_fails (has_address k i) i (find (has_address k) is) h in
+    let f = first_fails (has_numbered k i) i (find (has_numbered k) is) h in
     find-append (has_number k) i.addresses (addresses_of is) ∙ none-anywhere_at k i.addresses (find (has_number k) (addresses_of is)) (found (has_number k) i.addresses) f.0 (none-anywhere k is f.1)
 
 -- an address that is there is an interface's
-pub has-place : (k : ℕ) (is : List Interface) → position (has_address k) is ≡ None → find (has_number k) (addresses_of is) ≡ None
-has-place k is h = none-anywhere k is (none-position (has_address k) is h)
+pub has-place : (k : ℕ) (is : List Interface) → position (has_numbered k) is ≡ None → find (has_number k) (addresses_of is) ≡ None
+has-place k is h = none-anywhere k is (none-position (has_numbered k) is h)
 
 some_place : (o : Option ℕ) (f : Option Address) → (o ≡ None → f ≡ None) → IsSome f → IsSome o
 some_place None f g h = rw (g refl) at h
 some_place (Some i) f g h = search rules
 
-pub place_of_number : (k : ℕ) (is : List Interface) → IsSome (find (has_number k) (addresses_of is)) → IsSome (position (has_address k) is)
-place_of_number k is h = some_place (position (has_address k) is) (find (has_number k) (addresses_of is)) (has-place k is) h
+pub place_of_number : (k : ℕ) (is : List Interface) → IsSome (find (has_number k) (addresses_of is)) → IsSome (position (has_numbered k) is)
+place_of_number k is h = some_place (position (has_numbered k) is) (find (has_number k) (addresses_of is)) (has-place k is) h
 
 -- where nothing refuses an address there is an interface of the name
 unrefused : (a b d : Bool) → first_fault (rule (not a) ENXIO ∷ rule b EADDRINUSE ∷ rule d ENOSPC ∷ []) ≡ None → a ≡ true

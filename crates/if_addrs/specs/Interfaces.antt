@@ -120,8 +120,8 @@ with_address name address prefix cloning interfaces =
 abbrev pub has_number : ℕ → Address → Bool
 has_number number a = a.number == number
 
-abbrev pub has_address : ℕ → Interface → Bool
-has_address number i = list_any (has_number number) i.addresses
+abbrev pub has_numbered : ℕ → Interface → Bool
+has_numbered number i = list_any (has_number number) i.addresses
 
 -- the address, where it is none of a link layer
 abbrev pub address_of : IfaRef → List Interface → Option Address
@@ -130,7 +130,7 @@ address_of (Link index) interfaces = None
 
 -- the number of the interface that has the address
 abbrev pub interface_of : IfaRef → List Interface → ℕ
-interface_of (Inet number) interfaces = unwrap_or (position (has_address number) interfaces) 0 + 1
+interface_of (Inet number) interfaces = unwrap_or (position (has_numbered number) interfaces) 0 + 1
 interface_of (Link index) interfaces = index
 
 -- the interface address is one of these interfaces

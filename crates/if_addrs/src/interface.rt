@@ -1,6 +1,6 @@
-ghost use Rattle.std.specs.Prelude.{◌≡◌, ◌+◌, ◌≤◌, [], ◌∷◌, ◌++◌, length, map, Some, option_map, OnOk, OnErr};
+ghost use Rattle.std.specs.Prelude.{◌≡◌, ◌+◌, ◌≤◌, ◌++◌, length, map, option_map, OnOk, OnErr};
 ghost use Rattle.std.specs.List.{find, list_any, position};
-ghost use Rattle.if_addrs.specs.Interfaces.{addresses_of, attached, has_name as is_named, holds, has_number, has_address as holds_number, with_one_more, with_routed_flags, link_text};
+ghost use Rattle.if_addrs.specs.Interfaces.{addresses_of, attached, has_name as is_named, holds, has_number, has_numbered as holds_number, with_one_more, with_routed_flags, link_text};
 ghost use Rattle.sock_addrs.specs.Padded.{padded_to};
 ghost use Rattle.if_addrs.specs.Facts.{facts_of};
 

@@ -1,4 +1,4 @@
-//! Laws of what contracts say of the interfaces. Each is the contract of a function that does nothing.
+//! Laws of interfaces: each function does nothing, and its contract is the law.
 
 ghost use Rattle.if_addrs.specs.InterfaceLaws.{LastOfNetworkIsGreatest};
 

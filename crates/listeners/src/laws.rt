@@ -1,4 +1,4 @@
-//! Laws of what contracts say of the sockets, and of the bytes of their messages.
+//! Laws of sockets, and of the bytes of their messages: each function does nothing, and its contract is the law.
 
 ghost use Rattle.listeners.specs.QueueLaws.{JoinedIsCut, JoinedIsWhole};
 ghost use Rattle.listeners.specs.SocketLaws.{DeliveringOnlyAppends, ReadingChangesMessagesAlone, ReadingDisturbsNoOther};

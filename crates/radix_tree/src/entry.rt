@@ -8,8 +8,11 @@ use sock_addrs::Inet;
 /// A route as a table holds it: its key, which has no bit past its rank, its rank, and all else of it.
 #[derive(Drop)]
 pub struct Entry<V> {
+    /// The address of its network, with no bit past the rank.
     pub key: Inet,
+    /// The length of its mask, or 33 where it has none.
     pub rank: Rank,
+    /// All else of it.
     pub value: V,
 }
 

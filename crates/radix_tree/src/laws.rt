@@ -1,4 +1,5 @@
-//! Laws of the definitions that the table's contracts cite. Each is the contract of a function that does nothing.
+//! Laws of the table: each function does nothing, and its contract is the law.
+
 ghost use Rattle.radix_tree.specs.Table.{IsTable};
 ghost use Rattle.radix_tree.specs.TableLaws.{PlaceIsOrder, PlaceIsOfOnePair, BestIsGreatest, BestIsUnique, NoneAgrees, BestStays, WithIsTable, WithoutIsTable, WithThenWithout, WithoutThenWith};
 
@@ -8,6 +9,7 @@ use crate::routes::Table;
 pub fn is_table<V>(table: &Table<V>)
     ensures { IsTable table.now.entries }
 {
+    // What holds of a table is known once a field of it is looked at.
     let _ = &table.head;
 }
 

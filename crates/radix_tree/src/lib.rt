@@ -6,6 +6,8 @@ mod entry;
 pub mod laws;
 mod reading;
 mod routes;
+#[cfg(test)]
+mod tests;
 mod visits;
 mod walk;
 mod writing;
@@ -14,6 +16,3 @@ pub use entry::Entry;
 pub use routes::{Room, Table};
 pub use visits::Visits;
 pub use walk::Walk;
-
-#[cfg(test)]
-mod tests;

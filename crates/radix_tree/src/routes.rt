@@ -1,10 +1,8 @@
 //! The table and its rooms.
-ghost use Rattle.std.specs.Prelude.{◌≡◌, ℕ, ◌+◌, ◌<◌, [], ◌∷◌, IfOk, MatchResult};
-ghost use Rattle.radix_tree.specs.Table.{uses};
+ghost use Rattle.std.specs.Prelude.{◌≡◌, ℕ, ◌+◌, [], IfOk};
 
 use crate::chain::{Cell, Chain};
 use crate::visits::{Number, Visits};
-use crate::walk::Walk;
 use std::alloc::{AllocError, Global};
 use std::marker::Model;
 
@@ -24,7 +22,9 @@ impl<V> Model for Room<V> {
 }
 
 /// A routing table: a sorted list of boxed cells, each with a route. A contract sees the routes in table order, which is by
-/// rising keys, and for one key without a mask first and then from the longest mask to the shortest.
+/// rising keys, and for one key without a mask first and then from the longest mask to the shortest. Beside them it sees the
+/// numbers of the rooms in use, the number of the next room, and the turn: `begin`, `add`, `remove` and `get_mut` begin one, and
+/// a counter of an earlier turn can't be used again.
 #[derive(Drop)]
 pub struct Table<V> {
     pub(crate) alloc: Global,
@@ -55,7 +55,7 @@ impl<V> Model for Table<V> {
 }
 
 impl<V> Table<V> {
-    /// A table without a route, whose rooms come from this allocator. `Err` where there is no memory for it.
+    /// A table without a route, whose rooms come from this allocator. It takes no memory today, and so is never refused.
     pub fn new(alloc: Global) -> Result<Table<V>, AllocError>
         ensures { IfOk result (λ t. t ≡ record { entries = []; numbers = []; next = 1; turn = 0 }) }
     {

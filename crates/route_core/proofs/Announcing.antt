@@ -5,7 +5,8 @@ use Rattle.if_addrs.specs.Facts.{facts_of}
 use Rattle.if_addrs.specs.Interfaces.{Address, Interface, interface_of, link_text_of}
 use Rattle.route_core.specs.Messages.{address_added, route_added}
 use Rattle.listeners.specs.Sockets.{Socket, delivered}
-use Rattle.route_core.specs.Step.{announced, inet_family}
+use Rattle.route_core.specs.Step.{announced}
+use Rattle.sock_addrs.specs.Texts.{inet_family}
 use Rattle.if_addrs.specs.declared.reference.Facts.{Facts}
 use Rattle.if_addrs.specs.declared.reference.IfaRef.{IfaRef}
 use Rattle.radix_tree.specs.declared.entry.Entry.{Entry}

@@ -5,7 +5,8 @@ use Rattle.sock_addrs.specs.declared.errno.Errno.{Errno}
 use Rattle.sock_addrs.specs.declared.errno.Errno.TheVariants.{ENOBUFS, EBADF, EEXIST}
 use Rattle.if_addrs.specs.Interfaces.{attach_fault, attached, addr_fault, added, new_address, with_address, marked_routed, Address, Interface}
 use Rattle.listeners.specs.Sockets.{Socket, listen_fault, opened, messages_of, pid_of, taken}
-use Rattle.route_core.specs.Step.{IsStep, AnswersOr, Steps, Stepped, stepped, takes_memory, refused, attach_step, open_step, read_step, write_step, reply_step, add_address_step, announced, inet_family, route_to_network, told, told_refusal}
+use Rattle.route_core.specs.Step.{IsStep, AnswersOr, Steps, Stepped, stepped, takes_memory, refused, attach_step, open_step, read_step, write_step, reply_step, add_address_step, announced, route_to_network, told, told_refusal}
+use Rattle.sock_addrs.specs.Texts.{inet_family}
 use Rattle.radix_tree.specs.Table.{best_of, entry_at, with_entry}
 use Rattle.route_core.specs.World.{World}
 use Rattle.sock_addrs.specs.Rules.{first_fault}

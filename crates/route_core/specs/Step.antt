@@ -10,6 +10,7 @@ use Rattle.if_addrs.specs.Interfaces.{Interface, Address, attach_fault, attached
 use Rattle.listeners.specs.Sockets.{Socket, pid_of, messages_of, listen_fault, opened, delivered, taken}
 use Rattle.route_core.specs.Messages.{address_added, route_added}
 use Rattle.route_core.specs.Routes.{route_of_address}
+use Rattle.sock_addrs.specs.Texts.{inet_family}
 use Rattle.route_core.specs.World.{World}
 use Rattle.sock_addrs.specs.Rules.{first_fault}
 use Rattle.route_core.specs.Writes.{reply_of, refused_reply, message_rules, is_silent}
@@ -42,10 +43,6 @@ told message family own w = record w { sockets = delivered message family own w.
 abbrev pub attach_step : World → List ℕ → ℕ → List ℕ → Option Errno → Stepped
 attach_step w name type_number link (Some errno) = refused w errno
 attach_step w name type_number link None = done (record w { interfaces = w.interfaces ++ attached name type_number link ∷ [] })
-
--- the family of all messages about IPv4
-abbrev pub inet_family : ℕ
-inet_family = 2
 
 -- the sockets after they heard of an interface's new address, and then of its route
 abbrev pub announced : List Interface → IfaRef → Address → Entry Route → List Socket → List Socket

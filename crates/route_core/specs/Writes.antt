@@ -1,7 +1,7 @@
 -- Writes to a routing socket: the reasons to refuse one, in the order in which they are looked at, and what the others get.
 use Rattle.std.specs.Prelude.{◌≡◌, ◌≤◌, ℕ, ◌==◌, ◌&&◌, not, nat_lt, nat_le, Bool, true, false, if◌then◌else◌, List, [], ◌∷◌, length, bit_and, Option, Some, None, is_none, Result, Ok, Err}
 use Rattle.sock_addrs.specs.Reading.{length_byte, number_of_inet}
-use Rattle.sock_addrs.specs.Texts.{family}
+use Rattle.sock_addrs.specs.Texts.{family, inet_family}
 use Rattle.sock_addrs.specs.Errno.{errno_number}
 use Rattle.sock_addrs.specs.declared.errno.Errno.{Errno}
 use Rattle.sock_addrs.specs.declared.errno.Errno.TheVariants.{ESRCH, EINVAL, EMSGSIZE, EPROTONOSUPPORT, EOPNOTSUPP}
@@ -31,7 +31,7 @@ destination m = number_of_inet (destination_text m)
 
 -- an address of the family of IPv4, but of a length that none has
 abbrev pub is_malformed_inet : List ℕ → Bool
-is_malformed_inet text = family text == 2 && not (nat_le 8 (length_byte text) && nat_le (length_byte text) 16)
+is_malformed_inet text = family text == inet_family && not (nat_le 8 (length_byte text) && nat_le (length_byte text) 16)
 
 -- a GET (RTM_GET, 4) that names no address but the destination, whose bit is 0x1
 abbrev pub is_plain_get : Header → Bool
@@ -42,7 +42,7 @@ abbrev pub text_rules : List ℕ → Bool → List (Rule Refusal)
 text_rules to is_get =
     refused_if (is_malformed_inet to) EINVAL (Some (family to))
     ∷ refused_if (not is_get) EOPNOTSUPP (Some (family to))
-    ∷ refused_if (not (family to == 2)) ESRCH (Some (family to))
+    ∷ refused_if (not (family to == inet_family)) ESRCH (Some (family to))
     ∷ []
 
 -- the most bytes of a write that is looked at
@@ -66,7 +66,7 @@ unless_refused None outcome = outcome
 
 -- the reply to a GET: the route, where there is one
 abbrev pub reply_to_get : Header → ℕ → Option (Entry Route) → Result (List ℕ) Refusal
-reply_to_get asked pid None = Err (record { errno = ESRCH; family = Some 2 })
+reply_to_get asked pid None = Err (record { errno = ESRCH; family = Some inet_family })
 reply_to_get asked pid (Some r) = Ok (route_got asked pid r)
 
 -- the reply to a write of a process, or why it is refused

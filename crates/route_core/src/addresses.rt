@@ -77,7 +77,7 @@ fn announce(
 )
     requires known { IsOf ifa interfaces.now }
     requires there { IsSome (address_of ifa interfaces.now) }
-    requires room { 512 ≤ listeners.old.reserved }
+    requires room { NEW_ADDRESS_BYTES ≤ listeners.old.reserved }
     ensures { (a : Address) → address_of ifa interfaces.now ≡ Some a → a.address ≡ address
         → listeners.new.sockets ≡ announced interfaces.now ifa a (record { key = key; rank = rank; value = route.now }) listeners.old.sockets }
 {

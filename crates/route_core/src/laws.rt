@@ -1,4 +1,5 @@
-//! Laws of the machine's step.
+//! Laws of the machine's step: each function does nothing, and its contract is the law.
+
 ghost use Rattle.route_core.specs.WorldLaws.{NoMemoryKeepsAll, RefusalKeepsInterfaces, RefusalKeepsRoutes, RefusalKeepsSockets};
 
 /// A refused request leaves every route as it was.

@@ -20,16 +20,7 @@ fn blank(kind: u8) -> Header
 {
     Header {
         kind,
-        index: 0,
-        padding: 0,
-        flags: 0,
-        addrs: 0,
-        pid: 0,
-        seq: 0,
-        errno: 0,
-        use_count: 0,
-        inits: 0,
-        metrics: [0; 10],
+        ..Header::default()
     }
 }
 

@@ -4,11 +4,11 @@ use sock_addrs::Errno;
 
 /// Why a write is refused, and who hears of it.
 #[derive(Clone, Copy, Debug, PartialEq, Eq)]
-pub struct Refusal {
+pub(crate) struct Refusal {
     /// The reason.
-    pub errno: Errno,
+    pub(crate) errno: Errno,
     /// The family of the reply: sockets of this protocol hear it, and those that hear all. `None`: nobody does.
-    pub family: Option<u8>,
+    pub(crate) family: Option<u8>,
 }
 
 impl Refusal {

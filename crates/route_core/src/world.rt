@@ -31,7 +31,7 @@ impl Model for World {
 }
 
 impl World {
-    /// A world without routes, interfaces and sockets.
+    /// A world without routes, interfaces and sockets. `Err` where there is no memory for it.
     pub fn new(alloc: Global) -> Result<World, AllocError>
         ensures { IfOk result (λ w. w ≡ empty_world) }
     {

@@ -1,8 +1,9 @@
 //! Writes to a routing socket.
-ghost use Rattle.std.specs.Prelude.{◌≡◌, ◌⊎◌, Some, Ok, Err, IsSome, IsNone, is_none, IfOk, IfErr, OnOk, OnErr, MatchResult};
+ghost use Rattle.std.specs.Prelude.{◌≡◌, Some, Ok, Err, IsSome, IsNone, is_none, IfOk, IfErr, OnOk, OnErr, MatchResult};
 ghost use Rattle.listeners.specs.Queue.{IsMessage};
-ghost use Rattle.route_core.specs.Step.{Steps, AnswersOr, inet_family, told, told_refusal};
+ghost use Rattle.route_core.specs.Step.{Steps, AnswersOr, told, told_refusal};
 ghost use Rattle.sock_addrs.specs.Rules.{first_fault};
+ghost use Rattle.sock_addrs.specs.Texts.{inet_family};
 ghost use Rattle.route_core.specs.Writes.{IsEchoed, is_silent, message_rules, refused_reply, reply_of};
 ghost use Rattle.route_core.specs.declared.answer.Answer.TheVariants.{Done, Refused};
 ghost use Rattle.route_core.specs.declared.command.Command.TheVariants.{Write};
@@ -22,8 +23,13 @@ const PID_OFFSET: usize = 16;
 const ERRNO_OFFSET: usize = 24;
 
 impl World {
-    /// Writes to a socket. EBADF: it isn't open. Otherwise as the message is refused, of which those learn too who hear the
-    /// reply; or the reply is delivered. ENOBUFS: there is no memory for the reply.
+    /// Writes to a socket: a GET of a destination is answered by a reply, which those hear who hear IPv4.
+    ///
+    /// Refused, in this order: EBADF where it isn't open; EMSGSIZE where there are more than 8,192 bytes; EINVAL where they are no
+    /// whole message; EPROTONOSUPPORT where its version is not 3; EINVAL where an address overruns, where there is no
+    /// destination, or where an IPv4 destination has a wrong length; EOPNOTSUPP where it is no GET or names another address;
+    /// ESRCH where the destination is of another family, or has no route. From EPROTONOSUPPORT on a refusal has a reply too,
+    /// and ENOBUFS is answered where there is no memory for a reply.
     pub fn write(&mut self, id: Name, bytes: &[u8]) -> Answer
         ensures { Steps self.old (Write id bytes.now) result self.new }
     {

@@ -1,6 +1,6 @@
 //! A run: a script's bytes in, its transcript out.
-ghost use Rattle.std.specs.Prelude.{◌≡◌, ◌≢◌, ◌+◌, ◌<◌, ◌≤◌, ◌⊎◌, ℕ, List, length, IfOk, IfSome, true, false};
-ghost use Rattle.std.specs.Io.KnownBytes.{Appends, IsAtEnd};
+ghost use Rattle.std.specs.Prelude.{◌≡◌, ◌≢◌, ◌+◌, ◌≤◌, ◌⊎◌, ℕ, List, length, IfOk, IfSome, true, false};
+ghost use Rattle.std.specs.Io.KnownBytes.{Appends};
 ghost use Rattle.event_file.specs.Lines.{answered_lines, no_line};
 ghost use Rattle.route_main.specs.Progress.{fresh};
 ghost use Rattle.event_file.specs.Transcript.{IsTranscript, has_bad_line};

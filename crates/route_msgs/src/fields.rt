@@ -5,7 +5,7 @@ use byteorder::{BigEndian, ByteOrder};
 
 /// The number in the two bytes from `at` on, the highest first.
 #[tactic(auto, unfolding(crate::specs::Layout::number_at))]
-pub fn u16_at(message: &[u8], at: usize) -> u16
+pub(crate) fn u16_at(message: &[u8], at: usize) -> u16
     requires { at + 2 ≤ length message.now }
     ensures { result ≡ number_at at 2 message.now }
 {
@@ -14,7 +14,7 @@ pub fn u16_at(message: &[u8], at: usize) -> u16
 
 /// The number in the four bytes from `at` on, the highest first.
 #[tactic(auto, unfolding(crate::specs::Layout::number_at))]
-pub fn u32_at(message: &[u8], at: usize) -> u32
+pub(crate) fn u32_at(message: &[u8], at: usize) -> u32
     requires { at + 4 ≤ length message.now }
     ensures { result ≡ number_at at 4 message.now }
 {

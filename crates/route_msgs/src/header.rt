@@ -1,7 +1,7 @@
 /// The header of a message about a route (`struct rt_msghdr` of <net/route.h>), but for its length and its version.
 #[derive(Clone, Copy, Debug, Default, PartialEq, Eq)]
 pub struct Header {
-    /// The type, one of `kinds`.
+    /// The type; `kinds` names those that are known.
     pub kind: u8,
     /// The interface's index.
     pub index: u16,
@@ -29,7 +29,7 @@ pub struct Header {
 /// version.
 #[derive(Clone, Copy, Debug, Default, PartialEq, Eq)]
 pub struct IfaHeader {
-    /// The type, one of `kinds`.
+    /// The type; `kinds` names those that are known.
     pub kind: u8,
     /// Which addresses follow, of `bits`. A writer sets it by the addresses that it is given.
     pub addrs: u32,

@@ -16,7 +16,7 @@ mod text;
 mod texts;
 mod writing;
 
-pub use fields::{patch_u32, u16_at, u32_at};
+pub use fields::patch_u32;
 pub use header::{Header, IfaHeader};
 pub use parsed::{MsgErr, Parsed, Slot};
 pub use reading::read_message;

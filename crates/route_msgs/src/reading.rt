@@ -1,4 +1,4 @@
-ghost use Rattle.std.specs.Prelude.{◌≡◌, ◌+◌, ◌≤◌, ◌<◌, true, false, length, MatchResult, IfErr, IfOk};
+ghost use Rattle.std.specs.Prelude.{◌≡◌, ◌≤◌, ◌<◌, true, false, length, MatchResult, IfErr, IfOk};
 ghost use Rattle.route_msgs.specs.Layout.{number_at};
 ghost use Rattle.route_msgs.specs.Headers.{header_in, metrics_in};
 ghost use Rattle.route_msgs.specs.Slots.{IsWithin, ReadsMessage, SlotsAreWithin, has_length as has_length_said, has_room, overruns_at, slot_at as slot_at_place, slots_in};

@@ -1,6 +1,7 @@
 use super::bits::{RTA_DST, RTA_GATEWAY, RTA_NETMASK};
+use super::fields::{u16_at, u32_at};
 use super::flags::{RTF_CLONING, RTF_DONE, RTF_UP};
-use super::kinds::{RTM_ADD, RTM_GET, RTM_NEWADDR};
+use super::kinds::{RTM_GET, RTM_NEWADDR};
 use super::*;
 use sock_addrs::{Gate, Inet, Link};
 

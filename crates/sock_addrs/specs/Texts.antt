@@ -6,6 +6,10 @@ use Rattle.std.specs.Int.{w32, to_be_bytes, div_ceil}
 abbrev pub family : List ℕ → ℕ
 family text = cond (nat_le (slice_index text 0) 1) 0 (slice_index text 1)
 
+-- the family of IPv4 addresses (AF_INET)
+abbrev pub inet_family : ℕ
+inet_family = 2
+
 -- an IPv4 address: the length 16, the family 2, port 0, the four bytes of the address, the highest first, and eight zeros
 abbrev pub inet_text : ℕ → List ℕ
 inet_text n = 16 ∷ 2 ∷ 0 ∷ 0 ∷ to_be_bytes w32 n ++ replicate 8 0

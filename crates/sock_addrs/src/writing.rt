@@ -1,5 +1,4 @@
 ghost use Rattle.std.specs.Prelude.{◌≡◌, ◌≤◌, ◌++◌, length, drop, min};
-ghost use Rattle.std.specs.Int.{w32, to_be_bytes};
 ghost use Rattle.sock_addrs.specs.Texts.{inet_text, mask_number, mask_text};
 
 use crate::{Inet, Link};

@@ -1,5 +1,5 @@
 ghost use Rattle.std.specs.Prelude.{◌≡◌, ◌≢◌, ◌<◌, ◌≤◌, false, length, take, IfOk, OnOk, OnErr, option_copied};
-ghost use Rattle.event_file.specs.Lines.{is_passed as passes, no_line};
+ghost use Rattle.event_file.specs.Lines.{is_passed as passes};
 ghost use Rattle.route_main.specs.Progress.{Advances, Answers, Breaks, Finishes, StopsWithin, answered_of, fresh};
 ghost use Rattle.event_file.specs.Transcript.{Replies};
 ghost use Rattle.route_main.specs.Ends.{IsAnswered};
@@ -34,7 +34,7 @@ impl Model for Answerer {
 }
 
 impl Answerer {
-    /// Over the empty world. This call alone takes memory of its own.
+    /// Over the empty world. This call alone takes memory of its own; `Err` where there is none.
     pub(super) fn new(alloc: Global) -> Result<Answerer, AllocError>
         ensures { IfOk result (λ answerer. answerer ≡ fresh) }
     {

@@ -1,9 +1,9 @@
-ghost use Rattle.std.specs.Prelude.{◌≡◌, codes};
+ghost use Rattle.std.specs.Prelude.{◌≡◌};
 ghost use Rattle.route_main.specs.Outcomes.{status_of, text_of};
 
 /// How a run ended.
 #[derive(Clone, Copy, Debug, PartialEq, Eq)]
-pub enum Outcome {
+pub(crate) enum Outcome {
     /// Each line of the script was answered, and none was malformed.
     Done,
     /// Each line of the script was answered, and at least one was malformed.
@@ -17,7 +17,7 @@ pub enum Outcome {
 }
 
 /// The exit status that tells of an outcome.
-pub fn status(outcome: Outcome) -> u8
+pub(crate) fn status(outcome: Outcome) -> u8
     ensures { result ≡ status_of outcome }
 {
     match outcome {
@@ -30,7 +30,7 @@ pub fn status(outcome: Outcome) -> u8
 }
 
 /// What standard error says of an outcome, without a newline; nothing where the run is done.
-pub fn fault_text(outcome: Outcome) -> &'static str
+pub(crate) fn fault_text(outcome: Outcome) -> &'static str
     ensures { result.now ≡ text_of outcome }
 {
     match outcome {

@@ -1,5 +1,5 @@
 //! A reader and a writer for tests, which move few bytes a call and fail at a call that is named.
-ghost use Rattle.std.specs.Prelude.{◌≡◌, ◌<◌, Some};
+ghost use Rattle.std.specs.Prelude.{◌<◌, Some};
 
 use std::alloc::Global;
 use std::io::{self, ErrorKind, Read, Write};

@@ -2,14 +2,14 @@
 
 /// A script, what it is about, its transcript, and the program's status.
 #[derive(Clone, Copy)]
-pub struct Row {
-    pub name: &'static str,
-    pub script: &'static [u8],
-    pub transcript: &'static [u8],
-    pub status: u8,
+pub(crate) struct Row {
+    pub(crate) name: &'static str,
+    pub(crate) script: &'static [u8],
+    pub(crate) transcript: &'static [u8],
+    pub(crate) status: u8,
 }
 
-pub static ROWS: [Row; 8] = [
+pub(crate) static ROWS: [Row; 8] = [
     Row {
         name: "an empty script",
         script: b"",
