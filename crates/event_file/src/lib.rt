@@ -9,8 +9,6 @@ pub mod laws;
 mod line_buffer;
 mod numbers;
 mod output;
-#[cfg(test)]
-mod tests;
 mod texts;
 mod words;
 

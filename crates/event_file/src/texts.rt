@@ -27,7 +27,7 @@ pub(crate) fn read_name(word: &[u8]) -> Option<Name>
 }
 
 /// Writes the bytes that a word spells in hexadecimal, `-` for none, to the front of `room` and answers how many they
-/// are. `None` where it spells none, or more than there is room for.
+/// are. `None` where it is no such word, or spells more than there is room for.
 fn decode(word: &[u8], room: &mut [u8]) -> Option<usize>
     ensures value { MatchOption result (bytes_to (length room.old) word.now ≡ None) (λ n. bytes_to (length room.old) word.now ≡ Some (take n room.new)) }
     ensures most { IfSome result (λ n. n ≤ length room.new) }

@@ -1,4 +1,4 @@
-//! Network interfaces and their IPv4 addresses, and what is searched among them.
+//! Network interfaces and their IPv4 addresses.
 #![tactic(auto)]
 
 mod address;
@@ -7,8 +7,6 @@ mod interfaces;
 pub mod laws;
 mod link_address;
 mod reference;
-#[cfg(test)]
-mod tests;
 
 pub use interfaces::Interfaces;
 pub use link_address::LinkAddress;

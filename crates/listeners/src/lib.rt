@@ -6,8 +6,6 @@ pub mod laws;
 mod listeners;
 mod queue;
 mod socket;
-#[cfg(test)]
-mod tests;
 
 pub use cutting::first_message;
 pub use listeners::Listeners;

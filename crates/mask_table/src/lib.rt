@@ -4,8 +4,6 @@
 pub mod laws;
 mod prefix;
 mod rank;
-#[cfg(test)]
-mod tests;
 
 pub use prefix::Prefix;
 pub use rank::{Rank, agrees, masked};

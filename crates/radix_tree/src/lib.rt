@@ -6,8 +6,6 @@ mod entry;
 pub mod laws;
 mod reading;
 mod routes;
-#[cfg(test)]
-mod tests;
 mod visits;
 mod walk;
 mod writing;

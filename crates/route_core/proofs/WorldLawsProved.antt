@@ -10,7 +10,7 @@ use Rattle.listeners.specs.Sockets.{Socket, has_id, listen_fault, messages_of, p
 use Rattle.route_core.specs.Step.{Stepped, stepped, refused, done, told_refusal, attach_step, add_address_step, add_route_step, open_step, read_step, reply_step, route_to_network, write_step}
 use Rattle.radix_tree.specs.Table.{best_of, entry_at}
 use Rattle.route_core.specs.World.{World}
-use Rattle.route_core.specs.WorldLaws.{HeardReply, KeepsAddress, NoMemoryKeepsAll, RefusalKeepsInterfaces, RefusalKeepsRoutes, RefusalKeepsSockets}
+use Rattle.route_core.specs.WorldLaws.{HeardReply, NoMemoryKeepsAll, RefusalKeepsInterfaces, RefusalKeepsRoutes, RefusalKeepsSockets, interfaces_left}
 use Rattle.route_core.specs.Writes.{destination, message_rules, reply_of, reply_to_get, unless_refused}
 use Rattle.route_msgs.specs.Headers.{header_in}
 use Rattle.route_msgs.specs.declared.header.Header.{Header}
@@ -38,19 +38,18 @@ first_fault-all P (r ∷ rs) h = chosen P r.holds r.fault (first_fault rs) h.0 (
 abbrev IsFound : Errno → Type 0
 IsFound e = e ≢ ENOBUFS
 
-found-two : (a b : Bool) (x y : Errno) → IsFound x → IsFound y → IfSome (first_fault (rule a x ∷ rule b y ∷ [])) IsFound
-found-two a b x y p q = first_fault-all IsFound (rule a x ∷ rule b y ∷ []) (p, (q, tt))
+two-all : (P : Errno → Type 0) (a b : Bool) (x y : Errno) → P x → P y → IfSome (first_fault (rule a x ∷ rule b y ∷ [])) P
+two-all P a b x y p q = first_fault-all P (rule a x ∷ rule b y ∷ []) (p, (q, tt))
 
 attach_fault-found : (name : List ℕ) (interfaces : List Interface) → IfSome (attach_fault name interfaces) IsFound
-attach_fault-found name interfaces = found-two (list_any (has_name name) interfaces) (nat_le 64 (length interfaces)) EEXIST ENOSPC (λ h. absurd (cc)) (λ h. absurd (cc))
+attach_fault-found name interfaces = two-all IsFound (list_any (has_name name) interfaces) (nat_le 64 (length interfaces)) EEXIST ENOSPC (λ h. absurd (cc)) (λ h. absurd (cc))
 
 listen_fault-found : (id : List ℕ) (sockets : List Socket) → IfSome (listen_fault id sockets) IsFound
-listen_fault-found id sockets = found-two (list_any (has_id id) sockets) (nat_le 64 (length sockets)) EEXIST EMFILE (λ h. absurd (cc)) (λ h. absurd (cc))
+listen_fault-found id sockets = two-all IsFound (list_any (has_id id) sockets) (nat_le 64 (length sockets)) EEXIST EMFILE (λ h. absurd (cc)) (λ h. absurd (cc))
 
-addr_fault-found : (name : List ℕ) (address : ℕ) (interfaces : List Interface) → IfSome (addr_fault name address interfaces) IsFound
-addr_fault-found name address interfaces =
-    chosen IsFound (not (list_any (has_name name) interfaces)) ENXIO _ (λ h. absurd (cc))
-    (found-two (list_any (holds address) interfaces) (nat_le 65535 (added interfaces)) EADDRINUSE ENOSPC (λ h. absurd (cc)) (λ h. absurd (cc)))
+addr_fault-all : (P : Errno → Type 0) (name : List ℕ) (address : ℕ) (interfaces : List Interface) → P ENXIO → P EADDRINUSE → P ENOSPC → IfSome (addr_fault name address interfaces) P
+addr_fault-all P name address interfaces p q r =
+    chosen P (not (list_any (has_name name) interfaces)) ENXIO _ p (two-all P (list_any (holds address) interfaces) (nat_le 65535 (added interfaces)) EADDRINUSE ENOSPC q r)
 
 message_rules-found : (m : List ℕ) → IfSome (first_fault (message_rules m)) (λ (r : Refusal). IsFound r.errno)
 message_rules-found m = first_fault-all (λ (r : Refusal). IsFound r.errno) (message_rules m)
@@ -58,10 +57,18 @@ message_rules-found m = first_fault-all (λ (r : Refusal). IsFound r.errno) (mes
 
 -- ---- what a refusal leaves
 
+-- a command that is refused so leaves the interfaces as they were, and not for want of memory
+abbrev LeavesAll : Command → World → Errno → Type 0
+LeavesAll c w e = (w.interfaces ≡ interfaces_left c e w.interfaces) × IsFound e
+
+leaves-all : (c : Command) (w : World) (fault : Option Errno) → ((e : Errno) → w.interfaces ≡ interfaces_left c e w.interfaces) → IfSome fault IsFound → IfSome fault (LeavesAll c w)
+leaves-all c w None left found = tt
+leaves-all c w (Some e) left found = (left e, found)
+
 -- the world that a command leaves which is refused, and not for want of memory
 abbrev Spared : Command → World → World → Errno → Type 0
 Spared c old new e =
-    (new.table ≡ old.table) × ((new.interfaces ≡ old.interfaces) ⊎ KeepsAddress c e old new) × ((new.sockets ≡ old.sockets) ⊎ HeardReply c e old.sockets new.sockets) × IsFound e
+    (new.table ≡ old.table) × (new.interfaces ≡ interfaces_left c e old.interfaces) × ((new.sockets ≡ old.sockets) ⊎ HeardReply c e old.sockets new.sockets) × IsFound e
 
 record Spares (c : Command) (old : World) (s : Stepped) : Type 0 where
   on : (e : Errno) → s.answer ≡ Refused e → Spared c old s.world e
@@ -69,15 +76,15 @@ record Spares (c : Command) (old : World) (s : Stepped) : Type 0 where
 spares-refused : (c : Command) (old w : World) (x : Errno) → Spared c old w x → Spares c old (refused w x)
 spares-refused c old w x spared = record { on = λ e h. let is : x ≡ e = cc in subst (Spared c old w) is spared }
 
-spares-same : (c : Command) (w : World) (x : Errno) → IsFound x → Spares c w (refused w x)
-spares-same c w x found = spares-refused c w w x (refl, inl refl, inl refl, found)
+spares-same : (c : Command) (w : World) (x : Errno) → LeavesAll c w x → Spares c w (refused w x)
+spares-same c w x leaves = spares-refused c w w x (refl, leaves.0, inl refl, leaves.1)
 
 spares-done : (c : Command) (old w : World) → Spares c old (done w)
 spares-done c old w = record { on = λ e h. absurd (cc) }
 
-spares-fault : (c : Command) (old : World) (step : Option Errno → Stepped) (fault : Option Errno) → ((x : Errno) → step (Some x) ≡ refused old x) → Spares c old (step None) → IfSome fault IsFound → Spares c old (step fault)
-spares-fault c old step None by none found = none
-spares-fault c old step (Some x) by none found = subst (Spares c old) (sym (by x)) (spares-same c old x found)
+spares-fault : (c : Command) (old : World) (step : Option Errno → Stepped) (fault : Option Errno) → ((x : Errno) → step (Some x) ≡ refused old x) → Spares c old (step None) → IfSome fault (LeavesAll c old) → Spares c old (step fault)
+spares-fault c old step None by none leaves = none
+spares-fault c old step (Some x) by none leaves = subst (Spares c old) (sym (by x)) (spares-same c old x leaves)
 
 spares-route : (c : Command) (old w new : World) (there : Bool) → Spared c old w EEXIST → Spares c old (if there then refused w EEXIST else done new)
 spares-route c old w new true spared = spares-refused c old w EEXIST spared
@@ -88,18 +95,18 @@ spares-add_route c old w a cloning spared =
     let r = route_to_network a cloning in
     spares-route c old w _ (is_some (entry_at r.key r.rank w.table)) spared
 
-told_refusal-spares : (old : World) (id : List ℕ) (pid : ℕ) (m : List ℕ) (errno : Errno) (family : Option ℕ) → IsFound errno
+told_refusal-spares : (old : World) (id : List ℕ) (pid : ℕ) (m : List ℕ) (errno : Errno) (family : Option ℕ) → pid_of id old.sockets ≡ Some pid → IsFound errno
     → Spared (Write id m) old (told_refusal old id pid m (record { errno = errno; family = family })) errno
-told_refusal-spares old id pid m errno None found = (refl, inl refl, inl refl, found)
-told_refusal-spares old id pid m errno (Some family) found = (refl, inl refl, inr (pid, family, refl), found)
+told_refusal-spares old id pid m errno None writer found = (refl, refl, inl refl, found)
+told_refusal-spares old id pid m errno (Some family) writer found = (refl, refl, inr (pid, family, writer, refl), found)
 
 abbrev FoundErr : Result (List ℕ) Refusal → Type 0
 FoundErr (Ok reply) = ⊤
 FoundErr (Err r) = IsFound r.errno
 
-spares-reply : (old : World) (id : List ℕ) (pid : ℕ) (m : List ℕ) (reply : Result (List ℕ) Refusal) → FoundErr reply → Spares (Write id m) old (reply_step old id pid m reply)
-spares-reply old id pid m (Ok reply) found = spares-done (Write id m) old _
-spares-reply old id pid m (Err r) found = spares-refused (Write id m) old (told_refusal old id pid m r) r.errno (told_refusal-spares old id pid m r.errno r.family found)
+spares-reply : (old : World) (id : List ℕ) (pid : ℕ) (m : List ℕ) (reply : Result (List ℕ) Refusal) → pid_of id old.sockets ≡ Some pid → FoundErr reply → Spares (Write id m) old (reply_step old id pid m reply)
+spares-reply old id pid m (Ok reply) writer found = spares-done (Write id m) old _
+spares-reply old id pid m (Err r) writer found = spares-refused (Write id m) old (told_refusal old id pid m r) r.errno (told_refusal-spares old id pid m r.errno r.family writer found)
 
 reply_to_get-found : (asked : Header) (pid : ℕ) (r : Option (Entry Route)) → FoundErr (reply_to_get asked pid r)
 reply_to_get-found asked pid None = λ h. absurd (cc)
@@ -112,30 +119,30 @@ unless_refused-found (Some r) reply p q = p
 reply_of-found : (w : World) (pid : ℕ) (m : List ℕ) → FoundErr (reply_of w.table pid m)
 reply_of-found w pid m = unless_refused-found (first_fault (message_rules m)) _ (message_rules-found m) (reply_to_get-found (header_in m) pid (best_of (destination m) w.table))
 
-spares-write : (old : World) (id m : List ℕ) (pid : Option ℕ) → Spares (Write id m) old (write_step old id m pid)
-spares-write old id m None = spares-same (Write id m) old EBADF (λ h. absurd (cc))
-spares-write old id m (Some pid) = spares-reply old id pid m (reply_of old.table pid m) (reply_of-found old pid m)
+spares-write : (old : World) (id m : List ℕ) (pid : Option ℕ) → pid_of id old.sockets ≡ pid → Spares (Write id m) old (write_step old id m pid)
+spares-write old id m None writer = spares-same (Write id m) old EBADF (refl, λ h. absurd (cc))
+spares-write old id m (Some pid) writer = spares-reply old id pid m (reply_of old.table pid m) writer (reply_of-found old pid m)
 
-spares-read : (c : Command) (old : World) (id : List ℕ) (messages : Option (List (List ℕ))) → Spares c old (read_step old id messages)
-spares-read c old id None = spares-same c old EBADF (λ h. absurd (cc))
-spares-read c old id (Some messages) = record { on = λ e h. absurd (cc) }
+spares-read : (old : World) (id : List ℕ) (messages : Option (List (List ℕ))) → Spares (Read id) old (read_step old id messages)
+spares-read old id None = spares-same (Read id) old EBADF (refl, λ h. absurd (cc))
+spares-read old id (Some messages) = record { on = λ e h. absurd (cc) }
 
 step-spares : (old : World) (c : Command) → Spares c old (stepped old c)
 unfolding stepped
 step-spares old (Attach name type_number link) =
     let c = Attach name type_number link in
-    spares-fault c old (attach_step old name type_number link) (attach_fault name old.interfaces) (λ x. refl) (spares-done c old _) (attach_fault-found name old.interfaces)
+    spares-fault c old (attach_step old name type_number link) (attach_fault name old.interfaces) (λ x. refl) (spares-done c old _) (leaves-all c old (attach_fault name old.interfaces) (λ e. refl) (attach_fault-found name old.interfaces))
 step-spares old (AddAddress name address prefix cloning) =
     let c = AddAddress name address prefix cloning in
     spares-fault c old (add_address_step old name address prefix cloning) (addr_fault name address old.interfaces) (λ x. refl)
     (spares-add_route c old (record old { interfaces = with_address name address prefix cloning old.interfaces }) (new_address (added old.interfaces + 1) address prefix cloning) cloning
-    (refl, inr refl, inl refl, λ h. absurd (cc)))
-    (addr_fault-found name address old.interfaces)
+    (refl, refl, inl refl, λ h. absurd (cc)))
+    (addr_fault-all (LeavesAll c old) name address old.interfaces (refl, λ h. absurd (cc)) (refl, λ h. absurd (cc)) (refl, λ h. absurd (cc)))
 step-spares old (Open id pid protocol) =
     let c = Open id pid protocol in
-    spares-fault c old (open_step old id pid protocol) (listen_fault id old.sockets) (λ x. refl) (spares-done c old _) (listen_fault-found id old.sockets)
-step-spares old (Write id m) = spares-write old id m (pid_of id old.sockets)
-step-spares old (Read id) = spares-read (Read id) old id (messages_of id old.sockets)
+    spares-fault c old (open_step old id pid protocol) (listen_fault id old.sockets) (λ x. refl) (spares-done c old _) (leaves-all c old (listen_fault id old.sockets) (λ e. refl) (listen_fault-found id old.sockets))
+step-spares old (Write id m) = spares-write old id m (pid_of id old.sockets) refl
+step-spares old (Read id) = spares-read old id (messages_of id old.sockets)
 
 pub refusal_keeps_routes : RefusalKeepsRoutes
 refusal_keeps_routes w c errno h = ((step-spares w c).on errno h).0

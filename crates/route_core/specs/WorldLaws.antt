@@ -2,8 +2,8 @@
 use Rattle.std.specs.Prelude.{◌≡◌, ◌⊎◌, ℕ, List, Some}
 use Rattle.sock_addrs.specs.declared.errno.Errno.{Errno}
 use Rattle.sock_addrs.specs.declared.errno.Errno.TheVariants.{EEXIST, ENOBUFS}
-use Rattle.if_addrs.specs.Interfaces.{with_address}
-use Rattle.listeners.specs.Sockets.{Socket, delivered}
+use Rattle.if_addrs.specs.Interfaces.{Interface, with_address}
+use Rattle.listeners.specs.Sockets.{Socket, delivered, pid_of}
 use Rattle.route_core.specs.Step.{Steps, stepped}
 use Rattle.route_core.specs.World.{World}
 use Rattle.route_core.specs.Writes.{refused_reply}
@@ -15,19 +15,19 @@ use Rattle.route_core.specs.declared.command.Command.TheVariants.{AddAddress, Wr
 abbrev pub RefusalKeepsRoutes : Type 0
 RefusalKeepsRoutes = (w : World) → (c : Command) → (errno : Errno) → (stepped w c).answer ≡ Refused errno → (stepped w c).world.table ≡ w.table
 
--- an `addr` whose route is there already keeps its address
-abbrev pub KeepsAddress : Command → Errno → World → World → Type 0
-KeepsAddress (AddAddress name address prefix cloning) EEXIST old new = new.interfaces ≡ with_address name address prefix cloning old.interfaces
-KeepsAddress command errno old new = ⊥
+-- the interfaces that a refused command leaves: an `addr` whose route is there already keeps its address
+abbrev pub interfaces_left : Command → Errno → List Interface → List Interface
+interfaces_left (AddAddress name address prefix cloning) EEXIST interfaces = with_address name address prefix cloning interfaces
+interfaces_left command errno interfaces = interfaces
 
 -- and but for that, every interface
 abbrev pub RefusalKeepsInterfaces : Type 0
 RefusalKeepsInterfaces = (w : World) → (c : Command) → (errno : Errno) → (stepped w c).answer ≡ Refused errno
-    → ((stepped w c).world.interfaces ≡ w.interfaces) ⊎ KeepsAddress c errno w (stepped w c).world
+    → (stepped w c).world.interfaces ≡ interfaces_left c errno w.interfaces
 
--- the reply to a refused write was delivered
+-- the reply to a refused write, with the pid of its writer, was delivered
 abbrev pub HeardReply : Command → Errno → List Socket → List Socket → Type 0
-HeardReply (Write id m) errno old new = (pid : ℕ) × (family : ℕ) × (new ≡ delivered (refused_reply errno pid m) family (Some id) old)
+HeardReply (Write id m) errno old new = (pid : ℕ) × (family : ℕ) × (pid_of id old ≡ Some pid) × (new ≡ delivered (refused_reply errno pid m) family (Some id) old)
 HeardReply command errno old new = ⊥
 
 -- and every socket, but that the reply to a refused write may be delivered

@@ -9,6 +9,8 @@ pub mod laws;
 mod messages;
 mod refusal;
 mod route;
+#[cfg(test)]
+mod tests;
 mod world;
 mod writes;
 

@@ -31,7 +31,6 @@ pub(crate) fn run<R: Read, W: Write>(
 ) -> Outcome
     requires no_read { reader.old.reads ≡ 0 }
     requires no_read_failure { reader.old.failures ≡ 0 }
-    requires no_read_of_writer { writer.old.reads ≡ 0 }
     requires no_write_failure { writer.old.failures ≡ 0 }
 
     // Where all lines were answered, what was written is a transcript of the whole script, and nothing else.

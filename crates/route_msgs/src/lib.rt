@@ -10,8 +10,6 @@ pub mod kinds;
 pub mod laws;
 mod parsed;
 mod reading;
-#[cfg(test)]
-mod tests;
 mod text;
 mod texts;
 mod writing;

@@ -11,8 +11,6 @@ mod link;
 mod name;
 mod reading;
 mod rounding;
-#[cfg(test)]
-mod tests;
 mod writing;
 
 pub use bad_addr::BadAddr;

@@ -22,8 +22,7 @@ fn two(alloc: Global) -> Result<Result<Answer, Bad>, AllocError> {
     Ok(Ok(Answer::Messages(Received::new(bytes))))
 }
 
-/// Writes an answer at most `most` bytes a call, with a fault at the call `fault_at`: what was taken, the outcome and
-/// the failures.
+/// Writes an answer at most `most` bytes a call, with a fault at the call `fault_at`: what was taken, and the outcome.
 fn written(
     rt: &impl Abort,
     alloc: Global,

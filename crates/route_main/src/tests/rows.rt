@@ -1,4 +1,4 @@
-//! Scripts with their transcripts, worked out by hand from the manual pages.
+//! Scripts with their transcripts, worked out by hand from docs/FORMATS.md.
 
 /// A script, what it is about, its transcript, and the program's status.
 #[derive(Clone, Copy)]

@@ -1,0 +1,57 @@
+//! Each call once, the refusals in their order, and who hears a message.
+
+use listeners::Listeners;
+use sock_addrs::{Errno, Name};
+use std::test::Fail;
+
+/// The shortest message, and one that is a byte longer.
+const SHORT: [u8; 20] = [
+    0, 20, 3, 1, 0, 1, 0, 0, 1, 2, 3, 4, 5, 6, 7, 8, 9, 10, 11, 12,
+];
+
+const LONGER: [u8; 21] = [
+    0, 21, 3, 1, 0, 1, 0, 0, 1, 2, 3, 4, 5, 6, 7, 8, 9, 10, 11, 12, 13,
+];
+
+fn id(text: &[u8]) -> Result<Name, &'static str> {
+    Name::new(text).ok_or("not 1 to 8 bytes")
+}
+
+#[test]
+fn an_id_is_open_once_and_64_at_most(rt: HostRuntime) -> Result<(), Fail> {
+    let mut listeners = Listeners::new(rt.alloc());
+    for k in 1..=64u8 {
+        assert_eq!(rt;
+            listeners.listen(id(&[k])?, u32::from(k), 0),
+            Ok(()),
+            "at {k}"
+        );
+    }
+    assert_eq!(rt; listeners.listen(id(&[64])?, 100, 0), Err(Errno::EEXIST));
+    assert_eq!(rt; listeners.pid_of(id(&[64])?), Ok(64), "as it was opened");
+    assert_eq!(rt; listeners.listen(id(&[65])?, 100, 0), Err(Errno::EMFILE));
+    assert_eq!(rt; listeners.pid_of(id(&[65])?), Err(Errno::EBADF));
+    assert_eq!(rt; listeners.take(id(&[65])?).err(), Some(Errno::EBADF));
+    Ok(())
+}
+
+#[test]
+fn a_message_is_heard_by_its_family_and_read_once(rt: HostRuntime) -> Result<(), Fail> {
+    let mut listeners = Listeners::new(rt.alloc());
+    for (socket, protocol) in [(b"inet", 2), (b"link", 18), (b"any0", 0)] {
+        listeners.listen(id(socket)?, 100, protocol)?;
+    }
+    listeners.reserve(41)?;
+    listeners.deliver(&SHORT, 2, Some(id(b"inet")?));
+    listeners.deliver(&LONGER, 18, None);
+    let both = [SHORT.as_slice(), LONGER.as_slice()].concat(rt.alloc())?;
+    for (socket, bytes) in [
+        (b"inet", SHORT.as_slice()),
+        (b"link", &LONGER),
+        (b"any0", &both),
+        (b"any0", &[]),
+    ] {
+        assert_eq!(rt; listeners.take(id(socket)?)?.as_slice(), bytes);
+    }
+    Ok(())
+}
