@@ -1,7 +1,7 @@
-//! Each call once, the refusals in their order, and who hears a message.
+//! Who hears a message, which is read once.
 
 use listeners::Listeners;
-use sock_addrs::{Errno, Name};
+use sock_addrs::Name;
 use std::test::Fail;
 
 /// The shortest message, and one that is a byte longer.
@@ -15,24 +15,6 @@ const LONGER: [u8; 21] = [
 
 fn id(text: &[u8]) -> Result<Name, &'static str> {
     Name::new(text).ok_or("not 1 to 8 bytes")
-}
-
-#[test]
-fn an_id_is_open_once_and_64_at_most(rt: HostRuntime) -> Result<(), Fail> {
-    let mut listeners = Listeners::new(rt.alloc());
-    for k in 1..=64u8 {
-        assert_eq!(rt;
-            listeners.listen(id(&[k])?, u32::from(k), 0),
-            Ok(()),
-            "at {k}"
-        );
-    }
-    assert_eq!(rt; listeners.listen(id(&[64])?, 100, 0), Err(Errno::EEXIST));
-    assert_eq!(rt; listeners.pid_of(id(&[64])?), Ok(64), "as it was opened");
-    assert_eq!(rt; listeners.listen(id(&[65])?, 100, 0), Err(Errno::EMFILE));
-    assert_eq!(rt; listeners.pid_of(id(&[65])?), Err(Errno::EBADF));
-    assert_eq!(rt; listeners.take(id(&[65])?).err(), Some(Errno::EBADF));
-    Ok(())
 }
 
 #[test]
