@@ -50,11 +50,11 @@ impl Asked {
             Err(MsgErr::Version) => return Err(Refusal::heard(Errno::EPROTONOSUPPORT, 0)),
             Err(MsgErr::Overrun) => return Err(Refusal::heard(Errno::EINVAL, 0)),
         };
-        let Some(slot) = message.slots[0] else {
+        let Some(text) = message.address(0, bytes) else {
             return Err(Refusal::heard(Errno::EINVAL, 0));
         };
         let header = message.header;
-        let destination = destination_in(slot.text(bytes), is_plain_get(&header))?;
+        let destination = destination_in(text, is_plain_get(&header))?;
         Ok(Asked {
             destination,
             header,

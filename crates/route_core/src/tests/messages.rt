@@ -52,16 +52,6 @@ fn takes_a_question_apart(rt: HostRuntime) {
 }
 
 #[test]
-fn finds_the_addresses_of_a_question(rt: HostRuntime) {
-    let Ok(parsed) = read_message(&QUESTION) else {
-        assert!(rt; false, "it is no message");
-        return;
-    };
-    assert_eq!(rt; parsed.address(0, &QUESTION), Some(&QUESTION[76..]));
-    assert_eq!(rt; parsed.address(1, &QUESTION), None);
-}
-
-#[test]
 fn writes_a_reply(rt: HostRuntime) {
     let header = Header {
         kind: RTM_GET,
