@@ -1,17 +1,19 @@
 -- What a step that is refused leaves as it was, command by command.
-use Rattle.std.proofs.Common.{◌≡◌, ◌≢◌, ℕ, Bool, true, false, List, [], ◌∷◌, inl, inr, refl, sym, ap, subst}
-use Rattle.std.specs.Prelude.{Option, Some, None, Result, Ok, Err, ⊤, ◌⊎◌, IfSome, if◌then◌else◌, is_some, length, nat_le, not, ◌+◌}
+use Rattle.std.proofs.Common.{◌≡◌, ◌≢◌, ℕ, Bool, true, false, List, [], ◌∷◌, inl, inr, refl, sym, ap, subst, arith}
+use Rattle.std.specs.Prelude.{Option, Some, None, Result, Ok, Err, ⊤, ◌⊎◌, IfSome, if◌then◌else◌, is_some, length, nat_le, not, ◌+◌, ◌==◌}
 use Rattle.std.specs.List.{list_any}
+use Rattle.std.proofs.lemmas.Bool.Decides.{nat_tests}
 use Rattle.sock_addrs.specs.declared.errno.Errno.{Errno}
 use Rattle.sock_addrs.specs.declared.errno.Errno.TheVariants.{EADDRINUSE, EBADF, EEXIST, EMFILE, ENOBUFS, ENOSPC, ENXIO}
 use Rattle.if_addrs.specs.Interfaces.{Address, Interface, added, addr_fault, attach_fault, has_name, holds, new_address, with_address}
 use Rattle.sock_addrs.specs.Rules.{Rule, rule, first_fault}
+use Rattle.sock_addrs.specs.Texts.{family, inet_family}
 use Rattle.listeners.specs.Sockets.{Socket, has_id, listen_fault, messages_of, pid_of}
 use Rattle.route_core.specs.Step.{Stepped, stepped, refused, done, told_refusal, attach_step, add_address_step, add_route_step, open_step, read_step, reply_step, route_to_network, write_step}
 use Rattle.radix_tree.specs.Table.{best_of, entry_at}
 use Rattle.route_core.specs.World.{World}
-use Rattle.route_core.specs.WorldLaws.{HeardReply, NoMemoryKeepsAll, RefusalKeepsInterfaces, RefusalKeepsRoutes, RefusalKeepsSockets, interfaces_left}
-use Rattle.route_core.specs.Writes.{destination, message_rules, reply_of, reply_to_get, unless_refused}
+use Rattle.route_core.specs.WorldLaws.{HeardReply, IsRefusedFamily, NoMemoryKeepsAll, RefusalKeepsInterfaces, RefusalKeepsRoutes, RefusalKeepsSockets, interfaces_left}
+use Rattle.route_core.specs.Writes.{destination, destination_text, is_plain_get, message_rules, text_rules, reply_of, reply_to_get, unless_refused}
 use Rattle.route_msgs.specs.Headers.{header_in}
 use Rattle.route_msgs.specs.declared.header.Header.{Header}
 use Rattle.radix_tree.specs.declared.entry.Entry.{Entry}
@@ -51,9 +53,38 @@ addr_fault-all : (P : Errno → Type 0) (name : List ℕ) (address : ℕ) (inter
 addr_fault-all P name address interfaces p q r =
     chosen P (not (list_any (has_name name) interfaces)) ENXIO _ p (two-all P (list_any (holds address) interfaces) (nat_le 65535 (added interfaces)) EADDRINUSE ENOSPC q r)
 
-message_rules-found : (m : List ℕ) → IfSome (first_fault (message_rules m)) (λ (r : Refusal). IsFound r.errno)
-message_rules-found m = first_fault-all (λ (r : Refusal). IsFound r.errno) (message_rules m)
-    (λ h. absurd (cc), (λ h. absurd (cc), (λ h. absurd (cc), (λ h. absurd (cc), (λ h. absurd (cc), (λ h. absurd (cc), (λ h. absurd (cc), (λ h. absurd (cc), tt))))))))
+-- ---- what a write is refused for
+
+-- it is no want of memory, and its reply is of the destination's family, or of 0
+abbrev IsFoundIn : List ℕ → Refusal → Type 0
+IsFoundIn m r = IsFound r.errno × IfSome r.family (IsRefusedFamily m)
+
+text_rules-found : (m : List ℕ) (is_get : Bool) → AllFaults (IsFoundIn m) (text_rules (destination_text m) is_get)
+text_rules-found m is_get = ((λ h. absurd (cc), inr refl), ((λ h. absurd (cc), inr refl), ((λ h. absurd (cc), inr refl), tt)))
+
+message_rules-found : (m : List ℕ) → IfSome (first_fault (message_rules m)) (IsFoundIn m)
+message_rules-found m = first_fault-all (IsFoundIn m) (message_rules m)
+    ((λ h. absurd (cc), tt), ((λ h. absurd (cc), tt), ((λ h. absurd (cc), inl refl), ((λ h. absurd (cc), inl refl), ((λ h. absurd (cc), inl refl), text_rules-found m (is_plain_get (header_in m)))))))
+
+-- no rule holds
+abbrev AllPass : {T : Type 0} → List (Rule T) → Type 0
+AllPass [] = ⊤
+AllPass (r ∷ rs) = (r.holds ≡ false) × AllPass rs
+
+pass : {T : Type 0} (b : Bool) (x : T) (o : Option T) → (if b then Some x else o) ≡ None → (b ≡ false) × (o ≡ None)
+pass true x o h = absurd (cc)
+pass false x o h = (refl, h)
+
+first_fault-none : {T : Type 0} (rs : List (Rule T)) → first_fault rs ≡ None → AllPass rs
+first_fault-none [] h = tt
+first_fault-none (r ∷ rs) h = let p = pass r.holds r.fault (first_fault rs) h in (p.0, first_fault-none rs p.1)
+
+is_inet : (f : ℕ) → not (f == inet_family) ≡ false → inet_family ≡ f
+is_inet f h = grind (arith, nat_tests)
+
+-- a write that is passed has a destination of IPv4: that is the last reason to refuse one
+passed-inet : (m : List ℕ) → first_fault (message_rules m) ≡ None → IsRefusedFamily m inet_family
+passed-inet m h = inr (is_inet (family (destination_text m)) (first_fault-none (message_rules m) h).1.1.1.1.1.1.1.0)
 
 -- ---- what a refusal leaves
 
@@ -95,29 +126,31 @@ spares-add_route c old w a cloning spared =
     let r = route_to_network a cloning in
     spares-route c old w _ (is_some (entry_at r.key r.rank w.table)) spared
 
-told_refusal-spares : (old : World) (id : List ℕ) (pid : ℕ) (m : List ℕ) (errno : Errno) (family : Option ℕ) → pid_of id old.sockets ≡ Some pid → IsFound errno
-    → Spared (Write id m) old (told_refusal old id pid m (record { errno = errno; family = family })) errno
-told_refusal-spares old id pid m errno None writer found = (refl, refl, inl refl, found)
-told_refusal-spares old id pid m errno (Some family) writer found = (refl, refl, inr (pid, family, writer, refl), found)
+told_refusal-spares : (old : World) (id : List ℕ) (pid : ℕ) (m : List ℕ) (errno : Errno) (f : Option ℕ) → pid_of id old.sockets ≡ Some pid → IsFoundIn m (record { errno = errno; family = f })
+    → Spared (Write id m) old (told_refusal old id pid m (record { errno = errno; family = f })) errno
+told_refusal-spares old id pid m errno None writer found = (refl, refl, inl refl, found.0)
+told_refusal-spares old id pid m errno (Some f) writer found = (refl, refl, inr (pid, f, writer, found.1, refl), found.0)
 
-abbrev FoundErr : Result (List ℕ) Refusal → Type 0
-FoundErr (Ok reply) = ⊤
-FoundErr (Err r) = IsFound r.errno
+abbrev FoundErr : List ℕ → Result (List ℕ) Refusal → Type 0
+FoundErr m (Ok reply) = ⊤
+FoundErr m (Err r) = IsFoundIn m r
 
-spares-reply : (old : World) (id : List ℕ) (pid : ℕ) (m : List ℕ) (reply : Result (List ℕ) Refusal) → pid_of id old.sockets ≡ Some pid → FoundErr reply → Spares (Write id m) old (reply_step old id pid m reply)
+spares-reply : (old : World) (id : List ℕ) (pid : ℕ) (m : List ℕ) (reply : Result (List ℕ) Refusal) → pid_of id old.sockets ≡ Some pid → FoundErr m reply → Spares (Write id m) old (reply_step old id pid m reply)
 spares-reply old id pid m (Ok reply) writer found = spares-done (Write id m) old _
 spares-reply old id pid m (Err r) writer found = spares-refused (Write id m) old (told_refusal old id pid m r) r.errno (told_refusal-spares old id pid m r.errno r.family writer found)
 
-reply_to_get-found : (asked : Header) (pid : ℕ) (r : Option (Entry Route)) → FoundErr (reply_to_get asked pid r)
-reply_to_get-found asked pid None = λ h. absurd (cc)
-reply_to_get-found asked pid (Some r) = tt
+reply_to_get-found : (m : List ℕ) (asked : Header) (pid : ℕ) (r : Option (Entry Route)) → IsRefusedFamily m inet_family → FoundErr m (reply_to_get asked pid r)
+reply_to_get-found m asked pid None inet = (λ h. absurd (cc), inet)
+reply_to_get-found m asked pid (Some r) inet = tt
 
-unless_refused-found : (fault : Option Refusal) (reply : Result (List ℕ) Refusal) → IfSome fault (λ (r : Refusal). IsFound r.errno) → FoundErr reply → FoundErr (unless_refused fault reply)
-unless_refused-found None reply p q = q
-unless_refused-found (Some r) reply p q = p
+unless_refused-found : (m : List ℕ) (fault : Option Refusal) (reply : Result (List ℕ) Refusal) → IfSome fault (IsFoundIn m) → (fault ≡ None → FoundErr m reply) → FoundErr m (unless_refused fault reply)
+unless_refused-found m None reply p q = q refl
+unless_refused-found m (Some r) reply p q = p
 
-reply_of-found : (w : World) (pid : ℕ) (m : List ℕ) → FoundErr (reply_of w.table pid m)
-reply_of-found w pid m = unless_refused-found (first_fault (message_rules m)) _ (message_rules-found m) (reply_to_get-found (header_in m) pid (best_of (destination m) w.table))
+reply_of-found : (w : World) (pid : ℕ) (m : List ℕ) → FoundErr m (reply_of w.table pid m)
+reply_of-found w pid m =
+    unless_refused-found m (first_fault (message_rules m)) _ (message_rules-found m)
+    (λ passed. reply_to_get-found m (header_in m) pid (best_of (destination m) w.table) (passed-inet m passed))
 
 spares-write : (old : World) (id m : List ℕ) (pid : Option ℕ) → pid_of id old.sockets ≡ pid → Spares (Write id m) old (write_step old id m pid)
 spares-write old id m None writer = spares-same (Write id m) old EBADF (refl, λ h. absurd (cc))

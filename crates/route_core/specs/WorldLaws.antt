@@ -1,12 +1,13 @@
 -- What a step that is refused leaves as it was.
 use Rattle.std.specs.Prelude.{◌≡◌, ◌⊎◌, ℕ, List, Some}
+use Rattle.sock_addrs.specs.Texts.{family}
 use Rattle.sock_addrs.specs.declared.errno.Errno.{Errno}
 use Rattle.sock_addrs.specs.declared.errno.Errno.TheVariants.{EEXIST, ENOBUFS}
 use Rattle.if_addrs.specs.Interfaces.{Interface, with_address}
 use Rattle.listeners.specs.Sockets.{Socket, delivered, pid_of}
 use Rattle.route_core.specs.Step.{Steps, stepped}
 use Rattle.route_core.specs.World.{World}
-use Rattle.route_core.specs.Writes.{refused_reply}
+use Rattle.route_core.specs.Writes.{destination_text, refused_reply}
 use Rattle.route_core.specs.declared.answer.Answer.TheVariants.{Refused}
 use Rattle.route_core.specs.declared.command.Command.{Command}
 use Rattle.route_core.specs.declared.command.Command.TheVariants.{AddAddress, Write}
@@ -25,9 +26,13 @@ abbrev pub RefusalKeepsInterfaces : Type 0
 RefusalKeepsInterfaces = (w : World) → (c : Command) → (errno : Errno) → (stepped w c).answer ≡ Refused errno
     → (stepped w c).world.interfaces ≡ interfaces_left c errno w.interfaces
 
+-- the family of the reply to a refused write: the destination's, or 0 where that was not looked at
+abbrev pub IsRefusedFamily : List ℕ → ℕ → Type 0
+IsRefusedFamily m f = (f ≡ 0) ⊎ (f ≡ family (destination_text m))
+
 -- the reply to a refused write, with the pid of its writer, was delivered
 abbrev pub HeardReply : Command → Errno → List Socket → List Socket → Type 0
-HeardReply (Write id m) errno old new = (pid : ℕ) × (family : ℕ) × (pid_of id old ≡ Some pid) × (new ≡ delivered (refused_reply errno pid m) family (Some id) old)
+HeardReply (Write id m) errno old new = (pid : ℕ) × (f : ℕ) × (pid_of id old ≡ Some pid) × IsRefusedFamily m f × (new ≡ delivered (refused_reply errno pid m) f (Some id) old)
 HeardReply command errno old new = ⊥
 
 -- and every socket, but that the reply to a refused write may be delivered

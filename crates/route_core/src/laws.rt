@@ -12,7 +12,8 @@ pub fn refusal_keeps_interfaces()
     ensures { RefusalKeepsInterfaces }
 {}
 
-/// A refused request leaves every socket as it was, but that the reply to a refused write may be delivered.
+/// A refused request leaves every socket as it was, but that the reply to a refused write may be delivered, with its writer's
+/// pid, to the sockets that hear the family of its destination, or the family 0.
 pub fn refusal_keeps_sockets()
     ensures { RefusalKeepsSockets }
 {}
