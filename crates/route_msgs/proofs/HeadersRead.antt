@@ -1,112 +1,69 @@
 -- The fields of a message that was written.
-use Rattle.std.proofs.Common.{◌≡◌, ℕ, ◌+◌, ◌<◌, ◌≤◌, ◌^◌, true, List, length, replicate, refl, sym, ap, ◌∙◌, arith, lit≤, lit<, length-append, drop_at}
-use Rattle.std.specs.Prelude.{slice_index}
-use Rattle.route_msgs.specs.Layout.{number_at}
+use Rattle.std.proofs.Common.{◌≡◌, ℕ, ◌+◌, ◌<◌, ◌≤◌, ◌^◌, true, List, ◌++◌, length, replicate, refl, sym, ap, ◌∙◌, arith, lit≤, lit<, length-append, drop_at}
+use Rattle.std.specs.Prelude.{slice_index, nat_le}
+use Rattle.std.proofs.lemmas.Bool.{leb-true}
+use Rattle.std.proofs.lemmas.List.{length-replicate}
+use Rattle.route_msgs.specs.Layout.{Field, number_at, with_fields}
 use Rattle.route_msgs.specs.Headers.{route_fields, route_head, route_message, ifa_fields, ifa_head, ifa_message, header_in, metrics_in}
 use Rattle.route_msgs.specs.Texts.{text_bytes, addrs_of}
 use Rattle.route_msgs.specs.Written.{IsHeader, IsIfaHeader, AreTexts, IsLaidOut}
 use Rattle.route_msgs.specs.declared.header.Header.{Header}
 use Rattle.route_msgs.specs.declared.header.IfaHeader.{IfaHeader}
 use Rattle.route_msgs.specs.declared.texts.Texts.{Texts}
-use Rattle.route_msgs.proofs.FieldsRead.{AllFitIn, are_clear, value_among, read_fields, length-with_fields, number_at-append}
+use Rattle.route_msgs.proofs.FieldsRead.{FitsIn, AllFitIn, are_clear, value_among, read_fields, length-with_fields, number_at-append}
 use Rattle.route_msgs.proofs.Places.{built, counted}
 use Rattle.route_msgs.proofs.TextSizes.{texts_fit, addrs_of-lt}
 
+infixr 20 ◌&◌
+-- both, where more may follow
+◌&◌ : {A B : Type 0} → A → B → A × B
+a & b = (a, b)
+
+-- a number that is small enough, at a place of the header
+placed : {n : ℕ} {f : Field} → nat_le (f.offset + f.width) n ≡ true → f.value < 256 ^ f.width → FitsIn n f
+placed there small = record { within = leb-true _ _ there; small = small }
+
 route_fits : (size addrs : ℕ) (h : Header) → size < 2 ^ 16 → addrs < 2 ^ 32 → IsHeader h → AllFitIn 76 (route_fields size addrs h)
-route_fits size addrs h a b f = (
-  record { within = lit≤ tt; small = a },
-  (
-    record { within = lit≤ tt; small = lit< tt },
-    (
-      record { within = lit≤ tt; small = f.of_kind },
-      (
-        record { within = lit≤ tt; small = f.of_index },
-        (
-          record { within = lit≤ tt; small = f.of_padding },
-          (
-            record { within = lit≤ tt; small = f.of_flags },
-            (
-              record { within = lit≤ tt; small = b },
-              (
-                record { within = lit≤ tt; small = f.of_pid },
-                (
-                  record { within = lit≤ tt; small = f.of_seq },
-                  (
-                    record { within = lit≤ tt; small = f.of_errno },
-                    (
-                      record { within = lit≤ tt; small = f.of_use_count },
-                      (
-                        record { within = lit≤ tt; small = f.of_inits },
-                        (
-                          record { within = lit≤ tt; small = f.of_metrics 0 },
-                          (
-                            record { within = lit≤ tt; small = f.of_metrics 1 },
-                            (
-                              record { within = lit≤ tt; small = f.of_metrics 2 },
-                              (
-                                record { within = lit≤ tt; small = f.of_metrics 3 },
-                                (
-                                  record { within = lit≤ tt; small = f.of_metrics 4 },
-                                  (
-                                    record { within = lit≤ tt; small = f.of_metrics 5 },
-                                    (
-                                      record { within = lit≤ tt; small = f.of_metrics 6 },
-                                      (
-                                        record { within = lit≤ tt; small = f.of_metrics 7 },
-                                        (
-                                          record { within = lit≤ tt; small = f.of_metrics 8 },
-                                          (
-                                            record { within = lit≤ tt; small = f.of_metrics 9 },
-                                            tt,
-                                          ),
-                                        ),
-                                      ),
-                                    ),
-                                  ),
-                                ),
-                              ),
-                            ),
-                          ),
-                        ),
-                      ),
-                    ),
-                  ),
-                ),
-              ),
-            ),
-          ),
-        ),
-      ),
-    ),
-  ),
-)
+route_fits size addrs h a b f =
+    placed refl a & placed refl (lit< tt) & placed refl f.of_kind & placed refl f.of_index & placed refl f.of_padding
+    & placed refl f.of_flags & placed refl b & placed refl f.of_pid & placed refl f.of_seq & placed refl f.of_errno
+    & placed refl f.of_use_count & placed refl f.of_inits & placed refl (f.of_metrics 0) & placed refl (f.of_metrics 1)
+    & placed refl (f.of_metrics 2) & placed refl (f.of_metrics 3) & placed refl (f.of_metrics 4) & placed refl (f.of_metrics 5)
+    & placed refl (f.of_metrics 6) & placed refl (f.of_metrics 7) & placed refl (f.of_metrics 8) & placed refl (f.of_metrics 9) & tt
 
 ifa_fits : (size addrs : ℕ) (h : IfaHeader) → size < 2 ^ 16 → addrs < 2 ^ 32 → IsIfaHeader h → AllFitIn 20 (ifa_fields size addrs h)
-ifa_fits size addrs h a b f = (
-  record { within = lit≤ tt; small = a },
-  (
-    record { within = lit≤ tt; small = lit< tt },
-    (
-      record { within = lit≤ tt; small = f.of_kind },
-      (
-        record { within = lit≤ tt; small = b },
-        (
-          record { within = lit≤ tt; small = f.of_flags },
-          (
-            record { within = lit≤ tt; small = f.of_index },
-            (
-              record { within = lit≤ tt; small = f.of_padding },
-              (
-                record { within = lit≤ tt; small = f.of_metric },
-                tt,
-              ),
-            ),
-          ),
-        ),
-      ),
-    ),
-  ),
-)
+ifa_fits size addrs h a b f =
+    placed refl a & placed refl (lit< tt) & placed refl f.of_kind & placed refl b & placed refl f.of_flags
+    & placed refl f.of_index & placed refl f.of_padding & placed refl f.of_metric & tt
+
+-- ---- a header of n bytes with such fields, and what stands behind it
+
+module _ (n : ℕ) (fields : List Field) (behind : List ℕ) (fit : AllFitIn n fields) where
+  abbrev zeros : List ℕ
+  zeros = replicate n 0
+
+  abbrev head : List ℕ
+  head = with_fields fields zeros
+
+  length-zeros : length zeros ≡ n
+  length-zeros = length-replicate n _
+
+  fit_zeros : AllFitIn (length zeros) fields
+  fit_zeros = rw length-zeros fit
+
+  length-fields : length head ≡ n
+  length-fields = length-with_fields fields zeros fit_zeros ∙ length-zeros
+
+  length-whole : length (head ++ behind) ≡ n + length behind
+  length-whole = omega (arith, length-append head behind, length-fields)
+
+  -- a number is that of the last field at its place, and 0 where there is none
+  number_read : (o w : ℕ) → o + w ≤ n → are_clear o w fields ≡ true → number_at o w (head ++ behind) ≡ value_among o w fields (number_at o w zeros)
+  number_read o w within clear =
+      number_at-append o w head behind (rw length-fields within)
+      ∙ read_fields o w (number_at o w zeros) fields zeros fit_zeros clear refl
+
+-- ---- a message about a route
 
 -- a list of ten, by its elements
 ten_again : (ms : List ℕ) → length ms ≡ 10 → counted (slice_index ms) 0 10 ≡ ms
@@ -149,22 +106,23 @@ header_stands m h named e =
     (ap (λ (ms : List ℕ). record h { addrs = named; metrics = ms }) metrics)
 
 module _ (h : Header) (ts : Texts) (is : IsHeader h) (are : AreTexts ts) where
-  fits : AllFitIn 76 (route_fields (76 + length (text_bytes ts)) (addrs_of ts) h)
+  abbrev fields : List Field
+  fields = route_fields (76 + length (text_bytes ts)) (addrs_of ts) h
+
+  fits : AllFitIn 76 fields
   fits =
       let small : 76 + length (text_bytes ts) < 2 ^ 16 = omega (arith, texts_fit ts are) in
       let few : addrs_of ts < 2 ^ 32 = omega (arith, addrs_of-lt ts) in
       route_fits (76 + length (text_bytes ts)) (addrs_of ts) h small few is
 
   pub length-head : length (route_head (76 + length (text_bytes ts)) (addrs_of ts) h) ≡ 76
-  length-head = length-with_fields (route_fields (76 + length (text_bytes ts)) (addrs_of ts) h) (replicate 76 0) fits
+  length-head = length-fields 76 fields (text_bytes ts) fits
 
   pub length-message : length (route_message h ts) ≡ 76 + length (text_bytes ts)
-  length-message = omega (arith, length-append (route_head (76 + length (text_bytes ts)) (addrs_of ts) h) (text_bytes ts), length-head)
+  length-message = length-whole 76 fields (text_bytes ts) fits
 
-  pub field_read : (o w : ℕ) → o + w ≤ 76 → are_clear o w (route_fields (76 + length (text_bytes ts)) (addrs_of ts) h) ≡ true → number_at o w (route_message h ts) ≡ value_among o w (route_fields (76 + length (text_bytes ts)) (addrs_of ts) h) (number_at o w (replicate 76 0))
-  field_read o w within clear =
-      number_at-append o w (route_head (76 + length (text_bytes ts)) (addrs_of ts) h) (text_bytes ts) (rw length-head within)
-      ∙ read_fields o w (number_at o w (replicate 76 0)) (route_fields (76 + length (text_bytes ts)) (addrs_of ts) h) (replicate 76 0) fits clear refl
+  field_read : (o w : ℕ) → o + w ≤ 76 → are_clear o w fields ≡ true → number_at o w (route_message h ts) ≡ value_among o w fields (number_at o w (replicate 76 0))
+  field_read = number_read 76 fields (text_bytes ts) fits
 
   pub size_read : number_at 0 2 (route_message h ts) ≡ length (route_message h ts)
   size_read = field_read 0 2 (lit≤ tt) refl ∙ sym length-message
@@ -204,27 +162,24 @@ module _ (h : Header) (ts : Texts) (is : IsHeader h) (are : AreTexts ts) where
     of_metrics = metrics_stand (route_message h ts) h.metrics is.ten metrics_read;
   })
 
+-- ---- a message about an interface's address
+
 module _ (h : IfaHeader) (ts : Texts) (is : IsIfaHeader h) (are : AreTexts ts) where
-  fits_ifa : AllFitIn 20 (ifa_fields (20 + length (text_bytes ts)) (addrs_of ts) h)
+  abbrev fields_of_ifa : List Field
+  fields_of_ifa = ifa_fields (20 + length (text_bytes ts)) (addrs_of ts) h
+
+  fits_ifa : AllFitIn 20 fields_of_ifa
   fits_ifa =
       let small : 20 + length (text_bytes ts) < 2 ^ 16 = omega (arith, texts_fit ts are) in
       let few : addrs_of ts < 2 ^ 32 = omega (arith, addrs_of-lt ts) in
       ifa_fits (20 + length (text_bytes ts)) (addrs_of ts) h small few is
 
-  length-ifa_head : length (ifa_head (20 + length (text_bytes ts)) (addrs_of ts) h) ≡ 20
-  length-ifa_head = length-with_fields (ifa_fields (20 + length (text_bytes ts)) (addrs_of ts) h) (replicate 20 0) fits_ifa
-
-  length-ifa_message : length (ifa_message h ts) ≡ 20 + length (text_bytes ts)
-  length-ifa_message = omega (arith, length-append (ifa_head (20 + length (text_bytes ts)) (addrs_of ts) h) (text_bytes ts), length-ifa_head)
-
-  ifa_read : (o w : ℕ) → o + w ≤ 20 → are_clear o w (ifa_fields (20 + length (text_bytes ts)) (addrs_of ts) h) ≡ true → number_at o w (ifa_message h ts) ≡ value_among o w (ifa_fields (20 + length (text_bytes ts)) (addrs_of ts) h) (number_at o w (replicate 20 0))
-  ifa_read o w within clear =
-      number_at-append o w (ifa_head (20 + length (text_bytes ts)) (addrs_of ts) h) (text_bytes ts) (rw length-ifa_head within)
-      ∙ read_fields o w (number_at o w (replicate 20 0)) (ifa_fields (20 + length (text_bytes ts)) (addrs_of ts) h) (replicate 20 0) fits_ifa clear refl
+  ifa_read : (o w : ℕ) → o + w ≤ 20 → are_clear o w fields_of_ifa ≡ true → number_at o w (ifa_message h ts) ≡ value_among o w fields_of_ifa (number_at o w (replicate 20 0))
+  ifa_read = number_read 20 fields_of_ifa (text_bytes ts) fits_ifa
 
   pub ifa_laid_out : IsLaidOut h ts (ifa_message h ts)
   ifa_laid_out = record {
-    size = ifa_read 0 2 (lit≤ tt) refl ∙ sym length-ifa_message;
+    size = ifa_read 0 2 (lit≤ tt) refl ∙ sym (length-whole 20 fields_of_ifa (text_bytes ts) fits_ifa);
     version = ifa_read 2 1 (lit≤ tt) refl;
     kind_there = ifa_read 3 1 (lit≤ tt) refl;
     addrs_there = ifa_read 4 4 (lit≤ tt) refl;
@@ -232,5 +187,5 @@ module _ (h : IfaHeader) (ts : Texts) (is : IsIfaHeader h) (are : AreTexts ts) w
     index_there = ifa_read 12 2 (lit≤ tt) refl;
     padding_there = ifa_read 14 2 (lit≤ tt) refl;
     metric_there = ifa_read 16 4 (lit≤ tt) refl;
-    behind = drop_at (ifa_head (20 + length (text_bytes ts)) (addrs_of ts) h) (text_bytes ts) 20 length-ifa_head;
+    behind = drop_at (ifa_head (20 + length (text_bytes ts)) (addrs_of ts) h) (text_bytes ts) 20 (length-fields 20 fields_of_ifa (text_bytes ts) fits_ifa);
   }

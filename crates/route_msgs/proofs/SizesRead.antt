@@ -1,8 +1,9 @@
 -- A message that was written says its own length, whatever its other fields are.
 use Rattle.std.proofs.Common.{◌≡◌, ℕ, ◌+◌, ◌<◌, ◌≤◌, ◌^◌, Bool, true, ◌&&◌, nat_le, List, [], ◌∷◌, ◌++◌, length, drop, replicate, refl, ◌∙◌, arith, lit≤, length-append}
 use Rattle.std.proofs.lemmas.Bool.{leb-true}
+use Rattle.std.proofs.lemmas.List.{length-replicate}
 use Rattle.route_msgs.specs.Layout.{Field, field, number_at, with_field, with_fields}
-use Rattle.route_msgs.specs.Headers.{ifa_fields, ifa_head, ifa_message, route_fields, route_head, route_message}
+use Rattle.route_msgs.specs.Headers.{ifa_fields, ifa_message, route_fields, route_message}
 use Rattle.route_msgs.specs.Texts.{addrs_of, text_bytes}
 use Rattle.route_msgs.specs.declared.header.Header.{Header}
 use Rattle.route_msgs.specs.declared.header.IfaHeader.{IfaHeader}
@@ -40,18 +41,21 @@ headed head behind n size some says = record {
   says = number_at-append 0 2 head behind (rw size some) ∙ says;
 }
 
-pub route_says : (h : Header) (ts : Texts) → 76 + length (text_bytes ts) ≤ 256 → SaysLength (76 + length (text_bytes ts)) (route_message h ts)
-route_says h ts fits =
-    let size = 76 + length (text_bytes ts) in
+-- a message whose first field is its length, which its header's other fields leave as it is
+first_says : (n : ℕ) (others : List Field) (behind : List ℕ) → 2 ≤ n → n + length behind ≤ 256 → are_apart n 0 2 others ≡ true
+    → SaysLength (n + length behind) (with_fields (field 0 2 (n + length behind) ∷ others) (replicate n 0) ++ behind)
+first_says n others behind some fits apart =
+    let size = n + length behind in
     let first = field 0 2 size in
     let small : size < 256 ^ 2 = omega arith in
-    let rest = kept 76 0 2 (drop 1 (route_fields size (addrs_of ts) h)) (with_field first (replicate 76 0)) (length-with_field first (replicate 76 0) (lit≤ tt)) refl in
-    headed (route_head size (addrs_of ts) h) (text_bytes ts) 76 rest.size (lit≤ tt) (rest.number ∙ number_at-with_field first (replicate 76 0) (lit≤ tt) small)
+    let zeros : List ℕ = replicate n 0 in
+    let all : length zeros ≡ n = length-replicate n _ in
+    let room : 2 ≤ length zeros = rw all some in
+    let rest = kept n 0 2 others (with_field first zeros) (length-with_field first zeros room ∙ all) apart in
+    headed (with_fields (first ∷ others) zeros) behind n rest.size some (rest.number ∙ number_at-with_field first zeros room small)
+
+pub route_says : (h : Header) (ts : Texts) → 76 + length (text_bytes ts) ≤ 256 → SaysLength (76 + length (text_bytes ts)) (route_message h ts)
+route_says h ts fits = first_says 76 (drop 1 (route_fields (76 + length (text_bytes ts)) (addrs_of ts) h)) (text_bytes ts) (lit≤ tt) fits refl
 
 pub ifa_says : (h : IfaHeader) (ts : Texts) → 20 + length (text_bytes ts) ≤ 256 → SaysLength (20 + length (text_bytes ts)) (ifa_message h ts)
-ifa_says h ts fits =
-    let size = 20 + length (text_bytes ts) in
-    let first = field 0 2 size in
-    let small : size < 256 ^ 2 = omega arith in
-    let rest = kept 20 0 2 (drop 1 (ifa_fields size (addrs_of ts) h)) (with_field first (replicate 20 0)) (length-with_field first (replicate 20 0) (lit≤ tt)) refl in
-    headed (ifa_head size (addrs_of ts) h) (text_bytes ts) 20 rest.size (lit≤ tt) (rest.number ∙ number_at-with_field first (replicate 20 0) (lit≤ tt) small)
+ifa_says h ts fits = first_says 20 (drop 1 (ifa_fields (20 + length (text_bytes ts)) (addrs_of ts) h)) (text_bytes ts) (lit≤ tt) fits refl

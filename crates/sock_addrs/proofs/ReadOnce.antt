@@ -25,6 +25,11 @@ in_or_out lo hi c = elim (cases_lt c lo) [
   | inr least ↦ elim (cases_lt hi c) [ inl above ↦ inl (inr above) | inr most ↦ inr (least, most) ]
 ]
 
+-- a result that is no other is the only one
+the_only : {A : Type 0} (Reads : Result A BadAddr → Type 0) → ((r s : Result A BadAddr) → Reads r → Reads s → s ≡ r) → (r : Result A BadAddr) → Reads r
+    → (result : Result A BadAddr) × Reads result × ((other : Result A BadAddr) → Reads other → other ≡ result)
+the_only Reads single r h = (r, h, λ other k. single r other h k)
+
 inet_single : (text : List ℕ) (r s : Result ℕ BadAddr) → ReadsInet text r → ReadsInet text s → s ≡ r
 inet_single text (Ok a) (Ok b) h k = ap Ok (sym k.number ∙ h.number)
 inet_single text (Err bad.Short) (Err bad.Short) h k = refl
@@ -32,18 +37,14 @@ inet_single text (Err bad.Family) (Err bad.Family) h k = refl
 inet_single text (Err bad.Length) (Err bad.Length) h k = refl
 inet_single text r s h k = absurd (grind arith)
 
-inet_by : (text : List ℕ) (result : Result ℕ BadAddr) → ReadsInet text result
-    → (result : Result ℕ BadAddr) × ReadsInet text result × ((other : Result ℕ BadAddr) → ReadsInet text other → other ≡ result)
-inet_by text result h = (result, h, λ other k. inet_single text result other h k)
-
 pub inet_read_once : IsReadOnce ReadsInet
-inet_read_once text = elim (short_or_whole text) [
-  | inl short ↦ inet_by text (Err bad.Short) short
+inet_read_once text = let by = the_only (ReadsInet text) (inet_single text) in elim (short_or_whole text) [
+  | inl short ↦ by (Err bad.Short) short
   | inr whole ↦ elim (cases_eq (family text) 2) [
-    | inr other ↦ inet_by text (Err bad.Family) (whole, other)
+    | inr other ↦ by (Err bad.Family) (whole, other)
     | inl two ↦ elim (in_or_out 8 16 (length_byte text)) [
-      | inl out ↦ inet_by text (Err bad.Length) (whole, two, out)
-      | inr within ↦ inet_by text (Ok _) (record { whole = whole; family = two; least = within.0; most = within.1; number = refl })
+      | inl out ↦ by (Err bad.Length) (whole, two, out)
+      | inr within ↦ by (Ok _) (record { whole = whole; family = two; least = within.0; most = within.1; number = refl })
     ]
   ]
 ]
@@ -56,23 +57,19 @@ gate_single text (Err bad.Family) (Err bad.Family) h k = refl
 gate_single text (Err bad.Length) (Err bad.Length) h k = refl
 gate_single text r s h k = absurd (grind arith)
 
-gate_by : (text : List ℕ) (result : Result Gate BadAddr) → ReadsGate text result
-    → (result : Result Gate BadAddr) × ReadsGate text result × ((other : Result Gate BadAddr) → ReadsGate text other → other ≡ result)
-gate_by text result h = (result, h, λ other k. gate_single text result other h k)
-
 pub gate_read_once : IsReadOnce ReadsGate
-gate_read_once text = elim (short_or_whole text) [
-  | inl short ↦ gate_by text (Err bad.Short) short
+gate_read_once text = let by = the_only (ReadsGate text) (gate_single text) in elim (short_or_whole text) [
+  | inl short ↦ by (Err bad.Short) short
   | inr whole ↦ elim (cases_eq (family text) 2) [
     | inl two ↦ elim (in_or_out 8 16 (length_byte text)) [
-      | inl out ↦ gate_by text (Err bad.Length) (whole, inl (two, out))
-      | inr within ↦ gate_by text (Ok (gate.Inet _)) (record { whole = whole; family = two; least = within.0; most = within.1; number = refl })
+      | inl out ↦ by (Err bad.Length) (whole, inl (two, out))
+      | inr within ↦ by (Ok (gate.Inet _)) (record { whole = whole; family = two; least = within.0; most = within.1; number = refl })
     ]
     | inr not_inet ↦ elim (cases_eq (family text) 18) [
-      | inr other ↦ gate_by text (Err bad.Family) (whole, not_inet, other)
+      | inr other ↦ by (Err bad.Family) (whole, not_inet, other)
       | inl eighteen ↦ elim (in_or_out 8 32 (length_byte text)) [
-        | inl out ↦ gate_by text (Err bad.Length) (whole, inr (eighteen, out))
-        | inr within ↦ gate_by text (Ok (gate.Link _)) (record { whole = whole; family = eighteen; least = within.0; most = within.1; bytes = refl })
+        | inl out ↦ by (Err bad.Length) (whole, inr (eighteen, out))
+        | inr within ↦ by (Ok (gate.Link _)) (record { whole = whole; family = eighteen; least = within.0; most = within.1; bytes = refl })
       ]
     ]
   ]
@@ -98,18 +95,14 @@ mask_single text (Err bad.Length) (Err bad.Length) h k = refl
 mask_single text (Err bad.NotContiguous) (Err bad.NotContiguous) h k = refl
 mask_single text r s h k = absurd (grind arith)
 
-mask_by : (text : List ℕ) (result : Result ℕ BadAddr) → ReadsMask text result
-    → (result : Result ℕ BadAddr) × ReadsMask text result × ((other : Result ℕ BadAddr) → ReadsMask text other → other ≡ result)
-mask_by text result h = (result, h, λ other k. mask_single text result other h k)
-
 pub mask_read_once : IsReadOnce ReadsMask
-mask_read_once text = elim (short_or_whole text) [
-  | inl short ↦ mask_by text (Err bad.Short) short
+mask_read_once text = let by = the_only (ReadsMask text) (mask_single text) in elim (short_or_whole text) [
+  | inl short ↦ by (Err bad.Short) short
   | inr whole ↦ elim (cases_lt 16 (length_byte text)) [
-    | inl long ↦ mask_by text (Err bad.Length) (whole, long)
+    | inl long ↦ by (Err bad.Length) (whole, long)
     | inr most ↦ elim (mask_or_none 33 (number_of_mask text)) [
-      | inl found ↦ mask_by text (Ok found.0) (record { whole = whole; most = most; fits = omega (arith, found.1); ones_first = found.2 })
-      | inr none ↦ mask_by text (Err bad.NotContiguous) (whole, most, λ bits fits e. none bits (omega arith) e)
+      | inl found ↦ by (Ok found.0) (record { whole = whole; most = most; fits = omega (arith, found.1); ones_first = found.2 })
+      | inr none ↦ by (Err bad.NotContiguous) (whole, most, λ bits fits e. none bits (omega arith) e)
     ]
   ]
 ]
