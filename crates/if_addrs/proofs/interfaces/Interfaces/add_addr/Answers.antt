@@ -3,36 +3,38 @@ use Rattle.std.specs.List.{position, list_any}
 use Rattle.if_addrs.specs.Interfaces.{Interface, has_name, with_address, new_address, added}
 use Rattle.if_addrs.proofs.AddressLists.{place_of_name, is_named, added_is, numbered_is, there_is}
 use Rattle.if_addrs.proofs.interfaces.Interfaces.add_addr.Goals as goal
+use Rattle.if_addrs.proofs.interfaces.Interfaces.add_addr.Goals.{In-Ok}
 
 pub unwrap-at-requires : goal.unwrap-at-requires
 unwrap-at-requires c =
     rw (c.place_of.ensures, c.deref.ensures.value, c.self.view_is) (place_of_name c.args.name c.args.address c.args.self.now c.requires)
 
-pub invariant_of-self : goal.invariant_of-self
-invariant_of-self c =
-    let items = c.self.inside.interfaces.items in
-    let place : position (has_name c.args.name) items ≡ Some c.unwrap-at.result = ap (λ (xs : List Interface). position (has_name c.args.name) xs) (sym c.deref.ensures.value) ∙ sym c.place_of.ensures ∙ c.unwrap-at.ensures in
-    let there : list_any (has_name c.args.name) items ≡ true = ap (λ (xs : List Interface). list_any (has_name c.args.name) xs) c.self.view_is ∙ is_named c.args.name c.args.address c.args.self.now c.requires in
-    numbered_is c.self.inside.added items (slice_set items c.unwrap-at.result c.add.new.self) c.args.name c.args.address c.args.prefix c.args.cloning
-    (added_is c.self.inside.added items c.args.name c.args.address c.args.prefix c.args.cloning c.unwrap-at.result c.add.new.self c.index_mut-interface.result.now c.index_mut-interface.result.now c.new-address.result
-    place c.in-Ok.ensures.ok c.index_mut-interface.ensures.value c.new-address.ensures c.self.invariant.counted)
-    c.self.invariant there
+-- there is an interface of this name
+there : (c : In-Ok) → list_any (has_name c.args.name) c.self.inside.interfaces.items ≡ true
+there c = ap (λ (xs : List Interface). list_any (has_name c.args.name) xs) c.self.view_is ∙ is_named c.args.name c.args.address c.args.self.now c.requires
 
-pub returns-in-Ok-clause-added : goal.returns-in-Ok-clause-added
-returns-in-Ok-clause-added c =
+-- it is changed to one with the new address
+changed : (c : In-Ok) → slice_set c.self.inside.interfaces.items c.unwrap-at.result c.add.new.self ≡ with_address c.args.name c.args.address c.args.prefix c.args.cloning c.self.inside.interfaces.items
+changed c =
     let items = c.self.inside.interfaces.items in
     let place : position (has_name c.args.name) items ≡ Some c.unwrap-at.result = ap (λ (xs : List Interface). position (has_name c.args.name) xs) (sym c.deref.ensures.value) ∙ sym c.place_of.ensures ∙ c.unwrap-at.ensures in
     added_is c.self.inside.added items c.args.name c.args.address c.args.prefix c.args.cloning c.unwrap-at.result c.add.new.self c.index_mut-interface.result.now c.index_mut-interface.result.now c.new-address.result
     place c.in-Ok.ensures.ok c.index_mut-interface.ensures.value c.new-address.ensures c.self.invariant.counted
+
+pub invariant_of-self : goal.invariant_of-self
+invariant_of-self c =
+    let at = (goal.at.invariant_of-self c).In-Ok in
+    let items = c.self.inside.interfaces.items in
+    numbered_is c.self.inside.added items (slice_set items c.unwrap-at.result c.add.new.self) c.args.name c.args.address c.args.prefix c.args.cloning (changed at) c.self.invariant (there at)
+
+pub returns-in-Ok-clause-added : goal.returns-in-Ok-clause-added
+returns-in-Ok-clause-added c =
+    changed (goal.at.returns-in-Ok-clause-added c).In-Ok
     ∙ ap (λ (xs : List Interface). with_address c.args.name c.args.address c.args.prefix c.args.cloning xs) c.self.view_is
 
 pub returns-in-Ok-clause-there : goal.returns-in-Ok-clause-there
 returns-in-Ok-clause-there c =
+    let at = (goal.at.returns-in-Ok-clause-there c).In-Ok in
     let items = c.self.inside.interfaces.items in
-    let place : position (has_name c.args.name) items ≡ Some c.unwrap-at.result = ap (λ (xs : List Interface). position (has_name c.args.name) xs) (sym c.deref.ensures.value) ∙ sym c.place_of.ensures ∙ c.unwrap-at.ensures in
-    let there : list_any (has_name c.args.name) items ≡ true = ap (λ (xs : List Interface). list_any (has_name c.args.name) xs) c.self.view_is ∙ is_named c.args.name c.args.address c.args.self.now c.requires in
-    there_is c.self.inside.added items (slice_set items c.unwrap-at.result c.add.new.self) c.args.name c.args.address c.args.prefix c.args.cloning
-    (added_is c.self.inside.added items c.args.name c.args.address c.args.prefix c.args.cloning c.unwrap-at.result c.add.new.self c.index_mut-interface.result.now c.index_mut-interface.result.now c.new-address.result
-    place c.in-Ok.ensures.ok c.index_mut-interface.ensures.value c.new-address.ensures c.self.invariant.counted)
-    c.self.invariant there
+    there_is c.self.inside.added items (slice_set items c.unwrap-at.result c.add.new.self) c.args.name c.args.address c.args.prefix c.args.cloning (changed at) c.self.invariant (there at)
     ∙ ap (λ (xs : List Interface). Some (new_address (added xs + 1) c.args.address c.args.prefix c.args.cloning)) c.self.view_is
