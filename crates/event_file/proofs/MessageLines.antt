@@ -5,7 +5,7 @@ use Rattle.std.specs.Prelude.{flat_map}
 use Rattle.event_file.specs.Answers.{message_line}
 use Rattle.event_file.specs.Counts.{Counts}
 use Rattle.event_file.specs.Output.{Wrote, WroteFront}
-use Rattle.route_core.specs.Received.{cut, IsWhole}
+use Rattle.route_core.specs.Received.{cut, AreMessages}
 use Rattle.event_file.proofs.Fronts.{Wrote-nil, Wrote-then, WroteFront-then, WroteFront-more}
 
 abbrev pub lines : List (List ℕ) → List ℕ
@@ -19,14 +19,14 @@ pub record WroteMessages {T : Type 0} (contents : T → Option (List ℕ)) (old 
   pub messages : List (List ℕ)
   pub parted : cut bytes ≡ messages ++ cut rest
   pub wrote : Wrote contents old new (lines messages)
-  pub whole : IsWhole rest
+  pub whole : AreMessages rest
 
 module _ {T : Type 0} {contents : T → Option (List ℕ)} where
-  pub WroteMessages-none : (w : Counts T) (bytes : List ℕ) → IsWhole bytes → WroteMessages contents w w bytes bytes
+  pub WroteMessages-none : (w : Counts T) (bytes : List ℕ) → AreMessages bytes → WroteMessages contents w w bytes bytes
   WroteMessages-none w bytes h = record { messages = []; parted = refl; wrote = Wrote-nil w; whole = h }
 
   -- and one more
-  pub WroteMessages-more : {a b c : Counts T} {bytes rest : List ℕ} (m left : List ℕ) → WroteMessages contents a b bytes rest → cut rest ≡ m ∷ cut left → IsWhole left
+  pub WroteMessages-more : {a b c : Counts T} {bytes rest : List ℕ} (m left : List ℕ) → WroteMessages contents a b bytes rest → cut rest ≡ m ∷ cut left → AreMessages left
       → Wrote contents b c (message_line m) → WroteMessages contents a c bytes left
   WroteMessages-more {a} {b} {c} {bytes} {rest} m left p e h q = record {
     messages = p.messages ++ m ∷ [];

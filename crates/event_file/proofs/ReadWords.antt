@@ -10,7 +10,7 @@ use Rattle.std.proofs.lemmas.Slice.Eq.{bytes_eq-Decides}
 use Rattle.hex.specs.Hex.{IsBytes, decode_of}
 use Rattle.hex.specs.declared.error.FromHexError.{FromHexError}
 use Rattle.hex.proofs.HexLemmas.{decode_of-ok}
-use Rattle.route_core.specs.declared.command.Command.{Command}
+use Rattle.route_core.specs.Commands.{Command}
 use Rattle.route_core.specs.declared.command.Command.TheVariants.{Attach, AddAddress, Open, Write, Read}
 use Rattle.event_file.specs.Grammar.{Form, add_address_form, address_of_parts, attach_form, by_forms, cloning_of, forms, most_link_bytes, most_written_bytes, open_form, read_form, said_by, write_form}
 use Rattle.event_file.specs.Lines.{most_line_bytes}

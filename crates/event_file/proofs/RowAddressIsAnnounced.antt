@@ -4,7 +4,7 @@ use Rattle.std.specs.Fmt.{digits}
 use Rattle.hex.proofs.OnLiterals.{hex_on_literals}
 use Rattle.route_core.specs.Step.{stepped}
 use Rattle.route_msgs.specs.Layout.{number_at, with_field}
-use Rattle.route_msgs.specs.Slots.{place}
+use Rattle.route_msgs.specs.Slots.{offset_of}
 use Rattle.event_file.specs.Transcript.{transcript_of}
 
 abbrev script : List ℕ
@@ -24,5 +24,5 @@ transcript =
     ++ codes "ok\n"
 
 pub address_is_announced : transcript_of script ≡ transcript
-unfolding digits hex_on_literals stepped number_at with_field place
+unfolding digits hex_on_literals stepped number_at with_field offset_of
 address_is_announced = refl

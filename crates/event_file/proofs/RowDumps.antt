@@ -4,7 +4,7 @@ use Rattle.std.specs.Fmt.{digits}
 use Rattle.hex.proofs.OnLiterals.{hex_on_literals}
 use Rattle.route_core.specs.Step.{stepped}
 use Rattle.route_msgs.specs.Layout.{number_at, with_field}
-use Rattle.route_msgs.specs.Slots.{place}
+use Rattle.route_msgs.specs.Slots.{offset_of}
 use Rattle.event_file.specs.Transcript.{transcript_of}
 
 abbrev script : List ℕ
@@ -28,5 +28,5 @@ transcript =
     ++ codes "bad\n"
 
 pub dumps : transcript_of script ≡ transcript
-unfolding digits hex_on_literals stepped number_at with_field place
+unfolding digits hex_on_literals stepped number_at with_field offset_of
 dumps = refl

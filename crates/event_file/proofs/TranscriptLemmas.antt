@@ -1,14 +1,14 @@
 -- The computed transcript is one, and the only one where memory is never refused.
 use Rattle.std.proofs.Common.{◌≡◌, ℕ, List, [], ◌∷◌, Option, Some, None, Ok, Err, refl, sym, ap, subst, inl, inr}
-use Rattle.route_core.specs.declared.command.Command.{Command}
+use Rattle.route_core.specs.Commands.{Command}
 use Rattle.event_file.specs.Lines.{answered_lines}
-use Rattle.event_file.specs.Transcript.{Answered, IsTranscript, Replies, ReplyIsComputed, command_in, transcript_from, transcript_of, turn_by}
+use Rattle.event_file.specs.Transcript.{Answered, IsTranscript, Responds, ResponseIsComputed, command_in, transcript_from, transcript_of, turn_by}
 use Rattle.route_core.specs.Step.{Stepped}
 use Rattle.route_core.specs.World.{World, empty_world}
 
-turn_replies : (old : World) (line : Option (List ℕ)) (said : Option Command) → command_in line ≡ said → Replies old line (turn_by old said).reply (turn_by old said).world
-turn_replies old line None is = (is, refl)
-turn_replies old line (Some command) is = (command, is, inl refl)
+turn_responses : (old : World) (line : Option (List ℕ)) (said : Option Command) → command_in line ≡ said → Responds old line (turn_by old said).response (turn_by old said).world
+turn_responses old line None is = (is, refl)
+turn_responses old line (Some command) is = (command, is, inl refl)
 
 -- the transcript of a run in which nothing is refused for want of memory is a transcript, whatever world it begins in
 pub transcript_from-is : (lines : List (Option (List ℕ))) (old : World) → (last : World) × Answered old lines (transcript_from lines old) last
@@ -16,16 +16,16 @@ transcript_from-is [] old = (old, (refl, refl))
 transcript_from-is (line ∷ lines) old =
     let turn = turn_by old (command_in line) in
     let rest = transcript_from-is lines turn.world in
-    (rest.0, (turn.reply, turn.world, transcript_from lines turn.world, turn_replies old line (command_in line) refl, refl, rest.1))
+    (rest.0, (turn.response, turn.world, transcript_from lines turn.world, turn_responses old line (command_in line) refl, refl, rest.1))
 
 -- so what a run writes in which nothing is refused is a transcript
 pub transcript_of-is : (script : List ℕ) → IsTranscript script (transcript_of script)
 transcript_of-is script = transcript_from-is (answered_lines script) empty_world
 
-pub reply-is_computed : ReplyIsComputed
-reply-is_computed old line (Ok answer) next (command, said, inl is) full =
-    subst (λ (o : Option Command). (Ok answer ≡ (turn_by old o).reply) × (next ≡ (turn_by old o).world)) (sym said)
+pub response-is_computed : ResponseIsComputed
+response-is_computed old line (Ok answer) next (command, said, inl is) full =
+    subst (λ (o : Option Command). (Ok answer ≡ (turn_by old o).response) × (next ≡ (turn_by old o).world)) (sym said)
     (ap (λ (s : Stepped). Ok s.answer) (sym is), ap (λ (s : Stepped). s.world) (sym is))
-reply-is_computed old line (Ok answer) next (command, said, inr (takes, refused, same)) full = absurd (full (ap Ok refused))
-reply-is_computed old line (Err bad) next (said, same) full =
-    subst (λ (o : Option Command). (Err bad ≡ (turn_by old o).reply) × (next ≡ (turn_by old o).world)) (sym said) (refl, same)
+response-is_computed old line (Ok answer) next (command, said, inr (takes, refused, same)) full = absurd (full (ap Ok refused))
+response-is_computed old line (Err bad) next (said, same) full =
+    subst (λ (o : Option Command). (Err bad ≡ (turn_by old o).response) × (next ≡ (turn_by old o).world)) (sym said) (refl, same)

@@ -20,10 +20,10 @@ answer_text (Refused errno) = refusal_line (errno_number errno)
 answer_text (Messages messages) = flat_map message_line messages ++ codes "ok\n"
 
 -- of a line that is a command, and of one that is none
-abbrev pub reply_text : Result Answer Bad → List ℕ
-reply_text (Ok answer) = answer_text answer
-reply_text (Err bad) = codes "bad\n"
+abbrev pub response_text : Result Answer Bad → List ℕ
+response_text (Ok answer) = answer_text answer
+response_text (Err bad) = codes "bad\n"
 
--- every reply's text ends in a newline
-abbrev pub RepliesEndInANewline : Type 0
-RepliesEndInANewline = (reply : Result Answer Bad) → (front : List ℕ) × (reply_text reply ≡ front ++ codes "\n")
+-- every response's text ends in a newline
+abbrev pub ResponsesEndInANewline : Type 0
+ResponsesEndInANewline = (response : Result Answer Bad) → (front : List ℕ) × (response_text response ≡ front ++ codes "\n")

@@ -3,7 +3,7 @@ use Prim.Native.String.{String}
 use Rattle.std.specs.Prelude.{ℕ, nat_lt, Bool, true, false, if◌then◌else◌, List, [], ◌∷◌, length, codes, bytes_eq, Option, Some, None}
 use Rattle.event_file.specs.Lines.{most_line_bytes}
 use Rattle.event_file.specs.Words.{◌>>=◌, parted_by, name_of, number_to, bytes_to, inet_of}
-use Rattle.route_core.specs.declared.command.Command.{Command}
+use Rattle.route_core.specs.Commands.{Command}
 use Rattle.route_core.specs.declared.command.Command.TheVariants.{Attach, AddAddress, Open, Write, Read}
 
 -- a link-layer address has at most 8 bytes

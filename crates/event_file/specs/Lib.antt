@@ -4,5 +4,7 @@ pub mod Grammar
 pub mod Lines
 pub mod Output
 pub mod Printed
+pub mod RouteLine
+pub mod RouteWords
 pub mod Transcript
 pub mod Words

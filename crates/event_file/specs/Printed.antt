@@ -6,7 +6,7 @@ use Rattle.hex.specs.Hex.{IsBytes, encode_lower}
 use Rattle.event_file.specs.Words.{is_name_byte}
 use Rattle.event_file.specs.Grammar.{command_of, most_link_bytes}
 use Rattle.event_file.specs.Lines.{most_line_bytes}
-use Rattle.route_core.specs.declared.command.Command.{Command}
+use Rattle.route_core.specs.Commands.{Command}
 use Rattle.route_core.specs.declared.command.Command.TheVariants.{Attach, AddAddress, Open, Write, Read}
 
 -- ---- lines

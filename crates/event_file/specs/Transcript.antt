@@ -4,8 +4,8 @@ use Rattle.event_file.specs.declared.bad.Bad.{Bad}
 use Rattle.route_core.specs.declared.answer.Answer.{Answer}
 use Rattle.route_core.specs.declared.answer.Answer.TheVariants.{Refused}
 use Rattle.sock_addrs.specs.declared.errno.Errno.TheVariants.{ENOBUFS}
-use Rattle.route_core.specs.declared.command.Command.{Command}
-use Rattle.event_file.specs.Answers.{reply_text}
+use Rattle.route_core.specs.Commands.{Command}
+use Rattle.event_file.specs.Answers.{response_text}
 use Rattle.event_file.specs.Grammar.{command_of}
 use Rattle.event_file.specs.Lines.{answered_lines}
 use Rattle.route_core.specs.Step.{Steps, stepped}
@@ -20,17 +20,17 @@ command_in (Some line) = command_of line
 
 -- a line may be answered so in the old world, and the world is then the new one: a command by a step, and a malformed
 -- line by `bad`, in a world that stays
-abbrev pub Replies : World → Option (List ℕ) → Result Answer Bad → World → Type 0
-Replies old line (Ok answer) new = (command : Command) × (command_in line ≡ Some command) × Steps old command answer new
-Replies old line (Err bad) new = (command_in line ≡ None) × (new ≡ old)
+abbrev pub Responds : World → Option (List ℕ) → Result Answer Bad → World → Type 0
+Responds old line (Ok answer) new = (command : Command) × (command_in line ≡ Some command) × Steps old command answer new
+Responds old line (Err bad) new = (command_in line ≡ None) × (new ≡ old)
 
 -- ---- lines, one after another
 
 -- the lines may be answered by this text, and the world is then the new one
 abbrev pub Answered : World → List (Option (List ℕ)) → List ℕ → World → Type 0
 Answered old [] text new = (text ≡ []) × (new ≡ old)
-Answered old (line ∷ lines) text new = (reply : Result Answer Bad) × (next : World) × (rest : List ℕ)
-    × Replies old line reply next × (text ≡ reply_text reply ++ rest) × Answered next lines rest new
+Answered old (line ∷ lines) text new = (response : Result Answer Bad) × (next : World) × (rest : List ℕ)
+    × Responds old line response next × (text ≡ response_text response ++ rest) × Answered next lines rest new
 
 -- the text is a transcript of the script
 abbrev pub IsTranscript : List ℕ → List ℕ → Type 0
@@ -45,16 +45,16 @@ has_bad_line (line ∷ lines) = is_none (command_in line) || has_bad_line lines
 
 -- the answer to a line, and the world after it
 pub record Turn : Type 0 where
-  pub reply : Result Answer Bad
+  pub response : Result Answer Bad
   pub world : World
 
 abbrev pub turn_by : World → Option Command → Turn
-turn_by world None = record { reply = Err (record {}); world = world }
-turn_by world (Some command) = record { reply = Ok (stepped world command).answer; world = (stepped world command).world }
+turn_by world None = record { response = Err (record {}); world = world }
+turn_by world (Some command) = record { response = Ok (stepped world command).answer; world = (stepped world command).world }
 
 -- the text of a turn, and then the text from its world on
 abbrev pub text_from : Turn → (World → List ℕ) → List ℕ
-text_from turn rest = reply_text turn.reply ++ rest turn.world
+text_from turn rest = response_text turn.response ++ rest turn.world
 
 abbrev pub transcript_from : List (Option (List ℕ)) → World → List ℕ
 transcript_from [] world = []
@@ -68,7 +68,7 @@ abbrev pub ComputedIsTranscript : Type 0
 ComputedIsTranscript = (script : List ℕ) → IsTranscript script (transcript_of script)
 
 -- and the only one where memory is never refused: any other answer to a line is the computed one, and so is the world after it
-abbrev pub ReplyIsComputed : Type 0
-ReplyIsComputed = (old : World) → (line : Option (List ℕ)) → (reply : Result Answer Bad) → (next : World) → Replies old line reply next
-    → reply ≢ Ok (Refused ENOBUFS)
-    → (reply ≡ (turn_by old (command_in line)).reply) × (next ≡ (turn_by old (command_in line)).world)
+abbrev pub ResponseIsComputed : Type 0
+ResponseIsComputed = (old : World) → (line : Option (List ℕ)) → (response : Result Answer Bad) → (next : World) → Responds old line response next
+    → response ≢ Ok (Refused ENOBUFS)
+    → (response ≡ (turn_by old (command_in line)).response) × (next ≡ (turn_by old (command_in line)).world)

@@ -1,11 +1,14 @@
 -- What a word of a script says: a name, a number, bytes or an address, and None where it is no such word.
-use Rattle.std.specs.Prelude.{ℕ, ◌/◌, ◌==◌, ◌&&◌, ◌||◌, nat_le, Bool, if◌then◌else◌, List, [], ◌∷◌, length, codes, bytes_eq, decimal, Option, Some, None, Result, Ok, Err}
+use Rattle.std.specs.Prelude.{ℕ, ◌-◌, ◌/◌, ◌==◌, ◌&&◌, ◌||◌, nat_le, Bool, if◌then◌else◌, List, [], ◌∷◌, ◌++◌, length, replicate, slice_index, codes, bytes_eq, decimal, Option, Some, None, option_map, Result, Ok, Err}
 use Rattle.std.specs.Char.{is_ascii_lowercase, is_ascii_digit}
 use Rattle.std.specs.Int.{w32, from_be_bytes}
 use Rattle.std.specs.List.{list_all, slice_split}
 use Rattle.std.specs.Str.Parse.{digits_value}
 use Rattle.hex.specs.Hex.{decode_of}
 use Rattle.hex.specs.declared.error.FromHexError.{FromHexError}
+use Rattle.sock_addrs.specs.declared.families.TheConstants.{AF_LINK}
+use Rattle.sock_addrs.specs.declared.gate.Gate.{Gate}
+use Rattle.sock_addrs.specs.declared.gate.Gate.TheVariants as gate
 
 -- the second step, if the first gave a value
 infixl 10 ◌>>=◌
@@ -55,3 +58,33 @@ inet_of_parts parts = None
 -- an IPv4 address, as `10.0.0.1`
 abbrev pub inet_of : List ℕ → Option ℕ
 inet_of word = inet_of_parts (parted_by 46 word)
+
+-- a number of 1 to 8 hexadecimal digits: the four bytes that they spell with zeros before them
+abbrev pub hex_number_of : List ℕ → Option ℕ
+hex_number_of word =
+    if nat_le 1 (length word) && nat_le (length word) 8
+    then option_map (from_be_bytes w32) (decoded (decode_of (replicate (8 - length word) 48 ++ word)))
+    else None
+
+-- the bytes of a link-layer address: 8 to 32 of them, the first their number and the second its family
+abbrev pub is_link_sockaddr : List ℕ → Bool
+is_link_sockaddr bytes =
+    nat_le 8 (length bytes) && nat_le (length bytes) 32 && slice_index bytes 0 == length bytes && slice_index bytes 1 == AF_LINK
+
+abbrev pub link_of_bytes : List ℕ → Option (List ℕ)
+link_of_bytes bytes = if is_link_sockaddr bytes then Some bytes else None
+
+-- the link-layer address that a word spells in hexadecimal
+abbrev pub link_of : List ℕ → Option (List ℕ)
+link_of word = do
+  bytes ← bytes_to 32 word
+  link_of_bytes bytes
+
+-- a gateway, by the parts around its colon: an IPv4 address, or `link:` and a link-layer address
+abbrev pub gate_of_parts : List (List ℕ) → Option Gate
+gate_of_parts (address ∷ []) = option_map gate.Inet (inet_of address)
+gate_of_parts (kind ∷ digits ∷ []) = if bytes_eq kind (codes "link") then option_map gate.Link (link_of digits) else None
+gate_of_parts parts = None
+
+abbrev pub gate_of : List ℕ → Option Gate
+gate_of word = gate_of_parts (parted_by 58 word)

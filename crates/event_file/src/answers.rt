@@ -1,9 +1,9 @@
 ghost use Rattle.std.specs.Prelude.{◌≡◌, ◌≤◌, length, flat_map, OnOk, OnErr};
 ghost use Rattle.hex.specs.Hex.{encode_lower};
 ghost use Rattle.sock_addrs.specs.Errno.{errno_number};
-ghost use Rattle.event_file.specs.Answers.{message_line, refusal_line, reply_text};
+ghost use Rattle.event_file.specs.Answers.{message_line, refusal_line, response_text};
 ghost use Rattle.event_file.specs.Output.{Wrote, WroteFront};
-ghost use Rattle.route_core.specs.Received.{cut, IsWhole};
+ghost use Rattle.route_core.specs.Received.{cut, AreMessages};
 
 use crate::output::write_bytes;
 use crate::{Bad, Counted, Stopped};
@@ -26,8 +26,8 @@ pub fn write_answer<W: Write>(
 ) -> Result<(), Stopped>
     requires buffer { length buffer.old ≡ 4096 }
     requires no_failure { writer.old.failures ≡ 0 }
-    ensures ok { OnOk result (Wrote W.contents writer.old writer.new (reply_text answer.now)) }
-    ensures err { OnErr result (WroteFront W.contents writer.old writer.new (reply_text answer.now)) }
+    ensures ok { OnOk result (Wrote W.contents writer.old writer.new (response_text answer.now)) }
+    ensures err { OnErr result (WroteFront W.contents writer.old writer.new (response_text answer.now)) }
 {
     match answer {
         Ok(Answer::Done) => write_bytes(b"ok\n", writer),
@@ -59,7 +59,7 @@ fn write_messages<W: Write>(
     buffer: &mut [u8],
     writer: &mut Counted<W>,
 ) -> Result<(), Stopped>
-    requires whole { IsWhole bytes.now }
+    requires whole { AreMessages bytes.now }
     requires buffer { length buffer.old ≡ 4096 }
     requires no_failure { writer.old.failures ≡ 0 }
     ensures ok { OnOk result (Wrote W.contents writer.old writer.new (flat_map message_line (cut bytes.now))) }

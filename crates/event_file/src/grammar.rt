@@ -1,24 +1,17 @@
-ghost use Rattle.std.specs.Prelude.{◌≡◌, map, bytes_eq, Some, None};
+ghost use Rattle.std.specs.Prelude.{◌≡◌, map, bytes_eq, length, Some, None};
 ghost use Rattle.std.specs.Result.{MatchResult};
 ghost use Rattle.event_file.specs.Words.{parted_by};
-ghost use Rattle.event_file.specs.Grammar.{attach_form, address_of_parts, cloning_of, add_address_form, open_form, write_form, read_form, forms, by_forms, said_by, command_of};
+ghost use Rattle.event_file.specs.Grammar.{attach_form, address_of_parts, cloning_of, add_address_form, open_form, write_form, read_form, most_written_bytes, forms, by_forms, said_by, command_of};
 
 use crate::Bad;
 use crate::line_buffer::LONGEST_LINE;
 use crate::numbers::{read_byte, read_inet, read_number, read_prefix};
 use crate::texts::{read_link, read_name, read_written};
-use crate::words::parted;
-use route_core::Command;
-
-/// Whether a word is this one.
-fn is(word: &[u8], text: &str) -> bool
-    ensures { result ≡ bytes_eq word.now text.now }
-{
-    word == text.as_bytes()
-}
+use crate::words::{is, parted};
+use route_core::{Command, Said};
 
 /// `NAME broadcast T HEX`, behind `if`.
-fn attach(words: &[&[u8]]) -> Option<Command>
+fn attach(words: &[&[u8]]) -> Option<Said<'static>>
     ensures { result ≡ attach_form (map (λ w. w.now) words.now) }
 {
     let [name, kind, type_number, link] = words else {
@@ -38,10 +31,10 @@ fn attach(words: &[&[u8]]) -> Option<Command>
 }
 
 /// `NAME A/P`, whose route clones or not.
-fn address(name: &[u8], word: &[u8], cloning: bool) -> Option<Command>
+fn address(name: &[u8], word: &[u8], cloning: bool) -> Option<Said<'static>>
     ensures { result ≡ address_of_parts name.now (parted_by 47 word.now) cloning }
 {
-    let parts = parted(b'/', word)?;
+    let parts = parted::<2>(b'/', word)?;
     let [address, prefix] = parts.as_slice() else {
         return None;
     };
@@ -70,7 +63,7 @@ fn cloning(options: &[&[u8]]) -> Option<bool>
 }
 
 /// `NAME A/P` and `NAME A/P cloning`, behind `addr`.
-fn add_address(words: &[&[u8]]) -> Option<Command>
+fn add_address(words: &[&[u8]]) -> Option<Said<'static>>
     ensures { result ≡ add_address_form (map (λ w. w.now) words.now) }
 {
     let [name, word, options @ ..] = words else {
@@ -81,7 +74,7 @@ fn add_address(words: &[&[u8]]) -> Option<Command>
 }
 
 /// `ID PID any`, behind `open`.
-fn open(words: &[&[u8]]) -> Option<Command>
+fn open(words: &[&[u8]]) -> Option<Said<'static>>
     ensures { result ≡ open_form (map (λ w. w.now) words.now) }
 {
     let [id, pid, protocol] = words else {
@@ -100,7 +93,8 @@ fn open(words: &[&[u8]]) -> Option<Command>
 }
 
 /// `ID HEX`, behind `write`.
-fn write(words: &[&[u8]]) -> Option<Command>
+fn write<'a>(words: &[&[u8]], room: &'a mut [u8]) -> Option<Said<'a>>
+    requires { length room.old ≡ most_written_bytes }
     ensures { result ≡ write_form (map (λ w. w.now) words.now) }
 {
     let [id, bytes] = words else {
@@ -108,12 +102,12 @@ fn write(words: &[&[u8]]) -> Option<Command>
     };
     Some(Command::Write {
         id: read_name(id)?,
-        bytes: read_written(bytes)?,
+        bytes: read_written(bytes, room)?,
     })
 }
 
 /// `ID`, behind `read`.
-fn read(words: &[&[u8]]) -> Option<Command>
+fn read(words: &[&[u8]]) -> Option<Said<'static>>
     ensures { result ≡ read_form (map (λ w. w.now) words.now) }
 {
     let [id] = words else {
@@ -123,7 +117,8 @@ fn read(words: &[&[u8]]) -> Option<Command>
 }
 
 /// The command that these words are behind this verb.
-fn said_behind(verb: &[u8], words: &[&[u8]]) -> Option<Command>
+fn said_behind<'a>(verb: &[u8], words: &[&[u8]], room: &'a mut [u8]) -> Option<Said<'a>>
+    requires { length room.old ≡ most_written_bytes }
     ensures { result ≡ by_forms forms verb.now (map (λ w. w.now) words.now) }
 {
     if is(verb, "if") {
@@ -136,7 +131,7 @@ fn said_behind(verb: &[u8], words: &[&[u8]]) -> Option<Command>
         return open(words);
     }
     if is(verb, "write") {
-        return write(words);
+        return write(words, room);
     }
     if is(verb, "read") {
         return read(words);
@@ -145,13 +140,27 @@ fn said_behind(verb: &[u8], words: &[&[u8]]) -> Option<Command>
 }
 
 /// The command that these words are: the first chooses the form of the others.
-fn said(words: &[&[u8]]) -> Option<Command>
+fn said<'a>(words: &[&[u8]], room: &'a mut [u8]) -> Option<Said<'a>>
+    requires { length room.old ≡ most_written_bytes }
     ensures { result ≡ said_by (map (λ w. w.now) words.now) }
 {
     let [verb, words @ ..] = words else {
         return None;
     };
-    said_behind(verb, words)
+    said_behind(verb, words, room)
+}
+
+/// What a line says, without its newline, as `read_line` reads it; the bytes of a write are put into `room`, which has room
+/// for 8,246 bytes, and what it held is lost.
+pub fn read_said<'a>(line: &[u8], room: &'a mut [u8]) -> Result<Said<'a>, Bad>
+    requires { length room.old ≡ most_written_bytes }
+    ensures { MatchResult result (λ s. command_of line.now ≡ Some s) (λ _. command_of line.now ≡ None) }
+{
+    if line.len() > LONGEST_LINE {
+        return Err(Bad);
+    }
+    let words = parted::<5>(b' ', line).ok_or(Bad)?;
+    said(words.as_slice(), room).ok_or(Bad)
 }
 
 /// The command that a line says, without its newline. `Bad` where the grammar has no such line, among them any of more
@@ -159,9 +168,7 @@ fn said(words: &[&[u8]]) -> Option<Command>
 pub fn read_line(line: &[u8]) -> Result<Command, Bad>
     ensures { MatchResult result (λ c. command_of line.now ≡ Some c) (λ _. command_of line.now ≡ None) }
 {
-    if line.len() > LONGEST_LINE {
-        return Err(Bad);
-    }
-    let words = parted(b' ', line).ok_or(Bad)?;
-    said(words.as_slice()).ok_or(Bad)
+    let mut room = [0; 8246];
+    let said = read_said(line, &mut room)?;
+    Ok(said.command())
 }

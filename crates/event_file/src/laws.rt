@@ -2,10 +2,10 @@
 
 ghost use Rattle.std.specs.Prelude.{◌≡◌, ◌∷◌, [], true, false, codes};
 ghost use Rattle.route_core.specs.declared.command.Command.TheVariants.{Attach, AddAddress, Open, Write, Read};
-ghost use Rattle.event_file.specs.Answers.{RepliesEndInANewline};
+ghost use Rattle.event_file.specs.Answers.{ResponsesEndInANewline};
 ghost use Rattle.event_file.specs.Lines.{EndedLinesAreRead, LastLineIsRead, ScriptIsItsLines};
 ghost use Rattle.event_file.specs.Printed.{PrintedFits, PrintedIsRead, ReadIsWithinBounds, line_of};
-ghost use Rattle.event_file.specs.Transcript.{ComputedIsTranscript, ReplyIsComputed};
+ghost use Rattle.event_file.specs.Transcript.{ComputedIsTranscript, ResponseIsComputed};
 
 /// Lines without a newline in them are read of the script in which a newline stands behind each but perhaps the last, and
 /// every script is the lines that are read of it.
@@ -37,9 +37,9 @@ pub fn printing_by_example()
     ensures read { line_of (Read (codes "a")) ≡ codes "read a" }
 {}
 
-/// Every reply's text ends in a newline.
-pub fn replies_end_in_a_newline()
-    ensures { RepliesEndInANewline }
+/// Every response's text ends in a newline.
+pub fn responses_end_in_a_newline()
+    ensures { ResponsesEndInANewline }
 {}
 
 /// What the machine computes for a script where memory is never refused is a transcript of it.
@@ -48,6 +48,6 @@ pub fn computed_is_transcript()
 {}
 
 /// Every answer but that memory is refused is the one that the machine computes, and so is the world after it.
-pub fn reply_is_computed()
-    ensures { ReplyIsComputed }
+pub fn response_is_computed()
+    ensures { ResponseIsComputed }
 {}

@@ -9,12 +9,15 @@ pub mod laws;
 mod line_buffer;
 mod numbers;
 mod output;
+mod route_line;
+mod route_words;
 mod texts;
 mod words;
 
 pub use answers::write_answer;
 pub use bad::Bad;
 pub use counted::Counted;
-pub use grammar::read_line;
+pub use grammar::{read_line, read_said};
 pub use line_buffer::LineBuffer;
 pub use output::Stopped;
+pub use route_words::{MetricWords, RouteWords, Verb, compose};

@@ -1,6 +1,7 @@
-ghost use Rattle.std.specs.Prelude.{◌≡◌, ◌≢◌, ◌≤◌, ◌<◌, ◌^◌, ℕ, decimal, map};
+ghost use Rattle.std.specs.Prelude.{◌≡◌, ◌≢◌, ◌≤◌, ◌<◌, ◌-◌, ◌^◌, ◌++◌, ℕ, decimal, length, map, replicate};
+ghost use Rattle.hex.specs.Hex.{decode_of};
 ghost use Rattle.std.specs.Option.{IfSome, MatchOption};
-ghost use Rattle.event_file.specs.Words.{number_to, inet_of_parts, inet_of};
+ghost use Rattle.event_file.specs.Words.{decoded, number_to, hex_number_of, inet_of_parts, inet_of};
 
 use crate::words::parted;
 use itoa::Buffer;
@@ -62,6 +63,37 @@ fn read_inet_parts(parts: &[&[u8]]) -> Option<Inet>
 pub(crate) fn read_inet(word: &[u8]) -> Option<Inet>
     ensures { result ≡ inet_of word.now }
 {
-    let parts = parted(b'.', word)?;
+    let parts = parted::<4>(b'.', word)?;
     read_inet_parts(parts.as_slice())
+}
+
+/// The digits with zeros before them, eight in all.
+fn eight_digits(word: &[u8]) -> [u8; 8]
+    requires { length word.now ≤ 8 }
+    ensures { result ≡ replicate (8 - length word.now) 48 ++ word.now }
+{
+    let mut digits = [b'0'; 8];
+    digits[8 - word.len()..].copy_from_slice(word);
+    digits
+}
+
+/// The four bytes that eight hexadecimal digits spell.
+fn four_bytes(digits: &[u8]) -> Option<[u8; 4]>
+    requires { length digits.now ≡ 8 }
+    ensures { result ≡ decoded (decode_of digits.now) }
+{
+    let mut bytes = [0; 4];
+    hex::decode_to_slice(digits, &mut bytes).ok()?;
+    Some(bytes)
+}
+
+/// A number of 1 to 8 hexadecimal digits.
+pub(crate) fn read_hex(word: &[u8]) -> Option<u32>
+    ensures { result ≡ hex_number_of word.now }
+{
+    if word.is_empty() || word.len() > 8 {
+        return None;
+    }
+    let bytes = four_bytes(&eight_digits(word))?;
+    Some(u32::from_be_bytes(bytes))
 }

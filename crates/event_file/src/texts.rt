@@ -1,11 +1,13 @@
-ghost use Rattle.std.specs.Prelude.{◌≡◌, ◌≤◌, length, take, Some, None};
+ghost use Rattle.std.specs.Prelude.{◌≡◌, ◌≤◌, length, map, take, Some, None};
 ghost use Rattle.std.specs.List.{list_all};
 ghost use Rattle.std.specs.Option.{IfSome, MatchOption};
 ghost use Rattle.event_file.specs.Grammar.{most_link_bytes, most_written_bytes};
-ghost use Rattle.event_file.specs.Words.{is_name_byte, name_of, bytes_to};
+ghost use Rattle.event_file.specs.Words.{is_name_byte, name_of, bytes_to, link_of, gate_of_parts, gate_of};
 
-use route_core::{LinkAddress, Written};
-use sock_addrs::Name;
+use crate::numbers::read_inet;
+use crate::words::parted;
+use route_core::{Lent, LinkAddress};
+use sock_addrs::{Gate, Link, Name};
 
 /// Whether all bytes are of `a` to `z` and `0` to `9`.
 fn are_name_bytes(word: &[u8]) -> bool
@@ -52,11 +54,39 @@ pub(crate) fn read_link(word: &[u8]) -> Option<LinkAddress>
     LinkAddress::new(&room[..count])
 }
 
-/// The bytes of a write in hexadecimal, at most 8,246 of them, or `-`.
-pub(crate) fn read_written(word: &[u8]) -> Option<Written>
+/// The bytes of a write in hexadecimal, at most 8,246 of them, or `-`. They are decoded to the front of `room`.
+pub(crate) fn read_written<'a>(word: &[u8], room: &'a mut [u8]) -> Option<Lent<'a>>
+    requires { length room.old ≡ most_written_bytes }
     ensures { result ≡ bytes_to most_written_bytes word.now }
 {
-    let mut room = [0; 8246];
+    let count = decode(word, room)?;
+    Lent::new(&room[..count])
+}
+
+/// The link-layer address that a word spells in hexadecimal: 8 to 32 bytes, the first their number and the second its family.
+fn read_link_sockaddr(word: &[u8]) -> Option<Link>
+    ensures { result ≡ link_of word.now }
+{
+    let mut room = [0; 32];
     let count = decode(word, &mut room)?;
-    Written::new(&room[..count])
+    Link::new(&room[..count])
+}
+
+/// The gateway of the parts around a colon.
+fn read_gate_parts(parts: &[&[u8]]) -> Option<Gate>
+    ensures { result ≡ gate_of_parts (map (λ p. p.now) parts.now) }
+{
+    match parts {
+        [address] => Some(Gate::Inet(read_inet(address)?)),
+        [kind, digits] if *kind == b"link".as_slice() => Some(Gate::Link(read_link_sockaddr(digits)?)),
+        _ => None,
+    }
+}
+
+/// A gateway: an IPv4 address, or `link:` and a link-layer address in hexadecimal.
+pub(crate) fn read_gate(word: &[u8]) -> Option<Gate>
+    ensures { result ≡ gate_of word.now }
+{
+    let parts = parted::<2>(b':', word)?;
+    read_gate_parts(parts.as_slice())
 }

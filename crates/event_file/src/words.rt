@@ -1,14 +1,18 @@
-ghost use Rattle.std.specs.Prelude.{◌≡◌, ◌<◌, [], ◌∷◌, length, map};
+ghost use Rattle.std.specs.Prelude.{◌≡◌, ◌<◌, [], ◌∷◌, length, map, bytes_eq};
 ghost use Rattle.std.specs.Option.{MatchOption, IfSome, IfNone};
 ghost use Rattle.event_file.specs.Words.{parted_by};
 
 use arrayvec::ArrayVec;
 
-/// The parts of a text between the bytes of one value: as many as any line of the grammar has words.
-pub(crate) type Parts<'a> = ArrayVec<&'a [u8], 5>;
+/// Whether a word is this one.
+pub(crate) fn is(word: &[u8], text: &str) -> bool
+    ensures { result ≡ bytes_eq word.now text.now }
+{
+    word == text.as_bytes()
+}
 
 /// What stands before the first byte of this value and what stands after it, or `None` where there is no such byte.
-fn cut(byte: u8, text: &[u8]) -> Option<(&[u8], &[u8])>
+pub(crate) fn cut(byte: u8, text: &[u8]) -> Option<(&[u8], &[u8])>
     ensures first { IfSome result (λ p. parted_by byte text.now ≡ p.0.now ∷ parted_by byte p.1.now) }
     ensures rest { IfSome result (λ p. length p.1.now < length text.now) }
     ensures last { IfNone result (parted_by byte text.now ≡ text.now ∷ []) }
@@ -17,11 +21,11 @@ fn cut(byte: u8, text: &[u8]) -> Option<(&[u8], &[u8])>
     Some((&text[..at], &text[at + 1..]))
 }
 
-/// The parts of a text between the bytes of this value, or `None` where there are more than 5.
-pub(crate) fn parted(byte: u8, text: &[u8]) -> Option<Parts<'_>>
-    ensures { MatchOption result (5 < length (parted_by byte text.now)) (λ parts. map (λ p. p.now) parts.items ≡ parted_by byte text.now) }
+/// The parts of a text between the bytes of this value, or `None` where there are more than N.
+pub(crate) fn parted<const N: usize>(byte: u8, text: &[u8]) -> Option<ArrayVec<&[u8], N>>
+    ensures { MatchOption result (N < length (parted_by byte text.now)) (λ parts. map (λ p. p.now) parts.items ≡ parted_by byte text.now) }
 {
-    let mut parts = Parts::new();
+    let mut parts = ArrayVec::new();
     let mut rest = text;
     while let Some((part, behind)) = cut(byte, rest) {
         parts.try_push(part).ok()?;

@@ -4,7 +4,7 @@ use Rattle.std.specs.List.{AllByRecursion}
 use Rattle.std.proofs.lemmas.Grind.{flat_map-append}
 use Rattle.std.proofs.lemmas.List.{get_or_append_left}
 use Rattle.std.proofs.Math.Seq.{take-append_seam, drop-append_seam}
-use Rattle.listeners.specs.Queue.{length_field, IsMessage, joined, cut_at_most, cut, IsWhole}
+use Rattle.listeners.specs.Queue.{length_field, IsMessage, joined, cut_at_most, cut, AreMessages}
 
 -- what stands behind a message doesn't change the length that it says
 length_field-append : (m rest : List ℕ) → IsMessage m → length_field (m ++ rest) ≡ length m
@@ -38,14 +38,14 @@ cut_at_most-joined (suc fuel) (m ∷ ms) h enough =
 pub cut-joined : (ms : List (List ℕ)) → AllByRecursion IsMessage ms → cut (joined ms) ≡ ms
 cut-joined ms h = cut_at_most-joined (length (joined ms)) ms h (omega arith)
 
-pub whole-joined : (ms : List (List ℕ)) → AllByRecursion IsMessage ms → IsWhole (joined ms)
+pub whole-joined : (ms : List (List ℕ)) → AllByRecursion IsMessage ms → AreMessages (joined ms)
 whole-joined ms h = record {
   each = rw (cut-joined ms h) h;
   all = ap (λ x. joined x) (cut-joined ms h);
 }
 
 -- no byte is no message
-pub whole-empty : IsWhole []
+pub whole-empty : AreMessages []
 whole-empty = record { each = tt; all = refl }
 
 -- one message at the end
@@ -56,14 +56,14 @@ All-push : (ms : List (List ℕ)) (m : List ℕ) → AllByRecursion IsMessage ms
 All-push [] m h one = (one, tt)
 All-push (x ∷ ms) m h one = (h.0, All-push ms m h.1 one)
 
-pushed : (bytes m : List ℕ) → IsWhole bytes → joined (cut bytes ++ m ∷ []) ≡ bytes ++ m
+pushed : (bytes m : List ℕ) → AreMessages bytes → joined (cut bytes ++ m ∷ []) ≡ bytes ++ m
 pushed bytes m h = joined-push (cut bytes) m ∙ ap (λ x. x ++ m) h.all
 
 -- a message behind whole messages comes last
-pub cut-push : (bytes m : List ℕ) → IsWhole bytes → IsMessage m → cut (bytes ++ m) ≡ cut bytes ++ m ∷ []
+pub cut-push : (bytes m : List ℕ) → AreMessages bytes → IsMessage m → cut (bytes ++ m) ≡ cut bytes ++ m ∷ []
 cut-push bytes m h one = sym (ap (λ x. cut x) (pushed bytes m h)) ∙ cut-joined (cut bytes ++ m ∷ []) (All-push (cut bytes) m h.each one)
 
-pub whole-push : (bytes m : List ℕ) → IsWhole bytes → IsMessage m → IsWhole (bytes ++ m)
+pub whole-push : (bytes m : List ℕ) → AreMessages bytes → IsMessage m → AreMessages (bytes ++ m)
 whole-push bytes m h one = rw (← pushed bytes m h) (whole-joined (cut bytes ++ m ∷ []) (All-push (cut bytes) m h.each one))
 
 -- whole messages of which there is a byte: the first of them, and the rest
@@ -72,7 +72,7 @@ pub record BeginsWith (n : ℕ) (bytes : List ℕ) : Type 0 where
   pub fits : n ≤ length bytes
   pub first : IsMessage (take n bytes)
   pub messages : cut bytes ≡ take n bytes ∷ cut (drop n bytes)
-  pub rest : IsWhole (drop n bytes)
+  pub rest : AreMessages (drop n bytes)
 
 begins-joined : (m : List ℕ) (ms : List (List ℕ)) → IsMessage m → AllByRecursion IsMessage ms → BeginsWith (length_field (m ++ joined ms)) (m ++ joined ms)
 begins-joined m ms h hs =
@@ -93,5 +93,5 @@ begins-as : (ms : List (List ℕ)) (bytes : List ℕ) → AllByRecursion IsMessa
 begins-as [] bytes h e some = absurd (let none : length bytes ≡ 0 = ap (λ x. length x) (sym e) in omega (arith, none, some))
 begins-as (m ∷ ms) bytes h e some = rw (← e) (begins-joined m ms h.0 h.1)
 
-pub whole-begins : (bytes : List ℕ) → IsWhole bytes → 0 < length bytes → BeginsWith (length_field bytes) bytes
+pub whole-begins : (bytes : List ℕ) → AreMessages bytes → 0 < length bytes → BeginsWith (length_field bytes) bytes
 whole-begins bytes h some = begins-as (cut bytes) bytes h.each h.all some

@@ -26,7 +26,7 @@ abbrev pub cut : List ℕ → List (List ℕ)
 cut bytes = cut_at_most (length bytes) bytes
 
 -- the bytes are whole messages, one after another
-pub record IsWhole (bytes : List ℕ) : Type 0 where
+pub record AreMessages (bytes : List ℕ) : Type 0 where
   pub each : AllByRecursion IsMessage (cut bytes)
   pub all : joined (cut bytes) ≡ bytes
 

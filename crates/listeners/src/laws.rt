@@ -1,6 +1,6 @@
 //! Laws of sockets, and of the bytes of their messages: each function does nothing, and its contract is the law.
 
-ghost use Rattle.listeners.specs.QueueLaws.{JoinedIsCut, JoinedIsWhole};
+ghost use Rattle.listeners.specs.QueueLaws.{JoinedIsCut, JoinedAreMessages};
 ghost use Rattle.listeners.specs.SocketLaws.{DeliveringOnlyAppends, ReadingChangesMessagesAlone, ReadingDisturbsNoOther};
 
 /// A socket that reads its messages leaves every other as it was, and of itself all but its messages.
@@ -17,5 +17,5 @@ pub fn delivering_only_appends()
 /// Messages whose bytes are joined are cut into the same messages again, and the bytes are whole messages.
 pub fn joined_is_cut()
     ensures same { JoinedIsCut }
-    ensures whole { JoinedIsWhole }
+    ensures whole { JoinedAreMessages }
 {}

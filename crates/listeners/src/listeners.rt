@@ -1,7 +1,7 @@
 ghost use Rattle.std.specs.Prelude.{◌≡◌, ◌-◌, ◌≤◌, [], ◌∷◌, ◌++◌, length, unwrap_or, ok_or, OnOk, OnErr, IfOk, IfErr};
 ghost use Rattle.std.specs.List.{list_any};
 ghost use Rattle.std.specs.Result.{result_err};
-ghost use Rattle.listeners.specs.Queue.{cut, IsMessage, IsWhole};
+ghost use Rattle.listeners.specs.Queue.{cut, IsMessage, AreMessages};
 ghost use Rattle.listeners.specs.Sockets.{listening, has_id, listen_fault, opened, pid_of, messages_of, delivered, taken};
 
 use crate::queue::Queue;
@@ -127,7 +127,7 @@ impl Listeners {
     /// Takes the messages that wait for a socket, one after another, and leaves none; or EBADF where none of this id is open.
     /// What was reserved is given up.
     pub fn take(&mut self, id: Name) -> Result<Vec<u8>, Errno>
-        ensures whole { IfOk result (λ bytes. IsWhole bytes.items) }
+        ensures whole { IfOk result (λ bytes. AreMessages bytes.items) }
         ensures messages { IfOk result (λ bytes. messages_of id self.old.sockets ≡ Some (cut bytes.items)) }
         ensures taken { OnOk result (self.new ≡ listening (taken id self.old.sockets) 0) }
         ensures refused { IfErr result (λ e. e ≡ Errno.EBADF) }

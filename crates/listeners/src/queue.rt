@@ -1,5 +1,5 @@
 ghost use Rattle.std.specs.Prelude.{◌≡◌, ◌+◌, ◌≤◌, [], ◌∷◌, ◌++◌, length, OnOk};
-ghost use Rattle.listeners.specs.Queue.{cut, IsMessage, IsWhole};
+ghost use Rattle.listeners.specs.Queue.{cut, IsMessage, AreMessages};
 
 use std::alloc::{AllocError, Global};
 use std::marker::Model;
@@ -13,13 +13,13 @@ pub(crate) struct Queue {
 
 impl Model for Queue {
     ghost use Rattle.std.specs.Prelude.{◌-◌, vec_len, vec_capacity};
-    ghost use Rattle.listeners.specs.Queue.{Waiting, cut, IsWhole};
+    ghost use Rattle.listeners.specs.Queue.{Waiting, cut, AreMessages};
 
     ghost Value = { Waiting };
 
     ghost view = { λ q. record { messages = cut q.bytes.items; room = vec_capacity q.bytes - vec_len q.bytes } };
 
-    ghost invariant = { λ q. IsWhole q.bytes.items };
+    ghost invariant = { λ q. AreMessages q.bytes.items };
 }
 
 impl Queue {
@@ -53,7 +53,7 @@ impl Queue {
 
     /// Takes all messages out. The bytes are whole messages, one after another.
     pub(crate) fn take(&mut self, alloc: Global) -> Vec<u8>
-        ensures whole { IsWhole result.items }
+        ensures whole { AreMessages result.items }
         ensures messages { cut result.items ≡ self.old.messages }
         ensures empty { self.new.messages ≡ [] }
     {

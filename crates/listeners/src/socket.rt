@@ -1,7 +1,7 @@
 ghost use Rattle.std.specs.Prelude.{◌≡◌, ◌+◌, ◌≤◌, [], length, map, OnOk};
 ghost use Rattle.std.specs.List.{list_any, position};
 ghost use Rattle.listeners.specs.Open.{seen, HaveRoom, KeepRoomBut};
-ghost use Rattle.listeners.specs.Queue.{cut, IsMessage, IsWhole};
+ghost use Rattle.listeners.specs.Queue.{cut, IsMessage, AreMessages};
 ghost use Rattle.listeners.specs.Sockets.{opened, emptied, has_id, hears, after_delivery, delivered as delivered_to};
 
 use crate::queue::Queue;
@@ -86,7 +86,7 @@ impl Socket {
 
     /// Takes its messages out. The bytes are whole messages, one after another.
     pub(crate) fn take(&mut self, alloc: Global) -> Vec<u8>
-        ensures whole { IsWhole result.items }
+        ensures whole { AreMessages result.items }
         ensures messages { cut result.items ≡ self.old.queue.messages }
         ensures empty { seen self.new ≡ emptied (seen self.old) }
     {

@@ -1,6 +1,13 @@
 //! Laws of masks and of agreeing: each function does nothing, and its contract is the law.
 
 ghost use Rattle.mask_table.specs.Agreeing.{AgreesInWords, AgreesWhereMaskedEqual, AgreesAtSmallerRanks, MaskedAgrees, MaskedTwiceIsOnce, MaskedBits};
+ghost use Rattle.mask_table.specs.Ranks.{MaskIsOfRank, RankIsOfMask};
+
+/// A rank is that of its mask, and a mask is that of its rank.
+pub fn ranks_are_masks()
+    ensures rank { RankIsOfMask }
+    ensures mask { MaskIsOfRank }
+{}
 
 /// At rank 33 an address agrees with a key where it is the key, and at a smaller rank where its first bits, as many as
 /// the rank says, are the key's.

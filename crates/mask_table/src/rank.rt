@@ -1,5 +1,6 @@
 ghost use Rattle.std.specs.Prelude.{◌≡◌, ◌≤◌, ◌-◌};
 ghost use Rattle.mask_table.specs.Agreeing.{agrees as agrees_by, masked as masked_by};
+ghost use Rattle.mask_table.specs.Ranks.{mask_of, rank_of};
 
 use crate::Prefix;
 use sock_addrs::Inet;
@@ -45,6 +46,20 @@ impl Rank {
         ensures { result ≡ 33 }
     {
         Rank { n: 33 }
+    }
+
+    /// The rank of a route with this mask, or without one.
+    pub fn of_mask(mask: Option<Prefix>) -> Rank
+        ensures { result ≡ rank_of mask }
+    {
+        mask.map_or(Rank::host(), Rank::of)
+    }
+
+    /// The mask of a route of this rank, or `None` where it has none.
+    pub fn mask(self) -> Option<Prefix>
+        ensures { result ≡ mask_of self }
+    {
+        Prefix::new(self.n)
     }
 
     /// Its number.

@@ -1,7 +1,8 @@
 -- The best route of an address, found from the front of a table.
 use Rattle.std.proofs.Common.{◌≡◌, true, false, Option, Some, None, refl, arith}
 use Rattle.std.proofs.lemmas.Bool.Decides.{nat_tests}
-use Rattle.radix_tree.specs.Table.{greater, beats}
+use Rattle.radix_tree.specs.Table.{greater}
+use Rattle.radix_tree.specs.Found.{beats}
 use Rattle.radix_tree.specs.declared.entry.Entry.{Entry}
 
 -- of the best so far and the best behind it the one of greater rank, the first where they are of one rank

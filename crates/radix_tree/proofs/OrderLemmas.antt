@@ -1,40 +1,81 @@
--- What rises, and what stands before a place or past it.
-use Rattle.std.proofs.Common.{◌≡◌, ℕ, ◌+◌, ◌≤◌, false, List, [], ◌∷◌, refl, arith}
+-- Table order, and where an entry stands beside a pair in it.
+use Rattle.std.proofs.Common.{◌≡◌, ℕ, Bool, true, false, ◌&&◌, ◌||◌, nat_lt, nat_eq, IsTrue, refl, inl, inr, arith}
+use Rattle.std.proofs.lemmas.Bool.{cases_lt}
 use Rattle.std.proofs.lemmas.Bool.Decides.{nat_tests}
-use Rattle.radix_tree.specs.Table.{place_of, RisesFrom}
-use Rattle.radix_tree.specs.Lodged.{entries_of}
-use Rattle.radix_tree.specs.Chain.{below, past, begins_below}
+use Rattle.radix_tree.specs.Table.{precedes, has_pair}
+use Rattle.radix_tree.specs.TableLaws.{AreOnePair, PrecedesInWords, PrecedesOneWay, PrecedesTransitively, PrecedesOrSame}
+use Rattle.radix_tree.specs.Chain.{stands_before}
 use Rattle.radix_tree.specs.declared.entry.Entry.{Entry}
-use Rattle.radix_tree.specs.declared.entry.Lodged.{Lodged}
 
--- what rises from a place rises from any before it
-pub rises_before : {V : Type 0} (low low' : ℕ) (es : List (Entry V)) → low' ≤ low → RisesFrom low es → RisesFrom low' es
-rises_before low low' [] h r = tt
-rises_before low low' (e ∷ es) h r = (omega (arith, r.0), r.1, r.2)
+-- the entry is preceded by those that have this pair
+abbrev pub stands_behind : {V : Type 0} → ℕ → ℕ → Entry V → Bool
+stands_behind key rank e = nat_lt key e.key || (nat_eq key e.key && nat_lt e.rank rank)
 
--- nothing of what rises from a place stands before it
-pub below_none : {V : Type 0} (place low : ℕ) (ls : List (Lodged V)) → place ≤ low → RisesFrom low (entries_of ls) → below place ls ≡ []
-below_none place low [] h r = refl
-below_none place low (l ∷ ls) h r =
-    let next : place ≤ place_of l.entry + 1 = omega (arith, r.0) in
-    let rest : below place ls ≡ [] = below_none place (place_of l.entry + 1) ls next r.2 in
-    let here : place ≤ place_of l.entry = omega (arith, r.0) in
-    grind (arith, nat_tests, rest)
+-- the three places that an entry can have beside a pair
+pub data Beside {V : Type 0} (key rank : ℕ) (e : Entry V) : Type 0 where
+  before : stands_before key rank e ≡ true → stands_behind key rank e ≡ false → has_pair key rank e ≡ false → Beside key rank e
+  here : stands_before key rank e ≡ false → stands_behind key rank e ≡ false → has_pair key rank e ≡ true → Beside key rank e
+  behind : stands_before key rank e ≡ false → stands_behind key rank e ≡ true → has_pair key rank e ≡ false → Beside key rank e
 
--- all of it stands at the place or past it
-pub past_all : {V : Type 0} (place low : ℕ) (ls : List (Lodged V)) → place ≤ low → RisesFrom low (entries_of ls) → past place ls ≡ ls
-past_all place low [] h r = refl
-past_all place low (l ∷ ls) h r =
-    let next : place ≤ place_of l.entry + 1 = omega (arith, r.0) in
-    let rest : past place ls ≡ ls = past_all place (place_of l.entry + 1) ls next r.2 in
-    let here : place ≤ place_of l.entry = omega (arith, r.0) in
-    grind (arith, nat_tests, rest)
+pub beside : {V : Type 0} (key rank : ℕ) (e : Entry V) → Beside key rank e
+beside key rank e = elim (cases_lt e.key key) [
+  | inl less ↦ before (grind (arith, nat_tests)) (grind (arith, nat_tests)) (grind (arith, nat_tests))
+  | inr least ↦ elim (cases_lt key e.key) [
+    | inl more ↦ behind (grind (arith, nat_tests)) (grind (arith, nat_tests)) (grind (arith, nat_tests))
+    | inr most ↦ elim (cases_lt rank e.rank) [
+      | inl longer ↦ before (grind (arith, nat_tests)) (grind (arith, nat_tests)) (grind (arith, nat_tests))
+      | inr shortest ↦ elim (cases_lt e.rank rank) [
+        | inl shorter ↦ behind (grind (arith, nat_tests)) (grind (arith, nat_tests)) (grind (arith, nat_tests))
+        | inr same ↦ here (grind (arith, nat_tests)) (grind (arith, nat_tests)) (grind (arith, nat_tests))
+      ]
+    ]
+  ]
+]
 
--- where the first route doesn't stand before a place, none does
-pub split_here : {V : Type 0} (place low : ℕ) (ls : List (Lodged V)) → begins_below place ls ≡ false → RisesFrom low (entries_of ls) → (below place ls ≡ []) × (past place ls ≡ ls)
-split_here place low [] h r = (refl, refl)
-split_here place low (l ∷ ls) h r =
-    let here : place ≤ place_of l.entry = grind (arith, nat_tests) in
-    let rising : RisesFrom place (entries_of (l ∷ ls)) = (here, r.1, r.2) in
-    let same : place ≤ place = omega arith in
-    (below_none place place (l ∷ ls) same rising, past_all place place (l ∷ ls) same rising)
+-- an entry with a pair has its key and its rank
+pub pair_is : {V : Type 0} (key rank : ℕ) (e : Entry V) → has_pair key rank e ≡ true → AreOnePair e.key e.rank key rank
+pair_is key rank e h = (grind (arith, nat_tests), grind (arith, nat_tests))
+
+pub is_pair : {V : Type 0} (key rank : ℕ) (e : Entry V) → AreOnePair e.key e.rank key rank → has_pair key rank e ≡ true
+is_pair key rank e same = let k = same.0 in let r = same.1 in grind (arith, nat_tests)
+
+pub own_pair : {V : Type 0} (e : Entry V) → has_pair e.key e.rank e ≡ true
+own_pair e = grind (arith, nat_tests)
+
+pub other_pair : {V : Type 0} (key rank : ℕ) (e : Entry V) → ¬ (AreOnePair e.key e.rank key rank) → has_pair key rank e ≡ false
+other_pair key rank e other =
+    elim (has_pair key rank e) as (λ b. has_pair key rank e ≡ b → b ≡ false) [ true ↦ λ k. absurd (other (pair_is key rank e k)) | false ↦ λ k. refl ] refl
+
+pub not_pair : {V : Type 0} (key rank : ℕ) (e : Entry V) → has_pair key rank e ≡ false → ¬ (AreOnePair e.key e.rank key rank)
+not_pair key rank e h = λ same. let there = is_pair key rank e same in cc
+
+-- behind an entry that doesn't stand before a pair, all stand behind the pair
+pub behind_next : {V : Type 0} (key rank : ℕ) (e f : Entry V) → stands_before key rank e ≡ false → IsTrue (precedes e f) → stands_behind key rank f ≡ true
+behind_next key rank e f h k = grind (arith, nat_tests)
+
+-- what stands behind a pair doesn't stand before it
+pub behind_not_before : {V : Type 0} (key rank : ℕ) (e : Entry V) → stands_behind key rank e ≡ true → stands_before key rank e ≡ false
+behind_not_before key rank e h = grind (arith, nat_tests)
+
+pub behind_not_pair : {V : Type 0} (key rank : ℕ) (e : Entry V) → stands_behind key rank e ≡ true → has_pair key rank e ≡ false
+behind_not_pair key rank e h = grind (arith, nat_tests)
+
+-- the laws of table order
+pub precedes_in_words : {V : Type 0} → PrecedesInWords V
+precedes_in_words e f = (
+  (λ before. elim (cases_lt e.key f.key) [ inl less ↦ inl less | inr least ↦ inr (grind (arith, nat_tests), grind (arith, nat_tests)) ]),
+  (λ order. elim order [ inl less ↦ grind (arith, nat_tests) | inr same ↦ (let keys = same.0 in let ranks = same.1 in grind (arith, nat_tests)) ]),
+)
+
+pub precedes_one_way : {V : Type 0} → PrecedesOneWay V
+precedes_one_way e f h = grind (arith, nat_tests)
+
+pub precedes_transitively : {V : Type 0} → PrecedesTransitively V
+precedes_transitively e f g h k = grind (arith, nat_tests)
+
+pub precedes_or_same : {V : Type 0} → PrecedesOrSame V
+precedes_or_same e f = elim (beside f.key f.rank e) [
+  | before h k n ↦ inl h
+  | here h k same ↦ inr (inr (pair_is f.key f.rank e same))
+  | behind h k n ↦ inr (inl k)
+]

@@ -1,7 +1,7 @@
 -- What a chain and a table end as, once a value that they lent has been given back.
 use Rattle.std.specs.Prelude.{ℕ, ◌+◌, List, [], ◌∷◌, Option, Some, None}
 use Rattle.std.specs.Borrow.{Fml, RattleType, MutBor, LendsIf}
-use Rattle.radix_tree.specs.Table.{Contents, with_value}
+use Rattle.radix_tree.specs.Table.{Contents, with_entry}
 use Rattle.radix_tree.specs.declared.entry.Lodged.{Lodged}
 use Rattle.radix_tree.specs.contracts.chain.Chain.{the_row as chain_row}
 use Rattle.radix_tree.specs.contracts.routes.Table.{the_row as table_row}
@@ -15,6 +15,13 @@ with_first (l ∷ ls) value = record l { entry = record l.entry { value = value 
 abbrev pub first_value : {V : Type 0} → List (Lodged V) → Option V
 first_value [] = None
 first_value (l ∷ ls) = Some l.entry.value
+
+-- a table with this value at this pair, and in its next turn
+abbrev pub with_value : {V : Type 0} → ℕ → ℕ → Contents V → V → Contents V
+with_value key rank t value = record t {
+  entries = with_entry (record { key = key; rank = rank; value = value }) t.entries;
+  turn = t.turn + 1;
+}
 
 module _ (V : RattleType) where
   -- the chain ends with the last value behind r at its first route

@@ -1,5 +1,6 @@
 pub mod Chain
 pub mod Counting
+pub mod Found
 pub mod Lending
 pub mod Lodged
 pub mod Table

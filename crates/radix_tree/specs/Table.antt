@@ -1,16 +1,9 @@
--- The routing table as contracts see it: a list of entries in table order, and what is found in it. An address is a number
--- below 2^32; a rank is 0 to 32 for a mask of that many bits, or 33 for a route without a mask.
-use Rattle.std.specs.Prelude.{◌≡◌, ℕ, ◌+◌, ◌-◌, ◌*◌, ◌^◌, ◌<◌, ◌≤◌, Bool, true, not, ◌&&◌, ◌==◌, nat_lt, if◌then◌else◌, List, [], ◌∷◌, ◌++◌, filter, find, count_by, Option, Some, None}
-use Rattle.std.specs.Borrow.{Bor}
+-- The routing table as contracts see it: a list of entries in table order, and what is found in it. An address is a
+-- number below 2^32; a rank is 0 to 32 for a mask of that many bits, or 33 for a route without a mask.
+use Rattle.std.specs.Prelude.{◌≡◌, ℕ, ◌^◌, ◌<◌, ◌≤◌, Bool, not, ◌&&◌, ◌||◌, ◌==◌, nat_lt, if◌then◌else◌, IsTrue, List, [], ◌∷◌, ◌++◌, filter, find, count_by, Option, Some, None}
+use Rattle.std.specs.List.{AllByRecursion}
 use Rattle.mask_table.specs.Agreeing.{agrees, masked}
 use Rattle.radix_tree.specs.declared.entry.Entry.{Entry}
-
--- the place of a pair in table order, as one number: keys rise, and for one key rank 33 stands first and then falling ranks
-abbrev pub place : ℕ → ℕ → ℕ
-place key rank = key * 34 + (33 - rank)
-
-abbrev pub place_of : {V : Type 0} → Entry V → ℕ
-place_of e = place e.key e.rank
 
 -- an entry's rank is one, and its key is an address that has no bit past it
 pub record IsRoute {V : Type 0} (e : Entry V) : Type 0 where
@@ -18,22 +11,22 @@ pub record IsRoute {V : Type 0} (e : Entry V) : Type 0 where
   pub address : e.key < 2 ^ 32
   pub key : masked e.rank e.key ≡ e.key
 
--- the entries are routes that stand at or past this place, each at a later place than the one before it
-abbrev pub RisesFrom : {V : Type 0} → ℕ → List (Entry V) → Type 0
-RisesFrom low [] = Unit {0}
-RisesFrom low (e ∷ es) = (low ≤ place_of e) × IsRoute e × RisesFrom (place_of e + 1) es
+-- table order: a smaller key comes first, and of one key the greater rank
+abbrev pub precedes : {V : Type 0} → Entry V → Entry V → Bool
+precedes e f = nat_lt e.key f.key || ((e.key == f.key) && nat_lt f.rank e.rank)
 
--- a table: routes in table order, and so no pair twice
+-- a table: routes, each of which precedes all those behind it, and so no pair twice
 abbrev pub IsTable : {V : Type 0} → List (Entry V) → Type 0
-IsTable entries = RisesFrom 0 entries
+IsTable [] = Unit {0}
+IsTable (e ∷ es) = IsRoute e × AllByRecursion (λ f. IsTrue (precedes e f)) es × IsTable es
 
--- the entry has this pair
-abbrev pub is_at : {V : Type 0} → ℕ → ℕ → Entry V → Bool
-is_at key rank e = (e.key == key) && (e.rank == rank)
+-- the entry has this pair of a key and a rank
+abbrev pub has_pair : {V : Type 0} → ℕ → ℕ → Entry V → Bool
+has_pair key rank e = (e.key == key) && (e.rank == rank)
 
 -- the member with this pair
 abbrev pub entry_at : {V : Type 0} → ℕ → ℕ → List (Entry V) → Option (Entry V)
-entry_at key rank entries = find (is_at key rank) entries
+entry_at key rank entries = find (has_pair key rank) entries
 
 -- the first member with this key
 abbrev pub first_of : {V : Type 0} → ℕ → List (Entry V) → Option (Entry V)
@@ -41,18 +34,12 @@ first_of key entries = find (λ e. e.key == key) entries
 
 -- the table without this pair
 abbrev pub without : {V : Type 0} → ℕ → ℕ → List (Entry V) → List (Entry V)
-without key rank entries = filter (λ e. not (is_at key rank e)) entries
+without key rank entries = filter (λ e. not (has_pair key rank e)) entries
 
--- the members before a place, and those behind it
-abbrev pub before : {V : Type 0} → ℕ → List (Entry V) → List (Entry V)
-before at entries = filter (λ x. nat_lt (place_of x) at) entries
-
-abbrev pub behind : {V : Type 0} → ℕ → List (Entry V) → List (Entry V)
-behind at entries = filter (λ x. nat_lt at (place_of x)) entries
-
--- the table with this entry at its place, and without what had the pair before
+-- the table with this entry, between the members that precede it and those that it precedes, and so without what had
+-- its pair before
 abbrev pub with_entry : {V : Type 0} → Entry V → List (Entry V) → List (Entry V)
-with_entry e entries = before (place_of e) entries ++ e ∷ behind (place_of e) entries
+with_entry e entries = filter (λ x. precedes x e) entries ++ e ∷ filter (λ x. precedes e x) entries
 
 -- the members that the address agrees with
 abbrev pub agreeing : {V : Type 0} → ℕ → List (Entry V) → List (Entry V)
@@ -72,8 +59,8 @@ greatest (e ∷ es) = greater e (greatest es)
 abbrev pub best_of : {V : Type 0} → ℕ → List (Entry V) → Option (Entry V)
 best_of address entries = greatest (agreeing address entries)
 
--- a table's value: its entries, and for conditions alone the numbers of the rooms in which they stand, the number of the next
--- room, and the turn, which a counter of visits has to be of
+-- a table's value: its entries, and for conditions alone the numbers of the rooms in which they stand, the number of
+-- the next room, and the turn, which a counter of visits has to be of
 pub record Contents (V : Type 0) : Type 0 where
   pub entries : List (Entry V)
   pub numbers : List ℕ
@@ -88,27 +75,3 @@ uses n numbers = count_by (λ k. k == n) numbers
 pub record Ahead (V : Type 0) : Type 0 where
   pub rest : List (Entry V)
   pub turn : ℕ
-
--- an answer's key, rank and value as the entry that they are
-abbrev pub routed : {V : Type 0} → ℕ × ℕ × Bor V → Entry V
-routed r = record { key = r.0; rank = r.1; value = r.2.now }
-
--- a table's value with this value at this pair, as it is after its route was lent
-abbrev pub with_value : {V : Type 0} → ℕ → ℕ → Contents V → V → Contents V
-with_value key rank t value = record t {
-  entries = with_entry (record { key = key; rank = rank; value = value }) t.entries;
-  turn = t.turn + 1;
-}
-
--- a rank is better than the best entry so far
-abbrev pub beats : {V : Type 0} → ℕ → Option (Entry V) → Bool
-beats rank None = true
-beats rank (Some e) = nat_lt e.rank rank
-
--- an entry's rank with its value
-abbrev pub ranked : {V : Type 0} → Entry V → ℕ × V
-ranked e = (e.rank, e.value)
-
--- an answer's rank with the value that it refers to
-abbrev pub rank_and_value : {V : Type 0} → ℕ × Bor V → ℕ × V
-rank_and_value r = (r.0, r.1.now)

@@ -2,11 +2,11 @@
 ghost use Rattle.std.specs.Prelude.{◌≡◌, [], ◌∷◌, ◌++◌, ◌↔◌, IsTrue, reverse, IfNone, MatchOption, option_map};
 ghost use Rattle.std.specs.Borrow.{sem};
 ghost use Rattle.radix_tree.specs.Lending.{lends_first, first_value};
-ghost use Rattle.radix_tree.specs.Table.{RisesFrom};
+ghost use Rattle.radix_tree.specs.Table.{IsTable};
 ghost use Rattle.radix_tree.specs.Lodged.{entries_of};
 ghost use Rattle.radix_tree.specs.Chain.{below, past, begins_at, begins_below};
 
-use crate::entry::{Lodged, place_of};
+use crate::entry::Lodged;
 use crate::visits::Visits;
 use mask_table::Rank;
 use sock_addrs::Inet;
@@ -88,17 +88,17 @@ impl<V> Chain<V> {
     {
         match self.parts() {
             None => false,
-            Some((lodged, _)) => lodged.entry.key == key && lodged.entry.rank == rank,
+            Some((lodged, _)) => lodged.entry.has_pair(key, rank),
         }
     }
 
-    /// Whether the first route stands before a place.
-    fn begins_below(&self, place: u64) -> bool
-        ensures { result ≡ begins_below place self.now }
+    /// Whether the first route stands before this key and rank.
+    fn begins_below(&self, key: Inet, rank: Rank) -> bool
+        ensures { result ≡ begins_below key rank self.now }
     {
         match self.parts() {
             None => false,
-            Some((lodged, _)) => place_of(lodged.entry.key, lodged.entry.rank) < place,
+            Some((lodged, _)) => lodged.entry.stands_before(key, rank),
         }
     }
 
@@ -121,17 +121,22 @@ impl<V> Chain<V> {
 }
 
 impl<V: Drop> Chain<V> {
-    /// The cells whose routes stand before a place, the last of them first, and the chain of the others.
-    pub(crate) fn split(mut self, place: u64, visits: &mut Visits) -> (Chain<V>, Chain<V>)
-        requires { RisesFrom 0 (entries_of self) }
-        ensures front { reverse result.0 ≡ below place self }
-        ensures back { result.1 ≡ past place self }
+    /// The cells whose routes stand before this key and rank, the last of them first, and the chain of the others.
+    pub(crate) fn split(
+        mut self,
+        key: Inet,
+        rank: Rank,
+        visits: &mut Visits,
+    ) -> (Chain<V>, Chain<V>)
+        requires { IsTable (entries_of self) }
+        ensures front { reverse result.0 ≡ below key rank self }
+        ensures back { result.1 ≡ past key rank self }
         ensures counter { visits.new.turn ≡ visits.old.turn }
     {
         let mut front = Chain::new();
         loop {
             visits.tick();
-            if !self.begins_below(place) {
+            if !self.begins_below(key, rank) {
                 return (front, self);
             }
             let Chain { first } = self;

@@ -1,7 +1,9 @@
 //! What is looked up in a table.
-ghost use Rattle.std.specs.Prelude.{◌≡◌, option_map};
-ghost use Rattle.radix_tree.specs.Table.{entry_at, first_of, best_of, routed, ranked, rank_and_value, beats};
+ghost use Rattle.std.specs.Prelude.{◌≡◌, Some, IfSome, option_map};
+ghost use Rattle.radix_tree.specs.Table.{entry_at, first_of, best_of};
+ghost use Rattle.radix_tree.specs.Found.{valued, keyed, routed, beats};
 
+use crate::laws::is_table;
 use crate::routes::Table;
 use crate::visits::Visits;
 use crate::walk::Walk;
@@ -25,7 +27,7 @@ impl<V> Table<V> {
     /// The value of the route with this key and rank, or `None` where the table has no such route.
     pub fn get(&self, key: Inet, rank: Rank, visits: &mut Visits) -> Option<&V>
         requires { visits.old.turn ≡ self.now.turn }
-        ensures value { option_map (λ v. v.now) result ≡ option_map (λ e. e.value) (entry_at key rank self.now.entries) }
+        ensures entry { option_map (valued key rank) result ≡ entry_at key rank self.now.entries }
         ensures counter { visits.new.turn ≡ visits.old.turn }
     {
         let mut walk = self.walk(visits);
@@ -40,7 +42,7 @@ impl<V> Table<V> {
     /// The rank and the value of the first route with this key, or `None` where the table has no such route.
     pub fn first_of(&self, key: Inet, visits: &mut Visits) -> Option<(Rank, &V)>
         requires { visits.old.turn ≡ self.now.turn }
-        ensures first { option_map rank_and_value result ≡ option_map ranked (first_of key self.now.entries) }
+        ensures entry { option_map (keyed key) result ≡ first_of key self.now.entries }
         ensures counter { visits.new.turn ≡ visits.old.turn }
     {
         let mut walk = self.walk(visits);
@@ -52,13 +54,15 @@ impl<V> Table<V> {
         None
     }
 
-    /// The best route of an address, which is the one of greatest rank among those that agree with it, or `None` where none
-    /// agrees.
+    /// The best route of an address, which is the one of greatest rank among those that agree with it, or `None` where
+    /// none agrees.
     pub fn best(&self, address: Inet, visits: &mut Visits) -> Option<(Inet, Rank, &V)>
         requires { visits.old.turn ≡ self.now.turn }
         ensures best { option_map routed result ≡ best_of address self.now.entries }
+        ensures stands { IfSome result (λ r. entry_at r.0 r.1 self.now.entries ≡ Some (routed r)) }
         ensures counter { visits.new.turn ≡ visits.old.turn }
     {
+        is_table(self);
         let mut walk = self.walk(visits);
         let mut best: Option<(Inet, Rank, &V)> = None;
         while let Some((key, rank, value)) = walk.step(visits) {

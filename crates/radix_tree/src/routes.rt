@@ -6,8 +6,8 @@ use crate::visits::{Number, Visits};
 use std::alloc::{AllocError, Global};
 use std::marker::Model;
 
-/// A place in memory for one route, made by a table and not yet in use. It is added or given back, and can't be dropped.
-/// A contract sees its number.
+/// A place in memory for one route, made by a table and not yet in use. It is added or given back, and can't be
+/// dropped. A contract sees its number.
 pub struct Room<V> {
     pub(crate) number: u64,
     pub(crate) cell: Box<Cell<V>>,
@@ -21,10 +21,10 @@ impl<V> Model for Room<V> {
     ghost view = { λ r. r.number };
 }
 
-/// A routing table: a sorted list of boxed cells, each with a route. A contract sees the routes in table order, which is by
-/// rising keys, and for one key without a mask first and then from the longest mask to the shortest. Beside them it sees the
-/// numbers of the rooms in use, the number of the next room, and the turn: `begin`, `add`, `remove` and `get_mut` begin one, and
-/// a counter of an earlier turn can't be used again.
+/// A routing table: a sorted list of boxed cells, each with a route. A contract sees the routes in table order, which
+/// is by rising keys, and for one key without a mask first and then from the longest mask to the shortest. Beside them
+/// it sees the numbers of the rooms in use, the number of the next room, and the turn: `begin`, `add`, `remove` and
+/// `get_mut` begin one, and a counter of an earlier turn can't be used again.
 #[derive(Drop)]
 pub struct Table<V> {
     pub(crate) alloc: Global,
@@ -55,7 +55,7 @@ impl<V> Model for Table<V> {
 }
 
 impl<V> Table<V> {
-    /// A table without a route, whose rooms come from this allocator. It takes no memory today, and so is never refused.
+    /// A table without a route, whose rooms come from this allocator. It takes no memory today, and is never refused.
     pub fn new(alloc: Global) -> Result<Table<V>, AllocError>
         ensures { IfOk result (λ t. t ≡ record { entries = []; numbers = []; next = 1; turn = 0 }) }
     {

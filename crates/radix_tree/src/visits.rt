@@ -58,8 +58,8 @@ impl Number {
     }
 }
 
-/// A counter of visits to a table, without bytes at run time. A contract sees the turn of the table that it is of, and its
-/// count. Only a table's `begin` makes one.
+/// A counter of visits to a table, without bytes at run time. A contract sees the turn of the table that it is of, and
+/// its count. Only a table's `begin` makes one.
 #[derive(Drop)]
 pub struct Visits {
     turn: Snapshot<Number>,

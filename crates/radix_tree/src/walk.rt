@@ -1,6 +1,6 @@
 //! A walk over a table.
 ghost use Rattle.std.specs.Prelude.{◌≡◌, [], ◌∷◌, ◌++◌, IfNone, MatchOption};
-ghost use Rattle.radix_tree.specs.Table.{routed};
+ghost use Rattle.radix_tree.specs.Found.{routed};
 ghost use Rattle.radix_tree.specs.Lodged.{entries_of};
 
 use crate::chain::Chain;
@@ -12,7 +12,8 @@ use std::marker::Model;
 use std::mem;
 use std::snapshot::Snapshot;
 
-/// A cursor that gives a table's routes in table order. A contract sees those that it has still to give, and the table's turn.
+/// A cursor that gives a table's routes in table order. A contract sees those that it has still to give, and the
+/// table's turn.
 #[derive(Drop)]
 pub struct Walk<'a, V> {
     at: &'a Chain<V>,

@@ -1,14 +1,14 @@
 //! How a table changes.
-ghost use Rattle.std.specs.Prelude.{◌≡◌, ℕ, ◌+◌, ◌<◌, ◌++◌, ◌↔◌, ◌==◌, if◌then◌else◌, IsErr, IsSome, OnOk, OnErr, OnSome, IfOk, IfErr, IfNone, option_map};
+ghost use Rattle.std.specs.Prelude.{◌≡◌, ℕ, ◌+◌, ◌<◌, ◌++◌, ◌↔◌, ◌==◌, if◌then◌else◌, IsErr, IsSome, OnOk, OnErr, OnSome, IfOk, IfErr, IfNone, None, option_map};
 ghost use Rattle.std.specs.Borrow.{sem};
 ghost use Rattle.mask_table.specs.Agreeing.{masked};
-ghost use Rattle.radix_tree.specs.Table.{entry_at, without, with_entry, uses, RisesFrom};
+ghost use Rattle.radix_tree.specs.Table.{entry_at, without, with_entry, uses, IsTable};
 ghost use Rattle.radix_tree.specs.Lodged.{entries_of};
 ghost use Rattle.radix_tree.specs.Chain.{below, past};
 ghost use Rattle.radix_tree.specs.Lending.{lends_value};
 
 use crate::chain::{Cell, Chain};
-use crate::entry::{Entry, Lodged, place_of};
+use crate::entry::{Entry, Lodged};
 use crate::routes::{Room, Table};
 use crate::visits::{Number, Visits};
 use mask_table::Rank;
@@ -43,8 +43,8 @@ impl<V: Drop> Table<V> {
         let Room { number: _, cell: _ } = room;
     }
 
-    /// Puts a route into this table, in a room of this table in which none stands, at a key with no bit past its rank. Where
-    /// the table has a route with this key and rank, that one stays, and the room and the value come back.
+    /// Puts a route into this table, in a room of this table in which none stands, at a key with no bit past its rank.
+    /// Where the table has a route with this key and rank, that one stays, and the room and the value come back.
     pub fn add(
         &mut self,
         room: Room<V>,
@@ -56,25 +56,28 @@ impl<V: Drop> Table<V> {
         requires free { uses room self.old.numbers ≡ 0 }
         requires masked { masked rank key ≡ key }
         ensures there { IsErr result ↔ IsSome (entry_at key rank self.old.entries) }
-        ensures ok { OnOk result (self.new.entries ≡ with_entry (record { key = key; rank = rank; value = value }) self.old.entries) }
-        ensures numbers { OnOk result ((n : ℕ) → uses n self.new.numbers ≡ uses n self.old.numbers + (if room == n then 1 else 0)) }
+        ensures absent { OnOk result (entry_at key rank self.old.entries ≡ None) }
+        ensures ok { OnOk result
+            (self.new.entries ≡ with_entry (record { key = key; rank = rank; value = value }) self.old.entries) }
+        ensures numbers { OnOk result
+            ((n : ℕ) → uses n self.new.numbers ≡ uses n self.old.numbers + (if room == n then 1 else 0)) }
         ensures err { OnErr result (self.new ≡ record self.old { turn = self.old.turn + 1 }) }
         ensures back { IfErr result (λ b. (b.0 ≡ room) × (b.1 ≡ value)) }
         ensures next { self.new.next ≡ self.old.next }
         ensures turn { self.new.turn ≡ self.old.turn + 1 }
     {
-        let place = place_of(key, rank);
-        cut(&mut self.head, &mut self.tail, &mut self.turn, place);
+        cut(&mut self.head, &mut self.tail, &mut self.turn, key, rank);
         if self.tail.begins_at(key, rank) {
             return Err((room, value));
         }
         let Room { number, cell } = room;
-        let entry = Entry { key, rank, value };
+        let entry = Entry::of(key, rank, value);
         self.tail.push(cell, Lodged { number, entry });
         Ok(())
     }
 
-    /// Takes the route with this key and rank out of the table and frees its room. `None` where the table has no such route.
+    /// Takes the route with this key and rank out of the table and frees its room. `None` where the table has no such
+    /// route.
     pub fn remove(&mut self, key: Inet, rank: Rank) -> Option<V>
         ensures value { result ≡ option_map (λ e. e.value) (entry_at key rank self.old.entries) }
         ensures entries { self.new.entries ≡ without key rank self.old.entries }
@@ -84,8 +87,7 @@ impl<V: Drop> Table<V> {
         ensures next { self.new.next ≡ self.old.next }
         ensures turn { self.new.turn ≡ self.old.turn + 1 }
     {
-        let place = place_of(key, rank);
-        cut(&mut self.head, &mut self.tail, &mut self.turn, place);
+        cut(&mut self.head, &mut self.tail, &mut self.turn, key, rank);
         if !self.tail.begins_at(key, rank) {
             return None;
         }
@@ -96,10 +98,10 @@ impl<V: Drop> Table<V> {
     /// The value of the route with this key and rank, to be changed, or `None` where the table has no such route.
     pub fn get_mut(&mut self, key: Inet, rank: Rank) -> Option<&mut V>
         ensures* writes { sem 𝓛 (lends_value V.row key rank self.entry result) }
-        ensures value { option_map (λ v. v.now) result ≡ option_map (λ e. e.value) (entry_at key rank self.old.entries) }
+        ensures value { option_map (λ v. v.now) result
+            ≡ option_map (λ e. e.value) (entry_at key rank self.old.entries) }
     {
-        let place = place_of(key, rank);
-        cut(&mut self.head, &mut self.tail, &mut self.turn, place);
+        cut(&mut self.head, &mut self.tail, &mut self.turn, key, rank);
         if !self.tail.begins_at(key, rank) {
             return None;
         }
@@ -107,11 +109,12 @@ impl<V: Drop> Table<V> {
     }
 }
 
-/// Begins a turn, and cuts a table's list at a place: its front is then what stands before the place, and its back all else.
-fn cut<V: Drop>(head: &mut Chain<V>, tail: &mut Chain<V>, turn: &mut Number, place: u64)
-    requires { RisesFrom 0 (entries_of (head.old ++ tail.old)) }
-    ensures front { head.new ≡ below place (head.old ++ tail.old) }
-    ensures back { tail.new ≡ past place (head.old ++ tail.old) }
+/// Begins a turn, and cuts a table's list at a key and a rank: its front is then what stands before them, and its back
+/// all else.
+fn cut<V: Drop>(head: &mut Chain<V>, tail: &mut Chain<V>, turn: &mut Number, key: Inet, rank: Rank)
+    requires { IsTable (entries_of (head.old ++ tail.old)) }
+    ensures front { head.new ≡ below key rank (head.old ++ tail.old) }
+    ensures back { tail.new ≡ past key rank (head.old ++ tail.old) }
     ensures turn { turn.new ≡ turn.old + 1 }
 {
     turn.raise();
@@ -119,7 +122,7 @@ fn cut<V: Drop>(head: &mut Chain<V>, tail: &mut Chain<V>, turn: &mut Number, pla
     let front = mem::replace(head, Chain::new());
     let back = mem::replace(tail, Chain::new());
     let whole = front.poured(Chain::new()).poured(back);
-    let (front, back) = whole.split(place, &mut visits);
+    let (front, back) = whole.split(key, rank, &mut visits);
     *head = front.poured(Chain::new());
     *tail = back;
 }

@@ -6,7 +6,7 @@ use Rattle.if_addrs.specs.Interfaces.{Address, Interface, interface_of, link_tex
 use Rattle.route_core.specs.Messages.{address_added, route_added}
 use Rattle.listeners.specs.Sockets.{Socket, delivered}
 use Rattle.route_core.specs.Step.{announced}
-use Rattle.sock_addrs.specs.Texts.{inet_family}
+use Rattle.sock_addrs.specs.declared.families.TheConstants.{AF_INET}
 use Rattle.if_addrs.specs.declared.reference.Facts.{Facts}
 use Rattle.if_addrs.specs.declared.reference.IfaRef.{IfaRef}
 use Rattle.radix_tree.specs.declared.entry.Entry.{Entry}
@@ -18,7 +18,7 @@ inside x y h = cc
 pub announced_by : (is : List Interface) (ifa : IfaRef) (a : Address) (r : Entry Route) (sockets : List Socket) (index : ℕ) (link : List ℕ) (facts : Facts) (address : ℕ) (first second : List ℕ) (heard heard_both : List Socket)
     → index ≡ interface_of ifa is → link_text_of index is ≡ Some link → Some facts ≡ Some (facts_of a) → a.address ≡ address
     → first ≡ address_added index link address facts → second ≡ route_added index r
-    → heard ≡ delivered first inet_family None sockets → heard_both ≡ delivered second inet_family None heard
+    → heard ≡ delivered first AF_INET None sockets → heard_both ≡ delivered second AF_INET None heard
     → heard_both ≡ announced is ifa a r sockets
 announced_by is ifa a r sockets index link facts address first second heard heard_both at text known is_address one two so_far all =
     let link_is : link ≡ unwrap_or (link_text_of (interface_of ifa is) is) [] =

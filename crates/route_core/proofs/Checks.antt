@@ -4,13 +4,13 @@ use Rattle.std.proofs.lemmas.List.{length-take-le, length-drop, get_or-take, get
 use Rattle.std.specs.Prelude.{Option, Some, None, is_none}
 use Rattle.sock_addrs.specs.declared.errno.Errno.TheVariants.{EINVAL, EMSGSIZE, EPROTONOSUPPORT}
 use Rattle.route_msgs.specs.Headers.{header_in}
-use Rattle.route_msgs.specs.Slots.{IsWithin, SlotsAreWithin, slots_in, address_at, address_in, has_length, has_version, has_room, is_there_at, place, slot_in}
-use Rattle.route_msgs.specs.Texts.{bytes_or_none}
+use Rattle.route_msgs.specs.Slots.{IsWithin, SlotsAreWithin, slots_in, address_at, address_in, has_length, has_version, has_room, is_there_at, offset_of, slot_in}
+use Rattle.route_msgs.specs.AddrInfo.{bytes_or_none}
 use Rattle.route_msgs.specs.declared.parsed.Slot.{Slot}
 use Rattle.route_core.specs.declared.refusal.Refusal.{Refusal}
 use Rattle.sock_addrs.specs.Reading.{IsWhole}
 use Rattle.sock_addrs.specs.Rules.{Rule, first_fault}
-use Rattle.route_core.specs.Writes.{refused_if, message_rules, most_message_bytes, text_rules, destination_text, is_plain_get}
+use Rattle.route_core.specs.Writes.{refused_if, message_rules, most_message_bytes, destination_rules, destination_bytes, is_plain_get}
 
 -- a reason that doesn't hold is passed over
 passed_over : (r : Rule Refusal) (rs : List (Rule Refusal)) → r.holds ≡ false → first_fault (r ∷ rs) ≡ first_fault rs
@@ -21,10 +21,10 @@ has_slot : (o : Option Slot) (m t : List ℕ) → address_at o m ≡ Some t → 
 has_slot None m t e = cc
 has_slot (Some s) m t e = refl
 
-pub refused_by_text : (m t : List ℕ) → nat_lt most_message_bytes (length m) ≡ false → has_length m ≡ true → has_version m ≡ true → has_room m ≡ true → address_in m 0 ≡ Some t → first_fault (message_rules m) ≡ first_fault (text_rules t (is_plain_get (header_in m)))
-refused_by_text m t short len version room there =
+pub refused_by_destination : (m t : List ℕ) → nat_lt most_message_bytes (length m) ≡ false → has_length m ≡ true → has_version m ≡ true → has_room m ≡ true → address_in m 0 ≡ Some t → first_fault (message_rules m) ≡ first_fault (destination_rules t (is_plain_get (header_in m)))
+refused_by_destination m t short len version room there =
     let get = is_plain_get (header_in m) in
-    let five = text_rules (destination_text m) get in
+    let five = destination_rules (destination_bytes m) get in
     let four = refused_if (is_none (slot_in m 0)) EINVAL (Some 0) ∷ five in
     let three = refused_if (not (has_room m)) EINVAL (Some 0) ∷ four in
     let two = refused_if (not (has_version m)) EPROTONOSUPPORT (Some 0) ∷ three in
@@ -34,7 +34,7 @@ refused_by_text m t short len version room there =
     ∙ (passed_over (refused_if (not (has_version m)) EPROTONOSUPPORT (Some 0)) three (ap not version)
     ∙ (passed_over (refused_if (not (has_room m)) EINVAL (Some 0)) four (ap not room)
     ∙ (passed_over (refused_if (is_none (slot_in m 0)) EINVAL (Some 0)) five (has_slot (slot_in m 0) m t there)
-    ∙ ap (λ (a : Option (List ℕ)). first_fault (text_rules (bytes_or_none a) get)) there))))
+    ∙ ap (λ (a : Option (List ℕ)). first_fault (destination_rules (bytes_or_none a) get)) there))))
 
 -- an address that is found, and doesn't pass the message's end, is whole
 whole_at : (m t : List ℕ) (at : ℕ) → (there : Bool) → (let slot : Option Slot = if there then Some (record { start = at; len = max 1 (slice_index m at) }) else None in IsWithin (length m) slot → address_at slot m ≡ Some t → IsWhole t)
@@ -54,4 +54,4 @@ destination_found m t slots all found = sym (ap (λ (s : List (Option Slot)). ad
 pub destination_whole : (m t : List ℕ) (slots : List (Option Slot)) → slots ≡ slots_in m → SlotsAreWithin (length m) slots → address_at (get_or slots 0 None) m ≡ Some t → IsWhole t
 destination_whole m t slots all within found =
     let first : IsWithin (length m) (slot_in m 0) = subst (λ (s : List (Option Slot)). IsWithin (length m) (get_or s 0 None)) all (within 0) in
-    whole_at m t (place m 0) (is_there_at m 0 (place m 0)) first (destination_found m t slots all found)
+    whole_at m t (offset_of m 0) (is_there_at m 0 (offset_of m 0)) first (destination_found m t slots all found)

@@ -6,7 +6,7 @@ use Rattle.sock_addrs.specs.declared.errno.Errno.TheVariants.{ENOBUFS, EBADF, EE
 use Rattle.if_addrs.specs.Interfaces.{attach_fault, attached, addr_fault, added, new_address, with_address, marked_routed, Address, Interface}
 use Rattle.listeners.specs.Sockets.{Socket, listen_fault, opened, messages_of, pid_of, taken}
 use Rattle.route_core.specs.Step.{IsStep, AnswersOr, Steps, Stepped, stepped, takes_memory, refused, attach_step, open_step, read_step, write_step, reply_step, add_address_step, announced, route_to_network, told, told_refusal}
-use Rattle.sock_addrs.specs.Texts.{inet_family}
+use Rattle.sock_addrs.specs.declared.families.TheConstants.{AF_INET}
 use Rattle.radix_tree.specs.Table.{best_of, entry_at, with_entry}
 use Rattle.route_core.specs.World.{World}
 use Rattle.sock_addrs.specs.Rules.{first_fault}
@@ -69,7 +69,7 @@ write_takes : (w : World) (id m : List ℕ) (pid : ℕ) → pid_of id w.sockets 
 unfolding takes_memory
 write_takes w id m pid there silent = rw (there, silent) refl
 
-pub write_replied : (w : World) (id m : List ℕ) (pid : ℕ) (reply : List ℕ) (answer : Answer) (next : World) → pid_of id w.sockets ≡ Some pid → reply_of w.table pid m ≡ Ok reply → AnswersOr Done (told reply inet_family (Some id) w) w answer next → Steps w (Write id m) answer next
+pub write_replied : (w : World) (id m : List ℕ) (pid : ℕ) (reply : List ℕ) (answer : Answer) (next : World) → pid_of id w.sockets ≡ Some pid → reply_of w.table pid m ≡ Ok reply → AnswersOr Done (told reply AF_INET (Some id) w) w answer next → Steps w (Write id m) answer next
 unfolding stepped
 write_replied w id m pid reply answer next there replied by =
     elim by [

@@ -7,18 +7,19 @@ use Rattle.sock_addrs.specs.declared.errno.Errno.{Errno}
 use Rattle.sock_addrs.specs.declared.errno.Errno.TheVariants.{EADDRINUSE, EBADF, EEXIST, EMFILE, ENOBUFS, ENOSPC, ENXIO}
 use Rattle.if_addrs.specs.Interfaces.{Address, Interface, added, addr_fault, attach_fault, has_name, holds, new_address, with_address}
 use Rattle.sock_addrs.specs.Rules.{Rule, rule, first_fault}
-use Rattle.sock_addrs.specs.Texts.{family, inet_family}
+use Rattle.sock_addrs.specs.Sockaddrs.{family}
+use Rattle.sock_addrs.specs.declared.families.TheConstants.{AF_INET}
 use Rattle.listeners.specs.Sockets.{Socket, has_id, listen_fault, messages_of, pid_of}
 use Rattle.route_core.specs.Step.{Stepped, stepped, refused, done, told_refusal, attach_step, add_address_step, add_route_step, open_step, read_step, reply_step, route_to_network, write_step}
 use Rattle.radix_tree.specs.Table.{best_of, entry_at}
 use Rattle.route_core.specs.World.{World}
 use Rattle.route_core.specs.WorldLaws.{HeardReply, IsRefusedFamily, NoMemoryKeepsAll, RefusalKeepsInterfaces, RefusalKeepsRoutes, RefusalKeepsSockets, interfaces_left}
-use Rattle.route_core.specs.Writes.{destination, destination_text, is_plain_get, message_rules, text_rules, reply_of, reply_to_get, unless_refused}
+use Rattle.route_core.specs.Writes.{destination, destination_bytes, is_plain_get, message_rules, destination_rules, reply_of, reply_to_get, unless_refused}
 use Rattle.route_msgs.specs.Headers.{header_in}
 use Rattle.route_msgs.specs.declared.header.Header.{Header}
 use Rattle.radix_tree.specs.declared.entry.Entry.{Entry}
 use Rattle.route_core.specs.declared.answer.Answer.TheVariants.{Refused}
-use Rattle.route_core.specs.declared.command.Command.{Command}
+use Rattle.route_core.specs.Commands.{Command}
 use Rattle.route_core.specs.declared.command.Command.TheVariants.{Attach, AddAddress, Open, Write, Read}
 use Rattle.route_core.specs.declared.refusal.Refusal.{Refusal}
 use Rattle.route_core.specs.declared.route.Route.{Route}
@@ -59,12 +60,12 @@ addr_fault-all P name address interfaces p q r =
 abbrev IsFoundIn : List ℕ → Refusal → Type 0
 IsFoundIn m r = IsFound r.errno × IfSome r.family (IsRefusedFamily m)
 
-text_rules-found : (m : List ℕ) (is_get : Bool) → AllFaults (IsFoundIn m) (text_rules (destination_text m) is_get)
-text_rules-found m is_get = ((λ h. absurd (cc), inr refl), ((λ h. absurd (cc), inr refl), ((λ h. absurd (cc), inr refl), tt)))
+destination_rules-found : (m : List ℕ) (is_get : Bool) → AllFaults (IsFoundIn m) (destination_rules (destination_bytes m) is_get)
+destination_rules-found m is_get = ((λ h. absurd (cc), inr refl), ((λ h. absurd (cc), inr refl), ((λ h. absurd (cc), inr refl), tt)))
 
 message_rules-found : (m : List ℕ) → IfSome (first_fault (message_rules m)) (IsFoundIn m)
 message_rules-found m = first_fault-all (IsFoundIn m) (message_rules m)
-    ((λ h. absurd (cc), tt), ((λ h. absurd (cc), tt), ((λ h. absurd (cc), inl refl), ((λ h. absurd (cc), inl refl), ((λ h. absurd (cc), inl refl), text_rules-found m (is_plain_get (header_in m)))))))
+    ((λ h. absurd (cc), tt), ((λ h. absurd (cc), tt), ((λ h. absurd (cc), inl refl), ((λ h. absurd (cc), inl refl), ((λ h. absurd (cc), inl refl), destination_rules-found m (is_plain_get (header_in m)))))))
 
 -- no rule holds
 abbrev AllPass : {T : Type 0} → List (Rule T) → Type 0
@@ -79,12 +80,12 @@ first_fault-none : {T : Type 0} (rs : List (Rule T)) → first_fault rs ≡ None
 first_fault-none [] h = tt
 first_fault-none (r ∷ rs) h = let p = pass r.holds r.fault (first_fault rs) h in (p.0, first_fault-none rs p.1)
 
-is_inet : (f : ℕ) → not (f == inet_family) ≡ false → inet_family ≡ f
+is_inet : (f : ℕ) → not (f == AF_INET) ≡ false → AF_INET ≡ f
 is_inet f h = grind (arith, nat_tests)
 
 -- a write that is passed has a destination of IPv4: that is the last reason to refuse one
-passed-inet : (m : List ℕ) → first_fault (message_rules m) ≡ None → IsRefusedFamily m inet_family
-passed-inet m h = inr (is_inet (family (destination_text m)) (first_fault-none (message_rules m) h).1.1.1.1.1.1.1.0)
+passed-inet : (m : List ℕ) → first_fault (message_rules m) ≡ None → IsRefusedFamily m AF_INET
+passed-inet m h = inr (is_inet (family (destination_bytes m)) (first_fault-none (message_rules m) h).1.1.1.1.1.1.1.0)
 
 -- ---- what a refusal leaves
 
@@ -139,7 +140,7 @@ spares-reply : (old : World) (id : List ℕ) (pid : ℕ) (m : List ℕ) (reply :
 spares-reply old id pid m (Ok reply) writer found = spares-done (Write id m) old _
 spares-reply old id pid m (Err r) writer found = spares-refused (Write id m) old (told_refusal old id pid m r) r.errno (told_refusal-spares old id pid m r.errno r.family writer found)
 
-reply_to_get-found : (m : List ℕ) (asked : Header) (pid : ℕ) (r : Option (Entry Route)) → IsRefusedFamily m inet_family → FoundErr m (reply_to_get asked pid r)
+reply_to_get-found : (m : List ℕ) (asked : Header) (pid : ℕ) (r : Option (Entry Route)) → IsRefusedFamily m AF_INET → FoundErr m (reply_to_get asked pid r)
 reply_to_get-found m asked pid None inet = (λ h. absurd (cc), inet)
 reply_to_get-found m asked pid (Some r) inet = tt
 

@@ -1,3 +1,4 @@
+pub mod Commands
 pub mod Messages
 pub mod Received
 pub mod Routes

@@ -10,7 +10,7 @@ use Rattle.if_addrs.specs.Interfaces.{Interface, Address, attach_fault, attached
 use Rattle.listeners.specs.Sockets.{Socket, pid_of, messages_of, listen_fault, opened, delivered, taken}
 use Rattle.route_core.specs.Messages.{address_added, route_added}
 use Rattle.route_core.specs.Routes.{route_of_address}
-use Rattle.sock_addrs.specs.Texts.{inet_family}
+use Rattle.sock_addrs.specs.declared.families.TheConstants.{AF_INET}
 use Rattle.route_core.specs.World.{World}
 use Rattle.sock_addrs.specs.Rules.{first_fault}
 use Rattle.route_core.specs.Writes.{reply_of, refused_reply, message_rules, is_silent}
@@ -19,7 +19,7 @@ use Rattle.if_addrs.specs.declared.reference.IfaRef.TheVariants.{Inet}
 use Rattle.radix_tree.specs.declared.entry.Entry.{Entry}
 use Rattle.route_core.specs.declared.answer.Answer.{Answer}
 use Rattle.route_core.specs.declared.answer.Answer.TheVariants.{Done, Refused, Messages}
-use Rattle.route_core.specs.declared.command.Command.{Command}
+use Rattle.route_core.specs.Commands.{Command}
 use Rattle.route_core.specs.declared.command.Command.TheVariants.{Attach, AddAddress, Open, Write, Read}
 use Rattle.route_core.specs.declared.refusal.Refusal.{Refusal}
 use Rattle.route_core.specs.declared.route.Route.{Route}
@@ -49,7 +49,7 @@ abbrev pub announced : List Interface → IfaRef → Address → Entry Route →
 announced interfaces ifa a r sockets =
     let index = interface_of ifa interfaces in
     let link = unwrap_or (link_text_of index interfaces) [] in
-    delivered (route_added index r) inet_family None (delivered (address_added index link a.address (facts_of a)) inet_family None sockets)
+    delivered (route_added index r) AF_INET None (delivered (address_added index link a.address (facts_of a)) AF_INET None sockets)
 
 -- the route to the network of the address with this number
 abbrev pub route_to_network : Address → Bool → Entry Route
@@ -87,7 +87,7 @@ told_refusal w id pid m r = option_map_or (λ family. told (refused_reply r.errn
 
 -- a write of a process, by the reply that it gets or why it is refused
 abbrev pub reply_step : World → List ℕ → ℕ → List ℕ → Result (List ℕ) Refusal → Stepped
-reply_step w id pid m (Ok reply) = done (told reply inet_family (Some id) w)
+reply_step w id pid m (Ok reply) = done (told reply AF_INET (Some id) w)
 reply_step w id pid m (Err r) = refused (told_refusal w id pid m r) r.errno
 
 -- `write`, to a socket of this process if it is open

@@ -1,15 +1,15 @@
 -- What a step that is refused leaves as it was.
 use Rattle.std.specs.Prelude.{◌≡◌, ◌⊎◌, ℕ, List, Some}
-use Rattle.sock_addrs.specs.Texts.{family}
+use Rattle.sock_addrs.specs.Sockaddrs.{family}
 use Rattle.sock_addrs.specs.declared.errno.Errno.{Errno}
 use Rattle.sock_addrs.specs.declared.errno.Errno.TheVariants.{EEXIST, ENOBUFS}
 use Rattle.if_addrs.specs.Interfaces.{Interface, with_address}
 use Rattle.listeners.specs.Sockets.{Socket, delivered, pid_of}
 use Rattle.route_core.specs.Step.{Steps, stepped}
 use Rattle.route_core.specs.World.{World}
-use Rattle.route_core.specs.Writes.{destination_text, refused_reply}
+use Rattle.route_core.specs.Writes.{destination_bytes, refused_reply}
 use Rattle.route_core.specs.declared.answer.Answer.TheVariants.{Refused}
-use Rattle.route_core.specs.declared.command.Command.{Command}
+use Rattle.route_core.specs.Commands.{Command}
 use Rattle.route_core.specs.declared.command.Command.TheVariants.{AddAddress, Write}
 
 -- a refused request leaves every route as it was
@@ -28,7 +28,7 @@ RefusalKeepsInterfaces = (w : World) → (c : Command) → (errno : Errno) → (
 
 -- the family of the reply to a refused write: the destination's, or 0 where that was not looked at
 abbrev pub IsRefusedFamily : List ℕ → ℕ → Type 0
-IsRefusedFamily m f = (f ≡ 0) ⊎ (f ≡ family (destination_text m))
+IsRefusedFamily m f = (f ≡ 0) ⊎ (f ≡ family (destination_bytes m))
 
 -- the reply to a refused write, with the pid of its writer, was delivered
 abbrev pub HeardReply : Command → Errno → List Socket → List Socket → Type 0

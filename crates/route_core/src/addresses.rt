@@ -4,11 +4,11 @@ ghost use Rattle.if_addrs.specs.Interfaces.{Address, IsOf, address_of};
 ghost use Rattle.route_core.specs.Step.{Steps, announced};
 ghost use Rattle.route_core.specs.declared.command.Command.TheVariants.{AddAddress};
 
-use crate::world::AF_INET;
 use crate::{Answer, Route, World, messages};
 use if_addrs::{IfaRef, Interfaces};
 use listeners::Listeners;
 use mask_table::{Prefix, Rank, masked};
+use sock_addrs::families::AF_INET;
 use sock_addrs::{Errno, Inet, Name};
 
 /// Room for the two messages of a new address.

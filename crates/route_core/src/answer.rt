@@ -1,5 +1,5 @@
 ghost use Rattle.std.specs.Prelude.{◌≡◌, ℕ, List};
-ghost use Rattle.listeners.specs.Queue.{cut, IsWhole};
+ghost use Rattle.listeners.specs.Queue.{cut, AreMessages};
 
 use sock_addrs::Errno;
 use std::marker::Model;
@@ -27,13 +27,13 @@ impl Model for Received {
 
     ghost view = { λ r. cut r.bytes.items };
 
-    ghost invariant = { λ r. IsWhole r.bytes.items };
+    ghost invariant = { λ r. AreMessages r.bytes.items };
 }
 
 impl Received {
     /// The messages that `bytes` are cut into.
     pub fn new(bytes: Vec<u8>) -> Received
-        requires { IsWhole bytes.items }
+        requires { AreMessages bytes.items }
         ensures { result ≡ cut bytes.items }
     {
         Received { bytes }
@@ -41,7 +41,7 @@ impl Received {
 
     /// Their bytes.
     pub fn as_bytes(&self) -> &[u8]
-        ensures whole { IsWhole result.now }
+        ensures whole { AreMessages result.now }
         ensures messages { cut result.now ≡ self.now }
     {
         &self.bytes

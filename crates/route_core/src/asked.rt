@@ -3,7 +3,7 @@ ghost use Rattle.std.specs.Prelude.{◌≡◌, Some, None, IfOk, IfErr, IsSome};
 ghost use Rattle.sock_addrs.specs.Reading.{IsWhole, number_of_inet};
 ghost use Rattle.route_msgs.specs.Headers.{header_in};
 ghost use Rattle.sock_addrs.specs.Rules.{first_fault};
-ghost use Rattle.route_core.specs.Writes.{IsEchoed, message_rules, text_rules, is_plain_get as is_plain, destination as destination_of};
+ghost use Rattle.route_core.specs.Writes.{IsEchoed, message_rules, destination_rules, is_plain_get as is_plain, destination as destination_of};
 
 use crate::refusal::Refusal;
 use route_msgs::kinds::RTM_GET;
@@ -72,9 +72,9 @@ fn is_plain_get(header: &Header) -> bool
 /// The destination of a request, by the bytes of its address.
 fn destination_in(text: &[u8], is_plain_get: bool) -> Result<Inet, Refusal>
     requires { IsWhole text.now }
-    ensures passes { IfOk result (λ _. first_fault (text_rules text.now is_plain_get) ≡ None) }
+    ensures passes { IfOk result (λ _. first_fault (destination_rules text.now is_plain_get) ≡ None) }
     ensures address { IfOk result (λ a. a ≡ number_of_inet text.now) }
-    ensures refused { IfErr result (λ r. first_fault (text_rules text.now is_plain_get) ≡ Some r) }
+    ensures refused { IfErr result (λ r. first_fault (destination_rules text.now is_plain_get) ≡ Some r) }
 {
     let family = family_of(text);
     let address = match read_inet(text) {

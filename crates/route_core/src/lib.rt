@@ -15,7 +15,7 @@ mod world;
 mod writes;
 
 pub use answer::{Answer, Received};
-pub use command::{Command, Written};
+pub use command::{Command, Lent, Said, Written};
 pub use if_addrs::LinkAddress;
 pub use listeners::first_message;
 pub use route::Route;

@@ -1,10 +1,10 @@
 //! The messages that the world makes.
 ghost use Rattle.std.specs.Prelude.{◌≡◌, ◌≤◌, length, option_map};
-ghost use Rattle.sock_addrs.specs.Texts.{mask_text};
-ghost use Rattle.route_msgs.specs.Texts.{text_bytes};
+ghost use Rattle.sock_addrs.specs.Sockaddrs.{mask_sockaddr};
+ghost use Rattle.route_msgs.specs.AddrInfo.{address_bytes};
 ghost use Rattle.listeners.specs.Queue.{IsMessage};
 ghost use Rattle.route_msgs.specs.Headers.{blank as blank_header};
-ghost use Rattle.route_core.specs.Messages.{address_added as address_message, address_texts as texts_of_address, netmask_of, route_texts as texts_of, route_added as added_message, route_got as got_message};
+ghost use Rattle.route_core.specs.Messages.{address_added as address_message, interface_addresses as addresses_of_interface, netmask_of, route_addresses as addresses_of_route, route_added as added_message, route_got as got_message};
 
 use crate::Route;
 use arrayvec::ArrayVec;
@@ -12,7 +12,7 @@ use if_addrs::Facts;
 use mask_table::{Prefix, Rank};
 use route_msgs::flags::RTF_DONE;
 use route_msgs::kinds::{RTM_ADD, RTM_GET, RTM_NEWADDR};
-use route_msgs::{Header, IfaHeader, Text, Texts, write_ifa_msg, write_route_msg};
+use route_msgs::{AddrInfo, Header, IfaHeader, Sockaddr, write_ifa_msg, write_route_msg};
 use sock_addrs::{Inet, Link};
 
 fn blank(kind: u8) -> Header
@@ -25,51 +25,51 @@ fn blank(kind: u8) -> Header
 }
 
 /// A route's mask, where it has one.
-fn netmask(rank: Rank) -> Option<Text>
+fn netmask(rank: Rank) -> Option<Sockaddr>
     ensures { result ≡ netmask_of rank }
 {
     let bits = rank.number();
     if bits == 33 {
         None
     } else {
-        Some(Text::mask(bits))
+        Some(Sockaddr::mask(bits))
     }
 }
 
 /// The mask that a route's clones get, where there is one.
-fn genmask(prefix: Option<Prefix>) -> Option<Text>
-    ensures { result ≡ option_map mask_text prefix }
+fn genmask(prefix: Option<Prefix>) -> Option<Sockaddr>
+    ensures { result ≡ option_map mask_sockaddr prefix }
 {
     match prefix {
-        Some(prefix) => Some(Text::mask(prefix.bits())),
+        Some(prefix) => Some(Sockaddr::mask(prefix.bits())),
         None => None,
     }
 }
 
 /// A route's destination, gateway and mask.
-fn route_texts(key: Inet, rank: Rank, route: &Route) -> Texts
-    ensures texts { result ≡ texts_of (record { key = key; rank = rank; value = route.now }) }
-    ensures size { length (text_bytes result) ≤ 56 }
+fn route_addresses(key: Inet, rank: Rank, route: &Route) -> AddrInfo
+    ensures texts { result ≡ addresses_of_route (record { key = key; rank = rank; value = route.now }) }
+    ensures size { length (address_bytes result) ≤ 56 }
 {
-    Texts {
-        dst: Some(Text::inet(key)),
-        gateway: Some(Text::gate(route.gateway)),
+    AddrInfo {
+        dst: Some(Sockaddr::inet(key)),
+        gateway: Some(Sockaddr::gate(route.gateway)),
         netmask: netmask(rank),
-        ..Texts::default()
+        ..AddrInfo::default()
     }
 }
 
 /// An address of an interface, with its mask and its broadcast address, and the interface's link-layer address.
-fn address_texts(link: Link, address: Inet, facts: Facts) -> Texts
-    ensures texts { result ≡ texts_of_address link address facts }
-    ensures size { length (text_bytes result) ≤ 72 }
+fn interface_addresses(link: Link, address: Inet, facts: Facts) -> AddrInfo
+    ensures texts { result ≡ addresses_of_interface link address facts }
+    ensures size { length (address_bytes result) ≤ 72 }
 {
-    Texts {
-        netmask: Some(Text::mask(facts.prefix.bits())),
-        ifp: Some(Text::link(link)),
-        ifa: Some(Text::inet(address)),
-        brd: Some(Text::inet(facts.far)),
-        ..Texts::default()
+    AddrInfo {
+        netmask: Some(Sockaddr::mask(facts.prefix.bits())),
+        ifp: Some(Sockaddr::link(link)),
+        ifa: Some(Sockaddr::inet(address)),
+        brd: Some(Sockaddr::inet(facts.far)),
+        ..AddrInfo::default()
     }
 }
 
@@ -92,7 +92,7 @@ pub(crate) fn address_added(
         padding: 0,
         metric: 0,
     };
-    write_ifa_msg(&header, &address_texts(link, address, facts))
+    write_ifa_msg(&header, &interface_addresses(link, address, facts))
 }
 
 /// That an interface's new address brought a route.
@@ -106,7 +106,7 @@ pub(crate) fn route_added(index: u16, key: Inet, rank: Rank, route: &Route) -> A
         flags: u32::from(route.flags),
         ..blank(RTM_ADD)
     };
-    write_route_msg(&header, &route_texts(key, rank, route))
+    write_route_msg(&header, &route_addresses(key, rank, route))
 }
 
 /// The reply to a GET: what was asked, and the route.
@@ -124,7 +124,7 @@ pub(crate) fn route_got(
     let header = Header {
         index: asked.index,
         padding: asked.padding,
-        flags: u32::from(route.flags) | RTF_DONE,
+        flags: u32::from(route.flags | RTF_DONE),
         pid,
         seq: asked.seq,
         errno: asked.errno,
@@ -133,9 +133,9 @@ pub(crate) fn route_got(
         metrics: route.metrics,
         ..blank(RTM_GET)
     };
-    let texts = Texts {
+    let texts = AddrInfo {
         genmask: genmask(route.genmask),
-        ..route_texts(key, rank, route)
+        ..route_addresses(key, rank, route)
     };
     write_route_msg(&header, &texts)
 }

@@ -3,6 +3,7 @@ ghost use Rattle.route_core.specs.Routes.{route_of_address};
 
 use if_addrs::IfaRef;
 use mask_table::Prefix;
+use route_msgs::Metrics;
 use route_msgs::flags::{RTF_CLONING, RTF_UP};
 use sock_addrs::{Gate, Inet};
 
@@ -13,8 +14,8 @@ pub struct Route {
     pub flags: u16,
     /// The next hop, or the address itself where the route is of an interface's network.
     pub gateway: Gate,
-    /// locks, mtu, hopcount, expire, recvpipe, sendpipe, ssthresh, rtt, rttvar, pksent.
-    pub metrics: [u32; 10],
+    /// Its metrics.
+    pub metrics: Metrics,
     /// The mask that a clone of the route gets, where it has one.
     pub genmask: Option<Prefix>,
     /// The interface address that packets leave by.
@@ -34,9 +35,9 @@ impl Route {
             RTF_UP
         };
         Route {
-            flags: flags as u16,
+            flags,
             gateway: Gate::Inet(address),
-            metrics: [0; 10],
+            metrics: Metrics::default(),
             genmask: None,
             ifa,
             use_count: 0,

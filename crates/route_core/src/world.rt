@@ -3,16 +3,13 @@ ghost use Rattle.route_core.specs.World.{empty_world};
 ghost use Rattle.route_core.specs.Step.{IsStep, Steps};
 ghost use Rattle.route_core.specs.declared.command.Command.TheVariants.{Attach, Open, Read};
 
-use crate::{Answer, Command, LinkAddress, Received, Route};
+use crate::{Answer, Command, LinkAddress, Received, Route, Said};
 use if_addrs::Interfaces;
 use listeners::Listeners;
 use radix_tree::Table;
 use sock_addrs::Name;
 use std::alloc::{AllocError, Global};
 use std::marker::Model;
-
-/// The family of all messages about IPv4 (`AF_INET`).
-pub(crate) const AF_INET: u8 = 2;
 
 /// What a script works on. A contract sees its routes, interfaces and sockets.
 #[derive(Drop)]
@@ -48,7 +45,15 @@ impl World {
         ensures step { Steps self.old command.now result self.new }
         ensures read { (id : List ℕ) → command.now ≡ Read id → IsStep self.old command.now result self.new }
     {
-        match command {
+        self.obey(&command.said())
+    }
+
+    /// Takes one command whose bytes lie elsewhere, as `step` takes it.
+    pub fn obey(&mut self, said: &Said<'_>) -> Answer
+        ensures step { Steps self.old said.now result self.new }
+        ensures read { (id : List ℕ) → said.now ≡ Read id → IsStep self.old said.now result self.new }
+    {
+        match said {
             Command::Attach {
                 name,
                 type_number,

@@ -3,17 +3,17 @@ ghost use Rattle.std.specs.Prelude.{◌≡◌, Some, Ok, Err, IsSome, IsNone, is
 ghost use Rattle.listeners.specs.Queue.{IsMessage};
 ghost use Rattle.route_core.specs.Step.{Steps, AnswersOr, told, told_refusal};
 ghost use Rattle.sock_addrs.specs.Rules.{first_fault};
-ghost use Rattle.sock_addrs.specs.Texts.{inet_family};
+ghost use Rattle.sock_addrs.specs.declared.families.TheConstants.{AF_INET};
 ghost use Rattle.route_core.specs.Writes.{IsEchoed, is_silent, message_rules, refused_reply, reply_of};
 ghost use Rattle.route_core.specs.declared.answer.Answer.TheVariants.{Done, Refused};
 ghost use Rattle.route_core.specs.declared.command.Command.TheVariants.{Write};
 
 use crate::asked::Asked;
 use crate::refusal::Refusal;
-use crate::world::AF_INET;
 use crate::{Answer, World, messages};
 use arrayvec::ArrayVec;
 use route_msgs::patch_u32;
+use sock_addrs::families::AF_INET;
 use sock_addrs::{Errno, Name};
 
 /// Where a message has its pid.
@@ -68,7 +68,7 @@ impl World {
     /// Answers that a write is done, once its reply is delivered.
     fn answer_done(&mut self, id: Name, reply: &[u8]) -> Answer
         requires { IsMessage reply.now }
-        ensures { AnswersOr Done (told reply.now inet_family (Some id) self.old) self.old result self.new }
+        ensures { AnswersOr Done (told reply.now AF_INET (Some id) self.old) self.old result self.new }
     {
         match self.reply(id, reply, AF_INET) {
             Ok(()) => Answer::Done,

@@ -10,12 +10,12 @@ use Rattle.route_main.specs.declared.run.outcome.Outcome.{Outcome}
 use Rattle.route_main.specs.declared.run.outcome.Outcome.TheVariants.{Done, BadLine, ReadFault, WriteFault, NoMemory}
 use Rattle.event_file.specs.declared.bad.Bad.{Bad}
 use Rattle.route_core.specs.declared.answer.Answer.{Answer}
-use Rattle.event_file.specs.Answers.{reply_text}
+use Rattle.event_file.specs.Answers.{response_text}
 use Rattle.event_file.specs.Counts.{Counts}
 use Rattle.event_file.specs.Lines.{Line, after_bytes, answered_lines, begun_line, ended_lines, extended, first_line, has_newline, is_answered, is_begun, is_passed, kept, no_line}
 use Rattle.event_file.specs.Output.{WroteFront}
 use Rattle.route_main.specs.Progress.{Standing, Answers, StopsWithin, Progress, Advances, Breaks, Finishes, Reached, HasRead, answered_of, fresh}
-use Rattle.event_file.specs.Transcript.{Answered, IsTranscript, Replies, command_in, has_bad_line, transcript_from}
+use Rattle.event_file.specs.Transcript.{Answered, IsTranscript, Responds, command_in, has_bad_line, transcript_from}
 use Rattle.route_main.specs.Ends.{AnsweredAll, Ends, IsAnswered}
 use Rattle.route_core.specs.World.{World}
 use Rattle.event_file.proofs.TranscriptLemmas.{transcript_from-is}
@@ -25,8 +25,8 @@ use Rattle.event_file.proofs.LineLemmas.{answered_lines-ended, answered_lines-la
 
 Answered-then : (l m : List (Option (List ℕ))) (a b c : World) (s t : List ℕ) → Answered a l s b → Answered b m t c → Answered a (l ++ m) (s ++ t) c
 Answered-then [] m a b c s t p q = subst (λ w. Answered w m (s ++ t) c) p.1 (subst (λ x. Answered b m (x ++ t) c) (sym p.0) q)
-Answered-then (line ∷ l) m a b c s t (reply, next, rest, replies, text, more) q =
-    (reply, next, rest ++ t, replies, ap (λ x. x ++ t) text ∙ append_assoc (reply_text reply) rest t, Answered-then l m next b c rest t more q)
+Answered-then (line ∷ l) m a b c s t (response, next, rest, responses, text, more) q =
+    (response, next, rest ++ t, responses, ap (λ x. x ++ t) text ∙ append_assoc (response_text response) rest t, Answered-then l m next b c rest t more q)
 
 has_bad_line-append : (l m : List (Option (List ℕ))) → has_bad_line (l ++ m) ≡ (has_bad_line l || has_bad_line m)
 has_bad_line-append [] m = refl
@@ -89,16 +89,16 @@ answered_of-line : (line : Option (List ℕ)) → is_passed line ≡ false → a
 answered_of-line line is = cond-true (is_answered line) (line ∷ []) [] (ap not is)
 
 -- the writer stopped within a line's answer
-pub StopsWithin-line : {W : Type 0} (contents : W → Option (List ℕ)) (old now : Counts W) (from : Standing) (line : Option (List ℕ)) (reply : Result Answer Bad) (next : World)
-    → is_passed line ≡ false → Replies from.world line reply next → WroteFront contents old now (reply_text reply)
+pub StopsWithin-line : {W : Type 0} (contents : W → Option (List ℕ)) (old now : Counts W) (from : Standing) (line : Option (List ℕ)) (response : Result Answer Bad) (next : World)
+    → is_passed line ≡ false → Responds from.world line response next → WroteFront contents old now (response_text response)
     → StopsWithin from (contents old.inner) (contents now.inner) (answered_of line)
-StopsWithin-line contents old now from line reply next is replies front =
+StopsWithin-line contents old now from line response next is responses front =
     subst (λ x. StopsWithin from (contents old.inner) (contents now.inner) x) (sym (answered_of-line line is)) (record {
       written = front.written;
       unwritten = front.unwritten;
       last = next;
       appends = front.appends;
-      answered = (reply, next, [], replies, sym front.whole ∙ sym (append-nil (reply_text reply)), (refl, refl));
+      answered = (response, next, [], responses, sym front.whole ∙ sym (append-nil (response_text response)), (refl, refl));
     })
 
 -- ---- a run that goes on

@@ -5,14 +5,16 @@ use Rattle.std.proofs.lemmas.Bool.{leb-true}
 use Rattle.std.proofs.lemmas.List.{length-replicate}
 use Rattle.route_msgs.specs.Layout.{Field, number_at, with_fields}
 use Rattle.route_msgs.specs.Headers.{route_fields, route_head, route_message, ifa_fields, ifa_head, ifa_message, header_in, metrics_in}
-use Rattle.route_msgs.specs.Texts.{text_bytes, addrs_of}
-use Rattle.route_msgs.specs.Written.{IsHeader, IsIfaHeader, AreTexts, IsLaidOut}
+use Rattle.route_msgs.specs.AddrInfo.{address_bytes, addrs_of}
+use Rattle.route_msgs.specs.Written.{IsHeader, IsIfaHeader, AreSockaddrs, IsLaidOut}
 use Rattle.route_msgs.specs.declared.header.Header.{Header}
 use Rattle.route_msgs.specs.declared.header.IfaHeader.{IfaHeader}
-use Rattle.route_msgs.specs.declared.texts.Texts.{Texts}
+use Rattle.route_msgs.specs.declared.addr_info.AddrInfo.{AddrInfo}
 use Rattle.route_msgs.proofs.FieldsRead.{FitsIn, AllFitIn, are_clear, value_among, read_fields, length-with_fields, number_at-append}
-use Rattle.route_msgs.proofs.Places.{built, counted}
-use Rattle.route_msgs.proofs.TextSizes.{texts_fit, addrs_of-lt}
+use Rattle.route_msgs.proofs.Offsets.{built, counted}
+use Rattle.route_msgs.specs.declared.kinds.TheConstants.{RTM_VERSION}
+use Rattle.route_msgs.specs.declared.metrics.Metrics.{Metrics}
+use Rattle.route_msgs.proofs.AddressSizes.{addresses_fit, addrs_of-lt}
 
 infixr 20 ◌&◌
 -- both, where more may follow
@@ -27,9 +29,9 @@ route_fits : (size addrs : ℕ) (h : Header) → size < 2 ^ 16 → addrs < 2 ^ 3
 route_fits size addrs h a b f =
     placed refl a & placed refl (lit< tt) & placed refl f.of_kind & placed refl f.of_index & placed refl f.of_padding
     & placed refl f.of_flags & placed refl b & placed refl f.of_pid & placed refl f.of_seq & placed refl f.of_errno
-    & placed refl f.of_use_count & placed refl f.of_inits & placed refl (f.of_metrics 0) & placed refl (f.of_metrics 1)
-    & placed refl (f.of_metrics 2) & placed refl (f.of_metrics 3) & placed refl (f.of_metrics 4) & placed refl (f.of_metrics 5)
-    & placed refl (f.of_metrics 6) & placed refl (f.of_metrics 7) & placed refl (f.of_metrics 8) & placed refl (f.of_metrics 9) & tt
+    & placed refl f.of_use_count & placed refl f.of_inits & placed refl f.of_metrics.of_locks & placed refl f.of_metrics.of_mtu
+    & placed refl f.of_metrics.of_hopcount & placed refl f.of_metrics.of_expire & placed refl f.of_metrics.of_recvpipe & placed refl f.of_metrics.of_sendpipe
+    & placed refl f.of_metrics.of_ssthresh & placed refl f.of_metrics.of_rtt & placed refl f.of_metrics.of_rttvar & placed refl f.of_metrics.of_pksent & tt
 
 ifa_fits : (size addrs : ℕ) (h : IfaHeader) → size < 2 ^ 16 → addrs < 2 ^ 32 → IsIfaHeader h → AllFitIn 20 (ifa_fields size addrs h)
 ifa_fits size addrs h a b f =
@@ -65,26 +67,21 @@ module _ (n : ℕ) (fields : List Field) (behind : List ℕ) (fit : AllFitIn n f
 
 -- ---- a message about a route
 
--- a list of ten, by its elements
-ten_again : (ms : List ℕ) → length ms ≡ 10 → counted (slice_index ms) 0 10 ≡ ms
-ten_again ms ten = sym (built (slice_index ms) 0 0 10 ms ten (λ k less. ap (slice_index ms) (omega arith)))
+record MetricsStand (m : List ℕ) (ms : Metrics) : Type 0 where
+  locks : number_at 36 4 m ≡ ms.locks
+  mtu : number_at 40 4 m ≡ ms.mtu
+  hopcount : number_at 44 4 m ≡ ms.hopcount
+  expire : number_at 48 4 m ≡ ms.expire
+  recvpipe : number_at 52 4 m ≡ ms.recvpipe
+  sendpipe : number_at 56 4 m ≡ ms.sendpipe
+  ssthresh : number_at 60 4 m ≡ ms.ssthresh
+  rtt : number_at 64 4 m ≡ ms.rtt
+  rttvar : number_at 68 4 m ≡ ms.rttvar
+  pksent : number_at 72 4 m ≡ ms.pksent
 
-record MetricsStand (m ms : List ℕ) : Type 0 where
-  locks : number_at 36 4 m ≡ slice_index ms 0
-  mtu : number_at 40 4 m ≡ slice_index ms 1
-  hopcount : number_at 44 4 m ≡ slice_index ms 2
-  expire : number_at 48 4 m ≡ slice_index ms 3
-  recvpipe : number_at 52 4 m ≡ slice_index ms 4
-  sendpipe : number_at 56 4 m ≡ slice_index ms 5
-  ssthresh : number_at 60 4 m ≡ slice_index ms 6
-  rtt : number_at 64 4 m ≡ slice_index ms 7
-  rttvar : number_at 68 4 m ≡ slice_index ms 8
-  pksent : number_at 72 4 m ≡ slice_index ms 9
-
-metrics_stand : (m ms : List ℕ) → length ms ≡ 10 → MetricsStand m ms → metrics_in m ≡ ms
-unfolding counted
-metrics_stand m ms ten e =
-    rw (e.locks, e.mtu, e.hopcount, e.expire, e.recvpipe, e.sendpipe, e.ssthresh, e.rtt, e.rttvar, e.pksent) (ten_again ms ten)
+metrics_stand : (m : List ℕ) (ms : Metrics) → MetricsStand m ms → metrics_in m ≡ ms
+metrics_stand m ms e =
+    rw (e.locks, e.mtu, e.hopcount, e.expire, e.recvpipe, e.sendpipe, e.ssthresh, e.rtt, e.rttvar, e.pksent) refl
 
 record HeaderStands (m : List ℕ) (h : Header) (named : ℕ) : Type 0 where
   of_kind : number_at 3 1 m ≡ h.kind
@@ -103,37 +100,37 @@ header_stands : (m : List ℕ) (h : Header) (named : ℕ) → HeaderStands m h n
 header_stands m h named e =
     let metrics : metrics_in m ≡ h.metrics = e.of_metrics in
     rw (e.of_kind, e.of_index, e.of_padding, e.of_flags, e.of_addrs, e.of_pid, e.of_seq, e.of_errno, e.of_use_count, e.of_inits)
-    (ap (λ (ms : List ℕ). record h { addrs = named; metrics = ms }) metrics)
+    (ap (λ (ms : Metrics). record h { addrs = named; metrics = ms }) metrics)
 
-module _ (h : Header) (ts : Texts) (is : IsHeader h) (are : AreTexts ts) where
+module _ (h : Header) (info : AddrInfo) (is : IsHeader h) (are : AreSockaddrs info) where
   abbrev fields : List Field
-  fields = route_fields (76 + length (text_bytes ts)) (addrs_of ts) h
+  fields = route_fields (76 + length (address_bytes info)) (addrs_of info) h
 
   fits : AllFitIn 76 fields
   fits =
-      let small : 76 + length (text_bytes ts) < 2 ^ 16 = omega (arith, texts_fit ts are) in
-      let few : addrs_of ts < 2 ^ 32 = omega (arith, addrs_of-lt ts) in
-      route_fits (76 + length (text_bytes ts)) (addrs_of ts) h small few is
+      let small : 76 + length (address_bytes info) < 2 ^ 16 = omega (arith, addresses_fit info are) in
+      let few : addrs_of info < 2 ^ 32 = omega (arith, addrs_of-lt info) in
+      route_fits (76 + length (address_bytes info)) (addrs_of info) h small few is
 
-  pub length-head : length (route_head (76 + length (text_bytes ts)) (addrs_of ts) h) ≡ 76
-  length-head = length-fields 76 fields (text_bytes ts) fits
+  pub length-head : length (route_head (76 + length (address_bytes info)) (addrs_of info) h) ≡ 76
+  length-head = length-fields 76 fields (address_bytes info) fits
 
-  pub length-message : length (route_message h ts) ≡ 76 + length (text_bytes ts)
-  length-message = length-whole 76 fields (text_bytes ts) fits
+  pub length-message : length (route_message h info) ≡ 76 + length (address_bytes info)
+  length-message = length-whole 76 fields (address_bytes info) fits
 
-  field_read : (o w : ℕ) → o + w ≤ 76 → are_clear o w fields ≡ true → number_at o w (route_message h ts) ≡ value_among o w fields (number_at o w (replicate 76 0))
-  field_read = number_read 76 fields (text_bytes ts) fits
+  field_read : (o w : ℕ) → o + w ≤ 76 → are_clear o w fields ≡ true → number_at o w (route_message h info) ≡ value_among o w fields (number_at o w (replicate 76 0))
+  field_read = number_read 76 fields (address_bytes info) fits
 
-  pub size_read : number_at 0 2 (route_message h ts) ≡ length (route_message h ts)
+  pub size_read : number_at 0 2 (route_message h info) ≡ length (route_message h info)
   size_read = field_read 0 2 (lit≤ tt) refl ∙ sym length-message
 
-  pub version_read : number_at 2 1 (route_message h ts) ≡ 3
+  pub version_read : number_at 2 1 (route_message h info) ≡ RTM_VERSION
   version_read = field_read 2 1 (lit≤ tt) refl
 
-  pub addrs_read : number_at 12 4 (route_message h ts) ≡ addrs_of ts
+  pub addrs_read : number_at 12 4 (route_message h info) ≡ addrs_of info
   addrs_read = field_read 12 4 (lit≤ tt) refl
 
-  metrics_read : MetricsStand (route_message h ts) h.metrics
+  metrics_read : MetricsStand (route_message h info) h.metrics
   metrics_read = record {
     locks = field_read 36 4 (lit≤ tt) refl;
     mtu = field_read 40 4 (lit≤ tt) refl;
@@ -147,8 +144,8 @@ module _ (h : Header) (ts : Texts) (is : IsHeader h) (are : AreTexts ts) where
     pksent = field_read 72 4 (lit≤ tt) refl;
   }
 
-  pub header_read : header_in (route_message h ts) ≡ record h { addrs = addrs_of ts }
-  header_read = header_stands (route_message h ts) h (addrs_of ts) (record {
+  pub header_read : header_in (route_message h info) ≡ record h { addrs = addrs_of info }
+  header_read = header_stands (route_message h info) h (addrs_of info) (record {
     of_kind = field_read 3 1 (lit≤ tt) refl;
     of_index = field_read 4 2 (lit≤ tt) refl;
     of_padding = field_read 6 2 (lit≤ tt) refl;
@@ -159,27 +156,27 @@ module _ (h : Header) (ts : Texts) (is : IsHeader h) (are : AreTexts ts) where
     of_errno = field_read 24 4 (lit≤ tt) refl;
     of_use_count = field_read 28 4 (lit≤ tt) refl;
     of_inits = field_read 32 4 (lit≤ tt) refl;
-    of_metrics = metrics_stand (route_message h ts) h.metrics is.ten metrics_read;
+    of_metrics = metrics_stand (route_message h info) h.metrics metrics_read;
   })
 
 -- ---- a message about an interface's address
 
-module _ (h : IfaHeader) (ts : Texts) (is : IsIfaHeader h) (are : AreTexts ts) where
+module _ (h : IfaHeader) (info : AddrInfo) (is : IsIfaHeader h) (are : AreSockaddrs info) where
   abbrev fields_of_ifa : List Field
-  fields_of_ifa = ifa_fields (20 + length (text_bytes ts)) (addrs_of ts) h
+  fields_of_ifa = ifa_fields (20 + length (address_bytes info)) (addrs_of info) h
 
   fits_ifa : AllFitIn 20 fields_of_ifa
   fits_ifa =
-      let small : 20 + length (text_bytes ts) < 2 ^ 16 = omega (arith, texts_fit ts are) in
-      let few : addrs_of ts < 2 ^ 32 = omega (arith, addrs_of-lt ts) in
-      ifa_fits (20 + length (text_bytes ts)) (addrs_of ts) h small few is
+      let small : 20 + length (address_bytes info) < 2 ^ 16 = omega (arith, addresses_fit info are) in
+      let few : addrs_of info < 2 ^ 32 = omega (arith, addrs_of-lt info) in
+      ifa_fits (20 + length (address_bytes info)) (addrs_of info) h small few is
 
-  ifa_read : (o w : ℕ) → o + w ≤ 20 → are_clear o w fields_of_ifa ≡ true → number_at o w (ifa_message h ts) ≡ value_among o w fields_of_ifa (number_at o w (replicate 20 0))
-  ifa_read = number_read 20 fields_of_ifa (text_bytes ts) fits_ifa
+  ifa_read : (o w : ℕ) → o + w ≤ 20 → are_clear o w fields_of_ifa ≡ true → number_at o w (ifa_message h info) ≡ value_among o w fields_of_ifa (number_at o w (replicate 20 0))
+  ifa_read = number_read 20 fields_of_ifa (address_bytes info) fits_ifa
 
-  pub ifa_laid_out : IsLaidOut h ts (ifa_message h ts)
+  pub ifa_laid_out : IsLaidOut h info (ifa_message h info)
   ifa_laid_out = record {
-    size = ifa_read 0 2 (lit≤ tt) refl ∙ sym (length-whole 20 fields_of_ifa (text_bytes ts) fits_ifa);
+    size = ifa_read 0 2 (lit≤ tt) refl ∙ sym (length-whole 20 fields_of_ifa (address_bytes info) fits_ifa);
     version = ifa_read 2 1 (lit≤ tt) refl;
     kind_there = ifa_read 3 1 (lit≤ tt) refl;
     addrs_there = ifa_read 4 4 (lit≤ tt) refl;
@@ -187,5 +184,5 @@ module _ (h : IfaHeader) (ts : Texts) (is : IsIfaHeader h) (are : AreTexts ts) w
     index_there = ifa_read 12 2 (lit≤ tt) refl;
     padding_there = ifa_read 14 2 (lit≤ tt) refl;
     metric_there = ifa_read 16 4 (lit≤ tt) refl;
-    behind = drop_at (ifa_head (20 + length (text_bytes ts)) (addrs_of ts) h) (text_bytes ts) 20 (length-fields 20 fields_of_ifa (text_bytes ts) fits_ifa);
+    behind = drop_at (ifa_head (20 + length (address_bytes info)) (addrs_of info) h) (address_bytes info) 20 (length-fields 20 fields_of_ifa (address_bytes info) fits_ifa);
   }

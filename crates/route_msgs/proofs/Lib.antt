@@ -1,8 +1,8 @@
 mod FieldsRead
 mod HeadersRead
-mod LinkText
+mod LinkSockaddr
 mod Placed
-mod Places
+mod Offsets
 mod SizesRead
 mod SlotsWritten
-mod TextSizes
+mod AddressSizes

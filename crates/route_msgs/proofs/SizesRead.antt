@@ -4,10 +4,10 @@ use Rattle.std.proofs.lemmas.Bool.{leb-true}
 use Rattle.std.proofs.lemmas.List.{length-replicate}
 use Rattle.route_msgs.specs.Layout.{Field, field, number_at, with_field, with_fields}
 use Rattle.route_msgs.specs.Headers.{ifa_fields, ifa_message, route_fields, route_message}
-use Rattle.route_msgs.specs.Texts.{addrs_of, text_bytes}
+use Rattle.route_msgs.specs.AddrInfo.{addrs_of, address_bytes}
 use Rattle.route_msgs.specs.declared.header.Header.{Header}
 use Rattle.route_msgs.specs.declared.header.IfaHeader.{IfaHeader}
-use Rattle.route_msgs.specs.declared.texts.Texts.{Texts}
+use Rattle.route_msgs.specs.declared.addr_info.AddrInfo.{AddrInfo}
 use Rattle.route_msgs.proofs.FieldsRead.{both, is_apart, length-with_field, number_at-append, number_at-with_field, read_apart}
 
 -- all of the fields lie among so many bytes, and apart from this place
@@ -54,8 +54,8 @@ first_says n others behind some fits apart =
     let rest = kept n 0 2 others (with_field first zeros) (length-with_field first zeros room ∙ all) apart in
     headed (with_fields (first ∷ others) zeros) behind n rest.size some (rest.number ∙ number_at-with_field first zeros room small)
 
-pub route_says : (h : Header) (ts : Texts) → 76 + length (text_bytes ts) ≤ 256 → SaysLength (76 + length (text_bytes ts)) (route_message h ts)
-route_says h ts fits = first_says 76 (drop 1 (route_fields (76 + length (text_bytes ts)) (addrs_of ts) h)) (text_bytes ts) (lit≤ tt) fits refl
+pub route_says : (h : Header) (info : AddrInfo) → 76 + length (address_bytes info) ≤ 256 → SaysLength (76 + length (address_bytes info)) (route_message h info)
+route_says h info fits = first_says 76 (drop 1 (route_fields (76 + length (address_bytes info)) (addrs_of info) h)) (address_bytes info) (lit≤ tt) fits refl
 
-pub ifa_says : (h : IfaHeader) (ts : Texts) → 20 + length (text_bytes ts) ≤ 256 → SaysLength (20 + length (text_bytes ts)) (ifa_message h ts)
-ifa_says h ts fits = first_says 20 (drop 1 (ifa_fields (20 + length (text_bytes ts)) (addrs_of ts) h)) (text_bytes ts) (lit≤ tt) fits refl
+pub ifa_says : (h : IfaHeader) (info : AddrInfo) → 20 + length (address_bytes info) ≤ 256 → SaysLength (20 + length (address_bytes info)) (ifa_message h info)
+ifa_says h info fits = first_says 20 (drop 1 (ifa_fields (20 + length (address_bytes info)) (addrs_of info) h)) (address_bytes info) (lit≤ tt) fits refl

@@ -1,33 +1,33 @@
 -- Messages worked out by hand: an interface le0 with the address 10.0.0.1/8, and a question for the route to 10.9.9.9.
 use Rattle.std.specs.Prelude.{ℕ, List, [], ◌∷◌, ◌++◌, replicate, Some, None}
 use Rattle.std.specs.List.{flat_map}
-use Rattle.sock_addrs.specs.Texts.{inet_text, mask_text}
+use Rattle.sock_addrs.specs.Sockaddrs.{inet_sockaddr, mask_sockaddr}
 use Rattle.byteorder.specs.Endian.{big_bytes}
 use Rattle.route_msgs.specs.Headers.{blank}
-use Rattle.route_msgs.specs.Texts.{no_texts, padded}
+use Rattle.route_msgs.specs.AddrInfo.{no_addresses, padded}
 use Rattle.route_msgs.specs.declared.header.Header.{Header}
 use Rattle.route_msgs.specs.declared.header.IfaHeader.{IfaHeader}
 use Rattle.route_msgs.specs.declared.parsed.Parsed.{Parsed}
-use Rattle.route_msgs.specs.declared.texts.Texts.{Texts}
+use Rattle.route_msgs.specs.declared.addr_info.AddrInfo.{AddrInfo}
 
 -- words of four bytes
 abbrev pub words : List ℕ → List ℕ
 words ws = flat_map (big_bytes 4) ws
 
 -- the address is announced
-abbrev pub announced_header : IfaHeader
-announced_header = record { kind = 12; addrs = 0; flags = 0x100; index = 1; padding = 0; metric = 0 }
+abbrev pub announcement_header : IfaHeader
+announcement_header = record { kind = 12; addrs = 0; flags = 0x100; index = 1; padding = 0; metric = 0 }
 
-abbrev pub announced_texts : Texts
-announced_texts = record no_texts {
-  netmask = Some (mask_text 8);
+abbrev pub announcement_addresses : AddrInfo
+announcement_addresses = record no_addresses {
+  netmask = Some (mask_sockaddr 8);
   ifp = Some (padded (words (0x14120001 ∷ 0x06030600 ∷ 0x6c653008 ∷ 0x00200102 ∷ 0x03000000 ∷ [])));
-  ifa = Some (inet_text 0x0a000001);
-  brd = Some (inet_text 0x0affffff);
+  ifa = Some (inet_sockaddr 0x0a000001);
+  brd = Some (inet_sockaddr 0x0affffff);
 }
 
-abbrev pub announced : List ℕ
-announced =
+abbrev pub announcement : List ℕ
+announcement =
     words (0x0050030c ∷ 0x000000b4 ∷ 0x00000100 ∷ 0x00010000 ∷ 0 ∷ [])
     ++ words (0x05000000 ∷ 0xff000000 ∷ [])
     ++ words (0x14120001 ∷ 0x06030600 ∷ 0x6c653008 ∷ 0x00200102 ∷ 0x03000000 ∷ [])
@@ -35,25 +35,25 @@ announced =
     ++ words (0x10020000 ∷ 0x0affffff ∷ 0 ∷ 0 ∷ [])
 
 -- the address's route, with its destination, its gateway and its mask
-abbrev pub route_texts : Texts
-route_texts = record no_texts { dst = Some (inet_text 0x0a000000); gateway = Some (inet_text 0x0a000001); netmask = Some (mask_text 8) }
+abbrev pub network_addresses : AddrInfo
+network_addresses = record no_addresses { dst = Some (inet_sockaddr 0x0a000000); gateway = Some (inet_sockaddr 0x0a000001); netmask = Some (mask_sockaddr 8) }
 
-abbrev pub route_words : List ℕ
-route_words = words (0x10020000 ∷ 0x0a000000 ∷ 0 ∷ 0 ∷ 0x10020000 ∷ 0x0a000001 ∷ 0 ∷ 0 ∷ 0x05000000 ∷ 0xff000000 ∷ [])
+abbrev pub network_words : List ℕ
+network_words = words (0x10020000 ∷ 0x0a000000 ∷ 0 ∷ 0 ∷ 0x10020000 ∷ 0x0a000001 ∷ 0 ∷ 0 ∷ 0x05000000 ∷ 0xff000000 ∷ [])
 
 -- it is added
-abbrev pub added_header : Header
-added_header = record (blank 1) { index = 1; flags = 0x101 }
+abbrev pub addition_header : Header
+addition_header = record (blank 1) { index = 1; flags = 0x101 }
 
-abbrev pub added : List ℕ
-added = words (0x00740301 ∷ 0x00010000 ∷ 0x00000101 ∷ 0x00000007 ∷ []) ++ replicate 60 0 ++ route_words
+abbrev pub addition : List ℕ
+addition = words (0x00740301 ∷ 0x00010000 ∷ 0x00000101 ∷ 0x00000007 ∷ []) ++ replicate 60 0 ++ network_words
 
 -- process 100 asked for it, and this is the reply
-abbrev pub reply_header : Header
-reply_header = record (blank 4) { flags = 0x141; pid = 100; seq = 1 }
+abbrev pub answer_header : Header
+answer_header = record (blank 4) { flags = 0x141; pid = 100; seq = 1 }
 
-abbrev pub reply : List ℕ
-reply = words (0x00740304 ∷ 0 ∷ 0x00000141 ∷ 0x00000007 ∷ 0x00000064 ∷ 0x00000001 ∷ []) ++ replicate 52 0 ++ route_words
+abbrev pub answer : List ℕ
+answer = words (0x00740304 ∷ 0 ∷ 0x00000141 ∷ 0x00000007 ∷ 0x00000064 ∷ 0x00000001 ∷ []) ++ replicate 52 0 ++ network_words
 
 -- the question
 abbrev pub question : List ℕ

@@ -1,7 +1,7 @@
+pub mod AddrInfo
 pub mod Examples
 pub mod Headers
 pub mod Layout
 pub mod Slots
-pub mod Text
-pub mod Texts
+pub mod Sockaddr
 pub mod Written

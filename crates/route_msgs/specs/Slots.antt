@@ -4,6 +4,7 @@ use Rattle.std.specs.Int.{bit_at}
 use Rattle.sock_addrs.specs.Rounding.{rounded}
 use Rattle.route_msgs.specs.Layout.{number_at}
 use Rattle.route_msgs.specs.Headers.{header_in}
+use Rattle.route_msgs.specs.declared.kinds.TheConstants.{RTM_VERSION}
 use Rattle.route_msgs.specs.declared.parsed.Slot.{Slot}
 use Rattle.route_msgs.specs.declared.parsed.Parsed.{Parsed}
 use Rattle.route_msgs.specs.declared.parsed.MsgErr.{MsgErr}
@@ -30,15 +31,15 @@ abbrev pub slot_at : List ℕ → ℕ → ℕ → Option Slot
 slot_at m k at = if is_there_at m k at then Some (record { start = at; len = max 1 (slice_index m at) }) else None
 
 -- where an address would begin: behind the header and all named addresses before it that are there
-unfoldable pub place : List ℕ → ℕ → ℕ
-place m zero = 76
-place m (suc k) = place m k + room_at m k (place m k)
+unfoldable pub offset_of : List ℕ → ℕ → ℕ
+offset_of m zero = 76
+offset_of m (suc k) = offset_of m k + room_at m k (offset_of m k)
 
 abbrev pub overruns : List ℕ → ℕ → Bool
-overruns m k = overruns_at m k (place m k)
+overruns m k = overruns_at m k (offset_of m k)
 
 abbrev pub slot_in : List ℕ → ℕ → Option Slot
-slot_in m k = slot_at m k (place m k)
+slot_in m k = slot_at m k (offset_of m k)
 
 -- one of the first addresses overruns
 abbrev pub overruns_below : List ℕ → ℕ → Bool
@@ -51,13 +52,13 @@ slots_in m =
     slot_in m 0 ∷ slot_in m 1 ∷ slot_in m 2 ∷ slot_in m 3 ∷ slot_in m 4 ∷ slot_in m 5 ∷ slot_in m 6 ∷ slot_in m 7 ∷ []
 
 -- the bytes of a slot
-abbrev pub slot_text : Slot → List ℕ → List ℕ
-slot_text s m = take s.len (drop s.start m)
+abbrev pub slot_bytes : Slot → List ℕ → List ℕ
+slot_bytes s m = take s.len (drop s.start m)
 
 -- the bytes of the address that a slot has, where there is one
 abbrev pub address_at : Option Slot → List ℕ → Option (List ℕ)
 address_at None m = None
-address_at (Some s) m = Some (slot_text s m)
+address_at (Some s) m = Some (slot_bytes s m)
 
 -- the bytes of the message's address of this bit, without padding
 abbrev pub address_in : List ℕ → ℕ → Option (List ℕ)
@@ -68,7 +69,7 @@ abbrev pub has_length : List ℕ → Bool
 has_length m = not (nat_lt (length m) 76) && number_at 0 2 m == length m
 
 abbrev pub has_version : List ℕ → Bool
-has_version m = number_at 2 1 m == 3
+has_version m = number_at 2 1 m == RTM_VERSION
 
 -- none of its addresses passes its end
 abbrev pub has_room : List ℕ → Bool

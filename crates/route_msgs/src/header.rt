@@ -1,3 +1,5 @@
+use crate::Metrics;
+
 /// The header of a message about a route (`struct rt_msghdr` of <net/route.h>), but for its length and its version.
 #[derive(Clone, Copy, Debug, Default, PartialEq, Eq)]
 pub struct Header {
@@ -19,10 +21,10 @@ pub struct Header {
     pub errno: u32,
     /// How often the route was used.
     pub use_count: u32,
-    /// Which metrics a writer sets.
+    /// Which metrics a writer sets, of `inits`.
     pub inits: u32,
-    /// locks, mtu, hopcount, expire, recvpipe, sendpipe, ssthresh, rtt, rttvar and pksent (`struct rt_metrics`).
-    pub metrics: [u32; 10],
+    /// The route's metrics.
+    pub metrics: Metrics,
 }
 
 /// The header of a message about an interface's address (`struct ifa_msghdr` of <net/if.h>), but for its length and its

@@ -1,4 +1,7 @@
-//! The types of a message, as <net/route.h> names them.
+//! The version and the types of a message, as <net/route.h> names them.
+
+/// The version of every message.
+pub const RTM_VERSION: u8 = 3;
 
 /// A route was added, or is to be.
 pub const RTM_ADD: u8 = 1;

@@ -1,21 +1,24 @@
 //! Laws of messages: each function does nothing, and its contract is the law.
 
 ghost use Rattle.std.specs.Prelude.{◌≡◌};
-ghost use Rattle.route_msgs.specs.Examples.{added, added_header, announced, announced_header, announced_texts, bare, bare_parsed, question, question_parsed, reply, reply_header, route_texts, short, short_parsed};
+ghost use Rattle.route_msgs.specs.Examples.{addition, addition_header, announcement, announcement_header, announcement_addresses, bare, bare_parsed, question, question_parsed, answer, answer_header, network_addresses, short, short_parsed};
 ghost use Rattle.route_msgs.specs.Headers.{ifa_message, route_message};
 ghost use Rattle.route_msgs.specs.Slots.{ReadsMessage};
-ghost use Rattle.route_msgs.specs.Written.{IfaMessageIsLaidOut, NamedBitsAreTexts, TextsAreRead, WrittenIsRead};
+ghost use Rattle.route_msgs.specs.Written.{IfaMessageIsLaidOut, NamedBitsAreAddresses, SockaddrsAreRead, WrittenIsRead};
 
 use crate::bits::{
     RTA_AUTHOR, RTA_BRD, RTA_DST, RTA_GATEWAY, RTA_GENMASK, RTA_IFA, RTA_IFP, RTA_NETMASK,
 };
 use crate::flags::{
     RTF_BLACKHOLE, RTF_CLONING, RTF_DONE, RTF_DYNAMIC, RTF_GATEWAY, RTF_HOST, RTF_LLINFO, RTF_MASK,
-    RTF_MODIFIED, RTF_REJECT, RTF_STATIC, RTF_UP, RTF_XRESOLVE,
+    RTF_MODIFIED, RTF_PROTO1, RTF_PROTO2, RTF_REJECT, RTF_STATIC, RTF_UP, RTF_XRESOLVE,
+};
+use crate::inits::{
+    RTV_EXPIRE, RTV_HOPCOUNT, RTV_MTU, RTV_RPIPE, RTV_RTT, RTV_RTTVAR, RTV_SPIPE, RTV_SSTHRESH,
 };
 use crate::kinds::{
     RTM_ADD, RTM_CHANGE, RTM_DELADDR, RTM_DELETE, RTM_GET, RTM_LOCK, RTM_MISS, RTM_NEWADDR,
-    RTM_REDIRECT, RTM_RESOLVE,
+    RTM_REDIRECT, RTM_RESOLVE, RTM_VERSION,
 };
 
 /// A message about a route that was written is read as the header and the addresses that it was written from.
@@ -24,8 +27,8 @@ pub fn written_is_read()
 {}
 
 /// Where a slot of such a message begins stand the bytes of its address.
-pub fn texts_are_read()
-    ensures { TextsAreRead }
+pub fn sockaddrs_are_read()
+    ensures { SockaddrsAreRead }
 {}
 
 /// A message about an interface's address that was written has its fields at their offsets, and its addresses behind them.
@@ -34,15 +37,15 @@ pub fn ifa_message_is_laid_out()
 {}
 
 /// Of the field that names addresses, a bit is set exactly where its address is there.
-pub fn named_bits_are_texts()
-    ensures { NamedBitsAreTexts }
+pub fn named_bits_are_addresses()
+    ensures { NamedBitsAreAddresses }
 {}
 
 /// Messages that are written, worked out: an address is announced, its route is added, and a question for it is answered.
 pub fn writing_by_example()
-    ensures announced { ifa_message announced_header announced_texts ≡ announced }
-    ensures added { route_message added_header route_texts ≡ added }
-    ensures reply { route_message reply_header route_texts ≡ reply }
+    ensures announcement { ifa_message announcement_header announcement_addresses ≡ announcement }
+    ensures addition { route_message addition_header network_addresses ≡ addition }
+    ensures answer { route_message answer_header network_addresses ≡ answer }
 {}
 
 /// Messages that are read, worked out: a question; one that ends where its destination would begin, which then isn't
@@ -51,6 +54,11 @@ pub fn reading_by_example()
     ensures question { ReadsMessage question (Ok question_parsed) }
     ensures bare { ReadsMessage bare (Ok bare_parsed) }
     ensures short { ReadsMessage short (Ok short_parsed) }
+{}
+
+/// The version of a message, by its number in <net/route.h>.
+pub fn version_by_number()
+    ensures { RTM_VERSION ≡ 3 }
 {}
 
 /// The bits of the addrs field, by their numbers in <net/route.h>.
@@ -80,6 +88,20 @@ pub fn flags_by_number()
     ensures llinfo { RTF_LLINFO ≡ 0x400 }
     ensures by_hand { RTF_STATIC ≡ 0x800 }
     ensures blackhole { RTF_BLACKHOLE ≡ 0x1000 }
+    ensures proto2 { RTF_PROTO2 ≡ 0x4000 }
+    ensures proto1 { RTF_PROTO1 ≡ 0x8000 }
+{}
+
+/// The bits of the inits field, by their numbers in <net/route.h>.
+pub fn inits_by_number()
+    ensures mtu { RTV_MTU ≡ 0x1 }
+    ensures hopcount { RTV_HOPCOUNT ≡ 0x2 }
+    ensures expire { RTV_EXPIRE ≡ 0x4 }
+    ensures recvpipe { RTV_RPIPE ≡ 0x8 }
+    ensures sendpipe { RTV_SPIPE ≡ 0x10 }
+    ensures ssthresh { RTV_SSTHRESH ≡ 0x20 }
+    ensures rtt { RTV_RTT ≡ 0x40 }
+    ensures rttvar { RTV_RTTVAR ≡ 0x80 }
 {}
 
 /// A message's types, by their numbers in <net/route.h>.

@@ -1,5 +1,5 @@
 ghost use Rattle.std.specs.Prelude.{◌≡◌, ◌+◌, ◌<◌, ◌≤◌, length, get_or, MatchOption};
-ghost use Rattle.route_msgs.specs.Slots.{SlotsAreWithin, address_at, slot_text};
+ghost use Rattle.route_msgs.specs.Slots.{SlotsAreWithin, address_at, slot_bytes};
 
 use crate::Header;
 use thiserror::Error;
@@ -15,9 +15,9 @@ pub struct Slot {
 
 impl Slot {
     /// The address's bytes in its message.
-    pub fn text(self, message: &[u8]) -> &[u8]
+    pub fn bytes(self, message: &[u8]) -> &[u8]
         requires { self.start + self.len ≤ length message.now }
-        ensures { result.now ≡ slot_text self message.now }
+        ensures { result.now ≡ slot_bytes self message.now }
     {
         &message[self.start..self.start + self.len]
     }
@@ -38,10 +38,10 @@ impl Parsed {
     pub fn address<'a>(&self, bit: usize, message: &'a [u8]) -> Option<&'a [u8]>
         requires bit { bit < 8 }
         requires within { SlotsAreWithin (length message.now) self.now.slots }
-        ensures { let address = address_at (get_or self.now.slots bit None) message.now in MatchOption result (address ≡ None) (λ text. address ≡ Some text.now) }
+        ensures { let address = address_at (get_or self.now.slots bit None) message.now in MatchOption result (address ≡ None) (λ sockaddr. address ≡ Some sockaddr.now) }
     {
         let slot = self.slots[bit]?;
-        Some(slot.text(message))
+        Some(slot.bytes(message))
     }
 }
 

@@ -4,11 +4,9 @@ ghost use Rattle.route_msgs.specs.Headers.{header_in, metrics_in};
 ghost use Rattle.route_msgs.specs.Slots.{IsWithin, ReadsMessage, SlotsAreWithin, has_length as has_length_said, has_room, overruns_at, slot_at as slot_at_place, slots_in};
 
 use crate::fields::{u8_at, u16_at, u32_at};
-use crate::{Header, MsgErr, Parsed, Slot};
+use crate::kinds::RTM_VERSION;
+use crate::{Header, Metrics, MsgErr, Parsed, Slot};
 use sock_addrs::round;
-
-/// The version of every message (`RTM_VERSION`).
-pub(crate) const VERSION: u8 = 3;
 
 /// Takes a message about a route apart, into the fields of its header and the places of its addresses.
 ///
@@ -23,7 +21,7 @@ pub fn read_message(message: &[u8]) -> Result<Parsed, MsgErr>
     if !has_length(message) {
         return Err(MsgErr::Length);
     }
-    if u8_at(message, 2) != VERSION {
+    if u8_at(message, 2) != RTM_VERSION {
         return Err(MsgErr::Version);
     }
     let header = read_header(message);
@@ -59,26 +57,26 @@ fn read_header(message: &[u8]) -> Header
     }
 }
 
-fn read_metrics(message: &[u8]) -> [u32; 10]
+fn read_metrics(message: &[u8]) -> Metrics
     requires { 76 ≤ length message.now }
     ensures { result ≡ metrics_in message.now }
 {
-    [
-        u32_at(message, 36),
-        u32_at(message, 40),
-        u32_at(message, 44),
-        u32_at(message, 48),
-        u32_at(message, 52),
-        u32_at(message, 56),
-        u32_at(message, 60),
-        u32_at(message, 64),
-        u32_at(message, 68),
-        u32_at(message, 72),
-    ]
+    Metrics {
+        locks: u32_at(message, 36),
+        mtu: u32_at(message, 40),
+        hopcount: u32_at(message, 44),
+        expire: u32_at(message, 48),
+        recvpipe: u32_at(message, 52),
+        sendpipe: u32_at(message, 56),
+        ssthresh: u32_at(message, 60),
+        rtt: u32_at(message, 64),
+        rttvar: u32_at(message, 68),
+        pksent: u32_at(message, 72),
+    }
 }
 
-/// The places of the addresses that `addrs` names, or `Overrun`.
-#[tactic(auto, using(crate::proofs::Places::place_first, crate::proofs::Places::no_room))]
+/// The slots of the addresses that `addrs` names, or `Overrun`.
+#[tactic(auto, using(crate::proofs::Offsets::offset_first, crate::proofs::Offsets::no_room))]
 fn read_slots(message: &[u8], addrs: u32) -> Result<[Option<Slot>; 8], MsgErr>
     requires header { 76 ≤ length message.now }
     requires most { length message.now < 65536 }
@@ -98,7 +96,7 @@ fn read_slots(message: &[u8], addrs: u32) -> Result<[Option<Slot>; 8], MsgErr>
     Ok(slots)
 }
 
-/// The place of one address, which would begin at `at`, or `Overrun`.
+/// The slot of one address, which would begin at `at`, or `Overrun`.
 fn slot_at(message: &[u8], addrs: u32, bit: usize, at: usize) -> Result<Option<Slot>, MsgErr>
     requires bit { bit < 8 }
     requires small { at < 65536 }

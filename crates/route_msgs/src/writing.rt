@@ -1,37 +1,40 @@
 ghost use Rattle.std.specs.Prelude.{◌≡◌, ◌+◌, ◌≤◌, ◌++◌, length};
-ghost use Rattle.route_msgs.specs.Texts.{text_bytes};
+ghost use Rattle.route_msgs.specs.AddrInfo.{address_bytes};
 ghost use Rattle.route_msgs.specs.Layout.{number_at, with_fields};
 ghost use Rattle.route_msgs.specs.Headers.{ifa_head, ifa_message, metric_fields, route_head, route_message};
 
 use crate::fields::{patch_u8, patch_u16, patch_u32};
-use crate::reading::VERSION;
-use crate::{Header, IfaHeader, Texts};
+use crate::kinds::RTM_VERSION;
+use crate::{AddrInfo, Header, IfaHeader, Metrics};
 use arrayvec::ArrayVec;
 
 /// Writes a message about a route: the header with the message's length and version 3, and behind it the addresses. The
 /// addrs field names the addresses that are given, whatever `header.addrs` says.
-pub fn write_route_msg(header: &Header, texts: &Texts) -> ArrayVec<u8, 256>
-    requires { 76 + length (text_bytes texts.now) ≤ 256 }
-    ensures message { result.items ≡ route_message header.now texts.now }
-    ensures size { length result.items ≡ 76 + length (text_bytes texts.now) }
+pub fn write_route_msg(header: &Header, addresses: &AddrInfo) -> ArrayVec<u8, 256>
+    requires { 76 + length (address_bytes addresses.now) ≤ 256 }
+    ensures message { result.items ≡ route_message header.now addresses.now }
+    ensures size { length result.items ≡ 76 + length (address_bytes addresses.now) }
     ensures says_size { number_at 0 2 result.items ≡ length result.items }
 {
-    let behind = texts.bytes();
+    let behind = addresses.bytes();
     let size = 76 + behind.len();
-    joined(&route_header(header, size as u16, texts.addrs()), &behind)
+    joined(
+        &route_header(header, size as u16, addresses.addrs()),
+        &behind,
+    )
 }
 
 /// Writes a message about an interface's address: the header with the message's length and version 3, and behind it the
 /// addresses. The addrs field names the addresses that are given, whatever `header.addrs` says.
-pub fn write_ifa_msg(header: &IfaHeader, texts: &Texts) -> ArrayVec<u8, 256>
-    requires { 20 + length (text_bytes texts.now) ≤ 256 }
-    ensures message { result.items ≡ ifa_message header.now texts.now }
-    ensures size { length result.items ≡ 20 + length (text_bytes texts.now) }
+pub fn write_ifa_msg(header: &IfaHeader, addresses: &AddrInfo) -> ArrayVec<u8, 256>
+    requires { 20 + length (address_bytes addresses.now) ≤ 256 }
+    ensures message { result.items ≡ ifa_message header.now addresses.now }
+    ensures size { length result.items ≡ 20 + length (address_bytes addresses.now) }
     ensures says_size { number_at 0 2 result.items ≡ length result.items }
 {
-    let behind = texts.bytes();
+    let behind = addresses.bytes();
     let size = 20 + behind.len();
-    joined(&ifa_header(header, size as u16, texts.addrs()), &behind)
+    joined(&ifa_header(header, size as u16, addresses.addrs()), &behind)
 }
 
 fn joined(head: &[u8], behind: &[u8]) -> ArrayVec<u8, 256>
@@ -49,7 +52,7 @@ fn route_header(header: &Header, size: u16, addrs: u32) -> [u8; 76]
 {
     let mut head = [0; 76];
     patch_u16(&mut head, 0, size);
-    patch_u8(&mut head, 2, VERSION);
+    patch_u8(&mut head, 2, RTM_VERSION);
     patch_u8(&mut head, 3, header.kind);
     patch_u16(&mut head, 4, header.index);
     patch_u16(&mut head, 6, header.padding);
@@ -64,32 +67,20 @@ fn route_header(header: &Header, size: u16, addrs: u32) -> [u8; 76]
     head
 }
 
-fn write_metrics(metrics: &[u32; 10], head: &mut [u8])
+fn write_metrics(metrics: &Metrics, head: &mut [u8])
     requires { length head.old ≡ 76 }
     ensures { head.new ≡ with_fields (metric_fields metrics.now) head.old }
 {
-    let [
-        locks,
-        mtu,
-        hopcount,
-        expire,
-        recvpipe,
-        sendpipe,
-        ssthresh,
-        rtt,
-        rttvar,
-        pksent,
-    ] = *metrics;
-    patch_u32(head, 36, locks);
-    patch_u32(head, 40, mtu);
-    patch_u32(head, 44, hopcount);
-    patch_u32(head, 48, expire);
-    patch_u32(head, 52, recvpipe);
-    patch_u32(head, 56, sendpipe);
-    patch_u32(head, 60, ssthresh);
-    patch_u32(head, 64, rtt);
-    patch_u32(head, 68, rttvar);
-    patch_u32(head, 72, pksent);
+    patch_u32(head, 36, metrics.locks);
+    patch_u32(head, 40, metrics.mtu);
+    patch_u32(head, 44, metrics.hopcount);
+    patch_u32(head, 48, metrics.expire);
+    patch_u32(head, 52, metrics.recvpipe);
+    patch_u32(head, 56, metrics.sendpipe);
+    patch_u32(head, 60, metrics.ssthresh);
+    patch_u32(head, 64, metrics.rtt);
+    patch_u32(head, 68, metrics.rttvar);
+    patch_u32(head, 72, metrics.pksent);
 }
 
 fn ifa_header(header: &IfaHeader, size: u16, addrs: u32) -> [u8; 20]
@@ -97,7 +88,7 @@ fn ifa_header(header: &IfaHeader, size: u16, addrs: u32) -> [u8; 20]
 {
     let mut head = [0; 20];
     patch_u16(&mut head, 0, size);
-    patch_u8(&mut head, 2, VERSION);
+    patch_u8(&mut head, 2, RTM_VERSION);
     patch_u8(&mut head, 3, header.kind);
     patch_u32(&mut head, 4, addrs);
     patch_u32(&mut head, 8, header.flags);

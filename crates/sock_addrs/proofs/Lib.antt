@@ -1,6 +1,7 @@
 pub mod Below
 pub mod FirstLemmas
 pub mod LinkCells
+pub mod MaskRead
 pub mod ReadOnce
 pub mod RoundingLaws
 pub mod WrittenRead

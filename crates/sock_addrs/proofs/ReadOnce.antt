@@ -1,8 +1,8 @@
--- Each text is read, and in one way alone.
+-- Each sockaddr is read, and in one way alone.
 use Rattle.std.proofs.Common.{◌≡◌, ℕ, ◌<◌, ◌≤◌, ◌⊎◌, inl, inr, zero, suc, List, length, Result, Ok, Err, sym, ◌∙◌, ap, refl, arith}
 use Rattle.std.specs.Int.{IsOutOfRange}
 use Rattle.std.proofs.lemmas.Bool.{cases_eq, cases_lt}
-use Rattle.sock_addrs.specs.Texts.{family, mask_number}
+use Rattle.sock_addrs.specs.Sockaddrs.{family, mask_number}
 use Rattle.sock_addrs.specs.Reading.{length_byte, number_of_mask, IsShort, IsWhole, ReadsInet, ReadsGate, ReadsMask, IsReadOnce}
 use Rattle.sock_addrs.specs.declared.bad_addr.BadAddr.{BadAddr}
 use Rattle.sock_addrs.specs.declared.bad_addr.BadAddr.TheVariants as bad
@@ -10,10 +10,10 @@ use Rattle.sock_addrs.specs.declared.gate.Gate.{Gate}
 use Rattle.sock_addrs.specs.declared.gate.Gate.TheVariants as gate
 use Rattle.sock_addrs.proofs.WrittenRead.{same_mask}
 
-short_or_whole : (text : List ℕ) → IsShort text ⊎ IsWhole text
-short_or_whole text = elim (cases_eq (length text) 0) [
+short_or_whole : (sockaddr : List ℕ) → IsShort sockaddr ⊎ IsWhole sockaddr
+short_or_whole sockaddr = elim (cases_eq (length sockaddr) 0) [
   | inl none ↦ inl (inl none)
-  | inr some ↦ elim (cases_lt (length text) (length_byte text)) [
+  | inr some ↦ elim (cases_lt (length sockaddr) (length_byte sockaddr)) [
     | inl short ↦ inl (inr short)
     | inr all ↦ inr (record { some = omega arith; all = all })
   ]
@@ -30,44 +30,44 @@ the_only : {A : Type 0} (Reads : Result A BadAddr → Type 0) → ((r s : Result
     → (result : Result A BadAddr) × Reads result × ((other : Result A BadAddr) → Reads other → other ≡ result)
 the_only Reads single r h = (r, h, λ other k. single r other h k)
 
-inet_single : (text : List ℕ) (r s : Result ℕ BadAddr) → ReadsInet text r → ReadsInet text s → s ≡ r
-inet_single text (Ok a) (Ok b) h k = ap Ok (sym k.number ∙ h.number)
-inet_single text (Err bad.Short) (Err bad.Short) h k = refl
-inet_single text (Err bad.Family) (Err bad.Family) h k = refl
-inet_single text (Err bad.Length) (Err bad.Length) h k = refl
-inet_single text r s h k = absurd (grind arith)
+inet_single : (sockaddr : List ℕ) (r s : Result ℕ BadAddr) → ReadsInet sockaddr r → ReadsInet sockaddr s → s ≡ r
+inet_single sockaddr (Ok a) (Ok b) h k = ap Ok (sym k.number ∙ h.number)
+inet_single sockaddr (Err bad.Short) (Err bad.Short) h k = refl
+inet_single sockaddr (Err bad.Family) (Err bad.Family) h k = refl
+inet_single sockaddr (Err bad.Length) (Err bad.Length) h k = refl
+inet_single sockaddr r s h k = absurd (grind arith)
 
 pub inet_read_once : IsReadOnce ReadsInet
-inet_read_once text = let by = the_only (ReadsInet text) (inet_single text) in elim (short_or_whole text) [
+inet_read_once sockaddr = let by = the_only (ReadsInet sockaddr) (inet_single sockaddr) in elim (short_or_whole sockaddr) [
   | inl short ↦ by (Err bad.Short) short
-  | inr whole ↦ elim (cases_eq (family text) 2) [
+  | inr whole ↦ elim (cases_eq (family sockaddr) 2) [
     | inr other ↦ by (Err bad.Family) (whole, other)
-    | inl two ↦ elim (in_or_out 8 16 (length_byte text)) [
+    | inl two ↦ elim (in_or_out 8 16 (length_byte sockaddr)) [
       | inl out ↦ by (Err bad.Length) (whole, two, out)
       | inr within ↦ by (Ok _) (record { whole = whole; family = two; least = within.0; most = within.1; number = refl })
     ]
   ]
 ]
 
-gate_single : (text : List ℕ) (r s : Result Gate BadAddr) → ReadsGate text r → ReadsGate text s → s ≡ r
-gate_single text (Ok (gate.Inet a)) (Ok (gate.Inet b)) h k = ap (λ (n : ℕ). Ok (gate.Inet n)) (sym k.number ∙ h.number)
-gate_single text (Ok (gate.Link a)) (Ok (gate.Link b)) h k = ap (λ (bytes : List ℕ). Ok (gate.Link bytes)) (sym k.bytes ∙ h.bytes)
-gate_single text (Err bad.Short) (Err bad.Short) h k = refl
-gate_single text (Err bad.Family) (Err bad.Family) h k = refl
-gate_single text (Err bad.Length) (Err bad.Length) h k = refl
-gate_single text r s h k = absurd (grind arith)
+gate_single : (sockaddr : List ℕ) (r s : Result Gate BadAddr) → ReadsGate sockaddr r → ReadsGate sockaddr s → s ≡ r
+gate_single sockaddr (Ok (gate.Inet a)) (Ok (gate.Inet b)) h k = ap (λ (n : ℕ). Ok (gate.Inet n)) (sym k.number ∙ h.number)
+gate_single sockaddr (Ok (gate.Link a)) (Ok (gate.Link b)) h k = ap (λ (bytes : List ℕ). Ok (gate.Link bytes)) (sym k.bytes ∙ h.bytes)
+gate_single sockaddr (Err bad.Short) (Err bad.Short) h k = refl
+gate_single sockaddr (Err bad.Family) (Err bad.Family) h k = refl
+gate_single sockaddr (Err bad.Length) (Err bad.Length) h k = refl
+gate_single sockaddr r s h k = absurd (grind arith)
 
 pub gate_read_once : IsReadOnce ReadsGate
-gate_read_once text = let by = the_only (ReadsGate text) (gate_single text) in elim (short_or_whole text) [
+gate_read_once sockaddr = let by = the_only (ReadsGate sockaddr) (gate_single sockaddr) in elim (short_or_whole sockaddr) [
   | inl short ↦ by (Err bad.Short) short
-  | inr whole ↦ elim (cases_eq (family text) 2) [
-    | inl two ↦ elim (in_or_out 8 16 (length_byte text)) [
+  | inr whole ↦ elim (cases_eq (family sockaddr) 2) [
+    | inl two ↦ elim (in_or_out 8 16 (length_byte sockaddr)) [
       | inl out ↦ by (Err bad.Length) (whole, inl (two, out))
       | inr within ↦ by (Ok (gate.Inet _)) (record { whole = whole; family = two; least = within.0; most = within.1; number = refl })
     ]
-    | inr not_inet ↦ elim (cases_eq (family text) 18) [
+    | inr not_inet ↦ elim (cases_eq (family sockaddr) 18) [
       | inr other ↦ by (Err bad.Family) (whole, not_inet, other)
-      | inl eighteen ↦ elim (in_or_out 8 32 (length_byte text)) [
+      | inl eighteen ↦ elim (in_or_out 8 32 (length_byte sockaddr)) [
         | inl out ↦ by (Err bad.Length) (whole, inr (eighteen, out))
         | inr within ↦ by (Ok (gate.Link _)) (record { whole = whole; family = eighteen; least = within.0; most = within.1; bytes = refl })
       ]
@@ -86,21 +86,21 @@ mask_or_none (suc k) number = elim (cases_eq number (mask_number k)) [
   ]
 ]
 
-mask_single : (text : List ℕ) (r s : Result ℕ BadAddr) → ReadsMask text r → ReadsMask text s → s ≡ r
-mask_single text (Ok p) (Ok q) h k = ap Ok (same_mask q p k.fits h.fits (sym k.ones_first ∙ h.ones_first))
-mask_single text (Ok p) (Err bad.NotContiguous) h k = absurd (k.2 p h.fits h.ones_first)
-mask_single text (Err bad.NotContiguous) (Ok q) h k = absurd (h.2 q k.fits k.ones_first)
-mask_single text (Err bad.Short) (Err bad.Short) h k = refl
-mask_single text (Err bad.Length) (Err bad.Length) h k = refl
-mask_single text (Err bad.NotContiguous) (Err bad.NotContiguous) h k = refl
-mask_single text r s h k = absurd (grind arith)
+pub mask_single : (sockaddr : List ℕ) (r s : Result ℕ BadAddr) → ReadsMask sockaddr r → ReadsMask sockaddr s → s ≡ r
+mask_single sockaddr (Ok p) (Ok q) h k = ap Ok (same_mask q p k.fits h.fits (sym k.ones_first ∙ h.ones_first))
+mask_single sockaddr (Ok p) (Err bad.NotContiguous) h k = absurd (k.2 p h.fits h.ones_first)
+mask_single sockaddr (Err bad.NotContiguous) (Ok q) h k = absurd (h.2 q k.fits k.ones_first)
+mask_single sockaddr (Err bad.Short) (Err bad.Short) h k = refl
+mask_single sockaddr (Err bad.Length) (Err bad.Length) h k = refl
+mask_single sockaddr (Err bad.NotContiguous) (Err bad.NotContiguous) h k = refl
+mask_single sockaddr r s h k = absurd (grind arith)
 
 pub mask_read_once : IsReadOnce ReadsMask
-mask_read_once text = let by = the_only (ReadsMask text) (mask_single text) in elim (short_or_whole text) [
+mask_read_once sockaddr = let by = the_only (ReadsMask sockaddr) (mask_single sockaddr) in elim (short_or_whole sockaddr) [
   | inl short ↦ by (Err bad.Short) short
-  | inr whole ↦ elim (cases_lt 16 (length_byte text)) [
+  | inr whole ↦ elim (cases_lt 16 (length_byte sockaddr)) [
     | inl long ↦ by (Err bad.Length) (whole, long)
-    | inr most ↦ elim (mask_or_none 33 (number_of_mask text)) [
+    | inr most ↦ elim (mask_or_none 33 (number_of_mask sockaddr)) [
       | inl found ↦ by (Ok found.0) (record { whole = whole; most = most; fits = omega (arith, found.1); ones_first = found.2 })
       | inr none ↦ by (Err bad.NotContiguous) (whole, most, λ bits fits e. none bits (omega arith) e)
     ]

@@ -1,4 +1,4 @@
--- What is written of an address is read again, and of two masks the texts differ.
+-- What is written of an address is read again, and two masks are written differently.
 use Rattle.std.proofs.Common.{◌≡◌, ℕ, ◌+◌, ◌-◌, ◌/◌, ◌%◌, ◌^◌, ◌<◌, ◌≤◌, Bool, true, false, nat_eq, nat_le, nat_lt, not, eq-eqb, suc, zero, inl, inr, List, ◌++◌, length, take, drop, sym, ◌∙◌, ap, refl, arith, lit≤, length-append}
 use Rattle.std.specs.Int.{w32, from_be_bytes}
 use Rattle.std.specs.Prelude.{slice_index, if◌then◌else◌}
@@ -8,11 +8,11 @@ use Rattle.std.proofs.lemmas.Bool.{eqb-true, lt-leb, cases_order}
 use Rattle.std.proofs.lemmas.List.{get_or_append_left, take-append-le, length-take-le, get_or-take}
 use Rattle.std.proofs.lemmas.Nat.{from_be_bytes-to_be_bytes_4, pow_below}
 use Rattle.sock_addrs.proofs.Below.{passes_below, passes_at}
-use Rattle.sock_addrs.specs.Texts.{mask_number, mask_text, MaskIsOnesThenZeros, MaskTextsDiffer}
-use Rattle.sock_addrs.specs.Reading.{length_byte, number_of_mask, InetTextIsRead, LinkTextIsRead, ReadLinkIsLinkText, MaskTextIsRead}
+use Rattle.sock_addrs.specs.Sockaddrs.{mask_number, mask_sockaddr, MaskIsOnesThenZeros, MaskSockaddrsDiffer}
+use Rattle.sock_addrs.specs.Reading.{length_byte, number_of_mask, InetSockaddrIsRead, LinkSockaddrIsRead, ReadLinkIsLinkSockaddr, MaskSockaddrIsRead}
 
-pub inet_text_is_read : InetTextIsRead
-inet_text_is_read address h rest = record {
+pub inet_sockaddr_is_read : InetSockaddrIsRead
+inet_sockaddr_is_read address h rest = record {
   whole = record { some = omega arith; all = omega arith };
   family = refl;
   least = lit≤ tt;
@@ -20,8 +20,8 @@ inet_text_is_read address h rest = record {
   number = from_be_bytes-to_be_bytes_4 address h;
 }
 
-pub link_text_is_read : LinkTextIsRead
-link_text_is_read link h rest =
+pub link_sockaddr_is_read : LinkSockaddrIsRead
+link_sockaddr_is_read link h rest =
     let first : length_byte (link ++ rest) ≡ length link = get_or_append_left link rest 0 0 (omega (arith, h.least)) ∙ h.length_byte in
     let second : slice_index (link ++ rest) 1 ≡ 18 = get_or_append_left link rest 0 1 (omega (arith, h.least)) ∙ h.family in
     let size : length (link ++ rest) ≡ length link + length rest = length-append link rest in
@@ -34,14 +34,14 @@ link_text_is_read link h rest =
       bytes = rw first (take-append_seam link rest);
     }
 
-pub read_link_is_link_text : ReadLinkIsLinkText
-read_link_is_link_text text link h =
-    let n = length_byte text in
-    let size : length link ≡ n = ap length (sym h.bytes) ∙ length-take-le n text h.whole.all in
-    let first : slice_index link 0 ≡ n = ap (λ (bytes : List ℕ). slice_index bytes 0) (sym h.bytes) ∙ get_or-take n text 0 0 (omega (arith, h.least)) in
+pub read_link_is_link_sockaddr : ReadLinkIsLinkSockaddr
+read_link_is_link_sockaddr sockaddr link h =
+    let n = length_byte sockaddr in
+    let size : length link ≡ n = ap length (sym h.bytes) ∙ length-take-le n sockaddr h.whole.all in
+    let first : slice_index link 0 ≡ n = ap (λ (bytes : List ℕ). slice_index bytes 0) (sym h.bytes) ∙ get_or-take n sockaddr 0 0 (omega (arith, h.least)) in
     let long : nat_le n 1 ≡ false = lt-leb n 1 (omega (arith, h.least)) in
-    let second_there : slice_index text 1 ≡ 18 = rw long at h.family in
-    let second : slice_index link 1 ≡ slice_index text 1 = ap (λ (bytes : List ℕ). slice_index bytes 1) (sym h.bytes) ∙ get_or-take n text 1 0 (omega (arith, h.least)) in
+    let second_there : slice_index sockaddr 1 ≡ 18 = rw long at h.family in
+    let second : slice_index link 1 ≡ slice_index sockaddr 1 = ap (λ (bytes : List ℕ). slice_index bytes 1) (sym h.bytes) ∙ get_or-take n sockaddr 1 0 (omega (arith, h.least)) in
     record {
       least = omega (arith, size, h.least);
       most = omega (arith, size, h.most);
@@ -49,21 +49,21 @@ read_link_is_link_text text link h =
       family = second ∙ second_there;
     }
 
-mask_number_is_read : (p : ℕ) → p < 33 → nat_eq (number_of_mask (mask_text p)) (mask_number p) ≡ true
+mask_number_is_read : (p : ℕ) → p < 33 → nat_eq (number_of_mask (mask_sockaddr p)) (mask_number p) ≡ true
 unfolding passes_below
-mask_number_is_read p h = passes_at 33 (λ p. nat_eq (number_of_mask (mask_text p)) (mask_number p)) p refl h
+mask_number_is_read p h = passes_at 33 (λ p. nat_eq (number_of_mask (mask_sockaddr p)) (mask_number p)) p refl h
 
-pub mask_text_is_read : MaskTextIsRead
-mask_text_is_read zero h rest = record {
+pub mask_sockaddr_is_read : MaskSockaddrIsRead
+mask_sockaddr_is_read zero h rest = record {
   whole = record { some = omega arith; all = omega arith };
   most = lit≤ tt;
   fits = h;
   ones_first = refl;
 }
-mask_text_is_read (suc p) h rest =
-    let shorter : length_byte (mask_text (suc p)) ≤ length (mask_text (suc p)) = omega arith in
-    let same : take (length_byte (mask_text (suc p))) (mask_text (suc p) ++ rest) ≡ take (length_byte (mask_text (suc p))) (mask_text (suc p)) = take-append-le _ _ rest shorter in
-    let table : number_of_mask (mask_text (suc p)) ≡ mask_number (suc p) = eqb-true _ _ (mask_number_is_read (suc p) (omega arith)) in
+mask_sockaddr_is_read (suc p) h rest =
+    let shorter : length_byte (mask_sockaddr (suc p)) ≤ length (mask_sockaddr (suc p)) = omega arith in
+    let same : take (length_byte (mask_sockaddr (suc p))) (mask_sockaddr (suc p) ++ rest) ≡ take (length_byte (mask_sockaddr (suc p))) (mask_sockaddr (suc p)) = take-append-le _ _ rest shorter in
+    let table : number_of_mask (mask_sockaddr (suc p)) ≡ mask_number (suc p) = eqb-true _ _ (mask_number_is_read (suc p) (omega arith)) in
     record {
       whole = record { some = omega arith; all = omega arith };
       most = omega arith;
@@ -82,10 +82,10 @@ same_mask p q hp hq e =
       ]
     ]
 
-pub mask_texts_differ : MaskTextsDiffer
-mask_texts_differ p q hp hq e =
-    let one : number_of_mask (mask_text p) ≡ mask_number p = eqb-true _ _ (mask_number_is_read p (omega arith)) in
-    let other : number_of_mask (mask_text q) ≡ mask_number q = eqb-true _ _ (mask_number_is_read q (omega arith)) in
+pub mask_sockaddrs_differ : MaskSockaddrsDiffer
+mask_sockaddrs_differ p q hp hq e =
+    let one : number_of_mask (mask_sockaddr p) ≡ mask_number p = eqb-true _ _ (mask_number_is_read p (omega arith)) in
+    let other : number_of_mask (mask_sockaddr q) ≡ mask_number q = eqb-true _ _ (mask_number_is_read q (omega arith)) in
     same_mask p q hp hq (sym one ∙ ap number_of_mask e ∙ other)
 
 -- a bit of the mask's number, and what it has to be

@@ -7,4 +7,4 @@ pub mod Padded
 pub mod Reading
 pub mod Rounding
 pub mod Rules
-pub mod Texts
+pub mod Sockaddrs

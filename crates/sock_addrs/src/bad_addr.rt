@@ -1,6 +1,6 @@
 use thiserror::Error;
 
-/// Why a text is read as no address: the first that holds, in this order.
+/// Why bytes are read as no address: the first that holds, in this order.
 #[derive(Clone, Copy, Debug, PartialEq, Eq, Error)]
 pub enum BadAddr {
     /// There is no byte, or there are fewer than the length byte says.

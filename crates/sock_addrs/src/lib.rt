@@ -4,6 +4,7 @@
 
 mod bad_addr;
 mod errno;
+pub mod families;
 mod gate;
 mod inet;
 pub mod laws;
@@ -19,6 +20,6 @@ pub use gate::Gate;
 pub use inet::Inet;
 pub use link::Link;
 pub use name::Name;
-pub use reading::{family_of, read_inet};
+pub use reading::{family_of, read_gate, read_inet, read_mask};
 pub use rounding::round;
 pub use writing::{write_inet, write_link, write_mask};

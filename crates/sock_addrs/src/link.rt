@@ -16,45 +16,47 @@ impl Model for Link {
     ghost Value = { List ℕ };
 
     ghost use Rattle.sock_addrs.specs.Padded.{padded_to};
-    ghost use Rattle.sock_addrs.specs.Link.{text_in, AreLinkCells, link_again};
+    ghost use Rattle.sock_addrs.specs.Link.{link_in, AreLinkCells, link_again};
 
-    ghost view = { λ a. text_in a.bytes };
+    ghost view = { λ a. link_in a.bytes };
 
     ghost invariant = { λ a. AreLinkCells a.bytes };
 
-    ghost inverse = { λ text. record { bytes = padded_to 32 text } };
+    ghost inverse = { λ sockaddr. record { bytes = padded_to 32 sockaddr } };
 
     ghost inverse_ok = { λ a h. link_again a h };
 }
 
 impl Link {
-    ghost use Rattle.sock_addrs.specs.Link.{IsLinkText};
+    ghost use Rattle.sock_addrs.specs.Link.{IsLinkSockaddr};
 
-    /// The address with these bytes, or `None` where they are no such text.
-    pub fn new(text: &[u8]) -> Option<Link>
-        ensures { SomeIff result (IsLinkText text.now) text.now }
+    /// The address with these bytes, or `None` where they are none.
+    pub fn new(sockaddr: &[u8]) -> Option<Link>
+        ensures { SomeIff result (IsLinkSockaddr sockaddr.now) sockaddr.now }
     {
-        match text {
-            [length, 18, ..] if (8..=32).contains(length) && usize::from(*length) == text.len() => {
-                Some(Link::of(text))
+        match sockaddr {
+            [length, 18, ..]
+                if (8..=32).contains(length) && usize::from(*length) == sockaddr.len() => {
+                Some(Link::of(sockaddr))
             }
             _ => None,
         }
     }
 
-    fn of(text: &[u8]) -> Link
-        requires { IsLinkText text.now }
-        ensures { result ≡ text.now }
+    /// The address with these bytes.
+    pub(crate) fn of(sockaddr: &[u8]) -> Link
+        requires { IsLinkSockaddr sockaddr.now }
+        ensures { result ≡ sockaddr.now }
     {
         let mut bytes = [0; 32];
-        bytes[..text.len()].copy_from_slice(text);
+        bytes[..sockaddr.len()].copy_from_slice(sockaddr);
         Link { bytes }
     }
 
     /// Its bytes, 8 to 32 of them.
     pub fn as_bytes(&self) -> &[u8]
         ensures bytes { result.now ≡ self.now }
-        ensures link { IsLinkText self.now }
+        ensures link { IsLinkSockaddr self.now }
     {
         &self.bytes[..self.bytes[0] as usize]
     }

@@ -1,14 +1,14 @@
 ghost use Rattle.std.specs.Prelude.{◌≡◌, ◌≤◌, ◌++◌, length, drop, min};
-ghost use Rattle.sock_addrs.specs.Texts.{inet_text, mask_number, mask_text};
+ghost use Rattle.sock_addrs.specs.Sockaddrs.{inet_sockaddr, mask_number, mask_sockaddr};
 
 use crate::{Inet, Link};
 
 /// Writes the address as a `struct sockaddr_in` of 16 bytes at the front of `out`: port 0, the address highest byte
 /// first, and zeros. Answers the bytes used.
 pub fn write_inet(address: Inet, out: &mut [u8]) -> usize
-    requires { length (inet_text address) ≤ length out.old }
-    ensures used { result ≡ length (inet_text address) }
-    ensures text { out.new ≡ inet_text address ++ drop (length (inet_text address)) out.old }
+    requires { length (inet_sockaddr address) ≤ length out.old }
+    ensures used { result ≡ length (inet_sockaddr address) }
+    ensures sockaddr { out.new ≡ inet_sockaddr address ++ drop (length (inet_sockaddr address)) out.old }
 {
     let [a, b, c, d] = address.number().to_be_bytes();
     put(&[16, 2, 0, 0, a, b, c, d, 0, 0, 0, 0, 0, 0, 0, 0], out)
@@ -18,7 +18,7 @@ pub fn write_inet(address: Inet, out: &mut [u8]) -> usize
 pub fn write_link(link: Link, out: &mut [u8]) -> usize
     requires { length link ≤ length out.old }
     ensures used { result ≡ length link }
-    ensures text { out.new ≡ link ++ drop (length link) out.old }
+    ensures sockaddr { out.new ≡ link ++ drop (length link) out.old }
 {
     put(link.as_bytes(), out)
 }
@@ -27,9 +27,9 @@ pub fn write_link(link: Link, out: &mut [u8]) -> usize
 /// the mask highest byte first, 8 bytes in all; the mask of no bit is four zeros. A mask has at most 32 bits, and one of more
 /// is written as that of 32. Answers the bytes used.
 pub fn write_mask(prefix: u8, out: &mut [u8]) -> usize
-    requires { length (mask_text (min prefix 32)) ≤ length out.old }
-    ensures used { result ≡ length (mask_text (min prefix 32)) }
-    ensures text { out.new ≡ mask_text (min prefix 32) ++ drop (length (mask_text (min prefix 32))) out.old }
+    requires { length (mask_sockaddr (min prefix 32)) ≤ length out.old }
+    ensures used { result ≡ length (mask_sockaddr (min prefix 32)) }
+    ensures sockaddr { out.new ≡ mask_sockaddr (min prefix 32) ++ drop (length (mask_sockaddr (min prefix 32))) out.old }
 {
     let prefix = prefix.min(32);
     if prefix == 0 {
@@ -40,7 +40,7 @@ pub fn write_mask(prefix: u8, out: &mut [u8]) -> usize
 }
 
 /// The mask of so many bits as a number.
-fn mask_bits(prefix: u8) -> u32
+pub(crate) fn mask_bits(prefix: u8) -> u32
     requires { prefix ≤ 32 }
     ensures { result ≡ mask_number prefix }
 {
@@ -48,11 +48,11 @@ fn mask_bits(prefix: u8) -> u32
     ((1u64 << 32) - clear) as u32
 }
 
-fn put(text: &[u8], out: &mut [u8]) -> usize
-    requires { length text.now ≤ length out.old }
-    ensures used { result ≡ length text.now }
-    ensures text { out.new ≡ text.now ++ drop (length text.now) out.old }
+fn put(sockaddr: &[u8], out: &mut [u8]) -> usize
+    requires { length sockaddr.now ≤ length out.old }
+    ensures used { result ≡ length sockaddr.now }
+    ensures sockaddr { out.new ≡ sockaddr.now ++ drop (length sockaddr.now) out.old }
 {
-    out[..text.len()].copy_from_slice(text);
-    text.len()
+    out[..sockaddr.len()].copy_from_slice(sockaddr);
+    sockaddr.len()
 }

@@ -4,7 +4,7 @@ use route_msgs::bits::{RTA_DST, RTA_GATEWAY, RTA_NETMASK};
 use route_msgs::flags::{RTF_CLONING, RTF_DONE, RTF_UP};
 use route_msgs::kinds::{RTM_GET, RTM_NEWADDR};
 use route_msgs::{
-    Header, IfaHeader, Parsed, Slot, Text, Texts, patch_u32, read_message, write_ifa_msg,
+    AddrInfo, Header, IfaHeader, Parsed, Slot, Sockaddr, patch_u32, read_message, write_ifa_msg,
     write_route_msg,
 };
 use sock_addrs::{Gate, Inet, Link};
@@ -48,26 +48,26 @@ fn takes_a_question_apart(rt: HostRuntime) {
         slots: [Some(slot), None, None, None, None, None, None, None],
     };
     assert_eq!(rt; read_message(&QUESTION).ok(), Some(want));
-    assert_eq!(rt; slot.text(&QUESTION), &QUESTION[76..]);
+    assert_eq!(rt; slot.bytes(&QUESTION), &QUESTION[76..]);
 }
 
 #[test]
 fn writes_a_reply(rt: HostRuntime) {
     let header = Header {
         kind: RTM_GET,
-        flags: RTF_UP | RTF_CLONING | RTF_DONE,
+        flags: u32::from(RTF_UP | RTF_CLONING | RTF_DONE),
         addrs: RTA_DST,
         pid: 100,
         seq: 1,
         ..Header::default()
     };
-    let texts = Texts {
-        dst: Some(Text::inet(Inet([10, 0, 0, 0]))),
-        gateway: Some(Text::gate(Gate::Inet(Inet([10, 0, 0, 1])))),
-        netmask: Some(Text::mask(8)),
-        ..Texts::default()
+    let addresses = AddrInfo {
+        dst: Some(Sockaddr::inet(Inet([10, 0, 0, 0]))),
+        gateway: Some(Sockaddr::gate(Gate::Inet(Inet([10, 0, 0, 1])))),
+        netmask: Some(Sockaddr::mask(8)),
+        ..AddrInfo::default()
     };
-    let message = write_route_msg(&header, &texts);
+    let message = write_route_msg(&header, &addresses);
     assert_eq!(rt; message.as_slice(), REPLY.as_slice());
     let addrs = RTA_DST | RTA_GATEWAY | RTA_NETMASK;
     let want = Header { addrs, ..header };
@@ -81,19 +81,19 @@ fn writes_a_reply(rt: HostRuntime) {
 fn announces_an_address(rt: HostRuntime) {
     let header = IfaHeader {
         kind: RTM_NEWADDR,
-        flags: RTF_CLONING,
+        flags: u32::from(RTF_CLONING),
         index: 1,
         ..IfaHeader::default()
     };
-    let texts = Texts {
-        netmask: Some(Text::mask(8)),
-        ifp: Link::new(&LINK).map(|link| Text::link(link)),
-        ifa: Some(Text::inet(Inet([10, 0, 0, 1]))),
-        brd: Some(Text::inet(Inet([10, 255, 255, 255]))),
-        ..Texts::default()
+    let addresses = AddrInfo {
+        netmask: Some(Sockaddr::mask(8)),
+        ifp: Link::new(&LINK).map(|link| Sockaddr::link(link)),
+        ifa: Some(Sockaddr::inet(Inet([10, 0, 0, 1]))),
+        brd: Some(Sockaddr::inet(Inet([10, 255, 255, 255]))),
+        ..AddrInfo::default()
     };
     assert_eq!(rt;
-        write_ifa_msg(&header, &texts).as_slice(),
+        write_ifa_msg(&header, &addresses).as_slice(),
         ANNOUNCED.as_slice()
     );
 }
@@ -104,7 +104,7 @@ fn pads_a_link_layer_address(rt: HostRuntime) {
         assert!(rt; false, "it is no link-layer address");
         return;
     };
-    let text = Text::link(link);
+    let text = Sockaddr::link(link);
     assert_eq!(rt;
         text.as_bytes(),
         [9, 0x12, 0, 1, 6, 0, 1, 0, 0x77, 0, 0, 0].as_slice()

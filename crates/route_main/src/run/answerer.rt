@@ -1,11 +1,11 @@
 ghost use Rattle.std.specs.Prelude.{◌≡◌, ◌≢◌, ◌<◌, ◌≤◌, false, length, take, IfOk, OnOk, OnErr, option_copied};
 ghost use Rattle.event_file.specs.Lines.{is_passed as passes};
 ghost use Rattle.route_main.specs.Progress.{Advances, Answers, Breaks, Finishes, StopsWithin, answered_of, fresh};
-ghost use Rattle.event_file.specs.Transcript.{Replies};
+ghost use Rattle.event_file.specs.Transcript.{Responds};
 ghost use Rattle.route_main.specs.Ends.{IsAnswered};
 
 use super::Outcome;
-use event_file::{Bad, Counted, LineBuffer, Stopped, read_line, write_answer};
+use event_file::{Bad, Counted, LineBuffer, Stopped, read_said, write_answer};
 use route_core::{Answer, World};
 use std::alloc::{AllocError, Global};
 use std::io::Write;
@@ -14,12 +14,16 @@ use std::marker::Model;
 /// The room for the text of an answer, in bytes.
 const TEXT_ROOM: usize = 4096;
 
+/// The room for the bytes of a write.
+const WRITTEN_ROOM: usize = 8246;
+
 /// Gives lines to a world, and writes the answers. A contract sees the world, and whether some line was malformed.
 #[derive(Drop)]
 pub(super) struct Answerer {
     world: World,
     has_bad: bool,
     text: Vec<u8>,
+    written: Vec<u8>,
 }
 
 impl Model for Answerer {
@@ -30,7 +34,7 @@ impl Model for Answerer {
 
     ghost view = { λ a. record { world = a.world; has_bad = a.has_bad } };
 
-    ghost invariant = { λ a. length a.text.items ≡ 4096 };
+    ghost invariant = { λ a. (length a.text.items ≡ 4096) × (length a.written.items ≡ 8246) };
 }
 
 impl Answerer {
@@ -40,10 +44,12 @@ impl Answerer {
     {
         let world = World::new(alloc)?;
         let text = vec![in alloc; 0u8; TEXT_ROOM]?;
+        let written = vec![in alloc; 0u8; WRITTEN_ROOM]?;
         Ok(Answerer {
             world,
             has_bad: false,
             text,
+            written,
         })
     }
 
@@ -155,9 +161,9 @@ impl Answerer {
         if is_passed(line) {
             return Ok(());
         }
-        let reply = reply_to(&mut self.world, line);
-        self.has_bad |= reply.is_err();
-        write_answer(&reply, &mut self.text, writer)?;
+        let response = respond(&mut self.world, line, &mut self.written);
+        self.has_bad |= response.is_err();
+        write_answer(&response, &mut self.text, writer)?;
         Ok(())
     }
 }
@@ -169,13 +175,14 @@ fn is_passed(line: Option<&[u8]>) -> bool
     matches!(line, Some([] | [b'#', ..]))
 }
 
-/// The world's reply to a line, which is nothing where it is too long.
-fn reply_to(world: &mut World, line: Option<&[u8]>) -> Result<Answer, Bad>
-    ensures { Replies world.old (option_copied line.entry) result world.new }
+/// The world's response to a line, which is nothing where it is too long. The bytes of a write are put into `room`.
+fn respond(world: &mut World, line: Option<&[u8]>, room: &mut [u8]) -> Result<Answer, Bad>
+    requires { length room.old ≡ WRITTEN_ROOM }
+    ensures { Responds world.old (option_copied line.entry) result world.new }
 {
     let Some(line) = line else {
         return Err(Bad);
     };
-    let command = read_line(line)?;
-    Ok(world.step(&command))
+    let said = read_said(line, room)?;
+    Ok(world.obey(&said))
 }

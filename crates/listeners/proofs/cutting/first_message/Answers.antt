@@ -1,11 +1,11 @@
 use Rattle.std.proofs.Common.{◌≡◌, ◌<◌, ◌+◌, ◌*◌, ℕ, List, length, arith, slice_index, ◌∙◌}
 use Rattle.std.proofs.lemmas.List.{length-take-le}
-use Rattle.listeners.specs.Queue.{IsWhole, length_field}
+use Rattle.listeners.specs.Queue.{AreMessages, length_field}
 use Rattle.listeners.proofs.QueueLemmas.{whole-begins, BeginsWith}
 use Rattle.listeners.proofs.cutting.first_message.Goals as goal
 
 -- the bytes begin with a message as long as the code's sum of the first two bytes says
-begins : (bytes : List ℕ) (n : ℕ) → IsWhole bytes → 0 < length bytes → n ≡ slice_index bytes 0 * 256 + (slice_index bytes 1 * 1 + 0) → BeginsWith n bytes
+begins : (bytes : List ℕ) (n : ℕ) → AreMessages bytes → 0 < length bytes → n ≡ slice_index bytes 0 * 256 + (slice_index bytes 1 * 1 + 0) → BeginsWith n bytes
 begins bytes n whole some e =
     let same : n ≡ length_field bytes = omega arith in
     rw same (whole-begins bytes whole some)

@@ -1,4 +1,4 @@
-use Rattle.radix_tree.proofs.LawLemmas.{with_is_table, without_is_table}
+use Rattle.radix_tree.proofs.TableLemmas.{with_is_table, without_is_table}
 use Rattle.radix_tree.proofs.laws.stays_a_table.Goals as goal
 
 pub returns : goal.returns

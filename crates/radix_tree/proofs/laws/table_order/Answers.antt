@@ -1,5 +1,5 @@
-use Rattle.radix_tree.proofs.LawLemmas.{place_is_order, place_is_of_one_pair}
+use Rattle.radix_tree.proofs.OrderLemmas.{precedes_in_words, precedes_one_way, precedes_transitively, precedes_or_same}
 use Rattle.radix_tree.proofs.laws.table_order.Goals as goal
 
 pub returns : goal.returns
-returns c = record { order = place_is_order; one = place_is_of_one_pair }
+returns g c = record { words = precedes_in_words; one_way = precedes_one_way; transitive = precedes_transitively; each_two = precedes_or_same }

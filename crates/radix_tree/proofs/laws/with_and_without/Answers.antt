@@ -1,5 +1,5 @@
-use Rattle.radix_tree.proofs.LawLemmas.{with_then_without, without_then_with}
+use Rattle.radix_tree.proofs.LawLemmas.{with_then_without, without_then_with, with_twice_is_last}
 use Rattle.radix_tree.proofs.laws.with_and_without.Goals as goal
 
 pub returns : goal.returns
-returns g c = record { with_then_without = with_then_without; without_then_with = without_then_with }
+returns g c = record { with_then_without = with_then_without; without_then_with = without_then_with; twice = with_twice_is_last }

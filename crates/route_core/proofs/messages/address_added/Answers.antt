@@ -6,4 +6,4 @@ pub returns-clause-whole : goal.returns-clause-whole
 returns-clause-whole c = message_of_size c.write_ifa_msg.result.items (omega (arith, c.write_ifa_msg.ensures.size)) c.write_ifa_msg.ensures.says_size
 
 pub returns-clause-message : goal.returns-clause-message
-returns-clause-message c = rw c.address_texts.ensures.texts at c.write_ifa_msg.ensures.message
+returns-clause-message c = rw c.interface_addresses.ensures.texts at c.write_ifa_msg.ensures.message

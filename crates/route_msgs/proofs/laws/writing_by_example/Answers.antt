@@ -2,14 +2,14 @@ use Rattle.std.proofs.Common.{refl}
 use Rattle.route_msgs.specs.Layout.{with_field}
 use Rattle.route_msgs.proofs.laws.writing_by_example.Goals as goal
 
-pub returns-clause-announced : goal.returns-clause-announced
+pub returns-clause-announcement : goal.returns-clause-announcement
 unfolding with_field
-returns-clause-announced c = refl
+returns-clause-announcement c = refl
 
-pub returns-clause-added : goal.returns-clause-added
+pub returns-clause-addition : goal.returns-clause-addition
 unfolding with_field
-returns-clause-added c = refl
+returns-clause-addition c = refl
 
-pub returns-clause-reply : goal.returns-clause-reply
+pub returns-clause-answer : goal.returns-clause-answer
 unfolding with_field
-returns-clause-reply c = refl
+returns-clause-answer c = refl

@@ -1,6 +1,6 @@
 use Rattle.std.proofs.Common.{◌≡◌, ◌<◌, None, arith, ap, sym, ◌∙◌, not, length, length-set, get_or, is_some}
 use Rattle.route_msgs.specs.Slots.{slot_at, slot_in, overruns_below, IsWithin}
-use Rattle.route_msgs.proofs.Places.{next_there, next_not_there, rounded_most, still_room, put_each, put_any, slots_built}
+use Rattle.route_msgs.proofs.Offsets.{next_there, next_not_there, rounded_most, still_room, put_each, put_any, slots_built}
 use Rattle.route_msgs.proofs.reading.read_slots.Goals as goal
 use Rattle.route_msgs.proofs.reading.read_slots.Goals.{then-is_some, else-is_some}
 

@@ -1,10 +1,10 @@
 use Rattle.std.proofs.Common.{◌≡◌, ℕ, ◌+◌, ◌*◌, ◌<◌, ◌≤◌, length, get_or, false, None}
-use Rattle.route_msgs.specs.Slots.{place, slot_in, overruns_below, SlotsAreWithin}
+use Rattle.route_msgs.specs.Slots.{offset_of, slot_in, overruns_below, SlotsAreWithin}
 use Rattle.route_msgs.proofs.reading.read_slots.Given as goal
 
 abbrev pub invariant-loop-bit : goal.invariant-loop-bit
 invariant-loop-bit l = record {
-  here : l.at ≡ place l.message l.bit;
+  here : l.at ≡ offset_of l.message l.bit;
   least : 76 ≤ l.at;
   small : l.at ≤ 76 + 256 * l.bit;
   eight : length l.slots ≡ 8;

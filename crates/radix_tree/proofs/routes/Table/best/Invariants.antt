@@ -1,5 +1,6 @@
 use Rattle.std.proofs.Common.{◌≡◌, option_map, length}
-use Rattle.radix_tree.specs.Table.{best_of, routed}
+use Rattle.radix_tree.specs.Table.{best_of}
+use Rattle.radix_tree.specs.Found.{routed}
 use Rattle.radix_tree.proofs.BestLemmas.{better}
 use Rattle.radix_tree.proofs.routes.Table.best.Given as goal
 

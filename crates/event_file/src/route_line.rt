@@ -1,0 +1,255 @@
+//! The words behind `route`.
+ghost use Rattle.std.specs.Prelude.{◌≡◌, length, map, bytes_eq, option_map, MatchOption, Some, None};
+ghost use Rattle.event_file.specs.Words.{parted_by};
+ghost use Rattle.event_file.specs.RouteLine.{address_options, behind_addresses as words_behind_addresses, behind_bits as words_behind_bits, bit_options, destination_of, destination_of_parts, gate_if_written, hex_if_written, if_none_left as unless_left, mask_if_written, metric_options, number_if_written, option_written, route_words_of, verb_of, words_behind};
+
+use crate::numbers::{read_hex, read_inet, read_number, read_prefix};
+use crate::route_words::{MetricWords, RouteWords, Verb};
+use crate::texts::read_gate;
+use crate::words::{is, parted};
+use mask_table::Prefix;
+use sock_addrs::{Gate, Inet};
+
+/// What a `route` line asks for.
+fn read_verb(word: &[u8]) -> Option<Verb>
+    ensures { result ≡ verb_of word.now }
+{
+    if is(word, "add") {
+        return Some(Verb::Add);
+    }
+    if is(word, "delete") {
+        return Some(Verb::Delete);
+    }
+    if is(word, "change") {
+        return Some(Verb::Change);
+    }
+    if is(word, "get") {
+        return Some(Verb::Get);
+    }
+    if is(word, "lock") {
+        return Some(Verb::Lock);
+    }
+    None
+}
+
+/// A destination and its mask, where one is written.
+#[derive(Clone, Copy, Debug)]
+struct Destination {
+    address: Inet,
+    mask: Option<Prefix>,
+}
+
+/// The destination of the parts around a slash.
+fn read_destination_parts(parts: &[&[u8]]) -> Option<Destination>
+    ensures { result ≡ destination_of_parts (map (λ p. p.now) parts.now) }
+{
+    match parts {
+        [address] => Some(Destination {
+            address: read_inet(address)?,
+            mask: None,
+        }),
+        [address, bits] => Some(Destination {
+            address: read_inet(address)?,
+            mask: Some(read_prefix(bits)?),
+        }),
+        _ => None,
+    }
+}
+
+/// `A`, `A/P`, or `default`, which is 0.0.0.0/0.
+fn read_destination(word: &[u8]) -> Option<Destination>
+    ensures { result ≡ destination_of word.now }
+{
+    if is(word, "default") {
+        return Some(Destination {
+            address: Inet::new(0),
+            mask: Prefix::new(0),
+        });
+    }
+    let parts = parted::<2>(b'/', word)?;
+    read_destination_parts(parts.as_slice())
+}
+
+/// The word of the option of this name where the words begin with it, and the words behind it.
+fn option<'w>(name: &str, words: &'w [&'w [u8]]) -> (Option<&'w [u8]>, &'w [&'w [u8]])
+    ensures word { option_map (λ w. w.now) result.0 ≡ option_written name.now (map (λ w. w.now) words.now) }
+    ensures rest { map (λ w. w.now) result.1.now ≡ words_behind name.now (map (λ w. w.now) words.now) }
+{
+    match words {
+        [first, word, rest @ ..] if is(first, name) => (Some(*word), rest),
+        _ => (None, words),
+    }
+}
+
+/// A gateway, where one is written.
+fn gate(word: Option<&[u8]>) -> Option<Option<Gate>>
+    ensures { result ≡ gate_if_written (option_map (λ w. w.now) word.entry) }
+{
+    match word {
+        Some(word) => Some(Some(read_gate(word)?)),
+        None => Some(None),
+    }
+}
+
+/// A mask's length, where one is written.
+fn mask(word: Option<&[u8]>) -> Option<Option<Prefix>>
+    ensures { result ≡ mask_if_written (option_map (λ w. w.now) word.entry) }
+{
+    match word {
+        Some(word) => Some(Some(read_prefix(word)?)),
+        None => Some(None),
+    }
+}
+
+/// A number, where one is written.
+fn number(word: Option<&[u8]>) -> Option<Option<u32>>
+    ensures { result ≡ number_if_written (option_map (λ w. w.now) word.entry) }
+{
+    match word {
+        Some(word) => Some(Some(read_number(u32::MAX, word)?)),
+        None => Some(None),
+    }
+}
+
+/// A number in hexadecimal, and 0 where none is written.
+fn hex(word: Option<&[u8]>) -> Option<u32>
+    ensures { result ≡ hex_if_written (option_map (λ w. w.now) word.entry) }
+{
+    match word {
+        Some(word) => read_hex(word),
+        None => Some(0),
+    }
+}
+
+/// The addresses among the options.
+#[derive(Clone, Copy, Debug)]
+struct AddressOptions {
+    gateway: Option<Gate>,
+    genmask: Option<Prefix>,
+    ifp: Option<Gate>,
+    ifa: Option<Gate>,
+}
+
+/// The addresses among the options, which stand first.
+fn read_addresses(words: &[&[u8]]) -> Option<AddressOptions>
+    ensures { result ≡ address_options (map (λ w. w.now) words.now) }
+{
+    let (via, words) = option("via", words);
+    let (genmask, words) = option("genmask", words);
+    let (ifp, words) = option("ifp", words);
+    let (ifa, _) = option("ifa", words);
+    Some(AddressOptions {
+        gateway: gate(via)?,
+        genmask: mask(genmask)?,
+        ifp: gate(ifp)?,
+        ifa: gate(ifa)?,
+    })
+}
+
+/// The words behind the addresses.
+fn behind_addresses<'w>(words: &'w [&'w [u8]]) -> &'w [&'w [u8]]
+    ensures { map (λ w. w.now) result.now ≡ words_behind_addresses (map (λ w. w.now) words.now) }
+{
+    let (_, words) = option("via", words);
+    let (_, words) = option("genmask", words);
+    let (_, words) = option("ifp", words);
+    let (_, words) = option("ifa", words);
+    words
+}
+
+/// The options that are words of bits.
+#[derive(Clone, Copy, Debug)]
+struct BitOptions {
+    flags: u32,
+    inits: u32,
+    locks: u32,
+}
+
+/// The options that are words of bits, which stand behind the addresses.
+fn read_bits(words: &[&[u8]]) -> Option<BitOptions>
+    ensures { result ≡ bit_options (map (λ w. w.now) words.now) }
+{
+    let (flags, words) = option("flags", words);
+    let (inits, words) = option("inits", words);
+    let (locks, _) = option("locks", words);
+    Some(BitOptions {
+        flags: hex(flags)?,
+        inits: hex(inits)?,
+        locks: hex(locks)?,
+    })
+}
+
+/// The words behind the words of bits.
+fn behind_bits<'w>(words: &'w [&'w [u8]]) -> &'w [&'w [u8]]
+    ensures { map (λ w. w.now) result.now ≡ words_behind_bits (map (λ w. w.now) words.now) }
+{
+    let (_, words) = option("flags", words);
+    let (_, words) = option("inits", words);
+    let (_, words) = option("locks", words);
+    words
+}
+
+/// The metrics, which stand behind the words of bits and are the last.
+fn read_metrics(words: &[&[u8]]) -> Option<MetricWords>
+    ensures { result ≡ metric_options (map (λ w. w.now) words.now) }
+{
+    let (mtu, words) = option("mtu", words);
+    let (hopcount, words) = option("hopcount", words);
+    let (expire, words) = option("expire", words);
+    let (recvpipe, words) = option("recvpipe", words);
+    let (sendpipe, words) = option("sendpipe", words);
+    let (ssthresh, words) = option("ssthresh", words);
+    let (rtt, words) = option("rtt", words);
+    let (rttvar, words) = option("rttvar", words);
+    let metrics = MetricWords {
+        mtu: number(mtu)?,
+        hopcount: number(hopcount)?,
+        expire: number(expire)?,
+        recvpipe: number(recvpipe)?,
+        sendpipe: number(sendpipe)?,
+        ssthresh: number(ssthresh)?,
+        rtt: number(rtt)?,
+        rttvar: number(rttvar)?,
+    };
+    if_none_left(words, metrics)
+}
+
+/// These metrics, where no word is left.
+fn if_none_left(words: &[&[u8]], metrics: MetricWords) -> Option<MetricWords>
+    ensures { result ≡ unless_left (map (λ w. w.now) words.now) metrics }
+{
+    if !words.is_empty() {
+        return None;
+    }
+    Some(metrics)
+}
+
+/// The words behind `route ID`: a number, a verb, a destination, and options.
+pub(crate) fn read_route_words(words: &[&[u8]]) -> Option<RouteWords>
+    ensures { result ≡ route_words_of (map (λ w. w.now) words.now) }
+{
+    let [seq, verb, to, options @ ..] = words else {
+        return None;
+    };
+    let seq = read_number(u32::MAX, seq)?;
+    let verb = read_verb(verb)?;
+    let to = read_destination(to)?;
+    let addresses = read_addresses(options)?;
+    let options = behind_addresses(options);
+    let bits = read_bits(options)?;
+    let metrics = read_metrics(behind_bits(options))?;
+    Some(RouteWords {
+        seq,
+        verb,
+        destination: to.address,
+        netmask: to.mask,
+        gateway: addresses.gateway,
+        genmask: addresses.genmask,
+        ifp: addresses.ifp,
+        ifa: addresses.ifa,
+        flags: bits.flags,
+        inits: bits.inits,
+        locks: bits.locks,
+        metrics,
+    })
+}

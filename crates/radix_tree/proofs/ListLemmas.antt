@@ -1,0 +1,81 @@
+-- What holds of all elements of a list, and what is filtered from it or found in it.
+use Rattle.std.proofs.Common.{◌≡◌, Bool, true, false, cond, List, [], ◌∷◌, ◌++◌, map, filter, Option, Some, None, refl, ap, subst}
+use Rattle.std.specs.Prelude.{find}
+use Rattle.std.specs.List.{AllByRecursion}
+use Rattle.std.specs.Option.{option_or}
+
+module _ {X : Type 0} (P : X → Type 0) where
+  pub all_weaker : (Q : X → Type 0) → ((x : X) → P x → Q x) → (xs : List X) → AllByRecursion P xs → AllByRecursion Q xs
+  all_weaker Q f [] h = tt
+  all_weaker Q f (x ∷ xs) h = (f x h.0, all_weaker Q f xs h.1)
+
+  pub all_both : (Q R : X → Type 0) → ((x : X) → P x → Q x → R x) → (xs : List X) → AllByRecursion P xs → AllByRecursion Q xs → AllByRecursion R xs
+  all_both Q R f [] h k = tt
+  all_both Q R f (x ∷ xs) h k = (f x h.0 k.0, all_both Q R f xs h.1 k.1)
+
+  pub all_append : (xs ys : List X) → AllByRecursion P xs → AllByRecursion P ys → AllByRecursion P (xs ++ ys)
+  all_append [] ys h k = k
+  all_append (x ∷ xs) ys h k = (h.0, all_append xs ys h.1 k)
+
+  pub all_unmapped : {Y : Type 0} (f : Y → X) (ys : List Y) → AllByRecursion P (map f ys) → AllByRecursion (λ y. P (f y)) ys
+  all_unmapped f [] h = tt
+  all_unmapped f (y ∷ ys) h = (h.0, all_unmapped f ys h.1)
+
+  -- what a filter leaves has passed its test
+  pub all_passed : (p : X → Bool) (xs : List X) → AllByRecursion P xs → AllByRecursion (λ x. P x × (p x ≡ true)) (filter p xs)
+  all_passed p [] h = tt
+  all_passed p (x ∷ xs) h =
+      elim (p x) as (λ b. p x ≡ b → AllByRecursion (λ y. P y × (p y ≡ true)) (cond b (x ∷ filter p xs) (filter p xs)))
+      [ true ↦ λ k. ((h.0, k), all_passed p xs h.1) | false ↦ λ k. all_passed p xs h.1 ] refl
+
+  pub all_filter : (p : X → Bool) (xs : List X) → AllByRecursion P xs → AllByRecursion P (filter p xs)
+  all_filter p [] h = tt
+  all_filter p (x ∷ xs) h = elim (p x) as (λ b. AllByRecursion P (cond b (x ∷ filter p xs) (filter p xs))) [ true ↦ (h.0, all_filter p xs h.1) | false ↦ all_filter p xs h.1 ]
+
+  -- what is found passes the test
+  pub all_find : (q : X → Bool) (xs : List X) (x : X) → AllByRecursion P xs → find q xs ≡ Some x → P x × (q x ≡ true)
+  all_find q [] x h k = cc
+  all_find q (y ∷ ys) x h k =
+      elim (q y) as (λ b. q y ≡ b → cond b (Some y) (find q ys) ≡ Some x → P x × (q x ≡ true))
+      [ true ↦ λ e s. (let same : y ≡ x = cc in subst (λ z. P z × (q z ≡ true)) same (h.0, e)) | false ↦ λ e s. all_find q ys x h.1 s ] refl k
+
+module _ {X : Type 0} where
+  pub filter_all : (p : X → Bool) (xs : List X) → AllByRecursion (λ x. p x ≡ true) xs → filter p xs ≡ xs
+  filter_all p [] h = refl
+  filter_all p (x ∷ xs) h = rw h.0 (ap (λ t. x ∷ t) (filter_all p xs h.1))
+
+  pub filter_none : (p : X → Bool) (xs : List X) → AllByRecursion (λ x. p x ≡ false) xs → filter p xs ≡ []
+  filter_none p [] h = refl
+  filter_none p (x ∷ xs) h = rw h.0 (filter_none p xs h.1)
+
+  pub find_none : (q : X → Bool) (xs : List X) → AllByRecursion (λ x. q x ≡ false) xs → find q xs ≡ None
+  find_none q [] h = refl
+  find_none q (x ∷ xs) h = rw h.0 (find_none q xs h.1)
+
+  -- what is looked for stays in a filtered list or goes, by the answer of the filter's test to it
+  pub find_filter : (q p : X → Bool) (b : Bool) → ((x : X) → q x ≡ true → p x ≡ b) → (xs : List X) → find q (filter p xs) ≡ cond b (find q xs) None
+  find_filter q p true same [] = refl
+  find_filter q p false same [] = refl
+  find_filter q p b same (x ∷ xs) =
+      elim (q x) as (λ t. q x ≡ t → find q (cond (p x) (x ∷ filter p xs) (filter p xs)) ≡ cond b (cond t (Some x) (find q xs)) None) [
+        | true ↦ λ k. rw (same x k) (elim b as (λ c. find q (filter p xs) ≡ cond c (find q xs) None → find q (cond c (x ∷ filter p xs) (filter p xs)) ≡ cond c (Some x) None)
+            [ true ↦ λ r. rw k refl | false ↦ λ r. r ] (find_filter q p b same xs))
+        | false ↦ λ k. elim (p x) as (λ c. find q (cond c (x ∷ filter p xs) (filter p xs)) ≡ cond b (find q xs) None)
+            [ true ↦ rw k (find_filter q p b same xs) | false ↦ find_filter q p b same xs ]
+      ] refl
+
+  -- what a filter takes stays in a filtered list or goes, likewise
+  pub filter_filter : (t p : X → Bool) (b : Bool) → ((x : X) → t x ≡ true → p x ≡ b) → (xs : List X) → filter t (filter p xs) ≡ cond b (filter t xs) []
+  filter_filter t p true same [] = refl
+  filter_filter t p false same [] = refl
+  filter_filter t p b same (x ∷ xs) =
+      elim (t x) as (λ k. t x ≡ k → filter t (cond (p x) (x ∷ filter p xs) (filter p xs)) ≡ cond b (cond k (x ∷ filter t xs) (filter t xs)) []) [
+        | true ↦ λ k. rw (same x k) (elim b as (λ c. filter t (filter p xs) ≡ cond c (filter t xs) [] → filter t (cond c (x ∷ filter p xs) (filter p xs)) ≡ cond c (x ∷ filter t xs) [])
+            [ true ↦ λ r. rw k (ap (λ l. x ∷ l) r) | false ↦ λ r. r ] (filter_filter t p b same xs))
+        | false ↦ λ k. elim (p x) as (λ c. filter t (cond c (x ∷ filter p xs) (filter p xs)) ≡ cond b (filter t xs) [])
+            [ true ↦ rw k (filter_filter t p b same xs) | false ↦ filter_filter t p b same xs ]
+      ] refl
+
+  pub or_none : (o : Option X) → option_or o None ≡ o
+  or_none None = refl
+  or_none (Some x) = refl

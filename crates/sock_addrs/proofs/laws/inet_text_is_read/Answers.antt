@@ -1,5 +1,0 @@
-use Rattle.sock_addrs.proofs.WrittenRead.{inet_text_is_read}
-use Rattle.sock_addrs.proofs.laws.inet_text_is_read.Goals as goal
-
-pub returns : goal.returns
-returns c = inet_text_is_read

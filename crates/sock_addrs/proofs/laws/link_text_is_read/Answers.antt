@@ -1,5 +1,0 @@
-use Rattle.sock_addrs.proofs.WrittenRead.{link_text_is_read}
-use Rattle.sock_addrs.proofs.laws.link_text_is_read.Goals as goal
-
-pub returns : goal.returns
-returns c = link_text_is_read

@@ -1,5 +1,0 @@
-use Rattle.sock_addrs.proofs.WrittenRead.{read_link_is_link_text}
-use Rattle.sock_addrs.proofs.laws.read_link_is_link_text.Goals as goal
-
-pub returns : goal.returns
-returns c = read_link_is_link_text
