@@ -116,7 +116,7 @@ metric_options words = do
   rtt ← number_if_written (option_behind ("sendpipe" ∷ "ssthresh" ∷ []) "rtt" behind)
   rttvar ← number_if_written (option_behind ("sendpipe" ∷ "ssthresh" ∷ "rtt" ∷ []) "rttvar" behind)
   if_none_left (words_behind_all ("sendpipe" ∷ "ssthresh" ∷ "rtt" ∷ "rttvar" ∷ []) behind)
-    (record { mtu = mtu; hopcount = hopcount; expire = expire; recvpipe = recvpipe; sendpipe = sendpipe; ssthresh = ssthresh; rtt = rtt; rttvar = rttvar })
+      (record { mtu = mtu; hopcount = hopcount; expire = expire; recvpipe = recvpipe; sendpipe = sendpipe; ssthresh = ssthresh; rtt = rtt; rttvar = rttvar })
 
 -- the words behind `route ID`: `SEQ VERB DEST OPTION..`
 abbrev pub route_words_of : List (List ℕ) → Option RouteWords

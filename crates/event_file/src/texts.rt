@@ -78,7 +78,9 @@ fn read_gate_parts(parts: &[&[u8]]) -> Option<Gate>
 {
     match parts {
         [address] => Some(Gate::Inet(read_inet(address)?)),
-        [kind, digits] if *kind == b"link".as_slice() => Some(Gate::Link(read_link_sockaddr(digits)?)),
+        [kind, digits] if *kind == b"link".as_slice() => Some(Gate::Link(read_link_sockaddr(
+            digits,
+        )?)),
         _ => None,
     }
 }
