@@ -1,125 +1,158 @@
--- One step of the world for each command: the world after it, and the answer.
+-- One step of the world for each command: what it does, and the world and the answer after it.
 use Rattle.std.specs.Prelude.{◌≡◌, ◌⊎◌, ◌+◌, ◌&&◌, ℕ, Bool, true, not, is_some, is_none, if◌then◌else◌, List, [], ◌∷◌, ◌++◌, Option, Some, None, Result, Ok, Err, unwrap_or}
 use Rattle.std.specs.Option.{option_map_or}
 use Rattle.sock_addrs.specs.declared.errno.Errno.{Errno}
 use Rattle.sock_addrs.specs.declared.errno.Errno.TheVariants.{EBADF, EEXIST, ENOBUFS}
-use Rattle.mask_table.specs.Agreeing.{masked}
 use Rattle.if_addrs.specs.Facts.{facts_of}
 use Rattle.radix_tree.specs.Table.{entry_at, with_entry}
-use Rattle.if_addrs.specs.Interfaces.{Interface, Address, attach_fault, attached, addr_fault, added, new_address, with_address, interface_of, link_text_of, marked_routed}
-use Rattle.listeners.specs.Sockets.{Socket, pid_of, messages_of, listen_fault, opened, delivered, taken}
+use Rattle.if_addrs.specs.Interfaces.{Interface, Address, attach_fault, attached, addr_fault, added, new_address, with_address, interface_of, kind_of, link_text_of, marked_routed}
+use Rattle.if_addrs.specs.declared.kind.Kind.{Kind}
+use Rattle.listeners.specs.Sockets.{Socket, pid_of, messages_of, is_open, listen_fault, opened, taken, without_socket, with_loopback}
+use Rattle.route_core.specs.Addresses.{entry_of_address}
 use Rattle.route_core.specs.Messages.{address_added, route_added}
-use Rattle.route_core.specs.Routes.{route_of_address}
+use Rattle.route_core.specs.Telling.{Told, told, delivered_all}
 use Rattle.sock_addrs.specs.declared.families.TheConstants.{AF_INET}
 use Rattle.route_core.specs.World.{World}
 use Rattle.sock_addrs.specs.Rules.{first_fault}
-use Rattle.route_core.specs.Writes.{reply_of, refused_reply, message_rules, is_silent}
+use Rattle.route_core.specs.Requests.{Outcome}
+use Rattle.route_core.specs.Writes.{outcome_of, refused_reply, message_rules, is_silent}
 use Rattle.if_addrs.specs.declared.reference.IfaRef.{IfaRef}
 use Rattle.if_addrs.specs.declared.reference.IfaRef.TheVariants.{Inet}
 use Rattle.radix_tree.specs.declared.entry.Entry.{Entry}
 use Rattle.route_core.specs.declared.answer.Answer.{Answer}
 use Rattle.route_core.specs.declared.answer.Answer.TheVariants.{Done, Refused, Messages}
 use Rattle.route_core.specs.Commands.{Command}
-use Rattle.route_core.specs.declared.command.Command.TheVariants.{Attach, AddAddress, Open, Write, Read}
+use Rattle.route_core.specs.declared.command.Command.TheVariants.{Attach, AddAddress, Open, Close, Loopback, Write, Read}
 use Rattle.route_core.specs.declared.refusal.Refusal.{Refusal}
 use Rattle.route_core.specs.declared.route.Route.{Route}
+
+-- ---- what a command does
+
+-- the table, the interfaces and the sockets that it leaves, the messages that these sockets are then told, in order, and the answer
+pub record Effect : Type 0 where
+  pub table : List (Entry Route)
+  pub interfaces : List Interface
+  pub sockets : List Socket
+  pub told : List Told
+  pub answer : Answer
+
+-- it changes nothing and tells nothing
+abbrev pub answered : World → Answer → Effect
+answered w answer = record { table = w.table; interfaces = w.interfaces; sockets = w.sockets; told = []; answer = answer }
+
+abbrev pub refused : World → Errno → Effect
+refused w errno = answered w (Refused errno)
+
+abbrev pub done : World → Effect
+done w = answered w Done
+
+-- refused for the reason, if there is one
+abbrev pub unless_refused : World → Option Errno → Effect → Effect
+unless_refused w (Some errno) effect = refused w errno
+unless_refused w None effect = effect
+
+-- `if`
+abbrev pub attach_effect : World → List ℕ → Kind → ℕ → List ℕ → Effect
+attach_effect w name kind type_number link =
+    unless_refused w (attach_fault name w.interfaces)
+    (record (done w) { interfaces = w.interfaces ++ attached name kind type_number link ∷ [] })
+
+-- the sockets hear of an interface's new address, and then of its route
+abbrev pub announced : List Interface → Address → Entry Route → List Told
+announced interfaces a r =
+    let index = interface_of r.value.ifa interfaces in
+    let link = unwrap_or (link_text_of index interfaces) [] in
+    told (address_added index link a.address (facts_of a)) AF_INET None ∷ told (route_added index r) AF_INET None ∷ []
+
+-- an address that these interfaces have got brings its route, unless such a route is there: then the address stays without one
+abbrev pub bring_route : World → List Interface → Address → Entry Route → Effect
+bring_route w interfaces a r =
+    if is_some (entry_at r.key r.rank w.table)
+    then record (refused w EEXIST) { interfaces = interfaces }
+    else record (done w) {
+      table = with_entry r w.table;
+      interfaces = marked_routed r.value.ifa interfaces;
+      told = announced interfaces a r;
+    }
+
+-- `addr`
+abbrev pub add_address_effect : World → List ℕ → ℕ → ℕ → Bool → Option ℕ → Effect
+add_address_effect w name address prefix cloning far =
+    let a = new_address (added w.interfaces + 1) (kind_of name w.interfaces) address prefix cloning far in
+    unless_refused w (addr_fault name address far w.interfaces)
+    (bring_route w (with_address name address prefix cloning far w.interfaces) a (entry_of_address a cloning))
+
+-- `open`
+abbrev pub open_effect : World → List ℕ → ℕ → ℕ → Effect
+open_effect w id pid protocol =
+    unless_refused w (listen_fault id w.sockets)
+    (record (done w) { sockets = w.sockets ++ opened id pid protocol ∷ [] })
+
+-- a command to one socket
+abbrev pub if_open : World → List ℕ → Effect → Effect
+if_open w id effect = if is_open id w.sockets then effect else refused w EBADF
+
+-- `write`: what a refused write tells, where anybody hears of it
+abbrev pub refusal_tells : List ℕ → ℕ → List ℕ → Refusal → List Told
+refusal_tells id pid m r = option_map_or (λ family. told (refused_reply r.errno pid m) family (Some id) ∷ []) r.family []
+
+abbrev pub refused_write : World → List ℕ → ℕ → List ℕ → Refusal → Effect
+refused_write w id pid m r = record (refused w r.errno) { told = refusal_tells id pid m r }
+
+-- the messages that the request tells, and then the reply
+abbrev pub done_write : World → List ℕ → Outcome → Effect
+done_write w id o = record (done w) { table = o.table; told = o.notices ++ told o.reply AF_INET (Some id) ∷ [] }
+
+abbrev pub write_by_outcome : World → List ℕ → ℕ → List ℕ → Result Outcome Errno → Effect
+write_by_outcome w id pid m (Ok o) = done_write w id o
+write_by_outcome w id pid m (Err errno) = refused_write w id pid m (record { errno = errno; family = Some AF_INET })
+
+abbrev pub write_by_request : World → List ℕ → ℕ → List ℕ → Result Request Refusal → Effect
+write_by_request w id pid m (Ok request) = write_by_outcome w id pid m (outcome_of w.table pid m request)
+write_by_request w id pid m (Err r) = refused_write w id pid m r
+
+-- by the pid of the process that opened the socket
+abbrev pub write_effect : World → List ℕ → List ℕ → Option ℕ → Effect
+write_effect w id m None = refused w EBADF
+write_effect w id m (Some pid) = write_by_request w id pid m (request_of m)
+
+-- `read`
+abbrev pub read_effect : World → List ℕ → Option (List (List ℕ)) → Effect
+read_effect w id None = refused w EBADF
+read_effect w id (Some messages) = record (answered w (Messages messages None)) { sockets = taken id w.sockets }
+
+unfoldable pub effect : World → Command → Effect
+effect w (Attach name kind type_number link) = attach_effect w name kind type_number link
+effect w (AddAddress name address prefix cloning far) = add_address_effect w name address prefix cloning far
+effect w (Open id pid protocol) = open_effect w id pid protocol
+effect w (Close id) = if_open w id (record (done w) { sockets = without_socket id w.sockets })
+effect w (Loopback id on) = if_open w id (record (done w) { sockets = with_loopback id on w.sockets })
+effect w (Write id bytes) = write_effect w id bytes (pid_of id w.sockets)
+effect w (Read id) = read_effect w id (messages_of id w.sockets)
+
+-- ---- the step
+
+-- the world that an effect leaves
+abbrev pub world_after : Effect → World
+world_after e = record { table = e.table; interfaces = e.interfaces; sockets = delivered_all e.told e.sockets }
 
 pub record Stepped : Type 0 where
   pub world : World
   pub answer : Answer
 
--- nothing but an errno
-abbrev pub refused : World → Errno → Stepped
-refused w errno = record { world = w; answer = Refused errno }
-
-abbrev pub done : World → Stepped
-done w = record { world = w; answer = Done }
-
--- a message is delivered to the sockets that hear its family; it may be the reply to this socket's own write
-abbrev pub told : List ℕ → ℕ → Option (List ℕ) → World → World
-told message family own w = record w { sockets = delivered message family own w.sockets }
-
--- `if`
-abbrev pub attach_step : World → List ℕ → ℕ → List ℕ → Option Errno → Stepped
-attach_step w name type_number link (Some errno) = refused w errno
-attach_step w name type_number link None = done (record w { interfaces = w.interfaces ++ attached name type_number link ∷ [] })
-
--- the sockets after they heard of an interface's new address, and then of its route
-abbrev pub announced : List Interface → IfaRef → Address → Entry Route → List Socket → List Socket
-announced interfaces ifa a r sockets =
-    let index = interface_of ifa interfaces in
-    let link = unwrap_or (link_text_of index interfaces) [] in
-    delivered (route_added index r) AF_INET None (delivered (address_added index link a.address (facts_of a)) AF_INET None sockets)
-
--- the route to the network of the address with this number
-abbrev pub route_to_network : Address → Bool → Entry Route
-route_to_network a cloning =
-    record { key = masked a.prefix a.address; rank = a.prefix; value = route_of_address a.address cloning (Inet a.number) }
-
--- an address that the interfaces have got: its route is added and both are announced, unless such a route is there
-abbrev pub add_route_step : World → Address → Bool → Stepped
-add_route_step w a cloning =
-    let r = route_to_network a cloning in
-    if is_some (entry_at r.key r.rank w.table) then refused w EEXIST
-    else done (record {
-      table = with_entry r w.table;
-      interfaces = marked_routed (Inet a.number) w.interfaces;
-      sockets = announced w.interfaces (Inet a.number) a r w.sockets;
-    })
-
--- `addr`
-abbrev pub add_address_step : World → List ℕ → ℕ → ℕ → Bool → Option Errno → Stepped
-add_address_step w name address prefix cloning (Some errno) = refused w errno
-add_address_step w name address prefix cloning None =
-    add_route_step
-    (record w { interfaces = with_address name address prefix cloning w.interfaces })
-    (new_address (added w.interfaces + 1) address prefix cloning)
-    cloning
-
--- `open`
-abbrev pub open_step : World → List ℕ → ℕ → ℕ → Option Errno → Stepped
-open_step w id pid protocol (Some errno) = refused w errno
-open_step w id pid protocol None = done (record w { sockets = w.sockets ++ opened id pid protocol ∷ [] })
-
--- the reply to a refused write, where anybody hears of it
-abbrev pub told_refusal : World → List ℕ → ℕ → List ℕ → Refusal → World
-told_refusal w id pid m r = option_map_or (λ family. told (refused_reply r.errno pid m) family (Some id) w) r.family w
-
--- a write of a process, by the reply that it gets or why it is refused
-abbrev pub reply_step : World → List ℕ → ℕ → List ℕ → Result (List ℕ) Refusal → Stepped
-reply_step w id pid m (Ok reply) = done (told reply AF_INET (Some id) w)
-reply_step w id pid m (Err r) = refused (told_refusal w id pid m r) r.errno
-
--- `write`, to a socket of this process if it is open
-abbrev pub write_step : World → List ℕ → List ℕ → Option ℕ → Stepped
-write_step w id m None = refused w EBADF
-write_step w id m (Some pid) = reply_step w id pid m (reply_of w.table pid m)
-
--- `read`
-abbrev pub read_step : World → List ℕ → Option (List (List ℕ)) → Stepped
-read_step w id None = refused w EBADF
-read_step w id (Some messages) = record { world = record w { sockets = taken id w.sockets }; answer = Messages messages }
-
 -- the world and the answer after a command
-unfoldable pub stepped : World → Command → Stepped
-stepped w (Attach name type_number link) = attach_step w name type_number link (attach_fault name w.interfaces)
-stepped w (AddAddress name address prefix cloning) =
-    add_address_step w name address prefix cloning (addr_fault name address w.interfaces)
-stepped w (Open id pid protocol) = open_step w id pid protocol (listen_fault id w.sockets)
-stepped w (Write id bytes) = write_step w id bytes (pid_of id w.sockets)
-stepped w (Read id) = read_step w id (messages_of id w.sockets)
+abbrev pub stepped : World → Command → Stepped
+stepped w c = let e = effect w c in record { world = world_after e; answer = e.answer }
 
--- the command may want memory: it isn't refused for a reason that is found without any
+-- the command may want memory: it isn't refused for a reason that is found without any, and is none that never wants it
 unfoldable pub takes_memory : World → Command → Bool
-takes_memory w (Attach name type_number link) = is_none (attach_fault name w.interfaces)
-takes_memory w (AddAddress name address prefix cloning) = is_none (addr_fault name address w.interfaces)
+takes_memory w (Attach name kind type_number link) = is_none (attach_fault name w.interfaces)
+takes_memory w (AddAddress name address prefix cloning far) = is_none (addr_fault name address far w.interfaces)
 takes_memory w (Open id pid protocol) = is_none (listen_fault id w.sockets)
-takes_memory w (Write id bytes) = is_some (pid_of id w.sockets) && not (is_silent (first_fault (message_rules bytes)))
-takes_memory w (Read id) = is_some (messages_of id w.sockets)
-
--- this answer and this world; or that there is no memory, and the old world
-abbrev pub AnswersOr : Answer → World → World → Answer → World → Type 0
-AnswersOr wanted next old answer new = ((answer ≡ wanted) × (new ≡ next)) ⊎ ((answer ≡ Refused ENOBUFS) × (new ≡ old))
+takes_memory w (Close id) = false
+takes_memory w (Loopback id on) = false
+takes_memory w (Write id bytes) = is_open id w.sockets && not (is_silent (first_fault (message_rules bytes)))
+takes_memory w (Read id) = is_open id w.sockets
 
 -- the machine's step: this answer and this world
 abbrev pub IsStep : World → Command → Answer → World → Type 0

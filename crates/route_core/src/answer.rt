@@ -11,8 +11,8 @@ pub enum Answer {
     Done,
     /// It was refused.
     Refused(Errno),
-    /// It read these messages.
-    Messages(Received),
+    /// These messages, and why they are not all where some are left out.
+    Messages(Received, Option<Errno>),
 }
 
 /// The messages that a socket read, as bytes: whole messages, one after another, each of which begins with its length,

@@ -1,33 +1,43 @@
-ghost use Rattle.std.specs.Prelude.{◌≡◌, ◌≤◌, length};
-ghost use Rattle.std.specs.Option.{SomeIff};
+ghost use Rattle.std.specs.Prelude.{◌≡◌};
 
-use arrayvec::ArrayVec;
-use if_addrs::LinkAddress;
+use crate::{Lent, Written};
+use if_addrs::{Kind, LinkAddress};
 use mask_table::Prefix;
 use sock_addrs::{Inet, Name};
-use std::marker::Model;
 
 /// One command of a script. The bytes of a write are its own; those of a `Said` lie elsewhere, so that it is small.
 #[derive(Debug, Drop)]
 pub enum Command<B = Written> {
-    /// Attach a broadcast interface with this type number and link-layer address: `if NAME broadcast T HEX`.
+    /// Attach an interface of this kind, with this type number and link-layer address: `if NAME KIND T HEX`.
     Attach {
         name: Name,
+        kind: Kind,
         type_number: u8,
         link: LinkAddress,
     },
-    /// Give an interface an address, whose network's route clones where asked: `addr NAME A/P` and `addr NAME A/P cloning`.
+    /// Give an interface an address, on a point-to-point interface with the address of the other end, whose route clones
+    /// where asked: `addr NAME A/P`, `addr NAME A/P to A`; either may end with ` cloning`.
     AddAddress {
         name: Name,
         address: Inet,
         prefix: Prefix,
         cloning: bool,
+        far: Option<Inet>,
     },
-    /// Open a socket for a process and a protocol, 0 for any: `open ID PID any`.
+    /// Open a socket for a process and a protocol, 0 for any: `open ID PID any`, `open ID PID N`.
     Open {
         id: Name,
         pid: u32,
         protocol: u8,
+    },
+    /// Close a socket, whose queue goes with it: `close ID`.
+    Close {
+        id: Name,
+    },
+    /// Whether a socket hears the replies to its own writes: `loopback ID on`, `loopback ID off`.
+    Loopback {
+        id: Name,
+        on: bool,
     },
     /// Write these bytes to a socket: `write ID HEX`.
     Write {
@@ -51,10 +61,12 @@ impl Command<Written> {
         match self {
             Command::Attach {
                 name,
+                kind,
                 type_number,
                 link,
             } => Command::Attach {
                 name: *name,
+                kind: *kind,
                 type_number: *type_number,
                 link: LinkAddress::new(link.as_slice()).unwrap(),
             },
@@ -63,17 +75,21 @@ impl Command<Written> {
                 address,
                 prefix,
                 cloning,
+                far,
             } => Command::AddAddress {
                 name: *name,
                 address: *address,
                 prefix: *prefix,
                 cloning: *cloning,
+                far: *far,
             },
             Command::Open { id, pid, protocol } => Command::Open {
                 id: *id,
                 pid: *pid,
                 protocol: *protocol,
             },
+            Command::Close { id } => Command::Close { id: *id },
+            Command::Loopback { id, on } => Command::Loopback { id: *id, on: *on },
             Command::Write { id, bytes } => Command::Write {
                 id: *id,
                 bytes: bytes.lent(),
@@ -91,10 +107,12 @@ impl<'a> Command<Lent<'a>> {
         match self {
             Command::Attach {
                 name,
+                kind,
                 type_number,
                 link,
             } => Command::Attach {
                 name,
+                kind,
                 type_number,
                 link,
             },
@@ -103,13 +121,17 @@ impl<'a> Command<Lent<'a>> {
                 address,
                 prefix,
                 cloning,
+                far,
             } => Command::AddAddress {
                 name,
                 address,
                 prefix,
                 cloning,
+                far,
             },
             Command::Open { id, pid, protocol } => Command::Open { id, pid, protocol },
+            Command::Close { id } => Command::Close { id },
+            Command::Loopback { id, on } => Command::Loopback { id, on },
             Command::Write { id, bytes } => Command::Write {
                 id,
                 bytes: bytes.written(),
@@ -119,90 +141,3 @@ impl<'a> Command<Lent<'a>> {
     }
 }
 
-/// The bytes of a write: at most 8,246, which are as many as a line has room for. A contract sees the bytes.
-#[derive(Debug, Drop)]
-pub struct Written {
-    bytes: ArrayVec<u8, 8246>,
-}
-
-impl Model for Written {
-    ghost use Rattle.std.specs.Prelude.{ℕ, List, ◌≤◌, length};
-
-    ghost Value = { List ℕ };
-
-    ghost view = { λ w. w.bytes.items };
-
-    ghost invariant = { λ w. length w.bytes.items ≤ 8246 };
-}
-
-impl Written {
-    /// A write of these bytes, or `None` where they are more than 8,246.
-    pub fn new(bytes: &[u8]) -> Option<Written>
-        ensures { SomeIff result (length bytes.now ≤ 8246) bytes.now }
-    {
-        let bytes = ArrayVec::try_from(bytes).ok()?;
-        Some(Written { bytes })
-    }
-
-    /// Its bytes, at most 8,246 of them.
-    pub fn as_slice(&self) -> &[u8]
-        ensures bytes { result.now ≡ self.now }
-        ensures most { length self.now ≤ 8246 }
-    {
-        self.bytes.as_slice()
-    }
-
-    /// The bytes, lent.
-    fn lent(&self) -> Lent<'_>
-        ensures { result ≡ self.now }
-    {
-        Lent {
-            bytes: self.as_slice(),
-        }
-    }
-}
-
-/// The bytes of a write, as `Written`, that lie elsewhere. A contract sees the bytes.
-#[derive(Debug, Drop)]
-pub struct Lent<'a> {
-    bytes: &'a [u8],
-}
-
-impl<'a> Model for Lent<'a> {
-    ghost use Rattle.std.specs.Prelude.{ℕ, List, ◌≤◌, length};
-
-    ghost Value = { List ℕ };
-
-    ghost view = { λ w. w.bytes.now };
-
-    ghost invariant = { λ w. length w.bytes.now ≤ 8246 };
-}
-
-impl<'a> Lent<'a> {
-    /// A write of these bytes, or `None` where they are more than 8,246.
-    pub fn new(bytes: &'a [u8]) -> Option<Lent<'a>>
-        ensures { SomeIff result (length bytes.now ≤ 8246) bytes.now }
-    {
-        if bytes.len() > 8246 {
-            return None;
-        }
-        Some(Lent { bytes })
-    }
-
-    /// Its bytes, at most 8,246 of them.
-    pub fn as_slice(&self) -> &[u8]
-        ensures bytes { result.now ≡ self.now }
-        ensures most { length self.now ≤ 8246 }
-    {
-        self.bytes
-    }
-
-    /// The bytes themselves.
-    fn written(&self) -> Written
-        ensures { result ≡ self.now }
-    {
-        Written {
-            bytes: ArrayVec::try_from(self.bytes).unwrap(),
-        }
-    }
-}

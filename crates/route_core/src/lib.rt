@@ -3,20 +3,22 @@
 
 mod addresses;
 mod answer;
-mod asked;
 mod command;
 pub mod laws;
 mod messages;
 mod refusal;
+mod request;
 mod route;
 #[cfg(test)]
 mod tests;
 mod world;
+mod written;
 mod writes;
 
 pub use answer::{Answer, Received};
-pub use command::{Command, Lent, Said, Written};
-pub use if_addrs::LinkAddress;
+pub use command::{Command, Said};
+pub use if_addrs::{Kind, LinkAddress};
 pub use listeners::first_message;
 pub use route::Route;
 pub use world::World;
+pub use written::{Lent, Written};

@@ -1,9 +1,9 @@
 //! What a write asks, or why it is refused before anything is looked up.
-ghost use Rattle.std.specs.Prelude.{◌≡◌, Some, None, IfOk, IfErr, IsSome};
+ghost use Rattle.std.specs.Prelude.{◌≡◌, Some, None, Ok, Err, IfOk, IfErr, IsSome, MatchResult, is_none};
 ghost use Rattle.sock_addrs.specs.Reading.{IsWhole, number_of_inet};
 ghost use Rattle.route_msgs.specs.Headers.{header_in};
-ghost use Rattle.sock_addrs.specs.Rules.{first_fault};
-ghost use Rattle.route_core.specs.Writes.{IsEchoed, message_rules, destination_rules, is_plain_get as is_plain, destination as destination_of};
+ghost use Rattle.sock_addrs.specs.Rules.{first_fault, unless_fault};
+ghost use Rattle.route_core.specs.Writes.{IsEchoed, destination_rules, is_plain_get as is_plain, is_silent, message_rules, request_in};
 
 use crate::refusal::Refusal;
 use route_msgs::kinds::RTM_GET;
@@ -11,10 +11,10 @@ use route_msgs::{Header, MsgErr, bits, read_message};
 use sock_addrs::{BadAddr, Errno, Inet, family_of, read_inet};
 
 /// The longest write that is looked at.
-const MOST_BYTES: usize = 8192;
+pub(crate) const MOST_BYTES: usize = 8192;
 
 /// The bits of addrs that name an address beside the destination.
-const OTHER_ADDRESSES: u32 = bits::RTA_GATEWAY
+pub(crate) const OTHER_ADDRESSES: u32 = bits::RTA_GATEWAY
     | bits::RTA_NETMASK
     | bits::RTA_GENMASK
     | bits::RTA_IFP
@@ -22,20 +22,27 @@ const OTHER_ADDRESSES: u32 = bits::RTA_GATEWAY
     | bits::RTA_AUTHOR
     | bits::RTA_BRD;
 
-/// A GET of a destination.
+/// What a written message asks, with what is taken from the message.
+#[derive(Clone, Copy, Debug)]
+pub(crate) enum Request {
+    /// The best route of an address.
+    Get(Inet),
+}
+
+/// A written message that no rule refuses.
 #[derive(Clone, Copy, Debug)]
 pub(crate) struct Asked {
-    /// The address whose route is asked for.
-    pub(crate) destination: Inet,
-    /// The header that asks.
+    /// Its header.
     pub(crate) header: Header,
+    /// What it asks.
+    pub(crate) request: Request,
 }
 
 impl Asked {
     /// What the bytes of a write ask. Refused in the order of the reasons that lie in the message itself.
     pub(crate) fn read(bytes: &[u8]) -> Result<Asked, Refusal>
         ensures passes { IfOk result (λ _. first_fault (message_rules bytes.now) ≡ None) }
-        ensures destination { IfOk result (λ a. a.destination ≡ destination_of bytes.now) }
+        ensures request { IfOk result (λ a. a.request ≡ request_in bytes.now) }
         ensures header { IfOk result (λ a. a.header ≡ header_in bytes.now) }
         ensures refused { IfErr result (λ r. first_fault (message_rules bytes.now) ≡ Some r) }
         ensures whole { IfOk result (λ _. IsEchoed bytes.now) }
@@ -50,14 +57,14 @@ impl Asked {
             Err(MsgErr::Version) => return Err(Refusal::heard(Errno::EPROTONOSUPPORT, 0)),
             Err(MsgErr::Overrun) => return Err(Refusal::heard(Errno::EINVAL, 0)),
         };
-        let Some(text) = message.address(0, bytes) else {
+        let Some(sockaddr) = message.address(0, bytes) else {
             return Err(Refusal::heard(Errno::EINVAL, 0));
         };
         let header = message.header;
-        let destination = destination_in(text, is_plain_get(&header))?;
+        let destination = destination_in(sockaddr, is_plain_get(&header))?;
         Ok(Asked {
-            destination,
             header,
+            request: Request::Get(destination),
         })
     }
 }
@@ -70,14 +77,14 @@ fn is_plain_get(header: &Header) -> bool
 }
 
 /// The destination of a request, by the bytes of its address.
-fn destination_in(text: &[u8], is_plain_get: bool) -> Result<Inet, Refusal>
-    requires { IsWhole text.now }
-    ensures passes { IfOk result (λ _. first_fault (destination_rules text.now is_plain_get) ≡ None) }
-    ensures address { IfOk result (λ a. a ≡ number_of_inet text.now) }
-    ensures refused { IfErr result (λ r. first_fault (destination_rules text.now is_plain_get) ≡ Some r) }
+fn destination_in(sockaddr: &[u8], is_plain_get: bool) -> Result<Inet, Refusal>
+    requires { IsWhole sockaddr.now }
+    ensures passes { IfOk result (λ _. first_fault (destination_rules sockaddr.now is_plain_get) ≡ None) }
+    ensures address { IfOk result (λ a. a ≡ number_of_inet sockaddr.now) }
+    ensures refused { IfErr result (λ r. first_fault (destination_rules sockaddr.now is_plain_get) ≡ Some r) }
 {
-    let family = family_of(text);
-    let address = match read_inet(text) {
+    let family = family_of(sockaddr);
+    let address = match read_inet(sockaddr) {
         Ok(address) => Some(address),
         Err(BadAddr::Length) => return Err(Refusal::heard(Errno::EINVAL, family)),
         Err(_) => None,
