@@ -18,10 +18,14 @@ pub record Outcome : Type 0 where
   pub notices : List Told
   pub reply : List ℕ
 
--- a GET changes nothing and tells nothing: its reply shows the route, where there is one
+-- nothing changes, and nothing is told but the reply
+abbrev pub quiet : List (Entry Route) → List ℕ → Outcome
+quiet table reply = record { table = table; notices = []; reply = reply }
+
+-- the reply to a GET shows the route, where there is one
 abbrev pub got : List (Entry Route) → ℕ → Header → Option (Entry Route) → Result Outcome Errno
 got table pid asked None = Err ESRCH
-got table pid asked (Some r) = Ok (record { table = table; notices = []; reply = route_got asked pid r })
+got table pid asked (Some r) = Ok (quiet table (route_got asked pid r))
 
 -- a request of a process, made by this message
 abbrev pub outcome_of : List (Entry Route) → ℕ → List ℕ → Request → Result Outcome Errno

@@ -1,5 +1,5 @@
 -- One step of the world for each command: what it does, and the world and the answer after it.
-use Rattle.std.specs.Prelude.{◌≡◌, ◌⊎◌, ◌+◌, ◌&&◌, ℕ, Bool, true, not, is_some, is_none, if◌then◌else◌, List, [], ◌∷◌, ◌++◌, Option, Some, None, Result, Ok, Err, unwrap_or}
+use Rattle.std.specs.Prelude.{◌≡◌, ◌⊎◌, ◌+◌, ◌&&◌, ℕ, Bool, true, false, not, is_some, is_none, if◌then◌else◌, List, [], ◌∷◌, ◌++◌, Option, Some, None, Result, Ok, Err, unwrap_or}
 use Rattle.std.specs.Option.{option_map_or}
 use Rattle.sock_addrs.specs.declared.errno.Errno.{Errno}
 use Rattle.sock_addrs.specs.declared.errno.Errno.TheVariants.{EBADF, EEXIST, ENOBUFS}
@@ -14,8 +14,9 @@ use Rattle.route_core.specs.Telling.{Told, told, delivered_all}
 use Rattle.sock_addrs.specs.declared.families.TheConstants.{AF_INET}
 use Rattle.route_core.specs.World.{World}
 use Rattle.sock_addrs.specs.Rules.{first_fault}
-use Rattle.route_core.specs.Requests.{Outcome}
-use Rattle.route_core.specs.Writes.{outcome_of, refused_reply, message_rules, is_silent}
+use Rattle.route_core.specs.Requests.{Outcome, outcome_of}
+use Rattle.route_core.specs.Writes.{refused_reply, message_rules, is_silent, request_of}
+use Rattle.route_core.specs.declared.request.Request.{Request}
 use Rattle.if_addrs.specs.declared.reference.IfaRef.{IfaRef}
 use Rattle.if_addrs.specs.declared.reference.IfaRef.TheVariants.{Inet}
 use Rattle.radix_tree.specs.declared.entry.Entry.{Entry}
@@ -151,8 +152,8 @@ takes_memory w (AddAddress name address prefix cloning far) = is_none (addr_faul
 takes_memory w (Open id pid protocol) = is_none (listen_fault id w.sockets)
 takes_memory w (Close id) = false
 takes_memory w (Loopback id on) = false
-takes_memory w (Write id bytes) = is_open id w.sockets && not (is_silent (first_fault (message_rules bytes)))
-takes_memory w (Read id) = is_open id w.sockets
+takes_memory w (Write id bytes) = is_some (pid_of id w.sockets) && not (is_silent (first_fault (message_rules bytes)))
+takes_memory w (Read id) = is_some (messages_of id w.sockets)
 
 -- the machine's step: this answer and this world
 abbrev pub IsStep : World → Command → Answer → World → Type 0

@@ -1,10 +1,10 @@
-ghost use Rattle.std.specs.Prelude.{◌≡◌};
-ghost use Rattle.route_core.specs.Routes.{route_of_address};
+ghost use Rattle.std.specs.Prelude.{◌≡◌, ◌≤◌};
+ghost use Rattle.route_core.specs.Addresses.{flags_of_address, key_of_address, rank_of_address, route_of_address};
 
-use if_addrs::IfaRef;
-use mask_table::Prefix;
+use if_addrs::{Facts, IfaRef, Kind};
+use mask_table::{Prefix, Rank, masked};
 use route_msgs::Metrics;
-use route_msgs::flags::{RTF_CLONING, RTF_UP};
+use route_msgs::flags::{RTF_CLONING, RTF_HOST, RTF_UP};
 use sock_addrs::{Gate, Inet};
 
 /// What the table keeps of a route beside its key and its rank (`struct rtentry` of <net/route.h>).
@@ -25,22 +25,50 @@ pub struct Route {
 }
 
 impl Route {
-    /// The route to the network of an address on a broadcast interface: up, by way of the address itself.
-    pub(crate) fn of_address(address: Inet, cloning: bool, ifa: IfaRef) -> Route
-        ensures { result ≡ route_of_address address cloning ifa }
+    /// The route that an address brings: to the network on a broadcast interface and else to one host, by way of the address.
+    pub(crate) fn of_address(kind: Kind, address: Inet, cloning: bool, ifa: IfaRef) -> Route
+        ensures { result ≡ route_of_address kind address cloning ifa }
     {
-        let flags = if cloning {
-            RTF_UP | RTF_CLONING
-        } else {
-            RTF_UP
-        };
         Route {
-            flags,
+            flags: flags_of(kind, cloning),
             gateway: Gate::Inet(address),
             metrics: Metrics::default(),
             genmask: None,
             ifa,
             use_count: 0,
         }
+    }
+}
+
+/// The flags of an address's route.
+fn flags_of(kind: Kind, cloning: bool) -> u16
+    ensures { result ≡ flags_of_address kind cloning }
+{
+    let host = match kind {
+        Kind::Broadcast => 0,
+        Kind::Loopback | Kind::PointToPoint => RTF_HOST,
+    };
+    let cloning = if cloning { RTF_CLONING } else { 0 };
+    RTF_UP | host | cloning
+}
+
+/// The rank of an address's route: the network's on a broadcast interface, and that of a host on the others.
+pub(crate) fn rank_of(facts: &Facts) -> Rank
+    ensures rank { result ≡ rank_of_address facts.now.kind facts.now.prefix }
+    ensures most { result ≤ 33 }
+{
+    match facts.kind {
+        Kind::Broadcast => Rank::of(facts.prefix),
+        Kind::Loopback | Kind::PointToPoint => Rank::host(),
+    }
+}
+
+/// The key of an address's route: the network on a broadcast interface, and the far address on the others.
+pub(crate) fn key_of(address: Inet, facts: &Facts) -> Inet
+    ensures { result ≡ key_of_address facts.now.kind address facts.now.prefix facts.now.far }
+{
+    match facts.kind {
+        Kind::Broadcast => masked(address, Rank::of(facts.prefix)),
+        Kind::Loopback | Kind::PointToPoint => facts.far,
     }
 }

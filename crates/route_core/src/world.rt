@@ -1,9 +1,9 @@
 ghost use Rattle.std.specs.Prelude.{◌≡◌, ℕ, List, IfOk};
 ghost use Rattle.route_core.specs.World.{empty_world};
 ghost use Rattle.route_core.specs.Step.{IsStep, Steps};
-ghost use Rattle.route_core.specs.declared.command.Command.TheVariants.{Attach, Open, Read};
+ghost use Rattle.route_core.specs.declared.command.Command.TheVariants.{Attach, Close, Loopback, Open, Read};
 
-use crate::{Answer, Command, LinkAddress, Received, Route, Said};
+use crate::{Answer, Command, Kind, LinkAddress, Received, Route, Said};
 use if_addrs::Interfaces;
 use listeners::Listeners;
 use radix_tree::Table;
@@ -56,26 +56,36 @@ impl World {
         match said {
             Command::Attach {
                 name,
+                kind,
                 type_number,
                 link,
-            } => self.attach(*name, *type_number, link),
+            } => self.attach(*name, *kind, *type_number, link),
             Command::AddAddress {
                 name,
                 address,
                 prefix,
                 cloning,
-            } => self.add_address(*name, *address, *prefix, *cloning),
+                far,
+            } => self.add_address(*name, *address, *prefix, *cloning, *far),
             Command::Open { id, pid, protocol } => self.listen(*id, *pid, *protocol),
+            Command::Close { id } => self.shut(*id),
+            Command::Loopback { id, on } => self.set_loopback(*id, *on),
             Command::Write { id, bytes } => self.write(*id, bytes.as_slice()),
             Command::Read { id } => self.take(*id),
         }
     }
 
     /// Attaches an interface. EEXIST: the name is there; ENOSPC: there are 64 interfaces; ENOBUFS: there is no memory.
-    pub fn attach(&mut self, name: Name, type_number: u8, link: &LinkAddress) -> Answer
-        ensures { Steps self.old (Attach name type_number link.now) result self.new }
+    pub fn attach(
+        &mut self,
+        name: Name,
+        kind: Kind,
+        type_number: u8,
+        link: &LinkAddress,
+    ) -> Answer
+        ensures { Steps self.old (Attach name kind type_number link.now) result self.new }
     {
-        if let Err(errno) = self.interfaces.attach(name, type_number, link) {
+        if let Err(errno) = self.interfaces.attach(name, kind, type_number, link) {
             return Answer::Refused(errno);
         }
         Answer::Done
@@ -91,6 +101,26 @@ impl World {
         Answer::Done
     }
 
+    /// Closes a socket; its queue goes with it. EBADF: it isn't open. It wants no memory.
+    pub fn shut(&mut self, id: Name) -> Answer
+        ensures { IsStep self.old (Close id) result self.new }
+    {
+        if let Err(errno) = self.listeners.shut(id) {
+            return Answer::Refused(errno);
+        }
+        Answer::Done
+    }
+
+    /// Whether a socket hears the replies to its own writes. EBADF: it isn't open. It wants no memory.
+    pub fn set_loopback(&mut self, id: Name, on: bool) -> Answer
+        ensures { IsStep self.old (Loopback id on) result self.new }
+    {
+        if let Err(errno) = self.listeners.set_loopback(id, on) {
+            return Answer::Refused(errno);
+        }
+        Answer::Done
+    }
+
     /// Takes the messages that a socket has heard. EBADF: it isn't open. It wants no memory.
     pub fn take(&mut self, id: Name) -> Answer
         ensures { IsStep self.old (Read id) result self.new }
@@ -99,6 +129,6 @@ impl World {
             Ok(bytes) => bytes,
             Err(errno) => return Answer::Refused(errno),
         };
-        Answer::Messages(Received::new(bytes))
+        Answer::Messages(Received::new(bytes), None)
     }
 }
