@@ -1,3 +1,2 @@
-pub mod AddressLists
 pub mod Networks
 pub mod Texts

@@ -1,25 +1,27 @@
 -- The interfaces with their addresses.
-use Rattle.std.specs.Prelude.{ℕ, ◌+◌, ◌-◌, ◌*◌, ◌^◌, ◌≤◌, ◌==◌, nat_le, zero, suc, Bool, false, not, ◌&&◌, List, [], ◌∷◌, ◌++◌, length, map, max, Option, None, IsSome, option_map, unwrap_or, bytes_eq, bit_or, if◌then◌else◌}
+use Rattle.std.specs.Prelude.{◌≡◌, ℕ, ◌+◌, ◌-◌, ◌*◌, ◌^◌, ◌≤◌, ◌==◌, nat_le, zero, suc, Bool, true, false, not, ◌&&◌, List, [], ◌∷◌, ◌++◌, length, map, max, Option, None, Some, IsSome, IsSomeAnd, is_some, is_none, option_map, unwrap_or, ok_or, Result, Err, bytes_eq, bit_or, if◌then◌else◌}
 use Rattle.std.specs.List.{find, list_any, flat_map, position, slice_get}
+use Rattle.std.specs.Option.{option_map_or}
 use Rattle.std.specs.Int.{w16, to_be_bytes}
 use Rattle.sock_addrs.specs.Padded.{padded_to}
 use Rattle.sock_addrs.specs.Rounding.{rounded}
 use Rattle.sock_addrs.specs.declared.errno.Errno.{Errno}
-use Rattle.sock_addrs.specs.declared.errno.Errno.TheVariants.{ENXIO, EEXIST, ENOSPC, EADDRINUSE}
+use Rattle.sock_addrs.specs.declared.errno.Errno.TheVariants.{ENXIO, EEXIST, EINVAL, ENOSPC, EADDRINUSE, EADDRNOTAVAIL}
+use Rattle.sock_addrs.specs.declared.gate.Gate.{Gate}
+use Rattle.sock_addrs.specs.declared.gate.Gate.TheVariants as gate
 use Rattle.mask_table.specs.Agreeing.{front}
 use Rattle.sock_addrs.specs.Rules.{rule, first_fault}
 use Rattle.sock_addrs.specs.First.{change_first}
+use Rattle.if_addrs.specs.declared.kind.Kind.{Kind}
+use Rattle.if_addrs.specs.declared.kind.Kind.TheVariants.{Broadcast, Loopback, PointToPoint}
 use Rattle.if_addrs.specs.declared.reference.IfaRef.{IfaRef}
-use Rattle.if_addrs.specs.declared.reference.IfaRef.TheVariants.{Inet, Link}
+use Rattle.if_addrs.specs.declared.reference.IfaRef.TheVariants as ifa
 
-pub data Kind : Type 0 where
-  Broadcast : Kind
-  Loopback : Kind
-  Point_to_point : Kind
-
--- an address of an interface; the far address is the broadcast address on a broadcast interface
+-- an address of an interface of this kind. The far address is the broadcast address on a broadcast interface, the address itself
+-- on loopback, and the other end's on a point-to-point interface. An address that was removed stays, for the routes that use it
 pub record Address : Type 0 where
   pub number : ℕ
+  pub kind : Kind
   pub address : ℕ
   pub prefix : ℕ
   pub flags : ℕ
@@ -39,16 +41,27 @@ pub record Interface : Type 0 where
 abbrev pub has_name : List ℕ → Interface → Bool
 has_name name i = bytes_eq i.name name
 
+-- so many interfaces are attached at most, and so many addresses ever added
+abbrev pub most_interfaces : ℕ
+most_interfaces = 64
+
+abbrev pub most_addresses : ℕ
+most_addresses = 65535
+
 -- why an interface of this name can't be attached
 abbrev pub attach_fault : List ℕ → List Interface → Option Errno
 attach_fault name interfaces = first_fault
     (rule (list_any (has_name name) interfaces) EEXIST
-    ∷ rule (nat_le 64 (length interfaces)) ENOSPC
+    ∷ rule (nat_le most_interfaces (length interfaces)) ENOSPC
     ∷ [])
 
 -- an interface as it is attached
-abbrev pub attached : List ℕ → ℕ → List ℕ → Interface
-attached name type_number link = record { name = name; kind = Broadcast; type_number = type_number; link = link; addresses = [] }
+abbrev pub attached : List ℕ → Kind → ℕ → List ℕ → Interface
+attached name kind type_number link = record { name = name; kind = kind; type_number = type_number; link = link; addresses = [] }
+
+-- the kind of the interface of this name; where there is none, any kind
+abbrev pub kind_of : List ℕ → List Interface → Kind
+kind_of name interfaces = option_map_or (λ i. i.kind) (find (has_name name) interfaces) Broadcast
 
 -- interfaces are numbered from 1 on
 abbrev pub interface_numbered : ℕ → List Interface → Option Interface
@@ -84,12 +97,18 @@ is_at address a = not a.removed && a.address == address
 abbrev pub holds : ℕ → Interface → Bool
 holds address i = list_any (is_at address) i.addresses
 
--- why an address can't be added to the interface of this name
-abbrev pub addr_fault : List ℕ → ℕ → List Interface → Option Errno
-addr_fault name address interfaces = first_fault
+-- the other end's address is given where an interface has another end, and only there
+abbrev pub fits : Kind → Option ℕ → Bool
+fits PointToPoint far = is_some far
+fits kind far = is_none far
+
+-- why an address, with this one at the other end, can't be added to the interface of this name
+abbrev pub addr_fault : List ℕ → ℕ → Option ℕ → List Interface → Option Errno
+addr_fault name address far interfaces = first_fault
     (rule (not (list_any (has_name name) interfaces)) ENXIO
+    ∷ rule (not (fits (kind_of name interfaces) far)) EINVAL
     ∷ rule (list_any (holds address) interfaces) EADDRINUSE
-    ∷ rule (nat_le 65535 (added interfaces)) ENOSPC
+    ∷ rule (nat_le most_addresses (added interfaces)) ENOSPC
     ∷ [])
 
 -- the last address of the network, which has all host bits set
@@ -103,17 +122,32 @@ cloning_flag = 0x100
 abbrev pub routed_flag : ℕ
 routed_flag = 1
 
+-- the far address
+abbrev pub far_of : Kind → ℕ → ℕ → Option ℕ → ℕ
+far_of Broadcast prefix address far = last_of_network prefix address
+far_of Loopback prefix address far = address
+far_of PointToPoint prefix address far = unwrap_or far address
+
 -- an address as it is added
-abbrev pub new_address : ℕ → ℕ → ℕ → Bool → Address
-new_address number address prefix cloning = record { number = number; address = address; prefix = prefix; flags = if cloning then cloning_flag else 0; far = last_of_network prefix address; removed = false }
+abbrev pub new_address : ℕ → Kind → ℕ → ℕ → Bool → Option ℕ → Address
+new_address number kind address prefix cloning far = record {
+  number = number;
+  kind = kind;
+  address = address;
+  prefix = prefix;
+  flags = if cloning then cloning_flag else 0;
+  far = far_of kind prefix address far;
+  removed = false;
+}
 
 abbrev pub with_one_more : Address → Interface → Interface
 with_one_more a i = record i { addresses = i.addresses ++ a ∷ [] }
 
 -- the interfaces after an address was added to the one of this name, with the next number
-abbrev pub with_address : List ℕ → ℕ → ℕ → Bool → List Interface → List Interface
-with_address name address prefix cloning interfaces =
-    change_first (has_name name) (with_one_more (new_address (added interfaces + 1) address prefix cloning)) interfaces
+abbrev pub with_address : List ℕ → ℕ → ℕ → Bool → Option ℕ → List Interface → List Interface
+with_address name address prefix cloning far interfaces =
+    let a = new_address (added interfaces + 1) (kind_of name interfaces) address prefix cloning far in
+    change_first (has_name name) (with_one_more a) interfaces
 
 -- REFERENCES: an interface address is an address by its number, or an interface's link-layer address by the interface's number
 
@@ -125,26 +159,62 @@ has_numbered number i = list_any (has_number number) i.addresses
 
 -- the address, where it is none of a link layer
 abbrev pub address_of : IfaRef → List Interface → Option Address
-address_of (Inet number) interfaces = find (has_number number) (addresses_of interfaces)
-address_of (Link index) interfaces = None
+address_of (ifa.Inet number) interfaces = find (has_number number) (addresses_of interfaces)
+address_of (ifa.Link index) interfaces = None
 
 -- the number of the interface that has the address
 abbrev pub interface_of : IfaRef → List Interface → ℕ
-interface_of (Inet number) interfaces = unwrap_or (position (has_numbered number) interfaces) 0 + 1
-interface_of (Link index) interfaces = index
+interface_of (ifa.Inet number) interfaces = unwrap_or (position (has_numbered number) interfaces) 0 + 1
+interface_of (ifa.Link index) interfaces = index
 
 -- the interface address is one of these interfaces
 abbrev pub IsOf : IfaRef → List Interface → Type 0
-IsOf (Inet number) interfaces = IsSome (address_of (Inet number) interfaces)
-IsOf (Link index) interfaces = (1 ≤ index) × (index ≤ length interfaces)
+IsOf (ifa.Inet number) interfaces = IsSome (address_of (ifa.Inet number) interfaces)
+IsOf (ifa.Link index) interfaces = (1 ≤ index) × (index ≤ length interfaces)
 
-abbrev pub with_routed_flag : ℕ → Address → Address
-with_routed_flag number a = if has_number number a then record a { flags = bit_or a.flags routed_flag } else a
+-- the interface address is an address of these interfaces that was not removed
+abbrev pub IsStanding : IfaRef → List Interface → Type 0
+IsStanding i interfaces = IsSomeAnd (address_of i interfaces) (λ a. a.removed ≡ false)
 
-abbrev pub with_routed_flags : ℕ → Interface → Interface
-with_routed_flags number i = record i { addresses = map (with_routed_flag number) i.addresses }
+-- what an interface address is: an IPv4 address, or the link-layer address as it stands in a message
+abbrev pub text_of : IfaRef → List Interface → Option Gate
+text_of (ifa.Inet number) interfaces = option_map (λ a. gate.Inet a.address) (address_of (ifa.Inet number) interfaces)
+text_of (ifa.Link index) interfaces = option_map (λ text. gate.Link text) (link_text_of index interfaces)
+
+-- the reference to an address
+abbrev pub reference : Address → IfaRef
+reference a = ifa.Inet a.number
+
+-- the address that the interface of this name holds; or there is no such interface, or it doesn't hold the address
+abbrev pub found_on : ℕ → Option Interface → Result IfaRef Errno
+found_on address None = Err ENXIO
+found_on address (Some i) = ok_or (option_map reference (find (is_at address) i.addresses)) EADDRNOTAVAIL
+
+abbrev pub find_addr : List ℕ → ℕ → List Interface → Result IfaRef Errno
+find_addr name address interfaces = found_on address (find (has_name name) interfaces)
+
+-- CHANGES OF ONE ADDRESS
+
+-- the interfaces with the address of this number changed
+abbrev pub with_changed : ℕ → (Address → Address) → Interface → Interface
+with_changed number f i = record i { addresses = change_first (has_number number) f i.addresses }
+
+abbrev pub changed : IfaRef → (Address → Address) → List Interface → List Interface
+changed (ifa.Inet number) f interfaces = change_first (has_numbered number) (with_changed number f) interfaces
+changed (ifa.Link index) f interfaces = interfaces
+
+-- an address whose route was added
+abbrev pub routed : Address → Address
+routed a = record a { flags = bit_or a.flags routed_flag }
+
+-- an address that was removed
+abbrev pub gone : Address → Address
+gone a = record a { removed = true }
 
 -- the interfaces after the address was marked as one whose route was added
 abbrev pub marked_routed : IfaRef → List Interface → List Interface
-marked_routed (Inet number) interfaces = map (with_routed_flags number) interfaces
-marked_routed (Link index) interfaces = interfaces
+marked_routed i interfaces = changed i routed interfaces
+
+-- the interfaces after the address was removed
+abbrev pub without_addr : IfaRef → List Interface → List Interface
+without_addr i interfaces = changed i gone interfaces

@@ -1,10 +1,14 @@
-ghost use Rattle.std.specs.Prelude.{◌≡◌, map, option_map};
-ghost use Rattle.std.specs.List.{find};
-ghost use Rattle.if_addrs.specs.Interfaces.{new_address, last_of_network, is_at, has_number as is_numbered, with_routed_flag};
+ghost use Rattle.std.specs.Prelude.{◌≡◌, filter};
+ghost use Rattle.std.specs.List.{find, position};
+ghost use Rattle.if_addrs.specs.Interfaces.{new_address, last_of_network, far_of, is_at, has_number as is_numbered, reference as reference_to};
 ghost use Rattle.if_addrs.specs.Facts.{facts_of};
+ghost use Rattle.if_addrs.specs.Searches.{answers_to, longest as longest_of};
+ghost use Rattle.if_addrs.specs.Wanted.{passes as passes_by, marked, better};
+ghost use Rattle.if_addrs.specs.declared.address.Wanted.TheVariants.{Near};
 
-use crate::reference::Facts;
-use mask_table::Prefix;
+use crate::kind::Kind;
+use crate::reference::{Facts, IfaRef};
+use mask_table::{Prefix, Rank, agrees};
 use sock_addrs::Inet;
 use std::marker::Model;
 
@@ -13,44 +17,78 @@ const CLONING: u32 = 0x100;
 /// The bit of the flag word for an address whose route was added.
 const ROUTED: u32 = 1;
 
+/// What a search asks of an address.
+#[derive(Clone, Copy)]
+pub(crate) enum Wanted {
+    /// It is this address, or this is its broadcast address.
+    Own(Inet),
+    /// This is the address of its interface's other end.
+    Far(Inet),
+    /// Its network holds this address.
+    Near(Inet),
+    /// Nothing.
+    Any,
+}
+
+/// What an address is marked as.
+#[derive(Clone, Copy)]
+pub(crate) enum Mark {
+    /// Its route was added.
+    Routed,
+    /// It was removed.
+    Gone,
+}
+
 /// An address of an interface.
-#[derive(Drop)]
+#[derive(Clone, Copy)]
 pub(crate) struct Address {
     number: u16,
+    kind: Kind,
     address: Inet,
     prefix: Prefix,
     flags: u32,
     far: Inet,
+    removed: bool,
 }
 
 impl Model for Address {
-    ghost use Rattle.std.specs.Prelude.{false};
     ghost use Rattle.if_addrs.specs.Interfaces.{Address as Seen};
 
     ghost Value = { Seen };
 
-    ghost view = { λ a. record { number = a.number; address = a.address; prefix = a.prefix; flags = a.flags; far = a.far; removed = false } };
+    ghost view = { λ a. record { number = a.number; kind = a.kind; address = a.address; prefix = a.prefix; flags = a.flags; far = a.far; removed = a.removed } };
+
+    ghost inverse = { λ a. record { number = a.number; kind = a.kind; address = a.address; prefix = a.prefix; flags = a.flags; far = a.far; removed = a.removed } };
 }
 
 impl Address {
-    /// An address with this number, whose route is not yet added.
-    pub(crate) fn new(number: u16, address: Inet, prefix: Prefix, cloning: bool) -> Address
-        ensures { result ≡ new_address number address prefix cloning }
+    /// An address with this number, whose route is not yet added; `far` is the other end's, where the interface has one.
+    pub(crate) fn new(
+        number: u16,
+        kind: Kind,
+        address: Inet,
+        prefix: Prefix,
+        cloning: bool,
+        far: Option<Inet>,
+    ) -> Address
+        ensures { result ≡ new_address number kind address prefix cloning far }
     {
         Address {
             number,
+            kind,
             address,
             prefix,
             flags: if cloning { CLONING } else { 0 },
-            far: last_of_network(address, prefix),
+            far: far_address(kind, address, prefix, far),
+            removed: false,
         }
     }
 
-    /// Whether it is this address.
+    /// Whether it is this address, and was not removed.
     pub(crate) fn is_at(&self, address: Inet) -> bool
         ensures { result ≡ is_at address self.now }
     {
-        self.address == address
+        !self.removed && self.address == address
     }
 
     /// Whether this is its number.
@@ -60,23 +98,71 @@ impl Address {
         self.number == number
     }
 
-    fn facts(&self) -> Facts
+    /// Whether it is as a search wants it, and was not removed.
+    pub(crate) fn passes(&self, wanted: Wanted) -> bool
+        ensures { result ≡ passes_by wanted self.now }
+    {
+        !self.removed
+            && match wanted {
+                Wanted::Own(address) => self.answers_to(address),
+                Wanted::Far(address) => self.kind == Kind::PointToPoint && self.far == address,
+                Wanted::Near(address) => agrees(self.address, Rank::of(self.prefix), address),
+                Wanted::Any => true,
+            }
+    }
+
+    /// Whether it is this address, or this is its broadcast address.
+    fn answers_to(&self, address: Inet) -> bool
+        ensures { result ≡ answers_to address self.now }
+    {
+        self.address == address || (self.kind == Kind::Broadcast && self.far == address)
+    }
+
+    /// The address itself.
+    pub(crate) fn inet(&self) -> Inet
+        ensures { result ≡ self.now.address }
+    {
+        self.address
+    }
+
+    /// The reference to it.
+    pub(crate) fn reference(&self) -> IfaRef
+        ensures { result ≡ reference_to self.now }
+    {
+        IfaRef::Inet(self.number)
+    }
+
+    /// What is known of it.
+    pub(crate) fn facts(&self) -> Facts
         ensures { result ≡ facts_of self.now }
     {
         Facts {
+            kind: self.kind,
             prefix: self.prefix,
             flags: self.flags,
             far: self.far,
         }
     }
 
-    /// Marks it as one whose route was added if it has this number.
-    fn mark_routed(&mut self, number: u16)
-        ensures { self.new ≡ with_routed_flag number self.old }
+    /// Marks it.
+    pub(crate) fn mark(&mut self, mark: Mark)
+        ensures { self.new ≡ marked mark self.old }
     {
-        if self.has_number(number) {
-            self.flags |= ROUTED;
+        match mark {
+            Mark::Routed => self.flags |= ROUTED,
+            Mark::Gone => self.removed = true,
         }
+    }
+}
+
+/// The far address of an interface's address; `far` is the other end's, where the interface has one.
+fn far_address(kind: Kind, address: Inet, prefix: Prefix, far: Option<Inet>) -> Inet
+    ensures { result ≡ far_of kind prefix address far }
+{
+    match kind {
+        Kind::Broadcast => last_of_network(address, prefix),
+        Kind::Loopback => address,
+        Kind::PointToPoint => far.unwrap_or(address),
     }
 }
 
@@ -90,23 +176,52 @@ fn last_of_network(address: Inet, prefix: Prefix) -> Inet
     Inet::new((next - 1) as u32)
 }
 
-/// What is known of the address with this number.
-pub(crate) fn facts(addresses: &[Address], number: u16) -> Option<Facts>
-    ensures { result ≡ option_map facts_of (find (is_numbered number) addresses.now) }
+/// The place of the address that is this one.
+pub(crate) fn place_of(addresses: &[Address], address: Inet) -> Option<usize>
+    ensures { result ≡ position (is_at address) addresses.now }
+{
+    addresses.iter().position(|a| a.is_at(address))
+}
+
+/// The place of the address with this number.
+pub(crate) fn place_of_number(addresses: &[Address], number: u16) -> Option<usize>
+    ensures { result ≡ position (is_numbered number) addresses.now }
+{
+    addresses.iter().position(|a| a.has_number(number))
+}
+
+/// The first that is as a search wants it.
+pub(crate) fn first(addresses: &[Address], wanted: Wanted) -> Option<Address>
+    ensures { result ≡ find (passes_by wanted) addresses.now }
 {
     for address in addresses {
-        if address.has_number(number) {
-            return Some(address.facts());
+        if address.passes(wanted) {
+            return Some(*address);
         }
     }
     None
 }
 
-/// Marks the address with this number as one whose route was added.
-pub(crate) fn mark_routed(addresses: &mut [Address], number: u16)
-    ensures { addresses.new ≡ map (with_routed_flag number) addresses.old }
+/// The first of the longest prefix among those whose network holds this address.
+pub(crate) fn longest(addresses: &[Address], held: Inet) -> Option<Address>
+    ensures { result ≡ longest_of (filter (passes_by (Near held)) addresses.now) }
 {
+    let mut best = None;
     for address in addresses {
-        address.mark_routed(number);
+        if address.passes(Wanted::Near(held)) {
+            best = better(best, Some(*address));
+        }
+    }
+    best
+}
+
+/// Of two addresses the one of the longer prefix, the first where both are as long.
+pub(crate) fn better(first: Option<Address>, second: Option<Address>) -> Option<Address>
+    ensures { result ≡ better first second }
+{
+    match (first, second) {
+        (Some(a), Some(b)) if a.prefix.bits() < b.prefix.bits() => Some(b),
+        (Some(a), _) => Some(a),
+        (None, b) => b,
     }
 }

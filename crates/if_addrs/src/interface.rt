@@ -1,11 +1,13 @@
-ghost use Rattle.std.specs.Prelude.{◌≡◌, ◌+◌, ◌≤◌, ◌++◌, length, map, option_map, OnOk, OnErr};
+ghost use Rattle.std.specs.Prelude.{◌≡◌, ◌+◌, ◌≤◌, ◌++◌, length, map, filter, option_map, OnOk, OnErr};
 ghost use Rattle.std.specs.List.{find, list_any, position};
-ghost use Rattle.if_addrs.specs.Interfaces.{addresses_of, attached, has_name as is_named, holds, has_number, has_numbered as holds_number, with_one_more, with_routed_flags, link_text};
+ghost use Rattle.if_addrs.specs.Interfaces.{addresses_of, attached, has_name as is_named, holds, has_number, has_numbered as holds_number, with_one_more, with_changed, link_text, kind_of as kind_named, changed, is_at};
+ghost use Rattle.if_addrs.specs.Searches.{standing, nearest as nearest_of, longest as longest_of};
+ghost use Rattle.if_addrs.specs.Wanted.{passes, marked, better};
+ghost use Rattle.if_addrs.specs.declared.address.Wanted.TheVariants.{Near};
 ghost use Rattle.sock_addrs.specs.Padded.{padded_to};
-ghost use Rattle.if_addrs.specs.Facts.{facts_of};
 
-use crate::address::{self, Address};
-use crate::reference::Facts;
+use crate::address::{self, Address, Mark, Wanted};
+use crate::kind::Kind;
 use arrayvec::ArrayVec;
 use sock_addrs::{Inet, Link, Name};
 use std::alloc::{AllocError, Global};
@@ -15,29 +17,37 @@ use std::marker::Model;
 #[derive(Drop)]
 pub(crate) struct Interface {
     name: Name,
+    kind: Kind,
     type_number: u8,
     link: ArrayVec<u8, 8>,
     addresses: Vec<Address>,
 }
 
 impl Model for Interface {
-    ghost use Rattle.if_addrs.specs.Interfaces.{Interface as Seen, Broadcast};
+    ghost use Rattle.if_addrs.specs.Interfaces.{Interface as Seen};
 
     ghost Value = { Seen };
 
-    ghost view = { λ i. record { name = i.name; kind = Broadcast; type_number = i.type_number; link = i.link.items; addresses = i.addresses.items } };
+    ghost view = { λ i. record { name = i.name; kind = i.kind; type_number = i.type_number; link = i.link.items; addresses = i.addresses.items } };
 }
 
 impl Interface {
     /// An interface without addresses.
-    pub(crate) fn new(alloc: Global, name: Name, type_number: u8, link: &[u8]) -> Interface
+    pub(crate) fn new(
+        alloc: Global,
+        name: Name,
+        kind: Kind,
+        type_number: u8,
+        link: &[u8],
+    ) -> Interface
         requires { length link.now ≤ 8 }
-        ensures { result ≡ attached name type_number link.now }
+        ensures { result ≡ attached name kind type_number link.now }
     {
         let mut bytes = ArrayVec::new();
         bytes.try_extend_from_slice(link).unwrap();
         Interface {
             name,
+            kind,
             type_number,
             link: bytes,
             addresses: Vec::new(alloc),
@@ -45,14 +55,21 @@ impl Interface {
     }
 
     /// Whether this is its name.
-    pub(crate) fn has_name(&self, name: Name) -> bool
+    fn has_name(&self, name: Name) -> bool
         ensures { result ≡ is_named name self.now }
     {
         self.name.as_bytes() == name.as_bytes()
     }
 
-    /// Whether it has this address.
-    fn has_address(&self, address: Inet) -> bool
+    /// Its kind.
+    pub(crate) fn kind(&self) -> Kind
+        ensures { result ≡ self.now.kind }
+    {
+        self.kind
+    }
+
+    /// Whether it holds this address.
+    fn holds(&self, address: Inet) -> bool
         ensures { result ≡ holds address self.now }
     {
         self.addresses.iter().any(|a| a.is_at(address))
@@ -65,11 +82,42 @@ impl Interface {
         self.addresses.iter().any(|a| a.has_number(number))
     }
 
-    /// What is known of its address with this number.
-    fn facts(&self, number: u16) -> Option<Facts>
-        ensures { result ≡ option_map facts_of (find (has_number number) self.now.addresses) }
+    /// Its address that is this one, where it holds it.
+    pub(crate) fn held(&self, address: Inet) -> Option<Address>
+        ensures { result ≡ find (is_at address) self.now.addresses }
     {
-        address::facts(&self.addresses, number)
+        let at = address::place_of(&self.addresses, address)?;
+        Some(self.addresses[at])
+    }
+
+    /// Its address with this number.
+    pub(crate) fn numbered(&self, number: u16) -> Option<Address>
+        ensures { result ≡ find (has_number number) self.now.addresses }
+    {
+        let at = address::place_of_number(&self.addresses, number)?;
+        Some(self.addresses[at])
+    }
+
+    /// The first of its addresses that is as a search wants it.
+    fn first(&self, wanted: Wanted) -> Option<Address>
+        ensures { result ≡ find (passes wanted) self.now.addresses }
+    {
+        address::first(&self.addresses, wanted)
+    }
+
+    /// The first of the longest prefix among its addresses whose network holds this one.
+    fn longest(&self, held: Inet) -> Option<Address>
+        ensures { result ≡ longest_of (filter (passes (Near held)) self.now.addresses) }
+    {
+        address::longest(&self.addresses, held)
+    }
+
+    /// The first of its addresses whose network holds this one, or else its first.
+    pub(crate) fn nearest(&self, held: Inet) -> Option<Address>
+        ensures { result ≡ nearest_of held (standing self.now.addresses) }
+    {
+        self.first(Wanted::Near(held))
+            .or_else(|| self.first(Wanted::Any))
     }
 
     /// Appends an address.
@@ -81,6 +129,15 @@ impl Interface {
             return Err(AllocError);
         }
         Ok(())
+    }
+
+    /// Marks the address with this number, where it has it.
+    pub(crate) fn mark(&mut self, number: u16, mark: Mark)
+        ensures { self.new ≡ with_changed number (marked mark) self.old }
+    {
+        if let Some(at) = address::place_of_number(&self.addresses, number) {
+            self.addresses[at].mark(mark);
+        }
     }
 
     /// Its link-layer address as a message writes it, `index` being the interface's number.
@@ -103,13 +160,6 @@ impl Interface {
         ];
         let text = joined(&head, name, &self.link, size);
         Link::new(&text).unwrap()
-    }
-
-    /// Marks the address with this number as one whose route was added.
-    fn mark_routed(&mut self, number: u16)
-        ensures { self.new ≡ with_routed_flags number self.old }
-    {
-        address::mark_routed(&mut self.addresses, number);
     }
 }
 
@@ -153,21 +203,19 @@ pub(crate) fn is_there(interfaces: &[Interface], name: Name) -> bool
     interfaces.iter().any(|interface| interface.has_name(name))
 }
 
-/// Whether one of them has this address.
+/// Whether one of them holds this address.
 pub(crate) fn is_in_use(interfaces: &[Interface], address: Inet) -> bool
     ensures { result ≡ list_any (holds address) interfaces.now }
 {
-    interfaces
-        .iter()
-        .any(|interface| interface.has_address(address))
+    interfaces.iter().any(|interface| interface.holds(address))
 }
 
-/// What is known of the address with this number.
-pub(crate) fn facts(interfaces: &[Interface], number: u16) -> Option<Facts>
-    ensures { result ≡ option_map facts_of (find (has_number number) (addresses_of interfaces.now)) }
+/// The first of their addresses that is as a search wants it.
+pub(crate) fn first(interfaces: &[Interface], wanted: Wanted) -> Option<Address>
+    ensures { result ≡ find (passes wanted) (addresses_of interfaces.now) }
 {
     for interface in interfaces {
-        let found = interface.facts(number);
+        let found = interface.first(wanted);
         if found.is_some() {
             return found;
         }
@@ -175,11 +223,13 @@ pub(crate) fn facts(interfaces: &[Interface], number: u16) -> Option<Facts>
     None
 }
 
-/// Marks the address with this number as one whose route was added.
-pub(crate) fn mark_routed(interfaces: &mut [Interface], number: u16)
-    ensures { interfaces.new ≡ map (with_routed_flags number) interfaces.old }
+/// The first of the longest prefix among their addresses whose network holds this one.
+pub(crate) fn longest(interfaces: &[Interface], held: Inet) -> Option<Address>
+    ensures { result ≡ longest_of (filter (passes (Near held)) (addresses_of interfaces.now)) }
 {
+    let mut best = None;
     for interface in interfaces {
-        interface.mark_routed(number);
+        best = address::better(best, interface.longest(held));
     }
+    best
 }

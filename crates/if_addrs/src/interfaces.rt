@@ -1,14 +1,17 @@
 ghost use Rattle.std.specs.Prelude.{◌≡◌, ◌+◌, ◌≤◌, [], ◌∷◌, ◌++◌, length, unwrap_or, Some, None, IsSome, option_map, OnOk, OnErr, IfOk, IfErr};
 ghost use Rattle.std.specs.Result.{result_err};
 ghost use Rattle.if_addrs.specs.Facts.{facts_of};
-ghost use Rattle.if_addrs.specs.Interfaces.{attach_fault, attached, addr_fault, added, new_address, with_address, address_of, interface_of as index_of, link_text_of, marked_routed, IsOf};
+ghost use Rattle.if_addrs.specs.Interfaces.{attach_fault, attached, addr_fault, added, kind_of, new_address, with_address, address_of, find_addr, interface_of as index_of, link_text_of, text_of, marked_routed, without_addr, changed, IsOf, IsStanding};
+ghost use Rattle.if_addrs.specs.Keeping.{KeepsIfas, SameIfas};
+ghost use Rattle.if_addrs.specs.Wanted.{marked};
 
-use crate::address::Address;
-use crate::interface::{self, Interface, is_in_use, is_there, place_of, place_of_number};
+use crate::address::{Address, Mark};
+use crate::interface::{Interface, is_in_use, is_there, place_of, place_of_number};
+use crate::kind::Kind;
 use crate::link_address::LinkAddress;
 use crate::reference::{Facts, IfaRef};
 use mask_table::Prefix;
-use sock_addrs::{Errno, Inet, Link, Name};
+use sock_addrs::{Errno, Gate, Inet, Link, Name};
 use std::alloc::Global;
 use std::marker::Model;
 
@@ -16,10 +19,10 @@ use std::marker::Model;
 const MOST_INTERFACES: usize = 64;
 
 /// The interfaces with their addresses. A contract sees them in the order in which they were attached; they are numbered from
-/// 1 on by their places.
+/// 1 on by their places. A reference to an address, and an interface's number, stay good for good.
 #[derive(Drop)]
 pub struct Interfaces {
-    interfaces: Vec<Interface>,
+    pub(crate) interfaces: Vec<Interface>,
     /// How many addresses were ever added.
     added: u16,
     alloc: Global,
@@ -50,18 +53,25 @@ impl Interfaces {
         }
     }
 
-    /// Attaches a broadcast interface of this name, with the number of its type in <net/if_types.h> and its link-layer
-    /// address.
+    /// Attaches an interface of this name and kind, with the number of its type in <net/if_types.h> and its link-layer address.
     ///
     /// Refused, in this order: EEXIST where the name is there; ENOSPC where 64 interfaces are; ENOBUFS for want of memory.
-    pub fn attach(&mut self, name: Name, type_number: u8, link: &LinkAddress) -> Result<(), Errno>
+    pub fn attach(
+        &mut self,
+        name: Name,
+        kind: Kind,
+        type_number: u8,
+        link: &LinkAddress,
+    ) -> Result<(), Errno>
         ensures ok { OnOk result (attach_fault name self.old ≡ None) }
-        ensures attached { OnOk result (self.new ≡ self.old ++ attached name type_number link.now ∷ []) }
+        ensures attached { OnOk result (self.new ≡ self.old ++ attached name kind type_number link.now ∷ []) }
+        ensures keeps { KeepsIfas self.old self.new }
+        ensures same { SameIfas self.old self.new }
         ensures refused { IfErr result (λ e. e ≡ unwrap_or (attach_fault name self.old) Errno.ENOBUFS) }
         ensures kept { OnErr result (self.new ≡ self.old) }
     {
         self.check_attach(name)?;
-        let interface = Interface::new(self.alloc, name, type_number, link.as_slice());
+        let interface = Interface::new(self.alloc, name, kind, type_number, link.as_slice());
         if self.interfaces.push(interface).is_err() {
             return Err(Errno::ENOBUFS);
         }
@@ -81,13 +91,17 @@ impl Interfaces {
         Ok(())
     }
 
-    /// What refuses this address on the interface of this name, but for want of memory. In this order: ENXIO where no
-    /// interface has the name; EADDRINUSE where an interface holds the address; ENOSPC once 65,535 addresses were ever added.
-    pub fn check_addr(&self, name: Name, address: Inet) -> Result<(), Errno>
-        ensures { result_err result ≡ addr_fault name address self.now }
+    /// What refuses this address on the interface of this name, but for want of memory; `far` is the other end's address. In
+    /// this order: ENXIO where no interface has the name; EINVAL where `far` is given and the interface isn't point-to-point,
+    /// or isn't and it is; EADDRINUSE where an interface holds the address; ENOSPC once 65,535 addresses were ever added.
+    pub fn check_addr(&self, name: Name, address: Inet, far: Option<Inet>) -> Result<(), Errno>
+        ensures { result_err result ≡ addr_fault name address far self.now }
     {
-        if !is_there(&self.interfaces, name) {
+        let Some(at) = place_of(&self.interfaces, name) else {
             return Err(Errno::ENXIO);
+        };
+        if !self.interfaces[at].kind().fits(far) {
+            return Err(Errno::EINVAL);
         }
         if is_in_use(&self.interfaces, address) {
             return Err(Errno::EADDRINUSE);
@@ -98,26 +112,29 @@ impl Interfaces {
         Ok(())
     }
 
-    /// Adds an address to the interface of this name, with the next number, and answers a reference to it. ENOBUFS for want of
-    /// memory.
+    /// Adds an address to the interface of this name, with the next number, and answers a reference to it. `far` is the other
+    /// end's address, where the interface is point-to-point. ENOBUFS for want of memory.
     pub fn add_addr(
         &mut self,
         name: Name,
         address: Inet,
         prefix: Prefix,
         cloning: bool,
+        far: Option<Inet>,
     ) -> Result<IfaRef, Errno>
-        requires { addr_fault name address self.old ≡ None }
+        requires { addr_fault name address far self.old ≡ None }
         ensures number { IfOk result (λ ifa. ifa ≡ IfaRef.Inet (added self.old + 1)) }
-        ensures added { OnOk result (self.new ≡ with_address name address prefix cloning self.old) }
-        ensures there { IfOk result (λ ifa. address_of ifa self.new ≡ Some (new_address (added self.old + 1) address prefix cloning)) }
+        ensures added { OnOk result (self.new ≡ with_address name address prefix cloning far self.old) }
+        ensures there { IfOk result (λ ifa. address_of ifa self.new ≡ Some (new_address (added self.old + 1) (kind_of name self.old) address prefix cloning far)) }
+        ensures keeps { KeepsIfas self.old self.new }
+        ensures same { SameIfas self.old self.new }
         ensures refused { IfErr result (λ e. e ≡ Errno.ENOBUFS) }
         ensures kept { OnErr result (self.new ≡ self.old) }
     {
         let number = self.added + 1;
         let at = place_of(&self.interfaces, name).unwrap();
         let interface = &mut self.interfaces[at];
-        let address = Address::new(number, address, prefix, cloning);
+        let address = Address::new(number, interface.kind(), address, prefix, cloning, far);
         match interface.add(address) {
             Ok(()) => {
                 self.added = number;
@@ -127,16 +144,84 @@ impl Interfaces {
         }
     }
 
+    /// The address that the interface of this name holds. ENXIO: no interface has the name; EADDRNOTAVAIL: it doesn't hold the
+    /// address.
+    pub fn find_addr(&self, name: Name, address: Inet) -> Result<IfaRef, Errno>
+        ensures found { result ≡ find_addr name address self.now }
+        ensures standing { IfOk result (λ ifa. IsStanding ifa self.now) }
+        ensures of { IfOk result (λ ifa. IsOf ifa self.now) }
+    {
+        let Some(at) = place_of(&self.interfaces, name) else {
+            return Err(Errno::ENXIO);
+        };
+        match self.interfaces[at].held(address) {
+            Some(address) => Ok(address.reference()),
+            None => Err(Errno::EADDRNOTAVAIL),
+        }
+    }
+
+    /// Removes an IPv4 address of an interface: no search finds it any more, and a reference to it stays good.
+    pub fn remove_addr(&mut self, ifa: IfaRef)
+        requires { IsStanding ifa self.old }
+        ensures removed { self.new ≡ without_addr ifa self.old }
+        ensures keeps { KeepsIfas self.old self.new }
+        ensures same { SameIfas self.old self.new }
+    {
+        self.mark(ifa, Mark::Gone);
+    }
+
+    /// Marks an IPv4 address of an interface as one whose route was added, which sets 0x1 in its flag word.
+    pub fn mark_routed(&mut self, ifa: IfaRef)
+        requires { IsSome (address_of ifa self.old) }
+        ensures marked { self.new ≡ marked_routed ifa self.old }
+        ensures keeps { KeepsIfas self.old self.new }
+        ensures same { SameIfas self.old self.new }
+    {
+        self.mark(ifa, Mark::Routed);
+    }
+
+    fn mark(&mut self, ifa: IfaRef, mark: Mark)
+        ensures marked { self.new ≡ changed ifa (marked mark) self.old }
+        ensures keeps { KeepsIfas self.old self.new }
+        ensures same { SameIfas self.old self.new }
+    {
+        if let IfaRef::Inet(number) = ifa
+            && let Some(at) = place_of_number(&self.interfaces, number)
+        {
+            self.interfaces[at].mark(number, mark);
+        }
+    }
+
+    /// The address itself, where it is none of a link layer.
+    fn address(&self, ifa: IfaRef) -> Option<Address>
+        ensures { result ≡ address_of ifa self.now }
+    {
+        match ifa {
+            IfaRef::Inet(number) => {
+                let at = place_of_number(&self.interfaces, number)?;
+                self.interfaces[at].numbered(number)
+            }
+            IfaRef::Link(_) => None,
+        }
+    }
+
     /// What is known of an IPv4 address of an interface.
     pub fn facts(&self, ifa: IfaRef) -> Facts
         requires { IsSome (address_of ifa self.now) }
         ensures { option_map facts_of (address_of ifa self.now) ≡ Some result }
     {
-        let facts = match ifa {
-            IfaRef::Inet(number) => interface::facts(&self.interfaces, number),
-            IfaRef::Link(_) => None,
-        };
-        facts.unwrap()
+        self.address(ifa).unwrap().facts()
+    }
+
+    /// What an interface address is: an IPv4 address, or the link-layer address of an interface as a message writes it.
+    pub fn text_of(&self, ifa: IfaRef) -> Gate
+        requires { IsOf ifa self.now }
+        ensures { text_of ifa self.now ≡ Some result }
+    {
+        match ifa {
+            IfaRef::Inet(_) => Gate::Inet(self.address(ifa).unwrap().inet()),
+            IfaRef::Link(index) => Gate::Link(self.link_text(index)),
+        }
     }
 
     /// The number of the interface that has the address.
@@ -162,15 +247,5 @@ impl Interfaces {
         ensures { link_text_of index self.now ≡ Some result }
     {
         self.interfaces[usize::from(index) - 1].link_text(index)
-    }
-
-    /// Marks an IPv4 address of an interface as one whose route was added, which sets 0x1 in its flag word.
-    pub fn mark_routed(&mut self, ifa: IfaRef)
-        requires { IsSome (address_of ifa self.old) }
-        ensures { self.new ≡ marked_routed ifa self.old }
-    {
-        if let IfaRef::Inet(number) = ifa {
-            interface::mark_routed(&mut self.interfaces, number);
-        }
     }
 }

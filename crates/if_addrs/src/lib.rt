@@ -1,13 +1,16 @@
-//! Network interfaces and their IPv4 addresses.
+//! Network interfaces and their IPv4 addresses, and the searches among them.
 #![tactic(auto)]
 
 mod address;
 mod interface;
 mod interfaces;
+mod kind;
 pub mod laws;
 mod link_address;
 mod reference;
+mod searches;
 
 pub use interfaces::Interfaces;
+pub use kind::Kind;
 pub use link_address::LinkAddress;
 pub use reference::{Facts, IfaRef};

@@ -1,3 +1,4 @@
+use crate::kind::Kind;
 use mask_table::Prefix;
 use sock_addrs::Inet;
 
@@ -12,10 +13,13 @@ pub enum IfaRef {
 /// What is known of an interface's IPv4 address.
 #[derive(Clone, Copy, Debug, PartialEq, Eq)]
 pub struct Facts {
+    /// The kind of its interface.
+    pub kind: Kind,
     /// The length of its network.
     pub prefix: Prefix,
     /// Its flag word: 0x100 where its route is cloning, and 1 once its route was added.
     pub flags: u32,
-    /// Its broadcast address.
+    /// Its far address: the broadcast address on a broadcast interface, the address itself on loopback, and the other end's
+    /// on a point-to-point interface.
     pub far: Inet,
 }
