@@ -10,7 +10,8 @@ use Rattle.route_msgs.specs.declared.parsed.Slot.{Slot}
 use Rattle.route_core.specs.declared.refusal.Refusal.{Refusal}
 use Rattle.sock_addrs.specs.Reading.{IsWhole}
 use Rattle.sock_addrs.specs.Rules.{Rule, first_fault}
-use Rattle.route_core.specs.Writes.{refused_if, message_rules, most_message_bytes, destination_rules, destination_bytes, is_plain_get}
+use Rattle.route_core.specs.declared.request.TheConstants.{MOST_BYTES}
+use Rattle.route_core.specs.Writes.{refused_if, message_rules, destination_rules, destination_bytes, is_plain_get}
 
 -- a reason that doesn't hold is passed over
 passed_over : (r : Rule Refusal) (rs : List (Rule Refusal)) → r.holds ≡ false → first_fault (r ∷ rs) ≡ first_fault rs
@@ -21,7 +22,7 @@ has_slot : (o : Option Slot) (m t : List ℕ) → address_at o m ≡ Some t → 
 has_slot None m t e = cc
 has_slot (Some s) m t e = refl
 
-pub refused_by_destination : (m t : List ℕ) → nat_lt most_message_bytes (length m) ≡ false → has_length m ≡ true → has_version m ≡ true → has_room m ≡ true → address_in m 0 ≡ Some t → first_fault (message_rules m) ≡ first_fault (destination_rules t (is_plain_get (header_in m)))
+pub refused_by_destination : (m t : List ℕ) → nat_lt MOST_BYTES (length m) ≡ false → has_length m ≡ true → has_version m ≡ true → has_room m ≡ true → address_in m 0 ≡ Some t → first_fault (message_rules m) ≡ first_fault (destination_rules t (is_plain_get (header_in m)))
 refused_by_destination m t short len version room there =
     let get = is_plain_get (header_in m) in
     let five = destination_rules (destination_bytes m) get in
@@ -29,7 +30,7 @@ refused_by_destination m t short len version room there =
     let three = refused_if (not (has_room m)) EINVAL (Some 0) ∷ four in
     let two = refused_if (not (has_version m)) EPROTONOSUPPORT (Some 0) ∷ three in
     let one = refused_if (not (has_length m)) EINVAL None ∷ two in
-    passed_over (refused_if (nat_lt most_message_bytes (length m)) EMSGSIZE None) one short
+    passed_over (refused_if (nat_lt MOST_BYTES (length m)) EMSGSIZE None) one short
     ∙ (passed_over (refused_if (not (has_length m)) EINVAL None) two (ap not len)
     ∙ (passed_over (refused_if (not (has_version m)) EPROTONOSUPPORT (Some 0)) three (ap not version)
     ∙ (passed_over (refused_if (not (has_room m)) EINVAL (Some 0)) four (ap not room)

@@ -136,3 +136,67 @@ by_family w id m pid r (Some family) answer next f there fault by silent =
 pub write_refused : (w : World) (id m : List ℕ) (pid : ℕ) (r : Refusal) (answer : Answer) (next : World) → pid_of id w.sockets ≡ Some pid → first_fault (message_rules m) ≡ Some r
     → EffectOr (refused_write w id pid m r) w answer next → (IsNone r.family → IsEffect (refused_write w id pid m r) answer next) → Steps w (Write id m) answer next
 write_refused w id m pid r answer next there fault by silent = by_family w id m pid r r.family answer next refl there fault by silent
+
+-- ---- addresses
+
+-- an address that the interfaces may get
+abbrev pub next_address : World → List ℕ → ℕ → ℕ → Bool → Option ℕ → Address
+next_address w name address prefix cloning far = new_address (added w.interfaces + 1) (kind_of name w.interfaces) address prefix cloning far
+
+pub address_refused : (w : World) (name : List ℕ) (address prefix : ℕ) (cloning : Bool) (far : Option ℕ) (e : Errno) → addr_fault name address far w.interfaces ≡ Some e → Steps w (AddAddress name address prefix cloning far) (Refused e) w
+unfolding effect takes_memory
+address_refused w name address prefix cloning far e h =
+    steps_refused w (AddAddress name address prefix cloning far) (addr_fault name address far w.interfaces) _ e refl refl (rw h refl)
+
+pub address_full : (w : World) (name : List ℕ) (address prefix : ℕ) (cloning : Bool) (far : Option ℕ) → addr_fault name address far w.interfaces ≡ None → Steps w (AddAddress name address prefix cloning far) (Refused ENOBUFS) w
+unfolding takes_memory
+address_full w name address prefix cloning far h = inr (ap is_none h, refl, refl)
+
+-- the effect of an address that nothing speaks against
+brought : (w : World) (name : List ℕ) (address prefix : ℕ) (cloning : Bool) (far : Option ℕ) (there : Bool) → addr_fault name address far w.interfaces ≡ None
+    → (let r = entry_of_address (next_address w name address prefix cloning far) cloning in is_some (entry_at r.key r.rank w.table) ≡ there)
+    → (let a = next_address w name address prefix cloning far in
+    let r = entry_of_address a cloning in
+    let interfaces = with_address name address prefix cloning far w.interfaces in
+    effect w (AddAddress name address prefix cloning far) ≡ (if there then record (refused w EEXIST) { interfaces = interfaces } else record (done w) {
+      table = with_entry r w.table;
+      interfaces = marked_routed r.value.ifa interfaces;
+      told = announced interfaces a r;
+    }))
+unfolding effect
+brought w name address prefix cloning far there h is =
+    let a = next_address w name address prefix cloning far in
+    let e = bring_route w (with_address name address prefix cloning far w.interfaces) a (entry_of_address a cloning) in
+    ap (λ (f : Option Errno). unless_refused w f e) h ∙ rw is refl
+
+pub address_without_route : (w : World) (name : List ℕ) (address prefix : ℕ) (cloning : Bool) (far : Option ℕ) → addr_fault name address far w.interfaces ≡ None
+    → (let r = entry_of_address (next_address w name address prefix cloning far) cloning in is_some (entry_at r.key r.rank w.table) ≡ true)
+    → Steps w (AddAddress name address prefix cloning far) (Refused EEXIST) (record w { interfaces = with_address name address prefix cloning far w.interfaces })
+address_without_route w name address prefix cloning far h there =
+    steps w (AddAddress name address prefix cloning far) (record (refused w EEXIST) { interfaces = with_address name address prefix cloning far w.interfaces }) _ _ (brought w name address prefix cloning far true h there) (record { answer = refl; world = refl })
+
+pub address_done : (w : World) (name : List ℕ) (address prefix : ℕ) (cloning : Bool) (far : Option ℕ) → addr_fault name address far w.interfaces ≡ None
+    → (let r = entry_of_address (next_address w name address prefix cloning far) cloning in is_some (entry_at r.key r.rank w.table) ≡ false)
+    → (let a = next_address w name address prefix cloning far in
+    let r = entry_of_address a cloning in
+    let interfaces = with_address name address prefix cloning far w.interfaces in
+    Steps w (AddAddress name address prefix cloning far) Done (record {
+      table = with_entry r w.table;
+      interfaces = marked_routed r.value.ifa interfaces;
+      sockets = delivered_all (announced interfaces a r) w.sockets;
+    }))
+address_done w name address prefix cloning far h there =
+    let a = next_address w name address prefix cloning far in
+    let r = entry_of_address a cloning in
+    let interfaces = with_address name address prefix cloning far w.interfaces in
+    steps w (AddAddress name address prefix cloning far)
+    (record (done w) { table = with_entry r w.table; interfaces = marked_routed r.value.ifa interfaces; told = announced interfaces a r })
+    _ _ (brought w name address prefix cloning far false h there) (record { answer = refl; world = refl })
+
+-- a place in a table, whatever it is called
+pub same_place : (key key' rank rank' : ℕ) (entries entries' : List (Entry Route)) (found : Bool) → key ≡ key' → rank ≡ rank' → entries ≡ entries' → is_some (entry_at key rank entries) ≡ found → is_some (entry_at key' rank' entries') ≡ found
+same_place key key' rank rank' entries entries' found k r e h = rw (← k, ← r, ← e) h
+
+pub no_entry : {X : Type 0} (found : Option X) → (is_some found ≡ true → ⊥) → is_some found ≡ false
+no_entry None h = refl
+no_entry (Some x) h = absurd (h refl)

@@ -7,10 +7,10 @@ use Rattle.route_core.specs.declared.answer.Answer.{Answer}
 use Rattle.route_core.specs.declared.answer.Answer.TheVariants.{Refused}
 
 -- the effect takes place
-pub record IsEffect (effect : Effect) (answer : Answer) (new : World) : Type 0 where
-  pub answer : answer ≡ effect.answer
-  pub world : new ≡ world_after effect
+pub record IsEffect (e : Effect) (given : Answer) (new : World) : Type 0 where
+  pub answer : given ≡ e.answer
+  pub world : new ≡ world_after e
 
 -- or there is no memory for it, and all is as it was
 abbrev pub EffectOr : Effect → World → Answer → World → Type 0
-EffectOr effect old answer new = IsEffect effect answer new ⊎ ((answer ≡ Refused ENOBUFS) × (new ≡ old))
+EffectOr e old answer new = IsEffect e answer new ⊎ ((answer ≡ Refused ENOBUFS) × (new ≡ old))

@@ -1,8 +1,11 @@
+pub mod Addresses
 pub mod Commands
+pub mod Effects
 pub mod Messages
 pub mod Received
-pub mod Routes
+pub mod Requests
 pub mod Step
+pub mod Telling
 pub mod World
 pub mod WorldLaws
 pub mod Writes

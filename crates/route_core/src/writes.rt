@@ -50,7 +50,7 @@ impl World {
 
     /// The reply to a request of a process, or why it is refused.
     fn reply_to(&mut self, asked: &Asked, pid: u32) -> Result<ArrayVec<u8, 256>, Errno>
-        ensures reply { (m : List ℕ) → asked.header ≡ header_in m → MatchResult result (λ reply. outcome_of self.old.table pid m asked.request ≡ Ok (quiet self.old.table reply.items)) (λ e. outcome_of self.old.table pid m asked.request ≡ Err e) }
+        ensures reply { (m : List ℕ) → asked.now.header ≡ header_in m → MatchResult result (λ reply. outcome_of self.old.table pid m asked.now.request ≡ Ok (quiet self.old.table reply.items)) (λ e. outcome_of self.old.table pid m asked.now.request ≡ Err e) }
         ensures message { IfOk result (λ reply. IsMessage reply.items) }
         ensures world { self.new ≡ self.old }
     {

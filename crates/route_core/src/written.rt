@@ -15,6 +15,7 @@ pub struct Written {
 
 impl Model for Written {
     ghost use Rattle.std.specs.Prelude.{ℕ, List, ◌≤◌, length};
+    ghost use Rattle.route_core.specs.declared.written.TheConstants.{MOST_WRITTEN};
 
     ghost Value = { List ℕ };
 
@@ -41,7 +42,7 @@ impl Written {
     }
 
     /// The bytes, lent.
-    fn lent(&self) -> Lent<'_>
+    pub(crate) fn lent(&self) -> Lent<'_>
         ensures { result ≡ self.now }
     {
         Lent {
@@ -58,6 +59,7 @@ pub struct Lent<'a> {
 
 impl<'a> Model for Lent<'a> {
     ghost use Rattle.std.specs.Prelude.{ℕ, List, ◌≤◌, length};
+    ghost use Rattle.route_core.specs.declared.written.TheConstants.{MOST_WRITTEN};
 
     ghost Value = { List ℕ };
 
@@ -86,7 +88,7 @@ impl<'a> Lent<'a> {
     }
 
     /// The bytes themselves.
-    fn written(&self) -> Written
+    pub(crate) fn written(&self) -> Written
         ensures { result ≡ self.now }
     {
         Written {

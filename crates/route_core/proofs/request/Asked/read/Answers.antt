@@ -5,21 +5,21 @@ use Rattle.std.proofs.lemmas.Result.{err_from_is_err_and}
 use Rattle.sock_addrs.specs.Rules.{first_fault}
 use Rattle.route_core.specs.Writes.{message_rules, destination_rules, is_plain_get}
 use Rattle.route_core.proofs.Checks.{refused_by_destination, destination_found, destination_whole}
-use Rattle.route_core.proofs.asked.Asked.read.Goals as goal
-use Rattle.route_core.proofs.asked.Asked.read.Goals.{After-destination_in}
+use Rattle.route_core.proofs.request.Asked.read.Goals as goal
+use Rattle.route_core.proofs.request.Asked.read.Goals.{After-destination_in}
 
 pub destination_in-requires : goal.destination_in-requires
 destination_in-requires c =
     destination_whole c.args.bytes.now _ c.in-Ok.message.slots c.in-Ok.ensures.reads.4 c.in-Ok.ensures.within c.in-Some.ensures
 
 -- the message is refused as its destination is
-same : (c : After-destination_in) → first_fault (message_rules c.args.bytes.now) ≡ first_fault (destination_rules c.in-Some.text.now c.is_plain_get.result)
+same : (c : After-destination_in) → first_fault (message_rules c.args.bytes.now) ≡ first_fault (destination_rules c.in-Some.sockaddr.now c.is_plain_get.result)
 same c =
     let m = c.args.bytes.now in
     let reads = c.in-Ok.ensures.reads in
-    let found = destination_found m c.in-Some.text.now c.in-Ok.message.slots reads.4 c.in-Some.ensures in
-    refused_by_destination m c.in-Some.text.now (le-ltb _ _ c.if-bytes-gt-MOST_BYTES.false) reads.0 reads.1 reads.2 found
-    ∙ ap (λ (get : Bool). first_fault (destination_rules c.in-Some.text.now get)) (sym (c.is_plain_get.ensures ∙ ap is_plain_get reads.3))
+    let found = destination_found m c.in-Some.sockaddr.now c.in-Ok.message.slots reads.4 c.in-Some.ensures in
+    refused_by_destination m c.in-Some.sockaddr.now (le-ltb _ _ c.if-bytes-gt-MOST_BYTES.false) reads.0 reads.1 reads.2 found
+    ∙ ap (λ (get : Bool). first_fault (destination_rules c.in-Some.sockaddr.now get)) (sym (c.is_plain_get.ensures ∙ ap is_plain_get reads.3))
 
 pub returns-in_err-destination-clause-refused : goal.returns-in_err-destination-clause-refused
 returns-in_err-destination-clause-refused c =
