@@ -2,4 +2,4 @@ pub mod Announcing
 pub mod Checks
 pub mod Replies
 pub mod StepLemmas
-pub mod WorldLawsProved
+pub mod RefusalsSpare

@@ -3,9 +3,9 @@ pub mod Commands
 pub mod Effects
 pub mod Messages
 pub mod Received
+pub mod RefusalLaws
 pub mod Requests
 pub mod Step
 pub mod Telling
 pub mod World
-pub mod WorldLaws
 pub mod Writes

@@ -1,6 +1,6 @@
 //! Laws of the machine's step: each function does nothing, and its contract is the law.
 
-ghost use Rattle.route_core.specs.WorldLaws.{NoMemoryKeepsAll, RefusalKeepsInterfaces, RefusalKeepsRoutes, RefusalKeepsSockets};
+ghost use Rattle.route_core.specs.RefusalLaws.{NoMemoryKeepsAll, RefusalKeepsInterfaces, RefusalKeepsRoutes, RefusalKeepsSockets};
 
 /// A refused request leaves every route as it was.
 pub fn refusal_keeps_routes()

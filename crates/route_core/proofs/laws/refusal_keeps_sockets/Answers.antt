@@ -1,4 +1,4 @@
-use Rattle.route_core.proofs.WorldLawsProved.{refusal_keeps_sockets}
+use Rattle.route_core.proofs.RefusalsSpare.{refusal_keeps_sockets}
 use Rattle.route_core.proofs.laws.refusal_keeps_sockets.Goals as goal
 
 pub returns : goal.returns
