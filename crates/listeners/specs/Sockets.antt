@@ -74,13 +74,3 @@ emptied s = record s { messages = [] }
 -- the sockets after the one with this id read its messages
 abbrev pub taken : List ℕ → List Socket → List Socket
 taken id sockets = change_first (has_id id) emptied sockets
-
--- STAND-IN
-abbrev pub is_open : List ℕ → List Socket → Bool
-is_open id sockets = list_any (has_id id) sockets
-
-abbrev pub without_socket : List ℕ → List Socket → List Socket
-without_socket id sockets = sockets
-
-abbrev pub with_loopback : List ℕ → Bool → List Socket → List Socket
-with_loopback id on sockets = sockets

@@ -124,18 +124,6 @@ impl Listeners {
         socket::deliver(&mut self.sockets, &message);
     }
 
-    /// STAND-IN
-    pub fn shut(&mut self, id: Name) -> Result<(), Errno>
-    {
-        Err(Errno::EBADF)
-    }
-
-    /// STAND-IN
-    pub fn set_loopback(&mut self, id: Name, on: bool) -> Result<(), Errno>
-    {
-        Err(Errno::EBADF)
-    }
-
     /// Takes the messages that wait for a socket, one after another, and leaves none; or EBADF where none of this id is open.
     /// What was reserved is given up.
     pub fn take(&mut self, id: Name) -> Result<Vec<u8>, Errno>

@@ -1,11 +1,11 @@
 -- What a step that is refused leaves as it was, command by command.
 use Rattle.std.proofs.Common.{◌≡◌, ◌≢◌, ℕ, Bool, true, false, List, [], ◌∷◌, inl, inr, refl, sym, ap, subst, arith}
-use Rattle.std.specs.Prelude.{Option, Some, None, Result, Ok, Err, ⊤, ◌⊎◌, IfSome, if◌then◌else◌, is_some, length, nat_le, not, ◌+◌, ◌==◌}
+use Rattle.std.specs.Prelude.{Option, Some, None, Result, Ok, Err, ⊤, ◌⊎◌, IfSome, if◌then◌else◌, is_none, is_some, length, nat_le, not, ◌+◌, ◌==◌}
 use Rattle.std.specs.List.{list_any}
 use Rattle.std.proofs.lemmas.Bool.Decides.{nat_tests}
 use Rattle.sock_addrs.specs.declared.errno.Errno.{Errno}
 use Rattle.sock_addrs.specs.declared.errno.Errno.TheVariants.{EADDRINUSE, EBADF, EEXIST, EINVAL, EMFILE, ENOBUFS, ENOSPC, ENXIO, ESRCH}
-use Rattle.if_addrs.specs.Interfaces.{Address, Interface, added, addr_fault, attach_fault, fits, has_name, holds, kind_of, most_addresses, most_interfaces, new_address, with_address}
+use Rattle.if_addrs.specs.Interfaces.{Address, Interface, added, addr_fault, attach_fault, fits, has_name, holds, kind_of, most_addresses, most_interfaces, named, new_address, with_address}
 use Rattle.sock_addrs.specs.Rules.{Rule, rule, first_fault, unless_fault}
 use Rattle.sock_addrs.specs.Sockaddrs.{family}
 use Rattle.sock_addrs.specs.declared.families.TheConstants.{AF_INET}
@@ -58,10 +58,13 @@ listen_fault-found : (id : List ℕ) (sockets : List Socket) → IfSome (listen_
 listen_fault-found id sockets = two-all IsFound (list_any (has_id id) sockets) (nat_le 64 (length sockets)) EEXIST EMFILE (λ h. absurd (cc)) (λ h. absurd (cc))
 
 addr_fault-all : (P : Errno → Type 0) (name : List ℕ) (address : ℕ) (far : Option ℕ) (interfaces : List Interface) → P ENXIO → P EINVAL → P EADDRINUSE → P ENOSPC → IfSome (addr_fault name address far interfaces) P
-addr_fault-all P name address far interfaces p q r s =
-    chosen P (not (list_any (has_name name) interfaces)) ENXIO _ p
-    (chosen P (not (fits (kind_of name interfaces) far)) EINVAL _ q
-    (two-all P (list_any (holds address) interfaces) (nat_le most_addresses (added interfaces)) EADDRINUSE ENOSPC r s))
+addr_fault-all P name address far interfaces p q r s = first_fault-all P
+    (rule (is_none (named name interfaces)) ENXIO
+    ∷ rule (not (fits (kind_of name interfaces) far)) EINVAL
+    ∷ rule (list_any (holds address) interfaces) EADDRINUSE
+    ∷ rule (nat_le most_addresses (added interfaces)) ENOSPC
+    ∷ [])
+    (p, (q, (r, (s, tt))))
 
 -- ---- what a write is refused for
 
@@ -121,19 +124,19 @@ abbrev IsNoRefusal : Answer → Type 0
 IsNoRefusal answer = (errno : Errno) → answer ≢ Refused errno
 
 spares-other : (c : Command) (old : World) (e : Effect) → IsNoRefusal e.answer → Spares c old e
-spares-other c old e no = record { on = λ errno h. absurd (no errno h) }
+spares-other c old e other = record { on = λ errno h. absurd (other errno h) }
 
 spares-fault : (c : Command) (old : World) (fault : Option Errno) (e : Effect) → IfSome fault (LeavesAll c old) → Spares c old e → Spares c old (unless_refused old fault e)
 spares-fault c old None e leaves spares = spares
 spares-fault c old (Some x) e leaves spares = spares-refused c old x leaves
 
-spares-open : (c : Command) (old : World) (open : Bool) (e : Effect) → LeavesAll c old EBADF → Spares c old e → Spares c old (if open then e else refused old EBADF)
+spares-open : (c : Command) (old : World) (there : Bool) (e : Effect) → LeavesAll c old EBADF → Spares c old e → Spares c old (if there then e else refused old EBADF)
 spares-open c old true e leaves spares = spares
 spares-open c old false e leaves spares = spares-refused c old EBADF leaves
 
 spares-brought : (c : Command) (old : World) (there : Bool) (e brought : Effect) → Spares c old e → IsNoRefusal brought.answer → Spares c old (if there then e else brought)
-spares-brought c old true e brought spares no = spares
-spares-brought c old false e brought spares no = spares-other c old brought no
+spares-brought c old true e brought spares other = spares
+spares-brought c old false e brought spares other = spares-other c old brought other
 
 refusal_tells-told : (old : World) (id : List ℕ) (pid : ℕ) (m : List ℕ) (errno : Errno) (f : Option ℕ) → pid_of id old.sockets ≡ Some pid → IsFoundIn m (record { errno = errno; family = f })
     → RefusalTells old.sockets (Write id m) errno (refusal_tells id pid m (record { errno = errno; family = f }))

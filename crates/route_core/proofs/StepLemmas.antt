@@ -1,12 +1,16 @@
 -- How the calls of the world meet the machine's step, by the facts that each call finds.
 use Rattle.std.proofs.Common.{◌≡◌, ◌⊎◌, ℕ, ◌+◌, Bool, true, false, List, [], ◌∷◌, ◌++◌, inl, inr, refl, sym, ap, ◌∙◌}
-use Rattle.std.specs.Prelude.{Option, Some, None, Result, Ok, Err, unwrap_or, ok_or, is_some, is_none, IsNone, IsOk, ◌&&◌, not, option_map}
+use Rattle.std.specs.Prelude.{if◌then◌else◌, Option, Some, None, Result, Ok, Err, unwrap_or, ok_or, is_some, is_none, IsNone, IsOk, ◌&&◌, not, option_map}
 use Rattle.sock_addrs.specs.declared.errno.Errno.{Errno}
 use Rattle.sock_addrs.specs.declared.errno.Errno.TheVariants.{ENOBUFS, EBADF, EEXIST}
 use Rattle.if_addrs.specs.Interfaces.{attach_fault, attached, addr_fault, added, kind_of, new_address, with_address, marked_routed, Address, Interface}
 use Rattle.if_addrs.specs.declared.kind.Kind.{Kind}
 use Rattle.listeners.specs.Sockets.{Socket, is_open, listen_fault, opened, messages_of, pid_of, taken, with_loopback, without_socket}
-use Rattle.route_core.specs.Addresses.{entry_of_address}
+use Rattle.if_addrs.specs.Facts.{facts_of}
+use Rattle.if_addrs.specs.declared.reference.Facts.{Facts}
+use Rattle.if_addrs.specs.declared.reference.IfaRef.{IfaRef}
+use Rattle.if_addrs.specs.declared.reference.IfaRef.TheVariants.{Inet}
+use Rattle.route_core.specs.Addresses.{entry_of_address, key_of_address, rank_of_address, route_of_address}
 use Rattle.route_core.specs.Effects.{EffectOr, IsEffect}
 use Rattle.route_core.specs.Step.{Effect, IsStep, Steps, announced, bring_route, done, done_write, effect, refused, refused_write, stepped, takes_memory, unless_refused, world_after, write_by_outcome, write_by_request, write_effect, read_effect}
 use Rattle.route_core.specs.Telling.{delivered_all}
@@ -200,3 +204,37 @@ same_place key key' rank rank' entries entries' found k r e h = rw (← k, ← r
 pub no_entry : {X : Type 0} (found : Option X) → (is_some found ≡ true → ⊥) → is_some found ≡ false
 no_entry None h = refl
 no_entry (Some x) h = absurd (h refl)
+
+-- what is told of an address is of that address
+pub facts_known : (a : Address) (facts : Facts) (found : Option Address) → option_map facts_of found ≡ Some facts → found ≡ Some a → facts_of a ≡ facts
+facts_known a facts found told is = some_is (facts_of a) facts (sym (ap (option_map facts_of) is) ∙ told)
+    where
+    some_is : (x y : Facts) → Some x ≡ Some y → x ≡ y
+    some_is x y h = cc
+
+-- the route that is added is the address's
+pub address_routed : (w : World) (name : List ℕ) (address prefix : ℕ) (cloning : Bool) (far : Option ℕ) (facts : Facts) (key rank : ℕ) (ifa : IfaRef) (route : Route)
+    (table : List (Entry Route)) (got interfaces : List Interface) (sockets : List Socket)
+    → addr_fault name address far w.interfaces ≡ None
+    → facts_of (next_address w name address prefix cloning far) ≡ facts
+    → key ≡ key_of_address facts.kind address facts.prefix facts.far → rank ≡ rank_of_address facts.kind facts.prefix → ifa ≡ Inet (added w.interfaces + 1)
+    → route ≡ route_of_address facts.kind address cloning ifa
+    → is_some (entry_at key rank w.table) ≡ false
+    → table ≡ with_entry (record { key = key; rank = rank; value = route }) w.table
+    → got ≡ with_address name address prefix cloning far w.interfaces
+    → interfaces ≡ marked_routed ifa got
+    → sockets ≡ delivered_all (announced got (next_address w name address prefix cloning far) (record { key = key; rank = rank; value = route })) w.sockets
+    → Steps w (AddAddress name address prefix cloning far) Done (record { table = table; interfaces = interfaces; sockets = sockets })
+address_routed w name address prefix cloning far facts key rank ifa route table got interfaces sockets fault known k r i v none t g m s =
+    let there = rw (k, r, ← known) at none in
+    rw (t, m, s, g, v, i, k, r, ← known) (address_done w name address prefix cloning far fault there)
+
+pub address_taken : (w : World) (name : List ℕ) (address prefix : ℕ) (cloning : Bool) (far : Option ℕ) (facts : Facts) (key rank : ℕ) (interfaces : List Interface)
+    → addr_fault name address far w.interfaces ≡ None
+    → facts_of (next_address w name address prefix cloning far) ≡ facts
+    → key ≡ key_of_address facts.kind address facts.prefix facts.far → rank ≡ rank_of_address facts.kind facts.prefix
+    → is_some (entry_at key rank w.table) ≡ true
+    → interfaces ≡ with_address name address prefix cloning far w.interfaces
+    → Steps w (AddAddress name address prefix cloning far) (Refused EEXIST) (record w { interfaces = interfaces })
+address_taken w name address prefix cloning far facts key rank interfaces fault known k r there g =
+    rw g (address_without_route w name address prefix cloning far fault (rw (k, r, ← known) at there))

@@ -6,7 +6,7 @@ ghost use Rattle.route_core.specs.Step.{Steps, announced};
 ghost use Rattle.route_core.specs.Telling.{delivered_all};
 ghost use Rattle.route_core.specs.declared.command.Command.TheVariants.{AddAddress};
 
-use crate::route::{key_of, rank_of};
+use crate::route::place_of;
 use crate::{Answer, Route, World, messages};
 use if_addrs::{Facts, Interfaces};
 use listeners::Listeners;
@@ -33,7 +33,8 @@ impl World {
     ) -> Answer
         ensures { Steps self.old (AddAddress name address prefix cloning far) result self.new }
     {
-        if let Err(errno) = self.interfaces.check_addr(name, address, far) {
+        let other_end = far;
+        if let Err(errno) = self.interfaces.check_addr(name, address, other_end) {
             return Answer::Refused(errno);
         }
         let Ok(room) = self.table.room() else {
@@ -52,7 +53,7 @@ impl World {
         };
         let facts = self.interfaces.facts(ifa);
         let route = Route::of_address(facts.kind, address, cloning, ifa);
-        let (key, rank) = (key_of(address, &facts), rank_of(&facts));
+        let (key, rank) = place_of(address, &facts);
         if let Err((room, _)) = self.table.add(room, key, rank, route) {
             self.table.give_back(room);
             return Answer::Refused(Errno::EEXIST);

@@ -1,4 +1,5 @@
-ghost use Rattle.std.specs.Prelude.{◌≡◌, ◌≤◌};
+ghost use Rattle.std.specs.Prelude.{◌≡◌};
+ghost use Rattle.mask_table.specs.Agreeing.{masked as masked_by};
 ghost use Rattle.route_core.specs.Addresses.{flags_of_address, key_of_address, rank_of_address, route_of_address};
 
 use if_addrs::{Facts, IfaRef, Kind};
@@ -52,23 +53,17 @@ fn flags_of(kind: Kind, cloning: bool) -> u16
     RTF_UP | host | cloning
 }
 
-/// The rank of an address's route: the network's on a broadcast interface, and that of a host on the others.
-pub(crate) fn rank_of(facts: &Facts) -> Rank
-    ensures rank { result ≡ rank_of_address facts.now.kind facts.now.prefix }
-    ensures most { result ≤ 33 }
+/// The key and the rank of an address's route: the network on a broadcast interface, and on the others the far address as a host.
+pub(crate) fn place_of(address: Inet, facts: &Facts) -> (Inet, Rank)
+    ensures key { result.0 ≡ key_of_address facts.now.kind address facts.now.prefix facts.now.far }
+    ensures rank { result.1 ≡ rank_of_address facts.now.kind facts.now.prefix }
+    ensures masked { masked_by result.1 result.0 ≡ result.0 }
 {
     match facts.kind {
-        Kind::Broadcast => Rank::of(facts.prefix),
-        Kind::Loopback | Kind::PointToPoint => Rank::host(),
-    }
-}
-
-/// The key of an address's route: the network on a broadcast interface, and the far address on the others.
-pub(crate) fn key_of(address: Inet, facts: &Facts) -> Inet
-    ensures { result ≡ key_of_address facts.now.kind address facts.now.prefix facts.now.far }
-{
-    match facts.kind {
-        Kind::Broadcast => masked(address, Rank::of(facts.prefix)),
-        Kind::Loopback | Kind::PointToPoint => facts.far,
+        Kind::Broadcast => {
+            let rank = Rank::of(facts.prefix);
+            (masked(address, rank), rank)
+        }
+        Kind::Loopback | Kind::PointToPoint => (facts.far, Rank::host()),
     }
 }
