@@ -59,9 +59,13 @@ attach_fault name interfaces = first_fault
 abbrev pub attached : List ℕ → Kind → ℕ → List ℕ → Interface
 attached name kind type_number link = record { name = name; kind = kind; type_number = type_number; link = link; addresses = [] }
 
--- the kind of the interface of this name; where there is none, any kind
+-- the interface of this name
+abbrev pub named : List ℕ → List Interface → Option Interface
+named name interfaces = find (has_name name) interfaces
+
+-- its kind; where there is none, any
 abbrev pub kind_of : List ℕ → List Interface → Kind
-kind_of name interfaces = option_map_or (λ i. i.kind) (find (has_name name) interfaces) Broadcast
+kind_of name interfaces = option_map_or (λ i. i.kind) (named name interfaces) Broadcast
 
 -- interfaces are numbered from 1 on
 abbrev pub interface_numbered : ℕ → List Interface → Option Interface
@@ -105,7 +109,7 @@ fits kind far = is_none far
 -- why an address, with this one at the other end, can't be added to the interface of this name
 abbrev pub addr_fault : List ℕ → ℕ → Option ℕ → List Interface → Option Errno
 addr_fault name address far interfaces = first_fault
-    (rule (not (list_any (has_name name) interfaces)) ENXIO
+    (rule (is_none (named name interfaces)) ENXIO
     ∷ rule (not (fits (kind_of name interfaces) far)) EINVAL
     ∷ rule (list_any (holds address) interfaces) EADDRINUSE
     ∷ rule (nat_le most_addresses (added interfaces)) ENOSPC
@@ -191,7 +195,7 @@ found_on address None = Err ENXIO
 found_on address (Some i) = ok_or (option_map reference (find (is_at address) i.addresses)) EADDRNOTAVAIL
 
 abbrev pub find_addr : List ℕ → ℕ → List Interface → Result IfaRef Errno
-find_addr name address interfaces = found_on address (find (has_name name) interfaces)
+find_addr name address interfaces = found_on address (named name interfaces)
 
 -- CHANGES OF ONE ADDRESS
 

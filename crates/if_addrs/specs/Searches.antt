@@ -27,7 +27,7 @@ answers_to address a = a.address == address || (has_broadcast a.kind && a.far ==
 
 -- the interface with this number has this link text
 abbrev pub has_link_text : List ℕ → List Interface → ℕ → Bool
-has_link_text text interfaces index = option_map_or (bytes_eq text) (link_text_of index interfaces) false
+has_link_text text interfaces index = option_map_or (λ own. bytes_eq own text) (link_text_of index interfaces) false
 
 -- the first address that is this one or has it as its broadcast address; the first interface with the whole link text
 abbrev pub with_addr : Gate → List Interface → Option IfaRef

@@ -2,9 +2,8 @@ ghost use Rattle.std.specs.Prelude.{◌≡◌, filter};
 ghost use Rattle.std.specs.List.{find, position};
 ghost use Rattle.if_addrs.specs.Interfaces.{new_address, last_of_network, far_of, is_at, has_number as is_numbered, reference as reference_to};
 ghost use Rattle.if_addrs.specs.Facts.{facts_of};
-ghost use Rattle.if_addrs.specs.Searches.{answers_to, longest as longest_of};
-ghost use Rattle.if_addrs.specs.Wanted.{passes as passes_by, marked, better};
-ghost use Rattle.if_addrs.specs.declared.address.Wanted.TheVariants.{Near};
+ghost use Rattle.if_addrs.specs.Searches.{answers_to, leads_to, network_holds, longest as longest_of};
+ghost use Rattle.if_addrs.specs.Wanted.{is_wanted, marked, better};
 
 use crate::kind::Kind;
 use crate::reference::{Facts, IfaRef};
@@ -17,17 +16,21 @@ const CLONING: u32 = 0x100;
 /// The bit of the flag word for an address whose route was added.
 const ROUTED: u32 = 1;
 
-/// What a search asks of an address.
-#[derive(Clone, Copy)]
+/// What a search asks of an address. But for the number, it asks also that the address was not removed.
+#[derive(Drop)]
 pub(crate) enum Wanted {
+    /// This is its number.
+    Number(u16),
+    /// It is this address.
+    Same(Inet),
     /// It is this address, or this is its broadcast address.
     Own(Inet),
     /// This is the address of its interface's other end.
     Far(Inet),
     /// Its network holds this address.
     Near(Inet),
-    /// Nothing.
-    Any,
+    /// Nothing else.
+    Standing,
 }
 
 /// What an address is marked as.
@@ -98,17 +101,18 @@ impl Address {
         self.number == number
     }
 
-    /// Whether it is as a search wants it, and was not removed.
-    pub(crate) fn passes(&self, wanted: Wanted) -> bool
-        ensures { result ≡ passes_by wanted self.now }
+    /// Whether it is as a search wants it.
+    pub(crate) fn is_wanted(&self, wanted: &Wanted) -> bool
+        ensures { result ≡ is_wanted wanted.now self.now }
     {
-        !self.removed
-            && match wanted {
-                Wanted::Own(address) => self.answers_to(address),
-                Wanted::Far(address) => self.kind == Kind::PointToPoint && self.far == address,
-                Wanted::Near(address) => agrees(self.address, Rank::of(self.prefix), address),
-                Wanted::Any => true,
-            }
+        match wanted {
+            Wanted::Number(number) => self.has_number(*number),
+            Wanted::Same(address) => self.is_at(*address),
+            Wanted::Own(address) => !self.removed && self.answers_to(*address),
+            Wanted::Far(address) => !self.removed && self.leads_to(*address),
+            Wanted::Near(address) => !self.removed && self.network_holds(*address),
+            Wanted::Standing => !self.removed,
+        }
     }
 
     /// Whether it is this address, or this is its broadcast address.
@@ -116,6 +120,20 @@ impl Address {
         ensures { result ≡ answers_to address self.now }
     {
         self.address == address || (self.kind == Kind::Broadcast && self.far == address)
+    }
+
+    /// Whether this is the address of its interface's other end.
+    fn leads_to(&self, address: Inet) -> bool
+        ensures { result ≡ leads_to address self.now }
+    {
+        self.kind == Kind::PointToPoint && self.far == address
+    }
+
+    /// Whether its network holds this address.
+    fn network_holds(&self, address: Inet) -> bool
+        ensures { result ≡ network_holds address self.now }
+    {
+        agrees(self.address, Rank::of(self.prefix), address)
     }
 
     /// The address itself.
@@ -176,13 +194,6 @@ fn last_of_network(address: Inet, prefix: Prefix) -> Inet
     Inet::new((next - 1) as u32)
 }
 
-/// The place of the address that is this one.
-pub(crate) fn place_of(addresses: &[Address], address: Inet) -> Option<usize>
-    ensures { result ≡ position (is_at address) addresses.now }
-{
-    addresses.iter().position(|a| a.is_at(address))
-}
-
 /// The place of the address with this number.
 pub(crate) fn place_of_number(addresses: &[Address], number: u16) -> Option<usize>
     ensures { result ≡ position (is_numbered number) addresses.now }
@@ -191,24 +202,25 @@ pub(crate) fn place_of_number(addresses: &[Address], number: u16) -> Option<usiz
 }
 
 /// The first that is as a search wants it.
-pub(crate) fn first(addresses: &[Address], wanted: Wanted) -> Option<Address>
-    ensures { result ≡ find (passes_by wanted) addresses.now }
+pub(crate) fn first(addresses: &[Address], wanted: &Wanted) -> Option<Address>
+    ensures { result ≡ find (is_wanted wanted.now) addresses.now }
 {
     for address in addresses {
-        if address.passes(wanted) {
+        if address.is_wanted(wanted) {
             return Some(*address);
         }
     }
     None
 }
 
-/// The first of the longest prefix among those whose network holds this address.
-pub(crate) fn longest(addresses: &[Address], held: Inet) -> Option<Address>
-    ensures { result ≡ longest_of (filter (passes_by (Near held)) addresses.now) }
+/// The first of the longest prefix among those that are as a search wants them.
+#[tactic(auto, using(crate::proofs::Searching::longest_first, crate::proofs::Searching::better_none))]
+pub(crate) fn longest(addresses: &[Address], wanted: &Wanted) -> Option<Address>
+    ensures { result ≡ longest_of (filter (is_wanted wanted.now) addresses.now) }
 {
     let mut best = None;
     for address in addresses {
-        if address.passes(Wanted::Near(held)) {
+        if address.is_wanted(wanted) {
             best = better(best, Some(*address));
         }
     }

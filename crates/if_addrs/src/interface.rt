@@ -1,9 +1,8 @@
-ghost use Rattle.std.specs.Prelude.{◌≡◌, ◌+◌, ◌≤◌, ◌++◌, length, map, filter, option_map, OnOk, OnErr};
+ghost use Rattle.std.specs.Prelude.{◌≡◌, ◌+◌, ◌≤◌, ◌++◌, length, filter, option_map, OnOk, OnErr};
 ghost use Rattle.std.specs.List.{find, list_any, position};
-ghost use Rattle.if_addrs.specs.Interfaces.{addresses_of, attached, has_name as is_named, holds, has_number, has_numbered as holds_number, with_one_more, with_changed, link_text, kind_of as kind_named, changed, is_at};
+ghost use Rattle.if_addrs.specs.Interfaces.{addresses_of, attached, has_name as is_named, named, holds, has_number, has_numbered as holds_number, with_one_more, with_changed, link_text};
 ghost use Rattle.if_addrs.specs.Searches.{standing, nearest as nearest_of, longest as longest_of};
-ghost use Rattle.if_addrs.specs.Wanted.{passes, marked, better};
-ghost use Rattle.if_addrs.specs.declared.address.Wanted.TheVariants.{Near};
+ghost use Rattle.if_addrs.specs.Wanted.{is_wanted, marked};
 ghost use Rattle.sock_addrs.specs.Padded.{padded_to};
 
 use crate::address::{self, Address, Mark, Wanted};
@@ -82,42 +81,28 @@ impl Interface {
         self.addresses.iter().any(|a| a.has_number(number))
     }
 
-    /// Its address that is this one, where it holds it.
-    pub(crate) fn held(&self, address: Inet) -> Option<Address>
-        ensures { result ≡ find (is_at address) self.now.addresses }
-    {
-        let at = address::place_of(&self.addresses, address)?;
-        Some(self.addresses[at])
-    }
-
-    /// Its address with this number.
-    pub(crate) fn numbered(&self, number: u16) -> Option<Address>
-        ensures { result ≡ find (has_number number) self.now.addresses }
-    {
-        let at = address::place_of_number(&self.addresses, number)?;
-        Some(self.addresses[at])
-    }
-
     /// The first of its addresses that is as a search wants it.
-    fn first(&self, wanted: Wanted) -> Option<Address>
-        ensures { result ≡ find (passes wanted) self.now.addresses }
+    pub(crate) fn first(&self, wanted: &Wanted) -> Option<Address>
+        ensures { result ≡ find (is_wanted wanted.now) self.now.addresses }
     {
         address::first(&self.addresses, wanted)
     }
 
-    /// The first of the longest prefix among its addresses whose network holds this one.
-    fn longest(&self, held: Inet) -> Option<Address>
-        ensures { result ≡ longest_of (filter (passes (Near held)) self.now.addresses) }
+    /// The first of the longest prefix among its addresses that are as a search wants them.
+    fn longest(&self, wanted: &Wanted) -> Option<Address>
+        ensures { result ≡ longest_of (filter (is_wanted wanted.now) self.now.addresses) }
     {
-        address::longest(&self.addresses, held)
+        address::longest(&self.addresses, wanted)
     }
 
     /// The first of its addresses whose network holds this one, or else its first.
     pub(crate) fn nearest(&self, held: Inet) -> Option<Address>
         ensures { result ≡ nearest_of held (standing self.now.addresses) }
     {
-        self.first(Wanted::Near(held))
-            .or_else(|| self.first(Wanted::Any))
+        match self.first(&Wanted::Near(held)) {
+            Some(address) => Some(address),
+            None => self.first(&Wanted::Standing),
+        }
     }
 
     /// Appends an address.
@@ -187,6 +172,13 @@ pub(crate) fn place_of(interfaces: &[Interface], name: Name) -> Option<usize>
         .position(|interface| interface.has_name(name))
 }
 
+/// The interface of this name.
+pub(crate) fn named(interfaces: &[Interface], name: Name) -> Option<&Interface>
+    ensures { option_map (λ i. i.now) result ≡ named name interfaces.now }
+{
+    interfaces.iter().find(|interface| interface.has_name(name))
+}
+
 /// The place of the interface that has the address with this number.
 pub(crate) fn place_of_number(interfaces: &[Interface], number: u16) -> Option<usize>
     ensures { result ≡ position (holds_number number) interfaces.now }
@@ -211,8 +203,8 @@ pub(crate) fn is_in_use(interfaces: &[Interface], address: Inet) -> bool
 }
 
 /// The first of their addresses that is as a search wants it.
-pub(crate) fn first(interfaces: &[Interface], wanted: Wanted) -> Option<Address>
-    ensures { result ≡ find (passes wanted) (addresses_of interfaces.now) }
+pub(crate) fn first(interfaces: &[Interface], wanted: &Wanted) -> Option<Address>
+    ensures { result ≡ find (is_wanted wanted.now) (addresses_of interfaces.now) }
 {
     for interface in interfaces {
         let found = interface.first(wanted);
@@ -223,13 +215,14 @@ pub(crate) fn first(interfaces: &[Interface], wanted: Wanted) -> Option<Address>
     None
 }
 
-/// The first of the longest prefix among their addresses whose network holds this one.
-pub(crate) fn longest(interfaces: &[Interface], held: Inet) -> Option<Address>
-    ensures { result ≡ longest_of (filter (passes (Near held)) (addresses_of interfaces.now)) }
+/// The first of the longest prefix among their addresses that are as a search wants them.
+#[tactic(auto, using(crate::proofs::Searching::better_none))]
+pub(crate) fn longest(interfaces: &[Interface], wanted: &Wanted) -> Option<Address>
+    ensures { result ≡ longest_of (filter (is_wanted wanted.now) (addresses_of interfaces.now)) }
 {
     let mut best = None;
     for interface in interfaces {
-        best = address::better(best, interface.longest(held));
+        best = address::better(best, interface.longest(wanted));
     }
     best
 }

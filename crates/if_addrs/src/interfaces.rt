@@ -5,8 +5,8 @@ ghost use Rattle.if_addrs.specs.Interfaces.{attach_fault, attached, addr_fault, 
 ghost use Rattle.if_addrs.specs.Keeping.{KeepsIfas, SameIfas};
 ghost use Rattle.if_addrs.specs.Wanted.{marked};
 
-use crate::address::{Address, Mark};
-use crate::interface::{Interface, is_in_use, is_there, place_of, place_of_number};
+use crate::address::{Address, Mark, Wanted};
+use crate::interface::{Interface, first, is_in_use, is_there, named, place_of, place_of_number};
 use crate::kind::Kind;
 use crate::link_address::LinkAddress;
 use crate::reference::{Facts, IfaRef};
@@ -97,10 +97,10 @@ impl Interfaces {
     pub fn check_addr(&self, name: Name, address: Inet, far: Option<Inet>) -> Result<(), Errno>
         ensures { result_err result ≡ addr_fault name address far self.now }
     {
-        let Some(at) = place_of(&self.interfaces, name) else {
+        let Some(interface) = named(&self.interfaces, name) else {
             return Err(Errno::ENXIO);
         };
-        if !self.interfaces[at].kind().fits(far) {
+        if !interface.kind().fits(far) {
             return Err(Errno::EINVAL);
         }
         if is_in_use(&self.interfaces, address) {
@@ -151,10 +151,10 @@ impl Interfaces {
         ensures standing { IfOk result (λ ifa. IsStanding ifa self.now) }
         ensures of { IfOk result (λ ifa. IsOf ifa self.now) }
     {
-        let Some(at) = place_of(&self.interfaces, name) else {
+        let Some(interface) = named(&self.interfaces, name) else {
             return Err(Errno::ENXIO);
         };
-        match self.interfaces[at].held(address) {
+        match interface.first(&Wanted::Same(address)) {
             Some(address) => Ok(address.reference()),
             None => Err(Errno::EADDRNOTAVAIL),
         }
@@ -181,14 +181,15 @@ impl Interfaces {
     }
 
     fn mark(&mut self, ifa: IfaRef, mark: Mark)
+        requires { IsSome (address_of ifa self.old) }
         ensures marked { self.new ≡ changed ifa (marked mark) self.old }
         ensures keeps { KeepsIfas self.old self.new }
         ensures same { SameIfas self.old self.new }
     {
-        if let IfaRef::Inet(number) = ifa
-            && let Some(at) = place_of_number(&self.interfaces, number)
-        {
-            self.interfaces[at].mark(number, mark);
+        if let IfaRef::Inet(number) = ifa {
+            let at = place_of_number(&self.interfaces, number).unwrap();
+            let interface = &mut self.interfaces[at];
+            interface.mark(number, mark);
         }
     }
 
@@ -197,10 +198,7 @@ impl Interfaces {
         ensures { result ≡ address_of ifa self.now }
     {
         match ifa {
-            IfaRef::Inet(number) => {
-                let at = place_of_number(&self.interfaces, number)?;
-                self.interfaces[at].numbered(number)
-            }
+            IfaRef::Inet(number) => first(&self.interfaces, &Wanted::Number(number)),
             IfaRef::Link(_) => None,
         }
     }

@@ -1,10 +1,10 @@
 //! The searches for an interface address, as a route gets it. They go by interface and then by address, and pass over the
 //! addresses that were removed. What they find is an interface address of these interfaces.
-ghost use Rattle.std.specs.Prelude.{◌≡◌, ◌≤◌, length, IfSome};
-ghost use Rattle.std.specs.Prelude.{option_map};
+ghost use Rattle.std.specs.Prelude.{◌≡◌, ◌≤◌, length, filter, option_map, IfSome};
 ghost use Rattle.std.specs.List.{find, range_with_len};
-ghost use Rattle.if_addrs.specs.Interfaces.{IsOf};
-ghost use Rattle.if_addrs.specs.Searches.{with_addr, with_far, with_net, of_interface, for_route, with_way, turned, has_link_text, index_in};
+ghost use Rattle.if_addrs.specs.Interfaces.{addresses_of, reference, IsOf};
+ghost use Rattle.if_addrs.specs.Searches.{with_addr, with_far, with_net, of_interface, for_route, with_way, turned, has_link_text, index_in, longest};
+ghost use Rattle.if_addrs.specs.Wanted.{is_wanted};
 ghost use Rattle.if_addrs.specs.declared.reference.IfaRef.TheVariants as ifa;
 
 use crate::address::Wanted;
@@ -26,11 +26,25 @@ impl Interfaces {
         ensures of { IfSome result (λ i. IsOf i self.now) }
     {
         match sought {
-            Gate::Inet(address) => {
-                Some(first(&self.interfaces, Wanted::Own(address))?.reference())
-            }
+            Gate::Inet(address) => self.first(&Wanted::Own(address)),
             Gate::Link(text) => self.with_link_text(text),
         }
+    }
+
+    /// The first address that is as a search wants it.
+    fn first(&self, wanted: &Wanted) -> Option<IfaRef>
+        ensures found { result ≡ option_map reference (find (is_wanted wanted.now) (addresses_of self.now)) }
+        ensures of { IfSome result (λ i. IsOf i self.now) }
+    {
+        Some(first(&self.interfaces, wanted)?.reference())
+    }
+
+    /// The first address of the longest prefix among those that are as a search wants them.
+    fn longest(&self, wanted: &Wanted) -> Option<IfaRef>
+        ensures found { result ≡ option_map reference (longest (filter (is_wanted wanted.now) (addresses_of self.now))) }
+        ensures of { IfSome result (λ i. IsOf i self.now) }
+    {
+        Some(longest(&self.interfaces, wanted)?.reference())
     }
 
     /// The first interface whose link-layer address this is.
@@ -38,8 +52,9 @@ impl Interfaces {
         ensures found { result ≡ option_map (λ index. ifa.Link index) (find (has_link_text text self.now) (range_with_len 1 (length self.now))) }
         ensures of { IfSome result (λ i. IsOf i self.now) }
     {
-        for index in 1..=self.interfaces.len() as u16 {
-            if self.link_text(index) == text {
+        for place in 0..self.interfaces.len() {
+            let index = place as u16 + 1;
+            if self.link_text(index).as_bytes() == text.as_bytes() {
                 return Some(IfaRef::Link(index));
             }
         }
@@ -53,9 +68,7 @@ impl Interfaces {
         ensures of { IfSome result (λ i. IsOf i self.now) }
     {
         match sought {
-            Gate::Inet(address) => {
-                Some(first(&self.interfaces, Wanted::Far(address))?.reference())
-            }
+            Gate::Inet(address) => self.first(&Wanted::Far(address)),
             Gate::Link(_) => None,
         }
     }
@@ -67,7 +80,7 @@ impl Interfaces {
         ensures of { IfSome result (λ i. IsOf i self.now) }
     {
         match sought {
-            Gate::Inet(address) => Some(longest(&self.interfaces, address)?.reference()),
+            Gate::Inet(address) => self.longest(&Wanted::Near(address)),
             Gate::Link(text) => {
                 let index = index_in(&text);
                 if 1 <= index && usize::from(index) <= self.interfaces.len() {

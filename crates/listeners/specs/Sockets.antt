@@ -1,8 +1,9 @@
 -- The open sockets, and what each of them hears.
-use Rattle.std.specs.Prelude.{ℕ, ◌==◌, nat_le, Bool, true, false, not, ◌&&◌, ◌||◌, List, [], ◌∷◌, ◌++◌, length, map, Option, Some, None, option_map, bytes_eq, if◌then◌else◌}
+use Rattle.std.specs.Prelude.{ℕ, ◌==◌, nat_le, Bool, true, false, not, ◌&&◌, ◌||◌, List, [], ◌∷◌, ◌++◌, length, map, filter, Option, Some, None, is_none, option_map, bytes_eq, if◌then◌else◌}
 use Rattle.std.specs.List.{find, list_any}
 use Rattle.sock_addrs.specs.declared.errno.Errno.{Errno}
-use Rattle.sock_addrs.specs.declared.errno.Errno.TheVariants.{EEXIST, EMFILE}
+use Rattle.sock_addrs.specs.declared.errno.Errno.TheVariants.{EBADF, EEXIST, EMFILE}
+use Rattle.listeners.specs.declared.limits.TheConstants.{MOST_SOCKETS}
 use Rattle.sock_addrs.specs.Rules.{rule, first_fault}
 use Rattle.sock_addrs.specs.First.{change_first}
 
@@ -38,11 +39,15 @@ pid_of id sockets = option_map (λ s. s.pid) (socket_of id sockets)
 abbrev pub messages_of : List ℕ → List Socket → Option (List (List ℕ))
 messages_of id sockets = option_map (λ s. s.messages) (socket_of id sockets)
 
+-- why something can't be done with the socket of this id: it isn't open
+abbrev pub closed_fault : List ℕ → List Socket → Option Errno
+closed_fault id sockets = first_fault (rule (is_none (socket_of id sockets)) EBADF ∷ [])
+
 -- why a socket with this id can't be opened
 abbrev pub listen_fault : List ℕ → List Socket → Option Errno
 listen_fault id sockets = first_fault
     (rule (list_any (has_id id) sockets) EEXIST
-    ∷ rule (nat_le 64 (length sockets)) EMFILE
+    ∷ rule (nat_le MOST_SOCKETS (length sockets)) EMFILE
     ∷ [])
 
 -- a socket as it is opened
@@ -74,3 +79,15 @@ emptied s = record s { messages = [] }
 -- the sockets after the one with this id read its messages
 abbrev pub taken : List ℕ → List Socket → List Socket
 taken id sockets = change_first (has_id id) emptied sockets
+
+-- the sockets without the one with this id, whose messages go with it
+abbrev pub without : List ℕ → List Socket → List Socket
+without id sockets = filter (λ s. not (has_id id s)) sockets
+
+-- a socket with loopback on or off
+abbrev pub looped : Bool → Socket → Socket
+looped on s = record s { loopback = on }
+
+-- the sockets with loopback of the one with this id on or off
+abbrev pub with_loopback : List ℕ → Bool → List Socket → List Socket
+with_loopback id on sockets = change_first (has_id id) (looped on) sockets

@@ -3,6 +3,7 @@
 
 mod cutting;
 pub mod laws;
+pub mod limits;
 mod listeners;
 mod queue;
 mod socket;

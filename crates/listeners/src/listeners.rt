@@ -1,17 +1,15 @@
-ghost use Rattle.std.specs.Prelude.{◌≡◌, ◌-◌, ◌≤◌, [], ◌∷◌, ◌++◌, length, unwrap_or, ok_or, OnOk, OnErr, IfOk, IfErr};
+ghost use Rattle.std.specs.Prelude.{◌≡◌, ◌-◌, ◌≤◌, [], ◌∷◌, ◌++◌, length, unwrap_or, ok_or, IsOk, OnOk, OnErr, IfOk, IfErr};
 ghost use Rattle.std.specs.List.{list_any};
 ghost use Rattle.std.specs.Result.{result_err};
 ghost use Rattle.listeners.specs.Queue.{cut, IsMessage, AreMessages};
-ghost use Rattle.listeners.specs.Sockets.{listening, has_id, listen_fault, opened, pid_of, messages_of, delivered, taken};
+ghost use Rattle.listeners.specs.Sockets.{listening, closed_fault, has_id, listen_fault, opened, pid_of, messages_of, delivered, taken, without, with_loopback};
 
+use crate::limits::MOST_SOCKETS;
 use crate::queue::Queue;
 use crate::socket::{self, Message, Socket, is_open, place_of};
 use sock_addrs::{Errno, Name};
 use std::alloc::Global;
 use std::marker::Model;
-
-/// How many sockets may be open.
-const MOST_SOCKETS: usize = 64;
 
 /// The open routing sockets with the messages that they have not yet read. A contract sees the sockets in the order in which
 /// they were opened, and for how many bytes more there is room in the queue of each.
@@ -85,6 +83,37 @@ impl Listeners {
         is_open(&self.sockets, id)
     }
 
+    /// Closes a socket; what it has not read goes with it. EBADF where none of this id is open. Another can then be opened with
+    /// the id, with an empty queue.
+    pub fn shut(&mut self, id: Name) -> Result<(), Errno>
+        ensures fault { result_err result ≡ closed_fault id self.old.sockets }
+        ensures shut { OnOk result (self.new ≡ listening (without id self.old.sockets) self.old.reserved) }
+        ensures kept { OnErr result (self.new ≡ self.old) }
+    {
+        if !self.is_open(id) {
+            return Err(Errno::EBADF);
+        }
+        self.sockets.retain(|socket| !socket.has_id(id));
+        Ok(())
+    }
+
+    /// Turns loopback of a socket on or off, by which it hears the replies to its own writes or doesn't. EBADF where none of
+    /// this id is open.
+    pub fn set_loopback(&mut self, id: Name, on: bool) -> Result<(), Errno>
+        ensures fault { result_err result ≡ closed_fault id self.old.sockets }
+        ensures set { OnOk result (self.new ≡ listening (with_loopback id on self.old.sockets) self.old.reserved) }
+        ensures kept { OnErr result (self.new ≡ self.old) }
+    {
+        match place_of(&self.sockets, id) {
+            Some(at) => {
+                let socket = &mut self.sockets[at];
+                socket.set_loopback(on);
+                Ok(())
+            }
+            None => Err(Errno::EBADF),
+        }
+    }
+
     /// The pid of the process that opened the socket, or EBADF where none of this id is open.
     pub fn pid_of(&self, id: Name) -> Result<u32, Errno>
         ensures { result ≡ ok_or (pid_of id self.now.sockets) Errno.EBADF }
@@ -95,9 +124,10 @@ impl Listeners {
         }
     }
 
-    /// Makes room for `n` bytes more in each queue. ENOBUFS for want of memory.
+    /// Makes room for `n` bytes more in each queue. ENOBUFS for want of memory, and never where so many are reserved already.
     pub fn reserve(&mut self, n: usize) -> Result<(), Errno>
         ensures ok { OnOk result (self.new ≡ listening self.old.sockets n) }
+        ensures there { n ≤ self.old.reserved → IsOk result }
         ensures refused { IfErr result (λ e. e ≡ Errno.ENOBUFS) }
         ensures kept { OnErr result (self.new ≡ self.old) }
     {

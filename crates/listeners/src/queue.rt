@@ -1,4 +1,4 @@
-ghost use Rattle.std.specs.Prelude.{◌≡◌, ◌+◌, ◌≤◌, [], ◌∷◌, ◌++◌, length, OnOk};
+ghost use Rattle.std.specs.Prelude.{◌≡◌, ◌+◌, ◌≤◌, [], ◌∷◌, ◌++◌, length, IsOk, OnOk};
 ghost use Rattle.listeners.specs.Queue.{cut, IsMessage, AreMessages};
 
 use std::alloc::{AllocError, Global};
@@ -35,6 +35,7 @@ impl Queue {
     /// Makes room for so many bytes more.
     pub(crate) fn reserve(&mut self, n: usize) -> Result<(), AllocError>
         ensures ok { OnOk result (n ≤ self.new.room) }
+        ensures there { n ≤ self.old.room → IsOk result }
         ensures messages { self.new.messages ≡ self.old.messages }
         ensures room { self.old.room ≤ self.new.room }
     {

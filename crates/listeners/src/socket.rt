@@ -1,4 +1,4 @@
-ghost use Rattle.std.specs.Prelude.{◌≡◌, ◌+◌, ◌≤◌, [], length, map, OnOk};
+ghost use Rattle.std.specs.Prelude.{◌≡◌, ◌+◌, ◌≤◌, [], length, map, IsOk, OnOk};
 ghost use Rattle.std.specs.List.{list_any, position};
 ghost use Rattle.listeners.specs.Open.{seen, HaveRoom, KeepRoomBut};
 ghost use Rattle.listeners.specs.Queue.{cut, IsMessage, AreMessages};
@@ -26,7 +26,7 @@ pub(crate) struct Socket {
     /// The family whose messages it hears, or 0 for all.
     pub(crate) protocol: u8,
     /// Whether it hears the replies to its own writes.
-    pub(crate) loopback: bool,
+    loopback: bool,
     pub(crate) queue: Queue,
 }
 
@@ -46,7 +46,7 @@ impl Socket {
     }
 
     /// Whether this is its id.
-    fn has_id(&self, id: Name) -> bool
+    pub(crate) fn has_id(&self, id: Name) -> bool
         ensures { result ≡ has_id id (seen self.now) }
     {
         self.id.as_bytes() == id.as_bytes()
@@ -61,6 +61,13 @@ impl Socket {
             None => false,
         };
         (self.protocol == 0 || self.protocol == message.family) && (self.loopback || !is_own)
+    }
+
+    /// Turns loopback on or off.
+    pub(crate) fn set_loopback(&mut self, on: bool)
+        ensures { self.new ≡ record self.old { loopback = on } }
+    {
+        self.loopback = on;
     }
 
     /// Keeps the message if it hears it.
@@ -78,6 +85,7 @@ impl Socket {
     /// Makes room for so many bytes more in its queue.
     fn reserve(&mut self, n: usize) -> Result<(), AllocError>
         ensures ok { OnOk result (n ≤ self.new.queue.room) }
+        ensures there { n ≤ self.old.queue.room → IsOk result }
         ensures seen { seen self.new ≡ seen self.old }
         ensures room { self.old.queue.room ≤ self.new.queue.room }
     {
@@ -123,6 +131,7 @@ pub(crate) fn deliver(sockets: &mut [Socket], message: &Message)
 /// Makes room for so many bytes more in the queue of each.
 pub(crate) fn reserve(sockets: &mut [Socket], n: usize) -> Result<(), AllocError>
     ensures ok { OnOk result (HaveRoom n sockets.new) }
+    ensures there { HaveRoom n sockets.old → IsOk result }
     ensures seen { map seen sockets.new ≡ map seen sockets.old }
     ensures room { KeepRoomBut 0 sockets.old sockets.new }
 {

@@ -1,5 +1,5 @@
 -- The first element that passes a test: found by its place, and changed there.
-use Rattle.std.proofs.Common.{◌≡◌, ℕ, zero, suc, ◌<◌, Bool, true, false, cond, ◌||◌, List, [], ◌∷◌, length, map, Some, None, is_some, option_map, refl, ap, ◌∙◌, arith, slice_index_or, slice_set, nat_lt}
+use Rattle.std.proofs.Common.{◌≡◌, ℕ, zero, suc, ◌<◌, Bool, true, false, cond, ◌||◌, if◌then◌else◌, List, [], ◌∷◌, length, map, Option, Some, None, is_some, option_map, refl, ap, ◌∙◌, arith, slice_index_or, slice_set, nat_lt}
 use Rattle.std.specs.List.{find, list_any, position, position_or_len}
 use Rattle.std.proofs.lemmas.List.Quantifiers.{position-Some}
 use Rattle.std.proofs.lemmas.Bool.{ltb-false}
@@ -34,6 +34,24 @@ pub change_first-set : {X : Type 0} (p : X → Bool) (f : X → X) (xs : List X)
 change_first-set p f [] i y d h e = absurd (omega (arith, h.within))
 change_first-set p f (x ∷ xs) zero y d h e = rw h.passes (ap (λ z. z ∷ xs) e)
 change_first-set p f (x ∷ xs) (suc i) y d h e = rw (h.none_before 0 (omega arith)) (ap (λ r. x ∷ r) (change_first-set p f xs i y d (rest p x xs i d h) e))
+
+-- a change that a function doesn't see leaves what it says of each
+pub map-change_first : {X Y : Type 0} (v : X → Y) (p : X → Bool) (f : X → X) → ((x : X) → v (f x) ≡ v x) → (xs : List X) → map v (change_first p f xs) ≡ map v xs
+map-change_first v p f same [] = refl
+map-change_first v p f same (x ∷ xs) = elim (p x) as (λ b. map v (if b then f x ∷ xs else x ∷ change_first p f xs) ≡ map v (x ∷ xs))
+    [ true ↦ ap (λ y. y ∷ map v xs) (same x) | false ↦ ap (λ ys. v x ∷ ys) (map-change_first v p f same xs) ]
+
+pub length-change_first : {X : Type 0} (p : X → Bool) (f : X → X) (xs : List X) → length (change_first p f xs) ≡ length xs
+length-change_first p f [] = refl
+length-change_first p f (x ∷ xs) = elim (p x) as (λ b. length (if b then f x ∷ xs else x ∷ change_first p f xs) ≡ length (x ∷ xs))
+    [ true ↦ refl | false ↦ ap suc (length-change_first p f xs) ]
+
+-- where none passes nothing changes
+pub change_first-none : {X : Type 0} (p : X → Bool) (f : X → X) (xs : List X) → find p xs ≡ None → change_first p f xs ≡ xs
+change_first-none p f [] h = refl
+change_first-none p f (x ∷ xs) h =
+    elim (p x) as (λ b. cond b (Some x) (find p xs) ≡ None → (if b then f x ∷ xs else x ∷ change_first p f xs) ≡ x ∷ xs)
+    [ true ↦ λ k. cc | false ↦ λ k. ap (λ ys. x ∷ ys) (change_first-none p f xs k) ] h
 
 pub first-map : {X Y : Type 0} (v : X → Y) (p : Y → Bool) (xs : List X) (i : ℕ) (d : X) → IsFirst (λ x. p (v x)) xs i d → IsFirst p (map v xs) i (v d)
 first-map v p xs i d h = record {

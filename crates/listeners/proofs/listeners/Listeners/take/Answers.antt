@@ -2,7 +2,7 @@ use Rattle.std.proofs.Common.{◌≡◌, ◌∙◌, sym, ap, Bool, Option, optio
 use Rattle.std.specs.List.{position}
 use Rattle.listeners.specs.Open.{Open, seen}
 use Rattle.listeners.specs.Sockets.{Listening, listening, Socket, has_id, socket_of, emptied, taken}
-use Rattle.listeners.proofs.SocketLists.{found_socket, no_socket, taken_at}
+use Rattle.listeners.proofs.SocketLists.{found_socket, no_socket, changed_at}
 use Rattle.listeners.proofs.listeners.Listeners.take.Goals as goal
 
 abbrev waiting : Option Socket → Option (List (List ℕ))
@@ -24,7 +24,7 @@ returns-in-Some-clause-taken c =
     let place : position test items ≡ Some c.in-Some.at = ap (λ (xs : List Open). position test xs) (sym c.deref.ensures.value) ∙ sym c.in-Some.ensures in
     let empty = c.take.ensures.empty ∙ ap (λ (s : Open). emptied (seen s)) c.index_mut-socket.ensures.value in
     ap (λ (ss : List Socket). listening ss 0)
-    (taken_at items c.args.id c.in-Some.at c.take.new.self c.index_mut-socket.result.now place empty
+    (changed_at emptied items c.args.id c.in-Some.at c.take.new.self c.index_mut-socket.result.now place empty
     ∙ ap (λ (l : Listening). taken c.args.id l.sockets) c.self.view_is)
 
 pub returns-in-None-clause-none : goal.returns-in-None-clause-none

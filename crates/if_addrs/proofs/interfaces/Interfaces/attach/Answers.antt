@@ -1,0 +1,24 @@
+use Rattle.std.proofs.Common.{◌≡◌, ◌++◌, ◌<◌, ◌∷◌, [], None, rules, refl}
+use Rattle.if_addrs.specs.Interfaces.{Interface, attach_fault, attached}
+use Rattle.if_addrs.proofs.Numbers.{numbered_attached, room_left}
+use Rattle.if_addrs.proofs.Keeping.{keeps_by, same_by, stays_attached}
+use Rattle.if_addrs.proofs.interfaces.Interfaces.attach.Goals as goal
+use Rattle.if_addrs.proofs.interfaces.Interfaces.attach.Goals.{Else-is_err}
+
+-- the interface as it is attached
+abbrev new : Else-is_err → Interface
+new c = attached c.args.name c.args.kind c.args.type_number c.args.link.now
+
+pushed : (c : Else-is_err) → c.push.new.self.items ≡ c.args.self.now ++ new c ∷ []
+pushed c = search rules
+
+pub invariant_of-self-2 : goal.invariant_of-self-2
+invariant_of-self-2 c =
+    let free : attach_fault c.args.name c.args.self.now ≡ None = search rules in
+    rw (pushed c) (numbered_attached c.self.inside.added c.args.self.now (new c) (rw (← c.self.view_is) c.self.invariant) refl (room_left c.args.name c.args.self.now free))
+
+pub returns-clause-keeps : goal.returns-clause-keeps
+returns-clause-keeps c = rw (pushed c) (keeps_by c.args.self.now _ (stays_attached c.args.self.now (new c) refl))
+
+pub returns-clause-same : goal.returns-clause-same
+returns-clause-same c = rw (pushed c) (same_by c.args.self.now _ (stays_attached c.args.self.now (new c) refl))

@@ -1,0 +1,4 @@
+//! How much there may be.
+
+/// How many sockets may be open.
+pub const MOST_SOCKETS: usize = 64;
