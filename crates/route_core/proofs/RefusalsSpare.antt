@@ -9,11 +9,12 @@ use Rattle.if_addrs.specs.Interfaces.{Address, Interface, added, addr_fault, att
 use Rattle.sock_addrs.specs.Rules.{Rule, rule, first_fault, unless_fault}
 use Rattle.sock_addrs.specs.Sockaddrs.{family}
 use Rattle.sock_addrs.specs.declared.families.TheConstants.{AF_INET}
-use Rattle.listeners.specs.Sockets.{Socket, has_id, is_open, listen_fault, messages_of, pid_of}
+use Rattle.listeners.specs.Sockets.{Socket, closed_fault, has_id, listen_fault, messages_of, pid_of, socket_of}
+use Rattle.listeners.specs.declared.listeners.TheConstants.{MOST_SOCKETS}
 use Rattle.route_core.specs.Addresses.{entry_of_address}
 use Rattle.route_core.specs.Effects.{IsEffect}
 use Rattle.route_core.specs.Requests.{Outcome, outcome_of, got}
-use Rattle.route_core.specs.Step.{Effect, Stepped, Steps, bring_route, done_write, effect, if_open, read_effect, refused, refused_write, refusal_tells, stepped, unless_refused, world_after, write_by_outcome, write_by_request, write_effect}
+use Rattle.route_core.specs.Step.{Effect, Stepped, Steps, bring_route, done_write, effect, read_effect, refused, refused_write, refusal_tells, stepped, unless_refused, world_after, write_by_outcome, write_by_request, write_effect}
 use Rattle.route_core.specs.Telling.{Told, told, delivered_all}
 use Rattle.radix_tree.specs.Table.{best_of, entry_at}
 use Rattle.route_core.specs.World.{World}
@@ -55,7 +56,10 @@ attach_fault-found : (name : List ℕ) (interfaces : List Interface) → IfSome 
 attach_fault-found name interfaces = two-all IsFound (list_any (has_name name) interfaces) (nat_le most_interfaces (length interfaces)) EEXIST ENOSPC (λ h. absurd (cc)) (λ h. absurd (cc))
 
 listen_fault-found : (id : List ℕ) (sockets : List Socket) → IfSome (listen_fault id sockets) IsFound
-listen_fault-found id sockets = two-all IsFound (list_any (has_id id) sockets) (nat_le 64 (length sockets)) EEXIST EMFILE (λ h. absurd (cc)) (λ h. absurd (cc))
+listen_fault-found id sockets = two-all IsFound (list_any (has_id id) sockets) (nat_le MOST_SOCKETS (length sockets)) EEXIST EMFILE (λ h. absurd (cc)) (λ h. absurd (cc))
+
+closed_fault-found : (id : List ℕ) (sockets : List Socket) → IfSome (closed_fault id sockets) IsFound
+closed_fault-found id sockets = first_fault-all IsFound (rule (is_none (socket_of id sockets)) EBADF ∷ []) (λ h. absurd (cc), tt)
 
 addr_fault-all : (P : Errno → Type 0) (name : List ℕ) (address : ℕ) (far : Option ℕ) (interfaces : List Interface) → P ENXIO → P EINVAL → P EADDRINUSE → P ENOSPC → IfSome (addr_fault name address far interfaces) P
 addr_fault-all P name address far interfaces p q r s = first_fault-all P
@@ -130,10 +134,6 @@ spares-fault : (c : Command) (old : World) (fault : Option Errno) (e : Effect) �
 spares-fault c old None e leaves spares = spares
 spares-fault c old (Some x) e leaves spares = spares-refused c old x leaves
 
-spares-open : (c : Command) (old : World) (there : Bool) (e : Effect) → LeavesAll c old EBADF → Spares c old e → Spares c old (if there then e else refused old EBADF)
-spares-open c old true e leaves spares = spares
-spares-open c old false e leaves spares = spares-refused c old EBADF leaves
-
 spares-brought : (c : Command) (old : World) (there : Bool) (e brought : Effect) → Spares c old e → IsNoRefusal brought.answer → Spares c old (if there then e else brought)
 spares-brought c old true e brought spares other = spares
 spares-brought c old false e brought spares other = spares-other c old brought other
@@ -198,8 +198,12 @@ effect-spares old (AddAddress name address prefix cloning far) =
 effect-spares old (Open id pid protocol) =
     let c = Open id pid protocol in
     spares-fault c old (listen_fault id old.sockets) _ (leaves-found c old (listen_fault id old.sockets) (λ e. refl) (λ e. refl) (listen_fault-found id old.sockets)) (spares-other c old _ (λ errno h. absurd (cc)))
-effect-spares old (Close id) = spares-open (Close id) old (is_open id old.sockets) _ (refl, refl, λ h. absurd (cc)) (spares-other (Close id) old _ (λ errno h. absurd (cc)))
-effect-spares old (Loopback id on) = spares-open (Loopback id on) old (is_open id old.sockets) _ (refl, refl, λ h. absurd (cc)) (spares-other (Loopback id on) old _ (λ errno h. absurd (cc)))
+effect-spares old (Close id) =
+    let c = Close id in
+    spares-fault c old (closed_fault id old.sockets) _ (leaves-found c old (closed_fault id old.sockets) (λ e. refl) (λ e. refl) (closed_fault-found id old.sockets)) (spares-other c old _ (λ errno h. absurd (cc)))
+effect-spares old (Loopback id on) =
+    let c = Loopback id on in
+    spares-fault c old (closed_fault id old.sockets) _ (leaves-found c old (closed_fault id old.sockets) (λ e. refl) (λ e. refl) (closed_fault-found id old.sockets)) (spares-other c old _ (λ errno h. absurd (cc)))
 effect-spares old (Write id m) = spares-write old id m (pid_of id old.sockets) refl
 effect-spares old (Read id) = spares-read old id (messages_of id old.sockets)
 

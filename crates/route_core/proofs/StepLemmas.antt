@@ -5,7 +5,7 @@ use Rattle.sock_addrs.specs.declared.errno.Errno.{Errno}
 use Rattle.sock_addrs.specs.declared.errno.Errno.TheVariants.{ENOBUFS, EBADF, EEXIST}
 use Rattle.if_addrs.specs.Interfaces.{attach_fault, attached, addr_fault, added, kind_of, new_address, with_address, marked_routed, Address, Interface}
 use Rattle.if_addrs.specs.declared.kind.Kind.{Kind}
-use Rattle.listeners.specs.Sockets.{Socket, is_open, listen_fault, opened, messages_of, pid_of, taken, with_loopback, without_socket}
+use Rattle.listeners.specs.Sockets.{Socket, closed_fault, listen_fault, opened, messages_of, pid_of, taken, with_loopback, without}
 use Rattle.if_addrs.specs.Facts.{facts_of}
 use Rattle.if_addrs.specs.declared.reference.Facts.{Facts}
 use Rattle.if_addrs.specs.declared.reference.IfaRef.{IfaRef}
@@ -68,6 +68,31 @@ unfolding effect
 listen_done w id pid protocol h =
     let e = record (done w) { sockets = w.sockets ++ opened id pid protocol ∷ [] } in
     steps w (Open id pid protocol) e Done _ (ap (λ (f : Option Errno). unless_refused w f e) h) (record { answer = refl; world = refl })
+
+-- a command to one socket, which wants no memory
+socket_refused : (w : World) (c : Command) (fault : Option Errno) (e : Effect) (errno : Errno) → effect w c ≡ unless_refused w fault e → fault ≡ Some errno → IsStep w c (Refused errno) w
+socket_refused w c fault e errno is by = is_step w c (refused w errno) (Refused errno) w (is ∙ ap (λ (f : Option Errno). unless_refused w f e) by) (record { answer = refl; world = refl })
+
+socket_done : (w : World) (c : Command) (fault : Option Errno) (sockets : List Socket) → effect w c ≡ unless_refused w fault (record (done w) { sockets = sockets }) → fault ≡ None → IsStep w c Done (record w { sockets = sockets })
+socket_done w c fault sockets is by =
+    let e = record (done w) { sockets = sockets } in
+    is_step w c e Done (record w { sockets = sockets }) (is ∙ ap (λ (f : Option Errno). unless_refused w f e) by) (record { answer = refl; world = refl })
+
+pub shut_refused : (w : World) (id : List ℕ) (errno : Errno) → closed_fault id w.sockets ≡ Some errno → IsStep w (Close id) (Refused errno) w
+unfolding effect
+shut_refused w id errno h = socket_refused w (Close id) (closed_fault id w.sockets) _ errno refl h
+
+pub shut_done : (w : World) (id : List ℕ) → closed_fault id w.sockets ≡ None → IsStep w (Close id) Done (record w { sockets = without id w.sockets })
+unfolding effect
+shut_done w id h = socket_done w (Close id) (closed_fault id w.sockets) (without id w.sockets) refl h
+
+pub loopback_refused : (w : World) (id : List ℕ) (on : Bool) (errno : Errno) → closed_fault id w.sockets ≡ Some errno → IsStep w (Loopback id on) (Refused errno) w
+unfolding effect
+loopback_refused w id on errno h = socket_refused w (Loopback id on) (closed_fault id w.sockets) _ errno refl h
+
+pub loopback_done : (w : World) (id : List ℕ) (on : Bool) → closed_fault id w.sockets ≡ None → IsStep w (Loopback id on) Done (record w { sockets = with_loopback id on w.sockets })
+unfolding effect
+loopback_done w id on h = socket_done w (Loopback id on) (closed_fault id w.sockets) (with_loopback id on w.sockets) refl h
 
 pub take_refused : (w : World) (id : List ℕ) → messages_of id w.sockets ≡ None → IsStep w (Read id) (Refused EBADF) w
 unfolding effect

@@ -7,7 +7,7 @@ use Rattle.if_addrs.specs.Facts.{facts_of}
 use Rattle.radix_tree.specs.Table.{entry_at, with_entry}
 use Rattle.if_addrs.specs.Interfaces.{Interface, Address, attach_fault, attached, addr_fault, added, new_address, with_address, interface_of, kind_of, link_text_of, marked_routed}
 use Rattle.if_addrs.specs.declared.kind.Kind.{Kind}
-use Rattle.listeners.specs.Sockets.{Socket, pid_of, messages_of, is_open, listen_fault, opened, taken, without_socket, with_loopback}
+use Rattle.listeners.specs.Sockets.{Socket, pid_of, messages_of, closed_fault, listen_fault, opened, taken, without, with_loopback}
 use Rattle.route_core.specs.Addresses.{entry_of_address}
 use Rattle.route_core.specs.Messages.{address_added, route_added}
 use Rattle.route_core.specs.Telling.{Told, told, delivered_all}
@@ -89,9 +89,15 @@ open_effect w id pid protocol =
     unless_refused w (listen_fault id w.sockets)
     (record (done w) { sockets = w.sockets ++ opened id pid protocol ∷ [] })
 
--- a command to one socket
-abbrev pub if_open : World → List ℕ → Effect → Effect
-if_open w id effect = if is_open id w.sockets then effect else refused w EBADF
+-- `close`
+abbrev pub close_effect : World → List ℕ → Effect
+close_effect w id =
+    unless_refused w (closed_fault id w.sockets) (record (done w) { sockets = without id w.sockets })
+
+-- `loopback`
+abbrev pub loopback_effect : World → List ℕ → Bool → Effect
+loopback_effect w id on =
+    unless_refused w (closed_fault id w.sockets) (record (done w) { sockets = with_loopback id on w.sockets })
 
 -- `write`: what a refused write tells, where anybody hears of it
 abbrev pub refusal_tells : List ℕ → ℕ → List ℕ → Refusal → List Told
@@ -126,8 +132,8 @@ unfoldable pub effect : World → Command → Effect
 effect w (Attach name kind type_number link) = attach_effect w name kind type_number link
 effect w (AddAddress name address prefix cloning far) = add_address_effect w name address prefix cloning far
 effect w (Open id pid protocol) = open_effect w id pid protocol
-effect w (Close id) = if_open w id (record (done w) { sockets = without_socket id w.sockets })
-effect w (Loopback id on) = if_open w id (record (done w) { sockets = with_loopback id on w.sockets })
+effect w (Close id) = close_effect w id
+effect w (Loopback id on) = loopback_effect w id on
 effect w (Write id bytes) = write_effect w id bytes (pid_of id w.sockets)
 effect w (Read id) = read_effect w id (messages_of id w.sockets)
 
