@@ -1,5 +1,5 @@
 -- Words that are joined by a byte which none of them has are parted by it again.
-use Rattle.std.proofs.Common.{◌≡◌, ◌≢◌, ◌<◌, ◌∙◌, ℕ, Bool, true, false, List, [], ◌∷◌, refl, ap, subst, arith, ◌==◌}
+use Rattle.std.proofs.Common.{◌≡◌, ◌≢◌, ◌<◌, ◌≤◌, ◌+◌, ◌∙◌, ℕ, Bool, true, false, List, [], ◌∷◌, length, length-append, refl, ap, subst, arith, ◌==◌}
 use Rattle.std.specs.Prelude.{⊤}
 use Rattle.std.specs.List.{All, AllPass, join_with_byte}
 use Rattle.std.specs.Str.Parse.{AllDigits}
@@ -41,3 +41,16 @@ Lacks-joined byte between (word ∷ next ∷ words) other lack =
     let rest = join_with_byte between (next ∷ words) in
     All-append (λ b. (b == byte) ≡ false) word (between ∷ rest) lack.0
     (All-cons (λ b. (b == byte) ≡ false) between rest (ne_eqb between byte other) (Lacks-joined byte between (next ∷ words) other lack.1))
+
+-- ---- how long they are
+
+-- the words' bytes, and one for each word
+abbrev pub room_of : List (List ℕ) → ℕ
+room_of [] = 0
+room_of (word ∷ words) = 1 + length word + room_of words
+
+pub length-joined : (byte : ℕ) (words : List (List ℕ)) → length (join_with_byte byte words) ≤ room_of words
+length-joined byte [] = omega arith
+length-joined byte (word ∷ []) = omega arith
+length-joined byte (word ∷ next ∷ words) =
+    omega (arith, length-append word (byte ∷ join_with_byte byte (next ∷ words)), length-joined byte (next ∷ words))

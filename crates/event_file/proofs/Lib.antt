@@ -1,5 +1,6 @@
 pub mod Cutting
 pub mod Decimals
+pub mod FewWords
 pub mod Fronts
 pub mod GrammarRows
 pub mod HexPieces
@@ -8,6 +9,7 @@ pub mod LineLemmas
 pub mod MessageLines
 pub mod PrintedWords
 pub mod ReadWords
+pub mod ResponseLines
 pub mod RowAddressIsAnnounced
 pub mod RowDumps
 pub mod RowEmptyScript
@@ -15,8 +17,6 @@ pub mod RowLock
 pub mod RowMoreThanADestination
 pub mod RowOneGet
 pub mod RowOtherAddresses
-pub mod RowOtherKinds
-pub mod RowOtherOpens
 pub mod RowShortWrites
 pub mod RowUnknownWords
 pub mod RowWrongVersion

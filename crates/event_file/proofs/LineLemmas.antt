@@ -175,7 +175,7 @@ lines_other : (b : ℕ) (bs : List ℕ) → is_newline b ≡ false → lines_of 
 lines_other b bs is = cond-false (is_newline b) ([] ∷ lines_of bs) (onto_first b (lines_of bs)) is
 
 -- lines that are whole stay as they are whatever follows
-lines_of-ended : (xs ys : List ℕ) → lines_of (ended_lines xs ++ ys) ≡ lines_of (ended_lines xs) ++ lines_of ys
+pub lines_of-ended : (xs ys : List ℕ) → lines_of (ended_lines xs ++ ys) ≡ lines_of (ended_lines xs) ++ lines_of ys
 lines_of-ended [] ys = refl
 lines_of-ended (b ∷ bs) ys =
     let front = ended_lines bs in

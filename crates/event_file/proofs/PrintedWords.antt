@@ -1,18 +1,24 @@
 -- The words of a printed line: what they are read as, which bytes they lack, and how long they are.
-use Rattle.std.proofs.Common.{◌≡◌, ◌≢◌, ◌<◌, ◌≤◌, ◌∙◌, ◌*◌, ◌/◌, ◌^◌, ℕ, zero, suc, true, false, List, [], ◌∷◌, length, length-append, map, max, refl, ap, arith, nat_le, codes, decimal, bytes_eq, ◌==◌, Some, Ok}
+use Rattle.std.proofs.Common.{◌≡◌, ◌≢◌, ◌<◌, ◌≤◌, ◌∙◌, ◌*◌, ◌/◌, ◌^◌, ℕ, zero, suc, Bool, true, false, List, [], ◌∷◌, ◌++◌, length, length-append, map, max, refl, sym, ap, arith, nat_le, codes, decimal, bytes_eq, ◌==◌, Option, Some, None, Ok}
+use Rattle.std.specs.Prelude.{if◌then◌else◌}
+use Rattle.std.specs.Fmt.{digits}
+use Rattle.std.specs.Option.{IfSome}
 use Rattle.std.specs.Int.{w32, byte_at, bytes_high_first, from_be_bytes, to_be_bytes}
 use Rattle.std.specs.List.{list_all}
-use Rattle.std.proofs.lemmas.Bool.{le-leb}
+use Rattle.std.proofs.lemmas.Bool.{eqb-true, le-leb}
 use Rattle.std.proofs.lemmas.Fmt.{decimal_is_IsNumeral, length-decimal-le}
 use Rattle.std.proofs.lemmas.List.Sums.{AllPass-from_list_all}
 use Rattle.std.proofs.lemmas.Nat.{from_be_bytes-to_be_bytes_4}
 use Rattle.std.proofs.lemmas.Slice.Eq.{bytes_eq-Decides}
 use Rattle.hex.specs.Hex.{IsBytes, decode_of, encode_lower, is_hex_digit, lower_digits}
 use Rattle.hex.proofs.HexLemmas.{IsDigits-lower_digits, decode_of-encode_lower, decode_pairs-encode_with, decode_pairs-ok, length-encode_with}
-use Rattle.event_file.specs.Words.{bytes_to, inet_of, inet_of_parts, is_name_byte, name_of, number_to, parted_by}
-use Rattle.event_file.specs.Printed.{IsName, bytes_word, inet_word, network_word}
+use Rattle.if_addrs.specs.declared.kind.Kind.{Kind}
+use Rattle.if_addrs.specs.declared.kind.Kind.TheVariants.{Broadcast, Loopback as LoopbackKind, PointToPoint}
+use Rattle.event_file.specs.Grammar.{cloning_of, inet_if_written, interface_kind_of, protocol_of, switch_of}
+use Rattle.event_file.specs.Words.{bytes_to, inet_of, inet_of_parts, is_name_byte, name_of, number_to, option_written, parted_by, words_behind}
+use Rattle.event_file.specs.Printed.{IsName, bytes_word, cloning_words, far_words, inet_word, kind_word, network_word, protocol_word, switch_word}
 use Rattle.event_file.proofs.Decimals.{printed_read}
-use Rattle.event_file.proofs.Joined.{AllLack, Lacks, Lacks-digits, Lacks-joined, Lacks-tested, parted-joined}
+use Rattle.event_file.proofs.Joined.{AllLack, Lacks, Lacks-digits, Lacks-joined, Lacks-tested, parted-joined, room_of}
 
 -- ---- names
 
@@ -33,6 +39,70 @@ Lacks-decimal byte n small fits = Lacks-digits byte (decimal n) small (decimal_i
 
 pub length-decimal : (n : ℕ) → n < 2 ^ 32 → length (decimal n) ≤ 10
 length-decimal n fits = length-decimal-le 10 n (omega arith) (omega arith) (omega arith)
+
+-- ---- words of their own
+
+pub is_letters-kind_word : (kind : Kind) → list_all is_name_byte (kind_word kind) ≡ true
+is_letters-kind_word Broadcast = refl
+is_letters-kind_word LoopbackKind = refl
+is_letters-kind_word PointToPoint = refl
+
+pub length-kind_word : (kind : Kind) → length (kind_word kind) ≤ 9
+length-kind_word Broadcast = omega arith
+length-kind_word LoopbackKind = omega arith
+length-kind_word PointToPoint = omega arith
+
+pub interface_kind_of-kind_word : (kind : Kind) → interface_kind_of (kind_word kind) ≡ Some kind
+interface_kind_of-kind_word Broadcast = refl
+interface_kind_of-kind_word LoopbackKind = refl
+interface_kind_of-kind_word PointToPoint = refl
+
+pub is_letters-switch_word : (on : Bool) → list_all is_name_byte (switch_word on) ≡ true
+is_letters-switch_word true = refl
+is_letters-switch_word false = refl
+
+pub length-switch_word : (on : Bool) → length (switch_word on) ≤ 3
+length-switch_word true = omega arith
+length-switch_word false = omega arith
+
+pub switch_of-switch_word : (on : Bool) → switch_of (switch_word on) ≡ Some on
+switch_of-switch_word true = refl
+switch_of-switch_word false = refl
+
+-- ---- protocols
+
+-- what holds of `any` and of a decimal holds of a protocol's word
+of_protocol_word : (P : List ℕ → Type 0) (protocol : ℕ) → P (codes "any") → P (decimal protocol) → P (protocol_word protocol)
+of_protocol_word P protocol any number = elim (protocol == 0) as (λ t. P (if t then codes "any" else decimal protocol)) [ true ↦ any | false ↦ number ]
+
+pub Lacks-protocol_word : (protocol : ℕ) → protocol ≤ 255 → Lacks 32 (protocol_word protocol)
+Lacks-protocol_word protocol small =
+    of_protocol_word (Lacks 32) protocol (Lacks-letters (codes "any") refl) (Lacks-decimal 32 protocol (omega arith) (omega (arith, small)))
+
+pub length-protocol_word : (protocol : ℕ) → protocol ≤ 255 → length (protocol_word protocol) ≤ 10
+length-protocol_word protocol small =
+    of_protocol_word (λ word. length word ≤ 10) protocol (omega arith) (length-decimal protocol (omega (arith, small)))
+
+any_is_no_number : number_to 255 (codes "any") ≡ None
+unfolding digits
+any_is_no_number = refl
+
+-- no number prints as `any`
+is_not_any : (protocol : ℕ) → protocol ≤ 255 → bytes_eq (decimal protocol) (codes "any") ≡ false
+is_not_any protocol small = elim (bytes_eq (decimal protocol) (codes "any")) as (λ t. bytes_eq (decimal protocol) (codes "any") ≡ t → t ≡ false) [
+  | true ↦ λ e.
+      let read = printed_read 255 protocol (codes "any") (omega arith) small (sym ((bytes_eq-Decides (decimal protocol) (codes "any")).0 e)) in
+      cc (read, any_is_no_number)
+  | false ↦ λ _. refl
+] refl
+
+pub protocol_of-protocol_word : (protocol : ℕ) → protocol ≤ 255 → protocol_of (protocol_word protocol) ≡ Some protocol
+protocol_of-protocol_word protocol small =
+    let number = printed_read 255 protocol (decimal protocol) (omega arith) small refl in
+    elim (protocol == 0) as (λ t. (protocol == 0) ≡ t → protocol_of (if t then codes "any" else decimal protocol) ≡ Some protocol) [
+      | true ↦ λ e. ap Some (sym (eqb-true protocol 0 e))
+      | false ↦ λ e. rw (is_not_any protocol small, number, e) refl
+    ] refl
 
 -- ---- bytes
 
@@ -97,6 +167,11 @@ inet_of-inet_word n small =
     ∙ four_numbers _ _ _ _ (byte_at-small 3 n) (byte_at-small 2 n) (byte_at-small 1 n) (byte_at-small 0 n)
     ∙ ap Some (from_be_bytes-to_be_bytes_4 n small)
 
+pub length-inet_word : (address : ℕ) → length (inet_word address) ≤ 43
+length-inet_word address =
+    let short : (i : ℕ) → length (decimal (byte_at i address)) ≤ 10 = λ i. length-decimal (byte_at i address) (omega (arith, byte_at-small i address)) in
+    simp length-append (omega (arith, short 3, short 2, short 1, short 0))
+
 pub Lacks-network_word : (address prefix : ℕ) → prefix ≤ 32 → Lacks 32 (network_word address prefix)
 Lacks-network_word address prefix fits =
     Lacks-joined 32 47 (inet_word address ∷ decimal prefix ∷ []) (λ e. omega arith)
@@ -111,3 +186,30 @@ pub length-network_word : (address prefix : ℕ) → prefix ≤ 32 → length (n
 length-network_word address prefix fits =
     let short : (i : ℕ) → length (decimal (byte_at i address)) ≤ 10 = λ i. length-decimal (byte_at i address) (omega (arith, byte_at-small i address)) in
     simp length-append (omega (arith, short 3, short 2, short 1, short 0, length-decimal prefix (omega arith)))
+
+-- ---- the options behind an address
+
+pub AllLack-options : (cloning : Bool) (far : Option ℕ) → AllLack 32 (far_words far ++ cloning_words cloning)
+AllLack-options false None = tt
+AllLack-options true None = (Lacks-letters (codes "cloning") refl, tt)
+AllLack-options false (Some far) = (Lacks-letters (codes "to") refl, (Lacks-inet_word 32 far (omega arith) (λ e. omega arith), tt))
+AllLack-options true (Some far) =
+    (Lacks-letters (codes "to") refl, (Lacks-inet_word 32 far (omega arith) (λ e. omega arith), (Lacks-letters (codes "cloning") refl, tt)))
+
+pub inet_if_written-options : (cloning : Bool) (far : Option ℕ) → IfSome far (λ a. a < 2 ^ 32)
+    → inet_if_written (option_written (codes "to") (far_words far ++ cloning_words cloning)) ≡ Some far
+inet_if_written-options false None small = refl
+inet_if_written-options true None small = refl
+inet_if_written-options cloning (Some far) small = rw (inet_of-inet_word far small) refl
+
+pub cloning_of-options : (cloning : Bool) (far : Option ℕ) → cloning_of (words_behind (codes "to") (far_words far ++ cloning_words cloning)) ≡ Some cloning
+cloning_of-options false None = refl
+cloning_of-options true None = refl
+cloning_of-options false (Some far) = refl
+cloning_of-options true (Some far) = refl
+
+pub room_of-options : (cloning : Bool) (far : Option ℕ) → room_of (far_words far ++ cloning_words cloning) ≤ 60
+room_of-options false None = omega arith
+room_of-options true None = omega arith
+room_of-options false (Some far) = omega (arith, length-inet_word far)
+room_of-options true (Some far) = omega (arith, length-inet_word far)

@@ -1,67 +1,113 @@
 -- The lines of a script: which command each says, if any.
 use Prim.Native.String.{String}
-use Rattle.std.specs.Prelude.{ℕ, nat_lt, Bool, true, false, if◌then◌else◌, List, [], ◌∷◌, length, codes, bytes_eq, Option, Some, None}
+use Rattle.std.specs.Prelude.{ℕ, ◌==◌, nat_lt, Bool, true, false, if◌then◌else◌, List, [], ◌∷◌, length, codes, bytes_eq, Option, Some, None}
 use Rattle.event_file.specs.Lines.{most_line_bytes}
-use Rattle.event_file.specs.Words.{◌>>=◌, parted_by, name_of, number_to, bytes_to, inet_of}
+use Rattle.event_file.specs.Words.{◌>>=◌, parted_by, name_of, number_to, bytes_to, inet_of, option_written, words_behind, if_written}
+use Rattle.if_addrs.specs.declared.kind.Kind.{Kind}
+use Rattle.if_addrs.specs.declared.kind.Kind.TheVariants.{Broadcast, Loopback as LoopbackKind, PointToPoint}
 use Rattle.route_core.specs.Commands.{Command}
-use Rattle.route_core.specs.declared.command.Command.TheVariants.{Attach, AddAddress, Open, Write, Read}
+use Rattle.route_core.specs.declared.command.Command.TheVariants.{Attach, AddAddress, Open, Close, Loopback, Write, Read}
+use Rattle.route_core.specs.declared.written.TheConstants.{MOST_WRITTEN}
 
 -- a link-layer address has at most 8 bytes
 abbrev pub most_link_bytes : ℕ
 most_link_bytes = 8
 
--- the bytes of a write are at most as many as a line has room for
-abbrev pub most_written_bytes : ℕ
-most_written_bytes = 8246
+-- the kind of an interface
+abbrev pub interface_kind_of : List ℕ → Option Kind
+interface_kind_of word =
+    if bytes_eq word (codes "broadcast") then Some Broadcast
+    else if bytes_eq word (codes "loopback") then Some LoopbackKind
+    else if bytes_eq word (codes "ptp") then Some PointToPoint
+    else None
 
--- `if NAME broadcast T HEX`, by the words behind `if`
+-- `NAME KIND T HEX`, behind `if`
 abbrev pub attach_form : List (List ℕ) → Option Command
 attach_form (name ∷ kind ∷ type ∷ link ∷ []) = do
   name ← name_of name
+  kind ← interface_kind_of kind
   type_number ← number_to 255 type
   link ← bytes_to most_link_bytes link
-  if bytes_eq kind (codes "broadcast") then Some (Attach name type_number link) else None
+  Some (Attach name kind type_number link)
 attach_form words = None
 
--- `NAME A/P`, by the parts of A/P
-abbrev pub address_of_parts : List ℕ → List (List ℕ) → Bool → Option Command
-address_of_parts name (address ∷ prefix ∷ []) cloning = do
-  name ← name_of name
-  address ← inet_of address
-  prefix ← number_to 32 prefix
-  Some (AddAddress name address prefix cloning)
-address_of_parts name parts cloning = None
+-- the address of the other end, where it is written
+abbrev pub inet_if_written : Option (List ℕ) → Option (Option ℕ)
+inet_if_written word = if_written inet_of word
 
--- whether an address's route clones, by the words behind A/P
+-- whether an address's route clones, by the last words
 abbrev pub cloning_of : List (List ℕ) → Option Bool
 cloning_of [] = Some false
 cloning_of (option ∷ []) = if bytes_eq option (codes "cloning") then Some true else None
 cloning_of options = None
 
--- `addr NAME A/P` and `addr NAME A/P cloning`
+-- `NAME A/P`, by the parts of A/P
+abbrev pub address_of_parts : List ℕ → List (List ℕ) → Bool → Option ℕ → Option Command
+address_of_parts name (address ∷ prefix ∷ []) cloning far = do
+  name ← name_of name
+  address ← inet_of address
+  prefix ← number_to 32 prefix
+  Some (AddAddress name address prefix cloning far)
+address_of_parts name parts cloning far = None
+
+-- `NAME A/P`, and behind it `to A` and `cloning`, each where it is written; behind `addr`
 abbrev pub add_address_form : List (List ℕ) → Option Command
 add_address_form (name ∷ address ∷ options) = do
-  cloning ← cloning_of options
-  address_of_parts name (parted_by 47 address) cloning
+  far ← inet_if_written (option_written (codes "to") options)
+  cloning ← cloning_of (words_behind (codes "to") options)
+  address_of_parts name (parted_by 47 address) cloning far
 add_address_form words = None
 
--- `open ID PID any`
+-- the number of a protocol, from 1 on
+abbrev pub protocol_number_of : List ℕ → Option ℕ
+protocol_number_of word = do
+  number ← number_to 255 word
+  if number == 0 then None else Some number
+
+-- a protocol: `any`, which is 0, or a number
+abbrev pub protocol_of : List ℕ → Option ℕ
+protocol_of word = if bytes_eq word (codes "any") then Some 0 else protocol_number_of word
+
+-- `ID PID PROTOCOL`, behind `open`
 abbrev pub open_form : List (List ℕ) → Option Command
 open_form (id ∷ pid ∷ protocol ∷ []) = do
   id ← name_of id
   pid ← number_to 4294967295 pid
-  if bytes_eq protocol (codes "any") then Some (Open id pid 0) else None
+  protocol ← protocol_of protocol
+  Some (Open id pid protocol)
 open_form words = None
 
--- `write ID HEX`
+-- `on` or `off`
+abbrev pub switch_of : List ℕ → Option Bool
+switch_of word =
+    if bytes_eq word (codes "on") then Some true
+    else if bytes_eq word (codes "off") then Some false
+    else None
+
+-- `ID on` and `ID off`, behind `loopback`
+abbrev pub loopback_form : List (List ℕ) → Option Command
+loopback_form (id ∷ switch ∷ []) = do
+  id ← name_of id
+  on ← switch_of switch
+  Some (Loopback id on)
+loopback_form words = None
+
+-- `ID`, behind `close`
+abbrev pub close_form : List (List ℕ) → Option Command
+close_form (id ∷ []) = do
+  id ← name_of id
+  Some (Close id)
+close_form words = None
+
+-- `ID HEX`, behind `write`
 abbrev pub write_form : List (List ℕ) → Option Command
 write_form (id ∷ bytes ∷ []) = do
   id ← name_of id
-  bytes ← bytes_to most_written_bytes bytes
+  bytes ← bytes_to MOST_WRITTEN bytes
   Some (Write id bytes)
 write_form words = None
 
--- `read ID`
+-- `ID`, behind `read`
 abbrev pub read_form : List (List ℕ) → Option Command
 read_form (id ∷ []) = do
   id ← name_of id
@@ -81,6 +127,8 @@ abbrev pub forms : List Form
 forms = form "if" attach_form
     ∷ form "addr" add_address_form
     ∷ form "open" open_form
+    ∷ form "loopback" loopback_form
+    ∷ form "close" close_form
     ∷ form "write" write_form
     ∷ form "read" read_form
     ∷ []

@@ -1,13 +1,16 @@
 -- The plain line of each command, and which commands have one.
-use Rattle.std.specs.Prelude.{◌≡◌, ℕ, ◌+◌, ◌*◌, ◌^◌, ◌<◌, ◌≤◌, true, false, List, [], ◌∷◌, length, map, codes, decimal, Some}
+use Rattle.std.specs.Prelude.{◌≡◌, ℕ, ◌+◌, ◌*◌, ◌^◌, ◌<◌, ◌≤◌, ◌==◌, if◌then◌else◌, Bool, true, false, List, [], ◌∷◌, ◌++◌, length, map, codes, decimal, Option, Some, None}
 use Rattle.std.specs.Int.{w32, to_be_bytes}
+use Rattle.std.specs.Option.{IfSome}
 use Rattle.std.specs.List.{join_with_byte, list_all}
 use Rattle.hex.specs.Hex.{IsBytes, encode_lower}
 use Rattle.event_file.specs.Words.{is_name_byte}
 use Rattle.event_file.specs.Grammar.{command_of, most_link_bytes}
 use Rattle.event_file.specs.Lines.{most_line_bytes}
 use Rattle.route_core.specs.Commands.{Command}
-use Rattle.route_core.specs.declared.command.Command.TheVariants.{Attach, AddAddress, Open, Write, Read}
+use Rattle.route_core.specs.declared.command.Command.TheVariants.{Attach, AddAddress, Open, Close, Loopback, Write, Read}
+use Rattle.if_addrs.specs.declared.kind.Kind.{Kind}
+use Rattle.if_addrs.specs.declared.kind.Kind.TheVariants.{Broadcast, Loopback as LoopbackKind, PointToPoint}
 
 -- ---- lines
 
@@ -24,11 +27,36 @@ inet_word address = join_with_byte 46 (map decimal (to_be_bytes w32 address))
 abbrev pub network_word : ℕ → ℕ → List ℕ
 network_word address prefix = join_with_byte 47 (inet_word address ∷ decimal prefix ∷ [])
 
+abbrev pub kind_word : Kind → List ℕ
+kind_word Broadcast = codes "broadcast"
+kind_word LoopbackKind = codes "loopback"
+kind_word PointToPoint = codes "ptp"
+
+-- `to A`, where there is another end
+abbrev pub far_words : Option ℕ → List (List ℕ)
+far_words None = []
+far_words (Some far) = codes "to" ∷ inet_word far ∷ []
+
+abbrev pub cloning_words : Bool → List (List ℕ)
+cloning_words false = []
+cloning_words true = codes "cloning" ∷ []
+
+-- `any` for 0
+abbrev pub protocol_word : ℕ → List ℕ
+protocol_word protocol = if protocol == 0 then codes "any" else decimal protocol
+
+abbrev pub switch_word : Bool → List ℕ
+switch_word true = codes "on"
+switch_word false = codes "off"
+
 abbrev pub words_of : Command → List (List ℕ)
-words_of (Attach name type_number link) = codes "if" ∷ name ∷ codes "broadcast" ∷ decimal type_number ∷ bytes_word link ∷ []
-words_of (AddAddress name address prefix false) = codes "addr" ∷ name ∷ network_word address prefix ∷ []
-words_of (AddAddress name address prefix true) = codes "addr" ∷ name ∷ network_word address prefix ∷ codes "cloning" ∷ []
-words_of (Open id pid protocol) = codes "open" ∷ id ∷ decimal pid ∷ codes "any" ∷ []
+words_of (Attach name kind type_number link) =
+    codes "if" ∷ name ∷ kind_word kind ∷ decimal type_number ∷ bytes_word link ∷ []
+words_of (AddAddress name address prefix cloning far) =
+    codes "addr" ∷ name ∷ network_word address prefix ∷ (far_words far ++ cloning_words cloning)
+words_of (Open id pid protocol) = codes "open" ∷ id ∷ decimal pid ∷ protocol_word protocol ∷ []
+words_of (Close id) = codes "close" ∷ id ∷ []
+words_of (Loopback id on) = codes "loopback" ∷ id ∷ switch_word on ∷ []
 words_of (Write id bytes) = codes "write" ∷ id ∷ bytes_word bytes ∷ []
 words_of (Read id) = codes "read" ∷ id ∷ []
 
@@ -42,12 +70,16 @@ line_of command = join_with_byte 32 (words_of command)
 abbrev pub IsName : List ℕ → Type 0
 IsName name = (1 ≤ length name) × (length name ≤ 8) × (list_all is_name_byte name ≡ true)
 
--- names, numbers in their ranges and at most so many bytes; of the protocols 0, which stands for any; and a write of no more
--- bytes than a line has room for behind `write ID `
+-- names, numbers in their ranges and at most so many bytes; and a write of no more bytes than a line has room for behind
+-- `write ID `
 abbrev pub IsWithinBounds : Command → Type 0
-IsWithinBounds (Attach name type_number link) = IsName name × (type_number ≤ 255) × (length link ≤ most_link_bytes) × IsBytes link
-IsWithinBounds (AddAddress name address prefix cloning) = IsName name × (address < 2 ^ 32) × (prefix ≤ 32)
-IsWithinBounds (Open id pid protocol) = IsName id × (pid < 2 ^ 32) × (protocol ≡ 0)
+IsWithinBounds (Attach name kind type_number link) =
+    IsName name × (type_number ≤ 255) × (length link ≤ most_link_bytes) × IsBytes link
+IsWithinBounds (AddAddress name address prefix cloning far) =
+    IsName name × (address < 2 ^ 32) × (prefix ≤ 32) × IfSome far (λ a. a < 2 ^ 32)
+IsWithinBounds (Open id pid protocol) = IsName id × (pid < 2 ^ 32) × (protocol ≤ 255)
+IsWithinBounds (Close id) = IsName id
+IsWithinBounds (Loopback id on) = IsName id
 IsWithinBounds (Write id bytes) = IsName id × (7 + length id + 2 * length bytes ≤ most_line_bytes) × IsBytes bytes
 IsWithinBounds (Read id) = IsName id
 

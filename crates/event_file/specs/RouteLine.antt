@@ -2,7 +2,7 @@
 use Prim.Native.String.{String}
 use Rattle.std.specs.Prelude.{ℕ, if◌then◌else◌, List, [], ◌∷◌, length, codes, bytes_eq, Option, Some, None, option_map}
 use Rattle.sock_addrs.specs.declared.gate.Gate.{Gate}
-use Rattle.event_file.specs.Words.{◌>>=◌, parted_by, number_to, hex_number_of, inet_of, gate_of}
+use Rattle.event_file.specs.Words.{◌>>=◌, parted_by, number_to, hex_number_of, inet_of, gate_of, option_written, words_behind, if_written}
 use Rattle.event_file.specs.declared.route_words.MetricWords.{MetricWords}
 use Rattle.event_file.specs.declared.route_words.RouteWords.{RouteWords}
 use Rattle.event_file.specs.declared.route_words.Verb.{Verb}
@@ -36,21 +36,6 @@ destination_of_parts parts = None
 abbrev pub destination_of : List ℕ → Option Destination
 destination_of word =
     if bytes_eq word (codes "default") then Some (record { address = 0; mask = Some 0 }) else destination_of_parts (parted_by 47 word)
-
--- the word behind an option's name, where the words begin with that
-abbrev pub option_written : List ℕ → List (List ℕ) → Option (List ℕ)
-option_written name (first ∷ word ∷ rest) = if bytes_eq first name then Some word else None
-option_written name words = None
-
--- the words behind the option, or all of them where it isn't written
-abbrev pub words_behind : List ℕ → List (List ℕ) → List (List ℕ)
-words_behind name (first ∷ word ∷ rest) = if bytes_eq first name then rest else first ∷ word ∷ rest
-words_behind name words = words
-
--- what an option's word says, where it is written
-abbrev pub if_written : {T : Type 0} → (List ℕ → Option T) → Option (List ℕ) → Option (Option T)
-if_written read None = Some None
-if_written read (Some word) = option_map Some (read word)
 
 abbrev pub gate_if_written : Option (List ℕ) → Option (Option Gate)
 gate_if_written word = if_written gate_of word

@@ -1,5 +1,6 @@
 -- The transcript of a script: what may be answered to its lines, from the empty world on.
-use Rattle.std.specs.Prelude.{◌≡◌, ◌≢◌, Bool, false, ◌||◌, is_none, List, [], ◌∷◌, ◌++◌, ℕ, Option, Some, None, Result, Ok, Err}
+use Rattle.std.specs.Prelude.{◌≡◌, ◌≢◌, Bool, false, ◌||◌, is_none, List, [], ◌∷◌, ◌++◌, codes, ℕ, Option, Some, None, Result, Ok, Err}
+use Rattle.std.specs.List.{All}
 use Rattle.event_file.specs.declared.bad.Bad.{Bad}
 use Rattle.route_core.specs.declared.answer.Answer.{Answer}
 use Rattle.route_core.specs.declared.answer.Answer.TheVariants.{Refused}
@@ -7,7 +8,7 @@ use Rattle.sock_addrs.specs.declared.errno.Errno.TheVariants.{ENOBUFS}
 use Rattle.route_core.specs.Commands.{Command}
 use Rattle.event_file.specs.Answers.{response_text}
 use Rattle.event_file.specs.Grammar.{command_of}
-use Rattle.event_file.specs.Lines.{answered_lines}
+use Rattle.event_file.specs.Lines.{answered_lines, lines_of}
 use Rattle.route_core.specs.Step.{Steps, stepped}
 use Rattle.route_core.specs.World.{World, empty_world}
 
@@ -72,3 +73,8 @@ abbrev pub ResponseIsComputed : Type 0
 ResponseIsComputed = (old : World) → (line : Option (List ℕ)) → (response : Result Answer Bad) → (next : World) → Responds old line response next
     → response ≢ Ok (Refused ENOBUFS)
     → (response ≡ (turn_by old (command_in line)).response) × (next ≡ (turn_by old (command_in line)).world)
+
+-- so a transcript in which no line says that memory was refused is the computed one
+abbrev pub TranscriptIsComputed : Type 0
+TranscriptIsComputed = (script text : List ℕ) → IsTranscript script text → All (λ line. line ≢ codes "err 55") (lines_of text)
+    → text ≡ transcript_of script

@@ -88,3 +88,20 @@ gate_of_parts parts = None
 
 abbrev pub gate_of : List ℕ → Option Gate
 gate_of word = gate_of_parts (parted_by 58 word)
+
+-- ---- options, which are a name and the word behind it
+
+-- the word behind an option's name, where the words begin with that
+abbrev pub option_written : List ℕ → List (List ℕ) → Option (List ℕ)
+option_written name (first ∷ word ∷ rest) = if bytes_eq first name then Some word else None
+option_written name words = None
+
+-- the words behind the option, or all of them where it isn't written
+abbrev pub words_behind : List ℕ → List (List ℕ) → List (List ℕ)
+words_behind name (first ∷ word ∷ rest) = if bytes_eq first name then rest else first ∷ word ∷ rest
+words_behind name words = words
+
+-- what an option's word says, where it is written
+abbrev pub if_written : {T : Type 0} → (List ℕ → Option T) → Option (List ℕ) → Option (Option T)
+if_written read None = Some None
+if_written read (Some word) = option_map Some (read word)

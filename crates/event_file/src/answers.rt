@@ -1,7 +1,7 @@
 ghost use Rattle.std.specs.Prelude.{◌≡◌, ◌≤◌, length, flat_map, OnOk, OnErr};
 ghost use Rattle.hex.specs.Hex.{encode_lower};
 ghost use Rattle.sock_addrs.specs.Errno.{errno_number};
-ghost use Rattle.event_file.specs.Answers.{message_line, refusal_line, response_text};
+ghost use Rattle.event_file.specs.Answers.{last_line, message_line, refusal_line, response_text};
 ghost use Rattle.event_file.specs.Output.{Wrote, WroteFront};
 ghost use Rattle.route_core.specs.Received.{cut, AreMessages};
 
@@ -16,7 +16,7 @@ use std::io::Write;
 const PIECE: usize = 2048;
 
 /// Writes the text of a line's answer, going on behind what a short write took: `ok`, `err` with the errno's number,
-/// `msg` with its bytes for each message and then `ok`, or `bad`. It is refused at the first write that answers an
+/// `msg` with its bytes for each message and then `ok`, or `err` where some are left out, or `bad`. It is refused at the first write that answers an
 /// error or takes no byte, and what was taken before is then a front of that text. `buffer` is room for 4,096 bytes of text;
 /// what it held is lost.
 pub fn write_answer<W: Write>(
@@ -32,11 +32,23 @@ pub fn write_answer<W: Write>(
     match answer {
         Ok(Answer::Done) => write_bytes(b"ok\n", writer),
         Ok(Answer::Refused(errno)) => write_bytes(&refusal(*errno), writer),
-        Ok(Answer::Messages(received)) => {
+        Ok(Answer::Messages(received, left_out)) => {
             write_messages(received.as_bytes(), buffer, writer)?;
-            write_bytes(b"ok\n", writer)
+            write_last(*left_out, writer)
         }
         Err(Bad) => write_bytes(b"bad\n", writer),
+    }
+}
+
+/// Writes the line behind messages: `ok` where they are all, or `err` with the reason for which some are left out.
+fn write_last<W: Write>(left_out: Option<Errno>, writer: &mut Counted<W>) -> Result<(), Stopped>
+    requires { writer.old.failures ≡ 0 }
+    ensures ok { OnOk result (Wrote W.contents writer.old writer.new (last_line left_out)) }
+    ensures err { OnErr result (WroteFront W.contents writer.old writer.new (last_line left_out)) }
+{
+    match left_out {
+        None => write_bytes(b"ok\n", writer),
+        Some(errno) => write_bytes(&refusal(errno), writer),
     }
 }
 

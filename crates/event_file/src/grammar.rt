@@ -1,38 +1,37 @@
-ghost use Rattle.std.specs.Prelude.{◌≡◌, map, bytes_eq, length, Some, None};
+ghost use Rattle.std.specs.Prelude.{◌≡◌, map, bytes_eq, length, option_map, Some, None};
 ghost use Rattle.std.specs.Result.{MatchResult};
 ghost use Rattle.event_file.specs.Words.{parted_by};
-ghost use Rattle.event_file.specs.Grammar.{attach_form, address_of_parts, cloning_of, add_address_form, open_form, write_form, read_form, most_written_bytes, forms, by_forms, said_by, command_of};
+ghost use Rattle.event_file.specs.Grammar.{attach_form, inet_if_written, cloning_of, address_of_parts, add_address_form, open_form, loopback_form, close_form, write_form, read_form, forms, by_forms, said_by, command_of};
 
 use crate::Bad;
 use crate::line_buffer::LONGEST_LINE;
-use crate::numbers::{read_byte, read_inet, read_number, read_prefix};
-use crate::texts::{read_link, read_name, read_written};
-use crate::words::{is, parted};
-use route_core::{Command, Said};
+use crate::numbers::{read_byte, read_inet, read_number, read_prefix, read_protocol};
+use crate::texts::{read_kind, read_link, read_name, read_switch, read_written};
+use crate::words::{is, option, parted};
+use route_core::{Command, MOST_WRITTEN, Said};
+use sock_addrs::Inet;
 
-/// `NAME broadcast T HEX`, behind `if`.
+/// The most words of a line: `addr NAME A/P to A cloning`.
+const MOST_WORDS: usize = 6;
+
+/// `NAME KIND T HEX`, behind `if`.
 fn attach(words: &[&[u8]]) -> Option<Said<'static>>
     ensures { result ≡ attach_form (map (λ w. w.now) words.now) }
 {
     let [name, kind, type_number, link] = words else {
         return None;
     };
-    let name = read_name(name)?;
-    let type_number = read_byte(type_number)?;
-    let link = read_link(link)?;
-    if !is(kind, "broadcast") {
-        return None;
-    }
     Some(Command::Attach {
-        name,
-        type_number,
-        link,
+        name: read_name(name)?,
+        kind: read_kind(kind)?,
+        type_number: read_byte(type_number)?,
+        link: read_link(link)?,
     })
 }
 
-/// `NAME A/P`, whose route clones or not.
-fn address(name: &[u8], word: &[u8], cloning: bool) -> Option<Said<'static>>
-    ensures { result ≡ address_of_parts name.now (parted_by 47 word.now) cloning }
+/// `NAME A/P`, whose route clones or not, and the address of the other end.
+fn address(name: &[u8], word: &[u8], cloning: bool, far: Option<Inet>) -> Option<Said<'static>>
+    ensures { result ≡ address_of_parts name.now (parted_by 47 word.now) cloning far }
 {
     let parts = parted::<2>(b'/', word)?;
     let [address, prefix] = parts.as_slice() else {
@@ -43,10 +42,21 @@ fn address(name: &[u8], word: &[u8], cloning: bool) -> Option<Said<'static>>
         address: read_inet(address)?,
         prefix: read_prefix(prefix)?,
         cloning,
+        far,
     })
 }
 
-/// Whether an address's route clones: where the one word behind the address is `cloning`, and not where there is none.
+/// The address of the other end, where it is written.
+fn far(word: Option<&[u8]>) -> Option<Option<Inet>>
+    ensures { result ≡ inet_if_written (option_map (λ w. w.now) word.entry) }
+{
+    match word {
+        Some(word) => Some(Some(read_inet(word)?)),
+        None => Some(None),
+    }
+}
+
+/// Whether an address's route clones: where the one word that is left is `cloning`, and not where none is.
 fn cloning(options: &[&[u8]]) -> Option<bool>
     ensures { result ≡ cloning_of (map (λ w. w.now) options.now) }
 {
@@ -62,39 +72,59 @@ fn cloning(options: &[&[u8]]) -> Option<bool>
     Some(true)
 }
 
-/// `NAME A/P` and `NAME A/P cloning`, behind `addr`.
+/// `NAME A/P`, and behind it `to A` and `cloning`, each where it is written; behind `addr`.
 fn add_address(words: &[&[u8]]) -> Option<Said<'static>>
     ensures { result ≡ add_address_form (map (λ w. w.now) words.now) }
 {
     let [name, word, options @ ..] = words else {
         return None;
     };
+    let (to, options) = option("to", options);
+    let far = far(to)?;
     let cloning = cloning(options)?;
-    address(name, word, cloning)
+    address(name, word, cloning, far)
 }
 
-/// `ID PID any`, behind `open`.
+/// `ID PID PROTOCOL`, behind `open`.
 fn open(words: &[&[u8]]) -> Option<Said<'static>>
     ensures { result ≡ open_form (map (λ w. w.now) words.now) }
 {
     let [id, pid, protocol] = words else {
         return None;
     };
-    let id = read_name(id)?;
-    let pid = read_number(u32::MAX, pid)?;
-    if !is(protocol, "any") {
-        return None;
-    }
     Some(Command::Open {
-        id,
-        pid,
-        protocol: 0,
+        id: read_name(id)?,
+        pid: read_number(u32::MAX, pid)?,
+        protocol: read_protocol(protocol)?,
     })
+}
+
+/// `ID on` and `ID off`, behind `loopback`.
+fn loopback(words: &[&[u8]]) -> Option<Said<'static>>
+    ensures { result ≡ loopback_form (map (λ w. w.now) words.now) }
+{
+    let [id, switch] = words else {
+        return None;
+    };
+    Some(Command::Loopback {
+        id: read_name(id)?,
+        on: read_switch(switch)?,
+    })
+}
+
+/// `ID`, behind `close`.
+fn close(words: &[&[u8]]) -> Option<Said<'static>>
+    ensures { result ≡ close_form (map (λ w. w.now) words.now) }
+{
+    let [id] = words else {
+        return None;
+    };
+    Some(Command::Close { id: read_name(id)? })
 }
 
 /// `ID HEX`, behind `write`.
 fn write<'a>(words: &[&[u8]], room: &'a mut [u8]) -> Option<Said<'a>>
-    requires { length room.old ≡ most_written_bytes }
+    requires { length room.old ≡ MOST_WRITTEN }
     ensures { result ≡ write_form (map (λ w. w.now) words.now) }
 {
     let [id, bytes] = words else {
@@ -118,7 +148,7 @@ fn read(words: &[&[u8]]) -> Option<Said<'static>>
 
 /// The command that these words are behind this verb.
 fn said_behind<'a>(verb: &[u8], words: &[&[u8]], room: &'a mut [u8]) -> Option<Said<'a>>
-    requires { length room.old ≡ most_written_bytes }
+    requires { length room.old ≡ MOST_WRITTEN }
     ensures { result ≡ by_forms forms verb.now (map (λ w. w.now) words.now) }
 {
     if is(verb, "if") {
@@ -129,6 +159,12 @@ fn said_behind<'a>(verb: &[u8], words: &[&[u8]], room: &'a mut [u8]) -> Option<S
     }
     if is(verb, "open") {
         return open(words);
+    }
+    if is(verb, "loopback") {
+        return loopback(words);
+    }
+    if is(verb, "close") {
+        return close(words);
     }
     if is(verb, "write") {
         return write(words, room);
@@ -141,7 +177,7 @@ fn said_behind<'a>(verb: &[u8], words: &[&[u8]], room: &'a mut [u8]) -> Option<S
 
 /// The command that these words are: the first chooses the form of the others.
 fn said<'a>(words: &[&[u8]], room: &'a mut [u8]) -> Option<Said<'a>>
-    requires { length room.old ≡ most_written_bytes }
+    requires { length room.old ≡ MOST_WRITTEN }
     ensures { result ≡ said_by (map (λ w. w.now) words.now) }
 {
     let [verb, words @ ..] = words else {
@@ -151,15 +187,15 @@ fn said<'a>(words: &[&[u8]], room: &'a mut [u8]) -> Option<Said<'a>>
 }
 
 /// What a line says, without its newline, as `read_line` reads it; the bytes of a write are put into `room`, which has room
-/// for 8,246 bytes, and what it held is lost.
+/// for `MOST_WRITTEN` bytes, and what it held is lost.
 pub fn read_said<'a>(line: &[u8], room: &'a mut [u8]) -> Result<Said<'a>, Bad>
-    requires { length room.old ≡ most_written_bytes }
+    requires { length room.old ≡ MOST_WRITTEN }
     ensures { MatchResult result (λ s. command_of line.now ≡ Some s) (λ _. command_of line.now ≡ None) }
 {
     if line.len() > LONGEST_LINE {
         return Err(Bad);
     }
-    let words = parted::<5>(b' ', line).ok_or(Bad)?;
+    let words = parted::<MOST_WORDS>(b' ', line).ok_or(Bad)?;
     said(words.as_slice(), room).ok_or(Bad)
 }
 
@@ -168,7 +204,7 @@ pub fn read_said<'a>(line: &[u8], room: &'a mut [u8]) -> Result<Said<'a>, Bad>
 pub fn read_line(line: &[u8]) -> Result<Command, Bad>
     ensures { MatchResult result (λ c. command_of line.now ≡ Some c) (λ _. command_of line.now ≡ None) }
 {
-    let mut room = [0; 8246];
+    let mut room = [0; MOST_WRITTEN];
     let said = read_said(line, &mut room)?;
     Ok(said.command())
 }

@@ -1,9 +1,10 @@
 ghost use Rattle.std.specs.Prelude.{◌≡◌, ◌≢◌, ◌≤◌, ◌<◌, ◌-◌, ◌^◌, ◌++◌, ℕ, decimal, length, map, replicate};
 ghost use Rattle.hex.specs.Hex.{decode_of};
 ghost use Rattle.std.specs.Option.{IfSome, MatchOption};
+ghost use Rattle.event_file.specs.Grammar.{protocol_number_of, protocol_of};
 ghost use Rattle.event_file.specs.Words.{decoded, number_to, hex_number_of, inet_of_parts, inet_of};
 
-use crate::words::parted;
+use crate::words::{is, parted};
 use itoa::Buffer;
 use mask_table::Prefix;
 use sock_addrs::Inet;
@@ -39,6 +40,27 @@ pub(crate) fn read_byte(word: &[u8]) -> Option<u8>
 {
     let number = read_number(255, word)?;
     Some(number as u8)
+}
+
+/// The number of a protocol: a decimal from 1 to 255.
+fn read_protocol_number(word: &[u8]) -> Option<u8>
+    ensures { result ≡ protocol_number_of word.now }
+{
+    let number = read_byte(word)?;
+    if number == 0 {
+        return None;
+    }
+    Some(number)
+}
+
+/// A protocol: `any`, which is 0, or its number.
+pub(crate) fn read_protocol(word: &[u8]) -> Option<u8>
+    ensures { result ≡ protocol_of word.now }
+{
+    if is(word, "any") {
+        return Some(0);
+    }
+    read_protocol_number(word)
 }
 
 /// The length of a mask: a decimal up to 32.

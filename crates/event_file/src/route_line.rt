@@ -1,12 +1,12 @@
 //! The words behind `route`.
 ghost use Rattle.std.specs.Prelude.{◌≡◌, length, map, bytes_eq, option_map, MatchOption, Some, None};
 ghost use Rattle.event_file.specs.Words.{parted_by};
-ghost use Rattle.event_file.specs.RouteLine.{address_options, behind_addresses as words_behind_addresses, behind_bits as words_behind_bits, bit_options, destination_of, destination_of_parts, gate_if_written, hex_if_written, if_none_left as unless_left, mask_if_written, metric_options, number_if_written, option_written, route_words_of, verb_of, words_behind};
+ghost use Rattle.event_file.specs.RouteLine.{address_options, behind_addresses as words_behind_addresses, behind_bits as words_behind_bits, bit_options, destination_of, destination_of_parts, gate_if_written, hex_if_written, if_none_left as unless_left, mask_if_written, metric_options, number_if_written, route_words_of, verb_of};
 
 use crate::numbers::{read_hex, read_inet, read_number, read_prefix};
 use crate::route_words::{MetricWords, RouteWords, Verb};
 use crate::texts::read_gate;
-use crate::words::{is, parted};
+use crate::words::{is, option, parted};
 use mask_table::Prefix;
 use sock_addrs::{Gate, Inet};
 
@@ -68,17 +68,6 @@ fn read_destination(word: &[u8]) -> Option<Destination>
     }
     let parts = parted::<2>(b'/', word)?;
     read_destination_parts(parts.as_slice())
-}
-
-/// The word of the option of this name where the words begin with it, and the words behind it.
-fn option<'w>(name: &str, words: &'w [&'w [u8]]) -> (Option<&'w [u8]>, &'w [&'w [u8]])
-    ensures word { option_map (λ w. w.now) result.0 ≡ option_written name.now (map (λ w. w.now) words.now) }
-    ensures rest { map (λ w. w.now) result.1.now ≡ words_behind name.now (map (λ w. w.now) words.now) }
-{
-    match words {
-        [first, word, rest @ ..] if is(first, name) => (Some(*word), rest),
-        _ => (None, words),
-    }
 }
 
 /// A gateway, where one is written.

@@ -1,12 +1,12 @@
 ghost use Rattle.std.specs.Prelude.{◌≡◌, ◌≤◌, length, map, take, Some, None};
 ghost use Rattle.std.specs.List.{list_all};
 ghost use Rattle.std.specs.Option.{IfSome, MatchOption};
-ghost use Rattle.event_file.specs.Grammar.{most_link_bytes, most_written_bytes};
+ghost use Rattle.event_file.specs.Grammar.{interface_kind_of, most_link_bytes, switch_of};
 ghost use Rattle.event_file.specs.Words.{is_name_byte, name_of, bytes_to, link_of, gate_of_parts, gate_of};
 
 use crate::numbers::read_inet;
-use crate::words::parted;
-use route_core::{Lent, LinkAddress};
+use crate::words::{is, parted};
+use route_core::{Kind, Lent, LinkAddress, MOST_WRITTEN};
 use sock_addrs::{Gate, Link, Name};
 
 /// Whether all bytes are of `a` to `z` and `0` to `9`.
@@ -26,6 +26,35 @@ pub(crate) fn read_name(word: &[u8]) -> Option<Name>
     } else {
         None
     }
+}
+
+/// The kind of an interface.
+pub(crate) fn read_kind(word: &[u8]) -> Option<Kind>
+    ensures { result ≡ interface_kind_of word.now }
+{
+    if is(word, "broadcast") {
+        return Some(Kind::Broadcast);
+    }
+    if is(word, "loopback") {
+        return Some(Kind::Loopback);
+    }
+    if is(word, "ptp") {
+        return Some(Kind::PointToPoint);
+    }
+    None
+}
+
+/// `on`, or `off`.
+pub(crate) fn read_switch(word: &[u8]) -> Option<bool>
+    ensures { result ≡ switch_of word.now }
+{
+    if is(word, "on") {
+        return Some(true);
+    }
+    if is(word, "off") {
+        return Some(false);
+    }
+    None
 }
 
 /// Writes the bytes that a word spells in hexadecimal, `-` for none, to the front of `room` and answers how many they
@@ -54,10 +83,10 @@ pub(crate) fn read_link(word: &[u8]) -> Option<LinkAddress>
     LinkAddress::new(&room[..count])
 }
 
-/// The bytes of a write in hexadecimal, at most 8,246 of them, or `-`. They are decoded to the front of `room`.
+/// The bytes of a write in hexadecimal, at most `MOST_WRITTEN` of them, or `-`. They are decoded to the front of `room`.
 pub(crate) fn read_written<'a>(word: &[u8], room: &'a mut [u8]) -> Option<Lent<'a>>
-    requires { length room.old ≡ most_written_bytes }
-    ensures { result ≡ bytes_to most_written_bytes word.now }
+    requires { length room.old ≡ MOST_WRITTEN }
+    ensures { result ≡ bytes_to MOST_WRITTEN word.now }
 {
     let count = decode(word, room)?;
     Lent::new(&room[..count])

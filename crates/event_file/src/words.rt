@@ -1,6 +1,6 @@
-ghost use Rattle.std.specs.Prelude.{◌≡◌, ◌<◌, [], ◌∷◌, length, map, bytes_eq};
+ghost use Rattle.std.specs.Prelude.{◌≡◌, ◌<◌, [], ◌∷◌, length, map, bytes_eq, option_map};
 ghost use Rattle.std.specs.Option.{MatchOption, IfSome, IfNone};
-ghost use Rattle.event_file.specs.Words.{parted_by};
+ghost use Rattle.event_file.specs.Words.{parted_by, option_written, words_behind};
 
 use arrayvec::ArrayVec;
 
@@ -33,4 +33,15 @@ pub(crate) fn parted<const N: usize>(byte: u8, text: &[u8]) -> Option<ArrayVec<&
     }
     parts.try_push(rest).ok()?;
     Some(parts)
+}
+
+/// The word of the option of this name where the words begin with it, and the words behind it.
+pub(crate) fn option<'w>(name: &str, words: &'w [&'w [u8]]) -> (Option<&'w [u8]>, &'w [&'w [u8]])
+    ensures word { option_map (λ w. w.now) result.0 ≡ option_written name.now (map (λ w. w.now) words.now) }
+    ensures rest { map (λ w. w.now) result.1.now ≡ words_behind name.now (map (λ w. w.now) words.now) }
+{
+    match words {
+        [first, word, rest @ ..] if is(first, name) => (Some(*word), rest),
+        _ => (None, words),
+    }
 }

@@ -2,29 +2,31 @@ use Rattle.std.proofs.Common.{◌≡◌, ◌≤◌, ◌^◌, ◌-◌, ◌∙◌,
 use Rattle.std.specs.List.{join_with_byte}
 use Rattle.std.proofs.lemmas.Bool.{cond-false, le-ltb}
 use Rattle.route_core.specs.Commands.{Command}
-use Rattle.route_core.specs.declared.command.Command.TheVariants.{Attach, AddAddress, Open, Write, Read}
-use Rattle.event_file.specs.Grammar.{add_address_form, cloning_of, command_of, most_link_bytes, most_written_bytes, said_by}
+use Rattle.route_core.specs.declared.command.Command.TheVariants.{Attach, AddAddress, Open, Close, Loopback, Write, Read}
+use Rattle.route_core.specs.declared.written.TheConstants.{MOST_WRITTEN}
+use Rattle.event_file.specs.Grammar.{add_address_form, command_of, most_link_bytes, said_by}
 use Rattle.event_file.specs.Lines.{most_line_bytes}
-use Rattle.event_file.specs.Printed.{IsWithinBounds, PrintedFits, PrintedIsRead, bytes_word, inet_word, network_word}
+use Rattle.event_file.specs.Printed.{IsWithinBounds, PrintedFits, PrintedIsRead, bytes_word, cloning_words, far_words, inet_word, kind_word, line_of, network_word, protocol_word, switch_word, words_of}
 use Rattle.event_file.specs.Words.{parted_by}
 use Rattle.event_file.proofs.Decimals.{printed_read}
-use Rattle.event_file.proofs.Joined.{AllLack, parted-joined}
-use Rattle.event_file.proofs.PrintedWords.{Lacks-bytes_word, Lacks-decimal, Lacks-letters, Lacks-network_word, bytes_to-bytes_word, inet_of-inet_word, length-bytes_word, length-decimal, length-network_word, name_of-name, parted-network_word}
+use Rattle.event_file.proofs.Joined.{AllLack, length-joined, parted-joined, room_of}
+use Rattle.event_file.proofs.PrintedWords.{AllLack-options, Lacks-bytes_word, Lacks-decimal, Lacks-letters, Lacks-network_word, Lacks-protocol_word, bytes_to-bytes_word, cloning_of-options, inet_if_written-options, inet_of-inet_word, interface_kind_of-kind_word, is_letters-kind_word, is_letters-switch_word, length-bytes_word, length-decimal, length-kind_word, length-network_word, length-protocol_word, length-switch_word, name_of-name, parted-network_word, protocol_of-protocol_word, room_of-options, switch_of-switch_word}
 use Rattle.event_file.proofs.laws.printed_is_read.Goals as goal
 
+-- a line that has room for its command's words
+short : (command : Command) → room_of (words_of command) ≤ most_line_bytes → length (line_of command) ≤ most_line_bytes
+short command room = omega (arith, room, length-joined 32 (words_of command))
+
 fits : PrintedFits
-fits (Attach name type_number link) (is, small, short, are) =
-    simp length-append (omega (arith, is.1, length-decimal type_number (omega arith), length-bytes_word link))
-fits (AddAddress name address prefix false) (is, small, short) =
-    let network = network_word address prefix in
-    omega (arith, is.1, length-network_word address prefix short, length-append name (32 ∷ network))
-fits (AddAddress name address prefix true) (is, small, short) =
-    let network = network_word address prefix in
-    let option = 32 ∷ codes "cloning" in
-    omega (arith, is.1, length-network_word address prefix short, length-append name (32 ∷ (network ++ option)), length-append network option)
-fits (Open id pid protocol) (is, small, any) = simp length-append (omega (arith, is.1, length-decimal pid small))
+fits (Attach name kind type_number link) (is, small, few, are) =
+    short (Attach name kind type_number link) (omega (arith, is.1, length-kind_word kind, length-decimal type_number (omega arith), length-bytes_word link))
+fits (AddAddress name address prefix cloning far) (is, small, few, end) =
+    short (AddAddress name address prefix cloning far) (omega (arith, is.1, length-network_word address prefix few, room_of-options cloning far))
+fits (Open id pid protocol) (is, small, few) = short (Open id pid protocol) (omega (arith, is.1, length-decimal pid small, length-protocol_word protocol few))
+fits (Close id) is = short (Close id) (omega (arith, is.1))
+fits (Loopback id on) is = short (Loopback id on) (omega (arith, is.1, length-switch_word on))
 fits (Write id bytes) (is, room, are) = simp length-append (omega (arith, is.1, length-bytes_word bytes))
-fits (Read id) is = omega (arith, is.1)
+fits (Read id) is = short (Read id) (omega (arith, is.1))
 
 -- a line of such words is the command that they say
 line_says : (verb : List ℕ) (words : List (List ℕ)) (said : Option Command) → length (join_with_byte 32 (verb ∷ words)) ≤ most_line_bytes → AllLack 32 (verb ∷ words)
@@ -33,37 +35,39 @@ line_says verb words said short lack says =
     let line = join_with_byte 32 (verb ∷ words) in
     cond-false _ None (said_by (parted_by 32 line)) (le-ltb most_line_bytes (length line) short) ∙ ap said_by (parted-joined 32 verb words lack) ∙ says
 
--- the words behind `addr` are an address with its name, where the options say whether its route clones
-address_says : (name : List ℕ) (address prefix : ℕ) (options : List (List ℕ)) (cloning : Bool) → IsWithinBounds (AddAddress name address prefix cloning) → cloning_of options ≡ Some cloning
-    → add_address_form (name ∷ network_word address prefix ∷ options) ≡ Some (AddAddress name address prefix cloning)
-address_says name address prefix options cloning can option =
+-- the words behind `addr` are an address with its name, where the options say whether its route clones and which the far address is
+address_says : (name : List ℕ) (address prefix : ℕ) (cloning : Bool) (far : Option ℕ) → IsWithinBounds (AddAddress name address prefix cloning far)
+    → add_address_form (name ∷ network_word address prefix ∷ (far_words far ++ cloning_words cloning)) ≡ Some (AddAddress name address prefix cloning far)
+address_says name address prefix cloning far can =
     let parts : parted_by 47 (network_word address prefix) ≡ inet_word address ∷ decimal prefix ∷ [] = parted-network_word address prefix can.2 in
     let prefix_read = printed_read 32 prefix (decimal prefix) (omega arith) can.2 refl in
-    rw (option, parts, name_of-name name can.0, inet_of-inet_word address can.1, prefix_read) refl
+    rw (inet_if_written-options cloning far can.3, cloning_of-options cloning far, parts, name_of-name name can.0, inet_of-inet_word address can.1, prefix_read) refl
 
 read : PrintedIsRead
-read (Attach name type_number link) can =
+read (Attach name kind type_number link) can =
     let type_read = printed_read 255 type_number (decimal type_number) (omega arith) can.1 refl in
-    line_says (codes "if") (name ∷ codes "broadcast" ∷ decimal type_number ∷ bytes_word link ∷ []) _ (fits (Attach name type_number link) can)
-    (Lacks-letters (codes "if") refl, (Lacks-letters name can.0.2, (Lacks-letters (codes "broadcast") refl, (Lacks-decimal 32 type_number (omega arith) (omega (arith, can.1)), (Lacks-bytes_word link can.3, tt)))))
-    (rw (name_of-name name can.0, type_read, bytes_to-bytes_word most_link_bytes link can.2 can.3) refl)
-read (AddAddress name address prefix false) can =
-    line_says (codes "addr") (name ∷ network_word address prefix ∷ []) _ (fits (AddAddress name address prefix false) can)
-    (Lacks-letters (codes "addr") refl, (Lacks-letters name can.0.2, (Lacks-network_word address prefix can.2, tt)))
-    (address_says name address prefix [] false can refl)
-read (AddAddress name address prefix true) can =
-    line_says (codes "addr") (name ∷ network_word address prefix ∷ codes "cloning" ∷ []) _ (fits (AddAddress name address prefix true) can)
-    (Lacks-letters (codes "addr") refl, (Lacks-letters name can.0.2, (Lacks-network_word address prefix can.2, (Lacks-letters (codes "cloning") refl, tt))))
-    (address_says name address prefix (codes "cloning" ∷ []) true can refl)
+    line_says (codes "if") (name ∷ kind_word kind ∷ decimal type_number ∷ bytes_word link ∷ []) _ (fits (Attach name kind type_number link) can)
+    (Lacks-letters (codes "if") refl, (Lacks-letters name can.0.2, (Lacks-letters (kind_word kind) (is_letters-kind_word kind), (Lacks-decimal 32 type_number (omega arith) (omega (arith, can.1)), (Lacks-bytes_word link can.3, tt)))))
+    (rw (name_of-name name can.0, interface_kind_of-kind_word kind, type_read, bytes_to-bytes_word most_link_bytes link can.2 can.3) refl)
+read (AddAddress name address prefix cloning far) can =
+    line_says (codes "addr") (name ∷ network_word address prefix ∷ (far_words far ++ cloning_words cloning)) _ (fits (AddAddress name address prefix cloning far) can)
+    (Lacks-letters (codes "addr") refl, (Lacks-letters name can.0.2, (Lacks-network_word address prefix can.2, AllLack-options cloning far)))
+    (address_says name address prefix cloning far can)
 read (Open id pid protocol) can =
     let pid_read = printed_read (2 ^ 32 - 1) pid (decimal pid) (omega arith) (omega (arith, can.1)) refl in
-    line_says (codes "open") (id ∷ decimal pid ∷ codes "any" ∷ []) _ (fits (Open id pid protocol) can)
-    (Lacks-letters (codes "open") refl, (Lacks-letters id can.0.2, (Lacks-decimal 32 pid (omega arith) can.1, (Lacks-letters (codes "any") refl, tt))))
-    (rw (name_of-name id can.0, pid_read, can.2) refl)
+    line_says (codes "open") (id ∷ decimal pid ∷ protocol_word protocol ∷ []) _ (fits (Open id pid protocol) can)
+    (Lacks-letters (codes "open") refl, (Lacks-letters id can.0.2, (Lacks-decimal 32 pid (omega arith) can.1, (Lacks-protocol_word protocol can.2, tt))))
+    (rw (name_of-name id can.0, pid_read, protocol_of-protocol_word protocol can.2) refl)
+read (Close id) can =
+    line_says (codes "close") (id ∷ []) _ (fits (Close id) can) (Lacks-letters (codes "close") refl, (Lacks-letters id can.2, tt)) (rw (name_of-name id can) refl)
+read (Loopback id on) can =
+    line_says (codes "loopback") (id ∷ switch_word on ∷ []) _ (fits (Loopback id on) can)
+    (Lacks-letters (codes "loopback") refl, (Lacks-letters id can.2, (Lacks-letters (switch_word on) (is_letters-switch_word on), tt)))
+    (rw (name_of-name id can, switch_of-switch_word on) refl)
 read (Write id bytes) can =
     line_says (codes "write") (id ∷ bytes_word bytes ∷ []) _ (fits (Write id bytes) can)
     (Lacks-letters (codes "write") refl, (Lacks-letters id can.0.2, (Lacks-bytes_word bytes can.2, tt)))
-    (rw (name_of-name id can.0, bytes_to-bytes_word most_written_bytes bytes (omega (arith, can.0.0, can.1)) can.2) refl)
+    (rw (name_of-name id can.0, bytes_to-bytes_word MOST_WRITTEN bytes (omega (arith, can.0.0, can.1)) can.2) refl)
 read (Read id) can =
     line_says (codes "read") (id ∷ []) _ (fits (Read id) can) (Lacks-letters (codes "read") refl, (Lacks-letters id can.2, tt)) (rw (name_of-name id can) refl)
 

@@ -26,3 +26,31 @@ returns-clause-open c = refl
 pub returns-clause-write : goal.returns-clause-write
 unfolding encode_with
 returns-clause-write c = refl
+
+pub returns-clause-point_to_point : goal.returns-clause-point_to_point
+unfolding digits
+returns-clause-point_to_point c = refl
+
+pub returns-clause-far : goal.returns-clause-far
+unfolding digits
+returns-clause-far c = refl
+
+pub returns-clause-far_cloning : goal.returns-clause-far_cloning
+unfolding digits
+returns-clause-far_cloning c = refl
+
+pub returns-clause-protocol : goal.returns-clause-protocol
+unfolding digits
+returns-clause-protocol c = refl
+
+pub returns-clause-close : goal.returns-clause-close
+unfolding digits
+returns-clause-close c = refl
+
+pub returns-clause-loopback_on : goal.returns-clause-loopback_on
+unfolding digits
+returns-clause-loopback_on c = refl
+
+pub returns-clause-loopback_off : goal.returns-clause-loopback_off
+unfolding digits
+returns-clause-loopback_off c = refl
