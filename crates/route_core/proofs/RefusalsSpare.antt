@@ -10,7 +10,7 @@ use Rattle.sock_addrs.specs.Rules.{Rule, rule, first_fault, unless_fault}
 use Rattle.sock_addrs.specs.Sockaddrs.{family}
 use Rattle.sock_addrs.specs.declared.families.TheConstants.{AF_INET}
 use Rattle.listeners.specs.Sockets.{Socket, closed_fault, has_id, listen_fault, messages_of, pid_of, socket_of}
-use Rattle.listeners.specs.declared.listeners.TheConstants.{MOST_SOCKETS}
+use Rattle.listeners.specs.declared.limits.TheConstants.{MOST_SOCKETS}
 use Rattle.route_core.specs.Addresses.{entry_of_address}
 use Rattle.route_core.specs.Effects.{IsEffect}
 use Rattle.route_core.specs.Requests.{Outcome, outcome_of, got}
