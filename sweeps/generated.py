@@ -1,10 +1,11 @@
 """Sweeps of scripts that are made: with ample memory no line is answered 55 and no fault is answered, and the pieces in
 which the bytes come change nothing."""
+import operator
 import random
 
 from generator import MOST_WRITE, SEEDS, all_lengths, all_names_and_links, any_script, cut_whole, each_form, fronts
 from grammar import LINES, ON, any_line, is_line
-from messages import GET, OLDADD, WHOLE
+from messages import GET, HEADER, OLDADD, WHOLE
 from runs import BAD_LINE, DONE, FAULT_TEXT, answered_lines, answers
 
 PIECES = (1, 7, 4096)
@@ -42,8 +43,15 @@ def run_names_and_links(sweep):
 
 
 def run_cuts(sweep):
+    """A cut that has no whole header, or says another length than it has, is refused 22 and heard by nobody."""
     for name, text in WHOLE.items():
-        claim_made(sweep, f"{name}, cut to each length", cut_whole(text))
+        script = cut_whole(text)
+        claim_made(sweep, f"{name}, cut to each length", script)
+        heard = answers(sweep.run(script).wrote)[-4 * len(text) :]
+        none_heard = [heard[at : at + 2] == [b"err 22\n", b"ok\n"] for at in range(0, len(heard), 2)]
+        whole_header = [size >= HEADER and is_sized for size in range(len(text)) for is_sized in (False, True)]
+        holds = len(none_heard) == len(whole_header) and all(map(operator.or_, none_heard, whole_header))
+        sweep.claim(f"{name}: a cut that is no message is heard by nobody", holds)
 
 
 def run_fronts(sweep):

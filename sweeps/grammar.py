@@ -7,7 +7,7 @@ import re
 from dataclasses import dataclass
 from typing import Callable
 
-from messages import ADDRESSES, PREFIXES, any_message, link
+from messages import ADDRESSES, PREFIXES, any_link, any_message
 from runs import MOST_LINE
 
 ON = {"first"}
@@ -47,8 +47,7 @@ def link_hex(rng):
 
 
 def any_gate(rng):
-    text = link(b"le0"[: rng.randrange(4)], bytes(rng.randrange(9)), 1, rng.choice([0, 9, 20, 31, 32]))
-    return rng.choice([rng.choice(ADDRESSES), "link:" + any_case(rng, text.hex())])
+    return rng.choice([rng.choice(ADDRESSES), "link:" + any_case(rng, any_link(rng).hex())])
 
 
 def any_dest(rng):
@@ -60,8 +59,8 @@ BYTE = up_to(255)
 INET = rf"(?:{BYTE})(?:\.(?:{BYTE})){{3}}"
 GATE = "|".join([INET, *(f"link:(?i:{size:02x})12{HEX}{{{size - 2}}}" for size in range(8, 33))])
 # Names that are used often, so that lines meet, and names of each length.
-NAMES = ["le0", "le0", "ed0", "lo0", "p0", *("az09az09"[:size] for size in range(1, 9)), "99999999", "zzzzzzzz"]
-IDS = ["a", "a", "b", "c", "z", "0", "9", *("s0cket19"[:size] for size in range(2, 9))]
+NAMES = [*["le0"] * 6, "ed0", "lo0", "p0", *("az09az09"[:size] for size in range(1, 9)), "99999999", "zzzzzzzz"]
+IDS = [*["a"] * 12, "b", "b", "b", "c", "z", "0", "9", *("s0cket19"[:size] for size in range(2, 9))]
 BYTES = ["0", "1", "6", "9", "10", "24", "99", "100", "199", "200", "249", "250", "255"]
 NUMBERS = ["0", "1", "9", "10", "100", "65536", "4294967294", "4294967295"]
 FLAGS = ["0", "1", "4", "5", "103", "907", "F", "ffff", "00000001", "FFFFFFFF"]

@@ -56,31 +56,31 @@ WHOLE = {
 }
 
 
-def any_sockaddr(rng):
-    """An address of any family, whole or with another byte among its first."""
-    whole = [
-        inet(rng.choice(ADDRESSES)),
-        mask(rng.choice(PREFIXES)),
-        link(b"le0", bytes(rng.randrange(9)), rng.randrange(4), rng.choice([0, 20, 32])),
-        bytes(4),
-    ]
-    text = bytearray(rng.choice([whole[0], *whole]))
-    if rng.random() < 0.2:
-        borders = [0, 1, 2, 4, 7, 8, 9, 15, 16, 17, 18, 31, 32, 33, 128, 255]
-        text[rng.randrange(min(len(text), 6))] = rng.choice(borders)
+def any_link(rng):
+    return link(b"le0"[: rng.randrange(4)], bytes(rng.randrange(9)), rng.randrange(4), rng.choice([0, 9, 20, 31, 32]))
+
+
+def any_sockaddr(rng, bit):
+    """What mostly stands at this bit, or an address of another kind; now and then with another byte among its first."""
+    kinds = [inet(rng.choice(ADDRESSES)), mask(rng.choice(PREFIXES)), any_link(rng), bytes(4)]
+    likely = kinds[1] if bit in (NETMASK, GENMASK) else kinds[0]
+    text = bytearray(rng.choice([likely] * 10 + kinds))
+    if rng.random() < 0.1:
+        text[rng.randrange(min(len(text), 6))] = rng.choice([0, 1, 2, 4, 7, 8, 9, 15, 16, 17, 18, 31, 32, 33, 128, 255])
     return bytes(text)
 
 
 def any_whole(rng):
     """A message of any type, mostly with a destination, and with numbers at their borders."""
-    bits = [bit for bit in (GATEWAY, NETMASK, GENMASK, IFP, IFA, AUTHOR, BRD) if rng.random() < 0.15]
-    addresses = {bit: any_sockaddr(rng) for bit in ([DST] if rng.random() < 0.95 else []) + bits}
+    likely = 0.15 if rng.random() < 0.6 else 0
+    bits = [bit for bit in (GATEWAY, NETMASK, GENMASK, IFP, IFA, AUTHOR, BRD) if rng.random() < likely]
+    addresses = {bit: any_sockaddr(rng, bit) for bit in ([DST] if rng.random() < 0.95 else []) + bits}
     fields = {name: rng.choice([0, 0, *BORDERS]) for name in ("flags", "pid", "seq", "errno", "use", "inits")}
     fields["flags"] &= rng.choice([0, 0x907, 0xFFFFFFFF])
     return message(
-        rng.choice([ADD, DELETE, CHANGE, GET, GET, GET, LOCK, *range(16), 255]),
+        rng.choice([GET] * 8 + [ADD] * 4 + [DELETE, CHANGE, LOCK, rng.randrange(16), 255]),
         addresses,
-        version=rng.choice([3] * 12 + [0, 2, 4, 255]),
+        version=rng.choice([3] * 20 + [0, 2, 4, 255]),
         index=rng.choice([0, 1, 2, 0xFFFF]),
         metrics=[rng.choice(BORDERS) for _ in range(10)],
         **fields,
@@ -97,4 +97,4 @@ def any_message(rng):
         sized(text + bytes(rng.randrange(256) for _ in range(rng.choice([1, 3, 4, 8, 100, 1000, 4000])))),
         text[:at] + bytes([rng.choice([0, 1, 127, 128, 254, 255])]) + text[at + 1 :],
     ]
-    return rng.choice(changed) if rng.random() < 0.4 else text
+    return rng.choice(changed) if rng.random() < 0.3 else text

@@ -1,6 +1,5 @@
 """Runs of the program, with faults or without, and what is claimed of them."""
 import os
-import subprocess
 import threading
 from dataclasses import dataclass
 from pathlib import Path
@@ -68,13 +67,18 @@ class Sweep:
         """Runs a script, which is a file: so a read gives all the bytes that it has room for."""
         room = Path(self.folder, str(threading.get_ident()))
         room.mkdir(exist_ok=True)
-        counts = room / "counts"
+        given, wrote, error, counts = (room / name for name in ("given", "wrote", "error", "counts"))
         counts.unlink(missing_ok=True)
-        (room / "script").write_bytes(script)
-        with open(room / "script", "rb") as given, open(room / "out", "wb") as out, open(room / "error", "wb") as error:
-            environment = self.environment(counts=counts, **faults)
-            status = subprocess.Popen([self.program], stdin=given, stdout=out, stderr=error, env=environment).wait()
-        return Ran((room / "out").read_bytes(), status, (room / "error").read_bytes(), read_counts(counts))
+        given.write_bytes(script)
+        files = [(given, os.O_RDONLY), *((path, os.O_WRONLY | os.O_CREAT | os.O_TRUNC) for path in (wrote, error))]
+        actions = [(os.POSIX_SPAWN_OPEN, number, path, flags, 0o600) for number, (path, flags) in enumerate(files)]
+        environment = self.environment(counts=counts, **faults)
+        process = os.posix_spawn(self.program, [self.program], environment, file_actions=actions)
+        status = os.waitstatus_to_exitcode(os.waitpid(process, 0)[1])
+        return Ran(wrote.read_bytes(), status, error.read_bytes(), read_counts(counts))
+
+    def claims(self):
+        return self.passed + len(self.failed)
 
     def claim(self, what, holds):
         with self.lock:

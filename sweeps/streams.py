@@ -5,8 +5,8 @@ from runs import BAD_LINE, DONE, FAULT_TEXT, READ_FAULT, WRITE_FAULT, answered_l
 
 MOST_READS = 2**24
 READ_ROOM = 4096
-# A script that is longer fails at the ends of its lines alone.
-MOST_BYTE_BY_BYTE = 2000
+# The writes of a transcript that is longer fail at the ends of its lines alone.
+MOST_BYTE_BY_BYTE = 1000
 
 
 def reads_of(size, piece):
@@ -28,7 +28,7 @@ def read_in_pieces(sweep, example):
 
 def fail_each_read(sweep, example):
     """The read k fails, for each k up to the one that tells the end: lines that were read whole are answered."""
-    piece = 7 if len(example.script) <= MOST_BYTE_BY_BYTE else READ_ROOM
+    piece = 7 if len(example.script) < READ_ROOM else READ_ROOM
     pieces = answers(example.transcript)
     for call in range(1, reads_of(len(example.script), piece) + 1):
         ran = sweep.run(example.script, fail_read=call, piece=piece)
@@ -41,7 +41,7 @@ def fail_each_write(sweep, example, fault):
     """The write k of one byte fails (or takes none), for each k: a front of the transcript was written."""
     ends = [at + 1 for at, byte in enumerate(example.transcript) if byte == ord("\n")]
     calls = range(1, len(example.transcript) + 1)
-    for call in calls if len(example.script) <= MOST_BYTE_BY_BYTE else ends:
+    for call in calls if len(example.transcript) <= MOST_BYTE_BY_BYTE else ends:
         ran = sweep.run(example.script, one_byte=1, **{fault: call})
         told = example.transcript[: call - 1], WRITE_FAULT, FAULT_TEXT[WRITE_FAULT]
         holds = ran.told() == told and ran.counts["faults"] == 1

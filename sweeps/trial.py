@@ -8,6 +8,10 @@ from messages import OLDADD
 from runs import Sweep
 
 
+# What makes no program wrong.
+RIGHT = "right"
+
+
 def trials(examples):
     """What is wrong, the sweep that has to notice it, and what that sweep is given."""
     empty, one_get, bad = (examples[name] for name in ("empty-script", "one-get", "bad-lines"))
@@ -55,6 +59,13 @@ class Wrong(Sweep):
 
 
 def run_trial(sweep, wrongs, wrong, job, *given):
+    """The sweep fails, where the program is wrong; and doesn't, where only the library stands before it."""
     tried = Wrong(sweep, wrongs, wrong)
     job(tried, *given)
-    sweep.claim(f"the trial: {job.__name__} doesn't notice a program that is wrong: {wrong}", bool(tried.failed))
+    sweep.claim(f"trial of {job.__name__}: {wrong}", (wrong == RIGHT) != bool(tried.failed) and tried.claims() > 0)
+
+
+def jobs(wrongs, examples):
+    tried = [*trials(examples)]
+    yield from ((run_trial, wrongs, *each) for each in tried)
+    yield from ((run_trial, wrongs, RIGHT, *each) for each in dict.fromkeys(tuple(each) for _, *each in tried))
