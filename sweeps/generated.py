@@ -1,11 +1,11 @@
 """Sweeps of scripts that are made: with ample memory no line is answered 55 and no fault is answered, and the pieces in
 which the bytes come change nothing."""
-import operator
 import random
 
-from generator import MOST_WRITE, SEEDS, all_lengths, all_names_and_links, any_script, cut_whole, each_form, fronts
-from grammar import LINES, ON, any_line, is_line
-from messages import GET, HEADER, OLDADD, WHOLE
+from generator import MOST_WRITE, SEEDS, all_lengths, all_names_and_links, all_prefixes, any_script, cut_whole, cuts_of
+from generator import each_form, fronts
+from grammar import LINES, any_line, is_line
+from messages import GET, HEADER, OLDADD, WHOLE, sized
 from runs import BAD_LINE, DONE, FAULT_TEXT, answered_lines, answers
 
 PIECES = (1, 7, 4096)
@@ -37,6 +37,10 @@ def run_each_form(sweep):
     claim_made(sweep, "each form", each_form())
 
 
+def run_prefixes(sweep):
+    claim_made(sweep, "each prefix", all_prefixes())
+
+
 def run_names_and_links(sweep):
     for size in range(9):
         claim_made(sweep, f"names with {size} bytes of link-layer address", all_names_and_links(size))
@@ -45,12 +49,12 @@ def run_names_and_links(sweep):
 def run_cuts(sweep):
     """A cut that has no whole header, or says another length than it has, is refused 22 and heard by nobody."""
     for name, text in WHOLE.items():
-        script = cut_whole(text)
+        script, cuts = cut_whole(text), cuts_of(text)
         claim_made(sweep, f"{name}, cut to each length", script)
-        heard = answers(sweep.run(script).wrote)[-4 * len(text) :]
-        none_heard = [heard[at : at + 2] == [b"err 22\n", b"ok\n"] for at in range(0, len(heard), 2)]
-        whole_header = [size >= HEADER and is_sized for size in range(len(text)) for is_sized in (False, True)]
-        holds = len(none_heard) == len(whole_header) and all(map(operator.or_, none_heard, whole_header))
+        heard = answers(sweep.run(script).wrote)[-2 * len(cuts) :]
+        pairs = zip(cuts, zip(heard[::2], heard[1::2]))
+        no_message = {pair for cut, pair in pairs if len(cut) < HEADER or cut != sized(cut)}
+        holds = len(heard) == 2 * len(cuts) and no_message == {(b"err 22\n", b"ok\n")}
         sweep.claim(f"{name}: a cut that is no message is heard by nobody", holds)
 
 
@@ -76,4 +80,4 @@ def jobs():
     yield from ((run_seed, seed) for seed in SEEDS)
     for kind in (GET, OLDADD):
         yield from ((run_lengths, kind, first) for first in range(0, MOST_WRITE + 1, LENGTHS_A_SCRIPT))
-    yield from ((job,) for job in (run_each_form, run_names_and_links, run_cuts, run_fronts))
+    yield from ((job,) for job in (run_each_form, run_prefixes, run_names_and_links, run_cuts, run_fronts))

@@ -5,7 +5,7 @@ from grammar import IDS, LINES, ON, any_line
 from messages import DST, GATEWAY, GET, HEADER, NETMASK, inet, mask, message, sized
 
 START = "if le0 broadcast 6 080020010203\nopen a 100 any\naddr le0 10.0.0.1/8 cloning\n"
-SEEDS = range(1, 13)
+SEEDS = range(1, 21)
 LINES_A_SEED = 400
 TODAY = [line for line in LINES if line[0] in ON]
 MOST_MESSAGE, MOST_WRITE = 8192, 8246
@@ -56,17 +56,25 @@ def all_names_and_links(link_size):
     return (script + "".join(f"read {name}\n" for name in names)).encode()
 
 
+def all_prefixes():
+    """An address with each prefix, and past the greatest; a GET of an address in each network, and of one behind it."""
+    addresses = "".join(f"addr le0 {size}.1.2.3/{size}{[' cloning', ''][size % 2]}\n" for size in range(34))
+    gets = [message(GET, {DST: inet(f"{size}.{low}.2.4")}) for size in range(34) for low in (1, 255)]
+    return START.encode() + addresses.encode() + b"".join(map(written, gets))
+
+
 def written(text):
+    """A write and a read behind it."""
     return b"write a " + (text.hex() or "-").encode() + b"\nread a\n"
 
 
 def heard(errno, text):
-    """The answer of a write, and that of a read that gives this message, or none."""
+    """The answers of these two, where the socket heard this message, or none."""
     return ((f"err {errno}\n" if errno else "ok\n") + (f"msg {text.hex()}\n" if text else "") + "ok\n").encode()
 
 
 def answer_of(text, pid):
-    """What this write and a read behind it answer: of a GET with a destination the route is heard, of an unknown type
+    """What is answered and heard of a message of `all_lengths`: of a GET with a destination the route, of another type
     the message itself with errno 45, and with 22 where it is cut; nothing of one without a header, or too long."""
     if not HEADER <= len(text) <= MOST_MESSAGE:
         return heard(22 if len(text) < HEADER else 40, b"")
@@ -85,10 +93,14 @@ def all_lengths(kind, sizes, pid):
     return start + b"".join(map(written, texts)), b"ok\n" * 3 + b"".join(answer_of(text, pid) for text in texts)
 
 
-def cut_whole(text):
+def cuts_of(text):
     """A message cut to each length, with its length field as it was and with the cut length."""
-    cuts = [front for size in range(len(text)) for front in (text[:size], sized(text[:size]))]
-    return START.encode() + b"read a\n" + b"".join(map(written, cuts))
+    return [cut for size in range(len(text)) for cut in (text[:size], sized(text[:size]))]
+
+
+def cut_whole(text):
+    """Its cuts are written, and what is heard of each is read."""
+    return START.encode() + b"read a\n" + b"".join(map(written, cuts_of(text)))
 
 
 def fronts(line):

@@ -27,10 +27,10 @@ def some(*texts):
 
 
 def up_to(most):
-    """The form of the decimals from 0 to a number, without leading zeros."""
+    """The form of the decimals from 0 to a number of at least two digits, without leading zeros."""
     digits = str(most)
-    forms = ["0", f"[1-9][0-9]{{0,{len(digits) - 2}}}"] if len(digits) > 1 else [f"[0-{digits}]"]
-    for at, digit in enumerate(digits if len(digits) > 1 else ""):
+    forms = ["0", f"[1-9][0-9]{{0,{len(digits) - 2}}}"]
+    for at, digit in enumerate(digits):
         least = 1 if at == 0 else 0
         if int(digit) > least:
             forms.append(f"{digits[:at]}[{least}-{int(digit) - 1}][0-9]{{{len(digits) - at - 1}}}")
