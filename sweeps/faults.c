@@ -1,15 +1,17 @@
 /*
- * Faults for a program under test, by LD_PRELOAD, and a count of what it does. Each variable of the environment, where
- * it is set, names the call at which the fault comes, counted from 1:
+ * Faults for a program under test, by LD_PRELOAD, and a count of what it does. Variables of the environment name the
+ * faults; calls are counted from 1:
  *
  *   REFUSE_ALLOC=k   the k-th allocation is refused
  *   REFUSE_FROM=k    the k-th and each later one
  *   FAIL_READ=k      the k-th read answers EIO
- *   FAIL_WRITE=k     the k-th write to standard output answers EIO
- *   TAKE_NOTHING=k   the k-th write to standard output takes no byte
+ *   FAIL_WRITES=1    at each write to standard output a copy of the program goes on in which this write answers EIO
+ *   EMPTY_WRITES=1   likewise, in which this write takes no byte
  *   ONE_BYTE=1       each write to standard output takes one byte
  *   PIECE=n          each read gives at most n bytes
  *   NEWLINES=1       each read gives one newline, for ever
+ *
+ * A copy does well where it writes no more to standard output, frees all that was allocated, and ends with status 5.
  *
  * COUNTS names a file that is written when the program ends by itself: lines of a name and a number, in the order of
  * `tell_counts`. A run of more than two minutes is ended by a signal, which writes no such file.
@@ -21,7 +23,11 @@
 #include <stdio.h>
 #include <stdlib.h>
 #include <sys/syscall.h>
+#include <sys/wait.h>
 #include <unistd.h>
+
+#define MOST_SECONDS 120
+#define WRITE_FAULT 5
 
 extern void *__libc_malloc(size_t size);
 extern void *__libc_calloc(size_t count, size_t size);
@@ -29,8 +35,11 @@ extern void *__libc_realloc(void *block, size_t size);
 extern void *__libc_memalign(size_t alignment, size_t size);
 extern void __libc_free(void *block);
 
-static unsigned long refuse_alloc, refuse_from, fail_read, fail_write, take_nothing, one_byte, piece, newlines;
+static unsigned long refuse_alloc, refuse_from, fail_read, fail_writes, empty_writes, one_byte, piece, newlines;
 static unsigned long faults, allocations, blocks, bytes, most_bytes, reads, least_room, most_room, writes;
+static unsigned long copies, copies_well, first_wrong;
+/* Whether this process is a copy, and has written since. */
+static int is_copy, goes_on;
 
 static unsigned long setting(const char *name)
 {
@@ -43,12 +52,12 @@ __attribute__((constructor)) static void read_settings(void)
 	refuse_alloc = setting("REFUSE_ALLOC");
 	refuse_from = setting("REFUSE_FROM");
 	fail_read = setting("FAIL_READ");
-	fail_write = setting("FAIL_WRITE");
-	take_nothing = setting("TAKE_NOTHING");
+	fail_writes = setting("FAIL_WRITES");
+	empty_writes = setting("EMPTY_WRITES");
 	one_byte = setting("ONE_BYTE");
 	piece = setting("PIECE");
 	newlines = setting("NEWLINES");
-	alarm(120);
+	alarm(MOST_SECONDS);
 }
 
 /* ---- memory ---- */
@@ -141,19 +150,36 @@ ssize_t read(int file, void *room, size_t size)
 	return syscall(SYS_read, file, room, piece && piece < size ? piece : size);
 }
 
+/* Whether this process is the copy that goes on with a fault; the first one waits until that has ended. */
+static int copied(void)
+{
+	int status = 0, is_well;
+	pid_t copy = fork();
+	if (copy == 0) {
+		is_copy = 1;
+		alarm(MOST_SECONDS);
+		return 1;
+	}
+	is_well = copy > 0 && waitpid(copy, &status, 0) == copy && WIFEXITED(status) && WEXITSTATUS(status) == WRITE_FAULT;
+	copies++;
+	copies_well += is_well;
+	if (!is_well && !first_wrong)
+		first_wrong = copies;
+	return 0;
+}
+
 ssize_t write(int file, const void *data, size_t size)
 {
 	if (file != STDOUT_FILENO || size == 0)
 		return syscall(SYS_write, file, data, size);
-	writes++;
-	if (writes == fail_write) {
-		faults++;
-		errno = EIO;
-		return -1;
+	if (is_copy) {
+		goes_on = 1;
+		return size;
 	}
-	if (writes == take_nothing) {
-		faults++;
-		return 0;
+	writes++;
+	if ((fail_writes || empty_writes) && copied()) {
+		errno = EIO;
+		return fail_writes ? -1 : 0;
 	}
 	return syscall(SYS_write, file, data, one_byte ? 1 : size);
 }
@@ -166,13 +192,19 @@ __attribute__((destructor)) static void tell_counts(void)
 {
 	char text[400];
 	const char *path = getenv("COUNTS");
+	if (is_copy) {
+		if (goes_on || blocks)
+			_exit(1);
+		return;
+	}
 	long file = path ? syscall(SYS_openat, AT_FDCWD, path, O_WRONLY | O_CREAT | O_TRUNC, 0644) : -1;
 	if (file < 0)
 		return;
 	int size = snprintf(text, sizeof text,
 		"faults %lu\nallocations %lu\nblocks_left %lu\nbytes_left %lu\nmost_bytes %lu\nreads %lu\nleast_room %lu\n"
-		"most_room %lu\nwrites %lu\n",
-		faults, allocations, blocks, bytes, most_bytes, reads, least_room, most_room, writes);
+		"most_room %lu\nwrites %lu\ncopies %lu\ncopies_well %lu\nfirst_wrong %lu\n",
+		faults, allocations, blocks, bytes, most_bytes, reads, least_room, most_room, writes, copies, copies_well,
+		first_wrong);
 	syscall(SYS_write, file, text, size);
 	syscall(SYS_close, file);
 }

@@ -5,8 +5,6 @@ from runs import BAD_LINE, DONE, FAULT_TEXT, READ_FAULT, WRITE_FAULT, answered_l
 
 MOST_READS = 2**24
 READ_ROOM = 4096
-# The writes of a transcript that is longer fail at the ends of its lines alone.
-MOST_BYTE_BY_BYTE = 1000
 
 
 def reads_of(size, piece):
@@ -38,22 +36,12 @@ def fail_each_read(sweep, example):
 
 
 def fail_each_write(sweep, example, fault):
-    """The write k of one byte fails (or takes none), for each k: a front of the transcript was written."""
-    ends = [at + 1 for at, byte in enumerate(example.transcript) if byte == ord("\n")]
-    calls = range(1, len(example.transcript) + 1)
-    for call in calls if len(example.transcript) <= MOST_BYTE_BY_BYTE else ends:
-        ran = sweep.run(example.script, one_byte=1, **{fault: call})
-        told = example.transcript[: call - 1], WRITE_FAULT, FAULT_TEXT[WRITE_FAULT]
-        holds = ran.told() == told and ran.counts["faults"] == 1
-        sweep.claim(f"{example.name}: {fault} {call}", holds and ran.left_nothing())
-
-
-def fail_to_write(sweep, example):
-    fail_each_write(sweep, example, "fail_write")
-
-
-def take_no_byte(sweep, example):
-    fail_each_write(sweep, example, "take_nothing")
+    """Each write of one byte fails, or takes none: in the copy that goes on from there no more is written."""
+    ran, size = sweep.run(example.script, one_byte=1, **{fault: 1}), len(example.transcript)
+    told = example.transcript, example.status, FAULT_TEXT[WRITE_FAULT] * size + FAULT_TEXT[example.status]
+    copies, wrong = (ran.counts["copies"], ran.counts["copies_well"]), ran.counts["first_wrong"]
+    holds = ran.told() == told and copies == (size, size) and ran.left_nothing()
+    sweep.claim(f"{example.name}: {fault}, first at byte {wrong}", holds)
 
 
 def answer_each_line_at_once(sweep, example):

@@ -18,11 +18,11 @@ def trials(examples):
     yield "deaf", memory.refuse_each_allocation, empty
     yield "deaf", memory.refuse_each_allocation, one_get
     yield "deaf", streams.fail_each_read, empty
-    yield "deaf", streams.fail_to_write, one_get
-    yield "deaf", streams.take_no_byte, one_get
+    yield "deaf", streams.fail_each_write, one_get, "fail_writes"
+    yield "deaf", streams.fail_each_write, one_get, "empty_writes"
     yield "blind", memory.refuse_each_allocation, empty
     yield "blind", streams.fail_each_read, empty
-    yield "blind", streams.fail_to_write, one_get
+    yield "blind", streams.fail_each_write, one_get, "fail_writes"
     yield "blind", streams.read_in_pieces, empty
     yield "confused", memory.refuse_each_allocation, one_get
     yield "leaks", streams.read_in_pieces, one_get
