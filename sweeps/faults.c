@@ -1,31 +1,45 @@
 /*
- * Faults for a program under test, by LD_PRELOAD. Each variable of the environment, where it is set, names the call at
- * which the fault comes, counted from 1:
+ * Faults for a program under test, by LD_PRELOAD, and a count of what it does. Variables of the environment name the
+ * faults; calls are counted from 1:
  *
- *   REFUSE_ALLOC=k   the k-th malloc, calloc or realloc answers that there is no memory
+ *   REFUSE_ALLOC=k   the k-th allocation is refused
+ *   REFUSE_FROM=k    the k-th and each later one
  *   FAIL_READ=k      the k-th read answers EIO
- *   FAIL_WRITE=k     the k-th write to standard output answers EIO
- *   TAKE_NOTHING=k   the k-th write to standard output takes no byte
+ *   FAIL_WRITES=1    at each write to standard output a copy of the program goes on in which this write answers EIO
+ *   EMPTY_WRITES=1   likewise, in which this write takes no byte
  *   ONE_BYTE=1       each write to standard output takes one byte
  *   PIECE=n          each read gives at most n bytes
- *   COUNT_READS=1    a line on standard error at the end: how many reads, and the least and the most room offered
  *   NEWLINES=1       each read gives one newline, for ever
  *
- * FAULT_NOTE names a file that is made when the fault comes, so that a sweep knows when it has met them all.
+ * A copy does well where it writes no more to standard output, frees all that was allocated, and ends with status 5.
+ *
+ * COUNTS names a file that is written when the program ends by itself: lines of a name and a number, in the order of
+ * `tell_counts`. A run of more than two minutes is ended by a signal, which writes no such file.
  */
 #define _GNU_SOURCE
 #include <errno.h>
 #include <fcntl.h>
+#include <malloc.h>
 #include <stdio.h>
 #include <stdlib.h>
 #include <sys/syscall.h>
+#include <sys/wait.h>
 #include <unistd.h>
+
+#define MOST_SECONDS 120
+#define WRITE_FAULT 5
 
 extern void *__libc_malloc(size_t size);
 extern void *__libc_calloc(size_t count, size_t size);
 extern void *__libc_realloc(void *block, size_t size);
+extern void *__libc_memalign(size_t alignment, size_t size);
+extern void __libc_free(void *block);
 
-static unsigned long allocations, reads, writes, least_room, most_room;
+static unsigned long refuse_alloc, refuse_from, fail_read, fail_writes, empty_writes, one_byte, piece, newlines;
+static unsigned long faults, allocations, blocks, bytes, most_bytes, reads, least_room, most_room, writes;
+static unsigned long copies, copies_well, first_wrong;
+/* Whether this process is a copy, and has written since. */
+static int is_copy, goes_on;
 
 static unsigned long setting(const char *name)
 {
@@ -33,35 +47,90 @@ static unsigned long setting(const char *name)
 	return text ? strtoul(text, NULL, 10) : 0;
 }
 
-/* Whether the fault NAME comes at call number `now`. */
-static int comes(const char *name, unsigned long now)
+__attribute__((constructor)) static void read_settings(void)
 {
-	const char *note = getenv("FAULT_NOTE");
-	if (setting(name) != now)
-		return 0;
-	if (note) {
-		long file = syscall(SYS_openat, AT_FDCWD, note, O_WRONLY | O_CREAT, 0644);
-		if (file >= 0)
-			syscall(SYS_close, file);
-	}
-	return 1;
+	refuse_alloc = setting("REFUSE_ALLOC");
+	refuse_from = setting("REFUSE_FROM");
+	fail_read = setting("FAIL_READ");
+	fail_writes = setting("FAIL_WRITES");
+	empty_writes = setting("EMPTY_WRITES");
+	one_byte = setting("ONE_BYTE");
+	piece = setting("PIECE");
+	newlines = setting("NEWLINES");
+	alarm(MOST_SECONDS);
 }
+
+/* ---- memory ---- */
 
 static int refused(void)
 {
-	if (!comes("REFUSE_ALLOC", ++allocations))
+	allocations++;
+	if (allocations != refuse_alloc && (!refuse_from || allocations < refuse_from))
 		return 0;
+	faults++;
 	errno = ENOMEM;
 	return 1;
 }
 
-void *malloc(size_t size) { return refused() ? NULL : __libc_malloc(size); }
-void *calloc(size_t count, size_t size) { return refused() ? NULL : __libc_calloc(count, size); }
-void *realloc(void *block, size_t size) { return refused() ? NULL : __libc_realloc(block, size); }
+/* A block that was given, or NULL. */
+static void *given(void *block)
+{
+	if (block) {
+		blocks++;
+		bytes += malloc_usable_size(block);
+		if (bytes > most_bytes)
+			most_bytes = bytes;
+	}
+	return block;
+}
+
+static void taken_back(void *block)
+{
+	if (block) {
+		blocks--;
+		bytes -= malloc_usable_size(block);
+	}
+}
+
+void *malloc(size_t size) { return refused() ? NULL : given(__libc_malloc(size)); }
+void *calloc(size_t count, size_t size) { return refused() ? NULL : given(__libc_calloc(count, size)); }
+void *memalign(size_t alignment, size_t size) { return refused() ? NULL : given(__libc_memalign(alignment, size)); }
+void *aligned_alloc(size_t alignment, size_t size) { return memalign(alignment, size); }
+
+int posix_memalign(void **block, size_t alignment, size_t size)
+{
+	void *made = memalign(alignment, size);
+	if (!made)
+		return ENOMEM;
+	*block = made;
+	return 0;
+}
+
+void *realloc(void *block, size_t size)
+{
+	void *moved;
+	size_t before = block ? malloc_usable_size(block) : 0;
+	if (refused())
+		return NULL;
+	moved = __libc_realloc(block, size);
+	if (moved || !size) {
+		blocks -= block != NULL;
+		bytes -= before;
+		given(moved);
+	}
+	return moved;
+}
+
+void free(void *block)
+{
+	taken_back(block);
+	__libc_free(block);
+}
+
+/* ---- reads and writes ---- */
 
 ssize_t read(int file, void *room, size_t size)
 {
-	unsigned long piece = setting("PIECE");
 	if (file != STDIN_FILENO)
 		return syscall(SYS_read, file, room, size);
 	reads++;
@@ -69,38 +138,73 @@ ssize_t read(int file, void *room, size_t size)
 		least_room = size;
 	if (size > most_room)
 		most_room = size;
-	if (comes("FAIL_READ", reads)) {
+	if (reads == fail_read) {
+		faults++;
 		errno = EIO;
 		return -1;
 	}
-	if (setting("NEWLINES") && size > 0) {
+	if (newlines && size > 0) {
 		*(char *)room = '\n';
 		return 1;
 	}
 	return syscall(SYS_read, file, room, piece && piece < size ? piece : size);
 }
 
-ssize_t write(int file, const void *bytes, size_t size)
+/* Whether this process is the copy that goes on with a fault; the first one waits until that has ended. */
+static int copied(void)
 {
-	if (file != STDOUT_FILENO || size == 0)
-		return syscall(SYS_write, file, bytes, size);
-	writes++;
-	if (comes("FAIL_WRITE", writes)) {
-		errno = EIO;
-		return -1;
+	int status = 0, is_well;
+	pid_t copy = fork();
+	if (copy == 0) {
+		is_copy = 1;
+		alarm(MOST_SECONDS);
+		return 1;
 	}
-	if (comes("TAKE_NOTHING", writes))
-		return 0;
-	return syscall(SYS_write, file, bytes, setting("ONE_BYTE") ? 1 : size);
+	is_well = copy > 0 && waitpid(copy, &status, 0) == copy && WIFEXITED(status) && WEXITSTATUS(status) == WRITE_FAULT;
+	copies++;
+	copies_well += is_well;
+	if (!is_well && !first_wrong)
+		first_wrong = copies;
+	return 0;
 }
 
-ssize_t __write(int file, const void *bytes, size_t size) { return write(file, bytes, size); }
-
-__attribute__((destructor)) static void tell_reads(void)
+ssize_t write(int file, const void *data, size_t size)
 {
-	char text[96];
-	if (setting("COUNT_READS")) {
-		int size = snprintf(text, sizeof text, "reads %lu room %lu to %lu\n", reads, least_room, most_room);
-		syscall(SYS_write, STDERR_FILENO, text, size);
+	if (file != STDOUT_FILENO || size == 0)
+		return syscall(SYS_write, file, data, size);
+	if (is_copy) {
+		goes_on = 1;
+		return size;
 	}
+	writes++;
+	if ((fail_writes || empty_writes) && copied()) {
+		errno = EIO;
+		return fail_writes ? -1 : 0;
+	}
+	return syscall(SYS_write, file, data, one_byte ? 1 : size);
+}
+
+ssize_t __write(int file, const void *data, size_t size) { return write(file, data, size); }
+
+/* ---- the end ---- */
+
+__attribute__((destructor)) static void tell_counts(void)
+{
+	char text[400];
+	const char *path = getenv("COUNTS");
+	if (is_copy) {
+		if (goes_on || blocks)
+			_exit(1);
+		return;
+	}
+	long file = path ? syscall(SYS_openat, AT_FDCWD, path, O_WRONLY | O_CREAT | O_TRUNC, 0644) : -1;
+	if (file < 0)
+		return;
+	int size = snprintf(text, sizeof text,
+		"faults %lu\nallocations %lu\nblocks_left %lu\nbytes_left %lu\nmost_bytes %lu\nreads %lu\nleast_room %lu\n"
+		"most_room %lu\nwrites %lu\ncopies %lu\ncopies_well %lu\nfirst_wrong %lu\n",
+		faults, allocations, blocks, bytes, most_bytes, reads, least_room, most_room, writes, copies, copies_well,
+		first_wrong);
+	syscall(SYS_write, file, text, size);
+	syscall(SYS_close, file);
 }

@@ -1,4 +1,4 @@
--- The transcript of a script, computed by the definitions.
+-- The transcript of examples/lock.routes, computed by the definitions. Made by examples/derived.
 use Rattle.std.proofs.Common.{◌≡◌, ℕ, List, ◌++◌, codes, refl}
 use Rattle.std.specs.Fmt.{digits}
 use Rattle.hex.proofs.OnLiterals.{hex_on_literals}
@@ -9,7 +9,8 @@ use Rattle.event_file.specs.Transcript.{transcript_of}
 
 abbrev script : List ℕ
 script =
-    codes "if le0 broadcast 6 080020010203\n"
+    codes "# A LOCK is refused 45, as each type but GET is today.\n"
+    ++ codes "if le0 broadcast 6 080020010203\n"
     ++ codes "open a 100 any\n"
     ++ codes "addr le0 10.0.0.1/8 cloning\n"
     ++ codes "write a 005c0308000000000000000000000001000000000000000100000000000000000000000000000000000000000000000000000000000000000000000000000000000000000000000000000000100200000a0000000000000000000000\n"

@@ -1,4 +1,4 @@
--- Lines that the grammar doesn't have are answered `bad`: the transcript, computed by the definitions.
+-- The transcript of examples/other-addresses.routes, computed by the definitions. Made by examples/derived.
 use Rattle.std.proofs.Common.{◌≡◌, ℕ, List, ◌++◌, codes, refl}
 use Rattle.std.specs.Fmt.{digits}
 use Rattle.hex.proofs.OnLiterals.{hex_on_literals}
@@ -9,7 +9,8 @@ use Rattle.event_file.specs.Transcript.{transcript_of}
 
 abbrev script : List ℕ
 script =
-    codes "if le0 broadcast 6 080020010203\n"
+    codes "# No line of today redirects a route or takes an address away: each is `bad`.\n"
+    ++ codes "if le0 broadcast 6 080020010203\n"
     ++ codes "open a 100 any\n"
     ++ codes "addr le0 10.0.0.1/8 cloning\n"
     ++ codes "redirect 1.1.1.1 2.2.2.2 3.3.3.3\n"

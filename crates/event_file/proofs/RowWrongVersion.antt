@@ -1,4 +1,4 @@
--- The transcript of a script, computed by the definitions.
+-- The transcript of examples/wrong-version.routes, computed by the definitions. Made by examples/derived.
 use Rattle.std.proofs.Common.{◌≡◌, ℕ, List, ◌++◌, codes, refl}
 use Rattle.std.specs.Fmt.{digits}
 use Rattle.hex.proofs.OnLiterals.{hex_on_literals}
@@ -9,7 +9,8 @@ use Rattle.event_file.specs.Transcript.{transcript_of}
 
 abbrev script : List ℕ
 script =
-    codes "if le0 broadcast 6 080020010203\n"
+    codes "# A message of another version is echoed with errno 43 and the pid that it was written with.\n"
+    ++ codes "if le0 broadcast 6 080020010203\n"
     ++ codes "open a 100 any\n"
     ++ codes "addr le0 10.0.0.1/8 cloning\n"
     ++ codes "write a 004c0404000000000000000000000000000000070000000000000000000000000000000000000000000000000000000000000000000000000000000000000000000000000000000000000000\n"

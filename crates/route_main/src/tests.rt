@@ -3,5 +3,4 @@
 mod answers;
 mod counting;
 mod fakes;
-mod rows;
 mod runs;

@@ -2,8 +2,7 @@
 ghost use Rattle.std.specs.Prelude.{◌<◌};
 
 use super::fakes::{FakeReader, FakeWriter, Fault};
-use super::rows::ROWS;
-use crate::run::{Outcome, run, status};
+use crate::run::{Outcome, run};
 use event_file::Counted;
 use std::alloc::Global;
 use std::test::Fail;
@@ -51,107 +50,12 @@ fn pieces_of_a_script_change_nothing(rt: HostRuntime) {
 }
 
 #[test]
-fn an_empty_script_is_done(rt: HostRuntime) {
-    let (outcome, writer) = answered(rt.alloc(), b"", 4096, NEVER);
-    assert_eq!(rt; outcome, Outcome::Done);
-    assert_eq!(rt; writer.bytes.as_slice(), b"".as_slice());
-}
-
-#[test]
-fn worked_scripts_give_their_transcripts(rt: HostRuntime) {
-    for row in &ROWS {
-        for (outcome, writer) in [
-            answered(rt.alloc(), row.script, 1, NEVER),
-            answered(rt.alloc(), row.script, 7, NEVER),
-            answered(rt.alloc(), row.script, 4096, NEVER),
-        ] {
-            assert_eq!(rt; writer.bytes.as_slice(), row.transcript, "{}", row.name);
-            assert_eq!(rt; status(outcome), row.status, "{}", row.name);
-        }
-    }
-}
-
-/// One interface with one address, and a socket that hears what comes then.
-const START: &str =
-    "if le0 broadcast 6 080020010203\naddr le0 10.0.0.1/8 cloning\nopen a 100 any\n";
-
-/// A GET of 10.9.9.9.
-const GET: [u8; 92] = [
-    0, 92, 3, 4, 0, 0, 0, 0, 0, 0, 0, 0, 0, 0, 0, 1, 0, 0, 0, 0, 0, 0, 0, 1, 0, 0, 0, 0, 0, 0, 0,
-    0, 0, 0, 0, 0, 0, 0, 0, 0, 0, 0, 0, 0, 0, 0, 0, 0, 0, 0, 0, 0, 0, 0, 0, 0, 0, 0, 0, 0, 0, 0, 0,
-    0, 0, 0, 0, 0, 0, 0, 0, 0, 0, 0, 0, 0, 16, 2, 0, 0, 10, 9, 9, 9, 0, 0, 0, 0, 0, 0, 0, 0,
-];
-
-/// The front of the GET with another low byte in its length field, and what the socket hears of it: the same bytes with the
-/// writer's pid and errno 22, where the length is right and the header whole.
-fn cut(alloc: Global, length: usize, low: u8) -> Result<(String, String), Fail> {
-    let mut bytes = Vec::from_slice(alloc, GET.get(..length).unwrap_or(&GET))?;
-    if bytes.len() > 1 {
-        bytes[1] = low;
-    }
-    let written = if bytes.is_empty() {
-        "-".to_string(alloc)?
-    } else {
-        hex::encode(alloc, bytes.as_slice())?
-    };
-    if bytes.len() < 76 || bytes.len() != usize::from(low) {
-        return Ok((written, String::new(alloc)));
-    }
-    bytes[19] = 100;
-    bytes[27] = 22;
-    let heard = hex::encode(alloc, bytes.as_slice())?;
-    Ok((written, format!(in alloc; "msg {heard}\n")?))
-}
-
-#[test]
-fn a_get_that_is_cut_short_is_refused(rt: HostRuntime) -> Result<(), Fail> {
-    for length in 0..92u8 {
-        for low in [92, length] {
-            let (written, heard) = cut(rt.alloc(), usize::from(length), low)?;
-            let script = format!(in rt.alloc(); "{START}write a {written}\nread a\n")?;
-            let transcript = format!(in rt.alloc(); "ok\nok\nok\nerr 22\n{heard}ok\n")?;
-            let (_, writer) = answered(rt.alloc(), script.as_str().as_bytes(), 4096, NEVER);
-            assert_eq!(rt;
-                writer.bytes.as_slice(),
-                transcript.as_str().as_bytes(),
-                "{length} {low}"
-            );
-        }
-    }
-    Ok(())
-}
-
-#[test]
 fn a_line_that_was_not_read_to_its_end_is_not_answered(rt: HostRuntime) {
     let script =
         "if le0 broadcast 6 080020010203\nopen a 100 any\naddr le0 10.0.0.1/8 cloning\nread";
     let (outcome, writer) = answered(rt.alloc(), script.as_bytes(), 4096, 2);
     assert_eq!(rt; outcome, Outcome::ReadFault);
     assert_eq!(rt; writer.bytes.as_slice(), b"ok\nok\nok\n".as_slice());
-}
-
-#[test]
-fn a_line_of_16500_bytes_is_read(rt: HostRuntime) -> Result<(), Fail> {
-    for (digits, transcript) in [(16_492, "err 40\n"), (16_493, "bad\n")] {
-        let mut script = Vec::from_slice(rt.alloc(), b"open a 1 any\nwrite a ")?;
-        let zeros = vec![in rt.alloc(); b'0'; digits]?;
-        script.extend_from_slice(&zeros)?;
-        script.push(b'\n')?;
-        let (_, writer) = answered(rt.alloc(), &script, 4096, NEVER);
-        let (_, behind) = writer.bytes.split_at(writer.bytes.len().min(3));
-        assert_eq!(rt; behind, transcript.as_bytes(), "{digits}");
-    }
-    Ok(())
-}
-
-#[test]
-fn a_comment_that_is_too_long_is_malformed(rt: HostRuntime) -> Result<(), Fail> {
-    for (length, transcript) in [(16_500, ""), (16_501, "bad\n")] {
-        let comment = vec![in rt.alloc(); b'#'; length]?;
-        let (_, writer) = answered(rt.alloc(), &comment, 4096, NEVER);
-        assert_eq!(rt; writer.bytes.as_slice(), transcript.as_bytes(), "{length}");
-    }
-    Ok(())
 }
 
 #[test]
