@@ -10,7 +10,7 @@ from typing import Callable
 from messages import ADDRESSES, PREFIXES, any_link, any_message
 from runs import MOST_LINE
 
-ON = {"first"}
+ON = {"first", "kinds", "listeners"}
 
 
 @dataclass(frozen=True)

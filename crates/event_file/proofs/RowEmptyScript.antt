@@ -2,7 +2,7 @@
 use Rattle.std.proofs.Common.{◌≡◌, ℕ, List, [], refl}
 use Rattle.std.specs.Fmt.{digits}
 use Rattle.hex.proofs.OnLiterals.{hex_on_literals}
-use Rattle.route_core.specs.Step.{stepped}
+use Rattle.route_core.specs.Step.{effect}
 use Rattle.route_msgs.specs.Layout.{number_at, with_field}
 use Rattle.route_msgs.specs.Slots.{offset_of}
 use Rattle.event_file.specs.Transcript.{transcript_of}
@@ -16,5 +16,5 @@ transcript =
     []
 
 pub empty_script : transcript_of script ≡ transcript
-unfolding digits hex_on_literals stepped number_at with_field offset_of
+unfolding digits hex_on_literals effect number_at with_field offset_of
 empty_script = refl

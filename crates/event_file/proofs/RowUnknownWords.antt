@@ -2,7 +2,7 @@
 use Rattle.std.proofs.Common.{◌≡◌, ℕ, List, ◌++◌, codes, refl}
 use Rattle.std.specs.Fmt.{digits}
 use Rattle.hex.proofs.OnLiterals.{hex_on_literals}
-use Rattle.route_core.specs.Step.{stepped}
+use Rattle.route_core.specs.Step.{effect}
 use Rattle.route_msgs.specs.Layout.{number_at, with_field}
 use Rattle.route_msgs.specs.Slots.{offset_of}
 use Rattle.event_file.specs.Transcript.{transcript_of}
@@ -25,5 +25,5 @@ transcript =
     ++ codes "bad\n"
 
 pub unknown_words : transcript_of script ≡ transcript
-unfolding digits hex_on_literals stepped number_at with_field offset_of
+unfolding digits hex_on_literals effect number_at with_field offset_of
 unknown_words = refl

@@ -21,4 +21,4 @@ pub use if_addrs::{Kind, LinkAddress};
 pub use listeners::first_message;
 pub use route::Route;
 pub use world::World;
-pub use written::{Lent, Written};
+pub use written::{Lent, MOST_WRITTEN, Written};

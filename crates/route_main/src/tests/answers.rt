@@ -19,7 +19,7 @@ const TWO_TEXT: &str =
 /// The answer of a read of `TWO`.
 fn two(alloc: Global) -> Result<Result<Answer, Bad>, AllocError> {
     let bytes = Vec::from_slice(alloc, &TWO)?;
-    Ok(Ok(Answer::Messages(Received::new(bytes))))
+    Ok(Ok(Answer::Messages(Received::new(bytes), None)))
 }
 
 /// Writes an answer at most `most` bytes a call, with a fault at the call `fault_at`: what was taken, and the outcome.
