@@ -14,8 +14,8 @@ use Rattle.hex.specs.Hex.{IsBytes, decode_of, encode_lower, is_hex_digit, lower_
 use Rattle.hex.proofs.HexLemmas.{IsDigits-lower_digits, decode_of-encode_lower, decode_pairs-encode_with, decode_pairs-ok, length-encode_with}
 use Rattle.if_addrs.specs.declared.kind.Kind.{Kind}
 use Rattle.if_addrs.specs.declared.kind.Kind.TheVariants.{Broadcast, Loopback as LoopbackKind, PointToPoint}
-use Rattle.event_file.specs.Grammar.{cloning_of, inet_if_written, interface_kind_of, protocol_of, switch_of}
-use Rattle.event_file.specs.Words.{bytes_to, inet_of, inet_of_parts, is_name_byte, name_of, number_to, option_written, parted_by, words_behind}
+use Rattle.event_file.specs.Grammar.{cloning_of, inet_if_written}
+use Rattle.event_file.specs.Words.{bytes_to, inet_of, inet_of_parts, interface_kind_of, is_name_byte, name_of, number_to, option_written, parted_by, protocol_of, switch_of, words_behind}
 use Rattle.event_file.specs.Printed.{IsName, bytes_word, cloning_words, far_words, inet_word, kind_word, network_word, protocol_word, switch_word}
 use Rattle.event_file.proofs.Decimals.{printed_read}
 use Rattle.event_file.proofs.Joined.{AllLack, Lacks, Lacks-digits, Lacks-joined, Lacks-tested, parted-joined, room_of}

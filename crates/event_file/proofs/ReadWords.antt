@@ -14,10 +14,10 @@ use Rattle.hex.proofs.HexLemmas.{decode_of-ok}
 use Rattle.route_core.specs.Commands.{Command}
 use Rattle.route_core.specs.declared.command.Command.TheVariants.{Attach, AddAddress, Open, Close, Loopback, Write, Read}
 use Rattle.route_core.specs.declared.written.TheConstants.{MOST_WRITTEN}
-use Rattle.event_file.specs.Grammar.{Form, add_address_form, address_of_parts, attach_form, by_forms, cloning_of, close_form, forms, inet_if_written, interface_kind_of, loopback_form, most_link_bytes, open_form, protocol_number_of, protocol_of, read_form, said_by, switch_of, write_form}
+use Rattle.event_file.specs.Grammar.{Form, add_address_form, address_of_parts, attach_form, by_forms, cloning_of, close_form, forms, inet_if_written, loopback_form, most_link_bytes, open_form, read_form, said_by, write_form}
 use Rattle.event_file.specs.Lines.{most_line_bytes}
 use Rattle.event_file.specs.Printed.{IsWithinBounds, IsName}
-use Rattle.event_file.specs.Words.{◌>>=◌, bytes_to, decoded, inet_of, inet_of_parts, name_of, number_to, option_written, parted_by, words_behind}
+use Rattle.event_file.specs.Words.{◌>>=◌, bytes_to, decoded, inet_of, inet_of_parts, interface_kind_of, name_of, number_to, option_written, parted_by, protocol_number_of, protocol_of, switch_of, words_behind}
 
 -- the value that the second step had
 bind_some : {A B : Type 0} (o : Option A) (f : A → Option B) (y : B) → (o >>= f) ≡ Some y → (x : A) × (o ≡ Some x) × (f x ≡ Some y)

@@ -32,4 +32,5 @@ response_text (Err bad) = codes "bad\n"
 
 -- every response's text ends in a newline
 abbrev pub ResponsesEndInANewline : Type 0
-ResponsesEndInANewline = (response : Result Answer Bad) → (front : List ℕ) × (response_text response ≡ front ++ codes "\n")
+ResponsesEndInANewline =
+    (response : Result Answer Bad) → (front : List ℕ) × (response_text response ≡ front ++ codes "\n")

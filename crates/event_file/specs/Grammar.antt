@@ -1,10 +1,8 @@
 -- The lines of a script: which command each says, if any.
 use Prim.Native.String.{String}
-use Rattle.std.specs.Prelude.{ℕ, ◌==◌, nat_lt, Bool, true, false, if◌then◌else◌, List, [], ◌∷◌, length, codes, bytes_eq, Option, Some, None}
+use Rattle.std.specs.Prelude.{ℕ, nat_lt, Bool, true, false, if◌then◌else◌, List, [], ◌∷◌, length, codes, bytes_eq, Option, Some, None}
 use Rattle.event_file.specs.Lines.{most_line_bytes}
-use Rattle.event_file.specs.Words.{◌>>=◌, parted_by, name_of, number_to, bytes_to, inet_of, option_written, words_behind, if_written}
-use Rattle.if_addrs.specs.declared.kind.Kind.{Kind}
-use Rattle.if_addrs.specs.declared.kind.Kind.TheVariants.{Broadcast, Loopback as LoopbackKind, PointToPoint}
+use Rattle.event_file.specs.Words.{◌>>=◌, parted_by, name_of, number_to, bytes_to, inet_of, interface_kind_of, protocol_of, switch_of, option_written, words_behind, if_written}
 use Rattle.route_core.specs.Commands.{Command}
 use Rattle.route_core.specs.declared.command.Command.TheVariants.{Attach, AddAddress, Open, Close, Loopback, Write, Read}
 use Rattle.route_core.specs.declared.written.TheConstants.{MOST_WRITTEN}
@@ -12,14 +10,6 @@ use Rattle.route_core.specs.declared.written.TheConstants.{MOST_WRITTEN}
 -- a link-layer address has at most 8 bytes
 abbrev pub most_link_bytes : ℕ
 most_link_bytes = 8
-
--- the kind of an interface
-abbrev pub interface_kind_of : List ℕ → Option Kind
-interface_kind_of word =
-    if bytes_eq word (codes "broadcast") then Some Broadcast
-    else if bytes_eq word (codes "loopback") then Some LoopbackKind
-    else if bytes_eq word (codes "ptp") then Some PointToPoint
-    else None
 
 -- `NAME KIND T HEX`, behind `if`
 abbrev pub attach_form : List (List ℕ) → Option Command
@@ -58,16 +48,6 @@ add_address_form (name ∷ address ∷ options) = do
   address_of_parts name (parted_by 47 address) cloning far
 add_address_form words = None
 
--- the number of a protocol, from 1 on
-abbrev pub protocol_number_of : List ℕ → Option ℕ
-protocol_number_of word = do
-  number ← number_to 255 word
-  if number == 0 then None else Some number
-
--- a protocol: `any`, which is 0, or a number
-abbrev pub protocol_of : List ℕ → Option ℕ
-protocol_of word = if bytes_eq word (codes "any") then Some 0 else protocol_number_of word
-
 -- `ID PID PROTOCOL`, behind `open`
 abbrev pub open_form : List (List ℕ) → Option Command
 open_form (id ∷ pid ∷ protocol ∷ []) = do
@@ -76,13 +56,6 @@ open_form (id ∷ pid ∷ protocol ∷ []) = do
   protocol ← protocol_of protocol
   Some (Open id pid protocol)
 open_form words = None
-
--- `on` or `off`
-abbrev pub switch_of : List ℕ → Option Bool
-switch_of word =
-    if bytes_eq word (codes "on") then Some true
-    else if bytes_eq word (codes "off") then Some false
-    else None
 
 -- `ID on` and `ID off`, behind `loopback`
 abbrev pub loopback_form : List (List ℕ) → Option Command

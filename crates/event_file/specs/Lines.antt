@@ -102,8 +102,8 @@ abbrev pub LastLineIsRead : Type 0
 LastLineIsRead = (lines : List (List ℕ)) (last : List ℕ) → AreLines lines → has_newline last ≡ false → last ≢ []
     → lines_of (with_newlines lines ++ last) ≡ lines ++ last ∷ []
 
--- each script is its lines again: no line has a newline, and with a newline behind each they are the script, or the script
--- with a newline at its end
+-- each script is its lines again: no line has a newline, and with a newline behind each they are the script, or the
+-- script with a newline at its end
 abbrev pub ScriptIsItsLines : Type 0
 ScriptIsItsLines = (script : List ℕ) → AreLines (lines_of script)
     × ((with_newlines (lines_of script) ≡ script) ⊎ (with_newlines (lines_of script) ≡ script ++ 10 ∷ []))

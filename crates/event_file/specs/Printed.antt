@@ -70,8 +70,8 @@ line_of command = join_with_byte 32 (words_of command)
 abbrev pub IsName : List ℕ → Type 0
 IsName name = (1 ≤ length name) × (length name ≤ 8) × (list_all is_name_byte name ≡ true)
 
--- names, numbers in their ranges and at most so many bytes; and a write of no more bytes than a line has room for behind
--- `write ID `
+-- names, numbers in their ranges and at most so many bytes; and a write of no more bytes than a line has room for
+-- behind `write ID `
 abbrev pub IsWithinBounds : Command → Type 0
 IsWithinBounds (Attach name kind type_number link) =
     IsName name × (type_number ≤ 255) × (length link ≤ most_link_bytes) × IsBytes link

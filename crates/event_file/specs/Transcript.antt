@@ -22,7 +22,8 @@ command_in (Some line) = command_of line
 -- a line may be answered so in the old world, and the world is then the new one: a command by a step, and a malformed
 -- line by `bad`, in a world that stays
 abbrev pub Responds : World → Option (List ℕ) → Result Answer Bad → World → Type 0
-Responds old line (Ok answer) new = (command : Command) × (command_in line ≡ Some command) × Steps old command answer new
+Responds old line (Ok answer) new =
+    (command : Command) × (command_in line ≡ Some command) × Steps old command answer new
 Responds old line (Err bad) new = (command_in line ≡ None) × (new ≡ old)
 
 -- ---- lines, one after another
@@ -51,7 +52,8 @@ pub record Turn : Type 0 where
 
 abbrev pub turn_by : World → Option Command → Turn
 turn_by world None = record { response = Err (record {}); world = world }
-turn_by world (Some command) = record { response = Ok (stepped world command).answer; world = (stepped world command).world }
+turn_by world (Some command) =
+    let after = stepped world command in record { response = Ok after.answer; world = after.world }
 
 -- the text of a turn, and then the text from its world on
 abbrev pub text_from : Turn → (World → List ℕ) → List ℕ
@@ -68,13 +70,14 @@ transcript_of script = transcript_from (answered_lines script) empty_world
 abbrev pub ComputedIsTranscript : Type 0
 ComputedIsTranscript = (script : List ℕ) → IsTranscript script (transcript_of script)
 
--- and the only one where memory is never refused: any other answer to a line is the computed one, and so is the world after it
+-- and the only one where memory is never refused: any other answer to a line is the computed one, and so is the world
+-- after it
 abbrev pub ResponseIsComputed : Type 0
-ResponseIsComputed = (old : World) → (line : Option (List ℕ)) → (response : Result Answer Bad) → (next : World) → Responds old line response next
-    → response ≢ Ok (Refused ENOBUFS)
+ResponseIsComputed = (old : World) → (line : Option (List ℕ)) → (response : Result Answer Bad) → (next : World)
+    → Responds old line response next → response ≢ Ok (Refused ENOBUFS)
     → (response ≡ (turn_by old (command_in line)).response) × (next ≡ (turn_by old (command_in line)).world)
 
 -- so a transcript in which no line says that memory was refused is the computed one
 abbrev pub TranscriptIsComputed : Type 0
-TranscriptIsComputed = (script text : List ℕ) → IsTranscript script text → All (λ line. line ≢ codes "err 55") (lines_of text)
-    → text ≡ transcript_of script
+TranscriptIsComputed = (script text : List ℕ) → IsTranscript script text
+    → All (λ line. line ≢ codes "err 55") (lines_of text) → text ≡ transcript_of script

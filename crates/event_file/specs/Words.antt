@@ -1,11 +1,13 @@
--- What a word of a script says: a name, a number, bytes or an address, and None where it is no such word.
-use Rattle.std.specs.Prelude.{ℕ, ◌-◌, ◌/◌, ◌==◌, ◌&&◌, ◌||◌, nat_le, Bool, if◌then◌else◌, List, [], ◌∷◌, ◌++◌, length, replicate, slice_index, codes, bytes_eq, decimal, Option, Some, None, option_map, Result, Ok, Err}
+-- What a word of a script says: a name, a number, bytes, an address or a choice, and None where it is no such word.
+use Rattle.std.specs.Prelude.{ℕ, ◌-◌, ◌/◌, ◌==◌, ◌&&◌, ◌||◌, nat_le, Bool, true, false, if◌then◌else◌, List, [], ◌∷◌, ◌++◌, length, replicate, slice_index, codes, bytes_eq, decimal, Option, Some, None, option_map, Result, Ok, Err}
 use Rattle.std.specs.Char.{is_ascii_lowercase, is_ascii_digit}
 use Rattle.std.specs.Int.{w32, from_be_bytes}
 use Rattle.std.specs.List.{list_all, slice_split}
 use Rattle.std.specs.Str.Parse.{digits_value}
 use Rattle.hex.specs.Hex.{decode_of}
 use Rattle.hex.specs.declared.error.FromHexError.{FromHexError}
+use Rattle.if_addrs.specs.declared.kind.Kind.{Kind}
+use Rattle.if_addrs.specs.declared.kind.Kind.TheVariants.{Broadcast, Loopback, PointToPoint}
 use Rattle.sock_addrs.specs.declared.families.TheConstants.{AF_LINK}
 use Rattle.sock_addrs.specs.declared.gate.Gate.{Gate}
 use Rattle.sock_addrs.specs.declared.gate.Gate.TheVariants as gate
@@ -26,7 +28,8 @@ is_name_byte b = is_ascii_lowercase b || is_ascii_digit b
 
 -- 1 to 8 letters and digits
 abbrev pub name_of : List ℕ → Option (List ℕ)
-name_of word = if nat_le 1 (length word) && nat_le (length word) 8 && list_all is_name_byte word then Some word else None
+name_of word =
+    if nat_le 1 (length word) && nat_le (length word) 8 && list_all is_name_byte word then Some word else None
 
 -- a decimal up to this number, as it is printed: without leading zeros
 abbrev pub number_to : ℕ → List ℕ → Option ℕ
@@ -69,7 +72,8 @@ hex_number_of word =
 -- the bytes of a link-layer address: 8 to 32 of them, the first their number and the second its family
 abbrev pub is_link_sockaddr : List ℕ → Bool
 is_link_sockaddr bytes =
-    nat_le 8 (length bytes) && nat_le (length bytes) 32 && slice_index bytes 0 == length bytes && slice_index bytes 1 == AF_LINK
+    nat_le 8 (length bytes) && nat_le (length bytes) 32
+    && slice_index bytes 0 == length bytes && slice_index bytes 1 == AF_LINK
 
 abbrev pub link_of_bytes : List ℕ → Option (List ℕ)
 link_of_bytes bytes = if is_link_sockaddr bytes then Some bytes else None
@@ -83,11 +87,37 @@ link_of word = do
 -- a gateway, by the parts around its colon: an IPv4 address, or `link:` and a link-layer address
 abbrev pub gate_of_parts : List (List ℕ) → Option Gate
 gate_of_parts (address ∷ []) = option_map gate.Inet (inet_of address)
-gate_of_parts (kind ∷ digits ∷ []) = if bytes_eq kind (codes "link") then option_map gate.Link (link_of digits) else None
+gate_of_parts (kind ∷ digits ∷ []) =
+    if bytes_eq kind (codes "link") then option_map gate.Link (link_of digits) else None
 gate_of_parts parts = None
 
 abbrev pub gate_of : List ℕ → Option Gate
 gate_of word = gate_of_parts (parted_by 58 word)
+
+-- the kind of an interface
+abbrev pub interface_kind_of : List ℕ → Option Kind
+interface_kind_of word =
+    if bytes_eq word (codes "broadcast") then Some Broadcast
+    else if bytes_eq word (codes "loopback") then Some Loopback
+    else if bytes_eq word (codes "ptp") then Some PointToPoint
+    else None
+
+-- the number of a protocol, from 1 on
+abbrev pub protocol_number_of : List ℕ → Option ℕ
+protocol_number_of word = do
+  number ← number_to 255 word
+  if number == 0 then None else Some number
+
+-- a protocol: `any`, which is 0, or a number
+abbrev pub protocol_of : List ℕ → Option ℕ
+protocol_of word = if bytes_eq word (codes "any") then Some 0 else protocol_number_of word
+
+-- `on` or `off`
+abbrev pub switch_of : List ℕ → Option Bool
+switch_of word =
+    if bytes_eq word (codes "on") then Some true
+    else if bytes_eq word (codes "off") then Some false
+    else None
 
 -- ---- options, which are a name and the word behind it
 

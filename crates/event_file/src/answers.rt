@@ -16,9 +16,9 @@ use std::io::Write;
 const PIECE: usize = 2048;
 
 /// Writes the text of a line's answer, going on behind what a short write took: `ok`, `err` with the errno's number,
-/// `msg` with its bytes for each message and then `ok`, or `err` where some are left out, or `bad`. It is refused at the first write that answers an
-/// error or takes no byte, and what was taken before is then a front of that text. `buffer` is room for 4,096 bytes of text;
-/// what it held is lost.
+/// `msg` with its bytes for each message and then `ok`, or `err` where some are left out, or `bad`. It is refused at the
+/// first write that answers an error or takes no byte, and what was taken before is then a front of that text. `buffer`
+/// is room for 4,096 bytes of text; what it held is lost.
 pub fn write_answer<W: Write>(
     answer: &Result<Answer, Bad>,
     buffer: &mut [u8],

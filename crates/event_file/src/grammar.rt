@@ -186,8 +186,8 @@ fn said<'a>(words: &[&[u8]], room: &'a mut [u8]) -> Option<Said<'a>>
     said_behind(verb, words, room)
 }
 
-/// What a line says, without its newline, as `read_line` reads it; the bytes of a write are put into `room`, which has room
-/// for `MOST_WRITTEN` bytes, and what it held is lost.
+/// What a line says, without its newline, as `read_line` reads it; the bytes of a write are put into `room`, which has
+/// room for `MOST_WRITTEN` bytes, and what it held is lost.
 pub fn read_said<'a>(line: &[u8], room: &'a mut [u8]) -> Result<Said<'a>, Bad>
     requires { length room.old ≡ MOST_WRITTEN }
     ensures { MatchResult result (λ s. command_of line.now ≡ Some s) (λ _. command_of line.now ≡ None) }

@@ -40,8 +40,8 @@ impl LineBuffer {
         })
     }
 
-    /// Takes bytes up to and with the first newline. Answers how many it took, and whether a newline was among them; then
-    /// the line is whole, and `clear` begins the next.
+    /// Takes bytes up to and with the first newline. Answers how many it took, and whether a newline was among them;
+    /// then the line is whole, and `clear` begins the next.
     pub fn feed(&mut self, bytes: &[u8]) -> (usize, bool)
         requires { self.old.ended ≡ false }
         ensures taken { result.0 ≡ length (first_line bytes.now) + cond (has_newline bytes.now) 1 0 }

@@ -1,8 +1,7 @@
 ghost use Rattle.std.specs.Prelude.{◌≡◌, ◌≢◌, ◌≤◌, ◌<◌, ◌-◌, ◌^◌, ◌++◌, ℕ, decimal, length, map, replicate};
 ghost use Rattle.hex.specs.Hex.{decode_of};
 ghost use Rattle.std.specs.Option.{IfSome, MatchOption};
-ghost use Rattle.event_file.specs.Grammar.{protocol_number_of, protocol_of};
-ghost use Rattle.event_file.specs.Words.{decoded, number_to, hex_number_of, inet_of_parts, inet_of};
+ghost use Rattle.event_file.specs.Words.{decoded, number_to, protocol_number_of, protocol_of, hex_number_of, inet_of_parts, inet_of};
 
 use crate::words::{is, parted};
 use itoa::Buffer;

@@ -1,8 +1,8 @@
 ghost use Rattle.std.specs.Prelude.{◌≡◌, ◌≤◌, length, map, take, Some, None};
 ghost use Rattle.std.specs.List.{list_all};
 ghost use Rattle.std.specs.Option.{IfSome, MatchOption};
-ghost use Rattle.event_file.specs.Grammar.{interface_kind_of, most_link_bytes, switch_of};
-ghost use Rattle.event_file.specs.Words.{is_name_byte, name_of, bytes_to, link_of, gate_of_parts, gate_of};
+ghost use Rattle.event_file.specs.Grammar.{most_link_bytes};
+ghost use Rattle.event_file.specs.Words.{is_name_byte, name_of, interface_kind_of, switch_of, bytes_to, link_of, gate_of_parts, gate_of};
 
 use crate::numbers::read_inet;
 use crate::words::{is, parted};
@@ -60,7 +60,8 @@ pub(crate) fn read_switch(word: &[u8]) -> Option<bool>
 /// Writes the bytes that a word spells in hexadecimal, `-` for none, to the front of `room` and answers how many they
 /// are. `None` where it is no such word, or spells more than there is room for.
 fn decode(word: &[u8], room: &mut [u8]) -> Option<usize>
-    ensures value { MatchOption result (bytes_to (length room.old) word.now ≡ None) (λ n. bytes_to (length room.old) word.now ≡ Some (take n room.new)) }
+    ensures value { MatchOption result (bytes_to (length room.old) word.now ≡ None)
+        (λ n. bytes_to (length room.old) word.now ≡ Some (take n room.new)) }
     ensures most { IfSome result (λ n. n ≤ length room.new) }
 {
     if word == b"-".as_slice() {
@@ -83,7 +84,8 @@ pub(crate) fn read_link(word: &[u8]) -> Option<LinkAddress>
     LinkAddress::new(&room[..count])
 }
 
-/// The bytes of a write in hexadecimal, at most `MOST_WRITTEN` of them, or `-`. They are decoded to the front of `room`.
+/// The bytes of a write in hexadecimal, at most `MOST_WRITTEN` of them, or `-`. They are decoded to the front of
+/// `room`.
 pub(crate) fn read_written<'a>(word: &[u8], room: &'a mut [u8]) -> Option<Lent<'a>>
     requires { length room.old ≡ MOST_WRITTEN }
     ensures { result ≡ bytes_to MOST_WRITTEN word.now }
@@ -92,7 +94,8 @@ pub(crate) fn read_written<'a>(word: &[u8], room: &'a mut [u8]) -> Option<Lent<'
     Lent::new(&room[..count])
 }
 
-/// The link-layer address that a word spells in hexadecimal: 8 to 32 bytes, the first their number and the second its family.
+/// The link-layer address that a word spells in hexadecimal: 8 to 32 bytes, the first their number and the second its
+/// family.
 fn read_link_sockaddr(word: &[u8]) -> Option<Link>
     ensures { result ≡ link_of word.now }
 {

@@ -23,7 +23,8 @@ pub(crate) fn cut(byte: u8, text: &[u8]) -> Option<(&[u8], &[u8])>
 
 /// The parts of a text between the bytes of this value, or `None` where there are more than N.
 pub(crate) fn parted<const N: usize>(byte: u8, text: &[u8]) -> Option<ArrayVec<&[u8], N>>
-    ensures { MatchOption result (N < length (parted_by byte text.now)) (λ parts. map (λ p. p.now) parts.items ≡ parted_by byte text.now) }
+    ensures { MatchOption result (N < length (parted_by byte text.now))
+        (λ parts. map (λ p. p.now) parts.items ≡ parted_by byte text.now) }
 {
     let mut parts = ArrayVec::new();
     let mut rest = text;
