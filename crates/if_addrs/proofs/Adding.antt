@@ -1,18 +1,17 @@
 -- One more address of the interface of a name.
-use Rattle.std.proofs.Common.{is_none, ◌≡◌, ℕ, ◌+◌, ◌||◌, Bool, true, false, cond, not, if◌then◌else◌, List, [], ◌∷◌, ◌++◌, Option, Some, None, is_some, IsSome, nat_eq, nat_le, slice_index_or, slice_set, refl, rules, sym, ap, ◌∙◌, arith}
+use Rattle.std.proofs.Common.{is_none, ◌≡◌, ℕ, ◌+◌, ◌||◌, Bool, true, false, cond, not, if◌then◌else◌, List, [], ◌∷◌, ◌++◌, Option, Some, None, is_some, nat_le, slice_index_or, slice_set, refl, sym, ap, ◌∙◌, arith}
 use Rattle.std.specs.List.{find, list_any, position}
 use Rattle.std.specs.Option.{option_or, option_map_or}
 use Rattle.std.proofs.lemmas.Bool.Decides.{nat_tests}
 use Rattle.std.proofs.lemmas.List.Folds.{find-append}
-use Rattle.sock_addrs.proofs.FirstLemmas.{found, find-first, first-position, none-position, change_first-set}
+use Rattle.sock_addrs.proofs.FirstLemmas.{found, find-first, first-position, change_first-set}
 use Rattle.sock_addrs.specs.First.{change_first}
 use Rattle.sock_addrs.specs.Rules.{Rule, rule, first_fault}
-use Rattle.sock_addrs.specs.declared.errno.Errno.{Errno}
 use Rattle.sock_addrs.specs.declared.errno.Errno.TheVariants.{ENXIO, EINVAL, EADDRINUSE, ENOSPC}
+use Rattle.if_addrs.specs.declared.limits.TheConstants.{MOST_ADDRESSES}
 use Rattle.if_addrs.specs.declared.kind.Kind.{Kind}
 use Rattle.if_addrs.specs.declared.kind.Kind.TheVariants.{Broadcast}
-use Rattle.if_addrs.specs.Interfaces.{Address, Interface, addresses_of, added, addr_fault, fits, has_name, has_number, holds, kind_of, most_addresses, named, new_address, with_address, with_one_more}
-use Rattle.if_addrs.specs.Keeping.{KeepsIfas, SameIfas}
+use Rattle.if_addrs.specs.Interfaces.{Address, Interface, addresses_of, added, addr_fault, fits, has_name, has_number, holds, kind_of, named, new_address, with_address, with_one_more}
 use Rattle.if_addrs.specs.Numbered.{AreNumbered}
 use Rattle.if_addrs.proofs.Keeping.{Stays, stays_added}
 use Rattle.if_addrs.proofs.Numbers.{next_free, numbered_added}
@@ -28,7 +27,7 @@ pub is_named : (name : List ℕ) (address : ℕ) (far : Option ℕ) (is : List I
 is_named name address far is h =
     found (has_name name) is
     ∙ first_passed (named name is) ENXIO
-    (rule (not (fits (kind_of name is) far)) EINVAL ∷ rule (list_any (holds address) is) EADDRINUSE ∷ rule (nat_le most_addresses (added is)) ENOSPC ∷ []) h
+    (rule (not (fits (kind_of name is) far)) EINVAL ∷ rule (list_any (holds address) is) EADDRINUSE ∷ rule (nat_le MOST_ADDRESSES (added is)) ENOSPC ∷ []) h
 
 -- at its place stands the interface that is found, and its kind is the name's
 pub at_place : (name : List ℕ) (is : List Interface) (at : ℕ) (d : Interface) → position (has_name name) is ≡ Some at → find (has_name name) is ≡ Some (slice_index_or is at d)

@@ -10,11 +10,9 @@ use Rattle.std.proofs.lemmas.List.Folds.{find-append, list_any-append}
 use Rattle.std.proofs.lemmas.Option.{slice_get-map}
 use Rattle.sock_addrs.proofs.FirstLemmas.{map-change_first, length-change_first, found, find-map, list_any-map, none-position}
 use Rattle.sock_addrs.specs.First.{change_first}
-use Rattle.if_addrs.specs.declared.reference.IfaRef.{IfaRef}
 use Rattle.if_addrs.specs.declared.reference.IfaRef.TheVariants as ifa
-use Rattle.sock_addrs.specs.declared.gate.Gate.{Gate}
 use Rattle.sock_addrs.specs.declared.gate.Gate.TheVariants as gate
-use Rattle.if_addrs.specs.Interfaces.{Address, Interface, IsOf, addresses_of, address_of, changed, has_number, has_numbered, interface_of, interface_numbered, link_text, link_text_of, text_of, with_changed, with_one_more}
+use Rattle.if_addrs.specs.Interfaces.{Address, Interface, addresses_of, address_of, changed, has_number, has_numbered, link_text, link_text_of, with_changed, with_one_more}
 use Rattle.if_addrs.specs.Wanted.{marked}
 use Rattle.if_addrs.specs.declared.address.Mark.{Mark}
 use Rattle.if_addrs.specs.declared.address.Mark.TheVariants.{Routed, Gone}

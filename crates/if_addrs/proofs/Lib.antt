@@ -2,5 +2,7 @@ pub mod Networks
 pub mod Adding
 pub mod Keeping
 pub mod Numbers
+pub mod ReferenceLawsProved
+pub mod SearchLawsProved
 pub mod Searching
 pub mod Texts

@@ -1,6 +1,6 @@
 -- The numbers of addresses, after one more interface, after one more address, and after a change of an address.
-use Rattle.std.proofs.Common.{◌≡◌, ℕ, ◌+◌, ◌<◌, ◌≤◌, ◌||◌, Bool, true, false, cond, if◌then◌else◌, List, [], ◌∷◌, ◌++◌, length, map, Option, Some, None, IsSome, nat_eq, nat_le, refl, rules, sym, ap, ◌∙◌, subst, arith, length-append, append-nil}
-use Rattle.std.specs.Prelude.{count_by, sum_by}
+use Rattle.std.proofs.Common.{◌≡◌, ℕ, ◌+◌, ◌<◌, ◌≤◌, ◌||◌, Bool, true, false, cond, if◌then◌else◌, List, [], ◌∷◌, ◌++◌, length, map, Option, Some, None, nat_eq, nat_le, refl, sym, ap, ◌∙◌, arith, length-append, append-nil}
+use Rattle.std.specs.Prelude.{count_by}
 use Rattle.std.specs.List.{find, list_any}
 use Rattle.std.specs.Option.{option_or}
 use Rattle.std.proofs.lemmas.Bool.Decides.{nat_tests}
@@ -86,25 +86,26 @@ count-map v q [] = refl
 count-map v q (x ∷ xs) =
     omega (arith, sum_by-cons (λ y. cond (q y) 1 0) (v x) (map v xs), sum_by-cons (λ x. cond (q (v x)) 1 0) x xs, count-map v q xs)
 
--- THE CODE'S NUMBERING
-
--- no address is there
-pub numbered_none : AreNumbered 0 []
-numbered_none = record { counted = refl; numbers = record { once = λ k. omega arith; none_past = λ k h. refl }; few = omega arith }
+-- EACH NUMBER ONCE, AND THE CODE'S COUNT
 
 -- after one more interface
-pub numbered_attached : (n : ℕ) (is : List Interface) (i : Interface) → AreNumbered n is → i.addresses ≡ [] → length is < 64 → AreNumbered n (is ++ i ∷ [])
-numbered_attached n is i h none room =
-    let same : addresses_of (is ++ i ∷ []) ≡ addresses_of is =
-    flat_map-append (λ (i : Interface). i.addresses) is (i ∷ []) ∙ rw none (append-nil (addresses_of is)) in
+same_attached : (is : List Interface) (i : Interface) → i.addresses ≡ [] → addresses_of (is ++ i ∷ []) ≡ addresses_of is
+same_attached is i none = flat_map-append (λ (i : Interface). i.addresses) is (i ∷ []) ∙ rw none (append-nil (addresses_of is))
+
+pub once_attached : (is : List Interface) (i : Interface) → NumberedOnce is → i.addresses ≡ [] → NumberedOnce (is ++ i ∷ [])
+once_attached is i h none =
+    let same = same_attached is i none in
     record {
-      counted = ap (λ (xs : List Address). length xs) same ∙ h.counted;
-      numbers = record {
-        once = λ k. rw same (h.numbers.once k);
-        none_past = λ k past. (let less : added is < k = rw (← same) past in rw same (h.numbers.none_past k less));
-      };
-      few = omega (arith, room, length-append is (i ∷ []));
+      once = λ k. rw same (h.once k);
+      none_past = λ k past. (let less : added is < k = rw (← same) past in rw same (h.none_past k less));
     }
+
+pub numbered_attached : (n : ℕ) (is : List Interface) (i : Interface) → AreNumbered n is → i.addresses ≡ [] → length is < 64 → AreNumbered n (is ++ i ∷ [])
+numbered_attached n is i h none room = record {
+  counted = ap (λ (xs : List Address). length xs) (same_attached is i none) ∙ h.counted;
+  numbers = once_attached is i h.numbers none;
+  few = omega (arith, room, length-append is (i ∷ []));
+}
 
 -- after one more address
 one_more_once : (k n m : ℕ) (b : Bool) → nat_eq (n + 1) k ≡ b → m ≤ 1 → (n < k → m ≡ 0) → m + cond b 1 0 ≤ 1
@@ -115,35 +116,44 @@ one_more_past : (k n m : ℕ) (b : Bool) → nat_eq (n + 1) k ≡ b → n + 1 < 
 one_more_past k n m true same past none = absurd (grind (arith, nat_tests))
 one_more_past k n m false same past none = (let last : n < k = omega (arith, past) in omega (arith, none last))
 
-pub numbered_added : (n : ℕ) (is : List Interface) (p : Interface → Bool) (a : Address) → AreNumbered n is → list_any p is ≡ true → a.number ≡ added is + 1
-    → AreNumbered (n + 1) (change_first p (with_one_more a) is)
-numbered_added n is p a h there next =
+pub once_added : (is : List Interface) (p : Interface → Bool) (a : Address) → NumberedOnce is → list_any p is ≡ true → a.number ≡ added is + 1
+    → NumberedOnce (change_first p (with_one_more a) is)
+once_added is p a h there next =
     let all = added_one p a is there in
     record {
-      counted = all ∙ ap (λ (k : ℕ). k + 1) h.counted;
-      numbers = record {
-        once = λ k. rw (uses_added k p a is there) (one_more_once k (added is) (uses k is) (has_number k a) (ap (λ (m : ℕ). nat_eq m k) (sym next)) (h.numbers.once k) (h.numbers.none_past k));
-        none_past = λ k past. (
-            let far : added is + 1 < k = rw (← all) past in
-            rw (uses_added k p a is there) (one_more_past k (added is) (uses k is) (has_number k a) (ap (λ (m : ℕ). nat_eq m k) (sym next)) far (h.numbers.none_past k)));
-      };
-      few = omega (arith, length-change_first p (with_one_more a) is, h.few);
+      once = λ k. rw (uses_added k p a is there) (one_more_once k (added is) (uses k is) (has_number k a) (ap (λ (m : ℕ). nat_eq m k) (sym next)) (h.once k) (h.none_past k));
+      none_past = λ k past. (
+          let far : added is + 1 < k = rw (← all) past in
+          rw (uses_added k p a is there) (one_more_past k (added is) (uses k is) (has_number k a) (ap (λ (m : ℕ). nat_eq m k) (sym next)) far (h.none_past k)));
     }
 
+pub numbered_added : (n : ℕ) (is : List Interface) (p : Interface → Bool) (a : Address) → AreNumbered n is → list_any p is ≡ true → a.number ≡ added is + 1
+    → AreNumbered (n + 1) (change_first p (with_one_more a) is)
+numbered_added n is p a h there next = record {
+  counted = added_one p a is there ∙ ap (λ (k : ℕ). k + 1) h.counted;
+  numbers = once_added is p a h.numbers there next;
+  few = omega (arith, length-change_first p (with_one_more a) is, h.few);
+}
+
 -- where all that is told of the addresses is the same
-pub numbered_same : (n : ℕ) (was is : List Interface) → map told (addresses_of is) ≡ map told (addresses_of was) → length is ≡ length was → AreNumbered n was → AreNumbered n is
-numbered_same n was is same len h =
-    let all : added is ≡ added was = sym (length-map (addresses_of is) told) ∙ ap (λ (xs : List Address). length xs) same ∙ length-map (addresses_of was) told in
+all_same : (was is : List Interface) → map told (addresses_of is) ≡ map told (addresses_of was) → added is ≡ added was
+all_same was is same = sym (length-map (addresses_of is) told) ∙ ap (λ (xs : List Address). length xs) same ∙ length-map (addresses_of was) told
+
+pub once_same : (was is : List Interface) → map told (addresses_of is) ≡ map told (addresses_of was) → NumberedOnce was → NumberedOnce is
+once_same was is same h =
     let each : (k : ℕ) → uses k is ≡ uses k was = λ k.
     sym (count-map told (has_number k) (addresses_of is)) ∙ ap (λ (xs : List Address). count_by (has_number k) xs) same ∙ count-map told (has_number k) (addresses_of was) in
     record {
-      counted = all ∙ h.counted;
-      numbers = record {
-        once = λ k. rw (each k) (h.numbers.once k);
-        none_past = λ k past. (let less : added was < k = rw (← all) past in rw (each k) (h.numbers.none_past k less));
-      };
-      few = rw len h.few;
+      once = λ k. rw (each k) (h.once k);
+      none_past = λ k past. (let less : added was < k = rw (← all_same was is same) past in rw (each k) (h.none_past k less));
     }
+
+pub numbered_same : (n : ℕ) (was is : List Interface) → map told (addresses_of is) ≡ map told (addresses_of was) → length is ≡ length was → AreNumbered n was → AreNumbered n is
+numbered_same n was is same len h = record {
+  counted = all_same was is same ∙ h.counted;
+  numbers = once_same was is same h.numbers;
+  few = rw len h.few;
+}
 
 -- NUMBERS THAT ARE LEFT
 

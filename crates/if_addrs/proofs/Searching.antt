@@ -1,5 +1,5 @@
 -- What is found among the addresses, an interface after the other, and that no address is found that was removed.
-use Rattle.std.proofs.Common.{◌≡◌, ℕ, zero, suc, subst, nat_eq, ◌+◌, ◌-◌, ◌<◌, ◌≤◌, ◌⊎◌, inl, inr, ◌&&◌, ◌||◌, if◌then◌else◌, IsSome, Bool, true, false, cond, not, nat_lt, List, [], ◌∷◌, ◌++◌, length, drop, filter, slice_index_or, Option, Some, None, is_some, refl, sym, ap, ◌∙◌, arith, drop-cons, add-one}
+use Rattle.std.proofs.Common.{◌≡◌, ℕ, zero, suc, subst, nat_eq, ◌+◌, ◌-◌, ◌<◌, ◌⊎◌, inl, inr, ◌&&◌, ◌||◌, if◌then◌else◌, IsSome, Bool, true, false, cond, not, nat_lt, List, [], ◌∷◌, ◌++◌, length, drop, filter, slice_index_or, Option, Some, None, is_some, refl, sym, ap, ◌∙◌, arith, drop-cons, add-one}
 use Rattle.std.specs.Prelude.{slice_get}
 use Rattle.std.specs.List.{find, list_any, range_with_len}
 use Rattle.std.specs.Option.{option_or}

@@ -1,5 +1,5 @@
 -- The interfaces with their addresses.
-use Rattle.std.specs.Prelude.{◌≡◌, ℕ, ◌+◌, ◌-◌, ◌*◌, ◌^◌, ◌≤◌, ◌==◌, nat_le, zero, suc, Bool, true, false, not, ◌&&◌, List, [], ◌∷◌, ◌++◌, length, map, max, Option, None, Some, IsSome, IsSomeAnd, is_some, is_none, option_map, unwrap_or, ok_or, Result, Err, bytes_eq, bit_or, if◌then◌else◌}
+use Rattle.std.specs.Prelude.{◌≡◌, ℕ, ◌+◌, ◌-◌, ◌*◌, ◌^◌, ◌≤◌, ◌==◌, nat_le, zero, suc, Bool, true, false, not, ◌&&◌, List, [], ◌∷◌, ◌++◌, length, max, Option, None, Some, IsSome, IsSomeAnd, is_some, is_none, option_map, unwrap_or, ok_or, Result, Err, bytes_eq, bit_or, if◌then◌else◌}
 use Rattle.std.specs.List.{find, list_any, flat_map, position, slice_get}
 use Rattle.std.specs.Option.{option_map_or}
 use Rattle.std.specs.Int.{w16, to_be_bytes}
@@ -14,6 +14,7 @@ use Rattle.sock_addrs.specs.Rules.{rule, first_fault}
 use Rattle.sock_addrs.specs.First.{change_first}
 use Rattle.if_addrs.specs.declared.kind.Kind.{Kind}
 use Rattle.if_addrs.specs.declared.kind.Kind.TheVariants.{Broadcast, Loopback, PointToPoint}
+use Rattle.if_addrs.specs.declared.limits.TheConstants.{MOST_ADDRESSES, MOST_INTERFACES}
 use Rattle.if_addrs.specs.declared.reference.IfaRef.{IfaRef}
 use Rattle.if_addrs.specs.declared.reference.IfaRef.TheVariants as ifa
 
@@ -41,18 +42,11 @@ pub record Interface : Type 0 where
 abbrev pub has_name : List ℕ → Interface → Bool
 has_name name i = bytes_eq i.name name
 
--- so many interfaces are attached at most, and so many addresses ever added
-abbrev pub most_interfaces : ℕ
-most_interfaces = 64
-
-abbrev pub most_addresses : ℕ
-most_addresses = 65535
-
 -- why an interface of this name can't be attached
 abbrev pub attach_fault : List ℕ → List Interface → Option Errno
 attach_fault name interfaces = first_fault
     (rule (list_any (has_name name) interfaces) EEXIST
-    ∷ rule (nat_le most_interfaces (length interfaces)) ENOSPC
+    ∷ rule (nat_le MOST_INTERFACES (length interfaces)) ENOSPC
     ∷ [])
 
 -- an interface as it is attached
@@ -112,7 +106,7 @@ addr_fault name address far interfaces = first_fault
     (rule (is_none (named name interfaces)) ENXIO
     ∷ rule (not (fits (kind_of name interfaces) far)) EINVAL
     ∷ rule (list_any (holds address) interfaces) EADDRINUSE
-    ∷ rule (nat_le most_addresses (added interfaces)) ENOSPC
+    ∷ rule (nat_le MOST_ADDRESSES (added interfaces)) ENOSPC
     ∷ [])
 
 -- the last address of the network, which has all host bits set

@@ -3,5 +3,7 @@ pub mod InterfaceLaws
 pub mod Interfaces
 pub mod Keeping
 pub mod Numbered
+pub mod ReferenceLaws
+pub mod SearchLaws
 pub mod Searches
 pub mod Wanted

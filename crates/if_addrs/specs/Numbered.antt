@@ -1,5 +1,6 @@
 -- How the code numbers the addresses: by a count of those that were ever added.
 use Rattle.std.specs.Prelude.{◌≡◌, ℕ, ◌<◌, ◌≤◌, List, length, count_by}
+use Rattle.if_addrs.specs.declared.limits.TheConstants.{MOST_INTERFACES}
 use Rattle.if_addrs.specs.Interfaces.{Interface, addresses_of, added, has_number}
 
 -- how many addresses have this number
@@ -14,4 +15,4 @@ pub record NumberedOnce (interfaces : List Interface) : Type 0 where
 pub record AreNumbered (count : ℕ) (interfaces : List Interface) : Type 0 where
   pub counted : added interfaces ≡ count
   pub numbers : NumberedOnce interfaces
-  pub few : length interfaces ≤ 64
+  pub few : length interfaces ≤ MOST_INTERFACES

@@ -8,15 +8,13 @@ ghost use Rattle.if_addrs.specs.Wanted.{marked};
 use crate::address::{Address, Mark, Wanted};
 use crate::interface::{Interface, first, is_in_use, is_there, named, place_of, place_of_number};
 use crate::kind::Kind;
+use crate::limits::{MOST_ADDRESSES, MOST_INTERFACES};
 use crate::link_address::LinkAddress;
 use crate::reference::{Facts, IfaRef};
 use mask_table::Prefix;
 use sock_addrs::{Errno, Gate, Inet, Link, Name};
 use std::alloc::Global;
 use std::marker::Model;
-
-/// How many interfaces may be attached.
-const MOST_INTERFACES: usize = 64;
 
 /// The interfaces with their addresses. A contract sees them in the order in which they were attached; they are numbered from
 /// 1 on by their places. A reference to an address, and an interface's number, stay good for good.
@@ -106,7 +104,7 @@ impl Interfaces {
         if is_in_use(&self.interfaces, address) {
             return Err(Errno::EADDRINUSE);
         }
-        if self.added == u16::MAX {
+        if self.added == MOST_ADDRESSES {
             return Err(Errno::ENOSPC);
         }
         Ok(())

@@ -6,6 +6,7 @@ mod interface;
 mod interfaces;
 mod kind;
 pub mod laws;
+pub mod limits;
 mod link_address;
 mod reference;
 mod searches;

@@ -7,7 +7,7 @@ use Rattle.std.proofs.lemmas.List.Folds.{find-append}
 use Rattle.std.proofs.lemmas.Slice.Eq.{bytes_eq-Decides}
 use Rattle.sock_addrs.proofs.FirstLemmas.{map-change_first}
 use Rattle.sock_addrs.specs.First.{change_first}
-use Rattle.listeners.specs.Sockets.{Socket, after_delivery, delivered, emptied, has_id, hears, looped, opened, socket_of, taken, with_loopback, without}
+use Rattle.listeners.specs.Sockets.{Socket, after_delivery, delivered, emptied, has_id, hears, looped, opened, socket_of, with_loopback, without}
 use Rattle.listeners.specs.SocketLaws.{ClosedIsGone, ClosingDisturbsNoOther, DeliveringOnlyAppends, DeliversWhateverLoopback, DeliversWithoutClosed, HearsInWords, LoopbackChangesItAlone, LoopbackDisturbsNoOther, LoopbackIsSet, LoopbackLeavesOthers, LoopbackOffSilencesOwn, ReadingChangesMessagesAlone, ReadingDisturbsNoOther, ReopenedIsEmpty}
 
 apart_ids : (s id other : List ℕ) → bytes_eq id other ≡ false → bytes_eq s id ≡ true → bytes_eq s other ≡ false

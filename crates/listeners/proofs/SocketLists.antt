@@ -1,5 +1,5 @@
 -- What a write to one of the open sockets leaves of all of them.
-use Rattle.std.proofs.Common.{◌≡◌, ℕ, Bool, true, false, cond, not, filter, is_some, is_none, [], ◌∷◌, refl, ◌+◌, ◌<◌, ◌≤◌, inl, inr, List, ◌++◌, Option, Some, None, option_map, length, map, take, drop, slice_index_or, slice_set, sym, ap, ◌∙◌, arith}
+use Rattle.std.proofs.Common.{◌≡◌, ℕ, true, false, cond, not, filter, is_some, is_none, [], ◌∷◌, refl, ◌+◌, ◌<◌, ◌≤◌, inl, inr, List, ◌++◌, Option, Some, None, option_map, length, map, take, drop, slice_index_or, slice_set, sym, ap, ◌∙◌, arith}
 use Rattle.std.specs.List.{list_any, position}
 use Rattle.sock_addrs.specs.First.{change_first}
 use Rattle.sock_addrs.specs.Rules.{rule, first_fault}

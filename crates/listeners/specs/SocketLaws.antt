@@ -1,5 +1,5 @@
 -- What sockets do not do to one another.
-use Rattle.std.specs.Prelude.{◌≡◌, ◌≢◌, ◌↔◌, ℕ, Bool, true, false, List, ◌∷◌, [], ◌++◌, map, Option, Some, None, option_map, IsTrue, ◌⊎◌, bytes_eq}
+use Rattle.std.specs.Prelude.{◌≡◌, ◌↔◌, ℕ, Bool, true, false, List, ◌∷◌, [], ◌++◌, map, Option, Some, None, option_map, IsTrue, ◌⊎◌, bytes_eq}
 use Rattle.listeners.specs.Sockets.{Socket, socket_of, taken, delivered, after_delivery, emptied, hears, is_own, looped, opened, with_loopback, without}
 use Rattle.listeners.specs.declared.limits.TheConstants.{MOST_SOCKETS}
 

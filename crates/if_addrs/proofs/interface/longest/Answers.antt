@@ -1,4 +1,4 @@
-use Rattle.std.proofs.Common.{◌≡◌, ◌∙◌, ◌+◌, sym, ap, Option, drop, filter}
+use Rattle.std.proofs.Common.{◌∙◌, ◌+◌, ap, Option, drop, filter}
 use Rattle.if_addrs.specs.Interfaces.{Address, Interface, addresses_of}
 use Rattle.if_addrs.specs.Searches.{longest}
 use Rattle.if_addrs.specs.Wanted.{is_wanted, better}

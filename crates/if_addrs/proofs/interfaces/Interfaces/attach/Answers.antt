@@ -1,4 +1,4 @@
-use Rattle.std.proofs.Common.{◌≡◌, ◌++◌, ◌<◌, ◌∷◌, [], None, rules, refl}
+use Rattle.std.proofs.Common.{◌≡◌, ◌++◌, ◌∷◌, [], None, rules, refl}
 use Rattle.if_addrs.specs.Interfaces.{Interface, attach_fault, attached}
 use Rattle.if_addrs.proofs.Numbers.{numbered_attached, room_left}
 use Rattle.if_addrs.proofs.Keeping.{keeps_by, same_by, stays_attached}
