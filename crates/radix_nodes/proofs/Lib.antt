@@ -1,0 +1,4 @@
+pub mod Cells
+pub mod Sharing
+pub mod Memory
+pub mod RoomLemmas

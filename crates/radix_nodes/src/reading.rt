@@ -1,0 +1,33 @@
+//! How rooms are read.
+ghost use Rattle.std.specs.Prelude.{◌≡◌, ◌+◌, Some};
+ghost use Rattle.std.specs.FinMap.{get};
+ghost use Rattle.radix_nodes.specs.Rooms.{Seen, Has};
+
+use crate::id::Id;
+use crate::links::Links;
+use crate::nodes::Nodes;
+use crate::visits::Visits;
+
+impl<V> Nodes<V> {
+    /// The links of a room.
+    pub fn links(&self, id: Id, visits: &mut Visits) -> &Links
+        requires there { Has self.now.lodged id }
+        requires turn { visits.old.turn ≡ self.now.turn }
+        ensures links { (room : Seen V) → get self.now.lodged id.number ≡ Some room → result.now ≡ room.links }
+        ensures visit { visits.new ≡ record visits.old { count = visits.old.count + 1 } }
+    {
+        visits.tick();
+        &self.blocks.get(id).links
+    }
+
+    /// The value in a room.
+    pub fn value(&self, id: Id, visits: &mut Visits) -> &V
+        requires there { Has self.now.lodged id }
+        requires turn { visits.old.turn ≡ self.now.turn }
+        ensures value { (room : Seen V) → get self.now.lodged id.number ≡ Some room → result.now ≡ room.value }
+        ensures visit { visits.new ≡ record visits.old { count = visits.old.count + 1 } }
+    {
+        visits.tick();
+        &self.blocks.get(id).value
+    }
+}
