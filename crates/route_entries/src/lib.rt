@@ -1,0 +1,8 @@
+//! One route: what a table keeps of it beside its key and its rank, and how a message writes it.
+#![tactic(auto)]
+
+mod addresses;
+mod route;
+
+pub use addresses::{addresses_of, destination_of};
+pub use route::{Route, clone_of};

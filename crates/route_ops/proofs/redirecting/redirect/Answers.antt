@@ -1,0 +1,7 @@
+use Rattle.route_ops.specs.Standing.{AreOf}
+use Rattle.route_ops.proofs.redirecting.redirect.Goals as goal
+
+pub returns-clause-of : goal.returns-clause-of
+returns-clause-of c =
+    let same : AreOf c.args.interfaces.now c.begin-visits.new.self.entries = rw c.begin-visits.ensures.turn c.requires.of in
+    c.modify-added.ensures.of c.args.interfaces.now same

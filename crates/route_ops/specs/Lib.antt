@@ -1,0 +1,10 @@
+pub mod Adding
+pub mod Addressing
+pub mod Bringing
+pub mod Changing
+pub mod Deleting
+pub mod LookLaws
+pub mod Looks
+pub mod Redirecting
+pub mod Spares
+pub mod Standing

@@ -1,0 +1,156 @@
+//! The request to add a route.
+ghost use Rattle.std.specs.Prelude.{◌≡◌, ◌+◌, ◌≤◌, length, Ok, Err, IfOk, IfSome, OnErr, MatchResult};
+ghost use Rattle.std.specs.Result.{result_err};
+ghost use Rattle.if_addrs.specs.Interfaces.{IsOf};
+ghost use Rattle.mask_table.specs.Agreeing.{masked as masked_by};
+ghost use Rattle.route_ops.specs.Adding.{add, add_fault, asked_rank, ifa_for, new_entry as entry_of};
+ghost use Rattle.route_ops.specs.Spares.{FitsSpare};
+ghost use Rattle.route_ops.specs.Standing.{AreOf, KeepsRoutes};
+
+use crate::looking::settle_gateway;
+use crate::notice::Notice;
+use crate::placing::place;
+use crate::reading::{best_ifa, route_at};
+use crate::spare::Spare;
+use arrayvec::ArrayVec;
+use if_addrs::{IfaRef, Interfaces};
+use mask_table::{Prefix, Rank, masked};
+use radix_tree::{Entry, Table, Visits};
+use route_entries::Route;
+use route_msgs::Metrics;
+use route_msgs::flags::{RTF_HOST, RTF_UP};
+use sock_addrs::{Errno, Gate, Inet};
+
+/// What ADD asks for.
+#[derive(Clone, Copy, Debug, PartialEq, Eq)]
+pub struct NewRoute {
+    /// The destination as it was written.
+    pub destination: Inet,
+    /// The mask, where one was written.
+    pub netmask: Option<Prefix>,
+    /// The gateway.
+    pub gateway: Gate,
+    /// The mask that its clones get, where one was written.
+    pub genmask: Option<Prefix>,
+    /// The flags.
+    pub flags: u16,
+    /// Which metrics it has and which may be locked, by bits.
+    pub inits: u32,
+    /// The metrics and locks, of which those are taken that `inits` names.
+    pub metrics: Metrics,
+}
+
+/// A route that was added or changed.
+#[derive(Drop)]
+pub struct Added {
+    /// The route.
+    pub route: Entry<Route>,
+    /// The messages that the settling of its gateway made.
+    pub messages: ArrayVec<Notice, 2>,
+}
+
+impl NewRoute {
+    /// Its rank: a host's where the flags say so or no mask was written.
+    fn rank(&self) -> Rank
+        ensures { result ≡ asked_rank self.now.flags self.now.netmask }
+    {
+        if self.flags & RTF_HOST == 0 {
+            Rank::of_mask(self.netmask)
+        } else {
+            Rank::host()
+        }
+    }
+
+    /// The route with this interface address.
+    fn entry(&self, ifa: IfaRef) -> Entry<Route>
+        ensures entry { result ≡ entry_of self.now ifa }
+        ensures masked { masked_by result.rank result.key ≡ result.key }
+    {
+        let rank = self.rank();
+        let mut value = Route {
+            flags: self.flags | RTF_UP,
+            gateway: self.gateway,
+            metrics: Metrics::default(),
+            genmask: self.genmask,
+            ifa,
+            use_count: 0,
+        };
+        value.set_metrics(self.inits, &self.metrics);
+        value.set_locks(self.inits, self.metrics.locks);
+        Entry {
+            key: masked(self.destination, rank),
+            rank,
+            value,
+        }
+    }
+}
+
+/// The interface address of a new route, where there is one for it.
+fn find_ifa(
+    table: &Table<Route>,
+    visits: &mut Visits,
+    interfaces: &Interfaces,
+    asked: &NewRoute,
+) -> Option<IfaRef>
+    requires turn { visits.old.turn ≡ table.now.turn }
+    requires of { AreOf interfaces.now table.now.entries }
+    ensures found { result ≡ ifa_for asked.now interfaces.now table.now.entries }
+    ensures of { IfSome result (λ i. IsOf i interfaces.now) }
+    ensures counter { visits.new.turn ≡ visits.old.turn }
+{
+    let fallback = best_ifa(table, visits, asked.destination);
+    interfaces.for_route(asked.flags, asked.destination, asked.gateway, fallback)
+}
+
+/// What refuses to add a route, in this order: ENETUNREACH: no interface address is found for it; EEXIST: a route with its key
+/// and rank is there. It takes no memory.
+pub fn check_add(
+    table: &Table<Route>,
+    visits: &mut Visits,
+    interfaces: &Interfaces,
+    asked: &NewRoute,
+) -> Result<(), Errno>
+    requires turn { visits.old.turn ≡ table.now.turn }
+    requires of { AreOf interfaces.now table.now.entries }
+    ensures fault { result_err result ≡ add_fault asked.now interfaces.now table.now.entries }
+    ensures counter { visits.new.turn ≡ visits.old.turn }
+{
+    let Some(ifa) = find_ifa(table, visits, interfaces, asked) else {
+        return Err(Errno::ENETUNREACH);
+    };
+    let route = asked.entry(ifa);
+    if route_at(table, visits, route.key, route.rank).is_some() {
+        return Err(Errno::EEXIST);
+    }
+    Ok(())
+}
+
+/// Adds a route, and then settles its gateway. Refused as `check_add` says, and nothing is changed then.
+pub fn request_add(
+    table: &mut Table<Route>,
+    interfaces: &Interfaces,
+    spare: &mut Spare,
+    asked: &NewRoute,
+) -> Result<Added, Errno>
+    requires of { AreOf interfaces.now table.old.entries }
+    requires fits { FitsSpare table.old spare.old }
+    requires rooms { 2 ≤ length spare.old }
+    ensures add { MatchResult result
+        (λ a. add asked.now interfaces.now table.old.entries ≡ Ok (record { route = a.route; table = table.new.entries; messages = a.messages.items }))
+        (λ e. add asked.now interfaces.now table.old.entries ≡ Err e) }
+    ensures kept { OnErr result (table.new.entries ≡ table.old.entries) }
+    ensures few { IfOk result (λ a. length a.messages.items ≤ 1) }
+    ensures keeps { KeepsRoutes table.old.entries table.new.entries }
+    ensures of { AreOf interfaces.now table.new.entries }
+    ensures fits { FitsSpare table.new spare.new }
+    ensures used { length spare.old ≤ length spare.new + 2 }
+{
+    let mut visits = table.begin();
+    let Some(ifa) = find_ifa(table, &mut visits, interfaces, asked) else {
+        return Err(Errno::ENETUNREACH);
+    };
+    let route = asked.entry(ifa);
+    place(table, spare, &route)?;
+    let messages = settle_gateway(table, spare, &route.value);
+    Ok(Added { route, messages })
+}

@@ -1,0 +1,198 @@
+//! The requests to change and to lock a route.
+ghost use Rattle.std.specs.Prelude.{◌≡◌, ◌+◌, ◌≤◌, length, Ok, Err, IfOk, IfSome, OnErr, MatchResult};
+ghost use Rattle.if_addrs.specs.Interfaces.{IsOf};
+ghost use Rattle.radix_tree.specs.Table.{with_entry};
+ghost use Rattle.radix_tree.specs.TableLaws.{StandsIn};
+ghost use Rattle.route_ops.specs.Changing.{sought as sought_by, change, changed as changed_by, ifa_asked, lock, settle_written as settled_by, target as target_of};
+ghost use Rattle.route_ops.specs.Spares.{FitsSpare};
+ghost use Rattle.route_ops.specs.Standing.{AreOf, KeepsAreOf};
+
+use crate::adding::Added;
+use crate::looking::settle_gateway;
+use crate::notice::Notice;
+use crate::placing::rewrite;
+use crate::reading::{best_ifa, best_route, route_at};
+use crate::spare::Spare;
+use arrayvec::ArrayVec;
+use if_addrs::{IfaRef, Interfaces};
+use mask_table::{Prefix, Rank};
+use radix_tree::{Entry, Table, Visits};
+use route_entries::Route;
+use route_msgs::Metrics;
+use sock_addrs::{Errno, Gate, Inet};
+
+/// What CHANGE asks for; what is not written stays as it is.
+#[derive(Clone, Copy, Debug, PartialEq, Eq)]
+pub struct Change {
+    /// The destination of the route.
+    pub destination: Inet,
+    /// Its mask.
+    pub netmask: Option<Prefix>,
+    /// The new gateway.
+    pub gateway: Option<Gate>,
+    /// The new mask of its clones.
+    pub genmask: Option<Prefix>,
+    /// The interface of its new interface address.
+    pub ifp: Option<Gate>,
+    /// Its new interface address.
+    pub ifa: Option<Gate>,
+    /// Which metrics are set, and locked or unlocked, by bits.
+    pub inits: u32,
+    /// The metrics and locks, of which those are taken that `inits` names.
+    pub metrics: Metrics,
+}
+
+/// The route that CHANGE or LOCK means. ESRCH: the destination has no route of its own; ETOOMANYREFS: none with this mask.
+fn target(
+    table: &Table<Route>,
+    visits: &mut Visits,
+    destination: Inet,
+    netmask: Option<Prefix>,
+) -> Result<Entry<Route>, Errno>
+    requires turn { visits.old.turn ≡ table.now.turn }
+    ensures target { result ≡ target_of destination netmask table.now.entries }
+    ensures stands { IfOk result (λ r. StandsIn table.now.entries r) }
+    ensures counter { visits.new.turn ≡ visits.old.turn }
+{
+    match best_route(table, visits, destination) {
+        Some(best) if best.key == destination => {}
+        _ => return Err(Errno::ESRCH),
+    }
+    route_at(table, visits, destination, Rank::of_mask(netmask)).ok_or(Errno::ETOOMANYREFS)
+}
+
+/// Locks or unlocks the metrics of a route that `inits` names. Refused as `request_change`.
+pub fn request_lock(
+    table: &mut Table<Route>,
+    destination: Inet,
+    netmask: Option<Prefix>,
+    inits: u32,
+    locks: u32,
+) -> Result<Entry<Route>, Errno>
+    ensures lock { result ≡ lock destination netmask inits locks table.old.entries }
+    ensures table { IfOk result (λ r. table.new.entries ≡ with_entry r table.old.entries) }
+    ensures kept { OnErr result (table.new.entries ≡ table.old.entries) }
+    ensures of { KeepsAreOf table.old.entries table.new.entries }
+{
+    let mut visits = table.begin();
+    let route = target(table, &mut visits, destination, netmask)?;
+    let mut value = route.value;
+    value.set_locks(inits, locks);
+    rewrite(table, &route, value);
+    Ok(Entry { value, ..route })
+}
+
+impl Change {
+    /// What the new interface address is searched by on its interface.
+    fn sought(&self, route: &Entry<Route>) -> Gate
+        ensures { result ≡ sought_by self.now route.now }
+    {
+        match (self.ifa, self.gateway) {
+            (Some(ifa), _) => ifa,
+            (None, Some(gateway)) => gateway,
+            (None, None) => Gate::Inet(route.key),
+        }
+    }
+
+    /// A route with what is written or found.
+    fn applied(&self, route: &Route, ifa: Option<IfaRef>) -> Route
+        ensures { result ≡ changed_by self.now ifa route.now }
+    {
+        let mut value = *route;
+        if let Some(gateway) = self.gateway {
+            value.gateway = gateway;
+        }
+        if let Some(ifa) = ifa {
+            value.ifa = ifa;
+        }
+        if let Some(genmask) = self.genmask {
+            value.genmask = Some(genmask);
+        }
+        value.set_metrics(self.inits, &self.metrics);
+        value.set_locks(self.inits, self.metrics.locks);
+        value
+    }
+}
+
+/// The interface address that a change asks for.
+fn asked_ifa(
+    table: &Table<Route>,
+    visits: &mut Visits,
+    interfaces: &Interfaces,
+    asked: &Change,
+    route: &Entry<Route>,
+) -> Option<IfaRef>
+    requires turn { visits.old.turn ≡ table.now.turn }
+    requires of { AreOf interfaces.now table.now.entries }
+    ensures found { result ≡ ifa_asked asked.now route.now interfaces.now table.now.entries }
+    ensures of { IfSome result (λ i. IsOf i interfaces.now) }
+    ensures counter { visits.new.turn ≡ visits.old.turn }
+{
+    if let Some(ifp) = asked.ifp {
+        if let Some(on) = interfaces.with_net(ifp) {
+            let index = interfaces.interface_of(on);
+            return interfaces.of_interface(asked.sought(route), index);
+        }
+    }
+    if let Some(ifa) = asked.ifa {
+        if let Some(found) = interfaces.with_addr(ifa) {
+            return Some(found);
+        }
+    }
+    let gateway = asked.gateway?;
+    let fallback = best_ifa(table, visits, route.key);
+    interfaces.for_route(route.value.flags, route.key, gateway, fallback)
+}
+
+/// Changes a route: its gateway, its interface address, its metrics whatever is locked, the mask of its clones, and its locks;
+/// where a gateway is written, it is settled last. ESRCH: the destination has no route of its own; ETOOMANYREFS: none with this
+/// mask.
+pub fn request_change(
+    table: &mut Table<Route>,
+    interfaces: &Interfaces,
+    spare: &mut Spare,
+    asked: &Change,
+) -> Result<Added, Errno>
+    requires of { AreOf interfaces.now table.old.entries }
+    requires fits { FitsSpare table.old spare.old }
+    requires rooms { 1 ≤ length spare.old }
+    ensures change { MatchResult result
+        (λ a. change asked.now interfaces.now table.old.entries ≡ Ok (record { route = a.route; table = table.new.entries; messages = a.messages.items }))
+        (λ e. change asked.now interfaces.now table.old.entries ≡ Err e) }
+    ensures kept { OnErr result (table.new.entries ≡ table.old.entries) }
+    ensures few { IfOk result (λ a. length a.messages.items ≤ 1) }
+    ensures of { AreOf interfaces.now table.new.entries }
+    ensures fits { FitsSpare table.new spare.new }
+    ensures used { length spare.old ≤ length spare.new + 1 }
+{
+    let mut visits = table.begin();
+    let old = target(table, &mut visits, asked.destination, asked.netmask)?;
+    let ifa = asked_ifa(table, &mut visits, interfaces, asked, &old);
+    let value = asked.applied(&old.value, ifa);
+    rewrite(table, &old, value);
+    let messages = settle_written(table, spare, asked.gateway, &value);
+    let route = Entry { value, ..old };
+    Ok(Added { route, messages })
+}
+
+/// Settles a route's gateway where one was written.
+fn settle_written(
+    table: &mut Table<Route>,
+    spare: &mut Spare,
+    written: Option<Gate>,
+    route: &Route,
+) -> ArrayVec<Notice, 2>
+    requires fits { FitsSpare table.old spare.old }
+    requires rooms { 1 ≤ length spare.old }
+    ensures table { table.new.entries ≡ (settled_by written route.now table.old.entries).table }
+    ensures messages { result.items ≡ (settled_by written route.now table.old.entries).messages }
+    ensures few { length result.items ≤ 1 }
+    ensures of { KeepsAreOf table.old.entries table.new.entries }
+    ensures fits { FitsSpare table.new spare.new }
+    ensures used { length spare.old ≤ length spare.new + 1 }
+{
+    match written {
+        Some(_) => settle_gateway(table, spare, route),
+        None => ArrayVec::new(),
+    }
+}

@@ -1,0 +1,21 @@
+//! Packets that take a route.
+ghost use Rattle.std.specs.Prelude.{◌≡◌};
+ghost use Rattle.radix_tree.specs.Table.{with_entry};
+ghost use Rattle.radix_tree.specs.TableLaws.{StandsIn};
+ghost use Rattle.route_ops.specs.Looks.{counted_entry};
+ghost use Rattle.route_ops.specs.Standing.{KeepsAreOf};
+
+use crate::placing::rewrite;
+use radix_tree::{Entry, Table};
+use route_entries::Route;
+
+/// Counts a packet that takes this route of the table.
+pub fn count_use(table: &mut Table<Route>, route: &Entry<Route>)
+    requires { StandsIn table.old.entries route.now }
+    ensures entries { table.new.entries ≡ with_entry (counted_entry route.now) table.old.entries }
+    ensures of { KeepsAreOf table.old.entries table.new.entries }
+{
+    let mut value = route.value;
+    value.count_use();
+    rewrite(table, route, value);
+}

@@ -1,0 +1,70 @@
+//! The requests to delete and to show a route.
+ghost use Rattle.std.specs.Prelude.{◌≡◌, MatchResult, IfOk, Some, None};
+ghost use Rattle.radix_tree.specs.Table.{without};
+ghost use Rattle.radix_tree.specs.TableLaws.{StandsIn};
+ghost use Rattle.route_ops.specs.Deleting.{doomed as doomed_by, got};
+ghost use Rattle.route_ops.specs.Standing.{HasIfaOf, KeepsAreOf};
+
+use crate::reading::{best_route, first_route, route_at};
+use mask_table::{Prefix, Rank};
+use radix_tree::{Entry, Table, Visits};
+use route_entries::Route;
+use route_msgs::flags::RTF_HOST;
+use sock_addrs::{Errno, Inet};
+
+/// Shows the best route of an address, which it neither clones nor counts. ESRCH: there is none.
+pub fn request_get(
+    table: &Table<Route>,
+    visits: &mut Visits,
+    destination: Inet,
+) -> Result<Entry<Route>, Errno>
+    requires turn { visits.old.turn ≡ table.now.turn }
+    ensures got { result ≡ got destination table.now.entries }
+    ensures stands { IfOk result (λ r. StandsIn table.now.entries r) }
+    ensures ifa { IfOk result (λ r. HasIfaOf table.now.entries r) }
+    ensures counter { visits.new.turn ≡ visits.old.turn }
+{
+    let Some(route) = best_route(table, visits, destination) else {
+        return Err(Errno::ESRCH);
+    };
+    Ok(route)
+}
+
+/// Deletes a route: with a mask, and without the flag HOST, the route with this key and mask; otherwise the first of the key.
+/// ESRCH: there is none.
+pub fn request_delete(
+    table: &mut Table<Route>,
+    key: Inet,
+    netmask: Option<Prefix>,
+    flags: u16,
+) -> Result<Entry<Route>, Errno>
+    ensures deleted { MatchResult result
+        (λ r. (doomed_by key netmask flags table.old.entries ≡ Some r) × (table.new.entries ≡ without r.key r.rank table.old.entries))
+        (λ e. (e ≡ Errno.ESRCH) × (doomed_by key netmask flags table.old.entries ≡ None) × (table.new.entries ≡ table.old.entries)) }
+    ensures of { KeepsAreOf table.old.entries table.new.entries }
+{
+    let mut visits = table.begin();
+    let Some(route) = doomed(table, &mut visits, key, netmask, flags) else {
+        return Err(Errno::ESRCH);
+    };
+    let _ = table.remove(route.key, route.rank);
+    Ok(route)
+}
+
+/// The route that DELETE means.
+fn doomed(
+    table: &Table<Route>,
+    visits: &mut Visits,
+    key: Inet,
+    netmask: Option<Prefix>,
+    flags: u16,
+) -> Option<Entry<Route>>
+    requires turn { visits.old.turn ≡ table.now.turn }
+    ensures route { result ≡ doomed_by key netmask flags table.now.entries }
+    ensures counter { visits.new.turn ≡ visits.old.turn }
+{
+    match netmask {
+        Some(prefix) if flags & RTF_HOST == 0 => route_at(table, visits, key, Rank::of(prefix)),
+        _ => first_route(table, visits, key),
+    }
+}

@@ -1,0 +1,34 @@
+//! Laws of requests and look-ups: each function does nothing, and its contract is the law.
+
+ghost use Rattle.route_ops.specs.LookLaws.{CloneIsAdded, CloneIsThere, LinkHasNoRoute, NoneAgrees, RouteIsKnown};
+ghost use Rattle.route_ops.specs.Bringing.{AddingBringsTwo, ChangingBringsOne, DeepLookBringsTwo, LockingBringsNone, LookBringsOne, NoneTakenOut, NoneWrittenAnew, OneMoreAtMost, RedirectBringsTwo, SettlingBringsOne, TableBringsNone};
+
+/// A look-up by cases: a link-layer address, and an address without a route, is missed; a route that doesn't clone is the answer;
+/// where its clone's pair is there, that is missed and the route is the answer; and otherwise the clone is added, and settled
+/// where the look-up is deep.
+pub fn look_up_by_cases()
+    ensures link { LinkHasNoRoute }
+    ensures none { NoneAgrees }
+    ensures known { RouteIsKnown }
+    ensures there { CloneIsThere }
+    ensures cloned { CloneIsAdded }
+{}
+
+/// No look-up or request brings more than two routes that were not there, nor more than two messages.
+pub fn few_are_brought()
+    ensures look_up { LookBringsOne }
+    ensures deep_look_up { DeepLookBringsTwo }
+    ensures settle_gateway { SettlingBringsOne }
+    ensures request_add { AddingBringsTwo }
+    ensures request_change { ChangingBringsOne }
+    ensures request_lock { LockingBringsNone }
+    ensures redirect { RedirectBringsTwo }
+{}
+
+/// How many routes one change of a table brings that were not there.
+pub fn changes_bring()
+    ensures itself { TableBringsNone }
+    ensures with { OneMoreAtMost }
+    ensures anew { NoneWrittenAnew }
+    ensures without { NoneTakenOut }
+{}

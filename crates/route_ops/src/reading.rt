@@ -1,0 +1,88 @@
+//! Routes that are read from the table.
+ghost use Rattle.std.specs.Prelude.{◌≡◌, IfSome, List, option_map};
+ghost use Rattle.if_addrs.specs.Interfaces.{Interface, IsOf};
+ghost use Rattle.radix_tree.specs.Table.{best_of, entry_at, first_of};
+ghost use Rattle.radix_tree.specs.TableLaws.{StandsIn};
+ghost use Rattle.route_ops.specs.Standing.{AreOf};
+
+use if_addrs::IfaRef;
+use mask_table::Rank;
+use radix_tree::{Entry, Table, Visits};
+use route_entries::Route;
+use sock_addrs::Inet;
+
+/// The best route of an address.
+pub(crate) fn best_route(
+    table: &Table<Route>,
+    visits: &mut Visits,
+    address: Inet,
+) -> Option<Entry<Route>>
+    requires turn { visits.old.turn ≡ table.now.turn }
+    ensures best { result ≡ best_of address table.now.entries }
+    ensures stands { IfSome result (λ r. StandsIn table.now.entries r) }
+    ensures counter { visits.new.turn ≡ visits.old.turn }
+{
+    match table.best(address, visits) {
+        Some((key, rank, route)) => Some(Entry {
+            key,
+            rank,
+            value: *route,
+        }),
+        None => None,
+    }
+}
+
+/// The interface address of the best route of an address.
+pub(crate) fn best_ifa(table: &Table<Route>, visits: &mut Visits, address: Inet) -> Option<IfaRef>
+    requires turn { visits.old.turn ≡ table.now.turn }
+    ensures ifa { result ≡ option_map (λ r. r.value.ifa) (best_of address table.now.entries) }
+    ensures of { IfSome result (λ i. (interfaces : List Interface) → AreOf interfaces table.now.entries → IsOf i interfaces) }
+    ensures counter { visits.new.turn ≡ visits.old.turn }
+{
+    match best_route(table, visits, address) {
+        Some(route) => Some(route.value.ifa),
+        None => None,
+    }
+}
+
+/// The route with this key and rank.
+pub(crate) fn route_at(
+    table: &Table<Route>,
+    visits: &mut Visits,
+    key: Inet,
+    rank: Rank,
+) -> Option<Entry<Route>>
+    requires turn { visits.old.turn ≡ table.now.turn }
+    ensures route { result ≡ entry_at key rank table.now.entries }
+    ensures stands { IfSome result (λ r. StandsIn table.now.entries r) }
+    ensures counter { visits.new.turn ≡ visits.old.turn }
+{
+    match table.get(key, rank, visits) {
+        Some(value) => Some(Entry {
+            key,
+            rank,
+            value: *value,
+        }),
+        None => None,
+    }
+}
+
+/// The first route with this key.
+pub(crate) fn first_route(
+    table: &Table<Route>,
+    visits: &mut Visits,
+    key: Inet,
+) -> Option<Entry<Route>>
+    requires turn { visits.old.turn ≡ table.now.turn }
+    ensures route { result ≡ first_of key table.now.entries }
+    ensures counter { visits.new.turn ≡ visits.old.turn }
+{
+    match table.first_of(key, visits) {
+        Some((rank, value)) => Some(Entry {
+            key,
+            rank,
+            value: *value,
+        }),
+        None => None,
+    }
+}

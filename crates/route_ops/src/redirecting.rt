@@ -1,0 +1,201 @@
+//! Redirects.
+ghost use Rattle.std.specs.Prelude.{◌≡◌, ◌+◌, ◌≤◌, length, ◌∷◌, ◌++◌, [], OnSome, Some};
+ghost use Rattle.route_ops.specs.Adding.{added as added_of};
+ghost use Rattle.route_ops.specs.Redirecting.{dynamic, is_of_another as is_of_another_by, match_modify, modified as modified_by, redirect as redirect_of, redirect_told, verdict as verdict_of, verdict_on};
+ghost use Rattle.route_ops.specs.Spares.{FitsSpare};
+ghost use Rattle.radix_tree.specs.TableLaws.{StandsIn};
+ghost use Rattle.route_ops.specs.Standing.{AreOf, KeepsAreOf};
+
+use crate::adding::{Added, NewRoute, request_add};
+use crate::looking::settle_gateway;
+use crate::notice::Notice;
+use crate::placing::rewrite;
+use crate::reading::best_route;
+use crate::spare::Spare;
+use arrayvec::ArrayVec;
+use if_addrs::{IfaRef, Interfaces};
+use radix_tree::{Entry, Table, Visits};
+use route_entries::Route;
+use route_msgs::Metrics;
+use route_msgs::flags::{RTF_DONE, RTF_DYNAMIC, RTF_GATEWAY, RTF_HOST, RTF_MODIFIED};
+use sock_addrs::{Errno, Gate, Inet};
+
+/// What a redirect says (ICMP of RFC 792): the destination is reached by this gateway.
+#[derive(Clone, Copy, Debug, PartialEq, Eq)]
+pub struct NewGateway {
+    /// The destination, a host.
+    pub destination: Inet,
+    /// The gateway that it is reached by.
+    pub gateway: Inet,
+    /// Who says so: the gateway that was used until now.
+    pub author: Inet,
+}
+
+/// What a redirect came to.
+#[derive(Drop)]
+pub struct Redirected {
+    /// Why it was not followed, where it was not.
+    pub errno: Option<Errno>,
+    /// The messages that it made, in their order: that of the settling, where there is one, and its own.
+    pub messages: ArrayVec<Notice, 2>,
+}
+
+/// What is done about a redirect.
+#[derive(Drop)]
+pub(crate) enum Verdict {
+    /// It is refused.
+    Refuse(Errno),
+    /// A route of the host is made.
+    Create,
+    /// This route gets the new gateway.
+    Modify(Entry<Route>),
+}
+
+impl NewGateway {
+    /// The route that is created for its destination.
+    fn route(&self) -> NewRoute
+        ensures { result ≡ dynamic self.now }
+    {
+        NewRoute {
+            destination: self.destination,
+            netmask: None,
+            gateway: Gate::Inet(self.gateway),
+            genmask: None,
+            flags: RTF_GATEWAY | RTF_HOST | RTF_DYNAMIC,
+            inits: 0,
+            metrics: Metrics::default(),
+        }
+    }
+
+    /// What it came to: its own message, with the flag of what was done or tried, comes behind those of the settling.
+    fn ended(
+        &self,
+        tried: u16,
+        errno: Option<Errno>,
+        mut messages: ArrayVec<Notice, 2>,
+    ) -> Redirected
+        requires { length messages.items ≤ 1 }
+        ensures errno { result.errno ≡ errno }
+        ensures messages { result.messages.items ≡ messages.items ++ redirect_told self.now tried errno ∷ [] }
+    {
+        messages.push(Notice::Redirect {
+            destination: self.destination,
+            gateway: Gate::Inet(self.gateway),
+            author: self.author,
+            flags: RTF_GATEWAY | RTF_HOST | RTF_DONE | tried,
+            errno,
+        });
+        Redirected { errno, messages }
+    }
+}
+
+/// Follows a redirect (`rtredirect` of 4.4BSD), which makes a message in each case. Refused, in this order, and no route is
+/// changed then: ENETUNREACH: the gateway is in no interface's network; EINVAL: the author isn't the gateway of the route, or the
+/// new gateway is in another network than it; EHOSTUNREACH: the gateway is an address of an interface, or the route has no
+/// gateway; and where a route is made, as `request_add`.
+pub fn redirect(
+    table: &mut Table<Route>,
+    interfaces: &Interfaces,
+    spare: &mut Spare,
+    asked: &NewGateway,
+) -> Redirected
+    requires of { AreOf interfaces.now table.old.entries }
+    requires fits { FitsSpare table.old spare.old }
+    requires rooms { 2 ≤ length spare.old }
+    ensures redirect { redirect_of asked.now interfaces.now table.old.entries
+        ≡ record { table = table.new.entries; messages = result.messages.items; errno = result.errno } }
+    ensures kept { OnSome result.errno (table.new.entries ≡ table.old.entries) }
+    ensures few { length result.messages.items ≤ 2 }
+    ensures of { AreOf interfaces.now table.new.entries }
+    ensures fits { FitsSpare table.new spare.new }
+    ensures used { length spare.old ≤ length spare.new + 2 }
+{
+    let mut visits = table.begin();
+    match consider(table, &mut visits, interfaces, asked) {
+        Verdict::Refuse(errno) => asked.ended(0, Some(errno), ArrayVec::new()),
+        Verdict::Create => match request_add(table, interfaces, spare, &asked.route()) {
+            Ok(added) => asked.ended(RTF_DYNAMIC, None, added.messages),
+            Err(errno) => asked.ended(RTF_DYNAMIC, Some(errno), ArrayVec::new()),
+        },
+        Verdict::Modify(route) => {
+            let added = modify(table, spare, route, asked.gateway);
+            asked.ended(RTF_MODIFIED, None, added.messages)
+        }
+    }
+}
+
+/// Gives a route of the table a new gateway, and settles that.
+fn modify(table: &mut Table<Route>, spare: &mut Spare, old: Entry<Route>, gateway: Inet) -> Added
+    requires stands { StandsIn table.old.entries old }
+    requires fits { FitsSpare table.old spare.old }
+    requires rooms { 1 ≤ length spare.old }
+    ensures added { added_of (modified_by gateway old) table.old.entries
+        ≡ record { route = result.route; table = table.new.entries; messages = result.messages.items } }
+    ensures few { length result.messages.items ≤ 1 }
+    ensures of { KeepsAreOf table.old.entries table.new.entries }
+    ensures fits { FitsSpare table.new spare.new }
+    ensures used { length spare.old ≤ length spare.new + 1 }
+{
+    let mut value = old.value;
+    value.gateway = Gate::Inet(gateway);
+    value.flags |= RTF_MODIFIED;
+    rewrite(table, &old, value);
+    let messages = settle_gateway(table, spare, &value);
+    let route = Entry { value, ..old };
+    Added { route, messages }
+}
+
+/// What is done about a redirect.
+fn consider(
+    table: &Table<Route>,
+    visits: &mut Visits,
+    interfaces: &Interfaces,
+    asked: &NewGateway,
+) -> Verdict
+    requires turn { visits.old.turn ≡ table.now.turn }
+    ensures verdict { result ≡ verdict_of asked.now interfaces.now table.now.entries }
+    ensures stands { match_modify result (λ r. StandsIn table.now.entries r) }
+    ensures counter { visits.new.turn ≡ visits.old.turn }
+{
+    let best = best_route(table, visits, asked.destination);
+    let Some(near) = interfaces.with_net(Gate::Inet(asked.gateway)) else {
+        return Verdict::Refuse(Errno::ENETUNREACH);
+    };
+    if is_of_another(&best, asked.author, near) {
+        return Verdict::Refuse(Errno::EINVAL);
+    }
+    if interfaces.with_addr(Gate::Inet(asked.gateway)).is_some() {
+        return Verdict::Refuse(Errno::EHOSTUNREACH);
+    }
+    judge(best)
+}
+
+/// What is done about the best route of the destination.
+fn judge(best: Option<Entry<Route>>) -> Verdict
+    ensures verdict { result ≡ verdict_on best }
+    ensures route { match_modify result (λ r. best ≡ Some r) }
+{
+    let Some(route) = best else {
+        return Verdict::Create;
+    };
+    if route.rank.number() == 0 {
+        return Verdict::Create;
+    }
+    if !route.value.has(RTF_GATEWAY) {
+        return Verdict::Refuse(Errno::EHOSTUNREACH);
+    }
+    if !route.value.has(RTF_HOST) {
+        return Verdict::Create;
+    }
+    Verdict::Modify(route)
+}
+
+/// Whether the best route leads elsewhere than over the author and out of this interface address.
+fn is_of_another(best: &Option<Entry<Route>>, author: Inet, near: IfaRef) -> bool
+    ensures { result ≡ is_of_another_by best.now author near }
+{
+    match best {
+        None => false,
+        Some(route) => route.value.gateway != Gate::Inet(author) || route.value.ifa != near,
+    }
+}

@@ -1,0 +1,71 @@
+//! The rooms that a step may need.
+ghost use Rattle.std.specs.Prelude.{◌≡◌, ◌≤◌, ◌∷◌, length, IfOk};
+ghost use Rattle.route_ops.specs.Spares.{FitsSpare};
+
+use radix_tree::{Room, Table};
+use route_entries::Route;
+use std::alloc::AllocError;
+use std::marker::Model;
+
+/// The rooms that are left of the two that a step may need. It is finished, and can't be dropped. A contract sees the rooms'
+/// numbers.
+pub struct Spare {
+    first: Option<Room<Route>>,
+    second: Option<Room<Route>>,
+}
+
+impl Model for Spare {
+    ghost use Rattle.std.specs.Prelude.{ℕ, List};
+
+    ghost Value = { List ℕ };
+
+    ghost use Rattle.route_ops.specs.Spares.{rooms_in};
+
+    ghost view = { λ s. rooms_in s.first s.second };
+}
+
+/// Makes the two rooms that a step may need. `Err` where there is no memory for them.
+pub fn prepare(table: &mut Table<Route>) -> Result<Spare, AllocError>
+    ensures two { IfOk result (λ spare. length spare ≡ 2) }
+    ensures fits { IfOk result (λ spare. FitsSpare table.new spare) }
+    ensures entries { table.new.entries ≡ table.old.entries }
+{
+    let first = table.room()?;
+    match table.room() {
+        Ok(second) => Ok(Spare {
+            first: Some(first),
+            second: Some(second),
+        }),
+        Err(error) => {
+            table.give_back(first);
+            Err(error)
+        }
+    }
+}
+
+/// Gives back to the table the rooms that are left.
+pub fn finish(table: &mut Table<Route>, spare: Spare)
+    requires { FitsSpare table.old spare }
+    ensures { table.new ≡ table.old }
+{
+    let Spare { first, second } = spare;
+    if let Some(room) = first {
+        table.give_back(room);
+    }
+    if let Some(room) = second {
+        table.give_back(room);
+    }
+}
+
+impl Spare {
+    /// Takes one of the rooms out.
+    pub(crate) fn take(&mut self) -> Room<Route>
+        requires { 1 ≤ length self.old }
+        ensures { self.old ≡ result ∷ self.new }
+    {
+        match self.first.take() {
+            Some(room) => room,
+            None => self.second.take().unwrap(),
+        }
+    }
+}

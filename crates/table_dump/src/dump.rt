@@ -1,0 +1,65 @@
+//! Dumps, and how long they are.
+ghost use Rattle.std.specs.Prelude.{◌≡◌, ◌≤◌, length, List, IfOk};
+ghost use Rattle.std.specs.List.{AllByRecursion};
+ghost use Rattle.if_addrs.specs.Interfaces.{Interface, IsOf};
+ghost use Rattle.table_dump.specs.Dumps.{IsWhole, bytes_of, dump_fault, fitting, shown_of, total_of};
+
+use crate::shown::{is_asked, shown};
+use if_addrs::Interfaces;
+use radix_tree::{Table, Visits};
+use route_entries::Route;
+use sock_addrs::Errno;
+use std::alloc::{AllocError, Global};
+
+/// How many bytes the dump of a table takes, or `u64::MAX` where they are more: of all routes, or of those that have a flag of
+/// the filter.
+#[tactic(auto, using(crate::proofs::Showing::asked, crate::proofs::Showing::passed, crate::proofs::Showing::added))]
+pub fn total(table: &Table<Route>, visits: &mut Visits, filter: Option<u32>) -> u64
+    requires turn { visits.old.turn ≡ table.now.turn }
+    ensures total { (interfaces : List Interface) → result ≡ total_of (shown_of filter interfaces table.now.entries) }
+    ensures counter { visits.new.turn ≡ visits.old.turn }
+{
+    let mut walk = table.walk(visits);
+    let mut total = 0u64;
+    while let Some((key, rank, route)) = walk.step(visits) {
+        if is_asked(route, filter) {
+            total = total.saturating_add(shown(0, key, rank, route).len() as u64);
+        }
+    }
+    total
+}
+
+/// The dump of a table into so many bytes: the messages of its routes in table order, of all or of those that have a flag of the
+/// filter, as many whole ones from the front as fit. ENOMEM beside them where they are not all. `Err` where there is no memory.
+#[tactic(auto, using(crate::proofs::Showing::asked, crate::proofs::Showing::passed, crate::proofs::Fronts::given_first, crate::proofs::Fronts::none_given, crate::proofs::Fronts::all_given))]
+pub fn dump_into(
+    alloc: Global,
+    table: &Table<Route>,
+    interfaces: &Interfaces,
+    visits: &mut Visits,
+    room: u32,
+    filter: Option<u32>,
+) -> Result<(Vec<u8>, Option<Errno>), AllocError>
+    requires turn { visits.old.turn ≡ table.now.turn }
+    requires of { AllByRecursion (λ r. IsOf r.value.ifa interfaces.now) table.now.entries }
+    ensures bytes { IfOk result (λ d. d.0.items ≡ bytes_of (fitting room (shown_of filter interfaces.now table.now.entries))) }
+    ensures errno { IfOk result (λ d. d.1 ≡ dump_fault room (shown_of filter interfaces.now table.now.entries)) }
+    ensures whole { IfOk result (λ d. AllByRecursion IsWhole (fitting room (shown_of filter interfaces.now table.now.entries))) }
+    ensures counter { visits.new.turn ≡ visits.old.turn }
+{
+    let mut walk = table.walk(visits);
+    let mut bytes = Vec::new(alloc);
+    let mut left = room as usize;
+    while let Some((key, rank, route)) = walk.step(visits) {
+        if !is_asked(route, filter) {
+            continue;
+        }
+        let message = shown(interfaces.interface_of(route.ifa), key, rank, route);
+        if left < message.len() {
+            return Ok((bytes, Some(Errno::ENOMEM)));
+        }
+        left -= message.len();
+        bytes.extend_from_slice(&message)?;
+    }
+    Ok((bytes, None))
+}
