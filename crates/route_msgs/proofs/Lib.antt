@@ -3,6 +3,6 @@ mod HeadersRead
 mod LinkSockaddr
 mod Placed
 mod Offsets
-mod SizesRead
+pub mod SizesRead
 mod SlotsWritten
 mod AddressSizes
