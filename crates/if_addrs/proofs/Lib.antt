@@ -5,4 +5,5 @@ pub mod Numbers
 pub mod ReferenceLawsProved
 pub mod SearchLawsProved
 pub mod Searching
+pub mod StandingLaws
 pub mod Texts

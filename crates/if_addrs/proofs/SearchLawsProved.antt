@@ -13,9 +13,9 @@ use Rattle.std.specs.Option.{option_or}
 use Rattle.if_addrs.proofs.Searching.{found_standing, filtered_standing, nearest_is}
 
 -- a test that says whether P holds
-record Decides (P : Address → Type 0) (q : Address → Bool) : Type 0 where
-  holds_so : (a : Address) → q a ≡ true → P a
-  fails : (a : Address) → q a ≡ false → ¬ (P a)
+pub record Decides (P : Address → Type 0) (q : Address → Bool) : Type 0 where
+  pub holds_so : (a : Address) → q a ≡ true → P a
+  pub fails : (a : Address) → q a ≡ false → ¬ (P a)
 
 -- THE FIRST
 
@@ -32,7 +32,7 @@ finds_more : (P : Address → Type 0) (x : Address) (xs : List Address) (o : Opt
 finds_more P x xs None fails h = (fails, h)
 finds_more P x xs (Some i) fails h = (h.0, h.1, first_of_more P x xs h.0 fails h.2)
 
-finds_first : (P : Address → Type 0) (q : Address → Bool) → Decides P q → (xs : List Address) → Finds IsFirst P xs (option_map reference (find q xs))
+pub finds_first : (P : Address → Type 0) (q : Address → Bool) → Decides P q → (xs : List Address) → Finds IsFirst P xs (option_map reference (find q xs))
 finds_first P q d [] = tt
 finds_first P q d (x ∷ xs) =
     elim (q x) as (λ b. q x ≡ b → Finds IsFirst P (x ∷ xs) (option_map reference (cond b (Some x) (find q xs)))) [
@@ -178,13 +178,13 @@ leads_decides address = record {
   fails = λ a h w. unequal a.far address (not_at_end a.kind (nat_eq a.far address) (stands_no a.removed (leads_to address a) h w.0) w.1) w.2;
 }
 
-holds_decides : (address : ℕ) → Decides (NetworkHolds address) (λ a. not a.removed && network_holds address a)
+pub holds_decides : (address : ℕ) → Decides (NetworkHolds address) (λ a. not a.removed && network_holds address a)
 holds_decides address = record {
   holds_so = λ a h. (let parts = stands_yes a.removed (network_holds address a) h in (parts.0, equal (front a.prefix a.address) (front a.prefix address) parts.1));
   fails = λ a h w. unequal (front a.prefix a.address) (front a.prefix address) (stands_no a.removed (network_holds address a) h w.0) w.1;
 }
 
-stands_decides : Decides Stands (λ a. not a.removed)
+pub stands_decides : Decides Stands (λ a. not a.removed)
 stands_decides = record { holds_so = λ a h. stood a.removed h; fails = λ a h w. not_stood a.removed h w }
   where
     stood : (r : Bool) → not r ≡ true → r ≡ false

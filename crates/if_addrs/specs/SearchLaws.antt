@@ -1,9 +1,10 @@
 -- What the searches find, in words, and what they don't.
-use Rattle.std.specs.Prelude.{◌≡◌, ℕ, ◌<◌, ◌≤◌, ◌⊎◌, false, List, ◌∷◌, ◌++◌, Option, None, Some}
+use Rattle.std.specs.Prelude.{◌≡◌, ℕ, ◌<◌, ◌≤◌, ◌⊎◌, false, List, ◌∷◌, ◌++◌, Option, None, Some, IfSome}
 use Rattle.std.specs.List.{AllByRecursion}
 use Rattle.sock_addrs.specs.declared.gate.Gate.TheVariants as gate
 use Rattle.mask_table.specs.Agreeing.{front}
-use Rattle.if_addrs.specs.Interfaces.{Address, Interface, addresses_of, reference}
+use Rattle.if_addrs.specs.Interfaces.{Address, Interface, IsStanding, addresses_of, reference, without_addr}
+use Rattle.if_addrs.specs.Numbered.{NumberedOnce}
 use Rattle.if_addrs.specs.Searches.{addresses_on, of_interface, with_addr, with_far, with_net}
 use Rattle.if_addrs.specs.declared.kind.Kind.TheVariants.{Broadcast, PointToPoint}
 use Rattle.if_addrs.specs.declared.reference.IfaRef.{IfaRef}
@@ -65,3 +66,15 @@ OfInterfaceInWords = (address index : ℕ) (interfaces : List Interface)
     → Finds IsFirst Stands (addresses_on index interfaces) (of_interface (gate.Inet address) index interfaces))
     × (¬ (AllByRecursion (λ a. ¬ (NetworkHolds address a)) (addresses_on index interfaces))
     → Finds IsFirst (NetworkHolds address) (addresses_on index interfaces) (of_interface (gate.Inet address) index interfaces))
+
+-- whatever address is found stands
+abbrev pub FoundStands : Type 0
+FoundStands = (address index : ℕ) (interfaces : List Interface) → NumberedOnce interfaces
+    → IfSome (with_addr (gate.Inet address) interfaces) (λ i. IsStanding i interfaces)
+    × IfSome (with_far (gate.Inet address) interfaces) (λ i. IsStanding i interfaces)
+    × IfSome (with_net (gate.Inet address) interfaces) (λ i. IsStanding i interfaces)
+    × IfSome (of_interface (gate.Inet address) index interfaces) (λ i. IsStanding i interfaces)
+
+-- an address that was removed doesn't
+abbrev pub RemovedStandsNot : Type 0
+RemovedStandsNot = (i : IfaRef) (interfaces : List Interface) → ¬ (IsStanding i (without_addr i interfaces))

@@ -3,7 +3,7 @@
 ghost use Rattle.if_addrs.specs.InterfaceLaws.{LastOfNetworkIsGreatest};
 ghost use Rattle.if_addrs.specs.Numbered.{NumberedOnce};
 ghost use Rattle.if_addrs.specs.ReferenceLaws.{AddingLasts, AttachingLasts, MarkingLasts, MostByNumber, NoneNumbered, RemovingLasts};
-ghost use Rattle.if_addrs.specs.SearchLaws.{OfInterfaceInWords, WithAddrInWords, WithFarInWords, WithNetInWords};
+ghost use Rattle.if_addrs.specs.SearchLaws.{FoundStands, OfInterfaceInWords, RemovedStandsNot, WithAddrInWords, WithFarInWords, WithNetInWords};
 
 use crate::Interfaces;
 
@@ -37,6 +37,12 @@ pub fn searches_in_words()
     ensures far { WithFarInWords }
     ensures network { WithNetInWords }
     ensures interface { OfInterfaceInWords }
+{}
+
+/// Whatever address a search finds stands, and one that was removed doesn't: so no search finds it.
+pub fn removed_is_not_found()
+    ensures found { FoundStands }
+    ensures removed { RemovedStandsNot }
 {}
 
 /// How many interfaces and addresses there may be, as numbers.
