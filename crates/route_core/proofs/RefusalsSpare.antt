@@ -5,11 +5,12 @@ use Rattle.std.specs.List.{list_any}
 use Rattle.std.proofs.lemmas.Bool.Decides.{nat_tests}
 use Rattle.sock_addrs.specs.declared.errno.Errno.{Errno}
 use Rattle.sock_addrs.specs.declared.errno.Errno.TheVariants.{EADDRINUSE, EBADF, EEXIST, EINVAL, EMFILE, ENOBUFS, ENOSPC, ENXIO, ESRCH}
-use Rattle.if_addrs.specs.Interfaces.{Address, Interface, added, addr_fault, attach_fault, fits, has_name, holds, kind_of, most_addresses, most_interfaces, named, new_address, with_address}
+use Rattle.if_addrs.specs.Interfaces.{Address, Interface, added, addr_fault, attach_fault, fits, has_name, holds, kind_of, named, new_address, with_address}
 use Rattle.sock_addrs.specs.Rules.{Rule, rule, first_fault, unless_fault}
 use Rattle.sock_addrs.specs.Sockaddrs.{family}
 use Rattle.sock_addrs.specs.declared.families.TheConstants.{AF_INET}
 use Rattle.listeners.specs.Sockets.{Socket, closed_fault, has_id, listen_fault, messages_of, pid_of, socket_of}
+use Rattle.if_addrs.specs.declared.limits.TheConstants.{MOST_ADDRESSES, MOST_INTERFACES}
 use Rattle.listeners.specs.declared.limits.TheConstants.{MOST_SOCKETS}
 use Rattle.route_core.specs.Addresses.{entry_of_address}
 use Rattle.route_core.specs.Effects.{IsEffect}
@@ -53,7 +54,7 @@ two-all : (P : Errno → Type 0) (a b : Bool) (x y : Errno) → P x → P y → 
 two-all P a b x y p q = first_fault-all P (rule a x ∷ rule b y ∷ []) (p, (q, tt))
 
 attach_fault-found : (name : List ℕ) (interfaces : List Interface) → IfSome (attach_fault name interfaces) IsFound
-attach_fault-found name interfaces = two-all IsFound (list_any (has_name name) interfaces) (nat_le most_interfaces (length interfaces)) EEXIST ENOSPC (λ h. absurd (cc)) (λ h. absurd (cc))
+attach_fault-found name interfaces = two-all IsFound (list_any (has_name name) interfaces) (nat_le MOST_INTERFACES (length interfaces)) EEXIST ENOSPC (λ h. absurd (cc)) (λ h. absurd (cc))
 
 listen_fault-found : (id : List ℕ) (sockets : List Socket) → IfSome (listen_fault id sockets) IsFound
 listen_fault-found id sockets = two-all IsFound (list_any (has_id id) sockets) (nat_le MOST_SOCKETS (length sockets)) EEXIST EMFILE (λ h. absurd (cc)) (λ h. absurd (cc))
@@ -66,7 +67,7 @@ addr_fault-all P name address far interfaces p q r s = first_fault-all P
     (rule (is_none (named name interfaces)) ENXIO
     ∷ rule (not (fits (kind_of name interfaces) far)) EINVAL
     ∷ rule (list_any (holds address) interfaces) EADDRINUSE
-    ∷ rule (nat_le most_addresses (added interfaces)) ENOSPC
+    ∷ rule (nat_le MOST_ADDRESSES (added interfaces)) ENOSPC
     ∷ [])
     (p, (q, (r, (s, tt))))
 
