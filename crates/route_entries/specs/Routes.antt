@@ -47,4 +47,5 @@ with_metrics inits new old = record old {
 
 -- the locks without inits, or those of inits that are to be locked
 abbrev pub with_locks : ℕ → ℕ → Metrics → Metrics
-with_locks inits locks metrics = record metrics { locks = bit_or (bit_and metrics.locks (bit_not w32 inits)) (bit_and inits locks) }
+with_locks inits locks metrics =
+    record metrics { locks = bit_or (bit_and metrics.locks (bit_not w32 inits)) (bit_and inits locks) }

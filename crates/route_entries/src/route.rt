@@ -77,8 +77,8 @@ fn chosen(inits: u32, bit: u32, new: u32, old: u32) -> u32
     if inits & bit == 0 { old } else { new }
 }
 
-/// The clone that a route makes of itself for an address, and the clone's rank (RTM_RESOLVE of `rtrequest` in 4.4BSD). It
-/// doesn't clone again; where the route has no mask for its clones, the clone is the route of a host.
+/// The clone that a route makes of itself for an address, and the clone's rank (RTM_RESOLVE of `rtrequest` in
+/// 4.4BSD). It doesn't clone again; where the route has no mask for its clones, the clone is the route of a host.
 pub fn clone_of(parent: &Route) -> (Route, Rank)
     ensures route { result.0 ≡ cloned parent.now }
     ensures rank { result.1 ≡ clone_rank parent.now.genmask }

@@ -10,7 +10,7 @@ use Rattle.radix_tree.specs.declared.entry.Entry.{Entry}
 use Rattle.route_entries.specs.Routes.{has_flag}
 use Rattle.route_entries.specs.declared.route.Route.{Route}
 use Rattle.route_ops.specs.LookLaws.{CloneIsAdded, CloneIsThere, LinkHasNoRoute, NoneAgrees, RouteIsKnown}
-use Rattle.route_ops.specs.Looks.{Look, Settled, clone_at, clone_or_parent, found_by, look_of, resolved, settle, unsettled, with_clone}
+use Rattle.route_ops.specs.Looks.{Settled, clone_at, clone_or_parent, found_by, look_of, resolved, settle, unsettled}
 use Rattle.route_ops.specs.declared.looking.Found.{Found}
 use Rattle.route_ops.specs.declared.looking.Found.TheVariants.{Nothing, Known, NotCloned, Cloned}
 use Rattle.route_ops.specs.declared.notice.Notice.{Notice}

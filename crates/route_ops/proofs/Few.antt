@@ -1,5 +1,5 @@
 -- How little one call brings.
-use Rattle.std.proofs.Common.{◌≡◌, ℕ, ◌+◌, ◌≤◌, Bool, true, false, nat_eq, subst, List, [], ◌∷◌, ◌++◌, length, Option, Some, None, refl, sym, ap, ◌∙◌, arith, length-append}
+use Rattle.std.proofs.Common.{◌≡◌, ℕ, ◌+◌, ◌≤◌, true, false, nat_eq, subst, List, [], ◌∷◌, ◌++◌, length, Option, Some, None, refl, arith, length-append}
 use Rattle.std.specs.Prelude.{is_some, if◌then◌else◌, Result, Ok, Err, ok_or}
 use Rattle.sock_addrs.specs.declared.errno.Errno.{Errno}
 use Rattle.sock_addrs.specs.declared.errno.Errno.TheVariants.{ESRCH, ETOOMANYREFS}
@@ -16,8 +16,8 @@ use Rattle.route_entries.specs.declared.route.Route.{Route}
 use Rattle.route_ops.specs.Adding.{Adding, add, add_by, add_entry, added, ifa_for, new_entry}
 use Rattle.route_ops.specs.Bringing.{AddingBringsTwo, Brings, ChangingBringsOne, DeepLookBringsTwo, LockingBringsNone, LookBringsOne, RedirectBringsTwo, SettlingBringsOne}
 use Rattle.route_ops.specs.Changing.{change_by, changed_entry, lock_by, locked, rewritten, settle_written, target, target_by}
-use Rattle.route_ops.specs.Looks.{Settled, found, look_of, pair_fault, settle, settle_found, told_of, unsettled, with_clone}
-use Rattle.route_ops.specs.Redirecting.{Redirection, created, dynamic, followed, modified, redirect_by, redirect_told, refused, verdict}
+use Rattle.route_ops.specs.Looks.{Settled, found, look_of, pair_fault, settle, told_of, unsettled, with_clone}
+use Rattle.route_ops.specs.Redirecting.{created, dynamic, followed, modified, redirect_by, redirect_told, refused, verdict}
 use Rattle.route_ops.specs.Standing.{brought}
 use Rattle.route_ops.specs.declared.adding.NewRoute.{NewRoute}
 use Rattle.route_ops.specs.declared.changing.Change.{Change}

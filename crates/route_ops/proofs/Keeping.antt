@@ -1,12 +1,13 @@
 -- Adding a route whose pair isn't there keeps the others, and a route whose interface address is of the interfaces keeps them so.
-use Rattle.std.proofs.Common.{◌≡◌, ℕ, true, false, List, Option, Some, None, refl}
-use Rattle.std.specs.Prelude.{is_some, IfSome, unwrap_or}
+use Rattle.std.proofs.Common.{◌≡◌, List, [], ◌∷◌, Option, Some, None, refl}
+use Rattle.std.specs.Prelude.{IfSome, unwrap_or}
 use Rattle.radix_tree.specs.Table.{Contents, entry_at, with_entry}
 use Rattle.radix_tree.specs.TableLaws.{StandsIn}
 use Rattle.radix_tree.specs.Lending.{with_value}
 use Rattle.radix_tree.specs.declared.entry.Entry.{Entry}
 use Rattle.radix_tree.proofs.MemberLemmas.{all_entry_at, all_with, with_keeps, with_stands}
 use Rattle.if_addrs.specs.Interfaces.{Interface, IsOf}
+use Rattle.if_addrs.specs.Keeping.{KeepsIfas}
 use Rattle.if_addrs.specs.declared.reference.IfaRef.{IfaRef}
 use Rattle.route_entries.specs.declared.route.Route.{Route}
 use Rattle.route_ops.specs.Standing.{AreOf, HasIfaOf, KeepsAreOf, KeepsRoutes}
@@ -19,6 +20,11 @@ added_stands c old new is = rw is (with_stands old c)
 
 pub added_of : (interfaces : List Interface) (c : Entry Route) (old new : List (Entry Route)) → new ≡ with_entry c old → IsOf c.value.ifa interfaces → AreOf interfaces old → AreOf interfaces new
 added_of interfaces c old new is of are = rw is (all_with (λ x. IsOf x.value.ifa interfaces) c old are of)
+
+-- routes stay of interfaces that keep their addresses
+pub are_kept : (old new : List Interface) (table : List (Entry Route)) → KeepsIfas old new → AreOf old table → AreOf new table
+are_kept old new [] keeps are = tt
+are_kept old new (r ∷ rest) keeps are = (keeps r.value.ifa are.0, are_kept old new rest keeps are.1)
 
 -- a route that stands in a table has an interface address of those that its routes have
 pub ifa_of : (interfaces : List Interface) (table : List (Entry Route)) (r : Entry Route) → AreOf interfaces table → StandsIn table r → IsOf r.value.ifa interfaces

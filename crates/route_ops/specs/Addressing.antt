@@ -23,14 +23,23 @@ address_rank facts = if has_broadcast facts.kind then facts.prefix else 33
 -- it is up, cloning where the address is, and of a host where it leads to the far address
 abbrev pub address_flags : Facts → ℕ
 address_flags facts =
-    bit_or (bit_or RTF_UP (if bit_and facts.flags cloning_flag == 0 then 0 else RTF_CLONING)) (if has_broadcast facts.kind then 0 else RTF_HOST)
+    let cloning = if bit_and facts.flags cloning_flag == 0 then 0 else RTF_CLONING in
+    let host = if has_broadcast facts.kind then 0 else RTF_HOST in
+    bit_or (bit_or RTF_UP cloning) host
 
 -- the route that an address brings, by way of the address itself
 abbrev pub address_entry : IfaRef → ℕ → Facts → Entry Route
 address_entry ifa address facts = record {
   key = address_key address facts;
   rank = address_rank facts;
-  value = record { flags = address_flags facts; gateway = gate.Inet address; metrics = no_metrics; genmask = None; ifa = ifa; use_count = 0 };
+  value = record {
+    flags = address_flags facts;
+    gateway = gate.Inet address;
+    metrics = no_metrics;
+    genmask = None;
+    ifa = ifa;
+    use_count = 0;
+  };
 }
 
 -- there is a route, and it leads out of another interface address
@@ -38,12 +47,15 @@ abbrev pub is_anothers : IfaRef → Option (Entry Route) → Bool
 is_anothers ifa None = false
 is_anothers ifa (Some r) = not (same_ifa r.value.ifa ifa)
 
--- the route that an address takes away, by its key: with the address's rank on a broadcast interface, and the first on the others
+-- the route that an address takes away, by its key: with the address's rank on a broadcast interface, and the first
+-- on the others
 abbrev pub brought_by : ℕ → Facts → List (Entry Route) → Option (Entry Route)
 brought_by key facts table = if has_broadcast facts.kind then entry_at key facts.prefix table else first_of key table
 
--- it takes away one only where it brought one, and where the best route of the key isn't another interface address's by now
+-- it takes away one only where it brought one, and where the best route of the key isn't another interface address's
+-- by now
 abbrev pub withdrawn : IfaRef → ℕ → Facts → List (Entry Route) → Option (Entry Route)
 withdrawn ifa address facts table =
     let key = address_key address facts in
-    if bit_and facts.flags routed_flag == 0 || is_anothers ifa (best_of key table) then None else brought_by key facts table
+    if bit_and facts.flags routed_flag == 0 || is_anothers ifa (best_of key table) then None
+    else brought_by key facts table

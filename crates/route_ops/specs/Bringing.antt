@@ -21,13 +21,16 @@ pub record Brings (routes messages : ℕ) (old new : List (Entry Route)) (told :
   pub few_messages : length told ≤ messages
 
 abbrev pub DeepLookBringsTwo : Type 0
-DeepLookBringsTwo = (about : Gate) (table : List (Entry Route)) → let it = look true about table in Brings 2 2 table it.table it.messages
+DeepLookBringsTwo = (about : Gate) (table : List (Entry Route))
+    → let it = look true about table in Brings 2 2 table it.table it.messages
 
 abbrev pub LookBringsOne : Type 0
-LookBringsOne = (about : Gate) (table : List (Entry Route)) → let it = look false about table in Brings 1 1 table it.table it.messages
+LookBringsOne = (about : Gate) (table : List (Entry Route))
+    → let it = look false about table in Brings 1 1 table it.table it.messages
 
 abbrev pub SettlingBringsOne : Type 0
-SettlingBringsOne = (r : Route) (table : List (Entry Route)) → let it = settle r table in Brings 1 1 table it.table it.messages
+SettlingBringsOne = (r : Route) (table : List (Entry Route))
+    → let it = settle r table in Brings 1 1 table it.table it.messages
 
 abbrev pub AddingBringsTwo : Type 0
 AddingBringsTwo = (a : NewRoute) (interfaces : List Interface) (table : List (Entry Route)) (it : Adding)
@@ -38,23 +41,27 @@ ChangingBringsOne = (a : Change) (interfaces : List Interface) (table : List (En
     → change a interfaces table ≡ Ok it → Brings 1 1 table it.table it.messages
 
 abbrev pub LockingBringsNone : Type 0
-LockingBringsNone = (destination : ℕ) (netmask : Option ℕ) (inits locks : ℕ) (table : List (Entry Route)) (r : Entry Route)
+LockingBringsNone = (destination : ℕ) (netmask : Option ℕ) (inits locks : ℕ)
+    (table : List (Entry Route)) (r : Entry Route)
     → lock destination netmask inits locks table ≡ Ok r → brought table (with_entry r table) ≡ 0
 
 abbrev pub RedirectBringsTwo : Type 0
 RedirectBringsTwo = (a : NewGateway) (interfaces : List Interface) (table : List (Entry Route))
     → let it = redirect a interfaces table in Brings 2 2 table it.table it.messages
 
--- a table brings nothing to itself, nor by what is taken out of it or written anew, and one route that is put into it is at most one
+-- a table brings nothing to itself, nor by what is taken out of it or written anew, and one route that is put into it
+-- is at most one
 abbrev pub TableBringsNone : Type 0
 TableBringsNone = (table : List (Entry Route)) → brought table table ≡ 0
 
 abbrev pub OneMoreAtMost : Type 0
-OneMoreAtMost = (old table : List (Entry Route)) (r : Entry Route) → brought old (with_entry r table) ≤ brought old table + 1
+OneMoreAtMost = (old table : List (Entry Route)) (r : Entry Route)
+    → brought old (with_entry r table) ≤ brought old table + 1
 
 abbrev pub NoneWrittenAnew : Type 0
 NoneWrittenAnew = (old table : List (Entry Route)) (r : Entry Route) → is_some (entry_at r.key r.rank table) ≡ true
     → brought old (with_entry r table) ≤ brought old table
 
 abbrev pub NoneTakenOut : Type 0
-NoneTakenOut = (old table : List (Entry Route)) (key rank : ℕ) → brought old (without key rank table) ≤ brought old table
+NoneTakenOut = (old table : List (Entry Route)) (key rank : ℕ)
+    → brought old (without key rank table) ≤ brought old table

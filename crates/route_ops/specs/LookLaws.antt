@@ -12,25 +12,35 @@ use Rattle.route_ops.specs.declared.notice.Notice.TheVariants.{Miss, Resolve}
 
 abbrev pub LinkHasNoRoute : Type 0
 LinkHasNoRoute = (deep : Bool) (link : List ℕ) (table : List (Entry Route))
-    → look deep (gate.Link link) table ≡ record { answer = None; table = table; messages = Miss (gate.Link link) None ∷ [] }
+    → look deep (gate.Link link) table
+    ≡ record { answer = None; table = table; messages = Miss (gate.Link link) None ∷ [] }
 
 abbrev pub NoneAgrees : Type 0
 NoneAgrees = (deep : Bool) (address : ℕ) (table : List (Entry Route)) → best_of address table ≡ None
-    → look deep (gate.Inet address) table ≡ record { answer = None; table = table; messages = Miss (gate.Inet address) None ∷ [] }
+    → look deep (gate.Inet address) table
+    ≡ record { answer = None; table = table; messages = Miss (gate.Inet address) None ∷ [] }
 
 abbrev pub RouteIsKnown : Type 0
-RouteIsKnown = (deep : Bool) (address : ℕ) (table : List (Entry Route)) (r : Entry Route) → best_of address table ≡ Some r
+RouteIsKnown = (deep : Bool) (address : ℕ) (table : List (Entry Route)) (r : Entry Route)
+    → best_of address table ≡ Some r
     → has_flag RTF_CLONING r.value ≡ false
-    → look deep (gate.Inet address) table ≡ record { answer = Some r; table = table; messages = [] }
+    → look deep (gate.Inet address) table
+    ≡ record { answer = Some r; table = table; messages = [] }
 
 abbrev pub CloneIsThere : Type 0
-CloneIsThere = (deep : Bool) (address : ℕ) (table : List (Entry Route)) (r : Entry Route) → best_of address table ≡ Some r
-    → has_flag RTF_CLONING r.value ≡ true → let clone = clone_at address r.value in is_some (entry_at clone.key clone.rank table) ≡ true
-    → look deep (gate.Inet address) table ≡ record { answer = Some r; table = table; messages = Miss (gate.Inet address) (Some EEXIST) ∷ [] }
+CloneIsThere = (deep : Bool) (address : ℕ) (table : List (Entry Route)) (r : Entry Route)
+    → best_of address table ≡ Some r
+    → has_flag RTF_CLONING r.value ≡ true
+    → let clone = clone_at address r.value in is_some (entry_at clone.key clone.rank table) ≡ true
+    → look deep (gate.Inet address) table
+    ≡ record { answer = Some r; table = table; messages = Miss (gate.Inet address) (Some EEXIST) ∷ [] }
 
 abbrev pub CloneIsAdded : Type 0
-CloneIsAdded = (deep : Bool) (address : ℕ) (table : List (Entry Route)) (r : Entry Route) → best_of address table ≡ Some r
-    → has_flag RTF_CLONING r.value ≡ true → let clone = clone_at address r.value in is_some (entry_at clone.key clone.rank table) ≡ false
+CloneIsAdded = (deep : Bool) (address : ℕ) (table : List (Entry Route)) (r : Entry Route)
+    → best_of address table ≡ Some r
+    → has_flag RTF_CLONING r.value ≡ true
+    → let clone = clone_at address r.value in is_some (entry_at clone.key clone.rank table) ≡ false
     → let settled = if deep then settle clone.value (with_entry clone table) else unsettled (with_entry clone table) in
     let told = if has_flag RTF_XRESOLVE clone.value then Resolve (gate.Inet address) ∷ [] else [] in
-    look deep (gate.Inet address) table ≡ record { answer = Some clone; table = settled.table; messages = settled.messages ++ told }
+    look deep (gate.Inet address) table
+    ≡ record { answer = Some clone; table = settled.table; messages = settled.messages ++ told }

@@ -17,7 +17,8 @@ use Rattle.route_ops.specs.declared.notice.Notice.TheVariants.{Miss, Resolve}
 
 -- the clone of a route for an address: at the address, masked by the clone's rank
 abbrev pub clone_at : ℕ → Route → Entry Route
-clone_at address r = record { key = masked (clone_rank r.genmask) address; rank = clone_rank r.genmask; value = cloned r }
+clone_at address r =
+    let rank = clone_rank r.genmask in record { key = masked rank address; rank = rank; value = cloned r }
 
 -- why a route can't be added: its pair is there already
 abbrev pub pair_fault : Entry Route → List (Entry Route) → Option Errno
@@ -29,8 +30,8 @@ resolved address r table =
     let clone = clone_at address r in
     if is_some (entry_at clone.key clone.rank table) then Err EEXIST else Ok clone
 
--- WHAT A LOOK-UP FINDS, by the first case that holds: no route, for a link-layer address too; a route that doesn't clone; one
--- whose clone's pair is there already; and otherwise its clone
+-- WHAT A LOOK-UP FINDS, by the first case that holds: no route, for a link-layer address too; a route that doesn't
+-- clone; one whose clone's pair is there already; and otherwise its clone
 
 abbrev pub clone_or_parent : Entry Route → Result (Entry Route) Errno → Found
 clone_or_parent r (Ok clone) = Cloned clone
@@ -75,11 +76,13 @@ pub record Settled : Type 0 where
 abbrev pub unsettled : List (Entry Route) → Settled
 unsettled table = record { table = table; messages = [] }
 
--- a route's gateway is settled: where the route leads over one, that is looked up, and a clone's own gateway is not settled
+-- a route's gateway is settled: where the route leads over one, that is looked up, and a clone's own gateway is not
+-- settled
 abbrev pub settle : Route → List (Entry Route) → Settled
 settle r table =
     let it = found r.gateway table in
-    if has_flag RTF_GATEWAY r then record { table = with_clone it table; messages = told_of r.gateway it } else unsettled table
+    if has_flag RTF_GATEWAY r then record { table = with_clone it table; messages = told_of r.gateway it }
+    else unsettled table
 
 -- a clone's gateway is settled in a deep look-up
 abbrev pub settle_found : Bool → Found → List (Entry Route) → Settled

@@ -31,17 +31,20 @@ same_ifa (ifa.Inet a) (ifa.Inet b) = a == b
 same_ifa (ifa.Link a) (ifa.Link b) = a == b
 same_ifa a b = false
 
--- the best route of the destination doesn't lead over the author, or not out of the interface address of the new gateway's network
+-- the best route of the destination doesn't lead over the author, or not out of the interface address of the new
+-- gateway's network
 abbrev pub is_of_another : Option (Entry Route) → ℕ → IfaRef → Bool
 is_of_another None author near = false
 is_of_another (Some r) author near = not (same_gate r.value.gateway author && same_ifa r.value.ifa near)
 
--- what is done about the best route: there is none or it is a default; it has no gateway; it is of a network; it is of this host
+-- what is done about the best route: there is none or it is a default; it has no gateway; it is of a network; it is
+-- of this host
 abbrev pub verdict_on : Option (Entry Route) → Verdict
 verdict_on None = Create
 verdict_on (Some r) =
     if r.rank == 0 then Create
-    else (if has_flag RTF_GATEWAY r.value then (if has_flag RTF_HOST r.value then Modify r else Create) else Refuse EHOSTUNREACH)
+    else (if not (has_flag RTF_GATEWAY r.value) then Refuse EHOSTUNREACH
+    else (if not (has_flag RTF_HOST r.value) then Create else Modify r))
 
 abbrev pub verdict_near : Option (Entry Route) → NewGateway → List Interface → Option IfaRef → Verdict
 verdict_near best a interfaces None = Refuse ENETUNREACH
@@ -67,12 +70,14 @@ dynamic a = record {
 
 -- the route that is modified
 abbrev pub modified : ℕ → Entry Route → Entry Route
-modified gateway r = record r { value = record r.value { gateway = gate.Inet gateway; flags = bit_or r.value.flags RTF_MODIFIED } }
+modified gateway r =
+    record r { value = record r.value { gateway = gate.Inet gateway; flags = bit_or r.value.flags RTF_MODIFIED } }
 
 -- the message of a redirect, with the flag of what was done or tried
 abbrev pub redirect_told : NewGateway → ℕ → Option Errno → Notice
 redirect_told a tried errno =
-    notice.Redirect a.destination (gate.Inet a.gateway) a.author (bit_or (bit_or (bit_or RTF_GATEWAY RTF_HOST) RTF_DONE) tried) errno
+    let flags = bit_or (bit_or (bit_or RTF_GATEWAY RTF_HOST) RTF_DONE) tried in
+    notice.Redirect a.destination (gate.Inet a.gateway) a.author flags errno
 
 -- what a redirect comes to: the table, the messages, those of the settling first, and why it was refused
 pub record Redirection : Type 0 where
@@ -81,10 +86,12 @@ pub record Redirection : Type 0 where
   pub errno : Option Errno
 
 abbrev pub refused : NewGateway → ℕ → List (Entry Route) → Errno → Redirection
-refused a tried table errno = record { table = table; messages = redirect_told a tried (Some errno) ∷ []; errno = Some errno }
+refused a tried table errno =
+    record { table = table; messages = redirect_told a tried (Some errno) ∷ []; errno = Some errno }
 
 abbrev pub followed : NewGateway → ℕ → Adding → Redirection
-followed a tried it = record { table = it.table; messages = it.messages ++ redirect_told a tried None ∷ []; errno = None }
+followed a tried it =
+    record { table = it.table; messages = it.messages ++ redirect_told a tried None ∷ []; errno = None }
 
 abbrev pub created : NewGateway → List (Entry Route) → Result Adding Errno → Redirection
 created a table (Ok it) = followed a RTF_DYNAMIC it

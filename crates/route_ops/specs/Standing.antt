@@ -2,6 +2,7 @@
 use Rattle.std.specs.Prelude.{ℕ, List, count_by, is_none}
 use Rattle.std.specs.List.{AllByRecursion}
 use Rattle.if_addrs.specs.Interfaces.{Interface, IsOf}
+use Rattle.if_addrs.specs.declared.reference.IfaRef.{IfaRef}
 use Rattle.radix_tree.specs.Table.{entry_at}
 use Rattle.radix_tree.specs.TableLaws.{StandsIn}
 use Rattle.radix_tree.specs.declared.entry.Entry.{Entry}
@@ -19,9 +20,18 @@ AreOf interfaces table = AllByRecursion (λ r. IsOf r.value.ifa interfaces) tabl
 abbrev pub KeepsAreOf : List (Entry Route) → List (Entry Route) → Type 0
 KeepsAreOf old new = (interfaces : List Interface) → AreOf interfaces old → AreOf interfaces new
 
--- a route has an interface address of the interfaces that those of the table are of
+-- and so they are with a route of this interface address, where that is of these interfaces too
+abbrev pub KeepsAreOfWith : IfaRef → List (Entry Route) → List (Entry Route) → Type 0
+KeepsAreOfWith ifa old new =
+    (interfaces : List Interface) → IsOf ifa interfaces → AreOf interfaces old → AreOf interfaces new
+
+-- an interface address is of the interfaces that those of the table are of
+abbrev pub IsIfaOf : List (Entry Route) → IfaRef → Type 0
+IsIfaOf table ifa = (interfaces : List Interface) → AreOf interfaces table → IsOf ifa interfaces
+
+-- and that of a route is so
 abbrev pub HasIfaOf : List (Entry Route) → Entry Route → Type 0
-HasIfaOf table r = (interfaces : List Interface) → AreOf interfaces table → IsOf r.value.ifa interfaces
+HasIfaOf table r = IsIfaOf table r.value.ifa
 
 -- how many routes the new table has at pairs at which the old one has none
 abbrev pub brought : List (Entry Route) → List (Entry Route) → ℕ

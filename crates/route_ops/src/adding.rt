@@ -102,8 +102,8 @@ fn find_ifa(
     interfaces.for_route(asked.flags, asked.destination, asked.gateway, fallback)
 }
 
-/// What refuses to add a route, in this order: ENETUNREACH: no interface address is found for it; EEXIST: a route with its key
-/// and rank is there. It takes no memory.
+/// What refuses to add a route, in this order: ENETUNREACH: no interface address is found for it; EEXIST: a route
+/// with its key and rank is there. It takes no memory.
 pub fn check_add(
     table: &Table<Route>,
     visits: &mut Visits,
@@ -136,7 +136,8 @@ pub fn request_add(
     requires fits { FitsSpare table.old spare.old }
     requires rooms { 2 ≤ length spare.old }
     ensures add { MatchResult result
-        (λ a. add asked.now interfaces.now table.old.entries ≡ Ok (record { route = a.route; table = table.new.entries; messages = a.messages.items }))
+        (λ a. add asked.now interfaces.now table.old.entries
+        ≡ Ok (record { route = a.route; table = table.new.entries; messages = a.messages.items }))
         (λ e. add asked.now interfaces.now table.old.entries ≡ Err e) }
     ensures kept { OnErr result (table.new.entries ≡ table.old.entries) }
     ensures few { IfOk result (λ a. length a.messages.items ≤ 1) }

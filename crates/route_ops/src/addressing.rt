@@ -14,8 +14,8 @@ use route_msgs::Metrics;
 use route_msgs::flags::{RTF_CLONING, RTF_HOST, RTF_UP};
 use sock_addrs::{Gate, Inet};
 
-/// The route that an address of an interface brings with it, as `rtinit` of 4.4BSD makes it: to its network on a broadcast
-/// interface, and to the far address, a host, on the others; by way of the address itself.
+/// The route that an address of an interface brings with it, as `rtinit` of 4.4BSD makes it: to its network on a
+/// broadcast interface, and to the far address, a host, on the others; by way of the address itself.
 pub fn route_of_address(ifa: IfaRef, address: Inet, facts: &Facts) -> Entry<Route>
     ensures route { result ≡ address_entry ifa address facts.now }
     ensures masked { masked_by result.rank result.key ≡ result.key }
@@ -68,8 +68,8 @@ fn flags_of(facts: &Facts) -> u16
     RTF_UP | cloning | host
 }
 
-/// Takes the route of an address that is removed out of the table, and answers it. `None`, and no route is changed: the address
-/// brought no route, the best route of its key is another interface address's by now, or there is none.
+/// Takes the route of an address that is removed out of the table, and answers it. `None`, and no route is changed:
+/// the address brought no route, the best route of its key is another interface address's by now, or there is none.
 pub fn withdraw_route(
     table: &mut Table<Route>,
     ifa: IfaRef,

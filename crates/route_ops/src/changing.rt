@@ -42,7 +42,8 @@ pub struct Change {
     pub metrics: Metrics,
 }
 
-/// The route that CHANGE or LOCK means. ESRCH: the destination has no route of its own; ETOOMANYREFS: none with this mask.
+/// The route that CHANGE or LOCK means. ESRCH: the destination has no route of its own; ETOOMANYREFS: none with this
+/// mask.
 fn target(
     table: &Table<Route>,
     visits: &mut Visits,
@@ -144,9 +145,9 @@ fn asked_ifa(
     interfaces.for_route(route.value.flags, route.key, gateway, fallback)
 }
 
-/// Changes a route: its gateway, its interface address, its metrics whatever is locked, the mask of its clones, and its locks;
-/// where a gateway is written, it is settled last. ESRCH: the destination has no route of its own; ETOOMANYREFS: none with this
-/// mask.
+/// Changes a route: its gateway, its interface address, its metrics whatever is locked, the mask of its clones, and
+/// its locks; where a gateway is written, it is settled last. ESRCH: the destination has no route of its own;
+/// ETOOMANYREFS: none with this mask.
 pub fn request_change(
     table: &mut Table<Route>,
     interfaces: &Interfaces,
@@ -157,7 +158,8 @@ pub fn request_change(
     requires fits { FitsSpare table.old spare.old }
     requires rooms { 1 ≤ length spare.old }
     ensures change { MatchResult result
-        (λ a. change asked.now interfaces.now table.old.entries ≡ Ok (record { route = a.route; table = table.new.entries; messages = a.messages.items }))
+        (λ a. change asked.now interfaces.now table.old.entries
+        ≡ Ok (record { route = a.route; table = table.new.entries; messages = a.messages.items }))
         (λ e. change asked.now interfaces.now table.old.entries ≡ Err e) }
     ensures kept { OnErr result (table.new.entries ≡ table.old.entries) }
     ensures few { IfOk result (λ a. length a.messages.items ≤ 1) }

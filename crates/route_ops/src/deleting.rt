@@ -1,5 +1,5 @@
 //! The requests to delete and to show a route.
-ghost use Rattle.std.specs.Prelude.{◌≡◌, MatchResult, IfOk, Some, None};
+ghost use Rattle.std.specs.Prelude.{◌≡◌, MatchResult, IfOk, OnErr, Some, None};
 ghost use Rattle.radix_tree.specs.Table.{without};
 ghost use Rattle.radix_tree.specs.TableLaws.{StandsIn};
 ghost use Rattle.route_ops.specs.Deleting.{doomed as doomed_by, got};
@@ -30,8 +30,8 @@ pub fn request_get(
     Ok(route)
 }
 
-/// Deletes a route: with a mask, and without the flag HOST, the route with this key and mask; otherwise the first of the key.
-/// ESRCH: there is none.
+/// Deletes a route: with a mask, and without the flag HOST, the route with this key and mask; otherwise the first of
+/// the key. ESRCH: there is none.
 pub fn request_delete(
     table: &mut Table<Route>,
     key: Inet,
@@ -39,8 +39,10 @@ pub fn request_delete(
     flags: u16,
 ) -> Result<Entry<Route>, Errno>
     ensures deleted { MatchResult result
-        (λ r. (doomed_by key netmask flags table.old.entries ≡ Some r) × (table.new.entries ≡ without r.key r.rank table.old.entries))
-        (λ e. (e ≡ Errno.ESRCH) × (doomed_by key netmask flags table.old.entries ≡ None) × (table.new.entries ≡ table.old.entries)) }
+        (λ r. doomed_by key netmask flags table.old.entries ≡ Some r)
+        (λ e. (doomed_by key netmask flags table.old.entries ≡ None) × (e ≡ Errno.ESRCH)) }
+    ensures without { IfOk result (λ r. table.new.entries ≡ without r.key r.rank table.old.entries) }
+    ensures kept { OnErr result (table.new.entries ≡ table.old.entries) }
     ensures of { KeepsAreOf table.old.entries table.new.entries }
 {
     let mut visits = table.begin();

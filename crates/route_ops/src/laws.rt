@@ -3,9 +3,9 @@
 ghost use Rattle.route_ops.specs.LookLaws.{CloneIsAdded, CloneIsThere, LinkHasNoRoute, NoneAgrees, RouteIsKnown};
 ghost use Rattle.route_ops.specs.Bringing.{AddingBringsTwo, ChangingBringsOne, DeepLookBringsTwo, LockingBringsNone, LookBringsOne, NoneTakenOut, NoneWrittenAnew, OneMoreAtMost, RedirectBringsTwo, SettlingBringsOne, TableBringsNone};
 
-/// A look-up by cases: a link-layer address, and an address without a route, is missed; a route that doesn't clone is the answer;
-/// where its clone's pair is there, that is missed and the route is the answer; and otherwise the clone is added, and settled
-/// where the look-up is deep.
+/// A look-up by cases: a link-layer address, and an address without a route, is missed; a route that doesn't clone is
+/// the answer; where its clone's pair is there, that is missed and the route is the answer; and otherwise the clone
+/// is added, and settled where the look-up is deep.
 pub fn look_up_by_cases()
     ensures link { LinkHasNoRoute }
     ensures none { NoneAgrees }

@@ -1,12 +1,11 @@
 //! Look-ups that clone, and the settling of gateways.
-ghost use Rattle.std.specs.Prelude.{◌≡◌, ◌+◌, ◌≤◌, ◌++◌, [], if◌then◌else◌, Bool, true, Some, length, IfOk, IfSome, OnErr, List};
-ghost use Rattle.if_addrs.specs.Interfaces.{Interface, IsOf};
+ghost use Rattle.std.specs.Prelude.{◌≡◌, ◌+◌, ◌≤◌, ◌++◌, [], if◌then◌else◌, Bool, true, Some, length, IfOk, IfSome, OnErr};
 ghost use Rattle.sock_addrs.specs.declared.gate.Gate.TheVariants as gate;
 ghost use Rattle.radix_tree.specs.Table.{with_entry};
 ghost use Rattle.radix_tree.specs.TableLaws.{StandsIn};
 ghost use Rattle.route_ops.specs.Looks.{resolved, found, answer_of, known, with_clone, told_of as told, settle, settle_found as settled, look};
 ghost use Rattle.route_ops.specs.Spares.{FitsSpare};
-ghost use Rattle.route_ops.specs.Standing.{KeepsRoutes, AreOf, KeepsAreOf, HasIfaOf};
+ghost use Rattle.route_ops.specs.Standing.{HasIfaOf, KeepsAreOf, KeepsAreOfWith, KeepsRoutes};
 
 use crate::notice::Notice;
 use crate::placing::place;
@@ -58,7 +57,8 @@ pub fn known_route(table: &Table<Route>, visits: &mut Visits, address: Inet) -> 
     requires turn { visits.old.turn ≡ table.now.turn }
     ensures known { result ≡ known address table.now.entries }
     ensures look { IfSome result (λ r. (deep : Bool)
-        → look deep (gate.Inet address) table.now.entries ≡ record { answer = Some r; table = table.now.entries; messages = [] }) }
+        → look deep (gate.Inet address) table.now.entries
+        ≡ record { answer = Some r; table = table.now.entries; messages = [] }) }
     ensures stands { IfSome result (λ r. StandsIn table.now.entries r) }
     ensures ifa { IfSome result (λ r. HasIfaOf table.now.entries r) }
     ensures counter { visits.new.turn ≡ visits.old.turn }
@@ -70,7 +70,8 @@ pub fn known_route(table: &Table<Route>, visits: &mut Visits, address: Inet) -> 
     Some(route)
 }
 
-/// Adds the clone of a route for an address. EEXIST: a route with its key and rank is there. It doesn't settle its gateway.
+/// Adds the clone of a route for an address. EEXIST: a route with its key and rank is there. It doesn't settle its
+/// gateway.
 pub fn resolve(
     table: &mut Table<Route>,
     spare: &mut Spare,
@@ -84,7 +85,7 @@ pub fn resolve(
     ensures kept { OnErr result (table.new.entries ≡ table.old.entries) }
     ensures stands { IfOk result (λ clone. StandsIn table.new.entries clone) }
     ensures keeps { KeepsRoutes table.old.entries table.new.entries }
-    ensures of { (interfaces : List Interface) → IsOf parent.now.ifa interfaces → AreOf interfaces table.old.entries → AreOf interfaces table.new.entries }
+    ensures of { KeepsAreOfWith parent.now.ifa table.old.entries table.new.entries }
     ensures fits { FitsSpare table.new spare.new }
     ensures used { length spare.old ≤ length spare.new + 1 }
 {
@@ -147,8 +148,8 @@ fn tell(about: &Gate, found: &Found, messages: &mut ArrayVec<Notice, 2>)
     }
 }
 
-/// Settles the gateway of a route: where the route leads over one, that is looked up, and cloned where it has to be. The
-/// messages are those of this look-up.
+/// Settles the gateway of a route: where the route leads over one, that is looked up, and cloned where it has to be.
+/// The messages are those of this look-up.
 pub fn settle_gateway(
     table: &mut Table<Route>,
     spare: &mut Spare,
@@ -195,12 +196,13 @@ fn settle_found(
     }
 }
 
-/// Looks up an address, and tells the sockets where it finds no route, can't clone, or wants a clone resolved (`rtalloc1` of
-/// 4.4BSD with its report). A deep look-up settles the gateway of the clone that it makes.
+/// Looks up an address, and tells the sockets where it finds no route, can't clone, or wants a clone resolved
+/// (`rtalloc1` of 4.4BSD with its report). A deep look-up settles the gateway of the clone that it makes.
 pub fn look_up(table: &mut Table<Route>, spare: &mut Spare, about: Gate, deep: bool) -> Looked
     requires fits { FitsSpare table.old spare.old }
     requires rooms { (if deep then 2 else 1) ≤ length spare.old }
-    ensures look { look deep about table.old.entries ≡ record { answer = result.answer; table = table.new.entries; messages = result.messages.items } }
+    ensures look { look deep about table.old.entries
+        ≡ record { answer = result.answer; table = table.new.entries; messages = result.messages.items } }
     ensures few { length result.messages.items ≤ (if deep then 2 else 1) }
     ensures stands { IfSome result.answer (λ r. StandsIn table.new.entries r) }
     ensures ifa { IfSome result.answer (λ r. HasIfaOf table.old.entries r) }

@@ -17,8 +17,8 @@ pub enum Notice {
     Resolve {
         about: Gate,
     },
-    /// RTM_REDIRECT: the author of a redirect says that the destination is reached by this gateway. The flags tell what came of
-    /// it, and the errno why nothing did.
+    /// RTM_REDIRECT: the author of a redirect says that the destination is reached by this gateway. The flags tell
+    /// what came of it, and the errno why nothing did.
     Redirect {
         destination: Inet,
         gateway: Gate,

@@ -1,14 +1,13 @@
 //! Routes that are put into the table, in a spare room or in the place of what they were.
-ghost use Rattle.std.specs.Prelude.{◌≡◌, ◌+◌, ◌≤◌, length, List, OnOk, OnErr};
+ghost use Rattle.std.specs.Prelude.{◌≡◌, ◌+◌, ◌≤◌, length, OnOk, OnErr};
 ghost use Rattle.std.specs.Result.{result_err};
-ghost use Rattle.if_addrs.specs.Interfaces.{Interface, IsOf};
 ghost use Rattle.mask_table.specs.Agreeing.{masked};
 ghost use Rattle.radix_tree.specs.Table.{with_entry};
 ghost use Rattle.radix_tree.specs.TableLaws.{StandsIn};
 ghost use Rattle.radix_tree.specs.Lending.{with_value};
 ghost use Rattle.route_ops.specs.Looks.{pair_fault};
 ghost use Rattle.route_ops.specs.Spares.{FitsSpare};
-ghost use Rattle.route_ops.specs.Standing.{AreOf, KeepsRoutes};
+ghost use Rattle.route_ops.specs.Standing.{KeepsAreOfWith, KeepsRoutes};
 
 use crate::spare::Spare;
 use radix_tree::{Entry, Table};
@@ -29,7 +28,7 @@ pub(crate) fn place(
     ensures kept { OnErr result (table.new.entries ≡ table.old.entries) }
     ensures stands { OnOk result (StandsIn table.new.entries route.now) }
     ensures keeps { KeepsRoutes table.old.entries table.new.entries }
-    ensures of { (interfaces : List Interface) → IsOf route.now.value.ifa interfaces → AreOf interfaces table.old.entries → AreOf interfaces table.new.entries }
+    ensures of { KeepsAreOfWith route.now.value.ifa table.old.entries table.new.entries }
     ensures fits { FitsSpare table.new spare.new }
     ensures used { length spare.old ≤ length spare.new + 1 }
 {

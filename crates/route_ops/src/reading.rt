@@ -1,9 +1,8 @@
 //! Routes that are read from the table.
-ghost use Rattle.std.specs.Prelude.{◌≡◌, IfSome, List, option_map};
-ghost use Rattle.if_addrs.specs.Interfaces.{Interface, IsOf};
+ghost use Rattle.std.specs.Prelude.{◌≡◌, IfSome, option_map};
 ghost use Rattle.radix_tree.specs.Table.{best_of, entry_at, first_of};
 ghost use Rattle.radix_tree.specs.TableLaws.{StandsIn};
-ghost use Rattle.route_ops.specs.Standing.{AreOf};
+ghost use Rattle.route_ops.specs.Standing.{IsIfaOf};
 
 use if_addrs::IfaRef;
 use mask_table::Rank;
@@ -36,7 +35,7 @@ pub(crate) fn best_route(
 pub(crate) fn best_ifa(table: &Table<Route>, visits: &mut Visits, address: Inet) -> Option<IfaRef>
     requires turn { visits.old.turn ≡ table.now.turn }
     ensures ifa { result ≡ option_map (λ r. r.value.ifa) (best_of address table.now.entries) }
-    ensures of { IfSome result (λ i. (interfaces : List Interface) → AreOf interfaces table.now.entries → IsOf i interfaces) }
+    ensures of { IfSome result (λ i. IsIfaOf table.now.entries i) }
     ensures counter { visits.new.turn ≡ visits.old.turn }
 {
     match best_route(table, visits, address) {

@@ -1,6 +1,6 @@
 -- What follows from the definition of a dump.
 use Rattle.std.specs.Prelude.{◌≡◌, ℕ, ◌+◌, ◌<◌, ◌≤◌, ◌^◌, List, ◌∷◌, ◌++◌, length, None}
-use Rattle.table_dump.specs.Dumps.{dump_fault, fitting, size_of, total_of}
+use Rattle.table_dump.specs.Dumps.{dump_fault, fitting, size_of}
 
 -- what is given is a front of all
 pub record IsFront (given all : List (List ℕ)) : Type 0 where
@@ -21,7 +21,8 @@ NextDoesNotFit = (room : ℕ) (all rest : List (List ℕ)) (next : List ℕ) →
 
 -- into as many bytes as all messages take, all are given, and nothing is refused
 abbrev pub AllAreGiven : Type 0
-AllAreGiven = (room : ℕ) (all : List (List ℕ)) → size_of all ≤ room → (fitting room all ≡ all) × (dump_fault room all ≡ None)
+AllAreGiven = (room : ℕ) (all : List (List ℕ)) → size_of all ≤ room
+    → (fitting room all ≡ all) × (dump_fault room all ≡ None)
 
 -- what is refused into fewer bytes than 2^32 is not all
 abbrev pub RefusedIsNotAll : Type 0

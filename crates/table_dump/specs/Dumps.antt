@@ -1,5 +1,5 @@
 -- Dumps: the routes of a table as messages, and as many of these as fit a buffer.
-use Rattle.std.specs.Prelude.{◌≡◌, ℕ, ◌-◌, ◌^◌, ◌≤◌, ◌==◌, nat_le, nat_lt, Bool, true, not, if◌then◌else◌, bit_and, min, List, [], ◌∷◌, filter, length, map, Option, Some, None}
+use Rattle.std.specs.Prelude.{◌≡◌, ℕ, ◌-◌, ◌^◌, ◌≤◌, nat_le, nat_lt, Bool, true, not, if◌then◌else◌, min, List, [], ◌∷◌, filter, length, map, Option, Some, None}
 use Rattle.std.specs.List.{flat_map, sum_by}
 use Rattle.sock_addrs.specs.declared.errno.Errno.{Errno}
 use Rattle.sock_addrs.specs.declared.errno.Errno.TheVariants.{ENOMEM}
@@ -21,7 +21,12 @@ is_asked (Some flags) r = has_flag flags r
 abbrev pub shown_as : ℕ → Entry Route → List ℕ
 shown_as index r =
     route_message
-    (record (blank RTM_GET) { index = index; flags = r.value.flags; use_count = r.value.use_count; metrics = r.value.metrics })
+    (record (blank RTM_GET) {
+      index = index;
+      flags = r.value.flags;
+      use_count = r.value.use_count;
+      metrics = r.value.metrics;
+    })
     (route_addresses r.key r.rank r.value)
 
 -- a route as a message, of the interface that it leaves by

@@ -1,5 +1,5 @@
 //! Dumps, and how long they are.
-ghost use Rattle.std.specs.Prelude.{◌≡◌, ◌≤◌, length, List, IfOk};
+ghost use Rattle.std.specs.Prelude.{◌≡◌, List, IfOk, OnOk};
 ghost use Rattle.std.specs.List.{AllByRecursion};
 ghost use Rattle.if_addrs.specs.Interfaces.{Interface, IsOf};
 ghost use Rattle.table_dump.specs.Dumps.{IsWhole, bytes_of, dump_fault, fitting, shown_of, total_of};
@@ -11,8 +11,8 @@ use route_entries::Route;
 use sock_addrs::Errno;
 use std::alloc::{AllocError, Global};
 
-/// How many bytes the dump of a table takes, or `u64::MAX` where they are more: of all routes, or of those that have a flag of
-/// the filter.
+/// How many bytes the dump of a table takes, or `u64::MAX` where they are more: of all routes, or of those that have
+/// a flag of the filter.
 #[tactic(auto, using(crate::proofs::Showing::asked, crate::proofs::Showing::passed, crate::proofs::Showing::added))]
 pub fn total(table: &Table<Route>, visits: &mut Visits, filter: Option<u32>) -> u64
     requires turn { visits.old.turn ≡ table.now.turn }
@@ -29,8 +29,9 @@ pub fn total(table: &Table<Route>, visits: &mut Visits, filter: Option<u32>) -> 
     total
 }
 
-/// The dump of a table into so many bytes: the messages of its routes in table order, of all or of those that have a flag of the
-/// filter, as many whole ones from the front as fit. ENOMEM beside them where they are not all. `Err` where there is no memory.
+/// The dump of a table into so many bytes: the messages of its routes in table order, of all or of those that have a
+/// flag of the filter, as many whole ones from the front as fit. ENOMEM beside them where they are not all. `Err`
+/// where there is no memory.
 #[tactic(auto, using(crate::proofs::Showing::asked, crate::proofs::Showing::passed, crate::proofs::Fronts::given_first, crate::proofs::Fronts::none_given, crate::proofs::Fronts::all_given))]
 pub fn dump_into(
     alloc: Global,
@@ -42,9 +43,11 @@ pub fn dump_into(
 ) -> Result<(Vec<u8>, Option<Errno>), AllocError>
     requires turn { visits.old.turn ≡ table.now.turn }
     requires of { AllByRecursion (λ r. IsOf r.value.ifa interfaces.now) table.now.entries }
-    ensures bytes { IfOk result (λ d. d.0.items ≡ bytes_of (fitting room (shown_of filter interfaces.now table.now.entries))) }
+    ensures bytes { IfOk result
+        (λ d. d.0.items ≡ bytes_of (fitting room (shown_of filter interfaces.now table.now.entries))) }
     ensures errno { IfOk result (λ d. d.1 ≡ dump_fault room (shown_of filter interfaces.now table.now.entries)) }
-    ensures whole { IfOk result (λ d. AllByRecursion IsWhole (fitting room (shown_of filter interfaces.now table.now.entries))) }
+    ensures whole { OnOk result
+        (AllByRecursion IsWhole (fitting room (shown_of filter interfaces.now table.now.entries))) }
     ensures counter { visits.new.turn ≡ visits.old.turn }
 {
     let mut walk = table.walk(visits);

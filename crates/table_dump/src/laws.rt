@@ -2,8 +2,8 @@
 
 ghost use Rattle.table_dump.specs.DumpLaws.{AllAreGiven, GivenFits, GivenIsFront, NextDoesNotFit, RefusedIsNotAll};
 
-/// What a dump gives is the longest front of all messages that fits: it is a front, it fits, and the next message would not have
-/// fitted.
+/// What a dump gives is the longest front of all messages that fits: it is a front, it fits, and the next message
+/// would not have fitted.
 pub fn given_is_longest_front()
     ensures front { GivenIsFront }
     ensures fits { GivenFits }

@@ -1,6 +1,5 @@
 //! Which routes a dump shows, and the message of each.
 ghost use Rattle.std.specs.Prelude.{◌≡◌, ℕ, length};
-ghost use Rattle.radix_tree.specs.declared.entry.Entry.{Entry};
 ghost use Rattle.table_dump.specs.Dumps.{IsWhole, is_asked as is_asked_by, shown_as};
 
 use arrayvec::ArrayVec;
@@ -10,7 +9,8 @@ use route_msgs::kinds::RTM_GET;
 use route_msgs::{Header, write_route_msg};
 use sock_addrs::Inet;
 
-/// Whether the route is asked for: each one is where there is no filter, and otherwise one that has a flag of the filter.
+/// Whether the route is asked for: each one is where there is no filter, and otherwise one that has a flag of the
+/// filter.
 pub(crate) fn is_asked(route: &Route, filter: Option<u32>) -> bool
     ensures { result ≡ is_asked_by filter route.now }
 {
@@ -24,7 +24,8 @@ pub(crate) fn is_asked(route: &Route, filter: Option<u32>) -> bool
 pub(crate) fn shown(index: u16, key: Inet, rank: Rank, route: &Route) -> ArrayVec<u8, 256>
     ensures message { result.items ≡ shown_as index (record { key = key; rank = rank; value = route.now }) }
     ensures whole { IsWhole result.items }
-    ensures size { (other : ℕ) → length (shown_as other (record { key = key; rank = rank; value = route.now })) ≡ length result.items }
+    ensures size { (other : ℕ)
+        → length (shown_as other (record { key = key; rank = rank; value = route.now })) ≡ length result.items }
 {
     let header = Header {
         kind: RTM_GET,
