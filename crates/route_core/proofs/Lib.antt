@@ -5,3 +5,4 @@ pub mod StepLemmas
 pub mod RefusalsSpare
 pub mod WorldsKept
 pub mod InterfacesFound
+pub mod FewBrought

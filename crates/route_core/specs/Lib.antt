@@ -1,6 +1,7 @@
 pub mod Addresses
 pub mod Commands
 pub mod Effects
+pub mod Few
 pub mod Messages
 pub mod Received
 pub mod RefusalLaws

@@ -1,5 +1,6 @@
 //! Laws of the machine's step: each function does nothing, and its contract is the law.
 
+ghost use Rattle.route_core.specs.Few.{EffectsAreFew, StepsBringFew};
 ghost use Rattle.route_core.specs.RefusalLaws.{NoMemoryKeepsAll, RefusalKeepsInterfaces, RefusalKeepsRoutes, RefusalKeepsSockets};
 ghost use Rattle.route_core.specs.Worlds.{EmptyIsWorld, NewAddressShowsItsInterface, RoutesHaveInterfaces, StepsKeepWorlds};
 
@@ -39,4 +40,10 @@ pub fn routes_have_interfaces()
 /// The messages of a new address show the number and the link-layer address of the interface that it was added to.
 pub fn new_address_shows_its_interface()
     ensures { NewAddressShowsItsInterface }
+{}
+
+/// One step puts at most two routes into the table that were not there, and tells at most two messages.
+pub fn steps_bring_few()
+    ensures effects { EffectsAreFew }
+    ensures steps { StepsBringFew }
 {}
