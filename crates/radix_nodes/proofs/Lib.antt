@@ -1,4 +1,5 @@
+pub mod Callers
 pub mod Cells
-pub mod Sharing
-pub mod Memory
-pub mod RoomLemmas
+mod Memory
+mod RoomLemmas
+mod Sharing

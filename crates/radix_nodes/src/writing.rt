@@ -85,10 +85,8 @@ impl<V> Nodes<V> {
         (room, value)
     }
 
-    /// Frees a room.
+    /// Frees a room. The map stays as it is.
     pub fn scrap(&mut self, room: Room<V>)
-        requires made { room < self.old.next }
-        requires free { get self.old.lodged room ≡ None }
         ensures { self.new ≡ self.old }
     {
         let Room {

@@ -3,3 +3,5 @@ pub mod Checks
 pub mod Replies
 pub mod StepLemmas
 pub mod RefusalsSpare
+pub mod WorldsKept
+pub mod InterfacesFound

@@ -8,4 +8,5 @@ pub mod Requests
 pub mod Step
 pub mod Telling
 pub mod World
+pub mod Worlds
 pub mod Writes

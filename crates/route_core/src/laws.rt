@@ -1,6 +1,7 @@
 //! Laws of the machine's step: each function does nothing, and its contract is the law.
 
 ghost use Rattle.route_core.specs.RefusalLaws.{NoMemoryKeepsAll, RefusalKeepsInterfaces, RefusalKeepsRoutes, RefusalKeepsSockets};
+ghost use Rattle.route_core.specs.Worlds.{EmptyIsWorld, NewAddressShowsItsInterface, RoutesHaveInterfaces, StepsKeepWorlds};
 
 /// A refused request leaves every route as it was.
 pub fn refusal_keeps_routes()
@@ -21,4 +22,21 @@ pub fn refusal_keeps_sockets()
 /// A step that answers that there is no memory has changed nothing at all.
 pub fn no_memory_keeps_all()
     ensures { NoMemoryKeepsAll }
+{}
+
+/// What holds of the empty world stays with every step: the table is in table order with no pair twice, each route's interface
+/// address is one of the interfaces, and neither a number of an address nor an id of a socket is told twice.
+pub fn steps_keep_worlds()
+    ensures empty { EmptyIsWorld }
+    ensures steps { StepsKeepWorlds }
+{}
+
+/// The interface of each route is there, and has the route's interface address.
+pub fn routes_have_interfaces()
+    ensures { RoutesHaveInterfaces }
+{}
+
+/// The messages of a new address show the number and the link-layer address of the interface that it was added to.
+pub fn new_address_shows_its_interface()
+    ensures { NewAddressShowsItsInterface }
 {}

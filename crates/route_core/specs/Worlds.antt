@@ -1,0 +1,87 @@
+-- Worlds that can be reached: what holds of the empty world and stays with every step, and what follows of the definitions that
+-- name something to take where nothing is found: it is found.
+use Rattle.std.specs.Prelude.{◌≡◌, ◌<◌, ◌≤◌, ◌+◌, ◌^◌, ℕ, Bool, true, List, [], ◌∷◌, map, Option, None, Some, IsSomeAnd, IfSome, bytes_eq}
+use Rattle.std.specs.List.{AllByRecursion, IsDistinct}
+use Rattle.sock_addrs.specs.declared.families.TheConstants.{AF_INET}
+use Rattle.if_addrs.specs.Facts.{facts_of}
+use Rattle.if_addrs.specs.Interfaces.{Address, Interface, IsOf, added, addr_fault, has_numbered, interface_numbered, interface_of, kind_of, link_text, named, new_address, with_address}
+use Rattle.if_addrs.specs.Numbered.{NumberedOnce}
+use Rattle.if_addrs.specs.declared.reference.IfaRef.{IfaRef}
+use Rattle.if_addrs.specs.declared.reference.IfaRef.TheVariants as ifa
+use Rattle.listeners.specs.Sockets.{Socket}
+use Rattle.radix_tree.specs.Table.{IsTable}
+use Rattle.radix_tree.specs.declared.entry.Entry.{Entry}
+use Rattle.route_core.specs.Addresses.{entry_of_address}
+use Rattle.route_core.specs.Commands.{Command}
+use Rattle.route_core.specs.Messages.{address_added, route_added}
+use Rattle.route_core.specs.Step.{Steps, announced}
+use Rattle.route_core.specs.Telling.{told}
+use Rattle.route_core.specs.World.{World, empty_world}
+use Rattle.route_core.specs.declared.answer.Answer.{Answer}
+use Rattle.route_core.specs.declared.command.Command.TheVariants.{AddAddress}
+use Rattle.route_core.specs.declared.route.Route.{Route}
+
+-- ---- worlds
+
+-- the interface addresses of the routes are of these interfaces
+abbrev pub AreOf : List Interface → List (Entry Route) → Type 0
+AreOf interfaces table = AllByRecursion (λ r. IsOf r.value.ifa interfaces) table
+
+-- no two of these sockets have one id
+abbrev pub AreOpenOnce : List Socket → Type 0
+AreOpenOnce sockets = IsDistinct bytes_eq (map (λ s. s.id) sockets)
+
+-- the table is one, and the interface address of each of its routes is one of the interfaces; no number of an address, and no
+-- socket's id, is told twice
+pub record IsWorld (w : World) : Type 0 where
+  pub table : IsTable w.table
+  pub routes : AreOf w.interfaces w.table
+  pub numbers : NumberedOnce w.interfaces
+  pub sockets : AreOpenOnce w.sockets
+
+abbrev pub EmptyIsWorld : Type 0
+EmptyIsWorld = IsWorld empty_world
+
+-- the numbers of a command are in the ranges of their types
+abbrev pub IsInRange : Command → Type 0
+IsInRange (AddAddress name address prefix cloning far) =
+    (address < 2 ^ 32) × (prefix ≤ 32) × IfSome far (λ other. other < 2 ^ 32)
+IsInRange c = Unit {0}
+
+-- a step from a world leads to one
+abbrev pub StepsKeepWorlds : Type 0
+StepsKeepWorlds = (old : World) (c : Command) (answer : Answer) (new : World) → IsWorld old → IsInRange c
+    → Steps old c answer new → IsWorld new
+
+-- ---- what is found in a world
+
+-- the interface has this interface address
+abbrev pub Has : IfaRef → Interface → Type 0
+Has (ifa.Inet number) i = has_numbered number i ≡ true
+Has (ifa.Link index) i = Unit {0}
+
+-- the interface of the number that is told for this interface address is there, and has it
+abbrev pub IsOn : List Interface → IfaRef → Type 0
+IsOn interfaces i = IsSomeAnd (interface_numbered (interface_of i interfaces) interfaces) (Has i)
+
+-- in a world that is so for each route
+abbrev pub RoutesHaveInterfaces : Type 0
+RoutesHaveInterfaces = (w : World) → IsWorld w → AllByRecursion (λ r. IsOn w.interfaces r.value.ifa) w.table
+
+-- the messages of a new address show this interface's number and link-layer address
+abbrev pub Shows : Address → Entry Route → List Interface → ℕ → Interface → Type 0
+Shows a r interfaces index i =
+    announced interfaces a r
+    ≡ told (address_added index (link_text index i) a.address (facts_of a)) AF_INET None
+    ∷ told (route_added index r) AF_INET None
+    ∷ []
+
+-- an address that nothing refuses is shown with the interface of its name, and that interface's number
+abbrev pub NewAddressShowsItsInterface : Type 0
+NewAddressShowsItsInterface = (w : World) (name : List ℕ) (address prefix : ℕ) (cloning : Bool) (far : Option ℕ)
+    → IsWorld w → addr_fault name address far w.interfaces ≡ None
+    → let a = new_address (added w.interfaces + 1) (kind_of name w.interfaces) address prefix cloning far in
+    let interfaces = with_address name address prefix cloning far w.interfaces in
+    (index : ℕ) × (i : Interface) × (named name w.interfaces ≡ Some i)
+    × (interface_numbered index w.interfaces ≡ Some i)
+    × Shows a (entry_of_address a cloning) interfaces index i
