@@ -68,10 +68,10 @@ module _ {V : Type 0} where
   again m i j value links there h =
       elim (i.number == j.number) as (λ b. (i.number == j.number) ≡ b → Has (put_room m j value links) i) [
         | true ↦ λ e. record {
-            room = seen j.block value links;
-            at = get-put_room m j value links i.number ∙ ap (λ (b : Bool). if b then Some (seen j.block value links) else get m i.number) e;
-            block = sym there.block ∙ ap (λ (s : Seen V). s.block) (inside (sym there.at ∙ ap (get m) (sym (eqb-true i.number j.number e)) ∙ h.at)) ∙ h.block;
-          }
+          room = seen j.block value links;
+          at = get-put_room m j value links i.number ∙ ap (λ (b : Bool). if b then Some (seen j.block value links) else get m i.number) e;
+          block = sym there.block ∙ ap (λ (s : Seen V). s.block) (inside (sym there.at ∙ ap (get m) (sym (eqb-true i.number j.number e)) ∙ h.at)) ∙ h.block;
+        }
         | false ↦ λ e. other m i j value links e h
       ] refl
 

@@ -233,7 +233,7 @@ no_entry (Some x) h = absurd (h refl)
 -- what is told of an address is of that address
 pub facts_known : (a : Address) (facts : Facts) (found : Option Address) → option_map facts_of found ≡ Some facts → found ≡ Some a → facts_of a ≡ facts
 facts_known a facts found told is = some_is (facts_of a) facts (sym (ap (option_map facts_of) is) ∙ told)
-    where
+  where
     some_is : (x y : Facts) → Some x ≡ Some y → x ≡ y
     some_is x y h = cc
 

@@ -44,7 +44,10 @@ impl World {
             self.table.give_back(room);
             return Answer::Refused(Errno::ENOBUFS);
         };
-        let ifa = match self.interfaces.add_addr(name, address, prefix, cloning, far) {
+        let ifa = match self
+            .interfaces
+            .add_addr(name, address, prefix, cloning, far)
+        {
             Ok(ifa) => ifa,
             Err(errno) => {
                 self.table.give_back(room);

@@ -140,4 +140,3 @@ impl<'a> Command<Lent<'a>> {
         }
     }
 }
-

@@ -12,8 +12,8 @@ mod route;
 #[cfg(test)]
 mod tests;
 mod world;
-mod written;
 mod writes;
+mod written;
 
 pub use answer::{Answer, Received};
 pub use command::{Command, Said};

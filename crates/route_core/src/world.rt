@@ -76,13 +76,7 @@ impl World {
     }
 
     /// Attaches an interface. EEXIST: the name is there; ENOSPC: there are 64 interfaces; ENOBUFS: there is no memory.
-    pub fn attach(
-        &mut self,
-        name: Name,
-        kind: Kind,
-        type_number: u8,
-        link: &LinkAddress,
-    ) -> Answer
+    pub fn attach(&mut self, name: Name, kind: Kind, type_number: u8, link: &LinkAddress) -> Answer
         ensures { Steps self.old (Attach name kind type_number link.now) result self.new }
     {
         if let Err(errno) = self.interfaces.attach(name, kind, type_number, link) {
