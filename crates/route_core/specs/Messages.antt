@@ -19,7 +19,7 @@ netmask_of rank = if rank == 33 then None else Some (mask_sockaddr rank)
 abbrev pub route_addresses : Entry Route → AddrInfo
 route_addresses r = record no_addresses { dst = Some (inet_sockaddr r.key); gateway = Some (gate_sockaddr r.value.gateway); netmask = netmask_of r.rank }
 
--- an address of an interface, with its mask and its broadcast address, and the interface's link-layer address
+-- an address of an interface, with its mask and its far address, and the interface's link-layer address
 abbrev pub interface_addresses : List ℕ → ℕ → Facts → AddrInfo
 interface_addresses link address facts =
     record no_addresses { netmask = Some (mask_sockaddr facts.prefix); ifp = Some (padded link); ifa = Some (inet_sockaddr address); brd = Some (inet_sockaddr facts.far) }

@@ -1,5 +1,9 @@
 //! Laws of the machine's step: each function does nothing, and its contract is the law.
 
+ghost use Rattle.std.specs.Prelude.{◌≡◌};
+ghost use Rattle.route_core.specs.declared.request.TheConstants.{MOST_BYTES, OTHER_ADDRESSES};
+ghost use Rattle.route_core.specs.declared.writes.TheConstants.{ERRNO_OFFSET, PID_OFFSET};
+ghost use Rattle.route_core.specs.declared.written.TheConstants.{MOST_WRITTEN};
 ghost use Rattle.route_core.specs.Few.{EffectsAreFew, StepsBringFew};
 ghost use Rattle.route_core.specs.RefusalLaws.{NoMemoryKeepsAll, RefusalKeepsInterfaces, RefusalKeepsRoutes, RefusalKeepsSockets};
 ghost use Rattle.route_core.specs.Worlds.{EmptyIsWorld, NewAddressShowsItsInterface, RoutesHaveInterfaces, StepsKeepWorlds};
@@ -15,7 +19,7 @@ pub fn refusal_keeps_interfaces()
 {}
 
 /// A refused request leaves every socket as it was, but that the reply to a refused write may be delivered, with its writer's
-/// pid, to the sockets that hear the family of its destination, or the family 0.
+/// pid but where its version is not 3, to the sockets that hear the family of its destination, or the family 0.
 pub fn refusal_keeps_sockets()
     ensures { RefusalKeepsSockets }
 {}
@@ -46,4 +50,14 @@ pub fn new_address_shows_its_interface()
 pub fn steps_bring_few()
     ensures effects { EffectsAreFew }
     ensures steps { StepsBringFew }
+{}
+
+/// The limits of a write, the bits of the addresses beside its destination, and where a message has its pid and its errno, by
+/// number.
+pub fn writes_by_number()
+    ensures most { MOST_BYTES ≡ 8192 }
+    ensures written { MOST_WRITTEN ≡ 8246 }
+    ensures others { OTHER_ADDRESSES ≡ 0xfe }
+    ensures pid { PID_OFFSET ≡ 16 }
+    ensures errno { ERRNO_OFFSET ≡ 24 }
 {}

@@ -59,7 +59,7 @@ fn route_addresses(key: Inet, rank: Rank, route: &Route) -> AddrInfo
     }
 }
 
-/// An address of an interface, with its mask and its broadcast address, and the interface's link-layer address.
+/// An address of an interface, with its mask and its far address, and the interface's link-layer address.
 fn interface_addresses(link: Link, address: Inet, facts: Facts) -> AddrInfo
     ensures texts { result ≡ addresses_of_interface link address facts }
     ensures size { length (address_bytes result) ≤ 72 }

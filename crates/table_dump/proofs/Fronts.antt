@@ -4,7 +4,7 @@ use Rattle.std.proofs.lemmas.Bool.Decides.{nat_tests}
 use Rattle.std.proofs.lemmas.Bool.{leb-true}
 use Rattle.std.proofs.lemmas.List.Sums.{sum_by-cons}
 use Rattle.table_dump.specs.Dumps.{IsWhole, bytes_of, dump_fault, fitting, size_of, total_of}
-use Rattle.table_dump.specs.DumpLaws.{AllAreGiven, GivenFits, GivenIsFront, IsFront, NextDoesNotFit, RefusedIsNotAll}
+use Rattle.table_dump.specs.DumpLaws.{AllAreGiven, GivenFits, GivenIsFront, IsFront, NextDoesNotFit, UnrefusedAreAll}
 
 pub le_true : (m n : ℕ) → m ≤ n → nat_le m n ≡ true
 le_true m n h = grind (arith, nat_tests)
@@ -71,8 +71,8 @@ fault_is : (b : Bool) {X : Type 0} (x : X) → cond b (Some x) None ≡ None →
 fault_is true x h = cc
 fault_is false x h = refl
 
-pub refused_is_not_all : RefusedIsNotAll
-refused_is_not_all room all small h =
+pub unrefused_are_all : UnrefusedAreAll
+unrefused_are_all room all small h =
     let no = fault_is (nat_lt room (total_of all)) _ h in
     let most : total_of all ≤ room = grind (arith, nat_tests) in
     omega arith

@@ -24,6 +24,6 @@ abbrev pub AllAreGiven : Type 0
 AllAreGiven = (room : ℕ) (all : List (List ℕ)) → size_of all ≤ room
     → (fitting room all ≡ all) × (dump_fault room all ≡ None)
 
--- what is refused into fewer bytes than 2^32 is not all
-abbrev pub RefusedIsNotAll : Type 0
-RefusedIsNotAll = (room : ℕ) (all : List (List ℕ)) → room < 2 ^ 32 → dump_fault room all ≡ None → size_of all ≤ room
+-- where nothing is refused, into fewer bytes than 2^32, all fit
+abbrev pub UnrefusedAreAll : Type 0
+UnrefusedAreAll = (room : ℕ) (all : List (List ℕ)) → room < 2 ^ 32 → dump_fault room all ≡ None → size_of all ≤ room

@@ -1,6 +1,6 @@
 //! Laws of dumps: each function does nothing, and its contract is the law.
 
-ghost use Rattle.table_dump.specs.DumpLaws.{AllAreGiven, GivenFits, GivenIsFront, NextDoesNotFit, RefusedIsNotAll};
+ghost use Rattle.table_dump.specs.DumpLaws.{AllAreGiven, GivenFits, GivenIsFront, NextDoesNotFit, UnrefusedAreAll};
 
 /// What a dump gives is the longest front of all messages that fits: it is a front, it fits, and the next message
 /// would not have fitted.
@@ -13,5 +13,5 @@ pub fn given_is_longest_front()
 /// A dump gives all messages, without an errno, exactly where they fit.
 pub fn all_are_given()
     ensures given { AllAreGiven }
-    ensures refused { RefusedIsNotAll }
+    ensures unrefused { UnrefusedAreAll }
 {}

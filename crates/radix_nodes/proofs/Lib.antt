@@ -1,5 +1,0 @@
-pub mod Callers
-pub mod Cells
-mod Memory
-mod RoomLemmas
-mod Sharing
