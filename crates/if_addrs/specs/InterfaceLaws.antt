@@ -3,8 +3,8 @@ use Rattle.std.specs.Prelude.{◌≡◌, ℕ, ◌^◌, ◌<◌, ◌≤◌}
 use Rattle.mask_table.specs.Agreeing.{front}
 use Rattle.if_addrs.specs.Interfaces.{last_of_network}
 
--- a number is the last of an address's network where it has the address's first bits, as many as the prefix says, is an address,
--- and no number with these bits is greater
+-- a number is the last of an address's network where it has the address's first bits, as many as the prefix says, is an
+-- address, and no number with these bits is greater
 pub record IsLast (prefix address last : ℕ) : Type 0 where
   pub bits : front prefix last ≡ front prefix address
   pub is_address : last < 2 ^ 32

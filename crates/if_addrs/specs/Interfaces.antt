@@ -18,8 +18,9 @@ use Rattle.if_addrs.specs.declared.limits.TheConstants.{MOST_ADDRESSES, MOST_INT
 use Rattle.if_addrs.specs.declared.reference.IfaRef.{IfaRef}
 use Rattle.if_addrs.specs.declared.reference.IfaRef.TheVariants as ifa
 
--- an address of an interface of this kind. The far address is the broadcast address on a broadcast interface, the address itself
--- on loopback, and the other end's on a point-to-point interface. An address that was removed stays, for the routes that use it
+-- an address of an interface of this kind. The far address is the broadcast address on a broadcast interface, the
+-- address itself on loopback, and the other end's on a point-to-point interface. An address that was removed stays, for
+-- the routes that use it
 pub record Address : Type 0 where
   pub number : ℕ
   pub kind : Kind
@@ -29,7 +30,8 @@ pub record Address : Type 0 where
   pub far : ℕ
   pub removed : Bool
 
--- an interface: its name, kind, number of its type, link-layer address, and its addresses in the order in which they were added
+-- an interface: its name, kind, number of its type, link-layer address, and its addresses in the order in which they
+-- were added
 pub record Interface : Type 0 where
   pub name : List ℕ
   pub kind : Kind
@@ -51,7 +53,8 @@ attach_fault name interfaces = first_fault
 
 -- an interface as it is attached
 abbrev pub attached : List ℕ → Kind → ℕ → List ℕ → Interface
-attached name kind type_number link = record { name = name; kind = kind; type_number = type_number; link = link; addresses = [] }
+attached name kind type_number link =
+    record { name = name; kind = kind; type_number = type_number; link = link; addresses = [] }
 
 -- the interface of this name
 abbrev pub named : List ℕ → List Interface → Option Interface
@@ -71,7 +74,8 @@ interface_numbered (suc place) interfaces = slice_get interfaces place
 abbrev pub link_text : ℕ → Interface → List ℕ
 link_text index i =
     let size = max 20 (rounded (8 + length i.name + length i.link)) in
-    padded_to size ((size ∷ 18 ∷ []) ++ to_be_bytes w16 index ++ (i.type_number ∷ length i.name ∷ length i.link ∷ 0 ∷ []) ++ i.name ++ i.link)
+    padded_to size ((size ∷ 18 ∷ []) ++ to_be_bytes w16 index
+    ++ (i.type_number ∷ length i.name ∷ length i.link ∷ 0 ∷ []) ++ i.name ++ i.link)
 
 -- the link text of the interface with this number
 abbrev pub link_text_of : ℕ → List Interface → Option (List ℕ)
@@ -147,7 +151,8 @@ with_address name address prefix cloning far interfaces =
     let a = new_address (added interfaces + 1) (kind_of name interfaces) address prefix cloning far in
     change_first (has_name name) (with_one_more a) interfaces
 
--- REFERENCES: an interface address is an address by its number, or an interface's link-layer address by the interface's number
+-- REFERENCES: an interface address is an address by its number, or an interface's link-layer address by the interface's
+-- number
 
 abbrev pub has_number : ℕ → Address → Bool
 has_number number a = a.number == number

@@ -10,4 +10,5 @@ KeepsIfas old new = (i : IfaRef) → IsOf i old → IsOf i new
 
 -- it is the same address, and of the same interface
 abbrev pub SameIfas : List Interface → List Interface → Type 0
-SameIfas old new = (i : IfaRef) → IsOf i old → (text_of i new ≡ text_of i old) × (interface_of i new ≡ interface_of i old)
+SameIfas old new = (i : IfaRef) → IsOf i old
+    → (text_of i new ≡ text_of i old) × (interface_of i new ≡ interface_of i old)

@@ -26,11 +26,13 @@ AddingLasts = (name : List ℕ) (address prefix : ℕ) (cloning : Bool) (far : O
 
 -- where an address is marked as one whose route was added
 abbrev pub MarkingLasts : Type 0
-MarkingLasts = (i : IfaRef) (interfaces : List Interface) → NumberedOnce interfaces → Lasts interfaces (marked_routed i interfaces)
+MarkingLasts = (i : IfaRef) (interfaces : List Interface) → NumberedOnce interfaces
+    → Lasts interfaces (marked_routed i interfaces)
 
 -- and where it is removed
 abbrev pub RemovingLasts : Type 0
-RemovingLasts = (i : IfaRef) (interfaces : List Interface) → NumberedOnce interfaces → Lasts interfaces (without_addr i interfaces)
+RemovingLasts = (i : IfaRef) (interfaces : List Interface) → NumberedOnce interfaces
+    → Lasts interfaces (without_addr i interfaces)
 
 -- nothing is numbered before anything is there
 abbrev pub NoneNumbered : Type 0

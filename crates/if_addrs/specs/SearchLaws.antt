@@ -43,7 +43,8 @@ pub record IsFirstLongest (P : Address → Type 0) (all : List Address) (a : Add
   pub none_longer_behind : AllByRecursion (λ b. P b → b.prefix ≤ a.prefix) behind
 
 -- what is found refers to such an address, or where none is found P holds of none
-abbrev pub Finds : ((Address → Type 0) → List Address → Address → Type 0) → (Address → Type 0) → List Address → Option IfaRef → Type 0
+abbrev pub Finds : ((Address → Type 0) → List Address → Address → Type 0) → (Address → Type 0) → List Address
+    → Option IfaRef → Type 0
 Finds IsIt P all None = AllByRecursion (λ a. ¬ (P a)) all
 Finds IsIt P all (Some i) = (a : Address) × (i ≡ reference a) × IsIt P all a
 
@@ -59,13 +60,17 @@ abbrev pub WithNetInWords : Type 0
 WithNetInWords = (address : ℕ) (interfaces : List Interface)
     → Finds IsFirstLongest (NetworkHolds address) (addresses_of interfaces) (with_net (gate.Inet address) interfaces)
 
+-- the network of none of these holds this address
+abbrev pub NoneHolds : ℕ → List Address → Type 0
+NoneHolds address addresses = AllByRecursion (λ a. ¬ (NetworkHolds address a)) addresses
+
 -- on one interface the first address whose network holds this one, or where there is none the first that stands
 abbrev pub OfInterfaceInWords : Type 0
-OfInterfaceInWords = (address index : ℕ) (interfaces : List Interface)
-    → (AllByRecursion (λ a. ¬ (NetworkHolds address a)) (addresses_on index interfaces)
-    → Finds IsFirst Stands (addresses_on index interfaces) (of_interface (gate.Inet address) index interfaces))
-    × (¬ (AllByRecursion (λ a. ¬ (NetworkHolds address a)) (addresses_on index interfaces))
-    → Finds IsFirst (NetworkHolds address) (addresses_on index interfaces) (of_interface (gate.Inet address) index interfaces))
+OfInterfaceInWords = (address index : ℕ) (interfaces : List Interface) →
+    let on = addresses_on index interfaces in
+    let found = of_interface (gate.Inet address) index interfaces in
+    (NoneHolds address on → Finds IsFirst Stands on found)
+    × (¬ (NoneHolds address on) → Finds IsFirst (NetworkHolds address) on found)
 
 -- whatever address is found stands
 abbrev pub FoundStands : Type 0

@@ -31,7 +31,8 @@ has_link_text text interfaces index = option_map_or (λ own. bytes_eq own text) 
 
 -- the first address that is this one or has it as its broadcast address; the first interface with the whole link text
 abbrev pub with_addr : Gate → List Interface → Option IfaRef
-with_addr (gate.Inet address) interfaces = option_map reference (find (answers_to address) (standing (addresses_of interfaces)))
+with_addr (gate.Inet address) interfaces =
+    option_map reference (find (answers_to address) (standing (addresses_of interfaces)))
 with_addr (gate.Link text) interfaces =
     option_map (λ index. ifa.Link index) (find (has_link_text text interfaces) (range_with_len 1 (length interfaces)))
 
@@ -47,7 +48,8 @@ leads_to address a = has_other_end a.kind && a.far == address
 
 -- the first address of a point-to-point interface with this one at the other end
 abbrev pub with_far : Gate → List Interface → Option IfaRef
-with_far (gate.Inet address) interfaces = option_map reference (find (leads_to address) (standing (addresses_of interfaces)))
+with_far (gate.Inet address) interfaces =
+    option_map reference (find (leads_to address) (standing (addresses_of interfaces)))
 with_far (gate.Link text) interfaces = None
 
 -- BY THE NETWORK
@@ -70,8 +72,8 @@ longest (a ∷ rest) = longer a (longest rest)
 abbrev pub index_in : List ℕ → ℕ
 index_in text = 256 * slice_index text 2 + slice_index text 3
 
--- the address of the longest prefix among those whose network holds this one; the link-layer address of the interface whose number
--- stands in the link text
+-- the address of the longest prefix among those whose network holds this one; the link-layer address of the interface
+-- whose number stands in the link text
 abbrev pub with_net : Gate → List Interface → Option IfaRef
 with_net (gate.Inet address) interfaces =
     option_map reference (longest (filter (network_holds address) (standing (addresses_of interfaces))))
@@ -90,7 +92,8 @@ nearest address addresses = option_or (find (network_holds address) addresses) (
 
 -- the nearest address of the interface with this number; its link-layer address
 abbrev pub of_interface : Gate → ℕ → List Interface → Option IfaRef
-of_interface (gate.Inet address) index interfaces = option_map reference (nearest address (standing (addresses_on index interfaces)))
+of_interface (gate.Inet address) index interfaces =
+    option_map reference (nearest address (standing (addresses_on index interfaces)))
 of_interface (gate.Link text) index interfaces = Some (ifa.Link index)
 
 -- FOR A ROUTE
@@ -100,10 +103,11 @@ has_flag flag flags = not (bit_and flags flag == 0)
 
 -- by the other end, where the route is of a host (HOST, 0x4)
 abbrev pub with_host : ℕ → ℕ → List Interface → Option IfaRef
-with_host flags destination interfaces = if has_flag 0x4 flags then with_far (gate.Inet destination) interfaces else None
+with_host flags destination interfaces =
+    if has_flag 0x4 flags then with_far (gate.Inet destination) interfaces else None
 
--- by what the route leads over: its gateway at an other end, where it has one (GATEWAY, 0x2); or the destination at an other end,
--- and the interface's address that stands for a gateway
+-- by what the route leads over: its gateway at an other end, where it has one (GATEWAY, 0x2); or the destination at an
+-- other end, and the interface's address that stands for a gateway
 abbrev pub with_way : ℕ → ℕ → Gate → List Interface → Option IfaRef
 with_way flags destination gateway interfaces =
     if has_flag 0x2 flags then with_far gateway interfaces

@@ -59,13 +59,30 @@ impl Model for Address {
 
     ghost Value = { Seen };
 
-    ghost view = { λ a. record { number = a.number; kind = a.kind; address = a.address; prefix = a.prefix; flags = a.flags; far = a.far; removed = a.removed } };
+    ghost view = { λ a. record {
+      number = a.number;
+      kind = a.kind;
+      address = a.address;
+      prefix = a.prefix;
+      flags = a.flags;
+      far = a.far;
+      removed = a.removed;
+    } };
 
-    ghost inverse = { λ a. record { number = a.number; kind = a.kind; address = a.address; prefix = a.prefix; flags = a.flags; far = a.far; removed = a.removed } };
+    ghost inverse = { λ a. record {
+      number = a.number;
+      kind = a.kind;
+      address = a.address;
+      prefix = a.prefix;
+      flags = a.flags;
+      far = a.far;
+      removed = a.removed;
+    } };
 }
 
 impl Address {
-    /// An address with this number, whose route is not yet added; `far` is the other end's, where the interface has one.
+    /// An address with this number, whose route is not yet added; `far` is the other end's, where the interface has
+    /// one.
     pub(crate) fn new(
         number: u16,
         kind: Kind,

@@ -27,7 +27,13 @@ impl Model for Interface {
 
     ghost Value = { Seen };
 
-    ghost view = { λ i. record { name = i.name; kind = i.kind; type_number = i.type_number; link = i.link.items; addresses = i.addresses.items } };
+    ghost view = { λ i. record {
+      name = i.name;
+      kind = i.kind;
+      type_number = i.type_number;
+      link = i.link.items;
+      addresses = i.addresses.items;
+    } };
 }
 
 impl Interface {

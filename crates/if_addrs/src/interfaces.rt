@@ -16,8 +16,8 @@ use sock_addrs::{Errno, Gate, Inet, Link, Name};
 use std::alloc::Global;
 use std::marker::Model;
 
-/// The interfaces with their addresses. A contract sees them in the order in which they were attached; they are numbered from
-/// 1 on by their places. A reference to an address, and an interface's number, stay good for good.
+/// The interfaces with their addresses. A contract sees them in the order in which they were attached; they are
+/// numbered from 1 on by their places. A reference to an address, and an interface's number, stay good for good.
 #[derive(Drop)]
 pub struct Interfaces {
     pub(crate) interfaces: Vec<Interface>,
@@ -51,9 +51,11 @@ impl Interfaces {
         }
     }
 
-    /// Attaches an interface of this name and kind, with the number of its type in <net/if_types.h> and its link-layer address.
+    /// Attaches an interface of this name and kind, with the number of its type in <net/if_types.h> and its link-layer
+    /// address.
     ///
-    /// Refused, in this order: EEXIST where the name is there; ENOSPC where 64 interfaces are; ENOBUFS for want of memory.
+    /// Refused, in this order: EEXIST where the name is there; ENOSPC where 64 interfaces are; ENOBUFS for want of
+    /// memory.
     pub fn attach(
         &mut self,
         name: Name,
@@ -89,9 +91,10 @@ impl Interfaces {
         Ok(())
     }
 
-    /// What refuses this address on the interface of this name, but for want of memory; `far` is the other end's address. In
-    /// this order: ENXIO where no interface has the name; EINVAL where `far` is given and the interface isn't point-to-point,
-    /// or isn't and it is; EADDRINUSE where an interface holds the address; ENOSPC once 65,535 addresses were ever added.
+    /// What refuses this address on the interface of this name, but for want of memory; `far` is the other end's
+    /// address. In this order: ENXIO where no interface has the name; EINVAL where `far` is given and the interface
+    /// isn't point-to-point, or isn't and it is; EADDRINUSE where an interface holds the address; ENOSPC once 65,535
+    /// addresses were ever added.
     pub fn check_addr(&self, name: Name, address: Inet, far: Option<Inet>) -> Result<(), Errno>
         ensures { result_err result ≡ addr_fault name address far self.now }
     {
@@ -110,8 +113,8 @@ impl Interfaces {
         Ok(())
     }
 
-    /// Adds an address to the interface of this name, with the next number, and answers a reference to it. `far` is the other
-    /// end's address, where the interface is point-to-point. ENOBUFS for want of memory.
+    /// Adds an address to the interface of this name, with the next number, and answers a reference to it. `far` is the
+    /// other end's address, where the interface is point-to-point. ENOBUFS for want of memory.
     pub fn add_addr(
         &mut self,
         name: Name,
@@ -123,7 +126,8 @@ impl Interfaces {
         requires { addr_fault name address far self.old ≡ None }
         ensures number { IfOk result (λ ifa. ifa ≡ IfaRef.Inet (added self.old + 1)) }
         ensures added { OnOk result (self.new ≡ with_address name address prefix cloning far self.old) }
-        ensures there { IfOk result (λ ifa. address_of ifa self.new ≡ Some (new_address (added self.old + 1) (kind_of name self.old) address prefix cloning far)) }
+        ensures there { IfOk result (λ ifa. address_of ifa self.new
+            ≡ Some (new_address (added self.old + 1) (kind_of name self.old) address prefix cloning far)) }
         ensures keeps { KeepsIfas self.old self.new }
         ensures same { SameIfas self.old self.new }
         ensures refused { IfErr result (λ e. e ≡ Errno.ENOBUFS) }
@@ -142,8 +146,8 @@ impl Interfaces {
         }
     }
 
-    /// The address that the interface of this name holds. ENXIO: no interface has the name; EADDRNOTAVAIL: it doesn't hold the
-    /// address.
+    /// The address that the interface of this name holds. ENXIO: no interface has the name; EADDRNOTAVAIL: it doesn't
+    /// hold the address.
     pub fn find_addr(&self, name: Name, address: Inet) -> Result<IfaRef, Errno>
         ensures found { result ≡ find_addr name address self.now }
         ensures standing { IfOk result (λ ifa. IsStanding ifa self.now) }

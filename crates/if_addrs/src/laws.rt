@@ -7,14 +7,14 @@ ghost use Rattle.if_addrs.specs.SearchLaws.{FoundStands, OfInterfaceInWords, Rem
 
 use crate::Interfaces;
 
-/// The last address of an address's network has the address's first bits, as many as the prefix says, and no address with
-/// these bits is greater.
+/// The last address of an address's network has the address's first bits, as many as the prefix says, and no address
+/// with these bits is greater.
 pub fn last_of_network_is_greatest()
     ensures { LastOfNetworkIsGreatest }
 {}
 
-/// A reference to an interface address stays one, of the same address on the same interface, whatever is attached, added, marked
-/// or removed; and no address gets the number of another.
+/// A reference to an interface address stays one, of the same address on the same interface, whatever is attached,
+/// added, marked or removed; and no address gets the number of another.
 pub fn references_last()
     ensures none { NoneNumbered }
     ensures attaching { AttachingLasts }
@@ -30,8 +30,9 @@ pub fn numbers_stand_once(interfaces: &Interfaces)
     let _ = &interfaces.interfaces;
 }
 
-/// What the searches by an IPv4 address find, in words: an address that was not removed and qualifies, and none before it does; of
-/// the networks that hold the address none is smaller, and none before it as small. Where nothing is found none qualifies.
+/// What the searches by an IPv4 address find, in words: an address that was not removed and qualifies, and none before
+/// it does; of the networks that hold the address none is smaller, and none before it as small. Where nothing is found
+/// none qualifies.
 pub fn searches_in_words()
     ensures own { WithAddrInWords }
     ensures far { WithFarInWords }

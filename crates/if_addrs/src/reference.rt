@@ -2,8 +2,8 @@ use crate::kind::Kind;
 use mask_table::Prefix;
 use sock_addrs::Inet;
 
-/// An interface address of a route: an IPv4 address of an interface by its number, or the link-layer address of an interface
-/// by the interface's number.
+/// An interface address of a route: an IPv4 address of an interface by its number, or the link-layer address of an
+/// interface by the interface's number.
 #[derive(Clone, Copy, Debug, PartialEq, Eq)]
 pub enum IfaRef {
     Inet(u16),
@@ -19,7 +19,7 @@ pub struct Facts {
     pub prefix: Prefix,
     /// Its flag word: 0x100 where its route is cloning, and 1 once its route was added.
     pub flags: u32,
-    /// Its far address: the broadcast address on a broadcast interface, the address itself on loopback, and the other end's
-    /// on a point-to-point interface.
+    /// Its far address: the broadcast address on a broadcast interface, the address itself on loopback, and the other
+    /// end's on a point-to-point interface.
     pub far: Inet,
 }

@@ -1,5 +1,5 @@
-//! The searches for an interface address, as a route gets it. They go by interface and then by address, and pass over the
-//! addresses that were removed. What they find is an interface address of these interfaces.
+//! The searches for an interface address, as a route gets it. They go by interface and then by address, and pass over
+//! the addresses that were removed. What they find is an interface address of these interfaces.
 ghost use Rattle.std.specs.Prelude.{◌≡◌, ◌≤◌, length, filter, option_map, IfSome};
 ghost use Rattle.std.specs.List.{find, range_with_len};
 ghost use Rattle.if_addrs.specs.Interfaces.{addresses_of, reference, IsOf};
@@ -19,8 +19,8 @@ const GATEWAY: u16 = 0x2;
 const HOST: u16 = 0x4;
 
 impl Interfaces {
-    /// By an IPv4 address: the first address that is this one, or has it as its broadcast address. By a link-layer address: that
-    /// of the first interface that has it whole.
+    /// By an IPv4 address: the first address that is this one, or has it as its broadcast address. By a link-layer
+    /// address: that of the first interface that has it whole.
     pub fn with_addr(&self, sought: Gate) -> Option<IfaRef>
         ensures found { result ≡ with_addr sought self.now }
         ensures of { IfSome result (λ i. IsOf i self.now) }
@@ -41,7 +41,8 @@ impl Interfaces {
 
     /// The first address of the longest prefix among those that are as a search wants them.
     fn longest(&self, wanted: &Wanted) -> Option<IfaRef>
-        ensures found { result ≡ option_map reference (longest (filter (is_wanted wanted.now) (addresses_of self.now))) }
+        ensures found { result ≡
+            option_map reference (longest (filter (is_wanted wanted.now) (addresses_of self.now))) }
         ensures of { IfSome result (λ i. IsOf i self.now) }
     {
         Some(longest(&self.interfaces, wanted)?.reference())
@@ -49,7 +50,8 @@ impl Interfaces {
 
     /// The first interface whose link-layer address this is.
     fn with_link_text(&self, text: Link) -> Option<IfaRef>
-        ensures found { result ≡ option_map (λ index. ifa.Link index) (find (has_link_text text self.now) (range_with_len 1 (length self.now))) }
+        ensures found { result ≡ option_map (λ index. ifa.Link index)
+            (find (has_link_text text self.now) (range_with_len 1 (length self.now))) }
         ensures of { IfSome result (λ i. IsOf i self.now) }
     {
         for place in 0..self.interfaces.len() {
@@ -61,8 +63,8 @@ impl Interfaces {
         None
     }
 
-    /// The first address of a point-to-point interface that has this IPv4 address at the other end. By a link-layer address none
-    /// is found.
+    /// The first address of a point-to-point interface that has this IPv4 address at the other end. By a link-layer
+    /// address none is found.
     pub fn with_far(&self, sought: Gate) -> Option<IfaRef>
         ensures found { result ≡ with_far sought self.now }
         ensures of { IfSome result (λ i. IsOf i self.now) }
@@ -73,8 +75,8 @@ impl Interfaces {
         }
     }
 
-    /// By an IPv4 address: of the addresses whose network holds it the one with the longest prefix, the first among equals. By a
-    /// link-layer address: that of the interface whose number stands in it.
+    /// By an IPv4 address: of the addresses whose network holds it the one with the longest prefix, the first among
+    /// equals. By a link-layer address: that of the interface whose number stands in it.
     pub fn with_net(&self, sought: Gate) -> Option<IfaRef>
         ensures found { result ≡ with_net sought self.now }
         ensures of { IfSome result (λ i. IsOf i self.now) }
@@ -92,8 +94,8 @@ impl Interfaces {
         }
     }
 
-    /// On the interface with this number. By an IPv4 address: the first address whose network holds it, or else the first address.
-    /// By a link-layer address: the interface's own.
+    /// On the interface with this number. By an IPv4 address: the first address whose network holds it, or else the
+    /// first address. By a link-layer address: the interface's own.
     pub fn of_interface(&self, sought: Gate, index: u16) -> Option<IfaRef>
         requires first { 1 ≤ index }
         requires last { index ≤ length self.now }
@@ -109,10 +111,11 @@ impl Interfaces {
         }
     }
 
-    /// The interface address of a route with these flags to this destination, over this gateway, in this order: without GATEWAY
-    /// the one with the destination at the other end, where HOST is set, and then the one with the gateway as its address; with
-    /// GATEWAY the one with the gateway at the other end; then the one whose network holds the gateway; then the fallback. Where
-    /// it is a link-layer address, an address of that interface stands in its place, if it has one.
+    /// The interface address of a route with these flags to this destination, over this gateway, in this order: without
+    /// GATEWAY the one with the destination at the other end, where HOST is set, and then the one with the gateway as
+    /// its address; with GATEWAY the one with the gateway at the other end; then the one whose network holds the
+    /// gateway; then the fallback. Where it is a link-layer address, an address of that interface stands in its place,
+    /// if it has one.
     pub fn for_route(
         &self,
         flags: u16,

@@ -13,4 +13,5 @@ HaveRoom n sockets = (k : ℕ) → (d : Open) → k < length sockets → n ≤ (
 
 -- the queue of each has as much room as before, but for so many bytes
 abbrev pub KeepRoomBut : ℕ → List Open → List Open → Type 0
-KeepRoomBut n before after = (k : ℕ) → (d : Open) → k < length before → (slice_index_or before k d).queue.room ≤ (slice_index_or after k d).queue.room + n
+KeepRoomBut n before after = (k : ℕ) → (d : Open) → k < length before
+    → (slice_index_or before k d).queue.room ≤ (slice_index_or after k d).queue.room + n

@@ -19,7 +19,8 @@ joined messages = flat_map (λ m. m) messages
 abbrev pub cut_at_most : ℕ → List ℕ → List (List ℕ)
 cut_at_most zero bytes = []
 cut_at_most (suc more) [] = []
-cut_at_most (suc more) (b ∷ bs) = take (length_field (b ∷ bs)) (b ∷ bs) ∷ cut_at_most more (drop (length_field (b ∷ bs)) (b ∷ bs))
+cut_at_most (suc more) (b ∷ bs) =
+    take (length_field (b ∷ bs)) (b ∷ bs) ∷ cut_at_most more (drop (length_field (b ∷ bs)) (b ∷ bs))
 
 -- the messages that the bytes are cut into, each as long as its first two bytes say
 abbrev pub cut : List ℕ → List (List ℕ)

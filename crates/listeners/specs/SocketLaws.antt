@@ -5,17 +5,20 @@ use Rattle.listeners.specs.declared.limits.TheConstants.{MOST_SOCKETS}
 
 -- a socket that reads its messages leaves every other as it was
 abbrev pub ReadingDisturbsNoOther : Type 0
-ReadingDisturbsNoOther = (id other : List ℕ) → (sockets : List Socket) → bytes_eq id other ≡ false → socket_of other (taken id sockets) ≡ socket_of other sockets
+ReadingDisturbsNoOther = (id other : List ℕ) → (sockets : List Socket) → bytes_eq id other ≡ false
+    → socket_of other (taken id sockets) ≡ socket_of other sockets
 
 -- and changes nothing of any socket but its messages
 abbrev pub ReadingChangesMessagesAlone : Type 0
-ReadingChangesMessagesAlone = (id : List ℕ) → (sockets : List Socket) → map emptied (taken id sockets) ≡ map emptied sockets
+ReadingChangesMessagesAlone = (id : List ℕ) → (sockets : List Socket)
+    → map emptied (taken id sockets) ≡ map emptied sockets
 
 -- a delivery changes nothing of any socket but its messages, and only adds the new one at their end
 abbrev pub DeliveringOnlyAppends : Type 0
 DeliveringOnlyAppends = (message : List ℕ) → (family : ℕ) → (own : Option (List ℕ)) →
     ((sockets : List Socket) → map emptied (delivered message family own sockets) ≡ map emptied sockets)
-    × ((s : Socket) → ((after_delivery message family own s).messages ≡ s.messages) ⊎ ((after_delivery message family own s).messages ≡ s.messages ++ message ∷ []))
+    × ((s : Socket) → ((after_delivery message family own s).messages ≡ s.messages)
+    ⊎ ((after_delivery message family own s).messages ≡ s.messages ++ message ∷ []))
 
 -- a socket that was closed isn't open
 abbrev pub ClosedIsGone : Type 0
@@ -61,14 +64,16 @@ LoopbackLeavesOthers = (family : ℕ) → (own : Option (List ℕ)) → (s : Soc
 
 -- the others hear a message whether a socket is closed before or after
 abbrev pub DeliversWithoutClosed : Type 0
-DeliversWithoutClosed = (message : List ℕ) → (family : ℕ) → (own : Option (List ℕ)) → (id : List ℕ) → (sockets : List Socket)
+DeliversWithoutClosed = (message : List ℕ) → (family : ℕ) → (own : Option (List ℕ)) → (id : List ℕ)
+    → (sockets : List Socket)
     → delivered message family own (without id sockets) ≡ without id (delivered message family own sockets)
 
 -- and whether a socket has loopback on or off
 abbrev pub DeliversWhateverLoopback : Type 0
-DeliversWhateverLoopback = (message : List ℕ) → (family : ℕ) → (own : Option (List ℕ)) → (id other : List ℕ) → (on : Bool)
-    → (sockets : List Socket) → bytes_eq id other ≡ false
-    → socket_of other (delivered message family own (with_loopback id on sockets)) ≡ socket_of other (delivered message family own sockets)
+DeliversWhateverLoopback = (message : List ℕ) → (family : ℕ) → (own : Option (List ℕ)) → (id other : List ℕ)
+    → (on : Bool) → (sockets : List Socket) → bytes_eq id other ≡ false
+    → socket_of other (delivered message family own (with_loopback id on sockets))
+    ≡ socket_of other (delivered message family own sockets)
 
 -- how many sockets may be open
 abbrev pub MostByNumber : Type 0

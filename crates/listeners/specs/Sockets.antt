@@ -7,8 +7,8 @@ use Rattle.listeners.specs.declared.limits.TheConstants.{MOST_SOCKETS}
 use Rattle.sock_addrs.specs.Rules.{rule, first_fault}
 use Rattle.sock_addrs.specs.First.{change_first}
 
--- a socket: the process that opened it, the family that it hears (0: all), whether it hears the replies to its own writes,
--- and the messages that it has not yet read, the oldest first
+-- a socket: the process that opened it, the family that it hears (0: all), whether it hears the replies to its own
+-- writes, and the messages that it has not yet read, the oldest first
 pub record Socket : Type 0 where
   pub id : List ℕ
   pub pid : ℕ
@@ -59,14 +59,15 @@ abbrev pub is_own : List ℕ → Option (List ℕ) → Bool
 is_own id None = false
 is_own id (Some writer) = bytes_eq id writer
 
--- whether the socket hears a message of the family: it hears all families or this one, and it is not the reply to its own
--- write while loopback is off
+-- whether the socket hears a message of the family: it hears all families or this one, and it is not the reply to its
+-- own write while loopback is off
 abbrev pub hears : ℕ → Option (List ℕ) → Socket → Bool
 hears family own s = (s.protocol == 0 || s.protocol == family) && (s.loopback || not (is_own s.id own))
 
 -- a socket after a message was delivered
 abbrev pub after_delivery : List ℕ → ℕ → Option (List ℕ) → Socket → Socket
-after_delivery message family own s = if hears family own s then record s { messages = s.messages ++ message ∷ [] } else s
+after_delivery message family own s =
+    if hears family own s then record s { messages = s.messages ++ message ∷ [] } else s
 
 -- the sockets after a message was delivered to all that hear it
 abbrev pub delivered : List ℕ → ℕ → Option (List ℕ) → List Socket → List Socket

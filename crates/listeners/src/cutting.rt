@@ -3,8 +3,8 @@ ghost use Rattle.listeners.specs.Queue.{cut, AreMessages};
 
 use byteorder::{BigEndian, ByteOrder};
 
-/// The first of whole messages that stand one after another, each of which begins with its length, two bytes, the high one
-/// first.
+/// The first of whole messages that stand one after another, each of which begins with its length, two bytes, the high
+/// one first.
 pub fn first_message(bytes: &[u8]) -> &[u8]
     requires whole { AreMessages bytes.now }
     requires some { 0 < length bytes.now }

@@ -9,7 +9,8 @@ pub fn reading_disturbs_no_other()
     ensures alone { ReadingChangesMessagesAlone }
 {}
 
-/// A socket that is closed is open no more, and leaves every other as it was; one that is opened with its id again has no message.
+/// A socket that is closed is open no more, and leaves every other as it was; one that is opened with its id again has
+/// no message.
 pub fn closing_disturbs_no_other()
     ensures gone { ClosedIsGone }
     ensures others { ClosingDisturbsNoOther }
@@ -23,7 +24,8 @@ pub fn loopback_disturbs_no_other()
     ensures alone { LoopbackChangesItAlone }
 {}
 
-/// A socket hears all of its family, or all; but with loopback off not the replies to its own writes, and all else as before.
+/// A socket hears all of its family, or all; but with loopback off not the replies to its own writes, and all else as
+/// before.
 pub fn loopback_silences_own_replies_alone()
     ensures family { HearsInWords }
     ensures own { LoopbackOffSilencesOwn }

@@ -11,8 +11,8 @@ use sock_addrs::{Errno, Name};
 use std::alloc::Global;
 use std::marker::Model;
 
-/// The open routing sockets with the messages that they have not yet read. A contract sees the sockets in the order in which
-/// they were opened, and for how many bytes more there is room in the queue of each.
+/// The open routing sockets with the messages that they have not yet read. A contract sees the sockets in the order in
+/// which they were opened, and for how many bytes more there is room in the queue of each.
 #[derive(Drop)]
 pub struct Listeners {
     sockets: Vec<Socket>,
@@ -83,8 +83,8 @@ impl Listeners {
         is_open(&self.sockets, id)
     }
 
-    /// Closes a socket; what it has not read goes with it. EBADF where none of this id is open. Another can then be opened with
-    /// the id, with an empty queue.
+    /// Closes a socket; what it has not read goes with it. EBADF where none of this id is open. Another can then be
+    /// opened with the id, with an empty queue.
     pub fn shut(&mut self, id: Name) -> Result<(), Errno>
         ensures fault { result_err result ≡ closed_fault id self.old.sockets }
         ensures shut { OnOk result (self.new ≡ listening (without id self.old.sockets) self.old.reserved) }
@@ -97,8 +97,8 @@ impl Listeners {
         Ok(())
     }
 
-    /// Turns loopback of a socket on or off, by which it hears the replies to its own writes or doesn't. EBADF where none of
-    /// this id is open.
+    /// Turns loopback of a socket on or off, by which it hears the replies to its own writes or doesn't. EBADF where
+    /// none of this id is open.
     pub fn set_loopback(&mut self, id: Name, on: bool) -> Result<(), Errno>
         ensures fault { result_err result ≡ closed_fault id self.old.sockets }
         ensures set { OnOk result (self.new ≡ listening (with_loopback id on self.old.sockets) self.old.reserved) }
@@ -124,7 +124,8 @@ impl Listeners {
         }
     }
 
-    /// Makes room for `n` bytes more in each queue. ENOBUFS for want of memory, and never where so many are reserved already.
+    /// Makes room for `n` bytes more in each queue. ENOBUFS for want of memory, and never where so many are reserved
+    /// already.
     pub fn reserve(&mut self, n: usize) -> Result<(), Errno>
         ensures ok { OnOk result (self.new ≡ listening self.old.sockets n) }
         ensures there { n ≤ self.old.reserved → IsOk result }
@@ -138,12 +139,13 @@ impl Listeners {
         Ok(())
     }
 
-    /// Delivers a message to all sockets that hear its family, but not to the socket `own`, whose reply it is, where that has
-    /// loopback off. It uses up as many of the reserved bytes as it has, and takes no memory.
+    /// Delivers a message to all sockets that hear its family, but not to the socket `own`, whose reply it is, where
+    /// that has loopback off. It uses up as many of the reserved bytes as it has, and takes no memory.
     pub fn deliver(&mut self, message: &[u8], family: u8, own: Option<Name>)
         requires message { IsMessage message.now }
         requires room { length message.now ≤ self.old.reserved }
-        ensures { self.new ≡ listening (delivered message.now family own self.old.sockets) (self.old.reserved - length message.now) }
+        ensures { self.new ≡ listening
+            (delivered message.now family own self.old.sockets) (self.old.reserved - length message.now) }
     {
         self.reserved -= message.len();
         let message = Message {
@@ -154,8 +156,8 @@ impl Listeners {
         socket::deliver(&mut self.sockets, &message);
     }
 
-    /// Takes the messages that wait for a socket, one after another, and leaves none; or EBADF where none of this id is open.
-    /// What was reserved is given up.
+    /// Takes the messages that wait for a socket, one after another, and leaves none; or EBADF where none of this id is
+    /// open. What was reserved is given up.
     pub fn take(&mut self, id: Name) -> Result<Vec<u8>, Errno>
         ensures whole { IfOk result (λ bytes. AreMessages bytes.items) }
         ensures messages { IfOk result (λ bytes. messages_of id self.old.sockets ≡ Some (cut bytes.items)) }

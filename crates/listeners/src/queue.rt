@@ -4,8 +4,8 @@ ghost use Rattle.listeners.specs.Queue.{cut, IsMessage, AreMessages};
 use std::alloc::{AllocError, Global};
 use std::marker::Model;
 
-/// The messages that wait for a socket, one after another. A contract sees the messages, the oldest first, and for how many
-/// bytes more there is room.
+/// The messages that wait for a socket, one after another. A contract sees the messages, the oldest first, and for how
+/// many bytes more there is room.
 #[derive(Drop)]
 pub(crate) struct Queue {
     bytes: Vec<u8>,

@@ -74,7 +74,8 @@ impl Socket {
     fn hear(&mut self, message: &Message)
         requires message { IsMessage message.now.bytes.now }
         requires room { length message.now.bytes.now ≤ self.old.queue.room }
-        ensures after { seen self.new ≡ after_delivery message.now.bytes.now message.now.family message.now.own (seen self.old) }
+        ensures after { seen self.new
+            ≡ after_delivery message.now.bytes.now message.now.family message.now.own (seen self.old) }
         ensures room { self.old.queue.room ≤ self.new.queue.room + length message.now.bytes.now }
     {
         if self.hears(message) {
@@ -120,7 +121,8 @@ pub(crate) fn is_open(sockets: &[Socket], id: Name) -> bool
 pub(crate) fn deliver(sockets: &mut [Socket], message: &Message)
     requires message { IsMessage message.now.bytes.now }
     requires room { HaveRoom (length message.now.bytes.now) sockets.old }
-    ensures delivered { map seen sockets.new ≡ delivered_to message.now.bytes.now message.now.family message.now.own (map seen sockets.old) }
+    ensures delivered { map seen sockets.new
+        ≡ delivered_to message.now.bytes.now message.now.family message.now.own (map seen sockets.old) }
     ensures room { KeepRoomBut (length message.now.bytes.now) sockets.old sockets.new }
 {
     for socket in sockets {
