@@ -1,0 +1,10 @@
+pub mod At
+pub mod Chunk
+pub mod Counting
+pub mod Keeping
+pub mod Lending
+pub mod LendingValue
+pub mod Links
+pub mod Owning
+pub mod Rooms
+pub mod Slots

@@ -1,0 +1,81 @@
+//! The blocks of memory of the lodged rooms. Every raw pointer of the program is followed here.
+ghost use Rattle.std.specs.Prelude.{◌≡◌, Some};
+ghost use Rattle.std.specs.Ordering.{nat_cmp};
+ghost use Rattle.std.specs.FinMap.{FinMap, code, empty, get, insert, remove, entries};
+ghost use Rattle.std.specs.Coded.{coded×, coded_ℕ};
+ghost use Rattle.std.specs.Borrow.{sem};
+ghost use denote.RawPtr.{Ptr, coded_ptr};
+ghost use Rattle.radix_nodes.specs.Owning.{all_own, all_lent};
+ghost use Rattle.radix_nodes.specs.At.{IsAt};
+
+use crate::id::Id;
+use std::alloc::Global;
+use std::marker::{Model, PhantomData};
+use std_alloc::room::Vacant;
+
+/// The blocks that hold a value each, by the numbers of their rooms. It has no bytes: whoever reads or writes a block
+/// has its room's name. Its drop frees none of them: who drops it has taken them out.
+#[derive(Drop)]
+pub(crate) struct Blocks<T> {
+    mark: PhantomData<*mut T>,
+    ghost cells: { FinMap nat_cmp (Ptr × T) } by { code coded_ℕ (coded× coded_ptr T.code) },
+}
+
+impl<T> Model for Blocks<T> {
+    ghost also_owns = { λ b. all_own T.row (entries b.cells) };
+
+    ghost also_shares = { λ b _ κ. all_lent T.row (entries b.cells) κ };
+}
+
+impl<T> Blocks<T> {
+    ghost use Rattle.radix_nodes.specs.Lending.{lends_block};
+
+    /// No block.
+    pub(crate) fn new() -> Blocks<T>
+        ensures { result.cells ≡ empty }
+    {
+        Blocks { mark: PhantomData }
+    }
+
+    /// Writes a value into an empty block, which is held from now on under this number.
+    pub(crate) fn put(&mut self, number: u64, room: Vacant<T, Global>, value: T) -> Id
+        ensures { (result.number ≡ number) × (self.new.cells ≡ insert self.old.cells number (result.block, value)) }
+    {
+        let Vacant { ptr, alloc: _ } = room;
+        unsafe {
+            ptr.write(value);
+        }
+        Id {
+            number,
+            block: ptr as *mut u8,
+        }
+    }
+
+    /// Moves the value out of a block, which is empty and no longer held from now on.
+    pub(crate) fn take(&mut self, id: Id, alloc: Global) -> (T, Vacant<T, Global>)
+        requires { IsAt self.old.cells id.number id.block }
+        ensures { (get self.old.cells id.number ≡ Some (id.block, result.0))
+            × (self.new.cells ≡ remove self.old.cells id.number) }
+    {
+        let ptr = id.block as *mut T;
+        let value = unsafe { ptr.read() };
+        (value, Vacant { ptr, alloc })
+    }
+
+    /// The value in a block.
+    pub(crate) fn get(&self, id: Id) -> &T
+        requires { IsAt self.now.cells id.number id.block }
+        ensures { get self.now.cells id.number ≡ Some (id.block, result.now) }
+    {
+        unsafe { &*(id.block as *mut T) }
+    }
+
+    /// The value in a block, to be changed.
+    pub(crate) fn get_mut(&mut self, id: Id) -> &mut T
+        requires { IsAt self.old.cells id.number id.block }
+        ensures* writes { sem 𝓛 (lends_block T.row self.entry id.number id.block result) }
+        ensures value { get self.old.cells id.number ≡ Some (id.block, result.now) }
+    {
+        unsafe { &mut *(id.block as *mut T) }
+    }
+}

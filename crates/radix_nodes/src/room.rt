@@ -1,0 +1,29 @@
+//! A room, in which nothing stands.
+use crate::links::Links;
+use std::alloc::Global;
+use std::marker::Model;
+use std_alloc::room::Vacant;
+
+/// What stands in the block of a lodged room.
+pub(crate) struct Full<V> {
+    /// The place at which the room's name is noted.
+    pub(crate) slot: usize,
+    pub(crate) links: Links,
+    pub(crate) value: V,
+}
+
+/// A block of memory for one route, made by `Nodes::make` and not in use. It is lodged or scrapped, and can't be
+/// dropped. A contract sees its number.
+pub struct Room<V> {
+    pub(crate) number: u64,
+    pub(crate) slot: usize,
+    pub(crate) space: Vacant<Full<V>, Global>,
+}
+
+impl<V> Model for Room<V> {
+    ghost use Rattle.std.specs.Prelude.{ℕ};
+
+    ghost Value = { ℕ };
+
+    ghost view = { λ r. r.number };
+}

@@ -1,0 +1,120 @@
+//! How rooms change.
+ghost use Rattle.std.specs.Prelude.{◌≡◌, ◌+◌, ◌<◌, None, Some, OnOk, OnErr, IfOk};
+ghost use Rattle.std.specs.Borrow.{sem};
+ghost use Rattle.std.specs.FinMap.{get, remove};
+ghost use Rattle.radix_nodes.specs.Rooms.{Seen, Has, put_room, put_links};
+ghost use Rattle.radix_nodes.specs.Links.{IsBlank};
+
+use crate::id::Id;
+use crate::links::Links;
+use crate::nodes::Nodes;
+use crate::room::{Full, Room};
+use crate::slots::{self, Slot};
+use std::alloc::AllocError;
+use std_alloc::room::Vacant;
+
+impl<V> Nodes<V> {
+    ghost use Rattle.radix_nodes.specs.LendingValue.{lends_value};
+
+    /// A room. `Err` where there is no memory for it, or 2^64 - 1 rooms were made.
+    pub fn make(&mut self) -> Result<Room<V>, AllocError>
+        ensures ok { OnOk result (self.new ≡ record self.old { next = self.old.next + 1 }) }
+        ensures number { IfOk result (λ room. (room ≡ self.old.next) × (get self.old.lodged room ≡ None)) }
+        ensures err { OnErr result (self.new ≡ self.old) }
+    {
+        if self.last == u64::MAX {
+            return Err(AllocError);
+        }
+        let Ok(space) = Vacant::take(self.alloc) else {
+            return Err(AllocError);
+        };
+        let Ok(slot) = slots::reserve(&mut self.slots, &mut self.free) else {
+            let _ = space.free();
+            return Err(AllocError);
+        };
+        self.last += 1;
+        Ok(Room {
+            number: self.last,
+            slot,
+            space,
+        })
+    }
+
+    /// Puts a value into a room that is not in the map. Its links are blank.
+    pub fn lodge(&mut self, room: Room<V>, value: V) -> Id
+        requires made { room < self.old.next }
+        requires free { get self.old.lodged room ≡ None }
+        ensures number { result.number ≡ room }
+        ensures lodged { (blank : _) × IsBlank blank
+            × (self.new ≡ record self.old { lodged = put_room self.old.lodged result value blank }) }
+    {
+        let Room {
+            number,
+            slot,
+            space,
+        } = room;
+        let links = Links::blank();
+        let id = self.blocks.put(number, space, Full { slot, links, value });
+        if slot < self.slots.len() {
+            self.slots[slot] = Slot::Lodged(id);
+        }
+        id
+    }
+
+    /// Takes a room out of the map, with its value.
+    pub fn evict(&mut self, id: Id) -> (Room<V>, V)
+        requires there { Has self.old.lodged id }
+        ensures room { result.0 ≡ id.number }
+        ensures value { (room : Seen V) → get self.old.lodged id.number ≡ Some room → result.1 ≡ room.value }
+        ensures evicted { self.new ≡ record self.old { lodged = remove self.old.lodged id.number } }
+    {
+        let (full, space) = self.blocks.take(id, self.alloc);
+        let Full {
+            slot,
+            links: _,
+            value,
+        } = full;
+        if slot < self.slots.len() {
+            self.slots[slot] = Slot::Made;
+        }
+        let room = Room {
+            number: id.number,
+            slot,
+            space,
+        };
+        (room, value)
+    }
+
+    /// Frees a room. The map stays as it is.
+    pub fn scrap(&mut self, room: Room<V>)
+        ensures { self.new ≡ self.old }
+    {
+        let Room {
+            number: _,
+            slot,
+            space,
+        } = room;
+        let _ = space.free();
+        if slot < self.slots.len() {
+            self.slots[slot] = Slot::Free(self.free);
+            self.free = slot;
+        }
+    }
+
+    /// Writes the links of a room.
+    pub fn set_links(&mut self, id: Id, links: Links)
+        requires there { Has self.old.lodged id }
+        ensures { self.new ≡ record self.old { lodged = put_links self.old.lodged id links } }
+    {
+        self.blocks.get_mut(id).links = links;
+    }
+
+    /// The value in a room, to be changed.
+    pub fn value_mut(&mut self, id: Id) -> &mut V
+        requires there { Has self.old.lodged id }
+        ensures* writes { sem 𝓛 (lends_value V.row id self.entry result) }
+        ensures value { (room : Seen V) → get self.old.lodged id.number ≡ Some room → result.now ≡ room.value }
+    {
+        &mut self.blocks.get_mut(id).value
+    }
+}
