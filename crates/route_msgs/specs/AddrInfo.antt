@@ -1,4 +1,5 @@
--- The addresses that follow a header. An address stands in a message with zeros behind it, up to as many bytes as its length byte takes.
+-- The addresses that follow a header. An address stands in a message with zeros behind it, up to as many bytes as its
+-- length byte takes.
 use Rattle.std.specs.Prelude.{ℕ, ◌+◌, List, [], ◌∷◌, slice_index, Option, Some, None}
 use Rattle.std.specs.List.{flat_map}
 use Rattle.sock_addrs.specs.Padded.{padded_to}
@@ -20,11 +21,22 @@ gate_sockaddr (gate.Link sockaddr) = padded sockaddr
 
 -- no address
 abbrev pub no_addresses : AddrInfo
-no_addresses = record { dst = None; gateway = None; netmask = None; genmask = None; ifp = None; ifa = None; author = None; brd = None }
+no_addresses = record {
+  dst = None;
+  gateway = None;
+  netmask = None;
+  genmask = None;
+  ifp = None;
+  ifa = None;
+  author = None;
+  brd = None;
+}
 
 -- the addresses in the order of their bits
 abbrev pub in_order : AddrInfo → List (Option (List ℕ))
-in_order info = info.dst ∷ info.gateway ∷ info.netmask ∷ info.genmask ∷ info.ifp ∷ info.ifa ∷ info.author ∷ info.brd ∷ []
+in_order info =
+    info.dst ∷ info.gateway ∷ info.netmask ∷ info.genmask
+    ∷ info.ifp ∷ info.ifa ∷ info.author ∷ info.brd ∷ []
 
 abbrev pub bytes_or_none : Option (List ℕ) → List ℕ
 bytes_or_none None = []
@@ -42,5 +54,6 @@ bit_of bit (Some sockaddr) = bit
 -- the field that names the addresses
 abbrev pub addrs_of : AddrInfo → ℕ
 addrs_of info =
-    bit_of RTA_DST info.dst + bit_of RTA_GATEWAY info.gateway + bit_of RTA_NETMASK info.netmask + bit_of RTA_GENMASK info.genmask
+    bit_of RTA_DST info.dst + bit_of RTA_GATEWAY info.gateway
+    + bit_of RTA_NETMASK info.netmask + bit_of RTA_GENMASK info.genmask
     + bit_of RTA_IFP info.ifp + bit_of RTA_IFA info.ifa + bit_of RTA_AUTHOR info.author + bit_of RTA_BRD info.brd

@@ -36,7 +36,11 @@ announcement =
 
 -- the address's route, with its destination, its gateway and its mask
 abbrev pub network_addresses : AddrInfo
-network_addresses = record no_addresses { dst = Some (inet_sockaddr 0x0a000000); gateway = Some (inet_sockaddr 0x0a000001); netmask = Some (mask_sockaddr 8) }
+network_addresses = record no_addresses {
+  dst = Some (inet_sockaddr 0x0a000000);
+  gateway = Some (inet_sockaddr 0x0a000001);
+  netmask = Some (mask_sockaddr 8);
+}
 
 abbrev pub network_words : List ℕ
 network_words = words (0x10020000 ∷ 0x0a000000 ∷ 0 ∷ 0 ∷ 0x10020000 ∷ 0x0a000001 ∷ 0 ∷ 0 ∷ 0x05000000 ∷ 0xff000000 ∷ [])
@@ -53,7 +57,8 @@ abbrev pub answer_header : Header
 answer_header = record (blank 4) { flags = 0x141; pid = 100; seq = 1 }
 
 abbrev pub answer : List ℕ
-answer = words (0x00740304 ∷ 0 ∷ 0x00000141 ∷ 0x00000007 ∷ 0x00000064 ∷ 0x00000001 ∷ []) ++ replicate 52 0 ++ network_words
+answer = words (0x00740304 ∷ 0 ∷ 0x00000141 ∷ 0x00000007 ∷ 0x00000064 ∷ 0x00000001 ∷ []) ++ replicate 52 0
+    ++ network_words
 
 -- the question
 abbrev pub question : List ℕ

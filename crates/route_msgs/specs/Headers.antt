@@ -10,11 +10,34 @@ use Rattle.route_msgs.specs.declared.addr_info.AddrInfo.{AddrInfo}
 
 -- metrics of which none is set
 abbrev pub no_metrics : Metrics
-no_metrics = record { locks = 0; mtu = 0; hopcount = 0; expire = 0; recvpipe = 0; sendpipe = 0; ssthresh = 0; rtt = 0; rttvar = 0; pksent = 0 }
+no_metrics = record {
+  locks = 0;
+  mtu = 0;
+  hopcount = 0;
+  expire = 0;
+  recvpipe = 0;
+  sendpipe = 0;
+  ssthresh = 0;
+  rtt = 0;
+  rttvar = 0;
+  pksent = 0;
+}
 
 -- a header with no field set but its type
 abbrev pub blank : ℕ → Header
-blank kind = record { kind = kind; index = 0; padding = 0; flags = 0; addrs = 0; pid = 0; seq = 0; errno = 0; use_count = 0; inits = 0; metrics = no_metrics }
+blank kind = record {
+  kind = kind;
+  index = 0;
+  padding = 0;
+  flags = 0;
+  addrs = 0;
+  pid = 0;
+  seq = 0;
+  errno = 0;
+  use_count = 0;
+  inits = 0;
+  metrics = no_metrics;
+}
 
 -- struct rt_metrics
 abbrev pub metric_fields : Metrics → List Field
@@ -68,7 +91,8 @@ route_head size addrs h = with_fields (route_fields size addrs h) (replicate 76 
 abbrev pub ifa_head : ℕ → ℕ → IfaHeader → List ℕ
 ifa_head size addrs h = with_fields (ifa_fields size addrs h) (replicate 20 0)
 
--- a message about a route: its header, which has the whole size and names the addresses that are there, and these behind it
+-- a message about a route: its header, which has the whole size and names the addresses that are there, and these
+-- behind it
 abbrev pub route_message : Header → AddrInfo → List ℕ
 route_message h info = route_head (76 + length (address_bytes info)) (addrs_of info) h ++ address_bytes info
 

@@ -1,4 +1,5 @@
--- Bytes by their places: the number that a field holds, and bytes with a field in its place. Numbers are written highest byte first.
+-- Bytes by their places: the number that a field holds, and bytes with a field in its place. Numbers are written
+-- highest byte first.
 use Rattle.std.specs.Prelude.{ℕ, ◌+◌, List, [], ◌∷◌, ◌++◌, take, drop}
 use Rattle.byteorder.specs.Endian.{big_number, big_bytes}
 

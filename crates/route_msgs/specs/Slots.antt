@@ -78,7 +78,8 @@ has_room m = not (overruns_below m 8)
 -- what reading a message answers: its fields and the places of its addresses, or its first fault
 abbrev pub ReadsMessage : List ℕ → Result Parsed MsgErr → Type 0
 ReadsMessage m (Ok p) =
-    (has_length m ≡ true) × (has_version m ≡ true) × (has_room m ≡ true) × (p.header ≡ header_in m) × (p.slots ≡ slots_in m)
+    (has_length m ≡ true) × (has_version m ≡ true) × (has_room m ≡ true) × (p.header ≡ header_in m)
+    × (p.slots ≡ slots_in m)
 ReadsMessage m (Err fault.Length) = has_length m ≡ false
 ReadsMessage m (Err fault.Version) = (has_length m ≡ true) × (has_version m ≡ false)
 ReadsMessage m (Err fault.Overrun) = (has_length m ≡ true) × (has_version m ≡ true) × (has_room m ≡ false)

@@ -11,7 +11,8 @@ pub record IsSockaddr (sockaddr : List ℕ) : Type 0 where
   pub most : length sockaddr ≤ 32
 
 -- a text's fields are those that its bytes give
-pub sockaddr_again : (t : Inside) → IsPadded 32 t.len t.bytes → record { len = length (take t.len t.bytes); bytes = padded_to 32 (take t.len t.bytes) } ≡ t
+pub sockaddr_again : (t : Inside) → IsPadded 32 t.len t.bytes
+    → record { len = length (take t.len t.bytes); bytes = padded_to 32 (take t.len t.bytes) } ≡ t
 sockaddr_again t h =
     let make : ℕ → List ℕ → Inside = λ len bytes. record { len = len; bytes = bytes } in
     ap (λ (len : ℕ). make len (padded_to 32 (take t.len t.bytes))) (length-front 32 t.len t.bytes h)

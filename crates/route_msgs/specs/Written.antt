@@ -71,16 +71,19 @@ slot_among xs k = slot_of_sockaddr (start_among xs k) (get_or xs k None)
 abbrev pub slots_of : AddrInfo → List (Option Slot)
 slots_of info =
     let xs = in_order info in
-    slot_among xs 0 ∷ slot_among xs 1 ∷ slot_among xs 2 ∷ slot_among xs 3 ∷ slot_among xs 4 ∷ slot_among xs 5 ∷ slot_among xs 6 ∷ slot_among xs 7 ∷ []
+    slot_among xs 0 ∷ slot_among xs 1 ∷ slot_among xs 2 ∷ slot_among xs 3
+    ∷ slot_among xs 4 ∷ slot_among xs 5 ∷ slot_among xs 6 ∷ slot_among xs 7 ∷ []
 
 -- a message about a route is read as the header and the addresses that were written
 abbrev pub WrittenIsRead : Type 0
 WrittenIsRead = (h : Header) (info : AddrInfo) → IsHeader h → AreSockaddrs info
-    → ReadsMessage (route_message h info) (Ok (record { header = record h { addrs = addrs_of info }; slots = slots_of info }))
+    → ReadsMessage (route_message h info)
+    (Ok (record { header = record h { addrs = addrs_of info }; slots = slots_of info }))
 
 -- and the bytes of each address stand where its slot begins
 abbrev pub SockaddrsAreRead : Type 0
-SockaddrsAreRead = (h : Header) (info : AddrInfo) (k : ℕ) (sockaddr : List ℕ) → IsHeader h → AreSockaddrs info → k < 8 → get_or (in_order info) k None ≡ Some sockaddr
+SockaddrsAreRead = (h : Header) (info : AddrInfo) (k : ℕ) (sockaddr : List ℕ) → IsHeader h → AreSockaddrs info
+    → k < 8 → get_or (in_order info) k None ≡ Some sockaddr
     → take (length sockaddr) (drop (start_among (in_order info) k) (route_message h info)) ≡ sockaddr
 
 -- a message about an interface's address has its fields at their offsets, and its addresses behind them
@@ -96,8 +99,10 @@ pub record IsLaidOut (h : IfaHeader) (info : AddrInfo) (m : List ℕ) : Type 0 w
   pub behind : drop 20 m ≡ address_bytes info
 
 abbrev pub IfaMessageIsLaidOut : Type 0
-IfaMessageIsLaidOut = (h : IfaHeader) (info : AddrInfo) → IsIfaHeader h → AreSockaddrs info → IsLaidOut h info (ifa_message h info)
+IfaMessageIsLaidOut = (h : IfaHeader) (info : AddrInfo) → IsIfaHeader h → AreSockaddrs info
+    → IsLaidOut h info (ifa_message h info)
 
 -- of the field that names addresses, each bit is set where its address is there
 abbrev pub NamedBitsAreAddresses : Type 0
-NamedBitsAreAddresses = (info : AddrInfo) (k : ℕ) → k < 8 → (bit_at (addrs_of info) k == 1) ≡ is_some (get_or (in_order info) k None)
+NamedBitsAreAddresses = (info : AddrInfo) (k : ℕ) → k < 8
+    → (bit_at (addrs_of info) k == 1) ≡ is_some (get_or (in_order info) k None)

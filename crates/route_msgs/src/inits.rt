@@ -1,5 +1,5 @@
-//! The bits of a message's inits field, and of the locks among the metrics, one for each metric that a writer can set, as
-//! <net/route.h> names them.
+//! The bits of a message's inits field, and of the locks among the metrics, one for each metric that a writer can
+//! set, as <net/route.h> names them.
 
 /// mtu.
 pub const RTV_MTU: u32 = 0x1;

@@ -31,7 +31,8 @@ pub fn sockaddrs_are_read()
     ensures { SockaddrsAreRead }
 {}
 
-/// A message about an interface's address that was written has its fields at their offsets, and its addresses behind them.
+/// A message about an interface's address that was written has its fields at their offsets, and its addresses behind
+/// them.
 pub fn ifa_message_is_laid_out()
     ensures { IfaMessageIsLaidOut }
 {}
@@ -41,7 +42,8 @@ pub fn named_bits_are_addresses()
     ensures { NamedBitsAreAddresses }
 {}
 
-/// Messages that are written, worked out: an address is announced, its route is added, and a question for it is answered.
+/// Messages that are written, worked out: an address is announced, its route is added, and a question for it is
+/// answered.
 pub fn writing_by_example()
     ensures announcement { ifa_message announcement_header announcement_addresses ≡ announcement }
     ensures addition { route_message addition_header network_addresses ≡ addition }

@@ -1,5 +1,5 @@
-//! Messages of the routing socket, after route(4) and <net/route.h> of 4.4BSD: a header, and behind it the addresses that
-//! the header names, each in whole words of four bytes. All numbers are written highest byte first.
+//! Messages of the routing socket, after route(4) and <net/route.h> of 4.4BSD: a header, and behind it the addresses
+//! that the header names, each in whole words of four bytes. All numbers are written highest byte first.
 #![tactic(auto)]
 
 mod addr_info;

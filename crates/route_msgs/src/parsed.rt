@@ -38,7 +38,8 @@ impl Parsed {
     pub fn address<'a>(&self, bit: usize, message: &'a [u8]) -> Option<&'a [u8]>
         requires bit { bit < 8 }
         requires within { SlotsAreWithin (length message.now) self.now.slots }
-        ensures { let address = address_at (get_or self.now.slots bit None) message.now in MatchOption result (address ≡ None) (λ sockaddr. address ≡ Some sockaddr.now) }
+        ensures { let address = address_at (get_or self.now.slots bit None) message.now
+            in MatchOption result (address ≡ None) (λ sockaddr. address ≡ Some sockaddr.now) }
     {
         let slot = self.slots[bit]?;
         Some(slot.bytes(message))

@@ -81,7 +81,9 @@ fn read_slots(message: &[u8], addrs: u32) -> Result<[Option<Slot>; 8], MsgErr>
     requires header { 76 ≤ length message.now }
     requires most { length message.now < 65536 }
     requires addrs { addrs ≡ number_at 12 4 message.now }
-    ensures slots { MatchResult result (λ slots. (has_room message.now ≡ true) × (slots ≡ slots_in message.now)) (λ e. (e ≡ MsgErr.Overrun) × (has_room message.now ≡ false)) }
+    ensures slots { MatchResult result
+        (λ slots. (has_room message.now ≡ true) × (slots ≡ slots_in message.now))
+        (λ e. (e ≡ MsgErr.Overrun) × (has_room message.now ≡ false)) }
     ensures within { IfOk result (λ slots. SlotsAreWithin (length message.now) slots) }
 {
     let mut slots = [None; 8];

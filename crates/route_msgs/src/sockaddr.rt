@@ -5,8 +5,8 @@ ghost use Rattle.route_msgs.specs.AddrInfo.{gate_sockaddr, padded};
 use sock_addrs::{Gate, Inet, Link, round, write_inet, write_link, write_mask};
 use std::marker::Model;
 
-/// An address as it stands in a message: its bytes, and zeros behind them to whole words of four bytes, at most 32 bytes
-/// in all. A contract sees these bytes.
+/// An address as it stands in a message: its bytes, and zeros behind them to whole words of four bytes, at most 32
+/// bytes in all. A contract sees these bytes.
 #[derive(Clone, Copy, Debug, PartialEq, Eq)]
 pub struct Sockaddr {
     len: u8,

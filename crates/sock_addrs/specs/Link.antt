@@ -1,4 +1,5 @@
--- A link-layer address is the list of its bytes, of which the first is their number; the code keeps them at the front of an array.
+-- A link-layer address is the list of its bytes, of which the first is their number; the code keeps them at the front
+-- of an array.
 use Rattle.std.specs.Prelude.{◌≡◌, ℕ, ◌≤◌, List, length, take, slice_index}
 use Rattle.std.proofs.Common.{ap}
 use Rattle.sock_addrs.specs.Padded.{IsPadded, padded_to, padded_to-front}
@@ -22,4 +23,5 @@ pub record AreLinkCells (cells : List ℕ) : Type 0 where
 
 -- a link's cells are those that its bytes give
 pub link_again : (a : Inside) → AreLinkCells a.bytes → record { bytes = padded_to 32 (link_in a.bytes) } ≡ a
-link_again a h = ap (λ (bytes : List ℕ). record { bytes = bytes }) (padded_to-front 32 (slice_index a.bytes 0) a.bytes h.padded)
+link_again a h =
+    ap (λ (bytes : List ℕ). record { bytes = bytes }) (padded_to-front 32 (slice_index a.bytes 0) a.bytes h.padded)

@@ -5,7 +5,8 @@ use Rattle.sock_addrs.specs.Padded.{IsPadded, padded_to, length-front, padded_to
 use Rattle.sock_addrs.specs.declared.name.Name.TheInside.{Inside}
 
 -- a name's fields are those that its text gives
-pub name_again : (n : Inside) → (1 ≤ n.len) × IsPadded 8 n.len n.bytes → record { len = length (take n.len n.bytes); bytes = padded_to 8 (take n.len n.bytes) } ≡ n
+pub name_again : (n : Inside) → (1 ≤ n.len) × IsPadded 8 n.len n.bytes
+    → record { len = length (take n.len n.bytes); bytes = padded_to 8 (take n.len n.bytes) } ≡ n
 name_again n h =
     let make : ℕ → List ℕ → Inside = λ len bytes. record { len = len; bytes = bytes } in
     ap (λ (len : ℕ). make len (padded_to 8 (take n.len n.bytes))) (length-front 8 n.len n.bytes h.1)

@@ -1,5 +1,6 @@
--- How sockaddrs are read: as relations on all their bytes, which say what they are read as, or for which fault they are refused; and
--- computed, by the first fault that holds. Reading is lenient: what stands behind an address, its port and a mask's family are not looked at.
+-- How sockaddrs are read: as relations on all their bytes, which say what they are read as, or for which fault they
+-- are refused; and computed, by the first fault that holds. Reading is lenient: what stands behind an address, its
+-- port and a mask's family are not looked at.
 use Rattle.std.specs.Prelude.{◌≡◌, ◌≢◌, ℕ, ◌<◌, ◌≤◌, ◌^◌, ◌⊎◌, ◌==◌, ◌&&◌, ◌||◌, nat_le, nat_lt, not, Bool, List, [], ◌∷◌, ◌++◌, length, take, drop, slice_index, Option, Some, None, Result, Ok, Err, if◌then◌else◌}
 use Rattle.std.specs.Int.{w32, from_be_bytes, IsOutOfRange}
 use Rattle.std.specs.List.{find, range_with_len}
@@ -62,12 +63,14 @@ abbrev pub ReadsInet : List ℕ → Result ℕ BadAddr → Type 0
 ReadsInet sockaddr (Ok address) = IsInet sockaddr address
 ReadsInet sockaddr (Err bad.Short) = IsShort sockaddr
 ReadsInet sockaddr (Err bad.Family) = IsWhole sockaddr × (family sockaddr ≢ AF_INET)
-ReadsInet sockaddr (Err bad.Length) = IsWhole sockaddr × (family sockaddr ≡ AF_INET) × IsOutOfRange 8 16 (length_byte sockaddr)
+ReadsInet sockaddr (Err bad.Length) = IsWhole sockaddr × (family sockaddr ≡ AF_INET)
+    × IsOutOfRange 8 16 (length_byte sockaddr)
 ReadsInet sockaddr (Err bad.NotContiguous) = ⊥
 
 -- the length byte is none that an address of this family has
 abbrev pub HasBadLength : List ℕ → Type 0
-HasBadLength sockaddr = ((family sockaddr ≡ AF_INET) × IsOutOfRange 8 16 (length_byte sockaddr)) ⊎ ((family sockaddr ≡ AF_LINK) × IsOutOfRange 8 32 (length_byte sockaddr))
+HasBadLength sockaddr = ((family sockaddr ≡ AF_INET) × IsOutOfRange 8 16 (length_byte sockaddr))
+    ⊎ ((family sockaddr ≡ AF_LINK) × IsOutOfRange 8 32 (length_byte sockaddr))
 
 -- reading a gateway, or the address that names an interface
 abbrev pub ReadsGate : List ℕ → Result Gate BadAddr → Type 0
@@ -84,7 +87,8 @@ ReadsMask sockaddr (Ok bits) = IsMask sockaddr bits
 ReadsMask sockaddr (Err bad.Short) = IsShort sockaddr
 ReadsMask sockaddr (Err bad.Family) = ⊥
 ReadsMask sockaddr (Err bad.Length) = IsWhole sockaddr × (16 < length_byte sockaddr)
-ReadsMask sockaddr (Err bad.NotContiguous) = IsWhole sockaddr × (length_byte sockaddr ≤ 16) × ((bits : ℕ) → bits ≤ 32 → number_of_mask sockaddr ≢ mask_number bits)
+ReadsMask sockaddr (Err bad.NotContiguous) = IsWhole sockaddr × (length_byte sockaddr ≤ 16)
+    × ((bits : ℕ) → bits ≤ 32 → number_of_mask sockaddr ≢ mask_number bits)
 
 -- ---- the same, computed: the first fault that holds, or the address
 
@@ -105,7 +109,8 @@ read_inet_of sockaddr = unless_fault (first_fault
 -- an IPv4 address or, of the family of link layers, all the bytes that the length byte counts
 abbrev pub gate_at_front : List ℕ → Gate
 gate_at_front sockaddr =
-    if family sockaddr == AF_INET then gate.Inet (number_of_inet sockaddr) else gate.Link (take (length_byte sockaddr) sockaddr)
+    if family sockaddr == AF_INET then gate.Inet (number_of_inet sockaddr)
+    else gate.Link (take (length_byte sockaddr) sockaddr)
 
 abbrev pub read_gate_of : List ℕ → Result Gate BadAddr
 read_gate_of sockaddr = unless_fault (first_fault
@@ -134,7 +139,9 @@ ComputedIsRead Reads read = (sockaddr : List ℕ) → Reads sockaddr (read socka
 
 -- each sockaddr is read, and in one way alone
 abbrev pub IsReadOnce : {A : Type 0} → (List ℕ → Result A BadAddr → Type 0) → Type 0
-IsReadOnce {A} Reads = (sockaddr : List ℕ) → (result : Result A BadAddr) × Reads sockaddr result × ((other : Result A BadAddr) → Reads sockaddr other → other ≡ result)
+IsReadOnce {A} Reads = (sockaddr : List ℕ)
+    → (result : Result A BadAddr) × Reads sockaddr result
+    × ((other : Result A BadAddr) → Reads sockaddr other → other ≡ result)
 
 -- what is written of an IPv4 address is read again, whatever follows it
 abbrev pub InetSockaddrIsRead : Type 0

@@ -71,17 +71,19 @@ pub fn rounding_by_example()
 
 /// The sockaddrs of 10.9.9.9 and of four masks, worked out.
 pub fn sockaddrs_by_example()
-    ensures inet { inet_sockaddr 0x0a09_0909 ≡ 0x10 ∷ 0x02 ∷ 0 ∷ 0 ∷ 0x0a ∷ 0x09 ∷ 0x09 ∷ 0x09 ∷ 0 ∷ 0 ∷ 0 ∷ 0 ∷ 0 ∷ 0 ∷ 0 ∷ 0 ∷ [] }
+    ensures inet { inet_sockaddr 0x0a09_0909 ≡ 0x10 ∷ 0x02 ∷ 0 ∷ 0 ∷ 0x0a ∷ 0x09 ∷ 0x09 ∷ 0x09 ∷ 0 ∷ 0 ∷ 0 ∷ 0 ∷ 0
+        ∷ 0 ∷ 0 ∷ 0 ∷ [] }
     ensures no_bit { mask_sockaddr 0 ≡ 0 ∷ 0 ∷ 0 ∷ 0 ∷ [] }
     ensures one_byte { mask_sockaddr 8 ≡ 5 ∷ 0 ∷ 0 ∷ 0 ∷ 0xff ∷ 0 ∷ 0 ∷ 0 ∷ [] }
     ensures one_bit_more { mask_sockaddr 9 ≡ 6 ∷ 0 ∷ 0 ∷ 0 ∷ 0xff ∷ 0x80 ∷ 0 ∷ 0 ∷ [] }
     ensures all_bits { mask_sockaddr 32 ≡ 8 ∷ 0 ∷ 0 ∷ 0 ∷ 0xff ∷ 0xff ∷ 0xff ∷ 0xff ∷ [] }
 {}
 
-/// Sockaddrs as they are read, worked out: a mask whose length leaves out its second byte of ones, one whose ones don't come
-/// first, and the link-layer address of an interface `le0`.
+/// Sockaddrs as they are read, worked out: a mask whose length leaves out its second byte of ones, one whose ones
+/// don't come first, and the link-layer address of an interface `le0`.
 pub fn reading_by_example()
     ensures trimmed { ReadsMask (5 ∷ 0 ∷ 0 ∷ 0 ∷ 0xff ∷ 0xff ∷ 0 ∷ 0 ∷ []) (Ok 8) }
     ensures scattered { ReadsMask (7 ∷ 0 ∷ 0 ∷ 0 ∷ 0xff ∷ 0 ∷ 0xff ∷ 0 ∷ []) (Err NotContiguous) }
-    ensures link { IsLinkSockaddr (0x14 ∷ 0x12 ∷ 0 ∷ 1 ∷ 6 ∷ 3 ∷ 6 ∷ 0 ∷ 0x6c ∷ 0x65 ∷ 0x30 ∷ 0x08 ∷ 0 ∷ 0x20 ∷ 1 ∷ 2 ∷ 3 ∷ 0 ∷ 0 ∷ 0 ∷ []) }
+    ensures link { IsLinkSockaddr (0x14 ∷ 0x12 ∷ 0 ∷ 1 ∷ 6 ∷ 3 ∷ 6 ∷ 0 ∷ 0x6c ∷ 0x65 ∷ 0x30 ∷ 0x08 ∷ 0 ∷ 0x20 ∷ 1
+        ∷ 2 ∷ 3 ∷ 0 ∷ 0 ∷ 0 ∷ []) }
 {}

@@ -18,7 +18,8 @@ pub fn family_of(sockaddr: &[u8]) -> u8
     }
 }
 
-/// The length byte of an address whose bytes are all there. `Short` where there is no byte, or there are fewer than it says.
+/// The length byte of an address whose bytes are all there. `Short` where there is no byte, or there are fewer than
+/// it says.
 fn length_of(sockaddr: &[u8]) -> Result<u8, BadAddr>
     ensures length { IfOk result (λ n. IsWhole sockaddr.now × (n ≡ length_byte sockaddr.now)) }
     ensures short { IfErr result (λ e. (e ≡ BadAddr.Short) × IsShort sockaddr.now) }
@@ -29,11 +30,11 @@ fn length_of(sockaddr: &[u8]) -> Result<u8, BadAddr>
     }
 }
 
-/// Reads the IPv4 address at the front of `sockaddr`: bytes 4 to 7, the highest first. Whatever follows it, its port and
-/// the bytes behind the address are not looked at.
+/// Reads the IPv4 address at the front of `sockaddr`: bytes 4 to 7, the highest first. Whatever follows it, its port
+/// and the bytes behind the address are not looked at.
 ///
-/// Refuses with the first that holds: `Short` where there are fewer bytes than the length byte says, or none; `Family`
-/// where it is not 2; `Length` where the length byte is not 8 to 16.
+/// Refuses with the first that holds: `Short` where there are fewer bytes than the length byte says, or none;
+/// `Family` where it is not 2; `Length` where the length byte is not 8 to 16.
 pub fn read_inet(sockaddr: &[u8]) -> Result<Inet, BadAddr>
     ensures reads { ReadsInet sockaddr.now result }
     ensures computed { result ≡ read_inet_of sockaddr.now }
@@ -48,11 +49,12 @@ pub fn read_inet(sockaddr: &[u8]) -> Result<Inet, BadAddr>
     Ok(Inet([sockaddr[4], sockaddr[5], sockaddr[6], sockaddr[7]]))
 }
 
-/// Reads the gateway at the front of `sockaddr`: an IPv4 address as `read_inet` does, or a link-layer address, of which all
-/// bytes are kept that the length byte counts.
+/// Reads the gateway at the front of `sockaddr`: an IPv4 address as `read_inet` does, or a link-layer address, of
+/// which all bytes are kept that the length byte counts.
 ///
-/// Refuses with the first that holds: `Short` where there are fewer bytes than the length byte says, or none; `Family`
-/// where it is neither 2 nor 18; `Length` where the length byte is not 8 to 16, or of a link-layer address not 8 to 32.
+/// Refuses with the first that holds: `Short` where there are fewer bytes than the length byte says, or none;
+/// `Family` where it is neither 2 nor 18; `Length` where the length byte is not 8 to 16, or of a link-layer address
+/// not 8 to 32.
 pub fn read_gate(sockaddr: &[u8]) -> Result<Gate, BadAddr>
     ensures reads { ReadsGate sockaddr.now result }
     ensures computed { result ≡ read_gate_of sockaddr.now }
@@ -68,11 +70,11 @@ pub fn read_gate(sockaddr: &[u8]) -> Result<Gate, BadAddr>
     Ok(Gate::Link(Link::of(&sockaddr[..usize::from(length)])))
 }
 
-/// Reads the mask at the front of `sockaddr` as the number of its bits: bytes 4 to 7, the highest first, of which those that
-/// the length byte doesn't count are zero. Its family is not looked at.
+/// Reads the mask at the front of `sockaddr` as the number of its bits: bytes 4 to 7, the highest first, of which
+/// those that the length byte doesn't count are zero. Its family is not looked at.
 ///
-/// Refuses with the first that holds: `Short` where there are fewer bytes than the length byte says, or none; `Length`
-/// where the length byte is above 16; `NotContiguous` where the bits are not ones followed by zeros.
+/// Refuses with the first that holds: `Short` where there are fewer bytes than the length byte says, or none;
+/// `Length` where the length byte is above 16; `NotContiguous` where the bits are not ones followed by zeros.
 pub fn read_mask(sockaddr: &[u8]) -> Result<u8, BadAddr>
     ensures reads { ReadsMask sockaddr.now result }
     ensures computed { result ≡ read_mask_of sockaddr.now }

@@ -23,13 +23,14 @@ pub fn write_link(link: Link, out: &mut [u8]) -> usize
     put(link.as_bytes(), out)
 }
 
-/// Writes the mask of so many bits at the front of `out`: the length up to the last byte that has a one, no family, and
-/// the mask highest byte first, 8 bytes in all; the mask of no bit is four zeros. A mask has at most 32 bits, and one of more
-/// is written as that of 32. Answers the bytes used.
+/// Writes the mask of so many bits at the front of `out`: the length up to the last byte that has a one, no family,
+/// and the mask highest byte first, 8 bytes in all; the mask of no bit is four zeros. A mask has at most 32 bits, and
+/// one of more is written as that of 32. Answers the bytes used.
 pub fn write_mask(prefix: u8, out: &mut [u8]) -> usize
     requires { length (mask_sockaddr (min prefix 32)) ≤ length out.old }
     ensures used { result ≡ length (mask_sockaddr (min prefix 32)) }
-    ensures sockaddr { out.new ≡ mask_sockaddr (min prefix 32) ++ drop (length (mask_sockaddr (min prefix 32))) out.old }
+    ensures sockaddr { out.new ≡ mask_sockaddr (min prefix 32)
+        ++ drop (length (mask_sockaddr (min prefix 32))) out.old }
 {
     let prefix = prefix.min(32);
     if prefix == 0 {
