@@ -107,7 +107,7 @@ still_there x es r h = elim (has_pair r.key r.rank x) as (λ b. is_none (cond b 
 own : (x : Entry Route) (es : List (Entry Route)) → is_none (entry_at x.key x.rank (x ∷ es)) ≡ false
 own x es = rw (own_pair x) refl
 
-all_there : (es : List (Entry Route)) → AllByRecursion (λ r. is_none (entry_at r.key r.rank es) ≡ false) es
+pub all_there : (es : List (Entry Route)) → AllByRecursion (λ r. is_none (entry_at r.key r.rank es) ≡ false) es
 all_there [] = tt
 all_there (x ∷ es) = (own x es, all_weaker (λ (r : Entry Route). is_none (entry_at r.key r.rank es) ≡ false) (λ (r : Entry Route). is_none (entry_at r.key r.rank (x ∷ es)) ≡ false) (still_there x es) es (all_there es))
 

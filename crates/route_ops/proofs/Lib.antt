@@ -1,5 +1,9 @@
+pub mod AnswerThere
 pub mod Bringing
 pub mod Cases
 pub mod Few
 pub mod Fitting
+pub mod FoundOf
 pub mod Keeping
+pub mod RedirectRefused
+pub mod TablesStay

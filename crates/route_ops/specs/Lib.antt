@@ -5,6 +5,8 @@ pub mod Changing
 pub mod Deleting
 pub mod LookLaws
 pub mod Looks
+pub mod RedirectLaws
 pub mod Redirecting
 pub mod Spares
 pub mod Standing
+pub mod Tables

@@ -1,6 +1,7 @@
--- A look-up by cases.
-use Rattle.std.specs.Prelude.{◌≡◌, ℕ, Bool, true, false, List, [], ◌∷◌, ◌++◌, Some, None, is_some, if◌then◌else◌}
+-- A look-up by cases, and that its answer stands in its table.
+use Rattle.std.specs.Prelude.{◌≡◌, ℕ, Bool, true, false, List, [], ◌∷◌, ◌++◌, Some, None, IfSome, is_some, if◌then◌else◌}
 use Rattle.sock_addrs.specs.declared.errno.Errno.TheVariants.{EEXIST}
+use Rattle.sock_addrs.specs.declared.gate.Gate.{Gate}
 use Rattle.sock_addrs.specs.declared.gate.Gate.TheVariants as gate
 use Rattle.route_msgs.specs.declared.flags.TheConstants.{RTF_CLONING, RTF_XRESOLVE}
 use Rattle.radix_tree.specs.Table.{best_of, entry_at, with_entry}
@@ -44,3 +45,9 @@ CloneIsAdded = (deep : Bool) (address : ℕ) (table : List (Entry Route)) (r : E
     let told = if has_flag RTF_XRESOLVE clone.value then Resolve (gate.Inet address) ∷ [] else [] in
     look deep (gate.Inet address) table
     ≡ record { answer = Some clone; table = settled.table; messages = settled.messages ++ told }
+
+-- whatever a look-up answers stands in its table then, by its pair
+abbrev pub AnswerIsThere : Type 0
+AnswerIsThere = (deep : Bool) (about : Gate) (table : List (Entry Route))
+    → let it = look deep about table in
+    IfSome it.answer (λ r. is_some (entry_at r.key r.rank it.table) ≡ true)

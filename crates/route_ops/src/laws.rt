@@ -1,7 +1,9 @@
 //! Laws of requests and look-ups: each function does nothing, and its contract is the law.
 
-ghost use Rattle.route_ops.specs.LookLaws.{CloneIsAdded, CloneIsThere, LinkHasNoRoute, NoneAgrees, RouteIsKnown};
+ghost use Rattle.route_ops.specs.LookLaws.{AnswerIsThere, CloneIsAdded, CloneIsThere, LinkHasNoRoute, NoneAgrees, RouteIsKnown};
 ghost use Rattle.route_ops.specs.Bringing.{AddingBringsTwo, ChangingBringsOne, DeepLookBringsTwo, LockingBringsNone, LookBringsOne, NoneTakenOut, NoneWrittenAnew, OneMoreAtMost, RedirectBringsTwo, SettlingBringsOne, TableBringsNone};
+ghost use Rattle.route_ops.specs.RedirectLaws.{RefusedRedirectKeeps};
+ghost use Rattle.route_ops.specs.Tables.{AddingStays, AddressRouteIsOf, ChangingStays, KeptStays, LockingStays, LookStays, RedirectStays, WithStays, WithoutStays};
 
 /// A look-up by cases: a link-layer address, and an address without a route, is missed; a route that doesn't clone is
 /// the answer; where its clone's pair is there, that is missed and the route is the answer; and otherwise the clone
@@ -12,6 +14,11 @@ pub fn look_up_by_cases()
     ensures known { RouteIsKnown }
     ensures there { CloneIsThere }
     ensures cloned { CloneIsAdded }
+{}
+
+/// The route that a look-up answers stands in the table that it leaves.
+pub fn answer_is_there()
+    ensures { AnswerIsThere }
 {}
 
 /// No look-up or request brings more than two routes that were not there, nor more than two messages.
@@ -31,4 +38,27 @@ pub fn changes_bring()
     ensures with { OneMoreAtMost }
     ensures anew { NoneWrittenAnew }
     ensures without { NoneTakenOut }
+{}
+
+/// A redirect that is refused leaves the table, and makes one message: that it came, and why it was refused.
+pub fn refused_redirect_keeps()
+    ensures { RefusedRedirectKeeps }
+{}
+
+/// A table whose routes lead out of some interfaces, with gateways and masks in their ranges, stays one with another
+/// such route and without one, and where the interfaces keep their addresses.
+pub fn tables_stay()
+    ensures with { WithStays }
+    ensures without { WithoutStays }
+    ensures kept { KeptStays }
+    ensures address { AddressRouteIsOf }
+{}
+
+/// And it stays one with whatever a look-up, a request or a redirect leaves.
+pub fn calls_keep_tables()
+    ensures look_up { LookStays }
+    ensures request_add { AddingStays }
+    ensures request_change { ChangingStays }
+    ensures request_lock { LockingStays }
+    ensures redirect { RedirectStays }
 {}

@@ -91,8 +91,9 @@ impl NewGateway {
 
 /// Follows a redirect (`rtredirect` of 4.4BSD), which makes a message in each case. Refused, in this order, and no
 /// route is changed then: ENETUNREACH: the gateway is in no interface's network; EINVAL: the author isn't the gateway
-/// of the route, or the new gateway is in another network than it; EHOSTUNREACH: the gateway is an address of an
-/// interface, or the route has no gateway; and where a route is made, as `request_add`.
+/// of the route, or the route leads out of another interface address than that of the new gateway's network;
+/// EHOSTUNREACH: the gateway is an address of an interface, or the route has no gateway; and where a route is made,
+/// as `request_add`.
 pub fn redirect(
     table: &mut Table<Route>,
     interfaces: &Interfaces,
