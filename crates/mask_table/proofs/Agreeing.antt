@@ -34,7 +34,7 @@ pub agrees_at_smaller_ranks : AgreesAtSmallerRanks
 agrees_at_smaller_ranks smaller rank key address h e = eq-eqb _ _ (same_front smaller rank key address h (eqb-true (front rank key) (front rank address) e))
 
 -- one more bit
-front_suc : (n address : ℕ) → n < 32 → front (suc n) address ≡ 2 * front n address + bit n address
+pub front_suc : (n address : ℕ) → n < 32 → front (suc n) address ≡ 2 * front n address + bit n address
 front_suc n address h =
     let here : 32 - suc n ≡ 31 - n = omega arith in
     let next : 31 - n + 1 ≡ 32 - n = omega arith in
@@ -42,7 +42,7 @@ front_suc n address h =
     let all : front (suc n) address ≡ address / 2 ^ (31 - n) = ap (λ k. address / 2 ^ k) here in
     omega (arith, half, all)
 
-front_of_bits : (many key address : ℕ) → many ≤ 32 → key < 2 ^ 32 → address < 2 ^ 32 → HaveSameBits many key address → front many key ≡ front many address
+pub front_of_bits : (many key address : ℕ) → many ≤ 32 → key < 2 ^ 32 → address < 2 ^ 32 → HaveSameBits many key address → front many key ≡ front many address
 front_of_bits zero key address h k a same = omega (arith, k, a)
 front_of_bits (suc n) key address h k a same =
     let fits : n < 32 = omega arith in
@@ -50,7 +50,7 @@ front_of_bits (suc n) key address h k a same =
     let last : bit n key ≡ bit n address = same n (omega arith) in
     omega (arith, before, last, front_suc n key fits, front_suc n address fits)
 
-bit_of_front : (rank key address i : ℕ) → i < rank → i < 32 → front rank key ≡ front rank address → bit i key ≡ bit i address
+pub bit_of_front : (rank key address i : ℕ) → i < rank → i < 32 → front rank key ≡ front rank address → bit i key ≡ bit i address
 bit_of_front rank key address i lt fits e =
     let before : front i key ≡ front i address = same_front i rank key address (omega arith) e in
     let with_it : front (suc i) key ≡ front (suc i) address = same_front (suc i) rank key address (omega arith) e in

@@ -1,4 +1,5 @@
--- Which addresses a route is for. An address is a number below 2^32, and a rank is 0 to 32, the length of a mask, or 33 where there is none.
+-- Which addresses a route is for. An address is a number below 2^32, and a rank is 0 to 32, the length of a mask, or
+-- 33 where there is none.
 use Rattle.std.specs.Prelude.{◌≡◌, ℕ, ◌-◌, ◌*◌, ◌/◌, ◌%◌, ◌^◌, ◌<◌, ◌≤◌, ◌⊎◌, ◌↔◌, Bool, ◌==◌, IsTrue}
 
 -- the first bits of an address, as many as the rank says, as a number; all of it at 32 and 33
@@ -21,18 +22,22 @@ bit i address = address / 2 ^ (31 - i) % 2
 abbrev pub HaveSameBits : ℕ → ℕ → ℕ → Type 0
 HaveSameBits many a b = (i : ℕ) → i < many → bit i a ≡ bit i b
 
--- agreeing in words: without a mask the address is the key, and under a mask it has the key's first bits, as many as the mask is long
+-- agreeing in words: without a mask the address is the key, and under a mask it has the key's first bits, as many as
+-- the mask is long
 abbrev pub AgreesInWords : Type 0
 AgreesInWords = (rank key address : ℕ) → rank ≤ 33 → key < 2 ^ 32 → address < 2 ^ 32
-    → IsTrue (agrees rank key address) ↔ (((rank ≡ 33) × (key ≡ address)) ⊎ ((rank ≤ 32) × HaveSameBits rank key address))
+    → IsTrue (agrees rank key address) ↔ (((rank ≡ 33) × (key ≡ address))
+    ⊎ ((rank ≤ 32) × HaveSameBits rank key address))
 
 -- agreeing is being equal once both are masked
 abbrev pub AgreesWhereMaskedEqual : Type 0
-AgreesWhereMaskedEqual = (rank key address : ℕ) → IsTrue (agrees rank key address) ↔ (masked rank key ≡ masked rank address)
+AgreesWhereMaskedEqual = (rank key address : ℕ)
+    → IsTrue (agrees rank key address) ↔ (masked rank key ≡ masked rank address)
 
 -- what agrees at a rank agrees at each smaller one
 abbrev pub AgreesAtSmallerRanks : Type 0
-AgreesAtSmallerRanks = (smaller rank key address : ℕ) → smaller ≤ rank → IsTrue (agrees rank key address) → IsTrue (agrees smaller key address)
+AgreesAtSmallerRanks = (smaller rank key address : ℕ) → smaller ≤ rank → IsTrue (agrees rank key address)
+    → IsTrue (agrees smaller key address)
 
 -- a masked address agrees with the address that it was made of
 abbrev pub MaskedAgrees : Type 0
@@ -44,4 +49,5 @@ MaskedTwiceIsOnce = (rank address : ℕ) → masked rank (masked rank address) �
 
 -- masking keeps the bits before the rank and clears those past it
 abbrev pub MaskedBits : Type 0
-MaskedBits = (rank address i : ℕ) → i < 32 → ((i < rank → bit i (masked rank address) ≡ bit i address) × (rank ≤ i → bit i (masked rank address) ≡ 0))
+MaskedBits = (rank address i : ℕ) → i < 32
+    → ((i < rank → bit i (masked rank address) ≡ bit i address) × (rank ≤ i → bit i (masked rank address) ≡ 0))

@@ -1,2 +1,3 @@
 pub mod Agreeing
+pub mod Counts
 pub mod Ranks

@@ -1,9 +1,11 @@
-//! Masks by their lengths: the rank of a route, and which addresses agree with it.
+//! Masks by their lengths: the rank of a route, which addresses agree with it, and how many routes are of a rank.
 #![tactic(auto)]
 
+mod counts;
 pub mod laws;
 mod prefix;
 mod rank;
 
+pub use counts::Counts;
 pub use prefix::Prefix;
 pub use rank::{Rank, agrees, masked};

@@ -88,8 +88,8 @@ pub fn masked(address: Inet, rank: Rank) -> Inet
     Inet::new(number as u32)
 }
 
-/// Whether the address agrees with a route's key at its rank: it is the key where the rank is 33, and otherwise its first
-/// bits, as many as the rank says, are the key's.
+/// Whether the address agrees with a route's key at its rank: it is the key where the rank is 33, and otherwise its
+/// first bits, as many as the rank says, are the key's.
 pub fn agrees(key: Inet, rank: Rank, address: Inet) -> bool
     ensures { result ≡ agrees_by rank key address }
 {

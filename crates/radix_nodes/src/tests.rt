@@ -6,6 +6,7 @@ use mask_table::Rank;
 use sock_addrs::Inet;
 use std::alloc::AllocError;
 use std::mem::size_of;
+use std::test::Fail;
 
 const NET: Inet = Inet([10, 1, 0, 0]);
 
@@ -87,6 +88,18 @@ fn a_room_read_and_written(rt: HostRuntime) -> Result<(), AllocError> {
     let room = nodes.value_mut(id);
     *room = 8;
     assert!(rt; linked && value == 7);
+    Ok(())
+}
+
+/// What is in the map when it is let go is freed with it; that nothing is left is counted from outside.
+#[test]
+fn a_thousand_rooms_let_go(rt: HostRuntime) -> Result<(), Fail> {
+    let mut nodes = Nodes::new(rt.alloc());
+    for number in 0..1000u64 {
+        let value = Box::new(rt.alloc(), number)?;
+        let room = nodes.make()?;
+        nodes.lodge(room, value);
+    }
     Ok(())
 }
 

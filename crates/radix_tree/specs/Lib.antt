@@ -1,7 +1,13 @@
 pub mod Chain
 pub mod Counting
 pub mod Found
+pub mod Growth
 pub mod Lending
 pub mod Lodged
+pub mod Rooms
+pub mod Searches
 pub mod Table
 pub mod TableLaws
+pub mod Tree
+pub mod Whole
+pub mod Writes

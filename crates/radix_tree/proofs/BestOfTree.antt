@@ -1,0 +1,89 @@
+-- The best route that is found in a tree is that of its list of routes.
+use Rattle.std.proofs.Common.{◌≡◌, ℕ, ◌<◌, ◌≤◌, ◌⊎◌, List, [], ◌∷◌, ◌++◌, map, Option, Some, None, refl, inl, inr, ⊎_elim, sym, ap, subst, arith}
+use Rattle.std.specs.Prelude.{Contains}
+use Rattle.std.specs.List.{AllByRecursion}
+use Rattle.radix_tree.specs.Table.{best_of}
+use Rattle.radix_tree.specs.TableLaws.{StandsIn, Agrees}
+use Rattle.radix_tree.specs.Tree.{Placed, Tree, leaf, fork, Covers, IsAmong, IsIn, IsTree, routes_of}
+use Rattle.radix_tree.specs.Searches.{Best}
+use Rattle.radix_tree.specs.declared.entry.Entry.{Entry}
+use Rattle.radix_tree.proofs.MemberLemmas.{all_contains, all_stand, members_stand, best_is_member}
+use Rattle.radix_tree.proofs.LawLemmas.{best_is_unique}
+use Rattle.radix_tree.proofs.TreeOrder.{all_in, tree_is_table}
+use Rattle.radix_tree.proofs.TreeMembers.{tree_route}
+
+module _ {V : Type 0} where
+  -- ---- the routes of a tree and the members of its list
+  abbrev IsOf : Tree V → Entry V → Type 0
+  IsOf t e = (x : Placed V) × IsIn x t × (x.entry ≡ e)
+
+  -- each member is a route of the tree
+  pub member_of : (t : Tree V) (e : Entry V) → Contains (routes_of t) e → IsOf t e
+  member_of t e member = all_contains (IsOf t) (routes_of t) e (all_in (IsOf t) t (λ y at. (y, at, refl))) member
+
+  abbrev Among : Entry V → List (Entry V) → Type 0
+  Among e [] = ⊥
+  Among e (f ∷ fs) = (f ≡ e) ⊎ Among e fs
+
+  among_left : (e : Entry V) (es fs : List (Entry V)) → Among e es → Among e (es ++ fs)
+  among_left e [] fs among = absurd among
+  among_left e (f ∷ es) fs among = ⊎_elim (λ (is : f ≡ e). inl is) (λ (later : Among e es). inr (among_left e es fs later)) among
+
+  among_right : (e : Entry V) (es fs : List (Entry V)) → Among e fs → Among e (es ++ fs)
+  among_right e [] fs among = among
+  among_right e (f ∷ es) fs among = inr (among_right e es fs among)
+
+  among_chain : (x : Placed V) (c : List (Placed V)) → IsAmong x c → Among x.entry (map (λ (p : Placed V). p.entry) c)
+  among_chain x [] among = absurd among
+  among_chain x (y ∷ c) among = ⊎_elim (λ (is : y ≡ x). inl (ap (λ (p : Placed V). p.entry) is)) (λ (later : IsAmong x c). inr (among_chain x c later)) among
+
+  among_routes : (x : Placed V) (t : Tree V) → IsIn x t → Among x.entry (routes_of t)
+  among_routes x (leaf z zs) at = among_chain x (z ∷ zs) at
+  among_routes x (fork room b zero one) at =
+      ⊎_elim (λ (left : IsIn x zero). among_left x.entry (routes_of zero) (routes_of one) (among_routes x zero left))
+      (λ (right : IsIn x one). among_right x.entry (routes_of zero) (routes_of one) (among_routes x one right)) at
+
+  all_at : (P : Entry V → Type 0) (e : Entry V) (es : List (Entry V)) → AllByRecursion P es → Among e es → P e
+  all_at P e [] all among = absurd among
+  all_at P e (f ∷ es) all among = ⊎_elim (λ (is : f ≡ e). subst P is all.0) (λ (later : Among e es). all_at P e es all.1 later) among
+
+  -- each route of a tree stands in its list
+  pub stands_in : (low : ℕ) (t : Tree V) → IsTree low t → (x : Placed V) → IsIn x t → StandsIn (routes_of t) x.entry
+  stands_in low t is x at = all_at (StandsIn (routes_of t)) x.entry (routes_of t) (all_stand (routes_of t) (tree_is_table low t is)) (among_routes x t at)
+
+  -- and what stands there is one
+  pub standing : (low : ℕ) (t : Tree V) → IsTree low t → (e : Entry V) → StandsIn (routes_of t) e → IsOf t e
+  standing low t is e stands = member_of t e ((members_stand (routes_of t) e (tree_is_table low t is)).0 stands)
+
+  -- ---- the best route
+  pub agreeing : (address : ℕ) (e : Entry V) → Covers address e → Agrees address e
+  unfolding Covers
+  agreeing address e covers = covers
+
+  covering : (address : ℕ) (e : Entry V) → Agrees address e → Covers address e
+  unfolding Covers
+  covering address e agrees = agrees
+
+  below_34 : (low : ℕ) (t : Tree V) → IsTree low t → (y : Placed V) → IsIn y t → y.entry.rank < 34
+  below_34 low t is y at = let most : y.entry.rank ≤ 33 = (tree_route low t is y at).rank in omega arith
+
+  pub some_best : (address low : ℕ) (t : Tree V) → IsTree low t → (x : Placed V) → Best address 0 34 (λ y. IsIn y t) (Some x) → best_of address (routes_of t) ≡ Some x.entry
+  some_best address low t is x best = best_is_unique address (routes_of t) x.entry (tree_is_table low t is) (record {
+    stands = stands_in low t is x best.0;
+    agrees = agreeing address x.entry best.1;
+    greatest = λ other stands agrees.
+        let of = standing low t is other stands in
+        subst (λ (e : Entry V). e.rank ≤ x.entry.rank) of.2
+        (best.2 of.0 of.1 (covering address of.0.entry (subst (λ (e : Entry V). Agrees address e) (sym of.2) agrees)) (below_34 low t is of.0 of.1));
+  })
+
+  none_of : (address low : ℕ) (t : Tree V) → IsTree low t → Best address 0 34 (λ y. IsIn y t) None → (o : Option (Entry V)) → best_of address (routes_of t) ≡ o → o ≡ None
+  none_of address low t is best None e = refl
+  none_of address low t is best (Some f) e =
+      let member = best_is_member address (routes_of t) f e in
+      let of = member_of t f member.0 in
+      let never : of.0.entry.rank < 0 = best of.0 of.1 (covering address of.0.entry (subst (λ (g : Entry V). Agrees address g) (sym of.2) member.1)) (below_34 low t is of.0 of.1) in
+      absurd (omega arith)
+
+  pub no_best : (address low : ℕ) (t : Tree V) → IsTree low t → Best address 0 34 (λ y. IsIn y t) None → best_of address (routes_of t) ≡ None
+  no_best address low t is best = none_of address low t is best (best_of address (routes_of t)) refl

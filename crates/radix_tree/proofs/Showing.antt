@@ -1,0 +1,42 @@
+-- The rooms show the routes of the tree that they stand for.
+use Rattle.std.proofs.Common.{◌≡◌, ℕ, zero, suc, ◌+◌, ◌≤◌, List, [], ◌∷◌, ◌++◌, length, map, Option, Some, None, refl, sym, ap, ◌∙◌, arith}
+use Rattle.std.specs.Ordering.{nat_cmp}
+use Rattle.std.specs.FinMap.{FinMap}
+use Rattle.radix_nodes.specs.Rooms.{Seen}
+use Rattle.radix_nodes.specs.declared.id.Id.{Id}
+use Rattle.radix_nodes.specs.declared.links.Node.{Node}
+use Rattle.radix_tree.specs.Tree.{Placed, Tree, leaf, fork, IsTree, routes_of}
+use Rattle.radix_tree.specs.Rooms.{LeafPart, BitPart, Leaves, Bits, leaves_in, bits_in, first_room, name_of, ChainStands, Stands}
+use Rattle.radix_tree.specs.Whole.{chain_from, chain_shown, sides_from, beneath_shown, shown, IsWhole}
+use Rattle.radix_tree.specs.declared.entry.Entry.{Entry}
+use Rattle.radix_tree.proofs.Scans.{chain_most}
+
+module _ {V : Type 0} where
+  chain_is : (n : ℕ) (L : Leaves V) (above previous : Option Id) (c : List (Placed V)) → length c ≤ n → ChainStands L above previous c
+      → chain_shown n L (first_room c) ≡ map (λ (p : Placed V). p.entry) c
+  unfolding chain_shown
+  chain_is zero L above previous [] fits stands = refl
+  chain_is (suc n) L above previous [] fits stands = refl
+  chain_is zero L above previous (x ∷ c) fits stands = absurd (omega arith)
+  chain_is (suc n) L above previous (x ∷ c) fits stands =
+      ap (λ (o : Option (LeafPart V)). chain_from o (chain_shown n L)) stands.0
+      ∙ ap (λ (es : List (Entry V)). x.entry ∷ es) (chain_is n L None (Some x.room) c (omega arith) stands.1)
+
+  -- 33 levels are enough
+  beneath_is : (n low : ℕ) (L : Leaves V) (B : Bits) (above : Option Id) (t : Tree V) → IsTree low t → Stands L B above t → 33 ≤ low + n → beneath_shown n L B (name_of t) ≡ routes_of t
+  unfolding beneath_shown
+  beneath_is zero low L B above (leaf x xs) is stands enough = let most : low ≤ 32 = is.0 in absurd (omega arith)
+  beneath_is (suc n) low L B above (leaf x xs) is stands enough = chain_is 34 L above None (x ∷ xs) (chain_most x.entry.key 34 (x ∷ xs) is.1) stands
+  beneath_is zero low L B above (fork room b left right) is stands enough =
+      let rises : low ≤ b = is.0.rises in let within : b ≤ 31 = is.0.within in absurd (omega arith)
+  beneath_is (suc n) low L B above (fork room b left right) is stands enough =
+      let rises : low ≤ b = is.0.rises in
+      ap (λ (o : Option BitPart). sides_from o (beneath_shown n L B)) stands.0
+      ∙ ap (λ (es : List (Entry V)). es ++ beneath_shown n L B (name_of right)) (beneath_is n (b + 1) L B (Some room) left is.1 stands.1 (omega arith))
+      ∙ ap (λ (es : List (Entry V)). routes_of left ++ es) (beneath_is n (b + 1) L B (Some room) right is.2 stands.2 (omega arith))
+
+  pub shown_is : (m : FinMap nat_cmp (Seen V)) (root : Node) (w : IsWhole m root) → shown m (Some root) ≡ routes_of w.part.tree
+  shown_is m root w =
+      let low : w.part.low ≡ 0 = w.low in
+      ap (λ (n : Node). beneath_shown 33 (leaves_in m) (bits_in m) n) (sym w.named)
+      ∙ beneath_is 33 w.part.low (leaves_in m) (bits_in m) w.part.above w.part.tree w.part.is w.part.stands (omega arith)

@@ -1,0 +1,28 @@
+use Rattle.std.proofs.Common.{◌≡◌, ◌∙◌, refl, ap, ℕ, None}
+use Rattle.std.specs.FinMap.{get}
+use Rattle.radix_nodes.proofs.Callers.{Has-lodged}
+use Rattle.radix_tree.proofs.RoomWrites.{lodged_bits, lodged_heads, lodged_masks, lodged_leaves}
+use Rattle.radix_tree.proofs.linking.lodge_leaf.Goals as goal
+
+pub put_leaf-requires-clause-there : goal.put_leaf-requires-clause-there
+put_leaf-requires-clause-there g c = rw c.lodge-id.ensures.lodged.2 (Has-lodged _ _ _ _)
+
+pub returns-clause-leaves : goal.returns-clause-leaves
+returns-clause-leaves g c =
+    lodged_leaves c.args.nodes.now.lodged c.put_leaf.new.nodes.lodged c.lodge-id.result c.args.value c.lodge-id.ensures.lodged.0 c.args.leaf
+    (λ n. c.put_leaf.ensures.leaves n ∙ rw c.lodge-id.ensures.lodged.2 refl)
+
+pub returns-clause-bits : goal.returns-clause-bits
+returns-clause-bits g c n =
+    let free : get c.args.nodes.now.lodged c.lodge-id.result.number ≡ None = ap (λ (k : ℕ). get c.args.nodes.now.lodged k) c.lodge-id.ensures.number ∙ c.requires.free in
+    c.put_leaf.ensures.bits n ∙ rw c.lodge-id.ensures.lodged.2 (lodged_bits c.args.nodes.now.lodged c.lodge-id.result c.args.value c.lodge-id.ensures.lodged.0 free c.lodge-id.ensures.lodged.1.bit_node n)
+
+pub returns-clause-heads : goal.returns-clause-heads
+returns-clause-heads g c n =
+    let free : get c.args.nodes.now.lodged c.lodge-id.result.number ≡ None = ap (λ (k : ℕ). get c.args.nodes.now.lodged k) c.lodge-id.ensures.number ∙ c.requires.free in
+    c.put_leaf.ensures.heads n ∙ rw c.lodge-id.ensures.lodged.2 (lodged_heads c.args.nodes.now.lodged c.lodge-id.result c.args.value c.lodge-id.ensures.lodged.0 free c.lodge-id.ensures.lodged.1.bit_node n)
+
+pub returns-clause-masks : goal.returns-clause-masks
+returns-clause-masks g c n =
+    let free : get c.args.nodes.now.lodged c.lodge-id.result.number ≡ None = ap (λ (k : ℕ). get c.args.nodes.now.lodged k) c.lodge-id.ensures.number ∙ c.requires.free in
+    c.put_leaf.ensures.masks n ∙ rw c.lodge-id.ensures.lodged.2 (lodged_masks c.args.nodes.now.lodged c.lodge-id.result c.args.value c.lodge-id.ensures.lodged.0 free c.lodge-id.ensures.lodged.1.mask_node n)

@@ -1,0 +1,133 @@
+-- A route comes into a tree.
+use Rattle.std.specs.Prelude.{◌≡◌, ℕ, ◌+◌, ◌<◌, ◌≤◌, ◌==◌, if◌then◌else◌, List, ◌∷◌, ◌++◌, Option, None, Some}
+use Rattle.std.specs.Ordering.{nat_cmp}
+use Rattle.std.specs.FinMap.{FinMap}
+use Rattle.radix_nodes.specs.declared.id.Id.{Id}
+use Rattle.radix_nodes.specs.Rooms.{Seen}
+use Rattle.radix_nodes.specs.declared.links.Node.{Node}
+use Rattle.radix_nodes.specs.declared.links.Node.TheVariants.{Leaf as LeafOf}
+use Rattle.radix_tree.specs.Tree.{Placed, Tree, bit_at, HaveBit, IsTree, routes_of}
+use Rattle.radix_tree.specs.Rooms.{BitPart, Part, leaves_in, bits_in, leaf_part, name_of}
+use Rattle.radix_tree.specs.Searches.{Way, LedTo}
+use Rattle.radix_tree.specs.Whole.{one_if, leaves_at, forks_at}
+use Rattle.radix_tree.specs.declared.entry.Entry.{Entry}
+
+-- what a bit node says once it names another node on the side of an address
+abbrev pub turned : ℕ → Node → Option BitPart → Option BitPart
+turned address to None = None
+turned address to (Some p) = Some (if bit_at p.bit address == 1 then record p { one = to } else record p { zero = to })
+
+-- what number n says once the bit node above a place, where there is one, names another node there
+abbrev pub turn : Option Id → ℕ → Node → ℕ → Option BitPart → Option BitPart
+turn None address to n said = said
+turn (Some up) address to n said = if n == up.number then turned address to said else said
+
+-- the root, once the place beneath this bit node, or beneath none, has another node
+abbrev pub root_after : Option Id → Node → Node → Node
+root_after None to root = to
+root_after (Some up) to root = root
+
+-- one bit node more, in a room
+abbrev pub in_room : Id → ℕ → ℕ
+in_room room n = one_if (room.number == n)
+
+-- the new bit node, with the new leaf on the side of its key
+abbrev pub forked : ℕ → ℕ → Id → Node → Option Id → BitPart
+forked key bit room below above = if bit_at bit key == 1
+    then record { block = room.block; bit = bit; zero = below; one = LeafOf room; above = above }
+    else record { block = room.block; bit = bit; zero = LeafOf room; one = below; above = above }
+
+-- the first bit at which two keys differ
+pub record Differs (key other bit : ℕ) : Type 0 where
+  pub within : bit ≤ 31
+  pub before : (c : ℕ) → c < bit → bit_at c key ≡ bit_at c other
+  pub at : bit_at bit key ≡ bit_at bit other → ⊥
+
+module _ {V : Type 0} where
+  -- the list has one entry more
+  pub record Gains (e : Entry V) (old new : List (Entry V)) : Type 0 where
+    pub front : List (Entry V)
+    pub back : List (Entry V)
+    pub was : old ≡ front ++ back
+    pub now : new ≡ front ++ e ∷ back
+
+  -- the tree has one route more, and so many bit nodes more in the room of each number; on the bits before one its keys
+  -- agree as they did
+  pub record Grows (bit : ℕ) (more : ℕ → ℕ) (x : Placed V) (old new : Tree V) : Type 0 where
+    pub agrees : (c value : ℕ) → c < bit → HaveBit c value old → HaveBit c value new
+    pub leaves : (n : ℕ) → leaves_at n new ≡ leaves_at n old + one_if (x.room.number == n)
+    pub forks : (n : ℕ) → forks_at n new ≡ forks_at n old + more n
+    pub routes : Gains x.entry (routes_of old) (routes_of new)
+
+  -- a place for a route of a key that no route has: the first bit at which the key differs from those of the part
+  -- beneath, whose bits are all past it
+  pub record IsPlace (key low bit : ℕ) (t : Tree V) : Type 0 where
+    pub rises : low ≤ bit
+    pub within : bit ≤ 31
+    pub is : IsTree (bit + 1) t
+    pub agree : (c : ℕ) → c < bit → HaveBit c (bit_at c key) t
+    pub far_one : bit_at bit key ≡ 0 → HaveBit bit 1 t
+    pub far_zero : bit_at bit key ≡ 1 → HaveBit bit 0 t
+
+  -- no room is two leaves of the tree or two bit nodes
+  pub record AreOnce (t : Tree V) : Type 0 where
+    pub leaves : (n : ℕ) → leaves_at n t ≤ 1
+    pub forks : (n : ℕ) → forks_at n t ≤ 1
+
+  -- a part of the tree in the rooms of before with a route more, in the rooms of now, which has this name
+  pub record Grown (m new : FinMap nat_cmp (Seen V)) (more : ℕ
+      → ℕ) (x : Placed V) (old : Part m) (name : Node) : Type 0 where
+    pub part : Part new
+    pub named : name_of part.tree ≡ name
+    pub low : part.low ≡ old.low
+    pub above : part.above ≡ old.above
+    pub bit : ℕ
+    pub enough : old.low ≤ bit
+    pub grows : Grows bit more x old.tree part.tree
+
+  abbrev pub entry_of : ℕ → ℕ → V → Entry V
+  entry_of key rank value = record { key = key; rank = rank; value = value }
+
+  abbrev pub placed : Id → Entry V → Placed V
+  placed room e = record { room = room; entry = e }
+
+  -- where a route comes in: the part beneath the new bit node, and the way up from it
+  pub record IsSpot (m : FinMap nat_cmp (Seen V)) (key bit : ℕ) (whole : Part m) (above : Option Id) (below : Node) : Type 0 where
+    pub at : Part m
+    pub ups : List (Part m)
+    pub way : Way key whole at ups
+    pub top : whole.above ≡ None
+    pub once : AreOnce whole.tree
+    pub place : IsPlace key at.low bit at.tree
+    pub above_is : at.above ≡ above
+    pub named : name_of at.tree ≡ below
+
+  -- a route stands in a room that was not in the map, which is its leaf and this bit node above that
+  pub record IsLodged (m new : FinMap nat_cmp (Seen V)) (room : Id) (e : Entry V) (node : BitPart) : Type 0 where
+    pub no_leaf : leaves_in m room.number ≡ None
+    pub no_bit : bits_in m room.number ≡ None
+    pub leaf : leaves_in new room.number ≡ Some (leaf_part (placed room e) (Some room) None None)
+    pub bit_node : bits_in new room.number ≡ Some node
+    pub leaves : (n : ℕ) → (n ≡ room.number → ⊥) → leaves_in new n ≡ leaves_in m n
+    pub bits : (n : ℕ) → (n ≡ room.number → ⊥) → bits_in new n ≡ bits_in m n
+
+  -- a key that no route has: the leaf to which its bits lead, and the first bit at which it differs from that leaf's
+  pub record IsNew (m : FinMap nat_cmp (Seen V)) (key bit : ℕ) (leaf : Id) : Type 0 where
+    pub whole : Part m
+    pub led : LedTo key whole leaf
+    pub top : whole.above ≡ None
+    pub low : whole.low ≡ 0
+    pub once : AreOnce whole.tree
+    pub differs : Differs key led.leaf.first.entry.key bit
+
+  -- a walk up from that leaf, at a node between this one above and this one below, all of whose bits are past that one
+  pub record Rise {m : FinMap nat_cmp (Seen V)} (key other bit : ℕ) (whole : Part m) (above : Option Id) (below : Node) (steps : ℕ) : Type 0 where
+    pub part : Part m
+    pub ups : List (Part m)
+    pub way : Way key whole part ups
+    pub above_is : part.above ≡ above
+    pub named : name_of part.tree ≡ below
+    pub past : IsTree (bit + 1) part.tree
+    pub agree : (c : ℕ) → c < bit → HaveBit c (bit_at c key) part.tree
+    pub here : HaveBit bit (bit_at bit other) part.tree
+    pub few : steps + part.low ≤ 33

@@ -1,0 +1,98 @@
+//! The way up a tree, with a search for each mask that is listed on it.
+ghost use Rattle.std.specs.Prelude.{◌≡◌, ◌+◌, ◌*◌, ◌≤◌};
+ghost use Rattle.radix_tree.specs.Rooms.{Part, AreListed, name_of, heads_in};
+ghost use Rattle.radix_tree.specs.Searches.{Tells, Finds, Best, HasPair, In, ForkAt};
+
+use crate::descent::leaf_for;
+use crate::scanning::{first_agreeing, of_pair};
+use mask_table::{Rank, masked};
+use radix_nodes::{Id, Node, Nodes, Visits};
+use sock_addrs::Inet;
+
+/// The route beneath a node that has this key and this rank, by its room.
+pub(crate) fn room_of<V>(
+    nodes: &Nodes<V>,
+    from: Node,
+    key: Inet,
+    rank: Rank,
+    visits: &mut Visits,
+) -> Option<Id>
+    requires tree { (p : Part nodes.now.lodged) × (name_of p.tree ≡ from) }
+    requires turn { visits.old.turn ≡ nodes.now.turn }
+    ensures found { (p : Part nodes.now.lodged) → name_of p.tree ≡ from → Tells (Finds (HasPair key rank) (In p)) result }
+    ensures counter { visits.new.turn ≡ visits.old.turn }
+    ensures rises { visits.old.count ≤ visits.new.count }
+    ensures bound { visits.new.count ≤ visits.old.count + 66 }
+{
+    let leaf = leaf_for(nodes, from, key, visits);
+    of_pair(nodes, leaf, key, rank, visits)
+}
+
+/// The best route of an address among those beneath a bit node whose masks it lists, by its room: longer masks first,
+/// it searches for each one.
+fn best_listed<V>(
+    nodes: &Nodes<V>,
+    room: Id,
+    first: Option<Id>,
+    address: Inet,
+    visits: &mut Visits,
+) -> Option<Id>
+    requires node { (p : Part nodes.now.lodged) × ForkAt p room × AreListed nodes.now.lodged p }
+    requires first { heads_in nodes.now.lodged room.number ≡ first }
+    requires turn { visits.old.turn ≡ nodes.now.turn }
+    ensures best { (p : Part nodes.now.lodged) (f : ForkAt p room) → AreListed nodes.now.lodged p
+        → Tells (Best address p.low (f.bit + 1) (In p)) result }
+    ensures counter { visits.new.turn ≡ visits.old.turn }
+    ensures rises { visits.old.count ≤ visits.new.count }
+    ensures bound { (p : Part nodes.now.lodged) (f : ForkAt p room)
+        → AreListed nodes.now.lodged p → visits.new.count + 67 * p.low ≤ visits.old.count + 67 * (f.bit + 1) }
+{
+    let mut at = first;
+    while let Some(listed) = at {
+        let links = nodes.links(listed, visits);
+        let rank = links.leaf().rank;
+        let next = match links.mask_node() {
+            Some(mask) => mask.next,
+            None => return None,
+        };
+        let key = masked(address, rank);
+        if let Some(found) = room_of(nodes, Node::Bit(room), key, rank, visits) {
+            return Some(found);
+        }
+        at = next;
+    }
+    None
+}
+
+/// The best route of an address, by its room.
+pub(crate) fn best_room<V>(
+    nodes: &Nodes<V>,
+    root: Node,
+    address: Inet,
+    visits: &mut Visits,
+) -> Option<Id>
+    requires tree { (p : Part nodes.now.lodged) × (name_of p.tree ≡ root) × (p.above ≡ None) × (p.low ≡ 0)
+        × AreListed nodes.now.lodged p }
+    requires turn { visits.old.turn ≡ nodes.now.turn }
+    ensures best { (p : Part nodes.now.lodged) → name_of p.tree ≡ root → p.above ≡ None → p.low ≡ 0
+        → AreListed nodes.now.lodged p → Tells (Best address 0 34 (In p)) result }
+    ensures counter { visits.new.turn ≡ visits.old.turn }
+    ensures bound { visits.new.count ≤ visits.old.count + 2243 }
+{
+    let leaf = leaf_for(nodes, root, address, visits);
+    if let Some(found) = first_agreeing(nodes, leaf, address, visits) {
+        return Some(found);
+    }
+    let mut at = nodes.links(leaf, visits).leaf().above;
+    while let Some(room) = at {
+        let node = match nodes.links(room, visits).bit_node() {
+            Some(node) => node,
+            None => return None,
+        };
+        if let Some(found) = best_listed(nodes, room, node.masks, address, visits) {
+            return Some(found);
+        }
+        at = node.above;
+    }
+    None
+}
