@@ -1,5 +1,5 @@
 -- The words of a printed line: what they are read as, which bytes they lack, and how long they are.
-use Rattle.std.proofs.Common.{◌≡◌, ◌≢◌, ◌<◌, ◌≤◌, ◌∙◌, ◌*◌, ◌/◌, ◌^◌, ℕ, zero, suc, Bool, true, false, List, [], ◌∷◌, ◌++◌, length, length-append, map, max, refl, sym, ap, arith, nat_le, codes, decimal, bytes_eq, ◌==◌, Option, Some, None, Ok}
+use Rattle.std.proofs.Common.{◌≡◌, ◌≢◌, ◌<◌, ◌≤◌, ◌∙◌, ◌-◌, ◌*◌, ◌/◌, ◌^◌, ℕ, Bool, true, false, List, [], ◌∷◌, ◌++◌, length, length-append, map, max, refl, replicate, sym, ap, arith, nat_le, codes, decimal, bytes_eq, ◌==◌, Option, Some, None, Ok}
 use Rattle.std.specs.Prelude.{if◌then◌else◌}
 use Rattle.std.specs.Fmt.{digits}
 use Rattle.std.specs.Option.{IfSome}
@@ -14,11 +14,13 @@ use Rattle.hex.specs.Hex.{IsBytes, decode_of, encode_lower, is_hex_digit, lower_
 use Rattle.hex.proofs.HexLemmas.{IsDigits-lower_digits, decode_of-encode_lower, decode_pairs-encode_with, decode_pairs-ok, length-encode_with}
 use Rattle.if_addrs.specs.declared.kind.Kind.{Kind}
 use Rattle.if_addrs.specs.declared.kind.Kind.TheVariants.{Broadcast, Loopback as LoopbackKind, PointToPoint}
-use Rattle.event_file.specs.Grammar.{cloning_of, inet_if_written}
-use Rattle.event_file.specs.Words.{bytes_to, inet_of, inet_of_parts, interface_kind_of, is_name_byte, name_of, number_to, option_written, parted_by, protocol_of, switch_of, words_behind}
-use Rattle.event_file.specs.Printed.{IsName, bytes_word, cloning_words, far_words, inet_word, kind_word, network_word, protocol_word, switch_word}
+use Rattle.route_core.specs.declared.command.Command.TheVariants.{Dump}
+use Rattle.event_file.specs.Grammar.{cloning_of, dump_of, inet_if_written}
+use Rattle.event_file.specs.Words.{bytes_to, hex_number_of, inet_of, inet_of_parts, interface_kind_of, is_name_byte, name_of, number_to, option_written, parted_by, protocol_of, switch_of, words_behind}
+use Rattle.event_file.specs.Printed.{IsName, bytes_word, cloning_words, far_words, hex_word, inet_word, kind_word, network_word, protocol_word, switch_word}
 use Rattle.event_file.proofs.Decimals.{printed_read}
 use Rattle.event_file.proofs.Joined.{AllLack, Lacks, Lacks-digits, Lacks-joined, Lacks-tested, parted-joined, room_of}
+use Rattle.event_file.proofs.ByteTexts.{AreBytes-number, IsBytes-from, byte_at-small}
 
 -- ---- names
 
@@ -83,25 +85,27 @@ pub length-protocol_word : (protocol : ℕ) → protocol ≤ 255 → length (pro
 length-protocol_word protocol small =
     of_protocol_word (λ word. length word ≤ 10) protocol (omega arith) (length-decimal protocol (omega (arith, small)))
 
+-- no number prints as a word that is none
+is_no_decimal : (most n : ℕ) (word : List ℕ) → most < 2 ^ 32 → n ≤ most → number_to most word ≡ None → bytes_eq (decimal n) word ≡ false
+is_no_decimal most n word room small none = elim (bytes_eq (decimal n) word) as (λ t. bytes_eq (decimal n) word ≡ t → t ≡ false) [
+  | true ↦ λ e.
+      let read = printed_read most n word room small (sym ((bytes_eq-Decides (decimal n) word).0 e)) in
+      cc (read, none)
+  | false ↦ λ _. refl
+] refl
+
 any_is_no_number : number_to 255 (codes "any") ≡ None
 unfolding digits
 any_is_no_number = refl
-
--- no number prints as `any`
-is_not_any : (protocol : ℕ) → protocol ≤ 255 → bytes_eq (decimal protocol) (codes "any") ≡ false
-is_not_any protocol small = elim (bytes_eq (decimal protocol) (codes "any")) as (λ t. bytes_eq (decimal protocol) (codes "any") ≡ t → t ≡ false) [
-  | true ↦ λ e.
-      let read = printed_read 255 protocol (codes "any") (omega arith) small (sym ((bytes_eq-Decides (decimal protocol) (codes "any")).0 e)) in
-      cc (read, any_is_no_number)
-  | false ↦ λ _. refl
-] refl
 
 pub protocol_of-protocol_word : (protocol : ℕ) → protocol ≤ 255 → protocol_of (protocol_word protocol) ≡ Some protocol
 protocol_of-protocol_word protocol small =
     let number = printed_read 255 protocol (decimal protocol) (omega arith) small refl in
     elim (protocol == 0) as (λ t. (protocol == 0) ≡ t → protocol_of (if t then codes "any" else decimal protocol) ≡ Some protocol) [
       | true ↦ λ e. ap Some (sym (eqb-true protocol 0 e))
-      | false ↦ λ e. rw (is_not_any protocol small, number, e) refl
+      | false ↦ λ e.
+          let other = is_no_decimal 255 protocol (codes "any") (omega arith) small any_is_no_number in
+          rw (other, number, e) refl
     ] refl
 
 -- ---- bytes
@@ -135,15 +139,47 @@ bytes_to-bytes_word most (b ∷ bs) fits are =
     let long = length-encode_with lower_digits (b ∷ bs) in
     decoded_word most (encode_lower (b ∷ bs)) (b ∷ bs) (λ e. omega arith) (omega arith) (omega arith) (decode_of-encode_lower (b ∷ bs) are)
 
+-- ---- hexadecimal numbers
+
+IsBytes-number : (n : ℕ) → IsBytes (to_be_bytes w32 n)
+IsBytes-number n = IsBytes-from (to_be_bytes w32 n) (AreBytes-number 4 n)
+
+pub length-hex_word : (n : ℕ) → length (hex_word n) ≡ 8
+length-hex_word n = omega (arith, length-encode_with lower_digits (to_be_bytes w32 n))
+
+pub Lacks-hex_word : (n : ℕ) → Lacks 32 (hex_word n)
+Lacks-hex_word n = Lacks-bytes_word (to_be_bytes w32 n) (IsBytes-number n)
+
+-- eight digits need no zeros before them
+eight_read : (word bytes : List ℕ) → length word ≡ 8 → decode_of word ≡ Ok bytes → hex_number_of word ≡ Some (from_be_bytes w32 bytes)
+eight_read word bytes eight decodes =
+    let low : nat_le 1 (length word) ≡ true = le-leb _ _ (omega (arith, eight)) in
+    let high : nat_le (length word) 8 ≡ true = le-leb _ _ (omega (arith, eight)) in
+    let same : replicate (8 - length word) 48 ++ word ≡ word = ap (λ (k : ℕ). replicate (8 - k) 48 ++ word) eight in
+    rw (low, high, same, decodes) refl
+
+pub hex_number_of-hex_word : (n : ℕ) → n < 2 ^ 32 → hex_number_of (hex_word n) ≡ Some n
+hex_number_of-hex_word n small =
+    eight_read (hex_word n) (to_be_bytes w32 n) (length-hex_word n) (decode_of-encode_lower (to_be_bytes w32 n) (IsBytes-number n))
+    ∙ ap Some (from_be_bytes-to_be_bytes_4 n small)
+
+-- ---- dumps
+
+ask_is_no_number : number_to 4294967295 (codes "ask") ≡ None
+unfolding digits
+ask_is_no_number = refl
+
+pub dump_of-decimal : (filter : Option ℕ) (room : ℕ) → room < 2 ^ 32 → dump_of filter (decimal room) ≡ Some (Dump filter room)
+dump_of-decimal filter room small =
+    let other = is_no_decimal 4294967295 room (codes "ask") (omega arith) (omega (arith, small)) ask_is_no_number in
+    let number = printed_read 4294967295 room (decimal room) (omega arith) (omega (arith, small)) refl in
+    rw (other, number) refl
+
 -- ---- addresses
 
 -- the numbers between the dots of an address
 abbrev numbers : ℕ → List (List ℕ)
 numbers n = map decimal (to_be_bytes w32 n)
-
-byte_at-small : (i n : ℕ) → byte_at i n ≤ 255
-byte_at-small zero n = omega arith
-byte_at-small (suc i) n = omega arith
 
 byte-lacks : (byte i n : ℕ) → byte < 48 → Lacks byte (decimal (byte_at i n))
 byte-lacks byte i n small = Lacks-decimal byte (byte_at i n) small (omega (arith, byte_at-small i n))

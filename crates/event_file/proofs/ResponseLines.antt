@@ -1,14 +1,14 @@
 -- The lines of a text that begins with a response.
 use Rattle.std.proofs.Common.{◌≡◌, ◌≢◌, ℕ, List, [], ◌∷◌, ◌++◌, codes, decimal, refl, sym, subst, append_assoc, Some, None, Result, Ok, Err}
 use Rattle.std.specs.Fmt.{digits}
-use Rattle.std.specs.List.{All}
+use Rattle.std.specs.List.{All, join_with_byte}
 use Rattle.std.specs.Prelude.{flat_map}
-use Rattle.std.proofs.lemmas.List.Elements.{All-nil, All-cons, All-head, All-tail}
+use Rattle.std.proofs.lemmas.List.Elements.{All-append, All-nil, All-cons, All-head, All-tail}
 use Rattle.sock_addrs.specs.Errno.{errno_number}
 use Rattle.sock_addrs.specs.declared.errno.Errno.TheVariants.{ENOBUFS}
 use Rattle.route_core.specs.declared.answer.Answer.{Answer}
-use Rattle.route_core.specs.declared.answer.Answer.TheVariants.{Done, Refused, Messages}
-use Rattle.event_file.specs.Answers.{ResponsesEndInANewline, message_line, response_text}
+use Rattle.route_core.specs.declared.answer.Answer.TheVariants.{Done, Refused, Routed, Dropped, Size, Messages}
+use Rattle.event_file.specs.Answers.{ResponsesEndInANewline, choice_words, message_line, response_text}
 use Rattle.event_file.specs.Lines.{lines_of}
 use Rattle.event_file.specs.declared.bad.Bad.{Bad}
 use Rattle.event_file.proofs.LineLemmas.{ended_lines-end, lines_of-ended}
@@ -17,6 +17,9 @@ pub response-ends : ResponsesEndInANewline
 response-ends (Err bad) = (codes "bad", refl)
 response-ends (Ok Done) = (codes "ok", refl)
 response-ends (Ok (Refused errno)) = (codes "err " ++ decimal (errno_number errno), refl)
+response-ends (Ok (Routed choice)) = (join_with_byte 32 (codes "via" ∷ choice_words choice), refl)
+response-ends (Ok (Dropped choice)) = (join_with_byte 32 (codes "drop" ∷ choice_words choice), refl)
+response-ends (Ok (Size size)) = (codes "size " ++ decimal size, refl)
 response-ends (Ok (Messages messages None)) =
     (flat_map message_line messages ++ codes "ok", sym (append_assoc (flat_map message_line messages) (codes "ok") (codes "\n")))
 response-ends (Ok (Messages messages (Some errno))) =
@@ -42,6 +45,25 @@ All-right : {X : Type 0} (P : X → Type 0) (xs ys : List X) → All P (xs ++ ys
 All-right P [] ys all = all
 All-right P (x ∷ xs) ys all = All-right P xs ys (All-tail P x (xs ++ ys) all)
 
+-- of all lines of a response and a rest, it holds of all lines of each; and the other way round
+pub All-first : (P : List ℕ → Type 0) (response : Result Answer Bad) (rest : List ℕ)
+    → All P (lines_of (response_text response ++ rest)) → All P (lines_of (response_text response))
+All-first P response rest all =
+    All-left P (lines_of (response_text response)) (lines_of rest) (subst (All P) (lines_of-response response rest) all)
+
+pub All-rest : (P : List ℕ → Type 0) (response : Result Answer Bad) (rest : List ℕ)
+    → All P (lines_of (response_text response ++ rest)) → All P (lines_of rest)
+All-rest P response rest all =
+    All-right P (lines_of (response_text response)) (lines_of rest)
+    (subst (All P) (lines_of-response response rest) all)
+
+pub All-both : (P : List ℕ → Type 0) (response : Result Answer Bad) (rest : List ℕ)
+    → All P (lines_of (response_text response)) → All P (lines_of rest)
+    → All P (lines_of (response_text response ++ rest))
+All-both P response rest first behind =
+    subst (All P) (sym (lines_of-response response rest))
+    (All-append P (lines_of (response_text response)) (lines_of rest) first behind)
+
 -- no line of the text says that memory was refused
 abbrev pub NoneFull : List ℕ → Type 0
 NoneFull text = All (λ line. line ≢ codes "err 55") (lines_of text)
@@ -56,11 +78,11 @@ none_full-response response none is =
     All-head (λ line. line ≢ codes "err 55") (codes "err 55") [] (subst (All (λ line. line ≢ codes "err 55")) full_line full) refl
 
 -- the first response is none that says so, and the rest has no such line
-pub none_full-first : (response : Result Answer Bad) (rest : List ℕ) → NoneFull (response_text response ++ rest) → response ≢ Ok (Refused ENOBUFS)
+pub none_full-first : (response : Result Answer Bad) (rest : List ℕ)
+    → NoneFull (response_text response ++ rest) → response ≢ Ok (Refused ENOBUFS)
 none_full-first response rest none =
-    none_full-response response
-    (All-left (λ line. line ≢ codes "err 55") (lines_of (response_text response)) (lines_of rest) (subst (All (λ line. line ≢ codes "err 55")) (lines_of-response response rest) none))
+    none_full-response response (All-first (λ line. line ≢ codes "err 55") response rest none)
 
-pub none_full-rest : (response : Result Answer Bad) (rest : List ℕ) → NoneFull (response_text response ++ rest) → NoneFull rest
-none_full-rest response rest none =
-    All-right (λ line. line ≢ codes "err 55") (lines_of (response_text response)) (lines_of rest) (subst (All (λ line. line ≢ codes "err 55")) (lines_of-response response rest) none)
+pub none_full-rest : (response : Result Answer Bad) (rest : List ℕ)
+    → NoneFull (response_text response ++ rest) → NoneFull rest
+none_full-rest response rest none = All-rest (λ line. line ≢ codes "err 55") response rest none

@@ -1,11 +1,16 @@
 -- What a transcript shows of a line: the text of its answer, each of whose lines a newline ends.
-use Rattle.std.specs.Prelude.{◌≡◌, ℕ, List, ◌++◌, flat_map, codes, decimal, Option, Some, None, Result, Ok, Err}
+use Rattle.std.specs.Prelude.{◌≡◌, ℕ, ◌==◌, if◌then◌else◌, List, [], ◌∷◌, ◌++◌, flat_map, codes, decimal, Option, Some, None, Result, Ok, Err}
+use Rattle.std.specs.List.{join_with_byte}
 use Rattle.hex.specs.Hex.{encode_lower}
+use Rattle.sock_addrs.specs.declared.gate.Gate.{Gate}
+use Rattle.sock_addrs.specs.declared.gate.Gate.TheVariants.{Inet, Link}
 use Rattle.sock_addrs.specs.Errno.{errno_number}
 use Rattle.sock_addrs.specs.declared.errno.Errno.{Errno}
 use Rattle.event_file.specs.declared.bad.Bad.{Bad}
+use Rattle.event_file.specs.Printed.{hex_word, inet_word}
 use Rattle.route_core.specs.declared.answer.Answer.{Answer}
-use Rattle.route_core.specs.declared.answer.Answer.TheVariants.{Done, Refused, Messages}
+use Rattle.route_core.specs.declared.answer.Answer.TheVariants.{Done, Refused, Routed, Dropped, Size, Messages}
+use Rattle.route_core.specs.declared.answer.Choice.{Choice}
 
 -- a message's bytes in lower-case hexadecimal
 abbrev pub message_line : List ℕ → List ℕ
@@ -20,9 +25,34 @@ abbrev pub last_line : Option Errno → List ℕ
 last_line None = codes "ok\n"
 last_line (Some errno) = refusal_line (errno_number errno)
 
+-- a route's rank in decimal, and `-` for that of one host
+abbrev pub rank_word : ℕ → List ℕ
+rank_word rank = if rank == 33 then codes "-" else decimal rank
+
+-- a gateway: its address, or `link:` and its bytes
+abbrev pub gate_word : Gate → List ℕ
+gate_word (Inet address) = inet_word address
+gate_word (Link sockaddr) = codes "link:" ++ encode_lower sockaddr
+
+-- the words of a route that a packet takes: its key, its rank, its gateway, the number of its interface and its flags
+abbrev pub choice_words : Choice → List (List ℕ)
+choice_words c =
+    inet_word c.key ∷ rank_word c.rank ∷ gate_word c.gateway ∷ decimal c.index ∷ hex_word c.flags ∷ []
+
+-- what becomes of a packet, and the route that it takes
+abbrev pub choice_line : List ℕ → Choice → List ℕ
+choice_line fate choice = join_with_byte 32 (fate ∷ choice_words choice) ++ codes "\n"
+
+-- how many bytes to ask for a dump
+abbrev pub size_line : ℕ → List ℕ
+size_line size = codes "size " ++ decimal size ++ codes "\n"
+
 abbrev pub answer_text : Answer → List ℕ
 answer_text Done = codes "ok\n"
 answer_text (Refused errno) = refusal_line (errno_number errno)
+answer_text (Routed choice) = choice_line (codes "via") choice
+answer_text (Dropped choice) = choice_line (codes "drop") choice
+answer_text (Size size) = size_line size
 answer_text (Messages messages left_out) = flat_map message_line messages ++ last_line left_out
 
 -- of a line that is a command, and of one that is none

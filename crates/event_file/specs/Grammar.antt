@@ -2,9 +2,10 @@
 use Prim.Native.String.{String}
 use Rattle.std.specs.Prelude.{ℕ, nat_lt, Bool, true, false, if◌then◌else◌, List, [], ◌∷◌, length, codes, bytes_eq, Option, Some, None}
 use Rattle.event_file.specs.Lines.{most_line_bytes}
-use Rattle.event_file.specs.Words.{◌>>=◌, parted_by, name_of, number_to, bytes_to, inet_of, interface_kind_of, protocol_of, switch_of, option_written, words_behind, if_written}
+use Rattle.event_file.specs.RouteLine.{message_of}
+use Rattle.event_file.specs.Words.{◌>>=◌, parted_by, name_of, number_to, bytes_to, hex_number_of, inet_of, interface_kind_of, protocol_of, switch_of, option_written, words_behind, if_written}
 use Rattle.route_core.specs.Commands.{Command}
-use Rattle.route_core.specs.declared.command.Command.TheVariants.{Attach, AddAddress, Open, Close, Loopback, Write, Read}
+use Rattle.route_core.specs.declared.command.Command.TheVariants.{Attach, AddAddress, RemoveAddress, Open, Close, Loopback, Write, Read, Packet, Redirect, DumpSize, Dump}
 use Rattle.route_core.specs.declared.written.TheConstants.{MOST_WRITTEN}
 
 -- a link-layer address has at most 8 bytes
@@ -48,6 +49,14 @@ add_address_form (name ∷ address ∷ options) = do
   address_of_parts name (parted_by 47 address) cloning far
 add_address_form words = None
 
+-- `NAME A`, behind `unaddr`
+abbrev pub remove_address_form : List (List ℕ) → Option Command
+remove_address_form (name ∷ address ∷ []) = do
+  name ← name_of name
+  address ← inet_of address
+  Some (RemoveAddress name address)
+remove_address_form words = None
+
 -- `ID PID PROTOCOL`, behind `open`
 abbrev pub open_form : List (List ℕ) → Option Command
 open_form (id ∷ pid ∷ protocol ∷ []) = do
@@ -80,12 +89,62 @@ write_form (id ∷ bytes ∷ []) = do
   Some (Write id bytes)
 write_form words = None
 
+-- `ID SEQ VERB DEST OPTION..`, behind `route`: a write of the message that the words behind the id compose
+abbrev pub route_form : List (List ℕ) → Option Command
+route_form [] = None
+route_form (id ∷ words) = do
+  id ← name_of id
+  message ← message_of words
+  Some (Write id message)
+
 -- `ID`, behind `read`
 abbrev pub read_form : List (List ℕ) → Option Command
 read_form (id ∷ []) = do
   id ← name_of id
   Some (Read id)
 read_form words = None
+
+-- `A`, behind `packet`
+abbrev pub packet_form : List (List ℕ) → Option Command
+packet_form (destination ∷ []) = do
+  destination ← inet_of destination
+  Some (Packet destination)
+packet_form words = None
+
+-- the redirect of a destination to a gateway by an author
+abbrev pub redirect_of : List ℕ → List ℕ → List ℕ → Option Command
+redirect_of destination gateway author = do
+  destination ← inet_of destination
+  gateway ← inet_of gateway
+  author ← inet_of author
+  Some (Redirect (record { destination = destination; gateway = gateway; author = author }))
+
+-- `A A A`, behind `redirect`: the destination, the gateway that it is reached by, and who says so
+abbrev pub redirect_form : List (List ℕ) → Option Command
+redirect_form (destination ∷ gateway ∷ author ∷ []) = redirect_of destination gateway author
+redirect_form words = None
+
+-- `N`: a dump into so many bytes
+abbrev pub dump_into : Option ℕ → List ℕ → Option Command
+dump_into filter word = do
+  room ← number_to 4294967295 word
+  Some (Dump filter room)
+
+-- `ask` or `N`, of the routes that the filter lets through
+abbrev pub dump_of : Option ℕ → List ℕ → Option Command
+dump_of filter word = if bytes_eq word (codes "ask") then Some (DumpSize filter) else dump_into filter word
+
+-- `ask` or `N`, behind `dump`: of all routes
+abbrev pub dump_form : List (List ℕ) → Option Command
+dump_form (word ∷ []) = dump_of None word
+dump_form words = None
+
+-- `X ask` or `X N`, behind `flags`: of the routes that have a flag of X
+abbrev pub flags_form : List (List ℕ) → Option Command
+flags_form (flags ∷ word ∷ []) = do
+  flags ← hex_number_of flags
+  dump_of (Some flags) word
+flags_form words = None
 
 -- a command's verb, and what the words behind it say
 pub record Form : Type 0 where
@@ -95,16 +154,26 @@ pub record Form : Type 0 where
 abbrev pub form : String → (List (List ℕ) → Option Command) → Form
 form verb says = record { verb = verb; says = says }
 
--- every command that the grammar has
+-- the commands on the routes
+abbrev pub route_forms : List Form
+route_forms = form "write" write_form
+    ∷ form "route" route_form
+    ∷ form "packet" packet_form
+    ∷ form "redirect" redirect_form
+    ∷ form "dump" dump_form
+    ∷ form "flags" flags_form
+    ∷ []
+
+-- every command that the grammar has: those on interfaces and sockets, and those on the routes
 abbrev pub forms : List Form
 forms = form "if" attach_form
     ∷ form "addr" add_address_form
+    ∷ form "unaddr" remove_address_form
     ∷ form "open" open_form
     ∷ form "loopback" loopback_form
     ∷ form "close" close_form
-    ∷ form "write" write_form
     ∷ form "read" read_form
-    ∷ []
+    ∷ route_forms
 
 -- the words as the form of this verb reads them
 abbrev pub by_forms : List Form → List ℕ → List (List ℕ) → Option Command

@@ -4,7 +4,9 @@ pub mod Grammar
 pub mod Lines
 pub mod Output
 pub mod Printed
+pub mod RouteLaws
 pub mod RouteLine
 pub mod RouteWords
+pub mod Runs
 pub mod Transcript
 pub mod Words

@@ -8,7 +8,7 @@ use Rattle.event_file.specs.Words.{is_name_byte}
 use Rattle.event_file.specs.Grammar.{command_of, most_link_bytes}
 use Rattle.event_file.specs.Lines.{most_line_bytes}
 use Rattle.route_core.specs.Commands.{Command}
-use Rattle.route_core.specs.declared.command.Command.TheVariants.{Attach, AddAddress, Open, Close, Loopback, Write, Read}
+use Rattle.route_core.specs.declared.command.Command.TheVariants.{Attach, AddAddress, RemoveAddress, Open, Close, Loopback, Write, Read, Packet, Redirect, DumpSize, Dump}
 use Rattle.if_addrs.specs.declared.kind.Kind.{Kind}
 use Rattle.if_addrs.specs.declared.kind.Kind.TheVariants.{Broadcast, Loopback as LoopbackKind, PointToPoint}
 
@@ -49,16 +49,31 @@ abbrev pub switch_word : Bool → List ℕ
 switch_word true = codes "on"
 switch_word false = codes "off"
 
+-- a number in eight hexadecimal digits
+abbrev pub hex_word : ℕ → List ℕ
+hex_word n = encode_lower (to_be_bytes w32 n)
+
+-- of all routes, or of those that have one of these flags
+abbrev pub filter_words : Option ℕ → List (List ℕ)
+filter_words None = codes "dump" ∷ []
+filter_words (Some flags) = codes "flags" ∷ hex_word flags ∷ []
+
 abbrev pub words_of : Command → List (List ℕ)
 words_of (Attach name kind type_number link) =
     codes "if" ∷ name ∷ kind_word kind ∷ decimal type_number ∷ bytes_word link ∷ []
 words_of (AddAddress name address prefix cloning far) =
     codes "addr" ∷ name ∷ network_word address prefix ∷ (far_words far ++ cloning_words cloning)
+words_of (RemoveAddress name address) = codes "unaddr" ∷ name ∷ inet_word address ∷ []
 words_of (Open id pid protocol) = codes "open" ∷ id ∷ decimal pid ∷ protocol_word protocol ∷ []
 words_of (Close id) = codes "close" ∷ id ∷ []
 words_of (Loopback id on) = codes "loopback" ∷ id ∷ switch_word on ∷ []
 words_of (Write id bytes) = codes "write" ∷ id ∷ bytes_word bytes ∷ []
 words_of (Read id) = codes "read" ∷ id ∷ []
+words_of (Packet destination) = codes "packet" ∷ inet_word destination ∷ []
+words_of (Redirect asked) =
+    codes "redirect" ∷ inet_word asked.destination ∷ inet_word asked.gateway ∷ inet_word asked.author ∷ []
+words_of (DumpSize filter) = filter_words filter ++ codes "ask" ∷ []
+words_of (Dump filter room) = filter_words filter ++ decimal room ∷ []
 
 -- a command's words with single spaces between them
 abbrev pub line_of : Command → List ℕ
@@ -77,11 +92,16 @@ IsWithinBounds (Attach name kind type_number link) =
     IsName name × (type_number ≤ 255) × (length link ≤ most_link_bytes) × IsBytes link
 IsWithinBounds (AddAddress name address prefix cloning far) =
     IsName name × (address < 2 ^ 32) × (prefix ≤ 32) × IfSome far (λ a. a < 2 ^ 32)
+IsWithinBounds (RemoveAddress name address) = IsName name × (address < 2 ^ 32)
 IsWithinBounds (Open id pid protocol) = IsName id × (pid < 2 ^ 32) × (protocol ≤ 255)
 IsWithinBounds (Close id) = IsName id
 IsWithinBounds (Loopback id on) = IsName id
 IsWithinBounds (Write id bytes) = IsName id × (7 + length id + 2 * length bytes ≤ most_line_bytes) × IsBytes bytes
 IsWithinBounds (Read id) = IsName id
+IsWithinBounds (Packet destination) = destination < 2 ^ 32
+IsWithinBounds (Redirect asked) = (asked.destination < 2 ^ 32) × (asked.gateway < 2 ^ 32) × (asked.author < 2 ^ 32)
+IsWithinBounds (DumpSize filter) = IfSome filter (λ flags. flags < 2 ^ 32)
+IsWithinBounds (Dump filter room) = IfSome filter (λ flags. flags < 2 ^ 32) × (room < 2 ^ 32)
 
 -- what is printed of a command within the bounds is read as that command
 abbrev pub PrintedIsRead : Type 0

@@ -1,7 +1,9 @@
--- The words behind `route`: a socket, a number, a verb, a destination, and options, each at most once and in their order.
+-- The words behind `route`: a socket, a number, a verb, a destination, and options, each at most once and in their
+-- order.
 use Prim.Native.String.{String}
-use Rattle.std.specs.Prelude.{ℕ, if◌then◌else◌, List, [], ◌∷◌, length, codes, bytes_eq, Option, Some, None, option_map}
+use Rattle.std.specs.Prelude.{ℕ, if◌then◌else◌, List, [], ◌∷◌, codes, bytes_eq, Option, Some, None}
 use Rattle.sock_addrs.specs.declared.gate.Gate.{Gate}
+use Rattle.event_file.specs.RouteWords.{composed}
 use Rattle.event_file.specs.Words.{◌>>=◌, parted_by, number_to, hex_number_of, inet_of, gate_of, option_written, words_behind, if_written}
 use Rattle.event_file.specs.declared.route_words.MetricWords.{MetricWords}
 use Rattle.event_file.specs.declared.route_words.RouteWords.{RouteWords}
@@ -35,7 +37,8 @@ destination_of_parts parts = None
 -- `A`, `A/P`, or `default`, which is 0.0.0.0/0
 abbrev pub destination_of : List ℕ → Option Destination
 destination_of word =
-    if bytes_eq word (codes "default") then Some (record { address = 0; mask = Some 0 }) else destination_of_parts (parted_by 47 word)
+    if bytes_eq word (codes "default") then Some (record { address = 0; mask = Some 0 })
+    else destination_of_parts (parted_by 47 word)
 
 abbrev pub gate_if_written : Option (List ℕ) → Option (Option Gate)
 gate_if_written word = if_written gate_of word
@@ -101,7 +104,16 @@ metric_options words = do
   rtt ← number_if_written (option_behind ("sendpipe" ∷ "ssthresh" ∷ []) "rtt" behind)
   rttvar ← number_if_written (option_behind ("sendpipe" ∷ "ssthresh" ∷ "rtt" ∷ []) "rttvar" behind)
   if_none_left (words_behind_all ("sendpipe" ∷ "ssthresh" ∷ "rtt" ∷ "rttvar" ∷ []) behind)
-      (record { mtu = mtu; hopcount = hopcount; expire = expire; recvpipe = recvpipe; sendpipe = sendpipe; ssthresh = ssthresh; rtt = rtt; rttvar = rttvar })
+      (record {
+        mtu = mtu;
+        hopcount = hopcount;
+        expire = expire;
+        recvpipe = recvpipe;
+        sendpipe = sendpipe;
+        ssthresh = ssthresh;
+        rtt = rtt;
+        rttvar = rttvar;
+      })
 
 -- the words behind `route ID`: `SEQ VERB DEST OPTION..`
 abbrev pub route_words_of : List (List ℕ) → Option RouteWords
@@ -127,3 +139,9 @@ route_words_of (seq ∷ verb ∷ to ∷ options) = do
     metrics = metrics;
   })
 route_words_of words = None
+
+-- the message that they compose
+abbrev pub message_of : List (List ℕ) → Option (List ℕ)
+message_of words = do
+  said ← route_words_of words
+  Some (composed said)

@@ -1,5 +1,5 @@
 -- The message that the words of a `route` line compose.
-use Rattle.std.specs.Prelude.{◌≡◌, ℕ, ◌+◌, List, Option, Some, None, Ok, option_map, unwrap_or, bit_or}
+use Rattle.std.specs.Prelude.{ℕ, ◌+◌, List, Option, Some, None, option_map, unwrap_or, bit_or}
 use Rattle.sock_addrs.specs.Sockaddrs.{inet_sockaddr, mask_sockaddr}
 use Rattle.route_msgs.specs.AddrInfo.{gate_sockaddr, no_addresses}
 use Rattle.route_msgs.specs.Headers.{blank, route_message}
@@ -28,8 +28,10 @@ bit_where bit (Some n) = bit
 
 abbrev pub written_bits : MetricWords → ℕ
 written_bits m =
-    bit_where RTV_MTU m.mtu + bit_where RTV_HOPCOUNT m.hopcount + bit_where RTV_EXPIRE m.expire + bit_where RTV_RPIPE m.recvpipe
-    + bit_where RTV_SPIPE m.sendpipe + bit_where RTV_SSTHRESH m.ssthresh + bit_where RTV_RTT m.rtt + bit_where RTV_RTTVAR m.rttvar
+    bit_where RTV_MTU m.mtu + bit_where RTV_HOPCOUNT m.hopcount
+    + bit_where RTV_EXPIRE m.expire + bit_where RTV_RPIPE m.recvpipe
+    + bit_where RTV_SPIPE m.sendpipe + bit_where RTV_SSTHRESH m.ssthresh
+    + bit_where RTV_RTT m.rtt + bit_where RTV_RTTVAR m.rttvar
 
 -- the bits that are written, and those of the metrics that are
 abbrev pub inits_said : RouteWords → ℕ
@@ -51,7 +53,12 @@ metrics_said w = record {
 
 -- the header: what no word names is 0
 abbrev pub header_said : RouteWords → Header
-header_said w = record (blank (kind_of w.verb)) { flags = w.flags; seq = w.seq; inits = inits_said w; metrics = metrics_said w }
+header_said w = record (blank (kind_of w.verb)) {
+  flags = w.flags;
+  seq = w.seq;
+  inits = inits_said w;
+  metrics = metrics_said w;
+}
 
 -- the addresses that are named
 abbrev pub addresses_named : RouteWords → AddrInfo

@@ -1,10 +1,11 @@
 ghost use Rattle.std.specs.Prelude.{◌≡◌, ◌≤◌, length, flat_map, OnOk, OnErr};
 ghost use Rattle.hex.specs.Hex.{encode_lower};
 ghost use Rattle.sock_addrs.specs.Errno.{errno_number};
-ghost use Rattle.event_file.specs.Answers.{last_line, message_line, refusal_line, response_text};
+ghost use Rattle.event_file.specs.Answers.{last_line, message_line, refusal_line, response_text, size_line as line_of_size};
 ghost use Rattle.event_file.specs.Output.{Wrote, WroteFront};
 ghost use Rattle.route_core.specs.Received.{cut, AreMessages};
 
+use crate::choices::choice_line;
 use crate::output::write_bytes;
 use crate::{Bad, Counted, Stopped};
 use arrayvec::ArrayVec;
@@ -16,9 +17,10 @@ use std::io::Write;
 const PIECE: usize = 2048;
 
 /// Writes the text of a line's answer, going on behind what a short write took: `ok`, `err` with the errno's number,
-/// `msg` with its bytes for each message and then `ok`, or `err` where some are left out, or `bad`. It is refused at the
-/// first write that answers an error or takes no byte, and what was taken before is then a front of that text. `buffer`
-/// is room for 4,096 bytes of text; what it held is lost.
+/// `via` or `drop` with a packet's route, `size` with a number of bytes, `msg` with its bytes for each message and then
+/// `ok`, or `err` where some are left out, or `bad`. It is refused at the first write that answers an error or takes no
+/// byte, and what was taken before is then a front of that text. `buffer` is room for 4,096 bytes of text; what it held
+/// is lost.
 pub fn write_answer<W: Write>(
     answer: &Result<Answer, Bad>,
     buffer: &mut [u8],
@@ -32,6 +34,9 @@ pub fn write_answer<W: Write>(
     match answer {
         Ok(Answer::Done) => write_bytes(b"ok\n", writer),
         Ok(Answer::Refused(errno)) => write_bytes(&refusal(*errno), writer),
+        Ok(Answer::Routed(choice)) => write_bytes(&choice_line("via", choice), writer),
+        Ok(Answer::Dropped(choice)) => write_bytes(&choice_line("drop", choice), writer),
+        Ok(Answer::Size(size)) => write_bytes(&size_line(*size), writer),
         Ok(Answer::Messages(received, left_out)) => {
             write_messages(received.as_bytes(), buffer, writer)?;
             write_last(*left_out, writer)
@@ -60,6 +65,19 @@ fn refusal(errno: Errno) -> ArrayVec<u8, 16>
     let mut line = ArrayVec::new();
     line.try_extend_from_slice(b"err ").unwrap();
     line.try_extend_from_slice(digits.format(errno.number()).as_bytes())
+        .unwrap();
+    line.push(b'\n');
+    line
+}
+
+/// The line of how many bytes to ask for a dump.
+fn size_line(size: u64) -> ArrayVec<u8, 32>
+    ensures { result.items ≡ line_of_size size }
+{
+    let mut digits = itoa::Buffer::new();
+    let mut line = ArrayVec::new();
+    line.try_extend_from_slice(b"size ").unwrap();
+    line.try_extend_from_slice(digits.format(size).as_bytes())
         .unwrap();
     line.push(b'\n');
     line

@@ -1,18 +1,22 @@
-ghost use Rattle.std.specs.Prelude.{◌≡◌, map, bytes_eq, length, option_map, Some, None};
+ghost use Rattle.std.specs.Prelude.{◌≡◌, ◌≤◌, map, bytes_eq, length, option_map, Some, None};
 ghost use Rattle.std.specs.Result.{MatchResult};
 ghost use Rattle.event_file.specs.Words.{parted_by};
-ghost use Rattle.event_file.specs.Grammar.{attach_form, inet_if_written, cloning_of, address_of_parts, add_address_form, open_form, loopback_form, close_form, write_form, read_form, forms, by_forms, said_by, command_of};
+ghost use Rattle.event_file.specs.Grammar.{attach_form, inet_if_written, cloning_of, address_of_parts, add_address_form, remove_address_form, open_form, loopback_form, close_form, write_form, route_form, read_form, packet_form, redirect_of, redirect_form, dump_into as into_room, dump_of, dump_form, flags_form, forms, route_forms, by_forms, said_by, command_of};
 
 use crate::Bad;
 use crate::line_buffer::LONGEST_LINE;
-use crate::numbers::{read_byte, read_inet, read_number, read_prefix, read_protocol};
+use crate::numbers::{read_byte, read_hex, read_inet, read_number, read_prefix, read_protocol};
+use crate::route_line::read_composed;
 use crate::texts::{read_kind, read_link, read_name, read_switch, read_written};
 use crate::words::{is, option, parted};
-use route_core::{Command, MOST_WRITTEN, Said};
+use route_core::{Command, MOST_WRITTEN, NewGateway, Said};
 use sock_addrs::Inet;
 
-/// The most words of a line: `addr NAME A/P to A cloning`.
-const MOST_WORDS: usize = 6;
+/// The most words of a line: `route ID SEQ VERB DEST` and 15 options, of a name and a word each.
+const MOST_WORDS: usize = 35;
+
+/// The most words of most lines, for which less room is made.
+const FEW_WORDS: usize = 6;
 
 /// `NAME KIND T HEX`, behind `if`.
 fn attach(words: &[&[u8]]) -> Option<Said<'static>>
@@ -85,6 +89,19 @@ fn add_address(words: &[&[u8]]) -> Option<Said<'static>>
     address(name, word, cloning, far)
 }
 
+/// `NAME A`, behind `unaddr`.
+fn remove_address(words: &[&[u8]]) -> Option<Said<'static>>
+    ensures { result ≡ remove_address_form (map (λ w. w.now) words.now) }
+{
+    let [name, address] = words else {
+        return None;
+    };
+    Some(Command::RemoveAddress {
+        name: read_name(name)?,
+        address: read_inet(address)?,
+    })
+}
+
 /// `ID PID PROTOCOL`, behind `open`.
 fn open(words: &[&[u8]]) -> Option<Said<'static>>
     ensures { result ≡ open_form (map (λ w. w.now) words.now) }
@@ -136,6 +153,20 @@ fn write<'a>(words: &[&[u8]], room: &'a mut [u8]) -> Option<Said<'a>>
     })
 }
 
+/// `ID SEQ VERB DEST OPTION..`, behind `route`: a write of the message that they compose.
+fn route<'a>(words: &[&[u8]], room: &'a mut [u8]) -> Option<Said<'a>>
+    requires { length room.old ≡ MOST_WRITTEN }
+    ensures { result ≡ route_form (map (λ w. w.now) words.now) }
+{
+    let [id, words @ ..] = words else {
+        return None;
+    };
+    Some(Command::Write {
+        id: read_name(id)?,
+        bytes: read_composed(words, room)?,
+    })
+}
+
 /// `ID`, behind `read`.
 fn read(words: &[&[u8]]) -> Option<Said<'static>>
     ensures { result ≡ read_form (map (λ w. w.now) words.now) }
@@ -146,7 +177,80 @@ fn read(words: &[&[u8]]) -> Option<Said<'static>>
     Some(Command::Read { id: read_name(id)? })
 }
 
-/// The command that these words are behind this verb.
+/// `A`, behind `packet`.
+fn packet(words: &[&[u8]]) -> Option<Said<'static>>
+    ensures { result ≡ packet_form (map (λ w. w.now) words.now) }
+{
+    let [destination] = words else {
+        return None;
+    };
+    Some(Command::Packet {
+        destination: read_inet(destination)?,
+    })
+}
+
+/// The redirect of a destination to a gateway by an author.
+fn redirect_to(destination: &[u8], gateway: &[u8], author: &[u8]) -> Option<Said<'static>>
+    ensures { result ≡ redirect_of destination.now gateway.now author.now }
+{
+    Some(Command::Redirect(NewGateway {
+        destination: read_inet(destination)?,
+        gateway: read_inet(gateway)?,
+        author: read_inet(author)?,
+    }))
+}
+
+/// `A A A`, behind `redirect`: the destination, the gateway that it is reached by, and who says so.
+fn redirect(words: &[&[u8]]) -> Option<Said<'static>>
+    ensures { result ≡ redirect_form (map (λ w. w.now) words.now) }
+{
+    let [destination, gateway, author] = words else {
+        return None;
+    };
+    redirect_to(destination, gateway, author)
+}
+
+/// `N`: a dump into so many bytes.
+fn dump_into(filter: Option<u32>, word: &[u8]) -> Option<Said<'static>>
+    ensures { result ≡ into_room filter word.now }
+{
+    Some(Command::Dump {
+        filter,
+        room: read_number(u32::MAX, word)?,
+    })
+}
+
+/// `ask` or `N`, of the routes that the filter lets through.
+fn filtered_dump(filter: Option<u32>, word: &[u8]) -> Option<Said<'static>>
+    ensures { result ≡ dump_of filter word.now }
+{
+    if is(word, "ask") {
+        return Some(Command::DumpSize { filter });
+    }
+    dump_into(filter, word)
+}
+
+/// `ask` or `N`, behind `dump`: of all routes.
+fn dump(words: &[&[u8]]) -> Option<Said<'static>>
+    ensures { result ≡ dump_form (map (λ w. w.now) words.now) }
+{
+    let [word] = words else {
+        return None;
+    };
+    filtered_dump(None, word)
+}
+
+/// `X ask` or `X N`, behind `flags`: of the routes that have a flag of X.
+fn flags(words: &[&[u8]]) -> Option<Said<'static>>
+    ensures { result ≡ flags_form (map (λ w. w.now) words.now) }
+{
+    let [flags, word] = words else {
+        return None;
+    };
+    filtered_dump(Some(read_hex(flags)?), word)
+}
+
+/// The command on interfaces, sockets or routes that these words are behind this verb.
 fn said_behind<'a>(verb: &[u8], words: &[&[u8]], room: &'a mut [u8]) -> Option<Said<'a>>
     requires { length room.old ≡ MOST_WRITTEN }
     ensures { result ≡ by_forms forms verb.now (map (λ w. w.now) words.now) }
@@ -157,6 +261,9 @@ fn said_behind<'a>(verb: &[u8], words: &[&[u8]], room: &'a mut [u8]) -> Option<S
     if is(verb, "addr") {
         return add_address(words);
     }
+    if is(verb, "unaddr") {
+        return remove_address(words);
+    }
     if is(verb, "open") {
         return open(words);
     }
@@ -166,11 +273,34 @@ fn said_behind<'a>(verb: &[u8], words: &[&[u8]], room: &'a mut [u8]) -> Option<S
     if is(verb, "close") {
         return close(words);
     }
+    if is(verb, "read") {
+        return read(words);
+    }
+    said_of_routes(verb, words, room)
+}
+
+/// The command on the routes that these words are behind this verb.
+fn said_of_routes<'a>(verb: &[u8], words: &[&[u8]], room: &'a mut [u8]) -> Option<Said<'a>>
+    requires { length room.old ≡ MOST_WRITTEN }
+    ensures { result ≡ by_forms route_forms verb.now (map (λ w. w.now) words.now) }
+{
     if is(verb, "write") {
         return write(words, room);
     }
-    if is(verb, "read") {
-        return read(words);
+    if is(verb, "route") {
+        return route(words, room);
+    }
+    if is(verb, "packet") {
+        return packet(words);
+    }
+    if is(verb, "redirect") {
+        return redirect(words);
+    }
+    if is(verb, "dump") {
+        return dump(words);
+    }
+    if is(verb, "flags") {
+        return flags(words);
     }
     None
 }
@@ -186,6 +316,18 @@ fn said<'a>(words: &[&[u8]], room: &'a mut [u8]) -> Option<Said<'a>>
     said_behind(verb, words, room)
 }
 
+/// What a line says that may have as many words as any.
+#[inline(never)]
+#[tactic(auto, using(crate::proofs::ManyWords::too_many_words))]
+fn read_long<'a>(line: &[u8], room: &'a mut [u8]) -> Result<Said<'a>, Bad>
+    requires length { length line.now ≤ LONGEST_LINE }
+    requires room { length room.old ≡ MOST_WRITTEN }
+    ensures { MatchResult result (λ s. command_of line.now ≡ Some s) (λ _. command_of line.now ≡ None) }
+{
+    let words = parted::<MOST_WORDS>(b' ', line).ok_or(Bad)?;
+    said(words.as_slice(), room).ok_or(Bad)
+}
+
 /// What a line says, without its newline, as `read_line` reads it; the bytes of a write are put into `room`, which has
 /// room for `MOST_WRITTEN` bytes, and what it held is lost.
 pub fn read_said<'a>(line: &[u8], room: &'a mut [u8]) -> Result<Said<'a>, Bad>
@@ -195,8 +337,10 @@ pub fn read_said<'a>(line: &[u8], room: &'a mut [u8]) -> Result<Said<'a>, Bad>
     if line.len() > LONGEST_LINE {
         return Err(Bad);
     }
-    let words = parted::<MOST_WORDS>(b' ', line).ok_or(Bad)?;
-    said(words.as_slice(), room).ok_or(Bad)
+    match parted::<FEW_WORDS>(b' ', line) {
+        Some(words) => said(words.as_slice(), room).ok_or(Bad),
+        None => read_long(line, room),
+    }
 }
 
 /// The command that a line says, without its newline. `Bad` where the grammar has no such line, among them any of more

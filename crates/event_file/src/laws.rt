@@ -2,11 +2,19 @@
 
 ghost use Rattle.std.specs.Prelude.{◌≡◌, ◌∷◌, [], true, false, codes, Some, None};
 ghost use Rattle.if_addrs.specs.declared.kind.Kind.TheVariants.{Broadcast, Loopback as LoopbackKind, PointToPoint};
-ghost use Rattle.route_core.specs.declared.command.Command.TheVariants.{Attach, AddAddress, Open, Close, Loopback, Write, Read};
-ghost use Rattle.event_file.specs.Answers.{ResponsesEndInANewline};
+ghost use Rattle.route_core.specs.declared.command.Command.TheVariants.{Attach, AddAddress, RemoveAddress, Open, Close, Loopback, Write, Read, Packet, Redirect, DumpSize, Dump};
+ghost use Rattle.route_core.specs.declared.answer.Answer.TheVariants.{Dropped, Messages, Routed, Size};
+ghost use Rattle.sock_addrs.specs.declared.errno.Errno.TheVariants.{ENOMEM};
+ghost use Rattle.sock_addrs.specs.declared.gate.Gate.TheVariants.{Inet as InetGate, Link as LinkGate};
+ghost use Rattle.event_file.specs.Answers.{ResponsesEndInANewline, answer_text};
 ghost use Rattle.event_file.specs.Lines.{EndedLinesAreRead, LastLineIsRead, ScriptIsItsLines};
 ghost use Rattle.event_file.specs.Printed.{PrintedFits, PrintedIsRead, ReadIsWithinBounds, line_of};
+ghost use Rattle.event_file.specs.RouteLaws.{ComposedIsRead, RouteLinesAreRead};
+ghost use Rattle.event_file.specs.Runs.{OthersLeaveTheText, RunIsTranscript, TranscriptIsRun};
 ghost use Rattle.event_file.specs.Transcript.{ComputedIsTranscript, ResponseIsComputed, TranscriptIsComputed};
+
+use route_core::laws::others_do_not_disturb;
+use route_msgs::laws::{sockaddrs_are_read, written_is_read};
 
 /// Lines without a newline in them are read of the script in which a newline stands behind each but perhaps the last,
 /// and every script is the lines that are read of it.
@@ -28,6 +36,16 @@ pub fn read_is_within_bounds()
     ensures { ReadIsWithinBounds }
 {}
 
+/// The message that a `route` line writes is read without a fault: its type is the verb's, its other fields and its
+/// addresses are those of the words, and it has no other address.
+pub fn route_lines_are_read()
+    ensures composed { ComposedIsRead }
+    ensures lines { RouteLinesAreRead }
+{
+    written_is_read();
+    sockaddrs_are_read();
+}
+
 /// The lines of commands, worked out.
 pub fn printing_by_example()
     ensures attach { line_of (Attach (codes "ed0") Broadcast 6 (0x08 ∷ 0x00 ∷ 0x20 ∷ 0xfe ∷ []))
@@ -41,6 +59,7 @@ pub fn printing_by_example()
         ≡ codes "addr sl0 11.0.0.1/8 to 11.0.0.2" }
     ensures far_cloning { line_of (AddAddress (codes "sl0") 0x0b00_0001 8 true (Some 0x0b00_0002))
         ≡ codes "addr sl0 11.0.0.1/8 to 11.0.0.2 cloning" }
+    ensures remove_address { line_of (RemoveAddress (codes "ed0") 0x0a00_0001) ≡ codes "unaddr ed0 10.0.0.1" }
     ensures open { line_of (Open (codes "a") 4294967295 0) ≡ codes "open a 4294967295 any" }
     ensures protocol { line_of (Open (codes "b") 0 255) ≡ codes "open b 0 255" }
     ensures close { line_of (Close (codes "a")) ≡ codes "close a" }
@@ -48,6 +67,36 @@ pub fn printing_by_example()
     ensures loopback_off { line_of (Loopback (codes "a") false) ≡ codes "loopback a off" }
     ensures write { line_of (Write (codes "a") (0x5c ∷ 0x00 ∷ [])) ≡ codes "write a 5c00" }
     ensures read { line_of (Read (codes "a")) ≡ codes "read a" }
+    ensures packet { line_of (Packet 0x0a09_0909) ≡ codes "packet 10.9.9.9" }
+    ensures redirect { line_of (Redirect (record { destination = 0x0a09_0909; gateway = 0x0a00_0002; author = 0x0a00_0001 }))
+        ≡ codes "redirect 10.9.9.9 10.0.0.2 10.0.0.1" }
+    ensures dump_size { line_of (DumpSize None) ≡ codes "dump ask" }
+    ensures flags_size { line_of (DumpSize (Some 0x101)) ≡ codes "flags 00000101 ask" }
+    ensures dump { line_of (Dump None 4294967295) ≡ codes "dump 4294967295" }
+    ensures flags { line_of (Dump (Some 0xdead_beef) 0) ≡ codes "flags deadbeef 0" }
+{}
+
+/// The texts of answers, worked out: a packet's route by an address and one of a host by a link-layer address, and a
+/// size.
+pub fn answers_by_example()
+    ensures routed { answer_text (Routed (record {
+      key = 0x0a00_0000;
+      rank = 8;
+      gateway = InetGate 0x0a00_0001;
+      index = 1;
+      flags = 0x101;
+    }))
+        ≡ codes "via 10.0.0.0 8 10.0.0.1 1 00000101\n" }
+    ensures dropped { answer_text (Dropped (record {
+      key = 0x0a09_0909;
+      rank = 33;
+      gateway = LinkGate (0x09 ∷ 0x12 ∷ 0 ∷ 2 ∷ 6 ∷ 0 ∷ 1 ∷ 0 ∷ 0xab ∷ []);
+      index = 65535;
+      flags = 0x1005;
+    }))
+        ≡ codes "drop 10.9.9.9 - link:0912000206000100ab 65535 00001005\n" }
+    ensures size { answer_text (Size 18446744073709551615) ≡ codes "size 18446744073709551615\n" }
+    ensures left_out { answer_text (Messages ((0 ∷ 4 ∷ 3 ∷ 0xfe ∷ []) ∷ []) (Some ENOMEM)) ≡ codes "msg 000403fe\nerr 12\n" }
 {}
 
 /// Every response's text ends in a newline.
@@ -69,3 +118,20 @@ pub fn response_is_computed()
 pub fn transcript_is_computed()
     ensures { TranscriptIsComputed }
 {}
+
+/// A transcript of a script without a malformed line is the texts of the answers of a run of its commands, one after
+/// another, and those texts of each such run are a transcript.
+pub fn transcript_is_run()
+    ensures run { TranscriptIsRun }
+    ensures transcript { RunIsTranscript }
+{}
+
+/// Listeners do not disturb each other in a transcript. Let x be an id, and let a script without a malformed line have
+/// a transcript without a line `err 24` or `err 55`. Take out of its commands every `loopback` and `read` of other ids,
+/// and every `open` and `close` of other ids that no write names: a script of the commands that are left has for a
+/// transcript the texts that their lines had, and no other without a line `err 24` or `err 55`.
+pub fn others_leave_the_text()
+    ensures { OthersLeaveTheText }
+{
+    others_do_not_disturb();
+}

@@ -3,6 +3,7 @@
 
 mod answers;
 mod bad;
+mod choices;
 mod counted;
 mod grammar;
 pub mod laws;

@@ -1,13 +1,15 @@
 //! The words behind `route`.
-ghost use Rattle.std.specs.Prelude.{◌≡◌, length, map, bytes_eq, option_map, MatchOption, Some, None};
+ghost use Rattle.std.specs.Prelude.{◌≡◌, ◌≤◌, length, map, bytes_eq, option_map, MatchOption, IfSome, Some, None};
 ghost use Rattle.event_file.specs.Words.{parted_by};
-ghost use Rattle.event_file.specs.RouteLine.{address_options, behind_addresses as words_behind_addresses, behind_bits as words_behind_bits, bit_options, destination_of, destination_of_parts, gate_if_written, hex_if_written, if_none_left as unless_left, mask_if_written, metric_options, number_if_written, route_words_of, verb_of};
+ghost use Rattle.event_file.specs.RouteLine.{address_options, behind_addresses as words_behind_addresses, behind_bits as words_behind_bits, bit_options, destination_of, destination_of_parts, gate_if_written, hex_if_written, if_none_left as unless_left, mask_if_written, message_of, metric_options, number_if_written, route_words_of, verb_of};
 
 use crate::numbers::{read_hex, read_inet, read_number, read_prefix};
-use crate::route_words::{MetricWords, RouteWords, Verb};
+use crate::route_words::{MetricWords, RouteWords, Verb, compose};
 use crate::texts::read_gate;
 use crate::words::{is, option, parted};
+use arrayvec::ArrayVec;
 use mask_table::Prefix;
+use route_core::{Lent, MOST_WRITTEN};
 use sock_addrs::{Gate, Inet};
 
 /// What a `route` line asks for.
@@ -214,7 +216,7 @@ fn if_none_left(words: &[&[u8]], metrics: MetricWords) -> Option<MetricWords>
 }
 
 /// The words behind `route ID`: a number, a verb, a destination, and options.
-pub(crate) fn read_route_words(words: &[&[u8]]) -> Option<RouteWords>
+fn read_route_words(words: &[&[u8]]) -> Option<RouteWords>
     ensures { result ≡ route_words_of (map (λ w. w.now) words.now) }
 {
     let [seq, verb, to, options @ ..] = words else {
@@ -241,4 +243,27 @@ pub(crate) fn read_route_words(words: &[&[u8]]) -> Option<RouteWords>
         locks: bits.locks,
         metrics,
     })
+}
+
+/// The message that the words behind `route ID` compose.
+fn read_message(words: &[&[u8]]) -> Option<ArrayVec<u8, 256>>
+    ensures message { MatchOption result (message_of (map (λ w. w.now) words.now) ≡ None)
+        (λ m. message_of (map (λ w. w.now) words.now) ≡ Some m.items) }
+    ensures most { IfSome result (λ m. length m.items ≤ 204) }
+{
+    match read_route_words(words) {
+        Some(said) => Some(compose(&said)),
+        None => None,
+    }
+}
+
+/// The message that the words behind `route ID` compose, put into the front of `room`.
+pub(crate) fn read_composed<'a>(words: &[&[u8]], room: &'a mut [u8]) -> Option<Lent<'a>>
+    requires { length room.old ≡ MOST_WRITTEN }
+    ensures { result ≡ message_of (map (λ w. w.now) words.now) }
+{
+    let message = read_message(words)?;
+    let bytes = &mut room[..message.len()];
+    bytes.copy_from_slice(message.as_slice());
+    Lent::new(bytes)
 }

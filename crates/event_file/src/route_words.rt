@@ -74,7 +74,8 @@ fn bit(metric: Option<u32>, bit: u32) -> u32
     if metric.is_some() { bit } else { 0 }
 }
 
-/// The words of a `route` line, but for the socket that it is written to: what is asked for, the destination, and the options.
+/// The words of a `route` line, but for the socket that it is written to: what is asked for, the destination, and the
+/// options.
 #[derive(Clone, Copy, Debug, PartialEq, Eq)]
 pub struct RouteWords {
     /// The number by which the writer knows the reply.
@@ -95,8 +96,8 @@ pub struct RouteWords {
     pub metrics: MetricWords,
 }
 
-/// The message that the words of a `route` line compose: version 3, the verb's type, the addresses that are named, and 0 in each
-/// field that no word names. At most 204 bytes.
+/// The message that the words of a `route` line compose: version 3, the verb's type, the addresses that are named,
+/// and 0 in each field that no word names. At most 204 bytes.
 pub fn compose(words: &RouteWords) -> ArrayVec<u8, 256>
     ensures message { result.items ≡ composed words.now }
     ensures most { length result.items ≤ 204 }

@@ -1,23 +1,19 @@
--- The sockets hear of a new address as the definition has it, where each part is found by itself.
-use Rattle.std.proofs.Common.{◌≡◌, ℕ, List, [], refl, sym, ap, ◌∙◌}
+-- What the sockets hear of an address of an interface: two messages, with the interface's number and link-layer
+-- address.
+use Rattle.std.proofs.Common.{◌≡◌, ℕ, List, [], ◌∷◌, refl, ap}
 use Rattle.std.specs.Prelude.{Option, None, Some, unwrap_or}
-use Rattle.if_addrs.specs.Facts.{facts_of}
-use Rattle.if_addrs.specs.Interfaces.{Address, Interface, interface_of, link_text_of}
-use Rattle.route_core.specs.Messages.{address_added, route_added}
-use Rattle.listeners.specs.Sockets.{Socket, delivered}
-use Rattle.route_core.specs.Step.{announced}
-use Rattle.route_core.specs.Telling.{delivered_all}
 use Rattle.sock_addrs.specs.declared.families.TheConstants.{AF_INET}
-use Rattle.if_addrs.specs.declared.reference.Facts.{Facts}
-use Rattle.radix_tree.specs.declared.entry.Entry.{Entry}
-use Rattle.route_core.specs.declared.route.Route.{Route}
+use Rattle.if_addrs.specs.Interfaces.{Interface, link_text_of}
+use Rattle.listeners.specs.Sockets.{Socket, delivered}
+use Rattle.route_core.specs.Telling.{delivered_all, told}
 
-pub announced_by : (is : List Interface) (a : Address) (r : Entry Route) (sockets : List Socket) (index : ℕ) (link : List ℕ) (facts : Facts) (address : ℕ) (first second : List ℕ) (heard heard_both : List Socket)
-    → index ≡ interface_of r.value.ifa is → link_text_of index is ≡ Some link → a.address ≡ address → facts_of a ≡ facts
-    → first ≡ address_added index link address facts → second ≡ route_added index r
-    → heard ≡ delivered first AF_INET None sockets → heard_both ≡ delivered second AF_INET None heard
-    → heard_both ≡ delivered_all (announced is a r) sockets
-announced_by is a r sockets index link facts address first second heard heard_both at text is_address known one two so_far all =
-    let link_is : link ≡ unwrap_or (link_text_of (interface_of r.value.ifa is) is) [] =
-    sym (ap (λ (o : Option (List ℕ)). unwrap_or o []) (ap (λ (i : ℕ). link_text_of i is) (sym at) ∙ text)) in
-    all ∙ rw (so_far, one, two, ← is_address, ← known, link_is, at) refl
+-- the link-layer address of an interface that is there
+pub link_told : (index : ℕ) (interfaces : List Interface) (link : List ℕ) → link_text_of index interfaces ≡ Some link
+    → unwrap_or (link_text_of index interfaces) [] ≡ link
+link_told index interfaces link there = ap (λ (o : Option (List ℕ)). unwrap_or o []) there
+
+-- two messages that are delivered one after the other
+pub both_told : (first second one two : List ℕ) (before mid after : List Socket)
+    → one ≡ first → two ≡ second → mid ≡ delivered one AF_INET None before → after ≡ delivered two AF_INET None mid
+    → after ≡ delivered_all (told first AF_INET None ∷ told second AF_INET None ∷ []) before
+both_told first second one two before mid after is_one is_two heard all = rw (all, heard, is_one, is_two) refl

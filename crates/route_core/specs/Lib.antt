@@ -1,13 +1,15 @@
-pub mod Addresses
 pub mod Commands
 pub mod Effects
 pub mod Few
 pub mod Messages
+pub mod Outcomes
+pub mod Packets
 pub mod Received
 pub mod RefusalLaws
 pub mod Requests
 pub mod Step
 pub mod Telling
+pub mod Undisturbed
 pub mod World
 pub mod Worlds
 pub mod Writes

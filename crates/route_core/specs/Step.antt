@@ -1,35 +1,42 @@
 -- One step of the world for each command: what it does, and the world and the answer after it.
-use Rattle.std.specs.Prelude.{◌≡◌, ◌⊎◌, ◌+◌, ◌&&◌, ℕ, Bool, true, false, not, is_some, is_none, if◌then◌else◌, List, [], ◌∷◌, ◌++◌, Option, Some, None, Result, Ok, Err, unwrap_or}
+use Rattle.std.specs.Prelude.{◌≡◌, ◌⊎◌, ◌+◌, ◌*◌, ◌-◌, ◌/◌, ◌^◌, ◌&&◌, ℕ, Bool, true, false, not, is_some, is_none, if◌then◌else◌, min, List, [], ◌∷◌, ◌++◌, map, Option, Some, None, Result, Ok, Err, unwrap_or}
 use Rattle.std.specs.Option.{option_map_or}
-use Rattle.sock_addrs.specs.declared.errno.Errno.{Errno}
-use Rattle.sock_addrs.specs.declared.errno.Errno.TheVariants.{EBADF, EEXIST, ENOBUFS}
-use Rattle.if_addrs.specs.Facts.{facts_of}
-use Rattle.radix_tree.specs.Table.{entry_at, with_entry}
-use Rattle.if_addrs.specs.Interfaces.{Interface, Address, attach_fault, attached, addr_fault, added, new_address, with_address, interface_of, kind_of, link_text_of, marked_routed}
-use Rattle.if_addrs.specs.declared.kind.Kind.{Kind}
-use Rattle.listeners.specs.Sockets.{Socket, pid_of, messages_of, closed_fault, listen_fault, opened, taken, without, with_loopback}
-use Rattle.route_core.specs.Addresses.{entry_of_address}
-use Rattle.route_core.specs.Messages.{address_added, route_added}
-use Rattle.route_core.specs.Telling.{Told, told, delivered_all}
-use Rattle.sock_addrs.specs.declared.families.TheConstants.{AF_INET}
-use Rattle.route_core.specs.World.{World}
+use Rattle.std.specs.Result.{result_err}
 use Rattle.sock_addrs.specs.Rules.{first_fault}
-use Rattle.route_core.specs.Requests.{Outcome, outcome_of}
-use Rattle.route_core.specs.Writes.{refused_reply, message_rules, is_silent, request_of}
-use Rattle.route_core.specs.declared.request.Request.{Request}
+use Rattle.sock_addrs.specs.declared.errno.Errno.{Errno}
+use Rattle.sock_addrs.specs.declared.errno.Errno.TheVariants.{EBADF, EEXIST, EHOSTUNREACH, ENOBUFS}
+use Rattle.sock_addrs.specs.declared.families.TheConstants.{AF_INET}
+use Rattle.sock_addrs.specs.declared.gate.Gate.TheVariants as gate
+use Rattle.if_addrs.specs.Facts.{facts_of}
+use Rattle.if_addrs.specs.Interfaces.{Interface, Address, attach_fault, attached, addr_fault, added, address_of, find_addr, new_address, reference, with_address, without_addr, interface_of, kind_of, link_text_of, marked_routed}
+use Rattle.if_addrs.specs.declared.kind.Kind.{Kind}
+use Rattle.if_addrs.specs.declared.reference.Facts.{Facts}
 use Rattle.if_addrs.specs.declared.reference.IfaRef.{IfaRef}
-use Rattle.if_addrs.specs.declared.reference.IfaRef.TheVariants.{Inet}
+use Rattle.listeners.specs.Sockets.{Socket, pid_of, messages_of, closed_fault, listen_fault, opened, taken, without as without_socket, with_loopback}
+use Rattle.radix_tree.specs.Table.{entry_at, with_entry, without}
 use Rattle.radix_tree.specs.declared.entry.Entry.{Entry}
-use Rattle.route_core.specs.declared.answer.Answer.{Answer}
-use Rattle.route_core.specs.declared.answer.Answer.TheVariants.{Done, Refused, Messages}
+use Rattle.route_entries.specs.declared.route.Route.{Route}
+use Rattle.route_ops.specs.Addressing.{address_entry, withdrawn}
+use Rattle.route_ops.specs.Looks.{Look, counted_entry, known, look}
+use Rattle.route_ops.specs.Redirecting.{Redirection, redirect}
+use Rattle.table_dump.specs.Dumps.{dump_fault, fitting, shown_of, total_of}
 use Rattle.route_core.specs.Commands.{Command}
-use Rattle.route_core.specs.declared.command.Command.TheVariants.{Attach, AddAddress, Open, Close, Loopback, Write, Read}
+use Rattle.route_core.specs.Messages.{address_added, address_removed, notice_told, route_added, route_deleted}
+use Rattle.route_core.specs.Packets.{fate_of}
+use Rattle.route_core.specs.Requests.{Outcome, outcome_of}
+use Rattle.route_core.specs.Telling.{Told, told, delivered_all}
+use Rattle.route_core.specs.World.{World}
+use Rattle.route_core.specs.Writes.{refused_reply, message_rules, is_silent, request_of}
+use Rattle.route_core.specs.declared.answer.Answer.{Answer}
+use Rattle.route_core.specs.declared.answer.Answer.TheVariants.{Done, Refused, Size, Messages}
+use Rattle.route_core.specs.declared.command.Command.TheVariants.{Attach, AddAddress, RemoveAddress, Open, Close, Loopback, Write, Read, Packet, Redirect, DumpSize, Dump}
 use Rattle.route_core.specs.declared.refusal.Refusal.{Refusal}
-use Rattle.route_core.specs.declared.route.Route.{Route}
+use Rattle.route_core.specs.declared.request.Request.{Request}
 
 -- ---- what a command does
 
--- the table, the interfaces and the sockets that it leaves, the messages that these sockets are then told, in order, and the answer
+-- the table, the interfaces and the sockets that it leaves, the messages that these sockets are then told, in order,
+-- and the answer
 pub record Effect : Type 0 where
   pub table : List (Entry Route)
   pub interfaces : List Interface
@@ -39,7 +46,13 @@ pub record Effect : Type 0 where
 
 -- it changes nothing and tells nothing
 abbrev pub answered : World → Answer → Effect
-answered w answer = record { table = w.table; interfaces = w.interfaces; sockets = w.sockets; told = []; answer = answer }
+answered w answer = record {
+  table = w.table;
+  interfaces = w.interfaces;
+  sockets = w.sockets;
+  told = [];
+  answer = answer;
+}
 
 abbrev pub refused : World → Errno → Effect
 refused w errno = answered w (Refused errno)
@@ -59,21 +72,22 @@ attach_effect w name kind type_number link =
     (record (done w) { interfaces = w.interfaces ++ attached name kind type_number link ∷ [] })
 
 -- the sockets hear of an interface's new address, and then of its route
-abbrev pub announced : List Interface → Address → Entry Route → List Told
-announced interfaces a r =
+abbrev pub announced : List Interface → ℕ → Facts → Entry Route → List Told
+announced interfaces address facts r =
     let index = interface_of r.value.ifa interfaces in
     let link = unwrap_or (link_text_of index interfaces) [] in
-    told (address_added index link a.address (facts_of a)) AF_INET None ∷ told (route_added index r) AF_INET None ∷ []
+    told (address_added index link address facts) AF_INET None ∷ told (route_added index r) AF_INET None ∷ []
 
--- an address that these interfaces have got brings its route, unless such a route is there: then the address stays without one
-abbrev pub bring_route : World → List Interface → Address → Entry Route → Effect
-bring_route w interfaces a r =
+-- an address that these interfaces have got brings its route, unless such a route is there: then the address stays
+-- without one
+abbrev pub bring_route : World → List Interface → ℕ → Facts → Entry Route → Effect
+bring_route w interfaces address facts r =
     if is_some (entry_at r.key r.rank w.table)
     then record (refused w EEXIST) { interfaces = interfaces }
     else record (done w) {
       table = with_entry r w.table;
       interfaces = marked_routed r.value.ifa interfaces;
-      told = announced interfaces a r;
+      told = announced interfaces address facts r;
     }
 
 -- `addr`
@@ -81,7 +95,35 @@ abbrev pub add_address_effect : World → List ℕ → ℕ → ℕ → Bool → 
 add_address_effect w name address prefix cloning far =
     let a = new_address (added w.interfaces + 1) (kind_of name w.interfaces) address prefix cloning far in
     unless_refused w (addr_fault name address far w.interfaces)
-    (bring_route w (with_address name address prefix cloning far w.interfaces) a (entry_of_address a cloning))
+    (bring_route w (with_address name address prefix cloning far w.interfaces) address (facts_of a)
+    (address_entry (reference a) address (facts_of a)))
+
+-- the sockets hear that the route of an interface's address is deleted, and then that the address goes
+abbrev pub renounced : List Interface → IfaRef → ℕ → Facts → Entry Route → List Told
+renounced interfaces ifa address facts r =
+    let index = interface_of ifa interfaces in
+    let link = unwrap_or (link_text_of index interfaces) [] in
+    told (route_deleted index r) AF_INET None ∷ told (address_removed index link address facts) AF_INET None ∷ []
+
+-- an address goes, and the route that it takes away, if any
+abbrev pub take_route : World → IfaRef → ℕ → Facts → Option (Entry Route) → Effect
+take_route w ifa address facts None = record (done w) { interfaces = without_addr ifa w.interfaces }
+take_route w ifa address facts (Some r) = record (done w) {
+  table = without r.key r.rank w.table;
+  interfaces = without_addr ifa w.interfaces;
+  told = renounced w.interfaces ifa address facts r;
+}
+
+-- an address that is found is there
+abbrev pub remove_found : World → IfaRef → ℕ → Option Address → Effect
+remove_found w ifa address None = done w
+remove_found w ifa address (Some a) =
+    take_route w ifa address (facts_of a) (withdrawn ifa address (facts_of a) w.table)
+
+-- `unaddr`
+abbrev pub remove_address_effect : World → ℕ → Result IfaRef Errno → Effect
+remove_address_effect w address (Err errno) = refused w errno
+remove_address_effect w address (Ok ifa) = remove_found w ifa address (address_of ifa w.interfaces)
 
 -- `open`
 abbrev pub open_effect : World → List ℕ → ℕ → ℕ → Effect
@@ -92,7 +134,7 @@ open_effect w id pid protocol =
 -- `close`
 abbrev pub close_effect : World → List ℕ → Effect
 close_effect w id =
-    unless_refused w (closed_fault id w.sockets) (record (done w) { sockets = without id w.sockets })
+    unless_refused w (closed_fault id w.sockets) (record (done w) { sockets = without_socket id w.sockets })
 
 -- `loopback`
 abbrev pub loopback_effect : World → List ℕ → Bool → Effect
@@ -101,21 +143,25 @@ loopback_effect w id on =
 
 -- `write`: what a refused write tells, where anybody hears of it
 abbrev pub refusal_tells : List ℕ → ℕ → List ℕ → Refusal → List Told
-refusal_tells id pid m r = option_map_or (λ family. told (refused_reply r.errno pid m) family (Some id) ∷ []) r.family []
+refusal_tells id pid m r =
+    option_map_or (λ family. told (refused_reply r.errno pid m) family (Some id) ∷ []) r.family []
 
 abbrev pub refused_write : World → List ℕ → ℕ → List ℕ → Refusal → Effect
 refused_write w id pid m r = record (refused w r.errno) { told = refusal_tells id pid m r }
 
 -- the messages that the request tells, and then the reply
 abbrev pub done_write : World → List ℕ → Outcome → Effect
-done_write w id o = record (done w) { table = o.table; told = o.notices ++ told o.reply AF_INET (Some id) ∷ [] }
+done_write w id o = record (done w) {
+  table = o.table;
+  told = map notice_told o.notices ++ told o.reply AF_INET (Some id) ∷ [];
+}
 
 abbrev pub write_by_outcome : World → List ℕ → ℕ → List ℕ → Result Outcome Errno → Effect
 write_by_outcome w id pid m (Ok o) = done_write w id o
 write_by_outcome w id pid m (Err errno) = refused_write w id pid m (record { errno = errno; family = Some AF_INET })
 
 abbrev pub write_by_request : World → List ℕ → ℕ → List ℕ → Result Request Refusal → Effect
-write_by_request w id pid m (Ok request) = write_by_outcome w id pid m (outcome_of w.table pid m request)
+write_by_request w id pid m (Ok request) = write_by_outcome w id pid m (outcome_of w.interfaces w.table pid m request)
 write_by_request w id pid m (Err r) = refused_write w id pid m r
 
 -- by the pid of the process that opened the socket
@@ -128,14 +174,52 @@ abbrev pub read_effect : World → List ℕ → Option (List (List ℕ)) → Eff
 read_effect w id None = refused w EBADF
 read_effect w id (Some messages) = record (answered w (Messages messages None)) { sockets = taken id w.sockets }
 
+-- `packet`: a look-up, one more use of its answer, and then its fate
+abbrev pub packet_by : World → Look → Option (Entry Route) → Effect
+packet_by w it None =
+    record (refused w EHOSTUNREACH) { table = it.table; told = map notice_told it.messages }
+packet_by w it (Some r) =
+    record (answered w (fate_of w.interfaces r)) {
+      table = with_entry (counted_entry r) it.table;
+      told = map notice_told it.messages;
+    }
+
+abbrev pub packet_effect : World → ℕ → Effect
+packet_effect w destination = let it = look true (gate.Inet destination) w.table in packet_by w it it.answer
+
+-- `redirect`
+abbrev pub done_or_refused : Option Errno → Answer
+done_or_refused None = Done
+done_or_refused (Some errno) = Refused errno
+
+abbrev pub redirect_by : World → Redirection → Effect
+redirect_by w it =
+    record (answered w (done_or_refused it.errno)) { table = it.table; told = map notice_told it.messages }
+
+-- `dump ask`, `flags X ask`: as many bytes as the dump takes and a tenth more, or the greatest number of 64 bits
+abbrev pub size_to_ask : ℕ → ℕ
+size_to_ask total = min (11 * total / 10) (2 ^ 64 - 1)
+
+abbrev pub dump_size_effect : World → Option ℕ → Effect
+dump_size_effect w flags = answered w (Size (size_to_ask (total_of (shown_of flags w.interfaces w.table))))
+
+-- `dump N`, `flags X N`
+abbrev pub dump_effect : World → ℕ → List (List ℕ) → Effect
+dump_effect w room messages = answered w (Messages (fitting room messages) (dump_fault room messages))
+
 unfoldable pub effect : World → Command → Effect
 effect w (Attach name kind type_number link) = attach_effect w name kind type_number link
 effect w (AddAddress name address prefix cloning far) = add_address_effect w name address prefix cloning far
+effect w (RemoveAddress name address) = remove_address_effect w address (find_addr name address w.interfaces)
 effect w (Open id pid protocol) = open_effect w id pid protocol
 effect w (Close id) = close_effect w id
 effect w (Loopback id on) = loopback_effect w id on
 effect w (Write id bytes) = write_effect w id bytes (pid_of id w.sockets)
 effect w (Read id) = read_effect w id (messages_of id w.sockets)
+effect w (Packet destination) = packet_effect w destination
+effect w (Redirect asked) = redirect_by w (redirect asked w.interfaces w.table)
+effect w (DumpSize flags) = dump_size_effect w flags
+effect w (Dump flags room) = dump_effect w room (shown_of flags w.interfaces w.table)
 
 -- ---- the step
 
@@ -155,17 +239,23 @@ stepped w c = let e = effect w c in record { world = world_after e; answer = e.a
 unfoldable pub takes_memory : World → Command → Bool
 takes_memory w (Attach name kind type_number link) = is_none (attach_fault name w.interfaces)
 takes_memory w (AddAddress name address prefix cloning far) = is_none (addr_fault name address far w.interfaces)
+takes_memory w (RemoveAddress name address) = is_none (result_err (find_addr name address w.interfaces))
 takes_memory w (Open id pid protocol) = is_none (listen_fault id w.sockets)
 takes_memory w (Close id) = false
 takes_memory w (Loopback id on) = false
 takes_memory w (Write id bytes) = is_some (pid_of id w.sockets) && not (is_silent (first_fault (message_rules bytes)))
 takes_memory w (Read id) = is_some (messages_of id w.sockets)
+takes_memory w (Packet destination) = is_none (known destination w.table)
+takes_memory w (Redirect asked) = true
+takes_memory w (DumpSize flags) = false
+takes_memory w (Dump flags room) = true
 
 -- the machine's step: this answer and this world
 abbrev pub IsStep : World → Command → Answer → World → Type 0
 IsStep old command answer new = stepped old command ≡ record { world = new; answer = answer }
 
--- the machine's step; or, where the command may want memory, the answer is that there is none and the world is the old one
+-- the machine's step; or, where the command may want memory, the answer is that there is none and the world is the
+-- old one
 abbrev pub Steps : World → Command → Answer → World → Type 0
 Steps old command answer new =
     IsStep old command answer new

@@ -1,51 +1,50 @@
--- Worlds that can be reached: what holds of the empty world and stays with every step, and what follows of the definitions that
--- name something to take where nothing is found: it is found.
-use Rattle.std.specs.Prelude.{◌≡◌, ◌<◌, ◌≤◌, ◌+◌, ◌^◌, ℕ, Bool, true, List, [], ◌∷◌, map, Option, None, Some, IsSomeAnd, IfSome, bytes_eq}
+-- Worlds that can be reached: what holds of the empty world and stays with every step, and what follows of the
+-- definitions that name something to take where nothing is found: it is found.
+use Rattle.std.specs.Prelude.{◌≡◌, ◌<◌, ◌≤◌, ◌+◌, ◌^◌, ℕ, Bool, true, List, [], ◌∷◌, map, Option, None, Some, IsSomeAnd, IfSome, bytes_eq, Ok}
 use Rattle.std.specs.List.{AllByRecursion, IsDistinct}
 use Rattle.sock_addrs.specs.declared.families.TheConstants.{AF_INET}
 use Rattle.if_addrs.specs.Facts.{facts_of}
-use Rattle.if_addrs.specs.Interfaces.{Address, Interface, IsOf, added, addr_fault, has_numbered, interface_numbered, interface_of, kind_of, link_text, named, new_address, with_address}
+use Rattle.if_addrs.specs.Interfaces.{Address, Interface, added, addr_fault, address_of, find_addr, has_numbered, interface_numbered, interface_of, kind_of, link_text, named, new_address, reference, with_address}
 use Rattle.if_addrs.specs.Numbered.{NumberedOnce}
+use Rattle.if_addrs.specs.declared.reference.Facts.{Facts}
 use Rattle.if_addrs.specs.declared.reference.IfaRef.{IfaRef}
 use Rattle.if_addrs.specs.declared.reference.IfaRef.TheVariants as ifa
 use Rattle.listeners.specs.Sockets.{Socket}
-use Rattle.radix_tree.specs.Table.{IsTable}
 use Rattle.radix_tree.specs.declared.entry.Entry.{Entry}
-use Rattle.route_core.specs.Addresses.{entry_of_address}
+use Rattle.route_entries.specs.declared.route.Route.{Route}
+use Rattle.route_ops.specs.Addressing.{address_entry}
+use Rattle.route_ops.specs.Tables.{IsTableOf}
 use Rattle.route_core.specs.Commands.{Command}
 use Rattle.route_core.specs.Messages.{address_added, route_added}
 use Rattle.route_core.specs.Step.{Steps, announced}
 use Rattle.route_core.specs.Telling.{told}
 use Rattle.route_core.specs.World.{World, empty_world}
 use Rattle.route_core.specs.declared.answer.Answer.{Answer}
-use Rattle.route_core.specs.declared.command.Command.TheVariants.{AddAddress}
-use Rattle.route_core.specs.declared.route.Route.{Route}
+use Rattle.route_core.specs.declared.command.Command.TheVariants.{AddAddress, Packet, Redirect, Write}
 
 -- ---- worlds
-
--- the interface addresses of the routes are of these interfaces
-abbrev pub AreOf : List Interface → List (Entry Route) → Type 0
-AreOf interfaces table = AllByRecursion (λ r. IsOf r.value.ifa interfaces) table
 
 -- no two of these sockets have one id
 abbrev pub AreOpenOnce : List Socket → Type 0
 AreOpenOnce sockets = IsDistinct bytes_eq (map (λ s. s.id) sockets)
 
--- the table is one, and the interface address of each of its routes is one of the interfaces; no number of an address, and no
--- socket's id, is told twice
+-- its table is one of routes that lead out of its interfaces; no number of an address, and no socket's id, is told
+-- twice
 pub record IsWorld (w : World) : Type 0 where
-  pub table : IsTable w.table
-  pub routes : AreOf w.interfaces w.table
+  pub table : IsTableOf w.interfaces w.table
   pub numbers : NumberedOnce w.interfaces
   pub sockets : AreOpenOnce w.sockets
 
 abbrev pub EmptyIsWorld : Type 0
 EmptyIsWorld = IsWorld empty_world
 
--- the numbers of a command are in the ranges of their types
+-- the numbers and bytes of a command are in the ranges of their types
 abbrev pub IsInRange : Command → Type 0
 IsInRange (AddAddress name address prefix cloning far) =
     (address < 2 ^ 32) × (prefix ≤ 32) × IfSome far (λ other. other < 2 ^ 32)
+IsInRange (Write id m) = AllByRecursion (λ b. b < 256) m
+IsInRange (Packet destination) = destination < 2 ^ 32
+IsInRange (Redirect asked) = (asked.destination < 2 ^ 32) × (asked.gateway < 2 ^ 32) × (asked.author < 2 ^ 32)
 IsInRange c = Unit {0}
 
 -- a step from a world leads to one
@@ -68,11 +67,11 @@ IsOn interfaces i = IsSomeAnd (interface_numbered (interface_of i interfaces) in
 abbrev pub RoutesHaveInterfaces : Type 0
 RoutesHaveInterfaces = (w : World) → IsWorld w → AllByRecursion (λ r. IsOn w.interfaces r.value.ifa) w.table
 
--- the messages of a new address show this interface's number and link-layer address
-abbrev pub Shows : Address → Entry Route → List Interface → ℕ → Interface → Type 0
-Shows a r interfaces index i =
-    announced interfaces a r
-    ≡ told (address_added index (link_text index i) a.address (facts_of a)) AF_INET None
+-- the messages of an address's facts and route show this interface's number and link-layer address
+abbrev pub Shows : ℕ → Facts → Entry Route → List Interface → ℕ → Interface → Type 0
+Shows address facts r interfaces index i =
+    announced interfaces address facts r
+    ≡ told (address_added index (link_text index i) address facts) AF_INET None
     ∷ told (route_added index r) AF_INET None
     ∷ []
 
@@ -84,4 +83,12 @@ NewAddressShowsItsInterface = (w : World) (name : List ℕ) (address prefix : �
     let interfaces = with_address name address prefix cloning far w.interfaces in
     (index : ℕ) × (i : Interface) × (named name w.interfaces ≡ Some i)
     × (interface_numbered index w.interfaces ≡ Some i)
-    × Shows a (entry_of_address a cloning) interfaces index i
+    × Shows address (facts_of a) (address_entry (reference a) address (facts_of a)) interfaces index i
+
+-- an address that is found on an interface stands there, and is shown with that interface when it goes
+abbrev pub FoundAddressIsThere : Type 0
+FoundAddressIsThere = (w : World) (name : List ℕ) (address : ℕ) (ifa : IfaRef) → IsWorld w
+    → find_addr name address w.interfaces ≡ Ok ifa
+    → (a : Address) × (address_of ifa w.interfaces ≡ Some a) × (a.address ≡ address)
+    × (i : Interface) × (named name w.interfaces ≡ Some i)
+    × (interface_numbered (interface_of ifa w.interfaces) w.interfaces ≡ Some i)

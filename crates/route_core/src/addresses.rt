@@ -1,28 +1,30 @@
-//! Adding an address to an interface.
+//! Addresses of interfaces that come and go.
 ghost use Rattle.std.specs.Prelude.{◌≡◌, ◌≤◌};
-ghost use Rattle.if_addrs.specs.Facts.{facts_of};
-ghost use Rattle.if_addrs.specs.Interfaces.{Address, IsOf};
-ghost use Rattle.route_core.specs.Step.{Steps, announced};
+ghost use Rattle.if_addrs.specs.Interfaces.{IsOf};
+ghost use Rattle.route_core.specs.Step.{Steps, announced, renounced};
 ghost use Rattle.route_core.specs.Telling.{delivered_all};
-ghost use Rattle.route_core.specs.declared.command.Command.TheVariants.{AddAddress};
+ghost use Rattle.route_core.specs.declared.command.Command.TheVariants.{AddAddress, RemoveAddress};
 
-use crate::route::place_of;
-use crate::{Answer, Route, World, messages};
-use if_addrs::{Facts, Interfaces};
+use crate::messages::{address_message, route_added, route_deleted};
+use crate::telling::MOST_TOLD;
+use crate::{Answer, World};
+use if_addrs::{Facts, IfaRef, Interfaces};
 use listeners::Listeners;
-use mask_table::{Prefix, Rank};
+use mask_table::Prefix;
+use radix_tree::Entry;
+use route_entries::Route;
+use route_msgs::kinds::{RTM_DELADDR, RTM_NEWADDR};
+use route_ops::{route_of_address, withdraw_route};
 use sock_addrs::families::AF_INET;
 use sock_addrs::{Errno, Inet, Name};
 
-/// Room for the two messages of a new address.
-pub(crate) const NEW_ADDRESS_BYTES: usize = 512;
-
 impl World {
-    /// Gives an interface an address, and adds its route: to the network on a broadcast interface, and to the far address on
-    /// the others; the sockets hear of both. Refused in this order: ENXIO: there is no such interface; EINVAL: the other end's
-    /// address is given and the interface is not point-to-point, or it is and the address is not given; EADDRINUSE: an
-    /// interface holds the address; ENOSPC: 65,535 addresses were added; ENOBUFS: there is no memory; EEXIST: the route is
-    /// there, and the address stays without one.
+    /// Gives an interface an address, and adds its route: to the network on a broadcast interface, and to the far
+    /// address on the others; the sockets hear of both. Refused in this order: ENXIO: there is no such interface;
+    /// EINVAL: the other end's address is given and the interface is not point-to-point, or it is and the address is
+    /// not given; EADDRINUSE: an interface holds the address; ENOSPC: 65,535 addresses were added; ENOBUFS: there is
+    /// no memory; EEXIST: the route is there, and the address stays without one.
+    #[tactic(auto, using(route_ops::proofs::Keeping::are_kept, route_ops::proofs::Keeping::added_of), unfolding(crate::specs::Step::effect, crate::specs::Step::takes_memory))]
     pub fn add_address(
         &mut self,
         name: Name,
@@ -40,7 +42,7 @@ impl World {
         let Ok(room) = self.table.room() else {
             return Answer::Refused(Errno::ENOBUFS);
         };
-        let Ok(()) = self.listeners.reserve(NEW_ADDRESS_BYTES) else {
+        let Ok(()) = self.listeners.reserve(MOST_TOLD) else {
             self.table.give_back(room);
             return Answer::Refused(Errno::ENOBUFS);
         };
@@ -55,9 +57,8 @@ impl World {
             }
         };
         let facts = self.interfaces.facts(ifa);
-        let route = Route::of_address(facts.kind, address, cloning, ifa);
-        let (key, rank) = place_of(address, &facts);
-        if let Err((room, _)) = self.table.add(room, key, rank, route) {
+        let route = route_of_address(ifa, address, &facts);
+        if let Err((room, _)) = self.table.add(room, route.key, route.rank, route.value) {
             self.table.give_back(room);
             return Answer::Refused(Errno::EEXIST);
         }
@@ -65,12 +66,40 @@ impl World {
             &self.interfaces,
             &mut self.listeners,
             address,
-            facts,
-            key,
-            rank,
+            &facts,
             &route,
         );
         self.interfaces.mark_routed(ifa);
+        Answer::Done
+    }
+
+    /// Removes an address of an interface: no search finds it any more, and a route that leads out of it keeps it. The
+    /// route that it brought goes with it, unless another address of an interface has that by now; where one goes, the
+    /// sockets hear of both. Refused in this order: ENXIO: there is no such interface; EADDRNOTAVAIL: it doesn't have
+    /// the address; ENOBUFS: there is no memory.
+    #[tactic(auto, unfolding(crate::specs::Step::effect, crate::specs::Step::takes_memory))]
+    pub fn remove_address(&mut self, name: Name, address: Inet) -> Answer
+        ensures { Steps self.old (RemoveAddress name address) result self.new }
+    {
+        let ifa = match self.interfaces.find_addr(name, address) {
+            Ok(ifa) => ifa,
+            Err(errno) => return Answer::Refused(errno),
+        };
+        let Ok(()) = self.listeners.reserve(MOST_TOLD) else {
+            return Answer::Refused(Errno::ENOBUFS);
+        };
+        let facts = self.interfaces.facts(ifa);
+        if let Some(route) = withdraw_route(&mut self.table, ifa, address, &facts) {
+            renounce(
+                &self.interfaces,
+                &mut self.listeners,
+                ifa,
+                address,
+                &facts,
+                &route,
+            );
+        }
+        self.interfaces.remove_addr(ifa);
         Answer::Done
     }
 }
@@ -80,20 +109,40 @@ fn announce(
     interfaces: &Interfaces,
     listeners: &mut Listeners,
     address: Inet,
-    facts: Facts,
-    key: Inet,
-    rank: Rank,
-    route: &Route,
+    facts: &Facts,
+    route: &Entry<Route>,
 )
-    requires known { IsOf route.now.ifa interfaces.now }
-    requires room { NEW_ADDRESS_BYTES ≤ listeners.old.reserved }
-    ensures { (a : Address) → a.address ≡ address → facts_of a ≡ facts
-        → listeners.new.sockets ≡ delivered_all (announced interfaces.now a (record { key = key; rank = rank; value = route.now })) listeners.old.sockets }
+    requires rank { route.now.rank ≤ 33 }
+    requires known { IsOf route.now.value.ifa interfaces.now }
+    requires room { MOST_TOLD ≤ listeners.old.reserved }
+    ensures { listeners.new.sockets
+        ≡ delivered_all (announced interfaces.now address facts.now route.now) listeners.old.sockets }
 {
-    let index = interfaces.interface_of(route.ifa);
+    let index = interfaces.interface_of(route.value.ifa);
     let link = interfaces.link_text(index);
-    let announcement = messages::address_added(index, link, address, facts);
-    listeners.deliver(&announcement, AF_INET, None);
-    let addition = messages::route_added(index, key, rank, route);
-    listeners.deliver(&addition, AF_INET, None);
+    let arrival = address_message(RTM_NEWADDR, index, link, address, facts);
+    listeners.deliver(&arrival, AF_INET, None);
+    listeners.deliver(&route_added(index, route), AF_INET, None);
+}
+
+/// Tells the sockets that the route of an interface's address was deleted, and then that the address goes.
+fn renounce(
+    interfaces: &Interfaces,
+    listeners: &mut Listeners,
+    ifa: IfaRef,
+    address: Inet,
+    facts: &Facts,
+    route: &Entry<Route>,
+)
+    requires rank { route.now.rank ≤ 33 }
+    requires known { IsOf ifa interfaces.now }
+    requires room { MOST_TOLD ≤ listeners.old.reserved }
+    ensures { listeners.new.sockets
+        ≡ delivered_all (renounced interfaces.now ifa address facts.now route.now) listeners.old.sockets }
+{
+    let index = interfaces.interface_of(ifa);
+    let link = interfaces.link_text(index);
+    listeners.deliver(&route_deleted(index, route), AF_INET, None);
+    let leave = address_message(RTM_DELADDR, index, link, address, facts);
+    listeners.deliver(&leave, AF_INET, None);
 }

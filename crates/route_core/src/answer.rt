@@ -1,8 +1,24 @@
 ghost use Rattle.std.specs.Prelude.{◌≡◌, ℕ, List};
 ghost use Rattle.listeners.specs.Queue.{cut, AreMessages};
 
-use sock_addrs::Errno;
+use mask_table::Rank;
+use sock_addrs::{Errno, Gate, Inet};
 use std::marker::Model;
+
+/// The route that a packet took, as it stands after the look-up.
+#[derive(Clone, Copy, Debug, PartialEq, Eq)]
+pub struct Choice {
+    /// Its key.
+    pub key: Inet,
+    /// Its rank.
+    pub rank: Rank,
+    /// Its gateway.
+    pub gateway: Gate,
+    /// The number of the interface that it leaves by.
+    pub index: u16,
+    /// Its flags, of `route_msgs::flags`.
+    pub flags: u16,
+}
 
 /// What a command is answered.
 #[derive(Debug, Drop)]
@@ -11,6 +27,12 @@ pub enum Answer {
     Done,
     /// It was refused.
     Refused(Errno),
+    /// The packet takes this route.
+    Routed(Choice),
+    /// The packet takes this route, which drops it without an error.
+    Dropped(Choice),
+    /// So many bytes to ask for a dump.
+    Size(u64),
     /// These messages, and why they are not all where some are left out.
     Messages(Received, Option<Errno>),
 }

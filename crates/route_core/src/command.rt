@@ -3,6 +3,7 @@ ghost use Rattle.std.specs.Prelude.{◌≡◌};
 use crate::{Lent, Written};
 use if_addrs::{Kind, LinkAddress};
 use mask_table::Prefix;
+use route_ops::NewGateway;
 use sock_addrs::{Inet, Name};
 
 /// One command of a script. The bytes of a write are its own; those of a `Said` lie elsewhere, so that it is small.
@@ -15,14 +16,19 @@ pub enum Command<B = Written> {
         type_number: u8,
         link: LinkAddress,
     },
-    /// Give an interface an address, on a point-to-point interface with the address of the other end, whose route clones
-    /// where asked: `addr NAME A/P`, `addr NAME A/P to A`; either may end with ` cloning`.
+    /// Give an interface an address, on a point-to-point interface with the address of the other end, whose route
+    /// clones where asked: `addr NAME A/P`, `addr NAME A/P to A`; either may end with ` cloning`.
     AddAddress {
         name: Name,
         address: Inet,
         prefix: Prefix,
         cloning: bool,
         far: Option<Inet>,
+    },
+    /// Remove an address of an interface: `unaddr NAME A`.
+    RemoveAddress {
+        name: Name,
+        address: Inet,
     },
     /// Open a socket for a process and a protocol, 0 for any: `open ID PID any`, `open ID PID N`.
     Open {
@@ -39,7 +45,8 @@ pub enum Command<B = Written> {
         id: Name,
         on: bool,
     },
-    /// Write these bytes to a socket: `write ID HEX`.
+    /// Write these bytes to a socket: `write ID HEX`, and `route ID SEQ VERB DEST OPTION..` with the message of its
+    /// words.
     Write {
         id: Name,
         bytes: B,
@@ -47,6 +54,22 @@ pub enum Command<B = Written> {
     /// Take a socket's messages: `read ID`.
     Read {
         id: Name,
+    },
+    /// Find the route of a packet to this destination: `packet A`.
+    Packet {
+        destination: Inet,
+    },
+    /// Follow a redirect: `redirect A A A`, which are its destination, its gateway and its author.
+    Redirect(NewGateway),
+    /// How many bytes to ask for a dump of all routes, or of those with a flag of the filter: `dump ask`, `flags X
+    /// ask`.
+    DumpSize {
+        filter: Option<u32>,
+    },
+    /// Dump all routes, or those with a flag of the filter, into so many bytes: `dump N`, `flags X N`.
+    Dump {
+        filter: Option<u32>,
+        room: u32,
     },
 }
 
@@ -83,6 +106,10 @@ impl Command<Written> {
                 cloning: *cloning,
                 far: *far,
             },
+            Command::RemoveAddress { name, address } => Command::RemoveAddress {
+                name: *name,
+                address: *address,
+            },
             Command::Open { id, pid, protocol } => Command::Open {
                 id: *id,
                 pid: *pid,
@@ -95,6 +122,15 @@ impl Command<Written> {
                 bytes: bytes.lent(),
             },
             Command::Read { id } => Command::Read { id: *id },
+            Command::Packet { destination } => Command::Packet {
+                destination: *destination,
+            },
+            Command::Redirect(asked) => Command::Redirect(*asked),
+            Command::DumpSize { filter } => Command::DumpSize { filter: *filter },
+            Command::Dump { filter, room } => Command::Dump {
+                filter: *filter,
+                room: *room,
+            },
         }
     }
 }
@@ -129,6 +165,7 @@ impl<'a> Command<Lent<'a>> {
                 cloning,
                 far,
             },
+            Command::RemoveAddress { name, address } => Command::RemoveAddress { name, address },
             Command::Open { id, pid, protocol } => Command::Open { id, pid, protocol },
             Command::Close { id } => Command::Close { id },
             Command::Loopback { id, on } => Command::Loopback { id, on },
@@ -137,6 +174,10 @@ impl<'a> Command<Lent<'a>> {
                 bytes: bytes.written(),
             },
             Command::Read { id } => Command::Read { id },
+            Command::Packet { destination } => Command::Packet { destination },
+            Command::Redirect(asked) => Command::Redirect(asked),
+            Command::DumpSize { filter } => Command::DumpSize { filter },
+            Command::Dump { filter, room } => Command::Dump { filter, room },
         }
     }
 }

@@ -4,21 +4,27 @@
 mod addresses;
 mod answer;
 mod command;
+mod dumps;
 pub mod laws;
 mod messages;
+mod outcomes;
+mod packets;
+mod redirects;
 mod refusal;
+mod replies;
 mod request;
-mod route;
+mod telling;
 #[cfg(test)]
 mod tests;
 mod world;
 mod writes;
 mod written;
 
-pub use answer::{Answer, Received};
+pub use answer::{Answer, Choice, Received};
 pub use command::{Command, Said};
 pub use if_addrs::{Kind, LinkAddress};
 pub use listeners::first_message;
-pub use route::Route;
+pub use route_entries::Route;
+pub use route_ops::NewGateway;
 pub use world::World;
 pub use written::{Lent, MOST_WRITTEN, Written};

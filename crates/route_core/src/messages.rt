@@ -1,19 +1,31 @@
 //! The messages that the world makes.
 ghost use Rattle.std.specs.Prelude.{◌≡◌, ◌≤◌, length, option_map};
-ghost use Rattle.sock_addrs.specs.Sockaddrs.{mask_sockaddr};
-ghost use Rattle.route_msgs.specs.AddrInfo.{address_bytes};
 ghost use Rattle.listeners.specs.Queue.{IsMessage};
+ghost use Rattle.route_msgs.specs.AddrInfo.{address_bytes, bytes_or_none, gate_sockaddr, padded};
 ghost use Rattle.route_msgs.specs.Headers.{blank as blank_header};
-ghost use Rattle.route_core.specs.Messages.{address_added as address_message, interface_addresses as addresses_of_interface, netmask_of, route_addresses as addresses_of_route, route_added as added_message, route_got as got_message};
+ghost use Rattle.route_core.specs.Messages.{address_message as address_message_of, errno_or_zero, gate_family as family_of_gate, interface_addresses as addresses_of_interface, looked_up as looked_up_message, notice_family as family_of_notice, notice_message as message_of_notice, redirected as redirected_message, route_deleted as deleted_message, route_got as got_message, route_added as added_message, route_told as told_message};
 
-use crate::Route;
 use arrayvec::ArrayVec;
 use if_addrs::Facts;
-use mask_table::{Prefix, Rank};
-use route_msgs::flags::RTF_DONE;
-use route_msgs::kinds::{RTM_ADD, RTM_GET, RTM_NEWADDR};
+use radix_tree::Entry;
+use route_entries::{Route, addresses_of, destination_of};
+use route_msgs::flags::{RTF_DONE, RTF_UP};
+use route_msgs::kinds::{RTM_ADD, RTM_DELETE, RTM_GET, RTM_MISS, RTM_REDIRECT, RTM_RESOLVE};
 use route_msgs::{AddrInfo, Header, IfaHeader, Sockaddr, write_ifa_msg, write_route_msg};
-use sock_addrs::{Inet, Link};
+use route_ops::Notice;
+use sock_addrs::families::{AF_INET, AF_LINK};
+use sock_addrs::{Errno, Gate, Inet, Link};
+
+/// What the reply to a GET shows of a route's interface.
+#[derive(Clone, Copy, Debug)]
+pub(crate) struct Shown {
+    /// The interface's number, or what the GET has in its place.
+    pub(crate) index: u16,
+    /// The interface's link-layer address, where it is asked for.
+    pub(crate) ifp: Option<Link>,
+    /// The interface address, where it is asked for.
+    pub(crate) ifa: Option<Gate>,
+}
 
 fn blank(kind: u8) -> Header
     ensures { result ≡ blank_header kind }
@@ -24,44 +36,9 @@ fn blank(kind: u8) -> Header
     }
 }
 
-/// A route's mask, where it has one.
-fn netmask(rank: Rank) -> Option<Sockaddr>
-    ensures { result ≡ netmask_of rank }
-{
-    let bits = rank.number();
-    if bits == 33 {
-        None
-    } else {
-        Some(Sockaddr::mask(bits))
-    }
-}
-
-/// The mask that a route's clones get, where there is one.
-fn genmask(prefix: Option<Prefix>) -> Option<Sockaddr>
-    ensures { result ≡ option_map mask_sockaddr prefix }
-{
-    match prefix {
-        Some(prefix) => Some(Sockaddr::mask(prefix.bits())),
-        None => None,
-    }
-}
-
-/// A route's destination, gateway and mask.
-fn route_addresses(key: Inet, rank: Rank, route: &Route) -> AddrInfo
-    ensures texts { result ≡ addresses_of_route (record { key = key; rank = rank; value = route.now }) }
-    ensures size { length (address_bytes result) ≤ 56 }
-{
-    AddrInfo {
-        dst: Some(Sockaddr::inet(key)),
-        gateway: Some(Sockaddr::gate(route.gateway)),
-        netmask: netmask(rank),
-        ..AddrInfo::default()
-    }
-}
-
 /// An address of an interface, with its mask and its far address, and the interface's link-layer address.
-fn interface_addresses(link: Link, address: Inet, facts: Facts) -> AddrInfo
-    ensures texts { result ≡ addresses_of_interface link address facts }
+fn interface_addresses(link: Link, address: Inet, facts: &Facts) -> AddrInfo
+    ensures texts { result ≡ addresses_of_interface link address facts.now }
     ensures size { length (address_bytes result) ≤ 72 }
 {
     AddrInfo {
@@ -73,19 +50,21 @@ fn interface_addresses(link: Link, address: Inet, facts: Facts) -> AddrInfo
     }
 }
 
-/// That an interface has a new address.
-pub(crate) fn address_added(
+/// A message of this type about an address of the interface with this number and link-layer address.
+#[tactic(auto, using(crate::proofs::WholeMessages::message_of_size))]
+pub(crate) fn address_message(
+    kind: u8,
     index: u16,
     link: Link,
     address: Inet,
-    facts: Facts,
+    facts: &Facts,
 ) -> ArrayVec<u8, 256>
-    ensures message { result.items ≡ address_message index link address facts }
+    ensures message { result.items ≡ address_message_of kind index link address facts.now }
     ensures whole { IsMessage result.items }
     ensures most { length result.items ≤ 256 }
 {
     let header = IfaHeader {
-        kind: RTM_NEWADDR,
+        kind,
         addrs: 0,
         flags: facts.flags,
         index,
@@ -95,47 +74,191 @@ pub(crate) fn address_added(
     write_ifa_msg(&header, &interface_addresses(link, address, facts))
 }
 
-/// That an interface's new address brought a route.
-pub(crate) fn route_added(index: u16, key: Inet, rank: Rank, route: &Route) -> ArrayVec<u8, 256>
-    ensures message { result.items ≡ added_message index (record { key = key; rank = rank; value = route.now }) }
+/// A message of this type about the route of an interface's address, with these flags.
+#[tactic(auto, using(crate::proofs::WholeMessages::message_of_size))]
+fn route_told(kind: u8, index: u16, flags: u16, route: &Entry<Route>) -> ArrayVec<u8, 256>
+    requires { route.now.rank ≤ 33 }
+    ensures message { result.items ≡ told_message kind index flags route.now }
     ensures whole { IsMessage result.items }
     ensures most { length result.items ≤ 256 }
 {
     let header = Header {
         index,
-        flags: u32::from(route.flags),
-        ..blank(RTM_ADD)
+        flags: u32::from(flags),
+        ..blank(kind)
     };
-    write_route_msg(&header, &route_addresses(key, rank, route))
+    write_route_msg(
+        &header,
+        &destination_of(route.key, route.rank, &route.value),
+    )
 }
 
-/// The reply to a GET: what was asked, and the route.
+/// That the route of an interface's new address was added.
+pub(crate) fn route_added(index: u16, route: &Entry<Route>) -> ArrayVec<u8, 256>
+    requires { route.now.rank ≤ 33 }
+    ensures message { result.items ≡ added_message index route.now }
+    ensures whole { IsMessage result.items }
+    ensures most { length result.items ≤ 256 }
+{
+    route_told(RTM_ADD, index, route.value.flags, route)
+}
+
+/// That the route of an interface's address was deleted.
+pub(crate) fn route_deleted(index: u16, route: &Entry<Route>) -> ArrayVec<u8, 256>
+    requires { route.now.rank ≤ 33 }
+    ensures message { result.items ≡ deleted_message index route.now }
+    ensures whole { IsMessage result.items }
+    ensures most { length result.items ≤ 256 }
+{
+    route_told(RTM_DELETE, index, route.value.flags & !RTF_UP, route)
+}
+
+/// The reply to a GET: what was asked, and the route with what is shown of its interface.
+#[tactic(auto, using(crate::proofs::WholeMessages::message_of_size))]
 pub(crate) fn route_got(
     asked: &Header,
     pid: u32,
-    key: Inet,
-    rank: Rank,
-    route: &Route,
+    shown: &Shown,
+    route: &Entry<Route>,
 ) -> ArrayVec<u8, 256>
-    ensures message { result.items ≡ got_message asked.now pid (record { key = key; rank = rank; value = route.now }) }
+    requires { route.now.rank ≤ 33 }
+    ensures message { result.items ≡ got_message asked.now pid shown.now route.now }
     ensures whole { IsMessage result.items }
     ensures most { length result.items ≤ 256 }
 {
     let header = Header {
-        index: asked.index,
+        index: shown.index,
         padding: asked.padding,
-        flags: u32::from(route.flags | RTF_DONE),
+        flags: u32::from(route.value.flags | RTF_DONE),
         pid,
         seq: asked.seq,
         errno: asked.errno,
-        use_count: route.use_count,
+        use_count: route.value.use_count,
         inits: asked.inits,
-        metrics: route.metrics,
+        metrics: route.value.metrics,
         ..blank(RTM_GET)
     };
-    let texts = AddrInfo {
-        genmask: genmask(route.genmask),
-        ..route_addresses(key, rank, route)
+    let addresses = AddrInfo {
+        ifp: link(shown.ifp),
+        ifa: gate(shown.ifa),
+        ..addresses_of(route.key, route.rank, &route.value)
     };
-    write_route_msg(&header, &texts)
+    write_route_msg(&header, &addresses)
+}
+
+/// A link-layer address, where there is one.
+fn link(link: Option<Link>) -> Option<Sockaddr>
+    ensures sockaddr { result ≡ option_map padded link }
+    ensures most { length (bytes_or_none result) ≤ 32 }
+{
+    match link {
+        Some(link) => Some(Sockaddr::link(link)),
+        None => None,
+    }
+}
+
+/// An interface address, where there is one.
+fn gate(gate: Option<Gate>) -> Option<Sockaddr>
+    ensures sockaddr { result ≡ option_map gate_sockaddr gate }
+    ensures most { length (bytes_or_none result) ≤ 32 }
+{
+    match gate {
+        Some(gate) => Some(Sockaddr::gate(gate)),
+        None => None,
+    }
+}
+
+/// The errno of a message.
+fn number(errno: Option<Errno>) -> u32
+    ensures { result ≡ errno_or_zero errno }
+{
+    match errno {
+        Some(errno) => errno.number(),
+        None => 0,
+    }
+}
+
+/// A message of this type about a look-up.
+#[tactic(auto, using(crate::proofs::WholeMessages::message_of_size))]
+fn looked_up(kind: u8, about: Gate, errno: Option<Errno>) -> ArrayVec<u8, 256>
+    ensures message { result.items ≡ looked_up_message kind about errno }
+    ensures whole { IsMessage result.items }
+    ensures most { length result.items ≤ 256 }
+{
+    let header = Header {
+        flags: u32::from(RTF_DONE),
+        errno: number(errno),
+        ..blank(kind)
+    };
+    let addresses = AddrInfo {
+        dst: Some(Sockaddr::gate(about)),
+        ..AddrInfo::default()
+    };
+    write_route_msg(&header, &addresses)
+}
+
+/// The message of a redirect.
+#[tactic(auto, using(crate::proofs::WholeMessages::message_of_size))]
+fn redirected(
+    destination: Inet,
+    gateway: Gate,
+    author: Inet,
+    flags: u16,
+    errno: Option<Errno>,
+) -> ArrayVec<u8, 256>
+    ensures message { result.items ≡ redirected_message destination gateway author flags errno }
+    ensures whole { IsMessage result.items }
+    ensures most { length result.items ≤ 256 }
+{
+    let header = Header {
+        flags: u32::from(flags),
+        errno: number(errno),
+        ..blank(RTM_REDIRECT)
+    };
+    let addresses = AddrInfo {
+        dst: Some(Sockaddr::inet(destination)),
+        gateway: Some(Sockaddr::gate(gateway)),
+        author: Some(Sockaddr::inet(author)),
+        ..AddrInfo::default()
+    };
+    write_route_msg(&header, &addresses)
+}
+
+/// The message of a look-up or a redirect.
+pub(crate) fn notice_message(notice: &Notice) -> ArrayVec<u8, 256>
+    ensures message { result.items ≡ message_of_notice notice.now }
+    ensures whole { IsMessage result.items }
+    ensures most { length result.items ≤ 256 }
+{
+    match notice {
+        Notice::Miss { about, errno } => looked_up(RTM_MISS, *about, *errno),
+        Notice::Resolve { about } => looked_up(RTM_RESOLVE, *about, None),
+        Notice::Redirect {
+            destination,
+            gateway,
+            author,
+            flags,
+            errno,
+        } => redirected(*destination, *gateway, *author, *flags, *errno),
+    }
+}
+
+/// The family of an address.
+fn gate_family(gate: &Gate) -> u8
+    ensures { result ≡ family_of_gate gate.now }
+{
+    match gate {
+        Gate::Inet(_) => AF_INET,
+        Gate::Link(_) => AF_LINK,
+    }
+}
+
+/// The family of those who hear of a look-up or a redirect: its destination's.
+pub(crate) fn notice_family(notice: &Notice) -> u8
+    ensures { result ≡ family_of_notice notice.now }
+{
+    match notice {
+        Notice::Miss { about, .. } | Notice::Resolve { about } => gate_family(about),
+        Notice::Redirect { .. } => AF_INET,
+    }
 }

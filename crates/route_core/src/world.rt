@@ -1,12 +1,14 @@
-ghost use Rattle.std.specs.Prelude.{◌≡◌, ℕ, List, IfOk};
+ghost use Rattle.std.specs.Prelude.{◌≡◌, ◌≤◌, ℕ, List, length, IfOk};
+ghost use Rattle.route_ops.specs.Standing.{brought};
 ghost use Rattle.route_core.specs.World.{empty_world};
-ghost use Rattle.route_core.specs.Step.{IsStep, Steps};
+ghost use Rattle.route_core.specs.Step.{IsStep, Steps, effect};
 ghost use Rattle.route_core.specs.declared.command.Command.TheVariants.{Attach, Close, Loopback, Open, Read};
 
-use crate::{Answer, Command, Kind, LinkAddress, Received, Route, Said};
+use crate::{Answer, Command, Kind, LinkAddress, Received, Said};
 use if_addrs::Interfaces;
 use listeners::Listeners;
 use radix_tree::Table;
+use route_entries::Route;
 use sock_addrs::Name;
 use std::alloc::{AllocError, Global};
 use std::marker::Model;
@@ -17,14 +19,18 @@ pub struct World {
     pub(crate) table: Table<Route>,
     pub(crate) interfaces: Interfaces,
     pub(crate) listeners: Listeners,
+    pub(crate) alloc: Global,
 }
 
 impl Model for World {
     ghost use Rattle.route_core.specs.World.{World};
+    ghost use Rattle.route_ops.specs.Standing.{AreOf};
 
     ghost Value = { World };
 
     ghost view = { λ w. record { table = w.table.entries; interfaces = w.interfaces; sockets = w.listeners.sockets } };
+
+    ghost invariant = { λ w. AreOf w.interfaces w.table.entries };
 }
 
 impl World {
@@ -36,14 +42,18 @@ impl World {
             table: Table::new(alloc)?,
             interfaces: Interfaces::new(alloc),
             listeners: Listeners::new(alloc),
+            alloc,
         })
     }
 
     /// Takes one command: the answer and the world after it are the list machine's, or, where the command may want
-    /// memory, the answer is ENOBUFS and the world stays as it was. A read wants none.
+    /// memory, the answer is ENOBUFS and the world stays as it was. A read wants none. It brings at most two routes
+    /// that were not there, and tells at most two messages.
     pub fn step(&mut self, command: &Command) -> Answer
         ensures step { Steps self.old command.now result self.new }
         ensures read { (id : List ℕ) → command.now ≡ Read id → IsStep self.old command.now result self.new }
+        ensures few_routes { brought self.old.table self.new.table ≤ 2 }
+        ensures few_messages { length (effect self.old command.now).told ≤ 2 }
     {
         self.obey(&command.said())
     }
@@ -67,15 +77,21 @@ impl World {
                 cloning,
                 far,
             } => self.add_address(*name, *address, *prefix, *cloning, *far),
+            Command::RemoveAddress { name, address } => self.remove_address(*name, *address),
             Command::Open { id, pid, protocol } => self.listen(*id, *pid, *protocol),
             Command::Close { id } => self.shut(*id),
             Command::Loopback { id, on } => self.set_loopback(*id, *on),
             Command::Write { id, bytes } => self.write(*id, bytes.as_slice()),
             Command::Read { id } => self.take(*id),
+            Command::Packet { destination } => self.packet(*destination),
+            Command::Redirect(asked) => self.redirect(asked),
+            Command::DumpSize { filter } => self.dump_size(*filter),
+            Command::Dump { filter, room } => self.dump(*filter, *room),
         }
     }
 
     /// Attaches an interface. EEXIST: the name is there; ENOSPC: there are 64 interfaces; ENOBUFS: there is no memory.
+    #[tactic(auto, unfolding(crate::specs::Step::effect, crate::specs::Step::takes_memory))]
     pub fn attach(&mut self, name: Name, kind: Kind, type_number: u8, link: &LinkAddress) -> Answer
         ensures { Steps self.old (Attach name kind type_number link.now) result self.new }
     {
@@ -86,6 +102,7 @@ impl World {
     }
 
     /// Opens a socket. EEXIST: the id is open; EMFILE: 64 sockets are open; ENOBUFS: there is no memory.
+    #[tactic(auto, unfolding(crate::specs::Step::effect, crate::specs::Step::takes_memory))]
     pub fn listen(&mut self, id: Name, pid: u32, protocol: u8) -> Answer
         ensures { Steps self.old (Open id pid protocol) result self.new }
     {
@@ -96,6 +113,7 @@ impl World {
     }
 
     /// Closes a socket; its queue goes with it. EBADF: it isn't open. It wants no memory.
+    #[tactic(auto, unfolding(crate::specs::Step::effect, crate::specs::Step::takes_memory))]
     pub fn shut(&mut self, id: Name) -> Answer
         ensures { IsStep self.old (Close id) result self.new }
     {
@@ -106,6 +124,7 @@ impl World {
     }
 
     /// Whether a socket hears the replies to its own writes. EBADF: it isn't open. It wants no memory.
+    #[tactic(auto, unfolding(crate::specs::Step::effect, crate::specs::Step::takes_memory))]
     pub fn set_loopback(&mut self, id: Name, on: bool) -> Answer
         ensures { IsStep self.old (Loopback id on) result self.new }
     {
@@ -116,6 +135,7 @@ impl World {
     }
 
     /// Takes the messages that a socket has heard. EBADF: it isn't open. It wants no memory.
+    #[tactic(auto, unfolding(crate::specs::Step::effect, crate::specs::Step::takes_memory))]
     pub fn take(&mut self, id: Name) -> Answer
         ensures { IsStep self.old (Read id) result self.new }
     {

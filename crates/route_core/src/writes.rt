@@ -1,36 +1,36 @@
 //! Writes to a routing socket.
-ghost use Rattle.std.specs.Prelude.{◌≡◌, ℕ, List, [], ◌∷◌, Some, Ok, Err, IsSome, IsNone, IfOk, OnOk, OnErr, MatchResult};
+ghost use Rattle.std.specs.Prelude.{◌≡◌, ◌≤◌, ◌+◌, Some, IfSome, IsSome, IsNone, length};
 ghost use Rattle.listeners.specs.Queue.{IsMessage};
 ghost use Rattle.listeners.specs.Sockets.{delivered};
 ghost use Rattle.route_msgs.specs.Headers.{header_in};
-ghost use Rattle.route_core.specs.Effects.{EffectOr, IsEffect};
-ghost use Rattle.route_core.specs.Requests.{outcome_of, quiet};
-ghost use Rattle.route_core.specs.Step.{Steps, done_write, refused_write};
-ghost use Rattle.route_core.specs.Writes.{IsEchoed, refused_reply};
+ghost use Rattle.route_core.specs.Effects.{EffectOr, IsEchoed, IsEffect};
+ghost use Rattle.route_core.specs.Outcomes.{reply_with};
+ghost use Rattle.route_core.specs.Requests.{outcome_of};
+ghost use Rattle.route_core.specs.Step.{Steps, refused_write, write_by_outcome};
 ghost use Rattle.route_core.specs.declared.command.Command.TheVariants.{Write};
 
+use crate::outcomes::{Done, carry_out};
 use crate::refusal::Refusal;
-use crate::request::{Asked, Request};
-use crate::{Answer, World, messages};
-use arrayvec::ArrayVec;
-use route_msgs::patch_u32;
+use crate::replies::{deliver_done, deliver_refusal};
+use crate::request::Asked;
+use crate::telling::{MOST_MADE, tell};
+use crate::{Answer, World};
+use listeners::Listeners;
+use route_msgs::Header;
 use sock_addrs::families::AF_INET;
 use sock_addrs::{Errno, Name};
 
-/// Where a message has its pid.
-pub(crate) const PID_OFFSET: usize = 16;
-
-/// Where a message has its errno.
-pub(crate) const ERRNO_OFFSET: usize = 24;
-
 impl World {
-    /// Writes to a socket: a GET of a destination is answered by a reply, which those hear who hear IPv4.
+    /// Writes to a socket: a request to add, delete, change, lock or show a route. What the settling of a gateway
+    /// tells is delivered first, and then the reply, which those hear who hear IPv4.
     ///
-    /// Refused, in this order: EBADF where it isn't open; EMSGSIZE where there are more than 8,192 bytes; EINVAL where they
-    /// are no whole message; EPROTONOSUPPORT where its version is not 3; EINVAL where an address overruns, where there is no
-    /// destination, or where an IPv4 destination has a wrong length; EOPNOTSUPP where it is no GET or names another address;
-    /// ESRCH where the destination is of another family, or has no route. From EPROTONOSUPPORT on a refusal has a reply too,
-    /// and ENOBUFS is answered where there is no memory for a reply.
+    /// Refused, in this order: EBADF where it isn't open; EMSGSIZE where there are more than 8,192 bytes; EINVAL where
+    /// they are no whole message; EPROTONOSUPPORT where its version is not 3; EINVAL where an address overruns, where
+    /// there is no destination, where an address has a form that none has; EOPNOTSUPP where its type is none of these;
+    /// EINVAL where a route is to be added without a gateway; ESRCH where the destination is of another family; then
+    /// as `route_ops` refuses the request. From EPROTONOSUPPORT on a refusal has a reply too, and ENOBUFS is answered
+    /// where there is no memory, for a reply or for what is asked.
+    #[tactic(auto, unfolding(crate::specs::Step::effect, crate::specs::Step::takes_memory))]
     pub fn write(&mut self, id: Name, bytes: &[u8]) -> Answer
         ensures { Steps self.old (Write id bytes.now) result self.new }
     {
@@ -38,45 +38,36 @@ impl World {
             Ok(pid) => pid,
             Err(errno) => return Answer::Refused(errno),
         };
-        let asked = match Asked::read(bytes) {
-            Ok(asked) => asked,
-            Err(refusal) => return self.refuse(id, pid, bytes, refusal),
+        match Asked::read(bytes) {
+            Ok(asked) => self.request(id, pid, bytes, &asked),
+            Err(refusal) => self.refuse(id, pid, bytes, refusal),
+        }
+    }
+
+    /// Carries out what a write asks, and delivers its messages and its reply.
+    fn request(&mut self, id: Name, pid: u32, bytes: &[u8], asked: &Asked) -> Answer
+        requires echoed { IsEchoed bytes.now }
+        requires header { asked.now.header ≡ header_in bytes.now }
+        ensures { EffectOr (write_by_outcome self.old id pid bytes.now
+            (outcome_of self.old.interfaces self.old.table pid bytes.now asked.now.request)) self.old result self.new }
+    {
+        let Ok(()) = self
+            .listeners
+            .reserve(MOST_MADE + bytes.len().max(MOST_MADE))
+        else {
+            return Answer::Refused(Errno::ENOBUFS);
         };
-        match self.reply_to(&asked, pid) {
-            Ok(reply) => self.answer_done(id, &reply),
-            Err(errno) => self.refuse(id, pid, bytes, Refusal::heard(errno, AF_INET)),
-        }
-    }
-
-    /// The reply to a request of a process, or why it is refused.
-    fn reply_to(&mut self, asked: &Asked, pid: u32) -> Result<ArrayVec<u8, 256>, Errno>
-        ensures reply { (m : List ℕ) → asked.now.header ≡ header_in m → MatchResult result (λ reply. outcome_of self.old.table pid m asked.now.request ≡ Ok (quiet self.old.table reply.items)) (λ e. outcome_of self.old.table pid m asked.now.request ≡ Err e) }
-        ensures message { IfOk result (λ reply. IsMessage reply.items) }
-        ensures world { self.new ≡ self.old }
-    {
-        let mut visits = self.table.begin();
-        match asked.request {
-            Request::Get(destination) => match self.table.best(destination, &mut visits) {
-                Some((key, rank, route)) => Ok(messages::route_got(
-                    &asked.header,
-                    pid,
-                    key,
-                    rank,
-                    route,
-                )),
-                None => Err(Errno::ESRCH),
-            },
-        }
-    }
-
-    /// Answers that a write is done, once its reply is delivered.
-    fn answer_done(&mut self, id: Name, reply: &[u8]) -> Answer
-        requires { IsMessage reply.now }
-        ensures { EffectOr (done_write self.old id (quiet self.old.table reply.now)) self.old result self.new }
-    {
-        match self.reply(id, reply, AF_INET) {
-            Ok(()) => Answer::Done,
-            Err(_) => Answer::Refused(Errno::ENOBUFS),
+        match carry_out(&mut self.table, &self.interfaces, asked, pid) {
+            Ok(done) => {
+                tell(&mut self.listeners, &done.notices);
+                reply(&mut self.listeners, id, pid, bytes, &asked.header, &done);
+                Answer::Done
+            }
+            Err(Errno::ENOBUFS) => Answer::Refused(Errno::ENOBUFS),
+            Err(errno) => {
+                deliver_refusal(&mut self.listeners, id, pid, bytes, errno, AF_INET);
+                Answer::Refused(errno)
+            }
         }
     }
 
@@ -84,39 +75,32 @@ impl World {
     fn refuse(&mut self, id: Name, pid: u32, bytes: &[u8], refusal: Refusal) -> Answer
         requires { IsSome refusal.family → IsEchoed bytes.now }
         ensures effect { EffectOr (refused_write self.old id pid bytes.now refusal) self.old result self.new }
-        ensures silent { IsNone refusal.family → IsEffect (refused_write self.old id pid bytes.now refusal) result self.new }
+        ensures silent { IsNone refusal.family
+            → IsEffect (refused_write self.old id pid bytes.now refusal) result self.new }
     {
         let Some(family) = refusal.family else {
             return Answer::Refused(refusal.errno);
         };
-        match self.reply(id, &echo(bytes, pid, refusal.errno), family) {
-            Ok(()) => Answer::Refused(refusal.errno),
-            Err(_) => Answer::Refused(Errno::ENOBUFS),
-        }
-    }
-
-    /// Delivers the reply to a write of this socket. ENOBUFS: there is no memory, and nothing is delivered.
-    fn reply(&mut self, id: Name, reply: &[u8], family: u8) -> Result<(), Errno>
-        requires { IsMessage reply.now }
-        ensures told { OnOk result (self.new ≡ record self.old { sockets = delivered reply.now family (Some id) self.old.sockets }) }
-        ensures kept { OnErr result (self.new ≡ self.old) }
-    {
-        self.listeners.reserve(reply.len())?;
-        self.listeners.deliver(reply, family, Some(id));
-        Ok(())
+        let Ok(()) = self.listeners.reserve(bytes.len()) else {
+            return Answer::Refused(Errno::ENOBUFS);
+        };
+        deliver_refusal(&mut self.listeners, id, pid, bytes, refusal.errno, family);
+        Answer::Refused(refusal.errno)
     }
 }
 
-/// The written bytes with the writer's pid and the errno.
-fn echo(bytes: &[u8], pid: u32, errno: Errno) -> ArrayVec<u8, 8192>
-    requires { IsEchoed bytes.now }
-    ensures { result.items ≡ refused_reply errno pid bytes.now }
+/// Delivers the reply to a request that was done.
+fn reply(listeners: &mut Listeners, id: Name, pid: u32, bytes: &[u8], header: &Header, done: &Done)
+    requires echoed { IsEchoed bytes.now }
+    requires header { header.now ≡ header_in bytes.now }
+    requires message { IfSome done.now.reply (λ reply. IsMessage reply.items) }
+    requires most { IfSome done.now.reply (λ reply. length reply.items ≤ MOST_MADE) }
+    requires room { (length bytes.now ≤ listeners.old.reserved) × (MOST_MADE ≤ listeners.old.reserved) }
+    ensures { listeners.new.sockets
+        ≡ delivered (reply_with pid bytes.now done.now.reply) AF_INET (Some id) listeners.old.sockets }
 {
-    let mut reply = ArrayVec::try_from(bytes).unwrap();
-    match errno {
-        Errno::EPROTONOSUPPORT => {}
-        _ => patch_u32(&mut reply, PID_OFFSET, pid),
+    match &done.reply {
+        Some(reply) => listeners.deliver(reply, AF_INET, Some(id)),
+        None => deliver_done(listeners, id, pid, bytes, header),
     }
-    patch_u32(&mut reply, ERRNO_OFFSET, errno.number());
-    reply
 }

@@ -1,5 +1,5 @@
--- What a run with an outcome did to its reader, which had `before` and has `after` left, and to its writer, which held `old` and
--- holds `new`.
+-- What a run with an outcome did to its reader, which had `before` and has `after` left, and to its writer, which
+-- held `old` and holds `new`.
 use Rattle.std.specs.Prelude.{◌≡◌, Bool, true, false, List, ◌++◌, ℕ, Option, ◌⊎◌}
 use Rattle.std.specs.Io.KnownBytes.{Appends, Consumes, IsAtEnd, Keeps}
 use Rattle.event_file.specs.Lines.{answered_lines, ended_lines}

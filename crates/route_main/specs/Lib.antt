@@ -1,3 +1,5 @@
+pub mod CommandLine
 pub mod Ends
 pub mod Outcomes
 pub mod Progress
+pub mod Refusals

@@ -20,7 +20,8 @@ fresh = record { world = empty_world; has_bad = false }
 abbrev pub answered_of : Option (List ℕ) → List (Option (List ℕ))
 answered_of line = filter is_answered (line ∷ [])
 
--- these lines were answered on the way from one standing to another, and the writer, which held `old` and holds `new`, took their text
+-- these lines were answered on the way from one standing to another, and the writer, which held `old` and holds
+-- `new`, took their text
 pub record Answers (from to : Standing) (old new : Option (List ℕ)) (lines : List (Option (List ℕ))) : Type 0 where
   pub written : List ℕ
   pub appends : Appends old new written
@@ -42,7 +43,8 @@ pub record Progress (from to : Standing) (old new : Option (List ℕ)) (read : L
 
 -- a run that had come to one standing and line has come to another by these bytes
 pub record Advances (from to : Standing) (old new : Option (List ℕ)) (bytes : List ℕ) (line next : Line) : Type 0 where
-  pub on : (first : Standing) (start : Option (List ℕ)) (read : List ℕ) → Progress first from start old read line → Progress first to start new (read ++ bytes) next
+  pub on : (first : Standing) (start : Option (List ℕ)) (read : List ℕ) → Progress first from start old read line
+      → Progress first to start new (read ++ bytes) next
 
 -- a run that had come to this standing and line was stopped by its writer within these bytes
 pub record Breaks (from : Standing) (old new : Option (List ℕ)) (bytes : List ℕ) (line : Line) : Type 0 where
@@ -51,7 +53,8 @@ pub record Breaks (from : Standing) (old new : Option (List ℕ)) (bytes : List 
 
 -- a run that had come to this standing and line at the end of its script ends so
 pub record Finishes (outcome : Outcome) (from : Standing) (old new : Option (List ℕ)) (line : Line) : Type 0 where
-  pub on : (before after start : Option (List ℕ)) (read : List ℕ) → Consumes before after read → IsAtEnd after → Progress fresh from start old read line
+  pub on : (before after start : Option (List ℕ)) (read : List ℕ) → Consumes before after read → IsAtEnd after
+      → Progress fresh from start old read line
       → Ends outcome before after start new
 
 -- a run has read these bytes, and come to this standing and line by them

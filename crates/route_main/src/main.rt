@@ -1,23 +1,24 @@
-//! Runs a script of routing-socket commands: the script on standard input, its transcript on standard output.
+//! Runs a script of routing-socket commands, and writes its transcript to standard output: `routesim [FILE]`, where the
+//! script is FILE, or standard input where no FILE is named.
 #![tactic(auto)]
 
+mod program;
 mod run;
 #[cfg(test)]
 mod tests;
 
-use event_file::Counted;
-use run::{fault_text, run, status};
-use std::io;
+use program::{refusal_status, refusal_text, run_words};
+use run::{fault_text, status};
 use std::process::ExitCode;
 
 fn main(rt: HostRuntime) -> ExitCode {
-    let mut reader = Counted::new(rt.reader());
-    let mut writer = Counted::new(io::writer(&rt));
-    let outcome = run(rt.alloc(), &mut reader, &mut writer);
-    let text = fault_text(outcome);
+    let (status, text) = match run_words(&rt) {
+        Ok(outcome) => (status(outcome), fault_text(outcome)),
+        Err(refusal) => (refusal_status(refusal), refusal_text(refusal)),
+    };
     if !text.is_empty() {
         // Where standard error fails too, there is nobody left to tell.
         let _ = eprintln!(rt; "{text}");
     }
-    ExitCode::from(status(outcome))
+    ExitCode::from(status)
 }

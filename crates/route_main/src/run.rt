@@ -21,9 +21,10 @@ const MOST_READS: u64 = 16_777_216;
 /// The room that each read is given, in bytes.
 const READ_ROOM: usize = 4096;
 
-/// Reads a script, and writes its transcript: each line is answered, and its answer written, before the next is looked at.
-/// The run itself takes memory at the start alone; a command that wants some and gets none is answered `err 55`. A last line
-/// without a newline is answered at the end of the script, but not where a read fault comes first.
+/// Reads a script, and writes its transcript: each line is answered, and its answer written, before the next is
+/// looked at. The run itself takes memory at the start alone; a command that wants some and gets none is answered
+/// `err 55`. A last line without a newline is answered at the end of the script, but not where a read fault comes
+/// first.
 pub(crate) fn run<R: Read, W: Write>(
     alloc: Global,
     reader: &mut Counted<R>,
@@ -45,10 +46,11 @@ pub(crate) fn run<R: Read, W: Write>(
     ensures ends { Ends result (R.remaining reader.old.inner) (R.remaining reader.new.inner)
         (W.contents writer.old.inner) (W.contents writer.new.inner) }
     ensures reads { reader.new.reads ≤ MOST_READS }
+    ensures most_reads { MOST_READS ≡ 16777216 }
     ensures reads_needed { IfSome (R.remaining reader.old.inner) (λ script. reader.new.reads ≤ length script + 1) }
 
-    // A run goes on as long as no read and no write fails, and a fault comes only where one failed, or the reads are spent on
-    // a script of at least as many bytes; and without memory nothing begins.
+    // A run goes on as long as no read and no write fails, and a fault comes only where one failed, or the reads are
+    // spent on a script of at least as many bytes; and without memory nothing begins.
     ensures unfailed { IsAnswered result → (reader.new.failures ≡ 0) × (writer.new.failures ≡ 0) }
     ensures read_fault { result ≡ Outcome.ReadFault → (reader.new.failures ≡ 1) ⊎ ((reader.new.reads ≡ MOST_READS)
         × IfSome (R.remaining reader.old.inner) (λ script. MOST_READS ≤ length script)) }

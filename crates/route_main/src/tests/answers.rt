@@ -43,10 +43,11 @@ fn written(
 
 #[test]
 fn writes_each_answer(rt: HostRuntime) -> Result<(), Fail> {
-    let cases: [(Result<Answer, Bad>, &str); 5] = [
+    let cases: [(Result<Answer, Bad>, &str); 6] = [
         (Ok(Answer::Done), "ok\n"),
         (Ok(Answer::Refused(Errno::ESRCH)), "err 3\n"),
         (Ok(Answer::Refused(Errno::EHOSTUNREACH)), "err 65\n"),
+        (Ok(Answer::Size(u64::MAX)), "size 18446744073709551615\n"),
         (two(rt.alloc())?, TWO_TEXT),
         (Err(Bad), "bad\n"),
     ];

@@ -54,3 +54,30 @@ returns-clause-loopback_on c = refl
 pub returns-clause-loopback_off : goal.returns-clause-loopback_off
 unfolding digits
 returns-clause-loopback_off c = refl
+
+pub returns-clause-remove_address : goal.returns-clause-remove_address
+unfolding digits
+returns-clause-remove_address c = refl
+
+pub returns-clause-packet : goal.returns-clause-packet
+unfolding digits
+returns-clause-packet c = refl
+
+pub returns-clause-redirect : goal.returns-clause-redirect
+unfolding digits
+returns-clause-redirect c = refl
+
+pub returns-clause-dump_size : goal.returns-clause-dump_size
+returns-clause-dump_size c = refl
+
+pub returns-clause-flags_size : goal.returns-clause-flags_size
+unfolding encode_with
+returns-clause-flags_size c = refl
+
+pub returns-clause-dump : goal.returns-clause-dump
+unfolding digits
+returns-clause-dump c = refl
+
+pub returns-clause-flags : goal.returns-clause-flags
+unfolding digits encode_with
+returns-clause-flags c = refl

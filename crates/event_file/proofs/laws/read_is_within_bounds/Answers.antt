@@ -5,7 +5,7 @@ use Rattle.event_file.specs.Grammar.{said_by}
 use Rattle.event_file.specs.Lines.{most_line_bytes}
 use Rattle.event_file.specs.Printed.{IsWithinBounds, ReadIsWithinBounds}
 use Rattle.event_file.specs.Words.{parted_by}
-use Rattle.event_file.proofs.ReadWords.{said_by-says}
+use Rattle.event_file.proofs.ReadForms.{said_by-says}
 use Rattle.event_file.proofs.laws.read_is_within_bounds.Goals as goal
 
 said : ReadIsWithinBounds

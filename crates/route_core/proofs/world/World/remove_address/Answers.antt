@@ -1,0 +1,41 @@
+use Rattle.std.proofs.Common.{ap, sym}
+use Rattle.route_ops.proofs.Keeping.{are_kept}
+use Rattle.route_ops.specs.Standing.{AreOf}
+use Rattle.route_core.specs.World.{World}
+use Rattle.route_core.proofs.Effecting.{address_gone, address_gone_with}
+use Rattle.route_core.proofs.world.World.remove_address.Goals as goal
+use Rattle.route_core.proofs.world.World.remove_address.Goals.{in-Some, in_default-withdraw_route}
+
+pub invariant_of-self-2 : goal.invariant_of-self-2
+invariant_of-self-2 c =
+    let interfaces = c.self.inside.interfaces in
+    let are : AreOf interfaces c.withdraw_route.new.table.entries =
+    c.withdraw_route.ensures.of interfaces c.self.invariant in
+    elim c.match-withdraw_route.branch [
+      | in-Some b ↦ rw b.self-inside-is
+          (are_kept _ _ _ (rw b.self-inside-is at c.remove_addr.ensures.keeps) are)
+      | in_default-withdraw_route b ↦ rw b.self-inside-is
+          (are_kept _ _ _ (rw b.self-inside-is at c.remove_addr.ensures.keeps) are)
+    ]
+
+pub returns : goal.returns
+returns c =
+    let w : World = record {
+      table = c.self.inside.table.entries;
+      interfaces = c.self.inside.interfaces;
+      sockets = c.self.inside.listeners.sockets;
+    } in
+    rw (← c.self.view_is)
+    (elim c.match-withdraw_route.branch [
+      | in-Some b ↦ rw b.self-inside-is
+          (address_gone_with w c.args.name c.args.address c.in-Ok.ifa c.facts-facts.result b.in-Some.route _ _ _
+          (sym c.in-Ok.ensures.found) c.facts-facts.ensures (sym b.in-Some.ensures.withdrawn) b.in-Some.ensures.without
+          (rw b.self-inside-is at c.remove_addr.ensures.removed)
+          (rw c.in-Ok-reserve.ensures.ok at b.renounce.ensures))
+      | in_default-withdraw_route b ↦ rw b.self-inside-is
+          (address_gone w c.args.name c.args.address c.in-Ok.ifa c.facts-facts.result _ _ _
+          (sym c.in-Ok.ensures.found) c.facts-facts.ensures (sym b.in_default-withdraw_route.ensures.withdrawn)
+          b.in_default-withdraw_route.ensures.kept
+          (rw b.self-inside-is at c.remove_addr.ensures.removed)
+          (ap (λ l. l.sockets) c.in-Ok-reserve.ensures.ok))
+    ])

@@ -1,0 +1,47 @@
+//! Dumps of the table.
+ghost use Rattle.std.specs.Prelude.{◌≡◌};
+ghost use Rattle.route_core.specs.Step.{IsStep, Steps, size_to_ask as size_to_ask_of};
+ghost use Rattle.route_core.specs.declared.command.Command.TheVariants.{Dump, DumpSize};
+
+use crate::{Answer, Received, World};
+use sock_addrs::Errno;
+use table_dump::{dump_into, total};
+
+impl World {
+    /// How many bytes to ask for a dump of all routes, or of those with a flag of the filter: as many as it takes and
+    /// a tenth more, or `u64::MAX`. It wants no memory.
+    #[tactic(auto, unfolding(crate::specs::Step::effect, crate::specs::Step::takes_memory))]
+    pub fn dump_size(&mut self, filter: Option<u32>) -> Answer
+        ensures { IsStep self.old (DumpSize filter) result self.new }
+    {
+        let mut visits = self.table.begin();
+        Answer::Size(size_to_ask(total(&self.table, &mut visits, filter)))
+    }
+
+    /// Dumps all routes, or those with a flag of the filter, into so many bytes: as many whole messages from the front
+    /// as fit, and ENOMEM beside them where they are not all. Refused by ENOBUFS: there is no memory.
+    #[tactic(auto, unfolding(crate::specs::Step::effect, crate::specs::Step::takes_memory))]
+    pub fn dump(&mut self, filter: Option<u32>, room: u32) -> Answer
+        ensures { Steps self.old (Dump filter room) result self.new }
+    {
+        let mut visits = self.table.begin();
+        match dump_into(
+            self.alloc,
+            &self.table,
+            &self.interfaces,
+            &mut visits,
+            room,
+            filter,
+        ) {
+            Ok((bytes, left_out)) => Answer::Messages(Received::new(bytes), left_out),
+            Err(_) => Answer::Refused(Errno::ENOBUFS),
+        }
+    }
+}
+
+/// As many bytes and a tenth more, rounded down, or `u64::MAX` where they are more.
+fn size_to_ask(total: u64) -> u64
+    ensures { result ≡ size_to_ask_of total }
+{
+    u64::try_from(u128::from(total) * 11 / 10).unwrap_or(u64::MAX)
+}

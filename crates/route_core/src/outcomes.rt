@@ -1,0 +1,253 @@
+//! The requests that writes make, carried out.
+ghost use Rattle.std.specs.Prelude.{◌≡◌, ◌⊎◌, ◌≤◌, ℕ, List, [], length, None, Ok, Err, IfOk, IfSome, OnErr, MatchResult};
+ghost use Rattle.if_addrs.specs.Interfaces.{IsOf};
+ghost use Rattle.listeners.specs.Queue.{IsMessage};
+ghost use Rattle.route_msgs.specs.Headers.{header_in};
+ghost use Rattle.route_ops.specs.Adding.{add as add_of};
+ghost use Rattle.route_ops.specs.Changing.{change as change_of, lock as lock_of};
+ghost use Rattle.route_ops.specs.Deleting.{doomed, got};
+ghost use Rattle.route_ops.specs.Standing.{AreOf, KeepsAreOf};
+ghost use Rattle.sock_addrs.specs.declared.errno.Errno.TheVariants.{ENOBUFS};
+ghost use Rattle.route_core.specs.Outcomes.{outcome_with};
+ghost use Rattle.route_core.specs.Requests.{adding_outcome, delete_outcome, done_reply, get_outcome, interface_shown, lock_outcome, outcome_of};
+
+use crate::messages::{Shown, route_got};
+use crate::request::{Asked, Request};
+use arrayvec::ArrayVec;
+use if_addrs::{IfaRef, Interfaces};
+use mask_table::Prefix;
+use radix_tree::Table;
+use route_entries::Route;
+use route_msgs::Header;
+use route_ops::{
+    Change, NewRoute, Notice, finish, prepare, request_add, request_change, request_delete,
+    request_get, request_lock,
+};
+use sock_addrs::{Errno, Inet};
+
+/// What a request that was done made.
+#[derive(Drop)]
+pub(crate) struct Done {
+    /// The messages before its reply, in order.
+    pub(crate) notices: ArrayVec<Notice, 2>,
+    /// The reply, where it isn't the written message.
+    pub(crate) reply: Option<ArrayVec<u8, 256>>,
+}
+
+impl Done {
+    /// It told these messages, and its reply is the written one.
+    fn told(notices: ArrayVec<Notice, 2>) -> Done
+        ensures notices { result.notices ≡ notices }
+        ensures reply { result.reply ≡ None }
+    {
+        Done {
+            notices,
+            reply: None,
+        }
+    }
+
+    /// It told nothing but the reply.
+    fn quiet(reply: Option<ArrayVec<u8, 256>>) -> Done
+        ensures notices { result.notices.items ≡ [] }
+        ensures reply { result.reply ≡ reply }
+    {
+        Done {
+            notices: ArrayVec::new(),
+            reply,
+        }
+    }
+}
+
+/// Carries out what a process asks. Refused as the calls of `route_ops` say, or by ENOBUFS for want of memory, and no
+/// route is changed then.
+pub(crate) fn carry_out(
+    table: &mut Table<Route>,
+    interfaces: &Interfaces,
+    asked: &Asked,
+    pid: u32,
+) -> Result<Done, Errno>
+    requires of { AreOf interfaces.now table.old.entries }
+    ensures outcome { (m : List ℕ) → asked.now.header ≡ header_in m → MatchResult result
+        (λ d. outcome_of interfaces.now table.old.entries pid m asked.now.request
+        ≡ Ok (outcome_with pid m table.new.entries d.notices.items d.reply))
+        (λ e. (outcome_of interfaces.now table.old.entries pid m asked.now.request ≡ Err e) ⊎ (e ≡ ENOBUFS)) }
+    ensures kept { OnErr result (table.new.entries ≡ table.old.entries) }
+    ensures few { IfOk result (λ d. length d.notices.items ≤ 1) }
+    ensures message { IfOk result (λ d. IfSome d.reply (λ reply. IsMessage reply.items)) }
+    ensures most { IfOk result (λ d. IfSome d.reply (λ reply. length reply.items ≤ 256)) }
+    ensures of { AreOf interfaces.now table.new.entries }
+{
+    match &asked.request {
+        Request::Add(route) => add(table, interfaces, route),
+        Request::Delete {
+            key,
+            netmask,
+            flags,
+        } => delete(table, *key, *netmask, *flags),
+        Request::Change(wanted) => change(table, interfaces, wanted),
+        Request::Lock {
+            destination,
+            netmask,
+            inits,
+            locks,
+        } => lock(table, *destination, *netmask, *inits, *locks),
+        Request::Get {
+            destination,
+            shows_interface,
+        } => get(
+            table,
+            interfaces,
+            &asked.header,
+            pid,
+            *destination,
+            *shows_interface,
+        ),
+    }
+}
+
+/// Adds a route. Refused as `request_add`, or by ENOBUFS for want of memory.
+fn add(table: &mut Table<Route>, interfaces: &Interfaces, asked: &NewRoute) -> Result<Done, Errno>
+    requires of { AreOf interfaces.now table.old.entries }
+    ensures outcome { (pid : ℕ) (m : List ℕ) → MatchResult result
+        (λ d. adding_outcome (done_reply pid m) (add_of asked.now interfaces.now table.old.entries)
+        ≡ Ok (outcome_with pid m table.new.entries d.notices.items d.reply))
+        (λ e. (adding_outcome (done_reply pid m) (add_of asked.now interfaces.now table.old.entries) ≡ Err e)
+        ⊎ (e ≡ ENOBUFS)) }
+    ensures kept { OnErr result (table.new.entries ≡ table.old.entries) }
+    ensures few { IfOk result (λ d. length d.notices.items ≤ 1) }
+    ensures echoed { IfOk result (λ d. d.reply ≡ None) }
+    ensures of { AreOf interfaces.now table.new.entries }
+{
+    let Ok(mut spare) = prepare(table) else {
+        return Err(Errno::ENOBUFS);
+    };
+    let added = request_add(table, interfaces, &mut spare, asked);
+    finish(table, spare);
+    match added {
+        Ok(added) => Ok(Done::told(added.messages)),
+        Err(errno) => Err(errno),
+    }
+}
+
+/// Changes a route. Refused as `request_change`, or by ENOBUFS for want of memory.
+fn change(table: &mut Table<Route>, interfaces: &Interfaces, asked: &Change) -> Result<Done, Errno>
+    requires of { AreOf interfaces.now table.old.entries }
+    ensures outcome { (pid : ℕ) (m : List ℕ) → MatchResult result
+        (λ d. adding_outcome (done_reply pid m) (change_of asked.now interfaces.now table.old.entries)
+        ≡ Ok (outcome_with pid m table.new.entries d.notices.items d.reply))
+        (λ e. (adding_outcome (done_reply pid m) (change_of asked.now interfaces.now table.old.entries) ≡ Err e)
+        ⊎ (e ≡ ENOBUFS)) }
+    ensures kept { OnErr result (table.new.entries ≡ table.old.entries) }
+    ensures few { IfOk result (λ d. length d.notices.items ≤ 1) }
+    ensures echoed { IfOk result (λ d. d.reply ≡ None) }
+    ensures of { AreOf interfaces.now table.new.entries }
+{
+    let Ok(mut spare) = prepare(table) else {
+        return Err(Errno::ENOBUFS);
+    };
+    let changed = request_change(table, interfaces, &mut spare, asked);
+    finish(table, spare);
+    match changed {
+        Ok(changed) => Ok(Done::told(changed.messages)),
+        Err(errno) => Err(errno),
+    }
+}
+
+/// Deletes a route. Refused as `request_delete`.
+fn delete(
+    table: &mut Table<Route>,
+    key: Inet,
+    netmask: Option<Prefix>,
+    flags: u16,
+) -> Result<Done, Errno>
+    ensures outcome { (pid : ℕ) (m : List ℕ) → MatchResult result
+        (λ d. delete_outcome table.old.entries (done_reply pid m) (doomed key netmask flags table.old.entries)
+        ≡ Ok (outcome_with pid m table.new.entries d.notices.items d.reply))
+        (λ e. delete_outcome table.old.entries (done_reply pid m) (doomed key netmask flags table.old.entries)
+        ≡ Err e) }
+    ensures kept { OnErr result (table.new.entries ≡ table.old.entries) }
+    ensures none { IfOk result (λ d. d.notices.items ≡ []) }
+    ensures echoed { IfOk result (λ d. d.reply ≡ None) }
+    ensures of { KeepsAreOf table.old.entries table.new.entries }
+{
+    match request_delete(table, key, netmask, flags) {
+        Ok(_) => Ok(Done::quiet(None)),
+        Err(errno) => Err(errno),
+    }
+}
+
+/// Locks and unlocks metrics of a route. Refused as `request_lock`.
+fn lock(
+    table: &mut Table<Route>,
+    destination: Inet,
+    netmask: Option<Prefix>,
+    inits: u32,
+    locks: u32,
+) -> Result<Done, Errno>
+    ensures outcome { (pid : ℕ) (m : List ℕ) → MatchResult result
+        (λ d. lock_outcome table.old.entries (done_reply pid m)
+        (lock_of destination netmask inits locks table.old.entries)
+        ≡ Ok (outcome_with pid m table.new.entries d.notices.items d.reply))
+        (λ e. lock_outcome table.old.entries (done_reply pid m)
+        (lock_of destination netmask inits locks table.old.entries)
+        ≡ Err e) }
+    ensures kept { OnErr result (table.new.entries ≡ table.old.entries) }
+    ensures none { IfOk result (λ d. d.notices.items ≡ []) }
+    ensures echoed { IfOk result (λ d. d.reply ≡ None) }
+    ensures of { KeepsAreOf table.old.entries table.new.entries }
+{
+    match request_lock(table, destination, netmask, inits, locks) {
+        Ok(_) => Ok(Done::quiet(None)),
+        Err(errno) => Err(errno),
+    }
+}
+
+/// Shows a route, with its interface where that is asked for. Refused as `request_get`.
+fn get(
+    table: &mut Table<Route>,
+    interfaces: &Interfaces,
+    header: &Header,
+    pid: u32,
+    destination: Inet,
+    shows_interface: bool,
+) -> Result<Done, Errno>
+    requires of { AreOf interfaces.now table.old.entries }
+    ensures outcome { (m : List ℕ) → header.now ≡ header_in m → MatchResult result
+        (λ d. get_outcome interfaces.now table.old.entries pid m shows_interface (got destination table.old.entries)
+        ≡ Ok (outcome_with pid m table.new.entries d.notices.items d.reply))
+        (λ e. get_outcome interfaces.now table.old.entries pid m shows_interface (got destination table.old.entries)
+        ≡ Err e) }
+    ensures message { IfOk result (λ d. IfSome d.reply (λ reply. IsMessage reply.items)) }
+    ensures most { IfOk result (λ d. IfSome d.reply (λ reply. length reply.items ≤ 256)) }
+    ensures none { IfOk result (λ d. d.notices.items ≡ []) }
+    ensures kept { table.new.entries ≡ table.old.entries }
+{
+    let mut visits = table.begin();
+    let route = match request_get(table, &mut visits, destination) {
+        Ok(route) => route,
+        Err(errno) => return Err(errno),
+    };
+    let shown = shown(interfaces, header.index, route.value.ifa, shows_interface);
+    Ok(Done::quiet(Some(route_got(header, pid, &shown, &route))))
+}
+
+/// What a GET shows of the interface of a route: that interface where it is asked for, and otherwise the written
+/// number.
+fn shown(interfaces: &Interfaces, written: u16, ifa: IfaRef, shows_interface: bool) -> Shown
+    requires { IsOf ifa interfaces.now }
+    ensures { result ≡ interface_shown interfaces.now written ifa shows_interface }
+{
+    if !shows_interface {
+        return Shown {
+            index: written,
+            ifp: None,
+            ifa: None,
+        };
+    }
+    let index = interfaces.interface_of(ifa);
+    Shown {
+        index,
+        ifp: Some(interfaces.link_text(index)),
+        ifa: Some(interfaces.text_of(ifa)),
+    }
+}

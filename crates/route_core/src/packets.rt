@@ -1,0 +1,85 @@
+//! Packets.
+ghost use Rattle.std.specs.Prelude.{◌≡◌};
+ghost use Rattle.if_addrs.specs.Interfaces.{IsOf};
+ghost use Rattle.route_core.specs.Packets.{choice_of, fate_of, rejection_of};
+ghost use Rattle.route_core.specs.Step.{Steps};
+ghost use Rattle.route_core.specs.declared.command.Command.TheVariants.{Packet};
+
+use crate::telling::{MOST_TOLD, tell};
+use crate::{Answer, Choice, World};
+use if_addrs::Interfaces;
+use radix_tree::Entry;
+use route_entries::Route;
+use route_msgs::flags::{RTF_BLACKHOLE, RTF_HOST, RTF_REJECT};
+use route_ops::{count_use, finish, known_route, look_up, prepare};
+use sock_addrs::{Errno, Gate, Inet};
+
+impl World {
+    /// Finds the route of a packet to this address, which clones where it has to, and counts its use. A packet that
+    /// finds none is refused by EHOSTUNREACH; one whose route is a blackhole is dropped; one whose route rejects is
+    /// refused by EHOSTUNREACH where that is a host's, and otherwise by ENETUNREACH. ENOBUFS: there is no memory,
+    /// which is asked for only where the packet finds no route or one that clones.
+    #[tactic(auto, unfolding(crate::specs::Step::effect, crate::specs::Step::takes_memory))]
+    pub fn packet(&mut self, destination: Inet) -> Answer
+        ensures { Steps self.old (Packet destination) result self.new }
+    {
+        let mut visits = self.table.begin();
+        if let Some(route) = known_route(&self.table, &mut visits, destination) {
+            count_use(&mut self.table, &route);
+            return fate(&self.interfaces, &route);
+        }
+        let Ok(()) = self.listeners.reserve(MOST_TOLD) else {
+            return Answer::Refused(Errno::ENOBUFS);
+        };
+        let Ok(mut spare) = prepare(&mut self.table) else {
+            return Answer::Refused(Errno::ENOBUFS);
+        };
+        let looked = look_up(&mut self.table, &mut spare, Gate::Inet(destination), true);
+        finish(&mut self.table, spare);
+        tell(&mut self.listeners, &looked.messages);
+        let Some(route) = looked.answer else {
+            return Answer::Refused(Errno::EHOSTUNREACH);
+        };
+        count_use(&mut self.table, &route);
+        fate(&self.interfaces, &route)
+    }
+}
+
+/// What becomes of a packet by its route.
+fn fate(interfaces: &Interfaces, route: &Entry<Route>) -> Answer
+    requires { IsOf route.now.value.ifa interfaces.now }
+    ensures { result ≡ fate_of interfaces.now route.now }
+{
+    if route.value.has(RTF_BLACKHOLE) {
+        return Answer::Dropped(choice(interfaces, route));
+    }
+    if route.value.has(RTF_REJECT) {
+        return Answer::Refused(rejection(&route.value));
+    }
+    Answer::Routed(choice(interfaces, route))
+}
+
+/// Why a route that rejects refuses a packet.
+fn rejection(route: &Route) -> Errno
+    ensures { result ≡ rejection_of route.now }
+{
+    if route.has(RTF_HOST) {
+        Errno::EHOSTUNREACH
+    } else {
+        Errno::ENETUNREACH
+    }
+}
+
+/// What is told of the route that a packet takes.
+fn choice(interfaces: &Interfaces, route: &Entry<Route>) -> Choice
+    requires { IsOf route.now.value.ifa interfaces.now }
+    ensures { result ≡ choice_of interfaces.now route.now }
+{
+    Choice {
+        key: route.key,
+        rank: route.rank,
+        gateway: route.value.gateway,
+        index: interfaces.interface_of(route.value.ifa),
+        flags: route.value.flags,
+    }
+}

@@ -1,0 +1,45 @@
+//! The words of the command line, of which the first is the program's name.
+ghost use Rattle.std.specs.Prelude.{◌≡◌, [], IfErr, IfOk, map, option_map};
+ghost use Rattle.std.specs.String.{string_bytes};
+ghost use Rattle.route_main.specs.CommandLine.{faults_of, file_of};
+ghost use Rattle.route_main.specs.declared.program.refusal.Refusal.TheVariants.{NoMemory};
+
+use super::Refusal;
+use clap::{Arg, Command};
+use std::alloc::Global;
+use std::env;
+use std::env::Env;
+use std::io::ErrorKind;
+
+/// The words of this process. They can't be had where one is not text.
+pub(super) fn words_of<R: Env + AllocGlobal>(rt: &R) -> Result<Vec<String>, Refusal> {
+    let given = match env::args(rt) {
+        Ok(given) => given,
+        Err(error) => match error.kind() {
+            ErrorKind::OutOfMemory => return Err(Refusal::NoMemory),
+            _ => return Err(Refusal::Usage),
+        },
+    };
+    let mut words = Vec::new(rt.alloc());
+    for word in given {
+        let Ok(()) = words.push(word) else {
+            return Err(Refusal::NoMemory);
+        };
+    }
+    Ok(words)
+}
+
+/// The FILE that the words name, or `None` where they name none. A word that begins with `-` and has more is an option, and
+/// refused; a first `--` is none and ends the options; `-` is a file of that name.
+pub(super) fn file_named<'a>(alloc: Global, words: &'a [String]) -> Result<Option<&'a str>, Refusal>
+    ensures named { IfOk result (λ file. option_map (λ f. f.now) file ≡ file_of (map string_bytes words.entry.now)) }
+    ensures right { IfOk result (λ _. faults_of (map string_bytes words.entry.now) ≡ []) }
+    ensures no_memory { IfErr result (λ refusal. faults_of (map string_bytes words.entry.now) ≡ [] → refusal ≡ NoMemory) }
+{
+    let file = Arg::new(alloc, "FILE");
+    let command = Command::new(alloc, "routesim")
+        .disable_help_flag(true)
+        .arg(file)?;
+    let matches = command.try_get_matches_from(words)?;
+    Ok(matches.get_str("FILE"))
+}
