@@ -11,6 +11,8 @@
  *   PIECE=n          each read gives at most n bytes
  *   NEWLINES=1       each read gives one newline, for ever
  *
+ * Reads are those of standard input, or where READS_OF=n says so of the file that is open as n.
+ *
  * A copy does well where it writes no more to standard output, frees all that was allocated, and ends with status 5.
  *
  * COUNTS names a file that is written when the program ends by itself: lines of a name and a number, in the order of
@@ -36,6 +38,7 @@ extern void *__libc_memalign(size_t alignment, size_t size);
 extern void __libc_free(void *block);
 
 static unsigned long refuse_alloc, refuse_from, fail_read, fail_writes, empty_writes, one_byte, piece, newlines;
+static unsigned long reads_of;
 static unsigned long faults, allocations, blocks, bytes, most_bytes, reads, least_room, most_room, writes;
 static unsigned long copies, copies_well, first_wrong;
 /* Whether this process is a copy, and has written since. */
@@ -57,6 +60,7 @@ __attribute__((constructor)) static void read_settings(void)
 	one_byte = setting("ONE_BYTE");
 	piece = setting("PIECE");
 	newlines = setting("NEWLINES");
+	reads_of = setting("READS_OF");
 	alarm(MOST_SECONDS);
 }
 
@@ -131,7 +135,7 @@ void free(void *block)
 
 ssize_t read(int file, void *room, size_t size)
 {
-	if (file != STDIN_FILENO)
+	if (file < 0 || (unsigned long)file != reads_of)
 		return syscall(SYS_read, file, room, size);
 	reads++;
 	if (reads == 1 || size < least_room)

@@ -33,6 +33,16 @@ def run_seed(sweep, seed):
     claim_made(sweep, f"seed {seed}", any_script(seed))
 
 
+def run_refused(sweep, seed):
+    """A refused line leaves the table as it was, but a packet, which is counted before its route refuses it."""
+    lines, dump = answered_lines(any_script(seed)), b"dump 4294967295\n"
+    got = answers(sweep.run(dump + b"".join(line + b"\n" + dump for line in lines)).wrote)
+    dumps, told = got[::2], got[1::2]
+    refused = [at for at, answer in enumerate(told) if answer[:3] == b"err" and lines[at][:6] != b"packet"]
+    holds = len(told) == len(lines) and len(set(dumps)) > 1 and all(dumps[at] == dumps[at + 1] for at in refused)
+    sweep.claim(f"seed {seed}: refused lines change no route", bool(refused) and holds)
+
+
 def run_each_form(sweep):
     claim_made(sweep, "each form", each_form())
 
@@ -77,7 +87,7 @@ def run_lengths(sweep, kind, first):
 
 def jobs():
     """The sweeps of this module, in parts that can run side by side."""
-    yield from ((run_seed, seed) for seed in SEEDS)
+    yield from ((job, seed) for job in (run_seed, run_refused) for seed in SEEDS)
     for kind in (GET, OLDADD):
         yield from ((run_lengths, kind, first) for first in range(0, MOST_WRITE + 1, LENGTHS_A_SCRIPT))
     yield from ((job,) for job in (run_each_form, run_prefixes, run_names_and_links, run_cuts, run_fronts))

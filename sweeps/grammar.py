@@ -10,7 +10,7 @@ from typing import Callable
 from messages import ADDRESSES, PREFIXES, any_link, any_message
 from runs import MOST_LINE
 
-ON = {"first", "kinds", "listeners"}
+ON = {"first", "kinds", "listeners", "packet", "dump", "route", "redirect"}
 
 
 @dataclass(frozen=True)
@@ -64,6 +64,7 @@ IDS = [*["a"] * 12, "b", "b", "b", "c", "z", "0", "9", *("s0cket19"[:size] for s
 BYTES = ["0", "1", "6", "9", "10", "24", "99", "100", "199", "200", "249", "250", "255"]
 NUMBERS = ["0", "1", "9", "10", "100", "65536", "4294967294", "4294967295"]
 FLAGS = ["0", "1", "4", "5", "103", "907", "F", "ffff", "00000001", "FFFFFFFF"]
+VERBS = ["add", "add", "add", "delete", "change", "get", "lock"]
 # Texts that no such word has.
 NO_NAMES = ["", "A", "le_0", "123456789", "le0.", "\x7f", "{", "`", "/", ":"]
 NO_INETS = ["10.0.0", "1.0.0.1.2", "10.0.0.256", "1.0.0.01", "1.0..1", "1.2.3.1000", ".1.0.0.1", "1.0.0.1.", "0x.0.0.1"]
@@ -84,8 +85,7 @@ WORDS = {
     "FLAGS": Word("[0-9a-fA-F]{1,8}", some(*FLAGS), ["", "123456789", "g", "0x1", "-"]),
     "GATE": Word(GATE, any_gate, ["link:", "link:-", "link:" + "0812" * 4, *NO_INETS]),
     "DEST": Word(f"default|{INET}(?:/(?:{up_to(32)}))?", any_dest, ["", "default/0", "1.0.0.0/33", "1./", *NO_INETS]),
-    "VERB": Word("add|delete|get", some("add", "add", "delete", "get"), ["", "ADD", "ad", "adds", "put"]),
-    "LATER": Word("change|lock", some("change", "lock"), ["", "Lock", "chang", "locks"]),
+    "VERB": Word("add|delete|change|get|lock", some(*VERBS), ["", "ADD", "ad", "adds", "put", "Lock", "chang"]),
 }
 
 METRICS = ["mtu", "hopcount", "expire", "recvpipe", "sendpipe", "ssthresh", "rtt", "rttvar"]
@@ -107,12 +107,13 @@ LINES = [
     ("dump", "flags FLAGS NUMBER"),
     ("dump", "flags FLAGS ask"),
     ("route", "route ID NUMBER VERB DEST" + OPTIONS),
-    ("change", "route ID NUMBER LATER DEST" + OPTIONS),
     ("listeners", "loopback ID on"),
     ("listeners", "loopback ID off"),
     ("listeners", "close ID"),
     ("redirect", "redirect INET INET INET"),
     ("redirect", "unaddr NAME INET"),
+    ("lost", "lost ID"),
+    ("losing", "losing INET"),
 ]
 
 

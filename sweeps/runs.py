@@ -4,9 +4,10 @@ import threading
 from dataclasses import dataclass
 from pathlib import Path
 
-DONE, BAD_LINE, READ_FAULT, WRITE_FAULT, NO_MEMORY = 0, 3, 4, 5, 6
+DONE, USAGE, BAD_LINE, READ_FAULT, WRITE_FAULT, NO_MEMORY = 0, 2, 3, 4, 5, 6
 FAULT_TEXT = {
     DONE: b"",
+    USAGE: b"routesim: usage\n",
     BAD_LINE: b"routesim: bad line\n",
     READ_FAULT: b"routesim: read fault\n",
     WRITE_FAULT: b"routesim: write fault\n",
@@ -63,8 +64,9 @@ class Sweep:
         faults = {name.upper(): str(value) for name, value in faults.items()}
         return {"LD_PRELOAD": ":".join(map(str, self.libraries)), **faults}
 
-    def run(self, script, **faults):
-        """Runs a script, which is a file: so a read gives all the bytes that it has room for."""
+    def run(self, script, words=(), program=None, **faults):
+        """Runs a script on standard input, which is a file: so a read gives all the bytes that it has room for. `words`
+        stand behind the program's name; another program may stand in its place."""
         room = Path(self.folder, str(threading.get_ident()))
         room.mkdir(exist_ok=True)
         given, wrote, error, counts = (room / name for name in ("given", "wrote", "error", "counts"))
@@ -72,8 +74,8 @@ class Sweep:
         given.write_bytes(script)
         files = [(given, os.O_RDONLY), *((path, os.O_WRONLY | os.O_CREAT | os.O_TRUNC) for path in (wrote, error))]
         actions = [(os.POSIX_SPAWN_OPEN, number, path, flags, 0o600) for number, (path, flags) in enumerate(files)]
-        environment = self.environment(counts=counts, **faults)
-        process = os.posix_spawn(self.program, [self.program], environment, file_actions=actions)
+        environment, program = self.environment(counts=counts, **faults), program or self.program
+        process = os.posix_spawn(program, [program, *words], environment, file_actions=actions)
         status = os.waitstatus_to_exitcode(os.waitpid(process, 0)[1])
         return Ran(wrote.read_bytes(), status, error.read_bytes(), read_counts(counts))
 

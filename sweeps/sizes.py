@@ -16,6 +16,14 @@ def build_a_long_table(sweep):
     sweep.claim("a long table", ran.told() == told and ran.left_nothing())
 
 
+def add_a_thousand_routes(sweep):
+    """A thousand routes are added in words, one after another; the dump's size is theirs."""
+    lines = [f"route a {n} add 30.{n >> 8}.{n & 255}.0/24 via 10.0.0.2 flags 803\n" for n in range(1_000)]
+    ran = sweep.run((START + "".join(lines) + "dump ask\n").encode())
+    told = b"ok\n" * 1003 + b"size 127846\n", DONE, b""
+    sweep.claim("a thousand routes", ran.told() == told and ran.left_nothing())
+
+
 A_GET = message(GET, {DST: inet("10.9.9.9")}).hex()
 OF_NO_TYPE = message(OLDADD, {DST: inet("10.9.9.9")}).hex()
 
@@ -40,6 +48,9 @@ ROUNDS = [
     ("packet", "packet 11.0.0.1\nread a\n"),
     ("dump", "dump 100000\nflags 1 0\n"),
     ("route", "route a 1 add 30.0.0.0/8 via 10.0.0.5\nroute a 2 delete 30.0.0.0/8\nread a\n"),
+    ("route", "route a 1 change 10.0.0.0/8 mtu 9\nroute a 2 lock 10.0.0.0/8 inits 1 locks 1\nread a\n"),
+    ("redirect", "redirect 10.0.0.9 11.0.0.1 10.0.0.1\nread a\n"),
+    ("redirect", "unaddr le0 10.0.0.7\nunaddr ed9 10.0.0.9\n"),
 ]
 
 

@@ -1,8 +1,10 @@
 """A trial of the sweeps themselves: the program is made wrong, and a sweep that looks for that has to fail."""
 import generated
+import leaks
 import memory
 import sizes
 import streams
+import words
 from generator import SEEDS
 from messages import OLDADD
 from runs import Sweep
@@ -12,7 +14,7 @@ from runs import Sweep
 RIGHT = "right"
 
 
-def trials(examples):
+def trials(examples, tests):
     """What is wrong, the sweep that has to notice it, and what that sweep is given."""
     empty, one_get, bad = (examples[name] for name in ("empty-script", "one-get", "bad-lines"))
     yield "deaf", memory.refuse_each_allocation, empty
@@ -45,6 +47,13 @@ def trials(examples):
     yield "lies", generated.run_seed, SEEDS[0]
     yield "lies", generated.run_fronts
     yield "lies", streams.read_in_pieces, bad
+    yield "deaf", words.refuse_memory_of_words
+    yield "deaf", words.read_a_file, one_get
+    yield "blind", words.refuse_memory_of_words
+    yield "confused", words.refuse_memory_of_words
+    yield "leaks", words.read_words
+    yield "hasty", words.read_a_file, one_get
+    yield from (("leaks", leaks.run_tests, each) for each in tests if each.name == "radix_nodes_tests")
 
 
 class Wrong(Sweep):
@@ -65,7 +74,7 @@ def run_trial(sweep, wrongs, wrong, job, *given):
     sweep.claim(f"trial of {job.__name__}: {wrong}", (wrong == RIGHT) != bool(tried.failed) and tried.claims() > 0)
 
 
-def jobs(wrongs, examples):
-    tried = [*trials(examples)]
+def jobs(wrongs, examples, tests):
+    tried = [*trials(examples, tests)]
     yield from ((run_trial, wrongs, *each) for each in tried)
     yield from ((run_trial, wrongs, RIGHT, *each) for each in dict.fromkeys(tuple(each) for _, *each in tried))
