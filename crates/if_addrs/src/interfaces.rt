@@ -72,9 +72,7 @@ impl Interfaces {
     {
         self.check_attach(name)?;
         let interface = Interface::new(self.alloc, name, kind, type_number, link.as_slice());
-        if self.interfaces.push(interface).is_err() {
-            return Err(Errno::ENOBUFS);
-        }
+        self.interfaces.push(interface)?;
         Ok(())
     }
 
@@ -137,13 +135,9 @@ impl Interfaces {
         let at = place_of(&self.interfaces, name).unwrap();
         let interface = &mut self.interfaces[at];
         let address = Address::new(number, interface.kind(), address, prefix, cloning, far);
-        match interface.add(address) {
-            Ok(()) => {
-                self.added = number;
-                Ok(IfaRef::Inet(number))
-            }
-            Err(_) => Err(Errno::ENOBUFS),
-        }
+        interface.add(address)?;
+        self.added = number;
+        Ok(IfaRef::Inet(number))
     }
 
     /// The address that the interface of this name holds. ENXIO: no interface has the name; EADDRNOTAVAIL: it doesn't

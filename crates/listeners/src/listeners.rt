@@ -57,9 +57,7 @@ impl Listeners {
     {
         self.check_listen(id)?;
         let socket = Socket::open(id, pid, protocol, Queue::new(self.alloc));
-        if self.sockets.push(socket).is_err() {
-            return Err(Errno::ENOBUFS);
-        }
+        self.sockets.push(socket)?;
         self.reserved = 0;
         Ok(())
     }
@@ -132,9 +130,7 @@ impl Listeners {
         ensures refused { IfErr result (λ e. e ≡ Errno.ENOBUFS) }
         ensures kept { OnErr result (self.new ≡ self.old) }
     {
-        if socket::reserve(&mut self.sockets, n).is_err() {
-            return Err(Errno::ENOBUFS);
-        }
+        socket::reserve(&mut self.sockets, n)?;
         self.reserved = n;
         Ok(())
     }

@@ -9,6 +9,7 @@ pub mod RefusalLaws
 pub mod Requests
 pub mod Step
 pub mod Telling
+pub mod Tried
 pub mod Undisturbed
 pub mod World
 pub mod Worlds

@@ -19,6 +19,8 @@ use Rattle.route_msgs.specs.Headers.{header_in}
 use Rattle.route_msgs.specs.Layout.{field, with_field}
 use Rattle.route_msgs.specs.Slots.{address_in, has_length, has_room, has_version}
 use Rattle.route_msgs.specs.declared.kinds.TheConstants.{RTM_ADD, RTM_CHANGE, RTM_DELETE, RTM_GET, RTM_LOCK}
+use Rattle.route_msgs.specs.declared.parsed.MsgErr.{MsgErr}
+use Rattle.route_msgs.specs.declared.parsed.MsgErr.TheVariants as fault
 use Rattle.route_ops.specs.declared.adding.NewRoute.{NewRoute}
 use Rattle.route_ops.specs.declared.changing.Change.{Change as Changing}
 use Rattle.route_core.specs.declared.refusal.Refusal.{Refusal}
@@ -90,6 +92,12 @@ request_rules m family =
     ∷ refused_if (lacks_gateway m) EINVAL (Some family)
     ∷ refused_if (not (family == AF_INET)) ESRCH (Some family)
     ∷ []
+
+-- what is wrong with a message as a whole
+abbrev pub refusal_of : MsgErr → Refusal
+refusal_of fault.Length = record { errno = EINVAL; family = None }
+refusal_of fault.Version = record { errno = EPROTONOSUPPORT; family = Some 0 }
+refusal_of fault.Overrun = record { errno = EINVAL; family = Some 0 }
 
 -- the reasons that lie in the message itself
 abbrev pub message_rules : List ℕ → List (Rule Refusal)

@@ -1,12 +1,14 @@
 //! Addresses of interfaces that come and go.
 ghost use Rattle.std.specs.Prelude.{◌≡◌, ◌≤◌};
 ghost use Rattle.if_addrs.specs.Interfaces.{IsOf};
+ghost use Rattle.route_core.specs.Tried.{done_or_refused as answer_of};
 ghost use Rattle.route_core.specs.Step.{Steps, announced, renounced};
 ghost use Rattle.route_core.specs.Telling.{delivered_all};
 ghost use Rattle.route_core.specs.declared.command.Command.TheVariants.{AddAddress, RemoveAddress};
 
 use crate::messages::{address_message, route_added, route_deleted};
 use crate::telling::MOST_TOLD;
+use crate::tried::done_or_refused;
 use crate::{Answer, World};
 use if_addrs::{Facts, IfaRef, Interfaces};
 use listeners::Listeners;
@@ -24,7 +26,6 @@ impl World {
     /// EINVAL: the other end's address is given and the interface is not point-to-point, or it is and the address is
     /// not given; EADDRINUSE: an interface holds the address; ENOSPC: 65,535 addresses were added; ENOBUFS: there is
     /// no memory; EEXIST: the route is there, and the address stays without one.
-    #[tactic(auto, using(route_ops::proofs::Keeping::are_kept, route_ops::proofs::Keeping::added_of), unfolding(crate::specs::Step::effect, crate::specs::Step::takes_memory))]
     pub fn add_address(
         &mut self,
         name: Name,
@@ -35,17 +36,24 @@ impl World {
     ) -> Answer
         ensures { Steps self.old (AddAddress name address prefix cloning far) result self.new }
     {
+        done_or_refused(self.try_add_address(name, address, prefix, cloning, far))
+    }
+
+    #[tactic(auto, using(route_ops::proofs::Keeping::are_kept, route_ops::proofs::Keeping::added_of), unfolding(crate::specs::Step::effect, crate::specs::Step::takes_memory))]
+    fn try_add_address(
+        &mut self,
+        name: Name,
+        address: Inet,
+        prefix: Prefix,
+        cloning: bool,
+        far: Option<Inet>,
+    ) -> Result<(), Errno>
+        ensures { Steps self.old (AddAddress name address prefix cloning far) (answer_of result) self.new }
+    {
         let other_end = far;
-        if let Err(errno) = self.interfaces.check_addr(name, address, other_end) {
-            return Answer::Refused(errno);
-        }
-        let Ok(room) = self.table.room() else {
-            return Answer::Refused(Errno::ENOBUFS);
-        };
-        let Ok(()) = self.listeners.reserve(MOST_TOLD) else {
-            self.table.give_back(room);
-            return Answer::Refused(Errno::ENOBUFS);
-        };
+        self.interfaces.check_addr(name, address, other_end)?;
+        self.listeners.reserve(MOST_TOLD)?;
+        let room = self.table.room()?;
         let ifa = match self
             .interfaces
             .add_addr(name, address, prefix, cloning, far)
@@ -53,14 +61,14 @@ impl World {
             Ok(ifa) => ifa,
             Err(errno) => {
                 self.table.give_back(room);
-                return Answer::Refused(errno);
+                return Err(errno);
             }
         };
         let facts = self.interfaces.facts(ifa);
         let route = route_of_address(ifa, address, &facts);
         if let Err((room, _)) = self.table.add(room, route.key, route.rank, route.value) {
             self.table.give_back(room);
-            return Answer::Refused(Errno::EEXIST);
+            return Err(Errno::EEXIST);
         }
         announce(
             &self.interfaces,
@@ -70,24 +78,25 @@ impl World {
             &route,
         );
         self.interfaces.mark_routed(ifa);
-        Answer::Done
+        Ok(())
     }
 
     /// Removes an address of an interface: no search finds it any more, and a route that leads out of it keeps it. The
     /// route that it brought goes with it, unless another address of an interface has that by now; where one goes, the
     /// sockets hear of both. Refused in this order: ENXIO: there is no such interface; EADDRNOTAVAIL: it doesn't have
     /// the address; ENOBUFS: there is no memory.
-    #[tactic(auto, unfolding(crate::specs::Step::effect, crate::specs::Step::takes_memory))]
     pub fn remove_address(&mut self, name: Name, address: Inet) -> Answer
         ensures { Steps self.old (RemoveAddress name address) result self.new }
     {
-        let ifa = match self.interfaces.find_addr(name, address) {
-            Ok(ifa) => ifa,
-            Err(errno) => return Answer::Refused(errno),
-        };
-        let Ok(()) = self.listeners.reserve(MOST_TOLD) else {
-            return Answer::Refused(Errno::ENOBUFS);
-        };
+        done_or_refused(self.try_remove_address(name, address))
+    }
+
+    #[tactic(auto, unfolding(crate::specs::Step::effect, crate::specs::Step::takes_memory))]
+    fn try_remove_address(&mut self, name: Name, address: Inet) -> Result<(), Errno>
+        ensures { Steps self.old (RemoveAddress name address) (answer_of result) self.new }
+    {
+        let ifa = self.interfaces.find_addr(name, address)?;
+        self.listeners.reserve(MOST_TOLD)?;
         let facts = self.interfaces.facts(ifa);
         if let Some(route) = withdraw_route(&mut self.table, ifa, address, &facts) {
             renounce(
@@ -100,7 +109,7 @@ impl World {
             );
         }
         self.interfaces.remove_addr(ifa);
-        Answer::Done
+        Ok(())
     }
 }
 

@@ -1,8 +1,10 @@
 //! Dumps of the table.
 ghost use Rattle.std.specs.Prelude.{◌≡◌};
+ghost use Rattle.route_core.specs.Tried.{answer_to as answer_of};
 ghost use Rattle.route_core.specs.Step.{IsStep, Steps, size_to_ask as size_to_ask_of};
 ghost use Rattle.route_core.specs.declared.command.Command.TheVariants.{Dump, DumpSize};
 
+use crate::tried::answer_to;
 use crate::{Answer, Received, World};
 use sock_addrs::Errno;
 use table_dump::{dump_into, total};
@@ -20,22 +22,26 @@ impl World {
 
     /// Dumps all routes, or those with a flag of the filter, into so many bytes: as many whole messages from the front
     /// as fit, and ENOMEM beside them where they are not all. Refused by ENOBUFS: there is no memory.
-    #[tactic(auto, unfolding(crate::specs::Step::effect, crate::specs::Step::takes_memory))]
     pub fn dump(&mut self, filter: Option<u32>, room: u32) -> Answer
         ensures { Steps self.old (Dump filter room) result self.new }
     {
+        answer_to(self.try_dump(filter, room))
+    }
+
+    #[tactic(auto, unfolding(crate::specs::Step::effect, crate::specs::Step::takes_memory))]
+    fn try_dump(&mut self, filter: Option<u32>, room: u32) -> Result<Answer, Errno>
+        ensures { Steps self.old (Dump filter room) (answer_of result) self.new }
+    {
         let mut visits = self.table.begin();
-        match dump_into(
+        let (bytes, left_out) = dump_into(
             self.alloc,
             &self.table,
             &self.interfaces,
             &mut visits,
             room,
             filter,
-        ) {
-            Ok((bytes, left_out)) => Answer::Messages(Received::new(bytes), left_out),
-            Err(_) => Answer::Refused(Errno::ENOBUFS),
-        }
+        )?;
+        Ok(Answer::Messages(Received::new(bytes), left_out))
     }
 }
 

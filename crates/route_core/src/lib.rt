@@ -16,6 +16,7 @@ mod request;
 mod telling;
 #[cfg(test)]
 mod tests;
+mod tried;
 mod world;
 mod writes;
 mod written;

@@ -118,15 +118,10 @@ fn add(table: &mut Table<Route>, interfaces: &Interfaces, asked: &NewRoute) -> R
     ensures echoed { IfOk result (λ d. d.reply ≡ None) }
     ensures of { AreOf interfaces.now table.new.entries }
 {
-    let Ok(mut spare) = prepare(table) else {
-        return Err(Errno::ENOBUFS);
-    };
+    let mut spare = prepare(table)?;
     let added = request_add(table, interfaces, &mut spare, asked);
     finish(table, spare);
-    match added {
-        Ok(added) => Ok(Done::told(added.messages)),
-        Err(errno) => Err(errno),
-    }
+    Ok(Done::told(added?.messages))
 }
 
 /// Changes a route. Refused as `request_change`, or by ENOBUFS for want of memory.
@@ -142,15 +137,10 @@ fn change(table: &mut Table<Route>, interfaces: &Interfaces, asked: &Change) -> 
     ensures echoed { IfOk result (λ d. d.reply ≡ None) }
     ensures of { AreOf interfaces.now table.new.entries }
 {
-    let Ok(mut spare) = prepare(table) else {
-        return Err(Errno::ENOBUFS);
-    };
+    let mut spare = prepare(table)?;
     let changed = request_change(table, interfaces, &mut spare, asked);
     finish(table, spare);
-    match changed {
-        Ok(changed) => Ok(Done::told(changed.messages)),
-        Err(errno) => Err(errno),
-    }
+    Ok(Done::told(changed?.messages))
 }
 
 /// Deletes a route. Refused as `request_delete`.
@@ -170,10 +160,8 @@ fn delete(
     ensures echoed { IfOk result (λ d. d.reply ≡ None) }
     ensures of { KeepsAreOf table.old.entries table.new.entries }
 {
-    match request_delete(table, key, netmask, flags) {
-        Ok(_) => Ok(Done::quiet(None)),
-        Err(errno) => Err(errno),
-    }
+    request_delete(table, key, netmask, flags)?;
+    Ok(Done::quiet(None))
 }
 
 /// Locks and unlocks metrics of a route. Refused as `request_lock`.
@@ -196,10 +184,8 @@ fn lock(
     ensures echoed { IfOk result (λ d. d.reply ≡ None) }
     ensures of { KeepsAreOf table.old.entries table.new.entries }
 {
-    match request_lock(table, destination, netmask, inits, locks) {
-        Ok(_) => Ok(Done::quiet(None)),
-        Err(errno) => Err(errno),
-    }
+    request_lock(table, destination, netmask, inits, locks)?;
+    Ok(Done::quiet(None))
 }
 
 /// Shows a route, with its interface where that is asked for. Refused as `request_get`.

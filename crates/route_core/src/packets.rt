@@ -1,11 +1,13 @@
 //! Packets.
 ghost use Rattle.std.specs.Prelude.{◌≡◌};
 ghost use Rattle.if_addrs.specs.Interfaces.{IsOf};
+ghost use Rattle.route_core.specs.Tried.{answer_to as answer_of};
 ghost use Rattle.route_core.specs.Packets.{choice_of, fate_of, rejection_of};
 ghost use Rattle.route_core.specs.Step.{Steps};
 ghost use Rattle.route_core.specs.declared.command.Command.TheVariants.{Packet};
 
 use crate::telling::{MOST_TOLD, tell};
+use crate::tried::answer_to;
 use crate::{Answer, Choice, World};
 use if_addrs::Interfaces;
 use radix_tree::Entry;
@@ -19,29 +21,29 @@ impl World {
     /// finds none is refused by EHOSTUNREACH; one whose route is a blackhole is dropped; one whose route rejects is
     /// refused by EHOSTUNREACH where that is a host's, and otherwise by ENETUNREACH. ENOBUFS: there is no memory,
     /// which is asked for only where the packet finds no route or one that clones.
-    #[tactic(auto, unfolding(crate::specs::Step::effect, crate::specs::Step::takes_memory))]
     pub fn packet(&mut self, destination: Inet) -> Answer
         ensures { Steps self.old (Packet destination) result self.new }
+    {
+        answer_to(self.try_packet(destination))
+    }
+
+    #[tactic(auto, unfolding(crate::specs::Step::effect, crate::specs::Step::takes_memory))]
+    fn try_packet(&mut self, destination: Inet) -> Result<Answer, Errno>
+        ensures { Steps self.old (Packet destination) (answer_of result) self.new }
     {
         let mut visits = self.table.begin();
         if let Some(route) = known_route(&self.table, &mut visits, destination) {
             count_use(&mut self.table, &route);
-            return fate(&self.interfaces, &route);
+            return Ok(fate(&self.interfaces, &route));
         }
-        let Ok(()) = self.listeners.reserve(MOST_TOLD) else {
-            return Answer::Refused(Errno::ENOBUFS);
-        };
-        let Ok(mut spare) = prepare(&mut self.table) else {
-            return Answer::Refused(Errno::ENOBUFS);
-        };
+        self.listeners.reserve(MOST_TOLD)?;
+        let mut spare = prepare(&mut self.table)?;
         let looked = look_up(&mut self.table, &mut spare, Gate::Inet(destination), true);
         finish(&mut self.table, spare);
         tell(&mut self.listeners, &looked.messages);
-        let Some(route) = looked.answer else {
-            return Answer::Refused(Errno::EHOSTUNREACH);
-        };
+        let route = looked.answer.ok_or(Errno::EHOSTUNREACH)?;
         count_use(&mut self.table, &route);
-        fate(&self.interfaces, &route)
+        Ok(fate(&self.interfaces, &route))
     }
 }
 

@@ -1,8 +1,10 @@
 //! Redirects.
+ghost use Rattle.route_core.specs.Tried.{done_or_refused as answer_of};
 ghost use Rattle.route_core.specs.Step.{Steps};
 ghost use Rattle.route_core.specs.declared.command.Command.TheVariants.{Redirect};
 
 use crate::telling::{MOST_TOLD, tell};
+use crate::tried::done_or_refused;
 use crate::{Answer, NewGateway, World};
 use route_ops::{finish, prepare, redirect};
 use sock_addrs::Errno;
@@ -11,22 +13,24 @@ impl World {
     /// Follows a redirect, of which the sockets hear in each case but want of memory. Refused in the order of
     /// `route_ops::redirect`, by ENETUNREACH, EINVAL, EHOSTUNREACH and EEXIST, and no route is changed then. ENOBUFS:
     /// there is no memory.
-    #[tactic(auto, unfolding(crate::specs::Step::effect, crate::specs::Step::takes_memory))]
     pub fn redirect(&mut self, asked: &NewGateway) -> Answer
         ensures { Steps self.old (Redirect asked.now) result self.new }
     {
-        let Ok(()) = self.listeners.reserve(MOST_TOLD) else {
-            return Answer::Refused(Errno::ENOBUFS);
-        };
-        let Ok(mut spare) = prepare(&mut self.table) else {
-            return Answer::Refused(Errno::ENOBUFS);
-        };
+        done_or_refused(self.try_redirect(asked))
+    }
+
+    #[tactic(auto, unfolding(crate::specs::Step::effect, crate::specs::Step::takes_memory))]
+    fn try_redirect(&mut self, asked: &NewGateway) -> Result<(), Errno>
+        ensures { Steps self.old (Redirect asked.now) (answer_of result) self.new }
+    {
+        self.listeners.reserve(MOST_TOLD)?;
+        let mut spare = prepare(&mut self.table)?;
         let redirected = redirect(&mut self.table, &self.interfaces, &mut spare, asked);
         finish(&mut self.table, spare);
         tell(&mut self.listeners, &redirected.messages);
         match redirected.errno {
-            Some(errno) => Answer::Refused(errno),
-            None => Answer::Done,
+            Some(errno) => Err(errno),
+            None => Ok(()),
         }
     }
 }

@@ -1,5 +1,6 @@
 ghost use Rattle.std.specs.Prelude.{◌≡◌, Some, None};
 
+use route_msgs::MsgErr;
 use sock_addrs::Errno;
 
 /// Why a write is refused, and who hears of it.
@@ -29,6 +30,23 @@ impl Refusal {
         Refusal {
             errno,
             family: Some(family),
+        }
+    }
+}
+
+/// What is wrong with a message as a whole: nobody hears of one without its length, and those of all families of another
+/// version and of an address that overruns.
+impl From<MsgErr> for Refusal {
+    ghost use Rattle.std.specs.Prelude.{◌≡◌};
+    ghost use Rattle.route_core.specs.Writes.{refusal_of};
+
+    ghost from_gives = { λ fault r. r ≡ refusal_of fault };
+
+    fn from(fault: MsgErr) -> Refusal {
+        match fault {
+            MsgErr::Length => Refusal::silent(Errno::EINVAL),
+            MsgErr::Version => Refusal::heard(Errno::EPROTONOSUPPORT, 0),
+            MsgErr::Overrun => Refusal::heard(Errno::EINVAL, 0),
         }
     }
 }

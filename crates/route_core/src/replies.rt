@@ -57,8 +57,8 @@ fn done_reply(bytes: &[u8], header: &Header, pid: u32) -> ArrayVec<u8, 8192>
     reply
 }
 
-/// Delivers the reply to a refused write of this socket to those who hear the family. It stands apart since the room of a
-/// reply is cleared wherever one is made.
+/// Delivers the reply to a refused write of this socket to those who hear the family. It stands apart since the room of
+/// a reply is cleared wherever one is made.
 #[inline(never)]
 pub(crate) fn deliver_refusal(
     listeners: &mut Listeners,

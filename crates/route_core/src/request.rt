@@ -13,7 +13,7 @@ ghost use Rattle.route_core.specs.Writes.{destination as destination_in, gate_in
 use crate::refusal::Refusal;
 use mask_table::Prefix;
 use route_msgs::kinds::{RTM_ADD, RTM_CHANGE, RTM_DELETE, RTM_GET, RTM_LOCK};
-use route_msgs::{Header, MsgErr, Parsed, read_message};
+use route_msgs::{Header, Parsed, read_message};
 use route_ops::{Change, NewRoute};
 use sock_addrs::{BadAddr, Errno, Gate, Inet, family_of, read_gate, read_inet, read_mask};
 
@@ -82,15 +82,11 @@ impl Asked {
         if bytes.len() > MOST_BYTES {
             return Err(Refusal::silent(Errno::EMSGSIZE));
         }
-        let message = match read_message(bytes) {
-            Ok(message) => message,
-            Err(MsgErr::Length) => return Err(Refusal::silent(Errno::EINVAL)),
-            Err(MsgErr::Version) => return Err(Refusal::heard(Errno::EPROTONOSUPPORT, 0)),
-            Err(MsgErr::Overrun) => return Err(Refusal::heard(Errno::EINVAL, 0)),
-        };
-        let Some(sockaddr) = sockaddr_at(&message, bytes, RTAX_DST) else {
-            return Err(Refusal::heard(Errno::EINVAL, 0));
-        };
+        let message = read_message(bytes)?;
+        let sockaddr = sockaddr_at(&message, bytes, RTAX_DST).ok_or(Refusal::heard(
+            Errno::EINVAL,
+            0,
+        ))?;
         let header = message.header;
         match Request::read(&message, bytes, sockaddr) {
             Ok(request) => Ok(Asked { header, request }),
@@ -112,15 +108,9 @@ impl Request {
         ensures refused { IfErr result (λ e. first_fault (request_rules bytes.now (family_byte sockaddr.now))
             ≡ Some (record { errno = e; family = Some (family_byte sockaddr.now) })) }
     {
-        let Some(destination) = destination_at(sockaddr) else {
-            return Err(Errno::EINVAL);
-        };
-        let Some(gates) = Gates::read(message, bytes) else {
-            return Err(Errno::EINVAL);
-        };
-        let Some(masks) = Masks::read(message, bytes) else {
-            return Err(Errno::EINVAL);
-        };
+        let destination = destination_at(sockaddr).ok_or(Errno::EINVAL)?;
+        let gates = Gates::read(message, bytes).ok_or(Errno::EINVAL)?;
+        let masks = Masks::read(message, bytes).ok_or(Errno::EINVAL)?;
         let header = message.header;
         if !is_request(header.kind) {
             return Err(Errno::EOPNOTSUPP);
@@ -128,10 +118,8 @@ impl Request {
         if header.kind == RTM_ADD && gates.gateway.is_none() {
             return Err(Errno::EINVAL);
         }
-        match destination {
-            Some(destination) => Ok(by_type(&header, destination, &gates, &masks)),
-            None => Err(Errno::ESRCH),
-        }
+        let destination = destination.ok_or(Errno::ESRCH)?;
+        Ok(by_type(&header, destination, &gates, &masks))
     }
 }
 

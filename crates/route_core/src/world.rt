@@ -1,15 +1,17 @@
 ghost use Rattle.std.specs.Prelude.{◌≡◌, ◌≤◌, ℕ, List, length, IfOk};
 ghost use Rattle.route_ops.specs.Standing.{brought};
+ghost use Rattle.route_core.specs.Tried.{answer_to as answer_of};
 ghost use Rattle.route_core.specs.World.{empty_world};
 ghost use Rattle.route_core.specs.Step.{IsStep, Steps, effect};
 ghost use Rattle.route_core.specs.declared.command.Command.TheVariants.{Attach, Close, Loopback, Open, Read};
 
+use crate::tried::{answer_to, done_or_refused};
 use crate::{Answer, Command, Kind, LinkAddress, Received, Said};
 use if_addrs::Interfaces;
 use listeners::Listeners;
 use radix_tree::Table;
 use route_entries::Route;
-use sock_addrs::Name;
+use sock_addrs::{Errno, Name};
 use std::alloc::{AllocError, Global};
 use std::marker::Model;
 
@@ -95,10 +97,7 @@ impl World {
     pub fn attach(&mut self, name: Name, kind: Kind, type_number: u8, link: &LinkAddress) -> Answer
         ensures { Steps self.old (Attach name kind type_number link.now) result self.new }
     {
-        if let Err(errno) = self.interfaces.attach(name, kind, type_number, link) {
-            return Answer::Refused(errno);
-        }
-        Answer::Done
+        done_or_refused(self.interfaces.attach(name, kind, type_number, link))
     }
 
     /// Opens a socket. EEXIST: the id is open; EMFILE: 64 sockets are open; ENOBUFS: there is no memory.
@@ -106,10 +105,7 @@ impl World {
     pub fn listen(&mut self, id: Name, pid: u32, protocol: u8) -> Answer
         ensures { Steps self.old (Open id pid protocol) result self.new }
     {
-        if let Err(errno) = self.listeners.listen(id, pid, protocol) {
-            return Answer::Refused(errno);
-        }
-        Answer::Done
+        done_or_refused(self.listeners.listen(id, pid, protocol))
     }
 
     /// Closes a socket; its queue goes with it. EBADF: it isn't open. It wants no memory.
@@ -117,10 +113,7 @@ impl World {
     pub fn shut(&mut self, id: Name) -> Answer
         ensures { IsStep self.old (Close id) result self.new }
     {
-        if let Err(errno) = self.listeners.shut(id) {
-            return Answer::Refused(errno);
-        }
-        Answer::Done
+        done_or_refused(self.listeners.shut(id))
     }
 
     /// Whether a socket hears the replies to its own writes. EBADF: it isn't open. It wants no memory.
@@ -128,21 +121,21 @@ impl World {
     pub fn set_loopback(&mut self, id: Name, on: bool) -> Answer
         ensures { IsStep self.old (Loopback id on) result self.new }
     {
-        if let Err(errno) = self.listeners.set_loopback(id, on) {
-            return Answer::Refused(errno);
-        }
-        Answer::Done
+        done_or_refused(self.listeners.set_loopback(id, on))
     }
 
     /// Takes the messages that a socket has heard. EBADF: it isn't open. It wants no memory.
-    #[tactic(auto, unfolding(crate::specs::Step::effect, crate::specs::Step::takes_memory))]
     pub fn take(&mut self, id: Name) -> Answer
         ensures { IsStep self.old (Read id) result self.new }
     {
-        let bytes = match self.listeners.take(id) {
-            Ok(bytes) => bytes,
-            Err(errno) => return Answer::Refused(errno),
-        };
-        Answer::Messages(Received::new(bytes), None)
+        answer_to(self.try_take(id))
+    }
+
+    #[tactic(auto, unfolding(crate::specs::Step::effect, crate::specs::Step::takes_memory))]
+    fn try_take(&mut self, id: Name) -> Result<Answer, Errno>
+        ensures { IsStep self.old (Read id) (answer_of result) self.new }
+    {
+        let bytes = self.listeners.take(id)?;
+        Ok(Answer::Messages(Received::new(bytes), None))
     }
 }

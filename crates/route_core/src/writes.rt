@@ -7,6 +7,7 @@ ghost use Rattle.route_core.specs.Effects.{EffectOr, IsEchoed, IsEffect};
 ghost use Rattle.route_core.specs.Outcomes.{reply_with};
 ghost use Rattle.route_core.specs.Requests.{outcome_of};
 ghost use Rattle.route_core.specs.Step.{Steps, refused_write, write_by_outcome};
+ghost use Rattle.route_core.specs.Tried.{done_or_refused as answer_of};
 ghost use Rattle.route_core.specs.declared.command.Command.TheVariants.{Write};
 
 use crate::outcomes::{Done, carry_out};
@@ -14,6 +15,7 @@ use crate::refusal::Refusal;
 use crate::replies::{deliver_done, deliver_refusal};
 use crate::request::Asked;
 use crate::telling::{MOST_MADE, tell};
+use crate::tried::done_or_refused;
 use crate::{Answer, World};
 use listeners::Listeners;
 use route_msgs::Header;
@@ -30,14 +32,17 @@ impl World {
     /// EINVAL where a route is to be added without a gateway; ESRCH where the destination is of another family; then
     /// as `route_ops` refuses the request. From EPROTONOSUPPORT on a refusal has a reply too, and ENOBUFS is answered
     /// where there is no memory, for a reply or for what is asked.
-    #[tactic(auto, unfolding(crate::specs::Step::effect, crate::specs::Step::takes_memory))]
     pub fn write(&mut self, id: Name, bytes: &[u8]) -> Answer
         ensures { Steps self.old (Write id bytes.now) result self.new }
     {
-        let pid = match self.listeners.pid_of(id) {
-            Ok(pid) => pid,
-            Err(errno) => return Answer::Refused(errno),
-        };
+        done_or_refused(self.try_write(id, bytes))
+    }
+
+    #[tactic(auto, unfolding(crate::specs::Step::effect, crate::specs::Step::takes_memory))]
+    fn try_write(&mut self, id: Name, bytes: &[u8]) -> Result<(), Errno>
+        ensures { Steps self.old (Write id bytes.now) (answer_of result) self.new }
+    {
+        let pid = self.listeners.pid_of(id)?;
         match Asked::read(bytes) {
             Ok(asked) => self.request(id, pid, bytes, &asked),
             Err(refusal) => self.refuse(id, pid, bytes, refusal),
@@ -45,47 +50,43 @@ impl World {
     }
 
     /// Carries out what a write asks, and delivers its messages and its reply.
-    fn request(&mut self, id: Name, pid: u32, bytes: &[u8], asked: &Asked) -> Answer
+    fn request(&mut self, id: Name, pid: u32, bytes: &[u8], asked: &Asked) -> Result<(), Errno>
         requires echoed { IsEchoed bytes.now }
         requires header { asked.now.header ≡ header_in bytes.now }
         ensures { EffectOr (write_by_outcome self.old id pid bytes.now
-            (outcome_of self.old.interfaces self.old.table pid bytes.now asked.now.request)) self.old result self.new }
+            (outcome_of self.old.interfaces self.old.table pid bytes.now asked.now.request))
+            self.old (answer_of result) self.new }
     {
-        let Ok(()) = self
-            .listeners
-            .reserve(MOST_MADE + bytes.len().max(MOST_MADE))
-        else {
-            return Answer::Refused(Errno::ENOBUFS);
-        };
+        self.listeners
+            .reserve(MOST_MADE + bytes.len().max(MOST_MADE))?;
         match carry_out(&mut self.table, &self.interfaces, asked, pid) {
             Ok(done) => {
                 tell(&mut self.listeners, &done.notices);
                 reply(&mut self.listeners, id, pid, bytes, &asked.header, &done);
-                Answer::Done
+                Ok(())
             }
-            Err(Errno::ENOBUFS) => Answer::Refused(Errno::ENOBUFS),
+            Err(Errno::ENOBUFS) => Err(Errno::ENOBUFS),
             Err(errno) => {
                 deliver_refusal(&mut self.listeners, id, pid, bytes, errno, AF_INET);
-                Answer::Refused(errno)
+                Err(errno)
             }
         }
     }
 
-    /// Answers that a write is refused, once its reply is delivered to those who hear of it.
-    fn refuse(&mut self, id: Name, pid: u32, bytes: &[u8], refusal: Refusal) -> Answer
+    /// Refuses a write, once its reply is delivered to those who hear of it.
+    fn refuse(&mut self, id: Name, pid: u32, bytes: &[u8], refusal: Refusal) -> Result<(), Errno>
         requires { IsSome refusal.family → IsEchoed bytes.now }
-        ensures effect { EffectOr (refused_write self.old id pid bytes.now refusal) self.old result self.new }
+        ensures effect { EffectOr (refused_write self.old id pid bytes.now refusal)
+            self.old (answer_of result) self.new }
         ensures silent { IsNone refusal.family
-            → IsEffect (refused_write self.old id pid bytes.now refusal) result self.new }
+            → IsEffect (refused_write self.old id pid bytes.now refusal) (answer_of result) self.new }
     {
         let Some(family) = refusal.family else {
-            return Answer::Refused(refusal.errno);
+            return Err(refusal.errno);
         };
-        let Ok(()) = self.listeners.reserve(bytes.len()) else {
-            return Answer::Refused(Errno::ENOBUFS);
-        };
+        self.listeners.reserve(bytes.len())?;
         deliver_refusal(&mut self.listeners, id, pid, bytes, refusal.errno, family);
-        Answer::Refused(refusal.errno)
+        Err(refusal.errno)
     }
 }
 

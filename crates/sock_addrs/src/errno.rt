@@ -1,6 +1,8 @@
 ghost use Rattle.std.specs.Prelude.{◌≡◌};
 ghost use Rattle.sock_addrs.specs.Errno.{errno_number};
 
+use std::alloc::{AllocError, AllocFailed};
+
 /// The reasons for which a command or a routing message is refused, spelled and numbered as in <sys/errno.h> of 4.4BSD.
 #[derive(Clone, Copy, Debug, PartialEq, Eq)]
 pub enum Errno {
@@ -46,5 +48,29 @@ impl Errno {
         ensures { result ≡ errno_number self }
     {
         self as u32
+    }
+}
+
+/// Want of memory is ENOBUFS.
+impl From<AllocError> for Errno {
+    ghost use Rattle.std.specs.Prelude.{◌≡◌};
+    ghost use Rattle.sock_addrs.specs.declared.errno.Errno.TheVariants.{ENOBUFS};
+
+    ghost from_gives = { λ _ e. e ≡ ENOBUFS };
+
+    fn from(_refused: AllocError) -> Errno {
+        Errno::ENOBUFS
+    }
+}
+
+/// Want of memory is ENOBUFS; what there was no room for is dropped.
+impl<T: Drop> From<AllocFailed<T>> for Errno {
+    ghost use Rattle.std.specs.Prelude.{◌≡◌};
+    ghost use Rattle.sock_addrs.specs.declared.errno.Errno.TheVariants.{ENOBUFS};
+
+    ghost from_gives = { λ _ e. e ≡ ENOBUFS };
+
+    fn from(_refused: AllocFailed<T>) -> Errno {
+        Errno::ENOBUFS
     }
 }

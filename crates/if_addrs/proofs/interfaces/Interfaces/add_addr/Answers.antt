@@ -4,37 +4,37 @@ use Rattle.if_addrs.specs.Interfaces.{Interface, addresses_of, has_name, has_num
 use Rattle.if_addrs.proofs.Adding.{is_named, added_is, numbered_is, there_is, stays_is}
 use Rattle.if_addrs.proofs.Keeping.{Stays, has_place, keeps_by, same_by}
 use Rattle.if_addrs.proofs.interfaces.Interfaces.add_addr.Goals as goal
-use Rattle.if_addrs.proofs.interfaces.Interfaces.add_addr.Goals.{In-Ok}
+use Rattle.if_addrs.proofs.interfaces.Interfaces.add_addr.Goals.{In_ok-add}
 
 pub unwrap-at-requires : goal.unwrap-at-requires
 unwrap-at-requires c =
     rw (c.place_of.ensures, c.deref.ensures.value, c.self.view_is) (has_place (has_name c.args.name) c.args.self.now (is_named c.args.name c.args.address c.args.far c.args.self.now c.requires))
 
 -- there is an interface of this name
-there : (c : In-Ok) → list_any (has_name c.args.name) c.self.inside.interfaces.items ≡ true
+there : (c : In_ok-add) → list_any (has_name c.args.name) c.self.inside.interfaces.items ≡ true
 there c = ap (λ (xs : List Interface). list_any (has_name c.args.name) xs) c.self.view_is ∙ is_named c.args.name c.args.address c.args.far c.args.self.now c.requires
 
 -- it is changed to one with the new address
-changed : (c : In-Ok) → slice_set c.self.inside.interfaces.items c.unwrap-at.result c.add.new.self ≡ with_address c.args.name c.args.address c.args.prefix c.args.cloning c.args.far c.self.inside.interfaces.items
+changed : (c : In_ok-add) → slice_set c.self.inside.interfaces.items c.unwrap-at.result c.add.new.self ≡ with_address c.args.name c.args.address c.args.prefix c.args.cloning c.args.far c.self.inside.interfaces.items
 changed c =
     let items = c.self.inside.interfaces.items in
     let place : position (has_name c.args.name) items ≡ Some c.unwrap-at.result = ap (λ (xs : List Interface). position (has_name c.args.name) xs) (sym c.deref.ensures.value) ∙ sym c.place_of.ensures ∙ c.unwrap-at.ensures in
     added_is c.self.inside.added items c.args.name c.args.address c.args.prefix c.args.cloning c.args.far c.unwrap-at.result c.kind.result c.add.new.self c.index_mut-interface.result.now c.index_mut-interface.result.now c.new-address.result
-    place c.in-Ok.ensures.ok c.index_mut-interface.ensures.value c.kind.ensures c.new-address.ensures c.self.invariant.counted
+    place c.in_ok-add.ensures.ok c.index_mut-interface.ensures.value c.kind.ensures c.new-address.ensures c.self.invariant.counted
 
-pub invariant_of-self : goal.invariant_of-self
-invariant_of-self c =
-    let at = (goal.at.invariant_of-self c).In-Ok in
+pub invariant_of-self-2 : goal.invariant_of-self-2
+invariant_of-self-2 c =
+    let at = (goal.at.invariant_of-self-2 c).In_ok-add in
     rw (changed at) (numbered_is c.self.inside.added c.self.inside.interfaces.items c.args.name c.args.address c.args.prefix c.args.cloning c.args.far c.self.invariant (there at))
 
-pub returns-in-Ok-clause-added : goal.returns-in-Ok-clause-added
-returns-in-Ok-clause-added c =
-    changed (goal.at.returns-in-Ok-clause-added c).In-Ok
+pub returns-clause-added : goal.returns-clause-added
+returns-clause-added c =
+    changed (goal.at.returns-clause-added c).In_ok-add
     ∙ ap (λ (xs : List Interface). with_address c.args.name c.args.address c.args.prefix c.args.cloning c.args.far xs) c.self.view_is
 
-pub returns-in-Ok-clause-there : goal.returns-in-Ok-clause-there
-returns-in-Ok-clause-there c =
-    let at = (goal.at.returns-in-Ok-clause-there c).In-Ok in
+pub returns-clause-there : goal.returns-clause-there
+returns-clause-there c =
+    let at = (goal.at.returns-clause-there c).In_ok-add in
     let items = c.self.inside.interfaces.items in
     let next = with_address c.args.name c.args.address c.args.prefix c.args.cloning c.args.far items in
     ap (λ (is : List Interface). find (has_number (c.self.inside.added + 1)) (addresses_of is)) (changed at)
@@ -42,13 +42,13 @@ returns-in-Ok-clause-there c =
     ∙ there_is c.self.inside.added items c.args.name c.args.address c.args.prefix c.args.cloning c.args.far c.self.invariant (there at)
     ∙ ap (λ (xs : List Interface). Some (new_address (added xs + 1) (kind_of c.args.name xs) c.args.address c.args.prefix c.args.cloning c.args.far)) c.self.view_is
 
-stays : (c : In-Ok) → Stays c.self.inside.interfaces.items (with_address c.args.name c.args.address c.args.prefix c.args.cloning c.args.far c.self.inside.interfaces.items)
+stays : (c : In_ok-add) → Stays c.self.inside.interfaces.items (with_address c.args.name c.args.address c.args.prefix c.args.cloning c.args.far c.self.inside.interfaces.items)
 stays c = stays_is c.self.inside.added c.self.inside.interfaces.items c.args.name c.args.address c.args.prefix c.args.cloning c.args.far c.self.invariant (there c)
 
-pub returns-in-Ok-clause-keeps : goal.returns-in-Ok-clause-keeps
-returns-in-Ok-clause-keeps c =
-    let at = (goal.at.returns-in-Ok-clause-keeps c).In-Ok in rw (changed at, ← c.self.view_is) (keeps_by c.self.inside.interfaces.items _ (stays at))
+pub returns-clause-keeps : goal.returns-clause-keeps
+returns-clause-keeps c =
+    let at = (goal.at.returns-clause-keeps c).In_ok-add in rw (changed at, ← c.self.view_is) (keeps_by c.self.inside.interfaces.items _ (stays at))
 
-pub returns-in-Ok-clause-same : goal.returns-in-Ok-clause-same
-returns-in-Ok-clause-same c =
-    let at = (goal.at.returns-in-Ok-clause-same c).In-Ok in rw (changed at, ← c.self.view_is) (same_by c.self.inside.interfaces.items _ (stays at))
+pub returns-clause-same : goal.returns-clause-same
+returns-clause-same c =
+    let at = (goal.at.returns-clause-same c).In_ok-add in rw (changed at, ← c.self.view_is) (same_by c.self.inside.interfaces.items _ (stays at))

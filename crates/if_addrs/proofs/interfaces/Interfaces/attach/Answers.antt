@@ -3,13 +3,13 @@ use Rattle.if_addrs.specs.Interfaces.{Interface, attach_fault, attached}
 use Rattle.if_addrs.proofs.Numbers.{numbered_attached, room_left}
 use Rattle.if_addrs.proofs.Keeping.{keeps_by, same_by, stays_attached}
 use Rattle.if_addrs.proofs.interfaces.Interfaces.attach.Goals as goal
-use Rattle.if_addrs.proofs.interfaces.Interfaces.attach.Goals.{Else-is_err}
+use Rattle.if_addrs.proofs.interfaces.Interfaces.attach.Goals.{In_ok-push}
 
 -- the interface as it is attached
-abbrev new : Else-is_err → Interface
+abbrev new : In_ok-push → Interface
 new c = attached c.args.name c.args.kind c.args.type_number c.args.link.now
 
-pushed : (c : Else-is_err) → c.push.new.self.items ≡ c.args.self.now ++ new c ∷ []
+pushed : (c : In_ok-push) → c.push.new.self.items ≡ c.args.self.now ++ new c ∷ []
 pushed c = search rules
 
 pub invariant_of-self-2 : goal.invariant_of-self-2

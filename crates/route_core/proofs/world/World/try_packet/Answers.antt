@@ -1,5 +1,5 @@
 use Rattle.route_ops.specs.Standing.{AreOf}
-use Rattle.route_core.proofs.world.World.packet.Goals as goal
+use Rattle.route_core.proofs.world.World.try_packet.Goals as goal
 
 pub invariant_of-self : goal.invariant_of-self
 invariant_of-self c =

@@ -3,8 +3,8 @@ use Rattle.route_ops.proofs.Keeping.{are_kept}
 use Rattle.route_ops.specs.Standing.{AreOf}
 use Rattle.route_core.specs.World.{World}
 use Rattle.route_core.proofs.Effecting.{address_gone, address_gone_with}
-use Rattle.route_core.proofs.world.World.remove_address.Goals as goal
-use Rattle.route_core.proofs.world.World.remove_address.Goals.{in-Some, in_default-withdraw_route}
+use Rattle.route_core.proofs.world.World.try_remove_address.Goals as goal
+use Rattle.route_core.proofs.world.World.try_remove_address.Goals.{in-Some, in_default}
 
 pub invariant_of-self-2 : goal.invariant_of-self-2
 invariant_of-self-2 c =
@@ -14,7 +14,7 @@ invariant_of-self-2 c =
     elim c.match-withdraw_route.branch [
       | in-Some b ↦ rw b.self-inside-is
           (are_kept _ _ _ (rw b.self-inside-is at c.remove_addr.ensures.keeps) are)
-      | in_default-withdraw_route b ↦ rw b.self-inside-is
+      | in_default b ↦ rw b.self-inside-is
           (are_kept _ _ _ (rw b.self-inside-is at c.remove_addr.ensures.keeps) are)
     ]
 
@@ -28,14 +28,14 @@ returns c =
     rw (← c.self.view_is)
     (elim c.match-withdraw_route.branch [
       | in-Some b ↦ rw b.self-inside-is
-          (address_gone_with w c.args.name c.args.address c.in-Ok.ifa c.facts-facts.result b.in-Some.route _ _ _
-          (sym c.in-Ok.ensures.found) c.facts-facts.ensures (sym b.in-Some.ensures.withdrawn) b.in-Some.ensures.without
+          (address_gone_with w c.args.name c.args.address c.in_ok-ifa.ifa c.facts-facts.result b.in-Some.route _ _ _
+          (sym c.in_ok-ifa.ensures.found) c.facts-facts.ensures (sym b.in-Some.ensures.withdrawn) b.in-Some.ensures.without
           (rw b.self-inside-is at c.remove_addr.ensures.removed)
-          (rw c.in-Ok-reserve.ensures.ok at b.renounce.ensures))
-      | in_default-withdraw_route b ↦ rw b.self-inside-is
-          (address_gone w c.args.name c.args.address c.in-Ok.ifa c.facts-facts.result _ _ _
-          (sym c.in-Ok.ensures.found) c.facts-facts.ensures (sym b.in_default-withdraw_route.ensures.withdrawn)
-          b.in_default-withdraw_route.ensures.kept
+          (rw c.in_ok-reserve.ensures.ok at b.renounce.ensures))
+      | in_default b ↦ rw b.self-inside-is
+          (address_gone w c.args.name c.args.address c.in_ok-ifa.ifa c.facts-facts.result _ _ _
+          (sym c.in_ok-ifa.ensures.found) c.facts-facts.ensures (sym b.in_default.ensures.withdrawn)
+          b.in_default.ensures.kept
           (rw b.self-inside-is at c.remove_addr.ensures.removed)
-          (ap (λ l. l.sockets) c.in-Ok-reserve.ensures.ok))
+          (ap (λ l. l.sockets) c.in_ok-reserve.ensures.ok))
     ])
