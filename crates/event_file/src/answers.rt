@@ -1,7 +1,7 @@
 ghost use Rattle.std.specs.Prelude.{◌≡◌, ◌≤◌, length, flat_map, OnOk, OnErr};
 ghost use Rattle.hex.specs.Hex.{encode_lower};
 ghost use Rattle.sock_addrs.specs.Errno.{errno_number};
-ghost use Rattle.event_file.specs.Answers.{last_line, message_line, refusal_line, response_text, size_line as line_of_size};
+ghost use Rattle.event_file.specs.Answers.{choice_line as line_of_choice, last_line, message_line, refusal_line, response_text, size_line as line_of_size};
 ghost use Rattle.event_file.specs.Output.{Wrote, WroteFront};
 ghost use Rattle.route_core.specs.Received.{cut, AreMessages};
 
@@ -9,7 +9,7 @@ use crate::choices::choice_line;
 use crate::output::write_bytes;
 use crate::{Bad, Counted, Stopped};
 use arrayvec::ArrayVec;
-use route_core::{Answer, first_message};
+use route_core::{Answer, Choice, first_message};
 use sock_addrs::Errno;
 use std::io::Write;
 
@@ -33,10 +33,10 @@ pub fn write_answer<W: Write>(
 {
     match answer {
         Ok(Answer::Done) => write_bytes(b"ok\n", writer),
-        Ok(Answer::Refused(errno)) => write_bytes(&refusal(*errno), writer),
-        Ok(Answer::Routed(choice)) => write_bytes(&choice_line("via", choice), writer),
-        Ok(Answer::Dropped(choice)) => write_bytes(&choice_line("drop", choice), writer),
-        Ok(Answer::Size(size)) => write_bytes(&size_line(*size), writer),
+        Ok(Answer::Refused(errno)) => write_refusal(*errno, writer),
+        Ok(Answer::Routed(choice)) => write_choice("via", choice, writer),
+        Ok(Answer::Dropped(choice)) => write_choice("drop", choice, writer),
+        Ok(Answer::Size(size)) => write_size(*size, writer),
         Ok(Answer::Messages(received, left_out)) => {
             write_messages(received.as_bytes(), buffer, writer)?;
             write_last(*left_out, writer)
@@ -53,8 +53,46 @@ fn write_last<W: Write>(left_out: Option<Errno>, writer: &mut Counted<W>) -> Res
 {
     match left_out {
         None => write_bytes(b"ok\n", writer),
-        Some(errno) => write_bytes(&refusal(errno), writer),
+        Some(errno) => write_refusal(errno, writer),
     }
+}
+
+// The lines of a refusal, of a size and of a packet's route are each made in a function of their own that is not
+// inlined, since the room of a line is cleared wherever one is made.
+
+/// Writes the line of a refusal.
+#[inline(never)]
+fn write_refusal<W: Write>(errno: Errno, writer: &mut Counted<W>) -> Result<(), Stopped>
+    requires { writer.old.failures ≡ 0 }
+    ensures ok { OnOk result (Wrote W.contents writer.old writer.new (refusal_line (errno_number errno))) }
+    ensures err { OnErr result (WroteFront W.contents writer.old writer.new (refusal_line (errno_number errno))) }
+{
+    write_bytes(&refusal(errno), writer)
+}
+
+/// Writes the line of how many bytes to ask for a dump.
+#[inline(never)]
+fn write_size<W: Write>(size: u64, writer: &mut Counted<W>) -> Result<(), Stopped>
+    requires { writer.old.failures ≡ 0 }
+    ensures ok { OnOk result (Wrote W.contents writer.old writer.new (line_of_size size)) }
+    ensures err { OnErr result (WroteFront W.contents writer.old writer.new (line_of_size size)) }
+{
+    write_bytes(&size_line(size), writer)
+}
+
+/// Writes the line of a packet's route, behind what becomes of the packet.
+#[inline(never)]
+fn write_choice<W: Write>(
+    fate: &str,
+    choice: &Choice,
+    writer: &mut Counted<W>,
+) -> Result<(), Stopped>
+    requires fate { length fate.now ≤ 4 }
+    requires no_failure { writer.old.failures ≡ 0 }
+    ensures ok { OnOk result (Wrote W.contents writer.old writer.new (line_of_choice fate.now choice.now)) }
+    ensures err { OnErr result (WroteFront W.contents writer.old writer.new (line_of_choice fate.now choice.now)) }
+{
+    write_bytes(&choice_line(fate, choice), writer)
 }
 
 /// The line of a refusal.

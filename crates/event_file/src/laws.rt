@@ -68,7 +68,7 @@ pub fn printing_by_example()
     ensures write { line_of (Write (codes "a") (0x5c ∷ 0x00 ∷ [])) ≡ codes "write a 5c00" }
     ensures read { line_of (Read (codes "a")) ≡ codes "read a" }
     ensures packet { line_of (Packet 0x0a09_0909) ≡ codes "packet 10.9.9.9" }
-    ensures redirect { line_of (Redirect (record { destination = 0x0a09_0909; gateway = 0x0a00_0002; author = 0x0a00_0001 }))
+    ensures redirect { line_of (Redirect (record { destination = 0xa090909; gateway = 0xa000002; author = 0xa000001 }))
         ≡ codes "redirect 10.9.9.9 10.0.0.2 10.0.0.1" }
     ensures dump_size { line_of (DumpSize None) ≡ codes "dump ask" }
     ensures flags_size { line_of (DumpSize (Some 0x101)) ≡ codes "flags 00000101 ask" }
@@ -96,7 +96,7 @@ pub fn answers_by_example()
     }))
         ≡ codes "drop 10.9.9.9 - link:0912000206000100ab 65535 00001005\n" }
     ensures size { answer_text (Size 18446744073709551615) ≡ codes "size 18446744073709551615\n" }
-    ensures left_out { answer_text (Messages ((0 ∷ 4 ∷ 3 ∷ 0xfe ∷ []) ∷ []) (Some ENOMEM)) ≡ codes "msg 000403fe\nerr 12\n" }
+    ensures left_out { answer_text (Messages ((0 ∷ 3 ∷ 0xfe ∷ []) ∷ []) (Some ENOMEM)) ≡ codes "msg 0003fe\nerr 12\n" }
 {}
 
 /// Every response's text ends in a newline.

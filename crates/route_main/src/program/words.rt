@@ -29,12 +29,12 @@ pub(super) fn words_of<R: Env + AllocGlobal>(rt: &R) -> Result<Vec<String>, Refu
     Ok(words)
 }
 
-/// The FILE that the words name, or `None` where they name none. A word that begins with `-` and has more is an option, and
-/// refused; a first `--` is none and ends the options; `-` is a file of that name.
+/// The FILE that the words name, or `None` where they name none. A word that begins with `-` and has more is an option,
+/// and refused; a first `--` is none and ends the options; `-` is a file of that name.
 pub(super) fn file_named<'a>(alloc: Global, words: &'a [String]) -> Result<Option<&'a str>, Refusal>
     ensures named { IfOk result (λ file. option_map (λ f. f.now) file ≡ file_of (map string_bytes words.entry.now)) }
     ensures right { IfOk result (λ _. faults_of (map string_bytes words.entry.now) ≡ []) }
-    ensures no_memory { IfErr result (λ refusal. faults_of (map string_bytes words.entry.now) ≡ [] → refusal ≡ NoMemory) }
+    ensures no_memory { IfErr result (λ why. faults_of (map string_bytes words.entry.now) ≡ [] → why ≡ NoMemory) }
 {
     let file = Arg::new(alloc, "FILE");
     let command = Command::new(alloc, "routesim")
