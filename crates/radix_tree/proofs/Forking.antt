@@ -1,13 +1,12 @@
 -- A new bit node above a part of a tree, with the new leaf on the side of its key.
 use Rattle.std.proofs.Common.{◌≡◌, ℕ, ◌+◌, ◌≤◌, ◌==◌, Bool, true, false, if◌then◌else◌, List, [], ◌∷◌, Option, Some, None, refl, sym, ap, ◌∙◌, arith}
 use Rattle.std.proofs.lemmas.Bool.{eqb-true, eq-eqb, ne_eqb}
-use Rattle.std.proofs.lemmas.List.{append-nil}
 use Rattle.radix_nodes.specs.declared.id.Id.{Id}
 use Rattle.radix_tree.specs.Table.{IsRoute}
-use Rattle.radix_tree.specs.Tree.{Placed, Tree, leaf, fork, bit_at, HaveBit, IsTree, routes_of}
+use Rattle.radix_tree.specs.Tree.{Placed, Tree, leaf, fork, bit_at, HaveBit, IsTree}
 use Rattle.radix_tree.specs.Rooms.{Leaves, Bits, name_of, ChainStands, Stands}
 use Rattle.radix_tree.specs.Whole.{one_if, members_at, leaves_at, forks_at}
-use Rattle.radix_tree.specs.Growth.{Grows, IsPlace, AreOnce, in_room}
+use Rattle.radix_tree.specs.Growth.{IsPlace, AreOnce}
 use Rattle.radix_tree.specs.Writes.{leaf_above, bit_above, lift_leaf, lift_bit}
 use Rattle.radix_tree.proofs.RoomReads.{none_some}
 use Rattle.radix_tree.proofs.Grown.{one_if_same, elsewhere, chain_frame, frame}
@@ -39,22 +38,6 @@ module _ {V : Type 0} where
         p.is,
         (omega arith, (route, refl, omega arith, tt)),
       )
-
-  pub zero_fork_grows : (low bit : ℕ) (x : Placed V) (room : Id) (t : Tree V) → IsPlace x.entry.key low bit t → Grows bit (in_room room) x t (fork room bit (leaf x []) t)
-  zero_fork_grows low bit x room t p = record {
-    agrees = λ c value before have. (one_value c (bit_at c x.entry.key) value t (p.agree c before) have, have);
-    leaves = λ n. omega arith;
-    forks = λ n. omega arith;
-    routes = record { front = []; back = routes_of t; was = refl; now = refl };
-  }
-
-  pub one_fork_grows : (low bit : ℕ) (x : Placed V) (room : Id) (t : Tree V) → IsPlace x.entry.key low bit t → Grows bit (in_room room) x t (fork room bit t (leaf x []))
-  one_fork_grows low bit x room t p = record {
-    agrees = λ c value before have. (have, one_value c (bit_at c x.entry.key) value t (p.agree c before) have);
-    leaves = λ n. omega arith;
-    forks = λ n. omega arith;
-    routes = record { front = routes_of t; back = []; was = sym (append-nil (routes_of t)); now = refl };
-  }
 
   -- ---- the part beneath it
   -- it is the same with another bit node above

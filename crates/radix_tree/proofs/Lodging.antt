@@ -13,13 +13,13 @@ use Rattle.radix_tree.specs.Tree.{fork}
 use Rattle.radix_tree.specs.Rooms.{LeafPart, BitPart, Part, leaf_in, bit_in, leaves_in, bits_in, bit_part, name_of}
 use Rattle.radix_tree.specs.Searches.{ForkAt, Way}
 use Rattle.radix_tree.specs.Whole.{leaves_at, forks_at}
-use Rattle.radix_tree.specs.Growth.{turn, turned as turned_to, IsSpot, IsLodged, forked}
+use Rattle.radix_tree.specs.Growth.{turn, turned as turned_to, IsSpot, IsLodged, IsBeside, forked, placed}
 use Rattle.radix_tree.specs.Writes.{lodge_leaf, put_leaf, put_bit, with_leaf, lift_leaf, lift_bit, KeepsLeaves, KeepsBits}
 use Rattle.radix_tree.specs.declared.entry.Entry.{Entry}
 use Rattle.radix_tree.proofs.RoomReads.{inside, none_some, Has-leaf}
 use Rattle.radix_tree.proofs.Grown.{frame}
 use Rattle.radix_tree.proofs.Parts.{fork_stands}
-use Rattle.radix_tree.proofs.Beside.{IsBeside, misses_leaf, misses_bit, named_leaf, named_bit, not_new, not_new_bit, not_above}
+use Rattle.radix_tree.proofs.Beside.{misses_leaf, misses_bit, named_leaf, named_bit, not_new, not_new_bit, not_above}
 
 at_room : {A : Type 0} (room : Id) (x y : A) → (if room.number == room.number then x else y) ≡ x
 at_room room x y = ap (λ (t : Bool). if t then x else y) (eq-eqb room.number room.number refl)
@@ -74,7 +74,7 @@ module _ {V : Type 0} where
     stands = frame (leaves_in m) (leaves_in new) (bits_in m) (bits_in new) p.above p.tree leaves forks p.stands;
   }
 
-  over_at : (m : FinMap nat_cmp (Seen V)) (key : ℕ) (whole at : Part m) (ups : List (Part m)) (above : Option Id) (over : Id) → Way key whole at ups → whole.above ≡ None → at.above ≡ above → above ≡ Some over → (p : Part m) × ForkAt p over
+  pub over_at : (m : FinMap nat_cmp (Seen V)) (key : ℕ) (whole at : Part m) (ups : List (Part m)) (above : Option Id) (over : Id) → Way key whole at ups → whole.above ≡ None → at.above ≡ above → above ≡ Some over → (p : Part m) × ForkAt p over
   over_at m key whole at [] above over way top is some = absurd (none_some (sym top ∙ sym (ap (λ (p : Part m). p.above) way) ∙ is ∙ some))
   over_at m key whole at (p ∷ ps) above over way top is some =
       let b = way.0 in
@@ -103,13 +103,13 @@ module _ {V : Type 0} where
   )
 
   -- what all writes together leave
-  pub beside : (m new turned last : FinMap nat_cmp (Seen V)) (key bit : ℕ) (room : Id) (e : Entry V) (whole : Part m) (above : Option Id) (below : Node) → IsSpot m key bit whole above below
-      → IsLodged m new room e (forked key bit room below above)
-      → KeepsLeaves new turned → ((n : ℕ) → bits_in turned n ≡ turn above key (BitOf room) n (bits_in new n))
-      → ((n : ℕ) → leaves_in last n ≡ lift_leaf below (Some room) n (leaves_in turned n)) → ((n : ℕ) → bits_in last n ≡ lift_bit below (Some room) n (bits_in turned n)) → IsBeside m last key bit room e above below
-  beside m new turned last key bit room e whole above below s l leaves bits lifted_leaves lifted_bits =
+  pub beside : (m new turned last : FinMap nat_cmp (Seen V)) (bit : ℕ) (room : Id) (e : Entry V) (whole : Part m) (above : Option Id) (below : Node) → IsSpot m e.key bit whole above below
+      → IsLodged m new room e (forked e.key bit room below above)
+      → KeepsLeaves new turned → ((n : ℕ) → bits_in turned n ≡ turn above e.key (BitOf room) n (bits_in new n))
+      → ((n : ℕ) → leaves_in last n ≡ lift_leaf below (Some room) n (leaves_in turned n)) → ((n : ℕ) → bits_in last n ≡ lift_bit below (Some room) n (bits_in turned n)) → IsBeside m last bit (placed room e) above below
+  beside m new turned last bit room e whole above below s l leaves bits lifted_leaves lifted_bits =
       let new_above : (over : Id) → above ≡ Some over → room.number ≡ over.number → ⊥ = λ over is same.
-      let o = over_at m key whole s.at s.ups above over s.way s.top s.above_is is in
+      let o = over_at m e.key whole s.at s.ups above over s.way s.top s.above_is is in
       none_some (sym l.no_bit ∙ ap (bits_in m) same ∙ (fork_stands m o.0 over o.1).0) in
       record {
         no_leaf = l.no_leaf;
@@ -119,8 +119,8 @@ module _ {V : Type 0} where
             ∙ leaves room.number ∙ l.leaf;
         bit_node = lifted_bits room.number
             ∙ misses_bit below room.number (λ r is same. not_new_bit m s.at room l.no_bit r.number (named_bit s.at.tree r (s.named ∙ is)) (sym same)) (Some room) (bits_in turned room.number)
-            ∙ bits room.number ∙ new_turn above key room.number (BitOf room) (bits_in new room.number) new_above ∙ l.bit_node;
+            ∙ bits room.number ∙ new_turn above e.key room.number (BitOf room) (bits_in new room.number) new_above ∙ l.bit_node;
         leaves = λ n other. lifted_leaves n ∙ ap (λ (said : Option (LeafPart V)). lift_leaf below (Some room) n said) (leaves n ∙ l.leaves n other);
         bits = λ n other. lifted_bits n ∙ ap (λ (said : Option BitPart). lift_bit below (Some room) n said)
-            (bits n ∙ ap (λ (said : Option BitPart). turn above key (BitOf room) n said) (l.bits n other));
+            (bits n ∙ ap (λ (said : Option BitPart). turn above e.key (BitOf room) n said) (l.bits n other));
       }

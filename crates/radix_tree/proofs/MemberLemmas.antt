@@ -8,11 +8,10 @@ use Rattle.std.proofs.lemmas.List.Elements.{All-contains, All-contains_itself, A
 use Rattle.std.proofs.lemmas.List.Folds.{find-append}
 use Rattle.mask_table.specs.Agreeing.{agrees}
 use Rattle.radix_tree.specs.Table.{precedes, IsRoute, IsTable, has_pair, entry_at, first_of, without, with_entry, agreeing, greater, greatest, best_of}
-use Rattle.radix_tree.specs.Chain.{stands_before}
 use Rattle.radix_tree.specs.TableLaws.{AreOnePair, StandsIn, Agrees, MembersStand, MembersAreRoutes, EntryAtIsMember, FirstOfIsMember, BestIsMember, FirstIsGreatest, WithStands, WithKeepsOthers, WithoutLeavesNone, WithoutKeepsOthers, MembersOfWith, MembersOfWithout, WithCounts, WithoutCounts}
 use Rattle.radix_tree.specs.declared.entry.Entry.{Entry}
 use Rattle.radix_tree.proofs.ListLemmas.{all_weaker, all_both, all_append, all_passed, all_filter, all_find, find_filter, or_none}
-use Rattle.radix_tree.proofs.OrderLemmas.{pair_is, own_pair, other_pair, not_pair}
+use Rattle.radix_tree.proofs.OrderLemmas.{stands_before, pair_is, own_pair, other_pair, not_pair}
 use Rattle.radix_tree.proofs.TableLemmas.{later, same, sooner, with_parts, without_absent, all_behind, none_at}
 
 -- what holds of all entries holds with one more of which it holds, and without a pair

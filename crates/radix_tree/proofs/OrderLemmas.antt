@@ -4,8 +4,11 @@ use Rattle.std.proofs.lemmas.Bool.{cases_lt}
 use Rattle.std.proofs.lemmas.Bool.Decides.{nat_tests}
 use Rattle.radix_tree.specs.Table.{precedes, has_pair}
 use Rattle.radix_tree.specs.TableLaws.{AreOnePair, PrecedesInWords, PrecedesOneWay, PrecedesTransitively, PrecedesOrSame}
-use Rattle.radix_tree.specs.Chain.{stands_before}
 use Rattle.radix_tree.specs.declared.entry.Entry.{Entry}
+
+-- the entry precedes, in table order, those that have this pair
+abbrev pub stands_before : {V : Type 0} → ℕ → ℕ → Entry V → Bool
+stands_before key rank e = nat_lt e.key key || (nat_eq e.key key && nat_lt rank e.rank)
 
 -- the entry is preceded by those that have this pair
 abbrev pub stands_behind : {V : Type 0} → ℕ → ℕ → Entry V → Bool

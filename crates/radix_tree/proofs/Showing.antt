@@ -12,7 +12,7 @@ use Rattle.radix_tree.specs.declared.entry.Entry.{Entry}
 use Rattle.radix_tree.proofs.Scans.{chain_most}
 
 module _ {V : Type 0} where
-  chain_is : (n : ℕ) (L : Leaves V) (above previous : Option Id) (c : List (Placed V)) → length c ≤ n → ChainStands L above previous c
+  pub chain_is : (n : ℕ) (L : Leaves V) (above previous : Option Id) (c : List (Placed V)) → length c ≤ n → ChainStands L above previous c
       → chain_shown n L (first_room c) ≡ map (λ (p : Placed V). p.entry) c
   unfolding chain_shown
   chain_is zero L above previous [] fits stands = refl
@@ -23,7 +23,7 @@ module _ {V : Type 0} where
       ∙ ap (λ (es : List (Entry V)). x.entry ∷ es) (chain_is n L None (Some x.room) c (omega arith) stands.1)
 
   -- 33 levels are enough
-  beneath_is : (n low : ℕ) (L : Leaves V) (B : Bits) (above : Option Id) (t : Tree V) → IsTree low t → Stands L B above t → 33 ≤ low + n → beneath_shown n L B (name_of t) ≡ routes_of t
+  pub beneath_is : (n low : ℕ) (L : Leaves V) (B : Bits) (above : Option Id) (t : Tree V) → IsTree low t → Stands L B above t → 33 ≤ low + n → beneath_shown n L B (name_of t) ≡ routes_of t
   unfolding beneath_shown
   beneath_is zero low L B above (leaf x xs) is stands enough = let most : low ≤ 32 = is.0 in absurd (omega arith)
   beneath_is (suc n) low L B above (leaf x xs) is stands enough = chain_is 34 L above None (x ∷ xs) (chain_most x.entry.key 34 (x ∷ xs) is.1) stands

@@ -2,11 +2,10 @@
 use Rattle.std.proofs.Common.{◌≡◌, ℕ, Bool, true, false, cond, not, filter, IsTrue, List, [], ◌∷◌, Some, None, refl, ap}
 use Rattle.std.specs.List.{AllByRecursion}
 use Rattle.radix_tree.specs.Table.{precedes, IsTable, has_pair, entry_at, without, with_entry}
-use Rattle.radix_tree.specs.Chain.{stands_before}
 use Rattle.radix_tree.specs.TableLaws.{AreOnePair, WithIsTable, WithoutIsTable}
 use Rattle.radix_tree.specs.declared.entry.Entry.{Entry}
 use Rattle.radix_tree.proofs.ListLemmas.{all_weaker, all_filter, filter_all, filter_none, find_none}
-use Rattle.radix_tree.proofs.OrderLemmas.{before, here, behind, beside, stands_behind, pair_is, behind_next, behind_not_before, behind_not_pair, precedes_one_way, precedes_transitively}
+use Rattle.radix_tree.proofs.OrderLemmas.{stands_before, before, here, behind, beside, stands_behind, pair_is, behind_next, behind_not_before, behind_not_pair, precedes_one_way, precedes_transitively}
 
 -- behind an entry that doesn't stand before a pair, all stand behind the pair
 pub all_behind : {V : Type 0} (key rank : ℕ) (x : Entry V) (xs : List (Entry V)) → stands_before key rank x ≡ false

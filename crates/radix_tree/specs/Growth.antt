@@ -1,15 +1,16 @@
 -- A route comes into a tree.
-use Rattle.std.specs.Prelude.{◌≡◌, ℕ, ◌+◌, ◌<◌, ◌≤◌, ◌==◌, if◌then◌else◌, List, ◌∷◌, ◌++◌, Option, None, Some}
+use Rattle.std.specs.Prelude.{◌≡◌, ℕ, ◌+◌, ◌<◌, ◌≤◌, ◌==◌, if◌then◌else◌, List, [], ◌∷◌, ◌++◌, Option, None, Some}
 use Rattle.std.specs.Ordering.{nat_cmp}
 use Rattle.std.specs.FinMap.{FinMap}
 use Rattle.radix_nodes.specs.declared.id.Id.{Id}
 use Rattle.radix_nodes.specs.Rooms.{Seen}
 use Rattle.radix_nodes.specs.declared.links.Node.{Node}
-use Rattle.radix_nodes.specs.declared.links.Node.TheVariants.{Leaf as LeafOf}
-use Rattle.radix_tree.specs.Tree.{Placed, Tree, bit_at, HaveBit, IsTree, routes_of}
+use Rattle.radix_nodes.specs.declared.links.Node.TheVariants.{Leaf as LeafOf, Bit as BitOf}
+use Rattle.radix_tree.specs.Tree.{Placed, Tree, leaf, fork, bit_at, HaveBit, IsTree}
 use Rattle.radix_tree.specs.Rooms.{BitPart, Part, leaves_in, bits_in, leaf_part, name_of}
 use Rattle.radix_tree.specs.Searches.{Way, LedTo}
-use Rattle.radix_tree.specs.Whole.{one_if, leaves_at, forks_at}
+use Rattle.radix_tree.specs.Whole.{leaves_at, forks_at}
+use Rattle.radix_tree.specs.Writes.{lift_leaf, lift_bit}
 use Rattle.radix_tree.specs.declared.entry.Entry.{Entry}
 
 -- what a bit node says once it names another node on the side of an address
@@ -27,9 +28,9 @@ abbrev pub root_after : Option Id → Node → Node → Node
 root_after None to root = to
 root_after (Some up) to root = root
 
--- one bit node more, in a room
-abbrev pub in_room : Id → ℕ → ℕ
-in_room room n = one_if (room.number == n)
+-- what number n says as the head of a list, once the room has this one
+abbrev pub with_head : Id → Option Id → ℕ → Option Id → Option Id
+with_head room first n said = if n == room.number then first else said
 
 -- the new bit node, with the new leaf on the side of its key
 abbrev pub forked : ℕ → ℕ → Id → Node → Option Id → BitPart
@@ -51,14 +52,6 @@ module _ {V : Type 0} where
     pub was : old ≡ front ++ back
     pub now : new ≡ front ++ e ∷ back
 
-  -- the tree has one route more, and so many bit nodes more in the room of each number; on the bits before one its keys
-  -- agree as they did
-  pub record Grows (bit : ℕ) (more : ℕ → ℕ) (x : Placed V) (old new : Tree V) : Type 0 where
-    pub agrees : (c value : ℕ) → c < bit → HaveBit c value old → HaveBit c value new
-    pub leaves : (n : ℕ) → leaves_at n new ≡ leaves_at n old + one_if (x.room.number == n)
-    pub forks : (n : ℕ) → forks_at n new ≡ forks_at n old + more n
-    pub routes : Gains x.entry (routes_of old) (routes_of new)
-
   -- a place for a route of a key that no route has: the first bit at which the key differs from those of the part
   -- beneath, whose bits are all past it
   pub record IsPlace (key low bit : ℕ) (t : Tree V) : Type 0 where
@@ -74,25 +67,17 @@ module _ {V : Type 0} where
     pub leaves : (n : ℕ) → leaves_at n t ≤ 1
     pub forks : (n : ℕ) → forks_at n t ≤ 1
 
-  -- a part of the tree in the rooms of before with a route more, in the rooms of now, which has this name
-  pub record Grown (m new : FinMap nat_cmp (Seen V)) (more : ℕ
-      → ℕ) (x : Placed V) (old : Part m) (name : Node) : Type 0 where
-    pub part : Part new
-    pub named : name_of part.tree ≡ name
-    pub low : part.low ≡ old.low
-    pub above : part.above ≡ old.above
-    pub bit : ℕ
-    pub enough : old.low ≤ bit
-    pub grows : Grows bit more x old.tree part.tree
-
-  abbrev pub entry_of : ℕ → ℕ → V → Entry V
-  entry_of key rank value = record { key = key; rank = rank; value = value }
-
   abbrev pub placed : Id → Entry V → Placed V
   placed room e = record { room = room; entry = e }
 
+  -- the new bit node above a part, with the new leaf on the side of its key
+  abbrev pub forked_tree : ℕ → Placed V → Tree V → Tree V
+  forked_tree bit x t = if bit_at bit x.entry.key == 1
+      then fork x.room bit t (leaf x []) else fork x.room bit (leaf x []) t
+
   -- where a route comes in: the part beneath the new bit node, and the way up from it
-  pub record IsSpot (m : FinMap nat_cmp (Seen V)) (key bit : ℕ) (whole : Part m) (above : Option Id) (below : Node) : Type 0 where
+  pub record IsSpot (m : FinMap nat_cmp (Seen V)) (key bit : ℕ) (whole : Part m) (above : Option Id)
+      (below : Node) : Type 0 where
     pub at : Part m
     pub ups : List (Part m)
     pub way : Way key whole at ups
@@ -111,6 +96,18 @@ module _ {V : Type 0} where
     pub leaves : (n : ℕ) → (n ≡ room.number → ⊥) → leaves_in new n ≡ leaves_in m n
     pub bits : (n : ℕ) → (n ≡ room.number → ⊥) → bits_in new n ≡ bits_in m n
 
+  -- what the rooms say once this route stands in a room of its own, beneath a new bit node in that room, which came
+  -- between the bit node above a place and the node beneath it
+  pub record IsBeside (m new : FinMap nat_cmp (Seen V)) (bit : ℕ) (x : Placed V) (above : Option Id)
+      (below : Node) : Type 0 where
+    pub no_leaf : leaves_in m x.room.number ≡ None
+    pub no_bit : bits_in m x.room.number ≡ None
+    pub leaf : leaves_in new x.room.number ≡ Some (leaf_part x (Some x.room) None None)
+    pub bit_node : bits_in new x.room.number ≡ Some (forked x.entry.key bit x.room below above)
+    pub leaves : (n : ℕ) → (n ≡ x.room.number → ⊥) → leaves_in new n ≡ lift_leaf below (Some x.room) n (leaves_in m n)
+    pub bits : (n : ℕ) → (n ≡ x.room.number → ⊥)
+        → bits_in new n ≡ lift_bit below (Some x.room) n (turn above x.entry.key (BitOf x.room) n (bits_in m n))
+
   -- a key that no route has: the leaf to which its bits lead, and the first bit at which it differs from that leaf's
   pub record IsNew (m : FinMap nat_cmp (Seen V)) (key bit : ℕ) (leaf : Id) : Type 0 where
     pub whole : Part m
@@ -121,7 +118,8 @@ module _ {V : Type 0} where
     pub differs : Differs key led.leaf.first.entry.key bit
 
   -- a walk up from that leaf, at a node between this one above and this one below, all of whose bits are past that one
-  pub record Rise {m : FinMap nat_cmp (Seen V)} (key other bit : ℕ) (whole : Part m) (above : Option Id) (below : Node) (steps : ℕ) : Type 0 where
+  pub record Rise {m : FinMap nat_cmp (Seen V)} (key other bit : ℕ) (whole : Part m)
+      (above : Option Id) (below : Node) (steps : ℕ) : Type 0 where
     pub part : Part m
     pub ups : List (Part m)
     pub way : Way key whole part ups

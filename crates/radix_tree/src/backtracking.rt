@@ -19,7 +19,8 @@ pub(crate) fn room_of<V>(
 ) -> Option<Id>
     requires tree { (p : Part nodes.now.lodged) × (name_of p.tree ≡ from) }
     requires turn { visits.old.turn ≡ nodes.now.turn }
-    ensures found { (p : Part nodes.now.lodged) → name_of p.tree ≡ from → Tells (Finds (HasPair key rank) (In p)) result }
+    ensures found { (p : Part nodes.now.lodged) → name_of p.tree ≡ from
+        → Tells (Finds (HasPair key rank) (In p)) result }
     ensures counter { visits.new.turn ≡ visits.old.turn }
     ensures rises { visits.old.count ≤ visits.new.count }
     ensures bound { visits.new.count ≤ visits.old.count + 66 }

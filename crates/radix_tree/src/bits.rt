@@ -1,5 +1,6 @@
 //! The bits of addresses.
-ghost use Rattle.std.specs.Prelude.{◌≡◌, ◌≤◌, ◌==◌};
+ghost use Rattle.std.specs.Prelude.{◌≡◌, ◌≤◌, ◌==◌, MatchOption};
+ghost use Rattle.radix_tree.specs.Growth.{Differs};
 ghost use Rattle.radix_tree.specs.Tree.{bit_at};
 
 use sock_addrs::Inet;
@@ -11,4 +12,20 @@ pub(crate) fn is_one(address: Inet, bit: u8) -> bool
     ensures { result ≡ (bit_at bit address == 1) }
 {
     (address.number() >> (31 - bit)) % 2 == 1
+}
+
+/// The first bit at which two keys differ, or `None` where they are the same.
+pub(crate) fn first_difference(key: Inet, other: Inet) -> Option<u8>
+    ensures { MatchOption result (key ≡ other) (λ bit. Differs key other bit) }
+{
+    let number = key.number();
+    let against = other.number();
+    let mut bit = 0;
+    while bit < 32 {
+        if number >> (31 - bit) != against >> (31 - bit) {
+            return Some(bit);
+        }
+        bit += 1;
+    }
+    None
 }

@@ -1,8 +1,7 @@
 //! What a table holds.
 ghost use Rattle.std.specs.Prelude.{◌≡◌};
 ghost use Rattle.mask_table.specs.Agreeing.{masked};
-ghost use Rattle.radix_tree.specs.Table.{IsRoute, has_pair};
-ghost use Rattle.radix_tree.specs.Chain.{stands_before};
+ghost use Rattle.radix_tree.specs.Table.{IsRoute};
 
 use mask_table::Rank;
 use sock_addrs::Inet;
@@ -27,26 +26,4 @@ impl<V> Entry<V> {
     {
         Entry { key, rank, value }
     }
-
-    /// Whether it has this key and this rank.
-    pub(crate) fn has_pair(&self, key: Inet, rank: Rank) -> bool
-        ensures { result ≡ has_pair key rank self.now }
-    {
-        self.key == key && self.rank == rank
-    }
-
-    /// Whether it stands before this key and this rank in table order: keys rise, and for one key 33 comes first and
-    /// then falling ranks.
-    pub(crate) fn stands_before(&self, key: Inet, rank: Rank) -> bool
-        ensures { result ≡ stands_before key rank self.now }
-    {
-        self.key.number() < key.number() || self.key == key && rank < self.rank
-    }
-}
-
-/// A route with the number of the room in which it stands.
-#[derive(Drop)]
-pub(crate) struct Lodged<V> {
-    pub(crate) number: u64,
-    pub(crate) entry: Entry<V>,
 }

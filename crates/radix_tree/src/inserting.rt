@@ -1,14 +1,23 @@
 //! How a route comes into a tree.
-ghost use Rattle.std.specs.Prelude.{◌≡◌, ◌<◌, ◌≤◌, Some, None};
+ghost use Rattle.std.specs.Prelude.{◌≡◌, ℕ, ◌<◌, ◌≤◌, ◌||◌, ◌==◌, Option, Some, None};
 ghost use Rattle.std.specs.FinMap.{get};
+ghost use Rattle.radix_nodes.specs.Rooms.{Has};
+ghost use Rattle.radix_nodes.specs.declared.id.Id.{Id as IdName};
 ghost use Rattle.radix_nodes.specs.declared.links.Node.TheVariants.{Bit as BitOf};
-ghost use Rattle.radix_tree.specs.Growth.{IsSpot, IsLodged, Grown, forked, in_room, placed, root_after as root_with};
-ghost use Rattle.radix_tree.specs.Rooms.{Part, bit_part, name_of};
+ghost use Rattle.radix_tree.specs.Exchange.{Exchanged};
+ghost use Rattle.radix_tree.specs.Growth.{Gains, Differs, IsSpot, IsLodged, IsBeside, forked, forked_tree, placed, with_head, root_after as root_with};
+ghost use Rattle.radix_tree.specs.Marks.{HasRoomMore, IsWholeBut, nobody_out, has_key};
+ghost use Rattle.radix_tree.specs.Rooms.{Part, LeafPart, bit_part, leaves_in, heads_in, masks_in, name_of};
+ghost use Rattle.radix_tree.specs.Searches.{LedTo};
 ghost use Rattle.radix_tree.specs.Table.{IsRoute};
+ghost use Rattle.radix_tree.specs.Whole.{IsWhole, shown};
+ghost use Rattle.radix_tree.specs.Writes.{KeepsMasks};
 
 use crate::bits::is_one;
 use crate::entry::Entry;
 use crate::linking::{lift, lodge_leaf, put_bit_node, put_leaf, turn_child};
+use crate::masks::cut;
+use crate::placing::spot_above;
 use mask_table::Rank;
 use radix_nodes::{BitNode, Id, Leaf, Node, Nodes, Room, Visits};
 use sock_addrs::Inet;
@@ -22,11 +31,11 @@ pub(crate) struct Spot {
     pub(crate) below: Node,
 }
 
-/// The bit node at a spot, with the leaf of its own room on the side of a key.
-fn forked_node(spot: Spot, key: Inet, room: Id) -> BitNode
+/// The bit node at a spot, with the leaf of its own room on the side of a key, and a list of masks.
+fn forked_node(spot: Spot, key: Inet, room: Id, masks: Option<Id>) -> BitNode
     requires { spot.bit ≤ 31 }
     ensures part { bit_part room.block (Some result) ≡ Some (forked key spot.bit room spot.below spot.above) }
-    ensures masks { result.masks ≡ None }
+    ensures masks { result.masks ≡ masks }
 {
     if is_one(key, spot.bit) {
         BitNode {
@@ -34,7 +43,7 @@ fn forked_node(spot: Spot, key: Inet, room: Id) -> BitNode
             zero: spot.below,
             one: Node::Leaf(room),
             above: spot.above,
-            masks: None,
+            masks,
         }
     } else {
         BitNode {
@@ -42,7 +51,7 @@ fn forked_node(spot: Spot, key: Inet, room: Id) -> BitNode
             zero: Node::Leaf(room),
             one: spot.below,
             above: spot.above,
-            masks: None,
+            masks,
         }
     }
 }
@@ -60,10 +69,11 @@ fn lone_leaf(key: Inet, rank: Rank, above: Option<Id>) -> Leaf
     }
 }
 
-/// Lodges a route in a room that is its leaf and, above that, the bit node at a spot.
+/// Lodges a route in a room that is its leaf and, above that, the bit node at a spot, with a list of masks.
 fn lodge_forked<V>(
     nodes: &mut Nodes<V>,
     spot: Spot,
+    masks: Option<Id>,
     room: Room<V>,
     entry: Entry<V>,
     visits: &mut Visits,
@@ -75,6 +85,8 @@ fn lodge_forked<V>(
     ensures number { result.number ≡ room }
     ensures lodged { IsLodged nodes.old.lodged nodes.new.lodged result entry
         (forked entry.key spot.bit result spot.below spot.above) }
+    ensures heads { (n : ℕ) → heads_in nodes.new.lodged n ≡ with_head result masks n (heads_in nodes.old.lodged n) }
+    ensures masks { KeepsMasks nodes.old.lodged nodes.new.lodged }
     ensures next { nodes.new.next ≡ nodes.old.next }
     ensures turn { nodes.new.turn ≡ nodes.old.turn }
     ensures counter { visits.new.turn ≡ visits.old.turn }
@@ -82,13 +94,13 @@ fn lodge_forked<V>(
     let Entry { key, rank, value } = entry;
     let id = lodge_leaf(nodes, room, lone_leaf(key, rank, None), value, visits);
     put_leaf(nodes, id, lone_leaf(key, rank, Some(id)), visits);
-    let node = forked_node(spot, key, id);
+    let node = forked_node(spot, key, id, masks);
     put_bit_node(nodes, id, Some(node), visits);
     id
 }
 
 /// The root, once the node at a place beneath this bit node, or beneath none, is another one.
-fn root_after(above: Option<Id>, to: Node, root: Node) -> Node
+pub(crate) fn root_after(above: Option<Id>, to: Node, root: Node) -> Node
     ensures { result ≡ root_with above to root }
 {
     match above {
@@ -97,11 +109,13 @@ fn root_after(above: Option<Id>, to: Node, root: Node) -> Node
     }
 }
 
-/// Puts a route of a new key into the tree beneath a root, and answers the root and the room from then on.
+/// Puts a route of a new key into the tree beneath a root, with a bit node that takes over a list of masks, and answers
+/// the root and the room from then on.
 pub(crate) fn add_beside<V>(
     nodes: &mut Nodes<V>,
     root: Node,
     spot: Spot,
+    masks: Option<Id>,
     room: Room<V>,
     entry: Entry<V>,
     visits: &mut Visits,
@@ -112,15 +126,59 @@ pub(crate) fn add_beside<V>(
     requires spot { (p : Part nodes.old.lodged) × IsSpot nodes.old.lodged entry.key spot.bit p spot.above spot.below }
     requires turn { visits.old.turn ≡ nodes.old.turn }
     ensures number { result.1.number ≡ room }
-    ensures grown { (p : Part nodes.old.lodged) → IsSpot nodes.old.lodged entry.key spot.bit p spot.above spot.below
-        → name_of p.tree ≡ root → Grown nodes.old.lodged nodes.new.lodged (in_room result.1) (placed result.1 entry) p result.0 }
+    ensures beside { IsBeside nodes.old.lodged nodes.new.lodged spot.bit (placed result.1 entry) spot.above spot.below }
+    ensures exchanged { (p : Part nodes.old.lodged)
+        (s : IsSpot nodes.old.lodged entry.key spot.bit p spot.above spot.below) → name_of p.tree ≡ root
+        → (u : Part nodes.new.lodged) × (u.tree ≡ forked_tree spot.bit (placed result.1 entry) s.at.tree)
+        × Exchanged nodes.old.lodged nodes.new.lodged entry.key p s.at u result.0 }
+    ensures heads { (n : ℕ) → heads_in nodes.new.lodged n ≡ with_head result.1 masks n (heads_in nodes.old.lodged n) }
+    ensures masks { KeepsMasks nodes.old.lodged nodes.new.lodged }
     ensures next { nodes.new.next ≡ nodes.old.next }
     ensures turn { nodes.new.turn ≡ nodes.old.turn }
     ensures counter { visits.new.turn ≡ visits.old.turn }
 {
     let key = entry.key;
-    let id = lodge_forked(nodes, spot, room, entry, visits);
+    let id = lodge_forked(nodes, spot, masks, room, entry, visits);
     turn_child(nodes, spot.above, key, Node::Bit(id), visits);
     lift(nodes, spot.below, Some(id), visits);
     (root_after(spot.above, Node::Bit(id), root), id)
+}
+
+/// Puts a route of a new key into a table's tree, from the leaf to which its bits lead and the first bit at which its
+/// key differs from that leaf's, and answers the root and the room from then on. The new bit node takes over those
+/// masks of the node beneath that are not past the bit. The route's mask isn't listed yet; nor are those of that
+/// leaf's routes for which the new bit node is the first one to be listed at.
+pub(crate) fn insert_beside<V>(
+    nodes: &mut Nodes<V>,
+    root: Node,
+    leaf: Id,
+    bit: u8,
+    room: Room<V>,
+    entry: Entry<V>,
+    visits: &mut Visits,
+) -> (Node, Id)
+    requires made { room < nodes.old.next }
+    requires free { get nodes.old.lodged room ≡ None }
+    requires route { IsRoute entry }
+    requires new { (w : IsWhole nodes.old.lodged root) × (d : LedTo entry.key w.part leaf)
+        × Differs entry.key d.leaf.first.entry.key bit }
+    requires turn { visits.old.turn ≡ nodes.old.turn }
+    ensures number { result.1.number ≡ room }
+    ensures whole { (w : IsWhole nodes.old.lodged root) (d : LedTo entry.key w.part leaf)
+        → Differs entry.key d.leaf.first.entry.key bit
+        → IsWholeBut nodes.new.lodged result.0
+        (λ n. (n == room) || has_key nodes.old.lodged d.leaf.first.entry.key n) nobody_out }
+    ensures routes { Gains entry (shown nodes.old.lodged (Some root)) (shown nodes.new.lodged (Some result.0)) }
+    ensures rooms { HasRoomMore nodes.old.lodged nodes.new.lodged room }
+    ensures there { Has nodes.new.lodged result.1 }
+    ensures unmarked { masks_in nodes.new.lodged room ≡ None }
+    ensures leaves { (n : ℕ) (p : LeafPart V) → leaves_in nodes.old.lodged n ≡ Some p → (a : Option IdName)
+        × (leaves_in nodes.new.lodged n ≡ Some (record p { leaf = record p.leaf { above = a } })) }
+    ensures next { nodes.new.next ≡ nodes.old.next }
+    ensures turn { nodes.new.turn ≡ nodes.old.turn }
+    ensures counter { visits.new.turn ≡ visits.old.turn }
+{
+    let spot = spot_above(nodes, leaf, bit, visits);
+    let masks = cut(nodes, spot.below, spot.bit, visits);
+    add_beside(nodes, root, spot, masks, room, entry, visits)
 }

@@ -10,7 +10,7 @@ pub fn is_table<V>(table: &Table<V>)
     ensures { IsTable table.now.entries }
 {
     // What holds of a table is known once a field of it is looked at.
-    let _ = &table.head;
+    let _ = &table.root;
 }
 
 /// Table order: keys rise, and for one key rank 33 comes first and then falling ranks. It puts each two pairs in order,

@@ -3,22 +3,27 @@
 
 mod backtracking;
 mod bits;
-mod chain;
+mod chains;
 mod descent;
 mod entry;
+mod growing;
 mod inserting;
+mod joining;
 pub mod laws;
 mod linking;
+mod listing;
+mod masks;
+mod moving;
 mod placing;
 mod reading;
+mod removing;
 mod routes;
 mod routing;
 mod scanning;
-mod visits;
 mod walk;
 mod writing;
 
 pub use entry::Entry;
-pub use routes::{Room, Table};
-pub use visits::Visits;
+pub use radix_nodes::{Room, Visits};
+pub use routes::Table;
 pub use walk::Walk;

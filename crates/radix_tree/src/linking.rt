@@ -83,7 +83,8 @@ pub(crate) fn lodge_leaf<V>(
     requires free { get nodes.old.lodged room ≡ None }
     requires turn { visits.old.turn ≡ nodes.old.turn }
     ensures number { result.number ≡ room }
-    ensures leaves { (n : ℕ) → leaves_in nodes.new.lodged n ≡ leaf_lodged result value leaf n (leaves_in nodes.old.lodged n) }
+    ensures leaves { (n : ℕ) → leaves_in nodes.new.lodged n
+        ≡ leaf_lodged result value leaf n (leaves_in nodes.old.lodged n) }
     ensures bits { KeepsBits nodes.old.lodged nodes.new.lodged }
     ensures heads { KeepsHeads nodes.old.lodged nodes.new.lodged }
     ensures masks { KeepsMasks nodes.old.lodged nodes.new.lodged }
@@ -100,7 +101,8 @@ pub(crate) fn lodge_leaf<V>(
 fn lift_leaf<V>(nodes: &mut Nodes<V>, room: Id, above: Option<Id>, visits: &mut Visits)
     requires tree { (p : Part nodes.old.lodged) × LeafAt p room }
     requires turn { visits.old.turn ≡ nodes.old.turn }
-    ensures leaves { (n : ℕ) → leaves_in nodes.new.lodged n ≡ leaf_lifted (LeafOf room) above n (leaves_in nodes.old.lodged n) }
+    ensures leaves { (n : ℕ) → leaves_in nodes.new.lodged n
+        ≡ leaf_lifted (LeafOf room) above n (leaves_in nodes.old.lodged n) }
     ensures bits { KeepsBits nodes.old.lodged nodes.new.lodged }
     ensures heads { KeepsHeads nodes.old.lodged nodes.new.lodged }
     ensures masks { KeepsMasks nodes.old.lodged nodes.new.lodged }

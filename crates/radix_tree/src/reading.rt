@@ -1,13 +1,16 @@
 //! What is looked up in a table.
-ghost use Rattle.std.specs.Prelude.{◌≡◌, Some, IfSome, option_map};
+ghost use Rattle.std.specs.Prelude.{◌≡◌, ◌+◌, ◌≤◌, Some, IfSome, option_map};
 ghost use Rattle.radix_tree.specs.Table.{entry_at, first_of, best_of};
-ghost use Rattle.radix_tree.specs.Found.{valued, keyed, routed, beats};
+ghost use Rattle.radix_tree.specs.Found.{valued, keyed, routed};
 
+use crate::backtracking::room_of;
+use crate::descent::leaf_for;
 use crate::laws::is_table;
 use crate::routes::Table;
-use crate::visits::Visits;
+use crate::routing;
 use crate::walk::Walk;
-use mask_table::{Rank, agrees};
+use mask_table::Rank;
+use radix_nodes::Visits;
 use sock_addrs::Inet;
 
 impl<V> Table<V> {
@@ -20,8 +23,7 @@ impl<V> Table<V> {
         ensures turn { result.turn ≡ self.now.turn }
         ensures counter { visits.new.turn ≡ visits.old.turn }
     {
-        visits.tick();
-        Walk::over(&self.head, &self.tail, &self.turn)
+        Walk::over(&self.nodes, self.root, visits)
     }
 
     /// The value of the route with this key and rank, or `None` where the table has no such route.
@@ -30,13 +32,16 @@ impl<V> Table<V> {
         ensures entry { option_map (valued key rank) result ≡ entry_at key rank self.now.entries }
         ensures counter { visits.new.turn ≡ visits.old.turn }
     {
-        let mut walk = self.walk(visits);
-        while let Some((k, r, value)) = walk.step(visits) {
-            if k == key && r == rank {
-                return Some(value);
-            }
+        if !self.counts.has(rank) {
+            return None;
         }
-        None
+        let Some(root) = self.root else {
+            return None;
+        };
+        let Some(room) = room_of(&self.nodes, root, key, rank, visits) else {
+            return None;
+        };
+        Some(self.nodes.value(room, visits))
     }
 
     /// The rank and the value of the first route with this key, or `None` where the table has no such route.
@@ -45,13 +50,15 @@ impl<V> Table<V> {
         ensures entry { option_map (keyed key) result ≡ first_of key self.now.entries }
         ensures counter { visits.new.turn ≡ visits.old.turn }
     {
-        let mut walk = self.walk(visits);
-        while let Some((k, rank, value)) = walk.step(visits) {
-            if k == key {
-                return Some((rank, value));
-            }
+        let Some(root) = self.root else {
+            return None;
+        };
+        let first = leaf_for(&self.nodes, root, key, visits);
+        let leaf = self.nodes.links(first, visits).leaf();
+        if leaf.key != key {
+            return None;
         }
-        None
+        Some((leaf.rank, self.nodes.value(first, visits)))
     }
 
     /// The best route of an address, which is the one of greatest rank among those that agree with it, or `None` where
@@ -61,25 +68,12 @@ impl<V> Table<V> {
         ensures best { option_map routed result ≡ best_of address self.now.entries }
         ensures stands { IfSome result (λ r. entry_at r.0 r.1 self.now.entries ≡ Some (routed r)) }
         ensures counter { visits.new.turn ≡ visits.old.turn }
+        ensures bound { visits.new.count ≤ visits.old.count + 2400 }
     {
         is_table(self);
-        let mut walk = self.walk(visits);
-        let mut best: Option<(Inet, Rank, &V)> = None;
-        while let Some((key, rank, value)) = walk.step(visits) {
-            if agrees(key, rank, address) && is_better(rank, &best) {
-                best = Some((key, rank, value));
-            }
-        }
-        best
-    }
-}
-
-/// Whether a route of this rank is better than the best so far.
-fn is_better<V>(rank: Rank, best: &Option<(Inet, Rank, &V)>) -> bool
-    ensures { result ≡ beats rank (option_map routed best.now) }
-{
-    match best {
-        None => true,
-        Some((_, other, _)) => *other < rank,
+        let Some(root) = self.root else {
+            return None;
+        };
+        routing::best(&self.nodes, root, address, visits)
     }
 }

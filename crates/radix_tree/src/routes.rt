@@ -1,57 +1,33 @@
-//! The table and its rooms.
-ghost use Rattle.std.specs.Prelude.{◌≡◌, ℕ, ◌+◌, [], IfOk};
+//! The table.
+ghost use Rattle.std.specs.Prelude.{◌≡◌, ◌+◌, [], IfOk};
 
-use crate::chain::{Cell, Chain};
-use crate::visits::{Number, Visits};
+use mask_table::Counts;
+use radix_nodes::{Node, Nodes, Visits};
 use std::alloc::{AllocError, Global};
 use std::marker::Model;
 
-/// A place in memory for one route, made by a table and not yet in use. It is added or given back, and can't be
-/// dropped. A contract sees its number.
-pub struct Room<V> {
-    pub(crate) number: u64,
-    pub(crate) cell: Box<Cell<V>>,
-}
-
-impl<V> Model for Room<V> {
-    ghost use Rattle.std.specs.Prelude.{ℕ};
-
-    ghost Value = { ℕ };
-
-    ghost view = { λ r. r.number };
-}
-
-/// A routing table: a sorted list of boxed cells, each with a route. A contract sees the routes in table order, which
+/// A routing table: a Patricia tree over rooms, one for each route. A contract sees the routes in table order, which
 /// is by rising keys, and for one key without a mask first and then from the longest mask to the shortest. Beside them
 /// it sees the numbers of the rooms in use, the number of the next room, and the turn: `begin`, `add`, `remove` and
 /// `get_mut` begin one, and a counter of an earlier turn can't be used again.
 #[derive(Drop)]
 pub struct Table<V> {
-    pub(crate) alloc: Global,
-    /// The number of the last room that was made, or 0.
-    pub(crate) last: u64,
-    pub(crate) turn: Number,
-    /// The list's front and, behind it, its back, so that a route in the middle can be lent.
-    pub(crate) head: Chain<V>,
-    pub(crate) tail: Chain<V>,
+    pub(crate) nodes: Nodes<V>,
+    /// The tree's highest node. A table without a route has none.
+    pub(crate) root: Option<Node>,
+    /// How many routes there are of each rank.
+    pub(crate) counts: Counts,
 }
 
 impl<V> Model for Table<V> {
-    ghost use Rattle.std.specs.Prelude.{ℕ, ◌+◌, ◌++◌};
     ghost use Rattle.radix_tree.specs.Table.{Contents};
+    ghost use Rattle.radix_tree.specs.Kept.{contents, IsKept};
 
     ghost Value = { Contents V };
 
-    ghost use Rattle.radix_tree.specs.Lodged.{entries_of, numbers_of, IsHeld};
+    ghost view = { λ t. contents t.nodes t.root };
 
-    ghost view = { λ t. record {
-      entries = entries_of (t.head ++ t.tail);
-      numbers = numbers_of (t.head ++ t.tail);
-      next = t.last + 1;
-      turn = t.turn;
-    } };
-
-    ghost invariant = { λ t. IsHeld t.last (t.head ++ t.tail) };
+    ghost invariant = { λ t. IsKept t.nodes t.root t.counts };
 }
 
 impl<V> Table<V> {
@@ -60,11 +36,9 @@ impl<V> Table<V> {
         ensures { IfOk result (λ t. t ≡ record { entries = []; numbers = []; next = 1; turn = 0 }) }
     {
         Ok(Table {
-            alloc,
-            last: 0,
-            turn: Number::zero(),
-            head: Chain::new(),
-            tail: Chain::new(),
+            nodes: Nodes::new(alloc),
+            root: None,
+            counts: Counts::new(),
         })
     }
 
@@ -74,7 +48,6 @@ impl<V> Table<V> {
         ensures of_turn { result.turn ≡ self.old.turn + 1 }
         ensures count { result.count ≡ 0 }
     {
-        self.turn.raise();
-        Visits::of(&self.turn)
+        self.nodes.begin()
     }
 }

@@ -1,20 +1,19 @@
 //! How a table changes.
-ghost use Rattle.std.specs.Prelude.{◌≡◌, ℕ, ◌+◌, ◌<◌, ◌++◌, ◌↔◌, ◌==◌, if◌then◌else◌, IsErr, IsSome, OnOk, OnErr, OnSome, IfOk, IfErr, IfNone, None, option_map};
+ghost use Rattle.std.specs.Prelude.{◌≡◌, ℕ, ◌+◌, ◌<◌, ◌↔◌, ◌==◌, if◌then◌else◌, IsErr, IsSome, OnOk, OnErr, OnSome, IfOk, IfErr, IfNone, None, option_map};
 ghost use Rattle.std.specs.Borrow.{sem};
 ghost use Rattle.mask_table.specs.Agreeing.{masked};
-ghost use Rattle.radix_tree.specs.Table.{entry_at, without, with_entry, uses, IsTable};
-ghost use Rattle.radix_tree.specs.Lodged.{entries_of};
-ghost use Rattle.radix_tree.specs.Chain.{below, past};
+ghost use Rattle.radix_tree.specs.Table.{entry_at, without, with_entry, uses};
 ghost use Rattle.radix_tree.specs.Lending.{lends_value};
 
-use crate::chain::{Cell, Chain};
-use crate::entry::{Entry, Lodged};
-use crate::routes::{Room, Table};
-use crate::visits::{Number, Visits};
+use crate::backtracking::room_of;
+use crate::entry::Entry;
+use crate::growing::insert;
+use crate::removing::remove_route;
+use crate::routes::Table;
 use mask_table::Rank;
+use radix_nodes::Room;
 use sock_addrs::Inet;
 use std::alloc::AllocError;
-use std::mem;
 
 impl<V: Drop> Table<V> {
     /// A room for one route. `Err` where there is no memory for it, or 2^64 - 1 rooms were made.
@@ -23,15 +22,7 @@ impl<V: Drop> Table<V> {
         ensures number { IfOk result (λ room. (room ≡ self.old.next) × (uses room self.old.numbers ≡ 0)) }
         ensures err { OnErr result (self.new ≡ self.old) }
     {
-        if self.last == u64::MAX {
-            return Err(AllocError);
-        }
-        let cell = Box::new(self.alloc, Cell::empty())?;
-        self.last += 1;
-        Ok(Room {
-            number: self.last,
-            cell,
-        })
+        self.nodes.make()
     }
 
     /// Takes back a room of this table in which no route stands, and frees it.
@@ -40,7 +31,7 @@ impl<V: Drop> Table<V> {
         requires free { uses room self.old.numbers ≡ 0 }
         ensures { self.new ≡ self.old }
     {
-        let Room { number: _, cell: _ } = room;
+        self.nodes.scrap(room);
     }
 
     /// Puts a route into this table, in a room of this table in which none stands, at a key with no bit past its rank.
@@ -66,14 +57,16 @@ impl<V: Drop> Table<V> {
         ensures next { self.new.next ≡ self.old.next }
         ensures turn { self.new.turn ≡ self.old.turn + 1 }
     {
-        cut(&mut self.head, &mut self.tail, &mut self.turn, key, rank);
-        if self.tail.begins_at(key, rank) {
-            return Err((room, value));
-        }
-        let Room { number, cell } = room;
+        let mut visits = self.nodes.begin();
         let entry = Entry::of(key, rank, value);
-        self.tail.push(cell, Lodged { number, entry });
-        Ok(())
+        match insert(&mut self.nodes, self.root, room, entry, &mut visits) {
+            Err(back) => Err(back),
+            Ok(root) => {
+                self.root = Some(root);
+                self.counts.added(rank);
+                Ok(())
+            }
+        }
     }
 
     /// Takes the route with this key and rank out of the table and frees its room. `None` where the table has no such
@@ -87,12 +80,21 @@ impl<V: Drop> Table<V> {
         ensures next { self.new.next ≡ self.old.next }
         ensures turn { self.new.turn ≡ self.old.turn + 1 }
     {
-        cut(&mut self.head, &mut self.tail, &mut self.turn, key, rank);
-        if !self.tail.begins_at(key, rank) {
+        let mut visits = self.nodes.begin();
+        if !self.counts.has(rank) {
             return None;
         }
-        let lodged = self.tail.pop()?;
-        Some(lodged.entry.value)
+        let Some(root) = self.root else {
+            return None;
+        };
+        let Some(at) = room_of(&self.nodes, root, key, rank, &mut visits) else {
+            return None;
+        };
+        let (root, freed, value) = remove_route(&mut self.nodes, root, at, &mut visits);
+        self.root = root;
+        self.counts.dropped(rank);
+        self.nodes.scrap(freed);
+        Some(value)
     }
 
     /// The value of the route with this key and rank, to be changed, or `None` where the table has no such route.
@@ -101,28 +103,13 @@ impl<V: Drop> Table<V> {
         ensures value { option_map (λ v. v.now) result
             ≡ option_map (λ e. e.value) (entry_at key rank self.old.entries) }
     {
-        cut(&mut self.head, &mut self.tail, &mut self.turn, key, rank);
-        if !self.tail.begins_at(key, rank) {
+        let mut visits = self.nodes.begin();
+        let Some(root) = self.root else {
             return None;
-        }
-        self.tail.first_mut()
+        };
+        let Some(room) = room_of(&self.nodes, root, key, rank, &mut visits) else {
+            return None;
+        };
+        Some(self.nodes.value_mut(room))
     }
-}
-
-/// Begins a turn, and cuts a table's list at a key and a rank: its front is then what stands before them, and its back
-/// all else.
-fn cut<V: Drop>(head: &mut Chain<V>, tail: &mut Chain<V>, turn: &mut Number, key: Inet, rank: Rank)
-    requires { IsTable (entries_of (head.old ++ tail.old)) }
-    ensures front { head.new ≡ below key rank (head.old ++ tail.old) }
-    ensures back { tail.new ≡ past key rank (head.old ++ tail.old) }
-    ensures turn { turn.new ≡ turn.old + 1 }
-{
-    turn.raise();
-    let mut visits = Visits::of(turn);
-    let front = mem::replace(head, Chain::new());
-    let back = mem::replace(tail, Chain::new());
-    let whole = front.poured(Chain::new()).poured(back);
-    let (front, back) = whole.split(key, rank, &mut visits);
-    *head = front.poured(Chain::new());
-    *tail = back;
 }

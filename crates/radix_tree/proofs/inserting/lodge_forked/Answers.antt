@@ -1,5 +1,8 @@
-use Rattle.std.proofs.Common.{◌∙◌, ap, ℕ}
+use Rattle.std.proofs.Common.{◌∙◌, ap, ℕ, Option}
 use Rattle.std.specs.FinMap.{get}
+use Rattle.radix_nodes.specs.declared.id.Id.{Id}
+use Rattle.radix_tree.specs.Rooms.{heads_in}
+use Rattle.radix_tree.specs.Growth.{with_head}
 use Rattle.radix_tree.proofs.Lodging.{Has-lodged_leaf, Has-again, lodged}
 use Rattle.radix_tree.proofs.inserting.lodge_forked.Goals as goal
 
@@ -16,3 +19,12 @@ returns-clause-lodged g c =
     (ap (λ (k : ℕ). get c.args.nodes.now.lodged k) c.lodge_leaf-id.ensures.number ∙ c.requires.free)
     c.lodge_leaf-id.ensures.leaves c.lodge_leaf-id.ensures.bits c.put_leaf.ensures.leaves c.put_leaf.ensures.bits c.put_bit_node.ensures.leaves c.put_bit_node.ensures.bits
     c.lone_leaf-2.ensures c.forked_node-node.ensures.part
+
+pub returns-clause-heads : goal.returns-clause-heads
+returns-clause-heads g c n =
+    c.put_bit_node.ensures.heads n
+    ∙ ap (λ (first : Option Id). with_head c.lodge_leaf-id.result first n (heads_in c.put_leaf.new.nodes.lodged n)) c.forked_node-node.ensures.masks
+    ∙ ap (λ (said : Option Id). with_head c.lodge_leaf-id.result c.args.masks n said) (c.put_leaf.ensures.heads n ∙ c.lodge_leaf-id.ensures.heads n)
+
+pub returns-clause-masks : goal.returns-clause-masks
+returns-clause-masks g c n = c.put_bit_node.ensures.masks n ∙ c.put_leaf.ensures.masks n ∙ c.lodge_leaf-id.ensures.masks n

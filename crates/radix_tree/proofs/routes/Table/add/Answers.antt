@@ -1,74 +1,66 @@
-use Rattle.std.proofs.Common.{◌≡◌, ◌+◌, ◌≤◌, ◌++◌, true, false, None, is_some, refl, ◌∙◌, ap, arith, rules}
-use Rattle.radix_tree.specs.Table.{Contents, IsRoute, entry_at, uses}
-use Rattle.radix_tree.specs.Lodged.{entries_of, numbers_of}
-use Rattle.radix_tree.specs.declared.entry.Lodged.{Lodged}
-use Rattle.radix_tree.proofs.HeldLemmas.{again, there, absent, put_in, held_put_in, uses_put_in}
+use Rattle.std.proofs.Common.{◌≡◌, ℕ, ◌+◌, ◌≤◌, ◌==◌, if◌then◌else◌, Bool, true, false, List, Option, Some, None, is_some, refl, sym, ap, subst, ◌∙◌, rules}
+use Rattle.std.specs.FinMap.{keys}
+use Rattle.mask_table.specs.Counts.{HasOneMore}
+use Rattle.radix_nodes.specs.Rooms.{Rooms}
+use Rattle.radix_tree.specs.Kept.{AreCounted}
+use Rattle.radix_tree.specs.Table.{Contents, IsTable, entry_at, uses, with_entry}
+use Rattle.radix_tree.specs.Whole.{shown}
+use Rattle.radix_tree.specs.declared.entry.Entry.{Entry}
+use Rattle.radix_tree.proofs.Counted.{few_held, counted_more}
+use Rattle.radix_tree.proofs.Numbers.{free_room, used_more}
+use Rattle.radix_tree.proofs.WholeChanges.{gains_entry}
+use Rattle.radix_tree.proofs.Kept.{shown_table, shown_next}
 use Rattle.radix_tree.proofs.routes.Table.add.Goals as goal
-use Rattle.radix_tree.proofs.routes.Table.add.Goals.{After-begins_at, After-push}
+use Rattle.radix_tree.proofs.routes.Table.add.Goals.{After-begin-visits, In-Ok}
 
-pub invariant_of-self : goal.invariant_of-self
-invariant_of-self g c = rw (c.cut.ensures.front, c.cut.ensures.back, again c.args.key c.args.rank _ c.self.invariant.table) c.self.invariant
+true_false : true ≡ false → ⊥
+true_false e = cc
 
--- the list before it was cut has the table's routes
-same : (g : _) (c : After-begins_at g) → entries_of (c.self.inside.head ++ c.self.inside.tail) ≡ c.args.self.now.entries
-same g c = ap (λ (t : Contents g.row.V.Denot). t.entries) c.self.view_is
+-- the numbers in use before are those that the table shows
+numbers : (g : _) (c : After-begin-visits g) (n : ℕ) → uses n (keys c.begin-visits.new.self.lodged) ≡ uses n c.args.self.now.numbers
+numbers g c n = ap (λ (r : Rooms g.row.V.Denot). uses n (keys r.lodged)) c.begin-visits.ensures.turn ∙ ap (λ (t : Contents g.row.V.Denot). uses n t.numbers) c.self.view_is
 
--- the back begins with the pair exactly where the table has such a route
-is_there : (g : _) (c : After-begins_at g) → is_some (entry_at c.args.key c.args.rank c.args.self.now.entries) ≡ c.begins_at.result
-is_there g c = there c.args.key c.args.rank _ c.cut.new.tail _ c.begins_at.result c.self.invariant.table (same g c) c.cut.ensures.back c.begins_at.ensures
+pub insert-requires-clause-free : goal.insert-requires-clause-free
+insert-requires-clause-free g c = free_room _ c.args.room (numbers g (goal.at.insert-requires-clause-free g c).After-begin-visits c.args.room ∙ c.requires.free)
 
-pub returns-then-begins_at-clause-there : goal.returns-then-begins_at-clause-there
-returns-then-begins_at-clause-there g c =
-    let is : is_some (entry_at c.args.key c.args.rank c.args.self.now.entries) ≡ true = is_there g (goal.at.returns-then-begins_at-clause-there g c).After-begins_at ∙ c.if-begins_at.true in
-    search rules
+pub added-requires : goal.added-requires
+added-requires g c =
+    let fits : c.args.rank ≤ 33 = search rules in
+    few_held c.self.inside.counts (shown c.self.inside.nodes.lodged c.self.inside.root) c.args.rank c.self.invariant.counted (shown_table _ c.self.inside.root c.self.invariant.holds) fits
 
-pub returns-then-begins_at-clause-err : goal.returns-then-begins_at-clause-err
-returns-then-begins_at-clause-err g c =
-    rw (c.cut.ensures.front, c.cut.ensures.back, again c.args.key c.args.rank _ c.self.invariant.table, c.cut.ensures.turn, ← c.self.view_is) refl
+-- the pair was not there
+absent : (g : _) (c : In-Ok g) → entry_at c.args.key c.args.rank c.args.self.now.entries ≡ None
+absent g c =
+    ap (λ (es : List (Entry g.row.V.Denot)). entry_at c.args.key c.args.rank es) (sym (shown_next c.self.inside.nodes c.begin-visits.new.self c.self.inside.root _ c.self.view_is c.begin-visits.ensures.turn))
+    ∙ ap (λ (e : Entry g.row.V.Denot). entry_at e.key e.rank (shown c.begin-visits.new.self.lodged c.self.inside.root)) (sym c.of-entry.ensures.entry)
+    ∙ (gains_entry c.of-entry.result _ _ c.in-Ok.ensures.routes (shown_table c.insert.new.nodes.lodged (Some c.in-Ok.root) c.in-Ok.ensures.whole)).1
 
--- the route that is put in, in its room
-abbrev put : (g : _) → After-push g → Lodged g.row.V.Denot
-put g c = record { number = c.room.inside.number; entry = record { key = c.args.key; rank = c.args.rank; value = c.args.value } }
-
-is_route : (g : _) (c : After-push g) → IsRoute (put g c).entry
-is_route g c = rw (← c.of-entry.ensures.entry) c.of-entry.ensures.route
-
--- no such route was in the list before
-none : (g : _) (c : After-push g) → entry_at c.args.key c.args.rank (entries_of (c.self.inside.head ++ c.self.inside.tail)) ≡ None
-none g c = absent c.args.key c.args.rank _ c.cut.new.tail _ c.begins_at.result c.self.invariant.table refl c.cut.ensures.back c.begins_at.ensures c.if-begins_at.false
-
-pub invariant_of-self-2 : goal.invariant_of-self-2
-invariant_of-self-2 g c =
-    let at = (goal.at.invariant_of-self-2 g c).After-push in
-    let ls = c.self.inside.head ++ c.self.inside.tail in
-    let number : c.room.inside.number ≡ c.args.room = c.room.view_is in
-    let numbers : numbers_of ls ≡ c.args.self.now.numbers = ap (λ (t : Contents g.row.V.Denot). t.numbers) c.self.view_is in
-    let next : c.self.inside.last + 1 ≡ c.args.self.now.next = ap (λ (t : Contents g.row.V.Denot). t.next) c.self.view_is in
-    let made : c.room.inside.number ≤ c.self.inside.last = omega (arith, c.requires.made) in
-    let free : uses c.room.inside.number (numbers_of ls) ≡ 0 = rw (number, numbers) c.requires.free in
-    rw (c.push.ensures, c.of-entry.ensures.entry, c.cut.ensures.front, c.cut.ensures.back)
-    (held_put_in c.self.inside.last (put g at) ls c.self.invariant (is_route g at) (none g at) made free)
+pub invariant_of-self-in-Ok : goal.invariant_of-self-in-Ok
+invariant_of-self-in-Ok g c =
+    let before = shown_next c.self.inside.nodes c.begin-visits.new.self c.self.inside.root _ refl c.begin-visits.ensures.turn in
+    record {
+      holds = c.in-Ok.ensures.whole;
+      counted = counted_more c.of-entry.result _ _ c.self.inside.counts c.added.new.self
+          (subst (λ (es : List (Entry g.row.V.Denot)). AreCounted c.self.inside.counts es) (sym before) c.self.invariant.counted) c.in-Ok.ensures.routes
+          (subst (λ r. HasOneMore r c.self.inside.counts c.added.new.self) (sym (ap (λ (e : Entry g.row.V.Denot). e.rank) c.of-entry.ensures.entry)) c.added.ensures);
+    }
 
 pub returns-clause-there : goal.returns-clause-there
 returns-clause-there g c =
-    let is : is_some (entry_at c.args.key c.args.rank c.args.self.now.entries) ≡ false = is_there g (goal.at.returns-clause-there g c).After-begins_at ∙ c.if-begins_at.false in
-    search rules
+    let none = absent g (goal.at.returns-clause-there g c).In-Ok in
+    (λ e. absurd (true_false (sym e)), λ some. ap (λ (o : Option (Entry g.row.V.Denot)). is_some o) (sym none) ∙ some)
 
 pub returns-clause-absent : goal.returns-clause-absent
-returns-clause-absent g c =
-    let at = (goal.at.returns-clause-absent g c).After-begins_at in
-    absent c.args.key c.args.rank _ c.cut.new.tail _ c.begins_at.result c.self.invariant.table (same g at) c.cut.ensures.back c.begins_at.ensures c.if-begins_at.false
+returns-clause-absent g c = absent g (goal.at.returns-clause-absent g c).In-Ok
 
 pub returns-clause-ok : goal.returns-clause-ok
 returns-clause-ok g c =
-    let at = (goal.at.returns-clause-ok g c).After-push in
-    rw (c.push.ensures, c.of-entry.ensures.entry, c.cut.ensures.front, c.cut.ensures.back, ← same g (goal.at.returns-clause-ok g c).After-begins_at)
-    (put_in (put g at) (c.self.inside.head ++ c.self.inside.tail) c.self.invariant.table (none g at))
+    (gains_entry c.of-entry.result _ _ c.in-Ok.ensures.routes (shown_table c.insert.new.nodes.lodged (Some c.in-Ok.root) c.in-Ok.ensures.whole)).0
+    ∙ ap (λ (e : Entry g.row.V.Denot). with_entry e (shown c.begin-visits.new.self.lodged c.self.inside.root)) c.of-entry.ensures.entry
+    ∙ ap (λ (es : List (Entry g.row.V.Denot)). with_entry (record { key = c.args.key; rank = c.args.rank; value = c.args.value }) es) (shown_next c.self.inside.nodes c.begin-visits.new.self c.self.inside.root _ c.self.view_is c.begin-visits.ensures.turn)
 
 pub returns-clause-numbers : goal.returns-clause-numbers
 returns-clause-numbers g c = λ n.
-    let ls = c.self.inside.head ++ c.self.inside.tail in
-    let number : c.room.inside.number ≡ c.args.room = c.room.view_is in
-    let numbers : numbers_of ls ≡ c.args.self.now.numbers = ap (λ (t : Contents g.row.V.Denot). t.numbers) c.self.view_is in
-    rw (c.push.ensures, c.of-entry.ensures.entry, c.cut.ensures.front, c.cut.ensures.back, ← number, ← numbers)
-    (uses_put_in n c.args.key c.args.rank (put g (goal.at.returns-clause-numbers g c).After-push) ls c.self.invariant.table)
+    let at = (goal.at.returns-clause-numbers g c).After-begin-visits in
+    used_more c.begin-visits.new.self.lodged c.insert.new.nodes.lodged c.args.room (free_room _ c.args.room (numbers g at c.args.room ∙ c.requires.free)) c.in-Ok.ensures.rooms n
+    ∙ ap (λ (u : ℕ). u + (if c.args.room == n then 1 else 0)) (numbers g at n)

@@ -1,48 +1,81 @@
-use borrow.Follows.Closed.{read_of}
-use Rattle.std.proofs.Common.{◌≡◌, ◌++◌, true, false, None, refl, ◌∙◌, ap, inr, rules}
-use Rattle.std.specs.Option.{ghost_name_of}
-use Rattle.radix_tree.specs.Table.{Contents, entry_at}
-use Rattle.radix_tree.specs.Lodged.{entries_of, IsHeld}
-use Rattle.radix_tree.specs.Chain.{begins_at}
-use Rattle.radix_tree.specs.Lending.{with_first, with_value}
-use Rattle.radix_tree.proofs.HeldLemmas.{again, absent}
-use Rattle.radix_tree.proofs.LentLemmas.{held_lent, value_lent, seen, seen_lent, seen_kept}
+use Rattle.std.proofs.Common.{◌≡◌, ℕ, ◌+◌, List, Option, Some, None, refl, sym, ap, subst, ◌∙◌, inl, inr}
+use Rattle.std.specs.Prelude.{option_map}
+use Rattle.std.specs.FinMap.{keys}
+use Rattle.radix_nodes.specs.Rooms.{Rooms, put_value}
+use Rattle.radix_nodes.specs.declared.links.Node.{Node}
+use Rattle.radix_tree.specs.Kept.{contents, IsKept, AreCounted}
+use Rattle.radix_tree.specs.Lending.{with_value}
+use Rattle.radix_tree.specs.Table.{Contents, entry_at, with_entry}
+use Rattle.radix_tree.specs.Whole.{Holds, shown}
+use Rattle.radix_tree.specs.declared.entry.Entry.{Entry}
+use Rattle.radix_tree.proofs.Valued.{put_valued, valued_whole, lent_shown, lent_counted, lent_keys}
+use Rattle.radix_tree.proofs.Kept.{Has-found, IsFound, found, not_found, value_found, whole_next, shown_next, entries_next}
 use Rattle.radix_tree.proofs.routes.Table.get_mut.Goals as goal
+use Rattle.radix_tree.proofs.routes.Table.get_mut.Goals.{In-Some-room_of}
 
-pub invariant_of-self : goal.invariant_of-self
-invariant_of-self g c = rw (c.cut.ensures.front, c.cut.ensures.back, again c.args.key c.args.rank _ c.self.invariant.table) c.self.invariant
+pub room_of-requires-clause-tree : goal.room_of-requires-clause-tree
+room_of-requires-clause-tree g c =
+    let w = whole_next c.self.inside.nodes c.begin-visits.new.self _ c.in-Some.root c.self.invariant.holds c.in-Some.is c.begin-visits.ensures.turn in (w.part, w.named)
 
-pub returns-then-not-begins_at : goal.returns-then-not-begins_at
-returns-then-not-begins_at g c =
-    let same : entries_of (c.self.inside.head ++ c.self.inside.tail) ≡ c.args.self.now.entries = ap (λ (t : Contents g.row.V.Denot). t.entries) c.self.view_is in
-    let not_first : c.begins_at.result ≡ false = search rules in
-    let none : entry_at c.args.key c.args.rank c.args.self.now.entries ≡ None =
-    absent c.args.key c.args.rank _ c.cut.new.tail _ c.begins_at.result c.self.invariant.table same c.cut.ensures.back c.begins_at.ensures not_first in (
-      ap inr (seen_kept c.args.key c.args.rank c.self.inside.last c.self.inside.turn c.cut.new.turn (c.self.inside.head ++ c.self.inside.tail) c.cut.new.head c.cut.new.tail c.args.self.now
-          c.self.view_is c.self.invariant.table c.cut.ensures.front c.cut.ensures.back c.cut.ensures.turn),
-      record { writes = tt; value = rw none refl },
-    )
+pub returns-in_default-room_of : goal.returns-in_default-room_of
+returns-in_default-room_of g c =
+    let w = whole_next c.self.inside.nodes c.begin-visits.new.self _ c.in-Some.root c.self.invariant.holds c.in-Some.is c.begin-visits.ensures.turn in
+    let none : entry_at c.args.key c.args.rank c.args.self.now.entries ≡ None
+    = ap (λ (es : List (Entry g.row.V.Denot)). entry_at c.args.key c.args.rank es) (sym (entries_next c.self.inside.nodes c.begin-visits.new.self _ c.in-Some.root _ c.self.view_is c.in-Some.is c.begin-visits.ensures.turn))
+    ∙ not_found c.begin-visits.new.self.lodged c.in-Some.root w c.args.key c.args.rank c.room_of.result c.in_default-room_of.is (c.room_of.ensures.found w.part w.named) in
+    let kept : contents c.begin-visits.new.self c.self.inside.root ≡ record c.args.self.now { turn = c.args.self.now.turn + 1 }
+    = ap (λ (r : Rooms g.row.V.Denot). contents r c.self.inside.root) c.begin-visits.ensures.turn ∙ ap (λ (t : Contents g.row.V.Denot). record t { turn = t.turn + 1 }) c.self.view_is in
+    (ap inr kept, record { writes = tt; value = rw none refl })
+
+-- the room that was found
+is_found : (g : _) (c : In-Some-room_of g) → IsFound c.begin-visits.new.self.lodged c.in-Some.root c.args.key c.args.rank c.in-Some-room_of.room
+is_found g c =
+    let w = whole_next c.self.inside.nodes c.begin-visits.new.self _ c.in-Some.root c.self.invariant.holds c.in-Some.is c.begin-visits.ensures.turn in
+    found c.begin-visits.new.self.lodged c.in-Some.root w c.args.key c.args.rank c.room_of.result c.in-Some-room_of.room c.in-Some-room_of.is (c.room_of.ensures.found w.part w.named)
+
+pub value_mut-requires : goal.value_mut-requires
+value_mut-requires g c =
+    record { there = Has-found _ c.in-Some.root c.args.key c.args.rank c.in-Some-room_of.room (is_found g (goal.at.value_mut-requires g c).In-Some-room_of) }
 
 pub invariant_of-self-lent : goal.invariant_of-self-lent
-invariant_of-self-lent g c = λ r.
-    let held : IsHeld c.self.inside.last (c.cut.new.head ++ c.cut.new.tail) =
-    rw (c.cut.ensures.front, c.cut.ensures.back, again c.args.key c.args.rank _ c.self.invariant.table) c.self.invariant in
-    (λ w. held_lent c.self.inside.last c.cut.new.head c.cut.new.tail w held, held)
+invariant_of-self-lent g c = λ v.
+    let f = is_found g (goal.at.invariant_of-self-lent g c).In-Some-room_of in
+    let m = c.begin-visits.new.self.lodged in
+    let w = whole_next c.self.inside.nodes c.begin-visits.new.self _ c.in-Some.root c.self.invariant.holds c.in-Some.is c.begin-visits.ensures.turn in
+    let has = Has-found m c.in-Some.root c.args.key c.args.rank c.in-Some-room_of.room f in
+    let before : shown m (Some c.in-Some.root) ≡ shown c.self.inside.nodes.lodged c.self.inside.root
+    = entries_next c.self.inside.nodes c.begin-visits.new.self _ c.in-Some.root _ refl c.in-Some.is c.begin-visits.ensures.turn in
+    let counted = subst (λ (es : List (Entry g.row.V.Denot)). AreCounted c.self.inside.counts es) (sym before) c.self.invariant.counted in
+    subst (λ (o : Option Node). IsKept (record { lodged = put_value m c.in-Some-room_of.room v; next = c.begin-visits.new.self.next; turn = c.begin-visits.new.self.turn }) o c.self.inside.counts) (sym c.in-Some.is) (record {
+      holds = valued_whole m (put_value m c.in-Some-room_of.room v) c.in-Some-room_of.room.number v c.in-Some.root (put_valued m c.in-Some-room_of.room v has) w;
+      counted = lent_counted m c.in-Some.root w c.args.key c.args.rank c.room_of.result c.in-Some-room_of.room c.self.inside.counts c.in-Some-room_of.is (c.room_of.ensures.found w.part w.named) has v counted;
+    })
+
+-- the table once the value is given back
+lent : (g : _) (c : In-Some-room_of g) (v : g.row.V.Denot) → contents (record { lodged = put_value c.begin-visits.new.self.lodged c.in-Some-room_of.room v; next = c.begin-visits.new.self.next; turn = c.begin-visits.new.self.turn }) c.self.inside.root
+    ≡ with_value c.args.key c.args.rank c.args.self.now v
+lent g c v =
+    let m = c.begin-visits.new.self.lodged in
+    let w = whole_next c.self.inside.nodes c.begin-visits.new.self _ c.in-Some.root c.self.invariant.holds c.in-Some.is c.begin-visits.ensures.turn in
+    let has = Has-found m c.in-Some.root c.args.key c.args.rank c.in-Some-room_of.room (is_found g c) in
+    let e : Entry g.row.V.Denot = record { key = c.args.key; rank = c.args.rank; value = v } in
+    let entries : shown (put_value m c.in-Some-room_of.room v) c.self.inside.root ≡ with_entry e c.args.self.now.entries
+    = ap (λ (o : Option Node). shown (put_value m c.in-Some-room_of.room v) o) c.in-Some.is
+    ∙ lent_shown m c.in-Some.root w c.args.key c.args.rank c.room_of.result c.in-Some-room_of.room c.in-Some-room_of.is (c.room_of.ensures.found w.part w.named) has v
+    ∙ ap (λ (es : List (Entry g.row.V.Denot)). with_entry e es) (entries_next c.self.inside.nodes c.begin-visits.new.self _ c.in-Some.root _ c.self.view_is c.in-Some.is c.begin-visits.ensures.turn) in
+    let numbers : keys (put_value m c.in-Some-room_of.room v) ≡ c.args.self.now.numbers
+    = lent_keys m c.in-Some-room_of.room v has ∙ ap (λ (r : Rooms g.row.V.Denot). keys r.lodged) c.begin-visits.ensures.turn ∙ ap (λ (t : Contents g.row.V.Denot). t.numbers) c.self.view_is in
+    let next : c.begin-visits.new.self.next ≡ c.args.self.now.next
+    = ap (λ (r : Rooms g.row.V.Denot). r.next) c.begin-visits.ensures.turn ∙ ap (λ (t : Contents g.row.V.Denot). t.next) c.self.view_is in
+    let turn : c.begin-visits.new.self.turn ≡ c.args.self.now.turn + 1
+    = ap (λ (r : Rooms g.row.V.Denot). r.turn) c.begin-visits.ensures.turn ∙ ap (λ (t : Contents g.row.V.Denot). t.turn + 1) c.self.view_is in
+    λ i. record { entries = entries i; numbers = numbers i; next = next i; turn = turn i }
 
 pub returns : goal.returns
 returns g c =
-    let ls = c.self.inside.head ++ c.self.inside.tail in
-    let first : c.begins_at.result ≡ true = search rules in
-    let begins : begins_at c.args.key c.args.rank c.cut.new.tail ≡ true = rw (← c.begins_at.ensures) first in
-    let kept = seen_kept c.args.key c.args.rank c.self.inside.last c.self.inside.turn c.cut.new.turn ls c.cut.new.head c.cut.new.tail c.args.self.now
-    c.self.view_is c.self.invariant.table c.cut.ensures.front c.cut.ensures.back c.cut.ensures.turn in
-    let lent : (w : g.row.V.Denot) → seen c.self.inside.last c.cut.new.turn (c.cut.new.head ++ with_first c.cut.new.tail w) ≡ with_value c.args.key c.args.rank c.args.self.now w
-    = λ w. seen_lent c.args.key c.args.rank c.self.inside.last c.self.inside.turn c.cut.new.turn ls c.cut.new.head c.cut.new.tail c.args.self.now w
-    c.self.view_is c.self.invariant.table c.cut.ensures.front c.cut.ensures.back begins c.cut.ensures.turn in
-    let same : entries_of ls ≡ c.args.self.now.entries = ap (λ (t : Contents g.row.V.Denot). t.entries) c.self.view_is in (
-      λ t. read_of (ghost_name_of c.first_mut.result) (λ (w : g.row.V.Denot). lent w t) (kept t),
-      record {
-        writes = tt;
-        value = rw (← same) (c.first_mut.ensures.value ∙ value_lent c.args.key c.args.rank ls c.cut.new.tail c.self.invariant.table c.cut.ensures.back begins);
-      },
-    )
+    let at = (goal.at.returns g c).In-Some-room_of in
+    let value : option_map (λ e. e.value) (entry_at c.args.key c.args.rank c.args.self.now.entries) ≡ Some c.value_mut.result.now
+    = ap (λ (o : Option (Entry g.row.V.Denot)). option_map (λ e. e.value) o)
+    (ap (λ (es : List (Entry g.row.V.Denot)). entry_at c.args.key c.args.rank es) (sym (entries_next c.self.inside.nodes c.begin-visits.new.self _ c.in-Some.root _ c.self.view_is c.in-Some.is c.begin-visits.ensures.turn))
+    ∙ sym (value_found c.begin-visits.new.self.lodged c.in-Some.root c.args.key c.args.rank c.in-Some-room_of.room (is_found g at) c.value_mut.result.now c.value_mut.ensures.value)) in
+    (λ t. inl (c.value_mut.result.ghost_name, λ v. lent g at v t), record { writes = tt; value = sym value })

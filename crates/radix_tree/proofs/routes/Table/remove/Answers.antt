@@ -1,68 +1,99 @@
-use Rattle.std.proofs.Common.{◌≡◌, ◌++◌, ◌∷◌, true, false, None, Some, refl, sym, ◌∙◌, ap, rules}
-use Rattle.radix_tree.specs.Table.{Contents, has_pair, entry_at}
-use Rattle.radix_tree.specs.Lodged.{entries_of, numbers_of}
-use Rattle.radix_tree.specs.Chain.{past}
+use Rattle.std.proofs.Common.{◌≡◌, ◌+◌, ◌≤◌, ◌==◌, if◌then◌else◌, List, Option, Some, None, refl, sym, ap, subst, ◌∙◌, rules}
+use Rattle.std.specs.Prelude.{option_map}
+use Rattle.std.specs.FinMap.{keys}
+use Rattle.mask_table.specs.Counts.{HasOneMore}
+use Rattle.radix_nodes.specs.Rooms.{Rooms}
+use Rattle.radix_tree.specs.Kept.{IsKept, AreCounted}
+use Rattle.radix_tree.specs.Table.{Contents, entry_at, uses, without}
+use Rattle.radix_tree.specs.Whole.{Holds, shown}
+use Rattle.radix_tree.specs.declared.entry.Entry.{Entry}
+use Rattle.radix_tree.proofs.Counted.{not_held, counted_less}
+use Rattle.radix_tree.proofs.Numbers.{used_more}
 use Rattle.radix_tree.proofs.TableLemmas.{without_absent}
-use Rattle.radix_tree.proofs.HeldLemmas.{again, absent, first_at, found, taken_out, held_taken_out, uses_taken_out}
+use Rattle.radix_tree.proofs.Gained.{lost}
+use Rattle.radix_tree.proofs.Kept.{Has-found, IsFound, found, not_found, whole_next, shown_next, entries_next}
 use Rattle.radix_tree.proofs.routes.Table.remove.Goals as goal
-use Rattle.radix_tree.proofs.routes.Table.remove.Goals.{After-begins_at, In_ok-lodged}
+use Rattle.radix_tree.proofs.routes.Table.remove.Goals.{Then-not-has, In_default-room_of, In-Some-room_of}
 
-pub invariant_of-self : goal.invariant_of-self
-invariant_of-self g c = rw (c.cut.ensures.front, c.cut.ensures.back, again c.args.key c.args.rank _ c.self.invariant.table) c.self.invariant
+-- a rank of which no route is held
+not_there : (g : _) (c : Then-not-has g) → entry_at c.args.key c.args.rank c.args.self.now.entries ≡ None
+not_there g c =
+    let fits : c.args.rank ≤ 33 = search rules in
+    ap (λ (t : Contents g.row.V.Denot). entry_at c.args.key c.args.rank t.entries) (sym c.self.view_is)
+    ∙ not_held c.self.inside.counts _ c.args.key c.args.rank c.has.result c.self.invariant.counted fits c.has.ensures.1 c.if-not-has.true
 
--- the list before it was cut has the table's routes
-same : (g : _) (c : After-begins_at g) → entries_of (c.self.inside.head ++ c.self.inside.tail) ≡ c.args.self.now.entries
-same g c = ap (λ (t : Contents g.row.V.Denot). t.entries) c.self.view_is
+pub returns-then-not-has-clause-value : goal.returns-then-not-has-clause-value
+returns-then-not-has-clause-value g c = rw (not_there g (goal.at.returns-then-not-has-clause-value g c).Then-not-has) refl
 
--- where the back doesn't begin with the pair, the table has no such route
-none : (g : _) (c : After-begins_at g) → c.begins_at.result ≡ false → entry_at c.args.key c.args.rank c.args.self.now.entries ≡ None
-none g c not_first = absent c.args.key c.args.rank _ c.cut.new.tail _ c.begins_at.result c.self.invariant.table (same g c) c.cut.ensures.back c.begins_at.ensures not_first
+pub returns-then-not-has-clause-entries : goal.returns-then-not-has-clause-entries
+returns-then-not-has-clause-entries g c =
+    shown_next c.self.inside.nodes c.begin-visits.new.self c.self.inside.root _ c.self.view_is c.begin-visits.ensures.turn
+    ∙ sym (without_absent c.args.key c.args.rank c.args.self.now.entries (not_there g (goal.at.returns-then-not-has-clause-entries g c).Then-not-has))
 
-pub returns-then-not-begins_at-clause-value : goal.returns-then-not-begins_at-clause-value
-returns-then-not-begins_at-clause-value g c =
-    rw (none g (goal.at.returns-then-not-begins_at-clause-value g c).After-begins_at (search rules)) refl
+pub room_of-requires-clause-tree : goal.room_of-requires-clause-tree
+room_of-requires-clause-tree g c =
+    let w = whole_next c.self.inside.nodes c.begin-visits.new.self _ c.in-Some.root c.self.invariant.holds c.in-Some.is c.begin-visits.ensures.turn in (w.part, w.named)
 
-pub returns-then-not-begins_at-clause-entries : goal.returns-then-not-begins_at-clause-entries
-returns-then-not-begins_at-clause-entries g c =
-    let at = (goal.at.returns-then-not-begins_at-clause-entries g c).After-begins_at in
-    rw (c.cut.ensures.front, c.cut.ensures.back, again c.args.key c.args.rank _ c.self.invariant.table)
-    (same g at ∙ sym (without_absent c.args.key c.args.rank c.args.self.now.entries (none g at (search rules))))
+-- a pair that was not found
+not_in : (g : _) (c : In_default-room_of g) → entry_at c.args.key c.args.rank c.args.self.now.entries ≡ None
+not_in g c =
+    let w = whole_next c.self.inside.nodes c.begin-visits.new.self _ c.in-Some.root c.self.invariant.holds c.in-Some.is c.begin-visits.ensures.turn in
+    ap (λ (es : List (Entry g.row.V.Denot)). entry_at c.args.key c.args.rank es) (sym (entries_next c.self.inside.nodes c.begin-visits.new.self _ c.in-Some.root _ c.self.view_is c.in-Some.is c.begin-visits.ensures.turn))
+    ∙ not_found c.begin-visits.new.self.lodged c.in-Some.root w c.args.key c.args.rank c.room_of.result c.in_default-room_of.is (c.room_of.ensures.found w.part w.named)
 
-pub returns-then-not-begins_at-clause-none : goal.returns-then-not-begins_at-clause-none
-returns-then-not-begins_at-clause-none g c =
-    rw (c.cut.ensures.front, c.cut.ensures.back, again c.args.key c.args.rank _ c.self.invariant.table) (ap (λ (t : Contents g.row.V.Denot). t.numbers) c.self.view_is)
+pub returns-in_default-room_of-clause-value : goal.returns-in_default-room_of-clause-value
+returns-in_default-room_of-clause-value g c = rw (not_in g (goal.at.returns-in_default-room_of-clause-value g c).In_default-room_of) refl
 
--- the back is the route that was popped, and what is left of the back
-parts : (g : _) (c : In_ok-lodged g) → past c.args.key c.args.rank (c.self.inside.head ++ c.self.inside.tail) ≡ c.in_ok-lodged.lodged ∷ c.pop.new.self
-parts g c = rw (← c.cut.ensures.back) c.in_ok-lodged.ensures.first
+pub returns-in_default-room_of-clause-entries : goal.returns-in_default-room_of-clause-entries
+returns-in_default-room_of-clause-entries g c =
+    shown_next c.self.inside.nodes c.begin-visits.new.self c.self.inside.root _ c.self.view_is c.begin-visits.ensures.turn
+    ∙ sym (without_absent c.args.key c.args.rank c.args.self.now.entries (not_in g (goal.at.returns-in_default-room_of-clause-entries g c).In_default-room_of))
 
--- and that route is the one to be removed
-first : (g : _) (c : In_ok-lodged g) → has_pair c.args.key c.args.rank c.in_ok-lodged.lodged.entry ≡ true
-first g c = first_at c.args.key c.args.rank c.cut.new.tail c.pop.new.self c.in_ok-lodged.lodged c.begins_at.result c.in_ok-lodged.ensures.first c.begins_at.ensures (search rules)
+-- the room that was found
+is_found : (g : _) (c : In-Some-room_of g) → IsFound c.begin-visits.new.self.lodged c.in-Some.root c.args.key c.args.rank c.in-Some-room_of.at
+is_found g c =
+    let w = whole_next c.self.inside.nodes c.begin-visits.new.self _ c.in-Some.root c.self.invariant.holds c.in-Some.is c.begin-visits.ensures.turn in
+    found c.begin-visits.new.self.lodged c.in-Some.root w c.args.key c.args.rank c.room_of.result c.in-Some-room_of.at c.in-Some-room_of.is (c.room_of.ensures.found w.part w.named)
+
+pub remove_route-root-requires-clause-there : goal.remove_route-root-requires-clause-there
+remove_route-root-requires-clause-there g c =
+    Has-found _ c.in-Some.root c.args.key c.args.rank c.in-Some-room_of.at (is_found g (goal.at.remove_route-root-requires-clause-there g c).In-Some-room_of)
 
 pub invariant_of-self-2 : goal.invariant_of-self-2
 invariant_of-self-2 g c =
-    let at = (goal.at.invariant_of-self-2 g c).In_ok-lodged in
-    rw c.cut.ensures.front
-    (held_taken_out c.args.key c.args.rank c.self.inside.last c.in_ok-lodged.lodged c.pop.new.self (c.self.inside.head ++ c.self.inside.tail) c.self.invariant (first g at) (parts g at))
+    let f = is_found g (goal.at.invariant_of-self-2 g c).In-Some-room_of in
+    let w = whole_next c.self.inside.nodes c.begin-visits.new.self _ c.in-Some.root c.self.invariant.holds c.in-Some.is c.begin-visits.ensures.turn in
+    let went = lost c.begin-visits.new.self.lodged c.remove_route-root.new.nodes.lodged c.in-Some.root c.remove_route-root.result.0 c.args.key c.args.rank c.in-Some-room_of.at w f c.remove_route-root.ensures.routes in
+    let before : shown c.begin-visits.new.self.lodged (Some c.in-Some.root) ≡ shown c.self.inside.nodes.lodged c.self.inside.root
+    = entries_next c.self.inside.nodes c.begin-visits.new.self _ c.in-Some.root _ refl c.in-Some.is c.begin-visits.ensures.turn in
+    let counted = subst (λ (es : List (Entry g.row.V.Denot)). AreCounted c.self.inside.counts es) (sym before) c.self.invariant.counted in
+    subst (λ (r : Rooms g.row.V.Denot). IsKept r c.remove_route-root.result.0 c.dropped.new.self) (sym c.scrap.ensures) (record {
+      holds = c.remove_route-root.ensures.whole;
+      counted = counted_less f.route.entry _ _ c.self.inside.counts c.dropped.new.self counted went.gains (subst (λ r. HasOneMore r c.dropped.new.self c.self.inside.counts) (sym f.has.1) c.dropped.ensures);
+    })
 
 pub returns-clause-value : goal.returns-clause-value
 returns-clause-value g c =
-    let at = (goal.at.returns-clause-value g c).In_ok-lodged in
-    let ls = c.self.inside.head ++ c.self.inside.tail in
-    let is : entry_at c.args.key c.args.rank (entries_of ls) ≡ Some c.in_ok-lodged.lodged.entry = found c.args.key c.args.rank c.in_ok-lodged.lodged c.pop.new.self ls c.self.invariant.table (first g at) (parts g at) in
-    rw (← same g (goal.at.returns-clause-value g c).After-begins_at, is) refl
+    let f = is_found g (goal.at.returns-clause-value g c).In-Some-room_of in
+    let is : entry_at c.args.key c.args.rank c.args.self.now.entries ≡ Some f.route.entry
+    = ap (λ (es : List (Entry g.row.V.Denot)). entry_at c.args.key c.args.rank es) (sym (entries_next c.self.inside.nodes c.begin-visits.new.self _ c.in-Some.root _ c.self.view_is c.in-Some.is c.begin-visits.ensures.turn))
+    ∙ f.entry in
+    ap (λ (v : g.row.V.Denot). Some v) (c.remove_route-root.ensures.value f.said.part f.said.at ∙ ap (λ (e : Entry g.row.V.Denot). e.value) f.said.entry)
+    ∙ ap (λ (o : Option (Entry g.row.V.Denot)). option_map (λ e. e.value) o) (sym is)
 
 pub returns-clause-entries : goal.returns-clause-entries
 returns-clause-entries g c =
-    let at = (goal.at.returns-clause-entries g c).In_ok-lodged in
-    rw (c.cut.ensures.front, ← same g (goal.at.returns-clause-entries g c).After-begins_at)
-    (taken_out c.args.key c.args.rank c.in_ok-lodged.lodged c.pop.new.self (c.self.inside.head ++ c.self.inside.tail) c.self.invariant.table (first g at) (parts g at))
+    let f = is_found g (goal.at.returns-clause-entries g c).In-Some-room_of in
+    let w = whole_next c.self.inside.nodes c.begin-visits.new.self _ c.in-Some.root c.self.invariant.holds c.in-Some.is c.begin-visits.ensures.turn in
+    let went = lost c.begin-visits.new.self.lodged c.remove_route-root.new.nodes.lodged c.in-Some.root c.remove_route-root.result.0 c.args.key c.args.rank c.in-Some-room_of.at w f c.remove_route-root.ensures.routes in
+    ap (λ (r : Rooms g.row.V.Denot). shown r.lodged c.remove_route-root.result.0) c.scrap.ensures ∙ went.entries
+    ∙ ap (λ (es : List (Entry g.row.V.Denot)). without c.args.key c.args.rank es) (entries_next c.self.inside.nodes c.begin-visits.new.self _ c.in-Some.root _ c.self.view_is c.in-Some.is c.begin-visits.ensures.turn)
 
 pub returns-clause-numbers : goal.returns-clause-numbers
-returns-clause-numbers g c =
-    let ls = c.self.inside.head ++ c.self.inside.tail in
-    let l = c.in_ok-lodged.lodged in
-    let numbers : numbers_of ls ≡ c.args.self.now.numbers = ap (λ (t : Contents g.row.V.Denot). t.numbers) c.self.view_is in
-    let back : past c.args.key c.args.rank ls ≡ l ∷ c.pop.new.self = rw (← c.cut.ensures.back) c.in_ok-lodged.ensures.first in
-    (l.number, λ n. rw (c.cut.ensures.front, ← numbers) (uses_taken_out n c.args.key c.args.rank l c.pop.new.self ls c.self.invariant.table back))
+returns-clause-numbers g c = (
+  c.in-Some-room_of.at.number,
+  λ n. ap (λ (t : Contents g.row.V.Denot). uses n t.numbers) (sym c.self.view_is)
+      ∙ ap (λ (r : Rooms g.row.V.Denot). uses n (keys r.lodged)) (sym c.begin-visits.ensures.turn)
+      ∙ used_more c.remove_route-root.new.nodes.lodged c.begin-visits.new.self.lodged c.in-Some-room_of.at.number c.remove_route-root.ensures.gone c.remove_route-root.ensures.rooms n
+      ∙ ap (λ (r : Rooms g.row.V.Denot). uses n (keys r.lodged) + (if c.in-Some-room_of.at.number == n then 1 else 0)) (sym c.scrap.ensures),
+)

@@ -1,0 +1,155 @@
+-- A chain with a member more.
+use Rattle.std.proofs.Common.{◌≡◌, ℕ, ◌+◌, ◌<◌, ◌≤◌, ◌⊎◌, ◌==◌, List, [], ◌∷◌, ◌++◌, map, Some, None, refl, sym, ap, ◌∙◌, inl, inr, ⊎_elim, arith}
+use Rattle.std.proofs.lemmas.List.{map-append}
+use Rattle.radix_tree.specs.Table.{IsRoute}
+use Rattle.radix_tree.specs.Tree.{Placed, IsAmong, IsChain}
+use Rattle.radix_tree.specs.Rooms.{BitPart, Bits}
+use Rattle.radix_tree.specs.Whole.{one_if, members_at, AreIdle, HasOneFork}
+use Rattle.radix_tree.specs.Growth.{Gains}
+use Rattle.radix_tree.specs.Chains.{ArePast, IsBelow}
+use Rattle.radix_tree.specs.declared.entry.Entry.{Entry}
+use Rattle.radix_tree.proofs.RoomReads.{none_some}
+use Rattle.radix_tree.proofs.Grown.{one_if_same}
+
+module _ {V : Type 0} where
+  -- a list has a first member
+  pub record IsCons (c : List (Placed V)) : Type 0 where
+    pub first : Placed V
+    pub rest : List (Placed V)
+    pub is : c ≡ first ∷ rest
+
+  abbrev pub cons_at : (front back : List (Placed V)) (x : Placed V) → IsCons (front ++ (x ∷ back))
+  cons_at [] back x = record { first = x; rest = back; is = refl }
+  cons_at (y ∷ front) back x = record { first = y; rest = front ++ (x ∷ back); is = refl }
+
+  abbrev pub map_entries : List (Placed V) → List (Entry V)
+  map_entries c = map (λ p. p.entry) c
+
+  -- ---- how often
+  pub members_append : (n : ℕ) (front back : List (Placed V)) → members_at n (front ++ back) ≡ members_at n front + members_at n back
+  members_append n [] back = omega arith
+  members_append n (y ∷ front) back = let rest : members_at n (front ++ back) ≡ members_at n front + members_at n back = members_append n front back in omega arith
+
+  pub members_more : (n : ℕ) (front back : List (Placed V)) (x : Placed V) → members_at n (front ++ (x ∷ back)) ≡ members_at n (front ++ back) + one_if (x.room.number == n)
+  members_more n front back x =
+      let more : members_at n (front ++ (x ∷ back)) ≡ members_at n front + members_at n (x ∷ back) = members_append n front (x ∷ back) in
+      let less : members_at n (front ++ back) ≡ members_at n front + members_at n back = members_append n front back in omega arith
+
+  pub member_counts : (c : List (Placed V)) (y : Placed V) → IsAmong y c → 1 ≤ members_at y.room.number c
+  member_counts [] y is = absurd is
+  member_counts (x ∷ c) y is = ⊎_elim
+      (λ (e : x ≡ y). let one : one_if (x.room.number == y.room.number) ≡ 1 = ap (λ (p : Placed V). one_if (x.room.number == p.room.number)) (sym e) ∙ one_if_same x.room.number in omega arith)
+      (λ (later : IsAmong y c). let some : 1 ≤ members_at y.room.number c = member_counts c y later in omega arith)
+      is
+
+  -- ---- what is among
+  pub among_more : (front back : List (Placed V)) (x y : Placed V) → IsAmong y (front ++ back) → IsAmong y (front ++ (x ∷ back))
+  among_more [] back x y is = inr is
+  among_more (z ∷ front) back x y is = ⊎_elim (λ (e : z ≡ y). inl e) (λ (later : IsAmong y (front ++ back)). inr (among_more front back x y later)) is
+
+  pub among_own : (front back : List (Placed V)) (x : Placed V) → IsAmong x (front ++ (x ∷ back))
+  among_own [] back x = inl refl
+  among_own (z ∷ front) back x = inr (among_own front back x)
+
+  pub among_less : (front back : List (Placed V)) (x y : Placed V) → IsAmong y (front ++ (x ∷ back)) → (x ≡ y) ⊎ IsAmong y (front ++ back)
+  among_less [] back x y is = is
+  among_less (z ∷ front) back x y is = ⊎_elim
+      (λ (e : z ≡ y). inr (inl e))
+      (λ (later : IsAmong y (front ++ (x ∷ back))). ⊎_elim (λ (e : x ≡ y). inl e) (λ (own : IsAmong y (front ++ back)). inr (inr own)) (among_less front back x y later))
+      is
+
+  -- a member splits a list
+  pub record IsSplit (c : List (Placed V)) (x : Placed V) : Type 0 where
+    pub front : List (Placed V)
+    pub back : List (Placed V)
+    pub is : c ≡ front ++ (x ∷ back)
+
+  pub split_at : (c : List (Placed V)) (x : Placed V) → IsAmong x c → IsSplit c x
+  split_at [] x is = absurd is
+  split_at (z ∷ c) x is = ⊎_elim
+      (λ (e : z ≡ x). record { front = []; back = c; is = ap (λ (p : Placed V). p ∷ c) e })
+      (λ (later : IsAmong x c). let s = split_at c x later in record { front = z ∷ s.front; back = s.back; is = ap (λ (ms : List (Placed V)). z ∷ ms) s.is })
+      is
+
+  -- ---- bit nodes in use
+  idle_less : (B : Bits) (front back : List (Placed V)) (x : Placed V) → AreIdle B (front ++ (x ∷ back)) → AreIdle B (front ++ back)
+  idle_less B [] back x idle = idle.1
+  idle_less B (y ∷ front) back x idle = (idle.0, idle_less B front back x idle.1)
+
+  idle_more : (B : Bits) (front back : List (Placed V)) (x : Placed V) → AreIdle B (front ++ back) → B x.room.number ≡ None → AreIdle B (front ++ (x ∷ back))
+  idle_more B [] back x idle none = (none, idle)
+  idle_more B (y ∷ front) back x idle none = (idle.0, idle_more B front back x idle.1 none)
+
+  idle_one : (B : Bits) (c : List (Placed V)) → AreIdle B c → HasOneFork B c
+  idle_one B [] idle = tt
+  idle_one B (y ∷ c) idle = inl idle.1
+
+  pub one_fork_less : (B : Bits) (front back : List (Placed V)) (x : Placed V) → HasOneFork B (front ++ (x ∷ back)) → HasOneFork B (front ++ back)
+  one_fork_less B [] back x one = ⊎_elim (λ (idle : AreIdle B back). idle_one B back idle) (λ (own : (B x.room.number ≡ None) × HasOneFork B back). own.1) one
+  one_fork_less B (y ∷ front) back x one = ⊎_elim
+      (λ (idle : AreIdle B (front ++ (x ∷ back))). inl (idle_less B front back x idle))
+      (λ (own : (B y.room.number ≡ None) × HasOneFork B (front ++ (x ∷ back))). inr (own.0, one_fork_less B front back x own.1))
+      one
+
+  pub one_fork_more : (B : Bits) (front back : List (Placed V)) (x : Placed V) → HasOneFork B (front ++ back) → B x.room.number ≡ None → HasOneFork B (front ++ (x ∷ back))
+  one_fork_more B [] back x one none = inr (none, one)
+  one_fork_more B (y ∷ front) back x one none = ⊎_elim
+      (λ (idle : AreIdle B (front ++ back)). inl (idle_more B front back x idle none))
+      (λ (own : (B y.room.number ≡ None) × HasOneFork B (front ++ back)). inr (own.0, one_fork_more B front back x own.1 none))
+      one
+
+  idle_same : (B C : Bits) (c : List (Placed V)) → ((n : ℕ) → B n ≡ None → C n ≡ None) → AreIdle B c → AreIdle C c
+  idle_same B C [] same idle = tt
+  idle_same B C (y ∷ c) same idle = (same y.room.number idle.0, idle_same B C c same idle.1)
+
+  pub one_fork_same : (B C : Bits) (c : List (Placed V)) → ((n : ℕ) → B n ≡ None → C n ≡ None) → HasOneFork B c → HasOneFork C c
+  one_fork_same B C [] same one = tt
+  one_fork_same B C (y ∷ c) same one = ⊎_elim
+      (λ (idle : AreIdle B c). inl (idle_same B C c same idle))
+      (λ (own : (B y.room.number ≡ None) × HasOneFork B c). inr (same y.room.number own.0, one_fork_same B C c same own.1))
+      one
+
+  idle_at : (B : Bits) (c : List (Placed V)) (y : Placed V) → AreIdle B c → IsAmong y c → B y.room.number ≡ None
+  idle_at B [] y idle is = absurd is
+  idle_at B (z ∷ c) y idle is = ⊎_elim (λ (e : z ≡ y). ap (λ (p : Placed V). B p.room.number) (sym e) ∙ idle.0) (λ (later : IsAmong y c). idle_at B c y idle.1 later) is
+
+  -- where one member's room is a bit node in use, no other one's is
+  pub others_idle : (B : Bits) (front back : List (Placed V)) (x y : Placed V) (b : BitPart) → HasOneFork B (front ++ (x ∷ back)) → B x.room.number ≡ Some b → IsAmong y (front ++ back) → B y.room.number ≡ None
+  others_idle B [] back x y b one used is = ⊎_elim
+      (λ (idle : AreIdle B back). idle_at B back y idle is)
+      (λ (own : (B x.room.number ≡ None) × HasOneFork B back). absurd (none_some (sym own.0 ∙ used)))
+      one
+  others_idle B (z ∷ front) back x y b one used is = ⊎_elim
+      (λ (idle : AreIdle B (front ++ (x ∷ back))). absurd (none_some (sym (idle_at B (front ++ (x ∷ back)) x idle (among_own front back x)) ∙ used)))
+      (λ (own : (B z.room.number ≡ None) × HasOneFork B (front ++ (x ∷ back))). ⊎_elim
+      (λ (e : z ≡ y). ap (λ (p : Placed V). B p.room.number) (sym e) ∙ own.0)
+      (λ (later : IsAmong y (front ++ back)). others_idle B front back x y b own.1 used later)
+      is)
+      one
+
+  -- ---- order
+  chain_raise : (key low top : ℕ) (c : List (Placed V)) → low ≤ top → IsChain key low c → IsChain key top c
+  chain_raise key low top [] le is = tt
+  chain_raise key low top (y ∷ c) le is = let lt : y.entry.rank < low = is.2 in (is.0, is.1, omega arith, is.3)
+
+  pub chain_less : (key top : ℕ) (front back : List (Placed V)) (x : Placed V) → IsChain key top (front ++ (x ∷ back)) → IsChain key top (front ++ back)
+  chain_less key top [] back x is = let lt : x.entry.rank < top = is.2 in chain_raise key x.entry.rank top back (omega arith) is.3
+  chain_less key top (y ∷ front) back x is = (is.0, is.1, is.2, chain_less key y.entry.rank front back x is.3)
+
+  chain_lower : (key top rank : ℕ) (c : List (Placed V)) → IsBelow rank c → IsChain key top c → IsChain key rank c
+  chain_lower key top rank [] below is = tt
+  chain_lower key top rank (y ∷ c) below is = (is.0, is.1, below, is.3)
+
+  pub chain_more : (key top : ℕ) (front back : List (Placed V)) (x : Placed V) → IsChain key top (front ++ back) → IsRoute x.entry → x.entry.key ≡ key → x.entry.rank < top → ArePast x.entry.rank front → IsBelow x.entry.rank back
+      → IsChain key top (front ++ (x ∷ back))
+  chain_more key top [] back x is route same lt past below = (route, same, lt, chain_lower key top x.entry.rank back below is)
+  chain_more key top (y ∷ front) back x is route same lt past below = (is.0, is.1, is.2, chain_more key y.entry.rank front back x is.3 route same past.0 past.1 below)
+
+  -- ---- routes
+  pub routes_more : (front back : List (Placed V)) (x : Placed V) → Gains x.entry (map_entries (front ++ back)) (map_entries (front ++ (x ∷ back)))
+  routes_more front back x = record {
+    front = map_entries front;
+    back = map_entries back;
+    was = map-append (λ (p : Placed V). p.entry) front back;
+    now = map-append (λ (p : Placed V). p.entry) front (x ∷ back);
+  }

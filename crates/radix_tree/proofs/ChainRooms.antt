@@ -1,0 +1,56 @@
+-- The route of a room that is in a tree.
+use Rattle.std.proofs.Common.{◌≡◌, ℕ, ◌+◌, ◌≤◌, ◌==◌, true, false, List, [], ◌∷◌, Some, refl, sym, ap, ◌∙◌, inl, inr, arith}
+use Rattle.std.proofs.lemmas.Bool.{eqb-true, cases_lt}
+use Rattle.std.specs.Ordering.{nat_cmp}
+use Rattle.std.specs.FinMap.{FinMap}
+use Rattle.radix_nodes.specs.Rooms.{Seen}
+use Rattle.radix_tree.specs.Tree.{Placed, Tree, leaf, fork, IsAmong, IsIn}
+use Rattle.radix_tree.specs.Rooms.{LeafPart, Part, leaves_in, bits_in}
+use Rattle.radix_tree.specs.Whole.{one_if, members_at, leaves_at, shown_entry}
+use Rattle.radix_tree.proofs.RoomReads.{inside}
+use Rattle.radix_tree.proofs.TreeMembers.{tree_said}
+
+module _ {V : Type 0} where
+  abbrev pub AmongAt : ℕ → List (Placed V) → Type 0
+  AmongAt n c = (y : Placed V) × IsAmong y c × (y.room.number ≡ n)
+
+  abbrev pub InAt : ℕ → Tree V → Type 0
+  InAt n t = (y : Placed V) × IsIn y t × (y.room.number ≡ n)
+
+  pub among_at : (n : ℕ) (c : List (Placed V)) → 1 ≤ members_at n c → AmongAt n c
+  among_at n [] some = absurd (omega arith)
+  among_at n (x ∷ c) some =
+      elim (x.room.number == n) as (λ t. (x.room.number == n) ≡ t → 1 ≤ one_if t + members_at n c → AmongAt n (x ∷ c)) [
+        | true ↦ λ e many. (x, inl refl, eqb-true x.room.number n e)
+        | false ↦ λ e many. let y = among_at n c (omega arith) in (y.0, inr y.1, y.2)
+      ] refl some
+
+  -- a tree has a route in each room that is a leaf of it
+  pub in_at : (n : ℕ) (t : Tree V) → 1 ≤ leaves_at n t → InAt n t
+  in_at n (leaf x xs) some = among_at n (x ∷ xs) some
+  in_at n (fork room b zero one) some =
+      elim (cases_lt 0 (leaves_at n zero)) [
+        | inl left ↦ let y = in_at n zero left in (y.0, inl y.1, y.2)
+        | inr none ↦ let y = in_at n one (omega arith) in (y.0, inr y.1, y.2)
+      ]
+
+  -- and it is the route that the room has
+  pub record RoomRoute (whole : Tree V) (n : ℕ) (p : LeafPart V) : Type 0 where
+    pub route : Placed V
+    pub is_in : IsIn route whole
+    pub number : route.room.number ≡ n
+    pub block : route.room.block ≡ p.block
+    pub entry : route.entry ≡ shown_entry p
+
+  pub room_route : (m : FinMap nat_cmp (Seen V)) (whole : Part m) (n : ℕ) (p : LeafPart V) → leaves_in m n ≡ Some p → 1 ≤ leaves_at n whole.tree → RoomRoute whole.tree n p
+  room_route m whole n p said some =
+      let y = in_at n whole.tree some in
+      let s = tree_said (leaves_in m) (bits_in m) whole.above whole.tree whole.stands y.0 y.1 in
+      let same = inside (sym s.3 ∙ ap (λ (k : ℕ). leaves_in m k) y.2 ∙ said) in
+      record {
+        route = y.0;
+        is_in = y.1;
+        number = y.2;
+        block = ap (λ (q : LeafPart V). q.block) same;
+        entry = ap (λ (q : LeafPart V). shown_entry q) same;
+      }

@@ -1,0 +1,142 @@
+-- What rooms say where a bit node is renamed, moved, or has another bit node above it.
+use Rattle.std.proofs.Common.{◌≡◌, ℕ, ◌≤◌, ◌==◌, ◌⊎◌, Bool, true, false, if◌then◌else◌, Option, Some, None, refl, sym, ap, ◌∙◌, inl, inr, ⊎_elim, arith}
+use Rattle.std.proofs.lemmas.Bool.{eqb-true, eq-eqb, ne_eqb}
+use Rattle.std.specs.Prelude.{is_some}
+use Rattle.std.specs.Ordering.{nat_cmp}
+use Rattle.std.specs.FinMap.{FinMap, get}
+use Rattle.radix_nodes.specs.Rooms.{Seen, Has}
+use Rattle.radix_nodes.specs.Links.{leaf_of}
+use Rattle.radix_nodes.specs.declared.id.Id.{Id}
+use Rattle.radix_nodes.specs.declared.links.Node.{Node}
+use Rattle.radix_nodes.specs.declared.links.Node.TheVariants.{Leaf as LeafOf, Bit as BitOf}
+use Rattle.radix_tree.specs.Tree.{Tree, leaf, fork, bit_at}
+use Rattle.radix_tree.specs.Rooms.{LeafPart, BitPart, leaf_in, leaves_in, name_of}
+use Rattle.radix_tree.specs.Whole.{one_if, leaves_at, forks_at, shown_entry}
+use Rattle.radix_tree.specs.Growth.{turned}
+use Rattle.radix_tree.specs.Writes.{lift_leaf, lift_bit, leaf_above, bit_above}
+use Rattle.radix_tree.specs.Removal.{renamed, with_renamed, rename, Content, content_of}
+use Rattle.radix_tree.proofs.AddressBits.{zero_not_one}
+use Rattle.radix_tree.proofs.RoomReads.{inside, none_some}
+use Rattle.radix_tree.proofs.Beside.{named_leaf, named_bit}
+
+true_false : true ≡ false → ⊥
+true_false e = cc
+
+pub same_or_not : (a b : ℕ) → (a ≡ b) ⊎ (a ≡ b → ⊥)
+same_or_not a b = elim (a == b) as (λ t. (a == b) ≡ t → (a ≡ b) ⊎ (a ≡ b → ⊥)) [
+  | true ↦ λ e. inl (eqb-true a b e)
+  | false ↦ λ e. inr (λ (s : a ≡ b). true_false (sym (eq-eqb a b s) ∙ e))
+] refl
+
+pub none_or_some : (k : ℕ) → (k ≡ 0) ⊎ (1 ≤ k)
+none_or_some k = ⊎_elim (λ (e : k ≡ 0). inl e) (λ (other : k ≡ 0 → ⊥). inr (omega arith)) (same_or_not k 0)
+
+pub one_if_most : (t : Bool) → one_if t ≤ 1
+one_if_most true = omega arith
+one_if_most false = omega arith
+
+pub one_if_is : (a b : ℕ) → a ≡ b → one_if (a == b) ≡ 1
+one_if_is a b e = ap one_if (eq-eqb a b e)
+
+pub one_if_not : (a b : ℕ) → (a ≡ b → ⊥) → one_if (a == b) ≡ 0
+one_if_not a b other = ap one_if (ne_eqb a b other)
+
+pub none_of : {A : Type 0} (o : Option A) → is_some o ≡ false → o ≡ None
+none_of None e = refl
+none_of (Some x) e = absurd (true_false e)
+
+-- a write to one room
+pub at_room : {A : Type 0} (room : Id) (n : ℕ) (x y : A) → n ≡ room.number → (if n == room.number then x else y) ≡ x
+at_room room n x y same = ap (λ (t : Bool). if t then x else y) (eq-eqb n room.number same)
+
+pub off_room : {A : Type 0} (room : Id) (n : ℕ) (x y : A) → (n ≡ room.number → ⊥) → (if n == room.number then x else y) ≡ y
+off_room room n x y other = ap (λ (t : Bool). if t then x else y) (ne_eqb n room.number other)
+
+-- ---- a node is lifted
+content_above : {A : Type 0} (above : Option Id) (said : Option (LeafPart A)) → content_of (leaf_above above said) ≡ content_of said
+content_above above None = refl
+content_above above (Some p) = refl
+
+pub content_lift : {A : Type 0} (at : Node) (above : Option Id) (n : ℕ) (said : Option (LeafPart A)) → content_of (lift_leaf at above n said) ≡ content_of said
+content_lift (BitOf room) above n said = refl
+content_lift (LeafOf room) above n said = elim (n == room.number) as (λ t. content_of (if t then leaf_above above said else said) ≡ content_of said) [
+  | true ↦ content_above above said
+  | false ↦ refl
+]
+
+above_used : (above : Option Id) (said : Option BitPart) → is_some (bit_above above said) ≡ is_some said
+above_used above None = refl
+above_used above (Some p) = refl
+
+pub lift_used : (at : Node) (above : Option Id) (n : ℕ) (said : Option BitPart) → is_some (lift_bit at above n said) ≡ is_some said
+lift_used (LeafOf room) above n said = refl
+lift_used (BitOf room) above n said = elim (n == room.number) as (λ t. is_some (if t then bit_above above said else said) ≡ is_some said) [
+  | true ↦ above_used above said
+  | false ↦ refl
+]
+
+-- ---- a bit node has another name
+renamed_used : (from to : Id) (said : Option BitPart) → is_some (with_renamed from to said) ≡ is_some said
+renamed_used from to None = refl
+renamed_used from to (Some p) = refl
+
+pub rename_used : (above : Option Id) (from to : Id) (n : ℕ) (said : Option BitPart) → is_some (rename above from to n said) ≡ is_some said
+rename_used None from to n said = refl
+rename_used (Some up) from to n said = elim (n == up.number) as (λ t. is_some (if t then with_renamed from to said else said) ≡ is_some said) [
+  | true ↦ renamed_used from to said
+  | false ↦ refl
+]
+
+pub rename_misses : (above : Option Id) (from to : Id) (n : ℕ) (said : Option BitPart) → ((up : Id) → above ≡ Some up → n ≡ up.number → ⊥) → rename above from to n said ≡ said
+rename_misses None from to n said other = refl
+rename_misses (Some up) from to n said other = off_room up n (with_renamed from to said) said (other up refl)
+
+pub renamed_to : (from to room : Id) → room.number ≡ from.number → renamed from to (BitOf room) ≡ BitOf to
+renamed_to from to room same = ap (λ (t : Bool). if t then BitOf to else BitOf room) (eq-eqb room.number from.number same)
+
+-- the bit node names the other one on the side of an address
+pub zero_turned : (address : ℕ) (name : Node) (p : BitPart) → bit_at p.bit address ≡ 0 → turned address name (Some p) ≡ Some (record p { zero = name })
+zero_turned address name p clear =
+    let test : (bit_at p.bit address == 1) ≡ false = ne_eqb (bit_at p.bit address) 1 (λ set. zero_not_one clear set) in
+    ap (λ (t : Bool). Some (if t then record p { one = name } else record p { zero = name })) test
+
+pub one_turned : (address : ℕ) (name : Node) (p : BitPart) → bit_at p.bit address ≡ 1 → turned address name (Some p) ≡ Some (record p { one = name })
+one_turned address name p set =
+    ap (λ (t : Bool). Some (if t then record p { one = name } else record p { zero = name })) (eq-eqb (bit_at p.bit address) 1 set)
+
+module _ {V : Type 0} where
+  -- a name of a tree without bit nodes in the room stays
+  pub renamed_off : (from to : Id) (t : Tree V) → forks_at from.number t ≡ 0 → renamed from to (name_of t) ≡ name_of t
+  renamed_off from to (leaf x xs) none = refl
+  renamed_off from to (fork room b left right) none =
+      ap (λ (t : Bool). if t then BitOf to else BitOf room)
+      (ne_eqb room.number from.number (λ same. let own : one_if (room.number == from.number) ≡ 1 = one_if_is room.number from.number same in omega arith))
+
+  -- a room outside of a tree is not that of its name
+  pub leaf_off : (t : Tree V) (name : Node) (n : ℕ) → name ≡ name_of t → leaves_at n t ≡ 0 → (r : Id) → name ≡ LeafOf r → n ≡ r.number → ⊥
+  leaf_off t name n named none r is same =
+      let there : 1 ≤ leaves_at r.number t = named_leaf t r (sym named ∙ is) in
+      let e : leaves_at n t ≡ leaves_at r.number t = ap (λ (k : ℕ). leaves_at k t) same in omega arith
+
+  pub bit_off : (t : Tree V) (name : Node) (n : ℕ) → name ≡ name_of t → forks_at n t ≡ 0 → (r : Id) → name ≡ BitOf r → n ≡ r.number → ⊥
+  bit_off t name n named none r is same =
+      let there : 1 ≤ forks_at r.number t = named_bit t r (sym named ∙ is) in
+      let e : forks_at n t ≡ forks_at r.number t = ap (λ (k : ℕ). forks_at k t) same in omega arith
+
+  -- ---- a room that has its route
+  content_there : (m : FinMap nat_cmp (Seen V)) (room : Id) (o : Option (Seen V)) (c : Content V) → get m room.number ≡ o → content_of (leaf_in o) ≡ Some c → c.block ≡ room.block → Has m room
+  content_there m room None c at e block = absurd (none_some e)
+  content_there m room (Some s) c at e block = record { room = s; at = at; block = ap (λ (d : Content V). d.block) (inside e) ∙ block }
+
+  abbrev content_seen : Seen V → Content V
+  content_seen s = record { block = s.block; entry = shown_entry (record { block = s.block; value = s.value; leaf = leaf_of s.links }) }
+
+  -- stays
+  pub Has_kept : (m new : FinMap nat_cmp (Seen V)) (room : Id) → content_of (leaves_in new room.number) ≡ content_of (leaves_in m room.number) → Has m room → Has new room
+  Has_kept m new room same h = content_there new room (get new room.number) (content_seen h.room) refl (same ∙ ap (λ (o : Option (Seen V)). content_of (leaf_in o)) h.at) h.block
+
+  pub content_used : (o p : Option (LeafPart V)) → content_of o ≡ content_of p → is_some o ≡ is_some p
+  content_used None None e = refl
+  content_used None (Some p) e = absurd (none_some e)
+  content_used (Some o) None e = absurd (none_some (sym e))
+  content_used (Some o) (Some p) e = refl

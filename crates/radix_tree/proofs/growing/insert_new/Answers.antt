@@ -1,0 +1,47 @@
+use Rattle.std.proofs.Common.{◌≡◌, ℕ, None, ap, ◌∙◌}
+use Rattle.radix_tree.specs.Marks.{has_key}
+use Rattle.radix_tree.specs.Rooms.{masks_in}
+use Rattle.radix_tree.proofs.Gained.{gains_same, new_left, led_begun, still_begun, same_begun, still_key}
+use Rattle.radix_tree.proofs.growing.insert_new.Goals as goal
+
+pub list_mask-requires-clause-whole : goal.list_mask-requires-clause-whole
+list_mask-requires-clause-whole g c =
+    let i = c.requires.new in (c.insert_beside-root.result.0, _, c.insert_beside-root.ensures.whole i.0 i.1 i.2)
+
+pub list_mask-requires-clause-there : goal.list_mask-requires-clause-there
+list_mask-requires-clause-there g c = c.insert_beside-root.ensures.there
+
+pub list_mask-requires-clause-unmarked : goal.list_mask-requires-clause-unmarked
+list_mask-requires-clause-unmarked g c =
+    ap (λ (n : ℕ). masks_in c.insert_beside-root.new.nodes.lodged n) c.insert_beside-root.ensures.number ∙ c.insert_beside-root.ensures.unmarked
+
+pub list_chain-requires-clause-whole : goal.list_chain-requires-clause-whole
+list_chain-requires-clause-whole g c =
+    let i = c.requires.new in
+    (c.insert_beside-root.result.0, _, c.list_mask.ensures.whole c.insert_beside-root.result.0 _ (c.insert_beside-root.ensures.whole i.0 i.1 i.2))
+
+pub list_chain-requires-clause-first : goal.list_chain-requires-clause-first
+list_chain-requires-clause-first g c =
+    let i = c.requires.new in
+    let b = same_begun c.insert_beside-root.new.nodes.lodged c.list_mask.new.nodes.lodged _ c.args.leaf
+    (still_begun c.args.nodes.now.lodged c.insert_beside-root.new.nodes.lodged _ c.args.leaf (led_begun c.args.nodes.now.lodged c.args.entry.key i.0.part c.args.leaf i.1) c.insert_beside-root.ensures.leaves)
+    c.list_mask.ensures.leaves in (b.part, b.at, b.block, b.previous)
+
+pub returns-clause-whole : goal.returns-clause-whole
+returns-clause-whole g c =
+    let i = c.requires.new in
+    let m = c.args.nodes.now.lodged in
+    let key = i.1.leaf.first.entry.key in
+    let b = same_begun c.insert_beside-root.new.nodes.lodged c.list_mask.new.nodes.lodged _ c.args.leaf
+    (still_begun m c.insert_beside-root.new.nodes.lodged _ c.args.leaf (led_begun m c.args.entry.key i.0.part c.args.leaf i.1) c.insert_beside-root.ensures.leaves)
+    c.list_mask.ensures.leaves in
+    new_left c.list_chain.new.nodes.lodged c.list_mask.new.nodes.lodged c.insert_beside-root.result.0 c.args.room c.insert_beside-root.result.1.number key b.part.leaf.key (has_key m key)
+    c.insert_beside-root.ensures.number b.key_is
+    (λ n has. still_key m c.insert_beside-root.new.nodes.lodged c.list_mask.new.nodes.lodged key n c.insert_beside-root.ensures.leaves c.list_mask.ensures.leaves has)
+    (c.list_chain.ensures.whole c.insert_beside-root.result.0 _ b.part (c.list_mask.ensures.whole c.insert_beside-root.result.0 _ (c.insert_beside-root.ensures.whole i.0 i.1 i.2)) b.at)
+
+pub returns-clause-routes : goal.returns-clause-routes
+returns-clause-routes g c =
+    gains_same _ _ c.list_mask.new.nodes.lodged c.list_chain.new.nodes.lodged c.insert_beside-root.result.0
+    (gains_same _ _ c.insert_beside-root.new.nodes.lodged c.list_mask.new.nodes.lodged c.insert_beside-root.result.0 c.insert_beside-root.ensures.routes c.list_mask.ensures.leaves c.list_mask.ensures.bits)
+    c.list_chain.ensures.leaves c.list_chain.ensures.bits

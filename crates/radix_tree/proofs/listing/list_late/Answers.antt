@@ -1,0 +1,10 @@
+use Rattle.std.proofs.Common.{◌∙◌, sym}
+use Rattle.radix_tree.proofs.ListedChains.{mask_none, listed_late}
+use Rattle.radix_tree.proofs.listing.list_late.Goals as goal
+
+pub returns-in-Some-clause-whole : goal.returns-in-Some-clause-whole
+returns-in-Some-clause-whole g c root late w =
+    listed_late c.args.nodes.now.lodged root late w c.args.room c.links.result.now _ c.requires.there c.links.ensures.links (sym c.mask_node.ensures ∙ c.in-Some.is)
+
+pub list_mask-requires-clause-unmarked : goal.list_mask-requires-clause-unmarked
+list_mask-requires-clause-unmarked g c = mask_none c.args.nodes.now.lodged c.args.room c.links.result.now c.requires.there c.links.ensures.links (sym c.mask_node.ensures ∙ c.in-None.is)

@@ -1,0 +1,21 @@
+use Rattle.std.proofs.Common.{◌≡◌, List, [], ℕ, None, Option, ap, ◌∙◌}
+use Rattle.std.specs.Ordering.{nat_cmp}
+use Rattle.std.specs.FinMap.{get-empty}
+use Rattle.radix_nodes.specs.Rooms.{Rooms, Seen}
+use Rattle.radix_tree.specs.Rooms.{leaf_in, leaves_in}
+use Rattle.radix_tree.specs.Table.{Contents}
+use Rattle.radix_tree.specs.Kept.{contents}
+use Rattle.radix_tree.proofs.Counted.{counted_none}
+use Rattle.radix_tree.proofs.Numbers.{no_keys}
+use Rattle.radix_tree.proofs.routes.Table.new.Goals as goal
+
+pub invariant_of-result : goal.invariant_of-result
+invariant_of-result g c = record {
+  holds = λ n. ap (λ (r : Rooms g.row.V.Denot). leaves_in r.lodged n) c.new.ensures ∙ ap (λ (o : Option (Seen g.row.V.Denot)). leaf_in o) (get-empty nat_cmp n);
+  counted = counted_none g.row.V.Denot _ c.new-2.ensures;
+}
+
+pub returns : goal.returns
+returns g c =
+    ap (λ (r : Rooms g.row.V.Denot). contents r None) c.new.ensures
+    ∙ ap (λ (ns : List ℕ). record { entries = []; numbers = ns; next = 1; turn = 0 }) (no_keys (Seen g.row.V.Denot))

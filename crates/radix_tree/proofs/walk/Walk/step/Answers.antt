@@ -1,0 +1,10 @@
+use Rattle.std.proofs.Common.{subst}
+use Rattle.radix_tree.specs.Walks.{IsOn}
+use Rattle.radix_tree.proofs.Walks.{Has-here, gives}
+use Rattle.radix_tree.proofs.walk.Walk.step.Goals as goal
+
+pub links-requires-clause-there : goal.links-requires-clause-there
+links-requires-clause-there g c = Has-here c.self.inside.nodes.now.lodged c.in-Some.place (subst (IsOn c.self.inside.nodes.now.lodged) c.in-Some.is c.self.invariant)
+
+pub value-value-requires-clause-there : goal.value-value-requires-clause-there
+value-value-requires-clause-there g c = Has-here c.self.inside.nodes.now.lodged c.in-Some.place (subst (IsOn c.self.inside.nodes.now.lodged) c.in-Some.is c.self.invariant)

@@ -1,0 +1,160 @@
+-- One list of masks, longer ones first: its members, and what comes of it.
+use Rattle.std.specs.Prelude.{◌≡◌, ℕ, ◌+◌, ◌≤◌, ◌⊎◌, ◌==◌, nat_lt, if◌then◌else◌, List, [], ◌∷◌, ◌++◌, Option, None, Some}
+use Rattle.std.specs.Ordering.{nat_cmp}
+use Rattle.std.specs.FinMap.{FinMap}
+use Rattle.radix_nodes.specs.Rooms.{Seen}
+use Rattle.radix_nodes.specs.declared.id.Id.{Id}
+use Rattle.radix_tree.specs.Tree.{Placed, IsAmong}
+use Rattle.radix_tree.specs.Rooms.{LeafPart, BitPart, MaskPart, Leaves, Part, leaves_in, bits_in, masks_in, first_room, MasksStand, Falls}
+use Rattle.radix_tree.specs.Searches.{Way, ForkAt}
+use Rattle.radix_tree.specs.Whole.{HasHome}
+
+-- the head of a list that number n says, once a list of masks has this member behind one of them, or as its first
+abbrev pub head_linked : Id → Option Id → Option Id → ℕ → Option Id → Option Id
+head_linked fork None next n said = if n == fork.number then next else said
+head_linked fork (Some before) next n said = said
+
+-- and the mask node
+abbrev pub mask_linked : Option Id → Option Id → ℕ → Option MaskPart → Option MaskPart
+mask_linked None next n said = said
+mask_linked (Some before) next n said = if n == before.number
+    then Some (record { block = before.block; next = next }) else said
+
+module _ {V : Type 0} where
+  -- ---- members of a list
+  -- those before the first one whose rank is below low
+  abbrev pub not_below : ℕ → List (Placed V) → List (Placed V)
+  not_below low [] = []
+  not_below low (x ∷ xs) = if nat_lt x.entry.rank low then [] else x ∷ not_below low xs
+
+  -- and from that one on
+  abbrev pub below : ℕ → List (Placed V) → List (Placed V)
+  below low [] = []
+  below low (x ∷ xs) = if nat_lt x.entry.rank low then x ∷ xs else below low xs
+
+  -- a mask more, before the first one that is shorter
+  abbrev pub sorted_in : Placed V → List (Placed V) → List (Placed V)
+  sorted_in x ms = not_below x.entry.rank ms ++ x ∷ below x.entry.rank ms
+
+  -- without that of a rank
+  abbrev pub taken_out : ℕ → List (Placed V) → List (Placed V)
+  taken_out rank ms = not_below (rank + 1) ms ++ below rank ms
+
+  -- those of ranks past a bit
+  abbrev pub past_bit : ℕ → List (Placed V) → List (Placed V)
+  past_bit bit ms = not_below (bit + 1) ms
+
+  -- the others
+  abbrev pub up_to_bit : ℕ → List (Placed V) → List (Placed V)
+  up_to_bit bit ms = below (bit + 1) ms
+
+  -- the room of the last one, or this one where there is none
+  abbrev pub last_from : Option Id → List (Placed V) → Option Id
+  last_from before [] = before
+  last_from before (x ∷ xs) = last_from (Some x.room) xs
+
+  abbrev pub last_room : List (Placed V) → Option Id
+  last_room ms = last_from None ms
+
+  -- no member's room has this number
+  abbrev pub IsAside : ℕ → List (Placed V) → Type 0
+  IsAside n ms = (y : Placed V) → IsAmong y ms → y.room.number ≡ n → ⊥
+
+  -- no member has this rank
+  abbrev pub IsNoRank : ℕ → List (Placed V) → Type 0
+  IsNoRank rank ms = (y : Placed V) → IsAmong y ms → y.entry.rank ≡ rank → ⊥
+
+  -- ---- in the rooms of a map
+  -- the route's room is a leaf of its rank
+  pub record IsRanked (L : Leaves V) (x : Placed V) : Type 0 where
+    pub part : LeafPart V
+    pub said : L x.room.number ≡ Some part
+    pub block : part.block ≡ x.room.block
+    pub rank : part.leaf.rank ≡ x.entry.rank
+
+  abbrev pub AreRanked : Leaves V → List (Placed V) → Type 0
+  AreRanked L [] = Unit {0}
+  AreRanked L (x ∷ xs) = IsRanked L x × AreRanked L xs
+
+  -- a list of masks that begins with this room, or of none
+  pub record IsMasks (m : FinMap nat_cmp (Seen V)) (first : Option Id) (ms : List (Placed V)) : Type 0 where
+    pub begins : first_room ms ≡ first
+    pub stands : MasksStand (masks_in m) ms
+    pub falls : Falls 0 34 ms
+    pub ranked : AreRanked (leaves_in m) ms
+
+  -- the room is a bit node in use
+  pub record IsBitNode (m : FinMap nat_cmp (Seen V)) (room : Id) : Type 0 where
+    pub part : BitPart
+    pub said : bits_in m room.number ≡ Some part
+    pub block : part.block ≡ room.block
+
+  -- a room that is no mask node yet
+  pub record IsFree (m : FinMap nat_cmp (Seen V)) (room : Id) : Type 0 where
+    pub is : Placed V
+    pub room_is : is.room ≡ room
+    pub ranked : IsRanked (leaves_in m) is
+    pub unmarked : masks_in m room.number ≡ None
+
+  -- a walk along a list of masks, past those of ranks at or past low
+  pub record Passing (m : FinMap nat_cmp (Seen V)) (low : ℕ) (ms : List (Placed V)) (before at : Option Id) (steps
+      : ℕ) : Type 0 where
+    pub rest : List (Placed V)
+    pub top : ℕ
+    pub begins : first_room rest ≡ at
+    pub stands : MasksStand (masks_in m) rest
+    pub falls : Falls 0 top rest
+    pub ranked : AreRanked (leaves_in m) rest
+    pub last : last_from before (not_below low rest) ≡ last_room (not_below low ms)
+    pub left : below low rest ≡ below low ms
+    pub few : steps + top ≤ 34
+
+  -- how many ranks there are up to that of a room
+  abbrev pub ranks_in : Option (LeafPart V) → ℕ
+  ranks_in None = 0
+  ranks_in (Some p) = p.leaf.rank + 1
+
+  abbrev pub ranks_from : Leaves V → Option Id → ℕ
+  ranks_from L None = 0
+  ranks_from L (Some room) = ranks_in (L room.number)
+
+  -- a walk along a list, whose rooms are no mask nodes any more
+  pub record Clearing (m now : FinMap nat_cmp (Seen V)) (ms : List (Placed V)) (at : Option Id) : Type 0 where
+    pub rest : List (Placed V)
+    pub top : ℕ
+    pub begins : first_room rest ≡ at
+    pub stands : MasksStand (masks_in now) rest
+    pub falls : Falls 0 top rest
+    pub ranked : AreRanked (leaves_in now) rest
+    pub within : (y : Placed V) → IsAmong y rest → IsAmong y ms
+    pub cleared : (y : Placed V) → IsAmong y ms → (masks_in now y.room.number ≡ None) ⊎ IsAmong y rest
+    pub aside : (n : ℕ) → IsAside n ms → masks_in now n ≡ masks_in m n
+    pub fewer : (n : ℕ) → (masks_in now n ≡ None) ⊎ (masks_in now n ≡ masks_in m n)
+
+  -- ---- the bit node at which a mask is listed: the topmost one on a key's way whose bit is at or past the rank
+  pub record HomeAt (m : FinMap nat_cmp (Seen V)) (key rank : ℕ) (whole : Part m) (room : Id) : Type 0 where
+    pub part : Part m
+    pub at : ForkAt part room
+    pub ups : List (Part m)
+    pub way : Way key whole part ups
+    pub past : part.low ≤ rank
+    pub within : rank ≤ at.bit
+
+  abbrev pub IsHome : (m : FinMap nat_cmp (Seen V)) (key rank : ℕ) (whole : Part m) → Option Id → Type 0
+  IsHome m key rank whole None = HasHome key rank whole.tree → ⊥
+  IsHome m key rank whole (Some room) = HomeAt m key rank whole room
+
+  -- a walk up from the leaf of a key, past bit nodes whose bits are all at or past the rank, of which the last one is
+  -- told
+  abbrev pub IsLast : (m : FinMap nat_cmp (Seen V)) (key rank : ℕ) (part : Part m) → Option Id → Type 0
+  IsLast m key rank part None = HasHome key rank part.tree → ⊥
+  IsLast m key rank part (Some room) = (f : ForkAt part room) × (rank ≤ f.bit)
+
+  pub record Climb {m : FinMap nat_cmp (Seen V)} (key rank : ℕ) (whole : Part m) (above last : Option Id) (steps
+      : ℕ) : Type 0 where
+    pub part : Part m
+    pub ups : List (Part m)
+    pub way : Way key whole part ups
+    pub above_is : part.above ≡ above
+    pub last_is : IsLast m key rank part last
+    pub few : steps + part.low ≤ 33

@@ -1,0 +1,58 @@
+-- A route goes out of a tree, and a bit node in use moves from its room to another.
+use Rattle.std.specs.Prelude.{◌≡◌, ℕ, ◌==◌, if◌then◌else◌, true, Option, None, Some}
+use Rattle.std.specs.Ordering.{nat_cmp}
+use Rattle.std.specs.FinMap.{FinMap}
+use denote.RawPtr.{Ptr}
+use Rattle.radix_nodes.specs.declared.id.Id.{Id}
+use Rattle.radix_nodes.specs.Rooms.{Seen}
+use Rattle.radix_nodes.specs.declared.links.Node.{Node}
+use Rattle.radix_nodes.specs.declared.links.Node.TheVariants.{Leaf as LeafOf, Bit as BitOf}
+use Rattle.radix_tree.specs.Rooms.{LeafPart, BitPart, leaves_in, bits_in}
+use Rattle.radix_tree.specs.Whole.{shown_entry}
+use Rattle.radix_tree.specs.Marks.{IsWholeBut, has_key, nobody_late, out_at}
+use Rattle.radix_tree.specs.declared.entry.Entry.{Entry}
+
+-- a name, once the bit node of one room is in another room
+abbrev pub renamed : Id → Id → Node → Node
+renamed from to (LeafOf room) = LeafOf room
+renamed from to (BitOf room) = if room.number == from.number then BitOf to else BitOf room
+
+-- what a bit node says once those beneath it have the new names
+abbrev pub with_renamed : Id → Id → Option BitPart → Option BitPart
+with_renamed from to None = None
+with_renamed from to (Some p) = Some (record p { zero = renamed from to p.zero; one = renamed from to p.one })
+
+-- what number n says once the bit node above, where there is one, says the new names
+abbrev pub rename : Option Id → Id → Id → ℕ → Option BitPart → Option BitPart
+rename None from to n said = said
+rename (Some up) from to n said = if n == up.number then with_renamed from to said else said
+
+-- of a chain's member the next one, or else the one before
+abbrev pub member_beside : Option Id → Option Id → Option Id
+member_beside None previous = previous
+member_beside (Some next) previous = Some next
+
+-- what a room has, whatever its links: a block, and a route
+pub record Content (V : Type 0) : Type 0 where
+  pub block : Ptr
+  pub entry : Entry V
+
+module _ {V : Type 0} where
+  abbrev pub content_of : Option (LeafPart V) → Option (Content V)
+  content_of None = None
+  content_of (Some p) = Some (record { block = p.block; entry = shown_entry p })
+
+  -- each room has the route that it had
+  abbrev pub KeepsRoutes : FinMap nat_cmp (Seen V) → FinMap nat_cmp (Seen V) → Type 0
+  KeepsRoutes old new = (n : ℕ) → content_of (leaves_in new n) ≡ content_of (leaves_in old n)
+
+  -- a bit node in use in the one room can move to the other: no room of that one's key has one, but for the first
+  pub record CanTake (m : FinMap nat_cmp (Seen V)) (from to : Id) : Type 0 where
+    pub free : bits_in m to.number ≡ None
+    pub idle : (p : LeafPart V) → leaves_in m to.number ≡ Some p
+        → (n : ℕ) → has_key m p.leaf.key n ≡ true → (n ≡ from.number → ⊥) → bits_in m n ≡ None
+
+  -- a room is out of the tree: it is neither a leaf of it nor a bit node, or it was the last room
+  abbrev pub IsOut : FinMap nat_cmp (Seen V) → Option Node → ℕ → Type 0
+  IsOut m None room = (n : ℕ) → (n ≡ room → ⊥) → leaves_in m n ≡ None
+  IsOut m (Some root) room = IsWholeBut m root nobody_late (out_at room) × (bits_in m room ≡ None)

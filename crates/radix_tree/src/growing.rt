@@ -1,0 +1,149 @@
+//! How a table's tree gains a route.
+ghost use Rattle.std.specs.Prelude.{◌≡◌, ◌+◌, ◌<◌, Some, None, IsSome, IsErr, IfOk, IfErr, OnOk, OnErr};
+ghost use Rattle.std.specs.FinMap.{get};
+ghost use Rattle.radix_tree.specs.Growth.{Gains, Differs};
+ghost use Rattle.radix_tree.specs.Marks.{HasRoomMore};
+ghost use Rattle.radix_tree.specs.Searches.{LedTo};
+ghost use Rattle.radix_tree.specs.Table.{IsRoute, entry_at};
+ghost use Rattle.radix_tree.specs.Whole.{IsWhole, Holds, shown};
+
+use crate::bits::first_difference;
+use crate::chains::insert_in_chain;
+use crate::descent::leaf_for;
+use crate::entry::Entry;
+use crate::inserting::insert_beside;
+use crate::linking::lodge_leaf;
+use crate::listing::{list_chain, list_mask};
+use radix_nodes::{Id, Leaf, Node, Nodes, Room, Visits};
+
+/// Lodges a table's first route, whose leaf is all of the tree.
+fn insert_first<V>(
+    nodes: &mut Nodes<V>,
+    room: Room<V>,
+    entry: Entry<V>,
+    visits: &mut Visits,
+) -> Node
+    requires holds { Holds nodes.old.lodged None }
+    requires made { room < nodes.old.next }
+    requires free { get nodes.old.lodged room ≡ None }
+    requires route { IsRoute entry }
+    requires turn { visits.old.turn ≡ nodes.old.turn }
+    ensures whole { IsWhole nodes.new.lodged result }
+    ensures routes { Gains entry (shown nodes.old.lodged None) (shown nodes.new.lodged (Some result)) }
+    ensures rooms { HasRoomMore nodes.old.lodged nodes.new.lodged room }
+    ensures next { nodes.new.next ≡ nodes.old.next }
+    ensures turn { nodes.new.turn ≡ nodes.old.turn }
+    ensures counter { visits.new.turn ≡ visits.old.turn }
+{
+    let Entry { key, rank, value } = entry;
+    let leaf = Leaf {
+        key,
+        rank,
+        above: None,
+        next: None,
+        previous: None,
+    };
+    Node::Leaf(lodge_leaf(nodes, room, leaf, value, visits))
+}
+
+/// Puts a route of a new key beneath a root: at the first bit at which its key differs from that of the leaf to which
+/// its bits lead.
+fn insert_new<V>(
+    nodes: &mut Nodes<V>,
+    root: Node,
+    leaf: Id,
+    bit: u8,
+    room: Room<V>,
+    entry: Entry<V>,
+    visits: &mut Visits,
+) -> Node
+    requires made { room < nodes.old.next }
+    requires free { get nodes.old.lodged room ≡ None }
+    requires route { IsRoute entry }
+    requires new { (w : IsWhole nodes.old.lodged root) × (d : LedTo entry.key w.part leaf)
+        × Differs entry.key d.leaf.first.entry.key bit }
+    requires turn { visits.old.turn ≡ nodes.old.turn }
+    ensures whole { IsWhole nodes.new.lodged result }
+    ensures routes { Gains entry (shown nodes.old.lodged (Some root)) (shown nodes.new.lodged (Some result)) }
+    ensures rooms { HasRoomMore nodes.old.lodged nodes.new.lodged room }
+    ensures next { nodes.new.next ≡ nodes.old.next }
+    ensures turn { nodes.new.turn ≡ nodes.old.turn }
+    ensures counter { visits.new.turn ≡ visits.old.turn }
+{
+    let (root, id) = insert_beside(nodes, root, leaf, bit, room, entry, visits);
+    list_mask(nodes, id, visits);
+    list_chain(nodes, leaf, visits);
+    root
+}
+
+/// Puts a route beneath a root at a key that its tree has. Where the tree has the rank too, the room and the value come
+/// back.
+fn insert_among<V>(
+    nodes: &mut Nodes<V>,
+    root: Node,
+    leaf: Id,
+    room: Room<V>,
+    entry: Entry<V>,
+    visits: &mut Visits,
+) -> Result<Node, (Room<V>, V)>
+    requires made { room < nodes.old.next }
+    requires free { get nodes.old.lodged room ≡ None }
+    requires route { IsRoute entry }
+    requires led { (w : IsWhole nodes.old.lodged root) × (d : LedTo entry.key w.part leaf)
+        × (d.leaf.first.entry.key ≡ entry.key) }
+    requires turn { visits.old.turn ≡ nodes.old.turn }
+    ensures whole { IfOk result (λ r. IsWhole nodes.new.lodged r) }
+    ensures routes { IfOk result (λ r.
+        Gains entry (shown nodes.old.lodged (Some root)) (shown nodes.new.lodged (Some r))) }
+    ensures rooms { OnOk result (HasRoomMore nodes.old.lodged nodes.new.lodged room) }
+    ensures err { OnErr result (nodes.new ≡ nodes.old) }
+    ensures back { IfErr result (λ b. (b.0 ≡ room) × (b.1 ≡ entry.value)) }
+    ensures there { OnErr result (IsSome (entry_at entry.key entry.rank (shown nodes.old.lodged (Some root)))) }
+    ensures next { nodes.new.next ≡ nodes.old.next }
+    ensures turn { nodes.new.turn ≡ nodes.old.turn }
+    ensures counter { visits.new.turn ≡ visits.old.turn }
+{
+    match insert_in_chain(nodes, root, leaf, room, entry, visits) {
+        Err(back) => Err(back),
+        Ok((root, id)) => {
+            list_mask(nodes, id, visits);
+            Ok(root)
+        }
+    }
+}
+
+/// Puts a route into a table's tree, and answers the root from then on. Where the table has its key and rank, the room
+/// and the value come back.
+pub(crate) fn insert<V>(
+    nodes: &mut Nodes<V>,
+    root: Option<Node>,
+    room: Room<V>,
+    entry: Entry<V>,
+    visits: &mut Visits,
+) -> Result<Node, (Room<V>, V)>
+    requires holds { Holds nodes.old.lodged root }
+    requires made { room < nodes.old.next }
+    requires free { get nodes.old.lodged room ≡ None }
+    requires route { IsRoute entry }
+    requires turn { visits.old.turn ≡ nodes.old.turn }
+    ensures whole { IfOk result (λ r. IsWhole nodes.new.lodged r) }
+    ensures routes { IfOk result (λ r.
+        Gains entry (shown nodes.old.lodged root) (shown nodes.new.lodged (Some r))) }
+    ensures rooms { OnOk result (HasRoomMore nodes.old.lodged nodes.new.lodged room) }
+    ensures err { OnErr result (nodes.new ≡ nodes.old) }
+    ensures back { IfErr result (λ b. (b.0 ≡ room) × (b.1 ≡ entry.value)) }
+    ensures there { OnErr result (IsSome (entry_at entry.key entry.rank (shown nodes.old.lodged root))) }
+    ensures next { nodes.new.next ≡ nodes.old.next }
+    ensures turn { nodes.new.turn ≡ nodes.old.turn }
+    ensures counter { visits.new.turn ≡ visits.old.turn }
+{
+    let Some(root) = root else {
+        return Ok(insert_first(nodes, room, entry, visits));
+    };
+    let leaf = leaf_for(nodes, root, entry.key, visits);
+    let key = nodes.links(leaf, visits).leaf().key;
+    match first_difference(entry.key, key) {
+        Some(bit) => Ok(insert_new(nodes, root, leaf, bit, room, entry, visits)),
+        None => insert_among(nodes, root, leaf, room, entry, visits),
+    }
+}

@@ -1,0 +1,123 @@
+//! How a route that is alone at its leaf goes from a tree.
+ghost use Rattle.std.specs.Prelude.{◌≡◌, ℕ, ◌≤◌, true, Some, None, is_some};
+ghost use Rattle.radix_nodes.specs.Rooms.{Has};
+ghost use Rattle.radix_tree.specs.Growth.{turn, Gains};
+ghost use Rattle.radix_tree.specs.Joining.{other_side, IsApart, IsLone, IsHanded};
+ghost use Rattle.radix_tree.specs.Marks.{IsWholeBut, MarkedLists, has_key, nobody_late, nobody_out, late_at, out_at};
+ghost use Rattle.radix_tree.specs.Rooms.{LeafPart, Part, leaves_in, bits_in, heads_in, masks_in, name_of};
+ghost use Rattle.radix_tree.specs.Removal.{KeepsRoutes};
+ghost use Rattle.radix_tree.specs.Searches.{ForkAt};
+ghost use Rattle.radix_tree.specs.Whole.{shown, shown_entry};
+ghost use Rattle.radix_tree.specs.Writes.{put_bit as bit_put, put_head as head_put, lift_leaf as leaf_lifted, lift_bit as bit_lifted, KeepsLeaves, KeepsBits, KeepsMasks};
+
+use crate::bits::is_one;
+use crate::inserting::root_after;
+use crate::linking::{lift, put_bit_node, turn_child};
+use crate::masks::{append, clear};
+use radix_nodes::{BitNode, Id, Node, Nodes, Visits};
+use sock_addrs::Inet;
+
+/// The node beneath a bit node that is not on the side of a key.
+fn sibling_of(node: BitNode, key: Inet) -> Node
+    requires { node.bit ≤ 31 }
+    ensures { result ≡ other_side key node.bit node.zero node.one }
+{
+    if is_one(key, node.bit) {
+        node.zero
+    } else {
+        node.one
+    }
+}
+
+/// Hands the list of a bit node that goes on to the node that takes its place: a bit node lists these masks behind its
+/// own; above a leaf they have no bit node at or past their rank, and are unlisted.
+fn hand_masks_on<V>(nodes: &mut Nodes<V>, to: Node, first: Option<Id>, visits: &mut Visits)
+    requires lone { (whole : Part nodes.old.lodged) × (at : Id) × (up : Id) × (l : IsLone nodes.old.lodged whole at up)
+        × (name_of l.other ≡ to) × (heads_in nodes.old.lodged up.number ≡ first)
+        × (masks_in nodes.old.lodged at.number ≡ None)
+        × MarkedLists (heads_in nodes.old.lodged) (masks_in nodes.old.lodged) l.over.low l.over.tree }
+    requires turn { visits.old.turn ≡ nodes.old.turn }
+    ensures handed { (whole : Part nodes.old.lodged) (at : Id) (up : Id) (l : IsLone nodes.old.lodged whole at up)
+        → name_of l.other ≡ to → heads_in nodes.old.lodged up.number ≡ first
+        → masks_in nodes.old.lodged at.number ≡ None
+        → MarkedLists (heads_in nodes.old.lodged) (masks_in nodes.old.lodged) l.over.low l.over.tree
+        → IsHanded nodes.old.lodged nodes.new.lodged l.over.low l.over.tree l.other }
+    ensures leaves { KeepsLeaves nodes.old.lodged nodes.new.lodged }
+    ensures bits { KeepsBits nodes.old.lodged nodes.new.lodged }
+    ensures next { nodes.new.next ≡ nodes.old.next }
+    ensures turn { nodes.new.turn ≡ nodes.old.turn }
+    ensures counter { visits.new.turn ≡ visits.old.turn }
+{
+    match to {
+        Node::Bit(room) => append(nodes, room, first, visits),
+        Node::Leaf(_) => clear(nodes, first, visits),
+    }
+}
+
+/// Puts a node into the place of the bit node above it, which is none from now on. The address is one on whose way that
+/// place is.
+fn join<V>(
+    nodes: &mut Nodes<V>,
+    up: Id,
+    above: Option<Id>,
+    address: Inet,
+    to: Node,
+    visits: &mut Visits,
+)
+    requires up { Has nodes.old.lodged up }
+    requires above { (over : Id) → above ≡ Some over → (p : Part nodes.old.lodged) × ForkAt p over }
+    requires beneath { (p : Part nodes.old.lodged) × (name_of p.tree ≡ to) × IsApart p.tree up above }
+    requires turn { visits.old.turn ≡ nodes.old.turn }
+    ensures leaves { (n : ℕ) → leaves_in nodes.new.lodged n ≡ leaf_lifted to above n (leaves_in nodes.old.lodged n) }
+    ensures bits { (n : ℕ) → bits_in nodes.new.lodged n
+        ≡ bit_lifted to above n (bit_put up None n (turn above address to n (bits_in nodes.old.lodged n))) }
+    ensures heads { (n : ℕ) → heads_in nodes.new.lodged n ≡ head_put up None n (heads_in nodes.old.lodged n) }
+    ensures masks { KeepsMasks nodes.old.lodged nodes.new.lodged }
+    ensures next { nodes.new.next ≡ nodes.old.next }
+    ensures turn { nodes.new.turn ≡ nodes.old.turn }
+    ensures counter { visits.new.turn ≡ visits.old.turn }
+{
+    turn_child(nodes, above, address, to, visits);
+    put_bit_node(nodes, up, None, visits);
+    lift(nodes, to, above, visits);
+}
+
+/// Takes a route that is alone at its leaf, and whose mask is not listed, out of the tree beneath a root, and with it
+/// the bit node above. Answers the root from then on, and the room whose bit node that was.
+pub(crate) fn remove_lone<V>(
+    nodes: &mut Nodes<V>,
+    root: Node,
+    at: Id,
+    visits: &mut Visits,
+) -> (Node, Id)
+    requires whole { IsWholeBut nodes.old.lodged root (late_at at.number) nobody_out }
+    requires there { Has nodes.old.lodged at }
+    requires unmarked { masks_in nodes.old.lodged at.number ≡ None }
+    requires lone { (p : LeafPart V) → leaves_in nodes.old.lodged at.number ≡ Some p
+        → (p.leaf.next ≡ None) × (p.leaf.previous ≡ None) × (is_some p.leaf.above ≡ true) }
+    requires turn { visits.old.turn ≡ nodes.old.turn }
+    ensures whole { IsWholeBut nodes.new.lodged result.0 nobody_late (out_at at.number) }
+    ensures routes { (p : LeafPart V) → leaves_in nodes.old.lodged at.number ≡ Some p
+        → Gains (shown_entry p) (shown nodes.new.lodged (Some result.0)) (shown nodes.old.lodged (Some root)) }
+    ensures rooms { KeepsRoutes nodes.old.lodged nodes.new.lodged }
+    ensures leaf { leaves_in nodes.new.lodged at.number ≡ leaves_in nodes.old.lodged at.number }
+    ensures there { Has nodes.new.lodged result.1 }
+    ensures free { bits_in nodes.new.lodged result.1.number ≡ None }
+    ensures idle { (p : LeafPart V) → leaves_in nodes.new.lodged result.1.number ≡ Some p → (n : ℕ)
+        → has_key nodes.new.lodged p.leaf.key n ≡ true → (n ≡ at.number → ⊥) → bits_in nodes.new.lodged n ≡ None }
+    ensures next { nodes.new.next ≡ nodes.old.next }
+    ensures turn { nodes.new.turn ≡ nodes.old.turn }
+    ensures counter { visits.new.turn ≡ visits.old.turn }
+{
+    let leaf = nodes.links(at, visits).leaf();
+    let Some(up) = leaf.above else {
+        return (root, at);
+    };
+    let Some(node) = nodes.links(up, visits).bit_node() else {
+        return (root, at);
+    };
+    let to = sibling_of(node, leaf.key);
+    hand_masks_on(nodes, to, node.masks, visits);
+    join(nodes, up, node.above, leaf.key, to, visits);
+    (root_after(node.above, to, root), up)
+}

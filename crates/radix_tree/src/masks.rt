@@ -1,0 +1,301 @@
+//! The lists of masks at bit nodes, longer masks first.
+ghost use Rattle.std.specs.Prelude.{◌≡◌, ◌+◌, ◌≤◌, ◌⊎◌, ℕ, None, Some, ◌++◌, List, is_some, true};
+ghost use Rattle.radix_nodes.specs.Rooms.{Has};
+ghost use Rattle.radix_nodes.specs.declared.links.Node.TheVariants.{Leaf as LeafOf, Bit as BitOf};
+ghost use Rattle.radix_tree.specs.Tree.{Placed, IsAmong};
+ghost use Rattle.radix_tree.specs.Rooms.{Part, leaves_in, bits_in, heads_in, masks_in, first_room, Falls};
+ghost use Rattle.radix_tree.specs.Searches.{LedTo};
+ghost use Rattle.radix_tree.specs.Writes.{KeepsLeaves, KeepsBits, KeepsHeads, KeepsMasks};
+ghost use Rattle.radix_tree.specs.MaskLists.{IsMasks, IsBitNode, IsFree, IsAside, IsNoRank, IsHome, head_linked, mask_linked, last_room, not_below, below as from_below, sorted_in, taken_out, past_bit, up_to_bit};
+
+use crate::linking::{put_bit_node, put_mask_node};
+use mask_table::Rank;
+use radix_nodes::{BitNode, Id, MaskNode, Node, Nodes, Visits};
+
+/// A place in a list of masks: behind this one, or before all, and before that one, or behind all.
+#[derive(Clone, Copy)]
+struct Gap {
+    before: Option<Id>,
+    behind: Option<Id>,
+}
+
+/// Where a list of masks goes from ranks at or past one to those below it.
+fn gap_at<V>(nodes: &Nodes<V>, first: Option<Id>, low: u8, visits: &mut Visits) -> Gap
+    requires list { (ms : List (Placed V)) × IsMasks nodes.now.lodged first ms }
+    requires turn { visits.old.turn ≡ nodes.now.turn }
+    ensures before { (ms : List (Placed V)) → IsMasks nodes.now.lodged first ms
+        → last_room (not_below low ms) ≡ result.before }
+    ensures behind { (ms : List (Placed V)) → IsMasks nodes.now.lodged first ms
+        → first_room (from_below low ms) ≡ result.behind }
+    ensures counter { visits.new.turn ≡ visits.old.turn }
+{
+    let mut before = None;
+    let mut behind = first;
+    while let Some(room) = behind {
+        let links = nodes.links(room, visits);
+        if links.leaf().rank.number() < low {
+            return Gap { before, behind };
+        }
+        let Some(mask) = links.mask_node() else {
+            return Gap { before, behind };
+        };
+        before = behind;
+        behind = mask.next;
+    }
+    Gap { before, behind }
+}
+
+/// The first of the masks that are listed at a bit node.
+fn masks_of<V>(nodes: &Nodes<V>, fork: Id, visits: &mut Visits) -> Option<Id>
+    requires node { IsBitNode nodes.now.lodged fork }
+    requires turn { visits.old.turn ≡ nodes.now.turn }
+    ensures head { result ≡ heads_in nodes.now.lodged fork.number }
+    ensures counter { visits.new.turn ≡ visits.old.turn }
+{
+    let Some(node) = nodes.links(fork, visits).bit_node() else {
+        return None;
+    };
+    node.masks
+}
+
+/// Writes which mask is the first that is listed at a bit node, or that none is.
+fn put_masks<V>(nodes: &mut Nodes<V>, fork: Id, masks: Option<Id>, visits: &mut Visits)
+    requires node { IsBitNode nodes.old.lodged fork }
+    requires turn { visits.old.turn ≡ nodes.old.turn }
+    ensures leaves { KeepsLeaves nodes.old.lodged nodes.new.lodged }
+    ensures bits { KeepsBits nodes.old.lodged nodes.new.lodged }
+    ensures heads { (n : ℕ) → heads_in nodes.new.lodged n
+        ≡ head_linked fork None masks n (heads_in nodes.old.lodged n) }
+    ensures masks { KeepsMasks nodes.old.lodged nodes.new.lodged }
+    ensures next { nodes.new.next ≡ nodes.old.next }
+    ensures turn { nodes.new.turn ≡ nodes.old.turn }
+    ensures counter { visits.new.turn ≡ visits.old.turn }
+{
+    let Some(node) = nodes.links(fork, visits).bit_node() else {
+        return;
+    };
+    put_bit_node(nodes, fork, Some(BitNode { masks, ..node }), visits);
+}
+
+/// Names the next one behind a mask of a bit node's list, or the list's first where there is none before.
+fn link<V>(
+    nodes: &mut Nodes<V>,
+    fork: Id,
+    before: Option<Id>,
+    next: Option<Id>,
+    visits: &mut Visits,
+)
+    requires node { IsBitNode nodes.old.lodged fork }
+    requires there { (room : Id) → before ≡ Some room → Has nodes.old.lodged room }
+    requires turn { visits.old.turn ≡ nodes.old.turn }
+    ensures leaves { KeepsLeaves nodes.old.lodged nodes.new.lodged }
+    ensures bits { KeepsBits nodes.old.lodged nodes.new.lodged }
+    ensures heads { (n : ℕ) → heads_in nodes.new.lodged n
+        ≡ head_linked fork before next n (heads_in nodes.old.lodged n) }
+    ensures masks { (n : ℕ) → masks_in nodes.new.lodged n
+        ≡ mask_linked before next n (masks_in nodes.old.lodged n) }
+    ensures next { nodes.new.next ≡ nodes.old.next }
+    ensures turn { nodes.new.turn ≡ nodes.old.turn }
+    ensures counter { visits.new.turn ≡ visits.old.turn }
+{
+    match before {
+        Some(room) => put_mask_node(nodes, room, Some(MaskNode { next }), visits),
+        None => put_masks(nodes, fork, next, visits),
+    }
+}
+
+/// Lists a room's mask at a bit node, behind the longer ones.
+pub(crate) fn sort_in<V>(nodes: &mut Nodes<V>, fork: Id, room: Id, visits: &mut Visits)
+    requires node { IsBitNode nodes.old.lodged fork }
+    requires list { (ms : List (Placed V)) × IsMasks nodes.old.lodged (heads_in nodes.old.lodged fork.number) ms }
+    requires free { IsFree nodes.old.lodged room }
+    requires turn { visits.old.turn ≡ nodes.old.turn }
+    ensures list { (ms : List (Placed V)) (f : IsFree nodes.old.lodged room)
+        → IsMasks nodes.old.lodged (heads_in nodes.old.lodged fork.number) ms → IsNoRank f.is.entry.rank ms
+        → IsMasks nodes.new.lodged (heads_in nodes.new.lodged fork.number) (sorted_in f.is ms) }
+    ensures heads { (n : ℕ) → (n ≡ fork.number → ⊥) → heads_in nodes.new.lodged n ≡ heads_in nodes.old.lodged n }
+    ensures masks { (ms : List (Placed V)) → IsMasks nodes.old.lodged (heads_in nodes.old.lodged fork.number) ms
+        → (n : ℕ) → (n ≡ room.number → ⊥) → IsAside n ms → masks_in nodes.new.lodged n ≡ masks_in nodes.old.lodged n }
+    ensures marked { is_some (masks_in nodes.new.lodged room.number) ≡ true }
+    ensures marks { (n : ℕ) → (n ≡ room.number → ⊥)
+        → is_some (masks_in nodes.new.lodged n) ≡ is_some (masks_in nodes.old.lodged n) }
+    ensures leaves { KeepsLeaves nodes.old.lodged nodes.new.lodged }
+    ensures bits { KeepsBits nodes.old.lodged nodes.new.lodged }
+    ensures next { nodes.new.next ≡ nodes.old.next }
+    ensures turn { nodes.new.turn ≡ nodes.old.turn }
+    ensures counter { visits.new.turn ≡ visits.old.turn }
+{
+    let rank = nodes.links(room, visits).leaf().rank.number();
+    let first = masks_of(nodes, fork, visits);
+    let gap = gap_at(nodes, first, rank, visits);
+    put_mask_node(nodes, room, Some(MaskNode { next: gap.behind }), visits);
+    link(nodes, fork, gap.before, Some(room), visits);
+}
+
+/// Takes a room's mask out of a bit node's list.
+pub(crate) fn take_out<V>(nodes: &mut Nodes<V>, fork: Id, room: Id, visits: &mut Visits)
+    requires node { IsBitNode nodes.old.lodged fork }
+    requires list { (ms : List (Placed V)) × (x : Placed V)
+        × IsMasks nodes.old.lodged (heads_in nodes.old.lodged fork.number) ms × IsAmong x ms × (x.room ≡ room) }
+    requires turn { visits.old.turn ≡ nodes.old.turn }
+    ensures list { (ms : List (Placed V)) (x : Placed V)
+        → IsMasks nodes.old.lodged (heads_in nodes.old.lodged fork.number) ms → IsAmong x ms → x.room ≡ room
+        → IsMasks nodes.new.lodged (heads_in nodes.new.lodged fork.number) (taken_out x.entry.rank ms) }
+    ensures heads { (n : ℕ) → (n ≡ fork.number → ⊥) → heads_in nodes.new.lodged n ≡ heads_in nodes.old.lodged n }
+    ensures masks { (ms : List (Placed V)) → IsMasks nodes.old.lodged (heads_in nodes.old.lodged fork.number) ms
+        → (n : ℕ) → (n ≡ room.number → ⊥) → IsAside n ms → masks_in nodes.new.lodged n ≡ masks_in nodes.old.lodged n }
+    ensures unmarked { masks_in nodes.new.lodged room.number ≡ None }
+    ensures marks { (n : ℕ) → (n ≡ room.number → ⊥)
+        → is_some (masks_in nodes.new.lodged n) ≡ is_some (masks_in nodes.old.lodged n) }
+    ensures leaves { KeepsLeaves nodes.old.lodged nodes.new.lodged }
+    ensures bits { KeepsBits nodes.old.lodged nodes.new.lodged }
+    ensures next { nodes.new.next ≡ nodes.old.next }
+    ensures turn { nodes.new.turn ≡ nodes.old.turn }
+    ensures counter { visits.new.turn ≡ visits.old.turn }
+{
+    let links = *nodes.links(room, visits);
+    let Some(mask) = links.mask_node() else {
+        return;
+    };
+    let first = masks_of(nodes, fork, visits);
+    let gap = gap_at(nodes, first, links.leaf().rank.number() + 1, visits);
+    link(nodes, fork, gap.before, mask.next, visits);
+    put_mask_node(nodes, room, None, visits);
+}
+
+/// Keeps those masks of a bit node's list whose ranks are past a bit, and answers the first of the others, which are a
+/// list of their own from now on.
+fn cut_list<V>(nodes: &mut Nodes<V>, fork: Id, bit: u8, visits: &mut Visits) -> Option<Id>
+    requires node { IsBitNode nodes.old.lodged fork }
+    requires list { (ms : List (Placed V)) × IsMasks nodes.old.lodged (heads_in nodes.old.lodged fork.number) ms }
+    requires bit { bit ≤ 31 }
+    requires turn { visits.old.turn ≡ nodes.old.turn }
+    ensures kept { (ms : List (Placed V)) → IsMasks nodes.old.lodged (heads_in nodes.old.lodged fork.number) ms
+        → IsMasks nodes.new.lodged (heads_in nodes.new.lodged fork.number) (past_bit bit ms) }
+    ensures others { (ms : List (Placed V)) → IsMasks nodes.old.lodged (heads_in nodes.old.lodged fork.number) ms
+        → IsMasks nodes.new.lodged result (up_to_bit bit ms) }
+    ensures heads { (n : ℕ) → (n ≡ fork.number → ⊥) → heads_in nodes.new.lodged n ≡ heads_in nodes.old.lodged n }
+    ensures masks { (ms : List (Placed V)) → IsMasks nodes.old.lodged (heads_in nodes.old.lodged fork.number) ms
+        → (n : ℕ) → IsAside n ms → masks_in nodes.new.lodged n ≡ masks_in nodes.old.lodged n }
+    ensures marks { (n : ℕ) → is_some (masks_in nodes.new.lodged n) ≡ is_some (masks_in nodes.old.lodged n) }
+    ensures leaves { KeepsLeaves nodes.old.lodged nodes.new.lodged }
+    ensures bits { KeepsBits nodes.old.lodged nodes.new.lodged }
+    ensures next { nodes.new.next ≡ nodes.old.next }
+    ensures turn { nodes.new.turn ≡ nodes.old.turn }
+    ensures counter { visits.new.turn ≡ visits.old.turn }
+{
+    let first = masks_of(nodes, fork, visits);
+    let gap = gap_at(nodes, first, bit + 1, visits);
+    link(nodes, fork, gap.before, None, visits);
+    gap.behind
+}
+
+/// Keeps those masks of the list at a node whose ranks are past a bit, and answers the first of the others, which are a
+/// list of their own from now on. A leaf has no list.
+pub(crate) fn cut<V>(nodes: &mut Nodes<V>, at: Node, bit: u8, visits: &mut Visits) -> Option<Id>
+    requires node { (fork : Id) → at ≡ BitOf fork → IsBitNode nodes.old.lodged fork }
+    requires list { (fork : Id) → at ≡ BitOf fork
+        → (ms : List (Placed V)) × IsMasks nodes.old.lodged (heads_in nodes.old.lodged fork.number) ms }
+    requires bit { bit ≤ 31 }
+    requires turn { visits.old.turn ≡ nodes.old.turn }
+    ensures kept { (fork : Id) (ms : List (Placed V)) → at ≡ BitOf fork
+        → IsMasks nodes.old.lodged (heads_in nodes.old.lodged fork.number) ms
+        → IsMasks nodes.new.lodged (heads_in nodes.new.lodged fork.number) (past_bit bit ms) }
+    ensures others { (fork : Id) (ms : List (Placed V)) → at ≡ BitOf fork
+        → IsMasks nodes.old.lodged (heads_in nodes.old.lodged fork.number) ms
+        → IsMasks nodes.new.lodged result (up_to_bit bit ms) }
+    ensures leaf { (room : Id) → at ≡ LeafOf room → (result ≡ None) × (nodes.new ≡ nodes.old) }
+    ensures heads { (n : ℕ) → ((fork : Id) → at ≡ BitOf fork → n ≡ fork.number → ⊥)
+        → heads_in nodes.new.lodged n ≡ heads_in nodes.old.lodged n }
+    ensures masks { (fork : Id) (ms : List (Placed V)) → at ≡ BitOf fork
+        → IsMasks nodes.old.lodged (heads_in nodes.old.lodged fork.number) ms
+        → (n : ℕ) → IsAside n ms → masks_in nodes.new.lodged n ≡ masks_in nodes.old.lodged n }
+    ensures marks { (n : ℕ) → is_some (masks_in nodes.new.lodged n) ≡ is_some (masks_in nodes.old.lodged n) }
+    ensures leaves { KeepsLeaves nodes.old.lodged nodes.new.lodged }
+    ensures bits { KeepsBits nodes.old.lodged nodes.new.lodged }
+    ensures next { nodes.new.next ≡ nodes.old.next }
+    ensures turn { nodes.new.turn ≡ nodes.old.turn }
+    ensures counter { visits.new.turn ≡ visits.old.turn }
+{
+    match at {
+        Node::Leaf(_) => None,
+        Node::Bit(fork) => cut_list(nodes, fork, bit, visits),
+    }
+}
+
+/// Appends a list of masks to that of a bit node. All its masks are shorter than those of the bit node.
+pub(crate) fn append<V>(nodes: &mut Nodes<V>, fork: Id, tail: Option<Id>, visits: &mut Visits)
+    requires node { IsBitNode nodes.old.lodged fork }
+    requires list { (ms ts : List (Placed V)) × IsMasks nodes.old.lodged (heads_in nodes.old.lodged fork.number) ms
+        × IsMasks nodes.old.lodged tail ts × Falls 0 34 (ms ++ ts) }
+    requires turn { visits.old.turn ≡ nodes.old.turn }
+    ensures list { (ms ts : List (Placed V)) → IsMasks nodes.old.lodged (heads_in nodes.old.lodged fork.number) ms
+        → IsMasks nodes.old.lodged tail ts → Falls 0 34 (ms ++ ts)
+        → IsMasks nodes.new.lodged (heads_in nodes.new.lodged fork.number) (ms ++ ts) }
+    ensures heads { (n : ℕ) → (n ≡ fork.number → ⊥) → heads_in nodes.new.lodged n ≡ heads_in nodes.old.lodged n }
+    ensures masks { (ms : List (Placed V)) → IsMasks nodes.old.lodged (heads_in nodes.old.lodged fork.number) ms
+        → (n : ℕ) → IsAside n ms → masks_in nodes.new.lodged n ≡ masks_in nodes.old.lodged n }
+    ensures marks { (n : ℕ) → is_some (masks_in nodes.new.lodged n) ≡ is_some (masks_in nodes.old.lodged n) }
+    ensures leaves { KeepsLeaves nodes.old.lodged nodes.new.lodged }
+    ensures bits { KeepsBits nodes.old.lodged nodes.new.lodged }
+    ensures next { nodes.new.next ≡ nodes.old.next }
+    ensures turn { nodes.new.turn ≡ nodes.old.turn }
+    ensures counter { visits.new.turn ≡ visits.old.turn }
+{
+    let first = masks_of(nodes, fork, visits);
+    let gap = gap_at(nodes, first, 0, visits);
+    link(nodes, fork, gap.before, tail, visits);
+}
+
+/// Makes the rooms of a list of masks no mask nodes any more.
+pub(crate) fn clear<V>(nodes: &mut Nodes<V>, first: Option<Id>, visits: &mut Visits)
+    requires list { (ms : List (Placed V)) × IsMasks nodes.old.lodged first ms }
+    requires turn { visits.old.turn ≡ nodes.old.turn }
+    ensures cleared { (ms : List (Placed V)) (y : Placed V) → IsMasks nodes.old.lodged first ms → IsAmong y ms
+        → masks_in nodes.new.lodged y.room.number ≡ None }
+    ensures masks { (ms : List (Placed V)) → IsMasks nodes.old.lodged first ms
+        → (n : ℕ) → IsAside n ms → masks_in nodes.new.lodged n ≡ masks_in nodes.old.lodged n }
+    ensures fewer { (n : ℕ) → (masks_in nodes.new.lodged n ≡ None)
+        ⊎ (masks_in nodes.new.lodged n ≡ masks_in nodes.old.lodged n) }
+    ensures heads { KeepsHeads nodes.old.lodged nodes.new.lodged }
+    ensures leaves { KeepsLeaves nodes.old.lodged nodes.new.lodged }
+    ensures bits { KeepsBits nodes.old.lodged nodes.new.lodged }
+    ensures next { nodes.new.next ≡ nodes.old.next }
+    ensures turn { nodes.new.turn ≡ nodes.old.turn }
+    ensures counter { visits.new.turn ≡ visits.old.turn }
+{
+    let mut at = first;
+    while let Some(room) = at {
+        let Some(mask) = nodes.links(room, visits).mask_node() else {
+            return;
+        };
+        put_mask_node(nodes, room, None, visits);
+        at = mask.next;
+    }
+}
+
+/// The bit node at which the mask of a rank is listed, from the leaf of a route: the topmost one above whose bit is at
+/// or past the rank.
+pub(crate) fn home<V>(nodes: &Nodes<V>, leaf: Id, rank: Rank, visits: &mut Visits) -> Option<Id>
+    requires led { (key : ℕ) × (whole : Part nodes.now.lodged) × (whole.above ≡ None) × (whole.low ≡ 0)
+        × LedTo key whole leaf }
+    requires turn { visits.old.turn ≡ nodes.now.turn }
+    ensures home { (key : ℕ) (whole : Part nodes.now.lodged) → whole.above ≡ None → whole.low ≡ 0
+        → LedTo key whole leaf → IsHome nodes.now.lodged key rank whole result }
+    ensures counter { visits.new.turn ≡ visits.old.turn }
+{
+    let rank = rank.number();
+    let mut home = None;
+    let mut above = nodes.links(leaf, visits).leaf().above;
+    while let Some(up) = above {
+        let Some(node) = nodes.links(up, visits).bit_node() else {
+            return home;
+        };
+        if node.bit < rank {
+            return home;
+        }
+        home = Some(up);
+        above = node.above;
+    }
+    home
+}

@@ -1,0 +1,88 @@
+//! How a bit node in use moves from its room to another.
+ghost use Rattle.std.specs.Prelude.{◌≡◌, ℕ, Some, None};
+ghost use Rattle.radix_nodes.specs.Rooms.{Has};
+ghost use Rattle.radix_nodes.specs.declared.id.Id.{Id};
+ghost use Rattle.radix_tree.specs.Rooms.{BitPart, bits_in};
+ghost use Rattle.radix_tree.specs.Whole.{shown};
+ghost use Rattle.radix_tree.specs.Marks.{IsWholeBut, nobody_late, out_at};
+ghost use Rattle.radix_tree.specs.Writes.{KeepsLeaves, KeepsHeads, KeepsMasks};
+ghost use Rattle.radix_tree.specs.Removal.{renamed as name_after, rename, KeepsRoutes, CanTake};
+
+use crate::inserting::root_after;
+use crate::linking::{lift, put_bit_node};
+use radix_nodes::{BitNode, Id, Node, Nodes, Visits};
+
+/// A name, once the bit node of one room is in another room.
+fn renamed(from: Id, to: Id, node: Node) -> Node
+    ensures { result ≡ name_after from to node }
+{
+    match node {
+        Node::Leaf(room) => Node::Leaf(room),
+        Node::Bit(room) => {
+            if room == from {
+                Node::Bit(to)
+            } else {
+                Node::Bit(room)
+            }
+        }
+    }
+}
+
+/// Names one bit node in the place of another beneath a bit node, where there is one.
+fn rename_child<V>(nodes: &mut Nodes<V>, above: Option<Id>, from: Id, to: Id, visits: &mut Visits)
+    requires there { (up : Id) → above ≡ Some up → Has nodes.old.lodged up }
+    requires turn { visits.old.turn ≡ nodes.old.turn }
+    ensures leaves { KeepsLeaves nodes.old.lodged nodes.new.lodged }
+    ensures bits { (n : ℕ) → bits_in nodes.new.lodged n ≡ rename above from to n (bits_in nodes.old.lodged n) }
+    ensures heads { KeepsHeads nodes.old.lodged nodes.new.lodged }
+    ensures masks { KeepsMasks nodes.old.lodged nodes.new.lodged }
+    ensures next { nodes.new.next ≡ nodes.old.next }
+    ensures turn { nodes.new.turn ≡ nodes.old.turn }
+    ensures counter { visits.new.turn ≡ visits.old.turn }
+{
+    let Some(up) = above else {
+        return;
+    };
+    let Some(node) = nodes.links(up, visits).bit_node() else {
+        return;
+    };
+    let zero = renamed(from, to, node.zero);
+    let one = renamed(from, to, node.one);
+    put_bit_node(nodes, up, Some(BitNode { zero, one, ..node }), visits);
+}
+
+/// Moves the bit node of one room, where it is in use, to another room that can take it, and answers the root from then
+/// on. The nodes beneath it name the other room as the one above, and the bit node above names it in the old one's
+/// place.
+pub(crate) fn vacate<V>(
+    nodes: &mut Nodes<V>,
+    root: Node,
+    from: Id,
+    to: Id,
+    visits: &mut Visits,
+) -> Node
+    requires whole { IsWholeBut nodes.old.lodged root nobody_late (out_at from.number) }
+    requires from { Has nodes.old.lodged from }
+    requires to { Has nodes.old.lodged to }
+    requires takes { (p : BitPart) → bits_in nodes.old.lodged from.number ≡ Some p
+        → CanTake nodes.old.lodged from to }
+    requires turn { visits.old.turn ≡ nodes.old.turn }
+    ensures whole { IsWholeBut nodes.new.lodged result nobody_late (out_at from.number) }
+    ensures gone { bits_in nodes.new.lodged from.number ≡ None }
+    ensures routes { shown nodes.new.lodged (Some result) ≡ shown nodes.old.lodged (Some root) }
+    ensures rooms { KeepsRoutes nodes.old.lodged nodes.new.lodged }
+    ensures masks { KeepsMasks nodes.old.lodged nodes.new.lodged }
+    ensures next { nodes.new.next ≡ nodes.old.next }
+    ensures turn { nodes.new.turn ≡ nodes.old.turn }
+    ensures counter { visits.new.turn ≡ visits.old.turn }
+{
+    let Some(node) = nodes.links(from, visits).bit_node() else {
+        return root;
+    };
+    lift(nodes, node.zero, Some(to), visits);
+    lift(nodes, node.one, Some(to), visits);
+    put_bit_node(nodes, from, None, visits);
+    put_bit_node(nodes, to, Some(node), visits);
+    rename_child(nodes, node.above, from, to, visits);
+    root_after(node.above, Node::Bit(to), root)
+}
