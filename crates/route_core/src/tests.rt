@@ -2,8 +2,10 @@
 //! refuses them, outside vectors, printed texts, and the table against a plain list. They stand together since a
 //! crate with tests is proved twice.
 
+mod changes;
 mod masks;
 mod messages;
+mod plain;
 mod requests;
 mod sockets;
 mod table;

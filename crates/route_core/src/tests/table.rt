@@ -1,9 +1,9 @@
-//! Each call of a table once, and a long run of them against a plain list that is searched whole.
+//! Each call of a table once.
 
-ghost use Rattle.std.specs.Prelude.{◌≡◌, ◌<◌, length, IfSome};
+ghost use Rattle.std.specs.Prelude.{◌≡◌};
 
-use mask_table::{Rank, agrees, masked};
-use radix_tree::{Entry, Table, Visits, Walk, laws};
+use mask_table::{Rank, masked};
+use radix_tree::{Table, Visits, laws};
 use sock_addrs::Inet;
 use std::alloc::AllocError;
 use std::mem::size_of;
@@ -31,18 +31,6 @@ fn best_in(table: &Table<u64>, address: Inet, visits: &mut Visits) -> Option<(u8
     match table.best(address, visits) {
         None => None,
         Some((_, rank, value)) => Some((rank.number(), *value)),
-    }
-}
-
-/// The value of a walk's next route.
-fn next_value(walk: &mut Walk<'_, u64>, visits: &mut Visits) -> Option<u64>
-    requires { visits.old.turn ≡ walk.old.turn }
-    ensures counter { visits.new.turn ≡ visits.old.turn }
-    ensures walk { walk.new.turn ≡ walk.old.turn }
-{
-    match walk.step(visits) {
-        None => None,
-        Some((_, _, value)) => Some(*value),
     }
 }
 
@@ -79,69 +67,5 @@ fn each_call_once(rt: HostRuntime) -> Result<(), Fail> {
     assert_eq!(rt; table.remove(NET, Rank::host()), Some(33));
     assert_eq!(rt; table.remove(NET, Rank::host()), None);
     laws::is_table(&table);
-    Ok(())
-}
-
-#[test]
-fn a_walk_begins_at_the_first_route(rt: HostRuntime) -> Result<(), Fail> {
-    let mut table = Table::new(rt.alloc())?;
-    assert!(rt; put(&mut table, NET, Rank::new(8), 8)?);
-    assert!(rt; put(&mut table, NET, Rank::host(), 33)?);
-    let mut visits = table.begin();
-    let mut walk = table.walk(&mut visits);
-    assert_eq!(rt; next_value(&mut walk, &mut visits), Some(33));
-    assert_eq!(rt; next_value(&mut walk, &mut visits), Some(8));
-    assert_eq!(rt; next_value(&mut walk, &mut visits), None);
-    Ok(())
-}
-
-/// The greatest rank in the plain list with which the address agrees, with its value.
-fn plain_best(plain: &[Entry<u64>], address: Inet) -> Option<(u8, u64)> {
-    let mut best: Option<(u8, u64)> = None;
-    for entry in plain {
-        let rank = entry.rank.number();
-        if agrees(entry.key, entry.rank, address) && best.is_none_or(|b| b.0 < rank) {
-            best = Some((rank, entry.value));
-        }
-    }
-    best
-}
-
-/// Where the pair stands in the plain list.
-fn plain_place(plain: &[Entry<u64>], key: Inet, rank: Rank) -> Option<usize>
-    ensures { IfSome result (λ place. place < length plain.now) }
-{
-    plain.iter().position(|e| e.key == key && e.rank == rank)
-}
-
-#[test]
-fn a_long_run_agrees_with_a_plain_list(rt: HostRuntime) -> Result<(), Fail> {
-    let mut table = Table::new(rt.alloc())?;
-    let mut plain: Vec<Entry<u64>> = Vec::new(rt.alloc());
-    let mut random = 0x2545_f491_4f6c_dd1du64;
-    for value in 0..10_000u64 {
-        random = random
-            .wrapping_mul(6_364_136_223_846_793_005)
-            .wrapping_add(1_442_695_040_888_963_407);
-        let rank = Rank::new((random >> 58) as u8 % 34);
-        let address = Inet::new((random >> 20 & 0xe000_0003) as u32);
-        let key = masked(address, rank);
-        match plain_place(plain.as_slice(), key, rank) {
-            Some(place) => {
-                let entry = plain.swap_remove(place);
-                assert_eq!(rt; table.remove(key, rank), Some(entry.value), "at {value}");
-            }
-            None => {
-                plain.push(Entry { key, rank, value })?;
-                assert!(rt; put(&mut table, address, rank, value)?, "at {value}");
-            }
-        }
-        let mut visits = table.begin();
-        assert_eq!(rt;
-            best_in(&table, address, &mut visits),
-            plain_best(plain.as_slice(), address),
-            "at {value}"
-        );
-    }
     Ok(())
 }
