@@ -15,8 +15,8 @@ use sock_addrs::Inet;
 /// The most words of a line: `route ID SEQ VERB DEST` and 15 options, of a name and a word each.
 const MOST_WORDS: usize = 35;
 
-/// The most words of most lines, for which less room is made.
-const FEW_WORDS: usize = 6;
+/// The most words of the lines that come most often (`write`, `read`, `packet`), for which less room is made.
+const FEW_WORDS: usize = 3;
 
 /// `NAME KIND T HEX`, behind `if`.
 fn attach(words: &[&[u8]]) -> Option<Said<'static>>
