@@ -13,20 +13,23 @@ use route_core::{Answer, Choice, first_message};
 use sock_addrs::Errno;
 use std::io::Write;
 
-/// The bytes whose hexadecimal text fills the buffer.
+/// The room in which the text of an answer is made, in bytes.
+pub const TEXT_ROOM: usize = 4096;
+
+/// The bytes whose hexadecimal text fills that room.
 const PIECE: usize = 2048;
 
 /// Writes the text of a line's answer, going on behind what a short write took: `ok`, `err` with the errno's number,
 /// `via` or `drop` with a packet's route, `size` with a number of bytes, `msg` with its bytes for each message and then
 /// `ok`, or `err` where some are left out, or `bad`. It is refused at the first write that answers an error or takes no
-/// byte, and what was taken before is then a front of that text. `buffer` is room for 4,096 bytes of text; what it held
-/// is lost.
+/// byte, and what was taken before is then a front of that text. `buffer` is room for `TEXT_ROOM` bytes of text; what it
+/// held is lost.
 pub fn write_answer<W: Write>(
     answer: &Result<Answer, Bad>,
     buffer: &mut [u8],
     writer: &mut Counted<W>,
 ) -> Result<(), Stopped>
-    requires buffer { length buffer.old ≡ 4096 }
+    requires buffer { length buffer.old ≡ TEXT_ROOM }
     requires no_failure { writer.old.failures ≡ 0 }
     ensures ok { OnOk result (Wrote W.contents writer.old writer.new (response_text answer.now)) }
     ensures err { OnErr result (WroteFront W.contents writer.old writer.new (response_text answer.now)) }
@@ -128,7 +131,7 @@ fn write_messages<W: Write>(
     writer: &mut Counted<W>,
 ) -> Result<(), Stopped>
     requires whole { AreMessages bytes.now }
-    requires buffer { length buffer.old ≡ 4096 }
+    requires buffer { length buffer.old ≡ TEXT_ROOM }
     requires no_failure { writer.old.failures ≡ 0 }
     ensures ok { OnOk result (Wrote W.contents writer.old writer.new (flat_map message_line (cut bytes.now))) }
     ensures err { OnErr result (WroteFront W.contents writer.old writer.new (flat_map message_line (cut bytes.now))) }
@@ -148,7 +151,7 @@ fn write_message<W: Write>(
     buffer: &mut [u8],
     writer: &mut Counted<W>,
 ) -> Result<(), Stopped>
-    requires buffer { length buffer.old ≡ 4096 }
+    requires buffer { length buffer.old ≡ TEXT_ROOM }
     requires no_failure { writer.old.failures ≡ 0 }
     ensures ok { OnOk result (Wrote W.contents writer.old writer.new (message_line message.now)) }
     ensures err { OnErr result (WroteFront W.contents writer.old writer.new (message_line message.now)) }
@@ -164,7 +167,7 @@ fn write_hex<W: Write>(
     buffer: &mut [u8],
     writer: &mut Counted<W>,
 ) -> Result<(), Stopped>
-    requires buffer { length buffer.old ≡ 4096 }
+    requires buffer { length buffer.old ≡ TEXT_ROOM }
     requires no_failure { writer.old.failures ≡ 0 }
     ensures ok { OnOk result (Wrote W.contents writer.old writer.new (encode_lower bytes.now)) }
     ensures err { OnErr result (WroteFront W.contents writer.old writer.new (encode_lower bytes.now)) }
@@ -185,7 +188,7 @@ fn write_piece<W: Write>(
     writer: &mut Counted<W>,
 ) -> Result<(), Stopped>
     requires piece { length piece.now ≤ PIECE }
-    requires buffer { length buffer.old ≡ 4096 }
+    requires buffer { length buffer.old ≡ TEXT_ROOM }
     requires no_failure { writer.old.failures ≡ 0 }
     ensures ok { OnOk result (Wrote W.contents writer.old writer.new (encode_lower piece.now)) }
     ensures err { OnErr result (WroteFront W.contents writer.old writer.new (encode_lower piece.now)) }

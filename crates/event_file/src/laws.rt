@@ -13,6 +13,8 @@ ghost use Rattle.event_file.specs.RouteLaws.{ComposedIsRead, RouteLinesAreRead};
 ghost use Rattle.event_file.specs.Runs.{OthersLeaveTheText, RunIsTranscript, TranscriptIsRun};
 ghost use Rattle.event_file.specs.Transcript.{ComputedIsTranscript, ResponseIsComputed, TranscriptIsComputed};
 
+use crate::answers::TEXT_ROOM;
+use crate::line_buffer::LONGEST_LINE;
 use route_core::laws::others_do_not_disturb;
 use route_msgs::laws::{sockaddrs_are_read, written_is_read};
 
@@ -135,3 +137,9 @@ pub fn others_leave_the_text()
 {
     others_do_not_disturb();
 }
+
+/// The longest line and the room in which an answer's text is made, by number.
+pub fn rooms_by_number()
+    ensures line { LONGEST_LINE ≡ 16500 }
+    ensures text { TEXT_ROOM ≡ 4096 }
+{}

@@ -15,7 +15,7 @@ mod route_words;
 mod texts;
 mod words;
 
-pub use answers::write_answer;
+pub use answers::{TEXT_ROOM, write_answer};
 pub use bad::Bad;
 pub use counted::Counted;
 pub use grammar::{read_line, read_said};

@@ -24,7 +24,7 @@ pub(crate) const PID_OFFSET: usize = 16;
 /// Where a message has its errno.
 pub(crate) const ERRNO_OFFSET: usize = 24;
 
-/// The most bytes of most messages that are written, whose replies are made in less room.
+/// A written message has seldom more bytes than these, and its reply is then made in as little room.
 const FEW_BYTES: usize = 256;
 
 /// The reply to a refused write: the written bytes with the writer's pid, but where the version is another, and the

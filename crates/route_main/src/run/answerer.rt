@@ -5,17 +5,11 @@ ghost use Rattle.event_file.specs.Transcript.{Responds};
 ghost use Rattle.route_main.specs.Ends.{IsAnswered};
 
 use super::Outcome;
-use event_file::{Bad, Counted, LineBuffer, Stopped, read_said, write_answer};
-use route_core::{Answer, World};
+use event_file::{Bad, Counted, LineBuffer, Stopped, TEXT_ROOM, read_said, write_answer};
+use route_core::{Answer, MOST_WRITTEN, World};
 use std::alloc::{AllocError, Global};
 use std::io::Write;
 use std::marker::Model;
-
-/// The room for the text of an answer, in bytes.
-const TEXT_ROOM: usize = 4096;
-
-/// The room for the bytes of a write.
-const WRITTEN_ROOM: usize = 8246;
 
 /// Gives lines to a world, and writes the answers. A contract sees the world, and whether some line was malformed.
 #[derive(Drop)]
@@ -28,13 +22,15 @@ pub(super) struct Answerer {
 
 impl Model for Answerer {
     ghost use Rattle.std.specs.Prelude.{◌≡◌, length};
+    ghost use Rattle.route_core.specs.declared.written.TheConstants.{MOST_WRITTEN};
+    ghost use Rattle.event_file.specs.declared.answers.TheConstants.{TEXT_ROOM};
     ghost use Rattle.route_main.specs.Progress.{Standing};
 
     ghost Value = { Standing };
 
     ghost view = { λ a. record { world = a.world; has_bad = a.has_bad } };
 
-    ghost invariant = { λ a. (length a.text.items ≡ 4096) × (length a.written.items ≡ 8246) };
+    ghost invariant = { λ a. (length a.text.items ≡ TEXT_ROOM) × (length a.written.items ≡ MOST_WRITTEN) };
 }
 
 impl Answerer {
@@ -44,7 +40,7 @@ impl Answerer {
     {
         let world = World::new(alloc)?;
         let text = vec![in alloc; 0u8; TEXT_ROOM]?;
-        let written = vec![in alloc; 0u8; WRITTEN_ROOM]?;
+        let written = vec![in alloc; 0u8; MOST_WRITTEN]?;
         Ok(Answerer {
             world,
             has_bad: false,
@@ -177,7 +173,7 @@ fn is_passed(line: Option<&[u8]>) -> bool
 
 /// The world's response to a line, which is nothing where it is too long. The bytes of a write are put into `room`.
 fn respond(world: &mut World, line: Option<&[u8]>, room: &mut [u8]) -> Result<Answer, Bad>
-    requires { length room.old ≡ WRITTEN_ROOM }
+    requires { length room.old ≡ MOST_WRITTEN }
     ensures { Responds world.old (option_copied line.entry) result world.new }
 {
     let Some(line) = line else {
