@@ -8,8 +8,7 @@ MOST_ADDRESSES = 65_535
 
 
 def build_a_long_table(sweep):
-    """As many routes as there may be addresses are added, and freed at the end; each comes first of its table, where it
-    is found at once."""
+    """As many routes as there may be addresses are added, each before all others of the table, and freed at the end."""
     lines = [f"addr le0 10.{n >> 16}.{n >> 8 & 255}.{n & 255}/32\n" for n in range(MOST_ADDRESSES, -1, -1)]
     ran = sweep.run(("if le0 broadcast 6 -\n" + "".join(lines)).encode())
     told = b"ok\n" * (MOST_ADDRESSES + 1) + b"err 28\n", DONE, b""

@@ -49,8 +49,8 @@ pub struct MaskNode {
 }
 
 /// A room's links: what it is as a leaf, as a bit node and as a mask node. They take 144 bytes: eight names of 16 bytes
-/// each, and 16 bytes for the key, the rank, the bit, and which of the names are there. What a descent reads comes
-/// first.
+/// each, and 16 bytes for the key, the rank, the bit, and the flags: which of the nodes beneath are leaves, which of
+/// the other names are there, and in which roles the room is in use. What a descent reads comes first.
 #[derive(Clone, Copy)]
 pub struct Links {
     zero: Id,

@@ -10,7 +10,8 @@ use std::alloc::Global;
 use std::marker::Model;
 
 /// The lodged rooms of a tree. A contract sees them as a finite map from a room's number to its block, its value and
-/// its links, and beside it the number that the next room gets, and the turn.
+/// its links, and beside it the number that the next room gets, and the turn. `begin` begins the next turn, and rooms
+/// are read with a counter of the present one.
 pub struct Nodes<V> {
     pub(crate) alloc: Global,
     /// The number of the last room that was made, or 0.

@@ -30,7 +30,7 @@ impl<V> Nodes<V> {
         &self.visit(id, visits).value
     }
 
-    /// What stands in a room.
+    /// What stands in a room. It counts as one visit.
     fn visit(&self, id: Id, visits: &mut Visits) -> &Full<V>
         requires there { Has self.now.lodged id }
         ensures links { (room : Seen V) → get self.now.lodged id.number ≡ Some room → result.now.links ≡ room.links }

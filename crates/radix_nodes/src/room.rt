@@ -1,4 +1,4 @@
-//! A room, in which nothing stands.
+//! A room in which nothing stands, and what stands in the block of one that is lodged.
 use crate::links::Links;
 use std::alloc::Global;
 use std::marker::Model;

@@ -10,9 +10,9 @@ use std::alloc::AllocError;
 pub(crate) enum Slot {
     /// The name of a lodged room.
     Lodged(Id),
-    /// Of a room that is not lodged.
+    /// The place is kept for a room that was made and is not lodged.
     Made,
-    /// Of no room. The number is that of the next such place; where there is none it is past the end.
+    /// The place is kept for no room. The number is that of the next such place, or past the end where there is none.
     Free(usize),
 }
 

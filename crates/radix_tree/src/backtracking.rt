@@ -29,8 +29,8 @@ pub(crate) fn room_of<V>(
     of_pair(nodes, leaf, key, rank, visits)
 }
 
-/// The best route of an address among those beneath a bit node whose masks it lists, by its room: longer masks first,
-/// it searches for each one.
+/// The best route of an address among those beneath a bit node whose masks are listed there, by its room: longer masks
+/// first, each is searched for.
 fn best_listed<V>(
     nodes: &Nodes<V>,
     room: Id,

@@ -122,8 +122,8 @@ fn rename<V>(
     }
 }
 
-/// The leaf that a route is to be in the chain of its key: before the first member of a smaller rank. `None` where a
-/// member has its rank.
+/// What a route's leaf is to say in the chain of its key, in which it comes before the first member of a smaller rank.
+/// `None` where a member has its rank.
 fn gap<V>(nodes: &Nodes<V>, first: Id, key: Inet, rank: Rank, visits: &mut Visits) -> Option<Leaf>
     requires chain { (c : Run nodes.now.lodged) × (first_room c.members ≡ Some first) }
     requires turn { visits.old.turn ≡ nodes.now.turn }

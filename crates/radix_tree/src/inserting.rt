@@ -99,7 +99,8 @@ fn lodge_forked<V>(
     id
 }
 
-/// The root, once the node at a place beneath this bit node, or beneath none, is another one.
+/// The root, once another node has come into a place beneath this bit node: where no bit node is above the place, that
+/// node is the root.
 pub(crate) fn root_after(above: Option<Id>, to: Node, root: Node) -> Node
     ensures { result ≡ root_with above to root }
 {

@@ -54,8 +54,8 @@ fn hand_masks_on<V>(nodes: &mut Nodes<V>, to: Node, first: Option<Id>, visits: &
     }
 }
 
-/// Puts a node into the place of the bit node above it, which is none from now on. The address is one on whose way that
-/// place is.
+/// Puts a node into the place of the bit node above it, whose room is no bit node from then on. The address is one on
+/// whose way that place is.
 fn join<V>(
     nodes: &mut Nodes<V>,
     up: Id,

@@ -1,4 +1,4 @@
-//! The routing table.
+//! The routing table: a Patricia tree on rooms over raw memory, which contracts see as a sorted list.
 #![tactic(auto)]
 
 mod backtracking;

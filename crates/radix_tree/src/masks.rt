@@ -12,14 +12,15 @@ use crate::linking::{put_bit_node, put_mask_node};
 use mask_table::Rank;
 use radix_nodes::{BitNode, Id, MaskNode, Node, Nodes, Visits};
 
-/// A place in a list of masks: behind this one, or before all, and before that one, or behind all.
+/// A place in a list of masks, by the masks before it and behind it. There is none before the list's front, and none
+/// behind its end.
 #[derive(Clone, Copy)]
 struct Gap {
     before: Option<Id>,
     behind: Option<Id>,
 }
 
-/// Where a list of masks goes from ranks at or past one to those below it.
+/// The place in a list of masks behind those of ranks at or past `low`, and before those of ranks below it.
 fn gap_at<V>(nodes: &Nodes<V>, first: Option<Id>, low: u8, visits: &mut Visits) -> Gap
     requires list { (ms : List (Placed V)) × IsMasks nodes.now.lodged first ms }
     requires turn { visits.old.turn ≡ nodes.now.turn }
@@ -247,7 +248,7 @@ pub(crate) fn append<V>(nodes: &mut Nodes<V>, fork: Id, tail: Option<Id>, visits
     link(nodes, fork, gap.before, tail, visits);
 }
 
-/// Makes the rooms of a list of masks no mask nodes any more.
+/// Unlists all masks of a list: their rooms are no mask nodes any more.
 pub(crate) fn clear<V>(nodes: &mut Nodes<V>, first: Option<Id>, visits: &mut Visits)
     requires list { (ms : List (Placed V)) × IsMasks nodes.old.lodged first ms }
     requires turn { visits.old.turn ≡ nodes.old.turn }

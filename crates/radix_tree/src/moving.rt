@@ -12,7 +12,7 @@ use crate::inserting::root_after;
 use crate::linking::{lift, put_bit_node};
 use radix_nodes::{BitNode, Id, Node, Nodes, Visits};
 
-/// A name, once the bit node of one room is in another room.
+/// What names a node, once the bit node of one room is in another room.
 fn renamed(from: Id, to: Id, node: Node) -> Node
     ensures { result ≡ name_after from to node }
 {

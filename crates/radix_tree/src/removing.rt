@@ -24,8 +24,8 @@ fn other_member(leaf: Leaf) -> Option<Id>
     }
 }
 
-/// Takes a route out of its chain, which has another member in this room, and answers the root from then on. The room
-/// stays in the map; where its bit node is in use, the other member's room is it from then on.
+/// Takes a route out of its chain, which has another member in the room `to`, and answers the root from then on. The
+/// route's room stays in the map; where its bit node is in use, that moves to the other member's room.
 fn take_member<V>(
     nodes: &mut Nodes<V>,
     root: Node,
@@ -52,7 +52,7 @@ fn take_member<V>(
 }
 
 /// Takes a route that is alone at its leaf out of the tree, with the bit node above, and answers the root from then on.
-/// The room stays in the map; where its own bit node is in use, the room of the one that went is it from then on.
+/// The route's room stays in the map; where its own bit node is in use, that moves to the room of the one that went.
 fn take_lone<V>(nodes: &mut Nodes<V>, root: Node, at: Id, visits: &mut Visits) -> Option<Node>
     requires whole { IsWholeBut nodes.old.lodged root (late_at at.number) nobody_out }
     requires unmarked { masks_in nodes.old.lodged at.number ≡ None }

@@ -34,8 +34,8 @@ impl Refusal {
     }
 }
 
-/// What is wrong with a message as a whole: nobody hears of one without its length, and those of all families of another
-/// version and of an address that overruns.
+/// The refusal of a message that is wrong as a whole. Of one of another length than it says nobody hears; of another
+/// version, and of an address that overruns, those sockets hear that hear all.
 impl From<MsgErr> for Refusal {
     ghost use Rattle.std.specs.Prelude.{◌≡◌};
     ghost use Rattle.route_core.specs.Writes.{refusal_of};

@@ -45,8 +45,8 @@ pub fn refused_redirect_keeps()
     ensures { RefusedRedirectKeeps }
 {}
 
-/// A table whose routes lead out of some interfaces, with gateways and masks in their ranges, stays one with another
-/// such route and without one, and where the interfaces keep their addresses.
+/// A table whose routes lead out of some interfaces, with gateways and masks in their ranges, is such a table also with
+/// another such route, without a route, and where the interfaces keep their addresses.
 pub fn tables_stay()
     ensures with { WithStays }
     ensures without { WithoutStays }
@@ -54,7 +54,7 @@ pub fn tables_stay()
     ensures address { AddressRouteIsOf }
 {}
 
-/// And it stays one with whatever a look-up, a request or a redirect leaves.
+/// And a look-up, a request and a redirect leave such a table.
 pub fn calls_keep_tables()
     ensures look_up { LookStays }
     ensures request_add { AddingStays }

@@ -7,8 +7,8 @@ use route_entries::Route;
 use std::alloc::AllocError;
 use std::marker::Model;
 
-/// The rooms that are left of the two that a step may need. It is finished, and can't be dropped. A contract sees the
-/// rooms' numbers.
+/// The rooms that are left of the two that a step may need. `finish` gives them back; a `Spare` can't be dropped. A
+/// contract sees the rooms' numbers.
 pub struct Spare {
     first: Option<Room<Route>>,
     second: Option<Room<Route>>,

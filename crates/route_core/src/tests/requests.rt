@@ -1,4 +1,4 @@
-//! The call that the program doesn't make of the requests.
+//! The one call of the requests that the program doesn't make.
 use crate::{Kind, LinkAddress, World};
 use mask_table::Prefix;
 use route_msgs::Metrics;
