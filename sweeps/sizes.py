@@ -1,4 +1,6 @@
 """Much of everything: a table, a queue and a line as long as they get, and rounds that take no more memory."""
+import random
+
 from generator import START
 from grammar import ON
 from messages import DST, GET, OLDADD, inet, message
@@ -8,8 +10,9 @@ MOST_ADDRESSES = 65_535
 
 
 def build_a_long_table(sweep):
-    """As many routes as there may be addresses are added, each before all others of the table, and freed at the end."""
-    lines = [f"addr le0 10.{n >> 16}.{n >> 8 & 255}.{n & 255}/32\n" for n in range(MOST_ADDRESSES, -1, -1)]
+    """As many routes as there may be addresses are added, in no order, and freed at the end."""
+    lines = [f"addr le0 10.{n >> 16}.{n >> 8 & 255}.{n & 255}/32\n" for n in range(MOST_ADDRESSES + 1)]
+    random.Random(1).shuffle(lines)
     ran = sweep.run(("if le0 broadcast 6 -\n" + "".join(lines)).encode())
     told = b"ok\n" * (MOST_ADDRESSES + 1) + b"err 28\n", DONE, b""
     sweep.claim("a long table", ran.told() == told and ran.left_nothing())
