@@ -2,16 +2,16 @@
 --     none_of_rank, some_of_rank       a rank that no route has, and one that a route has
 --     few_of_rank                      no more than there are keys
 --     counted_more, counted_less       with a route more or less
-use Rattle.std.proofs.Common.{◌≡◌, ℕ, ◌+◌, ◌-◌, ◌^◌, ◌<◌, ◌≤◌, ◌==◌, ◌&&◌, Bool, true, false, cond, if◌then◌else◌, nat_eq, IsTrue, List, [], ◌∷◌, ◌++◌, Option, Some, None, refl, sym, ap, ◌∙◌, subst, ⊎_elim, arith}
+use Rattle.std.proofs.Common.{◌≡◌, ℕ, ◌+◌, ◌-◌, ◌^◌, ◌<◌, ◌≤◌, ◌==◌, ◌&&◌, Bool, true, false, cond, if◌then◌else◌, IsTrue, List, [], ◌∷◌, ◌++◌, Some, None, refl, sym, ap, ◌∙◌, subst, ⊎_elim, arith}
 use Rattle.std.specs.List.{AllByRecursion}
 use Rattle.std.proofs.lemmas.Bool.{eqb-true, eq-eqb, ne_eqb, cases_lt}
 use Rattle.std.proofs.lemmas.List.Sums.{sum_by-cons, sum_by-append}
 use Rattle.mask_table.specs.Counts.{held, AreNone, HasOneMore}
-use Rattle.radix_tree.specs.Table.{precedes, IsRoute, IsTable, has_pair, entry_at}
+use Rattle.radix_tree.specs.Table.{precedes, IsTable, entry_at}
 use Rattle.radix_tree.specs.Growth.{Gains}
 use Rattle.radix_tree.specs.Kept.{of_rank, AreCounted}
 use Rattle.radix_tree.specs.declared.entry.Entry.{Entry}
-use Rattle.radix_tree.proofs.ListLemmas.{all_weaker, all_both}
+use Rattle.radix_tree.proofs.ListLemmas.{all_weaker}
 use Rattle.radix_tree.proofs.OrderLemmas.{precedes_in_words}
 
 abbrev pub one_of : Bool → ℕ
@@ -19,9 +19,6 @@ one_of b = cond b 1 0
 
 true_false : true ≡ false → ⊥
 true_false e = cc
-
-some_none : {A : Type 0} {x : A} → None ≡ Some x → ⊥
-some_none e = cc
 
 turned : (r rank : ℕ) → one_of (rank == r) ≡ (if r == rank then 1 else 0)
 turned r rank = elim (r == rank) as (λ b. (r == rank) ≡ b → one_of (rank == r) ≡ (if b then 1 else 0)) [
@@ -58,10 +55,6 @@ module _ {V : Type 0} where
           | false ↦ none_of_rank key rank es (sym (counted_behind rank e es is) ∙ none)
         ]
       ] refl
-
-  pub some_of_rank : (key rank : ℕ) (es : List (Entry V)) (e : Entry V) → entry_at key rank es ≡ Some e → 0 < of_rank rank es
-  some_of_rank key rank es e is =
-      ⊎_elim (λ (some : 0 < of_rank rank es). some) (λ (none : of_rank rank es ≤ 0). absurd (some_none (sym (none_of_rank key rank es (omega arith)) ∙ is))) (cases_lt 0 (of_rank rank es))
 
   -- ---- of one rank each key stands once
   abbrev Above : ℕ → ℕ → List (Entry V) → Type 0
@@ -120,10 +113,6 @@ module _ {V : Type 0} where
   not_held counts es key rank has counted fits asks not =
       ⊎_elim (λ (some : 0 < held rank counts). absurd (true_false (sym (subst IsTrue not (asks some)))))
       (λ (none : held rank counts ≤ 0). none_of_rank key rank es (let is : held rank counts ≡ of_rank rank es = counted rank fits in omega (arith, none, is))) (cases_lt 0 (held rank counts))
-
-  pub is_held : (counts : List ℕ) (es : List (Entry V)) (key rank : ℕ) (e : Entry V) → AreCounted counts es → rank ≤ 33 → entry_at key rank es ≡ Some e → 0 < held rank counts
-  is_held counts es key rank e counted fits is =
-      let some : 0 < of_rank rank es = some_of_rank key rank es e is in let same : held rank counts ≡ of_rank rank es = counted rank fits in omega (arith, some, same)
 
   pub few_held : (counts : List ℕ) (es : List (Entry V)) (rank : ℕ) → AreCounted counts es → IsTable es → rank ≤ 33 → held rank counts < 2 ^ 64 - 1
   few_held counts es rank counted table fits =

@@ -9,7 +9,7 @@ use Rattle.radix_nodes.specs.declared.links.BitNode.{BitNode}
 use Rattle.radix_nodes.specs.declared.links.Links.{Links}
 use Rattle.radix_nodes.specs.declared.links.Node.{Node}
 use Rattle.radix_nodes.specs.declared.links.Node.TheVariants.{Leaf as LeafOf, Bit as BitOf}
-use Rattle.radix_tree.specs.Tree.{bit_at, IsAmong, IsTree}
+use Rattle.radix_tree.specs.Tree.{bit_at, IsAmong}
 use Rattle.radix_tree.specs.Rooms.{Part, name_of}
 use Rattle.radix_tree.specs.Searches.{Tells, Finds, HasPair, In, ForkAt, Down, LedTo}
 use Rattle.radix_tree.proofs.RoomReads.{AreLinks, bit_read, bit_used}
@@ -69,12 +69,6 @@ module _ {V : Type 0} where
 
   pub led : (m : FinMap nat_cmp (Seen V)) (address : ℕ) (whole : Part m) (at : Node) (room : Id) (steps : ℕ) → Down address whole at steps → at ≡ LeafOf room → LedTo address whole room
   led m address whole at room steps d is = record { part = d.part; leaf = leaf_named m d.part room (d.named ∙ is); ups = d.ups; way = d.way }
-
-  pub few_down : (m : FinMap nat_cmp (Seen V)) (address : ℕ) (whole : Part m) (at : Node) (room : Id) (steps : ℕ) → Down address whole at steps → at ≡ LeafOf room → steps ≤ 32
-  few_down m address whole at room steps d is =
-      let f = leaf_named m d.part room (d.named ∙ is) in
-      let low : d.part.low ≤ 32 = (subst (IsTree d.part.low) f.is d.part.is).0 in
-      let few : steps ≤ d.part.low = d.few in omega arith
 
   -- a pair that is found at the leaf to which its key leads, or not there, is found so in the whole tree
   pub pair_led : (m : FinMap nat_cmp (Seen V)) (key rank : ℕ) (whole : Part m) (room : Id) (l : LedTo key whole room) (o : Option Id)

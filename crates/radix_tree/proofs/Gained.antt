@@ -3,25 +3,25 @@
 --     shown_same                     rooms that say the same of leaves and bit nodes show the same
 --     nobody, among_left, new_left   whose masks are not listed yet
 --     IsLost, lost                   what a route that goes leaves
-use Rattle.std.proofs.Common.{◌≡◌, ℕ, ◌+◌, ◌<◌, ◌≤◌, ◌==◌, ◌&&◌, ◌||◌, ◌⊎◌, Bool, true, false, not, if◌then◌else◌, List, [], ◌∷◌, ◌++◌, Option, Some, None, is_some, refl, sym, ap, ◌∙◌, subst, inl, inr, ⊎_elim, arith}
+use Rattle.std.proofs.Common.{◌≡◌, ℕ, ◌+◌, ◌≤◌, ◌==◌, ◌&&◌, ◌||◌, Bool, true, false, not, if◌then◌else◌, List, [], Option, Some, None, is_some, refl, sym, ap, ◌∙◌, subst, inl, ⊎_elim, arith}
 use Rattle.std.proofs.lemmas.Bool.{eqb-true, eq-eqb, ne_eqb}
 use Rattle.std.specs.Ordering.{nat_cmp}
 use Rattle.std.specs.FinMap.{FinMap, get}
-use Rattle.radix_nodes.specs.Rooms.{Seen, Has}
+use Rattle.radix_nodes.specs.Rooms.{Seen}
 use Rattle.radix_nodes.specs.declared.id.Id.{Id}
 use Rattle.radix_nodes.specs.declared.links.Leaf.{Leaf}
 use Rattle.radix_nodes.specs.declared.links.Node.{Node}
 use Rattle.radix_nodes.specs.declared.links.Node.TheVariants.{Leaf as LeafOf}
-use Rattle.radix_tree.specs.Table.{IsRoute, IsTable, entry_at, without}
-use Rattle.radix_tree.specs.Tree.{Placed, leaf, IsIn, IsChain}
-use Rattle.radix_tree.specs.Rooms.{LeafPart, MaskPart, Part, leaf_in, bit_in, mask_in, leaves_in, bits_in, heads_in, masks_in, leaf_part, first_room, ChainStands}
-use Rattle.radix_tree.specs.Searches.{LedTo, LeafAt}
+use Rattle.radix_tree.specs.Table.{IsRoute, without}
+use Rattle.radix_tree.specs.Tree.{leaf}
+use Rattle.radix_tree.specs.Rooms.{LeafPart, Part, leaf_in, bit_in, mask_in, leaves_in, masks_in, leaf_part, first_room}
+use Rattle.radix_tree.specs.Searches.{LedTo}
 use Rattle.radix_tree.specs.Growth.{Gains, placed}
 use Rattle.radix_tree.specs.Marks.{IsMarked, IsWholeBut, has_key, is_of_key, nobody_late, nobody_out, late_at}
 use Rattle.radix_tree.specs.Writes.{lodge_leaf, KeepsLeaves, KeepsBits, KeepsMasks}
-use Rattle.radix_tree.specs.Whole.{one_if, beneath_shown, shown, shown_entry, HasHome, IsWhole, Holds}
+use Rattle.radix_tree.specs.Whole.{one_if, beneath_shown, shown, shown_entry, IsWhole, Holds}
 use Rattle.radix_tree.specs.declared.entry.Entry.{Entry}
-use Rattle.radix_tree.proofs.RoomReads.{none_some, Has-leaf}
+use Rattle.radix_tree.proofs.RoomReads.{none_some}
 use Rattle.radix_tree.proofs.Parts.{leaf_run}
 use Rattle.radix_tree.proofs.Showing.{shown_is}
 use Rattle.radix_tree.proofs.WholeChanges.{but_whole, loses_entry}
@@ -93,10 +93,6 @@ module _ {V : Type 0} where
 
   pub gains_same : (e : Entry V) (es : List (Entry V)) (m new : FinMap nat_cmp (Seen V)) (root : Node) → Gains e es (shown m (Some root)) → KeepsLeaves m new → KeepsBits m new → Gains e es (shown new (Some root))
   gains_same e es m new root g leaves bits = subst (λ (fs : List (Entry V)). Gains e es fs) (sym (shown_same m new root leaves bits)) g
-
-  pub Has-same : (m new : FinMap nat_cmp (Seen V)) (id : Id) → Has m id → KeepsLeaves m new → Has new id
-  Has-same m new id h leaves =
-      Has-leaf new id (record { block = h.room.block; value = h.room.value; leaf = _ }) (leaves id.number ∙ ap (λ (o : Option (Seen V)). leaf_in o) h.at) h.block
 
   -- ---- whose masks are not listed yet
   not_late : (m : FinMap nat_cmp (Seen V)) (root : Node) (late : ℕ → Bool) → IsWholeBut m root late nobody_out → ((n : ℕ) → late n ≡ true → ⊥) → IsWholeBut m root nobody_late nobody_out

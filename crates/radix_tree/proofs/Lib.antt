@@ -2,7 +2,6 @@ pub mod AddressBits
 pub mod Answered
 pub mod Beside
 pub mod BesideWhole
-pub mod BestLemmas
 pub mod BestOfTree
 pub mod ChainGaps
 pub mod ChainInserts

@@ -1,5 +1,5 @@
 -- A node with another bit node above it.
-use Rattle.std.proofs.Common.{◌≡◌, ℕ, ◌≤◌, ◌==◌, Bool, true, false, if◌then◌else◌, Option, Some, None, refl, sym, ap, ◌∙◌, arith}
+use Rattle.std.proofs.Common.{◌≡◌, ℕ, ◌==◌, Bool, true, false, if◌then◌else◌, Option, Some, None, refl, sym, ap, ◌∙◌}
 use Rattle.std.proofs.lemmas.Bool.{eqb-true}
 use Rattle.std.specs.Ordering.{nat_cmp}
 use Rattle.std.specs.FinMap.{FinMap}
@@ -15,8 +15,8 @@ use Rattle.radix_tree.specs.Tree.{bit_at}
 use Rattle.radix_tree.specs.Rooms.{LeafPart, BitPart, Part, leaves_in, bits_in, heads_in, bit_part, head_part, first_room, leaf_part}
 use Rattle.radix_tree.specs.Searches.{ForkAt, LeafAt}
 use Rattle.radix_tree.specs.Writes.{with_leaf, put_leaf, put_bit, put_head, leaf_above, bit_above}
-use Rattle.radix_tree.proofs.RoomReads.{AreLinks, IsNode, Has-leaf, leaf_read, bit_read, bit_used, head_read}
-use Rattle.radix_tree.proofs.Parts.{fork_is, fork_stands, bit_part_of, leaf_run}
+use Rattle.radix_tree.proofs.RoomReads.{AreLinks, IsNode, Has-leaf, leaf_read, bit_read, head_read}
+use Rattle.radix_tree.proofs.Parts.{fork_stands, bit_part_of, leaf_run}
 
 bit_lifted_to : (room : Id) (n : BitNode) (p : BitPart) (above : Option Id) → p.block ≡ room.block → IsNode n p → bit_part room.block (Some (record n { above = above })) ≡ bit_above above (Some p)
 bit_lifted_to room n p above block is = cc
@@ -36,9 +36,6 @@ module _ {V : Type 0} where
 
   pub Has-leaf_at : (m : FinMap nat_cmp (Seen V)) (p : Part m) (room : Id) → LeafAt p room → Has m room
   Has-leaf_at m p room f = Has-leaf m room (part_at m p room f) (leaf_said m p room f) (ap (λ (i : Id). i.block) f.room_is)
-
-  pub used_fork : (m : FinMap nat_cmp (Seen V)) (p : Part m) (room : Id) (links : Links) → ForkAt p room → AreLinks m room links → bit_node_of links ≡ None → ⊥
-  used_fork m p room links f are none = bit_used m room (bit_part_of m p room f) links (fork_stands m p room f).0 refl are none
 
   -- the leaf that is written is the old one beneath another bit node
   pub leaf_lifted : (m : FinMap nat_cmp (Seen V)) (p : Part m) (room : Id) (links : Links) (l : Leaf) (above : Option Id) (n : ℕ) → LeafAt p room → AreLinks m room links → l ≡ leaf_of links
@@ -98,8 +95,3 @@ module _ {V : Type 0} where
             ∙ sym (ap (turned address to) said ∙ ap (λ (t : Bool). Some (if t then record (bit_part_of m p room f) { one = to } else record (bit_part_of m p room f) { zero = to })) tested)
         | false ↦ λ e. refl
       ] refl
-
-  pub within : (m : FinMap nat_cmp (Seen V)) (p : Part m) (room : Id) (links : Links) (node : BitNode) → ForkAt p room → AreLinks m room links → bit_node_of links ≡ Some node → node.bit ≤ 31
-  within m p room links node f are some =
-      let read = bit_read m room (bit_part_of m p room f) links node (fork_stands m p room f).0 refl are some in
-      let most : f.bit ≤ 31 = (fork_is m p room f).0.within in let same : node.bit ≡ f.bit = read.bit in omega arith

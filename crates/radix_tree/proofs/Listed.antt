@@ -5,7 +5,7 @@ use Rattle.std.proofs.lemmas.Bool.{eqb-true, eq-eqb, ne_eqb, cases_eq, cases_lt}
 use Rattle.std.specs.Ordering.{nat_cmp}
 use Rattle.std.specs.FinMap.{FinMap}
 use denote.RawPtr.{Ptr}
-use Rattle.mask_table.specs.Agreeing.{front, bit}
+use Rattle.mask_table.specs.Agreeing.{front}
 use Rattle.mask_table.proofs.Agreeing.{front_of_bits}
 use Rattle.radix_nodes.specs.Rooms.{Seen, Has}
 use Rattle.radix_nodes.specs.Links.{leaf_of}

@@ -30,10 +30,6 @@ linked_some (Some before) next n said was =
       | false ↦ λ e. refl
     ] refl
 
-pub head_aside : (fork : Id) (before next : Option Id) (n : ℕ) (said : Option Id) → (n ≡ fork.number → ⊥) → head_linked fork before next n said ≡ said
-head_aside fork None next n said aside = ap (λ (t : Bool). if t then next else said) (ne_eqb n fork.number aside)
-head_aside fork (Some before) next n said aside = refl
-
 pub put_aside : (room : Id) (node : Option MaskNode) (n : ℕ) (said : Option MaskPart) → (n ≡ room.number → ⊥) → put_mask room node n said ≡ said
 put_aside room node n said aside = ap (λ (t : Bool). if t then mask_part room.block node else said) (ne_eqb n room.number aside)
 

@@ -11,7 +11,7 @@ use Rattle.radix_tree.specs.Searches.{ForkAt}
 use Rattle.radix_tree.specs.Marks.{IsMarked, IsMaskList}
 use Rattle.radix_tree.specs.MaskLists.{IsMasks, IsRanked, AreRanked, IsBitNode, IsNoRank, not_below, below, sorted_in, taken_out}
 use Rattle.radix_tree.proofs.RoomReads.{inside}
-use Rattle.radix_tree.proofs.TreeMembers.{same_rank, tree_said}
+use Rattle.radix_tree.proofs.TreeMembers.{tree_said}
 use Rattle.radix_tree.proofs.Parts.{bit_part_of, fork_stands}
 
 pub short_or_long : (rank low : ℕ) → (rank < low) ⊎ (low ≤ rank)
@@ -51,19 +51,6 @@ module _ {V : Type 0} where
       let between = falls_among low x.entry.rank xs falls.2 y behind in
       let first : x.entry.rank < top = falls.1 in let lower : y.entry.rank < x.entry.rank = between.1 in
       let most : y.entry.rank < top = omega arith in (between.0, most)) among
-
-  lower : (low top : ℕ) (x : Placed V) (xs : List (Placed V)) → Falls low top (x ∷ xs) → (y : Placed V) → IsAmong y xs → y.entry.rank ≡ x.entry.rank → ⊥
-  lower low top x xs falls y among same = let less : y.entry.rank < x.entry.rank = (falls_among low x.entry.rank xs falls.2 y among).1 in omega arith
-
-  -- of one rank there is one member
-  pub one_of_rank : (low top : ℕ) (ms : List (Placed V)) → Falls low top ms → (x y : Placed V) → IsAmong x ms → IsAmong y ms → x.entry.rank ≡ y.entry.rank → x ≡ y
-  one_of_rank low top [] falls x y one other same = absurd one
-  one_of_rank low top (z ∷ zs) falls x y one other same =
-      ⊎_elim (λ (e : z ≡ x).
-      ⊎_elim (λ (f : z ≡ y). sym e ∙ f) (λ (behind : IsAmong y zs). absurd (lower low top z zs falls y behind (sym same ∙ sym (same_rank z x e)))) other)
-      (λ (here : IsAmong x zs).
-      ⊎_elim (λ (f : z ≡ y). absurd (lower low top z zs falls x here (same ∙ sym (same_rank z y f)))) (λ (behind : IsAmong y zs). one_of_rank low z.entry.rank zs falls.2 x y here behind same) other)
-      one
 
   pub falls_appended : (low middle top : ℕ) (ms ts : List (Placed V)) → Falls middle top ms → Falls low middle ts → low ≤ middle → middle ≤ top → Falls low top (ms ++ ts)
   falls_appended low middle top [] ts longer shorter least most = falls_wider low middle low top ts shorter (omega arith) most
@@ -224,12 +211,6 @@ module _ {V : Type 0} where
   pub one_rank : (L : Leaves V) (x y : Placed V) → IsRanked L x → IsRanked L y → x.room.number ≡ y.room.number → x.entry.rank ≡ y.entry.rank
   one_rank L x y one other same =
       sym one.rank ∙ ap (λ (p : LeafPart V). p.leaf.rank) (inside (sym one.said ∙ ap (λ (n : ℕ). L n) same ∙ other.said)) ∙ other.rank
-
-  -- two members with one room are one
-  pub one_in_room : (m : FinMap nat_cmp (Seen V)) (first : Option Id) (ms : List (Placed V)) → IsMasks m first ms → (x y : Placed V) → IsAmong x ms → IsAmong y ms → x.room.number ≡ y.room.number → x ≡ y
-  one_in_room m first ms is x y one other same =
-      one_of_rank 0 34 ms is.falls x y one other
-      (one_rank (leaves_in m) x y (ranked_among (leaves_in m) ms is.ranked x one) (ranked_among (leaves_in m) ms is.ranked y other) same)
 
   pub ranked_in : (m : FinMap nat_cmp (Seen V)) (p : Part m) (x : Placed V) → IsIn x p.tree → IsRanked (leaves_in m) x
   ranked_in m p x is =

@@ -26,9 +26,6 @@ all_without P key rank es h = all_filter P (λ e. not (has_pair key rank e)) es 
 pub all_entry_at : {V : Type 0} (P : Entry V → Type 0) (key rank : ℕ) (es : List (Entry V)) (e : Entry V) → AllByRecursion P es → entry_at key rank es ≡ Some e → P e
 all_entry_at P key rank es e h k = (all_find P (has_pair key rank) es e h k).0
 
-pub all_first_of : {V : Type 0} (P : Entry V → Type 0) (key : ℕ) (es : List (Entry V)) (e : Entry V) → AllByRecursion P es → first_of key es ≡ Some e → P e
-all_first_of P key es e h k = (all_find P (λ x. nat_eq x.key key) es e h k).0
-
 -- the greater of two is one of them
 pub greater_one : {V : Type 0} (x : Entry V) (m : Option (Entry V)) (e : Entry V) → greater x m ≡ Some e → (x ≡ e) ⊎ (m ≡ Some e)
 greater_one x None e h = inl (cc)
@@ -170,12 +167,6 @@ with_counts (x ∷ xs) e r = elim (with_parts e x xs r) [
   | same p n gone is alone ↦ rw (is, n) (omega arith)
   | sooner p n gone is ↦ rw (is, n, gone) (omega arith)
 ]
-
--- so a table with an entry has at most one entry more
-pub at_most_one_more : {V : Type 0} (es : List (Entry V)) (e : Entry V) → IsTable es → length (with_entry e es) ≤ length es + 1
-at_most_one_more es e r =
-    elim (is_some (entry_at e.key e.rank es)) as (λ b. length (with_entry e es) ≡ length es + cond b 0 1 → length (with_entry e es) ≤ length es + 1)
-    [ true ↦ λ k. omega (arith, k) | false ↦ λ k. omega (arith, k) ] (with_counts es e r)
 
 -- one less, where it was
 pub without_counts : {V : Type 0} → WithoutCounts V

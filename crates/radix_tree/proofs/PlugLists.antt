@@ -1,5 +1,5 @@
 -- The lists of masks of bit nodes above a part stay where the part is exchanged and its masks that are listed further up stay.
-use Rattle.std.proofs.Common.{◌≡◌, ℕ, ◌+◌, ◌<◌, ◌≤◌, ◌==◌, ◌⊎◌, List, [], ◌∷◌, Option, refl, sym, ap, ◌∙◌, subst, inl, inr, ⊎_elim, arith}
+use Rattle.std.proofs.Common.{◌≡◌, ℕ, ◌+◌, ◌<◌, ◌≤◌, ◌==◌, List, [], ◌∷◌, Option, refl, sym, ap, ◌∙◌, subst, inl, inr, ⊎_elim, arith}
 use Rattle.std.specs.Prelude.{is_some}
 use Rattle.radix_nodes.specs.declared.id.Id.{Id}
 use Rattle.radix_tree.specs.Tree.{Placed, Tree, leaf, fork, IsAmong, IsIn, IsTree}

@@ -52,15 +52,6 @@ module _ {V : Type 0} where
   Has-at m P c at room steps w is =
       let x = member_at m P c at room steps w is in Has-leaf m room (member_part m w.rest room x) (member_said m w.rest room x) (member_block m w.rest room x)
 
-  pub few_at : (m : FinMap nat_cmp (Seen V)) (P : Placed V → Type 0) (c : Run m) (at : Option Id) (room : Id) (steps : ℕ) → Along P c at steps → at ≡ Some room → steps ≤ 33
-  few_at m P c at room steps w is =
-      let x = member_at m P c at room steps w is in
-      let some : length w.rest.members ≡ length (x.first ∷ x.behind) = ap (λ (ms : List (Placed V)). length ms) x.is in
-      let few : steps + length w.rest.members ≤ 34 = w.few in omega arith
-
-  pub most_at : (m : FinMap nat_cmp (Seen V)) (P : Placed V → Type 0) (c : Run m) (at : Option Id) (steps : ℕ) → Along P c at steps → steps ≤ 34
-  most_at m P c at steps w = let few : steps + length w.rest.members ≤ 34 = w.few in omega arith
-
   -- it passes a member that doesn't have the property
   pub passed : (m : FinMap nat_cmp (Seen V)) (P : Placed V → Type 0) (c : Run m) (at : Option Id) (room : Id) (steps : ℕ) (links : Links) (l : Leaf) → Along P c at steps → at ≡ Some room
       → AreLinks m room links → l ≡ leaf_of links → ((x : Placed V) → l.key ≡ x.entry.key → l.rank ≡ x.entry.rank → P x → ⊥) → Along P c l.next (steps + 1)
@@ -123,9 +114,6 @@ module _ {V : Type 0} where
           λ y among covers below. first_greatest w.rest.key w.rest.top x.first x.behind (member_is m w.rest room x) y (subst (IsAmong y) x.is (w.kept y among covers)),
         ),
       )
-
-  pub none_best : (m : FinMap nat_cmp (Seen V)) (address : ℕ) (c : Run m) (at : Option Id) (steps : ℕ) → Along (CoversIt address) c at steps → at ≡ None → Tells (Best address 0 34 (λ y. IsAmong y c.members)) None
-  none_best m address c at steps w is = λ y among covers below. absurd (ended m (CoversIt address) c at steps w is y among covers)
 
   pub pair_at : (m : FinMap nat_cmp (Seen V)) (key rank : ℕ) (c : Run m) (at : Option Id) (room : Id) (steps : ℕ) (links : Links) (l : Leaf) → Along (HasPair key rank) c at steps → at ≡ Some room
       → AreLinks m room links → l ≡ leaf_of links → l.key ≡ key → l.rank ≡ rank → Tells (Finds (HasPair key rank) (λ y. IsAmong y c.members)) (Some room)

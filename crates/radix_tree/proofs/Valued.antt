@@ -1,8 +1,8 @@
 -- A value in a room changes, and with it the route that stands there.
 --     valued_whole       the rooms stand for a tree as before
 --     valued_shown       and show the table with that value at the route's pair
-use Rattle.std.proofs.Common.{◌≡◌, ℕ, ◌+◌, ◌<◌, ◌≤◌, ◌==◌, ◌⊎◌, Bool, true, false, cond, IsTrue, if◌then◌else◌, List, [], ◌∷◌, ◌++◌, map, Option, Some, None, is_some, refl, sym, ap, ◌∙◌, subst, inl, inr, ⊎_elim, arith}
-use Rattle.std.proofs.lemmas.Bool.{eqb-true, eq-eqb, ne_eqb}
+use Rattle.std.proofs.Common.{◌≡◌, ℕ, ◌+◌, ◌≤◌, ◌==◌, ◌⊎◌, Bool, true, false, IsTrue, if◌then◌else◌, List, [], ◌∷◌, ◌++◌, map, Option, Some, None, is_some, refl, sym, ap, ◌∙◌, subst, inl, inr, ⊎_elim, arith}
+use Rattle.std.proofs.lemmas.Bool.{eqb-true, eq-eqb}
 use Rattle.std.proofs.lemmas.List.{append_assoc}
 use Rattle.std.specs.List.{AllByRecursion}
 use Rattle.std.specs.Ordering.{nat_cmp}
@@ -13,9 +13,9 @@ use Rattle.radix_nodes.specs.Links.{leaf_of, bit_node_of, mask_node_of}
 use Rattle.radix_nodes.specs.declared.id.Id.{Id}
 use Rattle.radix_nodes.specs.declared.links.Node.{Node}
 use Rattle.radix_nodes.proofs.Callers.{put_value-is, get-put_room}
-use Rattle.radix_tree.specs.Table.{precedes, has_pair, IsRoute, IsTable, entry_at, with_entry}
-use Rattle.radix_tree.specs.Tree.{Placed, Tree, leaf, fork, bit_at, IsAmong, IsIn, IsChain, HaveBit, IsFork, IsTree, routes_of}
-use Rattle.radix_tree.specs.Rooms.{LeafPart, BitPart, MaskPart, Leaves, Bits, Heads, Masks, Part, leaf_in, bit_in, head_in, mask_in, bit_part, head_part, mask_part, leaves_in, bits_in, heads_in, masks_in, leaf_part, first_room, name_of, ChainStands, Stands, MasksStand, Falls, IsList, Lists}
+use Rattle.radix_tree.specs.Table.{precedes, IsTable, with_entry}
+use Rattle.radix_tree.specs.Tree.{Placed, Tree, leaf, fork, bit_at, IsAmong, IsIn, IsChain, HaveBit, IsTree, routes_of}
+use Rattle.radix_tree.specs.Rooms.{LeafPart, BitPart, Leaves, Bits, Heads, Masks, leaf_in, bit_in, head_in, mask_in, bit_part, mask_part, leaves_in, bits_in, heads_in, masks_in, leaf_part, first_room, name_of, ChainStands, Stands, MasksStand, Falls, IsList, Lists}
 use Rattle.radix_tree.specs.Whole.{one_if, members_at, leaves_at, forks_at, HasHome, AreIdle, HasOneFork, HaveOneFork, shown, IsWhole}
 use Rattle.radix_tree.specs.Writes.{KeepsBits, KeepsHeads, KeepsMasks}
 use Rattle.radix_tree.specs.declared.entry.Entry.{Entry}
@@ -24,7 +24,7 @@ use Rattle.radix_tree.specs.Searches.{Tells, Finds, HasPair, In}
 use Rattle.radix_tree.proofs.Counted.{of_rank-cons, of_rank-append}
 use Rattle.radix_tree.proofs.Numbers.{insert_keys}
 use Rattle.radix_tree.proofs.OrderLemmas.{own_pair}
-use Rattle.radix_tree.proofs.TableLemmas.{With, with_parts, with_later}
+use Rattle.radix_tree.proofs.TableLemmas.{with_parts, with_later}
 use Rattle.radix_tree.proofs.TableLemmas.With.{later, same, sooner}
 use Rattle.radix_tree.proofs.TreeOrder.{tree_is_table}
 use Rattle.radix_tree.proofs.Showing.{shown_is}

@@ -3,7 +3,7 @@
 --     first_on         the first route beneath a part
 --     climb_begun, climbed, climb_one, climb_ended      the way up from the end of a chain
 --     next_on, last_of       the next route of a chain, and none
-use Rattle.std.proofs.Common.{◌≡◌, ℕ, zero, suc, ◌+◌, ◌-◌, ◌/◌, ◌%◌, ◌^◌, ◌<◌, ◌≤◌, ◌==◌, ◌⊎◌, Bool, true, false, if◌then◌else◌, List, [], ◌∷◌, ◌++◌, map, length, Option, Some, None, refl, sym, ap, ◌∙◌, subst, inl, inr, ⊎_elim, arith}
+use Rattle.std.proofs.Common.{◌≡◌, ℕ, zero, suc, ◌+◌, ◌-◌, ◌%◌, ◌^◌, ◌≤◌, ◌==◌, ◌⊎◌, Bool, true, false, if◌then◌else◌, List, [], ◌∷◌, ◌++◌, map, Option, Some, None, refl, sym, ap, ◌∙◌, subst, inl, inr, ⊎_elim, arith}
 use Rattle.std.proofs.lemmas.Bool.{eqb-true, eq-eqb}
 use Rattle.std.proofs.lemmas.List.{append_assoc}
 use Rattle.std.proofs.Math.Nat.{zero-div}
@@ -15,19 +15,18 @@ use Rattle.radix_nodes.specs.declared.id.Id.{Id}
 use Rattle.radix_nodes.specs.declared.links.BitNode.{BitNode}
 use Rattle.radix_nodes.specs.declared.links.Leaf.{Leaf}
 use Rattle.radix_nodes.specs.declared.links.Links.{Links}
-use Rattle.radix_nodes.specs.declared.links.Node.{Node}
-use Rattle.radix_tree.specs.Tree.{Placed, Tree, leaf, fork, bit_at, IsAmong, IsIn, IsChain, IsTree, routes_of}
+use Rattle.radix_tree.specs.Tree.{Placed, Tree, fork, bit_at, IsIn, IsChain, IsTree, routes_of}
 use Rattle.radix_tree.specs.Rooms.{LeafPart, BitPart, Leaves, Bits, Part, Run, leaves_in, bits_in, leaf_part, first_room, name_of, ChainStands}
 use Rattle.radix_tree.specs.Searches.{ForkAt, LeafAt, Way, LedTo}
 use Rattle.radix_tree.specs.Walks.{side_behind, up_behind, chain_behind, ahead, Under, IsBefore, IsFirst, IsAt, IsOn, Climb}
-use Rattle.radix_tree.specs.Whole.{chain_shown, chain_from, beneath_shown, shown_entry}
+use Rattle.radix_tree.specs.Whole.{chain_shown, chain_from, beneath_shown}
 use Rattle.radix_tree.specs.declared.entry.Entry.{Entry}
 use Rattle.radix_tree.specs.declared.walk.Place.{Place}
 use Rattle.radix_tree.proofs.AddressBits.{zero_not_one, zero_or_one}
 use Rattle.radix_tree.proofs.RoomReads.{inside, none_some, AreLinks, bit_read, bit_used, Has-leaf, leaf_read, value_read}
 use Rattle.radix_tree.proofs.Kept.{entry_make}
-use Rattle.radix_tree.proofs.TreeMembers.{bit_beneath, chain_key}
-use Rattle.radix_tree.proofs.Parts.{fork_is, fork_stands, bit_part_of, Has-fork, zero_part, one_part, leaf_run, leaf_begins}
+use Rattle.radix_tree.proofs.TreeMembers.{bit_beneath}
+use Rattle.radix_tree.proofs.Parts.{fork_is, fork_stands, bit_part_of, Has-fork, one_part, leaf_run, leaf_begins}
 use Rattle.radix_tree.proofs.Scans.{chain_most}
 use Rattle.radix_tree.proofs.Showing.{beneath_is, chain_is}
 
@@ -384,13 +383,3 @@ module _ {V : Type 0} where
 
   pub begins_rest : (m : FinMap nat_cmp (Seen V)) (place : Place) (es : List (Entry V)) → place.room ≡ place.first → Begins m place.first es → ahead (leaves_in m) (bits_in m) (Some place) ≡ es
   begins_rest m place es same b = ap (λ (i : Id). ahead (leaves_in m) (bits_in m) (Some (record { first = place.first; room = i }))) same ∙ b.rest
-
-  -- what stands at a place
-  pub gives : (m : FinMap nat_cmp (Seen V)) (place : Place) (a : IsAt m place) (next : Option Place) (links : Links) (l : Leaf) (value : V) → AreLinks m place.room links → l ≡ leaf_of links
-      → ((s : Seen V) → get m place.room.number ≡ Some s → value ≡ s.value) → FollowedBy m place next → ahead (leaves_in m) (bits_in m) (Some place) ≡ record { key = l.key; rank = l.rank; value = value } ∷ ahead (leaves_in m) (bits_in m) next
-  gives m place a next links l value are is value_is rest =
-      let h = here m place a in
-      let read = here_read m place a links l are is in
-      rest ∙ ap (λ (o : Option (LeafPart V)). chain_from o (λ _. ahead (leaves_in m) (bits_in m) next)) h.said
-      ∙ ap (λ (e : Entry V). e ∷ ahead (leaves_in m) (bits_in m) next) (sym (entry_make l.key l.rank value h.route.entry (ap (λ (l : Leaf). l.key) read) (ap (λ (l : Leaf). l.rank) read)
-      (value_read m place.room (leaf_part h.route a.run.above a.run.previous (first_room h.rest)) value h.said (ap (λ (i : Id). i.block) h.room_is) value_is)))

@@ -1,5 +1,5 @@
 -- What a look-up answers, as the entry that it is.
-use Rattle.std.specs.Prelude.{ℕ, Bool, true, nat_lt, Option, Some, None}
+use Rattle.std.specs.Prelude.{ℕ}
 use Rattle.std.specs.Borrow.{Bor}
 use Rattle.radix_tree.specs.declared.entry.Entry.{Entry}
 
@@ -14,8 +14,3 @@ keyed key r = valued key r.0 r.1
 -- a key, a rank and a value
 abbrev pub routed : {V : Type 0} → ℕ × ℕ × Bor V → Entry V
 routed r = valued r.0 r.1 r.2
-
--- a rank is better than the best entry so far
-abbrev pub beats : {V : Type 0} → ℕ → Option (Entry V) → Bool
-beats rank None = true
-beats rank (Some e) = nat_lt e.rank rank

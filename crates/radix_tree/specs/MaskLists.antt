@@ -97,8 +97,8 @@ module _ {V : Type 0} where
     pub unmarked : masks_in m room.number ≡ None
 
   -- a walk along a list of masks, past those of ranks at or past low
-  pub record Passing (m : FinMap nat_cmp (Seen V)) (low : ℕ) (ms : List (Placed V)) (before at : Option Id) (steps
-      : ℕ) : Type 0 where
+  pub record Passing (m : FinMap nat_cmp (Seen V)) (low : ℕ) (ms : List (Placed V)) (before at : Option Id)
+      (steps : ℕ) : Type 0 where
     pub rest : List (Placed V)
     pub top : ℕ
     pub begins : first_room rest ≡ at
@@ -150,8 +150,8 @@ module _ {V : Type 0} where
   IsLast m key rank part None = HasHome key rank part.tree → ⊥
   IsLast m key rank part (Some room) = (f : ForkAt part room) × (rank ≤ f.bit)
 
-  pub record Climb {m : FinMap nat_cmp (Seen V)} (key rank : ℕ) (whole : Part m) (above last : Option Id) (steps
-      : ℕ) : Type 0 where
+  pub record Climb {m : FinMap nat_cmp (Seen V)} (key rank : ℕ) (whole : Part m) (above last : Option Id)
+      (steps : ℕ) : Type 0 where
     pub part : Part m
     pub ups : List (Part m)
     pub way : Way key whole part ups

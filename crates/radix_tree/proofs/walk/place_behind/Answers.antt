@@ -1,7 +1,6 @@
-use Rattle.std.proofs.Common.{◌≡◌, ◌≤◌, ◌<◌, ◌+◌, ◌-◌, ◌∙◌, ℕ, sym, ap, subst, arith}
+use Rattle.std.proofs.Common.{◌≡◌, ◌≤◌, ◌+◌, ◌-◌, ◌∙◌, sym, ap, arith}
 use Rattle.radix_nodes.specs.Counting.{Counter}
-use Rattle.radix_tree.specs.Walks.{Climb}
-use Rattle.radix_tree.proofs.Walks.{Read, Begins, climb_begun, Has-first, Has-over, used_over, read_over, climb_ended, on_zero, on_one, begins_on, begins_rest, behind_of}
+use Rattle.radix_tree.proofs.Walks.{Read, climb_begun, Has-first, Has-over, used_over, read_over, climb_ended, on_zero, on_one, begins_on, begins_rest}
 use Rattle.radix_tree.proofs.walk.place_behind.Goals as goal
 use Rattle.radix_tree.proofs.walk.place_behind.Goals.{In-Some-bit_node, After-first_place}
 

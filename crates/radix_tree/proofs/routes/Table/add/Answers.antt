@@ -1,9 +1,9 @@
-use Rattle.std.proofs.Common.{◌≡◌, ℕ, ◌+◌, ◌≤◌, ◌==◌, if◌then◌else◌, Bool, true, false, List, Option, Some, None, is_some, refl, sym, ap, subst, ◌∙◌, rules}
+use Rattle.std.proofs.Common.{◌≡◌, ℕ, ◌+◌, ◌≤◌, ◌==◌, if◌then◌else◌, true, false, List, Option, Some, None, is_some, refl, sym, ap, subst, ◌∙◌, rules}
 use Rattle.std.specs.FinMap.{keys}
 use Rattle.mask_table.specs.Counts.{HasOneMore}
 use Rattle.radix_nodes.specs.Rooms.{Rooms}
 use Rattle.radix_tree.specs.Kept.{AreCounted}
-use Rattle.radix_tree.specs.Table.{Contents, IsTable, entry_at, uses, with_entry}
+use Rattle.radix_tree.specs.Table.{Contents, entry_at, uses, with_entry}
 use Rattle.radix_tree.specs.Whole.{shown}
 use Rattle.radix_tree.specs.declared.entry.Entry.{Entry}
 use Rattle.radix_tree.proofs.Counted.{few_held, counted_more}

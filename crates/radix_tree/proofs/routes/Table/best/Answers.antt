@@ -1,5 +1,5 @@
 -- The best route stands in the table.
-use Rattle.std.proofs.Common.{◌≡◌, List, ap, ◌∙◌, rules}
+use Rattle.std.proofs.Common.{List, ap, ◌∙◌}
 use Rattle.radix_tree.specs.Table.{best_of}
 use Rattle.radix_tree.specs.declared.entry.Entry.{Entry}
 use Rattle.radix_tree.proofs.LawLemmas.{best_stands}

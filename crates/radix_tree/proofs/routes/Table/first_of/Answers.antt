@@ -1,5 +1,5 @@
-use Rattle.std.proofs.Common.{◌≡◌, ◌≤◌, List, Option, Some, None, sym, ap, ◌∙◌, rules}
-use Rattle.radix_tree.specs.Table.{Contents, first_of}
+use Rattle.std.proofs.Common.{List, sym, ap, ◌∙◌}
+use Rattle.radix_tree.specs.Table.{first_of}
 use Rattle.radix_tree.specs.declared.entry.Entry.{Entry}
 use Rattle.radix_tree.proofs.Kept.{differ, agree, Has-led, no_first, first_found, whole_at, entries_at}
 use Rattle.radix_tree.proofs.routes.Table.first_of.Goals as goal

@@ -1,4 +1,4 @@
-use Rattle.std.proofs.Common.{◌≡◌, ◌≤◌, List, Option, Some, None, sym, ap, ◌∙◌, rules}
+use Rattle.std.proofs.Common.{◌≤◌, List, sym, ap, ◌∙◌, rules}
 use Rattle.radix_tree.specs.Table.{Contents, entry_at}
 use Rattle.radix_tree.specs.declared.entry.Entry.{Entry}
 use Rattle.radix_tree.proofs.Counted.{not_held}

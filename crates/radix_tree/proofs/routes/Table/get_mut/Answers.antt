@@ -1,4 +1,4 @@
-use Rattle.std.proofs.Common.{◌≡◌, ℕ, ◌+◌, List, Option, Some, None, refl, sym, ap, subst, ◌∙◌, inl, inr}
+use Rattle.std.proofs.Common.{◌≡◌, ◌+◌, List, Option, Some, None, refl, sym, ap, subst, ◌∙◌, inl, inr}
 use Rattle.std.specs.Prelude.{option_map}
 use Rattle.std.specs.FinMap.{keys}
 use Rattle.radix_nodes.specs.Rooms.{Rooms, put_value}
@@ -6,10 +6,10 @@ use Rattle.radix_nodes.specs.declared.links.Node.{Node}
 use Rattle.radix_tree.specs.Kept.{contents, IsKept, AreCounted}
 use Rattle.radix_tree.specs.Lending.{with_value}
 use Rattle.radix_tree.specs.Table.{Contents, entry_at, with_entry}
-use Rattle.radix_tree.specs.Whole.{Holds, shown}
+use Rattle.radix_tree.specs.Whole.{shown}
 use Rattle.radix_tree.specs.declared.entry.Entry.{Entry}
 use Rattle.radix_tree.proofs.Valued.{put_valued, valued_whole, lent_shown, lent_counted, lent_keys}
-use Rattle.radix_tree.proofs.Kept.{Has-found, IsFound, found, not_found, value_found, whole_next, shown_next, entries_next}
+use Rattle.radix_tree.proofs.Kept.{Has-found, IsFound, found, not_found, value_found, whole_next, entries_next}
 use Rattle.radix_tree.proofs.routes.Table.get_mut.Goals as goal
 use Rattle.radix_tree.proofs.routes.Table.get_mut.Goals.{In-Some-room_of}
 

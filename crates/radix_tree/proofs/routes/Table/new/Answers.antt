@@ -1,9 +1,8 @@
-use Rattle.std.proofs.Common.{◌≡◌, List, [], ℕ, None, Option, ap, ◌∙◌}
+use Rattle.std.proofs.Common.{List, [], ℕ, None, Option, ap, ◌∙◌}
 use Rattle.std.specs.Ordering.{nat_cmp}
 use Rattle.std.specs.FinMap.{get-empty}
 use Rattle.radix_nodes.specs.Rooms.{Rooms, Seen}
 use Rattle.radix_tree.specs.Rooms.{leaf_in, leaves_in}
-use Rattle.radix_tree.specs.Table.{Contents}
 use Rattle.radix_tree.specs.Kept.{contents}
 use Rattle.radix_tree.proofs.Counted.{counted_none}
 use Rattle.radix_tree.proofs.Numbers.{no_keys}

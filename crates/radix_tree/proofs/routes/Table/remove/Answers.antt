@@ -5,7 +5,7 @@ use Rattle.mask_table.specs.Counts.{HasOneMore}
 use Rattle.radix_nodes.specs.Rooms.{Rooms}
 use Rattle.radix_tree.specs.Kept.{IsKept, AreCounted}
 use Rattle.radix_tree.specs.Table.{Contents, entry_at, uses, without}
-use Rattle.radix_tree.specs.Whole.{Holds, shown}
+use Rattle.radix_tree.specs.Whole.{shown}
 use Rattle.radix_tree.specs.declared.entry.Entry.{Entry}
 use Rattle.radix_tree.proofs.Counted.{not_held, counted_less}
 use Rattle.radix_tree.proofs.Numbers.{used_more}

@@ -1,4 +1,4 @@
-use Rattle.radix_tree.proofs.Numbers.{made_free, used_more, no_keys}
+use Rattle.radix_tree.proofs.Numbers.{made_free}
 use Rattle.radix_tree.proofs.routes.Table.room.Goals as goal
 
 pub returns-clause-number : goal.returns-clause-number
