@@ -16,7 +16,7 @@ use Rattle.radix_tree.specs.Growth.{turned, turn, root_after, AreOnce, IsPlace, 
 use Rattle.radix_tree.specs.Exchange.{IsExchange, Exchanged}
 use Rattle.radix_tree.specs.Writes.{lift_leaf, lift_bit, leaf_above, bit_above}
 use Rattle.radix_tree.proofs.AddressBits.{zero_not_one, zero_or_one}
-use Rattle.radix_tree.proofs.Grown.{one_if_same, way_once, spine_out}
+use Rattle.radix_tree.proofs.PartRooms.{one_if_same, way_once, spine_out}
 use Rattle.radix_tree.proofs.Exchanging.{exchanged}
 use Rattle.radix_tree.proofs.Forking.{one_value, zero_fork_is, one_fork_is, lifted, leaves_there, forks_there}
 

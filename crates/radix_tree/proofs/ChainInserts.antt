@@ -22,7 +22,7 @@ use Rattle.radix_tree.specs.declared.entry.Entry.{Entry}
 use Rattle.radix_tree.proofs.RoomReads.{inside, none_some, Has-leaf}
 use Rattle.radix_tree.proofs.Parts.{leaf_run, in_leaf, way_inside}
 use Rattle.radix_tree.proofs.TreeMembers.{chain_key, tree_said}
-use Rattle.radix_tree.proofs.Grown.{way_once}
+use Rattle.radix_tree.proofs.PartRooms.{way_once}
 use Rattle.radix_tree.proofs.Lodging.{over_at, stays}
 use Rattle.radix_tree.proofs.Beside.{not_new}
 use Rattle.radix_tree.proofs.ChainRooms.{room_route}

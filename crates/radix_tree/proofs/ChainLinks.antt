@@ -9,7 +9,7 @@ use Rattle.radix_tree.specs.Whole.{one_if, members_at}
 use Rattle.radix_tree.specs.Writes.{lodge_leaf}
 use Rattle.radix_tree.specs.Chains.{leaf_next, leaf_back, name_next, name_back, link_in, link_out, above_behind, last_room}
 use Rattle.radix_tree.proofs.RoomReads.{inside, none_some}
-use Rattle.radix_tree.proofs.Grown.{one_if_same, chain_frame}
+use Rattle.radix_tree.proofs.PartRooms.{one_if_same, chain_frame}
 use Rattle.radix_tree.proofs.Forking.{chain_there}
 use Rattle.radix_tree.proofs.ChainGaps.{behind_stands}
 use Rattle.radix_tree.proofs.ChainLists.{members_append, members_more}

@@ -9,7 +9,7 @@ use Rattle.radix_tree.specs.Growth.{Gains}
 use Rattle.radix_tree.specs.Chains.{ArePast, IsBelow}
 use Rattle.radix_tree.specs.declared.entry.Entry.{Entry}
 use Rattle.radix_tree.proofs.RoomReads.{none_some}
-use Rattle.radix_tree.proofs.Grown.{one_if_same}
+use Rattle.radix_tree.proofs.PartRooms.{one_if_same}
 
 module _ {V : Type 0} where
   -- a list has a first member

@@ -18,7 +18,7 @@ use Rattle.radix_tree.specs.Marks.{IsMarked, IsWholeBut, nobody_late, late_at, n
 use Rattle.radix_tree.specs.Writes.{KeepsHeads, KeepsMasks}
 use Rattle.radix_tree.specs.Chains.{above_behind, last_room, root_past}
 use Rattle.radix_tree.specs.declared.entry.Entry.{Entry}
-use Rattle.radix_tree.proofs.Grown.{same_turned}
+use Rattle.radix_tree.proofs.PartRooms.{same_turned}
 use Rattle.radix_tree.proofs.Exchanging.{exchanged}
 use Rattle.radix_tree.proofs.WholeChanges.{Fits, Spliced, once_but, spare_changed, whole_changed, routes_changed, gains_spliced, loses_spliced}
 use Rattle.radix_tree.proofs.ChainLists.{IsCons, cons_at, map_entries, members_more, member_counts, among_more, among_own, among_less, one_fork_less, one_fork_more, one_fork_same, routes_more}

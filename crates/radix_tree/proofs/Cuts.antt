@@ -19,7 +19,7 @@ use Rattle.radix_tree.specs.Writes.{KeepsLeaves, KeepsBits}
 use Rattle.radix_tree.proofs.RoomReads.{inside}
 use Rattle.radix_tree.proofs.TreeMembers.{tree_said}
 use Rattle.radix_tree.proofs.Parts.{fork_is, fork_named}
-use Rattle.radix_tree.proofs.Grown.{one_if_same, elsewhere, way_once}
+use Rattle.radix_tree.proofs.PartRooms.{one_if_same, elsewhere, way_once}
 use Rattle.radix_tree.proofs.Plugs.{counted_leaf, home_plug, plug_in}
 use Rattle.radix_tree.proofs.PlugLists.{falls_between, lists_at}
 use Rattle.radix_tree.proofs.FrameLists.{lists_stay}

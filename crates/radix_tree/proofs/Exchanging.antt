@@ -15,7 +15,7 @@ use Rattle.radix_tree.specs.Growth.{turned, turn, root_after, AreOnce}
 use Rattle.radix_tree.specs.Exchange.{on_zero, on_one, low_past, IsExchange, Exchanged}
 use Rattle.radix_tree.proofs.TreeMembers.{bit_beneath}
 use Rattle.radix_tree.proofs.Parts.{fork_is, fork_stands, zero_part, one_part, zero_beneath, one_beneath}
-use Rattle.radix_tree.proofs.Grown.{said, zero_turned, one_turned, elsewhere, frame, Keeps, fork_forks, fork_leaves, same_turned, way_counts, way_once, beneath_counts, spine_out}
+use Rattle.radix_tree.proofs.PartRooms.{said, zero_turned, one_turned, elsewhere, frame, Keeps, fork_forks, fork_leaves, same_turned, way_counts, way_once, beneath_counts, spine_out}
 
 -- the bit node above a place says what it said in all other rooms, and in its own names the other node
 pub turn_misses : (above : Option Id) (over : Id) (key n : ℕ) (to : Node) (said : Option BitPart) → above ≡ Some over → (n ≡ over.number → ⊥) → turn above key to n said ≡ said

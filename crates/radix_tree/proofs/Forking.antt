@@ -9,7 +9,7 @@ use Rattle.radix_tree.specs.Whole.{one_if, members_at, leaves_at, forks_at}
 use Rattle.radix_tree.specs.Growth.{IsPlace, AreOnce}
 use Rattle.radix_tree.specs.Writes.{leaf_above, bit_above, lift_leaf, lift_bit}
 use Rattle.radix_tree.proofs.RoomReads.{none_some}
-use Rattle.radix_tree.proofs.Grown.{one_if_same, elsewhere, chain_frame, frame}
+use Rattle.radix_tree.proofs.PartRooms.{one_if_same, elsewhere, chain_frame, frame}
 
 not_same : (room : Id) (n many : ℕ) → 1 ≤ many → one_if (room.number == n) + many ≤ 1 → (n == room.number) ≡ false
 not_same room n many some few = ne_eqb n room.number (elsewhere room n many some few)

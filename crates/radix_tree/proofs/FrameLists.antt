@@ -10,7 +10,7 @@ use Rattle.radix_tree.specs.Searches.{Beneath, Way}
 use Rattle.radix_tree.specs.Whole.{one_if, forks_at}
 use Rattle.radix_tree.specs.Exchange.{Frame, on_zero, on_one, plug, low_past}
 use Rattle.radix_tree.specs.Marks.{IsMaskList, MarkedIn, MarkedLists}
-use Rattle.radix_tree.proofs.Grown.{one_if_same}
+use Rattle.radix_tree.proofs.PartRooms.{one_if_same}
 use Rattle.radix_tree.proofs.PlugLists.{falls_between, masks_stand_same, marked_same}
 
 module _ {V : Type 0} where

@@ -18,7 +18,7 @@ use Rattle.radix_tree.specs.Joining.{IsApart, IsLone}
 use Rattle.radix_tree.specs.Removal.{content_of}
 use Rattle.radix_tree.specs.Writes.{put_bit, put_head, leaf_above, bit_above, lift_leaf, lift_bit}
 use Rattle.radix_tree.proofs.RoomReads.{inside, none_some, Has-leaf}
-use Rattle.radix_tree.proofs.Grown.{elsewhere, way_once, spine_out}
+use Rattle.radix_tree.proofs.PartRooms.{elsewhere, way_once, spine_out}
 use Rattle.radix_tree.proofs.Lodging.{stays}
 use Rattle.radix_tree.proofs.JoinSides.{side_is, side_stands, side_forks}
 

@@ -15,7 +15,7 @@ use Rattle.radix_tree.specs.Joining.{HasSides, IsLone, IsHanded}
 use Rattle.radix_tree.specs.Marks.{IsMarked, IsMaskList, MarkedIn, MarkedLists}
 use Rattle.radix_tree.specs.MaskLists.{IsMasks, IsBitNode, IsAside}
 use Rattle.radix_tree.proofs.RoomReads.{inside, none_some}
-use Rattle.radix_tree.proofs.Grown.{one_if_same, way_once}
+use Rattle.radix_tree.proofs.PartRooms.{one_if_same, way_once}
 use Rattle.radix_tree.proofs.PlugLists.{masks_stand_same}
 use Rattle.radix_tree.proofs.WholeChanges.{some_of}
 use Rattle.radix_tree.proofs.MaskLists.{falls_wider, falls_among, falls_appended, among_appended, in_front, in_back, ranked_in, masks_listed}

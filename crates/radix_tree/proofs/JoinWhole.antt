@@ -17,7 +17,7 @@ use Rattle.radix_tree.specs.Marks.{IsWholeBut, nobody_late, nobody_out, late_at,
 use Rattle.radix_tree.specs.Removal.{content_of, KeepsRoutes}
 use Rattle.radix_tree.specs.Writes.{put_bit, lift_leaf, lift_bit}
 use Rattle.radix_tree.proofs.RoomReads.{inside, none_some}
-use Rattle.radix_tree.proofs.Grown.{one_if_same}
+use Rattle.radix_tree.proofs.PartRooms.{one_if_same}
 use Rattle.radix_tree.proofs.Forking.{lifted}
 use Rattle.radix_tree.proofs.Beside.{misses_leaf, misses_bit, named_leaf, named_bit}
 use Rattle.radix_tree.proofs.Plugs.{counted_leaf, spare_same}

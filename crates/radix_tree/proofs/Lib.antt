@@ -20,7 +20,6 @@ pub mod Exchanging
 pub mod Forking
 pub mod FrameLists
 pub mod Gained
-pub mod Grown
 pub mod Homes
 pub mod JoinLinks
 pub mod JoinLists
@@ -50,6 +49,7 @@ pub mod MovedSpare
 pub mod MovedWhole
 pub mod Numbers
 pub mod OrderLemmas
+pub mod PartRooms
 pub mod Parts
 pub mod PlugLists
 pub mod Plugs

@@ -26,7 +26,7 @@ use Rattle.radix_tree.proofs.RoomReads.{inside, none_some}
 use Rattle.radix_tree.proofs.AddressBits.{zero_not_one, clear_bit}
 use Rattle.radix_tree.proofs.TreeMembers.{IsSaid, chain_below, tree_route, bit_beneath, tree_said}
 use Rattle.radix_tree.proofs.Parts.{fork_is, way_inside, way_leads}
-use Rattle.radix_tree.proofs.Grown.{one_if_same, elsewhere, frame, way_once}
+use Rattle.radix_tree.proofs.PartRooms.{one_if_same, elsewhere, frame, way_once}
 use Rattle.radix_tree.proofs.Plugs.{aside_in, aside_at, counted_leaf, spare_same}
 use Rattle.radix_tree.proofs.PlugLists.{KeepsAbove, falls_between, plug_lists, lists_at, marked_same}
 use Rattle.radix_tree.proofs.FrameLists.{way_framed, lists_stay}

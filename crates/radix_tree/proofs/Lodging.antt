@@ -17,7 +17,7 @@ use Rattle.radix_tree.specs.Growth.{turn, turned as turned_to, IsSpot, IsLodged,
 use Rattle.radix_tree.specs.Writes.{lodge_leaf, put_leaf, put_bit, with_leaf, lift_leaf, lift_bit, KeepsLeaves, KeepsBits}
 use Rattle.radix_tree.specs.declared.entry.Entry.{Entry}
 use Rattle.radix_tree.proofs.RoomReads.{inside, none_some, Has-leaf}
-use Rattle.radix_tree.proofs.Grown.{frame}
+use Rattle.radix_tree.proofs.PartRooms.{frame}
 use Rattle.radix_tree.proofs.Parts.{fork_stands}
 use Rattle.radix_tree.proofs.Beside.{misses_leaf, misses_bit, named_leaf, named_bit, not_new, not_new_bit, not_above}
 

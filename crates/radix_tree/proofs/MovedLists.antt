@@ -10,7 +10,7 @@ use Rattle.radix_tree.specs.Rooms.{MaskPart, Heads, Masks, Part, heads_in, masks
 use Rattle.radix_tree.specs.Searches.{Beneath, Way}
 use Rattle.radix_tree.specs.Whole.{one_if, forks_at}
 use Rattle.radix_tree.specs.Marks.{IsMarked, IsMaskList, MarkedIn, MarkedLists}
-use Rattle.radix_tree.proofs.Grown.{one_if_same}
+use Rattle.radix_tree.proofs.PartRooms.{one_if_same}
 
 module _ {V : Type 0} where
   pub marked_stays : (K M : Masks) (x : Placed V) → ((k : ℕ) → M k ≡ K k) → IsMarked K x → IsMarked M x

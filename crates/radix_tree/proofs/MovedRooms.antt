@@ -22,7 +22,7 @@ use Rattle.radix_tree.specs.Exchange.{IsExchange}
 use Rattle.radix_tree.specs.Removal.{renamed, with_renamed, rename, content_of, KeepsRoutes, CanTake}
 use Rattle.radix_tree.proofs.RoomReads.{inside, none_some, AreLinks, head_read}
 use Rattle.radix_tree.proofs.Parts.{fork_is, fork_stands, bit_part_of, Has-fork, zero_part}
-use Rattle.radix_tree.proofs.Grown.{frame, way_once, way_counts, spine_out}
+use Rattle.radix_tree.proofs.PartRooms.{frame, way_once, way_counts, spine_out}
 use Rattle.radix_tree.proofs.Forking.{lifted, forks_there}
 use Rattle.radix_tree.proofs.Beside.{misses_leaf, misses_bit}
 use Rattle.radix_tree.proofs.MovedLists.{marked_stays, list_kept, lists_kept, lists_on_way}

@@ -7,7 +7,7 @@ use Rattle.radix_tree.specs.Rooms.{Heads, Masks, MaskPart, MasksStand, Falls}
 use Rattle.radix_tree.specs.Whole.{one_if, forks_at}
 use Rattle.radix_tree.specs.Exchange.{Frame, on_zero, on_one, plug, low_past}
 use Rattle.radix_tree.specs.Marks.{IsMarked, IsMaskList, MarkedIn, MarkedLists}
-use Rattle.radix_tree.proofs.Grown.{one_if_same}
+use Rattle.radix_tree.proofs.PartRooms.{one_if_same}
 use Rattle.radix_tree.proofs.Plugs.{Aside, aside_in, in_plug, plug_in, forks_within, low_rises}
 
 module _ {V : Type 0} where

@@ -9,7 +9,7 @@ use Rattle.radix_tree.specs.Whole.{one_if, members_at, leaves_at, forks_at, HasH
 use Rattle.radix_tree.specs.Exchange.{Frame, on_zero, on_one, plug, low_past, Lead}
 use Rattle.radix_tree.specs.declared.entry.Entry.{Entry}
 use Rattle.radix_tree.proofs.AddressBits.{zero_not_one}
-use Rattle.radix_tree.proofs.Grown.{one_if_same}
+use Rattle.radix_tree.proofs.PartRooms.{one_if_same}
 use Rattle.radix_tree.proofs.TreeMembers.{bit_beneath}
 
 module _ {V : Type 0} where

@@ -19,7 +19,7 @@ use Rattle.radix_tree.specs.Writes.{KeepsLeaves, KeepsBits}
 use Rattle.radix_tree.specs.Removal.{Content, content_of, KeepsRoutes, IsOut}
 use Rattle.radix_tree.specs.declared.entry.Entry.{Entry}
 use Rattle.radix_tree.proofs.RoomReads.{inside, none_some}
-use Rattle.radix_tree.proofs.Grown.{frame}
+use Rattle.radix_tree.proofs.PartRooms.{frame}
 use Rattle.radix_tree.proofs.Plugs.{counted_leaf}
 use Rattle.radix_tree.proofs.WholeChanges.{but_whole, part_shown}
 use Rattle.radix_tree.proofs.MovedReads.{same_or_not, content_used}
