@@ -4,19 +4,38 @@ use Rattle.radix_tree.specs.Rooms.{LeafPart, BitPart, leaves_in}
 use Rattle.radix_tree.specs.Writes.{put_bit, put_head, lift_leaf, lift_bit}
 use Rattle.radix_tree.specs.Removal.{rename, content_of}
 use Rattle.radix_tree.proofs.MovedReads.{Has_kept, content_lift}
-use Rattle.radix_tree.proofs.MovedRooms.{IsMoved, move_of, left_there, right_there, Has-over, contents_stay, gone}
+use Rattle.radix_tree.proofs.MovedRooms.{IsMove, IsMoved, move_of, left_there, right_there, Has-over, contents_stay, gone}
 use Rattle.radix_tree.proofs.MovedWhole.{whole_moved, routes_moved}
+use Rattle.radix_tree.proofs.moving.vacate.Given as given
 use Rattle.radix_tree.proofs.moving.vacate.Goals as goal
+use Rattle.radix_tree.proofs.moving.vacate.Goals.{In-Some, After-root_after}
+
+-- the bit node that moves, and its place
+move : (g : given.Over) (c : In-Some g) → IsMove c.args.nodes.now.lodged c.args.root c.args.from c.args.to c.in-Some.node
+move g c = move_of c.args.nodes.now.lodged c.args.root c.args.from c.args.to c.links.result.now c.in-Some.node c.requires.whole c.requires.from c.requires.takes c.links.ensures.links (sym c.bit_node.ensures ∙ c.in-Some.is)
+
+-- all that the writes leave
+moved : (g : given.Over) (c : After-root_after g) → IsMoved c.args.nodes.now.lodged c.rename_child.new.nodes.lodged c.args.from c.args.to c.in-Some.node
+moved g c = record {
+  leaves = λ k. c.rename_child.ensures.leaves k ∙ c.put_bit_node-2.ensures.leaves k ∙ c.put_bit_node.ensures.leaves k ∙ c.lift-2.ensures.leaves k
+      ∙ ap (λ (o : Option (LeafPart g.row.V.Denot)). lift_leaf c.in-Some.node.one (Some c.args.to) k o) (c.lift.ensures.leaves k);
+  bits = λ k. c.rename_child.ensures.bits k ∙ ap (λ (o : Option BitPart). rename c.in-Some.node.above c.args.from c.args.to k o)
+      (c.put_bit_node-2.ensures.bits k ∙ ap (λ (o : Option BitPart). put_bit c.args.to (Some c.in-Some.node) k o)
+      (c.put_bit_node.ensures.bits k ∙ ap (λ (o : Option BitPart). put_bit c.args.from None k o)
+      (c.lift-2.ensures.bits k ∙ ap (λ (o : Option BitPart). lift_bit c.in-Some.node.one (Some c.args.to) k o) (c.lift.ensures.bits k))));
+  heads = λ k. c.rename_child.ensures.heads k ∙ c.put_bit_node-2.ensures.heads k
+      ∙ ap (λ (o : Option Id). put_head c.args.to (Some c.in-Some.node) k o)
+      (c.put_bit_node.ensures.heads k ∙ ap (λ (o : Option Id). put_head c.args.from None k o) (c.lift-2.ensures.heads k ∙ c.lift.ensures.heads k));
+  masks = λ k. c.rename_child.ensures.masks k ∙ c.put_bit_node-2.ensures.masks k ∙ c.put_bit_node.ensures.masks k ∙ c.lift-2.ensures.masks k ∙ c.lift.ensures.masks k;
+}
 
 pub lift-requires-clause-tree : goal.lift-requires-clause-tree
 lift-requires-clause-tree g c =
-    let v = move_of c.args.nodes.now.lodged c.args.root c.args.from c.args.to c.links.result.now c.in-Some.node c.requires.whole c.requires.from c.requires.takes c.links.ensures.links (sym c.bit_node.ensures ∙ c.in-Some.is) in
-    left_there c.args.nodes.now.lodged c.args.root c.args.from c.args.to c.in-Some.node v
+    left_there c.args.nodes.now.lodged c.args.root c.args.from c.args.to c.in-Some.node (move g (goal.at.lift-requires-clause-tree g c).In-Some)
 
 pub lift-requires-2-clause-tree : goal.lift-requires-2-clause-tree
 lift-requires-2-clause-tree g c =
-    let v = move_of c.args.nodes.now.lodged c.args.root c.args.from c.args.to c.links.result.now c.in-Some.node c.requires.whole c.requires.from c.requires.takes c.links.ensures.links (sym c.bit_node.ensures ∙ c.in-Some.is) in
-    right_there c.args.nodes.now.lodged c.lift.new.nodes.lodged c.args.root c.args.from c.args.to c.in-Some.node v c.lift.ensures.leaves c.lift.ensures.bits
+    right_there c.args.nodes.now.lodged c.lift.new.nodes.lodged c.args.root c.args.from c.args.to c.in-Some.node (move g (goal.at.lift-requires-2-clause-tree g c).In-Some) c.lift.ensures.leaves c.lift.ensures.bits
 
 pub put_bit_node-requires-clause-there : goal.put_bit_node-requires-clause-there
 put_bit_node-requires-clause-there g c =
@@ -37,82 +56,26 @@ put_bit_node-requires-2-clause-there g c =
 
 pub rename_child-requires-clause-there : goal.rename_child-requires-clause-there
 rename_child-requires-clause-there g c up is =
-    let v = move_of c.args.nodes.now.lodged c.args.root c.args.from c.args.to c.links.result.now c.in-Some.node c.requires.whole c.requires.from c.requires.takes c.links.ensures.links (sym c.bit_node.ensures ∙ c.in-Some.is) in
     Has_kept c.args.nodes.now.lodged c.put_bit_node-2.new.nodes.lodged up
     (ap (λ (o : Option (LeafPart g.row.V.Denot)). content_of o) (c.put_bit_node-2.ensures.leaves up.number)
     ∙ ap (λ (o : Option (LeafPart g.row.V.Denot)). content_of o) (c.put_bit_node.ensures.leaves up.number)
     ∙ ap (λ (o : Option (LeafPart g.row.V.Denot)). content_of o) (c.lift-2.ensures.leaves up.number)
     ∙ content_lift c.in-Some.node.one (Some c.args.to) up.number (leaves_in c.lift.new.nodes.lodged up.number)
     ∙ ap (λ (o : Option (LeafPart g.row.V.Denot)). content_of o) (c.lift.ensures.leaves up.number) ∙ content_lift c.in-Some.node.zero (Some c.args.to) up.number (leaves_in c.args.nodes.now.lodged up.number))
-    (Has-over c.args.nodes.now.lodged c.args.root c.args.from c.args.to c.in-Some.node v up is)
+    (Has-over c.args.nodes.now.lodged c.args.root c.args.from c.args.to c.in-Some.node (move g (goal.at.rename_child-requires-clause-there g c).In-Some) up is)
 
 pub returns-clause-whole : goal.returns-clause-whole
 returns-clause-whole g c =
-    let v = move_of c.args.nodes.now.lodged c.args.root c.args.from c.args.to c.links.result.now c.in-Some.node c.requires.whole c.requires.from c.requires.takes c.links.ensures.links (sym c.bit_node.ensures ∙ c.in-Some.is) in
-    let d : IsMoved c.args.nodes.now.lodged c.rename_child.new.nodes.lodged c.args.from c.args.to c.in-Some.node =
-    record {
-      leaves = λ k. c.rename_child.ensures.leaves k ∙ c.put_bit_node-2.ensures.leaves k ∙ c.put_bit_node.ensures.leaves k ∙ c.lift-2.ensures.leaves k
-          ∙ ap (λ (o : Option (LeafPart g.row.V.Denot)). lift_leaf c.in-Some.node.one (Some c.args.to) k o) (c.lift.ensures.leaves k);
-      bits = λ k. c.rename_child.ensures.bits k ∙ ap (λ (o : Option BitPart). rename c.in-Some.node.above c.args.from c.args.to k o)
-          (c.put_bit_node-2.ensures.bits k ∙ ap (λ (o : Option BitPart). put_bit c.args.to (Some c.in-Some.node) k o)
-          (c.put_bit_node.ensures.bits k ∙ ap (λ (o : Option BitPart). put_bit c.args.from None k o)
-          (c.lift-2.ensures.bits k ∙ ap (λ (o : Option BitPart). lift_bit c.in-Some.node.one (Some c.args.to) k o) (c.lift.ensures.bits k))));
-      heads = λ k. c.rename_child.ensures.heads k ∙ c.put_bit_node-2.ensures.heads k
-          ∙ ap (λ (o : Option Id). put_head c.args.to (Some c.in-Some.node) k o)
-          (c.put_bit_node.ensures.heads k ∙ ap (λ (o : Option Id). put_head c.args.from None k o) (c.lift-2.ensures.heads k ∙ c.lift.ensures.heads k));
-      masks = λ k. c.rename_child.ensures.masks k ∙ c.put_bit_node-2.ensures.masks k ∙ c.put_bit_node.ensures.masks k ∙ c.lift-2.ensures.masks k ∙ c.lift.ensures.masks k;
-    } in
-    whole_moved c.args.nodes.now.lodged c.rename_child.new.nodes.lodged c.args.root c.root_after.result c.args.from c.args.to c.in-Some.node v d c.root_after.ensures
+    whole_moved c.args.nodes.now.lodged c.rename_child.new.nodes.lodged c.args.root c.root_after.result c.args.from c.args.to c.in-Some.node (move g (goal.at.returns-clause-whole g c).In-Some) (moved g c) c.root_after.ensures
 
 pub returns-clause-gone : goal.returns-clause-gone
 returns-clause-gone g c =
-    let v = move_of c.args.nodes.now.lodged c.args.root c.args.from c.args.to c.links.result.now c.in-Some.node c.requires.whole c.requires.from c.requires.takes c.links.ensures.links (sym c.bit_node.ensures ∙ c.in-Some.is) in
-    let d : IsMoved c.args.nodes.now.lodged c.rename_child.new.nodes.lodged c.args.from c.args.to c.in-Some.node =
-    record {
-      leaves = λ k. c.rename_child.ensures.leaves k ∙ c.put_bit_node-2.ensures.leaves k ∙ c.put_bit_node.ensures.leaves k ∙ c.lift-2.ensures.leaves k
-          ∙ ap (λ (o : Option (LeafPart g.row.V.Denot)). lift_leaf c.in-Some.node.one (Some c.args.to) k o) (c.lift.ensures.leaves k);
-      bits = λ k. c.rename_child.ensures.bits k ∙ ap (λ (o : Option BitPart). rename c.in-Some.node.above c.args.from c.args.to k o)
-          (c.put_bit_node-2.ensures.bits k ∙ ap (λ (o : Option BitPart). put_bit c.args.to (Some c.in-Some.node) k o)
-          (c.put_bit_node.ensures.bits k ∙ ap (λ (o : Option BitPart). put_bit c.args.from None k o)
-          (c.lift-2.ensures.bits k ∙ ap (λ (o : Option BitPart). lift_bit c.in-Some.node.one (Some c.args.to) k o) (c.lift.ensures.bits k))));
-      heads = λ k. c.rename_child.ensures.heads k ∙ c.put_bit_node-2.ensures.heads k
-          ∙ ap (λ (o : Option Id). put_head c.args.to (Some c.in-Some.node) k o)
-          (c.put_bit_node.ensures.heads k ∙ ap (λ (o : Option Id). put_head c.args.from None k o) (c.lift-2.ensures.heads k ∙ c.lift.ensures.heads k));
-      masks = λ k. c.rename_child.ensures.masks k ∙ c.put_bit_node-2.ensures.masks k ∙ c.put_bit_node.ensures.masks k ∙ c.lift-2.ensures.masks k ∙ c.lift.ensures.masks k;
-    } in
-    gone c.args.nodes.now.lodged c.rename_child.new.nodes.lodged c.args.root c.args.from c.args.to c.in-Some.node v d
+    gone c.args.nodes.now.lodged c.rename_child.new.nodes.lodged c.args.root c.args.from c.args.to c.in-Some.node (move g (goal.at.returns-clause-gone g c).In-Some) (moved g c)
 
 pub returns-clause-routes : goal.returns-clause-routes
 returns-clause-routes g c =
-    let v = move_of c.args.nodes.now.lodged c.args.root c.args.from c.args.to c.links.result.now c.in-Some.node c.requires.whole c.requires.from c.requires.takes c.links.ensures.links (sym c.bit_node.ensures ∙ c.in-Some.is) in
-    let d : IsMoved c.args.nodes.now.lodged c.rename_child.new.nodes.lodged c.args.from c.args.to c.in-Some.node =
-    record {
-      leaves = λ k. c.rename_child.ensures.leaves k ∙ c.put_bit_node-2.ensures.leaves k ∙ c.put_bit_node.ensures.leaves k ∙ c.lift-2.ensures.leaves k
-          ∙ ap (λ (o : Option (LeafPart g.row.V.Denot)). lift_leaf c.in-Some.node.one (Some c.args.to) k o) (c.lift.ensures.leaves k);
-      bits = λ k. c.rename_child.ensures.bits k ∙ ap (λ (o : Option BitPart). rename c.in-Some.node.above c.args.from c.args.to k o)
-          (c.put_bit_node-2.ensures.bits k ∙ ap (λ (o : Option BitPart). put_bit c.args.to (Some c.in-Some.node) k o)
-          (c.put_bit_node.ensures.bits k ∙ ap (λ (o : Option BitPart). put_bit c.args.from None k o)
-          (c.lift-2.ensures.bits k ∙ ap (λ (o : Option BitPart). lift_bit c.in-Some.node.one (Some c.args.to) k o) (c.lift.ensures.bits k))));
-      heads = λ k. c.rename_child.ensures.heads k ∙ c.put_bit_node-2.ensures.heads k
-          ∙ ap (λ (o : Option Id). put_head c.args.to (Some c.in-Some.node) k o)
-          (c.put_bit_node.ensures.heads k ∙ ap (λ (o : Option Id). put_head c.args.from None k o) (c.lift-2.ensures.heads k ∙ c.lift.ensures.heads k));
-      masks = λ k. c.rename_child.ensures.masks k ∙ c.put_bit_node-2.ensures.masks k ∙ c.put_bit_node.ensures.masks k ∙ c.lift-2.ensures.masks k ∙ c.lift.ensures.masks k;
-    } in
-    routes_moved c.args.nodes.now.lodged c.rename_child.new.nodes.lodged c.args.root c.root_after.result c.args.from c.args.to c.in-Some.node v d c.root_after.ensures
+    routes_moved c.args.nodes.now.lodged c.rename_child.new.nodes.lodged c.args.root c.root_after.result c.args.from c.args.to c.in-Some.node (move g (goal.at.returns-clause-routes g c).In-Some) (moved g c) c.root_after.ensures
 
 pub returns-clause-rooms : goal.returns-clause-rooms
 returns-clause-rooms g c =
-    let d : IsMoved c.args.nodes.now.lodged c.rename_child.new.nodes.lodged c.args.from c.args.to c.in-Some.node =
-    record {
-      leaves = λ k. c.rename_child.ensures.leaves k ∙ c.put_bit_node-2.ensures.leaves k ∙ c.put_bit_node.ensures.leaves k ∙ c.lift-2.ensures.leaves k
-          ∙ ap (λ (o : Option (LeafPart g.row.V.Denot)). lift_leaf c.in-Some.node.one (Some c.args.to) k o) (c.lift.ensures.leaves k);
-      bits = λ k. c.rename_child.ensures.bits k ∙ ap (λ (o : Option BitPart). rename c.in-Some.node.above c.args.from c.args.to k o)
-          (c.put_bit_node-2.ensures.bits k ∙ ap (λ (o : Option BitPart). put_bit c.args.to (Some c.in-Some.node) k o)
-          (c.put_bit_node.ensures.bits k ∙ ap (λ (o : Option BitPart). put_bit c.args.from None k o)
-          (c.lift-2.ensures.bits k ∙ ap (λ (o : Option BitPart). lift_bit c.in-Some.node.one (Some c.args.to) k o) (c.lift.ensures.bits k))));
-      heads = λ k. c.rename_child.ensures.heads k ∙ c.put_bit_node-2.ensures.heads k
-          ∙ ap (λ (o : Option Id). put_head c.args.to (Some c.in-Some.node) k o)
-          (c.put_bit_node.ensures.heads k ∙ ap (λ (o : Option Id). put_head c.args.from None k o) (c.lift-2.ensures.heads k ∙ c.lift.ensures.heads k));
-      masks = λ k. c.rename_child.ensures.masks k ∙ c.put_bit_node-2.ensures.masks k ∙ c.put_bit_node.ensures.masks k ∙ c.lift-2.ensures.masks k ∙ c.lift.ensures.masks k;
-    } in
-    contents_stay c.args.nodes.now.lodged c.rename_child.new.nodes.lodged c.args.from c.args.to c.in-Some.node d
+    contents_stay c.args.nodes.now.lodged c.rename_child.new.nodes.lodged c.args.from c.args.to c.in-Some.node (moved g c)
