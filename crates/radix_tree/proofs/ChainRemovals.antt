@@ -25,7 +25,7 @@ use Rattle.radix_tree.proofs.RoomReads.{inside, none_some, AreLinks}
 use Rattle.radix_tree.proofs.Parts.{among_leaf, way_leads}
 use Rattle.radix_tree.proofs.TreeMembers.{head_of, chain_key, tree_said}
 use Rattle.radix_tree.proofs.Exchanging.{way_to_leaf}
-use Rattle.radix_tree.proofs.WholeChanges.{once_but}
+use Rattle.radix_tree.proofs.WholeChanges.{once_but, later_than}
 use Rattle.radix_tree.proofs.ChainWrites.{own_said, Has-linked_out}
 use Rattle.radix_tree.proofs.ChainGaps.{behind_stands}
 use Rattle.radix_tree.proofs.ChainLinks.{linked_out, out_others, last_among, first_among}
@@ -230,19 +230,8 @@ module _ {V : Type 0} where
   routes_key m new keeps key n = sym (content_key key (leaves_in new n)) ∙ ap (of_key key) (keeps n) ∙ content_key key (leaves_in m n)
 
   -- ---- the whole
-  abbrev pub late_here : (m : FinMap nat_cmp (Seen V)) (root : Node) (n : ℕ) (w : IsWholeBut m root (late_at n) nobody_out) (p : LeafPart V) (b : IsMember m w.part n p) → IsWholeBut m root (late_at b.x.room.number) nobody_out
-  late_here m root n w p b = record {
-    part = w.part;
-    low = w.low;
-    top = w.top;
-    named = w.named;
-    leaves = w.leaves;
-    forks = w.forks;
-    spare = w.spare;
-    lists = w.lists;
-    listed = w.listed;
-    all = λ y is home. ⊎_elim (λ marked. inl marked) (λ late. inr (ap (λ (k : ℕ). y.room.number == k) b.number ∙ late)) (w.all y is home);
-  }
+  abbrev late_here : (m : FinMap nat_cmp (Seen V)) (root : Node) (n : ℕ) (w : IsWholeBut m root (late_at n) nobody_out) (p : LeafPart V) (b : IsMember m w.part n p) → IsWholeBut m root (late_at b.x.room.number) nobody_out
+  late_here m root n w p b = later_than (late_at n) (late_at b.x.room.number) (λ k late. ap (λ (r : ℕ). k == r) b.number ∙ late) w
 
   pub removed_whole : (m new : FinMap nat_cmp (Seen V)) (root name : Node) (n : ℕ) (w : IsWholeBut m root (late_at n) nobody_out) (p : LeafPart V) (b : IsMember m w.part n p) → masks_in m n ≡ None → IsUnlinked m new p.leaf
       → IsLeft m new b.x.entry.key w.part b.part b.front b.back name → IsWholeBut new name nobody_late (out_at n)

@@ -24,7 +24,7 @@ use Rattle.radix_tree.specs.declared.entry.Entry.{Entry}
 use Rattle.radix_tree.proofs.RoomReads.{none_some}
 use Rattle.radix_tree.proofs.Parts.{leaf_run}
 use Rattle.radix_tree.proofs.Showing.{shown_is}
-use Rattle.radix_tree.proofs.WholeChanges.{but_whole, loses_entry}
+use Rattle.radix_tree.proofs.WholeChanges.{but_whole, later_than, loses_entry}
 use Rattle.radix_tree.proofs.Kept.{IsFound, shown_table}
 
 true_false : true ≡ false → ⊥
@@ -96,18 +96,7 @@ module _ {V : Type 0} where
 
   -- ---- whose masks are not listed yet
   not_late : (m : FinMap nat_cmp (Seen V)) (root : Node) (late : ℕ → Bool) → IsWholeBut m root late nobody_out → ((n : ℕ) → late n ≡ true → ⊥) → IsWholeBut m root nobody_late nobody_out
-  not_late m root late w never = record {
-    part = w.part;
-    low = w.low;
-    top = w.top;
-    named = w.named;
-    leaves = w.leaves;
-    forks = w.forks;
-    spare = w.spare;
-    lists = w.lists;
-    listed = w.listed;
-    all = λ x at home. ⊎_elim (λ (marked : IsMarked (masks_in m) x). inl marked) (λ (is : late x.room.number ≡ true). absurd (never x.room.number is)) (w.all x at home);
-  }
+  not_late m root late w never = later_than late nobody_late (λ n is. absurd (never n is)) w
 
   -- the route of one room was late, and is listed now
   pub among_left : (m : FinMap nat_cmp (Seen V)) (root : Node) (room id : ℕ) → id ≡ room → IsWholeBut m root (λ n. late_at room n && not (n == id)) nobody_out → IsWhole m root

@@ -30,6 +30,7 @@ use Rattle.radix_tree.proofs.PartRooms.{one_if_same, elsewhere, frame, way_once}
 use Rattle.radix_tree.proofs.Plugs.{aside_in, aside_at, counted_leaf, spare_same}
 use Rattle.radix_tree.proofs.PlugLists.{KeepsAbove, falls_between, plug_lists, lists_at, marked_same}
 use Rattle.radix_tree.proofs.FrameLists.{way_framed, lists_stay}
+use Rattle.radix_tree.proofs.WholeChanges.{with_late}
 use Rattle.radix_tree.proofs.MaskLists.{sorted_here, among_sorted, sorted_among, falls_sorted, taken_among, among_taken, falls_taken, ranked_in, bit_node_at, masks_listed}
 
 pub true_false : true ≡ false → ⊥
@@ -437,43 +438,17 @@ module _ {V : Type 0} where
   -- a room whose mask is listed, or has no home, is not late
   pub settled : (m : FinMap nat_cmp (Seen V)) (root : Node) (late : ℕ → Bool) (w : IsWholeBut m root late nobody_out) (room : Id)
       → ((x : Placed V) → IsIn x w.part.tree → HasHome x.entry.key x.entry.rank w.part.tree → x.room.number ≡ room.number → IsMarked (masks_in m) x) → IsWholeBut m root (λ n. late n && not (n == room.number)) nobody_out
-  settled m root late w room here = record {
-    part = w.part;
-    low = w.low;
-    top = w.top;
-    named = w.named;
-    leaves = w.leaves;
-    forks = w.forks;
-    spare = w.spare;
-    lists = w.lists;
-    listed = w.listed;
-    all = λ x in_x home. ⊎_elim
-        (λ (same : x.room.number ≡ room.number). inl (here x in_x home same))
-        (λ (other : x.room.number ≡ room.number → ⊥). ⊎_elim
-        (λ (marked : IsMarked (masks_in m) x). inl marked)
-        (λ (is_late : late x.room.number ≡ true). inr (ap (λ (t : Bool). t && not (x.room.number == room.number)) is_late ∙ ap not (ne_eqb x.room.number room.number other)))
-        (w.all x in_x home)) (cases_eq x.room.number room.number);
-  }
+  settled m root late w room here = with_late (λ n. late n && not (n == room.number)) w (λ x in_x home. ⊎_elim
+      (λ (same : x.room.number ≡ room.number). inl (here x in_x home same))
+      (λ (other : x.room.number ≡ room.number → ⊥). ⊎_elim
+      (λ (marked : IsMarked (masks_in m) x). inl marked)
+      (λ (is_late : late x.room.number ≡ true). inr (ap (λ (t : Bool). t && not (x.room.number == room.number)) is_late ∙ ap not (ne_eqb x.room.number room.number other)))
+      (w.all x in_x home)) (cases_eq x.room.number room.number))
 
   pub never_late : (m : FinMap nat_cmp (Seen V)) (root : Node) (late : ℕ → Bool) (w : IsWholeBut m root late nobody_out) (room : Id) (y : Placed V) → IsIn y w.part.tree → y.room ≡ room → (HasHome y.entry.key y.entry.rank w.part.tree → ⊥)
       → IsWholeBut m root (λ n. late n && not (n == room.number)) nobody_out
   never_late m root late w room y in_y is none = settled m root late w room
       (λ x in_x home same. absurd (none (subst (λ (p : Placed V). HasHome p.entry.key p.entry.rank w.part.tree) (one_room m w.part x y in_x in_y (same ∙ sym (ap (λ (i : Id). i.number) is))) home)))
-
-  -- what is late may be thought later
-  pub later_than : (m : FinMap nat_cmp (Seen V)) (root : Node) (late later : ℕ → Bool) → ((n : ℕ) → late n ≡ true → later n ≡ true) → IsWholeBut m root late nobody_out → IsWholeBut m root later nobody_out
-  later_than m root late later more w = record {
-    part = w.part;
-    low = w.low;
-    top = w.top;
-    named = w.named;
-    leaves = w.leaves;
-    forks = w.forks;
-    spare = w.spare;
-    lists = w.lists;
-    listed = w.listed;
-    all = λ x in_x home. ⊎_elim (λ (marked : IsMarked (masks_in m) x). inl marked) (λ (is_late : late x.room.number ≡ true). inr (more x.room.number is_late)) (w.all x in_x home);
-  }
 
   -- ---- what a list's change asks for
   pub homed : (m : FinMap nat_cmp (Seen V)) (whole : Part m) (y : Placed V) (room : Id) (o : Option Id) (node : Id) → IsIn y whole.tree → y.room ≡ room → o ≡ Some node → IsHome m y.entry.key y.entry.rank whole o → Homed m whole room node

@@ -21,7 +21,8 @@ use Rattle.radix_tree.proofs.TreeMembers.{IsHead, head_of, tree_said}
 use Rattle.radix_tree.proofs.Parts.{among_leaf, way_leads}
 use Rattle.radix_tree.proofs.Exchanging.{way_to_leaf}
 use Rattle.radix_tree.proofs.ChainStarts.{Member, member_of}
-use Rattle.radix_tree.proofs.Listed.{true_false, placed_in, route_at, settled, later_than}
+use Rattle.radix_tree.proofs.Listed.{true_false, placed_in, route_at, settled}
+use Rattle.radix_tree.proofs.WholeChanges.{later_than}
 use Rattle.radix_tree.proofs.ListedHomes.{chain_of, in_chain}
 
 and_left : (a b : Bool) → (a && b) ≡ true → a ≡ true
@@ -199,5 +200,5 @@ module _ {V : Type 0} where
   none_among (y ∷ c) none x among = absurd (none_some (sym none))
 
   pub ended : (m now : FinMap nat_cmp (Seen V)) (root : Node) (late : ℕ → Bool) (key : ℕ) (at : Option Id) → Left m now root late key at → at ≡ None → IsWholeBut now root (λ n. late n && not (has_key m key n)) nobody_out
-  ended m now root late key at l is = later_than now root l.later (λ n. late n && not (has_key m key n))
+  ended m now root late key at l is = later_than l.later (λ n. late n && not (has_key m key n))
       (λ n is_late. both_true (late n) (has_key m key n) (l.less n is_late) (λ has. let x = l.behind n is_late has in none_among l.rest.members (l.begins ∙ is) x.0 x.1)) l.whole

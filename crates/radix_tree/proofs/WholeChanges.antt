@@ -125,6 +125,27 @@ module _ {V : Type 0} where
     listed = w.listed;
   }
 
+  -- the routes that are late may be told anew: each route with a home is marked or among them
+  abbrev pub with_late : {m : FinMap nat_cmp (Seen V)} {root : Node} {late : ℕ → Bool} {out : ℕ → ℕ} (later : ℕ → Bool) (w : IsWholeBut m root late out)
+      → ((x : Placed V) → IsIn x w.part.tree → HasHome x.entry.key x.entry.rank w.part.tree → IsMarked (masks_in m) x ⊎ (later x.room.number ≡ true)) → IsWholeBut m root later out
+  with_late later w all = record {
+    part = w.part;
+    low = w.low;
+    top = w.top;
+    named = w.named;
+    leaves = w.leaves;
+    forks = w.forks;
+    spare = w.spare;
+    lists = w.lists;
+    listed = w.listed;
+    all = all;
+  }
+
+  -- what is late may be thought later
+  abbrev pub later_than : {m : FinMap nat_cmp (Seen V)} {root : Node} (late later : ℕ → Bool) → ((n : ℕ) → late n ≡ true → later n ≡ true) → IsWholeBut m root late nobody_out → IsWholeBut m root later nobody_out
+  later_than late later more w = with_late later w
+      (λ x in_x home. ⊎_elim (λ marked. inl marked) (λ is_late. inr (more x.room.number is_late)) (w.all x in_x home))
+
   pub once_but : (m : FinMap nat_cmp (Seen V)) (root : Node) (late : ℕ → Bool) (out : ℕ → ℕ) (w : IsWholeBut m root late out) → AreOnce w.part.tree
   once_but m root late out w = record {
     leaves = λ n. let e : leaves_at n w.part.tree + out n ≡ one_if (is_some (leaves_in m n)) = w.leaves n in let most : one_if (is_some (leaves_in m n)) ≤ 1 = one_if_most (is_some (leaves_in m n)) in omega arith;

@@ -1,8 +1,8 @@
 use Rattle.std.proofs.Common.{sym, subst}
 use Rattle.radix_tree.specs.Marks.{nobody_late, nobody_out, late_at}
 use Rattle.radix_tree.specs.MaskLists.{IsHome}
-use Rattle.radix_tree.proofs.WholeChanges.{whole_but, once_but}
-use Rattle.radix_tree.proofs.Listed.{placed_in, listed_less, homeless, later_than, true_false, homed, home_node, home_member, marked_at}
+use Rattle.radix_tree.proofs.WholeChanges.{whole_but, once_but, later_than}
+use Rattle.radix_tree.proofs.Listed.{placed_in, listed_less, homeless, true_false, homed, home_node, home_member, marked_at}
 use Rattle.radix_tree.proofs.listing.unlist_mask.Goals as goal
 
 pub home_of-requires-clause-whole : goal.home_of-requires-clause-whole
@@ -10,7 +10,7 @@ home_of-requires-clause-whole g c = let w = c.requires.whole in (w.0, nobody_lat
 
 pub returns-in_default-clause-whole : goal.returns-in_default-clause-whole
 returns-in_default-clause-whole g c root is =
-    later_than c.args.nodes.now.lodged root nobody_late (late_at c.args.room.number) (λ n never. absurd (true_false (sym never))) (whole_but c.args.nodes.now.lodged root is)
+    later_than nobody_late (late_at c.args.room.number) (λ n never. absurd (true_false (sym never))) (whole_but c.args.nodes.now.lodged root is)
 
 pub returns-in_default-clause-gone : goal.returns-in_default-clause-gone
 returns-in_default-clause-gone g c =
