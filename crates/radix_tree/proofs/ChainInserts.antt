@@ -18,6 +18,7 @@ use Rattle.radix_tree.specs.Growth.{turn, root_after, placed, Gains, AreOnce}
 use Rattle.radix_tree.specs.Marks.{IsWholeBut, nobody_late, late_at, nobody_out}
 use Rattle.radix_tree.specs.Writes.{lodge_leaf, KeepsBits, KeepsHeads, KeepsMasks}
 use Rattle.radix_tree.specs.Chains.{leaf_next, leaf_back, name_next, name_back, link_in, above_behind, last_room, root_past, IsGap, Gap}
+use Rattle.radix_tree.specs.Removal.{Content, content_of}
 use Rattle.radix_tree.specs.declared.entry.Entry.{Entry}
 use Rattle.radix_tree.proofs.RoomReads.{inside, none_some, Has-leaf}
 use Rattle.radix_tree.proofs.Parts.{leaf_run, in_leaf, way_inside}
@@ -94,27 +95,35 @@ module _ {V : Type 0} where
     pub heads : KeepsHeads m new
     pub masks : KeepsMasks m new
 
-  leaf_next_some : (next : Option Id) (said : Option (LeafPart V)) → is_some (leaf_next next said) ≡ is_some said
-  leaf_next_some next None = refl
-  leaf_next_some next (Some p) = refl
+  -- a member that names others has the route that it had
+  next_content : (next : Option Id) (said : Option (LeafPart V)) → content_of (leaf_next next said) ≡ content_of said
+  next_content next None = refl
+  next_content next (Some p) = refl
 
-  leaf_back_some : (above previous : Option Id) (said : Option (LeafPart V)) → is_some (leaf_back above previous said) ≡ is_some said
-  leaf_back_some above previous None = refl
-  leaf_back_some above previous (Some p) = refl
+  back_content : (above previous : Option Id) (said : Option (LeafPart V)) → content_of (leaf_back above previous said) ≡ content_of said
+  back_content above previous None = refl
+  back_content above previous (Some p) = refl
 
-  next_some : (before next : Option Id) (n : ℕ) (said : Option (LeafPart V)) → is_some (name_next before next n said) ≡ is_some said
-  next_some None next n said = refl
-  next_some (Some room) next n said = elim (n == room.number) as (λ t. is_some (if t then leaf_next next said else said) ≡ is_some said) [
-    | true ↦ leaf_next_some next said
+  pub next_same : (before next : Option Id) (n : ℕ) (said : Option (LeafPart V)) → content_of (name_next before next n said) ≡ content_of said
+  next_same None next n said = refl
+  next_same (Some room) next n said = elim (n == room.number) as (λ t. content_of (if t then leaf_next next said else said) ≡ content_of said) [
+    | true ↦ next_content next said
     | false ↦ refl
   ]
 
-  back_some : (behind above previous : Option Id) (n : ℕ) (said : Option (LeafPart V)) → is_some (name_back behind above previous n said) ≡ is_some said
-  back_some None above previous n said = refl
-  back_some (Some room) above previous n said = elim (n == room.number) as (λ t. is_some (if t then leaf_back above previous said else said) ≡ is_some said) [
-    | true ↦ leaf_back_some above previous said
+  pub back_same : (behind above previous : Option Id) (n : ℕ) (said : Option (LeafPart V)) → content_of (name_back behind above previous n said) ≡ content_of said
+  back_same None above previous n said = refl
+  back_same (Some room) above previous n said = elim (n == room.number) as (λ t. content_of (if t then leaf_back above previous said else said) ≡ content_of said) [
+    | true ↦ back_content above previous said
     | false ↦ refl
   ]
+
+  content_some : (o : Option (LeafPart V)) → is_some (content_of o) ≡ is_some o
+  content_some None = refl
+  content_some (Some p) = refl
+
+  pub same_some : (o p : Option (LeafPart V)) → content_of o ≡ content_of p → is_some o ≡ is_some p
+  same_some o p same = sym (content_some o) ∙ ap (λ (c : Option (Content V)). is_some c) same ∙ content_some p
 
   lodged_some : (room : Id) (value : V) (l : Leaf) (n : ℕ) (said : Option (LeafPart V)) → is_some (lodge_leaf room value l n said) ≡ (n == room.number) || is_some said
   lodged_some room value l n said =
@@ -125,8 +134,8 @@ module _ {V : Type 0} where
 
   pub linked_rooms : (m new : FinMap nat_cmp (Seen V)) (id : Id) (value : V) (l : Leaf) → ((n : ℕ) → leaves_in new n ≡ link_in id value l n (leaves_in m n)) → (n : ℕ) → is_some (leaves_in new n) ≡ (n == id.number) || is_some (leaves_in m n)
   linked_rooms m new id value l is n = ap (λ (o : Option (LeafPart V)). is_some o) (is n)
-      ∙ back_some l.next None (Some id) n (name_next l.previous (Some id) n (lodge_leaf id value l n (leaves_in m n)))
-      ∙ next_some l.previous (Some id) n (lodge_leaf id value l n (leaves_in m n))
+      ∙ same_some (link_in id value l n (leaves_in m n)) (lodge_leaf id value l n (leaves_in m n))
+      (back_same l.next None (Some id) n (name_next l.previous (Some id) n (lodge_leaf id value l n (leaves_in m n))) ∙ next_same l.previous (Some id) n (lodge_leaf id value l n (leaves_in m n)))
       ∙ lodged_some id value l n (leaves_in m n)
 
   cons_head : {x y : Placed V} {xs ys : List (Placed V)} → x ∷ xs ≡ y ∷ ys → x ≡ y

@@ -32,7 +32,7 @@ use Rattle.radix_tree.proofs.ChainLinks.{linked_out, out_others, last_among, fir
 use Rattle.radix_tree.proofs.ChainLists.{IsCons, cons_at, split_at, members_append, members_more, among_own, among_less, others_idle, chain_less}
 use Rattle.radix_tree.proofs.ChainRooms.{among_at, room_route}
 use Rattle.radix_tree.proofs.ChainWholes.{Rechained, FrontNamed, front_named, place_bits, place_root, turn_same, root_same, turn_some, same_none, shrunk_whole, shrunk_routes}
-use Rattle.radix_tree.proofs.ChainInserts.{first_there, last_there, place_above, chain_once}
+use Rattle.radix_tree.proofs.ChainInserts.{next_same, back_same, same_some, first_there, last_there, place_above, chain_once}
 
 some_is : {A : Type 0} (o : Option A) → is_some o ≡ true → (x : A) × (o ≡ Some x)
 some_is None e = absurd (true≢false (sym e))
@@ -185,38 +185,12 @@ module _ {V : Type 0} where
       }
 
   -- ---- each room keeps its route
-  next_content : (next : Option Id) (said : Option (LeafPart V)) → content_of (leaf_next next said) ≡ content_of said
-  next_content next None = refl
-  next_content next (Some p) = refl
-
-  back_content : (above previous : Option Id) (said : Option (LeafPart V)) → content_of (leaf_back above previous said) ≡ content_of said
-  back_content above previous None = refl
-  back_content above previous (Some p) = refl
-
-  next_same : (before next : Option Id) (n : ℕ) (said : Option (LeafPart V)) → content_of (name_next before next n said) ≡ content_of said
-  next_same None next n said = refl
-  next_same (Some room) next n said = elim (n == room.number) as (λ t. content_of (if t then leaf_next next said else said) ≡ content_of said) [
-    | true ↦ next_content next said
-    | false ↦ refl
-  ]
-
-  back_same : (behind above previous : Option Id) (n : ℕ) (said : Option (LeafPart V)) → content_of (name_back behind above previous n said) ≡ content_of said
-  back_same None above previous n said = refl
-  back_same (Some room) above previous n said = elim (n == room.number) as (λ t. content_of (if t then leaf_back above previous said else said) ≡ content_of said) [
-    | true ↦ back_content above previous said
-    | false ↦ refl
-  ]
-
   pub unlinked_routes : (m new : FinMap nat_cmp (Seen V)) (l : Leaf) → ((n : ℕ) → leaves_in new n ≡ link_out l n (leaves_in m n)) → KeepsRoutes m new
   unlinked_routes m new l is n = ap (λ (o : Option (LeafPart V)). content_of o) (is n)
       ∙ next_same l.previous l.next n (name_back l.next l.above l.previous n (leaves_in m n)) ∙ back_same l.next l.above l.previous n (leaves_in m n)
 
-  content_some : (o : Option (LeafPart V)) → is_some (content_of o) ≡ is_some o
-  content_some None = refl
-  content_some (Some p) = refl
-
   pub routes_some : (m new : FinMap nat_cmp (Seen V)) → KeepsRoutes m new → (n : ℕ) → is_some (leaves_in new n) ≡ is_some (leaves_in m n)
-  routes_some m new keeps n = sym (content_some (leaves_in new n)) ∙ ap (λ (o : Option (Content V)). is_some o) (keeps n) ∙ content_some (leaves_in m n)
+  routes_some m new keeps n = same_some (leaves_in new n) (leaves_in m n) (keeps n)
 
   abbrev of_key : ℕ → Option (Content V) → Bool
   of_key key None = false
