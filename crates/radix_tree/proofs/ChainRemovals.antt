@@ -1,5 +1,5 @@
 -- A route goes out of the chain of its key.
-use Rattle.std.proofs.Common.{◌≡◌, ℕ, ◌+◌, ◌≤◌, ◌⊎◌, ◌==◌, Bool, true, false, true≢false, if◌then◌else◌, List, [], ◌∷◌, ◌++◌, Option, Some, None, refl, sym, ap, ◌∙◌, subst, inl, inr, ⊎_elim, arith}
+use Rattle.std.proofs.Common.{◌≡◌, ℕ, ◌+◌, ◌≤◌, ◌⊎◌, ◌==◌, Bool, true, false, true≢false, List, [], ◌∷◌, ◌++◌, Option, Some, None, refl, sym, ap, ◌∙◌, subst, inl, ⊎_elim, arith}
 use Rattle.std.specs.Prelude.{is_some}
 use Rattle.std.proofs.lemmas.Bool.{eqb-true, eq-eqb}
 use Rattle.std.specs.Ordering.{nat_cmp}
@@ -19,7 +19,7 @@ use Rattle.radix_tree.specs.Growth.{turn, root_after, Gains}
 use Rattle.radix_tree.specs.Marks.{IsWholeBut, is_of_key, has_key, nobody_late, late_at, nobody_out, out_at}
 use Rattle.radix_tree.specs.Removal.{Content, content_of, KeepsRoutes}
 use Rattle.radix_tree.specs.Writes.{KeepsHeads, KeepsMasks}
-use Rattle.radix_tree.specs.Chains.{leaf_next, leaf_back, name_next, name_back, link_out, above_behind, last_room, root_past}
+use Rattle.radix_tree.specs.Chains.{name_back, link_out, above_behind, last_room, root_past}
 use Rattle.radix_tree.specs.declared.entry.Entry.{Entry}
 use Rattle.radix_tree.proofs.RoomReads.{inside, none_some, AreLinks}
 use Rattle.radix_tree.proofs.Parts.{among_leaf, way_leads}

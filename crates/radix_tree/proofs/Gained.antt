@@ -3,7 +3,7 @@
 --     shown_same                     rooms that say the same of leaves and bit nodes show the same
 --     nobody, among_left, new_left   whose masks are not listed yet
 --     IsLost, lost                   what a route that goes leaves
-use Rattle.std.proofs.Common.{◌≡◌, ℕ, ◌+◌, ◌≤◌, ◌==◌, ◌&&◌, ◌||◌, Bool, true, false, not, if◌then◌else◌, List, [], Option, Some, None, is_some, refl, sym, ap, ◌∙◌, subst, inl, ⊎_elim, arith}
+use Rattle.std.proofs.Common.{◌≡◌, ℕ, ◌+◌, ◌≤◌, ◌==◌, ◌&&◌, ◌||◌, Bool, true, false, not, if◌then◌else◌, List, [], Option, Some, None, is_some, refl, sym, ap, ◌∙◌, subst, inl, arith}
 use Rattle.std.proofs.lemmas.Bool.{eqb-true, eq-eqb, ne_eqb}
 use Rattle.std.specs.Ordering.{nat_cmp}
 use Rattle.std.specs.FinMap.{FinMap, get}
@@ -14,10 +14,10 @@ use Rattle.radix_nodes.specs.declared.links.Node.{Node}
 use Rattle.radix_nodes.specs.declared.links.Node.TheVariants.{Leaf as LeafOf}
 use Rattle.radix_tree.specs.Table.{IsRoute, without}
 use Rattle.radix_tree.specs.Tree.{leaf}
-use Rattle.radix_tree.specs.Rooms.{LeafPart, Part, leaf_in, bit_in, mask_in, leaves_in, masks_in, leaf_part, first_room}
+use Rattle.radix_tree.specs.Rooms.{LeafPart, Part, leaf_in, bit_in, mask_in, leaves_in, leaf_part, first_room}
 use Rattle.radix_tree.specs.Searches.{LedTo}
 use Rattle.radix_tree.specs.Growth.{Gains, placed}
-use Rattle.radix_tree.specs.Marks.{IsMarked, IsWholeBut, has_key, is_of_key, nobody_late, nobody_out, late_at}
+use Rattle.radix_tree.specs.Marks.{IsWholeBut, has_key, is_of_key, nobody_late, nobody_out, late_at}
 use Rattle.radix_tree.specs.Writes.{lodge_leaf, KeepsLeaves, KeepsBits, KeepsMasks}
 use Rattle.radix_tree.specs.Whole.{one_if, beneath_shown, shown, shown_entry, IsWhole, Holds}
 use Rattle.radix_tree.specs.declared.entry.Entry.{Entry}

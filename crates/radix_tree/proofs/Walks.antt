@@ -8,7 +8,7 @@ use Rattle.std.proofs.lemmas.Bool.{eqb-true, eq-eqb}
 use Rattle.std.proofs.lemmas.List.{append_assoc}
 use Rattle.std.proofs.Math.Nat.{zero-div}
 use Rattle.std.specs.Ordering.{nat_cmp}
-use Rattle.std.specs.FinMap.{FinMap, get}
+use Rattle.std.specs.FinMap.{FinMap}
 use Rattle.radix_nodes.specs.Rooms.{Seen, Has}
 use Rattle.radix_nodes.specs.Links.{leaf_of, bit_node_of}
 use Rattle.radix_nodes.specs.declared.id.Id.{Id}
@@ -23,8 +23,7 @@ use Rattle.radix_tree.specs.Whole.{chain_shown, chain_from, beneath_shown}
 use Rattle.radix_tree.specs.declared.entry.Entry.{Entry}
 use Rattle.radix_tree.specs.declared.walk.Place.{Place}
 use Rattle.radix_tree.proofs.AddressBits.{zero_not_one, zero_or_one}
-use Rattle.radix_tree.proofs.RoomReads.{inside, none_some, AreLinks, bit_read, bit_used, Has-leaf, leaf_read, value_read}
-use Rattle.radix_tree.proofs.Kept.{entry_make}
+use Rattle.radix_tree.proofs.RoomReads.{inside, none_some, AreLinks, bit_read, bit_used, Has-leaf, leaf_read}
 use Rattle.radix_tree.proofs.TreeMembers.{bit_beneath}
 use Rattle.radix_tree.proofs.Parts.{fork_is, fork_stands, bit_part_of, Has-fork, one_part, leaf_run, leaf_begins}
 use Rattle.radix_tree.proofs.Scans.{chain_most}
