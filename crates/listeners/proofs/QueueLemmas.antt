@@ -44,10 +44,6 @@ whole-joined ms h = record {
   all = ap (λ x. joined x) (cut-joined ms h);
 }
 
--- no byte is no message
-pub whole-empty : AreMessages []
-whole-empty = record { each = tt; all = refl }
-
 -- one message at the end
 joined-push : (ms : List (List ℕ)) (m : List ℕ) → joined (ms ++ m ∷ []) ≡ joined ms ++ m
 joined-push ms m = flat_map-append (λ x. x) ms (m ∷ []) ∙ ap (λ x. joined ms ++ x) (append-nil m)

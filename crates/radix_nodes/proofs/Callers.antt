@@ -1,12 +1,11 @@
 -- What callers need of the map of rooms.
 --     get-put_room, get-put_links, get-removed      what a number says after each change
 --     put_links-is, put_value-is                    a room that is written is that room with one thing changed
---     Has-lodged, Has-put, Has-written, Has-valued, Has-removed      a room that is still there
+--     Has-lodged, Has-put, Has-written, Has-removed      a room that is still there
 use Rattle.std.proofs.Common.{◌≡◌, ℕ, ◌==◌, Bool, true, false, if◌then◌else◌, Option, Some, None, refl, sym, ap, ◌∙◌}
 use Rattle.std.proofs.lemmas.Bool.{eqb-true, ne_eqb}
 use Rattle.std.specs.Ordering.{nat_cmp}
-use Rattle.std.specs.FinMap.{FinMap, get, insert, remove}
-use denote.RawPtr.{Ptr}
+use Rattle.std.specs.FinMap.{FinMap, get, remove}
 use Rattle.radix_nodes.specs.Rooms.{Seen, seen, Has, put_room, put_links, put_value}
 use Rattle.radix_nodes.specs.declared.id.Id.{Id}
 use Rattle.radix_nodes.specs.declared.links.Links.{Links}
@@ -77,9 +76,6 @@ module _ {V : Type 0} where
 
   pub Has-written : (m : FinMap nat_cmp (Seen V)) (i j : Id) (links : Links) → Has m j → Has m i → Has (put_links m j links) i
   Has-written m i j links there h = rw (put_links-is m j links there) (again m i j there.room.value links there h)
-
-  pub Has-valued : (m : FinMap nat_cmp (Seen V)) (i j : Id) (value : V) → Has m j → Has m i → Has (put_value m j value) i
-  Has-valued m i j value there h = rw (put_value-is m j value there) (again m i j value there.room.links there h)
 
   pub Has-removed : (m : FinMap nat_cmp (Seen V)) (i : Id) (n : ℕ) → (i.number ≡ n → ⊥) → Has m i → Has (remove m n) i
   Has-removed m i n apart h = record {

@@ -3,7 +3,7 @@ use Rattle.std.proofs.Common.{◌≡◌, ℕ, Some, None, sym, ap, ◌∙◌}
 use Rattle.std.specs.Ordering.{nat_cmp}
 use Rattle.std.specs.FinMap.{FinMap, get, remove}
 use Rattle.radix_nodes.specs.Keeping.{Keeps}
-use Rattle.radix_nodes.specs.Rooms.{Seen, Has, put_room, put_links}
+use Rattle.radix_nodes.specs.Rooms.{Seen, put_room, put_links}
 use Rattle.radix_nodes.specs.declared.id.Id.{Id}
 use Rattle.radix_nodes.specs.declared.links.Links.{Links}
 use Rattle.radix_nodes.proofs.Callers.{Has-lodged, Has-put, Has-written, Has-removed}

@@ -120,9 +120,6 @@ module _ {V : Type 0} where
   made_later last m h k c at = let low : k ≤ last = h k c at in omega arith
 
 -- ---- the names that are noted
-none_noted : (k : ℕ) → noted_in None ≡ None
-none_noted k = refl
-
 zero_suc : {A : Type 0} (k : ℕ) → zero ≡ suc k → A
 zero_suc k e = absurd (omega (arith, e))
 

@@ -2,7 +2,6 @@
 use base.Fml.{Fml}
 use mir.Syntax.{Ty}
 use denote.RawPtr.{Ptr}
-use Rattle.std_heap.specs.declared.Global.{Global}
 use Rattle.std_heap.specs.contracts.GlobalAllocator.TheImpl.{ghosts}
 
 -- what the allocator of the process asks for, whichever handle to it frees the block

@@ -1,4 +1,4 @@
-use Rattle.std.proofs.Common.{◌≡◌, sym, ap}
+use Rattle.std.proofs.Common.{sym, ap}
 use Rattle.radix_nodes.proofs.RoomLemmas.{Has_at, seen_is, lodged_is}
 use Rattle.radix_nodes.proofs.nodes.Nodes.visit.Goals as goal
 
