@@ -1,5 +1,5 @@
 -- How many routes a table has of each rank.
---     none_of_rank       a rank that no route has
+--     none_of_rank                     a rank that no route has
 --     few_of_rank                      no more than there are keys
 --     counted_more, counted_less       with a route more or less
 use Rattle.std.proofs.Common.{◌≡◌, ℕ, ◌+◌, ◌-◌, ◌^◌, ◌<◌, ◌≤◌, ◌==◌, ◌&&◌, Bool, true, false, cond, if◌then◌else◌, IsTrue, List, [], ◌∷◌, ◌++◌, Some, None, refl, sym, ap, ◌∙◌, subst, ⊎_elim, arith}
