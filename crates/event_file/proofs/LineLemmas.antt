@@ -238,15 +238,6 @@ extended-kept line bytes =
       | false ↦ λ _. refl
     ] refl
 
-is_begun-cases : (t : Bool) (line : List ℕ) → is_begun (cond t None (Some line)) ≡ false → line ≡ []
-is_begun-cases true line none = absurd (cc)
-is_begun-cases false [] none = refl
-is_begun-cases false (b ∷ bs) none = absurd (cc)
-
--- a kept line without a byte is the empty line
-pub is_begun-none : (line : List ℕ) → is_begun (kept line) ≡ false → line ≡ []
-is_begun-none line none = is_begun-cases (nat_lt most_line_bytes (length line)) line none
-
 abbrev pub line_from : Option (List ℕ) → Bool → Line
 line_from t a = record { text = t; ended = a }
 

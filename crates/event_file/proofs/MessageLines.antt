@@ -22,9 +22,6 @@ pub record WroteMessages {T : Type 0} (contents : T → Option (List ℕ)) (old 
   pub whole : AreMessages rest
 
 module _ {T : Type 0} {contents : T → Option (List ℕ)} where
-  pub WroteMessages-none : (w : Counts T) (bytes : List ℕ) → AreMessages bytes → WroteMessages contents w w bytes bytes
-  WroteMessages-none w bytes h = record { messages = []; parted = refl; wrote = Wrote-nil w; whole = h }
-
   -- and one more
   pub WroteMessages-more : {a b c : Counts T} {bytes rest : List ℕ} (m left : List ℕ) → WroteMessages contents a b bytes rest → cut rest ≡ m ∷ cut left → AreMessages left
       → Wrote contents b c (message_line m) → WroteMessages contents a c bytes left
@@ -42,7 +39,3 @@ module _ {T : Type 0} {contents : T → Option (List ℕ)} where
       let all : lines (cut bytes) ≡ lines p.messages ++ (message_line m ++ lines (cut left)) =
       ap lines (p.parted ∙ ap (λ ms. p.messages ++ ms) e) ∙ lines-append p.messages (m ∷ cut left) in
       rw all (WroteFront-then p.wrote (WroteFront-more (lines (cut left)) q))
-
-  -- none is left
-  pub WroteMessages-all : {a b : Counts T} {bytes : List ℕ} → WroteMessages contents a b bytes [] → Wrote contents a b (lines (cut bytes))
-  WroteMessages-all p = rw (p.parted, append-nil p.messages) p.wrote
