@@ -4,7 +4,7 @@ use Rattle.std.specs.Prelude.{position, map, filter}
 use Rattle.std.specs.List.{position_or_len}
 use Rattle.std.proofs.lemmas.List.{take_all, map-append}
 use Rattle.std.proofs.lemmas.Bool.{ltb-true, ltb-false, or_parts, cond-true, cond-false, lt-ltb, le-ltb, eqb-true}
-use Rattle.event_file.specs.Lines.{Line, is_newline, has_newline, first_line, ended_lines, begun_line, onto_first, lines_of, kept, extended, is_begun, is_answered, answered_lines, most_line_bytes}
+use Rattle.event_file.specs.Lines.{Line, is_newline, has_newline, first_line, ended_lines, begun_line, onto_first, lines_of, kept, extended, is_answered, answered_lines, most_line_bytes}
 
 -- ---- the first newline
 

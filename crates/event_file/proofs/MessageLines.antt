@@ -1,12 +1,12 @@
 -- The lines of messages, written one after another.
-use Rattle.std.proofs.Common.{◌≡◌, ℕ, List, [], ◌∷◌, ◌++◌, Option, refl, sym, ap, ◌∙◌, append_assoc, append-nil}
+use Rattle.std.proofs.Common.{◌≡◌, ℕ, List, [], ◌∷◌, ◌++◌, Option, sym, ap, ◌∙◌, append_assoc, append-nil}
 use Rattle.std.proofs.lemmas.Grind.{flat_map-append}
 use Rattle.std.specs.Prelude.{flat_map}
 use Rattle.event_file.specs.Answers.{message_line}
 use Rattle.event_file.specs.Counts.{Counts}
 use Rattle.event_file.specs.Output.{Wrote, WroteFront}
 use Rattle.route_core.specs.Received.{cut, AreMessages}
-use Rattle.event_file.proofs.Fronts.{Wrote-nil, Wrote-then, WroteFront-then, WroteFront-more}
+use Rattle.event_file.proofs.Fronts.{Wrote-then, WroteFront-then, WroteFront-more}
 
 abbrev pub lines : List (List ℕ) → List ℕ
 lines messages = flat_map message_line messages
