@@ -55,6 +55,7 @@ pub mod PlugLists
 pub mod Plugs
 pub mod RemovedOnly
 pub mod RemovedRooms
+pub mod RoomCounts
 pub mod RoomReads
 pub mod RoomWrites
 pub mod Scans

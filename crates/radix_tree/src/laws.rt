@@ -1,6 +1,7 @@
 //! Laws of the table: each function does nothing, and its contract is the law.
 
-ghost use Rattle.radix_tree.specs.Table.{IsTable};
+ghost use Rattle.std.specs.Prelude.{◌≡◌, ◌≤◌, ℕ, length};
+ghost use Rattle.radix_tree.specs.Table.{IsTable, uses};
 ghost use Rattle.radix_tree.specs.TableLaws.{PrecedesInWords, PrecedesOneWay, PrecedesTransitively, PrecedesOrSame, MembersStand, MembersAreRoutes, EntryAtIsMember, FirstOfIsMember, BestIsMember, FirstIsGreatest, BestIsGreatest, BestIsUnique, NoneAgrees, WithIsTable, WithoutIsTable, WithStands, WithKeepsOthers, WithoutLeavesNone, WithoutKeepsOthers, MembersOfWith, MembersOfWithout, WithCounts, WithoutCounts, WithThenWithout, WithoutThenWith, WithTwiceIsLast, BestStays, BestIsGreater, BestStaysWithout};
 
 use crate::routes::Table;
@@ -8,6 +9,16 @@ use crate::routes::Table;
 /// What a table holds is in table order, no pair twice, and each key is an address with no bit past its rank.
 pub fn is_table<V>(table: &Table<V>)
     ensures { IsTable table.now.entries }
+{
+    // What holds of a table is known once a field of it is looked at.
+    let _ = &table.root;
+}
+
+/// A table uses one room for each of its routes: as many numbers of rooms are in use as it has entries, and no number
+/// stands among them twice.
+pub fn one_room_a_route<V>(table: &Table<V>)
+    ensures as_many { length table.now.numbers ≡ length table.now.entries }
+    ensures once { (n : ℕ) → uses n table.now.numbers ≤ 1 }
 {
     // What holds of a table is known once a field of it is looked at.
     let _ = &table.root;

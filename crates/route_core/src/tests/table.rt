@@ -67,5 +67,6 @@ fn each_call_once(rt: HostRuntime) -> Result<(), Fail> {
     assert_eq!(rt; table.remove(NET, Rank::host()), Some(33));
     assert_eq!(rt; table.remove(NET, Rank::host()), None);
     laws::is_table(&table);
+    laws::one_room_a_route(&table);
     Ok(())
 }

@@ -1,0 +1,104 @@
+-- A table has as many rooms as routes.
+--     equally_long      two lists in which each number stands equally often
+--     rooms_as_routes   as many rooms of a map as routes that it shows
+--     rooms_once        no room's number twice
+use Rattle.std.proofs.Common.{◌≡◌, ℕ, ◌+◌, ◌≤◌, ◌==◌, Bool, true, false, cond, nat_eq, List, [], ◌∷◌, ◌++◌, length, map, Option, Some, None, is_some, refl, sym, ap, ◌∙◌, arith}
+use Rattle.std.proofs.lemmas.Bool.{eqb-true}
+use Rattle.std.proofs.lemmas.List.{length-append, length-map}
+use Rattle.std.proofs.lemmas.List.Sums.{sum_by-cons, sum_by-append}
+use Rattle.std.specs.Ordering.{nat_cmp}
+use Rattle.std.specs.FinMap.{FinMap, get, keys}
+use Rattle.radix_nodes.specs.Rooms.{Seen}
+use Rattle.radix_nodes.specs.declared.links.Node.{Node}
+use Rattle.radix_tree.specs.Table.{uses}
+use Rattle.radix_tree.specs.Tree.{Placed, Tree, leaf, fork, routes_of}
+use Rattle.radix_tree.specs.Rooms.{LeafPart}
+use Rattle.radix_tree.specs.Whole.{one_if, members_at, leaves_at, shown, Holds}
+use Rattle.radix_tree.specs.declared.entry.Entry.{Entry}
+use Rattle.radix_tree.proofs.PartRooms.{one_if_same}
+use Rattle.radix_tree.proofs.Numbers.{uses_keys, uses_leaves}
+use Rattle.radix_tree.proofs.Showing.{shown_is}
+
+one_if_cond : (b : Bool) → cond b 1 0 ≡ one_if b
+one_if_cond true = refl
+one_if_cond false = refl
+
+one_if_most : (b : Bool) → one_if b ≤ 1
+one_if_most true = omega arith
+one_if_most false = omega arith
+
+uses_cons : (n k : ℕ) (ks : List ℕ) → uses n (k ∷ ks) ≡ one_if (k == n) + uses n ks
+uses_cons n k ks = sum_by-cons (λ j. cond (nat_eq j n) 1 0) k ks ∙ ap (λ (u : ℕ). u + uses n ks) (one_if_cond (k == n))
+
+uses_append : (n : ℕ) (js ks : List ℕ) → uses n (js ++ ks) ≡ uses n js + uses n ks
+uses_append n js ks = sum_by-append (λ j. cond (nat_eq j n) 1 0) js ks
+
+-- ---- lists in which each number stands equally often
+-- a list of numbers, and without one of them
+record Without (k : ℕ) (ks : List ℕ) : Type 0 where
+  others : List ℕ
+  longer : length ks ≡ length others + 1
+  more : (n : ℕ) → uses n ks ≡ one_if (k == n) + uses n others
+
+take_out : (k : ℕ) (ks : List ℕ) → 1 ≤ uses k ks → Without k ks
+take_out k [] some = absurd (omega (arith, some))
+take_out k (j ∷ js) some =
+    elim (j == k) as (λ b. (j == k) ≡ b → Without k (j ∷ js)) [
+      | true ↦ λ is. record {
+        others = js;
+        longer = omega arith;
+        more = λ n. uses_cons n j js ∙ ap (λ (i : ℕ). one_if (i == n) + uses n js) (eqb-true j k is);
+      }
+      | false ↦ λ is.
+          let not_here : one_if (j == k) ≡ 0 = ap (λ (b : Bool). one_if b) is in
+          let behind = take_out k js (omega (arith, some, uses_cons k j js, not_here)) in
+          let longer : length js ≡ length behind.others + 1 = behind.longer in
+          record {
+            others = j ∷ behind.others;
+            longer = omega (arith, longer);
+            more = λ n. omega (arith, uses_cons n j js, uses_cons n j behind.others, behind.more n);
+          }
+    ] refl
+
+pub equally_long : (js ks : List ℕ) → ((n : ℕ) → uses n js ≡ uses n ks) → length js ≡ length ks
+equally_long [] [] same = refl
+equally_long [] (k ∷ ks) same = absurd (omega (arith, same k, uses_cons k k ks, one_if_same k))
+equally_long (j ∷ js) ks same =
+    let out = take_out j ks (omega (arith, same j, uses_cons j j js, one_if_same j)) in
+    let behind : length js ≡ length out.others = equally_long js out.others (λ n. omega (arith, same n, uses_cons n j js, out.more n)) in
+    omega (arith, behind, out.longer)
+
+module _ {V : Type 0} where
+  -- ---- the rooms of a tree, from left to right
+  abbrev numbers_in : List (Placed V) → List ℕ
+  numbers_in c = map (λ (p : Placed V). p.room.number) c
+
+  abbrev numbers_of : Tree V → List ℕ
+  numbers_of (leaf x xs) = numbers_in (x ∷ xs)
+  numbers_of (fork room b left right) = numbers_of left ++ numbers_of right
+
+  uses_chain : (n : ℕ) (c : List (Placed V)) → uses n (numbers_in c) ≡ members_at n c
+  uses_chain n [] = refl
+  uses_chain n (x ∷ c) = uses_cons n x.room.number (numbers_in c) ∙ ap (λ (u : ℕ). one_if (x.room.number == n) + u) (uses_chain n c)
+
+  uses_tree : (n : ℕ) (t : Tree V) → uses n (numbers_of t) ≡ leaves_at n t
+  uses_tree n (leaf x xs) = uses_chain n (x ∷ xs)
+  uses_tree n (fork room b left right) =
+      omega (arith, uses_append n (numbers_of left) (numbers_of right), uses_tree n left, uses_tree n right)
+
+  one_each : (t : Tree V) → length (numbers_of t) ≡ length (routes_of t)
+  one_each (leaf x xs) = length-map (x ∷ xs) (λ (p : Placed V). p.room.number) ∙ sym (length-map (x ∷ xs) (λ (p : Placed V). p.entry))
+  one_each (fork room b left right) =
+      omega (arith, length-append (numbers_of left) (numbers_of right), length-append (routes_of left) (routes_of right), one_each left, one_each right)
+
+  -- ---- the rooms of a map
+  pub rooms_as_routes : (m : FinMap nat_cmp (Seen V)) (root : Option Node) → Holds m root → length (keys m) ≡ length (shown m root)
+  rooms_as_routes m None none =
+      equally_long (keys m) [] (λ n. uses_leaves m n ∙ ap (λ (o : Option (LeafPart V)). one_if (is_some o)) (none n))
+  rooms_as_routes m (Some root) w =
+      equally_long (keys m) (numbers_of w.part.tree) (λ n. uses_leaves m n ∙ sym (w.leaves n) ∙ sym (uses_tree n w.part.tree))
+      ∙ one_each w.part.tree
+      ∙ ap (λ (es : List (Entry V)). length es) (sym (shown_is m root w))
+
+  pub rooms_once : (m : FinMap nat_cmp (Seen V)) (n : ℕ) → uses n (keys m) ≤ 1
+  rooms_once m n = omega (arith, uses_keys m n, one_if_most (is_some (get m n)))
