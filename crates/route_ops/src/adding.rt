@@ -4,7 +4,7 @@ ghost use Rattle.std.specs.Result.{result_err};
 ghost use Rattle.if_addrs.specs.Interfaces.{IsOf};
 ghost use Rattle.mask_table.specs.Agreeing.{masked as masked_by};
 ghost use Rattle.route_ops.specs.Adding.{add, add_fault, asked_rank, ifa_for, new_entry as entry_of};
-ghost use Rattle.route_ops.specs.Spares.{FitsSpare};
+ghost use Rattle.route_ops.specs.Spares.{FitsSpare, KeepsRooms};
 ghost use Rattle.route_ops.specs.Standing.{AreOf, KeepsRoutes};
 
 use crate::looking::settle_gateway;
@@ -140,9 +140,11 @@ pub fn request_add(
         ≡ Ok (record { route = a.route; table = table.new.entries; messages = a.messages.items }))
         (λ e. add asked.now interfaces.now table.old.entries ≡ Err e) }
     ensures kept { OnErr result (table.new.entries ≡ table.old.entries) }
+    ensures rooms { OnErr result (KeepsRooms table.old table.new) }
     ensures few { IfOk result (λ a. length a.messages.items ≤ 1) }
     ensures keeps { KeepsRoutes table.old.entries table.new.entries }
     ensures of { AreOf interfaces.now table.new.entries }
+    ensures next { table.new.next ≡ table.old.next }
     ensures fits { FitsSpare table.new spare.new }
     ensures used { length spare.old ≤ length spare.new + 2 }
 {

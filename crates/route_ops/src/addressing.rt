@@ -3,6 +3,7 @@ ghost use Rattle.std.specs.Prelude.{◌≡◌, IfSome, IfNone};
 ghost use Rattle.mask_table.specs.Agreeing.{masked as masked_by};
 ghost use Rattle.radix_tree.specs.Table.{without};
 ghost use Rattle.route_ops.specs.Addressing.{address_entry, address_flags, address_key, address_rank, is_anothers, withdrawn};
+ghost use Rattle.route_ops.specs.Spares.{KeepsFree, KeepsRooms};
 ghost use Rattle.route_ops.specs.Standing.{KeepsAreOf};
 
 use crate::reading::{best_route, first_route, route_at};
@@ -79,6 +80,8 @@ pub fn withdraw_route(
     ensures withdrawn { result ≡ withdrawn ifa address facts.now table.old.entries }
     ensures without { IfSome result (λ r. table.new.entries ≡ without r.key r.rank table.old.entries) }
     ensures kept { IfNone result (table.new.entries ≡ table.old.entries) }
+    ensures rooms { IfNone result (KeepsRooms table.old table.new) }
+    ensures free { KeepsFree table.old table.new }
     ensures of { KeepsAreOf table.old.entries table.new.entries }
 {
     let mut visits = table.begin();

@@ -4,7 +4,7 @@ ghost use Rattle.if_addrs.specs.Interfaces.{IsOf};
 ghost use Rattle.radix_tree.specs.Table.{with_entry};
 ghost use Rattle.radix_tree.specs.TableLaws.{StandsIn};
 ghost use Rattle.route_ops.specs.Changing.{sought as sought_by, change, changed as changed_by, ifa_asked, lock, settle_written as settled_by, target as target_of};
-ghost use Rattle.route_ops.specs.Spares.{FitsSpare};
+ghost use Rattle.route_ops.specs.Spares.{FitsSpare, KeepsRooms};
 ghost use Rattle.route_ops.specs.Standing.{AreOf, KeepsAreOf};
 
 use crate::adding::Added;
@@ -73,6 +73,7 @@ pub fn request_lock(
     ensures lock { result ≡ lock destination netmask inits locks table.old.entries }
     ensures table { IfOk result (λ r. table.new.entries ≡ with_entry r table.old.entries) }
     ensures kept { OnErr result (table.new.entries ≡ table.old.entries) }
+    ensures rooms { KeepsRooms table.old table.new }
     ensures of { KeepsAreOf table.old.entries table.new.entries }
 {
     let mut visits = table.begin();
@@ -162,8 +163,10 @@ pub fn request_change(
         ≡ Ok (record { route = a.route; table = table.new.entries; messages = a.messages.items }))
         (λ e. change asked.now interfaces.now table.old.entries ≡ Err e) }
     ensures kept { OnErr result (table.new.entries ≡ table.old.entries) }
+    ensures rooms { OnErr result (KeepsRooms table.old table.new) }
     ensures few { IfOk result (λ a. length a.messages.items ≤ 1) }
     ensures of { AreOf interfaces.now table.new.entries }
+    ensures next { table.new.next ≡ table.old.next }
     ensures fits { FitsSpare table.new spare.new }
     ensures used { length spare.old ≤ length spare.new + 1 }
 {
@@ -190,6 +193,7 @@ fn settle_written(
     ensures messages { result.items ≡ (settled_by written route.now table.old.entries).messages }
     ensures few { length result.items ≤ 1 }
     ensures of { KeepsAreOf table.old.entries table.new.entries }
+    ensures next { table.new.next ≡ table.old.next }
     ensures fits { FitsSpare table.new spare.new }
     ensures used { length spare.old ≤ length spare.new + 1 }
 {

@@ -3,6 +3,7 @@ ghost use Rattle.std.specs.Prelude.{◌≡◌, MatchResult, IfOk, OnErr, Some, N
 ghost use Rattle.radix_tree.specs.Table.{without};
 ghost use Rattle.radix_tree.specs.TableLaws.{StandsIn};
 ghost use Rattle.route_ops.specs.Deleting.{doomed as doomed_by, got};
+ghost use Rattle.route_ops.specs.Spares.{KeepsFree, KeepsRooms};
 ghost use Rattle.route_ops.specs.Standing.{HasIfaOf, KeepsAreOf};
 
 use crate::reading::{best_route, first_route, route_at};
@@ -43,6 +44,8 @@ pub fn request_delete(
         (λ e. (doomed_by key netmask flags table.old.entries ≡ None) × (e ≡ Errno.ESRCH)) }
     ensures without { IfOk result (λ r. table.new.entries ≡ without r.key r.rank table.old.entries) }
     ensures kept { OnErr result (table.new.entries ≡ table.old.entries) }
+    ensures rooms { OnErr result (KeepsRooms table.old table.new) }
+    ensures free { KeepsFree table.old table.new }
     ensures of { KeepsAreOf table.old.entries table.new.entries }
 {
     let mut visits = table.begin();

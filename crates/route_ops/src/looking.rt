@@ -4,7 +4,7 @@ ghost use Rattle.sock_addrs.specs.declared.gate.Gate.TheVariants as gate;
 ghost use Rattle.radix_tree.specs.Table.{with_entry};
 ghost use Rattle.radix_tree.specs.TableLaws.{StandsIn};
 ghost use Rattle.route_ops.specs.Looks.{resolved, found, answer_of, known, with_clone, told_of as told, settle, settle_found as settled, look};
-ghost use Rattle.route_ops.specs.Spares.{FitsSpare};
+ghost use Rattle.route_ops.specs.Spares.{FitsSpare, KeepsRooms};
 ghost use Rattle.route_ops.specs.Standing.{HasIfaOf, KeepsAreOf, KeepsAreOfWith, KeepsRoutes};
 
 use crate::notice::Notice;
@@ -83,9 +83,11 @@ pub fn resolve(
     ensures clone { result ≡ resolved address parent.now table.old.entries }
     ensures added { IfOk result (λ clone. table.new.entries ≡ with_entry clone table.old.entries) }
     ensures kept { OnErr result (table.new.entries ≡ table.old.entries) }
+    ensures rooms { OnErr result (KeepsRooms table.old table.new) }
     ensures stands { IfOk result (λ clone. StandsIn table.new.entries clone) }
     ensures keeps { KeepsRoutes table.old.entries table.new.entries }
     ensures of { KeepsAreOfWith parent.now.ifa table.old.entries table.new.entries }
+    ensures next { table.new.next ≡ table.old.next }
     ensures fits { FitsSpare table.new spare.new }
     ensures used { length spare.old ≤ length spare.new + 1 }
 {
@@ -105,6 +107,7 @@ fn find(table: &mut Table<Route>, spare: &mut Spare, about: Gate) -> Found
     ensures stands { IfSome (answer_of result) (λ r. StandsIn table.new.entries r) }
     ensures keeps { KeepsRoutes table.old.entries table.new.entries }
     ensures of { KeepsAreOf table.old.entries table.new.entries }
+    ensures next { table.new.next ≡ table.old.next }
     ensures fits { FitsSpare table.new spare.new }
     ensures used { length spare.old ≤ length spare.new + 1 }
 {
@@ -162,6 +165,7 @@ pub fn settle_gateway(
     ensures few { length result.items ≤ 1 }
     ensures keeps { KeepsRoutes table.old.entries table.new.entries }
     ensures of { KeepsAreOf table.old.entries table.new.entries }
+    ensures next { table.new.next ≡ table.old.next }
     ensures fits { FitsSpare table.new spare.new }
     ensures used { length spare.old ≤ length spare.new + 1 }
 {
@@ -187,6 +191,7 @@ fn settle_found(
     ensures few { length result.items ≤ (if deep then 1 else 0) }
     ensures keeps { KeepsRoutes table.old.entries table.new.entries }
     ensures of { KeepsAreOf table.old.entries table.new.entries }
+    ensures next { table.new.next ≡ table.old.next }
     ensures fits { FitsSpare table.new spare.new }
     ensures used { length spare.old ≤ length spare.new + (if deep then 1 else 0) }
 {
@@ -208,6 +213,7 @@ pub fn look_up(table: &mut Table<Route>, spare: &mut Spare, about: Gate, deep: b
     ensures ifa { IfSome result.answer (λ r. HasIfaOf table.old.entries r) }
     ensures keeps { KeepsRoutes table.old.entries table.new.entries }
     ensures of { KeepsAreOf table.old.entries table.new.entries }
+    ensures next { table.new.next ≡ table.old.next }
     ensures fits { FitsSpare table.new spare.new }
     ensures used { length spare.old ≤ length spare.new + (if deep then 2 else 1) }
 {

@@ -6,7 +6,7 @@ ghost use Rattle.radix_tree.specs.Table.{with_entry};
 ghost use Rattle.radix_tree.specs.TableLaws.{StandsIn};
 ghost use Rattle.radix_tree.specs.Lending.{with_value};
 ghost use Rattle.route_ops.specs.Looks.{pair_fault};
-ghost use Rattle.route_ops.specs.Spares.{FitsSpare};
+ghost use Rattle.route_ops.specs.Spares.{FitsSpare, KeepsRooms};
 ghost use Rattle.route_ops.specs.Standing.{KeepsAreOfWith, KeepsRoutes};
 
 use crate::spare::Spare;
@@ -26,9 +26,11 @@ pub(crate) fn place(
     ensures there { result_err result ≡ pair_fault route.now table.old.entries }
     ensures added { OnOk result (table.new.entries ≡ with_entry route.now table.old.entries) }
     ensures kept { OnErr result (table.new.entries ≡ table.old.entries) }
+    ensures rooms { OnErr result (KeepsRooms table.old table.new) }
     ensures stands { OnOk result (StandsIn table.new.entries route.now) }
     ensures keeps { KeepsRoutes table.old.entries table.new.entries }
     ensures of { KeepsAreOfWith route.now.value.ifa table.old.entries table.new.entries }
+    ensures next { table.new.next ≡ table.old.next }
     ensures fits { FitsSpare table.new spare.new }
     ensures used { length spare.old ≤ length spare.new + 1 }
 {

@@ -2,7 +2,7 @@
 ghost use Rattle.std.specs.Prelude.{◌≡◌, ◌+◌, ◌≤◌, length, ◌∷◌, ◌++◌, [], OnSome, Some};
 ghost use Rattle.route_ops.specs.Adding.{added as added_of};
 ghost use Rattle.route_ops.specs.Redirecting.{dynamic, is_of_another as is_of_another_by, match_modify, modified as modified_by, redirect as redirect_of, redirect_told, verdict as verdict_of, verdict_on};
-ghost use Rattle.route_ops.specs.Spares.{FitsSpare};
+ghost use Rattle.route_ops.specs.Spares.{FitsSpare, KeepsRooms};
 ghost use Rattle.radix_tree.specs.TableLaws.{StandsIn};
 ghost use Rattle.route_ops.specs.Standing.{AreOf, KeepsAreOf};
 
@@ -106,8 +106,10 @@ pub fn redirect(
     ensures redirect { redirect_of asked.now interfaces.now table.old.entries
         ≡ record { table = table.new.entries; messages = result.messages.items; errno = result.errno } }
     ensures kept { OnSome result.errno (table.new.entries ≡ table.old.entries) }
+    ensures rooms { OnSome result.errno (KeepsRooms table.old table.new) }
     ensures few { length result.messages.items ≤ 2 }
     ensures of { AreOf interfaces.now table.new.entries }
+    ensures next { table.new.next ≡ table.old.next }
     ensures fits { FitsSpare table.new spare.new }
     ensures used { length spare.old ≤ length spare.new + 2 }
 {
@@ -134,6 +136,7 @@ fn modify(table: &mut Table<Route>, spare: &mut Spare, old: Entry<Route>, gatewa
         ≡ record { route = result.route; table = table.new.entries; messages = result.messages.items } }
     ensures few { length result.messages.items ≤ 1 }
     ensures of { KeepsAreOf table.old.entries table.new.entries }
+    ensures next { table.new.next ≡ table.old.next }
     ensures fits { FitsSpare table.new spare.new }
     ensures used { length spare.old ≤ length spare.new + 1 }
 {

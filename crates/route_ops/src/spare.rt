@@ -29,6 +29,8 @@ pub fn prepare(table: &mut Table<Route>) -> Result<Spare, AllocError>
     ensures two { IfOk result (λ spare. length spare ≡ 2) }
     ensures fits { IfOk result (λ spare. FitsSpare table.new spare) }
     ensures entries { table.new.entries ≡ table.old.entries }
+    ensures numbers { table.new.numbers ≡ table.old.numbers }
+    ensures next { table.old.next ≤ table.new.next }
 {
     let first = table.room()?;
     match table.room() {
