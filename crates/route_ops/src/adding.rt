@@ -141,6 +141,7 @@ pub fn request_add(
         (λ e. add asked.now interfaces.now table.old.entries ≡ Err e) }
     ensures kept { OnErr result (table.new.entries ≡ table.old.entries) }
     ensures rooms { OnErr result (KeepsRooms table.old table.new) }
+    ensures spare { OnErr result (spare.new ≡ spare.old) }
     ensures few { IfOk result (λ a. length a.messages.items ≤ 1) }
     ensures keeps { KeepsRoutes table.old.entries table.new.entries }
     ensures of { AreOf interfaces.now table.new.entries }

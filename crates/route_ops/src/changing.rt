@@ -164,6 +164,7 @@ pub fn request_change(
         (λ e. change asked.now interfaces.now table.old.entries ≡ Err e) }
     ensures kept { OnErr result (table.new.entries ≡ table.old.entries) }
     ensures rooms { OnErr result (KeepsRooms table.old table.new) }
+    ensures spare { OnErr result (spare.new ≡ spare.old) }
     ensures few { IfOk result (λ a. length a.messages.items ≤ 1) }
     ensures of { AreOf interfaces.now table.new.entries }
     ensures next { table.new.next ≡ table.old.next }

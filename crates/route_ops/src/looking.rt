@@ -84,6 +84,7 @@ pub fn resolve(
     ensures added { IfOk result (λ clone. table.new.entries ≡ with_entry clone table.old.entries) }
     ensures kept { OnErr result (table.new.entries ≡ table.old.entries) }
     ensures rooms { OnErr result (KeepsRooms table.old table.new) }
+    ensures spare { OnErr result (spare.new ≡ spare.old) }
     ensures stands { IfOk result (λ clone. StandsIn table.new.entries clone) }
     ensures keeps { KeepsRoutes table.old.entries table.new.entries }
     ensures of { KeepsAreOfWith parent.now.ifa table.old.entries table.new.entries }

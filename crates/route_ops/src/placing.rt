@@ -27,6 +27,7 @@ pub(crate) fn place(
     ensures added { OnOk result (table.new.entries ≡ with_entry route.now table.old.entries) }
     ensures kept { OnErr result (table.new.entries ≡ table.old.entries) }
     ensures rooms { OnErr result (KeepsRooms table.old table.new) }
+    ensures spare { OnErr result (spare.new ≡ spare.old) }
     ensures stands { OnOk result (StandsIn table.new.entries route.now) }
     ensures keeps { KeepsRoutes table.old.entries table.new.entries }
     ensures of { KeepsAreOfWith route.now.value.ifa table.old.entries table.new.entries }
@@ -37,7 +38,7 @@ pub(crate) fn place(
     match table.add(spare.take(), route.key, route.rank, route.value) {
         Ok(()) => Ok(()),
         Err((room, _)) => {
-            table.give_back(room);
+            spare.put_back(room);
             Err(Errno::EEXIST)
         }
     }

@@ -107,6 +107,7 @@ pub fn redirect(
         ≡ record { table = table.new.entries; messages = result.messages.items; errno = result.errno } }
     ensures kept { OnSome result.errno (table.new.entries ≡ table.old.entries) }
     ensures rooms { OnSome result.errno (KeepsRooms table.old table.new) }
+    ensures spare { OnSome result.errno (spare.new ≡ spare.old) }
     ensures few { length result.messages.items ≤ 2 }
     ensures of { AreOf interfaces.now table.new.entries }
     ensures next { table.new.next ≡ table.old.next }

@@ -63,11 +63,25 @@ impl Spare {
     /// Takes one of the rooms out.
     pub(crate) fn take(&mut self) -> Room<Route>
         requires { 1 ≤ length self.old }
-        ensures { self.old ≡ result ∷ self.new }
+        ensures taken { self.old ≡ result ∷ self.new }
+        ensures left { length self.new ≤ 1 }
     {
         match self.first.take() {
             Some(room) => room,
             None => self.second.take().unwrap(),
+        }
+    }
+
+    /// Puts a room back that was taken out, in front of the one that is left.
+    pub(crate) fn put_back(&mut self, room: Room<Route>)
+        requires { length self.old ≤ 1 }
+        ensures { self.new ≡ room ∷ self.old }
+    {
+        if let Some(other) = self.first.replace(room) {
+            match self.second.replace(other) {
+                None => {}
+                Some(_) => unreachable!(),
+            }
         }
     }
 }

@@ -5,7 +5,7 @@ use Rattle.route_ops.proofs.placing.place.Goals as goal
 
 pub returns-in-Ok-clause-fits : goal.returns-in-Ok-clause-fits
 returns-in-Ok-clause-fits c =
-    fits_after c.args.table.now c.add.new.self c.take.result c.args.spare.now c.take.new.self c.requires.fits c.take.ensures c.add.ensures.next c.in-Ok.ensures.numbers
+    fits_after c.args.table.now c.add.new.self c.take.result c.args.spare.now c.take.new.self c.requires.fits c.take.ensures.taken c.add.ensures.next c.in-Ok.ensures.numbers
 
 pub returns-in-Ok-clause-stands : goal.returns-in-Ok-clause-stands
 returns-in-Ok-clause-stands c = added_stands c.args.route.now c.args.table.now.entries c.add.new.self.entries c.in-Ok.ensures.ok
