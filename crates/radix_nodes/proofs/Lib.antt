@@ -3,4 +3,6 @@ pub mod Cells
 mod Memory
 mod Nested
 mod RoomLemmas
+mod RoomRows
+mod Rows
 mod Sharing

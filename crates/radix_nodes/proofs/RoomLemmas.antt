@@ -1,30 +1,23 @@
--- What contracts see of the blocks, and of the names that are noted.
+-- What contracts see of the blocks.
 --     get_seen, seen_put, seen_gone, seen_none      the map that is seen, after each change of the blocks
 --     Has_at, seen_is, links_put, value_put         a room that is there
---     noted_set, noted_front, noted_last            the names that are noted after a change
---     vacated, taken_by, past_end                  where that may be
---     noted_lodged, noted_evicted, noted_fewer      each is still that of a lodged room
---     last_there, front_noted, last_taken           and where the last one is taken away
-use Rattle.std.proofs.Common.{◌≡◌, ℕ, zero, suc, ◌+◌, ◌<◌, ◌≤◌, ◌==◌, Bool, true, false, cond, if◌then◌else◌, List, [], ◌∷◌, ◌++◌, length, Option, Some, None, option_map, map as each, slice_set, ◌⊎◌, inl, inr, refl, sym, ap, ◌∙◌, subst, arith}
-use Rattle.std.proofs.lemmas.Bool.{eqb-true, ne_eqb}
+use Rattle.std.proofs.Common.{◌≡◌, ℕ, ◌+◌, ◌<◌, ◌≤◌, ◌==◌, Bool, true, false, cond, if◌then◌else◌, List, [], ◌∷◌, Option, Some, None, option_map, map as each, refl, sym, ap, ◌∙◌, subst, arith}
+use Rattle.std.proofs.lemmas.Bool.{eqb-true}
 use Rattle.std.proofs.lemmas.Cmp.{nat_cmp_total}
 use Rattle.std.specs.Ordering.{nat_cmp, eq_by_cmp}
 use Rattle.std.specs.FinMap.{FinMap, get, insert, remove, empty, entries, find, get-entries, get-empty, get-from_entries}
 use denote.RawPtr.{Ptr}
 use Rattle.radix_nodes.specs.At.{IsAt}
 use Rattle.radix_nodes.specs.Rooms.{Rooms, Seen, Has, seen_of, seen_all, put_room, put_links, put_value, AreMade}
-use Rattle.radix_nodes.specs.Slots.{noted, noted_in, NotesNoMore, AreNoted}
 use Rattle.radix_nodes.specs.declared.id.Id.{Id}
 use Rattle.radix_nodes.specs.declared.links.Links.{Links}
 use Rattle.radix_nodes.specs.declared.room.Full.{Full}
-use Rattle.radix_nodes.specs.declared.slots.Slot.{Slot}
-use Rattle.radix_nodes.specs.declared.slots.Slot.TheVariants.{Lodged}
-use Rattle.radix_nodes.proofs.Cells.{get_put, get_gone, same, same_number}
+use Rattle.radix_nodes.proofs.Cells.{get_put, get_gone, same}
 
-inside : {A : Type 0} {x y : A} → Some x ≡ Some y → x ≡ y
+pub inside : {A : Type 0} {x y : A} → Some x ≡ Some y → x ≡ y
 inside e = cc
 
-none_some : {A : Type 0} {x : A} → None ≡ Some x → ⊥
+pub none_some : {A : Type 0} {x : A} → None ≡ Some x → ⊥
 none_some e = cc
 
 module _ {V : Type 0} where
@@ -54,7 +47,7 @@ module _ {V : Type 0} where
   pub seen_none : seen_all empty ≡ empty {X = Seen V} {R = nat_cmp}
   seen_none = same _ _ (λ q. get_seen empty q ∙ ap (option_map seen_of) (get-empty nat_cmp q) ∙ sym (get-empty nat_cmp q))
 
-  mapped_some : (o : Option (Ptr × Full V)) (s : Seen V) → option_map seen_of o ≡ Some s → (c : Ptr × Full V) × (o ≡ Some c) × (seen_of c ≡ s)
+  pub mapped_some : (o : Option (Ptr × Full V)) (s : Seen V) → option_map seen_of o ≡ Some s → (c : Ptr × Full V) × (o ≡ Some c) × (seen_of c ≡ s)
   mapped_some None s e = absurd (none_some e)
   mapped_some (Some c) s e = (c, refl, inside e)
 
@@ -119,110 +112,13 @@ module _ {V : Type 0} where
   pub made_later : (last : ℕ) (m : FinMap nat_cmp (Ptr × Full V)) → AreMade last m → AreMade (last + 1) m
   made_later last m h k c at = let low : k ≤ last = h k c at in omega arith
 
--- ---- the names that are noted
-zero_suc : {A : Type 0} (k : ℕ) → zero ≡ suc k → A
-zero_suc k e = absurd (omega (arith, e))
-
-less : (j k : ℕ) → suc j ≡ suc k → j ≡ k
-less j k e = omega (arith, e)
-
-after_one : {A B : Type 0} (j k : ℕ) → ((j ≡ k) × A) ⊎ ((j ≡ k → ⊥) × B) → ((suc j ≡ suc k) × A) ⊎ ((suc j ≡ suc k → ⊥) × B)
-after_one j k (inl h) = inl (ap suc h.0, h.1)
-after_one j k (inr h) = inr (λ e. h.0 (less j k e), h.1)
-
--- a place that was written, and the others
-pub noted_set : (ss : List Slot) (k : ℕ) (x : Slot) (j : ℕ) (id : Id) → noted (slice_set ss k x) j ≡ Some id
-    → ((j ≡ k) × (noted_in (Some x) ≡ Some id)) ⊎ ((j ≡ k → ⊥) × (noted ss j ≡ Some id))
-noted_set [] k x j id h = inr (λ e. none_some h, h)
-noted_set (s ∷ ss) zero x zero id h = inl (refl, h)
-noted_set (s ∷ ss) zero x (suc j) id h = inr (λ e. zero_suc j (sym e), h)
-noted_set (s ∷ ss) (suc k) x zero id h = inr (λ e. zero_suc k e, h)
-noted_set (s ∷ ss) (suc k) x (suc j) id h = after_one j k (noted_set ss k x j id h)
-
--- no name is noted past the end
-pub noted_within : (ss : List Slot) (j : ℕ) (id : Id) → noted ss j ≡ Some id → j < length ss
-noted_within [] j id h = absurd (none_some h)
-noted_within (s ∷ ss) zero id h = omega arith
-noted_within (s ∷ ss) (suc j) id h = let low : j < length ss = noted_within ss j id h in omega arith
-
-pub noted_front : (ss : List Slot) (x : Slot) (j : ℕ) (id : Id) → noted ss j ≡ Some id → noted (ss ++ x ∷ []) j ≡ Some id
-noted_front [] x j id h = absurd (none_some h)
-noted_front (s ∷ ss) x zero id h = h
-noted_front (s ∷ ss) x (suc j) id h = noted_front ss x j id h
-
-pub noted_last : (ss : List Slot) (x : Slot) → noted (ss ++ x ∷ []) (length ss) ≡ noted_in (Some x)
-noted_last [] x = refl
-noted_last (s ∷ ss) x = noted_last ss x
-
--- a place that is no longer a room's, and one that has become one's
-pub vacated : (ss : List Slot) (k : ℕ) (x : Slot) → noted_in (Some x) ≡ None → (j : ℕ) (id : Id) → noted (slice_set ss k x) j ≡ Some id → (j ≡ k → ⊥) × (noted ss j ≡ Some id)
-vacated ss k x none j id h = vacated_by ss k x none j id (noted_set ss k x j id h)
-  where
-    vacated_by : (ss : List Slot) (k : ℕ) (x : Slot) → noted_in (Some x) ≡ None → (j : ℕ) (id : Id) → ((j ≡ k) × (noted_in (Some x) ≡ Some id)) ⊎ ((j ≡ k → ⊥) × (noted ss j ≡ Some id))
-        → (j ≡ k → ⊥) × (noted ss j ≡ Some id)
-    vacated_by ss k x none j id (inl e) = absurd (none_some (sym none ∙ e.1))
-    vacated_by ss k x none j id (inr e) = e
-
-pub taken_by : (ss : List Slot) (k : ℕ) (new : Id) (j : ℕ) (id : Id) → noted (slice_set ss k (Lodged new)) j ≡ Some id → ((j ≡ k) × (id ≡ new)) ⊎ (noted ss j ≡ Some id)
-taken_by ss k new j id h = taken ss k new j id (noted_set ss k (Lodged new) j id h)
-  where
-    taken : (ss : List Slot) (k : ℕ) (new : Id) (j : ℕ) (id : Id) → ((j ≡ k) × (Some new ≡ Some id)) ⊎ ((j ≡ k → ⊥) × (noted ss j ≡ Some id)) → ((j ≡ k) × (id ≡ new)) ⊎ (noted ss j ≡ Some id)
-    taken ss k new j id (inl e) = inl (e.0, sym (inside e.1))
-    taken ss k new j id (inr e) = inr e.1
-
-pub past_end : (ss : List Slot) (k : ℕ) → length ss ≤ k → (j : ℕ) (id : Id) → noted ss j ≡ Some id → (j ≡ k → ⊥) × (noted ss j ≡ Some id)
-past_end ss k past j id h = let low : j < length ss = noted_within ss j id h in (λ e. absurd (omega (arith, e, low, past)), h)
-
-module _ {V : Type 0} where
-  lodged_case : (ss : List Slot) (m : FinMap nat_cmp (Ptr × Full V)) (id : Id) (x : Full V) → get m id.number ≡ None → AreNoted ss m
-      → (j : ℕ) (i : Id) → ((j ≡ x.slot) × (i ≡ id)) ⊎ (noted ss j ≡ Some i) → (full : Full V) × (get (insert m id.number (id.block, x)) i.number ≡ Some (i.block, full)) × (full.slot ≡ j)
-  lodged_case ss m id x free h j i (inl e) = (
-    x,
-    ap (λ (n : Id). get (insert m id.number (id.block, x)) n.number) e.1 ∙ get_put m id.number (id.block, x) id.number
-        ∙ ap (λ (b : Bool). if b then Some (id.block, x) else get m id.number) (same_number id.number) ∙ ap (λ (n : Id). Some (n.block, x)) (sym e.1),
-    sym e.0,
-  )
-  lodged_case ss m id x free h j i (inr at) = let found = h j i at in (
-    found.0,
-    get_put m id.number (id.block, x) i.number
-        ∙ ap (λ (b : Bool). if b then Some (id.block, x) else get m i.number) (ne_eqb i.number id.number (λ e. none_some (sym free ∙ ap (get m) (sym e) ∙ found.1))) ∙ found.1,
-    found.2,
-  )
-
-  -- each name is still that of a lodged room, once a room is lodged
-  pub noted_lodged : (ss ts : List Slot) (m : FinMap nat_cmp (Ptr × Full V)) (id : Id) (x : Full V) → get m id.number ≡ None → AreNoted ss m
-      → ((j : ℕ) (i : Id) → noted ts j ≡ Some i → ((j ≡ x.slot) × (i ≡ id)) ⊎ (noted ss j ≡ Some i)) → AreNoted ts (insert m id.number (id.block, x))
-  noted_lodged ss ts m id x free h which j i at = lodged_case ss m id x free h j i (which j i at)
-
-  -- and once one is taken out
-  pub noted_evicted : (ss ts : List Slot) (m : FinMap nat_cmp (Ptr × Full V)) (n : ℕ) (p : Ptr) (x : Full V) → get m n ≡ Some (p, x) → AreNoted ss m
-      → ((j : ℕ) (i : Id) → noted ts j ≡ Some i → (j ≡ x.slot → ⊥) × (noted ss j ≡ Some i)) → AreNoted ts (remove m n)
-  noted_evicted ss ts m n p x at h which j i is = let old = which j i is in let found = h j i old.1 in (
-    found.0,
-    get_gone m n i.number ∙ ap (λ (b : Bool). if b then None else get m i.number) (ne_eqb i.number n (λ e.
-        old.0 (sym found.2 ∙ ap (λ (c : Ptr × Full V). c.1.slot) (inside (sym found.1 ∙ ap (get m) e ∙ at))))) ∙ found.1,
-    found.2,
-  )
-
-  pub noted_fewer : (ss ts : List Slot) (m : FinMap nat_cmp (Ptr × Full V)) → NotesNoMore ss ts → AreNoted ss m → AreNoted ts m
-  noted_fewer ss ts m fewer h j i at = h j i (fewer j i at)
-
-  -- another value or other links stand in a room
-  pub noted_put : (ss : List Slot) (m : FinMap nat_cmp (Ptr × Full V)) (n : ℕ) (p : Ptr) (x y : Full V) → get m n ≡ Some (p, x) → y.slot ≡ x.slot → AreNoted ss m → AreNoted ss (insert m n (p, y))
-  noted_put ss m n p x y at slot h j i is = let found = h j i is in
-      elim (i.number == n) as (λ b. (i.number == n) ≡ b → (full : Full V) × (get (insert m n (p, y)) i.number ≡ Some (i.block, full)) × (full.slot ≡ j)) [
-        | true ↦ λ e. let same = inside (sym found.1 ∙ ap (get m) (eqb-true i.number n e) ∙ at) in (
-          y,
-          get_put m n (p, y) i.number ∙ ap (λ (b : Bool). if b then Some (p, y) else get m i.number) e ∙ ap (λ (q : Ptr). Some (q, y)) (sym (ap (λ (c : Ptr × Full V). c.0) same)),
-          slot ∙ ap (λ (c : Ptr × Full V). c.1.slot) (sym same) ∙ found.2,
-        )
-        | false ↦ λ e. (found.0, get_put m n (p, y) i.number ∙ ap (λ (b : Bool). if b then Some (p, y) else get m i.number) e ∙ found.1, found.2)
-      ] refl
-
 -- ---- the value of `Nodes`, after each change of its blocks
 module _ {V : Type 0} where
   abbrev pub view : FinMap nat_cmp (Ptr × Full V) → ℕ → ℕ → Rooms V
   view m last turn = record { lodged = seen_all m; next = last + 1; turn = turn }
+
+  pub view_seen : (m n : FinMap nat_cmp (Ptr × Full V)) (last turn : ℕ) → seen_all n ≡ seen_all m → view n last turn ≡ view m last turn
+  view_seen m n last turn e = ap (λ (l : FinMap nat_cmp (Seen V)). record { lodged = l; next = last + 1; turn = turn }) e
 
   pub view_put : (m : FinMap nat_cmp (Ptr × Full V)) (last turn : ℕ) (r : Rooms V) (id : Id) (x : Full V) (links : Links) → view m last turn ≡ r → get m id.number ≡ Some (id.block, x)
       → view (insert m id.number (id.block, record x { links = links })) last turn ≡ record r { lodged = put_links r.lodged id links }
@@ -256,9 +152,6 @@ module _ {V : Type 0} where
   view_new m turn nought e = ap (λ (m : FinMap nat_cmp (Ptr × Full V)). view m 0 turn) e
       ∙ ap (λ (l : FinMap nat_cmp (Seen V)). record { lodged = l; next = 1; turn = turn }) seen_none ∙ ap (λ (t : ℕ). record { lodged = empty; next = 1; turn = t }) nought
 
-  pub nothing_noted : (ss : List Slot) (m : FinMap nat_cmp (Ptr × Full V)) → ss ≡ [] → AreNoted ss m
-  nothing_noted ss m e k id h = absurd (none_some (sym (ap (λ (ss : List Slot). noted ss k) e) ∙ h))
-
   pub nothing_made : (m : FinMap nat_cmp (Ptr × Full V)) → m ≡ empty → AreMade 0 m
   nothing_made m e k c at = absurd (none_some (sym (get-empty nat_cmp k) ∙ sym (ap (λ (m : FinMap nat_cmp (Ptr × Full V)). get m k) e) ∙ at))
 
@@ -275,22 +168,3 @@ module _ {V : Type 0} where
 
   pub low_is : (m : FinMap nat_cmp (Ptr × Full V)) (last turn : ℕ) (r : Rooms V) (n k : ℕ) → view m last turn ≡ r → n ≡ k → k < r.next → n ≤ last
   low_is m last turn r n k e is low = let next : last + 1 ≡ r.next = ap (λ (r : Rooms V). r.next) e in omega (arith, next, is, low)
-
--- ---- the last of the names is taken away
-last_noted : (ss ts : List Slot) (x : Slot) (id : Id) → ss ≡ ts ++ x ∷ [] → x ≡ Lodged id → noted ss (length ts) ≡ Some id
-last_noted ss ts x id e is = ap (λ (s : List Slot). noted s (length ts)) e ∙ noted_last ts x ∙ ap (λ (y : Slot). noted_in (Some y)) is
-
-module _ {V : Type 0} where
-  pub last_there : (ss ts : List Slot) (x : Slot) (id : Id) (m : FinMap nat_cmp (Ptr × Full V)) → ss ≡ ts ++ x ∷ [] → x ≡ Lodged id → AreNoted ss m → IsAt m id.number id.block
-  last_there ss ts x id m e is h = let found = h (length ts) id (last_noted ss ts x id e is) in record { value = found.0; at = found.1 }
-
-  pub front_noted : (ss ts : List Slot) (x : Slot) (m : FinMap nat_cmp (Ptr × Full V)) → ss ≡ ts ++ x ∷ [] → AreNoted ss m → AreNoted ts m
-  front_noted ss ts x m e h = noted_fewer ss ts m (λ j i at. ap (λ (s : List Slot). noted s j) e ∙ noted_front ts x j i at) h
-
-  pub last_taken : (ss ts : List Slot) (x : Slot) (id : Id) (m n : FinMap nat_cmp (Ptr × Full V)) (full : Full V) → ss ≡ ts ++ x ∷ [] → x ≡ Lodged id → AreNoted ss m
-      → (get m id.number ≡ Some (id.block, full)) × (n ≡ remove m id.number) → AreNoted ts n
-  last_taken ss ts x id m n full e is h took =
-      let found = h (length ts) id (last_noted ss ts x id e is) in
-      let there : full.slot ≡ length ts = ap (λ (c : Ptr × Full V). c.1.slot) (inside (sym took.0 ∙ found.1)) ∙ found.2 in
-      subst (λ (k : FinMap nat_cmp (Ptr × Full V)). AreNoted ts k) (sym took.1)
-      (noted_evicted ts ts m id.number id.block full took.0 (front_noted ss ts x m e h) (λ j i at. let low : j < length ts = noted_within ts j i at in (λ same. absurd (omega (arith, low, there, same)), at)))

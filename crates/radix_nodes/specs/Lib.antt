@@ -7,4 +7,4 @@ pub mod LendingValue
 pub mod Links
 pub mod Owning
 pub mod Rooms
-pub mod Slots
+pub mod Row

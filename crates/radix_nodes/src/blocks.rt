@@ -14,8 +14,7 @@ use std::marker::{Model, PhantomData};
 use std_alloc::room::Vacant;
 
 /// The blocks that hold a value each, by the numbers of their rooms. It has no bytes: whoever reads or writes a block
-/// has its room's name. Its drop frees none of them: who drops it has taken them out.
-#[derive(Drop)]
+/// has its room's name. It can't be dropped: `end` lets it go once all blocks are taken out.
 pub(crate) struct Blocks<T> {
     mark: PhantomData<*mut T>,
     ghost cells: { FinMap nat_cmp (Ptr × T) } by { code coded_ℕ (coded× coded_ptr T.code) },
@@ -35,6 +34,13 @@ impl<T> Blocks<T> {
         ensures { result.cells ≡ empty }
     {
         Blocks { mark: PhantomData }
+    }
+
+    /// Lets go of no block.
+    pub(crate) fn end(self)
+        requires { self.cells ≡ empty }
+    {
+        let Blocks { mark: _ } = self;
     }
 
     /// Writes a value into an empty block, which is held from now on under this number.

@@ -7,7 +7,7 @@ mod links;
 mod nodes;
 mod reading;
 mod room;
-mod slots;
+mod row;
 mod visits;
 mod writing;
 

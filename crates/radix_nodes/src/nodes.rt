@@ -3,8 +3,8 @@ ghost use Rattle.std.specs.Prelude.{◌≡◌, ◌+◌};
 ghost use Rattle.std.specs.FinMap.{empty};
 
 use crate::blocks::Blocks;
+use crate::id::Id;
 use crate::room::Full;
-use crate::slots::Slot;
 use crate::visits::{Number, Visits};
 use std::alloc::Global;
 use std::marker::Model;
@@ -17,16 +17,16 @@ pub struct Nodes<V> {
     /// The number of the last room that was made, or 0.
     pub(crate) last: u64,
     pub(crate) turn: Number,
-    pub(crate) slots: Vec<Slot>,
-    /// The first free one of the slots.
-    pub(crate) free: usize,
+    /// The room that was lodged last, of those in the map. It leads to all others.
+    pub(crate) newest: Option<Id>,
     pub(crate) blocks: Blocks<Full<V>>,
 }
 
 impl<V> Model for Nodes<V> {
     ghost use Rattle.std.specs.Prelude.{◌+◌};
     ghost use Rattle.radix_nodes.specs.Rooms.{Rooms, rooms_code, seen_all, AreMade};
-    ghost use Rattle.radix_nodes.specs.Slots.{AreNoted};
+    ghost use Rattle.radix_nodes.specs.Row.{AreRow};
+    ghost use Rattle.std.specs.Prelude.{None};
 
     ghost Value = { Rooms V };
 
@@ -34,7 +34,7 @@ impl<V> Model for Nodes<V> {
 
     ghost view = { λ n. record { lodged = seen_all n.blocks.cells; next = n.last + 1; turn = n.turn } };
 
-    ghost invariant = { λ n. AreNoted n.slots.items n.blocks.cells × AreMade n.last n.blocks.cells };
+    ghost invariant = { λ n. AreRow n.blocks.cells None n.newest × AreMade n.last n.blocks.cells };
 }
 
 impl<V> Nodes<V> {
@@ -46,8 +46,7 @@ impl<V> Nodes<V> {
             alloc,
             last: 0,
             turn: Number::zero(),
-            slots: Vec::new(alloc),
-            free: 0,
+            newest: None,
             blocks: Blocks::new(),
         }
     }
@@ -69,22 +68,23 @@ impl<V: Drop> Drop for Nodes<V> {
             alloc,
             last: _,
             turn: _,
-            slots,
-            free: _,
+            newest,
             blocks,
         } = self;
-        let mut slots = slots;
+        let mut newest = newest;
         let mut blocks = blocks;
-        while let Some(slot) = slots.pop() {
-            if let Slot::Lodged(id) = slot {
-                let (full, space) = blocks.take(id, alloc);
-                let Full {
-                    slot: _,
-                    links: _,
-                    value: _,
-                } = full;
-                let _ = space.free();
-            }
+        while let Some(id) = newest {
+            let (full, space) = blocks.take(id, alloc);
+            let Full {
+                links: _,
+                newer: _,
+                older,
+                value: _,
+            } = full;
+            // What it answers is the allocator, which has no bytes.
+            let _ = space.free();
+            newest = older;
         }
+        blocks.end();
     }
 }

@@ -1,4 +1,5 @@
 //! A room in which nothing stands, and what stands in the block of one that is lodged.
+use crate::id::Id;
 use crate::links::Links;
 use std::alloc::Global;
 use std::marker::Model;
@@ -6,9 +7,11 @@ use std_alloc::room::Vacant;
 
 /// What stands in the block of a lodged room.
 pub(crate) struct Full<V> {
-    /// The place at which the room's name is noted.
-    pub(crate) slot: usize,
     pub(crate) links: Links,
+    /// Of the rooms in the map, the one that was lodged after this one. The last one has none.
+    pub(crate) newer: Option<Id>,
+    /// Of the rooms in the map, the one that was lodged before this one.
+    pub(crate) older: Option<Id>,
     pub(crate) value: V,
 }
 
@@ -16,7 +19,6 @@ pub(crate) struct Full<V> {
 /// dropped. A contract sees its number.
 pub struct Room<V> {
     pub(crate) number: u64,
-    pub(crate) slot: usize,
     pub(crate) space: Vacant<Full<V>, Global>,
 }
 

@@ -9,7 +9,7 @@ use crate::id::Id;
 use crate::links::Links;
 use crate::nodes::Nodes;
 use crate::room::{Full, Room};
-use crate::slots::{self, Slot};
+use crate::row::{name_newer, name_older, newest_without};
 use std::alloc::AllocError;
 use std_alloc::room::Vacant;
 
@@ -28,14 +28,9 @@ impl<V> Nodes<V> {
         let Ok(space) = Vacant::take(self.alloc) else {
             return Err(AllocError);
         };
-        let Ok(slot) = slots::reserve(&mut self.slots, &mut self.free) else {
-            let _ = space.free();
-            return Err(AllocError);
-        };
         self.last += 1;
         Ok(Room {
             number: self.last,
-            slot,
             space,
         })
     }
@@ -48,16 +43,16 @@ impl<V> Nodes<V> {
         ensures lodged { (blank : _) × IsBlank blank
             × (self.new ≡ record self.old { lodged = put_room self.old.lodged result value blank }) }
     {
-        let Room {
-            number,
-            slot,
-            space,
-        } = room;
-        let links = Links::blank();
-        let id = self.blocks.put(number, space, Full { slot, links, value });
-        if slot < self.slots.len() {
-            self.slots[slot] = Slot::Lodged(id);
-        }
+        let Room { number, space } = room;
+        let full = Full {
+            links: Links::blank(),
+            newer: None,
+            older: self.newest,
+            value,
+        };
+        let id = self.blocks.put(number, space, full);
+        name_newer(&mut self.blocks, self.newest, Some(id));
+        self.newest = Some(id);
         id
     }
 
@@ -70,16 +65,16 @@ impl<V> Nodes<V> {
     {
         let (full, space) = self.blocks.take(id, self.alloc);
         let Full {
-            slot,
             links: _,
+            newer,
+            older,
             value,
         } = full;
-        if slot < self.slots.len() {
-            self.slots[slot] = Slot::Made;
-        }
+        name_newer(&mut self.blocks, older, newer);
+        name_older(&mut self.blocks, newer, older);
+        self.newest = newest_without(newer, older, self.newest);
         let room = Room {
             number: id.number,
-            slot,
             space,
         };
         (room, value)
@@ -89,16 +84,9 @@ impl<V> Nodes<V> {
     pub fn scrap(&mut self, room: Room<V>)
         ensures { self.new ≡ self.old }
     {
-        let Room {
-            number: _,
-            slot,
-            space,
-        } = room;
+        let Room { number: _, space } = room;
+        // What it answers is the allocator, which has no bytes.
         let _ = space.free();
-        if slot < self.slots.len() {
-            self.slots[slot] = Slot::Free(self.free);
-            self.free = slot;
-        }
     }
 
     /// Writes the links of a room.

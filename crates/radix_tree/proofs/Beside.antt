@@ -12,7 +12,7 @@ use Rattle.radix_tree.specs.Tree.{Placed, Tree, leaf, fork, bit_at, HaveBit}
 use Rattle.radix_tree.specs.Rooms.{LeafPart, BitPart, Part, leaves_in, bits_in, name_of, Stands}
 use Rattle.radix_tree.specs.Searches.{Way}
 use Rattle.radix_tree.specs.Whole.{one_if, leaves_at, forks_at}
-use Rattle.radix_tree.specs.Growth.{turned, turn, root_after, AreOnce, IsPlace, IsSpot, IsBeside, forked_tree}
+use Rattle.radix_tree.specs.Growth.{with_child, name_child, root_after, AreOnce, IsPlace, IsSpot, IsBeside, forked_tree}
 use Rattle.radix_tree.specs.Exchange.{IsExchange, Exchanged}
 use Rattle.radix_tree.specs.Writes.{lift_leaf, lift_bit, leaf_above, bit_above}
 use Rattle.radix_tree.proofs.AddressBits.{zero_not_one, zero_or_one}
@@ -57,13 +57,13 @@ module _ {V : Type 0} where
 
   -- the bit node above a part is not in it
   pub not_above : (m : FinMap nat_cmp (Seen V)) (address : ℕ) (whole at : Part m) (ups : List (Part m)) → Way address whole at ups → whole.above ≡ None → AreOnce whole.tree → (to : Node) (n : ℕ) → 1 ≤ forks_at n at.tree
-      → turn at.above address to n (bits_in m n) ≡ bits_in m n
-  not_above m address whole at [] way top once to n some = ap (λ (o : Option Id). turn o address to n (bits_in m n)) (ap (λ (p : Part m). p.above) way ∙ top)
+      → name_child at.above address to n (bits_in m n) ≡ bits_in m n
+  not_above m address whole at [] way top once to n some = ap (λ (o : Option Id). name_child o address to n (bits_in m n)) (ap (λ (p : Part m). p.above) way ∙ top)
   not_above m address whole at (p ∷ ps) way top once to n some =
       let b = way.0 in
       let out : forks_at b.room.number at.tree ≡ 0 = (spine_out m address at p b (way_once m address whole p ps way.1 once)).0 in
-      ap (λ (o : Option Id). turn o address to n (bits_in m n)) b.above
-      ∙ ap (λ (t : Bool). if t then turned address to (bits_in m n) else bits_in m n)
+      ap (λ (o : Option Id). name_child o address to n (bits_in m n)) b.above
+      ∙ ap (λ (t : Bool). if t then with_child address to (bits_in m n) else bits_in m n)
       (ne_eqb n b.room.number (λ same. let is : forks_at n at.tree ≡ forks_at b.room.number at.tree = ap (λ (k : ℕ). forks_at k at.tree) same in absurd (omega arith)))
 
   -- the part beneath stands beneath the new bit node
@@ -74,7 +74,7 @@ module _ {V : Type 0} where
       (λ n some. b.leaves n (not_new m s.at x.room b.no_leaf n some) ∙ ap (λ (z : Node). lift_leaf z (Some x.room) n (leaves_in m n)) (sym s.named))
       (λ n some. b.bits n (not_new_bit m s.at x.room b.no_bit n some)
       ∙ ap (λ (said : Option BitPart). lift_bit below (Some x.room) n said)
-      (ap (λ (o : Option Id). turn o x.entry.key (BitOf x.room) n (bits_in m n)) (sym s.above_is) ∙ not_above m x.entry.key whole s.at s.ups s.way s.top s.once (BitOf x.room) n some)
+      (ap (λ (o : Option Id). name_child o x.entry.key (BitOf x.room) n (bits_in m n)) (sym s.above_is) ∙ not_above m x.entry.key whole s.at s.ups s.way s.top s.once (BitOf x.room) n some)
       ∙ ap (λ (z : Node). lift_bit z (Some x.room) n (bits_in m n)) (sym s.named))
       (way_once m x.entry.key whole s.at s.ups s.way s.once) s.at.stands
 
@@ -161,11 +161,11 @@ module _ {V : Type 0} where
       let e : leaves_at n s.at.tree ≡ leaves_at r.number s.at.tree = ap (λ (k : ℕ). leaves_at k s.at.tree) same in absurd (omega arith)) (Some x.room) (leaves_in m n)
 
   bit_stays : (m new : FinMap nat_cmp (Seen V)) (bit : ℕ) (x : Placed V) (whole : Part m) (above : Option Id) (below : Node) (s : IsSpot m x.entry.key bit whole above below) → IsBeside m new bit x above below
-      → (n : ℕ) → forks_at n s.at.tree ≡ 0 → 1 ≤ forks_at n whole.tree → bits_in new n ≡ turn above x.entry.key (BitOf x.room) n (bits_in m n)
+      → (n : ℕ) → forks_at n s.at.tree ≡ 0 → 1 ≤ forks_at n whole.tree → bits_in new n ≡ name_child above x.entry.key (BitOf x.room) n (bits_in m n)
   bit_stays m new bit x whole above below s b n out some =
       b.bits n (not_new_bit m whole x.room b.no_bit n some)
       ∙ misses_bit below n (λ r is same. let there : 1 ≤ forks_at r.number s.at.tree = named_bit s.at.tree r (s.named ∙ is) in
-      let e : forks_at n s.at.tree ≡ forks_at r.number s.at.tree = ap (λ (k : ℕ). forks_at k s.at.tree) same in absurd (omega arith)) (Some x.room) (turn above x.entry.key (BitOf x.room) n (bits_in m n))
+      let e : forks_at n s.at.tree ≡ forks_at r.number s.at.tree = ap (λ (k : ℕ). forks_at k s.at.tree) same in absurd (omega arith)) (Some x.room) (name_child above x.entry.key (BitOf x.room) n (bits_in m n))
 
   pub whole_forked : (m new : FinMap nat_cmp (Seen V)) (bit : ℕ) (x : Placed V) (whole : Part m) (above : Option Id) (below root : Node) (s : IsSpot m x.entry.key bit whole above below) → IsBeside m new bit x above below → IsRoute x.entry → name_of whole.tree ≡ root
       → (u : Part new) × (u.tree ≡ forked_tree bit x s.at.tree) × Exchanged m new x.entry.key whole s.at u (root_after above (BitOf x.room) root)
@@ -178,8 +178,8 @@ module _ {V : Type 0} where
         keys = λ c value before have. subst (HaveBit c value) (sym u.tree) (forked_keys bit s.at.low x s.at.tree s.place c value before have);
         leaves = leaf_stays m new bit x whole above below s b;
         bits = λ n none some. bit_stays m new bit x whole above below s b n none some
-            ∙ ap (λ (o : Option Id). turn o x.entry.key (BitOf x.room) n (bits_in m n)) (sym s.above_is)
-            ∙ ap (λ (z : Node). turn s.at.above x.entry.key z n (bits_in m n)) (sym name);
+            ∙ ap (λ (o : Option Id). name_child o x.entry.key (BitOf x.room) n (bits_in m n)) (sym s.above_is)
+            ∙ ap (λ (z : Node). name_child s.at.above x.entry.key z n (bits_in m n)) (sym name);
       } in (
         u.part,
         u.tree,

@@ -13,7 +13,7 @@ use Rattle.radix_tree.specs.Tree.{Placed, Tree, leaf, fork, bit_at, IsIn, IsTree
 use Rattle.radix_tree.specs.Rooms.{LeafPart, BitPart, MaskPart, Heads, Masks, Bits, Part, leaves_in, bits_in, heads_in, masks_in, leaf_part}
 use Rattle.radix_tree.specs.Searches.{Beneath, Way, LedTo}
 use Rattle.radix_tree.specs.Whole.{one_if, leaves_at, forks_at, HasHome, HaveOneFork, IsWhole, shown}
-use Rattle.radix_tree.specs.Growth.{turn, turned, with_head, forked_tree, Gains, IsPlace, IsSpot, IsBeside, IsNew, Differs}
+use Rattle.radix_tree.specs.Growth.{name_child, with_child, with_head, forked_tree, Gains, IsPlace, IsSpot, IsBeside, IsNew, Differs}
 use Rattle.radix_tree.specs.Exchange.{Exchanged}
 use Rattle.radix_tree.specs.MaskLists.{IsMasks, IsAside, past_bit, up_to_bit}
 use Rattle.radix_tree.specs.Marks.{IsMarked, IsMaskList, MarkedIn, MarkedLists, IsWholeBut, HasRoomMore, has_key, is_of_key, nobody_late, nobody_out}
@@ -30,7 +30,7 @@ use Rattle.radix_tree.proofs.LeafWays.{same_leaf}
 use Rattle.radix_tree.proofs.Cuts.{IsCut, cut_at}
 
 -- ---- what a room says stays something
-turned_some : (key : ℕ) (to : Node) (said : Option BitPart) → is_some (turned key to said) ≡ is_some said
+turned_some : (key : ℕ) (to : Node) (said : Option BitPart) → is_some (with_child key to said) ≡ is_some said
 turned_some key to None = refl
 turned_some key to (Some p) = refl
 
@@ -38,9 +38,9 @@ chosen : {A : Type 0} (test : Bool) (x y : Option A) → is_some x ≡ is_some y
 chosen true x y same = same
 chosen false x y same = refl
 
-turn_some : (above : Option Id) (key : ℕ) (to : Node) (n : ℕ) (said : Option BitPart) → is_some (turn above key to n said) ≡ is_some said
+turn_some : (above : Option Id) (key : ℕ) (to : Node) (n : ℕ) (said : Option BitPart) → is_some (name_child above key to n said) ≡ is_some said
 turn_some None key to n said = refl
-turn_some (Some up) key to n said = chosen (n == up.number) (turned key to said) said (turned_some key to said)
+turn_some (Some up) key to n said = chosen (n == up.number) (with_child key to said) said (turned_some key to said)
 
 bit_above_some : (above : Option Id) (said : Option BitPart) → is_some (bit_above above said) ≡ is_some said
 bit_above_some above None = refl
@@ -206,7 +206,7 @@ module _ {V : Type 0} where
 
   other_bit : (m mid new : FinMap nat_cmp (Seen V)) (low bit : ℕ) (t : Tree V) (x : Placed V) (above : Option Id) (below : Node) → Came m mid new low bit t x above below → (n : ℕ) → (n ≡ x.room.number → ⊥) → is_some (bits_in new n) ≡ is_some (bits_in m n)
   other_bit m mid new low bit t x above below c n other =
-      ap (λ (o : Option BitPart). is_some o) (c.beside.bits n other) ∙ lift_bit_some below (Some x.room) n (turn above x.entry.key (BitOf x.room) n (bits_in mid n)) ∙ turn_some above x.entry.key (BitOf x.room) n (bits_in mid n)
+      ap (λ (o : Option BitPart). is_some o) (c.beside.bits n other) ∙ lift_bit_some below (Some x.room) n (name_child above x.entry.key (BitOf x.room) n (bits_in mid n)) ∙ turn_some above x.entry.key (BitOf x.room) n (bits_in mid n)
       ∙ ap (λ (o : Option BitPart). is_some o) (c.cut.bits n)
 
   same_marks : (m mid new : FinMap nat_cmp (Seen V)) (low bit : ℕ) (t : Tree V) (x : Placed V) (above : Option Id) (below : Node) → Came m mid new low bit t x above below → (n : ℕ) → is_some (masks_in new n) ≡ is_some (masks_in m n)

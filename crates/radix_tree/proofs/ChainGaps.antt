@@ -12,7 +12,7 @@ use Rattle.radix_nodes.specs.declared.links.Leaf.{Leaf}
 use Rattle.radix_nodes.specs.declared.links.Links.{Links}
 use Rattle.radix_tree.specs.Tree.{Placed, IsAmong}
 use Rattle.radix_tree.specs.Rooms.{Leaves, Run, leaves_in, first_room, leaf_part, ChainStands}
-use Rattle.radix_tree.specs.Chains.{above_behind, last_room, ArePast, IsBelow, Passed, Gap}
+use Rattle.radix_tree.specs.Chains.{above_behind, last_room, ArePast, IsBelow, Passed, FindsGap}
 use Rattle.radix_tree.proofs.RoomReads.{none_some, AreLinks, Has-leaf, leaf_read}
 use Rattle.radix_tree.proofs.TreeMembers.{IsHead, head_of}
 use Rattle.radix_tree.proofs.Scans.{chain_most}
@@ -131,7 +131,7 @@ module _ {V : Type 0} where
 
   -- a member has the rank
   pub taken : (m : FinMap nat_cmp (Seen V)) (key rank : ℕ) (c : Run m) (above previous next : Option Id) (steps : ℕ) (at : Id) (links : Links) (l : Leaf) → Passed rank c above previous next steps → next ≡ Some at → AreLinks m at links → l ≡ leaf_of links
-      → l.rank ≡ rank → Gap key rank c None
+      → l.rank ≡ rank → FindsGap key rank c None
   taken m key rank c above previous next steps at links l p is are leaf same =
       let r = read_at m rank c above previous next steps at links l p is are leaf in
       let x = r.0 in (
@@ -141,7 +141,7 @@ module _ {V : Type 0} where
       )
 
   gap_of : (m : FinMap nat_cmp (Seen V)) (key rank : ℕ) (c : Run m) (above previous next : Option Id) (steps : ℕ) (p : Passed rank c above previous next steps) → IsBelow rank p.back
-      → Gap key rank c (Some (record { key = key; rank = rank; above = above; next = next; previous = previous }))
+      → FindsGap key rank c (Some (record { key = key; rank = rank; above = above; next = next; previous = previous }))
   gap_of m key rank c above previous next steps p below = record {
     front = p.front;
     back = p.back;
@@ -155,7 +155,7 @@ module _ {V : Type 0} where
 
   -- the first one of a smaller rank
   pub found : (m : FinMap nat_cmp (Seen V)) (key rank : ℕ) (c : Run m) (above previous next : Option Id) (steps : ℕ) (at : Id) (links : Links) (l : Leaf) → Passed rank c above previous next steps → next ≡ Some at → AreLinks m at links → l ≡ leaf_of links
-      → l.rank < rank → Gap key rank c (Some (record { key = key; rank = rank; above = above; next = next; previous = previous }))
+      → l.rank < rank → FindsGap key rank c (Some (record { key = key; rank = rank; above = above; next = next; previous = previous }))
   found m key rank c above previous next steps at links l p is are leaf lt =
       let r = read_at m rank c above previous next steps at links l p is are leaf in
       let x = r.0 in
@@ -169,5 +169,5 @@ module _ {V : Type 0} where
 
   -- the end of the chain
   pub ended : (m : FinMap nat_cmp (Seen V)) (key rank : ℕ) (c : Run m) (above previous next : Option Id) (steps : ℕ) → Passed rank c above previous next steps → next ≡ None
-      → Gap key rank c (Some (record { key = key; rank = rank; above = above; next = next; previous = previous }))
+      → FindsGap key rank c (Some (record { key = key; rank = rank; above = above; next = next; previous = previous }))
   ended m key rank c above previous next steps p is = gap_of m key rank c above previous next steps p (none_below rank p.back (sym p.next_is ∙ is))

@@ -14,10 +14,10 @@ use Rattle.radix_tree.specs.Tree.{Placed, Tree, leaf, IsIn, IsChain}
 use Rattle.radix_tree.specs.Rooms.{LeafPart, Part, Run, Leaves, leaves_in, bits_in, masks_in, name_of, first_room, leaf_part, ChainStands}
 use Rattle.radix_tree.specs.Searches.{Way, LedTo, ForkAt, HasPair}
 use Rattle.radix_tree.specs.Whole.{one_if, members_at, leaves_at, IsWhole, shown}
-use Rattle.radix_tree.specs.Growth.{turn, root_after, placed, Gains, AreOnce}
+use Rattle.radix_tree.specs.Growth.{name_child, root_after, placed, Gains, AreOnce}
 use Rattle.radix_tree.specs.Marks.{IsWholeBut, nobody_late, late_at, nobody_out}
 use Rattle.radix_tree.specs.Writes.{lodge_leaf, KeepsBits, KeepsHeads, KeepsMasks}
-use Rattle.radix_tree.specs.Chains.{leaf_next, leaf_back, name_next, name_back, link_in, above_behind, last_room, root_past, IsGap, Gap}
+use Rattle.radix_tree.specs.Chains.{leaf_next, leaf_back, name_next, name_back, link_in, above_behind, last_room, root_past, IsGap, FindsGap}
 use Rattle.radix_tree.specs.Removal.{Content, content_of}
 use Rattle.radix_tree.specs.declared.entry.Entry.{Entry}
 use Rattle.radix_tree.proofs.RoomReads.{inside, none_some, Has-leaf}
@@ -91,7 +91,7 @@ module _ {V : Type 0} where
     pub no_bit : bits_in m id.number ≡ None
     pub no_mask : masks_in m id.number ≡ None
     pub leaves : (n : ℕ) → leaves_in new n ≡ link_in id e.value l n (leaves_in m n)
-    pub bits : (n : ℕ) → bits_in new n ≡ turn l.above e.key (LeafOf id) n (bits_in m n)
+    pub bits : (n : ℕ) → bits_in new n ≡ name_child l.above e.key (LeafOf id) n (bits_in m n)
     pub heads : KeepsHeads m new
     pub masks : KeepsMasks m new
 
@@ -169,7 +169,7 @@ module _ {V : Type 0} where
         stands = linked_in (leaves_in m) (leaves_in new) d.part.above g.front g.back (placed id e) (subst (ChainStands (leaves_in m) d.part.above None) g.is c.stands) wr.free once
             (λ n. wr.leaves n ∙ ap (λ (z : Leaf). link_in id e.value z n (leaves_in m n)) g.leaf);
         leaves = λ n none some. in_others (leaves_in m) (leaves_in new) g.front g.back id e.value l n (ap (λ (z : Leaf). z.next) g.leaf) (ap (λ (z : Leaf). z.previous) g.leaf) (wr.leaves n) (not_new m w.part id wr.free n some) none;
-        bits = λ n. wr.bits n ∙ ap (λ (z : Leaf). turn z.above e.key (LeafOf id) n (bits_in m n)) g.leaf
+        bits = λ n. wr.bits n ∙ ap (λ (z : Leaf). name_child z.above e.key (LeafOf id) n (bits_in m n)) g.leaf
             ∙ place_bits m e.key w.part d.part d.ups g.front g.back (placed id e) d.way w.top (front_named d.part.tree d.leaf.first d.leaf.rest g.front g.back d.leaf.is g.is) n;
         heads = wr.heads;
         masks = wr.masks;
@@ -195,7 +195,7 @@ module _ {V : Type 0} where
       (grown_routes m new root e.key (whole_but m root w) d.part d.ups g.front g.back (placed id e) d.way (in_chain m new e id first root w d l g same route wr))
 
   -- ---- a member has the rank
-  pub taken_there : (m : FinMap nat_cmp (Seen V)) (key rank : ℕ) (root : Node) (first : Id) (w v : IsWhole m root) (d : LedTo key w.part first) → d.leaf.first.entry.key ≡ key → Gap key rank (chain_of m key w.part first d) None
+  pub taken_there : (m : FinMap nat_cmp (Seen V)) (key rank : ℕ) (root : Node) (first : Id) (w v : IsWhole m root) (d : LedTo key w.part first) → d.leaf.first.entry.key ≡ key → FindsGap key rank (chain_of m key w.part first d) None
       → (x : Placed V) × IsIn x v.part.tree × HasPair key rank x
   taken_there m key rank root first w v d same g =
       let x = g.0 in

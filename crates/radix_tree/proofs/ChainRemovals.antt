@@ -15,7 +15,7 @@ use Rattle.radix_tree.specs.Tree.{Placed, leaf, IsAmong, IsIn, IsChain, IsTree}
 use Rattle.radix_tree.specs.Rooms.{LeafPart, BitPart, Part, leaves_in, bits_in, masks_in, name_of, first_room, leaf_part, ChainStands, Stands}
 use Rattle.radix_tree.specs.Searches.{Way, ForkAt}
 use Rattle.radix_tree.specs.Whole.{one_if, members_at, leaves_at, HaveOneFork, HasOneFork, shown, shown_entry}
-use Rattle.radix_tree.specs.Growth.{turn, root_after, Gains}
+use Rattle.radix_tree.specs.Growth.{name_child, root_after, Gains}
 use Rattle.radix_tree.specs.Marks.{IsWholeBut, is_of_key, has_key, nobody_late, late_at, nobody_out, out_at}
 use Rattle.radix_tree.specs.Removal.{Content, content_of, KeepsRoutes}
 use Rattle.radix_tree.specs.Writes.{KeepsHeads, KeepsMasks}
@@ -124,11 +124,11 @@ module _ {V : Type 0} where
   -- the chain that is left, and who names it
   pub record IsLeft (m new : FinMap nat_cmp (Seen V)) (key : ℕ) (whole at : Part m) (front back : List (Placed V)) (name : Node) : Type 0 where
     pub cons : IsCons (front ++ back)
-    pub bits : (n : ℕ) → bits_in new n ≡ turn at.above key (LeafOf cons.first.room) n (bits_in m n)
+    pub bits : (n : ℕ) → bits_in new n ≡ name_child at.above key (LeafOf cons.first.room) n (bits_in m n)
     pub named : root_after at.above (LeafOf cons.first.room) (name_of whole.tree) ≡ name
 
   pub left_renamed : (m new : FinMap nat_cmp (Seen V)) (root : Node) (late : ℕ → Bool) (w : IsWholeBut m root late nobody_out) (n : ℕ) (p : LeafPart V) (b : IsMember m w.part n p) (to : Id) (name : Node) → p.leaf.next ≡ Some to
-      → ((k : ℕ) → bits_in new k ≡ turn p.leaf.above p.leaf.key (LeafOf to) k (bits_in m k)) → name ≡ root_past p.leaf.previous p.leaf.above (LeafOf to) root → IsLeft m new b.x.entry.key w.part b.part b.front b.back name
+      → ((k : ℕ) → bits_in new k ≡ name_child p.leaf.above p.leaf.key (LeafOf to) k (bits_in m k)) → name ≡ root_past p.leaf.previous p.leaf.above (LeafOf to) root → IsLeft m new b.x.entry.key w.part b.part b.front b.back name
   left_renamed m new root late w n p b to name next bits named =
       let h = head_of b.back to (sym (ap (λ (q : LeafPart V). q.leaf.next) b.part_is) ∙ next) in
       let c = cons_at b.front h.behind h.first in
@@ -136,8 +136,8 @@ module _ {V : Type 0} where
       record {
         cons = record { first = (cons_at b.front h.behind h.first).first; rest = (cons_at b.front h.behind h.first).rest; is = ap (λ (ms : List (Placed V)). b.front ++ ms) h.is ∙ (cons_at b.front h.behind h.first).is };
         bits = λ k. bits k
-            ∙ ap (λ (q : LeafPart V). turn q.leaf.above q.leaf.key (LeafOf to) k (bits_in m k)) b.part_is
-            ∙ ap (λ (i : Id). turn (above_behind b.part.above b.front) b.x.entry.key (LeafOf i) k (bits_in m k)) (sym h.room_is)
+            ∙ ap (λ (q : LeafPart V). name_child q.leaf.above q.leaf.key (LeafOf to) k (bits_in m k)) b.part_is
+            ∙ ap (λ (i : Id). name_child (above_behind b.part.above b.front) b.x.entry.key (LeafOf i) k (bits_in m k)) (sym h.room_is)
             ∙ place_bits m b.x.entry.key w.part b.part b.ups b.front h.behind h.first b.way w.top front_is k;
         named = sym (named
             ∙ ap (λ (q : LeafPart V). root_past q.leaf.previous q.leaf.above (LeafOf to) root) b.part_is
@@ -152,7 +152,7 @@ module _ {V : Type 0} where
   kept_at m new root key whole at ups [] back way top named front_is some bits = absurd (some refl)
   kept_at m new root key whole at ups (f ∷ front) back way top named front_is some bits = record {
     cons = record { first = f; rest = front ++ back; is = refl };
-    bits = λ k. bits k ∙ sym (ap (λ (z : Node). turn at.above key z k (bits_in m k)) (sym front_is) ∙ turn_same m key whole at ups way top k);
+    bits = λ k. bits k ∙ sym (ap (λ (z : Node). name_child at.above key z k (bits_in m k)) (sym front_is) ∙ turn_same m key whole at ups way top k);
     named = ap (λ (z : Node). root_after at.above z (name_of whole.tree)) (sym front_is) ∙ root_same m key whole at ups way top ∙ named;
   }
 

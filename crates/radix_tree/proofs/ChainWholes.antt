@@ -12,7 +12,7 @@ use Rattle.radix_tree.specs.Tree.{Placed, Tree, leaf, bit_at, HaveBit, IsAmong, 
 use Rattle.radix_tree.specs.Rooms.{LeafPart, BitPart, MaskPart, Part, leaves_in, bits_in, masks_in, name_of, ChainStands}
 use Rattle.radix_tree.specs.Searches.{Way}
 use Rattle.radix_tree.specs.Whole.{one_if, members_at, leaves_at, forks_at, HasHome, HasOneFork, HaveOneFork, shown}
-use Rattle.radix_tree.specs.Growth.{turn, turned, root_after, Gains}
+use Rattle.radix_tree.specs.Growth.{name_child, with_child, root_after, Gains}
 use Rattle.radix_tree.specs.Exchange.{IsExchange, Exchanged}
 use Rattle.radix_tree.specs.Marks.{IsMarked, IsWholeBut, nobody_late, late_at, nobody_out, out_at}
 use Rattle.radix_tree.specs.Writes.{KeepsHeads, KeepsMasks}
@@ -24,15 +24,15 @@ use Rattle.radix_tree.proofs.WholeChanges.{Fits, Spliced, once_but, spare_change
 use Rattle.radix_tree.proofs.ChainLists.{IsCons, cons_at, map_entries, members_more, member_counts, among_more, among_own, among_less, one_fork_less, one_fork_more, one_fork_same, routes_more}
 
 -- ---- the bit node above
-turned_some : (key : ℕ) (to : Node) (said : Option BitPart) → is_some (turned key to said) ≡ is_some said
+turned_some : (key : ℕ) (to : Node) (said : Option BitPart) → is_some (with_child key to said) ≡ is_some said
 turned_some key to None = refl
 turned_some key to (Some p) = refl
 
 -- a bit node that names another node is a bit node as before
-pub turn_some : (above : Option Id) (key n : ℕ) (to : Node) (said : Option BitPart) → is_some (turn above key to n said) ≡ is_some said
+pub turn_some : (above : Option Id) (key n : ℕ) (to : Node) (said : Option BitPart) → is_some (name_child above key to n said) ≡ is_some said
 turn_some None key n to said = refl
 turn_some (Some up) key n to said =
-    elim (n == up.number) as (λ t. is_some (if t then turned key to said else said) ≡ is_some said) [
+    elim (n == up.number) as (λ t. is_some (if t then with_child key to said else said) ≡ is_some said) [
       | true ↦ turned_some key to said
       | false ↦ refl
     ]
@@ -66,13 +66,13 @@ turned_about a n =
 
 module _ {V : Type 0} where
   -- to name the part above as before changes nothing
-  pub turn_same : (m : FinMap nat_cmp (Seen V)) (key : ℕ) (whole at : Part m) (ups : List (Part m)) → Way key whole at ups → whole.above ≡ None → (n : ℕ) → turn at.above key (name_of at.tree) n (bits_in m n) ≡ bits_in m n
-  turn_same m key whole at [] way top n = ap (λ (o : Option Id). turn o key (name_of at.tree) n (bits_in m n)) (ap (λ (p : Part m). p.above) way ∙ top)
+  pub turn_same : (m : FinMap nat_cmp (Seen V)) (key : ℕ) (whole at : Part m) (ups : List (Part m)) → Way key whole at ups → whole.above ≡ None → (n : ℕ) → name_child at.above key (name_of at.tree) n (bits_in m n) ≡ bits_in m n
+  turn_same m key whole at [] way top n = ap (λ (o : Option Id). name_child o key (name_of at.tree) n (bits_in m n)) (ap (λ (p : Part m). p.above) way ∙ top)
   turn_same m key whole at (p ∷ ps) way top n =
       let b = way.0 in
-      ap (λ (o : Option Id). turn o key (name_of at.tree) n (bits_in m n)) b.above
-      ∙ elim (n == b.room.number) as (λ t. (n == b.room.number) ≡ t → (if t then turned key (name_of at.tree) (bits_in m n) else bits_in m n) ≡ bits_in m n) [
-        | true ↦ λ e. ap (λ (k : ℕ). turned key (name_of at.tree) (bits_in m k)) (eqb-true n b.room.number e) ∙ sym (same_turned m key at p (name_of at.tree) b refl) ∙ ap (λ (k : ℕ). bits_in m k) (sym (eqb-true n b.room.number e))
+      ap (λ (o : Option Id). name_child o key (name_of at.tree) n (bits_in m n)) b.above
+      ∙ elim (n == b.room.number) as (λ t. (n == b.room.number) ≡ t → (if t then with_child key (name_of at.tree) (bits_in m n) else bits_in m n) ≡ bits_in m n) [
+        | true ↦ λ e. ap (λ (k : ℕ). with_child key (name_of at.tree) (bits_in m k)) (eqb-true n b.room.number e) ∙ sym (same_turned m key at p (name_of at.tree) b refl) ∙ ap (λ (k : ℕ). bits_in m k) (sym (eqb-true n b.room.number e))
         | false ↦ λ e. refl
       ] refl
 
@@ -95,10 +95,10 @@ module _ {V : Type 0} where
 
   -- the member behind a place is named above where it is the first
   pub place_bits : (m : FinMap nat_cmp (Seen V)) (key : ℕ) (whole at : Part m) (ups : List (Part m)) (front back : List (Placed V)) (x : Placed V) → Way key whole at ups → whole.above ≡ None → FrontNamed front (name_of at.tree) → (n : ℕ)
-      → turn (above_behind at.above front) key (LeafOf x.room) n (bits_in m n) ≡ turn at.above key (LeafOf (cons_at front back x).first.room) n (bits_in m n)
+      → name_child (above_behind at.above front) key (LeafOf x.room) n (bits_in m n) ≡ name_child at.above key (LeafOf (cons_at front back x).first.room) n (bits_in m n)
   place_bits m key whole at ups [] back x way top named n = refl
   place_bits m key whole at ups (f ∷ front) back x way top named n =
-      sym (ap (λ (z : Node). turn at.above key z n (bits_in m n)) (sym named) ∙ turn_same m key whole at ups way top n)
+      sym (ap (λ (z : Node). name_child at.above key z n (bits_in m n)) (sym named) ∙ turn_same m key whole at ups way top n)
 
   past_root : (r : Id) (front : List (Placed V)) (above : Option Id) (to root : Node) → root_past (last_room (Some r) front) above to root ≡ root
   past_root r [] above to root = refl
@@ -120,7 +120,7 @@ module _ {V : Type 0} where
     pub chain : IsChain cons.first.entry.key 34 now
     pub stands : ChainStands (leaves_in new) at.above None now
     pub leaves : (n : ℕ) → members_at n old ≡ 0 → 1 ≤ leaves_at n whole.tree → leaves_in new n ≡ leaves_in m n
-    pub bits : (n : ℕ) → bits_in new n ≡ turn at.above key (LeafOf cons.first.room) n (bits_in m n)
+    pub bits : (n : ℕ) → bits_in new n ≡ name_child at.above key (LeafOf cons.first.room) n (bits_in m n)
     pub heads : KeepsHeads m new
     pub masks : KeepsMasks m new
 

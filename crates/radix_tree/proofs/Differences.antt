@@ -1,32 +1,31 @@
 -- The first bit at which two keys differ.
-use Rattle.std.proofs.Common.{◌≡◌, ℕ, suc, ◌+◌, ◌-◌, ◌^◌, ◌/◌, ◌<◌, ◌≤◌, sym, ap, ◌∙◌, subst, arith}
+use Rattle.std.proofs.Common.{◌≡◌, ℕ, zero, suc, ◌+◌, ◌*◌, ◌-◌, ◌^◌, ◌/◌, ◌<◌, ◌≤◌, sym, ap, ◌∙◌, subst, refl, arith}
+use Rattle.std.proofs.Math.Nat.{div-eq_of_lt, lt-div-mul-add}
+use Rattle.std.proofs.lemmas.Nat.{and_le_l, and_le_r, leading_top, pow_pos, xor_lt, xor_shr}
+use Rattle.std.specs.Int.Bits.{bit_xor, xor_add_and, xor_self}
+use Rattle.std.specs.Int.Count.{count_leading_zeros, leading_of_zero}
 use Rattle.mask_table.specs.Agreeing.{front}
 use Rattle.mask_table.proofs.Agreeing.{front_suc, bit_of_front}
 use Rattle.radix_tree.specs.Tree.{bit_at}
 use Rattle.radix_tree.specs.Growth.{Differs}
 
--- none of a key's first bits are the same as none of another's
-pub same_at_first : (x y : ℕ) → x < 2 ^ 32 → y < 2 ^ 32 → front 0 x ≡ front 0 y
-same_at_first x y fits_x fits_y = omega (arith, fits_x, fits_y)
+-- numbers that differ in no bit are the same
+same_numbers : (x y : ℕ) → bit_xor x y ≡ 0 → x ≡ y
+same_numbers x y none = omega (arith, none, xor_add_and x y, and_le_l x y, and_le_r x y)
 
--- all of them are the key
-pub same_numbers : (b x y : ℕ) → 32 ≤ b → b ≤ 32 → front b x ≡ front b y → x ≡ y
-same_numbers b x y least most same =
-    let all : b ≡ 32 = omega arith in let e : front 32 x ≡ front 32 y = subst (λ (n : ℕ). front n x ≡ front n y) all same in omega (arith, e)
+-- their first bits are the same where what differs is past them
+same_fronts : (x y k : ℕ) → bit_xor x y < 2 ^ k → x / 2 ^ k ≡ y / 2 ^ k
+same_fronts x y k small = same_numbers (x / 2 ^ k) (y / 2 ^ k) (sym (xor_shr x y k) ∙ div-eq_of_lt small)
 
--- as many first bits of a key as a shift leaves
-shifted : (b x : ℕ) → b < 32 → x / 2 ^ (31 - b) ≡ front (b + 1) x
-shifted b x within = let e : 31 - b ≡ 32 - (b + 1) = omega arith in ap (λ (n : ℕ). x / 2 ^ n) e
+-- and differ where it is not
+other_fronts : (x y k : ℕ) → 2 ^ k ≤ bit_xor x y → x / 2 ^ k ≡ y / 2 ^ k → ⊥
+other_fronts x y k large same =
+    let none : bit_xor x y / 2 ^ k ≡ 0 = xor_shr x y k ∙ ap (λ (n : ℕ). bit_xor n (y / 2 ^ k)) same ∙ xor_self (y / 2 ^ k) in
+    let low = lt-div-mul-add {a = bit_xor x y} {b = 2 ^ k} (pow_pos k) in
+    let all : bit_xor x y < 0 * 2 ^ k + 2 ^ k = subst (λ (n : ℕ). bit_xor x y < n * 2 ^ k + 2 ^ k) none low in
+    omega (arith, large, all)
 
-pub same_shifted : (b m n x y : ℕ) → b < 32 → m ≡ x → n ≡ y → m / 2 ^ (31 - b) ≡ n / 2 ^ (31 - b) → front (b + 1) x ≡ front (b + 1) y
-same_shifted b m n x y within is too e =
-    sym (shifted b x within) ∙ ap (λ (k : ℕ). k / 2 ^ (31 - b)) (sym is) ∙ e ∙ ap (λ (k : ℕ). k / 2 ^ (31 - b)) too ∙ shifted b y within
-
-pub other_shifted : (b m n x y : ℕ) → b < 32 → m ≡ x → n ≡ y → (m / 2 ^ (31 - b) ≡ n / 2 ^ (31 - b) → ⊥) → front (b + 1) x ≡ front (b + 1) y → ⊥
-other_shifted b m n x y within is too ne e =
-    ne (ap (λ (k : ℕ). k / 2 ^ (31 - b)) is ∙ shifted b x within ∙ e ∙ sym (shifted b y within) ∙ ap (λ (k : ℕ). k / 2 ^ (31 - b)) (sym too))
-
-pub differs_at : (b x y : ℕ) → b < 32 → front b x ≡ front b y → (front (b + 1) x ≡ front (b + 1) y → ⊥) → Differs x y b
+differs_at : (b x y : ℕ) → b < 32 → front b x ≡ front b y → (front (b + 1) x ≡ front (b + 1) y → ⊥) → Differs x y b
 unfolding bit_at
 differs_at b x y within same other = record {
   within = omega arith;
@@ -34,3 +33,25 @@ differs_at b x y within same other = record {
   at = λ e. let more : b + 1 ≡ suc b = omega arith in
       other (ap (λ (n : ℕ). front n x) more ∙ omega (arith, same, e, front_suc b x within, front_suc b y within) ∙ sym (ap (λ (n : ℕ). front n y) more));
 }
+
+-- the first bit that differs is the highest bit of what differs
+pub differs_first : (x y : ℕ) → x < 2 ^ 32 → y < 2 ^ 32 → count_leading_zeros 32 (bit_xor x y) < 32 → Differs x y (count_leading_zeros 32 (bit_xor x y))
+differs_first x y fits_x fits_y few = first_of (bit_xor x y) refl
+  where
+    first_of : (n : ℕ) → bit_xor x y ≡ n → Differs x y (count_leading_zeros 32 (bit_xor x y))
+    first_of zero e = let all : count_leading_zeros 32 (bit_xor x y) ≡ 32 = ap (count_leading_zeros 32) e ∙ leading_of_zero 32 in absurd (omega (arith, all, few))
+    first_of (suc n) e =
+        let top = leading_top 32 (bit_xor x y) (omega (arith, e)) (xor_lt 32 x y fits_x fits_y) in
+        let past : suc top.0 ≡ 32 - count_leading_zeros 32 (bit_xor x y) = omega (arith, top.1) in
+        let at : 32 - (count_leading_zeros 32 (bit_xor x y) + 1) ≡ top.0 = omega (arith, top.1) in
+        differs_at _ x y few
+        (subst (λ (k : ℕ). x / 2 ^ k ≡ y / 2 ^ k) past (same_fronts x y (suc top.0) top.3))
+        (λ same. other_fronts x y top.0 top.2 (subst (λ (k : ℕ). x / 2 ^ k ≡ y / 2 ^ k) at same))
+
+-- and there is none where all bits of what differs are 0
+pub none_differs : (x y : ℕ) → x < 2 ^ 32 → y < 2 ^ 32 → 32 ≤ count_leading_zeros 32 (bit_xor x y) → x ≡ y
+none_differs x y fits_x fits_y all = none_of (bit_xor x y) refl
+  where
+    none_of : (n : ℕ) → bit_xor x y ≡ n → x ≡ y
+    none_of zero e = same_numbers x y e
+    none_of (suc n) e = let top = leading_top 32 (bit_xor x y) (omega (arith, e)) (xor_lt 32 x y fits_x fits_y) in absurd (omega (arith, top.1, all))

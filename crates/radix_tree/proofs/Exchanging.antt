@@ -11,20 +11,20 @@ use Rattle.radix_tree.specs.Tree.{Placed, Tree, leaf, fork, bit_at, IsIn, HaveBi
 use Rattle.radix_tree.specs.Rooms.{BitPart, Part, leaves_in, bits_in, name_of, Stands}
 use Rattle.radix_tree.specs.Searches.{ForkAt, LeafAt, Beneath, Way}
 use Rattle.radix_tree.specs.Whole.{one_if, leaves_at, forks_at}
-use Rattle.radix_tree.specs.Growth.{turned, turn, root_after, AreOnce}
+use Rattle.radix_tree.specs.Growth.{with_child, name_child, root_after, AreOnce}
 use Rattle.radix_tree.specs.Exchange.{on_zero, on_one, low_past, IsExchange, Exchanged}
 use Rattle.radix_tree.proofs.TreeMembers.{bit_beneath}
 use Rattle.radix_tree.proofs.Parts.{fork_is, fork_stands, zero_part, one_part, zero_beneath, one_beneath}
 use Rattle.radix_tree.proofs.PartRooms.{said, zero_turned, one_turned, elsewhere, frame, Keeps, fork_forks, fork_leaves, same_turned, way_counts, way_once, beneath_counts, spine_out}
 
 -- the bit node above a place says what it said in all other rooms, and in its own names the other node
-pub turn_misses : (above : Option Id) (over : Id) (key n : ℕ) (to : Node) (said : Option BitPart) → above ≡ Some over → (n ≡ over.number → ⊥) → turn above key to n said ≡ said
+pub turn_misses : (above : Option Id) (over : Id) (key n : ℕ) (to : Node) (said : Option BitPart) → above ≡ Some over → (n ≡ over.number → ⊥) → name_child above key to n said ≡ said
 turn_misses above over key n to said is other =
-    ap (λ (o : Option Id). turn o key to n said) is ∙ ap (λ (t : Bool). if t then turned key to said else said) (ne_eqb n over.number other)
+    ap (λ (o : Option Id). name_child o key to n said) is ∙ ap (λ (t : Bool). if t then with_child key to said else said) (ne_eqb n over.number other)
 
-pub turn_hits : (above : Option Id) (over : Id) (key : ℕ) (to : Node) (said : Option BitPart) → above ≡ Some over → turn above key to over.number said ≡ turned key to said
+pub turn_hits : (above : Option Id) (over : Id) (key : ℕ) (to : Node) (said : Option BitPart) → above ≡ Some over → name_child above key to over.number said ≡ with_child key to said
 turn_hits above over key to said is =
-    ap (λ (o : Option Id). turn o key to over.number said) is ∙ ap (λ (t : Bool). if t then turned key to said else said) (eq-eqb over.number over.number refl)
+    ap (λ (o : Option Id). name_child o key to over.number said) is ∙ ap (λ (t : Bool). if t then with_child key to said else said) (eq-eqb over.number over.number refl)
 
 one_of : (x y : ℕ) → 1 ≤ x + y → (1 ≤ x) ⊎ (1 ≤ y)
 one_of x y some = ⊎_elim (λ (none : x < 1). inr (omega arith)) (λ (le : 1 ≤ x). inl le) (cases_lt x 1)
@@ -112,7 +112,7 @@ module _ {V : Type 0} where
   climbed : (m new : FinMap nat_cmp (Seen V)) (key : ℕ) (at : Part m) (under : Part new) (mid over : Part m) (name : Node) (b : Beneath key mid over) → Climbed m new key mid at under name → AreOnce over.tree
       → ((n : ℕ) → leaves_at n mid.tree ≡ 0 → 1 ≤ leaves_at n over.tree → leaves_in new n ≡ leaves_in m n)
       → ((n : ℕ) → (n ≡ b.room.number → ⊥) → forks_at n mid.tree ≡ 0 → 1 ≤ forks_at n over.tree → bits_in new n ≡ bits_in m n)
-      → bits_in new b.room.number ≡ turned key name (bits_in m b.room.number) → Climbed m new key over at under (BitOf b.room)
+      → bits_in new b.room.number ≡ with_child key name (bits_in m b.room.number) → Climbed m new key over at under (BitOf b.room)
   climbed m new key at under mid over name b g once leaves forks spine =
       let f = b.at in
       let old = (fork_stands m over b.room f).0 in
@@ -121,13 +121,13 @@ module _ {V : Type 0} where
       ⊎_elim
       (λ (e : (mid.tree ≡ f.zero) × (bit_at f.bit key ≡ 0)).
       zero_climbed m new key at under mid over name b.room f e.0 e.1 b.low b.above g
-      (spine ∙ ap (turned key name) old ∙ zero_turned key name (said b.room f.bit (name_of f.zero) (name_of f.one) over.above) e.1)
+      (spine ∙ ap (with_child key name) old ∙ zero_turned key name (said b.room f.bit (name_of f.zero) (name_of f.one) over.above) e.1)
       (λ n some. let sum = all_leaves n in let most : leaves_at n over.tree ≤ 1 = once.leaves n in let same : leaves_at n mid.tree ≡ leaves_at n f.zero = ap (λ (t : Tree V). leaves_at n t) e.0 in leaves n (omega arith) (omega arith))
       (λ n some. let sum = all_forks n in let most : forks_at n over.tree ≤ 1 = once.forks n in let same : forks_at n mid.tree ≡ forks_at n f.zero = ap (λ (t : Tree V). forks_at n t) e.0 in
       forks n (elsewhere b.room n (forks_at n f.one) some (omega arith)) (omega arith) (omega arith)))
       (λ (e : (mid.tree ≡ f.one) × (bit_at f.bit key ≡ 1)).
       one_climbed m new key at under mid over name b.room f e.0 e.1 b.low b.above g
-      (spine ∙ ap (turned key name) old ∙ one_turned key name (said b.room f.bit (name_of f.zero) (name_of f.one) over.above) e.1)
+      (spine ∙ ap (with_child key name) old ∙ one_turned key name (said b.room f.bit (name_of f.zero) (name_of f.one) over.above) e.1)
       (λ n some. let sum = all_leaves n in let most : leaves_at n over.tree ≤ 1 = once.leaves n in let same : leaves_at n mid.tree ≡ leaves_at n f.one = ap (λ (t : Tree V). leaves_at n t) e.0 in leaves n (omega arith) (omega arith))
       (λ n some. let sum = all_forks n in let most : forks_at n over.tree ≤ 1 = once.forks n in let same : forks_at n mid.tree ≡ forks_at n f.one = ap (λ (t : Tree V). forks_at n t) e.0 in
       forks n (elsewhere b.room n (forks_at n f.zero) some (omega arith)) (omega arith) (omega arith)))

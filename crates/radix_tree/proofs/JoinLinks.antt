@@ -13,7 +13,7 @@ use Rattle.radix_tree.specs.Tree.{Tree, leaf}
 use Rattle.radix_tree.specs.Rooms.{LeafPart, BitPart, Part, bit_part, leaf_in, leaves_in, bits_in, name_of}
 use Rattle.radix_tree.specs.Searches.{Way}
 use Rattle.radix_tree.specs.Whole.{one_if, forks_at}
-use Rattle.radix_tree.specs.Growth.{turn, turned, AreOnce}
+use Rattle.radix_tree.specs.Growth.{name_child, with_child, AreOnce}
 use Rattle.radix_tree.specs.Joining.{IsApart, IsLone}
 use Rattle.radix_tree.specs.Removal.{content_of}
 use Rattle.radix_tree.specs.Writes.{put_bit, put_head, leaf_above, bit_above, lift_leaf, lift_bit}
@@ -29,9 +29,9 @@ put_off room n said other = ap (λ (t : Bool). if t then None else said) (ne_eqb
 pub head_off : (room : Id) (n : ℕ) (said : Option Id) → (n ≡ room.number → ⊥) → put_head room None n said ≡ said
 head_off room n said other = ap (λ (t : Bool). if t then None else said) (ne_eqb n room.number other)
 
-pub turn_off : (above : Option Id) (key n : ℕ) (to : Node) (said : Option BitPart) → ((over : Id) → above ≡ Some over → n ≡ over.number → ⊥) → turn above key to n said ≡ said
+pub turn_off : (above : Option Id) (key n : ℕ) (to : Node) (said : Option BitPart) → ((over : Id) → above ≡ Some over → n ≡ over.number → ⊥) → name_child above key to n said ≡ said
 turn_off None key n to said other = refl
-turn_off (Some over) key n to said other = ap (λ (t : Bool). if t then turned key to said else said) (ne_eqb n over.number (other over refl))
+turn_off (Some over) key n to said other = ap (λ (t : Bool). if t then with_child key to said else said) (ne_eqb n over.number (other over refl))
 
 -- ---- a room that is no bit node
 both_none : (t : Bool) (x y : Option BitPart) → x ≡ None → y ≡ None → (if t then x else y) ≡ None
@@ -41,9 +41,9 @@ both_none false x y first second = second
 pub put_none : (room : Id) (n : ℕ) → put_bit room None n None ≡ None
 put_none room n = both_none (n == room.number) None None refl refl
 
-pub turn_none : (above : Option Id) (key n : ℕ) (to : Node) → turn above key to n None ≡ None
+pub turn_none : (above : Option Id) (key n : ℕ) (to : Node) → name_child above key to n None ≡ None
 turn_none None key n to = refl
-turn_none (Some over) key n to = both_none (n == over.number) (turned key to None) None refl refl
+turn_none (Some over) key n to = both_none (n == over.number) (with_child key to None) None refl refl
 
 pub lift_none : (at : Node) (above : Option Id) (n : ℕ) → lift_bit at above n None ≡ None
 lift_none (LeafOf room) above n = refl
@@ -53,13 +53,13 @@ pub put_here : (room : Id) (said : Option BitPart) → put_bit room None room.nu
 put_here room said = ap (λ (t : Bool). if t then bit_part room.block None else said) (eq-eqb room.number room.number refl)
 
 -- ---- a room that is a bit node stays one
-turned_used : (key : ℕ) (to : Node) (said : Option BitPart) → is_some (turned key to said) ≡ is_some said
+turned_used : (key : ℕ) (to : Node) (said : Option BitPart) → is_some (with_child key to said) ≡ is_some said
 turned_used key to None = refl
 turned_used key to (Some p) = refl
 
-pub turn_used : (above : Option Id) (key n : ℕ) (to : Node) (said : Option BitPart) → is_some (turn above key to n said) ≡ is_some said
+pub turn_used : (above : Option Id) (key n : ℕ) (to : Node) (said : Option BitPart) → is_some (name_child above key to n said) ≡ is_some said
 turn_used None key n to said = refl
-turn_used (Some over) key n to said = elim (n == over.number) as (λ t. is_some (if t then turned key to said else said) ≡ is_some said) [ true ↦ turned_used key to said | false ↦ refl ]
+turn_used (Some over) key n to said = elim (n == over.number) as (λ t. is_some (if t then with_child key to said else said) ≡ is_some said) [ true ↦ turned_used key to said | false ↦ refl ]
 
 bit_above_used : (above : Option Id) (said : Option BitPart) → is_some (bit_above above said) ≡ is_some said
 bit_above_used above None = refl
@@ -89,14 +89,14 @@ module _ {V : Type 0} where
       Has-leaf new room (record { block = h.room.block; value = h.room.value; leaf = leaf_of h.room.links }) (same ∙ ap leaf_in h.at) h.block
 
   -- ---- the node beneath stays as it is while the bit nodes above it are written
-  pub quiet : (t : Tree V) (up : Id) (above : Option Id) (key : ℕ) (to : Node) (n : ℕ) (said : Option BitPart) → IsApart t up above → 1 ≤ forks_at n t → put_bit up None n (turn above key to n said) ≡ said
+  pub quiet : (t : Tree V) (up : Id) (above : Option Id) (key : ℕ) (to : Node) (n : ℕ) (said : Option BitPart) → IsApart t up above → 1 ≤ forks_at n t → put_bit up None n (name_child above key to n said) ≡ said
   quiet t up above key to n said apart some =
-      put_off up n (turn above key to n said) (apart.up_is n some) ∙ turn_off above key n to said (λ over is. apart.above_is over is n some)
+      put_off up n (name_child above key to n said) (apart.up_is n some) ∙ turn_off above key n to said (λ over is. apart.above_is over is n some)
 
-  pub below_stays : (m turned put : FinMap nat_cmp (Seen V)) (p : Part m) (up : Id) (above : Option Id) (key : ℕ) (to : Node) → name_of p.tree ≡ to → IsApart p.tree up above
-      → ((n : ℕ) → leaves_in turned n ≡ leaves_in m n) → ((n : ℕ) → leaves_in put n ≡ leaves_in turned n)
-      → ((n : ℕ) → bits_in turned n ≡ turn above key to n (bits_in m n)) → ((n : ℕ) → bits_in put n ≡ put_bit up None n (bits_in turned n)) → (q : Part put) × (name_of q.tree ≡ to)
-  below_stays m turned put p up above key to named apart leaves1 leaves2 bits1 bits2 = (
+  pub below_stays : (m with_child put : FinMap nat_cmp (Seen V)) (p : Part m) (up : Id) (above : Option Id) (key : ℕ) (to : Node) → name_of p.tree ≡ to → IsApart p.tree up above
+      → ((n : ℕ) → leaves_in with_child n ≡ leaves_in m n) → ((n : ℕ) → leaves_in put n ≡ leaves_in with_child n)
+      → ((n : ℕ) → bits_in with_child n ≡ name_child above key to n (bits_in m n)) → ((n : ℕ) → bits_in put n ≡ put_bit up None n (bits_in with_child n)) → (q : Part put) × (name_of q.tree ≡ to)
+  below_stays m with_child put p up above key to named apart leaves1 leaves2 bits1 bits2 = (
     stays m put p (λ n some. leaves2 n ∙ leaves1 n)
         (λ n some. bits2 n ∙ ap (λ (said : Option BitPart). put_bit up None n said) (bits1 n) ∙ quiet p.tree up above key to n (bits_in m n) apart some),
     named,

@@ -15,7 +15,7 @@ use Rattle.radix_tree.specs.Tree.{Placed, Tree, leaf, fork, bit_at, IsAmong, IsI
 use Rattle.radix_tree.specs.Rooms.{LeafPart, BitPart, Bits, Part, leaf_in, leaves_in, bits_in, heads_in, masks_in, leaf_part, name_of}
 use Rattle.radix_tree.specs.Searches.{ForkAt, Beneath, Way}
 use Rattle.radix_tree.specs.Whole.{one_if, leaves_at, AreIdle, HasOneFork, HaveOneFork}
-use Rattle.radix_tree.specs.Growth.{turn}
+use Rattle.radix_tree.specs.Growth.{name_child}
 use Rattle.radix_tree.specs.Joining.{other_side, IsApart, IsLone}
 use Rattle.radix_tree.specs.Marks.{MarkedLists, IsWholeBut, is_of_key, has_key, nobody_out}
 use Rattle.radix_tree.specs.Removal.{Content, content_of, KeepsRoutes}
@@ -122,14 +122,14 @@ module _ {V : Type 0} where
 
   pub joined : (m handed new : FinMap nat_cmp (Seen V)) (whole : Part m) (at up : Id) (l : IsLone m whole at up) (above : Option Id) (key : ℕ) (to : Node) → l.over.above ≡ above → l.route.entry.key ≡ key → name_of l.other ≡ to
       → ((n : ℕ) → leaves_in handed n ≡ leaves_in m n) → ((n : ℕ) → bits_in handed n ≡ bits_in m n)
-      → ((n : ℕ) → leaves_in new n ≡ lift_leaf to above n (leaves_in handed n)) → ((n : ℕ) → bits_in new n ≡ lift_bit to above n (put_bit up None n (turn above key to n (bits_in handed n)))) → IsJoined m new whole at up l
+      → ((n : ℕ) → leaves_in new n ≡ lift_leaf to above n (leaves_in handed n)) → ((n : ℕ) → bits_in new n ≡ lift_bit to above n (put_bit up None n (name_child above key to n (bits_in handed n)))) → IsJoined m new whole at up l
   joined m handed new whole at up l above key to above_is key_is to_is leaves bits new_leaves new_bits = record {
     leaves = λ n. new_leaves n ∙ ap (λ (said : Option (LeafPart V)). lift_leaf to above n said) (leaves n)
         ∙ ap (λ (z : Node). lift_leaf z above n (leaves_in m n)) (sym to_is) ∙ ap (λ (o : Option Id). lift_leaf (name_of l.other) o n (leaves_in m n)) (sym above_is);
-    bits = λ n. new_bits n ∙ ap (λ (said : Option BitPart). lift_bit to above n (put_bit up None n (turn above key to n said))) (bits n)
-        ∙ ap (λ (z : Node). lift_bit z above n (put_bit up None n (turn above key z n (bits_in m n)))) (sym to_is)
-        ∙ ap (λ (o : Option Id). lift_bit (name_of l.other) o n (put_bit up None n (turn o key (name_of l.other) n (bits_in m n)))) (sym above_is)
-        ∙ ap (λ (k : ℕ). lift_bit (name_of l.other) l.over.above n (put_bit up None n (turn l.over.above k (name_of l.other) n (bits_in m n)))) (sym key_is);
+    bits = λ n. new_bits n ∙ ap (λ (said : Option BitPart). lift_bit to above n (put_bit up None n (name_child above key to n said))) (bits n)
+        ∙ ap (λ (z : Node). lift_bit z above n (put_bit up None n (name_child above key z n (bits_in m n)))) (sym to_is)
+        ∙ ap (λ (o : Option Id). lift_bit (name_of l.other) o n (put_bit up None n (name_child o key (name_of l.other) n (bits_in m n)))) (sym above_is)
+        ∙ ap (λ (k : ℕ). lift_bit (name_of l.other) l.over.above n (put_bit up None n (name_child l.over.above k (name_of l.other) n (bits_in m n)))) (sym key_is);
   }
 
   -- ---- of the rooms of a key one at most is a bit node

@@ -10,7 +10,7 @@ use Rattle.radix_nodes.specs.declared.links.Node.{Node}
 use Rattle.radix_tree.specs.Tree.{Placed, Tree, leaf, fork, IsIn, IsTree, routes_of}
 use Rattle.radix_tree.specs.Rooms.{LeafPart, BitPart, Part, leaves_in, bits_in, heads_in, masks_in, leaf_part, name_of}
 use Rattle.radix_tree.specs.Whole.{one_if, leaves_at, forks_at, HasHome, shown, shown_entry}
-use Rattle.radix_tree.specs.Growth.{turn, root_after, AreOnce, Gains}
+use Rattle.radix_tree.specs.Growth.{name_child, root_after, AreOnce, Gains}
 use Rattle.radix_tree.specs.Exchange.{IsExchange, Exchanged}
 use Rattle.radix_tree.specs.Joining.{IsLone, IsHanded}
 use Rattle.radix_tree.specs.Marks.{IsWholeBut, nobody_late, nobody_out, late_at, out_at}
@@ -45,7 +45,7 @@ module _ {V : Type 0} where
   -- what the rooms say once the bit node is gone
   pub record IsJoined (m new : FinMap nat_cmp (Seen V)) (whole : Part m) (at up : Id) (l : IsLone m whole at up) : Type 0 where
     pub leaves : (n : ℕ) → leaves_in new n ≡ lift_leaf (name_of l.other) l.over.above n (leaves_in m n)
-    pub bits : (n : ℕ) → bits_in new n ≡ lift_bit (name_of l.other) l.over.above n (put_bit up None n (turn l.over.above l.route.entry.key (name_of l.other) n (bits_in m n)))
+    pub bits : (n : ℕ) → bits_in new n ≡ lift_bit (name_of l.other) l.over.above n (put_bit up None n (name_child l.over.above l.route.entry.key (name_of l.other) n (bits_in m n)))
 
   -- the list was handed on before
   pub handed_on : (m handed new : FinMap nat_cmp (Seen V)) (whole : Part m) (at up : Id) (l : IsLone m whole at up) → IsHanded m handed l.over.low l.over.tree l.other
@@ -104,8 +104,8 @@ module _ {V : Type 0} where
         ∙ misses_bit (name_of l.other) n (λ r is same.
         let there : 1 ≤ forks_at r.number l.other = named_bit l.other r is in
         let here : forks_at n l.other ≡ forks_at r.number l.other = ap (λ (k : ℕ). forks_at k l.other) same in absurd (omega arith))
-        l.over.above (put_bit up None n (turn l.over.above l.route.entry.key (name_of l.other) n (bits_in m n)))
-        ∙ put_off up n (turn l.over.above l.route.entry.key (name_of l.other) n (bits_in m n)) (λ same. let own : one_if (up.number == n) ≡ 1 = ap (λ (k : ℕ). one_if (up.number == k)) same ∙ one_if_same up.number in absurd (omega arith));
+        l.over.above (put_bit up None n (name_child l.over.above l.route.entry.key (name_of l.other) n (bits_in m n)))
+        ∙ put_off up n (name_child l.over.above l.route.entry.key (name_of l.other) n (bits_in m n)) (λ same. let own : one_if (up.number == n) ≡ 1 = ap (λ (k : ℕ). one_if (up.number == k)) same ∙ one_if_same up.number in absurd (omega arith));
   }
 
   -- ---- what the rooms say
@@ -121,20 +121,20 @@ module _ {V : Type 0} where
       j.bits n
       ∙ ap (λ (said : Option BitPart). lift_bit (name_of l.other) l.over.above n said)
       (ap (λ (said : Option BitPart). put_bit up None n said)
-      (ap (λ (said : Option BitPart). turn l.over.above l.route.entry.key (name_of l.other) n said) none ∙ turn_none l.over.above l.route.entry.key n (name_of l.other)) ∙ put_none up n)
+      (ap (λ (said : Option BitPart). name_child l.over.above l.route.entry.key (name_of l.other) n said) none ∙ turn_none l.over.above l.route.entry.key n (name_of l.other)) ∙ put_none up n)
       ∙ lift_none (name_of l.other) l.over.above n
 
   pub freed : (m new : FinMap nat_cmp (Seen V)) (whole : Part m) (at up : Id) (l : IsLone m whole at up) → IsJoined m new whole at up l → bits_in new up.number ≡ None
   freed m new whole at up l j =
       j.bits up.number
-      ∙ ap (λ (said : Option BitPart). lift_bit (name_of l.other) l.over.above up.number said) (put_here up (turn l.over.above l.route.entry.key (name_of l.other) up.number (bits_in m up.number)))
+      ∙ ap (λ (said : Option BitPart). lift_bit (name_of l.other) l.over.above up.number said) (put_here up (name_child l.over.above l.route.entry.key (name_of l.other) up.number (bits_in m up.number)))
       ∙ lift_none (name_of l.other) l.over.above up.number
 
   same_bits : (m new : FinMap nat_cmp (Seen V)) (whole : Part m) (at up : Id) (l : IsLone m whole at up) → IsJoined m new whole at up l → (n : ℕ) → (n ≡ up.number → ⊥) → is_some (bits_in new n) ≡ is_some (bits_in m n)
   same_bits m new whole at up l j n other =
       ap is_some (j.bits n)
-      ∙ lift_used (name_of l.other) l.over.above n (put_bit up None n (turn l.over.above l.route.entry.key (name_of l.other) n (bits_in m n)))
-      ∙ ap is_some (put_off up n (turn l.over.above l.route.entry.key (name_of l.other) n (bits_in m n)) other)
+      ∙ lift_used (name_of l.other) l.over.above n (put_bit up None n (name_child l.over.above l.route.entry.key (name_of l.other) n (bits_in m n)))
+      ∙ ap is_some (put_off up n (name_child l.over.above l.route.entry.key (name_of l.other) n (bits_in m n)) other)
       ∙ turn_used l.over.above l.route.entry.key n (name_of l.other) (bits_in m n)
 
   fork_count : (m new : FinMap nat_cmp (Seen V)) (whole : Part m) (at up : Id) (l : IsLone m whole at up) → IsJoined m new whole at up l → (n : ℕ)

@@ -13,6 +13,7 @@ pub mod ChainStarts
 pub mod ChainWholes
 pub mod ChainWrites
 pub mod Counted
+pub mod Climbs
 pub mod Cuts
 pub mod Descents
 pub mod Differences

@@ -1,25 +1,42 @@
 -- A walk through the masks that a bit node lists.
-use Rattle.std.proofs.Common.{◌≡◌, ℕ, ◌+◌, ◌*◌, ◌≤◌, ◌<◌, List, [], ◌∷◌, Option, Some, None, refl, sym, ap, ◌∙◌, subst, inl, inr, arith}
+use Rattle.std.proofs.Common.{◌≡◌, ℕ, ◌+◌, ◌*◌, ◌≤◌, List, ◌∷◌, Option, Some, None, refl, sym, ap, ◌∙◌, subst, inl, inr, arith}
 use Rattle.std.specs.Ordering.{nat_cmp}
 use Rattle.std.specs.FinMap.{FinMap}
 use Rattle.mask_table.specs.Agreeing.{masked}
-use Rattle.radix_nodes.specs.Rooms.{Seen, Has}
-use Rattle.radix_nodes.specs.Links.{leaf_of, mask_node_of}
+use Rattle.radix_nodes.specs.Counting.{Counter}
+use Rattle.radix_nodes.specs.Rooms.{Seen}
 use Rattle.radix_nodes.specs.declared.id.Id.{Id}
 use Rattle.radix_nodes.specs.declared.links.Leaf.{Leaf}
-use Rattle.radix_nodes.specs.declared.links.Links.{Links}
 use Rattle.radix_nodes.specs.declared.links.MaskNode.{MaskNode}
+use Rattle.radix_tree.specs.Reads.{Reads}
+use Rattle.radix_tree.specs.Rooms.{LeafPart, MaskPart, Part, AreListed as MasksAreListed, leaves_in, bits_in, heads_in, masks_in, mask_part, first_room, leaf_part, MasksStand, Falls}
+use Rattle.radix_tree.specs.Searches.{Tells, Finds, HasPair, Best, In, ForkAt}
 use Rattle.radix_tree.specs.Tree.{Placed, IsAmong, IsIn}
-use Rattle.radix_tree.specs.Rooms.{MaskPart, Part, AreListed as MasksAreListed, leaves_in, bits_in, heads_in, masks_in, first_room, leaf_part, MasksStand, Falls}
-use Rattle.radix_tree.specs.Searches.{Tells, Finds, HasPair, Best, In, ForkAt, Through}
-use Rattle.radix_tree.proofs.RoomReads.{none_some, AreLinks, Has-mask, leaf_read, mask_read, mask_used}
-use Rattle.radix_tree.proofs.TreeMembers.{IsHead, head_of, tree_route, tree_said}
+use Rattle.radix_tree.proofs.RoomReads.{inside}
 use Rattle.radix_tree.proofs.Parts.{fork_is, fork_lists}
+use Rattle.radix_tree.proofs.Scans.{ended_at}
 use Rattle.radix_tree.proofs.Searching.{AreListed, mask_hit, mask_miss, listed_behind, list_ends}
+use Rattle.radix_tree.proofs.TreeMembers.{head_of, tree_route, tree_said}
 
-module _ {V : Type 0} where
-  pub begun : (m : FinMap nat_cmp (Seen V)) (address : ℕ) (p : Part m) (room : Id) (f : ForkAt p room) (first : Option Id) → MasksAreListed m p → heads_in m room.number ≡ first → Through address p f.bit first 0
-  begun m address p room f first listed head =
+module _ {V : Type 0} {m : FinMap nat_cmp (Seen V)} where
+  -- a walk through the list of a bit node, whose masks so far were tried in vain
+  pub record Through (address : ℕ) (p : Part m) (bit : ℕ) (at : Option Id) (start now : Counter) : Type 0 where
+    pub rest : List (Placed V)
+    pub top : ℕ
+    pub begins : first_room rest ≡ at
+    pub stands : MasksStand (masks_in m) rest
+    pub falls : Falls p.low top rest
+    pub inside : (y : Placed V) → IsAmong y rest → IsIn y p.tree
+    pub listed : AreListed p.low top rest p.tree
+    pub tried : Best address top (bit + 1) (In p) None
+    pub fits : p.low ≤ top
+    pub past : top ≤ bit + 1
+    pub turn : now.turn ≡ start.turn
+    pub rises : start.count ≤ now.count
+    pub few : now.count + 67 * top ≤ start.count + 67 * (bit + 1)
+
+  pub begun : {address : ℕ} {p : Part m} {room : Id} {first : Option Id} (v : Counter) (f : ForkAt p room) → MasksAreListed m p → heads_in m room.number ≡ first → Through address p f.bit first v v
+  begun {p = p} {room} v f listed head =
       let list = (fork_lists m p room f listed).0 in
       let rises : p.low ≤ f.bit = (fork_is m p room f).0.rises in
       record {
@@ -33,103 +50,79 @@ module _ {V : Type 0} where
         tried = λ y at covers below. below;
         fits = omega arith;
         past = omega arith;
+        turn = refl;
+        rises = omega arith;
         few = omega arith;
       }
 
-  mask_at : (m : FinMap nat_cmp (Seen V)) (address : ℕ) (p : Part m) (bit : ℕ) (at : Option Id) (room : Id) (steps : ℕ) (w : Through address p bit at steps) → at ≡ Some room → IsHead w.rest room
-  mask_at m address p bit at room steps w is = head_of w.rest room (w.begins ∙ is)
+  -- the mask that it has come to
+  pub record Mask (address : ℕ) (p : Part m) (bit : ℕ) (room : Id) (start now : Counter) : Type 0 where
+    pub route : Placed V
+    pub part : LeafPart V
+    pub said : leaves_in m room.number ≡ Some part
+    pub rank : part.leaf.rank ≡ route.entry.rank
+    pub mask : MaskPart
+    pub listed : masks_in m room.number ≡ Some mask
+    pub block : mask.block ≡ room.block
+    pub turn : now.turn ≡ start.turn
+    pub rises : start.count ≤ now.count
+    pub soon : now.count + 67 + 67 * p.low ≤ start.count + 67 * (bit + 1)
+    pub hit : (x : Placed V) → Finds (HasPair (masked route.entry.rank address) route.entry.rank) (In p) (Some x) → Best address p.low (bit + 1) (In p) (Some x)
+    pub miss : (later : Counter) → Finds (HasPair (masked route.entry.rank address) route.entry.rank) (In p) None → Reads now later 67 → Through address p bit mask.next start later
 
-  abbrev part_of : (room : Id) (ms : List (Placed V)) → MaskPart
-  part_of room ms = record { block = room.block; next = first_room ms }
-
-  mask_said : (m : FinMap nat_cmp (Seen V)) (ms : List (Placed V)) (room : Id) (x : IsHead ms room) → MasksStand (masks_in m) ms → masks_in m room.number ≡ Some (part_of room x.behind)
-  mask_said m ms room x stands =
-      subst (λ (i : Id). masks_in m i.number ≡ Some (part_of i x.behind)) x.room_is (subst (MasksStand (masks_in m)) x.is stands).0
-
-  pub Has-at : (m : FinMap nat_cmp (Seen V)) (address : ℕ) (p : Part m) (bit : ℕ) (at : Option Id) (room : Id) (steps : ℕ) → Through address p bit at steps → at ≡ Some room → Has m room
-  Has-at m address p bit at room steps w is =
-      let x = mask_at m address p bit at room steps w is in Has-mask m room (part_of room x.behind) (mask_said m w.rest room x w.stands) refl
-
-  pub used_at : (m : FinMap nat_cmp (Seen V)) (address : ℕ) (p : Part m) (bit : ℕ) (at : Option Id) (room : Id) (steps : ℕ) (links : Links) → Through address p bit at steps → at ≡ Some room → AreLinks m room links
-      → mask_node_of links ≡ None → ⊥
-  used_at m address p bit at room steps links w is are none =
-      let x = mask_at m address p bit at room steps w is in mask_used m room (part_of room x.behind) links (mask_said m w.rest room x w.stands) refl are none
-
-  head_falls : (m : FinMap nat_cmp (Seen V)) (address : ℕ) (p : Part m) (bit : ℕ) (at : Option Id) (room : Id) (steps : ℕ) (w : Through address p bit at steps) (x : IsHead w.rest room) → Falls p.low w.top (x.first ∷ x.behind)
-  head_falls m address p bit at room steps w x = subst (Falls p.low w.top) x.is w.falls
-
-  head_listed : (m : FinMap nat_cmp (Seen V)) (address : ℕ) (p : Part m) (bit : ℕ) (at : Option Id) (room : Id) (steps : ℕ) (w : Through address p bit at steps) (x : IsHead w.rest room) → AreListed p.low w.top (x.first ∷ x.behind) p.tree
-  head_listed m address p bit at room steps w x = λ y is least below. subst (IsAmong y) x.is (w.listed y is least below)
-
-  pub few_at : (m : FinMap nat_cmp (Seen V)) (address : ℕ) (p : Part m) (bit : ℕ) (at : Option Id) (room : Id) (steps : ℕ) → Through address p bit at steps → at ≡ Some room → steps + 67 + 67 * p.low ≤ 67 * (bit + 1)
-  few_at m address p bit at room steps w is =
-      let x = mask_at m address p bit at room steps w is in
-      let falls = head_falls m address p bit at room steps w x in
-      let least : p.low ≤ x.first.entry.rank = falls.0 in
-      let below : x.first.entry.rank < w.top = falls.1 in
-      let few : steps + 67 * w.top ≤ 67 * (bit + 1) = w.few in omega arith
-
-  pub most_at : (m : FinMap nat_cmp (Seen V)) (address : ℕ) (p : Part m) (bit : ℕ) (at : Option Id) (steps : ℕ) → Through address p bit at steps → steps + 67 * p.low ≤ 67 * (bit + 1)
-  most_at m address p bit at steps w =
-      let fits : p.low ≤ w.top = w.fits in let few : steps + 67 * w.top ≤ 67 * (bit + 1) = w.few in omega arith
-
-  -- the rank that is read is that of the mask's route
-  rank_read : (m : FinMap nat_cmp (Seen V)) (p : Part m) (room : Id) (links : Links) (l : Leaf) (x : Placed V) → IsIn x p.tree → x.room ≡ room → AreLinks m room links → l ≡ leaf_of links → l.rank ≡ x.entry.rank
-  rank_read m p room links l x at room_is are leaf =
-      let said = tree_said (leaves_in m) (bits_in m) p.above p.tree p.stands x at in
-      ap (λ (z : Leaf). z.rank) (leaf ∙ leaf_read m room (leaf_part x said.0 said.1 said.2) links (ap (λ (i : Id). leaves_in m i.number) (sym room_is) ∙ said.3) (ap (λ (i : Id). i.block) room_is) are)
-
-  head_in : (m : FinMap nat_cmp (Seen V)) (address : ℕ) (p : Part m) (bit : ℕ) (at : Option Id) (room : Id) (steps : ℕ) (w : Through address p bit at steps) (x : IsHead w.rest room) → IsIn x.first p.tree
-  head_in m address p bit at room steps w x = w.inside x.first (subst (IsAmong x.first) (sym x.is) (inl refl))
+  pub mask_at : {address : ℕ} {p : Part m} {bit : ℕ} {at : Option Id} {room : Id} {start now : Counter} → Through address p bit at start now → at ≡ Some room → Mask address p bit room start now
+  mask_at {address} {p} {bit} {at} {room} {start} {now} w is =
+      let x = head_of w.rest room (w.begins ∙ is) in
+      let in_tree : IsIn x.first p.tree = w.inside x.first (subst (IsAmong x.first) (sym x.is) (inl refl)) in
+      let leaf = tree_said (leaves_in m) (bits_in m) p.above p.tree p.stands x.first in_tree in
+      let stands = subst (MasksStand (masks_in m)) x.is w.stands in
+      let falls = subst (Falls p.low w.top) x.is w.falls in
+      let listed : AreListed p.low w.top (x.first ∷ x.behind) p.tree = λ y at least below. subst (IsAmong y) x.is (w.listed y at least below) in
+      record {
+        route = x.first;
+        part = leaf_part x.first leaf.0 leaf.1 leaf.2;
+        said = ap (λ (i : Id). leaves_in m i.number) (sym x.room_is) ∙ leaf.3;
+        rank = refl;
+        mask = record { block = x.first.room.block; next = first_room x.behind };
+        listed = ap (λ (i : Id). masks_in m i.number) (sym x.room_is) ∙ stands.0;
+        block = ap (λ (i : Id). i.block) x.room_is;
+        turn = w.turn;
+        rises = w.rises;
+        soon = omega (arith, falls.0, falls.1);
+        hit = λ y found. mask_hit address p.low w.top (bit + 1) x.first x.behind p.tree y falls listed w.tried found;
+        miss = λ later none more. record {
+          rest = x.behind;
+          top = x.first.entry.rank;
+          begins = refl;
+          stands = stands.1;
+          falls = falls.2;
+          inside = λ y among. w.inside y (subst (IsAmong y) (sym x.is) (inr among));
+          listed = listed_behind p.low w.top x.first x.behind p.tree falls listed;
+          tried = mask_miss address p.low w.top (bit + 1) x.first x.behind p.tree (tree_route p.low p.tree p.is) falls listed w.tried none;
+          fits = omega (arith, falls.0);
+          past = omega (arith, falls.1);
+          turn = more.turn ∙ w.turn;
+          rises = omega arith;
+          few = omega (arith, falls.1);
+        };
+      }
 
   -- what was asked for is the mask's pair
-  asked : (m : FinMap nat_cmp (Seen V)) (address : ℕ) (p : Part m) (key rank : ℕ) (x : Placed V) (o : Option (Placed V)) → key ≡ masked rank address → rank ≡ x.entry.rank
-      → Finds (HasPair key rank) (In p) o → Finds (HasPair (masked x.entry.rank address) x.entry.rank) (In p) o
-  asked m address p key rank x o key_is rank_is found =
-      subst (λ (r : ℕ). Finds (HasPair (masked r address) r) (In p) o) rank_is (subst (λ (k : ℕ). Finds (HasPair k rank) (In p) o) key_is found)
+  asked : (address : ℕ) (p : Part m) {key rank own : ℕ} (o : Option Id) → key ≡ masked rank address → rank ≡ own → Tells (Finds (HasPair key rank) (In p)) o → Tells (Finds (HasPair (masked own address) own) (In p)) o
+  asked address p {rank = rank} o key_is rank_is found =
+      subst (λ (r : ℕ). Tells (Finds (HasPair (masked r address) r) (In p)) o) rank_is (subst (λ (k : ℕ). Tells (Finds (HasPair k rank) (In p)) o) key_is found)
 
-  pub hit : (m : FinMap nat_cmp (Seen V)) (address : ℕ) (p : Part m) (bit : ℕ) (at : Option Id) (room : Id) (steps : ℕ) (links : Links) (l : Leaf) (key : ℕ) (o : Option Id) (found : Id) → Through address p bit at steps → at ≡ Some room
-      → AreLinks m room links → l ≡ leaf_of links → key ≡ masked l.rank address → o ≡ Some found → Tells (Finds (HasPair key l.rank) (In p)) o → Tells (Best address p.low (bit + 1) (In p)) (Some found)
-  hit m address p bit at room steps links l key o found w is are leaf key_is some tells =
-      let x = mask_at m address p bit at room steps w is in
-      let rank = rank_read m p room links l x.first (head_in m address p bit at room steps w x) x.room_is are leaf in
-      let told = subst (λ (z : Option Id). Tells (Finds (HasPair key l.rank) (In p)) z) some tells in
-      let pair = asked m address p key l.rank x.first (Some told.0) key_is rank told.2 in (
-        told.0,
-        told.1,
-        mask_hit address p.low w.top (bit + 1) x.first x.behind p.tree told.0 (head_falls m address p bit at room steps w x) (head_listed m address p bit at room steps w x) w.tried pair,
-      )
+  pub hit : {address : ℕ} {p : Part m} {bit : ℕ} {room : Id} {start now : Counter} (x : Mask address p bit room start now) (l : Leaf) (key : ℕ) {o : Option Id} {found : Id} → l ≡ x.part.leaf → key ≡ masked l.rank address → o ≡ Some found
+      → Tells (Finds (HasPair key l.rank) (In p)) o → Tells (Best address p.low (bit + 1) (In p)) (Some found)
+  hit {address} {p} x l key {o} {found} is key_is some tells =
+      let told = asked address p (Some found) key_is (ap (λ (z : Leaf). z.rank) is ∙ x.rank) (subst (Tells (Finds (HasPair key l.rank) (In p))) some tells) in (told.0, told.1, x.hit told.0 told.2)
 
-  pub miss : (m : FinMap nat_cmp (Seen V)) (address : ℕ) (p : Part m) (bit : ℕ) (at : Option Id) (room : Id) (steps later : ℕ) (links : Links) (l : Leaf) (n : MaskNode) (key : ℕ) (o : Option Id) → Through address p bit at steps → at ≡ Some room
-      → AreLinks m room links → l ≡ leaf_of links → mask_node_of links ≡ Some n → key ≡ masked l.rank address → o ≡ None → Tells (Finds (HasPair key l.rank) (In p)) o → later ≤ steps + 67 → Through address p bit n.next later
-  miss m address p bit at room steps later links l n key o w is are leaf node key_is none tells soon =
-      let x = mask_at m address p bit at room steps w is in
-      let rank = rank_read m p room links l x.first (head_in m address p bit at room steps w x) x.room_is are leaf in
-      let told = subst (λ (z : Option Id). Tells (Finds (HasPair key l.rank) (In p)) z) none tells in
-      let pair = asked m address p key l.rank x.first None key_is rank told in
-      let falls = head_falls m address p bit at room steps w x in
-      let listed = head_listed m address p bit at room steps w x in
-      let least : p.low ≤ x.first.entry.rank = falls.0 in
-      let below : x.first.entry.rank < w.top = falls.1 in
-      let past : w.top ≤ bit + 1 = w.past in
-      let few : steps + 67 * w.top ≤ 67 * (bit + 1) = w.few in
-      record {
-        rest = x.behind;
-        top = x.first.entry.rank;
-        begins = sym (mask_read m room (part_of room x.behind) links n (mask_said m w.rest room x w.stands) refl are node);
-        stands = (subst (MasksStand (masks_in m)) x.is w.stands).1;
-        falls = falls.2;
-        inside = λ y among. w.inside y (subst (IsAmong y) (sym x.is) (inr among));
-        listed = listed_behind p.low w.top x.first x.behind p.tree falls listed;
-        tried = mask_miss address p.low w.top (bit + 1) x.first x.behind p.tree (tree_route p.low p.tree p.is) falls listed w.tried pair;
-        fits = omega arith;
-        past = omega arith;
-        few = omega arith;
-      }
+  pub miss : {address : ℕ} {p : Part m} {bit : ℕ} {room : Id} {start now later : Counter} (x : Mask address p bit room start now) (l : Leaf) (n : MaskNode) (key : ℕ) {o : Option Id} → l ≡ x.part.leaf → masks_in m room.number ≡ mask_part room.block (Some n)
+      → key ≡ masked l.rank address → o ≡ None → Tells (Finds (HasPair key l.rank) (In p)) o → Reads now later 67 → Through address p bit n.next start later
+  miss {address} {p} {bit} {start = start} {later = later} x l n key is said key_is none tells more =
+      let told = asked address p None key_is (ap (λ (z : Leaf). z.rank) is ∙ x.rank) (subst (Tells (Finds (HasPair key l.rank) (In p))) none tells) in
+      subst (λ (i : Option Id). Through address p bit i start later) (ap (λ (k : MaskPart). k.next) (inside (sym x.listed ∙ said))) (x.miss later told more)
 
-  ended_at : (m : FinMap nat_cmp (Seen V)) (address : ℕ) (p : Part m) (bit top : ℕ) (rest : List (Placed V)) → first_room rest ≡ None → AreListed p.low top rest p.tree → Best address top (bit + 1) (In p) None → Best address p.low (bit + 1) (In p) None
-  ended_at m address p bit top [] ends listed tried = list_ends address p.low top (bit + 1) p.tree listed tried
-  ended_at m address p bit top (x ∷ xs) ends listed tried = absurd (none_some (sym ends))
-
-  pub ended : (m : FinMap nat_cmp (Seen V)) (address : ℕ) (p : Part m) (bit : ℕ) (at : Option Id) (steps : ℕ) → Through address p bit at steps → at ≡ None → Tells (Best address p.low (bit + 1) (In p)) None
-  ended m address p bit at steps w is = ended_at m address p bit w.top w.rest (w.begins ∙ is) w.listed w.tried
+  pub ended : {address : ℕ} {p : Part m} {bit : ℕ} {at : Option Id} {start now : Counter} → Through address p bit at start now → at ≡ None → Best address p.low (bit + 1) (In p) None
+  ended {address} {p} {bit} w is =
+      list_ends address p.low w.top (bit + 1) p.tree (λ y at least below. absurd (ended_at w.rest (w.begins ∙ is) y (w.listed y at least below))) w.tried

@@ -13,7 +13,7 @@ use Rattle.radix_tree.specs.Tree.{fork}
 use Rattle.radix_tree.specs.Rooms.{LeafPart, BitPart, Part, leaf_in, bit_in, leaves_in, bits_in, bit_part, name_of}
 use Rattle.radix_tree.specs.Searches.{ForkAt, Way}
 use Rattle.radix_tree.specs.Whole.{leaves_at, forks_at}
-use Rattle.radix_tree.specs.Growth.{turn, turned as turned_to, IsSpot, IsLodged, IsBeside, forked, placed}
+use Rattle.radix_tree.specs.Growth.{name_child, with_child, IsSpot, IsLodged, IsBeside, forked, placed}
 use Rattle.radix_tree.specs.Writes.{lodge_leaf, put_leaf, put_bit, with_leaf, lift_leaf, lift_bit, KeepsLeaves, KeepsBits}
 use Rattle.radix_tree.specs.declared.entry.Entry.{Entry}
 use Rattle.radix_tree.proofs.RoomReads.{inside, none_some, Has-leaf}
@@ -28,9 +28,9 @@ off_room : {A : Type 0} (room : Id) (n : ℕ) (x y : A) → (n ≡ room.number �
 off_room room n x y other = ap (λ (t : Bool). if t then x else y) (ne_eqb n room.number other)
 
 -- a room that isn't the bit node above isn't turned
-new_turn : (above : Option Id) (key n : ℕ) (to : Node) (said : Option BitPart) → ((over : Id) → above ≡ Some over → n ≡ over.number → ⊥) → turn above key to n said ≡ said
+new_turn : (above : Option Id) (key n : ℕ) (to : Node) (said : Option BitPart) → ((over : Id) → above ≡ Some over → n ≡ over.number → ⊥) → name_child above key to n said ≡ said
 new_turn None key n to said other = refl
-new_turn (Some over) key n to said other = off_room over n (turned_to key to said) said (other over refl)
+new_turn (Some over) key n to said other = off_room over n (with_child key to said) said (other over refl)
 
 module _ {V : Type 0} where
   pub Has-lodged_leaf : (new : FinMap nat_cmp (Seen V)) (room : Id) (value : V) (l : Leaf) (said : Option (LeafPart V)) → leaves_in new room.number ≡ lodge_leaf room value l room.number said → Has new room
@@ -93,19 +93,19 @@ module _ {V : Type 0} where
 
   -- and the part beneath it once that names the new bit node
   pub below_there : (m new turned : FinMap nat_cmp (Seen V)) (key bit : ℕ) (room : Id) (e : Entry V) (node : BitPart) (whole : Part m) (above : Option Id) (below : Node) → IsSpot m key bit whole above below → IsLodged m new room e node
-      → KeepsLeaves new turned → ((n : ℕ) → bits_in turned n ≡ turn above key (BitOf room) n (bits_in new n)) → (p : Part turned) × (name_of p.tree ≡ below)
+      → KeepsLeaves new turned → ((n : ℕ) → bits_in turned n ≡ name_child above key (BitOf room) n (bits_in new n)) → (p : Part turned) × (name_of p.tree ≡ below)
   below_there m new turned key bit room e node whole above below s l leaves bits = (
     stays m turned s.at
         (λ n some. leaves n ∙ l.leaves n (not_new m s.at room l.no_leaf n some))
-        (λ n some. bits n ∙ ap (λ (said : Option BitPart). turn above key (BitOf room) n said) (l.bits n (not_new_bit m s.at room l.no_bit n some))
-        ∙ ap (λ (o : Option Id). turn o key (BitOf room) n (bits_in m n)) (sym s.above_is) ∙ not_above m key whole s.at s.ups s.way s.top s.once (BitOf room) n some),
+        (λ n some. bits n ∙ ap (λ (said : Option BitPart). name_child above key (BitOf room) n said) (l.bits n (not_new_bit m s.at room l.no_bit n some))
+        ∙ ap (λ (o : Option Id). name_child o key (BitOf room) n (bits_in m n)) (sym s.above_is) ∙ not_above m key whole s.at s.ups s.way s.top s.once (BitOf room) n some),
     s.named,
   )
 
   -- what all writes together leave
   pub beside : (m new turned last : FinMap nat_cmp (Seen V)) (bit : ℕ) (room : Id) (e : Entry V) (whole : Part m) (above : Option Id) (below : Node) → IsSpot m e.key bit whole above below
       → IsLodged m new room e (forked e.key bit room below above)
-      → KeepsLeaves new turned → ((n : ℕ) → bits_in turned n ≡ turn above e.key (BitOf room) n (bits_in new n))
+      → KeepsLeaves new turned → ((n : ℕ) → bits_in turned n ≡ name_child above e.key (BitOf room) n (bits_in new n))
       → ((n : ℕ) → leaves_in last n ≡ lift_leaf below (Some room) n (leaves_in turned n)) → ((n : ℕ) → bits_in last n ≡ lift_bit below (Some room) n (bits_in turned n)) → IsBeside m last bit (placed room e) above below
   beside m new turned last bit room e whole above below s l leaves bits lifted_leaves lifted_bits =
       let new_above : (over : Id) → above ≡ Some over → room.number ≡ over.number → ⊥ = λ over is same.
@@ -122,5 +122,5 @@ module _ {V : Type 0} where
             ∙ bits room.number ∙ new_turn above e.key room.number (BitOf room) (bits_in new room.number) new_above ∙ l.bit_node;
         leaves = λ n other. lifted_leaves n ∙ ap (λ (said : Option (LeafPart V)). lift_leaf below (Some room) n said) (leaves n ∙ l.leaves n other);
         bits = λ n other. lifted_bits n ∙ ap (λ (said : Option BitPart). lift_bit below (Some room) n said)
-            (bits n ∙ ap (λ (said : Option BitPart). turn above e.key (BitOf room) n said) (l.bits n other));
+            (bits n ∙ ap (λ (said : Option BitPart). name_child above e.key (BitOf room) n said) (l.bits n other));
       }

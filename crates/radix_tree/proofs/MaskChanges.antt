@@ -9,7 +9,7 @@ use Rattle.radix_tree.specs.Tree.{Placed, IsAmong}
 use Rattle.radix_nodes.specs.declared.links.MaskNode.{MaskNode}
 use Rattle.radix_tree.specs.Rooms.{Leaves, MaskPart, Masks, leaves_in, heads_in, masks_in, mask_part, first_room, MasksStand, Falls}
 use Rattle.radix_tree.specs.Writes.{KeepsLeaves, KeepsHeads, put_mask}
-use Rattle.radix_tree.specs.MaskLists.{IsMasks, IsRanked, AreRanked, IsAside, IsNoRank, last_from, last_room, head_linked, mask_linked, not_below, below, sorted_in, taken_out}
+use Rattle.radix_tree.specs.MaskLists.{IsMasks, IsRanked, AreRanked, IsAside, IsNoRank, last_from, last_mask, head_linked, mask_linked, not_below, below, sorted_in, taken_out}
 use Rattle.radix_tree.proofs.RoomReads.{inside, none_some}
 use Rattle.radix_tree.proofs.TreeMembers.{same_rank}
 use Rattle.radix_tree.proofs.MaskLists.{in_front, in_back, falls_among, falls_wider, falls_not_below, falls_behind, falls_sorted, falls_taken, not_below_long, below_short, below_long, not_below_among, below_among, taken_among, parted, one_rank, ranked_among, among_ranked, marked_among, among_appended}
@@ -66,22 +66,22 @@ module _ {V : Type 0} where
   last_of before (x ∷ []) room is none = (x, inl refl, inside is)
   last_of before (x ∷ y ∷ ys) room is none = let rest = last_of None (y ∷ ys) room is refl in (rest.0, inr rest.1, rest.2)
 
-  pub last_among : (ms : List (Placed V)) (room : Id) → last_room ms ≡ Some room → (x : Placed V) × IsAmong x ms × (x.room ≡ room)
+  pub last_among : (ms : List (Placed V)) (room : Id) → last_mask ms ≡ Some room → (x : Placed V) × IsAmong x ms × (x.room ≡ room)
   last_among ms room is = last_of None ms room is refl
 
-  pub Has-last : (m : FinMap nat_cmp (Seen V)) (ms front : List (Placed V)) (before : Option Id) (room : Id) → AreRanked (leaves_in m) ms → ((y : Placed V) → IsAmong y front → IsAmong y ms) → last_room front ≡ before → before ≡ Some room → Has m room
+  pub Has-last : (m : FinMap nat_cmp (Seen V)) (ms front : List (Placed V)) (before : Option Id) (room : Id) → AreRanked (leaves_in m) ms → ((y : Placed V) → IsAmong y front → IsAmong y ms) → last_mask front ≡ before → before ≡ Some room → Has m room
   Has-last m ms front before room ranked within last is =
       let x = last_among front room (last ∙ is) in Has-ranked m x.0 room (ranked_among (leaves_in m) ms ranked x.0 (within x.0 x.1)) x.2
 
   -- no member of another list is the last one
-  not_last : (front : List (Placed V)) (n : ℕ) → IsAside n front → (before : Option Id) → last_room front ≡ before → (room : Id) → before ≡ Some room → n ≡ room.number → ⊥
+  not_last : (front : List (Placed V)) (n : ℕ) → IsAside n front → (before : Option Id) → last_mask front ≡ before → (room : Id) → before ≡ Some room → n ≡ room.number → ⊥
   not_last front n aside before last room is same =
       let x = last_among front room (last ∙ is) in aside x.0 x.1 (ap (λ (i : Id). i.number) x.2 ∙ sym same)
 
-  pub aside_linked : (front : List (Placed V)) (before next : Option Id) (n : ℕ) (said : Option MaskPart) → last_room front ≡ before → IsAside n front → mask_linked before next n said ≡ said
+  pub aside_linked : (front : List (Placed V)) (before next : Option Id) (n : ℕ) (said : Option MaskPart) → last_mask front ≡ before → IsAside n front → mask_linked before next n said ≡ said
   aside_linked front before next n said last aside = linked_aside before next n said (not_last front n aside before last)
 
-  pub marks_linked : (K : Masks) (ms front : List (Placed V)) (before next : Option Id) (n : ℕ) → MasksStand K ms → ((y : Placed V) → IsAmong y front → IsAmong y ms) → last_room front ≡ before
+  pub marks_linked : (K : Masks) (ms front : List (Placed V)) (before next : Option Id) (n : ℕ) → MasksStand K ms → ((y : Placed V) → IsAmong y front → IsAmong y ms) → last_mask front ≡ before
       → is_some (mask_linked before next n (K n)) ≡ is_some (K n)
   marks_linked K ms front before next n stands within last = linked_some before next n (K n) (λ room is same.
       let x = last_among front room (last ∙ is) in
@@ -109,37 +109,37 @@ module _ {V : Type 0} where
 
   -- ---- the last member of a front has another list behind it
   relinked : (K J : Masks) (front back behind : List (Placed V)) → MasksStand K (front ++ back) → Apart front
-      → ((y : Placed V) → IsAmong y front → J y.room.number ≡ mask_linked (last_room front) (first_room behind) y.room.number (K y.room.number)) → MasksStand J behind → MasksStand J (front ++ behind)
+      → ((y : Placed V) → IsAmong y front → J y.room.number ≡ mask_linked (last_mask front) (first_room behind) y.room.number (K y.room.number)) → MasksStand J behind → MasksStand J (front ++ behind)
   relinked K J [] back behind stands is said after = after
   relinked K J (x ∷ []) back behind stands is said after = (
     said x (inl refl) ∙ ap (λ (t : Bool). if t then Some (record { block = x.room.block; next = first_room behind }) else K x.room.number) (eq-eqb x.room.number x.room.number refl),
     after,
   )
   relinked K J (x ∷ y ∷ ys) back behind stands is said after = (
-    said x (inl refl) ∙ aside_linked (y ∷ ys) (last_room (y ∷ ys)) (first_room behind) x.room.number (K x.room.number) refl is.0 ∙ stands.0,
+    said x (inl refl) ∙ aside_linked (y ∷ ys) (last_mask (y ∷ ys)) (first_room behind) x.room.number (K x.room.number) refl is.0 ∙ stands.0,
     relinked K J (y ∷ ys) back behind stands.1 is.1 (λ z among. said z (inr among)) after,
   )
 
-  head_stays : (fork : Id) (x : Placed V) (xs : List (Placed V)) (next old : Option Id) → head_linked fork (last_room (x ∷ xs)) next fork.number old ≡ old
+  head_stays : (fork : Id) (x : Placed V) (xs : List (Placed V)) (next old : Option Id) → head_linked fork (last_mask (x ∷ xs)) next fork.number old ≡ old
   head_stays fork x [] next old = refl
   head_stays fork x (y ∷ ys) next old = head_stays fork y ys next old
 
-  head_relinked : (fork : Id) (front back behind : List (Placed V)) (old new : Option Id) → first_room (front ++ back) ≡ old → new ≡ head_linked fork (last_room front) (first_room behind) fork.number old → first_room (front ++ behind) ≡ new
+  head_relinked : (fork : Id) (front back behind : List (Placed V)) (old new : Option Id) → first_room (front ++ back) ≡ old → new ≡ head_linked fork (last_mask front) (first_room behind) fork.number old → first_room (front ++ behind) ≡ new
   head_relinked fork [] back behind old new begins said = sym (said ∙ ap (λ (t : Bool). if t then first_room behind else old) (eq-eqb fork.number fork.number refl))
   head_relinked fork (x ∷ xs) back behind old new begins said = begins ∙ sym (said ∙ head_stays fork x xs (first_room behind) old)
 
   -- a list whose front's last member has another list behind it
-  pub linked : (m new : FinMap nat_cmp (Seen V)) (fork : Id) (front back behind : List (Placed V)) (before next : Option Id) → IsMasks m (heads_in m fork.number) (front ++ back) → last_room front ≡ before → first_room behind ≡ next
+  pub linked : (m new : FinMap nat_cmp (Seen V)) (fork : Id) (front back behind : List (Placed V)) (before next : Option Id) → IsMasks m (heads_in m fork.number) (front ++ back) → last_mask front ≡ before → first_room behind ≡ next
       → KeepsLeaves m new → ((n : ℕ) → heads_in new n ≡ head_linked fork before next n (heads_in m n)) → ((n : ℕ) → masks_in new n ≡ mask_linked before next n (masks_in m n))
       → MasksStand (masks_in new) behind → Falls 0 34 (front ++ behind) → AreRanked (leaves_in m) behind → IsMasks new (heads_in new fork.number) (front ++ behind)
   linked m new fork front back behind before next is last first keeps heads masks after falls ranked =
       let all = apart (leaves_in m) 0 34 (front ++ back) is.falls is.ranked in
       record {
         begins = head_relinked fork front back behind (heads_in m fork.number) (heads_in new fork.number) is.begins
-            (heads fork.number ∙ ap (λ (o : Option Id). head_linked fork o next fork.number (heads_in m fork.number)) (sym last) ∙ ap (λ (o : Option Id). head_linked fork (last_room front) o fork.number (heads_in m fork.number)) (sym first));
+            (heads fork.number ∙ ap (λ (o : Option Id). head_linked fork o next fork.number (heads_in m fork.number)) (sym last) ∙ ap (λ (o : Option Id). head_linked fork (last_mask front) o fork.number (heads_in m fork.number)) (sym first));
         stands = relinked (masks_in m) (masks_in new) front back behind is.stands (apart_front front back all)
             (λ y among. masks y.room.number ∙ ap (λ (o : Option Id). mask_linked o next y.room.number (masks_in m y.room.number)) (sym last)
-            ∙ ap (λ (o : Option Id). mask_linked (last_room front) o y.room.number (masks_in m y.room.number)) (sym first)) after;
+            ∙ ap (λ (o : Option Id). mask_linked (last_mask front) o y.room.number (masks_in m y.room.number)) (sym first)) after;
         falls = falls;
         ranked = among_ranked (leaves_in new) (front ++ behind) (λ y among. ranked_same m new y keeps
             (⊎_elim (λ (one : IsAmong y front). ranked_among (leaves_in m) (front ++ back) is.ranked y (in_front front back y one)) (λ (other : IsAmong y behind). ranked_among (leaves_in m) behind ranked y other) (among_appended front behind y among)));
@@ -150,7 +150,7 @@ module _ {V : Type 0} where
   stands_back K (x ∷ xs) back stands = stands_back K xs back stands.1
 
   -- the members behind it say what they said
-  pub back_stays : (m new : FinMap nat_cmp (Seen V)) (front back : List (Placed V)) (before next : Option Id) → Falls 0 34 (front ++ back) → AreRanked (leaves_in m) (front ++ back) → last_room front ≡ before
+  pub back_stays : (m new : FinMap nat_cmp (Seen V)) (front back : List (Placed V)) (before next : Option Id) → Falls 0 34 (front ++ back) → AreRanked (leaves_in m) (front ++ back) → last_mask front ≡ before
       → ((n : ℕ) → masks_in new n ≡ mask_linked before next n (masks_in m n)) → (y : Placed V) → IsAmong y back → masks_in new y.room.number ≡ masks_in m y.room.number
   back_stays m new front back before next falls ranked last masks y among =
       masks y.room.number ∙ aside_linked front before next y.room.number (masks_in m y.room.number) last
@@ -167,14 +167,14 @@ module _ {V : Type 0} where
   nothing_behind (x ∷ xs) = ap (λ (l : List (Placed V)). x ∷ l) (nothing_behind xs)
 
   -- ---- a list is cut
-  pub kept_of_cut : (m new : FinMap nat_cmp (Seen V)) (fork : Id) (low : ℕ) (ms : List (Placed V)) (before : Option Id) → IsMasks m (heads_in m fork.number) ms → last_room (not_below low ms) ≡ before → KeepsLeaves m new
+  pub kept_of_cut : (m new : FinMap nat_cmp (Seen V)) (fork : Id) (low : ℕ) (ms : List (Placed V)) (before : Option Id) → IsMasks m (heads_in m fork.number) ms → last_mask (not_below low ms) ≡ before → KeepsLeaves m new
       → ((n : ℕ) → heads_in new n ≡ head_linked fork before None n (heads_in m n)) → ((n : ℕ) → masks_in new n ≡ mask_linked before None n (masks_in m n)) → IsMasks new (heads_in new fork.number) (not_below low ms)
   kept_of_cut m new fork low ms before is last keeps heads masks =
       subst (IsMasks new (heads_in new fork.number)) (nothing_behind (not_below low ms))
       (linked m new fork (not_below low ms) (below low ms) [] before None (list_parted m (heads_in m fork.number) low ms is) last refl keeps heads masks tt
       (subst (Falls 0 34) (sym (nothing_behind (not_below low ms))) (falls_wider low 34 0 34 (not_below low ms) (falls_not_below 0 34 low ms is.falls) (omega arith) (omega arith))) tt)
 
-  pub others_of_cut : (m new : FinMap nat_cmp (Seen V)) (fork : Id) (low : ℕ) (ms : List (Placed V)) (before behind : Option Id) → IsMasks m (heads_in m fork.number) ms → last_room (not_below low ms) ≡ before → first_room (below low ms) ≡ behind → KeepsLeaves m new
+  pub others_of_cut : (m new : FinMap nat_cmp (Seen V)) (fork : Id) (low : ℕ) (ms : List (Placed V)) (before behind : Option Id) → IsMasks m (heads_in m fork.number) ms → last_mask (not_below low ms) ≡ before → first_room (below low ms) ≡ behind → KeepsLeaves m new
       → ((n : ℕ) → masks_in new n ≡ mask_linked before None n (masks_in m n)) → IsMasks new behind (below low ms)
   others_of_cut m new fork low ms before behind is last first keeps masks =
       let all = list_parted m (heads_in m fork.number) low ms is in
@@ -190,10 +190,10 @@ module _ {V : Type 0} where
   all_long [] = refl
   all_long (x ∷ xs) = not_below_long 0 x xs (omega arith) ∙ ap (λ (l : List (Placed V)). x ∷ l) (all_long xs)
 
-  pub appended : (m new : FinMap nat_cmp (Seen V)) (fork : Id) (ms ts : List (Placed V)) (before tail : Option Id) → IsMasks m (heads_in m fork.number) ms → IsMasks m tail ts → Falls 0 34 (ms ++ ts) → last_room (not_below 0 ms) ≡ before → KeepsLeaves m new
+  pub appended : (m new : FinMap nat_cmp (Seen V)) (fork : Id) (ms ts : List (Placed V)) (before tail : Option Id) → IsMasks m (heads_in m fork.number) ms → IsMasks m tail ts → Falls 0 34 (ms ++ ts) → last_mask (not_below 0 ms) ≡ before → KeepsLeaves m new
       → ((n : ℕ) → heads_in new n ≡ head_linked fork before tail n (heads_in m n)) → ((n : ℕ) → masks_in new n ≡ mask_linked before tail n (masks_in m n)) → IsMasks new (heads_in new fork.number) (ms ++ ts)
   appended m new fork ms ts before tail is behind falls last keeps heads masks =
-      let end = ap (λ (l : List (Placed V)). last_room l) (sym (all_long ms)) ∙ last in
+      let end = ap (λ (l : List (Placed V)). last_mask l) (sym (all_long ms)) ∙ last in
       let ranked = among_ranked (leaves_in m) (ms ++ ts) (λ y among.
       ⊎_elim (λ (one : IsAmong y ms). ranked_among (leaves_in m) ms is.ranked y one) (λ (other : IsAmong y ts). ranked_among (leaves_in m) ts behind.ranked y other) (among_appended ms ts y among)) in
       linked m new fork ms [] ts before tail (subst (IsMasks m (heads_in m fork.number)) (sym (nothing_behind ms)) is) end behind.begins keeps heads masks
@@ -210,12 +210,12 @@ module _ {V : Type 0} where
 
   pub sorted : (m between new : FinMap nat_cmp (Seen V)) (fork : Id) (x : Placed V) (room : Id) (node : MaskNode) (rank : ℕ) (ms : List (Placed V)) (before : Option Id)
       → IsMasks m (heads_in m fork.number) ms → x.room ≡ room → IsRanked (leaves_in m) x → masks_in m room.number ≡ None → rank ≡ x.entry.rank → rank ≤ 33 → IsNoRank x.entry.rank ms
-      → last_room (not_below rank ms) ≡ before → first_room (below rank ms) ≡ node.next
+      → last_mask (not_below rank ms) ≡ before → first_room (below rank ms) ≡ node.next
       → KeepsLeaves m between → KeepsHeads m between → ((n : ℕ) → masks_in between n ≡ put_mask room (Some node) n (masks_in m n))
       → KeepsLeaves between new → ((n : ℕ) → heads_in new n ≡ head_linked fork before (Some room) n (heads_in between n)) → ((n : ℕ) → masks_in new n ≡ mask_linked before (Some room) n (masks_in between n))
       → IsMasks new (heads_in new fork.number) (sorted_in x ms)
   sorted m between new fork x room node rank ms before is room_is own free rank_is most no_rank last first keeps_one heads_one masks_one keeps heads masks =
-      let last_is : last_room (not_below x.entry.rank ms) ≡ before = subst (λ (n : ℕ). last_room (not_below n ms) ≡ before) rank_is last in
+      let last_is : last_mask (not_below x.entry.rank ms) ≡ before = subst (λ (n : ℕ). last_mask (not_below n ms) ≡ before) rank_is last in
       let first_is : first_room (below x.entry.rank ms) ≡ node.next = subst (λ (n : ℕ). first_room (below n ms) ≡ node.next) rank_is first in
       let aside = free_aside (masks_in m) ms room is.stands free in
       let is_one = masks_same m between (heads_in m fork.number) (heads_in between fork.number) ms keeps_one
@@ -260,12 +260,12 @@ module _ {V : Type 0} where
 
   pub taken : (m between new : FinMap nat_cmp (Seen V)) (fork : Id) (x : Placed V) (room : Id) (low : ℕ) (ms : List (Placed V)) (before next : Option Id)
       → IsMasks m (heads_in m fork.number) ms → IsAmong x ms → x.room ≡ room → low ≡ x.entry.rank + 1
-      → last_room (not_below low ms) ≡ before → first_room (below x.entry.rank ms) ≡ next
+      → last_mask (not_below low ms) ≡ before → first_room (below x.entry.rank ms) ≡ next
       → KeepsLeaves m between → ((n : ℕ) → heads_in between n ≡ head_linked fork before next n (heads_in m n)) → ((n : ℕ) → masks_in between n ≡ mask_linked before next n (masks_in m n))
       → KeepsLeaves between new → KeepsHeads between new → ((n : ℕ) → masks_in new n ≡ put_mask room None n (masks_in between n))
       → IsMasks new (heads_in new fork.number) (taken_out x.entry.rank ms)
   taken m between new fork x room low ms before next is among room_is low_is last first keeps heads masks keeps_two heads_two masks_two =
-      let last_is : last_room (not_below (x.entry.rank + 1) ms) ≡ before = subst (λ (n : ℕ). last_room (not_below n ms) ≡ before) low_is last in
+      let last_is : last_mask (not_below (x.entry.rank + 1) ms) ≡ before = subst (λ (n : ℕ). last_mask (not_below n ms) ≡ before) low_is last in
       let all = list_parted m (heads_in m fork.number) (x.entry.rank + 1) ms is in
       let own = ranked_among (leaves_in m) ms is.ranked x among in
       let stays = λ (y : Placed V) (behind : IsAmong y (below x.entry.rank ms)). back_stays m between (not_below (x.entry.rank + 1) ms) (below (x.entry.rank + 1) ms) before next all.falls all.ranked last_is masks y
@@ -281,7 +281,7 @@ module _ {V : Type 0} where
 
   -- the members of a list stay mask nodes
   pub sorted_marks : (K J : Masks) (ms front : List (Placed V)) (room : Id) (node : MaskNode) (before next : Option Id) (n : ℕ) → MasksStand K ms → K room.number ≡ None → ((k : ℕ) → J k ≡ put_mask room (Some node) k (K k))
-      → ((y : Placed V) → IsAmong y front → IsAmong y ms) → last_room front ≡ before → is_some (mask_linked before next n (J n)) ≡ is_some (J n)
+      → ((y : Placed V) → IsAmong y front → IsAmong y ms) → last_mask front ≡ before → is_some (mask_linked before next n (J n)) ≡ is_some (J n)
   sorted_marks K J ms front room node before next n stands free one within last =
       marks_linked J ms front before next n
       (stand_same K J ms (λ y among. one y.room.number ∙ put_aside room (Some node) y.room.number (K y.room.number) (free_aside K ms room stands free y among)) stands) within last

@@ -12,7 +12,7 @@ use Rattle.radix_nodes.specs.declared.links.Node.TheVariants.{Leaf as LeafOf, Bi
 use Rattle.radix_tree.specs.Tree.{Tree, leaf, fork, bit_at}
 use Rattle.radix_tree.specs.Rooms.{LeafPart, BitPart, leaf_in, leaves_in, name_of}
 use Rattle.radix_tree.specs.Whole.{one_if, leaves_at, forks_at, shown_entry}
-use Rattle.radix_tree.specs.Growth.{turned}
+use Rattle.radix_tree.specs.Growth.{with_child}
 use Rattle.radix_tree.specs.Writes.{lift_leaf, lift_bit, leaf_above, bit_above}
 use Rattle.radix_tree.specs.Removal.{renamed, with_renamed, rename, Content, content_of}
 use Rattle.radix_tree.proofs.AddressBits.{zero_not_one}
@@ -95,12 +95,12 @@ pub renamed_to : (from to room : Id) → room.number ≡ from.number → renamed
 renamed_to from to room same = ap (λ (t : Bool). if t then BitOf to else BitOf room) (eq-eqb room.number from.number same)
 
 -- the bit node names the other one on the side of an address
-pub zero_turned : (address : ℕ) (name : Node) (p : BitPart) → bit_at p.bit address ≡ 0 → turned address name (Some p) ≡ Some (record p { zero = name })
+pub zero_turned : (address : ℕ) (name : Node) (p : BitPart) → bit_at p.bit address ≡ 0 → with_child address name (Some p) ≡ Some (record p { zero = name })
 zero_turned address name p clear =
     let test : (bit_at p.bit address == 1) ≡ false = ne_eqb (bit_at p.bit address) 1 (λ set. zero_not_one clear set) in
     ap (λ (t : Bool). Some (if t then record p { one = name } else record p { zero = name })) test
 
-pub one_turned : (address : ℕ) (name : Node) (p : BitPart) → bit_at p.bit address ≡ 1 → turned address name (Some p) ≡ Some (record p { one = name })
+pub one_turned : (address : ℕ) (name : Node) (p : BitPart) → bit_at p.bit address ≡ 1 → with_child address name (Some p) ≡ Some (record p { one = name })
 one_turned address name p set =
     ap (λ (t : Bool). Some (if t then record p { one = name } else record p { zero = name })) (eq-eqb (bit_at p.bit address) 1 set)
 

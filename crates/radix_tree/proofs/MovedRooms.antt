@@ -15,7 +15,7 @@ use Rattle.radix_tree.specs.Tree.{Tree, fork, bit_at, HaveBit, IsIn}
 use Rattle.radix_tree.specs.Rooms.{BitPart, Part, leaves_in, bits_in, heads_in, masks_in, bit_in, bit_part, head_part, name_of, Stands}
 use Rattle.radix_tree.specs.Searches.{ForkAt, Beneath, Way}
 use Rattle.radix_tree.specs.Whole.{one_if, leaves_at, forks_at, HasHome}
-use Rattle.radix_tree.specs.Growth.{turn, turned, AreOnce}
+use Rattle.radix_tree.specs.Growth.{name_child, with_child, AreOnce}
 use Rattle.radix_tree.specs.Marks.{IsWholeBut, MarkedLists, nobody_late, out_at}
 use Rattle.radix_tree.specs.Writes.{put_bit, put_head, lift_leaf, lift_bit, KeepsMasks}
 use Rattle.radix_tree.specs.Exchange.{IsExchange}
@@ -287,7 +287,7 @@ module _ {V : Type 0} where
 
   -- ---- the bit node above
   zero_named : (m : FinMap nat_cmp (Seen V)) (from to room : Id) (key : ℕ) (under over : Part m) (b : Beneath key under over) → name_of under.tree ≡ BitOf room → room.number ≡ from.number → under.tree ≡ b.at.zero → bit_at b.at.bit key ≡ 0 → forks_at from.number b.at.one ≡ 0
-      → with_renamed from to (Some (bit_part_of m over b.room b.at)) ≡ turned key (BitOf to) (Some (bit_part_of m over b.room b.at))
+      → with_renamed from to (Some (bit_part_of m over b.room b.at)) ≡ with_child key (BitOf to) (Some (bit_part_of m over b.room b.at))
   zero_named m from to room key under over b named same tree clear none =
       let p = bit_part_of m over b.room b.at in
       let here : renamed from to (name_of b.at.zero) ≡ BitOf to = ap (renamed from to) (sym (ap (λ (t : Tree V). name_of t) tree) ∙ named) ∙ renamed_to from to room same in
@@ -297,7 +297,7 @@ module _ {V : Type 0} where
       ∙ sym (zero_turned key (BitOf to) (bit_part_of m over b.room b.at) clear)
 
   one_named : (m : FinMap nat_cmp (Seen V)) (from to room : Id) (key : ℕ) (under over : Part m) (b : Beneath key under over) → name_of under.tree ≡ BitOf room → room.number ≡ from.number → under.tree ≡ b.at.one → bit_at b.at.bit key ≡ 1 → forks_at from.number b.at.zero ≡ 0
-      → with_renamed from to (Some (bit_part_of m over b.room b.at)) ≡ turned key (BitOf to) (Some (bit_part_of m over b.room b.at))
+      → with_renamed from to (Some (bit_part_of m over b.room b.at)) ≡ with_child key (BitOf to) (Some (bit_part_of m over b.room b.at))
   one_named m from to room key under over b named same tree set none =
       let here : renamed from to (name_of b.at.one) ≡ BitOf to = ap (renamed from to) (sym (ap (λ (t : Tree V). name_of t) tree) ∙ named) ∙ renamed_to from to room same in
       let there : renamed from to (name_of b.at.zero) ≡ name_of b.at.zero = renamed_off from to b.at.zero none in
@@ -307,7 +307,7 @@ module _ {V : Type 0} where
 
   -- to name the room by its number is to turn the bit node above on the side of the way
   over_named : (m : FinMap nat_cmp (Seen V)) (from to room : Id) (key : ℕ) (under over : Part m) (b : Beneath key under over) → AreOnce over.tree → 1 ≤ forks_at from.number under.tree → name_of under.tree ≡ BitOf room → room.number ≡ from.number
-      → with_renamed from to (bits_in m b.room.number) ≡ turned key (BitOf to) (bits_in m b.room.number)
+      → with_renamed from to (bits_in m b.room.number) ≡ with_child key (BitOf to) (bits_in m b.room.number)
   over_named m from to room key under over b once some named same =
       let said = (fork_stands m over b.room b.at).0 in
       let sum : forks_at from.number over.tree ≡ one_if (b.room.number == from.number) + (forks_at from.number b.at.zero + forks_at from.number b.at.one) = ap (λ (t : Tree V). forks_at from.number t) b.at.is in
@@ -321,23 +321,23 @@ module _ {V : Type 0} where
       let is : forks_at from.number under.tree ≡ forks_at from.number b.at.one = ap (λ (t : Tree V). forks_at from.number t) e.0 in
       one_named m from to room key under over b named same e.0 e.1 (omega arith))
       b.side
-      ∙ sym (ap (turned key (BitOf to)) said)
+      ∙ sym (ap (with_child key (BitOf to)) said)
 
   spine_named : (m : FinMap nat_cmp (Seen V)) (from to room : Id) (key : ℕ) (whole at : Part m) (ups : List (Part m)) → Way key whole at ups → whole.above ≡ None → AreOnce whole.tree → 1 ≤ forks_at from.number at.tree → name_of at.tree ≡ BitOf room → room.number ≡ from.number
-      → (k : ℕ) → rename at.above from to k (bits_in m k) ≡ turn at.above key (BitOf to) k (bits_in m k)
+      → (k : ℕ) → rename at.above from to k (bits_in m k) ≡ name_child at.above key (BitOf to) k (bits_in m k)
   spine_named m from to room key whole at [] way top once some named same k =
       let none : at.above ≡ None = ap (λ (p : Part m). p.above) way ∙ top in
-      ap (λ (o : Option Id). rename o from to k (bits_in m k)) none ∙ sym (ap (λ (o : Option Id). turn o key (BitOf to) k (bits_in m k)) none)
+      ap (λ (o : Option Id). rename o from to k (bits_in m k)) none ∙ sym (ap (λ (o : Option Id). name_child o key (BitOf to) k (bits_in m k)) none)
   spine_named m from to room key whole at (p ∷ ps) way top once some named same k =
       let b = way.0 in
       ap (λ (o : Option Id). rename o from to k (bits_in m k)) b.above
       ∙ elim (k == b.room.number) as (λ t. (k == b.room.number) ≡ t
-      → (if t then with_renamed from to (bits_in m k) else bits_in m k) ≡ (if t then turned key (BitOf to) (bits_in m k) else bits_in m k)) [
-        | true ↦ λ e. subst (λ (j : ℕ). with_renamed from to (bits_in m j) ≡ turned key (BitOf to) (bits_in m j)) (sym (eqb-true k b.room.number e))
+      → (if t then with_renamed from to (bits_in m k) else bits_in m k) ≡ (if t then with_child key (BitOf to) (bits_in m k) else bits_in m k)) [
+        | true ↦ λ e. subst (λ (j : ℕ). with_renamed from to (bits_in m j) ≡ with_child key (BitOf to) (bits_in m j)) (sym (eqb-true k b.room.number e))
             (over_named m from to room key at p b (way_once m key whole p ps way.1 once) some named same)
         | false ↦ λ e. refl
       ] refl
-      ∙ sym (ap (λ (o : Option Id). turn o key (BitOf to) k (bits_in m k)) b.above)
+      ∙ sym (ap (λ (o : Option Id). name_child o key (BitOf to) k (bits_in m k)) b.above)
 
   -- ---- the exchange
   pub exchange : (m new : FinMap nat_cmp (Seen V)) (root : Node) (from to : Id) (n : BitNode) (v : IsMove m root from to n) (d : IsMoved m new from to n) → IsExchange m new v.key v.whole.part v.at (under_of m new root from to n v d)

@@ -10,7 +10,7 @@ use Rattle.radix_tree.specs.Tree.{Placed, Tree, leaf, fork, bit_at}
 use Rattle.radix_tree.specs.Rooms.{BitPart, Leaves, Bits, Part, leaves_in, bits_in, name_of, ChainStands, Stands}
 use Rattle.radix_tree.specs.Searches.{ForkAt, Beneath, Way}
 use Rattle.radix_tree.specs.Whole.{one_if, members_at, leaves_at, forks_at}
-use Rattle.radix_tree.specs.Growth.{turned, AreOnce}
+use Rattle.radix_tree.specs.Growth.{with_child, AreOnce}
 use Rattle.radix_tree.proofs.AddressBits.{zero_not_one}
 use Rattle.radix_tree.proofs.Parts.{fork_stands}
 
@@ -21,12 +21,12 @@ abbrev pub said : Id → ℕ → Node → Node → Option Id → BitPart
 said room b zero one above = record { block = room.block; bit = b; zero = zero; one = one; above = above }
 
 -- the bit node above names another node
-pub zero_turned : (address : ℕ) (name : Node) (p : BitPart) → bit_at p.bit address ≡ 0 → turned address name (Some p) ≡ Some (record p { zero = name })
+pub zero_turned : (address : ℕ) (name : Node) (p : BitPart) → bit_at p.bit address ≡ 0 → with_child address name (Some p) ≡ Some (record p { zero = name })
 zero_turned address name p clear =
     let test : (bit_at p.bit address == 1) ≡ false = ne_eqb (bit_at p.bit address) 1 (λ set. zero_not_one clear set) in
     ap (λ (t : Bool). Some (if t then record p { one = name } else record p { zero = name })) test
 
-pub one_turned : (address : ℕ) (name : Node) (p : BitPart) → bit_at p.bit address ≡ 1 → turned address name (Some p) ≡ Some (record p { one = name })
+pub one_turned : (address : ℕ) (name : Node) (p : BitPart) → bit_at p.bit address ≡ 1 → with_child address name (Some p) ≡ Some (record p { one = name })
 one_turned address name p set =
     ap (λ (t : Bool). Some (if t then record p { one = name } else record p { zero = name })) (eq-eqb (bit_at p.bit address) 1 set)
 
@@ -65,11 +65,11 @@ module _ {V : Type 0} where
   fork_leaves m over room f n = ap (λ (t : Tree V). leaves_at n t) f.is
 
   -- to name it as before changes nothing
-  pub same_turned : (m : FinMap nat_cmp (Seen V)) (address : ℕ) (under over : Part m) (name : Node) (b : Beneath address under over) → name ≡ name_of under.tree → bits_in m b.room.number ≡ turned address name (bits_in m b.room.number)
+  pub same_turned : (m : FinMap nat_cmp (Seen V)) (address : ℕ) (under over : Part m) (name : Node) (b : Beneath address under over) → name ≡ name_of under.tree → bits_in m b.room.number ≡ with_child address name (bits_in m b.room.number)
   same_turned m address under over name b is =
       let f = b.at in
       let old = (fork_stands m over b.room f).0 in
-      old ∙ sym (ap (turned address name) old ∙ ⊎_elim
+      old ∙ sym (ap (with_child address name) old ∙ ⊎_elim
       (λ (e : (under.tree ≡ f.zero) × (bit_at f.bit address ≡ 0)). zero_turned address name (said b.room f.bit (name_of f.zero) (name_of f.one) over.above) e.1
       ∙ ap (λ (z : Node). Some (said b.room f.bit z (name_of f.one) over.above)) (is ∙ ap (λ (t : Tree V). name_of t) e.0))
       (λ (e : (under.tree ≡ f.one) × (bit_at f.bit address ≡ 1)). one_turned address name (said b.room f.bit (name_of f.zero) (name_of f.one) over.above) e.1

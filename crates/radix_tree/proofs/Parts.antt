@@ -7,7 +7,7 @@ use Rattle.radix_nodes.specs.declared.id.Id.{Id}
 use Rattle.radix_nodes.specs.declared.links.Node.TheVariants.{Leaf as LeafOf, Bit as BitOf}
 use Rattle.radix_tree.specs.Tree.{Placed, Tree, leaf, fork, bit_at, IsAmong, IsIn, IsTree}
 use Rattle.radix_tree.specs.Rooms.{BitPart, Part, Run, leaves_in, bits_in, heads_in, masks_in, first_room, name_of, Stands, Lists, AreListed}
-use Rattle.radix_tree.specs.Searches.{Best, In, ForkAt, LeafAt, Beneath, Way}
+use Rattle.radix_tree.specs.Searches.{Best, In, ForkAt, LeafAt, LedTo, Beneath, Way}
 use Rattle.radix_tree.proofs.RoomReads.{Has-bit}
 use Rattle.radix_tree.proofs.Searching.{IsSide, zero_side, one_side, side_hit}
 
@@ -113,6 +113,10 @@ module _ {V : Type 0} where
 
   pub leaf_begins : (m : FinMap nat_cmp (Seen V)) (p : Part m) (room : Id) (f : LeafAt p room) → first_room (f.first ∷ f.rest) ≡ Some room
   leaf_begins m p room f = ap (λ (i : Id). Some i) f.room_is
+
+  -- that of the leaf to which an address leads
+  abbrev pub chain_led : {m : FinMap nat_cmp (Seen V)} {address : ℕ} {whole : Part m} {room : Id} → LedTo address whole room → (c : Run m) × (first_room c.members ≡ Some room)
+  chain_led {m} {room = room} l = (leaf_run m l.part room l.leaf, leaf_begins m l.part room l.leaf)
 
   pub among_leaf : (m : FinMap nat_cmp (Seen V)) (p : Part m) (room : Id) (f : LeafAt p room) (y : Placed V) → IsIn y p.tree → IsAmong y (f.first ∷ f.rest)
   among_leaf m p room f y at = subst (IsIn y) f.is at

@@ -32,6 +32,14 @@ pub record IsNode (n : BitNode) (p : BitPart) : Type 0 where
   pub one : n.one ≡ p.one
   pub above : n.above ≡ p.above
 
+pub node_said : {said : Option BitPart} {block : Ptr} {n : BitNode} {p : BitPart} → said ≡ bit_part block (Some n) → said ≡ Some p → IsNode n p
+node_said e is = let same = inside (sym e ∙ is) in record {
+  bit = ap (λ (q : BitPart). q.bit) same;
+  zero = ap (λ (q : BitPart). q.zero) same;
+  one = ap (λ (q : BitPart). q.one) same;
+  above = ap (λ (q : BitPart). q.above) same;
+}
+
 module _ {V : Type 0} where
   -- these are the links of a room of the map
   abbrev pub AreLinks : FinMap nat_cmp (Seen V) → Id → Links → Type 0
@@ -85,6 +93,15 @@ module _ {V : Type 0} where
   bit_used m room p links e block are none =
       let h = Has-bit m room p e block in
       none_some (sym (ap (bit_part h.room.block) none) ∙ bit_said m room p links h e are)
+
+  -- what the links say is what the room says
+  pub bit_told : {m : FinMap nat_cmp (Seen V)} {room : Id} {links : Links} → Has m room → AreLinks m room links → bits_in m room.number ≡ bit_part room.block (bit_node_of links)
+  bit_told {links = links} h are =
+      ap bit_in h.at ∙ ap (λ (l : Links). bit_part h.room.block (bit_node_of l)) (sym (are h.room h.at)) ∙ ap (λ (b : Ptr). bit_part b (bit_node_of links)) h.block
+
+  pub mask_told : {m : FinMap nat_cmp (Seen V)} {room : Id} {links : Links} → Has m room → AreLinks m room links → masks_in m room.number ≡ mask_part room.block (mask_node_of links)
+  mask_told {links = links} h are =
+      ap mask_in h.at ∙ ap (λ (l : Links). mask_part h.room.block (mask_node_of l)) (sym (are h.room h.at)) ∙ ap (λ (b : Ptr). mask_part b (mask_node_of links)) h.block
 
   pub head_read : (m : FinMap nat_cmp (Seen V)) (room : Id) (links : Links) (n : BitNode) → Has m room → AreLinks m room links → bit_node_of links ≡ Some n → heads_in m room.number ≡ n.masks
   head_read m room links n h are is = ap head_in h.at ∙ sym (ap (λ (l : Links). head_part (bit_node_of l)) (are h.room h.at)) ∙ ap head_part is

@@ -15,10 +15,11 @@ use Rattle.radix_nodes.specs.declared.id.Id.{Id}
 use Rattle.radix_nodes.specs.declared.links.BitNode.{BitNode}
 use Rattle.radix_nodes.specs.declared.links.Leaf.{Leaf}
 use Rattle.radix_nodes.specs.declared.links.Links.{Links}
+use Rattle.radix_tree.specs.Bounds.{levels}
 use Rattle.radix_tree.specs.Tree.{Placed, Tree, fork, bit_at, IsIn, IsChain, IsTree, routes_of}
 use Rattle.radix_tree.specs.Rooms.{LeafPart, BitPart, Leaves, Bits, Part, Run, leaves_in, bits_in, leaf_part, first_room, name_of, ChainStands}
 use Rattle.radix_tree.specs.Searches.{ForkAt, LeafAt, Way, LedTo}
-use Rattle.radix_tree.specs.Walks.{side_behind, up_behind, chain_behind, ahead, Under, IsBefore, IsFirst, IsAt, IsOn, Climb}
+use Rattle.radix_tree.specs.Walks.{side_behind, up_behind, chain_behind, ahead, Under, IsBefore, IsFirst, IsAt, IsOn}
 use Rattle.radix_tree.specs.Whole.{chain_shown, chain_from, beneath_shown}
 use Rattle.radix_tree.specs.declared.entry.Entry.{Entry}
 use Rattle.radix_tree.specs.declared.walk.Place.{Place}
@@ -250,7 +251,22 @@ module _ {V : Type 0} where
       subst (λ (k : ℕ). IsFirst m k place.first) (sym (ap (λ (l : Leaf). l.key) (here_read m place a links l are is) ∙ h.chain.1 ∙ a.of_key)) a.first
 
   -- ---- the way up
-  pub climb_begun : (m : FinMap nat_cmp (Seen V)) (key : ℕ) (first : Id) (f : IsFirst m key first) (links : Links) (l : Leaf) (steps : ℕ) → AreLinks m first links → l ≡ leaf_of links → steps ≡ 1 → Climb m key first l.above steps
+  -- a walk up from that leaf, at a node beneath this one, behind which stands what stands behind the leaf
+  pub record Upward (m : FinMap nat_cmp (Seen V)) (key : ℕ) (first : Id) (above : Option Id) (steps : ℕ) : Type 0 where
+    pub whole : Part m
+    pub top : whole.above ≡ None
+    pub part : Part m
+    pub above_is : part.above ≡ above
+    pub route : Placed V
+    pub inside : IsIn route part.tree
+    pub own : route.entry.key ≡ key
+    pub behind : List (Entry V)
+    pub ups : List (Part m)
+    pub before : IsBefore whole part behind ups
+    pub same : behind ≡ chain_behind (leaves_in m) (bits_in m) (leaves_in m first.number)
+    pub few : steps + part.low ≤ levels
+
+  pub climb_begun : (m : FinMap nat_cmp (Seen V)) (key : ℕ) (first : Id) (f : IsFirst m key first) (links : Links) (l : Leaf) (steps : ℕ) → AreLinks m first links → l ≡ leaf_of links → steps ≡ 1 → Upward m key first l.above steps
   climb_begun m key first f links l steps are is one =
       let low : f.part.low ≤ 32 = leaf_low m f.part first f.leaf in
       let read = is ∙ leaf_read m first (leaf_part f.leaf.first f.part.above None (first_room f.leaf.rest)) links (first_said m f.part first f.leaf) (ap (λ (i : Id). i.block) f.leaf.room_is) are in
@@ -307,13 +323,13 @@ module _ {V : Type 0} where
   overhead_of m whole at behind up (over ∷ ups) top above before =
       overhead_at m whole at behind up over ups before.0 before.1 before.2 up refl (inside (sym before.2.above ∙ above)) before.3 before.4
 
-  pub overhead : (m : FinMap nat_cmp (Seen V)) (key : ℕ) (first : Id) (above : Option Id) (steps : ℕ) (up : Id) (c : Climb m key first above steps) → above ≡ Some up → Overhead m c.whole c.part c.behind up
+  pub overhead : (m : FinMap nat_cmp (Seen V)) (key : ℕ) (first : Id) (above : Option Id) (steps : ℕ) (up : Id) (c : Upward m key first above steps) → above ≡ Some up → Overhead m c.whole c.part c.behind up
   overhead m key first above steps up c some = overhead_of m c.whole c.part c.behind up c.ups c.top (c.above_is ∙ some) c.before
 
-  pub Has-over : (m : FinMap nat_cmp (Seen V)) (key : ℕ) (first : Id) (above : Option Id) (steps : ℕ) (up : Id) → Climb m key first above steps → above ≡ Some up → Has m up
+  pub Has-over : (m : FinMap nat_cmp (Seen V)) (key : ℕ) (first : Id) (above : Option Id) (steps : ℕ) (up : Id) → Upward m key first above steps → above ≡ Some up → Has m up
   Has-over m key first above steps up c some = let o = overhead m key first above steps up c some in Has-fork m o.over up o.at_up
 
-  pub used_over : (m : FinMap nat_cmp (Seen V)) (key : ℕ) (first : Id) (above : Option Id) (steps : ℕ) (up : Id) (links : Links) → Climb m key first above steps → above ≡ Some up → AreLinks m up links → bit_node_of links ≡ None → ⊥
+  pub used_over : (m : FinMap nat_cmp (Seen V)) (key : ℕ) (first : Id) (above : Option Id) (steps : ℕ) (up : Id) (links : Links) → Upward m key first above steps → above ≡ Some up → AreLinks m up links → bit_node_of links ≡ None → ⊥
   used_over m key first above steps up links c some are none =
       let o = overhead m key first above steps up c some in bit_used m up (bit_part_of m o.over up o.at_up) links (fork_stands m o.over up o.at_up).0 refl are none
 
@@ -321,11 +337,11 @@ module _ {V : Type 0} where
   pub record Read (m : FinMap nat_cmp (Seen V)) (key : ℕ) (first : Id) (n : BitNode) (steps later : ℕ) : Type 0 where
     pub within : n.bit ≤ 31
     pub few : steps ≤ 32
-    pub up : bit_at n.bit key ≡ 1 → Climb m key first n.above later
+    pub up : bit_at n.bit key ≡ 1 → Upward m key first n.above later
     pub named : (p : Part m) × (name_of p.tree ≡ n.one)
     pub turn : bit_at n.bit key ≡ 0 → (room : Id) → ((p : Part m) → name_of p.tree ≡ n.one → LedTo 0 p room) → Begins m room (behind_of m first)
 
-  pub read_over : (m : FinMap nat_cmp (Seen V)) (key : ℕ) (first : Id) (above : Option Id) (steps later : ℕ) (up : Id) (links : Links) (n : BitNode) → Climb m key first above steps → above ≡ Some up → AreLinks m up links → bit_node_of links ≡ Some n
+  pub read_over : (m : FinMap nat_cmp (Seen V)) (key : ℕ) (first : Id) (above : Option Id) (steps later : ℕ) (up : Id) (links : Links) (n : BitNode) → Upward m key first above steps → above ≡ Some up → AreLinks m up links → bit_node_of links ≡ Some n
       → later ≡ steps + 1 → Read m key first n steps later
   read_over m key first above steps later up links n c some are node soon =
       let o = overhead m key first above steps up c some in
@@ -373,7 +389,7 @@ module _ {V : Type 0} where
   ended_at m whole at behind [] none before = before.1
   ended_at m whole at behind (over ∷ ups) none before = absurd (none_some (sym none ∙ before.2.above))
 
-  pub climb_ended : (m : FinMap nat_cmp (Seen V)) (key : ℕ) (first : Id) (above : Option Id) (steps : ℕ) → Climb m key first above steps → above ≡ None → [] ≡ behind_of m first
+  pub climb_ended : (m : FinMap nat_cmp (Seen V)) (key : ℕ) (first : Id) (above : Option Id) (steps : ℕ) → Upward m key first above steps → above ≡ None → [] ≡ behind_of m first
   climb_ended m key first above steps c none = sym (ended_at m c.whole c.part c.behind c.ups (c.above_is ∙ none) c.before) ∙ c.same
 
   -- a place at the first room of its chain

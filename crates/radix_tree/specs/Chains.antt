@@ -92,6 +92,6 @@ module _ {V : Type 0} where
       }
 
     -- a chain has a gap for a rank, or a member of it
-    abbrev pub Gap : ℕ → ℕ → Run m → Option Leaf → Type 0
-    Gap key rank c None = (x : Placed V) × IsAmong x c.members × (x.entry.rank ≡ rank)
-    Gap key rank c (Some l) = IsGap rank c key l
+    abbrev pub FindsGap : ℕ → ℕ → Run m → Option Leaf → Type 0
+    FindsGap key rank c None = (x : Placed V) × IsAmong x c.members × (x.entry.rank ≡ rank)
+    FindsGap key rank c (Some l) = IsGap rank c key l

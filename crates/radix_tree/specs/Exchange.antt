@@ -8,7 +8,7 @@ use Rattle.radix_nodes.specs.declared.links.Node.{Node}
 use Rattle.radix_tree.specs.Tree.{Tree, fork, bit_at, HaveBit}
 use Rattle.radix_tree.specs.Rooms.{Part, leaves_in, bits_in, name_of}
 use Rattle.radix_tree.specs.Whole.{leaves_at, forks_at}
-use Rattle.radix_tree.specs.Growth.{turn}
+use Rattle.radix_tree.specs.Growth.{name_child}
 
 -- a bit node above a part: the part is on its side of zeros or on that of ones, and this is on the other side
 pub data Frame (V : Type 0) : Type 0 where
@@ -52,7 +52,7 @@ module _ {V : Type 0} where
     pub keys : (c value : ℕ) → c < at.low → HaveBit c value at.tree → HaveBit c value under.tree
     pub leaves : (n : ℕ) → leaves_at n at.tree ≡ 0 → 1 ≤ leaves_at n whole.tree → leaves_in new n ≡ leaves_in m n
     pub bits : (n : ℕ) → forks_at n at.tree ≡ 0 → 1 ≤ forks_at n whole.tree
-        → bits_in new n ≡ turn at.above key (name_of under.tree) n (bits_in m n)
+        → bits_in new n ≡ name_child at.above key (name_of under.tree) n (bits_in m n)
 
   -- the whole, with the other part in that one's place
   pub record Exchanged (m new : FinMap nat_cmp (Seen V)) (key : ℕ) (whole at : Part m) (under : Part new)

@@ -6,6 +6,7 @@ use Rattle.radix_nodes.specs.declared.id.Id.{Id}
 use Rattle.radix_nodes.specs.Rooms.{Seen}
 use Rattle.radix_nodes.specs.declared.links.Node.{Node}
 use Rattle.radix_nodes.specs.declared.links.Node.TheVariants.{Leaf as LeafOf, Bit as BitOf}
+use Rattle.radix_tree.specs.Bounds.{last_bit}
 use Rattle.radix_tree.specs.Tree.{Placed, Tree, leaf, fork, bit_at, HaveBit, IsTree}
 use Rattle.radix_tree.specs.Rooms.{BitPart, Part, leaves_in, bits_in, leaf_part, name_of}
 use Rattle.radix_tree.specs.Searches.{Way, LedTo}
@@ -14,14 +15,14 @@ use Rattle.radix_tree.specs.Writes.{lift_leaf, lift_bit}
 use Rattle.radix_tree.specs.declared.entry.Entry.{Entry}
 
 -- what a bit node says once it names another node on the side of an address
-abbrev pub turned : ℕ → Node → Option BitPart → Option BitPart
-turned address to None = None
-turned address to (Some p) = Some (if bit_at p.bit address == 1 then record p { one = to } else record p { zero = to })
+abbrev pub with_child : ℕ → Node → Option BitPart → Option BitPart
+with_child address to None = None
+with_child address to (Some p) = Some (if bit_at p.bit address == 1 then record p { one = to } else record p { zero = to })
 
 -- what number n says once the bit node above a place, where there is one, names another node there
-abbrev pub turn : Option Id → ℕ → Node → ℕ → Option BitPart → Option BitPart
-turn None address to n said = said
-turn (Some up) address to n said = if n == up.number then turned address to said else said
+abbrev pub name_child : Option Id → ℕ → Node → ℕ → Option BitPart → Option BitPart
+name_child None address to n said = said
+name_child (Some up) address to n said = if n == up.number then with_child address to said else said
 
 -- the root, once the place beneath this bit node, or beneath none, has another node
 abbrev pub root_after : Option Id → Node → Node → Node
@@ -40,7 +41,7 @@ forked key bit room below above = if bit_at bit key == 1
 
 -- the first bit at which two keys differ
 pub record Differs (key other bit : ℕ) : Type 0 where
-  pub within : bit ≤ 31
+  pub within : bit ≤ last_bit
   pub before : (c : ℕ) → c < bit → bit_at c key ≡ bit_at c other
   pub at : bit_at bit key ≡ bit_at bit other → ⊥
 
@@ -56,7 +57,7 @@ module _ {V : Type 0} where
   -- beneath, whose bits are all past it
   pub record IsPlace (key low bit : ℕ) (t : Tree V) : Type 0 where
     pub rises : low ≤ bit
-    pub within : bit ≤ 31
+    pub within : bit ≤ last_bit
     pub is : IsTree (bit + 1) t
     pub agree : (c : ℕ) → c < bit → HaveBit c (bit_at c key) t
     pub far_one : bit_at bit key ≡ 0 → HaveBit bit 1 t
@@ -106,7 +107,7 @@ module _ {V : Type 0} where
     pub bit_node : bits_in new x.room.number ≡ Some (forked x.entry.key bit x.room below above)
     pub leaves : (n : ℕ) → (n ≡ x.room.number → ⊥) → leaves_in new n ≡ lift_leaf below (Some x.room) n (leaves_in m n)
     pub bits : (n : ℕ) → (n ≡ x.room.number → ⊥)
-        → bits_in new n ≡ lift_bit below (Some x.room) n (turn above x.entry.key (BitOf x.room) n (bits_in m n))
+        → bits_in new n ≡ lift_bit below (Some x.room) n (name_child above x.entry.key (BitOf x.room) n (bits_in m n))
 
   -- a key that no route has: the leaf to which its bits lead, and the first bit at which it differs from that leaf's
   pub record IsNew (m : FinMap nat_cmp (Seen V)) (key bit : ℕ) (leaf : Id) : Type 0 where
@@ -116,16 +117,3 @@ module _ {V : Type 0} where
     pub low : whole.low ≡ 0
     pub once : AreOnce whole.tree
     pub differs : Differs key led.leaf.first.entry.key bit
-
-  -- a walk up from that leaf, at a node between this one above and this one below, all of whose bits are past that one
-  pub record Rise {m : FinMap nat_cmp (Seen V)} (key other bit : ℕ) (whole : Part m)
-      (above : Option Id) (below : Node) (steps : ℕ) : Type 0 where
-    pub part : Part m
-    pub ups : List (Part m)
-    pub way : Way key whole part ups
-    pub above_is : part.above ≡ above
-    pub named : name_of part.tree ≡ below
-    pub past : IsTree (bit + 1) part.tree
-    pub agree : (c : ℕ) → c < bit → HaveBit c (bit_at c key) part.tree
-    pub here : HaveBit bit (bit_at bit other) part.tree
-    pub few : steps + part.low ≤ 33

@@ -4,6 +4,7 @@ use Rattle.std.specs.FinMap.{keys}
 use Rattle.mask_table.specs.Counts.{held}
 use Rattle.radix_nodes.specs.Rooms.{Rooms}
 use Rattle.radix_nodes.specs.declared.links.Node.{Node}
+use Rattle.radix_tree.specs.Bounds.{host_rank}
 use Rattle.radix_tree.specs.Table.{Contents}
 use Rattle.radix_tree.specs.Whole.{shown, Holds}
 use Rattle.radix_tree.specs.declared.entry.Entry.{Entry}
@@ -23,7 +24,7 @@ module _ {V : Type 0} where
   of_rank rank entries = count_by (λ e. e.rank == rank) entries
 
   abbrev pub AreCounted : List ℕ → List (Entry V) → Type 0
-  AreCounted counts entries = (rank : ℕ) → rank ≤ 33 → held rank counts ≡ of_rank rank entries
+  AreCounted counts entries = (rank : ℕ) → rank ≤ host_rank → held rank counts ≡ of_rank rank entries
 
   -- the rooms are a tree beneath the root, and its routes are counted
   pub record IsKept (nodes : Rooms V) (root : Option Node) (counts : List ℕ) : Type 0 where

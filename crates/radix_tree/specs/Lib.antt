@@ -1,3 +1,4 @@
+pub mod Bounds
 pub mod Chains
 pub mod Exchange
 pub mod Found
@@ -7,6 +8,7 @@ pub mod Kept
 pub mod Lending
 pub mod Marks
 pub mod MaskLists
+pub mod Reads
 pub mod Removal
 pub mod Rooms
 pub mod Searches

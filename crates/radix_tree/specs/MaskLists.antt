@@ -1,9 +1,10 @@
 -- One list of masks, longer ones first: its members, and what comes of it.
-use Rattle.std.specs.Prelude.{◌≡◌, ℕ, ◌+◌, ◌≤◌, ◌⊎◌, ◌==◌, nat_lt, if◌then◌else◌, List, [], ◌∷◌, ◌++◌, Option, None, Some}
+use Rattle.std.specs.Prelude.{◌≡◌, ℕ, ◌+◌, ◌≤◌, ◌==◌, nat_lt, if◌then◌else◌, List, [], ◌∷◌, ◌++◌, Option, None, Some}
 use Rattle.std.specs.Ordering.{nat_cmp}
 use Rattle.std.specs.FinMap.{FinMap}
 use Rattle.radix_nodes.specs.Rooms.{Seen}
 use Rattle.radix_nodes.specs.declared.id.Id.{Id}
+use Rattle.radix_tree.specs.Bounds.{ranks}
 use Rattle.radix_tree.specs.Tree.{Placed, IsAmong}
 use Rattle.radix_tree.specs.Rooms.{LeafPart, BitPart, MaskPart, Leaves, Part, leaves_in, bits_in, masks_in, first_room, MasksStand, Falls}
 use Rattle.radix_tree.specs.Searches.{Way, ForkAt}
@@ -53,8 +54,8 @@ module _ {V : Type 0} where
   last_from before [] = before
   last_from before (x ∷ xs) = last_from (Some x.room) xs
 
-  abbrev pub last_room : List (Placed V) → Option Id
-  last_room ms = last_from None ms
+  abbrev pub last_mask : List (Placed V) → Option Id
+  last_mask ms = last_from None ms
 
   -- no member's room has this number
   abbrev pub IsAside : ℕ → List (Placed V) → Type 0
@@ -80,7 +81,7 @@ module _ {V : Type 0} where
   pub record IsMasks (m : FinMap nat_cmp (Seen V)) (first : Option Id) (ms : List (Placed V)) : Type 0 where
     pub begins : first_room ms ≡ first
     pub stands : MasksStand (masks_in m) ms
-    pub falls : Falls 0 34 ms
+    pub falls : Falls 0 ranks ms
     pub ranked : AreRanked (leaves_in m) ms
 
   -- the room is a bit node in use
@@ -96,41 +97,6 @@ module _ {V : Type 0} where
     pub ranked : IsRanked (leaves_in m) is
     pub unmarked : masks_in m room.number ≡ None
 
-  -- a walk along a list of masks, past those of ranks at or past low
-  pub record Passing (m : FinMap nat_cmp (Seen V)) (low : ℕ) (ms : List (Placed V)) (before at : Option Id)
-      (steps : ℕ) : Type 0 where
-    pub rest : List (Placed V)
-    pub top : ℕ
-    pub begins : first_room rest ≡ at
-    pub stands : MasksStand (masks_in m) rest
-    pub falls : Falls 0 top rest
-    pub ranked : AreRanked (leaves_in m) rest
-    pub last : last_from before (not_below low rest) ≡ last_room (not_below low ms)
-    pub left : below low rest ≡ below low ms
-    pub few : steps + top ≤ 34
-
-  -- how many ranks there are up to that of a room
-  abbrev pub ranks_in : Option (LeafPart V) → ℕ
-  ranks_in None = 0
-  ranks_in (Some p) = p.leaf.rank + 1
-
-  abbrev pub ranks_from : Leaves V → Option Id → ℕ
-  ranks_from L None = 0
-  ranks_from L (Some room) = ranks_in (L room.number)
-
-  -- a walk along a list, whose rooms are no mask nodes any more
-  pub record Clearing (m now : FinMap nat_cmp (Seen V)) (ms : List (Placed V)) (at : Option Id) : Type 0 where
-    pub rest : List (Placed V)
-    pub top : ℕ
-    pub begins : first_room rest ≡ at
-    pub stands : MasksStand (masks_in now) rest
-    pub falls : Falls 0 top rest
-    pub ranked : AreRanked (leaves_in now) rest
-    pub within : (y : Placed V) → IsAmong y rest → IsAmong y ms
-    pub cleared : (y : Placed V) → IsAmong y ms → (masks_in now y.room.number ≡ None) ⊎ IsAmong y rest
-    pub aside : (n : ℕ) → IsAside n ms → masks_in now n ≡ masks_in m n
-    pub fewer : (n : ℕ) → (masks_in now n ≡ None) ⊎ (masks_in now n ≡ masks_in m n)
-
   -- ---- the bit node at which a mask is listed: the topmost one on a key's way whose bit is at or past the rank
   pub record HomeAt (m : FinMap nat_cmp (Seen V)) (key rank : ℕ) (whole : Part m) (room : Id) : Type 0 where
     pub part : Part m
@@ -143,18 +109,3 @@ module _ {V : Type 0} where
   abbrev pub IsHome : (m : FinMap nat_cmp (Seen V)) (key rank : ℕ) (whole : Part m) → Option Id → Type 0
   IsHome m key rank whole None = HasHome key rank whole.tree → ⊥
   IsHome m key rank whole (Some room) = HomeAt m key rank whole room
-
-  -- a walk up from the leaf of a key, past bit nodes whose bits are all at or past the rank, of which the last one is
-  -- told
-  abbrev pub IsLast : (m : FinMap nat_cmp (Seen V)) (key rank : ℕ) (part : Part m) → Option Id → Type 0
-  IsLast m key rank part None = HasHome key rank part.tree → ⊥
-  IsLast m key rank part (Some room) = (f : ForkAt part room) × (rank ≤ f.bit)
-
-  pub record Climb {m : FinMap nat_cmp (Seen V)} (key rank : ℕ) (whole : Part m) (above last : Option Id)
-      (steps : ℕ) : Type 0 where
-    pub part : Part m
-    pub ups : List (Part m)
-    pub way : Way key whole part ups
-    pub above_is : part.above ≡ above
-    pub last_is : IsLast m key rank part last
-    pub few : steps + part.low ≤ 33

@@ -1,12 +1,11 @@
--- What searches of a tree answer, and how far they have come.
-use Rattle.std.specs.Prelude.{◌≡◌, ℕ, ◌+◌, ◌*◌, ◌<◌, ◌≤◌, ◌⊎◌, List, [], ◌∷◌, length, Option, None, Some}
+-- What searches of a tree answer.
+use Rattle.std.specs.Prelude.{◌≡◌, ℕ, ◌+◌, ◌<◌, ◌≤◌, ◌⊎◌, List, [], ◌∷◌, Option, None, Some}
 use Rattle.std.specs.Ordering.{nat_cmp}
 use Rattle.std.specs.FinMap.{FinMap}
 use Rattle.radix_nodes.specs.Rooms.{Seen}
 use Rattle.radix_nodes.specs.declared.id.Id.{Id}
-use Rattle.radix_nodes.specs.declared.links.Node.{Node}
-use Rattle.radix_tree.specs.Tree.{Placed, Tree, leaf, fork, bit_at, Covers, IsAmong, IsIn}
-use Rattle.radix_tree.specs.Rooms.{Part, Run, masks_in, first_room, name_of, MasksStand, Falls}
+use Rattle.radix_tree.specs.Tree.{Placed, Tree, leaf, fork, bit_at, Covers, IsIn}
+use Rattle.radix_tree.specs.Rooms.{Part}
 
 module _ {V : Type 0} where
   -- a room is told, or none, by what holds of its route
@@ -60,48 +59,9 @@ module _ {V : Type 0} where
     Way address whole at [] = at ≡ whole
     Way address whole at (p ∷ ps) = Beneath address at p × Way address whole p ps
 
-    -- a walk down that has made some steps
-    pub record Down (address : ℕ) (whole : Part m) (at : Node) (steps : ℕ) : Type 0 where
-      pub part : Part m
-      pub named : name_of part.tree ≡ at
-      pub ups : List (Part m)
-      pub way : Way address whole part ups
-      pub few : steps ≤ part.low
-
     -- the leaf to which an address's bits lead
     pub record LedTo (address : ℕ) (whole : Part m) (room : Id) : Type 0 where
       pub part : Part m
       pub leaf : LeafAt part room
       pub ups : List (Part m)
       pub way : Way address whole part ups
-
-    -- a walk up, where all beneath was searched in vain
-    pub record Up (address : ℕ) (whole : Part m) (at : Option Id) (spent : ℕ) : Type 0 where
-      pub part : Part m
-      pub above : part.above ≡ at
-      pub ups : List (Part m)
-      pub way : Way address whole part ups
-      pub none : Best address part.low 34 (In part) None
-      pub few : spent + 68 * part.low ≤ 2243
-
-    -- a walk along a chain that has passed no route of a property
-    pub record Along (Has : Placed V → Type 0) (whole : Run m) (at : Option Id) (steps : ℕ) : Type 0 where
-      pub rest : Run m
-      pub begins : first_room rest.members ≡ at
-      pub inside : (y : Placed V) → IsAmong y rest.members → IsAmong y whole.members
-      pub kept : (y : Placed V) → IsAmong y whole.members → Has y → IsAmong y rest.members
-      pub few : steps + length rest.members ≤ 34
-
-    -- a walk through the list of a bit node, whose masks so far were tried in vain
-    pub record Through (address : ℕ) (p : Part m) (bit : ℕ) (at : Option Id) (steps : ℕ) : Type 0 where
-      pub rest : List (Placed V)
-      pub top : ℕ
-      pub begins : first_room rest ≡ at
-      pub stands : MasksStand (masks_in m) rest
-      pub falls : Falls p.low top rest
-      pub inside : (y : Placed V) → IsAmong y rest → IsIn y p.tree
-      pub listed : (y : Placed V) → IsIn y p.tree → p.low ≤ y.entry.rank → y.entry.rank < top → IsAmong y rest
-      pub tried : Best address top (bit + 1) (In p) None
-      pub fits : p.low ≤ top
-      pub past : top ≤ bit + 1
-      pub few : steps + 67 * top ≤ 67 * (bit + 1)

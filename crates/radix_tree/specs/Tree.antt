@@ -3,6 +3,7 @@
 use Rattle.std.specs.Prelude.{◌≡◌, ℕ, ◌+◌, ◌<◌, ◌≤◌, ◌⊎◌, true, List, [], ◌∷◌, ◌++◌, map}
 use Rattle.mask_table.specs.Agreeing.{agrees, bit}
 use Rattle.radix_nodes.specs.declared.id.Id.{Id}
+use Rattle.radix_tree.specs.Bounds.{width, last_bit, ranks}
 use Rattle.radix_tree.specs.Table.{IsRoute}
 use Rattle.radix_tree.specs.declared.entry.Entry.{Entry}
 
@@ -55,12 +56,12 @@ module _ {V : Type 0} where
   -- its own is 0 on the one side and 1 on the other
   pub record IsFork (low b : ℕ) (zero one : Tree V) : Type 0 where
     pub rises : low ≤ b
-    pub within : b ≤ 31
+    pub within : b ≤ last_bit
     pub agree : (c : ℕ) → c < b → (value : ℕ) × HaveBit c value zero × HaveBit c value one
     pub zeros : HaveBit b 0 zero
     pub ones : HaveBit b 1 one
 
   -- a tree whose bits are all at or past this one
   abbrev pub IsTree : ℕ → Tree V → Type 0
-  IsTree low (leaf x xs) = (low ≤ 32) × IsChain x.entry.key 34 (x ∷ xs)
+  IsTree low (leaf x xs) = (low ≤ width) × IsChain x.entry.key ranks (x ∷ xs)
   IsTree low (fork room b zero one) = IsFork low b zero one × IsTree (b + 1) zero × IsTree (b + 1) one

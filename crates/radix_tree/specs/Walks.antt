@@ -1,12 +1,13 @@
 -- What a walk has still to give, told by the links of its place alone.
-use Rattle.std.specs.Prelude.{◌≡◌, ℕ, zero, suc, ◌+◌, ◌≤◌, ◌⊎◌, ◌==◌, if◌then◌else◌, List, [], ◌∷◌, ◌++◌, Option, None, Some}
+use Rattle.std.specs.Prelude.{◌≡◌, ℕ, zero, suc, ◌+◌, ◌⊎◌, ◌==◌, if◌then◌else◌, List, [], ◌∷◌, ◌++◌, Option, None, Some}
 use Rattle.std.specs.Ordering.{nat_cmp}
 use Rattle.std.specs.FinMap.{FinMap}
 use Rattle.radix_nodes.specs.Rooms.{Seen}
 use Rattle.radix_nodes.specs.declared.id.Id.{Id}
 use Rattle.radix_nodes.specs.declared.links.Node.{Node}
-use Rattle.radix_tree.specs.Tree.{Placed, bit_at, IsIn, routes_of}
-use Rattle.radix_tree.specs.Rooms.{LeafPart, BitPart, Leaves, Bits, Part, Run, leaves_in, bits_in, first_room}
+use Rattle.radix_tree.specs.Bounds.{levels, ranks}
+use Rattle.radix_tree.specs.Tree.{bit_at, routes_of}
+use Rattle.radix_tree.specs.Rooms.{LeafPart, BitPart, Leaves, Bits, Part, Run, first_room}
 use Rattle.radix_tree.specs.Searches.{ForkAt, LeafAt}
 use Rattle.radix_tree.specs.Whole.{chain_shown, beneath_shown}
 use Rattle.radix_tree.specs.declared.entry.Entry.{Entry}
@@ -23,17 +24,17 @@ module _ {V : Type 0} where
   unfoldable pub up_behind : ℕ → Leaves V → Bits → ℕ → Option Id → List (Entry V)
   up_behind zero L B key above = []
   up_behind (suc n) L B key None = []
-  up_behind (suc n) L B key (Some up) = side_behind key (beneath_shown 33 L B) (up_behind n L B key) (B up.number)
+  up_behind (suc n) L B key (Some up) = side_behind key (beneath_shown levels L B) (up_behind n L B key) (B up.number)
 
   -- what stands behind the chain of a first room
   abbrev pub chain_behind : Leaves V → Bits → Option (LeafPart V) → List (Entry V)
   chain_behind L B None = []
-  chain_behind L B (Some p) = up_behind 33 L B p.leaf.key p.leaf.above
+  chain_behind L B (Some p) = up_behind levels L B p.leaf.key p.leaf.above
 
   -- what stands from a place on
   abbrev pub ahead : Leaves V → Bits → Option Place → List (Entry V)
   ahead L B None = []
-  ahead L B (Some place) = chain_shown 34 L (Some place.room) ++ chain_behind L B (L place.first.number)
+  ahead L B (Some place) = chain_shown ranks L (Some place.room) ++ chain_behind L B (L place.first.number)
 
   -- ---- where a walk can be
   -- one part is a side of the bit node that another one is; right is what stands behind it beneath that
@@ -72,18 +73,3 @@ module _ {V : Type 0} where
   abbrev pub IsOn : FinMap nat_cmp (Seen V) → Option Place → Type 0
   IsOn m None = Unit {0}
   IsOn m (Some place) = IsAt m place
-
-  -- a walk up from that leaf, at a node beneath this one, behind which stands what stands behind the leaf
-  pub record Climb (m : FinMap nat_cmp (Seen V)) (key : ℕ) (first : Id) (above : Option Id) (steps : ℕ) : Type 0 where
-    pub whole : Part m
-    pub top : whole.above ≡ None
-    pub part : Part m
-    pub above_is : part.above ≡ above
-    pub route : Placed V
-    pub inside : IsIn route part.tree
-    pub own : route.entry.key ≡ key
-    pub behind : List (Entry V)
-    pub ups : List (Part m)
-    pub before : IsBefore whole part behind ups
-    pub same : behind ≡ chain_behind (leaves_in m) (bits_in m) (leaves_in m first.number)
-    pub few : steps + part.low ≤ 33

@@ -6,6 +6,7 @@ use Rattle.radix_nodes.specs.Rooms.{Seen}
 use Rattle.radix_nodes.specs.declared.id.Id.{Id}
 use Rattle.radix_nodes.specs.declared.links.Node.{Node}
 use Rattle.radix_nodes.specs.declared.links.Node.TheVariants.{Leaf as LeafOf, Bit as BitOf}
+use Rattle.radix_tree.specs.Bounds.{levels, ranks}
 use Rattle.radix_tree.specs.Tree.{Placed, Tree, leaf, fork, bit_at, IsIn}
 use Rattle.radix_tree.specs.Rooms.{LeafPart, BitPart, MaskPart, Leaves, Bits, Part, AreListed, leaves_in, bits_in, masks_in, name_of}
 use Rattle.radix_tree.specs.declared.entry.Entry.{Entry}
@@ -36,12 +37,12 @@ module _ {V : Type 0} where
   -- what is beneath a node, so many levels at most
   unfoldable pub beneath_shown : ℕ → Leaves V → Bits → Node → List (Entry V)
   beneath_shown zero L B at = []
-  beneath_shown (suc n) L B (LeafOf room) = chain_shown 34 L (Some room)
+  beneath_shown (suc n) L B (LeafOf room) = chain_shown ranks L (Some room)
   beneath_shown (suc n) L B (BitOf room) = sides_from (B room.number) (beneath_shown n L B)
 
   abbrev pub shown : FinMap nat_cmp (Seen V) → Option Node → List (Entry V)
   shown m None = []
-  shown m (Some root) = beneath_shown 33 (leaves_in m) (bits_in m) root
+  shown m (Some root) = beneath_shown levels (leaves_in m) (bits_in m) root
 
   -- ---- the tree
   -- how many leaves and how many bit nodes of a tree are in the room of a number

@@ -48,6 +48,21 @@ module _ {V : Type 0} where
   abbrev pub KeepsMasks : FinMap nat_cmp (Seen V) → FinMap nat_cmp (Seen V) → Type 0
   KeepsMasks old new = (n : ℕ) → masks_in new n ≡ masks_in old n
 
+-- rooms change as leaves alone, as bit nodes alone but for their lists, or in their lists of masks alone
+pub record OnlyLeaves {V : Type 0} (old new : FinMap nat_cmp (Seen V)) : Type 0 where
+  pub bits : KeepsBits old new
+  pub heads : KeepsHeads old new
+  pub masks : KeepsMasks old new
+
+pub record OnlyBits {V : Type 0} (old new : FinMap nat_cmp (Seen V)) : Type 0 where
+  pub leaves : KeepsLeaves old new
+  pub heads : KeepsHeads old new
+  pub masks : KeepsMasks old new
+
+pub record KeepsTree {V : Type 0} (old new : FinMap nat_cmp (Seen V)) : Type 0 where
+  pub leaves : KeepsLeaves old new
+  pub bits : KeepsBits old new
+
 -- what number n says once the node of this name has another bit node above it, or none
 abbrev pub bit_above : Option Id → Option BitPart → Option BitPart
 bit_above above None = None

@@ -1,9 +1,13 @@
 //! The way up a tree, with a search for each mask that is listed on it.
-ghost use Rattle.std.specs.Prelude.{◌≡◌, ◌+◌, ◌*◌, ◌≤◌};
+ghost use Rattle.std.specs.Prelude.{◌≡◌, ◌+◌, ◌-◌, ◌*◌};
+ghost use Rattle.radix_tree.specs.Bounds.{ranks, pair_reads, listed_reads, room_reads};
+ghost use Rattle.radix_tree.specs.Reads.{Reads};
 ghost use Rattle.radix_tree.specs.Rooms.{Part, AreListed, name_of, heads_in};
 ghost use Rattle.radix_tree.specs.Searches.{Tells, Finds, Best, HasPair, In, ForkAt};
+ghost use Rattle.radix_tree.specs.Whole.{IsWhole};
 
 use crate::descent::leaf_for;
+use crate::roles;
 use crate::scanning::{first_agreeing, of_pair};
 use mask_table::{Rank, masked};
 use radix_nodes::{Id, Node, Nodes, Visits};
@@ -21,9 +25,7 @@ pub(crate) fn room_of<V>(
     requires turn { visits.old.turn ≡ nodes.now.turn }
     ensures found { (p : Part nodes.now.lodged) → name_of p.tree ≡ from
         → Tells (Finds (HasPair key rank) (In p)) result }
-    ensures counter { visits.new.turn ≡ visits.old.turn }
-    ensures rises { visits.old.count ≤ visits.new.count }
-    ensures bound { visits.new.count ≤ visits.old.count + 66 }
+    ensures visits { Reads visits.old visits.new pair_reads }
 {
     let leaf = leaf_for(nodes, from, key, visits);
     of_pair(nodes, leaf, key, rank, visits)
@@ -43,24 +45,17 @@ fn best_listed<V>(
     requires turn { visits.old.turn ≡ nodes.now.turn }
     ensures best { (p : Part nodes.now.lodged) (f : ForkAt p room) → AreListed nodes.now.lodged p
         → Tells (Best address p.low (f.bit + 1) (In p)) result }
-    ensures counter { visits.new.turn ≡ visits.old.turn }
-    ensures rises { visits.old.count ≤ visits.new.count }
-    ensures bound { (p : Part nodes.now.lodged) (f : ForkAt p room)
-        → AreListed nodes.now.lodged p → visits.new.count + 67 * p.low ≤ visits.old.count + 67 * (f.bit + 1) }
+    ensures visits { (p : Part nodes.now.lodged) (f : ForkAt p room) → AreListed nodes.now.lodged p
+        → Reads visits.old visits.new (listed_reads * (f.bit + 1 - p.low)) }
 {
     let mut at = first;
     while let Some(listed) = at {
-        let links = nodes.links(listed, visits);
-        let rank = links.leaf().rank;
-        let next = match links.mask_node() {
-            Some(mask) => mask.next,
-            None => return None,
-        };
-        let key = masked(address, rank);
-        if let Some(found) = room_of(nodes, Node::Bit(room), key, rank, visits) {
+        let (leaf, mask) = roles::mask_node(nodes, listed, visits);
+        let key = masked(address, leaf.rank);
+        if let Some(found) = room_of(nodes, Node::Bit(room), key, leaf.rank, visits) {
             return Some(found);
         }
-        at = next;
+        at = mask.next;
     }
     None
 }
@@ -72,24 +67,18 @@ pub(crate) fn best_room<V>(
     address: Inet,
     visits: &mut Visits,
 ) -> Option<Id>
-    requires tree { (p : Part nodes.now.lodged) × (name_of p.tree ≡ root) × (p.above ≡ None) × (p.low ≡ 0)
-        × AreListed nodes.now.lodged p }
+    requires whole { IsWhole nodes.now.lodged root }
     requires turn { visits.old.turn ≡ nodes.now.turn }
-    ensures best { (p : Part nodes.now.lodged) → name_of p.tree ≡ root → p.above ≡ None → p.low ≡ 0
-        → AreListed nodes.now.lodged p → Tells (Best address 0 34 (In p)) result }
-    ensures counter { visits.new.turn ≡ visits.old.turn }
-    ensures bound { visits.new.count ≤ visits.old.count + 2243 }
+    ensures best { (w : IsWhole nodes.now.lodged root) → Tells (Best address 0 ranks (In w.part)) result }
+    ensures visits { Reads visits.old visits.new room_reads }
 {
     let leaf = leaf_for(nodes, root, address, visits);
     if let Some(found) = first_agreeing(nodes, leaf, address, visits) {
         return Some(found);
     }
-    let mut at = nodes.links(leaf, visits).leaf().above;
+    let mut at = roles::leaf(nodes, leaf, visits).above;
     while let Some(room) = at {
-        let node = match nodes.links(room, visits).bit_node() {
-            Some(node) => node,
-            None => return None,
-        };
+        let node = roles::bit_node(nodes, room, visits);
         if let Some(found) = best_listed(nodes, room, node.masks, address, visits) {
             return Some(found);
         }

@@ -1,5 +1,6 @@
 //! The bits of addresses.
 ghost use Rattle.std.specs.Prelude.{◌≡◌, ◌≤◌, ◌==◌, MatchOption};
+ghost use Rattle.radix_tree.specs.Bounds.{last_bit};
 ghost use Rattle.radix_tree.specs.Growth.{Differs};
 ghost use Rattle.radix_tree.specs.Tree.{bit_at};
 
@@ -8,7 +9,7 @@ use sock_addrs::Inet;
 /// Whether a bit of an address is 1. The highest one is bit 0.
 #[tactic(auto, unfolding(crate::specs::Tree::bit_at))]
 pub(crate) fn is_one(address: Inet, bit: u8) -> bool
-    requires { bit ≤ 31 }
+    requires { bit ≤ last_bit }
     ensures { result ≡ (bit_at bit address == 1) }
 {
     (address.number() >> (31 - bit)) % 2 == 1
@@ -18,14 +19,6 @@ pub(crate) fn is_one(address: Inet, bit: u8) -> bool
 pub(crate) fn first_difference(key: Inet, other: Inet) -> Option<u8>
     ensures { MatchOption result (key ≡ other) (λ bit. Differs key other bit) }
 {
-    let number = key.number();
-    let against = other.number();
-    let mut bit = 0;
-    while bit < 32 {
-        if number >> (31 - bit) != against >> (31 - bit) {
-            return Some(bit);
-        }
-        bit += 1;
-    }
-    None
+    let bit = (key.number() ^ other.number()).leading_zeros();
+    if bit < 32 { Some(bit as u8) } else { None }
 }

@@ -4,8 +4,8 @@ ghost use Rattle.std.specs.FinMap.{get};
 ghost use Rattle.radix_nodes.specs.Rooms.{Has};
 ghost use Rattle.radix_nodes.specs.declared.links.Node.TheVariants.{Leaf as LeafOf};
 ghost use Rattle.radix_tree.specs.Chains.{name_next as next_named, name_back as back_named};
-ghost use Rattle.radix_tree.specs.Chains.{link_out as linked_out, root_past, Gap};
-ghost use Rattle.radix_tree.specs.Growth.{Gains, turn as turned};
+ghost use Rattle.radix_tree.specs.Chains.{link_out as linked_out, root_past, FindsGap};
+ghost use Rattle.radix_tree.specs.Growth.{Gains, name_child as child_named};
 ghost use Rattle.radix_tree.specs.Marks.{IsWholeBut, HasRoomMore, has_key, late_at, nobody_late, out_at, nobody_out};
 ghost use Rattle.radix_tree.specs.Removal.{KeepsRoutes};
 ghost use Rattle.radix_tree.specs.Rooms.{LeafPart, BitPart, Part, Run, leaves_in, bits_in, masks_in, first_room};
@@ -13,11 +13,12 @@ ghost use Rattle.radix_tree.specs.Searches.{LedTo, ForkAt, HasPair};
 ghost use Rattle.radix_tree.specs.Table.{IsRoute};
 ghost use Rattle.radix_tree.specs.Tree.{Placed, IsIn};
 ghost use Rattle.radix_tree.specs.Whole.{IsWhole, shown, shown_entry};
-ghost use Rattle.radix_tree.specs.Writes.{KeepsLeaves, KeepsBits, KeepsHeads, KeepsMasks};
+ghost use Rattle.radix_tree.specs.Writes.{KeepsMasks, OnlyLeaves, OnlyBits};
+ghost use Rattle.radix_tree.specs.Reads.{Stays};
 
 use crate::entry::Entry;
 use crate::inserting::root_after;
-use crate::linking::{lodge_leaf, put_leaf, turn_child};
+use crate::linking::{lodge_leaf, name_child, put_leaf};
 use mask_table::Rank;
 use radix_nodes::{Id, Leaf, Node, Nodes, Room, Visits};
 use sock_addrs::Inet;
@@ -27,12 +28,8 @@ fn name_next<V>(nodes: &mut Nodes<V>, before: Option<Id>, next: Option<Id>, visi
     requires there { (room : Id) → before ≡ Some room → Has nodes.old.lodged room }
     requires turn { visits.old.turn ≡ nodes.old.turn }
     ensures leaves { (n : ℕ) → leaves_in nodes.new.lodged n ≡ next_named before next n (leaves_in nodes.old.lodged n) }
-    ensures bits { KeepsBits nodes.old.lodged nodes.new.lodged }
-    ensures heads { KeepsHeads nodes.old.lodged nodes.new.lodged }
-    ensures masks { KeepsMasks nodes.old.lodged nodes.new.lodged }
-    ensures next { nodes.new.next ≡ nodes.old.next }
-    ensures turn { nodes.new.turn ≡ nodes.old.turn }
-    ensures counter { visits.new.turn ≡ visits.old.turn }
+    ensures only { OnlyLeaves nodes.old.lodged nodes.new.lodged }
+    ensures stays { Stays nodes.old nodes.new visits.old visits.new }
 {
     let Some(room) = before else {
         return;
@@ -53,12 +50,8 @@ fn name_back<V>(
     requires turn { visits.old.turn ≡ nodes.old.turn }
     ensures leaves { (n : ℕ) → leaves_in nodes.new.lodged n
         ≡ back_named behind above previous n (leaves_in nodes.old.lodged n) }
-    ensures bits { KeepsBits nodes.old.lodged nodes.new.lodged }
-    ensures heads { KeepsHeads nodes.old.lodged nodes.new.lodged }
-    ensures masks { KeepsMasks nodes.old.lodged nodes.new.lodged }
-    ensures next { nodes.new.next ≡ nodes.old.next }
-    ensures turn { nodes.new.turn ≡ nodes.old.turn }
-    ensures counter { visits.new.turn ≡ visits.old.turn }
+    ensures only { OnlyLeaves nodes.old.lodged nodes.new.lodged }
+    ensures stays { Stays nodes.old nodes.new visits.old visits.new }
 {
     let Some(room) = behind else {
         return;
@@ -82,12 +75,8 @@ fn link_out<V>(nodes: &mut Nodes<V>, leaf: Leaf, visits: &mut Visits)
     requires behind { (at : Id) → leaf.next ≡ Some at → Has nodes.old.lodged at }
     requires turn { visits.old.turn ≡ nodes.old.turn }
     ensures leaves { (n : ℕ) → leaves_in nodes.new.lodged n ≡ linked_out leaf n (leaves_in nodes.old.lodged n) }
-    ensures bits { KeepsBits nodes.old.lodged nodes.new.lodged }
-    ensures heads { KeepsHeads nodes.old.lodged nodes.new.lodged }
-    ensures masks { KeepsMasks nodes.old.lodged nodes.new.lodged }
-    ensures next { nodes.new.next ≡ nodes.old.next }
-    ensures turn { nodes.new.turn ≡ nodes.old.turn }
-    ensures counter { visits.new.turn ≡ visits.old.turn }
+    ensures only { OnlyLeaves nodes.old.lodged nodes.new.lodged }
+    ensures stays { Stays nodes.old nodes.new visits.old visits.new }
 {
     name_back(nodes, leaf.next, leaf.above, leaf.previous, visits);
     name_next(nodes, leaf.previous, leaf.next, visits);
@@ -107,15 +96,11 @@ fn rename<V>(
     requires tree { (up : Id) → above ≡ Some up → (p : Part nodes.old.lodged) × ForkAt p up }
     requires turn { visits.old.turn ≡ nodes.old.turn }
     ensures root { result ≡ root_past previous above (LeafOf to) root }
-    ensures leaves { KeepsLeaves nodes.old.lodged nodes.new.lodged }
-    ensures bits { (n : ℕ) → bits_in nodes.new.lodged n ≡ turned above key (LeafOf to) n (bits_in nodes.old.lodged n) }
-    ensures heads { KeepsHeads nodes.old.lodged nodes.new.lodged }
-    ensures masks { KeepsMasks nodes.old.lodged nodes.new.lodged }
-    ensures next { nodes.new.next ≡ nodes.old.next }
-    ensures turn { nodes.new.turn ≡ nodes.old.turn }
-    ensures counter { visits.new.turn ≡ visits.old.turn }
+    ensures only { OnlyBits nodes.old.lodged nodes.new.lodged }
+    ensures bits { (n : ℕ) → bits_in nodes.new.lodged n ≡ child_named above key (LeafOf to) n (bits_in nodes.old.lodged n) }
+    ensures stays { Stays nodes.old nodes.new visits.old visits.new }
 {
-    turn_child(nodes, above, key, Node::Leaf(to), visits);
+    name_child(nodes, above, key, Node::Leaf(to), visits);
     match previous {
         Some(_) => root,
         None => root_after(above, Node::Leaf(to), root),
@@ -127,7 +112,7 @@ fn rename<V>(
 fn gap<V>(nodes: &Nodes<V>, first: Id, key: Inet, rank: Rank, visits: &mut Visits) -> Option<Leaf>
     requires chain { (c : Run nodes.now.lodged) × (first_room c.members ≡ Some first) }
     requires turn { visits.old.turn ≡ nodes.now.turn }
-    ensures gap { (c : Run nodes.now.lodged) → first_room c.members ≡ Some first → Gap key rank c result }
+    ensures gap { (c : Run nodes.now.lodged) → first_room c.members ≡ Some first → FindsGap key rank c result }
     ensures counter { visits.new.turn ≡ visits.old.turn }
 {
     let leaf = nodes.links(first, visits).leaf();
@@ -188,9 +173,7 @@ pub(crate) fn insert_in_chain<V>(
     ensures taken { IfErr result (λ b. (b.0 ≡ room) × (b.1 ≡ entry.value)) }
     ensures there { OnErr result ((w : IsWhole nodes.old.lodged root)
         → (x : Placed V) × IsIn x w.part.tree × HasPair entry.key entry.rank x) }
-    ensures next { nodes.new.next ≡ nodes.old.next }
-    ensures turn { nodes.new.turn ≡ nodes.old.turn }
-    ensures counter { visits.new.turn ≡ visits.old.turn }
+    ensures stays { Stays nodes.old nodes.new visits.old visits.new }
 {
     let Entry { key, rank, value } = entry;
     let Some(leaf) = gap(nodes, first, key, rank, visits) else {
@@ -234,9 +217,7 @@ pub(crate) fn remove_from_chain<V>(
         → (p.leaf.next ≡ Some to) ⊎ (p.leaf.previous ≡ Some to)
         → Has nodes.new.lodged to × (to.number ≡ at.number → ⊥)
         × (has_key nodes.new.lodged p.leaf.key to.number ≡ true) }
-    ensures next { nodes.new.next ≡ nodes.old.next }
-    ensures turn { nodes.new.turn ≡ nodes.old.turn }
-    ensures counter { visits.new.turn ≡ visits.old.turn }
+    ensures stays { Stays nodes.old nodes.new visits.old visits.new }
 {
     let leaf = nodes.links(at, visits).leaf();
     let Leaf {

@@ -1,9 +1,12 @@
 //! The way down a tree.
-ghost use Rattle.std.specs.Prelude.{◌≡◌, ◌+◌, ◌≤◌};
+ghost use Rattle.std.specs.Prelude.{◌≡◌};
+ghost use Rattle.radix_tree.specs.Bounds.{way_reads};
+ghost use Rattle.radix_tree.specs.Reads.{Reads};
 ghost use Rattle.radix_tree.specs.Rooms.{Part, name_of};
 ghost use Rattle.radix_tree.specs.Searches.{LedTo};
 
 use crate::bits::is_one;
+use crate::roles::bit_node;
 use radix_nodes::{Id, Node, Nodes, Visits};
 use sock_addrs::Inet;
 
@@ -12,25 +15,20 @@ pub(crate) fn leaf_for<V>(nodes: &Nodes<V>, from: Node, address: Inet, visits: &
     requires tree { (p : Part nodes.now.lodged) × (name_of p.tree ≡ from) }
     requires turn { visits.old.turn ≡ nodes.now.turn }
     ensures leaf { (p : Part nodes.now.lodged) → name_of p.tree ≡ from → LedTo address p result }
-    ensures counter { visits.new.turn ≡ visits.old.turn }
-    ensures rises { visits.old.count ≤ visits.new.count }
-    ensures bound { visits.new.count ≤ visits.old.count + 32 }
+    ensures visits { Reads visits.old visits.new way_reads }
 {
     let mut at = from;
-    while let Node::Bit(room) = at {
-        at = match nodes.links(room, visits).bit_node() {
-            None => return room,
-            Some(node) => {
-                if is_one(address, node.bit) {
+    loop {
+        match at {
+            Node::Leaf(room) => return room,
+            Node::Bit(room) => {
+                let node = bit_node(nodes, room, visits);
+                at = if is_one(address, node.bit) {
                     node.one
                 } else {
                     node.zero
-                }
+                };
             }
-        };
-    }
-    match at {
-        Node::Leaf(room) => room,
-        Node::Bit(room) => room,
+        }
     }
 }

@@ -6,6 +6,7 @@ ghost use Rattle.radix_tree.specs.Marks.{HasRoomMore};
 ghost use Rattle.radix_tree.specs.Searches.{LedTo};
 ghost use Rattle.radix_tree.specs.Table.{IsRoute, entry_at};
 ghost use Rattle.radix_tree.specs.Whole.{IsWhole, Holds, shown};
+ghost use Rattle.radix_tree.specs.Reads.{Stays};
 
 use crate::bits::first_difference;
 use crate::chains::insert_in_chain;
@@ -31,9 +32,7 @@ fn insert_first<V>(
     ensures whole { IsWhole nodes.new.lodged result }
     ensures routes { Gains entry (shown nodes.old.lodged None) (shown nodes.new.lodged (Some result)) }
     ensures rooms { HasRoomMore nodes.old.lodged nodes.new.lodged room }
-    ensures next { nodes.new.next ≡ nodes.old.next }
-    ensures turn { nodes.new.turn ≡ nodes.old.turn }
-    ensures counter { visits.new.turn ≡ visits.old.turn }
+    ensures stays { Stays nodes.old nodes.new visits.old visits.new }
 {
     let Entry { key, rank, value } = entry;
     let leaf = Leaf {
@@ -66,9 +65,7 @@ fn insert_new<V>(
     ensures whole { IsWhole nodes.new.lodged result }
     ensures routes { Gains entry (shown nodes.old.lodged (Some root)) (shown nodes.new.lodged (Some result)) }
     ensures rooms { HasRoomMore nodes.old.lodged nodes.new.lodged room }
-    ensures next { nodes.new.next ≡ nodes.old.next }
-    ensures turn { nodes.new.turn ≡ nodes.old.turn }
-    ensures counter { visits.new.turn ≡ visits.old.turn }
+    ensures stays { Stays nodes.old nodes.new visits.old visits.new }
 {
     let (root, id) = insert_beside(nodes, root, leaf, bit, room, entry, visits);
     list_mask(nodes, id, visits);
@@ -99,9 +96,7 @@ fn insert_among<V>(
     ensures err { OnErr result (nodes.new ≡ nodes.old) }
     ensures back { IfErr result (λ b. (b.0 ≡ room) × (b.1 ≡ entry.value)) }
     ensures there { OnErr result (IsSome (entry_at entry.key entry.rank (shown nodes.old.lodged (Some root)))) }
-    ensures next { nodes.new.next ≡ nodes.old.next }
-    ensures turn { nodes.new.turn ≡ nodes.old.turn }
-    ensures counter { visits.new.turn ≡ visits.old.turn }
+    ensures stays { Stays nodes.old nodes.new visits.old visits.new }
 {
     match insert_in_chain(nodes, root, leaf, room, entry, visits) {
         Err(back) => Err(back),
@@ -133,9 +128,7 @@ pub(crate) fn insert<V>(
     ensures err { OnErr result (nodes.new ≡ nodes.old) }
     ensures back { IfErr result (λ b. (b.0 ≡ room) × (b.1 ≡ entry.value)) }
     ensures there { OnErr result (IsSome (entry_at entry.key entry.rank (shown nodes.old.lodged root))) }
-    ensures next { nodes.new.next ≡ nodes.old.next }
-    ensures turn { nodes.new.turn ≡ nodes.old.turn }
-    ensures counter { visits.new.turn ≡ visits.old.turn }
+    ensures stays { Stays nodes.old nodes.new visits.old visits.new }
 {
     let Some(root) = root else {
         return Ok(insert_first(nodes, room, entry, visits));

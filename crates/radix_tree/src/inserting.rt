@@ -4,6 +4,7 @@ ghost use Rattle.std.specs.FinMap.{get};
 ghost use Rattle.radix_nodes.specs.Rooms.{Has};
 ghost use Rattle.radix_nodes.specs.declared.id.Id.{Id as IdName};
 ghost use Rattle.radix_nodes.specs.declared.links.Node.TheVariants.{Bit as BitOf};
+ghost use Rattle.radix_tree.specs.Bounds.{last_bit};
 ghost use Rattle.radix_tree.specs.Exchange.{Exchanged};
 ghost use Rattle.radix_tree.specs.Growth.{Gains, Differs, IsSpot, IsLodged, IsBeside, forked, forked_tree, placed, with_head, root_after as root_with};
 ghost use Rattle.radix_tree.specs.Marks.{HasRoomMore, IsWholeBut, nobody_out, has_key};
@@ -12,10 +13,11 @@ ghost use Rattle.radix_tree.specs.Searches.{LedTo};
 ghost use Rattle.radix_tree.specs.Table.{IsRoute};
 ghost use Rattle.radix_tree.specs.Whole.{IsWhole, shown};
 ghost use Rattle.radix_tree.specs.Writes.{KeepsMasks};
+ghost use Rattle.radix_tree.specs.Reads.{Stays};
 
 use crate::bits::is_one;
 use crate::entry::Entry;
-use crate::linking::{lift, lodge_leaf, put_bit_node, put_leaf, turn_child};
+use crate::linking::{lift, lodge_leaf, name_child, put_bit_node, put_leaf};
 use crate::masks::cut;
 use crate::placing::spot_above;
 use mask_table::Rank;
@@ -33,7 +35,7 @@ pub(crate) struct Spot {
 
 /// The bit node at a spot, with the leaf of its own room on the side of a key, and a list of masks.
 fn forked_node(spot: Spot, key: Inet, room: Id, masks: Option<Id>) -> BitNode
-    requires { spot.bit ≤ 31 }
+    requires { spot.bit ≤ last_bit }
     ensures part { bit_part room.block (Some result) ≡ Some (forked key spot.bit room spot.below spot.above) }
     ensures masks { result.masks ≡ masks }
 {
@@ -80,16 +82,14 @@ fn lodge_forked<V>(
 ) -> Id
     requires made { room < nodes.old.next }
     requires free { get nodes.old.lodged room ≡ None }
-    requires bit { spot.bit ≤ 31 }
+    requires bit { spot.bit ≤ last_bit }
     requires turn { visits.old.turn ≡ nodes.old.turn }
     ensures number { result.number ≡ room }
     ensures lodged { IsLodged nodes.old.lodged nodes.new.lodged result entry
         (forked entry.key spot.bit result spot.below spot.above) }
     ensures heads { (n : ℕ) → heads_in nodes.new.lodged n ≡ with_head result masks n (heads_in nodes.old.lodged n) }
     ensures masks { KeepsMasks nodes.old.lodged nodes.new.lodged }
-    ensures next { nodes.new.next ≡ nodes.old.next }
-    ensures turn { nodes.new.turn ≡ nodes.old.turn }
-    ensures counter { visits.new.turn ≡ visits.old.turn }
+    ensures stays { Stays nodes.old nodes.new visits.old visits.new }
 {
     let Entry { key, rank, value } = entry;
     let id = lodge_leaf(nodes, room, lone_leaf(key, rank, None), value, visits);
@@ -134,13 +134,11 @@ pub(crate) fn add_beside<V>(
         × Exchanged nodes.old.lodged nodes.new.lodged entry.key p s.at u result.0 }
     ensures heads { (n : ℕ) → heads_in nodes.new.lodged n ≡ with_head result.1 masks n (heads_in nodes.old.lodged n) }
     ensures masks { KeepsMasks nodes.old.lodged nodes.new.lodged }
-    ensures next { nodes.new.next ≡ nodes.old.next }
-    ensures turn { nodes.new.turn ≡ nodes.old.turn }
-    ensures counter { visits.new.turn ≡ visits.old.turn }
+    ensures stays { Stays nodes.old nodes.new visits.old visits.new }
 {
     let key = entry.key;
     let id = lodge_forked(nodes, spot, masks, room, entry, visits);
-    turn_child(nodes, spot.above, key, Node::Bit(id), visits);
+    name_child(nodes, spot.above, key, Node::Bit(id), visits);
     lift(nodes, spot.below, Some(id), visits);
     (root_after(spot.above, Node::Bit(id), root), id)
 }
@@ -175,9 +173,7 @@ pub(crate) fn insert_beside<V>(
     ensures unmarked { masks_in nodes.new.lodged room ≡ None }
     ensures leaves { (n : ℕ) (p : LeafPart V) → leaves_in nodes.old.lodged n ≡ Some p → (a : Option IdName)
         × (leaves_in nodes.new.lodged n ≡ Some (record p { leaf = record p.leaf { above = a } })) }
-    ensures next { nodes.new.next ≡ nodes.old.next }
-    ensures turn { nodes.new.turn ≡ nodes.old.turn }
-    ensures counter { visits.new.turn ≡ visits.old.turn }
+    ensures stays { Stays nodes.old nodes.new visits.old visits.new }
 {
     let spot = spot_above(nodes, leaf, bit, visits);
     let masks = cut(nodes, spot.below, spot.bit, visits);

@@ -1,25 +1,27 @@
 //! How a route that is alone at its leaf goes from a tree.
 ghost use Rattle.std.specs.Prelude.{◌≡◌, ℕ, ◌≤◌, true, Some, None, is_some};
 ghost use Rattle.radix_nodes.specs.Rooms.{Has};
-ghost use Rattle.radix_tree.specs.Growth.{turn, Gains};
+ghost use Rattle.radix_tree.specs.Bounds.{last_bit};
+ghost use Rattle.radix_tree.specs.Growth.{name_child as child_named, Gains};
 ghost use Rattle.radix_tree.specs.Joining.{other_side, IsApart, IsLone, IsHanded};
 ghost use Rattle.radix_tree.specs.Marks.{IsWholeBut, MarkedLists, has_key, nobody_late, nobody_out, late_at, out_at};
 ghost use Rattle.radix_tree.specs.Rooms.{LeafPart, Part, leaves_in, bits_in, heads_in, masks_in, name_of};
 ghost use Rattle.radix_tree.specs.Removal.{KeepsRoutes};
 ghost use Rattle.radix_tree.specs.Searches.{ForkAt};
 ghost use Rattle.radix_tree.specs.Whole.{shown, shown_entry};
-ghost use Rattle.radix_tree.specs.Writes.{put_bit as bit_put, put_head as head_put, lift_leaf as leaf_lifted, lift_bit as bit_lifted, KeepsLeaves, KeepsBits, KeepsMasks};
+ghost use Rattle.radix_tree.specs.Writes.{put_bit as bit_put, put_head as head_put, lift_leaf as leaf_lifted, lift_bit as bit_lifted, KeepsMasks, KeepsTree};
+ghost use Rattle.radix_tree.specs.Reads.{Stays};
 
 use crate::bits::is_one;
 use crate::inserting::root_after;
-use crate::linking::{lift, put_bit_node, turn_child};
+use crate::linking::{lift, name_child, put_bit_node};
 use crate::masks::{append, clear};
 use radix_nodes::{BitNode, Id, Node, Nodes, Visits};
 use sock_addrs::Inet;
 
 /// The node beneath a bit node that is not on the side of a key.
 fn sibling_of(node: BitNode, key: Inet) -> Node
-    requires { node.bit ≤ 31 }
+    requires { node.bit ≤ last_bit }
     ensures { result ≡ other_side key node.bit node.zero node.one }
 {
     if is_one(key, node.bit) {
@@ -42,11 +44,8 @@ fn hand_masks_on<V>(nodes: &mut Nodes<V>, to: Node, first: Option<Id>, visits: &
         → masks_in nodes.old.lodged at.number ≡ None
         → MarkedLists (heads_in nodes.old.lodged) (masks_in nodes.old.lodged) l.over.low l.over.tree
         → IsHanded nodes.old.lodged nodes.new.lodged l.over.low l.over.tree l.other }
-    ensures leaves { KeepsLeaves nodes.old.lodged nodes.new.lodged }
-    ensures bits { KeepsBits nodes.old.lodged nodes.new.lodged }
-    ensures next { nodes.new.next ≡ nodes.old.next }
-    ensures turn { nodes.new.turn ≡ nodes.old.turn }
-    ensures counter { visits.new.turn ≡ visits.old.turn }
+    ensures tree { KeepsTree nodes.old.lodged nodes.new.lodged }
+    ensures stays { Stays nodes.old nodes.new visits.old visits.new }
 {
     match to {
         Node::Bit(room) => append(nodes, room, first, visits),
@@ -70,14 +69,12 @@ fn join<V>(
     requires turn { visits.old.turn ≡ nodes.old.turn }
     ensures leaves { (n : ℕ) → leaves_in nodes.new.lodged n ≡ leaf_lifted to above n (leaves_in nodes.old.lodged n) }
     ensures bits { (n : ℕ) → bits_in nodes.new.lodged n
-        ≡ bit_lifted to above n (bit_put up None n (turn above address to n (bits_in nodes.old.lodged n))) }
+        ≡ bit_lifted to above n (bit_put up None n (child_named above address to n (bits_in nodes.old.lodged n))) }
     ensures heads { (n : ℕ) → heads_in nodes.new.lodged n ≡ head_put up None n (heads_in nodes.old.lodged n) }
     ensures masks { KeepsMasks nodes.old.lodged nodes.new.lodged }
-    ensures next { nodes.new.next ≡ nodes.old.next }
-    ensures turn { nodes.new.turn ≡ nodes.old.turn }
-    ensures counter { visits.new.turn ≡ visits.old.turn }
+    ensures stays { Stays nodes.old nodes.new visits.old visits.new }
 {
-    turn_child(nodes, above, address, to, visits);
+    name_child(nodes, above, address, to, visits);
     put_bit_node(nodes, up, None, visits);
     lift(nodes, to, above, visits);
 }
@@ -105,16 +102,14 @@ pub(crate) fn remove_lone<V>(
     ensures free { bits_in nodes.new.lodged result.1.number ≡ None }
     ensures idle { (p : LeafPart V) → leaves_in nodes.new.lodged result.1.number ≡ Some p → (n : ℕ)
         → has_key nodes.new.lodged p.leaf.key n ≡ true → (n ≡ at.number → ⊥) → bits_in nodes.new.lodged n ≡ None }
-    ensures next { nodes.new.next ≡ nodes.old.next }
-    ensures turn { nodes.new.turn ≡ nodes.old.turn }
-    ensures counter { visits.new.turn ≡ visits.old.turn }
+    ensures stays { Stays nodes.old nodes.new visits.old visits.new }
 {
     let leaf = nodes.links(at, visits).leaf();
     let Some(up) = leaf.above else {
-        return (root, at);
+        unreachable!();
     };
     let Some(node) = nodes.links(up, visits).bit_node() else {
-        return (root, at);
+        unreachable!();
     };
     let to = sibling_of(node, leaf.key);
     hand_masks_on(nodes, to, node.masks, visits);

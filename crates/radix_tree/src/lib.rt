@@ -17,6 +17,7 @@ mod moving;
 mod placing;
 mod reading;
 mod removing;
+mod roles;
 mod routes;
 mod routing;
 mod scanning;

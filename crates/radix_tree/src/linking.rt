@@ -3,12 +3,14 @@ ghost use Rattle.std.specs.Prelude.{◌≡◌, ℕ, ◌<◌, Some, None};
 ghost use Rattle.std.specs.FinMap.{get};
 ghost use Rattle.radix_nodes.specs.Rooms.{Has};
 ghost use Rattle.radix_nodes.specs.declared.links.Node.TheVariants.{Leaf as LeafOf, Bit as BitOf};
-ghost use Rattle.radix_tree.specs.Growth.{turn};
+ghost use Rattle.radix_tree.specs.Growth.{name_child as child_named};
 ghost use Rattle.radix_tree.specs.Searches.{LeafAt, ForkAt};
 ghost use Rattle.radix_tree.specs.Rooms.{Part, name_of, leaves_in, bits_in, heads_in, masks_in};
-ghost use Rattle.radix_tree.specs.Writes.{put_leaf as leaf_put, put_bit as bit_put, put_head as head_put, put_mask as mask_put, lodge_leaf as leaf_lodged, lift_leaf as leaf_lifted, lift_bit as bit_lifted, KeepsLeaves, KeepsBits, KeepsHeads, KeepsMasks};
+ghost use Rattle.radix_tree.specs.Writes.{put_leaf as leaf_put, put_bit as bit_put, put_head as head_put, put_mask as mask_put, lodge_leaf as leaf_lodged, lift_leaf as leaf_lifted, lift_bit as bit_lifted, KeepsLeaves, KeepsHeads, KeepsMasks, OnlyLeaves, OnlyBits, KeepsTree};
+ghost use Rattle.radix_tree.specs.Reads.{Stays};
 
 use crate::bits::is_one;
+use crate::roles;
 use radix_nodes::{BitNode, Id, Leaf, MaskNode, Node, Nodes, Room, Visits};
 use sock_addrs::Inet;
 
@@ -17,12 +19,8 @@ pub(crate) fn put_leaf<V>(nodes: &mut Nodes<V>, room: Id, leaf: Leaf, visits: &m
     requires there { Has nodes.old.lodged room }
     requires turn { visits.old.turn ≡ nodes.old.turn }
     ensures leaves { (n : ℕ) → leaves_in nodes.new.lodged n ≡ leaf_put room leaf n (leaves_in nodes.old.lodged n) }
-    ensures bits { KeepsBits nodes.old.lodged nodes.new.lodged }
-    ensures heads { KeepsHeads nodes.old.lodged nodes.new.lodged }
-    ensures masks { KeepsMasks nodes.old.lodged nodes.new.lodged }
-    ensures next { nodes.new.next ≡ nodes.old.next }
-    ensures turn { nodes.new.turn ≡ nodes.old.turn }
-    ensures counter { visits.new.turn ≡ visits.old.turn }
+    ensures only { OnlyLeaves nodes.old.lodged nodes.new.lodged }
+    ensures stays { Stays nodes.old nodes.new visits.old visits.new }
 {
     let links = *nodes.links(room, visits);
     nodes.set_links(room, links.with_leaf(leaf));
@@ -41,9 +39,7 @@ pub(crate) fn put_bit_node<V>(
     ensures bits { (n : ℕ) → bits_in nodes.new.lodged n ≡ bit_put room node n (bits_in nodes.old.lodged n) }
     ensures heads { (n : ℕ) → heads_in nodes.new.lodged n ≡ head_put room node n (heads_in nodes.old.lodged n) }
     ensures masks { KeepsMasks nodes.old.lodged nodes.new.lodged }
-    ensures next { nodes.new.next ≡ nodes.old.next }
-    ensures turn { nodes.new.turn ≡ nodes.old.turn }
-    ensures counter { visits.new.turn ≡ visits.old.turn }
+    ensures stays { Stays nodes.old nodes.new visits.old visits.new }
 {
     let links = *nodes.links(room, visits);
     nodes.set_links(room, links.with_bit_node(node));
@@ -58,13 +54,10 @@ pub(crate) fn put_mask_node<V>(
 )
     requires there { Has nodes.old.lodged room }
     requires turn { visits.old.turn ≡ nodes.old.turn }
-    ensures leaves { KeepsLeaves nodes.old.lodged nodes.new.lodged }
-    ensures bits { KeepsBits nodes.old.lodged nodes.new.lodged }
+    ensures tree { KeepsTree nodes.old.lodged nodes.new.lodged }
     ensures heads { KeepsHeads nodes.old.lodged nodes.new.lodged }
     ensures masks { (n : ℕ) → masks_in nodes.new.lodged n ≡ mask_put room node n (masks_in nodes.old.lodged n) }
-    ensures next { nodes.new.next ≡ nodes.old.next }
-    ensures turn { nodes.new.turn ≡ nodes.old.turn }
-    ensures counter { visits.new.turn ≡ visits.old.turn }
+    ensures stays { Stays nodes.old nodes.new visits.old visits.new }
 {
     let links = *nodes.links(room, visits);
     nodes.set_links(room, links.with_mask_node(node));
@@ -85,12 +78,8 @@ pub(crate) fn lodge_leaf<V>(
     ensures number { result.number ≡ room }
     ensures leaves { (n : ℕ) → leaves_in nodes.new.lodged n
         ≡ leaf_lodged result value leaf n (leaves_in nodes.old.lodged n) }
-    ensures bits { KeepsBits nodes.old.lodged nodes.new.lodged }
-    ensures heads { KeepsHeads nodes.old.lodged nodes.new.lodged }
-    ensures masks { KeepsMasks nodes.old.lodged nodes.new.lodged }
-    ensures next { nodes.new.next ≡ nodes.old.next }
-    ensures turn { nodes.new.turn ≡ nodes.old.turn }
-    ensures counter { visits.new.turn ≡ visits.old.turn }
+    ensures only { OnlyLeaves nodes.old.lodged nodes.new.lodged }
+    ensures stays { Stays nodes.old nodes.new visits.old visits.new }
 {
     let id = nodes.lodge(room, value);
     put_leaf(nodes, id, leaf, visits);
@@ -103,12 +92,8 @@ fn lift_leaf<V>(nodes: &mut Nodes<V>, room: Id, above: Option<Id>, visits: &mut 
     requires turn { visits.old.turn ≡ nodes.old.turn }
     ensures leaves { (n : ℕ) → leaves_in nodes.new.lodged n
         ≡ leaf_lifted (LeafOf room) above n (leaves_in nodes.old.lodged n) }
-    ensures bits { KeepsBits nodes.old.lodged nodes.new.lodged }
-    ensures heads { KeepsHeads nodes.old.lodged nodes.new.lodged }
-    ensures masks { KeepsMasks nodes.old.lodged nodes.new.lodged }
-    ensures next { nodes.new.next ≡ nodes.old.next }
-    ensures turn { nodes.new.turn ≡ nodes.old.turn }
-    ensures counter { visits.new.turn ≡ visits.old.turn }
+    ensures only { OnlyLeaves nodes.old.lodged nodes.new.lodged }
+    ensures stays { Stays nodes.old nodes.new visits.old visits.new }
 {
     let leaf = nodes.links(room, visits).leaf();
     put_leaf(nodes, room, Leaf { above, ..leaf }, visits);
@@ -118,17 +103,11 @@ fn lift_leaf<V>(nodes: &mut Nodes<V>, room: Id, above: Option<Id>, visits: &mut 
 fn lift_bit_node<V>(nodes: &mut Nodes<V>, room: Id, above: Option<Id>, visits: &mut Visits)
     requires tree { (p : Part nodes.old.lodged) × ForkAt p room }
     requires turn { visits.old.turn ≡ nodes.old.turn }
-    ensures leaves { KeepsLeaves nodes.old.lodged nodes.new.lodged }
+    ensures only { OnlyBits nodes.old.lodged nodes.new.lodged }
     ensures bits { (n : ℕ) → bits_in nodes.new.lodged n ≡ bit_lifted (BitOf room) above n (bits_in nodes.old.lodged n) }
-    ensures heads { KeepsHeads nodes.old.lodged nodes.new.lodged }
-    ensures masks { KeepsMasks nodes.old.lodged nodes.new.lodged }
-    ensures next { nodes.new.next ≡ nodes.old.next }
-    ensures turn { nodes.new.turn ≡ nodes.old.turn }
-    ensures counter { visits.new.turn ≡ visits.old.turn }
+    ensures stays { Stays nodes.old nodes.new visits.old visits.new }
 {
-    let Some(node) = nodes.links(room, visits).bit_node() else {
-        return;
-    };
+    let node = roles::bit_node(nodes, room, visits);
     put_bit_node(nodes, room, Some(BitNode { above, ..node }), visits);
 }
 
@@ -140,9 +119,7 @@ pub(crate) fn lift<V>(nodes: &mut Nodes<V>, at: Node, above: Option<Id>, visits:
     ensures bits { (n : ℕ) → bits_in nodes.new.lodged n ≡ bit_lifted at above n (bits_in nodes.old.lodged n) }
     ensures heads { KeepsHeads nodes.old.lodged nodes.new.lodged }
     ensures masks { KeepsMasks nodes.old.lodged nodes.new.lodged }
-    ensures next { nodes.new.next ≡ nodes.old.next }
-    ensures turn { nodes.new.turn ≡ nodes.old.turn }
-    ensures counter { visits.new.turn ≡ visits.old.turn }
+    ensures stays { Stays nodes.old nodes.new visits.old visits.new }
 {
     match at {
         Node::Leaf(room) => lift_leaf(nodes, room, above, visits),
@@ -151,7 +128,7 @@ pub(crate) fn lift<V>(nodes: &mut Nodes<V>, at: Node, above: Option<Id>, visits:
 }
 
 /// Names another node beneath a bit node, on the side of an address, where there is a bit node.
-pub(crate) fn turn_child<V>(
+pub(crate) fn name_child<V>(
     nodes: &mut Nodes<V>,
     above: Option<Id>,
     address: Inet,
@@ -160,20 +137,14 @@ pub(crate) fn turn_child<V>(
 )
     requires tree { (up : Id) → above ≡ Some up → (p : Part nodes.old.lodged) × ForkAt p up }
     requires turn { visits.old.turn ≡ nodes.old.turn }
-    ensures leaves { KeepsLeaves nodes.old.lodged nodes.new.lodged }
-    ensures bits { (n : ℕ) → bits_in nodes.new.lodged n ≡ turn above address to n (bits_in nodes.old.lodged n) }
-    ensures heads { KeepsHeads nodes.old.lodged nodes.new.lodged }
-    ensures masks { KeepsMasks nodes.old.lodged nodes.new.lodged }
-    ensures next { nodes.new.next ≡ nodes.old.next }
-    ensures turn { nodes.new.turn ≡ nodes.old.turn }
-    ensures counter { visits.new.turn ≡ visits.old.turn }
+    ensures only { OnlyBits nodes.old.lodged nodes.new.lodged }
+    ensures bits { (n : ℕ) → bits_in nodes.new.lodged n ≡ child_named above address to n (bits_in nodes.old.lodged n) }
+    ensures stays { Stays nodes.old nodes.new visits.old visits.new }
 {
     let Some(up) = above else {
         return;
     };
-    let Some(node) = nodes.links(up, visits).bit_node() else {
-        return;
-    };
+    let node = roles::bit_node(nodes, up, visits);
     if is_one(address, node.bit) {
         put_bit_node(nodes, up, Some(BitNode { one: to, ..node }), visits);
     } else {

@@ -7,9 +7,10 @@ ghost use Rattle.radix_tree.specs.Rooms.{LeafPart, Run, leaves_in, masks_in, fir
 ghost use Rattle.radix_tree.specs.MaskLists.{IsHome};
 ghost use Rattle.radix_tree.specs.Whole.{IsWhole};
 ghost use Rattle.radix_tree.specs.Marks.{IsWholeBut, has_key, late_at, nobody_out};
-ghost use Rattle.radix_tree.specs.Writes.{KeepsLeaves, KeepsBits};
+ghost use Rattle.radix_tree.specs.Writes.{KeepsTree};
+ghost use Rattle.radix_tree.specs.Reads.{Stays};
 
-use crate::masks::{home, sort_in, take_out};
+use crate::masks::{home, sort_in, sort_out};
 use radix_nodes::{Id, Nodes, Visits};
 
 /// The first room of the chain that a room is in.
@@ -55,11 +56,8 @@ pub(crate) fn list_mask<V>(nodes: &mut Nodes<V>, room: Id, visits: &mut Visits)
         → IsWholeBut nodes.new.lodged root (λ n. late n && not (n == room.number)) nobody_out }
     ensures marks { (n : ℕ) → (n ≡ room.number → ⊥)
         → is_some (masks_in nodes.new.lodged n) ≡ is_some (masks_in nodes.old.lodged n) }
-    ensures leaves { KeepsLeaves nodes.old.lodged nodes.new.lodged }
-    ensures bits { KeepsBits nodes.old.lodged nodes.new.lodged }
-    ensures next { nodes.new.next ≡ nodes.old.next }
-    ensures turn { nodes.new.turn ≡ nodes.old.turn }
-    ensures counter { visits.new.turn ≡ visits.old.turn }
+    ensures tree { KeepsTree nodes.old.lodged nodes.new.lodged }
+    ensures stays { Stays nodes.old nodes.new visits.old visits.new }
 {
     let Some(fork) = home_of(nodes, room, visits) else {
         return;
@@ -74,11 +72,8 @@ fn list_late<V>(nodes: &mut Nodes<V>, room: Id, visits: &mut Visits)
     requires turn { visits.old.turn ≡ nodes.old.turn }
     ensures whole { (root : Named) (late : ℕ → Bool) → IsWholeBut nodes.old.lodged root late nobody_out
         → IsWholeBut nodes.new.lodged root (λ n. late n && not (n == room.number)) nobody_out }
-    ensures leaves { KeepsLeaves nodes.old.lodged nodes.new.lodged }
-    ensures bits { KeepsBits nodes.old.lodged nodes.new.lodged }
-    ensures next { nodes.new.next ≡ nodes.old.next }
-    ensures turn { nodes.new.turn ≡ nodes.old.turn }
-    ensures counter { visits.new.turn ≡ visits.old.turn }
+    ensures tree { KeepsTree nodes.old.lodged nodes.new.lodged }
+    ensures stays { Stays nodes.old nodes.new visits.old visits.new }
 {
     match nodes.links(room, visits).mask_node() {
         Some(_) => {}
@@ -96,11 +91,8 @@ pub(crate) fn list_chain<V>(nodes: &mut Nodes<V>, first: Id, visits: &mut Visits
     ensures whole { (root : Named) (late : ℕ → Bool) (p : LeafPart V) → IsWholeBut nodes.old.lodged root late nobody_out
         → leaves_in nodes.old.lodged first.number ≡ Some p
         → IsWholeBut nodes.new.lodged root (λ n. late n && not (has_key nodes.old.lodged p.leaf.key n)) nobody_out }
-    ensures leaves { KeepsLeaves nodes.old.lodged nodes.new.lodged }
-    ensures bits { KeepsBits nodes.old.lodged nodes.new.lodged }
-    ensures next { nodes.new.next ≡ nodes.old.next }
-    ensures turn { nodes.new.turn ≡ nodes.old.turn }
-    ensures counter { visits.new.turn ≡ visits.old.turn }
+    ensures tree { KeepsTree nodes.old.lodged nodes.new.lodged }
+    ensures stays { Stays nodes.old nodes.new visits.old visits.new }
 {
     let mut at = Some(first);
     while let Some(room) = at {
@@ -117,14 +109,11 @@ pub(crate) fn unlist_mask<V>(nodes: &mut Nodes<V>, room: Id, visits: &mut Visits
     ensures whole { (root : Named) → IsWhole nodes.old.lodged root
         → IsWholeBut nodes.new.lodged root (late_at room.number) nobody_out }
     ensures gone { masks_in nodes.new.lodged room.number ≡ None }
-    ensures leaves { KeepsLeaves nodes.old.lodged nodes.new.lodged }
-    ensures bits { KeepsBits nodes.old.lodged nodes.new.lodged }
-    ensures next { nodes.new.next ≡ nodes.old.next }
-    ensures turn { nodes.new.turn ≡ nodes.old.turn }
-    ensures counter { visits.new.turn ≡ visits.old.turn }
+    ensures tree { KeepsTree nodes.old.lodged nodes.new.lodged }
+    ensures stays { Stays nodes.old nodes.new visits.old visits.new }
 {
     let Some(fork) = home_of(nodes, room, visits) else {
         return;
     };
-    take_out(nodes, fork, room, visits);
+    sort_out(nodes, fork, room, visits);
 }

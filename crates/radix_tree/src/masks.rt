@@ -2,13 +2,16 @@
 ghost use Rattle.std.specs.Prelude.{◌≡◌, ◌+◌, ◌≤◌, ◌⊎◌, ℕ, None, Some, ◌++◌, List, is_some, true};
 ghost use Rattle.radix_nodes.specs.Rooms.{Has};
 ghost use Rattle.radix_nodes.specs.declared.links.Node.TheVariants.{Leaf as LeafOf, Bit as BitOf};
+ghost use Rattle.radix_tree.specs.Bounds.{last_bit, ranks};
 ghost use Rattle.radix_tree.specs.Tree.{Placed, IsAmong};
 ghost use Rattle.radix_tree.specs.Rooms.{Part, leaves_in, bits_in, heads_in, masks_in, first_room, Falls};
 ghost use Rattle.radix_tree.specs.Searches.{LedTo};
-ghost use Rattle.radix_tree.specs.Writes.{KeepsLeaves, KeepsBits, KeepsHeads, KeepsMasks};
-ghost use Rattle.radix_tree.specs.MaskLists.{IsMasks, IsBitNode, IsFree, IsAside, IsNoRank, IsHome, head_linked, mask_linked, last_room, not_below, below as from_below, sorted_in, taken_out, past_bit, up_to_bit};
+ghost use Rattle.radix_tree.specs.Writes.{KeepsHeads, KeepsMasks, KeepsTree};
+ghost use Rattle.radix_tree.specs.MaskLists.{IsMasks, IsBitNode, IsFree, IsAside, IsNoRank, IsHome, head_linked, mask_linked, last_mask, not_below, below as from_below, sorted_in, taken_out, past_bit, up_to_bit};
+ghost use Rattle.radix_tree.specs.Reads.{Stays};
 
 use crate::linking::{put_bit_node, put_mask_node};
+use crate::roles;
 use mask_table::Rank;
 use radix_nodes::{BitNode, Id, MaskNode, Node, Nodes, Visits};
 
@@ -25,7 +28,7 @@ fn gap_at<V>(nodes: &Nodes<V>, first: Option<Id>, low: u8, visits: &mut Visits) 
     requires list { (ms : List (Placed V)) × IsMasks nodes.now.lodged first ms }
     requires turn { visits.old.turn ≡ nodes.now.turn }
     ensures before { (ms : List (Placed V)) → IsMasks nodes.now.lodged first ms
-        → last_room (not_below low ms) ≡ result.before }
+        → last_mask (not_below low ms) ≡ result.before }
     ensures behind { (ms : List (Placed V)) → IsMasks nodes.now.lodged first ms
         → first_room (from_below low ms) ≡ result.behind }
     ensures counter { visits.new.turn ≡ visits.old.turn }
@@ -33,13 +36,10 @@ fn gap_at<V>(nodes: &Nodes<V>, first: Option<Id>, low: u8, visits: &mut Visits) 
     let mut before = None;
     let mut behind = first;
     while let Some(room) = behind {
-        let links = nodes.links(room, visits);
-        if links.leaf().rank.number() < low {
+        let (leaf, mask) = roles::mask_node(nodes, room, visits);
+        if leaf.rank.number() < low {
             return Gap { before, behind };
         }
-        let Some(mask) = links.mask_node() else {
-            return Gap { before, behind };
-        };
         before = behind;
         behind = mask.next;
     }
@@ -53,28 +53,20 @@ fn masks_of<V>(nodes: &Nodes<V>, fork: Id, visits: &mut Visits) -> Option<Id>
     ensures head { result ≡ heads_in nodes.now.lodged fork.number }
     ensures counter { visits.new.turn ≡ visits.old.turn }
 {
-    let Some(node) = nodes.links(fork, visits).bit_node() else {
-        return None;
-    };
-    node.masks
+    roles::bit_node(nodes, fork, visits).masks
 }
 
 /// Writes which mask is the first that is listed at a bit node, or that none is.
 fn put_masks<V>(nodes: &mut Nodes<V>, fork: Id, masks: Option<Id>, visits: &mut Visits)
     requires node { IsBitNode nodes.old.lodged fork }
     requires turn { visits.old.turn ≡ nodes.old.turn }
-    ensures leaves { KeepsLeaves nodes.old.lodged nodes.new.lodged }
-    ensures bits { KeepsBits nodes.old.lodged nodes.new.lodged }
+    ensures tree { KeepsTree nodes.old.lodged nodes.new.lodged }
     ensures heads { (n : ℕ) → heads_in nodes.new.lodged n
         ≡ head_linked fork None masks n (heads_in nodes.old.lodged n) }
     ensures masks { KeepsMasks nodes.old.lodged nodes.new.lodged }
-    ensures next { nodes.new.next ≡ nodes.old.next }
-    ensures turn { nodes.new.turn ≡ nodes.old.turn }
-    ensures counter { visits.new.turn ≡ visits.old.turn }
+    ensures stays { Stays nodes.old nodes.new visits.old visits.new }
 {
-    let Some(node) = nodes.links(fork, visits).bit_node() else {
-        return;
-    };
+    let node = roles::bit_node(nodes, fork, visits);
     put_bit_node(nodes, fork, Some(BitNode { masks, ..node }), visits);
 }
 
@@ -89,15 +81,12 @@ fn link<V>(
     requires node { IsBitNode nodes.old.lodged fork }
     requires there { (room : Id) → before ≡ Some room → Has nodes.old.lodged room }
     requires turn { visits.old.turn ≡ nodes.old.turn }
-    ensures leaves { KeepsLeaves nodes.old.lodged nodes.new.lodged }
-    ensures bits { KeepsBits nodes.old.lodged nodes.new.lodged }
+    ensures tree { KeepsTree nodes.old.lodged nodes.new.lodged }
     ensures heads { (n : ℕ) → heads_in nodes.new.lodged n
         ≡ head_linked fork before next n (heads_in nodes.old.lodged n) }
     ensures masks { (n : ℕ) → masks_in nodes.new.lodged n
         ≡ mask_linked before next n (masks_in nodes.old.lodged n) }
-    ensures next { nodes.new.next ≡ nodes.old.next }
-    ensures turn { nodes.new.turn ≡ nodes.old.turn }
-    ensures counter { visits.new.turn ≡ visits.old.turn }
+    ensures stays { Stays nodes.old nodes.new visits.old visits.new }
 {
     match before {
         Some(room) => put_mask_node(nodes, room, Some(MaskNode { next }), visits),
@@ -120,13 +109,10 @@ pub(crate) fn sort_in<V>(nodes: &mut Nodes<V>, fork: Id, room: Id, visits: &mut 
     ensures marked { is_some (masks_in nodes.new.lodged room.number) ≡ true }
     ensures marks { (n : ℕ) → (n ≡ room.number → ⊥)
         → is_some (masks_in nodes.new.lodged n) ≡ is_some (masks_in nodes.old.lodged n) }
-    ensures leaves { KeepsLeaves nodes.old.lodged nodes.new.lodged }
-    ensures bits { KeepsBits nodes.old.lodged nodes.new.lodged }
-    ensures next { nodes.new.next ≡ nodes.old.next }
-    ensures turn { nodes.new.turn ≡ nodes.old.turn }
-    ensures counter { visits.new.turn ≡ visits.old.turn }
+    ensures tree { KeepsTree nodes.old.lodged nodes.new.lodged }
+    ensures stays { Stays nodes.old nodes.new visits.old visits.new }
 {
-    let rank = nodes.links(room, visits).leaf().rank.number();
+    let rank = roles::leaf(nodes, room, visits).rank.number();
     let first = masks_of(nodes, fork, visits);
     let gap = gap_at(nodes, first, rank, visits);
     put_mask_node(nodes, room, Some(MaskNode { next: gap.behind }), visits);
@@ -134,7 +120,7 @@ pub(crate) fn sort_in<V>(nodes: &mut Nodes<V>, fork: Id, room: Id, visits: &mut 
 }
 
 /// Takes a room's mask out of a bit node's list.
-pub(crate) fn take_out<V>(nodes: &mut Nodes<V>, fork: Id, room: Id, visits: &mut Visits)
+pub(crate) fn sort_out<V>(nodes: &mut Nodes<V>, fork: Id, room: Id, visits: &mut Visits)
     requires node { IsBitNode nodes.old.lodged fork }
     requires list { (ms : List (Placed V)) × (x : Placed V)
         × IsMasks nodes.old.lodged (heads_in nodes.old.lodged fork.number) ms × IsAmong x ms × (x.room ≡ room) }
@@ -148,18 +134,12 @@ pub(crate) fn take_out<V>(nodes: &mut Nodes<V>, fork: Id, room: Id, visits: &mut
     ensures unmarked { masks_in nodes.new.lodged room.number ≡ None }
     ensures marks { (n : ℕ) → (n ≡ room.number → ⊥)
         → is_some (masks_in nodes.new.lodged n) ≡ is_some (masks_in nodes.old.lodged n) }
-    ensures leaves { KeepsLeaves nodes.old.lodged nodes.new.lodged }
-    ensures bits { KeepsBits nodes.old.lodged nodes.new.lodged }
-    ensures next { nodes.new.next ≡ nodes.old.next }
-    ensures turn { nodes.new.turn ≡ nodes.old.turn }
-    ensures counter { visits.new.turn ≡ visits.old.turn }
+    ensures tree { KeepsTree nodes.old.lodged nodes.new.lodged }
+    ensures stays { Stays nodes.old nodes.new visits.old visits.new }
 {
-    let links = *nodes.links(room, visits);
-    let Some(mask) = links.mask_node() else {
-        return;
-    };
+    let (leaf, mask) = roles::mask_node(nodes, room, visits);
     let first = masks_of(nodes, fork, visits);
-    let gap = gap_at(nodes, first, links.leaf().rank.number() + 1, visits);
+    let gap = gap_at(nodes, first, leaf.rank.number() + 1, visits);
     link(nodes, fork, gap.before, mask.next, visits);
     put_mask_node(nodes, room, None, visits);
 }
@@ -169,7 +149,7 @@ pub(crate) fn take_out<V>(nodes: &mut Nodes<V>, fork: Id, room: Id, visits: &mut
 fn cut_list<V>(nodes: &mut Nodes<V>, fork: Id, bit: u8, visits: &mut Visits) -> Option<Id>
     requires node { IsBitNode nodes.old.lodged fork }
     requires list { (ms : List (Placed V)) × IsMasks nodes.old.lodged (heads_in nodes.old.lodged fork.number) ms }
-    requires bit { bit ≤ 31 }
+    requires bit { bit ≤ last_bit }
     requires turn { visits.old.turn ≡ nodes.old.turn }
     ensures kept { (ms : List (Placed V)) → IsMasks nodes.old.lodged (heads_in nodes.old.lodged fork.number) ms
         → IsMasks nodes.new.lodged (heads_in nodes.new.lodged fork.number) (past_bit bit ms) }
@@ -179,11 +159,8 @@ fn cut_list<V>(nodes: &mut Nodes<V>, fork: Id, bit: u8, visits: &mut Visits) -> 
     ensures masks { (ms : List (Placed V)) → IsMasks nodes.old.lodged (heads_in nodes.old.lodged fork.number) ms
         → (n : ℕ) → IsAside n ms → masks_in nodes.new.lodged n ≡ masks_in nodes.old.lodged n }
     ensures marks { (n : ℕ) → is_some (masks_in nodes.new.lodged n) ≡ is_some (masks_in nodes.old.lodged n) }
-    ensures leaves { KeepsLeaves nodes.old.lodged nodes.new.lodged }
-    ensures bits { KeepsBits nodes.old.lodged nodes.new.lodged }
-    ensures next { nodes.new.next ≡ nodes.old.next }
-    ensures turn { nodes.new.turn ≡ nodes.old.turn }
-    ensures counter { visits.new.turn ≡ visits.old.turn }
+    ensures tree { KeepsTree nodes.old.lodged nodes.new.lodged }
+    ensures stays { Stays nodes.old nodes.new visits.old visits.new }
 {
     let first = masks_of(nodes, fork, visits);
     let gap = gap_at(nodes, first, bit + 1, visits);
@@ -197,7 +174,7 @@ pub(crate) fn cut<V>(nodes: &mut Nodes<V>, at: Node, bit: u8, visits: &mut Visit
     requires node { (fork : Id) → at ≡ BitOf fork → IsBitNode nodes.old.lodged fork }
     requires list { (fork : Id) → at ≡ BitOf fork
         → (ms : List (Placed V)) × IsMasks nodes.old.lodged (heads_in nodes.old.lodged fork.number) ms }
-    requires bit { bit ≤ 31 }
+    requires bit { bit ≤ last_bit }
     requires turn { visits.old.turn ≡ nodes.old.turn }
     ensures kept { (fork : Id) (ms : List (Placed V)) → at ≡ BitOf fork
         → IsMasks nodes.old.lodged (heads_in nodes.old.lodged fork.number) ms
@@ -212,11 +189,8 @@ pub(crate) fn cut<V>(nodes: &mut Nodes<V>, at: Node, bit: u8, visits: &mut Visit
         → IsMasks nodes.old.lodged (heads_in nodes.old.lodged fork.number) ms
         → (n : ℕ) → IsAside n ms → masks_in nodes.new.lodged n ≡ masks_in nodes.old.lodged n }
     ensures marks { (n : ℕ) → is_some (masks_in nodes.new.lodged n) ≡ is_some (masks_in nodes.old.lodged n) }
-    ensures leaves { KeepsLeaves nodes.old.lodged nodes.new.lodged }
-    ensures bits { KeepsBits nodes.old.lodged nodes.new.lodged }
-    ensures next { nodes.new.next ≡ nodes.old.next }
-    ensures turn { nodes.new.turn ≡ nodes.old.turn }
-    ensures counter { visits.new.turn ≡ visits.old.turn }
+    ensures tree { KeepsTree nodes.old.lodged nodes.new.lodged }
+    ensures stays { Stays nodes.old nodes.new visits.old visits.new }
 {
     match at {
         Node::Leaf(_) => None,
@@ -228,20 +202,17 @@ pub(crate) fn cut<V>(nodes: &mut Nodes<V>, at: Node, bit: u8, visits: &mut Visit
 pub(crate) fn append<V>(nodes: &mut Nodes<V>, fork: Id, tail: Option<Id>, visits: &mut Visits)
     requires node { IsBitNode nodes.old.lodged fork }
     requires list { (ms ts : List (Placed V)) × IsMasks nodes.old.lodged (heads_in nodes.old.lodged fork.number) ms
-        × IsMasks nodes.old.lodged tail ts × Falls 0 34 (ms ++ ts) }
+        × IsMasks nodes.old.lodged tail ts × Falls 0 ranks (ms ++ ts) }
     requires turn { visits.old.turn ≡ nodes.old.turn }
     ensures list { (ms ts : List (Placed V)) → IsMasks nodes.old.lodged (heads_in nodes.old.lodged fork.number) ms
-        → IsMasks nodes.old.lodged tail ts → Falls 0 34 (ms ++ ts)
+        → IsMasks nodes.old.lodged tail ts → Falls 0 ranks (ms ++ ts)
         → IsMasks nodes.new.lodged (heads_in nodes.new.lodged fork.number) (ms ++ ts) }
     ensures heads { (n : ℕ) → (n ≡ fork.number → ⊥) → heads_in nodes.new.lodged n ≡ heads_in nodes.old.lodged n }
     ensures masks { (ms : List (Placed V)) → IsMasks nodes.old.lodged (heads_in nodes.old.lodged fork.number) ms
         → (n : ℕ) → IsAside n ms → masks_in nodes.new.lodged n ≡ masks_in nodes.old.lodged n }
     ensures marks { (n : ℕ) → is_some (masks_in nodes.new.lodged n) ≡ is_some (masks_in nodes.old.lodged n) }
-    ensures leaves { KeepsLeaves nodes.old.lodged nodes.new.lodged }
-    ensures bits { KeepsBits nodes.old.lodged nodes.new.lodged }
-    ensures next { nodes.new.next ≡ nodes.old.next }
-    ensures turn { nodes.new.turn ≡ nodes.old.turn }
-    ensures counter { visits.new.turn ≡ visits.old.turn }
+    ensures tree { KeepsTree nodes.old.lodged nodes.new.lodged }
+    ensures stays { Stays nodes.old nodes.new visits.old visits.new }
 {
     let first = masks_of(nodes, fork, visits);
     let gap = gap_at(nodes, first, 0, visits);
@@ -259,17 +230,12 @@ pub(crate) fn clear<V>(nodes: &mut Nodes<V>, first: Option<Id>, visits: &mut Vis
     ensures fewer { (n : ℕ) → (masks_in nodes.new.lodged n ≡ None)
         ⊎ (masks_in nodes.new.lodged n ≡ masks_in nodes.old.lodged n) }
     ensures heads { KeepsHeads nodes.old.lodged nodes.new.lodged }
-    ensures leaves { KeepsLeaves nodes.old.lodged nodes.new.lodged }
-    ensures bits { KeepsBits nodes.old.lodged nodes.new.lodged }
-    ensures next { nodes.new.next ≡ nodes.old.next }
-    ensures turn { nodes.new.turn ≡ nodes.old.turn }
-    ensures counter { visits.new.turn ≡ visits.old.turn }
+    ensures tree { KeepsTree nodes.old.lodged nodes.new.lodged }
+    ensures stays { Stays nodes.old nodes.new visits.old visits.new }
 {
     let mut at = first;
     while let Some(room) = at {
-        let Some(mask) = nodes.links(room, visits).mask_node() else {
-            return;
-        };
+        let (_, mask) = roles::mask_node(nodes, room, visits);
         put_mask_node(nodes, room, None, visits);
         at = mask.next;
     }
@@ -287,11 +253,9 @@ pub(crate) fn home<V>(nodes: &Nodes<V>, leaf: Id, rank: Rank, visits: &mut Visit
 {
     let rank = rank.number();
     let mut home = None;
-    let mut above = nodes.links(leaf, visits).leaf().above;
+    let mut above = roles::leaf(nodes, leaf, visits).above;
     while let Some(up) = above {
-        let Some(node) = nodes.links(up, visits).bit_node() else {
-            return home;
-        };
+        let node = roles::bit_node(nodes, up, visits);
         if node.bit < rank {
             return home;
         }

@@ -5,8 +5,9 @@ ghost use Rattle.radix_nodes.specs.declared.id.Id.{Id};
 ghost use Rattle.radix_tree.specs.Rooms.{BitPart, bits_in};
 ghost use Rattle.radix_tree.specs.Whole.{shown};
 ghost use Rattle.radix_tree.specs.Marks.{IsWholeBut, nobody_late, out_at};
-ghost use Rattle.radix_tree.specs.Writes.{KeepsLeaves, KeepsHeads, KeepsMasks};
+ghost use Rattle.radix_tree.specs.Writes.{KeepsMasks, OnlyBits};
 ghost use Rattle.radix_tree.specs.Removal.{renamed as name_after, rename, KeepsRoutes, CanTake};
+ghost use Rattle.radix_tree.specs.Reads.{Stays};
 
 use crate::inserting::root_after;
 use crate::linking::{lift, put_bit_node};
@@ -32,13 +33,9 @@ fn renamed(from: Id, to: Id, node: Node) -> Node
 fn rename_child<V>(nodes: &mut Nodes<V>, above: Option<Id>, from: Id, to: Id, visits: &mut Visits)
     requires there { (up : Id) → above ≡ Some up → Has nodes.old.lodged up }
     requires turn { visits.old.turn ≡ nodes.old.turn }
-    ensures leaves { KeepsLeaves nodes.old.lodged nodes.new.lodged }
+    ensures only { OnlyBits nodes.old.lodged nodes.new.lodged }
     ensures bits { (n : ℕ) → bits_in nodes.new.lodged n ≡ rename above from to n (bits_in nodes.old.lodged n) }
-    ensures heads { KeepsHeads nodes.old.lodged nodes.new.lodged }
-    ensures masks { KeepsMasks nodes.old.lodged nodes.new.lodged }
-    ensures next { nodes.new.next ≡ nodes.old.next }
-    ensures turn { nodes.new.turn ≡ nodes.old.turn }
-    ensures counter { visits.new.turn ≡ visits.old.turn }
+    ensures stays { Stays nodes.old nodes.new visits.old visits.new }
 {
     let Some(up) = above else {
         return;
@@ -72,9 +69,7 @@ pub(crate) fn vacate<V>(
     ensures routes { shown nodes.new.lodged (Some result) ≡ shown nodes.old.lodged (Some root) }
     ensures rooms { KeepsRoutes nodes.old.lodged nodes.new.lodged }
     ensures masks { KeepsMasks nodes.old.lodged nodes.new.lodged }
-    ensures next { nodes.new.next ≡ nodes.old.next }
-    ensures turn { nodes.new.turn ≡ nodes.old.turn }
-    ensures counter { visits.new.turn ≡ visits.old.turn }
+    ensures stays { Stays nodes.old nodes.new visits.old visits.new }
 {
     let Some(node) = nodes.links(from, visits).bit_node() else {
         return root;

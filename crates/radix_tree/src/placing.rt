@@ -3,6 +3,7 @@ ghost use Rattle.std.specs.Prelude.{◌≡◌, ℕ};
 ghost use Rattle.radix_tree.specs.Growth.{IsNew, IsSpot};
 
 use crate::inserting::Spot;
+use crate::roles;
 use radix_nodes::{Id, Node, Nodes, Visits};
 
 /// The spot for a route of a new key, from the leaf to which the key's bits lead and the first bit at which it differs
@@ -16,11 +17,9 @@ pub(crate) fn spot_above<V>(nodes: &Nodes<V>, leaf: Id, bit: u8, visits: &mut Vi
     ensures counter { visits.new.turn ≡ visits.old.turn }
 {
     let mut below = Node::Leaf(leaf);
-    let mut above = nodes.links(leaf, visits).leaf().above;
+    let mut above = roles::leaf(nodes, leaf, visits).above;
     while let Some(up) = above {
-        let Some(node) = nodes.links(up, visits).bit_node() else {
-            return Spot { bit, above, below };
-        };
+        let node = roles::bit_node(nodes, up, visits);
         if node.bit <= bit {
             return Spot { bit, above, below };
         }

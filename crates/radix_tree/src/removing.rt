@@ -7,6 +7,7 @@ ghost use Rattle.radix_tree.specs.Marks.{IsWholeBut, HasRoomMore, late_at, nobod
 ghost use Rattle.radix_tree.specs.Removal.{KeepsRoutes, IsOut, member_beside};
 ghost use Rattle.radix_tree.specs.Rooms.{LeafPart, leaves_in, masks_in};
 ghost use Rattle.radix_tree.specs.Whole.{IsWhole, Holds, shown, shown_entry};
+ghost use Rattle.radix_tree.specs.Reads.{Stays};
 
 use crate::chains::remove_from_chain;
 use crate::joining::remove_lone;
@@ -43,9 +44,7 @@ fn take_member<V>(
     ensures routes { (p : LeafPart V) → leaves_in nodes.old.lodged at.number ≡ Some p
         → Gains (shown_entry p) (shown nodes.new.lodged result) (shown nodes.old.lodged (Some root)) }
     ensures rooms { KeepsRoutes nodes.old.lodged nodes.new.lodged }
-    ensures next { nodes.new.next ≡ nodes.old.next }
-    ensures turn { nodes.new.turn ≡ nodes.old.turn }
-    ensures counter { visits.new.turn ≡ visits.old.turn }
+    ensures stays { Stays nodes.old nodes.new visits.old visits.new }
 {
     let rest = remove_from_chain(nodes, root, at, visits);
     Some(vacate(nodes, rest, at, to, visits))
@@ -64,9 +63,7 @@ fn take_lone<V>(nodes: &mut Nodes<V>, root: Node, at: Id, visits: &mut Visits) -
     ensures routes { (p : LeafPart V) → leaves_in nodes.old.lodged at.number ≡ Some p
         → Gains (shown_entry p) (shown nodes.new.lodged result) (shown nodes.old.lodged (Some root)) }
     ensures rooms { KeepsRoutes nodes.old.lodged nodes.new.lodged }
-    ensures next { nodes.new.next ≡ nodes.old.next }
-    ensures turn { nodes.new.turn ≡ nodes.old.turn }
-    ensures counter { visits.new.turn ≡ visits.old.turn }
+    ensures stays { Stays nodes.old nodes.new visits.old visits.new }
 {
     let (rest, to) = remove_lone(nodes, root, at, visits);
     Some(vacate(nodes, rest, at, to, visits))
@@ -83,9 +80,7 @@ fn take_out<V>(nodes: &mut Nodes<V>, root: Node, at: Id, visits: &mut Visits) ->
     ensures routes { (p : LeafPart V) → leaves_in nodes.old.lodged at.number ≡ Some p
         → Gains (shown_entry p) (shown nodes.new.lodged result) (shown nodes.old.lodged (Some root)) }
     ensures rooms { KeepsRoutes nodes.old.lodged nodes.new.lodged }
-    ensures next { nodes.new.next ≡ nodes.old.next }
-    ensures turn { nodes.new.turn ≡ nodes.old.turn }
-    ensures counter { visits.new.turn ≡ visits.old.turn }
+    ensures stays { Stays nodes.old nodes.new visits.old visits.new }
 {
     let leaf = nodes.links(at, visits).leaf();
     let above = leaf.above;
@@ -116,9 +111,7 @@ pub(crate) fn remove_route<V>(
     ensures number { result.1 ≡ at.number }
     ensures rooms { HasRoomMore nodes.new.lodged nodes.old.lodged at.number }
     ensures gone { get nodes.new.lodged at.number ≡ None }
-    ensures next { nodes.new.next ≡ nodes.old.next }
-    ensures turn { nodes.new.turn ≡ nodes.old.turn }
-    ensures counter { visits.new.turn ≡ visits.old.turn }
+    ensures stays { Stays nodes.old nodes.new visits.old visits.new }
 {
     unlist_mask(nodes, at, visits);
     let rest = take_out(nodes, root, at, visits);

@@ -1,10 +1,13 @@
 //! The best route of an address.
-ghost use Rattle.std.specs.Prelude.{◌≡◌, ◌+◌, ◌≤◌, Some, option_map};
+ghost use Rattle.std.specs.Prelude.{◌≡◌, Some, option_map};
+ghost use Rattle.radix_tree.specs.Bounds.{best_reads};
 ghost use Rattle.radix_tree.specs.Table.{best_of};
 ghost use Rattle.radix_tree.specs.Found.{routed};
+ghost use Rattle.radix_tree.specs.Reads.{Reads};
 ghost use Rattle.radix_tree.specs.Whole.{IsWhole, shown};
 
 use crate::backtracking::best_room;
+use crate::roles;
 use mask_table::Rank;
 use radix_nodes::{Node, Nodes, Visits};
 use sock_addrs::Inet;
@@ -19,13 +22,11 @@ pub(crate) fn best<'a, V>(
     requires whole { IsWhole nodes.now.lodged root }
     requires turn { visits.old.turn ≡ nodes.now.turn }
     ensures best { option_map routed result ≡ best_of address (shown nodes.now.lodged (Some root)) }
-    ensures counter { visits.new.turn ≡ visits.old.turn }
-    ensures bound { visits.new.count ≤ visits.old.count + 2400 }
+    ensures visits { Reads visits.old visits.new best_reads }
 {
-    let room = match best_room(nodes, root, address, visits) {
-        Some(room) => room,
-        None => return None,
+    let Some(room) = best_room(nodes, root, address, visits) else {
+        return None;
     };
-    let leaf = nodes.links(room, visits).leaf();
+    let leaf = roles::leaf(nodes, room, visits);
     Some((leaf.key, leaf.rank, nodes.value(room, visits)))
 }

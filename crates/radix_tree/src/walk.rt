@@ -128,7 +128,7 @@ fn place_behind<V>(nodes: &Nodes<V>, first: Id, key: Inet, visits: &mut Visits) 
     let mut above = nodes.links(first, visits).leaf().above;
     while let Some(up) = above {
         let Some(node) = nodes.links(up, visits).bit_node() else {
-            return None;
+            unreachable!();
         };
         if !is_one(key, node.bit) {
             return Some(first_place(nodes, node.one, visits));

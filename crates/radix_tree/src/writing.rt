@@ -104,6 +104,9 @@ impl<V: Drop> Table<V> {
             ≡ option_map (λ e. e.value) (entry_at key rank self.old.entries) }
     {
         let mut visits = self.nodes.begin();
+        if !self.counts.has(rank) {
+            return None;
+        }
         let Some(root) = self.root else {
             return None;
         };

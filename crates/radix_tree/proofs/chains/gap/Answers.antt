@@ -3,7 +3,7 @@ use Rattle.std.proofs.lemmas.Bool.{eqb-true, eqb-false}
 use Rattle.std.proofs.lemmas.Map.Keys.{ge_from_not_lt}
 use Rattle.radix_nodes.specs.declared.id.Id.{Id}
 use Rattle.radix_nodes.specs.Counting.{Counter}
-use Rattle.radix_tree.specs.Chains.{Passed, Gap}
+use Rattle.radix_tree.specs.Chains.{Passed, FindsGap}
 use Rattle.radix_tree.proofs.ChainGaps.{less_of, Has-first, begun, Has-at, few_at, passed, taken, found, ended}
 use Rattle.radix_tree.proofs.chains.gap.Goals as goal
 
@@ -33,7 +33,7 @@ returns-then-eq-clause-gap g c r begins =
 
 pub returns-then-lt-clause-gap : goal.returns-then-lt-clause-gap
 returns-then-lt-clause-gap g c r begins =
-    subst (λ (o : Option Id). Gap c.args.key c.args.rank r (Some (record { key = c.args.key; rank = c.args.rank; above = c.loop-next.above; next = o; previous = c.loop-next.previous }))) c.in-Some.is
+    subst (λ (o : Option Id). FindsGap c.args.key c.args.rank r (Some (record { key = c.args.key; rank = c.args.rank; above = c.loop-next.above; next = o; previous = c.loop-next.previous }))) c.in-Some.is
     (found c.args.nodes.now.lodged c.args.key c.args.rank r c.loop-next.above c.loop-next.previous c.loop-next.next _ c.in-Some.at c.links-in-Some.result.now c.leaf-member.result (c.loop-next.invariant.passed r begins) c.in-Some.is
     c.links-in-Some.ensures.links c.leaf-member.ensures (less_of c.leaf-member.result.rank c.args.rank (sym c.lt.ensures ∙ c.if-lt.true)))
 

@@ -1,14 +1,10 @@
-use Rattle.std.proofs.Common.{◌≡◌, ◌≤◌, ◌+◌, ◌-◌}
+use Rattle.std.proofs.Common.{◌≡◌, ◌+◌, ◌-◌}
 use Rattle.radix_tree.specs.Rooms.{Part, name_of}
-use Rattle.radix_tree.specs.Searches.{Down}
+use Rattle.radix_tree.proofs.Descents.{Down}
 use Rattle.radix_tree.proofs.descent.leaf_for.Given as goal
 
 abbrev pub invariant-loop-at : goal.invariant-loop-at
-invariant-loop-at g l = record {
-  turn : l.visits.turn ≡ l.nodes.turn;
-  down : (p : Part l.fn.nodes.lodged) → name_of p.tree ≡ l.fn.from → Down l.fn.address p l.at (l.visits.count - l.fn.visits.count);
-  rises : l.fn.visits.count ≤ l.visits.count;
-}
+invariant-loop-at g l = (p : Part l.fn.nodes.lodged) → name_of p.tree ≡ l.fn.from → Down l.fn.address p l.at l.fn.visits l.visits
 
 abbrev pub decreases-loop-at : goal.decreases-loop-at
 decreases-loop-at g l = (l.fn.visits.count + 33) - l.visits.count

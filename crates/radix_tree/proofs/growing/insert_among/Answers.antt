@@ -15,4 +15,4 @@ returns-in-Ok-clause-whole g c =
 
 pub returns-in-Ok-clause-routes : goal.returns-in-Ok-clause-routes
 returns-in-Ok-clause-routes g c =
-    gains_same _ _ c.insert_in_chain.new.nodes.lodged c.list_mask.new.nodes.lodged c.in-Ok.root c.in-Ok.ensures.routes c.list_mask.ensures.leaves c.list_mask.ensures.bits
+    gains_same _ _ c.insert_in_chain.new.nodes.lodged c.list_mask.new.nodes.lodged c.in-Ok.root c.in-Ok.ensures.routes c.list_mask.ensures.tree.leaves c.list_mask.ensures.tree.bits

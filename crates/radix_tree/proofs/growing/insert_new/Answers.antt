@@ -25,7 +25,7 @@ list_chain-requires-clause-first g c =
     let i = c.requires.new in
     let b = same_begun c.insert_beside-root.new.nodes.lodged c.list_mask.new.nodes.lodged _ c.args.leaf
     (still_begun c.args.nodes.now.lodged c.insert_beside-root.new.nodes.lodged _ c.args.leaf (led_begun c.args.nodes.now.lodged c.args.entry.key i.0.part c.args.leaf i.1) c.insert_beside-root.ensures.leaves)
-    c.list_mask.ensures.leaves in (b.part, b.at, b.block, b.previous)
+    c.list_mask.ensures.tree.leaves in (b.part, b.at, b.block, b.previous)
 
 pub returns-clause-whole : goal.returns-clause-whole
 returns-clause-whole g c =
@@ -34,14 +34,14 @@ returns-clause-whole g c =
     let key = i.1.leaf.first.entry.key in
     let b = same_begun c.insert_beside-root.new.nodes.lodged c.list_mask.new.nodes.lodged _ c.args.leaf
     (still_begun m c.insert_beside-root.new.nodes.lodged _ c.args.leaf (led_begun m c.args.entry.key i.0.part c.args.leaf i.1) c.insert_beside-root.ensures.leaves)
-    c.list_mask.ensures.leaves in
+    c.list_mask.ensures.tree.leaves in
     new_left c.list_chain.new.nodes.lodged c.list_mask.new.nodes.lodged c.insert_beside-root.result.0 c.args.room c.insert_beside-root.result.1.number key b.part.leaf.key (has_key m key)
     c.insert_beside-root.ensures.number b.key_is
-    (λ n has. still_key m c.insert_beside-root.new.nodes.lodged c.list_mask.new.nodes.lodged key n c.insert_beside-root.ensures.leaves c.list_mask.ensures.leaves has)
+    (λ n has. still_key m c.insert_beside-root.new.nodes.lodged c.list_mask.new.nodes.lodged key n c.insert_beside-root.ensures.leaves c.list_mask.ensures.tree.leaves has)
     (c.list_chain.ensures.whole c.insert_beside-root.result.0 _ b.part (c.list_mask.ensures.whole c.insert_beside-root.result.0 _ (c.insert_beside-root.ensures.whole i.0 i.1 i.2)) b.at)
 
 pub returns-clause-routes : goal.returns-clause-routes
 returns-clause-routes g c =
     gains_same _ _ c.list_mask.new.nodes.lodged c.list_chain.new.nodes.lodged c.insert_beside-root.result.0
-    (gains_same _ _ c.insert_beside-root.new.nodes.lodged c.list_mask.new.nodes.lodged c.insert_beside-root.result.0 c.insert_beside-root.ensures.routes c.list_mask.ensures.leaves c.list_mask.ensures.bits)
-    c.list_chain.ensures.leaves c.list_chain.ensures.bits
+    (gains_same _ _ c.insert_beside-root.new.nodes.lodged c.list_mask.new.nodes.lodged c.insert_beside-root.result.0 c.insert_beside-root.ensures.routes c.list_mask.ensures.tree.leaves c.list_mask.ensures.tree.bits)
+    c.list_chain.ensures.tree.leaves c.list_chain.ensures.tree.bits

@@ -35,8 +35,8 @@ pub add_beside-requires-clause-spot : goal.add_beside-requires-clause-spot
 add_beside-requires-clause-spot g c =
     let n = c.requires.new in
     let s = c.spot_above-spot.ensures.spot c.args.entry.key (new_key c.args.nodes.now.lodged c.args.root n.0 c.args.entry.key c.args.bit c.args.leaf n.1 n.2) in (
-      same_part c.args.nodes.now.lodged c.cut-masks.new.nodes.lodged c.cut-masks.ensures.leaves c.cut-masks.ensures.bits n.0.part,
-      same_spot c.args.nodes.now.lodged c.cut-masks.new.nodes.lodged c.cut-masks.ensures.leaves c.cut-masks.ensures.bits c.args.entry.key c.spot_above-spot.result.bit n.0.part c.spot_above-spot.result.above c.spot_above-spot.result.below
+      same_part c.args.nodes.now.lodged c.cut-masks.new.nodes.lodged c.cut-masks.ensures.tree.leaves c.cut-masks.ensures.tree.bits n.0.part,
+      same_spot c.args.nodes.now.lodged c.cut-masks.new.nodes.lodged c.cut-masks.ensures.tree.leaves c.cut-masks.ensures.tree.bits c.args.entry.key c.spot_above-spot.result.bit n.0.part c.spot_above-spot.result.above c.spot_above-spot.result.below
           (subst (λ (b : ℕ). IsSpot c.args.nodes.now.lodged c.args.entry.key b n.0.part c.spot_above-spot.result.above c.spot_above-spot.result.below) (sym c.spot_above-spot.ensures.bit) s),
     )
 
@@ -54,7 +54,7 @@ came_of g c w s =
     came_beside c.args.nodes.now.lodged c.cut-masks.new.nodes.lodged c.add_beside.new.nodes.lodged c.args.root w c.spot_above-spot.result.bit (placed c.add_beside.result.1 c.args.entry) c.spot_above-spot.result.above c.spot_above-spot.result.below c.cut-masks.result s
     c.cut-masks.ensures.kept c.cut-masks.ensures.others
     (λ room is. let l = c.cut-masks.ensures.leaf room is in (l.0, ap (λ (n : Nodes g.row.V.Denot). n.lodged) l.1))
-    c.cut-masks.ensures.heads c.cut-masks.ensures.masks c.cut-masks.ensures.marks c.cut-masks.ensures.leaves c.cut-masks.ensures.bits
+    c.cut-masks.ensures.heads c.cut-masks.ensures.masks c.cut-masks.ensures.marks c.cut-masks.ensures.tree.leaves c.cut-masks.ensures.tree.bits
     c.add_beside.ensures.beside c.add_beside.ensures.heads c.add_beside.ensures.masks
     (ap (λ (k : ℕ). mask_in (get c.args.nodes.now.lodged k)) c.add_beside.ensures.number ∙ ap mask_in c.requires.free)
 
@@ -62,11 +62,11 @@ came_of g c w s =
 part_of : (g : given.Over) (c : goal.After-add_beside g) (w : IsWhole c.args.nodes.now.lodged c.args.root) (s : IsSpot c.args.nodes.now.lodged c.args.entry.key c.spot_above-spot.result.bit w.part c.spot_above-spot.result.above c.spot_above-spot.result.below)
     → (u : Part c.add_beside.new.nodes.lodged) × (u.tree ≡ forked_tree c.spot_above-spot.result.bit (placed c.add_beside.result.1 c.args.entry) s.at.tree) × Exchanged c.args.nodes.now.lodged c.add_beside.new.nodes.lodged c.args.entry.key w.part s.at u c.add_beside.result.0
 part_of g c w s =
-    let leaves = c.cut-masks.ensures.leaves in
-    let bits = c.cut-masks.ensures.bits in
-    let e = c.add_beside.ensures.exchanged (same_part c.args.nodes.now.lodged c.cut-masks.new.nodes.lodged c.cut-masks.ensures.leaves c.cut-masks.ensures.bits w.part)
-    (same_spot c.args.nodes.now.lodged c.cut-masks.new.nodes.lodged c.cut-masks.ensures.leaves c.cut-masks.ensures.bits c.args.entry.key c.spot_above-spot.result.bit w.part c.spot_above-spot.result.above c.spot_above-spot.result.below s) w.named in
-    (e.0, e.1, exchanged_from c.args.nodes.now.lodged c.cut-masks.new.nodes.lodged c.add_beside.new.nodes.lodged c.cut-masks.ensures.leaves c.cut-masks.ensures.bits c.args.entry.key w.part s.at e.0 c.add_beside.result.0 e.2)
+    let leaves = c.cut-masks.ensures.tree.leaves in
+    let bits = c.cut-masks.ensures.tree.bits in
+    let e = c.add_beside.ensures.exchanged (same_part c.args.nodes.now.lodged c.cut-masks.new.nodes.lodged c.cut-masks.ensures.tree.leaves c.cut-masks.ensures.tree.bits w.part)
+    (same_spot c.args.nodes.now.lodged c.cut-masks.new.nodes.lodged c.cut-masks.ensures.tree.leaves c.cut-masks.ensures.tree.bits c.args.entry.key c.spot_above-spot.result.bit w.part c.spot_above-spot.result.above c.spot_above-spot.result.below s) w.named in
+    (e.0, e.1, exchanged_from c.args.nodes.now.lodged c.cut-masks.new.nodes.lodged c.add_beside.new.nodes.lodged c.cut-masks.ensures.tree.leaves c.cut-masks.ensures.tree.bits c.args.entry.key w.part s.at e.0 c.add_beside.result.0 e.2)
 
 pub returns-clause-whole : goal.returns-clause-whole
 returns-clause-whole g c w d differs =

@@ -1,20 +1,22 @@
-use Rattle.std.proofs.Common.{◌∙◌, sym, refl}
+use Rattle.std.proofs.Common.{◌∙◌, refl, rules}
+use Rattle.radix_tree.specs.Writes.{bit_above}
+use Rattle.radix_tree.proofs.Climbs.{used}
+use Rattle.radix_tree.proofs.Lifts.{node_changed, head_kept}
 use Rattle.radix_tree.proofs.Parts.{Has-fork}
-use Rattle.radix_tree.proofs.Lifts.{bit_lifted, head_kept}
 use Rattle.radix_tree.proofs.linking.lift_bit_node.Goals as goal
 
-pub links-requires-clause-there : goal.links-requires-clause-there
-links-requires-clause-there g c = let t = c.requires.tree in Has-fork c.args.nodes.now.lodged t.0 c.args.room t.1
+pub bit_node-node-requires-clause-used : goal.bit_node-node-requires-clause-used
+bit_node-node-requires-clause-used g c = used c.requires.tree.1
 
 pub put_bit_node-requires-clause-there : goal.put_bit_node-requires-clause-there
-put_bit_node-requires-clause-there g c = let t = c.requires.tree in Has-fork c.args.nodes.now.lodged t.0 c.args.room t.1
+put_bit_node-requires-clause-there g c = let t = c.requires.tree in Has-fork _ t.0 c.args.room t.1
 
 pub returns-clause-bits : goal.returns-clause-bits
-returns-clause-bits g c n =
-    let t = c.requires.tree in
-    c.put_bit_node.ensures.bits n ∙ bit_lifted c.args.nodes.now.lodged t.0 c.args.room c.links.result.now c.in-Some.node c.args.above n t.1 c.links.ensures.links (sym c.bit_node.ensures ∙ c.in-Some.is)
+returns-clause-bits g c n = c.put_bit_node.ensures.bits n ∙ node_changed _ c.args.room (record c.bit_node-node.result { above = c.args.above }) (bit_above c.args.above) n c.bit_node-node.ensures.node refl
 
-pub returns-clause-heads : goal.returns-clause-heads
-returns-clause-heads g c n =
-    let t = c.requires.tree in
-    c.put_bit_node.ensures.heads n ∙ head_kept c.args.nodes.now.lodged c.args.room c.links.result.now c.in-Some.node (record c.in-Some.node { above = c.args.above }) n (Has-fork c.args.nodes.now.lodged t.0 c.args.room t.1) c.links.ensures.links (sym c.bit_node.ensures ∙ c.in-Some.is) refl
+pub returns-clause-only : goal.returns-clause-only
+returns-clause-only g c = record {
+  leaves = search rules;
+  heads = λ n. c.put_bit_node.ensures.heads n ∙ head_kept _ c.args.room (record c.bit_node-node.result { above = c.args.above }) n c.bit_node-node.ensures.node refl;
+  masks = search rules;
+}

@@ -12,17 +12,12 @@ returns-clause-leaves g c =
     lodged_leaves c.args.nodes.now.lodged c.put_leaf.new.nodes.lodged c.lodge-id.result c.args.value c.lodge-id.ensures.lodged.0 c.args.leaf
     (λ n. c.put_leaf.ensures.leaves n ∙ rw c.lodge-id.ensures.lodged.2 refl)
 
-pub returns-clause-bits : goal.returns-clause-bits
-returns-clause-bits g c n =
-    let free : get c.args.nodes.now.lodged c.lodge-id.result.number ≡ None = ap (λ (k : ℕ). get c.args.nodes.now.lodged k) c.lodge-id.ensures.number ∙ c.requires.free in
-    c.put_leaf.ensures.bits n ∙ rw c.lodge-id.ensures.lodged.2 (lodged_bits c.args.nodes.now.lodged c.lodge-id.result c.args.value c.lodge-id.ensures.lodged.0 free c.lodge-id.ensures.lodged.1.bit_node n)
-
-pub returns-clause-heads : goal.returns-clause-heads
-returns-clause-heads g c n =
-    let free : get c.args.nodes.now.lodged c.lodge-id.result.number ≡ None = ap (λ (k : ℕ). get c.args.nodes.now.lodged k) c.lodge-id.ensures.number ∙ c.requires.free in
-    c.put_leaf.ensures.heads n ∙ rw c.lodge-id.ensures.lodged.2 (lodged_heads c.args.nodes.now.lodged c.lodge-id.result c.args.value c.lodge-id.ensures.lodged.0 free c.lodge-id.ensures.lodged.1.bit_node n)
-
-pub returns-clause-masks : goal.returns-clause-masks
-returns-clause-masks g c n =
-    let free : get c.args.nodes.now.lodged c.lodge-id.result.number ≡ None = ap (λ (k : ℕ). get c.args.nodes.now.lodged k) c.lodge-id.ensures.number ∙ c.requires.free in
-    c.put_leaf.ensures.masks n ∙ rw c.lodge-id.ensures.lodged.2 (lodged_masks c.args.nodes.now.lodged c.lodge-id.result c.args.value c.lodge-id.ensures.lodged.0 free c.lodge-id.ensures.lodged.1.mask_node n)
+pub returns-clause-only : goal.returns-clause-only
+returns-clause-only g c = record {
+  bits = λ n. let free : get c.args.nodes.now.lodged c.lodge-id.result.number ≡ None = ap (λ (k : ℕ). get c.args.nodes.now.lodged k) c.lodge-id.ensures.number ∙ c.requires.free in
+      c.put_leaf.ensures.only.bits n ∙ rw c.lodge-id.ensures.lodged.2 (lodged_bits c.args.nodes.now.lodged c.lodge-id.result c.args.value c.lodge-id.ensures.lodged.0 free c.lodge-id.ensures.lodged.1.bit_node n);
+  heads = λ n. let free : get c.args.nodes.now.lodged c.lodge-id.result.number ≡ None = ap (λ (k : ℕ). get c.args.nodes.now.lodged k) c.lodge-id.ensures.number ∙ c.requires.free in
+      c.put_leaf.ensures.only.heads n ∙ rw c.lodge-id.ensures.lodged.2 (lodged_heads c.args.nodes.now.lodged c.lodge-id.result c.args.value c.lodge-id.ensures.lodged.0 free c.lodge-id.ensures.lodged.1.bit_node n);
+  masks = λ n. let free : get c.args.nodes.now.lodged c.lodge-id.result.number ≡ None = ap (λ (k : ℕ). get c.args.nodes.now.lodged k) c.lodge-id.ensures.number ∙ c.requires.free in
+      c.put_leaf.ensures.only.masks n ∙ rw c.lodge-id.ensures.lodged.2 (lodged_masks c.args.nodes.now.lodged c.lodge-id.result c.args.value c.lodge-id.ensures.lodged.0 free c.lodge-id.ensures.lodged.1.mask_node n);
+}

@@ -3,17 +3,12 @@ use Rattle.radix_nodes.specs.Rooms.{Rooms}
 use Rattle.radix_tree.proofs.RoomWrites.{bits_kept, heads_kept, masks_kept, leaves_put}
 use Rattle.radix_tree.proofs.linking.put_leaf.Goals as goal
 
-pub returns-clause-bits : goal.returns-clause-bits
-returns-clause-bits g c =
-    bits_kept c.args.nodes.now.lodged c.set_links.new.self.lodged c.args.room c.with_leaf.result c.links-links.result.now c.requires.there (ap (λ (r : Rooms g.row.V.Denot). r.lodged) c.set_links.ensures) c.links-links.ensures.links c.with_leaf.ensures.bit_node
-
-pub returns-clause-heads : goal.returns-clause-heads
-returns-clause-heads g c =
-    heads_kept c.args.nodes.now.lodged c.set_links.new.self.lodged c.args.room c.with_leaf.result c.links-links.result.now c.requires.there (ap (λ (r : Rooms g.row.V.Denot). r.lodged) c.set_links.ensures) c.links-links.ensures.links c.with_leaf.ensures.bit_node
-
-pub returns-clause-masks : goal.returns-clause-masks
-returns-clause-masks g c =
-    masks_kept c.args.nodes.now.lodged c.set_links.new.self.lodged c.args.room c.with_leaf.result c.links-links.result.now c.requires.there (ap (λ (r : Rooms g.row.V.Denot). r.lodged) c.set_links.ensures) c.links-links.ensures.links c.with_leaf.ensures.mask_node
+pub returns-clause-only : goal.returns-clause-only
+returns-clause-only g c = record {
+  bits = bits_kept c.args.nodes.now.lodged c.set_links.new.self.lodged c.args.room c.with_leaf.result c.links-links.result.now c.requires.there (ap (λ (r : Rooms g.row.V.Denot). r.lodged) c.set_links.ensures) c.links-links.ensures.links c.with_leaf.ensures.bit_node;
+  heads = heads_kept c.args.nodes.now.lodged c.set_links.new.self.lodged c.args.room c.with_leaf.result c.links-links.result.now c.requires.there (ap (λ (r : Rooms g.row.V.Denot). r.lodged) c.set_links.ensures) c.links-links.ensures.links c.with_leaf.ensures.bit_node;
+  masks = masks_kept c.args.nodes.now.lodged c.set_links.new.self.lodged c.args.room c.with_leaf.result c.links-links.result.now c.requires.there (ap (λ (r : Rooms g.row.V.Denot). r.lodged) c.set_links.ensures) c.links-links.ensures.links c.with_leaf.ensures.mask_node;
+}
 
 pub returns-clause-leaves : goal.returns-clause-leaves
 returns-clause-leaves g c =

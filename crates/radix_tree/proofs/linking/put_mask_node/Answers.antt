@@ -3,13 +3,11 @@ use Rattle.radix_nodes.specs.Rooms.{Rooms}
 use Rattle.radix_tree.proofs.RoomWrites.{leaves_kept, bits_kept, heads_kept, masks_put}
 use Rattle.radix_tree.proofs.linking.put_mask_node.Goals as goal
 
-pub returns-clause-leaves : goal.returns-clause-leaves
-returns-clause-leaves g c =
-    leaves_kept c.args.nodes.now.lodged c.set_links.new.self.lodged c.args.room c.with_mask_node.result c.links-links.result.now c.requires.there (ap (λ (r : Rooms g.row.V.Denot). r.lodged) c.set_links.ensures) c.links-links.ensures.links c.with_mask_node.ensures.leaf
-
-pub returns-clause-bits : goal.returns-clause-bits
-returns-clause-bits g c =
-    bits_kept c.args.nodes.now.lodged c.set_links.new.self.lodged c.args.room c.with_mask_node.result c.links-links.result.now c.requires.there (ap (λ (r : Rooms g.row.V.Denot). r.lodged) c.set_links.ensures) c.links-links.ensures.links c.with_mask_node.ensures.bit_node
+pub returns-clause-tree : goal.returns-clause-tree
+returns-clause-tree g c = record {
+  leaves = leaves_kept c.args.nodes.now.lodged c.set_links.new.self.lodged c.args.room c.with_mask_node.result c.links-links.result.now c.requires.there (ap (λ (r : Rooms g.row.V.Denot). r.lodged) c.set_links.ensures) c.links-links.ensures.links c.with_mask_node.ensures.leaf;
+  bits = bits_kept c.args.nodes.now.lodged c.set_links.new.self.lodged c.args.room c.with_mask_node.result c.links-links.result.now c.requires.there (ap (λ (r : Rooms g.row.V.Denot). r.lodged) c.set_links.ensures) c.links-links.ensures.links c.with_mask_node.ensures.bit_node;
+}
 
 pub returns-clause-heads : goal.returns-clause-heads
 returns-clause-heads g c =

@@ -35,7 +35,7 @@ links-requires-clause-there g c =
     let f = c.requires.first in
     let l = c.loop-at.invariant.left w.0 w.1 f.0 w.2 f.1 f.2 f.3 in
     Has-at c.args.nodes.now.lodged c.loop-at.nodes.lodged c.list_late.new.nodes.lodged w.0 w.1 f.0.leaf.key c.loop-at.at c.in-Some.room l
-    (λ n. c.list_late.ensures.leaves n ∙ c.loop-at.invariant.leaves n) c.in-Some.is
+    (λ n. c.list_late.ensures.tree.leaves n ∙ c.loop-at.invariant.leaves n) c.in-Some.is
 
 pub loop-at-smaller : goal.loop-at-smaller
 loop-at-smaller g c =
@@ -43,19 +43,19 @@ loop-at-smaller g c =
     let f = c.requires.first in
     let l = c.loop-at.invariant.left w.0 w.1 f.0 w.2 f.1 f.2 f.3 in
     nearer c.args.nodes.now.lodged c.loop-at.nodes.lodged c.list_late.new.nodes.lodged w.0 w.1 f.0.leaf.key c.loop-at.at c.in-Some.room c.links.result.now c.leaf-at.result l c.in-Some.is c.loop-at.invariant.leaves
-    (λ n. c.list_late.ensures.leaves n ∙ c.loop-at.invariant.leaves n) c.links.ensures.links c.leaf-at.ensures
+    (λ n. c.list_late.ensures.tree.leaves n ∙ c.loop-at.invariant.leaves n) c.links.ensures.links c.leaf-at.ensures
 
 pub loop-at-preserved : goal.loop-at-preserved
 loop-at-preserved g c = record {
-  turn = ap (λ (v : Counter). v.turn) c.links.ensures.visit ∙ c.list_late.ensures.counter ∙ c.loop-at.invariant.turn ∙ sym c.list_late.ensures.turn;
-  next = c.list_late.ensures.next ∙ c.loop-at.invariant.next;
-  turns = c.list_late.ensures.turn ∙ c.loop-at.invariant.turns;
-  leaves = λ n. c.list_late.ensures.leaves n ∙ c.loop-at.invariant.leaves n;
-  bits = λ n. c.list_late.ensures.bits n ∙ c.loop-at.invariant.bits n;
+  turn = ap (λ (v : Counter). v.turn) c.links.ensures.visit ∙ c.list_late.ensures.stays.counter ∙ c.loop-at.invariant.turn ∙ sym c.list_late.ensures.stays.turn;
+  next = c.list_late.ensures.stays.next ∙ c.loop-at.invariant.next;
+  turns = c.list_late.ensures.stays.turn ∙ c.loop-at.invariant.turns;
+  leaves = λ n. c.list_late.ensures.tree.leaves n ∙ c.loop-at.invariant.leaves n;
+  bits = λ n. c.list_late.ensures.tree.bits n ∙ c.loop-at.invariant.bits n;
   left = λ root late p w said block none.
       let l = c.loop-at.invariant.left root late p w said block none in
       passed c.args.nodes.now.lodged c.loop-at.nodes.lodged c.list_late.new.nodes.lodged root late p.leaf.key c.loop-at.at c.in-Some.room c.links.result.now c.leaf-at.result l c.in-Some.is
-      (λ n. c.list_late.ensures.leaves n ∙ c.loop-at.invariant.leaves n) c.links.ensures.links c.leaf-at.ensures (c.list_late.ensures.whole root l.later l.whole);
+      (λ n. c.list_late.ensures.tree.leaves n ∙ c.loop-at.invariant.leaves n) c.links.ensures.links c.leaf-at.ensures (c.list_late.ensures.whole root l.later l.whole);
 }
 
 pub returns-clause-whole : goal.returns-clause-whole

@@ -38,4 +38,4 @@ returns-clause-whole g c root late w =
     listed_more c.args.nodes.now.lodged c.sort_in.new.nodes.lodged root late w c.args.room c.in-Some.fork (once_but c.args.nodes.now.lodged root late nobody_out w)
     (homed c.args.nodes.now.lodged w.part y.0 c.args.room c.home_of.result c.in-Some.fork y.1 y.2 c.in-Some.is (c.home_of.ensures.home root late w y.0 y.1 y.2)) c.requires.unmarked
     (record { list = c.sort_in.ensures.list; heads = c.sort_in.ensures.heads; masks = c.sort_in.ensures.masks; marked = c.sort_in.ensures.marked; marks = c.sort_in.ensures.marks })
-    c.sort_in.ensures.leaves c.sort_in.ensures.bits
+    c.sort_in.ensures.tree.leaves c.sort_in.ensures.tree.bits

@@ -20,16 +20,16 @@ returns-in_default-clause-gone g c =
     homeless c.args.nodes.now.lodged r.0 nobody_late w c.args.room y.0 y.1 y.2
     (subst (IsHome c.args.nodes.now.lodged y.0.entry.key y.0.entry.rank w.part) c.in_default.is (c.home_of.ensures.home r.0 nobody_late w y.0 y.1 y.2))
 
-pub take_out-requires-clause-node : goal.take_out-requires-clause-node
-take_out-requires-clause-node g c =
+pub sort_out-requires-clause-node : goal.sort_out-requires-clause-node
+sort_out-requires-clause-node g c =
     let r = c.requires.whole in
     let w = whole_but c.args.nodes.now.lodged r.0 r.1 in
     let y = placed_in c.args.nodes.now.lodged r.0 nobody_late w c.args.room c.requires.there in
     home_node c.args.nodes.now.lodged w.part c.args.room c.in-Some.fork
     (homed c.args.nodes.now.lodged w.part y.0 c.args.room c.home_of.result c.in-Some.fork y.1 y.2 c.in-Some.is (c.home_of.ensures.home r.0 nobody_late w y.0 y.1 y.2))
 
-pub take_out-requires-clause-list : goal.take_out-requires-clause-list
-take_out-requires-clause-list g c =
+pub sort_out-requires-clause-list : goal.sort_out-requires-clause-list
+sort_out-requires-clause-list g c =
     let r = c.requires.whole in
     let w = whole_but c.args.nodes.now.lodged r.0 r.1 in
     let y = placed_in c.args.nodes.now.lodged r.0 nobody_late w c.args.room c.requires.there in
@@ -41,7 +41,7 @@ returns-clause-whole g c root is =
     let w = whole_but c.args.nodes.now.lodged root is in
     let y = placed_in c.args.nodes.now.lodged root nobody_late w c.args.room c.requires.there in
     let h = homed c.args.nodes.now.lodged w.part y.0 c.args.room c.home_of.result c.in-Some.fork y.1 y.2 c.in-Some.is (c.home_of.ensures.home root nobody_late w y.0 y.1 y.2) in
-    listed_less c.args.nodes.now.lodged c.take_out.new.nodes.lodged root nobody_late w c.args.room c.in-Some.fork (once_but c.args.nodes.now.lodged root nobody_late nobody_out w) h
+    listed_less c.args.nodes.now.lodged c.sort_out.new.nodes.lodged root nobody_late w c.args.room c.in-Some.fork (once_but c.args.nodes.now.lodged root nobody_late nobody_out w) h
     (marked_at c.args.nodes.now.lodged root w c.args.room c.in-Some.fork h)
-    (record { list = c.take_out.ensures.list; heads = c.take_out.ensures.heads; masks = c.take_out.ensures.masks; unmarked = c.take_out.ensures.unmarked; marks = c.take_out.ensures.marks })
-    c.take_out.ensures.leaves c.take_out.ensures.bits
+    (record { list = c.sort_out.ensures.list; heads = c.sort_out.ensures.heads; masks = c.sort_out.ensures.masks; unmarked = c.sort_out.ensures.unmarked; marks = c.sort_out.ensures.marks })
+    c.sort_out.ensures.tree.leaves c.sort_out.ensures.tree.bits

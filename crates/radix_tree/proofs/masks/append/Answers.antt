@@ -16,7 +16,7 @@ pub returns-clause-list : goal.returns-clause-list
 returns-clause-list g c ms ts is behind falls =
     appended c.args.nodes.now.lodged c.link.new.nodes.lodged c.args.fork ms ts c.gap_at-gap.result.before c.args.tail is behind falls
     (c.gap_at-gap.ensures.before ms (list_of c.args.nodes.now.lodged (heads_in c.args.nodes.now.lodged c.args.fork.number) c.masks_of-first.result ms c.masks_of-first.ensures.head is))
-    c.link.ensures.leaves c.link.ensures.heads c.link.ensures.masks
+    c.link.ensures.tree.leaves c.link.ensures.heads c.link.ensures.masks
 
 pub returns-clause-masks : goal.returns-clause-masks
 returns-clause-masks g c ms is n aside =

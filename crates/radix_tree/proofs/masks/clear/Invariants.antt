@@ -1,8 +1,10 @@
 use Rattle.std.proofs.Common.{◌≡◌, List}
-use Rattle.radix_tree.specs.Tree.{Placed}
+use Rattle.radix_tree.specs.MaskLists.{IsMasks}
+use Rattle.radix_tree.specs.Reads.{Stays}
 use Rattle.radix_tree.specs.Rooms.{leaves_in}
-use Rattle.radix_tree.specs.Writes.{KeepsLeaves, KeepsBits, KeepsHeads}
-use Rattle.radix_tree.specs.MaskLists.{IsMasks, Clearing, ranks_from}
+use Rattle.radix_tree.specs.Tree.{Placed}
+use Rattle.radix_tree.specs.Writes.{KeepsTree, KeepsHeads}
+use Rattle.radix_tree.proofs.MaskClears.{Clearing, ranks_from}
 use Rattle.radix_tree.proofs.masks.clear.Given as goal
 
 abbrev pub invariant-loop-at : goal.invariant-loop-at
@@ -10,11 +12,8 @@ invariant-loop-at g l = record {
   of_turn : l.visits.turn ≡ l.nodes.turn;
   clearing : (ms : List (Placed g.row.V.Denot)) → IsMasks l.fn.nodes.lodged l.fn.first ms → Clearing l.fn.nodes.lodged l.nodes.lodged ms l.at;
   heads : KeepsHeads l.fn.nodes.lodged l.nodes.lodged;
-  leaves : KeepsLeaves l.fn.nodes.lodged l.nodes.lodged;
-  bits : KeepsBits l.fn.nodes.lodged l.nodes.lodged;
-  next : l.nodes.next ≡ l.fn.nodes.next;
-  turn : l.nodes.turn ≡ l.fn.nodes.turn;
-  counter : l.visits.turn ≡ l.fn.visits.turn;
+  tree : KeepsTree l.fn.nodes.lodged l.nodes.lodged;
+  stays : Stays l.fn.nodes l.nodes l.fn.visits l.visits;
 }
 
 abbrev pub decreases-loop-at : goal.decreases-loop-at

@@ -17,13 +17,13 @@ pub returns-clause-kept : goal.returns-clause-kept
 returns-clause-kept g c ms is =
     kept_of_cut c.args.nodes.now.lodged c.link.new.nodes.lodged c.args.fork (c.args.bit + 1) ms c.gap_at-gap.result.before is
     (c.gap_at-gap.ensures.before ms (list_of c.args.nodes.now.lodged (heads_in c.args.nodes.now.lodged c.args.fork.number) c.masks_of-first.result ms c.masks_of-first.ensures.head is))
-    c.link.ensures.leaves c.link.ensures.heads c.link.ensures.masks
+    c.link.ensures.tree.leaves c.link.ensures.heads c.link.ensures.masks
 
 pub returns-clause-others : goal.returns-clause-others
 returns-clause-others g c ms is =
     let first = list_of c.args.nodes.now.lodged (heads_in c.args.nodes.now.lodged c.args.fork.number) c.masks_of-first.result ms c.masks_of-first.ensures.head is in
     others_of_cut c.args.nodes.now.lodged c.link.new.nodes.lodged c.args.fork (c.args.bit + 1) ms c.gap_at-gap.result.before c.gap_at-gap.result.behind is
-    (c.gap_at-gap.ensures.before ms first) (c.gap_at-gap.ensures.behind ms first) c.link.ensures.leaves c.link.ensures.masks
+    (c.gap_at-gap.ensures.before ms first) (c.gap_at-gap.ensures.behind ms first) c.link.ensures.tree.leaves c.link.ensures.masks
 
 pub returns-clause-masks : goal.returns-clause-masks
 returns-clause-masks g c ms is n aside =

@@ -1,14 +1,14 @@
-use Rattle.std.proofs.Common.{◌≡◌, ◌≤◌, ◌+◌, ◌-◌, ℕ, None}
+use Rattle.std.proofs.Common.{◌≡◌, ◌+◌, ◌-◌, ℕ, None}
 use Rattle.radix_tree.specs.Rooms.{Part}
 use Rattle.radix_tree.specs.Searches.{LedTo}
-use Rattle.radix_tree.specs.MaskLists.{Climb}
+use Rattle.radix_tree.proofs.Climbs.{Climb}
+use Rattle.radix_tree.proofs.Homes.{Passed}
 use Rattle.radix_tree.proofs.masks.home.Given as goal
 
 abbrev pub invariant-loop-above : goal.invariant-loop-above
 invariant-loop-above g l = record {
-  turn : l.visits.turn ≡ l.nodes.turn;
-  climb : (key : ℕ) (whole : Part l.fn.nodes.lodged) → whole.above ≡ None → LedTo key whole l.fn.leaf → Climb key l.fn.rank whole l.above l.home (l.visits.count - l.fn.visits.count);
-  rises : l.fn.visits.count ≤ l.visits.count;
+  turn : l.visits.turn ≡ l.fn.visits.turn;
+  climb : (key : ℕ) (whole : Part l.fn.nodes.lodged) → whole.above ≡ None → LedTo key whole l.fn.leaf → Climb key whole (Passed key l.fn.rank l.home l.fn.visits l.visits) l.above;
 }
 
 abbrev pub decreases-loop-above : goal.decreases-loop-above

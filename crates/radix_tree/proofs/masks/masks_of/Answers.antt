@@ -1,5 +1,5 @@
-use Rattle.radix_tree.proofs.RoomReads.{Has-bit}
+use Rattle.std.proofs.Common.{sym}
 use Rattle.radix_tree.proofs.masks.masks_of.Goals as goal
 
-pub links-requires-clause-there : goal.links-requires-clause-there
-links-requires-clause-there g c = let n = c.requires.node in Has-bit c.args.nodes.now.lodged c.args.fork n.part n.said n.block
+pub returns-clause-head : goal.returns-clause-head
+returns-clause-head g c = sym c.bit_node.ensures.node.head

@@ -3,12 +3,12 @@ use Rattle.std.specs.Prelude.{is_some}
 use Rattle.radix_tree.specs.Rooms.{heads_in, masks_in}
 use Rattle.radix_tree.specs.MaskLists.{not_below}
 use Rattle.radix_tree.proofs.MaskLists.{not_below_among}
-use Rattle.radix_tree.proofs.MaskWalks.{Has-ranked, rank_read}
+use Rattle.radix_tree.proofs.MaskWalks.{Has-ranked, rank_told}
 use Rattle.radix_tree.proofs.MaskChanges.{list_of, Has-last, are_ranked_same, sorted, put_aside, aside_linked, sorted_marks}
 use Rattle.radix_tree.proofs.masks.sort_in.Goals as goal
 
-pub links-requires-clause-there : goal.links-requires-clause-there
-links-requires-clause-there g c = let f = c.requires.free in Has-ranked c.args.nodes.now.lodged f.is c.args.room f.ranked f.room_is
+pub leaf-requires-clause-there : goal.leaf-requires-clause-there
+leaf-requires-clause-there g c = let f = c.requires.free in Has-ranked c.args.nodes.now.lodged f.is c.args.room f.ranked f.room_is
 
 pub put_mask_node-requires-clause-there : goal.put_mask_node-requires-clause-there
 put_mask_node-requires-clause-there g c = let f = c.requires.free in Has-ranked c.args.nodes.now.lodged f.is c.args.room f.ranked f.room_is
@@ -18,17 +18,17 @@ link-requires-clause-there g c room is =
     let l = c.requires.list in
     let first = list_of c.args.nodes.now.lodged (heads_in c.args.nodes.now.lodged c.args.fork.number) c.masks_of-first.result l.0 c.masks_of-first.ensures.head l.1 in
     Has-last c.put_mask_node.new.nodes.lodged l.0 (not_below c.number-rank.result l.0) c.gap_at-gap.result.before room
-    (are_ranked_same c.args.nodes.now.lodged c.put_mask_node.new.nodes.lodged l.0 c.put_mask_node.ensures.leaves l.1.ranked)
+    (are_ranked_same c.args.nodes.now.lodged c.put_mask_node.new.nodes.lodged l.0 c.put_mask_node.ensures.tree.leaves l.1.ranked)
     (λ y among. (not_below_among c.number-rank.result l.0 y among).0) (c.gap_at-gap.ensures.before l.0 first) is
 
 pub returns-clause-list : goal.returns-clause-list
 returns-clause-list g c ms f is no_rank =
     let first = list_of c.args.nodes.now.lodged (heads_in c.args.nodes.now.lodged c.args.fork.number) c.masks_of-first.result ms c.masks_of-first.ensures.head is in
-    let read = rank_read c.args.nodes.now.lodged f.is c.args.room c.links.result.now c.leaf.result f.ranked f.room_is c.links.ensures.links c.leaf.ensures in
+    let read = rank_told c.args.nodes.now.lodged f.is c.args.room c.leaf.result f.ranked f.room_is c.leaf.ensures.said in
     sorted c.args.nodes.now.lodged c.put_mask_node.new.nodes.lodged c.link.new.nodes.lodged c.args.fork f.is c.args.room (record { next = c.gap_at-gap.result.behind }) c.number-rank.result ms c.gap_at-gap.result.before
     is f.room_is f.ranked f.unmarked (c.number-rank.ensures.number ∙ read) (subst (λ (n : ℕ). n ≤ 33) (sym c.number-rank.ensures.number) c.number-rank.ensures.most) no_rank
     (c.gap_at-gap.ensures.before ms first) (c.gap_at-gap.ensures.behind ms first)
-    c.put_mask_node.ensures.leaves c.put_mask_node.ensures.heads c.put_mask_node.ensures.masks c.link.ensures.leaves c.link.ensures.heads c.link.ensures.masks
+    c.put_mask_node.ensures.tree.leaves c.put_mask_node.ensures.heads c.put_mask_node.ensures.masks c.link.ensures.tree.leaves c.link.ensures.heads c.link.ensures.masks
 
 pub returns-clause-masks : goal.returns-clause-masks
 returns-clause-masks g c ms is n other aside =

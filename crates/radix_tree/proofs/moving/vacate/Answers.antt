@@ -17,16 +17,16 @@ move g c = move_of c.args.nodes.now.lodged c.args.root c.args.from c.args.to c.l
 -- all that the writes leave
 moved : (g : given.Over) (c : After-root_after g) → IsMoved c.args.nodes.now.lodged c.rename_child.new.nodes.lodged c.args.from c.args.to c.in-Some.node
 moved g c = record {
-  leaves = λ k. c.rename_child.ensures.leaves k ∙ c.put_bit_node-2.ensures.leaves k ∙ c.put_bit_node.ensures.leaves k ∙ c.lift-2.ensures.leaves k
+  leaves = λ k. c.rename_child.ensures.only.leaves k ∙ c.put_bit_node-2.ensures.leaves k ∙ c.put_bit_node.ensures.leaves k ∙ c.lift-2.ensures.leaves k
       ∙ ap (λ (o : Option (LeafPart g.row.V.Denot)). lift_leaf c.in-Some.node.one (Some c.args.to) k o) (c.lift.ensures.leaves k);
   bits = λ k. c.rename_child.ensures.bits k ∙ ap (λ (o : Option BitPart). rename c.in-Some.node.above c.args.from c.args.to k o)
       (c.put_bit_node-2.ensures.bits k ∙ ap (λ (o : Option BitPart). put_bit c.args.to (Some c.in-Some.node) k o)
       (c.put_bit_node.ensures.bits k ∙ ap (λ (o : Option BitPart). put_bit c.args.from None k o)
       (c.lift-2.ensures.bits k ∙ ap (λ (o : Option BitPart). lift_bit c.in-Some.node.one (Some c.args.to) k o) (c.lift.ensures.bits k))));
-  heads = λ k. c.rename_child.ensures.heads k ∙ c.put_bit_node-2.ensures.heads k
+  heads = λ k. c.rename_child.ensures.only.heads k ∙ c.put_bit_node-2.ensures.heads k
       ∙ ap (λ (o : Option Id). put_head c.args.to (Some c.in-Some.node) k o)
       (c.put_bit_node.ensures.heads k ∙ ap (λ (o : Option Id). put_head c.args.from None k o) (c.lift-2.ensures.heads k ∙ c.lift.ensures.heads k));
-  masks = λ k. c.rename_child.ensures.masks k ∙ c.put_bit_node-2.ensures.masks k ∙ c.put_bit_node.ensures.masks k ∙ c.lift-2.ensures.masks k ∙ c.lift.ensures.masks k;
+  masks = λ k. c.rename_child.ensures.only.masks k ∙ c.put_bit_node-2.ensures.masks k ∙ c.put_bit_node.ensures.masks k ∙ c.lift-2.ensures.masks k ∙ c.lift.ensures.masks k;
 }
 
 pub lift-requires-clause-tree : goal.lift-requires-clause-tree

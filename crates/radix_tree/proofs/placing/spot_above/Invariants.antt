@@ -1,12 +1,13 @@
-use Rattle.std.proofs.Common.{◌≡◌, ◌≤◌, ◌+◌, ◌-◌, ℕ}
-use Rattle.radix_tree.specs.Growth.{IsNew, Rise}
+use Rattle.std.proofs.Common.{◌≡◌, ◌+◌, ◌-◌, ℕ}
+use Rattle.radix_tree.specs.Growth.{IsNew}
+use Rattle.radix_tree.proofs.Climbs.{Climb}
+use Rattle.radix_tree.proofs.Spots.{Past}
 use Rattle.radix_tree.proofs.placing.spot_above.Given as goal
 
 abbrev pub invariant-loop-above : goal.invariant-loop-above
 invariant-loop-above g l = record {
-  turn : l.visits.turn ≡ l.nodes.turn;
-  rise : (key : ℕ) (w : IsNew l.fn.nodes.lodged key l.fn.bit l.fn.leaf) → Rise key w.led.leaf.first.entry.key l.fn.bit w.whole l.above l.below (l.visits.count - l.fn.visits.count);
-  rises : l.fn.visits.count ≤ l.visits.count;
+  turn : l.visits.turn ≡ l.fn.visits.turn;
+  climb : (key : ℕ) (w : IsNew l.fn.nodes.lodged key l.fn.bit l.fn.leaf) → Climb key w.whole (Past key w.led.leaf.first.entry.key l.fn.bit l.below l.fn.visits l.visits) l.above;
 }
 
 abbrev pub decreases-loop-above : goal.decreases-loop-above

@@ -14,10 +14,10 @@ pub take_out-rest-requires-clause-whole : goal.take_out-rest-requires-clause-who
 take_out-rest-requires-clause-whole g c = c.unlist_mask.ensures.whole c.args.root c.requires.whole
 
 pub take_out-rest-requires-clause-there : goal.take_out-rest-requires-clause-there
-take_out-rest-requires-clause-there g c = Has_kept c.args.nodes.now.lodged c.unlist_mask.new.nodes.lodged c.args.at (ap (λ (o : Option (LeafPart g.row.V.Denot)). content_of o) (c.unlist_mask.ensures.leaves c.args.at.number)) c.requires.there
+take_out-rest-requires-clause-there g c = Has_kept c.args.nodes.now.lodged c.unlist_mask.new.nodes.lodged c.args.at (ap (λ (o : Option (LeafPart g.row.V.Denot)). content_of o) (c.unlist_mask.ensures.tree.leaves c.args.at.number)) c.requires.there
 
 pub evict-room-requires : goal.evict-room-requires
-evict-room-requires g c = record { there = Has_kept c.args.nodes.now.lodged c.take_out-rest.new.nodes.lodged c.args.at (c.take_out-rest.ensures.rooms c.args.at.number ∙ ap (λ (o : Option (LeafPart g.row.V.Denot)). content_of o) (c.unlist_mask.ensures.leaves c.args.at.number)) c.requires.there }
+evict-room-requires g c = record { there = Has_kept c.args.nodes.now.lodged c.take_out-rest.new.nodes.lodged c.args.at (c.take_out-rest.ensures.rooms c.args.at.number ∙ ap (λ (o : Option (LeafPart g.row.V.Denot)). content_of o) (c.unlist_mask.ensures.tree.leaves c.args.at.number)) c.requires.there }
 
 pub returns-clause-whole : goal.returns-clause-whole
 returns-clause-whole g c =
@@ -27,18 +27,18 @@ returns-clause-whole g c =
 pub returns-clause-routes : goal.returns-clause-routes
 returns-clause-routes g c p said =
     let e = ap (λ (r : Rooms g.row.V.Denot). r.lodged) c.evict-room.ensures.evicted in
-    gains_stays _ _ _ _ _ (c.take_out-rest.ensures.routes p (c.unlist_mask.ensures.leaves c.args.at.number ∙ said))
+    gains_stays _ _ _ _ _ (c.take_out-rest.ensures.routes p (c.unlist_mask.ensures.tree.leaves c.args.at.number ∙ said))
     (ap (λ (m : FinMap nat_cmp (Seen g.row.V.Denot)). shown m c.take_out-rest.result) e ∙ out_shown c.take_out-rest.new.nodes.lodged c.take_out-rest.result c.args.at.number c.take_out-rest.ensures.out)
-    (sym (shown_stays c.args.nodes.now.lodged c.unlist_mask.new.nodes.lodged c.args.root c.requires.whole c.unlist_mask.ensures.leaves c.unlist_mask.ensures.bits))
+    (sym (shown_stays c.args.nodes.now.lodged c.unlist_mask.new.nodes.lodged c.args.root c.requires.whole c.unlist_mask.ensures.tree.leaves c.unlist_mask.ensures.tree.bits))
 
 pub returns-clause-value : goal.returns-clause-value
 returns-clause-value g c p said =
-    value_taken c.args.nodes.now.lodged c.take_out-rest.new.nodes.lodged c.args.at.number p c.evict-room.result.1 c.evict-room.ensures.value (c.take_out-rest.ensures.rooms c.args.at.number ∙ ap (λ (o : Option (LeafPart g.row.V.Denot)). content_of o) (c.unlist_mask.ensures.leaves c.args.at.number)) said
+    value_taken c.args.nodes.now.lodged c.take_out-rest.new.nodes.lodged c.args.at.number p c.evict-room.result.1 c.evict-room.ensures.value (c.take_out-rest.ensures.rooms c.args.at.number ∙ ap (λ (o : Option (LeafPart g.row.V.Denot)). content_of o) (c.unlist_mask.ensures.tree.leaves c.args.at.number)) said
 
 pub returns-clause-rooms : goal.returns-clause-rooms
 returns-clause-rooms g c =
     let e = ap (λ (r : Rooms g.row.V.Denot). r.lodged) c.evict-room.ensures.evicted in
-    subst (λ (m : FinMap nat_cmp (Seen g.row.V.Denot)). HasRoomMore m c.args.nodes.now.lodged c.args.at.number) (sym e) (room_less c.args.nodes.now.lodged c.take_out-rest.new.nodes.lodged c.args.at c.requires.there (λ n. c.take_out-rest.ensures.rooms n ∙ ap (λ (o : Option (LeafPart g.row.V.Denot)). content_of o) (c.unlist_mask.ensures.leaves n)))
+    subst (λ (m : FinMap nat_cmp (Seen g.row.V.Denot)). HasRoomMore m c.args.nodes.now.lodged c.args.at.number) (sym e) (room_less c.args.nodes.now.lodged c.take_out-rest.new.nodes.lodged c.args.at c.requires.there (λ n. c.take_out-rest.ensures.rooms n ∙ ap (λ (o : Option (LeafPart g.row.V.Denot)). content_of o) (c.unlist_mask.ensures.tree.leaves n)))
 
 pub returns-clause-gone : goal.returns-clause-gone
 returns-clause-gone g c =

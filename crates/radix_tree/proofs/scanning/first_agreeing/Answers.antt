@@ -1,37 +1,22 @@
-use Rattle.std.proofs.Common.{◌≡◌, ◌+◌, ◌-◌, ◌∙◌, ℕ, Some, sym, ap, subst, arith}
-use Rattle.radix_nodes.specs.Counting.{Counter}
-use Rattle.radix_tree.specs.Searches.{Along}
-use Rattle.radix_tree.proofs.Scans.{CoversIt, begun, Has-at, passed, not_covered, best_at}
+use Rattle.std.proofs.Common.{sym, ◌∙◌}
+use Rattle.radix_tree.proofs.Scans.{begun, member, Has-at, agrees_is, covered, not_covered}
 use Rattle.radix_tree.proofs.scanning.first_agreeing.Goals as goal
 
 pub loop-at-init : goal.loop-at-init
-loop-at-init g c =
-    let none : 0 ≡ c.args.visits.now.count - c.args.visits.now.count = omega arith in
-    record {
-      turn = c.requires.turn;
-      along = λ r begins. subst (λ (n : ℕ). Along (CoversIt c.args.address) r (Some c.args.first) n) none (begun c.args.nodes.now.lodged (CoversIt c.args.address) r c.args.first begins);
-      rises = omega arith;
-    }
+loop-at-init g c = λ r begins. begun c.args.visits.now begins
 
-pub links-requires-clause-there : goal.links-requires-clause-there
-links-requires-clause-there g c =
-    let r = c.requires.chain in
-    Has-at c.args.nodes.now.lodged (CoversIt c.args.address) r.0 c.loop-at.at c.in-Some.room _ (c.loop-at.invariant.along r.0 r.1) c.in-Some.is
+pub leaf-leaf-requires-clause-there : goal.leaf-leaf-requires-clause-there
+leaf-leaf-requires-clause-there g c = let r = c.requires.chain in Has-at (member (c.loop-at.invariant r.0 r.1) c.in-Some.is)
 
 pub returns-then-agrees-clause-best : goal.returns-then-agrees-clause-best
 returns-then-agrees-clause-best g c r begins =
-    best_at c.args.nodes.now.lodged c.args.address r c.loop-at.at c.in-Some.room _ c.links.result.now c.leaf-leaf.result (c.loop-at.invariant.along r begins) c.in-Some.is c.links.ensures.links
-    c.leaf-leaf.ensures (sym c.agrees.ensures ∙ c.if-agrees.true)
+    let x = member (c.loop-at.invariant r begins) c.in-Some.is in
+    let same = agrees_is c.args.address c.leaf-leaf.result x.part.leaf x.route (c.leaf-leaf.ensures.said x.part x.said) x.key x.rank in
+    (x.route, x.room_is, (x.among, covered c.args.address x.route (sym same ∙ sym c.agrees.ensures ∙ c.if-agrees.true), λ y among covers below. x.greatest y among covers))
 
 pub loop-at-preserved : goal.loop-at-preserved
-loop-at-preserved g c =
-    let count : c.links.new.visits.count ≡ c.loop-at.visits.count + 1 = ap (λ (v : Counter). v.count) c.links.ensures.visit in
-    let rises = c.loop-at.invariant.rises in
-    let next : (c.loop-at.visits.count - c.args.visits.now.count) + 1 ≡ c.links.new.visits.count - c.args.visits.now.count = omega arith in
-    record {
-      turn = ap (λ (v : Counter). v.turn) c.links.ensures.visit ∙ c.loop-at.invariant.turn;
-      along = λ r begins. subst (λ (n : ℕ). Along (CoversIt c.args.address) r c.leaf-leaf.result.next n) next
-          (passed c.args.nodes.now.lodged (CoversIt c.args.address) r c.loop-at.at c.in-Some.room _ c.links.result.now c.leaf-leaf.result (c.loop-at.invariant.along r begins) c.in-Some.is c.links.ensures.links
-          c.leaf-leaf.ensures (not_covered c.args.address c.leaf-leaf.result (sym c.agrees.ensures ∙ c.if-agrees.false)));
-      rises = omega arith;
-    }
+loop-at-preserved g c = λ r begins.
+    let x = member (c.loop-at.invariant r begins) c.in-Some.is in
+    let said = c.leaf-leaf.ensures.said x.part x.said in
+    let same = agrees_is c.args.address c.leaf-leaf.result x.part.leaf x.route said x.key x.rank in
+    x.passed c.leaf-leaf.result _ said c.leaf-leaf.ensures.visit (not_covered c.args.address x.route (sym same ∙ sym c.agrees.ensures ∙ c.if-agrees.false))

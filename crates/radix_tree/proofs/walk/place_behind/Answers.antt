@@ -19,9 +19,9 @@ loop-above-init g c =
 pub links-requires-in-Some-clause-there : goal.links-requires-in-Some-clause-there
 links-requires-in-Some-clause-there g c = Has-over c.args.nodes.now.lodged c.args.key c.args.first c.loop-above.above _ c.in-Some.up c.loop-above.invariant.climb c.in-Some.is
 
-pub returns-in_default-bit_node-clause-rest : goal.returns-in_default-bit_node-clause-rest
-returns-in_default-bit_node-clause-rest g c =
-    absurd (used_over c.args.nodes.now.lodged c.args.key c.args.first c.loop-above.above _ c.in-Some.up c.links-in-Some.result.now c.loop-above.invariant.climb c.in-Some.is c.links-in-Some.ensures.links (sym c.bit_node.ensures ∙ c.in_default-bit_node.is))
+pub unreachable-requires : goal.unreachable-requires
+unreachable-requires g c =
+    used_over c.args.nodes.now.lodged c.args.key c.args.first c.loop-above.above _ c.in-Some.up c.links-in-Some.result.now c.loop-above.invariant.climb c.in-Some.is c.links-in-Some.ensures.links (sym c.bit_node.ensures ∙ c.in_default-bit_node.is)
 
 -- what the bit node above says
 node : (g : _) (c : In-Some-bit_node g) → Read c.args.nodes.now.lodged c.args.key c.args.first c.in-Some-bit_node.node (c.loop-above.visits.count - c.args.visits.now.count) (c.links-in-Some.new.visits.count - c.args.visits.now.count)

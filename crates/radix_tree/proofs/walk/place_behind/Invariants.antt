@@ -1,11 +1,11 @@
 use Rattle.std.proofs.Common.{◌≡◌, ◌≤◌, ◌+◌, ◌-◌}
-use Rattle.radix_tree.specs.Walks.{Climb}
+use Rattle.radix_tree.proofs.Walks.{Upward}
 use Rattle.radix_tree.proofs.walk.place_behind.Given as goal
 
 abbrev pub invariant-loop-above : goal.invariant-loop-above
 invariant-loop-above g l = record {
   turn : l.visits.turn ≡ l.nodes.turn;
-  climb : Climb l.fn.nodes.lodged l.fn.key l.fn.first l.above (l.visits.count - l.fn.visits.count);
+  climb : Upward l.fn.nodes.lodged l.fn.key l.fn.first l.above (l.visits.count - l.fn.visits.count);
   rises : l.fn.visits.count ≤ l.visits.count;
 }
 

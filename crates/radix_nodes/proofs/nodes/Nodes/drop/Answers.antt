@@ -1,14 +1,18 @@
-use Rattle.radix_nodes.proofs.RoomLemmas.{last_there, front_noted, last_taken}
+use Rattle.std.proofs.Common.{Some, None}
+use Rattle.radix_nodes.proofs.RoomRows.{newest_there, row_taken, row_ends, fewer}
 use Rattle.radix_nodes.proofs.nodes.Nodes.drop.Goals as goal
 
-pub loop-slot-init : goal.loop-slot-init
-loop-slot-init g c = c.self.invariant.0
+pub loop-newest-init : goal.loop-newest-init
+loop-newest-init g c = (None, c.self.invariant.0)
 
 pub take-full-requires : goal.take-full-requires
-take-full-requires g c = last_there _ _ _ c.in-Lodged.id _ c.in-Some.ensures.items c.in-Lodged.is c.loop-slot.invariant
+take-full-requires g c = newest_there _ c.loop-newest.invariant.0 _ c.in-Some.id c.in-Some.is c.loop-newest.invariant.1
 
-pub loop-slot-preserved-in-Lodged : goal.loop-slot-preserved-in-Lodged
-loop-slot-preserved-in-Lodged g c = last_taken _ _ _ c.in-Lodged.id _ _ _ c.in-Some.ensures.items c.in-Lodged.is c.loop-slot.invariant c.take-full.ensures
+pub loop-newest-preserved : goal.loop-newest-preserved
+loop-newest-preserved g c = (Some c.in-Some.id, row_taken _ _ c.loop-newest.invariant.0 _ c.in-Some.id _ c.in-Some.is c.loop-newest.invariant.1 c.take-full.ensures)
 
-pub loop-slot-preserved : goal.loop-slot-preserved
-loop-slot-preserved g c = front_noted _ _ _ _ c.in-Some.ensures.items c.loop-slot.invariant
+pub loop-newest-smaller : goal.loop-newest-smaller
+loop-newest-smaller g c = fewer _ _ c.in-Some.id.number _ c.take-full.ensures
+
+pub end-requires : goal.end-requires
+end-requires g c = row_ends _ c.loop-newest.invariant.0 _ c.in_default.is c.loop-newest.invariant.1

@@ -1,8 +1,11 @@
-use Rattle.radix_nodes.specs.Slots.{AreNoted}
+use Rattle.std.proofs.Common.{Option}
+use Rattle.std.specs.FinMap.{len}
+use Rattle.radix_nodes.specs.Row.{AreRow}
+use Rattle.radix_nodes.specs.declared.id.Id.{Id}
 use Rattle.radix_nodes.proofs.nodes.Nodes.drop.Given as goal
 
-abbrev pub invariant-loop-slot : goal.invariant-loop-slot
-invariant-loop-slot g l = AreNoted l.slots.items l.blocks.cells
+abbrev pub invariant-loop-newest : goal.invariant-loop-newest
+invariant-loop-newest g l = (newer : Option Id) × AreRow l.blocks.cells newer l.newest
 
-abbrev pub decreases-loop-slot : goal.decreases-loop-slot
-decreases-loop-slot g l = goal.left-loop-slot g l
+abbrev pub decreases-loop-newest : goal.decreases-loop-newest
+decreases-loop-newest g l = len l.blocks.cells

@@ -1,12 +1,13 @@
 use Rattle.std.proofs.Common.{refl, sym, ap}
-use Rattle.radix_nodes.proofs.RoomLemmas.{Has_at, lodged_is, seen_is, view_valued, noted_put, made_there}
+use Rattle.radix_nodes.proofs.RoomLemmas.{Has_at, lodged_is, seen_is, view_valued, made_there}
+use Rattle.radix_nodes.proofs.RoomRows.{row_put}
 use Rattle.radix_nodes.proofs.nodes.Nodes.value_mut.Goals as goal
 
 pub get_mut-requires : goal.get_mut-requires
 get_mut-requires g c = Has_at _ c.args.id (lodged_is _ _ _ _ c.self.view_is) c.requires.there
 
 pub invariant_of-self-lent : goal.invariant_of-self-lent
-invariant_of-self-lent g c = λ w. (noted_put _ _ _ _ c.get_mut.result.now _ c.get_mut.ensures.value refl c.self.invariant.0, made_there _ _ _ _ _ c.get_mut.ensures.value c.self.invariant.1)
+invariant_of-self-lent g c = λ w. (row_put _ _ _ _ c.get_mut.result.now _ c.get_mut.ensures.value refl refl c.self.invariant.0, made_there _ _ _ _ _ c.get_mut.ensures.value c.self.invariant.1)
 
 pub returns : goal.returns
 returns g c = (

@@ -1,4 +1,4 @@
-use Rattle.std.proofs.Common.{◌≡◌, ◌+◌, List, Option, Some, None, refl, sym, ap, subst, ◌∙◌, inl, inr}
+use Rattle.std.proofs.Common.{◌≡◌, ◌+◌, ◌≤◌, List, Option, Some, None, refl, sym, ap, subst, ◌∙◌, inl, inr, rules}
 use Rattle.std.specs.Prelude.{option_map}
 use Rattle.std.specs.FinMap.{keys}
 use Rattle.radix_nodes.specs.Rooms.{Rooms, put_value}
@@ -8,10 +8,23 @@ use Rattle.radix_tree.specs.Lending.{with_value}
 use Rattle.radix_tree.specs.Table.{Contents, entry_at, with_entry}
 use Rattle.radix_tree.specs.Whole.{shown}
 use Rattle.radix_tree.specs.declared.entry.Entry.{Entry}
+use Rattle.radix_tree.proofs.Counted.{not_held}
 use Rattle.radix_tree.proofs.Valued.{put_valued, valued_whole, lent_shown, lent_counted, lent_keys}
 use Rattle.radix_tree.proofs.Kept.{Has-found, IsFound, found, not_found, value_found, whole_next, entries_next}
 use Rattle.radix_tree.proofs.routes.Table.get_mut.Goals as goal
 use Rattle.radix_tree.proofs.routes.Table.get_mut.Goals.{In-Some-room_of}
+
+-- a table of which a turn began and no more
+only_begun : {V : Type 0} (old new : Rooms V) (root : Option Node) (table : Contents V) → contents old root ≡ table → new ≡ record old { turn = old.turn + 1 } → contents new root ≡ record table { turn = table.turn + 1 }
+only_begun {V} old new root table is began = ap (λ (r : Rooms V). contents r root) began ∙ ap (λ (t : Contents V). record t { turn = t.turn + 1 }) is
+
+pub returns-then-not-has : goal.returns-then-not-has
+returns-then-not-has g c =
+    let fits : c.args.rank ≤ 33 = search rules in
+    let none : entry_at c.args.key c.args.rank c.args.self.now.entries ≡ None
+    = ap (λ (t : Contents g.row.V.Denot). entry_at c.args.key c.args.rank t.entries) (sym c.self.view_is)
+    ∙ not_held c.self.inside.counts _ c.args.key c.args.rank c.has.result c.self.invariant.counted fits c.has.ensures.1 c.if-not-has.true in
+    (ap inr (only_begun c.self.inside.nodes c.begin-visits.new.self c.self.inside.root c.args.self.now c.self.view_is c.begin-visits.ensures.turn), record { writes = tt; value = rw none refl })
 
 pub room_of-requires-clause-tree : goal.room_of-requires-clause-tree
 room_of-requires-clause-tree g c =
@@ -23,9 +36,7 @@ returns-in_default-room_of g c =
     let none : entry_at c.args.key c.args.rank c.args.self.now.entries ≡ None
     = ap (λ (es : List (Entry g.row.V.Denot)). entry_at c.args.key c.args.rank es) (sym (entries_next c.self.inside.nodes c.begin-visits.new.self _ c.in-Some.root _ c.self.view_is c.in-Some.is c.begin-visits.ensures.turn))
     ∙ not_found c.begin-visits.new.self.lodged c.in-Some.root w c.args.key c.args.rank c.room_of.result c.in_default-room_of.is (c.room_of.ensures.found w.part w.named) in
-    let kept : contents c.begin-visits.new.self c.self.inside.root ≡ record c.args.self.now { turn = c.args.self.now.turn + 1 }
-    = ap (λ (r : Rooms g.row.V.Denot). contents r c.self.inside.root) c.begin-visits.ensures.turn ∙ ap (λ (t : Contents g.row.V.Denot). record t { turn = t.turn + 1 }) c.self.view_is in
-    (ap inr kept, record { writes = tt; value = rw none refl })
+    (ap inr (only_begun c.self.inside.nodes c.begin-visits.new.self c.self.inside.root c.args.self.now c.self.view_is c.begin-visits.ensures.turn), record { writes = tt; value = rw none refl })
 
 -- the room that was found
 is_found : (g : _) (c : In-Some-room_of g) → IsFound c.begin-visits.new.self.lodged c.in-Some.root c.args.key c.args.rank c.in-Some-room_of.room

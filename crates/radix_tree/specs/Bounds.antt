@@ -1,0 +1,46 @@
+-- How wide an address is, and the bounds that follow.
+use Rattle.std.specs.Prelude.{ℕ, ◌+◌, ◌-◌, ◌*◌}
+
+-- an address has so many bits, of which this is the last
+abbrev pub width : ℕ
+width = 32
+
+abbrev pub last_bit : ℕ
+last_bit = width - 1
+
+-- the rank of a route of one host, which is the greatest, and how many ranks there are
+abbrev pub host_rank : ℕ
+host_rank = width + 1
+
+abbrev pub ranks : ℕ
+ranks = host_rank + 1
+
+-- on a way down stands a bit node for each bit at most, and then a leaf
+abbrev pub levels : ℕ
+levels = width + 1
+
+-- ---- reads of rooms
+-- of a way down: its bit nodes
+abbrev pub way_reads : ℕ
+way_reads = width
+
+-- of a chain: a member of each rank
+abbrev pub chain_reads : ℕ
+chain_reads = ranks
+
+-- of a search for a key and a rank: a way down, and the chain at its end
+abbrev pub pair_reads : ℕ
+pair_reads = way_reads + chain_reads
+
+-- of a mask that is listed: the mask, and the search with it
+abbrev pub listed_reads : ℕ
+listed_reads = 1 + pair_reads
+
+-- of the best route's room: a way down, the chain at its end and the leaf again, from which it goes up; then each bit
+-- node once, and each of the masks of ranks 0 to 31 once at most, as it is listed at one bit node of a way
+abbrev pub room_reads : ℕ
+room_reads = way_reads + chain_reads + 1 + (width + width * listed_reads)
+
+-- of the best route: its room, its leaf and its value. They are 2,245, and 2,400 are promised
+abbrev pub best_reads : ℕ
+best_reads = room_reads + 2

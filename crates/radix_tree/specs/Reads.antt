@@ -1,0 +1,31 @@
+-- What is read of rooms, and how counters of visits go on.
+use Rattle.std.specs.Prelude.{◌≡◌, ℕ, ◌+◌, ◌≤◌, Some}
+use Rattle.std.specs.Ordering.{nat_cmp}
+use Rattle.std.specs.FinMap.{FinMap}
+use Rattle.radix_nodes.specs.Counting.{Counter}
+use Rattle.radix_nodes.specs.Rooms.{Seen, Rooms}
+use Rattle.radix_nodes.specs.declared.id.Id.{Id}
+use Rattle.radix_nodes.specs.declared.links.BitNode.{BitNode}
+use Rattle.radix_tree.specs.Rooms.{bit_part, bits_in, heads_in}
+
+-- a counter went on, by so many visits at most
+pub record Reads (old new : Counter) (most : ℕ) : Type 0 where
+  pub turn : new.turn ≡ old.turn
+  pub rises : old.count ≤ new.count
+  pub bound : new.count ≤ old.count + most
+
+-- by one visit
+pub record ReadsOnce (old new : Counter) : Type 0 where
+  pub turn : new.turn ≡ old.turn
+  pub count : new.count ≡ old.count + 1
+
+-- the room is this bit node in use
+pub record IsBitNodeOf {V : Type 0} (m : FinMap nat_cmp (Seen V)) (room : Id) (node : BitNode) : Type 0 where
+  pub said : bits_in m room.number ≡ bit_part room.block (Some node)
+  pub head : heads_in m room.number ≡ node.masks
+
+-- the map makes and frees no room, and begins no turn; nor does the counter change its turn
+pub record Stays {V : Type 0} (old new : Rooms V) (before after : Counter) : Type 0 where
+  pub next : new.next ≡ old.next
+  pub turn : new.turn ≡ old.turn
+  pub counter : after.turn ≡ before.turn
