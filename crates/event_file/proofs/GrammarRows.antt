@@ -12,7 +12,7 @@ use Rattle.sock_addrs.specs.declared.gate.Gate.TheVariants as gate
 use Rattle.route_msgs.specs.Examples.{question}
 use Rattle.route_msgs.specs.Layout.{with_field}
 use Rattle.if_addrs.specs.declared.kind.Kind.TheVariants.{Broadcast, Loopback as LoopbackKind, PointToPoint}
-use Rattle.route_core.specs.declared.command.Command.TheVariants.{Attach, AddAddress, RemoveAddress, Open, Close, Loopback, Write, Read, Packet, Redirect, DumpSize, Dump}
+use Rattle.route_core.specs.declared.command.Command.TheVariants.{Attach, AddAddress, RemoveAddress, Open, Close, Loopback, Write, Read, Lost, Packet, Redirect, Losing, DumpSize, Dump}
 
 pub an_attach : command_of (codes "if ed0 broadcast 6 080020010203") ≡ Some (Attach (codes "ed0") Broadcast 6 (8 ∷ 0 ∷ 32 ∷ 1 ∷ 2 ∷ 3 ∷ []))
 unfolding digits hex_on_literals
@@ -41,6 +41,14 @@ a_write_of_nothing = refl
 pub a_read : command_of (codes "read a") ≡ Some (Read (codes "a"))
 unfolding digits hex_on_literals
 a_read = refl
+
+pub a_count_of_losses : command_of (codes "lost a") ≡ Some (Lost (codes "a"))
+unfolding digits hex_on_literals
+a_count_of_losses = refl
+
+pub losses_of_nobody : command_of (codes "lost") ≡ None
+unfolding digits hex_on_literals
+losses_of_nobody = refl
 
 pub leading_zero : command_of (codes "open a 007 any") ≡ None
 unfolding digits hex_on_literals
@@ -141,6 +149,14 @@ a_redirect = refl
 pub a_redirect_without_an_author : command_of (codes "redirect 10.9.9.9 10.0.0.2") ≡ None
 unfolding digits hex_on_literals
 a_redirect_without_an_author = refl
+
+pub a_losing_route : command_of (codes "losing 10.9.9.9") ≡ Some (Losing 0x0a09_0909)
+unfolding digits hex_on_literals
+a_losing_route = refl
+
+pub a_losing_network : command_of (codes "losing 10.9.9.0/24") ≡ None
+unfolding digits hex_on_literals
+a_losing_network = refl
 
 pub how_large_a_dump_is : command_of (codes "dump ask") ≡ Some (DumpSize None)
 unfolding digits hex_on_literals

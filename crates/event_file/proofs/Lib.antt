@@ -13,6 +13,7 @@ pub mod PrintedWords
 pub mod ReadForms
 pub mod ReadRoutes
 pub mod ReadWords
+pub mod Reaching
 pub mod ResponseLines
 pub mod RowAddressIsAnnounced
 pub mod RowChangeAndLock

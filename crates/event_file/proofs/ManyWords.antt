@@ -3,7 +3,7 @@ use Prim.Native.String.{String}
 use Rattle.std.proofs.Common.{◌≡◌, ◌<◌, ◌≤◌, ◌+◌, ◌*◌, ℕ, Bool, true, false, cond, List, [], ◌∷◌, length, refl, arith, codes, bytes_eq, nat_lt, Option, Some, None}
 use Rattle.event_file.specs.declared.route_words.MetricWords.{MetricWords}
 use Rattle.event_file.specs.declared.route_words.RouteWords.{RouteWords}
-use Rattle.event_file.specs.Grammar.{add_address_form, attach_form, cloning_of, close_form, command_of, dump_form, flags_form, forms, inet_if_written, loopback_form, open_form, packet_form, read_form, redirect_form, remove_address_form, route_form, route_forms, said_by, write_form}
+use Rattle.event_file.specs.Grammar.{add_address_form, attach_form, cloning_of, close_form, command_of, dump_form, flags_form, forms, inet_if_written, loopback_form, open_form, packet_form, read_form, lost_form, losing_form, redirect_form, remove_address_form, route_form, route_forms, said_by, write_form}
 use Rattle.event_file.specs.Lines.{most_line_bytes}
 use Rattle.event_file.specs.RouteLine.{address_options, behind_addresses, behind_bits, bit_options, destination_of, if_none_left, message_of, metric_options, number_if_written, option_behind, route_words_of, verb_of, words_behind_all}
 use Rattle.event_file.specs.Words.{name_of, number_to, option_written, parted_by, words_behind}
@@ -119,6 +119,10 @@ read_form-most : (words : List (List ℕ)) (command : Command) → read_form wor
 read_form-most (id ∷ []) command h = omega arith
 read_form-most words command h = cc h
 
+lost_form-most : (words : List (List ℕ)) (command : Command) → lost_form words ≡ Some command → length words ≤ 34
+lost_form-most (id ∷ []) command h = omega arith
+lost_form-most words command h = cc h
+
 write_form-most : (words : List (List ℕ)) (command : Command) → write_form words ≡ Some command → length words ≤ 34
 write_form-most (id ∷ bytes ∷ []) command h = omega arith
 write_form-most words command h = cc h
@@ -139,6 +143,10 @@ redirect_form-most : (words : List (List ℕ)) (command : Command) → redirect_
 redirect_form-most (destination ∷ gateway ∷ author ∷ []) command h = omega arith
 redirect_form-most words command h = cc h
 
+losing_form-most : (words : List (List ℕ)) (command : Command) → losing_form words ≡ Some command → length words ≤ 34
+losing_form-most (destination ∷ []) command h = omega arith
+losing_form-most words command h = cc h
+
 dump_form-most : (words : List (List ℕ)) (command : Command) → dump_form words ≡ Some command → length words ≤ 34
 dump_form-most (word ∷ []) command h = omega arith
 dump_form-most words command h = cc h
@@ -155,7 +163,7 @@ said_by-most (verb ∷ words) command h =
     let Few : Command → Type 0 = λ _. length words ≤ 34 in
     let of_routes : EachSays Few route_forms verb words command = (
       λ _. write_form-most words command,
-      (λ _. route_form-most words command, (λ _. packet_form-most words command, (λ _. redirect_form-most words command, (λ _. dump_form-most words command, (λ _. flags_form-most words command, tt))))),
+      (λ _. route_form-most words command, (λ _. packet_form-most words command, (λ _. redirect_form-most words command, (λ _. losing_form-most words command, (λ _. dump_form-most words command, (λ _. flags_form-most words command, tt)))))),
     ) in
     let few : length words ≤ 34 = by_forms-says Few forms verb words command (
       λ _. attach_form-most words command,
@@ -165,7 +173,7 @@ said_by-most (verb ∷ words) command h =
           λ _. remove_address_form-most words command,
           (
             λ _. open_form-most words command,
-            (λ _. loopback_form-most words command, (λ _. close_form-most words command, (λ _. read_form-most words command, of_routes))),
+            (λ _. loopback_form-most words command, (λ _. close_form-most words command, (λ _. read_form-most words command, (λ _. lost_form-most words command, of_routes)))),
           ),
         ),
       ),

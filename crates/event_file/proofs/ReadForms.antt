@@ -6,9 +6,9 @@ use Rattle.std.specs.List.{join_with_byte}
 use Rattle.std.proofs.lemmas.Option.{cond_some}
 use Rattle.std.proofs.lemmas.Slice.Eq.{bytes_eq-Decides}
 use Rattle.route_core.specs.Commands.{Command}
-use Rattle.route_core.specs.declared.command.Command.TheVariants.{Attach, AddAddress, RemoveAddress, Open, Close, Loopback, Write, Read, Packet, Redirect, DumpSize, Dump}
+use Rattle.route_core.specs.declared.command.Command.TheVariants.{Attach, AddAddress, RemoveAddress, Open, Close, Loopback, Write, Read, Lost, Packet, Redirect, Losing, DumpSize, Dump}
 use Rattle.route_core.specs.declared.written.TheConstants.{MOST_WRITTEN}
-use Rattle.event_file.specs.Grammar.{Form, add_address_form, address_of_parts, attach_form, by_forms, cloning_of, close_form, dump_form, dump_into, dump_of, flags_form, forms, inet_if_written, loopback_form, most_link_bytes, open_form, packet_form, read_form, redirect_form, remove_address_form, route_form, route_forms, said_by, write_form}
+use Rattle.event_file.specs.Grammar.{Form, add_address_form, address_of_parts, attach_form, by_forms, cloning_of, close_form, dump_form, dump_into, dump_of, flags_form, forms, inet_if_written, loopback_form, most_link_bytes, open_form, packet_form, read_form, lost_form, losing_form, redirect_form, remove_address_form, route_form, route_forms, said_by, write_form}
 use Rattle.event_file.specs.Lines.{most_line_bytes}
 use Rattle.event_file.specs.Printed.{IsWithinBounds}
 use Rattle.event_file.specs.Words.{bytes_to, hex_number_of, inet_of, interface_kind_of, name_of, number_to, option_written, parted_by, protocol_of, switch_of, words_behind}
@@ -101,6 +101,12 @@ packet_form-says (destination ∷ []) command h =
     passed true (Packet d) IsWithinBounds command said (inet_of-Some destination d small)
 packet_form-says words command h = cc h
 
+losing_form-says : (words : List (List ℕ)) (command : Command) → losing_form words ≡ Some command → IsWithinBounds command
+losing_form-says (destination ∷ []) command h =
+    let (d, small, said) = bind_some (inet_of destination) _ command h in
+    passed true (Losing d) IsWithinBounds command said (inet_of-Some destination d small)
+losing_form-says words command h = cc h
+
 redirect_form-says : (words : List (List ℕ)) (command : Command) → redirect_form words ≡ Some command → IsWithinBounds command
 redirect_form-says (destination ∷ gateway ∷ author ∷ []) command h =
     let (d, to, hd) = bind_some (inet_of destination) _ command h in
@@ -135,6 +141,12 @@ read_form-says (id ∷ []) command h =
     passed true (Read i) IsWithinBounds command said (name_of-Some id i is)
 read_form-says words command h = cc h
 
+lost_form-says : (words : List (List ℕ)) (command : Command) → lost_form words ≡ Some command → IsWithinBounds command
+lost_form-says (id ∷ []) command h =
+    let (i, is, said) = bind_some (name_of id) _ command h in
+    passed true (Lost i) IsWithinBounds command said (name_of-Some id i is)
+lost_form-says words command h = cc h
+
 -- ---- the choice of a form
 
 -- what each form says, behind its verb, is so
@@ -156,7 +168,7 @@ said_by-says (verb ∷ words) command short h =
     let room : verb ≡ codes "write" → length (join_with_byte 32 (codes "write" ∷ words)) ≤ most_line_bytes = λ is. subst (λ v. length (join_with_byte 32 (v ∷ words)) ≤ most_line_bytes) is short in
     let of_routes : EachSays IsWithinBounds route_forms verb words command = (
       λ is. write_form-says words command (room is),
-      (λ _. route_form-says words command, (λ _. packet_form-says words command, (λ _. redirect_form-says words command, (λ _. dump_form-says words command, (λ _. flags_form-says words command, tt))))),
+      (λ _. route_form-says words command, (λ _. packet_form-says words command, (λ _. redirect_form-says words command, (λ _. losing_form-says words command, (λ _. dump_form-says words command, (λ _. flags_form-says words command, tt)))))),
     ) in
     by_forms-says IsWithinBounds forms verb words command (
       λ _. attach_form-says words command,
@@ -166,7 +178,7 @@ said_by-says (verb ∷ words) command short h =
           λ _. remove_address_form-says words command,
           (
             λ _. open_form-says words command,
-            (λ _. loopback_form-says words command, (λ _. close_form-says words command, (λ _. read_form-says words command, of_routes))),
+            (λ _. loopback_form-says words command, (λ _. close_form-says words command, (λ _. read_form-says words command, (λ _. lost_form-says words command, of_routes)))),
           ),
         ),
       ),

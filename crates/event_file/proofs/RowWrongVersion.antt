@@ -1,4 +1,4 @@
--- The transcript of examples/wrong-version.routes, computed by the definitions. Made by examples/derived.
+-- The transcript of examples/wrong-version.routes, computed by the definitions. Made by tools/derived.
 use Rattle.std.proofs.Common.{◌≡◌, ℕ, List, ◌++◌, codes, refl}
 use Rattle.std.specs.Fmt.{digits}
 use Rattle.hex.proofs.OnLiterals.{hex_on_literals}

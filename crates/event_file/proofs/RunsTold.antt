@@ -154,7 +154,7 @@ left_is_same same_answers x rest turns last runs room say other (end, answered) 
     is ∙ ap text_of (same_answers x empty_world last end turns told runs room same so have).0
 
 pub others-leave_the_text : OthersDoNotDisturb → OthersAreNotNeeded → OthersLeaveTheText
-others-leave_the_text same_answers not_needed script text x good transcript room =
+others-leave_the_text same_answers not_needed script text good transcript room x =
     let (turns, run, is) = transcript-is_run script text good transcript in
     let (say, last, runs) = run in
     let roomy = subst TextHasRoom is room in

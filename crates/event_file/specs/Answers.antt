@@ -43,7 +43,7 @@ choice_words c =
 abbrev pub choice_line : List ℕ → Choice → List ℕ
 choice_line fate choice = join_with_byte 32 (fate ∷ choice_words choice) ++ codes "\n"
 
--- how many bytes to ask for a dump
+-- how many bytes to ask for a dump, or how many messages were lost
 abbrev pub size_line : ℕ → List ℕ
 size_line size = codes "size " ++ decimal size ++ codes "\n"
 

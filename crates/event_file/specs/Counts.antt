@@ -1,4 +1,4 @@
--- A reader or a writer with its two counts, and how they rise.
+-- A reader or a writer with its two counts, how they rise, and the least room of a read.
 use Rattle.std.specs.Prelude.{ℕ, ◌+◌, ◌-◌, ◌^◌, ◌==◌, ◌&&◌, not, min, cond, Bool, true, false, List, length, Result, Ok, Err}
 
 -- what a contract sees of a `Counted`
@@ -6,6 +6,7 @@ pub record Counts (T : Type 0) : Type 0 where
   pub inner : T
   pub reads : ℕ
   pub failures : ℕ
+  pub least_room : ℕ
 
 -- a count after one more; one that has reached u64::MAX stays there
 abbrev pub one_more : ℕ → ℕ

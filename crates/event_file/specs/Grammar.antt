@@ -5,7 +5,7 @@ use Rattle.event_file.specs.Lines.{most_line_bytes}
 use Rattle.event_file.specs.RouteLine.{message_of}
 use Rattle.event_file.specs.Words.{◌>>=◌, parted_by, name_of, number_to, bytes_to, hex_number_of, inet_of, interface_kind_of, protocol_of, switch_of, option_written, words_behind, if_written}
 use Rattle.route_core.specs.Commands.{Command}
-use Rattle.route_core.specs.declared.command.Command.TheVariants.{Attach, AddAddress, RemoveAddress, Open, Close, Loopback, Write, Read, Packet, Redirect, DumpSize, Dump}
+use Rattle.route_core.specs.declared.command.Command.TheVariants.{Attach, AddAddress, RemoveAddress, Open, Close, Loopback, Write, Read, Lost, Packet, Redirect, Losing, DumpSize, Dump}
 use Rattle.route_core.specs.declared.written.TheConstants.{MOST_WRITTEN}
 
 -- a link-layer address has at most 8 bytes
@@ -104,6 +104,13 @@ read_form (id ∷ []) = do
   Some (Read id)
 read_form words = None
 
+-- `ID`, behind `lost`
+abbrev pub lost_form : List (List ℕ) → Option Command
+lost_form (id ∷ []) = do
+  id ← name_of id
+  Some (Lost id)
+lost_form words = None
+
 -- `A`, behind `packet`
 abbrev pub packet_form : List (List ℕ) → Option Command
 packet_form (destination ∷ []) = do
@@ -123,6 +130,13 @@ redirect_of destination gateway author = do
 abbrev pub redirect_form : List (List ℕ) → Option Command
 redirect_form (destination ∷ gateway ∷ author ∷ []) = redirect_of destination gateway author
 redirect_form words = None
+
+-- `A`, behind `losing`
+abbrev pub losing_form : List (List ℕ) → Option Command
+losing_form (destination ∷ []) = do
+  destination ← inet_of destination
+  Some (Losing destination)
+losing_form words = None
 
 -- `N`: a dump into so many bytes
 abbrev pub dump_into : Option ℕ → List ℕ → Option Command
@@ -160,6 +174,7 @@ route_forms = form "write" write_form
     ∷ form "route" route_form
     ∷ form "packet" packet_form
     ∷ form "redirect" redirect_form
+    ∷ form "losing" losing_form
     ∷ form "dump" dump_form
     ∷ form "flags" flags_form
     ∷ []
@@ -173,6 +188,7 @@ forms = form "if" attach_form
     ∷ form "loopback" loopback_form
     ∷ form "close" close_form
     ∷ form "read" read_form
+    ∷ form "lost" lost_form
     ∷ route_forms
 
 -- the words as the form of this verb reads them

@@ -4,6 +4,7 @@ pub mod Grammar
 pub mod Lines
 pub mod Output
 pub mod Printed
+pub mod Reached
 pub mod RouteLaws
 pub mod RouteLine
 pub mod RouteWords

@@ -8,7 +8,7 @@ use Rattle.event_file.specs.Words.{is_name_byte}
 use Rattle.event_file.specs.Grammar.{command_of, most_link_bytes}
 use Rattle.event_file.specs.Lines.{most_line_bytes}
 use Rattle.route_core.specs.Commands.{Command}
-use Rattle.route_core.specs.declared.command.Command.TheVariants.{Attach, AddAddress, RemoveAddress, Open, Close, Loopback, Write, Read, Packet, Redirect, DumpSize, Dump}
+use Rattle.route_core.specs.declared.command.Command.TheVariants.{Attach, AddAddress, RemoveAddress, Open, Close, Loopback, Write, Read, Lost, Packet, Redirect, Losing, DumpSize, Dump}
 use Rattle.if_addrs.specs.declared.kind.Kind.{Kind}
 use Rattle.if_addrs.specs.declared.kind.Kind.TheVariants.{Broadcast, Loopback as LoopbackKind, PointToPoint}
 
@@ -69,9 +69,11 @@ words_of (Close id) = codes "close" ∷ id ∷ []
 words_of (Loopback id on) = codes "loopback" ∷ id ∷ switch_word on ∷ []
 words_of (Write id bytes) = codes "write" ∷ id ∷ bytes_word bytes ∷ []
 words_of (Read id) = codes "read" ∷ id ∷ []
+words_of (Lost id) = codes "lost" ∷ id ∷ []
 words_of (Packet destination) = codes "packet" ∷ inet_word destination ∷ []
 words_of (Redirect asked) =
     codes "redirect" ∷ inet_word asked.destination ∷ inet_word asked.gateway ∷ inet_word asked.author ∷ []
+words_of (Losing destination) = codes "losing" ∷ inet_word destination ∷ []
 words_of (DumpSize filter) = filter_words filter ++ codes "ask" ∷ []
 words_of (Dump filter room) = filter_words filter ++ decimal room ∷ []
 
@@ -98,8 +100,10 @@ IsWithinBounds (Close id) = IsName id
 IsWithinBounds (Loopback id on) = IsName id
 IsWithinBounds (Write id bytes) = IsName id × (7 + length id + 2 * length bytes ≤ most_line_bytes) × IsBytes bytes
 IsWithinBounds (Read id) = IsName id
+IsWithinBounds (Lost id) = IsName id
 IsWithinBounds (Packet destination) = destination < 2 ^ 32
 IsWithinBounds (Redirect asked) = (asked.destination < 2 ^ 32) × (asked.gateway < 2 ^ 32) × (asked.author < 2 ^ 32)
+IsWithinBounds (Losing destination) = destination < 2 ^ 32
 IsWithinBounds (DumpSize filter) = IfSome filter (λ flags. flags < 2 ^ 32)
 IsWithinBounds (Dump filter room) = IfSome filter (λ flags. flags < 2 ^ 32) × (room < 2 ^ 32)
 

@@ -42,12 +42,17 @@ abbrev pub IsOnlyTranscript : List ℕ → List ℕ → Type 0
 IsOnlyTranscript script text = IsTranscript script text × TextHasRoom text
     × ((other : List ℕ) → IsTranscript script other → TextHasRoom other → other ≡ text)
 
--- Such a transcript of a script without a malformed line is the text of a run, and a script of the commands that are
--- left for x has the transcript of exactly the turns that are left. So every line of x, every write, and every line
--- that names no id is answered by the same bytes as before, and what x reads are the same messages.
-abbrev pub OthersLeaveTheText : Type 0
-OthersLeaveTheText = (script text x : List ℕ) → has_bad_line (answered_lines script) ≡ false
-    → IsTranscript script text → TextHasRoom text
-    → (turns : List Turn) × IsRun script turns × (text ≡ text_of turns)
+-- No listener disturbs another in this text of a script, where it has room. For each id x it is the text of a run, and
+-- a script of the commands that are left for x has the transcript of exactly the turns that are left. So every line of
+-- x, every write, and every line that names no id is answered by the same bytes as before, and what x reads are the
+-- same messages.
+abbrev pub IsUndisturbed : List ℕ → List ℕ → Type 0
+IsUndisturbed script text = TextHasRoom text → (x : List ℕ) → (turns : List Turn) × IsRun script turns
+    × (text ≡ text_of turns)
     × ((rest : List ℕ) → SaysCommands rest (commands_left x (commands_of turns))
     → IsOnlyTranscript rest (text_of (turns_left x turns)))
+
+-- in each transcript of a script without a malformed line
+abbrev pub OthersLeaveTheText : Type 0
+OthersLeaveTheText = (script text : List ℕ) → has_bad_line (answered_lines script) ≡ false
+    → IsTranscript script text → IsUndisturbed script text

@@ -20,12 +20,12 @@ pub const TEXT_ROOM: usize = 4096;
 const PIECE: usize = 2048;
 
 /// Writes the text of a line's answer, going on behind what a short write took: `ok`, `err` with the errno's number,
-/// `via` or `drop` with a packet's route, `size` with a number of bytes, `msg` with its bytes for each message and then
+/// `via` or `drop` with a packet's route, `size` with a number of bytes or of messages, `msg` with its bytes for each message and then
 /// `ok`, or `err` where some are left out, or `bad`. It is refused at the first write that answers an error or takes no
 /// byte, and what was taken before is then a front of that text. `buffer` is room for `TEXT_ROOM` bytes of text; what it
 /// held is lost.
 pub fn write_answer<W: Write>(
-    answer: &Result<Answer, Bad>,
+    answer: &Result<Answer<'_>, Bad>,
     buffer: &mut [u8],
     writer: &mut Counted<W>,
 ) -> Result<(), Stopped>
@@ -73,7 +73,7 @@ fn write_refusal<W: Write>(errno: Errno, writer: &mut Counted<W>) -> Result<(), 
     write_bytes(&refusal(errno), writer)
 }
 
-/// Writes the line of how many bytes to ask for a dump.
+/// Writes the line of a size.
 #[inline(never)]
 fn write_size<W: Write>(size: u64, writer: &mut Counted<W>) -> Result<(), Stopped>
     requires { writer.old.failures ≡ 0 }
@@ -111,7 +111,7 @@ fn refusal(errno: Errno) -> ArrayVec<u8, 16>
     line
 }
 
-/// The line of how many bytes to ask for a dump.
+/// The line of a size: how many bytes to ask for a dump, or how many messages were lost.
 fn size_line(size: u64) -> ArrayVec<u8, 32>
     ensures { result.items ≡ line_of_size size }
 {

@@ -1,14 +1,14 @@
 ghost use Rattle.std.specs.Prelude.{◌≡◌, ◌≤◌, map, bytes_eq, length, option_map, Some, None};
 ghost use Rattle.std.specs.Result.{MatchResult};
 ghost use Rattle.event_file.specs.Words.{parted_by};
-ghost use Rattle.event_file.specs.Grammar.{attach_form, inet_if_written, cloning_of, address_of_parts, add_address_form, remove_address_form, open_form, loopback_form, close_form, write_form, route_form, read_form, packet_form, redirect_of, redirect_form, dump_into as into_room, dump_of, dump_form, flags_form, forms, route_forms, by_forms, said_by, command_of};
+ghost use Rattle.event_file.specs.Grammar.{attach_form, inet_if_written, cloning_of, address_of_parts, add_address_form, remove_address_form, open_form, loopback_form, close_form, write_form, route_form, read_form, lost_form, packet_form, redirect_of, redirect_form, losing_form, dump_into as into_room, dump_of, dump_form, flags_form, forms, route_forms, by_forms, said_by, command_of};
 
 use crate::Bad;
 use crate::line_buffer::LONGEST_LINE;
 use crate::numbers::{read_byte, read_hex, read_inet, read_number, read_prefix, read_protocol};
 use crate::route_line::read_composed;
 use crate::texts::{read_kind, read_link, read_name, read_switch, read_written};
-use crate::words::{is, option, parted};
+use crate::words::{Options, if_written, is, parted};
 use route_core::{Command, MOST_WRITTEN, NewGateway, Said};
 use sock_addrs::Inet;
 
@@ -54,10 +54,7 @@ fn address(name: &[u8], word: &[u8], cloning: bool, far: Option<Inet>) -> Option
 fn far(word: Option<&[u8]>) -> Option<Option<Inet>>
     ensures { result ≡ inet_if_written (option_map (λ w. w.now) word.entry) }
 {
-    match word {
-        Some(word) => Some(Some(read_inet(word)?)),
-        None => Some(None),
-    }
+    if_written(word, read_inet)
 }
 
 /// Whether an address's route clones: where the one word that is left is `cloning`, and not where none is.
@@ -80,12 +77,12 @@ fn cloning(options: &[&[u8]]) -> Option<bool>
 fn add_address(words: &[&[u8]]) -> Option<Said<'static>>
     ensures { result ≡ add_address_form (map (λ w. w.now) words.now) }
 {
-    let [name, word, options @ ..] = words else {
+    let [name, word, words @ ..] = words else {
         return None;
     };
-    let (to, options) = option("to", options);
-    let far = far(to)?;
-    let cloning = cloning(options)?;
+    let mut options = Options { words };
+    let far = far(options.word("to"))?;
+    let cloning = cloning(options.words)?;
     address(name, word, cloning, far)
 }
 
@@ -177,6 +174,16 @@ fn read(words: &[&[u8]]) -> Option<Said<'static>>
     Some(Command::Read { id: read_name(id)? })
 }
 
+/// `ID`, behind `lost`.
+fn lost(words: &[&[u8]]) -> Option<Said<'static>>
+    ensures { result ≡ lost_form (map (λ w. w.now) words.now) }
+{
+    let [id] = words else {
+        return None;
+    };
+    Some(Command::Lost { id: read_name(id)? })
+}
+
 /// `A`, behind `packet`.
 fn packet(words: &[&[u8]]) -> Option<Said<'static>>
     ensures { result ≡ packet_form (map (λ w. w.now) words.now) }
@@ -208,6 +215,18 @@ fn redirect(words: &[&[u8]]) -> Option<Said<'static>>
         return None;
     };
     redirect_to(destination, gateway, author)
+}
+
+/// `A`, behind `losing`.
+fn losing(words: &[&[u8]]) -> Option<Said<'static>>
+    ensures { result ≡ losing_form (map (λ w. w.now) words.now) }
+{
+    let [destination] = words else {
+        return None;
+    };
+    Some(Command::Losing {
+        destination: read_inet(destination)?,
+    })
 }
 
 /// `N`: a dump into so many bytes.
@@ -276,6 +295,9 @@ fn said_behind<'a>(verb: &[u8], words: &[&[u8]], room: &'a mut [u8]) -> Option<S
     if is(verb, "read") {
         return read(words);
     }
+    if is(verb, "lost") {
+        return lost(words);
+    }
     said_of_routes(verb, words, room)
 }
 
@@ -295,6 +317,9 @@ fn said_of_routes<'a>(verb: &[u8], words: &[&[u8]], room: &'a mut [u8]) -> Optio
     }
     if is(verb, "redirect") {
         return redirect(words);
+    }
+    if is(verb, "losing") {
+        return losing(words);
     }
     if is(verb, "dump") {
         return dump(words);

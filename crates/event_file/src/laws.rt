@@ -2,13 +2,14 @@
 
 ghost use Rattle.std.specs.Prelude.{◌≡◌, ◌∷◌, [], true, false, codes, Some, None};
 ghost use Rattle.if_addrs.specs.declared.kind.Kind.TheVariants.{Broadcast, Loopback as LoopbackKind, PointToPoint};
-ghost use Rattle.route_core.specs.declared.command.Command.TheVariants.{Attach, AddAddress, RemoveAddress, Open, Close, Loopback, Write, Read, Packet, Redirect, DumpSize, Dump};
+ghost use Rattle.route_core.specs.declared.command.Command.TheVariants.{Attach, AddAddress, RemoveAddress, Open, Close, Loopback, Write, Read, Lost, Packet, Redirect, Losing, DumpSize, Dump};
 ghost use Rattle.route_core.specs.declared.answer.Answer.TheVariants.{Dropped, Messages, Routed, Size};
 ghost use Rattle.sock_addrs.specs.declared.errno.Errno.TheVariants.{ENOMEM};
 ghost use Rattle.sock_addrs.specs.declared.gate.Gate.TheVariants.{Inet as InetGate, Link as LinkGate};
 ghost use Rattle.event_file.specs.Answers.{ResponsesEndInANewline, answer_text};
 ghost use Rattle.event_file.specs.Lines.{EndedLinesAreRead, LastLineIsRead, ScriptIsItsLines};
 ghost use Rattle.event_file.specs.Printed.{PrintedFits, PrintedIsRead, ReadIsWithinBounds, line_of};
+ghost use Rattle.event_file.specs.Reached.{ScriptsLeadToWorlds};
 ghost use Rattle.event_file.specs.RouteLaws.{ComposedIsRead, RouteLinesAreRead};
 ghost use Rattle.event_file.specs.Runs.{OthersLeaveTheText, RunIsTranscript, TranscriptIsRun};
 ghost use Rattle.event_file.specs.Transcript.{ComputedIsTranscript, ResponseIsComputed, TranscriptIsComputed};
@@ -37,6 +38,16 @@ pub fn printed_is_read()
 pub fn read_is_within_bounds()
     ensures { ReadIsWithinBounds }
 {}
+
+/// In every world that a script leads to, from the empty one on, the table is in order with no pair of a key and a mask
+/// twice, each route leads by way of an address, with a mask for clones of at most 32 bits, and out of one of the
+/// interfaces, neither a number of an address nor an id of a socket is given twice, and what waits for a socket fits its
+/// queue.
+pub fn scripts_lead_to_worlds()
+    ensures { ScriptsLeadToWorlds }
+{
+    read_is_within_bounds();
+}
 
 /// The message that a `route` line writes is read without a fault: its type is the verb's, its other fields and its
 /// addresses are those of the words, and it has no other address.
@@ -69,9 +80,11 @@ pub fn printing_by_example()
     ensures loopback_off { line_of (Loopback (codes "a") false) ≡ codes "loopback a off" }
     ensures write { line_of (Write (codes "a") (0x5c ∷ 0x00 ∷ [])) ≡ codes "write a 5c00" }
     ensures read { line_of (Read (codes "a")) ≡ codes "read a" }
+    ensures lost { line_of (Lost (codes "a")) ≡ codes "lost a" }
     ensures packet { line_of (Packet 0x0a09_0909) ≡ codes "packet 10.9.9.9" }
     ensures redirect { line_of (Redirect (record { destination = 0xa090909; gateway = 0xa000002; author = 0xa000001 }))
         ≡ codes "redirect 10.9.9.9 10.0.0.2 10.0.0.1" }
+    ensures losing { line_of (Losing 0x0a09_0909) ≡ codes "losing 10.9.9.9" }
     ensures dump_size { line_of (DumpSize None) ≡ codes "dump ask" }
     ensures flags_size { line_of (DumpSize (Some 0x101)) ≡ codes "flags 00000101 ask" }
     ensures dump { line_of (Dump None 4294967295) ≡ codes "dump 4294967295" }

@@ -1,14 +1,22 @@
-ghost use Rattle.std.specs.Prelude.{◌≡◌, OnOk, OnErr};
+ghost use Rattle.std.specs.Prelude.{◌≡◌, OnOk, OnErr, Some, codes};
 ghost use Rattle.event_file.specs.Output.{Wrote, WroteFront};
 
 use crate::Counted;
+use std::fmt;
 use std::io::Write;
 use thiserror::Error;
 
 /// The writer failed, or took no byte.
 #[derive(Clone, Copy, Debug, PartialEq, Eq, Error)]
-#[error("the writer failed or took no byte")]
 pub struct Stopped;
+
+impl fmt::Display for Stopped {
+    ghost output = { λ _. Some (codes "the writer failed or took no byte") };
+
+    fn fmt<W: fmt::Write>(&self, f: &mut fmt::Formatter<W>) -> fmt::Result {
+        f.write_str("the writer failed or took no byte")
+    }
+}
 
 /// Writes all of `bytes`, going on behind what a short write took. It is refused at the first write that answers an
 /// error or takes no byte, and what was taken before is then a front of `bytes`.

@@ -1,12 +1,12 @@
 //! The words behind `route`.
 ghost use Rattle.std.specs.Prelude.{◌≡◌, ◌≤◌, length, map, bytes_eq, option_map, MatchOption, IfSome, Some, None};
 ghost use Rattle.event_file.specs.Words.{parted_by};
-ghost use Rattle.event_file.specs.RouteLine.{address_options, behind_addresses as words_behind_addresses, behind_bits as words_behind_bits, bit_options, destination_of, destination_of_parts, gate_if_written, hex_if_written, if_none_left as unless_left, mask_if_written, message_of, metric_options, number_if_written, route_words_of, verb_of};
+ghost use Rattle.event_file.specs.RouteLine.{address_options, behind_addresses, behind_bits, bit_options, destination_of, destination_of_parts, gate_if_written, hex_if_written, if_none_left as unless_left, mask_if_written, message_of, metric_options, number_if_written, route_words_of, verb_of};
 
 use crate::numbers::{read_hex, read_inet, read_number, read_prefix};
 use crate::route_words::{MetricWords, RouteWords, Verb, compose};
 use crate::texts::read_gate;
-use crate::words::{is, option, parted};
+use crate::words::{Options, if_written, is, parted};
 use arrayvec::ArrayVec;
 use mask_table::Prefix;
 use route_core::{Lent, MOST_WRITTEN};
@@ -76,30 +76,21 @@ fn read_destination(word: &[u8]) -> Option<Destination>
 fn gate(word: Option<&[u8]>) -> Option<Option<Gate>>
     ensures { result ≡ gate_if_written (option_map (λ w. w.now) word.entry) }
 {
-    match word {
-        Some(word) => Some(Some(read_gate(word)?)),
-        None => Some(None),
-    }
+    if_written(word, read_gate)
 }
 
 /// A mask's length, where one is written.
 fn mask(word: Option<&[u8]>) -> Option<Option<Prefix>>
     ensures { result ≡ mask_if_written (option_map (λ w. w.now) word.entry) }
 {
-    match word {
-        Some(word) => Some(Some(read_prefix(word)?)),
-        None => Some(None),
-    }
+    if_written(word, read_prefix)
 }
 
 /// A number, where one is written.
 fn number(word: Option<&[u8]>) -> Option<Option<u32>>
     ensures { result ≡ number_if_written (option_map (λ w. w.now) word.entry) }
 {
-    match word {
-        Some(word) => Some(Some(read_number(u32::MAX, word)?)),
-        None => Some(None),
-    }
+    if_written(word, |digits| read_number(u32::MAX, digits))
 }
 
 /// A number in hexadecimal, and 0 where none is written.
@@ -121,31 +112,22 @@ struct AddressOptions {
     ifa: Option<Gate>,
 }
 
-/// The addresses among the options, which stand first.
-fn read_addresses(words: &[&[u8]]) -> Option<AddressOptions>
-    ensures { result ≡ address_options (map (λ w. w.now) words.now) }
+/// Reads the addresses among the options, which stand first.
+fn read_addresses(options: &mut Options) -> Option<AddressOptions>
+    ensures options { result ≡ address_options (map (λ w. w.now) options.old.words.now) }
+    ensures rest { map (λ w. w.now) options.new.words.now
+        ≡ behind_addresses (map (λ w. w.now) options.old.words.now) }
 {
-    let (via, words) = option("via", words);
-    let (genmask, words) = option("genmask", words);
-    let (ifp, words) = option("ifp", words);
-    let (ifa, _) = option("ifa", words);
+    let via = options.word("via");
+    let genmask = options.word("genmask");
+    let ifp = options.word("ifp");
+    let ifa = options.word("ifa");
     Some(AddressOptions {
         gateway: gate(via)?,
         genmask: mask(genmask)?,
         ifp: gate(ifp)?,
         ifa: gate(ifa)?,
     })
-}
-
-/// The words behind the addresses.
-fn behind_addresses<'w>(words: &'w [&'w [u8]]) -> &'w [&'w [u8]]
-    ensures { map (λ w. w.now) result.now ≡ words_behind_addresses (map (λ w. w.now) words.now) }
-{
-    let (_, words) = option("via", words);
-    let (_, words) = option("genmask", words);
-    let (_, words) = option("ifp", words);
-    let (_, words) = option("ifa", words);
-    words
 }
 
 /// The options that are words of bits.
@@ -156,13 +138,15 @@ struct BitOptions {
     locks: u32,
 }
 
-/// The options that are words of bits, which stand behind the addresses.
-fn read_bits(words: &[&[u8]]) -> Option<BitOptions>
-    ensures { result ≡ bit_options (map (λ w. w.now) words.now) }
+/// Reads the options that are words of bits, which stand behind the addresses.
+fn read_bits(options: &mut Options) -> Option<BitOptions>
+    ensures options { result ≡ bit_options (map (λ w. w.now) options.old.words.now) }
+    ensures rest { map (λ w. w.now) options.new.words.now
+        ≡ behind_bits (map (λ w. w.now) options.old.words.now) }
 {
-    let (flags, words) = option("flags", words);
-    let (inits, words) = option("inits", words);
-    let (locks, _) = option("locks", words);
+    let flags = options.word("flags");
+    let inits = options.word("inits");
+    let locks = options.word("locks");
     Some(BitOptions {
         flags: hex(flags)?,
         inits: hex(inits)?,
@@ -170,28 +154,18 @@ fn read_bits(words: &[&[u8]]) -> Option<BitOptions>
     })
 }
 
-/// The words behind the words of bits.
-fn behind_bits<'w>(words: &'w [&'w [u8]]) -> &'w [&'w [u8]]
-    ensures { map (λ w. w.now) result.now ≡ words_behind_bits (map (λ w. w.now) words.now) }
+/// Reads the metrics, which stand behind the words of bits and are the last.
+fn read_metrics(mut options: Options) -> Option<MetricWords>
+    ensures { result ≡ metric_options (map (λ w. w.now) options.entry.words.now) }
 {
-    let (_, words) = option("flags", words);
-    let (_, words) = option("inits", words);
-    let (_, words) = option("locks", words);
-    words
-}
-
-/// The metrics, which stand behind the words of bits and are the last.
-fn read_metrics(words: &[&[u8]]) -> Option<MetricWords>
-    ensures { result ≡ metric_options (map (λ w. w.now) words.now) }
-{
-    let (mtu, words) = option("mtu", words);
-    let (hopcount, words) = option("hopcount", words);
-    let (expire, words) = option("expire", words);
-    let (recvpipe, words) = option("recvpipe", words);
-    let (sendpipe, words) = option("sendpipe", words);
-    let (ssthresh, words) = option("ssthresh", words);
-    let (rtt, words) = option("rtt", words);
-    let (rttvar, words) = option("rttvar", words);
+    let mtu = options.word("mtu");
+    let hopcount = options.word("hopcount");
+    let expire = options.word("expire");
+    let recvpipe = options.word("recvpipe");
+    let sendpipe = options.word("sendpipe");
+    let ssthresh = options.word("ssthresh");
+    let rtt = options.word("rtt");
+    let rttvar = options.word("rttvar");
     let metrics = MetricWords {
         mtu: number(mtu)?,
         hopcount: number(hopcount)?,
@@ -202,7 +176,7 @@ fn read_metrics(words: &[&[u8]]) -> Option<MetricWords>
         rtt: number(rtt)?,
         rttvar: number(rttvar)?,
     };
-    if_none_left(words, metrics)
+    if_none_left(options.words, metrics)
 }
 
 /// These metrics, where no word is left.
@@ -219,16 +193,16 @@ fn if_none_left(words: &[&[u8]], metrics: MetricWords) -> Option<MetricWords>
 fn read_route_words(words: &[&[u8]]) -> Option<RouteWords>
     ensures { result ≡ route_words_of (map (λ w. w.now) words.now) }
 {
-    let [seq, verb, to, options @ ..] = words else {
+    let [seq, verb, to, words @ ..] = words else {
         return None;
     };
     let seq = read_number(u32::MAX, seq)?;
     let verb = read_verb(verb)?;
     let to = read_destination(to)?;
-    let addresses = read_addresses(options)?;
-    let options = behind_addresses(options);
-    let bits = read_bits(options)?;
-    let metrics = read_metrics(behind_bits(options))?;
+    let mut options = Options { words };
+    let addresses = read_addresses(&mut options)?;
+    let bits = read_bits(&mut options)?;
+    let metrics = read_metrics(options)?;
     Some(RouteWords {
         seq,
         verb,
@@ -252,7 +226,7 @@ fn read_message(words: &[&[u8]]) -> Option<ArrayVec<u8, 256>>
     ensures most { IfSome result (λ m. length m.items ≤ 204) }
 {
     match read_route_words(words) {
-        Some(said) => Some(compose(&said)),
+        Some(route_words) => Some(compose(&route_words)),
         None => None,
     }
 }

@@ -1,4 +1,4 @@
-ghost use Rattle.std.specs.Prelude.{◌≡◌, ◌<◌, [], ◌∷◌, length, map, bytes_eq, option_map};
+ghost use Rattle.std.specs.Prelude.{◌≡◌, ◌<◌, [], ◌∷◌, length, map, bytes_eq, option_map, Option, Some, None};
 ghost use Rattle.std.specs.Option.{MatchOption, IfSome, IfNone};
 ghost use Rattle.event_file.specs.Words.{parted_by, option_written, words_behind};
 
@@ -36,13 +36,41 @@ pub(crate) fn parted<const N: usize>(byte: u8, text: &[u8]) -> Option<ArrayVec<&
     Some(parts)
 }
 
-/// The word of the option of this name where the words begin with it, and the words behind it.
-pub(crate) fn option<'w>(name: &str, words: &'w [&'w [u8]]) -> (Option<&'w [u8]>, &'w [&'w [u8]])
-    ensures word { option_map (λ w. w.now) result.0 ≡ option_written name.now (map (λ w. w.now) words.now) }
-    ensures rest { map (λ w. w.now) result.1.now ≡ words_behind name.now (map (λ w. w.now) words.now) }
+/// The options that are left to read, each a name and the word behind it.
+#[derive(Clone, Copy, Debug)]
+pub(crate) struct Options<'w> {
+    pub(crate) words: &'w [&'w [u8]],
+}
+
+impl<'w> Options<'w> {
+    /// The word of the option of this name where it comes next; then what stands behind it is left.
+    pub(crate) fn word(&mut self, name: &str) -> Option<&'w [u8]>
+        ensures word { option_map (λ w. w.now) result
+            ≡ option_written name.now (map (λ w. w.now) self.old.words.now) }
+        ensures rest { map (λ w. w.now) self.new.words.now
+            ≡ words_behind name.now (map (λ w. w.now) self.old.words.now) }
+    {
+        match self.words {
+            [first, word, rest @ ..] if is(first, name) => {
+                self.words = rest;
+                Some(*word)
+            }
+            _ => None,
+        }
+    }
+}
+
+/// What the word of an option says, where it is written.
+pub(crate) fn if_written<'w, T, F: FnOnce(&'w [u8]) -> Option<T> + Drop>(
+    word: Option<&'w [u8]>,
+    read: F,
+) -> Option<Option<T>>
+    requires { F.IsAlwaysCallable read }
+    ensures written { IfSome word.entry (λ w. (said : Option T) × F.post read w said × (result ≡ option_map Some said)) }
+    ensures unwritten { IfNone word.entry (result ≡ Some None) }
 {
-    match words {
-        [first, word, rest @ ..] if is(first, name) => (Some(*word), rest),
-        _ => (None, words),
+    match word {
+        Some(word) => Some(Some(read(word)?)),
+        None => Some(None),
     }
 }

@@ -6,4 +6,3 @@ pub mod ReferenceLawsProved
 pub mod SearchLawsProved
 pub mod Searching
 pub mod StandingLaws
-pub mod Texts

@@ -79,7 +79,7 @@ added_one p a is h = measure_added (λ xs. length xs) (λ xs ys. length-append x
 
 -- what is told of an address but for its marks
 abbrev pub told : Address → Address
-told a = record a { flags = 0; removed = false }
+told a = record a { routed = false; removed = false }
 
 count-map : {X Y : Type 0} (v : X → Y) (q : Y → Bool) (xs : List X) → count_by q (map v xs) ≡ count_by (λ x. q (v x)) xs
 count-map v q [] = refl

@@ -3,4 +3,5 @@ use Rattle.if_addrs.specs.Interfaces.{Address}
 use Rattle.if_addrs.specs.declared.reference.Facts.{Facts}
 
 abbrev pub facts_of : Address → Facts
-facts_of a = record { kind = a.kind; prefix = a.prefix; flags = a.flags; far = a.far }
+facts_of a =
+    record { kind = a.kind; prefix = a.prefix; cloning = a.cloning; routed = a.routed; far = a.far }

@@ -1,10 +1,8 @@
 -- The interfaces with their addresses.
-use Rattle.std.specs.Prelude.{◌≡◌, ℕ, ◌+◌, ◌-◌, ◌*◌, ◌^◌, ◌≤◌, ◌==◌, nat_le, zero, suc, Bool, true, false, not, ◌&&◌, List, [], ◌∷◌, ◌++◌, length, max, Option, None, Some, IsSome, IsSomeAnd, is_some, is_none, option_map, unwrap_or, ok_or, Result, Err, bytes_eq, bit_or, if◌then◌else◌}
+use Rattle.std.specs.Prelude.{◌≡◌, ℕ, ◌+◌, ◌-◌, ◌*◌, ◌^◌, ◌≤◌, ◌==◌, nat_le, zero, suc, Bool, true, false, not, ◌&&◌, List, [], ◌∷◌, ◌++◌, length, Option, None, Some, IsSome, IsSomeAnd, is_some, is_none, option_map, unwrap_or, ok_or, Result, Err, bytes_eq, if◌then◌else◌}
 use Rattle.std.specs.List.{find, list_any, flat_map, position, slice_get}
 use Rattle.std.specs.Option.{option_map_or}
-use Rattle.std.specs.Int.{w16, to_be_bytes}
-use Rattle.sock_addrs.specs.Padded.{padded_to}
-use Rattle.sock_addrs.specs.Rounding.{rounded}
+use Rattle.sock_addrs.specs.Link.{interface_link}
 use Rattle.sock_addrs.specs.declared.errno.Errno.{Errno}
 use Rattle.sock_addrs.specs.declared.errno.Errno.TheVariants.{ENXIO, EEXIST, EINVAL, ENOSPC, EADDRINUSE, EADDRNOTAVAIL}
 use Rattle.sock_addrs.specs.declared.gate.Gate.{Gate}
@@ -19,14 +17,15 @@ use Rattle.if_addrs.specs.declared.reference.IfaRef.{IfaRef}
 use Rattle.if_addrs.specs.declared.reference.IfaRef.TheVariants as ifa
 
 -- an address of an interface of this kind. The far address is the broadcast address on a broadcast interface, the
--- address itself on loopback, and the other end's on a point-to-point interface. An address that was removed stays, for
--- the routes that use it
+-- address itself on loopback, and the other end's on a point-to-point interface. Its route is cloning or isn't, and was
+-- added or wasn't. An address that was removed stays, for the routes that use it
 pub record Address : Type 0 where
   pub number : ℕ
   pub kind : Kind
   pub address : ℕ
   pub prefix : ℕ
-  pub flags : ℕ
+  pub cloning : Bool
+  pub routed : Bool
   pub far : ℕ
   pub removed : Bool
 
@@ -69,13 +68,9 @@ abbrev pub interface_numbered : ℕ → List Interface → Option Interface
 interface_numbered zero interfaces = None
 interface_numbered (suc place) interfaces = slice_get interfaces place
 
--- how an interface's link-layer address stands in a message: its length, family, the interface's number and type, the
--- lengths of name, address and selector, the name and the address, and zeros to the length
+-- how an interface's link-layer address stands in a message
 abbrev pub link_text : ℕ → Interface → List ℕ
-link_text index i =
-    let size = max 20 (rounded (8 + length i.name + length i.link)) in
-    padded_to size ((size ∷ 18 ∷ []) ++ to_be_bytes w16 index
-    ++ (i.type_number ∷ length i.name ∷ length i.link ∷ 0 ∷ []) ++ i.name ++ i.link)
+link_text index i = interface_link index i.type_number i.name i.link
 
 -- the link text of the interface with this number
 abbrev pub link_text_of : ℕ → List Interface → Option (List ℕ)
@@ -117,13 +112,6 @@ addr_fault name address far interfaces = first_fault
 abbrev pub last_of_network : ℕ → ℕ → ℕ
 last_of_network prefix address = (front prefix address + 1) * 2 ^ (32 - prefix) - 1
 
--- the flag word's bits: its route is cloning; its route was added
-abbrev pub cloning_flag : ℕ
-cloning_flag = 0x100
-
-abbrev pub routed_flag : ℕ
-routed_flag = 1
-
 -- the far address
 abbrev pub far_of : Kind → ℕ → ℕ → Option ℕ → ℕ
 far_of Broadcast prefix address far = last_of_network prefix address
@@ -137,7 +125,8 @@ new_address number kind address prefix cloning far = record {
   kind = kind;
   address = address;
   prefix = prefix;
-  flags = if cloning then cloning_flag else 0;
+  cloning = cloning;
+  routed = false;
   far = far_of kind prefix address far;
   removed = false;
 }
@@ -208,7 +197,7 @@ changed (ifa.Link index) f interfaces = interfaces
 
 -- an address whose route was added
 abbrev pub routed : Address → Address
-routed a = record a { flags = bit_or a.flags routed_flag }
+routed a = record a { routed = true }
 
 -- an address that was removed
 abbrev pub gone : Address → Address

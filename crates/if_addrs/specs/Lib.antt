@@ -2,6 +2,7 @@ pub mod Facts
 pub mod InterfaceLaws
 pub mod Interfaces
 pub mod Keeping
+pub mod LinkAddress
 pub mod Numbered
 pub mod ReferenceLaws
 pub mod SearchLaws

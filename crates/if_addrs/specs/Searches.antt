@@ -1,7 +1,9 @@
 -- The searches for an interface address, by an IPv4 or a link-layer address. They go by interface and then by address.
-use Rattle.std.specs.Prelude.{ℕ, ◌+◌, ◌*◌, ◌==◌, nat_lt, nat_le, Bool, true, false, not, ◌&&◌, ◌||◌, List, [], ◌∷◌, length, filter, Option, Some, None, option_map, unwrap_or, slice_get, slice_index, bytes_eq, bit_and, if◌then◌else◌}
+use Rattle.std.specs.Prelude.{ℕ, ◌==◌, nat_lt, nat_le, Bool, true, false, not, ◌&&◌, ◌||◌, List, [], ◌∷◌, length, filter, Option, Some, None, option_map, unwrap_or, slice_get, bytes_eq, bit_and, if◌then◌else◌}
 use Rattle.std.specs.List.{find, range_with_len}
 use Rattle.std.specs.Option.{option_map_or, option_or}
+pub use Rattle.sock_addrs.specs.Link.{index_in}
+use Rattle.sock_addrs.specs.declared.flags.TheConstants.{RTF_GATEWAY, RTF_HOST}
 use Rattle.sock_addrs.specs.declared.gate.Gate.{Gate}
 use Rattle.sock_addrs.specs.declared.gate.Gate.TheVariants as gate
 use Rattle.mask_table.specs.Agreeing.{agrees}
@@ -68,10 +70,6 @@ abbrev pub longest : List Address → Option Address
 longest [] = None
 longest (a ∷ rest) = longer a (longest rest)
 
--- the number of an interface that stands in a link text
-abbrev pub index_in : List ℕ → ℕ
-index_in text = 256 * slice_index text 2 + slice_index text 3
-
 -- the address of the longest prefix among those whose network holds this one; the link-layer address of the interface
 -- whose number stands in the link text
 abbrev pub with_net : Gate → List Interface → Option IfaRef
@@ -101,16 +99,16 @@ of_interface (gate.Link text) index interfaces = Some (ifa.Link index)
 abbrev pub has_flag : ℕ → ℕ → Bool
 has_flag flag flags = not (bit_and flags flag == 0)
 
--- by the other end, where the route is of a host (HOST, 0x4)
+-- by the other end, where the route is of a host (HOST)
 abbrev pub with_host : ℕ → ℕ → List Interface → Option IfaRef
 with_host flags destination interfaces =
-    if has_flag 0x4 flags then with_far (gate.Inet destination) interfaces else None
+    if has_flag RTF_HOST flags then with_far (gate.Inet destination) interfaces else None
 
--- by what the route leads over: its gateway at an other end, where it has one (GATEWAY, 0x2); or the destination at an
+-- by what the route leads over: its gateway at an other end, where it has one (GATEWAY); or the destination at an
 -- other end, and the interface's address that stands for a gateway
 abbrev pub with_way : ℕ → ℕ → Gate → List Interface → Option IfaRef
 with_way flags destination gateway interfaces =
-    if has_flag 0x2 flags then with_far gateway interfaces
+    if has_flag RTF_GATEWAY flags then with_far gateway interfaces
     else option_or (with_host flags destination interfaces) (with_addr gateway interfaces)
 
 -- in place of a link-layer address the nearest address of its interface, where it has one

@@ -11,11 +11,6 @@ use mask_table::{Prefix, Rank, agrees};
 use sock_addrs::Inet;
 use std::marker::Model;
 
-/// The bit of the flag word for a cloning route.
-const CLONING: u32 = 0x100;
-/// The bit of the flag word for an address whose route was added.
-const ROUTED: u32 = 1;
-
 /// What a search asks of an address. But for the number, it asks also that the address was not removed.
 #[derive(Drop)]
 pub(crate) enum Wanted {
@@ -49,7 +44,8 @@ pub(crate) struct Address {
     kind: Kind,
     address: Inet,
     prefix: Prefix,
-    flags: u32,
+    cloning: bool,
+    routed: bool,
     far: Inet,
     removed: bool,
 }
@@ -64,7 +60,8 @@ impl Model for Address {
       kind = a.kind;
       address = a.address;
       prefix = a.prefix;
-      flags = a.flags;
+      cloning = a.cloning;
+      routed = a.routed;
       far = a.far;
       removed = a.removed;
     } };
@@ -74,7 +71,8 @@ impl Model for Address {
       kind = a.kind;
       address = a.address;
       prefix = a.prefix;
-      flags = a.flags;
+      cloning = a.cloning;
+      routed = a.routed;
       far = a.far;
       removed = a.removed;
     } };
@@ -98,7 +96,8 @@ impl Address {
             kind,
             address,
             prefix,
-            flags: if cloning { CLONING } else { 0 },
+            cloning,
+            routed: false,
             far: far_address(kind, address, prefix, far),
             removed: false,
         }
@@ -174,7 +173,8 @@ impl Address {
         Facts {
             kind: self.kind,
             prefix: self.prefix,
-            flags: self.flags,
+            cloning: self.cloning,
+            routed: self.routed,
             far: self.far,
         }
     }
@@ -184,7 +184,7 @@ impl Address {
         ensures { self.new ≡ marked mark self.old }
     {
         match mark {
-            Mark::Routed => self.flags |= ROUTED,
+            Mark::Routed => self.routed = true,
             Mark::Gone => self.removed = true,
         }
     }

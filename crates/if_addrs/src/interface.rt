@@ -1,13 +1,12 @@
-ghost use Rattle.std.specs.Prelude.{◌≡◌, ◌+◌, ◌≤◌, ◌++◌, length, filter, option_map, OnOk, OnErr};
+ghost use Rattle.std.specs.Prelude.{◌≡◌, filter, option_map, OnOk, OnErr};
 ghost use Rattle.std.specs.List.{find, list_any, position};
 ghost use Rattle.if_addrs.specs.Interfaces.{addresses_of, attached, has_name as is_named, named, holds, has_number, has_numbered as holds_number, with_one_more, with_changed, link_text};
 ghost use Rattle.if_addrs.specs.Searches.{standing, nearest as nearest_of, longest as longest_of};
 ghost use Rattle.if_addrs.specs.Wanted.{is_wanted, marked};
-ghost use Rattle.sock_addrs.specs.Padded.{padded_to};
 
 use crate::address::{self, Address, Mark, Wanted};
 use crate::kind::Kind;
-use arrayvec::ArrayVec;
+use crate::link_address::LinkAddress;
 use sock_addrs::{Inet, Link, Name};
 use std::alloc::{AllocError, Global};
 use std::marker::Model;
@@ -18,7 +17,7 @@ pub(crate) struct Interface {
     name: Name,
     kind: Kind,
     type_number: u8,
-    link: ArrayVec<u8, 8>,
+    link: LinkAddress,
     addresses: Vec<Address>,
 }
 
@@ -31,7 +30,7 @@ impl Model for Interface {
       name = i.name;
       kind = i.kind;
       type_number = i.type_number;
-      link = i.link.items;
+      link = i.link;
       addresses = i.addresses.items;
     } };
 }
@@ -43,18 +42,15 @@ impl Interface {
         name: Name,
         kind: Kind,
         type_number: u8,
-        link: &[u8],
+        link: LinkAddress,
     ) -> Interface
-        requires { length link.now ≤ 8 }
-        ensures { result ≡ attached name kind type_number link.now }
+        ensures { result ≡ attached name kind type_number link }
     {
-        let mut bytes = ArrayVec::new();
-        bytes.try_extend_from_slice(link).unwrap();
         Interface {
             name,
             kind,
             type_number,
-            link: bytes,
+            link,
             addresses: Vec::new(alloc),
         }
     }
@@ -102,10 +98,10 @@ impl Interface {
     }
 
     /// The first of its addresses whose network holds this one, or else its first.
-    pub(crate) fn nearest(&self, held: Inet) -> Option<Address>
-        ensures { result ≡ nearest_of held (standing self.now.addresses) }
+    pub(crate) fn nearest(&self, sought: Inet) -> Option<Address>
+        ensures { result ≡ nearest_of sought (standing self.now.addresses) }
     {
-        match self.first(&Wanted::Near(held)) {
+        match self.first(&Wanted::Near(sought)) {
             Some(address) => Some(address),
             None => self.first(&Wanted::Standing),
         }
@@ -135,38 +131,8 @@ impl Interface {
     pub(crate) fn link_text(&self, index: u16) -> Link
         ensures { result ≡ link_text index self.now }
     {
-        let name = self.name.as_bytes();
-        let used = 8 + name.len() + self.link.len();
-        let size = used.next_multiple_of(4).max(20);
-        let [high, low] = index.to_be_bytes();
-        let head = [
-            size as u8,
-            18,
-            high,
-            low,
-            self.type_number,
-            name.len() as u8,
-            self.link.len() as u8,
-            0,
-        ];
-        let text = joined(&head, name, &self.link, size);
-        Link::new(&text).unwrap()
+        Link::of_interface(index, self.type_number, self.name, self.link.as_slice())
     }
-}
-
-/// The texts one after another, with zeros behind them up to `size` bytes.
-fn joined(head: &[u8], name: &[u8], link: &[u8], size: usize) -> ArrayVec<u8, 32>
-    requires fit { length head.now + length name.now + length link.now ≤ size }
-    requires most { size ≤ 32 }
-    ensures { result.items ≡ padded_to size (head.now ++ name.now ++ link.now) }
-{
-    let mut text = ArrayVec::new();
-    text.try_extend_from_slice(head).unwrap();
-    text.try_extend_from_slice(name).unwrap();
-    text.try_extend_from_slice(link).unwrap();
-    let zeros = size - text.len();
-    text.try_extend_from_slice(&[0; 32][..zeros]).unwrap();
-    text
 }
 
 /// The place of the interface with this name.

@@ -71,7 +71,7 @@ impl Interfaces {
         ensures kept { OnErr result (self.new ≡ self.old) }
     {
         self.check_attach(name)?;
-        let interface = Interface::new(self.alloc, name, kind, type_number, link.as_slice());
+        let interface = Interface::new(self.alloc, name, kind, type_number, *link);
         self.interfaces.push(interface)?;
         Ok(())
     }
@@ -166,7 +166,7 @@ impl Interfaces {
         self.mark(ifa, Mark::Gone);
     }
 
-    /// Marks an IPv4 address of an interface as one whose route was added, which sets 0x1 in its flag word.
+    /// Marks an IPv4 address of an interface as one whose route was added.
     pub fn mark_routed(&mut self, ifa: IfaRef)
         requires { IsSome (address_of ifa self.old) }
         ensures marked { self.new ≡ marked_routed ifa self.old }

@@ -17,8 +17,10 @@ pub struct Facts {
     pub kind: Kind,
     /// The length of its network.
     pub prefix: Prefix,
-    /// Its flag word: 0x100 where its route is cloning, and 1 once its route was added.
-    pub flags: u32,
+    /// Whether its route is cloning.
+    pub cloning: bool,
+    /// Whether its route was added.
+    pub routed: bool,
     /// Its far address: the broadcast address on a broadcast interface, the address itself on loopback, and the other
     /// end's on a point-to-point interface.
     pub far: Inet,

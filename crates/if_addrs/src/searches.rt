@@ -3,7 +3,7 @@
 ghost use Rattle.std.specs.Prelude.{◌≡◌, ◌≤◌, length, filter, option_map, IfSome};
 ghost use Rattle.std.specs.List.{find, range_with_len};
 ghost use Rattle.if_addrs.specs.Interfaces.{addresses_of, reference, IsOf};
-ghost use Rattle.if_addrs.specs.Searches.{with_addr, with_far, with_net, of_interface, for_route, with_way, turned, has_link_text, index_in, longest};
+ghost use Rattle.if_addrs.specs.Searches.{with_addr, with_far, with_net, of_interface, for_route, with_way, turned, has_link_text, longest};
 ghost use Rattle.if_addrs.specs.Wanted.{is_wanted};
 ghost use Rattle.if_addrs.specs.declared.reference.IfaRef.TheVariants as ifa;
 
@@ -11,12 +11,8 @@ use crate::address::Wanted;
 use crate::interface::{first, longest};
 use crate::interfaces::Interfaces;
 use crate::reference::IfaRef;
+use sock_addrs::flags::{RTF_GATEWAY, RTF_HOST};
 use sock_addrs::{Gate, Inet, Link};
-
-/// The bit of a route's flags for one that leads over a gateway (RTF_GATEWAY of <net/route.h>).
-const GATEWAY: u16 = 0x2;
-/// The bit of a route's flags for one to a host (RTF_HOST of <net/route.h>).
-const HOST: u16 = 0x4;
 
 impl Interfaces {
     /// By an IPv4 address: the first address that is this one, or has it as its broadcast address. By a link-layer
@@ -84,7 +80,7 @@ impl Interfaces {
         match sought {
             Gate::Inet(address) => self.longest(&Wanted::Near(address)),
             Gate::Link(text) => {
-                let index = index_in(&text);
+                let index = text.index();
                 if 1 <= index && usize::from(index) <= self.interfaces.len() {
                     Some(IfaRef::Link(index))
                 } else {
@@ -139,10 +135,10 @@ impl Interfaces {
         ensures found { result ≡ with_way flags destination gateway self.now }
         ensures of { IfSome result (λ i. IsOf i self.now) }
     {
-        if flags & GATEWAY != 0 {
+        if flags & RTF_GATEWAY != 0 {
             return self.with_far(gateway);
         }
-        if flags & HOST != 0 {
+        if flags & RTF_HOST != 0 {
             let far = self.with_far(Gate::Inet(destination));
             if far.is_some() {
                 return far;
@@ -164,12 +160,4 @@ impl Interfaces {
                 .unwrap_or(ifa),
         }
     }
-}
-
-/// The number of an interface that stands in a link-layer address.
-fn index_in(text: &Link) -> u16
-    ensures { result ≡ index_in text.now }
-{
-    let bytes = text.as_bytes();
-    u16::from_be_bytes([bytes[2], bytes[3]])
 }

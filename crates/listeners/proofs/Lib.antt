@@ -1,3 +1,4 @@
+pub mod KeptProved
 pub mod QueueLemmas
 pub mod SocketLawsProved
 pub mod SocketLists

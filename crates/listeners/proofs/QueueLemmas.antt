@@ -1,10 +1,12 @@
 -- Messages that are joined and cut again are the same messages.
-use Rattle.std.proofs.Common.{◌≡◌, ℕ, ◌<◌, ◌≤◌, zero, suc, List, [], ◌∷◌, ◌++◌, length, take, drop, refl, sym, ap, ◌∙◌, arith, length-append, append-nil}
+use Rattle.std.proofs.Common.{◌≡◌, ℕ, ◌+◌, ◌<◌, ◌≤◌, zero, suc, Bool, true, false, List, [], ◌∷◌, ◌++◌, length, take, drop, refl, sym, ap, ◌∙◌, arith, length-append, append-nil}
 use Rattle.std.specs.List.{AllByRecursion}
 use Rattle.std.proofs.lemmas.Grind.{flat_map-append}
 use Rattle.std.proofs.lemmas.List.{get_or_append_left}
 use Rattle.std.proofs.Math.Seq.{take-append_seam, drop-append_seam}
-use Rattle.listeners.specs.Queue.{length_field, IsMessage, joined, cut_at_most, cut, AreMessages}
+use Rattle.listeners.specs.Queue.{fits, length_field, IsKept, IsMessage, joined, cut_at_most, cut, AreMessages}
+use Rattle.std.proofs.lemmas.Bool.{leb-true}
+use Rattle.listeners.specs.declared.limits.TheConstants.{MOST_QUEUED}
 
 -- what stands behind a message doesn't change the length that it says
 length_field-append : (m rest : List ℕ) → IsMessage m → length_field (m ++ rest) ≡ length m
@@ -48,6 +50,12 @@ whole-joined ms h = record {
 joined-push : (ms : List (List ℕ)) (m : List ℕ) → joined (ms ++ m ∷ []) ≡ joined ms ++ m
 joined-push ms m = flat_map-append (λ x. x) ms (m ∷ []) ∙ ap (λ x. joined ms ++ x) (append-nil m)
 
+-- one that fits makes not too many bytes of them
+pub bounded-push : (ms : List (List ℕ)) (m : List ℕ) → fits ms m ≡ true → length (joined (ms ++ m ∷ [])) ≤ MOST_QUEUED
+bounded-push ms m room =
+    let most : length (joined ms) + length m ≤ MOST_QUEUED = leb-true _ _ room in
+    rw (joined-push ms m) (omega (arith, most, length-append (joined ms) m))
+
 All-push : (ms : List (List ℕ)) (m : List ℕ) → AllByRecursion IsMessage ms → IsMessage m → AllByRecursion IsMessage (ms ++ m ∷ [])
 All-push [] m h one = (one, tt)
 All-push (x ∷ ms) m h one = (h.0, All-push ms m h.1 one)
@@ -61,6 +69,19 @@ cut-push bytes m h one = sym (ap (λ x. cut x) (pushed bytes m h)) ∙ cut-joine
 
 pub whole-push : (bytes m : List ℕ) → AreMessages bytes → IsMessage m → AreMessages (bytes ++ m)
 whole-push bytes m h one = rw (← pushed bytes m h) (whole-joined (cut bytes ++ m ∷ []) (All-push (cut bytes) m h.each one))
+
+-- a message for which there is room is kept behind those that wait
+pub kept-push : (bytes m : List ℕ) (capacity more : ℕ) (messages : List (List ℕ)) → IsKept bytes capacity
+    → cut bytes ≡ messages → IsMessage m → length (joined messages) + length m ≤ MOST_QUEUED → capacity ≤ more
+    → IsKept (bytes ++ m) more
+kept-push bytes m capacity more messages h same one room grows =
+    let long : length (joined messages) ≡ length bytes =
+    ap (λ (ms : List (List ℕ)). length (joined ms)) (sym same) ∙ ap (λ (xs : List ℕ). length xs) h.whole.all in
+    record {
+      whole = whole-push bytes m h.whole one;
+      few = omega (arith, long, length-append bytes m, room);
+      room = omega (arith, h.room, grows);
+    }
 
 -- whole messages of which there is a byte: the first of them, and the rest
 pub record BeginsWith (n : ℕ) (bytes : List ℕ) : Type 0 where

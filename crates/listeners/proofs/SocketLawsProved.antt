@@ -1,5 +1,5 @@
 -- The laws of sockets.
-use Rattle.std.proofs.Common.{◌≡◌, ℕ, Bool, true, false, cond, not, nat_eq, ◌&&◌, ◌||◌, List, [], ◌∷◌, ◌++◌, map, Option, Some, None, option_map, ◌⊎◌, inl, inr, bytes_eq, refl, sym, ap, ◌∙◌, arith, if◌then◌else◌}
+use Rattle.std.proofs.Common.{◌≡◌, ◌≤◌, ℕ, Bool, true, false, cond, not, nat_eq, ◌&&◌, ◌||◌, List, [], ◌∷◌, ◌++◌, map, Option, Some, None, option_map, ◌⊎◌, inl, inr, bytes_eq, refl, sym, ap, ◌∙◌, arith, if◌then◌else◌}
 use Rattle.std.specs.List.{find}
 use Rattle.std.specs.Option.{option_or}
 use Rattle.std.proofs.lemmas.Bool.Decides.{nat_tests}
@@ -7,8 +7,11 @@ use Rattle.std.proofs.lemmas.List.Folds.{find-append}
 use Rattle.std.proofs.lemmas.Slice.Eq.{bytes_eq-Decides}
 use Rattle.sock_addrs.proofs.FirstLemmas.{map-change_first}
 use Rattle.sock_addrs.specs.First.{change_first}
-use Rattle.listeners.specs.Sockets.{Socket, after_delivery, delivered, emptied, has_id, hears, looped, opened, socket_of, with_loopback, without}
-use Rattle.listeners.specs.SocketLaws.{ClosedIsGone, ClosingDisturbsNoOther, DeliveringOnlyAppends, DeliversWhateverLoopback, DeliversWithoutClosed, HearsInWords, LoopbackChangesItAlone, LoopbackDisturbsNoOther, LoopbackIsSet, LoopbackLeavesOthers, LoopbackOffSilencesOwn, ReadingChangesMessagesAlone, ReadingDisturbsNoOther, ReopenedIsEmpty}
+use Rattle.listeners.proofs.QueueLemmas.{bounded-push}
+use Rattle.listeners.specs.Queue.{fits, one_more}
+use Rattle.listeners.specs.declared.limits.TheConstants.{MOST_QUEUED}
+use Rattle.listeners.specs.Sockets.{AreBounded, Socket, after_delivery, after_hearing, delivered, emptied, has_id, hears, looped, opened, queued, socket_of, taken, with_loopback, without}
+use Rattle.listeners.specs.SocketLaws.{ClosedIsGone, ClosingDisturbsNoOther, ClosingKeepsBound, DeliveringChangesKeptAlone, DeliveringKeepsBound, DeliversWhateverLoopback, DeliversWithoutClosed, HearsInWords, LoopbackChangesItAlone, LoopbackDisturbsNoOther, LoopbackIsSet, LoopbackKeepsBound, LoopbackLeavesOthers, LoopbackOffSilencesOwn, LossIsSeenNowhereElse, ReadingChangesMessagesAlone, ReadingDisturbsNoOther, ReadingKeepsBound, ReadingKeepsCount, ReopenedIsEmpty, bare}
 
 apart_ids : (s id other : List ℕ) → bytes_eq id other ≡ false → bytes_eq s id ≡ true → bytes_eq s other ≡ false
 apart_ids s id other h e = ap (λ (x : List ℕ). bytes_eq x other) ((bytes_eq-Decides s id).0 e) ∙ h
@@ -44,6 +47,19 @@ reading_disturbs_no_other = λ id other ss h. others_stay emptied (λ s. refl) i
 
 pub reading_changes_messages_alone : ReadingChangesMessagesAlone
 reading_changes_messages_alone = λ id ss. map-change_first emptied (has_id id) emptied (λ s. refl) ss
+
+abbrev count : Option Socket → Option ℕ
+count o = option_map (λ s. s.lost) o
+
+pub reading_keeps_count : ReadingKeepsCount
+reading_keeps_count id other [] = refl
+reading_keeps_count id other (s ∷ ss) =
+    elim (has_id id s) as (λ b. count (socket_of other (if b then emptied s ∷ ss else s ∷ taken id ss)) ≡ count (cond (has_id other s) (Some s) (socket_of other ss))) [
+      | true ↦ (elim (has_id other s) as (λ b. count (cond b (Some (emptied s)) (socket_of other ss)) ≡ count (cond b (Some s) (socket_of other ss)))
+          [ true ↦ refl | false ↦ refl ])
+      | false ↦ (elim (has_id other s) as (λ b. count (cond b (Some s) (socket_of other (taken id ss))) ≡ count (cond b (Some s) (socket_of other ss)))
+          [ true ↦ refl | false ↦ reading_keeps_count id other ss ])
+    ]
 
 pub loopback_disturbs_no_other : LoopbackDisturbsNoOther
 loopback_disturbs_no_other = λ id other on ss h. others_stay (looped on) (λ s. refl) id other ss h
@@ -107,9 +123,23 @@ loopback_leaves_others family own s on h =
 
 -- DELIVERY
 
+-- what holds of the socket as it was, with one more message and with one more loss holds after a delivery
+delivery-cases : (P : Socket → Type 0) (message : List ℕ) (family : ℕ) (own : Option (List ℕ)) (s : Socket)
+    → P s
+    → (fits s.messages message ≡ true → P (record s { messages = s.messages ++ message ∷ [] }))
+    → P (record s { lost = one_more s.lost })
+    → P (after_delivery message family own s)
+delivery-cases P message family own s same more lost =
+    let appended : Socket = record s { messages = s.messages ++ message ∷ [] } in
+    let counted : Socket = record s { lost = one_more s.lost } in
+    elim (hears family own s) as (λ b. P (if b then after_hearing message s else s)) [
+      | true ↦ (elim (fits s.messages message) as (λ b. fits s.messages message ≡ b → P (if b then appended else counted))
+          [ true ↦ more | false ↦ λ _. lost ] refl)
+      | false ↦ same
+    ]
+
 id_stays : (message : List ℕ) (family : ℕ) (own : Option (List ℕ)) (id : List ℕ) (s : Socket) → has_id id (after_delivery message family own s) ≡ has_id id s
-id_stays message family own id s =
-    elim (hears family own s) as (λ b. has_id id (if b then record s { messages = s.messages ++ message ∷ [] } else s) ≡ has_id id s) [ true ↦ refl | false ↦ refl ]
+id_stays message family own id s = delivery-cases (λ x. has_id id x ≡ has_id id s) message family own s refl (λ _. refl) refl
 
 pub delivers_without_closed : DeliversWithoutClosed
 delivers_without_closed message family own id [] = refl
@@ -120,7 +150,8 @@ delivers_without_closed message family own id (s ∷ ss) =
       | false ↦ λ e. ap (λ (xs : List Socket). after s ∷ xs) (delivers_without_closed message family own id ss) ∙ sym (ap (λ (b : Bool). cond (not b) (after s ∷ without id (delivered message family own ss)) (without id (delivered message family own ss))) (id_stays message family own id s ∙ e))
     ] refl
 
-found_delivered : (message : List ℕ) (family : ℕ) (own : Option (List ℕ)) (id : List ℕ) (ss : List Socket) → socket_of id (delivered message family own ss) ≡ option_map (after_delivery message family own) (socket_of id ss)
+found_delivered : (message : List ℕ) (family : ℕ) (own : Option (List ℕ)) (id : List ℕ) (ss : List Socket)
+    → socket_of id (delivered message family own ss) ≡ option_map (after_delivery message family own) (socket_of id ss)
 found_delivered message family own id [] = refl
 found_delivered message family own id (s ∷ ss) =
     let after = after_delivery message family own in
@@ -134,19 +165,45 @@ delivers_whatever_loopback message family own id other on ss h =
     ∙ ap (λ (o : Option Socket). option_map (after_delivery message family own) o) (loopback_disturbs_no_other id other on ss h)
     ∙ sym (found_delivered message family own other ss)
 
-kept_at : (message : List ℕ) (s : Socket) (b : Bool) → emptied (if b then record s { messages = s.messages ++ message ∷ [] } else s) ≡ emptied s
-kept_at message s true = refl
-kept_at message s false = refl
+pub loss_is_seen_nowhere_else : LossIsSeenNowhereElse
+loss_is_seen_nowhere_else message family own id these those h =
+    found_delivered message family own id these
+    ∙ ap (λ (o : Option Socket). option_map (after_delivery message family own) o) h
+    ∙ sym (found_delivered message family own id those)
 
-kept : (message : List ℕ) (family : ℕ) (own : Option (List ℕ)) (ss : List Socket) → map emptied (delivered message family own ss) ≡ map emptied ss
-kept message family own [] = refl
-kept message family own (s ∷ ss) =
-    ap (λ (x : Socket). x ∷ map emptied (delivered message family own ss)) (kept_at message s (hears family own s))
-    ∙ ap (λ (xs : List Socket). emptied s ∷ xs) (kept message family own ss)
+pub bare_stays : (message : List ℕ) (family : ℕ) (own : Option (List ℕ)) (s : Socket) → bare (after_delivery message family own s) ≡ bare s
+bare_stays message family own s = delivery-cases (λ x. bare x ≡ bare s) message family own s refl (λ _. refl) refl
 
-appended_at : (message : List ℕ) (s : Socket) (b : Bool) → ((if b then record s { messages = s.messages ++ message ∷ [] } else s).messages ≡ s.messages) ⊎ ((if b then record s { messages = s.messages ++ message ∷ [] } else s).messages ≡ s.messages ++ message ∷ [])
-appended_at message s true = inr refl
-appended_at message s false = inl refl
+pub delivering_changes_kept_alone : DeliveringChangesKeptAlone
+delivering_changes_kept_alone message family own [] = refl
+delivering_changes_kept_alone message family own (s ∷ ss) =
+    ap (λ (x : Socket). x ∷ map bare (delivered message family own ss)) (bare_stays message family own s)
+    ∙ ap (λ (xs : List Socket). bare s ∷ xs) (delivering_changes_kept_alone message family own ss)
 
-pub delivering_only_appends : DeliveringOnlyAppends
-delivering_only_appends = λ message family own. (λ ss. kept message family own ss, λ s. appended_at message s (hears family own s))
+-- THE BOUND
+
+module _ (f : Socket → Socket) (step : (s : Socket) → queued s ≤ MOST_QUEUED → queued (f s) ≤ MOST_QUEUED) where
+  bounded-first : (id : List ℕ) (ss : List Socket) → AreBounded ss → AreBounded (change_first (has_id id) f ss)
+  bounded-first id [] h = tt
+  bounded-first id (s ∷ ss) h =
+      elim (has_id id s) as (λ b. AreBounded (if b then f s ∷ ss else s ∷ change_first (has_id id) f ss))
+      [ true ↦ (step s h.0, h.1) | false ↦ (h.0, bounded-first id ss h.1) ]
+
+pub closing_keeps_bound : ClosingKeepsBound
+closing_keeps_bound id [] h = tt
+closing_keeps_bound id (s ∷ ss) h =
+    elim (has_id id s) as (λ b. AreBounded (cond (not b) (s ∷ without id ss) (without id ss)))
+    [ true ↦ closing_keeps_bound id ss h.1 | false ↦ (h.0, closing_keeps_bound id ss h.1) ]
+
+pub loopback_keeps_bound : LoopbackKeepsBound
+loopback_keeps_bound id on ss h = bounded-first (looped on) (λ s few. few) id ss h
+
+pub reading_keeps_bound : ReadingKeepsBound
+reading_keeps_bound id ss h = bounded-first emptied (λ s few. omega arith) id ss h
+
+pub delivering_keeps_bound : DeliveringKeepsBound
+delivering_keeps_bound message family own [] h = tt
+delivering_keeps_bound message family own (s ∷ ss) h = (
+  delivery-cases (λ x. queued x ≤ MOST_QUEUED) message family own s h.0 (λ room. bounded-push s.messages message room) h.0,
+  delivering_keeps_bound message family own ss h.1,
+)

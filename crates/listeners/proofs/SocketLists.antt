@@ -9,7 +9,7 @@ use Rattle.std.proofs.lemmas.Bool.{cases_eq}
 use Rattle.std.proofs.lemmas.Grind.{get_or-set_at}
 use Rattle.std.proofs.lemmas.List.{map-set, length-map, get_or-set_other, get_or_default, get_or-map}
 use Rattle.std.proofs.lemmas.List.Edits.{map_over_more}
-use Rattle.listeners.specs.Open.{Open, seen, KeepRoomBut}
+use Rattle.listeners.specs.Open.{Open, seen}
 use Rattle.listeners.specs.Sockets.{Socket, closed_fault, has_id, socket_of, without}
 use Rattle.sock_addrs.proofs.FirstLemmas.{found, find-first, first-map, first-position, none-position, find-map, change_first-set}
 
@@ -24,45 +24,6 @@ changed-more f before now i s d there within so_far one =
     map-set seen now i s
     ∙ ap (λ (x : Socket). slice_set (map seen now) i x) one
     ∙ map_over_more f (map seen before) (map seen now) i (seen (slice_index_or now i d)) (omega (arith, there, length-map before seen)) so_far (sym (get_or-map seen now i d (seen (slice_index_or now i d)) within))
-
--- if the one that is written has as much room, each has
-pub room-more : (n : ℕ) (before now : List Open) (i : ℕ) (s : Open)
-    → KeepRoomBut n before now
-    → ((d : Open) → (slice_index_or before i d).queue.room ≤ s.queue.room + n)
-    → i < length now
-    → KeepRoomBut n before (slice_set now i s)
-room-more n before now i s kept one within k d h =
-    elim (cases_eq k i) as (λ _. (slice_index_or before k d).queue.room ≤ (slice_index_or (slice_set now i s) k d).queue.room + n) [
-      | inl at ↦ rw (get_or-set_at now i k s d at within, at) (one d)
-      | inr other ↦ rw (get_or-set_other now i k s d other) (kept k d h)
-    ]
-
--- one more of them has room for n bytes
-pub ready-more : (n : ℕ) (now : List Open) (i : ℕ) (s : Open)
-    → ((k : ℕ) → (d : Open) → k < i → n ≤ (slice_index_or now k d).queue.room)
-    → n ≤ s.queue.room
-    → i < length now
-    → (k : ℕ) → (d : Open) → k < i + 1 → n ≤ (slice_index_or (slice_set now i s) k d).queue.room
-ready-more n now i s ready one within k d h =
-    elim (cases_eq k i) as (λ _. n ≤ (slice_index_or (slice_set now i s) k d).queue.room) [
-      | inl at ↦ rw (get_or-set_at now i k s d at within) one
-      | inr other ↦ rw (get_or-set_other now i k s d other) (ready k d (omega (arith, h, other)))
-    ]
-
--- if the one that is written has as much room as it had, each has
-pub room-kept : (before now : List Open) (i : ℕ) (s d : Open)
-    → KeepRoomBut 0 before now
-    → (slice_index_or now i d).queue.room ≤ s.queue.room
-    → i < length before
-    → i < length now
-    → KeepRoomBut 0 before (slice_set now i s)
-room-kept before now i s d kept one there within =
-    room-more 0 before now i s kept
-    (λ e.
-    let so_far : (slice_index_or before i e).queue.room ≤ (slice_index_or now i e).queue.room + 0 = kept i e there in
-    let more : (slice_index_or now i e).queue.room ≤ s.queue.room = rw (get_or_default now i e d within) one in
-    omega (arith, so_far, more))
-    within
 
 -- the socket at the place of an id is the one with that id
 pub found_socket : (sockets : List Open) (id : List ℕ) (i : ℕ) (d : Open) → position (λ s. has_id id (seen s)) sockets ≡ Some i → socket_of id (map seen sockets) ≡ Some (seen (slice_index_or sockets i d))

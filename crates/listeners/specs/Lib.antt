@@ -1,3 +1,4 @@
+pub mod Kept
 pub mod Open
 pub mod Queue
 pub mod QueueLaws

@@ -1,6 +1,7 @@
 -- A socket's messages as bytes, one after another; each begins with its length, two bytes, the high one first.
-use Rattle.std.specs.Prelude.{◌≡◌, ℕ, ◌+◌, ◌*◌, ◌≤◌, zero, suc, List, [], ◌∷◌, length, take, drop, slice_index}
+use Rattle.std.specs.Prelude.{◌≡◌, ℕ, ◌+◌, ◌-◌, ◌*◌, ◌^◌, ◌≤◌, zero, suc, min, nat_le, Bool, true, false, List, [], ◌∷◌, length, take, drop, slice_index}
 use Rattle.std.specs.List.{AllByRecursion, flat_map}
+use Rattle.listeners.specs.declared.limits.TheConstants.{MOST_QUEUED}
 
 -- the length with which the bytes begin
 abbrev pub length_field : List ℕ → ℕ
@@ -31,7 +32,16 @@ pub record AreMessages (bytes : List ℕ) : Type 0 where
   pub each : AllByRecursion IsMessage (cut bytes)
   pub all : joined (cut bytes) ≡ bytes
 
--- the messages that wait for a socket, and for how many bytes more there is room
-pub record Waiting : Type 0 where
-  pub messages : List (List ℕ)
-  pub room : ℕ
+-- whether one more message fits whole behind these
+abbrev pub fits : List (List ℕ) → List ℕ → Bool
+fits messages message = nat_le (length (joined messages) + length message) MOST_QUEUED
+
+-- the count of losses after one more: it stays at the greatest number that it can be
+abbrev pub one_more : ℕ → ℕ
+one_more lost = min (lost + 1) (2 ^ 64 - 1)
+
+-- how the bytes of messages are kept: whole messages, not more than may wait, in memory for as many as may
+pub record IsKept (bytes : List ℕ) (capacity : ℕ) : Type 0 where
+  pub whole : AreMessages bytes
+  pub few : length bytes ≤ MOST_QUEUED
+  pub room : MOST_QUEUED ≤ capacity

@@ -6,7 +6,9 @@ pub mod laws;
 pub mod limits;
 mod listeners;
 mod queue;
+mod room;
 mod socket;
 
 pub use cutting::first_message;
 pub use listeners::Listeners;
+pub use room::Room;

@@ -1,64 +1,61 @@
-ghost use Rattle.std.specs.Prelude.{◌≡◌, ◌+◌, ◌≤◌, [], ◌∷◌, ◌++◌, length, IsOk, OnOk};
-ghost use Rattle.listeners.specs.Queue.{cut, IsMessage, AreMessages};
+ghost use Rattle.std.specs.Prelude.{◌≡◌, ◌+◌, ◌≤◌, [], ◌∷◌, ◌++◌, length, IfOk, nat_le};
+ghost use Rattle.listeners.specs.Queue.{cut, joined, IsMessage, AreMessages};
 
+use crate::limits::MOST_QUEUED;
+use crate::room::Room;
 use std::alloc::{AllocError, Global};
 use std::marker::Model;
 
-/// The messages that wait for a socket, one after another. A contract sees the messages, the oldest first, and for how
-/// many bytes more there is room.
+/// The messages that wait for a socket, one after another, in memory that it has from the start. A contract sees the
+/// messages, the oldest first.
 #[derive(Drop)]
 pub(crate) struct Queue {
     bytes: Vec<u8>,
 }
 
 impl Model for Queue {
-    ghost use Rattle.std.specs.Prelude.{◌-◌, vec_len, vec_capacity};
-    ghost use Rattle.listeners.specs.Queue.{Waiting, cut, AreMessages};
+    ghost use Rattle.std.specs.Prelude.{List, ℕ, vec_capacity};
+    ghost use Rattle.listeners.specs.Queue.{cut, IsKept};
 
-    ghost Value = { Waiting };
+    ghost Value = { List (List ℕ) };
 
-    ghost view = { λ q. record { messages = cut q.bytes.items; room = vec_capacity q.bytes - vec_len q.bytes } };
+    ghost view = { λ q. cut q.bytes.items };
 
-    ghost invariant = { λ q. AreMessages q.bytes.items };
+    ghost invariant = { λ q. IsKept q.bytes.items (vec_capacity q.bytes) };
 }
 
 impl Queue {
-    /// A queue without a message.
-    pub(crate) fn new(alloc: Global) -> Queue
-        ensures { result.messages ≡ [] }
+    /// A queue without a message, with all the memory that it will have.
+    pub(crate) fn new(alloc: Global) -> Result<Queue, AllocError>
+        ensures { IfOk result (λ queue. queue ≡ []) }
     {
-        Queue {
-            bytes: Vec::new(alloc),
-        }
+        Ok(Queue {
+            bytes: Vec::with_capacity(alloc, MOST_QUEUED)?,
+        })
     }
 
-    /// Makes room for so many bytes more.
-    pub(crate) fn reserve(&mut self, n: usize) -> Result<(), AllocError>
-        ensures ok { OnOk result (n ≤ self.new.room) }
-        ensures there { n ≤ self.old.room → IsOk result }
-        ensures messages { self.new.messages ≡ self.old.messages }
-        ensures room { self.old.room ≤ self.new.room }
+    /// Whether so many bytes more fit behind those that wait.
+    pub(crate) fn has_room(&self, n: usize) -> bool
+        ensures { result ≡ nat_le (length (joined self.now) + n) MOST_QUEUED }
     {
-        self.bytes.reserve(n)
+        n <= MOST_QUEUED - self.bytes.len()
     }
 
     /// Appends a message, for which there is room.
     pub(crate) fn push(&mut self, message: &[u8])
         requires message { IsMessage message.now }
-        requires room { length message.now ≤ self.old.room }
-        ensures messages { self.new.messages ≡ self.old.messages ++ message.now ∷ [] }
-        ensures room { self.old.room ≤ self.new.room + length message.now }
+        requires room { length (joined self.old) + length message.now ≤ MOST_QUEUED }
+        ensures { self.new ≡ self.old ++ message.now ∷ [] }
     {
         self.bytes.extend_from_slice(message).unwrap();
     }
 
-    /// Takes all messages out. The bytes are whole messages, one after another.
-    pub(crate) fn take(&mut self, alloc: Global) -> Vec<u8>
-        ensures whole { AreMessages result.items }
-        ensures messages { cut result.items ≡ self.old.messages }
-        ensures empty { self.new.messages ≡ [] }
+    /// Takes all messages into the room, from where their bytes are lent: whole messages, one after another.
+    pub(crate) fn take<'a>(&mut self, room: &'a mut Room) -> &'a [u8]
+        ensures whole { AreMessages result.now }
+        ensures messages { cut result.now ≡ self.old }
+        ensures empty { self.new ≡ [] }
     {
-        let empty = Vec::new(alloc);
-        std::mem::replace(&mut self.bytes, empty)
+        room.exchange(&mut self.bytes)
     }
 }

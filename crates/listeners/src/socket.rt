@@ -1,12 +1,12 @@
-ghost use Rattle.std.specs.Prelude.{◌≡◌, ◌+◌, ◌≤◌, [], length, map, IsOk, OnOk};
+ghost use Rattle.std.specs.Prelude.{◌≡◌, [], map};
 ghost use Rattle.std.specs.List.{list_any, position};
-ghost use Rattle.listeners.specs.Open.{seen, HaveRoom, KeepRoomBut};
+ghost use Rattle.listeners.specs.Open.{seen};
 ghost use Rattle.listeners.specs.Queue.{cut, IsMessage, AreMessages};
 ghost use Rattle.listeners.specs.Sockets.{opened, emptied, has_id, hears, after_delivery, delivered as delivered_to};
 
 use crate::queue::Queue;
+use crate::room::Room;
 use sock_addrs::Name;
-use std::alloc::{AllocError, Global};
 
 /// A message to be delivered.
 #[derive(Drop)]
@@ -28,12 +28,14 @@ pub(crate) struct Socket {
     /// Whether it hears the replies to its own writes.
     loopback: bool,
     pub(crate) queue: Queue,
+    /// How many messages that it heard found no room in the queue.
+    pub(crate) lost: u64,
 }
 
 impl Socket {
     /// A socket as it is opened, with loopback on.
     pub(crate) fn open(id: Name, pid: u32, protocol: u8, queue: Queue) -> Socket
-        requires { queue.messages ≡ [] }
+        requires { queue ≡ [] }
         ensures { seen result ≡ opened id pid protocol }
     {
         Socket {
@@ -42,6 +44,7 @@ impl Socket {
             protocol,
             loopback: true,
             queue,
+            lost: 0,
         }
     }
 
@@ -70,36 +73,30 @@ impl Socket {
         self.loopback = on;
     }
 
-    /// Keeps the message if it hears it.
+    /// Keeps the message if it hears it and the queue has room for the whole of it; if it hears it and there is no
+    /// room, the message is lost.
     fn hear(&mut self, message: &Message)
-        requires message { IsMessage message.now.bytes.now }
-        requires room { length message.now.bytes.now ≤ self.old.queue.room }
-        ensures after { seen self.new
+        requires { IsMessage message.now.bytes.now }
+        ensures { seen self.new
             ≡ after_delivery message.now.bytes.now message.now.family message.now.own (seen self.old) }
-        ensures room { self.old.queue.room ≤ self.new.queue.room + length message.now.bytes.now }
     {
-        if self.hears(message) {
+        if !self.hears(message) {
+            return;
+        }
+        if self.queue.has_room(message.bytes.len()) {
             self.queue.push(message.bytes);
+        } else {
+            self.lost = self.lost.saturating_add(1);
         }
     }
 
-    /// Makes room for so many bytes more in its queue.
-    fn reserve(&mut self, n: usize) -> Result<(), AllocError>
-        ensures ok { OnOk result (n ≤ self.new.queue.room) }
-        ensures there { n ≤ self.old.queue.room → IsOk result }
-        ensures seen { seen self.new ≡ seen self.old }
-        ensures room { self.old.queue.room ≤ self.new.queue.room }
-    {
-        self.queue.reserve(n)
-    }
-
-    /// Takes its messages out. The bytes are whole messages, one after another.
-    pub(crate) fn take(&mut self, alloc: Global) -> Vec<u8>
-        ensures whole { AreMessages result.items }
-        ensures messages { cut result.items ≡ self.old.queue.messages }
+    /// Takes its messages into the room, from where their bytes are lent: whole messages, one after another.
+    pub(crate) fn take<'a>(&mut self, room: &'a mut Room) -> &'a [u8]
+        ensures whole { AreMessages result.now }
+        ensures messages { cut result.now ≡ self.old.queue }
         ensures empty { seen self.new ≡ emptied (seen self.old) }
     {
-        self.queue.take(alloc)
+        self.queue.take(room)
     }
 }
 
@@ -119,26 +116,11 @@ pub(crate) fn is_open(sockets: &[Socket], id: Name) -> bool
 
 /// Delivers a message to all sockets that hear it.
 pub(crate) fn deliver(sockets: &mut [Socket], message: &Message)
-    requires message { IsMessage message.now.bytes.now }
-    requires room { HaveRoom (length message.now.bytes.now) sockets.old }
-    ensures delivered { map seen sockets.new
+    requires { IsMessage message.now.bytes.now }
+    ensures { map seen sockets.new
         ≡ delivered_to message.now.bytes.now message.now.family message.now.own (map seen sockets.old) }
-    ensures room { KeepRoomBut (length message.now.bytes.now) sockets.old sockets.new }
 {
     for socket in sockets {
         socket.hear(message);
     }
-}
-
-/// Makes room for so many bytes more in the queue of each.
-pub(crate) fn reserve(sockets: &mut [Socket], n: usize) -> Result<(), AllocError>
-    ensures ok { OnOk result (HaveRoom n sockets.new) }
-    ensures there { HaveRoom n sockets.old → IsOk result }
-    ensures seen { map seen sockets.new ≡ map seen sockets.old }
-    ensures room { KeepRoomBut 0 sockets.old sockets.new }
-{
-    for socket in sockets {
-        socket.reserve(n)?;
-    }
-    Ok(())
 }

@@ -11,7 +11,7 @@ use Rattle.if_addrs.specs.Facts.{facts_of}
 use Rattle.if_addrs.specs.Interfaces.{Address, Interface, added, addr_fault, address_of, attach_fault, find_addr, kind_of, marked_routed, new_address, reference, with_address}
 use Rattle.if_addrs.specs.declared.reference.Facts.{Facts}
 use Rattle.if_addrs.specs.declared.reference.IfaRef.{IfaRef}
-use Rattle.listeners.specs.Sockets.{closed_fault, listen_fault, messages_of, pid_of}
+use Rattle.listeners.specs.Sockets.{closed_fault, listen_fault, lost_of, messages_of, pid_of}
 use Rattle.radix_tree.specs.Table.{entry_at, with_entry}
 use Rattle.radix_tree.specs.declared.entry.Entry.{Entry}
 use Rattle.route_entries.specs.declared.route.Route.{Route}
@@ -21,22 +21,24 @@ use Rattle.route_ops.specs.Bringing.{Brings}
 use Rattle.route_ops.specs.Changing.{change, lock}
 use Rattle.route_ops.specs.Deleting.{doomed, got}
 use Rattle.route_ops.specs.Looks.{Look, counted_entry, look}
+use Rattle.route_ops.specs.Losses.{losing}
 use Rattle.route_ops.specs.Redirecting.{redirect}
+use Rattle.route_ops.specs.Upshot.{Upshot}
 use Rattle.route_ops.specs.Standing.{brought}
 use Rattle.route_ops.specs.declared.notice.Notice.{Notice}
 use Rattle.route_ops.proofs.AnswerThere.{answer_is_there}
 use Rattle.route_ops.proofs.Bringing.{none_less, none_more, none_own, one_more}
-use Rattle.route_ops.proofs.Few.{adding_brings_two, changing_brings_one, deep_look_brings_two, locking_brings_none, redirect_brings_two}
+use Rattle.route_ops.proofs.Few.{adding_brings_two, changing_brings_one, deep_look_brings_two, locking_brings_none, losing_brings_none, redirect_brings_two}
 use Rattle.route_core.specs.Commands.{Command}
 use Rattle.route_core.specs.Few.{EffectsAreFew, IsFew, StepsBringFew}
 use Rattle.route_core.specs.Messages.{notice_told}
 use Rattle.route_core.specs.Requests.{Outcome, adding_outcome, delete_outcome, done_reply, get_outcome, lock_outcome, outcome_of}
-use Rattle.route_core.specs.Step.{Effect, Stepped, Steps, announced, bring_route, done, effect, packet_by, read_effect, refused, refused_write, remove_address_effect, remove_found, take_route, unless_refused, write_by_outcome, write_by_request, write_effect}
+use Rattle.route_core.specs.Step.{Effect, Stepped, Steps, announced, bring_route, done, effect, lost_effect, on_table, packet_by, read_effect, refused, refused_write, remove_address_effect, remove_found, take_route, unless_refused, upshot_effect, write_by_outcome, write_by_request, write_effect}
 use Rattle.route_core.specs.Telling.{told}
 use Rattle.route_core.specs.World.{World}
 use Rattle.route_core.specs.declared.answer.Answer.{Answer}
 use Rattle.route_core.specs.Writes.{refused_reply, request_of}
-use Rattle.route_core.specs.declared.command.Command.TheVariants.{Attach, AddAddress, RemoveAddress, Open, Close, Loopback, Write, Read, Packet, Redirect, DumpSize, Dump}
+use Rattle.route_core.specs.declared.command.Command.TheVariants.{Attach, AddAddress, RemoveAddress, Open, Close, Loopback, Write, Read, Lost, Packet, Redirect, Losing, DumpSize, Dump}
 use Rattle.route_core.specs.declared.refusal.Refusal.{Refusal}
 use Rattle.route_core.specs.declared.request.Request.{Request}
 use Rattle.route_core.specs.declared.request.Request.TheVariants.{Add, Change, Delete, Get, Lock}
@@ -173,14 +175,37 @@ few_read : (w : World) (id : List ℕ) (messages : Option (List (List ℕ))) →
 few_read w id None = few_told w (read_effect w id None) refl (omega arith)
 few_read w id (Some messages) = few_told w (read_effect w id (Some messages)) refl (omega arith)
 
+-- `lost`
+few_lost : (w : World) (count : Option ℕ) → IsFew w (lost_effect w count)
+few_lost w None = few_told w (lost_effect w None) refl (omega arith)
+few_lost w (Some count) = few_told w (lost_effect w (Some count)) refl (omega arith)
+
+-- ---- commands on the table
+
+few_on_table : (w : World) (table : List (Entry Route)) (notices : List Notice) (answer : Answer)
+    → Brings 2 2 w.table table notices → IsFew w (on_table w table notices answer)
+few_on_table w table notices answer few =
+    record { routes = few.few_routes; messages = omega (arith, as_many notices, few.few_messages) }
+
 -- `packet`: counting its route brings none, since that is there
 few_packet : (w : World) (it : Look) (answer : Option (Entry Route)) → Brings 2 2 w.table it.table it.messages
     → IfSome answer (λ r. is_some (entry_at r.key r.rank it.table) ≡ true) → IsFew w (packet_by w it answer)
-few_packet w it None few there =
-    record { routes = few.few_routes; messages = omega (arith, as_many it.messages, few.few_messages) }
-few_packet w it (Some r) few there = record {
-  routes = omega (arith, none_more w.table it.table (counted_entry r) there, few.few_routes);
-  messages = omega (arith, as_many it.messages, few.few_messages);
+few_packet w it None few there = few_on_table w it.table it.messages _ few
+few_packet w it (Some r) few there =
+    few_on_table w (with_entry (counted_entry r) it.table) it.messages _ (record {
+      few_routes = omega (arith, none_more w.table it.table (counted_entry r) there, few.few_routes);
+      few_messages = few.few_messages;
+    })
+
+-- `redirect`, `losing`
+few_upshot : (w : World) (it : Upshot) → Brings 2 2 w.table it.table it.messages → IsFew w (upshot_effect w it)
+few_upshot w it few = few_on_table w it.table it.messages _ few
+
+two_at_most : (routes : ℕ) (old new : List (Entry Route)) (ns : List Notice) → routes ≤ 2
+    → Brings routes 1 old new ns → Brings 2 2 old new ns
+two_at_most routes old new ns few brings = record {
+  few_routes = omega (arith, few, brings.few_routes);
+  few_messages = omega (arith, brings.few_messages);
 }
 
 pub effects_are_few : EffectsAreFew
@@ -200,14 +225,16 @@ effects_are_few w (Close id) = few_unless w (closed_fault id w.sockets) _ (few_t
 effects_are_few w (Loopback id on) = few_unless w (closed_fault id w.sockets) _ (few_told w _ refl (omega arith))
 effects_are_few w (Write id m) = few_write w id m (pid_of id w.sockets)
 effects_are_few w (Read id) = few_read w id (messages_of id w.sockets)
+effects_are_few w (Lost id) = few_lost w (lost_of id w.sockets)
 effects_are_few w (Packet destination) =
     let about = gate.Inet destination in
     let it = look true about w.table in
     few_packet w it it.answer (deep_look_brings_two about w.table) (answer_is_there true about w.table)
 effects_are_few w (Redirect asked) =
-    let it = redirect asked w.interfaces w.table in
-    let few = redirect_brings_two asked w.interfaces w.table in
-    record { routes = few.few_routes; messages = omega (arith, as_many it.messages, few.few_messages) }
+    few_upshot w (redirect asked w.interfaces w.table) (redirect_brings_two asked w.interfaces w.table)
+effects_are_few w (Losing destination) =
+    let it = losing destination w.table in
+    few_upshot w it (two_at_most 0 w.table it.table it.messages (omega arith) (losing_brings_none destination w.table))
 effects_are_few w (DumpSize flags) = few_told w _ refl (omega arith)
 effects_are_few w (Dump flags room) = few_told w _ refl (omega arith)
 

@@ -3,6 +3,7 @@ pub mod Dumping
 pub mod Effecting
 pub mod FewBrought
 pub mod InterfacesFound
+pub mod QueuesKept
 pub mod RefusalsSpare
 pub mod SockaddrsFound
 pub mod SocketsSeen

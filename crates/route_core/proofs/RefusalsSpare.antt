@@ -1,6 +1,6 @@
 -- What a step that is refused leaves as it was, command by command.
 use Rattle.std.proofs.Common.{◌≡◌, ◌≢◌, ℕ, ◌+◌, ◌==◌, Bool, true, false, not, nat_le, List, [], ◌∷◌, length, map, inl, inr, refl, sym, ap, subst, arith}
-use Rattle.std.specs.Prelude.{Option, Some, None, Result, Ok, Err, ⊤, IfSome, if◌then◌else◌, is_none, is_some, ok_or, option_map}
+use Rattle.std.specs.Prelude.{Option, Some, None, Result, Ok, Err, ⊤, IfErr, IfSome, if◌then◌else◌, is_none, is_some, ok_or, option_map}
 use Rattle.std.specs.List.{find, list_any}
 use Rattle.std.proofs.lemmas.Bool.Decides.{nat_tests}
 use Rattle.sock_addrs.specs.Rules.{Rule, rule, first_fault, unless_fault}
@@ -14,36 +14,41 @@ use Rattle.if_addrs.specs.Facts.{facts_of}
 use Rattle.if_addrs.specs.Interfaces.{Address, Interface, added, addr_fault, address_of, attach_fault, find_addr, fits, found_on, has_name, holds, is_at, kind_of, named, new_address, reference, with_address}
 use Rattle.if_addrs.specs.declared.limits.TheConstants.{MOST_ADDRESSES, MOST_INTERFACES}
 use Rattle.if_addrs.specs.declared.reference.IfaRef.{IfaRef}
-use Rattle.listeners.specs.Sockets.{Socket, closed_fault, has_id, listen_fault, messages_of, pid_of, socket_of}
+use Rattle.listeners.specs.Sockets.{Socket, closed_fault, has_id, listen_fault, lost_of, messages_of, pid_of, socket_of}
 use Rattle.listeners.specs.declared.limits.TheConstants.{MOST_SOCKETS}
+use Rattle.mask_table.specs.Ranks.{rank_of}
 use Rattle.radix_tree.specs.Table.{best_of, entry_at}
 use Rattle.radix_tree.specs.declared.entry.Entry.{Entry}
 use Rattle.route_entries.specs.Routes.{has_flag}
 use Rattle.route_entries.specs.declared.route.Route.{Route}
-use Rattle.route_ops.specs.Adding.{Adding, add, add_by, add_entry, ifa_for, new_entry}
+use Rattle.route_ops.specs.Adding.{Adding, add, added as added_to, ifa_for, new_entry}
 use Rattle.route_ops.specs.Addressing.{address_entry, withdrawn}
-use Rattle.route_ops.specs.Changing.{change, change_by, lock, lock_by, target, target_by}
+use Rattle.route_ops.specs.Changing.{change, changed_entry, lock, locked, rewritten, target}
 use Rattle.route_ops.specs.Deleting.{doomed, got}
-use Rattle.route_ops.specs.Looks.{Look, look}
+use Rattle.route_ops.specs.Looks.{Look, look, unless_there}
 use Rattle.route_ops.specs.RedirectLaws.{IsReason}
+use Rattle.route_ops.specs.Losses.{losing}
 use Rattle.route_ops.specs.Redirecting.{redirect}
+use Rattle.route_ops.specs.Upshot.{Upshot}
 use Rattle.route_ops.specs.declared.notice.Notice.{Notice}
 use Rattle.route_ops.specs.declared.adding.NewRoute.{NewRoute}
 use Rattle.route_ops.specs.declared.changing.Change.{Change as Changing}
 use Rattle.route_ops.specs.declared.redirecting.NewGateway.{NewGateway}
+use Rattle.route_ops.proofs.LossRefused.{refused_losing_keeps}
 use Rattle.route_ops.proofs.RedirectRefused.{refused_redirect_keeps}
+use Rattle.route_ops.proofs.RefusingLemmas.{err_of_none, err_then}
 use Rattle.route_core.specs.Commands.{Command}
 use Rattle.route_core.specs.Messages.{notice_told}
 use Rattle.route_core.specs.Packets.{choice_of, fate_of, rejection_of}
 use Rattle.route_core.specs.RefusalLaws.{IsRefusedFamily, NoMemoryKeepsAll, RefusalKeepsInterfaces, RefusalKeepsRoutes, RefusalKeepsSockets, RefusalTells, interfaces_left, is_packet}
 use Rattle.route_core.specs.Requests.{Outcome, adding_outcome, delete_outcome, done_reply, get_outcome, lock_outcome, outcome_of}
-use Rattle.route_core.specs.Step.{Effect, Stepped, bring_route, done, done_or_refused, done_write, effect, packet_by, read_effect, redirect_by, refusal_tells, refused, refused_write, remove_address_effect, remove_found, stepped, take_route, unless_refused, world_after, write_by_outcome, write_by_request, write_effect}
+use Rattle.route_core.specs.Step.{Effect, Stepped, bring_route, done, done_write, effect, lost_effect, packet_by, read_effect, refusal_tells, refused, refused_write, remove_address_effect, remove_found, stepped, take_route, unless_errno, unless_refused, upshot_effect, world_after, write_by_outcome, write_by_request, write_effect}
 use Rattle.route_core.specs.Telling.{delivered_all}
 use Rattle.route_core.specs.World.{World}
 use Rattle.route_core.specs.Writes.{destination_bytes, message_rules, request_in, request_rules}
 use Rattle.route_core.specs.declared.answer.Answer.{Answer}
 use Rattle.route_core.specs.declared.answer.Answer.TheVariants.{Dropped, Refused, Routed}
-use Rattle.route_core.specs.declared.command.Command.TheVariants.{Attach, AddAddress, RemoveAddress, Open, Close, Loopback, Write, Read, Packet, Redirect, DumpSize, Dump}
+use Rattle.route_core.specs.declared.command.Command.TheVariants.{Attach, AddAddress, RemoveAddress, Open, Close, Loopback, Write, Read, Lost, Packet, Redirect, Losing, DumpSize, Dump}
 use Rattle.route_core.specs.declared.refusal.Refusal.{Refusal}
 use Rattle.route_core.specs.declared.request.Request.{Request}
 use Rattle.route_core.specs.declared.request.Request.TheVariants.{Add, Change, Delete, Get, Lock}
@@ -64,7 +69,7 @@ first_fault-all P [] h = tt
 first_fault-all P (r ∷ rs) h = either (λ o. IfSome o P) r.holds (Some r.fault) (first_fault rs) h.0
     (first_fault-all P rs h.1)
 
-abbrev IsFound : Errno → Type 0
+abbrev pub IsFound : Errno → Type 0
 IsFound e = e ≢ ENOBUFS
 
 two-all : (P : Errno → Type 0) (a b : Bool) (x y : Errno) → P x → P y
@@ -98,52 +103,50 @@ addr_fault-all P name address far interfaces p q r s = first_fault-all P
 -- ---- nor is it why a call is refused
 
 -- what is refused is so for another cause than memory
-abbrev FoundErr : {T : Type 0} → Result T Errno → Type 0
-FoundErr (Ok x) = ⊤
-FoundErr (Err errno) = IsFound errno
+abbrev pub FoundErr : {T : Type 0} → Result T Errno → Type 0
+FoundErr r = IfErr r IsFound
 
 ok_or-found : {T : Type 0} (o : Option T) (errno : Errno) → IsFound errno → FoundErr (ok_or o errno)
-ok_or-found None errno found = found
-ok_or-found (Some x) errno found = tt
+ok_or-found o errno found = err_of_none IsFound o errno found
 
 on-found : (address : ℕ) (i : Option Interface) → FoundErr (found_on address i)
 on-found address None = λ h. absurd (cc)
 on-found address (Some i) =
     ok_or-found (option_map reference (find (is_at address) i.addresses)) EADDRNOTAVAIL (λ h. absurd (cc))
 
-pair-found : (r : Entry Route) (table : List (Entry Route)) (there : Bool)
-    → FoundErr (add_entry r table (if there then Some EEXIST else None))
-pair-found r table true = λ h. absurd (cc)
-pair-found r table false = tt
-
-add_by-found : (a : NewRoute) (table : List (Entry Route)) (ifa : Option IfaRef) → FoundErr (add_by a table ifa)
-add_by-found a table None = λ h. absurd (cc)
-add_by-found a table (Some ifa) =
-    let r = new_entry a ifa in pair-found r table (is_some (entry_at r.key r.rank table))
+there-found : (r : Entry Route) (table : List (Entry Route)) → FoundErr (unless_there r table)
+there-found r table =
+    either (λ o. FoundErr o) (is_some (entry_at r.key r.rank table)) (Err EEXIST) (Ok r) (λ h. absurd (cc)) tt
 
 add-found : (a : NewRoute) (interfaces : List Interface) (table : List (Entry Route))
     → FoundErr (add a interfaces table)
-add-found a interfaces table = add_by-found a table (ifa_for a interfaces table)
-
-target_by-found : (destination : ℕ) (best there : Option (Entry Route)) → FoundErr (target_by destination best there)
-target_by-found destination None there = λ h. absurd (cc)
-target_by-found destination (Some best) there =
-    either (λ r. FoundErr r) (best.key == destination) (ok_or there ETOOMANYREFS) (Err ESRCH)
-    (ok_or-found there ETOOMANYREFS (λ h. absurd (cc))) (λ h. absurd (cc))
+add-found a interfaces table =
+    err_then IsFound (ok_or (ifa_for a interfaces table) ENETUNREACH) _
+    (ok_or-found (ifa_for a interfaces table) ENETUNREACH (λ h. absurd (cc)))
+    (λ ifa. err_then IsFound (unless_there (new_entry a ifa) table) (λ r. Ok (added_to r table))
+    (there-found (new_entry a ifa) table) (λ r. tt))
 
 target-found : (destination : ℕ) (netmask : Option ℕ) (table : List (Entry Route))
     → FoundErr (target destination netmask table)
-target-found destination netmask table = target_by-found destination (best_of destination table) _
+target-found destination netmask table =
+    let there = ok_or (entry_at destination (rank_of netmask) table) ETOOMANYREFS in
+    err_then IsFound (ok_or (best_of destination table) ESRCH) _
+    (ok_or-found (best_of destination table) ESRCH (λ h. absurd (cc)))
+    (λ best. either (λ r. FoundErr r) (best.key == destination) there (Err ESRCH)
+    (ok_or-found (entry_at destination (rank_of netmask) table) ETOOMANYREFS (λ h. absurd (cc))) (λ h. absurd (cc)))
 
-change_by-found : (a : Changing) (interfaces : List Interface) (table : List (Entry Route))
-    (t : Result (Entry Route) Errno)
-    → FoundErr t → FoundErr (change_by a interfaces table t)
-change_by-found a interfaces table (Ok r) found = tt
-change_by-found a interfaces table (Err errno) found = found
+change-found : (a : Changing) (interfaces : List Interface) (table : List (Entry Route))
+    → FoundErr (change a interfaces table)
+change-found a interfaces table =
+    err_then IsFound (target a.destination a.netmask table)
+    (λ r. Ok (rewritten a.gateway (changed_entry a interfaces table r) table))
+    (target-found a.destination a.netmask table) (λ r. tt)
 
-lock_by-found : (inits locks : ℕ) (t : Result (Entry Route) Errno) → FoundErr t → FoundErr (lock_by inits locks t)
-lock_by-found inits locks (Ok r) found = tt
-lock_by-found inits locks (Err errno) found = found
+lock-refusal-found : (destination : ℕ) (netmask : Option ℕ) (inits locks : ℕ) (table : List (Entry Route))
+    → FoundErr (lock destination netmask inits locks table)
+lock-refusal-found destination netmask inits locks table =
+    err_then IsFound (target destination netmask table) (λ r. Ok (locked inits locks r))
+    (target-found destination netmask table) (λ r. tt)
 
 -- ---- requests
 
@@ -167,19 +170,17 @@ get-found : (interfaces : List Interface) (table : List (Entry Route)) (pid : �
 get-found interfaces table pid m shows (Ok r) found = tt
 get-found interfaces table pid m shows (Err errno) found = found
 
-outcome-found : (interfaces : List Interface) (table : List (Entry Route)) (pid : ℕ) (m : List ℕ) (request : Request)
+pub outcome-found : (interfaces : List Interface) (table : List (Entry Route)) (pid : ℕ) (m : List ℕ) (request : Request)
     → FoundErr (outcome_of interfaces table pid m request)
 outcome-found interfaces table pid m (Add a) = adding-found (done_reply pid m) (add a interfaces table)
     (add-found a interfaces table)
 outcome-found interfaces table pid m (Delete key netmask flags) = delete-found table (done_reply pid m)
     (doomed key netmask flags table)
 outcome-found interfaces table pid m (Change a) =
-    let t = target a.destination a.netmask table in
-    adding-found (done_reply pid m) (change a interfaces table)
-    (change_by-found a interfaces table t (target-found a.destination a.netmask table))
+    adding-found (done_reply pid m) (change a interfaces table) (change-found a interfaces table)
 outcome-found interfaces table pid m (Lock destination netmask inits locks) =
     lock-found table (done_reply pid m) (lock destination netmask inits locks table)
-    (lock_by-found inits locks (target destination netmask table) (target-found destination netmask table))
+    (lock-refusal-found destination netmask inits locks table)
 outcome-found interfaces table pid m (Get destination shows) =
     get-found interfaces table pid m shows (got destination table)
     (ok_or-found (best_of destination table) ESRCH (λ h. absurd (cc)))
@@ -277,10 +278,9 @@ spares-answered : (c : Command) (old : World) (e : Effect) (x : Errno) → e.ans
 spares-answered c old e x is spared =
     record { on = λ errno h. let same : x ≡ errno = cc in subst (IsSparing c old e) same spared }
 
--- a command that is none of `addr`, `write`, `packet` and `redirect` leaves all as it was
+-- a command that leaves all as it was
 record LeavesAll (c : Command) (old : World) (errno : Errno) : Type 0 where
   interfaces_left_so : old.interfaces ≡ interfaces_left c errno old.interfaces
-  tells_none : RefusalTells old c errno []
   errno_found : IsFound errno
 
 spares-refused : (c : Command) (old : World) (x : Errno) → LeavesAll c old x → Spares c old (refused old x)
@@ -288,7 +288,7 @@ spares-refused c old x leaves = spares-answered c old (refused old x) x refl (re
   routes_kept = λ other. refl;
   interfaces_kept = leaves.interfaces_left_so;
   sockets_kept = refl;
-  tells = leaves.tells_none;
+  tells = inl refl;
   found = leaves.errno_found;
 })
 
@@ -325,7 +325,7 @@ spares-brought name address prefix cloning far old r =
       routes_kept = λ other. refl;
       interfaces_kept = refl;
       sockets_kept = refl;
-      tells = refl;
+      tells = inl refl;
       found = λ h. absurd (cc);
     }))
     (spares-other c old _ (λ errno h. absurd (cc)))
@@ -336,10 +336,10 @@ spares-address : (name : List ℕ) (address prefix : ℕ) (cloning : Bool) (far 
 spares-address name address prefix cloning far old =
     let c = AddAddress name address prefix cloning far in
     addr_fault-all (LeavesAll c old) name address far old.interfaces
-    (record { interfaces_left_so = refl; tells_none = refl; errno_found = λ h. absurd (cc) })
-    (record { interfaces_left_so = refl; tells_none = refl; errno_found = λ h. absurd (cc) })
-    (record { interfaces_left_so = refl; tells_none = refl; errno_found = λ h. absurd (cc) })
-    (record { interfaces_left_so = refl; tells_none = refl; errno_found = λ h. absurd (cc) })
+    (record { interfaces_left_so = refl; errno_found = λ h. absurd (cc) })
+    (record { interfaces_left_so = refl; errno_found = λ h. absurd (cc) })
+    (record { interfaces_left_so = refl; errno_found = λ h. absurd (cc) })
+    (record { interfaces_left_so = refl; errno_found = λ h. absurd (cc) })
 
 -- `unaddr`
 spares-taken : (c : Command) (old : World) (ifa : IfaRef) (address : ℕ) (a : Address) (r : Option (Entry Route))
@@ -357,7 +357,7 @@ spares-removed : (name : List ℕ) (address : ℕ) (old : World) (ifa : Result I
     → Spares (RemoveAddress name address) old (remove_address_effect old address ifa)
 spares-removed name address old (Err x) found =
     spares-refused (RemoveAddress name address) old x
-    (record { interfaces_left_so = refl; tells_none = refl; errno_found = found })
+    (record { interfaces_left_so = refl; errno_found = found })
 spares-removed name address old (Ok ifa) found =
     spares-found (RemoveAddress name address) old ifa address (address_of ifa old.interfaces)
 
@@ -399,7 +399,7 @@ spares-write : (old : World) (id m : List ℕ) (pid : Option ℕ) → pid_of id 
     → Spares (Write id m) old (write_effect old id m pid)
 spares-write old id m None writer =
     spares-refused (Write id m) old EBADF
-    (record { interfaces_left_so = refl; tells_none = inl refl; errno_found = λ h. absurd (cc) })
+    (record { interfaces_left_so = refl; errno_found = λ h. absurd (cc) })
 spares-write old id m (Some pid) writer =
     spares-request old id pid m (first_fault (message_rules m)) refl writer (message_rules-found m)
 
@@ -408,9 +408,15 @@ spares-read : (old : World) (id : List ℕ) (messages : Option (List (List ℕ))
     → Spares (Read id) old (read_effect old id messages)
 spares-read old id None =
     spares-refused (Read id) old EBADF
-    (record { interfaces_left_so = refl; tells_none = refl; errno_found = λ h. absurd (cc) })
+    (record { interfaces_left_so = refl; errno_found = λ h. absurd (cc) })
 spares-read old id (Some messages) = spares-other (Read id) old (read_effect old id (Some messages))
     (λ errno h. absurd (cc))
+
+-- `lost`
+spares-lost : (old : World) (id : List ℕ) (count : Option ℕ) → Spares (Lost id) old (lost_effect old count)
+spares-lost old id None =
+    spares-refused (Lost id) old EBADF (record { interfaces_left_so = refl; errno_found = λ h. absurd (cc) })
+spares-lost old id (Some count) = spares-other (Lost id) old (lost_effect old (Some count)) (λ errno h. absurd (cc))
 
 -- `packet`
 spares-packet : (old : World) (destination : ℕ) (it : Look) (answer : Option (Entry Route))
@@ -434,12 +440,12 @@ spares-packet old destination it (Some r) is = record {
 }
 
 -- `redirect`
-refused_for : (o : Option Errno) (errno : Errno) → done_or_refused o ≡ Refused errno → o ≡ Some errno
+refused_for : (o : Option Errno) (errno : Errno) → unless_errno o ≡ Refused errno → o ≡ Some errno
 refused_for None errno h = absurd (cc)
 refused_for (Some x) errno h = cc
 
 spares-redirect : (old : World) (asked : NewGateway)
-    → Spares (Redirect asked) old (redirect_by old (redirect asked old.interfaces old.table))
+    → Spares (Redirect asked) old (upshot_effect old (redirect asked old.interfaces old.table))
 spares-redirect old asked =
     let it = redirect asked old.interfaces old.table in
     record {
@@ -454,13 +460,30 @@ spares-redirect old asked =
           });
     }
 
+-- `losing`
+spares-losing : (old : World) (destination : ℕ)
+    → Spares (Losing destination) old (upshot_effect old (losing destination old.table))
+spares-losing old destination =
+    let it = losing destination old.table in
+    record {
+      on = λ errno h. (
+          let so = refused_losing_keeps destination old.table errno (refused_for it.errno errno h) in
+          record {
+            routes_kept = λ other. so.kept;
+            interfaces_kept = refl;
+            sockets_kept = refl;
+            tells = inl (ap (λ (ns : List Notice). map notice_told ns) so.tells);
+            found = subst IsFound (sym so.reason) (λ h. absurd (cc));
+          });
+    }
+
 effect-spares : (old : World) (c : Command) → Spares c old (effect old c)
 unfolding effect
 effect-spares old (Attach name kind type_number link) =
     let c = Attach name kind type_number link in
     spares-fault c old (attach_fault name old.interfaces) _
     (leaves-found c old (attach_fault name old.interfaces)
-    (λ e found. record { interfaces_left_so = refl; tells_none = refl; errno_found = found })
+    (λ e found. record { interfaces_left_so = refl; errno_found = found })
     (attach_fault-found name old.interfaces))
     (spares-other c old _ (λ errno h. absurd (cc)))
 effect-spares old (AddAddress name address prefix cloning far) =
@@ -476,28 +499,30 @@ effect-spares old (Open id pid protocol) =
     let c = Open id pid protocol in
     spares-fault c old (listen_fault id old.sockets) _
     (leaves-found c old (listen_fault id old.sockets)
-    (λ e found. record { interfaces_left_so = refl; tells_none = refl; errno_found = found })
+    (λ e found. record { interfaces_left_so = refl; errno_found = found })
     (listen_fault-found id old.sockets))
     (spares-other c old _ (λ errno h. absurd (cc)))
 effect-spares old (Close id) =
     let c = Close id in
     spares-fault c old (closed_fault id old.sockets) _
     (leaves-found c old (closed_fault id old.sockets)
-    (λ e found. record { interfaces_left_so = refl; tells_none = refl; errno_found = found })
+    (λ e found. record { interfaces_left_so = refl; errno_found = found })
     (closed_fault-found id old.sockets))
     (spares-other c old _ (λ errno h. absurd (cc)))
 effect-spares old (Loopback id on) =
     let c = Loopback id on in
     spares-fault c old (closed_fault id old.sockets) _
     (leaves-found c old (closed_fault id old.sockets)
-    (λ e found. record { interfaces_left_so = refl; tells_none = refl; errno_found = found })
+    (λ e found. record { interfaces_left_so = refl; errno_found = found })
     (closed_fault-found id old.sockets))
     (spares-other c old _ (λ errno h. absurd (cc)))
 effect-spares old (Write id m) = spares-write old id m (pid_of id old.sockets) refl
 effect-spares old (Read id) = spares-read old id (messages_of id old.sockets)
+effect-spares old (Lost id) = spares-lost old id (lost_of id old.sockets)
 effect-spares old (Packet destination) =
     let it = look true (gate.Inet destination) old.table in spares-packet old destination it it.answer refl
 effect-spares old (Redirect asked) = spares-redirect old asked
+effect-spares old (Losing destination) = spares-losing old destination
 effect-spares old (DumpSize flags) = spares-other (DumpSize flags) old _ (λ errno h. absurd (cc))
 effect-spares old (Dump flags room) = spares-other (Dump flags room) old _ (λ errno h. absurd (cc))
 
@@ -522,24 +547,12 @@ left-without_memory (Close id) interfaces = refl
 left-without_memory (Loopback id on) interfaces = refl
 left-without_memory (Write id m) interfaces = refl
 left-without_memory (Read id) interfaces = refl
+left-without_memory (Lost id) interfaces = refl
 left-without_memory (Packet destination) interfaces = refl
 left-without_memory (Redirect asked) interfaces = refl
+left-without_memory (Losing destination) interfaces = refl
 left-without_memory (DumpSize flags) interfaces = refl
 left-without_memory (Dump flags room) interfaces = refl
-
-tells-nothing : (w : World) (c : Command) → RefusalTells w c ENOBUFS []
-tells-nothing w (Attach name kind type_number link) = refl
-tells-nothing w (AddAddress name address prefix cloning far) = refl
-tells-nothing w (RemoveAddress name address) = refl
-tells-nothing w (Open id pid protocol) = refl
-tells-nothing w (Close id) = refl
-tells-nothing w (Loopback id on) = refl
-tells-nothing w (Write id m) = inl refl
-tells-nothing w (Read id) = refl
-tells-nothing w (Packet destination) = inl refl
-tells-nothing w (Redirect asked) = inl refl
-tells-nothing w (DumpSize flags) = refl
-tells-nothing w (Dump flags room) = refl
 
 errno_is : (e : Errno) → Refused e ≡ Refused ENOBUFS → e ≡ ENOBUFS
 errno_is e h = cc
@@ -564,7 +577,7 @@ refusal_keeps_sockets old c errno new (inl is) =
           (ap (delivered_all (effect old c).told) all.sockets_kept),
     )
 refusal_keeps_sockets old c errno new (inr h) =
-    ([], rw (errno_is errno h.1) (tells-nothing old c), ap (λ (w : World). w.sockets) h.2)
+    ([], inl refl, ap (λ (w : World). w.sockets) h.2)
 
 pub no_memory_keeps_all : NoMemoryKeepsAll
 no_memory_keeps_all old c new (inl is) = absurd ((spared old c ENOBUFS new is).found refl)

@@ -1,5 +1,5 @@
 -- What is the same of two lists of sockets where they are one to x: of the sockets whose ids are kept, in order, all
--- but the messages and the loopback of others than x.
+-- but the messages, the count of losses and the loopback of others than x.
 use Rattle.std.proofs.Common.{◌≡◌, ℕ, ◌≤◌, suc, Bool, true, false, cond, not, ◌||◌, filter, List, [], ◌∷◌, ◌++◌, length, map, Option, Some, None, is_some, is_none, option_map, bytes_eq, refl, sym, ap, ◌∙◌, arith, if◌then◌else◌}
 use Rattle.std.specs.List.{list_any}
 use Rattle.std.proofs.lemmas.List.{append-nil, map-append}
@@ -8,7 +8,9 @@ use Rattle.std.proofs.lemmas.Slice.Eq.{bytes_eq-Decides}
 use Rattle.sock_addrs.specs.First.{change_first}
 use Rattle.sock_addrs.specs.Rules.{rule, first_fault}
 use Rattle.sock_addrs.specs.declared.errno.Errno.TheVariants.{EBADF}
-use Rattle.listeners.specs.Sockets.{Socket, after_delivery, closed_fault, delivered, has_id, hears, opened, pid_of, socket_of, without}
+use Rattle.listeners.specs.Sockets.{Socket, after_delivery, closed_fault, delivered, has_id, opened, pid_of, socket_of, without}
+use Rattle.listeners.proofs.SocketLawsProved.{bare_stays}
+use Rattle.route_core.specs.Queues.{bare, bared, plain}
 use Rattle.route_core.specs.Telling.{Told, delivered_all}
 
 -- ---- ids
@@ -17,18 +19,6 @@ id_is : (id : List ℕ) (s : Socket) → has_id id s ≡ true → s.id ≡ id
 id_is id s h = (bytes_eq-Decides s.id id).0 h
 
 -- ---- one socket
-
--- without its messages, and with loopback on
-abbrev plain : Socket → Socket
-plain s = record s { loopback = true; messages = [] }
-
-abbrev bared : Bool → Socket → Socket
-bared true s = s
-bared false s = plain s
-
--- what x sees of a socket: all of its own, and of the others whose it is and what it hears
-abbrev bare : List ℕ → Socket → Socket
-bare x s = bared (has_id x s) s
 
 bared-id : (b : Bool) (s : Socket) → (bared b s).id ≡ s.id
 bared-id true s = refl
@@ -237,16 +227,11 @@ seen-all x (s ∷ ss) = ap (λ (n : ℕ). suc n) (seen-all x ss)
 
 after-id : (message : List ℕ) (family : ℕ) (own : Option (List ℕ)) (s : Socket)
     → (after_delivery message family own s).id ≡ s.id
-after-id message family own s =
-    elim (hears family own s) as (λ b. (if b then record s { messages = s.messages ++ message ∷ [] } else s).id ≡ s.id)
-    [ true ↦ refl | false ↦ refl ]
+after-id message family own s = ap (λ (t : Socket). t.id) (bare_stays message family own s)
 
 after-plain : (message : List ℕ) (family : ℕ) (own : Option (List ℕ)) (s : Socket)
     → plain (after_delivery message family own s) ≡ plain s
-after-plain message family own s =
-    elim (hears family own s) as (λ b. plain (if b then record s { messages = s.messages ++ message ∷ [] } else s)
-    ≡ plain s)
-    [ true ↦ refl | false ↦ refl ]
+after-plain message family own s = ap (λ (t : Socket). record t { loopback = true }) (bare_stays message family own s)
 
 -- what x sees after a delivery is of what it saw before
 after-bare : (x message : List ℕ) (family : ℕ) (own : Option (List ℕ)) (s : Socket)

@@ -10,9 +10,10 @@ use Rattle.sock_addrs.specs.declared.errno.Errno.{Errno}
 use Rattle.route_msgs.specs.Layout.{Field, field, number_at, with_field}
 use Rattle.listeners.specs.Queue.{IsMessage, length_field}
 use Rattle.route_core.specs.Effects.{IsEchoed}
-use Rattle.route_core.specs.declared.replies.TheConstants.{ERRNO_OFFSET, FLAGS_OFFSET, PID_OFFSET}
+use Rattle.route_msgs.specs.Patches.{with_pid}
+use Rattle.route_msgs.specs.declared.patches.TheConstants.{ERRNO_OFFSET, FLAGS_OFFSET, PID_OFFSET}
 use Rattle.route_core.specs.Requests.{done_reply}
-use Rattle.route_core.specs.Writes.{keeps_pid, refused_reply, with_pid}
+use Rattle.route_core.specs.Writes.{keeps_pid, refused_reply}
 
 -- the length that a message begins with is its first field
 length_field_is : (m : List ℕ) → length_field m ≡ number_at 0 2 m

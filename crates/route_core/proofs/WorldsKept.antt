@@ -1,5 +1,5 @@
 -- A step from a world leads to one, part by part and command by command.
-use Rattle.std.proofs.Common.{◌≡◌, ℕ, ◌+◌, ◌<◌, ◌≤◌, ◌^◌, inl, inr, ◌||◌, Bool, true, false, cond, not, filter, List, [], ◌∷◌, ◌++◌, length, map, Option, Some, None, refl, sym, ap, ◌∙◌, subst, arith}
+use Rattle.std.proofs.Common.{lit≤, ◌≡◌, ℕ, ◌+◌, ◌<◌, ◌≤◌, ◌^◌, inl, inr, ◌||◌, Bool, true, false, cond, not, filter, List, [], ◌∷◌, ◌++◌, length, map, Option, Some, None, refl, sym, ap, ◌∙◌, subst, arith}
 use Rattle.std.specs.Prelude.{Result, Ok, Err, IfSome, if◌then◌else◌, is_some, nat_le, bytes_eq, unwrap_or, ⊤}
 use Rattle.std.specs.List.{AllByRecursion, IsDistinct, list_any}
 use Rattle.std.proofs.lemmas.Bool.Decides.{nat_tests}
@@ -22,8 +22,9 @@ use Rattle.if_addrs.proofs.Adding.{is_named}
 use Rattle.if_addrs.proofs.Keeping.{from_some}
 use Rattle.if_addrs.proofs.Networks.{last_is_greatest}
 use Rattle.if_addrs.proofs.ReferenceLawsProved.{adding_lasts, attaching_lasts, marking_lasts, none_numbered, removing_lasts}
-use Rattle.listeners.specs.Sockets.{Socket, after_delivery, closed_fault, delivered, emptied, has_id, hears, listen_fault, looped, messages_of, opened, pid_of, taken, with_loopback, without}
-use Rattle.listeners.specs.declared.limits.TheConstants.{MOST_SOCKETS}
+use Rattle.listeners.specs.Sockets.{Socket, after_delivery, closed_fault, delivered, emptied, has_id, AreBounded, listen_fault, looped, lost_of, messages_of, opened, pid_of, queued, taken, with_loopback, without}
+use Rattle.listeners.specs.declared.limits.TheConstants.{MOST_QUEUED, MOST_SOCKETS}
+use Rattle.listeners.proofs.SocketLawsProved.{bare_stays, closing_keeps_bound, delivering_keeps_bound, loopback_keeps_bound, reading_keeps_bound}
 use Rattle.radix_tree.specs.Table.{entry_at, with_entry, without as without_pair}
 use Rattle.radix_tree.specs.declared.entry.Entry.{Entry}
 use Rattle.route_entries.specs.declared.route.Route.{Route}
@@ -32,17 +33,18 @@ use Rattle.route_ops.specs.Addressing.{address_entry, withdrawn}
 use Rattle.route_ops.specs.Changing.{change, lock}
 use Rattle.route_ops.specs.Deleting.{doomed, got}
 use Rattle.route_ops.specs.Looks.{Look, counted_entry, look}
+use Rattle.route_ops.specs.Losses.{losing}
 use Rattle.route_ops.specs.Redirecting.{redirect}
 use Rattle.route_ops.specs.Tables.{IsRouteOf, IsTableOf}
-use Rattle.route_ops.proofs.TablesStay.{adding_stays, address_route_is_of, changing_stays, kept_stays, locking_stays, look_stays, redirect_stays, with_stays, without_stays}
+use Rattle.route_ops.proofs.TablesStay.{adding_stays, address_route_is_of, changing_stays, kept_stays, locking_stays, look_stays, losing_stays, redirect_stays, with_stays, without_stays}
 use Rattle.route_core.specs.Commands.{Command}
 use Rattle.route_core.specs.Requests.{Outcome, adding_outcome, delete_outcome, done_reply, get_outcome, lock_outcome, outcome_of}
-use Rattle.route_core.specs.Step.{Effect, Stepped, announced, bring_route, done, effect, packet_by, read_effect, refused, remove_address_effect, remove_found, take_route, unless_refused, world_after, write_by_outcome, write_by_request, write_effect}
+use Rattle.route_core.specs.Step.{Effect, Stepped, announced, bring_route, done, effect, lost_effect, on_table, packet_by, read_effect, refused, remove_address_effect, remove_found, take_route, unless_refused, world_after, write_by_outcome, write_by_request, write_effect}
 use Rattle.route_core.specs.Telling.{Told, delivered_all}
 use Rattle.route_core.specs.World.{World}
 use Rattle.route_core.specs.Worlds.{AreOpenOnce, EmptyIsWorld, IsInRange, IsWorld, StepsKeepWorlds}
 use Rattle.route_core.specs.Writes.{message_rules, request_in}
-use Rattle.route_core.specs.declared.command.Command.TheVariants.{Attach, AddAddress, RemoveAddress, Open, Close, Loopback, Write, Read, Packet, Redirect, DumpSize, Dump}
+use Rattle.route_core.specs.declared.command.Command.TheVariants.{Attach, AddAddress, RemoveAddress, Open, Close, Loopback, Write, Read, Lost, Packet, Redirect, Losing, DumpSize, Dump}
 use Rattle.route_core.specs.declared.refusal.Refusal.{Refusal}
 use Rattle.route_core.specs.declared.request.Request.{Request}
 use Rattle.route_core.specs.declared.request.Request.TheVariants.{Add, Change, Delete, Get, Lock}
@@ -64,9 +66,7 @@ changed_ids p f same sockets h = same_ids sockets (change_first p f sockets)
 
 heard_id : (message : List ℕ) (family : ℕ) (own : Option (List ℕ)) (s : Socket)
     → (after_delivery message family own s).id ≡ s.id
-heard_id message family own s = elim (hears family own s) as
-    (λ b. (if b then record s { messages = s.messages ++ message ∷ [] } else s).id
-    ≡ s.id) [ true ↦ refl | false ↦ refl ]
+heard_id message family own s = ap (λ (t : Socket). t.id) (bare_stays message family own s)
 
 delivered_ids : (message : List ℕ) (family : ℕ) (own : Option (List ℕ)) (sockets : List Socket)
     → ids (delivered message family own sockets) ≡ ids sockets
@@ -115,6 +115,20 @@ opened_ids (x ∷ xs) s h new =
     let other = or_first (has_id s.id x) (list_any (has_id s.id) xs) new in
     (all_more (λ y. bytes_eq x.id y ≡ false) xs s h.0 other.0, opened_ids xs s h.1 other.1)
 
+-- ---- their queues
+
+opened_bounded : (sockets : List Socket) (s : Socket) → AreBounded sockets → queued s ≤ MOST_QUEUED
+    → AreBounded (sockets ++ s ∷ [])
+opened_bounded [] s h fits = (fits, tt)
+opened_bounded (x ∷ xs) s h fits = (h.0, opened_bounded xs s h.1 fits)
+
+all_delivered_bounded : (ts : List Told) (sockets : List Socket) → AreBounded sockets
+    → AreBounded (delivered_all ts sockets)
+all_delivered_bounded [] sockets h = h
+all_delivered_bounded (t ∷ ts) sockets h =
+    all_delivered_bounded ts (delivered t.message t.family t.own sockets)
+    (delivering_keeps_bound t.message t.family t.own sockets h)
+
 -- ---- the parts of what an effect leaves, before its messages are told
 
 -- it leaves a world
@@ -126,12 +140,14 @@ told_world e h = record {
   table = h.table;
   numbers = h.numbers;
   sockets = same_ids e.sockets (delivered_all e.told e.sockets) (all_delivered_ids e.told e.sockets) h.sockets;
+  queues = all_delivered_bounded e.told e.sockets h.queues;
 }
 
 -- nothing changes but the sockets
-with_sockets : (w : World) (sockets : List Socket) → IsWorld w → AreOpenOnce sockets
+with_sockets : (w : World) (sockets : List Socket) → IsWorld w → AreOpenOnce sockets → AreBounded sockets
     → IsWorld (record w { sockets = sockets })
-with_sockets w sockets h once = record { table = h.table; numbers = h.numbers; sockets = once }
+with_sockets w sockets h once bounded =
+    record { table = h.table; numbers = h.numbers; sockets = once; queues = bounded }
 
 -- nothing changes but the interfaces, and their addresses last
 with_interfaces : (w : World) (interfaces : List Interface) → IsWorld w → Lasts w.interfaces interfaces
@@ -141,12 +157,14 @@ with_interfaces w interfaces h lasts =
       table = kept_stays w.interfaces interfaces w.table lasts.keeps h.table;
       numbers = lasts.numbers;
       sockets = h.sockets;
+      queues = h.queues;
     }
 
 -- nothing changes but the table
 with_table : (w : World) (table : List (Entry Route)) → IsWorld w → IsTableOf w.interfaces table
     → IsWorld (record w { table = table })
-with_table w table h is = record { table = is; numbers = h.numbers; sockets = h.sockets }
+with_table w table h is =
+    record { table = is; numbers = h.numbers; sockets = h.sockets; queues = h.queues }
 
 -- refused, or else the effect
 leaves_unless : (w : World) (fault : Option Errno) (e : Effect) → IsWorld w → (fault ≡ None → LeavesWorld e)
@@ -320,6 +338,12 @@ leaves_read : (w : World) (id : List ℕ) (messages : Option (List (List ℕ))) 
 leaves_read w id None h = h
 leaves_read w id (Some messages) h =
     with_sockets w (taken id w.sockets) h (changed_ids (has_id id) emptied (λ s. refl) w.sockets h.sockets)
+    (reading_keeps_bound id w.sockets h.queues)
+
+-- `lost`
+leaves_lost : (w : World) (count : Option ℕ) → IsWorld w → LeavesWorld (lost_effect w count)
+leaves_lost w None h = h
+leaves_lost w (Some count) h = h
 
 -- `packet`
 counted_is : (interfaces : List Interface) (r : Entry Route) → IsRouteOf interfaces r
@@ -357,16 +381,20 @@ leaves_world w (Open id pid protocol) h in_range =
     leaves_unless w (listen_fault id w.sockets) _ h
     (λ free. with_sockets w (w.sockets ++ opened id pid protocol ∷ []) h
     (opened_ids w.sockets (opened id pid protocol) h.sockets
-    (first_passed (list_any (has_id id) w.sockets) (nat_le MOST_SOCKETS (length w.sockets)) EEXIST EMFILE free)))
+    (first_passed (list_any (has_id id) w.sockets) (nat_le MOST_SOCKETS (length w.sockets)) EEXIST EMFILE free))
+    (opened_bounded w.sockets (opened id pid protocol) h.queues (lit≤ tt)))
 leaves_world w (Close id) h in_range =
     leaves_unless w (closed_fault id w.sockets) _ h
-    (λ free. with_sockets w (without id w.sockets) h (filtered_ids (λ s. not (has_id id s)) w.sockets h.sockets))
+    (λ free. with_sockets w (without id w.sockets) h (filtered_ids (λ s. not (has_id id s)) w.sockets h.sockets)
+    (closing_keeps_bound id w.sockets h.queues))
 leaves_world w (Loopback id on) h in_range =
     leaves_unless w (closed_fault id w.sockets) _ h
     (λ free. with_sockets w (with_loopback id on w.sockets) h
-    (changed_ids (has_id id) (looped on) (λ s. refl) w.sockets h.sockets))
+    (changed_ids (has_id id) (looped on) (λ s. refl) w.sockets h.sockets)
+    (loopback_keeps_bound id on w.sockets h.queues))
 leaves_world w (Write id m) h in_range = leaves_write w id m (pid_of id w.sockets) h in_range
 leaves_world w (Read id) h in_range = leaves_read w id (messages_of id w.sockets) h
+leaves_world w (Lost id) h in_range = leaves_lost w (lost_of id w.sockets) h
 leaves_world w (Packet destination) h in_range =
     let it = look true (gate.Inet destination) w.table in
     let stays = look_stays true (gate.Inet destination) w.interfaces w.table h.table in_range in
@@ -374,6 +402,8 @@ leaves_world w (Packet destination) h in_range =
 leaves_world w (Redirect asked) h in_range =
     with_table w (redirect asked w.interfaces w.table).table h
     (redirect_stays asked w.interfaces w.table h.numbers h.table in_range.0 in_range.1)
+leaves_world w (Losing destination) h in_range =
+    with_table w (losing destination w.table).table h (losing_stays destination w.interfaces w.table h.table)
 leaves_world w (DumpSize flags) h in_range = h
 leaves_world w (Dump flags room) h in_range = h
 
@@ -381,7 +411,7 @@ leaves_world w (Dump flags room) h in_range = h
 
 pub empty_is_world : EmptyIsWorld
 unfolding IsDistinct
-empty_is_world = record { table = record { order = tt; routes = tt }; numbers = none_numbered; sockets = tt }
+empty_is_world = record { table = record { order = tt; routes = tt }; numbers = none_numbered; sockets = tt; queues = tt }
 
 pub steps_keep_worlds : StepsKeepWorlds
 steps_keep_worlds old c answer new h in_range (inl is) =

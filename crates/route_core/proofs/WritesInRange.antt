@@ -22,7 +22,7 @@ use Rattle.route_ops.specs.Tables.{IsChange, IsGate, IsMaskOrNone, IsNewRoute}
 use Rattle.route_core.specs.Writes.{asks_interface, change_in, destination, destination_bytes, flags_in, gate_in, mask_in, new_route_in, request_in}
 use Rattle.route_core.specs.declared.request.Request.{Request}
 use Rattle.route_core.specs.declared.request.Request.TheVariants.{Add, Change, Delete, Get, Lock}
-use Rattle.route_core.specs.declared.request.TheConstants.{RTAX_DST, RTAX_GATEWAY, RTAX_GENMASK, RTAX_NETMASK}
+use Rattle.route_msgs.specs.declared.places.TheConstants.{RTAX_DST, RTAX_GATEWAY, RTAX_GENMASK, RTAX_NETMASK}
 
 -- what holds of both branches holds of the choice
 either : {X : Type 0} (P : X → Type 0) (b : Bool) (x y : X) → P x → P y → P (if b then x else y)

@@ -1,5 +1,5 @@
 -- How the world's calls say that they do what the definitions say; no definition stands on these.
-use Rattle.std.specs.Prelude.{◌≡◌, ◌≤◌, ◌⊎◌, ℕ, List, length, true}
+use Rattle.std.specs.Prelude.{◌≡◌, ◌≤◌, ◌⊎◌, ℕ, Bool, List, length, true}
 use Rattle.sock_addrs.specs.declared.errno.Errno.TheVariants.{ENOBUFS}
 use Rattle.route_msgs.specs.Slots.{has_length}
 use Rattle.route_core.specs.Step.{Effect, world_after}
@@ -13,9 +13,9 @@ pub record IsEffect (e : Effect) (given : Answer) (new : World) : Type 0 where
   pub answer : given ≡ e.answer
   pub world : new ≡ world_after e
 
--- or there is no memory for it, and all is as it was
-abbrev pub EffectOr : Effect → World → Answer → World → Type 0
-EffectOr e old answer new = IsEffect e answer new ⊎ ((answer ≡ Refused ENOBUFS) × (new ≡ old))
+-- or, where it may want memory, there is none for it, and all is as it was
+abbrev pub EffectOr : Bool → Effect → World → Answer → World → Type 0
+EffectOr wants e old answer new = IsEffect e answer new ⊎ ((wants ≡ true) × (answer ≡ Refused ENOBUFS) × (new ≡ old))
 
 -- a write that is long enough for the header of a reply, says its own length, and isn't too long to be looked at
 pub record IsEchoed (m : List ℕ) : Type 0 where

@@ -1,9 +1,11 @@
 pub mod Commands
 pub mod Effects
 pub mod Few
+pub mod Held
 pub mod Messages
 pub mod Outcomes
 pub mod Packets
+pub mod Queues
 pub mod Received
 pub mod RefusalLaws
 pub mod Requests

@@ -7,18 +7,19 @@ use Rattle.sock_addrs.specs.declared.errno.Errno.{Errno}
 use Rattle.sock_addrs.specs.declared.families.TheConstants.{AF_INET, AF_LINK}
 use Rattle.sock_addrs.specs.declared.gate.Gate.{Gate}
 use Rattle.sock_addrs.specs.declared.gate.Gate.TheVariants as gate
+use Rattle.mask_table.specs.Ranks.{mask_of}
 use Rattle.route_msgs.specs.AddrInfo.{gate_sockaddr, no_addresses, padded}
-use Rattle.route_msgs.specs.Headers.{blank, route_message, ifa_message}
+use Rattle.route_msgs.specs.Headers.{blank, route_message, ifa_flags, ifa_message}
 use Rattle.route_msgs.specs.declared.addr_info.AddrInfo.{AddrInfo}
 use Rattle.route_msgs.specs.declared.flags.TheConstants.{RTF_DONE, RTF_UP}
 use Rattle.route_msgs.specs.declared.header.Header.{Header}
-use Rattle.route_msgs.specs.declared.kinds.TheConstants.{RTM_ADD, RTM_DELADDR, RTM_DELETE, RTM_GET, RTM_MISS, RTM_NEWADDR, RTM_REDIRECT, RTM_RESOLVE}
+use Rattle.route_msgs.specs.declared.kinds.TheConstants.{RTM_ADD, RTM_DELADDR, RTM_DELETE, RTM_GET, RTM_LOSING, RTM_MISS, RTM_NEWADDR, RTM_REDIRECT, RTM_RESOLVE}
 use Rattle.if_addrs.specs.declared.reference.Facts.{Facts}
 use Rattle.radix_tree.specs.declared.entry.Entry.{Entry}
 use Rattle.route_entries.specs.Addresses.{destination_addresses, route_addresses}
 use Rattle.route_entries.specs.declared.route.Route.{Route}
 use Rattle.route_ops.specs.declared.notice.Notice.{Notice}
-use Rattle.route_ops.specs.declared.notice.Notice.TheVariants.{Miss, Resolve, Redirect}
+use Rattle.route_ops.specs.declared.notice.Notice.TheVariants.{Miss, Resolve, Redirect, Losing}
 use Rattle.route_core.specs.Telling.{Told, told}
 use Rattle.route_core.specs.declared.messages.Shown.{Shown}
 
@@ -37,7 +38,14 @@ interface_addresses link address facts = record no_addresses {
 abbrev pub address_message : ℕ → ℕ → List ℕ → ℕ → Facts → List ℕ
 address_message kind index link address facts =
     ifa_message
-    (record { kind = kind; addrs = 0; flags = facts.flags; index = index; padding = 0; metric = 0 })
+    (record {
+      kind = kind;
+      addrs = 0;
+      flags = ifa_flags facts.cloning facts.routed;
+      index = index;
+      padding = 0;
+      metric = 0;
+    })
     (interface_addresses link address facts)
 
 -- an interface has a new address, or one that goes
@@ -107,10 +115,22 @@ redirected destination gateway author flags errno =
       author = Some (inet_sockaddr author);
     })
 
+-- the message of a route that is doubted
+abbrev pub doubted : ℕ → Gate → ℕ → ℕ → List ℕ
+doubted destination gateway rank flags =
+    route_message
+    (record (blank RTM_LOSING) { flags = bit_or flags RTF_DONE })
+    (record no_addresses {
+      dst = Some (inet_sockaddr destination);
+      gateway = Some (gate_sockaddr gateway);
+      netmask = option_map mask_sockaddr (mask_of rank);
+    })
+
 abbrev pub notice_message : Notice → List ℕ
 notice_message (Miss about errno) = looked_up RTM_MISS about errno
 notice_message (Resolve about) = looked_up RTM_RESOLVE about None
 notice_message (Redirect destination gateway author flags errno) = redirected destination gateway author flags errno
+notice_message (Losing destination gateway rank flags) = doubted destination gateway rank flags
 
 -- the family of its destination
 abbrev pub gate_family : Gate → ℕ
@@ -121,6 +141,7 @@ abbrev pub notice_family : Notice → ℕ
 notice_family (Miss about errno) = gate_family about
 notice_family (Resolve about) = gate_family about
 notice_family (Redirect destination gateway author flags errno) = AF_INET
+notice_family (Losing destination gateway rank flags) = AF_INET
 
 -- all hear it who hear that family
 abbrev pub notice_told : Notice → Told

@@ -1,15 +1,21 @@
 -- What becomes of a packet by its route.
-use Rattle.std.specs.Prelude.{if◌then◌else◌, List}
+use Rattle.std.specs.Prelude.{ℕ, Bool, false, if◌then◌else◌, List}
+use Rattle.std.specs.Option.{option_map_or}
 use Rattle.sock_addrs.specs.declared.errno.Errno.{Errno}
 use Rattle.sock_addrs.specs.declared.errno.Errno.TheVariants.{EHOSTUNREACH, ENETUNREACH}
-use Rattle.route_msgs.specs.declared.flags.TheConstants.{RTF_BLACKHOLE, RTF_HOST, RTF_REJECT}
+use Rattle.route_msgs.specs.declared.flags.TheConstants.{RTF_BLACKHOLE, RTF_CLONING, RTF_HOST, RTF_REJECT}
 use Rattle.if_addrs.specs.Interfaces.{Interface, interface_of}
+use Rattle.radix_tree.specs.Table.{best_of}
 use Rattle.radix_tree.specs.declared.entry.Entry.{Entry}
 use Rattle.route_entries.specs.Routes.{has_flag}
 use Rattle.route_entries.specs.declared.route.Route.{Route}
 use Rattle.route_core.specs.declared.answer.Answer.{Answer}
 use Rattle.route_core.specs.declared.answer.Answer.TheVariants.{Dropped, Refused, Routed}
 use Rattle.route_core.specs.declared.answer.Choice.{Choice}
+
+-- its route clones for it
+abbrev pub clones_for : ℕ → List (Entry Route) → Bool
+clones_for destination table = option_map_or (λ r. has_flag RTF_CLONING r.value) (best_of destination table) false
 
 -- what is told of the route that it takes
 abbrev pub choice_of : List Interface → Entry Route → Choice

@@ -41,19 +41,20 @@ RefusalKeepsInterfaces = (old : World) → (c : Command) → (errno : Errno) →
 abbrev pub IsRefusedFamily : List ℕ → ℕ → Type 0
 IsRefusedFamily m f = (f ≡ 0) ⊎ (f ≡ family (destination_bytes m))
 
--- these messages are told of a refused command: none; or of a write the reply, with the pid of its writer; of a
--- redirect that it came, and why it was refused; and of a packet those of its look-up
+-- these messages are told of a refused write: the reply, with the pid of its writer; of a redirect: that it came, and
+-- why it was refused; and of a packet: those of its look-up
+abbrev pub TellsRefusal : World → Command → Errno → List Told → Type 0
+TellsRefusal w (Write id m) errno ts =
+    (pid : ℕ) × (f : ℕ) × (pid_of id w.sockets ≡ Some pid) × IsRefusedFamily m f
+    × (ts ≡ told (refused_reply errno pid m) f (Some id) ∷ [])
+TellsRefusal w (Redirect asked) errno ts =
+    (tried : ℕ) × (ts ≡ notice_told (redirect_told asked tried (Some errno)) ∷ [])
+TellsRefusal w (Packet destination) errno ts = ts ≡ map notice_told (look true (gate.Inet destination) w.table).messages
+TellsRefusal w c errno ts = ⊥
+
+-- or none
 abbrev pub RefusalTells : World → Command → Errno → List Told → Type 0
-RefusalTells w (Write id m) errno ts =
-    (ts ≡ [])
-    ⊎ ((pid : ℕ) × (f : ℕ) × (pid_of id w.sockets ≡ Some pid) × IsRefusedFamily m f
-    × (ts ≡ told (refused_reply errno pid m) f (Some id) ∷ []))
-RefusalTells w (Redirect asked) errno ts =
-    (ts ≡ [])
-    ⊎ ((tried : ℕ) × (ts ≡ notice_told (redirect_told asked tried (Some errno)) ∷ []))
-RefusalTells w (Packet destination) errno ts =
-    (ts ≡ []) ⊎ (ts ≡ map notice_told (look true (gate.Inet destination) w.table).messages)
-RefusalTells w c errno ts = ts ≡ []
+RefusalTells w c errno ts = (ts ≡ []) ⊎ TellsRefusal w c errno ts
 
 -- and every socket, but that these messages were delivered, in order
 abbrev pub RefusalKeepsSockets : Type 0

@@ -1,23 +1,21 @@
 -- What the requests do that writes make.
-use Rattle.std.specs.Prelude.{ℕ, Bool, true, false, List, [], bit_or, Option, Some, None, Result, Ok, Err}
+use Rattle.std.specs.Prelude.{ℕ, Bool, true, false, List, [], bit_or, Option, Some, None, is_none, Result, Ok, Err}
 use Rattle.sock_addrs.specs.declared.errno.Errno.{Errno}
 use Rattle.sock_addrs.specs.declared.errno.Errno.TheVariants.{ESRCH}
 use Rattle.route_msgs.specs.Headers.{header_in}
-use Rattle.route_msgs.specs.Layout.{field, with_field}
+use Rattle.route_msgs.specs.Patches.{with_flags, with_pid}
 use Rattle.route_msgs.specs.declared.flags.TheConstants.{RTF_DONE}
 use Rattle.if_addrs.specs.Interfaces.{Interface, interface_of, link_text_of, text_of}
 use Rattle.if_addrs.specs.declared.reference.IfaRef.{IfaRef}
 use Rattle.radix_tree.specs.Table.{with_entry, without}
 use Rattle.radix_tree.specs.declared.entry.Entry.{Entry}
 use Rattle.route_entries.specs.declared.route.Route.{Route}
-use Rattle.route_ops.specs.Adding.{Adding, add}
-use Rattle.route_ops.specs.Changing.{change, lock}
+use Rattle.route_ops.specs.Adding.{Adding, add, add_fault}
+use Rattle.route_ops.specs.Changing.{change, change_fault, lock}
 use Rattle.route_ops.specs.Deleting.{doomed, got}
 use Rattle.route_ops.specs.declared.notice.Notice.{Notice}
 use Rattle.route_core.specs.Messages.{route_got}
-use Rattle.route_core.specs.Writes.{with_pid}
 use Rattle.route_core.specs.declared.messages.Shown.{Shown}
-use Rattle.route_core.specs.declared.replies.TheConstants.{FLAGS_OFFSET}
 use Rattle.route_core.specs.declared.request.Request.{Request}
 use Rattle.route_core.specs.declared.request.Request.TheVariants.{Add, Change, Delete, Get, Lock}
 
@@ -33,7 +31,7 @@ quiet table reply = record { table = table; notices = []; reply = reply }
 
 -- the reply to a request that was done, but to a GET: the written bytes with the writer's pid, and DONE among the flags
 abbrev pub done_reply : ℕ → List ℕ → List ℕ
-done_reply pid m = with_field (field FLAGS_OFFSET 4 (bit_or (header_in m).flags RTF_DONE)) (with_pid pid m)
+done_reply pid m = with_flags (bit_or (header_in m).flags RTF_DONE) (with_pid pid m)
 
 -- ADD and CHANGE
 abbrev pub adding_outcome : List ℕ → Result Adding Errno → Result Outcome Errno
@@ -64,6 +62,12 @@ get_outcome interfaces table pid m shows (Err errno) = Err errno
 get_outcome interfaces table pid m shows (Ok r) =
     let asked = header_in m in
     Ok (quiet table (route_got asked pid (interface_shown interfaces asked.index r.value.ifa shows) r))
+
+-- a request makes room for routes before it is carried out: it adds or changes one, and isn't refused
+abbrev pub makes_room : List Interface → List (Entry Route) → Request → Bool
+makes_room interfaces table (Add a) = is_none (add_fault a interfaces table)
+makes_room interfaces table (Change a) = is_none (change_fault a interfaces table)
+makes_room interfaces table request = false
 
 -- a request of a process, made by this message
 abbrev pub outcome_of : List Interface → List (Entry Route) → ℕ → List ℕ → Request → Result Outcome Errno

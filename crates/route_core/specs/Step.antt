@@ -1,8 +1,6 @@
 -- One step of the world for each command: what it does, and the world and the answer after it.
 use Rattle.std.specs.Prelude.{◌≡◌, ◌⊎◌, ◌+◌, ◌*◌, ◌-◌, ◌/◌, ◌^◌, ◌&&◌, ℕ, Bool, true, false, not, is_some, is_none, if◌then◌else◌, min, List, [], ◌∷◌, ◌++◌, map, Option, Some, None, Result, Ok, Err, unwrap_or}
 use Rattle.std.specs.Option.{option_map_or}
-use Rattle.std.specs.Result.{result_err}
-use Rattle.sock_addrs.specs.Rules.{first_fault}
 use Rattle.sock_addrs.specs.declared.errno.Errno.{Errno}
 use Rattle.sock_addrs.specs.declared.errno.Errno.TheVariants.{EBADF, EEXIST, EHOSTUNREACH, ENOBUFS}
 use Rattle.sock_addrs.specs.declared.families.TheConstants.{AF_INET}
@@ -12,24 +10,27 @@ use Rattle.if_addrs.specs.Interfaces.{Interface, Address, attach_fault, attached
 use Rattle.if_addrs.specs.declared.kind.Kind.{Kind}
 use Rattle.if_addrs.specs.declared.reference.Facts.{Facts}
 use Rattle.if_addrs.specs.declared.reference.IfaRef.{IfaRef}
-use Rattle.listeners.specs.Sockets.{Socket, pid_of, messages_of, closed_fault, listen_fault, opened, taken, without as without_socket, with_loopback}
+use Rattle.listeners.specs.Sockets.{Socket, pid_of, messages_of, lost_of, closed_fault, listen_fault, opened, taken, without as without_socket, with_loopback}
 use Rattle.radix_tree.specs.Table.{entry_at, with_entry, without}
 use Rattle.radix_tree.specs.declared.entry.Entry.{Entry}
 use Rattle.route_entries.specs.declared.route.Route.{Route}
 use Rattle.route_ops.specs.Addressing.{address_entry, withdrawn}
-use Rattle.route_ops.specs.Looks.{Look, counted_entry, known, look}
-use Rattle.route_ops.specs.Redirecting.{Redirection, redirect}
+use Rattle.route_ops.specs.Losses.{losing}
+use Rattle.route_ops.specs.Looks.{Look, counted_entry, look}
+use Rattle.route_ops.specs.Redirecting.{redirect}
+use Rattle.route_ops.specs.Upshot.{Upshot}
+use Rattle.route_ops.specs.declared.notice.Notice.{Notice}
 use Rattle.table_dump.specs.Dumps.{dump_fault, fitting, shown_of, total_of}
 use Rattle.route_core.specs.Commands.{Command}
 use Rattle.route_core.specs.Messages.{address_added, address_removed, notice_told, route_added, route_deleted}
-use Rattle.route_core.specs.Packets.{fate_of}
-use Rattle.route_core.specs.Requests.{Outcome, outcome_of}
+use Rattle.route_core.specs.Packets.{clones_for, fate_of}
+use Rattle.route_core.specs.Requests.{Outcome, makes_room, outcome_of}
 use Rattle.route_core.specs.Telling.{Told, told, delivered_all}
 use Rattle.route_core.specs.World.{World}
-use Rattle.route_core.specs.Writes.{refused_reply, message_rules, is_silent, request_of}
+use Rattle.route_core.specs.Writes.{refused_reply, request_of}
 use Rattle.route_core.specs.declared.answer.Answer.{Answer}
 use Rattle.route_core.specs.declared.answer.Answer.TheVariants.{Done, Refused, Size, Messages}
-use Rattle.route_core.specs.declared.command.Command.TheVariants.{Attach, AddAddress, RemoveAddress, Open, Close, Loopback, Write, Read, Packet, Redirect, DumpSize, Dump}
+use Rattle.route_core.specs.declared.command.Command.TheVariants.{Attach, AddAddress, RemoveAddress, Open, Close, Loopback, Write, Read, Lost, Packet, Redirect, Losing, DumpSize, Dump}
 use Rattle.route_core.specs.declared.refusal.Refusal.{Refusal}
 use Rattle.route_core.specs.declared.request.Request.{Request}
 
@@ -174,27 +175,34 @@ abbrev pub read_effect : World → List ℕ → Option (List (List ℕ)) → Eff
 read_effect w id None = refused w EBADF
 read_effect w id (Some messages) = record (answered w (Messages messages None)) { sockets = taken id w.sockets }
 
+-- `lost`
+abbrev pub lost_effect : World → Option ℕ → Effect
+lost_effect w None = refused w EBADF
+lost_effect w (Some count) = answered w (Size count)
+
+-- ---- commands on the table
+
+-- they leave this table, tell these notices, in order, and touch nothing else
+abbrev pub on_table : World → List (Entry Route) → List Notice → Answer → Effect
+on_table w table notices answer = record (answered w answer) { table = table; told = map notice_told notices }
+
 -- `packet`: a look-up, one more use of its answer, and then its fate
 abbrev pub packet_by : World → Look → Option (Entry Route) → Effect
-packet_by w it None =
-    record (refused w EHOSTUNREACH) { table = it.table; told = map notice_told it.messages }
-packet_by w it (Some r) =
-    record (answered w (fate_of w.interfaces r)) {
-      table = with_entry (counted_entry r) it.table;
-      told = map notice_told it.messages;
-    }
+packet_by w it None = on_table w it.table it.messages (Refused EHOSTUNREACH)
+packet_by w it (Some r) = on_table w (with_entry (counted_entry r) it.table) it.messages (fate_of w.interfaces r)
 
 abbrev pub packet_effect : World → ℕ → Effect
 packet_effect w destination = let it = look true (gate.Inet destination) w.table in packet_by w it it.answer
 
--- `redirect`
-abbrev pub done_or_refused : Option Errno → Answer
-done_or_refused None = Done
-done_or_refused (Some errno) = Refused errno
+-- `redirect`, `losing`: done, or refused for the reason
+abbrev pub unless_errno : Option Errno → Answer
+unless_errno None = Done
+unless_errno (Some errno) = Refused errno
 
-abbrev pub redirect_by : World → Redirection → Effect
-redirect_by w it =
-    record (answered w (done_or_refused it.errno)) { table = it.table; told = map notice_told it.messages }
+abbrev pub upshot_effect : World → Upshot → Effect
+upshot_effect w it = on_table w it.table it.messages (unless_errno it.errno)
+
+-- ---- dumps
 
 -- `dump ask`, `flags X ask`: as many bytes as the dump takes and a tenth more, or the greatest number of 64 bits
 abbrev pub size_to_ask : ℕ → ℕ
@@ -216,8 +224,10 @@ effect w (Close id) = close_effect w id
 effect w (Loopback id on) = loopback_effect w id on
 effect w (Write id bytes) = write_effect w id bytes (pid_of id w.sockets)
 effect w (Read id) = read_effect w id (messages_of id w.sockets)
+effect w (Lost id) = lost_effect w (lost_of id w.sockets)
 effect w (Packet destination) = packet_effect w destination
-effect w (Redirect asked) = redirect_by w (redirect asked w.interfaces w.table)
+effect w (Redirect asked) = upshot_effect w (redirect asked w.interfaces w.table)
+effect w (Losing destination) = upshot_effect w (losing destination w.table)
 effect w (DumpSize flags) = dump_size_effect w flags
 effect w (Dump flags room) = dump_effect w room (shown_of flags w.interfaces w.table)
 
@@ -235,18 +245,25 @@ pub record Stepped : Type 0 where
 abbrev pub stepped : World → Command → Stepped
 stepped w c = let e = effect w c in record { world = world_after e; answer = e.answer }
 
+-- what a write asks may want memory: a route is to be added or changed, and nothing speaks against it
+abbrev pub asks_memory : World → Result Request Refusal → Bool
+asks_memory w (Ok request) = makes_room w.interfaces w.table request
+asks_memory w (Err r) = false
+
 -- the command may want memory: it isn't refused for a reason that is found without any, and is none that never wants it
 unfoldable pub takes_memory : World → Command → Bool
 takes_memory w (Attach name kind type_number link) = is_none (attach_fault name w.interfaces)
 takes_memory w (AddAddress name address prefix cloning far) = is_none (addr_fault name address far w.interfaces)
-takes_memory w (RemoveAddress name address) = is_none (result_err (find_addr name address w.interfaces))
+takes_memory w (RemoveAddress name address) = false
 takes_memory w (Open id pid protocol) = is_none (listen_fault id w.sockets)
 takes_memory w (Close id) = false
 takes_memory w (Loopback id on) = false
-takes_memory w (Write id bytes) = is_some (pid_of id w.sockets) && not (is_silent (first_fault (message_rules bytes)))
-takes_memory w (Read id) = is_some (messages_of id w.sockets)
-takes_memory w (Packet destination) = is_none (known destination w.table)
+takes_memory w (Write id bytes) = is_some (pid_of id w.sockets) && asks_memory w (request_of bytes)
+takes_memory w (Read id) = false
+takes_memory w (Lost id) = false
+takes_memory w (Packet destination) = clones_for destination w.table
 takes_memory w (Redirect asked) = true
+takes_memory w (Losing destination) = false
 takes_memory w (DumpSize flags) = false
 takes_memory w (Dump flags room) = true
 

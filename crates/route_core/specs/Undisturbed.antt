@@ -9,7 +9,7 @@ use Rattle.route_core.specs.Step.{Steps}
 use Rattle.route_core.specs.World.{World, empty_world}
 use Rattle.route_core.specs.declared.answer.Answer.{Answer}
 use Rattle.route_core.specs.declared.answer.Answer.TheVariants.{Refused}
-use Rattle.route_core.specs.declared.command.Command.TheVariants.{Close, Loopback, Open, Read, Write}
+use Rattle.route_core.specs.declared.command.Command.TheVariants.{Close, Loopback, Lost, Open, Read, Write}
 
 -- ---- a run
 
@@ -47,14 +47,19 @@ writes_to id c = false
 abbrev pub matters : List ℕ → List Command → List ℕ → Bool
 matters x commands id = bytes_eq id x || list_any (writes_to id) commands
 
--- every `loopback` and `read` of other ids is taken out, and every `open` and `close` of other ids that no write names;
+-- every `loopback`, `read` and `lost` of other ids is taken out, and every `open` and `close` of ids that aren't marked;
 -- any other command is left
+abbrev pub is_left_where : List ℕ → (List ℕ → Bool) → Command → Bool
+is_left_where x marked (Open id pid protocol) = marked id
+is_left_where x marked (Close id) = marked id
+is_left_where x marked (Loopback id on) = bytes_eq id x
+is_left_where x marked (Read id) = bytes_eq id x
+is_left_where x marked (Lost id) = bytes_eq id x
+is_left_where x marked c = true
+
+-- marked are the ids that matter: `open` and `close` of other ids that no write names are taken out
 abbrev pub is_left : List ℕ → List Command → Command → Bool
-is_left x commands (Open id pid protocol) = matters x commands id
-is_left x commands (Close id) = matters x commands id
-is_left x commands (Loopback id on) = bytes_eq id x
-is_left x commands (Read id) = bytes_eq id x
-is_left x commands c = true
+is_left x commands c = is_left_where x (matters x commands) c
 
 abbrev pub commands_left : List ℕ → List Command → List Command
 commands_left x commands = filter (is_left x commands) commands

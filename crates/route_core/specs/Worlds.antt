@@ -9,7 +9,7 @@ use Rattle.if_addrs.specs.Numbered.{NumberedOnce}
 use Rattle.if_addrs.specs.declared.reference.Facts.{Facts}
 use Rattle.if_addrs.specs.declared.reference.IfaRef.{IfaRef}
 use Rattle.if_addrs.specs.declared.reference.IfaRef.TheVariants as ifa
-use Rattle.listeners.specs.Sockets.{Socket}
+use Rattle.listeners.specs.Sockets.{AreBounded, Socket}
 use Rattle.radix_tree.specs.declared.entry.Entry.{Entry}
 use Rattle.route_entries.specs.declared.route.Route.{Route}
 use Rattle.route_ops.specs.Addressing.{address_entry}
@@ -20,7 +20,7 @@ use Rattle.route_core.specs.Step.{Steps, announced}
 use Rattle.route_core.specs.Telling.{told}
 use Rattle.route_core.specs.World.{World, empty_world}
 use Rattle.route_core.specs.declared.answer.Answer.{Answer}
-use Rattle.route_core.specs.declared.command.Command.TheVariants.{AddAddress, Packet, Redirect, Write}
+use Rattle.route_core.specs.declared.command.Command.TheVariants.{AddAddress, Losing, Packet, Redirect, Write}
 
 -- ---- worlds
 
@@ -29,11 +29,12 @@ abbrev pub AreOpenOnce : List Socket → Type 0
 AreOpenOnce sockets = IsDistinct bytes_eq (map (λ s. s.id) sockets)
 
 -- its table is one of routes that lead out of its interfaces; no number of an address, and no socket's id, is told
--- twice
+-- twice; and what waits for a socket fits its queue
 pub record IsWorld (w : World) : Type 0 where
   pub table : IsTableOf w.interfaces w.table
   pub numbers : NumberedOnce w.interfaces
   pub sockets : AreOpenOnce w.sockets
+  pub queues : AreBounded w.sockets
 
 abbrev pub EmptyIsWorld : Type 0
 EmptyIsWorld = IsWorld empty_world
@@ -44,6 +45,7 @@ IsInRange (AddAddress name address prefix cloning far) =
     (address < 2 ^ 32) × (prefix ≤ 32) × IfSome far (λ other. other < 2 ^ 32)
 IsInRange (Write id m) = AllByRecursion (λ b. b < 256) m
 IsInRange (Packet destination) = destination < 2 ^ 32
+IsInRange (Losing destination) = destination < 2 ^ 32
 IsInRange (Redirect asked) = (asked.destination < 2 ^ 32) × (asked.gateway < 2 ^ 32) × (asked.author < 2 ^ 32)
 IsInRange c = Unit {0}
 

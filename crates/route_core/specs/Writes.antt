@@ -16,18 +16,18 @@ use Rattle.sock_addrs.specs.declared.gate.Gate.{Gate}
 use Rattle.sock_addrs.specs.declared.gate.Gate.TheVariants as gate
 use Rattle.route_msgs.specs.AddrInfo.{bytes_or_none}
 use Rattle.route_msgs.specs.Headers.{header_in}
-use Rattle.route_msgs.specs.Layout.{field, with_field}
+use Rattle.route_msgs.specs.Patches.{with_errno, with_pid}
 use Rattle.route_msgs.specs.Slots.{address_in, has_length, has_room, has_version}
 use Rattle.route_msgs.specs.declared.kinds.TheConstants.{RTM_ADD, RTM_CHANGE, RTM_DELETE, RTM_GET, RTM_LOCK}
+use Rattle.route_msgs.specs.declared.places.TheConstants.{RTAX_DST, RTAX_GATEWAY, RTAX_GENMASK, RTAX_IFA, RTAX_IFP, RTAX_NETMASK}
 use Rattle.route_msgs.specs.declared.parsed.MsgErr.{MsgErr}
 use Rattle.route_msgs.specs.declared.parsed.MsgErr.TheVariants as fault
 use Rattle.route_ops.specs.declared.adding.NewRoute.{NewRoute}
 use Rattle.route_ops.specs.declared.changing.Change.{Change as Changing}
 use Rattle.route_core.specs.declared.refusal.Refusal.{Refusal}
-use Rattle.route_core.specs.declared.replies.TheConstants.{ERRNO_OFFSET, PID_OFFSET}
 use Rattle.route_core.specs.declared.request.Request.{Request}
 use Rattle.route_core.specs.declared.request.Request.TheVariants.{Add, Change, Delete, Get, Lock}
-use Rattle.route_core.specs.declared.request.TheConstants.{MOST_BYTES, RTAX_DST, RTAX_GATEWAY, RTAX_GENMASK, RTAX_IFA, RTAX_IFP, RTAX_NETMASK}
+use Rattle.route_core.specs.declared.request.TheConstants.{MOST_BYTES}
 
 -- ---- the addresses of a message
 
@@ -109,11 +109,6 @@ message_rules m =
     ∷ refused_if (is_none (address_in m RTAX_DST)) EINVAL (Some 0)
     ∷ request_rules m (family (destination_bytes m))
 
--- nobody hears of the refusal
-abbrev pub is_silent : Option Refusal → Bool
-is_silent None = false
-is_silent (Some r) = is_none r.family
-
 -- ---- what is asked
 
 -- a route's flags are the low 16 bits that are written
@@ -165,10 +160,6 @@ request_of m = unless_fault (first_fault (message_rules m)) (request_in m)
 
 -- ---- the reply to a refused write
 
--- the written bytes with the writer's pid
-abbrev pub with_pid : ℕ → List ℕ → List ℕ
-with_pid pid m = with_field (field PID_OFFSET 4 pid) m
-
 -- a message of another version may have its pid anywhere, and keeps it
 abbrev pub keeps_pid : Errno → Bool
 keeps_pid EPROTONOSUPPORT = true
@@ -176,5 +167,4 @@ keeps_pid errno = false
 
 -- the written bytes with the writer's pid and the errno
 abbrev pub refused_reply : Errno → ℕ → List ℕ → List ℕ
-refused_reply errno pid m =
-    with_field (field ERRNO_OFFSET 4 (errno_number errno)) (if keeps_pid errno then m else with_pid pid m)
+refused_reply errno pid m = with_errno (errno_number errno) (if keeps_pid errno then m else with_pid pid m)

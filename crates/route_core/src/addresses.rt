@@ -7,7 +7,6 @@ ghost use Rattle.route_core.specs.Telling.{delivered_all};
 ghost use Rattle.route_core.specs.declared.command.Command.TheVariants.{AddAddress, RemoveAddress};
 
 use crate::messages::{address_message, route_added, route_deleted};
-use crate::telling::MOST_TOLD;
 use crate::tried::done_or_refused;
 use crate::{Answer, World};
 use if_addrs::{Facts, IfaRef, Interfaces};
@@ -33,7 +32,7 @@ impl World {
         prefix: Prefix,
         cloning: bool,
         far: Option<Inet>,
-    ) -> Answer
+    ) -> Answer<'static>
         ensures { Steps self.old (AddAddress name address prefix cloning far) result self.new }
     {
         done_or_refused(self.try_add_address(name, address, prefix, cloning, far))
@@ -50,9 +49,9 @@ impl World {
     ) -> Result<(), Errno>
         ensures { Steps self.old (AddAddress name address prefix cloning far) (answer_of result) self.new }
     {
+        // an `Option` is copied before it is handed on twice, since the borrow checker covers no other form
         let other_end = far;
         self.interfaces.check_addr(name, address, other_end)?;
-        self.listeners.reserve(MOST_TOLD)?;
         let room = self.table.room()?;
         let ifa = match self
             .interfaces
@@ -84,8 +83,8 @@ impl World {
     /// Removes an address of an interface: no search finds it any more, and a route that leads out of it keeps it. The
     /// route that it brought goes with it, unless another address of an interface has that by now; where one goes, the
     /// sockets hear of both. Refused in this order: ENXIO: there is no such interface; EADDRNOTAVAIL: it doesn't have
-    /// the address; ENOBUFS: there is no memory.
-    pub fn remove_address(&mut self, name: Name, address: Inet) -> Answer
+    /// the address. It wants no memory.
+    pub fn remove_address(&mut self, name: Name, address: Inet) -> Answer<'static>
         ensures { Steps self.old (RemoveAddress name address) result self.new }
     {
         done_or_refused(self.try_remove_address(name, address))
@@ -96,7 +95,6 @@ impl World {
         ensures { Steps self.old (RemoveAddress name address) (answer_of result) self.new }
     {
         let ifa = self.interfaces.find_addr(name, address)?;
-        self.listeners.reserve(MOST_TOLD)?;
         let facts = self.interfaces.facts(ifa);
         if let Some(route) = withdraw_route(&mut self.table, ifa, address, &facts) {
             renounce(
@@ -123,9 +121,7 @@ fn announce(
 )
     requires rank { route.now.rank ≤ 33 }
     requires known { IsOf route.now.value.ifa interfaces.now }
-    requires room { MOST_TOLD ≤ listeners.old.reserved }
-    ensures { listeners.new.sockets
-        ≡ delivered_all (announced interfaces.now address facts.now route.now) listeners.old.sockets }
+    ensures { listeners.new ≡ delivered_all (announced interfaces.now address facts.now route.now) listeners.old }
 {
     let index = interfaces.interface_of(route.value.ifa);
     let link = interfaces.link_text(index);
@@ -145,9 +141,8 @@ fn renounce(
 )
     requires rank { route.now.rank ≤ 33 }
     requires known { IsOf ifa interfaces.now }
-    requires room { MOST_TOLD ≤ listeners.old.reserved }
-    ensures { listeners.new.sockets
-        ≡ delivered_all (renounced interfaces.now ifa address facts.now route.now) listeners.old.sockets }
+    ensures { listeners.new
+        ≡ delivered_all (renounced interfaces.now ifa address facts.now route.now) listeners.old }
 {
     let index = interfaces.interface_of(ifa);
     let link = interfaces.link_text(index);

@@ -55,12 +55,20 @@ pub enum Command<B = Written> {
     Read {
         id: Name,
     },
+    /// How many messages a socket has lost: `lost ID`.
+    Lost {
+        id: Name,
+    },
     /// Find the route of a packet to this destination: `packet A`.
     Packet {
         destination: Inet,
     },
     /// Follow a redirect: `redirect A A A`, which are its destination, its gateway and its author.
     Redirect(NewGateway),
+    /// Doubt the route of this destination, as TCP does of a route that seems dead: `losing A`.
+    Losing {
+        destination: Inet,
+    },
     /// How many bytes to ask for a dump of all routes, or of those with a flag of the filter: `dump ask`, `flags X
     /// ask`.
     DumpSize {
@@ -76,62 +84,38 @@ pub enum Command<B = Written> {
 /// A command whose bytes lie elsewhere.
 pub type Said<'a> = Command<Lent<'a>>;
 
+/// The command behind this reference, with other bytes in the place of those of a write.
+macro_rules! with_bytes {
+    ($command:expr, $bytes:ident => $others:expr) => {
+        match $command {
+            Command::Attach { name, kind, type_number, link } => {
+                Command::Attach { name: *name, kind: *kind, type_number: *type_number, link: *link }
+            }
+            Command::AddAddress { name, address, prefix, cloning, far } => {
+                Command::AddAddress { name: *name, address: *address, prefix: *prefix, cloning: *cloning, far: *far }
+            }
+            Command::RemoveAddress { name, address } => Command::RemoveAddress { name: *name, address: *address },
+            Command::Open { id, pid, protocol } => Command::Open { id: *id, pid: *pid, protocol: *protocol },
+            Command::Close { id } => Command::Close { id: *id },
+            Command::Loopback { id, on } => Command::Loopback { id: *id, on: *on },
+            Command::Write { id, bytes: $bytes } => Command::Write { id: *id, bytes: $others },
+            Command::Read { id } => Command::Read { id: *id },
+            Command::Lost { id } => Command::Lost { id: *id },
+            Command::Packet { destination } => Command::Packet { destination: *destination },
+            Command::Redirect(asked) => Command::Redirect(*asked),
+            Command::Losing { destination } => Command::Losing { destination: *destination },
+            Command::DumpSize { filter } => Command::DumpSize { filter: *filter },
+            Command::Dump { filter, room } => Command::Dump { filter: *filter, room: *room },
+        }
+    };
+}
+
 impl Command<Written> {
     /// The command with its bytes lent.
     pub fn said(&self) -> Said<'_>
         ensures { result ≡ self.now }
     {
-        match self {
-            Command::Attach {
-                name,
-                kind,
-                type_number,
-                link,
-            } => Command::Attach {
-                name: *name,
-                kind: *kind,
-                type_number: *type_number,
-                link: LinkAddress::new(link.as_slice()).unwrap(),
-            },
-            Command::AddAddress {
-                name,
-                address,
-                prefix,
-                cloning,
-                far,
-            } => Command::AddAddress {
-                name: *name,
-                address: *address,
-                prefix: *prefix,
-                cloning: *cloning,
-                far: *far,
-            },
-            Command::RemoveAddress { name, address } => Command::RemoveAddress {
-                name: *name,
-                address: *address,
-            },
-            Command::Open { id, pid, protocol } => Command::Open {
-                id: *id,
-                pid: *pid,
-                protocol: *protocol,
-            },
-            Command::Close { id } => Command::Close { id: *id },
-            Command::Loopback { id, on } => Command::Loopback { id: *id, on: *on },
-            Command::Write { id, bytes } => Command::Write {
-                id: *id,
-                bytes: bytes.lent(),
-            },
-            Command::Read { id } => Command::Read { id: *id },
-            Command::Packet { destination } => Command::Packet {
-                destination: *destination,
-            },
-            Command::Redirect(asked) => Command::Redirect(*asked),
-            Command::DumpSize { filter } => Command::DumpSize { filter: *filter },
-            Command::Dump { filter, room } => Command::Dump {
-                filter: *filter,
-                room: *room,
-            },
-        }
+        with_bytes!(self, bytes => bytes.lent())
     }
 }
 
@@ -140,44 +124,6 @@ impl<'a> Command<Lent<'a>> {
     pub fn command(self) -> Command
         ensures { result ≡ self.entry }
     {
-        match self {
-            Command::Attach {
-                name,
-                kind,
-                type_number,
-                link,
-            } => Command::Attach {
-                name,
-                kind,
-                type_number,
-                link,
-            },
-            Command::AddAddress {
-                name,
-                address,
-                prefix,
-                cloning,
-                far,
-            } => Command::AddAddress {
-                name,
-                address,
-                prefix,
-                cloning,
-                far,
-            },
-            Command::RemoveAddress { name, address } => Command::RemoveAddress { name, address },
-            Command::Open { id, pid, protocol } => Command::Open { id, pid, protocol },
-            Command::Close { id } => Command::Close { id },
-            Command::Loopback { id, on } => Command::Loopback { id, on },
-            Command::Write { id, bytes } => Command::Write {
-                id,
-                bytes: bytes.written(),
-            },
-            Command::Read { id } => Command::Read { id },
-            Command::Packet { destination } => Command::Packet { destination },
-            Command::Redirect(asked) => Command::Redirect(asked),
-            Command::DumpSize { filter } => Command::DumpSize { filter },
-            Command::Dump { filter, room } => Command::Dump { filter, room },
-        }
+        with_bytes!(&self, bytes => bytes.written())
     }
 }

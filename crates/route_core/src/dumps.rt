@@ -13,7 +13,7 @@ impl World {
     /// How many bytes to ask for a dump of all routes, or of those with a flag of the filter: as many as it takes and
     /// a tenth more, or `u64::MAX`. It wants no memory.
     #[tactic(auto, unfolding(crate::specs::Step::effect, crate::specs::Step::takes_memory))]
-    pub fn dump_size(&mut self, filter: Option<u32>) -> Answer
+    pub fn dump_size(&mut self, filter: Option<u32>) -> Answer<'static>
         ensures { IsStep self.old (DumpSize filter) result self.new }
     {
         let mut visits = self.table.begin();
@@ -22,14 +22,14 @@ impl World {
 
     /// Dumps all routes, or those with a flag of the filter, into so many bytes: as many whole messages from the front
     /// as fit, and ENOMEM beside them where they are not all. Refused by ENOBUFS: there is no memory.
-    pub fn dump(&mut self, filter: Option<u32>, room: u32) -> Answer
+    pub fn dump(&mut self, filter: Option<u32>, room: u32) -> Answer<'static>
         ensures { Steps self.old (Dump filter room) result self.new }
     {
         answer_to(self.try_dump(filter, room))
     }
 
     #[tactic(auto, unfolding(crate::specs::Step::effect, crate::specs::Step::takes_memory))]
-    fn try_dump(&mut self, filter: Option<u32>, room: u32) -> Result<Answer, Errno>
+    fn try_dump(&mut self, filter: Option<u32>, room: u32) -> Result<Answer<'static>, Errno>
         ensures { Steps self.old (Dump filter room) (answer_of result) self.new }
     {
         let mut visits = self.table.begin();

@@ -1,10 +1,10 @@
 //! Laws of the machine's step: each function does nothing, and its contract is the law.
 
 ghost use Rattle.std.specs.Prelude.{◌≡◌};
-ghost use Rattle.route_core.specs.declared.replies.TheConstants.{ERRNO_OFFSET, FLAGS_OFFSET, PID_OFFSET};
-ghost use Rattle.route_core.specs.declared.request.TheConstants.{MOST_BYTES, RTAX_DST, RTAX_GATEWAY, RTAX_GENMASK, RTAX_IFA, RTAX_IFP, RTAX_NETMASK};
+ghost use Rattle.route_core.specs.declared.request.TheConstants.{MOST_BYTES};
 ghost use Rattle.route_core.specs.declared.written.TheConstants.{MOST_WRITTEN};
 ghost use Rattle.route_core.specs.Few.{EffectsAreFew, StepsBringFew};
+ghost use Rattle.route_core.specs.Queues.{KeptIsOfWhatItMet, LossesDisturbNobody, OpensWithNothing, WaitsIsOfWhatItHeard};
 ghost use Rattle.route_core.specs.RefusalLaws.{NoMemoryKeepsAll, RefusalKeepsInterfaces, RefusalKeepsRoutes, RefusalKeepsSockets};
 ghost use Rattle.route_core.specs.Undisturbed.{OthersAreNotNeeded, OthersDoNotDisturb};
 ghost use Rattle.route_core.specs.Worlds.{EmptyIsWorld, FoundAddressIsThere, NewAddressShowsItsInterface, RoutesHaveInterfaces, StepsKeepWorlds};
@@ -71,18 +71,26 @@ pub fn others_do_not_disturb()
     ensures runs { OthersAreNotNeeded }
 {}
 
-/// The limits of a write, the places of its addresses, and where a message has its flags, its pid and its errno, by
-/// number.
+/// While nothing closes a socket, its messages and its count of losses are a function of what it met alone: of its own
+/// reads, and of the messages told that it heard. One that is opened has nothing; from then on what waits for it is a
+/// sublist, in order, of what it heard since its last read, in at most 8,192 bytes. A turn that finds no memory tells
+/// nobody anything.
+pub fn kept_is_of_what_it_heard()
+    ensures met { KeptIsOfWhatItMet }
+    ensures opened { OpensWithNothing }
+    ensures waits { WaitsIsOfWhatItHeard }
+{}
+
+/// A loss at one socket is seen nowhere else. Where two worlds differ only in what others than x have of the messages
+/// that they heard, and in their loopback, every command but a `read`, a `lost` or a `loopback` of those others is
+/// answered the same in both, and leaves two worlds that differ in no more: the same routes, the same interfaces, the
+/// same messages of x.
+pub fn losses_disturb_nobody()
+    ensures { LossesDisturbNobody }
+{}
+
+/// The limits of a write, by number.
 pub fn writes_by_number()
     ensures most { MOST_BYTES ≡ 8192 }
     ensures written { MOST_WRITTEN ≡ 8246 }
-    ensures dst { RTAX_DST ≡ 0 }
-    ensures gateway { RTAX_GATEWAY ≡ 1 }
-    ensures netmask { RTAX_NETMASK ≡ 2 }
-    ensures genmask { RTAX_GENMASK ≡ 3 }
-    ensures ifp { RTAX_IFP ≡ 4 }
-    ensures ifa { RTAX_IFA ≡ 5 }
-    ensures flags { FLAGS_OFFSET ≡ 8 }
-    ensures pid { PID_OFFSET ≡ 16 }
-    ensures errno { ERRNO_OFFSET ≡ 24 }
 {}

@@ -1,17 +1,23 @@
 //! The messages that the world makes.
 ghost use Rattle.std.specs.Prelude.{◌≡◌, ◌≤◌, length, option_map};
+ghost use Rattle.sock_addrs.specs.Sockaddrs.{mask_sockaddr};
+ghost use Rattle.mask_table.specs.Ranks.{mask_of};
 ghost use Rattle.listeners.specs.Queue.{IsMessage};
 ghost use Rattle.route_msgs.specs.AddrInfo.{address_bytes, bytes_or_none, gate_sockaddr, padded};
 ghost use Rattle.route_msgs.specs.Headers.{blank as blank_header};
-ghost use Rattle.route_core.specs.Messages.{address_message as address_message_of, errno_or_zero, gate_family as family_of_gate, interface_addresses as addresses_of_interface, looked_up as looked_up_message, notice_family as family_of_notice, notice_message as message_of_notice, redirected as redirected_message, route_deleted as deleted_message, route_got as got_message, route_added as added_message, route_told as told_message};
+ghost use Rattle.route_core.specs.Messages.{address_message as address_message_of, doubted as doubted_message, errno_or_zero, gate_family as family_of_gate, interface_addresses as addresses_of_interface, looked_up as looked_up_message, notice_family as family_of_notice, notice_message as message_of_notice, redirected as redirected_message, route_deleted as deleted_message, route_got as got_message, route_added as added_message, route_told as told_message};
 
-use arrayvec::ArrayVec;
 use if_addrs::Facts;
+use mask_table::Rank;
 use radix_tree::Entry;
 use route_entries::{Route, addresses_of, destination_of};
 use route_msgs::flags::{RTF_DONE, RTF_UP};
-use route_msgs::kinds::{RTM_ADD, RTM_DELETE, RTM_GET, RTM_MISS, RTM_REDIRECT, RTM_RESOLVE};
-use route_msgs::{AddrInfo, Header, IfaHeader, Sockaddr, write_ifa_msg, write_route_msg};
+use route_msgs::kinds::{
+    RTM_ADD, RTM_DELETE, RTM_GET, RTM_LOSING, RTM_MISS, RTM_REDIRECT, RTM_RESOLVE,
+};
+use route_msgs::{
+    AddrInfo, Header, IfaHeader, Message, Sockaddr, ifa_flags, write_ifa_msg, write_route_msg,
+};
 use route_ops::Notice;
 use sock_addrs::families::{AF_INET, AF_LINK};
 use sock_addrs::{Errno, Gate, Inet, Link};
@@ -58,15 +64,14 @@ pub(crate) fn address_message(
     link: Link,
     address: Inet,
     facts: &Facts,
-) -> ArrayVec<u8, 256>
+) -> Message
     ensures message { result.items ≡ address_message_of kind index link address facts.now }
     ensures whole { IsMessage result.items }
-    ensures most { length result.items ≤ 256 }
 {
     let header = IfaHeader {
         kind,
         addrs: 0,
-        flags: facts.flags,
+        flags: ifa_flags(facts.cloning, facts.routed),
         index,
         padding: 0,
         metric: 0,
@@ -76,11 +81,10 @@ pub(crate) fn address_message(
 
 /// A message of this type about the route of an interface's address, with these flags.
 #[tactic(auto, using(crate::proofs::WholeMessages::message_of_size))]
-fn route_told(kind: u8, index: u16, flags: u16, route: &Entry<Route>) -> ArrayVec<u8, 256>
+fn route_told(kind: u8, index: u16, flags: u16, route: &Entry<Route>) -> Message
     requires { route.now.rank ≤ 33 }
     ensures message { result.items ≡ told_message kind index flags route.now }
     ensures whole { IsMessage result.items }
-    ensures most { length result.items ≤ 256 }
 {
     let header = Header {
         index,
@@ -94,37 +98,29 @@ fn route_told(kind: u8, index: u16, flags: u16, route: &Entry<Route>) -> ArrayVe
 }
 
 /// That the route of an interface's new address was added.
-pub(crate) fn route_added(index: u16, route: &Entry<Route>) -> ArrayVec<u8, 256>
+pub(crate) fn route_added(index: u16, route: &Entry<Route>) -> Message
     requires { route.now.rank ≤ 33 }
     ensures message { result.items ≡ added_message index route.now }
     ensures whole { IsMessage result.items }
-    ensures most { length result.items ≤ 256 }
 {
     route_told(RTM_ADD, index, route.value.flags, route)
 }
 
 /// That the route of an interface's address was deleted.
-pub(crate) fn route_deleted(index: u16, route: &Entry<Route>) -> ArrayVec<u8, 256>
+pub(crate) fn route_deleted(index: u16, route: &Entry<Route>) -> Message
     requires { route.now.rank ≤ 33 }
     ensures message { result.items ≡ deleted_message index route.now }
     ensures whole { IsMessage result.items }
-    ensures most { length result.items ≤ 256 }
 {
     route_told(RTM_DELETE, index, route.value.flags & !RTF_UP, route)
 }
 
 /// The reply to a GET: what was asked, and the route with what is shown of its interface.
 #[tactic(auto, using(crate::proofs::WholeMessages::message_of_size))]
-pub(crate) fn route_got(
-    asked: &Header,
-    pid: u32,
-    shown: &Shown,
-    route: &Entry<Route>,
-) -> ArrayVec<u8, 256>
+pub(crate) fn route_got(asked: &Header, pid: u32, shown: &Shown, route: &Entry<Route>) -> Message
     requires { route.now.rank ≤ 33 }
     ensures message { result.items ≡ got_message asked.now pid shown.now route.now }
     ensures whole { IsMessage result.items }
-    ensures most { length result.items ≤ 256 }
 {
     let header = Header {
         index: shown.index,
@@ -168,6 +164,17 @@ fn gate(gate: Option<Gate>) -> Option<Sockaddr>
     }
 }
 
+/// The mask of a rank, where it has one.
+fn mask(rank: Rank) -> Option<Sockaddr>
+    ensures sockaddr { result ≡ option_map mask_sockaddr (mask_of rank) }
+    ensures most { length (bytes_or_none result) ≤ 8 }
+{
+    match rank.mask() {
+        Some(prefix) => Some(Sockaddr::mask(prefix.bits())),
+        None => None,
+    }
+}
+
 /// The errno of a message.
 fn number(errno: Option<Errno>) -> u32
     ensures { result ≡ errno_or_zero errno }
@@ -180,10 +187,9 @@ fn number(errno: Option<Errno>) -> u32
 
 /// A message of this type about a look-up.
 #[tactic(auto, using(crate::proofs::WholeMessages::message_of_size))]
-fn looked_up(kind: u8, about: Gate, errno: Option<Errno>) -> ArrayVec<u8, 256>
+fn looked_up(kind: u8, about: Gate, errno: Option<Errno>) -> Message
     ensures message { result.items ≡ looked_up_message kind about errno }
     ensures whole { IsMessage result.items }
-    ensures most { length result.items ≤ 256 }
 {
     let header = Header {
         flags: u32::from(RTF_DONE),
@@ -205,10 +211,9 @@ fn redirected(
     author: Inet,
     flags: u16,
     errno: Option<Errno>,
-) -> ArrayVec<u8, 256>
+) -> Message
     ensures message { result.items ≡ redirected_message destination gateway author flags errno }
     ensures whole { IsMessage result.items }
-    ensures most { length result.items ≤ 256 }
 {
     let header = Header {
         flags: u32::from(flags),
@@ -224,11 +229,29 @@ fn redirected(
     write_route_msg(&header, &addresses)
 }
 
-/// The message of a look-up or a redirect.
-pub(crate) fn notice_message(notice: &Notice) -> ArrayVec<u8, 256>
+/// The message of a route that is doubted.
+#[tactic(auto, using(crate::proofs::WholeMessages::message_of_size))]
+fn doubted(destination: Inet, gateway: Gate, rank: Rank, flags: u16) -> Message
+    ensures message { result.items ≡ doubted_message destination gateway rank flags }
+    ensures whole { IsMessage result.items }
+{
+    let header = Header {
+        flags: u32::from(flags | RTF_DONE),
+        ..blank(RTM_LOSING)
+    };
+    let addresses = AddrInfo {
+        dst: Some(Sockaddr::inet(destination)),
+        gateway: Some(Sockaddr::gate(gateway)),
+        netmask: mask(rank),
+        ..AddrInfo::default()
+    };
+    write_route_msg(&header, &addresses)
+}
+
+/// The message of a notice.
+pub(crate) fn notice_message(notice: &Notice) -> Message
     ensures message { result.items ≡ message_of_notice notice.now }
     ensures whole { IsMessage result.items }
-    ensures most { length result.items ≤ 256 }
 {
     match notice {
         Notice::Miss { about, errno } => looked_up(RTM_MISS, *about, *errno),
@@ -240,6 +263,12 @@ pub(crate) fn notice_message(notice: &Notice) -> ArrayVec<u8, 256>
             flags,
             errno,
         } => redirected(*destination, *gateway, *author, *flags, *errno),
+        Notice::Losing {
+            address,
+            gateway,
+            rank,
+            flags,
+        } => doubted(*address, *gateway, *rank, *flags),
     }
 }
 
@@ -253,12 +282,12 @@ fn gate_family(gate: &Gate) -> u8
     }
 }
 
-/// The family of those who hear of a look-up or a redirect: its destination's.
+/// The family of those who hear a notice: its destination's.
 pub(crate) fn notice_family(notice: &Notice) -> u8
     ensures { result ≡ family_of_notice notice.now }
 {
     match notice {
         Notice::Miss { about, .. } | Notice::Resolve { about } => gate_family(about),
-        Notice::Redirect { .. } => AF_INET,
+        Notice::Redirect { .. } | Notice::Losing { .. } => AF_INET,
     }
 }

@@ -1,5 +1,5 @@
 //! The requests that writes make, carried out.
-ghost use Rattle.std.specs.Prelude.{◌≡◌, ◌⊎◌, ◌≤◌, ℕ, List, [], length, None, Ok, Err, IfOk, IfSome, OnErr, MatchResult};
+ghost use Rattle.std.specs.Prelude.{◌≡◌, ◌⊎◌, ℕ, List, [], None, Ok, Err, IfOk, IfSome, OnErr, MatchResult, true};
 ghost use Rattle.if_addrs.specs.Interfaces.{IsOf};
 ghost use Rattle.listeners.specs.Queue.{IsMessage};
 ghost use Rattle.route_msgs.specs.Headers.{header_in};
@@ -9,19 +9,19 @@ ghost use Rattle.route_ops.specs.Deleting.{doomed, got};
 ghost use Rattle.route_ops.specs.Standing.{AreOf, KeepsAreOf};
 ghost use Rattle.sock_addrs.specs.declared.errno.Errno.TheVariants.{ENOBUFS};
 ghost use Rattle.route_core.specs.Outcomes.{outcome_with};
-ghost use Rattle.route_core.specs.Requests.{adding_outcome, delete_outcome, done_reply, get_outcome, interface_shown, lock_outcome, outcome_of};
+ghost use Rattle.route_core.specs.declared.request.Request.TheVariants as asks;
+ghost use Rattle.route_core.specs.Requests.{adding_outcome, delete_outcome, done_reply, get_outcome, interface_shown, lock_outcome, makes_room, outcome_of};
 
 use crate::messages::{Shown, route_got};
 use crate::request::{Asked, Request};
-use arrayvec::ArrayVec;
 use if_addrs::{IfaRef, Interfaces};
 use mask_table::Prefix;
 use radix_tree::Table;
 use route_entries::Route;
-use route_msgs::Header;
+use route_msgs::{Header, Message};
 use route_ops::{
-    Change, NewRoute, Notice, finish, prepare, request_add, request_change, request_delete,
-    request_get, request_lock,
+    Change, NewRoute, Notices, check_add, check_change, finish, prepare, request_add,
+    request_change, request_delete, request_get, request_lock,
 };
 use sock_addrs::{Errno, Inet};
 
@@ -29,14 +29,14 @@ use sock_addrs::{Errno, Inet};
 #[derive(Drop)]
 pub(crate) struct Done {
     /// The messages before its reply, in order.
-    pub(crate) notices: ArrayVec<Notice, 2>,
+    pub(crate) notices: Notices,
     /// The reply, where it isn't the written message.
-    pub(crate) reply: Option<ArrayVec<u8, 256>>,
+    pub(crate) reply: Option<Message>,
 }
 
 impl Done {
     /// It told these messages, and its reply is the written one.
-    fn told(notices: ArrayVec<Notice, 2>) -> Done
+    fn told(notices: Notices) -> Done
         ensures notices { result.notices ≡ notices }
         ensures reply { result.reply ≡ None }
     {
@@ -47,12 +47,12 @@ impl Done {
     }
 
     /// It told nothing but the reply.
-    fn quiet(reply: Option<ArrayVec<u8, 256>>) -> Done
+    fn quiet(reply: Option<Message>) -> Done
         ensures notices { result.notices.items ≡ [] }
         ensures reply { result.reply ≡ reply }
     {
         Done {
-            notices: ArrayVec::new(),
+            notices: Notices::new(),
             reply,
         }
     }
@@ -70,11 +70,10 @@ pub(crate) fn carry_out(
     ensures outcome { (m : List ℕ) → asked.now.header ≡ header_in m → MatchResult result
         (λ d. outcome_of interfaces.now table.old.entries pid m asked.now.request
         ≡ Ok (outcome_with pid m table.new.entries d.notices.items d.reply))
-        (λ e. (outcome_of interfaces.now table.old.entries pid m asked.now.request ≡ Err e) ⊎ (e ≡ ENOBUFS)) }
+        (λ e. (outcome_of interfaces.now table.old.entries pid m asked.now.request ≡ Err e)
+        ⊎ ((makes_room interfaces.now table.old.entries asked.now.request ≡ true) × (e ≡ ENOBUFS))) }
     ensures kept { OnErr result (table.new.entries ≡ table.old.entries) }
-    ensures few { IfOk result (λ d. length d.notices.items ≤ 1) }
     ensures message { IfOk result (λ d. IfSome d.reply (λ reply. IsMessage reply.items)) }
-    ensures most { IfOk result (λ d. IfSome d.reply (λ reply. length reply.items ≤ 256)) }
     ensures of { AreOf interfaces.now table.new.entries }
 {
     match &asked.request {
@@ -112,13 +111,18 @@ fn add(table: &mut Table<Route>, interfaces: &Interfaces, asked: &NewRoute) -> R
         (λ d. adding_outcome (done_reply pid m) (add_of asked.now interfaces.now table.old.entries)
         ≡ Ok (outcome_with pid m table.new.entries d.notices.items d.reply))
         (λ e. (adding_outcome (done_reply pid m) (add_of asked.now interfaces.now table.old.entries) ≡ Err e)
-        ⊎ (e ≡ ENOBUFS)) }
+        ⊎ ((makes_room interfaces.now table.old.entries (asks.Add asked.now) ≡ true) × (e ≡ ENOBUFS))) }
     ensures kept { OnErr result (table.new.entries ≡ table.old.entries) }
-    ensures few { IfOk result (λ d. length d.notices.items ≤ 1) }
     ensures echoed { IfOk result (λ d. d.reply ≡ None) }
     ensures of { AreOf interfaces.now table.new.entries }
 {
-    let mut spare = prepare(table)?;
+    let Ok(mut spare) = prepare(table) else {
+        let mut visits = table.begin();
+        let Err(errno) = check_add(table, &mut visits, interfaces, asked) else {
+            return Err(Errno::ENOBUFS);
+        };
+        return Err(errno);
+    };
     let added = request_add(table, interfaces, &mut spare, asked);
     finish(table, spare);
     Ok(Done::told(added?.messages))
@@ -131,13 +135,18 @@ fn change(table: &mut Table<Route>, interfaces: &Interfaces, asked: &Change) -> 
         (λ d. adding_outcome (done_reply pid m) (change_of asked.now interfaces.now table.old.entries)
         ≡ Ok (outcome_with pid m table.new.entries d.notices.items d.reply))
         (λ e. (adding_outcome (done_reply pid m) (change_of asked.now interfaces.now table.old.entries) ≡ Err e)
-        ⊎ (e ≡ ENOBUFS)) }
+        ⊎ ((makes_room interfaces.now table.old.entries (asks.Change asked.now) ≡ true) × (e ≡ ENOBUFS))) }
     ensures kept { OnErr result (table.new.entries ≡ table.old.entries) }
-    ensures few { IfOk result (λ d. length d.notices.items ≤ 1) }
     ensures echoed { IfOk result (λ d. d.reply ≡ None) }
     ensures of { AreOf interfaces.now table.new.entries }
 {
-    let mut spare = prepare(table)?;
+    let Ok(mut spare) = prepare(table) else {
+        let mut visits = table.begin();
+        let Err(errno) = check_change(table, &mut visits, asked) else {
+            return Err(Errno::ENOBUFS);
+        };
+        return Err(errno);
+    };
     let changed = request_change(table, interfaces, &mut spare, asked);
     finish(table, spare);
     Ok(Done::told(changed?.messages))
@@ -156,7 +165,6 @@ fn delete(
         (λ e. delete_outcome table.old.entries (done_reply pid m) (doomed key netmask flags table.old.entries)
         ≡ Err e) }
     ensures kept { OnErr result (table.new.entries ≡ table.old.entries) }
-    ensures none { IfOk result (λ d. d.notices.items ≡ []) }
     ensures echoed { IfOk result (λ d. d.reply ≡ None) }
     ensures of { KeepsAreOf table.old.entries table.new.entries }
 {
@@ -180,7 +188,6 @@ fn lock(
         (lock_of destination netmask inits locks table.old.entries)
         ≡ Err e) }
     ensures kept { OnErr result (table.new.entries ≡ table.old.entries) }
-    ensures none { IfOk result (λ d. d.notices.items ≡ []) }
     ensures echoed { IfOk result (λ d. d.reply ≡ None) }
     ensures of { KeepsAreOf table.old.entries table.new.entries }
 {
@@ -204,8 +211,6 @@ fn get(
         (λ e. get_outcome interfaces.now table.old.entries pid m shows_interface (got destination table.old.entries)
         ≡ Err e) }
     ensures message { IfOk result (λ d. IfSome d.reply (λ reply. IsMessage reply.items)) }
-    ensures most { IfOk result (λ d. IfSome d.reply (λ reply. length reply.items ≤ 256)) }
-    ensures none { IfOk result (λ d. d.notices.items ≡ []) }
     ensures kept { table.new.entries ≡ table.old.entries }
 {
     let mut visits = table.begin();

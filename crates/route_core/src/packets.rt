@@ -1,54 +1,72 @@
 //! Packets.
-ghost use Rattle.std.specs.Prelude.{◌≡◌};
+ghost use Rattle.std.specs.Prelude.{◌≡◌, true};
 ghost use Rattle.if_addrs.specs.Interfaces.{IsOf};
 ghost use Rattle.route_core.specs.Tried.{answer_to as answer_of};
-ghost use Rattle.route_core.specs.Packets.{choice_of, fate_of, rejection_of};
+ghost use Rattle.route_core.specs.Packets.{choice_of, clones_for, fate_of, rejection_of};
 ghost use Rattle.route_core.specs.Step.{Steps};
 ghost use Rattle.route_core.specs.declared.command.Command.TheVariants.{Packet};
 
-use crate::telling::{MOST_TOLD, tell};
+use crate::telling::tell;
 use crate::tried::answer_to;
 use crate::{Answer, Choice, World};
 use if_addrs::Interfaces;
 use radix_tree::Entry;
 use route_entries::Route;
-use route_msgs::flags::{RTF_BLACKHOLE, RTF_HOST, RTF_REJECT};
-use route_ops::{count_use, finish, known_route, look_up, prepare};
+use route_msgs::flags::{RTF_BLACKHOLE, RTF_CLONING, RTF_HOST, RTF_REJECT};
+use route_ops::{Notice, count_use, finish, look_up, prepare, request_get};
 use sock_addrs::{Errno, Gate, Inet};
 
 impl World {
     /// Finds the route of a packet to this address, which clones where it has to, and counts its use. A packet that
     /// finds none is refused by EHOSTUNREACH; one whose route is a blackhole is dropped; one whose route rejects is
     /// refused by EHOSTUNREACH where that is a host's, and otherwise by ENETUNREACH. ENOBUFS: there is no memory,
-    /// which is asked for only where the packet finds no route or one that clones.
-    pub fn packet(&mut self, destination: Inet) -> Answer
+    /// which is asked for only where its route clones.
+    pub fn packet(&mut self, destination: Inet) -> Answer<'static>
         ensures { Steps self.old (Packet destination) result self.new }
     {
         answer_to(self.try_packet(destination))
     }
 
     #[tactic(auto, unfolding(crate::specs::Step::effect, crate::specs::Step::takes_memory))]
-    fn try_packet(&mut self, destination: Inet) -> Result<Answer, Errno>
+    fn try_packet(&mut self, destination: Inet) -> Result<Answer<'static>, Errno>
         ensures { Steps self.old (Packet destination) (answer_of result) self.new }
     {
         let mut visits = self.table.begin();
-        if let Some(route) = known_route(&self.table, &mut visits, destination) {
-            count_use(&mut self.table, &route);
-            return Ok(fate(&self.interfaces, &route));
+        let Ok(best) = request_get(&self.table, &mut visits, destination) else {
+            let miss = Notice::Miss {
+                about: Gate::Inet(destination),
+                errno: None,
+            };
+            tell(&mut self.listeners, &[miss]);
+            return Err(Errno::EHOSTUNREACH);
+        };
+        if best.value.has(RTF_CLONING) {
+            return self.packet_that_clones(destination);
         }
-        self.listeners.reserve(MOST_TOLD)?;
+        count_use(&mut self.table, &best);
+        Ok(fate(&self.interfaces, &best))
+    }
+
+    /// Finds the route of a packet whose route clones for it.
+    #[tactic(auto, unfolding(crate::specs::Step::effect, crate::specs::Step::takes_memory))]
+    fn packet_that_clones(&mut self, destination: Inet) -> Result<Answer<'static>, Errno>
+        requires { clones_for destination self.old.table ≡ true }
+        ensures { Steps self.old (Packet destination) (answer_of result) self.new }
+    {
         let mut spare = prepare(&mut self.table)?;
         let looked = look_up(&mut self.table, &mut spare, Gate::Inet(destination), true);
         finish(&mut self.table, spare);
         tell(&mut self.listeners, &looked.messages);
-        let route = looked.answer.ok_or(Errno::EHOSTUNREACH)?;
+        let Some(route) = looked.answer else {
+            unreachable!()
+        };
         count_use(&mut self.table, &route);
         Ok(fate(&self.interfaces, &route))
     }
 }
 
 /// What becomes of a packet by its route.
-fn fate(interfaces: &Interfaces, route: &Entry<Route>) -> Answer
+fn fate(interfaces: &Interfaces, route: &Entry<Route>) -> Answer<'static>
     requires { IsOf route.now.value.ifa interfaces.now }
     ensures { result ≡ fate_of interfaces.now route.now }
 {

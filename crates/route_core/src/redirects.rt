@@ -3,7 +3,7 @@ ghost use Rattle.route_core.specs.Tried.{done_or_refused as answer_of};
 ghost use Rattle.route_core.specs.Step.{Steps};
 ghost use Rattle.route_core.specs.declared.command.Command.TheVariants.{Redirect};
 
-use crate::telling::{MOST_TOLD, tell};
+use crate::telling::tell;
 use crate::tried::done_or_refused;
 use crate::{Answer, NewGateway, World};
 use route_ops::{finish, prepare, redirect};
@@ -13,7 +13,7 @@ impl World {
     /// Follows a redirect, of which the sockets hear in each case but want of memory. Refused in the order of
     /// `route_ops::redirect`, by ENETUNREACH, EINVAL, EHOSTUNREACH and EEXIST, and no route is changed then. ENOBUFS:
     /// there is no memory.
-    pub fn redirect(&mut self, asked: &NewGateway) -> Answer
+    pub fn redirect(&mut self, asked: &NewGateway) -> Answer<'static>
         ensures { Steps self.old (Redirect asked.now) result self.new }
     {
         done_or_refused(self.try_redirect(asked))
@@ -23,7 +23,6 @@ impl World {
     fn try_redirect(&mut self, asked: &NewGateway) -> Result<(), Errno>
         ensures { Steps self.old (Redirect asked.now) (answer_of result) self.new }
     {
-        self.listeners.reserve(MOST_TOLD)?;
         let mut spare = prepare(&mut self.table)?;
         let redirected = redirect(&mut self.table, &self.interfaces, &mut spare, asked);
         finish(&mut self.table, spare);

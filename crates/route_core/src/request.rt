@@ -6,6 +6,7 @@ ghost use Rattle.sock_addrs.specs.Sockaddrs.{family as family_byte};
 ghost use Rattle.sock_addrs.specs.declared.families.TheConstants.{AF_INET};
 ghost use Rattle.sock_addrs.specs.declared.gate.Gate.TheVariants as gate;
 ghost use Rattle.route_msgs.specs.Headers.{header_in};
+ghost use Rattle.route_msgs.specs.declared.places.TheConstants.{RTAX_DST, RTAX_GATEWAY, RTAX_GENMASK, RTAX_IFA, RTAX_IFP, RTAX_NETMASK};
 ghost use Rattle.route_msgs.specs.Slots.{SlotsAreWithin, address_in, slots_in};
 ghost use Rattle.route_core.specs.Effects.{IsEchoed};
 ghost use Rattle.route_core.specs.Writes.{destination as destination_in, gate_in, has_bad_gate, has_bad_length, has_bad_mask, is_no_gate, is_no_mask, is_request as is_request_kind, mask_in, message_rules, request_in, request_rules};
@@ -13,25 +14,13 @@ ghost use Rattle.route_core.specs.Writes.{destination as destination_in, gate_in
 use crate::refusal::Refusal;
 use mask_table::Prefix;
 use route_msgs::kinds::{RTM_ADD, RTM_CHANGE, RTM_DELETE, RTM_GET, RTM_LOCK};
+use route_msgs::places::{RTAX_DST, RTAX_GATEWAY, RTAX_GENMASK, RTAX_IFA, RTAX_IFP, RTAX_NETMASK};
 use route_msgs::{Header, Parsed, read_message};
 use route_ops::{Change, NewRoute};
 use sock_addrs::{BadAddr, Errno, Gate, Inet, family_of, read_gate, read_inet, read_mask};
 
 /// The longest write that is looked at.
 pub(crate) const MOST_BYTES: usize = 8192;
-
-/// The place of the destination among the addresses of a message, as <net/route.h> names it.
-pub(crate) const RTAX_DST: usize = 0;
-/// The place of the gateway.
-pub(crate) const RTAX_GATEWAY: usize = 1;
-/// The place of the mask.
-pub(crate) const RTAX_NETMASK: usize = 2;
-/// The place of the mask for clones.
-pub(crate) const RTAX_GENMASK: usize = 3;
-/// The place of the address that names an interface.
-pub(crate) const RTAX_IFP: usize = 4;
-/// The place of the interface address.
-pub(crate) const RTAX_IFA: usize = 5;
 
 /// What a written message asks, with what is taken from the message.
 #[derive(Clone, Copy, Debug)]

@@ -6,8 +6,8 @@ use crate::Answer;
 use sock_addrs::Errno;
 
 /// What came of it, or why it was refused.
-pub(crate) fn answer_to(tried: Result<Answer, Errno>) -> Answer
-    ensures { result ≡ answer_of tried }
+pub(crate) fn answer_to<'a>(tried: Result<Answer<'a>, Errno>) -> Answer<'a>
+    ensures { result ≡ answer_of tried.entry }
 {
     match tried {
         Ok(answer) => answer,
@@ -16,7 +16,7 @@ pub(crate) fn answer_to(tried: Result<Answer, Errno>) -> Answer
 }
 
 /// That it was done, or why it was refused.
-pub(crate) fn done_or_refused(tried: Result<(), Errno>) -> Answer
+pub(crate) fn done_or_refused(tried: Result<(), Errno>) -> Answer<'static>
     ensures { result ≡ answer_of_done tried }
 {
     answer_to(tried.map(|()| Answer::Done))

@@ -1,12 +1,13 @@
-ghost use Rattle.std.specs.Prelude.{◌≡◌, ◌≤◌, ℕ, List, length, IfOk};
+ghost use Rattle.std.specs.Prelude.{◌≡◌, ◌≤◌, length, IfOk};
 ghost use Rattle.route_ops.specs.Standing.{brought};
 ghost use Rattle.route_core.specs.Tried.{answer_to as answer_of};
 ghost use Rattle.route_core.specs.World.{empty_world};
 ghost use Rattle.route_core.specs.Step.{IsStep, Steps, effect};
-ghost use Rattle.route_core.specs.declared.command.Command.TheVariants.{Attach, Close, Loopback, Open, Read};
+ghost use Rattle.route_core.specs.declared.command.Command.TheVariants.{Attach, Close, Loopback, Lost, Open, Read};
 
+use crate::replies::ReplyBuffer;
 use crate::tried::{answer_to, done_or_refused};
-use crate::{Answer, Command, Kind, LinkAddress, Received, Said};
+use crate::{Answer, Command, Kind, LinkAddress, Received, Room, Said};
 use if_addrs::Interfaces;
 use listeners::Listeners;
 use radix_tree::Table;
@@ -21,6 +22,7 @@ pub struct World {
     pub(crate) table: Table<Route>,
     pub(crate) interfaces: Interfaces,
     pub(crate) listeners: Listeners,
+    pub(crate) reply: ReplyBuffer,
     pub(crate) alloc: Global,
 }
 
@@ -30,13 +32,14 @@ impl Model for World {
 
     ghost Value = { World };
 
-    ghost view = { λ w. record { table = w.table.entries; interfaces = w.interfaces; sockets = w.listeners.sockets } };
+    ghost view = { λ w. record { table = w.table.entries; interfaces = w.interfaces; sockets = w.listeners } };
 
     ghost invariant = { λ w. AreOf w.interfaces w.table.entries };
 }
 
 impl World {
-    /// A world without routes, interfaces and sockets. `Err` where there is no memory for it.
+    /// A world without routes, interfaces and sockets, with room for the reply to a write. `Err` where there is no
+    /// memory for it.
     pub fn new(alloc: Global) -> Result<World, AllocError>
         ensures { IfOk result (λ w. w ≡ empty_world) }
     {
@@ -44,26 +47,25 @@ impl World {
             table: Table::new(alloc)?,
             interfaces: Interfaces::new(alloc),
             listeners: Listeners::new(alloc),
+            reply: ReplyBuffer::new(alloc)?,
             alloc,
         })
     }
 
     /// Takes one command: the answer and the world after it are the list machine's, or, where the command may want
-    /// memory, the answer is ENOBUFS and the world stays as it was. A read wants none. It brings at most two routes
-    /// that were not there, and tells at most two messages.
-    pub fn step(&mut self, command: &Command) -> Answer
+    /// memory, the answer is ENOBUFS and the world stays as it was. It brings at most two routes that were not there,
+    /// and tells at most two messages. What a socket read is put into `room`, and lent from there.
+    pub fn step<'a>(&mut self, command: &Command, room: &'a mut Room) -> Answer<'a>
         ensures step { Steps self.old command.now result self.new }
-        ensures read { (id : List ℕ) → command.now ≡ Read id → IsStep self.old command.now result self.new }
         ensures few_routes { brought self.old.table self.new.table ≤ 2 }
         ensures few_messages { length (effect self.old command.now).told ≤ 2 }
     {
-        self.obey(&command.said())
+        self.obey(&command.said(), room)
     }
 
     /// Takes one command whose bytes lie elsewhere, as `step` takes it.
-    pub fn obey(&mut self, said: &Said<'_>) -> Answer
-        ensures step { Steps self.old said.now result self.new }
-        ensures read { (id : List ℕ) → said.now ≡ Read id → IsStep self.old said.now result self.new }
+    pub fn obey<'a>(&mut self, said: &Said<'_>, room: &'a mut Room) -> Answer<'a>
+        ensures { Steps self.old said.now result self.new }
     {
         match said {
             Command::Attach {
@@ -71,7 +73,7 @@ impl World {
                 kind,
                 type_number,
                 link,
-            } => self.attach(*name, *kind, *type_number, link),
+            } => self.attach(*name, *kind, *type_number, *link),
             Command::AddAddress {
                 name,
                 address,
@@ -84,9 +86,11 @@ impl World {
             Command::Close { id } => self.shut(*id),
             Command::Loopback { id, on } => self.set_loopback(*id, *on),
             Command::Write { id, bytes } => self.write(*id, bytes.as_slice()),
-            Command::Read { id } => self.take(*id),
+            Command::Read { id } => self.take(*id, room),
+            Command::Lost { id } => self.lost(*id),
             Command::Packet { destination } => self.packet(*destination),
             Command::Redirect(asked) => self.redirect(asked),
+            Command::Losing { destination } => self.losing(*destination),
             Command::DumpSize { filter } => self.dump_size(*filter),
             Command::Dump { filter, room } => self.dump(*filter, *room),
         }
@@ -94,15 +98,22 @@ impl World {
 
     /// Attaches an interface. EEXIST: the name is there; ENOSPC: there are 64 interfaces; ENOBUFS: there is no memory.
     #[tactic(auto, unfolding(crate::specs::Step::effect, crate::specs::Step::takes_memory))]
-    pub fn attach(&mut self, name: Name, kind: Kind, type_number: u8, link: &LinkAddress) -> Answer
-        ensures { Steps self.old (Attach name kind type_number link.now) result self.new }
+    pub fn attach(
+        &mut self,
+        name: Name,
+        kind: Kind,
+        type_number: u8,
+        link: LinkAddress,
+    ) -> Answer<'static>
+        ensures { Steps self.old (Attach name kind type_number link) result self.new }
     {
-        done_or_refused(self.interfaces.attach(name, kind, type_number, link))
+        done_or_refused(self.interfaces.attach(name, kind, type_number, &link))
     }
 
-    /// Opens a socket. EEXIST: the id is open; EMFILE: 64 sockets are open; ENOBUFS: there is no memory.
+    /// Opens a socket, with room for its queue. EEXIST: the id is open; EMFILE: 64 sockets are open; ENOBUFS: there is
+    /// no memory.
     #[tactic(auto, unfolding(crate::specs::Step::effect, crate::specs::Step::takes_memory))]
-    pub fn listen(&mut self, id: Name, pid: u32, protocol: u8) -> Answer
+    pub fn listen(&mut self, id: Name, pid: u32, protocol: u8) -> Answer<'static>
         ensures { Steps self.old (Open id pid protocol) result self.new }
     {
         done_or_refused(self.listeners.listen(id, pid, protocol))
@@ -110,7 +121,7 @@ impl World {
 
     /// Closes a socket; its queue goes with it. EBADF: it isn't open. It wants no memory.
     #[tactic(auto, unfolding(crate::specs::Step::effect, crate::specs::Step::takes_memory))]
-    pub fn shut(&mut self, id: Name) -> Answer
+    pub fn shut(&mut self, id: Name) -> Answer<'static>
         ensures { IsStep self.old (Close id) result self.new }
     {
         done_or_refused(self.listeners.shut(id))
@@ -118,24 +129,39 @@ impl World {
 
     /// Whether a socket hears the replies to its own writes. EBADF: it isn't open. It wants no memory.
     #[tactic(auto, unfolding(crate::specs::Step::effect, crate::specs::Step::takes_memory))]
-    pub fn set_loopback(&mut self, id: Name, on: bool) -> Answer
+    pub fn set_loopback(&mut self, id: Name, on: bool) -> Answer<'static>
         ensures { IsStep self.old (Loopback id on) result self.new }
     {
         done_or_refused(self.listeners.set_loopback(id, on))
     }
 
-    /// Takes the messages that a socket has heard. EBADF: it isn't open. It wants no memory.
-    pub fn take(&mut self, id: Name) -> Answer
+    /// Takes the messages that a socket has heard: its queue and `room` are exchanged, which holds them from then on.
+    /// EBADF: it isn't open. It wants no memory.
+    pub fn take<'a>(&mut self, id: Name, room: &'a mut Room) -> Answer<'a>
         ensures { IsStep self.old (Read id) result self.new }
     {
-        answer_to(self.try_take(id))
+        answer_to(self.try_take(id, room))
     }
 
-    #[tactic(auto, unfolding(crate::specs::Step::effect, crate::specs::Step::takes_memory))]
-    fn try_take(&mut self, id: Name) -> Result<Answer, Errno>
+    #[tactic(auto, unfolding(crate::specs::Step::effect))]
+    fn try_take<'a>(&mut self, id: Name, room: &'a mut Room) -> Result<Answer<'a>, Errno>
         ensures { IsStep self.old (Read id) (answer_of result) self.new }
     {
-        let bytes = self.listeners.take(id)?;
-        Ok(Answer::Messages(Received::new(bytes), None))
+        let bytes = self.listeners.take(id, room)?;
+        Ok(Answer::Messages(Received::lent(bytes), None))
+    }
+
+    /// How many messages a socket has lost since it was opened. EBADF: it isn't open. It wants no memory.
+    pub fn lost(&mut self, id: Name) -> Answer<'static>
+        ensures { IsStep self.old (Lost id) result self.new }
+    {
+        answer_to(self.try_lost(id))
+    }
+
+    #[tactic(auto, unfolding(crate::specs::Step::effect))]
+    fn try_lost(&mut self, id: Name) -> Result<Answer<'static>, Errno>
+        ensures { IsStep self.old (Lost id) (answer_of result) self.new }
+    {
+        Ok(Answer::Size(self.listeners.lost(id)?))
     }
 }

@@ -1,20 +1,20 @@
 //! Writes to a routing socket.
-ghost use Rattle.std.specs.Prelude.{◌≡◌, ◌≤◌, ◌+◌, Some, IfSome, IsSome, IsNone, length};
+ghost use Rattle.std.specs.Prelude.{◌≡◌, IfSome, IsSome, Some};
 ghost use Rattle.listeners.specs.Queue.{IsMessage};
 ghost use Rattle.listeners.specs.Sockets.{delivered};
 ghost use Rattle.route_msgs.specs.Headers.{header_in};
 ghost use Rattle.route_core.specs.Effects.{EffectOr, IsEchoed, IsEffect};
 ghost use Rattle.route_core.specs.Outcomes.{reply_with};
-ghost use Rattle.route_core.specs.Requests.{outcome_of};
+ghost use Rattle.route_core.specs.Requests.{makes_room, outcome_of};
 ghost use Rattle.route_core.specs.Step.{Steps, refused_write, write_by_outcome};
 ghost use Rattle.route_core.specs.Tried.{done_or_refused as answer_of};
 ghost use Rattle.route_core.specs.declared.command.Command.TheVariants.{Write};
 
 use crate::outcomes::{Done, carry_out};
 use crate::refusal::Refusal;
-use crate::replies::{deliver_done, deliver_refusal};
+use crate::replies::ReplyBuffer;
 use crate::request::Asked;
-use crate::telling::{MOST_MADE, tell};
+use crate::telling::tell;
 use crate::tried::done_or_refused;
 use crate::{Answer, World};
 use listeners::Listeners;
@@ -30,9 +30,9 @@ impl World {
     /// they are no whole message; EPROTONOSUPPORT where its version is not 3; EINVAL where an address overruns, where
     /// there is no destination, where an address has a form that none has; EOPNOTSUPP where its type is none of these;
     /// EINVAL where a route is to be added without a gateway; ESRCH where the destination is of another family; then
-    /// as `route_ops` refuses the request. From EPROTONOSUPPORT on a refusal has a reply too, and ENOBUFS is answered
-    /// where there is no memory, for a reply or for what is asked.
-    pub fn write(&mut self, id: Name, bytes: &[u8]) -> Answer
+    /// as `route_ops` refuses the request. From EPROTONOSUPPORT on a refusal has a reply too. ENOBUFS: there is no
+    /// memory for a route that is to be added or changed.
+    pub fn write(&mut self, id: Name, bytes: &[u8]) -> Answer<'static>
         ensures { Steps self.old (Write id bytes.now) result self.new }
     {
         done_or_refused(self.try_write(id, bytes))
@@ -53,22 +53,32 @@ impl World {
     fn request(&mut self, id: Name, pid: u32, bytes: &[u8], asked: &Asked) -> Result<(), Errno>
         requires echoed { IsEchoed bytes.now }
         requires header { asked.now.header ≡ header_in bytes.now }
-        ensures { EffectOr (write_by_outcome self.old id pid bytes.now
+        ensures { EffectOr (makes_room self.old.interfaces self.old.table asked.now.request)
+            (write_by_outcome self.old id pid bytes.now
             (outcome_of self.old.interfaces self.old.table pid bytes.now asked.now.request))
             self.old (answer_of result) self.new }
     {
-        self.listeners
-            .reserve(MOST_MADE + bytes.len().max(MOST_MADE))?;
         match carry_out(&mut self.table, &self.interfaces, asked, pid) {
             Ok(done) => {
                 tell(&mut self.listeners, &done.notices);
-                reply(&mut self.listeners, id, pid, bytes, &asked.header, &done);
+                reply(
+                    &mut self.listeners,
+                    &mut self.reply,
+                    id,
+                    pid,
+                    bytes,
+                    &asked.header,
+                    &done,
+                );
                 Ok(())
             }
             Err(Errno::ENOBUFS) => Err(Errno::ENOBUFS),
             Err(errno) => {
-                deliver_refusal(&mut self.listeners, id, pid, bytes, errno, AF_INET);
-                Err(errno)
+                let refusal = Refusal {
+                    errno,
+                    family: Some(AF_INET),
+                };
+                self.refuse(id, pid, bytes, refusal)
             }
         }
     }
@@ -76,32 +86,33 @@ impl World {
     /// Refuses a write, once its reply is delivered to those who hear of it.
     fn refuse(&mut self, id: Name, pid: u32, bytes: &[u8], refusal: Refusal) -> Result<(), Errno>
         requires { IsSome refusal.family → IsEchoed bytes.now }
-        ensures effect { EffectOr (refused_write self.old id pid bytes.now refusal)
-            self.old (answer_of result) self.new }
-        ensures silent { IsNone refusal.family
-            → IsEffect (refused_write self.old id pid bytes.now refusal) (answer_of result) self.new }
+        ensures { IsEffect (refused_write self.old id pid bytes.now refusal) (answer_of result) self.new }
     {
-        let Some(family) = refusal.family else {
-            return Err(refusal.errno);
-        };
-        self.listeners.reserve(bytes.len())?;
-        deliver_refusal(&mut self.listeners, id, pid, bytes, refusal.errno, family);
+        if let Some(family) = refusal.family {
+            let reply = self.reply.refused(bytes, pid, refusal.errno);
+            self.listeners.deliver(reply, family, Some(id));
+        }
         Err(refusal.errno)
     }
 }
 
 /// Delivers the reply to a request that was done.
-fn reply(listeners: &mut Listeners, id: Name, pid: u32, bytes: &[u8], header: &Header, done: &Done)
+fn reply(
+    listeners: &mut Listeners,
+    buffer: &mut ReplyBuffer,
+    id: Name,
+    pid: u32,
+    bytes: &[u8],
+    header: &Header,
+    done: &Done,
+)
     requires echoed { IsEchoed bytes.now }
     requires header { header.now ≡ header_in bytes.now }
     requires message { IfSome done.now.reply (λ reply. IsMessage reply.items) }
-    requires most { IfSome done.now.reply (λ reply. length reply.items ≤ MOST_MADE) }
-    requires room { (length bytes.now ≤ listeners.old.reserved) × (MOST_MADE ≤ listeners.old.reserved) }
-    ensures { listeners.new.sockets
-        ≡ delivered (reply_with pid bytes.now done.now.reply) AF_INET (Some id) listeners.old.sockets }
+    ensures { listeners.new ≡ delivered (reply_with pid bytes.now done.now.reply) AF_INET (Some id) listeners.old }
 {
     match &done.reply {
         Some(reply) => listeners.deliver(reply, AF_INET, Some(id)),
-        None => deliver_done(listeners, id, pid, bytes, header),
+        None => listeners.deliver(buffer.done(bytes, header, pid), AF_INET, Some(id)),
     }
 }

@@ -90,16 +90,15 @@ answered_of-line line is = cond-true (is_answered line) (line ∷ []) [] (ap not
 
 -- the writer stopped within a line's answer
 pub StopsWithin-line : {W : Type 0} (contents : W → Option (List ℕ)) (old now : Counts W) (from : Standing) (line : Option (List ℕ)) (response : Result Answer Bad) (next : World)
-    → is_passed line ≡ false → Responds from.world line response next → WroteFront contents old now (response_text response)
-    → StopsWithin from (contents old.inner) (contents now.inner) (answered_of line)
-StopsWithin-line contents old now from line response next is responses front =
-    subst (λ x. StopsWithin from (contents old.inner) (contents now.inner) x) (sym (answered_of-line line is)) (record {
-      written = front.written;
-      unwritten = front.unwritten;
-      last = next;
-      appends = front.appends;
-      answered = (response, next, [], responses, sym front.whole ∙ sym (append-nil (response_text response)), (refl, refl));
-    })
+    → Responds from.world line response next → WroteFront contents old now (response_text response)
+    → StopsWithin from (contents old.inner) (contents now.inner) (line ∷ [])
+StopsWithin-line contents old now from line response next responses front = record {
+  written = front.written;
+  unwritten = front.unwritten;
+  last = next;
+  appends = front.appends;
+  answered = (response, next, [], responses, sym front.whole ∙ sym (append-nil (response_text response)), (refl, refl));
+}
 
 -- ---- a run that goes on
 

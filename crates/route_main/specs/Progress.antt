@@ -12,6 +12,9 @@ pub record Standing : Type 0 where
   pub world : World
   pub has_bad : Bool
 
+abbrev pub standing : World → Bool → Standing
+standing world has_bad = record { world = world; has_bad = has_bad }
+
 -- before the first line
 abbrev pub fresh : Standing
 fresh = record { world = empty_world; has_bad = false }

@@ -7,12 +7,16 @@ mod run;
 #[cfg(test)]
 mod tests;
 
-use program::{refusal_status, refusal_text, run_words};
+use program::{refusal_status, refusal_text, run_words, words_of};
 use run::{fault_text, status};
 use std::process::ExitCode;
 
 fn main(rt: HostRuntime) -> ExitCode {
-    let (status, text) = match run_words(&rt) {
+    let outcome = match words_of(&rt) {
+        Ok(words) => run_words(&rt, words.as_slice()),
+        Err(refusal) => Err(refusal),
+    };
+    let (status, text) = match outcome {
         Ok(outcome) => (status(outcome), fault_text(outcome)),
         Err(refusal) => (refusal_status(refusal), refusal_text(refusal)),
     };

@@ -3,6 +3,7 @@ ghost use Rattle.std.specs.Prelude.{◌≡◌, ◌≢◌, ◌+◌, ◌≤◌, �
 ghost use Rattle.std.specs.Io.KnownBytes.{Appends};
 ghost use Rattle.event_file.specs.Lines.{answered_lines, no_line};
 ghost use Rattle.route_main.specs.Progress.{fresh};
+ghost use Rattle.event_file.specs.Runs.{IsUndisturbed};
 ghost use Rattle.event_file.specs.Transcript.{IsTranscript, has_bad_line};
 ghost use Rattle.route_main.specs.Ends.{Ends, IsAnswered};
 
@@ -10,6 +11,7 @@ mod answerer;
 mod outcome;
 
 use answerer::Answerer;
+use event_file::laws::others_leave_the_text;
 use event_file::{Counted, LineBuffer};
 pub(crate) use outcome::{Outcome, fault_text, status};
 use std::alloc::{AllocError, Global};
@@ -42,11 +44,19 @@ pub(crate) fn run<R: Read, W: Write>(
     ensures bad_line { result ≡ Outcome.BadLine → IfSome (R.remaining reader.old.inner) (λ script.
         has_bad_line (answered_lines script) ≡ true) }
 
+    // And no listener disturbs another in that transcript: what others open, close, read and turn off or on changes no
+    // byte of what is answered to one.
+    ensures undisturbed { result ≡ Outcome.Done → IfSome (R.remaining reader.old.inner) (λ script. (text : List ℕ)
+        × Appends (W.contents writer.old.inner) (W.contents writer.new.inner) text × IsTranscript script text
+        × IsUndisturbed script text) }
+
     // What was read and written is said for each outcome.
     ensures ends { Ends result (R.remaining reader.old.inner) (R.remaining reader.new.inner)
         (W.contents writer.old.inner) (W.contents writer.new.inner) }
     ensures reads { reader.new.reads ≤ MOST_READS }
     ensures most_reads { MOST_READS ≡ 16777216 }
+    ensures room { READ_ROOM ≤ reader.old.least_room → READ_ROOM ≤ reader.new.least_room }
+    ensures read_room { READ_ROOM ≡ 4096 }
     ensures reads_needed { IfSome (R.remaining reader.old.inner) (λ script. reader.new.reads ≤ length script + 1) }
 
     // A run goes on as long as no read and no write fails, and a fault comes only where one failed, or the reads are
@@ -59,6 +69,7 @@ pub(crate) fn run<R: Read, W: Write>(
     ensures unfailed_reads { result ≡ Outcome.WriteFault → reader.new.failures ≡ 0 }
     ensures no_memory { result ≡ Outcome.NoMemory → (reader.new ≡ reader.old) × (writer.new ≡ writer.old) }
 {
+    others_leave_the_text();
     let Ok(mut start) = Start::new(alloc) else {
         return Outcome::NoMemory;
     };
@@ -115,6 +126,7 @@ fn answer_script<R: Read, W: Write>(
         (W.contents writer.old.inner) (W.contents writer.new.inner) }
     ensures reads { reader.new.reads ≤ MOST_READS }
     ensures reads_needed { IfSome (R.remaining reader.old.inner) (λ script. reader.new.reads ≤ length script + 1) }
+    ensures room { READ_ROOM ≤ reader.old.least_room → READ_ROOM ≤ reader.new.least_room }
     ensures unfailed { IsAnswered result → (reader.new.failures ≡ 0) × (writer.new.failures ≡ 0) }
     ensures read_fault { result ≡ Outcome.ReadFault → (reader.new.failures ≡ 1) ⊎ ((reader.new.reads ≡ MOST_READS)
         × IfSome (R.remaining reader.old.inner) (λ script. MOST_READS ≤ length script)) }

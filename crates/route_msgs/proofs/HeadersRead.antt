@@ -1,6 +1,6 @@
 -- The fields of a message that was written.
 use Rattle.std.proofs.Common.{◌≡◌, ℕ, ◌+◌, ◌<◌, ◌≤◌, ◌^◌, true, List, ◌++◌, length, replicate, refl, sym, ap, ◌∙◌, arith, lit≤, lit<, length-append, drop_at}
-use Rattle.std.specs.Prelude.{slice_index, nat_le}
+use Rattle.std.specs.Prelude.{nat_le}
 use Rattle.std.proofs.lemmas.Bool.{leb-true}
 use Rattle.std.proofs.lemmas.List.{length-replicate}
 use Rattle.route_msgs.specs.Layout.{Field, number_at, with_fields}
@@ -11,7 +11,6 @@ use Rattle.route_msgs.specs.declared.header.Header.{Header}
 use Rattle.route_msgs.specs.declared.header.IfaHeader.{IfaHeader}
 use Rattle.route_msgs.specs.declared.addr_info.AddrInfo.{AddrInfo}
 use Rattle.route_msgs.proofs.FieldsRead.{FitsIn, AllFitIn, are_clear, value_among, read_fields, length-with_fields, number_at-append}
-use Rattle.route_msgs.proofs.Offsets.{built, counted}
 use Rattle.route_msgs.specs.declared.kinds.TheConstants.{RTM_VERSION}
 use Rattle.route_msgs.specs.declared.metrics.Metrics.{Metrics}
 use Rattle.route_msgs.proofs.AddressSizes.{addresses_fit, addrs_of-lt}

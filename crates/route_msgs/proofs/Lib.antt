@@ -1,6 +1,7 @@
 mod FieldsRead
 mod HeadersRead
 mod LinkSockaddr
+mod Patched
 mod Placed
 mod Offsets
 pub mod SizesRead

@@ -1,7 +1,8 @@
 -- The two headers, as tables of offset, width and value; every byte that no field names is 0.
-use Rattle.std.specs.Prelude.{ℕ, ◌+◌, List, [], ◌∷◌, ◌++◌, length, replicate, slice_index}
+use Rattle.std.specs.Prelude.{ℕ, ◌+◌, Bool, if◌then◌else◌, List, [], ◌∷◌, ◌++◌, length, replicate}
 use Rattle.route_msgs.specs.Layout.{Field, field, number_at, with_fields}
 use Rattle.route_msgs.specs.AddrInfo.{address_bytes, addrs_of}
+use Rattle.route_msgs.specs.declared.flags.TheConstants.{IFA_ROUTE, RTF_CLONING}
 use Rattle.route_msgs.specs.declared.kinds.TheConstants.{RTM_VERSION}
 use Rattle.route_msgs.specs.declared.metrics.Metrics.{Metrics}
 use Rattle.route_msgs.specs.declared.header.Header.{Header}
@@ -83,6 +84,10 @@ ifa_fields size addrs h =
     ∷ field 14 2 h.padding
     ∷ field 16 4 h.metric
     ∷ []
+
+-- the flags of an interface's address: its route is cloning, and its route was added
+abbrev pub ifa_flags : Bool → Bool → ℕ
+ifa_flags cloning routed = (if cloning then RTF_CLONING else 0) + (if routed then IFA_ROUTE else 0)
 
 -- the headers' bytes
 abbrev pub route_head : ℕ → ℕ → Header → List ℕ

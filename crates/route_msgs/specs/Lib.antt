@@ -2,6 +2,8 @@ pub mod AddrInfo
 pub mod Examples
 pub mod Headers
 pub mod Layout
+pub mod MsgErr
+pub mod Patches
 pub mod Slots
 pub mod Sockaddr
 pub mod Written

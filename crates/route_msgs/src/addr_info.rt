@@ -1,10 +1,9 @@
 ghost use Rattle.std.specs.Prelude.{◌≡◌, ◌≤◌, length};
 
-use crate::Sockaddr;
 use crate::bits::{
     RTA_AUTHOR, RTA_BRD, RTA_DST, RTA_GATEWAY, RTA_GENMASK, RTA_IFA, RTA_IFP, RTA_NETMASK,
 };
-use arrayvec::ArrayVec;
+use crate::{MOST_MADE, Message, Sockaddr};
 
 /// The addresses of a message, by their names. A message's addrs field and its length follow from them.
 #[derive(Clone, Copy, Debug, Default, PartialEq, Eq)]
@@ -61,12 +60,12 @@ impl AddrInfo {
     }
 
     /// The bytes of all of them, one address after the other.
-    pub(crate) fn bytes(&self) -> ArrayVec<u8, 256>
-        requires { length (address_bytes self.now) ≤ 256 }
+    pub(crate) fn bytes(&self) -> Message
+        requires { length (address_bytes self.now) ≤ MOST_MADE }
         ensures { result.items ≡ address_bytes self.now }
     {
         let addresses = self.in_order();
-        let mut out = ArrayVec::new();
+        let mut out = Message::new();
         for sockaddr in &addresses {
             if let Some(sockaddr) = sockaddr {
                 out.try_extend_from_slice(sockaddr.as_bytes()).unwrap();

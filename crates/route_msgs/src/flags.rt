@@ -1,11 +1,13 @@
-//! The flags of a route, as <net/route.h> names them.
+//! The flags of a route, as <net/route.h> names them, and of an interface's address, as <net/if.h> does.
+
+use sock_addrs::flags;
 
 /// The route is usable.
 pub const RTF_UP: u16 = 0x1;
 /// The destination is reached through a gateway.
-pub const RTF_GATEWAY: u16 = 0x2;
+pub const RTF_GATEWAY: u16 = flags::RTF_GATEWAY;
 /// The destination is one host.
-pub const RTF_HOST: u16 = 0x4;
+pub const RTF_HOST: u16 = flags::RTF_HOST;
 /// Packets are refused.
 pub const RTF_REJECT: u16 = 0x8;
 /// A redirect made the route.
@@ -30,3 +32,6 @@ pub const RTF_BLACKHOLE: u16 = 0x1000;
 pub const RTF_PROTO2: u16 = 0x4000;
 /// For a protocol's own use, the first such bit.
 pub const RTF_PROTO1: u16 = 0x8000;
+
+/// The route of an interface's address was added; of such an address's flags, among which may also be RTF_CLONING.
+pub const IFA_ROUTE: u16 = 0x1;

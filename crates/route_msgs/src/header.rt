@@ -1,4 +1,8 @@
+ghost use Rattle.std.specs.Prelude.{◌≡◌};
+ghost use Rattle.route_msgs.specs.Headers.{ifa_flags as ifa_flags_of};
+
 use crate::Metrics;
+use crate::flags::{IFA_ROUTE, RTF_CLONING};
 
 /// The header of a message about a route (`struct rt_msghdr` of <net/route.h>), but for its length and its version.
 #[derive(Clone, Copy, Debug, Default, PartialEq, Eq)]
@@ -35,7 +39,7 @@ pub struct IfaHeader {
     pub kind: u8,
     /// Which addresses follow, of `bits`. A writer sets it by the addresses that it is given.
     pub addrs: u32,
-    /// The address's flags.
+    /// The address's flags; `ifa_flags` makes them.
     pub flags: u32,
     /// The interface's index.
     pub index: u16,
@@ -43,4 +47,13 @@ pub struct IfaHeader {
     pub padding: u16,
     /// The metric.
     pub metric: u32,
+}
+
+/// The flags of an interface's address: whether its route is cloning, and whether its route was added.
+pub fn ifa_flags(cloning: bool, routed: bool) -> u32
+    ensures { result ≡ ifa_flags_of cloning routed }
+{
+    let cloning = if cloning { RTF_CLONING } else { 0 };
+    let routed = if routed { IFA_ROUTE } else { 0 };
+    u32::from(cloning + routed)
 }

@@ -11,6 +11,8 @@ pub const RTM_DELETE: u8 = 2;
 pub const RTM_CHANGE: u8 = 3;
 /// A route as it stands, or the wish to see it.
 pub const RTM_GET: u8 = 4;
+/// The route is suspected to lead nowhere.
+pub const RTM_LOSING: u8 = 5;
 /// A redirect came; the errno says whether it was followed.
 pub const RTM_REDIRECT: u8 = 6;
 /// A look-up found no route, or one whose clone could not be made.

@@ -3,6 +3,7 @@
 ghost use Rattle.std.specs.Prelude.{◌≡◌};
 ghost use Rattle.route_msgs.specs.Examples.{addition, addition_header, announcement, announcement_header, announcement_addresses, bare, bare_parsed, question, question_parsed, answer, answer_header, network_addresses, short, short_parsed};
 ghost use Rattle.route_msgs.specs.Headers.{ifa_message, route_message};
+ghost use Rattle.route_msgs.specs.Patches.{ErrnoIsChanged, FlagsAreChanged, PidIsChanged};
 ghost use Rattle.route_msgs.specs.Slots.{ReadsMessage};
 ghost use Rattle.route_msgs.specs.Written.{IfaMessageIsLaidOut, NamedBitsAreAddresses, SockaddrsAreRead, WrittenIsRead};
 
@@ -10,15 +11,20 @@ use crate::bits::{
     RTA_AUTHOR, RTA_BRD, RTA_DST, RTA_GATEWAY, RTA_GENMASK, RTA_IFA, RTA_IFP, RTA_NETMASK,
 };
 use crate::flags::{
-    RTF_BLACKHOLE, RTF_CLONING, RTF_DONE, RTF_DYNAMIC, RTF_GATEWAY, RTF_HOST, RTF_LLINFO, RTF_MASK,
-    RTF_MODIFIED, RTF_PROTO1, RTF_PROTO2, RTF_REJECT, RTF_STATIC, RTF_UP, RTF_XRESOLVE,
+    IFA_ROUTE, RTF_BLACKHOLE, RTF_CLONING, RTF_DONE, RTF_DYNAMIC, RTF_GATEWAY, RTF_HOST,
+    RTF_LLINFO, RTF_MASK, RTF_MODIFIED, RTF_PROTO1, RTF_PROTO2, RTF_REJECT, RTF_STATIC, RTF_UP,
+    RTF_XRESOLVE,
 };
 use crate::inits::{
     RTV_EXPIRE, RTV_HOPCOUNT, RTV_MTU, RTV_RPIPE, RTV_RTT, RTV_RTTVAR, RTV_SPIPE, RTV_SSTHRESH,
 };
 use crate::kinds::{
-    RTM_ADD, RTM_CHANGE, RTM_DELADDR, RTM_DELETE, RTM_GET, RTM_LOCK, RTM_MISS, RTM_NEWADDR,
-    RTM_REDIRECT, RTM_RESOLVE, RTM_VERSION,
+    RTM_ADD, RTM_CHANGE, RTM_DELADDR, RTM_DELETE, RTM_GET, RTM_LOCK, RTM_LOSING, RTM_MISS,
+    RTM_NEWADDR, RTM_REDIRECT, RTM_RESOLVE, RTM_VERSION,
+};
+use crate::places::{
+    RTAX_AUTHOR, RTAX_BRD, RTAX_DST, RTAX_GATEWAY, RTAX_GENMASK, RTAX_IFA, RTAX_IFP, RTAX_MAX,
+    RTAX_NETMASK,
 };
 
 /// A message about a route that was written is read as the header and the addresses that it was written from.
@@ -35,6 +41,13 @@ pub fn sockaddrs_are_read()
 /// them.
 pub fn ifa_message_is_laid_out()
     ensures { IfaMessageIsLaidOut }
+{}
+
+/// A message with one field changed is read with that field changed, and all else of it as before.
+pub fn changes_one_field()
+    ensures flags { FlagsAreChanged }
+    ensures pid { PidIsChanged }
+    ensures errno { ErrnoIsChanged }
 {}
 
 /// Of the field that names addresses, a bit is set exactly where its address is there.
@@ -75,7 +88,20 @@ pub fn bits_by_number()
     ensures brd { RTA_BRD ≡ 0x80 }
 {}
 
-/// A route's flags, by their numbers in <net/route.h>.
+/// The places of addresses, by their numbers in <net/route.h>.
+pub fn places_by_number()
+    ensures dst { RTAX_DST ≡ 0 }
+    ensures gateway { RTAX_GATEWAY ≡ 1 }
+    ensures netmask { RTAX_NETMASK ≡ 2 }
+    ensures genmask { RTAX_GENMASK ≡ 3 }
+    ensures ifp { RTAX_IFP ≡ 4 }
+    ensures ifa { RTAX_IFA ≡ 5 }
+    ensures author { RTAX_AUTHOR ≡ 6 }
+    ensures brd { RTAX_BRD ≡ 7 }
+    ensures places { RTAX_MAX ≡ 8 }
+{}
+
+/// A route's flags, by their numbers in <net/route.h>, and an address's own in <net/if.h>.
 pub fn flags_by_number()
     ensures up { RTF_UP ≡ 0x1 }
     ensures gateway { RTF_GATEWAY ≡ 0x2 }
@@ -92,6 +118,7 @@ pub fn flags_by_number()
     ensures blackhole { RTF_BLACKHOLE ≡ 0x1000 }
     ensures proto2 { RTF_PROTO2 ≡ 0x4000 }
     ensures proto1 { RTF_PROTO1 ≡ 0x8000 }
+    ensures routed { IFA_ROUTE ≡ 0x1 }
 {}
 
 /// The bits of the inits field, by their numbers in <net/route.h>.
@@ -112,6 +139,7 @@ pub fn types_by_number()
     ensures delete { RTM_DELETE ≡ 2 }
     ensures change { RTM_CHANGE ≡ 3 }
     ensures get { RTM_GET ≡ 4 }
+    ensures losing { RTM_LOSING ≡ 5 }
     ensures redirect { RTM_REDIRECT ≡ 6 }
     ensures miss { RTM_MISS ≡ 7 }
     ensures lock { RTM_LOCK ≡ 8 }

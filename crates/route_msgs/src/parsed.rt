@@ -2,6 +2,7 @@ ghost use Rattle.std.specs.Prelude.{◌≡◌, ◌+◌, ◌<◌, ◌≤◌, leng
 ghost use Rattle.route_msgs.specs.Slots.{SlotsAreWithin, address_at, slot_bytes};
 
 use crate::Header;
+use crate::places::RTAX_MAX;
 use thiserror::Error;
 
 /// Where an address stands in a message: as many bytes as its length byte says, but at least that byte.
@@ -29,14 +30,14 @@ pub struct Parsed {
     /// The fields of its header, as they are written.
     pub header: Header,
     /// The addresses that are there, in the order of the bits of addrs.
-    pub slots: [Option<Slot>; 8],
+    pub slots: [Option<Slot>; RTAX_MAX],
 }
 
 impl Parsed {
-    /// The bytes of the address of this bit of addrs, counted from 0, in the message that was taken apart, without
-    /// padding; `None` where the address is not there.
+    /// The bytes of the address at this place, of `places`, in the message that was taken apart, without padding; `None`
+    /// where the address is not there.
     pub fn address<'a>(&self, bit: usize, message: &'a [u8]) -> Option<&'a [u8]>
-        requires bit { bit < 8 }
+        requires bit { bit < RTAX_MAX }
         requires within { SlotsAreWithin (length message.now) self.now.slots }
         ensures { let address = address_at (get_or self.now.slots bit None) message.now
             in MatchOption result (address ≡ None) (λ sockaddr. address ≡ Some sockaddr.now) }
@@ -48,14 +49,27 @@ impl Parsed {
 
 /// Why bytes are no message, the first of these that holds.
 #[derive(Debug, Drop, Error)]
+#[error("{}", self.text())]
 pub enum MsgErr {
     /// Fewer than 76 bytes, or the message says another length than it has.
-    #[error("the length is wrong")]
     Length,
     /// Another version than 3.
-    #[error("the version is not 3")]
     Version,
     /// An address's length byte counts bytes past the end.
-    #[error("an address passes the end")]
     Overrun,
+}
+
+impl MsgErr {
+    ghost use Rattle.route_msgs.specs.MsgErr.{msg_err_text};
+
+    /// What it prints, in words.
+    pub fn text(&self) -> &'static str
+        ensures { result.now ≡ msg_err_text self.now }
+    {
+        match self {
+            MsgErr::Length => "the length is wrong",
+            MsgErr::Version => "the version is not 3",
+            MsgErr::Overrun => "an address passes the end",
+        }
+    }
 }

@@ -5,6 +5,7 @@ ghost use Rattle.route_msgs.specs.Slots.{IsWithin, ReadsMessage, SlotsAreWithin,
 
 use crate::fields::{u8_at, u16_at, u32_at};
 use crate::kinds::RTM_VERSION;
+use crate::places::RTAX_MAX;
 use crate::{Header, Metrics, MsgErr, Parsed, Slot};
 use sock_addrs::round;
 
@@ -77,7 +78,7 @@ fn read_metrics(message: &[u8]) -> Metrics
 
 /// The slots of the addresses that `addrs` names, or `Overrun`.
 #[tactic(auto, using(crate::proofs::Offsets::offset_first, crate::proofs::Offsets::no_room))]
-fn read_slots(message: &[u8], addrs: u32) -> Result<[Option<Slot>; 8], MsgErr>
+fn read_slots(message: &[u8], addrs: u32) -> Result<[Option<Slot>; RTAX_MAX], MsgErr>
     requires header { 76 ≤ length message.now }
     requires most { length message.now < 65536 }
     requires addrs { addrs ≡ number_at 12 4 message.now }
@@ -86,9 +87,9 @@ fn read_slots(message: &[u8], addrs: u32) -> Result<[Option<Slot>; 8], MsgErr>
         (λ e. (e ≡ MsgErr.Overrun) × (has_room message.now ≡ false)) }
     ensures within { IfOk result (λ slots. SlotsAreWithin (length message.now) slots) }
 {
-    let mut slots = [None; 8];
+    let mut slots = [None; RTAX_MAX];
     let mut at = 76;
-    for bit in 0..8 {
+    for bit in 0..RTAX_MAX {
         let slot = slot_at(message, addrs, bit, at)?;
         if slot.is_some() {
             at += round(message[at]);
@@ -100,7 +101,7 @@ fn read_slots(message: &[u8], addrs: u32) -> Result<[Option<Slot>; 8], MsgErr>
 
 /// The slot of one address, which would begin at `at`, or `Overrun`.
 fn slot_at(message: &[u8], addrs: u32, bit: usize, at: usize) -> Result<Option<Slot>, MsgErr>
-    requires bit { bit < 8 }
+    requires bit { bit < RTAX_MAX }
     requires small { at < 65536 }
     requires addrs { addrs ≡ number_at 12 4 message.now }
     ensures slot { IfOk result (λ slot. slot ≡ slot_at_place message.now bit at) }

@@ -5,13 +5,12 @@ ghost use Rattle.route_msgs.specs.Headers.{ifa_head, ifa_message, metric_fields,
 
 use crate::fields::{patch_u8, patch_u16, patch_u32};
 use crate::kinds::RTM_VERSION;
-use crate::{AddrInfo, Header, IfaHeader, Metrics};
-use arrayvec::ArrayVec;
+use crate::{AddrInfo, Header, IfaHeader, MOST_MADE, Message, Metrics};
 
 /// Writes a message about a route: the header with the message's length and version 3, and behind it the addresses. The
 /// addrs field names the addresses that are given, whatever `header.addrs` says.
-pub fn write_route_msg(header: &Header, addresses: &AddrInfo) -> ArrayVec<u8, 256>
-    requires { 76 + length (address_bytes addresses.now) ≤ 256 }
+pub fn write_route_msg(header: &Header, addresses: &AddrInfo) -> Message
+    requires { 76 + length (address_bytes addresses.now) ≤ MOST_MADE }
     ensures message { result.items ≡ route_message header.now addresses.now }
     ensures size { length result.items ≡ 76 + length (address_bytes addresses.now) }
     ensures says_size { number_at 0 2 result.items ≡ length result.items }
@@ -26,8 +25,8 @@ pub fn write_route_msg(header: &Header, addresses: &AddrInfo) -> ArrayVec<u8, 25
 
 /// Writes a message about an interface's address: the header with the message's length and version 3, and behind it the
 /// addresses. The addrs field names the addresses that are given, whatever `header.addrs` says.
-pub fn write_ifa_msg(header: &IfaHeader, addresses: &AddrInfo) -> ArrayVec<u8, 256>
-    requires { 20 + length (address_bytes addresses.now) ≤ 256 }
+pub fn write_ifa_msg(header: &IfaHeader, addresses: &AddrInfo) -> Message
+    requires { 20 + length (address_bytes addresses.now) ≤ MOST_MADE }
     ensures message { result.items ≡ ifa_message header.now addresses.now }
     ensures size { length result.items ≡ 20 + length (address_bytes addresses.now) }
     ensures says_size { number_at 0 2 result.items ≡ length result.items }
@@ -37,11 +36,11 @@ pub fn write_ifa_msg(header: &IfaHeader, addresses: &AddrInfo) -> ArrayVec<u8, 2
     joined(&ifa_header(header, size as u16, addresses.addrs()), &behind)
 }
 
-fn joined(head: &[u8], behind: &[u8]) -> ArrayVec<u8, 256>
-    requires { length head.now + length behind.now ≤ 256 }
+fn joined(head: &[u8], behind: &[u8]) -> Message
+    requires { length head.now + length behind.now ≤ MOST_MADE }
     ensures { result.items ≡ head.now ++ behind.now }
 {
-    let mut message = ArrayVec::new();
+    let mut message = Message::new();
     message.try_extend_from_slice(head).unwrap();
     message.try_extend_from_slice(behind).unwrap();
     message

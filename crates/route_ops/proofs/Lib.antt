@@ -5,5 +5,7 @@ pub mod Few
 pub mod Fitting
 pub mod FoundOf
 pub mod Keeping
+pub mod LossRefused
 pub mod RedirectRefused
+pub mod RefusingLemmas
 pub mod TablesStay

@@ -1,16 +1,16 @@
 -- A table of routes that lead out of some interfaces stays one.
-use Rattle.std.proofs.Common.{◌≡◌, ℕ, ◌-◌, ◌*◌, ◌/◌, ◌^◌, ◌<◌, ◌≤◌, ◌==◌, Bool, true, false, not, List, Option, Some, None, bit_and, refl, ap, subst, arith}
-use Rattle.std.specs.Prelude.{IfSome, Result, Ok, Err, if◌then◌else◌, is_some, ok_or, option_map, unwrap_or, ⊤}
+use Rattle.std.proofs.Common.{◌≡◌, ℕ, ◌-◌, ◌*◌, ◌/◌, ◌^◌, ◌<◌, ◌≤◌, ◌==◌, Bool, true, false, not, List, Option, Some, None, bit_and, refl, ap, arith}
+use Rattle.std.specs.Prelude.{IfSome, IfOk, Result, Ok, Err, if◌then◌else◌, is_some, ok_or, option_map, unwrap_or, ⊤}
 use Rattle.std.specs.Option.{option_and_then, option_or}
 use Rattle.std.proofs.lemmas.Nat.{pow_pos}
 use Rattle.std.proofs.Math.Nat.{div-mul-le_self, mul-div_cancel}
 use Rattle.sock_addrs.specs.declared.errno.Errno.{Errno}
-use Rattle.sock_addrs.specs.declared.errno.Errno.TheVariants.{EEXIST, EHOSTUNREACH, EINVAL, ESRCH, ETOOMANYREFS}
+use Rattle.sock_addrs.specs.declared.errno.Errno.TheVariants.{EEXIST, EHOSTUNREACH, EINVAL, ENETUNREACH, ESRCH, ETOOMANYREFS}
 use Rattle.sock_addrs.specs.declared.gate.Gate.{Gate}
 use Rattle.sock_addrs.specs.declared.gate.Gate.TheVariants as gate
 use Rattle.mask_table.specs.Agreeing.{front, masked}
 use Rattle.mask_table.specs.Ranks.{rank_of}
-use Rattle.route_msgs.specs.declared.flags.TheConstants.{RTF_CLONING, RTF_GATEWAY, RTF_HOST}
+use Rattle.route_msgs.specs.declared.flags.TheConstants.{RTF_CLONING, RTF_DYNAMIC, RTF_GATEWAY, RTF_HOST}
 use Rattle.if_addrs.specs.Interfaces.{Interface, IsOf, interface_of}
 use Rattle.if_addrs.specs.Numbered.{NumberedOnce}
 use Rattle.if_addrs.specs.Searches.{for_route, has_broadcast, with_addr, with_net}
@@ -18,27 +18,30 @@ use Rattle.if_addrs.specs.declared.kind.Kind.{Kind}
 use Rattle.if_addrs.specs.declared.kind.Kind.TheVariants.{Broadcast, Loopback, PointToPoint}
 use Rattle.if_addrs.specs.declared.reference.Facts.{Facts}
 use Rattle.if_addrs.specs.declared.reference.IfaRef.{IfaRef}
-use Rattle.radix_tree.specs.Table.{best_of, entry_at, with_entry}
+use Rattle.radix_tree.specs.Table.{best_of, entry_at, with_entry, without}
 use Rattle.radix_tree.specs.declared.entry.Entry.{Entry}
 use Rattle.radix_tree.proofs.ListLemmas.{all_weaker}
 use Rattle.radix_tree.proofs.MemberLemmas.{all_best_of, all_entry_at, all_with, all_without}
 use Rattle.radix_tree.proofs.TableLemmas.{with_is_table, without_is_table}
 use Rattle.route_entries.specs.Routes.{clone_rank, has_flag}
 use Rattle.route_entries.specs.declared.route.Route.{Route}
-use Rattle.route_ops.specs.Adding.{Adding, add, add_by, add_entry, added, asked_rank, best_ifa, ifa_for, new_entry}
-use Rattle.route_ops.specs.Changing.{by_address, by_gateway, by_interface, change_by, changed_entry, ifa_asked, lock_by, locked, rewritten, sought, target, target_by}
-use Rattle.route_ops.specs.Looks.{Settled, answer_of, clone_at, clone_or_parent, found, found_by, settle, settle_found, told_of, unsettled, with_clone}
-use Rattle.route_ops.specs.Redirecting.{created, dynamic, is_of_another, modified, redirect_by, verdict, verdict_near, verdict_on}
-use Rattle.route_ops.specs.Tables.{AddingStays, AddressRouteIsOf, ChangingStays, IsChange, IsGate, IsMaskOrNone, IsNewRoute, IsRouteOf, IsTableOf, KeptStays, LockingStays, LookStays, RedirectStays, WithStays, WithoutStays}
+use Rattle.route_ops.specs.Adding.{Adding, add, added, asked_rank, best_ifa, ifa_for, new_entry}
+use Rattle.route_ops.specs.Changing.{by_address, by_gateway, by_interface, change, changed_entry, ifa_asked, lock, locked, rewritten, sought, target}
+use Rattle.route_ops.specs.Looks.{Settled, answer_of, clone_at, clone_or_parent, found, found_by, settle, settle_found, told_of, unless_there, unsettled, with_clone}
+use Rattle.route_ops.specs.Losses.{losing_by}
+use Rattle.route_ops.specs.Redirecting.{dynamic, ended, is_of_another, judged, match_modify, modified, redirect_by, verdict, verdict_near}
+use Rattle.route_ops.specs.Refusing.{◌>>=◌}
+use Rattle.route_ops.specs.Tables.{AddingStays, AddressRouteIsOf, ChangingStays, IsChange, IsGate, IsMaskOrNone, IsNewRoute, IsRouteOf, IsTableOf, KeptStays, LockingStays, LookStays, LosingStays, RedirectStays, WithStays, WithoutStays}
 use Rattle.route_ops.specs.declared.adding.NewRoute.{NewRoute}
 use Rattle.route_ops.specs.declared.changing.Change.{Change}
 use Rattle.route_ops.specs.declared.looking.Found.{Found}
 use Rattle.route_ops.specs.declared.looking.Found.TheVariants.{Nothing, Known, NotCloned, Cloned}
 use Rattle.route_ops.specs.declared.redirecting.NewGateway.{NewGateway}
 use Rattle.route_ops.specs.declared.redirecting.Verdict.{Verdict}
-use Rattle.route_ops.specs.declared.redirecting.Verdict.TheVariants.{Refuse, Create, Modify}
+use Rattle.route_ops.specs.declared.redirecting.Verdict.TheVariants.{Create, Modify}
 use Rattle.route_ops.proofs.FoundOf.{IfOf, for_route_of, interface_within, of_interface_of, or_else_of, or_of, then_of, with_addr_of, with_net_of}
 use Rattle.route_ops.proofs.RedirectRefused.{either}
+use Rattle.route_ops.proofs.RefusingLemmas.{each_ok, ok_is, ok_of_some, ok_then, ok_weaker}
 
 -- ONE MORE ROUTE, AND ONE LESS
 
@@ -108,11 +111,17 @@ FoundIs is (Known r) = IsRouteOf is r
 FoundIs is (NotCloned r) = IsRouteOf is r
 FoundIs is (Cloned r) = IsRouteOf is r
 
-clone_or_parent_is : (is : List Interface) (r clone : Entry Route) (there : Bool) → IsRouteOf is r
-    → IsRouteOf is clone
-    → FoundIs is (clone_or_parent r (if there then Err EEXIST else Ok clone))
-clone_or_parent_is is r clone true parent new = parent
-clone_or_parent_is is r clone false parent new = new
+unless_there_is : (is : List Interface) (r : Entry Route) (table : List (Entry Route)) → IsRouteOf is r
+    → IfOk (unless_there r table) (IsRouteOf is)
+unless_there_is is r table h =
+    either (λ (t : Result (Entry Route) Errno). IfOk t (IsRouteOf is)) (is_some (entry_at r.key r.rank table))
+    (Err EEXIST) (Ok r) tt h
+
+clone_or_parent_is : (is : List Interface) (r : Entry Route) (clone : Result (Entry Route) Errno) → IsRouteOf is r
+    → IfOk clone (IsRouteOf is)
+    → FoundIs is (clone_or_parent r clone)
+clone_or_parent_is is r (Ok clone) parent new = new
+clone_or_parent_is is r (Err errno) parent new = parent
 
 found_by_is : (is : List Interface) (address : ℕ) (table : List (Entry Route)) (best : Option (Entry Route))
     → address < 2 ^ 32 → IfSome best (IsRouteOf is) → FoundIs is (found_by address table best)
@@ -120,7 +129,8 @@ found_by_is is address table None below h = tt
 found_by_is is address table (Some r) below h =
     let clone = clone_at address r.value in
     either (FoundIs is) (has_flag RTF_CLONING r.value) _ (Known r)
-    (clone_or_parent_is is r clone (is_some (entry_at clone.key clone.rank table)) h (clone_is is address r below h)) h
+    (clone_or_parent_is is r (unless_there clone table) h (unless_there_is is clone table (clone_is is address r below h)))
+    h
 
 found_is : (is : List Interface) (about : Gate) (table : List (Entry Route)) → IsTableOf is table → IsGate about
     → FoundIs is (found about table)
@@ -195,62 +205,51 @@ best_ifa_of is address table h =
     elim (best_of address table) as (λ o. IfSome o (IsRouteOf is) → IfOf is (option_map (λ r. r.value.ifa) o))
     [ None ↦ λ k. tt | Some r ↦ λ k. k.ifa ] (best_is is address table h)
 
-abbrev OkIs : List Interface → Result Adding Errno → Type 0
-OkIs is (Ok it) = IsTableOf is it.table
-OkIs is (Err errno) = ⊤
-
-ok_is : (is : List Interface) (made : Result Adding Errno) (it : Adding) → OkIs is made → made ≡ Ok it
-    → IsTableOf is it.table
-ok_is is made it h e = subst (OkIs is) e h
-
-pair_is : (is : List Interface) (r : Entry Route) (table : List (Entry Route)) (there : Bool) → IsTableOf is table
-    → IsRouteOf is r
-    → OkIs is (add_entry r table (if there then Some EEXIST else None))
-pair_is is r table true h route = tt
-pair_is is r table false h route = added_is is r table h route
-
-add_by_is : (is : List Interface) (a : NewRoute) (table : List (Entry Route)) (i : Option IfaRef) → IsTableOf is table
-    → IsNewRoute a → IfOf is i
-    → OkIs is (add_by a table i)
-add_by_is is a table None h new of = tt
-add_by_is is a table (Some i) h new of =
-    let r = new_entry a i in pair_is is r table (is_some (entry_at r.key r.rank table)) h (new_is is a i new of)
+-- the table of what is added, or changed
+abbrev TableIs : List Interface → Adding → Type 0
+TableIs is it = IsTableOf is it.table
 
 add_is : (is : List Interface) (a : NewRoute) (table : List (Entry Route)) → NumberedOnce is → IsTableOf is table
     → IsNewRoute a
-    → OkIs is (add a is table)
+    → IfOk (add a is table) (TableIs is)
 add_is is a table once h new =
-    add_by_is is a table (ifa_for a is table) h new
+    let last : Entry Route → Result Adding Errno = λ r. Ok (added r table) in
+    let with_ifa : IfaRef → Result Adding Errno = λ i. unless_there (new_entry a i) table >>= last in
+    let ifa = ok_or (ifa_for a is table) ENETUNREACH in
+    let of : IfOk ifa (λ i. IsOf i is) =
+    ok_of_some (λ i. IsOf i is) (ifa_for a is table) ENETUNREACH
     (for_route_of is once a.flags a.destination a.gateway (best_ifa a.destination table)
-    (best_ifa_of is a.destination table h))
+    (best_ifa_of is a.destination table h)) in
+    ok_then (TableIs is) ifa with_ifa
+    (ok_weaker (λ i. IsOf i is) (λ i. IfOk (with_ifa i) (TableIs is)) ifa
+    (λ i one. (
+    let r = unless_there (new_entry a i) table in
+    ok_then (TableIs is) r last
+    (ok_weaker (IsRouteOf is) (λ x. IfOk (last x) (TableIs is)) r (λ x route. added_is is x table h route)
+    (unless_there_is is (new_entry a i) table (new_is is a i new one)))))
+    of)
 
 pub adding_stays : AddingStays
-adding_stays a is table it once h new e = ok_is is (add a is table) it (add_is is a table once h new) e
+adding_stays a is table it once h new e = ok_is (TableIs is) (add a is table) it (add_is is a table once h new) e
 
 -- CHANGING
 
-ok_or_is : (is : List Interface) (o : Option (Entry Route)) (x : Errno) (r : Entry Route) → IfSome o (IsRouteOf is)
-    → ok_or o x ≡ Ok r
-    → IsRouteOf is r
-ok_or_is is None x r h e = absurd (cc)
-ok_or_is is (Some y) x r h e = let same : y ≡ r = cc in subst (IsRouteOf is) same h
-
-target_by_is : (is : List Interface) (destination : ℕ) (best there : Option (Entry Route)) (r : Entry Route)
-    → IfSome there (IsRouteOf is)
-    → target_by destination best there ≡ Ok r → IsRouteOf is r
-target_by_is is destination None there r h e = absurd (cc)
-target_by_is is destination (Some best) there r h e =
-    either (λ (t : Result (Entry Route) Errno). t ≡ Ok r → IsRouteOf is r) (best.key == destination)
-    (ok_or there ETOOMANYREFS) (Err ESRCH) (ok_or_is is there ETOOMANYREFS r h) (λ k. absurd (cc)) e
-
 target_is : (is : List Interface) (destination : ℕ) (netmask : Option ℕ) (table : List (Entry Route))
-    (r : Entry Route) → IsTableOf is table → target destination netmask table ≡ Ok r → IsRouteOf is r
-target_is is destination netmask table r h e =
+    → IsTableOf is table → IfOk (target destination netmask table) (IsRouteOf is)
+target_is is destination netmask table h =
     let rank = rank_of netmask in
-    let at : IfSome (entry_at destination rank table) (IsRouteOf is) =
+    let at = ok_or (entry_at destination rank table) ETOOMANYREFS in
+    let own : Entry Route → Result (Entry Route) Errno = λ b. if b.key == destination then at else Err ESRCH in
+    let stands : IfSome (entry_at destination rank table) (IsRouteOf is) =
     elim (entry_at destination rank table) as (λ o. entry_at destination rank table ≡ o → IfSome o (IsRouteOf is))
     [ None ↦ λ k. tt | Some x ↦ λ k. all_entry_at (IsRouteOf is) destination rank table x h.routes k ] refl in
-    target_by_is is destination (best_of destination table) (entry_at destination rank table) r at e
+    let found : IfOk at (IsRouteOf is) =
+    ok_of_some (IsRouteOf is) (entry_at destination rank table) ETOOMANYREFS stands in
+    let best = ok_or (best_of destination table) ESRCH in
+    ok_then (IsRouteOf is) best own
+    (each_ok (λ b. IfOk (own b) (IsRouteOf is)) best
+    (λ b _. either (λ (t : Result (Entry Route) Errno). IfOk t (IsRouteOf is)) (b.key == destination) at (Err ESRCH)
+    found tt))
 
 gateway_or : (g : Option Gate) (old : Gate) → IfSome g IsGate → IsGate old → IsGate (unwrap_or g old)
 gateway_or None old h k = k
@@ -301,18 +300,21 @@ rewritten_is is None r table h route = with_stays is table r h route
 rewritten_is is (Some g) r table h route =
     settle_is is r.value (with_entry r table) (with_stays is table r h route) route.gateway
 
-change_by_is : (is : List Interface) (a : Change) (table : List (Entry Route)) (t : Result (Entry Route) Errno)
-    → NumberedOnce is → IsTableOf is table → IsChange a
-    → ((r : Entry Route) → t ≡ Ok r → IsRouteOf is r) → OkIs is (change_by a is table t)
-change_by_is is a table (Err errno) once h new route = tt
-change_by_is is a table (Ok r) once h new route =
-    rewritten_is is a.gateway (changed_entry a is table r) table h (changed_is is a r table once h new (route r refl))
+change_is : (is : List Interface) (a : Change) (table : List (Entry Route)) → NumberedOnce is → IsTableOf is table
+    → IsChange a
+    → IfOk (change a is table) (TableIs is)
+change_is is a table once h new =
+    let t = target a.destination a.netmask table in
+    let last : Entry Route → Result Adding Errno = λ r. Ok (rewritten a.gateway (changed_entry a is table r) table) in
+    ok_then (TableIs is) t last
+    (ok_weaker (IsRouteOf is) (λ r. IfOk (last r) (TableIs is)) t
+    (λ r route.
+    rewritten_is is a.gateway (changed_entry a is table r) table h (changed_is is a r table once h new route))
+    (target_is is a.destination a.netmask table h))
 
 pub changing_stays : ChangingStays
 changing_stays a is table it once h new e =
-    let t = target a.destination a.netmask table in
-    ok_is is (change_by a is table t) it
-    (change_by_is is a table t once h new (λ r k. target_is is a.destination a.netmask table r h k)) e
+    ok_is (TableIs is) (change a is table) it (change_is is a table once h new) e
 
 -- LOCKING
 
@@ -325,46 +327,51 @@ locked_is is inits locks r route = record {
   ifa = route.ifa;
 }
 
-lock_by_is : (is : List Interface) (inits locks : ℕ) (t : Result (Entry Route) Errno) (r : Entry Route)
-    → ((x : Entry Route) → t ≡ Ok x → IsRouteOf is x) → lock_by inits locks t ≡ Ok r → IsRouteOf is r
-lock_by_is is inits locks (Err errno) r route e = absurd (cc)
-lock_by_is is inits locks (Ok x) r route e =
-    let same : locked inits locks x ≡ r = cc in subst (IsRouteOf is) same (locked_is is inits locks x (route x refl))
-
 pub locking_stays : LockingStays
 locking_stays destination netmask inits locks is table r h e =
+    let t = target destination netmask table in
+    let last : Entry Route → Result (Entry Route) Errno = λ x. Ok (locked inits locks x) in
     with_stays is table r h
-    (lock_by_is is inits locks (target destination netmask table) r
-    (λ x k. target_is is destination netmask table x h k) e)
+    (ok_is (IsRouteOf is) (lock destination netmask inits locks table) r
+    (ok_then (IsRouteOf is) t last
+    (ok_weaker (IsRouteOf is) (λ x. IfOk (last x) (IsRouteOf is)) t (λ x route. locked_is is inits locks x route)
+    (target_is is destination netmask table h))) e)
 
 -- REDIRECTS
 
-abbrev VerdictIs : List Interface → Verdict → Type 0
-VerdictIs is (Modify r) = IsRouteOf is r
-VerdictIs is v = ⊤
+abbrev VerdictIs : List Interface → Result Verdict Errno → Type 0
+VerdictIs is v = IfOk v (λ it. match_modify it (IsRouteOf is))
 
-verdict_on_is : (is : List Interface) (best : Option (Entry Route)) → IfSome best (IsRouteOf is)
-    → VerdictIs is (verdict_on best)
-verdict_on_is is None h = tt
-verdict_on_is is (Some r) h =
-    either (VerdictIs is) (r.rank == 0) Create _ tt
-    (either (VerdictIs is) (not (has_flag RTF_GATEWAY r.value)) (Refuse EHOSTUNREACH) _ tt
-    (either (VerdictIs is) (not (has_flag RTF_HOST r.value)) Create (Modify r) tt h))
+judged_is : (is : List Interface) (best : Option (Entry Route)) → IfSome best (IsRouteOf is)
+    → VerdictIs is (judged best)
+judged_is is None h = tt
+judged_is is (Some r) h =
+    either (VerdictIs is) (r.rank == 0) (Ok Create) _ tt
+    (either (VerdictIs is) (not (has_flag RTF_GATEWAY r.value)) (Err EHOSTUNREACH) _ tt
+    (either (VerdictIs is) (not (has_flag RTF_HOST r.value)) (Ok Create) (Ok (Modify r)) tt h))
 
-verdict_near_is : (is : List Interface) (best : Option (Entry Route)) (a : NewGateway) (near : Option IfaRef)
+verdict_near_is : (is : List Interface) (best : Option (Entry Route)) (a : NewGateway) (near : IfaRef)
     → IfSome best (IsRouteOf is)
     → VerdictIs is (verdict_near best a is near)
-verdict_near_is is best a None h = tt
-verdict_near_is is best a (Some near) h =
-    either (VerdictIs is) (is_of_another best a.author near) (Refuse EINVAL) _ tt
-    (either (VerdictIs is) (is_some (with_addr (gate.Inet a.gateway) is)) (Refuse EHOSTUNREACH) (verdict_on best) tt
-    (verdict_on_is is best h))
+verdict_near_is is best a near h =
+    either (VerdictIs is) (is_of_another best a.author near) (Err EINVAL) _ tt
+    (either (VerdictIs is) (is_some (with_addr (gate.Inet a.gateway) is)) (Err EHOSTUNREACH) (judged best) tt
+    (judged_is is best h))
 
-created_is : (is : List Interface) (a : NewGateway) (table : List (Entry Route)) (made : Result Adding Errno)
-    → IsTableOf is table → OkIs is made
-    → IsTableOf is (created a table made).table
-created_is is a table (Ok it) h k = k
-created_is is a table (Err errno) h k = h
+verdict_is : (is : List Interface) (a : NewGateway) (table : List (Entry Route)) → IsTableOf is table
+    → VerdictIs is (verdict a is table)
+verdict_is is a table h =
+    let best = best_of a.destination table in
+    let near = ok_or (with_net (gate.Inet a.gateway) is) ENETUNREACH in
+    ok_then (λ it. match_modify it (IsRouteOf is)) near (verdict_near best a is)
+    (each_ok (λ i. VerdictIs is (verdict_near best a is i)) near
+    (λ i _. verdict_near_is is best a i (best_is is a.destination table h)))
+
+ended_is : (is : List Interface) (a : NewGateway) (tried : ℕ) (table : List (Entry Route)) (made : Result Adding Errno)
+    → IsTableOf is table → IfOk made (TableIs is)
+    → IsTableOf is (ended a tried table made).table
+ended_is is a tried table (Ok it) h k = k
+ended_is is a tried table (Err errno) h k = h
 
 modified_is : (is : List Interface) (gateway : ℕ) (r : Entry Route) → gateway < 2 ^ 32 → IsRouteOf is r
     → IsRouteOf is (modified gateway r)
@@ -375,22 +382,33 @@ modified_is is gateway r below route = record {
   ifa = route.ifa;
 }
 
-redirect_by_is : (is : List Interface) (a : NewGateway) (table : List (Entry Route)) (v : Verdict) → NumberedOnce is
-    → IsTableOf is table
+redirect_by_is : (is : List Interface) (a : NewGateway) (table : List (Entry Route)) (v : Result Verdict Errno)
+    → NumberedOnce is → IsTableOf is table
     → a.destination < 2 ^ 32 → a.gateway < 2 ^ 32 → VerdictIs is v → IsTableOf is (redirect_by a is table v).table
-redirect_by_is is a table (Refuse errno) once h destination gateway k = h
-redirect_by_is is a table Create once h destination gateway k =
-    created_is is a table (add (dynamic a) is table) h
+redirect_by_is is a table (Err errno) once h destination gateway k = h
+redirect_by_is is a table (Ok Create) once h destination gateway k =
+    ended_is is a RTF_DYNAMIC table (add (dynamic a) is table) h
     (add_is is (dynamic a) table once h
     (record { destination = destination; netmask = tt; gateway = gateway; genmask = tt }))
-redirect_by_is is a table (Modify r) once h destination gateway k =
+redirect_by_is is a table (Ok (Modify r)) once h destination gateway k =
     added_is is (modified a.gateway r) table h (modified_is is a.gateway r gateway k)
 
 pub redirect_stays : RedirectStays
 redirect_stays a is table once h destination gateway =
-    redirect_by_is is a table (verdict a is table) once h destination gateway
-    (verdict_near_is is (best_of a.destination table) a (with_net (gate.Inet a.gateway) is)
-    (best_is is a.destination table h))
+    redirect_by_is is a table (verdict a is table) once h destination gateway (verdict_is is a table h)
+
+-- LOSSES
+
+losing_by_is : (is : List Interface) (address : ℕ) (table : List (Entry Route)) (best : Option (Entry Route))
+    → IsTableOf is table
+    → IsTableOf is (losing_by address table best).table
+losing_by_is is address table None h = h
+losing_by_is is address table (Some r) h =
+    either (IsTableOf is) (has_flag RTF_DYNAMIC r.value) (without r.key r.rank table) table
+    (without_stays is table r.key r.rank h) h
+
+pub losing_stays : LosingStays
+losing_stays address is table h = losing_by_is is address table (best_of address table) h
 
 -- ADDRESSES
 

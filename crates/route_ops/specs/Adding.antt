@@ -1,5 +1,5 @@
 -- The request to add a route.
-use Rattle.std.specs.Prelude.{ℕ, ◌==◌, List, bit_and, bit_or, Option, Some, None, option_map, Result, Ok, Err, if◌then◌else◌}
+use Rattle.std.specs.Prelude.{ℕ, ◌==◌, List, bit_and, bit_or, Option, option_map, ok_or, Result, Ok, if◌then◌else◌}
 use Rattle.std.specs.Result.{result_err}
 use Rattle.sock_addrs.specs.declared.errno.Errno.{Errno}
 use Rattle.sock_addrs.specs.declared.errno.Errno.TheVariants.{ENETUNREACH}
@@ -14,7 +14,8 @@ use Rattle.radix_tree.specs.Table.{best_of, with_entry}
 use Rattle.radix_tree.specs.declared.entry.Entry.{Entry}
 use Rattle.route_entries.specs.Routes.{with_locks, with_metrics}
 use Rattle.route_entries.specs.declared.route.Route.{Route}
-use Rattle.route_ops.specs.Looks.{pair_fault, settle}
+use Rattle.route_ops.specs.Looks.{settle, unless_there}
+use Rattle.route_ops.specs.Refusing.{◌>>=◌}
 use Rattle.route_ops.specs.declared.adding.NewRoute.{NewRoute}
 use Rattle.route_ops.specs.declared.notice.Notice.{Notice}
 
@@ -59,16 +60,11 @@ added r table =
     record { route = r; table = settled.table; messages = settled.messages }
 
 -- ADD: refused where no interface address is found for it, and where its pair is there
-abbrev pub add_entry : Entry Route → List (Entry Route) → Option Errno → Result Adding Errno
-add_entry r table None = Ok (added r table)
-add_entry r table (Some errno) = Err errno
-
-abbrev pub add_by : NewRoute → List (Entry Route) → Option IfaRef → Result Adding Errno
-add_by a table None = Err ENETUNREACH
-add_by a table (Some ifa) = add_entry (new_entry a ifa) table (pair_fault (new_entry a ifa) table)
-
 abbrev pub add : NewRoute → List Interface → List (Entry Route) → Result Adding Errno
-add a interfaces table = add_by a table (ifa_for a interfaces table)
+add a interfaces table = do
+  ifa ← ok_or (ifa_for a interfaces table) ENETUNREACH
+  r ← unless_there (new_entry a ifa) table
+  Ok (added r table)
 
 -- why it is refused
 abbrev pub add_fault : NewRoute → List Interface → List (Entry Route) → Option Errno

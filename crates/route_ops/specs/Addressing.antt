@@ -1,10 +1,9 @@
 -- The routes that addresses of interfaces bring with them, and take away when they are removed.
-use Rattle.std.specs.Prelude.{ℕ, ◌==◌, ◌||◌, Bool, false, not, if◌then◌else◌, bit_and, bit_or, List, Option, Some, None}
+use Rattle.std.specs.Prelude.{ℕ, ◌||◌, Bool, false, not, if◌then◌else◌, bit_or, List, Option, Some, None}
 use Rattle.sock_addrs.specs.declared.gate.Gate.TheVariants as gate
 use Rattle.mask_table.specs.Agreeing.{masked}
 use Rattle.route_msgs.specs.Headers.{no_metrics}
 use Rattle.route_msgs.specs.declared.flags.TheConstants.{RTF_CLONING, RTF_HOST, RTF_UP}
-use Rattle.if_addrs.specs.Interfaces.{cloning_flag, routed_flag}
 use Rattle.if_addrs.specs.Searches.{has_broadcast}
 use Rattle.if_addrs.specs.declared.reference.Facts.{Facts}
 use Rattle.if_addrs.specs.declared.reference.IfaRef.{IfaRef}
@@ -23,7 +22,7 @@ address_rank facts = if has_broadcast facts.kind then facts.prefix else 33
 -- it is up, cloning where the address is, and of a host where it leads to the far address
 abbrev pub address_flags : Facts → ℕ
 address_flags facts =
-    let cloning = if bit_and facts.flags cloning_flag == 0 then 0 else RTF_CLONING in
+    let cloning = if facts.cloning then RTF_CLONING else 0 in
     let host = if has_broadcast facts.kind then 0 else RTF_HOST in
     bit_or (bit_or RTF_UP cloning) host
 
@@ -57,5 +56,5 @@ brought_by key facts table = if has_broadcast facts.kind then entry_at key facts
 abbrev pub withdrawn : IfaRef → ℕ → Facts → List (Entry Route) → Option (Entry Route)
 withdrawn ifa address facts table =
     let key = address_key address facts in
-    if bit_and facts.flags routed_flag == 0 || is_anothers ifa (best_of key table) then None
+    if not facts.routed || is_anothers ifa (best_of key table) then None
     else brought_by key facts table

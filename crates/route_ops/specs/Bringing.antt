@@ -8,6 +8,7 @@ use Rattle.route_entries.specs.declared.route.Route.{Route}
 use Rattle.route_ops.specs.Adding.{Adding, add}
 use Rattle.route_ops.specs.Changing.{change, lock}
 use Rattle.route_ops.specs.Looks.{look, settle}
+use Rattle.route_ops.specs.Losses.{losing}
 use Rattle.route_ops.specs.Redirecting.{redirect}
 use Rattle.route_ops.specs.Standing.{brought}
 use Rattle.route_ops.specs.declared.adding.NewRoute.{NewRoute}
@@ -48,6 +49,10 @@ LockingBringsNone = (destination : ℕ) (netmask : Option ℕ) (inits locks : �
 abbrev pub RedirectBringsTwo : Type 0
 RedirectBringsTwo = (a : NewGateway) (interfaces : List Interface) (table : List (Entry Route))
     → let it = redirect a interfaces table in Brings 2 2 table it.table it.messages
+
+abbrev pub LosingBringsNone : Type 0
+LosingBringsNone = (address : ℕ) (table : List (Entry Route))
+    → let it = losing address table in Brings 0 1 table it.table it.messages
 
 -- a table brings nothing to itself, nor by what is taken out of it or written anew, and one route that is put into it
 -- is at most one

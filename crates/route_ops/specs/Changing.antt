@@ -1,6 +1,7 @@
 -- The requests to change and to lock a route.
 use Rattle.std.specs.Prelude.{ℕ, ◌==◌, if◌then◌else◌, List, Option, Some, None, unwrap_or, ok_or, Result, Ok, Err}
 use Rattle.std.specs.Option.{option_and_then, option_or}
+use Rattle.std.specs.Result.{result_err}
 use Rattle.sock_addrs.specs.declared.errno.Errno.{Errno}
 use Rattle.sock_addrs.specs.declared.errno.Errno.TheVariants.{ESRCH, ETOOMANYREFS}
 use Rattle.sock_addrs.specs.declared.gate.Gate.{Gate}
@@ -15,16 +16,14 @@ use Rattle.route_entries.specs.Routes.{with_locks, with_metrics}
 use Rattle.route_entries.specs.declared.route.Route.{Route}
 use Rattle.route_ops.specs.Adding.{Adding, best_ifa}
 use Rattle.route_ops.specs.Looks.{Settled, settle, unsettled}
+use Rattle.route_ops.specs.Refusing.{◌>>=◌}
 use Rattle.route_ops.specs.declared.changing.Change.{Change}
 
 -- CHANGE and LOCK: the route that is meant, of the destination itself and with exactly this mask
-abbrev pub target_by : ℕ → Option (Entry Route) → Option (Entry Route) → Result (Entry Route) Errno
-target_by destination None there = Err ESRCH
-target_by destination (Some best) there = if best.key == destination then ok_or there ETOOMANYREFS else Err ESRCH
-
 abbrev pub target : ℕ → Option ℕ → List (Entry Route) → Result (Entry Route) Errno
-target destination netmask table =
-    target_by destination (best_of destination table) (entry_at destination (rank_of netmask) table)
+target destination netmask table = do
+  best ← ok_or (best_of destination table) ESRCH
+  if best.key == destination then ok_or (entry_at destination (rank_of netmask) table) ETOOMANYREFS else Err ESRCH
 
 -- the interface address that a change asks for: of the interface that IFP names, or by IFA, or by the gateway
 abbrev pub by_gateway : Change → Entry Route → List Interface → List (Entry Route) → Option IfaRef
@@ -69,20 +68,20 @@ rewritten g r table =
 abbrev pub changed_entry : Change → List Interface → List (Entry Route) → Entry Route → Entry Route
 changed_entry a interfaces table r = record r { value = changed a (ifa_asked a r interfaces table) r.value }
 
-abbrev pub change_by : Change → List Interface → List (Entry Route) → Result (Entry Route) Errno → Result Adding Errno
-change_by a interfaces table (Err e) = Err e
-change_by a interfaces table (Ok r) = Ok (rewritten a.gateway (changed_entry a interfaces table r) table)
-
 abbrev pub change : Change → List Interface → List (Entry Route) → Result Adding Errno
-change a interfaces table = change_by a interfaces table (target a.destination a.netmask table)
+change a interfaces table = do
+  r ← target a.destination a.netmask table
+  Ok (rewritten a.gateway (changed_entry a interfaces table r) table)
 
 -- LOCK
 abbrev pub locked : ℕ → ℕ → Entry Route → Entry Route
 locked inits locks r = record r { value = record r.value { metrics = with_locks inits locks r.value.metrics } }
 
-abbrev pub lock_by : ℕ → ℕ → Result (Entry Route) Errno → Result (Entry Route) Errno
-lock_by inits locks (Err e) = Err e
-lock_by inits locks (Ok r) = Ok (locked inits locks r)
-
 abbrev pub lock : ℕ → Option ℕ → ℕ → ℕ → List (Entry Route) → Result (Entry Route) Errno
-lock destination netmask inits locks table = lock_by inits locks (target destination netmask table)
+lock destination netmask inits locks table = do
+  r ← target destination netmask table
+  Ok (locked inits locks r)
+
+-- why it is refused
+abbrev pub change_fault : Change → List Interface → List (Entry Route) → Option Errno
+change_fault a interfaces table = result_err (change a interfaces table)

@@ -5,8 +5,12 @@ pub mod Changing
 pub mod Deleting
 pub mod LookLaws
 pub mod Looks
+pub mod Losses
+pub mod LossLaws
 pub mod RedirectLaws
 pub mod Redirecting
+pub mod Refusing
 pub mod Spares
 pub mod Standing
 pub mod Tables
+pub mod Upshot

@@ -20,15 +20,13 @@ abbrev pub clone_at : ℕ → Route → Entry Route
 clone_at address r =
     let rank = clone_rank r.genmask in record { key = masked rank address; rank = rank; value = cloned r }
 
--- why a route can't be added: its pair is there already
-abbrev pub pair_fault : Entry Route → List (Entry Route) → Option Errno
-pair_fault r table = if is_some (entry_at r.key r.rank table) then Some EEXIST else None
+-- a route that is to be added, unless its pair is there already
+abbrev pub unless_there : Entry Route → List (Entry Route) → Result (Entry Route) Errno
+unless_there r table = if is_some (entry_at r.key r.rank table) then Err EEXIST else Ok r
 
 -- the clone, unless its pair is there
 abbrev pub resolved : ℕ → Route → List (Entry Route) → Result (Entry Route) Errno
-resolved address r table =
-    let clone = clone_at address r in
-    if is_some (entry_at clone.key clone.rank table) then Err EEXIST else Ok clone
+resolved address r table = unless_there (clone_at address r) table
 
 -- WHAT A LOOK-UP FINDS, by the first case that holds: no route, for a link-layer address too; a route that doesn't
 -- clone; one whose clone's pair is there already; and otherwise its clone

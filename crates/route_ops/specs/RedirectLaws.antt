@@ -5,7 +5,8 @@ use Rattle.sock_addrs.specs.declared.errno.Errno.TheVariants.{EEXIST, EHOSTUNREA
 use Rattle.if_addrs.specs.Interfaces.{Interface}
 use Rattle.radix_tree.specs.declared.entry.Entry.{Entry}
 use Rattle.route_entries.specs.declared.route.Route.{Route}
-use Rattle.route_ops.specs.Redirecting.{Redirection, redirect, redirect_told}
+use Rattle.route_ops.specs.Redirecting.{redirect, redirect_told}
+use Rattle.route_ops.specs.Upshot.{Upshot}
 use Rattle.route_ops.specs.declared.redirecting.NewGateway.{NewGateway}
 
 -- a reason to refuse one
@@ -13,7 +14,7 @@ abbrev pub IsReason : Errno → Type 0
 IsReason errno = (errno ≡ ENETUNREACH) ⊎ ((errno ≡ EINVAL) ⊎ ((errno ≡ EHOSTUNREACH) ⊎ (errno ≡ EEXIST)))
 
 -- it leaves the table, and tells alone that it came and why it was refused
-pub record IsRefusedFor (a : NewGateway) (table : List (Entry Route)) (it : Redirection) (errno : Errno) : Type 0 where
+pub record IsRefusedFor (a : NewGateway) (table : List (Entry Route)) (it : Upshot) (errno : Errno) : Type 0 where
   pub kept : it.table ≡ table
   pub tried : ℕ
   pub tells : it.messages ≡ redirect_told a tried (Some errno) ∷ []

@@ -1,5 +1,5 @@
 -- Redirects.
-use Rattle.std.specs.Prelude.{ℕ, ◌==◌, ◌&&◌, Bool, false, not, if◌then◌else◌, is_some, List, [], ◌∷◌, ◌++◌, bit_or, Option, Some, None, Result, Ok, Err}
+use Rattle.std.specs.Prelude.{ℕ, ◌==◌, ◌&&◌, Bool, false, not, if◌then◌else◌, is_some, List, [], ◌∷◌, ◌++◌, bit_or, Option, Some, None, ok_or, Result, Ok, Err}
 use Rattle.sock_addrs.specs.declared.errno.Errno.{Errno}
 use Rattle.sock_addrs.specs.declared.errno.Errno.TheVariants.{EHOSTUNREACH, EINVAL, ENETUNREACH}
 use Rattle.sock_addrs.specs.declared.gate.Gate.{Gate}
@@ -15,12 +15,14 @@ use Rattle.radix_tree.specs.declared.entry.Entry.{Entry}
 use Rattle.route_entries.specs.Routes.{has_flag}
 use Rattle.route_entries.specs.declared.route.Route.{Route}
 use Rattle.route_ops.specs.Adding.{Adding, add, added}
+use Rattle.route_ops.specs.Refusing.{◌>>=◌}
+use Rattle.route_ops.specs.Upshot.{Upshot}
 use Rattle.route_ops.specs.declared.adding.NewRoute.{NewRoute}
 use Rattle.route_ops.specs.declared.notice.Notice.{Notice}
 use Rattle.route_ops.specs.declared.notice.Notice.TheVariants as notice
 use Rattle.route_ops.specs.declared.redirecting.NewGateway.{NewGateway}
 use Rattle.route_ops.specs.declared.redirecting.Verdict.{Verdict}
-use Rattle.route_ops.specs.declared.redirecting.Verdict.TheVariants.{Refuse, Create, Modify}
+use Rattle.route_ops.specs.declared.redirecting.Verdict.TheVariants.{Create, Modify}
 
 abbrev pub same_gate : Gate → ℕ → Bool
 same_gate (gate.Inet a) address = a == address
@@ -39,22 +41,24 @@ is_of_another (Some r) author near = not (same_gate r.value.gateway author && sa
 
 -- what is done about the best route: there is none or it is a default; it has no gateway; it is of a network; it is
 -- of this host
-abbrev pub verdict_on : Option (Entry Route) → Verdict
-verdict_on None = Create
-verdict_on (Some r) =
-    if r.rank == 0 then Create
-    else (if not (has_flag RTF_GATEWAY r.value) then Refuse EHOSTUNREACH
-    else (if not (has_flag RTF_HOST r.value) then Create else Modify r))
+abbrev pub judged : Option (Entry Route) → Result Verdict Errno
+judged None = Ok Create
+judged (Some r) =
+    if r.rank == 0 then Ok Create
+    else (if not (has_flag RTF_GATEWAY r.value) then Err EHOSTUNREACH
+    else (if not (has_flag RTF_HOST r.value) then Ok Create else Ok (Modify r)))
 
-abbrev pub verdict_near : Option (Entry Route) → NewGateway → List Interface → Option IfaRef → Verdict
-verdict_near best a interfaces None = Refuse ENETUNREACH
-verdict_near best a interfaces (Some near) =
-    if is_of_another best a.author near then Refuse EINVAL
-    else (if is_some (with_addr (gate.Inet a.gateway) interfaces) then Refuse EHOSTUNREACH else verdict_on best)
+-- what is done about a redirect whose new gateway is in the network of this interface address: the author is to be the
+-- route's gateway, and the new one no address of an interface
+abbrev pub verdict_near : Option (Entry Route) → NewGateway → List Interface → IfaRef → Result Verdict Errno
+verdict_near best a interfaces near =
+    if is_of_another best a.author near then Err EINVAL
+    else (if is_some (with_addr (gate.Inet a.gateway) interfaces) then Err EHOSTUNREACH else judged best)
 
-abbrev pub verdict : NewGateway → List Interface → List (Entry Route) → Verdict
-verdict a interfaces table =
-    verdict_near (best_of a.destination table) a interfaces (with_net (gate.Inet a.gateway) interfaces)
+abbrev pub verdict : NewGateway → List Interface → List (Entry Route) → Result Verdict Errno
+verdict a interfaces table = do
+  near ← ok_or (with_net (gate.Inet a.gateway) interfaces) ENETUNREACH
+  verdict_near (best_of a.destination table) a interfaces near
 
 -- the route that is created, as ADD makes it
 abbrev pub dynamic : NewGateway → NewRoute
@@ -79,33 +83,22 @@ redirect_told a tried errno =
     let flags = bit_or (bit_or (bit_or RTF_GATEWAY RTF_HOST) RTF_DONE) tried in
     notice.Redirect a.destination (gate.Inet a.gateway) a.author flags errno
 
--- what a redirect comes to: the table, the messages, those of the settling first, and why it was refused
-pub record Redirection : Type 0 where
-  pub table : List (Entry Route)
-  pub messages : List Notice
-  pub errno : Option Errno
-
-abbrev pub refused : NewGateway → ℕ → List (Entry Route) → Errno → Redirection
-refused a tried table errno =
+-- what it comes to: its own message comes behind those of the settling
+abbrev pub ended : NewGateway → ℕ → List (Entry Route) → Result Adding Errno → Upshot
+ended a tried table (Ok it) =
+    record { table = it.table; messages = it.messages ++ redirect_told a tried None ∷ []; errno = None }
+ended a tried table (Err errno) =
     record { table = table; messages = redirect_told a tried (Some errno) ∷ []; errno = Some errno }
 
-abbrev pub followed : NewGateway → ℕ → Adding → Redirection
-followed a tried it =
-    record { table = it.table; messages = it.messages ++ redirect_told a tried None ∷ []; errno = None }
+abbrev pub redirect_by : NewGateway → List Interface → List (Entry Route) → Result Verdict Errno → Upshot
+redirect_by a interfaces table (Err errno) = ended a 0 table (Err errno)
+redirect_by a interfaces table (Ok Create) = ended a RTF_DYNAMIC table (add (dynamic a) interfaces table)
+redirect_by a interfaces table (Ok (Modify r)) = ended a RTF_MODIFIED table (Ok (added (modified a.gateway r) table))
 
-abbrev pub created : NewGateway → List (Entry Route) → Result Adding Errno → Redirection
-created a table (Ok it) = followed a RTF_DYNAMIC it
-created a table (Err errno) = refused a RTF_DYNAMIC table errno
-
-abbrev pub redirect_by : NewGateway → List Interface → List (Entry Route) → Verdict → Redirection
-redirect_by a interfaces table (Refuse errno) = refused a 0 table errno
-redirect_by a interfaces table Create = created a table (add (dynamic a) interfaces table)
-redirect_by a interfaces table (Modify r) = followed a RTF_MODIFIED (added (modified a.gateway r) table)
-
-abbrev pub redirect : NewGateway → List Interface → List (Entry Route) → Redirection
+abbrev pub redirect : NewGateway → List Interface → List (Entry Route) → Upshot
 redirect a interfaces table = redirect_by a interfaces table (verdict a interfaces table)
 
 -- the route that is to be modified, where one is, is so
 abbrev pub match_modify : Verdict → (Entry Route → Type 0) → Type 0
 match_modify (Modify r) P = P r
-match_modify v P = Unit {0}
+match_modify Create P = Unit {0}

@@ -15,6 +15,7 @@ use Rattle.route_ops.specs.Adding.{Adding, add}
 use Rattle.route_ops.specs.Addressing.{address_entry}
 use Rattle.route_ops.specs.Changing.{change, lock}
 use Rattle.route_ops.specs.Looks.{look}
+use Rattle.route_ops.specs.Losses.{losing}
 use Rattle.route_ops.specs.Redirecting.{redirect}
 use Rattle.route_ops.specs.declared.adding.NewRoute.{NewRoute}
 use Rattle.route_ops.specs.declared.changing.Change.{Change}
@@ -96,6 +97,11 @@ abbrev pub RedirectStays : Type 0
 RedirectStays = (a : NewGateway) (interfaces : List Interface) (table : List (Entry Route)) → NumberedOnce interfaces
     → IsTableOf interfaces table → a.destination < 2 ^ 32 → a.gateway < 2 ^ 32
     → IsTableOf interfaces (redirect a interfaces table).table
+
+-- and with whatever a report leaves that a route seems dead
+abbrev pub LosingStays : Type 0
+LosingStays = (address : ℕ) (interfaces : List Interface) (table : List (Entry Route)) → IsTableOf interfaces table
+    → IsTableOf interfaces (losing address table).table
 
 -- the route of an address is one of the interfaces that the address is of
 abbrev pub AddressRouteIsOf : Type 0

@@ -8,11 +8,10 @@ ghost use Rattle.route_ops.specs.Spares.{FitsSpare, KeepsRooms};
 ghost use Rattle.route_ops.specs.Standing.{AreOf, KeepsRoutes};
 
 use crate::looking::settle_gateway;
-use crate::notice::Notice;
+use crate::notice::Notices;
 use crate::placing::place;
 use crate::reading::{best_ifa, route_at};
 use crate::spare::Spare;
-use arrayvec::ArrayVec;
 use if_addrs::{IfaRef, Interfaces};
 use mask_table::{Prefix, Rank, masked};
 use radix_tree::{Entry, Table, Visits};
@@ -46,7 +45,7 @@ pub struct Added {
     /// The route.
     pub route: Entry<Route>,
     /// The messages that the settling of its gateway made.
-    pub messages: ArrayVec<Notice, 2>,
+    pub messages: Notices,
 }
 
 impl NewRoute {

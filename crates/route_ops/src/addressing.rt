@@ -6,6 +6,7 @@ ghost use Rattle.route_ops.specs.Addressing.{address_entry, address_flags, addre
 ghost use Rattle.route_ops.specs.Spares.{KeepsFree, KeepsRooms};
 ghost use Rattle.route_ops.specs.Standing.{KeepsAreOf};
 
+use crate::placing::take_out;
 use crate::reading::{best_route, first_route, route_at};
 use if_addrs::{Facts, IfaRef, Kind};
 use mask_table::{Rank, masked};
@@ -57,11 +58,7 @@ fn rank_of(facts: &Facts) -> Rank
 fn flags_of(facts: &Facts) -> u16
     ensures { result ≡ address_flags facts.now }
 {
-    let cloning = if facts.flags & u32::from(RTF_CLONING) == 0 {
-        0
-    } else {
-        RTF_CLONING
-    };
+    let cloning = if facts.cloning { RTF_CLONING } else { 0 };
     let host = match facts.kind {
         Kind::Broadcast => 0,
         Kind::Loopback | Kind::PointToPoint => RTF_HOST,
@@ -85,15 +82,13 @@ pub fn withdraw_route(
     ensures of { KeepsAreOf table.old.entries table.new.entries }
 {
     let mut visits = table.begin();
-    let Some(route) = going(table, &mut visits, ifa, address, facts) else {
-        return None;
-    };
-    let _ = table.remove(route.key, route.rank);
+    let route = route_to_withdraw(table, &mut visits, ifa, address, facts)?;
+    take_out(table, route.key, route.rank);
     Some(route)
 }
 
 /// The route that goes with an address.
-fn going(
+fn route_to_withdraw(
     table: &Table<Route>,
     visits: &mut Visits,
     ifa: IfaRef,
@@ -104,7 +99,7 @@ fn going(
     ensures route { result ≡ withdrawn ifa address facts.now table.now.entries }
     ensures counter { visits.new.turn ≡ visits.old.turn }
 {
-    if facts.flags & u32::from(RTF_UP) == 0 {
+    if !facts.routed {
         return None;
     }
     let key = key_of(address, facts);

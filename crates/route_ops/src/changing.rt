@@ -1,19 +1,19 @@
 //! The requests to change and to lock a route.
-ghost use Rattle.std.specs.Prelude.{◌≡◌, ◌+◌, ◌≤◌, length, Ok, Err, IfOk, IfSome, OnErr, MatchResult};
-ghost use Rattle.if_addrs.specs.Interfaces.{IsOf};
+ghost use Rattle.std.specs.Prelude.{List, ◌≡◌, ◌+◌, ◌≤◌, length, Ok, Err, IfOk, IfSome, OnErr, MatchResult};
+ghost use Rattle.std.specs.Result.{result_err};
+ghost use Rattle.if_addrs.specs.Interfaces.{Interface, IsOf};
 ghost use Rattle.radix_tree.specs.Table.{with_entry};
 ghost use Rattle.radix_tree.specs.TableLaws.{StandsIn};
-ghost use Rattle.route_ops.specs.Changing.{sought as sought_by, change, changed as changed_by, ifa_asked, lock, settle_written as settled_by, target as target_of};
+ghost use Rattle.route_ops.specs.Changing.{sought as sought_by, change, change_fault, changed as changed_by, ifa_asked, lock, settle_written as settled_by, target as target_of};
 ghost use Rattle.route_ops.specs.Spares.{FitsSpare, KeepsRooms};
 ghost use Rattle.route_ops.specs.Standing.{AreOf, KeepsAreOf};
 
 use crate::adding::Added;
 use crate::looking::settle_gateway;
-use crate::notice::Notice;
+use crate::notice::Notices;
 use crate::placing::rewrite;
 use crate::reading::{best_ifa, best_route, route_at};
 use crate::spare::Spare;
-use arrayvec::ArrayVec;
 use if_addrs::{IfaRef, Interfaces};
 use mask_table::{Prefix, Rank};
 use radix_tree::{Entry, Table, Visits};
@@ -60,6 +60,20 @@ fn target(
         _ => return Err(Errno::ESRCH),
     }
     route_at(table, visits, destination, Rank::of_mask(netmask)).ok_or(Errno::ETOOMANYREFS)
+}
+
+/// What refuses to change a route, in this order: ESRCH: the destination has no route of its own; ETOOMANYREFS: none with
+/// this mask. It takes no memory.
+pub fn check_change(table: &Table<Route>, visits: &mut Visits, asked: &Change) -> Result<(), Errno>
+    requires turn { visits.old.turn ≡ table.now.turn }
+    ensures fault { (interfaces : List Interface) → result_err result
+        ≡ change_fault asked.now interfaces table.now.entries }
+    ensures counter { visits.new.turn ≡ visits.old.turn }
+{
+    match target(table, visits, asked.destination, asked.netmask) {
+        Ok(_) => Ok(()),
+        Err(errno) => Err(errno),
+    }
 }
 
 /// Locks or unlocks the metrics of a route that `inits` names. Refused as `request_change`.
@@ -187,7 +201,7 @@ fn settle_written(
     spare: &mut Spare,
     written: Option<Gate>,
     route: &Route,
-) -> ArrayVec<Notice, 2>
+) -> Notices
     requires fits { FitsSpare table.old spare.old }
     requires rooms { 1 ≤ length spare.old }
     ensures table { table.new.entries ≡ (settled_by written route.now table.old.entries).table }
@@ -200,6 +214,6 @@ fn settle_written(
 {
     match written {
         Some(_) => settle_gateway(table, spare, route),
-        None => ArrayVec::new(),
+        None => Notices::new(),
     }
 }

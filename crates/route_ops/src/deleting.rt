@@ -2,10 +2,11 @@
 ghost use Rattle.std.specs.Prelude.{◌≡◌, MatchResult, IfOk, OnErr, Some, None};
 ghost use Rattle.radix_tree.specs.Table.{without};
 ghost use Rattle.radix_tree.specs.TableLaws.{StandsIn};
-ghost use Rattle.route_ops.specs.Deleting.{doomed as doomed_by, got};
+ghost use Rattle.route_ops.specs.Deleting.{doomed, got};
 ghost use Rattle.route_ops.specs.Spares.{KeepsFree, KeepsRooms};
 ghost use Rattle.route_ops.specs.Standing.{HasIfaOf, KeepsAreOf};
 
+use crate::placing::take_out;
 use crate::reading::{best_route, first_route, route_at};
 use mask_table::{Prefix, Rank};
 use radix_tree::{Entry, Table, Visits};
@@ -40,8 +41,8 @@ pub fn request_delete(
     flags: u16,
 ) -> Result<Entry<Route>, Errno>
     ensures deleted { MatchResult result
-        (λ r. doomed_by key netmask flags table.old.entries ≡ Some r)
-        (λ e. (doomed_by key netmask flags table.old.entries ≡ None) × (e ≡ Errno.ESRCH)) }
+        (λ r. doomed key netmask flags table.old.entries ≡ Some r)
+        (λ e. (doomed key netmask flags table.old.entries ≡ None) × (e ≡ Errno.ESRCH)) }
     ensures without { IfOk result (λ r. table.new.entries ≡ without r.key r.rank table.old.entries) }
     ensures kept { OnErr result (table.new.entries ≡ table.old.entries) }
     ensures rooms { OnErr result (KeepsRooms table.old table.new) }
@@ -49,15 +50,15 @@ pub fn request_delete(
     ensures of { KeepsAreOf table.old.entries table.new.entries }
 {
     let mut visits = table.begin();
-    let Some(route) = doomed(table, &mut visits, key, netmask, flags) else {
+    let Some(route) = route_to_delete(table, &mut visits, key, netmask, flags) else {
         return Err(Errno::ESRCH);
     };
-    let _ = table.remove(route.key, route.rank);
+    take_out(table, route.key, route.rank);
     Ok(route)
 }
 
 /// The route that DELETE means.
-fn doomed(
+fn route_to_delete(
     table: &Table<Route>,
     visits: &mut Visits,
     key: Inet,
@@ -65,7 +66,7 @@ fn doomed(
     flags: u16,
 ) -> Option<Entry<Route>>
     requires turn { visits.old.turn ≡ table.now.turn }
-    ensures route { result ≡ doomed_by key netmask flags table.now.entries }
+    ensures route { result ≡ doomed key netmask flags table.now.entries }
     ensures counter { visits.new.turn ≡ visits.old.turn }
 {
     match netmask {

@@ -7,11 +7,10 @@ ghost use Rattle.route_ops.specs.Looks.{resolved, found, answer_of, known, with_
 ghost use Rattle.route_ops.specs.Spares.{FitsSpare, KeepsRooms};
 ghost use Rattle.route_ops.specs.Standing.{HasIfaOf, KeepsAreOf, KeepsAreOfWith, KeepsRoutes};
 
-use crate::notice::Notice;
+use crate::notice::{Notice, Notices};
 use crate::placing::place;
 use crate::reading::best_route;
 use crate::spare::Spare;
-use arrayvec::ArrayVec;
 use mask_table::masked;
 use radix_tree::{Entry, Table, Visits};
 use route_entries::{Route, clone_of};
@@ -24,7 +23,7 @@ pub struct Looked {
     /// The route of the address, which stands in the table.
     pub answer: Option<Entry<Route>>,
     /// The messages that it made, in their order.
-    pub messages: ArrayVec<Notice, 2>,
+    pub messages: Notices,
 }
 
 /// What a look-up finds.
@@ -129,7 +128,7 @@ fn find(table: &mut Table<Route>, spare: &mut Spare, about: Gate) -> Found
 }
 
 /// Appends what is told of what a look-up found.
-fn tell(about: &Gate, found: &Found, messages: &mut ArrayVec<Notice, 2>)
+fn tell(about: &Gate, found: &Found, messages: &mut Notices)
     requires { length messages.old.items ≤ 1 }
     ensures messages { messages.new.items ≡ messages.old.items ++ told about.now found.now }
     ensures few { length messages.new.items ≤ length messages.old.items + 1 }
@@ -154,11 +153,7 @@ fn tell(about: &Gate, found: &Found, messages: &mut ArrayVec<Notice, 2>)
 
 /// Settles the gateway of a route: where the route leads over one, that is looked up, and cloned where it has to be.
 /// The messages are those of this look-up.
-pub fn settle_gateway(
-    table: &mut Table<Route>,
-    spare: &mut Spare,
-    route: &Route,
-) -> ArrayVec<Notice, 2>
+pub fn settle_gateway(table: &mut Table<Route>, spare: &mut Spare, route: &Route) -> Notices
     requires fits { FitsSpare table.old spare.old }
     requires rooms { 1 ≤ length spare.old }
     ensures table { table.new.entries ≡ (settle route.now table.old.entries).table }
@@ -170,7 +165,7 @@ pub fn settle_gateway(
     ensures fits { FitsSpare table.new spare.new }
     ensures used { length spare.old ≤ length spare.new + 1 }
 {
-    let mut messages = ArrayVec::new();
+    let mut messages = Notices::new();
     if route.has(RTF_GATEWAY) {
         let found = find(table, spare, route.gateway);
         tell(&route.gateway, &found, &mut messages);
@@ -179,12 +174,7 @@ pub fn settle_gateway(
 }
 
 /// Settles the gateway of a clone that a deep look-up made.
-fn settle_found(
-    table: &mut Table<Route>,
-    spare: &mut Spare,
-    found: &Found,
-    deep: bool,
-) -> ArrayVec<Notice, 2>
+fn settle_found(table: &mut Table<Route>, spare: &mut Spare, found: &Found, deep: bool) -> Notices
     requires fits { FitsSpare table.old spare.old }
     requires rooms { deep ≡ true → 1 ≤ length spare.old }
     ensures table { table.new.entries ≡ (settled deep found.now table.old.entries).table }
@@ -198,7 +188,7 @@ fn settle_found(
 {
     match found {
         Found::Cloned(clone) if deep => settle_gateway(table, spare, &clone.value),
-        _ => ArrayVec::new(),
+        _ => Notices::new(),
     }
 }
 

@@ -1,9 +1,17 @@
-//! The messages that look-ups and redirects make, as what they say.
+//! The messages that look-ups, redirects and losses make, as what they say.
 ghost use Rattle.std.specs.Prelude.{◌≡◌, None};
 ghost use Rattle.sock_addrs.specs.declared.gate.Gate.TheVariants as gate;
 ghost use Rattle.route_ops.specs.declared.notice.Notice.TheVariants.{Miss};
 
+use arrayvec::ArrayVec;
+use mask_table::Rank;
 use sock_addrs::{Errno, Gate, Inet};
+
+/// The most messages that one call makes.
+pub const MOST_NOTICES: usize = 2;
+
+/// The messages of one call, in their order.
+pub type Notices = ArrayVec<Notice, MOST_NOTICES>;
 
 /// A message that goes to all sockets that hear the family of its destination.
 #[derive(Clone, Copy, Debug, PartialEq, Eq)]
@@ -25,6 +33,13 @@ pub enum Notice {
         author: Inet,
         flags: u16,
         errno: Option<Errno>,
+    },
+    /// RTM_LOSING: the route by which this address is reached seems dead; with that route's gateway, rank and flags.
+    Losing {
+        address: Inet,
+        gateway: Gate,
+        rank: Rank,
+        flags: u16,
     },
 }
 

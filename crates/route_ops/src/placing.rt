@@ -1,18 +1,18 @@
-//! Routes that are put into the table, in a spare room or in the place of what they were.
-ghost use Rattle.std.specs.Prelude.{◌≡◌, ◌+◌, ◌≤◌, length, OnOk, OnErr};
-ghost use Rattle.std.specs.Result.{result_err};
+//! Routes that are put into the table, in a spare room or in the place of what they were, or taken out of it.
+ghost use Rattle.std.specs.Prelude.{◌≡◌, ◌+◌, ◌≤◌, length, Ok, Err, OnOk, OnErr, MatchResult};
 ghost use Rattle.mask_table.specs.Agreeing.{masked};
-ghost use Rattle.radix_tree.specs.Table.{with_entry};
+ghost use Rattle.radix_tree.specs.Table.{with_entry, without};
 ghost use Rattle.radix_tree.specs.TableLaws.{StandsIn};
 ghost use Rattle.radix_tree.specs.Lending.{with_value};
-ghost use Rattle.route_ops.specs.Looks.{pair_fault};
-ghost use Rattle.route_ops.specs.Spares.{FitsSpare, KeepsRooms};
-ghost use Rattle.route_ops.specs.Standing.{KeepsAreOfWith, KeepsRoutes};
+ghost use Rattle.route_ops.specs.Looks.{unless_there};
+ghost use Rattle.route_ops.specs.Spares.{FitsSpare, KeepsFree, KeepsRooms};
+ghost use Rattle.route_ops.specs.Standing.{KeepsAreOf, KeepsAreOfWith, KeepsRoutes};
 
 use crate::spare::Spare;
+use mask_table::Rank;
 use radix_tree::{Entry, Table};
 use route_entries::Route;
-use sock_addrs::Errno;
+use sock_addrs::{Errno, Inet};
 
 /// Puts a route into the table, in a spare room. EEXIST: a route with its key and rank is there.
 pub(crate) fn place(
@@ -23,7 +23,9 @@ pub(crate) fn place(
     requires fits { FitsSpare table.old spare.old }
     requires rooms { 1 ≤ length spare.old }
     requires masked { masked route.now.rank route.now.key ≡ route.now.key }
-    ensures there { result_err result ≡ pair_fault route.now table.old.entries }
+    ensures there { MatchResult result
+        (λ _. unless_there route.now table.old.entries ≡ Ok route.now)
+        (λ e. unless_there route.now table.old.entries ≡ Err e) }
     ensures added { OnOk result (table.new.entries ≡ with_entry route.now table.old.entries) }
     ensures kept { OnErr result (table.new.entries ≡ table.old.entries) }
     ensures rooms { OnErr result (KeepsRooms table.old table.new) }
@@ -49,7 +51,18 @@ pub(crate) fn rewrite(table: &mut Table<Route>, old: &Entry<Route>, value: Route
     requires { StandsIn table.old.entries old.now }
     ensures { table.new ≡ with_value old.now.key old.now.rank table.old value }
 {
+    // The old route stands in the table, so there is such a place.
     if let Some(place) = table.get_mut(old.key, old.rank) {
         *place = value;
     }
+}
+
+/// Takes the route with this key and rank out of the table, where it is there, and frees its room.
+pub(crate) fn take_out(table: &mut Table<Route>, key: Inet, rank: Rank)
+    ensures without { table.new.entries ≡ without key rank table.old.entries }
+    ensures free { KeepsFree table.old table.new }
+    ensures of { KeepsAreOf table.old.entries table.new.entries }
+{
+    // What it answers is the value of a route that the caller has read already.
+    let _ = table.remove(key, rank);
 }

@@ -1,18 +1,18 @@
 //! Redirects.
-ghost use Rattle.std.specs.Prelude.{◌≡◌, ◌+◌, ◌≤◌, length, ◌∷◌, ◌++◌, [], OnSome, Some};
+ghost use Rattle.std.specs.Prelude.{◌≡◌, ◌+◌, ◌≤◌, length, ◌∷◌, ◌++◌, [], IfOk, OnSome, Some};
 ghost use Rattle.route_ops.specs.Adding.{added as added_of};
-ghost use Rattle.route_ops.specs.Redirecting.{dynamic, is_of_another as is_of_another_by, match_modify, modified as modified_by, redirect as redirect_of, redirect_told, verdict as verdict_of, verdict_on};
+ghost use Rattle.route_ops.specs.Redirecting.{dynamic, is_of_another as is_of_another_by, match_modify, modified as modified_by, redirect as redirect_of, redirect_told, judged, verdict as verdict_of};
 ghost use Rattle.route_ops.specs.Spares.{FitsSpare, KeepsRooms};
 ghost use Rattle.radix_tree.specs.TableLaws.{StandsIn};
 ghost use Rattle.route_ops.specs.Standing.{AreOf, KeepsAreOf};
 
 use crate::adding::{Added, NewRoute, request_add};
 use crate::looking::settle_gateway;
-use crate::notice::Notice;
+use crate::notice::{Notice, Notices};
 use crate::placing::rewrite;
 use crate::reading::best_route;
 use crate::spare::Spare;
-use arrayvec::ArrayVec;
+use crate::told::Told;
 use if_addrs::{IfaRef, Interfaces};
 use radix_tree::{Entry, Table, Visits};
 use route_entries::Route;
@@ -31,20 +31,9 @@ pub struct NewGateway {
     pub author: Inet,
 }
 
-/// What a redirect came to.
-#[derive(Drop)]
-pub struct Redirected {
-    /// Why it was not followed, where it was not.
-    pub errno: Option<Errno>,
-    /// The messages that it made, in their order: that of the settling, where there is one, and its own.
-    pub messages: ArrayVec<Notice, 2>,
-}
-
-/// What is done about a redirect.
+/// What is done about a redirect that is not refused.
 #[derive(Drop)]
 pub(crate) enum Verdict {
-    /// It is refused.
-    Refuse(Errno),
     /// A route of the host is made.
     Create,
     /// This route gets the new gateway.
@@ -68,12 +57,7 @@ impl NewGateway {
     }
 
     /// What it came to: its own message, with the flag of what was done or tried, comes behind those of the settling.
-    fn ended(
-        &self,
-        tried: u16,
-        errno: Option<Errno>,
-        mut messages: ArrayVec<Notice, 2>,
-    ) -> Redirected
+    fn ended(&self, tried: u16, errno: Option<Errno>, mut messages: Notices) -> Told
         requires { length messages.items ≤ 1 }
         ensures errno { result.errno ≡ errno }
         ensures messages { result.messages.items ≡ messages.items ++ redirect_told self.now tried errno ∷ [] }
@@ -85,7 +69,7 @@ impl NewGateway {
             flags: RTF_GATEWAY | RTF_HOST | RTF_DONE | tried,
             errno,
         });
-        Redirected { errno, messages }
+        Told { errno, messages }
     }
 }
 
@@ -99,7 +83,7 @@ pub fn redirect(
     interfaces: &Interfaces,
     spare: &mut Spare,
     asked: &NewGateway,
-) -> Redirected
+) -> Told
     requires of { AreOf interfaces.now table.old.entries }
     requires fits { FitsSpare table.old spare.old }
     requires rooms { 2 ≤ length spare.old }
@@ -116,12 +100,12 @@ pub fn redirect(
 {
     let mut visits = table.begin();
     match consider(table, &mut visits, interfaces, asked) {
-        Verdict::Refuse(errno) => asked.ended(0, Some(errno), ArrayVec::new()),
-        Verdict::Create => match request_add(table, interfaces, spare, &asked.route()) {
+        Err(errno) => asked.ended(0, Some(errno), Notices::new()),
+        Ok(Verdict::Create) => match request_add(table, interfaces, spare, &asked.route()) {
             Ok(added) => asked.ended(RTF_DYNAMIC, None, added.messages),
-            Err(errno) => asked.ended(RTF_DYNAMIC, Some(errno), ArrayVec::new()),
+            Err(errno) => asked.ended(RTF_DYNAMIC, Some(errno), Notices::new()),
         },
-        Verdict::Modify(route) => {
+        Ok(Verdict::Modify(route)) => {
             let added = modify(table, spare, route, asked.gateway);
             asked.ended(RTF_MODIFIED, None, added.messages)
         }
@@ -156,43 +140,43 @@ fn consider(
     visits: &mut Visits,
     interfaces: &Interfaces,
     asked: &NewGateway,
-) -> Verdict
+) -> Result<Verdict, Errno>
     requires turn { visits.old.turn ≡ table.now.turn }
     ensures verdict { result ≡ verdict_of asked.now interfaces.now table.now.entries }
-    ensures stands { match_modify result (λ r. StandsIn table.now.entries r) }
+    ensures stands { IfOk result (λ v. match_modify v (λ r. StandsIn table.now.entries r)) }
     ensures counter { visits.new.turn ≡ visits.old.turn }
 {
     let best = best_route(table, visits, asked.destination);
     let Some(near) = interfaces.with_net(Gate::Inet(asked.gateway)) else {
-        return Verdict::Refuse(Errno::ENETUNREACH);
+        return Err(Errno::ENETUNREACH);
     };
     if is_of_another(&best, asked.author, near) {
-        return Verdict::Refuse(Errno::EINVAL);
+        return Err(Errno::EINVAL);
     }
     if interfaces.with_addr(Gate::Inet(asked.gateway)).is_some() {
-        return Verdict::Refuse(Errno::EHOSTUNREACH);
+        return Err(Errno::EHOSTUNREACH);
     }
     judge(best)
 }
 
 /// What is done about the best route of the destination.
-fn judge(best: Option<Entry<Route>>) -> Verdict
-    ensures verdict { result ≡ verdict_on best }
-    ensures route { match_modify result (λ r. best ≡ Some r) }
+fn judge(best: Option<Entry<Route>>) -> Result<Verdict, Errno>
+    ensures verdict { result ≡ judged best }
+    ensures route { IfOk result (λ v. match_modify v (λ r. best ≡ Some r)) }
 {
     let Some(route) = best else {
-        return Verdict::Create;
+        return Ok(Verdict::Create);
     };
     if route.rank.number() == 0 {
-        return Verdict::Create;
+        return Ok(Verdict::Create);
     }
     if !route.value.has(RTF_GATEWAY) {
-        return Verdict::Refuse(Errno::EHOSTUNREACH);
+        return Err(Errno::EHOSTUNREACH);
     }
     if !route.value.has(RTF_HOST) {
-        return Verdict::Create;
+        return Ok(Verdict::Create);
     }
-    Verdict::Modify(route)
+    Ok(Verdict::Modify(route))
 }
 
 /// Whether the best route leads elsewhere than over the author and out of this interface address.

@@ -4,4 +4,5 @@ pub mod LinkCells
 pub mod MaskRead
 pub mod ReadOnce
 pub mod RoundingLaws
+pub mod Texts
 pub mod WrittenRead

@@ -1,5 +1,5 @@
 -- How many bits a mask has, by its number.
-use Rattle.std.proofs.Common.{◌≡◌, ◌≢◌, ℕ, List, [], ◌∷◌, nat_lt, rules, ◌+◌, ◌<◌, ◌≤◌, ◌==◌, Bool, true, false, zero, suc, Option, Some, None, refl, sym, ap, ◌∙◌, arith, if◌then◌else◌, inl, inr}
+use Rattle.std.proofs.Common.{◌≡◌, ◌≢◌, ℕ, List, [], ◌∷◌, nat_lt, rules, ◌+◌, ◌<◌, ◌≤◌, ◌==◌, Bool, true, false, zero, suc, Option, Some, None, refl, ap, ◌∙◌, arith, if◌then◌else◌, inl, inr}
 use Rattle.std.specs.Int.{w32, leading_ones}
 use Rattle.std.specs.Int.Count.{count_leading_zeros}
 use Rattle.std.specs.List.{find, range_with_len}

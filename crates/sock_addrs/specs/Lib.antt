@@ -1,3 +1,4 @@
+pub mod BadAddr
 pub mod Errno
 pub mod First
 pub mod Inet

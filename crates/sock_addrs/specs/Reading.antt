@@ -1,7 +1,7 @@
 -- How sockaddrs are read: as relations on all their bytes, which say what they are read as, or for which fault they
 -- are refused; and computed, by the first fault that holds. Reading is lenient: what stands behind an address, its
 -- port and a mask's family are not looked at.
-use Rattle.std.specs.Prelude.{◌≡◌, ◌≢◌, ℕ, ◌<◌, ◌≤◌, ◌^◌, ◌⊎◌, ◌==◌, ◌&&◌, ◌||◌, nat_le, nat_lt, not, Bool, List, [], ◌∷◌, ◌++◌, length, take, drop, slice_index, Option, Some, None, Result, Ok, Err, if◌then◌else◌}
+use Rattle.std.specs.Prelude.{◌≡◌, ◌≢◌, ℕ, ◌<◌, ◌≤◌, ◌^◌, ◌⊎◌, ◌==◌, ◌||◌, nat_lt, not, Bool, List, [], ◌∷◌, ◌++◌, length, take, drop, slice_index, Option, Some, None, Result, Ok, Err, if◌then◌else◌}
 use Rattle.std.specs.Int.{w32, from_be_bytes, IsOutOfRange}
 use Rattle.std.specs.List.{find, range_with_len}
 use Rattle.std.specs.Option.{ok_or}

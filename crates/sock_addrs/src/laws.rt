@@ -8,6 +8,7 @@ ghost use Rattle.sock_addrs.specs.Rounding.{RoundingIsLeast, rounded};
 ghost use Rattle.sock_addrs.specs.Sockaddrs.{MaskIsOnesThenZeros, MaskSockaddrsDiffer, inet_sockaddr, mask_sockaddr};
 
 use crate::families::{AF_INET, AF_LINK};
+use crate::flags::{RTF_GATEWAY, RTF_HOST};
 
 /// The room of an address is the least multiple of 4 that is at least its length byte, and at least 4.
 pub fn rounding_is_least()
@@ -62,6 +63,12 @@ pub fn computed_is_read()
 pub fn families_by_number()
     ensures inet { AF_INET ≡ 2 }
     ensures link { AF_LINK ≡ 18 }
+{}
+
+/// The flags of a route by which a search goes, by their numbers in <net/route.h>.
+pub fn flags_by_number()
+    ensures gateway { RTF_GATEWAY ≡ 0x2 }
+    ensures host { RTF_HOST ≡ 0x4 }
 {}
 
 /// Rounding, worked out.

@@ -5,6 +5,7 @@
 mod bad_addr;
 mod errno;
 pub mod families;
+pub mod flags;
 mod gate;
 mod inet;
 pub mod laws;

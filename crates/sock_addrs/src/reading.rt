@@ -83,12 +83,12 @@ pub fn read_mask(sockaddr: &[u8]) -> Result<u8, BadAddr>
     if length > 16 {
         return Err(BadAddr::Length);
     }
-    let counted = &sockaddr[..usize::from(length)];
+    let whole = &sockaddr[..usize::from(length)];
     let mask = u32::from_be_bytes([
-        byte_at(counted, 4),
-        byte_at(counted, 5),
-        byte_at(counted, 6),
-        byte_at(counted, 7),
+        byte_at(whole, 4),
+        byte_at(whole, 5),
+        byte_at(whole, 6),
+        byte_at(whole, 7),
     ]);
     prefix_of(mask).ok_or(BadAddr::NotContiguous)
 }

@@ -49,6 +49,7 @@ pub(crate) fn mask_bits(prefix: u8) -> u32
     ((1u64 << 32) - clear) as u32
 }
 
+/// Writes these bytes at the front of `out`. Answers how many they are.
 fn put(sockaddr: &[u8], out: &mut [u8]) -> usize
     requires { length sockaddr.now ≤ length out.old }
     ensures used { result ≡ length sockaddr.now }

@@ -33,7 +33,7 @@ fn a_route_is_checked_before_it_is_added(rt: HostRuntime) -> Result<(), Fail> {
     let name = Name::new(b"le0").ok_or("a name")?;
     let link = LinkAddress::new(&[]).ok_or("a link-layer address")?;
     let prefix = Prefix::new(8).ok_or("a mask's length")?;
-    world.attach(name, Kind::Broadcast, 6, &link);
+    world.attach(name, Kind::Broadcast, 6, link);
     world.add_address(name, Inet([10, 0, 0, 1]), prefix, false, None);
     assert_eq!(rt; checked(&mut world, &own), Err(Errno::EEXIST));
     assert_eq!(rt; checked(&mut world, &other), Ok(()));

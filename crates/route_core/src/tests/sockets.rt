@@ -1,6 +1,6 @@
 //! Who hears a message, which is read once.
 
-use listeners::Listeners;
+use listeners::{Listeners, Room};
 use sock_addrs::Name;
 use std::test::Fail;
 
@@ -20,10 +20,10 @@ fn id(text: &[u8]) -> Result<Name, &'static str> {
 #[test]
 fn a_message_is_heard_by_its_family_and_read_once(rt: HostRuntime) -> Result<(), Fail> {
     let mut listeners = Listeners::new(rt.alloc());
+    let mut room = Room::new(rt.alloc())?;
     for (socket, protocol) in [(b"inet", 2), (b"link", 18), (b"any0", 0)] {
         listeners.listen(id(socket)?, 100, protocol)?;
     }
-    listeners.reserve(41)?;
     listeners.deliver(&SHORT, 2, Some(id(b"inet")?));
     listeners.deliver(&LONGER, 18, None);
     let both = [SHORT.as_slice(), LONGER.as_slice()].concat(rt.alloc())?;
@@ -33,7 +33,7 @@ fn a_message_is_heard_by_its_family_and_read_once(rt: HostRuntime) -> Result<(),
         (b"any0", &both),
         (b"any0", &[]),
     ] {
-        assert_eq!(rt; listeners.take(id(socket)?)?.as_slice(), bytes);
+        assert_eq!(rt; listeners.take(id(socket)?, &mut room)?, bytes);
     }
     Ok(())
 }

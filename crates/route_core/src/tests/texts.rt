@@ -81,6 +81,24 @@ fn refuses_the_first_fault(rt: HostRuntime) {
 }
 
 #[test]
+fn prints_faults(rt: HostRuntime) {
+    let faults = [
+        BadAddr::Short,
+        BadAddr::Family,
+        BadAddr::Length,
+        BadAddr::NotContiguous,
+    ];
+    for fault in faults {
+        let Ok(printed) = format!(in rt.alloc(); "{fault}") else {
+            assert!(rt; false, "no memory");
+            return;
+        };
+        assert_eq!(rt; printed.as_str(), fault.text());
+    }
+    assert_eq!(rt; BadAddr::Family.text(), "an address of another family");
+}
+
+#[test]
 fn names_have_one_to_eight_bytes(rt: HostRuntime) {
     assert_eq!(rt; Name::new(b""), None);
     assert_eq!(rt; Name::new(b"ethernet0"), None);

@@ -1,27 +1,38 @@
 //! The words of the command line, of which the first is the program's name.
-ghost use Rattle.std.specs.Prelude.{◌≡◌, [], IfErr, IfOk, map, option_map};
+ghost use Rattle.std.specs.Prelude.{◌≡◌, ◌≢◌, ◌⊎◌, [], IfErr, IfOk, map, option_map};
+ghost use Rattle.std.specs.IoError.{error_kind};
 ghost use Rattle.std.specs.String.{string_bytes};
 ghost use Rattle.route_main.specs.CommandLine.{faults_of, file_of};
-ghost use Rattle.route_main.specs.declared.program.refusal.Refusal.TheVariants.{NoMemory};
+ghost use Rattle.route_main.specs.declared.program.refusal.Refusal.TheVariants.{NoMemory, Usage};
 
 use super::Refusal;
 use clap::{Arg, Command};
 use std::alloc::Global;
 use std::env;
 use std::env::Env;
-use std::io::ErrorKind;
+use std::io::{self, ErrorKind};
+
+/// The refusal of words that can't be had for this error.
+fn words_refused(error: &io::Error) -> Refusal
+    ensures memory { error_kind error.now ≡ ErrorKind.OutOfMemory → result ≡ NoMemory }
+    ensures other { error_kind error.now ≢ ErrorKind.OutOfMemory → result ≡ Usage }
+{
+    match error.kind() {
+        ErrorKind::OutOfMemory => Refusal::NoMemory,
+        _ => Refusal::Usage,
+    }
+}
 
 /// The words of this process. They can't be had where one is not text.
-pub(super) fn words_of<R: Env + AllocGlobal>(rt: &R) -> Result<Vec<String>, Refusal> {
-    let given = match env::args(rt) {
-        Ok(given) => given,
-        Err(error) => match error.kind() {
-            ErrorKind::OutOfMemory => return Err(Refusal::NoMemory),
-            _ => return Err(Refusal::Usage),
-        },
+pub(crate) fn words_of<R: Env + AllocGlobal>(rt: &R) -> Result<Vec<String>, Refusal>
+    ensures { IfErr result (λ why. (why ≡ NoMemory) ⊎ (why ≡ Usage)) }
+{
+    let args = match env::args(rt) {
+        Ok(args) => args,
+        Err(error) => return Err(words_refused(&error)),
     };
     let mut words = Vec::new(rt.alloc());
-    for word in given {
+    for word in args {
         let Ok(()) = words.push(word) else {
             return Err(Refusal::NoMemory);
         };
@@ -34,7 +45,8 @@ pub(super) fn words_of<R: Env + AllocGlobal>(rt: &R) -> Result<Vec<String>, Refu
 pub(super) fn file_named<'a>(alloc: Global, words: &'a [String]) -> Result<Option<&'a str>, Refusal>
     ensures named { IfOk result (λ file. option_map (λ f. f.now) file ≡ file_of (map string_bytes words.entry.now)) }
     ensures right { IfOk result (λ _. faults_of (map string_bytes words.entry.now) ≡ []) }
-    ensures no_memory { IfErr result (λ why. faults_of (map string_bytes words.entry.now) ≡ [] → why ≡ NoMemory) }
+    ensures refused { IfErr result (λ why. (why ≡ NoMemory)
+        ⊎ ((why ≡ Usage) × (faults_of (map string_bytes words.entry.now) ≢ []))) }
 {
     let file = Arg::new(alloc, "FILE");
     let command = Command::new(alloc, "routesim")

@@ -1,12 +1,14 @@
-ghost use Rattle.std.specs.Prelude.{◌≡◌, ◌≢◌, ◌<◌, ◌≤◌, false, length, take, IfOk, OnOk, OnErr, option_copied};
+ghost use Rattle.std.specs.Prelude.{Bool, ◌||◌, [], ◌∷◌, ◌≡◌, ◌≢◌, ◌<◌, ◌≤◌, false, length, take, IfOk, OnOk, OnErr, option_copied};
 ghost use Rattle.event_file.specs.Lines.{is_passed as passes};
-ghost use Rattle.route_main.specs.Progress.{Advances, Answers, Breaks, Finishes, StopsWithin, answered_of, fresh};
+ghost use Rattle.route_main.specs.Progress.{Advances, Answers, Breaks, Finishes, StopsWithin, answered_of, fresh, standing};
 ghost use Rattle.event_file.specs.Transcript.{Responds};
+ghost use Rattle.event_file.specs.declared.answers.TheConstants.{TEXT_ROOM};
+ghost use Rattle.route_core.specs.declared.written.TheConstants.{MOST_WRITTEN};
 ghost use Rattle.route_main.specs.Ends.{IsAnswered};
 
 use super::Outcome;
 use event_file::{Bad, Counted, LineBuffer, Stopped, TEXT_ROOM, read_said, write_answer};
-use route_core::{Answer, MOST_WRITTEN, World};
+use route_core::{Answer, MOST_WRITTEN, Room, World};
 use std::alloc::{AllocError, Global};
 use std::io::Write;
 use std::marker::Model;
@@ -18,6 +20,7 @@ pub(super) struct Answerer {
     has_bad: bool,
     text: Vec<u8>,
     written: Vec<u8>,
+    room: Room,
 }
 
 impl Model for Answerer {
@@ -41,11 +44,13 @@ impl Answerer {
         let world = World::new(alloc)?;
         let text = vec![in alloc; 0u8; TEXT_ROOM]?;
         let written = vec![in alloc; 0u8; MOST_WRITTEN]?;
+        let room = Room::new(alloc)?;
         Ok(Answerer {
             world,
             has_bad: false,
             text,
             written,
+            room,
         })
     }
 
@@ -157,11 +162,41 @@ impl Answerer {
         if is_passed(line) {
             return Ok(());
         }
-        let response = respond(&mut self.world, line, &mut self.written);
-        self.has_bad |= response.is_err();
-        write_answer(&response, &mut self.text, writer)?;
+        self.has_bad |= answer_line(
+            &mut self.world,
+            line,
+            &mut self.written,
+            &mut self.room,
+            &mut self.text,
+            writer,
+        )?;
         Ok(())
     }
+}
+
+/// Answers a line that gives an answer, and says whether it is malformed.
+fn answer_line<W: Write>(
+    world: &mut World,
+    line: Option<&[u8]>,
+    written: &mut [u8],
+    room: &mut Room,
+    text: &mut [u8],
+    writer: &mut Counted<W>,
+) -> Result<bool, Stopped>
+    requires written { length written.old ≡ MOST_WRITTEN }
+    requires text { length text.old ≡ TEXT_ROOM }
+    requires no_failure { writer.old.failures ≡ 0 }
+    ensures ok { IfOk result (λ malformed. (has_bad : Bool) → Answers (standing world.old has_bad)
+        (standing world.new (has_bad || malformed)) (W.contents writer.old.inner) (W.contents writer.new.inner)
+        (option_copied line.entry ∷ [])) }
+    ensures no_failure { OnOk result (writer.new.failures ≡ 0) }
+    ensures err { OnErr result ((has_bad : Bool) → StopsWithin (standing world.old has_bad)
+        (W.contents writer.old.inner) (W.contents writer.new.inner) (option_copied line.entry ∷ [])) }
+    ensures failure { OnErr result (writer.new.failures ≡ 1) }
+{
+    let response = respond(world, line, written, room);
+    write_answer(&response, text, writer)?;
+    Ok(response.is_err())
 }
 
 /// Whether a line gives no answer: an empty one, or one that begins with `#` and is not too long.
@@ -171,14 +206,20 @@ fn is_passed(line: Option<&[u8]>) -> bool
     matches!(line, Some([] | [b'#', ..]))
 }
 
-/// The world's response to a line, which is nothing where it is too long. The bytes of a write are put into `room`.
-fn respond(world: &mut World, line: Option<&[u8]>, room: &mut [u8]) -> Result<Answer, Bad>
-    requires { length room.old ≡ MOST_WRITTEN }
+/// The world's response to a line, which is nothing where it is too long. The bytes of a write are put into `written`,
+/// and the messages of a read are lent by `room`.
+fn respond<'a>(
+    world: &mut World,
+    line: Option<&[u8]>,
+    written: &mut [u8],
+    room: &'a mut Room,
+) -> Result<Answer<'a>, Bad>
+    requires { length written.old ≡ MOST_WRITTEN }
     ensures { Responds world.old (option_copied line.entry) result world.new }
 {
     let Some(line) = line else {
         return Err(Bad);
     };
-    let said = read_said(line, room)?;
-    Ok(world.obey(&said))
+    let said = read_said(line, written)?;
+    Ok(world.obey(&said, room))
 }

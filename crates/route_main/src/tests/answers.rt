@@ -17,7 +17,7 @@ const TWO_TEXT: &str =
     "msg 001403040000000000000000000000000000abcd\nmsg 0015030400000000000000000000000000000000ef\nok\n";
 
 /// The answer of a read of `TWO`.
-fn two(alloc: Global) -> Result<Result<Answer, Bad>, AllocError> {
+fn two(alloc: Global) -> Result<Result<Answer<'static>, Bad>, AllocError> {
     let bytes = Vec::from_slice(alloc, &TWO)?;
     Ok(Ok(Answer::Messages(Received::new(bytes), None)))
 }
@@ -26,7 +26,7 @@ fn two(alloc: Global) -> Result<Result<Answer, Bad>, AllocError> {
 fn written(
     rt: &impl Abort,
     alloc: Global,
-    answer: &Result<Answer, Bad>,
+    answer: &Result<Answer<'_>, Bad>,
     most: usize,
     (fault_at, fault): (u64, Fault),
 ) -> (Vec<u8>, Result<(), Stopped>) {
@@ -43,7 +43,7 @@ fn written(
 
 #[test]
 fn writes_each_answer(rt: HostRuntime) -> Result<(), Fail> {
-    let cases: [(Result<Answer, Bad>, &str); 6] = [
+    let cases: [(Result<Answer<'_>, Bad>, &str); 6] = [
         (Ok(Answer::Done), "ok\n"),
         (Ok(Answer::Refused(Errno::ESRCH)), "err 3\n"),
         (Ok(Answer::Refused(Errno::EHOSTUNREACH)), "err 65\n"),

@@ -2,7 +2,7 @@ use Rattle.std.proofs.Common.{◌≡◌, ◌≤◌, ◌^◌, ◌-◌, ◌∙◌,
 use Rattle.std.specs.List.{join_with_byte}
 use Rattle.std.proofs.lemmas.Bool.{cond-false, le-ltb}
 use Rattle.route_core.specs.Commands.{Command}
-use Rattle.route_core.specs.declared.command.Command.TheVariants.{Attach, AddAddress, RemoveAddress, Open, Close, Loopback, Write, Read, Packet, Redirect, DumpSize, Dump}
+use Rattle.route_core.specs.declared.command.Command.TheVariants.{Attach, AddAddress, RemoveAddress, Open, Close, Loopback, Write, Read, Lost, Packet, Redirect, Losing, DumpSize, Dump}
 use Rattle.route_core.specs.declared.written.TheConstants.{MOST_WRITTEN}
 use Rattle.event_file.specs.Grammar.{add_address_form, command_of, most_link_bytes, said_by}
 use Rattle.event_file.specs.Lines.{most_line_bytes}
@@ -28,9 +28,11 @@ fits (Close id) is = short (Close id) (omega (arith, is.1))
 fits (Loopback id on) is = short (Loopback id on) (omega (arith, is.1, length-switch_word on))
 fits (Write id bytes) (is, room, are) = simp length-append (omega (arith, is.1, length-bytes_word bytes))
 fits (Read id) is = short (Read id) (omega (arith, is.1))
+fits (Lost id) is = short (Lost id) (omega (arith, is.1))
 fits (Packet destination) small = short (Packet destination) (omega (arith, length-inet_word destination))
 fits (Redirect asked) small =
     short (Redirect asked) (omega (arith, length-inet_word asked.destination, length-inet_word asked.gateway, length-inet_word asked.author))
+fits (Losing destination) small = short (Losing destination) (omega (arith, length-inet_word destination))
 fits (DumpSize None) small = short (DumpSize None) (omega arith)
 fits (DumpSize (Some flags)) small = short (DumpSize (Some flags)) (omega (arith, length-hex_word flags))
 fits (Dump None room) (bits, small) = short (Dump None room) (omega (arith, length-decimal room small))
@@ -86,6 +88,8 @@ read (Write id bytes) can =
     (rw (name_of-name id can.0, bytes_to-bytes_word MOST_WRITTEN bytes (omega (arith, can.0.0, can.1)) can.2) refl)
 read (Read id) can =
     line_says (codes "read") (id ∷ []) _ (fits (Read id) can) (Lacks-letters (codes "read") refl, (Lacks-letters id can.2, tt)) (rw (name_of-name id can) refl)
+read (Lost id) can =
+    line_says (codes "lost") (id ∷ []) _ (fits (Lost id) can) (Lacks-letters (codes "lost") refl, (Lacks-letters id can.2, tt)) (rw (name_of-name id can) refl)
 read (Packet destination) can =
     line_says (codes "packet") (inet_word destination ∷ []) _ (fits (Packet destination) can) (Lacks-letters (codes "packet") refl, (lacks destination, tt))
     (rw (inet_of-inet_word destination can) refl)
@@ -93,6 +97,9 @@ read (Redirect asked) can =
     line_says (codes "redirect") (inet_word asked.destination ∷ inet_word asked.gateway ∷ inet_word asked.author ∷ []) _ (fits (Redirect asked) can)
     (Lacks-letters (codes "redirect") refl, (lacks asked.destination, (lacks asked.gateway, (lacks asked.author, tt))))
     (rw (inet_of-inet_word asked.destination can.0, inet_of-inet_word asked.gateway can.1, inet_of-inet_word asked.author can.2) refl)
+read (Losing destination) can =
+    line_says (codes "losing") (inet_word destination ∷ []) _ (fits (Losing destination) can) (Lacks-letters (codes "losing") refl, (lacks destination, tt))
+    (rw (inet_of-inet_word destination can) refl)
 read (DumpSize None) can =
     line_says (codes "dump") (codes "ask" ∷ []) _ (fits (DumpSize None) can) (Lacks-letters (codes "dump") refl, (Lacks-letters (codes "ask") refl, tt)) refl
 read (DumpSize (Some flags)) can =

@@ -59,6 +59,13 @@ pub returns-clause-remove_address : goal.returns-clause-remove_address
 unfolding digits
 returns-clause-remove_address c = refl
 
+pub returns-clause-lost : goal.returns-clause-lost
+returns-clause-lost c = refl
+
+pub returns-clause-losing : goal.returns-clause-losing
+unfolding digits
+returns-clause-losing c = refl
+
 pub returns-clause-packet : goal.returns-clause-packet
 unfolding digits
 returns-clause-packet c = refl

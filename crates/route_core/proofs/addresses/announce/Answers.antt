@@ -1,4 +1,4 @@
-use Rattle.std.proofs.Common.{ap, ◌∙◌}
+use Rattle.std.proofs.Common.{◌∙◌}
 use Rattle.route_core.proofs.Announcing.{both_told, link_told}
 use Rattle.route_core.proofs.addresses.announce.Goals as goal
 
@@ -9,5 +9,5 @@ returns c =
     both_told _ _ _ _ _ _ _
     (c.deref.ensures.0 ∙ (rw (← link, index) at c.address_message-arrival.ensures.message))
     (c.deref-2.ensures.0 ∙ (rw index at c.route_added.ensures.message))
-    (ap (λ l. l.sockets) c.deliver.ensures)
-    (ap (λ l. l.sockets) c.deliver-2.ensures)
+    c.deliver.ensures
+    c.deliver-2.ensures

@@ -1,4 +1,4 @@
-use Rattle.std.proofs.Common.{rules}
+use Rattle.std.proofs.Common.{arith, rules}
 use Rattle.route_main.proofs.ProgressLemmas.{Ends-write_fault, HasRead-more, Reached-read}
 use Rattle.route_main.proofs.run.answer_script.Goals as goal
 
@@ -10,6 +10,7 @@ loop-turn-preserved g c = record {
   reads = search rules;
   no_read_failure = search rules;
   no_write_failure = search rules;
+  room = grind arith;
   unended = search rules;
   reached = Reached-read c.loop-turn.invariant.reached c.in-Ok.ensures.bytes.0 c.in-Ok-answer_bytes.ensures.ok;
   many = HasRead-more c.in-Ok.taken _ c.loop-turn.invariant.many c.in-Ok.ensures.bytes.0 c.in-Ok.ensures.bound.0 c.if-taken-eq0.false;

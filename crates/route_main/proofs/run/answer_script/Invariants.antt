@@ -1,4 +1,5 @@
-use Rattle.std.proofs.Common.{◌≡◌, false}
+use Rattle.std.proofs.Common.{◌≡◌, ◌≤◌, false}
+use Rattle.route_main.specs.declared.run.TheConstants.{READ_ROOM}
 use Rattle.route_main.specs.Progress.{HasRead, Reached}
 use Rattle.route_main.proofs.run.answer_script.Given as goal
 
@@ -7,6 +8,7 @@ invariant-loop-turn g l = record {
   reads : l.reader.reads ≡ l._turn;
   no_read_failure : l.reader.failures ≡ 0;
   no_write_failure : l.writer.failures ≡ 0;
+  room : READ_ROOM ≤ l.initial.reader.least_room → READ_ROOM ≤ l.reader.least_room;
   unended : l.line.ended ≡ false;
   reached : Reached l.answerer (g.R.Read.remaining l.initial.reader.inner) (g.R.Read.remaining l.reader.inner)
       (g.W.Write.contents l.initial.writer.inner) (g.W.Write.contents l.writer.inner) l.line;

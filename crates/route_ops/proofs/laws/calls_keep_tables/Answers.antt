@@ -1,4 +1,4 @@
-use Rattle.route_ops.proofs.TablesStay.{adding_stays, changing_stays, locking_stays, look_stays, redirect_stays}
+use Rattle.route_ops.proofs.TablesStay.{adding_stays, changing_stays, locking_stays, look_stays, losing_stays, redirect_stays}
 use Rattle.route_ops.proofs.laws.calls_keep_tables.Goals as goal
 
 pub returns : goal.returns
@@ -8,4 +8,5 @@ returns c = record {
   request_change = changing_stays;
   request_lock = locking_stays;
   redirect = redirect_stays;
+  losing = losing_stays;
 }

@@ -1,4 +1,4 @@
-use Rattle.std.proofs.Common.{◌≡◌, ℕ, ap, sym, ◌∙◌}
+use Rattle.std.proofs.Common.{◌≡◌, ap, sym, ◌∙◌}
 use Rattle.std.specs.Int.{w32, leading_ones}
 use Rattle.sock_addrs.specs.Sockaddrs.{mask_number}
 use Rattle.sock_addrs.proofs.MaskRead.{leading_ones-mask}

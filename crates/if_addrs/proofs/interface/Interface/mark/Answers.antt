@@ -9,7 +9,7 @@ pub returns-in-Some : goal.returns-in-Some
 returns-in-Some c =
     let f = marked c.args.mark in
     let items = c.self.inside.addresses.items in
-    let was : Interface = record { name = c.self.inside.name; kind = c.self.inside.kind; type_number = c.self.inside.type_number; link = c.self.inside.link.items; addresses = items } in
+    let was : Interface = record { name = c.self.inside.name; kind = c.self.inside.kind; type_number = c.self.inside.type_number; link = c.self.inside.link; addresses = items } in
     let place : position (has_number c.args.number) items ≡ Some c.in-Some.at =
     ap (λ (xs : List Address). position (has_number c.args.number) xs) (sym c.deref.ensures.value) ∙ sym c.in-Some.ensures in
     let d = c.index_mut.result.now in
@@ -22,7 +22,7 @@ pub returns-in_default : goal.returns-in_default
 returns-in_default c =
     let f = marked c.args.mark in
     let items = c.self.inside.addresses.items in
-    let was : Interface = record { name = c.self.inside.name; kind = c.self.inside.kind; type_number = c.self.inside.type_number; link = c.self.inside.link.items; addresses = items } in
+    let was : Interface = record { name = c.self.inside.name; kind = c.self.inside.kind; type_number = c.self.inside.type_number; link = c.self.inside.link; addresses = items } in
     let place : position (has_number c.args.number) items ≡ None =
     ap (λ (xs : List Address). position (has_number c.args.number) xs) (sym c.deref.ensures.value) ∙ sym c.in_default.ensures in
     sym c.self.view_is

@@ -9,10 +9,10 @@ use Rattle.if_addrs.proofs.interface.Interface.nearest.Goals as goal
 
 pub returns-in-Some : goal.returns-in-Some
 returns-in-Some c =
-    ap (λ (o : Option Address). option_or o (find (is_wanted Standing) c.args.self.now.addresses)) c.in-Some.ensures ∙ nearest_is c.args.held c.args.self.now.addresses
+    ap (λ (o : Option Address). option_or o (find (is_wanted Standing) c.args.self.now.addresses)) c.in-Some.ensures ∙ nearest_is c.args.sought c.args.self.now.addresses
 
 pub returns-in-None : goal.returns-in-None
 returns-in-None c =
     c.first-in-None.ensures
     ∙ ap (λ (o : Option Address). option_or o (find (is_wanted Standing) c.args.self.now.addresses)) c.in-None.ensures
-    ∙ nearest_is c.args.held c.args.self.now.addresses
+    ∙ nearest_is c.args.sought c.args.self.now.addresses

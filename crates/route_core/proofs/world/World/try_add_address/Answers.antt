@@ -9,11 +9,11 @@ returns-in-Err-add c =
     let w : World = record {
       table = c.self.inside.table.entries;
       interfaces = c.self.inside.interfaces;
-      sockets = c.self.inside.listeners.sockets;
+      sockets = c.self.inside.listeners;
     } in
     let facts = facts_known _ c.facts-facts.result _ c.facts-facts.ensures c.in-Ok.ensures.there in
     let table_is = c.give_back-in-Err-add.ensures in
-    rw (← c.self.view_is, table_is, c.in-Err-add.ensures.err, c.in_ok-room.ensures.ok, c.in_ok-reserve.ensures.ok)
+    rw (← c.self.view_is, table_is, c.in-Err-add.ensures.err, c.in_ok-room.ensures.ok)
     (address_taken w c.args.name c.args.address c.args.prefix c.args.cloning c.args.far _ _ _ _
     (sym c.in_ok-check_addr.ensures)
     c.in-Ok.ensures.number facts c.route_of_address-route.ensures.route
@@ -25,7 +25,7 @@ returns c =
     let w : World = record {
       table = c.self.inside.table.entries;
       interfaces = c.self.inside.interfaces;
-      sockets = c.self.inside.listeners.sockets;
+      sockets = c.self.inside.listeners;
     } in
     let facts = facts_known _ c.facts-facts.result _ c.facts-facts.ensures c.in-Ok.ensures.there in
     rw (← c.self.view_is)
@@ -36,4 +36,4 @@ returns c =
     (rw c.in_ok-room.ensures.ok at c.in_default.ensures.ok)
     c.in-Ok.ensures.added
     c.mark_routed.ensures.marked
-    (rw c.in_ok-reserve.ensures.ok at c.announce.ensures))
+    c.announce.ensures)

@@ -10,7 +10,7 @@ returns c =
     let w : World = record {
       table = c.self.inside.table.entries;
       interfaces = c.self.inside.interfaces;
-      sockets = c.self.inside.listeners.sockets;
+      sockets = c.self.inside.listeners;
     } in
     let turned = c.begin-visits.ensures.turn in
     rw (← c.self.view_is, turned, c.«new».ensures)

@@ -1,17 +1,8 @@
 use Rattle.route_ops.specs.Standing.{AreOf}
 use Rattle.route_core.proofs.world.World.try_packet.Goals as goal
 
-pub invariant_of-self : goal.invariant_of-self
-invariant_of-self c =
-    let interfaces = c.self.inside.interfaces in
-    let are : AreOf interfaces c.begin-visits.new.self.entries = rw c.begin-visits.ensures.turn c.self.invariant in
-    c.count_use.ensures.of interfaces are
-
 pub invariant_of-self-2 : goal.invariant_of-self-2
 invariant_of-self-2 c =
     let interfaces = c.self.inside.interfaces in
-    let are : AreOf interfaces c.prepare.new.table.entries =
-    rw (c.prepare.ensures.entries, c.begin-visits.ensures.turn) c.self.invariant in
-    let looked : AreOf interfaces c.finish.new.table.entries =
-    rw c.finish.ensures (c.look_up-looked.ensures.of interfaces are) in
-    c.count_use-2.ensures.of interfaces looked
+    let are : AreOf interfaces c.begin-visits.new.self.entries = rw c.begin-visits.ensures.turn c.self.invariant in
+    c.count_use.ensures.of interfaces are

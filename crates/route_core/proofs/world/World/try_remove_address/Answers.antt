@@ -1,4 +1,4 @@
-use Rattle.std.proofs.Common.{ap, sym}
+use Rattle.std.proofs.Common.{refl, sym}
 use Rattle.route_ops.proofs.Keeping.{are_kept}
 use Rattle.route_ops.specs.Standing.{AreOf}
 use Rattle.route_core.specs.World.{World}
@@ -6,8 +6,8 @@ use Rattle.route_core.proofs.Effecting.{address_gone, address_gone_with}
 use Rattle.route_core.proofs.world.World.try_remove_address.Goals as goal
 use Rattle.route_core.proofs.world.World.try_remove_address.Goals.{in-Some, in_default}
 
-pub invariant_of-self-2 : goal.invariant_of-self-2
-invariant_of-self-2 c =
+pub invariant_of-self : goal.invariant_of-self
+invariant_of-self c =
     let interfaces = c.self.inside.interfaces in
     let are : AreOf interfaces c.withdraw_route.new.table.entries =
     c.withdraw_route.ensures.of interfaces c.self.invariant in
@@ -23,7 +23,7 @@ returns c =
     let w : World = record {
       table = c.self.inside.table.entries;
       interfaces = c.self.inside.interfaces;
-      sockets = c.self.inside.listeners.sockets;
+      sockets = c.self.inside.listeners;
     } in
     rw (← c.self.view_is)
     (elim c.match-withdraw_route.branch [
@@ -31,11 +31,11 @@ returns c =
           (address_gone_with w c.args.name c.args.address c.in_ok-ifa.ifa c.facts-facts.result b.in-Some.route _ _ _
           (sym c.in_ok-ifa.ensures.found) c.facts-facts.ensures (sym b.in-Some.ensures.withdrawn) b.in-Some.ensures.without
           (rw b.self-inside-is at c.remove_addr.ensures.removed)
-          (rw c.in_ok-reserve.ensures.ok at b.renounce.ensures))
+          b.renounce.ensures)
       | in_default b ↦ rw b.self-inside-is
           (address_gone w c.args.name c.args.address c.in_ok-ifa.ifa c.facts-facts.result _ _ _
           (sym c.in_ok-ifa.ensures.found) c.facts-facts.ensures (sym b.in_default.ensures.withdrawn)
           b.in_default.ensures.kept
           (rw b.self-inside-is at c.remove_addr.ensures.removed)
-          (ap (λ l. l.sockets) c.in_ok-reserve.ensures.ok))
+          refl)
     ])

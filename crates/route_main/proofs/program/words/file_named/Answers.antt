@@ -1,4 +1,4 @@
-use Rattle.std.proofs.Common.{arith, ◌≡◌, ◌∙◌, [], ◌∷◌, length, Result, Ok, Err, IfErr, inl, inr, map, ap, ap₂, refl, sym, true, codes}
+use Rattle.std.proofs.Common.{arith, ◌≡◌, ◌≢◌, ◌⊎◌, ◌∙◌, [], ◌∷◌, length, Result, Ok, Err, IfErr, inl, inr, map, ap, ap₂, refl, sym, true, codes}
 use Rattle.std.specs.Result.{IsErrAnd}
 use Rattle.std.specs.String.{string_bytes}
 use Rattle.clap.specs.Words.{App, HasKind, Kinds, app_of, first_of, found_of, is_simple, is_simple_and_free, kind_of, matches_of, fault_of, with_rule}
@@ -11,7 +11,7 @@ use Rattle.clap.proofs.WalkLemmas.{first_value-rows}
 use Rattle.route_main.specs.CommandLine.{routesim}
 use Rattle.route_main.specs.Refusals.{of_kind}
 use Rattle.route_main.specs.declared.program.refusal.Refusal.{Refusal}
-use Rattle.route_main.specs.declared.program.refusal.Refusal.TheVariants.{NoMemory}
+use Rattle.route_main.specs.declared.program.refusal.Refusal.TheVariants.{NoMemory, Usage}
 use Rattle.route_main.proofs.program.words.file_named.Goals as goal
 
 abbrev without_help : App → App
@@ -25,24 +25,36 @@ is_free : is_simple_and_free routesim ≡ true
 unfolding clap_on_literals
 is_free = refl
 
--- an error where nothing is wrong is want of memory
-only_memory : (faults : Kinds) (e : Error) → HasKind faults e → faults ≡ [] → kind_of e ≡ OutOfMemory
-only_memory [] e (inl memory) none = memory
-only_memory [] e (inr other) none = absurd other
-only_memory (k ∷ ks) e h none = absurd (omega (arith, ap length none))
+-- an error is want of memory, or something is wrong
+some_fault : (faults : Kinds) (e : Error) → HasKind faults e → (kind_of e ≡ OutOfMemory) ⊎ (faults ≢ [])
+some_fault faults e (inl memory) = inl memory
+some_fault [] e (inr other) = absurd other
+some_fault (k ∷ ks) e (inr other) = inr (λ none. absurd (omega (arith, ap length none)))
+
+by_kind : (kind : ErrorKind) → (of_kind kind ≡ NoMemory) ⊎ (of_kind kind ≡ Usage)
+by_kind OutOfMemory = inl refl
+by_kind _ = inr refl
+
+refused-by : {P : Type 0} (refusal : Refusal) (kind : ErrorKind) → refusal ≡ of_kind kind
+    → (kind ≡ OutOfMemory) ⊎ P → (refusal ≡ NoMemory) ⊎ ((refusal ≡ Usage) × P)
+refused-by refusal kind is (inl memory) = inl (is ∙ ap of_kind memory)
+refused-by refusal kind is (inr p) = elim (by_kind kind) [
+  | inl memory ↦ inl (is ∙ memory)
+  | inr usage ↦ inr (is ∙ usage, p)
+]
 
 refused : {T P : Type 0} (r : Result T Refusal) (kind : ErrorKind) → IsErrAnd r (λ refusal. refusal ≡ of_kind kind)
-    → (P → kind ≡ OutOfMemory) → IfErr r (λ refusal. P → refusal ≡ NoMemory)
-refused (Ok a) kind is memory = tt
-refused (Err refusal) kind is memory = λ p. is ∙ ap of_kind (memory p)
+    → (kind ≡ OutOfMemory) ⊎ P → IfErr r (λ refusal. (refusal ≡ NoMemory) ⊎ ((refusal ≡ Usage) × P))
+refused (Ok a) kind is why = tt
+refused (Err refusal) kind is why = refused-by refusal kind is why
 
-pub returns-in_err-matches-clause-no_memory : goal.returns-in_err-matches-clause-no_memory
-returns-in_err-matches-clause-no_memory c =
+pub returns-in_err-matches-clause-refused : goal.returns-in_err-matches-clause-refused
+returns-in_err-matches-clause-refused c =
     let command_is : app_of c.in_ok-command.command ≡ routesim = c.in_ok-command.ensures.shape c.new-file.ensures.optional.1
     ∙ ap₂ with_rule (ap app_of_fields c.disable_help_flag.ensures ∙ ap without_help c.new.ensures.app) c.new-file.ensures.rule in
-    refused _ _ c.from_residual-in_err-matches.ensures.1 (λ none. only_memory _ c.in_err-matches.field-0.0
-    (c.in_err-matches.ensures.kinds (ap is_simple_and_free command_is ∙ is_free))
-    (ap (λ a. fault_of a (map string_bytes c.args.words.now)) command_is ∙ none))
+    let faults_are = ap (λ a. fault_of a (map string_bytes c.args.words.now)) command_is in
+    refused _ _ c.from_residual-in_err-matches.ensures.1 (some_fault _ c.in_err-matches.field-0.0
+    (rw (← faults_are) (c.in_err-matches.ensures.kinds (ap is_simple_and_free command_is ∙ is_free))))
 
 pub returns-clause-named : goal.returns-clause-named
 returns-clause-named c =
