@@ -2,10 +2,10 @@
 which the bytes come change nothing."""
 import random
 
-from generator import MOST_WRITE, SEEDS, all_lengths, all_names_and_links, all_prefixes, any_script, cut_whole, cuts_of
-from generator import each_form, fronts
+from generator import MOST_MESSAGE, MOST_SOCKETS, MOST_WRITE, SEEDS, all_classes, all_lengths, all_names_and_links
+from generator import all_prefixes, any_script, cut_whole, cuts_of, each_form, fronts, heard_by_all, queue_script
 from grammar import LINES, any_line, is_line
-from messages import GET, HEADER, OLDADD, WHOLE, sized
+from messages import GET, HEADER, OLDADD, WHOLE, message_size, sized
 from runs import BAD_LINE, DONE, FAULT_TEXT, answered_lines, answers
 
 PIECES = (1, 7, 4096)
@@ -43,6 +43,36 @@ def run_refused(sweep, seed):
     sweep.claim(f"seed {seed}: refused lines change no route", bool(refused) and holds)
 
 
+def run_queues(sweep, seed):
+    """What a socket holds and has lost is told by what it heard: a script in which each socket is read behind each line
+    shows all that is heard, and the same lines with few reads show what is kept of it."""
+    ids, sparse = queue_script(seed)
+    lines = [line for line in sparse if line.split(b" ")[0] not in (b"read", b"lost")]
+    every = b"".join(b"%s\n" % line for each in lines for line in (each, *(b"read %s" % name for name in ids)))
+    got = answers(sweep.run(every).wrote)
+    steps = iter([got[at : at + 1 + len(ids)] for at in range(0, len(got), 1 + len(ids))])
+    queues, losses, told = {name: [] for name in ids}, dict.fromkeys(ids, 0), []
+    for line in sparse:
+        command, name = line.split(b" ")[:2]
+        if command == b"lost":
+            told.append(b"size %d\n" % losses[name])
+        elif command == b"read":
+            told.append(b"".join(queues[name]) + b"ok\n")
+            queues[name] = []
+        else:
+            answer, *heard = next(steps)
+            told.append(answer)
+            for name, messages in zip(ids, heard):
+                for message in messages.splitlines(keepends=True)[:-1]:
+                    held = sum(map(message_size, queues[name]))
+                    fits = held + message_size(message) <= MOST_MESSAGE
+                    queues[name] += [message] if fits else []
+                    losses[name] += not fits
+    ran = sweep.run(b"".join(line + b"\n" for line in sparse))
+    holds = ran.told() == (b"".join(told), DONE, FAULT_TEXT[DONE]) and ran.left_nothing()
+    sweep.claim(f"seed {seed}: queues and losses", holds and any(losses.values()))
+
+
 def run_each_form(sweep):
     claim_made(sweep, "each form", each_form())
 
@@ -71,23 +101,39 @@ def run_cuts(sweep):
 def run_fronts(sweep):
     """Each front of a line of each form is a line only where the grammar has it."""
     rng = random.Random(0)
-    for _, template in LINES:
+    for template in LINES:
         claim_made(sweep, f"fronts of {template[:30]}", fronts(any_line(rng, template, beyond=0)[:400]))
 
 
-def run_lengths(sweep, kind, first):
-    """Writes of each length from the first on: of each the transcript is known."""
-    pid = (0, 2**32 - 1)[first // LENGTHS_A_SCRIPT % 2]
-    script, transcript = all_lengths(kind, range(first, min(first + LENGTHS_A_SCRIPT, MOST_WRITE + 1)), pid)
-    for piece in PIECES if first == 0 else PIECES[-1:]:
+def claim_told(sweep, what, script, transcript, pieces=PIECES[-1:]):
+    """What is written is the transcript, which is known."""
+    for piece in pieces:
         ran = sweep.run(script, piece=piece)
         holds = ran.told() == (transcript, DONE, FAULT_TEXT[DONE]) and ran.left_nothing()
-        sweep.claim(f"type {kind}, lengths from {first}, pieces of {piece}", holds)
+        sweep.claim(f"{what}, pieces of {piece}", holds)
+
+
+def run_lengths(sweep, kind, first, others=0):
+    """Writes of each length from the first on, beside so many sockets that hear nothing."""
+    pid = (0, 2**32 - 1)[first // LENGTHS_A_SCRIPT % 2]
+    sizes = range(first, min(first + LENGTHS_A_SCRIPT, MOST_WRITE + 1))
+    what = f"type {kind}, lengths from {first}, {others} sockets beside"
+    claim_told(sweep, what, *all_lengths(kind, sizes, pid, others), PIECES if first == others == 0 else PIECES[-1:])
+
+
+def run_heard_by_all(sweep, kind):
+    claim_told(sweep, f"type {kind}, heard by {MOST_SOCKETS} sockets", *heard_by_all(kind))
+
+
+def run_classes(sweep):
+    claim_told(sweep, "addresses that begin with each byte", *all_classes())
 
 
 def jobs():
     """The sweeps of this module, in parts that can run side by side."""
-    yield from ((job, seed) for job in (run_seed, run_refused) for seed in SEEDS)
+    yield from ((job, seed) for job in (run_seed, run_refused, run_queues) for seed in SEEDS)
     for kind in (GET, OLDADD):
-        yield from ((run_lengths, kind, first) for first in range(0, MOST_WRITE + 1, LENGTHS_A_SCRIPT))
-    yield from ((job,) for job in (run_each_form, run_prefixes, run_names_and_links, run_cuts, run_fronts))
+        yield run_heard_by_all, kind
+        for others in (0, MOST_SOCKETS - 1):
+            yield from ((run_lengths, kind, first, others) for first in range(0, MOST_WRITE + 1, LENGTHS_A_SCRIPT))
+    yield from ((job,) for job in (run_classes, run_each_form, run_prefixes, run_names_and_links, run_cuts, run_fronts))

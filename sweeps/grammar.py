@@ -1,7 +1,6 @@
 """The lines of a script as a table: the words that each has, and texts at the borders of these, within and beyond.
 
-A new command is a line of `LINES`, and a new word one of `WORDS`. What the program doesn't have yet is switched off:
-such a line is `bad` until its feature stands in `ON`.
+A new command is a line of `LINES`, and a new word one of `WORDS`.
 """
 import re
 from dataclasses import dataclass
@@ -9,8 +8,6 @@ from typing import Callable
 
 from messages import ADDRESSES, PREFIXES, any_link, any_message
 from runs import MOST_LINE
-
-ON = {"first", "kinds", "listeners", "packet", "dump", "route", "redirect"}
 
 
 @dataclass(frozen=True)
@@ -91,29 +88,29 @@ WORDS = {
 METRICS = ["mtu", "hopcount", "expire", "recvpipe", "sendpipe", "ssthresh", "rtt", "rttvar"]
 OPTIONS = "[ via GATE][ genmask PREFIX][ ifp GATE][ ifa GATE][ flags FLAGS][ inits FLAGS][ locks FLAGS]"
 OPTIONS += "".join(f"[ {name} NUMBER]" for name in METRICS)
-# Each form of a line with its feature. A word in capitals is one of `WORDS`; what stands in brackets may be left out.
+# Each form of a line. A word in capitals is one of `WORDS`; what stands in brackets may be left out.
 LINES = [
-    ("first", "if NAME broadcast BYTE LINK"),
-    ("kinds", "if NAME KIND BYTE LINK"),
-    ("first", "addr NAME INET/PREFIX[ cloning]"),
-    ("kinds", "addr NAME INET/PREFIX to INET[ cloning]"),
-    ("first", "open ID NUMBER any"),
-    ("listeners", "open ID NUMBER PROTOCOL"),
-    ("first", "write ID MESSAGE"),
-    ("first", "read ID"),
-    ("packet", "packet INET"),
-    ("dump", "dump NUMBER"),
-    ("dump", "dump ask"),
-    ("dump", "flags FLAGS NUMBER"),
-    ("dump", "flags FLAGS ask"),
-    ("route", "route ID NUMBER VERB DEST" + OPTIONS),
-    ("listeners", "loopback ID on"),
-    ("listeners", "loopback ID off"),
-    ("listeners", "close ID"),
-    ("redirect", "redirect INET INET INET"),
-    ("redirect", "unaddr NAME INET"),
-    ("lost", "lost ID"),
-    ("losing", "losing INET"),
+    "if NAME broadcast BYTE LINK",
+    "if NAME KIND BYTE LINK",
+    "addr NAME INET/PREFIX[ cloning]",
+    "addr NAME INET/PREFIX to INET[ cloning]",
+    "open ID NUMBER any",
+    "open ID NUMBER PROTOCOL",
+    "write ID MESSAGE",
+    "read ID",
+    "packet INET",
+    "dump NUMBER",
+    "dump ask",
+    "flags FLAGS NUMBER",
+    "flags FLAGS ask",
+    "route ID NUMBER VERB DEST" + OPTIONS,
+    "loopback ID on",
+    "loopback ID off",
+    "close ID",
+    "redirect INET INET INET",
+    "unaddr NAME INET",
+    "lost ID",
+    "losing INET",
 ]
 
 
@@ -123,11 +120,11 @@ def form_of(template):
     return re.compile(re.sub("[A-Z]+", lambda word: f"(?:{WORDS[word[0]].form})", text).encode())
 
 
-FORMS = [form_of(template) for feature, template in LINES if feature in ON]
+FORMS = [form_of(template) for template in LINES]
 
 
 def is_line(line):
-    """Whether the grammar of today has the line."""
+    """Whether the grammar has the line."""
     return len(line) <= MOST_LINE and any(form.fullmatch(line) for form in FORMS)
 
 

@@ -1,24 +1,55 @@
 """Memory that is refused, that is left at the end, and that grows without need."""
+from messages import ADD, CHANGE, CLONING, best_of, is_whole, number_of, routes_in, text_of
 from runs import FAULT_TEXT, NO_MEMORY, answered_lines, answers
 
 # Commands that take no memory where they are refused with one of these errnos, and such as never take any.
-TAKES_NONE = {
-    b"if": {17, 28},
-    b"addr": {6, 22, 28, 48},
-    b"unaddr": {6, 49},
-    b"open": {17, 24},
-    b"write": {9, 40},
-    b"route": {9, 40},
-}
-NEVER_TAKE = {b"read", b"loopback", b"close"}
+TAKES_NONE = {b"if": {17, 28}, b"addr": {6, 22, 28, 48}, b"open": {17, 24}}
+NEVER_TAKE = {b"read", b"lost", b"loopback", b"close", b"unaddr", b"losing"}
+ALL_ROUTES = b"dump 4294967295"
 
 
-def may_want_memory(line, answer):
-    """Whether the line that is answered so where there is memory may answer 55 where there is none."""
+def tables_before(sweep, script):
+    """The routes that are there before each answered line, by its place, where it is a packet."""
+    lines, script = answered_lines(script), b""
+    for line in lines:
+        script += (ALL_ROUTES + b"\n" if line.startswith(b"packet ") else b"") + line + b"\n"
+    got, tables = iter(answers(sweep.run(script).wrote)), {}
+    for at, line in enumerate(lines):
+        if line.startswith(b"packet "):
+            tables[at] = routes_in(next(got))
+        next(got)
+    return tables
+
+
+def clones(line, routes):
+    """Whether the route of a packet is there and clones."""
+    best = best_of(number_of(line.split(b" ")[1].decode()), routes)
+    return best is not None and bool(best.flags & CLONING)
+
+
+def makes_or_changes(line):
+    """Whether a write or a `route` line is an ADD or a CHANGE."""
+    if line.startswith(b"route "):
+        return line.split(b" ")[3] in (b"add", b"change")
+    text = text_of(line.split(b" ")[2])
+    return is_whole(text) and text[3] in (ADD, CHANGE)
+
+
+def may_want_memory(line, answer, routes):
+    """Whether the line that is answered so where there is memory, and meets these routes, may answer 55 where there is
+    none."""
     command = line.split(b" ")[0]
     refusals = {b"err %d\n" % errno for errno in TAKES_NONE.get(command, ())}
-    asks = command in NEVER_TAKE or line.endswith(b" ask")
-    return answer != b"bad\n" and answer not in refusals and not asks
+    if answer == b"bad\n" or answer in refusals or command in NEVER_TAKE or line.endswith(b" ask"):
+        return False
+    if command == b"packet":
+        return clones(line, routes)
+    return command not in (b"write", b"route") or (answer == b"ok\n" and makes_or_changes(line))
+
+
+def asks_in_vain(line, answer):
+    """Whether a line is an ADD or a CHANGE that is refused: it asks for memory before it finds that it needs none."""
+    return line.split(b" ")[0] in (b"write", b"route") and answer.startswith(b"err") and makes_or_changes(line)
 
 
 def lines_refused(script, transcript, ran):
@@ -37,27 +68,30 @@ def is_without(sweep, example, ran, refused):
     return rest.told() == (b"".join(got[at] for at in kept), ran.status, ran.error)
 
 
-def is_refused_well(sweep, example, ran, fault):
-    """Nothing was written and the status says why; or lines were answered 55, one that may be where memory was refused
-    once, and all else is as it is without them."""
+def is_refused_well(sweep, example, ran, fault, tables):
+    """Nothing was written and the status says why; or all is as it is with memory, where a line asked for it in vain; or
+    lines were answered 55, one that may be where memory was refused once, and all else is as it is without them."""
     if not ran.left_nothing():
         return False
     if ran.told() == (b"", NO_MEMORY, FAULT_TEXT[NO_MEMORY]):
         return True
+    lines, plain = answered_lines(example.script), answers(example.transcript)
+    if ran.told() == example.told():
+        return any(map(asks_in_vain, lines, plain))
     refused = lines_refused(example.script, example.transcript, ran)
     if fault == "refuse_alloc" and refused is not None:
-        lines, plain = answered_lines(example.script), answers(example.transcript)
-        refused = refused if [may_want_memory(lines[at], plain[at]) for at in refused] == [True] else None
+        may = [may_want_memory(lines[at], plain[at], tables.get(at)) for at in refused]
+        refused = refused if may == [True] else None
     return bool(refused) and is_without(sweep, example, ran, refused)
 
 
 def refuse_each_allocation(sweep, example, fault="refuse_alloc"):
     """The allocation k is refused (or k and all later ones), for each k that the run has; each of them came."""
-    calls = sweep.run(example.script).counts["allocations"]
+    calls, tables = sweep.run(example.script).counts["allocations"], tables_before(sweep, example.script)
     for call in range(1, calls + 1):
         ran = sweep.run(example.script, **{fault: call})
         met = ran.counts["faults"] == 1 if fault == "refuse_alloc" else ran.counts["faults"] >= 1
-        sweep.claim(f"{example.name}: {fault} {call}", met and is_refused_well(sweep, example, ran, fault))
+        sweep.claim(f"{example.name}: {fault} {call}", met and is_refused_well(sweep, example, ran, fault, tables))
     beyond = sweep.run(example.script, **{fault: calls + 1})
     told = beyond.told() == example.told() and beyond.counts["faults"] == 0
     sweep.claim(f"{example.name}: {fault} comes, and ends at the last allocation", calls > 0 and told)

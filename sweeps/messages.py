@@ -1,9 +1,11 @@
-"""Messages that are written to a socket: whole ones, and such as have something wrong."""
+"""Messages that are written to a socket: whole ones, and such as have something wrong. And what messages show."""
 import struct
+from dataclasses import dataclass
 
 HEADER = 76
 DST, GATEWAY, NETMASK, GENMASK, IFP, IFA, AUTHOR, BRD = (1 << bit for bit in range(8))
 ADD, DELETE, CHANGE, GET, LOCK, OLDADD = 1, 2, 3, 4, 8, 9
+CLONING = 0x100
 
 ADDRESSES = [
     "0.0.0.0", "255.255.255.255", "127.0.0.1", "128.0.0.0", "10.0.0.1", "10.0.0.2", "10.9.9.9", "10.255.255.255",
@@ -42,6 +44,54 @@ def message(kind, addresses, version=3, index=0, flags=0, pid=0, seq=1, errno=0,
 def sized(text):
     """The message with its own length in its length field."""
     return len(text).to_bytes(2, "big")[: len(text)] + text[2:]
+
+
+def is_whole(text):
+    """Whether there is a header, and the length field says the length."""
+    return len(text) >= HEADER and text == sized(text)
+
+
+def text_of(word):
+    """The bytes of a word of a line or of a `msg` line."""
+    return b"" if word == b"-" else bytes.fromhex(word.decode())
+
+
+def message_size(line):
+    """How many bytes the message of a `msg` line has."""
+    return (len(line.strip()) - len(b"msg ")) // 2
+
+
+@dataclass(frozen=True)
+class Route:
+    """A route as a dump shows it: its key, how many bits its mask has (33 without one), and its flags."""
+
+    key: int
+    rank: int
+    flags: int
+
+
+def number_of(address):
+    return int.from_bytes(bytes(map(int, address.split("."))), "big")
+
+
+def routes_in(answer):
+    """The routes of a dump's answer."""
+    routes = []
+    for line in answer.splitlines()[:-1]:
+        text = text_of(line.split(b" ")[1])
+        flags, addrs = struct.unpack_from(">II", text, 8)
+        at = HEADER + len(padded(text[HEADER:][: text[HEADER]]))
+        at += len(padded(text[at:][: text[at]]))
+        bits = text[at:][4 : max(text[at], 4)] if addrs & NETMASK else None
+        rank = 33 if bits is None else int.from_bytes(bits, "big").bit_count()
+        routes.append(Route(int.from_bytes(text[HEADER + 4 : HEADER + 8], "big"), rank, flags))
+    return routes
+
+
+def best_of(address, routes):
+    """The route of the longest mask among those that the address agrees with, or None."""
+    agreeing = [route for route in routes if (address ^ route.key) >> max(0, 32 - route.rank) == 0]
+    return max(agreeing, key=lambda route: route.rank, default=None)
 
 
 # Whole messages, each to be cut at every length.

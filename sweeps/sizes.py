@@ -1,8 +1,7 @@
-"""Much of everything: a table, a queue and a line as long as they get, and rounds that take no more memory."""
+"""Much of everything: a table, queues that are full, and rounds and messages that take no more memory."""
 import random
 
-from generator import START
-from grammar import ON
+from generator import MOST_SOCKETS, START, crowd
 from messages import DST, GET, OLDADD, inet, message
 from runs import DONE, answers
 
@@ -30,38 +29,69 @@ A_GET = message(GET, {DST: inet("10.9.9.9")}).hex()
 OF_NO_TYPE = message(OLDADD, {DST: inet("10.9.9.9")}).hex()
 
 
-def fill_a_long_queue(sweep):
-    """A socket hears 10,000 replies, and its read gives all of them."""
-    ran = sweep.run(START.encode() + b"read a\n" + f"write a {A_GET}\n".encode() * 10_000 + b"read a\n")
-    got = answers(ran.wrote)
-    heard = got[-1].splitlines() if got else []
-    holds = got[4:-1] == [b"ok\n"] * 10_000 and len(heard) == 10_001 and len(set(heard)) == 2 and heard[-1] == b"ok"
-    sweep.claim("a long queue", holds and ran.status == DONE and ran.left_nothing())
+# Sizes of the reply to `A_GET` and of the message that tells of a packet without a route, and what a queue holds.
+REPLY, MISS, MOST_QUEUED = 116, 92, 8192
 
 
-# Rounds of lines that leave the world as they found it, by the feature that they need.
+def fill_a_queue(sweep):
+    """Of 10,000 replies a socket keeps those that fit, and counts the others, which a read doesn't change."""
+    fit = MOST_QUEUED // REPLY
+    lines = ["read a", *[f"write a {A_GET}"] * 10_000, "lost a", "read a", "lost a", "read a"]
+    ran = sweep.run((START + "".join(f"{line}\n" for line in lines)).encode())
+    got, lost = answers(ran.wrote)[4:], f"size {10_000 - fit}\n".encode()
+    heard = got[10_001].splitlines() if len(got) == 10_004 else []
+    holds = len(heard) == fit + 1 and len(set(heard)) == 2 and heard[-1] == b"ok"
+    holds = holds and got[:10_000] == [b"ok\n"] * 10_000 and got[10_000:] == [lost, got[10_001], lost, b"ok\n"]
+    sweep.claim("a full queue", holds and ran.status == DONE and ran.left_nothing())
+
+
+def never_read(sweep):
+    """64 sockets are never read: memory stands still, whether there are no messages, a thousand or 100,000; and each
+    socket counts those that it lost."""
+    sockets = [name for name, _ in crowd(MOST_SOCKETS - 1, "any")]
+    start = START + "".join(line for _, line in crowd(MOST_SOCKETS - 1, "any")) + "read a\n"
+    start += "".join(f"read {name}\n" for name in sockets)
+    # of pairs of these messages, after the last pair that fits neither does
+    pairs = MOST_QUEUED // (REPLY + MISS)
+    assert MOST_QUEUED - pairs * (REPLY + MISS) < MISS
+    took = []
+    for messages in (0, 1_000, 100_000):
+        lines = f"write a {A_GET}\npacket 20.0.0.1\n" * (messages // 2) + "".join(f"lost {name}\n" for name in sockets)
+        ran = sweep.run((start + lines + "lost a\n").encode())
+        lost = b"size %d\n" % max(0, messages - 2 * pairs)
+        holds = answers(ran.wrote)[-MOST_SOCKETS:] == [lost] * MOST_SOCKETS and ran.status == DONE
+        sweep.claim(f"64 sockets that are never read, {messages} messages", holds and ran.left_nothing())
+        took.append(ran.counts["most_bytes"])
+    sweep.claim("sockets that are never read take no more memory", took[0] > 0 and len(set(took)) == 1)
+
+
+# Rounds of lines that leave the world as they found it.
 ROUNDS = [
-    ("first", f"write a {A_GET}\nread a\n"),
-    ("first", f"write a {OF_NO_TYPE}\nread a\n"),
-    ("first", "if le0 broadcast 6 080020010203\n"),
-    ("first", "addr le0 10.0.0.1/8\naddr ed9 10.0.0.9/8\n"),
-    ("first", "open a 7 any\nwrite z 00\nread z\n"),
-    ("listeners", "open b 1 2\nclose b\n"),
-    ("packet", "packet 11.0.0.1\nread a\n"),
-    ("dump", "dump 100000\nflags 1 0\n"),
-    ("route", "route a 1 add 30.0.0.0/8 via 10.0.0.5\nroute a 2 delete 30.0.0.0/8\nread a\n"),
-    ("route", "route a 1 change 10.0.0.0/8 mtu 9\nroute a 2 lock 10.0.0.0/8 inits 1 locks 1\nread a\n"),
-    ("redirect", "redirect 10.0.0.9 11.0.0.1 10.0.0.1\nread a\n"),
-    ("redirect", "unaddr le0 10.0.0.7\nunaddr ed9 10.0.0.9\n"),
+    f"write a {A_GET}\nread a\n",
+    f"write a {OF_NO_TYPE}\nread a\n",
+    f"write a {OF_NO_TYPE}\n",
+    "if le0 broadcast 6 080020010203\n",
+    "addr le0 10.0.0.1/8\naddr ed9 10.0.0.9/8\n",
+    "open a 7 any\nwrite z 00\nread z\n",
+    "open b 1 2\nclose b\n",
+    "packet 11.0.0.1\nread a\n",
+    "lost a\nlost z\n",
+    "dump 100000\nflags 1 0\n",
+    "route a 1 add 30.0.0.0/8 via 10.0.0.5\nroute a 2 delete 30.0.0.0/8\nread a\n",
+    "route a 1 change 10.0.0.0/8 mtu 9\nroute a 2 lock 10.0.0.0/8 inits 1 locks 1\nread a\n",
+    "redirect 10.0.0.9 11.0.0.1 10.0.0.1\nread a\n",
+    "unaddr le0 10.0.0.7\nunaddr ed9 10.0.0.9\n",
+    "losing 11.0.0.1\nlosing 10.0.0.9\n",
+    "route a 1 add default via 10.0.0.2 flags 803\nredirect 20.0.0.1 10.0.0.3 10.0.0.2\nlosing 20.0.0.1\n"
+    "route a 2 delete default\n",
 ]
 
 
 def take_no_more_memory(sweep):
     """A thousand rounds take no more memory at once than ten."""
-    for feature, lines in ROUNDS:
-        if feature in ON:
-            few, many = (sweep.run((START + lines * rounds).encode()) for rounds in (10, 1_000))
-            most = few.counts["most_bytes"]
-            goes_on = len(answers(many.wrote)) > len(answers(few.wrote))
-            holds = 0 < most == many.counts["most_bytes"] and few.left_nothing() and many.left_nothing()
-            sweep.claim(f"rounds of {lines.splitlines()[0][:40]}", holds and goes_on)
+    for lines in ROUNDS:
+        few, many = (sweep.run((START + lines * rounds).encode()) for rounds in (10, 1_000))
+        most = few.counts["most_bytes"]
+        goes_on = len(answers(many.wrote)) > len(answers(few.wrote))
+        holds = 0 < most == many.counts["most_bytes"] and few.left_nothing() and many.left_nothing()
+        sweep.claim(f"rounds of {lines.splitlines()[0][:40]}", holds and goes_on)

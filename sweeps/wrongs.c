@@ -5,11 +5,14 @@
  *   deaf          asks again where memory was refused, or a read or a write failed or took nothing
  *   blind         goes past the library of the faults, which then sees no call
  *   refuses-late  refuses each allocation behind the 5,000th
- *   refuses-size  refuses blocks of 7,777 bytes
- *   refuses-much  refuses blocks of more than a megabyte
  *   too-soon      answers 55 in place of each 20th `ok`
+ *   greedy        asks for memory before it answers a line behind the third, and answers 55 where that is refused
+ *   classful      answers 55 to packets to 224.0.0.0/4
+ *   crowded       answers 55 to long writes where 61 sockets are open
  *   confused      writes to standard error at the end where memory was refused
  *   leaks         keeps one block of four
+ *   swells        takes a block at each write, and keeps it until the end
+ *   unlost        answers `size 0` in place of any other number of lost messages
  *   hoards        keeps one block of four until the end, and frees it then
  *   narrow        offers 1,000 bytes to a read
  *   wide          offers 4,097 bytes to a read
@@ -44,11 +47,10 @@ static int is(const char *wrong)
 	return text && !strcmp(text, wrong);
 }
 
-static int refuses(size_t size)
+static int refuses(void)
 {
 	allocations++;
-	return (is("refuses-late") && allocations > 5000) || (is("refuses-size") && size == 7777) ||
-		(is("refuses-much") && size > 1 << 20);
+	return is("refuses-late") && allocations > 5000;
 }
 
 void *malloc(size_t size)
@@ -56,7 +58,7 @@ void *malloc(size_t size)
 	void *block;
 	if (is("blind"))
 		return __libc_malloc(size);
-	if (refuses(size))
+	if (refuses())
 		return NULL;
 	block = NEXT(malloc)(size);
 	if (!block && is("deaf"))
@@ -70,7 +72,7 @@ void *realloc(void *block, size_t size)
 	void *moved;
 	if (is("blind"))
 		return __libc_realloc(block, size);
-	if (refuses(size))
+	if (refuses())
 		return NULL;
 	moved = NEXT(realloc)(block, size);
 	if (!moved && is("deaf"))
@@ -89,6 +91,82 @@ void free(void *block)
 		kept[keeps++] = block;
 	else
 		NEXT(free)(block);
+}
+
+/* ---- lines and their answers: a read gives lines, of which each is answered before there is another read ---- */
+
+#define MOST_LINES 8192
+#define FRONT 32
+#define LONG_LINE 12000
+
+/* What is answered in place of a line's own answer; or it is asked for memory first. */
+static const char ASKS[] = "", NO_MEMORY[] = "err 55\n", NONE_LOST[] = "size 0\n";
+static const char *instead[MOST_LINES];
+static unsigned long lines, answered, line_size, sockets;
+static char front[FRONT];
+static int is_begun, is_taken, is_within, is_message;
+
+static int begins(const char *text)
+{
+	return !strncmp(front, text, strlen(text));
+}
+
+/* What is answered to the line of this front and size, or NULL for its own answer. */
+static const char *instead_of(void)
+{
+	sockets += begins("open ");
+	if (is("greedy") && lines >= 3)
+		return ASKS;
+	if (is("unlost") && begins("lost "))
+		return NONE_LOST;
+	if (is("classful") && begins("packet ") && atoi(front + 7) >> 4 == 14)
+		return NO_MEMORY;
+	if (is("crowded") && begins("write ") && line_size > LONG_LINE && sockets >= 61)
+		return NO_MEMORY;
+	return NULL;
+}
+
+static void note_lines(const char *text, ssize_t size)
+{
+	for (; size > 0; size--, text++) {
+		if (*text != '\n') {
+			if (line_size < FRONT - 1)
+				front[line_size] = *text;
+			line_size++;
+			continue;
+		}
+		front[line_size < FRONT - 1 ? line_size : FRONT - 1] = 0;
+		if (line_size > 0 && front[0] != '#')
+			instead[lines++ % MOST_LINES] = instead_of();
+		line_size = 0;
+	}
+}
+
+/* Decides, where an answer begins, whether another one is given in its place. */
+static void begin_answer(void)
+{
+	const char *other = answered < lines ? instead[answered % MOST_LINES] : NULL;
+	void *block = other == ASKS ? NEXT(malloc)(1) : NULL;
+	is_begun = 1;
+	is_taken = other && !block;
+	if (is_taken)
+		NEXT(write)(STDOUT_FILENO, other == ASKS ? NO_MEMORY : other, strlen(other == ASKS ? NO_MEMORY : other));
+	if (block)
+		NEXT(free)(block);
+}
+
+/* These bytes were written of answers, or kept back: an answer ends with its first line that is no message. */
+static void note_answer(const char *text, ssize_t size)
+{
+	for (; size > 0; size--, text++) {
+		if (!is_within)
+			is_message = *text == 'm';
+		is_within = *text != '\n';
+		if (!is_within && !is_message) {
+			answered++;
+			is_begun = 0;
+		}
+	}
 }
 
 ssize_t read(int file, void *room, size_t size)
@@ -110,6 +188,7 @@ ssize_t read(int file, void *room, size_t size)
 		NEXT(read)(file, room, size);
 	if (got == 1 && is("forgets") && reads % 100 == 0)
 		return NEXT(read)(file, room, size);
+	note_lines(room, got);
 	return got;
 }
 
@@ -128,9 +207,19 @@ ssize_t write(int file, const void *data, size_t size)
 		NEXT(write)(file, "err 55\n", 7);
 		return 3;
 	}
+	if (is("swells") && keeps < sizeof kept / sizeof *kept)
+		kept[keeps++] = NEXT(malloc)(100);
+	if (file == STDOUT_FILENO && size > 0 && !is_begun)
+		begin_answer();
+	if (file == STDOUT_FILENO && is_taken) {
+		note_answer(data, size);
+		return size;
+	}
 	took = NEXT(write)(file, data, size);
 	if (took <= 0 && size > 0 && is("deaf"))
 		took = NEXT(write)(file, data, size);
+	if (file == STDOUT_FILENO)
+		note_answer(data, took);
 	return took;
 }
 
