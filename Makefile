@@ -1,0 +1,50 @@
+# Proves and builds the crates of crates.txt, each once those that it stands on are built, side by side:
+#
+#   make                       the program
+#   make check                 the gate
+#   make install PREFIX=..     the program and its manual page; DESTDIR stands before PREFIX
+#   make clean                 takes away what was built and proved
+#
+# As many crates as processors and memory allow are built at once (tools/jobs); `make -j2` says another number.
+
+PREFIX = /usr/local
+INSTALL = install
+
+comma := ,
+space := $(subst ,, )
+# The lines of crates.txt, each as NAME:CRATE,CRATE,..
+lines := $(shell sed -n 's/^\([a-z_][a-z_]*\)[^:#]*: */\1:/p' crates.txt | tr ' ' ',')
+name = $(firstword $(subst :, ,$(1)))
+named = $(subst $(comma), ,$(lastword $(subst :, ,$(1))))
+names := $(foreach line,$(lines),$(call name,$(line)))
+built = crates/$(1)/out/built
+# The programs, by their crates, and what each is called.
+programs := $(patsubst crates/%/src/main.rt,%,$(wildcard crates/*/src/main.rt))
+called = $(subst route_main,routesim,$(1))
+
+ifeq ($(filter -j% --jobserver%,$(MAKEFLAGS)),)
+MAKEFLAGS += -j$(shell tools/jobs)
+endif
+
+.PHONY: all check install clean
+all: $(foreach crate,$(names),$(call built,$(crate)))
+
+# A crate is built again where one of its files is newer than it, or one that it stands on was.
+define rule
+$(call built,$(1)): crates.txt $$(shell find crates/$(1) -name out -prune -o -type f -name '*.rt' -print -o -name '*.antt' -print) \
+		$(foreach crate,$(filter $(names),$(2)),$(call built,$(crate)))
+	@tools/build $(1)
+endef
+$(foreach line,$(lines),$(eval $(call rule,$(call name,$(line)),$(call named,$(line)))))
+
+check:
+	./check
+
+install: all
+	$(INSTALL) -d "$(DESTDIR)$(PREFIX)/bin" "$(DESTDIR)$(PREFIX)/share/man/man1"
+	$(foreach crate,$(programs),$(INSTALL) crates/$(crate)/out/$(crate) \
+		"$(DESTDIR)$(PREFIX)/bin/$(call called,$(crate))" &&) :
+	$(foreach page,$(wildcard docs/*.1),$(INSTALL) -m 644 $(page) "$(DESTDIR)$(PREFIX)/share/man/man1/" &&) :
+
+clean:
+	rm -rf crates/*/out out
