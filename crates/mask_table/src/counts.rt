@@ -1,6 +1,6 @@
 //! How many routes there are of each rank.
 ghost use Rattle.std.specs.Prelude.{◌+◌, ◌-◌, ◌^◌, ◌<◌, ◌↔◌, IsTrue};
-ghost use Rattle.mask_table.specs.Counts.{held, AreNone, HasOneMore};
+ghost use Rattle.mask_table.specs.Counts.{count_of, AreNone, HasOneMore};
 
 use crate::Rank;
 use std::marker::Model;
@@ -8,7 +8,7 @@ use std::marker::Model;
 /// How many routes are held of each rank. A contract sees the numbers as a list, by rank.
 #[derive(Drop)]
 pub struct Counts {
-    held: [u64; 34],
+    by_rank: [u64; 34],
 }
 
 impl Model for Counts {
@@ -16,7 +16,7 @@ impl Model for Counts {
 
     ghost Value = { List ℕ };
 
-    ghost view = { λ c. c.held };
+    ghost view = { λ c. c.by_rank };
 }
 
 impl Counts {
@@ -24,29 +24,29 @@ impl Counts {
     pub fn new() -> Counts
         ensures { AreNone result }
     {
-        Counts { held: [0; 34] }
+        Counts { by_rank: [0; 34] }
     }
 
     /// A route of this rank has been added. Fewer than 2^64 - 1 of the rank were held before.
     pub fn added(&mut self, rank: Rank)
-        requires { held rank self.old < 2 ^ 64 - 1 }
+        requires { count_of rank self.old < 2 ^ 64 - 1 }
         ensures { HasOneMore rank self.old self.new }
     {
-        self.held[usize::from(rank.number())] += 1;
+        self.by_rank[usize::from(rank.number())] += 1;
     }
 
     /// A route of this rank has been dropped. One was held before.
     pub fn dropped(&mut self, rank: Rank)
-        requires { 0 < held rank self.old }
+        requires { 0 < count_of rank self.old }
         ensures { HasOneMore rank self.new self.old }
     {
-        self.held[usize::from(rank.number())] -= 1;
+        self.by_rank[usize::from(rank.number())] -= 1;
     }
 
     /// Whether a route of this rank is held: more were added than dropped.
     pub fn has(&self, rank: Rank) -> bool
-        ensures { IsTrue result ↔ (0 < held rank self.now) }
+        ensures { IsTrue result ↔ (0 < count_of rank self.now) }
     {
-        self.held[usize::from(rank.number())] != 0
+        self.by_rank[usize::from(rank.number())] != 0
     }
 }

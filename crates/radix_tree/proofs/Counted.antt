@@ -6,7 +6,7 @@ use Rattle.std.proofs.Common.{◌≡◌, ℕ, ◌+◌, ◌-◌, ◌^◌, ◌<◌
 use Rattle.std.specs.List.{AllByRecursion}
 use Rattle.std.proofs.lemmas.Bool.{eqb-true, eq-eqb, ne_eqb, cases_lt}
 use Rattle.std.proofs.lemmas.List.Sums.{sum_by-cons, sum_by-append}
-use Rattle.mask_table.specs.Counts.{held, AreNone, HasOneMore}
+use Rattle.mask_table.specs.Counts.{count_of, AreNone, HasOneMore}
 use Rattle.radix_tree.specs.Table.{precedes, IsTable, entry_at}
 use Rattle.radix_tree.specs.Growth.{Gains}
 use Rattle.radix_tree.specs.Kept.{of_rank, AreCounted}
@@ -95,25 +95,25 @@ module _ {V : Type 0} where
 
   pub counted_more : (e : Entry V) (old new : List (Entry V)) (was now : List ℕ) → AreCounted was old → Gains e old new → HasOneMore e.rank was now → AreCounted now new
   counted_more e old new was now counted g more r fits =
-      let held_now : held r now ≡ held r was + (if r == e.rank then 1 else 0) = more r fits in
-      let before : held r was ≡ of_rank r old = counted r fits in
+      let held_now : count_of r now ≡ count_of r was + (if r == e.rank then 1 else 0) = more r fits in
+      let before : count_of r was ≡ of_rank r old = counted r fits in
       let after : of_rank r new ≡ of_rank r old + one_of (e.rank == r) = one_more r e old new g in
       held_now ∙ ap (λ (n : ℕ). n + (if r == e.rank then 1 else 0)) before ∙ ap (λ (n : ℕ). of_rank r old + n) (sym (turned r e.rank)) ∙ sym after
 
   pub counted_less : (e : Entry V) (old new : List (Entry V)) (was now : List ℕ) → AreCounted was old → Gains e new old → HasOneMore e.rank now was → AreCounted now new
   counted_less e old new was now counted g more r fits =
-      let held_was : held r was ≡ held r now + (if r == e.rank then 1 else 0) = more r fits in
-      let before : held r was ≡ of_rank r old = counted r fits in
+      let held_was : count_of r was ≡ count_of r now + (if r == e.rank then 1 else 0) = more r fits in
+      let before : count_of r was ≡ of_rank r old = counted r fits in
       let after : of_rank r old ≡ of_rank r new + one_of (e.rank == r) = one_more r e new old g in
       let same : one_of (e.rank == r) ≡ (if r == e.rank then 1 else 0) = turned r e.rank in
       omega (arith, held_was, before, after, same)
 
   -- what the counts say of a rank
-  pub not_held : (counts : List ℕ) (es : List (Entry V)) (key rank : ℕ) (has : Bool) → AreCounted counts es → rank ≤ 33 → (0 < held rank counts → IsTrue has) → has ≡ false → entry_at key rank es ≡ None
+  pub not_held : (counts : List ℕ) (es : List (Entry V)) (key rank : ℕ) (has : Bool) → AreCounted counts es → rank ≤ 33 → (0 < count_of rank counts → IsTrue has) → has ≡ false → entry_at key rank es ≡ None
   not_held counts es key rank has counted fits asks not =
-      ⊎_elim (λ (some : 0 < held rank counts). absurd (true_false (sym (subst IsTrue not (asks some)))))
-      (λ (none : held rank counts ≤ 0). none_of_rank key rank es (let is : held rank counts ≡ of_rank rank es = counted rank fits in omega (arith, none, is))) (cases_lt 0 (held rank counts))
+      ⊎_elim (λ (some : 0 < count_of rank counts). absurd (true_false (sym (subst IsTrue not (asks some)))))
+      (λ (none : count_of rank counts ≤ 0). none_of_rank key rank es (let is : count_of rank counts ≡ of_rank rank es = counted rank fits in omega (arith, none, is))) (cases_lt 0 (count_of rank counts))
 
-  pub few_held : (counts : List ℕ) (es : List (Entry V)) (rank : ℕ) → AreCounted counts es → IsTable es → rank ≤ 33 → held rank counts < 2 ^ 64 - 1
+  pub few_held : (counts : List ℕ) (es : List (Entry V)) (rank : ℕ) → AreCounted counts es → IsTable es → rank ≤ 33 → count_of rank counts < 2 ^ 64 - 1
   few_held counts es rank counted table fits =
-      let few : of_rank rank es ≤ 2 ^ 32 = few_of_rank rank es table in let same : held rank counts ≡ of_rank rank es = counted rank fits in omega (arith, few, same)
+      let few : of_rank rank es ≤ 2 ^ 32 = few_of_rank rank es table in let same : count_of rank counts ≡ of_rank rank es = counted rank fits in omega (arith, few, same)

@@ -1,7 +1,7 @@
 -- A table: the routes that its rooms show, and how many there are of each rank.
 use Rattle.std.specs.Prelude.{◌≡◌, ℕ, ◌≤◌, ◌==◌, List, count_by, Option}
 use Rattle.std.specs.FinMap.{keys}
-use Rattle.mask_table.specs.Counts.{held}
+use Rattle.mask_table.specs.Counts.{count_of}
 use Rattle.radix_nodes.specs.Rooms.{Rooms}
 use Rattle.radix_nodes.specs.declared.links.Node.{Node}
 use Rattle.radix_tree.specs.Bounds.{host_rank}
@@ -24,7 +24,7 @@ module _ {V : Type 0} where
   of_rank rank entries = count_by (λ e. e.rank == rank) entries
 
   abbrev pub AreCounted : List ℕ → List (Entry V) → Type 0
-  AreCounted counts entries = (rank : ℕ) → rank ≤ host_rank → held rank counts ≡ of_rank rank entries
+  AreCounted counts entries = (rank : ℕ) → rank ≤ host_rank → count_of rank counts ≡ of_rank rank entries
 
   -- the rooms are a tree beneath the root, and its routes are counted
   pub record IsKept (nodes : Rooms V) (root : Option Node) (counts : List ℕ) : Type 0 where
