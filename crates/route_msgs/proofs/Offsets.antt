@@ -77,12 +77,12 @@ overruns_among m (suc n) k less h =
 pub no_room : (m : List ℕ) (k : ℕ) → overruns m k ≡ true → k < 8 → has_room m ≡ false
 no_room m k h less = ap not (overruns_among m 8 k less h)
 
-unfoldable pub counted : {X : Type 0} → (ℕ → X) → ℕ → ℕ → List X
-counted f i zero = []
-counted f i (suc n) = f i ∷ counted f (suc i) n
+unfoldable pub values_from : {X : Type 0} → (ℕ → X) → ℕ → ℕ → List X
+values_from f i zero = []
+values_from f i (suc n) = f i ∷ values_from f (suc i) n
 
-pub built : {X : Type 0} (f : ℕ → X) (d : X) (i n : ℕ) (xs : List X) → length xs ≡ n → ((k : ℕ) → k < n → get_or xs k d ≡ f (i + k)) → xs ≡ counted f i n
-unfolding counted
+pub built : {X : Type 0} (f : ℕ → X) (d : X) (i n : ℕ) (xs : List X) → length xs ≡ n → ((k : ℕ) → k < n → get_or xs k d ≡ f (i + k)) → xs ≡ values_from f i n
+unfolding values_from
 built f d i zero [] size each = refl
 built f d i zero (x ∷ xs) size each = absurd (omega arith)
 built f d i (suc n) [] size each = absurd (omega arith)
@@ -93,5 +93,5 @@ built f d i (suc n) (x ∷ xs) size each =
 
 -- eight places that hold each address's slot are the slots
 pub slots_built : (m : List ℕ) (slots : List (Option Slot)) → length slots ≡ 8 → ((k : ℕ) → k < 8 → get_or slots k None ≡ slot_in m k) → slots ≡ slots_in m
-unfolding counted
+unfolding values_from
 slots_built m slots size each = built (slot_in m) None 0 8 slots size (λ k less. each k less ∙ ap (slot_in m) (omega arith))

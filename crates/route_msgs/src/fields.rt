@@ -32,7 +32,7 @@ pub(crate) fn u8_at(message: &[u8], at: usize) -> u8
 
 /// Writes a number of four bytes at `at`, the highest first; all other bytes stay.
 #[tactic(auto, unfolding(crate::specs::Layout::with_field))]
-pub fn patch_u32(message: &mut [u8], at: usize, value: u32)
+pub(crate) fn patch_u32(message: &mut [u8], at: usize, value: u32)
     requires { at + 4 ≤ length message.old }
     ensures { message.new ≡ with_field (field at 4 value) message.old }
 {

@@ -20,7 +20,6 @@ mod sockaddr;
 mod writing;
 
 pub use addr_info::AddrInfo;
-pub use fields::patch_u32;
 pub use header::{Header, IfaHeader, ifa_flags};
 pub use message::{MOST_MADE, Message};
 pub use metrics::Metrics;
