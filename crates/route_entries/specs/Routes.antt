@@ -25,8 +25,8 @@ abbrev pub cloned : Route → Route
 cloned r = record r { flags = clone_flags r.flags r.genmask; genmask = None; use_count = 0 }
 
 -- a route that one more packet took
-abbrev pub counted : Route → Route
-counted r = record r { use_count = (r.use_count + 1) % 2 ^ 32 }
+abbrev pub with_one_more_use : Route → Route
+with_one_more_use r = record r { use_count = (r.use_count + 1) % 2 ^ 32 }
 
 -- the new value of a metric where its bit is among these
 abbrev pub named_or : ℕ → ℕ → ℕ → ℕ → ℕ

@@ -1,6 +1,6 @@
 //! Routes.
 ghost use Rattle.std.specs.Prelude.{◌≡◌};
-ghost use Rattle.route_entries.specs.Routes.{has_flag, cloned, clone_rank, counted, named_or, with_metrics, with_locks};
+ghost use Rattle.route_entries.specs.Routes.{has_flag, cloned, clone_rank, with_one_more_use, named_or, with_metrics, with_locks};
 
 use if_addrs::IfaRef;
 use mask_table::{Prefix, Rank};
@@ -38,7 +38,7 @@ impl Route {
 
     /// Counts a packet that takes it.
     pub fn count_use(&mut self)
-        ensures { self.new ≡ counted self.old }
+        ensures { self.new ≡ with_one_more_use self.old }
     {
         self.use_count = self.use_count.wrapping_add(1);
     }

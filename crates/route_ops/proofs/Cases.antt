@@ -27,9 +27,9 @@ missed : (deep : Bool) (address : ℕ) (table : List (Entry Route)) → look_of 
 missed true address table = refl
 missed false address table = refl
 
-known : (deep : Bool) (address : ℕ) (table : List (Entry Route)) (r : Entry Route) → look_of deep (gate.Inet address) (Known r) table ≡ look_of false (gate.Inet address) (Known r) table
-known true address table r = refl
-known false address table r = refl
+known_settles_nothing : (deep : Bool) (address : ℕ) (table : List (Entry Route)) (r : Entry Route) → look_of deep (gate.Inet address) (Known r) table ≡ look_of false (gate.Inet address) (Known r) table
+known_settles_nothing true address table r = refl
+known_settles_nothing false address table r = refl
 
 not_cloned : (deep : Bool) (address : ℕ) (table : List (Entry Route)) (r : Entry Route)
     → look_of deep (gate.Inet address) (NotCloned r) table ≡ look_of false (gate.Inet address) (NotCloned r) table
@@ -57,7 +57,7 @@ chosen false x y = (λ h. absurd (differ h), λ h. refl)
 pub route_is_known : RouteIsKnown
 route_is_known deep address table r is not_cloning =
     found_is deep address table (Some r) (Known r) is ((chosen (has_flag RTF_CLONING r.value) (clone_or_parent r (resolved address r.value table)) (Known r)).1 not_cloning)
-    ∙ known deep address table r
+    ∙ known_settles_nothing deep address table r
 
 -- the choices of a route that clones
 cloning : (address : ℕ) (table : List (Entry Route)) (r : Entry Route) (res : Result (Entry Route) Errno) → has_flag RTF_CLONING r.value ≡ true → resolved address r.value table ≡ res

@@ -8,11 +8,11 @@ use Rattle.radix_tree.specs.declared.entry.Entry.{Entry}
 use Rattle.route_entries.specs.declared.route.Route.{Route}
 
 -- DELETE: with a mask and without HOST the route of that pair, and otherwise the first of the key
-abbrev pub doomed : ℕ → Option ℕ → ℕ → List (Entry Route) → Option (Entry Route)
-doomed key None flags table = first_of key table
-doomed key (Some netmask) flags table =
+abbrev pub route_to_delete : ℕ → Option ℕ → ℕ → List (Entry Route) → Option (Entry Route)
+route_to_delete key None flags table = first_of key table
+route_to_delete key (Some netmask) flags table =
     if bit_and flags RTF_HOST == 0 then entry_at key netmask table else first_of key table
 
 -- GET: the best route of the destination
-abbrev pub got : ℕ → List (Entry Route) → Result (Entry Route) Errno
-got destination table = ok_or (best_of destination table) ESRCH
+abbrev pub route_to_show : ℕ → List (Entry Route) → Result (Entry Route) Errno
+route_to_show destination table = ok_or (best_of destination table) ESRCH

@@ -8,7 +8,7 @@ use Rattle.mask_table.specs.Agreeing.{masked}
 use Rattle.route_msgs.specs.declared.flags.TheConstants.{RTF_CLONING, RTF_GATEWAY, RTF_XRESOLVE}
 use Rattle.radix_tree.specs.Table.{best_of, entry_at, with_entry}
 use Rattle.radix_tree.specs.declared.entry.Entry.{Entry}
-use Rattle.route_entries.specs.Routes.{has_flag, cloned, clone_rank, counted}
+use Rattle.route_entries.specs.Routes.{has_flag, cloned, clone_rank, with_one_more_use}
 use Rattle.route_entries.specs.declared.route.Route.{Route}
 use Rattle.route_ops.specs.declared.looking.Found.{Found}
 use Rattle.route_ops.specs.declared.looking.Found.TheVariants.{Nothing, Known, NotCloned, Cloned}
@@ -103,14 +103,6 @@ look_of deep about it table =
 abbrev pub look : Bool → Gate → List (Entry Route) → Look
 look deep about table = look_of deep about (found about table) table
 
--- the route of an address, where it doesn't clone
-abbrev pub known_of : Option (Entry Route) → Option (Entry Route)
-known_of None = None
-known_of (Some r) = if has_flag RTF_CLONING r.value then None else Some r
-
-abbrev pub known : ℕ → List (Entry Route) → Option (Entry Route)
-known address table = known_of (best_of address table)
-
 -- a route that one more packet took
-abbrev pub counted_entry : Entry Route → Entry Route
-counted_entry r = record r { value = counted r.value }
+abbrev pub entry_with_one_more_use : Entry Route → Entry Route
+entry_with_one_more_use r = record r { value = with_one_more_use r.value }

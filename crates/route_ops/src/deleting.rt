@@ -2,7 +2,7 @@
 ghost use Rattle.std.specs.Prelude.{◌≡◌, MatchResult, IfOk, OnErr, Some, None};
 ghost use Rattle.radix_tree.specs.Table.{without};
 ghost use Rattle.radix_tree.specs.TableLaws.{StandsIn};
-ghost use Rattle.route_ops.specs.Deleting.{doomed, got};
+ghost use Rattle.route_ops.specs.Deleting.{route_to_delete as deleted_by, route_to_show};
 ghost use Rattle.route_ops.specs.Spares.{KeepsFree, KeepsRooms};
 ghost use Rattle.route_ops.specs.Standing.{HasIfaOf, KeepsAreOf};
 
@@ -21,7 +21,7 @@ pub fn request_get(
     destination: Inet,
 ) -> Result<Entry<Route>, Errno>
     requires turn { visits.old.turn ≡ table.now.turn }
-    ensures got { result ≡ got destination table.now.entries }
+    ensures shown { result ≡ route_to_show destination table.now.entries }
     ensures stands { IfOk result (λ r. StandsIn table.now.entries r) }
     ensures ifa { IfOk result (λ r. HasIfaOf table.now.entries r) }
     ensures counter { visits.new.turn ≡ visits.old.turn }
@@ -41,8 +41,8 @@ pub fn request_delete(
     flags: u16,
 ) -> Result<Entry<Route>, Errno>
     ensures deleted { MatchResult result
-        (λ r. doomed key netmask flags table.old.entries ≡ Some r)
-        (λ e. (doomed key netmask flags table.old.entries ≡ None) × (e ≡ Errno.ESRCH)) }
+        (λ r. deleted_by key netmask flags table.old.entries ≡ Some r)
+        (λ e. (deleted_by key netmask flags table.old.entries ≡ None) × (e ≡ Errno.ESRCH)) }
     ensures without { IfOk result (λ r. table.new.entries ≡ without r.key r.rank table.old.entries) }
     ensures kept { OnErr result (table.new.entries ≡ table.old.entries) }
     ensures rooms { OnErr result (KeepsRooms table.old table.new) }
@@ -66,7 +66,7 @@ fn route_to_delete(
     flags: u16,
 ) -> Option<Entry<Route>>
     requires turn { visits.old.turn ≡ table.now.turn }
-    ensures route { result ≡ doomed key netmask flags table.now.entries }
+    ensures route { result ≡ deleted_by key netmask flags table.now.entries }
     ensures counter { visits.new.turn ≡ visits.old.turn }
 {
     match netmask {

@@ -21,7 +21,7 @@ pub use addressing::{route_of_address, withdraw_route};
 pub use changing::{Change, check_change, request_change, request_lock};
 pub use counting::count_use;
 pub use deleting::{request_delete, request_get};
-pub use looking::{Looked, known_route, look_up, resolve, settle_gateway};
+pub use looking::{Looked, look_up, resolve, settle_gateway};
 pub use losses::losing;
 pub use notice::{MOST_NOTICES, Notice, Notices};
 pub use redirecting::{NewGateway, redirect};

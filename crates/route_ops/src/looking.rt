@@ -3,7 +3,7 @@ ghost use Rattle.std.specs.Prelude.{◌≡◌, ◌+◌, ◌≤◌, ◌++◌, [],
 ghost use Rattle.sock_addrs.specs.declared.gate.Gate.TheVariants as gate;
 ghost use Rattle.radix_tree.specs.Table.{with_entry};
 ghost use Rattle.radix_tree.specs.TableLaws.{StandsIn};
-ghost use Rattle.route_ops.specs.Looks.{resolved, found, answer_of, known, with_clone, told_of as told, settle, settle_found as settled, look};
+ghost use Rattle.route_ops.specs.Looks.{resolved, found, answer_of, with_clone, told_of as told, settle, settle_found as settled, look};
 ghost use Rattle.route_ops.specs.Spares.{FitsSpare, KeepsRooms};
 ghost use Rattle.route_ops.specs.Standing.{HasIfaOf, KeepsAreOf, KeepsAreOfWith, KeepsRoutes};
 
@@ -49,24 +49,6 @@ impl Found {
             Found::Known(route) | Found::NotCloned(route) | Found::Cloned(route) => Some(route),
         }
     }
-}
-
-/// The route of an address, where it doesn't clone: a look-up would answer it, and change and tell nothing.
-pub fn known_route(table: &Table<Route>, visits: &mut Visits, address: Inet) -> Option<Entry<Route>>
-    requires turn { visits.old.turn ≡ table.now.turn }
-    ensures known { result ≡ known address table.now.entries }
-    ensures look { IfSome result (λ r. (deep : Bool)
-        → look deep (gate.Inet address) table.now.entries
-        ≡ record { answer = Some r; table = table.now.entries; messages = [] }) }
-    ensures stands { IfSome result (λ r. StandsIn table.now.entries r) }
-    ensures ifa { IfSome result (λ r. HasIfaOf table.now.entries r) }
-    ensures counter { visits.new.turn ≡ visits.old.turn }
-{
-    let route = best_route(table, visits, address)?;
-    if route.value.has(RTF_CLONING) {
-        return None;
-    }
-    Some(route)
 }
 
 /// Adds the clone of a route for an address. EEXIST: a route with its key and rank is there. It doesn't settle its
