@@ -16,10 +16,10 @@ use Rattle.radix_tree.specs.declared.entry.Entry.{Entry}
 use Rattle.route_entries.specs.declared.route.Route.{Route}
 use Rattle.route_ops.specs.Addressing.{address_entry, withdrawn}
 use Rattle.route_core.specs.Commands.{Command}
-use Rattle.route_core.specs.Effects.{IsEffect}
+use Rattle.route_core.specs.Effects.{IsEffect, request_effect}
 use Rattle.route_core.specs.Messages.{notice_told}
 use Rattle.route_core.specs.Requests.{Outcome}
-use Rattle.route_core.specs.Step.{Effect, Steps, announced, bring_route, done, effect, refused, remove_address_effect, remove_found, renounced, take_route, unless_refused, write_by_outcome}
+use Rattle.route_core.specs.Step.{Effect, Steps, announced, bring_route, done, effect, refused, remove_address_effect, remove_found, renounced, take_route, unless_refused}
 use Rattle.route_core.specs.Telling.{Told, delivered_all, told}
 use Rattle.route_core.specs.World.{World}
 use Rattle.route_core.specs.declared.answer.Answer.{Answer}
@@ -160,7 +160,7 @@ told_last (t ∷ ts) message family own sockets =
 pub write_done : (w : World) (id : List ℕ) (pid : ℕ) (m : List ℕ) (r : Result Outcome Errno) (o : Outcome)
     (sockets : List Socket) → r ≡ Ok o
     → sockets ≡ delivered o.reply AF_INET (Some id) (delivered_all (map notice_told o.notices) w.sockets)
-    → IsEffect (write_by_outcome w id pid m r) Done (record w { table = o.table; sockets = sockets })
+    → IsEffect (request_effect w id pid m r) Done (record w { table = o.table; sockets = sockets })
 write_done w id pid m r o sockets is heard =
     let last = told_last (map notice_told o.notices) o.reply AF_INET (Some id) w.sockets in
     rw is (record { answer = refl; world = rw (heard, last) refl })

@@ -19,8 +19,8 @@ use Rattle.route_ops.specs.Adding.{Adding, add}
 use Rattle.route_ops.specs.Addressing.{address_entry, withdrawn}
 use Rattle.route_ops.specs.Bringing.{Brings}
 use Rattle.route_ops.specs.Changing.{change, lock}
-use Rattle.route_ops.specs.Deleting.{doomed, got}
-use Rattle.route_ops.specs.Looks.{Look, counted_entry, look}
+use Rattle.route_ops.specs.Deleting.{route_to_delete, route_to_show}
+use Rattle.route_ops.specs.Looks.{Look, entry_with_one_more_use, look}
 use Rattle.route_ops.specs.Losses.{losing}
 use Rattle.route_ops.specs.Redirecting.{redirect}
 use Rattle.route_ops.specs.Upshot.{Upshot}
@@ -30,10 +30,11 @@ use Rattle.route_ops.proofs.AnswerThere.{answer_is_there}
 use Rattle.route_ops.proofs.Bringing.{none_less, none_more, none_own, one_more}
 use Rattle.route_ops.proofs.Few.{adding_brings_two, changing_brings_one, deep_look_brings_two, locking_brings_none, losing_brings_none, redirect_brings_two}
 use Rattle.route_core.specs.Commands.{Command}
+use Rattle.route_core.specs.Effects.{request_effect}
 use Rattle.route_core.specs.Few.{EffectsAreFew, IsFew, StepsBringFew}
 use Rattle.route_core.specs.Messages.{notice_told}
 use Rattle.route_core.specs.Requests.{Outcome, adding_outcome, delete_outcome, done_reply, get_outcome, lock_outcome, outcome_of}
-use Rattle.route_core.specs.Step.{Effect, Stepped, Steps, announced, bring_route, done, effect, lost_effect, on_table, packet_by, read_effect, refused, refused_write, remove_address_effect, remove_found, take_route, unless_refused, upshot_effect, write_by_outcome, write_by_request, write_effect}
+use Rattle.route_core.specs.Step.{Effect, Stepped, Steps, announced, bring_route, done, effect, lost_effect, on_table, packet_by, read_effect, refused, refused_write, remove_address_effect, remove_found, take_route, unless_refused, upshot_effect, write_effect}
 use Rattle.route_core.specs.Telling.{told}
 use Rattle.route_core.specs.World.{World}
 use Rattle.route_core.specs.declared.answer.Answer.{Answer}
@@ -42,6 +43,7 @@ use Rattle.route_core.specs.declared.command.Command.TheVariants.{Attach, AddAdd
 use Rattle.route_core.specs.declared.refusal.Refusal.{Refusal}
 use Rattle.route_core.specs.declared.request.Request.{Request}
 use Rattle.route_core.specs.declared.request.Request.TheVariants.{Add, Change, Delete, Get, Lock}
+use Rattle.route_core.proofs.MessageEffect.{message_effect}
 
 -- the table stays, and two messages are told at most
 few_told : (w : World) (e : Effect) → e.table ≡ w.table → length e.told ≤ 2 → IsFew w e
@@ -125,7 +127,7 @@ outcome_few : (interfaces : List Interface) (table : List (Entry Route)) (pid : 
 outcome_few interfaces table pid m (Add a) =
     adding_few table (done_reply pid m) (add a interfaces table) (adding_brings_two a interfaces table)
 outcome_few interfaces table pid m (Delete key netmask flags) =
-    delete_few table (done_reply pid m) (doomed key netmask flags table)
+    delete_few table (done_reply pid m) (route_to_delete key netmask flags table)
 outcome_few interfaces table pid m (Change a) =
     adding_few table (done_reply pid m) (change a interfaces table)
     (λ it is. more table it.table it.messages (changing_brings_one a interfaces table it is))
@@ -133,7 +135,7 @@ outcome_few interfaces table pid m (Lock destination netmask inits locks) =
     lock_few table (done_reply pid m) (lock destination netmask inits locks table)
     (locking_brings_none destination netmask inits locks table)
 outcome_few interfaces table pid m (Get destination shows) =
-    get_few interfaces table pid m shows (got destination table)
+    get_few interfaces table pid m shows (route_to_show destination table)
 
 few_refused : (w : World) (id : List ℕ) (pid : ℕ) (m : List ℕ) (r : Refusal) (family : Option ℕ)
     → length (option_map_or (λ f. told (refused_reply r.errno pid m) f (Some id) ∷ []) family []) ≤ 2
@@ -146,7 +148,7 @@ few_refused_write w id pid m r = few_told w (refused_write w id pid m r) refl (f
 
 few_outcome : (w : World) (id : List ℕ) (pid : ℕ) (m : List ℕ) (outcome : Result Outcome Errno)
     → FewIfOk w.table outcome
-    → IsFew w (write_by_outcome w id pid m outcome)
+    → IsFew w (request_effect w id pid m outcome)
 few_outcome w id pid m (Ok o) few = record {
   routes = few.few_routes;
   messages = omega (
@@ -160,7 +162,7 @@ few_outcome w id pid m (Err errno) few =
     few_refused_write w id pid m (record { errno = errno; family = Some AF_INET })
 
 few_request : (w : World) (id : List ℕ) (pid : ℕ) (m : List ℕ) (request : Result Request Refusal)
-    → IsFew w (write_by_request w id pid m request)
+    → IsFew w (message_effect w id pid m request)
 few_request w id pid m (Ok request) =
     few_outcome w id pid m (outcome_of w.interfaces w.table pid m request)
     (outcome_few w.interfaces w.table pid m request)
@@ -192,8 +194,8 @@ few_packet : (w : World) (it : Look) (answer : Option (Entry Route)) → Brings 
     → IfSome answer (λ r. is_some (entry_at r.key r.rank it.table) ≡ true) → IsFew w (packet_by w it answer)
 few_packet w it None few there = few_on_table w it.table it.messages _ few
 few_packet w it (Some r) few there =
-    few_on_table w (with_entry (counted_entry r) it.table) it.messages _ (record {
-      few_routes = omega (arith, none_more w.table it.table (counted_entry r) there, few.few_routes);
+    few_on_table w (with_entry (entry_with_one_more_use r) it.table) it.messages _ (record {
+      few_routes = omega (arith, none_more w.table it.table (entry_with_one_more_use r) there, few.few_routes);
       few_messages = few.few_messages;
     })
 

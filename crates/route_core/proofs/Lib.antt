@@ -3,6 +3,7 @@ pub mod Dumping
 pub mod Effecting
 pub mod FewBrought
 pub mod InterfacesFound
+pub mod MessageEffect
 pub mod QueuesKept
 pub mod RefusalsSpare
 pub mod SockaddrsFound

@@ -25,11 +25,13 @@ use Rattle.radix_tree.specs.declared.entry.Entry.{Entry}
 use Rattle.route_entries.specs.declared.route.Route.{Route}
 use Rattle.route_ops.specs.Addressing.{withdrawn}
 use Rattle.route_ops.specs.Looks.{Look, look}
+use Rattle.route_core.proofs.MessageEffect.{message_effect}
 use Rattle.route_core.proofs.RefusalsSpare.{no_memory_keeps_all}
 use Rattle.route_core.specs.Commands.{Command}
+use Rattle.route_core.specs.Effects.{request_effect}
 use Rattle.route_core.specs.Queues.{KeptIsOfWhatItMet, OpensWithNothing, WaitsIsOfWhatItHeard, closes, events_in, heard_by, lacks_memory, own_read, step_events}
 use Rattle.route_core.specs.Requests.{Outcome, outcome_of}
-use Rattle.route_core.specs.Step.{Effect, Stepped, Steps, done, effect, lost_effect, packet_by, read_effect, remove_address_effect, remove_found, take_route, unless_refused, world_after, write_by_outcome, write_by_request, write_effect}
+use Rattle.route_core.specs.Step.{Effect, Stepped, Steps, done, effect, lost_effect, packet_by, read_effect, remove_address_effect, remove_found, take_route, unless_refused, world_after, write_effect}
 use Rattle.route_core.specs.Telling.{Told, delivered_all}
 use Rattle.route_core.specs.Undisturbed.{Runs}
 use Rattle.route_core.specs.World.{World}
@@ -109,12 +111,12 @@ removed-stays w address (Err errno) = refl
 removed-stays w address (Ok ifa) = found-stays w ifa address (address_of ifa w.interfaces)
 
 outcome-stays : (w : World) (id : List ℕ) (pid : ℕ) (m : List ℕ) (o : Result Outcome Errno)
-    → (write_by_outcome w id pid m o).sockets ≡ w.sockets
+    → (request_effect w id pid m o).sockets ≡ w.sockets
 outcome-stays w id pid m (Ok o) = refl
 outcome-stays w id pid m (Err errno) = refl
 
 request-stays : (w : World) (id : List ℕ) (pid : ℕ) (m : List ℕ) (r : Result Request Refusal)
-    → (write_by_request w id pid m r).sockets ≡ w.sockets
+    → (message_effect w id pid m r).sockets ≡ w.sockets
 request-stays w id pid m (Ok request) = outcome-stays w id pid m (outcome_of w.interfaces w.table pid m request)
 request-stays w id pid m (Err r) = refl
 

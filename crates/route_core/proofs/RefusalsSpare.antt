@@ -24,7 +24,7 @@ use Rattle.route_entries.specs.declared.route.Route.{Route}
 use Rattle.route_ops.specs.Adding.{Adding, add, added as added_to, ifa_for, new_entry}
 use Rattle.route_ops.specs.Addressing.{address_entry, withdrawn}
 use Rattle.route_ops.specs.Changing.{change, changed_entry, lock, locked, rewritten, target}
-use Rattle.route_ops.specs.Deleting.{doomed, got}
+use Rattle.route_ops.specs.Deleting.{route_to_delete, route_to_show}
 use Rattle.route_ops.specs.Looks.{Look, look, unless_there}
 use Rattle.route_ops.specs.RedirectLaws.{IsReason}
 use Rattle.route_ops.specs.Losses.{losing}
@@ -38,11 +38,12 @@ use Rattle.route_ops.proofs.LossRefused.{refused_losing_keeps}
 use Rattle.route_ops.proofs.RedirectRefused.{refused_redirect_keeps}
 use Rattle.route_ops.proofs.RefusingLemmas.{err_of_none, err_then}
 use Rattle.route_core.specs.Commands.{Command}
+use Rattle.route_core.specs.Effects.{request_effect}
 use Rattle.route_core.specs.Messages.{notice_told}
 use Rattle.route_core.specs.Packets.{choice_of, fate_of, rejection_of}
 use Rattle.route_core.specs.RefusalLaws.{IsRefusedFamily, NoMemoryKeepsAll, RefusalKeepsInterfaces, RefusalKeepsRoutes, RefusalKeepsSockets, RefusalTells, interfaces_left, is_packet}
 use Rattle.route_core.specs.Requests.{Outcome, adding_outcome, delete_outcome, done_reply, get_outcome, lock_outcome, outcome_of}
-use Rattle.route_core.specs.Step.{Effect, Stepped, bring_route, done, done_write, effect, lost_effect, packet_by, read_effect, refusal_tells, refused, refused_write, remove_address_effect, remove_found, stepped, take_route, unless_errno, unless_refused, upshot_effect, world_after, write_by_outcome, write_by_request, write_effect}
+use Rattle.route_core.specs.Step.{Effect, Stepped, bring_route, done, done_write, effect, lost_effect, packet_by, read_effect, refusal_tells, refused, refused_write, remove_address_effect, remove_found, stepped, take_route, unless_errno, unless_refused, upshot_effect, world_after, write_effect}
 use Rattle.route_core.specs.Telling.{delivered_all}
 use Rattle.route_core.specs.World.{World}
 use Rattle.route_core.specs.Writes.{destination_bytes, message_rules, request_in, request_rules}
@@ -52,6 +53,7 @@ use Rattle.route_core.specs.declared.command.Command.TheVariants.{Attach, AddAdd
 use Rattle.route_core.specs.declared.refusal.Refusal.{Refusal}
 use Rattle.route_core.specs.declared.request.Request.{Request}
 use Rattle.route_core.specs.declared.request.Request.TheVariants.{Add, Change, Delete, Get, Lock}
+use Rattle.route_core.proofs.MessageEffect.{message_effect}
 
 -- what holds of both branches holds of the choice
 either : {X : Type 0} (P : X → Type 0) (b : Bool) (x y : X) → P x → P y → P (if b then x else y)
@@ -175,14 +177,14 @@ pub outcome-found : (interfaces : List Interface) (table : List (Entry Route)) (
 outcome-found interfaces table pid m (Add a) = adding-found (done_reply pid m) (add a interfaces table)
     (add-found a interfaces table)
 outcome-found interfaces table pid m (Delete key netmask flags) = delete-found table (done_reply pid m)
-    (doomed key netmask flags table)
+    (route_to_delete key netmask flags table)
 outcome-found interfaces table pid m (Change a) =
     adding-found (done_reply pid m) (change a interfaces table) (change-found a interfaces table)
 outcome-found interfaces table pid m (Lock destination netmask inits locks) =
     lock-found table (done_reply pid m) (lock destination netmask inits locks table)
     (lock-refusal-found destination netmask inits locks table)
 outcome-found interfaces table pid m (Get destination shows) =
-    get-found interfaces table pid m shows (got destination table)
+    get-found interfaces table pid m shows (route_to_show destination table)
     (ok_or-found (best_of destination table) ESRCH (λ h. absurd (cc)))
 
 -- ---- redirects
@@ -381,7 +383,7 @@ spares-refused_write old id pid m r writer found =
 
 spares-outcome : (old : World) (id : List ℕ) (pid : ℕ) (m : List ℕ) (outcome : Result Outcome Errno)
     → pid_of id old.sockets ≡ Some pid → IsRefusedFamily m AF_INET → FoundErr outcome
-    → Spares (Write id m) old (write_by_outcome old id pid m outcome)
+    → Spares (Write id m) old (request_effect old id pid m outcome)
 spares-outcome old id pid m (Ok o) writer inet found = spares-other (Write id m) old (done_write old id o)
     (λ errno h. absurd (cc))
 spares-outcome old id pid m (Err errno) writer inet found =
@@ -389,7 +391,7 @@ spares-outcome old id pid m (Err errno) writer inet found =
 
 spares-request : (old : World) (id : List ℕ) (pid : ℕ) (m : List ℕ) (fault : Option Refusal)
     → first_fault (message_rules m) ≡ fault → pid_of id old.sockets ≡ Some pid → IfSome fault (IsFoundIn m)
-    → Spares (Write id m) old (write_by_request old id pid m (unless_fault fault (request_in m)))
+    → Spares (Write id m) old (message_effect old id pid m (unless_fault fault (request_in m)))
 spares-request old id pid m None passed writer found =
     spares-outcome old id pid m (outcome_of old.interfaces old.table pid m (request_in m)) writer (passed-inet m passed)
     (outcome-found old.interfaces old.table pid m (request_in m))

@@ -20,12 +20,14 @@ use Rattle.radix_tree.specs.declared.entry.Entry.{Entry}
 use Rattle.route_entries.specs.declared.route.Route.{Route}
 use Rattle.route_ops.specs.Addressing.{address_entry, withdrawn}
 use Rattle.route_ops.specs.Looks.{Look, look}
+use Rattle.route_core.proofs.MessageEffect.{message_effect}
 use Rattle.route_core.proofs.SocketsSeen.{alike-change, alike-closed, alike-open, alike-opened, alike-own, alike-pid, alike-told, alike-without, seen, seen-all, seen-change_other, seen-few, seen-opened_other, seen-without_other}
 use Rattle.route_core.specs.Commands.{Command}
+use Rattle.route_core.specs.Effects.{request_effect}
 use Rattle.route_core.specs.Queues.{LossesDisturbNobody, bare}
 use Rattle.route_core.specs.Requests.{Outcome, outcome_of}
 use Rattle.route_core.specs.Telling.{Told, delivered_all}
-use Rattle.route_core.specs.Step.{Effect, Stepped, Steps, announced, answered, bring_route, close_effect, done, effect, lost_effect, loopback_effect, open_effect, packet_by, read_effect, refused, remove_address_effect, remove_found, stepped, take_route, unless_refused, world_after, write_by_outcome, write_by_request, write_effect}
+use Rattle.route_core.specs.Step.{Effect, Stepped, Steps, announced, answered, bring_route, close_effect, done, effect, lost_effect, loopback_effect, open_effect, packet_by, read_effect, refused, remove_address_effect, remove_found, stepped, take_route, unless_refused, world_after, write_effect}
 use Rattle.route_core.specs.Undisturbed.{AreOneTo, HaveRoom, OthersAreNotNeeded, OthersDoNotDisturb, Runs, Turn, commands_of, is_left_where, lacks_room, matters, writes_to}
 use Rattle.route_core.specs.World.{World, empty_world}
 use Rattle.route_core.specs.Writes.{request_of}
@@ -135,16 +137,16 @@ module _ (x : List ℕ) (marks : List ℕ → Bool) (own_marked : marks x ≡ tr
 
   alike-outcome : (w : World) (tt : List Socket) (id : List ℕ) (pid : ℕ) (m : List ℕ) (o : Result Outcome Errno)
       → SeenAlike w.sockets tt
-      → AlikeEffects (write_by_outcome w id pid m o) (write_by_outcome (over w tt) id pid m o)
-  alike-outcome w tt id pid m (Ok o) h = alike-sockets (write_by_outcome w id pid m (Ok o)) tt h
-  alike-outcome w tt id pid m (Err errno) h = alike-sockets (write_by_outcome w id pid m (Err errno)) tt h
+      → AlikeEffects (request_effect w id pid m o) (request_effect (over w tt) id pid m o)
+  alike-outcome w tt id pid m (Ok o) h = alike-sockets (request_effect w id pid m (Ok o)) tt h
+  alike-outcome w tt id pid m (Err errno) h = alike-sockets (request_effect w id pid m (Err errno)) tt h
 
   alike-request : (w : World) (tt : List Socket) (id : List ℕ) (pid : ℕ) (m : List ℕ) (r : Result Request Refusal)
       → SeenAlike w.sockets tt
-      → AlikeEffects (write_by_request w id pid m r) (write_by_request (over w tt) id pid m r)
+      → AlikeEffects (message_effect w id pid m r) (message_effect (over w tt) id pid m r)
   alike-request w tt id pid m (Ok request) h =
       alike-outcome w tt id pid m (outcome_of w.interfaces w.table pid m request) h
-  alike-request w tt id pid m (Err r) h = alike-sockets (write_by_request w id pid m (Err r)) tt h
+  alike-request w tt id pid m (Err r) h = alike-sockets (message_effect w id pid m (Err r)) tt h
 
   alike-write : (w : World) (tt : List Socket) (id m : List ℕ) (pid : Option ℕ) → SeenAlike w.sockets tt
       → AlikeEffects (write_effect w id m pid) (write_effect (over w tt) id m pid)

@@ -31,15 +31,16 @@ use Rattle.route_entries.specs.declared.route.Route.{Route}
 use Rattle.route_ops.specs.Adding.{Adding, add}
 use Rattle.route_ops.specs.Addressing.{address_entry, withdrawn}
 use Rattle.route_ops.specs.Changing.{change, lock}
-use Rattle.route_ops.specs.Deleting.{doomed, got}
-use Rattle.route_ops.specs.Looks.{Look, counted_entry, look}
+use Rattle.route_ops.specs.Deleting.{route_to_delete, route_to_show}
+use Rattle.route_ops.specs.Looks.{Look, entry_with_one_more_use, look}
 use Rattle.route_ops.specs.Losses.{losing}
 use Rattle.route_ops.specs.Redirecting.{redirect}
 use Rattle.route_ops.specs.Tables.{IsRouteOf, IsTableOf}
 use Rattle.route_ops.proofs.TablesStay.{adding_stays, address_route_is_of, changing_stays, kept_stays, locking_stays, look_stays, losing_stays, redirect_stays, with_stays, without_stays}
 use Rattle.route_core.specs.Commands.{Command}
+use Rattle.route_core.specs.Effects.{request_effect}
 use Rattle.route_core.specs.Requests.{Outcome, adding_outcome, delete_outcome, done_reply, get_outcome, lock_outcome, outcome_of}
-use Rattle.route_core.specs.Step.{Effect, Stepped, announced, bring_route, done, effect, lost_effect, on_table, packet_by, read_effect, refused, remove_address_effect, remove_found, take_route, unless_refused, world_after, write_by_outcome, write_by_request, write_effect}
+use Rattle.route_core.specs.Step.{Effect, Stepped, announced, bring_route, done, effect, lost_effect, on_table, packet_by, read_effect, refused, remove_address_effect, remove_found, take_route, unless_refused, world_after, write_effect}
 use Rattle.route_core.specs.Telling.{Told, delivered_all}
 use Rattle.route_core.specs.World.{World}
 use Rattle.route_core.specs.Worlds.{AreOpenOnce, EmptyIsWorld, IsInRange, IsWorld, StepsKeepWorlds}
@@ -48,6 +49,7 @@ use Rattle.route_core.specs.declared.command.Command.TheVariants.{Attach, AddAdd
 use Rattle.route_core.specs.declared.refusal.Refusal.{Refusal}
 use Rattle.route_core.specs.declared.request.Request.{Request}
 use Rattle.route_core.specs.declared.request.Request.TheVariants.{Add, Change, Delete, Get, Lock}
+use Rattle.route_core.proofs.MessageEffect.{message_effect}
 use Rattle.route_core.proofs.WritesInRange.{IsInRange as IsRequestInRange, request_is_in_range}
 
 -- ---- the ids of sockets
@@ -305,7 +307,7 @@ outcome_leaves w pid m (Add a) h range =
     adding_leaves w.interfaces (done_reply pid m) (add a w.interfaces w.table)
     (λ it is. adding_stays a w.interfaces w.table it h.numbers h.table range is)
 outcome_leaves w pid m (Delete key netmask flags) h range =
-    delete_leaves w.interfaces w.table (done_reply pid m) (doomed key netmask flags w.table) h.table
+    delete_leaves w.interfaces w.table (done_reply pid m) (route_to_delete key netmask flags w.table) h.table
 outcome_leaves w pid m (Change a) h range =
     adding_leaves w.interfaces (done_reply pid m) (change a w.interfaces w.table)
     (λ it is. changing_stays a w.interfaces w.table it h.numbers h.table range is)
@@ -313,15 +315,15 @@ outcome_leaves w pid m (Lock destination netmask inits locks) h range =
     lock_leaves w.interfaces w.table (done_reply pid m) (lock destination netmask inits locks w.table)
     (λ x is. locking_stays destination netmask inits locks w.interfaces w.table x h.table is)
 outcome_leaves w pid m (Get destination shows) h range =
-    get_leaves w.interfaces w.table pid m shows (got destination w.table) h.table
+    get_leaves w.interfaces w.table pid m shows (route_to_show destination w.table) h.table
 
 leaves_outcome : (w : World) (id : List ℕ) (pid : ℕ) (m : List ℕ) (outcome : Result Outcome Errno) → IsWorld w
-    → TableIfOk w.interfaces outcome → LeavesWorld (write_by_outcome w id pid m outcome)
+    → TableIfOk w.interfaces outcome → LeavesWorld (request_effect w id pid m outcome)
 leaves_outcome w id pid m (Ok o) h leaves = with_table w o.table h leaves
 leaves_outcome w id pid m (Err errno) h leaves = h
 
 leaves_request : (w : World) (id : List ℕ) (pid : ℕ) (m : List ℕ) (fault : Option Refusal) → IsWorld w
-    → AllByRecursion (λ b. b < 256) m → LeavesWorld (write_by_request w id pid m (unless_fault fault (request_in m)))
+    → AllByRecursion (λ b. b < 256) m → LeavesWorld (message_effect w id pid m (unless_fault fault (request_in m)))
 leaves_request w id pid m None h bytes =
     leaves_outcome w id pid m (outcome_of w.interfaces w.table pid m (request_in m)) h
     (outcome_leaves w pid m (request_in m) h (request_is_in_range m bytes))
@@ -347,7 +349,7 @@ leaves_lost w (Some count) h = h
 
 -- `packet`
 counted_is : (interfaces : List Interface) (r : Entry Route) → IsRouteOf interfaces r
-    → IsRouteOf interfaces (counted_entry r)
+    → IsRouteOf interfaces (entry_with_one_more_use r)
 counted_is interfaces r h = record {
   pair = record { rank = h.pair.rank; address = h.pair.address; key = h.pair.key };
   gateway = h.gateway;
@@ -359,8 +361,8 @@ leaves_packet : (w : World) (it : Look) (answer : Option (Entry Route)) → IsWo
     → IfSome answer (IsRouteOf w.interfaces) → LeavesWorld (packet_by w it answer)
 leaves_packet w it None h is route = with_table w it.table h is
 leaves_packet w it (Some r) h is route =
-    with_table w (with_entry (counted_entry r) it.table) h
-    (with_stays w.interfaces it.table (counted_entry r) is (counted_is w.interfaces r route))
+    with_table w (with_entry (entry_with_one_more_use r) it.table) h
+    (with_stays w.interfaces it.table (entry_with_one_more_use r) is (counted_is w.interfaces r route))
 
 first_passed : {F : Type 0} (a b : Bool) (x y : F) → first_fault (rule a x ∷ rule b y ∷ []) ≡ None → a ≡ false
 first_passed true b x y h = cc

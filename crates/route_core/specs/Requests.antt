@@ -12,7 +12,7 @@ use Rattle.radix_tree.specs.declared.entry.Entry.{Entry}
 use Rattle.route_entries.specs.declared.route.Route.{Route}
 use Rattle.route_ops.specs.Adding.{Adding, add, add_fault}
 use Rattle.route_ops.specs.Changing.{change, change_fault, lock}
-use Rattle.route_ops.specs.Deleting.{doomed, got}
+use Rattle.route_ops.specs.Deleting.{route_to_delete, route_to_show}
 use Rattle.route_ops.specs.declared.notice.Notice.{Notice}
 use Rattle.route_core.specs.Messages.{route_got}
 use Rattle.route_core.specs.declared.messages.Shown.{Shown}
@@ -73,9 +73,9 @@ makes_room interfaces table request = false
 abbrev pub outcome_of : List Interface → List (Entry Route) → ℕ → List ℕ → Request → Result Outcome Errno
 outcome_of interfaces table pid m (Add a) = adding_outcome (done_reply pid m) (add a interfaces table)
 outcome_of interfaces table pid m (Delete key netmask flags) =
-    delete_outcome table (done_reply pid m) (doomed key netmask flags table)
+    delete_outcome table (done_reply pid m) (route_to_delete key netmask flags table)
 outcome_of interfaces table pid m (Change a) = adding_outcome (done_reply pid m) (change a interfaces table)
 outcome_of interfaces table pid m (Lock destination netmask inits locks) =
     lock_outcome table (done_reply pid m) (lock destination netmask inits locks table)
 outcome_of interfaces table pid m (Get destination shows) =
-    get_outcome interfaces table pid m shows (got destination table)
+    get_outcome interfaces table pid m shows (route_to_show destination table)

@@ -1,5 +1,5 @@
 -- One step of the world for each command: what it does, and the world and the answer after it.
-use Rattle.std.specs.Prelude.{◌≡◌, ◌⊎◌, ◌+◌, ◌*◌, ◌-◌, ◌/◌, ◌^◌, ◌&&◌, ℕ, Bool, true, false, not, is_some, is_none, if◌then◌else◌, min, List, [], ◌∷◌, ◌++◌, map, Option, Some, None, Result, Ok, Err, unwrap_or}
+use Rattle.std.specs.Prelude.{◌≡◌, ◌⊎◌, ◌+◌, ◌*◌, ◌-◌, ◌/◌, ◌^◌, ◌&&◌, ℕ, Bool, true, false, not, is_some, is_none, if◌then◌else◌, min, List, [], ◌∷◌, ◌++◌, map, Option, Some, None, Result, Ok, Err, ok_or, unwrap_or}
 use Rattle.std.specs.Option.{option_map_or}
 use Rattle.sock_addrs.specs.declared.errno.Errno.{Errno}
 use Rattle.sock_addrs.specs.declared.errno.Errno.TheVariants.{EBADF, EEXIST, EHOSTUNREACH, ENOBUFS}
@@ -16,8 +16,9 @@ use Rattle.radix_tree.specs.declared.entry.Entry.{Entry}
 use Rattle.route_entries.specs.declared.route.Route.{Route}
 use Rattle.route_ops.specs.Addressing.{address_entry, withdrawn}
 use Rattle.route_ops.specs.Losses.{losing}
-use Rattle.route_ops.specs.Looks.{Look, counted_entry, look}
+use Rattle.route_ops.specs.Looks.{Look, entry_with_one_more_use, look}
 use Rattle.route_ops.specs.Redirecting.{redirect}
+use Rattle.route_ops.specs.Refusing.{◌>>=◌}
 use Rattle.route_ops.specs.Upshot.{Upshot}
 use Rattle.route_ops.specs.declared.notice.Notice.{Notice}
 use Rattle.table_dump.specs.Dumps.{dump_fault, fitting, shown_of, total_of}
@@ -65,6 +66,16 @@ done w = answered w Done
 abbrev pub unless_refused : World → Option Errno → Effect → Effect
 unless_refused w (Some errno) effect = refused w errno
 unless_refused w None effect = effect
+
+-- a step that may be refused, and what a command does then
+abbrev pub or_refused : {A E : Type 0} → (E → Effect) → Result A E → Result A Effect
+or_refused effect (Ok x) = Ok x
+or_refused effect (Err e) = Err (effect e)
+
+-- what a command does whose steps were all taken, or of which one was refused
+abbrev pub either_way : Result Effect Effect → Effect
+either_way (Ok effect) = effect
+either_way (Err effect) = effect
 
 -- `if`
 abbrev pub attach_effect : World → List ℕ → Kind → ℕ → List ℕ → Effect
@@ -157,18 +168,17 @@ done_write w id o = record (done w) {
   told = map notice_told o.notices ++ told o.reply AF_INET (Some id) ∷ [];
 }
 
-abbrev pub write_by_outcome : World → List ℕ → ℕ → List ℕ → Result Outcome Errno → Effect
-write_by_outcome w id pid m (Ok o) = done_write w id o
-write_by_outcome w id pid m (Err errno) = refused_write w id pid m (record { errno = errno; family = Some AF_INET })
+-- a request that is refused is answered to those who hear IPv4
+abbrev pub refused_request : World → List ℕ → ℕ → List ℕ → Errno → Effect
+refused_request w id pid m errno = refused_write w id pid m (record { errno = errno; family = Some AF_INET })
 
-abbrev pub write_by_request : World → List ℕ → ℕ → List ℕ → Result Request Refusal → Effect
-write_by_request w id pid m (Ok request) = write_by_outcome w id pid m (outcome_of w.interfaces w.table pid m request)
-write_by_request w id pid m (Err r) = refused_write w id pid m r
-
--- by the pid of the process that opened the socket
+-- what the process that opened the socket asks is done, unless there is none, or the message or what it asks is refused
 abbrev pub write_effect : World → List ℕ → List ℕ → Option ℕ → Effect
-write_effect w id m None = refused w EBADF
-write_effect w id m (Some pid) = write_by_request w id pid m (request_of m)
+write_effect w id m writer = either_way (do
+  pid ← ok_or writer (refused w EBADF)
+  request ← or_refused (refused_write w id pid m) (request_of m)
+  outcome ← or_refused (refused_request w id pid m) (outcome_of w.interfaces w.table pid m request)
+  Ok (done_write w id outcome))
 
 -- `read`
 abbrev pub read_effect : World → List ℕ → Option (List (List ℕ)) → Effect
@@ -189,7 +199,7 @@ on_table w table notices answer = record (answered w answer) { table = table; to
 -- `packet`: a look-up, one more use of its answer, and then its fate
 abbrev pub packet_by : World → Look → Option (Entry Route) → Effect
 packet_by w it None = on_table w it.table it.messages (Refused EHOSTUNREACH)
-packet_by w it (Some r) = on_table w (with_entry (counted_entry r) it.table) it.messages (fate_of w.interfaces r)
+packet_by w it (Some r) = on_table w (with_entry (entry_with_one_more_use r) it.table) it.messages (fate_of w.interfaces r)
 
 abbrev pub packet_effect : World → ℕ → Effect
 packet_effect w destination = let it = look true (gate.Inet destination) w.table in packet_by w it it.answer

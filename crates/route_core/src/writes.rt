@@ -3,10 +3,10 @@ ghost use Rattle.std.specs.Prelude.{◌≡◌, IfSome, IsSome, Some};
 ghost use Rattle.listeners.specs.Queue.{IsMessage};
 ghost use Rattle.listeners.specs.Sockets.{delivered};
 ghost use Rattle.route_msgs.specs.Headers.{header_in};
-ghost use Rattle.route_core.specs.Effects.{EffectOr, IsEchoed, IsEffect};
+ghost use Rattle.route_core.specs.Effects.{EffectOr, IsEchoed, IsEffect, request_effect};
 ghost use Rattle.route_core.specs.Outcomes.{reply_with};
 ghost use Rattle.route_core.specs.Requests.{makes_room, outcome_of};
-ghost use Rattle.route_core.specs.Step.{Steps, refused_write, write_by_outcome};
+ghost use Rattle.route_core.specs.Step.{Steps, refused_write};
 ghost use Rattle.route_core.specs.Tried.{done_or_refused as answer_of};
 ghost use Rattle.route_core.specs.declared.command.Command.TheVariants.{Write};
 
@@ -54,7 +54,7 @@ impl World {
         requires echoed { IsEchoed bytes.now }
         requires header { asked.now.header ≡ header_in bytes.now }
         ensures { EffectOr (makes_room self.old.interfaces self.old.table asked.now.request)
-            (write_by_outcome self.old id pid bytes.now
+            (request_effect self.old id pid bytes.now
             (outcome_of self.old.interfaces self.old.table pid bytes.now asked.now.request))
             self.old (answer_of result) self.new }
     {

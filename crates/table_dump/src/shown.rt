@@ -2,11 +2,10 @@
 ghost use Rattle.std.specs.Prelude.{◌≡◌, ℕ, length};
 ghost use Rattle.table_dump.specs.Dumps.{IsWhole, is_asked as is_asked_by, shown_as};
 
-use arrayvec::ArrayVec;
 use mask_table::Rank;
 use route_entries::{Route, addresses_of};
 use route_msgs::kinds::RTM_GET;
-use route_msgs::{Header, write_route_msg};
+use route_msgs::{Header, Message, write_route_msg};
 use sock_addrs::Inet;
 
 /// Whether the route is asked for: each one is where there is no filter, and otherwise one that has a flag of the
@@ -21,7 +20,7 @@ pub(crate) fn is_asked(route: &Route, filter: Option<u32>) -> bool
 }
 
 /// The message that shows a route of the interface with this index; it is as long with any other.
-pub(crate) fn shown(index: u16, key: Inet, rank: Rank, route: &Route) -> ArrayVec<u8, 256>
+pub(crate) fn shown(index: u16, key: Inet, rank: Rank, route: &Route) -> Message
     ensures message { result.items ≡ shown_as index (record { key = key; rank = rank; value = route.now }) }
     ensures whole { IsWhole result.items }
     ensures size { (other : ℕ)

@@ -4,7 +4,7 @@ use route_msgs::bits::{RTA_DST, RTA_GATEWAY, RTA_NETMASK};
 use route_msgs::flags::{RTF_CLONING, RTF_DONE, RTF_UP};
 use route_msgs::kinds::{RTM_GET, RTM_NEWADDR};
 use route_msgs::{
-    AddrInfo, Header, IfaHeader, Parsed, Slot, Sockaddr, patch_u32, read_message, write_ifa_msg,
+    AddrInfo, Header, IfaHeader, Parsed, Slot, Sockaddr, read_message, set_pid, write_ifa_msg,
     write_route_msg,
 };
 use sock_addrs::{Gate, Inet, Link};
@@ -112,9 +112,9 @@ fn pads_a_link_layer_address(rt: HostRuntime) {
 }
 
 #[test]
-fn patches_a_number(rt: HostRuntime) {
+fn patches_a_pid(rt: HostRuntime) {
     let mut message = QUESTION;
-    patch_u32(&mut message, 16, 0x0102_0304);
+    set_pid(&mut message, 0x0102_0304);
     assert_eq!(rt; &message[16..20], [1, 2, 3, 4].as_slice());
     assert_eq!(rt;
         (&message[..16], &message[20..]),

@@ -2,10 +2,9 @@ use Rattle.std.proofs.Common.{◌≡◌, ◌⊎◌, ℕ, List, Bool, true, inl, 
 use Rattle.std.specs.Prelude.{Result, Ok, Err}
 use Rattle.sock_addrs.specs.declared.errno.Errno.{Errno}
 use Rattle.sock_addrs.specs.declared.errno.Errno.TheVariants.{ENOBUFS}
-use Rattle.route_core.specs.Effects.{EffectOr}
+use Rattle.route_core.specs.Effects.{EffectOr, request_effect}
 use Rattle.route_core.specs.Outcomes.{outcome_with}
 use Rattle.route_core.specs.Requests.{Outcome, makes_room}
-use Rattle.route_core.specs.Step.{write_by_outcome}
 use Rattle.route_core.specs.World.{World}
 use Rattle.route_core.specs.declared.answer.Answer.TheVariants.{Refused}
 use Rattle.route_core.proofs.Effecting.{write_done}
@@ -30,7 +29,7 @@ returns-in-Ok c =
 -- a request is never refused for want of memory by the machine itself
 short : (wants : Bool) (w : World) (id : List ℕ) (pid : ℕ) (m : List ℕ) (r : Result Outcome Errno) (new : World)
     → FoundErr r → (r ≡ Err ENOBUFS) ⊎ ((wants ≡ true) × (ENOBUFS ≡ ENOBUFS)) → new ≡ w
-    → EffectOr wants (write_by_outcome w id pid m r) w (Refused ENOBUFS) new
+    → EffectOr wants (request_effect w id pid m r) w (Refused ENOBUFS) new
 short wants w id pid m (Ok o) new found (inl is) same = absurd (cc)
 short wants w id pid m (Err e) new found (inl is) same = absurd (found (cc))
 short wants w id pid m r new found (inr both) same = inr (both.0, refl, same)
