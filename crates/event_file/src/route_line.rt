@@ -7,9 +7,9 @@ use crate::numbers::{read_hex, read_inet, read_number, read_prefix};
 use crate::route_words::{MetricWords, RouteWords, Verb, compose};
 use crate::texts::read_gate;
 use crate::words::{Options, if_written, is, parted};
-use arrayvec::ArrayVec;
 use mask_table::Prefix;
 use route_core::{Lent, MOST_WRITTEN};
+use route_msgs::Message;
 use sock_addrs::{Gate, Inet};
 
 /// What a `route` line asks for.
@@ -220,7 +220,7 @@ fn read_route_words(words: &[&[u8]]) -> Option<RouteWords>
 }
 
 /// The message that the words behind `route ID` compose.
-fn read_message(words: &[&[u8]]) -> Option<ArrayVec<u8, 256>>
+fn read_message(words: &[&[u8]]) -> Option<Message>
     ensures message { MatchOption result (message_of (map (λ w. w.now) words.now) ≡ None)
         (λ m. message_of (map (λ w. w.now) words.now) ≡ Some m.items) }
     ensures most { IfSome result (λ m. length m.items ≤ 204) }

@@ -4,13 +4,12 @@ ghost use Rattle.sock_addrs.specs.Sockaddrs.{inet_sockaddr, mask_sockaddr};
 ghost use Rattle.route_msgs.specs.AddrInfo.{address_bytes, gate_sockaddr};
 ghost use Rattle.event_file.specs.RouteWords.{addresses_named, bit_where, composed, header_said, kind_of, metrics_said, written_bits};
 
-use arrayvec::ArrayVec;
 use mask_table::Prefix;
 use route_msgs::inits::{
     RTV_EXPIRE, RTV_HOPCOUNT, RTV_MTU, RTV_RPIPE, RTV_RTT, RTV_RTTVAR, RTV_SPIPE, RTV_SSTHRESH,
 };
 use route_msgs::kinds::{RTM_ADD, RTM_CHANGE, RTM_DELETE, RTM_GET, RTM_LOCK};
-use route_msgs::{AddrInfo, Header, Metrics, Sockaddr, write_route_msg};
+use route_msgs::{AddrInfo, Header, Message, Metrics, Sockaddr, write_route_msg};
 use sock_addrs::{Gate, Inet};
 
 /// What a `route` line asks for.
@@ -98,7 +97,7 @@ pub struct RouteWords {
 
 /// The message that the words of a `route` line compose: version 3, the verb's type, the addresses that are named,
 /// and 0 in each field that no word names. At most 204 bytes.
-pub fn compose(words: &RouteWords) -> ArrayVec<u8, 256>
+pub fn compose(words: &RouteWords) -> Message
     ensures message { result.items ≡ composed words.now }
     ensures most { length result.items ≤ 204 }
 {
