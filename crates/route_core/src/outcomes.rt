@@ -160,9 +160,11 @@ fn delete(
     flags: u16,
 ) -> Result<Done, Errno>
     ensures outcome { (pid : ℕ) (m : List ℕ) → MatchResult result
-        (λ d. delete_outcome table.old.entries (done_reply pid m) (route_to_delete key netmask flags table.old.entries)
+        (λ d. delete_outcome table.old.entries (done_reply pid m)
+        (route_to_delete key netmask flags table.old.entries)
         ≡ Ok (outcome_with pid m table.new.entries d.notices.items d.reply))
-        (λ e. delete_outcome table.old.entries (done_reply pid m) (route_to_delete key netmask flags table.old.entries)
+        (λ e. delete_outcome table.old.entries (done_reply pid m)
+        (route_to_delete key netmask flags table.old.entries)
         ≡ Err e) }
     ensures kept { OnErr result (table.new.entries ≡ table.old.entries) }
     ensures echoed { IfOk result (λ d. d.reply ≡ None) }
@@ -206,9 +208,11 @@ fn get(
 ) -> Result<Done, Errno>
     requires of { AreOf interfaces.now table.old.entries }
     ensures outcome { (m : List ℕ) → header.now ≡ header_in m → MatchResult result
-        (λ d. get_outcome interfaces.now table.old.entries pid m shows_interface (route_to_show destination table.old.entries)
+        (λ d. get_outcome interfaces.now table.old.entries pid m shows_interface
+        (route_to_show destination table.old.entries)
         ≡ Ok (outcome_with pid m table.new.entries d.notices.items d.reply))
-        (λ e. get_outcome interfaces.now table.old.entries pid m shows_interface (route_to_show destination table.old.entries)
+        (λ e. get_outcome interfaces.now table.old.entries pid m shows_interface
+        (route_to_show destination table.old.entries)
         ≡ Err e) }
     ensures message { IfOk result (λ d. IfSome d.reply (λ reply. IsMessage reply.items)) }
     ensures kept { table.new.entries ≡ table.old.entries }
