@@ -1,11 +1,9 @@
 -- What bits tell of a route's key, and of an address that it covers.
 use Rattle.std.proofs.Common.{◌≡◌, ℕ, ◌-◌, ◌/◌, ◌%◌, ◌^◌, ◌<◌, ◌≤◌, ◌⊎◌, inl, inr, sym, ap, ◌∙◌, subst, true, arith}
 use Rattle.std.proofs.lemmas.Bool.{eqb-true, cases_eq}
-use Rattle.mask_table.specs.Agreeing.{front, agrees, masked, bit}
 use Rattle.mask_table.proofs.Agreeing.{bit_of_front, masked_bits, agrees_where_masked_equal, masked_agrees}
-use Rattle.radix_tree.specs.Table.{IsRoute}
+use Rattle.radix_tree.proofs.Words.{front, agrees, masked, bit, IsRoute, Entry}
 use Rattle.radix_tree.specs.Tree.{bit_at, Covers}
-use Rattle.radix_tree.specs.declared.entry.Entry.{Entry}
 
 pub zero_not_one : {n : ℕ} → n ≡ 0 → n ≡ 1 → ⊥
 zero_not_one zero one = omega arith
@@ -25,9 +23,9 @@ module _ {V : Type 0} where
       bit_of_front e.rank e.key address b before (omega arith) (eqb-true (front e.rank e.key) (front e.rank address) covers)
 
   -- one past it is 0
-  pub clear_bit : (b : ℕ) (e : Entry V) → IsRoute e → e.rank ≤ b → b ≤ 31 → bit_at b e.key ≡ 0
+  pub clear_bit : (b : ℕ) {e : Entry V} → IsRoute e → e.rank ≤ b → b ≤ 31 → bit_at b e.key ≡ 0
   unfolding bit_at
-  clear_bit b e route past within =
+  clear_bit b {e = e} route past within =
       let inside : b < 32 = omega arith in ap (bit b) (sym route.key) ∙ (masked_bits e.rank e.key b inside).1 past
 
   -- a route covers the addresses that are its key once they are masked by its rank

@@ -1,20 +1,12 @@
 -- What is read of the room that a search found.
 use Rattle.std.proofs.Common.{◌≡◌, ℕ, Option, Some, None, refl, sym, ap, ◌∙◌, subst}
-use Rattle.std.specs.Ordering.{nat_cmp}
-use Rattle.std.specs.FinMap.{FinMap, get}
-use Rattle.radix_nodes.specs.Rooms.{Seen, Has}
-use Rattle.radix_nodes.specs.declared.id.Id.{Id}
-use Rattle.radix_nodes.specs.declared.links.Leaf.{Leaf}
-use Rattle.radix_tree.specs.Rooms.{LeafPart, Part, leaves_in, bits_in, leaf_part}
-use Rattle.radix_tree.specs.Searches.{Tells, Best, In}
-use Rattle.radix_tree.specs.Table.{best_of}
-use Rattle.radix_tree.specs.Tree.{Placed, routes_of}
-use Rattle.radix_tree.specs.declared.entry.Entry.{Entry}
+use Rattle.radix_tree.proofs.Words.{get, Seen, Has, Id, Leaf, LeafPart, Part, leaves_in, bits_in, leaf_part, Tells, Best, In, best_of, Placed, routes_of, Entry}
+use Rattle.radix_tree.proofs.Words.{Lodged}
 use Rattle.radix_tree.proofs.BestOfTree.{some_best, no_best}
 use Rattle.radix_tree.proofs.RoomReads.{Has-leaf, value_read}
 use Rattle.radix_tree.proofs.TreeMembers.{tree_said}
 
-module _ {V : Type 0} {m : FinMap nat_cmp (Seen V)} where
+module _ {V : Type 0} {m : Lodged V} where
   -- the best route, and what its room says as a leaf
   pub record Answer (p : Part m) (address : ℕ) (room : Id) : Type 0 where
     pub route : Placed V
@@ -38,13 +30,14 @@ module _ {V : Type 0} {m : FinMap nat_cmp (Seen V)} where
       }
 
   pub Has-best : {p : Part m} {address : ℕ} {room : Id} → Answer p address room → Has m room
-  Has-best {room = room} a = Has-leaf m room a.part a.said a.block
+  Has-best {room = room} a = Has-leaf m room a.said a.block
 
-  pub best_answer : {p : Part m} {address : ℕ} {room : Id} (a : Answer p address room) (l : Leaf) (value : V) → l ≡ a.part.leaf → ((s : Seen V) → get m room.number ≡ Some s → value ≡ s.value)
+  pub best_answer : {p : Part m} {address : ℕ} {room : Id} (a : Answer p address room) {l : Leaf} (value : V) → l ≡ a.part.leaf
+      → ((s : Seen V) → get m room.number ≡ Some s → value ≡ s.value)
       → Some (record { key = l.key; rank = l.rank; value = value }) ≡ best_of address (routes_of p.tree)
-  best_answer {p} {address} {room} a l value l_is value_is =
+  best_answer {p} {address} {room} a value l_is value_is =
       ap (λ (z : Leaf). Some (record { key = z.key; rank = z.rank; value = value })) l_is
-      ∙ ap (λ (v : V). Some (record { key = a.part.leaf.key; rank = a.part.leaf.rank; value = v })) (value_read m room a.part value a.said a.block value_is)
+      ∙ ap (λ (v : V). Some (record { key = a.part.leaf.key; rank = a.part.leaf.rank; value = v })) (value_read m room value a.said a.block value_is)
       ∙ ap (λ (e : Entry V). Some e) a.is ∙ sym (some_best address p.low p.tree p.is a.route a.best)
 
   pub best_none : (p : Part m) (address : ℕ) {o : Option Id} → o ≡ None → Tells (Best address 0 34 (In p)) o → None ≡ best_of address (routes_of p.tree)

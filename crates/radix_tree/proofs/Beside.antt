@@ -1,31 +1,22 @@
 -- A route of a new key comes into the tree: what the rooms say afterwards is the tree with it.
 use Rattle.std.proofs.Common.{◌≡◌, ℕ, ◌<◌, ◌≤◌, ◌==◌, Bool, if◌then◌else◌, List, [], ◌∷◌, Option, Some, None, refl, sym, ap, ◌∙◌, subst, ⊎_elim, arith}
 use Rattle.std.proofs.lemmas.Bool.{eq-eqb, ne_eqb}
-use Rattle.std.specs.Ordering.{nat_cmp}
-use Rattle.std.specs.FinMap.{FinMap}
-use Rattle.radix_nodes.specs.Rooms.{Seen}
-use Rattle.radix_nodes.specs.declared.id.Id.{Id}
-use Rattle.radix_nodes.specs.declared.links.Node.{Node}
-use Rattle.radix_nodes.specs.declared.links.Node.TheVariants.{Leaf as LeafOf, Bit as BitOf}
-use Rattle.radix_tree.specs.Table.{IsRoute}
-use Rattle.radix_tree.specs.Tree.{Placed, Tree, leaf, fork, bit_at, HaveBit}
-use Rattle.radix_tree.specs.Rooms.{LeafPart, BitPart, Part, leaves_in, bits_in, name_of, Stands}
-use Rattle.radix_tree.specs.Searches.{Way}
-use Rattle.radix_tree.specs.Whole.{one_if, leaves_at, forks_at}
-use Rattle.radix_tree.specs.Growth.{with_child, name_child, root_after, AreOnce, IsPlace, IsSpot, IsBeside, forked_tree}
-use Rattle.radix_tree.specs.Exchange.{IsExchange, Exchanged}
-use Rattle.radix_tree.specs.Writes.{lift_leaf, lift_bit, leaf_above, bit_above}
+use Rattle.radix_tree.proofs.Words.{Id, Node, LeafOf, BitOf, IsRoute, Placed, Tree, leaf, fork, bit_at, HaveBit, LeafPart, BitPart, Part, leaves_in, bits_in}
+use Rattle.radix_tree.proofs.Words.{name_of, Stands, Way, one_if, leaves_at, forks_at, with_child, name_child, root_after, AreOnce, IsPlace, IsSpot, IsBeside}
+use Rattle.radix_tree.proofs.Words.{forked_tree, IsExchange, Exchanged, lift_leaf, lift_bit, leaf_above, bit_above, Lodged}
 use Rattle.radix_tree.proofs.AddressBits.{zero_not_one, zero_or_one}
 use Rattle.radix_tree.proofs.PartRooms.{one_if_same, way_once, spine_out}
 use Rattle.radix_tree.proofs.Exchanging.{exchanged}
 use Rattle.radix_tree.proofs.Forking.{one_value, zero_fork_is, one_fork_is, lifted, leaves_there, forks_there}
 
 -- a name that is not in a room is not the room's
-pub misses_leaf : {A : Type 0} (at : Node) (n : ℕ) → ((room : Id) → at ≡ LeafOf room → n ≡ room.number → ⊥) → (above : Option Id) (said : Option (LeafPart A)) → lift_leaf at above n said ≡ said
+pub misses_leaf : {A : Type 0} (at : Node) (n : ℕ) → ((room : Id) → at ≡ LeafOf room → n ≡ room.number → ⊥) → (above : Option Id) (said : Option (LeafPart A))
+    → lift_leaf at above n said ≡ said
 misses_leaf (LeafOf room) n other above said = ap (λ (t : Bool). if t then leaf_above above said else said) (ne_eqb n room.number (other room refl))
 misses_leaf (BitOf room) n other above said = refl
 
-pub misses_bit : (at : Node) (n : ℕ) → ((room : Id) → at ≡ BitOf room → n ≡ room.number → ⊥) → (above : Option Id) (said : Option BitPart) → lift_bit at above n said ≡ said
+pub misses_bit : (at : Node) (n : ℕ) → ((room : Id) → at ≡ BitOf room → n ≡ room.number → ⊥) → (above : Option Id) (said : Option BitPart)
+    → lift_bit at above n said ≡ said
 misses_bit (LeafOf room) n other above said = refl
 misses_bit (BitOf room) n other above said = ap (λ (t : Bool). if t then bit_above above said else said) (ne_eqb n room.number (other room refl))
 
@@ -34,7 +25,8 @@ module _ {V : Type 0} where
   pub named_leaf : (t : Tree V) (room : Id) → name_of t ≡ LeafOf room → 1 ≤ leaves_at room.number t
   named_leaf (leaf x xs) room e =
       let same : x.room ≡ room = cc in
-      let own : one_if (x.room.number == room.number) ≡ 1 = ap (λ (i : Id). one_if (x.room.number == i.number)) (sym same) ∙ one_if_same x.room.number in omega arith
+      let own : one_if (x.room.number == room.number) ≡ 1 = ap (λ (i : Id). one_if (x.room.number == i.number)) (sym same) ∙ one_if_same x.room.number in
+      omega arith
   named_leaf (fork i b zero one) room e = cc
 
   pub named_bit : (t : Tree V) (room : Id) → name_of t ≡ BitOf room → 1 ≤ forks_at room.number t
@@ -45,41 +37,46 @@ module _ {V : Type 0} where
 
   -- ---- the state before and after
   -- a room of the part isn't the new one
-  pub not_new : (m : FinMap nat_cmp (Seen V)) (p : Part m) (room : Id) → leaves_in m room.number ≡ None → (n : ℕ) → 1 ≤ leaves_at n p.tree → n ≡ room.number → ⊥
-  not_new m p room none n some same =
+  pub not_new : {m : Lodged V} (p : Part m) (room : Id) → leaves_in m room.number ≡ None → (n : ℕ) → 1 ≤ leaves_at n p.tree → n ≡ room.number → ⊥
+  not_new {m = m} p room none n some same =
       let gone : leaves_at room.number p.tree ≡ 0 = leaves_there (leaves_in m) (bits_in m) p.above p.tree room.number p.stands none in
       let is : leaves_at n p.tree ≡ leaves_at room.number p.tree = ap (λ (k : ℕ). leaves_at k p.tree) same in omega arith
 
-  pub not_new_bit : (m : FinMap nat_cmp (Seen V)) (p : Part m) (room : Id) → bits_in m room.number ≡ None → (n : ℕ) → 1 ≤ forks_at n p.tree → n ≡ room.number → ⊥
-  not_new_bit m p room none n some same =
+  pub not_new_bit : {m : Lodged V} (p : Part m) (room : Id) → bits_in m room.number ≡ None → (n : ℕ) → 1 ≤ forks_at n p.tree → n ≡ room.number → ⊥
+  not_new_bit {m = m} p room none n some same =
       let gone : forks_at room.number p.tree ≡ 0 = forks_there (leaves_in m) (bits_in m) p.above p.tree room.number p.stands none in
       let is : forks_at n p.tree ≡ forks_at room.number p.tree = ap (λ (k : ℕ). forks_at k p.tree) same in omega arith
 
   -- the bit node above a part is not in it
-  pub not_above : (m : FinMap nat_cmp (Seen V)) (address : ℕ) (whole at : Part m) (ups : List (Part m)) → Way address whole at ups → whole.above ≡ None → AreOnce whole.tree → (to : Node) (n : ℕ) → 1 ≤ forks_at n at.tree
+  pub not_above : (m : Lodged V) (address : ℕ) (whole at : Part m) (ups : List (Part m)) → Way address whole at ups → whole.above ≡ None → AreOnce whole.tree
+      → (to : Node) (n : ℕ) → 1 ≤ forks_at n at.tree
       → name_child at.above address to n (bits_in m n) ≡ bits_in m n
-  not_above m address whole at [] way top once to n some = ap (λ (o : Option Id). name_child o address to n (bits_in m n)) (ap (λ (p : Part m). p.above) way ∙ top)
+  not_above m address whole at [] way top once to n some =
+      ap (λ (o : Option Id). name_child o address to n (bits_in m n)) (ap (λ (p : Part m). p.above) way ∙ top)
   not_above m address whole at (p ∷ ps) way top once to n some =
       let b = way.0 in
-      let out : forks_at b.room.number at.tree ≡ 0 = (spine_out m address at p b (way_once m address whole p ps way.1 once)).0 in
+      let out : forks_at b.room.number at.tree ≡ 0 = (spine_out m at p b (way_once address whole p ps way.1 once)).0 in
       ap (λ (o : Option Id). name_child o address to n (bits_in m n)) b.above
       ∙ ap (λ (t : Bool). if t then with_child address to (bits_in m n) else bits_in m n)
-      (ne_eqb n b.room.number (λ same. let is : forks_at n at.tree ≡ forks_at b.room.number at.tree = ap (λ (k : ℕ). forks_at k at.tree) same in absurd (omega arith)))
+      (ne_eqb n b.room.number (λ same. let is : forks_at n at.tree ≡ forks_at b.room.number at.tree = ap (λ (k : ℕ). forks_at k at.tree) same in
+      absurd (omega arith)))
 
   -- the part beneath stands beneath the new bit node
-  beneath_stands : (m new : FinMap nat_cmp (Seen V)) (bit : ℕ) (x : Placed V) (whole : Part m) (above : Option Id) (below : Node) (s : IsSpot m x.entry.key bit whole above below) → IsBeside m new bit x above below
+  beneath_stands : (m new : Lodged V) {bit : ℕ} (x : Placed V) (whole : Part m) {above : Option Id} (below : Node)
+      (s : IsSpot m x.entry.key bit whole above below) → IsBeside m new bit x above below
       → Stands (leaves_in new) (bits_in new) (Some x.room) s.at.tree
-  beneath_stands m new bit x whole above below s b =
+  beneath_stands m new x whole below s b =
       lifted (leaves_in m) (leaves_in new) (bits_in m) (bits_in new) s.at.above (Some x.room) s.at.tree
-      (λ n some. b.leaves n (not_new m s.at x.room b.no_leaf n some) ∙ ap (λ (z : Node). lift_leaf z (Some x.room) n (leaves_in m n)) (sym s.named))
-      (λ n some. b.bits n (not_new_bit m s.at x.room b.no_bit n some)
+      (λ n some. b.leaves n (not_new s.at x.room b.no_leaf n some) ∙ ap (λ (z : Node). lift_leaf z (Some x.room) n (leaves_in m n)) (sym s.named))
+      (λ n some. b.bits n (not_new_bit s.at x.room b.no_bit n some)
       ∙ ap (λ (said : Option BitPart). lift_bit below (Some x.room) n said)
-      (ap (λ (o : Option Id). name_child o x.entry.key (BitOf x.room) n (bits_in m n)) (sym s.above_is) ∙ not_above m x.entry.key whole s.at s.ups s.way s.top s.once (BitOf x.room) n some)
+      (ap (λ (o : Option Id). name_child o x.entry.key (BitOf x.room) n (bits_in m n)) (sym s.above_is)
+      ∙ not_above m x.entry.key whole s.at s.ups s.way s.top s.once (BitOf x.room) n some)
       ∙ ap (λ (z : Node). lift_bit z (Some x.room) n (bits_in m n)) (sym s.named))
-      (way_once m x.entry.key whole s.at s.ups s.way s.once) s.at.stands
+      (way_once x.entry.key whole s.at s.ups s.way s.once) s.at.stands
 
   -- the new bit node with what is beneath it
-  record Forked (m new : FinMap nat_cmp (Seen V)) (bit : ℕ) (x : Placed V) (at : Part m) : Type 0 where
+  record Forked (m new : Lodged V) (bit : ℕ) (x : Placed V) (at : Part m) : Type 0 where
     pub part : Part new
     pub tree : part.tree ≡ forked_tree bit x at.tree
     pub low : part.low ≡ at.low
@@ -87,19 +84,24 @@ module _ {V : Type 0} where
 
   -- on either side of it
   pub zero_forked : (bit : ℕ) (x : Placed V) (t : Tree V) → bit_at bit x.entry.key ≡ 0 → fork x.room bit (leaf x []) t ≡ forked_tree bit x t
-  zero_forked bit x t clear = sym (ap (λ (b : Bool). if b then fork x.room bit t (leaf x []) else fork x.room bit (leaf x []) t) (ne_eqb (bit_at bit x.entry.key) 1 (λ set. zero_not_one clear set)))
+  zero_forked bit x t clear =
+      sym (ap (λ (b : Bool). if b then fork x.room bit t (leaf x []) else fork x.room bit (leaf x []) t)
+      (ne_eqb (bit_at bit x.entry.key) 1 (λ set. zero_not_one clear set)))
 
   pub one_forked : (bit : ℕ) (x : Placed V) (t : Tree V) → bit_at bit x.entry.key ≡ 1 → fork x.room bit t (leaf x []) ≡ forked_tree bit x t
-  one_forked bit x t set = sym (ap (λ (b : Bool). if b then fork x.room bit t (leaf x []) else fork x.room bit (leaf x []) t) (eq-eqb (bit_at bit x.entry.key) 1 set))
+  one_forked bit x t set =
+      sym (ap (λ (b : Bool). if b then fork x.room bit t (leaf x []) else fork x.room bit (leaf x []) t) (eq-eqb (bit_at bit x.entry.key) 1 set))
 
   forked_name : (bit : ℕ) (x : Placed V) (t : Tree V) → name_of (forked_tree bit x t) ≡ BitOf x.room
   forked_name bit x t =
-      ⊎_elim (λ (clear : bit_at bit x.entry.key ≡ 0). ap (λ (s : Tree V). name_of s) (sym (zero_forked bit x t clear))) (λ (set : bit_at bit x.entry.key ≡ 1). ap (λ (s : Tree V). name_of s) (sym (one_forked bit x t set)))
+      ⊎_elim (λ (clear : bit_at bit x.entry.key ≡ 0). ap (λ (s : Tree V). name_of s) (sym (zero_forked bit x t clear)))
+      (λ (set : bit_at bit x.entry.key ≡ 1). ap (λ (s : Tree V). name_of s) (sym (one_forked bit x t set)))
       (zero_or_one bit x.entry.key)
 
-  forked_part : (m new : FinMap nat_cmp (Seen V)) (bit : ℕ) (x : Placed V) (whole : Part m) (above : Option Id) (below : Node) (s : IsSpot m x.entry.key bit whole above below) → IsBeside m new bit x above below → IsRoute x.entry → Forked m new bit x s.at
+  forked_part : (m new : Lodged V) (bit : ℕ) (x : Placed V) (whole : Part m) (above : Option Id) (below : Node)
+      (s : IsSpot m x.entry.key bit whole above below) → IsBeside m new bit x above below → IsRoute x.entry → Forked m new bit x s.at
   forked_part m new bit x whole above below s b route =
-      let stands = beneath_stands m new bit x whole above below s b in
+      let stands = beneath_stands m new x whole below s b in
       ⊎_elim
       (λ (clear : bit_at bit x.entry.key ≡ 0).
       record {
@@ -107,12 +109,14 @@ module _ {V : Type 0} where
           tree = fork x.room bit (leaf x []) s.at.tree;
           low = s.at.low;
           above = s.at.above;
-          is = zero_fork_is s.at.low bit x x.room s.at.tree route s.place clear;
+          is = zero_fork_is s.at.low bit x x.room route s.place clear;
           stands = (
-            b.bit_node ∙ ap (λ (t : Bool). Some (if t then record { block = x.room.block; bit = bit; zero = below; one = LeafOf x.room; above = above } else record { block = x.room.block; bit = bit; zero = LeafOf x.room; one = below; above = above }))
+            b.bit_node ∙ ap (λ (t : Bool). Some (if t then record { block = x.room.block; bit = bit; zero = below; one = LeafOf x.room; above = above }
+                else record { block = x.room.block; bit = bit; zero = LeafOf x.room; one = below; above = above }))
                 (ne_eqb (bit_at bit x.entry.key) 1 (λ set. zero_not_one clear set))
                 ∙ ap (λ (z : Node). Some (record { block = x.room.block; bit = bit; zero = LeafOf x.room; one = z; above = above })) (sym s.named)
-                ∙ ap (λ (o : Option Id). Some (record { block = x.room.block; bit = bit; zero = LeafOf x.room; one = name_of s.at.tree; above = o })) (sym s.above_is),
+                ∙ ap (λ (o : Option Id). Some (record { block = x.room.block; bit = bit; zero = LeafOf x.room; one = name_of s.at.tree; above = o }))
+                (sym s.above_is),
             (b.leaf, tt),
             stands,
           );
@@ -127,12 +131,14 @@ module _ {V : Type 0} where
           tree = fork x.room bit s.at.tree (leaf x []);
           low = s.at.low;
           above = s.at.above;
-          is = one_fork_is s.at.low bit x x.room s.at.tree route s.place set;
+          is = one_fork_is s.at.low bit x x.room route s.place set;
           stands = (
-            b.bit_node ∙ ap (λ (t : Bool). Some (if t then record { block = x.room.block; bit = bit; zero = below; one = LeafOf x.room; above = above } else record { block = x.room.block; bit = bit; zero = LeafOf x.room; one = below; above = above }))
+            b.bit_node ∙ ap (λ (t : Bool). Some (if t then record { block = x.room.block; bit = bit; zero = below; one = LeafOf x.room; above = above }
+                else record { block = x.room.block; bit = bit; zero = LeafOf x.room; one = below; above = above }))
                 (eq-eqb (bit_at bit x.entry.key) 1 set)
                 ∙ ap (λ (z : Node). Some (record { block = x.room.block; bit = bit; zero = z; one = LeafOf x.room; above = above })) (sym s.named)
-                ∙ ap (λ (o : Option Id). Some (record { block = x.room.block; bit = bit; zero = name_of s.at.tree; one = LeafOf x.room; above = o })) (sym s.above_is),
+                ∙ ap (λ (o : Option Id). Some (record { block = x.room.block; bit = bit; zero = name_of s.at.tree; one = LeafOf x.room; above = o }))
+                (sym s.above_is),
             stands,
             (b.leaf, tt),
           );
@@ -144,46 +150,54 @@ module _ {V : Type 0} where
       (zero_or_one bit x.entry.key)
 
   -- its keys agree on the bits before the new one as those of the part beneath
-  forked_keys : (bit low : ℕ) (x : Placed V) (t : Tree V) → IsPlace x.entry.key low bit t → (c value : ℕ) → c < low → HaveBit c value t → HaveBit c value (forked_tree bit x t)
+  forked_keys : (bit low : ℕ) (x : Placed V) (t : Tree V) → IsPlace x.entry.key low bit t → (c value : ℕ) → c < low → HaveBit c value t
+      → HaveBit c value (forked_tree bit x t)
   forked_keys bit low x t p c value before have =
       let rises : low ≤ bit = p.rises in
       let own : bit_at c x.entry.key ≡ value = one_value c (bit_at c x.entry.key) value t (p.agree c (omega arith)) have in
-      ⊎_elim (λ (clear : bit_at bit x.entry.key ≡ 0). subst (HaveBit c value) (zero_forked bit x t clear) (own, have)) (λ (set : bit_at bit x.entry.key ≡ 1). subst (HaveBit c value) (one_forked bit x t set) (have, own))
+      ⊎_elim (λ (clear : bit_at bit x.entry.key ≡ 0). subst (HaveBit c value) (zero_forked bit x t clear) (own, have))
+      (λ (set : bit_at bit x.entry.key ≡ 1). subst (HaveBit c value) (one_forked bit x t set) (have, own))
       (zero_or_one bit x.entry.key)
 
   -- ---- the whole
   -- a room that is not in the part beneath says what it said, or is the bit node above
-  leaf_stays : (m new : FinMap nat_cmp (Seen V)) (bit : ℕ) (x : Placed V) (whole : Part m) (above : Option Id) (below : Node) (s : IsSpot m x.entry.key bit whole above below) → IsBeside m new bit x above below
+  leaf_stays : (m new : Lodged V) {bit : ℕ} (x : Placed V) (whole : Part m) {above : Option Id} (below : Node) (s : IsSpot m x.entry.key bit whole above below)
+      → IsBeside m new bit x above below
       → (n : ℕ) → leaves_at n s.at.tree ≡ 0 → 1 ≤ leaves_at n whole.tree → leaves_in new n ≡ leaves_in m n
-  leaf_stays m new bit x whole above below s b n out some =
-      b.leaves n (not_new m whole x.room b.no_leaf n some)
+  leaf_stays m new x whole below s b n out some =
+      b.leaves n (not_new whole x.room b.no_leaf n some)
       ∙ misses_leaf below n (λ r is same. let there : 1 ≤ leaves_at r.number s.at.tree = named_leaf s.at.tree r (s.named ∙ is) in
-      let e : leaves_at n s.at.tree ≡ leaves_at r.number s.at.tree = ap (λ (k : ℕ). leaves_at k s.at.tree) same in absurd (omega arith)) (Some x.room) (leaves_in m n)
+      let e : leaves_at n s.at.tree ≡ leaves_at r.number s.at.tree = ap (λ (k : ℕ). leaves_at k s.at.tree) same in absurd (omega arith)) (Some x.room)
+      (leaves_in m n)
 
-  bit_stays : (m new : FinMap nat_cmp (Seen V)) (bit : ℕ) (x : Placed V) (whole : Part m) (above : Option Id) (below : Node) (s : IsSpot m x.entry.key bit whole above below) → IsBeside m new bit x above below
+  bit_stays : (m new : Lodged V) {bit : ℕ} (x : Placed V) (whole : Part m) (above : Option Id) (below : Node) (s : IsSpot m x.entry.key bit whole above below)
+      → IsBeside m new bit x above below
       → (n : ℕ) → forks_at n s.at.tree ≡ 0 → 1 ≤ forks_at n whole.tree → bits_in new n ≡ name_child above x.entry.key (BitOf x.room) n (bits_in m n)
-  bit_stays m new bit x whole above below s b n out some =
-      b.bits n (not_new_bit m whole x.room b.no_bit n some)
+  bit_stays m new x whole above below s b n out some =
+      b.bits n (not_new_bit whole x.room b.no_bit n some)
       ∙ misses_bit below n (λ r is same. let there : 1 ≤ forks_at r.number s.at.tree = named_bit s.at.tree r (s.named ∙ is) in
-      let e : forks_at n s.at.tree ≡ forks_at r.number s.at.tree = ap (λ (k : ℕ). forks_at k s.at.tree) same in absurd (omega arith)) (Some x.room) (name_child above x.entry.key (BitOf x.room) n (bits_in m n))
+      let e : forks_at n s.at.tree ≡ forks_at r.number s.at.tree = ap (λ (k : ℕ). forks_at k s.at.tree) same in absurd (omega arith)) (Some x.room)
+      (name_child above x.entry.key (BitOf x.room) n (bits_in m n))
 
-  pub whole_forked : (m new : FinMap nat_cmp (Seen V)) (bit : ℕ) (x : Placed V) (whole : Part m) (above : Option Id) (below root : Node) (s : IsSpot m x.entry.key bit whole above below) → IsBeside m new bit x above below → IsRoute x.entry → name_of whole.tree ≡ root
+  pub whole_forked : {m new : Lodged V} {bit : ℕ} {x : Placed V} (whole : Part m) {above : Option Id} {below root : Node}
+      (s : IsSpot m x.entry.key bit whole above below) → IsBeside m new bit x above below → IsRoute x.entry → name_of whole.tree ≡ root
       → (u : Part new) × (u.tree ≡ forked_tree bit x s.at.tree) × Exchanged m new x.entry.key whole s.at u (root_after above (BitOf x.room) root)
-  whole_forked m new bit x whole above below root s b route named =
+  whole_forked {m = m} {new = new} {bit = bit} {x = x} whole {above = above} {below = below} s b route named =
       let u = forked_part m new bit x whole above below s b route in
       let name : name_of u.part.tree ≡ BitOf x.room = ap (λ (t : Tree V). name_of t) u.tree ∙ forked_name bit x s.at.tree in
       let e : IsExchange m new x.entry.key whole s.at u.part = record {
         low = u.low;
         above = u.above;
         keys = λ c value before have. subst (HaveBit c value) (sym u.tree) (forked_keys bit s.at.low x s.at.tree s.place c value before have);
-        leaves = leaf_stays m new bit x whole above below s b;
-        bits = λ n none some. bit_stays m new bit x whole above below s b n none some
+        leaves = leaf_stays m new x whole below s b;
+        bits = λ n none some. bit_stays m new x whole above below s b n none some
             ∙ ap (λ (o : Option Id). name_child o x.entry.key (BitOf x.room) n (bits_in m n)) (sym s.above_is)
             ∙ ap (λ (z : Node). name_child s.at.above x.entry.key z n (bits_in m n)) (sym name);
       } in (
         u.part,
         u.tree,
         subst (λ (z : Node). Exchanged m new x.entry.key whole s.at u.part z)
-            (ap (λ (o : Option Id). root_after o (name_of u.part.tree) (name_of whole.tree)) s.above_is ∙ ap (λ (z : Node). root_after above z (name_of whole.tree)) name ∙ ap (λ (z : Node). root_after above (BitOf x.room) z) named)
-            (exchanged m new x.entry.key whole s.at s.ups u.part s.way s.top s.once e),
+            (ap (λ (o : Option Id). root_after o (name_of u.part.tree) (name_of whole.tree)) s.above_is
+            ∙ ap (λ (z : Node). root_after above z (name_of whole.tree)) name ∙ ap (λ (z : Node). root_after above (BitOf x.room) z) named)
+            (exchanged m new whole s.at s.ups s.way s.top s.once e),
       )

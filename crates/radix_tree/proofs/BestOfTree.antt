@@ -1,12 +1,8 @@
 -- The best route that is found in a tree is that of its list of routes.
 use Rattle.std.proofs.Common.{◌≡◌, ℕ, ◌<◌, ◌≤◌, ◌⊎◌, List, [], ◌∷◌, ◌++◌, map, Option, Some, None, refl, inl, inr, ⊎_elim, sym, ap, subst, arith}
-use Rattle.std.specs.Prelude.{Contains}
-use Rattle.std.specs.List.{AllByRecursion}
-use Rattle.radix_tree.specs.Table.{best_of}
-use Rattle.radix_tree.specs.TableLaws.{StandsIn, Agrees}
-use Rattle.radix_tree.specs.Tree.{Placed, Tree, leaf, fork, Covers, IsAmong, IsIn, IsTree, routes_of}
-use Rattle.radix_tree.specs.Searches.{Best}
-use Rattle.radix_tree.specs.declared.entry.Entry.{Entry}
+use Rattle.radix_tree.proofs.Words.{Contains, AllByRecursion, best_of, StandsIn, Agrees, Placed, Tree, leaf, fork, IsAmong, IsIn, IsTree, routes_of, Best}
+use Rattle.radix_tree.proofs.Words.{Entry}
+use Rattle.radix_tree.specs.Tree.{Covers}
 use Rattle.radix_tree.proofs.MemberLemmas.{all_contains, all_stand, members_stand, best_is_member}
 use Rattle.radix_tree.proofs.LawLemmas.{best_is_unique}
 use Rattle.radix_tree.proofs.TreeOrder.{all_in, tree_is_table}
@@ -67,7 +63,8 @@ module _ {V : Type 0} where
   below_34 : (low : ℕ) (t : Tree V) → IsTree low t → (y : Placed V) → IsIn y t → y.entry.rank < 34
   below_34 low t is y at = let most : y.entry.rank ≤ 33 = (tree_route low t is y at).rank in omega arith
 
-  pub some_best : (address low : ℕ) (t : Tree V) → IsTree low t → (x : Placed V) → Best address 0 34 (λ y. IsIn y t) (Some x) → best_of address (routes_of t) ≡ Some x.entry
+  pub some_best : (address low : ℕ) (t : Tree V) → IsTree low t → (x : Placed V) → Best address 0 34 (λ y. IsIn y t) (Some x)
+      → best_of address (routes_of t) ≡ Some x.entry
   some_best address low t is x best = best_is_unique address (routes_of t) x.entry (tree_is_table low t is) (record {
     stands = stands_in low t is x best.0;
     agrees = agreeing address x.entry best.1;
@@ -77,12 +74,14 @@ module _ {V : Type 0} where
         (best.2 of.0 of.1 (covering address of.0.entry (subst (λ (e : Entry V). Agrees address e) (sym of.2) agrees)) (below_34 low t is of.0 of.1));
   })
 
-  none_of : (address low : ℕ) (t : Tree V) → IsTree low t → Best address 0 34 (λ y. IsIn y t) None → (o : Option (Entry V)) → best_of address (routes_of t) ≡ o → o ≡ None
+  none_of : (address low : ℕ) (t : Tree V) → IsTree low t → Best address 0 34 (λ y. IsIn y t) None → (o : Option (Entry V)) → best_of address (routes_of t) ≡ o
+      → o ≡ None
   none_of address low t is best None e = refl
   none_of address low t is best (Some f) e =
       let member = best_is_member address (routes_of t) f e in
       let of = member_of t f member.0 in
-      let never : of.0.entry.rank < 0 = best of.0 of.1 (covering address of.0.entry (subst (λ (g : Entry V). Agrees address g) (sym of.2) member.1)) (below_34 low t is of.0 of.1) in
+      let never : of.0.entry.rank < 0 =
+      best of.0 of.1 (covering address of.0.entry (subst (λ (g : Entry V). Agrees address g) (sym of.2) member.1)) (below_34 low t is of.0 of.1) in
       absurd (omega arith)
 
   pub no_best : (address low : ℕ) (t : Tree V) → IsTree low t → Best address 0 34 (λ y. IsIn y t) None → best_of address (routes_of t) ≡ None

@@ -1,18 +1,11 @@
 -- A walk along a chain to the gap for a rank.
-use Rattle.std.proofs.Common.{◌≡◌, ℕ, ◌+◌, ◌<◌, ◌≤◌, List, [], ◌∷◌, ◌++◌, length, Option, Some, None, true, true≢false, Equal, Greater, refl, sym, ap, ◌∙◌, subst, inl, inr, ⊎_elim, arith}
+use Rattle.std.proofs.Common.{◌≡◌, ℕ, ◌+◌, ◌<◌, ◌≤◌, List, [], ◌∷◌, ◌++◌, length, Option, Some, None, true, true≢false, Equal, Greater, refl, sym, ap, ◌∙◌}
+use Rattle.std.proofs.Common.{subst, inl, inr, ⊎_elim, arith}
 use Rattle.std.proofs.lemmas.List.{append_assoc}
 use Rattle.std.proofs.lemmas.Bool.{cases_eq, cases_lt}
 use Rattle.std.specs.Cmp.{nat_cmp_is}
-use Rattle.std.specs.Ordering.{nat_cmp, is_lt}
-use Rattle.std.specs.FinMap.{FinMap}
-use Rattle.radix_nodes.specs.Rooms.{Seen, Has}
-use Rattle.radix_nodes.specs.Links.{leaf_of}
-use Rattle.radix_nodes.specs.declared.id.Id.{Id}
-use Rattle.radix_nodes.specs.declared.links.Leaf.{Leaf}
-use Rattle.radix_nodes.specs.declared.links.Links.{Links}
-use Rattle.radix_tree.specs.Tree.{Placed, IsAmong}
-use Rattle.radix_tree.specs.Rooms.{Leaves, Run, leaves_in, first_room, leaf_part, ChainStands}
-use Rattle.radix_tree.specs.Chains.{above_behind, last_room, ArePast, IsBelow, Passed, FindsGap}
+use Rattle.radix_tree.proofs.Words.{nat_cmp, is_lt, Has, leaf_of, Id, Leaf, Links, Placed, IsAmong, Leaves, Run, leaves_in, first_room, leaf_part, ChainStands}
+use Rattle.radix_tree.proofs.Words.{above_behind, last_room, ArePast, IsBelow, Passed, FindsGap, Lodged}
 use Rattle.radix_tree.proofs.RoomReads.{none_some, AreLinks, Has-leaf, leaf_read}
 use Rattle.radix_tree.proofs.TreeMembers.{IsHead, head_of}
 use Rattle.radix_tree.proofs.Scans.{chain_most}
@@ -31,10 +24,12 @@ module _ {V : Type 0} where
   none_behind (x ∷ front) = refl
 
   -- what is behind stands too
-  pub behind_stands : (L : Leaves V) (above previous : Option Id) (front back : List (Placed V)) → ChainStands L above previous (front ++ back) → ChainStands L (above_behind above front) (last_room previous front) back
+  pub behind_stands : (L : Leaves V) (above previous : Option Id) (front back : List (Placed V)) → ChainStands L above previous (front ++ back)
+      → ChainStands L (above_behind above front) (last_room previous front) back
   behind_stands L above previous [] back stands = stands
   behind_stands L above previous (y ∷ front) back stands =
-      subst (λ (a : Option Id). ChainStands L a (last_room (Some y.room) front) back) (none_behind front) (behind_stands L None (Some y.room) front back stands.1)
+      subst (λ (a : Option Id). ChainStands L a (last_room (Some y.room) front) back) (none_behind front)
+      (behind_stands L None (Some y.room) front back stands.1)
 
   -- ---- a member more in front
   past_more : (rank : ℕ) (front : List (Placed V)) (x : Placed V) → ArePast rank front → rank < x.entry.rank → ArePast rank (front ++ (x ∷ []))
@@ -50,25 +45,28 @@ module _ {V : Type 0} where
   last_more previous (y ∷ front) x = last_more (Some y.room) front x
 
   -- ---- the member that a walk has come to
-  pub head_said : (m : FinMap nat_cmp (Seen V)) (above previous : Option Id) (ms : List (Placed V)) (at : Id) (x : IsHead ms at) → ChainStands (leaves_in m) above previous ms
+  pub head_said : (m : Lodged V) (above previous : Option Id) {ms : List (Placed V)} {at : Id} (x : IsHead ms at) → ChainStands (leaves_in m) above previous ms
       → leaves_in m at.number ≡ Some (leaf_part x.first above previous (first_room x.behind))
-  head_said m above previous ms at x stands = ap (λ (i : Id). leaves_in m i.number) (sym x.room_is) ∙ (subst (ChainStands (leaves_in m) above previous) x.is stands).0
+  head_said m above previous x stands = ap (λ (i : Id). leaves_in m i.number) (sym x.room_is) ∙ (subst (ChainStands (leaves_in m) above previous) x.is stands).0
 
-  head_there : (m : FinMap nat_cmp (Seen V)) (above previous : Option Id) (ms : List (Placed V)) (at : Id) → IsHead ms at → ChainStands (leaves_in m) above previous ms → Has m at
-  head_there m above previous ms at x stands =
-      Has-leaf m at (leaf_part x.first above previous (first_room x.behind)) (head_said m above previous ms at x stands) (ap (λ (i : Id). i.block) x.room_is)
+  head_there : (m : Lodged V) (above previous : Option Id) {ms : List (Placed V)} (at : Id) → IsHead ms at → ChainStands (leaves_in m) above previous ms
+      → Has m at
+  head_there m above previous at x stands =
+      Has-leaf m at (head_said m above previous x stands) (ap (λ (i : Id). i.block) x.room_is)
 
-  head_read : (m : FinMap nat_cmp (Seen V)) (above previous : Option Id) (ms : List (Placed V)) (at : Id) (links : Links) (l : Leaf) (x : IsHead ms at) → ChainStands (leaves_in m) above previous ms → AreLinks m at links → l ≡ leaf_of links
+  head_read : (m : Lodged V) (above previous : Option Id) {ms : List (Placed V)} (at : Id) (links : Links) (l : Leaf) (x : IsHead ms at)
+      → ChainStands (leaves_in m) above previous ms → AreLinks m at links → l ≡ leaf_of links
       → l ≡ record { key = x.first.entry.key; rank = x.first.entry.rank; above = above; next = first_room x.behind; previous = previous }
-  head_read m above previous ms at links l x stands are is = is
-      ∙ leaf_read m at (leaf_part x.first above previous (first_room x.behind)) links (head_said m above previous ms at x stands) (ap (λ (i : Id). i.block) x.room_is) are
+  head_read m above previous at links l x stands are is = is
+      ∙ leaf_read m at links (head_said m above previous x stands) (ap (λ (i : Id). i.block) x.room_is) are
 
-  pub Has-first : (m : FinMap nat_cmp (Seen V)) (c : Run m) (first : Id) → first_room c.members ≡ Some first → Has m first
-  Has-first m c first begins = head_there m c.above c.previous c.members first (head_of c.members first begins) c.stands
+  pub Has-first : {m : Lodged V} (c : Run m) (first : Id) → first_room c.members ≡ Some first → Has m first
+  Has-first {m = m} c first begins = head_there m c.above c.previous first (head_of c.members begins) c.stands
 
-  pub begun : (m : FinMap nat_cmp (Seen V)) (rank : ℕ) (c : Run m) (first : Id) (links : Links) (l : Leaf) → first_room c.members ≡ Some first → AreLinks m first links → l ≡ leaf_of links → Passed rank c l.above l.previous (Some first) 1
-  begun m rank c first links l begins are is =
-      let read = head_read m c.above c.previous c.members first links l (head_of c.members first begins) c.stands are is in
+  pub begun : {m : Lodged V} (rank : ℕ) (c : Run m) (first : Id) (links : Links) {l : Leaf} → first_room c.members ≡ Some first → AreLinks m first links
+      → l ≡ leaf_of links → Passed rank c l.above l.previous (Some first) 1
+  begun {m = m} rank c first links {l = l} begins are is =
+      let read = head_read m c.above c.previous first links l (head_of c.members begins) c.stands are is in
       let most : length c.members ≤ 34 = chain_most c.key c.top c.members c.is in
       record {
         front = [];
@@ -81,35 +79,40 @@ module _ {V : Type 0} where
         few = omega arith;
       }
 
-  rest_stands : (m : FinMap nat_cmp (Seen V)) (rank : ℕ) (c : Run m) (above previous next : Option Id) (steps : ℕ) (p : Passed rank c above previous next steps)
+  rest_stands : (m : Lodged V) {rank : ℕ} (c : Run m) {above previous next : Option Id} {steps : ℕ} (p : Passed rank c above previous next steps)
       → ChainStands (leaves_in m) (above_behind c.above p.front) (last_room c.previous p.front) p.back
-  rest_stands m rank c above previous next steps p = behind_stands (leaves_in m) c.above c.previous p.front p.back (subst (ChainStands (leaves_in m) c.above c.previous) p.is c.stands)
+  rest_stands m c p = behind_stands (leaves_in m) c.above c.previous p.front p.back (subst (ChainStands (leaves_in m) c.above c.previous) p.is c.stands)
 
-  member_at : (m : FinMap nat_cmp (Seen V)) (rank : ℕ) (c : Run m) (above previous next : Option Id) (steps : ℕ) (at : Id) (p : Passed rank c above previous next steps) → next ≡ Some at → IsHead p.back at
-  member_at m rank c above previous next steps at p is = head_of p.back at (sym p.next_is ∙ is)
+  member_at : (m : Lodged V) {rank : ℕ} {c : Run m} {above previous next : Option Id} {steps : ℕ} {at : Id} (p : Passed rank c above previous next steps)
+      → next ≡ Some at → IsHead p.back at
+  member_at m p is = head_of p.back (sym p.next_is ∙ is)
 
-  pub Has-at : (m : FinMap nat_cmp (Seen V)) (rank : ℕ) (c : Run m) (above previous next : Option Id) (steps : ℕ) (at : Id) → Passed rank c above previous next steps → next ≡ Some at → Has m at
-  Has-at m rank c above previous next steps at p is =
-      head_there m (above_behind c.above p.front) (last_room c.previous p.front) p.back at (member_at m rank c above previous next steps at p is) (rest_stands m rank c above previous next steps p)
+  pub Has-at : (m : Lodged V) {rank : ℕ} (c : Run m) {above previous next : Option Id} {steps : ℕ} (at : Id) → Passed rank c above previous next steps
+      → next ≡ Some at → Has m at
+  Has-at m c at p is =
+      head_there m (above_behind c.above p.front) (last_room c.previous p.front) at (member_at m p is) (rest_stands m c p)
 
-  pub few_at : (m : FinMap nat_cmp (Seen V)) (rank : ℕ) (c : Run m) (above previous next : Option Id) (steps : ℕ) (at : Id) → Passed rank c above previous next steps → next ≡ Some at → steps ≤ 34
-  few_at m rank c above previous next steps at p is =
-      let x = member_at m rank c above previous next steps at p is in
+  pub few_at : (m : Lodged V) {rank : ℕ} (c : Run m) {above previous next : Option Id} (steps : ℕ) {at : Id} → Passed rank c above previous next steps
+      → next ≡ Some at → steps ≤ 34
+  few_at m c steps p is =
+      let x = member_at m p is in
       let some : length p.back ≡ length (x.first ∷ x.behind) = ap (λ (ms : List (Placed V)). length ms) x.is in
       let few : steps + length p.back ≤ 35 = p.few in omega arith
 
-  read_at : (m : FinMap nat_cmp (Seen V)) (rank : ℕ) (c : Run m) (above previous next : Option Id) (steps : ℕ) (at : Id) (links : Links) (l : Leaf) (p : Passed rank c above previous next steps) (is : next ≡ Some at) → AreLinks m at links → l ≡ leaf_of links
+  read_at : (m : Lodged V) {rank : ℕ} (c : Run m) {above previous next : Option Id} {steps : ℕ} (at : Id) (links : Links) (l : Leaf)
+      (p : Passed rank c above previous next steps) (is : next ≡ Some at) → AreLinks m at links → l ≡ leaf_of links
       → (x : IsHead p.back at) × (l.rank ≡ x.first.entry.rank) × (l.next ≡ first_room x.behind)
-  read_at m rank c above previous next steps at links l p is are leaf =
-      let x = member_at m rank c above previous next steps at p is in
-      let read = head_read m (above_behind c.above p.front) (last_room c.previous p.front) p.back at links l x (rest_stands m rank c above previous next steps p) are leaf in
+  read_at m c at links l p is are leaf =
+      let x = member_at m p is in
+      let read = head_read m (above_behind c.above p.front) (last_room c.previous p.front) at links l x (rest_stands m c p) are leaf in
       (x, ap (λ (z : Leaf). z.rank) read, ap (λ (z : Leaf). z.next) read)
 
   -- a member of a greater rank is passed
-  pub passed : (m : FinMap nat_cmp (Seen V)) (rank : ℕ) (c : Run m) (above previous next : Option Id) (steps : ℕ) (at : Id) (links : Links) (l : Leaf) → Passed rank c above previous next steps → next ≡ Some at → AreLinks m at links → l ≡ leaf_of links
+  pub passed : (m : Lodged V) (rank : ℕ) (c : Run m) {above previous next : Option Id} (steps : ℕ) (at : Id) (links : Links) {l : Leaf}
+      → Passed rank c above previous next steps → next ≡ Some at → AreLinks m at links → l ≡ leaf_of links
       → rank < l.rank → Passed rank c None (Some at) l.next (steps + 1)
-  passed m rank c above previous next steps at links l p is are leaf lt =
-      let r = read_at m rank c above previous next steps at links l p is are leaf in
+  passed m rank c steps at links {l = l} p is are leaf lt =
+      let r = read_at m c at links l p is are leaf in
       let x = r.0 in
       let same : l.rank ≡ x.first.entry.rank = r.1 in
       let few : steps + length p.back ≤ 35 = p.few in
@@ -130,19 +133,21 @@ module _ {V : Type 0} where
   among_behind (y ∷ front) back x is = inr (among_behind front back x is)
 
   -- a member has the rank
-  pub taken : (m : FinMap nat_cmp (Seen V)) (key rank : ℕ) (c : Run m) (above previous next : Option Id) (steps : ℕ) (at : Id) (links : Links) (l : Leaf) → Passed rank c above previous next steps → next ≡ Some at → AreLinks m at links → l ≡ leaf_of links
+  pub taken : (m : Lodged V) (key : ℕ) {rank : ℕ} (c : Run m) {above previous next : Option Id} {steps : ℕ} (at : Id) (links : Links) {l : Leaf}
+      → Passed rank c above previous next steps → next ≡ Some at → AreLinks m at links → l ≡ leaf_of links
       → l.rank ≡ rank → FindsGap key rank c None
-  taken m key rank c above previous next steps at links l p is are leaf same =
-      let r = read_at m rank c above previous next steps at links l p is are leaf in
+  taken m key c at links {l = l} p is are leaf same =
+      let r = read_at m c at links l p is are leaf in
       let x = r.0 in (
         x.first,
         subst (IsAmong x.first) (sym p.is) (among_behind p.front p.back x.first (subst (IsAmong x.first) (sym x.is) (inl refl))),
         sym r.1 ∙ same,
       )
 
-  gap_of : (m : FinMap nat_cmp (Seen V)) (key rank : ℕ) (c : Run m) (above previous next : Option Id) (steps : ℕ) (p : Passed rank c above previous next steps) → IsBelow rank p.back
+  gap_of : (m : Lodged V) (key rank : ℕ) (c : Run m) (above previous next : Option Id) {steps : ℕ} (p : Passed rank c above previous next steps)
+      → IsBelow rank p.back
       → FindsGap key rank c (Some (record { key = key; rank = rank; above = above; next = next; previous = previous }))
-  gap_of m key rank c above previous next steps p below = record {
+  gap_of m key rank c above previous next p below = record {
     front = p.front;
     back = p.back;
     is = p.is;
@@ -154,20 +159,22 @@ module _ {V : Type 0} where
   }
 
   -- the first one of a smaller rank
-  pub found : (m : FinMap nat_cmp (Seen V)) (key rank : ℕ) (c : Run m) (above previous next : Option Id) (steps : ℕ) (at : Id) (links : Links) (l : Leaf) → Passed rank c above previous next steps → next ≡ Some at → AreLinks m at links → l ≡ leaf_of links
+  pub found : (m : Lodged V) (key rank : ℕ) (c : Run m) {above previous next : Option Id} {steps : ℕ} (at : Id) (links : Links) {l : Leaf}
+      → Passed rank c above previous next steps → next ≡ Some at → AreLinks m at links → l ≡ leaf_of links
       → l.rank < rank → FindsGap key rank c (Some (record { key = key; rank = rank; above = above; next = next; previous = previous }))
-  found m key rank c above previous next steps at links l p is are leaf lt =
-      let r = read_at m rank c above previous next steps at links l p is are leaf in
+  found m key rank c {above = above} {previous = previous} {next = next} at links {l = l} p is are leaf lt =
+      let r = read_at m c at links l p is are leaf in
       let x = r.0 in
       let same : l.rank ≡ x.first.entry.rank = r.1 in
       let less : x.first.entry.rank < rank = omega arith in
-      gap_of m key rank c above previous next steps p (subst (IsBelow rank) (sym x.is) less)
+      gap_of m key rank c above previous next p (subst (IsBelow rank) (sym x.is) less)
 
   none_below : (rank : ℕ) (back : List (Placed V)) → first_room back ≡ None → IsBelow rank back
   none_below rank [] ends = tt
   none_below rank (x ∷ back) ends = absurd (none_some (sym ends))
 
   -- the end of the chain
-  pub ended : (m : FinMap nat_cmp (Seen V)) (key rank : ℕ) (c : Run m) (above previous next : Option Id) (steps : ℕ) → Passed rank c above previous next steps → next ≡ None
+  pub ended : (m : Lodged V) (key rank : ℕ) (c : Run m) {above previous next : Option Id} {steps : ℕ} → Passed rank c above previous next steps → next ≡ None
       → FindsGap key rank c (Some (record { key = key; rank = rank; above = above; next = next; previous = previous }))
-  ended m key rank c above previous next steps p is = gap_of m key rank c above previous next steps p (none_below rank p.back (sym p.next_is ∙ is))
+  ended m key rank c {above = above} {previous = previous} {next = next} p is =
+      gap_of m key rank c above previous next p (none_below rank p.back (sym p.next_is ∙ is))

@@ -1,25 +1,12 @@
 -- A route comes into the chain of its key.
-use Rattle.std.proofs.Common.{◌≡◌, ℕ, ◌≤◌, ◌==◌, ◌||◌, Bool, true, false, if◌then◌else◌, List, [], ◌∷◌, ◌++◌, Option, Some, None, refl, sym, ap, ◌∙◌, subst, arith}
-use Rattle.std.specs.Prelude.{is_some}
+use Rattle.std.proofs.Common.{◌≡◌, ℕ, ◌≤◌, ◌==◌, ◌||◌, Bool, true, false, if◌then◌else◌, List, [], ◌∷◌, ◌++◌, Option, Some, None, refl, sym, ap, ◌∙◌, subst}
+use Rattle.std.proofs.Common.{arith}
 use Rattle.std.proofs.lemmas.Bool.{ne_eqb}
-use Rattle.std.specs.Ordering.{nat_cmp}
-use Rattle.std.specs.FinMap.{FinMap}
-use Rattle.radix_nodes.specs.Rooms.{Seen, Has}
-use Rattle.radix_nodes.specs.declared.id.Id.{Id}
-use Rattle.radix_nodes.specs.declared.links.Leaf.{Leaf}
-use Rattle.radix_nodes.specs.declared.links.Node.{Node}
-use Rattle.radix_nodes.specs.declared.links.Node.TheVariants.{Leaf as LeafOf}
-use Rattle.radix_tree.specs.Table.{IsRoute}
-use Rattle.radix_tree.specs.Tree.{Placed, Tree, leaf, IsIn, IsChain}
-use Rattle.radix_tree.specs.Rooms.{LeafPart, Part, Run, Leaves, leaves_in, bits_in, masks_in, name_of, first_room, leaf_part, ChainStands}
-use Rattle.radix_tree.specs.Searches.{Way, LedTo, ForkAt, HasPair}
-use Rattle.radix_tree.specs.Whole.{one_if, members_at, leaves_at, IsWhole, shown}
-use Rattle.radix_tree.specs.Growth.{name_child, root_after, placed, Gains, AreOnce}
-use Rattle.radix_tree.specs.Marks.{IsWholeBut, nobody_late, late_at, nobody_out}
-use Rattle.radix_tree.specs.Writes.{lodge_leaf, KeepsBits, KeepsHeads, KeepsMasks}
-use Rattle.radix_tree.specs.Chains.{leaf_next, leaf_back, name_next, name_back, link_in, above_behind, last_room, root_past, IsGap, FindsGap}
-use Rattle.radix_tree.specs.Removal.{Content, content_of}
-use Rattle.radix_tree.specs.declared.entry.Entry.{Entry}
+use Rattle.radix_tree.proofs.Words.{is_some, Has, Id, Leaf, Node, LeafOf, IsRoute, Placed, Tree, leaf, IsIn, IsChain, LeafPart, Part, Run, Leaves, leaves_in}
+use Rattle.radix_tree.proofs.Words.{bits_in, masks_in, name_of, first_room, leaf_part, ChainStands, Way, LedTo, ForkAt, HasPair, one_if, members_at, leaves_at}
+use Rattle.radix_tree.proofs.Words.{IsWhole, shown, name_child, root_after, placed, Gains, AreOnce, IsWholeBut, late_at, nobody_out, lodge_leaf, KeepsBits}
+use Rattle.radix_tree.proofs.Words.{KeepsHeads, KeepsMasks, leaf_next, leaf_back, name_next, name_back, link_in, above_behind, last_room, root_past, IsGap}
+use Rattle.radix_tree.proofs.Words.{FindsGap, Content, content_of, Entry, Lodged}
 use Rattle.radix_tree.proofs.RoomReads.{inside, none_some, Has-leaf}
 use Rattle.radix_tree.proofs.Parts.{leaf_run, in_leaf, way_inside}
 use Rattle.radix_tree.proofs.TreeMembers.{chain_key, tree_said}
@@ -27,66 +14,77 @@ use Rattle.radix_tree.proofs.PartRooms.{way_once}
 use Rattle.radix_tree.proofs.Lodging.{over_at, stays}
 use Rattle.radix_tree.proofs.Beside.{not_new}
 use Rattle.radix_tree.proofs.ChainRooms.{room_route}
-use Rattle.radix_tree.proofs.WholeChanges.{whole_but, once_but}
+use Rattle.radix_tree.proofs.WholeParts.{whole_but, once_but}
 use Rattle.radix_tree.proofs.ChainGaps.{behind_stands}
 use Rattle.radix_tree.proofs.ChainLinks.{linked_in, in_others}
 use Rattle.radix_tree.proofs.ChainLists.{cons_at, chain_more}
-use Rattle.radix_tree.proofs.ChainWholes.{Rechained, front_named, place_bits, place_root, grown_whole, grown_routes}
+use Rattle.radix_tree.proofs.ChainExchanges.{Rechained, front_named, place_bits, place_root}
+use Rattle.radix_tree.proofs.ChainWholes.{grown_whole, grown_routes}
 
 module _ {V : Type 0} where
   -- ---- members on both sides of a place are in the map
   abbrev pub Said : Leaves V → Placed V → Type 0
   Said L x = (a : Option Id) × (p : Option Id) × (n : Option Id) × (L x.room.number ≡ Some (leaf_part x a p n))
 
-  said_there : (m : FinMap nat_cmp (Seen V)) (x : Placed V) (r : Id) → Said (leaves_in m) x → x.room ≡ r → Has m r
-  said_there m x r s same = subst (Has m) same (Has-leaf m x.room (leaf_part x s.0 s.1 s.2) s.3 refl)
+  said_there : (m : Lodged V) (x : Placed V) (r : Id) → Said (leaves_in m) x → x.room ≡ r → Has m r
+  said_there m x r s same = subst (Has m) same (Has-leaf m x.room s.3 refl)
 
-  pub first_there : (m : FinMap nat_cmp (Seen V)) (above previous : Option Id) (c : List (Placed V)) (r : Id) → ChainStands (leaves_in m) above previous c → first_room c ≡ Some r → Has m r
+  pub first_there : (m : Lodged V) (above previous : Option Id) (c : List (Placed V)) (r : Id) → ChainStands (leaves_in m) above previous c
+      → first_room c ≡ Some r → Has m r
   first_there m above previous [] r stands is = absurd (none_some is)
   first_there m above previous (x ∷ c) r stands is = said_there m x r (above, previous, first_room c, stands.0) (inside is)
 
-  pub last_there : (m : FinMap nat_cmp (Seen V)) (above previous : Option Id) (front back : List (Placed V)) (r : Id) → ChainStands (leaves_in m) above previous (front ++ back) → last_room None front ≡ Some r → Has m r
+  pub last_there : (m : Lodged V) (above previous : Option Id) (front back : List (Placed V)) (r : Id)
+      → ChainStands (leaves_in m) above previous (front ++ back) → last_room None front ≡ Some r → Has m r
   last_there m above previous [] back r stands is = absurd (none_some is)
   last_there m above previous (x ∷ []) back r stands is = said_there m x r (above, previous, first_room back, stands.0) (inside is)
   last_there m above previous (x ∷ y ∷ front) back r stands is = last_there m None (Some x.room) (y ∷ front) back r stands.1 is
 
   -- the bit node above a place, where there is one
-  pub place_above : (m : FinMap nat_cmp (Seen V)) (key : ℕ) (whole at : Part m) (ups : List (Part m)) (front : List (Placed V)) (up : Id) → Way key whole at ups → whole.above ≡ None → above_behind at.above front ≡ Some up
+  pub place_above : (m : Lodged V) (key : ℕ) (whole at : Part m) (ups : List (Part m)) (front : List (Placed V)) {up : Id} → Way key whole at ups
+      → whole.above ≡ None → above_behind at.above front ≡ Some up
       → (p : Part m) × ForkAt p up
-  place_above m key whole at ups [] up way top is = over_at m key whole at ups at.above up way top refl is
-  place_above m key whole at ups (f ∷ front) up way top is = absurd (none_some is)
+  place_above m key whole at ups [] way top is = over_at m key whole at ups way top refl is
+  place_above m key whole at ups (f ∷ front) way top is = absurd (none_some is)
 
   -- ---- the gap in the chain of a leaf
-  abbrev pub chain_of : (m : FinMap nat_cmp (Seen V)) (key : ℕ) (whole : Part m) (first : Id) → LedTo key whole first → Run m
-  chain_of m key whole first d = leaf_run m d.part first d.leaf
+  abbrev pub chain_of : (m : Lodged V) {key : ℕ} {whole : Part m} {first : Id} → LedTo key whole first → Run m
+  chain_of m d = leaf_run m d.leaf
 
-  pub gap_before : (m : FinMap nat_cmp (Seen V)) (key rank : ℕ) (whole : Part m) (first : Id) (d : LedTo key whole first) (l : Leaf) → IsGap rank (chain_of m key whole first d) key l → (r : Id) → l.previous ≡ Some r → Has m r
-  gap_before m key rank whole first d l g r is =
-      let c = chain_of m key whole first d in
-      last_there m d.part.above None g.front g.back r (subst (ChainStands (leaves_in m) d.part.above None) g.is c.stands) (sym (ap (λ (z : Leaf). z.previous) g.leaf) ∙ is)
+  pub gap_before : (m : Lodged V) {key rank : ℕ} {whole : Part m} {first : Id} (d : LedTo key whole first) {l : Leaf} → IsGap rank (chain_of m d) key l
+      → (r : Id) → l.previous ≡ Some r → Has m r
+  gap_before m d g r is =
+      let c = chain_of m d in
+      last_there m d.part.above None g.front g.back r (subst (ChainStands (leaves_in m) d.part.above None) g.is c.stands)
+      (sym (ap (λ (z : Leaf). z.previous) g.leaf) ∙ is)
 
-  pub gap_behind : (m : FinMap nat_cmp (Seen V)) (key rank : ℕ) (whole : Part m) (first : Id) (d : LedTo key whole first) (l : Leaf) → IsGap rank (chain_of m key whole first d) key l → (r : Id) → l.next ≡ Some r → Has m r
-  gap_behind m key rank whole first d l g r is =
-      let c = chain_of m key whole first d in
+  pub gap_behind : (m : Lodged V) {key rank : ℕ} {whole : Part m} {first : Id} (d : LedTo key whole first) {l : Leaf} → IsGap rank (chain_of m d) key l
+      → (r : Id) → l.next ≡ Some r → Has m r
+  gap_behind m d g r is =
+      let c = chain_of m d in
       first_there m (above_behind d.part.above g.front) (last_room None g.front) g.back r
-      (behind_stands (leaves_in m) d.part.above None g.front g.back (subst (ChainStands (leaves_in m) d.part.above None) g.is c.stands)) (sym (ap (λ (z : Leaf). z.next) g.leaf) ∙ is)
+      (behind_stands (leaves_in m) d.part.above None g.front g.back (subst (ChainStands (leaves_in m) d.part.above None) g.is c.stands))
+      (sym (ap (λ (z : Leaf). z.next) g.leaf) ∙ is)
 
   -- it is there once the room is lodged
-  pub lodged_above : (m new : FinMap nat_cmp (Seen V)) (room : Id) (value : V) (l : Leaf) (up : Id) → leaves_in m room.number ≡ None → ((n : ℕ) → leaves_in new n ≡ lodge_leaf room value l n (leaves_in m n)) → KeepsBits m new
+  pub lodged_above : (m new : Lodged V) (room : Id) (value : V) (l : Leaf) (up : Id) → leaves_in m room.number ≡ None
+      → ((n : ℕ) → leaves_in new n ≡ lodge_leaf room value l n (leaves_in m n)) → KeepsBits m new
       → (p : Part m) × ForkAt p up → (p : Part new) × ForkAt p up
   lodged_above m new room value l up free leaves bits p = (
     stays m new p.0
-        (λ n some. leaves n ∙ ap (λ (t : Bool). if t then Some (record { block = room.block; value = value; leaf = l }) else leaves_in m n) (ne_eqb n room.number (not_new m p.0 room free n some)))
+        (λ n some. leaves n ∙ ap (λ (t : Bool). if t then Some (record { block = room.block; value = value; leaf = l }) else leaves_in m n)
+        (ne_eqb n room.number (not_new p.0 room free n some)))
         (λ n some. bits n),
     record { bit = p.1.bit; zero = p.1.zero; one = p.1.one; is = p.1.is },
   )
 
-  pub gap_above : (m : FinMap nat_cmp (Seen V)) (key rank : ℕ) (whole : Part m) (first : Id) (d : LedTo key whole first) (l : Leaf) → whole.above ≡ None → IsGap rank (chain_of m key whole first d) key l → (up : Id) → l.above ≡ Some up → (p : Part m) × ForkAt p up
-  gap_above m key rank whole first d l top g up is =
-      place_above m key whole d.part d.ups g.front up d.way top (sym (ap (λ (z : Leaf). z.above) g.leaf) ∙ is)
+  pub gap_above : (m : Lodged V) {key rank : ℕ} (whole : Part m) {first : Id} (d : LedTo key whole first) {l : Leaf} → whole.above ≡ None
+      → IsGap rank (chain_of m d) key l → (up : Id) → l.above ≡ Some up → (p : Part m) × ForkAt p up
+  gap_above m {key = key} whole d top g up is =
+      place_above m key whole d.part d.ups g.front d.way top (sym (ap (λ (z : Leaf). z.above) g.leaf) ∙ is)
 
   -- ---- what the writes leave
-  pub record IsWritten (m new : FinMap nat_cmp (Seen V)) (id : Id) (e : Entry V) (l : Leaf) : Type 0 where
+  pub record IsWritten (m new : Lodged V) (id : Id) (e : Entry V) (l : Leaf) : Type 0 where
     pub free : leaves_in m id.number ≡ None
     pub no_bit : bits_in m id.number ≡ None
     pub no_mask : masks_in m id.number ≡ None
@@ -111,12 +109,14 @@ module _ {V : Type 0} where
     | false ↦ refl
   ]
 
-  pub back_same : (behind above previous : Option Id) (n : ℕ) (said : Option (LeafPart V)) → content_of (name_back behind above previous n said) ≡ content_of said
+  pub back_same : (behind above previous : Option Id) (n : ℕ) (said : Option (LeafPart V))
+      → content_of (name_back behind above previous n said) ≡ content_of said
   back_same None above previous n said = refl
-  back_same (Some room) above previous n said = elim (n == room.number) as (λ t. content_of (if t then leaf_back above previous said else said) ≡ content_of said) [
-    | true ↦ back_content above previous said
-    | false ↦ refl
-  ]
+  back_same (Some room) above previous n said =
+      elim (n == room.number) as (λ t. content_of (if t then leaf_back above previous said else said) ≡ content_of said) [
+        | true ↦ back_content above previous said
+        | false ↦ refl
+      ]
 
   content_some : (o : Option (LeafPart V)) → is_some (content_of o) ≡ is_some o
   content_some None = refl
@@ -125,38 +125,45 @@ module _ {V : Type 0} where
   pub same_some : (o p : Option (LeafPart V)) → content_of o ≡ content_of p → is_some o ≡ is_some p
   same_some o p same = sym (content_some o) ∙ ap (λ (c : Option (Content V)). is_some c) same ∙ content_some p
 
-  lodged_some : (room : Id) (value : V) (l : Leaf) (n : ℕ) (said : Option (LeafPart V)) → is_some (lodge_leaf room value l n said) ≡ (n == room.number) || is_some said
+  lodged_some : (room : Id) (value : V) (l : Leaf) (n : ℕ) (said : Option (LeafPart V))
+      → is_some (lodge_leaf room value l n said) ≡ (n == room.number) || is_some said
   lodged_some room value l n said =
       elim (n == room.number) as (λ t. is_some (if t then Some (record { block = room.block; value = value; leaf = l }) else said) ≡ t || is_some said) [
         | true ↦ refl
         | false ↦ refl
       ]
 
-  pub linked_rooms : (m new : FinMap nat_cmp (Seen V)) (id : Id) (value : V) (l : Leaf) → ((n : ℕ) → leaves_in new n ≡ link_in id value l n (leaves_in m n)) → (n : ℕ) → is_some (leaves_in new n) ≡ (n == id.number) || is_some (leaves_in m n)
+  pub linked_rooms : (m new : Lodged V) (id : Id) (value : V) (l : Leaf) → ((n : ℕ) → leaves_in new n ≡ link_in id value l n (leaves_in m n)) → (n : ℕ)
+      → is_some (leaves_in new n) ≡ (n == id.number) || is_some (leaves_in m n)
   linked_rooms m new id value l is n = ap (λ (o : Option (LeafPart V)). is_some o) (is n)
       ∙ same_some (link_in id value l n (leaves_in m n)) (lodge_leaf id value l n (leaves_in m n))
-      (back_same l.next None (Some id) n (name_next l.previous (Some id) n (lodge_leaf id value l n (leaves_in m n))) ∙ next_same l.previous (Some id) n (lodge_leaf id value l n (leaves_in m n)))
+      (back_same l.next None (Some id) n (name_next l.previous (Some id) n (lodge_leaf id value l n (leaves_in m n)))
+      ∙ next_same l.previous (Some id) n (lodge_leaf id value l n (leaves_in m n)))
       ∙ lodged_some id value l n (leaves_in m n)
 
   cons_head : {x y : Placed V} {xs ys : List (Placed V)} → x ∷ xs ≡ y ∷ ys → x ≡ y
   cons_head e = cc
 
-  pub cons_key : (front back : List (Placed V)) (x z : Placed V) (zs : List (Placed V)) → z ∷ zs ≡ front ++ back → z.entry.key ≡ x.entry.key → (cons_at front back x).first.entry.key ≡ z.entry.key
+  pub cons_key : (front back : List (Placed V)) (x z : Placed V) (zs : List (Placed V)) → z ∷ zs ≡ front ++ back → z.entry.key ≡ x.entry.key
+      → (cons_at front back x).first.entry.key ≡ z.entry.key
   cons_key [] back x z zs is same = sym same
   cons_key (f ∷ front) back x z zs is same = ap (λ (p : Placed V). p.entry.key) (sym (cons_head is))
 
   -- no room is twice in the chain
-  pub chain_once : (m : FinMap nat_cmp (Seen V)) (key : ℕ) (whole at : Part m) (ups : List (Part m)) (z : Placed V) (zs c : List (Placed V)) → Way key whole at ups → AreOnce whole.tree → at.tree ≡ leaf z zs → z ∷ zs ≡ c → (n : ℕ) → members_at n c ≤ 1
-  chain_once m key whole at ups z zs c way once is same n =
-      let few : leaves_at n at.tree ≤ 1 = (way_once m key whole at ups way once).leaves n in
-      let counts : leaves_at n at.tree ≡ members_at n c = ap (λ (t : Tree V). leaves_at n t) is ∙ ap (λ (ms : List (Placed V)). members_at n ms) same in omega arith
+  pub chain_once : (m : Lodged V) (key : ℕ) (whole at : Part m) (ups : List (Part m)) {z : Placed V} {zs c : List (Placed V)} → Way key whole at ups
+      → AreOnce whole.tree → at.tree ≡ leaf z zs → z ∷ zs ≡ c → (n : ℕ) → members_at n c ≤ 1
+  chain_once m key whole at ups {c = c} way once is same n =
+      let few : leaves_at n at.tree ≤ 1 = (way_once key whole at ups way once).leaves n in
+      let counts : leaves_at n at.tree ≡ members_at n c = ap (λ (t : Tree V). leaves_at n t) is ∙ ap (λ (ms : List (Placed V)). members_at n ms) same in
+      omega arith
 
   -- the chain afterwards
-  abbrev pub in_chain : (m new : FinMap nat_cmp (Seen V)) (e : Entry V) (id first : Id) (root : Node) (w : IsWhole m root) (d : LedTo e.key w.part first) (l : Leaf) (g : IsGap e.rank (chain_of m e.key w.part first d) e.key l) → d.leaf.first.entry.key ≡ e.key → IsRoute e
+  abbrev pub in_chain : (m new : Lodged V) (e : Entry V) (id first : Id) {root : Node} (w : IsWhole m root) (d : LedTo e.key w.part first) (l : Leaf)
+      (g : IsGap e.rank (chain_of m d) e.key l) → d.leaf.first.entry.key ≡ e.key → IsRoute e
       → IsWritten m new id e l → Rechained m new e.key w.part d.part (g.front ++ g.back) (g.front ++ (placed id e ∷ g.back))
-  in_chain m new e id first root w d l g same route wr =
-      let c = chain_of m e.key w.part first d in
-      let once : (n : ℕ) → members_at n (g.front ++ g.back) ≤ 1 = chain_once m e.key w.part d.part d.ups d.leaf.first d.leaf.rest (g.front ++ g.back) d.way (once_but m root nobody_late nobody_out (whole_but m root w)) d.leaf.is g.is in
+  in_chain m new e id first w d l g same route wr =
+      let c = chain_of m d in
+      let once : (n : ℕ) → members_at n (g.front ++ g.back) ≤ 1 = chain_once m e.key w.part d.part d.ups d.way (once_but (whole_but w)) d.leaf.is g.is in
       let key = cons_key g.front g.back (placed id e) d.leaf.first d.leaf.rest g.is same in
       let most : e.rank ≤ 33 = route.rank in
       record {
@@ -165,48 +172,55 @@ module _ {V : Type 0} where
         is = d.leaf.is;
         key_is = key;
         chain = subst (λ (k : ℕ). IsChain k 34 (g.front ++ (placed id e ∷ g.back))) (sym key)
-            (chain_more d.leaf.first.entry.key 34 g.front g.back (placed id e) (subst (IsChain d.leaf.first.entry.key 34) g.is c.is) route (sym same) (omega arith) g.past g.below);
-        stands = linked_in (leaves_in m) (leaves_in new) d.part.above g.front g.back (placed id e) (subst (ChainStands (leaves_in m) d.part.above None) g.is c.stands) wr.free once
+            (chain_more 34 g.front g.back (placed id e) (subst (IsChain d.leaf.first.entry.key 34) g.is c.is) route (sym same) (omega arith) g.past g.below);
+        stands = linked_in (leaves_in m) (leaves_in new) d.part.above g.front g.back (placed id e)
+            (subst (ChainStands (leaves_in m) d.part.above None) g.is c.stands) wr.free once
             (λ n. wr.leaves n ∙ ap (λ (z : Leaf). link_in id e.value z n (leaves_in m n)) g.leaf);
-        leaves = λ n none some. in_others (leaves_in m) (leaves_in new) g.front g.back id e.value l n (ap (λ (z : Leaf). z.next) g.leaf) (ap (λ (z : Leaf). z.previous) g.leaf) (wr.leaves n) (not_new m w.part id wr.free n some) none;
+        leaves = λ n none some. in_others (leaves_in m) (leaves_in new) g.front g.back id e.value l n (ap (λ (z : Leaf). z.next) g.leaf)
+            (ap (λ (z : Leaf). z.previous) g.leaf) (wr.leaves n) (not_new w.part id wr.free n some) none;
         bits = λ n. wr.bits n ∙ ap (λ (z : Leaf). name_child z.above e.key (LeafOf id) n (bits_in m n)) g.leaf
-            ∙ place_bits m e.key w.part d.part d.ups g.front g.back (placed id e) d.way w.top (front_named d.part.tree d.leaf.first d.leaf.rest g.front g.back d.leaf.is g.is) n;
+            ∙ place_bits m e.key w.part d.part d.ups g.front g.back (placed id e) d.way w.top (front_named g.front g.back d.leaf.is g.is) n;
         heads = wr.heads;
         masks = wr.masks;
       }
 
-  in_name : (m new : FinMap nat_cmp (Seen V)) (e : Entry V) (id first : Id) (root : Node) (w : IsWhole m root) (d : LedTo e.key w.part first) (l : Leaf) (g : IsGap e.rank (chain_of m e.key w.part first d) e.key l)
+  in_name : (m new : Lodged V) (e : Entry V) (id : Id) {first : Id} (root : Node) (w : IsWhole m root) (d : LedTo e.key w.part first) (l : Leaf)
+      (g : IsGap e.rank (chain_of m d) e.key l)
       → root_after d.part.above (LeafOf (cons_at g.front g.back (placed id e)).first.room) (name_of w.part.tree) ≡ root_past l.previous l.above (LeafOf id) root
-  in_name m new e id first root w d l g = sym
+  in_name m new e id root w d l g = sym
       (ap (λ (z : Leaf). root_past z.previous z.above (LeafOf id) root) g.leaf
       ∙ ap (λ (r : Node). root_past (last_room None g.front) (above_behind d.part.above g.front) (LeafOf id) r) (sym w.named)
-      ∙ place_root m e.key w.part d.part d.ups g.front g.back (placed id e) d.way w.top (front_named d.part.tree d.leaf.first d.leaf.rest g.front g.back d.leaf.is g.is))
+      ∙ place_root m e.key w.part d.part d.ups g.front g.back (placed id e) d.way w.top (front_named g.front g.back d.leaf.is g.is))
 
-  pub inserted_whole : (m new : FinMap nat_cmp (Seen V)) (e : Entry V) (id first : Id) (root : Node) (w : IsWhole m root) (d : LedTo e.key w.part first) (l : Leaf) → IsGap e.rank (chain_of m e.key w.part first d) e.key l → d.leaf.first.entry.key ≡ e.key → IsRoute e
+  pub inserted_whole : (m new : Lodged V) (e : Entry V) (id first : Id) (root : Node) (w : IsWhole m root) (d : LedTo e.key w.part first) {l : Leaf}
+      → IsGap e.rank (chain_of m d) e.key l → d.leaf.first.entry.key ≡ e.key → IsRoute e
       → IsWritten m new id e l → IsWholeBut new (root_past l.previous l.above (LeafOf id) root) (late_at id.number) nobody_out
-  inserted_whole m new e id first root w d l g same route wr =
-      subst (λ (z : Node). IsWholeBut new z (late_at id.number) nobody_out) (in_name m new e id first root w d l g)
-      (grown_whole m new root e.key (whole_but m root w) d.part d.ups g.front g.back (placed id e) d.way (in_chain m new e id first root w d l g same route wr) wr.free wr.no_mask wr.no_bit (linked_rooms m new id e.value l wr.leaves))
+  inserted_whole m new e id first root w d {l = l} g same route wr =
+      subst (λ (z : Node). IsWholeBut new z (late_at id.number) nobody_out) (in_name m new e id root w d l g)
+      (grown_whole m new e.key (whole_but w) d.part d.ups g.front g.back (placed id e) d.way (in_chain m new e id first w d l g same route wr) wr.free
+      wr.no_mask wr.no_bit (linked_rooms m new id e.value l wr.leaves))
 
-  pub inserted_routes : (m new : FinMap nat_cmp (Seen V)) (e : Entry V) (id first : Id) (root : Node) (w : IsWhole m root) (d : LedTo e.key w.part first) (l : Leaf) → IsGap e.rank (chain_of m e.key w.part first d) e.key l → d.leaf.first.entry.key ≡ e.key → IsRoute e
+  pub inserted_routes : (m new : Lodged V) (e : Entry V) (id first : Id) (root : Node) (w : IsWhole m root) (d : LedTo e.key w.part first) {l : Leaf}
+      → IsGap e.rank (chain_of m d) e.key l → d.leaf.first.entry.key ≡ e.key → IsRoute e
       → IsWritten m new id e l → Gains e (shown m (Some root)) (shown new (Some (root_past l.previous l.above (LeafOf id) root)))
-  inserted_routes m new e id first root w d l g same route wr =
-      subst (λ (z : Node). Gains e (shown m (Some root)) (shown new (Some z))) (in_name m new e id first root w d l g)
-      (grown_routes m new root e.key (whole_but m root w) d.part d.ups g.front g.back (placed id e) d.way (in_chain m new e id first root w d l g same route wr))
+  inserted_routes m new e id first root w d {l = l} g same route wr =
+      subst (λ (z : Node). Gains e (shown m (Some root)) (shown new (Some z))) (in_name m new e id root w d l g)
+      (grown_routes m new root (whole_but w) d.part d.ups g.front g.back (placed id e) d.way (in_chain m new e id first w d l g same route wr))
 
   -- ---- a member has the rank
-  pub taken_there : (m : FinMap nat_cmp (Seen V)) (key rank : ℕ) (root : Node) (first : Id) (w v : IsWhole m root) (d : LedTo key w.part first) → d.leaf.first.entry.key ≡ key → FindsGap key rank (chain_of m key w.part first d) None
+  pub taken_there : {m : Lodged V} (key rank : ℕ) {root : Node} {first : Id} (w v : IsWhole m root) (d : LedTo key w.part first) → d.leaf.first.entry.key ≡ key
+      → FindsGap key rank (chain_of m d) None
       → (x : Placed V) × IsIn x v.part.tree × HasPair key rank x
-  taken_there m key rank root first w v d same g =
+  taken_there {m = m} key rank w v d same g =
       let x = g.0 in
-      let inside_leaf = in_leaf m d.part first d.leaf g.0 g.1 in
+      let inside_leaf = in_leaf m d.leaf g.0 g.1 in
       let own = way_inside m key w.part d.part d.ups d.way g.0 inside_leaf in
       let s = tree_said (leaves_in m) (bits_in m) w.part.above w.part.tree w.part.stands g.0 own in
       let p = leaf_part g.0 s.0 s.1 s.2 in
       let counts : leaves_at g.0.room.number v.part.tree ≡ one_if (is_some (leaves_in m g.0.room.number)) = v.leaves g.0.room.number in
       let one : one_if (is_some (leaves_in m g.0.room.number)) ≡ 1 = ap (λ (o : Option (LeafPart V)). one_if (is_some o)) s.3 in
-      let r = room_route m v.part g.0.room.number (leaf_part g.0 s.0 s.1 s.2) s.3 (omega arith) in
-      let c = chain_of m key w.part first d in (
+      let r = room_route m v.part g.0.room.number s.3 (omega arith) in
+      let c = chain_of m d in (
         r.route,
         r.is_in,
         (

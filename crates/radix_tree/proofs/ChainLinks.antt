@@ -1,13 +1,8 @@
 -- The links of a chain with a member more, and without it.
 use Rattle.std.proofs.Common.{◌≡◌, ℕ, ◌+◌, ◌≤◌, ◌==◌, Bool, if◌then◌else◌, List, [], ◌∷◌, ◌++◌, Option, Some, None, refl, sym, ap, ◌∙◌, arith}
 use Rattle.std.proofs.lemmas.Bool.{eq-eqb, ne_eqb}
-use Rattle.radix_nodes.specs.declared.id.Id.{Id}
-use Rattle.radix_nodes.specs.declared.links.Leaf.{Leaf}
-use Rattle.radix_tree.specs.Tree.{Placed}
-use Rattle.radix_tree.specs.Rooms.{LeafPart, Leaves, first_room, ChainStands}
-use Rattle.radix_tree.specs.Whole.{one_if, members_at}
-use Rattle.radix_tree.specs.Writes.{lodge_leaf}
-use Rattle.radix_tree.specs.Chains.{leaf_next, leaf_back, name_next, name_back, link_in, link_out, above_behind, last_room}
+use Rattle.radix_tree.proofs.Words.{Id, Leaf, Placed, LeafPart, Leaves, first_room, ChainStands, one_if, members_at, lodge_leaf, leaf_next, leaf_back}
+use Rattle.radix_tree.proofs.Words.{name_next, name_back, link_in, link_out, above_behind, last_room}
 use Rattle.radix_tree.proofs.RoomReads.{inside, none_some}
 use Rattle.radix_tree.proofs.PartRooms.{one_if_same, chain_frame}
 use Rattle.radix_tree.proofs.Forking.{chain_there}
@@ -22,11 +17,13 @@ off_room room n x y other = ap (λ (t : Bool). if t then x else y) (ne_eqb n roo
 
 module _ {V : Type 0} where
   -- ---- rooms that are not written
-  next_off : (before next : Option Id) (n : ℕ) (said : Option (LeafPart V)) → ((r : Id) → before ≡ Some r → n ≡ r.number → ⊥) → name_next before next n said ≡ said
+  next_off : (before next : Option Id) (n : ℕ) (said : Option (LeafPart V)) → ((r : Id) → before ≡ Some r → n ≡ r.number → ⊥)
+      → name_next before next n said ≡ said
   next_off None next n said other = refl
   next_off (Some room) next n said other = off_room room n (leaf_next next said) said (other room refl)
 
-  back_off : (behind above previous : Option Id) (n : ℕ) (said : Option (LeafPart V)) → ((r : Id) → behind ≡ Some r → n ≡ r.number → ⊥) → name_back behind above previous n said ≡ said
+  back_off : (behind above previous : Option Id) (n : ℕ) (said : Option (LeafPart V)) → ((r : Id) → behind ≡ Some r → n ≡ r.number → ⊥)
+      → name_back behind above previous n said ≡ said
   back_off None above previous n said other = refl
   back_off (Some room) above previous n said other = off_room room n (leaf_back above previous said) said (other room refl)
 
@@ -36,7 +33,8 @@ module _ {V : Type 0} where
 
   last_in : (x : Placed V) (c : List (Placed V)) (r : Id) → last_room (Some x.room) c ≡ Some r → 1 ≤ members_at r.number (x ∷ c)
   last_in x [] r is =
-      let one : one_if (x.room.number == r.number) ≡ 1 = ap (λ (i : Id). one_if (x.room.number == i.number)) (sym (inside is)) ∙ one_if_same x.room.number in omega arith
+      let one : one_if (x.room.number == r.number) ≡ 1 = ap (λ (i : Id). one_if (x.room.number == i.number)) (sym (inside is)) ∙ one_if_same x.room.number in
+      omega arith
   last_in x (y ∷ c) r is = let rest : 1 ≤ members_at r.number (y ∷ c) = last_in y c r is in omega arith
 
   pub last_among : (c : List (Placed V)) (r : Id) → last_room None c ≡ Some r → 1 ≤ members_at r.number c
@@ -46,7 +44,8 @@ module _ {V : Type 0} where
   pub first_among : (c : List (Placed V)) (r : Id) → first_room c ≡ Some r → 1 ≤ members_at r.number c
   first_among [] r is = absurd (none_some is)
   first_among (x ∷ c) r is =
-      let one : one_if (x.room.number == r.number) ≡ 1 = ap (λ (i : Id). one_if (x.room.number == i.number)) (sym (inside is)) ∙ one_if_same x.room.number in omega arith
+      let one : one_if (x.room.number == r.number) ≡ 1 = ap (λ (i : Id). one_if (x.room.number == i.number)) (sym (inside is)) ∙ one_if_same x.room.number in
+      omega arith
 
   -- ---- a chain whose end is another one
   front_linked : (L M : Leaves V) (above previous : Option Id) (front old now : List (Placed V)) → ChainStands L above previous (front ++ old)
@@ -54,13 +53,15 @@ module _ {V : Type 0} where
       → ChainStands M (above_behind above front) (last_room previous front) now → ChainStands M above previous (front ++ now)
   front_linked L M above previous [] old now stands said once rest = rest
   front_linked L M above previous (y ∷ []) old now stands said once rest = (
-    said y.room.number (own_counts y []) ∙ on_room y.room (leaf_next (first_room now) (L y.room.number)) (L y.room.number) ∙ ap (leaf_next (first_room now)) stands.0,
+    said y.room.number (own_counts y []) ∙ on_room y.room (leaf_next (first_room now) (L y.room.number)) (L y.room.number)
+        ∙ ap (leaf_next (first_room now)) stands.0,
     rest,
   )
   front_linked L M above previous (y ∷ z ∷ front) old now stands said once rest = (
     said y.room.number (own_counts y (z ∷ front))
         ∙ next_off (last_room (Some z.room) front) (first_room now) y.room.number (L y.room.number)
-        (λ r is same. let behind : 1 ≤ members_at r.number (z ∷ front) = last_in z front r is in let most : members_at r.number (y ∷ z ∷ front) ≤ 1 = once r.number in
+        (λ r is same. let behind : 1 ≤ members_at r.number (z ∷ front) = last_in z front r is in let most : members_at r.number (y ∷ z ∷ front) ≤ 1 =
+        once r.number in
         let one : one_if (y.room.number == r.number) ≡ 1 = ap (λ (k : ℕ). one_if (y.room.number == k)) (sym same) ∙ one_if_same y.room.number in omega arith)
         ∙ stands.0,
     front_linked L M None (Some y.room) (z ∷ front) old now stands.1
@@ -77,82 +78,116 @@ module _ {V : Type 0} where
     said y.room.number (own_counts y back) ∙ on_room y.room (leaf_back a p (L y.room.number)) (L y.room.number) ∙ ap (leaf_back a p) stands.0,
     chain_frame L M None (Some y.room) back
         (λ n some. said n (omega arith) ∙ off_room y.room n (leaf_back a p (L n)) (L n)
-        (λ same. let most : members_at n (y ∷ back) ≤ 1 = once n in let one : one_if (y.room.number == n) ≡ 1 = ap (λ (k : ℕ). one_if (y.room.number == k)) same ∙ one_if_same y.room.number in omega arith))
+        (λ same. let most : members_at n (y ∷ back) ≤ 1 = once n in let one : one_if (y.room.number == n) ≡ 1 =
+        ap (λ (k : ℕ). one_if (y.room.number == k)) same ∙ one_if_same y.room.number in omega arith))
         stands.1,
   )
 
   -- ---- a member more
   abbrev pub leaf_at : (key rank : ℕ) (above : Option Id) (front back : List (Placed V)) → Leaf
-  leaf_at key rank above front back = record { key = key; rank = rank; above = above_behind above front; next = first_room back; previous = last_room None front }
+  leaf_at key rank above front back =
+      record { key = key; rank = rank; above = above_behind above front; next = first_room back; previous = last_room None front }
 
   -- a room that is not of the chain, and not the new one
-  pub in_others : (L M : Leaves V) (front back : List (Placed V)) (room : Id) (value : V) (l : Leaf) (n : ℕ) → l.next ≡ first_room back → l.previous ≡ last_room None front → M n ≡ link_in room value l n (L n)
+  pub in_others : (L M : Leaves V) (front back : List (Placed V)) (room : Id) (value : V) (l : Leaf) (n : ℕ) → l.next ≡ first_room back
+      → l.previous ≡ last_room None front → M n ≡ link_in room value l n (L n)
       → (n ≡ room.number → ⊥) → members_at n (front ++ back) ≡ 0 → M n ≡ L n
   in_others L M front back room value l n next previous said other out =
       let none : members_at n (front ++ back) ≡ members_at n front + members_at n back = members_append n front back in
       let lodged = lodge_leaf room value l n (L n) in
       said
       ∙ back_off l.next None (Some room) n (name_next l.previous (Some room) n (lodge_leaf room value l n (L n)))
-      (λ r is same. let some : 1 ≤ members_at r.number back = first_among back r (sym next ∙ is) in let at : members_at n back ≡ members_at r.number back = ap (λ (k : ℕ). members_at k back) same in omega arith)
+      (λ r is same. let some : 1 ≤ members_at r.number back = first_among back r (sym next ∙ is) in let at : members_at n back ≡ members_at r.number back =
+      ap (λ (k : ℕ). members_at k back) same in omega arith)
       ∙ next_off l.previous (Some room) n (lodge_leaf room value l n (L n))
-      (λ r is same. let some : 1 ≤ members_at r.number front = last_among front r (sym previous ∙ is) in let at : members_at n front ≡ members_at r.number front = ap (λ (k : ℕ). members_at k front) same in omega arith)
+      (λ r is same. let some : 1 ≤ members_at r.number front = last_among front r (sym previous ∙ is) in
+      let at : members_at n front ≡ members_at r.number front = ap (λ (k : ℕ). members_at k front) same in omega arith)
       ∙ off_room room n (Some (record { block = room.block; value = value; leaf = l })) (L n) other
 
-  pub linked_in : (L M : Leaves V) (above : Option Id) (front back : List (Placed V)) (x : Placed V) → ChainStands L above None (front ++ back) → L x.room.number ≡ None → ((n : ℕ) → members_at n (front ++ back) ≤ 1)
-      → ((n : ℕ) → M n ≡ link_in x.room x.entry.value (leaf_at x.entry.key x.entry.rank above front back) n (L n)) → ChainStands M above None (front ++ (x ∷ back))
+  pub linked_in : (L M : Leaves V) (above : Option Id) (front back : List (Placed V)) (x : Placed V) → ChainStands L above None (front ++ back)
+      → L x.room.number ≡ None → ((n : ℕ) → members_at n (front ++ back) ≤ 1)
+      → ((n : ℕ) → M n ≡ link_in x.room x.entry.value (leaf_at x.entry.key x.entry.rank above front back) n (L n))
+      → ChainStands M above None (front ++ (x ∷ back))
   linked_in L M above front back x stands none once said =
       let room = x.room in
       let l = leaf_at x.entry.key x.entry.rank above front back in
       let sum : (n : ℕ) → members_at n (front ++ back) ≡ members_at n front + members_at n back = λ n. members_append n front back in
       let gone : members_at x.room.number (front ++ back) ≡ 0 = chain_there L above None (front ++ back) x.room.number stands none in
-      let new : (n : ℕ) → 1 ≤ members_at n (front ++ back) → n ≡ x.room.number → ⊥ = λ n some same. let at : members_at n (front ++ back) ≡ members_at x.room.number (front ++ back) = ap (λ (k : ℕ). members_at k (front ++ back)) same in omega arith in
-      let lodged : (n : ℕ) → 1 ≤ members_at n (front ++ back) → lodge_leaf x.room x.entry.value (leaf_at x.entry.key x.entry.rank above front back) n (L n) ≡ L n = λ n some. off_room x.room n (Some (record { block = x.room.block; value = x.entry.value; leaf = leaf_at x.entry.key x.entry.rank above front back })) (L n) (new n some) in
+      let new : (n : ℕ) → 1 ≤ members_at n (front ++ back) → n ≡ x.room.number
+      → ⊥ = λ n some same. let at : members_at n (front ++ back) ≡ members_at x.room.number (front ++ back) =
+      ap (λ (k : ℕ). members_at k (front ++ back)) same in omega arith in
+      let lodged : (n : ℕ) → 1 ≤ members_at n (front ++ back) → lodge_leaf x.room x.entry.value (leaf_at x.entry.key x.entry.rank above front back) n (L n)
+      ≡ L n =
+      λ n some. off_room x.room n (Some (record { block = x.room.block; value = x.entry.value; leaf = leaf_at x.entry.key x.entry.rank above front back }))
+      (L n) (new n some) in
       let not_first : (n : ℕ) → members_at n back ≡ 0 → (r : Id) → first_room back ≡ Some r → n ≡ r.number → ⊥ = λ n out r is same.
-      let some : 1 ≤ members_at r.number back = first_among back r is in let at : members_at n back ≡ members_at r.number back = ap (λ (k : ℕ). members_at k back) same in omega arith in
+      let some : 1 ≤ members_at r.number back = first_among back r is in let at : members_at n back ≡ members_at r.number back =
+      ap (λ (k : ℕ). members_at k back) same in omega arith in
       let not_last : (n : ℕ) → members_at n front ≡ 0 → (r : Id) → last_room None front ≡ Some r → n ≡ r.number → ⊥ = λ n out r is same.
-      let some : 1 ≤ members_at r.number front = last_among front r is in let at : members_at n front ≡ members_at r.number front = ap (λ (k : ℕ). members_at k front) same in omega arith in
+      let some : 1 ≤ members_at r.number front = last_among front r is in let at : members_at n front ≡ members_at r.number front =
+      ap (λ (k : ℕ). members_at k front) same in omega arith in
       front_linked L M above None front back (x ∷ back) stands
-      (λ n some. let both : members_at n (front ++ back) ≡ members_at n front + members_at n back = sum n in let most : members_at n (front ++ back) ≤ 1 = once n in
-      said n ∙ back_off (first_room back) None (Some x.room) n (name_next (last_room None front) (Some x.room) n (lodge_leaf x.room x.entry.value (leaf_at x.entry.key x.entry.rank above front back) n (L n))) (not_first n (omega arith))
+      (λ n some. let both : members_at n (front ++ back) ≡ members_at n front + members_at n back = sum n in let most : members_at n (front ++ back) ≤ 1 =
+      once n in
+      said n ∙ back_off (first_room back) None (Some x.room) n (name_next (last_room None front) (Some x.room) n
+      (lodge_leaf x.room x.entry.value (leaf_at x.entry.key x.entry.rank above front back) n (L n))) (not_first n (omega arith))
       ∙ ap (λ (o : Option (LeafPart V)). name_next (last_room None front) (Some x.room) n o) (lodged n (omega arith)))
-      (λ n. let both : members_at n (front ++ back) ≡ members_at n front + members_at n back = sum n in let most : members_at n (front ++ back) ≤ 1 = once n in omega arith) (
+      (λ n. let both : members_at n (front ++ back) ≡ members_at n front + members_at n back = sum n in let most : members_at n (front ++ back) ≤ 1 = once n in
+      omega arith) (
         said x.room.number
-            ∙ back_off (first_room back) None (Some x.room) x.room.number (name_next (last_room None front) (Some x.room) x.room.number (lodge_leaf x.room x.entry.value (leaf_at x.entry.key x.entry.rank above front back) x.room.number (L x.room.number)))
-            (not_first x.room.number (let both : members_at x.room.number (front ++ back) ≡ members_at x.room.number front + members_at x.room.number back = sum x.room.number in omega arith))
-            ∙ next_off (last_room None front) (Some x.room) x.room.number (lodge_leaf x.room x.entry.value (leaf_at x.entry.key x.entry.rank above front back) x.room.number (L x.room.number))
-            (not_last x.room.number (let both : members_at x.room.number (front ++ back) ≡ members_at x.room.number front + members_at x.room.number back = sum x.room.number in omega arith))
-            ∙ on_room x.room (Some (record { block = x.room.block; value = x.entry.value; leaf = leaf_at x.entry.key x.entry.rank above front back })) (L x.room.number),
+            ∙ back_off (first_room back) None (Some x.room) x.room.number (name_next (last_room None front) (Some x.room) x.room.number
+            (lodge_leaf x.room x.entry.value (leaf_at x.entry.key x.entry.rank above front back) x.room.number (L x.room.number)))
+            (not_first x.room.number (let both : members_at x.room.number (front ++ back) ≡ members_at x.room.number front + members_at x.room.number back =
+            sum x.room.number in omega arith))
+            ∙ next_off (last_room None front) (Some x.room) x.room.number (lodge_leaf x.room x.entry.value (leaf_at x.entry.key x.entry.rank above front back)
+            x.room.number (L x.room.number))
+            (not_last x.room.number (let both : members_at x.room.number (front ++ back) ≡ members_at x.room.number front + members_at x.room.number back =
+            sum x.room.number in omega arith))
+            ∙ on_room x.room (Some (record { block = x.room.block; value = x.entry.value; leaf = leaf_at x.entry.key x.entry.rank above front back }))
+            (L x.room.number),
         back_linked L M (above_behind above front) (last_room None front) None (Some x.room) back (behind_stands L above None front back stands)
-            (λ n some. let both : members_at n (front ++ back) ≡ members_at n front + members_at n back = sum n in let most : members_at n (front ++ back) ≤ 1 = once n in
+            (λ n some. let both : members_at n (front ++ back) ≡ members_at n front + members_at n back = sum n in
+            let most : members_at n (front ++ back) ≤ 1 = once n in
             said n ∙ ap (λ (o : Option (LeafPart V)). name_back (first_room back) None (Some x.room) n o)
-            (next_off (last_room None front) (Some x.room) n (lodge_leaf x.room x.entry.value (leaf_at x.entry.key x.entry.rank above front back) n (L n)) (not_last n (omega arith)) ∙ lodged n (omega arith)))
-            (λ n. let both : members_at n (front ++ back) ≡ members_at n front + members_at n back = sum n in let most : members_at n (front ++ back) ≤ 1 = once n in omega arith),
+            (next_off (last_room None front) (Some x.room) n (lodge_leaf x.room x.entry.value (leaf_at x.entry.key x.entry.rank above front back) n (L n))
+            (not_last n (omega arith)) ∙ lodged n (omega arith)))
+            (λ n. let both : members_at n (front ++ back) ≡ members_at n front + members_at n back = sum n in let most : members_at n (front ++ back) ≤ 1 =
+            once n in omega arith),
       )
 
   -- ---- a member less
   -- a room that is no neighbour stays
-  pub out_others : (L M : Leaves V) (front back : List (Placed V)) (l : Leaf) (n : ℕ) → l.next ≡ first_room back → l.previous ≡ last_room None front → M n ≡ link_out l n (L n) → members_at n (front ++ back) ≡ 0 → M n ≡ L n
+  pub out_others : (L M : Leaves V) (front back : List (Placed V)) (l : Leaf) (n : ℕ) → l.next ≡ first_room back → l.previous ≡ last_room None front
+      → M n ≡ link_out l n (L n) → members_at n (front ++ back) ≡ 0 → M n ≡ L n
   out_others L M front back l n next previous said out =
       let none : members_at n (front ++ back) ≡ members_at n front + members_at n back = members_append n front back in
       said
       ∙ next_off l.previous l.next n (name_back l.next l.above l.previous n (L n))
-      (λ r is same. let some : 1 ≤ members_at r.number front = last_among front r (sym previous ∙ is) in let at : members_at n front ≡ members_at r.number front = ap (λ (k : ℕ). members_at k front) same in omega arith)
+      (λ r is same. let some : 1 ≤ members_at r.number front = last_among front r (sym previous ∙ is) in
+      let at : members_at n front ≡ members_at r.number front = ap (λ (k : ℕ). members_at k front) same in omega arith)
       ∙ back_off l.next l.above l.previous n (L n)
-      (λ r is same. let some : 1 ≤ members_at r.number back = first_among back r (sym next ∙ is) in let at : members_at n back ≡ members_at r.number back = ap (λ (k : ℕ). members_at k back) same in omega arith)
+      (λ r is same. let some : 1 ≤ members_at r.number back = first_among back r (sym next ∙ is) in let at : members_at n back ≡ members_at r.number back =
+      ap (λ (k : ℕ). members_at k back) same in omega arith)
 
-  pub linked_out : (L M : Leaves V) (above : Option Id) (front back : List (Placed V)) (x : Placed V) → ChainStands L above None (front ++ (x ∷ back)) → ((n : ℕ) → members_at n (front ++ (x ∷ back)) ≤ 1)
+  pub linked_out : (L M : Leaves V) (above : Option Id) (front back : List (Placed V)) (x : Placed V) → ChainStands L above None (front ++ (x ∷ back))
+      → ((n : ℕ) → members_at n (front ++ (x ∷ back)) ≤ 1)
       → ((n : ℕ) → M n ≡ link_out (leaf_at x.entry.key x.entry.rank above front back) n (L n)) → ChainStands M above None (front ++ back)
   linked_out L M above front back x stands once said =
-      let few : (n : ℕ) → members_at n front + members_at n back ≤ 1 = λ n. let sum : members_at n (front ++ back) ≡ members_at n front + members_at n back = members_append n front back in
-      let more : members_at n (front ++ (x ∷ back)) ≡ members_at n (front ++ back) + one_if (x.room.number == n) = members_more n front back x in let most : members_at n (front ++ (x ∷ back)) ≤ 1 = once n in omega arith in
+      let few : (n : ℕ) → members_at n front + members_at n back ≤ 1 = λ n. let sum : members_at n (front ++ back) ≡ members_at n front + members_at n back =
+      members_append n front back in
+      let more : members_at n (front ++ (x ∷ back)) ≡ members_at n (front ++ back) + one_if (x.room.number == n) = members_more n front back x in
+      let most : members_at n (front ++ (x ∷ back)) ≤ 1 = once n in omega arith in
       front_linked L M above None front (x ∷ back) back stands
       (λ n some. said n ∙ ap (λ (o : Option (LeafPart V)). name_next (last_room None front) (first_room back) n o)
       (back_off (first_room back) (above_behind above front) (last_room None front) n (L n)
-      (λ r is same. let own : 1 ≤ members_at r.number back = first_among back r is in let at : members_at n back ≡ members_at r.number back = ap (λ (k : ℕ). members_at k back) same in
+      (λ r is same. let own : 1 ≤ members_at r.number back = first_among back r is in let at : members_at n back ≡ members_at r.number back =
+      ap (λ (k : ℕ). members_at k back) same in
       let most : members_at n front + members_at n back ≤ 1 = few n in omega arith)))
       (λ n. let most : members_at n front + members_at n back ≤ 1 = few n in omega arith)
       (back_linked L M None (Some x.room) (above_behind above front) (last_room None front) back (behind_stands L above None front (x ∷ back) stands).1
-      (λ n some. said n ∙ next_off (last_room None front) (first_room back) n (name_back (first_room back) (above_behind above front) (last_room None front) n (L n))
-      (λ r is same. let own : 1 ≤ members_at r.number front = last_among front r is in let at : members_at n front ≡ members_at r.number front = ap (λ (k : ℕ). members_at k front) same in
+      (λ n some. said n ∙ next_off (last_room None front) (first_room back) n
+      (name_back (first_room back) (above_behind above front) (last_room None front) n (L n))
+      (λ r is same. let own : 1 ≤ members_at r.number front = last_among front r is in let at : members_at n front ≡ members_at r.number front =
+      ap (λ (k : ℕ). members_at k front) same in
       let most : members_at n front + members_at n back ≤ 1 = few n in omega arith))
       (λ n. let most : members_at n front + members_at n back ≤ 1 = few n in omega arith))

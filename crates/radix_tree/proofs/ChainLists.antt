@@ -1,13 +1,7 @@
 -- A chain with a member more.
 use Rattle.std.proofs.Common.{◌≡◌, ℕ, ◌+◌, ◌<◌, ◌≤◌, ◌⊎◌, ◌==◌, List, [], ◌∷◌, ◌++◌, map, Some, None, refl, sym, ap, ◌∙◌, inl, inr, ⊎_elim, arith}
 use Rattle.std.proofs.lemmas.List.{map-append}
-use Rattle.radix_tree.specs.Table.{IsRoute}
-use Rattle.radix_tree.specs.Tree.{Placed, IsAmong, IsChain}
-use Rattle.radix_tree.specs.Rooms.{BitPart, Bits}
-use Rattle.radix_tree.specs.Whole.{one_if, members_at, AreIdle, HasOneFork}
-use Rattle.radix_tree.specs.Growth.{Gains}
-use Rattle.radix_tree.specs.Chains.{ArePast, IsBelow}
-use Rattle.radix_tree.specs.declared.entry.Entry.{Entry}
+use Rattle.radix_tree.proofs.Words.{IsRoute, Placed, IsAmong, IsChain, BitPart, Bits, one_if, members_at, AreIdle, HasOneFork, Gains, ArePast, IsBelow, Entry}
 use Rattle.radix_tree.proofs.RoomReads.{none_some}
 use Rattle.radix_tree.proofs.PartRooms.{one_if_same}
 
@@ -28,9 +22,11 @@ module _ {V : Type 0} where
   -- ---- how often
   pub members_append : (n : ℕ) (front back : List (Placed V)) → members_at n (front ++ back) ≡ members_at n front + members_at n back
   members_append n [] back = omega arith
-  members_append n (y ∷ front) back = let rest : members_at n (front ++ back) ≡ members_at n front + members_at n back = members_append n front back in omega arith
+  members_append n (y ∷ front) back = let rest : members_at n (front ++ back) ≡ members_at n front + members_at n back = members_append n front back in
+      omega arith
 
-  pub members_more : (n : ℕ) (front back : List (Placed V)) (x : Placed V) → members_at n (front ++ (x ∷ back)) ≡ members_at n (front ++ back) + one_if (x.room.number == n)
+  pub members_more : (n : ℕ) (front back : List (Placed V)) (x : Placed V)
+      → members_at n (front ++ (x ∷ back)) ≡ members_at n (front ++ back) + one_if (x.room.number == n)
   members_more n front back x =
       let more : members_at n (front ++ (x ∷ back)) ≡ members_at n front + members_at n (x ∷ back) = members_append n front (x ∷ back) in
       let less : members_at n (front ++ back) ≡ members_at n front + members_at n back = members_append n front back in omega arith
@@ -38,7 +34,8 @@ module _ {V : Type 0} where
   pub member_counts : (c : List (Placed V)) (y : Placed V) → IsAmong y c → 1 ≤ members_at y.room.number c
   member_counts [] y is = absurd is
   member_counts (x ∷ c) y is = ⊎_elim
-      (λ (e : x ≡ y). let one : one_if (x.room.number == y.room.number) ≡ 1 = ap (λ (p : Placed V). one_if (x.room.number == p.room.number)) (sym e) ∙ one_if_same x.room.number in omega arith)
+      (λ (e : x ≡ y). let one : one_if (x.room.number == y.room.number) ≡ 1 =
+      ap (λ (p : Placed V). one_if (x.room.number == p.room.number)) (sym e) ∙ one_if_same x.room.number in omega arith)
       (λ (later : IsAmong y c). let some : 1 ≤ members_at y.room.number c = member_counts c y later in omega arith)
       is
 
@@ -55,7 +52,8 @@ module _ {V : Type 0} where
   among_less [] back x y is = is
   among_less (z ∷ front) back x y is = ⊎_elim
       (λ (e : z ≡ y). inr (inl e))
-      (λ (later : IsAmong y (front ++ (x ∷ back))). ⊎_elim (λ (e : x ≡ y). inl e) (λ (own : IsAmong y (front ++ back)). inr (inr own)) (among_less front back x y later))
+      (λ (later : IsAmong y (front ++ (x ∷ back))). ⊎_elim (λ (e : x ≡ y). inl e) (λ (own : IsAmong y (front ++ back)). inr (inr own))
+      (among_less front back x y later))
       is
 
   -- a member splits a list
@@ -91,7 +89,8 @@ module _ {V : Type 0} where
       (λ (own : (B y.room.number ≡ None) × HasOneFork B (front ++ (x ∷ back))). inr (own.0, one_fork_less B front back x own.1))
       one
 
-  pub one_fork_more : (B : Bits) (front back : List (Placed V)) (x : Placed V) → HasOneFork B (front ++ back) → B x.room.number ≡ None → HasOneFork B (front ++ (x ∷ back))
+  pub one_fork_more : (B : Bits) (front back : List (Placed V)) (x : Placed V) → HasOneFork B (front ++ back) → B x.room.number ≡ None
+      → HasOneFork B (front ++ (x ∷ back))
   one_fork_more B [] back x one none = inr (none, one)
   one_fork_more B (y ∷ front) back x one none = ⊎_elim
       (λ (idle : AreIdle B (front ++ back)). inl (idle_more B front back x idle none))
@@ -111,19 +110,21 @@ module _ {V : Type 0} where
 
   idle_at : (B : Bits) (c : List (Placed V)) (y : Placed V) → AreIdle B c → IsAmong y c → B y.room.number ≡ None
   idle_at B [] y idle is = absurd is
-  idle_at B (z ∷ c) y idle is = ⊎_elim (λ (e : z ≡ y). ap (λ (p : Placed V). B p.room.number) (sym e) ∙ idle.0) (λ (later : IsAmong y c). idle_at B c y idle.1 later) is
+  idle_at B (z ∷ c) y idle is =
+      ⊎_elim (λ (e : z ≡ y). ap (λ (p : Placed V). B p.room.number) (sym e) ∙ idle.0) (λ (later : IsAmong y c). idle_at B c y idle.1 later) is
 
   -- where one member's room is a bit node in use, no other one's is
-  pub others_idle : (B : Bits) (front back : List (Placed V)) (x y : Placed V) (b : BitPart) → HasOneFork B (front ++ (x ∷ back)) → B x.room.number ≡ Some b → IsAmong y (front ++ back) → B y.room.number ≡ None
-  others_idle B [] back x y b one used is = ⊎_elim
+  pub others_idle : (B : Bits) (front back : List (Placed V)) (x y : Placed V) {b : BitPart} → HasOneFork B (front ++ (x ∷ back)) → B x.room.number ≡ Some b
+      → IsAmong y (front ++ back) → B y.room.number ≡ None
+  others_idle B [] back x y one used is = ⊎_elim
       (λ (idle : AreIdle B back). idle_at B back y idle is)
       (λ (own : (B x.room.number ≡ None) × HasOneFork B back). absurd (none_some (sym own.0 ∙ used)))
       one
-  others_idle B (z ∷ front) back x y b one used is = ⊎_elim
+  others_idle B (z ∷ front) back x y one used is = ⊎_elim
       (λ (idle : AreIdle B (front ++ (x ∷ back))). absurd (none_some (sym (idle_at B (front ++ (x ∷ back)) x idle (among_own front back x)) ∙ used)))
       (λ (own : (B z.room.number ≡ None) × HasOneFork B (front ++ (x ∷ back))). ⊎_elim
       (λ (e : z ≡ y). ap (λ (p : Placed V). B p.room.number) (sym e) ∙ own.0)
-      (λ (later : IsAmong y (front ++ back)). others_idle B front back x y b own.1 used later)
+      (λ (later : IsAmong y (front ++ back)). others_idle B front back x y own.1 used later)
       is)
       one
 
@@ -140,10 +141,11 @@ module _ {V : Type 0} where
   chain_lower key top rank [] below is = tt
   chain_lower key top rank (y ∷ c) below is = (is.0, is.1, below, is.3)
 
-  pub chain_more : (key top : ℕ) (front back : List (Placed V)) (x : Placed V) → IsChain key top (front ++ back) → IsRoute x.entry → x.entry.key ≡ key → x.entry.rank < top → ArePast x.entry.rank front → IsBelow x.entry.rank back
+  pub chain_more : {key : ℕ} (top : ℕ) (front back : List (Placed V)) (x : Placed V) → IsChain key top (front ++ back) → IsRoute x.entry → x.entry.key ≡ key
+      → x.entry.rank < top → ArePast x.entry.rank front → IsBelow x.entry.rank back
       → IsChain key top (front ++ (x ∷ back))
-  chain_more key top [] back x is route same lt past below = (route, same, lt, chain_lower key top x.entry.rank back below is)
-  chain_more key top (y ∷ front) back x is route same lt past below = (is.0, is.1, is.2, chain_more key y.entry.rank front back x is.3 route same past.0 past.1 below)
+  chain_more {key = key} top [] back x is route same lt past below = (route, same, lt, chain_lower key top x.entry.rank back below is)
+  chain_more top (y ∷ front) back x is route same lt past below = (is.0, is.1, is.2, chain_more y.entry.rank front back x is.3 route same past.0 past.1 below)
 
   -- ---- routes
   pub routes_more : (front back : List (Placed V)) (x : Placed V) → Gains x.entry (map_entries (front ++ back)) (map_entries (front ++ (x ∷ back)))

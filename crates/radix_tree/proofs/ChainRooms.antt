@@ -1,12 +1,8 @@
 -- The route of a room that is in a tree.
 use Rattle.std.proofs.Common.{◌≡◌, ℕ, ◌+◌, ◌≤◌, ◌==◌, true, false, List, [], ◌∷◌, Some, refl, sym, ap, ◌∙◌, inl, inr, arith}
 use Rattle.std.proofs.lemmas.Bool.{eqb-true, cases_lt}
-use Rattle.std.specs.Ordering.{nat_cmp}
-use Rattle.std.specs.FinMap.{FinMap}
-use Rattle.radix_nodes.specs.Rooms.{Seen}
-use Rattle.radix_tree.specs.Tree.{Placed, Tree, leaf, fork, IsAmong, IsIn}
-use Rattle.radix_tree.specs.Rooms.{LeafPart, Part, leaves_in, bits_in}
-use Rattle.radix_tree.specs.Whole.{one_if, members_at, leaves_at, shown_entry}
+use Rattle.radix_tree.proofs.Words.{Placed, Tree, leaf, fork, IsAmong, IsIn, LeafPart, Part, leaves_in, bits_in, one_if, members_at, leaves_at, shown_entry}
+use Rattle.radix_tree.proofs.Words.{Lodged}
 use Rattle.radix_tree.proofs.RoomReads.{inside}
 use Rattle.radix_tree.proofs.TreeMembers.{tree_said}
 
@@ -42,8 +38,8 @@ module _ {V : Type 0} where
     pub block : route.room.block ≡ p.block
     pub entry : route.entry ≡ shown_entry p
 
-  pub room_route : (m : FinMap nat_cmp (Seen V)) (whole : Part m) (n : ℕ) (p : LeafPart V) → leaves_in m n ≡ Some p → 1 ≤ leaves_at n whole.tree → RoomRoute whole.tree n p
-  room_route m whole n p said some =
+  pub room_route : (m : Lodged V) (whole : Part m) (n : ℕ) {p : LeafPart V} → leaves_in m n ≡ Some p → 1 ≤ leaves_at n whole.tree → RoomRoute whole.tree n p
+  room_route m whole n said some =
       let y = in_at n whole.tree some in
       let s = tree_said (leaves_in m) (bits_in m) whole.above whole.tree whole.stands y.0 y.1 in
       let same = inside (sym s.3 ∙ ap (λ (k : ℕ). leaves_in m k) y.2 ∙ said) in

@@ -1,14 +1,7 @@
 -- A walk back along a chain, to its first member.
 use Rattle.std.proofs.Common.{◌≡◌, ℕ, ◌+◌, ◌≤◌, ◌<◌, ◌⊎◌, List, [], ◌∷◌, Option, Some, None, refl, inl, inr, sym, ap, ◌∙◌, subst, ⊎_elim, arith}
-use Rattle.std.specs.Ordering.{nat_cmp}
-use Rattle.std.specs.FinMap.{FinMap}
-use Rattle.radix_nodes.specs.Rooms.{Seen, Has}
-use Rattle.radix_nodes.specs.Links.{leaf_of}
-use Rattle.radix_nodes.specs.declared.id.Id.{Id}
-use Rattle.radix_nodes.specs.declared.links.Leaf.{Leaf}
-use Rattle.radix_nodes.specs.declared.links.Links.{Links}
-use Rattle.radix_tree.specs.Tree.{Placed, IsAmong, IsChain}
-use Rattle.radix_tree.specs.Rooms.{LeafPart, Leaves, Run, leaves_in, first_room, leaf_part, ChainStands}
+use Rattle.radix_tree.proofs.Words.{Has, leaf_of, Id, Leaf, Links, Placed, IsAmong, IsChain, LeafPart, Leaves, Run, leaves_in, first_room, leaf_part}
+use Rattle.radix_tree.proofs.Words.{ChainStands, Lodged}
 use Rattle.radix_tree.proofs.RoomReads.{inside, none_some, AreLinks, Has-leaf, leaf_read}
 use Rattle.radix_tree.proofs.TreeMembers.{chain_below, chain_route}
 
@@ -23,12 +16,14 @@ module _ {V : Type 0} where
     pub block : part.block ≡ x.room.block
     pub prior : Prior c previous x part.leaf.previous
 
-  behind_prior : (key top : ℕ) (y : Placed V) (c : List (Placed V)) (previous : Option Id) (x : Placed V) (o : Option Id) → IsChain key top (y ∷ c) → IsAmong x c → Prior c (Some y.room) x o → Prior (y ∷ c) previous x o
+  behind_prior : (key top : ℕ) (y : Placed V) (c : List (Placed V)) (previous : Option Id) (x : Placed V) (o : Option Id) → IsChain key top (y ∷ c)
+      → IsAmong x c → Prior c (Some y.room) x o → Prior (y ∷ c) previous x o
   behind_prior key top y c previous x o is among p = ⊎_elim
       (λ (first : (first_room c ≡ Some x.room) × (o ≡ Some y.room)). inr (y, inl refl, first.1, chain_below key y.entry.rank c is.3 x among))
       (λ (w : (w : Placed V) × IsAmong w c × (o ≡ Some w.room) × (x.entry.rank < w.entry.rank)). inr (w.0, inr w.1, w.2, w.3)) p
 
-  pub member_of : (L : Leaves V) (above previous : Option Id) (key top : ℕ) (c : List (Placed V)) → IsChain key top c → ChainStands L above previous c → (x : Placed V) → IsAmong x c → Member L c previous x
+  pub member_of : (L : Leaves V) (above previous : Option Id) (key top : ℕ) (c : List (Placed V)) → IsChain key top c → ChainStands L above previous c
+      → (x : Placed V) → IsAmong x c → Member L c previous x
   member_of L above previous key top [] is stands x among = absurd among
   member_of L above previous key top (y ∷ c) is stands x among = ⊎_elim
       (λ (e : y ≡ x). subst (λ (p : Placed V). Member L (y ∷ c) previous p) e
@@ -38,42 +33,46 @@ module _ {V : Type 0} where
       record { part = m.part; said = m.said; block = m.block; prior = behind_prior key top y c previous x m.part.leaf.previous is behind m.prior }) among
 
   -- a walk back that has come to a member, and knows what that names before it
-  pub record Back {m : FinMap nat_cmp (Seen V)} (whole : Run m) (at : Id) (before : Option Id) (steps : ℕ) : Type 0 where
+  pub record Back {m : Lodged V} (whole : Run m) (at : Id) (before : Option Id) (steps : ℕ) : Type 0 where
     pub is : Placed V
     pub among : IsAmong is whole.members
     pub room_is : is.room ≡ at
     pub prior : Prior whole.members None is before
     pub few : steps ≤ is.entry.rank + 1
 
-  member_in : (m : FinMap nat_cmp (Seen V)) (c : Run m) (x : Placed V) → c.previous ≡ None → IsAmong x c.members → Member (leaves_in m) c.members None x
-  member_in m c x first among = subst (λ (o : Option Id). Member (leaves_in m) c.members o x) first (member_of (leaves_in m) c.above c.previous c.key c.top c.members c.is c.stands x among)
+  member_in : (m : Lodged V) (c : Run m) (x : Placed V) → c.previous ≡ None → IsAmong x c.members → Member (leaves_in m) c.members None x
+  member_in m c x first among = subst (λ (o : Option Id). Member (leaves_in m) c.members o x) first
+      (member_of (leaves_in m) c.above c.previous c.key c.top c.members c.is c.stands x among)
 
-  said_at : (m : FinMap nat_cmp (Seen V)) (c : Run m) (x : Placed V) (room : Id) (k : Member (leaves_in m) c.members None x) → x.room ≡ room → leaves_in m room.number ≡ Some k.part
-  said_at m c x room k is = ap (λ (i : Id). leaves_in m i.number) (sym is) ∙ k.said
+  said_at : (m : Lodged V) (c : Run m) (x : Placed V) {room : Id} (k : Member (leaves_in m) c.members None x) → x.room ≡ room
+      → leaves_in m room.number ≡ Some k.part
+  said_at m c x k is = ap (λ (i : Id). leaves_in m i.number) (sym is) ∙ k.said
 
-  block_at : (m : FinMap nat_cmp (Seen V)) (c : Run m) (x : Placed V) (room : Id) (k : Member (leaves_in m) c.members None x) → x.room ≡ room → k.part.block ≡ room.block
-  block_at m c x room k is = k.block ∙ ap (λ (i : Id). i.block) is
+  block_at : (m : Lodged V) (c : Run m) (x : Placed V) {room : Id} (k : Member (leaves_in m) c.members None x) → x.room ≡ room → k.part.block ≡ room.block
+  block_at m c x k is = k.block ∙ ap (λ (i : Id). i.block) is
 
-  pub Has-member : (m : FinMap nat_cmp (Seen V)) (c : Run m) (x : Placed V) (room : Id) → c.previous ≡ None → IsAmong x c.members → x.room ≡ room → Has m room
-  Has-member m c x room first among is = let k = member_in m c x first among in Has-leaf m room k.part (said_at m c x room k is) (block_at m c x room k is)
+  pub Has-member : {m : Lodged V} (c : Run m) (x : Placed V) {room : Id} → c.previous ≡ None → IsAmong x c.members → x.room ≡ room → Has m room
+  Has-member {m = m} c x {room = room} first among is = let k = member_in m c x first among in Has-leaf m room (said_at m c x k is) (block_at m c x k is)
 
   -- at a member
-  pub come : (m : FinMap nat_cmp (Seen V)) (c : Run m) (x : Placed V) (room : Id) (steps : ℕ) (links : Links) (l : Leaf) → c.previous ≡ None → IsAmong x c.members → x.room ≡ room → steps ≤ x.entry.rank + 1
+  pub come : {m : Lodged V} (c : Run m) (x : Placed V) {room : Id} (steps : ℕ) (links : Links) {l : Leaf} → c.previous ≡ None → IsAmong x c.members
+      → x.room ≡ room → steps ≤ x.entry.rank + 1
       → AreLinks m room links → l ≡ leaf_of links → Back c room l.previous steps
-  come m c x room steps links l first among is few are leaf =
+  come {m = m} c x {room = room} steps links first among is few are leaf =
       let k = member_in m c x first among in
-      let read = leaf ∙ leaf_read m room k.part links (said_at m c x room k is) (block_at m c x room k is) are in
+      let read = leaf ∙ leaf_read m room links (said_at m c x k is) (block_at m c x k is) are in
       record { is = x; among = among; room_is = is; prior = subst (Prior c.members None x) (sym (ap (λ (z : Leaf). z.previous) read)) k.prior; few = few }
 
   -- at the one before
-  pub record Earlier {m : FinMap nat_cmp (Seen V)} (whole : Run m) (room : Id) (steps : ℕ) : Type 0 where
+  pub record Earlier {m : Lodged V} (whole : Run m) (room : Id) (steps : ℕ) : Type 0 where
     pub is : Placed V
     pub among : IsAmong is whole.members
     pub room_is : is.room ≡ room
     pub few : steps ≤ is.entry.rank
 
-  pub earlier : (m : FinMap nat_cmp (Seen V)) (c : Run m) (at : Id) (before : Option Id) (room : Id) (steps : ℕ) → Back c at before steps → before ≡ Some room → Earlier c room steps
-  earlier m c at before room steps b is =
+  pub earlier : (m : Lodged V) (c : Run m) {at : Id} {before : Option Id} {room : Id} (steps : ℕ) → Back c at before steps → before ≡ Some room
+      → Earlier c room steps
+  earlier m c {before = before} steps b is =
       let few : steps ≤ b.is.entry.rank + 1 = b.few in
       ⊎_elim
       (λ (first : (first_room c.members ≡ Some b.is.room) × (before ≡ None)). absurd (none_some (sym first.1 ∙ is)))
@@ -81,11 +80,12 @@ module _ {V : Type 0} where
       let greater : b.is.entry.rank < w.0.entry.rank = w.3 in
       record { is = w.0; among = w.1; room_is = inside (sym w.2 ∙ is); few = omega arith }) b.prior
 
-  pub few_at : (m : FinMap nat_cmp (Seen V)) (c : Run m) (at : Id) (before : Option Id) (steps : ℕ) → Back c at before steps → steps ≤ 34
-  few_at m c at before steps b =
-      let most : b.is.entry.rank ≤ 33 = (chain_route c.key c.top c.members c.is b.is b.among).rank in let few : steps ≤ b.is.entry.rank + 1 = b.few in omega arith
+  pub few_at : (m : Lodged V) (c : Run m) {at : Id} {before : Option Id} (steps : ℕ) → Back c at before steps → steps ≤ 34
+  few_at m c steps b =
+      let most : b.is.entry.rank ≤ 33 = (chain_route c.key c.top c.members c.is b.is b.among).rank in let few : steps ≤ b.is.entry.rank + 1 = b.few in
+      omega arith
 
-  pub ended : (m : FinMap nat_cmp (Seen V)) (c : Run m) (at : Id) (before : Option Id) (steps : ℕ) → Back c at before steps → before ≡ None → first_room c.members ≡ Some at
-  ended m c at before steps b none = ⊎_elim
+  pub ended : (m : Lodged V) (c : Run m) {at : Id} {before : Option Id} {steps : ℕ} → Back c at before steps → before ≡ None → first_room c.members ≡ Some at
+  ended m c {before = before} b none = ⊎_elim
       (λ (first : (first_room c.members ≡ Some b.is.room) × (before ≡ None)). first.0 ∙ ap (λ (i : Id). Some i) b.room_is)
       (λ (w : (w : Placed V) × IsAmong w c.members × (before ≡ Some w.room) × (b.is.entry.rank < w.entry.rank)). absurd (none_some (sym none ∙ w.2))) b.prior

@@ -1,240 +1,55 @@
--- The chain of a leaf is exchanged for another one, and so the whole.
-use Rattle.std.proofs.Common.{◌≡◌, ℕ, ◌+◌, ◌<◌, ◌≤◌, ◌⊎◌, ◌==◌, ◌||◌, Bool, true, false, true≢false, if◌then◌else◌, List, [], ◌∷◌, ◌++◌, Option, Some, None, refl, sym, ap, ◌∙◌, subst, inl, inr, ⊎_elim, arith}
-use Rattle.std.specs.Prelude.{is_some}
-use Rattle.std.proofs.lemmas.Bool.{eqb-true, eqb-false, eq-eqb, ne_eqb}
-use Rattle.std.specs.Ordering.{nat_cmp}
-use Rattle.std.specs.FinMap.{FinMap}
-use Rattle.radix_nodes.specs.Rooms.{Seen}
-use Rattle.radix_nodes.specs.declared.id.Id.{Id}
-use Rattle.radix_nodes.specs.declared.links.Node.{Node}
-use Rattle.radix_nodes.specs.declared.links.Node.TheVariants.{Leaf as LeafOf}
-use Rattle.radix_tree.specs.Tree.{Placed, Tree, leaf, bit_at, HaveBit, IsAmong, IsIn, IsChain, IsTree, routes_of}
-use Rattle.radix_tree.specs.Rooms.{LeafPart, BitPart, MaskPart, Part, leaves_in, bits_in, masks_in, name_of, ChainStands}
-use Rattle.radix_tree.specs.Searches.{Way}
-use Rattle.radix_tree.specs.Whole.{one_if, members_at, leaves_at, forks_at, HasHome, HasOneFork, HaveOneFork, shown}
-use Rattle.radix_tree.specs.Growth.{name_child, with_child, root_after, Gains}
-use Rattle.radix_tree.specs.Exchange.{IsExchange, Exchanged}
-use Rattle.radix_tree.specs.Marks.{IsMarked, IsWholeBut, nobody_late, late_at, nobody_out, out_at}
-use Rattle.radix_tree.specs.Writes.{KeepsHeads, KeepsMasks}
-use Rattle.radix_tree.specs.Chains.{above_behind, last_room, root_past}
-use Rattle.radix_tree.specs.declared.entry.Entry.{Entry}
-use Rattle.radix_tree.proofs.PartRooms.{same_turned}
-use Rattle.radix_tree.proofs.Exchanging.{exchanged}
-use Rattle.radix_tree.proofs.WholeChanges.{Fits, Spliced, once_but, spare_changed, whole_changed, routes_changed, gains_spliced, loses_spliced}
-use Rattle.radix_tree.proofs.ChainLists.{IsCons, cons_at, map_entries, members_more, member_counts, among_more, among_own, among_less, one_fork_less, one_fork_more, one_fork_same, routes_more}
-
--- ---- the bit node above
-turned_some : (key : ℕ) (to : Node) (said : Option BitPart) → is_some (with_child key to said) ≡ is_some said
-turned_some key to None = refl
-turned_some key to (Some p) = refl
-
--- a bit node that names another node is a bit node as before
-pub turn_some : (above : Option Id) (key n : ℕ) (to : Node) (said : Option BitPart) → is_some (name_child above key to n said) ≡ is_some said
-turn_some None key n to said = refl
-turn_some (Some up) key n to said =
-    elim (n == up.number) as (λ t. is_some (if t then with_child key to said else said) ≡ is_some said) [
-      | true ↦ turned_some key to said
-      | false ↦ refl
-    ]
-
-pub none_is : {A : Type 0} (o : Option A) → is_some o ≡ false → o ≡ None
-none_is None e = refl
-none_is (Some x) e = absurd (true≢false e)
-
-pub same_none : {A : Type 0} (o p : Option A) → is_some p ≡ is_some o → o ≡ None → p ≡ None
-same_none o p same none = none_is p (same ∙ ap (λ (q : Option _). is_some q) none)
-
-one_more : (has : ℕ → Bool) (a n : ℕ) → has a ≡ false → one_if ((n == a) || has n) ≡ one_if (a == n) + one_if (has n)
-one_more has a n free =
-    elim (n == a) as (λ t. (n == a) ≡ t → one_if (t || has n) ≡ one_if (a == n) + one_if (has n)) [
-      | true ↦ λ e.
-          let same : n ≡ a = eqb-true n a e in
-          let own : one_if (a == n) ≡ 1 = ap one_if (eq-eqb a n (sym same)) in
-          let none : one_if (has n) ≡ 0 = ap (λ (k : ℕ). one_if (has k)) same ∙ ap one_if free in
-          omega arith
-      | false ↦ λ e.
-          let other : one_if (a == n) ≡ 0 = ap one_if (ne_eqb a n (λ same. eqb-false n a e (sym same))) in
-          omega arith
-    ] refl
-
-turned_about : (a n : ℕ) → one_if (n == a) ≡ one_if (a == n)
-turned_about a n =
-    elim (n == a) as (λ t. (n == a) ≡ t → one_if t ≡ one_if (a == n)) [
-      | true ↦ λ e. sym (ap one_if (eq-eqb a n (sym (eqb-true n a e))))
-      | false ↦ λ e. sym (ap one_if (ne_eqb a n (λ same. eqb-false n a e (sym same))))
-    ] refl
+-- The chain of a leaf has a member more, or one less, and so the whole.
+use Rattle.std.proofs.Common.{◌≡◌, ℕ, ◌+◌, ◌<◌, ◌≤◌, ◌⊎◌, ◌==◌, ◌||◌, Bool, true≢false, List, ◌∷◌, ◌++◌, Option, Some, None, sym, ap, ◌∙◌, subst, inl, inr}
+use Rattle.std.proofs.Common.{⊎_elim, arith}
+use Rattle.std.proofs.lemmas.Bool.{eqb-true, eq-eqb}
+use Rattle.radix_tree.proofs.Words.{is_some, Node, LeafOf, Placed, leaf, IsAmong, IsIn, LeafPart, Part, leaves_in, bits_in, masks_in, name_of, Way, one_if}
+use Rattle.radix_tree.proofs.Words.{members_at, leaves_at, shown, root_after, Gains, IsWholeBut, nobody_late, late_at, nobody_out, out_at, Lodged}
+use Rattle.radix_tree.proofs.WholeParts.{Fits}
+use Rattle.radix_tree.proofs.WholeRoutes.{gains_spliced, loses_spliced}
+use Rattle.radix_tree.proofs.ChainLists.{members_more, member_counts, among_more, among_own, among_less, one_fork_less, one_fork_more, routes_more}
+use Rattle.radix_tree.proofs.ChainExchanges.{one_more, turned_about, Rechained, under, old_counts, now_counts, rechained, spliced, old_among, among_old}
+use Rattle.radix_tree.proofs.ChainExchanges.{no_home, same_marks, not_marked, same_forks}
 
 module _ {V : Type 0} where
-  -- to name the part above as before changes nothing
-  pub turn_same : (m : FinMap nat_cmp (Seen V)) (key : ℕ) (whole at : Part m) (ups : List (Part m)) → Way key whole at ups → whole.above ≡ None → (n : ℕ) → name_child at.above key (name_of at.tree) n (bits_in m n) ≡ bits_in m n
-  turn_same m key whole at [] way top n = ap (λ (o : Option Id). name_child o key (name_of at.tree) n (bits_in m n)) (ap (λ (p : Part m). p.above) way ∙ top)
-  turn_same m key whole at (p ∷ ps) way top n =
-      let b = way.0 in
-      ap (λ (o : Option Id). name_child o key (name_of at.tree) n (bits_in m n)) b.above
-      ∙ elim (n == b.room.number) as (λ t. (n == b.room.number) ≡ t → (if t then with_child key (name_of at.tree) (bits_in m n) else bits_in m n) ≡ bits_in m n) [
-        | true ↦ λ e. ap (λ (k : ℕ). with_child key (name_of at.tree) (bits_in m k)) (eqb-true n b.room.number e) ∙ sym (same_turned m key at p (name_of at.tree) b refl) ∙ ap (λ (k : ℕ). bits_in m k) (sym (eqb-true n b.room.number e))
-        | false ↦ λ e. refl
-      ] refl
-
-  pub root_same : (m : FinMap nat_cmp (Seen V)) (key : ℕ) (whole at : Part m) (ups : List (Part m)) → Way key whole at ups → whole.above ≡ None → root_after at.above (name_of at.tree) (name_of whole.tree) ≡ name_of whole.tree
-  root_same m key whole at [] way top =
-      ap (λ (o : Option Id). root_after o (name_of at.tree) (name_of whole.tree)) (ap (λ (p : Part m). p.above) way ∙ top) ∙ ap (λ (p : Part m). name_of p.tree) way
-  root_same m key whole at (p ∷ ps) way top = ap (λ (o : Option Id). root_after o (name_of at.tree) (name_of whole.tree)) way.0.above
-
-  -- a chain begins with the first member before a place, where there is one
-  abbrev pub FrontNamed : List (Placed V) → Node → Type 0
-  FrontNamed [] name = Unit {0}
-  FrontNamed (f ∷ fs) name = name ≡ LeafOf f.room
-
-  cons_head : {x y : Placed V} {xs ys : List (Placed V)} → x ∷ xs ≡ y ∷ ys → x ≡ y
-  cons_head e = cc
-
-  pub front_named : (t : Tree V) (z : Placed V) (zs front back : List (Placed V)) → t ≡ leaf z zs → z ∷ zs ≡ front ++ back → FrontNamed front (name_of t)
-  front_named t z zs [] back is same = tt
-  front_named t z zs (f ∷ front) back is same = ap (λ (u : Tree V). name_of u) is ∙ ap (λ (p : Placed V). LeafOf p.room) (cons_head same)
-
-  -- the member behind a place is named above where it is the first
-  pub place_bits : (m : FinMap nat_cmp (Seen V)) (key : ℕ) (whole at : Part m) (ups : List (Part m)) (front back : List (Placed V)) (x : Placed V) → Way key whole at ups → whole.above ≡ None → FrontNamed front (name_of at.tree) → (n : ℕ)
-      → name_child (above_behind at.above front) key (LeafOf x.room) n (bits_in m n) ≡ name_child at.above key (LeafOf (cons_at front back x).first.room) n (bits_in m n)
-  place_bits m key whole at ups [] back x way top named n = refl
-  place_bits m key whole at ups (f ∷ front) back x way top named n =
-      sym (ap (λ (z : Node). name_child at.above key z n (bits_in m n)) (sym named) ∙ turn_same m key whole at ups way top n)
-
-  past_root : (r : Id) (front : List (Placed V)) (above : Option Id) (to root : Node) → root_past (last_room (Some r) front) above to root ≡ root
-  past_root r [] above to root = refl
-  past_root r (f ∷ front) above to root = past_root f.room front above to root
-
-  pub place_root : (m : FinMap nat_cmp (Seen V)) (key : ℕ) (whole at : Part m) (ups : List (Part m)) (front back : List (Placed V)) (x : Placed V) → Way key whole at ups → whole.above ≡ None → FrontNamed front (name_of at.tree)
-      → root_past (last_room None front) (above_behind at.above front) (LeafOf x.room) (name_of whole.tree) ≡ root_after at.above (LeafOf (cons_at front back x).first.room) (name_of whole.tree)
-  place_root m key whole at ups [] back x way top named = refl
-  place_root m key whole at ups (f ∷ front) back x way top named =
-      past_root f.room front None (LeafOf x.room) (name_of whole.tree)
-      ∙ sym (ap (λ (z : Node). root_after at.above z (name_of whole.tree)) (sym named) ∙ root_same m key whole at ups way top)
-
-  -- ---- the exchange
-  pub record Rechained (m new : FinMap nat_cmp (Seen V)) (key : ℕ) (whole at : Part m) (old now : List (Placed V)) : Type 0 where
-    pub was : IsCons old
-    pub cons : IsCons now
-    pub is : at.tree ≡ leaf was.first was.rest
-    pub key_is : cons.first.entry.key ≡ was.first.entry.key
-    pub chain : IsChain cons.first.entry.key 34 now
-    pub stands : ChainStands (leaves_in new) at.above None now
-    pub leaves : (n : ℕ) → members_at n old ≡ 0 → 1 ≤ leaves_at n whole.tree → leaves_in new n ≡ leaves_in m n
-    pub bits : (n : ℕ) → bits_in new n ≡ name_child at.above key (LeafOf cons.first.room) n (bits_in m n)
-    pub heads : KeepsHeads m new
-    pub masks : KeepsMasks m new
-
-  abbrev pub under : (m new : FinMap nat_cmp (Seen V)) (key : ℕ) (whole at : Part m) (old now : List (Placed V)) → Rechained m new key whole at old now → Part new
-  under m new key whole at old now r = record {
-    tree = leaf r.cons.first r.cons.rest;
-    low = at.low;
-    above = at.above;
-    is = ((subst (IsTree at.low) r.is at.is).0, subst (IsChain r.cons.first.entry.key 34) r.cons.is r.chain);
-    stands = subst (ChainStands (leaves_in new) at.above None) r.cons.is r.stands;
-  }
-
-  pub old_counts : (m new : FinMap nat_cmp (Seen V)) (key : ℕ) (whole at : Part m) (old now : List (Placed V)) → Rechained m new key whole at old now → (n : ℕ) → leaves_at n at.tree ≡ members_at n old
-  old_counts m new key whole at old now r n = ap (λ (t : Tree V). leaves_at n t) r.is ∙ ap (λ (c : List (Placed V)). members_at n c) (sym r.was.is)
-
-  now_counts : (m new : FinMap nat_cmp (Seen V)) (key : ℕ) (whole at : Part m) (old now : List (Placed V)) (r : Rechained m new key whole at old now) → (n : ℕ) → leaves_at n (under m new key whole at old now r).tree ≡ members_at n now
-  now_counts m new key whole at old now r n = ap (λ (c : List (Placed V)). members_at n c) (sym r.cons.is)
-
-  pub exchange : (m new : FinMap nat_cmp (Seen V)) (key : ℕ) (whole at : Part m) (old now : List (Placed V)) (r : Rechained m new key whole at old now) → IsExchange m new key whole at (under m new key whole at old now r)
-  exchange m new key whole at old now r = record {
-    low = refl;
-    above = refl;
-    keys = λ c value before have. ap (λ (k : ℕ). bit_at c k) r.key_is ∙ subst (HaveBit c value) r.is have;
-    leaves = λ n none some. r.leaves n (sym (old_counts m new key whole at old now r n) ∙ none) some;
-    bits = λ n none some. r.bits n;
-  }
-
-  -- the whole with the other chain
-  abbrev pub with_chain : (m new : FinMap nat_cmp (Seen V)) (root : Node) (late : ℕ → Bool) (out : ℕ → ℕ) (key : ℕ) (w : IsWholeBut m root late out) (at : Part m) (ups : List (Part m)) (old now : List (Placed V)) → Way key w.part at ups
-      → (r : Rechained m new key w.part at old now) → Exchanged m new key w.part at (under m new key w.part at old now r) (root_after at.above (LeafOf r.cons.first.room) (name_of w.part.tree))
-  with_chain m new root late out key w at ups old now way r =
-      exchanged m new key w.part at ups (under m new key w.part at old now r) way w.top (once_but m root late out w) (exchange m new key w.part at old now r)
-
-  pub bits_some : (m new : FinMap nat_cmp (Seen V)) (key : ℕ) (whole at : Part m) (old now : List (Placed V)) → Rechained m new key whole at old now → (n : ℕ) → is_some (bits_in new n) ≡ is_some (bits_in m n)
-  bits_some m new key whole at old now r n = ap (λ (o : Option BitPart). is_some o) (r.bits n) ∙ turn_some at.above key n (LeafOf r.cons.first.room) (bits_in m n)
-
-  pub rechained : (m new : FinMap nat_cmp (Seen V)) (root : Node) (late later : ℕ → Bool) (out outs : ℕ → ℕ) (key : ℕ) (w : IsWholeBut m root late out) (at : Part m) (ups : List (Part m)) (old now : List (Placed V)) → Way key w.part at ups
-      → (r : Rechained m new key w.part at old now) → Fits m new w.part at (under m new key w.part at old now r) late later out outs → (HasOneFork (bits_in m) old → HasOneFork (bits_in m) now)
-      → IsWholeBut new (root_after at.above (LeafOf r.cons.first.room) (name_of w.part.tree)) later outs
-  rechained m new root late later out outs key w at ups old now way r f spare =
-      let none : (n : ℕ) → bits_in m n ≡ None → bits_in new n ≡ None = λ n gone. same_none (bits_in m n) (bits_in new n) (bits_some m new key w.part at old now r n) gone in
-      whole_changed m new root (root_after at.above (LeafOf r.cons.first.room) (name_of w.part.tree)) late later out outs key w at (under m new key w.part at old now r) (with_chain m new root late out key w at ups old now way r) f
-      (spare_changed m new root (root_after at.above (LeafOf r.cons.first.room) (name_of w.part.tree)) late out key w at (under m new key w.part at old now r) (with_chain m new root late out key w at ups old now way r)
-      (λ one. subst (HasOneFork (bits_in new)) r.cons.is (one_fork_same (bits_in m) (bits_in new) now none (spare (subst (HasOneFork (bits_in m)) (sym r.was.is) (subst (HaveOneFork (bits_in m)) r.is one)))))
-      (λ n out_of some gone. none n gone))
-
-  spliced : (m new : FinMap nat_cmp (Seen V)) (root : Node) (late : ℕ → Bool) (out : ℕ → ℕ) (key : ℕ) (w : IsWholeBut m root late out) (at : Part m) (ups : List (Part m)) (old now : List (Placed V)) → Way key w.part at ups
-      → (r : Rechained m new key w.part at old now) → Spliced (shown m (Some root)) (shown new (Some (root_after at.above (LeafOf r.cons.first.room) (name_of w.part.tree)))) (map_entries old) (map_entries now)
-  spliced m new root late out key w at ups old now way r =
-      let s = routes_changed m new root (root_after at.above (LeafOf r.cons.first.room) (name_of w.part.tree)) late out key w at (under m new key w.part at old now r) (with_chain m new root late out key w at ups old now way r) in
-      subst (λ (es : List (Entry V)). Spliced (shown m (Some root)) (shown new (Some (root_after at.above (LeafOf r.cons.first.room) (name_of w.part.tree)))) es (map_entries now))
-      (ap (λ (t : Tree V). routes_of t) r.is ∙ ap (λ (c : List (Placed V)). map_entries c) (sym r.was.is))
-      (subst (λ (es : List (Entry V)). Spliced (shown m (Some root)) (shown new (Some (root_after at.above (LeafOf r.cons.first.room) (name_of w.part.tree)))) (routes_of at.tree) es)
-      (ap (λ (c : List (Placed V)). map_entries c) (sym r.cons.is)) s)
-
-  -- ---- what both have in common
-  old_among : (m new : FinMap nat_cmp (Seen V)) (key : ℕ) (whole at : Part m) (old now : List (Placed V)) → Rechained m new key whole at old now → (y : Placed V) → IsIn y at.tree → IsAmong y old
-  old_among m new key whole at old now r y is = subst (IsAmong y) (sym r.was.is) (subst (IsIn y) r.is is)
-
-  among_old : (m new : FinMap nat_cmp (Seen V)) (key : ℕ) (whole at : Part m) (old now : List (Placed V)) → Rechained m new key whole at old now → (y : Placed V) → IsAmong y old → IsIn y at.tree
-  among_old m new key whole at old now r y is = subst (IsIn y) (sym r.is) (subst (IsAmong y) r.was.is is)
-
-  no_home : (m new : FinMap nat_cmp (Seen V)) (key : ℕ) (whole at : Part m) (old now : List (Placed V)) → Rechained m new key whole at old now → (k rank : ℕ) → HasHome k rank at.tree → ⊥
-  no_home m new key whole at old now r k rank home = subst (HasHome k rank) r.is home
-
-  same_marks : (m new : FinMap nat_cmp (Seen V)) (key : ℕ) (whole at : Part m) (old now : List (Placed V)) → Rechained m new key whole at old now → (y : Placed V) → IsMarked (masks_in m) y → IsMarked (masks_in new) y
-  same_marks m new key whole at old now r y marked = ap (λ (o : Option MaskPart). is_some o) (r.masks y.room.number) ∙ marked
-
-  not_marked : (m new : FinMap nat_cmp (Seen V)) (x y : Placed V) → KeepsMasks m new → masks_in m x.room.number ≡ None → x ≡ y → IsMarked (masks_in new) y → ⊥
-  not_marked m new x y keeps none same marked =
-      true≢false (sym marked ∙ ap (λ (p : Placed V). is_some (masks_in new p.room.number)) (sym same) ∙ ap (λ (o : Option MaskPart). is_some o) (keeps x.room.number ∙ none))
-
-  same_forks : (m new : FinMap nat_cmp (Seen V)) (key : ℕ) (whole at : Part m) (old now : List (Placed V)) (r : Rechained m new key whole at old now) (n : ℕ)
-      → forks_at n (under m new key whole at old now r).tree + one_if (is_some (bits_in m n)) ≡ forks_at n at.tree + one_if (is_some (bits_in new n))
-  same_forks m new key whole at old now r n =
-      let none : forks_at n at.tree ≡ 0 = ap (λ (t : Tree V). forks_at n t) r.is in
-      let same : one_if (is_some (bits_in new n)) ≡ one_if (is_some (bits_in m n)) = ap one_if (bits_some m new key whole at old now r n) in omega arith
-
   -- ---- a member more
-  fits_in : (m new : FinMap nat_cmp (Seen V)) (key : ℕ) (whole at : Part m) (front back : List (Placed V)) (x : Placed V) (r : Rechained m new key whole at (front ++ back) (front ++ (x ∷ back)))
-      → leaves_in m x.room.number ≡ None → masks_in m x.room.number ≡ None → ((n : ℕ) → is_some (leaves_in new n) ≡ (n == x.room.number) || is_some (leaves_in m n))
-      → Fits m new whole at (under m new key whole at (front ++ back) (front ++ (x ∷ back)) r) nobody_late (late_at x.room.number) nobody_out nobody_out
+  fits_in : (m new : Lodged V) (key : ℕ) (whole at : Part m) (front back : List (Placed V)) (x : Placed V)
+      (r : Rechained m new key whole at (front ++ back) (front ++ (x ∷ back)))
+      → leaves_in m x.room.number ≡ None → masks_in m x.room.number ≡ None → ((n : ℕ)
+      → is_some (leaves_in new n) ≡ (n == x.room.number) || is_some (leaves_in m n))
+      → Fits m new whole at (under r) nobody_late (late_at x.room.number) nobody_out nobody_out
   fits_in m new key whole at front back x r free unmarked rooms =
       let old = front ++ back in
       let now = front ++ (x ∷ back) in
-      let split : (y : Placed V) → IsIn y (leaf r.cons.first r.cons.rest) → (x ≡ y) ⊎ IsAmong y (front ++ back) = λ y is. among_less front back x y (subst (IsAmong y) (sym r.cons.is) is) in
+      let split : (y : Placed V) → IsIn y (leaf r.cons.first r.cons.rest) → (x ≡ y) ⊎ IsAmong y (front ++ back) =
+      λ y is. among_less front back x y (subst (IsAmong y) (sym r.cons.is) is) in
       record {
         leaves = λ n.
-            let o : leaves_at n at.tree ≡ members_at n (front ++ back) = old_counts m new key whole at (front ++ back) (front ++ (x ∷ back)) r n in
-            let t : members_at n (r.cons.first ∷ r.cons.rest) ≡ members_at n (front ++ (x ∷ back)) = now_counts m new key whole at (front ++ back) (front ++ (x ∷ back)) r n in
+            let o : leaves_at n at.tree ≡ members_at n (front ++ back) = old_counts r n in
+            let t : members_at n (r.cons.first ∷ r.cons.rest) ≡ members_at n (front ++ (x ∷ back)) = now_counts m new r n in
             let more : members_at n (front ++ (x ∷ back)) ≡ members_at n (front ++ back) + one_if (x.room.number == n) = members_more n front back x in
             let rise : one_if (is_some (leaves_in new n)) ≡ one_if (x.room.number == n) + one_if (is_some (leaves_in m n)) =
             ap one_if (rooms n) ∙ one_more (λ k. is_some (leaves_in m k)) x.room.number n (ap (λ (p : Option (LeafPart V)). is_some p) free) in omega arith;
-        forks = λ n. same_forks m new key whole at (front ++ back) (front ++ (x ∷ back)) r n;
+        forks = λ n. same_forks m new key whole at r n;
         heads = λ n none some. r.heads n;
         masks = λ n none some. r.masks n;
         masks_above = λ y is below marked. r.masks y.room.number;
         marks = λ n p e. (p, sym (r.masks n) ∙ e);
         kept = λ y is marked. (
-          subst (IsAmong y) r.cons.is (among_more front back x y (old_among m new key whole at (front ++ back) (front ++ (x ∷ back)) r y is)),
-          λ home. absurd (no_home m new key whole at (front ++ back) (front ++ (x ∷ back)) r y.entry.key y.entry.rank home),
+          subst (IsAmong y) r.cons.is (among_more front back x y (old_among m new r y is)),
+          λ home. absurd (no_home m new r y.entry.key y.entry.rank home),
         );
         came = λ y is marked. ⊎_elim
             (λ (e : x ≡ y). absurd (not_marked m new x y r.masks unmarked e marked))
-            (λ (own : IsAmong y (front ++ back)). among_old m new key whole at (front ++ back) (front ++ (x ∷ back)) r y own)
+            (λ (own : IsAmong y (front ++ back)). among_old r y own)
             (split y is);
-        gone = λ y is below marked. same_marks m new key whole at (front ++ back) (front ++ (x ∷ back)) r y marked;
+        gone = λ y is below marked. same_marks r y marked;
         lists = tt;
         all = λ y is home. ⊎_elim
             (λ (e : x ≡ y). inl (eq-eqb y.room.number x.room.number (ap (λ (p : Placed V). p.room.number) (sym e))))
             (λ (own : IsAmong y (front ++ back)). inr (
-              among_old m new key whole at (front ++ back) (front ++ (x ∷ back)) r y own,
+              among_old r y own,
               ⊎_elim (λ (lt : y.entry.rank < at.low). inl lt) (λ never. absurd never) home,
-              λ marked. same_marks m new key whole at (front ++ back) (front ++ (x ∷ back)) r y marked,
+              λ marked. same_marks r y marked,
               λ late. absurd (true≢false (sym late)),
             ))
             (split y is);
@@ -242,19 +57,20 @@ module _ {V : Type 0} where
       }
 
   -- ---- a member less
-  fits_out : (m new : FinMap nat_cmp (Seen V)) (key : ℕ) (whole at : Part m) (front back : List (Placed V)) (x : Placed V) (r : Rechained m new key whole at (front ++ (x ∷ back)) (front ++ back))
+  fits_out : (m new : Lodged V) (key : ℕ) (whole at : Part m) (front back : List (Placed V)) (x : Placed V)
+      (r : Rechained m new key whole at (front ++ (x ∷ back)) (front ++ back))
       → ((n : ℕ) → members_at n (front ++ (x ∷ back)) ≤ 1) → masks_in m x.room.number ≡ None → ((n : ℕ) → is_some (leaves_in new n) ≡ is_some (leaves_in m n))
-      → Fits m new whole at (under m new key whole at (front ++ (x ∷ back)) (front ++ back) r) (late_at x.room.number) nobody_late nobody_out (out_at x.room.number)
+      → Fits m new whole at (under r) (late_at x.room.number) nobody_late nobody_out (out_at x.room.number)
   fits_out m new key whole at front back x r once unmarked rooms =
       let own_now : (y : Placed V) → IsIn y (leaf r.cons.first r.cons.rest) → IsAmong y (front ++ back) = λ y is. subst (IsAmong y) (sym r.cons.is) is in
       record {
         leaves = λ n.
-            let o : leaves_at n at.tree ≡ members_at n (front ++ (x ∷ back)) = old_counts m new key whole at (front ++ (x ∷ back)) (front ++ back) r n in
-            let t : members_at n (r.cons.first ∷ r.cons.rest) ≡ members_at n (front ++ back) = now_counts m new key whole at (front ++ (x ∷ back)) (front ++ back) r n in
+            let o : leaves_at n at.tree ≡ members_at n (front ++ (x ∷ back)) = old_counts r n in
+            let t : members_at n (r.cons.first ∷ r.cons.rest) ≡ members_at n (front ++ back) = now_counts m new r n in
             let more : members_at n (front ++ (x ∷ back)) ≡ members_at n (front ++ back) + one_if (x.room.number == n) = members_more n front back x in
             let same : one_if (is_some (leaves_in new n)) ≡ one_if (is_some (leaves_in m n)) = ap one_if (rooms n) in
             let about : one_if (n == x.room.number) ≡ one_if (x.room.number == n) = turned_about x.room.number n in omega arith;
-        forks = λ n. same_forks m new key whole at (front ++ (x ∷ back)) (front ++ back) r n;
+        forks = λ n. same_forks m new key whole at r n;
         heads = λ n none some. r.heads n;
         masks = λ n none some. r.masks n;
         masks_above = λ y is below marked. r.masks y.room.number;
@@ -263,55 +79,63 @@ module _ {V : Type 0} where
           ⊎_elim
               (λ (e : x ≡ y). absurd (not_marked m new x y r.masks unmarked e marked))
               (λ (own : IsAmong y (front ++ back)). subst (IsAmong y) r.cons.is own)
-              (among_less front back x y (old_among m new key whole at (front ++ (x ∷ back)) (front ++ back) r y is)),
-          λ home. absurd (no_home m new key whole at (front ++ (x ∷ back)) (front ++ back) r y.entry.key y.entry.rank home),
+              (among_less front back x y (old_among m new r y is)),
+          λ home. absurd (no_home m new r y.entry.key y.entry.rank home),
         );
-        came = λ y is marked. among_old m new key whole at (front ++ (x ∷ back)) (front ++ back) r y (among_more front back x y (own_now y is));
-        gone = λ y is below marked. same_marks m new key whole at (front ++ (x ∷ back)) (front ++ back) r y marked;
+        came = λ y is marked. among_old r y (among_more front back x y (own_now y is));
+        gone = λ y is below marked. same_marks r y marked;
         lists = tt;
         all = λ y is home. inr (
-          among_old m new key whole at (front ++ (x ∷ back)) (front ++ back) r y (among_more front back x y (own_now y is)),
+          among_old r y (among_more front back x y (own_now y is)),
           ⊎_elim (λ (lt : y.entry.rank < at.low). inl lt) (λ never. absurd never) home,
-          λ marked. same_marks m new key whole at (front ++ (x ∷ back)) (front ++ back) r y marked,
+          λ marked. same_marks r y marked,
           λ late.
               let same : y.room.number ≡ x.room.number = eqb-true y.room.number x.room.number late in
               let some : 1 ≤ members_at y.room.number (front ++ back) = member_counts (front ++ back) y (own_now y is) in
-              let more : members_at y.room.number (front ++ (x ∷ back)) ≡ members_at y.room.number (front ++ back) + one_if (x.room.number == y.room.number) = members_more y.room.number front back x in
+              let more : members_at y.room.number (front ++ (x ∷ back)) ≡ members_at y.room.number (front ++ back) + one_if (x.room.number == y.room.number) =
+              members_more y.room.number front back x in
               let one : one_if (x.room.number == y.room.number) ≡ 1 = ap one_if (eq-eqb x.room.number y.room.number (sym same)) in
               let most : members_at y.room.number (front ++ (x ∷ back)) ≤ 1 = once y.room.number in absurd (omega arith),
         );
         late_aside = λ n none some late.
             let same : n ≡ x.room.number = eqb-true n x.room.number late in
             let own : 1 ≤ members_at x.room.number (front ++ (x ∷ back)) = member_counts (front ++ (x ∷ back)) x (among_own front back x) in
-            let counts : leaves_at x.room.number at.tree ≡ members_at x.room.number (front ++ (x ∷ back)) = old_counts m new key whole at (front ++ (x ∷ back)) (front ++ back) r x.room.number in
+            let counts : leaves_at x.room.number at.tree ≡ members_at x.room.number (front ++ (x ∷ back)) = old_counts r x.room.number in
             let gone : leaves_at x.room.number at.tree ≡ 0 = ap (λ (k : ℕ). leaves_at k at.tree) (sym same) ∙ none in absurd (omega arith);
       }
 
   -- ---- the whole
-  pub grown_whole : (m new : FinMap nat_cmp (Seen V)) (root : Node) (key : ℕ) (w : IsWholeBut m root nobody_late nobody_out) (at : Part m) (ups : List (Part m)) (front back : List (Placed V)) (x : Placed V) → Way key w.part at ups
+  pub grown_whole : (m new : Lodged V) {root : Node} (key : ℕ) (w : IsWholeBut m root nobody_late nobody_out) (at : Part m) (ups : List (Part m))
+      (front back : List (Placed V)) (x : Placed V) → Way key w.part at ups
       → (r : Rechained m new key w.part at (front ++ back) (front ++ (x ∷ back)))
-      → leaves_in m x.room.number ≡ None → masks_in m x.room.number ≡ None → bits_in m x.room.number ≡ None → ((n : ℕ) → is_some (leaves_in new n) ≡ (n == x.room.number) || is_some (leaves_in m n))
+      → leaves_in m x.room.number ≡ None → masks_in m x.room.number ≡ None → bits_in m x.room.number ≡ None
+      → ((n : ℕ) → is_some (leaves_in new n) ≡ (n == x.room.number) || is_some (leaves_in m n))
       → IsWholeBut new (root_after at.above (LeafOf r.cons.first.room) (name_of w.part.tree)) (late_at x.room.number) nobody_out
-  grown_whole m new root key w at ups front back x way r free unmarked idle rooms =
-      rechained m new root nobody_late (late_at x.room.number) nobody_out nobody_out key w at ups (front ++ back) (front ++ (x ∷ back)) way r (fits_in m new key w.part at front back x r free unmarked rooms)
+  grown_whole m new key w at ups front back x way r free unmarked idle rooms =
+      rechained m new key w at ups way r (fits_in m new key w.part at front back x r free unmarked rooms)
       (λ one. one_fork_more (bits_in m) front back x one idle)
 
-  pub grown_routes : (m new : FinMap nat_cmp (Seen V)) (root : Node) (key : ℕ) (w : IsWholeBut m root nobody_late nobody_out) (at : Part m) (ups : List (Part m)) (front back : List (Placed V)) (x : Placed V) → Way key w.part at ups
-      → (r : Rechained m new key w.part at (front ++ back) (front ++ (x ∷ back))) → Gains x.entry (shown m (Some root)) (shown new (Some (root_after at.above (LeafOf r.cons.first.room) (name_of w.part.tree))))
-  grown_routes m new root key w at ups front back x way r =
-      gains_spliced x.entry (shown m (Some root)) (shown new (Some (root_after at.above (LeafOf r.cons.first.room) (name_of w.part.tree)))) (map_entries (front ++ back)) (map_entries (front ++ (x ∷ back)))
-      (spliced m new root nobody_late nobody_out key w at ups (front ++ back) (front ++ (x ∷ back)) way r) (routes_more front back x)
+  pub grown_routes : (m new : Lodged V) (root : Node) {key : ℕ} (w : IsWholeBut m root nobody_late nobody_out) (at : Part m) (ups : List (Part m))
+      (front back : List (Placed V)) (x : Placed V) → Way key w.part at ups
+      → (r : Rechained m new key w.part at (front ++ back) (front ++ (x ∷ back)))
+      → Gains x.entry (shown m (Some root)) (shown new (Some (root_after at.above (LeafOf r.cons.first.room) (name_of w.part.tree))))
+  grown_routes m new root w at ups front back x way r =
+      gains_spliced
+      (spliced m new root w at ups way r) (routes_more front back x)
 
-  pub shrunk_whole : (m new : FinMap nat_cmp (Seen V)) (root : Node) (key : ℕ) (front back : List (Placed V)) (x : Placed V) (w : IsWholeBut m root (late_at x.room.number) nobody_out) (at : Part m) (ups : List (Part m)) → Way key w.part at ups
+  pub shrunk_whole : (m new : Lodged V) {root : Node} (key : ℕ) (front back : List (Placed V)) (x : Placed V)
+      (w : IsWholeBut m root (late_at x.room.number) nobody_out) (at : Part m) (ups : List (Part m)) → Way key w.part at ups
       → (r : Rechained m new key w.part at (front ++ (x ∷ back)) (front ++ back))
       → ((n : ℕ) → members_at n (front ++ (x ∷ back)) ≤ 1) → masks_in m x.room.number ≡ None → ((n : ℕ) → is_some (leaves_in new n) ≡ is_some (leaves_in m n))
       → IsWholeBut new (root_after at.above (LeafOf r.cons.first.room) (name_of w.part.tree)) nobody_late (out_at x.room.number)
-  shrunk_whole m new root key front back x w at ups way r once unmarked rooms =
-      rechained m new root (late_at x.room.number) nobody_late nobody_out (out_at x.room.number) key w at ups (front ++ (x ∷ back)) (front ++ back) way r (fits_out m new key w.part at front back x r once unmarked rooms)
+  shrunk_whole m new key front back x w at ups way r once unmarked rooms =
+      rechained m new key w at ups way r (fits_out m new key w.part at front back x r once unmarked rooms)
       (λ one. one_fork_less (bits_in m) front back x one)
 
-  pub shrunk_routes : (m new : FinMap nat_cmp (Seen V)) (root : Node) (late : ℕ → Bool) (key : ℕ) (front back : List (Placed V)) (x : Placed V) (w : IsWholeBut m root late nobody_out) (at : Part m) (ups : List (Part m)) → Way key w.part at ups
-      → (r : Rechained m new key w.part at (front ++ (x ∷ back)) (front ++ back)) → Gains x.entry (shown new (Some (root_after at.above (LeafOf r.cons.first.room) (name_of w.part.tree)))) (shown m (Some root))
-  shrunk_routes m new root late key front back x w at ups way r =
-      loses_spliced x.entry (shown m (Some root)) (shown new (Some (root_after at.above (LeafOf r.cons.first.room) (name_of w.part.tree)))) (map_entries (front ++ (x ∷ back))) (map_entries (front ++ back))
-      (spliced m new root late nobody_out key w at ups (front ++ (x ∷ back)) (front ++ back) way r) (routes_more front back x)
+  pub shrunk_routes : (m new : Lodged V) (root : Node) {late : ℕ → Bool} {key : ℕ} (front back : List (Placed V)) (x : Placed V)
+      (w : IsWholeBut m root late nobody_out) (at : Part m) (ups : List (Part m)) → Way key w.part at ups
+      → (r : Rechained m new key w.part at (front ++ (x ∷ back)) (front ++ back))
+      → Gains x.entry (shown new (Some (root_after at.above (LeafOf r.cons.first.room) (name_of w.part.tree)))) (shown m (Some root))
+  shrunk_routes m new root front back x w at ups way r =
+      loses_spliced
+      (spliced m new root w at ups way r) (routes_more front back x)

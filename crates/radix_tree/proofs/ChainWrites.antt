@@ -1,44 +1,41 @@
 -- Writes to the links of a chain's members.
 use Rattle.std.proofs.Common.{◌≡◌, ℕ, ◌==◌, Bool, true, false, if◌then◌else◌, Option, Some, None, refl, sym, ap, ◌∙◌}
 use Rattle.std.proofs.lemmas.Bool.{eqb-true, eq-eqb, ne_eqb}
-use Rattle.std.specs.Ordering.{nat_cmp}
-use Rattle.std.specs.FinMap.{FinMap}
-use Rattle.radix_nodes.specs.Rooms.{Seen, Has}
-use Rattle.radix_nodes.specs.Links.{leaf_of}
-use Rattle.radix_nodes.specs.declared.id.Id.{Id}
-use Rattle.radix_nodes.specs.declared.links.Leaf.{Leaf}
-use Rattle.radix_nodes.specs.declared.links.Links.{Links}
-use Rattle.radix_tree.specs.Rooms.{LeafPart, leaf_in, leaves_in}
-use Rattle.radix_tree.specs.Writes.{with_leaf, put_leaf, lodge_leaf, KeepsLeaves}
-use Rattle.radix_tree.specs.Chains.{leaf_next, leaf_back, name_next, name_back, link_in, link_out}
+use Rattle.radix_tree.proofs.Words.{Has, leaf_of, Id, Leaf, Links, LeafPart, leaf_in, leaves_in, with_leaf, put_leaf, lodge_leaf, KeepsLeaves, leaf_next}
+use Rattle.radix_tree.proofs.Words.{leaf_back, name_next, name_back, link_in, link_out, Lodged}
 use Rattle.radix_tree.proofs.RoomReads.{none_some, AreLinks, Has-leaf}
 
 module _ {V : Type 0} where
-  abbrev pub own_part : (m : FinMap nat_cmp (Seen V)) (room : Id) → Has m room → LeafPart V
-  own_part m room h = record { block = h.room.block; value = h.room.value; leaf = leaf_of h.room.links }
+  abbrev pub own_part : {m : Lodged V} {room : Id} → Has m room → LeafPart V
+  own_part h = record { block = h.room.block; value = h.room.value; leaf = leaf_of h.room.links }
 
-  pub own_said : (m : FinMap nat_cmp (Seen V)) (room : Id) (h : Has m room) → leaves_in m room.number ≡ Some (own_part m room h)
-  own_said m room h = ap leaf_in h.at
+  pub own_said : {m : Lodged V} {room : Id} (h : Has m room) → leaves_in m room.number ≡ Some (own_part h)
+  own_said h = ap leaf_in h.at
 
-  pub next_put : (m : FinMap nat_cmp (Seen V)) (room : Id) (links : Links) (l : Leaf) (next : Option Id) (n : ℕ) → Has m room → AreLinks m room links → l ≡ leaf_of links
+  pub next_put : {m : Lodged V} (room : Id) (links : Links) {l : Leaf} (next : Option Id) (n : ℕ) → Has m room → AreLinks m room links → l ≡ leaf_of links
       → put_leaf room (record l { next = next }) n (leaves_in m n) ≡ (if n == room.number then leaf_next next (leaves_in m n) else leaves_in m n)
-  next_put m room links l next n h are leaf =
+  next_put {m = m} room links {l = l} next n h are leaf =
       let read = leaf ∙ ap leaf_of (are h.room h.at) in
       elim (n == room.number) as (λ t. (n == room.number) ≡ t
       → (if t then with_leaf (record l { next = next }) (leaves_in m n) else leaves_in m n) ≡ (if t then leaf_next next (leaves_in m n) else leaves_in m n)) [
-        | true ↦ λ e. let said = ap (λ (k : ℕ). leaves_in m k) (eqb-true n room.number e) ∙ own_said m room h in
-            ap (with_leaf (record l { next = next })) said ∙ ap (λ (z : Leaf). with_leaf (record z { next = next }) (Some (own_part m room h))) read ∙ sym (ap (leaf_next next) said)
+        | true ↦ λ e. let said = ap (λ (k : ℕ). leaves_in m k) (eqb-true n room.number e) ∙ own_said h in
+            ap (with_leaf (record l { next = next })) said ∙ ap (λ (z : Leaf). with_leaf (record z { next = next }) (Some (own_part h))) read
+            ∙ sym (ap (leaf_next next) said)
         | false ↦ λ e. refl
       ] refl
 
-  pub back_put : (m : FinMap nat_cmp (Seen V)) (room : Id) (links : Links) (l : Leaf) (above previous : Option Id) (n : ℕ) → Has m room → AreLinks m room links → l ≡ leaf_of links
-      → put_leaf room (record l { above = above; previous = previous }) n (leaves_in m n) ≡ (if n == room.number then leaf_back above previous (leaves_in m n) else leaves_in m n)
-  back_put m room links l above previous n h are leaf =
+  pub back_put : {m : Lodged V} (room : Id) (links : Links) {l : Leaf} (above previous : Option Id) (n : ℕ) → Has m room → AreLinks m room links
+      → l ≡ leaf_of links
+      → put_leaf room (record l { above = above; previous = previous }) n (leaves_in m n)
+      ≡ (if n == room.number then leaf_back above previous (leaves_in m n) else leaves_in m n)
+  back_put {m = m} room links {l = l} above previous n h are leaf =
       let read = leaf ∙ ap leaf_of (are h.room h.at) in
       elim (n == room.number) as (λ t. (n == room.number) ≡ t
-      → (if t then with_leaf (record l { above = above; previous = previous }) (leaves_in m n) else leaves_in m n) ≡ (if t then leaf_back above previous (leaves_in m n) else leaves_in m n)) [
-        | true ↦ λ e. let said = ap (λ (k : ℕ). leaves_in m k) (eqb-true n room.number e) ∙ own_said m room h in
-            ap (with_leaf (record l { above = above; previous = previous })) said ∙ ap (λ (z : Leaf). with_leaf (record z { above = above; previous = previous }) (Some (own_part m room h))) read
+      → (if t then with_leaf (record l { above = above; previous = previous }) (leaves_in m n) else leaves_in m n)
+      ≡ (if t then leaf_back above previous (leaves_in m n) else leaves_in m n)) [
+        | true ↦ λ e. let said = ap (λ (k : ℕ). leaves_in m k) (eqb-true n room.number e) ∙ own_said h in
+            ap (with_leaf (record l { above = above; previous = previous })) said
+            ∙ ap (λ (z : Leaf). with_leaf (record z { above = above; previous = previous }) (Some (own_part h))) read
             ∙ sym (ap (leaf_back above previous) said)
         | false ↦ λ e. refl
       ] refl
@@ -50,78 +47,91 @@ module _ {V : Type 0} where
     pub is : said ≡ Some part
     pub block : part.block ≡ room.block
 
-  has_part : (m : FinMap nat_cmp (Seen V)) (room : Id) → IsPart (leaves_in m room.number) room → Has m room
-  has_part m room p = Has-leaf m room p.part p.is p.block
+  has_part : (m : Lodged V) (room : Id) → IsPart (leaves_in m room.number) room → Has m room
+  has_part m room p = Has-leaf m room p.is p.block
 
-  part_has : (m : FinMap nat_cmp (Seen V)) (room : Id) → Has m room → IsPart (leaves_in m room.number) room
-  part_has m room h = record { part = own_part m room h; is = own_said m room h; block = h.block }
+  part_has : {m : Lodged V} {room : Id} → Has m room → IsPart (leaves_in m room.number) room
+  part_has h = record { part = own_part h; is = own_said h; block = h.block }
 
-  lodged_part : (room at : Id) (value : V) (l : Leaf) (said : Option (LeafPart V)) → (at.number ≡ room.number → ⊥) → IsPart said at → IsPart (lodge_leaf room value l at.number said) at
-  lodged_part room at value l said other p = record {
+  lodged_part : (room at : Id) (value : V) (l : Leaf) {said : Option (LeafPart V)} → (at.number ≡ room.number → ⊥)
+      → IsPart said at → IsPart (lodge_leaf room value l at.number said) at
+  lodged_part room at value l {said = said} other p = record {
     part = p.part;
     is = ap (λ (t : Bool). if t then Some (record { block = room.block; value = value; leaf = l }) else said) (ne_eqb at.number room.number other) ∙ p.is;
     block = p.block;
   }
 
-  some_next : (next : Option Id) (room : Id) (said : Option (LeafPart V)) (p : IsPart said room) → IsPart (leaf_next next said) room
-  some_next next room said p = record { part = record p.part { leaf = record p.part.leaf { next = next } }; is = ap (leaf_next next) p.is; block = p.block }
+  some_next : (next : Option Id) {room : Id} {said : Option (LeafPart V)} (p : IsPart said room) → IsPart (leaf_next next said) room
+  some_next next p = record { part = record p.part { leaf = record p.part.leaf { next = next } }; is = ap (leaf_next next) p.is; block = p.block }
 
-  some_back : (above previous : Option Id) (room : Id) (said : Option (LeafPart V)) (p : IsPart said room) → IsPart (leaf_back above previous said) room
-  some_back above previous room said p = record { part = record p.part { leaf = record p.part.leaf { above = above; previous = previous } }; is = ap (leaf_back above previous) p.is; block = p.block }
+  some_back : (above previous : Option Id) {room : Id} {said : Option (LeafPart V)} (p : IsPart said room) → IsPart (leaf_back above previous said) room
+  some_back above previous p =
+      record {
+        part = record p.part { leaf = record p.part.leaf { above = above; previous = previous } };
+        is = ap (leaf_back above previous) p.is;
+        block =
+            p.block;
+      }
 
-  next_part : (before next : Option Id) (at : Id) (said : Option (LeafPart V)) → IsPart said at → IsPart (name_next before next at.number said) at
-  next_part None next at said p = p
-  next_part (Some room) next at said p =
+  next_part : (before next : Option Id) (at : Id) {said : Option (LeafPart V)} → IsPart said at → IsPart (name_next before next at.number said) at
+  next_part None next at p = p
+  next_part (Some room) next at {said = said} p =
       elim (at.number == room.number) as (λ t. IsPart (if t then leaf_next next said else said) at) [
-        | true ↦ some_next next at said p
+        | true ↦ some_next next p
         | false ↦ p
       ]
 
-  back_part : (behind above previous : Option Id) (at : Id) (said : Option (LeafPart V)) → IsPart said at → IsPart (name_back behind above previous at.number said) at
-  back_part None above previous at said p = p
-  back_part (Some room) above previous at said p =
+  back_part : (behind above previous : Option Id) (at : Id) {said : Option (LeafPart V)}
+      → IsPart said at → IsPart (name_back behind above previous at.number said) at
+  back_part None above previous at p = p
+  back_part (Some room) above previous at {said = said} p =
       elim (at.number == room.number) as (λ t. IsPart (if t then leaf_back above previous said else said) at) [
-        | true ↦ some_back above previous at said p
+        | true ↦ some_back above previous p
         | false ↦ p
       ]
 
-  pub Has-next : (m new : FinMap nat_cmp (Seen V)) (before next : Option Id) (at : Id) → ((n : ℕ) → leaves_in new n ≡ name_next before next n (leaves_in m n)) → Has m at → Has new at
+  pub Has-next : (m new : Lodged V) (before next : Option Id) (at : Id) → ((n : ℕ) → leaves_in new n ≡ name_next before next n (leaves_in m n))
+      → Has m at → Has new at
   Has-next m new before next at is h =
-      let p = next_part before next at (leaves_in m at.number) (part_has m at h) in
+      let p = next_part before next at (part_has h) in
       has_part new at (record { part = p.part; is = is at.number ∙ p.is; block = p.block })
 
-  pub Has-back : (m new : FinMap nat_cmp (Seen V)) (behind above previous : Option Id) (at : Id) → ((n : ℕ) → leaves_in new n ≡ name_back behind above previous n (leaves_in m n)) → Has m at → Has new at
+  pub Has-back : (m new : Lodged V) (behind above previous : Option Id) (at : Id)
+      → ((n : ℕ) → leaves_in new n ≡ name_back behind above previous n (leaves_in m n)) → Has m at → Has new at
   Has-back m new behind above previous at is h =
-      let p = back_part behind above previous at (leaves_in m at.number) (part_has m at h) in
+      let p = back_part behind above previous at (part_has h) in
       has_part new at (record { part = p.part; is = is at.number ∙ p.is; block = p.block })
 
-  pub Has-kept : (m new : FinMap nat_cmp (Seen V)) (at : Id) → KeepsLeaves m new → Has m at → Has new at
-  Has-kept m new at is h =
-      let p = part_has m at h in
+  pub Has-kept : {m : Lodged V} (new : Lodged V) (at : Id) → KeepsLeaves m new → Has m at → Has new at
+  Has-kept new at is h =
+      let p = part_has h in
       has_part new at (record { part = p.part; is = is at.number ∙ p.is; block = p.block })
 
   -- a room that is in the map has no free number
-  pub not_free : (m : FinMap nat_cmp (Seen V)) (room at : Id) → leaves_in m room.number ≡ None → Has m at → at.number ≡ room.number → ⊥
-  not_free m room at free h same = none_some (sym free ∙ ap (λ (k : ℕ). leaves_in m k) (sym same) ∙ own_said m at h)
+  pub not_free : (m : Lodged V) (room at : Id) → leaves_in m room.number ≡ None → Has m at → at.number ≡ room.number → ⊥
+  not_free m room at free h same = none_some (sym free ∙ ap (λ (k : ℕ). leaves_in m k) (sym same) ∙ own_said h)
 
-  pub Has-lodged : (m new : FinMap nat_cmp (Seen V)) (room at : Id) (value : V) (l : Leaf) → leaves_in m room.number ≡ None → ((n : ℕ) → leaves_in new n ≡ lodge_leaf room value l n (leaves_in m n)) → Has m at → Has new at
-  Has-lodged m new room at value l free is h =
-      let p = lodged_part room at value l (leaves_in m at.number) (not_free m room at free h) (part_has m at h) in
+  pub Has-lodged : {m : Lodged V} (new : Lodged V) (room at : Id) (value : V) (l : Leaf) → leaves_in m room.number ≡ None
+      → ((n : ℕ) → leaves_in new n ≡ lodge_leaf room value l n (leaves_in m n)) → Has m at → Has new at
+  Has-lodged {m = m} new room at value l free is h =
+      let p = lodged_part room at value l (not_free m room at free h) (part_has h) in
       has_part new at (record { part = p.part; is = is at.number ∙ p.is; block = p.block })
 
-  pub Has-linked_out : (m new : FinMap nat_cmp (Seen V)) (l : Leaf) (at : Id) → ((n : ℕ) → leaves_in new n ≡ link_out l n (leaves_in m n)) → Has m at → Has new at
+  pub Has-linked_out : (m new : Lodged V) (l : Leaf) (at : Id) → ((n : ℕ) → leaves_in new n ≡ link_out l n (leaves_in m n)) → Has m at → Has new at
   Has-linked_out m new l at is h =
       let said = leaves_in m at.number in
-      let p = next_part l.previous l.next at (name_back l.next l.above l.previous at.number (leaves_in m at.number)) (back_part l.next l.above l.previous at (leaves_in m at.number) (part_has m at h)) in
+      let p = next_part l.previous l.next at (back_part l.next l.above l.previous at (part_has h)) in
       has_part new at (record { part = p.part; is = is at.number ∙ p.is; block = p.block })
 
   -- the new room is there, whatever its neighbours say
-  pub Has-linked_in : (m new : FinMap nat_cmp (Seen V)) (room : Id) (value : V) (l : Leaf) → ((n : ℕ) → leaves_in new n ≡ link_in room value l n (leaves_in m n)) → Has new room
+  pub Has-linked_in : (m new : Lodged V) (room : Id) (value : V) (l : Leaf) → ((n : ℕ) → leaves_in new n ≡ link_in room value l n (leaves_in m n))
+      → Has new room
   Has-linked_in m new room value l is =
       let lodged : IsPart (lodge_leaf room value l room.number (leaves_in m room.number)) room = record {
         part = record { block = room.block; value = value; leaf = l };
-        is = ap (λ (t : Bool). if t then Some (record { block = room.block; value = value; leaf = l }) else leaves_in m room.number) (eq-eqb room.number room.number refl);
+        is = ap (λ (t : Bool). if t then Some (record { block = room.block; value = value; leaf = l }) else leaves_in m room.number)
+            (eq-eqb room.number room.number refl);
         block = refl;
       } in
-      let p = back_part l.next None (Some room) room _ (next_part l.previous (Some room) room (lodge_leaf room value l room.number (leaves_in m room.number)) lodged) in
+      let p = back_part l.next None (Some room) room (next_part l.previous (Some room) room lodged) in
       has_part new room (record { part = p.part; is = is room.number ∙ p.is; block = p.block })

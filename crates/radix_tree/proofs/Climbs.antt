@@ -1,22 +1,12 @@
 -- A walk up a tree, from a leaf of a key.
 use Rattle.std.proofs.Common.{◌≡◌, ℕ, ◌+◌, ◌≤◌, List, [], ◌∷◌, Option, Some, None, refl, sym, ap, ◌∙◌, subst, arith}
-use Rattle.std.specs.Ordering.{nat_cmp}
-use Rattle.std.specs.FinMap.{FinMap}
-use Rattle.radix_nodes.specs.Counting.{Counter}
-use Rattle.radix_nodes.specs.Rooms.{Seen}
-use Rattle.radix_nodes.specs.declared.id.Id.{Id}
-use Rattle.radix_nodes.specs.declared.links.BitNode.{BitNode}
-use Rattle.radix_nodes.specs.declared.links.Leaf.{Leaf}
-use Rattle.radix_tree.specs.MaskLists.{IsBitNode}
-use Rattle.radix_tree.specs.Reads.{IsBitNodeOf, ReadsOnce}
-use Rattle.radix_tree.specs.Rooms.{LeafPart, Part, leaves_in}
-use Rattle.radix_tree.specs.Searches.{ForkAt, LedTo, Beneath, Way}
-use Rattle.radix_tree.specs.Tree.{fork, IsTree}
+use Rattle.radix_tree.proofs.Words.{Counter, Id, BitNode, Leaf, IsBitNode, IsBitNodeOf, ReadsOnce, LeafPart, Part, leaves_in, ForkAt, LedTo, Beneath, Way, fork}
+use Rattle.radix_tree.proofs.Words.{IsTree, Lodged}
 use Rattle.radix_tree.proofs.Lifts.{part_at, leaf_said}
 use Rattle.radix_tree.proofs.Parts.{bit_part_of, fork_is, fork_stands}
 use Rattle.radix_tree.proofs.RoomReads.{IsNode, inside, none_some, node_said}
 
-module _ {V : Type 0} {m : FinMap nat_cmp (Seen V)} where
+module _ {V : Type 0} {m : Lodged V} where
   -- a walk up that has come to what is above a part, of which something holds
   pub record Climb (key : ℕ) (whole : Part m) (Holds : Part m → Type 0) (at : Option Id) : Type 0 where
     pub part : Part m
@@ -26,10 +16,11 @@ module _ {V : Type 0} {m : FinMap nat_cmp (Seen V)} where
     pub holds : Holds part
 
   -- from the leaf to which a key leads
-  pub begun : {key : ℕ} {whole : Part m} {room : Id} {f : Leaf} {Holds : Part m → Type 0} (l : LedTo key whole room) → ((p : LeafPart V) → leaves_in m room.number ≡ Some p → f ≡ p.leaf) → Holds l.part → Climb key whole Holds f.above
+  pub begun : {key : ℕ} {whole : Part m} {room : Id} {f : Leaf} {Holds : Part m → Type 0} (l : LedTo key whole room)
+      → ((p : LeafPart V) → leaves_in m room.number ≡ Some p → f ≡ p.leaf) → Holds l.part → Climb key whole Holds f.above
   begun {room = room} l said holds = record {
     part = l.part;
-    above = sym (ap (λ (z : Leaf). z.above) (said (part_at m l.part room l.leaf) (leaf_said m l.part room l.leaf)));
+    above = sym (ap (λ (z : Leaf). z.above) (said (part_at m l.leaf) (leaf_said m l.leaf)));
     ups = l.ups;
     way = l.way;
     holds = holds;
@@ -43,11 +34,13 @@ module _ {V : Type 0} {m : FinMap nat_cmp (Seen V)} where
     pub ups : List (Part m)
     pub way : Way key whole part ups
 
-  over_of : (key : ℕ) {whole under : Part m} {room : Id} (ups : List (Part m)) → Way key whole under ups → whole.above ≡ None → under.above ≡ Some room → Over key whole under room
+  over_of : (key : ℕ) {whole under : Part m} {room : Id} (ups : List (Part m)) → Way key whole under ups → whole.above ≡ None → under.above ≡ Some room
+      → Over key whole under room
   over_of key [] way top is = absurd (none_some (sym top ∙ sym (ap (λ (p : Part m). p.above) way) ∙ is))
   over_of key (p ∷ ps) way top is = record { part = p; beneath = way.0; room_is = inside (sym way.0.above ∙ is); ups = ps; way = way.1 }
 
-  pub over : {key : ℕ} {whole : Part m} {Holds : Part m → Type 0} {at : Option Id} {room : Id} → whole.above ≡ None → (c : Climb key whole Holds at) → at ≡ Some room → Over key whole c.part room
+  pub over : {key : ℕ} {whole : Part m} {Holds : Part m → Type 0} {at : Option Id} {room : Id} → whole.above ≡ None → (c : Climb key whole Holds at)
+      → at ≡ Some room → Over key whole c.part room
   over {key} top c is = over_of key c.ups c.way top (c.above ∙ is)
 
   abbrev pub fork_over : {key : ℕ} {whole under : Part m} {room : Id} (o : Over key whole under room) → ForkAt o.part room
@@ -55,18 +48,20 @@ module _ {V : Type 0} {m : FinMap nat_cmp (Seen V)} where
       record { bit = f.bit; zero = f.zero; one = f.one; is = f.is ∙ ap (λ (i : Id). fork i f.bit f.zero f.one) o.room_is }
 
   pub used : {p : Part m} {room : Id} (f : ForkAt p room) → IsBitNode m room
-  used {p} {room} f = record { part = bit_part_of m p room f; said = (fork_stands m p room f).0; block = refl }
+  used {p} {room} f = record { part = bit_part_of m f; said = (fork_stands m f).0; block = refl }
 
   -- what its room says is what the tree has there
-  pub node_at : {p : Part m} {room : Id} {n : BitNode} (f : ForkAt p room) → IsBitNodeOf m room n → IsNode n (bit_part_of m p room f)
-  node_at {p} {room} f is = node_said is.said (fork_stands m p room f).0
+  pub node_at : {p : Part m} {room : Id} {n : BitNode} (f : ForkAt p room) → IsBitNodeOf m room n → IsNode n (bit_part_of m f)
+  node_at {p} {room} f is = node_said is.said (fork_stands m f).0
 
   -- and on from there
-  pub risen : {key : ℕ} {whole under : Part m} {room : Id} {n : BitNode} {Holds : Part m → Type 0} (o : Over key whole under room) → IsBitNodeOf m room n → Holds o.part → Climb key whole Holds n.above
+  pub risen : {key : ℕ} {whole under : Part m} {room : Id} {n : BitNode} {Holds : Part m → Type 0} (o : Over key whole under room) → IsBitNodeOf m room n
+      → Holds o.part → Climb key whole Holds n.above
   risen o is holds = record { part = o.part; above = sym (node_at (fork_over o) is).above; ups = o.ups; way = o.way; holds = holds }
 
   -- where there is none, the part is the whole
-  topped : (key : ℕ) {whole part : Part m} (Holds : Part m → Type 0) (ups : List (Part m)) → Way key whole part ups → part.above ≡ None → Holds part → Holds whole
+  topped : (key : ℕ) {whole part : Part m} (Holds : Part m → Type 0) (ups : List (Part m)) → Way key whole part ups → part.above ≡ None → Holds part
+      → Holds whole
   topped key Holds [] way none holds = subst Holds way holds
   topped key Holds (p ∷ ps) way none holds = absurd (none_some (sym none ∙ way.0.above))
 
@@ -82,10 +77,12 @@ module _ {V : Type 0} {m : FinMap nat_cmp (Seen V)} where
   step_begun l once =
       let low = (subst (IsTree l.part.low) l.leaf.is l.part.is).0 in record { rises = omega arith; few = omega (arith, low) }
 
-  pub step_risen : {key : ℕ} {whole under : Part m} {room : Id} {start now later : Counter} (o : Over key whole under room) → Steps start now under → ReadsOnce now later → Steps start later o.part
+  pub step_risen : {key : ℕ} {whole under : Part m} {room : Id} {start now later : Counter} (o : Over key whole under room) → Steps start now under
+      → ReadsOnce now later → Steps start later o.part
   step_risen {room = room} o s once =
-      let rises = (fork_is m o.part room (fork_over o)).0.rises in
+      let rises = (fork_is m (fork_over o)).0.rises in
       let low = o.beneath.low in record { rises = omega arith; few = omega (arith, rises, low) }
 
-  pub step_soon : {key : ℕ} {whole under : Part m} {room : Id} {start now : Counter} (o : Over key whole under room) → Steps start now under → now.count ≤ start.count + 32
+  pub step_soon : {key : ℕ} {whole under : Part m} {room : Id} {start now : Counter} (o : Over key whole under room) → Steps start now under
+      → now.count ≤ start.count + 32
   step_soon o s = omega (arith, o.beneath.low, s.few)

@@ -2,15 +2,12 @@
 --     none_of_rank                     a rank that no route has
 --     few_of_rank                      no more than there are keys
 --     counted_more, counted_less       with a route more or less
-use Rattle.std.proofs.Common.{◌≡◌, ℕ, ◌+◌, ◌-◌, ◌^◌, ◌<◌, ◌≤◌, ◌==◌, ◌&&◌, Bool, true, false, cond, if◌then◌else◌, IsTrue, List, [], ◌∷◌, ◌++◌, Some, None, refl, sym, ap, ◌∙◌, subst, ⊎_elim, arith}
-use Rattle.std.specs.List.{AllByRecursion}
+use Rattle.std.proofs.Common.{◌≡◌, ℕ, ◌+◌, ◌-◌, ◌^◌, ◌<◌, ◌≤◌, ◌==◌, ◌&&◌, Bool, true, false, cond, if◌then◌else◌, IsTrue, List, [], ◌∷◌, ◌++◌, Some, None}
+use Rattle.std.proofs.Common.{refl, sym, ap, ◌∙◌, subst, ⊎_elim, arith}
 use Rattle.std.proofs.lemmas.Bool.{eqb-true, eq-eqb, ne_eqb, cases_lt}
 use Rattle.std.proofs.lemmas.List.Sums.{sum_by-cons, sum_by-append}
-use Rattle.mask_table.specs.Counts.{count_of, AreNone, HasOneMore}
-use Rattle.radix_tree.specs.Table.{precedes, IsTable, entry_at}
-use Rattle.radix_tree.specs.Growth.{Gains}
-use Rattle.radix_tree.specs.Kept.{of_rank, AreCounted}
-use Rattle.radix_tree.specs.declared.entry.Entry.{Entry}
+use Rattle.mask_table.specs.Counts.{count_of, AreNone}
+use Rattle.radix_tree.proofs.Words.{AllByRecursion, HasOneMore, precedes, IsTable, entry_at, Gains, of_rank, AreCounted, Entry}
 use Rattle.radix_tree.proofs.ListLemmas.{all_weaker}
 use Rattle.radix_tree.proofs.OrderLemmas.{precedes_in_words}
 
@@ -60,9 +57,10 @@ module _ {V : Type 0} where
   abbrev Above : ℕ → ℕ → List (Entry V) → Type 0
   Above low rank es = AllByRecursion (λ f. f.rank ≡ rank → low ≤ f.key) es
 
-  above_next : (rank : ℕ) (e f : Entry V) → e.rank ≡ rank → IsTrue (precedes e f) → f.rank ≡ rank → e.key + 1 ≤ f.key
-  above_next rank e f is ahead same = ⊎_elim (λ (less : e.key < f.key). omega arith)
-      (λ (equal : (e.key ≡ f.key) × (f.rank < e.rank)). let lower : f.rank < e.rank = equal.1 in absurd (omega (arith, lower, is, same))) ((precedes_in_words e f).0 ahead)
+  above_next : {rank : ℕ} (e f : Entry V) → e.rank ≡ rank → IsTrue (precedes e f) → f.rank ≡ rank → e.key + 1 ≤ f.key
+  above_next e f is ahead same = ⊎_elim (λ (less : e.key < f.key). omega arith)
+      (λ (equal : (e.key ≡ f.key) × (f.rank < e.rank)). let lower : f.rank < e.rank = equal.1 in absurd (omega (arith, lower, is, same)))
+      ((precedes_in_words e f).0 ahead)
 
   few_from : (low rank : ℕ) (es : List (Entry V)) → low ≤ 2 ^ 32 → IsTable es → Above low rank es → of_rank rank es + low ≤ 2 ^ 32
   few_from low rank [] within table above = omega arith
@@ -73,7 +71,7 @@ module _ {V : Type 0} where
             let same : e.rank ≡ rank = eqb-true e.rank rank is in
             let from : low ≤ e.key = above.0 same in
             let rest : of_rank rank es + (e.key + 1) ≤ 2 ^ 32 = few_from (e.key + 1) rank es (omega arith) table.2
-            (all_weaker (λ f. IsTrue (precedes e f)) (λ f. f.rank ≡ rank → e.key + 1 ≤ f.key) (λ f ahead. above_next rank e f same ahead) es table.1) in
+            (all_weaker (λ f. IsTrue (precedes e f)) (λ f. f.rank ≡ rank → e.key + 1 ≤ f.key) (λ f ahead. above_next e f same ahead) es table.1) in
             omega (arith, counted_here rank e es is, rest, from)
         | false ↦ λ is.
             let rest : of_rank rank es + low ≤ 2 ^ 32 = few_from low rank es within table.2 above.1 in omega (arith, counted_behind rank e es is, rest)
@@ -93,15 +91,17 @@ module _ {V : Type 0} where
       let was : of_rank rank old ≡ of_rank rank (g.front ++ g.back) = ap (λ (es : List (Entry V)). of_rank rank es) g.was in
       omega (arith, now, was, of_rank-append rank g.front (e ∷ g.back), of_rank-append rank g.front g.back, of_rank-cons rank e g.back)
 
-  pub counted_more : (e : Entry V) (old new : List (Entry V)) (was now : List ℕ) → AreCounted was old → Gains e old new → HasOneMore e.rank was now → AreCounted now new
-  counted_more e old new was now counted g more r fits =
+  pub counted_more : {e : Entry V} (old new : List (Entry V)) (was now : List ℕ) → AreCounted was old → Gains e old new → HasOneMore e.rank was now
+      → AreCounted now new
+  counted_more {e = e} old new was now counted g more r fits =
       let held_now : count_of r now ≡ count_of r was + (if r == e.rank then 1 else 0) = more r fits in
       let before : count_of r was ≡ of_rank r old = counted r fits in
       let after : of_rank r new ≡ of_rank r old + one_of (e.rank == r) = one_more r e old new g in
       held_now ∙ ap (λ (n : ℕ). n + (if r == e.rank then 1 else 0)) before ∙ ap (λ (n : ℕ). of_rank r old + n) (sym (turned r e.rank)) ∙ sym after
 
-  pub counted_less : (e : Entry V) (old new : List (Entry V)) (was now : List ℕ) → AreCounted was old → Gains e new old → HasOneMore e.rank now was → AreCounted now new
-  counted_less e old new was now counted g more r fits =
+  pub counted_less : {e : Entry V} (old new : List (Entry V)) (was now : List ℕ) → AreCounted was old → Gains e new old → HasOneMore e.rank now was
+      → AreCounted now new
+  counted_less {e = e} old new was now counted g more r fits =
       let held_was : count_of r was ≡ count_of r now + (if r == e.rank then 1 else 0) = more r fits in
       let before : count_of r was ≡ of_rank r old = counted r fits in
       let after : of_rank r old ≡ of_rank r new + one_of (e.rank == r) = one_more r e new old g in
@@ -109,11 +109,14 @@ module _ {V : Type 0} where
       omega (arith, held_was, before, after, same)
 
   -- what the counts say of a rank
-  pub not_held : (counts : List ℕ) (es : List (Entry V)) (key rank : ℕ) (has : Bool) → AreCounted counts es → rank ≤ 33 → (0 < count_of rank counts → IsTrue has) → has ≡ false → entry_at key rank es ≡ None
-  not_held counts es key rank has counted fits asks not =
+  pub not_held : (counts : List ℕ) (es : List (Entry V)) (key rank : ℕ) {has : Bool} → AreCounted counts es → rank ≤ 33 → (0 < count_of rank counts → IsTrue has)
+      → has ≡ false → entry_at key rank es ≡ None
+  not_held counts es key rank counted fits asks not =
       ⊎_elim (λ (some : 0 < count_of rank counts). absurd (true_false (sym (subst IsTrue not (asks some)))))
-      (λ (none : count_of rank counts ≤ 0). none_of_rank key rank es (let is : count_of rank counts ≡ of_rank rank es = counted rank fits in omega (arith, none, is))) (cases_lt 0 (count_of rank counts))
+      (λ (none : count_of rank counts ≤ 0). none_of_rank key rank es (let is : count_of rank counts ≡ of_rank rank es = counted rank fits in omega (arith, none, is)))
+      (cases_lt 0 (count_of rank counts))
 
   pub few_held : (counts : List ℕ) (es : List (Entry V)) (rank : ℕ) → AreCounted counts es → IsTable es → rank ≤ 33 → count_of rank counts < 2 ^ 64 - 1
   few_held counts es rank counted table fits =
-      let few : of_rank rank es ≤ 2 ^ 32 = few_of_rank rank es table in let same : count_of rank counts ≡ of_rank rank es = counted rank fits in omega (arith, few, same)
+      let few : of_rank rank es ≤ 2 ^ 32 = few_of_rank rank es table in let same : count_of rank counts ≡ of_rank rank es = counted rank fits in
+      omega (arith, few, same)

@@ -1,21 +1,8 @@
 -- The list of masks of a bit node is cut at a bit, or a leaf has none.
 use Rattle.std.proofs.Common.{◌≡◌, ℕ, ◌+◌, ◌<◌, ◌≤◌, ◌==◌, Bool, List, [], Option, None, refl, sym, ap, ◌∙◌, subst, inl, inr, ⊎_elim, arith}
-use Rattle.std.specs.Prelude.{is_some}
-use Rattle.std.specs.Ordering.{nat_cmp}
-use Rattle.std.specs.FinMap.{FinMap}
-use Rattle.radix_nodes.specs.Rooms.{Seen}
-use Rattle.radix_nodes.specs.declared.id.Id.{Id}
-use Rattle.radix_nodes.specs.declared.links.Node.{Node}
-use Rattle.radix_nodes.specs.declared.links.Node.TheVariants.{Leaf as LeafOf, Bit as BitOf}
-use Rattle.radix_tree.specs.Tree.{Placed, Tree, leaf, fork, IsAmong, IsIn, IsTree}
-use Rattle.radix_tree.specs.Rooms.{LeafPart, Part, leaves_in, bits_in, heads_in, masks_in, leaf_part, name_of}
-use Rattle.radix_tree.specs.Searches.{ForkAt, Way}
-use Rattle.radix_tree.specs.Whole.{one_if, leaves_at, forks_at, HasHome}
-use Rattle.radix_tree.specs.Growth.{AreOnce}
-use Rattle.radix_tree.specs.Exchange.{low_past}
-use Rattle.radix_tree.specs.Marks.{IsMarked, IsMaskList, MarkedIn, MarkedLists, IsWholeBut}
-use Rattle.radix_tree.specs.MaskLists.{IsMasks, IsAside, past_bit, up_to_bit}
-use Rattle.radix_tree.specs.Writes.{KeepsLeaves, KeepsBits}
+use Rattle.radix_tree.proofs.Words.{is_some, Id, Node, LeafOf, BitOf, Placed, Tree, leaf, fork, IsAmong, IsIn, IsTree, LeafPart, Part, leaves_in, bits_in}
+use Rattle.radix_tree.proofs.Words.{heads_in, masks_in, leaf_part, name_of, ForkAt, Way, one_if, leaves_at, forks_at, HasHome, AreOnce, low_past, IsMarked}
+use Rattle.radix_tree.proofs.Words.{IsMaskList, MarkedIn, MarkedLists, IsWholeBut, IsMasks, IsAside, past_bit, up_to_bit, KeepsLeaves, KeepsBits, Lodged}
 use Rattle.radix_tree.proofs.RoomReads.{inside}
 use Rattle.radix_tree.proofs.TreeMembers.{tree_said}
 use Rattle.radix_tree.proofs.Parts.{fork_is, fork_named}
@@ -23,7 +10,7 @@ use Rattle.radix_tree.proofs.PartRooms.{one_if_same, elsewhere, way_once}
 use Rattle.radix_tree.proofs.Plugs.{counted_leaf, home_plug, plug_in}
 use Rattle.radix_tree.proofs.PlugLists.{falls_between, lists_at}
 use Rattle.radix_tree.proofs.FrameLists.{lists_stay}
-use Rattle.radix_tree.proofs.WholeChanges.{some_of}
+use Rattle.radix_tree.proofs.WholeParts.{some_of}
 use Rattle.radix_tree.proofs.LeafWays.{on_way}
 use Rattle.radix_tree.proofs.MaskLists.{not_below_among, among_not_below, below_among, among_below, falls_not_below, falls_below, masks_listed}
 
@@ -32,7 +19,8 @@ same_bit_node e = cc
 
 module _ {V : Type 0} where
   -- routes of a part in one room have one key and one rank
-  pub same_pair : (m : FinMap nat_cmp (Seen V)) (p : Part m) (x y : Placed V) → IsIn x p.tree → IsIn y p.tree → x.room.number ≡ y.room.number → (x.entry.key ≡ y.entry.key) × (x.entry.rank ≡ y.entry.rank)
+  pub same_pair : (m : Lodged V) (p : Part m) (x y : Placed V) → IsIn x p.tree → IsIn y p.tree → x.room.number ≡ y.room.number
+      → (x.entry.key ≡ y.entry.key) × (x.entry.rank ≡ y.entry.rank)
   same_pair m p x y one other same =
       let a = tree_said (leaves_in m) (bits_in m) p.above p.tree p.stands x one in
       let b = tree_said (leaves_in m) (bits_in m) p.above p.tree p.stands y other in
@@ -40,7 +28,7 @@ module _ {V : Type 0} where
       (ap (λ (l : LeafPart V). l.leaf.key) e, ap (λ (l : LeafPart V). l.leaf.rank) e)
 
   -- the masks of a part, once those of its bit node that are past a bit are listed there, and the others are a list of their own
-  pub record IsCut (m new : FinMap nat_cmp (Seen V)) (low bit : ℕ) (t : Tree V) (first : Option Id) : Type 0 where
+  pub record IsCut (m new : Lodged V) (low bit : ℕ) (t : Tree V) (first : Option Id) : Type 0 where
     pub leaves : KeepsLeaves m new
     pub bits : KeepsBits m new
     pub heads : (n : ℕ) → forks_at n t ≡ 0 → heads_in new n ≡ heads_in m n
@@ -52,36 +40,49 @@ module _ {V : Type 0} where
 
   -- ---- a leaf
   -- its marked routes are listed further up
-  pub unmarked_leaf : (m : FinMap nat_cmp (Seen V)) (root : Node) (late : ℕ → Bool) (out : ℕ → ℕ) (w : IsWholeBut m root late out) (key : ℕ) (at : Part m) (ups : List (Part m)) (y : Placed V) (ys : List (Placed V)) → Way key w.part at ups → at.tree ≡ leaf y ys
+  pub unmarked_leaf : (m : Lodged V) {root : Node} {late : ℕ → Bool} {out : ℕ → ℕ} (w : IsWholeBut m root late out) (key : ℕ) (at : Part m)
+      (ups : List (Part m)) (y : Placed V) (ys : List (Placed V)) → Way key w.part at ups → at.tree ≡ leaf y ys
       → (x : Placed V) → IsIn x at.tree → IsMarked (masks_in m) x → at.low ≤ x.entry.rank → ⊥
-  unmarked_leaf m root late out w key at ups y ys way is x there marked least =
+  unmarked_leaf m w key at ups y ys way is x there marked least =
       let p = some_of (masks_in m x.room.number) marked in
       let z = w.listed x.room.number p.0 p.1 in
       let o = on_way m key w.part at ups way in
       let whole_is = subst (IsTree w.part.low) o.was w.part.is in
       let in_whole : IsIn x w.part.tree = subst (IsIn x) (sym o.was) (plug_in o.frames at.tree x there) in
       let pair = same_pair m w.part z.0 x z.1 in_whole z.2 in
-      let home : HasHome x.entry.key x.entry.rank w.part.tree = subst (λ (r : ℕ). HasHome x.entry.key r w.part.tree) pair.1 (subst (λ (k : ℕ). HasHome k z.0.entry.rank w.part.tree) pair.0 z.3) in
+      let home : HasHome x.entry.key x.entry.rank w.part.tree =
+      subst (λ (r : ℕ). HasHome x.entry.key r w.part.tree) pair.1 (subst (λ (k : ℕ). HasHome k z.0.entry.rank w.part.tree) pair.0 z.3) in
       let low : at.low ≡ low_past w.part.low o.frames = o.lowest in
       ⊎_elim
       (λ (above : x.entry.rank < low_past w.part.low o.frames). absurd (omega arith))
       (λ (here : HasHome x.entry.key x.entry.rank at.tree). subst (λ (t : Tree V). HasHome x.entry.key x.entry.rank t) is here)
       (home_plug w.part.low o.frames at.tree x whole_is there (subst (λ (t : Tree V). HasHome x.entry.key x.entry.rank t) o.was home))
 
-  pub cut_leaf : (m : FinMap nat_cmp (Seen V)) (low bit : ℕ) (t : Tree V) (y : Placed V) (ys : List (Placed V)) → t ≡ leaf y ys → ((x : Placed V) → IsIn x t → IsMarked (masks_in m) x → low ≤ x.entry.rank → ⊥) → IsCut m m low bit t None
-  cut_leaf m low bit t y ys is none = record {
+  pub cut_leaf : (m : Lodged V) (low bit : ℕ) {t : Tree V} (y : Placed V) (ys : List (Placed V)) → t ≡ leaf y ys
+      → ((x : Placed V) → IsIn x t → IsMarked (masks_in m) x → low ≤ x.entry.rank → ⊥) → IsCut m m low bit t None
+  cut_leaf m low bit y ys is none = record {
     leaves = λ n. refl;
     bits = λ n. refl;
     heads = λ n out. refl;
     masks = λ n out. refl;
     masks_above = λ x at above. refl;
     marks = λ n. refl;
-    list = record { masks = []; begins = refl; stands = tt; falls = tt; has = λ x member least most. absurd (none x member.0 member.1 least); within = λ x among. absurd among };
+    list =
+        record {
+          masks = [];
+          begins = refl;
+          stands = tt;
+          falls = tt;
+          has = λ x member least most. absurd (none x member.0 member.1 least);
+          within =
+              λ x among. absurd among;
+        };
     lists = subst (MarkedLists (heads_in m) (masks_in m) (bit + 1)) (sym is) tt;
   }
 
   -- ---- a bit node
-  pub cut_fork : (m new : FinMap nat_cmp (Seen V)) (p : Part m) (room : Id) (f : ForkAt p room) (bit : ℕ) (first : Option Id) → AreOnce p.tree → p.low ≤ bit → IsTree (bit + 1) p.tree → MarkedLists (heads_in m) (masks_in m) p.low p.tree
+  pub cut_fork : (m new : Lodged V) (p : Part m) (room : Id) (f : ForkAt p room) (bit : ℕ) (first : Option Id) → AreOnce p.tree → p.low ≤ bit
+      → IsTree (bit + 1) p.tree → MarkedLists (heads_in m) (masks_in m) p.low p.tree
       → ((ms : List (Placed V)) → IsMasks m (heads_in m room.number) ms → IsMasks new (heads_in new room.number) (past_bit bit ms))
       → ((ms : List (Placed V)) → IsMasks m (heads_in m room.number) ms → IsMasks new first (up_to_bit bit ms))
       → ((n : ℕ) → (n ≡ room.number → ⊥) → heads_in new n ≡ heads_in m n)
@@ -91,19 +92,23 @@ module _ {V : Type 0} where
       let fork_lists = subst (MarkedLists (heads_in m) (masks_in m) p.low) f.is lists in
       let l : IsMaskList (masks_in m) (heads_in m room.number) p.low f.bit (MarkedIn (masks_in m) p.tree) =
       subst (λ (t : Tree V). IsMaskList (masks_in m) (heads_in m room.number) p.low f.bit (MarkedIn (masks_in m) t)) (sym f.is) fork_lists.0 in
-      let tree = fork_is m p room f in
+      let tree = fork_is m f in
       let past : bit + 1 ≤ f.bit = (subst (IsTree (bit + 1)) f.is is).0.rises in
-      let ms = masks_listed m p (heads_in m room.number) p.low f.bit (MarkedIn (masks_in m) p.tree) l tree.0.within (λ x member. member.0) in
+      let ms = masks_listed p l tree.0.within (λ x member. member.0) in
       let long = kept l.masks ms in
       let short = others l.masks ms in
       let own : one_if (room.number == room.number) ≡ 1 = one_if_same room.number in
-      let all_forks : (n : ℕ) → forks_at n p.tree ≡ one_if (room.number == n) + (forks_at n f.zero + forks_at n f.one) = λ n. ap (λ (t : Tree V). forks_at n t) f.is in
-      let outside : (y : Placed V) → IsIn y p.tree → ((z : Placed V) → IsAmong z l.masks → y.entry.rank ≡ z.entry.rank → ⊥) → masks_in new y.room.number ≡ masks_in m y.room.number =
+      let all_forks : (n : ℕ) → forks_at n p.tree ≡ one_if (room.number == n) + (forks_at n f.zero + forks_at n f.one) =
+      λ n. ap (λ (t : Tree V). forks_at n t) f.is in
+      let outside : (y : Placed V) → IsIn y p.tree → ((z : Placed V) → IsAmong z l.masks → y.entry.rank ≡ z.entry.rank → ⊥)
+      → masks_in new y.room.number ≡ masks_in m y.room.number =
       λ y at other. masks l.masks ms y.room.number (λ z among same. other z among (same_pair m p y z at (l.within z among).0 (sym same)).1) in
       let zeros : (y : Placed V) → IsIn y f.zero → f.bit + 1 ≤ y.entry.rank → masks_in new y.room.number ≡ masks_in m y.room.number =
-      λ y at least. outside y (subst (IsIn y) (sym f.is) (inl at)) (λ z among same. let most : z.entry.rank < f.bit + 1 = (falls_between p.low (f.bit + 1) l.masks l.falls z among).1 in omega arith) in
+      λ y at least. outside y (subst (IsIn y) (sym f.is) (inl at)) (λ z among same. let most : z.entry.rank < f.bit + 1 =
+      (falls_between p.low (f.bit + 1) l.masks l.falls z among).1 in omega arith) in
       let ones : (y : Placed V) → IsIn y f.one → f.bit + 1 ≤ y.entry.rank → masks_in new y.room.number ≡ masks_in m y.room.number =
-      λ y at least. outside y (subst (IsIn y) (sym f.is) (inr at)) (λ z among same. let most : z.entry.rank < f.bit + 1 = (falls_between p.low (f.bit + 1) l.masks l.falls z among).1 in omega arith) in
+      λ y at least. outside y (subst (IsIn y) (sym f.is) (inr at)) (λ z among same. let most : z.entry.rank < f.bit + 1 =
+      (falls_between p.low (f.bit + 1) l.masks l.falls z among).1 in omega arith) in
       record {
         leaves = leaves;
         bits = bits;
@@ -111,14 +116,17 @@ module _ {V : Type 0} where
             let here : one_if (room.number == n) ≡ 1 = ap (λ (k : ℕ). one_if (room.number == k)) same ∙ own in absurd (omega arith));
         masks = λ n out. masks l.masks ms n (λ z among same. let some : 1 ≤ leaves_at z.room.number p.tree = counted_leaf z p.tree (l.within z among).0 in
             let e : leaves_at z.room.number p.tree ≡ leaves_at n p.tree = ap (λ (k : ℕ). leaves_at k p.tree) same in omega arith);
-        masks_above = λ y at above. outside y at (λ z among same. let least : p.low ≤ z.entry.rank = (falls_between p.low (f.bit + 1) l.masks l.falls z among).0 in omega arith);
+        masks_above =
+            λ y at above. outside y at (λ z among same. let least : p.low ≤ z.entry.rank = (falls_between p.low (f.bit + 1) l.masks l.falls z among).0 in
+            omega arith);
         marks = marks;
         list = record {
           masks = up_to_bit bit l.masks;
           begins = short.begins;
           stands = short.stands;
           falls = falls_below p.low (f.bit + 1) (bit + 1) l.masks l.falls;
-          has = λ x member least most. among_below (bit + 1) l.masks x (l.has x (member.0, sym (marks x.room.number) ∙ member.1) least (omega arith)) (omega arith);
+          has = λ x member least most. among_below (bit + 1) l.masks x (l.has x (member.0, sym (marks x.room.number) ∙ member.1) least (omega arith))
+              (omega arith);
           within = λ x among. let was = l.within x (below_among p.low (f.bit + 1) (bit + 1) l.masks l.falls x among).0 in (was.0, marks x.room.number ∙ was.1);
         };
         lists = subst (MarkedLists (heads_in new) (masks_in new) (bit + 1)) (sym f.is) (
@@ -127,49 +135,58 @@ module _ {V : Type 0} where
             begins = long.begins;
             stands = long.stands;
             falls = falls_not_below p.low (f.bit + 1) (bit + 1) l.masks l.falls;
-            has = λ x member least most. among_not_below p.low (f.bit + 1) (bit + 1) l.masks l.falls x (l.has x (subst (IsIn x) (sym f.is) member.0, sym (marks x.room.number) ∙ member.1) (omega arith) most) least;
+            has = λ x member least most. among_not_below p.low (f.bit + 1) (bit + 1) l.masks l.falls x
+                (l.has x (subst (IsIn x) (sym f.is) member.0, sym (marks x.room.number) ∙ member.1) (omega arith) most) least;
             within = λ x among. let was = l.within x (not_below_among (bit + 1) l.masks x among).0 in (subst (IsIn x) f.is was.0, marks x.room.number ∙ was.1);
           },
           lists_stay (heads_in m) (heads_in new) (masks_in m) (masks_in new) (f.bit + 1) f.zero tree.1
-              (λ n some. heads n (elsewhere room n (forks_at n f.zero) some (let sum : forks_at n p.tree ≡ one_if (room.number == n) + (forks_at n f.zero + forks_at n f.one) = all_forks n in let most : forks_at n p.tree ≤ 1 = once.forks n in omega arith)))
+              (λ n some. heads n (elsewhere room n (forks_at n f.zero) some (let sum : forks_at n p.tree ≡ one_if (room.number == n)
+              + (forks_at n f.zero + forks_at n f.one) = all_forks n in let most : forks_at n p.tree ≤ 1 = once.forks n in omega arith)))
               zeros fork_lists.1,
           lists_stay (heads_in m) (heads_in new) (masks_in m) (masks_in new) (f.bit + 1) f.one tree.2
-              (λ n some. heads n (elsewhere room n (forks_at n f.one) some (let sum : forks_at n p.tree ≡ one_if (room.number == n) + (forks_at n f.zero + forks_at n f.one) = all_forks n in let most : forks_at n p.tree ≤ 1 = once.forks n in omega arith)))
+              (λ n some. heads n (elsewhere room n (forks_at n f.one) some (let sum : forks_at n p.tree ≡ one_if (room.number == n)
+              + (forks_at n f.zero + forks_at n f.one) = all_forks n in let most : forks_at n p.tree ≤ 1 = once.forks n in omega arith)))
               ones fork_lists.2,
         );
       }
 
   -- the lists of a part of the whole
-  pub part_lists : (m : FinMap nat_cmp (Seen V)) (root : Node) (late : ℕ → Bool) (out : ℕ → ℕ) (w : IsWholeBut m root late out) (key : ℕ) (at : Part m) (ups : List (Part m)) → Way key w.part at ups → MarkedLists (heads_in m) (masks_in m) at.low at.tree
-  part_lists m root late out w key at ups way =
+  pub part_lists : (m : Lodged V) {root : Node} {late : ℕ → Bool} {out : ℕ → ℕ} (w : IsWholeBut m root late out) (key : ℕ) (at : Part m) (ups : List (Part m))
+      → Way key w.part at ups → MarkedLists (heads_in m) (masks_in m) at.low at.tree
+  part_lists m w key at ups way =
       let o = on_way m key w.part at ups way in
-      subst (λ (n : ℕ). MarkedLists (heads_in m) (masks_in m) n at.tree) (sym o.lowest) (lists_at (heads_in m) (masks_in m) w.part.low o.frames at.tree (subst (MarkedLists (heads_in m) (masks_in m) w.part.low) o.was w.lists))
+      subst (λ (n : ℕ). MarkedLists (heads_in m) (masks_in m) n at.tree) (sym o.lowest)
+      (lists_at (heads_in m) (masks_in m) w.part.low o.frames at.tree (subst (MarkedLists (heads_in m) (masks_in m) w.part.low) o.was w.lists))
 
   -- ---- either of them
-  pub cut_at : (m new : FinMap nat_cmp (Seen V)) (root : Node) (late : ℕ → Bool) (out : ℕ → ℕ) (w : IsWholeBut m root late out) (key bit : ℕ) (p : Part m) (ups : List (Part m)) (below : Node) (first : Option Id) (t : Tree V) → p.tree ≡ t
+  pub cut_at : (m new : Lodged V) {root : Node} {late : ℕ → Bool} {out : ℕ → ℕ} (w : IsWholeBut m root late out) (key bit : ℕ) (p : Part m)
+      (ups : List (Part m)) (below : Node) (first : Option Id) (t : Tree V) → p.tree ≡ t
       → Way key w.part p ups → AreOnce w.part.tree → p.low ≤ bit → IsTree (bit + 1) p.tree → name_of p.tree ≡ below
-      → ((fork : Id) (ms : List (Placed V)) → below ≡ BitOf fork → IsMasks m (heads_in m fork.number) ms → IsMasks new (heads_in new fork.number) (past_bit bit ms))
+      → ((fork : Id) (ms : List (Placed V)) → below ≡ BitOf fork → IsMasks m (heads_in m fork.number) ms
+      → IsMasks new (heads_in new fork.number) (past_bit bit ms))
       → ((fork : Id) (ms : List (Placed V)) → below ≡ BitOf fork → IsMasks m (heads_in m fork.number) ms → IsMasks new first (up_to_bit bit ms))
       → ((room : Id) → below ≡ LeafOf room → (first ≡ None) × (new ≡ m))
       → ((n : ℕ) → ((fork : Id) → below ≡ BitOf fork → n ≡ fork.number → ⊥) → heads_in new n ≡ heads_in m n)
-      → ((fork : Id) (ms : List (Placed V)) → below ≡ BitOf fork → IsMasks m (heads_in m fork.number) ms → (n : ℕ) → IsAside n ms → masks_in new n ≡ masks_in m n)
+      → ((fork : Id) (ms : List (Placed V)) → below ≡ BitOf fork → IsMasks m (heads_in m fork.number) ms → (n : ℕ) → IsAside n ms
+      → masks_in new n ≡ masks_in m n)
       → ((n : ℕ) → is_some (masks_in new n) ≡ is_some (masks_in m n)) → KeepsLeaves m new → KeepsBits m new → IsCut m new p.low bit p.tree first
-  cut_at m new root late out w key bit p ups below first (leaf y ys) is way once rises tree named kept others same heads masks marks leaves bits =
+  cut_at m new w key bit p ups below first (leaf y ys) is way once rises tree named kept others same heads masks marks leaves bits =
       let s = same y.room (sym named ∙ ap (λ (t : Tree V). name_of t) is) in
       subst (λ (o : Option Id). IsCut m new p.low bit p.tree o) (sym s.0)
-      (subst (λ (n : FinMap nat_cmp (Seen V)). IsCut m n p.low bit p.tree None) (sym s.1) (cut_leaf m p.low bit p.tree y ys is (unmarked_leaf m root late out w key p ups y ys way is)))
-  cut_at m new root late out w key bit p ups below first (fork room b zero one) is way once rises tree named kept others same heads masks marks leaves bits =
+      (subst (λ (n : Lodged V). IsCut m n p.low bit p.tree None) (sym s.1) (cut_leaf m p.low bit y ys is (unmarked_leaf m w key p ups y ys way is)))
+  cut_at m new w key bit p ups below first (fork room b zero one) is way once rises tree named kept others same heads masks marks leaves bits =
       let f : ForkAt p room = record { bit = b; zero = zero; one = one; is = is } in
       let here : below ≡ BitOf room = sym named ∙ ap (λ (t : Tree V). name_of t) is in
-      cut_fork m new p room f bit first (way_once m key w.part p ups way once) rises tree (part_lists m root late out w key p ups way)
+      cut_fork m new p room f bit first (way_once key w.part p ups way once) rises tree (part_lists m w key p ups way)
       (λ ms. kept room ms here) (λ ms. others room ms here)
       (λ n other. heads n (λ i at same. other (same ∙ ap (λ (j : Id). j.number) (same_bit_node (sym at ∙ here)))))
       (λ ms. masks room ms here) marks leaves bits
 
   -- the list of the part's bit node
-  pub list_at : (m : FinMap nat_cmp (Seen V)) (root : Node) (late : ℕ → Bool) (out : ℕ → ℕ) (w : IsWholeBut m root late out) (key : ℕ) (p : Part m) (ups : List (Part m)) (room : Id) → Way key w.part p ups → name_of p.tree ≡ BitOf room → (ms : List (Placed V)) × IsMasks m (heads_in m room.number) ms
-  list_at m root late out w key p ups room way named =
-      let f = fork_named m p room named in
-      let tree = fork_is m p room f in
-      let l = (subst (MarkedLists (heads_in m) (masks_in m) p.low) f.is (part_lists m root late out w key p ups way)).0 in
-      (l.masks, masks_listed m p (heads_in m room.number) p.low f.bit (MarkedIn (masks_in m) (fork room f.bit f.zero f.one)) l tree.0.within (λ x member. subst (IsIn x) (sym f.is) member.0))
+  pub list_at : {m : Lodged V} {root : Node} {late : ℕ → Bool} {out : ℕ → ℕ} (w : IsWholeBut m root late out) (key : ℕ) (p : Part m) (ups : List (Part m))
+      {room : Id} → Way key w.part p ups → name_of p.tree ≡ BitOf room → (ms : List (Placed V)) × IsMasks m (heads_in m room.number) ms
+  list_at {m = m} w key p ups way named =
+      let f = fork_named p named in
+      let tree = fork_is m f in
+      let l = (subst (MarkedLists (heads_in m) (masks_in m) p.low) f.is (part_lists m w key p ups way)).0 in
+      (l.masks, masks_listed p l tree.0.within (λ x member. subst (IsIn x) (sym f.is) member.0))

@@ -1,22 +1,11 @@
 -- A walk down a tree.
 use Rattle.std.proofs.Common.{◌≡◌, ℕ, ◌+◌, ◌≤◌, List, [], ◌∷◌, Option, Some, None, refl, sym, ◌∙◌, subst, arith}
-use Rattle.std.specs.Ordering.{nat_cmp}
-use Rattle.std.specs.FinMap.{FinMap}
-use Rattle.radix_nodes.specs.Counting.{Counter}
-use Rattle.radix_nodes.specs.Rooms.{Seen}
-use Rattle.radix_nodes.specs.declared.id.Id.{Id}
-use Rattle.radix_nodes.specs.declared.links.BitNode.{BitNode}
-use Rattle.radix_nodes.specs.declared.links.Node.{Node}
-use Rattle.radix_nodes.specs.declared.links.Node.TheVariants.{Leaf as LeafOf, Bit as BitOf}
-use Rattle.radix_tree.specs.MaskLists.{IsBitNode}
-use Rattle.radix_tree.specs.Reads.{Reads, ReadsOnce, IsBitNodeOf}
-use Rattle.radix_tree.specs.Rooms.{Part, name_of}
-use Rattle.radix_tree.specs.Searches.{Tells, Finds, HasPair, In, LedTo, Way}
-use Rattle.radix_tree.specs.Tree.{bit_at, IsAmong, IsTree}
+use Rattle.radix_tree.proofs.Words.{Counter, Id, BitNode, Node, LeafOf, BitOf, IsBitNode, Reads, ReadsOnce, IsBitNodeOf, Part, name_of, Tells, Finds, HasPair}
+use Rattle.radix_tree.proofs.Words.{In, LedTo, Way, bit_at, IsAmong, IsTree, Lodged}
 use Rattle.radix_tree.proofs.Climbs.{used, node_at}
 use Rattle.radix_tree.proofs.Parts.{fork_named, leaf_named, fork_is, zero_part, one_part, zero_beneath, one_beneath, among_leaf, in_leaf, way_inside, way_leads}
 
-module _ {V : Type 0} {m : FinMap nat_cmp (Seen V)} where
+module _ {V : Type 0} {m : Lodged V} where
   -- a walk down that has come to a node, by as many reads as there are bits above it at most
   pub record Down (address : ℕ) (whole : Part m) (at : Node) (start now : Counter) : Type 0 where
     pub part : Part m
@@ -28,8 +17,9 @@ module _ {V : Type 0} {m : FinMap nat_cmp (Seen V)} where
   pub begun : {address : ℕ} {p : Part m} {from : Node} (v : Counter) → name_of p.tree ≡ from → Down address p from v v
   begun {p = p} v named = record { part = p; named = named; ups = []; way = refl; reads = record { turn = refl; rises = omega arith; bound = omega arith } }
 
-  pub used_at : {address : ℕ} {whole : Part m} {at : Node} {room : Id} {start now : Counter} → Down address whole at start now → at ≡ BitOf room → IsBitNode m room
-  used_at {room = room} d is = used (fork_named m d.part room (d.named ∙ is))
+  pub used_at : {address : ℕ} {whole : Part m} {at : Node} {room : Id} {start now : Counter} → Down address whole at start now → at ≡ BitOf room
+      → IsBitNode m room
+  used_at {room = room} d is = used (fork_named d.part (d.named ∙ is))
 
   -- from a bit node it goes on to the side of the address's bit
   pub record Parted (address : ℕ) (whole : Part m) (n : BitNode) (start later : Counter) : Type 0 where
@@ -38,39 +28,42 @@ module _ {V : Type 0} {m : FinMap nat_cmp (Seen V)} where
     pub zero : bit_at n.bit address ≡ 0 → Down address whole n.zero start later
     pub one : bit_at n.bit address ≡ 1 → Down address whole n.one start later
 
-  pub parted : {address : ℕ} {whole : Part m} {at : Node} {room : Id} {start now later : Counter} {n : BitNode} → Down address whole at start now → at ≡ BitOf room
+  pub parted : {address : ℕ} {whole : Part m} {at : Node} {room : Id} {start now later : Counter} {n : BitNode} → Down address whole at start now
+      → at ≡ BitOf room
       → IsBitNodeOf m room n → ReadsOnce now later → Parted address whole n start later
   parted {address} {whole} {at} {room} {start} {now} {later} {n} d is said more =
-      let f = fork_named m d.part room (d.named ∙ is) in
+      let f = fork_named d.part (d.named ∙ is) in
       let same = node_at f said in
-      let tree = (fork_is m d.part room f).0 in
+      let tree = (fork_is m f).0 in
       let bit : n.bit ≡ f.bit = same.bit in
       let reads : Reads start later (f.bit + 1) = record { turn = more.turn ∙ d.reads.turn; rises = omega arith; bound = omega arith } in
       record {
         within = omega arith;
         soon = omega arith;
         zero = λ clear. record {
-          part = zero_part m d.part room f;
+          part = zero_part m f;
           named = sym same.zero;
           ups = d.part ∷ d.ups;
-          way = (zero_beneath m address d.part room f (subst (λ (b : ℕ). bit_at b address ≡ 0) bit clear), d.way);
+          way = (zero_beneath m address room f (subst (λ (b : ℕ). bit_at b address ≡ 0) bit clear), d.way);
           reads = reads;
         };
         one = λ set. record {
-          part = one_part m d.part room f;
+          part = one_part m f;
           named = sym same.one;
           ups = d.part ∷ d.ups;
-          way = (one_beneath m address d.part room f (subst (λ (b : ℕ). bit_at b address ≡ 1) bit set), d.way);
+          way = (one_beneath m address room f (subst (λ (b : ℕ). bit_at b address ≡ 1) bit set), d.way);
           reads = reads;
         };
       }
 
-  pub led : {address : ℕ} {whole : Part m} {at : Node} {room : Id} {start now : Counter} → Down address whole at start now → at ≡ LeafOf room → LedTo address whole room
-  led {room = room} d is = record { part = d.part; leaf = leaf_named m d.part room (d.named ∙ is); ups = d.ups; way = d.way }
+  pub led : {address : ℕ} {whole : Part m} {at : Node} {room : Id} {start now : Counter} → Down address whole at start now → at ≡ LeafOf room
+      → LedTo address whole room
+  led {room = room} d is = record { part = d.part; leaf = leaf_named d.part (d.named ∙ is); ups = d.ups; way = d.way }
 
-  pub soon_at : {address : ℕ} {whole : Part m} {at : Node} {room : Id} {start now : Counter} → Down address whole at start now → at ≡ LeafOf room → Reads start now 32
+  pub soon_at : {address : ℕ} {whole : Part m} {at : Node} {room : Id} {start now : Counter} → Down address whole at start now → at ≡ LeafOf room
+      → Reads start now 32
   soon_at {room = room} d is =
-      let l = leaf_named m d.part room (d.named ∙ is) in
+      let l = leaf_named d.part (d.named ∙ is) in
       let low : d.part.low ≤ 32 = (subst (IsTree d.part.low) l.is d.part.is).0 in
       record { turn = d.reads.turn; rises = d.reads.rises; bound = omega arith }
 
@@ -78,6 +71,6 @@ module _ {V : Type 0} {m : FinMap nat_cmp (Seen V)} where
   pub pair_led : (rank : ℕ) {key : ℕ} {whole : Part m} {room : Id} (l : LedTo key whole room) (o : Option Id)
       → Tells (Finds (HasPair key rank) (λ y. IsAmong y (l.leaf.first ∷ l.leaf.rest))) o → Tells (Finds (HasPair key rank) (In whole)) o
   pair_led rank {key} {whole = whole} {room} l None none =
-      λ y is has. none y (among_leaf m l.part room l.leaf y (way_leads m key whole l.part l.ups l.way y is has.0)) has
+      λ y is has. none y (among_leaf m l.leaf y (way_leads m whole l.part l.ups l.way y is has.0)) has
   pair_led rank {key} {whole = whole} {room} l (Some i) found =
-      (found.0, found.1, (way_inside m key whole l.part l.ups l.way found.0 (in_leaf m l.part room l.leaf found.0 found.2.0), found.2.1))
+      (found.0, found.1, (way_inside m key whole l.part l.ups l.way found.0 (in_leaf m l.leaf found.0 found.2.0), found.2.1))

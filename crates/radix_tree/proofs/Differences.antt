@@ -2,12 +2,11 @@
 use Rattle.std.proofs.Common.{◌≡◌, ℕ, zero, suc, ◌+◌, ◌*◌, ◌-◌, ◌^◌, ◌/◌, ◌<◌, ◌≤◌, sym, ap, ◌∙◌, subst, refl, arith}
 use Rattle.std.proofs.Math.Nat.{div-eq_of_lt, lt-div-mul-add}
 use Rattle.std.proofs.lemmas.Nat.{and_le_l, and_le_r, leading_top, pow_pos, xor_lt, xor_shr}
-use Rattle.std.specs.Int.Bits.{bit_xor, xor_add_and, xor_self}
-use Rattle.std.specs.Int.Count.{count_leading_zeros, leading_of_zero}
-use Rattle.mask_table.specs.Agreeing.{front}
+use Rattle.std.specs.Int.Bits.{xor_add_and, xor_self}
+use Rattle.std.specs.Int.Count.{leading_of_zero}
 use Rattle.mask_table.proofs.Agreeing.{front_suc, bit_of_front}
+use Rattle.radix_tree.proofs.Words.{bit_xor, count_leading_zeros, front, Differs}
 use Rattle.radix_tree.specs.Tree.{bit_at}
-use Rattle.radix_tree.specs.Growth.{Differs}
 
 -- numbers that differ in no bit are the same
 same_numbers : (x y : ℕ) → bit_xor x y ≡ 0 → x ≡ y
@@ -39,7 +38,8 @@ pub differs_first : (x y : ℕ) → x < 2 ^ 32 → y < 2 ^ 32 → count_leading_
 differs_first x y fits_x fits_y few = first_of (bit_xor x y) refl
   where
     first_of : (n : ℕ) → bit_xor x y ≡ n → Differs x y (count_leading_zeros 32 (bit_xor x y))
-    first_of zero e = let all : count_leading_zeros 32 (bit_xor x y) ≡ 32 = ap (count_leading_zeros 32) e ∙ leading_of_zero 32 in absurd (omega (arith, all, few))
+    first_of zero e = let all : count_leading_zeros 32 (bit_xor x y) ≡ 32 = ap (count_leading_zeros 32) e ∙ leading_of_zero 32 in
+        absurd (omega (arith, all, few))
     first_of (suc n) e =
         let top = leading_top 32 (bit_xor x y) (omega (arith, e)) (xor_lt 32 x y fits_x fits_y) in
         let past : suc top.0 ≡ 32 - count_leading_zeros 32 (bit_xor x y) = omega (arith, top.1) in

@@ -1,48 +1,46 @@
--- A part of a tree is exchanged for another, and so the whole; and the ways to parts.
-use Rattle.std.proofs.Common.{◌≡◌, ℕ, ◌+◌, ◌<◌, ◌≤◌, ◌⊎◌, ◌==◌, Bool, true, false, if◌then◌else◌, List, [], ◌∷◌, Option, Some, None, refl, sym, ap, ◌∙◌, subst, inl, inr, ⊎_elim, arith}
-use Rattle.std.proofs.lemmas.Bool.{eq-eqb, ne_eqb, eqb-true, cases_lt}
-use Rattle.std.specs.Ordering.{nat_cmp}
-use Rattle.std.specs.FinMap.{FinMap}
-use Rattle.radix_nodes.specs.Rooms.{Seen}
-use Rattle.radix_nodes.specs.declared.id.Id.{Id}
-use Rattle.radix_nodes.specs.declared.links.Node.{Node}
-use Rattle.radix_nodes.specs.declared.links.Node.TheVariants.{Bit as BitOf}
-use Rattle.radix_tree.specs.Tree.{Placed, Tree, leaf, fork, bit_at, IsIn, HaveBit, IsTree}
-use Rattle.radix_tree.specs.Rooms.{BitPart, Part, leaves_in, bits_in, name_of, Stands}
-use Rattle.radix_tree.specs.Searches.{ForkAt, LeafAt, Beneath, Way}
-use Rattle.radix_tree.specs.Whole.{one_if, leaves_at, forks_at}
-use Rattle.radix_tree.specs.Growth.{with_child, name_child, root_after, AreOnce}
-use Rattle.radix_tree.specs.Exchange.{on_zero, on_one, low_past, IsExchange, Exchanged}
-use Rattle.radix_tree.proofs.TreeMembers.{bit_beneath}
-use Rattle.radix_tree.proofs.Parts.{fork_is, fork_stands, zero_part, one_part, zero_beneath, one_beneath}
-use Rattle.radix_tree.proofs.PartRooms.{said, zero_turned, one_turned, elsewhere, frame, Keeps, fork_forks, fork_leaves, same_turned, way_counts, way_once, beneath_counts, spine_out}
+-- A part of a tree is exchanged for another, and so the whole.
+use Rattle.std.proofs.Common.{◌≡◌, ℕ, ◌+◌, ◌<◌, ◌≤◌, ◌⊎◌, ◌==◌, Bool, if◌then◌else◌, List, [], ◌∷◌, Option, Some, None, refl, sym, ap, ◌∙◌, subst, inl, inr}
+use Rattle.std.proofs.Common.{⊎_elim, arith}
+use Rattle.std.proofs.lemmas.Bool.{eq-eqb, ne_eqb, cases_lt}
+use Rattle.radix_tree.proofs.Words.{Id, Node, BitOf, Tree, fork, bit_at, HaveBit, IsTree, BitPart, Part, leaves_in, bits_in, name_of, Stands, ForkAt, Beneath}
+use Rattle.radix_tree.proofs.Words.{Way, one_if, leaves_at, forks_at, with_child, name_child, root_after, AreOnce, on_zero, on_one, low_past, IsExchange}
+use Rattle.radix_tree.proofs.Words.{Exchanged, Lodged}
+use Rattle.radix_tree.proofs.Parts.{fork_is, fork_stands}
+use Rattle.radix_tree.proofs.PartRooms.{said, zero_turned, one_turned, elsewhere, frame, Keeps, fork_forks, fork_leaves, same_turned, way_counts, way_once}
+use Rattle.radix_tree.proofs.PartRooms.{beneath_counts, spine_out}
 
 -- the bit node above a place says what it said in all other rooms, and in its own names the other node
-pub turn_misses : (above : Option Id) (over : Id) (key n : ℕ) (to : Node) (said : Option BitPart) → above ≡ Some over → (n ≡ over.number → ⊥) → name_child above key to n said ≡ said
-turn_misses above over key n to said is other =
+pub turn_misses : {above : Option Id} (over : Id) (key n : ℕ) (to : Node) (said : Option BitPart) → above ≡ Some over → (n ≡ over.number → ⊥)
+    → name_child above key to n said ≡ said
+turn_misses over key n to said is other =
     ap (λ (o : Option Id). name_child o key to n said) is ∙ ap (λ (t : Bool). if t then with_child key to said else said) (ne_eqb n over.number other)
 
-pub turn_hits : (above : Option Id) (over : Id) (key : ℕ) (to : Node) (said : Option BitPart) → above ≡ Some over → name_child above key to over.number said ≡ with_child key to said
-turn_hits above over key to said is =
-    ap (λ (o : Option Id). name_child o key to over.number said) is ∙ ap (λ (t : Bool). if t then with_child key to said else said) (eq-eqb over.number over.number refl)
+pub turn_hits : {above : Option Id} (over : Id) (key : ℕ) (to : Node) (said : Option BitPart) → above ≡ Some over
+    → name_child above key to over.number said ≡ with_child key to said
+turn_hits over key to said is =
+    ap (λ (o : Option Id). name_child o key to over.number said) is ∙ ap (λ (t : Bool). if t then with_child key to said else said)
+    (eq-eqb over.number over.number refl)
 
-one_of : (x y : ℕ) → 1 ≤ x + y → (1 ≤ x) ⊎ (1 ≤ y)
+pub one_of : (x y : ℕ) → 1 ≤ x + y → (1 ≤ x) ⊎ (1 ≤ y)
 one_of x y some = ⊎_elim (λ (none : x < 1). inr (omega arith)) (λ (le : 1 ≤ x). inl le) (cases_lt x 1)
 
 module _ {V : Type 0} where
   -- the part above one in which the exchange is made; on the bits before its own its keys agree as they did
-  record Climbed (m new : FinMap nat_cmp (Seen V)) (key : ℕ) (over at : Part m) (under : Part new) (name : Node) : Type 0 where
+  record Climbed (m new : Lodged V) (key : ℕ) (over at : Part m) (under : Part new) (name : Node) : Type 0 where
     pub made : Exchanged m new key over at under name
     pub keys : (c value : ℕ) → c < over.low → HaveBit c value over.tree → HaveBit c value made.part.tree
 
-  zero_climbed : (m new : FinMap nat_cmp (Seen V)) (key : ℕ) (at : Part m) (under : Part new) (mid over : Part m) (name : Node) (room : Id) (f : ForkAt over room) → mid.tree ≡ f.zero → bit_at f.bit key ≡ 0 → mid.low ≡ f.bit + 1 → mid.above ≡ Some room
+  zero_climbed : (m new : Lodged V) {key : ℕ} (at : Part m) {under : Part new} (mid over : Part m) {name : Node} (room : Id) (f : ForkAt over room)
+      → mid.tree ≡ f.zero → bit_at f.bit key ≡ 0 → mid.low ≡ f.bit + 1 → mid.above ≡ Some room
       → Climbed m new key mid at under name → bits_in new room.number ≡ Some (said room f.bit name (name_of f.one) over.above)
-      → ((n : ℕ) → 1 ≤ leaves_at n f.one → leaves_in new n ≡ leaves_in m n) → ((n : ℕ) → 1 ≤ forks_at n f.one → bits_in new n ≡ bits_in m n) → Climbed m new key over at under (BitOf room)
-  zero_climbed m new key at under mid over name room f tree side low above g spine leaves forks =
+      → ((n : ℕ) → 1 ≤ leaves_at n f.one → leaves_in new n ≡ leaves_in m n) → ((n : ℕ) → 1 ≤ forks_at n f.one → bits_in new n ≡ bits_in m n)
+      → Climbed m new key over at under (BitOf room)
+  zero_climbed m new at mid over room f tree side low above g spine leaves forks =
       let e = g.made in
-      let is = fork_is m over room f in
+      let is = fork_is m f in
       let rises : over.low ≤ f.bit = is.0.rises in
-      let keys : (c value : ℕ) → c < f.bit + 1 → HaveBit c value f.zero → HaveBit c value e.part.tree = λ c value before have. g.keys c value (omega arith) (subst (HaveBit c value) (sym tree) have) in
+      let keys : (c value : ℕ) → c < f.bit + 1 → HaveBit c value f.zero → HaveBit c value e.part.tree =
+      λ c value before have. g.keys c value (omega arith) (subst (HaveBit c value) (sym tree) have) in
       record {
         made = record {
           frames = on_zero room f.bit f.one ∷ e.frames;
@@ -54,14 +52,21 @@ module _ {V : Type 0} where
             low = over.low;
             above = over.above;
             is = (
-              record { rises = is.0.rises; within = is.0.within; agree = λ c before. let a = is.0.agree c before in (a.0, keys c a.0 (omega arith) a.1, a.2); zeros = keys f.bit 0 (omega arith) is.0.zeros; ones = is.0.ones },
+              record {
+                rises = is.0.rises;
+                within = is.0.within;
+                agree = λ c before. let a = is.0.agree c before in
+                    (a.0, keys c a.0 (omega arith) a.1, a.2);
+                zeros = keys f.bit 0 (omega arith) is.0.zeros;
+                ones = is.0.ones;
+              },
               subst (λ (n : ℕ). IsTree n e.part.tree) (e.low ∙ low) e.part.is,
               is.2,
             );
             stands = (
               spine ∙ ap (λ (z : Node). Some (said room f.bit z (name_of f.one) over.above)) (sym e.named),
               subst (λ (a : Option Id). Stands (leaves_in new) (bits_in new) a e.part.tree) (e.above ∙ above) e.part.stands,
-              frame (leaves_in m) (leaves_in new) (bits_in m) (bits_in new) (Some room) f.one leaves forks (fork_stands m over room f).2,
+              frame (leaves_in m) (leaves_in new) (bits_in m) (bits_in new) (Some room) f.one leaves forks (fork_stands m f).2,
             );
           };
           is_now = ap (λ (t : Tree V). fork room f.bit t f.one) e.is_now;
@@ -72,14 +77,17 @@ module _ {V : Type 0} where
         keys = λ c value before have. let h = subst (HaveBit c value) f.is have in (keys c value (omega arith) h.0, h.1);
       }
 
-  one_climbed : (m new : FinMap nat_cmp (Seen V)) (key : ℕ) (at : Part m) (under : Part new) (mid over : Part m) (name : Node) (room : Id) (f : ForkAt over room) → mid.tree ≡ f.one → bit_at f.bit key ≡ 1 → mid.low ≡ f.bit + 1 → mid.above ≡ Some room
+  one_climbed : (m new : Lodged V) {key : ℕ} (at : Part m) {under : Part new} (mid over : Part m) {name : Node} (room : Id) (f : ForkAt over room)
+      → mid.tree ≡ f.one → bit_at f.bit key ≡ 1 → mid.low ≡ f.bit + 1 → mid.above ≡ Some room
       → Climbed m new key mid at under name → bits_in new room.number ≡ Some (said room f.bit (name_of f.zero) name over.above)
-      → ((n : ℕ) → 1 ≤ leaves_at n f.zero → leaves_in new n ≡ leaves_in m n) → ((n : ℕ) → 1 ≤ forks_at n f.zero → bits_in new n ≡ bits_in m n) → Climbed m new key over at under (BitOf room)
-  one_climbed m new key at under mid over name room f tree side low above g spine leaves forks =
+      → ((n : ℕ) → 1 ≤ leaves_at n f.zero → leaves_in new n ≡ leaves_in m n) → ((n : ℕ) → 1 ≤ forks_at n f.zero → bits_in new n ≡ bits_in m n)
+      → Climbed m new key over at under (BitOf room)
+  one_climbed m new at mid over room f tree side low above g spine leaves forks =
       let e = g.made in
-      let is = fork_is m over room f in
+      let is = fork_is m f in
       let rises : over.low ≤ f.bit = is.0.rises in
-      let keys : (c value : ℕ) → c < f.bit + 1 → HaveBit c value f.one → HaveBit c value e.part.tree = λ c value before have. g.keys c value (omega arith) (subst (HaveBit c value) (sym tree) have) in
+      let keys : (c value : ℕ) → c < f.bit + 1 → HaveBit c value f.one → HaveBit c value e.part.tree =
+      λ c value before have. g.keys c value (omega arith) (subst (HaveBit c value) (sym tree) have) in
       record {
         made = record {
           frames = on_one room f.bit f.zero ∷ e.frames;
@@ -91,13 +99,20 @@ module _ {V : Type 0} where
             low = over.low;
             above = over.above;
             is = (
-              record { rises = is.0.rises; within = is.0.within; agree = λ c before. let a = is.0.agree c before in (a.0, a.1, keys c a.0 (omega arith) a.2); zeros = is.0.zeros; ones = keys f.bit 1 (omega arith) is.0.ones },
+              record {
+                rises = is.0.rises;
+                within = is.0.within;
+                agree = λ c before. let a = is.0.agree c before in
+                    (a.0, a.1, keys c a.0 (omega arith) a.2);
+                zeros = is.0.zeros;
+                ones = keys f.bit 1 (omega arith) is.0.ones;
+              },
               is.1,
               subst (λ (n : ℕ). IsTree n e.part.tree) (e.low ∙ low) e.part.is,
             );
             stands = (
               spine ∙ ap (λ (z : Node). Some (said room f.bit (name_of f.zero) z over.above)) (sym e.named),
-              frame (leaves_in m) (leaves_in new) (bits_in m) (bits_in new) (Some room) f.zero leaves forks (fork_stands m over room f).1,
+              frame (leaves_in m) (leaves_in new) (bits_in m) (bits_in new) (Some room) f.zero leaves forks (fork_stands m f).1,
               subst (λ (a : Option Id). Stands (leaves_in new) (bits_in new) a e.part.tree) (e.above ∙ above) e.part.stands,
             );
           };
@@ -109,44 +124,52 @@ module _ {V : Type 0} where
         keys = λ c value before have. let h = subst (HaveBit c value) f.is have in (h.0, keys c value (omega arith) h.1);
       }
 
-  climbed : (m new : FinMap nat_cmp (Seen V)) (key : ℕ) (at : Part m) (under : Part new) (mid over : Part m) (name : Node) (b : Beneath key mid over) → Climbed m new key mid at under name → AreOnce over.tree
+  climbed : (m new : Lodged V) (key : ℕ) (at : Part m) {under : Part new} (mid over : Part m) {name : Node} (b : Beneath key mid over)
+      → Climbed m new key mid at under name → AreOnce over.tree
       → ((n : ℕ) → leaves_at n mid.tree ≡ 0 → 1 ≤ leaves_at n over.tree → leaves_in new n ≡ leaves_in m n)
       → ((n : ℕ) → (n ≡ b.room.number → ⊥) → forks_at n mid.tree ≡ 0 → 1 ≤ forks_at n over.tree → bits_in new n ≡ bits_in m n)
       → bits_in new b.room.number ≡ with_child key name (bits_in m b.room.number) → Climbed m new key over at under (BitOf b.room)
-  climbed m new key at under mid over name b g once leaves forks spine =
+  climbed m new key at mid over {name = name} b g once leaves forks spine =
       let f = b.at in
-      let old = (fork_stands m over b.room f).0 in
-      let all_forks : (n : ℕ) → forks_at n over.tree ≡ one_if (b.room.number == n) + (forks_at n f.zero + forks_at n f.one) = fork_forks m over b.room f in
-      let all_leaves : (n : ℕ) → leaves_at n over.tree ≡ leaves_at n f.zero + leaves_at n f.one = fork_leaves m over b.room f in
+      let old = (fork_stands m f).0 in
+      let all_forks : (n : ℕ) → forks_at n over.tree ≡ one_if (b.room.number == n) + (forks_at n f.zero + forks_at n f.one) = fork_forks m f in
+      let all_leaves : (n : ℕ) → leaves_at n over.tree ≡ leaves_at n f.zero + leaves_at n f.one = fork_leaves m f in
       ⊎_elim
       (λ (e : (mid.tree ≡ f.zero) × (bit_at f.bit key ≡ 0)).
-      zero_climbed m new key at under mid over name b.room f e.0 e.1 b.low b.above g
+      zero_climbed m new at mid over b.room f e.0 e.1 b.low b.above g
       (spine ∙ ap (with_child key name) old ∙ zero_turned key name (said b.room f.bit (name_of f.zero) (name_of f.one) over.above) e.1)
-      (λ n some. let sum = all_leaves n in let most : leaves_at n over.tree ≤ 1 = once.leaves n in let same : leaves_at n mid.tree ≡ leaves_at n f.zero = ap (λ (t : Tree V). leaves_at n t) e.0 in leaves n (omega arith) (omega arith))
-      (λ n some. let sum = all_forks n in let most : forks_at n over.tree ≤ 1 = once.forks n in let same : forks_at n mid.tree ≡ forks_at n f.zero = ap (λ (t : Tree V). forks_at n t) e.0 in
+      (λ n some. let sum = all_leaves n in let most : leaves_at n over.tree ≤ 1 = once.leaves n in let same : leaves_at n mid.tree ≡ leaves_at n f.zero =
+      ap (λ (t : Tree V). leaves_at n t) e.0 in leaves n (omega arith) (omega arith))
+      (λ n some. let sum = all_forks n in let most : forks_at n over.tree ≤ 1 = once.forks n in let same : forks_at n mid.tree ≡ forks_at n f.zero =
+      ap (λ (t : Tree V). forks_at n t) e.0 in
       forks n (elsewhere b.room n (forks_at n f.one) some (omega arith)) (omega arith) (omega arith)))
       (λ (e : (mid.tree ≡ f.one) × (bit_at f.bit key ≡ 1)).
-      one_climbed m new key at under mid over name b.room f e.0 e.1 b.low b.above g
+      one_climbed m new at mid over b.room f e.0 e.1 b.low b.above g
       (spine ∙ ap (with_child key name) old ∙ one_turned key name (said b.room f.bit (name_of f.zero) (name_of f.one) over.above) e.1)
-      (λ n some. let sum = all_leaves n in let most : leaves_at n over.tree ≤ 1 = once.leaves n in let same : leaves_at n mid.tree ≡ leaves_at n f.one = ap (λ (t : Tree V). leaves_at n t) e.0 in leaves n (omega arith) (omega arith))
-      (λ n some. let sum = all_forks n in let most : forks_at n over.tree ≤ 1 = once.forks n in let same : forks_at n mid.tree ≡ forks_at n f.one = ap (λ (t : Tree V). forks_at n t) e.0 in
+      (λ n some. let sum = all_leaves n in let most : leaves_at n over.tree ≤ 1 = once.leaves n in let same : leaves_at n mid.tree ≡ leaves_at n f.one =
+      ap (λ (t : Tree V). leaves_at n t) e.0 in leaves n (omega arith) (omega arith))
+      (λ n some. let sum = all_forks n in let most : forks_at n over.tree ≤ 1 = once.forks n in let same : forks_at n mid.tree ≡ forks_at n f.one =
+      ap (λ (t : Tree V). forks_at n t) e.0 in
       forks n (elsewhere b.room n (forks_at n f.zero) some (omega arith)) (omega arith) (omega arith)))
       b.side
 
   -- above that all keep their names
-  way_climbed : (m new : FinMap nat_cmp (Seen V)) (key : ℕ) (at : Part m) (under : Part new) (whole mid : Part m) (ups : List (Part m)) → Way key whole mid ups → AreOnce whole.tree → Keeps m new mid.tree whole.tree
+  way_climbed : (m new : Lodged V) (key : ℕ) (at : Part m) (under : Part new) (whole mid : Part m) (ups : List (Part m)) → Way key whole mid ups
+      → AreOnce whole.tree → Keeps m new mid.tree whole.tree
       → Climbed m new key mid at under (name_of mid.tree) → Climbed m new key whole at under (name_of whole.tree)
   way_climbed m new key at under whole mid [] way once keeps g = subst (λ (p : Part m). Climbed m new key p at under (name_of p.tree)) way g
   way_climbed m new key at under whole mid (p ∷ ps) way once keeps g =
       let b = way.0 in
-      let once_p = way_once m key whole p ps way.1 once in
-      let out = spine_out m key mid p b once_p in
-      let in_whole : (n : ℕ) → (leaves_at n p.tree ≤ leaves_at n whole.tree) × (forks_at n p.tree ≤ forks_at n whole.tree) = λ n. way_counts m key whole p ps n way.1 in
+      let once_p = way_once key whole p ps way.1 once in
+      let out = spine_out m mid p b once_p in
+      let in_whole : (n : ℕ) → (leaves_at n p.tree ≤ leaves_at n whole.tree) × (forks_at n p.tree ≤ forks_at n whole.tree) =
+      λ n. way_counts m key whole p ps n way.1 in
       let near : (n : ℕ) → (leaves_at n mid.tree ≤ leaves_at n p.tree) × (forks_at n mid.tree ≤ forks_at n p.tree) = λ n. beneath_counts m key mid p n b in
-      let next = climbed m new key at under mid p (name_of mid.tree) b g once_p
+      let next = climbed m new key at mid p b g once_p
       (λ n none some. let le : leaves_at n p.tree ≤ leaves_at n whole.tree = (in_whole n).0 in keeps.leaves n none (omega arith))
       (λ n other none some. let le : forks_at n p.tree ≤ forks_at n whole.tree = (in_whole n).1 in keeps.forks n none (omega arith))
-      (let le : forks_at b.room.number p.tree ≤ forks_at b.room.number whole.tree = (in_whole b.room.number).1 in let some : 1 ≤ forks_at b.room.number p.tree = out.1 in
+      (let le : forks_at b.room.number p.tree ≤ forks_at b.room.number whole.tree = (in_whole b.room.number).1 in
+      let some : 1 ≤ forks_at b.room.number p.tree = out.1 in
       keeps.forks b.room.number out.0 (omega arith) ∙ same_turned m key mid p (name_of mid.tree) b refl) in
       way_climbed m new key at under whole p ps way.1 once
       (record {
@@ -156,120 +179,47 @@ module _ {V : Type 0} where
       (subst (λ (z : Node). Climbed m new key p at under z) (sym (ap (λ (t : Tree V). name_of t) b.at.is)) next)
 
   -- ---- the whole
-  here : (m new : FinMap nat_cmp (Seen V)) (key : ℕ) (whole at : Part m) (under : Part new) → IsExchange m new key whole at under → Climbed m new key at at under (name_of under.tree)
-  here m new key whole at under e = record {
+  here : (m new : Lodged V) {key : ℕ} {whole at : Part m} (under : Part new) → IsExchange m new key whole at under
+      → Climbed m new key at at under (name_of under.tree)
+  here m new under e = record {
     made = record { frames = []; was = refl; lead = tt; lowest = refl; part = under; is_now = refl; low = e.low; above = e.above; named = refl };
     keys = e.keys;
   }
 
-  renamed : (m new : FinMap nat_cmp (Seen V)) (key : ℕ) (whole at : Part m) (under : Part new) (name root : Node) → name ≡ root → Exchanged m new key whole at under name → Exchanged m new key whole at under root
-  renamed m new key whole at under name root same e = subst (λ (z : Node). Exchanged m new key whole at under z) same e
+  renamed : (m new : Lodged V) (key : ℕ) (whole at : Part m) (under : Part new) {name root : Node} → name ≡ root → Exchanged m new key whole at under name
+      → Exchanged m new key whole at under root
+  renamed m new key whole at under same e = subst (λ (z : Node). Exchanged m new key whole at under z) same e
 
-  pub exchanged : (m new : FinMap nat_cmp (Seen V)) (key : ℕ) (whole at : Part m) (ups : List (Part m)) (under : Part new) → Way key whole at ups → whole.above ≡ None → AreOnce whole.tree → IsExchange m new key whole at under
+  pub exchanged : (m new : Lodged V) {key : ℕ} (whole at : Part m) (ups : List (Part m)) {under : Part new} → Way key whole at ups → whole.above ≡ None
+      → AreOnce whole.tree → IsExchange m new key whole at under
       → Exchanged m new key whole at under (root_after at.above (name_of under.tree) (name_of whole.tree))
-  exchanged m new key whole at [] under way top once e =
-      renamed m new key whole at under (name_of under.tree) (root_after at.above (name_of under.tree) (name_of whole.tree))
+  exchanged m new {key = key} whole at [] {under = under} way top once e =
+      renamed m new key whole at under
       (sym (ap (λ (o : Option Id). root_after o (name_of under.tree) (name_of whole.tree)) (ap (λ (p : Part m). p.above) way ∙ top)))
-      (subst (λ (p : Part m). Exchanged m new key p at under (name_of under.tree)) way (here m new key whole at under e).made)
-  exchanged m new key whole at (p ∷ ps) under way top once e =
+      (subst (λ (p : Part m). Exchanged m new key p at under (name_of under.tree)) way (here m new under e).made)
+  exchanged m new {key = key} whole at (p ∷ ps) {under = under} way top once e =
       let b = way.0 in
-      let once_p = way_once m key whole p ps way.1 once in
-      let out = spine_out m key at p b once_p in
-      let in_whole : (n : ℕ) → (leaves_at n p.tree ≤ leaves_at n whole.tree) × (forks_at n p.tree ≤ forks_at n whole.tree) = λ n. way_counts m key whole p ps n way.1 in
+      let once_p = way_once key whole p ps way.1 once in
+      let out = spine_out m at p b once_p in
+      let in_whole : (n : ℕ) → (leaves_at n p.tree ≤ leaves_at n whole.tree) × (forks_at n p.tree ≤ forks_at n whole.tree) =
+      λ n. way_counts m key whole p ps n way.1 in
       let near : (n : ℕ) → (leaves_at n at.tree ≤ leaves_at n p.tree) × (forks_at n at.tree ≤ forks_at n p.tree) = λ n. beneath_counts m key at p n b in
-      let next = climbed m new key at under at p (name_of under.tree) b (here m new key whole at under e) once_p
+      let next = climbed m new key at at p b (here m new under e) once_p
       (λ n none some. let le : leaves_at n p.tree ≤ leaves_at n whole.tree = (in_whole n).0 in e.leaves n none (omega arith))
-      (λ n other none some. let le : forks_at n p.tree ≤ forks_at n whole.tree = (in_whole n).1 in e.bits n none (omega arith) ∙ turn_misses at.above b.room key n (name_of under.tree) (bits_in m n) b.above other)
-      (let le : forks_at b.room.number p.tree ≤ forks_at b.room.number whole.tree = (in_whole b.room.number).1 in let some : 1 ≤ forks_at b.room.number p.tree = out.1 in
-      e.bits b.room.number out.0 (omega arith) ∙ turn_hits at.above b.room key (name_of under.tree) (bits_in m b.room.number) b.above) in
-      renamed m new key whole at under (name_of whole.tree) (root_after at.above (name_of under.tree) (name_of whole.tree))
+      (λ n other none some. let le : forks_at n p.tree ≤ forks_at n whole.tree = (in_whole n).1 in
+      e.bits n none (omega arith) ∙ turn_misses b.room key n (name_of under.tree) (bits_in m n) b.above other)
+      (let le : forks_at b.room.number p.tree ≤ forks_at b.room.number whole.tree = (in_whole b.room.number).1 in
+      let some : 1 ≤ forks_at b.room.number p.tree = out.1 in
+      e.bits b.room.number out.0 (omega arith) ∙ turn_hits b.room key (name_of under.tree) (bits_in m b.room.number) b.above) in
+      renamed m new key whole at under
       (sym (ap (λ (o : Option Id). root_after o (name_of under.tree) (name_of whole.tree)) b.above))
       (way_climbed m new key at under whole p ps way.1 once
       (record {
         leaves = λ n none some. let le : leaves_at n at.tree ≤ leaves_at n p.tree = (near n).0 in e.leaves n (omega arith) some;
         forks = λ n none some. let le : forks_at n at.tree ≤ forks_at n p.tree = (near n).1 in
             e.bits n (omega arith) some
-            ∙ turn_misses at.above b.room key n (name_of under.tree) (bits_in m n) b.above
-            (λ same. let there : 1 ≤ forks_at b.room.number p.tree = out.1 in let e2 : forks_at n p.tree ≡ forks_at b.room.number p.tree = ap (λ (k : ℕ). forks_at k p.tree) same in absurd (omega arith));
+            ∙ turn_misses b.room key n (name_of under.tree) (bits_in m n) b.above
+            (λ same. let there : 1 ≤ forks_at b.room.number p.tree = out.1 in let e2 : forks_at n p.tree ≡ forks_at b.room.number p.tree =
+            ap (λ (k : ℕ). forks_at k p.tree) same in absurd (omega arith));
       })
       (subst (λ (z : Node). Climbed m new key p at under z) (sym (ap (λ (t : Tree V). name_of t) b.at.is)) next)).made
-
-  -- ---- the ways to parts
-  -- the leaf of a route
-  pub record FoundLeaf (m : FinMap nat_cmp (Seen V)) (whole : Part m) (y : Placed V) : Type 0 where
-    pub part : Part m
-    pub room : Id
-    pub at : LeafAt part room
-    pub among : IsIn y part.tree
-    pub ups : List (Part m)
-    pub way : Way y.entry.key whole part ups
-
-  leaf_down : (m : FinMap nat_cmp (Seen V)) (whole : Part m) (y : Placed V) (at : Part m) (ups : List (Part m)) (t : Tree V) → at.tree ≡ t → Way y.entry.key whole at ups → IsIn y t → FoundLeaf m whole y
-  leaf_down m whole y at ups (leaf x xs) is way there = record {
-    part = at;
-    room = x.room;
-    at = record { first = x; rest = xs; is = is; room_is = refl };
-    among = subst (IsIn y) (sym is) there;
-    ups = ups;
-    way = way;
-  }
-  leaf_down m whole y at ups (fork room b zero one) is way there =
-      let f : ForkAt at room = record { bit = b; zero = zero; one = one; is = is } in
-      let tree = fork_is m at room f in
-      ⊎_elim
-      (λ (z : IsIn y zero). leaf_down m whole y (zero_part m at room f) (at ∷ ups) zero refl (zero_beneath m y.entry.key at room f (bit_beneath (b + 1) b 0 zero tree.1 tree.0.zeros y z), way) z)
-      (λ (o : IsIn y one). leaf_down m whole y (one_part m at room f) (at ∷ ups) one refl (one_beneath m y.entry.key at room f (bit_beneath (b + 1) b 1 one tree.2 tree.0.ones y o), way) o)
-      there
-
-  pub way_to_leaf : (m : FinMap nat_cmp (Seen V)) (whole : Part m) (y : Placed V) → IsIn y whole.tree → FoundLeaf m whole y
-  way_to_leaf m whole y is = leaf_down m whole y whole [] whole.tree refl refl is
-
-  -- the bit node in a room
-  pub record FoundFork (m : FinMap nat_cmp (Seen V)) (whole : Part m) (n : ℕ) : Type 0 where
-    pub key : ℕ
-    pub part : Part m
-    pub room : Id
-    pub at : ForkAt part room
-    pub number : room.number ≡ n
-    pub ups : List (Part m)
-    pub way : Way key whole part ups
-
-  -- a route beneath it
-  abbrev HasOver : ℕ → Placed V → Tree V → Type 0
-  HasOver n y (leaf x xs) = ⊥
-  HasOver n y (fork room b zero one) = ((room.number ≡ n) × IsIn y zero) ⊎ (HasOver n y zero ⊎ HasOver n y one)
-
-  over_in : (n : ℕ) (y : Placed V) (t : Tree V) → HasOver n y t → IsIn y t
-  over_in n y (leaf x xs) o = absurd o
-  over_in n y (fork room b zero one) o = ⊎_elim (λ (h : (room.number ≡ n) × IsIn y zero). inl h.1) (λ (s : HasOver n y zero ⊎ HasOver n y one). ⊎_elim (λ (z : HasOver n y zero). inl (over_in n y zero z)) (λ (u : HasOver n y one). inr (over_in n y one u)) s) o
-
-  some_route : (t : Tree V) → (y : Placed V) × IsIn y t
-  some_route (leaf x xs) = (x, inl refl)
-  some_route (fork room b zero one) = let y = some_route zero in (y.0, inl y.1)
-
-  some_over : (n : ℕ) (t : Tree V) → 1 ≤ forks_at n t → (y : Placed V) × HasOver n y t
-  some_over n (leaf x xs) some = absurd (omega arith)
-  some_over n (fork room b zero one) some =
-      elim (room.number == n) as (λ t. (room.number == n) ≡ t → 1 ≤ one_if t + (forks_at n zero + forks_at n one) → (y : Placed V) × HasOver n y (fork room b zero one)) [
-        | true ↦ λ e sum. let y = some_route zero in (y.0, inl (eqb-true room.number n e, y.1))
-        | false ↦ λ e sum. ⊎_elim
-            (λ (lt : 1 ≤ forks_at n zero). let y = some_over n zero lt in (y.0, inr (inl y.1)))
-            (λ (le : 1 ≤ forks_at n one). let y = some_over n one le in (y.0, inr (inr y.1)))
-            (one_of (forks_at n zero) (forks_at n one) (omega arith))
-      ] refl some
-
-  fork_down : (m : FinMap nat_cmp (Seen V)) (whole : Part m) (n : ℕ) (y : Placed V) (at : Part m) (ups : List (Part m)) (t : Tree V) → at.tree ≡ t → Way y.entry.key whole at ups → HasOver n y t → FoundFork m whole n
-  fork_down m whole n y at ups (leaf x xs) is way o = absurd o
-  fork_down m whole n y at ups (fork room b zero one) is way o =
-      let f : ForkAt at room = record { bit = b; zero = zero; one = one; is = is } in
-      let tree = fork_is m at room f in
-      ⊎_elim
-      (λ (h : (room.number ≡ n) × IsIn y zero). record { key = y.entry.key; part = at; room = room; at = f; number = h.0; ups = ups; way = way })
-      (λ (s : HasOver n y zero ⊎ HasOver n y one). ⊎_elim
-      (λ (z : HasOver n y zero). fork_down m whole n y (zero_part m at room f) (at ∷ ups) zero refl (zero_beneath m y.entry.key at room f (bit_beneath (b + 1) b 0 zero tree.1 tree.0.zeros y (over_in n y zero z)), way) z)
-      (λ (u : HasOver n y one). fork_down m whole n y (one_part m at room f) (at ∷ ups) one refl (one_beneath m y.entry.key at room f (bit_beneath (b + 1) b 1 one tree.2 tree.0.ones y (over_in n y one u)), way) u)
-      s)
-      o
-
-  pub way_to_fork : (m : FinMap nat_cmp (Seen V)) (whole : Part m) (n : ℕ) → 1 ≤ forks_at n whole.tree → FoundFork m whole n
-  way_to_fork m whole n some = let y = some_over n whole.tree some in fork_down m whole n y.0 whole [] whole.tree refl refl y.1

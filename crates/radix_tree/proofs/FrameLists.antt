@@ -1,26 +1,18 @@
 -- The bit nodes above a part of a tree, and lists of masks that stay where the masks of their ranks do.
 use Rattle.std.proofs.Common.{◌≡◌, ℕ, ◌+◌, ◌≤◌, ◌==◌, List, [], ◌∷◌, Option, refl, inl, inr, sym, ap, ◌∙◌, subst, ⊎_elim, arith}
-use Rattle.std.specs.Ordering.{nat_cmp}
-use Rattle.std.specs.FinMap.{FinMap}
-use Rattle.radix_nodes.specs.Rooms.{Seen}
-use Rattle.radix_nodes.specs.declared.id.Id.{Id}
-use Rattle.radix_tree.specs.Tree.{Placed, Tree, leaf, fork, bit_at, IsAmong, IsIn, IsTree}
-use Rattle.radix_tree.specs.Rooms.{Heads, Masks, Part}
-use Rattle.radix_tree.specs.Searches.{Beneath, Way}
-use Rattle.radix_tree.specs.Whole.{one_if, forks_at}
-use Rattle.radix_tree.specs.Exchange.{Frame, on_zero, on_one, plug, low_past}
-use Rattle.radix_tree.specs.Marks.{IsMaskList, MarkedIn, MarkedLists}
+use Rattle.radix_tree.proofs.Words.{Id, Placed, Tree, leaf, fork, bit_at, IsAmong, IsIn, IsTree, Heads, Masks, Part, Beneath, Way, one_if, forks_at, Frame}
+use Rattle.radix_tree.proofs.Words.{on_zero, on_one, plug, low_past, IsMaskList, MarkedIn, MarkedLists, Lodged}
 use Rattle.radix_tree.proofs.PartRooms.{one_if_same}
 use Rattle.radix_tree.proofs.PlugLists.{falls_between, masks_stand_same, marked_same}
 
 module _ {V : Type 0} where
   -- ---- the bit nodes above a part
-  pub record Framed {m : FinMap nat_cmp (Seen V)} (whole at : Part m) : Type 0 where
+  pub record Framed {m : Lodged V} (whole at : Part m) : Type 0 where
     pub frames : List (Frame V)
     pub was : whole.tree ≡ plug frames at.tree
     pub lowest : at.low ≡ low_past whole.low frames
 
-  beneath_framed : (m : FinMap nat_cmp (Seen V)) (key : ℕ) (at under over : Part m) → Beneath key under over → Framed under at → Framed over at
+  beneath_framed : (m : Lodged V) (key : ℕ) (at under over : Part m) → Beneath key under over → Framed under at → Framed over at
   beneath_framed m key at under over b f =
       let n = b.at in
       let low : at.low ≡ low_past (n.bit + 1) f.frames = f.lowest ∙ ap (λ (k : ℕ). low_past k f.frames) b.low in
@@ -37,17 +29,18 @@ module _ {V : Type 0} where
       })
       b.side
 
-  up_framed : (m : FinMap nat_cmp (Seen V)) (key : ℕ) (whole mid at : Part m) (ups : List (Part m)) → Way key whole mid ups → Framed mid at → Framed whole at
+  up_framed : (m : Lodged V) (key : ℕ) (whole mid at : Part m) (ups : List (Part m)) → Way key whole mid ups → Framed mid at → Framed whole at
   up_framed m key whole mid at [] way f = subst (λ (p : Part m). Framed p at) way f
   up_framed m key whole mid at (p ∷ ps) way f = up_framed m key whole p at ps way.1 (beneath_framed m key at mid p way.0 f)
 
-  pub way_framed : (m : FinMap nat_cmp (Seen V)) (key : ℕ) (whole at : Part m) (ups : List (Part m)) → Way key whole at ups → Framed whole at
+  pub way_framed : (m : Lodged V) (key : ℕ) (whole at : Part m) (ups : List (Part m)) → Way key whole at ups → Framed whole at
   way_framed m key whole at ups way = up_framed m key whole at at ups way (record { frames = []; was = refl; lowest = refl })
 
   -- ---- one list stays where the masks of its ranks do
-  pub list_stays : (K M : Masks) (first : Option Id) (low b : ℕ) (t : Tree V) → ((x : Placed V) → IsIn x t → low ≤ x.entry.rank → M x.room.number ≡ K x.room.number)
+  pub list_stays : (K M : Masks) {first : Option Id} (low b : ℕ) (t : Tree V)
+      → ((x : Placed V) → IsIn x t → low ≤ x.entry.rank → M x.room.number ≡ K x.room.number)
       → IsMaskList K first low b (MarkedIn K t) → IsMaskList M first low b (MarkedIn M t)
-  list_stays K M first low b t same list =
+  list_stays K M low b t same list =
       let kept : (x : Placed V) → IsAmong x list.masks → M x.room.number ≡ K x.room.number =
       λ x among. same x (list.within x among).0 (falls_between low (b + 1) list.masks list.falls x among).0 in
       record {
@@ -67,7 +60,7 @@ module _ {V : Type 0} where
       let rises : low ≤ b = is.0.rises in
       let here : one_if (room.number == room.number) ≡ 1 = one_if_same room.number in (
         subst (λ (first : Option Id). IsMaskList M first low b (MarkedIn M (fork room b zero one))) (sym (heads room.number (omega arith)))
-            (list_stays K M (H room.number) low b (fork room b zero one) masks lists.0),
+            (list_stays K M low b (fork room b zero one) masks lists.0),
         lists_stay H J K M (b + 1) zero is.1 (λ n some. heads n (omega arith)) (λ y at least. masks y (inl at) (omega arith)) lists.1,
         lists_stay H J K M (b + 1) one is.2 (λ n some. heads n (omega arith)) (λ y at least. masks y (inr at) (omega arith)) lists.2,
       )

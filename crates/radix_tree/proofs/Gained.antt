@@ -3,28 +3,17 @@
 --     shown_same                     rooms that say the same of leaves and bit nodes show the same
 --     nobody, among_left, new_left   whose masks are not listed yet
 --     IsLost, lost                   what a route that goes leaves
-use Rattle.std.proofs.Common.{◌≡◌, ℕ, ◌+◌, ◌≤◌, ◌==◌, ◌&&◌, ◌||◌, Bool, true, false, not, if◌then◌else◌, List, [], Option, Some, None, is_some, refl, sym, ap, ◌∙◌, subst, inl, arith}
+use Rattle.std.proofs.Common.{◌≡◌, ℕ, ◌+◌, ◌≤◌, ◌==◌, ◌&&◌, ◌||◌, Bool, true, false, not, if◌then◌else◌, List, [], Option, Some, None, is_some, refl, sym, ap}
+use Rattle.std.proofs.Common.{◌∙◌, subst, inl, arith}
 use Rattle.std.proofs.lemmas.Bool.{eqb-true, eq-eqb, ne_eqb}
-use Rattle.std.specs.Ordering.{nat_cmp}
-use Rattle.std.specs.FinMap.{FinMap, get}
-use Rattle.radix_nodes.specs.Rooms.{Seen}
-use Rattle.radix_nodes.specs.declared.id.Id.{Id}
-use Rattle.radix_nodes.specs.declared.links.Leaf.{Leaf}
-use Rattle.radix_nodes.specs.declared.links.Node.{Node}
-use Rattle.radix_nodes.specs.declared.links.Node.TheVariants.{Leaf as LeafOf}
-use Rattle.radix_tree.specs.Table.{IsRoute, without}
-use Rattle.radix_tree.specs.Tree.{leaf}
-use Rattle.radix_tree.specs.Rooms.{LeafPart, Part, leaf_in, bit_in, mask_in, leaves_in, leaf_part, first_room}
-use Rattle.radix_tree.specs.Searches.{LedTo}
-use Rattle.radix_tree.specs.Growth.{Gains, placed}
-use Rattle.radix_tree.specs.Marks.{IsWholeBut, has_key, is_of_key, nobody_late, nobody_out, late_at}
-use Rattle.radix_tree.specs.Writes.{lodge_leaf, KeepsLeaves, KeepsBits, KeepsMasks}
-use Rattle.radix_tree.specs.Whole.{one_if, beneath_shown, shown, shown_entry, IsWhole, Holds}
-use Rattle.radix_tree.specs.declared.entry.Entry.{Entry}
+use Rattle.radix_tree.proofs.Words.{get, Seen, Id, Leaf, Node, LeafOf, IsRoute, without, leaf, LeafPart, Part, leaf_in, bit_in, mask_in, leaves_in, leaf_part}
+use Rattle.radix_tree.proofs.Words.{first_room, LedTo, Gains, placed, IsWholeBut, has_key, is_of_key, nobody_late, nobody_out, late_at, lodge_leaf, KeepsLeaves}
+use Rattle.radix_tree.proofs.Words.{KeepsBits, KeepsMasks, one_if, beneath_shown, shown, shown_entry, IsWhole, Holds, Entry, Lodged}
 use Rattle.radix_tree.proofs.RoomReads.{none_some}
 use Rattle.radix_tree.proofs.Parts.{leaf_run}
 use Rattle.radix_tree.proofs.Showing.{shown_is}
-use Rattle.radix_tree.proofs.WholeChanges.{but_whole, later_than, loses_entry}
+use Rattle.radix_tree.proofs.WholeParts.{but_whole, later_than}
+use Rattle.radix_tree.proofs.WholeRoutes.{loses_entry}
 use Rattle.radix_tree.proofs.Kept.{IsFound, shown_table}
 
 true_false : true ≡ false → ⊥
@@ -47,7 +36,7 @@ or_left false b e none = e
 
 module _ {V : Type 0} where
   -- ---- the first route
-  no_room : (m : FinMap nat_cmp (Seen V)) (n : ℕ) (o : Option (Seen V)) → get m n ≡ o → leaves_in m n ≡ None → get m n ≡ None
+  no_room : (m : Lodged V) (n : ℕ) (o : Option (Seen V)) → get m n ≡ o → leaves_in m n ≡ None → get m n ≡ None
   no_room m n None is none = is
   no_room m n (Some s) is none = absurd (none_some (sym none ∙ ap (λ (o : Option (Seen V)). leaf_in o) is))
 
@@ -58,9 +47,11 @@ module _ {V : Type 0} where
   lodged_at id value l n true = refl
   lodged_at id value l n false = refl
 
-  pub first_whole : (m new : FinMap nat_cmp (Seen V)) (id : Id) (e : Entry V) (l : Leaf) → l ≡ record { key = e.key; rank = e.rank; above = None; next = None; previous = None } → Holds m None → IsRoute e
-      → ((n : ℕ) → leaves_in new n ≡ lodge_leaf id e.value l n (leaves_in m n)) → KeepsBits m new → KeepsMasks m new → IsWhole new (LeafOf id) × Gains e [] (shown new (Some (LeafOf id)))
-  first_whole m new id e l leaf_is none route leaves bits masks =
+  pub first_whole : (m new : Lodged V) (id : Id) {e : Entry V} (l : Leaf)
+      → l ≡ record { key = e.key; rank = e.rank; above = None; next = None; previous = None } → Holds m None → IsRoute e
+      → ((n : ℕ) → leaves_in new n ≡ lodge_leaf id e.value l n (leaves_in m n)) → KeepsBits m new → KeepsMasks m new
+      → IsWhole new (LeafOf id) × Gains e [] (shown new (Some (LeafOf id)))
+  first_whole m new id {e = e} l leaf_is none route leaves bits masks =
       let at : leaves_in new id.number ≡ Some (leaf_part (placed id e) None None None) = leaves id.number
       ∙ ap (λ (b : Bool). if b then lodged_part id e.value l else leaves_in m id.number) (eq-eqb id.number id.number refl)
       ∙ ap (λ (l : Leaf). lodged_part id e.value l) leaf_is in
@@ -85,28 +76,31 @@ module _ {V : Type 0} where
         lists = tt;
         listed = λ n p some. absurd (none_some (ap (λ (o : Option (Seen V)). mask_in o) (sym (gone n)) ∙ sym (masks n) ∙ some));
       } in
-      (w, record { front = []; back = []; was = refl; now = shown_is new (LeafOf id) w })
+      (w, record { front = []; back = []; was = refl; now = shown_is w })
 
   -- ---- rooms that say the same
-  pub shown_same : (m new : FinMap nat_cmp (Seen V)) (root : Node) → KeepsLeaves m new → KeepsBits m new → shown new (Some root) ≡ shown m (Some root)
+  pub shown_same : (m new : Lodged V) (root : Node) → KeepsLeaves m new → KeepsBits m new → shown new (Some root) ≡ shown m (Some root)
   shown_same m new root leaves bits = λ i. beneath_shown 33 (λ n. leaves n i) (λ n. bits n i) root
 
-  pub gains_same : (e : Entry V) (es : List (Entry V)) (m new : FinMap nat_cmp (Seen V)) (root : Node) → Gains e es (shown m (Some root)) → KeepsLeaves m new → KeepsBits m new → Gains e es (shown new (Some root))
+  pub gains_same : (e : Entry V) (es : List (Entry V)) (m new : Lodged V) (root : Node) → Gains e es (shown m (Some root)) → KeepsLeaves m new
+      → KeepsBits m new → Gains e es (shown new (Some root))
   gains_same e es m new root g leaves bits = subst (λ (fs : List (Entry V)). Gains e es fs) (sym (shown_same m new root leaves bits)) g
 
   -- ---- whose masks are not listed yet
-  not_late : (m : FinMap nat_cmp (Seen V)) (root : Node) (late : ℕ → Bool) → IsWholeBut m root late nobody_out → ((n : ℕ) → late n ≡ true → ⊥) → IsWholeBut m root nobody_late nobody_out
-  not_late m root late w never = later_than late nobody_late (λ n is. absurd (never n is)) w
+  not_late : (m : Lodged V) {root : Node} {late : ℕ → Bool} → IsWholeBut m root late nobody_out → ((n : ℕ) → late n ≡ true → ⊥)
+      → IsWholeBut m root nobody_late nobody_out
+  not_late m w never = later_than nobody_late (λ n is. absurd (never n is)) w
 
   -- the route of one room was late, and is listed now
-  pub among_left : (m : FinMap nat_cmp (Seen V)) (root : Node) (room id : ℕ) → id ≡ room → IsWholeBut m root (λ n. late_at room n && not (n == id)) nobody_out → IsWhole m root
-  among_left m root room id same w = but_whole m root (not_late m root (λ n. late_at room n && not (n == id)) w (λ n e.
+  pub among_left : {m : Lodged V} (root : Node) (room id : ℕ) → id ≡ room → IsWholeBut m root (λ n. late_at room n && not (n == id)) nobody_out → IsWhole m root
+  among_left {m = m} root room id same w = but_whole m root (not_late m w (λ n e.
       let both = and_not (n == room) (n == id) e in true_false (sym (eq-eqb n id (eqb-true n room both.0 ∙ sym same)) ∙ both.1)))
 
   -- and with it the routes of a key
-  pub new_left : (m old : FinMap nat_cmp (Seen V)) (root : Node) (room id key k : ℕ) (was : ℕ → Bool) → id ≡ room → k ≡ key → ((n : ℕ) → was n ≡ true → has_key old key n ≡ true)
+  pub new_left : (m old : Lodged V) {root : Node} (room : ℕ) {id : ℕ} (key k : ℕ) (was : ℕ → Bool) → id ≡ room → k ≡ key
+      → ((n : ℕ) → was n ≡ true → has_key old key n ≡ true)
       → IsWholeBut m root (λ n. (((n == room) || was n) && not (n == id)) && not (has_key old k n)) nobody_out → IsWhole m root
-  new_left m old root room id key k was same key_is stays w = but_whole m root (not_late m root (λ n. (((n == room) || was n) && not (n == id)) && not (has_key old k n)) w (λ n e.
+  new_left m old {root = root} room {id = id} key k was same key_is stays w = but_whole m root (not_late m w (λ n e.
       let both = and_not (((n == room) || was n) && not (n == id)) (has_key old k n) e in
       let first = and_not ((n == room) || was n) (n == id) both.0 in
       let other : (n == room) ≡ false = ap (λ (r : ℕ). n == r) (sym same) ∙ first.1 in
@@ -114,56 +108,60 @@ module _ {V : Type 0} where
 
   -- ---- the leaf beside which a route comes in
   -- what the first room of a leaf says
-  pub record IsBegun (m : FinMap nat_cmp (Seen V)) (key : ℕ) (first : Id) : Type 0 where
+  pub record IsBegun (m : Lodged V) (key : ℕ) (first : Id) : Type 0 where
     pub part : LeafPart V
     pub at : leaves_in m first.number ≡ Some part
     pub block : part.block ≡ first.block
     pub key_is : part.leaf.key ≡ key
     pub previous : part.leaf.previous ≡ None
 
-  pub led_begun : (m : FinMap nat_cmp (Seen V)) (key : ℕ) (whole : Part m) (first : Id) (d : LedTo key whole first) → IsBegun m d.leaf.first.entry.key first
-  led_begun m key whole first d = record {
+  pub led_begun : (m : Lodged V) {key : ℕ} {whole : Part m} {first : Id} (d : LedTo key whole first) → IsBegun m d.leaf.first.entry.key first
+  led_begun m d = record {
     part = leaf_part d.leaf.first d.part.above None (first_room d.leaf.rest);
-    at = ap (λ (i : Id). leaves_in m i.number) (sym d.leaf.room_is) ∙ (leaf_run m d.part first d.leaf).stands.0;
+    at = ap (λ (i : Id). leaves_in m i.number) (sym d.leaf.room_is) ∙ (leaf_run m d.leaf).stands.0;
     block = ap (λ (i : Id). i.block) d.leaf.room_is;
     key_is = refl;
     previous = refl;
   }
 
   -- each leaf keeps what it says but for the bit node above
-  abbrev pub KeepsButAbove : FinMap nat_cmp (Seen V) → FinMap nat_cmp (Seen V) → Type 0
-  KeepsButAbove old new = (n : ℕ) (p : LeafPart V) → leaves_in old n ≡ Some p → (a : Option Id) × (leaves_in new n ≡ Some (record p { leaf = record p.leaf { above = a } }))
+  abbrev pub KeepsButAbove : Lodged V → Lodged V → Type 0
+  KeepsButAbove old new = (n : ℕ) (p : LeafPart V) → leaves_in old n ≡ Some p
+      → (a : Option Id) × (leaves_in new n ≡ Some (record p { leaf = record p.leaf { above = a } }))
 
-  pub still_begun : (m new : FinMap nat_cmp (Seen V)) (key : ℕ) (first : Id) → IsBegun m key first → KeepsButAbove m new → IsBegun new key first
-  still_begun m new key first b keeps =
+  pub still_begun : (m new : Lodged V) {key : ℕ} {first : Id} → IsBegun m key first → KeepsButAbove m new → IsBegun new key first
+  still_begun m new {first = first} b keeps =
       let k = keeps first.number b.part b.at in
       record { part = record b.part { leaf = record b.part.leaf { above = k.0 } }; at = k.1; block = b.block; key_is = b.key_is; previous = b.previous }
 
-  pub same_begun : (m new : FinMap nat_cmp (Seen V)) (key : ℕ) (first : Id) → IsBegun m key first → KeepsLeaves m new → IsBegun new key first
-  same_begun m new key first b leaves = record { part = b.part; at = leaves first.number ∙ b.at; block = b.block; key_is = b.key_is; previous = b.previous }
+  pub same_begun : {m : Lodged V} (new : Lodged V) {key : ℕ} {first : Id} → IsBegun m key first → KeepsLeaves m new → IsBegun new key first
+  same_begun new {first = first} b leaves = record { part = b.part; at = leaves first.number ∙ b.at; block = b.block; key_is = b.key_is; previous = b.previous }
 
-  said_key : (m : FinMap nat_cmp (Seen V)) (key n : ℕ) (o : Option (LeafPart V)) → leaves_in m n ≡ o → is_of_key key o ≡ true → (p : LeafPart V) × (leaves_in m n ≡ Some p) × ((p.leaf.key == key) ≡ true)
+  said_key : (m : Lodged V) (key n : ℕ) (o : Option (LeafPart V)) → leaves_in m n ≡ o → is_of_key key o ≡ true
+      → (p : LeafPart V) × (leaves_in m n ≡ Some p) × ((p.leaf.key == key) ≡ true)
   said_key m key n None is e = absurd (true_false (sym e))
   said_key m key n (Some p) is e = (p, is, e)
 
-  pub still_key : (m new last : FinMap nat_cmp (Seen V)) (key n : ℕ) → KeepsButAbove m new → KeepsLeaves new last → has_key m key n ≡ true → has_key last key n ≡ true
+  pub still_key : (m new last : Lodged V) (key n : ℕ) → KeepsButAbove m new → KeepsLeaves new last → has_key m key n ≡ true → has_key last key n ≡ true
   still_key m new last key n keeps leaves has =
       let s = said_key m key n (leaves_in m n) refl has in
       let k = keeps n s.0 s.1 in
       ap (λ (o : Option (LeafPart V)). is_of_key key o) (leaves n ∙ k.1) ∙ s.2
 
   -- ---- a route that goes
-  pub record IsLost (m new : FinMap nat_cmp (Seen V)) (root : Node) (after : Option Node) (key rank : ℕ) (e : Entry V) : Type 0 where
+  pub record IsLost (m new : Lodged V) (root : Node) (after : Option Node) (key rank : ℕ) (e : Entry V) : Type 0 where
     pub gains : Gains e (shown new after) (shown m (Some root))
     pub entries : shown new after ≡ without key rank (shown m (Some root))
 
-  pub lost : (m new : FinMap nat_cmp (Seen V)) (root : Node) (after : Option Node) (key rank : ℕ) (at : Id) → Holds m (Some root) → (f : IsFound m root key rank at)
-      → ((p : LeafPart V) → leaves_in m at.number ≡ Some p → Gains (shown_entry p) (shown new after) (shown m (Some root))) → IsLost m new root after key rank f.route.entry
-  lost m new root after key rank at holds f routes =
+  pub lost : {m : Lodged V} (new : Lodged V) {root : Node} (after : Option Node) {key rank : ℕ} {at : Id} → Holds m (Some root)
+      → (f : IsFound m root key rank at)
+      → ((p : LeafPart V) → leaves_in m at.number ≡ Some p → Gains (shown_entry p) (shown new after) (shown m (Some root)))
+      → IsLost m new root after key rank f.route.entry
+  lost {m = m} new {root = root} after {key = key} holds f routes =
       let e = f.route.entry in
       let gains = subst (λ (e : Entry V). Gains e (shown new after) (shown m (Some root))) f.said.entry (routes f.said.part f.said.at) in
       record {
         gains = gains;
-        entries = (loses_entry e (shown m (Some root)) (shown new after) gains (shown_table m (Some root) holds)).0
+        entries = (loses_entry e gains (shown_table m (Some root) holds)).0
             ∙ ap (λ (k : ℕ). without k e.rank (shown m (Some root))) f.has.0 ∙ ap (λ (r : ℕ). without key r (shown m (Some root))) f.has.1;
       }

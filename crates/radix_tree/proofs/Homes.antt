@@ -1,21 +1,10 @@
 -- A walk up from a leaf to the bit node at which a mask is listed.
 use Rattle.std.proofs.Common.{◌≡◌, ℕ, ◌+◌, ◌<◌, ◌≤◌, ◌⊎◌, List, [], ◌∷◌, Option, Some, None, refl, sym, ◌∙◌, subst, ⊎_elim, arith}
-use Rattle.std.specs.Ordering.{nat_cmp}
-use Rattle.std.specs.FinMap.{FinMap}
-use Rattle.radix_nodes.specs.Counting.{Counter}
-use Rattle.radix_nodes.specs.Rooms.{Seen}
-use Rattle.radix_nodes.specs.declared.id.Id.{Id}
-use Rattle.radix_nodes.specs.declared.links.BitNode.{BitNode}
-use Rattle.radix_tree.specs.MaskLists.{IsHome}
-use Rattle.radix_tree.specs.Reads.{IsBitNodeOf, ReadsOnce}
-use Rattle.radix_tree.specs.Rooms.{Part}
-use Rattle.radix_tree.specs.Searches.{ForkAt, Way, LedTo}
-use Rattle.radix_tree.specs.Tree.{Tree, bit_at}
-use Rattle.radix_tree.specs.Whole.{HasHome}
+use Rattle.radix_tree.proofs.Words.{Counter, Id, BitNode, IsHome, IsBitNodeOf, ReadsOnce, Part, ForkAt, Way, LedTo, Tree, bit_at, HasHome, Lodged}
 use Rattle.radix_tree.proofs.Climbs.{Climb, Over, fork_over, node_at, ended, Steps, step_begun, step_risen}
 use Rattle.radix_tree.proofs.Parts.{fork_is}
 
-module _ {V : Type 0} {m : FinMap nat_cmp (Seen V)} where
+module _ {V : Type 0} {m : Lodged V} where
   -- past bit nodes whose bits are all at or past the rank, of which the last one is told
   abbrev IsLast : (key rank : ℕ) (part : Part m) → Option Id → Type 0
   IsLast key rank part None = HasHome key rank part.tree → ⊥
@@ -25,23 +14,27 @@ module _ {V : Type 0} {m : FinMap nat_cmp (Seen V)} where
     pub last_is : IsLast key rank part last
     pub steps : Steps start now part
 
-  pub none_passed : (rank : ℕ) {key : ℕ} {whole : Part m} {room : Id} {start now : Counter} (l : LedTo key whole room) → ReadsOnce start now → Passed key rank None start now l.part
+  pub none_passed : (rank : ℕ) {key : ℕ} {whole : Part m} {room : Id} {start now : Counter} (l : LedTo key whole room) → ReadsOnce start now
+      → Passed key rank None start now l.part
   none_passed rank {key} l once = record { last_is = λ home. subst (λ (t : Tree V). HasHome key rank t) l.leaf.is home; steps = step_begun l once }
 
   -- a bit node above whose bit is at or past the rank
-  pub passed : {key rank : ℕ} {last : Option Id} {whole under : Part m} {room : Id} {start now later : Counter} {n : BitNode} (o : Over key whole under room) → Passed key rank last start now under → IsBitNodeOf m room n
+  pub passed : {key rank : ℕ} {last : Option Id} {whole under : Part m} {room : Id} {start now later : Counter} {n : BitNode} (o : Over key whole under room)
+      → Passed key rank last start now under → IsBitNodeOf m room n
       → rank ≤ n.bit → ReadsOnce now later → Passed key rank (Some room) start later o.part
   passed {n = n} o p is past once =
-      let same : n.bit ≡ (fork_over o).bit = (node_at (fork_over o) is).bit in record { last_is = (fork_over o, omega (arith, past, same)); steps = step_risen o p.steps once }
+      let same : n.bit ≡ (fork_over o).bit = (node_at (fork_over o) is).bit in
+      record { last_is = (fork_over o, omega (arith, past, same)); steps = step_risen o p.steps once }
 
   -- where no bit node above a part is at or past the rank, a home is beneath
-  no_home : (key rank : ℕ) (whole under : Part m) (ups : List (Part m)) → Way key whole under ups → under.low ≤ rank → (HasHome key rank under.tree → ⊥) → HasHome key rank whole.tree → ⊥
+  no_home : (key rank : ℕ) (whole under : Part m) (ups : List (Part m)) → Way key whole under ups → under.low ≤ rank → (HasHome key rank under.tree → ⊥)
+      → HasHome key rank whole.tree → ⊥
   no_home key rank whole under [] way low none home = none (subst (λ (p : Part m). HasHome key rank p.tree) (sym way) home)
   no_home key rank whole under (p ∷ ps) way low none home =
       let b = way.0 in
       let f = b.at in
       let low_is : under.low ≡ f.bit + 1 = b.low in
-      let rises : p.low ≤ f.bit = (fork_is m p b.room f).0.rises in
+      let rises : p.low ≤ f.bit = (fork_is m f).0.rises in
       let none_here : HasHome key rank p.tree → ⊥ = λ here.
       ⊎_elim (λ (within : rank ≤ f.bit). omega arith)
       (λ (beneath : ((bit_at f.bit key ≡ 0) × HasHome key rank f.zero) ⊎ ((bit_at f.bit key ≡ 1) × HasHome key rank f.one)).
@@ -56,17 +49,20 @@ module _ {V : Type 0} {m : FinMap nat_cmp (Seen V)} where
       let higher : p.low ≤ rank = omega arith in
       no_home key rank whole p ps way.1 higher none_here home
 
-  home_told : (key rank : ℕ) (whole part : Part m) (ups : List (Part m)) (last : Option Id) → Way key whole part ups → IsLast key rank part last → part.low ≤ rank → IsHome m key rank whole last
+  home_told : (key rank : ℕ) (whole part : Part m) (ups : List (Part m)) (last : Option Id) → Way key whole part ups → IsLast key rank part last
+      → part.low ≤ rank → IsHome m key rank whole last
   home_told key rank whole part ups None way last low = no_home key rank whole part ups way low last
   home_told key rank whole part ups (Some room) way last low = record { part = part; at = last.0; ups = ups; way = way; past = low; within = last.1 }
 
   -- the next bit node above is before the rank
-  pub stopped : {key rank : ℕ} {last : Option Id} {whole : Part m} {at : Option Id} {room : Id} {start now : Counter} {n : BitNode} (c : Climb key whole (Passed key rank last start now) at) (o : Over key whole c.part room) → IsBitNodeOf m room n
+  pub stopped : {key rank : ℕ} {last : Option Id} {whole : Part m} {at : Option Id} {room : Id} {start now : Counter} {n : BitNode}
+      (c : Climb key whole (Passed key rank last start now) at) (o : Over key whole c.part room) → IsBitNodeOf m room n
       → n.bit < rank → IsHome m key rank whole last
   stopped {key} {rank} {last} {whole} {n = n} c o is before =
       let same : n.bit ≡ (fork_over o).bit = (node_at (fork_over o) is).bit in
       home_told key rank whole c.part c.ups last c.way c.holds.last_is (omega (arith, o.beneath.low, before, same))
 
   -- or there is none
-  pub topped : {key rank : ℕ} {last : Option Id} {whole : Part m} {at : Option Id} {start now : Counter} → whole.low ≡ 0 → Climb key whole (Passed key rank last start now) at → at ≡ None → IsHome m key rank whole last
+  pub topped : {key rank : ℕ} {last : Option Id} {whole : Part m} {at : Option Id} {start now : Counter} → whole.low ≡ 0
+      → Climb key whole (Passed key rank last start now) at → at ≡ None → IsHome m key rank whole last
   topped {key} {rank} {last} {whole} low c is = home_told key rank whole whole [] last refl (ended c is).last_is (omega arith)

@@ -1,22 +1,9 @@
 -- A node comes into the place of the bit node above it, which is none from then on: what the rooms say.
 use Rattle.std.proofs.Common.{◌≡◌, ◌+◌, ◌≤◌, ◌==◌, Bool, true, false, if◌then◌else◌, List, [], ◌∷◌, Option, Some, None, refl, sym, ap, ◌∙◌, arith, ℕ}
 use Rattle.std.proofs.lemmas.Bool.{eq-eqb, ne_eqb}
-use Rattle.std.specs.Prelude.{is_some}
-use Rattle.std.specs.Ordering.{nat_cmp}
-use Rattle.std.specs.FinMap.{FinMap}
-use Rattle.radix_nodes.specs.Rooms.{Seen, Has}
-use Rattle.radix_nodes.specs.Links.{leaf_of}
-use Rattle.radix_nodes.specs.declared.id.Id.{Id}
-use Rattle.radix_nodes.specs.declared.links.Node.{Node}
-use Rattle.radix_nodes.specs.declared.links.Node.TheVariants.{Leaf as LeafOf, Bit as BitOf}
-use Rattle.radix_tree.specs.Tree.{Tree, leaf}
-use Rattle.radix_tree.specs.Rooms.{LeafPart, BitPart, Part, bit_part, leaf_in, leaves_in, bits_in, name_of}
-use Rattle.radix_tree.specs.Searches.{Way}
-use Rattle.radix_tree.specs.Whole.{one_if, forks_at}
-use Rattle.radix_tree.specs.Growth.{name_child, with_child, AreOnce}
-use Rattle.radix_tree.specs.Joining.{IsApart, IsLone}
-use Rattle.radix_tree.specs.Removal.{content_of}
-use Rattle.radix_tree.specs.Writes.{put_bit, put_head, leaf_above, bit_above, lift_leaf, lift_bit}
+use Rattle.radix_tree.proofs.Words.{is_some, Has, Id, Node, LeafOf, BitOf, Tree, LeafPart, BitPart, Part, bit_part, leaf_in, leaves_in, bits_in, name_of, Way}
+use Rattle.radix_tree.proofs.Words.{one_if, forks_at, name_child, with_child, AreOnce, IsApart, IsLone, content_of, put_bit, put_head, leaf_above, bit_above}
+use Rattle.radix_tree.proofs.Words.{lift_leaf, lift_bit, Lodged}
 use Rattle.radix_tree.proofs.RoomReads.{inside, none_some, Has-leaf}
 use Rattle.radix_tree.proofs.PartRooms.{elsewhere, way_once, spine_out}
 use Rattle.radix_tree.proofs.Lodging.{stays}
@@ -29,7 +16,8 @@ put_off room n said other = ap (λ (t : Bool). if t then None else said) (ne_eqb
 pub head_off : (room : Id) (n : ℕ) (said : Option Id) → (n ≡ room.number → ⊥) → put_head room None n said ≡ said
 head_off room n said other = ap (λ (t : Bool). if t then None else said) (ne_eqb n room.number other)
 
-pub turn_off : (above : Option Id) (key n : ℕ) (to : Node) (said : Option BitPart) → ((over : Id) → above ≡ Some over → n ≡ over.number → ⊥) → name_child above key to n said ≡ said
+pub turn_off : (above : Option Id) (key n : ℕ) (to : Node) (said : Option BitPart) → ((over : Id) → above ≡ Some over → n ≡ over.number → ⊥)
+    → name_child above key to n said ≡ said
 turn_off None key n to said other = refl
 turn_off (Some over) key n to said other = ap (λ (t : Bool). if t then with_child key to said else said) (ne_eqb n over.number (other over refl))
 
@@ -59,7 +47,8 @@ turned_used key to (Some p) = refl
 
 pub turn_used : (above : Option Id) (key n : ℕ) (to : Node) (said : Option BitPart) → is_some (name_child above key to n said) ≡ is_some said
 turn_used None key n to said = refl
-turn_used (Some over) key n to said = elim (n == over.number) as (λ t. is_some (if t then with_child key to said else said) ≡ is_some said) [ true ↦ turned_used key to said | false ↦ refl ]
+turn_used (Some over) key n to said =
+    elim (n == over.number) as (λ t. is_some (if t then with_child key to said else said) ≡ is_some said) [ true ↦ turned_used key to said | false ↦ refl ]
 
 bit_above_used : (above : Option Id) (said : Option BitPart) → is_some (bit_above above said) ≡ is_some said
 bit_above_used above None = refl
@@ -67,7 +56,8 @@ bit_above_used above (Some p) = refl
 
 pub lift_used : (at : Node) (above : Option Id) (n : ℕ) (said : Option BitPart) → is_some (lift_bit at above n said) ≡ is_some said
 lift_used (LeafOf room) above n said = refl
-lift_used (BitOf room) above n said = elim (n == room.number) as (λ t. is_some (if t then bit_above above said else said) ≡ is_some said) [ true ↦ bit_above_used above said | false ↦ refl ]
+lift_used (BitOf room) above n said =
+    elim (n == room.number) as (λ t. is_some (if t then bit_above above said else said) ≡ is_some said) [ true ↦ bit_above_used above said | false ↦ refl ]
 
 module _ {V : Type 0} where
   -- ---- a leaf keeps its route
@@ -77,60 +67,67 @@ module _ {V : Type 0} where
 
   pub lift_content : (at : Node) (above : Option Id) (n : ℕ) (said : Option (LeafPart V)) → content_of (lift_leaf at above n said) ≡ content_of said
   lift_content (BitOf room) above n said = refl
-  lift_content (LeafOf room) above n said = elim (n == room.number) as (λ t. content_of (if t then leaf_above above said else said) ≡ content_of said) [ true ↦ above_content above said | false ↦ refl ]
+  lift_content (LeafOf room) above n said = elim (n == room.number) as (λ t. content_of (if t then leaf_above above said else said) ≡ content_of said)
+      [ true ↦ above_content above said | false ↦ refl ]
 
   pub content_used : (said : Option (LeafPart V)) → is_some (content_of said) ≡ is_some said
   content_used None = refl
   content_used (Some p) = refl
 
   -- ---- a room that is there
-  pub Has-kept : (m new : FinMap nat_cmp (Seen V)) (room : Id) → Has m room → leaves_in new room.number ≡ leaves_in m room.number → Has new room
-  Has-kept m new room h same =
-      Has-leaf new room (record { block = h.room.block; value = h.room.value; leaf = leaf_of h.room.links }) (same ∙ ap leaf_in h.at) h.block
+  pub Has-kept : {m : Lodged V} (new : Lodged V) {room : Id} → Has m room → leaves_in new room.number ≡ leaves_in m room.number → Has new room
+  Has-kept new {room = room} h same =
+      Has-leaf new room (same ∙ ap leaf_in h.at) h.block
 
   -- ---- the node beneath stays as it is while the bit nodes above it are written
-  pub quiet : (t : Tree V) (up : Id) (above : Option Id) (key : ℕ) (to : Node) (n : ℕ) (said : Option BitPart) → IsApart t up above → 1 ≤ forks_at n t → put_bit up None n (name_child above key to n said) ≡ said
-  quiet t up above key to n said apart some =
+  pub quiet : {t : Tree V} (up : Id) {above : Option Id} (key : ℕ) (to : Node) (n : ℕ) (said : Option BitPart) → IsApart t up above → 1 ≤ forks_at n t
+      → put_bit up None n (name_child above key to n said) ≡ said
+  quiet up {above = above} key to n said apart some =
       put_off up n (name_child above key to n said) (apart.up_is n some) ∙ turn_off above key n to said (λ over is. apart.above_is over is n some)
 
-  pub below_stays : (m with_child put : FinMap nat_cmp (Seen V)) (p : Part m) (up : Id) (above : Option Id) (key : ℕ) (to : Node) → name_of p.tree ≡ to → IsApart p.tree up above
+  pub below_stays : (m with_child put : Lodged V) (p : Part m) (up : Id) {above : Option Id} (key : ℕ) (to : Node) → name_of p.tree ≡ to
+      → IsApart p.tree up above
       → ((n : ℕ) → leaves_in with_child n ≡ leaves_in m n) → ((n : ℕ) → leaves_in put n ≡ leaves_in with_child n)
-      → ((n : ℕ) → bits_in with_child n ≡ name_child above key to n (bits_in m n)) → ((n : ℕ) → bits_in put n ≡ put_bit up None n (bits_in with_child n)) → (q : Part put) × (name_of q.tree ≡ to)
-  below_stays m with_child put p up above key to named apart leaves1 leaves2 bits1 bits2 = (
+      → ((n : ℕ) → bits_in with_child n ≡ name_child above key to n (bits_in m n)) → ((n : ℕ) → bits_in put n ≡ put_bit up None n (bits_in with_child n))
+      → (q : Part put) × (name_of q.tree ≡ to)
+  below_stays m with_child put p up key to named apart leaves1 leaves2 bits1 bits2 = (
     stays m put p (λ n some. leaves2 n ∙ leaves1 n)
-        (λ n some. bits2 n ∙ ap (λ (said : Option BitPart). put_bit up None n said) (bits1 n) ∙ quiet p.tree up above key to n (bits_in m n) apart some),
+        (λ n some. bits2 n ∙ ap (λ (said : Option BitPart). put_bit up None n said) (bits1 n) ∙ quiet up key to n (bits_in m n) apart some),
     named,
   )
 
   -- ---- the other side of the bit node above a lone leaf
-  out_of_above : (m : FinMap nat_cmp (Seen V)) (key : ℕ) (whole at : Part m) (ups : List (Part m)) (over : Id) → Way key whole at ups → whole.above ≡ None → AreOnce whole.tree → at.above ≡ Some over
+  out_of_above : (m : Lodged V) (key : ℕ) (whole at : Part m) (ups : List (Part m)) (over : Id) → Way key whole at ups → whole.above ≡ None
+      → AreOnce whole.tree → at.above ≡ Some over
       → (n : ℕ) → 1 ≤ forks_at n at.tree → n ≡ over.number → ⊥
   out_of_above m key whole at [] over way top once is n some same = none_some (sym top ∙ sym (ap (λ (p : Part m). p.above) way) ∙ is)
   out_of_above m key whole at (p ∷ ps) over way top once is n some same =
       let b = way.0 in
-      let out : forks_at b.room.number at.tree ≡ 0 = (spine_out m key at p b (way_once m key whole p ps way.1 once)).0 in
+      let out : forks_at b.room.number at.tree ≡ 0 = (spine_out m at p b (way_once key whole p ps way.1 once)).0 in
       let room : b.room ≡ over = inside (sym b.above ∙ is) in
-      let here : forks_at n at.tree ≡ forks_at b.room.number at.tree = ap (λ (k : ℕ). forks_at k at.tree) (same ∙ ap (λ (i : Id). i.number) (sym room)) in omega arith
+      let here : forks_at n at.tree ≡ forks_at b.room.number at.tree = ap (λ (k : ℕ). forks_at k at.tree) (same ∙ ap (λ (i : Id). i.number) (sym room)) in
+      omega arith
 
-  pub lone_once : (m : FinMap nat_cmp (Seen V)) (whole : Part m) (at up : Id) (l : IsLone m whole at up) → AreOnce l.over.tree
-  lone_once m whole at up l = way_once m l.route.entry.key whole l.over l.ups l.way l.once
+  pub lone_once : {m : Lodged V} {whole : Part m} {at up : Id} (l : IsLone m whole at up) → AreOnce l.over.tree
+  lone_once {whole = whole} l = way_once l.route.entry.key whole l.over l.ups l.way l.once
 
-  pub lone_forks : (m : FinMap nat_cmp (Seen V)) (whole : Part m) (at up : Id) (l : IsLone m whole at up) (n : ℕ) → forks_at n l.over.tree ≡ one_if (up.number == n) + (0 + forks_at n l.other)
-  lone_forks m whole at up l n = side_forks l.route.entry.key l.over.tree up l.bit (leaf l.route []) l.other n l.sides
+  pub lone_forks : {m : Lodged V} {whole : Part m} {at up : Id} (l : IsLone m whole at up) (n : ℕ)
+      → forks_at n l.over.tree ≡ one_if (up.number == n) + (0 + forks_at n l.other)
+  lone_forks {up = up} l n = side_forks up n l.sides
 
-  pub lone_apart : (m : FinMap nat_cmp (Seen V)) (whole : Part m) (at up : Id) (l : IsLone m whole at up) → IsApart l.other up l.over.above
-  lone_apart m whole at up l = record {
-    up_is = λ n some. let sum : forks_at n l.over.tree ≡ one_if (up.number == n) + (0 + forks_at n l.other) = lone_forks m whole at up l n in
-        let most : forks_at n l.over.tree ≤ 1 = (lone_once m whole at up l).forks n in elsewhere up n (forks_at n l.other) some (omega arith);
-    above_is = λ over is n some. let sum : forks_at n l.over.tree ≡ one_if (up.number == n) + (0 + forks_at n l.other) = lone_forks m whole at up l n in
+  pub lone_apart : (m : Lodged V) {whole : Part m} (at up : Id) (l : IsLone m whole at up) → IsApart l.other up l.over.above
+  lone_apart m {whole = whole} at up l = record {
+    up_is = λ n some. let sum : forks_at n l.over.tree ≡ one_if (up.number == n) + (0 + forks_at n l.other) = lone_forks l n in
+        let most : forks_at n l.over.tree ≤ 1 = (lone_once l).forks n in elsewhere up n (forks_at n l.other) some (omega arith);
+    above_is = λ over is n some. let sum : forks_at n l.over.tree ≡ one_if (up.number == n) + (0 + forks_at n l.other) = lone_forks l n in
         out_of_above m l.route.entry.key whole l.over l.ups over l.way l.top l.once is n (omega arith);
   }
 
-  abbrev pub other_part : (m : FinMap nat_cmp (Seen V)) (whole : Part m) (at up : Id) → IsLone m whole at up → Part m
-  other_part m whole at up l = record {
+  abbrev pub other_part : (m : Lodged V) {whole : Part m} (at up : Id) → IsLone m whole at up → Part m
+  other_part m at up l = record {
     tree = l.other;
     low = l.bit + 1;
     above = Some up;
-    is = (side_is l.route.entry.key l.over.tree up l.bit (leaf l.route []) l.other l.over.low l.sides l.over.is).0;
-    stands = side_stands l.route.entry.key l.over.tree up l.bit (leaf l.route []) l.other (leaves_in m) (bits_in m) l.over.above l.sides l.over.stands;
+    is = (side_is l.over.low l.sides l.over.is).0;
+    stands = side_stands up (leaves_in m) (bits_in m) l.over.above l.sides l.over.stands;
   }

@@ -1,29 +1,21 @@
 -- The list of masks of a bit node that goes is handed on to the node that takes its place.
-use Rattle.std.proofs.Common.{◌≡◌, ◌+◌, ◌<◌, ◌≤◌, ◌⊎◌, ◌==◌, false, List, [], ◌∷◌, ◌++◌, Option, Some, None, inl, inr, refl, sym, ap, ◌∙◌, subst, arith, ℕ, ⊎_elim}
+use Rattle.std.proofs.Common.{◌≡◌, ◌+◌, ◌<◌, ◌≤◌, ◌⊎◌, ◌==◌, false, List, [], ◌∷◌, ◌++◌, Option, Some, None, inl, inr, refl, sym, ap, ◌∙◌, subst, arith, ℕ}
+use Rattle.std.proofs.Common.{⊎_elim}
 use Rattle.std.proofs.lemmas.Bool.{cases_lt, cases_eq}
-use Rattle.std.specs.Prelude.{is_some}
-use Rattle.std.specs.Ordering.{nat_cmp}
-use Rattle.std.specs.FinMap.{FinMap}
-use Rattle.radix_nodes.specs.Rooms.{Seen}
-use Rattle.radix_nodes.specs.declared.id.Id.{Id}
-use Rattle.radix_nodes.specs.declared.links.Node.TheVariants.{Leaf as LeafOf, Bit as BitOf}
-use Rattle.radix_tree.specs.Tree.{Placed, Tree, leaf, fork, IsAmong, IsIn, IsTree}
-use Rattle.radix_tree.specs.Rooms.{LeafPart, MaskPart, Heads, Masks, Part, leaves_in, bits_in, heads_in, masks_in, name_of, Falls}
-use Rattle.radix_tree.specs.Whole.{one_if, forks_at, HasHome}
-use Rattle.radix_tree.specs.Growth.{AreOnce}
-use Rattle.radix_tree.specs.Joining.{HasSides, IsLone, IsHanded}
-use Rattle.radix_tree.specs.Marks.{IsMarked, IsMaskList, MarkedIn, MarkedLists}
-use Rattle.radix_tree.specs.MaskLists.{IsMasks, IsBitNode, IsAside}
+use Rattle.radix_tree.proofs.Words.{is_some, Id, LeafOf, BitOf, Placed, Tree, leaf, fork, IsAmong, IsIn, IsTree, LeafPart, MaskPart, Heads, Masks, Part}
+use Rattle.radix_tree.proofs.Words.{leaves_in, bits_in, heads_in, masks_in, name_of, Falls, one_if, forks_at, HasHome, AreOnce, HasSides, IsLone, IsHanded}
+use Rattle.radix_tree.proofs.Words.{IsMarked, IsMaskList, MarkedIn, MarkedLists, IsMasks, IsBitNode, IsAside, Lodged}
 use Rattle.radix_tree.proofs.RoomReads.{inside, none_some}
 use Rattle.radix_tree.proofs.PartRooms.{one_if_same, way_once}
 use Rattle.radix_tree.proofs.PlugLists.{masks_stand_same}
-use Rattle.radix_tree.proofs.WholeChanges.{some_of}
+use Rattle.radix_tree.proofs.WholeParts.{some_of}
 use Rattle.radix_tree.proofs.MaskLists.{falls_wider, falls_among, falls_appended, among_appended, in_front, in_back, ranked_in, masks_listed}
 use Rattle.radix_tree.proofs.JoinSides.{true_not_false, side_is, side_stands, side_forks, side_in, in_side, side_list, side_lists, side_home}
 
 unmarked_marked : {A : Type 0} (K : Masks) (x y : Placed A) → K x.room.number ≡ None → x ≡ y → IsMarked K y → ⊥
 unmarked_marked {A = A} K x y none same marked =
-    let never : is_some (K y.room.number) ≡ false = ap (λ (o : Option MaskPart). is_some o) (ap (λ (p : Placed A). K p.room.number) (sym same) ∙ none) in true_not_false (sym marked ∙ never)
+    let never : is_some (K y.room.number) ≡ false = ap (λ (o : Option MaskPart). is_some o) (ap (λ (p : Placed A). K p.room.number) (sym same) ∙ none) in
+    true_not_false (sym marked ∙ never)
 
 module _ {V : Type 0} where
   -- one of the members is in a room, or none
@@ -33,12 +25,13 @@ module _ {V : Type 0} where
       ⊎_elim (λ (here : x.room.number ≡ n). inl (x, inl refl, here))
       (λ (other : x.room.number ≡ n → ⊥).
       ⊎_elim (λ (found : (y : Placed V) × IsAmong y ms × (y.room.number ≡ n)). inl (found.0, inr found.1, found.2))
-      (λ (aside : IsAside n ms). inr (λ y among same. ⊎_elim (λ (e : x ≡ y). other (ap (λ (p : Placed V). p.room.number) e ∙ same)) (λ (behind : IsAmong y ms). aside y behind same) among))
+      (λ (aside : IsAside n ms). inr (λ y among same. ⊎_elim (λ (e : x ≡ y). other (ap (λ (p : Placed V). p.room.number) e ∙ same))
+      (λ (behind : IsAmong y ms). aside y behind same) among))
       (member_or_aside n ms))
       (cases_eq x.room.number n)
 
   -- the routes of a part tell their ranks by their rooms
-  pub same_rank_at : (m : FinMap nat_cmp (Seen V)) (p : Part m) (x y : Placed V) → IsIn x p.tree → IsIn y p.tree → x.room.number ≡ y.room.number → x.entry.rank ≡ y.entry.rank
+  pub same_rank_at : (m : Lodged V) (p : Part m) (x y : Placed V) → IsIn x p.tree → IsIn y p.tree → x.room.number ≡ y.room.number → x.entry.rank ≡ y.entry.rank
   same_rank_at m p x y one other same =
       let first = ranked_in m p x one in
       let second = ranked_in m p y other in
@@ -46,7 +39,8 @@ module _ {V : Type 0} where
 
   -- lists stay where their heads stay, and the masks of ranks at or past low
   lists_past : (H G : Heads) (K J : Masks) (low : ℕ) (t : Tree V) → ((n : ℕ) → 1 ≤ forks_at n t → G n ≡ H n)
-      → ((y : Placed V) → IsIn y t → low ≤ y.entry.rank → J y.room.number ≡ K y.room.number) → ((y : Placed V) → IsIn y t → is_some (J y.room.number) ≡ is_some (K y.room.number))
+      → ((y : Placed V) → IsIn y t → low ≤ y.entry.rank → J y.room.number ≡ K y.room.number)
+      → ((y : Placed V) → IsIn y t → is_some (J y.room.number) ≡ is_some (K y.room.number))
       → IsTree low t → MarkedLists H K low t → MarkedLists G J low t
   lists_past H G K J low (leaf x xs) heads masks marks is lists = tt
   lists_past H G K J low (fork room b zero one) heads masks marks is lists =
@@ -55,7 +49,8 @@ module _ {V : Type 0} where
         record {
           masks = old.masks;
           begins = old.begins ∙ sym (heads room.number (let own : one_if (room.number == room.number) ≡ 1 = one_if_same room.number in omega arith));
-          stands = masks_stand_same K J old.masks (λ y among. masks y (old.within y among).0 (falls_among low (b + 1) old.masks old.falls y among).0) old.stands;
+          stands =
+              masks_stand_same K J old.masks (λ y among. masks y (old.within y among).0 (falls_among low (b + 1) old.masks old.falls y among).0) old.stands;
           falls = old.falls;
           has = λ y member least most. old.has y (member.0, sym (marks y member.0) ∙ member.1) least most;
           within = λ y among. let w = old.within y among in (w.0, marks y w.0 ∙ w.1);
@@ -66,7 +61,7 @@ module _ {V : Type 0} where
 
   -- ---- to a bit node
   -- its list, and that of the bit node that goes
-  pub record AreTwo (m : FinMap nat_cmp (Seen V)) (over : Part m) (up room : Id) (b c : ℕ) (t : Tree V) : Type 0 where
+  pub record AreTwo (m : Lodged V) (over : Part m) (up room : Id) (b c : ℕ) (t : Tree V) : Type 0 where
     pub own : IsMaskList (masks_in m) (heads_in m room.number) (b + 1) c (MarkedIn (masks_in m) t)
     pub gone : IsMaskList (masks_in m) (heads_in m up.number) over.low b (MarkedIn (masks_in m) over.tree)
     pub own_is : IsMasks m (heads_in m room.number) own.masks
@@ -76,23 +71,24 @@ module _ {V : Type 0} where
     pub within : c ≤ 31
     pub falls : Falls over.low (c + 1) (own.masks ++ gone.masks)
 
-  two : (m : FinMap nat_cmp (Seen V)) (over : Part m) (key : ℕ) (up room : Id) (b c : ℕ) (own zero one : Tree V) → HasSides key over.tree up b own (fork room c zero one)
+  two : (m : Lodged V) (over : Part m) {key : ℕ} (up room : Id) (b c : ℕ) {own : Tree V} (zero one : Tree V)
+      → HasSides key over.tree up b own (fork room c zero one)
       → MarkedLists (heads_in m) (masks_in m) over.low over.tree → AreTwo m over up room b c (fork room c zero one)
-  two m over key up room b c own zero one s lists =
+  two m over up room b c {own = own} zero one s lists =
       let t = fork room c zero one in
-      let is = side_is key over.tree up b own (fork room c zero one) over.low s over.is in
+      let is = side_is over.low s over.is in
       let low : over.low ≤ b = is.1 in
       let within_b : b ≤ 31 = is.2 in
       let rises : b + 1 ≤ c = is.0.0.rises in
       let within : c ≤ 31 = is.0.0.within in
       let theirs : IsMaskList (masks_in m) (heads_in m room.number) (b + 1) c (MarkedIn (masks_in m) (fork room c zero one)) =
-      (side_lists key over.tree up b own (fork room c zero one) (heads_in m) (masks_in m) over.low s lists).0 in
-      let mine = side_list key over.tree up b own (fork room c zero one) (heads_in m) (masks_in m) over.low s lists in
+      (side_lists b (heads_in m) (masks_in m) over.low s lists).0 in
+      let mine = side_list up b (heads_in m) (masks_in m) over.low s lists in
       record {
         own = theirs;
         gone = mine;
-        own_is = masks_listed m over (heads_in m room.number) (b + 1) c (MarkedIn (masks_in m) (fork room c zero one)) theirs within (λ y member. in_side key over.tree up b own (fork room c zero one) y s member.0);
-        gone_is = masks_listed m over (heads_in m up.number) over.low b (MarkedIn (masks_in m) over.tree) mine within_b (λ y member. member.0);
+        own_is = masks_listed over theirs within (λ y member. in_side y s member.0);
+        gone_is = masks_listed over mine within_b (λ y member. member.0);
         low = low;
         rises = rises;
         within = within;
@@ -106,28 +102,30 @@ module _ {V : Type 0} where
     pub one : Tree V
     pub is : t ≡ fork room bit zero one
 
-  pub fork_of : (t : Tree V) (room : Id) → name_of t ≡ BitOf room → IsForkOf t room
-  fork_of (leaf x xs) room named = cc
-  fork_of (fork i b zero one) room named = let same : i ≡ room = cc in record { bit = b; zero = zero; one = one; is = ap (λ (j : Id). fork j b zero one) same }
+  pub fork_of : (t : Tree V) {room : Id} → name_of t ≡ BitOf room → IsForkOf t room
+  fork_of (leaf x xs) named = cc
+  fork_of (fork i b zero one) {room = room} named = let same : i ≡ room = cc in
+      record { bit = b; zero = zero; one = one; is = ap (λ (j : Id). fork j b zero one) same }
 
   pub record IsLeafOf (t : Tree V) (room : Id) : Type 0 where
     pub first : Placed V
     pub rest : List (Placed V)
     pub is : t ≡ leaf first rest
 
-  pub leaf_of : (t : Tree V) (room : Id) → name_of t ≡ LeafOf room → IsLeafOf t room
-  leaf_of (leaf x xs) room named = record { first = x; rest = xs; is = refl }
-  leaf_of (fork i b zero one) room named = cc
+  pub leaf_of : (t : Tree V) {room : Id} → name_of t ≡ LeafOf room → IsLeafOf t room
+  leaf_of (leaf x xs) named = record { first = x; rest = xs; is = refl }
+  leaf_of (fork i b zero one) named = cc
 
-  abbrev pub Ready : (m : FinMap nat_cmp (Seen V)) (room : Id) (first : Option Id) → Type 0
+  abbrev pub Ready : (m : Lodged V) (room : Id) (first : Option Id) → Type 0
   Ready m room first = (ms : List (Placed V)) × (ts : List (Placed V)) × IsMasks m (heads_in m room.number) ms × IsMasks m first ts × Falls 0 34 (ms ++ ts)
 
-  pub append_ready : (m : FinMap nat_cmp (Seen V)) (whole : Part m) (at up room : Id) (first : Option Id) (l : IsLone m whole at up) → name_of l.other ≡ BitOf room → heads_in m up.number ≡ first
+  pub append_ready : {m : Lodged V} {whole : Part m} (at up room : Id) {first : Option Id} (l : IsLone m whole at up) → name_of l.other ≡ BitOf room
+      → heads_in m up.number ≡ first
       → MarkedLists (heads_in m) (masks_in m) l.over.low l.over.tree → Ready m room first
-  append_ready m whole at up room first l named head lists =
-      let f = fork_of l.other room named in
+  append_ready {m = m} at up room l named head lists =
+      let f = fork_of l.other named in
       let s = subst (λ (t : Tree V). HasSides l.route.entry.key l.over.tree up l.bit (leaf l.route []) t) f.is l.sides in
-      let w = two m l.over l.route.entry.key up room l.bit f.bit (leaf l.route []) f.zero f.one s lists in
+      let w = two m l.over up room l.bit f.bit f.zero f.one s lists in
       let within : f.bit ≤ 31 = w.within in (
         w.own.masks,
         w.gone.masks,
@@ -137,57 +135,63 @@ module _ {V : Type 0} where
       )
 
   -- the sibling as a bit node in use
-  pub sibling_node : (m : FinMap nat_cmp (Seen V)) (whole : Part m) (at up room : Id) (l : IsLone m whole at up) → name_of l.other ≡ BitOf room → IsBitNode m room
-  sibling_node m whole at up room l named =
-      let f = fork_of l.other room named in
+  pub sibling_node : {m : Lodged V} {whole : Part m} (at up room : Id) (l : IsLone m whole at up) → name_of l.other ≡ BitOf room → IsBitNode m room
+  sibling_node {m = m} at up room l named =
+      let f = fork_of l.other named in
       let s = subst (λ (t : Tree V). HasSides l.route.entry.key l.over.tree up l.bit (leaf l.route []) t) f.is l.sides in
-      let stands = side_stands l.route.entry.key l.over.tree up l.bit (leaf l.route []) (fork room f.bit f.zero f.one) (leaves_in m) (bits_in m) l.over.above s l.over.stands in
+      let stands = side_stands up (leaves_in m) (bits_in m) l.over.above s l.over.stands in
       record { part = record { block = room.block; bit = f.bit; zero = name_of f.zero; one = name_of f.one; above = Some up }; said = stands.0; block = refl }
 
   -- what append leaves
-  pub record IsAppended (m new : FinMap nat_cmp (Seen V)) (room : Id) (first : Option Id) : Type 0 where
-    pub list : (ms : List (Placed V)) (ts : List (Placed V)) → IsMasks m (heads_in m room.number) ms → IsMasks m first ts → Falls 0 34 (ms ++ ts) → IsMasks new (heads_in new room.number) (ms ++ ts)
+  pub record IsAppended (m new : Lodged V) (room : Id) (first : Option Id) : Type 0 where
+    pub list : (ms : List (Placed V)) (ts : List (Placed V)) → IsMasks m (heads_in m room.number) ms → IsMasks m first ts → Falls 0 34 (ms ++ ts)
+        → IsMasks new (heads_in new room.number) (ms ++ ts)
     pub heads : (n : ℕ) → (n ≡ room.number → ⊥) → heads_in new n ≡ heads_in m n
     pub masks : (ms : List (Placed V)) → IsMasks m (heads_in m room.number) ms → (n : ℕ) → IsAside n ms → masks_in new n ≡ masks_in m n
     pub marks : (n : ℕ) → is_some (masks_in new n) ≡ is_some (masks_in m n)
 
   -- a mask of another rank than the members' stays
-  rank_stays : (m new : FinMap nat_cmp (Seen V)) (over : Part m) (up room : Id) (b c : ℕ) (first : Option Id) (t : Tree V) → (w : AreTwo m over up room b c t) → IsAppended m new room first → ((y : Placed V) → IsIn y t → IsIn y over.tree)
+  rank_stays : (m new : Lodged V) (over : Part m) {up room : Id} (b c : ℕ) {first : Option Id} {t : Tree V} → (w : AreTwo m over up room b c t)
+      → IsAppended m new room first → ((y : Placed V) → IsIn y t → IsIn y over.tree)
       → (y : Placed V) → IsIn y over.tree → c + 1 ≤ y.entry.rank → masks_in new y.room.number ≡ masks_in m y.room.number
-  rank_stays m new over up room b c first t w a inside_over y at past =
+  rank_stays m new over b c w a inside_over y at past =
       a.masks w.own.masks w.own_is y.room.number (λ z among same.
       let rank : z.entry.rank ≡ y.entry.rank = same_rank_at m over z y (inside_over z (w.own.within z among).0) at same in
       let most : z.entry.rank < c + 1 = (falls_among (b + 1) (c + 1) w.own.masks w.own.falls z among).1 in absurd (omega arith))
 
-  fork_handed : (m new : FinMap nat_cmp (Seen V)) (over : Part m) (key : ℕ) (up room : Id) (b c : ℕ) (x : Placed V) (zero one : Tree V) (first : Option Id)
-      → HasSides key over.tree up b (leaf x []) (fork room c zero one) → heads_in m up.number ≡ first → masks_in m x.room.number ≡ None → MarkedLists (heads_in m) (masks_in m) over.low over.tree → AreOnce over.tree
+  fork_handed : (m new : Lodged V) (over : Part m) {key : ℕ} (up room : Id) (b c : ℕ) (x : Placed V) (zero one : Tree V) {first : Option Id}
+      → HasSides key over.tree up b (leaf x []) (fork room c zero one) → heads_in m up.number ≡ first → masks_in m x.room.number ≡ None
+      → MarkedLists (heads_in m) (masks_in m) over.low over.tree → AreOnce over.tree
       → IsAppended m new room first → IsHanded m new over.low over.tree (fork room c zero one)
-  fork_handed m new over key up room b c x zero one first s head unmarked lists once a =
-      let w = two m over key up room b c (leaf x []) zero one s lists in
-      let is = side_is key over.tree up b (leaf x []) (fork room c zero one) over.low s over.is in
-      let old = side_lists key over.tree up b (leaf x []) (fork room c zero one) (heads_in m) (masks_in m) over.low s lists in
+  fork_handed m new over up room b c x zero one s head unmarked lists once a =
+      let w = two m over up room b c zero one s lists in
+      let is = side_is over.low s over.is in
+      let old = side_lists b (heads_in m) (masks_in m) over.low s lists in
       let low : over.low ≤ b = w.low in
       let rises : b + 1 ≤ c = w.rises in
       let within : c ≤ 31 = w.within in
-      let beneath : (y : Placed V) → IsIn y (fork room c zero one) → IsIn y over.tree = λ y at. in_side key over.tree up b (leaf x []) (fork room c zero one) y s at in
+      let beneath : (y : Placed V) → IsIn y (fork room c zero one) → IsIn y over.tree = λ y at. in_side y s at in
       let own : one_if (room.number == room.number) ≡ 1 = one_if_same room.number in
-      let now = a.list w.own.masks w.gone.masks w.own_is (subst (λ (o : Option Id). IsMasks m o w.gone.masks) head w.gone_is) (falls_wider over.low (c + 1) 0 34 (w.own.masks ++ w.gone.masks) w.falls (omega arith) (omega arith)) in
+      let now = a.list w.own.masks w.gone.masks w.own_is (subst (λ (o : Option Id). IsMasks m o w.gone.masks) head w.gone_is)
+      (falls_wider over.low (c + 1) 0 34 (w.own.masks ++ w.gone.masks) w.falls (omega arith) (omega arith)) in
       let marked_now : (y : Placed V) → IsMarked (masks_in m) y → IsMarked (masks_in new) y = λ y marked. a.marks y.room.number ∙ marked in
       let marked_then : (y : Placed V) → IsMarked (masks_in new) y → IsMarked (masks_in m) y = λ y marked. sym (a.marks y.room.number) ∙ marked in
       let most_forks : (n : ℕ) → one_if (up.number == n) + (0 + (one_if (room.number == n) + (forks_at n zero + forks_at n one))) ≤ 1 = λ n.
-      let sum : forks_at n over.tree ≡ one_if (up.number == n) + (0 + (one_if (room.number == n) + (forks_at n zero + forks_at n one))) = side_forks key over.tree up b (leaf x []) (fork room c zero one) n s in
+      let sum : forks_at n over.tree ≡ one_if (up.number == n) + (0 + (one_if (room.number == n) + (forks_at n zero + forks_at n one))) = side_forks up n s in
       let most : forks_at n over.tree ≤ 1 = once.forks n in omega arith in
       record {
         heads = λ n none. a.heads n (λ same.
-            let sum : forks_at n over.tree ≡ one_if (up.number == n) + (0 + (one_if (room.number == n) + (forks_at n zero + forks_at n one))) = side_forks key over.tree up b (leaf x []) (fork room c zero one) n s in
+            let sum : forks_at n over.tree ≡ one_if (up.number == n) + (0 + (one_if (room.number == n) + (forks_at n zero + forks_at n one))) =
+            side_forks up n s in
             let here : one_if (room.number == n) ≡ 1 = ap (λ (k : ℕ). one_if (room.number == k)) same ∙ one_if_same room.number in absurd (omega arith));
         masks = λ n aside. a.masks w.own.masks w.own_is n (λ z among same. aside z (beneath z (w.own.within z among).0)
             (let least : b + 1 ≤ z.entry.rank = (falls_among (b + 1) (c + 1) w.own.masks w.own.falls z among).0 in omega arith) same);
         marks = λ n p said. some_of (masks_in m n) (sym (a.marks n) ∙ ap (λ (o : Option MaskPart). is_some o) said);
         kept = λ y at marked home. ⊎_elim (λ (le : y.entry.rank ≤ b). inr (inl (omega arith)))
             (λ (deep : HasHome y.entry.key y.entry.rank (leaf x []) ⊎ HasHome y.entry.key y.entry.rank (fork room c zero one)).
-            ⊎_elim (λ (no : HasHome y.entry.key y.entry.rank (leaf x [])). absurd no) (λ (yes : HasHome y.entry.key y.entry.rank (fork room c zero one)). inr yes) deep)
-            (side_home key over.tree up b (leaf x []) (fork room c zero one) y.entry.key y.entry.rank s home);
+            ⊎_elim (λ (no : HasHome y.entry.key y.entry.rank (leaf x [])). absurd no)
+            (λ (yes : HasHome y.entry.key y.entry.rank (fork room c zero one)). inr yes) deep)
+            (side_home b y.entry.key y.entry.rank s home);
         all = λ y at home marked. marked_now y marked;
         lists = (
           record {
@@ -196,86 +200,98 @@ module _ {V : Type 0} where
             stands = now.stands;
             falls = w.falls;
             has = λ y member least most. ⊎_elim
-                (λ (short : y.entry.rank < b + 1). in_back w.own.masks w.gone.masks y (w.gone.has y (beneath y member.0, marked_then y member.1) least (omega arith)))
+                (λ (short : y.entry.rank < b + 1). in_back w.own.masks w.gone.masks y
+                (w.gone.has y (beneath y member.0, marked_then y member.1) least (omega arith)))
                 (λ (long : b + 1 ≤ y.entry.rank). in_front w.own.masks w.gone.masks y (w.own.has y (member.0, marked_then y member.1) long most))
                 (cases_lt y.entry.rank (b + 1));
             within = λ y among. ⊎_elim
                 (λ (own_one : IsAmong y w.own.masks). let member = w.own.within y own_one in (member.0, marked_now y member.1))
                 (λ (gone_one : IsAmong y w.gone.masks). let member = w.gone.within y gone_one in (
                   ⊎_elim
-                      (λ (lone : IsIn y (leaf x [])). ⊎_elim (λ (e : x ≡ y). absurd (unmarked_marked (masks_in m) x y unmarked e member.1)) (λ (no : ⊥). absurd no) lone)
+                      (λ (lone : IsIn y (leaf x [])). ⊎_elim (λ (e : x ≡ y). absurd (unmarked_marked (masks_in m) x y unmarked e member.1))
+                      (λ (no : ⊥). absurd no) lone)
                       (λ (there : IsIn y (fork room c zero one)). there)
-                      (side_in key over.tree up b (leaf x []) (fork room c zero one) y s member.0),
+                      (side_in y s member.0),
                   marked_now y member.1,
                 ))
                 (among_appended w.own.masks w.gone.masks y among);
           },
           lists_past (heads_in m) (heads_in new) (masks_in m) (masks_in new) (c + 1) zero
-              (λ n some. let most = most_forks n in a.heads n (λ same. let here : one_if (room.number == n) ≡ 1 = ap (λ (k : ℕ). one_if (room.number == k)) same ∙ one_if_same room.number in absurd (omega arith)))
-              (λ y at past. rank_stays m new over up room b c first (fork room c zero one) w a beneath y (beneath y (inl at)) past) (λ y at. a.marks y.room.number) is.0.1 old.1,
+              (λ n some. let most =
+              most_forks n in a.heads n (λ same. let here : one_if (room.number == n) ≡ 1 =
+              ap (λ (k : ℕ). one_if (room.number == k)) same ∙ one_if_same room.number in absurd (omega arith)))
+              (λ y at past. rank_stays m new over b c w a beneath y (beneath y (inl at)) past) (λ y at. a.marks y.room.number) is.0.1 old.1,
           lists_past (heads_in m) (heads_in new) (masks_in m) (masks_in new) (c + 1) one
-              (λ n some. let most = most_forks n in a.heads n (λ same. let here : one_if (room.number == n) ≡ 1 = ap (λ (k : ℕ). one_if (room.number == k)) same ∙ one_if_same room.number in absurd (omega arith)))
-              (λ y at past. rank_stays m new over up room b c first (fork room c zero one) w a beneath y (beneath y (inr at)) past) (λ y at. a.marks y.room.number) is.0.2 old.2,
+              (λ n some. let most =
+              most_forks n in a.heads n (λ same. let here : one_if (room.number == n) ≡ 1 =
+              ap (λ (k : ℕ). one_if (room.number == k)) same ∙ one_if_same room.number in absurd (omega arith)))
+              (λ y at past. rank_stays m new over b c w a beneath y (beneath y (inr at)) past) (λ y at. a.marks y.room.number) is.0.2 old.2,
         );
       }
 
-  pub bit_handed : (m new : FinMap nat_cmp (Seen V)) (whole : Part m) (at up room : Id) (first : Option Id) (l : IsLone m whole at up) → name_of l.other ≡ BitOf room → heads_in m up.number ≡ first → masks_in m at.number ≡ None
+  pub bit_handed : (m new : Lodged V) (whole : Part m) (at up room : Id) {first : Option Id} (l : IsLone m whole at up) → name_of l.other ≡ BitOf room
+      → heads_in m up.number ≡ first → masks_in m at.number ≡ None
       → MarkedLists (heads_in m) (masks_in m) l.over.low l.over.tree → IsAppended m new room first → IsHanded m new l.over.low l.over.tree l.other
-  bit_handed m new whole at up room first l named head unmarked lists a =
-      let f = fork_of l.other room named in
+  bit_handed m new whole at up room l named head unmarked lists a =
+      let f = fork_of l.other named in
       let s = subst (λ (t : Tree V). HasSides l.route.entry.key l.over.tree up l.bit (leaf l.route []) t) f.is l.sides in
-      let once = way_once m l.route.entry.key whole l.over l.ups l.way l.once in
+      let once = way_once l.route.entry.key whole l.over l.ups l.way l.once in
       subst (λ (t : Tree V). IsHanded m new l.over.low l.over.tree t) (sym f.is)
-      (fork_handed m new l.over l.route.entry.key up room l.bit f.bit l.route f.zero f.one first s head (ap (λ (i : Id). masks_in m i.number) l.room_is ∙ unmarked) lists once a)
+      (fork_handed m new l.over up room l.bit f.bit l.route f.zero f.one s head (ap (λ (i : Id). masks_in m i.number) l.room_is ∙ unmarked) lists once a)
 
   -- ---- to a leaf
-  pub clear_ready : (m : FinMap nat_cmp (Seen V)) (whole : Part m) (at up : Id) (first : Option Id) (l : IsLone m whole at up) → heads_in m up.number ≡ first
+  pub clear_ready : {m : Lodged V} {whole : Part m} (at up : Id) {first : Option Id} (l : IsLone m whole at up) → heads_in m up.number ≡ first
       → MarkedLists (heads_in m) (masks_in m) l.over.low l.over.tree → (ms : List (Placed V)) × IsMasks m first ms
-  clear_ready m whole at up first l head lists =
-      let is = side_is l.route.entry.key l.over.tree up l.bit (leaf l.route []) l.other l.over.low l.sides l.over.is in
-      let mine = side_list l.route.entry.key l.over.tree up l.bit (leaf l.route []) l.other (heads_in m) (masks_in m) l.over.low l.sides lists in (
+  clear_ready {m = m} at up l head lists =
+      let is = side_is l.over.low l.sides l.over.is in
+      let mine = side_list up l.bit (heads_in m) (masks_in m) l.over.low l.sides lists in (
         mine.masks,
-        subst (λ (o : Option Id). IsMasks m o mine.masks) head (masks_listed m l.over (heads_in m up.number) l.over.low l.bit (MarkedIn (masks_in m) l.over.tree) mine is.2 (λ y member. member.0)),
+        subst (λ (o : Option Id). IsMasks m o mine.masks) head (masks_listed l.over mine is.2 (λ y member. member.0)),
       )
 
   -- what clear leaves
-  pub record IsCleared (m new : FinMap nat_cmp (Seen V)) (first : Option Id) : Type 0 where
+  pub record IsCleared (m new : Lodged V) (first : Option Id) : Type 0 where
     pub cleared : (ms : List (Placed V)) (y : Placed V) → IsMasks m first ms → IsAmong y ms → masks_in new y.room.number ≡ None
     pub masks : (ms : List (Placed V)) → IsMasks m first ms → (n : ℕ) → IsAside n ms → masks_in new n ≡ masks_in m n
     pub heads : (n : ℕ) → heads_in new n ≡ heads_in m n
 
-  leaf_handed : (m new : FinMap nat_cmp (Seen V)) (over : Part m) (key : ℕ) (up : Id) (b : ℕ) (x y0 : Placed V) (ys : List (Placed V)) (first : Option Id)
+  leaf_handed : (m new : Lodged V) (over : Part m) {key : ℕ} (up : Id) (b : ℕ) (x y0 : Placed V) (ys : List (Placed V)) (first : Option Id)
       → HasSides key over.tree up b (leaf x []) (leaf y0 ys) → heads_in m up.number ≡ first → MarkedLists (heads_in m) (masks_in m) over.low over.tree
       → IsCleared m new first → IsHanded m new over.low over.tree (leaf y0 ys)
-  leaf_handed m new over key up b x y0 ys first s head lists a =
-      let is = side_is key over.tree up b (leaf x []) (leaf y0 ys) over.low s over.is in
+  leaf_handed m new over up b x y0 ys first s head lists a =
+      let is = side_is over.low s over.is in
       let within : b ≤ 31 = is.2 in
-      let mine = side_list key over.tree up b (leaf x []) (leaf y0 ys) (heads_in m) (masks_in m) over.low s lists in
-      let ready : IsMasks m first mine.masks = subst (λ (o : Option Id). IsMasks m o mine.masks) head (masks_listed m over (heads_in m up.number) over.low b (MarkedIn (masks_in m) over.tree) mine within (λ y member. member.0)) in
+      let mine = side_list up b (heads_in m) (masks_in m) over.low s lists in
+      let ready : IsMasks m first mine.masks = subst (λ (o : Option Id). IsMasks m o mine.masks) head (masks_listed over mine within (λ y member. member.0)) in
       let marks : (n : ℕ) (p : MaskPart) → masks_in new n ≡ Some p → masks_in m n ≡ Some p = λ n p said.
-      ⊎_elim (λ (found : (y : Placed V) × IsAmong y mine.masks × (y.room.number ≡ n)). absurd (none_some (sym (a.cleared mine.masks found.0 ready found.1) ∙ ap (masks_in new) found.2 ∙ said)))
+      ⊎_elim (λ (found : (y : Placed V) × IsAmong y mine.masks × (y.room.number ≡ n)).
+      absurd (none_some (sym (a.cleared mine.masks found.0 ready found.1) ∙ ap (masks_in new) found.2 ∙ said)))
       (λ (aside : IsAside n mine.masks). sym (a.masks mine.masks ready n aside) ∙ said) (member_or_aside n mine.masks) in
       record {
         heads = λ n none. a.heads n;
-        masks = λ n aside. a.masks mine.masks ready n (λ z among same. aside z (mine.within z among).0 (falls_among over.low (b + 1) mine.masks mine.falls z among).0 same);
+        masks =
+            λ n aside. a.masks mine.masks ready n (λ z among same. aside z (mine.within z among).0
+            (falls_among over.low (b + 1) mine.masks mine.falls z among).0 same);
         marks = λ n p said. (p, marks n p said);
         kept = λ y at marked home. ⊎_elim
             (λ (le : y.entry.rank ≤ b). ⊎_elim (λ (short : y.entry.rank < over.low). inl short)
             (λ (long : over.low ≤ y.entry.rank).
             let q = some_of (masks_in new y.room.number) marked in
             let was : IsMarked (masks_in m) y = ap (λ (o : Option MaskPart). is_some o) (marks y.room.number q.0 q.1) in
-            let among = mine.has y (in_side key over.tree up b (leaf x []) (leaf y0 ys) y s at, was) long le in
+            let among = mine.has y (in_side y s at, was) long le in
             absurd (none_some (sym (a.cleared mine.masks y ready among) ∙ q.1)))
             (cases_lt y.entry.rank over.low))
-            (λ (deep : HasHome y.entry.key y.entry.rank (leaf x []) ⊎ HasHome y.entry.key y.entry.rank (leaf y0 ys)). ⊎_elim (λ (no : ⊥). absurd no) (λ (no : ⊥). absurd no) deep)
-            (side_home key over.tree up b (leaf x []) (leaf y0 ys) y.entry.key y.entry.rank s home);
+            (λ (deep : HasHome y.entry.key y.entry.rank (leaf x []) ⊎ HasHome y.entry.key y.entry.rank (leaf y0 ys)).
+            ⊎_elim (λ (no : ⊥). absurd no) (λ (no : ⊥). absurd no) deep)
+            (side_home b y.entry.key y.entry.rank s home);
         all = λ y at home marked. absurd home;
         lists = tt;
       }
 
-  pub leaf_side_handed : (m new : FinMap nat_cmp (Seen V)) (whole : Part m) (at up room : Id) (first : Option Id) (l : IsLone m whole at up) → name_of l.other ≡ LeafOf room → heads_in m up.number ≡ first
+  pub leaf_side_handed : (m new : Lodged V) {whole : Part m} (at up : Id) {room : Id} (first : Option Id) (l : IsLone m whole at up)
+      → name_of l.other ≡ LeafOf room → heads_in m up.number ≡ first
       → MarkedLists (heads_in m) (masks_in m) l.over.low l.over.tree → IsCleared m new first → IsHanded m new l.over.low l.over.tree l.other
-  leaf_side_handed m new whole at up room first l named head lists a =
-      let f = leaf_of l.other room named in
+  leaf_side_handed m new at up first l named head lists a =
+      let f = leaf_of l.other named in
       let s = subst (λ (t : Tree V). HasSides l.route.entry.key l.over.tree up l.bit (leaf l.route []) t) f.is l.sides in
-      subst (λ (t : Tree V). IsHanded m new l.over.low l.over.tree t) (sym f.is) (leaf_handed m new l.over l.route.entry.key up l.bit l.route f.first f.rest first s head lists a)
+      subst (λ (t : Tree V). IsHanded m new l.over.low l.over.tree t) (sym f.is) (leaf_handed m new l.over up l.bit l.route f.first f.rest first s head lists a)

@@ -1,24 +1,13 @@
 -- A route that is alone at its leaf, found by its room.
 use Rattle.std.proofs.Common.{◌≡◌, ◌+◌, ◌≤◌, ◌==◌, Bool, true, false, List, [], ◌∷◌, Option, Some, None, inl, inr, refl, sym, ap, ◌∙◌, subst, arith, ℕ, ⊎_elim}
 use Rattle.std.proofs.lemmas.Bool.{eqb-true, cases_eq}
-use Rattle.std.specs.Prelude.{is_some}
-use Rattle.std.specs.Ordering.{nat_cmp}
-use Rattle.std.specs.FinMap.{FinMap}
-use denote.RawPtr.{Ptr}
-use Rattle.radix_nodes.specs.Rooms.{Seen}
-use Rattle.radix_nodes.specs.declared.id.Id.{Id}
-use Rattle.radix_nodes.specs.declared.links.Node.{Node}
-use Rattle.radix_tree.specs.Tree.{Placed, Tree, leaf, fork, IsAmong, IsIn}
-use Rattle.radix_tree.specs.Rooms.{LeafPart, Leaves, Part, leaves_in, bits_in, first_room, leaf_part, ChainStands, Stands}
-use Rattle.radix_tree.specs.Searches.{Way}
-use Rattle.radix_tree.specs.Whole.{one_if, members_at, leaves_at}
-use Rattle.radix_tree.specs.Growth.{AreOnce}
-use Rattle.radix_tree.specs.Joining.{HasSides, IsLone}
-use Rattle.radix_tree.specs.Marks.{IsWholeBut, nobody_out}
+use Rattle.radix_tree.proofs.Words.{is_some, Ptr, Id, Node, Placed, Tree, leaf, fork, IsAmong, IsIn, LeafPart, Leaves, Part, leaves_in, bits_in, first_room}
+use Rattle.radix_tree.proofs.Words.{leaf_part, ChainStands, Stands, Way, one_if, members_at, leaves_at, AreOnce, HasSides, IsLone, IsWholeBut, nobody_out}
+use Rattle.radix_tree.proofs.Words.{Lodged}
 use Rattle.radix_tree.proofs.RoomReads.{inside, none_some}
 use Rattle.radix_tree.proofs.TreeMembers.{tree_said}
-use Rattle.radix_tree.proofs.Exchanging.{way_to_leaf}
-use Rattle.radix_tree.proofs.WholeChanges.{once_but}
+use Rattle.radix_tree.proofs.WaysDown.{way_to_leaf}
+use Rattle.radix_tree.proofs.WholeParts.{once_but}
 use Rattle.radix_tree.proofs.JoinSides.{sides_of, side_own_stands}
 
 same_id : (a b : Id) → a.number ≡ b.number → a.block ≡ b.block → a ≡ b
@@ -47,29 +36,33 @@ module _ {V : Type 0} where
       (cases_eq (leaves_at n zero) 0)
 
   -- ---- alone in its chain
-  has_previous : (L : Leaves V) (above : Option Id) (previous : Id) (c : List (Placed V)) (y : Placed V) (p : LeafPart V) → ChainStands L above (Some previous) c → IsAmong y c → L y.room.number ≡ Some p → p.leaf.previous ≡ None → ⊥
-  has_previous L above previous [] y p stands among said none = among
-  has_previous L above previous (x ∷ c) y p stands among said none =
-      ⊎_elim (λ (e : x ≡ y). none_some (sym none ∙ ap (λ (q : LeafPart V). q.leaf.previous) (inside (sym said ∙ ap (λ (z : Placed V). L z.room.number) (sym e) ∙ stands.0))))
-      (λ (behind : IsAmong y c). has_previous L None x.room c y p stands.1 behind said none) among
+  has_previous : (L : Leaves V) (above : Option Id) (previous : Id) (c : List (Placed V)) (y : Placed V) {p : LeafPart V}
+      → ChainStands L above (Some previous) c → IsAmong y c → L y.room.number ≡ Some p → p.leaf.previous ≡ None → ⊥
+  has_previous L above previous [] y stands among said none = among
+  has_previous L above previous (x ∷ c) y stands among said none =
+      ⊎_elim (λ (e : x ≡ y). none_some (sym none ∙ ap (λ (q : LeafPart V). q.leaf.previous)
+      (inside (sym said ∙ ap (λ (z : Placed V). L z.room.number) (sym e) ∙ stands.0))))
+      (λ (behind : IsAmong y c). has_previous L None x.room c y stands.1 behind said none) among
 
   pub record IsAlone (L : Leaves V) (above : Option Id) (x : Placed V) (xs : List (Placed V)) (y : Placed V) (p : LeafPart V) : Type 0 where
     pub first : x ≡ y
     pub rest : xs ≡ []
     pub above_is : p.leaf.above ≡ above
 
-  alone : (L : Leaves V) (above : Option Id) (x : Placed V) (xs : List (Placed V)) (y : Placed V) (p : LeafPart V) → ChainStands L above None (x ∷ xs) → IsAmong y (x ∷ xs) → L y.room.number ≡ Some p
+  alone : (L : Leaves V) (above : Option Id) (x : Placed V) (xs : List (Placed V)) (y : Placed V) (p : LeafPart V) → ChainStands L above None (x ∷ xs)
+      → IsAmong y (x ∷ xs) → L y.room.number ≡ Some p
       → p.leaf.next ≡ None → p.leaf.previous ≡ None → IsAlone L above x xs y p
   alone L above x xs y p stands among said next previous =
       ⊎_elim
       (λ (e : x ≡ y).
       let is : p ≡ leaf_part x above None (first_room xs) = inside (sym said ∙ ap (λ (z : Placed V). L z.room.number) (sym e) ∙ stands.0) in
       record { first = e; rest = none_first xs (sym (ap (λ (q : LeafPart V). q.leaf.next) is) ∙ next); above_is = ap (λ (q : LeafPart V). q.leaf.above) is })
-      (λ (behind : IsAmong y xs). absurd (has_previous L None x.room xs y p stands.1 behind said previous))
+      (λ (behind : IsAmong y xs). absurd (has_previous L None x.room xs y stands.1 behind said previous))
       among
 
   -- ---- and the bit node above it
-  lone_over : (m : FinMap nat_cmp (Seen V)) (whole : Part m) (at up : Id) (y : Placed V) (under : Part m) (ups : List (Part m)) → y.room ≡ at → under.tree ≡ leaf y [] → under.above ≡ Some up
+  lone_over : (m : Lodged V) (whole : Part m) (at up : Id) (y : Placed V) (under : Part m) (ups : List (Part m)) → y.room ≡ at → under.tree ≡ leaf y []
+      → under.above ≡ Some up
       → Way y.entry.key whole under ups → whole.above ≡ None → AreOnce whole.tree → IsLone m whole at up
   lone_over m whole at up y under [] room_is tree above way top once = absurd (none_some (sym top ∙ sym (ap (λ (p : Part m). p.above) way) ∙ above))
   lone_over m whole at up y under (q ∷ qs) room_is tree above way top once =
@@ -82,16 +75,18 @@ module _ {V : Type 0} where
         over = q;
         bit = b.at.bit;
         other = found.0;
-        sides = subst (λ (i : Id). HasSides y.entry.key q.tree i b.at.bit (leaf y []) found.0) same (subst (λ (t : Tree V). HasSides y.entry.key q.tree b.room b.at.bit t found.0) tree found.1);
+        sides = subst (λ (i : Id). HasSides y.entry.key q.tree i b.at.bit (leaf y []) found.0) same
+            (subst (λ (t : Tree V). HasSides y.entry.key q.tree b.room b.at.bit t found.0) tree found.1);
         ups = qs;
         way = way.1;
         top = top;
         once = once;
       }
 
-  pub lone : (m : FinMap nat_cmp (Seen V)) (root : Node) (late : ℕ → Bool) (w : IsWholeBut m root late nobody_out) (at up : Id) (p : LeafPart V) → leaves_in m at.number ≡ Some p → p.block ≡ at.block
+  pub lone : (m : Lodged V) {root : Node} {late : ℕ → Bool} (w : IsWholeBut m root late nobody_out) (at up : Id) {p : LeafPart V}
+      → leaves_in m at.number ≡ Some p → p.block ≡ at.block
       → p.leaf.next ≡ None → p.leaf.previous ≡ None → p.leaf.above ≡ Some up → IsLone m w.part at up
-  lone m root late w at up p said block next previous above =
+  lone m w at up {p = p} said block next previous above =
       let count : leaves_at at.number w.part.tree + 0 ≡ one_if (is_some (leaves_in m at.number)) = w.leaves at.number in
       let used : one_if (is_some (leaves_in m at.number)) ≡ 1 = ap (λ (o : Option (LeafPart V)). one_if (is_some o)) said in
       let y = tree_room at.number w.part.tree (omega arith) in
@@ -100,13 +95,14 @@ module _ {V : Type 0} where
       let same : y.0.room ≡ at = same_id y.0.room at y.2 (sym (ap (λ (q : LeafPart V). q.block) (inside (sym own ∙ told.3))) ∙ block) in
       let found = way_to_leaf m w.part y.0 y.1 in
       let f = found.at in
-      let is_alone = alone (leaves_in m) found.part.above f.first f.rest y.0 p (subst (Stands (leaves_in m) (bits_in m) found.part.above) f.is found.part.stands) (subst (IsIn y.0) f.is found.among) own next previous in
+      let is_alone = alone (leaves_in m) found.part.above f.first f.rest y.0 p
+      (subst (Stands (leaves_in m) (bits_in m) found.part.above) f.is found.part.stands) (subst (IsIn y.0) f.is found.among) own next previous in
       lone_over m w.part at up y.0 found.part found.ups same
       (f.is ∙ ap (λ (x : Placed V). leaf x f.rest) is_alone.first ∙ ap (λ (xs : List (Placed V)). leaf y.0 xs) is_alone.rest)
-      (sym is_alone.above_is ∙ above) found.way w.top (once_but m root late nobody_out w)
+      (sym is_alone.above_is ∙ above) found.way w.top (once_but w)
 
   -- what the room says
-  pub lone_said : (m : FinMap nat_cmp (Seen V)) (whole : Part m) (at up : Id) (l : IsLone m whole at up) → leaves_in m at.number ≡ Some (leaf_part l.route (Some up) None None)
-  lone_said m whole at up l =
+  pub lone_said : (m : Lodged V) {whole : Part m} (at up : Id) (l : IsLone m whole at up) → leaves_in m at.number ≡ Some (leaf_part l.route (Some up) None None)
+  lone_said m at up l =
       ap (λ (i : Id). leaves_in m i.number) (sym l.room_is)
-      ∙ (side_own_stands l.route.entry.key l.over.tree up l.bit (leaf l.route []) l.other (leaves_in m) (bits_in m) l.over.above l.sides l.over.stands).0
+      ∙ (side_own_stands up (leaves_in m) (bits_in m) l.over.above l.sides l.over.stands).0

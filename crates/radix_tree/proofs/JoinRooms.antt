@@ -1,25 +1,10 @@
 -- A route that is alone at its leaf, and the bit node above it, as they are read of their rooms.
 use Rattle.std.proofs.Common.{◌≡◌, ◌+◌, ◌≤◌, Bool, true, List, [], ◌∷◌, Option, Some, None, refl, sym, ap, ◌∙◌, subst, arith, ℕ, ⊎_elim}
 use Rattle.std.proofs.lemmas.Bool.{eqb-true, cases_eq}
-use Rattle.std.specs.Prelude.{is_some}
-use Rattle.std.specs.Ordering.{nat_cmp}
-use Rattle.std.specs.FinMap.{FinMap}
-use Rattle.radix_nodes.specs.Rooms.{Seen, Has}
-use Rattle.radix_nodes.specs.Links.{leaf_of, bit_node_of}
-use Rattle.radix_nodes.specs.declared.id.Id.{Id}
-use Rattle.radix_nodes.specs.declared.links.BitNode.{BitNode}
-use Rattle.radix_nodes.specs.declared.links.Leaf.{Leaf}
-use Rattle.radix_nodes.specs.declared.links.Links.{Links}
-use Rattle.radix_nodes.specs.declared.links.Node.{Node}
-use Rattle.radix_tree.specs.Tree.{Placed, Tree, leaf, fork, bit_at, IsAmong, IsIn, IsTree}
-use Rattle.radix_tree.specs.Rooms.{LeafPart, BitPart, Bits, Part, leaf_in, leaves_in, bits_in, heads_in, masks_in, leaf_part, name_of}
-use Rattle.radix_tree.specs.Searches.{ForkAt, Beneath, Way}
-use Rattle.radix_tree.specs.Whole.{one_if, leaves_at, AreIdle, HasOneFork, HaveOneFork}
-use Rattle.radix_tree.specs.Growth.{name_child}
-use Rattle.radix_tree.specs.Joining.{other_side, IsApart, IsLone}
-use Rattle.radix_tree.specs.Marks.{MarkedLists, IsWholeBut, is_of_key, has_key, nobody_out}
-use Rattle.radix_tree.specs.Removal.{Content, content_of, KeepsRoutes}
-use Rattle.radix_tree.specs.Writes.{put_bit, lift_leaf, lift_bit}
+use Rattle.radix_tree.proofs.Words.{is_some, Seen, Has, leaf_of, bit_node_of, Id, BitNode, Leaf, Links, Node, Placed, Tree, leaf, fork, bit_at, IsAmong, IsIn}
+use Rattle.radix_tree.proofs.Words.{IsTree, LeafPart, BitPart, Bits, Part, leaf_in, leaves_in, bits_in, heads_in, masks_in, leaf_part, name_of, ForkAt, Beneath}
+use Rattle.radix_tree.proofs.Words.{Way, one_if, leaves_at, AreIdle, HasOneFork, HaveOneFork, name_child, other_side, IsApart, IsLone, MarkedLists, IsWholeBut}
+use Rattle.radix_tree.proofs.Words.{is_of_key, has_key, nobody_out, Content, content_of, KeepsRoutes, put_bit, lift_leaf, lift_bit, Lodged, IsLonely}
 use Rattle.radix_tree.proofs.AddressBits.{zero_not_one}
 use Rattle.radix_tree.proofs.RoomReads.{inside, none_some, AreLinks, Has-leaf, bit_read, bit_used, head_read}
 use Rattle.radix_tree.proofs.Parts.{Has-fork}
@@ -32,54 +17,54 @@ use Rattle.radix_tree.proofs.JoinWhole.{IsJoined}
 
 module _ {V : Type 0} where
   -- ---- the route's room
-  -- what is asked of its leaf
-  abbrev pub IsLonely : FinMap nat_cmp (Seen V) → Id → Type 0
-  IsLonely m at = (p : LeafPart V) → leaves_in m at.number ≡ Some p → (p.leaf.next ≡ None) × (p.leaf.previous ≡ None) × (is_some p.leaf.above ≡ true)
+  abbrev own_part : {m : Lodged V} {at : Id} → Has m at → LeafPart V
+  own_part h = record { block = h.room.block; value = h.room.value; leaf = leaf_of h.room.links }
 
-  abbrev own_part : (m : FinMap nat_cmp (Seen V)) (at : Id) → Has m at → LeafPart V
-  own_part m at h = record { block = h.room.block; value = h.room.value; leaf = leaf_of h.room.links }
+  read_is : {m : Lodged V} {at : Id} (links : Links) {l : Leaf} (h : Has m at) → AreLinks m at links → l ≡ leaf_of links → leaf_of h.room.links ≡ l
+  read_is links h are is = sym (is ∙ ap leaf_of (are h.room h.at))
 
-  read_is : (m : FinMap nat_cmp (Seen V)) (at : Id) (links : Links) (l : Leaf) (h : Has m at) → AreLinks m at links → l ≡ leaf_of links → leaf_of h.room.links ≡ l
-  read_is m at links l h are is = sym (is ∙ ap leaf_of (are h.room h.at))
-
-  pub lone_read : (m : FinMap nat_cmp (Seen V)) (root : Node) (late : ℕ → Bool) (w : IsWholeBut m root late nobody_out) (at up : Id) (links : Links) (l : Leaf) → Has m at → AreLinks m at links → l ≡ leaf_of links → IsLonely m at → l.above ≡ Some up
+  pub lone_read : {m : Lodged V} {root : Node} {late : ℕ → Bool} (w : IsWholeBut m root late nobody_out) {at up : Id} (links : Links) {l : Leaf}
+      → Has m at → AreLinks m at links → l ≡ leaf_of links → IsLonely m at → l.above ≡ Some up
       → IsLone m w.part at up
-  lone_read m root late w at up links l h are is lonely above =
-      let r = lonely (own_part m at h) (ap leaf_in h.at) in
-      lone m root late w at up (own_part m at h) (ap leaf_in h.at) h.block r.0 r.1 (ap (λ (z : Leaf). z.above) (read_is m at links l h are is) ∙ above)
+  lone_read {m = m} w {at = at} {up = up} links h are is lonely above =
+      let r = lonely (own_part h) (ap leaf_in h.at) in
+      lone m w at up (ap leaf_in h.at) h.block r.0 r.1 (ap (λ (z : Leaf). z.above) (read_is links h are is) ∙ above)
 
-  pub never_top : (m : FinMap nat_cmp (Seen V)) (at : Id) (links : Links) (l : Leaf) → Has m at → AreLinks m at links → l ≡ leaf_of links → IsLonely m at → l.above ≡ None → ⊥
-  never_top m at links l h are is lonely none =
-      let r = lonely (own_part m at h) (ap leaf_in h.at) in
-      true_not_false (sym r.2 ∙ ap (λ (z : Leaf). is_some z.above) (read_is m at links l h are is) ∙ ap (λ (o : Option Id). is_some o) none)
+  pub never_top : {m : Lodged V} {at : Id} (links : Links) {l : Leaf} → Has m at → AreLinks m at links → l ≡ leaf_of links → IsLonely m at → l.above ≡ None → ⊥
+  never_top links h are is lonely none =
+      let r = lonely (own_part h) (ap leaf_in h.at) in
+      true_not_false (sym r.2 ∙ ap (λ (z : Leaf). is_some z.above) (read_is links h are is) ∙ ap (λ (o : Option Id). is_some o) none)
 
-  pub key_read : (m : FinMap nat_cmp (Seen V)) (whole : Part m) (at up : Id) (links : Links) (l : Leaf) (f : IsLone m whole at up) → Has m at → AreLinks m at links → l ≡ leaf_of links → f.route.entry.key ≡ l.key
-  key_read m whole at up links l f h are is =
-      let same : leaf_part f.route (Some up) None None ≡ own_part m at h = inside (sym (lone_said m whole at up f) ∙ ap leaf_in h.at) in
-      ap (λ (p : LeafPart V). p.leaf.key) same ∙ ap (λ (z : Leaf). z.key) (read_is m at links l h are is)
+  pub key_read : {m : Lodged V} {whole : Part m} {at up : Id} (links : Links) {l : Leaf} (f : IsLone m whole at up) → Has m at → AreLinks m at links
+      → l ≡ leaf_of links → f.route.entry.key ≡ l.key
+  key_read {m = m} {at = at} {up = up} links f h are is =
+      let same : leaf_part f.route (Some up) None None ≡ own_part h = inside (sym (lone_said m at up f) ∙ ap leaf_in h.at) in
+      ap (λ (p : LeafPart V). p.leaf.key) same ∙ ap (λ (z : Leaf). z.key) (read_is links h are is)
 
   -- ---- the bit node above
-  pub Has-up : (m : FinMap nat_cmp (Seen V)) (whole : Part m) (at up : Id) → IsLone m whole at up → Has m up
-  Has-up m whole at up l = Has-fork m l.over up (side_fork m l.route.entry.key l.over up l.bit (leaf l.route []) l.other l.sides)
+  pub Has-up : {m : Lodged V} {whole : Part m} {at up : Id} → IsLone m whole at up → Has m up
+  Has-up {m = m} {up = up} l = Has-fork m (side_fork m l.over up l.bit (leaf l.route []) l.other l.sides)
 
-  up_says : (m : FinMap nat_cmp (Seen V)) (whole : Part m) (at up : Id) (l : IsLone m whole at up) → SaysOther (bits_in m) up l.route.entry.key l.bit l.over.above (name_of l.other)
-  up_says m whole at up l = side_says l.route.entry.key l.over.tree up l.bit (leaf l.route []) l.other (leaves_in m) (bits_in m) l.over.above l.sides l.over.stands
+  up_says : (m : Lodged V) {whole : Part m} (at up : Id) (l : IsLone m whole at up)
+      → SaysOther (bits_in m) up l.route.entry.key l.bit l.over.above (name_of l.other)
+  up_says m at up l = side_says up l.bit l.other (leaves_in m) (bits_in m) l.over.above l.sides l.over.stands
 
-  pub never_unused : (m : FinMap nat_cmp (Seen V)) (whole : Part m) (at up : Id) (links : Links) → IsLone m whole at up → AreLinks m up links → bit_node_of links ≡ None → ⊥
-  never_unused m whole at up links l are none = let s = up_says m whole at up l in bit_used m up s.part links s.says s.block are none
+  pub never_unused : {m : Lodged V} {whole : Part m} (at up : Id) (links : Links) → IsLone m whole at up → AreLinks m up links → bit_node_of links ≡ None → ⊥
+  never_unused {m = m} at up links l are none = let s = up_says m at up l in bit_used m up links s.says s.block are none
 
-  pub record IsUp (m : FinMap nat_cmp (Seen V)) (whole : Part m) (at up : Id) (l : IsLone m whole at up) (node : BitNode) (key : ℕ) : Type 0 where
+  pub record IsUp (m : Lodged V) (whole : Part m) (at up : Id) (l : IsLone m whole at up) (node : BitNode) (key : ℕ) : Type 0 where
     pub bit : node.bit ≤ 31
     pub above : l.over.above ≡ node.above
     pub to : name_of l.other ≡ other_side key node.bit node.zero node.one
     pub head : heads_in m up.number ≡ node.masks
 
-  pub up_read : (m : FinMap nat_cmp (Seen V)) (whole : Part m) (at up : Id) (links : Links) (node : BitNode) (key : ℕ) (l : IsLone m whole at up) → AreLinks m up links → bit_node_of links ≡ Some node → l.route.entry.key ≡ key → IsUp m whole at up l node key
-  up_read m whole at up links node key l are is key_is =
-      let s = up_says m whole at up l in
-      let read = bit_read m up s.part links node s.says s.block are is in
+  pub up_read : {m : Lodged V} {whole : Part m} {at up : Id} (links : Links) {node : BitNode} {key : ℕ} (l : IsLone m whole at up) → AreLinks m up links
+      → bit_node_of links ≡ Some node → l.route.entry.key ≡ key → IsUp m whole at up l node key
+  up_read {m = m} {at = at} {up = up} links {node = node} {key = key} l are is key_is =
+      let s = up_says m at up l in
+      let read = bit_read m up links s.says s.block are is in
       let same_bit : node.bit ≡ l.bit = read.bit ∙ s.bit in
-      let most : l.bit ≤ 31 = (side_is l.route.entry.key l.over.tree up l.bit (leaf l.route []) l.other l.over.low l.sides l.over.is).2 in
+      let most : l.bit ≤ 31 = (side_is l.over.low l.sides l.over.is).2 in
       record {
         bit = omega arith;
         above = sym (read.above ∙ s.above_is);
@@ -88,11 +73,12 @@ module _ {V : Type 0} where
             ∙ ap (λ (b : ℕ). other_side key b s.part.zero s.part.one) (sym same_bit)
             ∙ ap (λ (z : Node). other_side key node.bit z s.part.one) (sym read.zero)
             ∙ ap (λ (z : Node). other_side key node.bit node.zero z) (sym read.one);
-        head = head_read m up links node (Has-up m whole at up l) are is;
+        head = head_read links (Has-up l) are is;
       }
 
   -- ---- the lists on a way
-  marked_beneath : (m : FinMap nat_cmp (Seen V)) (address : ℕ) (under over : Part m) → Beneath address under over → MarkedLists (heads_in m) (masks_in m) over.low over.tree → MarkedLists (heads_in m) (masks_in m) under.low under.tree
+  marked_beneath : (m : Lodged V) (address : ℕ) (under over : Part m) → Beneath address under over → MarkedLists (heads_in m) (masks_in m) over.low over.tree
+      → MarkedLists (heads_in m) (masks_in m) under.low under.tree
   marked_beneath m address under over b listed =
       let f = b.at in
       let lists = subst (MarkedLists (heads_in m) (masks_in m) over.low) f.is listed in
@@ -101,35 +87,42 @@ module _ {V : Type 0} where
       (λ (e : (under.tree ≡ f.one) × (bit_at f.bit address ≡ 1)). subst (MarkedLists (heads_in m) (masks_in m) (f.bit + 1)) (sym e.0) lists.2)
       b.side)
 
-  pub way_marked : (m : FinMap nat_cmp (Seen V)) (address : ℕ) (whole at : Part m) (ups : List (Part m)) → Way address whole at ups → MarkedLists (heads_in m) (masks_in m) whole.low whole.tree → MarkedLists (heads_in m) (masks_in m) at.low at.tree
-  way_marked m address whole at [] way listed = subst (λ (p : Part m). MarkedLists (heads_in m) (masks_in m) p.low p.tree) (sym way) listed
-  way_marked m address whole at (p ∷ ps) way listed = marked_beneath m address at p way.0 (way_marked m address whole p ps way.1 listed)
+  pub way_marked : {m : Lodged V} (address : ℕ) (whole at : Part m) (ups : List (Part m)) → Way address whole at ups
+      → MarkedLists (heads_in m) (masks_in m) whole.low whole.tree → MarkedLists (heads_in m) (masks_in m) at.low at.tree
+  way_marked {m = m} address whole at [] way listed = subst (λ (p : Part m). MarkedLists (heads_in m) (masks_in m) p.low p.tree) (sym way) listed
+  way_marked {m = m} address whole at (p ∷ ps) way listed = marked_beneath m address at p way.0 (way_marked address whole p ps way.1 listed)
 
   -- ---- in the rooms once the list is handed on
-  pub above_after : (m new : FinMap nat_cmp (Seen V)) (whole : Part m) (at up : Id) (l : IsLone m whole at up) (above : Option Id) (over : Id) → ((n : ℕ) → leaves_in new n ≡ leaves_in m n) → ((n : ℕ) → bits_in new n ≡ bits_in m n)
+  pub above_after : (m new : Lodged V) {whole : Part m} {at up : Id} (l : IsLone m whole at up) {above : Option Id} {over : Id}
+      → ((n : ℕ) → leaves_in new n ≡ leaves_in m n) → ((n : ℕ) → bits_in new n ≡ bits_in m n)
       → l.over.above ≡ above → above ≡ Some over → (p : Part new) × ForkAt p over
-  above_after m new whole at up l above over leaves bits above_is is =
-      let o = over_at m l.route.entry.key whole l.over l.ups above over l.way l.top above_is is in
+  above_after m new {whole = whole} l leaves bits above_is is =
+      let o = over_at m l.route.entry.key whole l.over l.ups l.way l.top above_is is in
       (stays m new o.0 (λ n some. leaves n) (λ n some. bits n), record { bit = o.1.bit; zero = o.1.zero; one = o.1.one; is = o.1.is })
 
-  pub beneath_after : (m new : FinMap nat_cmp (Seen V)) (whole : Part m) (at up : Id) (l : IsLone m whole at up) (above : Option Id) (to : Node) → ((n : ℕ) → leaves_in new n ≡ leaves_in m n) → ((n : ℕ) → bits_in new n ≡ bits_in m n)
+  pub beneath_after : (m new : Lodged V) {whole : Part m} (at up : Id) (l : IsLone m whole at up) {above : Option Id} {to : Node}
+      → ((n : ℕ) → leaves_in new n ≡ leaves_in m n) → ((n : ℕ) → bits_in new n ≡ bits_in m n)
       → l.over.above ≡ above → name_of l.other ≡ to → (p : Part new) × (name_of p.tree ≡ to) × IsApart p.tree up above
-  beneath_after m new whole at up l above to leaves bits above_is to_is = (
-    stays m new (other_part m whole at up l) (λ n some. leaves n) (λ n some. bits n),
+  beneath_after m new at up l leaves bits above_is to_is = (
+    stays m new (other_part m at up l) (λ n some. leaves n) (λ n some. bits n),
     to_is,
-    subst (λ (o : Option Id). IsApart l.other up o) above_is (lone_apart m whole at up l),
+    subst (λ (o : Option Id). IsApart l.other up o) above_is (lone_apart m at up l),
   )
 
-  pub joined : (m handed new : FinMap nat_cmp (Seen V)) (whole : Part m) (at up : Id) (l : IsLone m whole at up) (above : Option Id) (key : ℕ) (to : Node) → l.over.above ≡ above → l.route.entry.key ≡ key → name_of l.other ≡ to
+  pub joined : {m : Lodged V} (handed new : Lodged V) {whole : Part m} {at up : Id} (l : IsLone m whole at up) {above : Option Id} {key : ℕ} {to : Node}
+      → l.over.above ≡ above → l.route.entry.key ≡ key → name_of l.other ≡ to
       → ((n : ℕ) → leaves_in handed n ≡ leaves_in m n) → ((n : ℕ) → bits_in handed n ≡ bits_in m n)
-      → ((n : ℕ) → leaves_in new n ≡ lift_leaf to above n (leaves_in handed n)) → ((n : ℕ) → bits_in new n ≡ lift_bit to above n (put_bit up None n (name_child above key to n (bits_in handed n)))) → IsJoined m new whole at up l
-  joined m handed new whole at up l above key to above_is key_is to_is leaves bits new_leaves new_bits = record {
+      → ((n : ℕ) → leaves_in new n ≡ lift_leaf to above n (leaves_in handed n))
+      → ((n : ℕ) → bits_in new n ≡ lift_bit to above n (put_bit up None n (name_child above key to n (bits_in handed n)))) → IsJoined m new whole at up l
+  joined {m = m} handed new {up = up} l {above = above} {key = key} {to = to} above_is key_is to_is leaves bits new_leaves new_bits = record {
     leaves = λ n. new_leaves n ∙ ap (λ (said : Option (LeafPart V)). lift_leaf to above n said) (leaves n)
-        ∙ ap (λ (z : Node). lift_leaf z above n (leaves_in m n)) (sym to_is) ∙ ap (λ (o : Option Id). lift_leaf (name_of l.other) o n (leaves_in m n)) (sym above_is);
+        ∙ ap (λ (z : Node). lift_leaf z above n (leaves_in m n)) (sym to_is)
+        ∙ ap (λ (o : Option Id). lift_leaf (name_of l.other) o n (leaves_in m n)) (sym above_is);
     bits = λ n. new_bits n ∙ ap (λ (said : Option BitPart). lift_bit to above n (put_bit up None n (name_child above key to n said))) (bits n)
         ∙ ap (λ (z : Node). lift_bit z above n (put_bit up None n (name_child above key z n (bits_in m n)))) (sym to_is)
         ∙ ap (λ (o : Option Id). lift_bit (name_of l.other) o n (put_bit up None n (name_child o key (name_of l.other) n (bits_in m n)))) (sym above_is)
-        ∙ ap (λ (k : ℕ). lift_bit (name_of l.other) l.over.above n (put_bit up None n (name_child l.over.above k (name_of l.other) n (bits_in m n)))) (sym key_is);
+        ∙ ap (λ (k : ℕ). lift_bit (name_of l.other) l.over.above n (put_bit up None n (name_child l.over.above k (name_of l.other) n (bits_in m n))))
+        (sym key_is);
   }
 
   -- ---- of the rooms of a key one at most is a bit node
@@ -138,50 +131,58 @@ module _ {V : Type 0} where
   idle_among B (x ∷ xs) z idle among =
       ⊎_elim (λ (e : x ≡ z). ap (λ (p : Placed V). B p.room.number) (sym e) ∙ idle.0) (λ (behind : IsAmong z xs). idle_among B xs z idle.1 behind) among
 
-  chain_others : (B : Bits) (xs : List (Placed V)) (y z : Placed V) → HasOneFork B xs → IsAmong y xs → IsAmong z xs → (z.room.number ≡ y.room.number → ⊥) → (B y.room.number ≡ None → ⊥) → B z.room.number ≡ None
+  chain_others : (B : Bits) (xs : List (Placed V)) (y z : Placed V) → HasOneFork B xs → IsAmong y xs → IsAmong z xs → (z.room.number ≡ y.room.number → ⊥)
+      → (B y.room.number ≡ None → ⊥) → B z.room.number ≡ None
   chain_others B [] y z one first second apart used = absurd first
   chain_others B (x ∷ xs) y z one first second apart used =
       ⊎_elim
       (λ (idle : AreIdle B xs). ⊎_elim
-      (λ (ez : x ≡ z). ⊎_elim (λ (ey : x ≡ y). absurd (apart (ap (λ (p : Placed V). p.room.number) (sym ez ∙ ey)))) (λ (by : IsAmong y xs). absurd (used (idle_among B xs y idle by))) first)
+      (λ (ez : x ≡ z). ⊎_elim (λ (ey : x ≡ y). absurd (apart (ap (λ (p : Placed V). p.room.number) (sym ez ∙ ey))))
+      (λ (by : IsAmong y xs). absurd (used (idle_among B xs y idle by))) first)
       (λ (bz : IsAmong z xs). idle_among B xs z idle bz) second)
       (λ (rest : (B x.room.number ≡ None) × HasOneFork B xs). ⊎_elim
       (λ (ez : x ≡ z). ap (λ (p : Placed V). B p.room.number) (sym ez) ∙ rest.0)
-      (λ (bz : IsAmong z xs). ⊎_elim (λ (ey : x ≡ y). absurd (used (ap (λ (p : Placed V). B p.room.number) (sym ey) ∙ rest.0))) (λ (by : IsAmong y xs). chain_others B xs y z rest.1 by bz apart used) first) second)
+      (λ (bz : IsAmong z xs). ⊎_elim (λ (ey : x ≡ y). absurd (used (ap (λ (p : Placed V). B p.room.number) (sym ey) ∙ rest.0)))
+      (λ (by : IsAmong y xs). chain_others B xs y z rest.1 by bz apart used) first) second)
       one
 
-  tree_others : (B : Bits) (low : ℕ) (t : Tree V) (y z : Placed V) → IsTree low t → HaveOneFork B t → IsIn y t → IsIn z t → y.entry.key ≡ z.entry.key → (z.room.number ≡ y.room.number → ⊥) → (B y.room.number ≡ None → ⊥) → B z.room.number ≡ None
+  tree_others : (B : Bits) (low : ℕ) (t : Tree V) (y z : Placed V) → IsTree low t → HaveOneFork B t → IsIn y t → IsIn z t → y.entry.key ≡ z.entry.key
+      → (z.room.number ≡ y.room.number → ⊥) → (B y.room.number ≡ None → ⊥) → B z.room.number ≡ None
   tree_others B low (leaf x xs) y z is one first second keys apart used = chain_others B (x ∷ xs) y z one first second apart used
   tree_others B low (fork room b zero ones) y z is one first second keys apart used =
       ⊎_elim
       (λ (fz : IsIn y zero). ⊎_elim
       (λ (sz : IsIn z zero). tree_others B (b + 1) zero y z is.1 one.0 fz sz keys apart used)
-      (λ (so : IsIn z ones). absurd (zero_not_one (bit_beneath (b + 1) b 0 zero is.1 is.0.zeros y fz) (ap (bit_at b) keys ∙ bit_beneath (b + 1) b 1 ones is.2 is.0.ones z so))) second)
+      (λ (so : IsIn z ones). absurd (zero_not_one (bit_beneath (b + 1) b 0 zero is.1 is.0.zeros y fz)
+      (ap (bit_at b) keys ∙ bit_beneath (b + 1) b 1 ones is.2 is.0.ones z so))) second)
       (λ (fo : IsIn y ones). ⊎_elim
-      (λ (sz : IsIn z zero). absurd (zero_not_one (bit_beneath (b + 1) b 0 zero is.1 is.0.zeros z sz) (ap (bit_at b) (sym keys) ∙ bit_beneath (b + 1) b 1 ones is.2 is.0.ones y fo)))
+      (λ (sz : IsIn z zero). absurd (zero_not_one (bit_beneath (b + 1) b 0 zero is.1 is.0.zeros z sz)
+      (ap (bit_at b) (sym keys) ∙ bit_beneath (b + 1) b 1 ones is.2 is.0.ones y fo)))
       (λ (so : IsIn z ones). tree_others B (b + 1) ones y z is.2 one.1 fo so keys apart used) second)
       first
 
   -- the route of a room of the whole
-  record RouteOf (m : FinMap nat_cmp (Seen V)) (t : Tree V) (n : ℕ) (p : LeafPart V) : Type 0 where
+  record RouteOf (m : Lodged V) (t : Tree V) (n : ℕ) (p : LeafPart V) : Type 0 where
     pub route : Placed V
     pub is : IsIn route t
     pub room : route.room.number ≡ n
     pub key : route.entry.key ≡ p.leaf.key
 
-  route_of : (m : FinMap nat_cmp (Seen V)) (root : Node) (late : ℕ → Bool) (w : IsWholeBut m root late nobody_out) (n : ℕ) (p : LeafPart V) → leaves_in m n ≡ Some p → RouteOf m w.part.tree n p
-  route_of m root late w n p said =
+  route_of : (m : Lodged V) {root : Node} {late : ℕ → Bool} (w : IsWholeBut m root late nobody_out) (n : ℕ) (p : LeafPart V) → leaves_in m n ≡ Some p
+      → RouteOf m w.part.tree n p
+  route_of m w n p said =
       let count : leaves_at n w.part.tree + 0 ≡ one_if (is_some (leaves_in m n)) = w.leaves n in
       let used : one_if (is_some (leaves_in m n)) ≡ 1 = ap (λ (o : Option (LeafPart V)). one_if (is_some o)) said in
       let y = tree_room n w.part.tree (omega arith) in
       let told = tree_said (leaves_in m) (bits_in m) w.part.above w.part.tree w.part.stands y.0 y.1 in
       record { route = y.0; is = y.1; room = y.2; key = ap (λ (q : LeafPart V). q.leaf.key) (inside (sym told.3 ∙ ap (leaves_in m) y.2 ∙ said)) }
 
-  pub others_idle : (m : FinMap nat_cmp (Seen V)) (root : Node) (late : ℕ → Bool) (w : IsWholeBut m root late nobody_out) (used other : ℕ) (p q : LeafPart V) (b : BitPart) → leaves_in m used ≡ Some p → leaves_in m other ≡ Some q
+  pub others_idle : (m : Lodged V) {root : Node} {late : ℕ → Bool} (w : IsWholeBut m root late nobody_out) (used other : ℕ) (p q : LeafPart V) {b : BitPart}
+      → leaves_in m used ≡ Some p → leaves_in m other ≡ Some q
       → p.leaf.key ≡ q.leaf.key → bits_in m used ≡ Some b → (other ≡ used → ⊥) → bits_in m other ≡ None
-  others_idle m root late w used other p q b first second keys bit apart =
-      let y = route_of m root late w used p first in
-      let z = route_of m root late w other q second in
+  others_idle m w used other p q first second keys bit apart =
+      let y = route_of m w used p first in
+      let z = route_of m w other q second in
       ap (bits_in m) (sym z.room) ∙ tree_others (bits_in m) w.part.low w.part.tree y.route z.route w.part.is w.spare y.is z.is (y.key ∙ keys ∙ sym z.key)
       (λ same. apart (sym z.room ∙ same ∙ y.room)) (λ none. none_some (sym none ∙ ap (bits_in m) y.room ∙ bit))
 
@@ -195,22 +196,25 @@ module _ {V : Type 0} where
   was_said (Some q) p same = (q, refl, sym (ap (λ (c : Content V). c.entry.key) (inside same)))
 
   -- a room with its route is there
-  there_by : (m new : FinMap nat_cmp (Seen V)) (room : Id) (h : Has m room) (o : Option (LeafPart V)) → leaves_in new room.number ≡ o → content_of o ≡ content_of (Some (own_part m room h)) → Has new room
+  there_by : (m new : Lodged V) (room : Id) (h : Has m room) (o : Option (LeafPart V)) → leaves_in new room.number ≡ o
+      → content_of o ≡ content_of (Some (own_part h)) → Has new room
   there_by m new room h None said same = absurd (none_some same)
-  there_by m new room h (Some p) said same = Has-leaf new room p said (ap (λ (c : Content V). c.block) (inside same) ∙ h.block)
+  there_by m new room h (Some p) said same = Has-leaf new room said (ap (λ (c : Content V). c.block) (inside same) ∙ h.block)
 
-  pub Has-routes : (m new : FinMap nat_cmp (Seen V)) (room : Id) → Has m room → KeepsRoutes m new → Has new room
-  Has-routes m new room h keeps = there_by m new room h (leaves_in new room.number) refl (keeps room.number ∙ ap (λ (o : Option (Seen V)). content_of (leaf_in o)) h.at)
+  pub Has-routes : (m new : Lodged V) (room : Id) → Has m room → KeepsRoutes m new → Has new room
+  Has-routes m new room h keeps =
+      there_by m new room h (leaves_in new room.number) refl (keeps room.number ∙ ap (λ (o : Option (Seen V)). content_of (leaf_in o)) h.at)
 
-  pub idle_joined : (m new : FinMap nat_cmp (Seen V)) (root : Node) (late : ℕ → Bool) (w : IsWholeBut m root late nobody_out) (at up : Id) (l : IsLone m w.part at up) → KeepsRoutes m new
+  pub idle_joined : (m new : Lodged V) {root : Node} {late : ℕ → Bool} (w : IsWholeBut m root late nobody_out) (at up : Id) (l : IsLone m w.part at up)
+      → KeepsRoutes m new
       → ((n : ℕ) → bits_in m n ≡ None → bits_in new n ≡ None) → bits_in new up.number ≡ None
       → (p : LeafPart V) → leaves_in new up.number ≡ Some p → (n : ℕ) → has_key new p.leaf.key n ≡ true → bits_in new n ≡ None
-  idle_joined m new root late w at up l keeps idle free p said n of_key =
+  idle_joined m new w at up l keeps idle free p said n of_key =
       ⊎_elim (λ (same : n ≡ up.number). ap (bits_in new) same ∙ free)
       (λ (apart : n ≡ up.number → ⊥).
       let q = key_of p.leaf.key (leaves_in new n) of_key in
       let before = was_said (leaves_in m up.number) p (ap content_of (sym said) ∙ keeps up.number) in
       let other = was_said (leaves_in m n) q.0 (ap content_of (sym q.1) ∙ keeps n) in
-      let s = up_says m w.part at up l in
-      idle n (others_idle m root late w up.number n before.0 other.0 s.part before.1 other.1 (before.2 ∙ sym q.2 ∙ sym other.2) s.says apart))
+      let s = up_says m at up l in
+      idle n (others_idle m w up.number n before.0 other.0 before.1 other.1 (before.2 ∙ sym q.2 ∙ sym other.2) s.says apart))
       (cases_eq n up.number)

@@ -1,19 +1,11 @@
 -- A bit node with what is on the side of a key and what is on the other side.
-use Rattle.std.proofs.Common.{◌≡◌, ◌+◌, ◌≤◌, ◌==◌, ◌⊎◌, Bool, true, false, if◌then◌else◌, [], Option, Some, inl, inr, refl, sym, ap, ◌∙◌, subst, arith, ℕ, ⊎_elim}
+use Rattle.std.proofs.Common.{◌≡◌, ◌+◌, ◌≤◌, ◌==◌, ◌⊎◌, Bool, true, false, if◌then◌else◌, [], Option, Some, inl, inr, refl, sym, ap, ◌∙◌, subst, arith, ℕ}
+use Rattle.std.proofs.Common.{⊎_elim}
 use Rattle.std.proofs.lemmas.Bool.{eq-eqb, ne_eqb}
 use Rattle.std.proofs.lemmas.List.{append-nil}
-use Rattle.std.specs.Ordering.{nat_cmp}
-use Rattle.std.specs.FinMap.{FinMap}
-use Rattle.radix_nodes.specs.Rooms.{Seen}
-use Rattle.radix_nodes.specs.declared.id.Id.{Id}
-use Rattle.radix_nodes.specs.declared.links.Node.{Node}
-use Rattle.radix_tree.specs.Tree.{Placed, Tree, leaf, fork, bit_at, HaveBit, IsIn, IsTree, routes_of}
-use Rattle.radix_tree.specs.Rooms.{BitPart, Leaves, Bits, Heads, Masks, Part, name_of, Stands}
-use Rattle.radix_tree.specs.Searches.{ForkAt, Beneath}
-use Rattle.radix_tree.specs.Whole.{one_if, leaves_at, forks_at, HasHome, HaveOneFork}
-use Rattle.radix_tree.specs.Growth.{Gains}
-use Rattle.radix_tree.specs.Joining.{other_side, HasSides}
-use Rattle.radix_tree.specs.Marks.{IsMaskList, MarkedIn, MarkedLists}
+use Rattle.radix_tree.proofs.Words.{Id, Node, Placed, Tree, leaf, fork, bit_at, HaveBit, IsIn, IsTree, routes_of, BitPart, Leaves, Bits, Heads, Masks, Part}
+use Rattle.radix_tree.proofs.Words.{name_of, Stands, ForkAt, Beneath, one_if, leaves_at, forks_at, HasHome, HaveOneFork, Gains, other_side, HasSides}
+use Rattle.radix_tree.proofs.Words.{IsMaskList, MarkedIn, MarkedLists, Lodged}
 use Rattle.radix_tree.proofs.AddressBits.{zero_not_one}
 use Rattle.radix_tree.proofs.TreeMembers.{bit_beneath}
 
@@ -37,26 +29,30 @@ pub record SaysOther (B : Bits) (room : Id) (key b : ℕ) (above : Option Id) (n
 
 module _ {V : Type 0} where
   -- what holds of either order holds of the bit node
-  pub by_sides : (key : ℕ) (t : Tree V) (room : Id) (b : ℕ) (own other : Tree V) (P : Tree V → Type 0) → HasSides key t room b own other
+  pub by_sides : {key : ℕ} {t : Tree V} {room : Id} {b : ℕ} {own other : Tree V} (P : Tree V → Type 0) → HasSides key t room b own other
       → (bit_at b key ≡ 0 → P (fork room b own other)) → (bit_at b key ≡ 1 → P (fork room b other own)) → P t
-  by_sides key t room b own other P s zero one =
+  by_sides {key = key} {t = t} {room = room} {b = b} {own = own} {other = other} P s zero one =
       ⊎_elim (λ (e : (t ≡ fork room b own other) × (bit_at b key ≡ 0)). subst P (sym e.0) (zero e.1))
       (λ (e : (t ≡ fork room b other own) × (bit_at b key ≡ 1)). subst P (sym e.0) (one e.1)) s.is
 
-  pub side_is : (key : ℕ) (t : Tree V) (room : Id) (b : ℕ) (own other : Tree V) (low : ℕ) → HasSides key t room b own other → IsTree low t → IsTree (b + 1) other × (low ≤ b) × (b ≤ 31)
-  side_is key t room b own other low s = by_sides key t room b own other (λ u. IsTree low u → IsTree (b + 1) other × (low ≤ b) × (b ≤ 31)) s
+  pub side_is : {key : ℕ} {t : Tree V} {room : Id} {b : ℕ} {own other : Tree V} (low : ℕ) → HasSides key t room b own other → IsTree low t
+      → IsTree (b + 1) other × (low ≤ b) × (b ≤ 31)
+  side_is {b = b} {other = other} low s = by_sides (λ u. IsTree low u → IsTree (b + 1) other × (low ≤ b) × (b ≤ 31)) s
       (λ clear is. (is.2, is.0.rises, is.0.within)) (λ set is. (is.1, is.0.rises, is.0.within))
 
-  pub side_stands : (key : ℕ) (t : Tree V) (room : Id) (b : ℕ) (own other : Tree V) (L : Leaves V) (B : Bits) (above : Option Id) → HasSides key t room b own other → Stands L B above t → Stands L B (Some room) other
-  side_stands key t room b own other L B above s = by_sides key t room b own other (λ u. Stands L B above u → Stands L B (Some room) other) s
+  pub side_stands : {key : ℕ} {t : Tree V} (room : Id) {b : ℕ} {own other : Tree V} (L : Leaves V) (B : Bits) (above : Option Id)
+      → HasSides key t room b own other → Stands L B above t → Stands L B (Some room) other
+  side_stands room {other = other} L B above s = by_sides (λ u. Stands L B above u → Stands L B (Some room) other) s
       (λ clear stands. stands.2) (λ set stands. stands.1)
 
-  pub side_own_stands : (key : ℕ) (t : Tree V) (room : Id) (b : ℕ) (own other : Tree V) (L : Leaves V) (B : Bits) (above : Option Id) → HasSides key t room b own other → Stands L B above t → Stands L B (Some room) own
-  side_own_stands key t room b own other L B above s = by_sides key t room b own other (λ u. Stands L B above u → Stands L B (Some room) own) s
+  pub side_own_stands : {key : ℕ} {t : Tree V} (room : Id) {b : ℕ} {own other : Tree V} (L : Leaves V) (B : Bits) (above : Option Id)
+      → HasSides key t room b own other → Stands L B above t → Stands L B (Some room) own
+  side_own_stands room {own = own} L B above s = by_sides (λ u. Stands L B above u → Stands L B (Some room) own) s
       (λ clear stands. stands.1) (λ set stands. stands.2)
 
-  pub side_says : (key : ℕ) (t : Tree V) (room : Id) (b : ℕ) (own other : Tree V) (L : Leaves V) (B : Bits) (above : Option Id) → HasSides key t room b own other → Stands L B above t → SaysOther B room key b above (name_of other)
-  side_says key t room b own other L B above s = by_sides key t room b own other (λ u. Stands L B above u → SaysOther B room key b above (name_of other)) s
+  pub side_says : {key : ℕ} {t : Tree V} (room : Id) (b : ℕ) {own : Tree V} (other : Tree V) (L : Leaves V) (B : Bits) (above : Option Id)
+      → HasSides key t room b own other → Stands L B above t → SaysOther B room key b above (name_of other)
+  side_says {key = key} room b {own = own} other L B above s = by_sides (λ u. Stands L B above u → SaysOther B room key b above (name_of other)) s
       (λ clear stands. record {
         part = record { block = room.block; bit = b; zero = name_of own; one = name_of other; above = above };
         says = stands.0;
@@ -74,59 +70,89 @@ module _ {V : Type 0} where
         other = other_of_one key b (name_of other) (name_of own) set;
       })
 
-  pub side_leaves : (key : ℕ) (t : Tree V) (room : Id) (b : ℕ) (own other : Tree V) (n : ℕ) → HasSides key t room b own other → leaves_at n t ≡ leaves_at n own + leaves_at n other
-  side_leaves key t room b own other n s = by_sides key t room b own other (λ u. leaves_at n u ≡ leaves_at n own + leaves_at n other) s (λ clear. refl) (λ set. omega arith)
+  pub side_leaves : {key : ℕ} {t : Tree V} {room : Id} {b : ℕ} {own other : Tree V} (n : ℕ) → HasSides key t room b own other
+      → leaves_at n t ≡ leaves_at n own + leaves_at n other
+  side_leaves {own = own} {other = other} n s = by_sides (λ u. leaves_at n u ≡ leaves_at n own + leaves_at n other) s (λ clear. refl) (λ set. omega arith)
 
-  pub side_forks : (key : ℕ) (t : Tree V) (room : Id) (b : ℕ) (own other : Tree V) (n : ℕ) → HasSides key t room b own other → forks_at n t ≡ one_if (room.number == n) + (forks_at n own + forks_at n other)
-  side_forks key t room b own other n s = by_sides key t room b own other (λ u. forks_at n u ≡ one_if (room.number == n) + (forks_at n own + forks_at n other)) s (λ clear. refl) (λ set. omega arith)
+  pub side_forks : {key : ℕ} {t : Tree V} (room : Id) {b : ℕ} {own other : Tree V} (n : ℕ) → HasSides key t room b own other
+      → forks_at n t ≡ one_if (room.number == n) + (forks_at n own + forks_at n other)
+  side_forks room {own = own} {other = other} n s =
+      by_sides (λ u. forks_at n u ≡ one_if (room.number == n) + (forks_at n own + forks_at n other)) s (λ clear. refl) (λ set. omega arith)
 
-  pub side_in : (key : ℕ) (t : Tree V) (room : Id) (b : ℕ) (own other : Tree V) (y : Placed V) → HasSides key t room b own other → IsIn y t → IsIn y own ⊎ IsIn y other
-  side_in key t room b own other y s = by_sides key t room b own other (λ u. IsIn y u → IsIn y own ⊎ IsIn y other) s (λ clear is. is) (λ set is. ⊎_elim (λ (o : IsIn y other). inr o) (λ (o : IsIn y own). inl o) is)
+  pub side_in : {key : ℕ} {t : Tree V} {room : Id} {b : ℕ} {own other : Tree V} (y : Placed V) → HasSides key t room b own other → IsIn y t
+      → IsIn y own ⊎ IsIn y other
+  side_in {own = own} {other = other} y s =
+      by_sides (λ u. IsIn y u → IsIn y own ⊎ IsIn y other) s (λ clear is. is) (λ set is. ⊎_elim (λ (o : IsIn y other). inr o) (λ (o : IsIn y own). inl o) is)
 
-  pub in_side : (key : ℕ) (t : Tree V) (room : Id) (b : ℕ) (own other : Tree V) (y : Placed V) → HasSides key t room b own other → IsIn y other → IsIn y t
-  in_side key t room b own other y s is = by_sides key t room b own other (λ u. IsIn y u) s (λ clear. inr is) (λ set. inl is)
+  pub in_side : {key : ℕ} {t : Tree V} {room : Id} {b : ℕ} {own other : Tree V} (y : Placed V) → HasSides key t room b own other → IsIn y other → IsIn y t
+  in_side y s is = by_sides (λ u. IsIn y u) s (λ clear. inr is) (λ set. inl is)
 
-  pub side_have : (key : ℕ) (t : Tree V) (room : Id) (b : ℕ) (own other : Tree V) (c v : ℕ) → HasSides key t room b own other → HaveBit c v t → HaveBit c v other
-  side_have key t room b own other c v s = by_sides key t room b own other (λ u. HaveBit c v u → HaveBit c v other) s (λ clear have. have.1) (λ set have. have.0)
+  pub side_have : {key : ℕ} {t : Tree V} {room : Id} {b : ℕ} {own : Tree V} (other : Tree V) (c v : ℕ) → HasSides key t room b own other → HaveBit c v t
+      → HaveBit c v other
+  side_have other c v s = by_sides (λ u. HaveBit c v u → HaveBit c v other) s (λ clear have. have.1) (λ set have. have.0)
 
-  pub side_list : (key : ℕ) (t : Tree V) (room : Id) (b : ℕ) (own other : Tree V) (H : Heads) (K : Masks) (low : ℕ) → HasSides key t room b own other → MarkedLists H K low t → IsMaskList K (H room.number) low b (MarkedIn K t)
-  side_list key t room b own other H K low s = by_sides key t room b own other (λ u. MarkedLists H K low u → IsMaskList K (H room.number) low b (MarkedIn K u)) s (λ clear lists. lists.0) (λ set lists. lists.0)
+  pub side_list : {key : ℕ} {t : Tree V} (room : Id) (b : ℕ) {own other : Tree V} (H : Heads) (K : Masks) (low : ℕ) → HasSides key t room b own other
+      → MarkedLists H K low t → IsMaskList K (H room.number) low b (MarkedIn K t)
+  side_list room b H K low s =
+      by_sides (λ u. MarkedLists H K low u → IsMaskList K (H room.number) low b (MarkedIn K u)) s (λ clear lists. lists.0) (λ set lists. lists.0)
 
-  pub side_lists : (key : ℕ) (t : Tree V) (room : Id) (b : ℕ) (own other : Tree V) (H : Heads) (K : Masks) (low : ℕ) → HasSides key t room b own other → MarkedLists H K low t → MarkedLists H K (b + 1) other
-  side_lists key t room b own other H K low s = by_sides key t room b own other (λ u. MarkedLists H K low u → MarkedLists H K (b + 1) other) s (λ clear lists. lists.2) (λ set lists. lists.1)
+  pub side_lists : {key : ℕ} {t : Tree V} {room : Id} (b : ℕ) {own other : Tree V} (H : Heads) (K : Masks) (low : ℕ) → HasSides key t room b own other
+      → MarkedLists H K low t → MarkedLists H K (b + 1) other
+  side_lists b {other = other} H K low s =
+      by_sides (λ u. MarkedLists H K low u → MarkedLists H K (b + 1) other) s (λ clear lists. lists.2) (λ set lists. lists.1)
 
-  pub side_home : (key : ℕ) (t : Tree V) (room : Id) (b : ℕ) (own other : Tree V) (address rank : ℕ) → HasSides key t room b own other → HasHome address rank t → (rank ≤ b) ⊎ (HasHome address rank own ⊎ HasHome address rank other)
-  side_home key t room b own other address rank s = by_sides key t room b own other (λ u. HasHome address rank u → (rank ≤ b) ⊎ (HasHome address rank own ⊎ HasHome address rank other)) s
+  pub side_home : {key : ℕ} {t : Tree V} {room : Id} (b : ℕ) {own other : Tree V} (address rank : ℕ) → HasSides key t room b own other → HasHome address rank t
+      → (rank ≤ b) ⊎ (HasHome address rank own ⊎ HasHome address rank other)
+  side_home b {own = own} {other = other} address rank s =
+      by_sides (λ u. HasHome address rank u → (rank ≤ b) ⊎ (HasHome address rank own ⊎ HasHome address rank other)) s
       (λ clear home. ⊎_elim (λ (le : rank ≤ b). inl le)
       (λ (deep : ((bit_at b address ≡ 0) × HasHome address rank own) ⊎ ((bit_at b address ≡ 1) × HasHome address rank other)).
-      inr (⊎_elim (λ (h : (bit_at b address ≡ 0) × HasHome address rank own). inl h.1) (λ (h : (bit_at b address ≡ 1) × HasHome address rank other). inr h.1) deep)) home)
+      inr (⊎_elim (λ (h : (bit_at b address ≡ 0) × HasHome address rank own). inl h.1) (λ (h : (bit_at b address ≡ 1) × HasHome address rank other). inr h.1)
+      deep)) home)
       (λ set home. ⊎_elim (λ (le : rank ≤ b). inl le)
       (λ (deep : ((bit_at b address ≡ 0) × HasHome address rank other) ⊎ ((bit_at b address ≡ 1) × HasHome address rank own)).
-      inr (⊎_elim (λ (h : (bit_at b address ≡ 0) × HasHome address rank other). inr h.1) (λ (h : (bit_at b address ≡ 1) × HasHome address rank own). inl h.1) deep)) home)
+      inr (⊎_elim (λ (h : (bit_at b address ≡ 0) × HasHome address rank other). inr h.1) (λ (h : (bit_at b address ≡ 1) × HasHome address rank own). inl h.1)
+      deep)) home)
 
-  pub home_side : (key : ℕ) (t : Tree V) (room : Id) (b : ℕ) (own other : Tree V) (low : ℕ) (y : Placed V) → HasSides key t room b own other → IsTree low t → IsIn y other → HasHome y.entry.key y.entry.rank other → HasHome y.entry.key y.entry.rank t
-  home_side key t room b own other low y s = by_sides key t room b own other (λ u. IsTree low u → IsIn y other → HasHome y.entry.key y.entry.rank other → HasHome y.entry.key y.entry.rank u) s
+  pub home_side : {key : ℕ} {t : Tree V} {room : Id} (b : ℕ) {own : Tree V} (other : Tree V) (low : ℕ) (y : Placed V) → HasSides key t room b own other
+      → IsTree low t → IsIn y other → HasHome y.entry.key y.entry.rank other → HasHome y.entry.key y.entry.rank t
+  home_side b other low y s = by_sides (λ u. IsTree low u → IsIn y other → HasHome y.entry.key y.entry.rank other → HasHome y.entry.key y.entry.rank u) s
       (λ clear is at home. inr (inr (bit_beneath (b + 1) b 1 other is.2 is.0.ones y at, home)))
       (λ set is at home. inr (inl (bit_beneath (b + 1) b 0 other is.1 is.0.zeros y at, home)))
 
-  pub side_spare : (key : ℕ) (t : Tree V) (room : Id) (b : ℕ) (own other : Tree V) (B : Bits) → HasSides key t room b own other → HaveOneFork B t → HaveOneFork B other
-  side_spare key t room b own other B s = by_sides key t room b own other (λ u. HaveOneFork B u → HaveOneFork B other) s (λ clear spare. spare.1) (λ set spare. spare.0)
+  pub side_spare : {key : ℕ} {t : Tree V} {room : Id} {b : ℕ} {own : Tree V} (other : Tree V) (B : Bits) → HasSides key t room b own other → HaveOneFork B t
+      → HaveOneFork B other
+  side_spare other B s = by_sides (λ u. HaveOneFork B u → HaveOneFork B other) s (λ clear spare. spare.1) (λ set spare. spare.0)
 
-  pub side_gains : (key : ℕ) (t : Tree V) (room : Id) (b : ℕ) (x : Placed V) (other : Tree V) → HasSides key t room b (leaf x []) other → Gains x.entry (routes_of other) (routes_of t)
-  side_gains key t room b x other s = by_sides key t room b (leaf x []) other (λ u. Gains x.entry (routes_of other) (routes_of u)) s
+  pub side_gains : {key : ℕ} {t : Tree V} {room : Id} {b : ℕ} (x : Placed V) (other : Tree V) → HasSides key t room b (leaf x []) other
+      → Gains x.entry (routes_of other) (routes_of t)
+  side_gains x other s = by_sides (λ u. Gains x.entry (routes_of other) (routes_of u)) s
       (λ clear. record { front = []; back = routes_of other; was = refl; now = refl })
       (λ set. record { front = routes_of other; back = []; was = sym (append-nil (routes_of other)); now = refl })
 
-  pub side_fork : (m : FinMap nat_cmp (Seen V)) (key : ℕ) (p : Part m) (room : Id) (b : ℕ) (own other : Tree V) → HasSides key p.tree room b own other → ForkAt p room
-  side_fork m key p room b own other s =
+  pub side_fork : (m : Lodged V) {key : ℕ} (p : Part m) (room : Id) (b : ℕ) (own other : Tree V) → HasSides key p.tree room b own other → ForkAt p room
+  side_fork m {key = key} p room b own other s =
       ⊎_elim (λ (e : (p.tree ≡ fork room b own other) × (bit_at b key ≡ 0)). record { bit = b; zero = own; one = other; is = e.0 })
       (λ (e : (p.tree ≡ fork room b other own) × (bit_at b key ≡ 1)). record { bit = b; zero = other; one = own; is = e.0 }) s.is
 
   -- a part beneath a bit node is on a side of it
-  pub sides_of : (m : FinMap nat_cmp (Seen V)) (key : ℕ) (under over : Part m) (b : Beneath key under over) → (other : Tree V) × HasSides key over.tree b.room b.at.bit under.tree other
+  pub sides_of : (m : Lodged V) (key : ℕ) (under over : Part m) (b : Beneath key under over)
+      → (other : Tree V) × HasSides key over.tree b.room b.at.bit under.tree other
   sides_of m key under over b =
       let f = b.at in
       ⊎_elim
-      (λ (e : (under.tree ≡ f.zero) × (bit_at f.bit key ≡ 0)). (f.one, record { is = inl (f.is ∙ ap (λ (t : Tree V). fork b.room f.bit t f.one) (sym e.0), e.1) }))
-      (λ (e : (under.tree ≡ f.one) × (bit_at f.bit key ≡ 1)). (f.zero, record { is = inr (f.is ∙ ap (λ (t : Tree V). fork b.room f.bit f.zero t) (sym e.0), e.1) }))
+      (λ (e : (under.tree ≡ f.zero) × (bit_at f.bit key ≡ 0)). (
+        f.one,
+        record {
+          is =
+              inl (f.is ∙ ap (λ (t : Tree V). fork b.room f.bit t f.one) (sym e.0), e.1);
+        },
+      ))
+      (λ (e : (under.tree ≡ f.one) × (bit_at f.bit key ≡ 1)). (
+        f.zero,
+        record {
+          is =
+              inr (f.is ∙ ap (λ (t : Tree V). fork b.room f.bit f.zero t) (sym e.0), e.1);
+        },
+      ))
       b.side

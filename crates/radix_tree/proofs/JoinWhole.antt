@@ -1,21 +1,10 @@
 -- A route that is alone at its leaf goes, and with it the bit node above: the rooms as a whole.
 use Rattle.std.proofs.Common.{◌≡◌, ◌+◌, ◌<◌, ◌≤◌, ◌==◌, true, false, [], Option, Some, None, inl, inr, refl, sym, ap, ◌∙◌, subst, arith, ℕ, ⊎_elim}
 use Rattle.std.proofs.lemmas.Bool.{eqb-true, eq-eqb, ne_eqb}
-use Rattle.std.specs.Prelude.{is_some}
-use Rattle.std.specs.Ordering.{nat_cmp}
-use Rattle.std.specs.FinMap.{FinMap}
-use Rattle.radix_nodes.specs.Rooms.{Seen}
-use Rattle.radix_nodes.specs.declared.id.Id.{Id}
-use Rattle.radix_nodes.specs.declared.links.Node.{Node}
-use Rattle.radix_tree.specs.Tree.{Placed, Tree, leaf, fork, IsIn, IsTree, routes_of}
-use Rattle.radix_tree.specs.Rooms.{LeafPart, BitPart, Part, leaves_in, bits_in, heads_in, masks_in, leaf_part, name_of}
-use Rattle.radix_tree.specs.Whole.{one_if, leaves_at, forks_at, HasHome, shown, shown_entry}
-use Rattle.radix_tree.specs.Growth.{name_child, root_after, AreOnce, Gains}
-use Rattle.radix_tree.specs.Exchange.{IsExchange, Exchanged}
-use Rattle.radix_tree.specs.Joining.{IsLone, IsHanded}
-use Rattle.radix_tree.specs.Marks.{IsWholeBut, nobody_late, nobody_out, late_at, out_at}
-use Rattle.radix_tree.specs.Removal.{content_of, KeepsRoutes}
-use Rattle.radix_tree.specs.Writes.{put_bit, lift_leaf, lift_bit}
+use Rattle.radix_tree.proofs.Words.{is_some, Id, Node, Placed, Tree, leaf, fork, IsIn, IsTree, LeafPart, BitPart, Part, leaves_in, bits_in, heads_in, masks_in}
+use Rattle.radix_tree.proofs.Words.{leaf_part, name_of, one_if, leaves_at, forks_at, HasHome, shown, shown_entry, name_child, root_after, AreOnce, Gains}
+use Rattle.radix_tree.proofs.Words.{IsExchange, Exchanged, IsLone, IsHanded, IsWholeBut, nobody_late, nobody_out, late_at, out_at, content_of, KeepsRoutes}
+use Rattle.radix_tree.proofs.Words.{put_bit, lift_leaf, lift_bit, Lodged}
 use Rattle.radix_tree.proofs.RoomReads.{inside, none_some}
 use Rattle.radix_tree.proofs.PartRooms.{one_if_same}
 use Rattle.radix_tree.proofs.Forking.{lifted}
@@ -23,11 +12,14 @@ use Rattle.radix_tree.proofs.Beside.{misses_leaf, misses_bit, named_leaf, named_
 use Rattle.radix_tree.proofs.Plugs.{counted_leaf, spare_same}
 use Rattle.radix_tree.proofs.PlugLists.{marked_same, lists_same}
 use Rattle.radix_tree.proofs.Exchanging.{exchanged}
-use Rattle.radix_tree.proofs.WholeChanges.{Fits, some_of, spare_changed, whole_changed, routes_changed, loses_spliced}
+use Rattle.radix_tree.proofs.WholeParts.{Fits, some_of}
+use Rattle.radix_tree.proofs.WholeChanges.{spare_changed, whole_changed}
+use Rattle.radix_tree.proofs.WholeRoutes.{routes_changed, loses_spliced}
 use Rattle.radix_tree.proofs.JoinSides.{true_not_false, side_is, side_says, side_leaves, side_in, in_side, side_have, home_side, side_spare, side_gains}
 use Rattle.radix_tree.proofs.JoinLists.{same_rank_at}
 use Rattle.radix_tree.proofs.JoinLone.{lone_said}
-use Rattle.radix_tree.proofs.JoinLinks.{put_off, put_none, put_here, turn_none, turn_used, lift_none, lift_used, lift_content, content_used, quiet, lone_once, lone_forks, lone_apart, other_part}
+use Rattle.radix_tree.proofs.JoinLinks.{put_off, put_none, put_here, turn_none, turn_used, lift_none, lift_used, lift_content, content_used, quiet, lone_once}
+use Rattle.radix_tree.proofs.JoinLinks.{lone_forks, lone_apart, other_part}
 
 one_flip : (a b : ℕ) → one_if (a == b) ≡ one_if (b == a)
 one_flip a b = elim (a == b) as (λ t. (a == b) ≡ t → one_if t ≡ one_if (b == a)) [
@@ -40,40 +32,47 @@ module _ {V : Type 0} where
   pub lower : (low high : ℕ) (t : Tree V) → low ≤ high → IsTree high t → IsTree low t
   lower low high (leaf x xs) le is = let most : high ≤ 32 = is.0 in (omega arith, is.1)
   lower low high (fork room b zero one) le is =
-      let rises : high ≤ b = is.0.rises in (record { rises = omega arith; within = is.0.within; agree = is.0.agree; zeros = is.0.zeros; ones = is.0.ones }, is.1, is.2)
+      let rises : high ≤ b =
+      is.0.rises in (record { rises = omega arith; within = is.0.within; agree = is.0.agree; zeros = is.0.zeros; ones = is.0.ones }, is.1, is.2)
 
   -- what the rooms say once the bit node is gone
-  pub record IsJoined (m new : FinMap nat_cmp (Seen V)) (whole : Part m) (at up : Id) (l : IsLone m whole at up) : Type 0 where
+  pub record IsJoined (m new : Lodged V) (whole : Part m) (at up : Id) (l : IsLone m whole at up) : Type 0 where
     pub leaves : (n : ℕ) → leaves_in new n ≡ lift_leaf (name_of l.other) l.over.above n (leaves_in m n)
-    pub bits : (n : ℕ) → bits_in new n ≡ lift_bit (name_of l.other) l.over.above n (put_bit up None n (name_child l.over.above l.route.entry.key (name_of l.other) n (bits_in m n)))
+    pub bits : (n : ℕ) → bits_in new n ≡ lift_bit (name_of l.other) l.over.above n
+        (put_bit up None n (name_child l.over.above l.route.entry.key (name_of l.other) n (bits_in m n)))
 
   -- the list was handed on before
-  pub handed_on : (m handed new : FinMap nat_cmp (Seen V)) (whole : Part m) (at up : Id) (l : IsLone m whole at up) → IsHanded m handed l.over.low l.over.tree l.other
-      → ((n : ℕ) → masks_in new n ≡ masks_in handed n) → ((n : ℕ) → (n ≡ up.number → ⊥) → heads_in new n ≡ heads_in handed n) → IsHanded m new l.over.low l.over.tree l.other
-  handed_on m handed new whole at up l h masks heads =
+  pub handed_on : (m handed new : Lodged V) {whole : Part m} (at up : Id) (l : IsLone m whole at up) → IsHanded m handed l.over.low l.over.tree l.other
+      → ((n : ℕ) → masks_in new n ≡ masks_in handed n) → ((n : ℕ) → (n ≡ up.number → ⊥) → heads_in new n ≡ heads_in handed n)
+      → IsHanded m new l.over.low l.over.tree l.other
+  handed_on m handed new at up l h masks heads =
       let own : one_if (up.number == up.number) ≡ 1 = one_if_same up.number in
-      let sum : forks_at up.number l.over.tree ≡ one_if (up.number == up.number) + (0 + forks_at up.number l.other) = lone_forks m whole at up l up.number in
-      let apart = lone_apart m whole at up l in
+      let sum : forks_at up.number l.over.tree ≡ one_if (up.number == up.number) + (0 + forks_at up.number l.other) = lone_forks l up.number in
+      let apart = lone_apart m at up l in
       record {
-        heads = λ n none. heads n (λ same. let here : forks_at n l.over.tree ≡ forks_at up.number l.over.tree = ap (λ (k : ℕ). forks_at k l.over.tree) same in absurd (omega arith)) ∙ h.heads n none;
+        heads =
+            λ n none. heads n (λ same. let here : forks_at n l.over.tree ≡ forks_at up.number l.over.tree = ap (λ (k : ℕ). forks_at k l.over.tree) same in
+            absurd (omega arith)) ∙ h.heads n none;
         masks = λ n aside. masks n ∙ h.masks n aside;
         marks = λ n p said. h.marks n p (sym (masks n) ∙ said);
         kept = λ y is marked home. h.kept y is (marked_same (masks_in new) (masks_in handed) y (sym (masks y.room.number)) marked) home;
         all = λ y is home marked. marked_same (masks_in handed) (masks_in new) y (masks y.room.number) (h.all y is home marked);
-        lists = lists_same (heads_in handed) (heads_in new) (masks_in handed) (masks_in new) l.over.low l.other (λ n some. heads n (apart.up_is n some)) (λ y is. masks y.room.number) h.lists;
+        lists = lists_same (heads_in handed) (heads_in new) (masks_in handed) (masks_in new) l.over.low l.other (λ n some. heads n (apart.up_is n some))
+            (λ y is. masks y.room.number) h.lists;
       }
 
-  pub other_once : (m : FinMap nat_cmp (Seen V)) (whole : Part m) (at up : Id) (l : IsLone m whole at up) → AreOnce l.other
-  other_once m whole at up l = record {
-    leaves = λ n. let most : leaves_at n l.over.tree ≤ 1 = (lone_once m whole at up l).leaves n in
-        let sum : leaves_at n l.over.tree ≡ leaves_at n (leaf l.route []) + leaves_at n l.other = side_leaves l.route.entry.key l.over.tree up l.bit (leaf l.route []) l.other n l.sides in omega arith;
-    forks = λ n. let most : forks_at n l.over.tree ≤ 1 = (lone_once m whole at up l).forks n in let sum : forks_at n l.over.tree ≡ one_if (up.number == n) + (0 + forks_at n l.other) = lone_forks m whole at up l n in omega arith;
+  pub other_once : (m : Lodged V) {whole : Part m} (at up : Id) (l : IsLone m whole at up) → AreOnce l.other
+  other_once m at up l = record {
+    leaves = λ n. let most : leaves_at n l.over.tree ≤ 1 = (lone_once l).leaves n in
+        let sum : leaves_at n l.over.tree ≡ leaves_at n (leaf l.route []) + leaves_at n l.other = side_leaves n l.sides in omega arith;
+    forks = λ n. let most : forks_at n l.over.tree ≤ 1 = (lone_once l).forks n in
+        let sum : forks_at n l.over.tree ≡ one_if (up.number == n) + (0 + forks_at n l.other) = lone_forks l n in omega arith;
   }
 
   -- ---- the part that takes the bit node's place
-  abbrev pub under_part : (m new : FinMap nat_cmp (Seen V)) (whole : Part m) (at up : Id) (l : IsLone m whole at up) → IsJoined m new whole at up l → Part new
-  under_part m new whole at up l j =
-      let is = side_is l.route.entry.key l.over.tree up l.bit (leaf l.route []) l.other l.over.low l.sides l.over.is in
+  abbrev pub under_part : {m new : Lodged V} {whole : Part m} {at up : Id} {l : IsLone m whole at up} → IsJoined m new whole at up l → Part new
+  under_part {m = m} {new = new} {at = at} {up = up} {l = l} j =
+      let is = side_is l.over.low l.sides l.over.is in
       record {
         tree = l.other;
         low = l.over.low;
@@ -82,109 +81,119 @@ module _ {V : Type 0} where
         stands = lifted (leaves_in m) (leaves_in new) (bits_in m) (bits_in new) (Some up) l.over.above l.other
             (λ n some. j.leaves n)
             (λ n some. j.bits n ∙ ap (λ (said : Option BitPart). lift_bit (name_of l.other) l.over.above n said)
-            (quiet l.other up l.over.above l.route.entry.key (name_of l.other) n (bits_in m n) (lone_apart m whole at up l) some))
-            (other_once m whole at up l)
-            (other_part m whole at up l).stands;
+            (quiet up l.route.entry.key (name_of l.other) n (bits_in m n) (lone_apart m at up l) some))
+            (other_once m at up l)
+            (other_part m at up l).stands;
       }
 
-  pub exchange : (m new : FinMap nat_cmp (Seen V)) (whole : Part m) (at up : Id) (l : IsLone m whole at up) (j : IsJoined m new whole at up l) → IsExchange m new l.route.entry.key whole l.over (under_part m new whole at up l j)
-  exchange m new whole at up l j = record {
+  pub exchange : (m new : Lodged V) {whole : Part m} (at up : Id) (l : IsLone m whole at up) (j : IsJoined m new whole at up l)
+      → IsExchange m new l.route.entry.key whole l.over (under_part j)
+  exchange m new at up l j = record {
     low = refl;
     above = refl;
-    keys = λ c value before have. side_have l.route.entry.key l.over.tree up l.bit (leaf l.route []) l.other c value l.sides have;
+    keys = λ c value before have. side_have l.other c value l.sides have;
     leaves = λ n none some. j.leaves n
         ∙ misses_leaf (name_of l.other) n (λ r is same.
         let there : 1 ≤ leaves_at r.number l.other = named_leaf l.other r is in
         let here : leaves_at n l.other ≡ leaves_at r.number l.other = ap (λ (k : ℕ). leaves_at k l.other) same in
-        let sum : leaves_at n l.over.tree ≡ leaves_at n (leaf l.route []) + leaves_at n l.other = side_leaves l.route.entry.key l.over.tree up l.bit (leaf l.route []) l.other n l.sides in absurd (omega arith))
+        let sum : leaves_at n l.over.tree ≡ leaves_at n (leaf l.route []) + leaves_at n l.other = side_leaves n l.sides in absurd (omega arith))
         l.over.above (leaves_in m n);
     bits = λ n none some.
-        let sum : forks_at n l.over.tree ≡ one_if (up.number == n) + (0 + forks_at n l.other) = lone_forks m whole at up l n in
+        let sum : forks_at n l.over.tree ≡ one_if (up.number == n) + (0 + forks_at n l.other) = lone_forks l n in
         j.bits n
         ∙ misses_bit (name_of l.other) n (λ r is same.
         let there : 1 ≤ forks_at r.number l.other = named_bit l.other r is in
         let here : forks_at n l.other ≡ forks_at r.number l.other = ap (λ (k : ℕ). forks_at k l.other) same in absurd (omega arith))
         l.over.above (put_bit up None n (name_child l.over.above l.route.entry.key (name_of l.other) n (bits_in m n)))
-        ∙ put_off up n (name_child l.over.above l.route.entry.key (name_of l.other) n (bits_in m n)) (λ same. let own : one_if (up.number == n) ≡ 1 = ap (λ (k : ℕ). one_if (up.number == k)) same ∙ one_if_same up.number in absurd (omega arith));
+        ∙ put_off up n (name_child l.over.above l.route.entry.key (name_of l.other) n (bits_in m n))
+        (λ same. let own : one_if (up.number == n) ≡ 1 = ap (λ (k : ℕ). one_if (up.number == k)) same ∙ one_if_same up.number in absurd (omega arith));
   }
 
   -- ---- what the rooms say
-  pub routes_kept : (m new : FinMap nat_cmp (Seen V)) (whole : Part m) (at up : Id) (l : IsLone m whole at up) → IsJoined m new whole at up l → KeepsRoutes m new
-  routes_kept m new whole at up l j n = ap content_of (j.leaves n) ∙ lift_content (name_of l.other) l.over.above n (leaves_in m n)
+  pub routes_kept : {m new : Lodged V} {whole : Part m} {at up : Id} (l : IsLone m whole at up) → IsJoined m new whole at up l → KeepsRoutes m new
+  routes_kept {m = m} l j n = ap content_of (j.leaves n) ∙ lift_content (name_of l.other) l.over.above n (leaves_in m n)
 
-  same_leaves : (m new : FinMap nat_cmp (Seen V)) → KeepsRoutes m new → (n : ℕ) → is_some (leaves_in new n) ≡ is_some (leaves_in m n)
+  same_leaves : (m new : Lodged V) → KeepsRoutes m new → (n : ℕ) → is_some (leaves_in new n) ≡ is_some (leaves_in m n)
   same_leaves m new keeps n = sym (content_used (leaves_in new n)) ∙ ap is_some (keeps n) ∙ content_used (leaves_in m n)
 
   -- a room that is no bit node stays none
-  pub idle_stays : (m new : FinMap nat_cmp (Seen V)) (whole : Part m) (at up : Id) (l : IsLone m whole at up) → IsJoined m new whole at up l → (n : ℕ) → bits_in m n ≡ None → bits_in new n ≡ None
-  idle_stays m new whole at up l j n none =
+  pub idle_stays : {m new : Lodged V} {whole : Part m} {at up : Id} (l : IsLone m whole at up) → IsJoined m new whole at up l → (n : ℕ) → bits_in m n ≡ None
+      → bits_in new n ≡ None
+  idle_stays {up = up} l j n none =
       j.bits n
       ∙ ap (λ (said : Option BitPart). lift_bit (name_of l.other) l.over.above n said)
       (ap (λ (said : Option BitPart). put_bit up None n said)
-      (ap (λ (said : Option BitPart). name_child l.over.above l.route.entry.key (name_of l.other) n said) none ∙ turn_none l.over.above l.route.entry.key n (name_of l.other)) ∙ put_none up n)
+      (ap (λ (said : Option BitPart). name_child l.over.above l.route.entry.key (name_of l.other) n said) none
+      ∙ turn_none l.over.above l.route.entry.key n (name_of l.other)) ∙ put_none up n)
       ∙ lift_none (name_of l.other) l.over.above n
 
-  pub freed : (m new : FinMap nat_cmp (Seen V)) (whole : Part m) (at up : Id) (l : IsLone m whole at up) → IsJoined m new whole at up l → bits_in new up.number ≡ None
-  freed m new whole at up l j =
+  pub freed : {m new : Lodged V} {whole : Part m} {at up : Id} (l : IsLone m whole at up) → IsJoined m new whole at up l → bits_in new up.number ≡ None
+  freed {m = m} {up = up} l j =
       j.bits up.number
-      ∙ ap (λ (said : Option BitPart). lift_bit (name_of l.other) l.over.above up.number said) (put_here up (name_child l.over.above l.route.entry.key (name_of l.other) up.number (bits_in m up.number)))
+      ∙ ap (λ (said : Option BitPart). lift_bit (name_of l.other) l.over.above up.number said)
+      (put_here up (name_child l.over.above l.route.entry.key (name_of l.other) up.number (bits_in m up.number)))
       ∙ lift_none (name_of l.other) l.over.above up.number
 
-  same_bits : (m new : FinMap nat_cmp (Seen V)) (whole : Part m) (at up : Id) (l : IsLone m whole at up) → IsJoined m new whole at up l → (n : ℕ) → (n ≡ up.number → ⊥) → is_some (bits_in new n) ≡ is_some (bits_in m n)
-  same_bits m new whole at up l j n other =
+  same_bits : (m new : Lodged V) {whole : Part m} (at up : Id) (l : IsLone m whole at up) → IsJoined m new whole at up l → (n : ℕ) → (n ≡ up.number → ⊥)
+      → is_some (bits_in new n) ≡ is_some (bits_in m n)
+  same_bits m new at up l j n other =
       ap is_some (j.bits n)
       ∙ lift_used (name_of l.other) l.over.above n (put_bit up None n (name_child l.over.above l.route.entry.key (name_of l.other) n (bits_in m n)))
       ∙ ap is_some (put_off up n (name_child l.over.above l.route.entry.key (name_of l.other) n (bits_in m n)) other)
       ∙ turn_used l.over.above l.route.entry.key n (name_of l.other) (bits_in m n)
 
-  fork_count : (m new : FinMap nat_cmp (Seen V)) (whole : Part m) (at up : Id) (l : IsLone m whole at up) → IsJoined m new whole at up l → (n : ℕ)
+  fork_count : (m new : Lodged V) {whole : Part m} (at up : Id) (l : IsLone m whole at up) → IsJoined m new whole at up l → (n : ℕ)
       → forks_at n l.other + one_if (is_some (bits_in m n)) ≡ forks_at n l.over.tree + one_if (is_some (bits_in new n))
-  fork_count m new whole at up l j n =
-      let sum : forks_at n l.over.tree ≡ one_if (up.number == n) + (0 + forks_at n l.other) = lone_forks m whole at up l n in
+  fork_count m new at up l j n =
+      let sum : forks_at n l.over.tree ≡ one_if (up.number == n) + (0 + forks_at n l.other) = lone_forks l n in
       elim (up.number == n) as (λ t. (up.number == n) ≡ t → forks_at n l.over.tree ≡ one_if t + (0 + forks_at n l.other)
       → forks_at n l.other + one_if (is_some (bits_in m n)) ≡ forks_at n l.over.tree + one_if (is_some (bits_in new n))) [
         | true ↦ λ e all.
             let same : up.number ≡ n = eqb-true up.number n e in
-            let says = side_says l.route.entry.key l.over.tree up l.bit (leaf l.route []) l.other (leaves_in m) (bits_in m) l.over.above l.sides l.over.stands in
+            let says = side_says up l.bit l.other (leaves_in m) (bits_in m) l.over.above l.sides l.over.stands in
             let was : one_if (is_some (bits_in m n)) ≡ 1 = ap (λ (o : Option BitPart). one_if (is_some o)) (ap (bits_in m) (sym same) ∙ says.says) in
-            let is : one_if (is_some (bits_in new n)) ≡ 0 = ap (λ (o : Option BitPart). one_if (is_some o)) (ap (bits_in new) (sym same) ∙ freed m new whole at up l j) in omega arith
+            let is : one_if (is_some (bits_in new n)) ≡ 0 = ap (λ (o : Option BitPart). one_if (is_some o)) (ap (bits_in new) (sym same) ∙ freed l j) in
+            omega arith
         | false ↦ λ e all.
             let same : one_if (is_some (bits_in new n)) ≡ one_if (is_some (bits_in m n)) =
-            ap one_if (same_bits m new whole at up l j n (λ is. true_not_false (sym (eq-eqb up.number n (sym is)) ∙ e))) in omega arith
+            ap one_if (same_bits m new at up l j n (λ is. true_not_false (sym (eq-eqb up.number n (sym is)) ∙ e))) in omega arith
       ] refl sum
 
   -- ---- the whole
   -- the room of the route that goes is not on the other side
-  own_room : (m : FinMap nat_cmp (Seen V)) (whole : Part m) (at up : Id) (l : IsLone m whole at up) → (leaves_at at.number l.other ≡ 0) × (leaves_at at.number l.over.tree ≡ 1)
-  own_room m whole at up l =
+  own_room : (m : Lodged V) {whole : Part m} (at up : Id) (l : IsLone m whole at up) → (leaves_at at.number l.other ≡ 0) × (leaves_at at.number l.over.tree ≡ 1)
+  own_room m at up l =
       let n = at.number in
       let own : one_if (l.route.room.number == at.number) ≡ 1 = ap (λ (i : Id). one_if (i.number == at.number)) l.room_is ∙ one_if_same at.number in
-      let most : leaves_at at.number l.over.tree ≤ 1 = (lone_once m whole at up l).leaves at.number in
+      let most : leaves_at at.number l.over.tree ≤ 1 = (lone_once l).leaves at.number in
       let sum : leaves_at at.number l.over.tree ≡ (one_if (l.route.room.number == at.number) + 0) + leaves_at at.number l.other =
-      side_leaves l.route.entry.key l.over.tree up l.bit (leaf l.route []) l.other at.number l.sides in
+      side_leaves at.number l.sides in
       (omega arith, omega arith)
 
-  short_stays : (m new : FinMap nat_cmp (Seen V)) (whole : Part m) (at up : Id) (l : IsLone m whole at up) → IsHanded m new l.over.low l.over.tree l.other
+  short_stays : (m new : Lodged V) {whole : Part m} {at up : Id} (l : IsLone m whole at up) → IsHanded m new l.over.low l.over.tree l.other
       → (y : Placed V) → IsIn y l.over.tree → y.entry.rank < l.over.low → masks_in new y.room.number ≡ masks_in m y.room.number
-  short_stays m new whole at up l h y is short =
+  short_stays m new l h y is short =
       h.masks y.room.number (λ z there past same. let rank : z.entry.rank ≡ y.entry.rank = same_rank_at m l.over z y there is same in absurd (omega arith))
 
-  pub fits : (m new : FinMap nat_cmp (Seen V)) (whole : Part m) (at up : Id) (l : IsLone m whole at up) (j : IsJoined m new whole at up l) → IsHanded m new l.over.low l.over.tree l.other → masks_in m at.number ≡ None
-      → Fits m new whole l.over (under_part m new whole at up l j) (late_at at.number) nobody_late nobody_out (out_at at.number)
-  fits m new whole at up l j h unmarked =
-      let room = own_room m whole at up l in
-      let in_over : (y : Placed V) → IsIn y l.other → IsIn y l.over.tree = λ y is. in_side l.route.entry.key l.over.tree up l.bit (leaf l.route []) l.other y l.sides is in
+  pub fits : (m new : Lodged V) {whole : Part m} (at up : Id) (l : IsLone m whole at up) (j : IsJoined m new whole at up l)
+      → IsHanded m new l.over.low l.over.tree l.other → masks_in m at.number ≡ None
+      → Fits m new whole l.over (under_part j) (late_at at.number) nobody_late nobody_out (out_at at.number)
+  fits m new at up l j h unmarked =
+      let room = own_room m at up l in
+      let in_over : (y : Placed V) → IsIn y l.other → IsIn y l.over.tree = λ y is. in_side y l.sides is in
       record {
         leaves = λ n.
-            let sum : leaves_at n l.over.tree ≡ (one_if (l.route.room.number == n) + 0) + leaves_at n l.other = side_leaves l.route.entry.key l.over.tree up l.bit (leaf l.route []) l.other n l.sides in
-            let same : one_if (is_some (leaves_in new n)) ≡ one_if (is_some (leaves_in m n)) = ap one_if (same_leaves m new (routes_kept m new whole at up l j) n) in
-            let flip : one_if (n == at.number) ≡ one_if (l.route.room.number == n) = one_flip n at.number ∙ ap (λ (i : Id). one_if (i.number == n)) (sym l.room_is) in omega arith;
-        forks = λ n. fork_count m new whole at up l j n;
+            let sum : leaves_at n l.over.tree ≡ (one_if (l.route.room.number == n) + 0) + leaves_at n l.other = side_leaves n l.sides in
+            let same : one_if (is_some (leaves_in new n)) ≡ one_if (is_some (leaves_in m n)) = ap one_if (same_leaves m new (routes_kept l j) n) in
+            let flip : one_if (n == at.number) ≡ one_if (l.route.room.number == n) =
+            one_flip n at.number ∙ ap (λ (i : Id). one_if (i.number == n)) (sym l.room_is) in omega arith;
+        forks = λ n. fork_count m new at up l j n;
         heads = λ n none some. h.heads n none;
         masks = λ n none some. h.masks n (λ y is past same.
             let there : 1 ≤ leaves_at y.room.number l.over.tree = counted_leaf y l.over.tree is in
-            let here : leaves_at n l.over.tree ≡ leaves_at y.room.number l.over.tree = ap (λ (k : ℕ). leaves_at k l.over.tree) (sym same) in absurd (omega arith));
-        masks_above = λ y is short marked. short_stays m new whole at up l h y is short;
+            let here : leaves_at n l.over.tree ≡ leaves_at y.room.number l.over.tree = ap (λ (k : ℕ). leaves_at k l.over.tree) (sym same) in
+            absurd (omega arith));
+        masks_above = λ y is short marked. short_stays m new l h y is short;
         marks = h.marks;
         kept = λ y is marked. ⊎_elim
             (λ (own : IsIn y (leaf l.route [])). ⊎_elim
@@ -194,16 +203,16 @@ module _ {V : Type 0} where
             absurd (none_some (sym unmarked ∙ ap (λ (i : Id). masks_in m i.number) (sym l.room_is ∙ ap (λ (z : Placed V). z.room) e) ∙ q.1)))
             (λ (no : ⊥). absurd no) own)
             (λ (there : IsIn y l.other). (there, λ home. h.kept y there marked home))
-            (side_in l.route.entry.key l.over.tree up l.bit (leaf l.route []) l.other y l.sides is);
+            (side_in y l.sides is);
         came = λ y is marked. in_over y is;
-        gone = λ y is short marked. marked_same (masks_in m) (masks_in new) y (short_stays m new whole at up l h y is short) marked;
+        gone = λ y is short marked. marked_same (masks_in m) (masks_in new) y (short_stays m new l h y is short) marked;
         lists = h.lists;
         all = λ y is home. inr (
           in_over y is,
           ⊎_elim (λ (short : y.entry.rank < l.over.low). inl short)
-              (λ (there : HasHome y.entry.key y.entry.rank l.other). inr (home_side l.route.entry.key l.over.tree up l.bit (leaf l.route []) l.other l.over.low y l.sides l.over.is is there)) home,
+              (λ (there : HasHome y.entry.key y.entry.rank l.other). inr (home_side l.bit l.other l.over.low y l.sides l.over.is is there)) home,
           λ marked. ⊎_elim
-              (λ (short : y.entry.rank < l.over.low). marked_same (masks_in m) (masks_in new) y (short_stays m new whole at up l h y (in_over y is) short) marked)
+              (λ (short : y.entry.rank < l.over.low). marked_same (masks_in m) (masks_in new) y (short_stays m new l h y (in_over y is) short) marked)
               (λ (there : HasHome y.entry.key y.entry.rank l.other). h.all y is there marked) home,
           λ late.
               let same : y.room.number ≡ at.number = eqb-true y.room.number at.number late in
@@ -217,37 +226,43 @@ module _ {V : Type 0} where
             let one : leaves_at at.number l.over.tree ≡ 1 = room.1 in absurd (omega arith);
       }
 
-  abbrev pub exchanged_whole : (m new : FinMap nat_cmp (Seen V)) (whole : Part m) (root : Node) (at up : Id) (l : IsLone m whole at up) (j : IsJoined m new whole at up l) → name_of whole.tree ≡ root
-      → Exchanged m new l.route.entry.key whole l.over (under_part m new whole at up l j) (root_after l.over.above (name_of l.other) root)
-  exchanged_whole m new whole root at up l j named =
-      subst (λ (r : Node). Exchanged m new l.route.entry.key whole l.over (under_part m new whole at up l j) (root_after l.over.above (name_of l.other) r)) named
-      (exchanged m new l.route.entry.key whole l.over l.ups (under_part m new whole at up l j) l.way l.top l.once (exchange m new whole at up l j))
+  abbrev pub exchanged_whole : (m new : Lodged V) (whole : Part m) {root : Node} (at up : Id) (l : IsLone m whole at up) (j : IsJoined m new whole at up l)
+      → name_of whole.tree ≡ root
+      → Exchanged m new l.route.entry.key whole l.over (under_part j) (root_after l.over.above (name_of l.other) root)
+  exchanged_whole m new whole at up l j named =
+      subst (λ (r : Node). Exchanged m new l.route.entry.key whole l.over (under_part j) (root_after l.over.above (name_of l.other) r)) named
+      (exchanged m new whole l.over l.ups l.way l.top l.once (exchange m new at up l j))
 
-  pub whole_joined : (m new : FinMap nat_cmp (Seen V)) (root : Node) (at up : Id) (w : IsWholeBut m root (late_at at.number) nobody_out) (l : IsLone m w.part at up) → IsJoined m new w.part at up l
-      → IsHanded m new l.over.low l.over.tree l.other → masks_in m at.number ≡ None → IsWholeBut new (root_after l.over.above (name_of l.other) root) nobody_late (out_at at.number)
-  whole_joined m new root at up w l j h unmarked =
-      let e = exchanged_whole m new w.part root at up l j w.named in
-      whole_changed m new root (root_after l.over.above (name_of l.other) root) (late_at at.number) nobody_late nobody_out (out_at at.number) l.route.entry.key w l.over (under_part m new w.part at up l j) e
-      (fits m new w.part at up l j h unmarked)
-      (spare_changed m new root (root_after l.over.above (name_of l.other) root) (late_at at.number) nobody_out l.route.entry.key w l.over (under_part m new w.part at up l j) e
-      (λ spare. spare_same (bits_in m) (bits_in new) l.other (λ y is none. idle_stays m new w.part at up l j y.room.number none) (side_spare l.route.entry.key l.over.tree up l.bit (leaf l.route []) l.other (bits_in m) l.sides spare))
-      (λ n none some idle. idle_stays m new w.part at up l j n idle))
+  pub whole_joined : {m new : Lodged V} {root : Node} (at up : Id) (w : IsWholeBut m root (late_at at.number) nobody_out) (l : IsLone m w.part at up)
+      → IsJoined m new w.part at up l
+      → IsHanded m new l.over.low l.over.tree l.other → masks_in m at.number ≡ None
+      → IsWholeBut new (root_after l.over.above (name_of l.other) root) nobody_late (out_at at.number)
+  whole_joined {m = m} {new = new} at up w l j h unmarked =
+      let e = exchanged_whole m new w.part at up l j w.named in
+      whole_changed m new w e
+      (fits m new at up l j h unmarked)
+      (spare_changed m new w e
+      (λ spare. spare_same (bits_in m) (bits_in new) l.other (λ y is none. idle_stays l j y.room.number none) (side_spare l.other (bits_in m) l.sides spare))
+      (λ n none some idle. idle_stays l j n idle))
 
-  pub routes_joined : (m new : FinMap nat_cmp (Seen V)) (root : Node) (at up : Id) (w : IsWholeBut m root (late_at at.number) nobody_out) (l : IsLone m w.part at up) → IsJoined m new w.part at up l
-      → (p : LeafPart V) → leaves_in m at.number ≡ Some p → Gains (shown_entry p) (shown new (Some (root_after l.over.above (name_of l.other) root))) (shown m (Some root))
-  routes_joined m new root at up w l j p said =
-      let e = exchanged_whole m new w.part root at up l j w.named in
-      let is : p ≡ leaf_part l.route (Some up) None None = inside (sym said ∙ lone_said m w.part at up l) in
+  pub routes_joined : {m new : Lodged V} (root : Node) (at up : Id) (w : IsWholeBut m root (late_at at.number) nobody_out) (l : IsLone m w.part at up)
+      → IsJoined m new w.part at up l
+      → (p : LeafPart V) → leaves_in m at.number ≡ Some p → Gains (shown_entry p) (shown new (Some (root_after l.over.above (name_of l.other) root)))
+      (shown m (Some root))
+  routes_joined {m = m} {new = new} root at up w l j p said =
+      let e = exchanged_whole m new w.part at up l j w.named in
+      let is : p ≡ leaf_part l.route (Some up) None None = inside (sym said ∙ lone_said m at up l) in
       subst (λ (q : LeafPart V). Gains (shown_entry q) (shown new (Some (root_after l.over.above (name_of l.other) root))) (shown m (Some root))) (sym is)
-      (loses_spliced l.route.entry (shown m (Some root)) (shown new (Some (root_after l.over.above (name_of l.other) root))) (routes_of l.over.tree) (routes_of l.other)
-      (routes_changed m new root (root_after l.over.above (name_of l.other) root) (late_at at.number) nobody_out l.route.entry.key w l.over (under_part m new w.part at up l j) e)
-      (side_gains l.route.entry.key l.over.tree up l.bit l.route l.other l.sides))
+      (loses_spliced
+      (routes_changed w e)
+      (side_gains l.route l.other l.sides))
 
   -- the leaf of the route that goes stays as it is
-  pub own_leaf : (m new : FinMap nat_cmp (Seen V)) (whole : Part m) (at up : Id) (l : IsLone m whole at up) → IsJoined m new whole at up l → leaves_in new at.number ≡ leaves_in m at.number
-  own_leaf m new whole at up l j =
+  pub own_leaf : {m new : Lodged V} {whole : Part m} (at up : Id) (l : IsLone m whole at up) → IsJoined m new whole at up l
+      → leaves_in new at.number ≡ leaves_in m at.number
+  own_leaf {m = m} at up l j =
       j.leaves at.number
       ∙ misses_leaf (name_of l.other) at.number (λ r is same.
       let there : 1 ≤ leaves_at r.number l.other = named_leaf l.other r is in
       let here : leaves_at at.number l.other ≡ leaves_at r.number l.other = ap (λ (k : ℕ). leaves_at k l.other) same in
-      let none : leaves_at at.number l.other ≡ 0 = (own_room m whole at up l).0 in absurd (omega arith)) l.over.above (leaves_in m at.number)
+      let none : leaves_at at.number l.other ≡ 0 = (own_room m at up l).0 in absurd (omega arith)) l.over.above (leaves_in m at.number)

@@ -1,23 +1,10 @@
 -- What a table's rooms show is found by its searches.
 use Rattle.std.proofs.Common.{◌≡◌, ℕ, ◌+◌, ◌≤◌, ◌==◌, Bool, true, false, cond, not, List, [], ◌∷◌, Option, Some, None, refl, sym, ap, ◌∙◌, subst, inl, arith}
-use Rattle.std.specs.Prelude.{Contains, IsSome, is_some}
-use Rattle.std.specs.List.{AllByRecursion}
+use Rattle.std.specs.Prelude.{IsSome}
 use Rattle.std.proofs.lemmas.Bool.{eq-eqb, eqb-true, not-false}
-use Rattle.std.specs.Ordering.{nat_cmp}
-use Rattle.std.specs.FinMap.{FinMap, get}
-use Rattle.radix_nodes.specs.Rooms.{Seen, Rooms, Has}
-use Rattle.radix_nodes.specs.Links.{leaf_of}
-use Rattle.radix_nodes.specs.declared.id.Id.{Id}
-use Rattle.radix_nodes.specs.declared.links.Leaf.{Leaf}
-use Rattle.radix_nodes.specs.declared.links.Links.{Links}
-use Rattle.radix_nodes.specs.declared.links.Node.{Node}
-use Rattle.radix_tree.specs.Table.{Contents, IsTable, entry_at, first_of}
-use Rattle.radix_tree.specs.Tree.{Placed, IsAmong, IsIn, IsChain, routes_of}
-use Rattle.radix_tree.specs.Rooms.{LeafPart, Part, leaves_in, bits_in, leaf_part}
-use Rattle.radix_tree.specs.Searches.{Tells, Finds, HasPair, In, LeafAt, LedTo}
-use Rattle.radix_tree.specs.Kept.{contents}
-use Rattle.radix_tree.specs.Whole.{shown, shown_entry, IsWhole, Holds}
-use Rattle.radix_tree.specs.declared.entry.Entry.{Entry}
+use Rattle.radix_tree.proofs.Words.{Contains, is_some, AllByRecursion, get, Seen, Rooms, Has, leaf_of, Id, Leaf, Links, Node, Contents, IsTable, entry_at}
+use Rattle.radix_tree.proofs.Words.{first_of, Placed, IsAmong, IsIn, IsChain, routes_of, LeafPart, Part, leaves_in, bits_in, leaf_part, Tells, Finds, HasPair}
+use Rattle.radix_tree.proofs.Words.{In, LeafAt, LedTo, contents, shown, shown_entry, IsWhole, Holds, Entry, Lodged}
 use Rattle.radix_tree.proofs.RoomReads.{inside, none_some, AreLinks, Has-leaf, leaf_read, value_read}
 use Rattle.radix_tree.proofs.TreeMembers.{tree_said, chain_key, first_greatest}
 use Rattle.radix_tree.proofs.TreeOrder.{tree_is_table}
@@ -35,31 +22,32 @@ true_false : true ≡ false → ⊥
 true_false e = cc
 
 -- what a comparison tells
-pub differ : (a b : ℕ) (t : Bool) → t ≡ not (a == b) → t ≡ true → a ≡ b → ⊥
-differ a b t is holds e = true_false (sym holds ∙ is ∙ ap not (eq-eqb a b e))
+pub differ : (a b : ℕ) {t : Bool} → t ≡ not (a == b) → t ≡ true → a ≡ b → ⊥
+differ a b is holds e = true_false (sym holds ∙ is ∙ ap not (eq-eqb a b e))
 
-pub agree : (a b : ℕ) (t : Bool) → t ≡ not (a == b) → t ≡ false → a ≡ b
-agree a b t is fails = eqb-true a b (not-false (a == b) (sym is ∙ fails))
+pub agree : (a b : ℕ) {t : Bool} → t ≡ not (a == b) → t ≡ false → a ≡ b
+agree a b is fails = eqb-true a b (not-false (a == b) (sym is ∙ fails))
 
-pub entry_make : {V : Type 0} (key rank : ℕ) (value : V) (e : Entry V) → key ≡ e.key → rank ≡ e.rank → value ≡ e.value → record { key = key; rank = rank; value = value } ≡ e
+pub entry_make : {V : Type 0} (key rank : ℕ) (value : V) (e : Entry V) → key ≡ e.key → rank ≡ e.rank → value ≡ e.value
+    → record { key = key; rank = rank; value = value } ≡ e
 entry_make {V} key rank value e k r v =
     let make : ℕ → ℕ → V → Entry V = λ k r v. record { key = k; rank = r; value = v } in
     ap (λ (k : ℕ). make k rank value) k ∙ ap (λ (r : ℕ). make e.key r value) r ∙ ap (λ (v : V). make e.key e.rank v) v
 
 module _ {V : Type 0} where
-  pub shown_table : (m : FinMap nat_cmp (Seen V)) (root : Option Node) → Holds m root → IsTable (shown m root)
+  pub shown_table : (m : Lodged V) (root : Option Node) → Holds m root → IsTable (shown m root)
   shown_table m None holds = tt
-  shown_table m (Some root) w = subst (λ (es : List (Entry V)). IsTable es) (sym (shown_is m root w)) (tree_is_table w.part.low w.part.tree w.part.is)
+  shown_table m (Some root) w = subst (λ (es : List (Entry V)). IsTable es) (sym (shown_is w)) (tree_is_table w.part.low w.part.tree w.part.is)
 
   -- what a route's room says
-  pub record IsSaid (m : FinMap nat_cmp (Seen V)) (room : Id) (x : Placed V) : Type 0 where
+  pub record IsSaid (m : Lodged V) (room : Id) (x : Placed V) : Type 0 where
     pub part : LeafPart V
     pub at : leaves_in m room.number ≡ Some part
     pub block : part.block ≡ room.block
     pub entry : shown_entry part ≡ x.entry
 
-  pub said_of : (m : FinMap nat_cmp (Seen V)) (p : Part m) (room : Id) (x : Placed V) → IsIn x p.tree → x.room ≡ room → IsSaid m room x
-  said_of m p room x at room_is =
+  pub said_of : (m : Lodged V) (p : Part m) {room : Id} (x : Placed V) → IsIn x p.tree → x.room ≡ room → IsSaid m room x
+  said_of m p x at room_is =
       let said = tree_said (leaves_in m) (bits_in m) p.above p.tree p.stands x at in
       record {
         part = leaf_part x said.0 said.1 said.2;
@@ -70,91 +58,100 @@ module _ {V : Type 0} where
 
   -- ---- a pair
   -- the room in which the pair was found
-  pub record IsFound (m : FinMap nat_cmp (Seen V)) (root : Node) (key rank : ℕ) (room : Id) : Type 0 where
+  pub record IsFound (m : Lodged V) (root : Node) (key rank : ℕ) (room : Id) : Type 0 where
     pub route : Placed V
     pub said : IsSaid m room route
     pub has : HasPair key rank route
     pub entry : entry_at key rank (shown m (Some root)) ≡ Some route.entry
 
-  pub Has-found : (m : FinMap nat_cmp (Seen V)) (root : Node) (key rank : ℕ) (room : Id) → IsFound m root key rank room → Has m room
-  Has-found m root key rank room f = Has-leaf m room f.said.part f.said.at f.said.block
+  pub Has-found : (m : Lodged V) {root : Node} {key rank : ℕ} {room : Id} → IsFound m root key rank room → Has m room
+  Has-found m {room = room} f = Has-leaf m room f.said.at f.said.block
 
-  stands_at : (es : List (Entry V)) (key rank : ℕ) (e : Entry V) → entry_at e.key e.rank es ≡ Some e → e.key ≡ key → e.rank ≡ rank → entry_at key rank es ≡ Some e
-  stands_at es key rank e stands k r = ap (λ (k : ℕ). entry_at k rank es) (sym k) ∙ ap (λ (r : ℕ). entry_at e.key r es) (sym r) ∙ stands
+  stands_at : (es : List (Entry V)) {key rank : ℕ} {e : Entry V} → entry_at e.key e.rank es ≡ Some e → e.key ≡ key → e.rank ≡ rank
+      → entry_at key rank es ≡ Some e
+  stands_at es {rank = rank} {e = e} stands k r = ap (λ (k : ℕ). entry_at k rank es) (sym k) ∙ ap (λ (r : ℕ). entry_at e.key r es) (sym r) ∙ stands
 
-  pub found : (m : FinMap nat_cmp (Seen V)) (root : Node) (w : IsWhole m root) (key rank : ℕ) (o : Option Id) (room : Id) → o ≡ Some room → Tells (Finds (HasPair key rank) (In w.part)) o → IsFound m root key rank room
-  found m root w key rank o room some tells =
+  pub found : {m : Lodged V} {root : Node} (w : IsWhole m root) (key rank : ℕ) {o : Option Id} {room : Id} → o ≡ Some room
+      → Tells (Finds (HasPair key rank) (In w.part)) o → IsFound m root key rank room
+  found {m = m} w key rank {o = o} some tells =
       let told = subst (λ (o : Option Id). Tells (Finds (HasPair key rank) (In w.part)) o) some tells in
       record {
         route = told.0;
-        said = said_of m w.part room told.0 told.2.0 told.1;
+        said = said_of m w.part told.0 told.2.0 told.1;
         has = told.2.1;
-        entry = ap (λ (es : List (Entry V)). entry_at key rank es) (shown_is m root w)
-            ∙ stands_at (routes_of w.part.tree) key rank told.0.entry (stands_in w.part.low w.part.tree w.part.is told.0 told.2.0) told.2.1.0 told.2.1.1;
+        entry = ap (λ (es : List (Entry V)). entry_at key rank es) (shown_is w)
+            ∙ stands_at (routes_of w.part.tree) (stands_in w.part.low w.part.tree w.part.is told.0 told.2.0) told.2.1.0 told.2.1.1;
       }
 
-  pub not_found : (m : FinMap nat_cmp (Seen V)) (root : Node) (w : IsWhole m root) (key rank : ℕ) (o : Option Id) → o ≡ None → Tells (Finds (HasPair key rank) (In w.part)) o → entry_at key rank (shown m (Some root)) ≡ None
-  not_found m root w key rank o none tells =
+  pub not_found : {m : Lodged V} {root : Node} (w : IsWhole m root) (key rank : ℕ) {o : Option Id} → o ≡ None → Tells (Finds (HasPair key rank) (In w.part)) o
+      → entry_at key rank (shown m (Some root)) ≡ None
+  not_found {m = m} {root = root} w key rank {o = o} none tells =
       let told = subst (λ (o : Option Id). Tells (Finds (HasPair key rank) (In w.part)) o) none tells in
       is_none (entry_at key rank (shown m (Some root))) (λ e is.
-      let member = entry_at_is_member key rank (routes_of w.part.tree) e (ap (λ (es : List (Entry V)). entry_at key rank es) (sym (shown_is m root w)) ∙ is) in
+      let member = entry_at_is_member key rank (routes_of w.part.tree) e (ap (λ (es : List (Entry V)). entry_at key rank es) (sym (shown_is w)) ∙ is) in
       let of = member_of w.part.tree e member.0 in
       told of.0 of.1 (ap (λ (e : Entry V). e.key) of.2 ∙ member.1.0, ap (λ (e : Entry V). e.rank) of.2 ∙ member.1.1))
 
   -- its value
-  pub value_found : (m : FinMap nat_cmp (Seen V)) (root : Node) (key rank : ℕ) (room : Id) (f : IsFound m root key rank room) (value : V)
-      → ((s : Seen V) → get m room.number ≡ Some s → value ≡ s.value) → Some (record { key = key; rank = rank; value = value }) ≡ entry_at key rank (shown m (Some root))
-  value_found m root key rank room f value is =
+  pub value_found : {m : Lodged V} {root : Node} {key rank : ℕ} {room : Id} (f : IsFound m root key rank room) (value : V)
+      → ((s : Seen V) → get m room.number ≡ Some s → value ≡ s.value) → Some (record { key = key; rank = rank; value = value })
+      ≡ entry_at key rank (shown m (Some root))
+  value_found {m = m} {key = key} {rank = rank} {room = room} f value is =
       let x = f.route.entry in
       ap (λ (e : Entry V). Some e) (entry_make key rank value x (sym f.has.0) (sym f.has.1)
-      (value_read m room f.said.part value f.said.at f.said.block is ∙ ap (λ (e : Entry V). e.value) f.said.entry))
+      (value_read m room value f.said.at f.said.block is ∙ ap (λ (e : Entry V). e.value) f.said.entry))
       ∙ sym f.entry
 
   -- ---- the first route of a key
-  pub Has-led : (m : FinMap nat_cmp (Seen V)) (address : ℕ) (whole : Part m) (room : Id) → LedTo address whole room → Has m room
-  Has-led m address whole room l =
-      let s = said_of m l.part room l.leaf.first (in_leaf m l.part room l.leaf l.leaf.first (inl refl)) l.leaf.room_is in Has-leaf m room s.part s.at s.block
+  pub Has-led : (m : Lodged V) {address : ℕ} {whole : Part m} {room : Id} → LedTo address whole room → Has m room
+  Has-led m {room = room} l =
+      let s = said_of m l.part l.leaf.first (in_leaf m l.leaf l.leaf.first (inl refl)) l.leaf.room_is in Has-leaf m room s.at s.block
 
-  pub led_first : (m : FinMap nat_cmp (Seen V)) (address : ℕ) (whole : Part m) (room : Id) (l : LedTo address whole room) → IsSaid m room l.leaf.first
-  led_first m address whole room l = said_of m l.part room l.leaf.first (in_leaf m l.part room l.leaf l.leaf.first (inl refl)) l.leaf.room_is
+  pub led_first : (m : Lodged V) {address : ℕ} {whole : Part m} {room : Id} (l : LedTo address whole room) → IsSaid m room l.leaf.first
+  led_first m l = said_of m l.part l.leaf.first (in_leaf m l.leaf l.leaf.first (inl refl)) l.leaf.room_is
 
-  led_inside : (m : FinMap nat_cmp (Seen V)) (key : ℕ) (whole : Part m) (room : Id) (l : LedTo key whole room) → IsIn l.leaf.first whole.tree
-  led_inside m key whole room l = way_inside m key whole l.part l.ups l.way l.leaf.first (in_leaf m l.part room l.leaf l.leaf.first (inl refl))
+  led_inside : (m : Lodged V) (key : ℕ) (whole : Part m) {room : Id} (l : LedTo key whole room) → IsIn l.leaf.first whole.tree
+  led_inside m key whole l = way_inside m key whole l.part l.ups l.way l.leaf.first (in_leaf m l.leaf l.leaf.first (inl refl))
 
-  pub leaf_is : (m : FinMap nat_cmp (Seen V)) (room : Id) (x : Placed V) (s : IsSaid m room x) (links : Links) (l : Leaf) → AreLinks m room links → l ≡ leaf_of links → (l.key ≡ x.entry.key) × (l.rank ≡ x.entry.rank)
-  leaf_is m room x s links l are leaf =
-      let read = leaf ∙ leaf_read m room s.part links s.at s.block are in (
+  pub leaf_is : (m : Lodged V) (room : Id) {x : Placed V} (s : IsSaid m room x) (links : Links) {l : Leaf} → AreLinks m room links → l ≡ leaf_of links
+      → (l.key ≡ x.entry.key) × (l.rank ≡ x.entry.rank)
+  leaf_is m room s links are leaf =
+      let read = leaf ∙ leaf_read m room links s.at s.block are in (
         ap (λ (z : Leaf). z.key) read ∙ ap (λ (e : Entry V). e.key) s.entry,
         ap (λ (z : Leaf). z.rank) read ∙ ap (λ (e : Entry V). e.rank) s.entry,
       )
 
-  pub leaf_key : (m : FinMap nat_cmp (Seen V)) (address : ℕ) (whole : Part m) (room : Id) (d : LedTo address whole room) (links : Links) (l : Leaf) → AreLinks m room links → l ≡ leaf_of links → l.key ≡ d.leaf.first.entry.key
-  leaf_key m address whole room d links l are leaf = (leaf_is m room d.leaf.first (led_first m address whole room d) links l are leaf).0
+  pub leaf_key : (m : Lodged V) {address : ℕ} {whole : Part m} {room : Id} (d : LedTo address whole room) (links : Links) {l : Leaf} → AreLinks m room links
+      → l ≡ leaf_of links → l.key ≡ d.leaf.first.entry.key
+  leaf_key m {room = room} d links are leaf = (leaf_is m room (led_first m d) links are leaf).0
 
   -- each route of the key is of the chain to which it leads
-  of_chain : (m : FinMap nat_cmp (Seen V)) (key : ℕ) (whole : Part m) (room : Id) (l : LedTo key whole room) (y : Placed V) → IsIn y whole.tree → y.entry.key ≡ key → IsAmong y (l.leaf.first ∷ l.leaf.rest)
-  of_chain m key whole room l y at is = among_leaf m l.part room l.leaf y (way_leads m key whole l.part l.ups l.way y at is)
+  of_chain : (m : Lodged V) {key : ℕ} (whole : Part m) {room : Id} (l : LedTo key whole room) (y : Placed V) → IsIn y whole.tree → y.entry.key ≡ key
+      → IsAmong y (l.leaf.first ∷ l.leaf.rest)
+  of_chain m whole l y at is = among_leaf m l.leaf y (way_leads m whole l.part l.ups l.way y at is)
 
-  same_of_pair : (es : List (Entry V)) (e f : Entry V) → entry_at e.key e.rank es ≡ Some e → entry_at f.key f.rank es ≡ Some f → e.key ≡ f.key → e.rank ≡ f.rank → e ≡ f
-  same_of_pair es e f at_e at_f k r = inside (sym (stands_at es f.key f.rank e at_e k r) ∙ at_f)
+  same_of_pair : (es : List (Entry V)) (e f : Entry V) → entry_at e.key e.rank es ≡ Some e → entry_at f.key f.rank es ≡ Some f → e.key ≡ f.key
+      → e.rank ≡ f.rank → e ≡ f
+  same_of_pair es e f at_e at_f k r = inside (sym (stands_at es at_e k r) ∙ at_f)
 
-  chain_of : (m : FinMap nat_cmp (Seen V)) (p : Part m) (room : Id) (f : LeafAt p room) → IsChain f.first.entry.key 34 (f.first ∷ f.rest)
-  chain_of m p room f = (leaf_run m p room f).is
+  chain_of : (m : Lodged V) {p : Part m} {room : Id} (f : LeafAt p room) → IsChain f.first.entry.key 34 (f.first ∷ f.rest)
+  chain_of m f = (leaf_run m f).is
 
   -- the first route of the key is the first of that chain
-  some_first : (m : FinMap nat_cmp (Seen V)) (root : Node) (w : IsWhole m root) (key : ℕ) (room : Id) (l : LedTo key w.part room) (e : Entry V) → first_of key (routes_of w.part.tree) ≡ Some e
+  some_first : (m : Lodged V) {root : Node} (w : IsWhole m root) (key : ℕ) {room : Id} (l : LedTo key w.part room) (e : Entry V)
+      → first_of key (routes_of w.part.tree) ≡ Some e
       → (l.leaf.first.entry.key ≡ key) × (e ≡ l.leaf.first.entry)
-  some_first m root w key room l e is =
+  some_first m w key l e is =
       let es = routes_of w.part.tree in
       let x = l.leaf.first in
       let table = tree_is_table w.part.low w.part.tree w.part.is in
-      let chain = chain_of m l.part room l.leaf in
+      let chain = chain_of m l.leaf in
       let member = first_of_is_member key es e is in
       let of = member_of w.part.tree e member.0 in
-      let own = of_chain m key w.part room l of.0 of.1 (ap (λ (e : Entry V). e.key) of.2 ∙ member.1) in
+      let own = of_chain m w.part l of.0 of.1 (ap (λ (e : Entry V). e.key) of.2 ∙ member.1) in
       let same : of.0.entry.key ≡ x.entry.key = chain_key x.entry.key 34 (x ∷ l.leaf.rest) chain of.0 own in
       let key_is : x.entry.key ≡ key = sym same ∙ ap (λ (e : Entry V). e.key) of.2 ∙ member.1 in
-      let stands = stands_in w.part.low w.part.tree w.part.is x (led_inside m key w.part room l) in
+      let stands = stands_in w.part.low w.part.tree w.part.is x (led_inside m key w.part l) in
       let low : of.0.entry.rank ≤ x.entry.rank = first_greatest x.entry.key 34 x l.leaf.rest chain of.0 own in
       let high : x.entry.rank ≤ e.rank = first_is_greatest key es e x.entry table is ((members_stand es x.entry table).0 stands) key_is in
       let rank : of.0.entry.rank ≡ e.rank = ap (λ (e : Entry V). e.rank) of.2 in
@@ -162,11 +159,12 @@ module _ {V : Type 0} where
       (key_is, same_of_pair es e x.entry ((members_stand es e table).1 member.0) stands (member.1 ∙ sym key_is) rank_is)
 
   -- where the chain's key is another, no route has the key
-  pub no_first : (m : FinMap nat_cmp (Seen V)) (root : Node) (w : IsWhole m root) (key : ℕ) (room : Id) (l : LedTo key w.part room) (links : Links) (leaf : Leaf) → AreLinks m room links → leaf ≡ leaf_of links
+  pub no_first : (m : Lodged V) (root : Node) (w : IsWhole m root) (key : ℕ) {room : Id} (l : LedTo key w.part room) (links : Links) (leaf : Leaf)
+      → AreLinks m room links → leaf ≡ leaf_of links
       → (leaf.key ≡ key → ⊥) → first_of key (shown m (Some root)) ≡ None
-  no_first m root w key room l links leaf are read differs =
-      is_none (first_of key (shown m (Some root))) (λ e is. differs ((leaf_is m room l.leaf.first (led_first m key w.part room l) links leaf are read).0
-      ∙ (some_first m root w key room l e (ap (λ (es : List (Entry V)). first_of key es) (sym (shown_is m root w)) ∙ is)).0))
+  no_first m root w key {room = room} l links leaf are read differs =
+      is_none (first_of key (shown m (Some root))) (λ e is. differs ((leaf_is m room (led_first m l) links are read).0
+      ∙ (some_first m w key l e (ap (λ (es : List (Entry V)). first_of key es) (sym (shown_is w)) ∙ is)).0))
 
   abbrev NoneOf : ℕ → List (Entry V) → Type 0
   NoneOf key es = AllByRecursion (λ (f : Entry V). (f.key == key) ≡ false) es
@@ -179,31 +177,36 @@ module _ {V : Type 0} where
         | false ↦ λ is rest. (is, none_of_key key es rest)
       ] refl none
 
-  first_is : (es : List (Entry V)) (key : ℕ) (x : Entry V) → Contains es x → x.key ≡ key → (o : Option (Entry V)) → first_of key es ≡ o → ((e : Entry V) → first_of key es ≡ Some e → e ≡ x) → o ≡ Some x
+  first_is : (es : List (Entry V)) (key : ℕ) (x : Entry V) → Contains es x → x.key ≡ key → (o : Option (Entry V)) → first_of key es ≡ o
+      → ((e : Entry V) → first_of key es ≡ Some e → e ≡ x) → o ≡ Some x
   first_is es key x member is None none own =
       absurd (true_false (sym (eq-eqb x.key key is) ∙ all_contains (λ (f : Entry V). (f.key == key) ≡ false) es x (none_of_key key es none) member))
   first_is es key x member is (Some e) some own = ap (λ (e : Entry V). Some e) (own e some)
 
-  pub first_found : (m : FinMap nat_cmp (Seen V)) (root : Node) (w : IsWhole m root) (key : ℕ) (room : Id) (l : LedTo key w.part room) (links : Links) (leaf : Leaf) (value : V) → AreLinks m room links → leaf ≡ leaf_of links
-      → ((s : Seen V) → get m room.number ≡ Some s → value ≡ s.value) → leaf.key ≡ key → first_of key (shown m (Some root)) ≡ Some (record { key = key; rank = leaf.rank; value = value })
-  first_found m root w key room l links leaf value are read is same =
+  pub first_found : (m : Lodged V) {root : Node} (w : IsWhole m root) (key : ℕ) {room : Id} (l : LedTo key w.part room) (links : Links) (leaf : Leaf)
+      (value : V) → AreLinks m room links → leaf ≡ leaf_of links
+      → ((s : Seen V) → get m room.number ≡ Some s → value ≡ s.value) → leaf.key ≡ key
+      → first_of key (shown m (Some root)) ≡ Some (record { key = key; rank = leaf.rank; value = value })
+  first_found m w key {room = room} l links leaf value are read is same =
       let es = routes_of w.part.tree in
       let x = l.leaf.first in
-      let said = led_first m key w.part room l in
-      let leaf_of_x = leaf_is m room x said links leaf are read in
+      let said = led_first m l in
+      let leaf_of_x = leaf_is m room said links are read in
       let key_is : x.entry.key ≡ key = sym leaf_of_x.0 ∙ same in
       let table = tree_is_table w.part.low w.part.tree w.part.is in
-      let member = (members_stand es x.entry table).0 (stands_in w.part.low w.part.tree w.part.is x (led_inside m key w.part room l)) in
-      ap (λ (es : List (Entry V)). first_of key es) (shown_is m root w)
-      ∙ first_is es key x.entry member key_is (first_of key es) refl (λ e some. (some_first m root w key room l e some).1)
-      ∙ ap (λ (e : Entry V). Some e) (sym (entry_make key leaf.rank value x.entry (sym key_is) leaf_of_x.1 (value_read m room said.part value said.at said.block is ∙ ap (λ (e : Entry V). e.value) said.entry)))
+      let member = (members_stand es x.entry table).0 (stands_in w.part.low w.part.tree w.part.is x (led_inside m key w.part l)) in
+      ap (λ (es : List (Entry V)). first_of key es) (shown_is w)
+      ∙ first_is es key x.entry member key_is (first_of key es) refl (λ e some. (some_first m w key l e some).1)
+      ∙ ap (λ (e : Entry V). Some e) (sym (entry_make key leaf.rank value x.entry (sym key_is) leaf_of_x.1
+      (value_read m room value said.at said.block is ∙ ap (λ (e : Entry V). e.value) said.entry)))
 
   -- ---- a table's own rooms
-  pub whole_at : (m : FinMap nat_cmp (Seen V)) (o : Option Node) (root : Node) → Holds m o → o ≡ Some root → IsWhole m root
-  whole_at m o root holds some = subst (Holds m) some holds
+  pub whole_at : (m : Lodged V) {o : Option Node} {root : Node} → Holds m o → o ≡ Some root → IsWhole m root
+  whole_at m holds some = subst (Holds m) some holds
 
-  pub entries_at : (nodes : Rooms V) (o : Option Node) (root : Node) (t : Contents V) → contents nodes o ≡ t → o ≡ Some root → shown nodes.lodged (Some root) ≡ t.entries
-  entries_at nodes o root t view some = ap (λ (o : Option Node). shown nodes.lodged o) (sym some) ∙ ap (λ (t : Contents V). t.entries) view
+  pub entries_at : (nodes : Rooms V) (o : Option Node) {root : Node} (t : Contents V) → contents nodes o ≡ t → o ≡ Some root
+      → shown nodes.lodged (Some root) ≡ t.entries
+  entries_at nodes o t view some = ap (λ (o : Option Node). shown nodes.lodged o) (sym some) ∙ ap (λ (t : Contents V). t.entries) view
 
   -- in the turn that begins next
   abbrev pub IsNext : Rooms V → Rooms V → Type 0
@@ -212,15 +215,17 @@ module _ {V : Type 0} where
   pub shown_next : (nodes next : Rooms V) (o : Option Node) (t : Contents V) → contents nodes o ≡ t → IsNext nodes next → shown next.lodged o ≡ t.entries
   shown_next nodes next o t view begins = ap (λ (r : Rooms V). shown r.lodged o) begins ∙ ap (λ (t : Contents V). t.entries) view
 
-  pub entries_next : (nodes next : Rooms V) (o : Option Node) (root : Node) (t : Contents V) → contents nodes o ≡ t → o ≡ Some root → IsNext nodes next → shown next.lodged (Some root) ≡ t.entries
-  entries_next nodes next o root t view some begins = ap (λ (o : Option Node). shown next.lodged o) (sym some) ∙ shown_next nodes next o t view begins
+  pub entries_next : (nodes next : Rooms V) {o : Option Node} {root : Node} (t : Contents V) → contents nodes o ≡ t → o ≡ Some root → IsNext nodes next
+      → shown next.lodged (Some root) ≡ t.entries
+  entries_next nodes next {o = o} t view some begins = ap (λ (o : Option Node). shown next.lodged o) (sym some) ∙ shown_next nodes next o t view begins
 
-  pub whole_next : (nodes next : Rooms V) (o : Option Node) (root : Node) → Holds nodes.lodged o → o ≡ Some root → IsNext nodes next → IsWhole next.lodged root
-  whole_next nodes next o root holds some begins =
-      subst (λ (r : Rooms V). IsWhole r.lodged root) (sym begins) (whole_at nodes.lodged o root holds some)
+  pub whole_next : (nodes next : Rooms V) {o : Option Node} {root : Node} → Holds nodes.lodged o → o ≡ Some root → IsNext nodes next → IsWhole next.lodged root
+  whole_next nodes next {root = root} holds some begins =
+      subst (λ (r : Rooms V). IsWhole r.lodged root) (sym begins) (whole_at nodes.lodged holds some)
 
   -- a pair whose route is in the tree is there
-  pub pair_there : (m : FinMap nat_cmp (Seen V)) (root : Node) (w : IsWhole m root) (key rank : ℕ) (x : Placed V) → IsIn x w.part.tree → HasPair key rank x → IsSome (entry_at key rank (shown m (Some root)))
-  pair_there m root w key rank x at has =
-      ap (λ (o : Option (Entry V)). is_some o) (ap (λ (es : List (Entry V)). entry_at key rank es) (shown_is m root w)
-      ∙ stands_at (routes_of w.part.tree) key rank x.entry (stands_in w.part.low w.part.tree w.part.is x at) has.0 has.1)
+  pub pair_there : {m : Lodged V} {root : Node} (w : IsWhole m root) (key rank : ℕ) (x : Placed V) → IsIn x w.part.tree → HasPair key rank x
+      → IsSome (entry_at key rank (shown m (Some root)))
+  pair_there w key rank x at has =
+      ap (λ (o : Option (Entry V)). is_some o) (ap (λ (es : List (Entry V)). entry_at key rank es) (shown_is w)
+      ∙ stands_at (routes_of w.part.tree) (stands_in w.part.low w.part.tree w.part.is x at) has.0 has.1)

@@ -1,33 +1,36 @@
 -- The laws of a table: those of its best routes, and of putting an entry in and taking it out.
 use Rattle.std.proofs.Common.{◌≡◌, ℕ, ◌*◌, ◌-◌, ◌^◌, ◌≤◌, true, false, cond, filter, List, [], ◌∷◌, Option, Some, None, refl, sym, ◌∙◌, ap, inl, inr, arith}
-use Rattle.std.specs.Prelude.{IfSome, option_map}
+use Rattle.std.specs.Prelude.{IfSome}
 use Rattle.std.specs.Borrow.{Bor}
 use Rattle.std.proofs.lemmas.Bool.{cases_lt}
 use Rattle.std.proofs.lemmas.Bool.Decides.{nat_tests}
 use Rattle.std.proofs.lemmas.List.{append-nil}
 use Rattle.std.proofs.lemmas.List.Elements.{filter-append}
-use Rattle.mask_table.specs.Agreeing.{agrees, masked, front}
-use Rattle.radix_tree.specs.Table.{precedes, IsRoute, IsTable, has_pair, entry_at, without, with_entry, agreeing, greater, greatest, best_of}
-use Rattle.radix_tree.specs.TableLaws.{AreOnePair, StandsIn, Agrees, IsBest, BestIsGreatest, BestIsUnique, NoneAgrees, BestStays, BestIsGreater, BestStaysWithout, WithThenWithout, WithoutThenWith, WithTwiceIsLast}
-use Rattle.radix_tree.specs.Found.{routed}
-use Rattle.radix_tree.specs.declared.entry.Entry.{Entry}
+use Rattle.radix_tree.proofs.Words.{option_map, agrees, masked, front, precedes, IsRoute, IsTable, has_pair, entry_at, without, with_entry, agreeing, greater}
+use Rattle.radix_tree.proofs.Words.{greatest, best_of, AreOnePair, StandsIn, Agrees, IsBest, BestIsGreatest, BestIsUnique, NoneAgrees, BestStays, BestIsGreater}
+use Rattle.radix_tree.proofs.Words.{BestStaysWithout, WithThenWithout, WithoutThenWith, WithTwiceIsLast, routed, Entry}
 use Rattle.radix_tree.proofs.ListLemmas.{filter_filter}
-use Rattle.radix_tree.proofs.OrderLemmas.{own_pair, precedes_one_way}
+use Rattle.radix_tree.proofs.OrderLemmas.{own_pair}
 use Rattle.radix_tree.proofs.TableLemmas.{later, same, sooner, with_later, with_parts, without_absent, without_is_table}
 use Rattle.radix_tree.proofs.MemberLemmas.{best_is_member, members_stand, members_are_routes, members_of_without, without_keeps}
 pub use Rattle.radix_tree.proofs.OrderLemmas.{precedes_in_words, precedes_one_way, precedes_transitively, precedes_or_same}
 pub use Rattle.radix_tree.proofs.TableLemmas.{with_is_table, without_is_table}
-pub use Rattle.radix_tree.proofs.MemberLemmas.{members_stand, members_are_routes, entry_at_is_member, first_of_is_member, best_is_member, first_is_greatest, with_stands, with_keeps_others, without_leaves_none, without_keeps_others, members_of_with, members_of_without, with_counts, without_counts}
+pub use Rattle.radix_tree.proofs.MemberLemmas.{members_stand, members_are_routes, entry_at_is_member, first_of_is_member, best_is_member, first_is_greatest}
+pub use Rattle.radix_tree.proofs.MemberLemmas.{with_stands, with_keeps_others, without_leaves_none, without_keeps_others, members_of_with, members_of_without}
+pub use Rattle.radix_tree.proofs.MemberLemmas.{with_counts, without_counts}
 
 -- the best with an entry before that the address agrees with, or not
-best_here : {V : Type 0} (address : ℕ) (x : Entry V) (xs : List (Entry V)) → agrees x.rank x.key address ≡ true → best_of address (x ∷ xs) ≡ greater x (best_of address xs)
+best_here : {V : Type 0} (address : ℕ) (x : Entry V) (xs : List (Entry V)) → agrees x.rank x.key address ≡ true
+    → best_of address (x ∷ xs) ≡ greater x (best_of address xs)
 best_here address x xs h = ap (λ b. greatest (cond b (x ∷ agreeing address xs) (agreeing address xs))) h
 
-best_behind : {V : Type 0} (address : ℕ) (x : Entry V) (xs : List (Entry V)) → agrees x.rank x.key address ≡ false → best_of address (x ∷ xs) ≡ best_of address xs
+best_behind : {V : Type 0} (address : ℕ) (x : Entry V) (xs : List (Entry V)) → agrees x.rank x.key address ≡ false
+    → best_of address (x ∷ xs) ≡ best_of address xs
 best_behind address x xs h = ap (λ b. greatest (cond b (x ∷ agreeing address xs) (agreeing address xs))) h
 
 -- the greater of two is of no lesser rank than either
-greater_least : {V : Type 0} (x : Entry V) (m : Option (Entry V)) → (f : Entry V) × (greater x m ≡ Some f) × (x.rank ≤ f.rank) × ((y : Entry V) → m ≡ Some y → y.rank ≤ f.rank)
+greater_least : {V : Type 0} (x : Entry V) (m : Option (Entry V)) → (f : Entry V) × (greater x m ≡ Some f) × (x.rank ≤ f.rank)
+    × ((y : Entry V) → m ≡ Some y → y.rank ≤ f.rank)
 greater_least x None = (x, refl, omega arith, λ y k. cc)
 greater_least x (Some f) = elim (cases_lt x.rank f.rank) [
   | inl h ↦ (f, grind (arith, nat_tests), omega arith, λ y k. (let is : y ≡ f = cc in rw is (omega arith)))
@@ -39,11 +42,13 @@ best_reaches : {V : Type 0} (address : ℕ) (es : List (Entry V)) (o : Entry V) 
     → (f : Entry V) × (best_of address es ≡ Some f) × (o.rank ≤ f.rank)
 best_reaches address [] o h a = cc
 best_reaches {V} address (x ∷ xs) o h a =
-    elim (has_pair o.key o.rank x) as (λ b. cond b (Some x) (entry_at o.key o.rank xs) ≡ Some o → (f : Entry V) × (best_of address (x ∷ xs) ≡ Some f) × (o.rank ≤ f.rank)) [
+    elim (has_pair o.key o.rank x) as (λ b. cond b (Some x) (entry_at o.key o.rank xs) ≡ Some o
+    → (f : Entry V) × (best_of address (x ∷ xs) ≡ Some f) × (o.rank ≤ f.rank)) [
       | true ↦ λ k. (let is : o ≡ x = cc in let b : agrees x.rank x.key address ≡ true = rw (← is) a in
           let least = greater_least x (best_of address xs) in (least.0, best_here address x xs b ∙ least.1, rw is least.2))
       | false ↦ λ k. (let behind = best_reaches address xs o k a in
-          elim (agrees x.rank x.key address) as (λ b. agrees x.rank x.key address ≡ b → (f : Entry V) × (best_of address (x ∷ xs) ≡ Some f) × (o.rank ≤ f.rank)) [
+          elim (agrees x.rank x.key address) as (λ b. agrees x.rank x.key address ≡ b
+          → (f : Entry V) × (best_of address (x ∷ xs) ≡ Some f) × (o.rank ≤ f.rank)) [
             | true ↦ λ b. (let least = greater_least x (best_of address xs) in
                 let more : behind.0.rank ≤ least.0.rank = least.3 behind.0 behind.1 in
                 (least.0, best_here address x xs b ∙ least.1, omega (arith, more, behind.2)))
@@ -58,7 +63,9 @@ best_is_greatest address entries e r h =
     record {
       stands = (members_stand entries e r).1 member.0;
       agrees = member.1;
-      greatest = λ o s a. (let reached = best_reaches address entries o s a in let is : reached.0 ≡ e = (let both : Some reached.0 ≡ Some e = sym reached.1 ∙ h in cc) in rw (← is) reached.2);
+      greatest =
+          λ o s a. (let reached = best_reaches address entries o s a in let is : reached.0 ≡ e =
+          (let both : Some reached.0 ≡ Some e = sym reached.1 ∙ h in cc) in rw (← is) reached.2);
     }
 
 -- so what is answered as the best route stands in the table
@@ -131,11 +138,14 @@ pub best_is_greater : {V : Type 0} → BestIsGreater V
 best_is_greater address [] e r route a = rw a refl
 best_is_greater address (x ∷ xs) e r route a = elim (with_parts e x xs r) [
   | later p n is ↦ rw is (
-      elim (agrees x.rank x.key address) as (λ b. agrees x.rank x.key address ≡ b → best_of address (x ∷ with_entry e xs) ≡ greater e (best_of address (x ∷ xs))) [
+      elim (agrees x.rank x.key address) as (λ b. agrees x.rank x.key address ≡ b
+      → best_of address (x ∷ with_entry e xs) ≡ greater e (best_of address (x ∷ xs))) [
         | true ↦ λ b. (
             let apart : x.rank ≡ e.rank → ⊥ = λ ranks. (let keys = same_key address x e r.0 route b a ranks in grind (arith, nat_tests)) in
-            best_here address x (with_entry e xs) b ∙ (ap (greater x) (best_is_greater address xs e r.2 route a) ∙ (greater_swap e x (best_of address xs) apart ∙ ap (greater e) (sym (best_here address x xs b)))))
-        | false ↦ λ b. best_behind address x (with_entry e xs) b ∙ (best_is_greater address xs e r.2 route a ∙ ap (greater e) (sym (best_behind address x xs b)))
+            best_here address x (with_entry e xs) b ∙ (ap (greater x) (best_is_greater address xs e r.2 route a)
+            ∙ (greater_swap e x (best_of address xs) apart ∙ ap (greater e) (sym (best_here address x xs b)))))
+        | false ↦ λ b. best_behind address x (with_entry e xs) b ∙ (best_is_greater address xs e r.2 route a
+            ∙ ap (greater e) (sym (best_behind address x xs b)))
       ] refl)
   | same p n gone is alone ↦ (
       let b : agrees x.rank x.key address ≡ true = rw (p.0, p.1) a in
@@ -144,15 +154,18 @@ best_is_greater address (x ∷ xs) e r route a = elim (with_parts e x xs r) [
 ]
 
 -- the best of what is left is the best, where that isn't taken out
-best_left : {V : Type 0} (address key rank : ℕ) (es : List (Entry V)) (e : Entry V) → IsTable es → ¬ (AreOnePair e.key e.rank key rank)
+best_left : {V : Type 0} {address : ℕ} (key rank : ℕ) (es : List (Entry V)) (e : Entry V) → IsTable es → ¬ (AreOnePair e.key e.rank key rank)
     → IsBest address es e → IsBest address (without key rank es) e
-best_left address key rank es e r other best = record {
+best_left key rank es e r other best = record {
   stands = without_keeps key rank es e other best.stands;
   agrees = best.agrees;
-  greatest = λ o s a. best.greatest o ((members_stand es o r).1 (members_of_without key rank es o ((members_stand (without key rank es) o (without_is_table es key rank r)).0 s)).0) a;
+  greatest =
+      λ o s a. best.greatest o ((members_stand es o r).1 (members_of_without key rank es o
+      ((members_stand (without key rank es) o (without_is_table es key rank r)).0 s)).0) a;
 }
 
-none_left : {V : Type 0} (address key rank : ℕ) (es : List (Entry V)) → IsTable es → best_of address es ≡ None → (m : Option (Entry V)) → best_of address (without key rank es) ≡ m → m ≡ None
+none_left : {V : Type 0} (address key rank : ℕ) (es : List (Entry V)) → IsTable es → best_of address es ≡ None → (m : Option (Entry V))
+    → best_of address (without key rank es) ≡ m → m ≡ None
 none_left address key rank es r h None k = refl
 none_left address key rank es r h (Some e) k =
     let member = best_is_member address (without key rank es) e k in
@@ -164,7 +177,8 @@ best_stays_by : {V : Type 0} (address key rank : ℕ) (es : List (Entry V)) → 
     → ((e : Entry V) → m ≡ Some e → ¬ (AreOnePair e.key e.rank key rank)) → best_of address (without key rank es) ≡ m
 best_stays_by address key rank es r None h other = none_left address key rank es r h (best_of address (without key rank es)) refl
 best_stays_by address key rank es r (Some e) h other =
-    best_is_unique address (without key rank es) e (without_is_table es key rank r) (best_left address key rank es e r (other e refl) (best_is_greatest address es e r h))
+    best_is_unique address (without key rank es) e (without_is_table es key rank r)
+    (best_left key rank es e r (other e refl) (best_is_greatest address es e r h))
 
 pub best_stays_without : {V : Type 0} → BestStaysWithout V
 best_stays_without address key rank entries r other = best_stays_by address key rank entries r (best_of address entries) refl other
@@ -182,7 +196,8 @@ with_then_without (x ∷ xs) e r h = elim (with_parts e x xs r) [
 pub without_then_with : {V : Type 0} → WithoutThenWith V
 without_then_with [] e r h = cc
 without_then_with (x ∷ xs) e r h = elim (with_parts e x xs r) [
-  | later p n is ↦ (let there : StandsIn xs e = rw n at h in rw n (with_later e x (without e.key e.rank xs) p ∙ ap (λ t. x ∷ t) (without_then_with xs e r.2 there)))
+  | later p n is ↦ (let there : StandsIn xs e =
+      rw n at h in rw n (with_later e x (without e.key e.rank xs) p ∙ ap (λ t. x ∷ t) (without_then_with xs e r.2 there)))
   | same p n gone is alone ↦ (
       let found : Some x ≡ Some e = rw n at h in
       let one : e ≡ x = cc in
@@ -200,11 +215,21 @@ with_twice_is_last entries e last p =
     let first : filter before_last (with_entry e entries) ≡ filter before_last entries =
     filter-append before_last (filter (λ x. precedes x e) entries) (e ∷ filter (λ x. precedes e x) entries)
     ∙ (let fails : precedes e last ≡ false = grind (arith, nat_tests) in
-    rw (filter_filter before_last (λ x. precedes x e) true (λ x k. grind (arith, nat_tests)) entries, fails, filter_filter before_last (λ x. precedes e x) false (λ x k. grind (arith, nat_tests)) entries)
+    rw (
+      filter_filter before_last (λ x. precedes x e) true (λ x k. grind (arith, nat_tests)) entries,
+      fails,
+      filter_filter before_last (λ x. precedes e x)
+          false (λ x k. grind (arith, nat_tests)) entries,
+    )
     (append-nil (filter before_last entries))) in
     let second : filter behind_last (with_entry e entries) ≡ filter behind_last entries =
     filter-append behind_last (filter (λ x. precedes x e) entries) (e ∷ filter (λ x. precedes e x) entries)
     ∙ (let fails : precedes last e ≡ false = grind (arith, nat_tests) in
-    rw (filter_filter behind_last (λ x. precedes x e) false (λ x k. grind (arith, nat_tests)) entries, fails, filter_filter behind_last (λ x. precedes e x) true (λ x k. grind (arith, nat_tests)) entries)
+    rw (
+      filter_filter behind_last (λ x. precedes x e) false (λ x k. grind (arith, nat_tests)) entries,
+      fails,
+      filter_filter behind_last (λ x. precedes e x)
+          true (λ x k. grind (arith, nat_tests)) entries,
+    )
     refl) in
     rw (first, second) refl

@@ -1,23 +1,17 @@
 -- The bit nodes on the way of a key to a part, and the one leaf that is on it.
 use Rattle.std.proofs.Common.{◌≡◌, ℕ, ◌+◌, List, [], ◌∷◌, refl, sym, ap, ◌∙◌, subst, ⊎_elim}
-use Rattle.std.specs.Ordering.{nat_cmp}
-use Rattle.std.specs.FinMap.{FinMap}
-use Rattle.radix_nodes.specs.Rooms.{Seen}
-use Rattle.radix_nodes.specs.declared.id.Id.{Id}
-use Rattle.radix_tree.specs.Tree.{Placed, Tree, leaf, fork, bit_at}
-use Rattle.radix_tree.specs.Rooms.{Part}
-use Rattle.radix_tree.specs.Searches.{Way}
-use Rattle.radix_tree.specs.Exchange.{Frame, on_zero, on_one, plug, low_past, Lead}
+use Rattle.radix_tree.proofs.Words.{Id, Placed, Tree, leaf, fork, bit_at, Part, Way, Frame, on_zero, on_one, plug, low_past, Lead, Lodged}
 use Rattle.radix_tree.proofs.AddressBits.{zero_not_one}
 
 module _ {V : Type 0} where
-  pub record OnWay (m : FinMap nat_cmp (Seen V)) (key : ℕ) (whole at : Part m) : Type 0 where
+  pub record OnWay (m : Lodged V) (key : ℕ) (whole at : Part m) : Type 0 where
     pub frames : List (Frame V)
     pub was : whole.tree ≡ plug frames at.tree
     pub lead : Lead key frames
     pub lowest : at.low ≡ low_past whole.low frames
 
-  way_from : (m : FinMap nat_cmp (Seen V)) (key : ℕ) (whole mid at : Part m) (ups : List (Part m)) → Way key whole mid ups → (fs : List (Frame V)) → mid.tree ≡ plug fs at.tree → Lead key fs → at.low ≡ low_past mid.low fs → OnWay m key whole at
+  way_from : (m : Lodged V) (key : ℕ) (whole mid at : Part m) (ups : List (Part m)) → Way key whole mid ups → (fs : List (Frame V))
+      → mid.tree ≡ plug fs at.tree → Lead key fs → at.low ≡ low_past mid.low fs → OnWay m key whole at
   way_from m key whole mid at [] way fs was lead lowest = record {
     frames = fs;
     was = sym (ap (λ (p : Part m). p.tree) way) ∙ was;
@@ -30,17 +24,19 @@ module _ {V : Type 0} where
       let low : at.low ≡ low_past (f.bit + 1) fs = lowest ∙ ap (λ (n : ℕ). low_past n fs) b.low in
       ⊎_elim
       (λ (e : (mid.tree ≡ f.zero) × (bit_at f.bit key ≡ 0)).
-      way_from m key whole p at ps way.1 (on_zero b.room f.bit f.one ∷ fs) (f.is ∙ ap (λ (t : Tree V). fork b.room f.bit t f.one) (sym e.0 ∙ was)) (e.1, lead) low)
+      way_from m key whole p at ps way.1 (on_zero b.room f.bit f.one ∷ fs) (f.is ∙ ap (λ (t : Tree V). fork b.room f.bit t f.one) (sym e.0 ∙ was)) (e.1, lead)
+      low)
       (λ (e : (mid.tree ≡ f.one) × (bit_at f.bit key ≡ 1)).
-      way_from m key whole p at ps way.1 (on_one b.room f.bit f.zero ∷ fs) (f.is ∙ ap (λ (t : Tree V). fork b.room f.bit f.zero t) (sym e.0 ∙ was)) (e.1, lead) low)
+      way_from m key whole p at ps way.1 (on_one b.room f.bit f.zero ∷ fs) (f.is ∙ ap (λ (t : Tree V). fork b.room f.bit f.zero t) (sym e.0 ∙ was)) (e.1, lead)
+      low)
       b.side
 
-  pub on_way : (m : FinMap nat_cmp (Seen V)) (key : ℕ) (whole at : Part m) (ups : List (Part m)) → Way key whole at ups → OnWay m key whole at
+  pub on_way : (m : Lodged V) (key : ℕ) (whole at : Part m) (ups : List (Part m)) → Way key whole at ups → OnWay m key whole at
   on_way m key whole at ups way = way_from m key whole at at ups way [] refl tt refl
 
   -- ---- one leaf
-  not_fork : (x : Placed V) (xs : List (Placed V)) (room : Id) (b : ℕ) (s t : Tree V) → leaf x xs ≡ fork room b s t → ⊥
-  not_fork x xs room b s t e = cc
+  not_fork : {x : Placed V} {xs : List (Placed V)} {room : Id} {b : ℕ} {s t : Tree V} → leaf x xs ≡ fork room b s t → ⊥
+  not_fork e = cc
 
   zero_of : (i j : Id) (b c : ℕ) (s t u v : Tree V) → fork i b s t ≡ fork j c u v → s ≡ u
   zero_of i j b c s t u v e = cc
@@ -48,26 +44,28 @@ module _ {V : Type 0} where
   one_of : (i j : Id) (b c : ℕ) (s t u v : Tree V) → fork i b s t ≡ fork j c u v → t ≡ v
   one_of i j b c s t u v e = cc
 
-  bit_of : (i j : Id) (b c : ℕ) (s t u v : Tree V) → fork i b s t ≡ fork j c u v → b ≡ c
-  bit_of i j b c s t u v e = cc
+  bit_of : (i j : Id) (b c : ℕ) {s t u v : Tree V} → fork i b s t ≡ fork j c u v → b ≡ c
+  bit_of i j b c e = cc
 
-  one_leaf : (key : ℕ) (fs gs : List (Frame V)) (x y : Placed V) (xs ys : List (Placed V)) → plug fs (leaf x xs) ≡ plug gs (leaf y ys) → Lead key fs → Lead key gs → leaf x xs ≡ leaf y ys
+  one_leaf : (key : ℕ) (fs gs : List (Frame V)) (x y : Placed V) (xs ys : List (Placed V)) → plug fs (leaf x xs) ≡ plug gs (leaf y ys) → Lead key fs
+      → Lead key gs → leaf x xs ≡ leaf y ys
   one_leaf key [] [] x y xs ys e one other = e
-  one_leaf key [] (on_zero j c v ∷ gs) x y xs ys e one other = absurd (not_fork x xs j c (plug gs (leaf y ys)) v e)
-  one_leaf key [] (on_one j c u ∷ gs) x y xs ys e one other = absurd (not_fork x xs j c u (plug gs (leaf y ys)) e)
-  one_leaf key (on_zero i b t ∷ fs) [] x y xs ys e one other = absurd (not_fork y ys i b (plug fs (leaf x xs)) t (sym e))
-  one_leaf key (on_one i b s ∷ fs) [] x y xs ys e one other = absurd (not_fork y ys i b s (plug fs (leaf x xs)) (sym e))
+  one_leaf key [] (on_zero j c v ∷ gs) x y xs ys e one other = absurd (not_fork e)
+  one_leaf key [] (on_one j c u ∷ gs) x y xs ys e one other = absurd (not_fork e)
+  one_leaf key (on_zero i b t ∷ fs) [] x y xs ys e one other = absurd (not_fork (sym e))
+  one_leaf key (on_one i b s ∷ fs) [] x y xs ys e one other = absurd (not_fork (sym e))
   one_leaf key (on_zero i b t ∷ fs) (on_zero j c v ∷ gs) x y xs ys e one other =
       one_leaf key fs gs x y xs ys (zero_of i j b c (plug fs (leaf x xs)) t (plug gs (leaf y ys)) v e) one.1 other.1
   one_leaf key (on_zero i b t ∷ fs) (on_one j c u ∷ gs) x y xs ys e one other =
-      absurd (zero_not_one (subst (λ (n : ℕ). bit_at n key ≡ 0) (bit_of i j b c (plug fs (leaf x xs)) t u (plug gs (leaf y ys)) e) one.0) other.0)
+      absurd (zero_not_one (subst (λ (n : ℕ). bit_at n key ≡ 0) (bit_of i j b c e) one.0) other.0)
   one_leaf key (on_one i b s ∷ fs) (on_zero j c v ∷ gs) x y xs ys e one other =
-      absurd (zero_not_one other.0 (subst (λ (n : ℕ). bit_at n key ≡ 1) (bit_of i j b c s (plug fs (leaf x xs)) (plug gs (leaf y ys)) v e) one.0))
+      absurd (zero_not_one other.0 (subst (λ (n : ℕ). bit_at n key ≡ 1) (bit_of i j b c e) one.0))
   one_leaf key (on_one i b s ∷ fs) (on_one j c u ∷ gs) x y xs ys e one other =
       one_leaf key fs gs x y xs ys (one_of i j b c s (plug fs (leaf x xs)) u (plug gs (leaf y ys)) e) one.1 other.1
 
   -- a leaf on the way of a key is the only one
-  pub same_leaf : (m : FinMap nat_cmp (Seen V)) (key : ℕ) (whole p q : Part m) (ups vps : List (Part m)) (x y : Placed V) (xs ys : List (Placed V)) → Way key whole p ups → Way key whole q vps → p.tree ≡ leaf x xs → q.tree ≡ leaf y ys → leaf x xs ≡ leaf y ys
+  pub same_leaf : (m : Lodged V) (key : ℕ) (whole p q : Part m) (ups vps : List (Part m)) (x y : Placed V) (xs ys : List (Placed V)) → Way key whole p ups
+      → Way key whole q vps → p.tree ≡ leaf x xs → q.tree ≡ leaf y ys → leaf x xs ≡ leaf y ys
   same_leaf m key whole p q ups vps x y xs ys one other left right =
       let a = on_way m key whole p ups one in
       let b = on_way m key whole q vps other in

@@ -1,8 +1,6 @@
 -- What holds of all elements of a list, and what is filtered from it or found in it.
 use Rattle.std.proofs.Common.{◌≡◌, Bool, true, false, cond, List, [], ◌∷◌, ◌++◌, filter, Option, Some, None, refl, ap, subst}
-use Rattle.std.specs.Prelude.{find}
-use Rattle.std.specs.List.{AllByRecursion}
-use Rattle.std.specs.Option.{option_or}
+use Rattle.radix_tree.proofs.Words.{find, AllByRecursion, option_or}
 
 module _ {X : Type 0} (P : X → Type 0) where
   pub all_weaker : (Q : X → Type 0) → ((x : X) → P x → Q x) → (xs : List X) → AllByRecursion P xs → AllByRecursion Q xs
@@ -26,7 +24,8 @@ module _ {X : Type 0} (P : X → Type 0) where
 
   pub all_filter : (p : X → Bool) (xs : List X) → AllByRecursion P xs → AllByRecursion P (filter p xs)
   all_filter p [] h = tt
-  all_filter p (x ∷ xs) h = elim (p x) as (λ b. AllByRecursion P (cond b (x ∷ filter p xs) (filter p xs))) [ true ↦ (h.0, all_filter p xs h.1) | false ↦ all_filter p xs h.1 ]
+  all_filter p (x ∷ xs) h =
+      elim (p x) as (λ b. AllByRecursion P (cond b (x ∷ filter p xs) (filter p xs))) [ true ↦ (h.0, all_filter p xs h.1) | false ↦ all_filter p xs h.1 ]
 
   -- what is found passes the test
   pub all_find : (q : X → Bool) (xs : List X) (x : X) → AllByRecursion P xs → find q xs ≡ Some x → P x × (q x ≡ true)
@@ -54,7 +53,8 @@ module _ {X : Type 0} where
   find_filter q p false same [] = refl
   find_filter q p b same (x ∷ xs) =
       elim (q x) as (λ t. q x ≡ t → find q (cond (p x) (x ∷ filter p xs) (filter p xs)) ≡ cond b (cond t (Some x) (find q xs)) None) [
-        | true ↦ λ k. rw (same x k) (elim b as (λ c. find q (filter p xs) ≡ cond c (find q xs) None → find q (cond c (x ∷ filter p xs) (filter p xs)) ≡ cond c (Some x) None)
+        | true ↦ λ k. rw (same x k) (elim b as (λ c. find q (filter p xs) ≡ cond c (find q xs) None
+            → find q (cond c (x ∷ filter p xs) (filter p xs)) ≡ cond c (Some x) None)
             [ true ↦ λ r. rw k refl | false ↦ λ r. r ] (find_filter q p b same xs))
         | false ↦ λ k. elim (p x) as (λ c. find q (cond c (x ∷ filter p xs) (filter p xs)) ≡ cond b (find q xs) None)
             [ true ↦ rw k (find_filter q p b same xs) | false ↦ find_filter q p b same xs ]
@@ -66,7 +66,8 @@ module _ {X : Type 0} where
   filter_filter t p false same [] = refl
   filter_filter t p b same (x ∷ xs) =
       elim (t x) as (λ k. t x ≡ k → filter t (cond (p x) (x ∷ filter p xs) (filter p xs)) ≡ cond b (cond k (x ∷ filter t xs) (filter t xs)) []) [
-        | true ↦ λ k. rw (same x k) (elim b as (λ c. filter t (filter p xs) ≡ cond c (filter t xs) [] → filter t (cond c (x ∷ filter p xs) (filter p xs)) ≡ cond c (x ∷ filter t xs) [])
+        | true ↦ λ k. rw (same x k) (elim b as (λ c. filter t (filter p xs) ≡ cond c (filter t xs) []
+            → filter t (cond c (x ∷ filter p xs) (filter p xs)) ≡ cond c (x ∷ filter t xs) [])
             [ true ↦ λ r. rw k (ap (λ l. x ∷ l) r) | false ↦ λ r. r ] (filter_filter t p b same xs))
         | false ↦ λ k. elim (p x) as (λ c. filter t (cond c (x ∷ filter p xs) (filter p xs)) ≡ cond b (filter t xs) [])
             [ true ↦ rw k (filter_filter t p b same xs) | false ↦ filter_filter t p b same xs ]

@@ -1,28 +1,18 @@
 -- A walk along a chain whose masks are listed one after the other.
-use Rattle.std.proofs.Common.{◌≡◌, ℕ, ◌+◌, ◌<◌, ◌≤◌, ◌==◌, Bool, true, false, not, ◌&&◌, List, [], ◌∷◌, Option, Some, None, refl, sym, ap, ◌∙◌, subst, ⊎_elim, arith}
-use Rattle.std.specs.Prelude.{is_some}
+use Rattle.std.proofs.Common.{◌≡◌, ℕ, ◌+◌, ◌<◌, ◌≤◌, ◌==◌, Bool, true, false, not, ◌&&◌, List, [], ◌∷◌, Option, Some, None, refl, sym, ap, ◌∙◌, subst, ⊎_elim}
+use Rattle.std.proofs.Common.{arith}
 use Rattle.std.proofs.lemmas.Bool.{eqb-true, eq-eqb}
-use Rattle.std.specs.Ordering.{nat_cmp}
-use Rattle.std.specs.FinMap.{FinMap}
-use Rattle.radix_nodes.specs.Rooms.{Seen, Has}
-use Rattle.radix_nodes.specs.Links.{leaf_of, mask_node_of}
-use Rattle.radix_nodes.specs.declared.id.Id.{Id}
-use Rattle.radix_nodes.specs.declared.links.Leaf.{Leaf}
-use Rattle.radix_nodes.specs.declared.links.Links.{Links}
-use Rattle.radix_nodes.specs.declared.links.MaskNode.{MaskNode}
-use Rattle.radix_nodes.specs.declared.links.Node.{Node}
-use Rattle.radix_tree.specs.Tree.{Placed, IsAmong, IsIn, IsChain}
-use Rattle.radix_tree.specs.Rooms.{LeafPart, MaskPart, Leaves, Part, Run, leaves_in, bits_in, masks_in, mask_in, mask_part, first_room, leaf_part, ChainStands}
-use Rattle.radix_tree.specs.Whole.{one_if, leaves_at}
-use Rattle.radix_tree.specs.Writes.{KeepsLeaves}
-use Rattle.radix_tree.specs.Marks.{IsWholeBut, is_of_key, has_key, nobody_out}
+use Rattle.radix_tree.proofs.Words.{is_some, Has, leaf_of, mask_node_of, Id, Leaf, Links, MaskNode, Node, Placed, IsAmong, IsIn, IsChain, LeafPart, MaskPart}
+use Rattle.radix_tree.proofs.Words.{Leaves, Part, Run, leaves_in, bits_in, masks_in, mask_in, mask_part, first_room, leaf_part, ChainStands, one_if, leaves_at}
+use Rattle.radix_tree.proofs.Words.{KeepsLeaves, IsWholeBut, is_of_key, has_key, nobody_out, Lodged}
 use Rattle.radix_tree.proofs.RoomReads.{inside, none_some, AreLinks, Has-leaf, leaf_read}
 use Rattle.radix_tree.proofs.TreeMembers.{IsHead, head_of, tree_said}
 use Rattle.radix_tree.proofs.Parts.{among_leaf, way_leads}
-use Rattle.radix_tree.proofs.Exchanging.{way_to_leaf}
+use Rattle.radix_tree.proofs.WaysDown.{way_to_leaf}
 use Rattle.radix_tree.proofs.ChainStarts.{Member, member_of}
-use Rattle.radix_tree.proofs.Listed.{true_false, placed_in, route_at, settled}
-use Rattle.radix_tree.proofs.WholeChanges.{later_than}
+use Rattle.radix_tree.proofs.HomeLists.{true_false, placed_in, route_at}
+use Rattle.radix_tree.proofs.Listed.{settled}
+use Rattle.radix_tree.proofs.WholeParts.{later_than}
 use Rattle.radix_tree.proofs.ListedHomes.{chain_of, in_chain}
 
 and_left : (a b : Bool) → (a && b) ≡ true → a ≡ true
@@ -33,31 +23,35 @@ and_right : (a b : Bool) → (a && b) ≡ true → b ≡ true
 and_right true b both = both
 and_right false b both = absurd (true_false (sym both))
 
-not_true : (b : Bool) → not b ≡ true → b ≡ true → ⊥
-not_true b none is = true_false (sym none ∙ ap not is)
+not_true : {b : Bool} → not b ≡ true → b ≡ true → ⊥
+not_true none is = true_false (sym none ∙ ap not is)
 
 both_true : (a b : Bool) → a ≡ true → (b ≡ true → ⊥) → (a && not b) ≡ true
 both_true a true is other = absurd (other refl)
 both_true a false is other = ap (λ (t : Bool). t && true) is
 
 eqb_not : (n k : ℕ) → not (n == k) ≡ true → n ≡ k → ⊥
-eqb_not n k none same = not_true (n == k) none (eq-eqb n k same)
+eqb_not n k none same = not_true none (eq-eqb n k same)
 
 module _ {V : Type 0} where
   -- ---- one room
-  mask_said : (m : FinMap nat_cmp (Seen V)) (room : Id) (h : Has m room) (links : Links) → AreLinks m room links → masks_in m room.number ≡ mask_part h.room.block (mask_node_of links)
-  mask_said m room h links are = ap mask_in h.at ∙ ap (λ (l : Links). mask_part h.room.block (mask_node_of l)) (sym (are h.room h.at))
+  mask_said : (m : Lodged V) {room : Id} (h : Has m room) (links : Links) → AreLinks m room links
+      → masks_in m room.number ≡ mask_part h.room.block (mask_node_of links)
+  mask_said m h links are = ap mask_in h.at ∙ ap (λ (l : Links). mask_part h.room.block (mask_node_of l)) (sym (are h.room h.at))
 
-  pub mask_none : (m : FinMap nat_cmp (Seen V)) (room : Id) (links : Links) → Has m room → AreLinks m room links → mask_node_of links ≡ None → masks_in m room.number ≡ None
-  mask_none m room links h are none = mask_said m room h links are ∙ ap (mask_part h.room.block) none
+  pub mask_none : {m : Lodged V} {room : Id} (links : Links) → Has m room → AreLinks m room links → mask_node_of links ≡ None → masks_in m room.number ≡ None
+  mask_none {m = m} links h are none = mask_said m h links are ∙ ap (mask_part h.room.block) none
 
-  mask_some : (m : FinMap nat_cmp (Seen V)) (room : Id) (links : Links) (n : MaskNode) → Has m room → AreLinks m room links → mask_node_of links ≡ Some n → is_some (masks_in m room.number) ≡ true
-  mask_some m room links n h are some = ap (λ (o : Option MaskPart). is_some o) (mask_said m room h links are ∙ ap (mask_part h.room.block) some)
+  mask_some : (m : Lodged V) {room : Id} (links : Links) (n : MaskNode) → Has m room → AreLinks m room links → mask_node_of links ≡ Some n
+      → is_some (masks_in m room.number) ≡ true
+  mask_some m links n h are some = ap (λ (o : Option MaskPart). is_some o) (mask_said m h links are ∙ ap (mask_part h.room.block) some)
 
   -- a room whose mask is listed is not late
-  pub listed_late : (m : FinMap nat_cmp (Seen V)) (root : Node) (late : ℕ → Bool) (w : IsWholeBut m root late nobody_out) (room : Id) (links : Links) (n : MaskNode) → Has m room → AreLinks m room links → mask_node_of links ≡ Some n
+  pub listed_late : {m : Lodged V} {root : Node} (late : ℕ → Bool) (w : IsWholeBut m root late nobody_out) (room : Id) (links : Links) (n : MaskNode)
+      → Has m room → AreLinks m room links → mask_node_of links ≡ Some n
       → IsWholeBut m root (λ k. late k && not (k == room.number)) nobody_out
-  listed_late m root late w room links n h are some = settled m root late w room (λ x in_x home same. ap (λ (k : ℕ). is_some (masks_in m k)) same ∙ mask_some m room links n h are some)
+  listed_late {m = m} late w room links n h are some =
+      settled m late w room (λ x in_x home same. ap (λ (k : ℕ). is_some (masks_in m k)) same ∙ mask_some m links n h are some)
 
   -- ---- how far the walk has to go: one more than the rank of the route that it has come to
   abbrev pub left_of : Option (LeafPart V) → ℕ
@@ -72,15 +66,17 @@ module _ {V : Type 0} where
   left_same L M None same = refl
   left_same L M (Some room) same = ap (λ (o : Option (LeafPart V)). left_of o) (same room.number)
 
-  chain_left : (L : Leaves V) (above previous : Option Id) (key top : ℕ) (c : List (Placed V)) → IsChain key top c → ChainStands L above previous c → left_at L (first_room c) ≤ top
+  chain_left : (L : Leaves V) (above previous : Option Id) (key top : ℕ) (c : List (Placed V)) → IsChain key top c → ChainStands L above previous c
+      → left_at L (first_room c) ≤ top
   chain_left L above previous key top [] is stands = omega arith
   chain_left L above previous key top (x ∷ c) is stands =
-      let same : left_of (L x.room.number) ≡ x.entry.rank + 1 = ap (λ (o : Option (LeafPart V)). left_of o) stands.0 in let below : x.entry.rank < top = is.2 in omega arith
+      let same : left_of (L x.room.number) ≡ x.entry.rank + 1 = ap (λ (o : Option (LeafPart V)). left_of o) stands.0 in let below : x.entry.rank < top =
+      is.2 in omega arith
 
   -- ---- the walk
   -- in the rooms of m, whose leaves the rooms of now have too: what is left of the chain of a key; all routes of this key
   -- that may be late are there
-  pub record Left (m now : FinMap nat_cmp (Seen V)) (root : Node) (late : ℕ → Bool) (key : ℕ) (at : Option Id) : Type 0 where
+  pub record Left (m now : Lodged V) (root : Node) (late : ℕ → Bool) (key : ℕ) (at : Option Id) : Type 0 where
     pub later : ℕ → Bool
     pub whole : IsWholeBut now root later nobody_out
     pub rest : Run m
@@ -89,8 +85,9 @@ module _ {V : Type 0} where
     pub behind : (n : ℕ) → later n ≡ true → has_key m key n ≡ true → (x : Placed V) × IsAmong x rest.members × (x.room.number ≡ n)
 
   -- ---- its begin
-  key_said : (m : FinMap nat_cmp (Seen V)) (p : Part m) (y : Placed V) (q : LeafPart V) (n : ℕ) → IsIn y p.tree → y.room.number ≡ n → leaves_in m n ≡ Some q → (q.leaf.key ≡ y.entry.key) × (q.block ≡ y.room.block)
-  key_said m p y q n is same said =
+  key_said : (m : Lodged V) (p : Part m) (y : Placed V) (q : LeafPart V) {n : ℕ} → IsIn y p.tree → y.room.number ≡ n → leaves_in m n ≡ Some q
+      → (q.leaf.key ≡ y.entry.key) × (q.block ≡ y.room.block)
+  key_said m p y q is same said =
       let t = tree_said (leaves_in m) (bits_in m) p.above p.tree p.stands y is in
       let parts : leaf_part y t.0 t.1 t.2 ≡ q = inside (sym t.3 ∙ ap (leaves_in m) same ∙ said) in
       (ap (λ (z : LeafPart V). z.leaf.key) (sym parts), ap (λ (z : LeafPart V). z.block) (sym parts))
@@ -100,60 +97,67 @@ module _ {V : Type 0} where
   of_key key (Some q) is = (q, refl, eqb-true q.leaf.key key is)
 
   -- a route of the key stands in its chain
-  in_its_chain : (m : FinMap nat_cmp (Seen V)) (root : Node) (late : ℕ → Bool) (w : IsWholeBut m root late nobody_out) (y : Placed V) (is : IsIn y w.part.tree) (n : ℕ) → has_key m y.entry.key n ≡ true
-      → (x : Placed V) × IsAmong x (chain_of m w.part y is).members × (x.room.number ≡ n)
-  in_its_chain m root late w y is n has =
+  in_its_chain : (m : Lodged V) {root : Node} {late : ℕ → Bool} (w : IsWholeBut m root late nobody_out) (y : Placed V) (is : IsIn y w.part.tree) (n : ℕ)
+      → has_key m y.entry.key n ≡ true
+      → (x : Placed V) × IsAmong x (chain_of w.part y is).members × (x.room.number ≡ n)
+  in_its_chain m w y is n has =
       let q = of_key y.entry.key (leaves_in m n) has in
       let count : leaves_at n w.part.tree + 0 ≡ 1 = w.leaves n ∙ ap (λ (o : Option (LeafPart V)). one_if (is_some o)) q.1 in
       let x = route_at n w.part.tree (omega arith) in
       let f = way_to_leaf m w.part y is in
-      let key : x.0.entry.key ≡ y.entry.key = sym (key_said m w.part x.0 q.0 n x.1 x.2 q.1).0 ∙ q.2 in
-      (x.0, among_leaf m f.part f.room f.at x.0 (way_leads m y.entry.key w.part f.part f.ups f.way x.0 x.1 key), x.2)
+      let key : x.0.entry.key ≡ y.entry.key = sym (key_said m w.part x.0 q.0 x.1 x.2 q.1).0 ∙ q.2 in
+      (x.0, among_leaf m f.at x.0 (way_leads m w.part f.part f.ups f.way x.0 x.1 key), x.2)
 
   -- a route that names none before it is the first of its chain
-  begins_at : (m : FinMap nat_cmp (Seen V)) (whole : Part m) (y : Placed V) (is : IsIn y whole.tree) (p : LeafPart V) → leaves_in m y.room.number ≡ Some p → p.leaf.previous ≡ None → first_room (chain_of m whole y is).members ≡ Some y.room
+  begins_at : (m : Lodged V) (whole : Part m) (y : Placed V) (is : IsIn y whole.tree) (p : LeafPart V) → leaves_in m y.room.number ≡ Some p
+      → p.leaf.previous ≡ None → first_room (chain_of whole y is).members ≡ Some y.room
   begins_at m whole y is p said none =
-      let c = chain_of m whole y is in
-      let k : Member (leaves_in m) c.members None y = member_of (leaves_in m) c.above None c.key c.top c.members c.is c.stands y (in_chain m whole y is) in
+      let c = chain_of whole y is in
+      let k : Member (leaves_in m) c.members None y = member_of (leaves_in m) c.above None c.key c.top c.members c.is c.stands y (in_chain whole y is) in
       let same : k.part ≡ p = inside (sym k.said ∙ said) in
       let before : k.part.leaf.previous ≡ None = ap (λ (z : LeafPart V). z.leaf.previous) same ∙ none in
       ⊎_elim (λ (first : (first_room c.members ≡ Some y.room) × (k.part.leaf.previous ≡ None)). first.0)
-      (λ (other : (x : Placed V) × IsAmong x c.members × (k.part.leaf.previous ≡ Some x.room) × (y.entry.rank < x.entry.rank)). absurd (none_some (sym before ∙ other.2))) k.prior
+      (λ (other : (x : Placed V) × IsAmong x c.members × (k.part.leaf.previous ≡ Some x.room) × (y.entry.rank < x.entry.rank)).
+      absurd (none_some (sym before ∙ other.2))) k.prior
 
-  pub begun : (m : FinMap nat_cmp (Seen V)) (root : Node) (late : ℕ → Bool) (first : Id) (p : LeafPart V) → IsWholeBut m root late nobody_out → leaves_in m first.number ≡ Some p → p.block ≡ first.block → p.leaf.previous ≡ None
+  pub begun : {m : Lodged V} {root : Node} (late : ℕ → Bool) (first : Id) (p : LeafPart V) → IsWholeBut m root late nobody_out
+      → leaves_in m first.number ≡ Some p → p.block ≡ first.block → p.leaf.previous ≡ None
       → Left m m root late p.leaf.key (Some first)
-  begun m root late first p w said block none =
-      let y = placed_in m root late w first (Has-leaf m first p said block) in
-      let key : p.leaf.key ≡ y.0.entry.key = (key_said m w.part y.0 p first.number y.1 (ap (λ (i : Id). i.number) y.2) said).0 in
+  begun {m = m} late first p w said block none =
+      let y = placed_in w (Has-leaf m first said block) in
+      let key : p.leaf.key ≡ y.0.entry.key = (key_said m w.part y.0 p y.1 (ap (λ (i : Id). i.number) y.2) said).0 in
       record {
         later = late;
         whole = w;
-        rest = chain_of m w.part y.0 y.1;
+        rest = chain_of w.part y.0 y.1;
         begins = begins_at m w.part y.0 y.1 p (ap (λ (i : Id). leaves_in m i.number) y.2 ∙ said) none ∙ ap (λ (i : Id). Some i) y.2;
         less = λ n is_late. is_late;
-        behind = λ n is_late has. in_its_chain m root late w y.0 y.1 n (subst (λ (k : ℕ). has_key m k n ≡ true) key has);
+        behind = λ n is_late has. in_its_chain m w y.0 y.1 n (subst (λ (k : ℕ). has_key m k n ≡ true) key has);
       }
 
   -- ---- at a member
-  pub head_at : (m now : FinMap nat_cmp (Seen V)) (root : Node) (late : ℕ → Bool) (key : ℕ) (at : Option Id) (room : Id) (l : Left m now root late key at) → at ≡ Some room → IsHead l.rest.members room
-  head_at m now root late key at room l is = head_of l.rest.members room (l.begins ∙ is)
+  pub head_at : {m now : Lodged V} {root : Node} {late : ℕ → Bool} {key : ℕ} {at : Option Id} {room : Id} (l : Left m now root late key at) → at ≡ Some room
+      → IsHead l.rest.members room
+  head_at l is = head_of l.rest.members (l.begins ∙ is)
 
-  abbrev part_at : (m : FinMap nat_cmp (Seen V)) (rest : Run m) (room : Id) → IsHead rest.members room → LeafPart V
-  part_at m rest room x = leaf_part x.first rest.above rest.previous (first_room x.behind)
+  abbrev part_at : {m : Lodged V} (rest : Run m) {room : Id} → IsHead rest.members room → LeafPart V
+  part_at rest x = leaf_part x.first rest.above rest.previous (first_room x.behind)
 
-  said_at : (m : FinMap nat_cmp (Seen V)) (rest : Run m) (room : Id) (x : IsHead rest.members room) → leaves_in m room.number ≡ Some (part_at m rest room x)
-  said_at m rest room x = ap (λ (i : Id). leaves_in m i.number) (sym x.room_is) ∙ (subst (ChainStands (leaves_in m) rest.above rest.previous) x.is rest.stands).0
+  said_at : (m : Lodged V) (rest : Run m) {room : Id} (x : IsHead rest.members room) → leaves_in m room.number ≡ Some (part_at rest x)
+  said_at m rest x = ap (λ (i : Id). leaves_in m i.number) (sym x.room_is) ∙ (subst (ChainStands (leaves_in m) rest.above rest.previous) x.is rest.stands).0
 
-  pub Has-at : (m now new : FinMap nat_cmp (Seen V)) (root : Node) (late : ℕ → Bool) (key : ℕ) (at : Option Id) (room : Id) → Left m now root late key at → KeepsLeaves m new → at ≡ Some room → Has new room
-  Has-at m now new root late key at room l kept is =
-      let x = head_at m now root late key at room l is in Has-leaf new room (part_at m l.rest room x) (kept room.number ∙ said_at m l.rest room x) (ap (λ (i : Id). i.block) x.room_is)
+  pub Has-at : {m now : Lodged V} (new : Lodged V) {root : Node} {late : ℕ → Bool} {key : ℕ} {at : Option Id} {room : Id}
+      → Left m now root late key at → KeepsLeaves m new → at ≡ Some room → Has new room
+  Has-at {m = m} new {room = room} l kept is =
+      let x = head_at l is in Has-leaf new room (kept room.number ∙ said_at m l.rest x) (ap (λ (i : Id). i.block) x.room_is)
 
-  next_read : (m new : FinMap nat_cmp (Seen V)) (rest : Run m) (room : Id) (links : Links) (l : Leaf) (x : IsHead rest.members room) → KeepsLeaves m new → AreLinks new room links → l ≡ leaf_of links → l.next ≡ first_room x.behind
+  next_read : (m new : Lodged V) (rest : Run m) (room : Id) (links : Links) (l : Leaf) (x : IsHead rest.members room) → KeepsLeaves m new
+      → AreLinks new room links → l ≡ leaf_of links → l.next ≡ first_room x.behind
   next_read m new rest room links l x kept are leaf =
-      ap (λ (z : Leaf). z.next) (leaf ∙ leaf_read new room (part_at m rest room x) links (kept room.number ∙ said_at m rest room x) (ap (λ (i : Id). i.block) x.room_is) are)
+      ap (λ (z : Leaf). z.next) (leaf ∙ leaf_read new room links (kept room.number ∙ said_at m rest x) (ap (λ (i : Id). i.block) x.room_is) are)
 
-  abbrev run_behind : (m : FinMap nat_cmp (Seen V)) (rest : Run m) (room : Id) → IsHead rest.members room → Run m
-  run_behind m rest room x = record {
+  abbrev run_behind : (m : Lodged V) (rest : Run m) {room : Id} → IsHead rest.members room → Run m
+  run_behind m rest x = record {
     members = x.behind;
     key = rest.key;
     top = x.first.entry.rank;
@@ -163,14 +167,15 @@ module _ {V : Type 0} where
     stands = (subst (ChainStands (leaves_in m) rest.above rest.previous) x.is rest.stands).1;
   }
 
-  pub passed : (m now new : FinMap nat_cmp (Seen V)) (root : Node) (late : ℕ → Bool) (key : ℕ) (at : Option Id) (room : Id) (links : Links) (f : Leaf) (l : Left m now root late key at) → at ≡ Some room → KeepsLeaves m new → AreLinks new room links → f ≡ leaf_of links
+  pub passed : {m now new : Lodged V} {root : Node} {late : ℕ → Bool} {key : ℕ} {at : Option Id} (room : Id) (links : Links) {f : Leaf}
+      (l : Left m now root late key at) → at ≡ Some room → KeepsLeaves m new → AreLinks new room links → f ≡ leaf_of links
       → IsWholeBut new root (λ n. l.later n && not (n == room.number)) nobody_out → Left m new root late key f.next
-  passed m now new root late key at room links f l is kept are leaf whole =
-      let x = head_at m now root late key at room l is in
+  passed {m = m} {new = new} room links {f = f} l is kept are leaf whole =
+      let x = head_at l is in
       record {
         later = λ n. l.later n && not (n == room.number);
         whole = whole;
-        rest = run_behind m l.rest room x;
+        rest = run_behind m l.rest x;
         begins = sym (next_read m new l.rest room links f x kept are leaf);
         less = λ n is_late. l.less n (and_left (l.later n) (not (n == room.number)) is_late);
         behind = λ n is_late has.
@@ -183,15 +188,19 @@ module _ {V : Type 0} where
             );
       }
 
-  pub nearer : (m now new : FinMap nat_cmp (Seen V)) (root : Node) (late : ℕ → Bool) (key : ℕ) (at : Option Id) (room : Id) (links : Links) (f : Leaf) (l : Left m now root late key at) → at ≡ Some room → KeepsLeaves m now → KeepsLeaves m new
+  pub nearer : (m now new : Lodged V) {root : Node} {late : ℕ → Bool} {key : ℕ} (at : Option Id) (room : Id) (links : Links) {f : Leaf}
+      (l : Left m now root late key at) → at ≡ Some room → KeepsLeaves m now → KeepsLeaves m new
       → AreLinks new room links → f ≡ leaf_of links → left_at (leaves_in new) f.next < left_at (leaves_in now) at
-  nearer m now new root late key at room links f l is was kept are leaf =
-      let x = head_at m now root late key at room l is in
-      let r = run_behind m l.rest room x in
+  nearer m now new at room links {f = f} l is was kept are leaf =
+      let x = head_at l is in
+      let r = run_behind m l.rest x in
       let next = next_read m new l.rest room links f x kept are leaf in
-      let few : left_at (leaves_in m) (first_room x.behind) ≤ x.first.entry.rank = chain_left (leaves_in m) r.above r.previous r.key r.top x.behind r.is r.stands in
-      let far : left_at (leaves_in now) at ≡ x.first.entry.rank + 1 = ap (left_at (leaves_in now)) is ∙ ap (λ (o : Option (LeafPart V)). left_of o) (was room.number ∙ said_at m l.rest room x) in
-      let near : left_at (leaves_in new) f.next ≡ left_at (leaves_in m) (first_room x.behind) = ap (left_at (leaves_in new)) next ∙ left_same (leaves_in new) (leaves_in m) (first_room x.behind) kept in
+      let few : left_at (leaves_in m) (first_room x.behind) ≤ x.first.entry.rank =
+      chain_left (leaves_in m) r.above r.previous r.key r.top x.behind r.is r.stands in
+      let far : left_at (leaves_in now) at ≡ x.first.entry.rank + 1 =
+      ap (left_at (leaves_in now)) is ∙ ap (λ (o : Option (LeafPart V)). left_of o) (was room.number ∙ said_at m l.rest x) in
+      let near : left_at (leaves_in new) f.next ≡ left_at (leaves_in m) (first_room x.behind) =
+      ap (left_at (leaves_in new)) next ∙ left_same (leaves_in new) (leaves_in m) (first_room x.behind) kept in
       omega arith
 
   -- ---- its end
@@ -199,6 +208,8 @@ module _ {V : Type 0} where
   none_among [] none x among = among
   none_among (y ∷ c) none x among = absurd (none_some (sym none))
 
-  pub ended : (m now : FinMap nat_cmp (Seen V)) (root : Node) (late : ℕ → Bool) (key : ℕ) (at : Option Id) → Left m now root late key at → at ≡ None → IsWholeBut now root (λ n. late n && not (has_key m key n)) nobody_out
-  ended m now root late key at l is = later_than l.later (λ n. late n && not (has_key m key n))
-      (λ n is_late. both_true (late n) (has_key m key n) (l.less n is_late) (λ has. let x = l.behind n is_late has in none_among l.rest.members (l.begins ∙ is) x.0 x.1)) l.whole
+  pub ended : {m now : Lodged V} {root : Node} (late : ℕ → Bool) (key : ℕ) {at : Option Id} → Left m now root late key at → at ≡ None
+      → IsWholeBut now root (λ n. late n && not (has_key m key n)) nobody_out
+  ended {m = m} late key l is = later_than (λ n. late n && not (has_key m key n))
+      (λ n is_late. both_true (late n) (has_key m key n) (l.less n is_late)
+      (λ has. let x = l.behind n is_late has in none_among l.rest.members (l.begins ∙ is) x.0 x.1)) l.whole

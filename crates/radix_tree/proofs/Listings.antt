@@ -1,24 +1,15 @@
 -- A walk through the masks that a bit node lists.
 use Rattle.std.proofs.Common.{◌≡◌, ℕ, ◌+◌, ◌*◌, ◌≤◌, List, ◌∷◌, Option, Some, None, refl, sym, ap, ◌∙◌, subst, inl, inr, arith}
-use Rattle.std.specs.Ordering.{nat_cmp}
-use Rattle.std.specs.FinMap.{FinMap}
-use Rattle.mask_table.specs.Agreeing.{masked}
-use Rattle.radix_nodes.specs.Counting.{Counter}
-use Rattle.radix_nodes.specs.Rooms.{Seen}
-use Rattle.radix_nodes.specs.declared.id.Id.{Id}
-use Rattle.radix_nodes.specs.declared.links.Leaf.{Leaf}
-use Rattle.radix_nodes.specs.declared.links.MaskNode.{MaskNode}
-use Rattle.radix_tree.specs.Reads.{Reads}
-use Rattle.radix_tree.specs.Rooms.{LeafPart, MaskPart, Part, AreListed as MasksAreListed, leaves_in, bits_in, heads_in, masks_in, mask_part, first_room, leaf_part, MasksStand, Falls}
-use Rattle.radix_tree.specs.Searches.{Tells, Finds, HasPair, Best, In, ForkAt}
-use Rattle.radix_tree.specs.Tree.{Placed, IsAmong, IsIn}
+use Rattle.radix_tree.proofs.Words.{masked, Counter, Id, Leaf, MaskNode, Reads, LeafPart, MaskPart, Part, MasksAreListed, leaves_in, bits_in, heads_in}
+use Rattle.radix_tree.proofs.Words.{masks_in, mask_part, first_room, leaf_part, MasksStand, Falls, Tells, Finds, HasPair, Best, In, ForkAt, Placed, IsAmong}
+use Rattle.radix_tree.proofs.Words.{IsIn, Lodged}
 use Rattle.radix_tree.proofs.RoomReads.{inside}
 use Rattle.radix_tree.proofs.Parts.{fork_is, fork_lists}
 use Rattle.radix_tree.proofs.Scans.{ended_at}
 use Rattle.radix_tree.proofs.Searching.{AreListed, mask_hit, mask_miss, listed_behind, list_ends}
 use Rattle.radix_tree.proofs.TreeMembers.{head_of, tree_route, tree_said}
 
-module _ {V : Type 0} {m : FinMap nat_cmp (Seen V)} where
+module _ {V : Type 0} {m : Lodged V} where
   -- a walk through the list of a bit node, whose masks so far were tried in vain
   pub record Through (address : ℕ) (p : Part m) (bit : ℕ) (at : Option Id) (start now : Counter) : Type 0 where
     pub rest : List (Placed V)
@@ -35,10 +26,11 @@ module _ {V : Type 0} {m : FinMap nat_cmp (Seen V)} where
     pub rises : start.count ≤ now.count
     pub few : now.count + 67 * top ≤ start.count + 67 * (bit + 1)
 
-  pub begun : {address : ℕ} {p : Part m} {room : Id} {first : Option Id} (v : Counter) (f : ForkAt p room) → MasksAreListed m p → heads_in m room.number ≡ first → Through address p f.bit first v v
+  pub begun : {address : ℕ} {p : Part m} {room : Id} {first : Option Id} (v : Counter) (f : ForkAt p room) → MasksAreListed m p
+      → heads_in m room.number ≡ first → Through address p f.bit first v v
   begun {p = p} {room} v f listed head =
-      let list = (fork_lists m p room f listed).0 in
-      let rises : p.low ≤ f.bit = (fork_is m p room f).0.rises in
+      let list = (fork_lists m p f listed).0 in
+      let rises : p.low ≤ f.bit = (fork_is m f).0.rises in
       record {
         rest = list.masks;
         top = f.bit + 1;
@@ -68,11 +60,13 @@ module _ {V : Type 0} {m : FinMap nat_cmp (Seen V)} where
     pub rises : start.count ≤ now.count
     pub soon : now.count + 67 + 67 * p.low ≤ start.count + 67 * (bit + 1)
     pub hit : (x : Placed V) → Finds (HasPair (masked route.entry.rank address) route.entry.rank) (In p) (Some x) → Best address p.low (bit + 1) (In p) (Some x)
-    pub miss : (later : Counter) → Finds (HasPair (masked route.entry.rank address) route.entry.rank) (In p) None → Reads now later 67 → Through address p bit mask.next start later
+    pub miss : (later : Counter) → Finds (HasPair (masked route.entry.rank address) route.entry.rank) (In p) None → Reads now later 67
+        → Through address p bit mask.next start later
 
-  pub mask_at : {address : ℕ} {p : Part m} {bit : ℕ} {at : Option Id} {room : Id} {start now : Counter} → Through address p bit at start now → at ≡ Some room → Mask address p bit room start now
+  pub mask_at : {address : ℕ} {p : Part m} {bit : ℕ} {at : Option Id} {room : Id} {start now : Counter} → Through address p bit at start now → at ≡ Some room
+      → Mask address p bit room start now
   mask_at {address} {p} {bit} {at} {room} {start} {now} w is =
-      let x = head_of w.rest room (w.begins ∙ is) in
+      let x = head_of w.rest (w.begins ∙ is) in
       let in_tree : IsIn x.first p.tree = w.inside x.first (subst (IsAmong x.first) (sym x.is) (inl refl)) in
       let leaf = tree_said (leaves_in m) (bits_in m) p.above p.tree p.stands x.first in_tree in
       let stands = subst (MasksStand (masks_in m)) x.is w.stands in
@@ -108,21 +102,26 @@ module _ {V : Type 0} {m : FinMap nat_cmp (Seen V)} where
       }
 
   -- what was asked for is the mask's pair
-  asked : (address : ℕ) (p : Part m) {key rank own : ℕ} (o : Option Id) → key ≡ masked rank address → rank ≡ own → Tells (Finds (HasPair key rank) (In p)) o → Tells (Finds (HasPair (masked own address) own) (In p)) o
+  asked : (address : ℕ) (p : Part m) {key rank own : ℕ} (o : Option Id) → key ≡ masked rank address → rank ≡ own → Tells (Finds (HasPair key rank) (In p)) o
+      → Tells (Finds (HasPair (masked own address) own) (In p)) o
   asked address p {rank = rank} o key_is rank_is found =
       subst (λ (r : ℕ). Tells (Finds (HasPair (masked r address) r) (In p)) o) rank_is (subst (λ (k : ℕ). Tells (Finds (HasPair k rank) (In p)) o) key_is found)
 
-  pub hit : {address : ℕ} {p : Part m} {bit : ℕ} {room : Id} {start now : Counter} (x : Mask address p bit room start now) (l : Leaf) (key : ℕ) {o : Option Id} {found : Id} → l ≡ x.part.leaf → key ≡ masked l.rank address → o ≡ Some found
+  pub hit : {address : ℕ} {p : Part m} {bit : ℕ} {room : Id} {start now : Counter} (x : Mask address p bit room start now) {l : Leaf} {key : ℕ} {o : Option Id}
+      {found : Id} → l ≡ x.part.leaf → key ≡ masked l.rank address → o ≡ Some found
       → Tells (Finds (HasPair key l.rank) (In p)) o → Tells (Best address p.low (bit + 1) (In p)) (Some found)
-  hit {address} {p} x l key {o} {found} is key_is some tells =
-      let told = asked address p (Some found) key_is (ap (λ (z : Leaf). z.rank) is ∙ x.rank) (subst (Tells (Finds (HasPair key l.rank) (In p))) some tells) in (told.0, told.1, x.hit told.0 told.2)
+  hit {address} {p} x {l = l} {key = key} {o} {found} is key_is some tells =
+      let told = asked address p (Some found) key_is (ap (λ (z : Leaf). z.rank) is ∙ x.rank) (subst (Tells (Finds (HasPair key l.rank) (In p))) some tells) in
+      (told.0, told.1, x.hit told.0 told.2)
 
-  pub miss : {address : ℕ} {p : Part m} {bit : ℕ} {room : Id} {start now later : Counter} (x : Mask address p bit room start now) (l : Leaf) (n : MaskNode) (key : ℕ) {o : Option Id} → l ≡ x.part.leaf → masks_in m room.number ≡ mask_part room.block (Some n)
+  pub miss : {address : ℕ} {p : Part m} {bit : ℕ} {room : Id} {start now later : Counter} (x : Mask address p bit room start now) {l : Leaf} (n : MaskNode)
+      {key : ℕ} {o : Option Id} → l ≡ x.part.leaf → masks_in m room.number ≡ mask_part room.block (Some n)
       → key ≡ masked l.rank address → o ≡ None → Tells (Finds (HasPair key l.rank) (In p)) o → Reads now later 67 → Through address p bit n.next start later
-  miss {address} {p} {bit} {start = start} {later = later} x l n key is said key_is none tells more =
+  miss {address} {p} {bit} {start = start} {later = later} x {l = l} n {key = key} is said key_is none tells more =
       let told = asked address p None key_is (ap (λ (z : Leaf). z.rank) is ∙ x.rank) (subst (Tells (Finds (HasPair key l.rank) (In p))) none tells) in
       subst (λ (i : Option Id). Through address p bit i start later) (ap (λ (k : MaskPart). k.next) (inside (sym x.listed ∙ said))) (x.miss later told more)
 
-  pub ended : {address : ℕ} {p : Part m} {bit : ℕ} {at : Option Id} {start now : Counter} → Through address p bit at start now → at ≡ None → Best address p.low (bit + 1) (In p) None
+  pub ended : {address : ℕ} {p : Part m} {bit : ℕ} {at : Option Id} {start now : Counter} → Through address p bit at start now → at ≡ None
+      → Best address p.low (bit + 1) (In p) None
   ended {address} {p} {bit} w is =
       list_ends address p.low w.top (bit + 1) p.tree (λ y at least below. absurd (ended_at w.rest (w.begins ∙ is) y (w.listed y at least below))) w.tried

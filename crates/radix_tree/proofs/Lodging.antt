@@ -1,21 +1,9 @@
 -- A room in which a route is lodged, as a leaf and as a bit node.
 use Rattle.std.proofs.Common.{◌≡◌, ℕ, ◌≤◌, ◌==◌, Bool, if◌then◌else◌, List, [], ◌∷◌, Option, Some, None, refl, sym, ap, ◌∙◌}
 use Rattle.std.proofs.lemmas.Bool.{eq-eqb, ne_eqb}
-use Rattle.std.specs.Ordering.{nat_cmp}
-use Rattle.std.specs.FinMap.{FinMap, get}
-use Rattle.radix_nodes.specs.Rooms.{Seen, Has}
-use Rattle.radix_nodes.specs.declared.id.Id.{Id}
-use Rattle.radix_nodes.specs.declared.links.BitNode.{BitNode}
-use Rattle.radix_nodes.specs.declared.links.Leaf.{Leaf}
-use Rattle.radix_nodes.specs.declared.links.Node.{Node}
-use Rattle.radix_nodes.specs.declared.links.Node.TheVariants.{Bit as BitOf}
-use Rattle.radix_tree.specs.Tree.{fork}
-use Rattle.radix_tree.specs.Rooms.{LeafPart, BitPart, Part, leaf_in, bit_in, leaves_in, bits_in, bit_part, name_of}
-use Rattle.radix_tree.specs.Searches.{ForkAt, Way}
-use Rattle.radix_tree.specs.Whole.{leaves_at, forks_at}
-use Rattle.radix_tree.specs.Growth.{name_child, with_child, IsSpot, IsLodged, IsBeside, forked, placed}
-use Rattle.radix_tree.specs.Writes.{lodge_leaf, put_leaf, put_bit, with_leaf, lift_leaf, lift_bit, KeepsLeaves, KeepsBits}
-use Rattle.radix_tree.specs.declared.entry.Entry.{Entry}
+use Rattle.radix_tree.proofs.Words.{get, Has, Id, BitNode, Leaf, Node, BitOf, fork, LeafPart, BitPart, Part, leaf_in, bit_in, leaves_in, bits_in, bit_part}
+use Rattle.radix_tree.proofs.Words.{name_of, ForkAt, Way, leaves_at, forks_at, name_child, with_child, IsSpot, IsLodged, IsBeside, forked, placed, lodge_leaf}
+use Rattle.radix_tree.proofs.Words.{put_leaf, put_bit, with_leaf, lift_leaf, lift_bit, KeepsLeaves, KeepsBits, Entry, Lodged}
 use Rattle.radix_tree.proofs.RoomReads.{inside, none_some, Has-leaf}
 use Rattle.radix_tree.proofs.PartRooms.{frame}
 use Rattle.radix_tree.proofs.Parts.{fork_stands}
@@ -28,31 +16,37 @@ off_room : {A : Type 0} (room : Id) (n : ℕ) (x y : A) → (n ≡ room.number �
 off_room room n x y other = ap (λ (t : Bool). if t then x else y) (ne_eqb n room.number other)
 
 -- a room that isn't the bit node above isn't turned
-new_turn : (above : Option Id) (key n : ℕ) (to : Node) (said : Option BitPart) → ((over : Id) → above ≡ Some over → n ≡ over.number → ⊥) → name_child above key to n said ≡ said
+new_turn : (above : Option Id) (key n : ℕ) (to : Node) (said : Option BitPart) → ((over : Id) → above ≡ Some over → n ≡ over.number → ⊥)
+    → name_child above key to n said ≡ said
 new_turn None key n to said other = refl
 new_turn (Some over) key n to said other = off_room over n (with_child key to said) said (other over refl)
 
 module _ {V : Type 0} where
-  pub Has-lodged_leaf : (new : FinMap nat_cmp (Seen V)) (room : Id) (value : V) (l : Leaf) (said : Option (LeafPart V)) → leaves_in new room.number ≡ lodge_leaf room value l room.number said → Has new room
-  Has-lodged_leaf new room value l said is = Has-leaf new room (record { block = room.block; value = value; leaf = l }) (is ∙ at_room room (Some (record { block = room.block; value = value; leaf = l })) said) refl
+  pub Has-lodged_leaf : (new : Lodged V) (room : Id) (value : V) (l : Leaf) (said : Option (LeafPart V))
+      → leaves_in new room.number ≡ lodge_leaf room value l room.number said → Has new room
+  Has-lodged_leaf new room value l said is = Has-leaf new room (is ∙ at_room room (Some (record { block = room.block; value = value; leaf = l })) said) refl
 
   -- a leaf that was lodged and written again
-  pub leaf_again : (m new : FinMap nat_cmp (Seen V)) (room : Id) (value : V) (first then_ : Leaf) (said : Option (LeafPart V)) → leaves_in m room.number ≡ lodge_leaf room value first room.number said
-      → leaves_in new room.number ≡ put_leaf room then_ room.number (leaves_in m room.number) → leaves_in new room.number ≡ Some (record { block = room.block; value = value; leaf = then_ })
+  pub leaf_again : (m new : Lodged V) (room : Id) (value : V) (first then_ : Leaf) (said : Option (LeafPart V))
+      → leaves_in m room.number ≡ lodge_leaf room value first room.number said
+      → leaves_in new room.number ≡ put_leaf room then_ room.number (leaves_in m room.number)
+      → leaves_in new room.number ≡ Some (record { block = room.block; value = value; leaf = then_ })
   leaf_again m new room value first then_ said was is =
       is ∙ at_room room (with_leaf then_ (leaves_in m room.number)) (leaves_in m room.number)
       ∙ ap (with_leaf then_) (was ∙ at_room room (Some (record { block = room.block; value = value; leaf = first })) said)
 
-  pub Has-again : (m new : FinMap nat_cmp (Seen V)) (room : Id) (value : V) (first then_ : Leaf) (said : Option (LeafPart V)) → leaves_in m room.number ≡ lodge_leaf room value first room.number said
+  pub Has-again : (m new : Lodged V) (room : Id) (value : V) (first then_ : Leaf) (said : Option (LeafPart V))
+      → leaves_in m room.number ≡ lodge_leaf room value first room.number said
       → leaves_in new room.number ≡ put_leaf room then_ room.number (leaves_in m room.number) → Has new room
-  Has-again m new room value first then_ said was is = Has-leaf new room (record { block = room.block; value = value; leaf = then_ }) (leaf_again m new room value first then_ said was is) refl
+  Has-again m new room value first then_ said was is = Has-leaf new room (leaf_again m new room value first then_ said was is) refl
 
   -- the three writes together
-  pub lodged : (m1 m2 m3 m4 : FinMap nat_cmp (Seen V)) (room : Id) (e : Entry V) (first then_ : Leaf) (n : BitNode) (p : BitPart) → get m1 room.number ≡ None
+  pub lodged : (m1 m2 m3 m4 : Lodged V) (room : Id) (e : Entry V) (first then_ : Leaf) (n : BitNode) (p : BitPart) → get m1 room.number ≡ None
       → ((k : ℕ) → leaves_in m2 k ≡ lodge_leaf room e.value first k (leaves_in m1 k)) → KeepsBits m1 m2
       → ((k : ℕ) → leaves_in m3 k ≡ put_leaf room then_ k (leaves_in m2 k)) → KeepsBits m2 m3
       → KeepsLeaves m3 m4 → ((k : ℕ) → bits_in m4 k ≡ put_bit room (Some n) k (bits_in m3 k))
-      → then_ ≡ record { key = e.key; rank = e.rank; above = Some room; next = None; previous = None } → bit_part room.block (Some n) ≡ Some p → IsLodged m1 m4 room e p
+      → then_ ≡ record { key = e.key; rank = e.rank; above = Some room; next = None; previous = None } → bit_part room.block (Some n) ≡ Some p
+      → IsLodged m1 m4 room e p
   lodged m1 m2 m3 m4 room e first then_ n p free leaves2 bits2 leaves3 bits3 leaves4 bits4 leaf_is node_is = record {
     no_leaf = ap leaf_in free;
     no_bit = ap bit_in free;
@@ -65,7 +59,8 @@ module _ {V : Type 0} where
   }
 
   -- ---- parts that stay
-  abbrev pub stays : (m new : FinMap nat_cmp (Seen V)) (p : Part m) → ((n : ℕ) → 1 ≤ leaves_at n p.tree → leaves_in new n ≡ leaves_in m n) → ((n : ℕ) → 1 ≤ forks_at n p.tree → bits_in new n ≡ bits_in m n) → Part new
+  abbrev pub stays : (m new : Lodged V) (p : Part m) → ((n : ℕ) → 1 ≤ leaves_at n p.tree → leaves_in new n ≡ leaves_in m n)
+      → ((n : ℕ) → 1 ≤ forks_at n p.tree → bits_in new n ≡ bits_in m n) → Part new
   stays m new p leaves forks = record {
     tree = p.tree;
     low = p.low;
@@ -74,51 +69,60 @@ module _ {V : Type 0} where
     stands = frame (leaves_in m) (leaves_in new) (bits_in m) (bits_in new) p.above p.tree leaves forks p.stands;
   }
 
-  pub over_at : (m : FinMap nat_cmp (Seen V)) (key : ℕ) (whole at : Part m) (ups : List (Part m)) (above : Option Id) (over : Id) → Way key whole at ups → whole.above ≡ None → at.above ≡ above → above ≡ Some over → (p : Part m) × ForkAt p over
-  over_at m key whole at [] above over way top is some = absurd (none_some (sym top ∙ sym (ap (λ (p : Part m). p.above) way) ∙ is ∙ some))
-  over_at m key whole at (p ∷ ps) above over way top is some =
+  pub over_at : (m : Lodged V) (key : ℕ) (whole at : Part m) (ups : List (Part m)) {above : Option Id} {over : Id} → Way key whole at ups → whole.above ≡ None
+      → at.above ≡ above → above ≡ Some over → (p : Part m) × ForkAt p over
+  over_at m key whole at [] way top is some = absurd (none_some (sym top ∙ sym (ap (λ (p : Part m). p.above) way) ∙ is ∙ some))
+  over_at m key whole at (p ∷ ps) {over = over} way top is some =
       let b = way.0 in
       let f = b.at in
       let same : b.room ≡ over = inside (sym b.above ∙ is ∙ some) in
       (p, record { bit = f.bit; zero = f.zero; one = f.one; is = f.is ∙ ap (λ (i : Id). fork i f.bit f.zero f.one) same })
 
   -- the bit node above the spot is there once the room is lodged
-  pub over_there : (m new : FinMap nat_cmp (Seen V)) (key bit : ℕ) (room over : Id) (e : Entry V) (node : BitPart) (whole : Part m) (above : Option Id) (below : Node) → IsSpot m key bit whole above below → IsLodged m new room e node
+  pub over_there : {m new : Lodged V} {key bit : ℕ} {room over : Id} {e : Entry V} (node : BitPart) (whole : Part m) {above : Option Id} {below : Node}
+      → IsSpot m key bit whole above below → IsLodged m new room e node
       → above ≡ Some over → (p : Part new) × ForkAt p over
-  over_there m new key bit room over e node whole above below s l is =
-      let o = over_at m key whole s.at s.ups above over s.way s.top s.above_is is in (
-        stays m new o.0 (λ n some. l.leaves n (not_new m o.0 room l.no_leaf n some)) (λ n some. l.bits n (not_new_bit m o.0 room l.no_bit n some)),
+  over_there {m = m} {new = new} {key = key} {bit = bit} {room = room} node whole s l is =
+      let o = over_at m key whole s.at s.ups s.way s.top s.above_is is in (
+        stays m new o.0 (λ n some. l.leaves n (not_new o.0 room l.no_leaf n some)) (λ n some. l.bits n (not_new_bit o.0 room l.no_bit n some)),
         record { bit = o.1.bit; zero = o.1.zero; one = o.1.one; is = o.1.is },
       )
 
   -- and the part beneath it once that names the new bit node
-  pub below_there : (m new turned : FinMap nat_cmp (Seen V)) (key bit : ℕ) (room : Id) (e : Entry V) (node : BitPart) (whole : Part m) (above : Option Id) (below : Node) → IsSpot m key bit whole above below → IsLodged m new room e node
-      → KeepsLeaves new turned → ((n : ℕ) → bits_in turned n ≡ name_child above key (BitOf room) n (bits_in new n)) → (p : Part turned) × (name_of p.tree ≡ below)
-  below_there m new turned key bit room e node whole above below s l leaves bits = (
+  pub below_there : (m new turned : Lodged V) {key bit : ℕ} {room : Id} {e : Entry V} (node : BitPart) (whole : Part m) {above : Option Id} {below : Node}
+      → IsSpot m key bit whole above below → IsLodged m new room e node
+      → KeepsLeaves new turned → ((n : ℕ) → bits_in turned n ≡ name_child above key (BitOf room) n (bits_in new n))
+      → (p : Part turned) × (name_of p.tree ≡ below)
+  below_there m new turned {key = key} {room = room} node whole {above = above} s l leaves bits = (
     stays m turned s.at
-        (λ n some. leaves n ∙ l.leaves n (not_new m s.at room l.no_leaf n some))
-        (λ n some. bits n ∙ ap (λ (said : Option BitPart). name_child above key (BitOf room) n said) (l.bits n (not_new_bit m s.at room l.no_bit n some))
-        ∙ ap (λ (o : Option Id). name_child o key (BitOf room) n (bits_in m n)) (sym s.above_is) ∙ not_above m key whole s.at s.ups s.way s.top s.once (BitOf room) n some),
+        (λ n some. leaves n ∙ l.leaves n (not_new s.at room l.no_leaf n some))
+        (λ n some. bits n ∙ ap (λ (said : Option BitPart). name_child above key (BitOf room) n said) (l.bits n (not_new_bit s.at room l.no_bit n some))
+        ∙ ap (λ (o : Option Id). name_child o key (BitOf room) n (bits_in m n)) (sym s.above_is)
+        ∙ not_above m key whole s.at s.ups s.way s.top s.once (BitOf room) n some),
     s.named,
   )
 
   -- what all writes together leave
-  pub beside : (m new turned last : FinMap nat_cmp (Seen V)) (bit : ℕ) (room : Id) (e : Entry V) (whole : Part m) (above : Option Id) (below : Node) → IsSpot m e.key bit whole above below
+  pub beside : {m new : Lodged V} (turned last : Lodged V) {bit : ℕ} {room : Id} {e : Entry V} (whole : Part m) {above : Option Id} {below : Node}
+      → IsSpot m e.key bit whole above below
       → IsLodged m new room e (forked e.key bit room below above)
       → KeepsLeaves new turned → ((n : ℕ) → bits_in turned n ≡ name_child above e.key (BitOf room) n (bits_in new n))
-      → ((n : ℕ) → leaves_in last n ≡ lift_leaf below (Some room) n (leaves_in turned n)) → ((n : ℕ) → bits_in last n ≡ lift_bit below (Some room) n (bits_in turned n)) → IsBeside m last bit (placed room e) above below
-  beside m new turned last bit room e whole above below s l leaves bits lifted_leaves lifted_bits =
+      → ((n : ℕ) → leaves_in last n ≡ lift_leaf below (Some room) n (leaves_in turned n))
+      → ((n : ℕ) → bits_in last n ≡ lift_bit below (Some room) n (bits_in turned n)) → IsBeside m last bit (placed room e) above below
+  beside {m = m} {new = new} turned last {room = room} {e = e} whole {above = above} {below = below} s l leaves bits lifted_leaves lifted_bits =
       let new_above : (over : Id) → above ≡ Some over → room.number ≡ over.number → ⊥ = λ over is same.
-      let o = over_at m e.key whole s.at s.ups above over s.way s.top s.above_is is in
-      none_some (sym l.no_bit ∙ ap (bits_in m) same ∙ (fork_stands m o.0 over o.1).0) in
+      let o = over_at m e.key whole s.at s.ups s.way s.top s.above_is is in
+      none_some (sym l.no_bit ∙ ap (bits_in m) same ∙ (fork_stands m o.1).0) in
       record {
         no_leaf = l.no_leaf;
         no_bit = l.no_bit;
         leaf = lifted_leaves room.number
-            ∙ misses_leaf below room.number (λ r is same. not_new m s.at room l.no_leaf r.number (named_leaf s.at.tree r (s.named ∙ is)) (sym same)) (Some room) (leaves_in turned room.number)
+            ∙ misses_leaf below room.number (λ r is same. not_new s.at room l.no_leaf r.number (named_leaf s.at.tree r (s.named ∙ is)) (sym same)) (Some room)
+            (leaves_in turned room.number)
             ∙ leaves room.number ∙ l.leaf;
         bit_node = lifted_bits room.number
-            ∙ misses_bit below room.number (λ r is same. not_new_bit m s.at room l.no_bit r.number (named_bit s.at.tree r (s.named ∙ is)) (sym same)) (Some room) (bits_in turned room.number)
+            ∙ misses_bit below room.number (λ r is same. not_new_bit s.at room l.no_bit r.number (named_bit s.at.tree r (s.named ∙ is)) (sym same)) (Some room)
+            (bits_in turned room.number)
             ∙ bits room.number ∙ new_turn above e.key room.number (BitOf room) (bits_in new room.number) new_above ∙ l.bit_node;
         leaves = λ n other. lifted_leaves n ∙ ap (λ (said : Option (LeafPart V)). lift_leaf below (Some room) n said) (leaves n ∙ l.leaves n other);
         bits = λ n other. lifted_bits n ∙ ap (λ (said : Option BitPart). lift_bit below (Some room) n said)

@@ -1,28 +1,24 @@
 -- A walk along a list of masks, whose rooms are no mask nodes any more.
-use Rattle.std.proofs.Common.{◌≡◌, ℕ, ◌+◌, ◌<◌, ◌≤◌, ◌==◌, ◌⊎◌, Bool, true, false, if◌then◌else◌, List, [], ◌∷◌, Option, Some, None, refl, sym, ap, ◌∙◌, subst, inl, inr, ⊎_elim, arith}
+use Rattle.std.proofs.Common.{◌≡◌, ℕ, ◌+◌, ◌<◌, ◌≤◌, ◌==◌, ◌⊎◌, Bool, true, false, if◌then◌else◌, List, [], ◌∷◌, Option, Some, None, refl, sym, ap, ◌∙◌, subst}
+use Rattle.std.proofs.Common.{inl, inr, ⊎_elim, arith}
 use Rattle.std.proofs.lemmas.Bool.{eq-eqb}
-use Rattle.std.specs.Ordering.{nat_cmp}
-use Rattle.std.specs.FinMap.{FinMap}
-use Rattle.radix_nodes.specs.Rooms.{Seen}
-use Rattle.radix_nodes.specs.declared.id.Id.{Id}
-use Rattle.radix_nodes.specs.declared.links.MaskNode.{MaskNode}
-use Rattle.radix_tree.specs.Tree.{Placed, IsAmong}
-use Rattle.radix_tree.specs.Rooms.{LeafPart, Leaves, MaskPart, leaves_in, masks_in, mask_part, first_room, MasksStand, Falls}
-use Rattle.radix_tree.specs.Writes.{KeepsLeaves, put_mask}
-use Rattle.radix_tree.specs.MaskLists.{IsMasks, IsRanked, AreRanked, IsAside}
+use Rattle.radix_tree.proofs.Words.{Id, MaskNode, Placed, IsAmong, LeafPart, Leaves, MaskPart, leaves_in, masks_in, mask_part, first_room, MasksStand, Falls}
+use Rattle.radix_tree.proofs.Words.{KeepsLeaves, put_mask, IsMasks, IsRanked, AreRanked, IsAside, Lodged}
 use Rattle.radix_tree.proofs.Scans.{ended_at}
 use Rattle.radix_tree.proofs.TreeMembers.{head_of}
 use Rattle.radix_tree.proofs.MaskWalks.{listed_as, next_told}
-use Rattle.radix_tree.proofs.MaskChanges.{apart, stand_same, are_ranked_same, put_aside}
+use Rattle.radix_tree.proofs.MaskLinks.{apart, stand_same, are_ranked_same, put_aside}
 
-put_none : (room : Id) (n : ℕ) (said : Option MaskPart) → said ≡ None → put_mask room None n said ≡ None
-put_none room n said none = elim (n == room.number) as (λ t. (if t then None else said) ≡ None) [ true ↦ refl | false ↦ none ]
+put_none : (room : Id) (n : ℕ) {said : Option MaskPart} → said ≡ None → put_mask room None n said ≡ None
+put_none room n {said = said} none = elim (n == room.number) as (λ t. (if t then None else said) ≡ None) [ true ↦ refl | false ↦ none ]
 
-put_own_none : (room : Id) (n : ℕ) (said : Option MaskPart) → n ≡ room.number → put_mask room None n said ≡ None
-put_own_none room n said same = ap (λ (t : Bool). if t then None else said) (eq-eqb n room.number same)
+put_own_none : (room : Id) {n : ℕ} (said : Option MaskPart) → n ≡ room.number → put_mask room None n said ≡ None
+put_own_none room {n = n} said same = ap (λ (t : Bool). if t then None else said) (eq-eqb n room.number same)
 
-put_fewer : (room : Id) (n : ℕ) (said was : Option MaskPart) → (said ≡ None) ⊎ (said ≡ was) → (put_mask room None n said ≡ None) ⊎ (put_mask room None n said ≡ was)
-put_fewer room n said was fewer = elim (n == room.number) as (λ t. ((if t then None else said) ≡ None) ⊎ ((if t then None else said) ≡ was)) [ true ↦ inl refl | false ↦ fewer ]
+put_fewer : (room : Id) (n : ℕ) (said was : Option MaskPart) → (said ≡ None) ⊎ (said ≡ was)
+    → (put_mask room None n said ≡ None) ⊎ (put_mask room None n said ≡ was)
+put_fewer room n said was fewer =
+    elim (n == room.number) as (λ t. ((if t then None else said) ≡ None) ⊎ ((if t then None else said) ≡ was)) [ true ↦ inl refl | false ↦ fewer ]
 
 -- how many ranks there are up to that of a room
 abbrev pub ranks_in : {V : Type 0} → Option (LeafPart V) → ℕ
@@ -35,16 +31,17 @@ ranks_from L (Some room) = ranks_in (L room.number)
 
 module _ {V : Type 0} where
   -- the ranks of rooms fall along the list
-  own_ranks : (L : Leaves V) (x : Placed V) (room : Id) → IsRanked L x → x.room ≡ room → ranks_from L (Some room) ≡ x.entry.rank + 1
-  own_ranks L x room r room_is = ap (λ (i : Id). ranks_in (L i.number)) (sym room_is) ∙ ap (λ (o : Option (LeafPart V)). ranks_in o) r.said ∙ ap (λ (n : ℕ). n + 1) r.rank
+  own_ranks : {L : Leaves V} {x : Placed V} (room : Id) → IsRanked L x → x.room ≡ room → ranks_from L (Some room) ≡ x.entry.rank + 1
+  own_ranks {L = L} room r room_is =
+      ap (λ (i : Id). ranks_in (L i.number)) (sym room_is) ∙ ap (λ (o : Option (LeafPart V)). ranks_in o) r.said ∙ ap (λ (n : ℕ). n + 1) r.rank
 
   ranks_behind : (L : Leaves V) (top : ℕ) (ms : List (Placed V)) → Falls 0 top ms → AreRanked L ms → ranks_from L (first_room ms) ≤ top
   ranks_behind L top [] falls ranked = omega arith
   ranks_behind L top (x ∷ xs) falls ranked =
-      let own : ranks_from L (Some x.room) ≡ x.entry.rank + 1 = own_ranks L x x.room ranked.0 refl in let less : x.entry.rank < top = falls.1 in omega arith
+      let own : ranks_from L (Some x.room) ≡ x.entry.rank + 1 = own_ranks x.room ranked.0 refl in let less : x.entry.rank < top = falls.1 in omega arith
 
   -- a walk along a list, whose rooms are no mask nodes any more
-  pub record Clearing (m now : FinMap nat_cmp (Seen V)) (ms : List (Placed V)) (at : Option Id) : Type 0 where
+  pub record Clearing (m now : Lodged V) (ms : List (Placed V)) (at : Option Id) : Type 0 where
     pub rest : List (Placed V)
     pub top : ℕ
     pub begins : first_room rest ≡ at
@@ -56,7 +53,7 @@ module _ {V : Type 0} where
     pub aside : (n : ℕ) → IsAside n ms → masks_in now n ≡ masks_in m n
     pub fewer : (n : ℕ) → (masks_in now n ≡ None) ⊎ (masks_in now n ≡ masks_in m n)
 
-  pub begun : {m : FinMap nat_cmp (Seen V)} {first : Option Id} {ms : List (Placed V)} → IsMasks m first ms → Clearing m m ms first
+  pub begun : {m : Lodged V} {first : Option Id} {ms : List (Placed V)} → IsMasks m first ms → Clearing m m ms first
   begun {ms = ms} is = record {
     rest = ms;
     top = 34;
@@ -70,15 +67,17 @@ module _ {V : Type 0} where
     fewer = λ n. inr refl;
   }
 
-  pub listed_at : {m now : FinMap nat_cmp (Seen V)} {ms : List (Placed V)} {at : Option Id} {room : Id} → Clearing m now ms at → at ≡ Some room → (p : MaskPart) × (masks_in now room.number ≡ Some p) × (p.block ≡ room.block)
+  pub listed_at : {m now : Lodged V} {ms : List (Placed V)} {at : Option Id} {room : Id} → Clearing m now ms at → at ≡ Some room
+      → (p : MaskPart) × (masks_in now room.number ≡ Some p) × (p.block ≡ room.block)
   listed_at {now = now} {room = room} w is =
-      let x = head_of w.rest room (w.begins ∙ is) in listed_as now x.first x.behind room (subst (MasksStand (masks_in now)) x.is w.stands) x.room_is
+      let x = head_of w.rest (w.begins ∙ is) in listed_as now x.first x.behind (subst (MasksStand (masks_in now)) x.is w.stands) x.room_is
 
-  pub cleared_one : {m now : FinMap nat_cmp (Seen V)} {ms : List (Placed V)} {at : Option Id} {room : Id} (new : FinMap nat_cmp (Seen V)) (node : MaskNode) → Clearing m now ms at → at ≡ Some room → masks_in now room.number ≡ mask_part room.block (Some node)
+  pub cleared_one : {m now : Lodged V} {ms : List (Placed V)} {at : Option Id} {room : Id} (new : Lodged V) (node : MaskNode)
+      → Clearing m now ms at → at ≡ Some room → masks_in now room.number ≡ mask_part room.block (Some node)
       → KeepsLeaves now new → ((n : ℕ) → masks_in new n ≡ put_mask room None n (masks_in now n))
       → Clearing m new ms node.next × (ranks_from (leaves_in new) node.next < ranks_from (leaves_in now) at)
   cleared_one {m} {now} {at = at} {room} new node w is said keeps masks =
-      let x = head_of w.rest room (w.begins ∙ is) in
+      let x = head_of w.rest (w.begins ∙ is) in
       let stands = subst (MasksStand (masks_in now)) x.is w.stands in
       let falls = subst (Falls 0 w.top) x.is w.falls in
       let ranked = subst (AreRanked (leaves_in now)) x.is w.ranked in
@@ -86,27 +85,34 @@ module _ {V : Type 0} where
       let number = ap (λ (i : Id). i.number) x.room_is in
       let others = (apart (leaves_in now) 0 w.top (x.first ∷ x.behind) falls ranked).0 in
       let first_among = w.within x.first (subst (IsAmong x.first) (sym x.is) (inl refl)) in
-      let next = next_told now x.first x.behind room node stands x.room_is said in
-      let behind : ranks_from (leaves_in new) (first_room x.behind) ≤ x.first.entry.rank = ranks_behind (leaves_in new) x.first.entry.rank x.behind falls.2 ranked_now in
+      let next = next_told now x.first x.behind node stands x.room_is said in
+      let behind : ranks_from (leaves_in new) (first_room x.behind) ≤ x.first.entry.rank =
+      ranks_behind (leaves_in new) x.first.entry.rank x.behind falls.2 ranked_now in
       let fewer : ranks_from (leaves_in new) (first_room x.behind) ≡ ranks_from (leaves_in new) node.next = ap (ranks_from (leaves_in new)) next in
-      let own : ranks_from (leaves_in now) at ≡ x.first.entry.rank + 1 = ap (ranks_from (leaves_in now)) is ∙ own_ranks (leaves_in now) x.first room ranked.0 x.room_is in (
+      let own : ranks_from (leaves_in now) at ≡ x.first.entry.rank + 1 = ap (ranks_from (leaves_in now)) is ∙ own_ranks room ranked.0 x.room_is in (
         record {
           rest = x.behind;
           top = x.first.entry.rank;
           begins = next;
-          stands = stand_same (masks_in now) (masks_in new) x.behind (λ y among. masks y.room.number ∙ put_aside room None y.room.number (masks_in now y.room.number) (λ same. others y among (same ∙ sym number))) stands.1;
+          stands =
+              stand_same (masks_in now) (masks_in new) x.behind (λ y among. masks y.room.number
+              ∙ put_aside room None y.room.number (masks_in now y.room.number) (λ same. others y among (same ∙ sym number))) stands.1;
           falls = falls.2;
           ranked = ranked_now;
           within = λ y among. w.within y (subst (IsAmong y) (sym x.is) (inr among));
-          cleared = λ y among. ⊎_elim (λ (none : masks_in now y.room.number ≡ None). inl (masks y.room.number ∙ put_none room y.room.number (masks_in now y.room.number) none))
+          cleared = λ y among. ⊎_elim (λ (none : masks_in now y.room.number ≡ None). inl (masks y.room.number ∙ put_none room y.room.number none))
               (λ (left : IsAmong y w.rest). ⊎_elim
-              (λ (e : x.first ≡ y). inl (masks y.room.number ∙ put_own_none room y.room.number (masks_in now y.room.number) (ap (λ (p : Placed V). p.room.number) (sym e) ∙ number)))
+              (λ (e : x.first ≡ y). inl (masks y.room.number ∙ put_own_none room (masks_in now y.room.number)
+              (ap (λ (p : Placed V). p.room.number) (sym e) ∙ number)))
               (λ (behind : IsAmong y x.behind). inr behind) (subst (IsAmong y) x.is left)) (w.cleared y among);
           aside = λ n aside. masks n ∙ put_aside room None n (masks_in now n) (λ same. aside x.first first_among (number ∙ sym same)) ∙ w.aside n aside;
-          fewer = λ n. subst (λ (o : Option MaskPart). (o ≡ None) ⊎ (o ≡ masks_in m n)) (sym (masks n)) (put_fewer room n (masks_in now n) (masks_in m n) (w.fewer n));
+          fewer = λ n. subst (λ (o : Option MaskPart). (o ≡ None) ⊎ (o ≡ masks_in m n)) (sym (masks n))
+              (put_fewer room n (masks_in now n) (masks_in m n) (w.fewer n));
         },
         omega arith,
       )
 
-  pub ended : {m now : FinMap nat_cmp (Seen V)} {ms : List (Placed V)} {at : Option Id} (w : Clearing m now ms at) → at ≡ None → (y : Placed V) → IsAmong y ms → masks_in now y.room.number ≡ None
-  ended {now = now} w is y among = ⊎_elim (λ (none : masks_in now y.room.number ≡ None). none) (λ (left : IsAmong y w.rest). absurd (ended_at w.rest (w.begins ∙ is) y left)) (w.cleared y among)
+  pub ended : {m now : Lodged V} {ms : List (Placed V)} {at : Option Id} (w : Clearing m now ms at) → at ≡ None → (y : Placed V) → IsAmong y ms
+      → masks_in now y.room.number ≡ None
+  ended {now = now} w is y among = ⊎_elim (λ (none : masks_in now y.room.number ≡ None). none)
+      (λ (left : IsAmong y w.rest). absurd (ended_at w.rest (w.begins ∙ is) y left)) (w.cleared y among)

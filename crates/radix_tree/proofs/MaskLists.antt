@@ -1,15 +1,10 @@
 -- The members of a list of masks, and of what comes of it.
-use Rattle.std.proofs.Common.{◌≡◌, ℕ, ◌+◌, ◌<◌, ◌≤◌, ◌⊎◌, Bool, true, false, nat_lt, if◌then◌else◌, List, [], ◌∷◌, ◌++◌, Option, is_some, refl, sym, ap, ◌∙◌, subst, inl, inr, ⊎_elim, arith}
+use Rattle.std.proofs.Common.{◌≡◌, ℕ, ◌+◌, ◌<◌, ◌≤◌, ◌⊎◌, Bool, true, false, nat_lt, if◌then◌else◌, List, [], ◌∷◌, ◌++◌, Option, is_some, refl, sym, ap, ◌∙◌}
+use Rattle.std.proofs.Common.{subst, inl, inr, ⊎_elim, arith}
 use Rattle.std.proofs.lemmas.Bool.{ltb-true, ltb-false, lt-ltb, le-ltb, cases_eq}
-use Rattle.std.specs.Ordering.{nat_cmp}
-use Rattle.std.specs.FinMap.{FinMap}
-use Rattle.radix_nodes.specs.Rooms.{Seen}
-use Rattle.radix_nodes.specs.declared.id.Id.{Id}
-use Rattle.radix_tree.specs.Tree.{Placed, IsAmong, IsIn}
-use Rattle.radix_tree.specs.Rooms.{LeafPart, Leaves, MaskPart, Masks, Part, leaves_in, bits_in, masks_in, leaf_part, MasksStand, Falls}
-use Rattle.radix_tree.specs.Searches.{ForkAt}
-use Rattle.radix_tree.specs.Marks.{IsMarked, IsMaskList}
-use Rattle.radix_tree.specs.MaskLists.{IsMasks, IsRanked, AreRanked, IsBitNode, IsNoRank, not_below, below, sorted_in, taken_out}
+use Rattle.radix_tree.proofs.Words.{Id, Placed, IsAmong, IsIn, LeafPart, Leaves, MaskPart, Masks, Part, leaves_in, bits_in, masks_in, leaf_part, MasksStand}
+use Rattle.radix_tree.proofs.Words.{Falls, ForkAt, IsMarked, IsMaskList, IsMasks, IsRanked, AreRanked, IsBitNode, IsNoRank, not_below, below, sorted_in}
+use Rattle.radix_tree.proofs.Words.{taken_out, Lodged}
 use Rattle.radix_tree.proofs.RoomReads.{inside}
 use Rattle.radix_tree.proofs.TreeMembers.{tree_said}
 use Rattle.radix_tree.proofs.Parts.{bit_part_of, fork_stands}
@@ -52,7 +47,8 @@ module _ {V : Type 0} where
       let first : x.entry.rank < top = falls.1 in let lower : y.entry.rank < x.entry.rank = between.1 in
       let most : y.entry.rank < top = omega arith in (between.0, most)) among
 
-  pub falls_appended : (low middle top : ℕ) (ms ts : List (Placed V)) → Falls middle top ms → Falls low middle ts → low ≤ middle → middle ≤ top → Falls low top (ms ++ ts)
+  pub falls_appended : (low middle top : ℕ) (ms ts : List (Placed V)) → Falls middle top ms → Falls low middle ts → low ≤ middle → middle ≤ top
+      → Falls low top (ms ++ ts)
   falls_appended low middle top [] ts longer shorter least most = falls_wider low middle low top ts shorter (omega arith) most
   falls_appended low middle top (x ∷ xs) ts longer shorter least most =
       let long : middle ≤ x.entry.rank = longer.0 in
@@ -75,16 +71,19 @@ module _ {V : Type 0} where
   pub parted : (low : ℕ) (ms : List (Placed V)) → ms ≡ not_below low ms ++ below low ms
   parted low [] = refl
   parted low (x ∷ xs) =
-      ⊎_elim (λ (short : x.entry.rank < low). sym (ap (λ (l : List (Placed V)). l ++ below low (x ∷ xs)) (not_below_short low x xs short) ∙ below_short low x xs short))
+      ⊎_elim (λ (short : x.entry.rank < low). sym (ap (λ (l : List (Placed V)). l ++ below low (x ∷ xs)) (not_below_short low x xs short)
+      ∙ below_short low x xs short))
       (λ (long : low ≤ x.entry.rank). ap (λ (l : List (Placed V)). x ∷ l) (parted low xs)
-      ∙ sym (ap (λ (l : List (Placed V)). l ++ below low (x ∷ xs)) (not_below_long low x xs long) ∙ ap (λ (l : List (Placed V)). (x ∷ not_below low xs) ++ l) (below_long low x xs long)))
+      ∙ sym (ap (λ (l : List (Placed V)). l ++ below low (x ∷ xs)) (not_below_long low x xs long)
+      ∙ ap (λ (l : List (Placed V)). (x ∷ not_below low xs) ++ l) (below_long low x xs long)))
       (short_or_long x.entry.rank low)
 
   pub falls_not_below : (least top low : ℕ) (ms : List (Placed V)) → Falls least top ms → Falls low top (not_below low ms)
   falls_not_below least top low [] falls = tt
   falls_not_below least top low (x ∷ xs) falls =
       ⊎_elim (λ (short : x.entry.rank < low). subst (Falls low top) (sym (not_below_short low x xs short)) tt)
-      (λ (long : low ≤ x.entry.rank). subst (Falls low top) (sym (not_below_long low x xs long)) (long, falls.1, falls_not_below least x.entry.rank low xs falls.2))
+      (λ (long : low ≤ x.entry.rank). subst (Falls low top) (sym (not_below_long low x xs long))
+      (long, falls.1, falls_not_below least x.entry.rank low xs falls.2))
       (short_or_long x.entry.rank low)
 
   pub falls_below : (least top low : ℕ) (ms : List (Placed V)) → Falls least top ms → Falls least low (below low ms)
@@ -113,13 +112,15 @@ module _ {V : Type 0} where
       (subst (IsAmong y) (not_below_long low x xs long) among))
       (short_or_long x.entry.rank low)
 
-  pub below_among : (least top low : ℕ) (ms : List (Placed V)) → Falls least top ms → (y : Placed V) → IsAmong y (below low ms) → IsAmong y ms × (y.entry.rank < low)
+  pub below_among : (least top low : ℕ) (ms : List (Placed V)) → Falls least top ms → (y : Placed V) → IsAmong y (below low ms)
+      → IsAmong y ms × (y.entry.rank < low)
   below_among least top low ms falls y among = (
     subst (IsAmong y) (sym (parted low ms)) (in_back (not_below low ms) (below low ms) y among),
     (falls_among least low (below low ms) (falls_below least top low ms falls) y among).1,
   )
 
-  pub among_not_below : (least top low : ℕ) (ms : List (Placed V)) → Falls least top ms → (y : Placed V) → IsAmong y ms → low ≤ y.entry.rank → IsAmong y (not_below low ms)
+  pub among_not_below : (least top low : ℕ) (ms : List (Placed V)) → Falls least top ms → (y : Placed V) → IsAmong y ms → low ≤ y.entry.rank
+      → IsAmong y (not_below low ms)
   among_not_below least top low ms falls y among long =
       ⊎_elim (λ (front : IsAmong y (not_below low ms)). front)
       (λ (back : IsAmong y (below low ms)). let short : y.entry.rank < low = (below_among least top low ms falls y back).1 in absurd (omega arith))
@@ -137,11 +138,14 @@ module _ {V : Type 0} where
 
   pub among_sorted : (least top : ℕ) (x : Placed V) (ms : List (Placed V)) → Falls least top ms → (y : Placed V) → IsAmong y ms → IsAmong y (sorted_in x ms)
   among_sorted least top x ms falls y among =
-      ⊎_elim (λ (short : y.entry.rank < x.entry.rank). in_back (not_below x.entry.rank ms) (x ∷ below x.entry.rank ms) y (inr (among_below x.entry.rank ms y among short)))
-      (λ (long : x.entry.rank ≤ y.entry.rank). in_front (not_below x.entry.rank ms) (x ∷ below x.entry.rank ms) y (among_not_below least top x.entry.rank ms falls y among long))
+      ⊎_elim (λ (short : y.entry.rank < x.entry.rank). in_back (not_below x.entry.rank ms) (x ∷ below x.entry.rank ms) y
+      (inr (among_below x.entry.rank ms y among short)))
+      (λ (long : x.entry.rank ≤ y.entry.rank). in_front (not_below x.entry.rank ms) (x ∷ below x.entry.rank ms) y
+      (among_not_below least top x.entry.rank ms falls y among long))
       (short_or_long y.entry.rank x.entry.rank)
 
-  pub sorted_among : (least top : ℕ) (x : Placed V) (ms : List (Placed V)) → Falls least top ms → (y : Placed V) → IsAmong y (sorted_in x ms) → (x ≡ y) ⊎ IsAmong y ms
+  pub sorted_among : (least top : ℕ) (x : Placed V) (ms : List (Placed V)) → Falls least top ms → (y : Placed V) → IsAmong y (sorted_in x ms)
+      → (x ≡ y) ⊎ IsAmong y ms
   sorted_among least top x ms falls y among =
       ⊎_elim (λ (front : IsAmong y (not_below x.entry.rank ms)). inr (not_below_among x.entry.rank ms y front).0)
       (λ (back : IsAmong y (x ∷ below x.entry.rank ms)).
@@ -157,14 +161,18 @@ module _ {V : Type 0} where
         raised low x.entry.rank xs falls.2 (λ y among. no_rank y (inr among)),
       )
 
-  pub falls_sorted : (low top : ℕ) (x : Placed V) (ms : List (Placed V)) → Falls low top ms → low ≤ x.entry.rank → x.entry.rank < top → IsNoRank x.entry.rank ms → Falls low top (sorted_in x ms)
+  pub falls_sorted : (low top : ℕ) (x : Placed V) (ms : List (Placed V)) → Falls low top ms → low ≤ x.entry.rank → x.entry.rank < top
+      → IsNoRank x.entry.rank ms → Falls low top (sorted_in x ms)
   falls_sorted low top x ms falls least most no_rank =
-      let longer = raised x.entry.rank top (not_below x.entry.rank ms) (falls_not_below low top x.entry.rank ms falls) (λ y among. no_rank y (not_below_among x.entry.rank ms y among).0) in
+      let longer = raised x.entry.rank top (not_below x.entry.rank ms) (falls_not_below low top x.entry.rank ms falls)
+      (λ y among. no_rank y (not_below_among x.entry.rank ms y among).0) in
       let own : x.entry.rank < x.entry.rank + 1 = omega arith in
-      falls_appended low (x.entry.rank + 1) top (not_below x.entry.rank ms) (x ∷ below x.entry.rank ms) longer (least, own, falls_below low top x.entry.rank ms falls) (omega arith) (omega arith)
+      falls_appended low (x.entry.rank + 1) top (not_below x.entry.rank ms) (x ∷ below x.entry.rank ms) longer
+      (least, own, falls_below low top x.entry.rank ms falls) (omega arith) (omega arith)
 
   -- ---- a mask less
-  pub taken_among : (least top rank : ℕ) (ms : List (Placed V)) → Falls least top ms → (y : Placed V) → IsAmong y (taken_out rank ms) → IsAmong y ms × (y.entry.rank ≡ rank → ⊥)
+  pub taken_among : (least top rank : ℕ) (ms : List (Placed V)) → Falls least top ms → (y : Placed V) → IsAmong y (taken_out rank ms)
+      → IsAmong y ms × (y.entry.rank ≡ rank → ⊥)
   taken_among least top rank ms falls y among =
       ⊎_elim (λ (front : IsAmong y (not_below (rank + 1) ms)).
       let is = not_below_among (rank + 1) ms y front in let long : rank + 1 ≤ y.entry.rank = is.1 in
@@ -174,29 +182,34 @@ module _ {V : Type 0} where
       let other : y.entry.rank ≡ rank → ⊥ = λ same. omega arith in (is.0, other))
       (among_appended (not_below (rank + 1) ms) (below rank ms) y among)
 
-  pub among_taken : (least top rank : ℕ) (ms : List (Placed V)) → Falls least top ms → (y : Placed V) → IsAmong y ms → (y.entry.rank ≡ rank → ⊥) → IsAmong y (taken_out rank ms)
+  pub among_taken : (least top rank : ℕ) (ms : List (Placed V)) → Falls least top ms → (y : Placed V) → IsAmong y ms → (y.entry.rank ≡ rank → ⊥)
+      → IsAmong y (taken_out rank ms)
   among_taken least top rank ms falls y among differs =
       ⊎_elim (λ (short : y.entry.rank < rank). in_back (not_below (rank + 1) ms) (below rank ms) y (among_below rank ms y among short))
       (λ (long : rank ≤ y.entry.rank).
-      let past : rank + 1 ≤ y.entry.rank = ⊎_elim (λ (e : y.entry.rank ≡ rank). absurd (differs e)) (λ (ne : y.entry.rank ≡ rank → ⊥). omega (arith, ne, long)) (cases_eq y.entry.rank rank) in
+      let past : rank + 1 ≤ y.entry.rank =
+      ⊎_elim (λ (e : y.entry.rank ≡ rank). absurd (differs e)) (λ (ne : y.entry.rank ≡ rank → ⊥). omega (arith, ne, long)) (cases_eq y.entry.rank rank) in
       in_front (not_below (rank + 1) ms) (below rank ms) y (among_not_below least top (rank + 1) ms falls y among past))
       (short_or_long y.entry.rank rank)
 
   pub falls_taken : (low top rank : ℕ) (ms : List (Placed V)) → Falls low top ms → Falls low top (taken_out rank ms)
   falls_taken low top rank [] falls = tt
   falls_taken low top rank (x ∷ xs) falls =
-      ⊎_elim (λ (short : x.entry.rank < rank + 1). subst (λ (l : List (Placed V)). Falls low top (l ++ below rank (x ∷ xs))) (sym (not_below_short (rank + 1) x xs short)) (falls_behind low top rank (x ∷ xs) falls))
+      ⊎_elim (λ (short : x.entry.rank < rank + 1). subst (λ (l : List (Placed V)). Falls low top (l ++ below rank (x ∷ xs)))
+      (sym (not_below_short (rank + 1) x xs short)) (falls_behind low top rank (x ∷ xs) falls))
       (λ (long : rank + 1 ≤ x.entry.rank).
       let past : rank ≤ x.entry.rank = omega arith in
       subst (λ (l : List (Placed V)). Falls low top (l ++ below rank (x ∷ xs))) (sym (not_below_long (rank + 1) x xs long))
-      (subst (λ (l : List (Placed V)). Falls low top ((x ∷ not_below (rank + 1) xs) ++ l)) (sym (below_long rank x xs past)) (falls.0, falls.1, falls_taken low x.entry.rank rank xs falls.2)))
+      (subst (λ (l : List (Placed V)). Falls low top ((x ∷ not_below (rank + 1) xs) ++ l)) (sym (below_long rank x xs past))
+      (falls.0, falls.1, falls_taken low x.entry.rank rank xs falls.2)))
       (short_or_long x.entry.rank (rank + 1))
 
   -- ---- the rooms
   pub marked_among : (K : Masks) (ms : List (Placed V)) → MasksStand K ms → (y : Placed V) → IsAmong y ms → IsMarked K y
   marked_among K [] stands y among = absurd among
   marked_among K (x ∷ xs) stands y among =
-      ⊎_elim (λ (e : x ≡ y). subst (λ (p : Placed V). IsMarked K p) e (ap (λ (o : Option MaskPart). is_some o) stands.0)) (λ (behind : IsAmong y xs). marked_among K xs stands.1 y behind) among
+      ⊎_elim (λ (e : x ≡ y). subst (λ (p : Placed V). IsMarked K p) e (ap (λ (o : Option MaskPart). is_some o) stands.0))
+      (λ (behind : IsAmong y xs). marked_among K xs stands.1 y behind) among
 
   pub ranked_among : (L : Leaves V) (ms : List (Placed V)) → AreRanked L ms → (y : Placed V) → IsAmong y ms → IsRanked L y
   ranked_among L [] ranked y among = absurd among
@@ -208,21 +221,22 @@ module _ {V : Type 0} where
   among_ranked L (x ∷ xs) all = (all x (inl refl), among_ranked L xs (λ y among. all y (inr among)))
 
   -- routes in one room are of one rank
-  pub one_rank : (L : Leaves V) (x y : Placed V) → IsRanked L x → IsRanked L y → x.room.number ≡ y.room.number → x.entry.rank ≡ y.entry.rank
-  one_rank L x y one other same =
+  pub one_rank : {L : Leaves V} (x y : Placed V) → IsRanked L x → IsRanked L y → x.room.number ≡ y.room.number → x.entry.rank ≡ y.entry.rank
+  one_rank {L = L} x y one other same =
       sym one.rank ∙ ap (λ (p : LeafPart V). p.leaf.rank) (inside (sym one.said ∙ ap (λ (n : ℕ). L n) same ∙ other.said)) ∙ other.rank
 
-  pub ranked_in : (m : FinMap nat_cmp (Seen V)) (p : Part m) (x : Placed V) → IsIn x p.tree → IsRanked (leaves_in m) x
+  pub ranked_in : (m : Lodged V) (p : Part m) (x : Placed V) → IsIn x p.tree → IsRanked (leaves_in m) x
   ranked_in m p x is =
       let said = tree_said (leaves_in m) (bits_in m) p.above p.tree p.stands x is in
       record { part = leaf_part x said.0 said.1 said.2; said = said.3; block = refl; rank = refl }
 
-  pub bit_node_at : (m : FinMap nat_cmp (Seen V)) (p : Part m) (room : Id) → ForkAt p room → IsBitNode m room
-  bit_node_at m p room f = record { part = bit_part_of m p room f; said = (fork_stands m p room f).0; block = refl }
+  pub bit_node_at : (m : Lodged V) {p : Part m} {room : Id} → ForkAt p room → IsBitNode m room
+  bit_node_at m f = record { part = bit_part_of m f; said = (fork_stands m f).0; block = refl }
 
   -- the list of a bit node of a tree
-  pub masks_listed : (m : FinMap nat_cmp (Seen V)) (p : Part m) (first : Option Id) (low b : ℕ) (M : Placed V → Type 0) (l : IsMaskList (masks_in m) first low b M) → b ≤ 31 → ((x : Placed V) → M x → IsIn x p.tree) → IsMasks m first l.masks
-  masks_listed m p first low b M l within inside_tree = record {
+  pub masks_listed : {m : Lodged V} (p : Part m) {first : Option Id} {low b : ℕ} {M : Placed V → Type 0} (l : IsMaskList (masks_in m) first low b M) → b ≤ 31
+      → ((x : Placed V) → M x → IsIn x p.tree) → IsMasks m first l.masks
+  masks_listed {m = m} p {low = low} {b = b} l within inside_tree = record {
     begins = l.begins;
     stands = l.stands;
     falls = falls_wider low (b + 1) 0 34 l.masks l.falls (omega arith) (omega arith);

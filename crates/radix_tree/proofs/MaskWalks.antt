@@ -1,49 +1,44 @@
 -- A walk along a list of masks.
 use Rattle.std.proofs.Common.{◌≡◌, ℕ, ◌+◌, ◌≤◌, ◌<◌, List, [], ◌∷◌, Option, Some, None, refl, sym, ap, ◌∙◌, subst, arith}
-use Rattle.std.specs.Ordering.{nat_cmp}
-use Rattle.std.specs.FinMap.{FinMap}
-use Rattle.radix_nodes.specs.Counting.{Counter}
-use Rattle.radix_nodes.specs.Rooms.{Seen, Has}
-use Rattle.radix_nodes.specs.declared.id.Id.{Id}
-use Rattle.radix_nodes.specs.declared.links.Leaf.{Leaf}
-use Rattle.radix_nodes.specs.declared.links.MaskNode.{MaskNode}
-use Rattle.radix_tree.specs.MaskLists.{IsMasks, IsRanked, AreRanked, last_from, last_mask, not_below, below}
-use Rattle.radix_tree.specs.Reads.{ReadsOnce}
-use Rattle.radix_tree.specs.Rooms.{LeafPart, MaskPart, leaves_in, masks_in, mask_part, first_room, MasksStand, Falls}
-use Rattle.radix_tree.specs.Tree.{Placed}
+use Rattle.radix_tree.proofs.Words.{Counter, Has, Id, Leaf, MaskNode, IsMasks, IsRanked, AreRanked, last_from, last_mask, not_below, below, ReadsOnce, LeafPart}
+use Rattle.radix_tree.proofs.Words.{MaskPart, leaves_in, masks_in, mask_part, first_room, MasksStand, Falls, Placed, Lodged}
 use Rattle.radix_tree.proofs.MaskLists.{not_below_short, not_below_long, below_short, below_long}
 use Rattle.radix_tree.proofs.RoomReads.{inside, none_some, Has-leaf, Has-mask}
 use Rattle.radix_tree.proofs.TreeMembers.{head_of}
 
 module _ {V : Type 0} where
   -- ---- the room of a mask's route
-  pub Has-ranked : (m : FinMap nat_cmp (Seen V)) (x : Placed V) (room : Id) → IsRanked (leaves_in m) x → x.room ≡ room → Has m room
-  Has-ranked m x room r room_is = subst (Has m) room_is (Has-leaf m x.room r.part r.said r.block)
+  pub Has-ranked : (m : Lodged V) {x : Placed V} {room : Id} → IsRanked (leaves_in m) x → x.room ≡ room → Has m room
+  Has-ranked m {x = x} r room_is = subst (Has m) room_is (Has-leaf m x.room r.said r.block)
 
-  pub rank_told : (m : FinMap nat_cmp (Seen V)) (x : Placed V) (room : Id) (l : Leaf) → IsRanked (leaves_in m) x → x.room ≡ room → ((p : LeafPart V) → leaves_in m room.number ≡ Some p → l ≡ p.leaf) → l.rank ≡ x.entry.rank
-  rank_told m x room l r room_is told = ap (λ (z : Leaf). z.rank) (told r.part (ap (λ (i : Id). leaves_in m i.number) (sym room_is) ∙ r.said)) ∙ r.rank
+  pub rank_told : (m : Lodged V) {x : Placed V} {room : Id} (l : Leaf) → IsRanked (leaves_in m) x → x.room ≡ room
+      → ((p : LeafPart V) → leaves_in m room.number ≡ Some p → l ≡ p.leaf) → l.rank ≡ x.entry.rank
+  rank_told m l r room_is told = ap (λ (z : Leaf). z.rank) (told r.part (ap (λ (i : Id). leaves_in m i.number) (sym room_is) ∙ r.said)) ∙ r.rank
 
   abbrev part_of : (room : Id) (ms : List (Placed V)) → MaskPart
   part_of room ms = record { block = room.block; next = first_room ms }
 
   -- it is a mask node, and names the next one
-  abbrev pub listed_as : (m : FinMap nat_cmp (Seen V)) (x : Placed V) (xs : List (Placed V)) (room : Id) → MasksStand (masks_in m) (x ∷ xs) → x.room ≡ room → (p : MaskPart) × (masks_in m room.number ≡ Some p) × (p.block ≡ room.block)
-  listed_as m x xs room stands room_is = (part_of room xs, subst (λ (i : Id). masks_in m i.number ≡ Some (part_of i xs)) room_is stands.0, refl)
+  abbrev pub listed_as : (m : Lodged V) (x : Placed V) (xs : List (Placed V)) {room : Id} → MasksStand (masks_in m) (x ∷ xs) → x.room ≡ room
+      → (p : MaskPart) × (masks_in m room.number ≡ Some p) × (p.block ≡ room.block)
+  listed_as m x xs {room = room} stands room_is = (part_of room xs, subst (λ (i : Id). masks_in m i.number ≡ Some (part_of i xs)) room_is stands.0, refl)
 
-  pub Has-listed : {m : FinMap nat_cmp (Seen V)} {room : Id} → (p : MaskPart) × (masks_in m room.number ≡ Some p) × (p.block ≡ room.block) → Has m room
-  Has-listed {m} {room} l = Has-mask m room l.0 l.1 l.2
+  pub Has-listed : {m : Lodged V} {room : Id} → (p : MaskPart) × (masks_in m room.number ≡ Some p) × (p.block ≡ room.block) → Has m room
+  Has-listed {m} {room} l = Has-mask m room l.1 l.2
 
-  pub next_told : (m : FinMap nat_cmp (Seen V)) (x : Placed V) (xs : List (Placed V)) (room : Id) (n : MaskNode) → MasksStand (masks_in m) (x ∷ xs) → x.room ≡ room → masks_in m room.number ≡ mask_part room.block (Some n) → first_room xs ≡ n.next
-  next_told m x xs room n stands room_is said = ap (λ (p : MaskPart). p.next) (inside (sym (listed_as m x xs room stands room_is).1 ∙ said))
+  pub next_told : (m : Lodged V) (x : Placed V) (xs : List (Placed V)) {room : Id} (n : MaskNode) → MasksStand (masks_in m) (x ∷ xs) → x.room ≡ room
+      → masks_in m room.number ≡ mask_part room.block (Some n) → first_room xs ≡ n.next
+  next_told m x xs n stands room_is said = ap (λ (p : MaskPart). p.next) (inside (sym (listed_as m x xs stands room_is).1 ∙ said))
 
-  ended_at : (low : ℕ) (ms rest : List (Placed V)) (before : Option Id) → first_room rest ≡ None → last_from before (not_below low rest) ≡ last_mask (not_below low ms) → below low rest ≡ below low ms
+  ended_at : (low : ℕ) (ms rest : List (Placed V)) (before : Option Id) → first_room rest ≡ None
+      → last_from before (not_below low rest) ≡ last_mask (not_below low ms) → below low rest ≡ below low ms
       → (last_mask (not_below low ms) ≡ before) × (first_room (below low ms) ≡ None)
   ended_at low ms [] before ends last left = (sym last, sym (ap (λ (r : List (Placed V)). first_room r) left))
   ended_at low ms (x ∷ xs) before ends last left = absurd (none_some (sym ends))
 
 module _ {V : Type 0} where
   -- ---- a walk past the masks of ranks at or past low
-  pub record Passing (m : FinMap nat_cmp (Seen V)) (low : ℕ) (ms : List (Placed V)) (before at : Option Id) (start now : Counter) : Type 0 where
+  pub record Passing (m : Lodged V) (low : ℕ) (ms : List (Placed V)) (before at : Option Id) (start now : Counter) : Type 0 where
     pub rest : List (Placed V)
     pub top : ℕ
     pub begins : first_room rest ≡ at
@@ -55,7 +50,7 @@ module _ {V : Type 0} where
     pub rises : start.count ≤ now.count
     pub few : now.count + top ≤ start.count + 34
 
-  pub begun : {m : FinMap nat_cmp (Seen V)} {low : ℕ} {first : Option Id} {ms : List (Placed V)} (v : Counter) → IsMasks m first ms → Passing m low ms None first v v
+  pub begun : {m : Lodged V} {low : ℕ} {first : Option Id} {ms : List (Placed V)} (v : Counter) → IsMasks m first ms → Passing m low ms None first v v
   begun {ms = ms} v is = record {
     rest = ms;
     top = 34;
@@ -70,7 +65,7 @@ module _ {V : Type 0} where
   }
 
   -- the mask that it has come to
-  pub record Next (m : FinMap nat_cmp (Seen V)) (low : ℕ) (ms : List (Placed V)) (before : Option Id) (room : Id) (start now : Counter) : Type 0 where
+  pub record Next (m : Lodged V) (low : ℕ) (ms : List (Placed V)) (before : Option Id) (room : Id) (start now : Counter) : Type 0 where
     pub route : Placed V
     pub room_is : route.room ≡ room
     pub ranked : IsRanked (leaves_in m) route
@@ -78,11 +73,13 @@ module _ {V : Type 0} where
     pub soon : now.count ≤ start.count + 33
     -- a shorter one, or one to be passed
     pub stopped : route.entry.rank < low → (last_mask (not_below low ms) ≡ before) × (first_room (below low ms) ≡ Some room)
-    pub passed : (n : MaskNode) (later : Counter) → masks_in m room.number ≡ mask_part room.block (Some n) → low ≤ route.entry.rank → ReadsOnce now later → Passing m low ms (Some room) n.next start later
+    pub passed : (n : MaskNode) (later : Counter) → masks_in m room.number ≡ mask_part room.block (Some n) → low ≤ route.entry.rank → ReadsOnce now later
+        → Passing m low ms (Some room) n.next start later
 
-  pub next_of : {m : FinMap nat_cmp (Seen V)} {low : ℕ} {ms : List (Placed V)} {before at : Option Id} {room : Id} {start now : Counter} → Passing m low ms before at start now → at ≡ Some room → Next m low ms before room start now
+  pub next_of : {m : Lodged V} {low : ℕ} {ms : List (Placed V)} {before at : Option Id} {room : Id} {start now : Counter}
+      → Passing m low ms before at start now → at ≡ Some room → Next m low ms before room start now
   next_of {m} {low} {ms} {before} {at} {room} {start} {now} w is =
-      let x = head_of w.rest room (w.begins ∙ is) in
+      let x = head_of w.rest (w.begins ∙ is) in
       let stands = subst (MasksStand (masks_in m)) x.is w.stands in
       let falls = subst (Falls 0 w.top) x.is w.falls in
       let ranked = subst (AreRanked (leaves_in m)) x.is w.ranked in
@@ -91,21 +88,23 @@ module _ {V : Type 0} where
         route = x.first;
         room_is = x.room_is;
         ranked = ranked.0;
-        listed = listed_as m x.first x.behind room stands x.room_is;
+        listed = listed_as m x.first x.behind stands x.room_is;
         soon = omega arith;
         stopped = λ short. (
-          sym w.last ∙ ap (λ (r : List (Placed V)). last_from before (not_below low r)) x.is ∙ ap (last_from before) (not_below_short low x.first x.behind short),
+          sym w.last ∙ ap (λ (r : List (Placed V)). last_from before (not_below low r)) x.is
+              ∙ ap (last_from before) (not_below_short low x.first x.behind short),
           sym (ap (λ (r : List (Placed V)). first_room r) w.left) ∙ ap (λ (r : List (Placed V)). first_room (below low r)) x.is
               ∙ ap (λ (r : List (Placed V)). first_room r) (below_short low x.first x.behind short) ∙ ap (λ (i : Id). Some i) x.room_is,
         );
         passed = λ n later said long once. record {
           rest = x.behind;
           top = x.first.entry.rank;
-          begins = next_told m x.first x.behind room n stands x.room_is said;
+          begins = next_told m x.first x.behind n stands x.room_is said;
           stands = stands.1;
           falls = falls.2;
           ranked = ranked.1;
-          last = ap (λ (i : Id). last_from (Some i) (not_below low x.behind)) (sym x.room_is) ∙ sym (ap (last_from before) (not_below_long low x.first x.behind long))
+          last = ap (λ (i : Id). last_from (Some i) (not_below low x.behind)) (sym x.room_is)
+              ∙ sym (ap (last_from before) (not_below_long low x.first x.behind long))
               ∙ sym (ap (λ (r : List (Placed V)). last_from before (not_below low r)) x.is) ∙ w.last;
           left = sym (below_long low x.first x.behind long) ∙ sym (ap (below low) x.is) ∙ w.left;
           rises = omega arith;
@@ -114,5 +113,6 @@ module _ {V : Type 0} where
       }
 
   -- past all
-  pub ended : {m : FinMap nat_cmp (Seen V)} {low : ℕ} {ms : List (Placed V)} {before at : Option Id} {start now : Counter} → Passing m low ms before at start now → at ≡ None → (last_mask (not_below low ms) ≡ before) × (first_room (below low ms) ≡ None)
+  pub ended : {m : Lodged V} {low : ℕ} {ms : List (Placed V)} {before at : Option Id} {start now : Counter} → Passing m low ms before at start now → at ≡ None
+      → (last_mask (not_below low ms) ≡ before) × (first_room (below low ms) ≡ None)
   ended {low} {ms} {before} w is = ended_at low ms w.rest before (w.begins ∙ is) w.last w.left

@@ -1,15 +1,13 @@
 -- What stands in a table, what holds of all its entries, and what is found among them; and all this with or without an entry.
-use Rattle.std.proofs.Common.{◌≡◌, ℕ, ◌+◌, ◌≤◌, ◌⊎◌, Bool, true, false, cond, not, filter, length, is_some, IsTrue, nat_lt, nat_eq, ◌&&◌, ◌||◌, List, [], ◌∷◌, Option, Some, None, refl, sym, ap, ◌∙◌, subst, inl, inr, suc, arith}
-use Rattle.std.specs.Prelude.{find, Contains}
-use Rattle.std.specs.List.{AllByRecursion}
-use Rattle.std.specs.Option.{option_or}
+use Rattle.std.proofs.Common.{◌≡◌, ℕ, ◌+◌, ◌≤◌, ◌⊎◌, Bool, true, false, cond, not, filter, length, is_some, IsTrue, nat_lt, nat_eq, ◌&&◌, ◌||◌, List, [], ◌∷◌}
+use Rattle.std.proofs.Common.{Option, Some, None, refl, sym, ap, ◌∙◌, subst, inl, inr, suc, arith}
 use Rattle.std.proofs.lemmas.Bool.Decides.{nat_tests}
 use Rattle.std.proofs.lemmas.List.Elements.{All-contains, All-contains_itself, All-from_recursion, recursion_from_All}
 use Rattle.std.proofs.lemmas.List.Folds.{find-append}
-use Rattle.mask_table.specs.Agreeing.{agrees}
-use Rattle.radix_tree.specs.Table.{precedes, IsRoute, IsTable, has_pair, entry_at, first_of, without, with_entry, agreeing, greater, greatest, best_of}
-use Rattle.radix_tree.specs.TableLaws.{AreOnePair, StandsIn, Agrees, MembersStand, MembersAreRoutes, EntryAtIsMember, FirstOfIsMember, BestIsMember, FirstIsGreatest, WithStands, WithKeepsOthers, WithoutLeavesNone, WithoutKeepsOthers, MembersOfWith, MembersOfWithout, WithCounts, WithoutCounts}
-use Rattle.radix_tree.specs.declared.entry.Entry.{Entry}
+use Rattle.radix_tree.proofs.Words.{find, Contains, AllByRecursion, option_or, agrees, precedes, IsRoute, IsTable, has_pair, entry_at, first_of, without}
+use Rattle.radix_tree.proofs.Words.{with_entry, agreeing, greater, greatest, best_of, AreOnePair, StandsIn, Agrees, MembersStand, MembersAreRoutes}
+use Rattle.radix_tree.proofs.Words.{EntryAtIsMember, FirstOfIsMember, BestIsMember, FirstIsGreatest, WithStands, WithKeepsOthers, WithoutLeavesNone}
+use Rattle.radix_tree.proofs.Words.{WithoutKeepsOthers, MembersOfWith, MembersOfWithout, WithCounts, WithoutCounts, Entry}
 use Rattle.radix_tree.proofs.ListLemmas.{all_weaker, all_both, all_append, all_passed, all_filter, all_find, find_filter, or_none}
 use Rattle.radix_tree.proofs.OrderLemmas.{stands_before, pair_is, own_pair, other_pair, not_pair}
 use Rattle.radix_tree.proofs.TableLemmas.{later, same, sooner, with_parts, without_absent, all_behind, none_at}
@@ -17,13 +15,15 @@ use Rattle.radix_tree.proofs.TableLemmas.{later, same, sooner, with_parts, witho
 -- what holds of all entries holds with one more of which it holds, and without a pair
 pub all_with : {V : Type 0} (P : Entry V → Type 0) (e : Entry V) (es : List (Entry V)) → AllByRecursion P es → P e → AllByRecursion P (with_entry e es)
 all_with P e es h k =
-    all_append P (filter (λ x. precedes x e) es) (e ∷ filter (λ x. precedes e x) es) (all_filter P (λ x. precedes x e) es h) (k, all_filter P (λ x. precedes e x) es h)
+    all_append P (filter (λ x. precedes x e) es) (e ∷ filter (λ x. precedes e x) es) (all_filter P (λ x. precedes x e) es h)
+    (k, all_filter P (λ x. precedes e x) es h)
 
 pub all_without : {V : Type 0} (P : Entry V → Type 0) (key rank : ℕ) (es : List (Entry V)) → AllByRecursion P es → AllByRecursion P (without key rank es)
 all_without P key rank es h = all_filter P (λ e. not (has_pair key rank e)) es h
 
 -- and of what is found at a pair, first of a key, or as the best route of an address
-pub all_entry_at : {V : Type 0} (P : Entry V → Type 0) (key rank : ℕ) (es : List (Entry V)) (e : Entry V) → AllByRecursion P es → entry_at key rank es ≡ Some e → P e
+pub all_entry_at : {V : Type 0} (P : Entry V → Type 0) (key rank : ℕ) (es : List (Entry V)) (e : Entry V) → AllByRecursion P es → entry_at key rank es ≡ Some e
+    → P e
 all_entry_at P key rank es e h k = (all_find P (has_pair key rank) es e h k).0
 
 -- the greater of two is one of them
@@ -36,7 +36,8 @@ all_greatest : {V : Type 0} (P : Entry V → Type 0) (es : List (Entry V)) (e : 
 all_greatest P [] e h k = cc
 all_greatest P (x ∷ xs) e h k = elim (greater_one x (greatest xs) e k) [ inl is ↦ subst P is h.0 | inr is ↦ all_greatest P xs e h.1 is ]
 
-pub all_best_of : {V : Type 0} (P : Entry V → Type 0) (address : ℕ) (es : List (Entry V)) (e : Entry V) → AllByRecursion P es → best_of address es ≡ Some e → P e
+pub all_best_of : {V : Type 0} (P : Entry V → Type 0) (address : ℕ) (es : List (Entry V)) (e : Entry V) → AllByRecursion P es → best_of address es ≡ Some e
+    → P e
 all_best_of P address es e h k = all_greatest P (agreeing address es) e (all_filter P (λ x. agrees x.rank x.key address) es h) k
 
 -- each entry of a list is one of its members
@@ -69,7 +70,8 @@ pub all_stand : {V : Type 0} (es : List (Entry V)) → IsTable es → AllByRecur
 all_stand [] r = tt
 all_stand (x ∷ xs) r = (
   rw (own_pair x) refl,
-  all_both (λ f. IsTrue (precedes x f)) (StandsIn xs) (StandsIn (x ∷ xs)) (λ f p s. (let other : has_pair f.key f.rank x ≡ false = grind (arith, nat_tests) in rw other s)) xs r.1 (all_stand xs r.2),
+  all_both (λ f. IsTrue (precedes x f)) (StandsIn xs) (StandsIn (x ∷ xs))
+      (λ f p s. (let other : has_pair f.key f.rank x ≡ false = grind (arith, nat_tests) in rw other s)) xs r.1 (all_stand xs r.2),
 )
 
 pub members_stand : {V : Type 0} → MembersStand V
@@ -84,13 +86,19 @@ pub members_are_routes : {V : Type 0} → MembersAreRoutes V
 members_are_routes entries e r h = all_contains IsRoute entries e (all_routes entries r) h
 
 -- of a key the first member is the one of greatest rank
-all_of_key : {V : Type 0} (key : ℕ) (es : List (Entry V)) (e : Entry V) → IsTable es → first_of key es ≡ Some e → AllByRecursion (λ o. o.key ≡ key → o.rank ≤ e.rank) es
+all_of_key : {V : Type 0} (key : ℕ) (es : List (Entry V)) (e : Entry V) → IsTable es → first_of key es ≡ Some e
+    → AllByRecursion (λ o. o.key ≡ key → o.rank ≤ e.rank) es
 all_of_key key [] e r h = tt
 all_of_key {V} key (x ∷ xs) e r h =
-    elim (nat_eq x.key key) as (λ b. nat_eq x.key key ≡ b → cond b (Some x) (first_of key xs) ≡ Some e → AllByRecursion (λ o. o.key ≡ key → o.rank ≤ e.rank) (x ∷ xs)) [
+    elim (nat_eq x.key key) as (λ b. nat_eq x.key key ≡ b → cond b (Some x) (first_of key xs) ≡ Some e
+    → AllByRecursion (λ o. o.key ≡ key → o.rank ≤ e.rank) (x ∷ xs)) [
       | true ↦ λ k s. (let is : x ≡ e = cc in
           let P : Entry V → Type 0 = λ y. AllByRecursion (λ o. o.key ≡ key → o.rank ≤ y.rank) (x ∷ xs) in
-          subst P is ((λ o. omega arith), all_weaker (λ f. IsTrue (precedes x f)) (λ o. o.key ≡ key → o.rank ≤ x.rank) (λ f p o. grind (arith, nat_tests)) xs r.1))
+          subst P is (
+            (λ o. omega arith),
+            all_weaker (λ f. IsTrue (precedes x f)) (λ o. o.key ≡ key → o.rank ≤ x.rank) (λ f p o. grind (arith, nat_tests)) xs
+                r.1,
+          ))
       | false ↦ λ k s. ((λ o. absurd (grind (arith, nat_tests))), all_of_key key xs e r.2 s)
     ] refl h
 
@@ -116,9 +124,19 @@ with_keeps_others key rank entries e other =
     find-append q (filter (λ x. precedes x e) entries) (e ∷ filter (λ x. precedes e x) entries)
     ∙ (elim (pair_precedes key rank e) as (λ b. pair_precedes key rank e ≡ b
     → option_or (find q (filter (λ x. precedes x e) entries)) (find q (e ∷ filter (λ x. precedes e x) entries)) ≡ find q entries) [
-      | true ↦ λ k. rw (find_filter q (λ x. precedes x e) true (λ x s. grind (arith, nat_tests)) entries, fails, find_filter q (λ x. precedes e x) false (λ x s. grind (arith, nat_tests)) entries)
+      | true ↦ λ k. rw (
+        find_filter q (λ x. precedes x e) true (λ x s. grind (arith, nat_tests)) entries,
+        fails,
+        find_filter q (λ x. precedes e x) false
+            (λ x s. grind (arith, nat_tests)) entries,
+      )
           (or_none (find q entries))
-      | false ↦ λ k. rw (find_filter q (λ x. precedes x e) false (λ x s. grind (arith, nat_tests)) entries, fails, find_filter q (λ x. precedes e x) true (λ x s. grind (arith, nat_tests)) entries) refl
+      | false ↦ λ k. rw (
+        find_filter q (λ x. precedes x e) false (λ x s. grind (arith, nat_tests)) entries,
+        fails,
+        find_filter q (λ x. precedes e x) true
+            (λ x s. grind (arith, nat_tests)) entries,
+      ) refl
     ] refl)
 
 pub without_leaves_none : {V : Type 0} → WithoutLeavesNone V
@@ -135,26 +153,32 @@ without_keeps_others key rank gone_key gone_rank entries other =
 -- so an entry stays that stood before one of another pair was put in, or another pair was taken out
 pub with_keeps : {V : Type 0} (es : List (Entry V)) (e r : Entry V) → entry_at e.key e.rank es ≡ None → StandsIn es r → StandsIn (with_entry e es) r
 with_keeps es e r none stands =
-    with_keeps_others r.key r.rank es e (λ same. (let gone : Some r ≡ None = sym stands ∙ (ap (λ k. entry_at k r.rank es) same.0 ∙ (ap (λ n. entry_at e.key n es) same.1 ∙ none)) in cc)) ∙ stands
+    with_keeps_others r.key r.rank es e (λ same. (let gone : Some r ≡ None =
+    sym stands ∙ (ap (λ k. entry_at k r.rank es) same.0 ∙ (ap (λ n. entry_at e.key n es) same.1 ∙ none)) in cc)) ∙ stands
 
-pub without_keeps : {V : Type 0} (key rank : ℕ) (es : List (Entry V)) (r : Entry V) → ¬ (AreOnePair r.key r.rank key rank) → StandsIn es r → StandsIn (without key rank es) r
+pub without_keeps : {V : Type 0} (key rank : ℕ) (es : List (Entry V)) (r : Entry V) → ¬ (AreOnePair r.key r.rank key rank) → StandsIn es r
+    → StandsIn (without key rank es) r
 without_keeps key rank es r other stands = without_keeps_others r.key r.rank key rank es other ∙ stands
 
 -- the members of a table with an entry
 pub members_of_with : {V : Type 0} → MembersOfWith V
 members_of_with {V} entries e member h =
     let Was : Entry V → Type 0 = λ x. (x ≡ e) ⊎ (Contains entries x × ¬ (AreOnePair x.key x.rank e.key e.rank)) in
-    let sooner_ones = all_weaker (λ x. Contains entries x × (precedes x e ≡ true)) Was (λ x k. inr (k.0, λ same. (let test = k.1 in let keys = same.0 in let ranks = same.1 in absurd (grind (arith, nat_tests)))))
+    let sooner_ones = all_weaker (λ x. Contains entries x × (precedes x e ≡ true)) Was
+    (λ x k. inr (k.0, λ same. (let test = k.1 in let keys = same.0 in let ranks = same.1 in absurd (grind (arith, nat_tests)))))
     (filter (λ x. precedes x e) entries) (all_passed (Contains entries) (λ x. precedes x e) entries (all_members entries)) in
-    let later_ones = all_weaker (λ x. Contains entries x × (precedes e x ≡ true)) Was (λ x k. inr (k.0, λ same. (let test = k.1 in let keys = same.0 in let ranks = same.1 in absurd (grind (arith, nat_tests)))))
+    let later_ones = all_weaker (λ x. Contains entries x × (precedes e x ≡ true)) Was
+    (λ x k. inr (k.0, λ same. (let test = k.1 in let keys = same.0 in let ranks = same.1 in absurd (grind (arith, nat_tests)))))
     (filter (λ x. precedes e x) entries) (all_passed (Contains entries) (λ x. precedes e x) entries (all_members entries)) in
-    all_contains Was (with_entry e entries) member (all_append Was (filter (λ x. precedes x e) entries) (e ∷ filter (λ x. precedes e x) entries) sooner_ones (inl refl, later_ones)) h
+    all_contains Was (with_entry e entries) member (all_append Was (filter (λ x. precedes x e) entries) (e ∷ filter (λ x. precedes e x) entries) sooner_ones
+    (inl refl, later_ones)) h
 
 pub members_of_without : {V : Type 0} → MembersOfWithout V
 members_of_without {V} key rank entries member h =
     let Was : Entry V → Type 0 = λ x. Contains entries x × ¬ (AreOnePair x.key x.rank key rank) in
     all_contains Was (without key rank entries) member
-    (all_weaker (λ x. Contains entries x × (not (has_pair key rank x) ≡ true)) Was (λ x k. (k.0, not_pair key rank x (let test = k.1 in grind (arith, nat_tests))))
+    (all_weaker (λ x. Contains entries x × (not (has_pair key rank x) ≡ true)) Was
+    (λ x k. (k.0, not_pair key rank x (let test = k.1 in grind (arith, nat_tests))))
     (without key rank entries) (all_passed (Contains entries) (λ x. not (has_pair key rank x)) entries (all_members entries))) h
 
 -- one more, unless the pair was there
@@ -162,7 +186,8 @@ pub with_counts : {V : Type 0} → WithCounts V
 with_counts [] e r = refl
 with_counts (x ∷ xs) e r = elim (with_parts e x xs r) [
   | later p n is ↦ rw (is, n) (
-      elim (is_some (entry_at e.key e.rank xs)) as (λ b. length (with_entry e xs) ≡ length xs + cond b 0 1 → suc (length (with_entry e xs)) ≡ suc (length xs) + cond b 0 1)
+      elim (is_some (entry_at e.key e.rank xs)) as (λ b. length (with_entry e xs) ≡ length xs + cond b 0 1
+      → suc (length (with_entry e xs)) ≡ suc (length xs) + cond b 0 1)
       [ true ↦ λ k. omega (arith, k) | false ↦ λ k. omega (arith, k) ] (with_counts xs e r.2))
   | same p n gone is alone ↦ rw (is, n) (omega arith)
   | sooner p n gone is ↦ rw (is, n, gone) (omega arith)
@@ -172,11 +197,13 @@ with_counts (x ∷ xs) e r = elim (with_parts e x xs r) [
 pub without_counts : {V : Type 0} → WithoutCounts V
 without_counts key rank [] r = refl
 without_counts key rank (x ∷ xs) r =
-    elim (has_pair key rank x) as (λ b. has_pair key rank x ≡ b → length (x ∷ xs) ≡ length (cond (not b) (x ∷ without key rank xs) (without key rank xs)) + cond (is_some (cond b (Some x) (entry_at key rank xs))) 1 0) [
+    elim (has_pair key rank x) as (λ b. has_pair key rank x ≡ b → length (x ∷ xs) ≡ length (cond (not b) (x ∷ without key rank xs) (without key rank xs))
+    + cond (is_some (cond b (Some x) (entry_at key rank xs))) 1 0) [
       | true ↦ λ k. (
           let here : stands_before key rank x ≡ false = grind (arith, nat_tests) in
           let none : without key rank xs ≡ xs = without_absent key rank xs (none_at key rank xs (all_behind key rank x xs here r.1)) in
           rw none (omega arith))
-      | false ↦ λ k. elim (is_some (entry_at key rank xs)) as (λ b. length xs ≡ length (without key rank xs) + cond b 1 0 → suc (length xs) ≡ suc (length (without key rank xs)) + cond b 1 0)
+      | false ↦ λ k. elim (is_some (entry_at key rank xs)) as (λ b. length xs ≡ length (without key rank xs) + cond b 1 0
+          → suc (length xs) ≡ suc (length (without key rank xs)) + cond b 1 0)
           [ true ↦ λ e. omega (arith, e) | false ↦ λ e. omega (arith, e) ] (without_counts key rank xs r.2)
     ] refl

@@ -1,15 +1,7 @@
 -- Lists of masks stay where all masks say what they said.
 use Rattle.std.proofs.Common.{◌≡◌, ℕ, ◌+◌, ◌≤◌, ◌==◌, List, [], ◌∷◌, Option, sym, ap, ◌∙◌, subst, ⊎_elim, arith}
-use Rattle.std.specs.Prelude.{is_some}
-use Rattle.std.specs.Ordering.{nat_cmp}
-use Rattle.std.specs.FinMap.{FinMap}
-use Rattle.radix_nodes.specs.Rooms.{Seen}
-use Rattle.radix_nodes.specs.declared.id.Id.{Id}
-use Rattle.radix_tree.specs.Tree.{Placed, Tree, leaf, fork, bit_at}
-use Rattle.radix_tree.specs.Rooms.{MaskPart, Heads, Masks, Part, heads_in, masks_in, MasksStand}
-use Rattle.radix_tree.specs.Searches.{Beneath, Way}
-use Rattle.radix_tree.specs.Whole.{one_if, forks_at}
-use Rattle.radix_tree.specs.Marks.{IsMarked, IsMaskList, MarkedIn, MarkedLists}
+use Rattle.radix_tree.proofs.Words.{is_some, Id, Placed, Tree, leaf, fork, bit_at, MaskPart, Heads, Masks, Part, heads_in, masks_in, MasksStand, Beneath, Way}
+use Rattle.radix_tree.proofs.Words.{one_if, forks_at, IsMarked, IsMaskList, MarkedIn, MarkedLists, Lodged}
 use Rattle.radix_tree.proofs.PartRooms.{one_if_same}
 
 module _ {V : Type 0} where
@@ -20,8 +12,9 @@ module _ {V : Type 0} where
   stands_stays K M [] same stands = tt
   stands_stays K M (x ∷ xs) same stands = (same x.room.number ∙ stands.0, stands_stays K M xs same stands.1)
 
-  pub list_kept : (K M : Masks) (first now : Option Id) (low b : ℕ) (t : Tree V) → ((k : ℕ) → M k ≡ K k) → now ≡ first → IsMaskList K first low b (MarkedIn K t) → IsMaskList M now low b (MarkedIn M t)
-  list_kept K M first now low b t same head list = record {
+  pub list_kept : (K M : Masks) {first now : Option Id} {low b : ℕ} (t : Tree V) → ((k : ℕ) → M k ≡ K k) → now ≡ first
+      → IsMaskList K first low b (MarkedIn K t) → IsMaskList M now low b (MarkedIn M t)
+  list_kept K M t same head list = record {
     masks = list.masks;
     begins = list.begins ∙ sym head;
     stands = stands_stays K M list.masks same list.stands;
@@ -30,17 +23,19 @@ module _ {V : Type 0} where
     within = λ x among. let is = list.within x among in (is.0, marked_stays K M x same is.1);
   }
 
-  pub lists_kept : (H J : Heads) (K M : Masks) (low : ℕ) (t : Tree V) → ((k : ℕ) → M k ≡ K k) → ((k : ℕ) → 1 ≤ forks_at k t → J k ≡ H k) → MarkedLists H K low t → MarkedLists J M low t
+  pub lists_kept : (H J : Heads) (K M : Masks) (low : ℕ) (t : Tree V) → ((k : ℕ) → M k ≡ K k) → ((k : ℕ) → 1 ≤ forks_at k t → J k ≡ H k)
+      → MarkedLists H K low t → MarkedLists J M low t
   lists_kept H J K M low (leaf x xs) same heads lists = tt
   lists_kept H J K M low (fork room b zero one) same heads lists =
       let here : one_if (room.number == room.number) ≡ 1 = one_if_same room.number in (
-        list_kept K M (H room.number) (J room.number) low b (fork room b zero one) same (heads room.number (omega arith)) lists.0,
+        list_kept K M (fork room b zero one) same (heads room.number (omega arith)) lists.0,
         lists_kept H J K M (b + 1) zero same (λ k some. heads k (omega arith)) lists.1,
         lists_kept H J K M (b + 1) one same (λ k some. heads k (omega arith)) lists.2,
       )
 
   -- ---- a part on a way
-  lists_under : (m : FinMap nat_cmp (Seen V)) (key : ℕ) (under over : Part m) → Beneath key under over → MarkedLists (heads_in m) (masks_in m) over.low over.tree → MarkedLists (heads_in m) (masks_in m) under.low under.tree
+  lists_under : (m : Lodged V) (key : ℕ) (under over : Part m) → Beneath key under over → MarkedLists (heads_in m) (masks_in m) over.low over.tree
+      → MarkedLists (heads_in m) (masks_in m) under.low under.tree
   lists_under m key under over b lists =
       let all = subst (MarkedLists (heads_in m) (masks_in m) over.low) b.at.is lists in
       subst (λ (low : ℕ). MarkedLists (heads_in m) (masks_in m) low under.tree) (sym b.low) (⊎_elim
@@ -48,7 +43,8 @@ module _ {V : Type 0} where
       (λ (e : (under.tree ≡ b.at.one) × (bit_at b.at.bit key ≡ 1)). subst (MarkedLists (heads_in m) (masks_in m) (b.at.bit + 1)) (sym e.0) all.2)
       b.side)
 
-  pub lists_on_way : (m : FinMap nat_cmp (Seen V)) (key : ℕ) (whole at : Part m) (ups : List (Part m)) → Way key whole at ups → MarkedLists (heads_in m) (masks_in m) whole.low whole.tree
+  pub lists_on_way : (m : Lodged V) (key : ℕ) (whole at : Part m) (ups : List (Part m)) → Way key whole at ups
+      → MarkedLists (heads_in m) (masks_in m) whole.low whole.tree
       → MarkedLists (heads_in m) (masks_in m) at.low at.tree
   lists_on_way m key whole at [] way lists = subst (λ (p : Part m). MarkedLists (heads_in m) (masks_in m) p.low p.tree) (sym way) lists
   lists_on_way m key whole at (p ∷ ps) way lists = lists_under m key at p way.0 (lists_on_way m key whole p ps way.1 lists)

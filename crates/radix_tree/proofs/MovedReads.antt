@@ -1,20 +1,9 @@
 -- What rooms say where a bit node is renamed, moved, or has another bit node above it.
 use Rattle.std.proofs.Common.{◌≡◌, ℕ, ◌≤◌, ◌==◌, ◌⊎◌, Bool, true, false, if◌then◌else◌, Option, Some, None, refl, sym, ap, ◌∙◌, inl, inr, ⊎_elim, arith}
 use Rattle.std.proofs.lemmas.Bool.{eqb-true, eq-eqb, ne_eqb}
-use Rattle.std.specs.Prelude.{is_some}
-use Rattle.std.specs.Ordering.{nat_cmp}
-use Rattle.std.specs.FinMap.{FinMap, get}
-use Rattle.radix_nodes.specs.Rooms.{Seen, Has}
-use Rattle.radix_nodes.specs.Links.{leaf_of}
-use Rattle.radix_nodes.specs.declared.id.Id.{Id}
-use Rattle.radix_nodes.specs.declared.links.Node.{Node}
-use Rattle.radix_nodes.specs.declared.links.Node.TheVariants.{Leaf as LeafOf, Bit as BitOf}
-use Rattle.radix_tree.specs.Tree.{Tree, leaf, fork, bit_at}
-use Rattle.radix_tree.specs.Rooms.{LeafPart, BitPart, leaf_in, leaves_in, name_of}
-use Rattle.radix_tree.specs.Whole.{one_if, leaves_at, forks_at, shown_entry}
-use Rattle.radix_tree.specs.Growth.{with_child}
-use Rattle.radix_tree.specs.Writes.{lift_leaf, lift_bit, leaf_above, bit_above}
-use Rattle.radix_tree.specs.Removal.{renamed, with_renamed, rename, Content, content_of}
+use Rattle.radix_tree.proofs.Words.{is_some, get, Seen, Has, Id, Node, LeafOf, BitOf, Tree, leaf, fork, bit_at, LeafPart, BitPart, leaf_in, leaves_in}
+use Rattle.radix_tree.proofs.Words.{name_of, one_if, leaves_at, forks_at, with_child, lift_leaf, lift_bit, leaf_above, bit_above, renamed}
+use Rattle.radix_tree.proofs.Words.{with_renamed, rename, Content, content_of, Lodged}
 use Rattle.radix_tree.proofs.AddressBits.{zero_not_one}
 use Rattle.radix_tree.proofs.RoomReads.{inside, none_some}
 use Rattle.radix_tree.proofs.Beside.{named_leaf, named_bit}
@@ -35,8 +24,8 @@ pub one_if_most : (t : Bool) → one_if t ≤ 1
 one_if_most true = omega arith
 one_if_most false = omega arith
 
-pub one_if_is : (a b : ℕ) → a ≡ b → one_if (a == b) ≡ 1
-one_if_is a b e = ap one_if (eq-eqb a b e)
+pub one_if_is : {a : ℕ} (b : ℕ) → a ≡ b → one_if (a == b) ≡ 1
+one_if_is {a = a} b e = ap one_if (eq-eqb a b e)
 
 pub one_if_not : (a b : ℕ) → (a ≡ b → ⊥) → one_if (a == b) ≡ 0
 one_if_not a b other = ap one_if (ne_eqb a b other)
@@ -87,7 +76,8 @@ rename_used (Some up) from to n said = elim (n == up.number) as (λ t. is_some (
   | false ↦ refl
 ]
 
-pub rename_misses : (above : Option Id) (from to : Id) (n : ℕ) (said : Option BitPart) → ((up : Id) → above ≡ Some up → n ≡ up.number → ⊥) → rename above from to n said ≡ said
+pub rename_misses : (above : Option Id) (from to : Id) (n : ℕ) (said : Option BitPart) → ((up : Id) → above ≡ Some up → n ≡ up.number → ⊥)
+    → rename above from to n said ≡ said
 rename_misses None from to n said other = refl
 rename_misses (Some up) from to n said other = off_room up n (with_renamed from to said) said (other up refl)
 
@@ -110,30 +100,30 @@ module _ {V : Type 0} where
   renamed_off from to (leaf x xs) none = refl
   renamed_off from to (fork room b left right) none =
       ap (λ (t : Bool). if t then BitOf to else BitOf room)
-      (ne_eqb room.number from.number (λ same. let own : one_if (room.number == from.number) ≡ 1 = one_if_is room.number from.number same in omega arith))
+      (ne_eqb room.number from.number (λ same. let own : one_if (room.number == from.number) ≡ 1 = one_if_is from.number same in omega arith))
 
   -- a room outside of a tree is not that of its name
-  pub leaf_off : (t : Tree V) (name : Node) (n : ℕ) → name ≡ name_of t → leaves_at n t ≡ 0 → (r : Id) → name ≡ LeafOf r → n ≡ r.number → ⊥
-  leaf_off t name n named none r is same =
+  pub leaf_off : (t : Tree V) {name : Node} (n : ℕ) → name ≡ name_of t → leaves_at n t ≡ 0 → (r : Id) → name ≡ LeafOf r → n ≡ r.number → ⊥
+  leaf_off t n named none r is same =
       let there : 1 ≤ leaves_at r.number t = named_leaf t r (sym named ∙ is) in
       let e : leaves_at n t ≡ leaves_at r.number t = ap (λ (k : ℕ). leaves_at k t) same in omega arith
 
-  pub bit_off : (t : Tree V) (name : Node) (n : ℕ) → name ≡ name_of t → forks_at n t ≡ 0 → (r : Id) → name ≡ BitOf r → n ≡ r.number → ⊥
-  bit_off t name n named none r is same =
+  pub bit_off : (t : Tree V) {name : Node} (n : ℕ) → name ≡ name_of t → forks_at n t ≡ 0 → (r : Id) → name ≡ BitOf r → n ≡ r.number → ⊥
+  bit_off t n named none r is same =
       let there : 1 ≤ forks_at r.number t = named_bit t r (sym named ∙ is) in
       let e : forks_at n t ≡ forks_at r.number t = ap (λ (k : ℕ). forks_at k t) same in omega arith
 
   -- ---- a room that has its route
-  content_there : (m : FinMap nat_cmp (Seen V)) (room : Id) (o : Option (Seen V)) (c : Content V) → get m room.number ≡ o → content_of (leaf_in o) ≡ Some c → c.block ≡ room.block → Has m room
-  content_there m room None c at e block = absurd (none_some e)
-  content_there m room (Some s) c at e block = record { room = s; at = at; block = ap (λ (d : Content V). d.block) (inside e) ∙ block }
-
-  abbrev content_seen : Seen V → Content V
-  content_seen s = record { block = s.block; entry = shown_entry (record { block = s.block; value = s.value; leaf = leaf_of s.links }) }
+  content_there : (m : Lodged V) (room : Id) (o : Option (Seen V)) {c : Content V} → get m room.number ≡ o → content_of (leaf_in o) ≡ Some c
+      → c.block ≡ room.block → Has m room
+  content_there m room None at e block = absurd (none_some e)
+  content_there m room (Some s) at e block = record { room = s; at = at; block = ap (λ (d : Content V). d.block) (inside e) ∙ block }
 
   -- stays
-  pub Has_kept : (m new : FinMap nat_cmp (Seen V)) (room : Id) → content_of (leaves_in new room.number) ≡ content_of (leaves_in m room.number) → Has m room → Has new room
-  Has_kept m new room same h = content_there new room (get new room.number) (content_seen h.room) refl (same ∙ ap (λ (o : Option (Seen V)). content_of (leaf_in o)) h.at) h.block
+  pub Has_kept : {m : Lodged V} (new : Lodged V) {room : Id} → content_of (leaves_in new room.number) ≡ content_of (leaves_in m room.number) → Has m room
+      → Has new room
+  Has_kept new {room = room} same h =
+      content_there new room (get new room.number) refl (same ∙ ap (λ (o : Option (Seen V)). content_of (leaf_in o)) h.at) h.block
 
   pub content_used : (o p : Option (LeafPart V)) → content_of o ≡ content_of p → is_some o ≡ is_some p
   content_used None None e = refl

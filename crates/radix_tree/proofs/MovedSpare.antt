@@ -1,15 +1,8 @@
 -- In each chain at most one bit node is in use, also where one has moved to another room.
 use Rattle.std.proofs.Common.{◌≡◌, ℕ, ◌+◌, ◌≤◌, ◌==◌, true, List, [], ◌∷◌, Option, Some, None, refl, sym, ap, ◌∙◌, inl, inr, ⊎_elim, arith}
 use Rattle.std.proofs.lemmas.Bool.{eqb-true, eq-eqb}
-use Rattle.std.specs.Ordering.{nat_cmp}
-use Rattle.std.specs.FinMap.{FinMap}
-use Rattle.radix_nodes.specs.Rooms.{Seen}
-use Rattle.radix_nodes.specs.declared.id.Id.{Id}
-use Rattle.radix_tree.specs.Tree.{Placed, Tree, leaf, fork, IsChain, IsTree}
-use Rattle.radix_tree.specs.Rooms.{LeafPart, Bits, leaves_in, bits_in, ChainStands, Stands}
-use Rattle.radix_tree.specs.Whole.{one_if, members_at, leaves_at, AreIdle, HasOneFork, HaveOneFork}
-use Rattle.radix_tree.specs.Marks.{is_of_key, has_key}
-use Rattle.radix_tree.specs.Removal.{CanTake}
+use Rattle.radix_tree.proofs.Words.{Id, Placed, Tree, leaf, fork, IsChain, IsTree, LeafPart, Bits, leaves_in, bits_in, ChainStands, Stands, one_if, members_at}
+use Rattle.radix_tree.proofs.Words.{leaves_at, AreIdle, HasOneFork, HaveOneFork, is_of_key, has_key, CanTake, Lodged}
 use Rattle.radix_tree.proofs.MovedReads.{same_or_not, none_or_some, one_if_is, one_if_not}
 
 module _ {V : Type 0} where
@@ -18,37 +11,43 @@ module _ {V : Type 0} where
   chain_idle_stays : (B C : Bits) (c : List (Placed V)) → ((n : ℕ) → 1 ≤ members_at n c → B n ≡ None → C n ≡ None) → AreIdle B c → AreIdle C c
   chain_idle_stays B C [] none idle = tt
   chain_idle_stays B C (x ∷ xs) none idle =
-      let here : one_if (x.room.number == x.room.number) ≡ 1 = one_if_is x.room.number x.room.number refl in
+      let here : one_if (x.room.number == x.room.number) ≡ 1 = one_if_is {a = x.room.number} x.room.number refl in
       (none x.room.number (omega arith) idle.0, chain_idle_stays B C xs (λ n some. none n (omega arith)) idle.1)
 
   pub chain_stays : (B C : Bits) (c : List (Placed V)) → ((n : ℕ) → 1 ≤ members_at n c → B n ≡ None → C n ≡ None) → HasOneFork B c → HasOneFork C c
   chain_stays B C [] none spare = tt
   chain_stays B C (x ∷ xs) none spare =
-      let here : one_if (x.room.number == x.room.number) ≡ 1 = one_if_is x.room.number x.room.number refl in
+      let here : one_if (x.room.number == x.room.number) ≡ 1 = one_if_is {a = x.room.number} x.room.number refl in
       ⊎_elim (λ (idle : AreIdle B xs). inl (chain_idle_stays B C xs (λ n some. none n (omega arith)) idle))
-      (λ (rest : (B x.room.number ≡ None) × HasOneFork B xs). inr (none x.room.number (omega arith) rest.0, chain_stays B C xs (λ n some. none n (omega arith)) rest.1))
+      (λ (rest : (B x.room.number ≡ None) × HasOneFork B xs). inr (
+        none x.room.number (omega arith) rest.0,
+        chain_stays B C xs (λ n some. none n (omega arith))
+            rest.1,
+      ))
       spare
 
   -- where all are idle but for one room's
   all_idle : (C : Bits) (c : List (Placed V)) → ((n : ℕ) → 1 ≤ members_at n c → C n ≡ None) → AreIdle C c
   all_idle C [] none = tt
   all_idle C (x ∷ xs) none =
-      let here : one_if (x.room.number == x.room.number) ≡ 1 = one_if_is x.room.number x.room.number refl in
+      let here : one_if (x.room.number == x.room.number) ≡ 1 = one_if_is {a = x.room.number} x.room.number refl in
       (none x.room.number (omega arith), all_idle C xs (λ n some. none n (omega arith)))
 
   one_at : (C : Bits) (to : ℕ) (c : List (Placed V)) → members_at to c ≤ 1 → ((n : ℕ) → 1 ≤ members_at n c → (n ≡ to → ⊥) → C n ≡ None) → HasOneFork C c
   one_at C to [] most none = tt
   one_at C to (x ∷ xs) most none =
-      let here : one_if (x.room.number == x.room.number) ≡ 1 = one_if_is x.room.number x.room.number refl in
+      let here : one_if (x.room.number == x.room.number) ≡ 1 = one_if_is {a = x.room.number} x.room.number refl in
       ⊎_elim
       (λ (same : x.room.number ≡ to).
-      let own : one_if (x.room.number == to) ≡ 1 = one_if_is x.room.number to same in
-      inl (all_idle C xs (λ n some. none n (omega arith) (λ (e : n ≡ to). let is : members_at n xs ≡ members_at to xs = ap (λ (k : ℕ). members_at k xs) e in omega arith))))
+      let own : one_if (x.room.number == to) ≡ 1 = one_if_is to same in
+      inl (all_idle C xs (λ n some. none n (omega arith) (λ (e : n ≡ to). let is : members_at n xs ≡ members_at to xs = ap (λ (k : ℕ). members_at k xs) e in
+      omega arith))))
       (λ (other : x.room.number ≡ to → ⊥). inr (none x.room.number (omega arith) other, one_at C to xs (omega arith) (λ n some. none n (omega arith))))
       (same_or_not x.room.number to)
 
   -- ---- the rooms of a chain have its key
-  pub chain_keyed : (m : FinMap nat_cmp (Seen V)) (above previous : Option Id) (key top : ℕ) (c : List (Placed V)) → ChainStands (leaves_in m) above previous c → IsChain key top c → (n : ℕ) → 1 ≤ members_at n c → has_key m key n ≡ true
+  pub chain_keyed : (m : Lodged V) (above previous : Option Id) (key top : ℕ) (c : List (Placed V)) → ChainStands (leaves_in m) above previous c
+      → IsChain key top c → (n : ℕ) → 1 ≤ members_at n c → has_key m key n ≡ true
   chain_keyed m above previous key top [] stands is n some = absurd (omega arith)
   chain_keyed m above previous key top (x ∷ xs) stands is n some =
       ⊎_elim
@@ -69,25 +68,28 @@ module _ {V : Type 0} where
   of_key key (Some p) e = record { part = p; is = refl; key_is = eqb-true p.leaf.key key e }
 
   -- ---- the tree
-  pub moved_spare : (m : FinMap nat_cmp (Seen V)) (C : Bits) (from to : Id) (above : Option Id) (low : ℕ) (t : Tree V) → IsTree low t → Stands (leaves_in m) (bits_in m) above t → leaves_at to.number t ≤ 1
+  pub moved_spare : (m : Lodged V) (C : Bits) {from : Id} (to : Id) (above : Option Id) (low : ℕ) (t : Tree V) → IsTree low t
+      → Stands (leaves_in m) (bits_in m) above t → leaves_at to.number t ≤ 1
       → ((n : ℕ) → 1 ≤ leaves_at n t → (n ≡ to.number → ⊥) → bits_in m n ≡ None → C n ≡ None) → ((n : ℕ) → 1 ≤ leaves_at n t → n ≡ from.number → ⊥)
       → CanTake m from to → HaveOneFork (bits_in m) t → HaveOneFork C t
-  moved_spare m C from to above low (leaf x xs) is stands once none off takes spare =
+  moved_spare m C to above low (leaf x xs) is stands once none off takes spare =
       ⊎_elim
       (λ (out : members_at to.number (x ∷ xs) ≡ 0).
       chain_stays (bits_in m) C (x ∷ xs)
-      (λ n some. none n some (λ (e : n ≡ to.number). let same : members_at n (x ∷ xs) ≡ members_at to.number (x ∷ xs) = ap (λ (k : ℕ). members_at k (x ∷ xs)) e in omega arith)) spare)
+      (λ n some. none n some (λ (e : n ≡ to.number). let same : members_at n (x ∷ xs) ≡ members_at to.number (x ∷ xs) =
+      ap (λ (k : ℕ). members_at k (x ∷ xs)) e in omega arith)) spare)
       (λ (there : 1 ≤ members_at to.number (x ∷ xs)).
       let keyed : (n : ℕ) → 1 ≤ members_at n (x ∷ xs) → has_key m x.entry.key n ≡ true = chain_keyed m above None x.entry.key 34 (x ∷ xs) stands is.1 in
       let p = of_key x.entry.key (leaves_in m to.number) (keyed to.number there) in
       one_at C to.number (x ∷ xs) once
       (λ n some other. none n some other (takes.idle p.part p.is n (ap (λ (k : ℕ). has_key m k n) p.key_is ∙ keyed n some) (off n some))))
       (none_or_some (members_at to.number (x ∷ xs)))
-  moved_spare m C from to above low (fork room b zero one) is stands once none off takes spare = (
-    moved_spare m C from to (Some room) (b + 1) zero is.1 stands.1 (omega arith) (λ n some. none n (omega arith)) (λ n some. off n (omega arith)) takes spare.0,
-    moved_spare m C from to (Some room) (b + 1) one is.2 stands.2 (omega arith) (λ n some. none n (omega arith)) (λ n some. off n (omega arith)) takes spare.1,
+  moved_spare m C to above low (fork room b zero one) is stands once none off takes spare = (
+    moved_spare m C to (Some room) (b + 1) zero is.1 stands.1 (omega arith) (λ n some. none n (omega arith)) (λ n some. off n (omega arith)) takes spare.0,
+    moved_spare m C to (Some room) (b + 1) one is.2 stands.2 (omega arith) (λ n some. none n (omega arith)) (λ n some. off n (omega arith)) takes spare.1,
   )
 
   pub tree_stays : (B C : Bits) (t : Tree V) → ((n : ℕ) → 1 ≤ leaves_at n t → B n ≡ None → C n ≡ None) → HaveOneFork B t → HaveOneFork C t
   tree_stays B C (leaf x xs) none spare = chain_stays B C (x ∷ xs) none spare
-  tree_stays B C (fork room b zero one) none spare = (tree_stays B C zero (λ n some. none n (omega arith)) spare.0, tree_stays B C one (λ n some. none n (omega arith)) spare.1)
+  tree_stays B C (fork room b zero one) none spare =
+      (tree_stays B C zero (λ n some. none n (omega arith)) spare.0, tree_stays B C one (λ n some. none n (omega arith)) spare.1)

@@ -1,85 +1,78 @@
 -- A bit node in use moves from its room to another: the whole afterwards.
 use Rattle.std.proofs.Common.{◌≡◌, ℕ, ◌+◌, ◌≤◌, ◌==◌, List, ◌++◌, Option, Some, refl, sym, ap, ◌∙◌, subst, arith}
-use Rattle.std.specs.Prelude.{is_some}
-use Rattle.std.specs.Ordering.{nat_cmp}
-use Rattle.std.specs.FinMap.{FinMap}
-use Rattle.radix_nodes.specs.Rooms.{Seen}
-use Rattle.radix_nodes.specs.declared.id.Id.{Id}
-use Rattle.radix_nodes.specs.declared.links.Node.{Node}
-use Rattle.radix_nodes.specs.declared.links.Node.TheVariants.{Bit as BitOf}
-use Rattle.radix_nodes.specs.declared.links.BitNode.{BitNode}
-use Rattle.radix_tree.specs.Tree.{Tree, fork, routes_of}
-use Rattle.radix_tree.specs.Rooms.{BitPart, leaves_in, bits_in, name_of}
-use Rattle.radix_tree.specs.Whole.{one_if, leaves_at, HaveOneFork, shown}
-use Rattle.radix_tree.specs.Growth.{root_after}
-use Rattle.radix_tree.specs.Exchange.{Exchanged}
-use Rattle.radix_tree.specs.Marks.{IsWholeBut, nobody_late, out_at}
-use Rattle.radix_tree.specs.declared.entry.Entry.{Entry}
+use Rattle.radix_tree.proofs.Words.{is_some, Id, Node, BitOf, BitNode, Tree, fork, routes_of, BitPart, leaves_in, bits_in, name_of, one_if, leaves_at}
+use Rattle.radix_tree.proofs.Words.{HaveOneFork, shown, root_after, Exchanged, IsWholeBut, nobody_late, out_at, Entry, Lodged}
 use Rattle.radix_tree.proofs.Exchanging.{exchanged}
 use Rattle.radix_tree.proofs.Plugs.{spare_at, spare_plug}
-use Rattle.radix_tree.proofs.WholeChanges.{whole_changed, routes_changed}
+use Rattle.radix_tree.proofs.WholeChanges.{whole_changed}
+use Rattle.radix_tree.proofs.WholeRoutes.{routes_changed}
 use Rattle.radix_tree.proofs.MovedReads.{none_of, one_if_most, one_if_is}
 use Rattle.radix_tree.proofs.MovedSpare.{moved_spare}
-use Rattle.radix_tree.proofs.MovedRooms.{IsMove, IsMoved, under_of, exchange, fits, used_stays}
+use Rattle.radix_tree.proofs.MoveWrites.{IsMove, IsMoved, used_stays}
+use Rattle.radix_tree.proofs.MovedRooms.{under_of, exchange, fits}
 
 module _ {V : Type 0} where
   -- a room on its way out is no leaf of the tree
-  pub out_leaf : (m : FinMap nat_cmp (Seen V)) (root : Node) (from : ℕ) (w : IsWholeBut m root nobody_late (out_at from)) → leaves_at from w.part.tree ≡ 0
-  out_leaf m root from w =
+  pub out_leaf : (m : Lodged V) {root : Node} (from : ℕ) (w : IsWholeBut m root nobody_late (out_at from)) → leaves_at from w.part.tree ≡ 0
+  out_leaf m from w =
       let sum : leaves_at from w.part.tree + one_if (from == from) ≡ one_if (is_some (leaves_in m from)) = w.leaves from in
-      let own : one_if (from == from) ≡ 1 = one_if_is from from refl in
+      let own : one_if (from == from) ≡ 1 = one_if_is {a = from} from refl in
       let most : one_if (is_some (leaves_in m from)) ≤ 1 = one_if_most (is_some (leaves_in m from)) in omega arith
 
-  pub out_apart : (m : FinMap nat_cmp (Seen V)) (root : Node) (from : ℕ) (w : IsWholeBut m root nobody_late (out_at from)) (k : ℕ) → 1 ≤ leaves_at k w.part.tree → k ≡ from → ⊥
-  out_apart m root from w k some same =
-      let none : leaves_at from w.part.tree ≡ 0 = out_leaf m root from w in
+  pub out_apart : (m : Lodged V) {root : Node} (from : ℕ) (w : IsWholeBut m root nobody_late (out_at from)) (k : ℕ) → 1 ≤ leaves_at k w.part.tree → k ≡ from → ⊥
+  out_apart m from w k some same =
+      let none : leaves_at from w.part.tree ≡ 0 = out_leaf m from w in
       let e : leaves_at k w.part.tree ≡ leaves_at from w.part.tree = ap (λ (j : ℕ). leaves_at j w.part.tree) same in omega arith
 
-  pub leaves_once : (m : FinMap nat_cmp (Seen V)) (root : Node) (from k : ℕ) (w : IsWholeBut m root nobody_late (out_at from)) → leaves_at k w.part.tree ≤ 1
-  leaves_once m root from k w =
+  pub leaves_once : (m : Lodged V) {root : Node} (from k : ℕ) (w : IsWholeBut m root nobody_late (out_at from)) → leaves_at k w.part.tree ≤ 1
+  leaves_once m from k w =
       let sum : leaves_at k w.part.tree + one_if (k == from) ≡ one_if (is_some (leaves_in m k)) = w.leaves k in
       let most : one_if (is_some (leaves_in m k)) ≤ 1 = one_if_most (is_some (leaves_in m k)) in omega arith
 
   -- in each chain of the tree of before at most one bit node is in use
-  spare_before : (m new : FinMap nat_cmp (Seen V)) (root : Node) (from to : Id) (n : BitNode) (v : IsMove m root from to n) → IsMoved m new from to n → HaveOneFork (bits_in new) v.whole.part.tree
-  spare_before m new root from to n v d =
+  spare_before : (m new : Lodged V) {root : Node} (from to : Id) (n : BitNode) (v : IsMove m root from to n) → IsMoved m new from to n
+      → HaveOneFork (bits_in new) v.whole.part.tree
+  spare_before m new from to n v d =
       let w = v.whole in
-      moved_spare m (bits_in new) from to w.part.above w.part.low w.part.tree w.part.is w.part.stands (leaves_once m root from.number to.number w)
-      (λ k some other none. none_of (bits_in new k) (used_stays m new from to n d k (out_apart m root from.number w k some) other ∙ ap (λ (o : Option BitPart). is_some o) none))
-      (out_apart m root from.number w) v.takes w.spare
+      moved_spare m (bits_in new) to w.part.above w.part.low w.part.tree w.part.is w.part.stands (leaves_once m from.number to.number w)
+      (λ k some other none. none_of (bits_in new k) (used_stays m new from to n d k (out_apart m from.number w k some) other
+      ∙ ap (λ (o : Option BitPart). is_some o) none))
+      (out_apart m from.number w) v.takes w.spare
 
-  abbrev name_now : (m : FinMap nat_cmp (Seen V)) (root : Node) (from to : Id) (n : BitNode) → IsMove m root from to n → Node
-  name_now m root from to n v = root_after v.at.above (BitOf to) (name_of v.whole.part.tree)
+  abbrev name_now : {m : Lodged V} {root : Node} {from to : Id} {n : BitNode} → IsMove m root from to n → Node
+  name_now {to = to} v = root_after v.at.above (BitOf to) (name_of v.whole.part.tree)
 
-  changed : (m new : FinMap nat_cmp (Seen V)) (root : Node) (from to : Id) (n : BitNode) (v : IsMove m root from to n) (d : IsMoved m new from to n)
-      → Exchanged m new v.key v.whole.part v.at (under_of m new root from to n v d) (name_now m root from to n v)
-  changed m new root from to n v d =
-      exchanged m new v.key v.whole.part v.at v.ups (under_of m new root from to n v d) v.way v.whole.top v.once (exchange m new root from to n v d)
+  changed : (m new : Lodged V) {root : Node} (from to : Id) (n : BitNode) (v : IsMove m root from to n) (d : IsMoved m new from to n)
+      → Exchanged m new v.key v.whole.part v.at (under_of v d) (name_now v)
+  changed m new from to n v d =
+      exchanged m new v.whole.part v.at v.ups v.way v.whole.top v.once (exchange m new from to n v d)
 
-  spare_now : (m new : FinMap nat_cmp (Seen V)) (root : Node) (from to : Id) (n : BitNode) (v : IsMove m root from to n) (d : IsMoved m new from to n)
-      → (e : Exchanged m new v.key v.whole.part v.at (under_of m new root from to n v d) (name_now m root from to n v)) → HaveOneFork (bits_in new) e.part.tree
-  spare_now m new root from to n v d e =
-      let before = subst (HaveOneFork (bits_in new)) e.was (spare_before m new root from to n v d) in
+  spare_now : (m new : Lodged V) {root : Node} (from to : Id) (n : BitNode) (v : IsMove m root from to n) (d : IsMoved m new from to n)
+      → (e : Exchanged m new v.key v.whole.part v.at (under_of v d) (name_now v)) → HaveOneFork (bits_in new) e.part.tree
+  spare_now m new from to n v d e =
+      let before = subst (HaveOneFork (bits_in new)) e.was (spare_before m new from to n v d) in
       let own = subst (HaveOneFork (bits_in new)) v.f.is (spare_at (bits_in new) e.frames v.at.tree before) in
       subst (HaveOneFork (bits_in new)) (sym e.is_now)
       (spare_plug (bits_in new) (bits_in new) e.frames v.at.tree (fork to v.f.bit v.f.zero v.f.one) before own (λ y aside none. none))
 
-  named_now : (m : FinMap nat_cmp (Seen V)) (root : Node) (from to : Id) (n : BitNode) (v : IsMove m root from to n) → name_now m root from to n v ≡ root_after n.above (BitOf to) root
-  named_now m root from to n v =
+  named_now : (m : Lodged V) {root : Node} {from : Id} (to : Id) (n : BitNode) (v : IsMove m root from to n) → name_now v ≡ root_after n.above (BitOf to) root
+  named_now m to n v =
       ap (λ (o : Option Id). root_after o (BitOf to) (name_of v.whole.part.tree)) (sym v.above) ∙ ap (root_after n.above (BitOf to)) v.whole.named
 
-  pub whole_moved : (m new : FinMap nat_cmp (Seen V)) (root name : Node) (from to : Id) (n : BitNode) (v : IsMove m root from to n) (d : IsMoved m new from to n) → name ≡ root_after n.above (BitOf to) root
+  pub whole_moved : {m new : Lodged V} {root name : Node} (from to : Id) {n : BitNode} (v : IsMove m root from to n) (d : IsMoved m new from to n)
+      → name ≡ root_after n.above (BitOf to) root
       → IsWholeBut new name nobody_late (out_at from.number)
-  whole_moved m new root name from to n v d is =
-      let e = changed m new root from to n v d in
-      subst (λ (z : Node). IsWholeBut new z nobody_late (out_at from.number)) (named_now m root from to n v ∙ sym is)
-      (whole_changed m new root (name_now m root from to n v) nobody_late nobody_late (out_at from.number) (out_at from.number) v.key v.whole v.at (under_of m new root from to n v d) e
-      (fits m new root from to n v d) (spare_now m new root from to n v d e))
+  whole_moved {m = m} {new = new} from to {n = n} v d is =
+      let e = changed m new from to n v d in
+      subst (λ (z : Node). IsWholeBut new z nobody_late (out_at from.number)) (named_now m to n v ∙ sym is)
+      (whole_changed m new v.whole e
+      (fits m new from to n v d) (spare_now m new from to n v d e))
 
-  pub routes_moved : (m new : FinMap nat_cmp (Seen V)) (root name : Node) (from to : Id) (n : BitNode) (v : IsMove m root from to n) (d : IsMoved m new from to n) → name ≡ root_after n.above (BitOf to) root
+  pub routes_moved : {m new : Lodged V} {root name : Node} (from to : Id) {n : BitNode} (v : IsMove m root from to n) (d : IsMoved m new from to n)
+      → name ≡ root_after n.above (BitOf to) root
       → shown new (Some name) ≡ shown m (Some root)
-  routes_moved m new root name from to n v d is =
-      let e = changed m new root from to n v d in
-      let s = routes_changed m new root (name_now m root from to n v) nobody_late (out_at from.number) v.key v.whole v.at (under_of m new root from to n v d) e in
-      ap (λ (z : Node). shown new (Some z)) (is ∙ sym (named_now m root from to n v))
+  routes_moved {m = m} {new = new} from to {n = n} v d is =
+      let e = changed m new from to n v d in
+      let s = routes_changed v.whole e in
+      ap (λ (z : Node). shown new (Some z)) (is ∙ sym (named_now m to n v))
       ∙ s.is_now ∙ ap (λ (rs : List (Entry V)). s.front ++ rs ++ s.back) (sym (ap (λ (t : Tree V). routes_of t) v.f.is)) ∙ sym s.was

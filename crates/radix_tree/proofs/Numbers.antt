@@ -1,24 +1,20 @@
 -- The numbers of the rooms in use.
 --     uses_keys        a number is used once where a room of it is in the map, and else never
 --     free_room, used_more, used_less, same_numbers      what follows for a room that comes, goes, or is written
-use Rattle.std.proofs.Common.{◌≡◌, ℕ, ◌+◌, ◌<◌, ◌==◌, ◌||◌, Bool, true, false, cond, if◌then◌else◌, nat_eq, List, [], ◌∷◌, length, map, Result, Ok, Err, Option, Some, None, is_some, refl, sym, ap, ◌∙◌, subst, arith}
+use Rattle.std.proofs.Common.{◌≡◌, ℕ, ◌+◌, ◌<◌, ◌==◌, ◌||◌, Bool, true, false, cond, if◌then◌else◌, nat_eq, List, [], ◌∷◌, length, map, Result, Ok, Err, Option}
+use Rattle.std.proofs.Common.{Some, None, is_some, refl, sym, ap, ◌∙◌, subst, arith}
 use Rattle.std.specs.Prelude.{T, ◌&&◌, IfOk}
 use Rattle.std.proofs.lemmas.Bool.{eqb-true, eq-eqb, ne_eqb}
 use Rattle.std.proofs.lemmas.Cmp.{nat_cmp_total}
 use Rattle.std.proofs.lemmas.List.Sums.{sum_by-cons}
 use Rattle.std.specs.Cmp.{unsigned_tied, ranked}
-use Rattle.std.specs.Ordering.{nat_cmp, eq_by_cmp, is_lt, is_eq, MatchOrdering}
+use Rattle.std.specs.Ordering.{eq_by_cmp, is_eq, MatchOrdering}
 use Rattle.std.specs.declared.cmp.Ordering.{Ordering}
 use Rattle.std.specs.declared.cmp.Ordering.TheVariants.{Less, Equal, Greater}
-use Rattle.std.specs.FinMap.{FinMap, get, insert, keys, entries, entries_sorted, entries-insert, get-entries, len-entries, len-empty, empty, find, put, is_sorted}
+use Rattle.std.specs.FinMap.{insert, entries, entries_sorted, entries-insert, get-entries, len-entries, len-empty, empty, find, put, is_sorted}
 use Rattle.std.specs.FinMap.Entries.{below_all, by_order}
-use Rattle.radix_nodes.specs.Rooms.{Seen, Rooms}
-use Rattle.radix_nodes.specs.declared.links.Node.{Node}
-use Rattle.radix_tree.specs.Table.{Contents, uses}
-use Rattle.radix_tree.specs.Kept.{contents}
-use Rattle.radix_tree.specs.Rooms.{leaf_in, leaves_in}
-use Rattle.radix_tree.specs.Marks.{HasRoomMore}
-use Rattle.radix_tree.specs.Whole.{one_if}
+use Rattle.radix_tree.proofs.Words.{nat_cmp, is_lt, FinMap, get, keys, Seen, Rooms, Node, Contents, uses, contents, leaf_in, leaves_in, HasRoomMore, one_if}
+use Rattle.radix_tree.proofs.Words.{Lodged}
 
 both_first : (a b : Bool) → T (a && b) → T a
 both_first true b p = tt
@@ -68,7 +64,8 @@ module _ {X : Type 0} where
             let here : ◌≡◌ {A = ℕ} (cond (nat_eq e.0 n) 1 0) 1 = ap (λ (b : Bool). one_of b) (eq-eqb e.0 n (sym same)) in
             omega (arith, cons, behind, none, here)
         | false ↦ λ is.
-            let here : ◌≡◌ {A = ℕ} (cond (nat_eq e.0 n) 1 0) 0 = ap (λ (b : Bool). one_of b) (ne_eqb e.0 n (λ (e_is : e.0 ≡ n). true_false (sym (eq-eqb n e.0 (sym e_is)) ∙ is))) in
+            let here : ◌≡◌ {A = ℕ} (cond (nat_eq e.0 n) 1 0) 0 =
+            ap (λ (b : Bool). one_of b) (ne_eqb e.0 n (λ (e_is : e.0 ≡ n). true_false (sym (eq-eqb n e.0 (sym e_is)) ∙ is))) in
             omega (arith, cons, behind, here)
       ] refl ∙ ap (λ (b : Bool). one_if (is_some (cond b (Some e.1) (find nat_cmp n es)))) (sym (unsigned_tied n e.0))
 
@@ -84,15 +81,16 @@ none_of : {A : Type 0} (o : Option A) → is_some o ≡ false → o ≡ None
 none_of None e = refl
 none_of (Some x) e = absurd (true_false e)
 
-more_by : (n room : ℕ) (now was : Bool) → now ≡ (n == room) || was → (n ≡ room → was ≡ false) → one_if now ≡ one_if was + (if room == n then 1 else 0)
-more_by n room now was is free =
+more_by : (n room : ℕ) {now : Bool} (was : Bool) → now ≡ (n == room) || was → (n ≡ room → was ≡ false) → one_if now ≡ one_if was + (if room == n then 1 else 0)
+more_by n room {now = now} was is free =
     elim (n == room) as (λ b. (n == room) ≡ b → now ≡ b || was → one_if now ≡ one_if was + (if room == n then 1 else 0)) [
       | true ↦ λ same now_is.
           let here : ◌≡◌ {A = ℕ} (cond (nat_eq room n) 1 0) 1 = ap (λ (b : Bool). one_of b) (eq-eqb room n (sym (eqb-true n room same))) in
           let before : one_if was ≡ 0 = ap (λ (b : Bool). one_if b) (free (eqb-true n room same)) in
           let after : one_if now ≡ 1 = ap (λ (b : Bool). one_if b) now_is in omega (arith, here, before, after)
       | false ↦ λ other now_is.
-          let here : ◌≡◌ {A = ℕ} (cond (nat_eq room n) 1 0) 0 = ap (λ (b : Bool). one_of b) (ne_eqb room n (λ (e : room ≡ n). true_false (sym (eq-eqb n room (sym e)) ∙ other))) in
+          let here : ◌≡◌ {A = ℕ} (cond (nat_eq room n) 1 0) 0 =
+          ap (λ (b : Bool). one_of b) (ne_eqb room n (λ (e : room ≡ n). true_false (sym (eq-eqb n room (sym e)) ∙ other))) in
           let after : one_if now ≡ one_if was = ap (λ (b : Bool). one_if b) now_is in omega (arith, here, after)
     ] refl is
 
@@ -101,29 +99,33 @@ module _ {V : Type 0} where
   leaf_there None = refl
   leaf_there (Some s) = refl
 
-  pub uses_leaves : (m : FinMap nat_cmp (Seen V)) (n : ℕ) → uses n (keys m) ≡ one_if (is_some (leaves_in m n))
+  pub uses_leaves : (m : Lodged V) (n : ℕ) → uses n (keys m) ≡ one_if (is_some (leaves_in m n))
   uses_leaves m n = uses_keys m n ∙ ap (λ (b : Bool). one_if b) (sym (leaf_there (get m n)))
 
   -- a room that is not in use is not in the map
-  pub free_room : (m : FinMap nat_cmp (Seen V)) (n : ℕ) → uses n (keys m) ≡ 0 → get m n ≡ None
+  pub free_room : (m : Lodged V) (n : ℕ) → uses n (keys m) ≡ 0 → get m n ≡ None
   free_room m n unused = none_of (get m n) (no_use (is_some (get m n)) (sym (uses_keys m n) ∙ unused))
 
-  pub unused_room : (m : FinMap nat_cmp (Seen V)) (n : ℕ) → get m n ≡ None → uses n (keys m) ≡ 0
+  pub unused_room : (m : Lodged V) (n : ℕ) → get m n ≡ None → uses n (keys m) ≡ 0
   unused_room m n free = uses_keys m n ∙ ap (λ (o : Option (Seen V)). one_if (is_some o)) free
 
   -- a room that was made is not in use
-  pub made_free : {E : Type 0} (nodes : Rooms V) (root : Option Node) (t : Contents V) → contents nodes root ≡ t → (r : Result ℕ E) → IfOk r (λ n. (n ≡ nodes.next) × (get nodes.lodged n ≡ None))
+  pub made_free : {E : Type 0} (nodes : Rooms V) (root : Option Node) (t : Contents V) → contents nodes root ≡ t → (r : Result ℕ E)
+      → IfOk r (λ n. (n ≡ nodes.next) × (get nodes.lodged n ≡ None))
       → IfOk r (λ n. (n ≡ t.next) × (uses n t.numbers ≡ 0))
   made_free nodes root t view (Ok n) made =
       (made.0 ∙ ap (λ (t : Contents V). t.next) view, ap (λ (t : Contents V). uses n t.numbers) (sym view) ∙ unused_room nodes.lodged n made.1)
   made_free nodes root t view (Err e) made = tt
 
   -- a room more is one use more
-  pub used_more : (m new : FinMap nat_cmp (Seen V)) (room : ℕ) → get m room ≡ None → HasRoomMore m new room → (n : ℕ) → uses n (keys new) ≡ uses n (keys m) + (if room == n then 1 else 0)
+  pub used_more : (m new : Lodged V) (room : ℕ) → get m room ≡ None → HasRoomMore m new room → (n : ℕ)
+      → uses n (keys new) ≡ uses n (keys m) + (if room == n then 1 else 0)
   used_more m new room free more n =
       let now : uses n (keys new) ≡ one_if (is_some (leaves_in new n)) = uses_leaves new n in
       let was : uses n (keys m) ≡ one_if (is_some (leaves_in m n)) = uses_leaves m n in
-      let step = more_by n room (is_some (leaves_in new n)) (is_some (leaves_in m n)) (more n) (λ (e : n ≡ room). ap (λ (k : ℕ). is_some (leaves_in m k)) e ∙ ap (λ (o : Option (Seen V)). is_some (leaf_in o)) free) in
+      let step =
+      more_by n room (is_some (leaves_in m n)) (more n) (λ (e : n ≡ room). ap (λ (k : ℕ). is_some (leaves_in m k)) e
+      ∙ ap (λ (o : Option (Seen V)). is_some (leaf_in o)) free) in
       now ∙ step ∙ ap (λ (u : ℕ). u + (if room == n then 1 else 0)) (sym was)
 
 -- no room is in use at first
@@ -132,7 +134,9 @@ no_length [] e = refl
 no_length (x ∷ es) e = absurd (omega (arith, e))
 
 pub no_keys : (X : Type 0) → keys (empty {X = X} {R = nat_cmp}) ≡ []
-no_keys X = ap (λ (es : List (ℕ × X)). numbers es) (no_length (entries (empty {X = X} {R = nat_cmp})) (sym (len-entries (empty {X = X} {R = nat_cmp})) ∙ len-empty nat_cmp X))
+no_keys X =
+    ap (λ (es : List (ℕ × X)). numbers es) (no_length (entries (empty {X = X} {R = nat_cmp}))
+    (sym (len-entries (empty {X = X} {R = nat_cmp})) ∙ len-empty nat_cmp X))
 
 -- ---- a room that is written again
 less_of : (o : Ordering) (P Q R : Type 0) → T (is_lt o) → MatchOrdering o P Q R → P
@@ -160,7 +164,8 @@ module _ {X : Type 0} where
   put_keys : (k : ℕ) (v c : X) (es : List (ℕ × X)) → T (is_sorted nat_cmp es) → find nat_cmp k es ≡ Some c → numbers (put nat_cmp k v es) ≡ numbers es
   put_keys k v c [] sorted found = absurd (no_some found)
   put_keys k v c (e ∷ es) sorted found =
-      elim (nat_cmp k e.0) as (λ o. nat_cmp k e.0 ≡ o → cond (is_eq o) (Some e.1) (find nat_cmp k es) ≡ Some c → numbers (by_order o ((k, v) ∷ e ∷ es) ((e.0, v) ∷ es) (e ∷ put nat_cmp k v es)) ≡ e.0 ∷ numbers es) [
+      elim (nat_cmp k e.0) as (λ o. nat_cmp k e.0 ≡ o → cond (is_eq o) (Some e.1) (find nat_cmp k es) ≡ Some c
+      → numbers (by_order o ((k, v) ∷ e ∷ es) ((e.0, v) ∷ es) (e ∷ put nat_cmp k v es)) ≡ e.0 ∷ numbers es) [
         | Less ↦ λ is at. absurd (no_some (sym (not_later k e.0 es (ranked k e.0 Less (sym is)) (both_first _ _ sorted)) ∙ at))
         | Equal ↦ λ is at. refl
         | Greater ↦ λ is at. ap (λ (ns : List ℕ). e.0 ∷ ns) (put_keys k v c es (both_second _ _ sorted) at)

@@ -2,9 +2,7 @@
 use Rattle.std.proofs.Common.{◌≡◌, ℕ, Bool, true, false, ◌&&◌, ◌||◌, nat_lt, nat_eq, IsTrue, refl, inl, inr, arith}
 use Rattle.std.proofs.lemmas.Bool.{cases_lt}
 use Rattle.std.proofs.lemmas.Bool.Decides.{nat_tests}
-use Rattle.radix_tree.specs.Table.{precedes, has_pair}
-use Rattle.radix_tree.specs.TableLaws.{AreOnePair, PrecedesInWords, PrecedesOneWay, PrecedesTransitively, PrecedesOrSame}
-use Rattle.radix_tree.specs.declared.entry.Entry.{Entry}
+use Rattle.radix_tree.proofs.Words.{precedes, has_pair, AreOnePair, PrecedesInWords, PrecedesOneWay, PrecedesTransitively, PrecedesOrSame, Entry}
 
 -- the entry precedes, in table order, those that have this pair
 abbrev pub stands_before : {V : Type 0} → ℕ → ℕ → Entry V → Bool

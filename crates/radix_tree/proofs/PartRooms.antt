@@ -1,16 +1,8 @@
 -- The rooms of a tree that stay, the bit node above a part, and how often a room is in a part and in what is above it.
 use Rattle.std.proofs.Common.{◌≡◌, ℕ, ◌+◌, ◌≤◌, ◌==◌, Bool, false, if◌then◌else◌, List, [], ◌∷◌, Option, Some, None, refl, sym, ap, ◌∙◌, ⊎_elim, arith}
 use Rattle.std.proofs.lemmas.Bool.{eq-eqb, ne_eqb}
-use Rattle.std.specs.Ordering.{nat_cmp}
-use Rattle.std.specs.FinMap.{FinMap}
-use Rattle.radix_nodes.specs.Rooms.{Seen}
-use Rattle.radix_nodes.specs.declared.id.Id.{Id}
-use Rattle.radix_nodes.specs.declared.links.Node.{Node}
-use Rattle.radix_tree.specs.Tree.{Placed, Tree, leaf, fork, bit_at}
-use Rattle.radix_tree.specs.Rooms.{BitPart, Leaves, Bits, Part, leaves_in, bits_in, name_of, ChainStands, Stands}
-use Rattle.radix_tree.specs.Searches.{ForkAt, Beneath, Way}
-use Rattle.radix_tree.specs.Whole.{one_if, members_at, leaves_at, forks_at}
-use Rattle.radix_tree.specs.Growth.{with_child, AreOnce}
+use Rattle.radix_tree.proofs.Words.{Id, Node, Placed, Tree, leaf, fork, bit_at, BitPart, Leaves, Bits, Part, leaves_in, bits_in, name_of, ChainStands, Stands}
+use Rattle.radix_tree.proofs.Words.{ForkAt, Beneath, Way, one_if, members_at, leaves_at, forks_at, with_child, AreOnce, Lodged}
 use Rattle.radix_tree.proofs.AddressBits.{zero_not_one}
 use Rattle.radix_tree.proofs.Parts.{fork_stands}
 
@@ -37,14 +29,16 @@ elsewhere room n many some few same =
 
 module _ {V : Type 0} where
   -- ---- rooms that stay
-  pub chain_frame : (L M : Leaves V) (above previous : Option Id) (c : List (Placed V)) → ((n : ℕ) → 1 ≤ members_at n c → M n ≡ L n) → ChainStands L above previous c → ChainStands M above previous c
+  pub chain_frame : (L M : Leaves V) (above previous : Option Id) (c : List (Placed V)) → ((n : ℕ) → 1 ≤ members_at n c → M n ≡ L n)
+      → ChainStands L above previous c → ChainStands M above previous c
   chain_frame L M above previous [] same stands = tt
   chain_frame L M above previous (x ∷ c) same stands = (
     same x.room.number (let one : one_if (x.room.number == x.room.number) ≡ 1 = one_if_same x.room.number in omega arith) ∙ stands.0,
     chain_frame L M None (Some x.room) c (λ n some. same n (omega arith)) stands.1,
   )
 
-  pub frame : (L M : Leaves V) (B C : Bits) (above : Option Id) (t : Tree V) → ((n : ℕ) → 1 ≤ leaves_at n t → M n ≡ L n) → ((n : ℕ) → 1 ≤ forks_at n t → C n ≡ B n) → Stands L B above t → Stands M C above t
+  pub frame : (L M : Leaves V) (B C : Bits) (above : Option Id) (t : Tree V) → ((n : ℕ) → 1 ≤ leaves_at n t → M n ≡ L n)
+      → ((n : ℕ) → 1 ≤ forks_at n t → C n ≡ B n) → Stands L B above t → Stands M C above t
   frame L M B C above (leaf x xs) leaves forks stands = chain_frame L M above None (x ∷ xs) leaves stands
   frame L M B C above (fork room b zero one) leaves forks stands = (
     forks room.number (let one : one_if (room.number == room.number) ≡ 1 = one_if_same room.number in omega arith) ∙ stands.0,
@@ -53,22 +47,24 @@ module _ {V : Type 0} where
   )
 
   -- outside a part the rooms say what they said
-  pub record Keeps (m new : FinMap nat_cmp (Seen V)) (under over : Tree V) : Type 0 where
+  pub record Keeps (m new : Lodged V) (under over : Tree V) : Type 0 where
     pub leaves : (n : ℕ) → leaves_at n under ≡ 0 → 1 ≤ leaves_at n over → leaves_in new n ≡ leaves_in m n
     pub forks : (n : ℕ) → forks_at n under ≡ 0 → 1 ≤ forks_at n over → bits_in new n ≡ bits_in m n
 
   -- how often a room is in a bit node's tree
-  pub fork_forks : (m : FinMap nat_cmp (Seen V)) (over : Part m) (room : Id) (f : ForkAt over room) (n : ℕ) → forks_at n over.tree ≡ one_if (room.number == n) + (forks_at n f.zero + forks_at n f.one)
-  fork_forks m over room f n = ap (λ (t : Tree V). forks_at n t) f.is
+  pub fork_forks : (m : Lodged V) {over : Part m} {room : Id} (f : ForkAt over room) (n : ℕ)
+      → forks_at n over.tree ≡ one_if (room.number == n) + (forks_at n f.zero + forks_at n f.one)
+  fork_forks m f n = ap (λ (t : Tree V). forks_at n t) f.is
 
-  pub fork_leaves : (m : FinMap nat_cmp (Seen V)) (over : Part m) (room : Id) (f : ForkAt over room) (n : ℕ) → leaves_at n over.tree ≡ leaves_at n f.zero + leaves_at n f.one
-  fork_leaves m over room f n = ap (λ (t : Tree V). leaves_at n t) f.is
+  pub fork_leaves : (m : Lodged V) {over : Part m} {room : Id} (f : ForkAt over room) (n : ℕ) → leaves_at n over.tree ≡ leaves_at n f.zero + leaves_at n f.one
+  fork_leaves m f n = ap (λ (t : Tree V). leaves_at n t) f.is
 
   -- to name it as before changes nothing
-  pub same_turned : (m : FinMap nat_cmp (Seen V)) (address : ℕ) (under over : Part m) (name : Node) (b : Beneath address under over) → name ≡ name_of under.tree → bits_in m b.room.number ≡ with_child address name (bits_in m b.room.number)
+  pub same_turned : (m : Lodged V) (address : ℕ) (under over : Part m) (name : Node) (b : Beneath address under over) → name ≡ name_of under.tree
+      → bits_in m b.room.number ≡ with_child address name (bits_in m b.room.number)
   same_turned m address under over name b is =
       let f = b.at in
-      let old = (fork_stands m over b.room f).0 in
+      let old = (fork_stands m f).0 in
       old ∙ sym (ap (with_child address name) old ∙ ⊎_elim
       (λ (e : (under.tree ≡ f.zero) × (bit_at f.bit address ≡ 0)). zero_turned address name (said b.room f.bit (name_of f.zero) (name_of f.one) over.above) e.1
       ∙ ap (λ (z : Node). Some (said b.room f.bit z (name_of f.one) over.above)) (is ∙ ap (λ (t : Tree V). name_of t) e.0))
@@ -77,23 +73,28 @@ module _ {V : Type 0} where
       b.side)
 
   -- ---- all the way up
-  pub beneath_counts : (m : FinMap nat_cmp (Seen V)) (address : ℕ) (under over : Part m) (n : ℕ) → Beneath address under over → (leaves_at n under.tree ≤ leaves_at n over.tree) × (forks_at n under.tree ≤ forks_at n over.tree)
+  pub beneath_counts : (m : Lodged V) (address : ℕ) (under over : Part m) (n : ℕ) → Beneath address under over
+      → (leaves_at n under.tree ≤ leaves_at n over.tree) × (forks_at n under.tree ≤ forks_at n over.tree)
   beneath_counts m address under over n b =
       let f = b.at in
-      let forks : forks_at n over.tree ≡ one_if (b.room.number == n) + (forks_at n f.zero + forks_at n f.one) = fork_forks m over b.room f n in
-      let leaves : leaves_at n over.tree ≡ leaves_at n f.zero + leaves_at n f.one = fork_leaves m over b.room f n in
+      let forks : forks_at n over.tree ≡ one_if (b.room.number == n) + (forks_at n f.zero + forks_at n f.one) = fork_forks m f n in
+      let leaves : leaves_at n over.tree ≡ leaves_at n f.zero + leaves_at n f.one = fork_leaves m f n in
       ⊎_elim
       (λ (e : (under.tree ≡ f.zero) × (bit_at f.bit address ≡ 0)).
-      let l : leaves_at n under.tree ≡ leaves_at n f.zero = ap (λ (t : Tree V). leaves_at n t) e.0 in let k : forks_at n under.tree ≡ forks_at n f.zero = ap (λ (t : Tree V). forks_at n t) e.0 in
+      let l : leaves_at n under.tree ≡ leaves_at n f.zero = ap (λ (t : Tree V). leaves_at n t) e.0 in let k : forks_at n under.tree ≡ forks_at n f.zero =
+      ap (λ (t : Tree V). forks_at n t) e.0 in
       (omega arith, omega arith))
       (λ (e : (under.tree ≡ f.one) × (bit_at f.bit address ≡ 1)).
-      let l : leaves_at n under.tree ≡ leaves_at n f.one = ap (λ (t : Tree V). leaves_at n t) e.0 in let k : forks_at n under.tree ≡ forks_at n f.one = ap (λ (t : Tree V). forks_at n t) e.0 in
+      let l : leaves_at n under.tree ≡ leaves_at n f.one = ap (λ (t : Tree V). leaves_at n t) e.0 in let k : forks_at n under.tree ≡ forks_at n f.one =
+      ap (λ (t : Tree V). forks_at n t) e.0 in
       (omega arith, omega arith))
       b.side
 
-  pub way_counts : (m : FinMap nat_cmp (Seen V)) (address : ℕ) (whole at : Part m) (ups : List (Part m)) (n : ℕ) → Way address whole at ups → (leaves_at n at.tree ≤ leaves_at n whole.tree) × (forks_at n at.tree ≤ forks_at n whole.tree)
+  pub way_counts : (m : Lodged V) (address : ℕ) (whole at : Part m) (ups : List (Part m)) (n : ℕ) → Way address whole at ups
+      → (leaves_at n at.tree ≤ leaves_at n whole.tree) × (forks_at n at.tree ≤ forks_at n whole.tree)
   way_counts m address whole at [] n way =
-      let l : leaves_at n at.tree ≡ leaves_at n whole.tree = ap (λ (p : Part m). leaves_at n p.tree) way in let k : forks_at n at.tree ≡ forks_at n whole.tree = ap (λ (p : Part m). forks_at n p.tree) way in
+      let l : leaves_at n at.tree ≡ leaves_at n whole.tree = ap (λ (p : Part m). leaves_at n p.tree) way in
+      let k : forks_at n at.tree ≡ forks_at n whole.tree = ap (λ (p : Part m). forks_at n p.tree) way in
       (omega arith, omega arith)
   way_counts m address whole at (p ∷ ps) n way =
       let near = beneath_counts m address at p n way.0 in
@@ -102,23 +103,29 @@ module _ {V : Type 0} where
       let l2 : leaves_at n p.tree ≤ leaves_at n whole.tree = far.0 in let k2 : forks_at n p.tree ≤ forks_at n whole.tree = far.1 in
       (omega arith, omega arith)
 
-  pub way_once : (m : FinMap nat_cmp (Seen V)) (address : ℕ) (whole at : Part m) (ups : List (Part m)) → Way address whole at ups → AreOnce whole.tree → AreOnce at.tree
-  way_once m address whole at ups way once = record {
-    leaves = λ n. let le : leaves_at n at.tree ≤ leaves_at n whole.tree = (way_counts m address whole at ups n way).0 in let most : leaves_at n whole.tree ≤ 1 = once.leaves n in omega arith;
-    forks = λ n. let le : forks_at n at.tree ≤ forks_at n whole.tree = (way_counts m address whole at ups n way).1 in let most : forks_at n whole.tree ≤ 1 = once.forks n in omega arith;
+  pub way_once : {m : Lodged V} (address : ℕ) (whole at : Part m) (ups : List (Part m)) → Way address whole at ups → AreOnce whole.tree → AreOnce at.tree
+  way_once {m = m} address whole at ups way once = record {
+    leaves = λ n. let le : leaves_at n at.tree ≤ leaves_at n whole.tree = (way_counts m address whole at ups n way).0 in
+        let most : leaves_at n whole.tree ≤ 1 = once.leaves n in omega arith;
+    forks = λ n. let le : forks_at n at.tree ≤ forks_at n whole.tree = (way_counts m address whole at ups n way).1 in let most : forks_at n whole.tree ≤ 1 =
+        once.forks n in omega arith;
   }
 
   -- the room of the bit node above is not beneath it
-  pub spine_out : (m : FinMap nat_cmp (Seen V)) (address : ℕ) (under over : Part m) (b : Beneath address under over) → AreOnce over.tree → (forks_at b.room.number under.tree ≡ 0) × (1 ≤ forks_at b.room.number over.tree)
-  spine_out m address under over b once =
+  pub spine_out : (m : Lodged V) {address : ℕ} (under over : Part m) (b : Beneath address under over) → AreOnce over.tree
+      → (forks_at b.room.number under.tree ≡ 0) × (1 ≤ forks_at b.room.number over.tree)
+  spine_out m {address = address} under over b once =
       let f = b.at in
       let n = b.room.number in
       let one : one_if (b.room.number == b.room.number) ≡ 1 = one_if_same b.room.number in
-      let forks : forks_at b.room.number over.tree ≡ one_if (b.room.number == b.room.number) + (forks_at b.room.number f.zero + forks_at b.room.number f.one) = fork_forks m over b.room f b.room.number in
+      let forks : forks_at b.room.number over.tree ≡ one_if (b.room.number == b.room.number) + (forks_at b.room.number f.zero + forks_at b.room.number f.one) =
+      fork_forks m f b.room.number in
       let most : forks_at b.room.number over.tree ≤ 1 = once.forks b.room.number in (
         ⊎_elim
-            (λ (e : (under.tree ≡ f.zero) × (bit_at f.bit address ≡ 0)). let k : forks_at b.room.number under.tree ≡ forks_at b.room.number f.zero = ap (λ (t : Tree V). forks_at b.room.number t) e.0 in omega arith)
-            (λ (e : (under.tree ≡ f.one) × (bit_at f.bit address ≡ 1)). let k : forks_at b.room.number under.tree ≡ forks_at b.room.number f.one = ap (λ (t : Tree V). forks_at b.room.number t) e.0 in omega arith)
+            (λ (e : (under.tree ≡ f.zero) × (bit_at f.bit address ≡ 0)). let k : forks_at b.room.number under.tree ≡ forks_at b.room.number f.zero =
+            ap (λ (t : Tree V). forks_at b.room.number t) e.0 in omega arith)
+            (λ (e : (under.tree ≡ f.one) × (bit_at f.bit address ≡ 1)). let k : forks_at b.room.number under.tree ≡ forks_at b.room.number f.one =
+            ap (λ (t : Tree V). forks_at b.room.number t) e.0 in omega arith)
             b.side,
         omega arith,
       )

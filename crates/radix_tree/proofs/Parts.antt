@@ -1,13 +1,7 @@
 -- The parts of a tree: a bit node with what is beneath it, a leaf, and the way between one part and the whole.
 use Rattle.std.proofs.Common.{◌≡◌, ℕ, ◌+◌, List, [], ◌∷◌, Some, None, refl, sym, ap, ◌∙◌, subst, inl, inr, ⊎_elim}
-use Rattle.std.specs.Ordering.{nat_cmp}
-use Rattle.std.specs.FinMap.{FinMap}
-use Rattle.radix_nodes.specs.Rooms.{Seen, Has}
-use Rattle.radix_nodes.specs.declared.id.Id.{Id}
-use Rattle.radix_nodes.specs.declared.links.Node.TheVariants.{Leaf as LeafOf, Bit as BitOf}
-use Rattle.radix_tree.specs.Tree.{Placed, Tree, leaf, fork, bit_at, IsAmong, IsIn, IsTree}
-use Rattle.radix_tree.specs.Rooms.{BitPart, Part, Run, leaves_in, bits_in, heads_in, masks_in, first_room, name_of, Stands, Lists, AreListed}
-use Rattle.radix_tree.specs.Searches.{Best, In, ForkAt, LeafAt, LedTo, Beneath, Way}
+use Rattle.radix_tree.proofs.Words.{Has, Id, LeafOf, BitOf, Placed, Tree, leaf, fork, bit_at, IsAmong, IsIn, IsTree, BitPart, Part, Run, leaves_in, bits_in}
+use Rattle.radix_tree.proofs.Words.{heads_in, masks_in, first_room, name_of, Stands, Lists, AreListed, Best, In, ForkAt, LeafAt, LedTo, Beneath, Way, Lodged}
 use Rattle.radix_tree.proofs.RoomReads.{Has-bit}
 use Rattle.radix_tree.proofs.Searching.{IsSide, zero_side, one_side, side_hit}
 
@@ -24,73 +18,73 @@ same_leaf : {x y : Id} → LeafOf x ≡ LeafOf y → x ≡ y
 same_leaf e = cc
 
 module _ {V : Type 0} where
-  fork_of : (m : FinMap nat_cmp (Seen V)) (p : Part m) (room : Id) (t : Tree V) → p.tree ≡ t → name_of t ≡ BitOf room → ForkAt p room
-  fork_of m p room (leaf x xs) is named = absurd (leaf_not_bit named)
-  fork_of m p room (fork i b zero one) is named = record { bit = b; zero = zero; one = one; is = is ∙ ap (λ (j : Id). fork j b zero one) (same_bit_node named) }
+  fork_of : (m : Lodged V) (p : Part m) {room : Id} (t : Tree V) → p.tree ≡ t → name_of t ≡ BitOf room → ForkAt p room
+  fork_of m p (leaf x xs) is named = absurd (leaf_not_bit named)
+  fork_of m p (fork i b zero one) is named = record { bit = b; zero = zero; one = one; is = is ∙ ap (λ (j : Id). fork j b zero one) (same_bit_node named) }
 
-  leaf_of : (m : FinMap nat_cmp (Seen V)) (p : Part m) (room : Id) (t : Tree V) → p.tree ≡ t → name_of t ≡ LeafOf room → LeafAt p room
-  leaf_of m p room (leaf x xs) is named = record { first = x; rest = xs; is = is; room_is = same_leaf named }
-  leaf_of m p room (fork i b zero one) is named = absurd (bit_not_leaf named)
+  leaf_of : (m : Lodged V) (p : Part m) {room : Id} (t : Tree V) → p.tree ≡ t → name_of t ≡ LeafOf room → LeafAt p room
+  leaf_of m p (leaf x xs) is named = record { first = x; rest = xs; is = is; room_is = same_leaf named }
+  leaf_of m p (fork i b zero one) is named = absurd (bit_not_leaf named)
 
   -- a part is what its name says
-  pub fork_named : (m : FinMap nat_cmp (Seen V)) (p : Part m) (room : Id) → name_of p.tree ≡ BitOf room → ForkAt p room
-  fork_named m p room named = fork_of m p room p.tree refl named
+  pub fork_named : {m : Lodged V} (p : Part m) {room : Id} → name_of p.tree ≡ BitOf room → ForkAt p room
+  fork_named {m = m} p named = fork_of m p p.tree refl named
 
-  pub leaf_named : (m : FinMap nat_cmp (Seen V)) (p : Part m) (room : Id) → name_of p.tree ≡ LeafOf room → LeafAt p room
-  leaf_named m p room named = leaf_of m p room p.tree refl named
+  pub leaf_named : {m : Lodged V} (p : Part m) {room : Id} → name_of p.tree ≡ LeafOf room → LeafAt p room
+  leaf_named {m = m} p named = leaf_of m p p.tree refl named
 
   -- ---- a bit node
-  pub fork_name : (m : FinMap nat_cmp (Seen V)) (p : Part m) (room : Id) → ForkAt p room → name_of p.tree ≡ BitOf room
-  fork_name m p room f = ap (λ (t : Tree V). name_of t) f.is
+  pub fork_name : (m : Lodged V) {p : Part m} {room : Id} → ForkAt p room → name_of p.tree ≡ BitOf room
+  fork_name m f = ap (λ (t : Tree V). name_of t) f.is
 
-  abbrev pub whole_of : (m : FinMap nat_cmp (Seen V)) (p : Part m) (room : Id) → ForkAt p room → Tree V
-  whole_of m p room f = fork room f.bit f.zero f.one
+  abbrev pub whole_of : (m : Lodged V) {p : Part m} (room : Id) → ForkAt p room → Tree V
+  whole_of m room f = fork room f.bit f.zero f.one
 
-  pub fork_is : (m : FinMap nat_cmp (Seen V)) (p : Part m) (room : Id) (f : ForkAt p room) → IsTree p.low (whole_of m p room f)
-  fork_is m p room f = subst (IsTree p.low) f.is p.is
+  pub fork_is : (m : Lodged V) {p : Part m} {room : Id} (f : ForkAt p room) → IsTree p.low (whole_of m room f)
+  fork_is m {p = p} f = subst (IsTree p.low) f.is p.is
 
-  pub fork_stands : (m : FinMap nat_cmp (Seen V)) (p : Part m) (room : Id) (f : ForkAt p room) → Stands (leaves_in m) (bits_in m) p.above (whole_of m p room f)
-  fork_stands m p room f = subst (Stands (leaves_in m) (bits_in m) p.above) f.is p.stands
+  pub fork_stands : (m : Lodged V) {p : Part m} {room : Id} (f : ForkAt p room) → Stands (leaves_in m) (bits_in m) p.above (whole_of m room f)
+  fork_stands m {p = p} f = subst (Stands (leaves_in m) (bits_in m) p.above) f.is p.stands
 
-  pub fork_lists : (m : FinMap nat_cmp (Seen V)) (p : Part m) (room : Id) (f : ForkAt p room) → AreListed m p → Lists (heads_in m) (masks_in m) p.low (whole_of m p room f)
-  fork_lists m p room f listed = subst (Lists (heads_in m) (masks_in m) p.low) f.is listed
+  pub fork_lists : (m : Lodged V) (p : Part m) {room : Id} (f : ForkAt p room) → AreListed m p → Lists (heads_in m) (masks_in m) p.low (whole_of m room f)
+  fork_lists m p f listed = subst (Lists (heads_in m) (masks_in m) p.low) f.is listed
 
   -- what its room says
-  abbrev pub bit_part_of : (m : FinMap nat_cmp (Seen V)) (p : Part m) (room : Id) → ForkAt p room → BitPart
-  bit_part_of m p room f = record { block = room.block; bit = f.bit; zero = name_of f.zero; one = name_of f.one; above = p.above }
+  abbrev pub bit_part_of : (m : Lodged V) {p : Part m} {room : Id} → ForkAt p room → BitPart
+  bit_part_of m {p = p} {room = room} f = record { block = room.block; bit = f.bit; zero = name_of f.zero; one = name_of f.one; above = p.above }
 
-  pub Has-fork : (m : FinMap nat_cmp (Seen V)) (p : Part m) (room : Id) → ForkAt p room → Has m room
-  Has-fork m p room f = Has-bit m room (bit_part_of m p room f) (fork_stands m p room f).0 refl
+  pub Has-fork : (m : Lodged V) {p : Part m} {room : Id} → ForkAt p room → Has m room
+  Has-fork m {room = room} f = Has-bit m room (fork_stands m f).0 refl
 
   -- its sides
-  abbrev pub zero_part : (m : FinMap nat_cmp (Seen V)) (p : Part m) (room : Id) → ForkAt p room → Part m
-  zero_part m p room f = record {
+  abbrev pub zero_part : (m : Lodged V) {p : Part m} {room : Id} → ForkAt p room → Part m
+  zero_part m {room = room} f = record {
     tree = f.zero;
     low = f.bit + 1;
     above = Some room;
-    is = (fork_is m p room f).1;
-    stands = (fork_stands m p room f).1;
+    is = (fork_is m f).1;
+    stands = (fork_stands m f).1;
   }
 
-  abbrev pub one_part : (m : FinMap nat_cmp (Seen V)) (p : Part m) (room : Id) → ForkAt p room → Part m
-  one_part m p room f = record {
+  abbrev pub one_part : (m : Lodged V) {p : Part m} {room : Id} → ForkAt p room → Part m
+  one_part m {room = room} f = record {
     tree = f.one;
     low = f.bit + 1;
     above = Some room;
-    is = (fork_is m p room f).2;
-    stands = (fork_stands m p room f).2;
+    is = (fork_is m f).2;
+    stands = (fork_stands m f).2;
   }
 
-  pub zero_beneath : (m : FinMap nat_cmp (Seen V)) (address : ℕ) (p : Part m) (room : Id) (f : ForkAt p room) → bit_at f.bit address ≡ 0 → Beneath address (zero_part m p room f) p
-  zero_beneath m address p room f is = record { room = room; at = f; above = refl; low = refl; side = inl (refl, is) }
+  pub zero_beneath : (m : Lodged V) (address : ℕ) {p : Part m} (room : Id) (f : ForkAt p room) → bit_at f.bit address ≡ 0 → Beneath address (zero_part m f) p
+  zero_beneath m address room f is = record { room = room; at = f; above = refl; low = refl; side = inl (refl, is) }
 
-  pub one_beneath : (m : FinMap nat_cmp (Seen V)) (address : ℕ) (p : Part m) (room : Id) (f : ForkAt p room) → bit_at f.bit address ≡ 1 → Beneath address (one_part m p room f) p
-  one_beneath m address p room f is = record { room = room; at = f; above = refl; low = refl; side = inr (refl, is) }
+  pub one_beneath : (m : Lodged V) (address : ℕ) {p : Part m} (room : Id) (f : ForkAt p room) → bit_at f.bit address ≡ 1 → Beneath address (one_part m f) p
+  one_beneath m address room f is = record { room = room; at = f; above = refl; low = refl; side = inr (refl, is) }
 
-  pub side_of : (m : FinMap nat_cmp (Seen V)) (address : ℕ) (under over : Part m) (b : Beneath address under over) → IsSide address b.at.bit under.tree over.tree
-  side_of m address under over b =
+  pub side_of : (m : Lodged V) {address : ℕ} {under over : Part m} (b : Beneath address under over) → IsSide address b.at.bit under.tree over.tree
+  side_of m {address = address} {under = under} {over = over} b =
       let f = b.at in
-      let is = fork_is m over b.room f in
+      let is = fork_is m f in
       let whole = fork b.room f.bit f.zero f.one in
       subst (λ (t : Tree V). IsSide address f.bit under.tree t) (sym f.is) (⊎_elim
       (λ (e : (under.tree ≡ f.zero) × (bit_at f.bit address ≡ 0)). subst (λ (c : Tree V). IsSide address f.bit c (fork b.room f.bit f.zero f.one)) (sym e.0)
@@ -100,8 +94,8 @@ module _ {V : Type 0} where
       b.side)
 
   -- ---- a leaf
-  abbrev pub leaf_run : (m : FinMap nat_cmp (Seen V)) (p : Part m) (room : Id) → LeafAt p room → Run m
-  leaf_run m p room f = record {
+  abbrev pub leaf_run : (m : Lodged V) {p : Part m} {room : Id} → LeafAt p room → Run m
+  leaf_run m {p = p} f = record {
     members = f.first ∷ f.rest;
     key = f.first.entry.key;
     top = 34;
@@ -111,48 +105,50 @@ module _ {V : Type 0} where
     stands = subst (Stands (leaves_in m) (bits_in m) p.above) f.is p.stands;
   }
 
-  pub leaf_begins : (m : FinMap nat_cmp (Seen V)) (p : Part m) (room : Id) (f : LeafAt p room) → first_room (f.first ∷ f.rest) ≡ Some room
-  leaf_begins m p room f = ap (λ (i : Id). Some i) f.room_is
+  pub leaf_begins : (m : Lodged V) {p : Part m} {room : Id} (f : LeafAt p room) → first_room (f.first ∷ f.rest) ≡ Some room
+  leaf_begins m f = ap (λ (i : Id). Some i) f.room_is
 
   -- that of the leaf to which an address leads
-  abbrev pub chain_led : {m : FinMap nat_cmp (Seen V)} {address : ℕ} {whole : Part m} {room : Id} → LedTo address whole room → (c : Run m) × (first_room c.members ≡ Some room)
-  chain_led {m} {room = room} l = (leaf_run m l.part room l.leaf, leaf_begins m l.part room l.leaf)
+  abbrev pub chain_led : {m : Lodged V} {address : ℕ} {whole : Part m} {room : Id} → LedTo address whole room → (c : Run m) × (first_room c.members ≡ Some room)
+  chain_led {m} {room = room} l = (leaf_run m l.leaf, leaf_begins m l.leaf)
 
-  pub among_leaf : (m : FinMap nat_cmp (Seen V)) (p : Part m) (room : Id) (f : LeafAt p room) (y : Placed V) → IsIn y p.tree → IsAmong y (f.first ∷ f.rest)
-  among_leaf m p room f y at = subst (IsIn y) f.is at
+  pub among_leaf : (m : Lodged V) {p : Part m} {room : Id} (f : LeafAt p room) (y : Placed V) → IsIn y p.tree → IsAmong y (f.first ∷ f.rest)
+  among_leaf m f y at = subst (IsIn y) f.is at
 
-  pub in_leaf : (m : FinMap nat_cmp (Seen V)) (p : Part m) (room : Id) (f : LeafAt p room) (y : Placed V) → IsAmong y (f.first ∷ f.rest) → IsIn y p.tree
-  in_leaf m p room f y among = subst (IsIn y) (sym f.is) among
+  pub in_leaf : (m : Lodged V) {p : Part m} {room : Id} (f : LeafAt p room) (y : Placed V) → IsAmong y (f.first ∷ f.rest) → IsIn y p.tree
+  in_leaf m f y among = subst (IsIn y) (sym f.is) among
 
   -- ---- a way
-  pub way_inside : (m : FinMap nat_cmp (Seen V)) (address : ℕ) (whole at : Part m) (ups : List (Part m)) → Way address whole at ups → (y : Placed V) → IsIn y at.tree → IsIn y whole.tree
+  pub way_inside : (m : Lodged V) (address : ℕ) (whole at : Part m) (ups : List (Part m)) → Way address whole at ups → (y : Placed V) → IsIn y at.tree
+      → IsIn y whole.tree
   way_inside m address whole at [] way y is = subst (λ (p : Part m). IsIn y p.tree) way is
-  way_inside m address whole at (p ∷ ps) way y is = way_inside m address whole p ps way.1 y ((side_of m address at p way.0).inside y is)
+  way_inside m address whole at (p ∷ ps) way y is = way_inside m address whole p ps way.1 y ((side_of m way.0).inside y is)
 
   -- a route whose key is the address is found on its way
-  pub way_leads : (m : FinMap nat_cmp (Seen V)) (address : ℕ) (whole at : Part m) (ups : List (Part m)) → Way address whole at ups → (y : Placed V) → IsIn y whole.tree → y.entry.key ≡ address → IsIn y at.tree
-  way_leads m address whole at [] way y is key = subst (λ (p : Part m). IsIn y p.tree) (sym way) is
-  way_leads m address whole at (p ∷ ps) way y is key =
-      let side = side_of m address at p way.0 in
+  pub way_leads : (m : Lodged V) {address : ℕ} (whole at : Part m) (ups : List (Part m)) → Way address whole at ups → (y : Placed V) → IsIn y whole.tree
+      → y.entry.key ≡ address → IsIn y at.tree
+  way_leads m whole at [] way y is key = subst (λ (p : Part m). IsIn y p.tree) (sym way) is
+  way_leads m whole at (p ∷ ps) way y is key =
+      let side = side_of m way.0 in
       ⊎_elim (λ (here : IsIn y at.tree). here) (λ differs. absurd (differs (ap (bit_at way.0.at.bit) key)))
-      (side.parted y (way_leads m address whole p ps way.1 y is key))
+      (side.parted y (way_leads m whole p ps way.1 y is key))
 
-  lists_beneath : (m : FinMap nat_cmp (Seen V)) (address : ℕ) (under over : Part m) → Beneath address under over → AreListed m over → AreListed m under
+  lists_beneath : (m : Lodged V) (address : ℕ) (under over : Part m) → Beneath address under over → AreListed m over → AreListed m under
   lists_beneath m address under over b listed =
       let f = b.at in
-      let lists = fork_lists m over b.room f listed in
+      let lists = fork_lists m over f listed in
       subst (λ (low : ℕ). Lists (heads_in m) (masks_in m) low under.tree) (sym b.low) (⊎_elim
       (λ (e : (under.tree ≡ f.zero) × (bit_at f.bit address ≡ 0)). subst (Lists (heads_in m) (masks_in m) (f.bit + 1)) (sym e.0) lists.1)
       (λ (e : (under.tree ≡ f.one) × (bit_at f.bit address ≡ 1)). subst (Lists (heads_in m) (masks_in m) (f.bit + 1)) (sym e.0) lists.2)
       b.side)
 
-  pub way_lists : (m : FinMap nat_cmp (Seen V)) (address : ℕ) (whole at : Part m) (ups : List (Part m)) → Way address whole at ups → AreListed m whole → AreListed m at
+  pub way_lists : (m : Lodged V) (address : ℕ) (whole at : Part m) (ups : List (Part m)) → Way address whole at ups → AreListed m whole → AreListed m at
   way_lists m address whole at [] way listed = subst (AreListed m) (sym way) listed
   way_lists m address whole at (p ∷ ps) way listed = lists_beneath m address at p way.0 (way_lists m address whole p ps way.1 listed)
 
   -- the best beneath is the whole's best
-  pub way_best : (m : FinMap nat_cmp (Seen V)) (address : ℕ) (whole at : Part m) (ups : List (Part m)) → Way address whole at ups → (x : Placed V)
+  pub way_best : (m : Lodged V) (address : ℕ) (whole at : Part m) (ups : List (Part m)) → Way address whole at ups → (x : Placed V)
       → Best address at.low 34 (In at) (Some x) → Best address whole.low 34 (In whole) (Some x)
   way_best m address whole at [] way x best = subst (λ (p : Part m). Best address p.low 34 (In p) (Some x)) way best
   way_best m address whole at (p ∷ ps) way x best =
-      way_best m address whole p ps way.1 x (side_hit address p.low way.0.at.bit at.tree p.tree x (side_of m address at p way.0) best)
+      way_best m address whole p ps way.1 x (side_hit address p.low way.0.at.bit at.tree p.tree x (side_of m way.0) best)

@@ -1,12 +1,7 @@
 -- The lists of masks of bit nodes above a part stay where the part is exchanged and its masks that are listed further up stay.
 use Rattle.std.proofs.Common.{◌≡◌, ℕ, ◌+◌, ◌<◌, ◌≤◌, ◌==◌, List, [], ◌∷◌, Option, refl, sym, ap, ◌∙◌, subst, inl, inr, ⊎_elim, arith}
-use Rattle.std.specs.Prelude.{is_some}
-use Rattle.radix_nodes.specs.declared.id.Id.{Id}
-use Rattle.radix_tree.specs.Tree.{Placed, Tree, leaf, fork, IsAmong, IsIn, IsTree}
-use Rattle.radix_tree.specs.Rooms.{Heads, Masks, MaskPart, MasksStand, Falls}
-use Rattle.radix_tree.specs.Whole.{one_if, forks_at}
-use Rattle.radix_tree.specs.Exchange.{Frame, on_zero, on_one, plug, low_past}
-use Rattle.radix_tree.specs.Marks.{IsMarked, IsMaskList, MarkedIn, MarkedLists}
+use Rattle.radix_tree.proofs.Words.{is_some, Id, Placed, Tree, leaf, fork, IsAmong, IsIn, IsTree, Heads, Masks, MaskPart, MasksStand, Falls, one_if, forks_at}
+use Rattle.radix_tree.proofs.Words.{Frame, on_zero, on_one, plug, low_past, IsMarked, IsMaskList, MarkedIn, MarkedLists}
 use Rattle.radix_tree.proofs.PartRooms.{one_if_same}
 use Rattle.radix_tree.proofs.Plugs.{Aside, aside_in, in_plug, plug_in, forks_within, low_rises}
 
@@ -23,7 +18,8 @@ module _ {V : Type 0} where
       let below : x.entry.rank < y.entry.rank = between.1 in
       let lt : x.entry.rank < top = omega arith in (between.0, lt)) among
 
-  pub masks_stand_same : (K J : Masks) (ms : List (Placed V)) → ((x : Placed V) → IsAmong x ms → J x.room.number ≡ K x.room.number) → MasksStand K ms → MasksStand J ms
+  pub masks_stand_same : (K J : Masks) (ms : List (Placed V)) → ((x : Placed V) → IsAmong x ms → J x.room.number ≡ K x.room.number) → MasksStand K ms
+      → MasksStand J ms
   masks_stand_same K J [] same stands = tt
   masks_stand_same K J (x ∷ xs) same stands = (same x (inl refl) ∙ stands.0, masks_stand_same K J xs (λ y among. same y (inr among)) stands.1)
 
@@ -38,10 +34,10 @@ module _ {V : Type 0} where
   marked_same K J x same marked = ap (λ (o : Option MaskPart). is_some o) same ∙ marked
 
   -- a list stays, where up to its bit the same masks are marked as before
-  pub mask_list_same : (K J : Masks) (first other : Option Id) (low b : ℕ) (M N : Placed V → Type 0) → other ≡ first
+  pub mask_list_same : (K J : Masks) {first other : Option Id} (low b : ℕ) {M : Placed V → Type 0} (N : Placed V → Type 0) → other ≡ first
       → ((x : Placed V) → M x → x.entry.rank ≤ b → N x × (J x.room.number ≡ K x.room.number)) → ((x : Placed V) → N x → x.entry.rank ≤ b → M x)
       → IsMaskList K first low b M → IsMaskList J other low b N
-  mask_list_same K J first other low b M N same stays came list =
+  mask_list_same K J low b N same stays came list =
       let short = λ (x : Placed V) (among : IsAmong x list.masks).
       (let below : x.entry.rank < b + 1 = (falls_between low (b + 1) list.masks list.falls x among).1 in let le : x.entry.rank ≤ b = omega arith in le) in
       record {
@@ -55,11 +51,12 @@ module _ {V : Type 0} where
 
   -- ---- the lists of a tree
   -- they stay where its heads and its masks stay
-  pub lists_same : (H G : Heads) (K J : Masks) (low : ℕ) (t : Tree V) → ((n : ℕ) → 1 ≤ forks_at n t → G n ≡ H n) → ((y : Placed V) → IsIn y t → J y.room.number ≡ K y.room.number)
+  pub lists_same : (H G : Heads) (K J : Masks) (low : ℕ) (t : Tree V) → ((n : ℕ) → 1 ≤ forks_at n t → G n ≡ H n)
+      → ((y : Placed V) → IsIn y t → J y.room.number ≡ K y.room.number)
       → MarkedLists H K low t → MarkedLists G J low t
   lists_same H G K J low (leaf x xs) heads masks lists = tt
   lists_same H G K J low (fork room b zero one) heads masks lists = (
-    mask_list_same K J (H room.number) (G room.number) low b (MarkedIn K (fork room b zero one)) (MarkedIn J (fork room b zero one))
+    mask_list_same K J low b (MarkedIn J (fork room b zero one))
         (heads room.number (let own : one_if (room.number == room.number) ≡ 1 = one_if_same room.number in omega arith))
         (λ x member most. ((member.0, marked_same K J x (masks x member.0) member.1), masks x member.0))
         (λ x member most. (member.0, marked_same J K x (sym (masks x member.0)) member.1))
@@ -82,52 +79,61 @@ module _ {V : Type 0} where
     pub came : (y : Placed V) → IsIn y u → y.entry.rank < top → IsMarked J y → IsIn y t × IsMarked K y
 
   -- what is so for a node above is so for those beneath it
-  keeps_zero : (H G : Heads) (K J : Masks) (top : ℕ) (room : Id) (b : ℕ) (one : Tree V) (fs : List (Frame V)) (t u : Tree V) → KeepsAbove H G K J top (on_zero room b one ∷ fs) t u → KeepsAbove H G K J top fs t u
-  keeps_zero H G K J top room b one fs t u k =
+  keeps_zero : (H G : Heads) (K J : Masks) {top : ℕ} (room : Id) (b : ℕ) (one : Tree V) (fs : List (Frame V)) (t u : Tree V)
+      → KeepsAbove H G K J top (on_zero room b one ∷ fs) t u → KeepsAbove H G K J top fs t u
+  keeps_zero H G K J room b one fs t u k =
       record { heads = λ n some. k.heads n (omega arith); aside = λ y at. k.aside y (inr at); stays = k.stays; came = k.came }
 
-  keeps_one : (H G : Heads) (K J : Masks) (top : ℕ) (room : Id) (b : ℕ) (zero : Tree V) (fs : List (Frame V)) (t u : Tree V) → KeepsAbove H G K J top (on_one room b zero ∷ fs) t u → KeepsAbove H G K J top fs t u
-  keeps_one H G K J top room b zero fs t u k =
+  keeps_one : (H G : Heads) (K J : Masks) {top : ℕ} (room : Id) (b : ℕ) (zero : Tree V) (fs : List (Frame V)) (t u : Tree V)
+      → KeepsAbove H G K J top (on_one room b zero ∷ fs) t u → KeepsAbove H G K J top fs t u
+  keeps_one H G K J room b zero fs t u k =
       record { heads = λ n some. k.heads n (omega arith); aside = λ y at. k.aside y (inr at); stays = k.stays; came = k.came }
 
   -- the marked routes of ranks below top are the same
-  stays_within : (H G : Heads) (K J : Masks) (top : ℕ) (fs : List (Frame V)) (t u : Tree V) → KeepsAbove H G K J top fs t u → (y : Placed V) → IsIn y (plug fs t) → y.entry.rank < top → IsMarked K y
+  stays_within : (H G : Heads) (K J : Masks) {top : ℕ} {fs : List (Frame V)} (t u : Tree V) → KeepsAbove H G K J top fs t u → (y : Placed V)
+      → IsIn y (plug fs t) → y.entry.rank < top → IsMarked K y
       → MarkedIn J (plug fs u) y × (J y.room.number ≡ K y.room.number)
-  stays_within H G K J top fs t u k y is below marked =
+  stays_within H G K J {fs = fs} t u k y is below marked =
       ⊎_elim (λ (aside : Aside fs y). ((aside_in fs u y aside, marked_same K J y (k.aside y aside) marked), k.aside y aside))
       (λ (at : IsIn y t). let s = k.stays y at below marked in ((plug_in fs u y s.0, marked_same K J y s.1 marked), s.1)) (in_plug fs t y is)
 
-  came_within : (H G : Heads) (K J : Masks) (top : ℕ) (fs : List (Frame V)) (t u : Tree V) → KeepsAbove H G K J top fs t u → (y : Placed V) → IsIn y (plug fs u) → y.entry.rank < top → IsMarked J y
+  came_within : (H G : Heads) (K J : Masks) {top : ℕ} {fs : List (Frame V)} (t u : Tree V) → KeepsAbove H G K J top fs t u → (y : Placed V)
+      → IsIn y (plug fs u) → y.entry.rank < top → IsMarked J y
       → IsIn y (plug fs t) × IsMarked K y
-  came_within H G K J top fs t u k y is below marked =
+  came_within H G K J {fs = fs} t u k y is below marked =
       ⊎_elim (λ (aside : Aside fs y). (aside_in fs t y aside, marked_same J K y (sym (k.aside y aside)) marked))
       (λ (at : IsIn y u). let c = k.came y at below marked in (plug_in fs t y c.0, c.1)) (in_plug fs u y is)
 
   -- the whole's lists, once the part is exchanged
-  pub plug_lists : (H G : Heads) (K J : Masks) (low : ℕ) (fs : List (Frame V)) (t u : Tree V) → IsTree low (plug fs t) → KeepsAbove H G K J (low_past low fs) fs t u
+  pub plug_lists : {H G : Heads} {K J : Masks} (low : ℕ) (fs : List (Frame V)) {t u : Tree V} → IsTree low (plug fs t)
+      → KeepsAbove H G K J (low_past low fs) fs t u
       → MarkedLists H K low (plug fs t) → MarkedLists G J (low_past low fs) u → MarkedLists G J low (plug fs u)
-  plug_lists H G K J low [] t u is k lists own = own
-  plug_lists H G K J low (on_zero room b one ∷ fs) t u is k lists own =
+  plug_lists low [] is k lists own = own
+  plug_lists {H = H} {G = G} {K = K} {J = J} low (on_zero room b one ∷ fs) {t = t} {u = u} is k lists own =
       let top = low_past (b + 1) fs in
       let further : b + 1 ≤ low_past (b + 1) fs = low_rises (b + 1) fs t is.1 in
       let within : (n : ℕ) → forks_at n t ≤ forks_at n (plug fs t) = λ n. forks_within fs t n in (
-        mask_list_same K J (H room.number) (G room.number) low b (MarkedIn K (fork room b (plug fs t) one)) (MarkedIn J (fork room b (plug fs u) one))
-            (k.heads room.number (let own : one_if (room.number == room.number) ≡ 1 = one_if_same room.number in let le : forks_at room.number t ≤ forks_at room.number (plug fs t) = within room.number in omega arith))
-            (λ x member most. stays_within H G K J top (on_zero room b one ∷ fs) t u k x member.0 (omega arith) member.1)
-            (λ x member most. came_within H G K J top (on_zero room b one ∷ fs) t u k x member.0 (omega arith) member.1)
+        mask_list_same K J low b (MarkedIn J (fork room b (plug fs u) one))
+            (k.heads room.number (let own : one_if (room.number == room.number) ≡ 1 = one_if_same room.number in
+            let le : forks_at room.number t ≤ forks_at room.number (plug fs t) = within room.number in omega arith))
+            (λ x member most. stays_within H G K J t u k x member.0 (omega arith) member.1)
+            (λ x member most. came_within H G K J t u k x member.0 (omega arith) member.1)
             lists.0,
-        plug_lists H G K J (b + 1) fs t u is.1 (keeps_zero H G K J top room b one fs t u k) lists.1 own,
-        lists_same H G K J (b + 1) one (λ n some. k.heads n (let le : forks_at n t ≤ forks_at n (plug fs t) = within n in omega arith)) (λ y at. k.aside y (inl at)) lists.2,
+        plug_lists (b + 1) fs is.1 (keeps_zero H G K J room b one fs t u k) lists.1 own,
+        lists_same H G K J (b + 1) one (λ n some. k.heads n (let le : forks_at n t ≤ forks_at n (plug fs t) = within n in omega arith))
+            (λ y at. k.aside y (inl at)) lists.2,
       )
-  plug_lists H G K J low (on_one room b zero ∷ fs) t u is k lists own =
+  plug_lists {H = H} {G = G} {K = K} {J = J} low (on_one room b zero ∷ fs) {t = t} {u = u} is k lists own =
       let top = low_past (b + 1) fs in
       let further : b + 1 ≤ low_past (b + 1) fs = low_rises (b + 1) fs t is.2 in
       let within : (n : ℕ) → forks_at n t ≤ forks_at n (plug fs t) = λ n. forks_within fs t n in (
-        mask_list_same K J (H room.number) (G room.number) low b (MarkedIn K (fork room b zero (plug fs t))) (MarkedIn J (fork room b zero (plug fs u)))
-            (k.heads room.number (let own : one_if (room.number == room.number) ≡ 1 = one_if_same room.number in let le : forks_at room.number t ≤ forks_at room.number (plug fs t) = within room.number in omega arith))
-            (λ x member most. stays_within H G K J top (on_one room b zero ∷ fs) t u k x member.0 (omega arith) member.1)
-            (λ x member most. came_within H G K J top (on_one room b zero ∷ fs) t u k x member.0 (omega arith) member.1)
+        mask_list_same K J low b (MarkedIn J (fork room b zero (plug fs u)))
+            (k.heads room.number (let own : one_if (room.number == room.number) ≡ 1 = one_if_same room.number in
+            let le : forks_at room.number t ≤ forks_at room.number (plug fs t) = within room.number in omega arith))
+            (λ x member most. stays_within H G K J t u k x member.0 (omega arith) member.1)
+            (λ x member most. came_within H G K J t u k x member.0 (omega arith) member.1)
             lists.0,
-        lists_same H G K J (b + 1) zero (λ n some. k.heads n (let le : forks_at n t ≤ forks_at n (plug fs t) = within n in omega arith)) (λ y at. k.aside y (inl at)) lists.1,
-        plug_lists H G K J (b + 1) fs t u is.2 (keeps_one H G K J top room b zero fs t u k) lists.2 own,
+        lists_same H G K J (b + 1) zero (λ n some. k.heads n (let le : forks_at n t ≤ forks_at n (plug fs t) = within n in omega arith))
+            (λ y at. k.aside y (inl at)) lists.1,
+        plug_lists (b + 1) fs is.2 (keeps_one H G K J room b zero fs t u k) lists.2 own,
       )

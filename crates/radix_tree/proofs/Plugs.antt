@@ -2,12 +2,8 @@
 use Rattle.std.proofs.Common.{◌≡◌, ℕ, ◌+◌, ◌<◌, ◌≤◌, ◌==◌, ◌⊎◌, List, [], ◌∷◌, ◌++◌, None, refl, sym, ap, ◌∙◌, inl, inr, ⊎_elim, arith}
 use Rattle.std.proofs.lemmas.Bool.{cases_lt}
 use Rattle.std.proofs.lemmas.List.{append_assoc, append-nil}
-use Rattle.radix_nodes.specs.declared.id.Id.{Id}
-use Rattle.radix_tree.specs.Tree.{Placed, Tree, leaf, fork, bit_at, IsAmong, IsIn, IsTree, routes_of}
-use Rattle.radix_tree.specs.Rooms.{Bits}
-use Rattle.radix_tree.specs.Whole.{one_if, members_at, leaves_at, forks_at, HasHome, AreIdle, HasOneFork, HaveOneFork}
-use Rattle.radix_tree.specs.Exchange.{Frame, on_zero, on_one, plug, low_past, Lead}
-use Rattle.radix_tree.specs.declared.entry.Entry.{Entry}
+use Rattle.radix_tree.proofs.Words.{Id, Placed, Tree, leaf, fork, bit_at, IsAmong, IsIn, IsTree, routes_of, Bits, one_if, members_at, leaves_at, forks_at}
+use Rattle.radix_tree.proofs.Words.{HasHome, AreIdle, HasOneFork, HaveOneFork, Frame, on_zero, on_one, plug, low_past, Lead, Entry}
 use Rattle.radix_tree.proofs.AddressBits.{zero_not_one}
 use Rattle.radix_tree.proofs.PartRooms.{one_if_same}
 use Rattle.radix_tree.proofs.TreeMembers.{bit_beneath}
@@ -49,7 +45,8 @@ module _ {V : Type 0} where
   counted_member x [] among = absurd among
   counted_member x (y ∷ ys) among =
       ⊎_elim (λ (e : y ≡ x).
-      let own : one_if (y.room.number == x.room.number) ≡ 1 = ap (λ (p : Placed V). one_if (p.room.number == x.room.number)) e ∙ one_if_same x.room.number in omega arith)
+      let own : one_if (y.room.number == x.room.number) ≡ 1 = ap (λ (p : Placed V). one_if (p.room.number == x.room.number)) e ∙ one_if_same x.room.number in
+      omega arith)
       (λ (behind : IsAmong x ys). let some : 1 ≤ members_at x.room.number ys = counted_member x ys behind in omega arith) among
 
   pub counted_leaf : (x : Placed V) (t : Tree V) → IsIn x t → 1 ≤ leaves_at x.room.number t
@@ -71,9 +68,11 @@ module _ {V : Type 0} where
   pub in_plug : (fs : List (Frame V)) (t : Tree V) (y : Placed V) → IsIn y (plug fs t) → Aside fs y ⊎ IsIn y t
   in_plug [] t y is = inr is
   in_plug (on_zero room b one ∷ fs) t y is =
-      ⊎_elim (λ (at : IsIn y (plug fs t)). ⊎_elim (λ (aside : Aside fs y). inl (inr aside)) (λ (beneath : IsIn y t). inr beneath) (in_plug fs t y at)) (λ (at : IsIn y one). inl (inl at)) is
+      ⊎_elim (λ (at : IsIn y (plug fs t)). ⊎_elim (λ (aside : Aside fs y). inl (inr aside)) (λ (beneath : IsIn y t). inr beneath) (in_plug fs t y at))
+      (λ (at : IsIn y one). inl (inl at)) is
   in_plug (on_one room b zero ∷ fs) t y is =
-      ⊎_elim (λ (at : IsIn y zero). inl (inl at)) (λ (at : IsIn y (plug fs t)). ⊎_elim (λ (aside : Aside fs y). inl (inr aside)) (λ (beneath : IsIn y t). inr beneath) (in_plug fs t y at)) is
+      ⊎_elim (λ (at : IsIn y zero). inl (inl at)) (λ (at : IsIn y (plug fs t)).
+      ⊎_elim (λ (aside : Aside fs y). inl (inr aside)) (λ (beneath : IsIn y t). inr beneath) (in_plug fs t y at)) is
 
   -- what is aside is in rooms of its own: in none of the part
   pub aside_at : (fs : List (Frame V)) (t : Tree V) (y : Placed V) → Aside fs y → 1 + leaves_at y.room.number t ≤ leaves_at y.room.number (plug fs t)
@@ -121,11 +120,13 @@ module _ {V : Type 0} where
   spare_at B (on_zero room b one ∷ fs) t spare = spare_at B fs t spare.0
   spare_at B (on_one room b zero ∷ fs) t spare = spare_at B fs t spare.1
 
-  idle_same : (B C : Bits) (xs : List (Placed V)) → ((y : Placed V) → IsAmong y xs → B y.room.number ≡ None → C y.room.number ≡ None) → AreIdle B xs → AreIdle C xs
+  idle_same : (B C : Bits) (xs : List (Placed V)) → ((y : Placed V) → IsAmong y xs → B y.room.number ≡ None → C y.room.number ≡ None) → AreIdle B xs
+      → AreIdle C xs
   idle_same B C [] same idle = tt
   idle_same B C (x ∷ xs) same idle = (same x (inl refl) idle.0, idle_same B C xs (λ y among. same y (inr among)) idle.1)
 
-  one_fork_same : (B C : Bits) (xs : List (Placed V)) → ((y : Placed V) → IsAmong y xs → B y.room.number ≡ None → C y.room.number ≡ None) → HasOneFork B xs → HasOneFork C xs
+  one_fork_same : (B C : Bits) (xs : List (Placed V)) → ((y : Placed V) → IsAmong y xs → B y.room.number ≡ None → C y.room.number ≡ None) → HasOneFork B xs
+      → HasOneFork C xs
   one_fork_same B C [] same has = tt
   one_fork_same B C (x ∷ xs) same has =
       ⊎_elim (λ (idle : AreIdle B xs). inl (idle_same B C xs (λ y among. same y (inr among)) idle))
@@ -139,7 +140,8 @@ module _ {V : Type 0} where
     spare_same B C one (λ y at. same y (inr at)) spare.1,
   )
 
-  pub spare_plug : (B C : Bits) (fs : List (Frame V)) (t u : Tree V) → HaveOneFork B (plug fs t) → HaveOneFork C u → ((y : Placed V) → Aside fs y → B y.room.number ≡ None → C y.room.number ≡ None) → HaveOneFork C (plug fs u)
+  pub spare_plug : (B C : Bits) (fs : List (Frame V)) (t u : Tree V) → HaveOneFork B (plug fs t) → HaveOneFork C u
+      → ((y : Placed V) → Aside fs y → B y.room.number ≡ None → C y.room.number ≡ None) → HaveOneFork C (plug fs u)
   spare_plug B C [] t u spare own idle = own
   spare_plug B C (on_zero room b one ∷ fs) t u spare own idle = (
     spare_plug B C fs t u spare.0 own (λ y aside. idle y (inr aside)),
@@ -163,25 +165,31 @@ module _ {V : Type 0} where
       → (y.entry.rank < low_past low fs) ⊎ HasHome y.entry.key y.entry.rank t
   home_plug low [] t y is at home = inr home
   home_plug low (on_zero room b one ∷ fs) t y is at home =
-      ⊎_elim (λ (here : y.entry.rank ≤ b). let further : b + 1 ≤ low_past (b + 1) fs = low_rises (b + 1) fs t is.1 in let lt : y.entry.rank < low_past (b + 1) fs = omega arith in inl lt)
+      ⊎_elim (λ (here : y.entry.rank ≤ b). let further : b + 1 ≤ low_past (b + 1) fs = low_rises (b + 1) fs t is.1 in
+      let lt : y.entry.rank < low_past (b + 1) fs = omega arith in inl lt)
       (λ beneath. ⊎_elim (λ (left : (bit_at b y.entry.key ≡ 0) × HasHome y.entry.key y.entry.rank (plug fs t)). home_plug (b + 1) fs t y is.1 at left.1)
       (λ (right : (bit_at b y.entry.key ≡ 1) × HasHome y.entry.key y.entry.rank one).
       absurd (zero_not_one (bit_beneath (b + 1) b 0 (plug fs t) is.1 is.0.zeros y (plug_in fs t y at)) right.0)) beneath) home
   home_plug low (on_one room b zero ∷ fs) t y is at home =
-      ⊎_elim (λ (here : y.entry.rank ≤ b). let further : b + 1 ≤ low_past (b + 1) fs = low_rises (b + 1) fs t is.2 in let lt : y.entry.rank < low_past (b + 1) fs = omega arith in inl lt)
+      ⊎_elim (λ (here : y.entry.rank ≤ b). let further : b + 1 ≤ low_past (b + 1) fs = low_rises (b + 1) fs t is.2 in
+      let lt : y.entry.rank < low_past (b + 1) fs = omega arith in inl lt)
       (λ beneath. ⊎_elim (λ (left : (bit_at b y.entry.key ≡ 0) × HasHome y.entry.key y.entry.rank zero).
       absurd (zero_not_one left.0 (bit_beneath (b + 1) b 1 (plug fs t) is.2 is.0.ones y (plug_in fs t y at))))
       (λ (right : (bit_at b y.entry.key ≡ 1) × HasHome y.entry.key y.entry.rank (plug fs t)). home_plug (b + 1) fs t y is.2 at right.1) beneath) home
 
-  pub plug_home : (low key rank : ℕ) (fs : List (Frame V)) (t : Tree V) → IsTree low (plug fs t) → Lead key fs → low ≤ rank → (rank < low_past low fs) ⊎ HasHome key rank t → HasHome key rank (plug fs t)
+  pub plug_home : (low key rank : ℕ) (fs : List (Frame V)) (t : Tree V) → IsTree low (plug fs t) → Lead key fs → low ≤ rank
+      → (rank < low_past low fs) ⊎ HasHome key rank t → HasHome key rank (plug fs t)
   plug_home low key rank [] t is lead least home = ⊎_elim (λ (lt : rank < low). absurd (omega arith)) (λ (h : HasHome key rank t). h) home
   plug_home low key rank (on_zero room b one ∷ fs) t is lead least home =
-      ⊎_elim (λ (past : b < rank). inr (inl (lead.0, plug_home (b + 1) key rank fs t is.1 lead.1 (omega arith) home))) (λ (here : rank ≤ b). inl here) (cases_lt b rank)
+      ⊎_elim (λ (past : b < rank). inr (inl (lead.0, plug_home (b + 1) key rank fs t is.1 lead.1 (omega arith) home))) (λ (here : rank ≤ b). inl here)
+      (cases_lt b rank)
   plug_home low key rank (on_one room b zero ∷ fs) t is lead least home =
-      ⊎_elim (λ (past : b < rank). inr (inr (lead.0, plug_home (b + 1) key rank fs t is.2 lead.1 (omega arith) home))) (λ (here : rank ≤ b). inl here) (cases_lt b rank)
+      ⊎_elim (λ (past : b < rank). inr (inr (lead.0, plug_home (b + 1) key rank fs t is.2 lead.1 (omega arith) home))) (λ (here : rank ≤ b). inl here)
+      (cases_lt b rank)
 
   -- a route aside has a home as before
-  pub aside_home : (low : ℕ) (fs : List (Frame V)) (t u : Tree V) (y : Placed V) → IsTree low (plug fs t) → Aside fs y → HasHome y.entry.key y.entry.rank (plug fs t) → HasHome y.entry.key y.entry.rank (plug fs u)
+  pub aside_home : (low : ℕ) (fs : List (Frame V)) (t u : Tree V) (y : Placed V) → IsTree low (plug fs t) → Aside fs y
+      → HasHome y.entry.key y.entry.rank (plug fs t) → HasHome y.entry.key y.entry.rank (plug fs u)
   aside_home low [] t u y is aside home = absurd aside
   aside_home low (on_zero room b one ∷ fs) t u y is aside home =
       ⊎_elim (λ (here : y.entry.rank ≤ b). inl here)

@@ -1,44 +1,25 @@
 -- The only route of a tree, which has no other member in its chain and no bit node above.
 use Rattle.std.proofs.Common.{◌≡◌, ℕ, ◌+◌, ◌≤◌, ◌==◌, ◌⊎◌, Bool, true, false, List, [], ◌∷◌, Option, Some, None, refl, sym, ap, ◌∙◌, inl, inr, ⊎_elim, arith}
 use Rattle.std.proofs.lemmas.Bool.{eqb-true}
-use Rattle.std.specs.Prelude.{is_some}
-use Rattle.std.specs.Ordering.{nat_cmp}
-use Rattle.std.specs.FinMap.{FinMap}
-use Rattle.radix_nodes.specs.Rooms.{Seen, Has}
-use Rattle.radix_nodes.specs.Links.{leaf_of}
-use Rattle.radix_nodes.specs.declared.id.Id.{Id}
-use Rattle.radix_nodes.specs.declared.links.Links.{Links}
-use Rattle.radix_nodes.specs.declared.links.Leaf.{Leaf}
-use Rattle.radix_nodes.specs.declared.links.Node.{Node}
-use Rattle.radix_tree.specs.Tree.{Placed, Tree, leaf, fork, routes_of}
-use Rattle.radix_tree.specs.Rooms.{LeafPart, Leaves, Bits, leaf_in, leaves_in, bits_in, leaf_part, first_room, ChainStands, Stands}
-use Rattle.radix_tree.specs.Whole.{one_if, members_at, leaves_at, shown, shown_entry}
-use Rattle.radix_tree.specs.Growth.{Gains}
-use Rattle.radix_tree.specs.Marks.{IsWholeBut, is_of_key, has_key, late_at, nobody_out}
-use Rattle.radix_tree.specs.Removal.{CanTake, member_beside}
-use Rattle.radix_tree.specs.declared.entry.Entry.{Entry}
+use Rattle.radix_tree.proofs.Words.{is_some, Has, leaf_of, Id, Links, Leaf, Node, Placed, Tree, leaf, fork, routes_of, LeafPart, Leaves, Bits, leaf_in}
+use Rattle.radix_tree.proofs.Words.{leaves_in, bits_in, leaf_part, first_room, ChainStands, Stands, one_if, members_at, leaves_at, shown, shown_entry, Gains}
+use Rattle.radix_tree.proofs.Words.{IsWholeBut, is_of_key, has_key, late_at, nobody_out, CanTake, member_beside, Entry, Lodged}
 use Rattle.radix_tree.proofs.RoomReads.{inside, none_some, AreLinks}
-use Rattle.radix_tree.proofs.WholeChanges.{part_shown}
+use Rattle.radix_tree.proofs.WholeRoutes.{part_shown}
 use Rattle.radix_tree.proofs.MovedReads.{same_or_not, none_or_some, none_of, one_if_not}
 
 -- ---- the other member of a chain
-pub beside_is : (next previous : Option Id) (to : Id) → member_beside next previous ≡ Some to → (next ≡ Some to) ⊎ (previous ≡ Some to)
-beside_is None previous to is = inr is
-beside_is (Some id) previous to is = inl is
+pub beside_is : (next previous : Option Id) {to : Id} → member_beside next previous ≡ Some to → (next ≡ Some to) ⊎ (previous ≡ Some to)
+beside_is None previous is = inr is
+beside_is (Some id) previous is = inl is
 
 pub beside_none : (next previous : Option Id) → member_beside next previous ≡ None → (next ≡ None) × (previous ≡ None)
 beside_none None previous is = (refl, is)
 beside_none (Some id) previous is = absurd (none_some (sym is))
 
-pub next_of : (next previous : Option Id) (to : Id) → (next ≡ Some to) ⊎ (previous ≡ Some to) → previous ≡ None → (behind : Id) × (next ≡ Some behind)
-next_of next previous to member none = ⊎_elim (λ (is : next ≡ Some to). (to, is)) (λ (is : previous ≡ Some to). absurd (none_some (sym none ∙ is))) member
-
 pub none_if : {A : Type 0} (o : Option A) → ((x : A) → o ≡ Some x → ⊥) → o ≡ None
 none_if None never = refl
 none_if (Some x) never = absurd (never x refl)
-
-used : (o : Option Id) (i : Id) → o ≡ Some i → is_some o ≡ true
-used o i is = ap (λ (z : Option Id). is_some z) is
 
 not_one : (t : Bool) → one_if t ≡ 0 → t ≡ false
 not_one true e = absurd cc
@@ -46,39 +27,36 @@ not_one false e = refl
 
 module _ {V : Type 0} where
   -- ---- a room's leaf
-  pub leaf_at : (m : FinMap nat_cmp (Seen V)) (room : Id) → Has m room → (p : LeafPart V) × (leaves_in m room.number ≡ Some p)
-  leaf_at m room h = (record { block = h.room.block; value = h.room.value; leaf = leaf_of h.room.links }, ap leaf_in h.at)
+  pub leaf_at : {m : Lodged V} {room : Id} → Has m room → (p : LeafPart V) × (leaves_in m room.number ≡ Some p)
+  leaf_at h = (record { block = h.room.block; value = h.room.value; leaf = leaf_of h.room.links }, ap leaf_in h.at)
 
-  pub leaf_is : (m : FinMap nat_cmp (Seen V)) (room : Id) (links : Links) (l : Leaf) → Has m room → AreLinks m room links → l ≡ leaf_of links → (p : LeafPart V) → leaves_in m room.number ≡ Some p → l ≡ p.leaf
-  leaf_is m room links l h are reads p said = reads ∙ ap leaf_of (are h.room h.at) ∙ ap (λ (q : LeafPart V). q.leaf) (inside (sym (ap leaf_in h.at) ∙ said))
+  pub leaf_is : {m : Lodged V} {room : Id} (links : Links) {l : Leaf} → Has m room → AreLinks m room links → l ≡ leaf_of links → {p : LeafPart V}
+      → leaves_in m room.number ≡ Some p → l ≡ p.leaf
+  leaf_is links h are reads said = reads ∙ ap leaf_of (are h.room h.at) ∙ ap (λ (q : LeafPart V). q.leaf) (inside (sym (ap leaf_in h.at) ∙ said))
 
-  pub member_is : (m : FinMap nat_cmp (Seen V)) (room to : Id) (links : Links) (l : Leaf) (o : Option Id) → Has m room → AreLinks m room links → l ≡ leaf_of links → o ≡ member_beside l.next l.previous → o ≡ Some to
+  pub member_is : {m : Lodged V} {room to : Id} (links : Links) {l : Leaf} {o : Option Id} → Has m room → AreLinks m room links → l ≡ leaf_of links
+      → o ≡ member_beside l.next l.previous → o ≡ Some to
       → (p : LeafPart V) → leaves_in m room.number ≡ Some p → (p.leaf.next ≡ Some to) ⊎ (p.leaf.previous ≡ Some to)
-  member_is m room to links l o h are reads beside some p said =
-      let is = leaf_is m room links l h are reads p said in
-      beside_is p.leaf.next p.leaf.previous to (ap (λ (z : Leaf). member_beside z.next z.previous) (sym is) ∙ sym beside ∙ some)
+  member_is links h are reads beside some p said =
+      let is = leaf_is links h are reads said in
+      beside_is p.leaf.next p.leaf.previous (ap (λ (z : Leaf). member_beside z.next z.previous) (sym is) ∙ sym beside ∙ some)
 
-  pub alone_is : (m : FinMap nat_cmp (Seen V)) (room : Id) (links : Links) (l : Leaf) (o : Option Id) → Has m room → AreLinks m room links → l ≡ leaf_of links → o ≡ member_beside l.next l.previous → o ≡ None
+  pub alone_is : {m : Lodged V} {room : Id} (links : Links) {l : Leaf} {o : Option Id} → Has m room → AreLinks m room links → l ≡ leaf_of links
+      → o ≡ member_beside l.next l.previous → o ≡ None
       → (p : LeafPart V) → leaves_in m room.number ≡ Some p → (p.leaf.next ≡ None) × (p.leaf.previous ≡ None)
-  alone_is m room links l o h are reads beside none p said =
-      let is = leaf_is m room links l h are reads p said in
+  alone_is links h are reads beside none p said =
+      let is = leaf_is links h are reads said in
       beside_none p.leaf.next p.leaf.previous (ap (λ (z : Leaf). member_beside z.next z.previous) (sym is) ∙ sym beside ∙ none)
 
-  pub lone_is : (m : FinMap nat_cmp (Seen V)) (room up : Id) (links : Links) (l : Leaf) (o : Option Id) → Has m room → AreLinks m room links → l ≡ leaf_of links → o ≡ member_beside l.next l.previous → o ≡ None → l.above ≡ Some up
-      → (p : LeafPart V) → leaves_in m room.number ≡ Some p → (p.leaf.next ≡ None) × (p.leaf.previous ≡ None) × (is_some p.leaf.above ≡ true)
-  lone_is m room up links l o h are reads beside none above p said =
-      let alone = alone_is m room links l o h are reads beside none p said in
-      (alone.0, alone.1, used p.leaf.above up (ap (λ (z : Leaf). z.above) (sym (leaf_is m room links l h are reads p said)) ∙ above))
-
   -- ---- the other member's room takes the bit node
-  same_key : (key : ℕ) (o : Option (LeafPart V)) (p : LeafPart V) → is_of_key key o ≡ true → o ≡ Some p → p.leaf.key ≡ key
-  same_key key o p has is = eqb-true p.leaf.key key (sym (ap (is_of_key key) is) ∙ has)
+  same_key : (key : ℕ) {o : Option (LeafPart V)} (p : LeafPart V) → is_of_key key o ≡ true → o ≡ Some p → p.leaf.key ≡ key
+  same_key key p has is = eqb-true p.leaf.key key (sym (ap (is_of_key key) is) ∙ has)
 
-  pub can_take : (m : FinMap nat_cmp (Seen V)) (from to : Id) (key : ℕ) → (to.number ≡ from.number → ⊥) → has_key m key to.number ≡ true
+  pub can_take : (m : Lodged V) (from to : Id) (key : ℕ) → (to.number ≡ from.number → ⊥) → has_key m key to.number ≡ true
       → ((n : ℕ) → has_key m key n ≡ true → (n ≡ from.number → ⊥) → bits_in m n ≡ None) → CanTake m from to
   can_take m from to key other has idle = record {
     free = idle to.number has other;
-    idle = λ p is n keyed off. idle n (ap (λ (k : ℕ). has_key m k n) (sym (same_key key (leaves_in m to.number) p has is)) ∙ keyed) off;
+    idle = λ p is n keyed off. idle n (ap (λ (k : ℕ). has_key m k n) (sym (same_key key p has is)) ∙ keyed) off;
   }
 
   -- ---- the only route
@@ -88,37 +66,40 @@ module _ {V : Type 0} where
     pub number : route.room.number ≡ n
     pub entry : route.entry ≡ shown_entry p
 
-  behind_named : (L : Leaves V) (above : Option Id) (before : Id) (c : List (Placed V)) (n : ℕ) (p : LeafPart V) → ChainStands L above (Some before) c → 1 ≤ members_at n c → L n ≡ Some p → p.leaf.previous ≡ None → ⊥
-  behind_named L above before [] n p stands some said none = omega arith
-  behind_named L above before (x ∷ xs) n p stands some said none =
+  behind_named : (L : Leaves V) (above : Option Id) (before : Id) (c : List (Placed V)) (n : ℕ) {p : LeafPart V} → ChainStands L above (Some before) c
+      → 1 ≤ members_at n c → L n ≡ Some p → p.leaf.previous ≡ None → ⊥
+  behind_named L above before [] n stands some said none = omega arith
+  behind_named L above before (x ∷ xs) n stands some said none =
       ⊎_elim
       (λ (same : x.room.number ≡ n).
       none_some (sym none ∙ ap (λ (q : LeafPart V). q.leaf.previous) (inside (sym said ∙ ap L (sym same) ∙ stands.0))))
       (λ (other : x.room.number ≡ n → ⊥).
       let off : one_if (x.room.number == n) ≡ 0 = one_if_not x.room.number n other in
-      behind_named L None x.room xs n p stands.1 (omega arith) said none)
+      behind_named L None x.room xs n stands.1 (omega arith) said none)
       (same_or_not x.room.number n)
 
-  beneath_named : (L : Leaves V) (B : Bits) (up : Id) (t : Tree V) (n : ℕ) (p : LeafPart V) → Stands L B (Some up) t → 1 ≤ leaves_at n t → L n ≡ Some p → p.leaf.previous ≡ None → p.leaf.above ≡ None → ⊥
-  beneath_named L B up (leaf x xs) n p stands some said previous above =
+  beneath_named : (L : Leaves V) (B : Bits) (up : Id) (t : Tree V) (n : ℕ) {p : LeafPart V} → Stands L B (Some up) t → 1 ≤ leaves_at n t → L n ≡ Some p
+      → p.leaf.previous ≡ None → p.leaf.above ≡ None → ⊥
+  beneath_named L B up (leaf x xs) n stands some said previous above =
       ⊎_elim
       (λ (same : x.room.number ≡ n).
       none_some (sym above ∙ ap (λ (q : LeafPart V). q.leaf.above) (inside (sym said ∙ ap L (sym same) ∙ stands.0))))
       (λ (other : x.room.number ≡ n → ⊥).
       let off : one_if (x.room.number == n) ≡ 0 = one_if_not x.room.number n other in
-      behind_named L None x.room xs n p stands.1 (omega arith) said previous)
+      behind_named L None x.room xs n stands.1 (omega arith) said previous)
       (same_or_not x.room.number n)
-  beneath_named L B up (fork room b left right) n p stands some said previous above =
+  beneath_named L B up (fork room b left right) n stands some said previous above =
       ⊎_elim
-      (λ (none : leaves_at n left ≡ 0). beneath_named L B room right n p stands.2 (omega arith) said previous above)
-      (λ (there : 1 ≤ leaves_at n left). beneath_named L B room left n p stands.1 there said previous above)
+      (λ (none : leaves_at n left ≡ 0). beneath_named L B room right n stands.2 (omega arith) said previous above)
+      (λ (there : 1 ≤ leaves_at n left). beneath_named L B room left n stands.1 there said previous above)
       (none_or_some (leaves_at n left))
 
   no_behind : (x : Placed V) (xs : List (Placed V)) → first_room xs ≡ None → leaf x xs ≡ leaf x []
   no_behind x [] none = refl
   no_behind x (y ∷ ys) none = absurd (none_some (sym none))
 
-  only_of : (L : Leaves V) (B : Bits) (top : Option Id) (t : Tree V) (n : ℕ) (p : LeafPart V) → Stands L B top t → 1 ≤ leaves_at n t → L n ≡ Some p → p.leaf.next ≡ None → p.leaf.previous ≡ None → p.leaf.above ≡ None → IsOnly t n p
+  only_of : (L : Leaves V) (B : Bits) (top : Option Id) (t : Tree V) (n : ℕ) (p : LeafPart V) → Stands L B top t → 1 ≤ leaves_at n t → L n ≡ Some p
+      → p.leaf.next ≡ None → p.leaf.previous ≡ None → p.leaf.above ≡ None → IsOnly t n p
   only_of L B top (leaf x xs) n p stands some said next previous above =
       ⊎_elim
       (λ (same : x.room.number ≡ n).
@@ -131,31 +112,34 @@ module _ {V : Type 0} where
       })
       (λ (other : x.room.number ≡ n → ⊥).
       let off : one_if (x.room.number == n) ≡ 0 = one_if_not x.room.number n other in
-      absurd (behind_named L None x.room xs n p stands.1 (omega arith) said previous))
+      absurd (behind_named L None x.room xs n stands.1 (omega arith) said previous))
       (same_or_not x.room.number n)
   only_of L B top (fork room b left right) n p stands some said next previous above =
       ⊎_elim
-      (λ (none : leaves_at n left ≡ 0). absurd (beneath_named L B room right n p stands.2 (omega arith) said previous above))
-      (λ (there : 1 ≤ leaves_at n left). absurd (beneath_named L B room left n p stands.1 there said previous above))
+      (λ (none : leaves_at n left ≡ 0). absurd (beneath_named L B room right n stands.2 (omega arith) said previous above))
+      (λ (there : 1 ≤ leaves_at n left). absurd (beneath_named L B room left n stands.1 there said previous above))
       (none_or_some (leaves_at n left))
 
-  pub only : (m : FinMap nat_cmp (Seen V)) (root : Node) (n : ℕ) (w : IsWholeBut m root (late_at n) nobody_out) (p : LeafPart V) → leaves_in m n ≡ Some p → p.leaf.next ≡ None → p.leaf.previous ≡ None → p.leaf.above ≡ None
+  pub only : {m : Lodged V} {root : Node} (n : ℕ) (w : IsWholeBut m root (late_at n) nobody_out) (p : LeafPart V) → leaves_in m n ≡ Some p → p.leaf.next ≡ None
+      → p.leaf.previous ≡ None → p.leaf.above ≡ None
       → IsOnly w.part.tree n p
-  only m root n w p said next previous above =
+  only {m = m} n w p said next previous above =
       let count : leaves_at n w.part.tree + 0 ≡ 1 = w.leaves n ∙ ap (λ (o : Option (LeafPart V)). one_if (is_some o)) said in
       only_of (leaves_in m) (bits_in m) w.part.above w.part.tree n p w.part.stands (omega arith) said next previous above
 
-  pub only_room : (m : FinMap nat_cmp (Seen V)) (root : Node) (n : ℕ) (w : IsWholeBut m root (late_at n) nobody_out) (p : LeafPart V) → IsOnly w.part.tree n p → (k : ℕ) → (k ≡ n → ⊥) → leaves_in m k ≡ None
-  only_room m root n w p o k other =
+  pub only_room : {m : Lodged V} {root : Node} {n : ℕ} (w : IsWholeBut m root (late_at n) nobody_out) (p : LeafPart V) → IsOnly w.part.tree n p → (k : ℕ)
+      → (k ≡ n → ⊥) → leaves_in m k ≡ None
+  only_room {m = m} w p o k other =
       let count : leaves_at k w.part.tree + 0 ≡ one_if (is_some (leaves_in m k)) = w.leaves k in
       let one : leaves_at k w.part.tree ≡ one_if (o.route.room.number == k) + 0 = ap (λ (t : Tree V). leaves_at k t) o.is in
       let off : one_if (o.route.room.number == k) ≡ 0 = one_if_not o.route.room.number k (λ (e : o.route.room.number ≡ k). other (sym e ∙ o.number)) in
       none_of (leaves_in m k) (not_one (is_some (leaves_in m k)) (omega arith))
 
-  pub only_shown : (m : FinMap nat_cmp (Seen V)) (root : Node) (n : ℕ) (w : IsWholeBut m root (late_at n) nobody_out) (p : LeafPart V) → IsOnly w.part.tree n p → Gains (shown_entry p) [] (shown m (Some root))
-  only_shown m root n w p o = record {
+  pub only_shown : {m : Lodged V} {root : Node} {n : ℕ} (w : IsWholeBut m root (late_at n) nobody_out) (p : LeafPart V) → IsOnly w.part.tree n p
+      → Gains (shown_entry p) [] (shown m (Some root))
+  only_shown w p o = record {
     front = [];
     back = [];
     was = refl;
-    now = part_shown m root w.part w.low w.named ∙ ap (λ (t : Tree V). routes_of t) o.is ∙ ap (λ (e : Entry V). e ∷ []) o.entry;
+    now = part_shown w.part w.low w.named ∙ ap (λ (t : Tree V). routes_of t) o.is ∙ ap (λ (e : Entry V). e ∷ []) o.entry;
   }

@@ -1,27 +1,17 @@
 -- A room that is out of the tree leaves the map: the whole and its routes stay.
 use Rattle.std.proofs.Common.{◌≡◌, ℕ, ◌+◌, ◌≤◌, ◌==◌, ◌||◌, Bool, if◌then◌else◌, List, Option, Some, None, refl, sym, ap, ◌∙◌, inl, inr, ⊎_elim, arith}
 use Rattle.std.proofs.lemmas.Bool.{eq-eqb, ne_eqb}
-use Rattle.std.specs.Prelude.{is_some}
-use Rattle.std.specs.Ordering.{nat_cmp}
-use Rattle.std.specs.FinMap.{FinMap, get, remove}
-use denote.RawPtr.{Ptr}
-use Rattle.radix_nodes.specs.Rooms.{Seen, Has}
-use Rattle.radix_nodes.specs.Links.{bit_node_of}
-use Rattle.radix_nodes.specs.declared.id.Id.{Id}
-use Rattle.radix_nodes.specs.declared.links.Node.{Node}
-use Rattle.radix_nodes.specs.declared.links.BitNode.{BitNode}
+use Rattle.std.specs.FinMap.{remove}
 use Rattle.radix_nodes.proofs.Callers.{get-removed}
-use Rattle.radix_tree.specs.Rooms.{LeafPart, BitPart, MaskPart, Part, leaf_in, bit_in, head_in, mask_in, bit_part, head_part, leaves_in, bits_in, heads_in, masks_in}
-use Rattle.radix_tree.specs.Whole.{one_if, leaves_at, IsWhole, Holds, shown}
-use Rattle.radix_tree.specs.Growth.{Gains}
-use Rattle.radix_tree.specs.Marks.{IsMarked, IsWholeBut, HasRoomMore, nobody_late, out_at}
-use Rattle.radix_tree.specs.Writes.{KeepsLeaves, KeepsBits}
-use Rattle.radix_tree.specs.Removal.{Content, content_of, KeepsRoutes, IsOut}
-use Rattle.radix_tree.specs.declared.entry.Entry.{Entry}
+use Rattle.radix_tree.proofs.Words.{is_some, get, Ptr, Seen, Has, bit_node_of, Id, Node, BitNode, LeafPart, BitPart, MaskPart, Part, leaf_in, bit_in, head_in}
+use Rattle.radix_tree.proofs.Words.{mask_in, bit_part, head_part, leaves_in, bits_in, heads_in, masks_in, one_if, leaves_at, IsWhole, Holds, shown, Gains}
+use Rattle.radix_tree.proofs.Words.{IsMarked, IsWholeBut, HasRoomMore, nobody_late, out_at, KeepsLeaves, KeepsBits, Content, content_of, KeepsRoutes, IsOut}
+use Rattle.radix_tree.proofs.Words.{Entry, Lodged}
 use Rattle.radix_tree.proofs.RoomReads.{inside, none_some}
 use Rattle.radix_tree.proofs.PartRooms.{frame}
 use Rattle.radix_tree.proofs.Plugs.{counted_leaf}
-use Rattle.radix_tree.proofs.WholeChanges.{but_whole, part_shown}
+use Rattle.radix_tree.proofs.WholeParts.{but_whole}
+use Rattle.radix_tree.proofs.WholeRoutes.{part_shown}
 use Rattle.radix_tree.proofs.MovedReads.{same_or_not, content_used}
 use Rattle.radix_tree.proofs.MovedLists.{marked_stays, lists_kept}
 use Rattle.radix_tree.proofs.MovedSpare.{tree_stays}
@@ -33,13 +23,13 @@ no_head_of block (Some n) none = absurd (none_some (sym none))
 
 module _ {V : Type 0} where
   -- ---- what the rooms say once one of them is gone
-  pub get_out : (m : FinMap nat_cmp (Seen V)) (n : ℕ) → get (remove m n) n ≡ None
+  pub get_out : (m : Lodged V) (n : ℕ) → get (remove m n) n ≡ None
   get_out m n = get-removed m n n ∙ ap (λ (t : Bool). if t then None else get m n) (eq-eqb n n refl)
 
-  pub get_other : (m : FinMap nat_cmp (Seen V)) (n k : ℕ) → (k ≡ n → ⊥) → get (remove m n) k ≡ get m k
+  pub get_other : (m : Lodged V) (n k : ℕ) → (k ≡ n → ⊥) → get (remove m n) k ≡ get m k
   get_other m n k other = get-removed m n k ∙ ap (λ (t : Bool). if t then None else get m k) (ne_eqb k n other)
 
-  role_stays : {A : Type 0} (f : Option (Seen V) → A) (m : FinMap nat_cmp (Seen V)) (n : ℕ) → f (get m n) ≡ f None → (k : ℕ) → f (get (remove m n) k) ≡ f (get m k)
+  role_stays : {A : Type 0} (f : Option (Seen V) → A) (m : Lodged V) (n : ℕ) → f (get m n) ≡ f None → (k : ℕ) → f (get (remove m n) k) ≡ f (get m k)
   role_stays f m n none k = ⊎_elim
       (λ (same : k ≡ n). ap (λ (j : ℕ). f (get (remove m n) j)) same ∙ ap f (get_out m n) ∙ sym none ∙ ap (λ (j : ℕ). f (get m j)) (sym same))
       (λ (other : k ≡ n → ⊥). ap f (get_other m n k other)) (same_or_not k n)
@@ -49,97 +39,104 @@ module _ {V : Type 0} where
   no_head (Some s) none = no_head_of s.block (bit_node_of s.links) none
 
   -- no mask is listed of a room that is out of the tree
-  no_mask : (m : FinMap nat_cmp (Seen V)) (root : Node) (n : ℕ) (w : IsWholeBut m root nobody_late (out_at n)) (o : Option MaskPart) → masks_in m n ≡ o → masks_in m n ≡ None
-  no_mask m root n w None is = is
-  no_mask m root n w (Some p) is =
+  no_mask : (m : Lodged V) {root : Node} (n : ℕ) (w : IsWholeBut m root nobody_late (out_at n)) (o : Option MaskPart) → masks_in m n ≡ o → masks_in m n ≡ None
+  no_mask m n w None is = is
+  no_mask m n w (Some p) is =
       let x = w.listed n p is in
-      let out : leaves_at n w.part.tree ≡ 0 = out_leaf m root n w in
+      let out : leaves_at n w.part.tree ≡ 0 = out_leaf m n w in
       let some : 1 ≤ leaves_at x.0.room.number w.part.tree = counted_leaf x.0 w.part.tree x.1 in
       let same : leaves_at x.0.room.number w.part.tree ≡ leaves_at n w.part.tree = ap (λ (k : ℕ). leaves_at k w.part.tree) x.2 in absurd (omega arith)
 
   -- ---- the tree stays
-  abbrev part_left : (m : FinMap nat_cmp (Seen V)) (root : Node) (n : ℕ) (w : IsWholeBut m root nobody_late (out_at n)) → bits_in m n ≡ None → Part (remove m n)
-  part_left m root n w none = record {
+  abbrev part_left : (m : Lodged V) {root : Node} (n : ℕ) (w : IsWholeBut m root nobody_late (out_at n)) → bits_in m n ≡ None → Part (remove m n)
+  part_left m n w none = record {
     tree = w.part.tree;
     low = w.part.low;
     above = w.part.above;
     is = w.part.is;
     stands = frame (leaves_in m) (leaves_in (remove m n)) (bits_in m) (bits_in (remove m n)) w.part.above w.part.tree
-        (λ k some. ap leaf_in (get_other m n k (out_apart m root n w k some))) (λ k some. role_stays bit_in m n none k) w.part.stands;
+        (λ k some. ap leaf_in (get_other m n k (out_apart m n w k some))) (λ k some. role_stays bit_in m n none k) w.part.stands;
   }
 
-  leaves_left : (m : FinMap nat_cmp (Seen V)) (root : Node) (n : ℕ) (w : IsWholeBut m root nobody_late (out_at n)) (k : ℕ) → leaves_at k w.part.tree + 0 ≡ one_if (is_some (leaves_in (remove m n) k))
-  leaves_left m root n w k = ⊎_elim
+  leaves_left : (m : Lodged V) {root : Node} (n : ℕ) (w : IsWholeBut m root nobody_late (out_at n)) (k : ℕ)
+      → leaves_at k w.part.tree + 0 ≡ one_if (is_some (leaves_in (remove m n) k))
+  leaves_left m n w k = ⊎_elim
       (λ (same : k ≡ n).
-      let out : leaves_at n w.part.tree ≡ 0 = out_leaf m root n w in
+      let out : leaves_at n w.part.tree ≡ 0 = out_leaf m n w in
       let here : leaves_at k w.part.tree ≡ leaves_at n w.part.tree = ap (λ (j : ℕ). leaves_at j w.part.tree) same in
       let gone : one_if (is_some (leaves_in (remove m n) k)) ≡ 0 =
-      ap (λ (j : ℕ). one_if (is_some (leaves_in (remove m n) j))) same ∙ ap (λ (o : Option (Seen V)). one_if (is_some (leaf_in o))) (get_out m n) in omega arith)
+      ap (λ (j : ℕ). one_if (is_some (leaves_in (remove m n) j))) same ∙ ap (λ (o : Option (Seen V)). one_if (is_some (leaf_in o))) (get_out m n) in
+      omega arith)
       (λ (other : k ≡ n → ⊥).
       let was : leaves_at k w.part.tree + one_if (k == n) ≡ one_if (is_some (leaves_in m k)) = w.leaves k in
       let off : one_if (k == n) ≡ 0 = ap one_if (ne_eqb k n other) in
-      let stays : one_if (is_some (leaves_in (remove m n) k)) ≡ one_if (is_some (leaves_in m k)) = ap (λ (o : Option (Seen V)). one_if (is_some (leaf_in o))) (get_other m n k other) in omega arith)
+      let stays : one_if (is_some (leaves_in (remove m n) k)) ≡ one_if (is_some (leaves_in m k)) =
+      ap (λ (o : Option (Seen V)). one_if (is_some (leaf_in o))) (get_other m n k other) in omega arith)
       (same_or_not k n)
 
-  pub evicted : (m : FinMap nat_cmp (Seen V)) (root : Node) (n : ℕ) → IsWholeBut m root nobody_late (out_at n) → bits_in m n ≡ None → IsWhole (remove m n) root
+  pub evicted : (m : Lodged V) (root : Node) (n : ℕ) → IsWholeBut m root nobody_late (out_at n) → bits_in m n ≡ None → IsWhole (remove m n) root
   evicted m root n w none =
       let bits : (k : ℕ) → bits_in (remove m n) k ≡ bits_in m k = role_stays bit_in m n none in
       let heads : (k : ℕ) → heads_in (remove m n) k ≡ heads_in m k = role_stays head_in m n (no_head (get m n) none) in
-      let masks : (k : ℕ) → masks_in (remove m n) k ≡ masks_in m k = role_stays mask_in m n (no_mask m root n w (masks_in m n) refl) in
+      let masks : (k : ℕ) → masks_in (remove m n) k ≡ masks_in m k = role_stays mask_in m n (no_mask m n w (masks_in m n) refl) in
       but_whole (remove m n) root
       (record {
-        part = part_left m root n w none;
+        part = part_left m n w none;
         low = w.low;
         top = w.top;
         named = w.named;
-        leaves = leaves_left m root n w;
+        leaves = leaves_left m n w;
         forks = λ k. w.forks k ∙ ap (λ (o : Option BitPart). one_if (is_some o)) (sym (bits k));
         spare = tree_stays (bits_in m) (bits_in (remove m n)) w.part.tree (λ k some idle. bits k ∙ idle) w.spare;
         lists = lists_kept (heads_in m) (heads_in (remove m n)) (masks_in m) (masks_in (remove m n)) w.part.low w.part.tree masks (λ k some. heads k) w.lists;
         listed = λ k p is. w.listed k p (sym (masks k) ∙ is);
-        all = λ x is home. ⊎_elim (λ (marked : IsMarked (masks_in m) x). inl (marked_stays (masks_in m) (masks_in (remove m n)) x masks marked)) (λ late. inr late) (w.all x is home);
+        all = λ x is home. ⊎_elim (λ (marked : IsMarked (masks_in m) x). inl (marked_stays (masks_in m) (masks_in (remove m n)) x masks marked))
+            (λ late. inr late) (w.all x is home);
       })
 
-  evicted_shown : (m : FinMap nat_cmp (Seen V)) (root : Node) (n : ℕ) → IsWholeBut m root nobody_late (out_at n) → bits_in m n ≡ None → shown (remove m n) (Some root) ≡ shown m (Some root)
-  evicted_shown m root n w none = part_shown (remove m n) root (part_left m root n w none) w.low w.named ∙ sym (part_shown m root w.part w.low w.named)
+  evicted_shown : (m : Lodged V) {root : Node} (n : ℕ) → IsWholeBut m root nobody_late (out_at n) → bits_in m n ≡ None
+      → shown (remove m n) (Some root) ≡ shown m (Some root)
+  evicted_shown m n w none = part_shown (part_left m n w none) w.low w.named ∙ sym (part_shown w.part w.low w.named)
 
   -- ---- a room that is out, where there may be no tree left
-  pub out_gone : (m : FinMap nat_cmp (Seen V)) (rest : Option Node) (n : ℕ) → IsOut m rest n → Holds (remove m n) rest
+  pub out_gone : (m : Lodged V) (rest : Option Node) (n : ℕ) → IsOut m rest n → Holds (remove m n) rest
   out_gone m None n out = λ k. ⊎_elim
       (λ (same : k ≡ n). ap (leaves_in (remove m n)) same ∙ ap leaf_in (get_out m n))
       (λ (other : k ≡ n → ⊥). ap leaf_in (get_other m n k other) ∙ out k other) (same_or_not k n)
   out_gone m (Some root) n out = evicted m root n out.0 out.1
 
-  pub out_shown : (m : FinMap nat_cmp (Seen V)) (rest : Option Node) (n : ℕ) → IsOut m rest n → shown (remove m n) rest ≡ shown m rest
+  pub out_shown : (m : Lodged V) (rest : Option Node) (n : ℕ) → IsOut m rest n → shown (remove m n) rest ≡ shown m rest
   out_shown m None n out = refl
-  out_shown m (Some root) n out = evicted_shown m root n out.0 out.1
+  out_shown m (Some root) n out = evicted_shown m n out.0 out.1
 
   -- ---- a table's removal
   -- where leaves and bit nodes stay the routes do
-  pub shown_stays : (m new : FinMap nat_cmp (Seen V)) (root : Node) → IsWhole m root → KeepsLeaves m new → KeepsBits m new → shown new (Some root) ≡ shown m (Some root)
-  shown_stays m new root w leaves bits =
-      part_shown new root (record {
+  pub shown_stays : (m new : Lodged V) {root : Node} → IsWhole m root → KeepsLeaves m new → KeepsBits m new → shown new (Some root) ≡ shown m (Some root)
+  shown_stays m new w leaves bits =
+      part_shown {m = new} (record {
         tree = w.part.tree;
         low = w.part.low;
         above = w.part.above;
         is = w.part.is;
         stands = frame (leaves_in m) (leaves_in new) (bits_in m) (bits_in new) w.part.above w.part.tree (λ k some. leaves k) (λ k some. bits k) w.part.stands;
       }) w.low w.named
-      ∙ sym (part_shown m root w.part w.low w.named)
+      ∙ sym (part_shown w.part w.low w.named)
 
   pub gains_stays : (e : Entry V) (old now before after : List (Entry V)) → Gains e old before → now ≡ old → after ≡ before → Gains e now after
   gains_stays e old now before after g same too = record { front = g.front; back = g.back; was = same ∙ g.was; now = too ∙ g.now }
 
   -- the value that is taken is the route's
-  value_of : (o : Option (Seen V)) (p : LeafPart V) (value : V) → ((s : Seen V) → o ≡ Some s → value ≡ s.value) → content_of (leaf_in o) ≡ content_of (Some p) → value ≡ p.value
+  value_of : (o : Option (Seen V)) (p : LeafPart V) (value : V) → ((s : Seen V) → o ≡ Some s → value ≡ s.value) → content_of (leaf_in o) ≡ content_of (Some p)
+      → value ≡ p.value
   value_of None p value is same = absurd (none_some same)
   value_of (Some s) p value is same = is s refl ∙ ap (λ (c : Content V). c.entry.value) (inside same)
 
-  pub value_taken : (m now : FinMap nat_cmp (Seen V)) (n : ℕ) (p : LeafPart V) (value : V) → ((s : Seen V) → get now n ≡ Some s → value ≡ s.value) → content_of (leaves_in now n) ≡ content_of (leaves_in m n) → leaves_in m n ≡ Some p → value ≡ p.value
+  pub value_taken : (m now : Lodged V) (n : ℕ) (p : LeafPart V) (value : V) → ((s : Seen V) → get now n ≡ Some s → value ≡ s.value)
+      → content_of (leaves_in now n) ≡ content_of (leaves_in m n) → leaves_in m n ≡ Some p → value ≡ p.value
   value_taken m now n p value is same said = value_of (get now n) p value is (same ∙ ap (λ (o : Option (LeafPart V)). content_of o) said)
 
   -- the map has one room less
-  pub room_less : (m now : FinMap nat_cmp (Seen V)) (at : Id) → Has m at → KeepsRoutes m now → HasRoomMore (remove now at.number) m at.number
+  pub room_less : (m now : Lodged V) (at : Id) → Has m at → KeepsRoutes m now → HasRoomMore (remove now at.number) m at.number
   room_less m now at h same k = ⊎_elim
       (λ (e : k ≡ at.number).
       ap (λ (j : ℕ). is_some (leaves_in m j)) e ∙ ap (λ (o : Option (Seen V)). is_some (leaf_in o)) h.at

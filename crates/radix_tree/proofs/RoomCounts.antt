@@ -2,19 +2,13 @@
 --     equally_long      two lists in which each number stands equally often
 --     rooms_as_routes   as many rooms of a map as routes that it shows
 --     rooms_once        no room's number twice
-use Rattle.std.proofs.Common.{◌≡◌, ℕ, ◌+◌, ◌≤◌, ◌==◌, Bool, true, false, cond, nat_eq, List, [], ◌∷◌, ◌++◌, length, map, Option, Some, None, is_some, refl, sym, ap, ◌∙◌, arith}
+use Rattle.std.proofs.Common.{◌≡◌, ℕ, ◌+◌, ◌≤◌, ◌==◌, Bool, true, false, cond, nat_eq, List, [], ◌∷◌, ◌++◌, length, map, Option, Some, None, is_some, refl, sym}
+use Rattle.std.proofs.Common.{ap, ◌∙◌, arith}
 use Rattle.std.proofs.lemmas.Bool.{eqb-true}
 use Rattle.std.proofs.lemmas.List.{length-append, length-map}
 use Rattle.std.proofs.lemmas.List.Sums.{sum_by-cons, sum_by-append}
-use Rattle.std.specs.Ordering.{nat_cmp}
-use Rattle.std.specs.FinMap.{FinMap, get, keys}
-use Rattle.radix_nodes.specs.Rooms.{Seen}
-use Rattle.radix_nodes.specs.declared.links.Node.{Node}
-use Rattle.radix_tree.specs.Table.{uses}
-use Rattle.radix_tree.specs.Tree.{Placed, Tree, leaf, fork, routes_of}
-use Rattle.radix_tree.specs.Rooms.{LeafPart}
-use Rattle.radix_tree.specs.Whole.{one_if, members_at, leaves_at, shown, Holds}
-use Rattle.radix_tree.specs.declared.entry.Entry.{Entry}
+use Rattle.radix_tree.proofs.Words.{get, keys, Node, uses, Placed, Tree, leaf, fork, routes_of, LeafPart, one_if, members_at, leaves_at, shown, Holds, Entry}
+use Rattle.radix_tree.proofs.Words.{Lodged}
 use Rattle.radix_tree.proofs.PartRooms.{one_if_same}
 use Rattle.radix_tree.proofs.Numbers.{uses_keys, uses_leaves}
 use Rattle.radix_tree.proofs.Showing.{shown_is}
@@ -92,13 +86,13 @@ module _ {V : Type 0} where
       omega (arith, length-append (numbers_of left) (numbers_of right), length-append (routes_of left) (routes_of right), one_each left, one_each right)
 
   -- ---- the rooms of a map
-  pub rooms_as_routes : (m : FinMap nat_cmp (Seen V)) (root : Option Node) → Holds m root → length (keys m) ≡ length (shown m root)
+  pub rooms_as_routes : (m : Lodged V) (root : Option Node) → Holds m root → length (keys m) ≡ length (shown m root)
   rooms_as_routes m None none =
       equally_long (keys m) [] (λ n. uses_leaves m n ∙ ap (λ (o : Option (LeafPart V)). one_if (is_some o)) (none n))
   rooms_as_routes m (Some root) w =
       equally_long (keys m) (numbers_of w.part.tree) (λ n. uses_leaves m n ∙ sym (w.leaves n) ∙ sym (uses_tree n w.part.tree))
       ∙ one_each w.part.tree
-      ∙ ap (λ (es : List (Entry V)). length es) (sym (shown_is m root w))
+      ∙ ap (λ (es : List (Entry V)). length es) (sym (shown_is w))
 
-  pub rooms_once : (m : FinMap nat_cmp (Seen V)) (n : ℕ) → uses n (keys m) ≤ 1
+  pub rooms_once : (m : Lodged V) (n : ℕ) → uses n (keys m) ≤ 1
   rooms_once m n = omega (arith, uses_keys m n, one_if_most (is_some (get m n)))

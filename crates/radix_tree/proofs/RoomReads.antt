@@ -1,15 +1,7 @@
 -- What is read of a room that stands for a part of a tree.
 use Rattle.std.proofs.Common.{◌≡◌, Option, Some, None, refl, sym, ap, ◌∙◌}
-use Rattle.std.specs.Ordering.{nat_cmp}
-use Rattle.std.specs.FinMap.{FinMap, get}
-use denote.RawPtr.{Ptr}
-use Rattle.radix_nodes.specs.Rooms.{Seen, Has}
-use Rattle.radix_nodes.specs.Links.{leaf_of, bit_node_of, mask_node_of}
-use Rattle.radix_nodes.specs.declared.id.Id.{Id}
-use Rattle.radix_nodes.specs.declared.links.BitNode.{BitNode}
-use Rattle.radix_nodes.specs.declared.links.MaskNode.{MaskNode}
-use Rattle.radix_nodes.specs.declared.links.Links.{Links}
-use Rattle.radix_tree.specs.Rooms.{LeafPart, BitPart, MaskPart, bit_part, head_part, mask_part, leaf_in, bit_in, head_in, mask_in, leaves_in, bits_in, heads_in, masks_in}
+use Rattle.radix_tree.proofs.Words.{get, Ptr, Seen, Has, leaf_of, bit_node_of, mask_node_of, Id, BitNode, MaskNode, Links, LeafPart, BitPart, MaskPart}
+use Rattle.radix_tree.proofs.Words.{bit_part, head_part, mask_part, leaf_in, bit_in, head_in, mask_in, leaves_in, bits_in, heads_in, masks_in, Lodged}
 
 pub inside : {A : Type 0} {x y : A} → Some x ≡ Some y → x ≡ y
 inside e = cc
@@ -42,45 +34,48 @@ node_said e is = let same = inside (sym e ∙ is) in record {
 
 module _ {V : Type 0} where
   -- these are the links of a room of the map
-  abbrev pub AreLinks : FinMap nat_cmp (Seen V) → Id → Links → Type 0
+  abbrev pub AreLinks : Lodged V → Id → Links → Type 0
   AreLinks m room links = (s : Seen V) → get m room.number ≡ Some s → links ≡ s.links
 
   -- ---- as a leaf
-  leaf_there : (m : FinMap nat_cmp (Seen V)) (room : Id) (p : LeafPart V) (o : Option (Seen V)) → get m room.number ≡ o → leaf_in o ≡ Some p → p.block ≡ room.block → Has m room
+  leaf_there : (m : Lodged V) (room : Id) (p : LeafPart V) (o : Option (Seen V)) → get m room.number ≡ o → leaf_in o ≡ Some p → p.block ≡ room.block
+      → Has m room
   leaf_there m room p None at e block = absurd (none_some e)
   leaf_there m room p (Some s) at e block = record { room = s; at = at; block = ap (λ (q : LeafPart V). q.block) (inside e) ∙ block }
 
-  pub Has-leaf : (m : FinMap nat_cmp (Seen V)) (room : Id) (p : LeafPart V) → leaves_in m room.number ≡ Some p → p.block ≡ room.block → Has m room
-  Has-leaf m room p e block = leaf_there m room p (get m room.number) refl e block
+  pub Has-leaf : (m : Lodged V) (room : Id) {p : LeafPart V} → leaves_in m room.number ≡ Some p → p.block ≡ room.block → Has m room
+  Has-leaf m room {p = p} e block = leaf_there m room p (get m room.number) refl e block
 
-  pub leaf_read : (m : FinMap nat_cmp (Seen V)) (room : Id) (p : LeafPart V) (links : Links) → leaves_in m room.number ≡ Some p → p.block ≡ room.block → AreLinks m room links → leaf_of links ≡ p.leaf
-  leaf_read m room p links e block are =
-      let h = Has-leaf m room p e block in
+  pub leaf_read : (m : Lodged V) (room : Id) {p : LeafPart V} (links : Links) → leaves_in m room.number ≡ Some p → p.block ≡ room.block → AreLinks m room links
+      → leaf_of links ≡ p.leaf
+  leaf_read m room links e block are =
+      let h = Has-leaf m room e block in
       ap leaf_of (are h.room h.at) ∙ ap (λ (q : LeafPart V). q.leaf) (inside (sym (ap leaf_in h.at) ∙ e))
 
-  pub value_read : (m : FinMap nat_cmp (Seen V)) (room : Id) (p : LeafPart V) (value : V) → leaves_in m room.number ≡ Some p → p.block ≡ room.block
+  pub value_read : (m : Lodged V) (room : Id) {p : LeafPart V} (value : V) → leaves_in m room.number ≡ Some p → p.block ≡ room.block
       → ((s : Seen V) → get m room.number ≡ Some s → value ≡ s.value) → value ≡ p.value
-  value_read m room p value e block is =
-      let h = Has-leaf m room p e block in
+  value_read m room value e block is =
+      let h = Has-leaf m room e block in
       is h.room h.at ∙ ap (λ (q : LeafPart V). q.value) (inside (sym (ap leaf_in h.at) ∙ e))
 
   -- ---- as a bit node
-  bit_there : (m : FinMap nat_cmp (Seen V)) (room : Id) (p : BitPart) (o : Option (Seen V)) → get m room.number ≡ o → bit_in o ≡ Some p → p.block ≡ room.block → Has m room
+  bit_there : (m : Lodged V) (room : Id) (p : BitPart) (o : Option (Seen V)) → get m room.number ≡ o → bit_in o ≡ Some p → p.block ≡ room.block → Has m room
   bit_there m room p None at e block = absurd (none_some e)
   bit_there m room p (Some s) at e block = record { room = s; at = at; block = bit_block s.block (bit_node_of s.links) p e ∙ block }
 
-  pub Has-bit : (m : FinMap nat_cmp (Seen V)) (room : Id) (p : BitPart) → bits_in m room.number ≡ Some p → p.block ≡ room.block → Has m room
-  Has-bit m room p e block = bit_there m room p (get m room.number) refl e block
+  pub Has-bit : (m : Lodged V) (room : Id) {p : BitPart} → bits_in m room.number ≡ Some p → p.block ≡ room.block → Has m room
+  Has-bit m room {p = p} e block = bit_there m room p (get m room.number) refl e block
 
-  bit_said : (m : FinMap nat_cmp (Seen V)) (room : Id) (p : BitPart) (links : Links) (h : Has m room) → bits_in m room.number ≡ Some p → AreLinks m room links
+  bit_said : (m : Lodged V) {room : Id} (p : BitPart) (links : Links) (h : Has m room) → bits_in m room.number ≡ Some p → AreLinks m room links
       → bit_part h.room.block (bit_node_of links) ≡ Some p
-  bit_said m room p links h e are = ap (λ (l : Links). bit_part h.room.block (bit_node_of l)) (are h.room h.at) ∙ sym (ap bit_in h.at) ∙ e
+  bit_said m p links h e are = ap (λ (l : Links). bit_part h.room.block (bit_node_of l)) (are h.room h.at) ∙ sym (ap bit_in h.at) ∙ e
 
-  pub bit_read : (m : FinMap nat_cmp (Seen V)) (room : Id) (p : BitPart) (links : Links) (n : BitNode) → bits_in m room.number ≡ Some p → p.block ≡ room.block → AreLinks m room links
+  pub bit_read : (m : Lodged V) (room : Id) {p : BitPart} (links : Links) {n : BitNode} → bits_in m room.number ≡ Some p → p.block ≡ room.block
+      → AreLinks m room links
       → bit_node_of links ≡ Some n → IsNode n p
-  bit_read m room p links n e block are is =
-      let h = Has-bit m room p e block in
-      let same = inside (sym (ap (bit_part h.room.block) is) ∙ bit_said m room p links h e are) in
+  bit_read m room {p = p} links e block are is =
+      let h = Has-bit m room e block in
+      let same = inside (sym (ap (bit_part h.room.block) is) ∙ bit_said m p links h e are) in
       record {
         bit = ap (λ (q : BitPart). q.bit) same;
         zero = ap (λ (q : BitPart). q.zero) same;
@@ -88,44 +83,43 @@ module _ {V : Type 0} where
         above = ap (λ (q : BitPart). q.above) same;
       }
 
-  pub bit_used : (m : FinMap nat_cmp (Seen V)) (room : Id) (p : BitPart) (links : Links) → bits_in m room.number ≡ Some p → p.block ≡ room.block → AreLinks m room links
+  pub bit_used : (m : Lodged V) (room : Id) {p : BitPart} (links : Links) → bits_in m room.number ≡ Some p → p.block ≡ room.block → AreLinks m room links
       → bit_node_of links ≡ None → ⊥
-  bit_used m room p links e block are none =
-      let h = Has-bit m room p e block in
-      none_some (sym (ap (bit_part h.room.block) none) ∙ bit_said m room p links h e are)
+  bit_used m room {p = p} links e block are none =
+      let h = Has-bit m room e block in
+      none_some (sym (ap (bit_part h.room.block) none) ∙ bit_said m p links h e are)
 
   -- what the links say is what the room says
-  pub bit_told : {m : FinMap nat_cmp (Seen V)} {room : Id} {links : Links} → Has m room → AreLinks m room links → bits_in m room.number ≡ bit_part room.block (bit_node_of links)
+  pub bit_told : {m : Lodged V} {room : Id} {links : Links} → Has m room → AreLinks m room links
+      → bits_in m room.number ≡ bit_part room.block (bit_node_of links)
   bit_told {links = links} h are =
-      ap bit_in h.at ∙ ap (λ (l : Links). bit_part h.room.block (bit_node_of l)) (sym (are h.room h.at)) ∙ ap (λ (b : Ptr). bit_part b (bit_node_of links)) h.block
+      ap bit_in h.at ∙ ap (λ (l : Links). bit_part h.room.block (bit_node_of l)) (sym (are h.room h.at))
+      ∙ ap (λ (b : Ptr). bit_part b (bit_node_of links)) h.block
 
-  pub mask_told : {m : FinMap nat_cmp (Seen V)} {room : Id} {links : Links} → Has m room → AreLinks m room links → masks_in m room.number ≡ mask_part room.block (mask_node_of links)
+  pub mask_told : {m : Lodged V} {room : Id} {links : Links} → Has m room → AreLinks m room links
+      → masks_in m room.number ≡ mask_part room.block (mask_node_of links)
   mask_told {links = links} h are =
-      ap mask_in h.at ∙ ap (λ (l : Links). mask_part h.room.block (mask_node_of l)) (sym (are h.room h.at)) ∙ ap (λ (b : Ptr). mask_part b (mask_node_of links)) h.block
+      ap mask_in h.at ∙ ap (λ (l : Links). mask_part h.room.block (mask_node_of l)) (sym (are h.room h.at))
+      ∙ ap (λ (b : Ptr). mask_part b (mask_node_of links)) h.block
 
-  pub head_read : (m : FinMap nat_cmp (Seen V)) (room : Id) (links : Links) (n : BitNode) → Has m room → AreLinks m room links → bit_node_of links ≡ Some n → heads_in m room.number ≡ n.masks
-  head_read m room links n h are is = ap head_in h.at ∙ sym (ap (λ (l : Links). head_part (bit_node_of l)) (are h.room h.at)) ∙ ap head_part is
+  pub head_read : {m : Lodged V} {room : Id} (links : Links) {n : BitNode} → Has m room → AreLinks m room links → bit_node_of links ≡ Some n
+      → heads_in m room.number ≡ n.masks
+  head_read links h are is = ap head_in h.at ∙ sym (ap (λ (l : Links). head_part (bit_node_of l)) (are h.room h.at)) ∙ ap head_part is
 
   -- ---- as a mask node
-  mask_there : (m : FinMap nat_cmp (Seen V)) (room : Id) (p : MaskPart) (o : Option (Seen V)) → get m room.number ≡ o → mask_in o ≡ Some p → p.block ≡ room.block → Has m room
+  mask_there : (m : Lodged V) (room : Id) (p : MaskPart) (o : Option (Seen V)) → get m room.number ≡ o → mask_in o ≡ Some p → p.block ≡ room.block → Has m room
   mask_there m room p None at e block = absurd (none_some e)
   mask_there m room p (Some s) at e block = record { room = s; at = at; block = mask_block s.block (mask_node_of s.links) p e ∙ block }
 
-  pub Has-mask : (m : FinMap nat_cmp (Seen V)) (room : Id) (p : MaskPart) → masks_in m room.number ≡ Some p → p.block ≡ room.block → Has m room
-  Has-mask m room p e block = mask_there m room p (get m room.number) refl e block
+  pub Has-mask : (m : Lodged V) (room : Id) {p : MaskPart} → masks_in m room.number ≡ Some p → p.block ≡ room.block → Has m room
+  Has-mask m room {p = p} e block = mask_there m room p (get m room.number) refl e block
 
-  mask_said : (m : FinMap nat_cmp (Seen V)) (room : Id) (p : MaskPart) (links : Links) (h : Has m room) → masks_in m room.number ≡ Some p → AreLinks m room links
+  mask_said : (m : Lodged V) {room : Id} (p : MaskPart) (links : Links) (h : Has m room) → masks_in m room.number ≡ Some p → AreLinks m room links
       → mask_part h.room.block (mask_node_of links) ≡ Some p
-  mask_said m room p links h e are = ap (λ (l : Links). mask_part h.room.block (mask_node_of l)) (are h.room h.at) ∙ sym (ap mask_in h.at) ∙ e
+  mask_said m p links h e are = ap (λ (l : Links). mask_part h.room.block (mask_node_of l)) (are h.room h.at) ∙ sym (ap mask_in h.at) ∙ e
 
-  pub mask_read : (m : FinMap nat_cmp (Seen V)) (room : Id) (p : MaskPart) (links : Links) (n : MaskNode) → masks_in m room.number ≡ Some p → p.block ≡ room.block → AreLinks m room links
-      → mask_node_of links ≡ Some n → n.next ≡ p.next
-  mask_read m room p links n e block are is =
-      let h = Has-mask m room p e block in
-      ap (λ (q : MaskPart). q.next) (inside (sym (ap (mask_part h.room.block) is) ∙ mask_said m room p links h e are))
-
-  pub mask_used : (m : FinMap nat_cmp (Seen V)) (room : Id) (p : MaskPart) (links : Links) → masks_in m room.number ≡ Some p → p.block ≡ room.block → AreLinks m room links
+  pub mask_used : (m : Lodged V) (room : Id) (p : MaskPart) (links : Links) → masks_in m room.number ≡ Some p → p.block ≡ room.block → AreLinks m room links
       → mask_node_of links ≡ None → ⊥
   mask_used m room p links e block are none =
-      let h = Has-mask m room p e block in
-      none_some (sym (ap (mask_part h.room.block) none) ∙ mask_said m room p links h e are)
+      let h = Has-mask m room e block in
+      none_some (sym (ap (mask_part h.room.block) none) ∙ mask_said m p links h e are)

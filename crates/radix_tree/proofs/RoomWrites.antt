@@ -1,19 +1,10 @@
 -- What the rooms say in each role once one of them has other links.
 use Rattle.std.proofs.Common.{◌≡◌, ℕ, ◌==◌, Bool, true, false, if◌then◌else◌, Option, Some, None, refl, sym, ap, ◌∙◌}
 use Rattle.std.proofs.lemmas.Bool.{eqb-true}
-use Rattle.std.specs.Ordering.{nat_cmp}
-use Rattle.std.specs.FinMap.{FinMap, get}
-use denote.RawPtr.{Ptr}
-use Rattle.radix_nodes.specs.Rooms.{Seen, seen, Has, put_room, put_links}
-use Rattle.radix_nodes.specs.Links.{leaf_of, bit_node_of, mask_node_of}
-use Rattle.radix_nodes.specs.declared.id.Id.{Id}
-use Rattle.radix_nodes.specs.declared.links.Leaf.{Leaf}
-use Rattle.radix_nodes.specs.declared.links.BitNode.{BitNode}
-use Rattle.radix_nodes.specs.declared.links.MaskNode.{MaskNode}
-use Rattle.radix_nodes.specs.declared.links.Links.{Links}
 use Rattle.radix_nodes.proofs.Callers.{get-put_room, get-put_links}
-use Rattle.radix_tree.specs.Rooms.{LeafPart, leaf_in, bit_in, head_in, mask_in, bit_part, head_part, mask_part, leaves_in, bits_in, heads_in, masks_in}
-use Rattle.radix_tree.specs.Writes.{lodge_leaf, put_leaf, with_leaf, put_bit, put_head, put_mask, KeepsLeaves, KeepsBits, KeepsHeads, KeepsMasks}
+use Rattle.radix_tree.proofs.Words.{get, Ptr, Seen, seen, Has, put_room, put_links, leaf_of, bit_node_of, mask_node_of, Id, Leaf, BitNode, MaskNode, Links}
+use Rattle.radix_tree.proofs.Words.{LeafPart, leaf_in, bit_in, head_in, mask_in, bit_part, head_part, mask_part, leaves_in, bits_in, heads_in, masks_in}
+use Rattle.radix_tree.proofs.Words.{lodge_leaf, put_leaf, with_leaf, put_bit, put_head, put_mask, KeepsLeaves, KeepsBits, KeepsHeads, KeepsMasks, Lodged}
 use Rattle.radix_tree.proofs.RoomReads.{AreLinks}
 
 through_if : {A B : Type 0} (f : A → B) (t : Bool) (x y : A) → f (if t then x else y) ≡ (if t then f x else f y)
@@ -22,19 +13,19 @@ through_if f false x y = refl
 
 module _ {V : Type 0} where
   -- a role of each room, once one of them has other links
-  role : {A : Type 0} (f : Option (Seen V) → A) (m new : FinMap nat_cmp (Seen V)) (room : Id) (links : Links) (h : Has m room) → new ≡ put_links m room links → (n : ℕ)
+  role : {A : Type 0} (f : Option (Seen V) → A) (m new : Lodged V) {room : Id} (links : Links) (h : Has m room) → new ≡ put_links m room links → (n : ℕ)
       → f (get new n) ≡ (if n == room.number then f (Some (seen room.block h.room.value links)) else f (get m n))
-  role f m new room links h is n =
-      ap (λ (k : FinMap nat_cmp (Seen V)). f (get k n)) is ∙ ap f (get-put_links m room links h n)
+  role f m new {room = room} links h is n =
+      ap (λ (k : Lodged V). f (get k n)) is ∙ ap f (get-put_links m room links h n)
       ∙ through_if f (n == room.number) (Some (seen room.block h.room.value links)) (get m n)
 
-  there : (m : FinMap nat_cmp (Seen V)) (room : Id) (h : Has m room) (n : ℕ) → (n == room.number) ≡ true → get m n ≡ Some h.room
+  there : (m : Lodged V) (room : Id) (h : Has m room) (n : ℕ) → (n == room.number) ≡ true → get m n ≡ Some h.room
   there m room h n e = ap (get m) (eqb-true n room.number e) ∙ h.at
 
   -- it stays where the new links say the same
-  kept : {A : Type 0} (f : Option (Seen V) → A) (m new : FinMap nat_cmp (Seen V)) (room : Id) (links : Links) (h : Has m room) → new ≡ put_links m room links
+  kept : {A : Type 0} (f : Option (Seen V) → A) (m new : Lodged V) {room : Id} (links : Links) (h : Has m room) → new ≡ put_links m room links
       → f (Some (seen room.block h.room.value links)) ≡ f (Some h.room) → (n : ℕ) → f (get new n) ≡ f (get m n)
-  kept f m new room links h is same n = role f m new room links h is n
+  kept f m new {room = room} links h is same n = role f m new links h is n
       ∙ elim (n == room.number) as (λ t. (n == room.number) ≡ t → (if t then f (Some (seen room.block h.room.value links)) else f (get m n)) ≡ f (get m n)) [
         | true ↦ λ e. same ∙ sym (ap f (there m room h n e))
         | false ↦ λ e. refl
@@ -44,53 +35,62 @@ module _ {V : Type 0} where
   part : Ptr → V → Leaf → LeafPart V
   part block value leaf = record { block = block; value = value; leaf = leaf }
 
-  pub leaves_kept : (m new : FinMap nat_cmp (Seen V)) (room : Id) (links old : Links) → Has m room → new ≡ put_links m room links → AreLinks m room old → leaf_of links ≡ leaf_of old → KeepsLeaves m new
+  pub leaves_kept : {m new : Lodged V} {room : Id} (links old : Links) → Has m room → new ≡ put_links m room links → AreLinks m room old
+      → leaf_of links ≡ leaf_of old → KeepsLeaves m new
   unfolding part
-  leaves_kept m new room links old h is are same = kept leaf_in m new room links h is
-      (ap (λ (b : Ptr). Some (part b h.room.value (leaf_of links))) (sym h.block) ∙ ap (λ (l : Leaf). Some (part h.room.block h.room.value l)) (same ∙ ap leaf_of (are h.room h.at)))
+  leaves_kept {m = m} {new = new} links old h is are same = kept leaf_in m new links h is
+      (ap (λ (b : Ptr). Some (part b h.room.value (leaf_of links))) (sym h.block)
+      ∙ ap (λ (l : Leaf). Some (part h.room.block h.room.value l)) (same ∙ ap leaf_of (are h.room h.at)))
 
-  pub bits_kept : (m new : FinMap nat_cmp (Seen V)) (room : Id) (links old : Links) → Has m room → new ≡ put_links m room links → AreLinks m room old → bit_node_of links ≡ bit_node_of old → KeepsBits m new
-  bits_kept m new room links old h is are same = kept bit_in m new room links h is
+  pub bits_kept : {m new : Lodged V} {room : Id} (links old : Links) → Has m room → new ≡ put_links m room links → AreLinks m room old
+      → bit_node_of links ≡ bit_node_of old → KeepsBits m new
+  bits_kept {m = m} {new = new} links old h is are same = kept bit_in m new links h is
       (ap (λ (b : Ptr). bit_part b (bit_node_of links)) (sym h.block) ∙ ap (bit_part h.room.block) (same ∙ ap bit_node_of (are h.room h.at)))
 
-  pub heads_kept : (m new : FinMap nat_cmp (Seen V)) (room : Id) (links old : Links) → Has m room → new ≡ put_links m room links → AreLinks m room old → bit_node_of links ≡ bit_node_of old → KeepsHeads m new
-  heads_kept m new room links old h is are same = kept head_in m new room links h is (ap head_part (same ∙ ap bit_node_of (are h.room h.at)))
+  pub heads_kept : {m new : Lodged V} {room : Id} (links old : Links) → Has m room → new ≡ put_links m room links → AreLinks m room old
+      → bit_node_of links ≡ bit_node_of old → KeepsHeads m new
+  heads_kept {m = m} {new = new} links old h is are same = kept head_in m new links h is (ap head_part (same ∙ ap bit_node_of (are h.room h.at)))
 
-  pub masks_kept : (m new : FinMap nat_cmp (Seen V)) (room : Id) (links old : Links) → Has m room → new ≡ put_links m room links → AreLinks m room old → mask_node_of links ≡ mask_node_of old → KeepsMasks m new
-  masks_kept m new room links old h is are same = kept mask_in m new room links h is
+  pub masks_kept : {m new : Lodged V} {room : Id} (links old : Links) → Has m room → new ≡ put_links m room links → AreLinks m room old
+      → mask_node_of links ≡ mask_node_of old → KeepsMasks m new
+  masks_kept {m = m} {new = new} links old h is are same = kept mask_in m new links h is
       (ap (λ (b : Ptr). mask_part b (mask_node_of links)) (sym h.block) ∙ ap (mask_part h.room.block) (same ∙ ap mask_node_of (are h.room h.at)))
 
-  pub bits_put : (m new : FinMap nat_cmp (Seen V)) (room : Id) (links : Links) (node : Option BitNode) → Has m room → new ≡ put_links m room links → bit_node_of links ≡ node
+  pub bits_put : {m new : Lodged V} (room : Id) (links : Links) {node : Option BitNode} → Has m room → new ≡ put_links m room links → bit_node_of links ≡ node
       → (n : ℕ) → bits_in new n ≡ put_bit room node n (bits_in m n)
-  bits_put m new room links node h is said n = role bit_in m new room links h is n ∙ ap (λ (o : Option BitNode). put_bit room o n (bits_in m n)) said
+  bits_put {m = m} {new = new} room links h is said n = role bit_in m new links h is n ∙ ap (λ (o : Option BitNode). put_bit room o n (bits_in m n)) said
 
-  pub heads_put : (m new : FinMap nat_cmp (Seen V)) (room : Id) (links : Links) (node : Option BitNode) → Has m room → new ≡ put_links m room links → bit_node_of links ≡ node
+  pub heads_put : {m new : Lodged V} (room : Id) (links : Links) {node : Option BitNode} → Has m room → new ≡ put_links m room links → bit_node_of links ≡ node
       → (n : ℕ) → heads_in new n ≡ put_head room node n (heads_in m n)
-  heads_put m new room links node h is said n = role head_in m new room links h is n ∙ ap (λ (o : Option BitNode). put_head room o n (heads_in m n)) said
+  heads_put {m = m} {new = new} room links h is said n = role head_in m new links h is n ∙ ap (λ (o : Option BitNode). put_head room o n (heads_in m n)) said
 
-  pub masks_put : (m new : FinMap nat_cmp (Seen V)) (room : Id) (links : Links) (node : Option MaskNode) → Has m room → new ≡ put_links m room links → mask_node_of links ≡ node
+  pub masks_put : {m new : Lodged V} (room : Id) (links : Links) {node : Option MaskNode} → Has m room → new ≡ put_links m room links
+      → mask_node_of links ≡ node
       → (n : ℕ) → masks_in new n ≡ put_mask room node n (masks_in m n)
-  masks_put m new room links node h is said n = role mask_in m new room links h is n ∙ ap (λ (o : Option MaskNode). put_mask room o n (masks_in m n)) said
+  masks_put {m = m} {new = new} room links h is said n = role mask_in m new links h is n ∙ ap (λ (o : Option MaskNode). put_mask room o n (masks_in m n)) said
 
-  pub leaves_put : (m new : FinMap nat_cmp (Seen V)) (room : Id) (links : Links) (leaf : Leaf) → Has m room → new ≡ put_links m room links → leaf_of links ≡ leaf
+  pub leaves_put : {m new : Lodged V} (room : Id) (links : Links) (leaf : Leaf) → Has m room → new ≡ put_links m room links → leaf_of links ≡ leaf
       → (n : ℕ) → leaves_in new n ≡ put_leaf room leaf n (leaves_in m n)
   unfolding part
-  leaves_put m new room links leaf h is said n = role leaf_in m new room links h is n
+  leaves_put {m = m} {new = new} room links leaf h is said n = role leaf_in m new links h is n
       ∙ elim (n == room.number) as (λ t. (n == room.number) ≡ t
-      → (if t then Some (part room.block h.room.value (leaf_of links)) else leaf_in (get m n)) ≡ (if t then with_leaf leaf (leaf_in (get m n)) else leaf_in (get m n))) [
-        | true ↦ λ e. ap (λ (b : Ptr). Some (part b h.room.value (leaf_of links))) (sym h.block) ∙ ap (λ (l : Leaf). Some (part h.room.block h.room.value l)) said
+      → (if t then Some (part room.block h.room.value (leaf_of links)) else leaf_in (get m n))
+      ≡ (if t then with_leaf leaf (leaf_in (get m n)) else leaf_in (get m n))) [
+        | true ↦ λ e. ap (λ (b : Ptr). Some (part b h.room.value (leaf_of links))) (sym h.block)
+            ∙ ap (λ (l : Leaf). Some (part h.room.block h.room.value l)) said
             ∙ sym (ap (λ (o : Option (Seen V)). with_leaf leaf (leaf_in o)) (there m room h n e))
         | false ↦ λ e. refl
       ] refl
 
   -- ---- a room that is lodged
-  lodged_role : {A : Type 0} (f : Option (Seen V) → A) (m : FinMap nat_cmp (Seen V)) (room : Id) (value : V) (links : Links) (n : ℕ)
+  lodged_role : {A : Type 0} (f : Option (Seen V) → A) (m : Lodged V) (room : Id) (value : V) (links : Links) (n : ℕ)
       → f (get (put_room m room value links) n) ≡ (if n == room.number then f (Some (seen room.block value links)) else f (get m n))
   lodged_role f m room value links n =
       ap f (get-put_room m room value links n) ∙ through_if f (n == room.number) (Some (seen room.block value links)) (get m n)
 
   -- it says nothing new in a role in which its links say nothing
-  lodged_kept : {A : Type 0} (f : Option (Seen V) → A) (m : FinMap nat_cmp (Seen V)) (room : Id) (value : V) (links : Links) → get m room.number ≡ None → f (Some (seen room.block value links)) ≡ f None
+  lodged_kept : {A : Type 0} (f : Option (Seen V) → A) (m : Lodged V) (room : Id) (value : V) (links : Links) → get m room.number ≡ None
+      → f (Some (seen room.block value links)) ≡ f None
       → (n : ℕ) → f (get (put_room m room value links) n) ≡ f (get m n)
   lodged_kept f m room value links free same n = lodged_role f m room value links n
       ∙ elim (n == room.number) as (λ t. (n == room.number) ≡ t → (if t then f (Some (seen room.block value links)) else f (get m n)) ≡ f (get m n)) [
@@ -98,19 +98,24 @@ module _ {V : Type 0} where
         | false ↦ λ e. refl
       ] refl
 
-  pub lodged_bits : (m : FinMap nat_cmp (Seen V)) (room : Id) (value : V) (links : Links) → get m room.number ≡ None → bit_node_of links ≡ None → KeepsBits m (put_room m room value links)
+  pub lodged_bits : (m : Lodged V) (room : Id) (value : V) (links : Links) → get m room.number ≡ None → bit_node_of links ≡ None
+      → KeepsBits m (put_room m room value links)
   lodged_bits m room value links free none = lodged_kept bit_in m room value links free (ap (bit_part room.block) none)
 
-  pub lodged_heads : (m : FinMap nat_cmp (Seen V)) (room : Id) (value : V) (links : Links) → get m room.number ≡ None → bit_node_of links ≡ None → KeepsHeads m (put_room m room value links)
+  pub lodged_heads : (m : Lodged V) (room : Id) (value : V) (links : Links) → get m room.number ≡ None → bit_node_of links ≡ None
+      → KeepsHeads m (put_room m room value links)
   lodged_heads m room value links free none = lodged_kept head_in m room value links free (ap head_part none)
 
-  pub lodged_masks : (m : FinMap nat_cmp (Seen V)) (room : Id) (value : V) (links : Links) → get m room.number ≡ None → mask_node_of links ≡ None → KeepsMasks m (put_room m room value links)
+  pub lodged_masks : (m : Lodged V) (room : Id) (value : V) (links : Links) → get m room.number ≡ None → mask_node_of links ≡ None
+      → KeepsMasks m (put_room m room value links)
   lodged_masks m room value links free none = lodged_kept mask_in m room value links free (ap (mask_part room.block) none)
 
-  pub lodged_leaves : (m new : FinMap nat_cmp (Seen V)) (room : Id) (value : V) (links : Links) (leaf : Leaf) → ((n : ℕ) → leaves_in new n ≡ put_leaf room leaf n (leaves_in (put_room m room value links) n))
+  pub lodged_leaves : (m new : Lodged V) (room : Id) (value : V) (links : Links) (leaf : Leaf)
+      → ((n : ℕ) → leaves_in new n ≡ put_leaf room leaf n (leaves_in (put_room m room value links) n))
       → (n : ℕ) → leaves_in new n ≡ lodge_leaf room value leaf n (leaves_in m n)
   lodged_leaves m new room value links leaf is n = is n
-      ∙ elim (n == room.number) as (λ t. leaves_in (put_room m room value links) n ≡ (if t then leaf_in (Some (seen room.block value links)) else leaf_in (get m n))
+      ∙ elim (n == room.number) as (λ t. leaves_in (put_room m room value links) n
+      ≡ (if t then leaf_in (Some (seen room.block value links)) else leaf_in (get m n))
       → (if t then with_leaf leaf (leaves_in (put_room m room value links) n) else leaves_in (put_room m room value links) n)
       ≡ (if t then Some (record { block = room.block; value = value; leaf = leaf }) else leaves_in m n)) [
         | true ↦ λ e. ap (with_leaf leaf) e

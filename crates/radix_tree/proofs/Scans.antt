@@ -1,15 +1,8 @@
 -- A walk along a chain.
 use Rattle.std.proofs.Common.{◌≡◌, ℕ, ◌+◌, ◌≤◌, List, [], ◌∷◌, length, Option, Some, None, true, false, refl, sym, ap, ◌∙◌, subst, inl, inr, ⊎_elim, arith}
-use Rattle.std.specs.Ordering.{nat_cmp}
-use Rattle.std.specs.FinMap.{FinMap}
-use Rattle.mask_table.specs.Agreeing.{agrees}
-use Rattle.radix_nodes.specs.Counting.{Counter}
-use Rattle.radix_nodes.specs.Rooms.{Seen, Has}
-use Rattle.radix_nodes.specs.declared.id.Id.{Id}
-use Rattle.radix_nodes.specs.declared.links.Leaf.{Leaf}
-use Rattle.radix_tree.specs.Reads.{Reads, ReadsOnce}
-use Rattle.radix_tree.specs.Rooms.{LeafPart, Run, leaves_in, first_room, leaf_part, ChainStands}
-use Rattle.radix_tree.specs.Tree.{Placed, Covers, IsAmong, IsChain}
+use Rattle.radix_tree.proofs.Words.{agrees, Counter, Has, Id, Leaf, ReadsOnce, LeafPart, Run, leaves_in, first_room, leaf_part, ChainStands, Placed, IsAmong}
+use Rattle.radix_tree.proofs.Words.{IsChain, Lodged}
+use Rattle.radix_tree.specs.Tree.{Covers}
 use Rattle.radix_tree.proofs.RoomReads.{none_some, Has-leaf}
 use Rattle.radix_tree.proofs.TreeMembers.{head_of, first_greatest, chain_short}
 
@@ -23,7 +16,7 @@ pub ended_at : {V : Type 0} (rest : List (Placed V)) → first_room rest ≡ Non
 ended_at [] ends y among = among
 ended_at (x ∷ xs) ends y among = none_some (sym ends)
 
-module _ {V : Type 0} {m : FinMap nat_cmp (Seen V)} where
+module _ {V : Type 0} {m : Lodged V} where
   -- a walk along a chain that has passed no route of a property
   pub record Along (P : Placed V → Type 0) (whole : Run m) (at : Option Id) (start now : Counter) : Type 0 where
     pub rest : Run m
@@ -54,11 +47,13 @@ module _ {V : Type 0} {m : FinMap nat_cmp (Seen V)} where
     pub soon : now.count + 1 ≤ start.count + 34
     pub passed : (l : Leaf) (later : Counter) → l ≡ part.leaf → ReadsOnce now later → (P route → ⊥) → Along P whole l.next start later
 
-  pub member : {P : Placed V → Type 0} {whole : Run m} {at : Option Id} {room : Id} {start now : Counter} → Along P whole at start now → at ≡ Some room → Member P whole room start now
+  pub member : {P : Placed V → Type 0} {whole : Run m} {at : Option Id} {room : Id} {start now : Counter} → Along P whole at start now → at ≡ Some room
+      → Member P whole room start now
   member {P} {whole} {at} {room} {start} {now} w at_is =
-      let x = head_of w.rest.members room (w.begins ∙ at_is) in
+      let x = head_of w.rest.members (w.begins ∙ at_is) in
       let is : IsChain w.rest.key w.rest.top (x.first ∷ x.behind) = subst (IsChain w.rest.key w.rest.top) x.is w.rest.is in
-      let stands : ChainStands (leaves_in m) w.rest.above w.rest.previous (x.first ∷ x.behind) = subst (ChainStands (leaves_in m) w.rest.above w.rest.previous) x.is w.rest.stands in
+      let stands : ChainStands (leaves_in m) w.rest.above w.rest.previous (x.first ∷ x.behind) =
+      subst (ChainStands (leaves_in m) w.rest.above w.rest.previous) x.is w.rest.stands in
       let some : length w.rest.members ≡ length (x.first ∷ x.behind) = ap (λ (ms : List (Placed V)). length ms) x.is in
       record {
         route = x.first;
@@ -73,10 +68,21 @@ module _ {V : Type 0} {m : FinMap nat_cmp (Seen V)} where
         turn = w.turn;
         soon = omega arith;
         passed = λ l later l_is once hasnt. record {
-          rest = record { members = x.behind; key = w.rest.key; top = x.first.entry.rank; above = None; previous = Some x.first.room; is = is.3; stands = stands.1 };
+          rest =
+              record {
+                members = x.behind;
+                key = w.rest.key;
+                top = x.first.entry.rank;
+                above = None;
+                previous = Some x.first.room;
+                is = is.3;
+                stands =
+                    stands.1;
+              };
           begins = sym (ap (λ (z : Leaf). z.next) l_is);
           inside = λ y among. w.inside y (subst (IsAmong y) (sym x.is) (inr among));
-          kept = λ y among has. ⊎_elim (λ (e : x.first ≡ y). absurd (hasnt (subst P (sym e) has))) (λ (behind : IsAmong y x.behind). behind) (subst (IsAmong y) x.is (w.kept y among has));
+          kept = λ y among has. ⊎_elim (λ (e : x.first ≡ y). absurd (hasnt (subst P (sym e) has))) (λ (behind : IsAmong y x.behind). behind)
+              (subst (IsAmong y) x.is (w.kept y among has));
           turn = once.turn ∙ w.turn;
           rises = omega arith;
           few = omega arith;
@@ -84,21 +90,20 @@ module _ {V : Type 0} {m : FinMap nat_cmp (Seen V)} where
       }
 
   pub Has-at : {P : Placed V → Type 0} {whole : Run m} {room : Id} {start now : Counter} → Member P whole room start now → Has m room
-  Has-at {room = room} x = Has-leaf m room x.part x.said x.block
+  Has-at {room = room} x = Has-leaf m room x.said x.block
 
   -- at its end no member has the property
-  pub ended : {P : Placed V → Type 0} {whole : Run m} {at : Option Id} {start now : Counter} → Along P whole at start now → at ≡ None → (y : Placed V) → IsAmong y whole.members → P y → ⊥
+  pub ended : {P : Placed V → Type 0} {whole : Run m} {at : Option Id} {start now : Counter} → Along P whole at start now → at ≡ None → (y : Placed V)
+      → IsAmong y whole.members → P y → ⊥
   ended w is y among has = ended_at w.rest.members (w.begins ∙ is) y (w.kept y among has)
-
-  pub soon_ended : {P : Placed V → Type 0} {whole : Run m} {at : Option Id} {start now : Counter} → Along P whole at start now → Reads start now 34
-  soon_ended w = record { turn = w.turn; rises = w.rises; bound = omega arith }
 
 -- whether a leaf agrees with an address is whether its route covers it
 abbrev pub CoversIt : {V : Type 0} → ℕ → Placed V → Type 0
 CoversIt address y = Covers address y.entry
 
-pub agrees_is : {V : Type 0} (address : ℕ) (l : Leaf) (p : Leaf) (x : Placed V) → l ≡ p → p.key ≡ x.entry.key → p.rank ≡ x.entry.rank → agrees l.rank l.key address ≡ agrees x.entry.rank x.entry.key address
-agrees_is address l p x is key rank =
+pub agrees_is : {V : Type 0} (address : ℕ) {l : Leaf} {p : Leaf} (x : Placed V) → l ≡ p → p.key ≡ x.entry.key → p.rank ≡ x.entry.rank
+    → agrees l.rank l.key address ≡ agrees x.entry.rank x.entry.key address
+agrees_is address {p = p} x is key rank =
     ap (λ (z : Leaf). agrees z.rank z.key address) is ∙ ap (λ (k : ℕ). agrees p.rank k address) key ∙ ap (λ (r : ℕ). agrees r x.entry.key address) rank
 
 pub covered : {V : Type 0} (address : ℕ) (x : Placed V) → agrees x.entry.rank x.entry.key address ≡ true → CoversIt address x

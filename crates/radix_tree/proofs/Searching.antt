@@ -1,11 +1,7 @@
 -- What a search beneath a bit node, and one for each of its listed masks, tell of all that is beneath it.
 use Rattle.std.proofs.Common.{◌≡◌, ℕ, ◌+◌, ◌<◌, ◌≤◌, ◌⊎◌, List, [], ◌∷◌, None, Some, inl, inr, ⊎_elim, sym, ap, ◌∙◌, arith}
 use Rattle.std.proofs.lemmas.Bool.{cases_lt}
-use Rattle.mask_table.specs.Agreeing.{masked}
-use Rattle.radix_tree.specs.Table.{IsRoute}
-use Rattle.radix_tree.specs.Tree.{Placed, Tree, fork, bit_at, Covers, IsAmong, IsIn, IsTree}
-use Rattle.radix_tree.specs.Rooms.{Falls}
-use Rattle.radix_tree.specs.Searches.{Finds, HasPair, Best}
+use Rattle.radix_tree.proofs.Words.{masked, IsRoute, Placed, Tree, fork, bit_at, Covers, IsAmong, IsIn, IsTree, Falls, Finds, HasPair, Best}
 use Rattle.radix_tree.proofs.AddressBits.{zero_not_one, covered_bit, clear_bit, covered_key, key_covers}
 use Rattle.radix_tree.proofs.TreeMembers.{same_rank, tree_route, bit_beneath}
 
@@ -46,7 +42,7 @@ module _ {V : Type 0} where
   other_side address b y within route covers differs =
       let short : y.entry.rank ≤ b = ⊎_elim (λ (long : b < y.entry.rank). absurd (differs (covered_bit address b y.entry long within covers)))
       (λ (le : y.entry.rank ≤ b). le) (cases_lt b y.entry.rank) in
-      (short, clear_bit b y.entry route short within)
+      (short, clear_bit b route short within)
 
   -- so the best of the address's side is the best of both
   pub side_hit : (address low b : ℕ) (side whole : Tree V) (x : Placed V) → IsSide address b side whole
@@ -59,7 +55,7 @@ module _ {V : Type 0} where
         let other : (y.entry.rank ≤ b) × (bit_at b y.entry.key ≡ 0) = other_side address b y is.within (is.routes y at) covers differs in
         let short : y.entry.rank ≤ b = other.0 in
         ⊎_elim (λ (long : b < x.entry.rank). omega arith)
-        (λ (le : x.entry.rank ≤ b). absurd (differs (other.1 ∙ sym (clear_bit b x.entry (is.routes x (is.inside x best.0)) le is.within) ∙ is.here x best.0)))
+        (λ (le : x.entry.rank ≤ b). absurd (differs (other.1 ∙ sym (clear_bit b (is.routes x (is.inside x best.0)) le is.within) ∙ is.here x best.0)))
         (cases_lt b x.entry.rank))
         (is.parted y at),
   )
@@ -91,7 +87,7 @@ module _ {V : Type 0} where
   falls_below low top [] falls y among = absurd among
   falls_below low top (m ∷ ms) falls y among =
       let first : m.entry.rank < top = falls.1 in
-      ⊎_elim (λ (e : m ≡ y). let same : m.entry.rank ≡ y.entry.rank = same_rank m y e in omega arith)
+      ⊎_elim (λ (e : m ≡ y). let same : m.entry.rank ≡ y.entry.rank = same_rank e in omega arith)
       (λ (behind : IsAmong y ms). let lower : y.entry.rank < m.entry.rank = falls_below low m.entry.rank ms falls.2 y behind in omega arith) among
 
   -- all routes of a rank from low to below top are listed
@@ -104,13 +100,14 @@ module _ {V : Type 0} where
   none_longer low top m ms t falls listed y at below =
       let least : low ≤ m.entry.rank = falls.0 in
       ⊎_elim (λ (longer : m.entry.rank < y.entry.rank).
-      ⊎_elim (λ (e : m ≡ y). let same : m.entry.rank ≡ y.entry.rank = same_rank m y e in omega arith)
+      ⊎_elim (λ (e : m ≡ y). let same : m.entry.rank ≡ y.entry.rank = same_rank e in omega arith)
       (λ (behind : IsAmong y ms). let lower : y.entry.rank < m.entry.rank = falls_below low m.entry.rank ms falls.2 y behind in omega arith)
       (listed y at (omega arith) below))
       (λ (le : y.entry.rank ≤ m.entry.rank). le) (cases_lt m.entry.rank y.entry.rank)
 
   -- a route found for the first mask is the best, once longer masks were tried in vain
-  pub mask_hit : (address low top past : ℕ) (m : Placed V) (ms : List (Placed V)) (t : Tree V) (x : Placed V) → Falls low top (m ∷ ms) → AreListed low top (m ∷ ms) t
+  pub mask_hit : (address low top past : ℕ) (m : Placed V) (ms : List (Placed V)) (t : Tree V) (x : Placed V) → Falls low top (m ∷ ms)
+      → AreListed low top (m ∷ ms) t
       → Best address top past (λ y. IsIn y t) None → Finds (HasPair (masked m.entry.rank address) m.entry.rank) (λ y. IsIn y t) (Some x)
       → Best address low past (λ y. IsIn y t) (Some x)
   mask_hit address low top past m ms t x falls listed tried found = (
@@ -133,13 +130,16 @@ module _ {V : Type 0} where
       (cases_lt y.entry.rank m.entry.rank)
 
   -- what is listed behind the first mask
-  pub listed_behind : (low top : ℕ) (m : Placed V) (ms : List (Placed V)) (t : Tree V) → Falls low top (m ∷ ms) → AreListed low top (m ∷ ms) t → AreListed low m.entry.rank ms t
+  pub listed_behind : (low top : ℕ) (m : Placed V) (ms : List (Placed V)) (t : Tree V) → Falls low top (m ∷ ms) → AreListed low top (m ∷ ms) t
+      → AreListed low m.entry.rank ms t
   listed_behind low top m ms t falls listed y at least below =
       let first : m.entry.rank < top = falls.1 in
-      ⊎_elim (λ (e : m ≡ y). let same : m.entry.rank ≡ y.entry.rank = same_rank m y e in absurd (omega arith)) (λ (behind : IsAmong y ms). behind)
+      ⊎_elim (λ (e : m ≡ y). let same : m.entry.rank ≡ y.entry.rank = same_rank e in absurd (omega arith)) (λ (behind : IsAmong y ms). behind)
       (listed y at least (omega arith))
 
   -- at the end of the list all masks were tried
-  pub list_ends : (address low top past : ℕ) (t : Tree V) → AreListed low top [] t → Best address top past (λ y. IsIn y t) None → Best address low past (λ y. IsIn y t) None
+  pub list_ends : (address low top past : ℕ) (t : Tree V) → AreListed low top [] t → Best address top past (λ y. IsIn y t) None
+      → Best address low past (λ y. IsIn y t) None
   list_ends address low top past t listed tried y at covers below =
-      ⊎_elim (λ (lower : y.entry.rank < low). lower) (λ (ge : low ≤ y.entry.rank). absurd (listed y at ge (tried y at covers below))) (cases_lt y.entry.rank low)
+      ⊎_elim (λ (lower : y.entry.rank < low). lower) (λ (ge : low ≤ y.entry.rank). absurd (listed y at ge (tried y at covers below)))
+      (cases_lt y.entry.rank low)

@@ -1,14 +1,8 @@
 -- The rooms show the routes of the tree that they stand for.
 use Rattle.std.proofs.Common.{◌≡◌, ℕ, zero, suc, ◌+◌, ◌≤◌, List, [], ◌∷◌, ◌++◌, length, map, Option, Some, None, refl, sym, ap, ◌∙◌, arith}
-use Rattle.std.specs.Ordering.{nat_cmp}
-use Rattle.std.specs.FinMap.{FinMap}
-use Rattle.radix_nodes.specs.Rooms.{Seen}
-use Rattle.radix_nodes.specs.declared.id.Id.{Id}
-use Rattle.radix_nodes.specs.declared.links.Node.{Node}
-use Rattle.radix_tree.specs.Tree.{Placed, Tree, leaf, fork, IsTree, routes_of}
-use Rattle.radix_tree.specs.Rooms.{LeafPart, BitPart, Leaves, Bits, leaves_in, bits_in, first_room, name_of, ChainStands, Stands}
-use Rattle.radix_tree.specs.Whole.{chain_from, chain_shown, sides_from, beneath_shown, shown, IsWhole}
-use Rattle.radix_tree.specs.declared.entry.Entry.{Entry}
+use Rattle.radix_tree.proofs.Words.{Id, Node, Placed, Tree, leaf, fork, IsTree, routes_of, LeafPart, BitPart, Leaves, Bits, leaves_in, bits_in, first_room}
+use Rattle.radix_tree.proofs.Words.{name_of, ChainStands, Stands, chain_from, sides_from, shown, IsWhole, Entry, Lodged}
+use Rattle.radix_tree.specs.Whole.{chain_shown, beneath_shown}
 use Rattle.radix_tree.proofs.Scans.{chain_most}
 
 module _ {V : Type 0} where
@@ -23,7 +17,8 @@ module _ {V : Type 0} where
       ∙ ap (λ (es : List (Entry V)). x.entry ∷ es) (chain_is n L None (Some x.room) c (omega arith) stands.1)
 
   -- 33 levels are enough
-  pub beneath_is : (n low : ℕ) (L : Leaves V) (B : Bits) (above : Option Id) (t : Tree V) → IsTree low t → Stands L B above t → 33 ≤ low + n → beneath_shown n L B (name_of t) ≡ routes_of t
+  pub beneath_is : (n low : ℕ) (L : Leaves V) (B : Bits) (above : Option Id) (t : Tree V) → IsTree low t → Stands L B above t → 33 ≤ low + n
+      → beneath_shown n L B (name_of t) ≡ routes_of t
   unfolding beneath_shown
   beneath_is zero low L B above (leaf x xs) is stands enough = let most : low ≤ 32 = is.0 in absurd (omega arith)
   beneath_is (suc n) low L B above (leaf x xs) is stands enough = chain_is 34 L above None (x ∷ xs) (chain_most x.entry.key 34 (x ∷ xs) is.1) stands
@@ -35,8 +30,8 @@ module _ {V : Type 0} where
       ∙ ap (λ (es : List (Entry V)). es ++ beneath_shown n L B (name_of right)) (beneath_is n (b + 1) L B (Some room) left is.1 stands.1 (omega arith))
       ∙ ap (λ (es : List (Entry V)). routes_of left ++ es) (beneath_is n (b + 1) L B (Some room) right is.2 stands.2 (omega arith))
 
-  pub shown_is : (m : FinMap nat_cmp (Seen V)) (root : Node) (w : IsWhole m root) → shown m (Some root) ≡ routes_of w.part.tree
-  shown_is m root w =
+  pub shown_is : {m : Lodged V} {root : Node} (w : IsWhole m root) → shown m (Some root) ≡ routes_of w.part.tree
+  shown_is {m = m} w =
       let low : w.part.low ≡ 0 = w.low in
       ap (λ (n : Node). beneath_shown 33 (leaves_in m) (bits_in m) n) (sym w.named)
       ∙ beneath_is 33 w.part.low (leaves_in m) (bits_in m) w.part.above w.part.tree w.part.is w.part.stands (omega arith)

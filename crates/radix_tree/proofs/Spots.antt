@@ -1,30 +1,20 @@
 -- A walk up from a leaf to the spot at which a route of a new key comes in.
 use Rattle.std.proofs.Common.{◌≡◌, ℕ, ◌+◌, ◌<◌, ◌≤◌, [], Option, None, refl, sym, ap, ◌∙◌, subst, ⊎_elim, arith}
 use Rattle.std.proofs.lemmas.Bool.{cases_eq}
-use Rattle.std.specs.Ordering.{nat_cmp}
-use Rattle.std.specs.FinMap.{FinMap}
-use Rattle.radix_nodes.specs.Counting.{Counter}
-use Rattle.radix_nodes.specs.Rooms.{Seen}
-use Rattle.radix_nodes.specs.declared.id.Id.{Id}
-use Rattle.radix_nodes.specs.declared.links.BitNode.{BitNode}
-use Rattle.radix_nodes.specs.declared.links.Node.{Node}
-use Rattle.radix_nodes.specs.declared.links.Node.TheVariants.{Leaf as LeafOf, Bit as BitOf}
-use Rattle.radix_tree.specs.Growth.{AreOnce, IsNew, IsSpot, Differs}
-use Rattle.radix_tree.specs.Reads.{IsBitNodeOf, ReadsOnce}
-use Rattle.radix_tree.specs.Rooms.{Part, name_of}
-use Rattle.radix_tree.specs.Searches.{ForkAt, Beneath, LedTo}
-use Rattle.radix_tree.specs.Tree.{Tree, bit_at, HaveBit, IsTree}
+use Rattle.radix_tree.proofs.Words.{Counter, Id, BitNode, Node, LeafOf, BitOf, AreOnce, IsNew, IsSpot, Differs, IsBitNodeOf, ReadsOnce, Part, name_of, ForkAt}
+use Rattle.radix_tree.proofs.Words.{Beneath, LedTo, Tree, bit_at, HaveBit, IsTree, Lodged}
 use Rattle.radix_tree.proofs.AddressBits.{zero_or_one}
 use Rattle.radix_tree.proofs.Climbs.{Climb, Over, fork_over, node_at, ended, Steps, step_begun, step_risen}
 use Rattle.radix_tree.proofs.Forking.{one_value}
 use Rattle.radix_tree.proofs.Parts.{fork_is, fork_name}
 
-module _ {V : Type 0} {m : FinMap nat_cmp (Seen V)} where
+module _ {V : Type 0} {m : Lodged V} where
   -- a value that all keys of a part have at a bit before the node's above is that of all beneath the node
-  agree_up : (key c value : ℕ) (under over : Part m) (b : Beneath key under over) → c < b.at.bit → HaveBit c value under.tree → HaveBit c value over.tree
-  agree_up key c value under over b before have =
+  agree_up : (key c value : ℕ) (under : Part m) {over : Part m} (b : Beneath key under over) → c < b.at.bit → HaveBit c value under.tree
+      → HaveBit c value over.tree
+  agree_up key c value under b before have =
       let f = b.at in
-      let a = (fork_is m over b.room f).0.agree c before in
+      let a = (fork_is m f).0.agree c before in
       let same : a.0 ≡ value = ⊎_elim
       (λ (e : (under.tree ≡ f.zero) × (bit_at f.bit key ≡ 0)). one_value c a.0 value f.zero a.1 (subst (HaveBit c value) e.0 have))
       (λ (e : (under.tree ≡ f.one) × (bit_at f.bit key ≡ 1)). one_value c a.0 value f.one a.2 (subst (HaveBit c value) e.0 have))
@@ -35,16 +25,29 @@ module _ {V : Type 0} {m : FinMap nat_cmp (Seen V)} where
   own_side : (key : ℕ) (under over : Part m) (b : Beneath key under over) → HaveBit b.at.bit (bit_at b.at.bit key) under.tree
   own_side key under over b =
       let f = b.at in
-      let is = (fork_is m over b.room f).0 in
+      let is = (fork_is m f).0 in
       ⊎_elim
-      (λ (e : (under.tree ≡ f.zero) × (bit_at f.bit key ≡ 0)). subst (HaveBit f.bit (bit_at f.bit key)) (sym e.0) (subst (λ (v : ℕ). HaveBit f.bit v f.zero) (sym e.1) is.zeros))
-      (λ (e : (under.tree ≡ f.one) × (bit_at f.bit key ≡ 1)). subst (HaveBit f.bit (bit_at f.bit key)) (sym e.0) (subst (λ (v : ℕ). HaveBit f.bit v f.one) (sym e.1) is.ones))
+      (λ (e : (under.tree ≡ f.zero) × (bit_at f.bit key ≡ 0)). subst (HaveBit f.bit (bit_at f.bit key)) (sym e.0)
+      (subst (λ (v : ℕ). HaveBit f.bit v f.zero) (sym e.1) is.zeros))
+      (λ (e : (under.tree ≡ f.one) × (bit_at f.bit key ≡ 1)). subst (HaveBit f.bit (bit_at f.bit key)) (sym e.0)
+      (subst (λ (v : ℕ). HaveBit f.bit v f.one) (sym e.1) is.ones))
       b.side
 
-  raised : (over : Part m) (room : Id) (f : ForkAt over room) (bit : ℕ) → bit < f.bit → IsTree (bit + 1) over.tree
-  raised over room f bit past =
-      let is = fork_is m over room f in
-      subst (IsTree (bit + 1)) (sym f.is) (record { rises = omega arith; within = is.0.within; agree = is.0.agree; zeros = is.0.zeros; ones = is.0.ones }, is.1, is.2)
+  raised : {over : Part m} {room : Id} (f : ForkAt over room) (bit : ℕ) → bit < f.bit → IsTree (bit + 1) over.tree
+  raised f bit past =
+      let is = fork_is m f in
+      subst (IsTree (bit + 1)) (sym f.is) (
+        record {
+          rises = omega arith;
+          within = is.0.within;
+          agree = is.0.agree;
+          zeros = is.0.zeros;
+          ones =
+              is.0.ones;
+        },
+        is.1,
+        is.2,
+      )
 
   -- a part of this name, all of whose bits are past that one
   pub record Past (key other bit : ℕ) (below : Node) (start now : Counter) (part : Part m) : Type 0 where
@@ -55,7 +58,8 @@ module _ {V : Type 0} {m : FinMap nat_cmp (Seen V)} where
     pub steps : Steps start now part
 
   -- the leaf is one
-  pub leaf_past : {key bit : ℕ} {whole : Part m} {room : Id} {start now : Counter} (d : LedTo key whole room) → Differs key d.leaf.first.entry.key bit → ReadsOnce start now
+  pub leaf_past : {key bit : ℕ} {whole : Part m} {room : Id} {start now : Counter} (d : LedTo key whole room) → Differs key d.leaf.first.entry.key bit
+      → ReadsOnce start now
       → Past key d.leaf.first.entry.key bit (LeafOf room) start now d.part
   leaf_past {bit = bit} d differs once =
       let f = d.leaf in
@@ -69,21 +73,23 @@ module _ {V : Type 0} {m : FinMap nat_cmp (Seen V)} where
       }
 
   -- and so is that of a bit node above whose bit is past it
-  pub over_past : {key other bit : ℕ} {below : Node} {whole under : Part m} {room : Id} {start now later : Counter} {n : BitNode} (o : Over key whole under room) → Past key other bit below start now under → IsBitNodeOf m room n
+  pub over_past : {key other bit : ℕ} {below : Node} {whole under : Part m} {room : Id} {start now later : Counter} {n : BitNode}
+      (o : Over key whole under room) → Past key other bit below start now under → IsBitNodeOf m room n
       → bit < n.bit → ReadsOnce now later → Past key other bit (BitOf room) start later o.part
   over_past {key} {other} {bit} {under = under} {room} {n = n} o r is past once =
       let b = o.beneath in
       let same : n.bit ≡ b.at.bit = (node_at (fork_over o) is).bit in
       let further : bit < b.at.bit = omega (arith, past, same) in
       record {
-        named = fork_name m o.part room (fork_over o);
-        past = raised o.part b.room b.at bit further;
-        agree = λ c before. agree_up key c (bit_at c key) under o.part b (omega (arith, before, further)) (r.agree c before);
-        here = agree_up key bit (bit_at bit other) under o.part b further r.here;
+        named = fork_name m (fork_over o);
+        past = raised b.at bit further;
+        agree = λ c before. agree_up key c (bit_at c key) under b (omega (arith, before, further)) (r.agree c before);
+        here = agree_up key bit (bit_at bit other) under b further r.here;
         steps = step_risen o r.steps once;
       }
 
-  spot_of : {key other bit : ℕ} {above : Option Id} {below : Node} {whole : Part m} {start now : Counter} (c : Climb key whole (Past key other bit below start now) above) → whole.above ≡ None → AreOnce whole.tree → Differs key other bit
+  spot_of : {key other bit : ℕ} {above : Option Id} {below : Node} {whole : Part m} {start now : Counter}
+      (c : Climb key whole (Past key other bit below start now) above) → whole.above ≡ None → AreOnce whole.tree → Differs key other bit
       → c.part.low ≤ bit → IsSpot m key bit whole above below
   spot_of {other = other} {bit} c top once differs low =
       let r = c.holds in record {
@@ -97,27 +103,32 @@ module _ {V : Type 0} {m : FinMap nat_cmp (Seen V)} where
           within = differs.within;
           is = r.past;
           agree = r.agree;
-          far_one = λ clear. ⊎_elim (λ (zero : bit_at bit other ≡ 0). absurd (differs.at (clear ∙ sym zero))) (λ (one : bit_at bit other ≡ 1). subst (λ (v : ℕ). HaveBit bit v c.part.tree) one r.here) (zero_or_one bit other);
-          far_zero = λ set. ⊎_elim (λ (zero : bit_at bit other ≡ 0). subst (λ (v : ℕ). HaveBit bit v c.part.tree) zero r.here) (λ (one : bit_at bit other ≡ 1). absurd (differs.at (set ∙ sym one))) (zero_or_one bit other);
+          far_one = λ clear. ⊎_elim (λ (zero : bit_at bit other ≡ 0). absurd (differs.at (clear ∙ sym zero)))
+              (λ (one : bit_at bit other ≡ 1). subst (λ (v : ℕ). HaveBit bit v c.part.tree) one r.here) (zero_or_one bit other);
+          far_zero = λ set. ⊎_elim (λ (zero : bit_at bit other ≡ 0). subst (λ (v : ℕ). HaveBit bit v c.part.tree) zero r.here)
+              (λ (one : bit_at bit other ≡ 1). absurd (differs.at (set ∙ sym one))) (zero_or_one bit other);
         };
         above_is = c.above;
         named = r.named;
       }
 
   -- the spot is beneath the first bit node whose bit is not past the one at which the keys differ
-  pub stopped : {key bit : ℕ} {leaf room : Id} {below : Node} {start now : Counter} {n : BitNode} (w : IsNew m key bit leaf) {above : Option Id} (c : Climb key w.whole (Past key w.led.leaf.first.entry.key bit below start now) above)
+  pub stopped : {key bit : ℕ} {leaf room : Id} {below : Node} {start now : Counter} {n : BitNode} (w : IsNew m key bit leaf) {above : Option Id}
+      (c : Climb key w.whole (Past key w.led.leaf.first.entry.key bit below start now) above)
       → Over key w.whole c.part room → IsBitNodeOf m room n → n.bit ≤ bit → IsSpot m key bit w.whole above below
   stopped {key} {bit} {n = n} w c o is before =
       let other = w.led.leaf.first.entry.key in
       let b = o.beneath in
       let same : n.bit ≡ b.at.bit = (node_at (fork_over o) is).bit in
       let other_bit : b.at.bit ≡ bit → ⊥ = λ e. w.differs.at
-      (one_value bit (bit_at bit key) (bit_at bit other) c.part.tree (subst (λ (k : ℕ). HaveBit k (bit_at k key) c.part.tree) e (own_side key c.part o.part b)) c.holds.here) in
+      (one_value bit (bit_at bit key) (bit_at bit other) c.part.tree (subst (λ (k : ℕ). HaveBit k (bit_at k key) c.part.tree) e (own_side key c.part o.part b))
+      c.holds.here) in
       spot_of c w.top w.once w.differs
       (⊎_elim (λ (e : b.at.bit ≡ bit). absurd (other_bit e)) (λ (ne : b.at.bit ≡ bit → ⊥). omega (arith, ne, same, b.low, before)) (cases_eq b.at.bit bit))
 
   -- or above the whole tree
-  pub topped : {key bit : ℕ} {leaf : Id} {below : Node} {start now : Counter} (w : IsNew m key bit leaf) {above : Option Id} → Climb key w.whole (Past key w.led.leaf.first.entry.key bit below start now) above → above ≡ None
+  pub topped : {key bit : ℕ} {leaf : Id} {below : Node} {start now : Counter} (w : IsNew m key bit leaf) {above : Option Id}
+      → Climb key w.whole (Past key w.led.leaf.first.entry.key bit below start now) above → above ≡ None
       → IsSpot m key bit w.whole above below
   topped {key} w c is =
       spot_of (record { part = w.whole; above = w.top ∙ sym is; ups = []; way = refl; holds = ended c is }) w.top w.once w.differs (omega (arith, w.low))

@@ -1,11 +1,9 @@
 -- A table with or without an entry, by its first entry; and that it stays a table.
 use Rattle.std.proofs.Common.{◌≡◌, ℕ, Bool, true, false, cond, not, filter, IsTrue, List, [], ◌∷◌, Some, None, refl, ap}
-use Rattle.std.specs.List.{AllByRecursion}
-use Rattle.radix_tree.specs.Table.{precedes, IsTable, has_pair, entry_at, without, with_entry}
-use Rattle.radix_tree.specs.TableLaws.{AreOnePair, WithIsTable, WithoutIsTable}
-use Rattle.radix_tree.specs.declared.entry.Entry.{Entry}
+use Rattle.radix_tree.proofs.Words.{AllByRecursion, precedes, IsTable, has_pair, entry_at, without, with_entry, AreOnePair, WithIsTable, WithoutIsTable, Entry}
 use Rattle.radix_tree.proofs.ListLemmas.{all_weaker, all_filter, filter_all, filter_none, find_none}
-use Rattle.radix_tree.proofs.OrderLemmas.{stands_before, before, here, behind, beside, stands_behind, pair_is, behind_next, behind_not_before, behind_not_pair, precedes_one_way, precedes_transitively}
+use Rattle.radix_tree.proofs.OrderLemmas.{stands_before, before, here, behind, beside, stands_behind, pair_is, behind_next, behind_not_before, behind_not_pair}
+use Rattle.radix_tree.proofs.OrderLemmas.{precedes_one_way, precedes_transitively}
 
 -- behind an entry that doesn't stand before a pair, all stand behind the pair
 pub all_behind : {V : Type 0} (key rank : ℕ) (x : Entry V) (xs : List (Entry V)) → stands_before key rank x ≡ false
@@ -13,15 +11,19 @@ pub all_behind : {V : Type 0} (key rank : ℕ) (x : Entry V) (xs : List (Entry V
 all_behind key rank x xs h r = all_weaker (λ f. IsTrue (precedes x f)) (λ f. stands_behind key rank f ≡ true) (λ f k. behind_next key rank x f h k) xs r
 
 -- of what stands behind a pair nothing stands before it, and nothing has it
-pub none_before : {V : Type 0} (key rank : ℕ) (xs : List (Entry V)) → AllByRecursion (λ f. stands_behind key rank f ≡ true) xs → filter (stands_before key rank) xs ≡ []
+pub none_before : {V : Type 0} (key rank : ℕ) (xs : List (Entry V)) → AllByRecursion (λ f. stands_behind key rank f ≡ true) xs
+    → filter (stands_before key rank) xs ≡ []
 none_before key rank xs h =
-    filter_none (stands_before key rank) xs (all_weaker (λ f. stands_behind key rank f ≡ true) (λ f. stands_before key rank f ≡ false) (behind_not_before key rank) xs h)
+    filter_none (stands_before key rank) xs (all_weaker (λ f. stands_behind key rank f ≡ true) (λ f. stands_before key rank f ≡ false)
+    (behind_not_before key rank) xs h)
 
-pub all_stay : {V : Type 0} (key rank : ℕ) (xs : List (Entry V)) → AllByRecursion (λ f. stands_behind key rank f ≡ true) xs → filter (stands_behind key rank) xs ≡ xs
+pub all_stay : {V : Type 0} (key rank : ℕ) (xs : List (Entry V)) → AllByRecursion (λ f. stands_behind key rank f ≡ true) xs
+    → filter (stands_behind key rank) xs ≡ xs
 all_stay key rank xs h = filter_all (stands_behind key rank) xs h
 
 pub none_at : {V : Type 0} (key rank : ℕ) (xs : List (Entry V)) → AllByRecursion (λ f. stands_behind key rank f ≡ true) xs → entry_at key rank xs ≡ None
-none_at key rank xs h = find_none (has_pair key rank) xs (all_weaker (λ f. stands_behind key rank f ≡ true) (λ f. has_pair key rank f ≡ false) (behind_not_pair key rank) xs h)
+none_at key rank xs h =
+    find_none (has_pair key rank) xs (all_weaker (λ f. stands_behind key rank f ≡ true) (λ f. has_pair key rank f ≡ false) (behind_not_pair key rank) xs h)
 
 -- where a pair isn't there, nothing goes with it
 pub without_absent : {V : Type 0} (key rank : ℕ) (es : List (Entry V)) → entry_at key rank es ≡ None → without key rank es ≡ es

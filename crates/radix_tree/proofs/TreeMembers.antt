@@ -1,10 +1,8 @@
 -- The routes of a chain and of a tree.
 use Rattle.std.proofs.Common.{◌≡◌, ℕ, ◌+◌, ◌<◌, ◌≤◌, List, [], ◌∷◌, length, Option, Some, None, refl, ⊎_elim, ap, ◌∙◌, subst, arith}
-use Rattle.radix_nodes.specs.declared.id.Id.{Id}
-use Rattle.radix_tree.specs.Table.{IsRoute}
-use Rattle.radix_tree.specs.Rooms.{Leaves, Bits, first_room, leaf_part, ChainStands, Stands}
+use Rattle.radix_tree.proofs.Words.{Id, IsRoute, Leaves, Bits, first_room, leaf_part, ChainStands, Stands, Placed, Tree, leaf, fork, bit_at, IsAmong, IsIn}
+use Rattle.radix_tree.proofs.Words.{IsChain, IsTree, HaveBit}
 use Rattle.radix_tree.proofs.RoomReads.{inside, none_some}
-use Rattle.radix_tree.specs.Tree.{Placed, Tree, leaf, fork, bit_at, IsAmong, IsIn, IsChain, IsTree, HaveBit}
 
 module _ {V : Type 0} where
   -- a list begins with a route in this room
@@ -14,12 +12,12 @@ module _ {V : Type 0} where
     pub is : ms ≡ first ∷ behind
     pub room_is : first.room ≡ room
 
-  pub head_of : (ms : List (Placed V)) (room : Id) → first_room ms ≡ Some room → IsHead ms room
-  head_of [] room begins = absurd (none_some begins)
-  head_of (x ∷ xs) room begins = record { first = x; behind = xs; is = refl; room_is = inside begins }
+  pub head_of : (ms : List (Placed V)) {room : Id} → first_room ms ≡ Some room → IsHead ms room
+  head_of [] begins = absurd (none_some begins)
+  head_of (x ∷ xs) begins = record { first = x; behind = xs; is = refl; room_is = inside begins }
 
-  pub same_rank : (x y : Placed V) → x ≡ y → x.entry.rank ≡ y.entry.rank
-  same_rank x y e = ap (λ (p : Placed V). p.entry.rank) e
+  pub same_rank : {x y : Placed V} → x ≡ y → x.entry.rank ≡ y.entry.rank
+  same_rank e = ap (λ (p : Placed V). p.entry.rank) e
 
   pub chain_route : (key top : ℕ) (c : List (Placed V)) → IsChain key top c → (x : Placed V) → IsAmong x c → IsRoute x.entry
   chain_route key top [] is x among = absurd among
@@ -39,9 +37,10 @@ module _ {V : Type 0} where
       (λ (behind : IsAmong x c). let lower : x.entry.rank < y.entry.rank = chain_below key y.entry.rank c is.3 x behind in omega arith) among
 
   -- of a chain the first route is of greatest rank
-  pub first_greatest : (key top : ℕ) (x : Placed V) (c : List (Placed V)) → IsChain key top (x ∷ c) → (y : Placed V) → IsAmong y (x ∷ c) → y.entry.rank ≤ x.entry.rank
+  pub first_greatest : (key top : ℕ) (x : Placed V) (c : List (Placed V)) → IsChain key top (x ∷ c) → (y : Placed V) → IsAmong y (x ∷ c)
+      → y.entry.rank ≤ x.entry.rank
   first_greatest key top x c is y among =
-      ⊎_elim (λ (e : x ≡ y). let same : x.entry.rank ≡ y.entry.rank = same_rank x y e in omega arith)
+      ⊎_elim (λ (e : x ≡ y). let same : x.entry.rank ≡ y.entry.rank = same_rank e in omega arith)
       (λ (behind : IsAmong y c). let lower : y.entry.rank < x.entry.rank = chain_below key x.entry.rank c is.3 y behind in omega arith) among
 
   pub chain_short : (key top : ℕ) (c : List (Placed V)) → IsChain key top c → length c ≤ top

@@ -1,14 +1,12 @@
 -- The routes of a tree, from left to right, are a table.
 use Rattle.std.proofs.Common.{◌≡◌, ℕ, suc, ◌+◌, ◌*◌, ◌-◌, ◌/◌, ◌^◌, ◌<◌, ◌≤◌, IsTrue, List, [], ◌∷◌, ◌++◌, map, refl, inl, inr, ⊎_elim, sym, ◌∙◌, arith}
-use Rattle.std.specs.List.{AllByRecursion}
 use Rattle.std.proofs.lemmas.Bool.{cases_lt}
 use Rattle.std.proofs.Math.Nat.{div-mul-le_self}
 use Rattle.std.proofs.lemmas.Nat.{le-div, pow_pos}
-use Rattle.mask_table.specs.Agreeing.{front, bit}
 use Rattle.mask_table.proofs.Agreeing.{front_of_bits, front_suc}
-use Rattle.radix_tree.specs.Table.{precedes, IsTable}
-use Rattle.radix_tree.specs.Tree.{Placed, Tree, leaf, fork, bit_at, IsAmong, IsIn, IsChain, IsFork, IsTree, routes_of}
-use Rattle.radix_tree.specs.declared.entry.Entry.{Entry}
+use Rattle.radix_tree.proofs.Words.{AllByRecursion, front, bit, precedes, IsTable, Placed, Tree, leaf, fork, IsAmong, IsIn, IsChain, IsFork, IsTree, routes_of}
+use Rattle.radix_tree.proofs.Words.{Entry}
+use Rattle.radix_tree.specs.Tree.{bit_at}
 use Rattle.radix_tree.proofs.ListLemmas.{all_append}
 use Rattle.radix_tree.proofs.OrderLemmas.{precedes_in_words}
 use Rattle.radix_tree.proofs.TreeMembers.{chain_key, chain_below, tree_route, bit_beneath}
@@ -25,7 +23,8 @@ less b x y within fits_x fits_y same zero one =
     let of_x : front (suc b) x ≡ 2 * front b x + bit b x = front_suc b x inside in
     let of_y : front (suc b) y ≡ 2 * front b y + bit b y = front_suc b y inside in
     let more : front (suc b) x < front (suc b) y = omega (arith, before, of_x, of_y, zero, one) in
-    ⊎_elim (λ (lt : x < y). lt) (λ (ge : y ≤ x). let le : front (suc b) y ≤ front (suc b) x = monotone (32 - suc b) x y ge in absurd (omega (arith, more, le))) (cases_lt x y)
+    ⊎_elim (λ (lt : x < y). lt) (λ (ge : y ≤ x). let le : front (suc b) y ≤ front (suc b) x = monotone (32 - suc b) x y ge in absurd (omega (arith, more, le)))
+    (cases_lt x y)
 
 module _ {V : Type 0} where
   -- ---- what holds of all routes of a tree
@@ -44,7 +43,11 @@ module _ {V : Type 0} where
   chain_is_table key top (x ∷ c) is = (
     is.0,
     all_among (λ f. IsTrue (precedes x.entry f)) c
-        (λ y among. (precedes_in_words x.entry y.entry).1 (inr (is.1 ∙ sym (chain_key key x.entry.rank c is.3 y among), chain_below key x.entry.rank c is.3 y among))),
+        (λ y among. (precedes_in_words x.entry y.entry).1 (inr (
+          is.1 ∙ sym (chain_key key x.entry.rank c is.3 y among),
+          chain_below key x.entry.rank c is.3 y
+              among,
+        ))),
     chain_is_table key x.entry.rank c is.3,
   )
 
@@ -57,11 +60,14 @@ module _ {V : Type 0} where
   )
 
   -- what is beneath a bit node on the one side precedes what is on the other
-  sides_precede : (low b : ℕ) (zero one : Tree V) → IsFork low b zero one → IsTree (b + 1) zero → IsTree (b + 1) one → (x y : Placed V) → IsIn x zero → IsIn y one
+  sides_precede : (low b : ℕ) (zero one : Tree V) → IsFork low b zero one → IsTree (b + 1) zero → IsTree (b + 1) one → (x y : Placed V) → IsIn x zero
+      → IsIn y one
       → IsTrue (precedes x.entry y.entry)
   sides_precede low b zero one is zeros ones x y left right =
-      (precedes_in_words x.entry y.entry).1 (inl (less b x.entry.key y.entry.key is.within (tree_route (b + 1) zero zeros x left).address (tree_route (b + 1) one ones y right).address
-      (λ c before. let agreed = is.agree c before in bit_beneath (b + 1) c agreed.0 zero zeros agreed.1 x left ∙ sym (bit_beneath (b + 1) c agreed.0 one ones agreed.2 y right))
+      (precedes_in_words x.entry y.entry).1 (inl (less b x.entry.key y.entry.key is.within (tree_route (b + 1) zero zeros x left).address
+      (tree_route (b + 1) one ones y right).address
+      (λ c before. let agreed =
+      is.agree c before in bit_beneath (b + 1) c agreed.0 zero zeros agreed.1 x left ∙ sym (bit_beneath (b + 1) c agreed.0 one ones agreed.2 y right))
       (bit_beneath (b + 1) b 0 zero zeros is.zeros x left) (bit_beneath (b + 1) b 1 one ones is.ones y right)))
 
   pub tree_is_table : (low : ℕ) (t : Tree V) → IsTree low t → IsTable (routes_of t)

@@ -1,19 +1,11 @@
 -- A walk up a tree from the leaf of an address, in search of its best route.
 use Rattle.std.proofs.Common.{◌≡◌, ℕ, ◌+◌, ◌-◌, ◌*◌, ◌≤◌, ◌∷◌, Option, Some, None, subst, arith}
-use Rattle.std.specs.Ordering.{nat_cmp}
-use Rattle.std.specs.FinMap.{FinMap}
-use Rattle.radix_nodes.specs.Counting.{Counter}
-use Rattle.radix_nodes.specs.Rooms.{Seen}
-use Rattle.radix_nodes.specs.declared.id.Id.{Id}
-use Rattle.radix_tree.specs.Reads.{Reads}
-use Rattle.radix_tree.specs.Rooms.{Part}
-use Rattle.radix_tree.specs.Searches.{Tells, Best, In, LedTo}
-use Rattle.radix_tree.specs.Tree.{IsAmong, IsTree}
+use Rattle.radix_tree.proofs.Words.{Counter, Id, Reads, Part, Tells, Best, In, LedTo, IsAmong, IsTree, Lodged}
 use Rattle.radix_tree.proofs.Climbs.{Over, fork_over}
 use Rattle.radix_tree.proofs.Parts.{fork_is, among_leaf, in_leaf, side_of, way_best}
 use Rattle.radix_tree.proofs.Searching.{listed_hit, listed_miss}
 
-module _ {V : Type 0} {m : FinMap nat_cmp (Seen V)} where
+module _ {V : Type 0} {m : Lodged V} where
   -- all beneath a part was searched in vain
   pub record Searched (address : ℕ) (start now : Counter) (part : Part m) : Type 0 where
     pub none : Best address part.low 34 (In part) None
@@ -29,7 +21,7 @@ module _ {V : Type 0} {m : FinMap nat_cmp (Seen V)} where
         told.0,
         told.1,
         way_best m address whole l.part l.ups l.way told.0
-            (in_leaf m l.part room l.leaf told.0 best.0, best.1, λ y at covers below. best.2 y (among_leaf m l.part room l.leaf y at) covers below),
+            (in_leaf m l.leaf told.0 best.0, best.1, λ y at covers below. best.2 y (among_leaf m l.leaf y at) covers below),
       )
 
   pub searched : {address : ℕ} {whole : Part m} {room : Id} {start now : Counter} (l : LedTo address whole room) {o : Option Id} → o ≡ None
@@ -38,32 +30,36 @@ module _ {V : Type 0} {m : FinMap nat_cmp (Seen V)} where
       let told = subst (Tells (Best address 0 34 (λ y. IsAmong y (l.leaf.first ∷ l.leaf.rest)))) none tells in
       let low = (subst (IsTree l.part.low) l.leaf.is l.part.is).0 in
       record {
-        none = λ y at covers below. let never = told y (among_leaf m l.part room l.leaf y at) covers below in omega (arith, never);
+        none = λ y at covers below. let never = told y (among_leaf m l.leaf y at) covers below in omega (arith, never);
         rises = soon.rises;
         few = omega (arith, low);
       }
 
   -- ---- at a bit node above: its list has a route of the address
-  pub hit : {address : ℕ} {whole under : Part m} {room found : Id} {start now : Counter} (o : Over address whole under room) {answer : Option Id} → Searched address start now under → answer ≡ Some found
+  pub hit : {address : ℕ} {whole under : Part m} {room found : Id} {start now : Counter} (o : Over address whole under room) {answer : Option Id}
+      → Searched address start now under → answer ≡ Some found
       → Tells (Best address o.part.low ((fork_over o).bit + 1) (In o.part)) answer → Tells (Best address 0 34 (In whole)) (Some found)
   hit {address} {whole} {under} o s some tells =
       let b = o.beneath in
       let told = subst (Tells (Best address o.part.low (b.at.bit + 1) (In o.part))) some tells in (
         told.0,
         told.1,
-        way_best m address whole o.part o.ups o.way told.0 (listed_hit address o.part.low b.at.bit under.tree o.part.tree told.0 (side_of m address under o.part b)
+        way_best m address whole o.part o.ups o.way told.0 (listed_hit address o.part.low b.at.bit under.tree o.part.tree told.0 (side_of m b)
             (subst (λ (n : ℕ). Best address n 34 (In under) None) b.low s.none) told.2),
       )
 
   -- or none
-  pub miss : {address : ℕ} {whole under : Part m} {room : Id} {start now later : Counter} (o : Over address whole under room) {answer : Option Id} → Searched address start now under → answer ≡ None
-      → Tells (Best address o.part.low ((fork_over o).bit + 1) (In o.part)) answer → Reads now later (67 * ((fork_over o).bit + 1 - o.part.low) + 1) → Searched address start later o.part
+  pub miss : {address : ℕ} {whole under : Part m} {room : Id} {start now later : Counter} (o : Over address whole under room) {answer : Option Id}
+      → Searched address start now under → answer ≡ None
+      → Tells (Best address o.part.low ((fork_over o).bit + 1) (In o.part)) answer → Reads now later (67 * ((fork_over o).bit + 1 - o.part.low) + 1)
+      → Searched address start later o.part
   miss {address} {whole} {under} {room} o s none tells more =
       let b = o.beneath in
       let told = subst (Tells (Best address o.part.low (b.at.bit + 1) (In o.part))) none tells in
-      let rises = (fork_is m o.part room (fork_over o)).0.rises in
+      let rises = (fork_is m (fork_over o)).0.rises in
       record {
-        none = listed_miss address o.part.low b.at.bit under.tree o.part.tree (side_of m address under o.part b) (subst (λ (n : ℕ). Best address n 34 (In under) None) b.low s.none) told;
+        none = listed_miss address o.part.low b.at.bit under.tree o.part.tree (side_of m b) (subst (λ (n : ℕ). Best address n 34 (In under) None) b.low s.none)
+            told;
         rises = omega arith;
         few = omega (arith, rises, b.low, s.few);
       }

@@ -1,13 +1,10 @@
 -- A route comes into the chain of a leaf, or goes from it.
 use Rattle.std.specs.Prelude.{◌≡◌, ℕ, ◌+◌, ◌<◌, ◌≤◌, ◌==◌, if◌then◌else◌, List, [], ◌∷◌, ◌++◌, length, Option, None, Some}
-use Rattle.std.specs.Ordering.{nat_cmp}
-use Rattle.std.specs.FinMap.{FinMap}
 use Rattle.radix_nodes.specs.declared.id.Id.{Id}
-use Rattle.radix_nodes.specs.Rooms.{Seen}
 use Rattle.radix_nodes.specs.declared.links.Leaf.{Leaf}
 use Rattle.radix_nodes.specs.declared.links.Node.{Node}
 use Rattle.radix_tree.specs.Tree.{Placed, IsAmong}
-use Rattle.radix_tree.specs.Rooms.{LeafPart, Run, first_room}
+use Rattle.radix_tree.specs.Rooms.{LeafPart, Run, first_room, Lodged}
 use Rattle.radix_tree.specs.Growth.{root_after}
 use Rattle.radix_tree.specs.Writes.{lodge_leaf}
 
@@ -64,7 +61,7 @@ module _ {V : Type 0} where
   IsBelow rank [] = Unit {0}
   IsBelow rank (x ∷ xs) = x.entry.rank < rank
 
-  module _ {m : FinMap nat_cmp (Seen V)} where
+  module _ {m : Lodged V} where
     -- a walk along a chain that has passed members of greater ranks
     pub record Passed (rank : ℕ) (c : Run m) (above previous next : Option Id) (steps : ℕ) : Type 0 where
       pub front : List (Placed V)

@@ -1,12 +1,9 @@
 -- A part of a tree is exchanged for another: the bit nodes above it stay, and the lowest of them names the other part.
 use Rattle.std.specs.Prelude.{◌≡◌, ℕ, ◌+◌, ◌<◌, ◌≤◌, List, [], ◌∷◌}
-use Rattle.std.specs.Ordering.{nat_cmp}
-use Rattle.std.specs.FinMap.{FinMap}
 use Rattle.radix_nodes.specs.declared.id.Id.{Id}
-use Rattle.radix_nodes.specs.Rooms.{Seen}
 use Rattle.radix_nodes.specs.declared.links.Node.{Node}
 use Rattle.radix_tree.specs.Tree.{Tree, fork, bit_at, HaveBit}
-use Rattle.radix_tree.specs.Rooms.{Part, leaves_in, bits_in, name_of}
+use Rattle.radix_tree.specs.Rooms.{Part, leaves_in, bits_in, name_of, Lodged}
 use Rattle.radix_tree.specs.Whole.{leaves_at, forks_at}
 use Rattle.radix_tree.specs.Growth.{name_child}
 
@@ -45,7 +42,7 @@ module _ {V : Type 0} where
 
   -- the part in the rooms of now can stand in the place of that in the rooms of before; outside of it the rooms say
   -- what they said, but for the bit node above, which names it
-  pub record IsExchange (m new : FinMap nat_cmp (Seen V)) (key : ℕ) (whole at : Part m) (under : Part new)
+  pub record IsExchange (m new : Lodged V) (key : ℕ) (whole at : Part m) (under : Part new)
       : Type 0 where
     pub low : under.low ≡ at.low
     pub above : under.above ≡ at.above
@@ -55,7 +52,7 @@ module _ {V : Type 0} where
         → bits_in new n ≡ name_child at.above key (name_of under.tree) n (bits_in m n)
 
   -- the whole, with the other part in that one's place
-  pub record Exchanged (m new : FinMap nat_cmp (Seen V)) (key : ℕ) (whole at : Part m) (under : Part new)
+  pub record Exchanged (m new : Lodged V) (key : ℕ) (whole at : Part m) (under : Part new)
       (root : Node) : Type 0 where
     pub frames : List (Frame V)
     pub was : whole.tree ≡ plug frames at.tree

@@ -1,16 +1,15 @@
 -- A route comes into a tree.
 use Rattle.std.specs.Prelude.{◌≡◌, ℕ, ◌+◌, ◌<◌, ◌≤◌, ◌==◌, if◌then◌else◌, List, [], ◌∷◌, ◌++◌, Option, None, Some}
-use Rattle.std.specs.Ordering.{nat_cmp}
-use Rattle.std.specs.FinMap.{FinMap}
+use Rattle.std.specs.FinMap.{get}
+use Rattle.radix_nodes.specs.Rooms.{Rooms}
 use Rattle.radix_nodes.specs.declared.id.Id.{Id}
-use Rattle.radix_nodes.specs.Rooms.{Seen}
 use Rattle.radix_nodes.specs.declared.links.Node.{Node}
 use Rattle.radix_nodes.specs.declared.links.Node.TheVariants.{Leaf as LeafOf, Bit as BitOf}
 use Rattle.radix_tree.specs.Bounds.{last_bit}
 use Rattle.radix_tree.specs.Tree.{Placed, Tree, leaf, fork, bit_at, HaveBit, IsTree}
-use Rattle.radix_tree.specs.Rooms.{BitPart, Part, leaves_in, bits_in, leaf_part, name_of}
+use Rattle.radix_tree.specs.Rooms.{BitPart, Part, leaves_in, bits_in, leaf_part, name_of, Lodged}
 use Rattle.radix_tree.specs.Searches.{Way, LedTo}
-use Rattle.radix_tree.specs.Whole.{leaves_at, forks_at}
+use Rattle.radix_tree.specs.Whole.{leaves_at, forks_at, IsWhole}
 use Rattle.radix_tree.specs.Writes.{lift_leaf, lift_bit}
 use Rattle.radix_tree.specs.declared.entry.Entry.{Entry}
 
@@ -63,6 +62,20 @@ module _ {V : Type 0} where
     pub far_one : bit_at bit key ≡ 0 → HaveBit bit 1 t
     pub far_zero : bit_at bit key ≡ 1 → HaveBit bit 0 t
 
+  -- a room is made, and no route stands in it
+  pub record IsSpare (nodes : Rooms V) (room : ℕ) : Type 0 where
+    pub made : room < nodes.next
+    pub free : get nodes.lodged room ≡ None
+
+  -- the bits of a key lead to this leaf, which has the key
+  abbrev pub HasKeyAt : Lodged V → Node → ℕ → Id → Type 0
+  HasKeyAt m root key room = (w : IsWhole m root) × (d : LedTo key w.part room) × (d.leaf.first.entry.key ≡ key)
+
+  -- or to this leaf, from whose key it differs, at this bit first
+  abbrev pub DiffersAt : Lodged V → Node → ℕ → Id → ℕ → Type 0
+  DiffersAt m root key room bit = (w : IsWhole m root) × (d : LedTo key w.part room)
+      × Differs key d.leaf.first.entry.key bit
+
   -- no room is two leaves of the tree or two bit nodes
   pub record AreOnce (t : Tree V) : Type 0 where
     pub leaves : (n : ℕ) → leaves_at n t ≤ 1
@@ -77,7 +90,7 @@ module _ {V : Type 0} where
       then fork x.room bit t (leaf x []) else fork x.room bit (leaf x []) t
 
   -- where a route comes in: the part beneath the new bit node, and the way up from it
-  pub record IsSpot (m : FinMap nat_cmp (Seen V)) (key bit : ℕ) (whole : Part m) (above : Option Id)
+  pub record IsSpot (m : Lodged V) (key bit : ℕ) (whole : Part m) (above : Option Id)
       (below : Node) : Type 0 where
     pub at : Part m
     pub ups : List (Part m)
@@ -89,7 +102,7 @@ module _ {V : Type 0} where
     pub named : name_of at.tree ≡ below
 
   -- a route stands in a room that was not in the map, which is its leaf and this bit node above that
-  pub record IsLodged (m new : FinMap nat_cmp (Seen V)) (room : Id) (e : Entry V) (node : BitPart) : Type 0 where
+  pub record IsLodged (m new : Lodged V) (room : Id) (e : Entry V) (node : BitPart) : Type 0 where
     pub no_leaf : leaves_in m room.number ≡ None
     pub no_bit : bits_in m room.number ≡ None
     pub leaf : leaves_in new room.number ≡ Some (leaf_part (placed room e) (Some room) None None)
@@ -99,7 +112,7 @@ module _ {V : Type 0} where
 
   -- what the rooms say once this route stands in a room of its own, beneath a new bit node in that room, which came
   -- between the bit node above a place and the node beneath it
-  pub record IsBeside (m new : FinMap nat_cmp (Seen V)) (bit : ℕ) (x : Placed V) (above : Option Id)
+  pub record IsBeside (m new : Lodged V) (bit : ℕ) (x : Placed V) (above : Option Id)
       (below : Node) : Type 0 where
     pub no_leaf : leaves_in m x.room.number ≡ None
     pub no_bit : bits_in m x.room.number ≡ None
@@ -110,7 +123,7 @@ module _ {V : Type 0} where
         → bits_in new n ≡ lift_bit below (Some x.room) n (name_child above x.entry.key (BitOf x.room) n (bits_in m n))
 
   -- a key that no route has: the leaf to which its bits lead, and the first bit at which it differs from that leaf's
-  pub record IsNew (m : FinMap nat_cmp (Seen V)) (key bit : ℕ) (leaf : Id) : Type 0 where
+  pub record IsNew (m : Lodged V) (key bit : ℕ) (leaf : Id) : Type 0 where
     pub whole : Part m
     pub led : LedTo key whole leaf
     pub top : whole.above ≡ None

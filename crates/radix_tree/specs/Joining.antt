@@ -1,13 +1,10 @@
 -- A route that is alone at its leaf goes from a tree, and with it the bit node above: what that has on its other side
 -- takes its place.
-use Rattle.std.specs.Prelude.{ℕ, ◌≡◌, ◌<◌, ◌≤◌, ◌⊎◌, ◌==◌, if◌then◌else◌, List, [], Option, None, Some}
-use Rattle.std.specs.Ordering.{nat_cmp}
-use Rattle.std.specs.FinMap.{FinMap}
+use Rattle.std.specs.Prelude.{ℕ, ◌≡◌, ◌<◌, ◌≤◌, ◌⊎◌, ◌==◌, if◌then◌else◌, List, [], Option, None, Some, is_some, true}
 use Rattle.radix_nodes.specs.declared.id.Id.{Id}
 use Rattle.radix_nodes.specs.declared.links.Node.{Node}
-use Rattle.radix_nodes.specs.Rooms.{Seen}
 use Rattle.radix_tree.specs.Tree.{Placed, Tree, leaf, fork, bit_at, IsIn}
-use Rattle.radix_tree.specs.Rooms.{MaskPart, Part, heads_in, masks_in}
+use Rattle.radix_tree.specs.Rooms.{LeafPart, MaskPart, Part, leaves_in, heads_in, masks_in, Lodged}
 use Rattle.radix_tree.specs.Whole.{forks_at, HasHome}
 use Rattle.radix_tree.specs.Searches.{Way}
 use Rattle.radix_tree.specs.Growth.{AreOnce}
@@ -28,8 +25,13 @@ module _ {V : Type 0} where
     pub up_is : (n : ℕ) → 1 ≤ forks_at n t → n ≡ up.number → ⊥
     pub above_is : (over : Id) → above ≡ Some over → (n : ℕ) → 1 ≤ forks_at n t → n ≡ over.number → ⊥
 
+  -- a room's route is alone at its leaf, and beneath a bit node
+  abbrev pub IsLonely : Lodged V → Id → Type 0
+  IsLonely m at = (p : LeafPart V) → leaves_in m at.number ≡ Some p
+      → (p.leaf.next ≡ None) × (p.leaf.previous ≡ None) × (is_some p.leaf.above ≡ true)
+
   -- a room's route is alone at its leaf, beneath this bit node
-  pub record IsLone (m : FinMap nat_cmp (Seen V)) (whole : Part m) (at up : Id) : Type 0 where
+  pub record IsLone (m : Lodged V) (whole : Part m) (at up : Id) : Type 0 where
     pub route : Placed V
     pub room_is : route.room ≡ at
     pub over : Part m
@@ -43,7 +45,7 @@ module _ {V : Type 0} where
 
   -- the list of the bit node that goes is with the other side, but for the masks that have no bit node at or past their
   -- rank any more, which are not listed
-  pub record IsHanded (m new : FinMap nat_cmp (Seen V)) (low : ℕ) (t other : Tree V) : Type 0 where
+  pub record IsHanded (m new : Lodged V) (low : ℕ) (t other : Tree V) : Type 0 where
     pub heads : (n : ℕ) → forks_at n t ≡ 0 → heads_in new n ≡ heads_in m n
     pub masks : (n : ℕ) → ((y : Placed V) → IsIn y t → low ≤ y.entry.rank → y.room.number ≡ n → ⊥)
         → masks_in new n ≡ masks_in m n

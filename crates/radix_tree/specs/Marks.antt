@@ -1,13 +1,15 @@
 -- A table's rooms while it changes: the masks of some routes may not be listed yet, and a room may be on its way out.
-use Rattle.std.specs.Prelude.{◌≡◌, ℕ, ◌+◌, ◌≤◌, ◌⊎◌, ◌==◌, ◌||◌, Bool, true, false, List, Option, None, Some, is_some}
-use Rattle.std.specs.Ordering.{nat_cmp}
-use Rattle.std.specs.FinMap.{FinMap}
+use Rattle.std.specs.Prelude.{◌≡◌, ℕ, ◌+◌, ◌≤◌, ◌⊎◌, ◌==◌, ◌&&◌, ◌||◌, not, Bool, true, false, List, Option, None, Some, is_some}
 use Rattle.radix_nodes.specs.declared.id.Id.{Id}
-use Rattle.radix_nodes.specs.Rooms.{Seen}
 use Rattle.radix_nodes.specs.declared.links.Node.{Node}
 use Rattle.radix_tree.specs.Tree.{Placed, Tree, leaf, fork, IsAmong, IsIn}
-use Rattle.radix_tree.specs.Rooms.{LeafPart, MaskPart, Heads, Masks, Part, leaves_in, bits_in, heads_in, masks_in, first_room, name_of, MasksStand, Falls}
+use Rattle.radix_tree.specs.Rooms.{LeafPart, MaskPart, Heads, Masks, Part, leaves_in, bits_in, heads_in, masks_in}
+use Rattle.radix_tree.specs.Rooms.{first_room, name_of, MasksStand, Falls, Lodged}
 use Rattle.radix_tree.specs.Whole.{one_if, leaves_at, forks_at, HasHome, HaveOneFork}
+
+-- no room is on its way out
+abbrev pub nobody_out : ℕ → ℕ
+nobody_out n = 0
 
 module _ {V : Type 0} where
   -- the route's mask is listed somewhere
@@ -35,7 +37,7 @@ module _ {V : Type 0} where
 
   -- the rooms of a map stand for a tree, but that the masks of the routes in some rooms may not be listed, and that
   -- some rooms are not of the tree
-  pub record IsWholeBut (m : FinMap nat_cmp (Seen V)) (root : Node) (late : ℕ → Bool) (out : ℕ → ℕ) : Type 0 where
+  pub record IsWholeBut (m : Lodged V) (root : Node) (late : ℕ → Bool) (out : ℕ → ℕ) : Type 0 where
     pub part : Part m
     pub low : part.low ≡ 0
     pub top : part.above ≡ None
@@ -49,16 +51,21 @@ module _ {V : Type 0} where
     pub all : (x : Placed V) → IsIn x part.tree → HasHome x.entry.key x.entry.rank part.tree
         → IsMarked (masks_in m) x ⊎ (late x.room.number ≡ true)
 
+  -- where masks of some routes were late, that of the route in this room is not any more
+  abbrev pub ListsMaskOf : Lodged V → Lodged V → Id → Type 0
+  ListsMaskOf old new room = (root : Node) (late : ℕ → Bool) → IsWholeBut old root late nobody_out
+      → IsWholeBut new root (λ n. late n && not (n == room.number)) nobody_out
+
   -- the room has a route of this key
   abbrev pub is_of_key : ℕ → Option (LeafPart V) → Bool
   is_of_key key None = false
   is_of_key key (Some p) = p.leaf.key == key
 
-  abbrev pub has_key : FinMap nat_cmp (Seen V) → ℕ → ℕ → Bool
+  abbrev pub has_key : Lodged V → ℕ → ℕ → Bool
   has_key m key n = is_of_key key (leaves_in m n)
 
   -- a room more is in use, and each other one as before
-  abbrev pub HasRoomMore : FinMap nat_cmp (Seen V) → FinMap nat_cmp (Seen V) → ℕ → Type 0
+  abbrev pub HasRoomMore : Lodged V → Lodged V → ℕ → Type 0
   HasRoomMore old new room = (n : ℕ) → is_some (leaves_in new n) ≡ (n == room) || is_some (leaves_in old n)
 
 -- no route is late
@@ -69,10 +76,6 @@ nobody_late n = false
 abbrev pub late_at : ℕ → ℕ → Bool
 late_at room n = n == room
 
--- no room is on its way out
-abbrev pub nobody_out : ℕ → ℕ
-nobody_out n = 0
-
--- this one is
+-- this room is on its way out
 abbrev pub out_at : ℕ → ℕ → ℕ
 out_at room n = one_if (n == room)

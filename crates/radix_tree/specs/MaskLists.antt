@@ -1,12 +1,9 @@
 -- One list of masks, longer ones first: its members, and what comes of it.
-use Rattle.std.specs.Prelude.{◌≡◌, ℕ, ◌+◌, ◌≤◌, ◌==◌, nat_lt, if◌then◌else◌, List, [], ◌∷◌, ◌++◌, Option, None, Some}
-use Rattle.std.specs.Ordering.{nat_cmp}
-use Rattle.std.specs.FinMap.{FinMap}
-use Rattle.radix_nodes.specs.Rooms.{Seen}
+use Rattle.std.specs.Prelude.{◌≡◌, ℕ, ◌+◌, ◌≤◌, ◌==◌, nat_lt, if◌then◌else◌, List, [], ◌∷◌, ◌++◌, Option, None, Some, is_some}
 use Rattle.radix_nodes.specs.declared.id.Id.{Id}
 use Rattle.radix_tree.specs.Bounds.{ranks}
 use Rattle.radix_tree.specs.Tree.{Placed, IsAmong}
-use Rattle.radix_tree.specs.Rooms.{LeafPart, BitPart, MaskPart, Leaves, Part, leaves_in, bits_in, masks_in, first_room, MasksStand, Falls}
+use Rattle.radix_tree.specs.Rooms.{LeafPart, BitPart, MaskPart, Leaves, Part, leaves_in, bits_in, heads_in, masks_in, first_room, MasksStand, Falls, Lodged}
 use Rattle.radix_tree.specs.Searches.{Way, ForkAt}
 use Rattle.radix_tree.specs.Whole.{HasHome}
 
@@ -78,27 +75,45 @@ module _ {V : Type 0} where
   AreRanked L (x ∷ xs) = IsRanked L x × AreRanked L xs
 
   -- a list of masks that begins with this room, or of none
-  pub record IsMasks (m : FinMap nat_cmp (Seen V)) (first : Option Id) (ms : List (Placed V)) : Type 0 where
+  pub record IsMasks (m : Lodged V) (first : Option Id) (ms : List (Placed V)) : Type 0 where
     pub begins : first_room ms ≡ first
     pub stands : MasksStand (masks_in m) ms
     pub falls : Falls 0 ranks ms
     pub ranked : AreRanked (leaves_in m) ms
 
+  -- the masks that a bit node lists
+  abbrev pub MasksAt : Lodged V → Id → List (Placed V) → Type 0
+  MasksAt m fork ms = IsMasks m (heads_in m fork.number) ms
+
+  -- the rooms that are not on the list of a bit node say as mask nodes what they said, and so they do but for one room
+  abbrev pub KeepsAside : Lodged V → Lodged V → Id → Type 0
+  KeepsAside old new fork = (ms : List (Placed V)) → MasksAt old fork ms
+      → (n : ℕ) → IsAside n ms → masks_in new n ≡ masks_in old n
+
+  abbrev pub KeepsAsideBut : Lodged V → Lodged V → Id → Id → Type 0
+  KeepsAsideBut old new fork room = (ms : List (Placed V)) → MasksAt old fork ms
+      → (n : ℕ) → (n ≡ room.number → ⊥) → IsAside n ms → masks_in new n ≡ masks_in old n
+
+  -- the rooms whose masks are listed stay, but for one room
+  abbrev pub KeepsMarksBut : Lodged V → Lodged V → Id → Type 0
+  KeepsMarksBut old new room = (n : ℕ) → (n ≡ room.number → ⊥)
+      → is_some (masks_in new n) ≡ is_some (masks_in old n)
+
   -- the room is a bit node in use
-  pub record IsBitNode (m : FinMap nat_cmp (Seen V)) (room : Id) : Type 0 where
+  pub record IsBitNode (m : Lodged V) (room : Id) : Type 0 where
     pub part : BitPart
     pub said : bits_in m room.number ≡ Some part
     pub block : part.block ≡ room.block
 
   -- a room that is no mask node yet
-  pub record IsFree (m : FinMap nat_cmp (Seen V)) (room : Id) : Type 0 where
+  pub record IsFree (m : Lodged V) (room : Id) : Type 0 where
     pub is : Placed V
     pub room_is : is.room ≡ room
     pub ranked : IsRanked (leaves_in m) is
     pub unmarked : masks_in m room.number ≡ None
 
   -- ---- the bit node at which a mask is listed: the topmost one on a key's way whose bit is at or past the rank
-  pub record HomeAt (m : FinMap nat_cmp (Seen V)) (key rank : ℕ) (whole : Part m) (room : Id) : Type 0 where
+  pub record HomeAt (m : Lodged V) (key rank : ℕ) (whole : Part m) (room : Id) : Type 0 where
     pub part : Part m
     pub at : ForkAt part room
     pub ups : List (Part m)
@@ -106,6 +121,6 @@ module _ {V : Type 0} where
     pub past : part.low ≤ rank
     pub within : rank ≤ at.bit
 
-  abbrev pub IsHome : (m : FinMap nat_cmp (Seen V)) (key rank : ℕ) (whole : Part m) → Option Id → Type 0
+  abbrev pub IsHome : (m : Lodged V) (key rank : ℕ) (whole : Part m) → Option Id → Type 0
   IsHome m key rank whole None = HasHome key rank whole.tree → ⊥
   IsHome m key rank whole (Some room) = HomeAt m key rank whole room

@@ -1,12 +1,10 @@
 -- What is read of rooms, and how counters of visits go on.
 use Rattle.std.specs.Prelude.{◌≡◌, ℕ, ◌+◌, ◌≤◌, Some}
-use Rattle.std.specs.Ordering.{nat_cmp}
-use Rattle.std.specs.FinMap.{FinMap}
 use Rattle.radix_nodes.specs.Counting.{Counter}
-use Rattle.radix_nodes.specs.Rooms.{Seen, Rooms}
+use Rattle.radix_nodes.specs.Rooms.{Rooms}
 use Rattle.radix_nodes.specs.declared.id.Id.{Id}
 use Rattle.radix_nodes.specs.declared.links.BitNode.{BitNode}
-use Rattle.radix_tree.specs.Rooms.{bit_part, bits_in, heads_in}
+use Rattle.radix_tree.specs.Rooms.{bit_part, bits_in, heads_in, Lodged}
 
 -- a counter went on, by so many visits at most
 pub record Reads (old new : Counter) (most : ℕ) : Type 0 where
@@ -20,7 +18,7 @@ pub record ReadsOnce (old new : Counter) : Type 0 where
   pub count : new.count ≡ old.count + 1
 
 -- the room is this bit node in use
-pub record IsBitNodeOf {V : Type 0} (m : FinMap nat_cmp (Seen V)) (room : Id) (node : BitNode) : Type 0 where
+pub record IsBitNodeOf {V : Type 0} (m : Lodged V) (room : Id) (node : BitNode) : Type 0 where
   pub said : bits_in m room.number ≡ bit_part room.block (Some node)
   pub head : heads_in m room.number ≡ node.masks
 

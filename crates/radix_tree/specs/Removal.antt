@@ -1,14 +1,12 @@
 -- A route goes out of a tree, and a bit node in use moves from its room to another.
 use Rattle.std.specs.Prelude.{◌≡◌, ℕ, ◌==◌, if◌then◌else◌, true, Option, None, Some}
-use Rattle.std.specs.Ordering.{nat_cmp}
-use Rattle.std.specs.FinMap.{FinMap}
 use denote.RawPtr.{Ptr}
 use Rattle.radix_nodes.specs.declared.id.Id.{Id}
-use Rattle.radix_nodes.specs.Rooms.{Seen}
 use Rattle.radix_nodes.specs.declared.links.Node.{Node}
 use Rattle.radix_nodes.specs.declared.links.Node.TheVariants.{Leaf as LeafOf, Bit as BitOf}
-use Rattle.radix_tree.specs.Rooms.{LeafPart, BitPart, leaves_in, bits_in}
-use Rattle.radix_tree.specs.Whole.{shown_entry}
+use Rattle.radix_tree.specs.Rooms.{LeafPart, BitPart, leaves_in, bits_in, Lodged}
+use Rattle.radix_tree.specs.Whole.{shown, shown_entry}
+use Rattle.radix_tree.specs.Growth.{Gains}
 use Rattle.radix_tree.specs.Marks.{IsWholeBut, has_key, nobody_late, out_at}
 use Rattle.radix_tree.specs.declared.entry.Entry.{Entry}
 
@@ -42,17 +40,22 @@ module _ {V : Type 0} where
   content_of None = None
   content_of (Some p) = Some (record { block = p.block; entry = shown_entry p })
 
+  -- the table shows its routes but that of a room
+  abbrev pub LosesRoute : Lodged V → Lodged V → Id → Node → Option Node → Type 0
+  LosesRoute old new room root name = (p : LeafPart V) → leaves_in old room.number ≡ Some p
+      → Gains (shown_entry p) (shown new name) (shown old (Some root))
+
   -- each room has the route that it had
-  abbrev pub KeepsRoutes : FinMap nat_cmp (Seen V) → FinMap nat_cmp (Seen V) → Type 0
+  abbrev pub KeepsRoutes : Lodged V → Lodged V → Type 0
   KeepsRoutes old new = (n : ℕ) → content_of (leaves_in new n) ≡ content_of (leaves_in old n)
 
   -- a bit node in use in the one room can move to the other: no room of that one's key has one, but for the first
-  pub record CanTake (m : FinMap nat_cmp (Seen V)) (from to : Id) : Type 0 where
+  pub record CanTake (m : Lodged V) (from to : Id) : Type 0 where
     pub free : bits_in m to.number ≡ None
     pub idle : (p : LeafPart V) → leaves_in m to.number ≡ Some p
         → (n : ℕ) → has_key m p.leaf.key n ≡ true → (n ≡ from.number → ⊥) → bits_in m n ≡ None
 
   -- a room is out of the tree: it is neither a leaf of it nor a bit node, or it was the last room
-  abbrev pub IsOut : FinMap nat_cmp (Seen V) → Option Node → ℕ → Type 0
+  abbrev pub IsOut : Lodged V → Option Node → ℕ → Type 0
   IsOut m None room = (n : ℕ) → (n ≡ room → ⊥) → leaves_in m n ≡ None
   IsOut m (Some root) room = IsWholeBut m root nobody_late (out_at room) × (bits_in m room ≡ None)

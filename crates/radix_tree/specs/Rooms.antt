@@ -14,6 +14,10 @@ use Rattle.radix_nodes.specs.declared.links.BitNode.{BitNode}
 use Rattle.radix_nodes.specs.declared.links.MaskNode.{MaskNode}
 use Rattle.radix_tree.specs.Tree.{Placed, Tree, leaf, fork, IsAmong, IsIn, IsChain, IsTree}
 
+-- the lodged rooms by their numbers
+abbrev pub Lodged : Type 0 → Type 0
+Lodged V = FinMap nat_cmp (Seen V)
+
 -- what a room says as a leaf, with its block
 pub record LeafPart (V : Type 0) : Type 0 where
   pub block : Ptr
@@ -75,16 +79,16 @@ module _ {V : Type 0} where
   mask_in None = None
   mask_in (Some s) = mask_part s.block (mask_node_of s.links)
 
-  abbrev pub leaves_in : FinMap nat_cmp (Seen V) → Leaves V
+  abbrev pub leaves_in : Lodged V → Leaves V
   leaves_in m n = leaf_in (get m n)
 
-  abbrev pub bits_in : FinMap nat_cmp (Seen V) → Bits
+  abbrev pub bits_in : Lodged V → Bits
   bits_in m n = bit_in (get m n)
 
-  abbrev pub heads_in : FinMap nat_cmp (Seen V) → Heads
+  abbrev pub heads_in : Lodged V → Heads
   heads_in m n = head_in (get m n)
 
-  abbrev pub masks_in : FinMap nat_cmp (Seen V) → Masks
+  abbrev pub masks_in : Lodged V → Masks
   masks_in m n = mask_in (get m n)
 
   -- ---- leaves and bit nodes
@@ -150,7 +154,7 @@ module _ {V : Type 0} where
       IsList K (H room.number) low b zero one × Lists H K (b + 1) zero × Lists H K (b + 1) one
 
   -- ---- a tree, or a part of one, in the rooms of a map
-  pub record Part (m : FinMap nat_cmp (Seen V)) : Type 0 where
+  pub record Part (m : Lodged V) : Type 0 where
     pub tree : Tree V
     pub low : ℕ
     pub above : Option Id
@@ -158,11 +162,11 @@ module _ {V : Type 0} where
     pub stands : Stands (leaves_in m) (bits_in m) above tree
 
   -- the rooms list the masks of a part
-  abbrev pub AreListed : (m : FinMap nat_cmp (Seen V)) → Part m → Type 0
+  abbrev pub AreListed : (m : Lodged V) → Part m → Type 0
   AreListed m p = Lists (heads_in m) (masks_in m) p.low p.tree
 
   -- part of a chain
-  pub record Run (m : FinMap nat_cmp (Seen V)) : Type 0 where
+  pub record Run (m : Lodged V) : Type 0 where
     pub members : List (Placed V)
     pub key : ℕ
     pub top : ℕ

@@ -1,11 +1,8 @@
 -- What searches of a tree answer.
 use Rattle.std.specs.Prelude.{◌≡◌, ℕ, ◌+◌, ◌<◌, ◌≤◌, ◌⊎◌, List, [], ◌∷◌, Option, None, Some}
-use Rattle.std.specs.Ordering.{nat_cmp}
-use Rattle.std.specs.FinMap.{FinMap}
-use Rattle.radix_nodes.specs.Rooms.{Seen}
 use Rattle.radix_nodes.specs.declared.id.Id.{Id}
 use Rattle.radix_tree.specs.Tree.{Placed, Tree, leaf, fork, bit_at, Covers, IsIn}
-use Rattle.radix_tree.specs.Rooms.{Part}
+use Rattle.radix_tree.specs.Rooms.{Part, Lodged}
 
 module _ {V : Type 0} where
   -- a room is told, or none, by what holds of its route
@@ -28,7 +25,7 @@ module _ {V : Type 0} where
   Best address low top M (Some x) = M x × Covers address x.entry
       × ((y : Placed V) → M y → Covers address y.entry → y.entry.rank < top → y.entry.rank ≤ x.entry.rank)
 
-  module _ {m : FinMap nat_cmp (Seen V)} where
+  module _ {m : Lodged V} where
     abbrev pub In : Part m → Placed V → Type 0
     In p x = IsIn x p.tree
 

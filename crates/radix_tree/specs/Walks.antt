@@ -1,13 +1,10 @@
 -- What a walk has still to give, told by the links of its place alone.
 use Rattle.std.specs.Prelude.{◌≡◌, ℕ, zero, suc, ◌+◌, ◌⊎◌, ◌==◌, if◌then◌else◌, List, [], ◌∷◌, ◌++◌, Option, None, Some}
-use Rattle.std.specs.Ordering.{nat_cmp}
-use Rattle.std.specs.FinMap.{FinMap}
-use Rattle.radix_nodes.specs.Rooms.{Seen}
 use Rattle.radix_nodes.specs.declared.id.Id.{Id}
 use Rattle.radix_nodes.specs.declared.links.Node.{Node}
 use Rattle.radix_tree.specs.Bounds.{levels, ranks}
 use Rattle.radix_tree.specs.Tree.{bit_at, routes_of}
-use Rattle.radix_tree.specs.Rooms.{LeafPart, BitPart, Leaves, Bits, Part, Run, first_room}
+use Rattle.radix_tree.specs.Rooms.{LeafPart, BitPart, Leaves, Bits, Part, Run, first_room, Lodged}
 use Rattle.radix_tree.specs.Searches.{ForkAt, LeafAt}
 use Rattle.radix_tree.specs.Whole.{chain_shown, beneath_shown}
 use Rattle.radix_tree.specs.declared.entry.Entry.{Entry}
@@ -38,7 +35,7 @@ module _ {V : Type 0} where
 
   -- ---- where a walk can be
   -- one part is a side of the bit node that another one is; right is what stands behind it beneath that
-  pub record Under {m : FinMap nat_cmp (Seen V)} (right : List (Entry V)) (under over : Part m) : Type 0 where
+  pub record Under {m : Lodged V} (right : List (Entry V)) (under over : Part m) : Type 0 where
     pub room : Id
     pub at : ForkAt over room
     pub above : under.above ≡ Some room
@@ -46,13 +43,13 @@ module _ {V : Type 0} where
     pub side : ((under.tree ≡ at.zero) × (right ≡ routes_of at.one)) ⊎ ((under.tree ≡ at.one) × (right ≡ []))
 
   -- behind a part of a tree these routes stand; with the parts above it, the lowest first
-  abbrev pub IsBefore : {m : FinMap nat_cmp (Seen V)} → Part m → Part m → List (Entry V) → List (Part m) → Type 0
+  abbrev pub IsBefore : {m : Lodged V} → Part m → Part m → List (Entry V) → List (Part m) → Type 0
   IsBefore whole at behind [] = (at ≡ whole) × (behind ≡ [])
   IsBefore whole at behind (over ∷ ups) = (right : List (Entry V)) × (later : List (Entry V)) × Under right at over
       × IsBefore whole over later ups × (behind ≡ right ++ later)
 
   -- the first room of a leaf of this key, in a tree
-  pub record IsFirst (m : FinMap nat_cmp (Seen V)) (key : ℕ) (first : Id) : Type 0 where
+  pub record IsFirst (m : Lodged V) (key : ℕ) (first : Id) : Type 0 where
     pub whole : Part m
     pub top : whole.above ≡ None
     pub part : Part m
@@ -63,13 +60,13 @@ module _ {V : Type 0} where
     pub before : IsBefore whole part behind ups
 
   -- at a room of its chain
-  pub record IsAt (m : FinMap nat_cmp (Seen V)) (place : Place) : Type 0 where
+  pub record IsAt (m : Lodged V) (place : Place) : Type 0 where
     pub key : ℕ
     pub first : IsFirst m key place.first
     pub run : Run m
     pub begins : first_room run.members ≡ Some place.room
     pub of_key : run.key ≡ key
 
-  abbrev pub IsOn : FinMap nat_cmp (Seen V) → Option Place → Type 0
+  abbrev pub IsOn : Lodged V → Option Place → Type 0
   IsOn m None = Unit {0}
   IsOn m (Some place) = IsAt m place

@@ -1,14 +1,11 @@
 -- A table's rooms as a whole: the tree that they stand for, and the routes that they show.
 use Rattle.std.specs.Prelude.{◌≡◌, ℕ, zero, suc, ◌+◌, ◌≤◌, ◌==◌, ◌⊎◌, Bool, true, false, List, [], ◌∷◌, ◌++◌, Option, None, Some, is_some}
-use Rattle.std.specs.Ordering.{nat_cmp}
-use Rattle.std.specs.FinMap.{FinMap}
-use Rattle.radix_nodes.specs.Rooms.{Seen}
 use Rattle.radix_nodes.specs.declared.id.Id.{Id}
 use Rattle.radix_nodes.specs.declared.links.Node.{Node}
 use Rattle.radix_nodes.specs.declared.links.Node.TheVariants.{Leaf as LeafOf, Bit as BitOf}
 use Rattle.radix_tree.specs.Bounds.{levels, ranks}
 use Rattle.radix_tree.specs.Tree.{Placed, Tree, leaf, fork, bit_at, IsIn}
-use Rattle.radix_tree.specs.Rooms.{LeafPart, BitPart, MaskPart, Leaves, Bits, Part, AreListed, leaves_in, bits_in, masks_in, name_of}
+use Rattle.radix_tree.specs.Rooms.{LeafPart, BitPart, MaskPart, Leaves, Bits, Part, AreListed, leaves_in, bits_in, masks_in, name_of, Lodged}
 use Rattle.radix_tree.specs.declared.entry.Entry.{Entry}
 
 abbrev pub one_if : Bool → ℕ
@@ -40,7 +37,7 @@ module _ {V : Type 0} where
   beneath_shown (suc n) L B (LeafOf room) = chain_shown ranks L (Some room)
   beneath_shown (suc n) L B (BitOf room) = sides_from (B room.number) (beneath_shown n L B)
 
-  abbrev pub shown : FinMap nat_cmp (Seen V) → Option Node → List (Entry V)
+  abbrev pub shown : Lodged V → Option Node → List (Entry V)
   shown m None = []
   shown m (Some root) = beneath_shown levels (leaves_in m) (bits_in m) root
 
@@ -79,7 +76,7 @@ module _ {V : Type 0} where
 
   -- the rooms of a map stand for a tree: each is a leaf of it once, and each bit node in use is one of it once; no mask
   -- is listed but the tree's
-  pub record IsWhole (m : FinMap nat_cmp (Seen V)) (root : Node) : Type 0 where
+  pub record IsWhole (m : Lodged V) (root : Node) : Type 0 where
     pub part : Part m
     pub low : part.low ≡ 0
     pub top : part.above ≡ None
@@ -92,6 +89,6 @@ module _ {V : Type 0} where
         → (x : Placed V) × IsIn x part.tree × (x.room.number ≡ n) × HasHome x.entry.key x.entry.rank part.tree
 
   -- where there is a root there is a tree, and else no room
-  abbrev pub Holds : FinMap nat_cmp (Seen V) → Option Node → Type 0
+  abbrev pub Holds : Lodged V → Option Node → Type 0
   Holds m None = (n : ℕ) → leaves_in m n ≡ None
   Holds m (Some root) = IsWhole m root

@@ -1,15 +1,12 @@
 -- What the rooms say once one of them has other links.
 use Rattle.std.specs.Prelude.{◌≡◌, ℕ, ◌==◌, if◌then◌else◌, Option, None, Some}
-use Rattle.std.specs.Ordering.{nat_cmp}
-use Rattle.std.specs.FinMap.{FinMap}
-use Rattle.radix_nodes.specs.Rooms.{Seen}
 use Rattle.radix_nodes.specs.declared.id.Id.{Id}
 use Rattle.radix_nodes.specs.declared.links.Leaf.{Leaf}
 use Rattle.radix_nodes.specs.declared.links.BitNode.{BitNode}
 use Rattle.radix_nodes.specs.declared.links.MaskNode.{MaskNode}
 use Rattle.radix_nodes.specs.declared.links.Node.{Node}
 use Rattle.radix_nodes.specs.declared.links.Node.TheVariants.{Leaf as LeafOf, Bit as BitOf}
-use Rattle.radix_tree.specs.Rooms.{LeafPart, BitPart, MaskPart, leaves_in, bits_in, heads_in, masks_in, bit_part, head_part, mask_part}
+use Rattle.radix_tree.specs.Rooms.{LeafPart, BitPart, MaskPart, leaves_in, bits_in, heads_in, masks_in, bit_part, head_part, mask_part, Lodged}
 
 -- what number n says once the room is this bit node, or none
 abbrev pub put_bit : Id → Option BitNode → ℕ → Option BitPart → Option BitPart
@@ -36,30 +33,30 @@ module _ {V : Type 0} where
       then Some (record { block = room.block; value = value; leaf = leaf }) else said
 
   -- ---- roles that stay
-  abbrev pub KeepsLeaves : FinMap nat_cmp (Seen V) → FinMap nat_cmp (Seen V) → Type 0
+  abbrev pub KeepsLeaves : Lodged V → Lodged V → Type 0
   KeepsLeaves old new = (n : ℕ) → leaves_in new n ≡ leaves_in old n
 
-  abbrev pub KeepsBits : FinMap nat_cmp (Seen V) → FinMap nat_cmp (Seen V) → Type 0
+  abbrev pub KeepsBits : Lodged V → Lodged V → Type 0
   KeepsBits old new = (n : ℕ) → bits_in new n ≡ bits_in old n
 
-  abbrev pub KeepsHeads : FinMap nat_cmp (Seen V) → FinMap nat_cmp (Seen V) → Type 0
+  abbrev pub KeepsHeads : Lodged V → Lodged V → Type 0
   KeepsHeads old new = (n : ℕ) → heads_in new n ≡ heads_in old n
 
-  abbrev pub KeepsMasks : FinMap nat_cmp (Seen V) → FinMap nat_cmp (Seen V) → Type 0
+  abbrev pub KeepsMasks : Lodged V → Lodged V → Type 0
   KeepsMasks old new = (n : ℕ) → masks_in new n ≡ masks_in old n
 
 -- rooms change as leaves alone, as bit nodes alone but for their lists, or in their lists of masks alone
-pub record OnlyLeaves {V : Type 0} (old new : FinMap nat_cmp (Seen V)) : Type 0 where
+pub record OnlyLeaves {V : Type 0} (old new : Lodged V) : Type 0 where
   pub bits : KeepsBits old new
   pub heads : KeepsHeads old new
   pub masks : KeepsMasks old new
 
-pub record OnlyBits {V : Type 0} (old new : FinMap nat_cmp (Seen V)) : Type 0 where
+pub record OnlyBits {V : Type 0} (old new : Lodged V) : Type 0 where
   pub leaves : KeepsLeaves old new
   pub heads : KeepsHeads old new
   pub masks : KeepsMasks old new
 
-pub record KeepsTree {V : Type 0} (old new : FinMap nat_cmp (Seen V)) : Type 0 where
+pub record KeepsTree {V : Type 0} (old new : Lodged V) : Type 0 where
   pub leaves : KeepsLeaves old new
   pub bits : KeepsBits old new
 

@@ -1,18 +1,17 @@
 //! How a route comes into the chain of a leaf, and how it goes.
 ghost use Rattle.std.specs.Prelude.{◌≡◌, ◌<◌, ◌⊎◌, ℕ, true, None, Some, is_some, OnOk, OnErr, IfOk, IfErr};
-ghost use Rattle.std.specs.FinMap.{get};
 ghost use Rattle.radix_nodes.specs.Rooms.{Has};
 ghost use Rattle.radix_nodes.specs.declared.links.Node.TheVariants.{Leaf as LeafOf};
 ghost use Rattle.radix_tree.specs.Chains.{name_next as next_named, name_back as back_named};
 ghost use Rattle.radix_tree.specs.Chains.{link_out as linked_out, root_past, FindsGap};
-ghost use Rattle.radix_tree.specs.Growth.{Gains, name_child as child_named};
+ghost use Rattle.radix_tree.specs.Growth.{Gains, name_child as child_named, IsSpare, HasKeyAt};
 ghost use Rattle.radix_tree.specs.Marks.{IsWholeBut, HasRoomMore, has_key, late_at, nobody_late, out_at, nobody_out};
-ghost use Rattle.radix_tree.specs.Removal.{KeepsRoutes};
+ghost use Rattle.radix_tree.specs.Removal.{KeepsRoutes, LosesRoute};
 ghost use Rattle.radix_tree.specs.Rooms.{LeafPart, BitPart, Part, Run, leaves_in, bits_in, masks_in, first_room};
-ghost use Rattle.radix_tree.specs.Searches.{LedTo, ForkAt, HasPair};
+ghost use Rattle.radix_tree.specs.Searches.{ForkAt, HasPair};
 ghost use Rattle.radix_tree.specs.Table.{IsRoute};
 ghost use Rattle.radix_tree.specs.Tree.{Placed, IsIn};
-ghost use Rattle.radix_tree.specs.Whole.{IsWhole, shown, shown_entry};
+ghost use Rattle.radix_tree.specs.Whole.{IsWhole, shown};
 ghost use Rattle.radix_tree.specs.Writes.{KeepsMasks, OnlyLeaves, OnlyBits};
 ghost use Rattle.radix_tree.specs.Reads.{Stays};
 
@@ -156,11 +155,9 @@ pub(crate) fn insert_in_chain<V>(
     entry: Entry<V>,
     visits: &mut Visits,
 ) -> Result<(Node, Id), (Room<V>, V)>
-    requires made { room < nodes.old.next }
-    requires free { get nodes.old.lodged room ≡ None }
+    requires spare { IsSpare nodes.old room }
     requires route { IsRoute entry }
-    requires led { (w : IsWhole nodes.old.lodged root) × (d : LedTo entry.key w.part first)
-        × (d.leaf.first.entry.key ≡ entry.key) }
+    requires led { HasKeyAt nodes.old.lodged root entry.key first }
     requires turn { visits.old.turn ≡ nodes.old.turn }
     ensures ok { IfOk result (λ r. IsWholeBut nodes.new.lodged r.0 (late_at room) nobody_out) }
     ensures routes { IfOk result (λ r. Gains entry (shown nodes.old.lodged (Some root))
@@ -204,8 +201,7 @@ pub(crate) fn remove_from_chain<V>(
         → (behind : Id) × (p.leaf.next ≡ Some behind) }
     requires turn { visits.old.turn ≡ nodes.old.turn }
     ensures whole { IsWholeBut nodes.new.lodged result nobody_late (out_at at.number) }
-    ensures routes { (p : LeafPart V) → leaves_in nodes.old.lodged at.number ≡ Some p
-        → Gains (shown_entry p) (shown nodes.new.lodged (Some result)) (shown nodes.old.lodged (Some root)) }
+    ensures routes { LosesRoute nodes.old.lodged nodes.new.lodged at root (Some result) }
     ensures rooms { KeepsRoutes nodes.old.lodged nodes.new.lodged }
     ensures own { leaves_in nodes.new.lodged at.number ≡ leaves_in nodes.old.lodged at.number }
     ensures bits { (n : ℕ) → is_some (bits_in nodes.new.lodged n) ≡ is_some (bits_in nodes.old.lodged n) }

@@ -1,9 +1,7 @@
 //! How a table's tree gains a route.
-ghost use Rattle.std.specs.Prelude.{◌≡◌, ◌+◌, ◌<◌, Some, None, IsSome, IsErr, IfOk, IfErr, OnOk, OnErr};
-ghost use Rattle.std.specs.FinMap.{get};
-ghost use Rattle.radix_tree.specs.Growth.{Gains, Differs};
+ghost use Rattle.std.specs.Prelude.{◌≡◌, Some, None, IsSome, IfOk, IfErr, OnOk, OnErr};
+ghost use Rattle.radix_tree.specs.Growth.{Gains, IsSpare, HasKeyAt, DiffersAt};
 ghost use Rattle.radix_tree.specs.Marks.{HasRoomMore};
-ghost use Rattle.radix_tree.specs.Searches.{LedTo};
 ghost use Rattle.radix_tree.specs.Table.{IsRoute, entry_at};
 ghost use Rattle.radix_tree.specs.Whole.{IsWhole, Holds, shown};
 ghost use Rattle.radix_tree.specs.Reads.{Stays};
@@ -25,8 +23,7 @@ fn insert_first<V>(
     visits: &mut Visits,
 ) -> Node
     requires holds { Holds nodes.old.lodged None }
-    requires made { room < nodes.old.next }
-    requires free { get nodes.old.lodged room ≡ None }
+    requires spare { IsSpare nodes.old room }
     requires route { IsRoute entry }
     requires turn { visits.old.turn ≡ nodes.old.turn }
     ensures whole { IsWhole nodes.new.lodged result }
@@ -56,11 +53,9 @@ fn insert_new<V>(
     entry: Entry<V>,
     visits: &mut Visits,
 ) -> Node
-    requires made { room < nodes.old.next }
-    requires free { get nodes.old.lodged room ≡ None }
+    requires spare { IsSpare nodes.old room }
     requires route { IsRoute entry }
-    requires new { (w : IsWhole nodes.old.lodged root) × (d : LedTo entry.key w.part leaf)
-        × Differs entry.key d.leaf.first.entry.key bit }
+    requires new { DiffersAt nodes.old.lodged root entry.key leaf bit }
     requires turn { visits.old.turn ≡ nodes.old.turn }
     ensures whole { IsWhole nodes.new.lodged result }
     ensures routes { Gains entry (shown nodes.old.lodged (Some root)) (shown nodes.new.lodged (Some result)) }
@@ -83,11 +78,9 @@ fn insert_among<V>(
     entry: Entry<V>,
     visits: &mut Visits,
 ) -> Result<Node, (Room<V>, V)>
-    requires made { room < nodes.old.next }
-    requires free { get nodes.old.lodged room ≡ None }
+    requires spare { IsSpare nodes.old room }
     requires route { IsRoute entry }
-    requires led { (w : IsWhole nodes.old.lodged root) × (d : LedTo entry.key w.part leaf)
-        × (d.leaf.first.entry.key ≡ entry.key) }
+    requires led { HasKeyAt nodes.old.lodged root entry.key leaf }
     requires turn { visits.old.turn ≡ nodes.old.turn }
     ensures whole { IfOk result (λ r. IsWhole nodes.new.lodged r) }
     ensures routes { IfOk result (λ r.
@@ -117,8 +110,7 @@ pub(crate) fn insert<V>(
     visits: &mut Visits,
 ) -> Result<Node, (Room<V>, V)>
     requires holds { Holds nodes.old.lodged root }
-    requires made { room < nodes.old.next }
-    requires free { get nodes.old.lodged room ≡ None }
+    requires spare { IsSpare nodes.old room }
     requires route { IsRoute entry }
     requires turn { visits.old.turn ≡ nodes.old.turn }
     ensures whole { IfOk result (λ r. IsWhole nodes.new.lodged r) }

@@ -1,12 +1,11 @@
 //! How a route comes into a tree.
-ghost use Rattle.std.specs.Prelude.{◌≡◌, ℕ, ◌<◌, ◌≤◌, ◌||◌, ◌==◌, Option, Some, None};
-ghost use Rattle.std.specs.FinMap.{get};
+ghost use Rattle.std.specs.Prelude.{◌≡◌, ℕ, ◌≤◌, ◌||◌, ◌==◌, Option, Some, None};
 ghost use Rattle.radix_nodes.specs.Rooms.{Has};
 ghost use Rattle.radix_nodes.specs.declared.id.Id.{Id as IdName};
-ghost use Rattle.radix_nodes.specs.declared.links.Node.TheVariants.{Bit as BitOf};
 ghost use Rattle.radix_tree.specs.Bounds.{last_bit};
 ghost use Rattle.radix_tree.specs.Exchange.{Exchanged};
-ghost use Rattle.radix_tree.specs.Growth.{Gains, Differs, IsSpot, IsLodged, IsBeside, forked, forked_tree, placed, with_head, root_after as root_with};
+ghost use Rattle.radix_tree.specs.Growth.{Gains, Differs, IsSpot, IsLodged, IsBeside, forked, forked_tree, placed};
+ghost use Rattle.radix_tree.specs.Growth.{with_head, root_after as root_with, IsSpare, DiffersAt};
 ghost use Rattle.radix_tree.specs.Marks.{HasRoomMore, IsWholeBut, nobody_out, has_key};
 ghost use Rattle.radix_tree.specs.Rooms.{Part, LeafPart, bit_part, leaves_in, heads_in, masks_in, name_of};
 ghost use Rattle.radix_tree.specs.Searches.{LedTo};
@@ -80,8 +79,7 @@ fn lodge_forked<V>(
     entry: Entry<V>,
     visits: &mut Visits,
 ) -> Id
-    requires made { room < nodes.old.next }
-    requires free { get nodes.old.lodged room ≡ None }
+    requires spare { IsSpare nodes.old room }
     requires bit { spot.bit ≤ last_bit }
     requires turn { visits.old.turn ≡ nodes.old.turn }
     ensures number { result.number ≡ room }
@@ -121,8 +119,7 @@ pub(crate) fn add_beside<V>(
     entry: Entry<V>,
     visits: &mut Visits,
 ) -> (Node, Id)
-    requires made { room < nodes.old.next }
-    requires free { get nodes.old.lodged room ≡ None }
+    requires spare { IsSpare nodes.old room }
     requires route { IsRoute entry }
     requires spot { (p : Part nodes.old.lodged) × IsSpot nodes.old.lodged entry.key spot.bit p spot.above spot.below }
     requires turn { visits.old.turn ≡ nodes.old.turn }
@@ -156,16 +153,13 @@ pub(crate) fn insert_beside<V>(
     entry: Entry<V>,
     visits: &mut Visits,
 ) -> (Node, Id)
-    requires made { room < nodes.old.next }
-    requires free { get nodes.old.lodged room ≡ None }
+    requires spare { IsSpare nodes.old room }
     requires route { IsRoute entry }
-    requires new { (w : IsWhole nodes.old.lodged root) × (d : LedTo entry.key w.part leaf)
-        × Differs entry.key d.leaf.first.entry.key bit }
+    requires new { DiffersAt nodes.old.lodged root entry.key leaf bit }
     requires turn { visits.old.turn ≡ nodes.old.turn }
     ensures number { result.1.number ≡ room }
     ensures whole { (w : IsWhole nodes.old.lodged root) (d : LedTo entry.key w.part leaf)
-        → Differs entry.key d.leaf.first.entry.key bit
-        → IsWholeBut nodes.new.lodged result.0
+        → Differs entry.key d.leaf.first.entry.key bit → IsWholeBut nodes.new.lodged result.0
         (λ n. (n == room) || has_key nodes.old.lodged d.leaf.first.entry.key n) nobody_out }
     ensures routes { Gains entry (shown nodes.old.lodged (Some root)) (shown nodes.new.lodged (Some result.0)) }
     ensures rooms { HasRoomMore nodes.old.lodged nodes.new.lodged room }

@@ -1,14 +1,13 @@
 //! How a route that is alone at its leaf goes from a tree.
-ghost use Rattle.std.specs.Prelude.{◌≡◌, ℕ, ◌≤◌, true, Some, None, is_some};
+ghost use Rattle.std.specs.Prelude.{◌≡◌, ℕ, ◌≤◌, true, Some, None};
 ghost use Rattle.radix_nodes.specs.Rooms.{Has};
 ghost use Rattle.radix_tree.specs.Bounds.{last_bit};
-ghost use Rattle.radix_tree.specs.Growth.{name_child as child_named, Gains};
-ghost use Rattle.radix_tree.specs.Joining.{other_side, IsApart, IsLone, IsHanded};
+ghost use Rattle.radix_tree.specs.Growth.{name_child as child_named};
+ghost use Rattle.radix_tree.specs.Joining.{other_side, IsApart, IsLone, IsHanded, IsLonely};
 ghost use Rattle.radix_tree.specs.Marks.{IsWholeBut, MarkedLists, has_key, nobody_late, nobody_out, late_at, out_at};
 ghost use Rattle.radix_tree.specs.Rooms.{LeafPart, Part, leaves_in, bits_in, heads_in, masks_in, name_of};
-ghost use Rattle.radix_tree.specs.Removal.{KeepsRoutes};
+ghost use Rattle.radix_tree.specs.Removal.{KeepsRoutes, LosesRoute};
 ghost use Rattle.radix_tree.specs.Searches.{ForkAt};
-ghost use Rattle.radix_tree.specs.Whole.{shown, shown_entry};
 ghost use Rattle.radix_tree.specs.Writes.{put_bit as bit_put, put_head as head_put, lift_leaf as leaf_lifted, lift_bit as bit_lifted, KeepsMasks, KeepsTree};
 ghost use Rattle.radix_tree.specs.Reads.{Stays};
 
@@ -90,12 +89,10 @@ pub(crate) fn remove_lone<V>(
     requires whole { IsWholeBut nodes.old.lodged root (late_at at.number) nobody_out }
     requires there { Has nodes.old.lodged at }
     requires unmarked { masks_in nodes.old.lodged at.number ≡ None }
-    requires lone { (p : LeafPart V) → leaves_in nodes.old.lodged at.number ≡ Some p
-        → (p.leaf.next ≡ None) × (p.leaf.previous ≡ None) × (is_some p.leaf.above ≡ true) }
+    requires lone { IsLonely nodes.old.lodged at }
     requires turn { visits.old.turn ≡ nodes.old.turn }
     ensures whole { IsWholeBut nodes.new.lodged result.0 nobody_late (out_at at.number) }
-    ensures routes { (p : LeafPart V) → leaves_in nodes.old.lodged at.number ≡ Some p
-        → Gains (shown_entry p) (shown nodes.new.lodged (Some result.0)) (shown nodes.old.lodged (Some root)) }
+    ensures routes { LosesRoute nodes.old.lodged nodes.new.lodged at root (Some result.0) }
     ensures rooms { KeepsRoutes nodes.old.lodged nodes.new.lodged }
     ensures leaf { leaves_in nodes.new.lodged at.number ≡ leaves_in nodes.old.lodged at.number }
     ensures there { Has nodes.new.lodged result.1 }

@@ -1,12 +1,14 @@
 //! How a room changes in one of its roles.
-ghost use Rattle.std.specs.Prelude.{◌≡◌, ℕ, ◌<◌, Some, None};
-ghost use Rattle.std.specs.FinMap.{get};
+ghost use Rattle.std.specs.Prelude.{◌≡◌, ℕ, Some};
 ghost use Rattle.radix_nodes.specs.Rooms.{Has};
 ghost use Rattle.radix_nodes.specs.declared.links.Node.TheVariants.{Leaf as LeafOf, Bit as BitOf};
-ghost use Rattle.radix_tree.specs.Growth.{name_child as child_named};
+ghost use Rattle.radix_tree.specs.Growth.{name_child as child_named, IsSpare};
 ghost use Rattle.radix_tree.specs.Searches.{LeafAt, ForkAt};
 ghost use Rattle.radix_tree.specs.Rooms.{Part, name_of, leaves_in, bits_in, heads_in, masks_in};
-ghost use Rattle.radix_tree.specs.Writes.{put_leaf as leaf_put, put_bit as bit_put, put_head as head_put, put_mask as mask_put, lodge_leaf as leaf_lodged, lift_leaf as leaf_lifted, lift_bit as bit_lifted, KeepsLeaves, KeepsHeads, KeepsMasks, OnlyLeaves, OnlyBits, KeepsTree};
+ghost use Rattle.radix_tree.specs.Writes.{put_leaf as leaf_put, put_bit as bit_put, put_head as head_put};
+ghost use Rattle.radix_tree.specs.Writes.{put_mask as mask_put, lodge_leaf as leaf_lodged, lift_leaf as leaf_lifted};
+ghost use Rattle.radix_tree.specs.Writes.{lift_bit as bit_lifted, KeepsLeaves, KeepsHeads, KeepsMasks, OnlyLeaves};
+ghost use Rattle.radix_tree.specs.Writes.{OnlyBits, KeepsTree};
 ghost use Rattle.radix_tree.specs.Reads.{Stays};
 
 use crate::bits::is_one;
@@ -72,8 +74,7 @@ pub(crate) fn lodge_leaf<V>(
     value: V,
     visits: &mut Visits,
 ) -> Id
-    requires made { room < nodes.old.next }
-    requires free { get nodes.old.lodged room ≡ None }
+    requires spare { IsSpare nodes.old room }
     requires turn { visits.old.turn ≡ nodes.old.turn }
     ensures number { result.number ≡ room }
     ensures leaves { (n : ℕ) → leaves_in nodes.new.lodged n

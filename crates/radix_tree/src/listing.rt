@@ -1,12 +1,12 @@
 //! How the mask of a route is listed, and taken out of its list.
-ghost use Rattle.std.specs.Prelude.{◌≡◌, ℕ, ◌&&◌, ◌==◌, Bool, Some, None, is_some, not};
+ghost use Rattle.std.specs.Prelude.{◌≡◌, ℕ, ◌&&◌, Bool, Some, None, not};
 ghost use Rattle.radix_nodes.specs.Rooms.{Has};
 ghost use Rattle.radix_nodes.specs.declared.links.Node.{Node as Named};
 ghost use Rattle.radix_tree.specs.Tree.{Placed, IsAmong, IsIn};
 ghost use Rattle.radix_tree.specs.Rooms.{LeafPart, Run, leaves_in, masks_in, first_room};
-ghost use Rattle.radix_tree.specs.MaskLists.{IsHome};
+ghost use Rattle.radix_tree.specs.MaskLists.{IsHome, KeepsMarksBut};
 ghost use Rattle.radix_tree.specs.Whole.{IsWhole};
-ghost use Rattle.radix_tree.specs.Marks.{IsWholeBut, has_key, late_at, nobody_out};
+ghost use Rattle.radix_tree.specs.Marks.{IsWholeBut, has_key, late_at, nobody_out, ListsMaskOf};
 ghost use Rattle.radix_tree.specs.Writes.{KeepsTree};
 ghost use Rattle.radix_tree.specs.Reads.{Stays};
 
@@ -52,10 +52,8 @@ pub(crate) fn list_mask<V>(nodes: &mut Nodes<V>, room: Id, visits: &mut Visits)
     requires there { Has nodes.old.lodged room }
     requires unmarked { masks_in nodes.old.lodged room.number ≡ None }
     requires turn { visits.old.turn ≡ nodes.old.turn }
-    ensures whole { (root : Named) (late : ℕ → Bool) → IsWholeBut nodes.old.lodged root late nobody_out
-        → IsWholeBut nodes.new.lodged root (λ n. late n && not (n == room.number)) nobody_out }
-    ensures marks { (n : ℕ) → (n ≡ room.number → ⊥)
-        → is_some (masks_in nodes.new.lodged n) ≡ is_some (masks_in nodes.old.lodged n) }
+    ensures whole { ListsMaskOf nodes.old.lodged nodes.new.lodged room }
+    ensures marks { KeepsMarksBut nodes.old.lodged nodes.new.lodged room }
     ensures tree { KeepsTree nodes.old.lodged nodes.new.lodged }
     ensures stays { Stays nodes.old nodes.new visits.old visits.new }
 {
@@ -70,8 +68,7 @@ fn list_late<V>(nodes: &mut Nodes<V>, room: Id, visits: &mut Visits)
     requires whole { (root : Named) × (late : ℕ → Bool) × IsWholeBut nodes.old.lodged root late nobody_out }
     requires there { Has nodes.old.lodged room }
     requires turn { visits.old.turn ≡ nodes.old.turn }
-    ensures whole { (root : Named) (late : ℕ → Bool) → IsWholeBut nodes.old.lodged root late nobody_out
-        → IsWholeBut nodes.new.lodged root (λ n. late n && not (n == room.number)) nobody_out }
+    ensures whole { ListsMaskOf nodes.old.lodged nodes.new.lodged room }
     ensures tree { KeepsTree nodes.old.lodged nodes.new.lodged }
     ensures stays { Stays nodes.old nodes.new visits.old visits.new }
 {

@@ -4,10 +4,13 @@ ghost use Rattle.radix_nodes.specs.Rooms.{Has};
 ghost use Rattle.radix_nodes.specs.declared.links.Node.TheVariants.{Leaf as LeafOf, Bit as BitOf};
 ghost use Rattle.radix_tree.specs.Bounds.{last_bit, ranks};
 ghost use Rattle.radix_tree.specs.Tree.{Placed, IsAmong};
-ghost use Rattle.radix_tree.specs.Rooms.{Part, leaves_in, bits_in, heads_in, masks_in, first_room, Falls};
+ghost use Rattle.radix_tree.specs.Rooms.{Part, heads_in, masks_in, first_room, Falls};
 ghost use Rattle.radix_tree.specs.Searches.{LedTo};
 ghost use Rattle.radix_tree.specs.Writes.{KeepsHeads, KeepsMasks, KeepsTree};
-ghost use Rattle.radix_tree.specs.MaskLists.{IsMasks, IsBitNode, IsFree, IsAside, IsNoRank, IsHome, head_linked, mask_linked, last_mask, not_below, below as from_below, sorted_in, taken_out, past_bit, up_to_bit};
+ghost use Rattle.radix_tree.specs.MaskLists.{IsMasks, IsBitNode, IsFree, IsAside, IsNoRank, IsHome, head_linked};
+ghost use Rattle.radix_tree.specs.MaskLists.{mask_linked, last_mask, not_below, below as from_below, sorted_in};
+ghost use Rattle.radix_tree.specs.MaskLists.{taken_out, past_bit, up_to_bit, MasksAt, KeepsAside, KeepsAsideBut};
+ghost use Rattle.radix_tree.specs.MaskLists.{KeepsMarksBut};
 ghost use Rattle.radix_tree.specs.Reads.{Stays};
 
 use crate::linking::{put_bit_node, put_mask_node};
@@ -97,18 +100,15 @@ fn link<V>(
 /// Lists a room's mask at a bit node, behind the longer ones.
 pub(crate) fn sort_in<V>(nodes: &mut Nodes<V>, fork: Id, room: Id, visits: &mut Visits)
     requires node { IsBitNode nodes.old.lodged fork }
-    requires list { (ms : List (Placed V)) × IsMasks nodes.old.lodged (heads_in nodes.old.lodged fork.number) ms }
+    requires list { (ms : List (Placed V)) × MasksAt nodes.old.lodged fork ms }
     requires free { IsFree nodes.old.lodged room }
     requires turn { visits.old.turn ≡ nodes.old.turn }
-    ensures list { (ms : List (Placed V)) (f : IsFree nodes.old.lodged room)
-        → IsMasks nodes.old.lodged (heads_in nodes.old.lodged fork.number) ms → IsNoRank f.is.entry.rank ms
-        → IsMasks nodes.new.lodged (heads_in nodes.new.lodged fork.number) (sorted_in f.is ms) }
+    ensures list { (ms : List (Placed V)) (f : IsFree nodes.old.lodged room) → MasksAt nodes.old.lodged fork ms
+        → IsNoRank f.is.entry.rank ms → MasksAt nodes.new.lodged fork (sorted_in f.is ms) }
     ensures heads { (n : ℕ) → (n ≡ fork.number → ⊥) → heads_in nodes.new.lodged n ≡ heads_in nodes.old.lodged n }
-    ensures masks { (ms : List (Placed V)) → IsMasks nodes.old.lodged (heads_in nodes.old.lodged fork.number) ms
-        → (n : ℕ) → (n ≡ room.number → ⊥) → IsAside n ms → masks_in nodes.new.lodged n ≡ masks_in nodes.old.lodged n }
+    ensures masks { KeepsAsideBut nodes.old.lodged nodes.new.lodged fork room }
     ensures marked { is_some (masks_in nodes.new.lodged room.number) ≡ true }
-    ensures marks { (n : ℕ) → (n ≡ room.number → ⊥)
-        → is_some (masks_in nodes.new.lodged n) ≡ is_some (masks_in nodes.old.lodged n) }
+    ensures marks { KeepsMarksBut nodes.old.lodged nodes.new.lodged room }
     ensures tree { KeepsTree nodes.old.lodged nodes.new.lodged }
     ensures stays { Stays nodes.old nodes.new visits.old visits.new }
 {
@@ -123,17 +123,14 @@ pub(crate) fn sort_in<V>(nodes: &mut Nodes<V>, fork: Id, room: Id, visits: &mut 
 pub(crate) fn sort_out<V>(nodes: &mut Nodes<V>, fork: Id, room: Id, visits: &mut Visits)
     requires node { IsBitNode nodes.old.lodged fork }
     requires list { (ms : List (Placed V)) × (x : Placed V)
-        × IsMasks nodes.old.lodged (heads_in nodes.old.lodged fork.number) ms × IsAmong x ms × (x.room ≡ room) }
+        × MasksAt nodes.old.lodged fork ms × IsAmong x ms × (x.room ≡ room) }
     requires turn { visits.old.turn ≡ nodes.old.turn }
-    ensures list { (ms : List (Placed V)) (x : Placed V)
-        → IsMasks nodes.old.lodged (heads_in nodes.old.lodged fork.number) ms → IsAmong x ms → x.room ≡ room
-        → IsMasks nodes.new.lodged (heads_in nodes.new.lodged fork.number) (taken_out x.entry.rank ms) }
+    ensures list { (ms : List (Placed V)) (x : Placed V) → MasksAt nodes.old.lodged fork ms → IsAmong x ms
+        → x.room ≡ room → MasksAt nodes.new.lodged fork (taken_out x.entry.rank ms) }
     ensures heads { (n : ℕ) → (n ≡ fork.number → ⊥) → heads_in nodes.new.lodged n ≡ heads_in nodes.old.lodged n }
-    ensures masks { (ms : List (Placed V)) → IsMasks nodes.old.lodged (heads_in nodes.old.lodged fork.number) ms
-        → (n : ℕ) → (n ≡ room.number → ⊥) → IsAside n ms → masks_in nodes.new.lodged n ≡ masks_in nodes.old.lodged n }
+    ensures masks { KeepsAsideBut nodes.old.lodged nodes.new.lodged fork room }
     ensures unmarked { masks_in nodes.new.lodged room.number ≡ None }
-    ensures marks { (n : ℕ) → (n ≡ room.number → ⊥)
-        → is_some (masks_in nodes.new.lodged n) ≡ is_some (masks_in nodes.old.lodged n) }
+    ensures marks { KeepsMarksBut nodes.old.lodged nodes.new.lodged room }
     ensures tree { KeepsTree nodes.old.lodged nodes.new.lodged }
     ensures stays { Stays nodes.old nodes.new visits.old visits.new }
 {
@@ -148,16 +145,15 @@ pub(crate) fn sort_out<V>(nodes: &mut Nodes<V>, fork: Id, room: Id, visits: &mut
 /// list of their own from now on.
 fn cut_list<V>(nodes: &mut Nodes<V>, fork: Id, bit: u8, visits: &mut Visits) -> Option<Id>
     requires node { IsBitNode nodes.old.lodged fork }
-    requires list { (ms : List (Placed V)) × IsMasks nodes.old.lodged (heads_in nodes.old.lodged fork.number) ms }
+    requires list { (ms : List (Placed V)) × MasksAt nodes.old.lodged fork ms }
     requires bit { bit ≤ last_bit }
     requires turn { visits.old.turn ≡ nodes.old.turn }
-    ensures kept { (ms : List (Placed V)) → IsMasks nodes.old.lodged (heads_in nodes.old.lodged fork.number) ms
-        → IsMasks nodes.new.lodged (heads_in nodes.new.lodged fork.number) (past_bit bit ms) }
-    ensures others { (ms : List (Placed V)) → IsMasks nodes.old.lodged (heads_in nodes.old.lodged fork.number) ms
+    ensures kept { (ms : List (Placed V)) → MasksAt nodes.old.lodged fork ms
+        → MasksAt nodes.new.lodged fork (past_bit bit ms) }
+    ensures others { (ms : List (Placed V)) → MasksAt nodes.old.lodged fork ms
         → IsMasks nodes.new.lodged result (up_to_bit bit ms) }
     ensures heads { (n : ℕ) → (n ≡ fork.number → ⊥) → heads_in nodes.new.lodged n ≡ heads_in nodes.old.lodged n }
-    ensures masks { (ms : List (Placed V)) → IsMasks nodes.old.lodged (heads_in nodes.old.lodged fork.number) ms
-        → (n : ℕ) → IsAside n ms → masks_in nodes.new.lodged n ≡ masks_in nodes.old.lodged n }
+    ensures masks { KeepsAside nodes.old.lodged nodes.new.lodged fork }
     ensures marks { (n : ℕ) → is_some (masks_in nodes.new.lodged n) ≡ is_some (masks_in nodes.old.lodged n) }
     ensures tree { KeepsTree nodes.old.lodged nodes.new.lodged }
     ensures stays { Stays nodes.old nodes.new visits.old visits.new }
@@ -172,22 +168,17 @@ fn cut_list<V>(nodes: &mut Nodes<V>, fork: Id, bit: u8, visits: &mut Visits) -> 
 /// list of their own from now on. A leaf has no list.
 pub(crate) fn cut<V>(nodes: &mut Nodes<V>, at: Node, bit: u8, visits: &mut Visits) -> Option<Id>
     requires node { (fork : Id) → at ≡ BitOf fork → IsBitNode nodes.old.lodged fork }
-    requires list { (fork : Id) → at ≡ BitOf fork
-        → (ms : List (Placed V)) × IsMasks nodes.old.lodged (heads_in nodes.old.lodged fork.number) ms }
+    requires list { (fork : Id) → at ≡ BitOf fork → (ms : List (Placed V)) × MasksAt nodes.old.lodged fork ms }
     requires bit { bit ≤ last_bit }
     requires turn { visits.old.turn ≡ nodes.old.turn }
-    ensures kept { (fork : Id) (ms : List (Placed V)) → at ≡ BitOf fork
-        → IsMasks nodes.old.lodged (heads_in nodes.old.lodged fork.number) ms
-        → IsMasks nodes.new.lodged (heads_in nodes.new.lodged fork.number) (past_bit bit ms) }
-    ensures others { (fork : Id) (ms : List (Placed V)) → at ≡ BitOf fork
-        → IsMasks nodes.old.lodged (heads_in nodes.old.lodged fork.number) ms
+    ensures kept { (fork : Id) (ms : List (Placed V)) → at ≡ BitOf fork → MasksAt nodes.old.lodged fork ms
+        → MasksAt nodes.new.lodged fork (past_bit bit ms) }
+    ensures others { (fork : Id) (ms : List (Placed V)) → at ≡ BitOf fork → MasksAt nodes.old.lodged fork ms
         → IsMasks nodes.new.lodged result (up_to_bit bit ms) }
     ensures leaf { (room : Id) → at ≡ LeafOf room → (result ≡ None) × (nodes.new ≡ nodes.old) }
     ensures heads { (n : ℕ) → ((fork : Id) → at ≡ BitOf fork → n ≡ fork.number → ⊥)
         → heads_in nodes.new.lodged n ≡ heads_in nodes.old.lodged n }
-    ensures masks { (fork : Id) (ms : List (Placed V)) → at ≡ BitOf fork
-        → IsMasks nodes.old.lodged (heads_in nodes.old.lodged fork.number) ms
-        → (n : ℕ) → IsAside n ms → masks_in nodes.new.lodged n ≡ masks_in nodes.old.lodged n }
+    ensures masks { (fork : Id) → at ≡ BitOf fork → KeepsAside nodes.old.lodged nodes.new.lodged fork }
     ensures marks { (n : ℕ) → is_some (masks_in nodes.new.lodged n) ≡ is_some (masks_in nodes.old.lodged n) }
     ensures tree { KeepsTree nodes.old.lodged nodes.new.lodged }
     ensures stays { Stays nodes.old nodes.new visits.old visits.new }
@@ -201,15 +192,13 @@ pub(crate) fn cut<V>(nodes: &mut Nodes<V>, at: Node, bit: u8, visits: &mut Visit
 /// Appends a list of masks to that of a bit node. All its masks are shorter than those of the bit node.
 pub(crate) fn append<V>(nodes: &mut Nodes<V>, fork: Id, tail: Option<Id>, visits: &mut Visits)
     requires node { IsBitNode nodes.old.lodged fork }
-    requires list { (ms ts : List (Placed V)) × IsMasks nodes.old.lodged (heads_in nodes.old.lodged fork.number) ms
+    requires list { (ms ts : List (Placed V)) × MasksAt nodes.old.lodged fork ms
         × IsMasks nodes.old.lodged tail ts × Falls 0 ranks (ms ++ ts) }
     requires turn { visits.old.turn ≡ nodes.old.turn }
-    ensures list { (ms ts : List (Placed V)) → IsMasks nodes.old.lodged (heads_in nodes.old.lodged fork.number) ms
-        → IsMasks nodes.old.lodged tail ts → Falls 0 ranks (ms ++ ts)
-        → IsMasks nodes.new.lodged (heads_in nodes.new.lodged fork.number) (ms ++ ts) }
+    ensures list { (ms ts : List (Placed V)) → MasksAt nodes.old.lodged fork ms → IsMasks nodes.old.lodged tail ts
+        → Falls 0 ranks (ms ++ ts) → MasksAt nodes.new.lodged fork (ms ++ ts) }
     ensures heads { (n : ℕ) → (n ≡ fork.number → ⊥) → heads_in nodes.new.lodged n ≡ heads_in nodes.old.lodged n }
-    ensures masks { (ms : List (Placed V)) → IsMasks nodes.old.lodged (heads_in nodes.old.lodged fork.number) ms
-        → (n : ℕ) → IsAside n ms → masks_in nodes.new.lodged n ≡ masks_in nodes.old.lodged n }
+    ensures masks { KeepsAside nodes.old.lodged nodes.new.lodged fork }
     ensures marks { (n : ℕ) → is_some (masks_in nodes.new.lodged n) ≡ is_some (masks_in nodes.old.lodged n) }
     ensures tree { KeepsTree nodes.old.lodged nodes.new.lodged }
     ensures stays { Stays nodes.old nodes.new visits.old visits.new }

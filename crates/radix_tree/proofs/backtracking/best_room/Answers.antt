@@ -1,5 +1,5 @@
 use Rattle.std.proofs.Common.{◌∙◌, subst, None, arith}
-use Rattle.radix_tree.specs.Searches.{Best, In}
+use Rattle.radix_tree.proofs.Words.{Best, In}
 use Rattle.radix_tree.proofs.Climbs.{begun, over, fork_over, used, risen, ended}
 use Rattle.radix_tree.proofs.Lifts.{Has-leaf_at}
 use Rattle.radix_tree.proofs.Parts.{chain_led, way_lists}
@@ -19,7 +19,7 @@ returns-in-Some-clause-best g c w =
 
 pub leaf-at-requires-clause-there : goal.leaf-at-requires-clause-there
 leaf-at-requires-clause-there g c =
-    let w = c.requires.whole in let l = c.leaf_for-leaf.ensures.leaf w.part w.named in Has-leaf_at _ l.part c.leaf_for-leaf.result l.leaf
+    let w = c.requires.whole in let l = c.leaf_for-leaf.ensures.leaf w.part w.named in Has-leaf_at _ l.leaf
 
 pub loop-at-init : goal.loop-at-init
 loop-at-init g c =
@@ -28,7 +28,8 @@ loop-at-init g c =
       climb = λ w.
           let l = c.leaf_for-leaf.ensures.leaf w.part w.named in
           let r = chain_led l in
-          begun l c.leaf-at.ensures.said (searched l c.in_default.is (c.first_agreeing.ensures.best r.0 r.1) (record { turn = turn; rises = omega arith; bound = omega arith }));
+          begun l c.leaf-at.ensures.said (searched l c.in_default.is (c.first_agreeing.ensures.best r.0 r.1)
+          (record { turn = turn; rises = omega arith; bound = omega arith }));
     }
 
 pub bit_node-node-requires-clause-used : goal.bit_node-node-requires-clause-used
@@ -42,7 +43,8 @@ best_listed-requires-clause-node g c =
 pub returns-in-Some-best_listed-clause-best : goal.returns-in-Some-best_listed-clause-best
 returns-in-Some-best_listed-clause-best g c w =
     let o = over w.top (c.loop-at.invariant.climb w) c.in-Some-at.is in
-    hit o (c.loop-at.invariant.climb w).holds c.in-Some-best_listed.is (c.best_listed.ensures.best o.part (fork_over o) (way_lists _ c.args.address w.part o.part o.ups o.way w.lists))
+    hit o (c.loop-at.invariant.climb w).holds c.in-Some-best_listed.is (c.best_listed.ensures.best o.part (fork_over o)
+    (way_lists _ c.args.address w.part o.part o.ups o.way w.lists))
 
 pub returns-in-Some-best_listed-clause-visits : goal.returns-in-Some-best_listed-clause-visits
 returns-in-Some-best_listed-clause-visits g c =
@@ -50,7 +52,12 @@ returns-in-Some-best_listed-clause-visits g c =
     let s = (c.loop-at.invariant.climb w).holds in
     let o = over w.top (c.loop-at.invariant.climb w) c.in-Some-at.is in
     let more = c.best_listed.ensures.visits o.part (fork_over o) (way_lists _ c.args.address w.part o.part o.ups o.way w.lists) in
-    record { turn = more.turn ∙ c.bit_node-node.ensures.visit.turn ∙ c.loop-at.invariant.turn; rises = omega (arith, s.rises, more.rises); bound = omega (arith, more.bound, s.few, o.beneath.low) }
+    record {
+      turn = more.turn ∙ c.bit_node-node.ensures.visit.turn ∙ c.loop-at.invariant.turn;
+      rises = omega (arith, s.rises, more.rises);
+      bound =
+          omega (arith, more.bound, s.few, o.beneath.low);
+    }
 
 pub loop-at-smaller : goal.loop-at-smaller
 loop-at-smaller g c =
@@ -64,12 +71,14 @@ pub loop-at-preserved : goal.loop-at-preserved
 loop-at-preserved g c =
     let w = c.requires.whole in
     let o = over w.top (c.loop-at.invariant.climb w) c.in-Some-at.is in record {
-      turn = (c.best_listed.ensures.visits o.part (fork_over o) (way_lists _ c.args.address w.part o.part o.ups o.way w.lists)).turn ∙ c.bit_node-node.ensures.visit.turn ∙ c.loop-at.invariant.turn;
+      turn = (c.best_listed.ensures.visits o.part (fork_over o) (way_lists _ c.args.address w.part o.part o.ups o.way w.lists)).turn
+          ∙ c.bit_node-node.ensures.visit.turn ∙ c.loop-at.invariant.turn;
       climb = λ w.
           let o = over w.top (c.loop-at.invariant.climb w) c.in-Some-at.is in
           let lists = way_lists _ c.args.address w.part o.part o.ups o.way w.lists in
           let more = c.best_listed.ensures.visits o.part (fork_over o) lists in
-          risen o c.bit_node-node.ensures.node (miss o (c.loop-at.invariant.climb w).holds c.in_default-best_listed.is (c.best_listed.ensures.best o.part (fork_over o) lists)
+          risen o c.bit_node-node.ensures.node (miss o (c.loop-at.invariant.climb w).holds c.in_default-best_listed.is
+          (c.best_listed.ensures.best o.part (fork_over o) lists)
           (record { turn = more.turn ∙ c.bit_node-node.ensures.visit.turn; rises = omega arith; bound = omega arith }));
     }
 
@@ -77,4 +86,5 @@ pub returns-clause-best : goal.returns-clause-best
 returns-clause-best g c w = subst (λ n. Best c.args.address n 34 (In w.part) None) w.low (ended (c.loop-at.invariant.climb w) c.in_default-at.is).none
 
 pub returns-clause-visits : goal.returns-clause-visits
-returns-clause-visits g c = let s = (c.loop-at.invariant.climb c.requires.whole).holds in record { turn = c.loop-at.invariant.turn; rises = s.rises; bound = omega (arith, s.few) }
+returns-clause-visits g c = let s = (c.loop-at.invariant.climb c.requires.whole).holds in
+    record { turn = c.loop-at.invariant.turn; rises = s.rises; bound = omega (arith, s.few) }

@@ -1,7 +1,5 @@
 use Rattle.std.proofs.Common.{ℕ, subst, arith}
-use Rattle.std.specs.Int.Bits.{bit_xor}
-use Rattle.std.specs.Int.Count.{count_leading_zeros}
-use Rattle.radix_tree.specs.Growth.{Differs}
+use Rattle.radix_tree.proofs.Words.{bit_xor, count_leading_zeros, Differs}
 use Rattle.radix_tree.proofs.Differences.{differs_first, none_differs}
 use Rattle.radix_tree.proofs.bits.first_difference.Goals as goal
 
@@ -13,4 +11,5 @@ returns-then-bit-lt32 c =
 
 pub returns-else-bit-lt32 : goal.returns-else-bit-lt32
 returns-else-bit-lt32 c =
-    let same = none_differs c.number.result c.number-2.result c.number.type_inv c.number-2.type_inv c.if-bit-lt32.false in omega (arith, same, c.number.ensures, c.number-2.ensures)
+    let same = none_differs c.number.result c.number-2.result c.number.type_inv c.number-2.type_inv c.if-bit-lt32.false in
+    omega (arith, same, c.number.ensures, c.number-2.ensures)

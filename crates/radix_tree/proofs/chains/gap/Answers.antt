@@ -1,14 +1,12 @@
 use Rattle.std.proofs.Common.{◌≡◌, ◌≤◌, ◌<◌, ◌+◌, ◌-◌, ◌∙◌, ℕ, Option, Some, None, sym, ap, subst, arith}
 use Rattle.std.proofs.lemmas.Bool.{eqb-true, eqb-false}
 use Rattle.std.proofs.lemmas.Map.Keys.{ge_from_not_lt}
-use Rattle.radix_nodes.specs.declared.id.Id.{Id}
-use Rattle.radix_nodes.specs.Counting.{Counter}
-use Rattle.radix_tree.specs.Chains.{Passed, FindsGap}
+use Rattle.radix_tree.proofs.Words.{Id, Counter, Passed, FindsGap}
 use Rattle.radix_tree.proofs.ChainGaps.{less_of, Has-first, begun, Has-at, few_at, passed, taken, found, ended}
 use Rattle.radix_tree.proofs.chains.gap.Goals as goal
 
 pub links-requires-clause-there : goal.links-requires-clause-there
-links-requires-clause-there g c = let r = c.requires.chain in Has-first c.args.nodes.now.lodged r.0 c.args.first r.1
+links-requires-clause-there g c = let r = c.requires.chain in Has-first r.0 c.args.first r.1
 
 pub loop-next-init : goal.loop-next-init
 loop-next-init g c =
@@ -17,31 +15,32 @@ loop-next-init g c =
     record {
       turn = ap (λ (v : Counter). v.turn) c.links.ensures.visit ∙ c.requires.turn;
       passed = λ r begins. subst (λ (n : ℕ). Passed c.args.rank r c.leaf-leaf.result.above c.leaf-leaf.result.previous (Some c.args.first) n) one
-          (begun c.args.nodes.now.lodged c.args.rank r c.args.first c.links.result.now c.leaf-leaf.result begins c.links.ensures.links c.leaf-leaf.ensures);
+          (begun c.args.rank r c.args.first c.links.result.now begins c.links.ensures.links c.leaf-leaf.ensures);
       rises = omega arith;
     }
 
 pub links-requires-in-Some-clause-there : goal.links-requires-in-Some-clause-there
 links-requires-in-Some-clause-there g c =
     let r = c.requires.chain in
-    Has-at c.args.nodes.now.lodged c.args.rank r.0 c.loop-next.above c.loop-next.previous c.loop-next.next _ c.in-Some.at (c.loop-next.invariant.passed r.0 r.1) c.in-Some.is
+    Has-at c.args.nodes.now.lodged r.0 c.in-Some.at (c.loop-next.invariant.passed r.0 r.1) c.in-Some.is
 
 pub returns-then-eq-clause-gap : goal.returns-then-eq-clause-gap
 returns-then-eq-clause-gap g c r begins =
-    taken c.args.nodes.now.lodged c.args.key c.args.rank r c.loop-next.above c.loop-next.previous c.loop-next.next _ c.in-Some.at c.links-in-Some.result.now c.leaf-member.result (c.loop-next.invariant.passed r begins) c.in-Some.is
+    taken c.args.nodes.now.lodged c.args.key r c.in-Some.at c.links-in-Some.result.now (c.loop-next.invariant.passed r begins) c.in-Some.is
     c.links-in-Some.ensures.links c.leaf-member.ensures (eqb-true c.leaf-member.result.rank c.args.rank (sym c.eq.ensures ∙ c.if-eq.true))
 
 pub returns-then-lt-clause-gap : goal.returns-then-lt-clause-gap
 returns-then-lt-clause-gap g c r begins =
-    subst (λ (o : Option Id). FindsGap c.args.key c.args.rank r (Some (record { key = c.args.key; rank = c.args.rank; above = c.loop-next.above; next = o; previous = c.loop-next.previous }))) c.in-Some.is
-    (found c.args.nodes.now.lodged c.args.key c.args.rank r c.loop-next.above c.loop-next.previous c.loop-next.next _ c.in-Some.at c.links-in-Some.result.now c.leaf-member.result (c.loop-next.invariant.passed r begins) c.in-Some.is
+    subst (λ (o : Option Id). FindsGap c.args.key c.args.rank r (Some (record
+    { key = c.args.key; rank = c.args.rank; above = c.loop-next.above; next = o; previous = c.loop-next.previous }))) c.in-Some.is
+    (found c.args.nodes.now.lodged c.args.key c.args.rank r c.in-Some.at c.links-in-Some.result.now (c.loop-next.invariant.passed r begins) c.in-Some.is
     c.links-in-Some.ensures.links c.leaf-member.ensures (less_of c.leaf-member.result.rank c.args.rank (sym c.lt.ensures ∙ c.if-lt.true)))
 
 pub loop-next-smaller : goal.loop-next-smaller
 loop-next-smaller g c =
     let r = c.requires.chain in
     let few : c.loop-next.visits.count - c.args.visits.now.count ≤ 34 =
-    few_at c.args.nodes.now.lodged c.args.rank r.0 c.loop-next.above c.loop-next.previous c.loop-next.next _ c.in-Some.at (c.loop-next.invariant.passed r.0 r.1) c.in-Some.is in
+    few_at c.args.nodes.now.lodged r.0 _ (c.loop-next.invariant.passed r.0 r.1) c.in-Some.is in
     let count : c.links-in-Some.new.visits.count ≡ c.loop-next.visits.count + 1 = ap (λ (v : Counter). v.count) c.links-in-Some.ensures.visit in
     let rises = c.loop-next.invariant.rises in omega arith
 
@@ -56,11 +55,11 @@ loop-next-preserved g c =
     record {
       turn = ap (λ (v : Counter). v.turn) c.links-in-Some.ensures.visit ∙ c.loop-next.invariant.turn;
       passed = λ r begins. subst (λ (n : ℕ). Passed c.args.rank r None (Some c.in-Some.at) c.leaf-member.result.next n) next
-          (passed c.args.nodes.now.lodged c.args.rank r c.loop-next.above c.loop-next.previous c.loop-next.next _ c.in-Some.at c.links-in-Some.result.now c.leaf-member.result (c.loop-next.invariant.passed r begins) c.in-Some.is
+          (passed c.args.nodes.now.lodged c.args.rank r _ c.in-Some.at c.links-in-Some.result.now (c.loop-next.invariant.passed r begins) c.in-Some.is
           c.links-in-Some.ensures.links c.leaf-member.ensures past);
       rises = omega arith;
     }
 
 pub returns-clause-gap : goal.returns-clause-gap
 returns-clause-gap g c r begins =
-    ended c.args.nodes.now.lodged c.args.key c.args.rank r c.loop-next.above c.loop-next.previous c.loop-next.next _ (c.loop-next.invariant.passed r begins) c.in_default.is
+    ended c.args.nodes.now.lodged c.args.key c.args.rank r (c.loop-next.invariant.passed r begins) c.in_default.is

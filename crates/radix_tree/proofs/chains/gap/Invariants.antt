@@ -1,12 +1,12 @@
 use Rattle.std.proofs.Common.{◌≡◌, ◌≤◌, ◌+◌, ◌-◌, Some}
-use Rattle.radix_tree.specs.Rooms.{Run, first_room}
-use Rattle.radix_tree.specs.Chains.{Passed}
+use Rattle.radix_tree.proofs.Words.{Run, first_room, Passed}
 use Rattle.radix_tree.proofs.chains.gap.Given as goal
 
 abbrev pub invariant-loop-next : goal.invariant-loop-next
 invariant-loop-next g l = record {
   turn : l.visits.turn ≡ l.nodes.turn;
-  passed : (c : Run l.fn.nodes.lodged) → first_room c.members ≡ Some l.fn.first → Passed l.fn.rank c l.above l.previous l.next (l.visits.count - l.fn.visits.count);
+  passed : (c : Run l.fn.nodes.lodged) → first_room c.members ≡ Some l.fn.first
+      → Passed l.fn.rank c l.above l.previous l.next (l.visits.count - l.fn.visits.count);
   rises : l.fn.visits.count ≤ l.visits.count;
 }
 

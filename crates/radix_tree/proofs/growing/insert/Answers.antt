@@ -4,25 +4,25 @@ use Rattle.radix_tree.proofs.Kept.{Has-led, leaf_key, whole_at}
 use Rattle.radix_tree.proofs.growing.insert.Goals as goal
 
 pub leaf_for-leaf-requires-clause-tree : goal.leaf_for-leaf-requires-clause-tree
-leaf_for-leaf-requires-clause-tree g c = let w = whole_at _ _ c.in-Some.root c.requires.holds c.in-Some.is in (w.part, w.named)
+leaf_for-leaf-requires-clause-tree g c = let w = whole_at _ c.requires.holds c.in-Some.is in (w.part, w.named)
 
 pub links-requires-clause-there : goal.links-requires-clause-there
 links-requires-clause-there g c =
-    let w = whole_at _ _ c.in-Some.root c.requires.holds c.in-Some.is in
-    Has-led _ c.args.entry.key w.part c.leaf_for-leaf.result (c.leaf_for-leaf.ensures.leaf w.part w.named)
+    let w = whole_at _ c.requires.holds c.in-Some.is in
+    Has-led _ (c.leaf_for-leaf.ensures.leaf w.part w.named)
 
 pub insert_new-requires-clause-new : goal.insert_new-requires-clause-new
 insert_new-requires-clause-new g c =
-    let w = whole_at _ _ c.in-Some.root c.requires.holds c.in-Some.is in
+    let w = whole_at _ c.requires.holds c.in-Some.is in
     let d = c.leaf_for-leaf.ensures.leaf w.part w.named in (
       w,
       d,
       subst (λ (k : ℕ). Differs c.args.entry.key k c.in-Some-first_difference.bit)
-          (leaf_key _ c.args.entry.key w.part c.leaf_for-leaf.result d c.links.result.now c.leaf.result c.links.ensures.links c.leaf.ensures) c.in-Some-first_difference.ensures,
+          (leaf_key _ d c.links.result.now c.links.ensures.links c.leaf.ensures) c.in-Some-first_difference.ensures,
     )
 
 pub insert_among-requires-clause-led : goal.insert_among-requires-clause-led
 insert_among-requires-clause-led g c =
-    let w = whole_at _ _ c.in-Some.root c.requires.holds c.in-Some.is in
+    let w = whole_at _ c.requires.holds c.in-Some.is in
     let d = c.leaf_for-leaf.ensures.leaf w.part w.named in
-    (w, d, sym (leaf_key _ c.args.entry.key w.part c.leaf_for-leaf.result d c.links.result.now c.leaf.result c.links.ensures.links c.leaf.ensures) ∙ sym c.in-None.ensures)
+    (w, d, sym (leaf_key _ d c.links.result.now c.links.ensures.links c.leaf.ensures) ∙ sym c.in-None.ensures)

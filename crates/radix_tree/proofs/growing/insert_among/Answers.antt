@@ -7,12 +7,14 @@ pub returns-in-Err-clause-there : goal.returns-in-Err-clause-there
 returns-in-Err-clause-there g c =
     let w = c.requires.led.0 in
     let at = c.in-Err.ensures.there w in
-    pair_there c.args.nodes.now.lodged c.args.root w c.args.entry.key c.args.entry.rank at.0 at.1 at.2
+    pair_there w c.args.entry.key c.args.entry.rank at.0 at.1 at.2
 
 pub returns-in-Ok-clause-whole : goal.returns-in-Ok-clause-whole
 returns-in-Ok-clause-whole g c =
-    among_left c.list_mask.new.nodes.lodged c.in-Ok.root c.args.room c.in-Ok.id.number c.in-Ok.ensures.number (c.list_mask.ensures.whole c.in-Ok.root (late_at c.args.room) c.in-Ok.ensures.ok)
+    among_left c.in-Ok.root c.args.room c.in-Ok.id.number c.in-Ok.ensures.number
+    (c.list_mask.ensures.whole c.in-Ok.root (late_at c.args.room) c.in-Ok.ensures.ok)
 
 pub returns-in-Ok-clause-routes : goal.returns-in-Ok-clause-routes
 returns-in-Ok-clause-routes g c =
-    gains_same _ _ c.insert_in_chain.new.nodes.lodged c.list_mask.new.nodes.lodged c.in-Ok.root c.in-Ok.ensures.routes c.list_mask.ensures.tree.leaves c.list_mask.ensures.tree.bits
+    gains_same _ _ c.insert_in_chain.new.nodes.lodged c.list_mask.new.nodes.lodged c.in-Ok.root c.in-Ok.ensures.routes c.list_mask.ensures.tree.leaves
+    c.list_mask.ensures.tree.bits

@@ -1,6 +1,5 @@
 use Rattle.std.proofs.Common.{ℕ, ap, ◌∙◌}
-use Rattle.radix_tree.specs.Marks.{has_key}
-use Rattle.radix_tree.specs.Rooms.{masks_in}
+use Rattle.radix_tree.proofs.Words.{has_key, masks_in}
 use Rattle.radix_tree.proofs.Gained.{gains_same, new_left, led_begun, still_begun, same_begun, still_key}
 use Rattle.radix_tree.proofs.growing.insert_new.Goals as goal
 
@@ -23,8 +22,8 @@ list_chain-requires-clause-whole g c =
 pub list_chain-requires-clause-first : goal.list_chain-requires-clause-first
 list_chain-requires-clause-first g c =
     let i = c.requires.new in
-    let b = same_begun c.insert_beside-root.new.nodes.lodged c.list_mask.new.nodes.lodged _ c.args.leaf
-    (still_begun c.args.nodes.now.lodged c.insert_beside-root.new.nodes.lodged _ c.args.leaf (led_begun c.args.nodes.now.lodged c.args.entry.key i.0.part c.args.leaf i.1) c.insert_beside-root.ensures.leaves)
+    let b = same_begun c.list_mask.new.nodes.lodged
+    (still_begun c.args.nodes.now.lodged c.insert_beside-root.new.nodes.lodged (led_begun c.args.nodes.now.lodged i.1) c.insert_beside-root.ensures.leaves)
     c.list_mask.ensures.tree.leaves in (b.part, b.at, b.block, b.previous)
 
 pub returns-clause-whole : goal.returns-clause-whole
@@ -32,16 +31,19 @@ returns-clause-whole g c =
     let i = c.requires.new in
     let m = c.args.nodes.now.lodged in
     let key = i.1.leaf.first.entry.key in
-    let b = same_begun c.insert_beside-root.new.nodes.lodged c.list_mask.new.nodes.lodged _ c.args.leaf
-    (still_begun m c.insert_beside-root.new.nodes.lodged _ c.args.leaf (led_begun m c.args.entry.key i.0.part c.args.leaf i.1) c.insert_beside-root.ensures.leaves)
+    let b = same_begun c.list_mask.new.nodes.lodged
+    (still_begun m c.insert_beside-root.new.nodes.lodged (led_begun m i.1) c.insert_beside-root.ensures.leaves)
     c.list_mask.ensures.tree.leaves in
-    new_left c.list_chain.new.nodes.lodged c.list_mask.new.nodes.lodged c.insert_beside-root.result.0 c.args.room c.insert_beside-root.result.1.number key b.part.leaf.key (has_key m key)
+    new_left c.list_chain.new.nodes.lodged c.list_mask.new.nodes.lodged c.args.room key b.part.leaf.key (has_key m key)
     c.insert_beside-root.ensures.number b.key_is
-    (λ n has. still_key m c.insert_beside-root.new.nodes.lodged c.list_mask.new.nodes.lodged key n c.insert_beside-root.ensures.leaves c.list_mask.ensures.tree.leaves has)
-    (c.list_chain.ensures.whole c.insert_beside-root.result.0 _ b.part (c.list_mask.ensures.whole c.insert_beside-root.result.0 _ (c.insert_beside-root.ensures.whole i.0 i.1 i.2)) b.at)
+    (λ n has. still_key m c.insert_beside-root.new.nodes.lodged c.list_mask.new.nodes.lodged key n c.insert_beside-root.ensures.leaves
+    c.list_mask.ensures.tree.leaves has)
+    (c.list_chain.ensures.whole c.insert_beside-root.result.0 _ b.part (c.list_mask.ensures.whole c.insert_beside-root.result.0 _
+    (c.insert_beside-root.ensures.whole i.0 i.1 i.2)) b.at)
 
 pub returns-clause-routes : goal.returns-clause-routes
 returns-clause-routes g c =
     gains_same _ _ c.list_mask.new.nodes.lodged c.list_chain.new.nodes.lodged c.insert_beside-root.result.0
-    (gains_same _ _ c.insert_beside-root.new.nodes.lodged c.list_mask.new.nodes.lodged c.insert_beside-root.result.0 c.insert_beside-root.ensures.routes c.list_mask.ensures.tree.leaves c.list_mask.ensures.tree.bits)
+    (gains_same _ _ c.insert_beside-root.new.nodes.lodged c.list_mask.new.nodes.lodged c.insert_beside-root.result.0 c.insert_beside-root.ensures.routes
+    c.list_mask.ensures.tree.leaves c.list_mask.ensures.tree.bits)
     c.list_chain.ensures.tree.leaves c.list_chain.ensures.tree.bits

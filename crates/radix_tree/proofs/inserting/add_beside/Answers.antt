@@ -1,8 +1,5 @@
 use Rattle.std.proofs.Common.{◌≡◌, ◌∙◌, sym, subst}
-use Rattle.radix_nodes.specs.declared.links.Node.{Node}
-use Rattle.radix_tree.specs.Rooms.{Part}
-use Rattle.radix_tree.specs.Growth.{forked_tree, placed}
-use Rattle.radix_tree.specs.Exchange.{Exchanged}
+use Rattle.radix_tree.proofs.Words.{Node, Part, forked_tree, placed, Exchanged}
 use Rattle.radix_tree.proofs.Lodging.{over_there, below_there, beside}
 use Rattle.radix_tree.proofs.Beside.{whole_forked}
 use Rattle.radix_tree.proofs.inserting.add_beside.Goals as goal
@@ -10,27 +7,28 @@ use Rattle.radix_tree.proofs.inserting.add_beside.Goals as goal
 pub name_child-requires-clause-tree : goal.name_child-requires-clause-tree
 name_child-requires-clause-tree g c over is =
     let s = c.requires.spot in
-    over_there c.args.nodes.now.lodged c.lodge_forked-id.new.nodes.lodged c.args.entry.key c.args.spot.bit c.lodge_forked-id.result over c.args.entry _ s.0 c.args.spot.above c.args.spot.below s.1 c.lodge_forked-id.ensures.lodged is
+    over_there _ s.0 s.1 c.lodge_forked-id.ensures.lodged is
 
 pub lift-requires-clause-tree : goal.lift-requires-clause-tree
 lift-requires-clause-tree g c =
     let s = c.requires.spot in
-    below_there c.args.nodes.now.lodged c.lodge_forked-id.new.nodes.lodged c.name_child.new.nodes.lodged c.args.entry.key c.args.spot.bit c.lodge_forked-id.result c.args.entry _ s.0 c.args.spot.above c.args.spot.below s.1 c.lodge_forked-id.ensures.lodged
+    below_there c.args.nodes.now.lodged c.lodge_forked-id.new.nodes.lodged c.name_child.new.nodes.lodged _ s.0 s.1 c.lodge_forked-id.ensures.lodged
     c.name_child.ensures.only.leaves c.name_child.ensures.bits
 
 pub returns-clause-beside : goal.returns-clause-beside
 returns-clause-beside g c =
     let s = c.requires.spot in
-    beside c.args.nodes.now.lodged c.lodge_forked-id.new.nodes.lodged c.name_child.new.nodes.lodged c.lift.new.nodes.lodged c.args.spot.bit c.lodge_forked-id.result c.args.entry s.0 c.args.spot.above c.args.spot.below s.1
+    beside c.name_child.new.nodes.lodged c.lift.new.nodes.lodged s.0 s.1
     c.lodge_forked-id.ensures.lodged c.name_child.ensures.only.leaves c.name_child.ensures.bits c.lift.ensures.leaves c.lift.ensures.bits
 
 pub returns-clause-exchanged : goal.returns-clause-exchanged
 returns-clause-exchanged g c p s named =
-    let b = beside c.args.nodes.now.lodged c.lodge_forked-id.new.nodes.lodged c.name_child.new.nodes.lodged c.lift.new.nodes.lodged c.args.spot.bit c.lodge_forked-id.result c.args.entry p c.args.spot.above c.args.spot.below s
+    let b = beside c.name_child.new.nodes.lodged c.lift.new.nodes.lodged p s
     c.lodge_forked-id.ensures.lodged c.name_child.ensures.only.leaves c.name_child.ensures.bits c.lift.ensures.leaves c.lift.ensures.bits in
-    subst (λ (z : Node). (u : Part c.lift.new.nodes.lodged) × (u.tree ≡ forked_tree c.args.spot.bit (placed c.lodge_forked-id.result c.args.entry) s.at.tree) × Exchanged c.args.nodes.now.lodged c.lift.new.nodes.lodged c.args.entry.key p s.at u z)
+    subst (λ (z : Node). (u : Part c.lift.new.nodes.lodged) × (u.tree ≡ forked_tree c.args.spot.bit (placed c.lodge_forked-id.result c.args.entry) s.at.tree)
+    × Exchanged c.args.nodes.now.lodged c.lift.new.nodes.lodged c.args.entry.key p s.at u z)
     (sym c.root_after.ensures)
-    (whole_forked c.args.nodes.now.lodged c.lift.new.nodes.lodged c.args.spot.bit (placed c.lodge_forked-id.result c.args.entry) p c.args.spot.above c.args.spot.below c.args.root s b c.requires.route named)
+    (whole_forked p s b c.requires.route named)
 
 pub returns-clause-heads : goal.returns-clause-heads
 returns-clause-heads g c n = c.lift.ensures.heads n ∙ c.name_child.ensures.only.heads n ∙ c.lodge_forked-id.ensures.heads n

@@ -1,103 +1,107 @@
 use Rattle.std.proofs.Common.{◌≡◌, ℕ, ◌==◌, ◌||◌, sym, ap, ◌∙◌, subst}
-use Rattle.std.specs.FinMap.{get}
-use Rattle.radix_nodes.specs.declared.nodes.Nodes.{Nodes}
-use Rattle.radix_tree.specs.Rooms.{Part, mask_in}
-use Rattle.radix_tree.specs.Searches.{LedTo}
-use Rattle.radix_tree.specs.Whole.{IsWhole}
-use Rattle.radix_tree.specs.Growth.{Differs, IsSpot, forked_tree, placed}
-use Rattle.radix_tree.specs.Exchange.{Exchanged}
-use Rattle.radix_tree.specs.Marks.{IsWholeBut, HasRoomMore, has_key, nobody_late, nobody_out}
+use Rattle.radix_tree.proofs.Words.{get, Nodes, Part, mask_in, LedTo, IsWhole, Differs, IsSpot, forked_tree, placed, Exchanged, IsWholeBut, HasRoomMore}
+use Rattle.radix_tree.proofs.Words.{has_key, nobody_out}
 use Rattle.radix_tree.proofs.Parts.{fork_named}
 use Rattle.radix_tree.proofs.MaskLists.{bit_node_at}
 use Rattle.radix_tree.proofs.Cuts.{list_at}
-use Rattle.radix_tree.proofs.WholeChanges.{whole_but}
-use Rattle.radix_tree.proofs.BesideWhole.{Came, new_key, same_part, same_spot, exchanged_from, came_beside, whole_beside, routes_beside, room_more, leaf_kept, new_there}
+use Rattle.radix_tree.proofs.WholeParts.{whole_but}
+use Rattle.radix_tree.proofs.BesideRooms.{Came, same_part, same_spot, exchanged_from, room_more, leaf_kept, new_there}
+use Rattle.radix_tree.proofs.BesideWhole.{new_key, came_beside, whole_beside, routes_beside}
 use Rattle.radix_tree.proofs.inserting.insert_beside.Given as given
 use Rattle.radix_tree.proofs.inserting.insert_beside.Goals as goal
 
 pub spot_above-spot-requires-clause-new : goal.spot_above-spot-requires-clause-new
 spot_above-spot-requires-clause-new g c =
-    let n = c.requires.new in (c.args.entry.key, new_key c.args.nodes.now.lodged c.args.root n.0 c.args.entry.key c.args.bit c.args.leaf n.1 n.2)
+    let n = c.requires.new in (c.args.entry.key, new_key n.0 n.1 n.2)
 
 pub cut-masks-requires-clause-node : goal.cut-masks-requires-clause-node
 cut-masks-requires-clause-node g c fork is =
     let n = c.requires.new in
-    let s = c.spot_above-spot.ensures.spot c.args.entry.key (new_key c.args.nodes.now.lodged c.args.root n.0 c.args.entry.key c.args.bit c.args.leaf n.1 n.2) in
-    bit_node_at c.args.nodes.now.lodged s.at fork (fork_named c.args.nodes.now.lodged s.at fork (s.named ∙ is))
+    let s = c.spot_above-spot.ensures.spot c.args.entry.key (new_key n.0 n.1 n.2) in
+    bit_node_at c.args.nodes.now.lodged (fork_named s.at (s.named ∙ is))
 
 pub cut-masks-requires-clause-list : goal.cut-masks-requires-clause-list
 cut-masks-requires-clause-list g c fork is =
     let n = c.requires.new in
-    let s = c.spot_above-spot.ensures.spot c.args.entry.key (new_key c.args.nodes.now.lodged c.args.root n.0 c.args.entry.key c.args.bit c.args.leaf n.1 n.2) in
-    list_at c.args.nodes.now.lodged c.args.root nobody_late nobody_out (whole_but c.args.nodes.now.lodged c.args.root n.0) c.args.entry.key s.at s.ups fork s.way (s.named ∙ is)
+    let s = c.spot_above-spot.ensures.spot c.args.entry.key (new_key n.0 n.1 n.2) in
+    list_at (whole_but n.0) c.args.entry.key s.at s.ups s.way (s.named ∙ is)
 
 pub add_beside-requires-clause-spot : goal.add_beside-requires-clause-spot
 add_beside-requires-clause-spot g c =
     let n = c.requires.new in
-    let s = c.spot_above-spot.ensures.spot c.args.entry.key (new_key c.args.nodes.now.lodged c.args.root n.0 c.args.entry.key c.args.bit c.args.leaf n.1 n.2) in (
-      same_part c.args.nodes.now.lodged c.cut-masks.new.nodes.lodged c.cut-masks.ensures.tree.leaves c.cut-masks.ensures.tree.bits n.0.part,
-      same_spot c.args.nodes.now.lodged c.cut-masks.new.nodes.lodged c.cut-masks.ensures.tree.leaves c.cut-masks.ensures.tree.bits c.args.entry.key c.spot_above-spot.result.bit n.0.part c.spot_above-spot.result.above c.spot_above-spot.result.below
-          (subst (λ (b : ℕ). IsSpot c.args.nodes.now.lodged c.args.entry.key b n.0.part c.spot_above-spot.result.above c.spot_above-spot.result.below) (sym c.spot_above-spot.ensures.bit) s),
+    let s = c.spot_above-spot.ensures.spot c.args.entry.key (new_key n.0 n.1 n.2) in (
+      same_part c.cut-masks.new.nodes.lodged c.cut-masks.ensures.tree.leaves c.cut-masks.ensures.tree.bits n.0.part,
+      same_spot c.cut-masks.new.nodes.lodged c.cut-masks.ensures.tree.leaves c.cut-masks.ensures.tree.bits n.0.part
+          (subst (λ (b : ℕ). IsSpot c.args.nodes.now.lodged c.args.entry.key b n.0.part c.spot_above-spot.result.above c.spot_above-spot.result.below)
+          (sym c.spot_above-spot.ensures.bit) s),
     )
 
 -- the spot, of the bit that it tells
-spot_of : (g : given.Over) (c : goal.After-add_beside g) (w : IsWhole c.args.nodes.now.lodged c.args.root) (d : LedTo c.args.entry.key w.part c.args.leaf) → Differs c.args.entry.key d.leaf.first.entry.key c.args.bit
+spot_of : (g : given.Over) (c : goal.After-add_beside g) (w : IsWhole c.args.nodes.now.lodged c.args.root) (d : LedTo c.args.entry.key w.part c.args.leaf)
+    → Differs c.args.entry.key d.leaf.first.entry.key c.args.bit
     → IsSpot c.args.nodes.now.lodged c.args.entry.key c.spot_above-spot.result.bit w.part c.spot_above-spot.result.above c.spot_above-spot.result.below
 spot_of g c w d differs =
-    subst (λ (b : ℕ). IsSpot c.args.nodes.now.lodged c.args.entry.key b w.part c.spot_above-spot.result.above c.spot_above-spot.result.below) (sym c.spot_above-spot.ensures.bit)
-    (c.spot_above-spot.ensures.spot c.args.entry.key (new_key c.args.nodes.now.lodged c.args.root w c.args.entry.key c.args.bit c.args.leaf d differs))
+    subst (λ (b : ℕ). IsSpot c.args.nodes.now.lodged c.args.entry.key b w.part c.spot_above-spot.result.above c.spot_above-spot.result.below)
+    (sym c.spot_above-spot.ensures.bit)
+    (c.spot_above-spot.ensures.spot c.args.entry.key (new_key w d differs))
 
 -- all that has come of the rooms
-came_of : (g : given.Over) (c : goal.After-add_beside g) (w : IsWhole c.args.nodes.now.lodged c.args.root) (s : IsSpot c.args.nodes.now.lodged c.args.entry.key c.spot_above-spot.result.bit w.part c.spot_above-spot.result.above c.spot_above-spot.result.below)
-    → Came c.args.nodes.now.lodged c.cut-masks.new.nodes.lodged c.add_beside.new.nodes.lodged s.at.low c.spot_above-spot.result.bit s.at.tree (placed c.add_beside.result.1 c.args.entry) c.spot_above-spot.result.above c.spot_above-spot.result.below
+came_of : (g : given.Over) (c : goal.After-add_beside g) (w : IsWhole c.args.nodes.now.lodged c.args.root)
+    (s : IsSpot c.args.nodes.now.lodged c.args.entry.key c.spot_above-spot.result.bit w.part c.spot_above-spot.result.above c.spot_above-spot.result.below)
+    → Came c.args.nodes.now.lodged c.cut-masks.new.nodes.lodged c.add_beside.new.nodes.lodged s.at.low c.spot_above-spot.result.bit s.at.tree
+    (placed c.add_beside.result.1 c.args.entry) c.spot_above-spot.result.above c.spot_above-spot.result.below
 came_of g c w s =
-    came_beside c.args.nodes.now.lodged c.cut-masks.new.nodes.lodged c.add_beside.new.nodes.lodged c.args.root w c.spot_above-spot.result.bit (placed c.add_beside.result.1 c.args.entry) c.spot_above-spot.result.above c.spot_above-spot.result.below c.cut-masks.result s
+    came_beside w c.cut-masks.result s
     c.cut-masks.ensures.kept c.cut-masks.ensures.others
     (λ room is. let l = c.cut-masks.ensures.leaf room is in (l.0, ap (λ (n : Nodes g.row.V.Denot). n.lodged) l.1))
-    c.cut-masks.ensures.heads c.cut-masks.ensures.masks c.cut-masks.ensures.marks c.cut-masks.ensures.tree.leaves c.cut-masks.ensures.tree.bits
+    c.cut-masks.ensures.heads (λ fork ms is. c.cut-masks.ensures.masks fork is ms) c.cut-masks.ensures.marks c.cut-masks.ensures.tree.leaves
+    c.cut-masks.ensures.tree.bits
     c.add_beside.ensures.beside c.add_beside.ensures.heads c.add_beside.ensures.masks
-    (ap (λ (k : ℕ). mask_in (get c.args.nodes.now.lodged k)) c.add_beside.ensures.number ∙ ap mask_in c.requires.free)
+    (ap (λ (k : ℕ). mask_in (get c.args.nodes.now.lodged k)) c.add_beside.ensures.number ∙ ap mask_in c.requires.spare.free)
 
 -- the part with the route in it
-part_of : (g : given.Over) (c : goal.After-add_beside g) (w : IsWhole c.args.nodes.now.lodged c.args.root) (s : IsSpot c.args.nodes.now.lodged c.args.entry.key c.spot_above-spot.result.bit w.part c.spot_above-spot.result.above c.spot_above-spot.result.below)
-    → (u : Part c.add_beside.new.nodes.lodged) × (u.tree ≡ forked_tree c.spot_above-spot.result.bit (placed c.add_beside.result.1 c.args.entry) s.at.tree) × Exchanged c.args.nodes.now.lodged c.add_beside.new.nodes.lodged c.args.entry.key w.part s.at u c.add_beside.result.0
+part_of : (g : given.Over) (c : goal.After-add_beside g) (w : IsWhole c.args.nodes.now.lodged c.args.root)
+    (s : IsSpot c.args.nodes.now.lodged c.args.entry.key c.spot_above-spot.result.bit w.part c.spot_above-spot.result.above c.spot_above-spot.result.below)
+    → (u : Part c.add_beside.new.nodes.lodged) × (u.tree ≡ forked_tree c.spot_above-spot.result.bit (placed c.add_beside.result.1 c.args.entry) s.at.tree)
+    × Exchanged c.args.nodes.now.lodged c.add_beside.new.nodes.lodged c.args.entry.key w.part s.at u c.add_beside.result.0
 part_of g c w s =
     let leaves = c.cut-masks.ensures.tree.leaves in
     let bits = c.cut-masks.ensures.tree.bits in
-    let e = c.add_beside.ensures.exchanged (same_part c.args.nodes.now.lodged c.cut-masks.new.nodes.lodged c.cut-masks.ensures.tree.leaves c.cut-masks.ensures.tree.bits w.part)
-    (same_spot c.args.nodes.now.lodged c.cut-masks.new.nodes.lodged c.cut-masks.ensures.tree.leaves c.cut-masks.ensures.tree.bits c.args.entry.key c.spot_above-spot.result.bit w.part c.spot_above-spot.result.above c.spot_above-spot.result.below s) w.named in
-    (e.0, e.1, exchanged_from c.args.nodes.now.lodged c.cut-masks.new.nodes.lodged c.add_beside.new.nodes.lodged c.cut-masks.ensures.tree.leaves c.cut-masks.ensures.tree.bits c.args.entry.key w.part s.at e.0 c.add_beside.result.0 e.2)
+    let e = c.add_beside.ensures.exchanged (same_part c.cut-masks.new.nodes.lodged c.cut-masks.ensures.tree.leaves c.cut-masks.ensures.tree.bits w.part)
+    (same_spot c.cut-masks.new.nodes.lodged c.cut-masks.ensures.tree.leaves c.cut-masks.ensures.tree.bits w.part s) w.named in
+    (e.0, e.1, exchanged_from c.cut-masks.ensures.tree.leaves c.cut-masks.ensures.tree.bits w.part s.at e.2)
 
 pub returns-clause-whole : goal.returns-clause-whole
 returns-clause-whole g c w d differs =
     let s = spot_of g c w d differs in
     let p = part_of g c w s in
-    subst (λ (r : ℕ). IsWholeBut c.add_beside.new.nodes.lodged c.add_beside.result.0 (λ n. (n == r) || has_key c.args.nodes.now.lodged d.leaf.first.entry.key n) nobody_out) c.add_beside.ensures.number
-    (whole_beside c.args.nodes.now.lodged c.cut-masks.new.nodes.lodged c.add_beside.new.nodes.lodged c.args.root c.add_beside.result.0 (whole_but c.args.nodes.now.lodged c.args.root w) c.spot_above-spot.result.bit (placed c.add_beside.result.1 c.args.entry) c.spot_above-spot.result.above c.spot_above-spot.result.below s
-    c.args.leaf d p.0 (came_of g c w s) p.1 p.2)
+    subst (λ (r : ℕ). IsWholeBut c.add_beside.new.nodes.lodged c.add_beside.result.0
+    (λ n. (n == r) || has_key c.args.nodes.now.lodged d.leaf.first.entry.key n) nobody_out) c.add_beside.ensures.number
+    (whole_beside (whole_but w) s
+    d p.0 (came_of g c w s) p.1 p.2)
 
 pub returns-clause-routes : goal.returns-clause-routes
 returns-clause-routes g c =
     let n = c.requires.new in
     let s = spot_of g c n.0 n.1 n.2 in
     let p = part_of g c n.0 s in
-    routes_beside c.args.nodes.now.lodged c.add_beside.new.nodes.lodged c.args.root c.add_beside.result.0 (whole_but c.args.nodes.now.lodged c.args.root n.0) c.spot_above-spot.result.bit (placed c.add_beside.result.1 c.args.entry) c.spot_above-spot.result.above c.spot_above-spot.result.below s p.0 p.1 p.2
+    routes_beside (whole_but n.0) (placed c.add_beside.result.1 c.args.entry) s p.0 p.1 p.2
 
 pub returns-clause-rooms : goal.returns-clause-rooms
 returns-clause-rooms g c =
     let n = c.requires.new in
     let s = spot_of g c n.0 n.1 n.2 in
     subst (HasRoomMore c.args.nodes.now.lodged c.add_beside.new.nodes.lodged) c.add_beside.ensures.number
-    (room_more c.args.nodes.now.lodged c.cut-masks.new.nodes.lodged c.add_beside.new.nodes.lodged s.at.low c.spot_above-spot.result.bit s.at.tree (placed c.add_beside.result.1 c.args.entry) c.spot_above-spot.result.above c.spot_above-spot.result.below (came_of g c n.0 s))
+    (room_more s.at.tree (came_of g c n.0 s))
 
 pub returns-clause-there : goal.returns-clause-there
 returns-clause-there g c =
     let n = c.requires.new in
     let s = spot_of g c n.0 n.1 n.2 in
-    new_there c.args.nodes.now.lodged c.cut-masks.new.nodes.lodged c.add_beside.new.nodes.lodged s.at.low c.spot_above-spot.result.bit s.at.tree (placed c.add_beside.result.1 c.args.entry) c.spot_above-spot.result.above c.spot_above-spot.result.below (came_of g c n.0 s)
+    new_there (came_of g c n.0 s)
 
 pub returns-clause-leaves : goal.returns-clause-leaves
 returns-clause-leaves g c =
     let n = c.requires.new in
     let s = spot_of g c n.0 n.1 n.2 in
-    leaf_kept c.args.nodes.now.lodged c.cut-masks.new.nodes.lodged c.add_beside.new.nodes.lodged s.at.low c.spot_above-spot.result.bit s.at.tree (placed c.add_beside.result.1 c.args.entry) c.spot_above-spot.result.above c.spot_above-spot.result.below (came_of g c n.0 s)
+    leaf_kept (came_of g c n.0 s)

@@ -1,23 +1,24 @@
 use Rattle.std.proofs.Common.{◌∙◌, ap, ℕ, Option}
-use Rattle.std.specs.FinMap.{get}
-use Rattle.radix_nodes.specs.declared.id.Id.{Id}
-use Rattle.radix_tree.specs.Rooms.{heads_in}
-use Rattle.radix_tree.specs.Growth.{with_head}
+use Rattle.radix_tree.proofs.Words.{get, Id, heads_in, with_head}
 use Rattle.radix_tree.proofs.Lodging.{Has-lodged_leaf, Has-again, lodged}
 use Rattle.radix_tree.proofs.inserting.lodge_forked.Goals as goal
 
 pub put_leaf-requires-clause-there : goal.put_leaf-requires-clause-there
-put_leaf-requires-clause-there g c = Has-lodged_leaf c.lodge_leaf-id.new.nodes.lodged c.lodge_leaf-id.result _ _ _ (c.lodge_leaf-id.ensures.leaves c.lodge_leaf-id.result.number)
+put_leaf-requires-clause-there g c =
+    Has-lodged_leaf c.lodge_leaf-id.new.nodes.lodged c.lodge_leaf-id.result _ _ _ (c.lodge_leaf-id.ensures.leaves c.lodge_leaf-id.result.number)
 
 pub put_bit_node-requires-clause-there : goal.put_bit_node-requires-clause-there
 put_bit_node-requires-clause-there g c =
-    Has-again c.lodge_leaf-id.new.nodes.lodged c.put_leaf.new.nodes.lodged c.lodge_leaf-id.result _ _ _ _ (c.lodge_leaf-id.ensures.leaves c.lodge_leaf-id.result.number) (c.put_leaf.ensures.leaves c.lodge_leaf-id.result.number)
+    Has-again c.lodge_leaf-id.new.nodes.lodged c.put_leaf.new.nodes.lodged c.lodge_leaf-id.result _ _ _ _
+    (c.lodge_leaf-id.ensures.leaves c.lodge_leaf-id.result.number) (c.put_leaf.ensures.leaves c.lodge_leaf-id.result.number)
 
 pub returns-clause-lodged : goal.returns-clause-lodged
 returns-clause-lodged g c =
-    lodged c.args.nodes.now.lodged c.lodge_leaf-id.new.nodes.lodged c.put_leaf.new.nodes.lodged c.put_bit_node.new.nodes.lodged c.lodge_leaf-id.result c.args.entry c.lone_leaf.result c.lone_leaf-2.result c.forked_node-node.result _
-    (ap (λ (k : ℕ). get c.args.nodes.now.lodged k) c.lodge_leaf-id.ensures.number ∙ c.requires.free)
-    c.lodge_leaf-id.ensures.leaves c.lodge_leaf-id.ensures.only.bits c.put_leaf.ensures.leaves c.put_leaf.ensures.only.bits c.put_bit_node.ensures.leaves c.put_bit_node.ensures.bits
+    lodged c.args.nodes.now.lodged c.lodge_leaf-id.new.nodes.lodged c.put_leaf.new.nodes.lodged c.put_bit_node.new.nodes.lodged c.lodge_leaf-id.result
+    c.args.entry c.lone_leaf.result c.lone_leaf-2.result c.forked_node-node.result _
+    (ap (λ (k : ℕ). get c.args.nodes.now.lodged k) c.lodge_leaf-id.ensures.number ∙ c.requires.spare.free)
+    c.lodge_leaf-id.ensures.leaves c.lodge_leaf-id.ensures.only.bits c.put_leaf.ensures.leaves c.put_leaf.ensures.only.bits c.put_bit_node.ensures.leaves
+    c.put_bit_node.ensures.bits
     c.lone_leaf-2.ensures c.forked_node-node.ensures.part
 
 pub returns-clause-heads : goal.returns-clause-heads

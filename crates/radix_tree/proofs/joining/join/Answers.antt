@@ -1,7 +1,5 @@
 use Rattle.std.proofs.Common.{◌∙◌, ap, Option, None}
-use Rattle.radix_nodes.specs.declared.id.Id.{Id}
-use Rattle.radix_tree.specs.Rooms.{LeafPart, BitPart}
-use Rattle.radix_tree.specs.Writes.{put_bit, put_head, lift_leaf, lift_bit}
+use Rattle.radix_tree.proofs.Words.{Id, LeafPart, BitPart, put_bit, put_head, lift_leaf, lift_bit}
 use Rattle.radix_tree.proofs.JoinLinks.{Has-kept, below_stays}
 use Rattle.radix_tree.proofs.joining.join.Goals as goal
 
@@ -9,22 +7,24 @@ pub name_child-requires-clause-tree : goal.name_child-requires-clause-tree
 name_child-requires-clause-tree g c over is = c.requires.above over is
 
 pub put_bit_node-requires-clause-there : goal.put_bit_node-requires-clause-there
-put_bit_node-requires-clause-there g c = Has-kept c.args.nodes.now.lodged c.name_child.new.nodes.lodged c.args.up c.requires.up (c.name_child.ensures.only.leaves c.args.up.number)
+put_bit_node-requires-clause-there g c = Has-kept c.name_child.new.nodes.lodged c.requires.up (c.name_child.ensures.only.leaves c.args.up.number)
 
 pub lift-requires-clause-tree : goal.lift-requires-clause-tree
 lift-requires-clause-tree g c =
     let b = c.requires.beneath in
-    below_stays c.args.nodes.now.lodged c.name_child.new.nodes.lodged c.put_bit_node.new.nodes.lodged b.0 c.args.up c.args.above c.args.address c.args.to b.1 b.2
+    below_stays c.args.nodes.now.lodged c.name_child.new.nodes.lodged c.put_bit_node.new.nodes.lodged b.0 c.args.up c.args.address c.args.to b.1 b.2
     c.name_child.ensures.only.leaves c.put_bit_node.ensures.leaves c.name_child.ensures.bits c.put_bit_node.ensures.bits
 
 pub returns-clause-leaves : goal.returns-clause-leaves
 returns-clause-leaves g c n =
-    c.lift.ensures.leaves n ∙ ap (λ (said : Option (LeafPart g.row.V.Denot)). lift_leaf c.args.to c.args.above n said) (c.put_bit_node.ensures.leaves n ∙ c.name_child.ensures.only.leaves n)
+    c.lift.ensures.leaves n ∙ ap (λ (said : Option (LeafPart g.row.V.Denot)). lift_leaf c.args.to c.args.above n said)
+    (c.put_bit_node.ensures.leaves n ∙ c.name_child.ensures.only.leaves n)
 
 pub returns-clause-bits : goal.returns-clause-bits
 returns-clause-bits g c n =
     c.lift.ensures.bits n
-    ∙ ap (λ (said : Option BitPart). lift_bit c.args.to c.args.above n said) (c.put_bit_node.ensures.bits n ∙ ap (λ (said : Option BitPart). put_bit c.args.up None n said) (c.name_child.ensures.bits n))
+    ∙ ap (λ (said : Option BitPart). lift_bit c.args.to c.args.above n said)
+    (c.put_bit_node.ensures.bits n ∙ ap (λ (said : Option BitPart). put_bit c.args.up None n said) (c.name_child.ensures.bits n))
 
 pub returns-clause-heads : goal.returns-clause-heads
 returns-clause-heads g c n =

@@ -14,10 +14,16 @@ returns-clause-leaves g c =
 
 pub returns-clause-only : goal.returns-clause-only
 returns-clause-only g c = record {
-  bits = λ n. let free : get c.args.nodes.now.lodged c.lodge-id.result.number ≡ None = ap (λ (k : ℕ). get c.args.nodes.now.lodged k) c.lodge-id.ensures.number ∙ c.requires.free in
-      c.put_leaf.ensures.only.bits n ∙ rw c.lodge-id.ensures.lodged.2 (lodged_bits c.args.nodes.now.lodged c.lodge-id.result c.args.value c.lodge-id.ensures.lodged.0 free c.lodge-id.ensures.lodged.1.bit_node n);
-  heads = λ n. let free : get c.args.nodes.now.lodged c.lodge-id.result.number ≡ None = ap (λ (k : ℕ). get c.args.nodes.now.lodged k) c.lodge-id.ensures.number ∙ c.requires.free in
-      c.put_leaf.ensures.only.heads n ∙ rw c.lodge-id.ensures.lodged.2 (lodged_heads c.args.nodes.now.lodged c.lodge-id.result c.args.value c.lodge-id.ensures.lodged.0 free c.lodge-id.ensures.lodged.1.bit_node n);
-  masks = λ n. let free : get c.args.nodes.now.lodged c.lodge-id.result.number ≡ None = ap (λ (k : ℕ). get c.args.nodes.now.lodged k) c.lodge-id.ensures.number ∙ c.requires.free in
-      c.put_leaf.ensures.only.masks n ∙ rw c.lodge-id.ensures.lodged.2 (lodged_masks c.args.nodes.now.lodged c.lodge-id.result c.args.value c.lodge-id.ensures.lodged.0 free c.lodge-id.ensures.lodged.1.mask_node n);
+  bits = λ n. let free : get c.args.nodes.now.lodged c.lodge-id.result.number ≡ None =
+      ap (λ (k : ℕ). get c.args.nodes.now.lodged k) c.lodge-id.ensures.number ∙ c.requires.spare.free in
+      c.put_leaf.ensures.only.bits n ∙ rw c.lodge-id.ensures.lodged.2 (lodged_bits c.args.nodes.now.lodged c.lodge-id.result c.args.value
+      c.lodge-id.ensures.lodged.0 free c.lodge-id.ensures.lodged.1.bit_node n);
+  heads = λ n. let free : get c.args.nodes.now.lodged c.lodge-id.result.number ≡ None =
+      ap (λ (k : ℕ). get c.args.nodes.now.lodged k) c.lodge-id.ensures.number ∙ c.requires.spare.free in
+      c.put_leaf.ensures.only.heads n ∙ rw c.lodge-id.ensures.lodged.2 (lodged_heads c.args.nodes.now.lodged c.lodge-id.result c.args.value
+      c.lodge-id.ensures.lodged.0 free c.lodge-id.ensures.lodged.1.bit_node n);
+  masks = λ n. let free : get c.args.nodes.now.lodged c.lodge-id.result.number ≡ None =
+      ap (λ (k : ℕ). get c.args.nodes.now.lodged k) c.lodge-id.ensures.number ∙ c.requires.spare.free in
+      c.put_leaf.ensures.only.masks n ∙ rw c.lodge-id.ensures.lodged.2 (lodged_masks c.args.nodes.now.lodged c.lodge-id.result c.args.value
+      c.lodge-id.ensures.lodged.0 free c.lodge-id.ensures.lodged.1.mask_node n);
 }

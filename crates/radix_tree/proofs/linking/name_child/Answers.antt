@@ -1,7 +1,5 @@
 use Rattle.std.proofs.Common.{◌∙◌, sym, ap, refl, Option}
-use Rattle.radix_nodes.specs.declared.id.Id.{Id}
-use Rattle.radix_tree.specs.Growth.{name_child, with_child}
-use Rattle.radix_tree.specs.Rooms.{bits_in}
+use Rattle.radix_tree.proofs.Words.{Id, name_child, with_child, bits_in}
 use Rattle.radix_tree.proofs.Climbs.{used}
 use Rattle.radix_tree.proofs.Lifts.{node_changed}
 use Rattle.radix_tree.proofs.Parts.{Has-fork}
@@ -11,19 +9,21 @@ pub bit_node-node-requires-clause-used : goal.bit_node-node-requires-clause-used
 bit_node-node-requires-clause-used g c = used (c.requires.tree c.in-Some.up c.in-Some.is).1
 
 pub put_bit_node-requires-clause-there : goal.put_bit_node-requires-clause-there
-put_bit_node-requires-clause-there g c = let t = c.requires.tree c.in-Some.up c.in-Some.is in Has-fork _ t.0 c.in-Some.up t.1
+put_bit_node-requires-clause-there g c = let t = c.requires.tree c.in-Some.up c.in-Some.is in Has-fork _ t.1
 
 pub put_bit_node-requires-else-is_one-clause-there : goal.put_bit_node-requires-else-is_one-clause-there
-put_bit_node-requires-else-is_one-clause-there g c = let t = c.requires.tree c.in-Some.up c.in-Some.is in Has-fork _ t.0 c.in-Some.up t.1
+put_bit_node-requires-else-is_one-clause-there g c = let t = c.requires.tree c.in-Some.up c.in-Some.is in Has-fork _ t.1
 
 pub returns-then-is_one-clause-bits : goal.returns-then-is_one-clause-bits
 returns-then-is_one-clause-bits g c n =
     c.put_bit_node.ensures.bits n
-    ∙ node_changed _ c.in-Some.up (record c.bit_node-node.result { one = c.args.to }) (with_child c.args.address c.args.to) n c.bit_node-node.ensures.node (rw (sym c.is_one.ensures ∙ c.if-is_one.true) refl)
+    ∙ node_changed _ (record c.bit_node-node.result { one = c.args.to }) (with_child c.args.address c.args.to) n c.bit_node-node.ensures.node
+    (rw (sym c.is_one.ensures ∙ c.if-is_one.true) refl)
     ∙ ap (λ (o : Option Id). name_child o c.args.address c.args.to n (bits_in c.args.nodes.now.lodged n)) (sym c.in-Some.is)
 
 pub returns-else-is_one-clause-bits : goal.returns-else-is_one-clause-bits
 returns-else-is_one-clause-bits g c n =
     c.put_bit_node-else-is_one.ensures.bits n
-    ∙ node_changed _ c.in-Some.up (record c.bit_node-node.result { zero = c.args.to }) (with_child c.args.address c.args.to) n c.bit_node-node.ensures.node (rw (sym c.is_one.ensures ∙ c.if-is_one.false) refl)
+    ∙ node_changed _ (record c.bit_node-node.result { zero = c.args.to }) (with_child c.args.address c.args.to) n c.bit_node-node.ensures.node
+    (rw (sym c.is_one.ensures ∙ c.if-is_one.false) refl)
     ∙ ap (λ (o : Option Id). name_child o c.args.address c.args.to n (bits_in c.args.nodes.now.lodged n)) (sym c.in-Some.is)

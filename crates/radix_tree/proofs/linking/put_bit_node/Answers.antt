@@ -5,16 +5,20 @@ use Rattle.radix_tree.proofs.linking.put_bit_node.Goals as goal
 
 pub returns-clause-leaves : goal.returns-clause-leaves
 returns-clause-leaves g c =
-    leaves_kept c.args.nodes.now.lodged c.set_links.new.self.lodged c.args.room c.with_bit_node.result c.links-links.result.now c.requires.there (ap (λ (r : Rooms g.row.V.Denot). r.lodged) c.set_links.ensures) c.links-links.ensures.links c.with_bit_node.ensures.leaf
+    leaves_kept c.with_bit_node.result c.links-links.result.now c.requires.there (ap (λ (r : Rooms g.row.V.Denot). r.lodged) c.set_links.ensures)
+    c.links-links.ensures.links c.with_bit_node.ensures.leaf
 
 pub returns-clause-masks : goal.returns-clause-masks
 returns-clause-masks g c =
-    masks_kept c.args.nodes.now.lodged c.set_links.new.self.lodged c.args.room c.with_bit_node.result c.links-links.result.now c.requires.there (ap (λ (r : Rooms g.row.V.Denot). r.lodged) c.set_links.ensures) c.links-links.ensures.links c.with_bit_node.ensures.mask_node
+    masks_kept c.with_bit_node.result c.links-links.result.now c.requires.there (ap (λ (r : Rooms g.row.V.Denot). r.lodged) c.set_links.ensures)
+    c.links-links.ensures.links c.with_bit_node.ensures.mask_node
 
 pub returns-clause-bits : goal.returns-clause-bits
 returns-clause-bits g c =
-    bits_put c.args.nodes.now.lodged c.set_links.new.self.lodged c.args.room c.with_bit_node.result c.args.node c.requires.there (ap (λ (r : Rooms g.row.V.Denot). r.lodged) c.set_links.ensures) c.with_bit_node.ensures.bit_node
+    bits_put c.args.room c.with_bit_node.result c.requires.there (ap (λ (r : Rooms g.row.V.Denot). r.lodged) c.set_links.ensures)
+    c.with_bit_node.ensures.bit_node
 
 pub returns-clause-heads : goal.returns-clause-heads
 returns-clause-heads g c =
-    heads_put c.args.nodes.now.lodged c.set_links.new.self.lodged c.args.room c.with_bit_node.result c.args.node c.requires.there (ap (λ (r : Rooms g.row.V.Denot). r.lodged) c.set_links.ensures) c.with_bit_node.ensures.bit_node
+    heads_put c.args.room c.with_bit_node.result c.requires.there (ap (λ (r : Rooms g.row.V.Denot). r.lodged) c.set_links.ensures)
+    c.with_bit_node.ensures.bit_node

@@ -5,11 +5,15 @@ use Rattle.radix_tree.proofs.linking.put_leaf.Goals as goal
 
 pub returns-clause-only : goal.returns-clause-only
 returns-clause-only g c = record {
-  bits = bits_kept c.args.nodes.now.lodged c.set_links.new.self.lodged c.args.room c.with_leaf.result c.links-links.result.now c.requires.there (ap (λ (r : Rooms g.row.V.Denot). r.lodged) c.set_links.ensures) c.links-links.ensures.links c.with_leaf.ensures.bit_node;
-  heads = heads_kept c.args.nodes.now.lodged c.set_links.new.self.lodged c.args.room c.with_leaf.result c.links-links.result.now c.requires.there (ap (λ (r : Rooms g.row.V.Denot). r.lodged) c.set_links.ensures) c.links-links.ensures.links c.with_leaf.ensures.bit_node;
-  masks = masks_kept c.args.nodes.now.lodged c.set_links.new.self.lodged c.args.room c.with_leaf.result c.links-links.result.now c.requires.there (ap (λ (r : Rooms g.row.V.Denot). r.lodged) c.set_links.ensures) c.links-links.ensures.links c.with_leaf.ensures.mask_node;
+  bits = bits_kept c.with_leaf.result c.links-links.result.now c.requires.there (ap (λ (r : Rooms g.row.V.Denot). r.lodged) c.set_links.ensures)
+      c.links-links.ensures.links c.with_leaf.ensures.bit_node;
+  heads = heads_kept c.with_leaf.result c.links-links.result.now c.requires.there (ap (λ (r : Rooms g.row.V.Denot). r.lodged) c.set_links.ensures)
+      c.links-links.ensures.links c.with_leaf.ensures.bit_node;
+  masks = masks_kept c.with_leaf.result c.links-links.result.now c.requires.there (ap (λ (r : Rooms g.row.V.Denot). r.lodged) c.set_links.ensures)
+      c.links-links.ensures.links c.with_leaf.ensures.mask_node;
 }
 
 pub returns-clause-leaves : goal.returns-clause-leaves
 returns-clause-leaves g c =
-    leaves_put c.args.nodes.now.lodged c.set_links.new.self.lodged c.args.room c.with_leaf.result c.args.leaf c.requires.there (ap (λ (r : Rooms g.row.V.Denot). r.lodged) c.set_links.ensures) c.with_leaf.ensures.leaf
+    leaves_put c.args.room c.with_leaf.result c.args.leaf c.requires.there (ap (λ (r : Rooms g.row.V.Denot). r.lodged) c.set_links.ensures)
+    c.with_leaf.ensures.leaf

@@ -5,14 +5,18 @@ use Rattle.radix_tree.proofs.linking.put_mask_node.Goals as goal
 
 pub returns-clause-tree : goal.returns-clause-tree
 returns-clause-tree g c = record {
-  leaves = leaves_kept c.args.nodes.now.lodged c.set_links.new.self.lodged c.args.room c.with_mask_node.result c.links-links.result.now c.requires.there (ap (λ (r : Rooms g.row.V.Denot). r.lodged) c.set_links.ensures) c.links-links.ensures.links c.with_mask_node.ensures.leaf;
-  bits = bits_kept c.args.nodes.now.lodged c.set_links.new.self.lodged c.args.room c.with_mask_node.result c.links-links.result.now c.requires.there (ap (λ (r : Rooms g.row.V.Denot). r.lodged) c.set_links.ensures) c.links-links.ensures.links c.with_mask_node.ensures.bit_node;
+  leaves = leaves_kept c.with_mask_node.result c.links-links.result.now c.requires.there (ap (λ (r : Rooms g.row.V.Denot). r.lodged) c.set_links.ensures)
+      c.links-links.ensures.links c.with_mask_node.ensures.leaf;
+  bits = bits_kept c.with_mask_node.result c.links-links.result.now c.requires.there (ap (λ (r : Rooms g.row.V.Denot). r.lodged) c.set_links.ensures)
+      c.links-links.ensures.links c.with_mask_node.ensures.bit_node;
 }
 
 pub returns-clause-heads : goal.returns-clause-heads
 returns-clause-heads g c =
-    heads_kept c.args.nodes.now.lodged c.set_links.new.self.lodged c.args.room c.with_mask_node.result c.links-links.result.now c.requires.there (ap (λ (r : Rooms g.row.V.Denot). r.lodged) c.set_links.ensures) c.links-links.ensures.links c.with_mask_node.ensures.bit_node
+    heads_kept c.with_mask_node.result c.links-links.result.now c.requires.there (ap (λ (r : Rooms g.row.V.Denot). r.lodged) c.set_links.ensures)
+    c.links-links.ensures.links c.with_mask_node.ensures.bit_node
 
 pub returns-clause-masks : goal.returns-clause-masks
 returns-clause-masks g c =
-    masks_put c.args.nodes.now.lodged c.set_links.new.self.lodged c.args.room c.with_mask_node.result c.args.node c.requires.there (ap (λ (r : Rooms g.row.V.Denot). r.lodged) c.set_links.ensures) c.with_mask_node.ensures.mask_node
+    masks_put c.args.room c.with_mask_node.result c.requires.there (ap (λ (r : Rooms g.row.V.Denot). r.lodged) c.set_links.ensures)
+    c.with_mask_node.ensures.mask_node

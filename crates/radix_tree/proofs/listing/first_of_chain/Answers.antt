@@ -1,32 +1,34 @@
 use Rattle.std.proofs.Common.{◌≡◌, ◌≤◌, ◌+◌, ◌-◌, ◌∙◌, ap, arith}
-use Rattle.radix_nodes.specs.Counting.{Counter}
+use Rattle.radix_tree.proofs.Words.{Counter}
 use Rattle.radix_tree.proofs.ChainStarts.{Has-member, come, earlier, few_at, ended}
 use Rattle.radix_tree.proofs.listing.first_of_chain.Goals as goal
 
 pub links-requires-clause-there : goal.links-requires-clause-there
-links-requires-clause-there g c = let r = c.requires.chain in Has-member c.args.nodes.now.lodged r.0 r.1 c.args.room r.2 r.3 r.4
+links-requires-clause-there g c = let r = c.requires.chain in Has-member r.0 r.1 r.2 r.3 r.4
 
 pub loop-before-init : goal.loop-before-init
 loop-before-init g c =
     let count : c.links.new.visits.count ≡ c.args.visits.now.count + 1 = ap (λ (v : Counter). v.count) c.links.ensures.visit in
     record {
       turn = ap (λ (v : Counter). v.turn) c.links.ensures.visit ∙ c.requires.turn;
-      back = λ r y first among is. come c.args.nodes.now.lodged r y c.args.room (c.links.new.visits.count - c.args.visits.now.count) c.links.result.now c.leaf-before.result first among is (omega arith) c.links.ensures.links c.leaf-before.ensures;
+      back = λ r y first among is. come r y (c.links.new.visits.count - c.args.visits.now.count) c.links.result.now first among is (omega arith)
+          c.links.ensures.links c.leaf-before.ensures;
       rises = omega arith;
     }
 
 pub links-requires-in-Some-clause-there : goal.links-requires-in-Some-clause-there
 links-requires-in-Some-clause-there g c =
     let r = c.requires.chain in
-    let e = earlier c.args.nodes.now.lodged r.0 c.loop-before.at c.loop-before.before c.in-Some.previous _ (c.loop-before.invariant.back r.0 r.1 r.2 r.3 r.4) c.in-Some.is in
-    Has-member c.args.nodes.now.lodged r.0 e.is c.in-Some.previous r.2 e.among e.room_is
+    let e = earlier c.args.nodes.now.lodged r.0 _ (c.loop-before.invariant.back r.0 r.1 r.2 r.3 r.4) c.in-Some.is in
+    Has-member r.0 e.is r.2 e.among e.room_is
 
 pub loop-before-smaller : goal.loop-before-smaller
 loop-before-smaller g c =
     let r = c.requires.chain in
     let count : c.links-in-Some.new.visits.count ≡ c.loop-before.visits.count + 1 = ap (λ (v : Counter). v.count) c.links-in-Some.ensures.visit in
     let rises : c.args.visits.now.count ≤ c.loop-before.visits.count = c.loop-before.invariant.rises in
-    let few : c.loop-before.visits.count - c.args.visits.now.count ≤ 34 = few_at c.args.nodes.now.lodged r.0 c.loop-before.at c.loop-before.before _ (c.loop-before.invariant.back r.0 r.1 r.2 r.3 r.4) in
+    let few : c.loop-before.visits.count - c.args.visits.now.count ≤ 34 =
+    few_at c.args.nodes.now.lodged r.0 _ (c.loop-before.invariant.back r.0 r.1 r.2 r.3 r.4) in
     omega arith
 
 pub loop-before-preserved : goal.loop-before-preserved
@@ -36,12 +38,13 @@ loop-before-preserved g c =
     record {
       turn = ap (λ (v : Counter). v.turn) c.links-in-Some.ensures.visit ∙ c.loop-before.invariant.turn;
       back = λ r y first among is.
-          let e = earlier c.args.nodes.now.lodged r c.loop-before.at c.loop-before.before c.in-Some.previous _ (c.loop-before.invariant.back r y first among is) c.in-Some.is in
+          let e = earlier c.args.nodes.now.lodged r _ (c.loop-before.invariant.back r y first among is) c.in-Some.is in
           let few : c.loop-before.visits.count - c.args.visits.now.count ≤ e.is.entry.rank = e.few in
-          come c.args.nodes.now.lodged r e.is c.in-Some.previous (c.links-in-Some.new.visits.count - c.args.visits.now.count) c.links-in-Some.result.now c.leaf-before-in-Some.result first e.among e.room_is (omega arith) c.links-in-Some.ensures.links
+          come r e.is (c.links-in-Some.new.visits.count - c.args.visits.now.count) c.links-in-Some.result.now first e.among e.room_is (omega arith)
+          c.links-in-Some.ensures.links
           c.leaf-before-in-Some.ensures;
       rises = omega arith;
     }
 
 pub returns-clause-first : goal.returns-clause-first
-returns-clause-first g c r y first among is = ended c.args.nodes.now.lodged r c.loop-before.at c.loop-before.before _ (c.loop-before.invariant.back r y first among is) c.in_default.is
+returns-clause-first g c r y first among is = ended c.args.nodes.now.lodged r (c.loop-before.invariant.back r y first among is) c.in_default.is

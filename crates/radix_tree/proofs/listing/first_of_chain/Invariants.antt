@@ -1,13 +1,13 @@
 use Rattle.std.proofs.Common.{◌≡◌, ◌≤◌, ◌+◌, ◌-◌, None}
-use Rattle.radix_tree.specs.Tree.{Placed, IsAmong}
-use Rattle.radix_tree.specs.Rooms.{Run}
+use Rattle.radix_tree.proofs.Words.{Placed, IsAmong, Run}
 use Rattle.radix_tree.proofs.ChainStarts.{Back}
 use Rattle.radix_tree.proofs.listing.first_of_chain.Given as goal
 
 abbrev pub invariant-loop-before : goal.invariant-loop-before
 invariant-loop-before g l = record {
   turn : l.visits.turn ≡ l.nodes.turn;
-  back : (c : Run l.fn.nodes.lodged) (y : Placed g.row.V.Denot) → c.previous ≡ None → IsAmong y c.members → y.room ≡ l.fn.room → Back c l.at l.before (l.visits.count - l.fn.visits.count);
+  back : (c : Run l.fn.nodes.lodged) (y : Placed g.row.V.Denot) → c.previous ≡ None → IsAmong y c.members → y.room ≡ l.fn.room
+      → Back c l.at l.before (l.visits.count - l.fn.visits.count);
   rises : l.fn.visits.count ≤ l.visits.count;
 }
 

@@ -1,6 +1,5 @@
 use Rattle.std.proofs.Common.{◌∙◌, refl, sym, ap}
-use Rattle.radix_nodes.specs.Counting.{Counter}
-use Rattle.radix_tree.specs.Rooms.{LeafPart}
+use Rattle.radix_tree.proofs.Words.{Counter, LeafPart}
 use Rattle.radix_tree.proofs.RoomReads.{inside}
 use Rattle.radix_tree.proofs.ListedChains.{begun, Has-at, passed, nearer, ended}
 use Rattle.radix_tree.proofs.listing.list_chain.Goals as goal
@@ -12,7 +11,7 @@ loop-at-init g c = record {
   turns = refl;
   leaves = λ n. refl;
   bits = λ n. refl;
-  left = λ root late p w said block none. begun c.args.nodes.now.lodged root late c.args.first p w said block none;
+  left = λ root late p w said block none. begun late c.args.first p w said block none;
 }
 
 pub list_late-requires-clause-whole : goal.list_late-requires-clause-whole
@@ -27,14 +26,14 @@ list_late-requires-clause-there g c =
     let w = c.requires.whole in
     let f = c.requires.first in
     let l = c.loop-at.invariant.left w.0 w.1 f.0 w.2 f.1 f.2 f.3 in
-    Has-at c.args.nodes.now.lodged c.loop-at.nodes.lodged c.loop-at.nodes.lodged w.0 w.1 f.0.leaf.key c.loop-at.at c.in-Some.room l c.loop-at.invariant.leaves c.in-Some.is
+    Has-at c.loop-at.nodes.lodged l c.loop-at.invariant.leaves c.in-Some.is
 
 pub links-requires-clause-there : goal.links-requires-clause-there
 links-requires-clause-there g c =
     let w = c.requires.whole in
     let f = c.requires.first in
     let l = c.loop-at.invariant.left w.0 w.1 f.0 w.2 f.1 f.2 f.3 in
-    Has-at c.args.nodes.now.lodged c.loop-at.nodes.lodged c.list_late.new.nodes.lodged w.0 w.1 f.0.leaf.key c.loop-at.at c.in-Some.room l
+    Has-at c.list_late.new.nodes.lodged l
     (λ n. c.list_late.ensures.tree.leaves n ∙ c.loop-at.invariant.leaves n) c.in-Some.is
 
 pub loop-at-smaller : goal.loop-at-smaller
@@ -42,7 +41,8 @@ loop-at-smaller g c =
     let w = c.requires.whole in
     let f = c.requires.first in
     let l = c.loop-at.invariant.left w.0 w.1 f.0 w.2 f.1 f.2 f.3 in
-    nearer c.args.nodes.now.lodged c.loop-at.nodes.lodged c.list_late.new.nodes.lodged w.0 w.1 f.0.leaf.key c.loop-at.at c.in-Some.room c.links.result.now c.leaf-at.result l c.in-Some.is c.loop-at.invariant.leaves
+    nearer c.args.nodes.now.lodged c.loop-at.nodes.lodged c.list_late.new.nodes.lodged c.loop-at.at c.in-Some.room c.links.result.now l c.in-Some.is
+    c.loop-at.invariant.leaves
     (λ n. c.list_late.ensures.tree.leaves n ∙ c.loop-at.invariant.leaves n) c.links.ensures.links c.leaf-at.ensures
 
 pub loop-at-preserved : goal.loop-at-preserved
@@ -54,13 +54,15 @@ loop-at-preserved g c = record {
   bits = λ n. c.list_late.ensures.tree.bits n ∙ c.loop-at.invariant.bits n;
   left = λ root late p w said block none.
       let l = c.loop-at.invariant.left root late p w said block none in
-      passed c.args.nodes.now.lodged c.loop-at.nodes.lodged c.list_late.new.nodes.lodged root late p.leaf.key c.loop-at.at c.in-Some.room c.links.result.now c.leaf-at.result l c.in-Some.is
-      (λ n. c.list_late.ensures.tree.leaves n ∙ c.loop-at.invariant.leaves n) c.links.ensures.links c.leaf-at.ensures (c.list_late.ensures.whole root l.later l.whole);
+      passed c.in-Some.room c.links.result.now l c.in-Some.is
+      (λ n. c.list_late.ensures.tree.leaves n ∙ c.loop-at.invariant.leaves n) c.links.ensures.links c.leaf-at.ensures
+      (c.list_late.ensures.whole root l.later l.whole);
 }
 
 pub returns-clause-whole : goal.returns-clause-whole
 returns-clause-whole g c root late p w said =
     let f = c.requires.first in
     let same = inside (sym f.1 ∙ said) in
-    ended c.args.nodes.now.lodged c.loop-at.nodes.lodged root late p.leaf.key c.loop-at.at
-    (c.loop-at.invariant.left root late p w said (ap (λ (q : LeafPart g.row.V.Denot). q.block) (sym same) ∙ f.2) (ap (λ (q : LeafPart g.row.V.Denot). q.leaf.previous) (sym same) ∙ f.3)) c.in_default.is
+    ended late p.leaf.key
+    (c.loop-at.invariant.left root late p w said (ap (λ (q : LeafPart g.row.V.Denot). q.block) (sym same) ∙ f.2)
+    (ap (λ (q : LeafPart g.row.V.Denot). q.leaf.previous) (sym same) ∙ f.3)) c.in_default.is

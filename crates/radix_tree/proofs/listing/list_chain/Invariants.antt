@@ -1,8 +1,5 @@
 use Rattle.std.proofs.Common.{◌≡◌, Bool, ℕ, Some, None}
-use Rattle.radix_nodes.specs.declared.links.Node.{Node}
-use Rattle.radix_tree.specs.Rooms.{LeafPart, leaves_in}
-use Rattle.radix_tree.specs.Writes.{KeepsLeaves, KeepsBits}
-use Rattle.radix_tree.specs.Marks.{IsWholeBut, nobody_out}
+use Rattle.radix_tree.proofs.Words.{Node, LeafPart, leaves_in, KeepsLeaves, KeepsBits, IsWholeBut, nobody_out}
 use Rattle.radix_tree.proofs.ListedChains.{Left, left_at}
 use Rattle.radix_tree.proofs.listing.list_chain.Given as goal
 
@@ -13,7 +10,8 @@ invariant-loop-at g l = record {
   turns : l.nodes.turn ≡ l.fn.nodes.turn;
   leaves : KeepsLeaves l.fn.nodes.lodged l.nodes.lodged;
   bits : KeepsBits l.fn.nodes.lodged l.nodes.lodged;
-  left : (root : Node) (late : ℕ → Bool) (p : LeafPart g.row.V.Denot) → IsWholeBut l.fn.nodes.lodged root late nobody_out → leaves_in l.fn.nodes.lodged l.fn.first.number ≡ Some p → p.block ≡ l.fn.first.block → p.leaf.previous ≡ None
+  left : (root : Node) (late : ℕ → Bool) (p : LeafPart g.row.V.Denot) → IsWholeBut l.fn.nodes.lodged root late nobody_out
+      → leaves_in l.fn.nodes.lodged l.fn.first.number ≡ Some p → p.block ≡ l.fn.first.block → p.leaf.previous ≡ None
       → Left l.fn.nodes.lodged l.nodes.lodged root late p.leaf.key l.at;
 }
 

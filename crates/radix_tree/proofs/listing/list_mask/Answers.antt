@@ -1,41 +1,48 @@
 use Rattle.std.proofs.Common.{subst}
-use Rattle.radix_tree.specs.MaskLists.{IsHome}
-use Rattle.radix_tree.specs.Marks.{nobody_out}
-use Rattle.radix_tree.proofs.WholeChanges.{once_but}
-use Rattle.radix_tree.proofs.Listed.{placed_in, listed_more, never_late, homed, home_node, home_masks, home_free}
+use Rattle.radix_tree.proofs.Words.{IsHome}
+use Rattle.radix_tree.proofs.WholeParts.{once_but}
+use Rattle.radix_tree.proofs.HomeLists.{placed_in}
+use Rattle.radix_tree.proofs.Listed.{listed_more, never_late, homed, home_node, home_masks, home_free}
 use Rattle.radix_tree.proofs.listing.list_mask.Goals as goal
 
 pub returns-in_default-clause-whole : goal.returns-in_default-clause-whole
 returns-in_default-clause-whole g c root late w =
-    let y = placed_in c.args.nodes.now.lodged root late w c.args.room c.requires.there in
-    never_late c.args.nodes.now.lodged root late w c.args.room y.0 y.1 y.2
+    let y = placed_in w c.requires.there in
+    never_late late w c.args.room y.0 y.1 y.2
     (subst (IsHome c.args.nodes.now.lodged y.0.entry.key y.0.entry.rank w.part) c.in_default.is (c.home_of.ensures.home root late w y.0 y.1 y.2))
 
 pub sort_in-requires-clause-node : goal.sort_in-requires-clause-node
 sort_in-requires-clause-node g c =
     let w = c.requires.whole in
-    let y = placed_in c.args.nodes.now.lodged w.0 w.1 w.2 c.args.room c.requires.there in
-    home_node c.args.nodes.now.lodged w.2.part c.args.room c.in-Some.fork
-    (homed c.args.nodes.now.lodged w.2.part y.0 c.args.room c.home_of.result c.in-Some.fork y.1 y.2 c.in-Some.is (c.home_of.ensures.home w.0 w.1 w.2 y.0 y.1 y.2))
+    let y = placed_in w.2 c.requires.there in
+    home_node
+    (homed w.2.part y.0 y.1 y.2 c.in-Some.is (c.home_of.ensures.home w.0 w.1 w.2 y.0 y.1 y.2))
 
 pub sort_in-requires-clause-list : goal.sort_in-requires-clause-list
 sort_in-requires-clause-list g c =
     let w = c.requires.whole in
-    let y = placed_in c.args.nodes.now.lodged w.0 w.1 w.2 c.args.room c.requires.there in
-    home_masks c.args.nodes.now.lodged w.0 w.1 w.2 c.args.room c.in-Some.fork
-    (homed c.args.nodes.now.lodged w.2.part y.0 c.args.room c.home_of.result c.in-Some.fork y.1 y.2 c.in-Some.is (c.home_of.ensures.home w.0 w.1 w.2 y.0 y.1 y.2))
+    let y = placed_in w.2 c.requires.there in
+    home_masks w.2
+    (homed w.2.part y.0 y.1 y.2 c.in-Some.is (c.home_of.ensures.home w.0 w.1 w.2 y.0 y.1 y.2))
 
 pub sort_in-requires-clause-free : goal.sort_in-requires-clause-free
 sort_in-requires-clause-free g c =
     let w = c.requires.whole in
-    let y = placed_in c.args.nodes.now.lodged w.0 w.1 w.2 c.args.room c.requires.there in
-    home_free c.args.nodes.now.lodged w.2.part c.args.room c.in-Some.fork
-    (homed c.args.nodes.now.lodged w.2.part y.0 c.args.room c.home_of.result c.in-Some.fork y.1 y.2 c.in-Some.is (c.home_of.ensures.home w.0 w.1 w.2 y.0 y.1 y.2)) c.requires.unmarked
+    let y = placed_in w.2 c.requires.there in
+    home_free w.2.part
+    (homed w.2.part y.0 y.1 y.2 c.in-Some.is (c.home_of.ensures.home w.0 w.1 w.2 y.0 y.1 y.2)) c.requires.unmarked
 
 pub returns-clause-whole : goal.returns-clause-whole
 returns-clause-whole g c root late w =
-    let y = placed_in c.args.nodes.now.lodged root late w c.args.room c.requires.there in
-    listed_more c.args.nodes.now.lodged c.sort_in.new.nodes.lodged root late w c.args.room c.in-Some.fork (once_but c.args.nodes.now.lodged root late nobody_out w)
-    (homed c.args.nodes.now.lodged w.part y.0 c.args.room c.home_of.result c.in-Some.fork y.1 y.2 c.in-Some.is (c.home_of.ensures.home root late w y.0 y.1 y.2)) c.requires.unmarked
-    (record { list = c.sort_in.ensures.list; heads = c.sort_in.ensures.heads; masks = c.sort_in.ensures.masks; marked = c.sort_in.ensures.marked; marks = c.sort_in.ensures.marks })
+    let y = placed_in w c.requires.there in
+    listed_more c.args.nodes.now.lodged c.sort_in.new.nodes.lodged late w c.args.room c.in-Some.fork (once_but w)
+    (homed w.part y.0 y.1 y.2 c.in-Some.is (c.home_of.ensures.home root late w y.0 y.1 y.2)) c.requires.unmarked
+    (record {
+      list = c.sort_in.ensures.list;
+      heads = c.sort_in.ensures.heads;
+      masks = c.sort_in.ensures.masks;
+      marked = c.sort_in.ensures.marked;
+      marks =
+          c.sort_in.ensures.marks;
+    })
     c.sort_in.ensures.tree.leaves c.sort_in.ensures.tree.bits

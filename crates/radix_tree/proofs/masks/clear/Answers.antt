@@ -21,7 +21,8 @@ put_mask_node-requires-clause-there g c = let l = c.requires.list in Has-listed 
 pub loop-at-smaller : goal.loop-at-smaller
 loop-at-smaller g c =
     let l = c.requires.list in
-    (cleared_one _ c.mask_node.result.1 (c.loop-at.invariant.clearing l.0 l.1) c.in-Some.is c.mask_node.ensures.said c.put_mask_node.ensures.tree.leaves c.put_mask_node.ensures.masks).1
+    (cleared_one _ c.mask_node.result.1 (c.loop-at.invariant.clearing l.0 l.1) c.in-Some.is c.mask_node.ensures.said c.put_mask_node.ensures.tree.leaves
+    c.put_mask_node.ensures.masks).1
 
 pub loop-at-preserved : goal.loop-at-preserved
 loop-at-preserved g c =

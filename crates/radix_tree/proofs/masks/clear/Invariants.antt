@@ -1,9 +1,5 @@
 use Rattle.std.proofs.Common.{◌≡◌, List}
-use Rattle.radix_tree.specs.MaskLists.{IsMasks}
-use Rattle.radix_tree.specs.Reads.{Stays}
-use Rattle.radix_tree.specs.Rooms.{leaves_in}
-use Rattle.radix_tree.specs.Tree.{Placed}
-use Rattle.radix_tree.specs.Writes.{KeepsTree, KeepsHeads}
+use Rattle.radix_tree.proofs.Words.{IsMasks, Stays, leaves_in, Placed, KeepsTree, KeepsHeads}
 use Rattle.radix_tree.proofs.MaskClears.{Clearing, ranks_from}
 use Rattle.radix_tree.proofs.masks.clear.Given as goal
 

@@ -1,39 +1,39 @@
 use Rattle.std.proofs.Common.{◌+◌, ◌∙◌, ap}
-use Rattle.std.specs.Prelude.{is_some}
-use Rattle.radix_tree.specs.Rooms.{heads_in, masks_in}
-use Rattle.radix_tree.specs.MaskLists.{not_below}
+use Rattle.radix_tree.proofs.Words.{is_some, masks_in, not_below}
 use Rattle.radix_tree.proofs.MaskLists.{not_below_among}
-use Rattle.radix_tree.proofs.MaskChanges.{list_of, Has-last, kept_of_cut, others_of_cut, aside_linked, marks_linked}
+use Rattle.radix_tree.proofs.MaskLinks.{list_of, Has-last, aside_linked, marks_linked}
+use Rattle.radix_tree.proofs.MaskChanges.{kept_of_cut, others_of_cut}
 use Rattle.radix_tree.proofs.masks.cut_list.Goals as goal
 
 pub link-requires-clause-there : goal.link-requires-clause-there
 link-requires-clause-there g c room is =
     let l = c.requires.list in
     let head = c.masks_of-first.ensures.head in
-    Has-last c.args.nodes.now.lodged l.0 (not_below (c.args.bit + 1) l.0) c.gap_at-gap.result.before room l.1.ranked (λ y among. (not_below_among (c.args.bit + 1) l.0 y among).0)
-    (c.gap_at-gap.ensures.before l.0 (list_of c.args.nodes.now.lodged (heads_in c.args.nodes.now.lodged c.args.fork.number) c.masks_of-first.result l.0 head l.1)) is
+    Has-last c.args.nodes.now.lodged l.0 (not_below (c.args.bit + 1) l.0) l.1.ranked (λ y among. (not_below_among (c.args.bit + 1) l.0 y among).0)
+    (c.gap_at-gap.ensures.before l.0 (list_of head l.1)) is
 
 pub returns-clause-kept : goal.returns-clause-kept
 returns-clause-kept g c ms is =
-    kept_of_cut c.args.nodes.now.lodged c.link.new.nodes.lodged c.args.fork (c.args.bit + 1) ms c.gap_at-gap.result.before is
-    (c.gap_at-gap.ensures.before ms (list_of c.args.nodes.now.lodged (heads_in c.args.nodes.now.lodged c.args.fork.number) c.masks_of-first.result ms c.masks_of-first.ensures.head is))
+    kept_of_cut c.args.nodes.now.lodged c.link.new.nodes.lodged c.args.fork (c.args.bit + 1) ms is
+    (c.gap_at-gap.ensures.before ms (list_of c.masks_of-first.ensures.head is))
     c.link.ensures.tree.leaves c.link.ensures.heads c.link.ensures.masks
 
 pub returns-clause-others : goal.returns-clause-others
 returns-clause-others g c ms is =
-    let first = list_of c.args.nodes.now.lodged (heads_in c.args.nodes.now.lodged c.args.fork.number) c.masks_of-first.result ms c.masks_of-first.ensures.head is in
-    others_of_cut c.args.nodes.now.lodged c.link.new.nodes.lodged c.args.fork (c.args.bit + 1) ms c.gap_at-gap.result.before c.gap_at-gap.result.behind is
+    let first = list_of c.masks_of-first.ensures.head is in
+    others_of_cut c.args.nodes.now.lodged c.link.new.nodes.lodged c.args.fork (c.args.bit + 1) ms is
     (c.gap_at-gap.ensures.before ms first) (c.gap_at-gap.ensures.behind ms first) c.link.ensures.tree.leaves c.link.ensures.masks
 
 pub returns-clause-masks : goal.returns-clause-masks
 returns-clause-masks g c ms is n aside =
-    let first = list_of c.args.nodes.now.lodged (heads_in c.args.nodes.now.lodged c.args.fork.number) c.masks_of-first.result ms c.masks_of-first.ensures.head is in
-    c.link.ensures.masks n ∙ aside_linked (not_below (c.args.bit + 1) ms) c.gap_at-gap.result.before _ n (masks_in c.args.nodes.now.lodged n) (c.gap_at-gap.ensures.before ms first)
+    let first = list_of c.masks_of-first.ensures.head is in
+    c.link.ensures.masks n ∙ aside_linked (not_below (c.args.bit + 1) ms) _ n (masks_in c.args.nodes.now.lodged n) (c.gap_at-gap.ensures.before ms first)
     (λ y among. aside y (not_below_among (c.args.bit + 1) ms y among).0)
 
 pub returns-clause-marks : goal.returns-clause-marks
 returns-clause-marks g c n =
     let l = c.requires.list in
-    let first = list_of c.args.nodes.now.lodged (heads_in c.args.nodes.now.lodged c.args.fork.number) c.masks_of-first.result l.0 c.masks_of-first.ensures.head l.1 in
+    let first = list_of c.masks_of-first.ensures.head l.1 in
     ap is_some (c.link.ensures.masks n)
-    ∙ marks_linked (masks_in c.args.nodes.now.lodged) l.0 (not_below (c.args.bit + 1) l.0) c.gap_at-gap.result.before _ n l.1.stands (λ y among. (not_below_among (c.args.bit + 1) l.0 y among).0) (c.gap_at-gap.ensures.before l.0 first)
+    ∙ marks_linked (masks_in c.args.nodes.now.lodged) l.0 (not_below (c.args.bit + 1) l.0) _ n l.1.stands
+    (λ y among. (not_below_among (c.args.bit + 1) l.0 y among).0) (c.gap_at-gap.ensures.before l.0 first)

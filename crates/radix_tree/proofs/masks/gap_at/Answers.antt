@@ -11,13 +11,13 @@ mask_node-leaf-requires-clause-listed g c = let l = c.requires.list in (next_of 
 pub returns-then-number-low-clause-before : goal.returns-then-number-low-clause-before
 returns-then-number-low-clause-before g c ms is =
     let x = next_of (c.loop-behind.invariant.passing ms is) c.in-Some.is in
-    let read = c.number.ensures.number ∙ rank_told _ x.route c.in-Some.room c.mask_node-leaf.result.0 x.ranked x.room_is c.mask_node-leaf.ensures.leaf in
+    let read = c.number.ensures.number ∙ rank_told _ c.mask_node-leaf.result.0 x.ranked x.room_is c.mask_node-leaf.ensures.leaf in
     (x.stopped (subst (λ (n : ℕ). n < c.args.low) read c.if-number-low.true)).0
 
 pub returns-then-number-low-clause-behind : goal.returns-then-number-low-clause-behind
 returns-then-number-low-clause-behind g c ms is =
     let x = next_of (c.loop-behind.invariant.passing ms is) c.in-Some.is in
-    let read = c.number.ensures.number ∙ rank_told _ x.route c.in-Some.room c.mask_node-leaf.result.0 x.ranked x.room_is c.mask_node-leaf.ensures.leaf in
+    let read = c.number.ensures.number ∙ rank_told _ c.mask_node-leaf.result.0 x.ranked x.room_is c.mask_node-leaf.ensures.leaf in
     (x.stopped (subst (λ (n : ℕ). n < c.args.low) read c.if-number-low.true)).1
 
 pub loop-behind-smaller : goal.loop-behind-smaller
@@ -29,8 +29,9 @@ loop-behind-preserved g c = record {
   turn = c.mask_node-leaf.ensures.visit.turn ∙ c.loop-behind.invariant.turn;
   passing = λ ms is.
       let x = next_of (c.loop-behind.invariant.passing ms is) c.in-Some.is in
-      let read = c.number.ensures.number ∙ rank_told _ x.route c.in-Some.room c.mask_node-leaf.result.0 x.ranked x.room_is c.mask_node-leaf.ensures.leaf in
-      x.passed c.mask_node-leaf.result.1 _ c.mask_node-leaf.ensures.said (subst (λ (n : ℕ). c.args.low ≤ n) read c.if-number-low.false) c.mask_node-leaf.ensures.visit;
+      let read = c.number.ensures.number ∙ rank_told _ c.mask_node-leaf.result.0 x.ranked x.room_is c.mask_node-leaf.ensures.leaf in
+      x.passed c.mask_node-leaf.result.1 _ c.mask_node-leaf.ensures.said (subst (λ (n : ℕ). c.args.low ≤ n) read c.if-number-low.false)
+      c.mask_node-leaf.ensures.visit;
 }
 
 pub returns-clause-before : goal.returns-clause-before

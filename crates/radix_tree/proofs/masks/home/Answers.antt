@@ -5,7 +5,7 @@ use Rattle.radix_tree.proofs.Lifts.{Has-leaf_at}
 use Rattle.radix_tree.proofs.masks.home.Goals as goal
 
 pub leaf-above-requires-clause-there : goal.leaf-above-requires-clause-there
-leaf-above-requires-clause-there g c = let l = c.requires.led.4 in Has-leaf_at _ l.part c.args.leaf l.leaf
+leaf-above-requires-clause-there g c = let l = c.requires.led.4 in Has-leaf_at _ l.leaf
 
 pub loop-above-init : goal.loop-above-init
 loop-above-init g c = record {
@@ -34,7 +34,8 @@ loop-above-preserved g c =
       turn = c.bit_node-node.ensures.visit.turn ∙ c.loop-above.invariant.turn;
       climb = λ key whole top led.
           let w = c.loop-above.invariant.climb key whole top led in
-          let o = over top w c.in-Some.is in risen o c.bit_node-node.ensures.node (passed o w.holds c.bit_node-node.ensures.node past c.bit_node-node.ensures.visit);
+          let o = over top w c.in-Some.is in risen o c.bit_node-node.ensures.node
+          (passed o w.holds c.bit_node-node.ensures.node past c.bit_node-node.ensures.visit);
     }
 
 pub returns-clause-home : goal.returns-clause-home

@@ -1,6 +1,5 @@
 use Rattle.std.proofs.Common.{◌≡◌, ◌+◌, ◌-◌, ℕ, None}
-use Rattle.radix_tree.specs.Rooms.{Part}
-use Rattle.radix_tree.specs.Searches.{LedTo}
+use Rattle.radix_tree.proofs.Words.{Part, LedTo}
 use Rattle.radix_tree.proofs.Climbs.{Climb}
 use Rattle.radix_tree.proofs.Homes.{Passed}
 use Rattle.radix_tree.proofs.masks.home.Given as goal
@@ -8,7 +7,8 @@ use Rattle.radix_tree.proofs.masks.home.Given as goal
 abbrev pub invariant-loop-above : goal.invariant-loop-above
 invariant-loop-above g l = record {
   turn : l.visits.turn ≡ l.fn.visits.turn;
-  climb : (key : ℕ) (whole : Part l.fn.nodes.lodged) → whole.above ≡ None → LedTo key whole l.fn.leaf → Climb key whole (Passed key l.fn.rank l.home l.fn.visits l.visits) l.above;
+  climb : (key : ℕ) (whole : Part l.fn.nodes.lodged) → whole.above ≡ None → LedTo key whole l.fn.leaf
+      → Climb key whole (Passed key l.fn.rank l.home l.fn.visits l.visits) l.above;
 }
 
 abbrev pub decreases-loop-above : goal.decreases-loop-above

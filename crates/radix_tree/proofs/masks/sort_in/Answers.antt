@@ -1,48 +1,53 @@
 use Rattle.std.proofs.Common.{◌∙◌, ◌≤◌, ℕ, Some, sym, ap, subst}
-use Rattle.std.specs.Prelude.{is_some}
-use Rattle.radix_tree.specs.Rooms.{heads_in, masks_in}
-use Rattle.radix_tree.specs.MaskLists.{not_below}
+use Rattle.radix_tree.proofs.Words.{is_some, masks_in, not_below}
 use Rattle.radix_tree.proofs.MaskLists.{not_below_among}
 use Rattle.radix_tree.proofs.MaskWalks.{Has-ranked, rank_told}
-use Rattle.radix_tree.proofs.MaskChanges.{list_of, Has-last, are_ranked_same, sorted, put_aside, aside_linked, sorted_marks}
+use Rattle.radix_tree.proofs.MaskLinks.{list_of, Has-last, are_ranked_same, put_aside, aside_linked}
+use Rattle.radix_tree.proofs.MaskChanges.{sorted, sorted_marks}
 use Rattle.radix_tree.proofs.masks.sort_in.Goals as goal
 
 pub leaf-requires-clause-there : goal.leaf-requires-clause-there
-leaf-requires-clause-there g c = let f = c.requires.free in Has-ranked c.args.nodes.now.lodged f.is c.args.room f.ranked f.room_is
+leaf-requires-clause-there g c = let f = c.requires.free in Has-ranked c.args.nodes.now.lodged f.ranked f.room_is
 
 pub put_mask_node-requires-clause-there : goal.put_mask_node-requires-clause-there
-put_mask_node-requires-clause-there g c = let f = c.requires.free in Has-ranked c.args.nodes.now.lodged f.is c.args.room f.ranked f.room_is
+put_mask_node-requires-clause-there g c = let f = c.requires.free in Has-ranked c.args.nodes.now.lodged f.ranked f.room_is
 
 pub link-requires-clause-there : goal.link-requires-clause-there
 link-requires-clause-there g c room is =
     let l = c.requires.list in
-    let first = list_of c.args.nodes.now.lodged (heads_in c.args.nodes.now.lodged c.args.fork.number) c.masks_of-first.result l.0 c.masks_of-first.ensures.head l.1 in
-    Has-last c.put_mask_node.new.nodes.lodged l.0 (not_below c.number-rank.result l.0) c.gap_at-gap.result.before room
+    let first = list_of c.masks_of-first.ensures.head l.1 in
+    Has-last c.put_mask_node.new.nodes.lodged l.0 (not_below c.number-rank.result l.0)
     (are_ranked_same c.args.nodes.now.lodged c.put_mask_node.new.nodes.lodged l.0 c.put_mask_node.ensures.tree.leaves l.1.ranked)
     (λ y among. (not_below_among c.number-rank.result l.0 y among).0) (c.gap_at-gap.ensures.before l.0 first) is
 
 pub returns-clause-list : goal.returns-clause-list
 returns-clause-list g c ms f is no_rank =
-    let first = list_of c.args.nodes.now.lodged (heads_in c.args.nodes.now.lodged c.args.fork.number) c.masks_of-first.result ms c.masks_of-first.ensures.head is in
-    let read = rank_told c.args.nodes.now.lodged f.is c.args.room c.leaf.result f.ranked f.room_is c.leaf.ensures.said in
-    sorted c.args.nodes.now.lodged c.put_mask_node.new.nodes.lodged c.link.new.nodes.lodged c.args.fork f.is c.args.room (record { next = c.gap_at-gap.result.behind }) c.number-rank.result ms c.gap_at-gap.result.before
-    is f.room_is f.ranked f.unmarked (c.number-rank.ensures.number ∙ read) (subst (λ (n : ℕ). n ≤ 33) (sym c.number-rank.ensures.number) c.number-rank.ensures.most) no_rank
+    let first = list_of c.masks_of-first.ensures.head is in
+    let read = rank_told c.args.nodes.now.lodged c.leaf.result f.ranked f.room_is c.leaf.ensures.said in
+    sorted c.args.nodes.now.lodged c.put_mask_node.new.nodes.lodged c.link.new.nodes.lodged c.args.fork f.is c.args.room
+    (record { next = c.gap_at-gap.result.behind }) ms
+    is f.room_is f.ranked f.unmarked (c.number-rank.ensures.number ∙ read)
+    (subst (λ (n : ℕ). n ≤ 33) (sym c.number-rank.ensures.number) c.number-rank.ensures.most) no_rank
     (c.gap_at-gap.ensures.before ms first) (c.gap_at-gap.ensures.behind ms first)
-    c.put_mask_node.ensures.tree.leaves c.put_mask_node.ensures.heads c.put_mask_node.ensures.masks c.link.ensures.tree.leaves c.link.ensures.heads c.link.ensures.masks
+    c.put_mask_node.ensures.tree.leaves c.put_mask_node.ensures.heads c.put_mask_node.ensures.masks c.link.ensures.tree.leaves c.link.ensures.heads
+    c.link.ensures.masks
 
 pub returns-clause-masks : goal.returns-clause-masks
 returns-clause-masks g c ms is n other aside =
-    let first = list_of c.args.nodes.now.lodged (heads_in c.args.nodes.now.lodged c.args.fork.number) c.masks_of-first.result ms c.masks_of-first.ensures.head is in
+    let first = list_of c.masks_of-first.ensures.head is in
     c.link.ensures.masks n
-    ∙ aside_linked (not_below c.number-rank.result ms) c.gap_at-gap.result.before _ n (masks_in c.put_mask_node.new.nodes.lodged n) (c.gap_at-gap.ensures.before ms first)
+    ∙ aside_linked (not_below c.number-rank.result ms) _ n (masks_in c.put_mask_node.new.nodes.lodged n) (c.gap_at-gap.ensures.before ms first)
     (λ y among. aside y (not_below_among c.number-rank.result ms y among).0)
     ∙ c.put_mask_node.ensures.masks n ∙ put_aside c.args.room (Some (record { next = c.gap_at-gap.result.behind })) n (masks_in c.args.nodes.now.lodged n) other
 
 pub returns-clause-marks : goal.returns-clause-marks
 returns-clause-marks g c n other =
     let l = c.requires.list in
-    let first = list_of c.args.nodes.now.lodged (heads_in c.args.nodes.now.lodged c.args.fork.number) c.masks_of-first.result l.0 c.masks_of-first.ensures.head l.1 in
+    let first = list_of c.masks_of-first.ensures.head l.1 in
     ap is_some (c.link.ensures.masks n)
-    ∙ sorted_marks (masks_in c.args.nodes.now.lodged) (masks_in c.put_mask_node.new.nodes.lodged) l.0 (not_below c.number-rank.result l.0) c.args.room (record { next = c.gap_at-gap.result.behind }) c.gap_at-gap.result.before _ n
-    l.1.stands c.requires.free.unmarked c.put_mask_node.ensures.masks (λ y among. (not_below_among c.number-rank.result l.0 y among).0) (c.gap_at-gap.ensures.before l.0 first)
-    ∙ ap is_some (c.put_mask_node.ensures.masks n ∙ put_aside c.args.room (Some (record { next = c.gap_at-gap.result.behind })) n (masks_in c.args.nodes.now.lodged n) other)
+    ∙ sorted_marks (masks_in c.args.nodes.now.lodged) (masks_in c.put_mask_node.new.nodes.lodged) l.0 (not_below c.number-rank.result l.0) c.args.room
+    (record { next = c.gap_at-gap.result.behind }) _ n
+    l.1.stands c.requires.free.unmarked c.put_mask_node.ensures.masks (λ y among. (not_below_among c.number-rank.result l.0 y among).0)
+    (c.gap_at-gap.ensures.before l.0 first)
+    ∙ ap is_some (c.put_mask_node.ensures.masks n ∙ put_aside c.args.room (Some (record { next = c.gap_at-gap.result.behind })) n
+    (masks_in c.args.nodes.now.lodged n) other)

@@ -1,10 +1,7 @@
 use Rattle.std.proofs.Common.{◌∙◌, Option, Some, None, sym, ap}
-use Rattle.radix_nodes.specs.declared.id.Id.{Id}
-use Rattle.radix_tree.specs.Rooms.{LeafPart, BitPart, leaves_in}
-use Rattle.radix_tree.specs.Writes.{put_bit, put_head, lift_leaf, lift_bit}
-use Rattle.radix_tree.specs.Removal.{rename, content_of}
+use Rattle.radix_tree.proofs.Words.{Id, LeafPart, BitPart, leaves_in, put_bit, put_head, lift_leaf, lift_bit, rename, content_of}
 use Rattle.radix_tree.proofs.MovedReads.{Has_kept, content_lift}
-use Rattle.radix_tree.proofs.MovedRooms.{IsMove, IsMoved, move_of, left_there, right_there, Has-over, contents_stay, gone}
+use Rattle.radix_tree.proofs.MoveWrites.{IsMove, IsMoved, move_of, left_there, right_there, Has-over, contents_stay, gone}
 use Rattle.radix_tree.proofs.MovedWhole.{whole_moved, routes_moved}
 use Rattle.radix_tree.proofs.moving.vacate.Given as given
 use Rattle.radix_tree.proofs.moving.vacate.Goals as goal
@@ -12,7 +9,8 @@ use Rattle.radix_tree.proofs.moving.vacate.Goals.{In-Some, After-root_after}
 
 -- the bit node that moves, and its place
 move : (g : given.Over) (c : In-Some g) → IsMove c.args.nodes.now.lodged c.args.root c.args.from c.args.to c.in-Some.node
-move g c = move_of c.args.nodes.now.lodged c.args.root c.args.from c.args.to c.links.result.now c.in-Some.node c.requires.whole c.requires.from c.requires.takes c.links.ensures.links (sym c.bit_node.ensures ∙ c.in-Some.is)
+move g c = move_of c.args.from c.args.to c.links.result.now c.requires.whole c.requires.from c.requires.takes c.links.ensures.links
+    (sym c.bit_node.ensures ∙ c.in-Some.is)
 
 -- all that the writes leave
 moved : (g : given.Over) (c : After-root_after g) → IsMoved c.args.nodes.now.lodged c.rename_child.new.nodes.lodged c.args.from c.args.to c.in-Some.node
@@ -26,56 +24,61 @@ moved g c = record {
   heads = λ k. c.rename_child.ensures.only.heads k ∙ c.put_bit_node-2.ensures.heads k
       ∙ ap (λ (o : Option Id). put_head c.args.to (Some c.in-Some.node) k o)
       (c.put_bit_node.ensures.heads k ∙ ap (λ (o : Option Id). put_head c.args.from None k o) (c.lift-2.ensures.heads k ∙ c.lift.ensures.heads k));
-  masks = λ k. c.rename_child.ensures.only.masks k ∙ c.put_bit_node-2.ensures.masks k ∙ c.put_bit_node.ensures.masks k ∙ c.lift-2.ensures.masks k ∙ c.lift.ensures.masks k;
+  masks = λ k. c.rename_child.ensures.only.masks k ∙ c.put_bit_node-2.ensures.masks k ∙ c.put_bit_node.ensures.masks k ∙ c.lift-2.ensures.masks k
+      ∙ c.lift.ensures.masks k;
 }
 
 pub lift-requires-clause-tree : goal.lift-requires-clause-tree
 lift-requires-clause-tree g c =
-    left_there c.args.nodes.now.lodged c.args.root c.args.from c.args.to c.in-Some.node (move g (goal.at.lift-requires-clause-tree g c).In-Some)
+    left_there (move g (goal.at.lift-requires-clause-tree g c).In-Some)
 
 pub lift-requires-2-clause-tree : goal.lift-requires-2-clause-tree
 lift-requires-2-clause-tree g c =
-    right_there c.args.nodes.now.lodged c.lift.new.nodes.lodged c.args.root c.args.from c.args.to c.in-Some.node (move g (goal.at.lift-requires-2-clause-tree g c).In-Some) c.lift.ensures.leaves c.lift.ensures.bits
+    right_there c.args.nodes.now.lodged c.lift.new.nodes.lodged c.args.to (move g (goal.at.lift-requires-2-clause-tree g c).In-Some) c.lift.ensures.leaves
+    c.lift.ensures.bits
 
 pub put_bit_node-requires-clause-there : goal.put_bit_node-requires-clause-there
 put_bit_node-requires-clause-there g c =
-    Has_kept c.args.nodes.now.lodged c.lift-2.new.nodes.lodged c.args.from
+    Has_kept c.lift-2.new.nodes.lodged
     (ap (λ (o : Option (LeafPart g.row.V.Denot)). content_of o) (c.lift-2.ensures.leaves c.args.from.number)
     ∙ content_lift c.in-Some.node.one (Some c.args.to) c.args.from.number (leaves_in c.lift.new.nodes.lodged c.args.from.number)
-    ∙ ap (λ (o : Option (LeafPart g.row.V.Denot)). content_of o) (c.lift.ensures.leaves c.args.from.number) ∙ content_lift c.in-Some.node.zero (Some c.args.to) c.args.from.number (leaves_in c.args.nodes.now.lodged c.args.from.number))
+    ∙ ap (λ (o : Option (LeafPart g.row.V.Denot)). content_of o) (c.lift.ensures.leaves c.args.from.number)
+    ∙ content_lift c.in-Some.node.zero (Some c.args.to) c.args.from.number (leaves_in c.args.nodes.now.lodged c.args.from.number))
     c.requires.from
 
 pub put_bit_node-requires-2-clause-there : goal.put_bit_node-requires-2-clause-there
 put_bit_node-requires-2-clause-there g c =
-    Has_kept c.args.nodes.now.lodged c.put_bit_node.new.nodes.lodged c.args.to
+    Has_kept c.put_bit_node.new.nodes.lodged
     (ap (λ (o : Option (LeafPart g.row.V.Denot)). content_of o) (c.put_bit_node.ensures.leaves c.args.to.number)
     ∙ ap (λ (o : Option (LeafPart g.row.V.Denot)). content_of o) (c.lift-2.ensures.leaves c.args.to.number)
     ∙ content_lift c.in-Some.node.one (Some c.args.to) c.args.to.number (leaves_in c.lift.new.nodes.lodged c.args.to.number)
-    ∙ ap (λ (o : Option (LeafPart g.row.V.Denot)). content_of o) (c.lift.ensures.leaves c.args.to.number) ∙ content_lift c.in-Some.node.zero (Some c.args.to) c.args.to.number (leaves_in c.args.nodes.now.lodged c.args.to.number))
+    ∙ ap (λ (o : Option (LeafPart g.row.V.Denot)). content_of o) (c.lift.ensures.leaves c.args.to.number)
+    ∙ content_lift c.in-Some.node.zero (Some c.args.to) c.args.to.number (leaves_in c.args.nodes.now.lodged c.args.to.number))
     c.requires.to
 
 pub rename_child-requires-clause-there : goal.rename_child-requires-clause-there
 rename_child-requires-clause-there g c up is =
-    Has_kept c.args.nodes.now.lodged c.put_bit_node-2.new.nodes.lodged up
+    Has_kept c.put_bit_node-2.new.nodes.lodged
     (ap (λ (o : Option (LeafPart g.row.V.Denot)). content_of o) (c.put_bit_node-2.ensures.leaves up.number)
     ∙ ap (λ (o : Option (LeafPart g.row.V.Denot)). content_of o) (c.put_bit_node.ensures.leaves up.number)
     ∙ ap (λ (o : Option (LeafPart g.row.V.Denot)). content_of o) (c.lift-2.ensures.leaves up.number)
     ∙ content_lift c.in-Some.node.one (Some c.args.to) up.number (leaves_in c.lift.new.nodes.lodged up.number)
-    ∙ ap (λ (o : Option (LeafPart g.row.V.Denot)). content_of o) (c.lift.ensures.leaves up.number) ∙ content_lift c.in-Some.node.zero (Some c.args.to) up.number (leaves_in c.args.nodes.now.lodged up.number))
-    (Has-over c.args.nodes.now.lodged c.args.root c.args.from c.args.to c.in-Some.node (move g (goal.at.rename_child-requires-clause-there g c).In-Some) up is)
+    ∙ ap (λ (o : Option (LeafPart g.row.V.Denot)). content_of o) (c.lift.ensures.leaves up.number)
+    ∙ content_lift c.in-Some.node.zero (Some c.args.to) up.number (leaves_in c.args.nodes.now.lodged up.number))
+    (Has-over (move g (goal.at.rename_child-requires-clause-there g c).In-Some) up is)
 
 pub returns-clause-whole : goal.returns-clause-whole
 returns-clause-whole g c =
-    whole_moved c.args.nodes.now.lodged c.rename_child.new.nodes.lodged c.args.root c.root_after.result c.args.from c.args.to c.in-Some.node (move g (goal.at.returns-clause-whole g c).In-Some) (moved g c) c.root_after.ensures
+    whole_moved c.args.from c.args.to (move g (goal.at.returns-clause-whole g c).In-Some) (moved g c) c.root_after.ensures
 
 pub returns-clause-gone : goal.returns-clause-gone
 returns-clause-gone g c =
-    gone c.args.nodes.now.lodged c.rename_child.new.nodes.lodged c.args.root c.args.from c.args.to c.in-Some.node (move g (goal.at.returns-clause-gone g c).In-Some) (moved g c)
+    gone c.args.from c.args.to (move g (goal.at.returns-clause-gone g c).In-Some) (moved g c)
 
 pub returns-clause-routes : goal.returns-clause-routes
 returns-clause-routes g c =
-    routes_moved c.args.nodes.now.lodged c.rename_child.new.nodes.lodged c.args.root c.root_after.result c.args.from c.args.to c.in-Some.node (move g (goal.at.returns-clause-routes g c).In-Some) (moved g c) c.root_after.ensures
+    routes_moved c.args.from c.args.to (move g (goal.at.returns-clause-routes g c).In-Some) (moved g c) c.root_after.ensures
 
 pub returns-clause-rooms : goal.returns-clause-rooms
 returns-clause-rooms g c =
-    contents_stay c.args.nodes.now.lodged c.rename_child.new.nodes.lodged c.args.from c.args.to c.in-Some.node (moved g c)
+    contents_stay c.args.to (moved g c)

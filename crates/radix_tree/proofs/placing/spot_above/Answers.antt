@@ -1,13 +1,12 @@
 use Rattle.std.proofs.Common.{◌∙◌, subst, Option, arith}
-use Rattle.radix_nodes.specs.declared.id.Id.{Id}
-use Rattle.radix_tree.specs.Growth.{IsSpot}
+use Rattle.radix_tree.proofs.Words.{Id, IsSpot}
 use Rattle.radix_tree.proofs.Climbs.{begun, over, fork_over, used, risen, step_soon}
 use Rattle.radix_tree.proofs.Lifts.{Has-leaf_at}
 use Rattle.radix_tree.proofs.Spots.{leaf_past, over_past, stopped, topped}
 use Rattle.radix_tree.proofs.placing.spot_above.Goals as goal
 
 pub leaf-above-requires-clause-there : goal.leaf-above-requires-clause-there
-leaf-above-requires-clause-there g c = let l = c.requires.new.1.led in Has-leaf_at _ l.part c.args.leaf l.leaf
+leaf-above-requires-clause-there g c = let l = c.requires.new.1.led in Has-leaf_at _ l.leaf
 
 pub loop-above-init : goal.loop-above-init
 loop-above-init g c = record {

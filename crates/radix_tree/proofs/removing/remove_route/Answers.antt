@@ -1,11 +1,5 @@
 use Rattle.std.proofs.Common.{◌∙◌, Option, sym, ap, subst}
-use Rattle.std.specs.Ordering.{nat_cmp}
-use Rattle.std.specs.FinMap.{FinMap, get}
-use Rattle.radix_nodes.specs.Rooms.{Seen, Rooms}
-use Rattle.radix_tree.specs.Rooms.{LeafPart}
-use Rattle.radix_tree.specs.Whole.{Holds, shown}
-use Rattle.radix_tree.specs.Marks.{HasRoomMore}
-use Rattle.radix_tree.specs.Removal.{content_of}
+use Rattle.radix_tree.proofs.Words.{get, Rooms, LeafPart, Holds, shown, HasRoomMore, content_of, Lodged}
 use Rattle.radix_tree.proofs.MovedReads.{Has_kept}
 use Rattle.radix_tree.proofs.RemovedRooms.{get_out, out_gone, out_shown, shown_stays, gains_stays, value_taken, room_less}
 use Rattle.radix_tree.proofs.removing.remove_route.Goals as goal
@@ -14,33 +8,46 @@ pub take_out-rest-requires-clause-whole : goal.take_out-rest-requires-clause-who
 take_out-rest-requires-clause-whole g c = c.unlist_mask.ensures.whole c.args.root c.requires.whole
 
 pub take_out-rest-requires-clause-there : goal.take_out-rest-requires-clause-there
-take_out-rest-requires-clause-there g c = Has_kept c.args.nodes.now.lodged c.unlist_mask.new.nodes.lodged c.args.at (ap (λ (o : Option (LeafPart g.row.V.Denot)). content_of o) (c.unlist_mask.ensures.tree.leaves c.args.at.number)) c.requires.there
+take_out-rest-requires-clause-there g c = Has_kept c.unlist_mask.new.nodes.lodged
+    (ap (λ (o : Option (LeafPart g.row.V.Denot)). content_of o) (c.unlist_mask.ensures.tree.leaves c.args.at.number)) c.requires.there
 
 pub evict-room-requires : goal.evict-room-requires
-evict-room-requires g c = record { there = Has_kept c.args.nodes.now.lodged c.take_out-rest.new.nodes.lodged c.args.at (c.take_out-rest.ensures.rooms c.args.at.number ∙ ap (λ (o : Option (LeafPart g.row.V.Denot)). content_of o) (c.unlist_mask.ensures.tree.leaves c.args.at.number)) c.requires.there }
+evict-room-requires g c =
+    record {
+      there =
+          Has_kept c.take_out-rest.new.nodes.lodged (c.take_out-rest.ensures.rooms c.args.at.number
+          ∙ ap (λ (o : Option (LeafPart g.row.V.Denot)). content_of o) (c.unlist_mask.ensures.tree.leaves c.args.at.number)) c.requires.there;
+    }
 
 pub returns-clause-whole : goal.returns-clause-whole
 returns-clause-whole g c =
     let e = ap (λ (r : Rooms g.row.V.Denot). r.lodged) c.evict-room.ensures.evicted in
-    subst (λ (m : FinMap nat_cmp (Seen g.row.V.Denot)). Holds m c.take_out-rest.result) (sym e) (out_gone c.take_out-rest.new.nodes.lodged c.take_out-rest.result c.args.at.number c.take_out-rest.ensures.out)
+    subst (λ (m : Lodged g.row.V.Denot). Holds m c.take_out-rest.result) (sym e)
+    (out_gone c.take_out-rest.new.nodes.lodged c.take_out-rest.result c.args.at.number c.take_out-rest.ensures.out)
 
 pub returns-clause-routes : goal.returns-clause-routes
 returns-clause-routes g c p said =
     let e = ap (λ (r : Rooms g.row.V.Denot). r.lodged) c.evict-room.ensures.evicted in
     gains_stays _ _ _ _ _ (c.take_out-rest.ensures.routes p (c.unlist_mask.ensures.tree.leaves c.args.at.number ∙ said))
-    (ap (λ (m : FinMap nat_cmp (Seen g.row.V.Denot)). shown m c.take_out-rest.result) e ∙ out_shown c.take_out-rest.new.nodes.lodged c.take_out-rest.result c.args.at.number c.take_out-rest.ensures.out)
-    (sym (shown_stays c.args.nodes.now.lodged c.unlist_mask.new.nodes.lodged c.args.root c.requires.whole c.unlist_mask.ensures.tree.leaves c.unlist_mask.ensures.tree.bits))
+    (ap (λ (m : Lodged g.row.V.Denot). shown m c.take_out-rest.result) e ∙ out_shown c.take_out-rest.new.nodes.lodged c.take_out-rest.result c.args.at.number
+    c.take_out-rest.ensures.out)
+    (sym (shown_stays c.args.nodes.now.lodged c.unlist_mask.new.nodes.lodged c.requires.whole c.unlist_mask.ensures.tree.leaves
+    c.unlist_mask.ensures.tree.bits))
 
 pub returns-clause-value : goal.returns-clause-value
 returns-clause-value g c p said =
-    value_taken c.args.nodes.now.lodged c.take_out-rest.new.nodes.lodged c.args.at.number p c.evict-room.result.1 c.evict-room.ensures.value (c.take_out-rest.ensures.rooms c.args.at.number ∙ ap (λ (o : Option (LeafPart g.row.V.Denot)). content_of o) (c.unlist_mask.ensures.tree.leaves c.args.at.number)) said
+    value_taken c.args.nodes.now.lodged c.take_out-rest.new.nodes.lodged c.args.at.number p c.evict-room.result.1 c.evict-room.ensures.value
+    (c.take_out-rest.ensures.rooms c.args.at.number ∙ ap (λ (o : Option (LeafPart g.row.V.Denot)). content_of o)
+    (c.unlist_mask.ensures.tree.leaves c.args.at.number)) said
 
 pub returns-clause-rooms : goal.returns-clause-rooms
 returns-clause-rooms g c =
     let e = ap (λ (r : Rooms g.row.V.Denot). r.lodged) c.evict-room.ensures.evicted in
-    subst (λ (m : FinMap nat_cmp (Seen g.row.V.Denot)). HasRoomMore m c.args.nodes.now.lodged c.args.at.number) (sym e) (room_less c.args.nodes.now.lodged c.take_out-rest.new.nodes.lodged c.args.at c.requires.there (λ n. c.take_out-rest.ensures.rooms n ∙ ap (λ (o : Option (LeafPart g.row.V.Denot)). content_of o) (c.unlist_mask.ensures.tree.leaves n)))
+    subst (λ (m : Lodged g.row.V.Denot). HasRoomMore m c.args.nodes.now.lodged c.args.at.number) (sym e)
+    (room_less c.args.nodes.now.lodged c.take_out-rest.new.nodes.lodged c.args.at c.requires.there
+    (λ n. c.take_out-rest.ensures.rooms n ∙ ap (λ (o : Option (LeafPart g.row.V.Denot)). content_of o) (c.unlist_mask.ensures.tree.leaves n)))
 
 pub returns-clause-gone : goal.returns-clause-gone
 returns-clause-gone g c =
     let e = ap (λ (r : Rooms g.row.V.Denot). r.lodged) c.evict-room.ensures.evicted in
-    ap (λ (m : FinMap nat_cmp (Seen g.row.V.Denot)). get m c.args.at.number) e ∙ get_out c.take_out-rest.new.nodes.lodged c.args.at.number
+    ap (λ (m : Lodged g.row.V.Denot). get m c.args.at.number) e ∙ get_out c.take_out-rest.new.nodes.lodged c.args.at.number

@@ -1,6 +1,5 @@
 use Rattle.std.proofs.Common.{◌∙◌, sym, ap, List}
-use Rattle.radix_tree.specs.Table.{best_of}
-use Rattle.radix_tree.specs.declared.entry.Entry.{Entry}
+use Rattle.radix_tree.proofs.Words.{best_of, Entry}
 use Rattle.radix_tree.proofs.Answered.{answer, Has-best, best_answer, best_none}
 use Rattle.radix_tree.proofs.Showing.{shown_is}
 use Rattle.radix_tree.proofs.routing.best.Goals as goal
@@ -15,11 +14,11 @@ pub returns-in_default-clause-best : goal.returns-in_default-clause-best
 returns-in_default-clause-best g c =
     let w = c.requires.whole in
     best_none w.part c.args.address c.in_default.is (c.best_room.ensures.best w)
-    ∙ ap (λ (es : List (Entry g.row.V.Denot)). best_of c.args.address es) (sym (shown_is c.args.nodes.now.lodged c.args.root w))
+    ∙ ap (λ (es : List (Entry g.row.V.Denot)). best_of c.args.address es) (sym (shown_is w))
 
 pub returns-clause-best : goal.returns-clause-best
 returns-clause-best g c =
     let w = c.requires.whole in
     let a = answer w.part c.in-Some.is (c.best_room.ensures.best w) in
-    best_answer a c.leaf-leaf.result c.value.result.now (c.leaf-leaf.ensures.said a.part a.said) c.value.ensures.value
-    ∙ ap (λ (es : List (Entry g.row.V.Denot)). best_of c.args.address es) (sym (shown_is c.args.nodes.now.lodged c.args.root w))
+    best_answer a c.value.result.now (c.leaf-leaf.ensures.said a.part a.said) c.value.ensures.value
+    ∙ ap (λ (es : List (Entry g.row.V.Denot)). best_of c.args.address es) (sym (shown_is w))

@@ -11,12 +11,20 @@ leaf-leaf-requires-clause-there g c = let r = c.requires.chain in Has-at (member
 pub returns-then-agrees-clause-best : goal.returns-then-agrees-clause-best
 returns-then-agrees-clause-best g c r begins =
     let x = member (c.loop-at.invariant r begins) c.in-Some.is in
-    let same = agrees_is c.args.address c.leaf-leaf.result x.part.leaf x.route (c.leaf-leaf.ensures.said x.part x.said) x.key x.rank in
-    (x.route, x.room_is, (x.among, covered c.args.address x.route (sym same ∙ sym c.agrees.ensures ∙ c.if-agrees.true), λ y among covers below. x.greatest y among covers))
+    let same = agrees_is c.args.address x.route (c.leaf-leaf.ensures.said x.part x.said) x.key x.rank in (
+      x.route,
+      x.room_is,
+      (
+        x.among,
+        covered c.args.address x.route (sym same ∙ sym c.agrees.ensures ∙ c.if-agrees.true),
+        λ y among covers below.
+            x.greatest y among covers,
+      ),
+    )
 
 pub loop-at-preserved : goal.loop-at-preserved
 loop-at-preserved g c = λ r begins.
     let x = member (c.loop-at.invariant r begins) c.in-Some.is in
     let said = c.leaf-leaf.ensures.said x.part x.said in
-    let same = agrees_is c.args.address c.leaf-leaf.result x.part.leaf x.route said x.key x.rank in
+    let same = agrees_is c.args.address x.route said x.key x.rank in
     x.passed c.leaf-leaf.result _ said c.leaf-leaf.ensures.visit (not_covered c.args.address x.route (sym same ∙ sym c.agrees.ensures ∙ c.if-agrees.false))

@@ -1,6 +1,6 @@
 use Rattle.std.proofs.Common.{◌≡◌, sym, ap, ◌∙◌}
 use Rattle.std.proofs.lemmas.Bool.{eqb-true, eqb-false}
-use Rattle.radix_nodes.specs.declared.links.Leaf.{Leaf}
+use Rattle.radix_tree.proofs.Words.{Leaf}
 use Rattle.radix_tree.proofs.Scans.{begun, member, Has-at, ended}
 use Rattle.radix_tree.proofs.scanning.of_pair.Goals as goal
 use Rattle.radix_tree.proofs.scanning.of_pair.Goals.{else-eq-via-then-eq+else-eq-2, else-eq-via-else-eq}
@@ -27,7 +27,8 @@ loop-at-preserved g c = λ r begins.
       | else-eq-via-then-eq+else-eq-2 w ↦ λ key rank. eqb-false c.leaf-leaf.result.rank c.args.rank (sym w.eq-then-eq.ensures ∙ w.if-eq-2.false) rank
       | else-eq-via-else-eq w ↦ λ key rank. eqb-false c.leaf-leaf.result.key c.args.key (sym c.eq.ensures ∙ w.if-eq.false) key
     ] in
-    x.passed c.leaf-leaf.result _ said c.leaf-leaf.ensures.visit (λ has. not (ap (λ (l : Leaf). l.key) said ∙ x.key ∙ has.0) (ap (λ (l : Leaf). l.rank) said ∙ x.rank ∙ has.1))
+    x.passed c.leaf-leaf.result _ said c.leaf-leaf.ensures.visit (λ has. not (ap (λ (l : Leaf). l.key) said ∙ x.key ∙ has.0)
+    (ap (λ (l : Leaf). l.rank) said ∙ x.rank ∙ has.1))
 
 pub returns-clause-found : goal.returns-clause-found
 returns-clause-found g c r begins x among has = ended (c.loop-at.invariant r begins) c.in_default.is x among has

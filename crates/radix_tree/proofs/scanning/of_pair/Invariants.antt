@@ -1,6 +1,5 @@
 use Rattle.std.proofs.Common.{◌≡◌, ◌+◌, ◌-◌, Some}
-use Rattle.radix_tree.specs.Rooms.{Run, first_room}
-use Rattle.radix_tree.specs.Searches.{HasPair}
+use Rattle.radix_tree.proofs.Words.{Run, first_room, HasPair}
 use Rattle.radix_tree.proofs.Scans.{Along}
 use Rattle.radix_tree.proofs.scanning.of_pair.Given as goal
 

@@ -1,34 +1,37 @@
 use Rattle.std.proofs.Common.{◌≡◌, ◌≤◌, ◌+◌, ◌-◌, ◌∙◌, sym, ap, arith}
-use Rattle.radix_nodes.specs.Counting.{Counter}
-use Rattle.radix_tree.proofs.Walks.{Read, climb_begun, Has-first, Has-over, used_over, read_over, climb_ended, on_zero, on_one, begins_on, begins_rest}
+use Rattle.radix_tree.proofs.Words.{Counter}
+use Rattle.radix_tree.proofs.WalkStarts.{on_zero, on_one}
+use Rattle.radix_tree.proofs.Walks.{Read, climb_begun, Has-first, Has-over, used_over, read_over, climb_ended, begins_on, begins_rest}
 use Rattle.radix_tree.proofs.walk.place_behind.Goals as goal
-use Rattle.radix_tree.proofs.walk.place_behind.Goals.{In-Some-bit_node, After-first_place}
+use Rattle.radix_tree.proofs.walk.place_behind.Goals.{In-Some-bit_node}
 
 pub links-requires-clause-there : goal.links-requires-clause-there
-links-requires-clause-there g c = Has-first c.args.nodes.now.lodged c.args.key c.args.first c.requires.first
+links-requires-clause-there g c = Has-first c.args.first c.requires.first
 
 pub loop-above-init : goal.loop-above-init
 loop-above-init g c =
     let count : c.links.new.visits.count ≡ c.args.visits.now.count + 1 = ap (λ (v : Counter). v.count) c.links.ensures.visit in
     record {
       turn = ap (λ (v : Counter). v.turn) c.links.ensures.visit ∙ c.requires.turn;
-      climb = climb_begun c.args.nodes.now.lodged c.args.key c.args.first c.requires.first c.links.result.now c.leaf-above.result _ c.links.ensures.links c.leaf-above.ensures (omega arith);
+      climb = climb_begun c.args.first c.requires.first c.links.result.now _ c.links.ensures.links c.leaf-above.ensures (omega arith);
       rises = omega arith;
     }
 
 pub links-requires-in-Some-clause-there : goal.links-requires-in-Some-clause-there
-links-requires-in-Some-clause-there g c = Has-over c.args.nodes.now.lodged c.args.key c.args.first c.loop-above.above _ c.in-Some.up c.loop-above.invariant.climb c.in-Some.is
+links-requires-in-Some-clause-there g c = Has-over c.in-Some.up c.loop-above.invariant.climb c.in-Some.is
 
 pub unreachable-requires : goal.unreachable-requires
 unreachable-requires g c =
-    used_over c.args.nodes.now.lodged c.args.key c.args.first c.loop-above.above _ c.in-Some.up c.links-in-Some.result.now c.loop-above.invariant.climb c.in-Some.is c.links-in-Some.ensures.links (sym c.bit_node.ensures ∙ c.in_default-bit_node.is)
+    used_over c.in-Some.up c.links-in-Some.result.now c.loop-above.invariant.climb c.in-Some.is c.links-in-Some.ensures.links
+    (sym c.bit_node.ensures ∙ c.in_default-bit_node.is)
 
 -- what the bit node above says
-node : (g : _) (c : In-Some-bit_node g) → Read c.args.nodes.now.lodged c.args.key c.args.first c.in-Some-bit_node.node (c.loop-above.visits.count - c.args.visits.now.count) (c.links-in-Some.new.visits.count - c.args.visits.now.count)
+node : (g : _) (c : In-Some-bit_node g) → Read c.args.nodes.now.lodged c.args.key c.args.first c.in-Some-bit_node.node
+    (c.loop-above.visits.count - c.args.visits.now.count) (c.links-in-Some.new.visits.count - c.args.visits.now.count)
 node g c =
     let count : c.links-in-Some.new.visits.count ≡ c.loop-above.visits.count + 1 = ap (λ (v : Counter). v.count) c.links-in-Some.ensures.visit in
     let rises : c.args.visits.now.count ≤ c.loop-above.visits.count = c.loop-above.invariant.rises in
-    read_over c.args.nodes.now.lodged c.args.key c.args.first c.loop-above.above _ _ c.in-Some.up c.links-in-Some.result.now c.in-Some-bit_node.node c.loop-above.invariant.climb c.in-Some.is c.links-in-Some.ensures.links
+    read_over c.args.key _ _ c.in-Some.up c.links-in-Some.result.now c.loop-above.invariant.climb c.in-Some.is c.links-in-Some.ensures.links
     (sym c.bit_node.ensures ∙ c.in-Some-bit_node.is) (omega (arith, count, rises))
 
 pub is_one-requires : goal.is_one-requires
@@ -40,14 +43,14 @@ first_place-requires-clause-tree g c = (node g (goal.at.first_place-requires-cla
 pub returns-then-not-is_one-clause-on : goal.returns-then-not-is_one-clause-on
 returns-then-not-is_one-clause-on g c =
     let n = node g (goal.at.returns-then-not-is_one-clause-on g c).In-Some-bit_node in
-    begins_on c.args.nodes.now.lodged c.first_place.result _ c.first_place.ensures.room
-    (n.turn (on_zero c.in-Some-bit_node.node.bit c.args.key c.is_one.result c.is_one.ensures c.if-not-is_one.true) c.first_place.result.first c.first_place.ensures.led)
+    begins_on c.first_place.result _ c.first_place.ensures.room
+    (n.turn (on_zero c.in-Some-bit_node.node.bit c.args.key c.is_one.ensures c.if-not-is_one.true) c.first_place.result.first c.first_place.ensures.led)
 
 pub returns-then-not-is_one-clause-rest : goal.returns-then-not-is_one-clause-rest
 returns-then-not-is_one-clause-rest g c =
     let n = node g (goal.at.returns-then-not-is_one-clause-rest g c).In-Some-bit_node in
-    begins_rest c.args.nodes.now.lodged c.first_place.result _ c.first_place.ensures.room
-    (n.turn (on_zero c.in-Some-bit_node.node.bit c.args.key c.is_one.result c.is_one.ensures c.if-not-is_one.true) c.first_place.result.first c.first_place.ensures.led)
+    begins_rest c.first_place.result _ c.first_place.ensures.room
+    (n.turn (on_zero c.in-Some-bit_node.node.bit c.args.key c.is_one.ensures c.if-not-is_one.true) c.first_place.result.first c.first_place.ensures.led)
 
 pub loop-above-smaller : goal.loop-above-smaller
 loop-above-smaller g c =
@@ -62,9 +65,9 @@ loop-above-preserved g c =
     let rises : c.args.visits.now.count ≤ c.loop-above.visits.count = c.loop-above.invariant.rises in
     record {
       turn = ap (λ (v : Counter). v.turn) c.links-in-Some.ensures.visit ∙ c.loop-above.invariant.turn;
-      climb = n.up (on_one c.in-Some-bit_node.node.bit c.args.key c.is_one.result c.is_one.ensures c.if-not-is_one.false);
+      climb = n.up (on_one c.in-Some-bit_node.node.bit c.args.key c.is_one.ensures c.if-not-is_one.false);
       rises = omega arith;
     }
 
 pub returns-clause-rest : goal.returns-clause-rest
-returns-clause-rest g c = climb_ended c.args.nodes.now.lodged c.args.key c.args.first c.loop-above.above _ c.loop-above.invariant.climb c.in_default.is
+returns-clause-rest g c = climb_ended c.loop-above.invariant.climb c.in_default.is

@@ -1,14 +1,8 @@
 use Rattle.std.proofs.Common.{◌≡◌, ℕ, ◌+◌, ◌≤◌, ◌==◌, if◌then◌else◌, true, false, List, Option, Some, None, is_some, refl, sym, ap, subst, ◌∙◌, rules}
-use Rattle.std.specs.FinMap.{keys}
-use Rattle.mask_table.specs.Counts.{HasOneMore}
-use Rattle.radix_nodes.specs.Rooms.{Rooms}
-use Rattle.radix_tree.specs.Kept.{AreCounted}
-use Rattle.radix_tree.specs.Table.{Contents, entry_at, uses, with_entry}
-use Rattle.radix_tree.specs.Whole.{shown}
-use Rattle.radix_tree.specs.declared.entry.Entry.{Entry}
+use Rattle.radix_tree.proofs.Words.{keys, HasOneMore, Rooms, AreCounted, Contents, entry_at, uses, with_entry, shown, Entry}
 use Rattle.radix_tree.proofs.Counted.{few_held, counted_more}
 use Rattle.radix_tree.proofs.Numbers.{free_room, used_more}
-use Rattle.radix_tree.proofs.WholeChanges.{gains_entry}
+use Rattle.radix_tree.proofs.WholeRoutes.{gains_entry}
 use Rattle.radix_tree.proofs.Kept.{shown_table, shown_next}
 use Rattle.radix_tree.proofs.routes.Table.add.Goals as goal
 use Rattle.radix_tree.proofs.routes.Table.add.Goals.{After-begin-visits, In-Ok}
@@ -18,31 +12,38 @@ true_false e = cc
 
 -- the numbers in use before are those that the table shows
 numbers : (g : _) (c : After-begin-visits g) (n : ℕ) → uses n (keys c.begin-visits.new.self.lodged) ≡ uses n c.args.self.now.numbers
-numbers g c n = ap (λ (r : Rooms g.row.V.Denot). uses n (keys r.lodged)) c.begin-visits.ensures.turn ∙ ap (λ (t : Contents g.row.V.Denot). uses n t.numbers) c.self.view_is
+numbers g c n =
+    ap (λ (r : Rooms g.row.V.Denot). uses n (keys r.lodged)) c.begin-visits.ensures.turn ∙ ap (λ (t : Contents g.row.V.Denot). uses n t.numbers) c.self.view_is
 
-pub insert-requires-clause-free : goal.insert-requires-clause-free
-insert-requires-clause-free g c = free_room _ c.args.room (numbers g (goal.at.insert-requires-clause-free g c).After-begin-visits c.args.room ∙ c.requires.free)
+pub insert-requires-clause-spare : goal.insert-requires-clause-spare
+insert-requires-clause-spare g c = record {
+  made = search rules;
+  free = free_room _ c.args.room (numbers g (goal.at.insert-requires-clause-spare g c).After-begin-visits c.args.room ∙ c.requires.free);
+}
 
 pub added-requires : goal.added-requires
 added-requires g c =
     let fits : c.args.rank ≤ 33 = search rules in
-    few_held c.self.inside.counts (shown c.self.inside.nodes.lodged c.self.inside.root) c.args.rank c.self.invariant.counted (shown_table _ c.self.inside.root c.self.invariant.holds) fits
+    few_held c.self.inside.counts (shown c.self.inside.nodes.lodged c.self.inside.root) c.args.rank c.self.invariant.counted
+    (shown_table _ c.self.inside.root c.self.invariant.holds) fits
 
 -- the pair was not there
 absent : (g : _) (c : In-Ok g) → entry_at c.args.key c.args.rank c.args.self.now.entries ≡ None
 absent g c =
-    ap (λ (es : List (Entry g.row.V.Denot)). entry_at c.args.key c.args.rank es) (sym (shown_next c.self.inside.nodes c.begin-visits.new.self c.self.inside.root _ c.self.view_is c.begin-visits.ensures.turn))
+    ap (λ (es : List (Entry g.row.V.Denot)). entry_at c.args.key c.args.rank es)
+    (sym (shown_next c.self.inside.nodes c.begin-visits.new.self c.self.inside.root _ c.self.view_is c.begin-visits.ensures.turn))
     ∙ ap (λ (e : Entry g.row.V.Denot). entry_at e.key e.rank (shown c.begin-visits.new.self.lodged c.self.inside.root)) (sym c.of-entry.ensures.entry)
-    ∙ (gains_entry c.of-entry.result _ _ c.in-Ok.ensures.routes (shown_table c.insert.new.nodes.lodged (Some c.in-Ok.root) c.in-Ok.ensures.whole)).1
+    ∙ (gains_entry c.in-Ok.ensures.routes (shown_table c.insert.new.nodes.lodged (Some c.in-Ok.root) c.in-Ok.ensures.whole)).1
 
 pub invariant_of-self-in-Ok : goal.invariant_of-self-in-Ok
 invariant_of-self-in-Ok g c =
     let before = shown_next c.self.inside.nodes c.begin-visits.new.self c.self.inside.root _ refl c.begin-visits.ensures.turn in
     record {
       holds = c.in-Ok.ensures.whole;
-      counted = counted_more c.of-entry.result _ _ c.self.inside.counts c.added.new.self
+      counted = counted_more _ _ c.self.inside.counts c.added.new.self
           (subst (λ (es : List (Entry g.row.V.Denot)). AreCounted c.self.inside.counts es) (sym before) c.self.invariant.counted) c.in-Ok.ensures.routes
-          (subst (λ r. HasOneMore r c.self.inside.counts c.added.new.self) (sym (ap (λ (e : Entry g.row.V.Denot). e.rank) c.of-entry.ensures.entry)) c.added.ensures);
+          (subst (λ r. HasOneMore r c.self.inside.counts c.added.new.self) (sym (ap (λ (e : Entry g.row.V.Denot). e.rank) c.of-entry.ensures.entry))
+          c.added.ensures);
     }
 
 pub returns-clause-there : goal.returns-clause-there
@@ -55,12 +56,14 @@ returns-clause-absent g c = absent g (goal.at.returns-clause-absent g c).In-Ok
 
 pub returns-clause-ok : goal.returns-clause-ok
 returns-clause-ok g c =
-    (gains_entry c.of-entry.result _ _ c.in-Ok.ensures.routes (shown_table c.insert.new.nodes.lodged (Some c.in-Ok.root) c.in-Ok.ensures.whole)).0
+    (gains_entry c.in-Ok.ensures.routes (shown_table c.insert.new.nodes.lodged (Some c.in-Ok.root) c.in-Ok.ensures.whole)).0
     ∙ ap (λ (e : Entry g.row.V.Denot). with_entry e (shown c.begin-visits.new.self.lodged c.self.inside.root)) c.of-entry.ensures.entry
-    ∙ ap (λ (es : List (Entry g.row.V.Denot)). with_entry (record { key = c.args.key; rank = c.args.rank; value = c.args.value }) es) (shown_next c.self.inside.nodes c.begin-visits.new.self c.self.inside.root _ c.self.view_is c.begin-visits.ensures.turn)
+    ∙ ap (λ (es : List (Entry g.row.V.Denot)). with_entry (record { key = c.args.key; rank = c.args.rank; value = c.args.value }) es)
+    (shown_next c.self.inside.nodes c.begin-visits.new.self c.self.inside.root _ c.self.view_is c.begin-visits.ensures.turn)
 
 pub returns-clause-numbers : goal.returns-clause-numbers
 returns-clause-numbers g c = λ n.
     let at = (goal.at.returns-clause-numbers g c).After-begin-visits in
-    used_more c.begin-visits.new.self.lodged c.insert.new.nodes.lodged c.args.room (free_room _ c.args.room (numbers g at c.args.room ∙ c.requires.free)) c.in-Ok.ensures.rooms n
+    used_more c.begin-visits.new.self.lodged c.insert.new.nodes.lodged c.args.room (free_room _ c.args.room (numbers g at c.args.room ∙ c.requires.free))
+    c.in-Ok.ensures.rooms n
     ∙ ap (λ (u : ℕ). u + (if c.args.room == n then 1 else 0)) (numbers g at n)

@@ -1,32 +1,33 @@
 use Rattle.std.proofs.Common.{List, sym, ap, ◌∙◌}
-use Rattle.radix_tree.specs.Table.{first_of}
-use Rattle.radix_tree.specs.declared.entry.Entry.{Entry}
+use Rattle.radix_tree.proofs.Words.{first_of, Entry}
 use Rattle.radix_tree.proofs.Kept.{differ, agree, Has-led, no_first, first_found, whole_at, entries_at}
 use Rattle.radix_tree.proofs.routes.Table.first_of.Goals as goal
 
 pub leaf_for-first-requires-clause-tree : goal.leaf_for-first-requires-clause-tree
-leaf_for-first-requires-clause-tree g c = let w = whole_at _ _ c.in-Some.root c.self.invariant.holds c.in-Some.is in (w.part, w.named)
+leaf_for-first-requires-clause-tree g c = let w = whole_at _ c.self.invariant.holds c.in-Some.is in (w.part, w.named)
 
 pub links-requires-clause-there : goal.links-requires-clause-there
 links-requires-clause-there g c =
-    let w = whole_at _ _ c.in-Some.root c.self.invariant.holds c.in-Some.is in
-    Has-led _ c.args.key w.part c.leaf_for-first.result (c.leaf_for-first.ensures.leaf w.part w.named)
+    let w = whole_at _ c.self.invariant.holds c.in-Some.is in
+    Has-led _ (c.leaf_for-first.ensures.leaf w.part w.named)
 
 pub returns-then-ne-clause-entry : goal.returns-then-ne-clause-entry
 returns-then-ne-clause-entry g c =
-    let w = whole_at _ _ c.in-Some.root c.self.invariant.holds c.in-Some.is in
-    let differs = differ c.leaf-leaf.result.key c.args.key c.ne.result c.ne.ensures c.if-ne.true in
-    sym (ap (λ (es : List (Entry g.row.V.Denot)). first_of c.args.key es) (sym (entries_at _ _ c.in-Some.root _ c.self.view_is c.in-Some.is))
-    ∙ no_first _ c.in-Some.root w c.args.key c.leaf_for-first.result (c.leaf_for-first.ensures.leaf w.part w.named) c.links.result.now c.leaf-leaf.result c.links.ensures.links c.leaf-leaf.ensures differs)
+    let w = whole_at _ c.self.invariant.holds c.in-Some.is in
+    let differs = differ c.leaf-leaf.result.key c.args.key c.ne.ensures c.if-ne.true in
+    sym (ap (λ (es : List (Entry g.row.V.Denot)). first_of c.args.key es) (sym (entries_at _ _ _ c.self.view_is c.in-Some.is))
+    ∙ no_first _ c.in-Some.root w c.args.key (c.leaf_for-first.ensures.leaf w.part w.named) c.links.result.now c.leaf-leaf.result c.links.ensures.links
+    c.leaf-leaf.ensures differs)
 
 pub value-requires-clause-there : goal.value-requires-clause-there
 value-requires-clause-there g c =
-    let w = whole_at _ _ c.in-Some.root c.self.invariant.holds c.in-Some.is in
-    Has-led _ c.args.key w.part c.leaf_for-first.result (c.leaf_for-first.ensures.leaf w.part w.named)
+    let w = whole_at _ c.self.invariant.holds c.in-Some.is in
+    Has-led _ (c.leaf_for-first.ensures.leaf w.part w.named)
 
 pub returns-clause-entry : goal.returns-clause-entry
 returns-clause-entry g c =
-    let w = whole_at _ _ c.in-Some.root c.self.invariant.holds c.in-Some.is in
-    let same = agree c.leaf-leaf.result.key c.args.key c.ne.result c.ne.ensures c.if-ne.false in
-    sym (ap (λ (es : List (Entry g.row.V.Denot)). first_of c.args.key es) (sym (entries_at _ _ c.in-Some.root _ c.self.view_is c.in-Some.is))
-    ∙ first_found _ c.in-Some.root w c.args.key c.leaf_for-first.result (c.leaf_for-first.ensures.leaf w.part w.named) c.links.result.now c.leaf-leaf.result c.value.result.now c.links.ensures.links c.leaf-leaf.ensures c.value.ensures.value same)
+    let w = whole_at _ c.self.invariant.holds c.in-Some.is in
+    let same = agree c.leaf-leaf.result.key c.args.key c.ne.ensures c.if-ne.false in
+    sym (ap (λ (es : List (Entry g.row.V.Denot)). first_of c.args.key es) (sym (entries_at _ _ _ c.self.view_is c.in-Some.is))
+    ∙ first_found _ w c.args.key (c.leaf_for-first.ensures.leaf w.part w.named) c.links.result.now c.leaf-leaf.result c.value.result.now c.links.ensures.links
+    c.leaf-leaf.ensures c.value.ensures.value same)

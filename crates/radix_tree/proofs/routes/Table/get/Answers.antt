@@ -1,6 +1,5 @@
 use Rattle.std.proofs.Common.{◌≤◌, List, sym, ap, ◌∙◌, rules}
-use Rattle.radix_tree.specs.Table.{Contents, entry_at}
-use Rattle.radix_tree.specs.declared.entry.Entry.{Entry}
+use Rattle.radix_tree.proofs.Words.{Contents, entry_at, Entry}
 use Rattle.radix_tree.proofs.Counted.{not_held}
 use Rattle.radix_tree.proofs.Kept.{Has-found, found, not_found, value_found, whole_at, entries_at}
 use Rattle.radix_tree.proofs.routes.Table.get.Goals as goal
@@ -9,25 +8,25 @@ pub returns-then-not-has-clause-entry : goal.returns-then-not-has-clause-entry
 returns-then-not-has-clause-entry g c =
     let fits : c.args.rank ≤ 33 = search rules in
     sym (ap (λ (t : Contents g.row.V.Denot). entry_at c.args.key c.args.rank t.entries) (sym c.self.view_is)
-    ∙ not_held c.self.inside.counts _ c.args.key c.args.rank c.has.result c.self.invariant.counted fits c.has.ensures.1 c.if-not-has.true)
+    ∙ not_held c.self.inside.counts _ c.args.key c.args.rank c.self.invariant.counted fits c.has.ensures.1 c.if-not-has.true)
 
 pub room_of-requires-clause-tree : goal.room_of-requires-clause-tree
-room_of-requires-clause-tree g c = let w = whole_at _ _ c.in-Some.root c.self.invariant.holds c.in-Some.is in (w.part, w.named)
+room_of-requires-clause-tree g c = let w = whole_at _ c.self.invariant.holds c.in-Some.is in (w.part, w.named)
 
 pub returns-in_default-room_of-clause-entry : goal.returns-in_default-room_of-clause-entry
 returns-in_default-room_of-clause-entry g c =
-    let w = whole_at _ _ c.in-Some.root c.self.invariant.holds c.in-Some.is in
-    sym (ap (λ (es : List (Entry g.row.V.Denot)). entry_at c.args.key c.args.rank es) (sym (entries_at _ _ c.in-Some.root _ c.self.view_is c.in-Some.is))
-    ∙ not_found _ c.in-Some.root w c.args.key c.args.rank c.room_of.result c.in_default-room_of.is (c.room_of.ensures.found w.part w.named))
+    let w = whole_at _ c.self.invariant.holds c.in-Some.is in
+    sym (ap (λ (es : List (Entry g.row.V.Denot)). entry_at c.args.key c.args.rank es) (sym (entries_at _ _ _ c.self.view_is c.in-Some.is))
+    ∙ not_found w c.args.key c.args.rank c.in_default-room_of.is (c.room_of.ensures.found w.part w.named))
 
 pub value-requires-clause-there : goal.value-requires-clause-there
 value-requires-clause-there g c =
-    let w = whole_at _ _ c.in-Some.root c.self.invariant.holds c.in-Some.is in
-    Has-found _ c.in-Some.root c.args.key c.args.rank c.in-Some-room_of.room (found _ c.in-Some.root w c.args.key c.args.rank c.room_of.result c.in-Some-room_of.room c.in-Some-room_of.is (c.room_of.ensures.found w.part w.named))
+    let w = whole_at _ c.self.invariant.holds c.in-Some.is in
+    Has-found _ (found w c.args.key c.args.rank c.in-Some-room_of.is (c.room_of.ensures.found w.part w.named))
 
 pub returns-clause-entry : goal.returns-clause-entry
 returns-clause-entry g c =
-    let w = whole_at _ _ c.in-Some.root c.self.invariant.holds c.in-Some.is in
-    let f = found _ c.in-Some.root w c.args.key c.args.rank c.room_of.result c.in-Some-room_of.room c.in-Some-room_of.is (c.room_of.ensures.found w.part w.named) in
-    value_found _ c.in-Some.root c.args.key c.args.rank c.in-Some-room_of.room f c.value.result.now c.value.ensures.value
-    ∙ ap (λ (es : List (Entry g.row.V.Denot)). entry_at c.args.key c.args.rank es) (entries_at _ _ c.in-Some.root _ c.self.view_is c.in-Some.is)
+    let w = whole_at _ c.self.invariant.holds c.in-Some.is in
+    let f = found w c.args.key c.args.rank c.in-Some-room_of.is (c.room_of.ensures.found w.part w.named) in
+    value_found f c.value.result.now c.value.ensures.value
+    ∙ ap (λ (es : List (Entry g.row.V.Denot)). entry_at c.args.key c.args.rank es) (entries_at _ _ _ c.self.view_is c.in-Some.is)

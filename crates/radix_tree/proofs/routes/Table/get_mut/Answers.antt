@@ -1,13 +1,6 @@
 use Rattle.std.proofs.Common.{◌≡◌, ◌+◌, ◌≤◌, List, Option, Some, None, refl, sym, ap, subst, ◌∙◌, inl, inr, rules}
-use Rattle.std.specs.Prelude.{option_map}
-use Rattle.std.specs.FinMap.{keys}
-use Rattle.radix_nodes.specs.Rooms.{Rooms, put_value}
-use Rattle.radix_nodes.specs.declared.links.Node.{Node}
-use Rattle.radix_tree.specs.Kept.{contents, IsKept, AreCounted}
-use Rattle.radix_tree.specs.Lending.{with_value}
-use Rattle.radix_tree.specs.Table.{Contents, entry_at, with_entry}
-use Rattle.radix_tree.specs.Whole.{shown}
-use Rattle.radix_tree.specs.declared.entry.Entry.{Entry}
+use Rattle.radix_tree.proofs.Words.{option_map, keys, Rooms, put_value, Node, contents, IsKept, AreCounted, with_value, Contents, entry_at, with_entry, shown}
+use Rattle.radix_tree.proofs.Words.{Entry}
 use Rattle.radix_tree.proofs.Counted.{not_held}
 use Rattle.radix_tree.proofs.Valued.{put_valued, valued_whole, lent_shown, lent_counted, lent_keys}
 use Rattle.radix_tree.proofs.Kept.{Has-found, IsFound, found, not_found, value_found, whole_next, entries_next}
@@ -15,67 +8,81 @@ use Rattle.radix_tree.proofs.routes.Table.get_mut.Goals as goal
 use Rattle.radix_tree.proofs.routes.Table.get_mut.Goals.{In-Some-room_of}
 
 -- a table of which a turn began and no more
-only_begun : {V : Type 0} (old new : Rooms V) (root : Option Node) (table : Contents V) → contents old root ≡ table → new ≡ record old { turn = old.turn + 1 } → contents new root ≡ record table { turn = table.turn + 1 }
-only_begun {V} old new root table is began = ap (λ (r : Rooms V). contents r root) began ∙ ap (λ (t : Contents V). record t { turn = t.turn + 1 }) is
+only_begun : {V : Type 0} (old : Rooms V) {new : Rooms V} (root : Option Node) {table : Contents V} → contents old root ≡ table
+    → new ≡ record old { turn = old.turn + 1 } → contents new root ≡ record table { turn = table.turn + 1 }
+only_begun {V} old root is began = ap (λ (r : Rooms V). contents r root) began ∙ ap (λ (t : Contents V). record t { turn = t.turn + 1 }) is
 
 pub returns-then-not-has : goal.returns-then-not-has
 returns-then-not-has g c =
     let fits : c.args.rank ≤ 33 = search rules in
     let none : entry_at c.args.key c.args.rank c.args.self.now.entries ≡ None
     = ap (λ (t : Contents g.row.V.Denot). entry_at c.args.key c.args.rank t.entries) (sym c.self.view_is)
-    ∙ not_held c.self.inside.counts _ c.args.key c.args.rank c.has.result c.self.invariant.counted fits c.has.ensures.1 c.if-not-has.true in
-    (ap inr (only_begun c.self.inside.nodes c.begin-visits.new.self c.self.inside.root c.args.self.now c.self.view_is c.begin-visits.ensures.turn), record { writes = tt; value = rw none refl })
+    ∙ not_held c.self.inside.counts _ c.args.key c.args.rank c.self.invariant.counted fits c.has.ensures.1 c.if-not-has.true in
+    (ap inr (only_begun c.self.inside.nodes c.self.inside.root c.self.view_is c.begin-visits.ensures.turn), record { writes = tt; value = rw none refl })
 
 pub room_of-requires-clause-tree : goal.room_of-requires-clause-tree
 room_of-requires-clause-tree g c =
-    let w = whole_next c.self.inside.nodes c.begin-visits.new.self _ c.in-Some.root c.self.invariant.holds c.in-Some.is c.begin-visits.ensures.turn in (w.part, w.named)
+    let w = whole_next c.self.inside.nodes c.begin-visits.new.self c.self.invariant.holds c.in-Some.is c.begin-visits.ensures.turn in (w.part, w.named)
 
 pub returns-in_default-room_of : goal.returns-in_default-room_of
 returns-in_default-room_of g c =
-    let w = whole_next c.self.inside.nodes c.begin-visits.new.self _ c.in-Some.root c.self.invariant.holds c.in-Some.is c.begin-visits.ensures.turn in
+    let w = whole_next c.self.inside.nodes c.begin-visits.new.self c.self.invariant.holds c.in-Some.is c.begin-visits.ensures.turn in
     let none : entry_at c.args.key c.args.rank c.args.self.now.entries ≡ None
-    = ap (λ (es : List (Entry g.row.V.Denot)). entry_at c.args.key c.args.rank es) (sym (entries_next c.self.inside.nodes c.begin-visits.new.self _ c.in-Some.root _ c.self.view_is c.in-Some.is c.begin-visits.ensures.turn))
-    ∙ not_found c.begin-visits.new.self.lodged c.in-Some.root w c.args.key c.args.rank c.room_of.result c.in_default-room_of.is (c.room_of.ensures.found w.part w.named) in
-    (ap inr (only_begun c.self.inside.nodes c.begin-visits.new.self c.self.inside.root c.args.self.now c.self.view_is c.begin-visits.ensures.turn), record { writes = tt; value = rw none refl })
+    = ap (λ (es : List (Entry g.row.V.Denot)). entry_at c.args.key c.args.rank es)
+    (sym (entries_next c.self.inside.nodes c.begin-visits.new.self _ c.self.view_is c.in-Some.is c.begin-visits.ensures.turn))
+    ∙ not_found w c.args.key c.args.rank c.in_default-room_of.is (c.room_of.ensures.found w.part w.named) in
+    (ap inr (only_begun c.self.inside.nodes c.self.inside.root c.self.view_is c.begin-visits.ensures.turn), record { writes = tt; value = rw none refl })
 
 -- the room that was found
 is_found : (g : _) (c : In-Some-room_of g) → IsFound c.begin-visits.new.self.lodged c.in-Some.root c.args.key c.args.rank c.in-Some-room_of.room
 is_found g c =
-    let w = whole_next c.self.inside.nodes c.begin-visits.new.self _ c.in-Some.root c.self.invariant.holds c.in-Some.is c.begin-visits.ensures.turn in
-    found c.begin-visits.new.self.lodged c.in-Some.root w c.args.key c.args.rank c.room_of.result c.in-Some-room_of.room c.in-Some-room_of.is (c.room_of.ensures.found w.part w.named)
+    let w = whole_next c.self.inside.nodes c.begin-visits.new.self c.self.invariant.holds c.in-Some.is c.begin-visits.ensures.turn in
+    found w c.args.key c.args.rank c.in-Some-room_of.is (c.room_of.ensures.found w.part w.named)
 
 pub value_mut-requires : goal.value_mut-requires
 value_mut-requires g c =
-    record { there = Has-found _ c.in-Some.root c.args.key c.args.rank c.in-Some-room_of.room (is_found g (goal.at.value_mut-requires g c).In-Some-room_of) }
+    record { there = Has-found _ (is_found g (goal.at.value_mut-requires g c).In-Some-room_of) }
 
 pub invariant_of-self-lent : goal.invariant_of-self-lent
 invariant_of-self-lent g c = λ v.
     let f = is_found g (goal.at.invariant_of-self-lent g c).In-Some-room_of in
     let m = c.begin-visits.new.self.lodged in
-    let w = whole_next c.self.inside.nodes c.begin-visits.new.self _ c.in-Some.root c.self.invariant.holds c.in-Some.is c.begin-visits.ensures.turn in
-    let has = Has-found m c.in-Some.root c.args.key c.args.rank c.in-Some-room_of.room f in
+    let w = whole_next c.self.inside.nodes c.begin-visits.new.self c.self.invariant.holds c.in-Some.is c.begin-visits.ensures.turn in
+    let has = Has-found m f in
     let before : shown m (Some c.in-Some.root) ≡ shown c.self.inside.nodes.lodged c.self.inside.root
-    = entries_next c.self.inside.nodes c.begin-visits.new.self _ c.in-Some.root _ refl c.in-Some.is c.begin-visits.ensures.turn in
+    = entries_next c.self.inside.nodes c.begin-visits.new.self _ refl c.in-Some.is c.begin-visits.ensures.turn in
     let counted = subst (λ (es : List (Entry g.row.V.Denot)). AreCounted c.self.inside.counts es) (sym before) c.self.invariant.counted in
-    subst (λ (o : Option Node). IsKept (record { lodged = put_value m c.in-Some-room_of.room v; next = c.begin-visits.new.self.next; turn = c.begin-visits.new.self.turn }) o c.self.inside.counts) (sym c.in-Some.is) (record {
-      holds = valued_whole m (put_value m c.in-Some-room_of.room v) c.in-Some-room_of.room.number v c.in-Some.root (put_valued m c.in-Some-room_of.room v has) w;
-      counted = lent_counted m c.in-Some.root w c.args.key c.args.rank c.room_of.result c.in-Some-room_of.room c.self.inside.counts c.in-Some-room_of.is (c.room_of.ensures.found w.part w.named) has v counted;
+    subst (λ (o : Option Node). IsKept (record {
+      lodged = put_value m c.in-Some-room_of.room v;
+      next = c.begin-visits.new.self.next;
+      turn =
+          c.begin-visits.new.self.turn;
+    }) o c.self.inside.counts) (sym c.in-Some.is) (record {
+      holds =
+          valued_whole m (put_value m c.in-Some-room_of.room v) c.in-Some-room_of.room.number v c.in-Some.root (put_valued m c.in-Some-room_of.room v has) w;
+      counted = lent_counted m c.in-Some.root w c.args.key c.args.rank c.room_of.result c.in-Some-room_of.room c.self.inside.counts c.in-Some-room_of.is
+          (c.room_of.ensures.found w.part w.named) has v counted;
     })
 
 -- the table once the value is given back
-lent : (g : _) (c : In-Some-room_of g) (v : g.row.V.Denot) → contents (record { lodged = put_value c.begin-visits.new.self.lodged c.in-Some-room_of.room v; next = c.begin-visits.new.self.next; turn = c.begin-visits.new.self.turn }) c.self.inside.root
+lent : (g : _) (c : In-Some-room_of g) (v : g.row.V.Denot) → contents (record
+    { lodged = put_value c.begin-visits.new.self.lodged c.in-Some-room_of.room v; next = c.begin-visits.new.self.next; turn = c.begin-visits.new.self.turn })
+    c.self.inside.root
     ≡ with_value c.args.key c.args.rank c.args.self.now v
 lent g c v =
     let m = c.begin-visits.new.self.lodged in
-    let w = whole_next c.self.inside.nodes c.begin-visits.new.self _ c.in-Some.root c.self.invariant.holds c.in-Some.is c.begin-visits.ensures.turn in
-    let has = Has-found m c.in-Some.root c.args.key c.args.rank c.in-Some-room_of.room (is_found g c) in
+    let w = whole_next c.self.inside.nodes c.begin-visits.new.self c.self.invariant.holds c.in-Some.is c.begin-visits.ensures.turn in
+    let has = Has-found m (is_found g c) in
     let e : Entry g.row.V.Denot = record { key = c.args.key; rank = c.args.rank; value = v } in
     let entries : shown (put_value m c.in-Some-room_of.room v) c.self.inside.root ≡ with_entry e c.args.self.now.entries
     = ap (λ (o : Option Node). shown (put_value m c.in-Some-room_of.room v) o) c.in-Some.is
-    ∙ lent_shown m c.in-Some.root w c.args.key c.args.rank c.room_of.result c.in-Some-room_of.room c.in-Some-room_of.is (c.room_of.ensures.found w.part w.named) has v
-    ∙ ap (λ (es : List (Entry g.row.V.Denot)). with_entry e es) (entries_next c.self.inside.nodes c.begin-visits.new.self _ c.in-Some.root _ c.self.view_is c.in-Some.is c.begin-visits.ensures.turn) in
+    ∙ lent_shown m c.in-Some.root w c.args.key c.args.rank c.room_of.result c.in-Some-room_of.room c.in-Some-room_of.is
+    (c.room_of.ensures.found w.part w.named) has v
+    ∙ ap (λ (es : List (Entry g.row.V.Denot)). with_entry e es) (entries_next c.self.inside.nodes c.begin-visits.new.self _ c.self.view_is c.in-Some.is
+    c.begin-visits.ensures.turn) in
     let numbers : keys (put_value m c.in-Some-room_of.room v) ≡ c.args.self.now.numbers
-    = lent_keys m c.in-Some-room_of.room v has ∙ ap (λ (r : Rooms g.row.V.Denot). keys r.lodged) c.begin-visits.ensures.turn ∙ ap (λ (t : Contents g.row.V.Denot). t.numbers) c.self.view_is in
+    = lent_keys m c.in-Some-room_of.room v has ∙ ap (λ (r : Rooms g.row.V.Denot). keys r.lodged) c.begin-visits.ensures.turn
+    ∙ ap (λ (t : Contents g.row.V.Denot). t.numbers) c.self.view_is in
     let next : c.begin-visits.new.self.next ≡ c.args.self.now.next
     = ap (λ (r : Rooms g.row.V.Denot). r.next) c.begin-visits.ensures.turn ∙ ap (λ (t : Contents g.row.V.Denot). t.next) c.self.view_is in
     let turn : c.begin-visits.new.self.turn ≡ c.args.self.now.turn + 1
@@ -87,6 +94,7 @@ returns g c =
     let at = (goal.at.returns g c).In-Some-room_of in
     let value : option_map (λ e. e.value) (entry_at c.args.key c.args.rank c.args.self.now.entries) ≡ Some c.value_mut.result.now
     = ap (λ (o : Option (Entry g.row.V.Denot)). option_map (λ e. e.value) o)
-    (ap (λ (es : List (Entry g.row.V.Denot)). entry_at c.args.key c.args.rank es) (sym (entries_next c.self.inside.nodes c.begin-visits.new.self _ c.in-Some.root _ c.self.view_is c.in-Some.is c.begin-visits.ensures.turn))
-    ∙ sym (value_found c.begin-visits.new.self.lodged c.in-Some.root c.args.key c.args.rank c.in-Some-room_of.room (is_found g at) c.value_mut.result.now c.value_mut.ensures.value)) in
+    (ap (λ (es : List (Entry g.row.V.Denot)). entry_at c.args.key c.args.rank es)
+    (sym (entries_next c.self.inside.nodes c.begin-visits.new.self _ c.self.view_is c.in-Some.is c.begin-visits.ensures.turn))
+    ∙ sym (value_found (is_found g at) c.value_mut.result.now c.value_mut.ensures.value)) in
     (λ t. inl (c.value_mut.result.ghost_name, λ v. lent g at v t), record { writes = tt; value = sym value })

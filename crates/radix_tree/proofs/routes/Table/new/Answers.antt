@@ -1,9 +1,6 @@
 use Rattle.std.proofs.Common.{List, [], ℕ, None, Option, ap, ◌∙◌}
-use Rattle.std.specs.Ordering.{nat_cmp}
 use Rattle.std.specs.FinMap.{get-empty}
-use Rattle.radix_nodes.specs.Rooms.{Rooms, Seen}
-use Rattle.radix_tree.specs.Rooms.{leaf_in, leaves_in}
-use Rattle.radix_tree.specs.Kept.{contents}
+use Rattle.radix_tree.proofs.Words.{nat_cmp, Rooms, Seen, leaf_in, leaves_in, contents}
 use Rattle.radix_tree.proofs.Counted.{counted_none}
 use Rattle.radix_tree.proofs.Numbers.{no_keys}
 use Rattle.radix_tree.proofs.routes.Table.new.Goals as goal

@@ -1,12 +1,5 @@
 use Rattle.std.proofs.Common.{◌≡◌, ◌+◌, ◌≤◌, ◌==◌, if◌then◌else◌, List, Option, Some, None, refl, sym, ap, subst, ◌∙◌, rules}
-use Rattle.std.specs.Prelude.{option_map}
-use Rattle.std.specs.FinMap.{keys}
-use Rattle.mask_table.specs.Counts.{HasOneMore}
-use Rattle.radix_nodes.specs.Rooms.{Rooms}
-use Rattle.radix_tree.specs.Kept.{IsKept, AreCounted}
-use Rattle.radix_tree.specs.Table.{Contents, entry_at, uses, without}
-use Rattle.radix_tree.specs.Whole.{shown}
-use Rattle.radix_tree.specs.declared.entry.Entry.{Entry}
+use Rattle.radix_tree.proofs.Words.{option_map, keys, HasOneMore, Rooms, IsKept, AreCounted, Contents, entry_at, uses, without, shown, Entry}
 use Rattle.radix_tree.proofs.Counted.{not_held, counted_less}
 use Rattle.radix_tree.proofs.Numbers.{used_more}
 use Rattle.radix_tree.proofs.TableLemmas.{without_absent}
@@ -20,7 +13,7 @@ not_there : (g : _) (c : Then-not-has g) → entry_at c.args.key c.args.rank c.a
 not_there g c =
     let fits : c.args.rank ≤ 33 = search rules in
     ap (λ (t : Contents g.row.V.Denot). entry_at c.args.key c.args.rank t.entries) (sym c.self.view_is)
-    ∙ not_held c.self.inside.counts _ c.args.key c.args.rank c.has.result c.self.invariant.counted fits c.has.ensures.1 c.if-not-has.true
+    ∙ not_held c.self.inside.counts _ c.args.key c.args.rank c.self.invariant.counted fits c.has.ensures.1 c.if-not-has.true
 
 pub returns-then-not-has-clause-value : goal.returns-then-not-has-clause-value
 returns-then-not-has-clause-value g c = rw (not_there g (goal.at.returns-then-not-has-clause-value g c).Then-not-has) refl
@@ -32,14 +25,15 @@ returns-then-not-has-clause-entries g c =
 
 pub room_of-requires-clause-tree : goal.room_of-requires-clause-tree
 room_of-requires-clause-tree g c =
-    let w = whole_next c.self.inside.nodes c.begin-visits.new.self _ c.in-Some.root c.self.invariant.holds c.in-Some.is c.begin-visits.ensures.turn in (w.part, w.named)
+    let w = whole_next c.self.inside.nodes c.begin-visits.new.self c.self.invariant.holds c.in-Some.is c.begin-visits.ensures.turn in (w.part, w.named)
 
 -- a pair that was not found
 not_in : (g : _) (c : In_default-room_of g) → entry_at c.args.key c.args.rank c.args.self.now.entries ≡ None
 not_in g c =
-    let w = whole_next c.self.inside.nodes c.begin-visits.new.self _ c.in-Some.root c.self.invariant.holds c.in-Some.is c.begin-visits.ensures.turn in
-    ap (λ (es : List (Entry g.row.V.Denot)). entry_at c.args.key c.args.rank es) (sym (entries_next c.self.inside.nodes c.begin-visits.new.self _ c.in-Some.root _ c.self.view_is c.in-Some.is c.begin-visits.ensures.turn))
-    ∙ not_found c.begin-visits.new.self.lodged c.in-Some.root w c.args.key c.args.rank c.room_of.result c.in_default-room_of.is (c.room_of.ensures.found w.part w.named)
+    let w = whole_next c.self.inside.nodes c.begin-visits.new.self c.self.invariant.holds c.in-Some.is c.begin-visits.ensures.turn in
+    ap (λ (es : List (Entry g.row.V.Denot)). entry_at c.args.key c.args.rank es)
+    (sym (entries_next c.self.inside.nodes c.begin-visits.new.self _ c.self.view_is c.in-Some.is c.begin-visits.ensures.turn))
+    ∙ not_found w c.args.key c.args.rank c.in_default-room_of.is (c.room_of.ensures.found w.part w.named)
 
 pub returns-in_default-room_of-clause-value : goal.returns-in_default-room_of-clause-value
 returns-in_default-room_of-clause-value g c = rw (not_in g (goal.at.returns-in_default-room_of-clause-value g c).In_default-room_of) refl
@@ -52,31 +46,33 @@ returns-in_default-room_of-clause-entries g c =
 -- the room that was found
 is_found : (g : _) (c : In-Some-room_of g) → IsFound c.begin-visits.new.self.lodged c.in-Some.root c.args.key c.args.rank c.in-Some-room_of.at
 is_found g c =
-    let w = whole_next c.self.inside.nodes c.begin-visits.new.self _ c.in-Some.root c.self.invariant.holds c.in-Some.is c.begin-visits.ensures.turn in
-    found c.begin-visits.new.self.lodged c.in-Some.root w c.args.key c.args.rank c.room_of.result c.in-Some-room_of.at c.in-Some-room_of.is (c.room_of.ensures.found w.part w.named)
+    let w = whole_next c.self.inside.nodes c.begin-visits.new.self c.self.invariant.holds c.in-Some.is c.begin-visits.ensures.turn in
+    found w c.args.key c.args.rank c.in-Some-room_of.is (c.room_of.ensures.found w.part w.named)
 
 pub remove_route-root-requires-clause-there : goal.remove_route-root-requires-clause-there
 remove_route-root-requires-clause-there g c =
-    Has-found _ c.in-Some.root c.args.key c.args.rank c.in-Some-room_of.at (is_found g (goal.at.remove_route-root-requires-clause-there g c).In-Some-room_of)
+    Has-found _ (is_found g (goal.at.remove_route-root-requires-clause-there g c).In-Some-room_of)
 
 pub invariant_of-self-2 : goal.invariant_of-self-2
 invariant_of-self-2 g c =
     let f = is_found g (goal.at.invariant_of-self-2 g c).In-Some-room_of in
-    let w = whole_next c.self.inside.nodes c.begin-visits.new.self _ c.in-Some.root c.self.invariant.holds c.in-Some.is c.begin-visits.ensures.turn in
-    let went = lost c.begin-visits.new.self.lodged c.remove_route-root.new.nodes.lodged c.in-Some.root c.remove_route-root.result.0 c.args.key c.args.rank c.in-Some-room_of.at w f c.remove_route-root.ensures.routes in
+    let w = whole_next c.self.inside.nodes c.begin-visits.new.self c.self.invariant.holds c.in-Some.is c.begin-visits.ensures.turn in
+    let went = lost c.remove_route-root.new.nodes.lodged c.remove_route-root.result.0 w f c.remove_route-root.ensures.routes in
     let before : shown c.begin-visits.new.self.lodged (Some c.in-Some.root) ≡ shown c.self.inside.nodes.lodged c.self.inside.root
-    = entries_next c.self.inside.nodes c.begin-visits.new.self _ c.in-Some.root _ refl c.in-Some.is c.begin-visits.ensures.turn in
+    = entries_next c.self.inside.nodes c.begin-visits.new.self _ refl c.in-Some.is c.begin-visits.ensures.turn in
     let counted = subst (λ (es : List (Entry g.row.V.Denot)). AreCounted c.self.inside.counts es) (sym before) c.self.invariant.counted in
     subst (λ (r : Rooms g.row.V.Denot). IsKept r c.remove_route-root.result.0 c.dropped.new.self) (sym c.scrap.ensures) (record {
       holds = c.remove_route-root.ensures.whole;
-      counted = counted_less f.route.entry _ _ c.self.inside.counts c.dropped.new.self counted went.gains (subst (λ r. HasOneMore r c.dropped.new.self c.self.inside.counts) (sym f.has.1) c.dropped.ensures);
+      counted = counted_less _ _ c.self.inside.counts c.dropped.new.self counted went.gains
+          (subst (λ r. HasOneMore r c.dropped.new.self c.self.inside.counts) (sym f.has.1) c.dropped.ensures);
     })
 
 pub returns-clause-value : goal.returns-clause-value
 returns-clause-value g c =
     let f = is_found g (goal.at.returns-clause-value g c).In-Some-room_of in
     let is : entry_at c.args.key c.args.rank c.args.self.now.entries ≡ Some f.route.entry
-    = ap (λ (es : List (Entry g.row.V.Denot)). entry_at c.args.key c.args.rank es) (sym (entries_next c.self.inside.nodes c.begin-visits.new.self _ c.in-Some.root _ c.self.view_is c.in-Some.is c.begin-visits.ensures.turn))
+    = ap (λ (es : List (Entry g.row.V.Denot)). entry_at c.args.key c.args.rank es)
+    (sym (entries_next c.self.inside.nodes c.begin-visits.new.self _ c.self.view_is c.in-Some.is c.begin-visits.ensures.turn))
     ∙ f.entry in
     ap (λ (v : g.row.V.Denot). Some v) (c.remove_route-root.ensures.value f.said.part f.said.at ∙ ap (λ (e : Entry g.row.V.Denot). e.value) f.said.entry)
     ∙ ap (λ (o : Option (Entry g.row.V.Denot)). option_map (λ e. e.value) o) (sym is)
@@ -84,16 +80,18 @@ returns-clause-value g c =
 pub returns-clause-entries : goal.returns-clause-entries
 returns-clause-entries g c =
     let f = is_found g (goal.at.returns-clause-entries g c).In-Some-room_of in
-    let w = whole_next c.self.inside.nodes c.begin-visits.new.self _ c.in-Some.root c.self.invariant.holds c.in-Some.is c.begin-visits.ensures.turn in
-    let went = lost c.begin-visits.new.self.lodged c.remove_route-root.new.nodes.lodged c.in-Some.root c.remove_route-root.result.0 c.args.key c.args.rank c.in-Some-room_of.at w f c.remove_route-root.ensures.routes in
+    let w = whole_next c.self.inside.nodes c.begin-visits.new.self c.self.invariant.holds c.in-Some.is c.begin-visits.ensures.turn in
+    let went = lost c.remove_route-root.new.nodes.lodged c.remove_route-root.result.0 w f c.remove_route-root.ensures.routes in
     ap (λ (r : Rooms g.row.V.Denot). shown r.lodged c.remove_route-root.result.0) c.scrap.ensures ∙ went.entries
-    ∙ ap (λ (es : List (Entry g.row.V.Denot)). without c.args.key c.args.rank es) (entries_next c.self.inside.nodes c.begin-visits.new.self _ c.in-Some.root _ c.self.view_is c.in-Some.is c.begin-visits.ensures.turn)
+    ∙ ap (λ (es : List (Entry g.row.V.Denot)). without c.args.key c.args.rank es)
+    (entries_next c.self.inside.nodes c.begin-visits.new.self _ c.self.view_is c.in-Some.is c.begin-visits.ensures.turn)
 
 pub returns-clause-numbers : goal.returns-clause-numbers
 returns-clause-numbers g c = (
   c.in-Some-room_of.at.number,
   λ n. ap (λ (t : Contents g.row.V.Denot). uses n t.numbers) (sym c.self.view_is)
       ∙ ap (λ (r : Rooms g.row.V.Denot). uses n (keys r.lodged)) (sym c.begin-visits.ensures.turn)
-      ∙ used_more c.remove_route-root.new.nodes.lodged c.begin-visits.new.self.lodged c.in-Some-room_of.at.number c.remove_route-root.ensures.gone c.remove_route-root.ensures.rooms n
+      ∙ used_more c.remove_route-root.new.nodes.lodged c.begin-visits.new.self.lodged c.in-Some-room_of.at.number c.remove_route-root.ensures.gone
+      c.remove_route-root.ensures.rooms n
       ∙ ap (λ (r : Rooms g.row.V.Denot). uses n (keys r.lodged) + (if c.in-Some-room_of.at.number == n then 1 else 0)) (sym c.scrap.ensures),
 )

@@ -1,23 +1,25 @@
 use Rattle.std.proofs.Common.{[], ◌∙◌, sym, ap, refl, Option}
 use Rattle.std.proofs.lemmas.List.{append-nil}
-use Rattle.radix_nodes.specs.declared.links.Node.{Node}
-use Rattle.radix_tree.specs.Whole.{shown}
+use Rattle.radix_tree.proofs.Words.{Node, shown}
 use Rattle.radix_tree.proofs.Kept.{whole_at}
 use Rattle.radix_tree.proofs.Showing.{shown_is}
-use Rattle.radix_tree.proofs.Walks.{first_on, begins_on, begins_rest}
+use Rattle.radix_tree.proofs.WalkStarts.{first_on}
+use Rattle.radix_tree.proofs.Walks.{begins_on, begins_rest}
 use Rattle.radix_tree.proofs.walk.Walk.over.Goals as goal
 
 pub first_place-place-requires-clause-tree : goal.first_place-place-requires-clause-tree
-first_place-place-requires-clause-tree g c = let w = whole_at _ _ c.in-Some.root c.requires.holds c.in-Some.is in (w.part, w.named)
+first_place-place-requires-clause-tree g c = let w = whole_at _ c.requires.holds c.in-Some.is in (w.part, w.named)
 
 pub invariant_of-result-2 : goal.invariant_of-result-2
 invariant_of-result-2 g c =
-    let w = whole_at _ _ c.in-Some.root c.requires.holds c.in-Some.is in
-    begins_on _ c.first_place-place.result _ c.first_place-place.ensures.room (first_on _ w.part w.part [] [] c.first_place-place.result.first w.top (c.first_place-place.ensures.led w.part w.named) (refl, refl))
+    let w = whole_at _ c.requires.holds c.in-Some.is in
+    begins_on c.first_place-place.result _ c.first_place-place.ensures.room
+    (first_on _ w.part w.part [] [] w.top (c.first_place-place.ensures.led w.part w.named) (refl, refl))
 
 pub returns-clause-rest : goal.returns-clause-rest
 returns-clause-rest g c =
     let m = c.args.nodes.now.lodged in
-    let w = whole_at _ _ c.in-Some.root c.requires.holds c.in-Some.is in
-    begins_rest _ c.first_place-place.result _ c.first_place-place.ensures.room (first_on _ w.part w.part [] [] c.first_place-place.result.first w.top (c.first_place-place.ensures.led w.part w.named) (refl, refl))
-    ∙ append-nil _ ∙ sym (shown_is m c.in-Some.root w) ∙ ap (λ (o : Option Node). shown m o) (sym c.in-Some.is)
+    let w = whole_at _ c.requires.holds c.in-Some.is in
+    begins_rest c.first_place-place.result _ c.first_place-place.ensures.room
+    (first_on _ w.part w.part [] [] w.top (c.first_place-place.ensures.led w.part w.named) (refl, refl))
+    ∙ append-nil _ ∙ sym (shown_is w) ∙ ap (λ (o : Option Node). shown m o) (sym c.in-Some.is)

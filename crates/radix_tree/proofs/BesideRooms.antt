@@ -1,0 +1,248 @@
+-- What has come of the rooms once a route of a new key stands in them, beneath a new bit node.
+use Rattle.std.proofs.Common.{◌≡◌, ℕ, ◌+◌, ◌≤◌, ◌⊎◌, ◌==◌, ◌||◌, Bool, true, false, if◌then◌else◌, List, [], ◌∷◌, Option, Some, None, refl, sym, ap, ◌∙◌, subst}
+use Rattle.std.proofs.Common.{inl, inr, ⊎_elim, arith}
+use Rattle.std.proofs.lemmas.Bool.{eq-eqb, ne_eqb, cases_eq}
+use Rattle.std.proofs.lemmas.List.{append-nil}
+use Rattle.radix_tree.proofs.Words.{is_some, Has, Id, Node, LeafOf, BitOf, Placed, Tree, leaf, fork, bit_at, IsIn, routes_of, LeafPart, BitPart, MaskPart}
+use Rattle.radix_tree.proofs.Words.{Heads, Masks, Bits, Part, leaves_in, bits_in, heads_in, masks_in, Beneath, Way, one_if, leaves_at, forks_at, HasHome}
+use Rattle.radix_tree.proofs.Words.{HaveOneFork, name_child, with_child, with_head, forked_tree, Gains, IsPlace, IsSpot, IsBeside, Exchanged, IsMarked}
+use Rattle.radix_tree.proofs.Words.{IsMaskList, MarkedIn, MarkedLists, HasRoomMore, KeepsLeaves, KeepsBits, KeepsMasks, lift_leaf, lift_bit, leaf_above}
+use Rattle.radix_tree.proofs.Words.{bit_above, Lodged}
+use Rattle.radix_tree.proofs.AddressBits.{zero_or_one}
+use Rattle.radix_tree.proofs.RoomReads.{Has-leaf}
+use Rattle.radix_tree.proofs.TreeMembers.{bit_beneath}
+use Rattle.radix_tree.proofs.Lodging.{stays}
+use Rattle.radix_tree.proofs.Beside.{zero_forked, one_forked}
+use Rattle.radix_tree.proofs.Cuts.{IsCut}
+
+-- ---- what a room says stays something
+turned_some : (key : ℕ) (to : Node) (said : Option BitPart) → is_some (with_child key to said) ≡ is_some said
+turned_some key to None = refl
+turned_some key to (Some p) = refl
+
+chosen : {A : Type 0} (test : Bool) (x y : Option A) → is_some x ≡ is_some y → is_some (if test then x else y) ≡ is_some y
+chosen true x y same = same
+chosen false x y same = refl
+
+turn_some : (above : Option Id) (key : ℕ) (to : Node) (n : ℕ) (said : Option BitPart) → is_some (name_child above key to n said) ≡ is_some said
+turn_some None key to n said = refl
+turn_some (Some up) key to n said = chosen (n == up.number) (with_child key to said) said (turned_some key to said)
+
+bit_above_some : (above : Option Id) (said : Option BitPart) → is_some (bit_above above said) ≡ is_some said
+bit_above_some above None = refl
+bit_above_some above (Some p) = refl
+
+lift_bit_some : (at : Node) (above : Option Id) (n : ℕ) (said : Option BitPart) → is_some (lift_bit at above n said) ≡ is_some said
+lift_bit_some (LeafOf room) above n said = refl
+lift_bit_some (BitOf room) above n said = chosen (n == room.number) (bit_above above said) said (bit_above_some above said)
+
+pub none_of : {A : Type 0} (x y : Option A) → is_some x ≡ is_some y → y ≡ None → x ≡ None
+none_of None y same none = refl
+none_of (Some a) y same none = absurd (true_false (same ∙ ap (λ (o : Option _). is_some o) none))
+  where
+    true_false : true ≡ false → ⊥
+    true_false e = cc
+
+pub false_true : false ≡ true → ⊥
+false_true e = cc
+
+pub or_true : (b : Bool) → b || true ≡ true
+or_true true = refl
+or_true false = refl
+
+-- the test of a room's number, either way round
+pub one_if_turned : (room : Id) (n : ℕ) → (n ≡ room.number → ⊥) → one_if (room.number == n) ≡ 0
+one_if_turned room n other = ap one_if (ne_eqb room.number n (λ e. other (sym e)))
+
+pub one_if_here : (room : Id) (n : ℕ) → n ≡ room.number → one_if (room.number == n) ≡ 1
+one_if_here room n same = ap one_if (eq-eqb room.number n (sym same))
+
+module _ {V : Type 0} where
+  -- a room's leaf has another bit node above it, or the same
+  abbrev LiftsTo : Option (LeafPart V) → LeafPart V → Type 0
+  LiftsTo said p = (a : Option Id) × (said ≡ Some (record p { leaf = record p.leaf { above = a } }))
+
+  chosen_leaf : (test : Bool) (above : Option Id) (p : LeafPart V) → LiftsTo (if test then leaf_above above (Some p) else Some p) p
+  chosen_leaf true above p = (above, refl)
+  chosen_leaf false above p = (p.leaf.above, refl)
+
+  lifts : (at : Node) (above : Option Id) (n : ℕ) (p : LeafPart V) → LiftsTo (lift_leaf at above n (Some p)) p
+  lifts (LeafOf room) above n p = chosen_leaf (n == room.number) above p
+  lifts (BitOf room) above n p = (p.leaf.above, refl)
+
+  lift_leaf_some : (at : Node) (above : Option Id) (n : ℕ) (said : Option (LeafPart V)) → is_some (lift_leaf at above n said) ≡ is_some said
+  lift_leaf_some (LeafOf room) above n None = chosen (n == room.number) (leaf_above above None) None refl
+  lift_leaf_some (LeafOf room) above n (Some p) = chosen (n == room.number) (leaf_above above (Some p)) (Some p) refl
+  lift_leaf_some (BitOf room) above n said = refl
+
+  -- ---- the new bit node's tree
+  forked_cases : (P : Tree V → Type 0) (bit : ℕ) (x : Placed V) (t : Tree V) → (bit_at bit x.entry.key ≡ 0 → P (fork x.room bit (leaf x []) t))
+      → (bit_at bit x.entry.key ≡ 1 → P (fork x.room bit t (leaf x []))) → P (forked_tree bit x t)
+  forked_cases P bit x t zero one = ⊎_elim (λ (clear : bit_at bit x.entry.key ≡ 0). subst P (zero_forked bit x t clear) (zero clear))
+      (λ (set : bit_at bit x.entry.key ≡ 1). subst P (one_forked bit x t set) (one set)) (zero_or_one bit x.entry.key)
+
+  pub forked_leaves : (bit : ℕ) (x : Placed V) (t : Tree V) (n : ℕ) → leaves_at n (forked_tree bit x t) ≡ one_if (x.room.number == n) + leaves_at n t
+  forked_leaves bit x t n =
+      forked_cases (λ (s : Tree V). leaves_at n s ≡ one_if (x.room.number == n) + leaves_at n t) bit x t (λ clear. omega arith) (λ set. omega arith)
+
+  pub forked_forks : (bit : ℕ) (x : Placed V) (t : Tree V) (n : ℕ) → forks_at n (forked_tree bit x t) ≡ one_if (x.room.number == n) + forks_at n t
+  forked_forks bit x t n =
+      forked_cases (λ (s : Tree V). forks_at n s ≡ one_if (x.room.number == n) + forks_at n t) bit x t (λ clear. omega arith) (λ set. omega arith)
+
+  in_leaf : (x y : Placed V) → IsIn y (leaf x []) → x ≡ y
+  in_leaf x y is = ⊎_elim (λ (e : x ≡ y). e) (λ none. absurd none) is
+
+  pub in_forked : (bit : ℕ) (x : Placed V) (t : Tree V) (y : Placed V) → IsIn y (forked_tree bit x t) → (x ≡ y) ⊎ IsIn y t
+  in_forked bit x t y = forked_cases (λ (s : Tree V). IsIn y s → (x ≡ y) ⊎ IsIn y t) bit x t
+      (λ clear is. ⊎_elim (λ (new : IsIn y (leaf x [])). inl (in_leaf x y new)) (λ (old : IsIn y t). inr old) is)
+      (λ set is. ⊎_elim (λ (old : IsIn y t). inr old) (λ (new : IsIn y (leaf x [])). inl (in_leaf x y new)) is)
+
+  pub forked_in : (bit : ℕ) (x : Placed V) (t : Tree V) (y : Placed V) → IsIn y t → IsIn y (forked_tree bit x t)
+  forked_in bit x t y is = forked_cases (λ (s : Tree V). IsIn y s) bit x t (λ clear. inr is) (λ set. inl is)
+
+  pub forked_lists : (H : Heads) {K : Masks} (low bit : ℕ) (x : Placed V) (t : Tree V)
+      → IsMaskList K (H x.room.number) low bit (MarkedIn K (forked_tree bit x t)) → MarkedLists H K (bit + 1) t → MarkedLists H K low (forked_tree bit x t)
+  forked_lists H {K = K} low bit x t =
+      forked_cases (λ (s : Tree V). IsMaskList K (H x.room.number) low bit (MarkedIn K s) → MarkedLists H K (bit + 1) t → MarkedLists H K low s) bit x t
+      (λ clear list lists. (list, tt, lists)) (λ set list lists. (list, lists, tt))
+
+  -- a route beneath it has its home at the new bit node, or where it had it
+  pub home_forked : (bit : ℕ) (x : Placed V) (t : Tree V) (key rank : ℕ) → HasHome key rank (forked_tree bit x t) → (rank ≤ bit) ⊎ HasHome key rank t
+  home_forked bit x t key rank = forked_cases (λ (s : Tree V). HasHome key rank s → (rank ≤ bit) ⊎ HasHome key rank t) bit x t
+      (λ clear home. ⊎_elim (λ (here : rank ≤ bit). inl here)
+      (λ (sides : ((bit_at bit key ≡ 0) × ⊥) ⊎ ((bit_at bit key ≡ 1) × HasHome key rank t)).
+      ⊎_elim (λ (left : (bit_at bit key ≡ 0) × ⊥). absurd left.1) (λ (right : (bit_at bit key ≡ 1) × HasHome key rank t). inr right.1) sides) home)
+      (λ set home. ⊎_elim (λ (here : rank ≤ bit). inl here)
+      (λ (sides : ((bit_at bit key ≡ 0) × HasHome key rank t) ⊎ ((bit_at bit key ≡ 1) × ⊥)).
+      ⊎_elim (λ (left : (bit_at bit key ≡ 0) × HasHome key rank t). inr left.1) (λ (right : (bit_at bit key ≡ 1) × ⊥). absurd right.1) sides) home)
+
+  pub forked_home : (bit low : ℕ) (x : Placed V) (t : Tree V) → IsPlace x.entry.key low bit t → (y : Placed V) → IsIn y t → HasHome y.entry.key y.entry.rank t
+      → HasHome y.entry.key y.entry.rank (forked_tree bit x t)
+  forked_home bit low x t p y is home = forked_cases (λ (s : Tree V). HasHome y.entry.key y.entry.rank s) bit x t
+      (λ clear. inr (inr (bit_beneath (bit + 1) bit 1 t p.is (p.far_one clear) y is, home)))
+      (λ set. inr (inl (bit_beneath (bit + 1) bit 0 t p.is (p.far_zero set) y is, home)))
+
+  pub forked_spare : (B : Bits) (bit : ℕ) (x : Placed V) (t : Tree V) → HaveOneFork B t → HaveOneFork B (forked_tree bit x t)
+  forked_spare B bit x t spare = forked_cases (λ (s : Tree V). HaveOneFork B s) bit x t (λ clear. (inl tt, spare)) (λ set. (spare, inl tt))
+
+  pub forked_gains : (bit : ℕ) (x : Placed V) (t : Tree V) → Gains x.entry (routes_of t) (routes_of (forked_tree bit x t))
+  forked_gains bit x t = forked_cases (λ (s : Tree V). Gains x.entry (routes_of t) (routes_of s)) bit x t
+      (λ clear. record { front = []; back = routes_of t; was = refl; now = refl })
+      (λ set. record { front = routes_of t; back = []; was = sym (append-nil (routes_of t)); now = refl })
+
+  -- ---- the rooms once the list is cut
+  abbrev pub same_part : {m : Lodged V} (new : Lodged V) → KeepsLeaves m new → KeepsBits m new → Part m → Part new
+  same_part {m = m} new leaves bits p = stays m new p (λ n some. leaves n) (λ n some. bits n)
+
+  abbrev pub same_parts : (m new : Lodged V) → KeepsLeaves m new → KeepsBits m new → List (Part m) → List (Part new)
+  same_parts m new leaves bits [] = []
+  same_parts m new leaves bits (p ∷ ps) = same_part new leaves bits p ∷ same_parts m new leaves bits ps
+
+  same_beneath : (m new : Lodged V) (leaves : KeepsLeaves m new) (bits : KeepsBits m new) {key : ℕ} (under over : Part m) → Beneath key under over
+      → Beneath key (same_part new leaves bits under) (same_part new leaves bits over)
+  same_beneath m new leaves bits under over b = record {
+    room = b.room;
+    at = record { bit = b.at.bit; zero = b.at.zero; one = b.at.one; is = b.at.is };
+    above = b.above;
+    low = b.low;
+    side = b.side;
+  }
+
+  pub same_way : (m new : Lodged V) (leaves : KeepsLeaves m new) (bits : KeepsBits m new) (key : ℕ) (whole at : Part m) (ups : List (Part m))
+      → Way key whole at ups
+      → Way key (same_part new leaves bits whole) (same_part new leaves bits at) (same_parts m new leaves bits ups)
+  same_way m new leaves bits key whole at [] way = ap (same_part {m = m} new leaves bits) way
+  same_way m new leaves bits key whole at (p ∷ ps) way = (same_beneath m new leaves bits at p way.0, same_way m new leaves bits key whole p ps way.1)
+
+  abbrev pub same_spot : {m : Lodged V} (new : Lodged V) (leaves : KeepsLeaves m new) (bits : KeepsBits m new) {key bit : ℕ} (whole : Part m)
+      {above : Option Id} {below : Node} → IsSpot m key bit whole above below
+      → IsSpot new key bit (same_part new leaves bits whole) above below
+  same_spot {m = m} new leaves bits {key = key} whole s = record {
+    at = same_part new leaves bits s.at;
+    ups = same_parts m new leaves bits s.ups;
+    way = same_way m new leaves bits key whole s.at s.ups s.way;
+    top = s.top;
+    once = s.once;
+    place = s.place;
+    above_is = s.above_is;
+    named = s.named;
+  }
+
+  abbrev pub exchanged_from : {m mid new : Lodged V} (leaves : KeepsLeaves m mid) (bits : KeepsBits m mid) {key : ℕ} (whole at : Part m) {under : Part new}
+      {root : Node}
+      → Exchanged mid new key (same_part mid leaves bits whole) (same_part mid leaves bits at) under root → Exchanged m new key whole at under root
+  exchanged_from leaves bits whole at e = record {
+    frames = e.frames;
+    was = e.was;
+    lead = e.lead;
+    lowest = e.lowest;
+    part = e.part;
+    is_now = e.is_now;
+    low = e.low;
+    above = e.above;
+    named = e.named;
+  }
+
+  -- ---- what has come of the rooms
+  -- the rooms of before, those once the list is cut, and those of now
+  pub record Came (m mid new : Lodged V) (low bit : ℕ) (t : Tree V) (x : Placed V) (above : Option Id) (below : Node) : Type 0 where
+    pub first : Option Id
+    pub cut : IsCut m mid low bit t first
+    pub beside : IsBeside mid new bit x above below
+    pub heads : (n : ℕ) → heads_in new n ≡ with_head x.room first n (heads_in mid n)
+    pub masks : KeepsMasks mid new
+    pub unmarked : masks_in m x.room.number ≡ None
+
+  pub no_leaf : {m mid new : Lodged V} {low bit : ℕ} {t : Tree V} (x : Placed V) {above : Option Id} {below : Node} → Came m mid new low bit t x above below
+      → leaves_in m x.room.number ≡ None
+  no_leaf x c = sym (c.cut.leaves x.room.number) ∙ c.beside.no_leaf
+
+  pub no_bit : {m mid new : Lodged V} {low bit : ℕ} {t : Tree V} (x : Placed V) {above : Option Id} {below : Node} → Came m mid new low bit t x above below
+      → bits_in m x.room.number ≡ None
+  no_bit x c = sym (c.cut.bits x.room.number) ∙ c.beside.no_bit
+
+  pub other_leaf : (m mid new : Lodged V) {low bit : ℕ} (t : Tree V) (x : Placed V) {above : Option Id} (below : Node) → Came m mid new low bit t x above below
+      → (n : ℕ) → (n ≡ x.room.number → ⊥) → is_some (leaves_in new n) ≡ is_some (leaves_in m n)
+  other_leaf m mid new t x below c n other =
+      ap (λ (o : Option (LeafPart V)). is_some o) (c.beside.leaves n other) ∙ lift_leaf_some below (Some x.room) n (leaves_in mid n)
+      ∙ ap (λ (o : Option (LeafPart V)). is_some o) (c.cut.leaves n)
+
+  pub other_bit : (m mid new : Lodged V) {low bit : ℕ} {t : Tree V} (x : Placed V) (above : Option Id) (below : Node) → Came m mid new low bit t x above below
+      → (n : ℕ) → (n ≡ x.room.number → ⊥) → is_some (bits_in new n) ≡ is_some (bits_in m n)
+  other_bit m mid new x above below c n other =
+      ap (λ (o : Option BitPart). is_some o) (c.beside.bits n other) ∙ lift_bit_some below (Some x.room) n
+      (name_child above x.entry.key (BitOf x.room) n (bits_in mid n)) ∙ turn_some above x.entry.key (BitOf x.room) n (bits_in mid n)
+      ∙ ap (λ (o : Option BitPart). is_some o) (c.cut.bits n)
+
+  pub same_marks : (m mid new : Lodged V) {low bit : ℕ} {t : Tree V} (x : Placed V) {above : Option Id} {below : Node} → Came m mid new low bit t x above below
+      → (n : ℕ) → is_some (masks_in new n) ≡ is_some (masks_in m n)
+  same_marks m mid new x c n = ap (λ (o : Option MaskPart). is_some o) (c.masks n) ∙ c.cut.marks n
+
+  pub new_unmarked : (m mid new : Lodged V) {low bit : ℕ} {t : Tree V} (x : Placed V) {above : Option Id} {below : Node}
+      → Came m mid new low bit t x above below → IsMarked (masks_in new) x → ⊥
+  new_unmarked m mid new x c marked =
+      false_true (sym (ap (λ (o : Option MaskPart). is_some o) c.unmarked) ∙ sym (same_marks m mid new x c x.room.number) ∙ marked)
+
+  pub room_more : {m mid new : Lodged V} {low bit : ℕ} (t : Tree V) {x : Placed V} {above : Option Id} {below : Node} → Came m mid new low bit t x above below
+      → HasRoomMore m new x.room.number
+  room_more {m = m} {mid = mid} {new = new} t {x = x} {below = below} c n = ⊎_elim
+      (λ (same : n ≡ x.room.number). ap (λ (k : ℕ). is_some (leaves_in new k)) same ∙ ap (λ (o : Option (LeafPart V)). is_some o) c.beside.leaf
+      ∙ sym (ap (λ (b : Bool). b || is_some (leaves_in m n)) (eq-eqb n x.room.number same)))
+      (λ (other : n ≡ x.room.number → ⊥). other_leaf m mid new t x below c n other
+      ∙ sym (ap (λ (b : Bool). b || is_some (leaves_in m n)) (ne_eqb n x.room.number other)))
+      (cases_eq n x.room.number)
+
+  pub leaf_kept : {m mid new : Lodged V} {low bit : ℕ} {t : Tree V} {x : Placed V} {above : Option Id} {below : Node} → Came m mid new low bit t x above below
+      → (n : ℕ) (p : LeafPart V) → leaves_in m n ≡ Some p
+      → (a : Option Id) × (leaves_in new n ≡ Some (record p { leaf = record p.leaf { above = a } }))
+  leaf_kept {m = m} {x = x} {below = below} c n p is =
+      let other : n ≡ x.room.number → ⊥ = λ same. some_none (sym is ∙ ap (leaves_in m) same ∙ no_leaf x c) in
+      let l = lifts below (Some x.room) n p in
+      (l.0, c.beside.leaves n other ∙ ap (lift_leaf below (Some x.room) n) (c.cut.leaves n ∙ is) ∙ l.1)
+    where
+      some_none : {A : Type 0} {a : A} → Some a ≡ None → ⊥
+      some_none e = cc
+
+  pub new_there : {m mid new : Lodged V} {low bit : ℕ} {t : Tree V} {x : Placed V} {above : Option Id} {below : Node} → Came m mid new low bit t x above below
+      → Has new x.room
+  new_there {new = new} {x = x} c = Has-leaf new x.room c.beside.leaf refl

@@ -1,0 +1,218 @@
+-- The chain of a leaf is exchanged for another one: the part that is the leaf.
+use Rattle.std.proofs.Common.{◌≡◌, ℕ, ◌+◌, ◌≤◌, ◌==◌, ◌||◌, Bool, true, false, true≢false, if◌then◌else◌, List, [], ◌∷◌, ◌++◌, Option, Some, None, refl, sym}
+use Rattle.std.proofs.Common.{ap, ◌∙◌, subst, arith}
+use Rattle.std.proofs.lemmas.Bool.{eqb-true, eqb-false, eq-eqb, ne_eqb}
+use Rattle.radix_tree.proofs.Words.{is_some, Id, Node, LeafOf, Placed, Tree, leaf, bit_at, HaveBit, IsAmong, IsIn, IsChain, IsTree, routes_of, BitPart}
+use Rattle.radix_tree.proofs.Words.{MaskPart, Part, leaves_in, bits_in, masks_in, name_of, ChainStands, Way, one_if, members_at, leaves_at, forks_at, HasHome}
+use Rattle.radix_tree.proofs.Words.{HasOneFork, HaveOneFork, shown, name_child, with_child, root_after, IsExchange, Exchanged, IsMarked, IsWholeBut, KeepsHeads}
+use Rattle.radix_tree.proofs.Words.{KeepsMasks, above_behind, last_room, root_past, Entry, Lodged}
+use Rattle.radix_tree.proofs.PartRooms.{same_turned}
+use Rattle.radix_tree.proofs.Exchanging.{exchanged}
+use Rattle.radix_tree.proofs.WholeParts.{Fits, once_but}
+use Rattle.radix_tree.proofs.WholeChanges.{spare_changed, whole_changed}
+use Rattle.radix_tree.proofs.WholeRoutes.{Spliced, routes_changed}
+use Rattle.radix_tree.proofs.ChainLists.{IsCons, cons_at, map_entries, one_fork_same}
+
+-- ---- the bit node above
+turned_some : (key : ℕ) (to : Node) (said : Option BitPart) → is_some (with_child key to said) ≡ is_some said
+turned_some key to None = refl
+turned_some key to (Some p) = refl
+
+-- a bit node that names another node is a bit node as before
+pub turn_some : (above : Option Id) (key n : ℕ) (to : Node) (said : Option BitPart) → is_some (name_child above key to n said) ≡ is_some said
+turn_some None key n to said = refl
+turn_some (Some up) key n to said =
+    elim (n == up.number) as (λ t. is_some (if t then with_child key to said else said) ≡ is_some said) [
+      | true ↦ turned_some key to said
+      | false ↦ refl
+    ]
+
+pub none_is : {A : Type 0} (o : Option A) → is_some o ≡ false → o ≡ None
+none_is None e = refl
+none_is (Some x) e = absurd (true≢false e)
+
+pub same_none : {A : Type 0} {o : Option A} (p : Option A) → is_some p ≡ is_some o → o ≡ None → p ≡ None
+same_none p same none = none_is p (same ∙ ap (λ (q : Option _). is_some q) none)
+
+pub one_more : (has : ℕ → Bool) (a n : ℕ) → has a ≡ false → one_if ((n == a) || has n) ≡ one_if (a == n) + one_if (has n)
+one_more has a n free =
+    elim (n == a) as (λ t. (n == a) ≡ t → one_if (t || has n) ≡ one_if (a == n) + one_if (has n)) [
+      | true ↦ λ e.
+          let same : n ≡ a = eqb-true n a e in
+          let own : one_if (a == n) ≡ 1 = ap one_if (eq-eqb a n (sym same)) in
+          let none : one_if (has n) ≡ 0 = ap (λ (k : ℕ). one_if (has k)) same ∙ ap one_if free in
+          omega arith
+      | false ↦ λ e.
+          let other : one_if (a == n) ≡ 0 = ap one_if (ne_eqb a n (λ same. eqb-false n a e (sym same))) in
+          omega arith
+    ] refl
+
+pub turned_about : (a n : ℕ) → one_if (n == a) ≡ one_if (a == n)
+turned_about a n =
+    elim (n == a) as (λ t. (n == a) ≡ t → one_if t ≡ one_if (a == n)) [
+      | true ↦ λ e. sym (ap one_if (eq-eqb a n (sym (eqb-true n a e))))
+      | false ↦ λ e. sym (ap one_if (ne_eqb a n (λ same. eqb-false n a e (sym same))))
+    ] refl
+
+module _ {V : Type 0} where
+  -- to name the part above as before changes nothing
+  pub turn_same : (m : Lodged V) (key : ℕ) (whole at : Part m) (ups : List (Part m)) → Way key whole at ups → whole.above ≡ None → (n : ℕ)
+      → name_child at.above key (name_of at.tree) n (bits_in m n) ≡ bits_in m n
+  turn_same m key whole at [] way top n = ap (λ (o : Option Id). name_child o key (name_of at.tree) n (bits_in m n)) (ap (λ (p : Part m). p.above) way ∙ top)
+  turn_same m key whole at (p ∷ ps) way top n =
+      let b = way.0 in
+      ap (λ (o : Option Id). name_child o key (name_of at.tree) n (bits_in m n)) b.above
+      ∙ elim (n == b.room.number) as (λ t. (n == b.room.number) ≡ t → (if t then with_child key (name_of at.tree) (bits_in m n) else bits_in m n)
+      ≡ bits_in m n) [
+        | true ↦ λ e. ap (λ (k : ℕ). with_child key (name_of at.tree) (bits_in m k)) (eqb-true n b.room.number e)
+            ∙ sym (same_turned m key at p (name_of at.tree) b refl) ∙ ap (λ (k : ℕ). bits_in m k) (sym (eqb-true n b.room.number e))
+        | false ↦ λ e. refl
+      ] refl
+
+  pub root_same : (m : Lodged V) (key : ℕ) (whole at : Part m) (ups : List (Part m)) → Way key whole at ups → whole.above ≡ None
+      → root_after at.above (name_of at.tree) (name_of whole.tree) ≡ name_of whole.tree
+  root_same m key whole at [] way top =
+      ap (λ (o : Option Id). root_after o (name_of at.tree) (name_of whole.tree)) (ap (λ (p : Part m). p.above) way ∙ top)
+      ∙ ap (λ (p : Part m). name_of p.tree) way
+  root_same m key whole at (p ∷ ps) way top = ap (λ (o : Option Id). root_after o (name_of at.tree) (name_of whole.tree)) way.0.above
+
+  -- a chain begins with the first member before a place, where there is one
+  abbrev pub FrontNamed : List (Placed V) → Node → Type 0
+  FrontNamed [] name = Unit {0}
+  FrontNamed (f ∷ fs) name = name ≡ LeafOf f.room
+
+  cons_head : {x y : Placed V} {xs ys : List (Placed V)} → x ∷ xs ≡ y ∷ ys → x ≡ y
+  cons_head e = cc
+
+  pub front_named : {t : Tree V} {z : Placed V} {zs : List (Placed V)} (front back : List (Placed V)) → t ≡ leaf z zs → z ∷ zs ≡ front ++ back
+      → FrontNamed front (name_of t)
+  front_named [] back is same = tt
+  front_named (f ∷ front) back is same = ap (λ (u : Tree V). name_of u) is ∙ ap (λ (p : Placed V). LeafOf p.room) (cons_head same)
+
+  -- the member behind a place is named above where it is the first
+  pub place_bits : (m : Lodged V) (key : ℕ) (whole at : Part m) (ups : List (Part m)) (front back : List (Placed V)) (x : Placed V) → Way key whole at ups
+      → whole.above ≡ None → FrontNamed front (name_of at.tree) → (n : ℕ)
+      → name_child (above_behind at.above front) key (LeafOf x.room) n (bits_in m n)
+      ≡ name_child at.above key (LeafOf (cons_at front back x).first.room) n (bits_in m n)
+  place_bits m key whole at ups [] back x way top named n = refl
+  place_bits m key whole at ups (f ∷ front) back x way top named n =
+      sym (ap (λ (z : Node). name_child at.above key z n (bits_in m n)) (sym named) ∙ turn_same m key whole at ups way top n)
+
+  past_root : (r : Id) (front : List (Placed V)) (above : Option Id) (to root : Node) → root_past (last_room (Some r) front) above to root ≡ root
+  past_root r [] above to root = refl
+  past_root r (f ∷ front) above to root = past_root f.room front above to root
+
+  pub place_root : (m : Lodged V) (key : ℕ) (whole at : Part m) (ups : List (Part m)) (front back : List (Placed V)) (x : Placed V) → Way key whole at ups
+      → whole.above ≡ None → FrontNamed front (name_of at.tree)
+      → root_past (last_room None front) (above_behind at.above front) (LeafOf x.room) (name_of whole.tree)
+      ≡ root_after at.above (LeafOf (cons_at front back x).first.room) (name_of whole.tree)
+  place_root m key whole at ups [] back x way top named = refl
+  place_root m key whole at ups (f ∷ front) back x way top named =
+      past_root f.room front None (LeafOf x.room) (name_of whole.tree)
+      ∙ sym (ap (λ (z : Node). root_after at.above z (name_of whole.tree)) (sym named) ∙ root_same m key whole at ups way top)
+
+  -- ---- the exchange
+  pub record Rechained (m new : Lodged V) (key : ℕ) (whole at : Part m) (old now : List (Placed V)) : Type 0 where
+    pub was : IsCons old
+    pub cons : IsCons now
+    pub is : at.tree ≡ leaf was.first was.rest
+    pub key_is : cons.first.entry.key ≡ was.first.entry.key
+    pub chain : IsChain cons.first.entry.key 34 now
+    pub stands : ChainStands (leaves_in new) at.above None now
+    pub leaves : (n : ℕ) → members_at n old ≡ 0 → 1 ≤ leaves_at n whole.tree → leaves_in new n ≡ leaves_in m n
+    pub bits : (n : ℕ) → bits_in new n ≡ name_child at.above key (LeafOf cons.first.room) n (bits_in m n)
+    pub heads : KeepsHeads m new
+    pub masks : KeepsMasks m new
+
+  abbrev pub under : {m new : Lodged V} {key : ℕ} {whole at : Part m} {old now : List (Placed V)} → Rechained m new key whole at old now → Part new
+  under {new = new} {at = at} r = record {
+    tree = leaf r.cons.first r.cons.rest;
+    low = at.low;
+    above = at.above;
+    is = ((subst (IsTree at.low) r.is at.is).0, subst (IsChain r.cons.first.entry.key 34) r.cons.is r.chain);
+    stands = subst (ChainStands (leaves_in new) at.above None) r.cons.is r.stands;
+  }
+
+  pub old_counts : {m new : Lodged V} {key : ℕ} {whole at : Part m} {old now : List (Placed V)} → Rechained m new key whole at old now → (n : ℕ)
+      → leaves_at n at.tree ≡ members_at n old
+  old_counts r n = ap (λ (t : Tree V). leaves_at n t) r.is ∙ ap (λ (c : List (Placed V)). members_at n c) (sym r.was.is)
+
+  pub now_counts : (m new : Lodged V) {key : ℕ} {whole at : Part m} {old now : List (Placed V)} (r : Rechained m new key whole at old now) → (n : ℕ)
+      → leaves_at n (under r).tree ≡ members_at n now
+  now_counts m new r n = ap (λ (c : List (Placed V)). members_at n c) (sym r.cons.is)
+
+  pub exchange : (m new : Lodged V) {key : ℕ} (whole at : Part m) {old now : List (Placed V)} (r : Rechained m new key whole at old now)
+      → IsExchange m new key whole at (under r)
+  exchange m new whole at r = record {
+    low = refl;
+    above = refl;
+    keys = λ c value before have. ap (λ (k : ℕ). bit_at c k) r.key_is ∙ subst (HaveBit c value) r.is have;
+    leaves = λ n none some. r.leaves n (sym (old_counts r n) ∙ none) some;
+    bits = λ n none some. r.bits n;
+  }
+
+  -- the whole with the other chain
+  abbrev pub with_chain : (m new : Lodged V) {root : Node} {late : ℕ → Bool} {out : ℕ → ℕ} {key : ℕ} (w : IsWholeBut m root late out) (at : Part m)
+      (ups : List (Part m)) {old now : List (Placed V)} → Way key w.part at ups
+      → (r : Rechained m new key w.part at old now) → Exchanged m new key w.part at (under r)
+      (root_after at.above (LeafOf r.cons.first.room) (name_of w.part.tree))
+  with_chain m new w at ups way r =
+      exchanged m new w.part at ups way w.top (once_but w) (exchange m new w.part at r)
+
+  pub bits_some : (m new : Lodged V) (key : ℕ) {whole : Part m} (at : Part m) {old now : List (Placed V)} → Rechained m new key whole at old now → (n : ℕ)
+      → is_some (bits_in new n) ≡ is_some (bits_in m n)
+  bits_some m new key at r n = ap (λ (o : Option BitPart). is_some o) (r.bits n) ∙ turn_some at.above key n (LeafOf r.cons.first.room) (bits_in m n)
+
+  pub rechained : (m new : Lodged V) {root : Node} {late later : ℕ → Bool} {out outs : ℕ → ℕ} (key : ℕ) (w : IsWholeBut m root late out) (at : Part m)
+      (ups : List (Part m)) {old now : List (Placed V)} → Way key w.part at ups
+      → (r : Rechained m new key w.part at old now) → Fits m new w.part at (under r) late later out outs
+      → (HasOneFork (bits_in m) old → HasOneFork (bits_in m) now)
+      → IsWholeBut new (root_after at.above (LeafOf r.cons.first.room) (name_of w.part.tree)) later outs
+  rechained m new key w at ups {now = now} way r f spare =
+      let none : (n : ℕ) → bits_in m n ≡ None → bits_in new n ≡ None = λ n gone. same_none (bits_in new n) (bits_some m new key at r n) gone in
+      whole_changed m new w (with_chain m new w at ups way r) f
+      (spare_changed m new w (with_chain m new w at ups way r)
+      (λ one. subst (HasOneFork (bits_in new)) r.cons.is (one_fork_same (bits_in m) (bits_in new) now none
+      (spare (subst (HasOneFork (bits_in m)) (sym r.was.is) (subst (HaveOneFork (bits_in m)) r.is one)))))
+      (λ n out_of some gone. none n gone))
+
+  pub spliced : (m new : Lodged V) (root : Node) {late : ℕ → Bool} {out : ℕ → ℕ} {key : ℕ} (w : IsWholeBut m root late out) (at : Part m) (ups : List (Part m))
+      {old now : List (Placed V)} → Way key w.part at ups
+      → (r : Rechained m new key w.part at old now) → Spliced (shown m (Some root))
+      (shown new (Some (root_after at.above (LeafOf r.cons.first.room) (name_of w.part.tree)))) (map_entries old) (map_entries now)
+  spliced m new root w at ups {now = now} way r =
+      let s = routes_changed w (with_chain m new w at ups way r) in
+      subst (λ (es : List (Entry V)). Spliced (shown m (Some root)) (shown new (Some (root_after at.above (LeafOf r.cons.first.room) (name_of w.part.tree))))
+      es (map_entries now))
+      (ap (λ (t : Tree V). routes_of t) r.is ∙ ap (λ (c : List (Placed V)). map_entries c) (sym r.was.is))
+      (subst (λ (es : List (Entry V)). Spliced (shown m (Some root)) (shown new (Some (root_after at.above (LeafOf r.cons.first.room) (name_of w.part.tree))))
+      (routes_of at.tree) es)
+      (ap (λ (c : List (Placed V)). map_entries c) (sym r.cons.is)) s)
+
+  -- ---- what both have in common
+  pub old_among : (m new : Lodged V) {key : ℕ} {whole at : Part m} {old now : List (Placed V)} → Rechained m new key whole at old now → (y : Placed V)
+      → IsIn y at.tree → IsAmong y old
+  old_among m new r y is = subst (IsAmong y) (sym r.was.is) (subst (IsIn y) r.is is)
+
+  pub among_old : {m new : Lodged V} {key : ℕ} {whole at : Part m} {old now : List (Placed V)} → Rechained m new key whole at old now → (y : Placed V)
+      → IsAmong y old → IsIn y at.tree
+  among_old r y is = subst (IsIn y) (sym r.is) (subst (IsAmong y) r.was.is is)
+
+  pub no_home : (m new : Lodged V) {key : ℕ} {whole at : Part m} {old now : List (Placed V)} → Rechained m new key whole at old now → (k rank : ℕ)
+      → HasHome k rank at.tree → ⊥
+  no_home m new r k rank home = subst (HasHome k rank) r.is home
+
+  pub same_marks : {m new : Lodged V} {key : ℕ} {whole at : Part m} {old now : List (Placed V)} → Rechained m new key whole at old now → (y : Placed V)
+      → IsMarked (masks_in m) y → IsMarked (masks_in new) y
+  same_marks r y marked = ap (λ (o : Option MaskPart). is_some o) (r.masks y.room.number) ∙ marked
+
+  pub not_marked : (m new : Lodged V) (x y : Placed V) → KeepsMasks m new → masks_in m x.room.number ≡ None → x ≡ y → IsMarked (masks_in new) y → ⊥
+  not_marked m new x y keeps none same marked =
+      true≢false (sym marked ∙ ap (λ (p : Placed V). is_some (masks_in new p.room.number)) (sym same)
+      ∙ ap (λ (o : Option MaskPart). is_some o) (keeps x.room.number ∙ none))
+
+  pub same_forks : (m new : Lodged V) (key : ℕ) (whole at : Part m) {old now : List (Placed V)} (r : Rechained m new key whole at old now) (n : ℕ)
+      → forks_at n (under r).tree + one_if (is_some (bits_in m n)) ≡ forks_at n at.tree + one_if (is_some (bits_in new n))
+  same_forks m new key whole at r n =
+      let none : forks_at n at.tree ≡ 0 = ap (λ (t : Tree V). forks_at n t) r.is in
+      let same : one_if (is_some (bits_in new n)) ≡ one_if (is_some (bits_in m n)) = ap one_if (bits_some m new key at r n) in omega arith

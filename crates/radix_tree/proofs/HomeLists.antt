@@ -1,0 +1,259 @@
+-- The home of a mask, and what a change of the list there leaves as it was.
+use Rattle.std.proofs.Common.{◌≡◌, ℕ, ◌+◌, ◌<◌, ◌≤◌, ◌==◌, ◌⊎◌, Bool, true, false, ◌||◌, List, [], ◌∷◌, Option, Some, None, refl, inl, inr, sym, ap, ◌∙◌, subst}
+use Rattle.std.proofs.Common.{⊎_elim, arith}
+use Rattle.std.proofs.lemmas.Bool.{eqb-true, cases_lt}
+use Rattle.mask_table.proofs.Agreeing.{front_of_bits}
+use Rattle.radix_tree.proofs.Words.{is_some, Ptr, front, Seen, Has, leaf_of, Id, Node, IsRoute, Placed, Tree, leaf, fork, IsAmong, IsIn, IsChain, IsTree}
+use Rattle.radix_tree.proofs.Words.{LeafPart, MaskPart, Leaves, Heads, Masks, Part, leaves_in, bits_in, heads_in, masks_in, leaf_in, leaf_part, Way, one_if}
+use Rattle.radix_tree.proofs.Words.{members_at, leaves_at, forks_at, HasHome, KeepsLeaves, KeepsBits, AreOnce, plug, low_past, IsMarked, IsMaskList, MarkedIn}
+use Rattle.radix_tree.proofs.Words.{MarkedLists, IsWholeBut, nobody_out, HomeAt, Entry, Lodged}
+use Rattle.radix_tree.specs.Tree.{bit_at}
+use Rattle.radix_tree.proofs.RoomReads.{inside}
+use Rattle.radix_tree.proofs.AddressBits.{zero_not_one, clear_bit}
+use Rattle.radix_tree.proofs.TreeMembers.{IsSaid, chain_below, tree_route, bit_beneath, tree_said}
+use Rattle.radix_tree.proofs.Parts.{fork_is, way_inside}
+use Rattle.radix_tree.proofs.PartRooms.{one_if_same, elsewhere, frame, way_once}
+use Rattle.radix_tree.proofs.Plugs.{aside_in, aside_at, counted_leaf, spare_same}
+use Rattle.radix_tree.proofs.PlugLists.{KeepsAbove, plug_lists, lists_at, marked_same}
+use Rattle.radix_tree.proofs.FrameLists.{way_framed, lists_stay}
+
+pub true_false : true ≡ false → ⊥
+true_false e = cc
+
+abbrev id_of : ℕ → Ptr → Id
+id_of number block = record { number = number; block = block }
+
+same_id : (x y : Id) → x.number ≡ y.number → x.block ≡ y.block → x ≡ y
+same_id x y number block = ap (λ (n : ℕ). id_of n x.block) number ∙ ap (λ (b : Ptr). id_of y.number b) block
+
+pub or_right : (a : Bool) {b : Bool} → b ≡ true → (a || b) ≡ true
+or_right true is = refl
+or_right false is = is
+
+pub some_of : {A : Type 0} (o : Option A) → is_some o ≡ true → (a : A) × (o ≡ Some a)
+some_of None is = absurd (true_false (sym is))
+some_of (Some a) is = (a, refl)
+
+module _ {V : Type 0} where
+  -- ---- one room, one route
+  -- a route by the number of its room and what the room says
+  abbrev told : ℕ → LeafPart V → Placed V
+  told n p = record { room = record { number = n; block = p.block }; entry = record { key = p.leaf.key; rank = p.leaf.rank; value = p.value } }
+
+  one_said : (L : Leaves V) (x y : Placed V) → IsSaid L x → IsSaid L y → x.room.number ≡ y.room.number → x ≡ y
+  one_said L x y sx sy same =
+      let parts = inside (sym sx.3 ∙ ap L same ∙ sy.3) in
+      ap (λ (n : ℕ). told n (leaf_part x sx.0 sx.1 sx.2)) same ∙ ap (λ (p : LeafPart V). told y.room.number p) parts
+
+  pub one_room : (m : Lodged V) (p : Part m) (x y : Placed V) → IsIn x p.tree → IsIn y p.tree → x.room.number ≡ y.room.number → x ≡ y
+  one_room m p x y in_x in_y same =
+      one_said (leaves_in m) x y (tree_said (leaves_in m) (bits_in m) p.above p.tree p.stands x in_x)
+      (tree_said (leaves_in m) (bits_in m) p.above p.tree p.stands y in_y) same
+
+  -- the route in a room
+  member_at : (n : ℕ) (c : List (Placed V)) → 1 ≤ members_at n c → (y : Placed V) × IsAmong y c × (y.room.number ≡ n)
+  member_at n [] some = absurd (omega arith)
+  member_at n (x ∷ c) some =
+      elim (x.room.number == n) as (λ t. (x.room.number == n) ≡ t → 1 ≤ one_if t + members_at n c → (y : Placed V) × IsAmong y (x ∷ c) × (y.room.number ≡ n)) [
+        | true ↦ λ e sum. (x, inl refl, eqb-true x.room.number n e)
+        | false ↦ λ e sum. let y = member_at n c (omega arith) in (y.0, inr y.1, y.2)
+      ] refl some
+
+  pub route_at : (n : ℕ) (t : Tree V) → 1 ≤ leaves_at n t → (y : Placed V) × IsIn y t × (y.room.number ≡ n)
+  route_at n (leaf x xs) some = member_at n (x ∷ xs) some
+  route_at n (fork room b zero one) some = ⊎_elim
+      (λ (none : leaves_at n zero < 1). let y = route_at n one (omega arith) in (y.0, inr y.1, y.2))
+      (λ (here : 1 ≤ leaves_at n zero). let y = route_at n zero here in (y.0, inl y.1, y.2)) (cases_lt (leaves_at n zero) 1)
+
+  -- ---- one pair, one route
+  chain_one : (key top : ℕ) (c : List (Placed V)) → IsChain key top c → (x y : Placed V) → IsAmong x c → IsAmong y c → x.entry.rank ≡ y.entry.rank → x ≡ y
+  chain_one key top [] is x y in_x in_y same = absurd in_x
+  chain_one key top (z ∷ c) is x y in_x in_y same = ⊎_elim
+      (λ (e : z ≡ x). ⊎_elim (λ (f : z ≡ y). sym e ∙ f)
+      (λ (behind : IsAmong y c). let first : z.entry.rank ≡ x.entry.rank = ap (λ (p : Placed V). p.entry.rank) e in let lower : y.entry.rank < z.entry.rank =
+      chain_below key z.entry.rank c is.3 y behind in absurd (omega arith)) in_y)
+      (λ (behind : IsAmong x c). ⊎_elim
+      (λ (f : z ≡ y). let first : z.entry.rank ≡ y.entry.rank = ap (λ (p : Placed V). p.entry.rank) f in let lower : x.entry.rank < z.entry.rank =
+      chain_below key z.entry.rank c is.3 x behind in absurd (omega arith))
+      (λ (other : IsAmong y c). chain_one key z.entry.rank c is.3 x y behind other same) in_y) in_x
+
+  pub one_pair : (low : ℕ) (t : Tree V) → IsTree low t → (x y : Placed V) → IsIn x t → IsIn y t → x.entry.key ≡ y.entry.key → x.entry.rank ≡ y.entry.rank
+      → x ≡ y
+  one_pair low (leaf z zs) is x y in_x in_y key rank = chain_one z.entry.key 34 (z ∷ zs) is.1 x y in_x in_y rank
+  one_pair low (fork room b zero one) is x y in_x in_y key rank = ⊎_elim
+      (λ (x0 : IsIn x zero). ⊎_elim (λ (y0 : IsIn y zero). one_pair (b + 1) zero is.1 x y x0 y0 key rank)
+      (λ (y1 : IsIn y one). absurd (zero_not_one (sym (ap (bit_at b) key) ∙ bit_beneath (b + 1) b 0 zero is.1 is.0.zeros x x0)
+      (bit_beneath (b + 1) b 1 one is.2 is.0.ones y y1))) in_y)
+      (λ (x1 : IsIn x one). ⊎_elim
+      (λ (y0 : IsIn y zero). absurd (zero_not_one (ap (bit_at b) key ∙ bit_beneath (b + 1) b 0 zero is.1 is.0.zeros y y0)
+      (bit_beneath (b + 1) b 1 one is.2 is.0.ones x x1)))
+      (λ (y1 : IsIn y one). one_pair (b + 1) one is.2 x y x1 y1 key rank) in_y) in_x
+
+  -- equal bits, equal keys
+  same_keys : (x y : Entry V) → IsRoute x → IsRoute y → ((c : ℕ) → c ≤ 31 → bit_at c x.key ≡ bit_at c y.key) → x.key ≡ y.key
+  unfolding bit_at
+  same_keys x y rx ry same =
+      let all : front 32 x.key ≡ front 32 y.key = front_of_bits 32 x.key y.key (omega arith) rx.address ry.address (λ c before. same c (omega arith)) in
+      omega (arith, all)
+
+  -- beneath a bit node two routes of a rank not past its bit are one
+  pub one_of_bit : (low b : ℕ) (room : Id) (zero one : Tree V) → IsTree low (fork room b zero one) → (x y : Placed V) → IsIn x (fork room b zero one)
+      → IsIn y (fork room b zero one) → x.entry.rank ≡ y.entry.rank → x.entry.rank ≤ b → x ≡ y
+  one_of_bit low b room zero one is x y in_x in_y same most =
+      let within : b ≤ 31 = is.0.within in
+      let rx = tree_route low (fork room b zero one) is x in_x in
+      let ry = tree_route low (fork room b zero one) is y in_y in
+      one_pair low (fork room b zero one) is x y in_x in_y
+      (same_keys x.entry y.entry rx ry
+      (λ c fits. ⊎_elim
+      (λ (before : c < x.entry.rank).
+      let lt : c < b = omega arith in
+      let a = is.0.agree c lt in bit_beneath low c a.0 (fork room b zero one) is (a.1, a.2) x in_x
+      ∙ sym (bit_beneath low c a.0 (fork room b zero one) is (a.1, a.2) y in_y))
+      (λ (past : x.entry.rank ≤ c). let further : y.entry.rank ≤ c = omega arith in clear_bit c rx past fits ∙ sym (clear_bit c ry further fits))
+      (cases_lt c x.entry.rank)))
+      same
+
+  -- ---- the home of a mask
+  way_home : (m : Lodged V) (key rank : ℕ) (whole at : Part m) (ups : List (Part m)) → Way key whole at ups → HasHome key rank at.tree
+      → HasHome key rank whole.tree
+  way_home m key rank whole at [] way home = subst (λ (p : Part m). HasHome key rank p.tree) way home
+  way_home m key rank whole at (p ∷ ps) way home =
+      let b = way.0 in
+      let f = b.at in
+      way_home m key rank whole p ps way.1 (subst (HasHome key rank) (sym f.is) (⊎_elim
+      (λ (e : (at.tree ≡ f.zero) × (bit_at f.bit key ≡ 0)). inr (inl (e.1, subst (HasHome key rank) e.0 home)))
+      (λ (e : (at.tree ≡ f.one) × (bit_at f.bit key ≡ 1)). inr (inr (e.1, subst (HasHome key rank) e.0 home))) b.side))
+
+  pub home_has : (m : Lodged V) {key rank : ℕ} (whole : Part m) {room : Id} → HomeAt m key rank whole room → HasHome key rank whole.tree
+  home_has m {key = key} {rank = rank} whole h = way_home m key rank whole h.part h.ups h.way (subst (HasHome key rank) (sym h.at.is) (inl h.within))
+
+  abbrev pub tree_of : {m : Lodged V} {key rank : ℕ} {whole : Part m} {room : Id} → HomeAt m key rank whole room → Tree V
+  tree_of {room = room} h = fork room h.at.bit h.at.zero h.at.one
+
+  lists_of : (m : Lodged V) (key : ℕ) {rank : ℕ} (whole : Part m) {room : Id} (h : HomeAt m key rank whole room) (H : Heads) (K : Masks)
+      → MarkedLists H K whole.low whole.tree → MarkedLists H K h.part.low (tree_of h)
+  lists_of m key whole h H K lists =
+      let f = way_framed m key whole h.part h.ups h.way in
+      subst (MarkedLists H K h.part.low) h.at.is (subst (λ (n : ℕ). MarkedLists H K n h.part.tree) (sym f.lowest)
+      (lists_at H K whole.low f.frames h.part.tree (subst (MarkedLists H K whole.low) f.was lists)))
+
+  -- the list there
+  pub home_list : (m : Lodged V) {key rank : ℕ} {whole : Part m} {room : Id} (h : HomeAt m key rank whole room)
+      → MarkedLists (heads_in m) (masks_in m) whole.low whole.tree
+      → IsMaskList (masks_in m) (heads_in m room.number) h.part.low h.at.bit (MarkedIn (masks_in m) (tree_of h))
+  home_list m {key = key} {whole = whole} h lists = (lists_of m key whole h (heads_in m) (masks_in m) lists).0
+
+  -- ---- a list at a home changes, and so the lists of the whole tree
+  -- rooms that list the same masks but for those of a home's list
+  pub record IsRelisted (m new : Lodged V) (key rank : ℕ) (whole : Part m) (room : Id) (h : HomeAt m key rank whole room) : Type 0 where
+    pub heads : (n : ℕ) → (n ≡ room.number → ⊥) → heads_in new n ≡ heads_in m n
+    pub masks : (y : Placed V) → IsIn y whole.tree → (IsIn y h.part.tree → h.part.low ≤ y.entry.rank → y.entry.rank ≤ h.at.bit → ⊥)
+        → masks_in new y.room.number ≡ masks_in m y.room.number
+    pub list : IsMaskList (masks_in new) (heads_in new room.number) h.part.low h.at.bit (MarkedIn (masks_in new) (fork room h.at.bit h.at.zero h.at.one))
+
+  pub home_inside : (m : Lodged V) {key rank : ℕ} {whole : Part m} {room : Id} (h : HomeAt m key rank whole room) (y : Placed V) → IsIn y (tree_of h)
+      → IsIn y whole.tree
+  home_inside m {key = key} {whole = whole} h y is = way_inside m key whole h.part h.ups h.way y (subst (IsIn y) (sym h.at.is) is)
+
+  -- the home's tree, with its list
+  home_lists : (m new : Lodged V) (key rank : ℕ) (whole : Part m) (room : Id) (h : HomeAt m key rank whole room) → AreOnce whole.tree
+      → IsRelisted m new key rank whole room h
+      → MarkedLists (heads_in m) (masks_in m) whole.low whole.tree → MarkedLists (heads_in new) (masks_in new) h.part.low (tree_of h)
+  home_lists m new key rank whole room h once r lists =
+      let f = h.at in
+      let is = fork_is m f in
+      let old = lists_of m key whole h (heads_in m) (masks_in m) lists in
+      let once_at = way_once key whole h.part h.ups h.way once in
+      let most : (n : ℕ) → one_if (room.number == n) + (forks_at n f.zero + forks_at n f.one) ≤ 1 =
+      λ n. subst (λ (t : Tree V). forks_at n t ≤ 1) f.is (once_at.forks n) in (
+        r.list,
+        lists_stay (heads_in m) (heads_in new) (masks_in m) (masks_in new) (f.bit + 1) f.zero is.1
+            (λ n some. r.heads n (let few = most n in elsewhere room n (forks_at n f.zero) some (omega arith)))
+            (λ y at least. r.masks y (home_inside m h y (inl at)) (λ _ _ short. omega arith)) old.1,
+        lists_stay (heads_in m) (heads_in new) (masks_in m) (masks_in new) (f.bit + 1) f.one is.2
+            (λ n some. r.heads n (let few = most n in elsewhere room n (forks_at n f.one) some (omega arith)))
+            (λ y at least. r.masks y (home_inside m h y (inr at)) (λ _ _ short. omega arith)) old.2,
+      )
+
+  pub relisted : (m new : Lodged V) (key rank : ℕ) (whole : Part m) (room : Id) (h : HomeAt m key rank whole room) → AreOnce whole.tree
+      → IsRelisted m new key rank whole room h
+      → MarkedLists (heads_in m) (masks_in m) whole.low whole.tree → MarkedLists (heads_in new) (masks_in new) whole.low whole.tree
+  relisted m new key rank whole room h once r lists =
+      let f = way_framed m key whole h.part h.ups h.way in
+      let lowest : h.part.low ≡ low_past whole.low f.frames = f.lowest in
+      let own : MarkedLists (heads_in new) (masks_in new) (low_past whole.low f.frames) h.part.tree =
+      subst (λ (n : ℕ). MarkedLists (heads_in new) (masks_in new) n h.part.tree) f.lowest
+      (subst (MarkedLists (heads_in new) (masks_in new) h.part.low) (sym h.at.is) (home_lists m new key rank whole room h once r lists)) in
+      let in_whole : (y : Placed V) → IsIn y (plug f.frames h.part.tree) → IsIn y whole.tree = λ y is. subst (IsIn y) (sym f.was) is in
+      let forks : (n : ℕ) → forks_at n (plug f.frames h.part.tree) ≤ 1 = λ n. subst (λ (u : Tree V). forks_at n u ≤ 1) f.was (once.forks n) in
+      let leaves : (n : ℕ) → leaves_at n (plug f.frames h.part.tree) ≤ 1 = λ n. subst (λ (u : Tree V). leaves_at n u ≤ 1) f.was (once.leaves n) in
+      let here : 1 ≤ forks_at room.number h.part.tree =
+      subst (λ (u : Tree V). 1 ≤ forks_at room.number u) (sym h.at.is) (let one : one_if (room.number == room.number) ≡ 1 = one_if_same room.number in
+      omega arith) in
+      let above : (y : Placed V) → IsIn y h.part.tree → y.entry.rank < low_past whole.low f.frames → masks_in new y.room.number ≡ masks_in m y.room.number =
+      λ y is below. r.masks y (way_inside m key whole h.part h.ups h.way y is) (λ _ least _. omega arith) in
+      let keeps : KeepsAbove (heads_in m) (heads_in new) (masks_in m) (masks_in new) (low_past whole.low f.frames) f.frames h.part.tree h.part.tree = record {
+        heads =
+            λ n some. r.heads n (λ e. let most = forks n in let at : 1 ≤ forks_at n h.part.tree = subst (λ (k : ℕ). 1 ≤ forks_at k h.part.tree) (sym e) here in
+            omega arith);
+        aside = λ y aside. r.masks y (in_whole y (aside_in f.frames h.part.tree y aside))
+            (λ is _ _. let own_at : 1 ≤ leaves_at y.room.number h.part.tree = counted_leaf y h.part.tree is in
+            let more : 1 + leaves_at y.room.number h.part.tree ≤ leaves_at y.room.number (plug f.frames h.part.tree) =
+            aside_at f.frames h.part.tree y aside in
+            let most = leaves y.room.number in omega arith);
+        stays = λ y is below marked. (is, above y is below);
+        came = λ y is below marked. (is, marked_same (masks_in new) (masks_in m) y (sym (above y is below)) marked);
+      } in
+      subst (MarkedLists (heads_in new) (masks_in new) whole.low) (sym f.was)
+      (plug_lists whole.low f.frames (subst (IsTree whole.low) f.was whole.is) keeps (subst (MarkedLists (heads_in m) (masks_in m) whole.low) f.was lists) own)
+
+  -- ---- the whole, where leaves and bit nodes stay
+  abbrev pub kept_part : (m new : Lodged V) → KeepsLeaves m new → KeepsBits m new → Part m → Part new
+  kept_part m new leaves bits p = record {
+    tree = p.tree;
+    low = p.low;
+    above = p.above;
+    is = p.is;
+    stands = frame (leaves_in m) (leaves_in new) (bits_in m) (bits_in new) p.above p.tree (λ n _. leaves n) (λ n _. bits n) p.stands;
+  }
+
+  -- each mask that is listed is of a route with a home, and each such route's mask is listed or late
+  pub record AreMarked (m new : Lodged V) (late : ℕ → Bool) (whole : Part m) : Type 0 where
+    pub listed : (n : ℕ) (p : MaskPart) → masks_in new n ≡ Some p → (x : Placed V) × IsIn x whole.tree × (x.room.number ≡ n)
+        × HasHome x.entry.key x.entry.rank whole.tree
+    pub all : (x : Placed V) → IsIn x whole.tree → HasHome x.entry.key x.entry.rank whole.tree → IsMarked (masks_in new) x ⊎ (late x.room.number ≡ true)
+
+  pub whole_kept : (m new : Lodged V) {root : Node} (late later : ℕ → Bool) (w : IsWholeBut m root late nobody_out) → KeepsLeaves m new → KeepsBits m new
+      → MarkedLists (heads_in new) (masks_in new) w.part.low w.part.tree → AreMarked m new later w.part → IsWholeBut new root later nobody_out
+  whole_kept m new late later w leaves bits lists marked = record {
+    part = kept_part m new leaves bits w.part;
+    low = w.low;
+    top = w.top;
+    named = w.named;
+    leaves = λ n. w.leaves n ∙ ap (λ (o : Option (LeafPart V)). one_if (is_some o)) (sym (leaves n));
+    forks = λ n. w.forks n ∙ ap (λ o. one_if (is_some o)) (sym (bits n));
+    spare = spare_same (bits_in m) (bits_in new) w.part.tree (λ y is none. bits y.room.number ∙ none) w.spare;
+    lists = lists;
+    listed = marked.listed;
+    all = marked.all;
+  }
+
+  -- ---- the route in a room of the table
+  block_said : (m : Lodged V) (y : Placed V) {n : ℕ} (s : Seen V) → IsSaid (leaves_in m) y → y.room.number ≡ n → leaves_in m n ≡ leaf_in (Some s)
+      → y.room.block ≡ s.block
+  block_said m y s is same said =
+      let parts : leaf_part y is.0 is.1 is.2 ≡ record { block = s.block; value = s.value; leaf = leaf_of s.links } =
+      inside (sym is.3 ∙ ap (leaves_in m) same ∙ said) in ap (λ (p : LeafPart V). p.block) parts
+
+  pub placed_in : {m : Lodged V} {root : Node} {late : ℕ → Bool} (w : IsWholeBut m root late nobody_out) {room : Id} → Has m room
+      → (y : Placed V) × IsIn y w.part.tree × (y.room ≡ room)
+  placed_in {m = m} w {room = room} h =
+      let said : leaves_in m room.number ≡ leaf_in (Some h.room) = ap leaf_in h.at in
+      let count : leaves_at room.number w.part.tree + 0 ≡ 1 = w.leaves room.number ∙ ap (λ (o : Option (LeafPart V)). one_if (is_some o)) said in
+      let y = route_at room.number w.part.tree (omega arith) in (
+        y.0,
+        y.1,
+        same_id y.0.room room y.2 (block_said m y.0 h.room (tree_said (leaves_in m) (bits_in m) w.part.above w.part.tree w.part.stands y.0 y.1) y.2
+            said ∙ h.block),
+      )

@@ -1,0 +1,170 @@
+-- A value in a room changes: the tree with it, which the rooms stand for as before.
+use Rattle.std.proofs.Common.{◌≡◌, ℕ, ◌+◌, ◌≤◌, ◌==◌, ◌⊎◌, Bool, true, false, if◌then◌else◌, List, [], ◌∷◌, Option, Some, None, refl, sym, ap, ◌∙◌, subst, inl}
+use Rattle.std.proofs.Common.{inr, ⊎_elim}
+use Rattle.radix_tree.proofs.Words.{Id, Node, Placed, Tree, leaf, fork, bit_at, IsAmong, IsIn, IsChain, HaveBit, IsTree, LeafPart, Leaves, Bits, Heads, Masks}
+use Rattle.radix_tree.proofs.Words.{leaf_part, first_room, name_of, ChainStands, Stands, MasksStand, Falls, IsList, Lists, one_if, members_at, leaves_at}
+use Rattle.radix_tree.proofs.Words.{forks_at, HasHome, AreIdle, HasOneFork, HaveOneFork}
+
+pub true_false : true ≡ false → ⊥
+true_false e = cc
+
+pub pointwise : {A : Type 0} (f g : ℕ → A) → ((n : ℕ) → f n ≡ g n) → f ≡ g
+pointwise f g alike = λ i n. alike n i
+
+module _ {V : Type 0} (n : ℕ) (value : V) where
+  -- ---- the routes with the value in room n
+  abbrev pub valued : Placed V → Placed V
+  valued x = record { room = x.room; entry = record { key = x.entry.key; rank = x.entry.rank; value = if x.room.number == n then value else x.entry.value } }
+
+  abbrev pub all_valued : List (Placed V) → List (Placed V)
+  all_valued [] = []
+  all_valued (x ∷ xs) = valued x ∷ all_valued xs
+
+  abbrev pub tree_valued : Tree V → Tree V
+  tree_valued (leaf x xs) = leaf (valued x) (all_valued xs)
+  tree_valued (fork room b zero one) = fork room b (tree_valued zero) (tree_valued one)
+
+  pub name_valued : (t : Tree V) → name_of (tree_valued t) ≡ name_of t
+  name_valued (leaf x xs) = refl
+  name_valued (fork room b zero one) = refl
+
+  first_valued : (c : List (Placed V)) → first_room (all_valued c) ≡ first_room c
+  first_valued [] = refl
+  first_valued (x ∷ xs) = refl
+
+  -- ---- a tree
+  bit_valued : (b v : ℕ) (t : Tree V) → HaveBit b v t → HaveBit b v (tree_valued t)
+  bit_valued b v (leaf x xs) have = have
+  bit_valued b v (fork room c zero one) have = (bit_valued b v zero have.0, bit_valued b v one have.1)
+
+  chain_valued : (key top : ℕ) (c : List (Placed V)) → IsChain key top c → IsChain key top (all_valued c)
+  chain_valued key top [] is = tt
+  chain_valued key top (x ∷ xs) is = (record { rank = is.0.rank; address = is.0.address; key = is.0.key }, is.1, is.2, chain_valued key x.entry.rank xs is.3)
+
+  pub tree_is_valued : (low : ℕ) (t : Tree V) → IsTree low t → IsTree low (tree_valued t)
+  tree_is_valued low (leaf x xs) is = (is.0, chain_valued x.entry.key 34 (x ∷ xs) is.1)
+  tree_is_valued low (fork room b zero one) is = (
+    record {
+      rises = is.0.rises;
+      within = is.0.within;
+      agree = λ c less. let a = is.0.agree c less in (a.0, bit_valued c a.0 zero a.1, bit_valued c a.0 one a.2);
+      zeros = bit_valued b 0 zero is.0.zeros;
+      ones = bit_valued b 1 one is.0.ones;
+    },
+    tree_is_valued (b + 1) zero is.1,
+    tree_is_valued (b + 1) one is.2,
+  )
+
+  -- ---- in rooms
+  abbrev pub put : Bool → Option (LeafPart V) → Option (LeafPart V)
+  put b None = None
+  put b (Some p) = Some (record p { value = if b then value else p.value })
+
+  module _ (L M : Leaves V) (B : Bits) (leaves : (k : ℕ) → M k ≡ put (k == n) (L k)) where
+    chain_stands : (above previous : Option Id) (c : List (Placed V)) → ChainStands L above previous c → ChainStands M above previous (all_valued c)
+    chain_stands above previous [] stands = tt
+    chain_stands above previous (x ∷ xs) stands = (
+      leaves x.room.number ∙ ap (λ (o : Option (LeafPart V)). put (x.room.number == n) o) stands.0
+          ∙ ap (λ (o : Option Id). Some (leaf_part (valued x) above previous o)) (sym (first_valued xs)),
+      chain_stands None (Some x.room) xs stands.1,
+    )
+
+    pub stands_valued : (above : Option Id) (t : Tree V) → Stands L B above t → Stands M B above (tree_valued t)
+    stands_valued above (leaf x xs) stands = chain_stands above None (x ∷ xs) stands
+    stands_valued above (fork room b zero one) stands = (
+      stands.0 ∙ ap (λ (z : Node). Some (record { block = room.block; bit = b; zero = z; one = name_of one; above = above })) (sym (name_valued zero))
+          ∙ ap (λ (o : Node). Some (record { block = room.block; bit = b; zero = name_of (tree_valued zero); one = o; above = above })) (sym (name_valued one)),
+      stands_valued (Some room) zero stands.1,
+      stands_valued (Some room) one stands.2,
+    )
+
+  members_valued : (k : ℕ) (c : List (Placed V)) → members_at k (all_valued c) ≡ members_at k c
+  members_valued k [] = refl
+  members_valued k (x ∷ xs) = ap (λ (m : ℕ). one_if (x.room.number == k) + m) (members_valued k xs)
+
+  pub leaves_valued : (k : ℕ) (t : Tree V) → leaves_at k (tree_valued t) ≡ leaves_at k t
+  leaves_valued k (leaf x xs) = members_valued k (x ∷ xs)
+  leaves_valued k (fork room b zero one) =
+      ap (λ (m : ℕ). m + leaves_at k (tree_valued one)) (leaves_valued k zero) ∙ ap (λ (m : ℕ). leaves_at k zero + m) (leaves_valued k one)
+
+  pub forks_valued : (k : ℕ) (t : Tree V) → forks_at k (tree_valued t) ≡ forks_at k t
+  forks_valued k (leaf x xs) = refl
+  forks_valued k (fork room b zero one) = ap (λ (m : ℕ). one_if (room.number == k) + (m + forks_at k (tree_valued one))) (forks_valued k zero)
+      ∙ ap (λ (m : ℕ). one_if (room.number == k) + (forks_at k zero + m)) (forks_valued k one)
+
+  idle_valued : (B : Bits) (c : List (Placed V)) → AreIdle B c → AreIdle B (all_valued c)
+  idle_valued B [] idle = tt
+  idle_valued B (x ∷ xs) idle = (idle.0, idle_valued B xs idle.1)
+
+  one_fork_valued : (B : Bits) (c : List (Placed V)) → HasOneFork B c → HasOneFork B (all_valued c)
+  one_fork_valued B [] has = tt
+  one_fork_valued B (x ∷ xs) has = ⊎_elim (λ (idle : AreIdle B xs). inl (idle_valued B xs idle))
+      (λ (rest : (B x.room.number ≡ None) × HasOneFork B xs). inr (rest.0, one_fork_valued B xs rest.1)) has
+
+  pub spare_valued : (B : Bits) (t : Tree V) → HaveOneFork B t → HaveOneFork B (tree_valued t)
+  spare_valued B (leaf x xs) have = one_fork_valued B (x ∷ xs) have
+  spare_valued B (fork room b zero one) have = (spare_valued B zero have.0, spare_valued B one have.1)
+
+  -- ---- what is in it
+  among_valued : (x : Placed V) (c : List (Placed V)) → IsAmong x c → IsAmong (valued x) (all_valued c)
+  among_valued x [] among = absurd among
+  among_valued x (y ∷ c) among = ⊎_elim (λ (e : y ≡ x). inl (ap (λ (y : Placed V). valued y) e)) (λ (rest : IsAmong x c). inr (among_valued x c rest)) among
+
+  pub in_valued : (x : Placed V) (t : Tree V) → IsIn x t → IsIn (valued x) (tree_valued t)
+  in_valued x (leaf y ys) at = among_valued x (y ∷ ys) at
+  in_valued x (fork room b zero one) at = ⊎_elim (λ (left : IsIn x zero). inl (in_valued x zero left)) (λ (right : IsIn x one). inr (in_valued x one right)) at
+
+  abbrev Was : (Placed V → Type 0) → Placed V → Type 0
+  Was P y = (x : Placed V) × P x × (valued x ≡ y)
+
+  among_was : (y : Placed V) (c : List (Placed V)) → IsAmong y (all_valued c) → Was (λ x. IsAmong x c) y
+  among_was y [] among = absurd among
+  among_was y (x ∷ c) among =
+      ⊎_elim (λ (e : valued x ≡ y). (x, inl refl, e)) (λ (rest : IsAmong y (all_valued c)). let w = among_was y c rest in (w.0, inr w.1, w.2)) among
+
+  in_was : (y : Placed V) (t : Tree V) → IsIn y (tree_valued t) → Was (λ x. IsIn x t) y
+  in_was y (leaf x xs) at = among_was y (x ∷ xs) at
+  in_was y (fork room b zero one) at = ⊎_elim (λ (left : IsIn y (tree_valued zero)). let w = in_was y zero left in (w.0, inl w.1, w.2))
+      (λ (right : IsIn y (tree_valued one)). let w = in_was y one right in (w.0, inr w.1, w.2)) at
+
+  pub home_valued : (key rank : ℕ) (t : Tree V) → HasHome key rank t → HasHome key rank (tree_valued t)
+  home_valued key rank (leaf x xs) home = absurd home
+  home_valued key rank (fork room b zero one) home = ⊎_elim (λ (here : rank ≤ b). inl here) (λ further. inr (⊎_elim
+      (λ (left : (bit_at b key ≡ 0) × HasHome key rank zero). inl (left.0, home_valued key rank zero left.1))
+      (λ (right : (bit_at b key ≡ 1) × HasHome key rank one). inr (right.0, home_valued key rank one right.1)) further)) home
+
+  -- ---- its lists of masks
+  masks_stand : (K : Masks) (ms : List (Placed V)) → MasksStand K ms → MasksStand K (all_valued ms)
+  masks_stand K [] stands = tt
+  masks_stand K (x ∷ xs) stands =
+      (stands.0 ∙ ap (λ (o : Option Id). Some (record { block = x.room.block; next = o })) (sym (first_valued xs)), masks_stand K xs stands.1)
+
+  falls_valued : (low top : ℕ) (ms : List (Placed V)) → Falls low top ms → Falls low top (all_valued ms)
+  falls_valued low top [] falls = tt
+  falls_valued low top (x ∷ xs) falls = (falls.0, falls.1, falls_valued low x.entry.rank xs falls.2)
+
+  list_valued : (K : Masks) (first : Option Id) (low b : ℕ) (zero one : Tree V) → IsList K first low b zero one
+      → IsList K first low b (tree_valued zero) (tree_valued one)
+  list_valued K first low b zero one l = record {
+    masks = all_valued l.masks;
+    begins = first_valued l.masks ∙ l.begins;
+    stands = masks_stand K l.masks l.stands;
+    falls = falls_valued low (b + 1) l.masks l.falls;
+    has = λ y at least most. let w = side_was zero one y at in
+        subst (λ (y : Placed V). IsAmong y (all_valued l.masks)) w.2 (among_valued w.0 l.masks (l.has w.0 w.1
+        (subst (λ (y : Placed V). low ≤ y.entry.rank) (sym w.2) least) (subst (λ (y : Placed V). y.entry.rank ≤ b) (sym w.2) most)));
+    beneath = λ y among. let w = among_was y l.masks among in subst (λ (y : Placed V). IsIn y (tree_valued zero) ⊎ IsIn y (tree_valued one)) w.2
+        (side_valued zero one w.0 (l.beneath w.0 w.1));
+  }
+    where
+      side_was : (zero one : Tree V) (y : Placed V) → IsIn y (tree_valued zero) ⊎ IsIn y (tree_valued one) → Was (λ x. IsIn x zero ⊎ IsIn x one) y
+      side_was zero one y at = ⊎_elim (λ (left : IsIn y (tree_valued zero)). let w = in_was y zero left in (w.0, inl w.1, w.2))
+          (λ (right : IsIn y (tree_valued one)). let w = in_was y one right in (w.0, inr w.1, w.2)) at
+
+      side_valued : (zero one : Tree V) (x : Placed V) → IsIn x zero ⊎ IsIn x one → IsIn (valued x) (tree_valued zero) ⊎ IsIn (valued x) (tree_valued one)
+      side_valued zero one x at = ⊎_elim (λ (left : IsIn x zero). inl (in_valued x zero left)) (λ (right : IsIn x one). inr (in_valued x one right)) at
+
+  pub lists_valued : (H : Heads) (K : Masks) (low : ℕ) (t : Tree V) → Lists H K low t → Lists H K low (tree_valued t)
+  lists_valued H K low (leaf x xs) lists = tt
+  lists_valued H K low (fork room b zero one) lists =
+      (list_valued K (H room.number) low b zero one lists.0, lists_valued H K (b + 1) zero lists.1, lists_valued H K (b + 1) one lists.2)

@@ -1,0 +1,97 @@
+-- The ways to parts of a tree.
+use Rattle.std.proofs.Common.{◌≡◌, ℕ, ◌+◌, ◌≤◌, ◌⊎◌, ◌==◌, true, false, List, [], ◌∷◌, refl, sym, subst, inl, inr, ⊎_elim, arith}
+use Rattle.std.proofs.lemmas.Bool.{eqb-true}
+use Rattle.radix_tree.proofs.Words.{Id, Placed, Tree, leaf, fork, IsIn, Part, ForkAt, LeafAt, Way, one_if, forks_at, Lodged}
+use Rattle.radix_tree.proofs.TreeMembers.{bit_beneath}
+use Rattle.radix_tree.proofs.Parts.{fork_is, zero_part, one_part, zero_beneath, one_beneath}
+use Rattle.radix_tree.proofs.Exchanging.{one_of}
+
+module _ {V : Type 0} where
+  -- ---- the ways to parts
+  -- the leaf of a route
+  pub record FoundLeaf (m : Lodged V) (whole : Part m) (y : Placed V) : Type 0 where
+    pub part : Part m
+    pub room : Id
+    pub at : LeafAt part room
+    pub among : IsIn y part.tree
+    pub ups : List (Part m)
+    pub way : Way y.entry.key whole part ups
+
+  leaf_down : (m : Lodged V) (whole : Part m) (y : Placed V) (at : Part m) (ups : List (Part m)) (t : Tree V) → at.tree ≡ t → Way y.entry.key whole at ups
+      → IsIn y t → FoundLeaf m whole y
+  leaf_down m whole y at ups (leaf x xs) is way there = record {
+    part = at;
+    room = x.room;
+    at = record { first = x; rest = xs; is = is; room_is = refl };
+    among = subst (IsIn y) (sym is) there;
+    ups = ups;
+    way = way;
+  }
+  leaf_down m whole y at ups (fork room b zero one) is way there =
+      let f : ForkAt at room = record { bit = b; zero = zero; one = one; is = is } in
+      let tree = fork_is m f in
+      ⊎_elim
+      (λ (z : IsIn y zero). leaf_down m whole y (zero_part m f) (at ∷ ups) zero refl
+      (zero_beneath m y.entry.key room f (bit_beneath (b + 1) b 0 zero tree.1 tree.0.zeros y z), way) z)
+      (λ (o : IsIn y one). leaf_down m whole y (one_part m f) (at ∷ ups) one refl
+      (one_beneath m y.entry.key room f (bit_beneath (b + 1) b 1 one tree.2 tree.0.ones y o), way) o)
+      there
+
+  pub way_to_leaf : (m : Lodged V) (whole : Part m) (y : Placed V) → IsIn y whole.tree → FoundLeaf m whole y
+  way_to_leaf m whole y is = leaf_down m whole y whole [] whole.tree refl refl is
+
+  -- the bit node in a room
+  pub record FoundFork (m : Lodged V) (whole : Part m) (n : ℕ) : Type 0 where
+    pub key : ℕ
+    pub part : Part m
+    pub room : Id
+    pub at : ForkAt part room
+    pub number : room.number ≡ n
+    pub ups : List (Part m)
+    pub way : Way key whole part ups
+
+  -- a route beneath it
+  abbrev HasOver : ℕ → Placed V → Tree V → Type 0
+  HasOver n y (leaf x xs) = ⊥
+  HasOver n y (fork room b zero one) = ((room.number ≡ n) × IsIn y zero) ⊎ (HasOver n y zero ⊎ HasOver n y one)
+
+  over_in : (n : ℕ) (y : Placed V) (t : Tree V) → HasOver n y t → IsIn y t
+  over_in n y (leaf x xs) o = absurd o
+  over_in n y (fork room b zero one) o = ⊎_elim (λ (h : (room.number ≡ n) × IsIn y zero). inl h.1)
+      (λ (s : HasOver n y zero ⊎ HasOver n y one). ⊎_elim (λ (z : HasOver n y zero). inl (over_in n y zero z))
+      (λ (u : HasOver n y one). inr (over_in n y one u)) s) o
+
+  some_route : (t : Tree V) → (y : Placed V) × IsIn y t
+  some_route (leaf x xs) = (x, inl refl)
+  some_route (fork room b zero one) = let y = some_route zero in (y.0, inl y.1)
+
+  some_over : (n : ℕ) (t : Tree V) → 1 ≤ forks_at n t → (y : Placed V) × HasOver n y t
+  some_over n (leaf x xs) some = absurd (omega arith)
+  some_over n (fork room b zero one) some =
+      elim (room.number == n) as (λ t. (room.number == n) ≡ t → 1 ≤ one_if t + (forks_at n zero + forks_at n one)
+      → (y : Placed V) × HasOver n y (fork room b zero one)) [
+        | true ↦ λ e sum. let y = some_route zero in (y.0, inl (eqb-true room.number n e, y.1))
+        | false ↦ λ e sum. ⊎_elim
+            (λ (lt : 1 ≤ forks_at n zero). let y = some_over n zero lt in (y.0, inr (inl y.1)))
+            (λ (le : 1 ≤ forks_at n one). let y = some_over n one le in (y.0, inr (inr y.1)))
+            (one_of (forks_at n zero) (forks_at n one) (omega arith))
+      ] refl some
+
+  fork_down : (m : Lodged V) (whole : Part m) (n : ℕ) (y : Placed V) (at : Part m) (ups : List (Part m)) (t : Tree V) → at.tree ≡ t
+      → Way y.entry.key whole at ups → HasOver n y t → FoundFork m whole n
+  fork_down m whole n y at ups (leaf x xs) is way o = absurd o
+  fork_down m whole n y at ups (fork room b zero one) is way o =
+      let f : ForkAt at room = record { bit = b; zero = zero; one = one; is = is } in
+      let tree = fork_is m f in
+      ⊎_elim
+      (λ (h : (room.number ≡ n) × IsIn y zero). record { key = y.entry.key; part = at; room = room; at = f; number = h.0; ups = ups; way = way })
+      (λ (s : HasOver n y zero ⊎ HasOver n y one). ⊎_elim
+      (λ (z : HasOver n y zero). fork_down m whole n y (zero_part m f) (at ∷ ups) zero refl
+      (zero_beneath m y.entry.key room f (bit_beneath (b + 1) b 0 zero tree.1 tree.0.zeros y (over_in n y zero z)), way) z)
+      (λ (u : HasOver n y one). fork_down m whole n y (one_part m f) (at ∷ ups) one refl
+      (one_beneath m y.entry.key room f (bit_beneath (b + 1) b 1 one tree.2 tree.0.ones y (over_in n y one u)), way) u)
+      s)
+      o
+
+  pub way_to_fork : (m : Lodged V) (whole : Part m) (n : ℕ) → 1 ≤ forks_at n whole.tree → FoundFork m whole n
+  way_to_fork m whole n some = let y = some_over n whole.tree some in fork_down m whole n y.0 whole [] whole.tree refl refl y.1

@@ -1,0 +1,108 @@
+-- The routes that a table's rooms show, and a table with an entry and without.
+use Rattle.std.proofs.Common.{◌≡◌, ℕ, Bool, false, IsTrue, List, [], ◌∷◌, ◌++◌, Some, None, refl, sym, ap, ◌∙◌, subst, arith}
+use Rattle.std.proofs.lemmas.Bool.Decides.{nat_tests}
+use Rattle.std.proofs.lemmas.List.{append_assoc}
+use Rattle.radix_tree.proofs.Words.{AllByRecursion, Node, precedes, IsTable, has_pair, entry_at, with_entry, without, Tree, routes_of, Part, leaves_in, bits_in}
+use Rattle.radix_tree.proofs.Words.{name_of, beneath_shown, shown, Gains, Exchanged, IsWholeBut, Entry, Lodged}
+use Rattle.radix_tree.proofs.ListLemmas.{all_weaker, filter_all, filter_none}
+use Rattle.radix_tree.proofs.OrderLemmas.{own_pair, precedes_one_way}
+use Rattle.radix_tree.proofs.TableLemmas.{with_later, without_absent, none_at}
+use Rattle.radix_tree.proofs.Showing.{beneath_is}
+use Rattle.radix_tree.proofs.Plugs.{surround}
+
+module _ {V : Type 0} where
+  -- ---- the routes that the rooms show
+  pub part_shown : {m : Lodged V} {root : Node} (p : Part m) → p.low ≡ 0 → name_of p.tree ≡ root → shown m (Some root) ≡ routes_of p.tree
+  part_shown {m = m} p low named =
+      let none : p.low ≡ 0 = low in
+      ap (λ (n : Node). beneath_shown 33 (leaves_in m) (bits_in m) n) (sym named)
+      ∙ beneath_is 33 p.low (leaves_in m) (bits_in m) p.above p.tree p.is p.stands (omega arith)
+
+  -- before and behind those of the part they stay
+  pub record Spliced (old new before now : List (Entry V)) : Type 0 where
+    pub front : List (Entry V)
+    pub back : List (Entry V)
+    pub was : old ≡ front ++ before ++ back
+    pub is_now : new ≡ front ++ now ++ back
+
+  pub routes_changed : {m new : Lodged V} {root name : Node} {late : ℕ → Bool} {out : ℕ → ℕ} {key : ℕ} (w : IsWholeBut m root late out) {at : Part m}
+      {under : Part new} (e : Exchanged m new key w.part at under name)
+      → Spliced (shown m (Some root)) (shown new (Some name)) (routes_of at.tree) (routes_of under.tree)
+  routes_changed w {at = at} {under = under} e =
+      let s = surround e.frames in
+      record {
+        front = s.front;
+        back = s.back;
+        was = part_shown w.part w.low w.named ∙ ap (λ (t : Tree V). routes_of t) e.was ∙ s.routes at.tree;
+        is_now = part_shown e.part (e.low ∙ w.low) e.named ∙ ap (λ (t : Tree V). routes_of t) e.is_now ∙ s.routes under.tree;
+      }
+
+  regrouped : (before front back behind : List (Entry V)) → before ++ (front ++ back) ++ behind ≡ (before ++ front) ++ (back ++ behind)
+  regrouped before front back behind =
+      ap (λ (es : List (Entry V)). es ++ behind) (sym (append_assoc before front back)) ∙ append_assoc (before ++ front) back behind
+
+  pub gains_spliced : {e : Entry V} {old new before now : List (Entry V)} → Spliced old new before now → Gains e before now → Gains e old new
+  gains_spliced {e = e} {now = now} s g = record {
+    front = s.front ++ g.front;
+    back = g.back ++ s.back;
+    was = s.was ∙ ap (λ (es : List (Entry V)). s.front ++ es ++ s.back) g.was ∙ regrouped s.front g.front g.back s.back;
+    now = s.is_now ∙ ap (λ (es : List (Entry V)). s.front ++ es ++ s.back) g.now ∙ regrouped s.front g.front (e ∷ g.back) s.back;
+  }
+
+  pub loses_spliced : {e : Entry V} {old new before now : List (Entry V)} → Spliced old new before now → Gains e now before → Gains e new old
+  loses_spliced {old = old} {new = new} s g =
+      gains_spliced {old = new} {new = old} (record { front = s.front; back = s.back; was = s.is_now; is_now = s.was }) g
+
+  -- ---- a table with an entry, and without
+  -- what holds of all elements holds of one among them
+  all_at : (P : Entry V → Type 0) (front back : List (Entry V)) (e : Entry V) → AllByRecursion P (front ++ e ∷ back) → P e
+  all_at P [] back e all = all.0
+  all_at P (x ∷ front) back e all = all_at P front back e all.1
+
+  ahead_not_pair : (x e : Entry V) → IsTrue (precedes x e) → has_pair e.key e.rank x ≡ false
+  ahead_not_pair x e ahead = grind (arith, nat_tests)
+
+  gained : (e : Entry V) (front back : List (Entry V)) → IsTable (front ++ e ∷ back)
+      → (front ++ e ∷ back ≡ with_entry e (front ++ back)) × (entry_at e.key e.rank (front ++ back) ≡ None)
+  gained e [] back is = (
+    rw (
+      filter_none (λ x. precedes x e) back (all_weaker (λ f. IsTrue (precedes e f)) (λ f. precedes f e ≡ false) (λ f ahead. precedes_one_way e f ahead) back
+          is.1),
+      filter_all (λ x. precedes e x) back is.1,
+    ) refl,
+    none_at e.key e.rank back is.1,
+  )
+  gained e (x ∷ front) back is =
+      let ahead = all_at (λ f. IsTrue (precedes x f)) front back e is.1 in
+      let rest = gained e front back is.2 in (
+        ap (λ (es : List (Entry V)). x ∷ es) rest.0 ∙ sym (with_later e x (front ++ back) ahead),
+        rw (ahead_not_pair x e ahead) rest.1,
+      )
+
+  lost : (e : Entry V) (front back : List (Entry V)) → IsTable (front ++ e ∷ back)
+      → (front ++ back ≡ without e.key e.rank (front ++ e ∷ back)) × (entry_at e.key e.rank (front ++ e ∷ back) ≡ Some e)
+  lost e [] back is = (
+    rw (own_pair e) (sym (without_absent e.key e.rank back (none_at e.key e.rank back is.1))),
+    rw (own_pair e) refl,
+  )
+  lost e (x ∷ front) back is =
+      let ahead = all_at (λ f. IsTrue (precedes x f)) front back e is.1 in
+      let rest = lost e front back is.2 in (
+        rw (ahead_not_pair x e ahead) (ap (λ (es : List (Entry V)). x ∷ es) rest.0),
+        rw (ahead_not_pair x e ahead) rest.1,
+      )
+
+  pub gains_entry : {e : Entry V} {old new : List (Entry V)} → Gains e old new → IsTable new → (new ≡ with_entry e old) × (entry_at e.key e.rank old ≡ None)
+  gains_entry {e = e} g is =
+      let given = gained e g.front g.back (subst IsTable g.now is) in (
+        g.now ∙ given.0 ∙ ap (with_entry e) (sym g.was),
+        ap (entry_at e.key e.rank) g.was ∙ given.1,
+      )
+
+  pub loses_entry : (e : Entry V) {old new : List (Entry V)} → Gains e new old → IsTable old
+      → (new ≡ without e.key e.rank old) × (entry_at e.key e.rank old ≡ Some e)
+  loses_entry e g is =
+      let taken = lost e g.front g.back (subst IsTable g.now is) in (
+        g.was ∙ taken.0 ∙ ap (without e.key e.rank) (sym g.now),
+        ap (entry_at e.key e.rank) g.now ∙ taken.1,
+      )
