@@ -11,4 +11,5 @@ mod socket;
 
 pub use cutting::first_message;
 pub use listeners::Listeners;
+pub use queue::Queue;
 pub use room::Room;

@@ -161,4 +161,24 @@ impl Listeners {
             None => Err(Errno::EBADF),
         }
     }
+
+    /// Moves the messages that wait for a socket into `queue`, whose own are lost, and leaves none; or EBADF where none of
+    /// this id is open. It takes no memory.
+    pub fn move_to(&mut self, id: Name, queue: &mut Queue) -> Result<(), Errno>
+        ensures messages { OnOk result (messages_of id self.old ≡ Some queue.new) }
+        ensures taken { OnOk result (self.new ≡ taken id self.old) }
+        ensures refused { IfErr result (λ e. e ≡ Errno.EBADF) }
+        ensures none { OnErr result (messages_of id self.old ≡ None) }
+        ensures kept { OnErr result (self.new ≡ self.old) }
+        ensures unread { OnErr result (queue.new ≡ queue.old) }
+    {
+        match place_of(&self.sockets, id) {
+            Some(at) => {
+                let socket = &mut self.sockets[at];
+                socket.move_to(queue);
+                Ok(())
+            }
+            None => Err(Errno::EBADF),
+        }
+    }
 }

@@ -6,10 +6,10 @@ use crate::room::Room;
 use std::alloc::{AllocError, Global};
 use std::marker::Model;
 
-/// The messages that wait for a socket, one after another, in memory that it has from the start. A contract sees the
-/// messages, the oldest first.
+/// The messages that wait for a socket, or that one has read, one after another, in memory that it has from the start. A
+/// contract sees the messages, the oldest first.
 #[derive(Drop)]
-pub(crate) struct Queue {
+pub struct Queue {
     bytes: Vec<u8>,
 }
 
@@ -25,8 +25,8 @@ impl Model for Queue {
 }
 
 impl Queue {
-    /// A queue without a message, with all the memory that it will have.
-    pub(crate) fn new(alloc: Global) -> Result<Queue, AllocError>
+    /// A queue without a message, with all the memory that it will have. `Err` where there is none.
+    pub fn new(alloc: Global) -> Result<Queue, AllocError>
         ensures { IfOk result (λ queue. queue ≡ []) }
     {
         Ok(Queue {
@@ -57,5 +57,22 @@ impl Queue {
         ensures empty { self.new ≡ [] }
     {
         room.exchange(&mut self.bytes)
+    }
+
+    /// The bytes of its messages: whole messages, one after another.
+    pub fn as_bytes(&self) -> &[u8]
+        ensures whole { AreMessages result.now }
+        ensures messages { cut result.now ≡ self.now }
+    {
+        &self.bytes
+    }
+
+    /// Moves all messages into another queue, whose own are lost: the memory of the two is exchanged.
+    pub(crate) fn move_to(&mut self, other: &mut Queue)
+        ensures messages { other.new ≡ self.old }
+        ensures empty { self.new ≡ [] }
+    {
+        other.bytes.clear();
+        std::mem::swap(&mut self.bytes, &mut other.bytes);
     }
 }

@@ -98,6 +98,14 @@ impl Socket {
     {
         self.queue.take(room)
     }
+
+    /// Moves its messages into a queue, whose own are lost.
+    pub(crate) fn move_to(&mut self, queue: &mut Queue)
+        ensures messages { queue.new ≡ self.old.queue }
+        ensures empty { seen self.new ≡ emptied (seen self.old) }
+    {
+        self.queue.move_to(queue);
+    }
 }
 
 /// The place of the socket with this id.

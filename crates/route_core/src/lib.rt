@@ -26,7 +26,7 @@ mod written;
 pub use answer::{Answer, Choice};
 pub use command::{Command, Said};
 pub use if_addrs::{Kind, LinkAddress};
-pub use listeners::{Room, first_message};
+pub use listeners::{Queue, Room, first_message};
 pub use received::Received;
 pub use route_entries::Route;
 pub use route_ops::NewGateway;

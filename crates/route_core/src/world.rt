@@ -1,13 +1,13 @@
 ghost use Rattle.std.specs.Prelude.{◌≡◌, ◌≤◌, length, IfOk};
 ghost use Rattle.route_ops.specs.Standing.{brought};
-ghost use Rattle.route_core.specs.Tried.{answer_to as answer_of};
+ghost use Rattle.route_core.specs.Tried.{answer_to as answer_of, read_or_refused};
 ghost use Rattle.route_core.specs.World.{empty_world};
 ghost use Rattle.route_core.specs.Step.{IsStep, Steps, effect};
 ghost use Rattle.route_core.specs.declared.command.Command.TheVariants.{Attach, Close, Loopback, Lost, Open, Read};
 
 use crate::replies::ReplyBuffer;
 use crate::tried::{answer_to, done_or_refused};
-use crate::{Answer, Command, Kind, LinkAddress, Received, Room, Said};
+use crate::{Answer, Command, Kind, LinkAddress, Queue, Received, Room, Said};
 use if_addrs::Interfaces;
 use listeners::Listeners;
 use radix_tree::Table;
@@ -149,6 +149,15 @@ impl World {
     {
         let bytes = self.listeners.take(id, room)?;
         Ok(Answer::Messages(Received::lent(bytes), None))
+    }
+
+    /// Takes the messages that a socket has heard, as `take` does, but moves them into `queue`, whose own are lost. EBADF:
+    /// it isn't open. It wants no memory.
+    #[tactic(auto, unfolding(crate::specs::Step::effect))]
+    pub fn move_to(&mut self, id: Name, queue: &mut Queue) -> Result<(), Errno>
+        ensures { IsStep self.old (Read id) (read_or_refused result queue.new) self.new }
+    {
+        self.listeners.move_to(id, queue)
     }
 
     /// How many messages a socket has lost since it was opened. EBADF: it isn't open. It wants no memory.
