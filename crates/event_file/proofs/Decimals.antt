@@ -1,15 +1,50 @@
 -- A word is read as a decimal where some number prints as it.
-use Rattle.std.proofs.Common.{◌≡◌, ◌<◌, ◌≤◌, ◌^◌, ◌∙◌, ℕ, Bool, true, cond, ◌&&◌, List, length, ap, arith, nat_le, bytes_eq, decimal, Option, Some, None}
-use Rattle.std.specs.Str.Parse.{digits_value}
-use Rattle.std.specs.Str.{IsUtf8}
-use Rattle.std.proofs.lemmas.Str.{IsUtf8-from_ascii}
-use Rattle.std.proofs.lemmas.Fmt.{IsAscii-decimal, decimal_is_IsNumeral, length-decimal-le}
+use Rattle.std.proofs.Common.{◌≡◌, ◌<◌, ◌≤◌, ◌^◌, ◌*◌, ◌+◌, ◌%◌, ◌∙◌, ℕ, zero, suc, Bool, true, cond, ◌&&◌, List, length, get_or, ap, sym, subst, arith, nat_le, bytes_eq, decimal, pow-suc, Option, Some, None}
+use Rattle.std.specs.Char.{digit_value}
+use Rattle.std.specs.Str.Parse.{AllDigits, digits_value}
+use Rattle.std.proofs.lemmas.Fmt.{decimal-digits_value, decimal_is_IsNumeral, decimal_nonempty, first_decimal, length-decimal-le, length-decimal-le_succ}
 use Rattle.std.proofs.lemmas.Slice.Eq.{bytes_eq-Decides}
+use Rattle.std.proofs.lemmas.Str.{digit_value_digit}
+use Rattle.std.proofs.lemmas.Str.Parse.{numerals_by_value, tells_digits}
 use Rattle.event_file.specs.Words.{number_to}
 
--- what a number prints as is text
-pub printed_is_text : (n : ℕ) (word : List ℕ) → n < 2 ^ 32 → word ≡ decimal n → IsUtf8 word
-printed_is_text n word small e = rw e (IsUtf8-from_ascii (decimal n) (IsAscii-decimal n (omega arith)))
+-- ---- the words that numbers print as
+
+-- they have digits alone, at least one and at most ten, and the first of several isn't 0
+pub printed_digits : (n : ℕ) (word : List ℕ) → n < 2 ^ 32 → word ≡ decimal n → AllDigits 10 word
+printed_digits n word small e = subst (AllDigits 10) (sym e) (decimal_is_IsNumeral n (omega arith)).0.1
+
+pub printed_some : (n : ℕ) (word : List ℕ) → n < 2 ^ 32 → word ≡ decimal n → 0 < length word
+printed_some n word small e = omega (arith, ap length e, decimal_nonempty n (omega arith))
+
+pub printed_short : (n : ℕ) (word : List ℕ) → n < 2 ^ 32 → word ≡ decimal n → length word ≤ 10
+printed_short n word small e = omega (arith, ap length e, length-decimal-le 10 n (omega arith) (omega arith) (omega arith))
+
+pub printed_lead : (n : ℕ) (word : List ℕ) → n < 2 ^ 32 → word ≡ decimal n → get_or word 0 0 ≡ 48 → length word ≤ 1
+printed_lead zero word small e lead = omega (arith, ap length e, length-decimal-le_succ 0 (omega arith))
+printed_lead (suc m) word small e lead =
+    let first : 48 < get_or (decimal (suc m)) 0 0 = first_decimal (suc m) (omega arith) (omega arith) in
+    absurd (omega (arith, lead, ap (λ w. get_or w 0 0) e, first))
+
+-- such digits are what their number prints as
+pub digits_printed : (word : List ℕ) → AllDigits 10 word → 0 < length word → (get_or word 0 0 ≡ 48 → length word ≡ 1) → digits_value 10 word < 2 ^ 64 → word ≡ decimal (digits_value 10 word)
+digits_printed word digits some lead small = sym (decimal-digits_value (numerals_by_value _ tells_digits) word digits some lead small)
+
+-- they write that number
+pub printed_value : (n : ℕ) (word : List ℕ) → n < 2 ^ 32 → word ≡ decimal n → digits_value 10 word ≡ n
+printed_value n word small e = ap (λ (w : List ℕ). digits_value 10 w) e ∙ (decimal_is_IsNumeral n (omega arith)).1
+
+-- ---- digits, one after another
+
+-- the byte that stands so far behind `0` is the digit
+pub digit_is : (byte : ℕ) → byte < 256 → (byte + 208) % 256 ≤ 9 → digit_value byte ≡ (byte + 208) % 256
+digit_is byte fits small = omega (arith, digit_value_digit byte (omega (arith, small)))
+
+pub one_more_digit : (number digit at : ℕ) → number < 10 ^ at → digit ≤ 9 → 10 * number + digit < 10 ^ (at + 1)
+one_more_digit number digit at small few =
+    let next : 10 ^ (at + 1) ≡ 10 ^ at * 10 = ap (λ (k : ℕ). 10 ^ k) (omega arith) ∙ pow-suc 10 at in omega (arith, next)
+
+-- ---- a number up to a bound
 
 -- the number n, where it is at most so many and the test of its text passes
 abbrev chosen : ℕ → ℕ → Bool → ℕ → Option ℕ
@@ -23,14 +58,12 @@ stays most len n same h = grind arith
 
 read_as : (most n : ℕ) (word : List ℕ) → n < 2 ^ 32 → word ≡ decimal n → number_to most word ≡ chosen most (length word) (bytes_eq word (decimal n)) n
 read_as most n word small e =
-    let value : digits_value 10 word ≡ n = ap (λ (w : List ℕ). digits_value 10 w) e ∙ (decimal_is_IsNumeral n (omega arith)).1 in
-    ap (λ (k : ℕ). chosen most (length word) (bytes_eq word (decimal k)) k) value
+    ap (λ (k : ℕ). chosen most (length word) (bytes_eq word (decimal k)) k) (printed_value n word small e)
 
 -- a number up to the bound is read from what it prints as
 pub printed_read : (most n : ℕ) (word : List ℕ) → most < 2 ^ 32 → n ≤ most → word ≡ decimal n → number_to most word ≡ Some n
 printed_read most n word room small e =
-    let short : length word ≤ 10 = rw e (length-decimal-le 10 n (omega arith) (omega arith) (omega arith)) in
-    read_as most n word (omega arith) e ∙ passes most (length word) n _ short small ((bytes_eq-Decides word (decimal n)).1 e)
+    read_as most n word (omega arith) e ∙ passes most (length word) n _ (printed_short n word (omega arith) e) small ((bytes_eq-Decides word (decimal n)).1 e)
 
 -- a number past the bound is not
 pub larger_refused : (most n : ℕ) (word : List ℕ) → n < 2 ^ 32 → most < n → word ≡ decimal n → number_to most word ≡ None

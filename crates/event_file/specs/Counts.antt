@@ -1,4 +1,4 @@
--- A reader or a writer with its two counts, how they rise, and the least room of a read.
+-- A reader or a writer with its counts, how they rise, the least room of a read, and whether what was written is flushed.
 use Rattle.std.specs.Prelude.{ℕ, ◌+◌, ◌-◌, ◌^◌, ◌==◌, ◌&&◌, not, min, cond, Bool, true, false, List, length, Result, Ok, Err}
 
 -- what a contract sees of a `Counted`
@@ -7,6 +7,10 @@ pub record Counts (T : Type 0) : Type 0 where
   pub reads : ℕ
   pub failures : ℕ
   pub least_room : ℕ
+  -- the reads that came while something that was written may not have been flushed
+  pub early_reads : ℕ
+  -- something was written since the last flush
+  pub unflushed : Bool
 
 -- a count after one more; one that has reached u64::MAX stays there
 abbrev pub one_more : ℕ → ℕ
@@ -25,3 +29,8 @@ read_failed (Err e) = true
 abbrev pub write_failed : {E : Type 0} → Result ℕ E → List ℕ → Bool
 write_failed (Ok n) bytes = n == 0 && not (length bytes == 0)
 write_failed (Err e) bytes = true
+
+-- a flush fails where it answers an error
+abbrev pub flush_failed : {E : Type 0} → Result (Unit {0}) E → Bool
+flush_failed (Ok n) = false
+flush_failed (Err e) = true

@@ -1,24 +1,47 @@
 ghost use Rattle.std.specs.Prelude.{◌≡◌, ◌≢◌, ◌≤◌, ◌<◌, ◌-◌, ◌^◌, ◌++◌, ℕ, decimal, length, map, replicate};
 ghost use Rattle.hex.specs.Hex.{decode_of};
 ghost use Rattle.std.specs.Option.{IfSome, MatchOption};
+ghost use Rattle.std.specs.Str.Parse.{AllDigits, digits_value};
 ghost use Rattle.event_file.specs.Words.{decoded, number_to, protocol_number_of, protocol_of, hex_number_of, inet_of_parts, inet_of};
 
 use crate::words::{is, parted};
-use itoa::Buffer;
 use mask_table::Prefix;
 use sock_addrs::Inet;
-use std::str;
 
-/// The number of 32 bits that prints as this word.
+/// What the digits of a word of at most ten write, or `None` where it has another byte.
+fn read_digits(word: &[u8]) -> Option<u64>
+    requires { length word.now ≤ 10 }
+    ensures { MatchOption result (AllDigits 10 word.now → ⊥)
+        (λ n. AllDigits 10 word.now × (n ≡ digits_value 10 word.now)) }
+{
+    let mut number = 0;
+    let mut at = 0;
+    while at < word.len() {
+        let digit = word[at].wrapping_sub(b'0');
+        if digit > 9 {
+            return None;
+        }
+        number = 10 * number + u64::from(digit);
+        at += 1;
+    }
+    Some(number)
+}
+
+/// The number of 32 bits that prints as this word: of one to ten digits, of which the first of several isn't 0.
 fn printed_as(word: &[u8]) -> Option<u32>
     ensures { MatchOption result ((n : ℕ) → n < 2 ^ 32 → word.now ≢ decimal n) (λ n. word.now ≡ decimal n) }
 {
-    let number = str::from_utf8(word).ok()?.parse::<u32>().ok()?;
-    let mut buffer = Buffer::new();
-    if buffer.format(number).as_bytes() != word {
+    if word.is_empty() || word.len() > 10 {
         return None;
     }
-    Some(number)
+    if word[0] == b'0' && word.len() > 1 {
+        return None;
+    }
+    let number = read_digits(word)?;
+    if number > u64::from(u32::MAX) {
+        return None;
+    }
+    Some(number as u32)
 }
 
 /// A decimal up to `most`, without leading zeros.

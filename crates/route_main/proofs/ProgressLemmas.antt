@@ -337,3 +337,38 @@ done_of_all outcome before after old new p is = bad_of_all before after old new 
 pub bad_line_of_all : (outcome : Outcome) (before after old new : Option (List ℕ)) → Ends outcome before after old new → outcome ≡ BadLine
     → IfSome before (λ script. has_bad_line (answered_lines script) ≡ true)
 bad_line_of_all outcome before after old new p is = bad_of_all before after old new true (subst (λ (o : Outcome). Ends o before after old new) is p)
+
+-- ---- a writer that is flushed
+
+pub Appends-kept : (a b c : Option (List ℕ)) (t : List ℕ) → Appends a b t → Keeps b c → Appends a c t
+Appends-kept None b c t p k = tt
+Appends-kept (Some xs) None c t p k = absurd (p)
+Appends-kept (Some xs) (Some ys) None t p k = absurd (k)
+Appends-kept (Some xs) (Some ys) (Some zs) t p k = k ∙ p
+
+pub Answers-kept : {a b : Standing} {c d e : Option (List ℕ)} {l : List (Option (List ℕ))} → Answers a b c d l → Keeps d e → Answers a b c e l
+Answers-kept {a} {b} {c} {d} {e} {l} p k = record { written = p.written; appends = Appends-kept c d e p.written p.appends k; answered = p.answered; bad = p.bad }
+
+pub StopsWithin-kept : {a b : Standing} {c d e : Option (List ℕ)} {l : List (Option (List ℕ))} → Answers a b c d l → Keeps d e → StopsWithin a c e l
+StopsWithin-kept {a} {b} {c} {d} {e} {l} p k = record {
+  written = p.written;
+  unwritten = [];
+  last = b.world;
+  appends = Appends-kept c d e p.written p.appends k;
+  answered = subst (λ t. Answered a.world l t b.world) (sym (append-nil p.written)) p.answered;
+}
+
+pub Progress-kept : {a b : Standing} {c d e : Option (List ℕ)} {read : List ℕ} {line : Line} → Progress a b c d read line → Keeps d e → Progress a b c e read line
+Progress-kept p k = record { answers = Answers-kept p.answers k; line_is = p.line_is }
+
+pub Reached-kept : {to : Standing} {before after old new next : Option (List ℕ)} {line : Line} → Reached to before after old new line → Keeps new next → Reached to before after old next line
+Reached-kept r k = record { read = r.read; consumes = r.consumes; progress = Progress-kept r.progress k }
+
+pub Ends-flush_fault : {s : Standing} {before after c d e : Option (List ℕ)} {l : Line} → Reached s before after c d l → Keeps d e → Ends WriteFault before after c e
+Ends-flush_fault {s} {before} {after} {c} {d} {e} {l} p k =
+    let stop = StopsWithin-kept p.progress.answers k in
+    record {
+      read = p.read;
+      consumes = p.consumes;
+      front = inl (record { written = stop.written; unwritten = stop.unwritten; appends = stop.appends; transcript = (stop.last, stop.answered) });
+    }

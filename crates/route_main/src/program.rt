@@ -10,11 +10,15 @@ mod words;
 use crate::run::{Outcome, run};
 use event_file::Counted;
 pub(crate) use refusal::{Refusal, refusal_status, refusal_text};
-use std::io::Read;
+use std::io::{BufWriter, Read};
 use std::rt::Files;
 use std::{fs, io};
 use words::file_named;
 pub(crate) use words::words_of;
+
+/// The most bytes of a transcript that are kept back until they are written at once: those of one read's lines are
+/// seldom more.
+const WRITE_ROOM: usize = 65_536;
 
 /// Runs the script that these words name: the words come first, then the opening of FILE, then the run.
 pub(crate) fn run_words<R: Files + Input + Print + AllocGlobal>(
@@ -33,9 +37,16 @@ pub(crate) fn run_words<R: Files + Input + Print + AllocGlobal>(
     }
 }
 
-/// Runs a script, and writes its transcript to standard output.
+/// Runs a script, and writes its transcript to standard output, as much as a read's lines make at once. After a fault
+/// nothing more is written: what was kept back goes with the buffer.
 fn run_over<R: Print + AllocGlobal, S: Read + Drop>(rt: &R, script: S) -> Outcome {
+    let Ok(kept_back) = BufWriter::with_capacity(rt.alloc(), WRITE_ROOM, io::writer(rt)) else {
+        return Outcome::NoMemory;
+    };
     let mut reader = Counted::new(script);
-    let mut writer = Counted::new(io::writer(rt));
-    run(rt.alloc(), &mut reader, &mut writer)
+    let mut writer = Counted::new(kept_back);
+    let outcome = run(rt.alloc(), &mut reader, &mut writer);
+    // a buffer that is dropped would be written
+    let _ = writer.into_inner().into_parts();
+    outcome
 }

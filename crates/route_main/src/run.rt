@@ -24,7 +24,7 @@ const MOST_READS: u64 = 16_777_216;
 const READ_ROOM: usize = 4096;
 
 /// Reads a script, and writes its transcript: each line is answered, and its answer written, before the next is
-/// looked at. The run itself takes memory at the start alone; a command that wants some and gets none is answered
+/// looked at; what was written is flushed before each read and at the end. The run itself takes memory at the start alone; a command that wants some and gets none is answered
 /// `err 55`. A last line without a newline is answered at the end of the script, but not where a read fault comes
 /// first.
 pub(crate) fn run<R: Read, W: Write>(
@@ -57,6 +57,10 @@ pub(crate) fn run<R: Read, W: Write>(
     ensures most_reads { MOST_READS ≡ 16777216 }
     ensures room { READ_ROOM ≤ reader.old.least_room → READ_ROOM ≤ reader.new.least_room }
     ensures read_room { READ_ROOM ≡ 4096 }
+
+    // Before each read all that was answered is flushed, and at the end too.
+    ensures prompt { writer.old.unflushed ≡ false → reader.new.early_reads ≡ reader.old.early_reads }
+    ensures flushed { writer.old.unflushed ≡ false → result ≢ Outcome.WriteFault → writer.new.unflushed ≡ false }
     ensures reads_needed { IfSome (R.remaining reader.old.inner) (λ script. reader.new.reads ≤ length script + 1) }
 
     // A run goes on as long as no read and no write fails, and a fault comes only where one failed, or the reads are
@@ -127,6 +131,8 @@ fn answer_script<R: Read, W: Write>(
     ensures reads { reader.new.reads ≤ MOST_READS }
     ensures reads_needed { IfSome (R.remaining reader.old.inner) (λ script. reader.new.reads ≤ length script + 1) }
     ensures room { READ_ROOM ≤ reader.old.least_room → READ_ROOM ≤ reader.new.least_room }
+    ensures prompt { writer.old.unflushed ≡ false → reader.new.early_reads ≡ reader.old.early_reads }
+    ensures flushed { writer.old.unflushed ≡ false → result ≢ Outcome.WriteFault → writer.new.unflushed ≡ false }
     ensures unfailed { IsAnswered result → (reader.new.failures ≡ 0) × (writer.new.failures ≡ 0) }
     ensures read_fault { result ≡ Outcome.ReadFault → (reader.new.failures ≡ 1) ⊎ ((reader.new.reads ≡ MOST_READS)
         × IfSome (R.remaining reader.old.inner) (λ script. MOST_READS ≤ length script)) }
@@ -136,13 +142,16 @@ fn answer_script<R: Read, W: Write>(
     ensures begun { result ≢ Outcome.NoMemory }
 {
     for _turn in 0..MOST_READS {
-        let Ok(taken) = reader.read(chunk) else {
+        let Ok(taken) = reader.read_behind(writer, chunk) else {
             return Outcome::ReadFault;
         };
         if taken == 0 {
             return answerer.finish(line, writer);
         }
         let Ok(()) = answerer.answer_bytes(line, &chunk[..taken], writer) else {
+            return Outcome::WriteFault;
+        };
+        let Ok(()) = writer.flush() else {
             return Outcome::WriteFault;
         };
     }

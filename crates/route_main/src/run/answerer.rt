@@ -107,16 +107,17 @@ impl Answerer {
         Ok(taken)
     }
 
-    /// Answers what has come of a line at the end of the script, and says how the run ended.
+    /// Answers what has come of a line at the end of the script, flushes the writer, and says how the run ended.
     pub(super) fn finish<W: Write>(&mut self, line: &LineBuffer, writer: &mut Counted<W>) -> Outcome
         requires no_failure { writer.old.failures ≡ 0 }
         ensures ends { Finishes result self.old (W.contents writer.old.inner) (W.contents writer.new.inner) line.now }
         ensures unfailed { IsAnswered result → writer.new.failures ≡ 0 }
         ensures write_fault { result ≡ Outcome.WriteFault → writer.new.failures ≡ 1 }
         ensures read { result ≢ Outcome.ReadFault }
+        ensures flushed { result ≢ Outcome.WriteFault → writer.new.unflushed ≡ false }
         ensures begun { result ≢ Outcome.NoMemory }
     {
-        if self.answer_last(line, writer).is_err() {
+        if self.end(line, writer).is_err() {
             return Outcome::WriteFault;
         }
         if self.has_bad {
@@ -142,6 +143,24 @@ impl Answerer {
         if line.pending() {
             self.answer(line.line(), writer)?;
         }
+        Ok(())
+    }
+
+    /// Answers what has come of a line, where at least one byte has, and flushes the writer.
+    fn end<W: Write>(&mut self, line: &LineBuffer, writer: &mut Counted<W>) -> Result<(), Stopped>
+        requires no_failure { writer.old.failures ≡ 0 }
+        ensures ok { OnOk result (Answers self.old self.new (W.contents writer.old.inner) (W.contents writer.new.inner)
+            (answered_of line.now.text)) }
+        ensures no_failure { OnOk result (writer.new.failures ≡ 0) }
+        ensures flushed { OnOk result (writer.new.unflushed ≡ false) }
+        ensures err { OnErr result (StopsWithin self.old (W.contents writer.old.inner) (W.contents writer.new.inner)
+            (answered_of line.now.text)) }
+        ensures failure { OnErr result (writer.new.failures ≡ 1) }
+    {
+        self.answer_last(line, writer)?;
+        let Ok(()) = writer.flush() else {
+            return Err(Stopped);
+        };
         Ok(())
     }
 

@@ -1,5 +1,5 @@
 use Rattle.std.proofs.Common.{arith, rules}
-use Rattle.route_main.proofs.ProgressLemmas.{Ends-write_fault, HasRead-more, Reached-read}
+use Rattle.route_main.proofs.ProgressLemmas.{Ends-flush_fault, Ends-write_fault, HasRead-more, Reached-kept, Reached-read}
 use Rattle.route_main.proofs.run.answer_script.Goals as goal
 
 pub returns-in_default-answer_bytes-clause-ends : goal.returns-in_default-answer_bytes-clause-ends
@@ -12,6 +12,11 @@ loop-turn-preserved g c = record {
   no_write_failure = search rules;
   room = grind arith;
   unended = search rules;
-  reached = Reached-read c.loop-turn.invariant.reached c.in-Ok.ensures.bytes.0 c.in-Ok-answer_bytes.ensures.ok;
+  prompt = search rules;
+  flushed = search rules;
+  reached = Reached-kept (Reached-read c.loop-turn.invariant.reached c.in-Ok.ensures.bytes.0 c.in-Ok-answer_bytes.ensures.ok) c.flush.ensures.bytes;
   many = HasRead-more c.in-Ok.taken _ c.loop-turn.invariant.many c.in-Ok.ensures.bytes.0 c.in-Ok.ensures.bound.0 c.if-taken-eq0.false;
 }
+
+pub returns-in_default-flush-clause-ends : goal.returns-in_default-flush-clause-ends
+returns-in_default-flush-clause-ends g c = Ends-flush_fault (Reached-read c.loop-turn.invariant.reached c.in-Ok.ensures.bytes.0 c.in-Ok-answer_bytes.ensures.ok) c.flush.ensures.bytes

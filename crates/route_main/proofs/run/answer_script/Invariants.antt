@@ -9,6 +9,8 @@ invariant-loop-turn g l = record {
   no_read_failure : l.reader.failures ≡ 0;
   no_write_failure : l.writer.failures ≡ 0;
   room : READ_ROOM ≤ l.initial.reader.least_room → READ_ROOM ≤ l.reader.least_room;
+  prompt : l.initial.writer.unflushed ≡ false → l.reader.early_reads ≡ l.initial.reader.early_reads;
+  flushed : l.initial.writer.unflushed ≡ false → l.writer.unflushed ≡ false;
   unended : l.line.ended ≡ false;
   reached : Reached l.answerer (g.R.Read.remaining l.initial.reader.inner) (g.R.Read.remaining l.reader.inner)
       (g.W.Write.contents l.initial.writer.inner) (g.W.Write.contents l.writer.inner) l.line;
