@@ -10,6 +10,7 @@ pub mod LineLemmas
 pub mod ManyWords
 pub mod MessageLines
 pub mod PrintedWords
+pub mod PutMessages
 pub mod ReadForms
 pub mod ReadRoutes
 pub mod ReadWords

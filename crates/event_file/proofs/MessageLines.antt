@@ -11,7 +11,7 @@ use Rattle.event_file.proofs.Fronts.{Wrote-then, WroteFront-then, WroteFront-mor
 abbrev pub lines : List (List ℕ) → List ℕ
 lines messages = flat_map message_line messages
 
-lines-append : (ms ns : List (List ℕ)) → lines (ms ++ ns) ≡ lines ms ++ lines ns
+pub lines-append : (ms ns : List (List ℕ)) → lines (ms ++ ns) ≡ lines ms ++ lines ns
 lines-append ms ns = flat_map-append message_line ms ns
 
 -- of the messages of the bytes, those before the rest were written

@@ -60,6 +60,30 @@ abbrev pub response_text : Result Answer Bad → List ℕ
 response_text (Ok answer) = answer_text answer
 response_text (Err bad) = codes "bad\n"
 
+-- ---- in two parts
+
+-- the messages that a response shows
+abbrev pub messages_in : Result Answer Bad → List (List ℕ)
+messages_in (Ok (Messages messages left_out)) = messages
+messages_in (Ok Done) = []
+messages_in (Ok (Refused errno)) = []
+messages_in (Ok (Routed choice)) = []
+messages_in (Ok (Dropped choice)) = []
+messages_in (Ok (Size size)) = []
+messages_in (Err bad) = []
+
+-- the line behind them
+abbrev pub closing_line : Result Answer Bad → List ℕ
+closing_line (Ok (Messages messages left_out)) = last_line left_out
+closing_line (Ok Done) = codes "ok\n"
+closing_line (Ok (Refused errno)) = refusal_line (errno_number errno)
+closing_line (Ok (Routed choice)) = choice_line (codes "via") choice
+closing_line (Ok (Dropped choice)) = choice_line (codes "drop") choice
+closing_line (Ok (Size size)) = size_line size
+closing_line (Err bad) = codes "bad\n"
+
+-- ---- a law
+
 -- every response's text ends in a newline
 abbrev pub ResponsesEndInANewline : Type 0
 ResponsesEndInANewline =

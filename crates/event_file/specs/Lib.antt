@@ -1,5 +1,6 @@
 pub mod Answers
 pub mod Counts
+pub mod Given
 pub mod Grammar
 pub mod Lines
 pub mod Output

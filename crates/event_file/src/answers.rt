@@ -99,7 +99,7 @@ fn write_choice<W: Write>(
 }
 
 /// The line of a refusal.
-fn refusal(errno: Errno) -> ArrayVec<u8, 16>
+pub(crate) fn refusal(errno: Errno) -> ArrayVec<u8, 16>
     ensures { result.items ≡ refusal_line (errno_number errno) }
 {
     let mut digits = itoa::Buffer::new();
@@ -112,7 +112,7 @@ fn refusal(errno: Errno) -> ArrayVec<u8, 16>
 }
 
 /// The line of a size: how many bytes to ask for a dump, or how many messages were lost.
-fn size_line(size: u64) -> ArrayVec<u8, 32>
+pub(crate) fn size_line(size: u64) -> ArrayVec<u8, 32>
     ensures { result.items ≡ line_of_size size }
 {
     let mut digits = itoa::Buffer::new();

@@ -1,6 +1,7 @@
 //! A script's lines and the answers to them: bytes in, commands; answers, bytes out.
 #![tactic(auto)]
 
+mod answer_text;
 mod answers;
 mod bad;
 mod choices;
@@ -15,10 +16,11 @@ mod route_words;
 mod texts;
 mod words;
 
+pub use answer_text::give_text;
 pub use answers::{TEXT_ROOM, write_answer};
 pub use bad::Bad;
 pub use counted::Counted;
 pub use grammar::{read_line, read_said};
-pub use line_buffer::LineBuffer;
+pub use line_buffer::{LineBuffer, is_passed};
 pub use output::Stopped;
 pub use route_words::{MetricWords, RouteWords, Verb, compose};

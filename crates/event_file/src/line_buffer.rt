@@ -1,5 +1,5 @@
 ghost use Rattle.std.specs.Prelude.{◌≡◌, ◌≤◌, ◌+◌, false, length, position, IfOk, IfSome, cond, option_copied};
-ghost use Rattle.event_file.specs.Lines.{Line, after_bytes, extended, first_line, has_newline, is_begun, is_newline, no_line};
+ghost use Rattle.event_file.specs.Lines.{Line, after_bytes, extended, first_line, has_newline, is_begun, is_newline, is_passed as passes, kept, no_line};
 
 use std::alloc::{AllocError, Global};
 use std::marker::Model;
@@ -104,6 +104,13 @@ impl LineBuffer {
         }
         self.bytes.extend_from_slice(bytes).unwrap();
     }
+}
+
+/// Whether a line, without its newline, gives no answer: an empty one, or one that begins with `#` and is not too long.
+pub fn is_passed(line: &[u8]) -> bool
+    ensures { result ≡ passes (kept line.now) }
+{
+    line.len() <= LONGEST_LINE && matches!(line, [] | [b'#', ..])
 }
 
 /// The place of the first newline.
