@@ -1,0 +1,360 @@
+/*
+ * The routing core of 4.4BSD-Lite for IPv4, proved, for C and C++: worlds of interfaces, addresses, routes and routing
+ * sockets, each of which does what docs/MODEL.md's machine does.
+ *
+ *     static const uint8_t link[] = {8, 0, 0x20, 1, 2, 3};
+ *     hk_world world = HK_CLOSED;
+ *     hk_route route;
+ *     if (!hk_open(&world) && !hk_attach(&world, "le0", HK_BROADCAST, 6, link, sizeof link)
+ *         && !hk_add_address(&world, "le0", HK_ADDRESS(10, 0, 0, 1), 8, true, false, 0)
+ *         && !hk_packet(&world, HK_ADDRESS(10, 9, 9, 9), &route))
+ *         printf("out of interface %d\n", route.index);
+ *     hk_close(&world);
+ *
+ * THE ANSWER of a call is 0 (HK_OK), or the errno by which the machine refuses the command: 4.4BSD's number, whatever
+ * the host's <errno.h> has. Each call tells its errnos in the order in which they are looked for; the first that
+ * holds is answered. Beyond those:
+ *
+ *   HK_EINVAL   The world is closed, or a parameter spells no command: a name or an id that isn't of 1 to 8 bytes, or
+ *               what a call says besides. Nothing has changed then, not even the last answer.
+ *   HK_ENOBUFS  There was no memory. The world is as it was and no socket has heard of it; made again, the call
+ *               answers as it would have. Only the calls that name it can answer it, and it comes behind their other
+ *               errnos where these don't say otherwise.
+ *
+ * NAMES, of interfaces, and IDS, of sockets, are bytes of any value; lines, and routesim, take `a` to `z` and `0` to
+ * `9` alone. The functions whose names end in _n take them counted. Behind them stand inline functions without the _n,
+ * which take them as C strings and are the same but for that.
+ *
+ * ADDRESSES are numbers, 10.0.0.1 being 0x0a000001, in the order of the host: no htonl. MESSAGES are the bytes of a
+ * 32-bit machine that stores the highest byte first (docs/FORMATS.md).
+ *
+ * WHAT THE CALLER OWES, and nothing checks:
+ *
+ *   - A world begins as HK_CLOSED. From then on its field is the library's alone: nobody else writes it, and of two
+ *     copies at most one is used.
+ *   - A pointer to a struct or a number is to one; a pointer to bytes, with their number behind it, is to that many,
+ *     fewer than 2^63. Those that are const stay as they are while the call runs, the others are the call's alone. No
+ *     pointer is NULL, also where the number is 0. No two parameters of a call overlap, unless both are const.
+ *   - A bool is 0 or 1.
+ *   - A world is in one call at a time. It may go from thread to thread. Two worlds share nothing, and may be in calls
+ *     at the same time.
+ *   - malloc, realloc and free are one allocator, which aligns a block of 16 bytes or more to 16. No call is made in a
+ *     signal handler, nor in the forked child of a process with threads.
+ *
+ * All else is proved, of the compiled library's source: no call reads or writes beyond what it was given, none hangs
+ * or aborts, none leaks, and each does what stands here.
+ */
+#ifndef HOISKEND_H
+#define HOISKEND_H
+
+#include <stdbool.h>
+#include <stddef.h>
+#include <stdint.h>
+#include <string.h>
+
+#ifdef __cplusplus
+extern "C" {
+#endif
+
+typedef struct hk_world {
+	void *core;
+} hk_world;
+
+/* What a world begins as. */
+#define HK_CLOSED { NULL }
+
+/* The number of an address. */
+#define HK_ADDRESS(a, b, c, d) ((uint32_t)(a) << 24 | (uint32_t)(b) << 16 | (uint32_t)(c) << 8 | (uint32_t)(d))
+
+/* The answers. */
+enum {
+	HK_OK = 0,
+	HK_ESRCH = 3,
+	HK_ENXIO = 6,
+	HK_EBADF = 9,
+	HK_ENOMEM = 12,
+	HK_EEXIST = 17,
+	HK_EINVAL = 22,
+	HK_EMFILE = 24,
+	HK_ENOSPC = 28,
+	HK_EMSGSIZE = 40,
+	HK_EPROTONOSUPPORT = 43,
+	HK_EOPNOTSUPP = 45,
+	HK_EADDRINUSE = 48,
+	HK_EADDRNOTAVAIL = 49,
+	HK_ENETUNREACH = 51,
+	HK_ENOBUFS = 55,
+	HK_ETOOMANYREFS = 59,
+	HK_EHOSTUNREACH = 65,
+	/* hk_line was given a line that the grammar doesn't have. */
+	HK_BAD = 256
+};
+
+/* The text of an answer, and of any number. */
+static inline const char *hk_strerror(uint32_t code)
+{
+	switch (code) {
+	case HK_OK: return "Done";
+	case HK_ESRCH: return "No such route";
+	case HK_ENXIO: return "No such interface";
+	case HK_EBADF: return "No such socket";
+	case HK_ENOMEM: return "The buffer is too small";
+	case HK_EEXIST: return "It is there already";
+	case HK_EINVAL: return "A malformed request";
+	case HK_EMFILE: return "Too many sockets";
+	case HK_ENOSPC: return "Too many interfaces or addresses";
+	case HK_EMSGSIZE: return "A message that is too long";
+	case HK_EPROTONOSUPPORT: return "A message of another version";
+	case HK_EOPNOTSUPP: return "A message of another type";
+	case HK_EADDRINUSE: return "The address is in use";
+	case HK_EADDRNOTAVAIL: return "No such address on the interface";
+	case HK_ENETUNREACH: return "The gateway can't be reached";
+	case HK_ENOBUFS: return "No memory";
+	case HK_ETOOMANYREFS: return "No route with that mask";
+	case HK_EHOSTUNREACH: return "No route to the host";
+	case HK_BAD: return "A line that is no command";
+	default: return "No answer of Hoiskend";
+	}
+}
+
+/* ---- worlds ---- */
+
+/* Opens an empty world. HK_EEXIST: it is open, and stays as it is. HK_ENOBUFS: it stays closed. */
+uint32_t hk_open(hk_world *world);
+
+/* Frees all that the world has, and closes it. A closed one stays closed. */
+void hk_close(hk_world *world);
+
+/* ---- interfaces and their addresses ---- */
+
+/* The kinds of interfaces. */
+enum { HK_BROADCAST = 0, HK_LOOPBACK = 1, HK_POINTOPOINT = 2 };
+
+/*
+ * Attaches an interface of this name and kind. `type` is its number of <net/if_types.h>, 6 that of Ethernet; `link` its
+ * link-layer address. Interfaces are numbered from 1.
+ *
+ * HK_EINVAL: more than 8 bytes in `link`, or another kind than those three. HK_EEXIST: there is one of this name.
+ * HK_ENOSPC: there are 64. HK_ENOBUFS.
+ */
+uint32_t hk_attach_n(hk_world *world, const uint8_t *name, size_t name_n, uint8_t kind, uint8_t type,
+                     const uint8_t *link, size_t link_n);
+
+/*
+ * Gives an interface an address with a mask of `prefix` bits, adds the route that comes with it, which clones where
+ * `cloning`, and tells the sockets of both. `far` is the address of the other end where `has_far`, and nothing else.
+ *
+ * HK_EINVAL: a prefix of more than 32. HK_ENXIO: no such interface. HK_EINVAL: another end on an interface that isn't
+ * HK_POINTOPOINT, or none on one that is. HK_EADDRINUSE: an interface has this address. HK_ENOSPC: 65,535 addresses
+ * were added since the world began. HK_ENOBUFS. HK_EEXIST: there is that route already; the address is kept without it.
+ */
+uint32_t hk_add_address_n(hk_world *world, const uint8_t *name, size_t name_n, uint32_t address, uint8_t prefix,
+                          bool cloning, bool has_far, uint32_t far);
+
+/*
+ * Removes an address, and the route that came with it, and tells the sockets of both; docs/FORMATS.md (`unaddr`) says
+ * when the route stays, and nothing is told.
+ *
+ * HK_ENXIO: no such interface. HK_EADDRNOTAVAIL: it doesn't have this address.
+ */
+uint32_t hk_remove_address_n(hk_world *world, const uint8_t *name, size_t name_n, uint32_t address);
+
+/* ---- routing sockets ---- */
+
+/*
+ * Opens a routing socket of this process, which hears the messages of all families where `protocol` is 0, and else
+ * those of this family, as HK_AF_INET, and those of none.
+ *
+ * HK_EEXIST: there is one with this id. HK_EMFILE: there are 64. HK_ENOBUFS.
+ */
+uint32_t hk_listen_n(hk_world *world, const uint8_t *id, size_t id_n, uint32_t pid, uint8_t protocol);
+
+/* Closes a socket; what it has heard goes with it. HK_EBADF: no such socket. */
+uint32_t hk_shut_n(hk_world *world, const uint8_t *id, size_t id_n);
+
+/* Whether the socket hears the replies to its own writes, which it does at first. HK_EBADF: no such socket. */
+uint32_t hk_loopback_n(hk_world *world, const uint8_t *id, size_t id_n, bool on);
+
+/* The most bytes of a message that is written, and the most that a write may offer. */
+enum { HK_MESSAGE_BYTES = 8192, HK_WRITE_BYTES = 8246 };
+
+/*
+ * Writes a message to a socket: a request to add, delete, change, lock or show a route. What was done, and what was
+ * refused, is told to the sockets that hear its family.
+ *
+ * HK_EINVAL: more than HK_WRITE_BYTES. HK_EBADF: no such socket. HK_EMSGSIZE: more than HK_MESSAGE_BYTES. HK_EINVAL: no
+ * whole header, or it says another length. HK_EPROTONOSUPPORT: another version than 3. HK_EINVAL: an address of the
+ * message overruns it, the destination is not there, or an address is malformed. HK_EOPNOTSUPP: a type that asks for
+ * nothing. HK_EINVAL: RTM_ADD without a gateway. HK_ESRCH: a destination that is no IPv4 address. Then, of RTM_ADD,
+ * HK_ENETUNREACH (no interface leads to the gateway), HK_EEXIST (the route is there) and HK_ENOBUFS; of RTM_DELETE and
+ * RTM_GET, HK_ESRCH (there is no such route); of RTM_CHANGE and RTM_LOCK, HK_ESRCH (the destination has no route of its
+ * own) and HK_ETOOMANYREFS (none of these has the mask), and of RTM_CHANGE HK_ENOBUFS.
+ */
+uint32_t hk_write_n(hk_world *world, const uint8_t *id, size_t id_n, const uint8_t *message, size_t n);
+
+/* Takes all the messages that the socket has heard, for hk_fetch. HK_EBADF: no such socket. */
+uint32_t hk_read_n(hk_world *world, const uint8_t *id, size_t id_n);
+
+/*
+ * Puts into `lost` how many messages the socket has lost since it was opened: a message that doesn't fit into the 8,192
+ * bytes of its queue is lost to it alone. HK_EBADF: no such socket; `lost` stays.
+ */
+uint32_t hk_lost_n(hk_world *world, const uint8_t *id, size_t id_n, uint64_t *lost);
+
+/* ---- packets, redirects, routes that seem dead ---- */
+
+/* The families of gateways, and the rank of a host's route, which has no mask. */
+enum { HK_AF_INET = 2, HK_AF_LINK = 18, HK_HOST = 33 };
+
+/* The most bytes of a gateway that is a link-layer address, as a sockaddr_dl. */
+#define HK_LINK_BYTES 32
+
+typedef struct hk_route {
+	uint32_t key;                /* its destination */
+	uint32_t gateway;            /* its gateway's address, or 0 where that is no IPv4 address */
+	uint16_t index;              /* the number of the interface that it leaves by */
+	uint16_t flags;              /* RTF_.. of <net/route.h> */
+	uint8_t rank;                /* the bits of its mask, or HK_HOST */
+	uint8_t family;              /* of its gateway: HK_AF_INET or HK_AF_LINK */
+	bool drops;                  /* the packet is dropped without an error: RTF_BLACKHOLE */
+	uint8_t link_n;              /* how many bytes its gateway has in `link`: 0 where it is an IPv4 address */
+	uint8_t link[HK_LINK_BYTES]; /* its gateway's sockaddr_dl, and zeros behind it */
+} hk_route;
+
+/*
+ * The fast path: the route that a packet to this address takes, with its use counted. A route that clones first makes
+ * one for the address. Where the route is known, that is the look-up and nothing else: no text, no allocation.
+ *
+ * HK_EHOSTUNREACH: there is no route; the sockets hear RTM_MISS. HK_ENOBUFS: the route clones, and there is no memory.
+ * HK_ENETUNREACH, HK_EHOSTUNREACH: the route refuses packets (RTF_REJECT), as a network's or as a host's. Where the
+ * answer isn't HK_OK, `route` stays.
+ */
+uint32_t hk_packet(hk_world *world, uint32_t destination, hk_route *route);
+
+/*
+ * Follows an ICMP redirect that `author` sent: `destination` is to be reached by `gateway`. The sockets hear of it,
+ * also where it is refused, but for want of memory.
+ *
+ * HK_ENETUNREACH: the gateway is in no interface's network. HK_EINVAL: `author` isn't the gateway of the destination's
+ * route, or the new gateway is reached from another interface address than that. HK_EHOSTUNREACH: the new gateway is
+ * an address of the machine itself, or the route has no gateway and isn't the default one. HK_EEXIST: the destination
+ * has a host's route. HK_ENOBUFS may come in place of any of these.
+ */
+uint32_t hk_redirect(hk_world *world, uint32_t destination, uint32_t gateway, uint32_t author);
+
+/*
+ * Gives up the route of an address, as TCP does when nothing comes back: the sockets hear RTM_LOSING, and a route that
+ * a redirect made is removed. HK_EHOSTUNREACH: there is no route.
+ */
+uint32_t hk_losing(hk_world *world, uint32_t address);
+
+/* ---- dumps: of all routes, or where has_filter of those that have a flag of the filter ---- */
+
+/* Puts into `size` how many bytes to ask for: those of the dump and a tenth more. It is refused by nothing. */
+uint32_t hk_dump_size(hk_world *world, bool has_filter, uint32_t filter, uint64_t *size);
+
+/*
+ * Dumps the routes, in the order of the table, as many whole messages as fit into `room` bytes, for hk_fetch.
+ *
+ * HK_ENOBUFS. HK_ENOMEM: they don't all fit; those that do are there for hk_fetch.
+ */
+uint32_t hk_dump(hk_world *world, bool has_filter, uint32_t filter, uint32_t room);
+
+/* ---- lines ---- */
+
+/*
+ * Does what a line of a script says (docs/FORMATS.md has the grammar), without its newline, and answers as the call of
+ * that command would. An empty line and a comment are answered HK_OK, and their text is empty. HK_BAD: the grammar has
+ * no such line; the world stays, and the text is `bad`. So hk_line and hk_text are a whole routesim.
+ */
+uint32_t hk_line(hk_world *world, const uint8_t *line, size_t n);
+
+/* ---- what the last answer brought ---- */
+
+/*
+ * The messages of the last answer, one after another, each of which begins with its length (hk_message_length): answers
+ * how many bytes they have, and copies them to the front of `out` where they all fit into its n bytes. The rest of
+ * `out` stays, and so do the messages, until the next call but this and hk_text. Of an answer without messages, and of
+ * a closed world, 0.
+ */
+size_t hk_fetch(hk_world *world, uint8_t *out, size_t n);
+
+/*
+ * The text of the last answer, as hk_fetch gives messages: exactly the lines that routesim writes, each ended by a
+ * newline. The last answer is that of the last call that a world was given and that wasn't refused for its parameters.
+ */
+size_t hk_text(hk_world *world, uint8_t *out, size_t n);
+
+/* The length of a message, which its first two bytes say. */
+static inline size_t hk_message_length(const uint8_t *message)
+{
+	return (size_t)message[0] << 8 | message[1];
+}
+
+/* How many bytes hk_fetch and hk_text have to give. */
+static inline size_t hk_fetch_size(hk_world *world)
+{
+	uint8_t none;
+	return hk_fetch(world, &none, 0);
+}
+
+static inline size_t hk_text_size(hk_world *world)
+{
+	uint8_t none;
+	return hk_text(world, &none, 0);
+}
+
+/* ---- the same with names and ids as C strings ---- */
+
+static inline uint32_t hk_attach(hk_world *world, const char *name, uint8_t kind, uint8_t type, const uint8_t *link,
+                                 size_t link_n)
+{
+	return hk_attach_n(world, (const uint8_t *)name, strlen(name), kind, type, link, link_n);
+}
+
+static inline uint32_t hk_add_address(hk_world *world, const char *name, uint32_t address, uint8_t prefix, bool cloning,
+                                      bool has_far, uint32_t far)
+{
+	return hk_add_address_n(world, (const uint8_t *)name, strlen(name), address, prefix, cloning, has_far, far);
+}
+
+static inline uint32_t hk_remove_address(hk_world *world, const char *name, uint32_t address)
+{
+	return hk_remove_address_n(world, (const uint8_t *)name, strlen(name), address);
+}
+
+static inline uint32_t hk_listen(hk_world *world, const char *id, uint32_t pid, uint8_t protocol)
+{
+	return hk_listen_n(world, (const uint8_t *)id, strlen(id), pid, protocol);
+}
+
+static inline uint32_t hk_shut(hk_world *world, const char *id)
+{
+	return hk_shut_n(world, (const uint8_t *)id, strlen(id));
+}
+
+static inline uint32_t hk_loopback(hk_world *world, const char *id, bool on)
+{
+	return hk_loopback_n(world, (const uint8_t *)id, strlen(id), on);
+}
+
+static inline uint32_t hk_write(hk_world *world, const char *id, const uint8_t *message, size_t n)
+{
+	return hk_write_n(world, (const uint8_t *)id, strlen(id), message, n);
+}
+
+static inline uint32_t hk_read(hk_world *world, const char *id)
+{
+	return hk_read_n(world, (const uint8_t *)id, strlen(id));
+}
+
+static inline uint32_t hk_lost(hk_world *world, const char *id, uint64_t *lost)
+{
+	return hk_lost_n(world, (const uint8_t *)id, strlen(id), lost);
+}
+
+#ifdef __cplusplus
+}
+#endif
+
+#endif
