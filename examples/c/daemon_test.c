@@ -1,0 +1,224 @@
+/*
+ * The test of a routing daemon, as its author would write it: Hoiskend is the kernel. The daemon's requests are
+ * answered, a witness hears what any process would, a queue that nobody reads runs full, and memory runs out where the
+ * test wants it to.
+ *
+ *     cc daemon_test.c $(pkg-config --cflags --libs hoiskend) -Wl,--wrap=malloc,--wrap=realloc -o daemon_test
+ */
+#include <hoiskend.h>
+#include <stdio.h>
+#include <stdlib.h>
+
+/* ---- the daemon: it keeps routes in a kernel, which it reaches by two functions ---- */
+
+enum { HEADER = 76, INET = 16, MASK = 8, RTM_VERSION = 3, RTM_ADD = 1, RTM_GET = 4 };
+enum { RTA_DST = 1, RTA_GATEWAY = 2, RTA_NETMASK = 4 };
+enum { RTF_UP = 1, RTF_GATEWAY = 2, RTF_DONE = 0x40, RTF_STATIC = 0x800 };
+
+struct kernel {
+	void *state;
+	/* writes a message to the routing socket; answers 0 or an errno */
+	uint32_t (*write)(void *state, const uint8_t *message, size_t n);
+	/* reads the messages that have come; answers their bytes */
+	size_t (*read)(void *state, uint8_t *messages, size_t n);
+};
+
+struct daemon {
+	struct kernel kernel;
+	uint32_t seq, confirmed;
+};
+
+static void put(uint8_t *at, uint32_t number)
+{
+	for (int i = 0; i < 4; i++)
+		at[i] = (uint8_t)(number >> (24 - 8 * i));
+}
+
+static uint32_t get(const uint8_t *at)
+{
+	return HK_ADDRESS(at[0], at[1], at[2], at[3]);
+}
+
+static void put_inet(uint8_t *at, uint32_t address)
+{
+	at[0] = INET;
+	at[1] = HK_AF_INET;
+	put(at + 4, address);
+}
+
+/* Asks the kernel for a route to the network of this address with a mask of 24 bits. A kernel without memory is asked
+ * once more; a route that is there already is as good. */
+static uint32_t want_route(struct daemon *daemon, uint32_t network, uint32_t gateway)
+{
+	uint8_t add[HEADER + INET + INET + MASK] = {0, sizeof add, RTM_VERSION, RTM_ADD};
+	uint32_t code = 0;
+	put(add + 8, RTF_UP | RTF_GATEWAY | RTF_STATIC);
+	put(add + 12, RTA_DST | RTA_GATEWAY | RTA_NETMASK);
+	put(add + 20, ++daemon->seq);
+	put_inet(add + HEADER, network);
+	put_inet(add + HEADER + INET, gateway);
+	add[HEADER + INET + INET] = 4 + 3;
+	put(add + HEADER + INET + INET + 4, 0xffffff00);
+	for (int tries = 0; tries < 2; tries++) {
+		code = daemon->kernel.write(daemon->kernel.state, add, sizeof add);
+		if (code != HK_ENOBUFS)
+			break;
+	}
+	return code == HK_EEXIST ? 0 : code;
+}
+
+/* Counts the routes that the kernel says were added, by whomever. */
+static void hear(struct daemon *daemon)
+{
+	uint8_t messages[HK_MESSAGE_BYTES];
+	size_t n = daemon->kernel.read(daemon->kernel.state, messages, sizeof messages);
+	for (size_t at = 0; at < n; at += hk_message_length(messages + at))
+		daemon->confirmed += messages[at + 3] == RTM_ADD && get(messages + at + 24) == 0;
+}
+
+/* ---- the kernel of its test ---- */
+
+static uint32_t kernel_write(void *state, const uint8_t *message, size_t n)
+{
+	return hk_write((hk_world *)state, "rd", message, n);
+}
+
+static size_t kernel_read(void *state, uint8_t *messages, size_t n)
+{
+	hk_world *world = (hk_world *)state;
+	size_t came = hk_read(world, "rd") == HK_OK ? hk_fetch(world, messages, n) : 0;
+	return came <= n ? came : 0;
+}
+
+/* The allocation that is refused, counted from the next one; 0: none is. */
+static unsigned long refused;
+
+void *__real_malloc(size_t size);
+void *__real_realloc(void *block, size_t size);
+void *__wrap_malloc(size_t size);
+void *__wrap_realloc(void *block, size_t size);
+
+void *__wrap_malloc(size_t size)
+{
+	return refused > 0 && --refused == 0 ? NULL : __real_malloc(size);
+}
+
+void *__wrap_realloc(void *block, size_t size)
+{
+	return refused > 0 && --refused == 0 ? NULL : __real_realloc(block, size);
+}
+
+static int wrong;
+
+#define CHECK(holds) \
+	do { \
+		if (!(holds)) { \
+			printf("line %d: %s\n", __LINE__, #holds); \
+			wrong++; \
+		} \
+	} while (0)
+
+/* The smallest world: one interface with one address, the daemon's socket, and a witness that hears all. */
+static struct daemon start(hk_world *world)
+{
+	static const uint8_t link[] = {0x08, 0x00, 0x20, 0x01, 0x02, 0x03};
+	struct daemon daemon = {{world, kernel_write, kernel_read}, 0, 0};
+	CHECK(hk_open(world) == HK_OK);
+	CHECK(hk_attach(world, "le0", HK_BROADCAST, 6, link, sizeof link) == HK_OK);
+	CHECK(hk_add_address(world, "le0", HK_ADDRESS(10, 0, 0, 1), 8, true, false, 0) == HK_OK);
+	CHECK(hk_listen(world, "rd", 88, HK_AF_INET) == HK_OK);
+	CHECK(hk_listen(world, "witness", 101, 0) == HK_OK);
+	return daemon;
+}
+
+static void requests_are_answered(void)
+{
+	hk_world world = HK_CLOSED;
+	hk_route route;
+	uint8_t heard[HK_MESSAGE_BYTES];
+	struct daemon daemon = start(&world);
+
+	CHECK(want_route(&daemon, HK_ADDRESS(172, 16, 1, 0), HK_ADDRESS(10, 0, 0, 254)) == HK_OK);
+	hear(&daemon);
+	CHECK(daemon.confirmed == 1);
+
+	/* a packet takes the route */
+	CHECK(hk_packet(&world, HK_ADDRESS(172, 16, 1, 9), &route) == HK_OK);
+	CHECK(route.key == HK_ADDRESS(172, 16, 1, 0) && route.rank == 24);
+	CHECK(route.family == HK_AF_INET && route.gateway == HK_ADDRESS(10, 0, 0, 254));
+	CHECK(route.index == 1 && route.flags == (RTF_UP | RTF_GATEWAY | RTF_STATIC));
+
+	/* the witness hears the reply, with the daemon's pid and seq */
+	CHECK(hk_read(&world, "witness") == HK_OK);
+	CHECK(hk_fetch(&world, heard, sizeof heard) == HEADER + INET + INET + MASK);
+	CHECK(heard[3] == RTM_ADD && get(heard + 16) == 88 && get(heard + 20) == 1);
+	CHECK(get(heard + 8) == (RTF_UP | RTF_GATEWAY | RTF_DONE | RTF_STATIC));
+
+	/* what is there already is no fault to this daemon; a gateway out of reach is */
+	CHECK(want_route(&daemon, HK_ADDRESS(172, 16, 1, 0), HK_ADDRESS(10, 0, 0, 254)) == HK_OK);
+	CHECK(want_route(&daemon, HK_ADDRESS(172, 16, 2, 0), HK_ADDRESS(192, 168, 0, 1)) == HK_ENETUNREACH);
+	hk_close(&world);
+}
+
+/* The daemon doesn't read, and loses what the witness, who does, hears; after that it reads the table. */
+static void a_full_queue_loses(void)
+{
+	hk_world world = HK_CLOSED;
+	uint64_t lost, size;
+	uint8_t messages[HK_MESSAGE_BYTES * 4];
+	size_t heard = 0, n;
+	uint32_t routes = 0;
+	struct daemon daemon = start(&world);
+	for (uint32_t i = 0; i < 100; i++) {
+		CHECK(want_route(&daemon, HK_ADDRESS(172, 16, i, 0), HK_ADDRESS(10, 0, 0, 254)) == HK_OK);
+		CHECK(hk_read(&world, "witness") == HK_OK);
+		heard += hk_fetch_size(&world) / (HEADER + INET + INET + MASK);
+	}
+	CHECK(heard == 100);
+	CHECK(hk_lost(&world, "witness", &lost) == HK_OK && lost == 0);
+	hear(&daemon);
+	CHECK(daemon.confirmed == HK_MESSAGE_BYTES / (HEADER + INET + INET + MASK));
+	CHECK(hk_lost(&world, "rd", &lost) == HK_OK && lost == 100 - daemon.confirmed);
+
+	CHECK(hk_dump_size(&world, false, 0, &size) == HK_OK && size <= sizeof messages);
+	CHECK(hk_dump(&world, true, RTF_STATIC, (uint32_t)size) == HK_OK);
+	n = hk_fetch(&world, messages, sizeof messages);
+	for (size_t at = 0; at < n; at += hk_message_length(messages + at))
+		routes += messages[at + 3] == RTM_GET;
+	CHECK(routes == 100);
+	hk_close(&world);
+}
+
+/* Each allocation of a request is refused: nothing has changed and nobody has heard of it, and the daemon's second try
+ * does it. */
+static void memory_runs_out(void)
+{
+	hk_world world = HK_CLOSED;
+	hk_route route;
+	struct daemon daemon;
+	unsigned long call;
+	bool came = true;
+	for (call = 1; came; call++) {
+		daemon = start(&world);
+		refused = call;
+		CHECK(kernel_write(&world, (const uint8_t[1]){0}, 1) == HK_EINVAL && refused == call);
+		CHECK(want_route(&daemon, HK_ADDRESS(172, 16, 1, 0), HK_ADDRESS(10, 0, 0, 254)) == HK_OK);
+		came = refused == 0;
+		refused = 0;
+		hear(&daemon);
+		CHECK(daemon.confirmed == 1);
+		CHECK(hk_packet(&world, HK_ADDRESS(172, 16, 1, 9), &route) == HK_OK && route.rank == 24);
+		CHECK(hk_read(&world, "witness") == HK_OK && hk_fetch_size(&world) == HEADER + INET + INET + MASK);
+		hk_close(&world);
+	}
+	CHECK(call > 2);
+}
+
+int main(void)
+{
+	requests_are_answered();
+	a_full_queue_loses();
+	memory_runs_out();
+	puts(wrong ? "the daemon's test fails" : "the daemon's test passes");
+	return wrong != 0;
+}
