@@ -1,0 +1,33 @@
+//! The routing core of 4.4BSD-Lite for IPv4, proved: worlds of interfaces, addresses, routes and routing sockets.
+//!
+//! A [`World`] is told what happens, and tells what a kernel would: the route that a packet takes, the messages that
+//! each routing socket hears. It does exactly what Hoiskend's machine on plain lists does, which is proved of the
+//! library below this package, or answers [`Errno::ENOBUFS`] and has changed nothing.
+//!
+//! ```
+//! use hoiskend::{Kind, World};
+//! use std::net::Ipv4Addr;
+//!
+//! # fn main() -> Result<(), hoiskend::Errno> {
+//! let mut world = World::new()?;
+//! world.attach("le0", Kind::Broadcast, 6, &[8, 0, 0x20, 1, 2, 3])?;
+//! world.add_address("le0", Ipv4Addr::new(10, 0, 0, 1), 8, true, None)?;
+//! let route = world.packet(Ipv4Addr::new(10, 9, 9, 9))?;
+//! assert_eq!((route.index, route.prefix), (1, None));
+//! # Ok(())
+//! # }
+//! ```
+//!
+//! Messages are the bytes of a 32-bit machine that stores the highest byte first; Hoiskend's docs/FORMATS.md has them.
+#![deny(unsafe_code, missing_docs)]
+
+mod errno;
+mod messages;
+mod route;
+mod sys;
+mod world;
+
+pub use errno::{Errno, LineError};
+pub use messages::{Dump, Messages};
+pub use route::{Gateway, LinkAddress, Route};
+pub use world::{Kind, Socket, World};

@@ -1,0 +1,75 @@
+//! The route that a packet takes.
+use crate::sys;
+use std::fmt;
+use std::net::Ipv4Addr;
+
+/// The route that a packet takes.
+#[derive(Clone, Copy, Debug, PartialEq, Eq, Hash)]
+pub struct Route {
+    /// Its destination.
+    pub key: Ipv4Addr,
+    /// The bits of its mask, or `None` where it is a host's and has none.
+    pub prefix: Option<u8>,
+    /// The gateway that it leads to.
+    pub gateway: Gateway,
+    /// The number of the interface that it leaves by, from 1.
+    pub index: u16,
+    /// RTF_.. of <net/route.h>.
+    pub flags: u16,
+    /// Whether the packet is dropped without an error (RTF_BLACKHOLE).
+    pub drops: bool,
+}
+
+/// The gateway of a route.
+#[derive(Clone, Copy, Debug, PartialEq, Eq, Hash)]
+pub enum Gateway {
+    /// An IPv4 address.
+    Inet(Ipv4Addr),
+    /// A link-layer address.
+    Link(LinkAddress),
+}
+
+/// A link-layer address as a message writes it (`sockaddr_dl`): 8 to 32 bytes.
+#[derive(Clone, Copy, PartialEq, Eq, Hash)]
+pub struct LinkAddress {
+    bytes: [u8; sys::LINK_BYTES],
+    n: u8,
+}
+
+impl LinkAddress {
+    /// Its bytes, of which the first is their number and the second the family, 18.
+    pub fn as_bytes(&self) -> &[u8] {
+        &self.bytes[..usize::from(self.n)]
+    }
+}
+
+impl fmt::Debug for LinkAddress {
+    fn fmt(&self, f: &mut fmt::Formatter<'_>) -> fmt::Result {
+        f.debug_tuple("LinkAddress")
+            .field(&self.as_bytes())
+            .finish()
+    }
+}
+
+/// What stands for the rank of a route without a mask.
+const HOST: u8 = 33;
+
+impl From<sys::Route> for Route {
+    fn from(route: sys::Route) -> Route {
+        let gateway = match route.family {
+            sys::AF_INET => Gateway::Inet(route.gateway.into()),
+            _ => Gateway::Link(LinkAddress {
+                bytes: route.link,
+                n: route.link_n,
+            }),
+        };
+        Route {
+            key: route.key.into(),
+            prefix: (route.rank != HOST).then_some(route.rank),
+            gateway,
+            index: route.index,
+            flags: route.flags,
+            drops: route.drops,
+        }
+    }
+}
