@@ -36,8 +36,8 @@
  *     fewer than 2^63. Those that are const stay as they are while the call runs, the others are the call's alone. No
  *     pointer is NULL, also where the number is 0. No two parameters of a call overlap, unless both are const.
  *   - A bool is 0 or 1.
- *   - A world is in one call at a time. It may go from thread to thread. Two worlds share nothing, and may be in calls
- *     at the same time.
+ *   - A world is in one call at a time. It may go from thread to thread, where a lock or the like orders that. Two
+ *     worlds share nothing, and may be in calls at the same time.
  *   - malloc, realloc and free are one allocator, which aligns a block of 16 bytes or more to 16. No call is made in a
  *     signal handler, nor in the forked child of a process with threads.
  *
@@ -131,13 +131,13 @@ void hk_close(hk_world *world);
 enum { HK_BROADCAST = 0, HK_LOOPBACK = 1, HK_POINTOPOINT = 2 };
 
 /*
- * Attaches an interface of this name and kind. `type` is its number of <net/if_types.h>, 6 that of Ethernet; `link` its
- * link-layer address. Interfaces are numbered from 1.
+ * Attaches an interface of this name and kind. `type_number` is that of <net/if_types.h>, 6 that of Ethernet; `link`
+ * its link-layer address. Interfaces are numbered from 1.
  *
  * HK_EINVAL: more than 8 bytes in `link`, or another kind than those three. HK_EEXIST: there is one of this name.
  * HK_ENOSPC: there are 64. HK_ENOBUFS.
  */
-uint32_t hk_attach_n(hk_world *world, const uint8_t *name, size_t name_n, uint8_t kind, uint8_t type,
+uint32_t hk_attach_n(hk_world *world, const uint8_t *name, size_t name_n, uint8_t kind, uint8_t type_number,
                      const uint8_t *link, size_t link_n);
 
 /*
@@ -306,10 +306,10 @@ static inline size_t hk_text_size(hk_world *world)
 
 /* ---- the same with names and ids as C strings ---- */
 
-static inline uint32_t hk_attach(hk_world *world, const char *name, uint8_t kind, uint8_t type, const uint8_t *link,
-                                 size_t link_n)
+static inline uint32_t hk_attach(hk_world *world, const char *name, uint8_t kind, uint8_t type_number,
+                                 const uint8_t *link, size_t link_n)
 {
-	return hk_attach_n(world, (const uint8_t *)name, strlen(name), kind, type, link, link_n);
+	return hk_attach_n(world, (const uint8_t *)name, strlen(name), kind, type_number, link, link_n);
 }
 
 static inline uint32_t hk_add_address(hk_world *world, const char *name, uint32_t address, uint8_t prefix, bool cloning,

@@ -36,7 +36,7 @@ extern "C" {
     fn hk_open(world: *mut World) -> u32;
     fn hk_close(world: *mut World);
     fn hk_attach_n(
-        world: *mut World, name: *const u8, name_n: usize, kind: u8, type_: u8, link: *const u8, link_n: usize,
+        world: *mut World, name: *const u8, name_n: usize, kind: u8, type_number: u8, link: *const u8, link_n: usize,
     ) -> u32;
     fn hk_add_address_n(
         world: *mut World, name: *const u8, name_n: usize, address: u32, prefix: u8, cloning: bool, has_far: bool,
@@ -68,8 +68,8 @@ pub(crate) struct Handle {
 // SAFETY: the library keeps nothing outside of a world, and nothing in one that belongs to a thread.
 unsafe impl Send for Handle {}
 
-// SAFETY of each call: `&mut self` is one call at a time on a world that nobody else writes; a slice is as many bytes as
-// it says, behind a pointer that isn't null also where they are none, and Rust keeps what is lent for writing apart.
+// SAFETY of each call: `&mut self` is one call at a time on a world that nobody else writes; a slice is as many bytes
+// as it says, behind a pointer that isn't null also where they are none, and Rust keeps what is lent for writing apart.
 impl Handle {
     pub(crate) fn closed() -> Handle {
         Handle {

@@ -1,0 +1,52 @@
+/*
+ * The heap of the library under test, which is linked with --wrap=malloc,--wrap=realloc,--wrap=free: it counts what the
+ * library asks for, and refuses where the test wants it. Worlds may be in calls of several threads.
+ */
+#include <stddef.h>
+
+/* Refuses the k-th allocation from now, or that and all later ones; 0: none. */
+unsigned long heap_refuse_at, heap_refuse_from;
+/* How many allocations were asked for, how many of these were refused, and how many blocks are there. */
+unsigned long heap_asked, heap_refused, heap_blocks;
+/* For the trial of the tests: keeps each fourth block that is freed; gives memory also where it was to be refused. */
+unsigned long heap_leaks, heap_deaf;
+
+static unsigned long frees;
+
+void *__real_malloc(size_t size);
+void *__real_realloc(void *block, size_t size);
+void __real_free(void *block);
+
+static int refused(void)
+{
+	__atomic_add_fetch(&heap_asked, 1, __ATOMIC_RELAXED);
+	if (heap_refuse_from > 1) {
+		heap_refuse_from--;
+	} else if (heap_refuse_from == 1 || (heap_refuse_at > 0 && --heap_refuse_at == 0)) {
+		heap_refused++;
+		return !heap_deaf;
+	}
+	return 0;
+}
+
+void *__wrap_malloc(size_t size)
+{
+	void *block = refused() ? NULL : __real_malloc(size);
+	__atomic_add_fetch(&heap_blocks, block != NULL, __ATOMIC_RELAXED);
+	return block;
+}
+
+void *__wrap_realloc(void *block, size_t size)
+{
+	void *moved = refused() ? NULL : __real_realloc(block, size);
+	__atomic_add_fetch(&heap_blocks, moved && !block, __ATOMIC_RELAXED);
+	return moved;
+}
+
+void __wrap_free(void *block)
+{
+	if (block && heap_leaks && __atomic_add_fetch(&frees, 1, __ATOMIC_RELAXED) % 4 == 0)
+		return;
+	__atomic_sub_fetch(&heap_blocks, block != NULL, __ATOMIC_RELAXED);
+	__real_free(block);
+}

@@ -1,0 +1,212 @@
+"""The library's functions in four places: the header, the crate, the declarations in Rust, and the archive's symbols;
+and its structs and errnos in three. All have to say the same."""
+import re
+import subprocess
+from dataclasses import dataclass, replace
+from pathlib import Path
+
+from pages import errnos_in_formats, Pages
+
+TOP = Path(__file__).resolve().parents[1]
+CRATE, RUST = TOP / "crates" / "hoiskend", TOP / "bindings" / "rust"
+
+# What the archive may want of a program, beside the heap.
+WANTED = {"malloc", "realloc", "free", "memcpy", "memmove", "memset", "memcmp", "bcmp"}
+NO_SYMBOL = {"_GLOBAL_OFFSET_TABLE_"}
+
+
+@dataclass(frozen=True)
+class Sources:
+    """The texts that are compared."""
+
+    header: str
+    crate: str
+    rust: str
+    rust_errnos: str
+    errnos: str
+
+    @staticmethod
+    def of_today():
+        crate = "".join(path.read_text() for path in sorted(CRATE.glob("src/*.rt")))
+        rust, rust_errnos = ((RUST / "src" / name).read_text() for name in ("sys.rs", "errno.rs"))
+        errnos = (TOP / "crates" / "sock_addrs" / "src" / "errno.rt").read_text()
+        return Sources((TOP / "include" / "hoiskend.h").read_text(), crate, rust, rust_errnos, errnos)
+
+
+def without_comments(text):
+    return re.sub(r"/\*.*?\*/|//[^\n]*", " ", text, flags=re.S)
+
+
+# ---- functions, each as its result and its parameters, which are pairs of a type of C and a name
+
+def split(parameters):
+    return [each.strip() for each in parameters.split(",") if each.strip()]
+
+
+def parameter_in_c(text):
+    kind, name = re.fullmatch(r"(.*?)(\w+)", text).groups()
+    return " ".join(kind.replace("*", " * ").split()), name
+
+
+def functions_in_header(header):
+    """Those that the archive has; the inline ones are defined in the header."""
+    text = re.sub(r"static inline[^{;]*\{.*?\n\}", "", without_comments(header), flags=re.S)
+    found = re.findall(r"^(\w+) (hk_\w+)\(([^)]*)\);", text, re.M)
+    return {name: (result, [parameter_in_c(each) for each in split(given)]) for result, name, given in found}
+
+
+NUMBERS = {"u8": "uint8_t", "u16": "uint16_t", "u32": "uint32_t", "u64": "uint64_t", "usize": "size_t", "bool": "bool"}
+IN_CRATE = {**NUMBERS, "&mut Handle": "hk_world *", "&mut Route": "hk_route *", "&mut u64": "uint64_t *"}
+IN_RUST = {
+    **NUMBERS, "*mut World": "hk_world *", "*mut Route": "hk_route *", "*mut u64": "uint64_t *",
+    "*const u8": "const uint8_t *", "*mut u8": "uint8_t *",
+}
+SLICES = {"&[u8]": "const uint8_t *", "&mut [u8]": "uint8_t *"}
+# The bytes that a call is about have their number in n, those that name something in one that is named so.
+COUNTED_BY_N = {"message", "line", "out"}
+
+
+def parameters_of(given, types):
+    """The parameters in Rust or Rattle as C sees them: a slice is two, and what has no bytes is none."""
+    made = []
+    for each in split(given):
+        name, kind = (part.strip() for part in each.split(":"))
+        if kind in SLICES:
+            made += [(SLICES[kind], name), ("size_t", "n" if name in COUNTED_BY_N else f"{name}_n")]
+        elif kind != "Global":
+            made.append((types.get(kind, kind), name))
+    return made
+
+
+def functions_in(text, begin, types):
+    found = re.findall(begin + r"fn (hk_\w+)\(([^)]*)\)(?: -> (\w+))?", without_comments(text))
+    return {name: (types.get(result, "void"), parameters_of(given, types)) for name, given, result in found}
+
+
+def functions_in_crate(crate):
+    return functions_in(crate, r'#\[unsafe\(no_mangle\)\]\s*pub extern "C" ', IN_CRATE)
+
+
+def functions_in_rust(rust):
+    return functions_in(re.search(r'extern "C" \{(.*?)\n\}', rust, re.S)[1], "", IN_RUST)
+
+
+# ---- the route, as the types and names of its fields
+
+def constant(text, name):
+    return int(re.search(rf"\b{name}\b(?:: \w+)?(?: =)? (\d+)", text)[1])
+
+
+def route_in_header(header):
+    fields = re.search(r"typedef struct hk_route \{(.*?)\}", without_comments(header), re.S)[1]
+    found = re.findall(r"(\w+) (\w+)(?:\[(\w+)\])?;", fields)
+    return [(kind, name, constant(header, size) if size else 1) for kind, name, size in found]
+
+
+def route_in(text):
+    fields = re.search(r"pub(?:\(crate\))? struct Route \{(.*?)\n\}", without_comments(text), re.S)[1]
+    found = re.findall(r"pub(?:\(crate\))? (\w+): (?:\[(\w+); (\w+)\]|(\w+)),", fields)
+    return [(NUMBERS[kind or of], name, constant(text, n) if n else 1) for name, of, n, kind in found]
+
+
+def as_bytes(route):
+    """A bool is a byte of 0 or 1."""
+    return [("uint8_t" if kind == "bool" else kind, name, n) for kind, name, n in route]
+
+
+# ---- errnos, each as its number and its text
+
+def errnos_in_crate(errnos):
+    found = re.findall(r"/// ([^\n]*)\.\n    (E[A-Z]+) = (\d+),", errnos)
+    return {name: (int(number), text) for text, name, number in found}
+
+
+def errnos_in_header(header):
+    texts = dict(re.findall(r'case HK_(E[A-Z]+): return "([^"]*)";', header))
+    found = re.findall(r"\bHK_(E[A-Z]+) = (\d+)", header)
+    return {name: (int(number), texts.get(name)) for name, number in found}
+
+
+def errnos_in_rust(text):
+    texts = dict(re.findall(r'\(\s*Errno::(E[A-Z]+),\s*"([^"]*)",?\s*\)', text))
+    return {name: (int(number), texts.get(name)) for name, number in re.findall(r"\b(E[A-Z]+) = (\d+),", text)}
+
+
+# ---- what is compared
+
+def differences(sources):
+    """What stands otherwise in one place than in another."""
+    header, crate = functions_in_header(sources.header), functions_in_crate(sources.crate)
+    numbers = {(str(number), name) for name, (number, _) in errnos_in_crate(sources.errnos).items()}
+    bad = {constant(sources.header, "HK_BAD"), constant(sources.rust, "BAD"), constant(sources.crate, "BAD")}
+    inline = {name + "_n" for name in re.findall(r"static inline uint32_t (hk_\w+)\(hk_world", sources.header)}
+    same = {
+        "functions of the header and the crate": header == crate != {},
+        "functions of the header and Rust": header == functions_in_rust(sources.rust),
+        "inline functions": inline == {name for name in header if name.endswith("_n")},
+        "the route": as_bytes(route_in_header(sources.header)) == as_bytes(route_in(sources.crate)) != [],
+        "the route in Rust": route_in_header(sources.header) == route_in(sources.rust),
+        "errnos of the header": errnos_in_header(sources.header) == errnos_in_crate(sources.errnos) != {},
+        "errnos in Rust": errnos_in_rust(sources.rust_errnos) == errnos_in_crate(sources.errnos),
+        "errnos of FORMATS": set(errnos_in_formats(Pages.of_today())) == numbers,
+        "the answer to a bad line": len(bad) == 1,
+    }
+    return [what for what, holds in same.items() if not holds]
+
+
+def compare_sources(sweep):
+    found = differences(Sources.of_today())
+    sweep.claim(f"what stands in two places: {', '.join(found)}", not found)
+
+
+# Slips of the pen, each in one place.
+SLIPS = [
+    ("header", "uint32_t hk_losing(hk_world *world, uint32_t address);", "functions of the header and the crate",
+     "uint32_t hk_losing(hk_world *world, uint64_t address);"),
+    ("header", "uint32_t hk_losing(hk_world *world, uint32_t address);", "functions of the header and Rust", ""),
+    ("header", "bool has_filter, uint32_t filter, uint32_t room", "functions of the header and the crate",
+     "uint32_t filter, bool has_filter, uint32_t room"),
+    ("header", "hk_fetch(hk_world *world, uint8_t *out", "functions of the header and the crate",
+     "hk_fetch(hk_world *world, const uint8_t *out"),
+    ("header", "size_t hk_text(", "functions of the header and the crate", "uint32_t hk_text("),
+    ("header", "static inline uint32_t hk_shut(hk_world", "inline functions", "static inline uint32_t hk_close_(hk_world"),
+    ("header", "\tuint16_t index;", "the route", "\tuint32_t index;"),
+    ("header", "#define HK_LINK_BYTES 32", "the route", "#define HK_LINK_BYTES 31"),
+    ("header", "HK_ENOSPC = 28,", "errnos of the header", "HK_ENOSPC = 29,"),
+    ("header", 'case HK_ENOSPC: return "Too', "errnos of the header", 'case HK_ENOSPC: return "To'),
+    ("header", "HK_BAD = 256", "the answer to a bad line", "HK_BAD = 255"),
+    ("crate", "pub extern \"C\" fn hk_redirect(\n    world: &mut Handle,\n    destination: u32,",
+     "functions of the header and the crate", "pub extern \"C\" fn hk_redirect(\n    world: &mut Handle,\n"),
+    ("crate", "    pub link_n: u8,\n", "the route", ""),
+    ("rust", "fn hk_losing(world: *mut World, address: u32) -> u32;", "functions of the header and Rust",
+     "fn hk_losing(world: *mut World, address: u64) -> u32;"),
+    ("rust", "fn hk_close(world: *mut World);", "functions of the header and Rust", ""),
+    ("rust", "    pub(crate) rank: u8,\n    pub(crate) family: u8,\n", "the route in Rust",
+     "    pub(crate) family: u8,\n    pub(crate) rank: u8,\n"),
+    ("rust_errnos", "    EMFILE = 24,", "errnos in Rust", "    EMFILE = 23,"),
+    ("errnos", "    ETOOMANYREFS = 59,", "errnos of FORMATS", "    ETOOMANYREFS = 60,"),
+]
+
+
+def notice_slips(sweep):
+    """The comparison notices each of these."""
+    for field, old, what, new in SLIPS:
+        sources = Sources.of_today()
+        text = getattr(sources, field)
+        found = differences(replace(sources, **{field: text.replace(old, new)}))
+        sweep.claim(f"a slip of the pen: {old} to {new}", text.count(old) == 1 and what in found)
+
+
+def symbols(archive, *words):
+    """The names of an archive's global symbols."""
+    told = subprocess.run(["nm", "-g", "-P", *words, archive], capture_output=True, text=True, check=True).stdout
+    return {line.split()[0] for line in told.splitlines() if len(line.split()) > 1}
+
+
+def compare_symbols(sweep):
+    """The archive has the functions of the header and nothing else, and wants of a program what every C program has."""
+    functions = set(functions_in_header(Sources.of_today().header))
+    has, wants = (symbols(sweep.archive, words) for words in ("--defined-only", "--undefined-only"))
+    sweep.claim(f"symbols of the archive, but {functions ^ has}", has == functions != set())
+    wants -= NO_SYMBOL
+    sweep.claim(f"what the archive wants, but {wants - WANTED}", "malloc" in wants <= WANTED)
