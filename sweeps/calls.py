@@ -1,5 +1,5 @@
-"""The library's calls from Python, by their prototypes in the header, and each line of a script by the call that has its
-command."""
+"""The library's calls from Python, by their prototypes in the header, and each line of a script by the call that has
+its command."""
 import ctypes
 import mmap
 import re

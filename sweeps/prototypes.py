@@ -169,7 +169,7 @@ SLIPS = [
     ("header", "hk_fetch(hk_world *world, uint8_t *out", "functions of the header and the crate",
      "hk_fetch(hk_world *world, const uint8_t *out"),
     ("header", "size_t hk_text(", "functions of the header and the crate", "uint32_t hk_text("),
-    ("header", "static inline uint32_t hk_shut(hk_world", "inline functions", "static inline uint32_t hk_close_(hk_world"),
+    ("header", "static inline uint32_t hk_shut(hk", "inline functions", "static inline uint32_t hk_shutdown(hk"),
     ("header", "\tuint16_t index;", "the route", "\tuint32_t index;"),
     ("header", "#define HK_LINK_BYTES 32", "the route", "#define HK_LINK_BYTES 31"),
     ("header", "HK_ENOSPC = 28,", "errnos of the header", "HK_ENOSPC = 29,"),

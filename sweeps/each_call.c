@@ -1,0 +1,45 @@
+/* Each function of the header once, in C11 and in C++11; what each answers is printed. */
+#include <hoiskend.h>
+#include <hoiskend.h>
+#include <stdio.h>
+
+#define ANSWERS(call) printf("%s: %s\n", #call, hk_strerror(call))
+
+int main(void)
+{
+	static const uint8_t link[] = {0x08, 0x00, 0x20, 0x01, 0x02, 0x03}, line[] = {'d', 'u', 'm', 'p', ' ', 'a', 's', 'k'};
+	const uint32_t address = HK_ADDRESS(10, 0, 0, 1), host = HK_ADDRESS(10, 9, 9, 9);
+	uint8_t out[HK_MESSAGE_BYTES] = {0};
+	uint64_t number = 0;
+	hk_route route;
+	hk_world w = HK_CLOSED;
+	ANSWERS(hk_losing(&w, host));
+	ANSWERS(hk_open(&w));
+	ANSWERS(hk_open(&w));
+	ANSWERS(hk_attach(&w, "le0", HK_BROADCAST, 6, link, sizeof link));
+	ANSWERS(hk_listen(&w, "a", 100, HK_AF_INET));
+	ANSWERS(hk_loopback(&w, "a", true));
+	ANSWERS(hk_add_address(&w, "le0", address, 8, true, false, 0));
+	ANSWERS(hk_packet(&w, host, &route));
+	printf("%d %d %d\n", route.rank == HK_HOST, route.family == HK_AF_INET, route.gateway == address);
+	ANSWERS(hk_dump_size(&w, false, 0, &number));
+	printf("%d bytes\n", (int)number);
+	ANSWERS(hk_dump(&w, false, 0, (uint32_t)number));
+	printf("%d bytes\n", (int)hk_fetch(&w, out, sizeof out));
+	ANSWERS(hk_redirect(&w, host, address, address));
+	ANSWERS(hk_losing(&w, host));
+	ANSWERS(hk_write(&w, "a", out, hk_message_length(out)));
+	ANSWERS(hk_lost(&w, "a", &number));
+	ANSWERS(hk_read(&w, "a"));
+	printf("%d bytes\n", (int)hk_fetch_size(&w));
+	ANSWERS(hk_line(&w, line, sizeof line));
+	printf("%d bytes of text\n", (int)hk_text_size(&w));
+	ANSWERS(hk_line(&w, line, 4));
+	printf("%.*s", (int)hk_text(&w, out, sizeof out), (const char *)out);
+	ANSWERS(hk_remove_address(&w, "le0", address));
+	ANSWERS(hk_shut(&w, "a"));
+	ANSWERS(hk_shut(&w, "a"));
+	ANSWERS(hk_attach(&w, "a long name", HK_LOOPBACK, 24, link, 0));
+	hk_close(&w);
+	return w.core != NULL;
+}
