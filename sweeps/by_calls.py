@@ -1,8 +1,9 @@
 """The examples by the library's calls: each gives its transcript, beside other worlds too, and with each allocation
 refused in turn."""
 import threading
+from dataclasses import replace
 
-from calls import NO_MEMORY, OK, Library, World
+from calls import NO_MEMORY, OK, World
 from memory import asks_in_vain
 from misuse import START
 from runs import answered_lines, answers
@@ -160,14 +161,14 @@ def jobs(examples):
 
 
 def trials(examples):
-    """What is wrong with the heap, and the sweep that has to notice it."""
+    """What is wrong, with the heap or with the example, and the sweep that has to notice it."""
     example = examples["one-get"]
+    other = replace(example, transcript=example.transcript.replace(b"ok\n", b"err 1\n", 1))
     yield "leaks", refuse_each, example
     yield "leaks", interleave, example, example
     yield "deaf", refuse_each, example
-
-
-def loaded(path, **wrong):
-    library = Library(path)
-    library.set(**wrong)
-    return library
+    yield "right", refuse_each, other
+    yield "right", tell_by_calls, other
+    yield "right", tell_by_lines, other
+    yield "right", interleave, example, other
+    yield "right", run_in_threads, [other] * THREADS
