@@ -26,10 +26,10 @@ def is_there(sweep, program, *words):
     """Whether a program can be used here; else what wants it is skipped, and told so."""
     found = shutil.which(program) is not None
     if found and words:
-        with tempfile.NamedTemporaryFile(suffix=".c") as empty, tempfile.NamedTemporaryFile() as made:
-            Path(empty.name).write_text("int main(void) { return 0; }\n")
-            tried = subprocess.run([program, *words, "-o", made.name, empty.name], capture_output=True)
-            found = tried.returncode == 0
+        with tempfile.TemporaryDirectory() as room:
+            source, made = Path(room, "empty.c"), Path(room, "empty")
+            source.write_text("int main(void) { return 0; }\n")
+            found = ran(program, *words, "-o", made, source)[1] == ran(made)[1] == 0
     if not found:
         sweep.skip(" ".join([program, *words]))
     return found
@@ -127,9 +127,11 @@ def run_all_examples(sweep, examples):
     sweep.claim("script.c of no file", ran(program, folder / "absent") == (b"", 4, b"routesim: read fault\n"))
     sweep.claim("script.c of a folder", ran(program, folder) == (b"", 4, b"routesim: read fault\n"))
     sweep.claim("script.c of two files", ran(program, path, path) == (b"", 2, b"routesim: usage\n"))
+    path.write_bytes(examples["one-get"].script)
     with open("/dev/full", "wb") as full:
         done = subprocess.run([program, path], stdout=full, stderr=subprocess.PIPE)
-    sweep.claim("script.c where nothing can be written", done.stderr in (b"routesim: write fault\n", b""))
+    told = done.returncode, done.stderr
+    sweep.claim("script.c where nothing can be written", told == (5, b"routesim: write fault\n"))
 
 
 def run_by_valgrind(sweep, examples):
