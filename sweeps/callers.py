@@ -232,4 +232,4 @@ def jobs(examples):
     yield run_all_examples, examples
     yield run_by_valgrind, examples
     yield from ((run_programs, compiler) for compiler in COMPILERS)
-    yield from ((job,) for job in (run_by_pkg_config, run_what_pages_show, compare_page, run_rust))
+    yield from ((job,) for job in (run_by_pkg_config, run_what_pages_show, run_rust))
