@@ -161,13 +161,14 @@ def jobs(examples):
 
 
 def trials(examples):
-    """What is wrong, with the heap or with the example, and the sweep that has to notice it."""
+    """What is wrong, with the heap, the library or the example, and the sweep that has to notice it."""
     example = examples["one-get"]
     other = replace(example, transcript=example.transcript.replace(b"ok\n", b"err 1\n", 1))
     yield "leaks", refuse_each, example
     yield "leaks", interleave, example, example
     yield "deaf", refuse_each, example
     yield "right", refuse_each, other
+    yield "shares", interleave, example, example
     yield "right", tell_by_calls, other
     yield "right", tell_by_lines, other
     yield "right", interleave, example, other

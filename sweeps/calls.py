@@ -44,6 +44,9 @@ class Library:
             function = getattr(self.loaded, name)
             function.restype, function.argtypes = TYPES[result], [TYPES[kind] for kind, _ in parameters]
 
+    def make(self, name, handle, *given):
+        return getattr(self.loaded, name)(ctypes.byref(handle), *given)
+
     def counter(self, name):
         return ctypes.c_ulong.in_dll(self.loaded, f"heap_{name}")
 
@@ -53,6 +56,37 @@ class Library:
     def set(self, **counters):
         for name, value in counters.items():
             self.counter(name).value = value
+
+
+class WrongLibrary(Library):
+    """The library made wrong, for the trial of the sweeps. `wrong` names what it does:
+
+    long-names    takes the first 8 bytes of a longer name
+    shares        has one world for all
+    reopens       opens an open world anew
+    scribbles     writes to the room of hk_fetch and hk_text also where it is too short
+    forgets       empties the last answer where a call is refused for its parameters
+    welcomes      answers a closed world 0
+    """
+
+    wrong, first = None, None
+
+    def make(self, name, handle, *given):
+        is_closed = handle.core is None
+        if self.wrong == "long-names" and name.endswith("_n"):
+            given = given[0], min(given[1], 8), *given[2:]
+        if self.wrong == "shares":
+            handle = self.first = self.first or handle
+            if name == "hk_open" and handle.core:
+                return OK
+        if self.wrong == "reopens" and name == "hk_open":
+            handle.core = None
+        if self.wrong == "scribbles" and name in ("hk_fetch", "hk_text"):
+            ctypes.memset(given[0], 0, given[1])
+        answer = super().make(name, handle, *given)
+        if self.wrong == "forgets" and answer == INVALID and not is_closed:
+            super().make("hk_line", handle, handle.core, 0)
+        return OK if self.wrong == "welcomes" and is_closed else answer
 
 
 PAGE = mmap.PAGESIZE
@@ -114,7 +148,7 @@ class World:
                 place += 1
             else:
                 made.append(each)
-        return getattr(self.library.loaded, name)(ctypes.byref(self.handle), *made)
+        return self.library.make(name, self.handle, *made)
 
     def open(self):
         return self.call("hk_open")

@@ -213,6 +213,17 @@ def worlds_lie_anywhere(sweep):
     sweep.claim("both leave nothing", library.get("blocks") == 0)
 
 
+def trials():
+    """What is wrong with the library, and the sweep that has to notice it."""
+    yield "long-names", name_of_each_length
+    yield "reopens", open_twice
+    yield "shares", worlds_lie_anywhere
+    yield "scribbles", fetch_into_each_room
+    yield "forgets", numbers_that_say_nothing
+    yield "forgets", name_of_each_length
+    yield "welcomes", call_closed_worlds
+
+
 def jobs():
     yield from ((job,) for job in (
         call_closed_worlds, open_twice, name_of_each_length, numbers_that_say_nothing, message_of_each_length,
