@@ -1,0 +1,2 @@
+pub mod CallsRun
+pub mod Memory

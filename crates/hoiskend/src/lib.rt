@@ -1,0 +1,16 @@
+//! The routing core for a program in C: a static library of functions over a handle. `include/hoiskend.h` has their types.
+#![tactic(auto)]
+
+mod asked;
+mod calls;
+mod codes;
+mod handle;
+pub mod laws;
+mod route;
+mod session;
+#[cfg(test)]
+mod tests;
+
+pub use codes::BAD;
+pub use handle::Handle;
+pub use route::{LINK_BYTES, Route};

@@ -1,0 +1,222 @@
+//! A world with what it answered last.
+ghost use Rattle.std.specs.Prelude.{◌≡◌, ◌-◌, ◌^◌, IfOk, Some, None, Ok, false, length, min, unwrap_or};
+ghost use Rattle.event_file.specs.Answers.{response_text};
+ghost use Rattle.event_file.specs.Given.{given};
+ghost use Rattle.listeners.specs.Queue.{joined};
+ghost use Rattle.route_core.specs.Step.{Steps};
+ghost use Rattle.route_core.specs.declared.answer.Answer.TheVariants.{Messages};
+ghost use Rattle.route_core.specs.declared.command.Command.TheVariants.{Packet, Read as ReadOf};
+ghost use Rattle.hoiskend.specs.Sessions.{fresh, Answers, Heeds, code_of as code, heard, is_read, route_in, size_in, text_of, told_by};
+
+use crate::codes::BAD;
+use crate::route::Route;
+use event_file::{Bad, give_text, is_passed, read_said};
+use route_core::{Answer, Command, MOST_WRITTEN, Queue, Received, Said, World};
+use sock_addrs::{Inet, Name};
+use std::alloc::{AllocError, Global};
+use std::marker::Model;
+
+/// A world, and what was answered last. A contract sees both.
+#[derive(Drop)]
+pub(crate) struct Session {
+    world: World,
+    /// The messages of the last read.
+    read: Queue,
+    last: Last,
+}
+
+/// What was answered last.
+#[derive(Drop)]
+enum Last {
+    /// Nothing was yet, or the last line gives no answer.
+    Nothing,
+    /// This, which is no read's.
+    Response(Result<Answer<'static>, Bad>),
+    /// The messages of a read.
+    Read,
+}
+
+impl Model for Session {
+    ghost use Rattle.hoiskend.specs.Sessions.{Session};
+    ghost use Rattle.hoiskend.specs.Last.{response_of};
+
+    ghost Value = { Session };
+
+    ghost view = { λ s. record { world = s.world; response = response_of s.read s.last } };
+}
+
+impl Session {
+    /// An empty world. `Err` where there is no memory for it.
+    pub(crate) fn new(alloc: Global) -> Result<Session, AllocError>
+        ensures { IfOk result (λ s. s ≡ fresh) }
+    {
+        Ok(Session {
+            world: World::new(alloc)?,
+            read: Queue::new(alloc)?,
+            last: Last::Nothing,
+        })
+    }
+
+    /// Gives the world a command, and answers its code: 0, or the errno of what refused it.
+    pub(crate) fn obey(&mut self, said: &Said<'_>) -> u32
+        ensures { Answers self.old.world said.now result self.new.response self.new.world }
+    {
+        if let Command::Read { id } = said {
+            return self.read(*id);
+        }
+        let answer = answer_to(&mut self.world, said);
+        self.keep(answer)
+    }
+
+    /// Finds the route of a packet, and puts it into `route`, where there is one. Answers as `obey`.
+    pub(crate) fn packet(&mut self, destination: Inet, route: &mut Route) -> u32
+        ensures step { Answers self.old.world (Packet destination) result self.new.response self.new.world }
+        ensures route { route.new ≡ unwrap_or (told_by route_in self.new.response) route.old }
+    {
+        let answer = self.world.packet(destination);
+        match &answer {
+            Answer::Routed(choice) => *route = Route::of(choice, false),
+            Answer::Dropped(choice) => *route = Route::of(choice, true),
+            _ => {}
+        }
+        self.keep(answer)
+    }
+
+    /// Gives the world a command, and puts the size that it is answered into `size`, where it is one. Answers as `obey`.
+    pub(crate) fn size(&mut self, said: &Said<'_>, size: &mut u64) -> u32
+        ensures step { Answers self.old.world said.now result self.new.response self.new.world }
+        ensures size { size.new ≡ unwrap_or (told_by size_in self.new.response) size.old }
+    {
+        let code = self.obey(said);
+        if let Last::Response(Ok(Answer::Size(told))) = &self.last {
+            *size = *told;
+        }
+        code
+    }
+
+    /// Takes a line of a script, without its newline, and answers the code of its command, as `obey`; 0 where it gives no
+    /// answer; or `BAD` where the grammar doesn't have it.
+    pub(crate) fn heed(&mut self, line: &[u8]) -> u32
+        ensures { Heeds self.old line.now result self.new }
+    {
+        if is_passed(line) {
+            self.last = Last::Nothing;
+            return 0;
+        }
+        let mut room = [0; MOST_WRITTEN];
+        match read_said(line, &mut room) {
+            Ok(said) => self.obey(&said),
+            Err(bad) => {
+                self.last = Last::Response(Err(bad));
+                BAD
+            }
+        }
+    }
+
+    /// Puts the bytes of the messages that were answered last to the front of `out`, where there is room for all of
+    /// them, and answers how many they are.
+    pub(crate) fn fetch(&self, out: &mut [u8]) -> usize
+        ensures size { result ≡ length (joined (heard self.now.response)) }
+        ensures bytes { out.new ≡ given (joined (heard self.now.response)) out.old }
+    {
+        let bytes = match &self.last {
+            Last::Response(Ok(Answer::Messages(received, _))) => received.as_bytes(),
+            Last::Read => self.read.as_bytes(),
+            _ => &[],
+        };
+        let size = bytes.len();
+        if size <= out.len() {
+            out[..size].copy_from_slice(bytes);
+        }
+        size
+    }
+
+    /// Puts the text of what was answered last to the front of `out`, where there is room for all of it, and answers how
+    /// many bytes it has, at most `usize::MAX`.
+    pub(crate) fn text(&self, out: &mut [u8]) -> usize
+        ensures size { result ≡ min (length (text_of self.now.response)) (2 ^ 64 - 1) }
+        ensures text { out.new ≡ given (text_of self.now.response) out.old }
+    {
+        match &self.last {
+            Last::Nothing => 0,
+            Last::Response(response) => give_text(response, out),
+            Last::Read => text_of_read(&self.read, out),
+        }
+    }
+
+    /// Takes the messages of a socket. Answers as `obey`.
+    fn read(&mut self, id: Name) -> u32
+        ensures { Answers self.old.world (ReadOf id) result self.new.response self.new.world }
+    {
+        match self.world.move_to(id, &mut self.read) {
+            Ok(()) => {
+                self.last = Last::Read;
+                0
+            }
+            Err(errno) => self.keep(Answer::Refused(errno)),
+        }
+    }
+
+    /// Keeps what was answered, and answers its code.
+    fn keep(&mut self, answer: Answer<'static>) -> u32
+        ensures code { result ≡ code answer.entry }
+        ensures kept { self.new ≡ record self.old { response = Some (Ok answer.entry) } }
+    {
+        let code = code_of(&answer);
+        self.last = Last::Response(Ok(answer));
+        code
+    }
+}
+
+/// Gives a world a command that is no read.
+fn answer_to(world: &mut World, said: &Said<'_>) -> Answer<'static>
+    requires { is_read said.now ≡ false }
+    ensures { Steps world.old said.now result world.new }
+{
+    match said {
+        Command::Attach {
+            name,
+            kind,
+            type_number,
+            link,
+        } => world.attach(*name, *kind, *type_number, *link),
+        Command::AddAddress {
+            name,
+            address,
+            prefix,
+            cloning,
+            far,
+        } => world.add_address(*name, *address, *prefix, *cloning, *far),
+        Command::RemoveAddress { name, address } => world.remove_address(*name, *address),
+        Command::Open { id, pid, protocol } => world.listen(*id, *pid, *protocol),
+        Command::Close { id } => world.shut(*id),
+        Command::Loopback { id, on } => world.set_loopback(*id, *on),
+        Command::Write { id, bytes } => world.write(*id, bytes.as_slice()),
+        Command::Read { .. } => unreachable!(),
+        Command::Lost { id } => world.lost(*id),
+        Command::Packet { destination } => world.packet(*destination),
+        Command::Redirect(asked) => world.redirect(asked),
+        Command::Losing { destination } => world.losing(*destination),
+        Command::DumpSize { filter } => world.dump_size(*filter),
+        Command::Dump { filter, room } => world.dump(*filter, *room),
+    }
+}
+
+/// Puts the text of a read's answer to the front of `out`, as `give_text`.
+fn text_of_read(read: &Queue, out: &mut [u8]) -> usize
+    ensures size { result ≡ min (length (response_text (Ok (Messages read.now None)))) (2 ^ 64 - 1) }
+    ensures text { out.new ≡ given (response_text (Ok (Messages read.now None))) out.old }
+{
+    let answer = Answer::Messages(Received::lent(read.as_bytes()), None);
+    give_text(&Ok(answer), out)
+}
+
+/// The number of an answer: 0, or the errno.
+fn code_of(answer: &Answer) -> u32
+    ensures { result ≡ code answer.now }
+{
+    match answer {
+        Answer::Refused(errno) | Answer::Messages(_, Some(errno)) => errno.number(),
+        _ => 0,
+    }
+}
