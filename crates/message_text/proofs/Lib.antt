@@ -1,0 +1,9 @@
+pub mod FieldsTold
+pub mod HeadersTold
+pub mod HexText
+pub mod Joined
+pub mod Numbers
+pub mod Onto
+pub mod Parting
+pub mod Padding
+pub mod Told

@@ -1,0 +1,6 @@
+pub mod Addresses
+pub mod Laws
+pub mod Names
+pub mod Rows
+pub mod Tables
+pub mod Texts

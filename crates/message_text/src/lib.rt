@@ -1,0 +1,15 @@
+//! Messages of the routing socket as people read them, in the way of `route -n monitor`: the fields of the header by
+//! their names, and each address on a line of its own. A text tells each field of its message's header.
+#![tactic(auto)]
+
+mod addresses;
+mod headers;
+pub mod laws;
+mod link;
+mod names;
+mod rows;
+#[cfg(test)]
+mod tests;
+mod texts;
+
+pub use texts::text_of;

@@ -1,0 +1,196 @@
+//! The names of types, errnos and bits.
+ghost use Rattle.std.specs.Prelude.{◌≡◌, ◌++◌, MatchOption, OnOk, IfOk, Some, None, true};
+ghost use Rattle.message_text.specs.Names.{address_names, errno_name as name_of_errno, errnos, flag_names, ifa_flag_names, first_after, high_flag_names, kind_text, kinds, low_flag_names, metric_names, name_among, name_of_bit, named, names, names_from, still_first};
+
+use itoa::Buffer;
+use route_msgs::bits::{
+    RTA_AUTHOR, RTA_BRD, RTA_DST, RTA_GATEWAY, RTA_GENMASK, RTA_IFA, RTA_IFP, RTA_NETMASK,
+};
+use route_msgs::flags::{
+    IFA_ROUTE, RTF_BLACKHOLE, RTF_CLONING, RTF_DONE, RTF_DYNAMIC, RTF_GATEWAY, RTF_HOST,
+    RTF_LLINFO, RTF_MASK, RTF_MODIFIED, RTF_PROTO1, RTF_PROTO2, RTF_REJECT, RTF_STATIC, RTF_UP,
+    RTF_XRESOLVE,
+};
+use route_msgs::inits::{
+    RTV_EXPIRE, RTV_HOPCOUNT, RTV_MTU, RTV_RPIPE, RTV_RTT, RTV_RTTVAR, RTV_SPIPE, RTV_SSTHRESH,
+};
+use route_msgs::kinds::{
+    RTM_ADD, RTM_CHANGE, RTM_DELADDR, RTM_DELETE, RTM_GET, RTM_LOCK, RTM_LOSING, RTM_MISS,
+    RTM_NEWADDR, RTM_REDIRECT, RTM_RESOLVE,
+};
+use std::alloc::AllocError;
+
+/// The types of <net/route.h> that no message is made of.
+const RTM_OLDADD: u8 = 9;
+
+const RTM_OLDDEL: u8 = 10;
+
+const RTM_IFINFO: u8 = 14;
+
+/// The name of a type, where it has one.
+fn kind_name(kind: u8) -> Option<&'static str>
+    ensures { MatchOption result (name_among kinds kind ≡ None) (λ name. name_among kinds kind ≡ Some name.now) }
+{
+    match kind {
+        RTM_ADD => Some("RTM_ADD"),
+        RTM_DELETE => Some("RTM_DELETE"),
+        RTM_CHANGE => Some("RTM_CHANGE"),
+        RTM_GET => Some("RTM_GET"),
+        RTM_LOSING => Some("RTM_LOSING"),
+        RTM_REDIRECT => Some("RTM_REDIRECT"),
+        RTM_MISS => Some("RTM_MISS"),
+        RTM_LOCK => Some("RTM_LOCK"),
+        RTM_OLDADD => Some("RTM_OLDADD"),
+        RTM_OLDDEL => Some("RTM_OLDDEL"),
+        RTM_RESOLVE => Some("RTM_RESOLVE"),
+        RTM_NEWADDR => Some("RTM_NEWADDR"),
+        RTM_DELADDR => Some("RTM_DELADDR"),
+        RTM_IFINFO => Some("RTM_IFINFO"),
+        _ => None,
+    }
+}
+
+/// Puts a type by its name, and one without a name by its number.
+pub(crate) fn put_kind(kind: u8, out: &mut Vec<u8>) -> Result<(), AllocError>
+    ensures { OnOk result (out.new.items ≡ out.old.items ++ kind_text kind) }
+{
+    match kind_name(kind) {
+        Some(name) => out.extend_from_slice(name.as_bytes()),
+        None => {
+            let mut digits = Buffer::new();
+            out.extend_from_slice(digits.format(kind).as_bytes())
+        }
+    }
+}
+
+/// The name of an errno, or `unknown`.
+pub(crate) fn errno_name(errno: u32) -> &'static str
+    ensures { result.now ≡ name_of_errno errno }
+{
+    match errno {
+        3 => "ESRCH",
+        6 => "ENXIO",
+        9 => "EBADF",
+        12 => "ENOMEM",
+        17 => "EEXIST",
+        22 => "EINVAL",
+        24 => "EMFILE",
+        28 => "ENOSPC",
+        40 => "EMSGSIZE",
+        43 => "EPROTONOSUPPORT",
+        45 => "EOPNOTSUPP",
+        48 => "EADDRINUSE",
+        49 => "EADDRNOTAVAIL",
+        51 => "ENETUNREACH",
+        55 => "ENOBUFS",
+        59 => "ETOOMANYREFS",
+        65 => "EHOSTUNREACH",
+        _ => "unknown",
+    }
+}
+
+/// Puts a bit's name where the bit is set, behind a comma where it isn't the first. Answers whether the next one is the
+/// first.
+#[tactic(auto, unfolding(crate::specs::Names::name_of_bit, crate::specs::Names::still_first))]
+fn put_name(
+    first: bool,
+    number: u32,
+    bit: u32,
+    name: &str,
+    out: &mut Vec<u8>,
+) -> Result<bool, AllocError>
+    ensures text { OnOk result (out.new.items ≡ out.old.items ++ name_of_bit first number (named bit name.now)) }
+    ensures first { IfOk result (λ next. next ≡ still_first first number (named bit name.now)) }
+{
+    if number & bit == 0 {
+        return Ok(first);
+    }
+    if !first {
+        out.push(b',')?;
+    }
+    out.extend_from_slice(name.as_bytes())?;
+    Ok(false)
+}
+
+/// Puts the names of the lower half of a route's flags. Answers whether none of them is set.
+#[tactic(auto, unfolding(crate::specs::Names::names_from, crate::specs::Names::first_after, crate::specs::Names::low_flag_names))]
+fn put_low_flag_names(flags: u32, out: &mut Vec<u8>) -> Result<bool, AllocError>
+    ensures text { OnOk result (out.new.items ≡ out.old.items ++ names_from true low_flag_names flags) }
+    ensures first { IfOk result (λ first. first ≡ first_after true low_flag_names flags) }
+{
+    let first = put_name(true, flags, u32::from(RTF_UP), "UP", out)?;
+    let first = put_name(first, flags, u32::from(RTF_GATEWAY), "GATEWAY", out)?;
+    let first = put_name(first, flags, u32::from(RTF_HOST), "HOST", out)?;
+    let first = put_name(first, flags, u32::from(RTF_REJECT), "REJECT", out)?;
+    let first = put_name(first, flags, u32::from(RTF_DYNAMIC), "DYNAMIC", out)?;
+    let first = put_name(first, flags, u32::from(RTF_MODIFIED), "MODIFIED", out)?;
+    let first = put_name(first, flags, u32::from(RTF_DONE), "DONE", out)?;
+    let first = put_name(first, flags, u32::from(RTF_MASK), "MASK", out)?;
+    Ok(first)
+}
+
+/// Puts the names of the others.
+#[tactic(auto, unfolding(crate::specs::Names::names_from, crate::specs::Names::high_flag_names))]
+fn put_high_flag_names(first: bool, flags: u32, out: &mut Vec<u8>) -> Result<(), AllocError>
+    ensures { OnOk result (out.new.items ≡ out.old.items ++ names_from first high_flag_names flags) }
+{
+    let first = put_name(first, flags, u32::from(RTF_CLONING), "CLONING", out)?;
+    let first = put_name(first, flags, u32::from(RTF_XRESOLVE), "XRESOLVE", out)?;
+    let first = put_name(first, flags, u32::from(RTF_LLINFO), "LLINFO", out)?;
+    let first = put_name(first, flags, u32::from(RTF_STATIC), "STATIC", out)?;
+    let first = put_name(first, flags, u32::from(RTF_BLACKHOLE), "BLACKHOLE", out)?;
+    let first = put_name(first, flags, u32::from(RTF_PROTO2), "PROTO2", out)?;
+    let _first = put_name(first, flags, u32::from(RTF_PROTO1), "PROTO1", out)?;
+    Ok(())
+}
+
+/// Puts the names of a route's flags.
+pub(crate) fn put_flag_names(flags: u32, out: &mut Vec<u8>) -> Result<(), AllocError>
+    ensures { OnOk result (out.new.items ≡ out.old.items ++ names flag_names flags) }
+{
+    let first = put_low_flag_names(flags, out)?;
+    put_high_flag_names(first, flags, out)?;
+    Ok(())
+}
+
+/// Puts the names of the flags of an interface's address.
+#[tactic(auto, unfolding(crate::specs::Names::names_from, crate::specs::Names::ifa_flag_names))]
+pub(crate) fn put_ifa_flag_names(flags: u32, out: &mut Vec<u8>) -> Result<(), AllocError>
+    ensures { OnOk result (out.new.items ≡ out.old.items ++ names ifa_flag_names flags) }
+{
+    let first = put_name(true, flags, u32::from(IFA_ROUTE), "ROUTE", out)?;
+    let _first = put_name(first, flags, u32::from(RTF_CLONING), "CLONING", out)?;
+    Ok(())
+}
+
+/// Puts the names of metrics, of inits or of locks.
+#[tactic(auto, unfolding(crate::specs::Names::names_from, crate::specs::Names::metric_names))]
+pub(crate) fn put_metric_names(bits: u32, out: &mut Vec<u8>) -> Result<(), AllocError>
+    ensures { OnOk result (out.new.items ≡ out.old.items ++ names metric_names bits) }
+{
+    let first = put_name(true, bits, RTV_MTU, "MTU", out)?;
+    let first = put_name(first, bits, RTV_HOPCOUNT, "HOPCOUNT", out)?;
+    let first = put_name(first, bits, RTV_EXPIRE, "EXPIRE", out)?;
+    let first = put_name(first, bits, RTV_RPIPE, "RPIPE", out)?;
+    let first = put_name(first, bits, RTV_SPIPE, "SPIPE", out)?;
+    let first = put_name(first, bits, RTV_SSTHRESH, "SSTHRESH", out)?;
+    let first = put_name(first, bits, RTV_RTT, "RTT", out)?;
+    let _first = put_name(first, bits, RTV_RTTVAR, "RTTVAR", out)?;
+    Ok(())
+}
+
+/// Puts the names of the addresses that a message names.
+#[tactic(auto, unfolding(crate::specs::Names::names_from, crate::specs::Names::address_names))]
+pub(crate) fn put_address_names(addrs: u32, out: &mut Vec<u8>) -> Result<(), AllocError>
+    ensures { OnOk result (out.new.items ≡ out.old.items ++ names address_names addrs) }
+{
+    let first = put_name(true, addrs, RTA_DST, "DST", out)?;
+    let first = put_name(first, addrs, RTA_GATEWAY, "GATEWAY", out)?;
+    let first = put_name(first, addrs, RTA_NETMASK, "NETMASK", out)?;
+    let first = put_name(first, addrs, RTA_GENMASK, "GENMASK", out)?;
+    let first = put_name(first, addrs, RTA_IFP, "IFP", out)?;
+    let first = put_name(first, addrs, RTA_IFA, "IFA", out)?;
+    let first = put_name(first, addrs, RTA_AUTHOR, "AUTHOR", out)?;
+    let _first = put_name(first, addrs, RTA_BRD, "BRD", out)?;
+    Ok(())
+}

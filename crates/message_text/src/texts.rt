@@ -1,0 +1,109 @@
+ghost use Rattle.std.specs.Prelude.{◌≡◌, ◌≤◌, ◌++◌, true, IfNone, IfOk, OnOk, length};
+ghost use Rattle.route_msgs.specs.Layout.{number_at};
+ghost use Rattle.message_text.specs.Texts.{addrs_in, body_of, fault_in, fault_text, has_size as has_size_said, header_size as size_of_header, is_about_address as about_address, message_text, text_of as text};
+
+use crate::addresses::{have_room, put_addresses};
+use crate::headers::{put_ifa_header, put_route_header};
+use crate::link::{byte_at, put_named_hex};
+use crate::rows::{u8_at, u16_at, u32_at};
+use route_msgs::MsgErr;
+use route_msgs::kinds::{RTM_DELADDR, RTM_NEWADDR, RTM_VERSION};
+use std::alloc::{AllocError, Global};
+
+/// The text of a message, in lines of ASCII that each end in a newline: the type by its name and the other fields of its
+/// header, and then its addresses, each by its name. Bytes that are no message are shown in hexadecimal, with the first
+/// reason that holds: their length, their version, or an address that passes the end. Refused for want of memory alone.
+pub fn text_of(alloc: Global, message: &[u8]) -> Result<Vec<u8>, AllocError>
+    ensures { IfOk result (λ shown. shown.items ≡ text message.now) }
+{
+    let mut out = Vec::new(alloc);
+    match fault_of(message) {
+        Some(fault) => put_fault(&fault, message, &mut out)?,
+        None => put_message(message, &mut out)?,
+    }
+    Ok(out)
+}
+
+/// Whether the type says that a message is about an interface's address.
+fn is_about_address(message: &[u8]) -> bool
+    ensures { result ≡ about_address message.now }
+{
+    let kind = byte_at(message, 3);
+    kind == RTM_NEWADDR || kind == RTM_DELADDR
+}
+
+/// The bytes of its header.
+fn header_size(message: &[u8]) -> usize
+    ensures { result ≡ size_of_header message.now }
+{
+    if is_about_address(message) { 20 } else { 76 }
+}
+
+/// Whether it has its header, and the length that this says.
+fn has_size(message: &[u8]) -> bool
+    ensures size { result ≡ has_size_said message.now }
+    ensures header { result ≡ true → size_of_header message.now ≤ length message.now }
+{
+    message.len() >= header_size(message) && usize::from(u16_at(message, 0)) == message.len()
+}
+
+/// The field that names its addresses.
+fn addrs(message: &[u8]) -> u32
+    requires { size_of_header message.now ≤ length message.now }
+    ensures { result ≡ addrs_in message.now }
+{
+    if is_about_address(message) {
+        u32_at(message, 4)
+    } else {
+        u32_at(message, 12)
+    }
+}
+
+/// The bytes behind its header.
+fn body(message: &[u8]) -> &[u8]
+    requires { size_of_header message.now ≤ length message.now }
+    ensures { result.now ≡ body_of message.now }
+{
+    &message[header_size(message)..]
+}
+
+/// Why bytes are no message, the first reason that holds.
+fn fault_of(message: &[u8]) -> Option<MsgErr>
+    ensures fault { result ≡ fault_in message.now }
+    ensures none { IfNone result (size_of_header message.now ≤ length message.now) }
+{
+    if !has_size(message) {
+        return Some(MsgErr::Length);
+    }
+    if u8_at(message, 2) != RTM_VERSION {
+        return Some(MsgErr::Version);
+    }
+    if have_room(addrs(message), body(message)).is_none() {
+        return Some(MsgErr::Overrun);
+    }
+    None
+}
+
+/// Puts bytes that are no message, and the reason.
+fn put_fault(fault: &MsgErr, message: &[u8], out: &mut Vec<u8>) -> Result<(), AllocError>
+    ensures { OnOk result (out.new.items ≡ out.old.items ++ fault_text fault.now message.now) }
+{
+    put_named_hex("no message: ", message, "\n ", out)?;
+    out.extend_from_slice(fault.text().as_bytes())?;
+    out.extend_from_slice(b"\n")?;
+    Ok(())
+}
+
+/// Puts a message: its header and its addresses.
+fn put_message(message: &[u8], out: &mut Vec<u8>) -> Result<(), AllocError>
+    requires { size_of_header message.now ≤ length message.now }
+    ensures { OnOk result (out.new.items ≡ out.old.items ++ message_text message.now) }
+{
+    if is_about_address(message) {
+        put_ifa_header(message, out)?;
+    } else {
+        put_route_header(message, out)?;
+    }
+    put_addresses(addrs(message), body(message), out)?;
+    Ok(())
+}
