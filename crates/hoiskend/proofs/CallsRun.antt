@@ -61,6 +61,7 @@ record Led (old : Session) (calls : List Called) (new : Option Session) : Type 0
   run : RunOf old.world (coded_of calls) last.world
 
 led : (calls : List Called) (old : Session) (new : Option Session) → Made (Some old) calls new → Led old calls new
+unfolding Calls
 led [] old new e = record { last = old; open_still = e; run = record { turns = []; told = refl; runs = refl } }
 led (c ∷ cs) old new (None, h, made) = absurd h
 led (c ∷ cs) old new (Some next, h, made) =

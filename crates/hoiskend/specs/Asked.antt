@@ -28,66 +28,66 @@ abbrev pub prefixed : ℕ → Option ℕ
 prefixed bits = if nat_le bits 32 then Some bits else None
 
 -- the address of the other end, where one is given
-abbrev pub far_in : Bool → ℕ → Option ℕ
+unfoldable pub far_in : Bool → ℕ → Option ℕ
 far_in has_far far = if has_far then Some far else None
 
 -- the flags of a dump, where it is of some routes alone
-abbrev pub filter_in : Bool → ℕ → Option ℕ
+unfoldable pub filter_in : Bool → ℕ → Option ℕ
 filter_in has_filter filter = if has_filter then Some filter else None
 
 -- a write has at most so many bytes
 abbrev pub lent : List ℕ → Option (List ℕ)
 lent bytes = if nat_le (length bytes) MOST_WRITTEN then Some bytes else None
 
-abbrev pub attach_asked : List ℕ → ℕ → ℕ → List ℕ → Option Command
+unfoldable pub attach_asked : List ℕ → ℕ → ℕ → List ℕ → Option Command
 attach_asked name kind type_number link = do
   name ← named name
   kind ← kind_in kind
   link ← linked link
   Some (Attach name kind type_number link)
 
-abbrev pub add_address_asked : List ℕ → ℕ → ℕ → Bool → Option ℕ → Option Command
+unfoldable pub add_address_asked : List ℕ → ℕ → ℕ → Bool → Option ℕ → Option Command
 add_address_asked name address prefix cloning far = do
   name ← named name
   prefix ← prefixed prefix
   Some (AddAddress name address prefix cloning far)
 
-abbrev pub remove_address_asked : List ℕ → ℕ → Option Command
+unfoldable pub remove_address_asked : List ℕ → ℕ → Option Command
 remove_address_asked name address = do
   name ← named name
   Some (RemoveAddress name address)
 
-abbrev pub listen_asked : List ℕ → ℕ → ℕ → Option Command
+unfoldable pub listen_asked : List ℕ → ℕ → ℕ → Option Command
 listen_asked id pid protocol = do
   id ← named id
   Some (Open id pid protocol)
 
-abbrev pub shut_asked : List ℕ → Option Command
+unfoldable pub shut_asked : List ℕ → Option Command
 shut_asked id = do
   id ← named id
   Some (Close id)
 
-abbrev pub loopback_asked : List ℕ → Bool → Option Command
+unfoldable pub loopback_asked : List ℕ → Bool → Option Command
 loopback_asked id on = do
   id ← named id
   Some (Loopback id on)
 
-abbrev pub write_asked : List ℕ → List ℕ → Option Command
+unfoldable pub write_asked : List ℕ → List ℕ → Option Command
 write_asked id message = do
   id ← named id
   message ← lent message
   Some (Write id message)
 
-abbrev pub read_asked : List ℕ → Option Command
+unfoldable pub read_asked : List ℕ → Option Command
 read_asked id = do
   id ← named id
   Some (Read id)
 
-abbrev pub lost_asked : List ℕ → Option Command
+unfoldable pub lost_asked : List ℕ → Option Command
 lost_asked id = do
   id ← named id
   Some (Lost id)
 
-abbrev pub redirect_asked : ℕ → ℕ → ℕ → Command
+unfoldable pub redirect_asked : ℕ → ℕ → ℕ → Command
 redirect_asked destination gateway author =
     Redirect (record { destination = destination; gateway = gateway; author = author })

@@ -153,7 +153,7 @@ Serves old (Says line) code new = Heeds old line code new
 Serves old Looks code new = new ≡ old
 
 -- a call by a handle: one that is closed stays closed, and gives EINVAL
-abbrev pub Calls : Option Session → Call → ℕ → Option Session → Type 0
+unfoldable pub Calls : Option Session → Call → ℕ → Option Session → Type 0
 Calls (Some old) call code (Some new) = Serves old call code new
 Calls (Some old) call code None = ⊥
 Calls None call code (Some new) = ⊥

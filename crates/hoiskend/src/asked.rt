@@ -58,6 +58,7 @@ fn prefix_of(bits: u8) -> Option<Prefix>
 }
 
 /// An interface to be attached.
+#[tactic(auto, unfolding(crate::specs::Asked::attach_asked))]
 pub(crate) fn attach(name: &[u8], kind: u8, type_number: u8, link: &[u8]) -> Option<Said<'static>>
     ensures { result ≡ attach_asked name.now kind type_number link.now }
 {
@@ -70,6 +71,7 @@ pub(crate) fn attach(name: &[u8], kind: u8, type_number: u8, link: &[u8]) -> Opt
 }
 
 /// An address for an interface. With no far address, `has_far` is false.
+#[tactic(auto, unfolding(crate::specs::Asked::add_address_asked))]
 pub(crate) fn add_address(
     name: &[u8],
     address: u32,
@@ -85,11 +87,20 @@ pub(crate) fn add_address(
         address: Inet::new(address),
         prefix: prefix_of(prefix)?,
         cloning,
-        far: if has_far { Some(Inet::new(far)) } else { None },
+        far: far_of(has_far, far),
     })
 }
 
+/// The address of the other end, where there is one.
+#[tactic(auto, unfolding(crate::specs::Asked::far_in))]
+fn far_of(has_far: bool, far: u32) -> Option<Inet>
+    ensures { result ≡ far_in has_far far }
+{
+    if has_far { Some(Inet::new(far)) } else { None }
+}
+
 /// An address of an interface to be removed.
+#[tactic(auto, unfolding(crate::specs::Asked::remove_address_asked))]
 pub(crate) fn remove_address(name: &[u8], address: u32) -> Option<Said<'static>>
     ensures { result ≡ remove_address_asked name.now address }
 {
@@ -100,6 +111,7 @@ pub(crate) fn remove_address(name: &[u8], address: u32) -> Option<Said<'static>>
 }
 
 /// A socket to be opened.
+#[tactic(auto, unfolding(crate::specs::Asked::listen_asked))]
 pub(crate) fn listen(id: &[u8], pid: u32, protocol: u8) -> Option<Said<'static>>
     ensures { result ≡ listen_asked id.now pid protocol }
 {
@@ -111,6 +123,7 @@ pub(crate) fn listen(id: &[u8], pid: u32, protocol: u8) -> Option<Said<'static>>
 }
 
 /// A socket to be closed.
+#[tactic(auto, unfolding(crate::specs::Asked::shut_asked))]
 pub(crate) fn shut(id: &[u8]) -> Option<Said<'static>>
     ensures { result ≡ shut_asked id.now }
 {
@@ -118,6 +131,7 @@ pub(crate) fn shut(id: &[u8]) -> Option<Said<'static>>
 }
 
 /// Whether a socket hears the replies to its own writes.
+#[tactic(auto, unfolding(crate::specs::Asked::loopback_asked))]
 pub(crate) fn loopback(id: &[u8], on: bool) -> Option<Said<'static>>
     ensures { result ≡ loopback_asked id.now on }
 {
@@ -128,6 +142,7 @@ pub(crate) fn loopback(id: &[u8], on: bool) -> Option<Said<'static>>
 }
 
 /// A message for a socket.
+#[tactic(auto, unfolding(crate::specs::Asked::write_asked))]
 pub(crate) fn write<'a>(id: &[u8], message: &'a [u8]) -> Option<Said<'a>>
     ensures { result ≡ write_asked id.now message.now }
 {
@@ -138,6 +153,7 @@ pub(crate) fn write<'a>(id: &[u8], message: &'a [u8]) -> Option<Said<'a>>
 }
 
 /// The messages of a socket.
+#[tactic(auto, unfolding(crate::specs::Asked::read_asked))]
 pub(crate) fn read(id: &[u8]) -> Option<Said<'static>>
     ensures { result ≡ read_asked id.now }
 {
@@ -145,6 +161,7 @@ pub(crate) fn read(id: &[u8]) -> Option<Said<'static>>
 }
 
 /// How many messages a socket has lost.
+#[tactic(auto, unfolding(crate::specs::Asked::lost_asked))]
 pub(crate) fn lost(id: &[u8]) -> Option<Said<'static>>
     ensures { result ≡ lost_asked id.now }
 {
@@ -152,6 +169,7 @@ pub(crate) fn lost(id: &[u8]) -> Option<Said<'static>>
 }
 
 /// A redirect.
+#[tactic(auto, unfolding(crate::specs::Asked::redirect_asked))]
 pub(crate) fn redirect(destination: u32, gateway: u32, author: u32) -> Said<'static>
     ensures { result ≡ redirect_asked destination gateway author }
 {
@@ -190,6 +208,8 @@ pub(crate) fn dump(has_filter: bool, filter: u32, room: u32) -> Said<'static>
     }
 }
 
+/// The flags of a dump, where it is of some routes alone.
+#[tactic(auto, unfolding(crate::specs::Asked::filter_in))]
 fn filter_of(has_filter: bool, filter: u32) -> Option<u32>
     ensures { result ≡ filter_in has_filter filter }
 {

@@ -142,6 +142,7 @@ pub extern "C" fn hk_read_n(world: &mut Handle, id: &[u8]) -> u32
 
 /// How many messages a socket has lost. EINVAL: an id that is none.
 #[unsafe(no_mangle)]
+#[tactic(auto, unfolding(crate::specs::Sessions::Calls))]
 pub extern "C" fn hk_lost_n(world: &mut Handle, id: &[u8], lost: &mut u64) -> u32
     ensures step { Calls world.old.session (Asks (lost_asked id.now)) result world.new.session }
     ensures lost { lost.new ≡ unwrap_or (told_for (lost_asked id.now) size_in world.new.session) lost.old }
@@ -158,6 +159,7 @@ pub extern "C" fn hk_lost_n(world: &mut Handle, id: &[u8], lost: &mut u64) -> u3
 /// Finds the route of a packet, and counts its use. No text is made, and memory is asked for only where the route
 /// clones.
 #[unsafe(no_mangle)]
+#[tactic(auto, unfolding(crate::specs::Sessions::Calls))]
 pub extern "C" fn hk_packet(world: &mut Handle, destination: u32, route: &mut Route) -> u32
     ensures step { Calls world.old.session (Asks (Some (Packet destination))) result world.new.session }
     ensures route { route.new
@@ -193,6 +195,7 @@ pub extern "C" fn hk_losing(world: &mut Handle, address: u32) -> u32
 
 /// How many bytes to ask for a dump.
 #[unsafe(no_mangle)]
+#[tactic(auto, unfolding(crate::specs::Sessions::Calls))]
 pub extern "C" fn hk_dump_size(
     world: &mut Handle,
     has_filter: bool,
@@ -223,6 +226,7 @@ pub extern "C" fn hk_dump(world: &mut Handle, has_filter: bool, filter: u32, roo
 /// Takes a line of a script, without its newline. 0 where it is a comment or empty, and `BAD` where the grammar doesn't
 /// have it.
 #[unsafe(no_mangle)]
+#[tactic(auto, unfolding(crate::specs::Sessions::Calls))]
 pub extern "C" fn hk_line(world: &mut Handle, line: &[u8]) -> u32
     ensures { Calls world.old.session (Says line.now) result world.new.session }
 {
@@ -261,6 +265,7 @@ pub extern "C" fn hk_text(world: &mut Handle, out: &mut [u8]) -> usize
 }
 
 /// Gives the world of a handle a command; nothing is done where there is none.
+#[tactic(auto, unfolding(crate::specs::Sessions::Calls))]
 fn obey(world: &mut Handle, said: Option<Said<'_>>) -> u32
     ensures { Calls world.old.session (Asks said.entry) result world.new.session }
 {

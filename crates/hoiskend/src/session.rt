@@ -1,5 +1,5 @@
 //! A world with what it answered last.
-ghost use Rattle.std.specs.Prelude.{◌≡◌, ◌-◌, ◌^◌, IfOk, Some, None, Ok, false, length, min, unwrap_or};
+ghost use Rattle.std.specs.Prelude.{◌≡◌, ◌-◌, ◌^◌, IfOk, Some, None, Ok, Err, false, length, min, unwrap_or};
 ghost use Rattle.event_file.specs.Answers.{response_text};
 ghost use Rattle.event_file.specs.Given.{given};
 ghost use Rattle.listeners.specs.Queue.{joined};
@@ -100,16 +100,12 @@ impl Session {
         ensures { Heeds self.old line.now result self.new }
     {
         if is_passed(line) {
-            self.last = Last::Nothing;
-            return 0;
+            return self.pass();
         }
         let mut room = [0; MOST_WRITTEN];
         match read_said(line, &mut room) {
             Ok(said) => self.obey(&said),
-            Err(bad) => {
-                self.last = Last::Response(Err(bad));
-                BAD
-            }
+            Err(bad) => self.reject(bad),
         }
     }
 
@@ -149,12 +145,27 @@ impl Session {
         ensures { Answers self.old.world (ReadOf id) result self.new.response self.new.world }
     {
         match self.world.move_to(id, &mut self.read) {
-            Ok(()) => {
-                self.last = Last::Read;
-                0
-            }
+            Ok(()) => told_read(&mut self.last),
             Err(errno) => self.keep(Answer::Refused(errno)),
         }
+    }
+
+    /// Has nothing to tell of a line that gives no answer.
+    fn pass(&mut self) -> u32
+        ensures code { result ≡ 0 }
+        ensures kept { self.new ≡ record self.old { response = None } }
+    {
+        self.last = Last::Nothing;
+        0
+    }
+
+    /// Keeps that a line is bad, and answers the code of that.
+    fn reject(&mut self, bad: Bad) -> u32
+        ensures code { result ≡ BAD }
+        ensures kept { self.new ≡ record self.old { response = Some (Err bad) } }
+    {
+        self.last = Last::Response(Err(bad));
+        BAD
     }
 
     /// Keeps what was answered, and answers its code.
@@ -166,6 +177,15 @@ impl Session {
         self.last = Last::Response(Ok(answer));
         code
     }
+}
+
+/// Says that a read's messages were answered, and answers the code of that.
+fn told_read(last: &mut Last) -> u32
+    ensures code { result ≡ 0 }
+    ensures last { last.new ≡ Last.Read }
+{
+    *last = Last::Read;
+    0
 }
 
 /// Gives a world a command that is no read.
