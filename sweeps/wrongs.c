@@ -192,7 +192,8 @@ ssize_t read(int file, void *room, size_t size)
 	return got;
 }
 
-ssize_t write(int file, const void *data, size_t size)
+/* Writes as the program does, of answers no more than one line. */
+static ssize_t write_piece(int file, const void *data, size_t size)
 {
 	ssize_t took;
 	if (file == STDOUT_FILENO && ++writes == 20 && is("quits"))
@@ -220,6 +221,30 @@ ssize_t write(int file, const void *data, size_t size)
 		took = NEXT(write)(file, data, size);
 	if (file == STDOUT_FILENO)
 		note_answer(data, took);
+	return took;
+}
+
+static int changes_answers(void)
+{
+	return is("greedy") || is("unlost") || is("classful") || is("crowded") || is("too-soon") || is("lies");
+}
+
+/* Answers that are written at once are taken line by line where some are changed. */
+ssize_t write(int file, const void *data, size_t size)
+{
+	const char *text = data, *newline;
+	size_t took = 0, piece;
+	ssize_t more;
+	if (file != STDOUT_FILENO || !changes_answers())
+		return write_piece(file, data, size);
+	do {
+		newline = memchr(text + took, '\n', size - took);
+		piece = newline ? (size_t)(newline + 1 - text) - took : size - took;
+		more = write_piece(file, text + took, piece);
+		if (more <= 0)
+			return took ? (ssize_t)took : more;
+		took += more;
+	} while ((size_t)more == piece && took < size);
 	return took;
 }
 
