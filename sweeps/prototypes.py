@@ -84,7 +84,7 @@ def functions_in(text, begin, types):
 
 
 def functions_in_crate(crate):
-    return functions_in(crate, r'#\[unsafe\(no_mangle\)\]\s*pub extern "C" ', IN_CRATE)
+    return functions_in(crate, r'#\[unsafe\(no_mangle\)\]\n(?:#\[.*\]\n)*pub extern "C" ', IN_CRATE)
 
 
 def functions_in_rust(rust):
