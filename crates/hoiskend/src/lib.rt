@@ -8,8 +8,6 @@ mod handle;
 pub mod laws;
 mod route;
 mod session;
-#[cfg(test)]
-mod tests;
 
 pub use codes::BAD;
 pub use handle::Handle;
