@@ -42,7 +42,7 @@
  *     signal handler, nor in the forked child of a process with threads.
  *
  * All else is proved, of the compiled library's source: no call reads or writes beyond what it was given, none hangs
- * or aborts, none leaks, and each does what stands here.
+ * or aborts, and each does what stands here. That nothing leaks is tested.
  */
 #ifndef HOISKEND_H
 #define HOISKEND_H
