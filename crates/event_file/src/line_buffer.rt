@@ -1,4 +1,4 @@
-ghost use Rattle.std.specs.Prelude.{◌≡◌, ◌≤◌, ◌+◌, false, length, position, IfOk, IfSome, cond, option_copied};
+ghost use Rattle.std.specs.Prelude.{◌≡◌, ◌≤◌, ◌<◌, ◌+◌, false, true, length, position, IfOk, IfSome, cond, option_copied};
 ghost use Rattle.event_file.specs.Lines.{Line, after_bytes, extended, first_line, has_newline, is_begun, is_newline, is_passed as passes, kept, no_line};
 
 use std::alloc::{AllocError, Global};
@@ -38,6 +38,25 @@ impl LineBuffer {
             is_too_long: false,
             has_ended: false,
         })
+    }
+
+    /// The line that these bytes end, where nothing of it came before them: how many bytes it takes, with its newline, and
+    /// its bytes, or nothing of them where they are too many. Such a line need not be fed, and isn't copied.
+    pub fn whole_line<'a>(&self, bytes: &'a [u8]) -> Option<(usize, Option<&'a [u8]>)>
+        requires { self.now.ended ≡ false }
+        ensures empty { IfSome result (λ _. self.now ≡ no_line) }
+        ensures newline { IfSome result (λ _. has_newline bytes.now ≡ true) }
+        ensures taken { IfSome result (λ whole. whole.0 ≡ length (first_line bytes.now) + 1) }
+        ensures most { IfSome result (λ whole. whole.0 ≤ length bytes.now) }
+        ensures line { IfSome result (λ whole. option_copied whole.1 ≡ kept (first_line bytes.now)) }
+    {
+        if self.pending() {
+            return None;
+        }
+        match ended_line(bytes) {
+            Some(line) => Some((line.len() + 1, looked_at(line))),
+            None => None,
+        }
     }
 
     /// Takes bytes up to and with the first newline. Answers how many it took, and whether a newline was among them;
@@ -111,6 +130,29 @@ pub fn is_passed(line: &[u8]) -> bool
     ensures { result ≡ passes (kept line.now) }
 {
     line.len() <= LONGEST_LINE && matches!(line, [] | [b'#', ..])
+}
+
+/// A line as it is looked at: nothing of it where it is too long.
+fn looked_at(line: &[u8]) -> Option<&[u8]>
+    ensures { option_copied result ≡ kept line.now }
+{
+    if line.len() > LONGEST_LINE {
+        None
+    } else {
+        Some(line)
+    }
+}
+
+/// The first line that bytes end, without its newline.
+fn ended_line(bytes: &[u8]) -> Option<&[u8]>
+    ensures newline { IfSome result (λ _. has_newline bytes.now ≡ true) }
+    ensures line { IfSome result (λ line. line.now ≡ first_line bytes.now) }
+    ensures most { IfSome result (λ line. length line.now < length bytes.now) }
+{
+    match newline_in(bytes) {
+        Some(at) => Some(&bytes[..at]),
+        None => None,
+    }
 }
 
 /// The place of the first newline.

@@ -205,6 +205,24 @@ Breaks-answered {s} {c} {d} bytes line mid has fed q =
     let stop : Breaks s c d (first_line bytes ++ 10 ∷ []) line = Breaks-line bytes line (subst (λ (m : Line). StopsWithin s c d (answered_of m.text)) fed q) in
     subst (λ x. Breaks s c d x line) (ap (λ x. x ++ drop n bytes) (sym (take-first_line bytes has)) ∙ take-append-drop n bytes) (Breaks-more (drop n bytes) stop)
 
+-- a line of which no byte came before the bytes that end it
+text_whole : (bytes : List ℕ) (line : Line) (text : Option (List ℕ)) → line ≡ no_line → text ≡ kept (first_line bytes) → text ≡ (after_bytes line bytes).text
+text_whole bytes line text empty fed = fed ∙ ap (λ (l : Line). extended l.text (first_line bytes)) (sym empty)
+
+-- it was answered where it stands
+pub Advances-whole : {s t : Standing} {c d : Option (List ℕ)} (bytes : List ℕ) (taken : ℕ) (line : Line) (text : Option (List ℕ)) → has_newline bytes ≡ true
+    → taken ≡ length (first_line bytes) + 1 → line ≡ no_line → text ≡ kept (first_line bytes) → Answers s t c d (answered_of text)
+    → Advances s t c d (take taken bytes) line line
+Advances-whole {s} {t} {c} {d} bytes taken line text has is empty fed q =
+    Advances-answered bytes taken line (after_bytes line bytes) line has (is ∙ ap (λ t. length (first_line bytes) + cond t 1 0) (sym has)) refl empty
+    (subst (λ x. Answers s t c d (answered_of x)) (text_whole bytes line text empty fed) q)
+
+-- the writer stopped at it
+pub Breaks-whole : {s : Standing} {c d : Option (List ℕ)} (bytes : List ℕ) (line : Line) (text : Option (List ℕ)) → has_newline bytes ≡ true
+    → line ≡ no_line → text ≡ kept (first_line bytes) → StopsWithin s c d (answered_of text) → Breaks s c d bytes line
+Breaks-whole {s} {c} {d} bytes line text has empty fed q =
+    Breaks-answered bytes line (after_bytes line bytes) has refl (subst (λ x. StopsWithin s c d (answered_of x)) (text_whole bytes line text empty fed) q)
+
 -- ---- a run at the end of its script
 
 lines_at_end : {first from : Standing} {start old : Option (List ℕ)} {read : List ℕ} {line : Line} → Progress first from start old read line

@@ -79,7 +79,8 @@ impl Answerer {
         Ok(())
     }
 
-    /// Takes bytes up to and with the first newline, and answers the line that it ends. Answers how many bytes it took.
+    /// Takes bytes up to and with the first newline, and answers the line that it ends, which is answered where it stands
+    /// if all of it is among them. Answers how many bytes it took.
     fn answer_next<W: Write>(
         &mut self,
         line: &mut LineBuffer,
@@ -98,6 +99,10 @@ impl Answerer {
             bytes.now line.old) }
         ensures failure { OnErr result (writer.new.failures ≡ 1) }
     {
+        if let Some((taken, text)) = line.whole_line(bytes) {
+            self.answer(text, writer)?;
+            return Ok(taken);
+        }
         let (taken, has_ended) = line.feed(bytes);
         if !has_ended {
             return Ok(taken);

@@ -1,0 +1,9 @@
+use Rattle.std.proofs.Common.{sym, Some}
+use Rattle.event_file.proofs.LineLemmas.{newline_at}
+use Rattle.event_file.proofs.line_buffer.ended_line.Goals as goal
+
+pub returns-in-Some-clause-newline : goal.returns-in-Some-clause-newline
+returns-in-Some-clause-newline c = (newline_at c.args.bytes.now (Some c.in-Some.at) c.in-Some.ensures).1
+
+pub returns-in-Some-clause-line : goal.returns-in-Some-clause-line
+returns-in-Some-clause-line c = sym (newline_at c.args.bytes.now (Some c.in-Some.at) c.in-Some.ensures).2
