@@ -5,3 +5,4 @@ pub mod Open
 pub mod Owning
 pub mod Runs
 pub mod Sessions
+pub mod Shown

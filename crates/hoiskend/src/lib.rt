@@ -8,6 +8,7 @@ mod handle;
 pub mod laws;
 mod route;
 mod session;
+mod show;
 
 pub use codes::BAD;
 pub use handle::Handle;

@@ -1,0 +1,28 @@
+//! The text of a message: a function that the library exports beside those over a handle, since it has no world.
+ghost use Rattle.std.specs.Prelude.{◌≡◌, length};
+ghost use Rattle.event_file.specs.Given.{given};
+ghost use Rattle.message_text.specs.Texts.{text_of as text};
+ghost use Rattle.hoiskend.specs.Shown.{IsCodeOf, if_memory};
+
+use message_text::text_of;
+use sock_addrs::Errno;
+use std::alloc::Global;
+
+/// Puts the text of a message to the front of `out`, where there is room for all of it, and how many bytes it has into
+/// `size`. ENOMEM: there is less room, and `out` stays; ENOBUFS: there is no memory, and `size` stays too.
+#[unsafe(no_mangle)]
+pub extern "C" fn hk_show(alloc: Global, message: &[u8], out: &mut [u8], size: &mut usize) -> u32
+    ensures code { IsCodeOf (text message.now) (length out.old) result }
+    ensures text { out.new ≡ if_memory result (given (text message.now) out.old) out.old }
+    ensures size { size.new ≡ if_memory result (length (text message.now)) size.old }
+{
+    let Ok(shown) = text_of(alloc, message) else {
+        return Errno::ENOBUFS.number();
+    };
+    *size = shown.len();
+    if shown.len() > out.len() {
+        return Errno::ENOMEM.number();
+    }
+    out[..shown.len()].copy_from_slice(&shown);
+    0
+}
