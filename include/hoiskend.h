@@ -2,10 +2,8 @@
  * The routing core of 4.4BSD-Lite for IPv4, proved, for C and C++: worlds of interfaces, addresses, routes and routing
  * sockets, each of which does what docs/MODEL.md's machine does.
  *
- *     static const uint8_t link[] = {8, 0, 0x20, 1, 2, 3};
- *     hk_world world = HK_CLOSED;
- *     hk_route route;
- *     if (!hk_open(&world) && !hk_attach(&world, "le0", HK_BROADCAST, 6, link, sizeof link)
+ *     hk_world world = HK_CLOSED; hk_route route;
+ *     if (!hk_open(&world) && !hk_attach(&world, "le0", HK_BROADCAST, 6, (const uint8_t *)"", 0)
  *         && !hk_add_address(&world, "le0", HK_ADDRESS(10, 0, 0, 1), 8, true, false, 0)
  *         && !hk_packet(&world, HK_ADDRESS(10, 9, 9, 9), &route))
  *         printf("out of interface %d\n", route.index);
@@ -303,6 +301,31 @@ static inline size_t hk_text_size(hk_world *world)
 	uint8_t none;
 	return hk_text(world, &none, 0);
 }
+
+/* ---- messages in words ---- */
+
+/*
+ * Shows a message as people read one: the fields of its header by their names, and each address on a line of its own
+ * (docs/FORMATS.md, `A message in words`). Of the reply to a GET:
+ *
+ *     RTM_GET: length 116, version 3, pid 100, seq 1, index 0
+ *      flags 00000141<UP,DONE,CLONING>
+ *      addrs 00000007<DST,GATEWAY,NETMASK>
+ *      DST 10.0.0.0
+ *      GATEWAY 10.0.0.1
+ *      NETMASK 255.0.0.0 (/8)
+ *
+ * Puts into `size` how many bytes the text has, and copies it to the front of `out` where all of it fits into the n
+ * bytes; the rest of `out` stays. The text is lines of ASCII, each ended by a newline, with no 0 behind them. Any bytes
+ * have one: that of bytes which are no message shows them in hexadecimal, and says why.
+ *
+ * This is no command. It has no world: none is looked at, none changes, and none has to be open; and it may be in
+ * several calls at the same time.
+ *
+ * HK_ENOBUFS: `size` and `out` stay. HK_ENOMEM: the text doesn't fit; `size` says how many bytes it has, and `out`
+ * stays. So an n of 0 asks for the size alone.
+ */
+uint32_t hk_show(const uint8_t *message, size_t message_n, uint8_t *out, size_t n, size_t *size);
 
 /* ---- the same with names and ids as C strings ---- */
 

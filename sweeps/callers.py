@@ -12,10 +12,11 @@ from prototypes import Sources, functions_in_header
 TOP = Path(__file__).resolve().parents[1]
 EXAMPLES, RUST = TOP / "examples" / "c", TOP / "bindings" / "rust"
 HEADER, PAGE = TOP / "include" / "hoiskend.h", TOP / "docs" / "hoiskend.3"
-EACH_CALL = Path(__file__).with_name("each_call.c")
+EACH_CALL, HEAP, DISPLAY = (Path(__file__).with_name(name) for name in ("each_call.c", "heap.c", "display.rs"))
 
 C11, CPP11 = ["-std=c11"], ["-std=c++11", "-x", "c++"]
 STRICT = ["-Wall", "-Wextra", "-pedantic", "-Werror", "-O2"]
+WRAPPED = "-Wl,--wrap=malloc,--wrap=realloc,--wrap=free"
 REFUSING = ["-Wl,--wrap=malloc,--wrap=realloc"]
 SANITIZED = ["-fsanitize=address,undefined", "-fno-sanitize-recover=all", "-g"]
 COMPILERS = {"gcc": C11, "clang": C11, "g++": CPP11, "clang++": CPP11}
@@ -69,12 +70,19 @@ def told_of(sweep, script):
 PASSES = b"the daemon's test passes\n"
 
 
+def said_by(source):
+    """What the comment of a program says that it prints."""
+    block = re.search(r"^ \*\n((?: \*     .*\n)+)", source.read_text(), re.M)
+    return re.sub(r"^ \*     ", "", block[1], flags=re.M).encode()
+
+
 def programs(sweep):
     """The programs in C, each with the words that it is compiled with, and what it tells of the first script."""
     told = told_of(sweep, first_script())
     yield EXAMPLES / "first_script.c", [], b"", told
     yield EXAMPLES / "script.c", [], first_script(), told
     yield EXAMPLES / "daemon_test.c", REFUSING, b"", PASSES
+    yield EXAMPLES / "monitor.c", [], b"", said_by(EXAMPLES / "monitor.c")
 
 
 def run_programs(sweep, compiler):
@@ -98,6 +106,7 @@ ANSWERED = {
     "hk_losing(&w, host)": ["A malformed request", "Done"], "hk_open(&w)": ["Done", "It is there already"],
     "hk_redirect(&w, host, address, address)": ["No route to the host"], "hk_shut(&w, \"a\")": ["Done", "No such socket"],
     "hk_line(&w, line, 4)": ["A line that is no command"],
+    "hk_show(out, hk_message_length(out), text, 1, &size)": ["The buffer is too small"],
     "hk_attach(&w, \"a long name\", HK_LOOPBACK, 24, link, 0)": ["A malformed request"],
 }
 
@@ -224,8 +233,23 @@ def run_rust(sweep):
         wrote, status, error = ran("cargo", "run", *manifest, "--example", "first_script", env=environment)
         told = told_of(sweep, first_script())
         sweep.claim(f"the example in Rust: {error[-900:].decode()}", (wrote, status) == (told, 0))
+    refuse_display(sweep, ran("cargo", "build", *manifest, env=by_folder), target / "debug" / "libhoiskend.rlib")
     unsafe = [path.name for path in (RUST / "src").glob("*.rs") if re.search(r"\bunsafe\b(?!_)", path.read_text())]
     sweep.claim(f"unsafe in {unsafe}", unsafe == ["sys.rs"])
+
+
+def refuse_display(sweep, built, package):
+    """A message's display is an error where memory is refused: of the library, which is asked twice for its text, and
+    once of the package."""
+    if not is_there(sweep, "rustc"):
+        return
+    heap, made = package.with_name("heap.o"), package.with_name("display")
+    counted = ran(os.environ.get("CC", "cc"), "-O2", "-c", "-o", heap, HEAP)
+    words = ["-D", "warnings", "--edition", "2021", "--extern", f"hoiskend={package}"]
+    linked = ran("rustc", *words, "-C", f"link-arg={heap}", "-C", f"link-arg={WRAPPED}", "-o", made, DISPLAY)
+    wrote, status, error = ran(made)
+    said = (built[2] + counted[2] + linked[2] + error)[-900:].decode()
+    sweep.claim(f"a message displayed without memory: {said}", status == 0 and int(wrote) >= 3)
 
 
 def jobs(examples):

@@ -31,6 +31,7 @@ TYPES = {
     "void": None, "bool": ctypes.c_bool, "uint8_t": ctypes.c_uint8, "uint32_t": ctypes.c_uint32,
     "size_t": ctypes.c_size_t, "uint64_t *": ctypes.POINTER(ctypes.c_uint64), "hk_world *": ctypes.POINTER(Handle),
     "hk_route *": ctypes.POINTER(Route), "const uint8_t *": ctypes.c_void_p, "uint8_t *": ctypes.c_void_p,
+    "size_t *": ctypes.POINTER(ctypes.c_size_t),
 }
 
 
@@ -47,6 +48,14 @@ class Library:
     def make(self, name, handle, *given):
         return getattr(self.loaded, name)(ctypes.byref(handle), *given)
 
+    def show(self, *given):
+        """Calls hk_show, which has no world."""
+        return self.loaded.hk_show(*given)
+
+    def of_worlds(self):
+        """The names of the functions over a world."""
+        return {name for name, (_, parameters) in self.functions.items() if parameters[0][0] == "hk_world *"}
+
     def counter(self, name):
         return ctypes.c_ulong.in_dll(self.loaded, f"heap_{name}")
 
@@ -56,37 +65,6 @@ class Library:
     def set(self, **counters):
         for name, value in counters.items():
             self.counter(name).value = value
-
-
-class WrongLibrary(Library):
-    """The library made wrong, for the trial of the sweeps. `wrong` names what it does:
-
-    long-names    takes the first 8 bytes of a longer name
-    shares        has one world for all
-    reopens       opens an open world anew
-    scribbles     writes to the room of hk_fetch and hk_text also where it is too short
-    forgets       empties the last answer where a call is refused for its parameters
-    welcomes      answers a closed world 0
-    """
-
-    wrong, first = None, None
-
-    def make(self, name, handle, *given):
-        is_closed = handle.core is None
-        if self.wrong == "long-names" and name.endswith("_n"):
-            given = given[0], min(given[1], 8), *given[2:]
-        if self.wrong == "shares":
-            handle = self.first = self.first or handle
-            if name == "hk_open" and handle.core:
-                return OK
-        if self.wrong == "reopens" and name == "hk_open":
-            handle.core = None
-        if self.wrong == "scribbles" and name in ("hk_fetch", "hk_text"):
-            ctypes.memset(given[0], 0, given[1])
-        answer = super().make(name, handle, *given)
-        if self.wrong == "forgets" and answer == INVALID and not is_closed:
-            super().make("hk_line", handle, handle.core, 0)
-        return OK if self.wrong == "welcomes" and is_closed else answer
 
 
 PAGE = mmap.PAGESIZE

@@ -10,7 +10,9 @@ int main(void)
 	static const uint8_t link[] = {0x08, 0x00, 0x20, 0x01, 0x02, 0x03}, line[] = {'d', 'u', 'm', 'p', ' ', 'a', 's', 'k'};
 	const uint32_t address = HK_ADDRESS(10, 0, 0, 1), host = HK_ADDRESS(10, 9, 9, 9);
 	uint8_t out[HK_MESSAGE_BYTES] = {0};
+	uint8_t text[512];
 	uint64_t number = 0;
+	size_t size = 0;
 	hk_route route;
 	hk_world w = HK_CLOSED;
 	ANSWERS(hk_losing(&w, host));
@@ -26,6 +28,9 @@ int main(void)
 	printf("%d bytes\n", (int)number);
 	ANSWERS(hk_dump(&w, false, 0, (uint32_t)number));
 	printf("%d bytes\n", (int)hk_fetch(&w, out, sizeof out));
+	ANSWERS(hk_show(out, hk_message_length(out), text, 1, &size));
+	ANSWERS(hk_show(out, hk_message_length(out), text, sizeof text, &size));
+	printf("%.*s", (int)size, (const char *)text);
 	ANSWERS(hk_redirect(&w, host, address, address));
 	ANSWERS(hk_losing(&w, host));
 	ANSWERS(hk_write(&w, "a", out, hk_message_length(out)));

@@ -54,7 +54,7 @@ def claim_closed(sweep, what, world):
     """Each call on a closed world is refused, and does nothing."""
     outs, library = Outs(), world.library
     calls = each_call(outs)
-    sweep.claim("each call is tried", {*calls, "hk_open", "hk_close"} == set(library.functions))
+    sweep.claim("each call is tried", {*calls, "hk_open", "hk_close"} == library.of_worlds())
     for name, given in calls.items():
         asked = library.get("asked")
         wanted = INVALID if library.functions[name][0] == "uint32_t" else 0

@@ -56,23 +56,28 @@ def functions_in_header(header):
 
 
 NUMBERS = {"u8": "uint8_t", "u16": "uint16_t", "u32": "uint32_t", "u64": "uint64_t", "usize": "size_t", "bool": "bool"}
-IN_CRATE = {**NUMBERS, "&mut Handle": "hk_world *", "&mut Route": "hk_route *", "&mut u64": "uint64_t *"}
+IN_CRATE = {
+    **NUMBERS, "&mut Handle": "hk_world *", "&mut Route": "hk_route *", "&mut u64": "uint64_t *",
+    "&mut usize": "size_t *",
+}
 IN_RUST = {
     **NUMBERS, "*mut World": "hk_world *", "*mut Route": "hk_route *", "*mut u64": "uint64_t *",
-    "*const u8": "const uint8_t *", "*mut u8": "uint8_t *",
+    "*mut usize": "size_t *", "*const u8": "const uint8_t *", "*mut u8": "uint8_t *",
 }
 SLICES = {"&[u8]": "const uint8_t *", "&mut [u8]": "uint8_t *"}
-# The bytes that a call is about have their number in n, those that name something in one that is named so.
+# The last bytes have their number in n, where a call is about them; all others in one that is named for them.
 COUNTED_BY_N = {"message", "line", "out"}
 
 
 def parameters_of(given, types):
     """The parameters in Rust or Rattle as C sees them: a slice is two, and what has no bytes is none."""
+    pairs = [[part.strip() for part in each.split(":")] for each in split(given)]
+    bytes_last = [name for name, kind in pairs if kind in SLICES][-1:]
     made = []
-    for each in split(given):
-        name, kind = (part.strip() for part in each.split(":"))
+    for name, kind in pairs:
         if kind in SLICES:
-            made += [(SLICES[kind], name), ("size_t", "n" if name in COUNTED_BY_N else f"{name}_n")]
+            by_n = [name] == bytes_last and name in COUNTED_BY_N
+            made += [(SLICES[kind], name), ("size_t", "n" if by_n else f"{name}_n")]
         elif kind != "Global":
             made.append((types.get(kind, kind), name))
     return made
@@ -169,6 +174,10 @@ SLIPS = [
     ("header", "hk_fetch(hk_world *world, uint8_t *out", "functions of the header and the crate",
      "hk_fetch(hk_world *world, const uint8_t *out"),
     ("header", "size_t hk_text(", "functions of the header and the crate", "uint32_t hk_text("),
+    ("header", "uint8_t *out, size_t n, size_t *size);", "functions of the header and the crate",
+     "uint8_t *out, size_t n, uint64_t *size);"),
+    ("header", "hk_show(const uint8_t *message, size_t message_n, uint8_t *out, size_t n",
+     "functions of the header and Rust", "hk_show(uint8_t *out, size_t n, const uint8_t *message, size_t message_n"),
     ("header", "static inline uint32_t hk_shut(hk", "inline functions", "static inline uint32_t hk_shutdown(hk"),
     ("header", "\tuint16_t index;", "the route", "\tuint32_t index;"),
     ("header", "#define HK_LINK_BYTES 32", "the route", "#define HK_LINK_BYTES 31"),

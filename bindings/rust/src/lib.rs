@@ -28,6 +28,6 @@ mod sys;
 mod world;
 
 pub use errno::{Errno, LineError};
-pub use messages::{Dump, Messages};
+pub use messages::{Dump, Message, Messages};
 pub use route::{Gateway, LinkAddress, Route};
 pub use world::{Kind, Socket, World};

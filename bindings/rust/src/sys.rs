@@ -9,6 +9,9 @@ pub(crate) const LINK_BYTES: usize = 32;
 pub(crate) const AF_INET: u8 = 2;
 /// The answer to a line that the grammar doesn't have.
 pub(crate) const BAD: u32 = 256;
+/// What there is too little room for, and what there is no memory for.
+const NO_ROOM: u32 = 12;
+const NO_MEMORY: u32 = 55;
 
 #[repr(C)]
 #[derive(Debug)]
@@ -57,6 +60,7 @@ extern "C" {
     fn hk_line(world: *mut World, line: *const u8, n: usize) -> u32;
     fn hk_fetch(world: *mut World, out: *mut u8, n: usize) -> usize;
     fn hk_text(world: *mut World, out: *mut u8, n: usize) -> usize;
+    fn hk_show(message: *const u8, message_n: usize, out: *mut u8, n: usize, size: *mut usize) -> u32;
 }
 
 /// A world of the library. It is not copied, and dropping it closes it.
@@ -204,5 +208,22 @@ impl Handle {
 impl Drop for Handle {
     fn drop(&mut self) {
         unsafe { hk_close(&mut self.world) }
+    }
+}
+
+/// The text of a message. Where there is no memory, for the library or for the text, that is answered as the library
+/// does.
+pub(crate) fn show(message: &[u8]) -> Result<Vec<u8>, u32> {
+    let (at, message_n) = (message.as_ptr(), message.len());
+    let (mut text, mut size) = (Vec::new(), 0);
+    loop {
+        // SAFETY: as for the calls on a world, and this has none.
+        let code = unsafe { hk_show(at, message_n, text.as_mut_ptr(), text.len(), &mut size) };
+        match code {
+            0 => return Ok(text),
+            NO_ROOM => text.try_reserve_exact(size).map_err(|_| NO_MEMORY)?,
+            _ => return Err(code),
+        }
+        text.resize(size, 0);
     }
 }
