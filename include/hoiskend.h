@@ -306,7 +306,7 @@ static inline size_t hk_text_size(hk_world *world)
 
 /*
  * Shows a message as people read one: the fields of its header by their names, and each address on a line of its own
- * (docs/FORMATS.md, `A message in words`). Of the reply to a GET:
+ * (docs/FORMATS.md, `A message in words`). The reply to a GET is
  *
  *     RTM_GET: length 116, version 3, pid 100, seq 1, index 0
  *      flags 00000141<UP,DONE,CLONING>
@@ -319,8 +319,8 @@ static inline size_t hk_text_size(hk_world *world)
  * bytes; the rest of `out` stays. The text is lines of ASCII, each ended by a newline, with no 0 behind them. Any bytes
  * have one: that of bytes which are no message shows them in hexadecimal, and says why.
  *
- * This is no command. It has no world: none is looked at, none changes, and none has to be open; and it may be in
- * several calls at the same time.
+ * This is no command. It has no world: none is looked at, none changes, and none has to be open. Threads may call it at
+ * the same time.
  *
  * HK_ENOBUFS: `size` and `out` stay. HK_ENOMEM: the text doesn't fit; `size` says how many bytes it has, and `out`
  * stays. So an n of 0 asks for the size alone.

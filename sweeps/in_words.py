@@ -76,7 +76,7 @@ def show_each_message(sweep, examples):
 
 def shown_texts():
     """The message in words that the pages show, by the page."""
-    header = re.search(r"Of the reply to a GET:\n \*\n((?: \*     .*\n)+)", Sources.of_today().header)
+    header = re.search(r"The reply to a GET is\n \*\n((?: \*     .*\n)+)", Sources.of_today().header)
     manual = re.search(r"The reply to a GET is\n\.Bd [^\n]*\n(.*?)\.Ed", PAGE.read_text(), re.S)
     formats = re.search(r"### A message in words\n.*?```\n(.*?)```", FORMATS.read_text(), re.S)
     yield "the header", re.sub(r"^ \*     ", "", header[1], flags=re.M) if header else ""

@@ -18,7 +18,8 @@
 //! # }
 //! ```
 //!
-//! Messages are the bytes of a 32-bit machine that stores the highest byte first; Hoiskend's docs/FORMATS.md has them.
+//! Messages are the bytes of a 32-bit machine that stores the highest byte first; Hoiskend's docs/FORMATS.md has them. A
+//! [`Message`] is displayed in words.
 #![deny(unsafe_code, missing_docs)]
 
 mod errno;

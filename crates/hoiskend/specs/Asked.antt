@@ -1,5 +1,5 @@
 -- The command that the parameters of a call ask for, and none where they say none.
-use Rattle.std.specs.Prelude.{ℕ, nat_le, ◌==◌, ◌&&◌, Bool, true, false, if◌then◌else◌, List, length, Option, Some, None}
+use Rattle.std.specs.Prelude.{ℕ, nat_le, ◌==◌, ◌&&◌, Bool, if◌then◌else◌, List, length, Option, Some, None}
 use Rattle.event_file.specs.Words.{◌>>=◌}
 use Rattle.if_addrs.specs.declared.kind.Kind.{Kind}
 use Rattle.if_addrs.specs.declared.kind.Kind.TheVariants.{Broadcast, Loopback as OfLoopback, PointToPoint}

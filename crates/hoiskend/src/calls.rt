@@ -1,4 +1,4 @@
-//! The functions that the library exports. Each that is given a closed handle answers EINVAL, and does nothing.
+//! The functions over a handle that the library exports. Given a closed one each answers EINVAL, and does nothing.
 ghost use Rattle.std.specs.Prelude.{◌≡◌, ◌-◌, ◌^◌, Some, None, length, min, unwrap_or};
 ghost use Rattle.event_file.specs.Given.{given};
 ghost use Rattle.listeners.specs.Queue.{joined};

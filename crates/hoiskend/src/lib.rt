@@ -1,4 +1,5 @@
-//! The routing core for a program in C: a static library of functions over a handle. `include/hoiskend.h` has their types.
+//! The routing core for a program in C: a static library of functions over a handle, and one that shows a message in
+//! words. `include/hoiskend.h` has their types.
 #![tactic(auto)]
 
 mod asked;

@@ -1,6 +1,5 @@
 -- `lay` writes the session into its block, which the handle owns from then on. Assumes `Logic`.
-use Rattle.std.proofs.Common.{◌≡◌, ℕ, Some, List, [], ◌∷◌, ◌++◌, refl, sym, ap, ◌∙◌, subst}
-use mir.Raw.{raw as bare}
+use Rattle.std.proofs.Common.{◌≡◌, Some, List, [], ◌∷◌, ◌++◌, refl, sym, subst}
 use mir.Val.{Val, vptr, vunit}
 use base.Fraction.{full_share}
 use base.Logic.{SProp, ent, emp, id⊢}
@@ -16,9 +15,9 @@ use contract.Running.{tables}
 use denote.Exit.{yes, no}
 use denote.Laws.{shows}
 use denote.Memory.{part_at, cell_at, lone}
-use denote.RattleType.{RattleType, owns}
+use denote.RattleType.{owns}
 use denote.Signature.{types_at, plain}
-use denote.RawPtr.{Ptr, block_ptr}
+use denote.RawPtr.{block_ptr}
 use denote.Steps.{nothing, opens, closes, peeks}
 use denote.Triple.Walked.{Stays, stay_dropped, stay_ref, walk_of, Goes-dropped, Goes-ref}
 use Rattle.core.proofs.alloc.Calls.{Goes-blank}
@@ -26,8 +25,7 @@ use Rattle.std.proofs.raw_atomic.Walks.{proved_at, leaves}
 use Rattle.std_alloc.proofs.RawLayout.{as_written}
 use Rattle.std_alloc.proofs.VecSteps.Shapes.{after}
 use Rattle.hoiskend.specs.contracts.session.Session.{the_row as R}
-use Rattle.hoiskend.specs.Owning.{may_own}
-use Rattle.hoiskend.proofs.Memory.{Field, handle_val, field_made, Room, room_val, room_had, room_good, value_tells}
+use Rattle.hoiskend.proofs.Memory.{handle_val, field_made, Room, room_val, room_had, room_good, value_tells}
 use Rattle.hoiskend.proofs.handle.Handle.TheLaws.{lowers}
 use Rattle.hoiskend.specs.contracts.handle.Handle.{the_row as B}
 use Rattle.hoiskend.specs.contracts.handle.Handle.lay.{ended, clauses}

@@ -19,7 +19,7 @@ use denote.Exit.{no}
 use denote.Follow.{follows, Part, lends_Part}
 use denote.Laws.{shows}
 use denote.Memory.{mem, cell_at, lone, part_of}
-use denote.RattleType.{RattleType, owns}
+use denote.RattleType.{owns}
 use denote.Ref.{MutBor, MutRef}
 use denote.Signature.{types_at, plain, mut_ref_to}
 use denote.RawPtr.{Ptr, block_ptr, lies_at, in_a_block}

@@ -1,5 +1,5 @@
 -- `lift` moves the session out of its block, which the handle owns no longer. Assumes `Logic`.
-use Rattle.std.proofs.Common.{◌≡◌, ℕ, Option, Some, None, List, [], ◌∷◌, ◌++◌, refl, sym, ap, ◌∙◌, subst}
+use Rattle.std.proofs.Common.{◌≡◌, Option, Some, None, List, [], ◌∷◌, ◌++◌, refl, sym, ap, ◌∙◌, subst}
 use lib.Dec.{lit<}
 use mir.Raw.{raw as bare}
 use mir.Val.{Val, vptr}
@@ -16,7 +16,7 @@ use contract.Running.{tables}
 use denote.Exit.{yes}
 use denote.Laws.{shows}
 use denote.Memory.{cell_at, lone}
-use denote.RattleType.{RattleType, owns}
+use denote.RattleType.{owns}
 use denote.Signature.{types_at, plain}
 use denote.RawPtr.{Ptr, block_ptr, null_ptr, lies_at, in_a_block}
 use denote.Steps.{nothing, opens, closes, heard, peeks}
