@@ -1,5 +1,5 @@
 -- How long addresses are, and the field that names them.
-use Rattle.std.proofs.Common.{◌≡◌, ℕ, zero, suc, ◌+◌, ◌*◌, ◌/◌, ◌<◌, ◌≤◌, ◌==◌, List, [], ◌∷◌, length, get_or, refl, ap, ◌∙◌, arith, length-append, Option, Some, None, is_some}
+use Rattle.std.proofs.Common.{◌≡◌, ℕ, zero, suc, ◌+◌, ◌*◌, ◌/◌, ◌<◌, ◌≤◌, ◌==◌, List, [], ◌∷◌, ◌++◌, length, get_or, refl, ap, sym, ◌∙◌, arith, length-append, append-nil, append_assoc, Option, Some, None, is_some}
 use Rattle.std.specs.List.{flat_map}
 use Rattle.std.specs.Int.{bit_at}
 use Rattle.std.proofs.lemmas.Nat.Bits.{bit_at_lowest, bit_at-suc}
@@ -15,6 +15,41 @@ sizes : (xs : List (Option (List ℕ))) → ((k : ℕ) → IsSockaddrOrNone (get
 sizes [] each = omega arith
 sizes (t ∷ xs) each =
     omega (arith, length-append (bytes_or_none t) (flat_map bytes_or_none xs), one_size t (each 0), sizes xs (λ k. each (suc k)))
+
+-- the sizes of the eight, one after the other
+pub sizes_added : (info : AddrInfo) → length (address_bytes info) ≡ length (bytes_or_none info.dst) + length (bytes_or_none info.gateway) + length (bytes_or_none info.netmask) + length (bytes_or_none info.genmask) + length (bytes_or_none info.ifp) + length (bytes_or_none info.ifa) + length (bytes_or_none info.author) + length (bytes_or_none info.brd)
+sizes_added info =
+    let rest : (t : Option (List ℕ)) (xs : List (Option (List ℕ))) → length (flat_map bytes_or_none (t ∷ xs)) ≡ length (bytes_or_none t) + length (flat_map bytes_or_none xs) = λ t xs. length-append (bytes_or_none t) (flat_map bytes_or_none xs) in
+    omega (
+      arith,
+      rest info.dst (info.gateway ∷ info.netmask ∷ info.genmask ∷ info.ifp ∷ info.ifa ∷ info.author ∷ info.brd ∷ []),
+      rest info.gateway (info.netmask ∷ info.genmask ∷ info.ifp ∷ info.ifa ∷ info.author ∷ info.brd ∷ []),
+      rest info.netmask (info.genmask ∷ info.ifp ∷ info.ifa ∷ info.author ∷ info.brd ∷ []),
+      rest info.genmask (info.ifp ∷ info.ifa ∷ info.author ∷ info.brd ∷ []),
+      rest info.ifp (info.ifa ∷ info.author ∷ info.brd ∷ []),
+      rest info.ifa (info.author ∷ info.brd ∷ []),
+      rest info.author (info.brd ∷ []),
+      rest info.brd [],
+    )
+
+-- a list with another behind it
+pub longer : (new old behind : List ℕ) → new ≡ old ++ behind → length new ≡ length old + length behind
+longer new old behind e = ap length e ∙ length-append old behind
+
+-- what is appended address by address
+put_all : List ℕ → List (Option (List ℕ)) → List ℕ
+put_all m [] = m
+put_all m (t ∷ xs) = put_all (m ++ bytes_or_none t) xs
+
+all_put : (m : List ℕ) (xs : List (Option (List ℕ))) → put_all m xs ≡ m ++ flat_map bytes_or_none xs
+unfolding put_all
+all_put m [] = sym (append-nil m)
+all_put m (t ∷ xs) = all_put (m ++ bytes_or_none t) xs ∙ append_assoc m (bytes_or_none t) (flat_map bytes_or_none xs)
+
+-- the eight, one after the other
+pub put_in_order : (m : List ℕ) (info : AddrInfo) → ((((((((m ++ bytes_or_none info.dst) ++ bytes_or_none info.gateway) ++ bytes_or_none info.netmask) ++ bytes_or_none info.genmask) ++ bytes_or_none info.ifp) ++ bytes_or_none info.ifa) ++ bytes_or_none info.author) ++ bytes_or_none info.brd) ≡ m ++ address_bytes info
+unfolding put_all
+put_in_order m info = all_put m (in_order info)
 
 -- all eight together
 pub addresses_fit : (info : AddrInfo) → AreSockaddrs info → length (address_bytes info) ≤ 256

@@ -1,4 +1,4 @@
-ghost use Rattle.std.specs.Prelude.{◌≡◌, ◌≤◌, length};
+ghost use Rattle.std.specs.Prelude.{◌≡◌, ◌+◌, ◌≤◌, ◌++◌, length};
 
 use crate::bits::{
     RTA_AUTHOR, RTA_BRD, RTA_DST, RTA_GATEWAY, RTA_GENMASK, RTA_IFA, RTA_IFP, RTA_NETMASK,
@@ -27,23 +27,7 @@ pub struct AddrInfo {
 }
 
 impl AddrInfo {
-    ghost use Rattle.route_msgs.specs.AddrInfo.{in_order as in_order_of, address_bytes, addrs_of};
-
-    /// In the order of their bits.
-    fn in_order(&self) -> [Option<Sockaddr>; 8]
-        ensures { result ≡ in_order_of self.now }
-    {
-        [
-            self.dst,
-            self.gateway,
-            self.netmask,
-            self.genmask,
-            self.ifp,
-            self.ifa,
-            self.author,
-            self.brd,
-        ]
-    }
+    ghost use Rattle.route_msgs.specs.AddrInfo.{address_bytes, addrs_of};
 
     /// The addrs field of a message that has these addresses.
     pub(crate) fn addrs(&self) -> u32
@@ -59,27 +43,65 @@ impl AddrInfo {
             + bit(&self.brd, RTA_BRD)
     }
 
-    /// The bytes of all of them, one address after the other.
-    pub(crate) fn bytes(&self) -> Message
-        requires { length (address_bytes self.now) ≤ MOST_MADE }
-        ensures { result.items ≡ address_bytes self.now }
+    /// How many bytes all of them take.
+    #[tactic(auto, using(crate::proofs::AddressSizes::sizes_added))]
+    pub(crate) fn size(&self) -> usize
+        ensures size { result ≡ length (address_bytes self.now) }
+        ensures most { result ≤ 256 }
     {
-        let addresses = self.in_order();
-        let mut out = Message::new();
-        for sockaddr in &addresses {
-            if let Some(sockaddr) = sockaddr {
-                out.try_extend_from_slice(sockaddr.as_bytes()).unwrap();
-            }
-        }
-        out
+        size(&self.dst)
+            + size(&self.gateway)
+            + size(&self.netmask)
+            + size(&self.genmask)
+            + size(&self.ifp)
+            + size(&self.ifa)
+            + size(&self.author)
+            + size(&self.brd)
+    }
+
+    /// Appends the bytes of all of them, one address after the other.
+    #[tactic(auto, using(crate::proofs::AddressSizes::sizes_added))]
+    pub(crate) fn put(&self, message: &mut Message)
+        requires { length message.old.items + length (address_bytes self.now) ≤ MOST_MADE }
+        ensures { message.new.items ≡ message.old.items ++ address_bytes self.now }
+    {
+        put(&self.dst, message);
+        put(&self.gateway, message);
+        put(&self.netmask, message);
+        put(&self.genmask, message);
+        put(&self.ifp, message);
+        put(&self.ifa, message);
+        put(&self.author, message);
+        put(&self.brd, message);
     }
 }
 
-ghost use Rattle.route_msgs.specs.AddrInfo.{bit_of};
+ghost use Rattle.route_msgs.specs.AddrInfo.{bit_of, bytes_or_none};
 
 /// The bit where the address is there.
 fn bit(sockaddr: &Option<Sockaddr>, bit: u32) -> u32
     ensures { result ≡ bit_of bit sockaddr.now }
 {
     if sockaddr.is_some() { bit } else { 0 }
+}
+
+/// How many bytes the address takes, where it is there.
+fn size(sockaddr: &Option<Sockaddr>) -> usize
+    ensures size { result ≡ length (bytes_or_none sockaddr.now) }
+    ensures most { result ≤ 32 }
+{
+    match sockaddr {
+        Some(sockaddr) => sockaddr.as_bytes().len(),
+        None => 0,
+    }
+}
+
+/// Appends the bytes of the address, where it is there.
+fn put(sockaddr: &Option<Sockaddr>, message: &mut Message)
+    requires { length message.old.items + length (bytes_or_none sockaddr.now) ≤ MOST_MADE }
+    ensures { message.new.items ≡ message.old.items ++ bytes_or_none sockaddr.now }
+{
+    if let Some(sockaddr) = sockaddr {
+        message.try_extend_from_slice(sockaddr.as_bytes()).unwrap();
+    }
 }

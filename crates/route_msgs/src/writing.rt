@@ -1,4 +1,4 @@
-ghost use Rattle.std.specs.Prelude.{◌≡◌, ◌+◌, ◌≤◌, ◌++◌, length};
+ghost use Rattle.std.specs.Prelude.{◌≡◌, ◌+◌, ◌≤◌, length};
 ghost use Rattle.route_msgs.specs.AddrInfo.{address_bytes};
 ghost use Rattle.route_msgs.specs.Layout.{number_at, with_fields};
 ghost use Rattle.route_msgs.specs.Headers.{ifa_head, ifa_message, metric_fields, route_head, route_message};
@@ -15,12 +15,30 @@ pub fn write_route_msg(header: &Header, addresses: &AddrInfo) -> Message
     ensures size { length result.items ≡ 76 + length (address_bytes addresses.now) }
     ensures says_size { number_at 0 2 result.items ≡ length result.items }
 {
-    let behind = addresses.bytes();
-    let size = 76 + behind.len();
-    joined(
-        &route_header(header, size as u16, addresses.addrs()),
-        &behind,
-    )
+    let mut message = Message::new();
+    put_route_msg(header, addresses, &mut message);
+    message
+}
+
+/// Writes a message about a route, as `write_route_msg`, in the place of what is in `message`.
+pub fn put_route_msg(header: &Header, addresses: &AddrInfo, message: &mut Message)
+    requires { 76 + length (address_bytes addresses.now) ≤ MOST_MADE }
+    ensures message { message.new.items ≡ route_message header.now addresses.now }
+    ensures size { length message.new.items ≡ 76 + length (address_bytes addresses.now) }
+    ensures says_size { number_at 0 2 message.new.items ≡ length message.new.items }
+{
+    let size = route_msg_size(addresses);
+    let head = route_header(header, size as u16, addresses.addrs());
+    message.clear();
+    message.try_extend_from_slice(&head).unwrap();
+    addresses.put(message);
+}
+
+/// How many bytes a message about a route takes that has these addresses.
+pub fn route_msg_size(addresses: &AddrInfo) -> usize
+    ensures { result ≡ 76 + length (address_bytes addresses.now) }
+{
+    76 + addresses.size()
 }
 
 /// Writes a message about an interface's address: the header with the message's length and version 3, and behind it the
@@ -31,18 +49,11 @@ pub fn write_ifa_msg(header: &IfaHeader, addresses: &AddrInfo) -> Message
     ensures size { length result.items ≡ 20 + length (address_bytes addresses.now) }
     ensures says_size { number_at 0 2 result.items ≡ length result.items }
 {
-    let behind = addresses.bytes();
-    let size = 20 + behind.len();
-    joined(&ifa_header(header, size as u16, addresses.addrs()), &behind)
-}
-
-fn joined(head: &[u8], behind: &[u8]) -> Message
-    requires { length head.now + length behind.now ≤ MOST_MADE }
-    ensures { result.items ≡ head.now ++ behind.now }
-{
+    let size = 20 + addresses.size();
+    let head = ifa_header(header, size as u16, addresses.addrs());
     let mut message = Message::new();
-    message.try_extend_from_slice(head).unwrap();
-    message.try_extend_from_slice(behind).unwrap();
+    message.try_extend_from_slice(&head).unwrap();
+    addresses.put(&mut message);
     message
 }
 

@@ -4,7 +4,7 @@ ghost use Rattle.std.specs.List.{AllByRecursion};
 ghost use Rattle.if_addrs.specs.Interfaces.{Interface, IsOf};
 ghost use Rattle.table_dump.specs.Dumps.{IsWhole, bytes_of, dump_fault, fitting, shown_of, total_of};
 
-use crate::shown::{is_asked, shown};
+use crate::shown::{is_asked, shown, shown_size};
 use if_addrs::Interfaces;
 use radix_tree::{Table, Visits};
 use route_entries::Route;
@@ -23,7 +23,7 @@ pub fn total(table: &Table<Route>, visits: &mut Visits, filter: Option<u32>) -> 
     let mut total = 0u64;
     while let Some((key, rank, route)) = walk.step(visits) {
         if is_asked(route, filter) {
-            total = total.saturating_add(shown(0, key, rank, route).len() as u64);
+            total = total.saturating_add(shown_size(key, rank, route) as u64);
         }
     }
     total

@@ -6,11 +6,11 @@ use Rattle.route_msgs.proofs.writing.write_ifa_msg.Goals as goal
 
 pub returns-clause-size : goal.returns-clause-size
 returns-clause-size c =
-    let message : c.joined.result.items ≡ ifa_message c.args.header.now c.args.addresses.now = search rules in
+    let message : c.put.new.message.items ≡ ifa_message c.args.header.now c.args.addresses.now = search rules in
     rw message (ifa_says c.args.header.now c.args.addresses.now c.requires).size
 
 pub returns-clause-says_size : goal.returns-clause-says_size
 returns-clause-says_size c =
-    let message : c.joined.result.items ≡ ifa_message c.args.header.now c.args.addresses.now = search rules in
+    let message : c.put.new.message.items ≡ ifa_message c.args.header.now c.args.addresses.now = search rules in
     let says = ifa_says c.args.header.now c.args.addresses.now c.requires in
     rw message (says.says ∙ sym says.size)

@@ -2,15 +2,15 @@
 use Rattle.std.proofs.Common.{◌≡◌, rules, sym, ◌∙◌}
 use Rattle.route_msgs.specs.Headers.{route_message}
 use Rattle.route_msgs.proofs.SizesRead.{route_says}
-use Rattle.route_msgs.proofs.writing.write_route_msg.Goals as goal
+use Rattle.route_msgs.proofs.writing.put_route_msg.Goals as goal
 
 pub returns-clause-size : goal.returns-clause-size
 returns-clause-size c =
-    let message : c.joined.result.items ≡ route_message c.args.header.now c.args.addresses.now = search rules in
+    let message : c.put.new.message.items ≡ route_message c.args.header.now c.args.addresses.now = search rules in
     rw message (route_says c.args.header.now c.args.addresses.now c.requires).size
 
 pub returns-clause-says_size : goal.returns-clause-says_size
 returns-clause-says_size c =
-    let message : c.joined.result.items ≡ route_message c.args.header.now c.args.addresses.now = search rules in
+    let message : c.put.new.message.items ≡ route_message c.args.header.now c.args.addresses.now = search rules in
     let says = route_says c.args.header.now c.args.addresses.now c.requires in
     rw message (says.says ∙ sym says.size)
