@@ -16,7 +16,8 @@ use route_msgs::kinds::{
     RTM_ADD, RTM_DELETE, RTM_GET, RTM_LOSING, RTM_MISS, RTM_REDIRECT, RTM_RESOLVE,
 };
 use route_msgs::{
-    AddrInfo, Header, IfaHeader, Message, Sockaddr, ifa_flags, write_ifa_msg, write_route_msg,
+    AddrInfo, Header, IfaHeader, Message, Sockaddr, ifa_flags, put_route_msg, write_ifa_msg,
+    write_route_msg,
 };
 use route_ops::Notice;
 use sock_addrs::families::{AF_INET, AF_LINK};
@@ -115,12 +116,18 @@ pub(crate) fn route_deleted(index: u16, route: &Entry<Route>) -> Message
     route_told(RTM_DELETE, index, route.value.flags & !RTF_UP, route)
 }
 
-/// The reply to a GET: what was asked, and the route with what is shown of its interface.
+/// Makes the reply to a GET: what was asked, and the route with what is shown of its interface.
 #[tactic(auto, using(crate::proofs::WholeMessages::message_of_size))]
-pub(crate) fn route_got(asked: &Header, pid: u32, shown: &Shown, route: &Entry<Route>) -> Message
+pub(crate) fn put_route_got(
+    asked: &Header,
+    pid: u32,
+    shown: &Shown,
+    route: &Entry<Route>,
+    message: &mut Message,
+)
     requires { route.now.rank ≤ 33 }
-    ensures message { result.items ≡ got_message asked.now pid shown.now route.now }
-    ensures whole { IsMessage result.items }
+    ensures message { message.new.items ≡ got_message asked.now pid shown.now route.now }
+    ensures whole { IsMessage message.new.items }
 {
     let header = Header {
         index: shown.index,
@@ -139,7 +146,7 @@ pub(crate) fn route_got(asked: &Header, pid: u32, shown: &Shown, route: &Entry<R
         ifa: gate(shown.ifa),
         ..addresses_of(route.key, route.rank, &route.value)
     };
-    write_route_msg(&header, &addresses)
+    put_route_msg(&header, &addresses, message);
 }
 
 /// A link-layer address, where there is one.
@@ -185,11 +192,11 @@ fn number(errno: Option<Errno>) -> u32
     }
 }
 
-/// A message of this type about a look-up.
+/// Makes a message of this type about a look-up.
 #[tactic(auto, using(crate::proofs::WholeMessages::message_of_size))]
-fn looked_up(kind: u8, about: Gate, errno: Option<Errno>) -> Message
-    ensures message { result.items ≡ looked_up_message kind about errno }
-    ensures whole { IsMessage result.items }
+fn put_looked_up(kind: u8, about: Gate, errno: Option<Errno>, message: &mut Message)
+    ensures message { message.new.items ≡ looked_up_message kind about errno }
+    ensures whole { IsMessage message.new.items }
 {
     let header = Header {
         flags: u32::from(RTF_DONE),
@@ -200,20 +207,21 @@ fn looked_up(kind: u8, about: Gate, errno: Option<Errno>) -> Message
         dst: Some(Sockaddr::gate(about)),
         ..AddrInfo::default()
     };
-    write_route_msg(&header, &addresses)
+    put_route_msg(&header, &addresses, message);
 }
 
-/// The message of a redirect.
+/// Makes the message of a redirect.
 #[tactic(auto, using(crate::proofs::WholeMessages::message_of_size))]
-fn redirected(
+fn put_redirected(
     destination: Inet,
     gateway: Gate,
     author: Inet,
     flags: u16,
     errno: Option<Errno>,
-) -> Message
-    ensures message { result.items ≡ redirected_message destination gateway author flags errno }
-    ensures whole { IsMessage result.items }
+    message: &mut Message,
+)
+    ensures message { message.new.items ≡ redirected_message destination gateway author flags errno }
+    ensures whole { IsMessage message.new.items }
 {
     let header = Header {
         flags: u32::from(flags),
@@ -226,14 +234,14 @@ fn redirected(
         author: Some(Sockaddr::inet(author)),
         ..AddrInfo::default()
     };
-    write_route_msg(&header, &addresses)
+    put_route_msg(&header, &addresses, message);
 }
 
-/// The message of a route that is doubted.
+/// Makes the message of a route that is doubted.
 #[tactic(auto, using(crate::proofs::WholeMessages::message_of_size))]
-fn doubted(destination: Inet, gateway: Gate, rank: Rank, flags: u16) -> Message
-    ensures message { result.items ≡ doubted_message destination gateway rank flags }
-    ensures whole { IsMessage result.items }
+fn put_doubted(destination: Inet, gateway: Gate, rank: Rank, flags: u16, message: &mut Message)
+    ensures message { message.new.items ≡ doubted_message destination gateway rank flags }
+    ensures whole { IsMessage message.new.items }
 {
     let header = Header {
         flags: u32::from(flags | RTF_DONE),
@@ -245,30 +253,30 @@ fn doubted(destination: Inet, gateway: Gate, rank: Rank, flags: u16) -> Message
         netmask: mask(rank),
         ..AddrInfo::default()
     };
-    write_route_msg(&header, &addresses)
+    put_route_msg(&header, &addresses, message);
 }
 
-/// The message of a notice.
-pub(crate) fn notice_message(notice: &Notice) -> Message
-    ensures message { result.items ≡ message_of_notice notice.now }
-    ensures whole { IsMessage result.items }
+/// Makes the message of a notice.
+pub(crate) fn put_notice(notice: &Notice, message: &mut Message)
+    ensures message { message.new.items ≡ message_of_notice notice.now }
+    ensures whole { IsMessage message.new.items }
 {
     match notice {
-        Notice::Miss { about, errno } => looked_up(RTM_MISS, *about, *errno),
-        Notice::Resolve { about } => looked_up(RTM_RESOLVE, *about, None),
+        Notice::Miss { about, errno } => put_looked_up(RTM_MISS, *about, *errno, message),
+        Notice::Resolve { about } => put_looked_up(RTM_RESOLVE, *about, None, message),
         Notice::Redirect {
             destination,
             gateway,
             author,
             flags,
             errno,
-        } => redirected(*destination, *gateway, *author, *flags, *errno),
+        } => put_redirected(*destination, *gateway, *author, *flags, *errno, message),
         Notice::Losing {
             address,
             gateway,
             rank,
             flags,
-        } => doubted(*address, *gateway, *rank, *flags),
+        } => put_doubted(*address, *gateway, *rank, *flags, message),
     }
 }
 

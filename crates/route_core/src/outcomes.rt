@@ -1,5 +1,5 @@
 //! The requests that writes make, carried out.
-ghost use Rattle.std.specs.Prelude.{◌≡◌, ◌⊎◌, ℕ, List, [], None, Ok, Err, IfOk, IfSome, OnErr, MatchResult, true};
+ghost use Rattle.std.specs.Prelude.{◌≡◌, ◌⊎◌, ℕ, List, [], Ok, Err, IfOk, OnErr, OnOk, MatchResult, false, true};
 ghost use Rattle.if_addrs.specs.Interfaces.{IsOf};
 ghost use Rattle.listeners.specs.Queue.{IsMessage};
 ghost use Rattle.route_msgs.specs.Headers.{header_in};
@@ -12,7 +12,7 @@ ghost use Rattle.route_core.specs.Outcomes.{outcome_with};
 ghost use Rattle.route_core.specs.declared.request.Request.TheVariants as asks;
 ghost use Rattle.route_core.specs.Requests.{adding_outcome, delete_outcome, done_reply, get_outcome, interface_shown, lock_outcome, makes_room, outcome_of};
 
-use crate::messages::{Shown, route_got};
+use crate::messages::{Shown, put_route_got};
 use crate::request::{Asked, Request};
 use if_addrs::{IfaRef, Interfaces};
 use mask_table::Prefix;
@@ -30,50 +30,51 @@ use sock_addrs::{Errno, Inet};
 pub(crate) struct Done {
     /// The messages before its reply, in order.
     pub(crate) notices: Notices,
-    /// The reply, where it isn't the written message.
-    pub(crate) reply: Option<Message>,
+    /// Whether its reply is one of its own, and not the written message.
+    pub(crate) has_own: bool,
 }
 
 impl Done {
     /// It told these messages, and its reply is the written one.
     fn told(notices: Notices) -> Done
         ensures notices { result.notices ≡ notices }
-        ensures reply { result.reply ≡ None }
+        ensures echoed { result.has_own ≡ false }
     {
         Done {
             notices,
-            reply: None,
+            has_own: false,
         }
     }
 
     /// It told nothing but the reply.
-    fn quiet(reply: Option<Message>) -> Done
+    fn quiet(has_own: bool) -> Done
         ensures notices { result.notices.items ≡ [] }
-        ensures reply { result.reply ≡ reply }
+        ensures reply { result.has_own ≡ has_own }
     {
         Done {
             notices: Notices::new(),
-            reply,
+            has_own,
         }
     }
 }
 
-/// Carries out what a process asks. Refused as the calls of `route_ops` say, or by ENOBUFS for want of memory, and no
-/// route is changed then.
+/// Carries out what a process asks, and makes the reply in `own` where it isn't the written message. Refused as the
+/// calls of `route_ops` say, or by ENOBUFS for want of memory, and no route is changed then.
 pub(crate) fn carry_out(
     table: &mut Table<Route>,
     interfaces: &Interfaces,
     asked: &Asked,
     pid: u32,
+    own: &mut Message,
 ) -> Result<Done, Errno>
     requires of { AreOf interfaces.now table.old.entries }
     ensures outcome { (m : List ℕ) → asked.now.header ≡ header_in m → MatchResult result
         (λ d. outcome_of interfaces.now table.old.entries pid m asked.now.request
-        ≡ Ok (outcome_with pid m table.new.entries d.notices.items d.reply))
+        ≡ Ok (outcome_with pid m table.new.entries d.notices.items d.has_own own.new.items))
         (λ e. (outcome_of interfaces.now table.old.entries pid m asked.now.request ≡ Err e)
         ⊎ ((makes_room interfaces.now table.old.entries asked.now.request ≡ true) × (e ≡ ENOBUFS))) }
     ensures kept { OnErr result (table.new.entries ≡ table.old.entries) }
-    ensures message { IfOk result (λ d. IfSome d.reply (λ reply. IsMessage reply.items)) }
+    ensures message { IfOk result (λ d. d.has_own ≡ true → IsMessage own.new.items) }
     ensures of { AreOf interfaces.now table.new.entries }
 {
     match &asked.request {
@@ -100,6 +101,7 @@ pub(crate) fn carry_out(
             pid,
             *destination,
             *shows_interface,
+            own,
         ),
     }
 }
@@ -107,13 +109,13 @@ pub(crate) fn carry_out(
 /// Adds a route. Refused as `request_add`, or by ENOBUFS for want of memory.
 fn add(table: &mut Table<Route>, interfaces: &Interfaces, asked: &NewRoute) -> Result<Done, Errno>
     requires of { AreOf interfaces.now table.old.entries }
-    ensures outcome { (pid : ℕ) (m : List ℕ) → MatchResult result
+    ensures outcome { (pid : ℕ) (m own : List ℕ) → MatchResult result
         (λ d. adding_outcome (done_reply pid m) (add_of asked.now interfaces.now table.old.entries)
-        ≡ Ok (outcome_with pid m table.new.entries d.notices.items d.reply))
+        ≡ Ok (outcome_with pid m table.new.entries d.notices.items d.has_own own))
         (λ e. (adding_outcome (done_reply pid m) (add_of asked.now interfaces.now table.old.entries) ≡ Err e)
         ⊎ ((makes_room interfaces.now table.old.entries (asks.Add asked.now) ≡ true) × (e ≡ ENOBUFS))) }
     ensures kept { OnErr result (table.new.entries ≡ table.old.entries) }
-    ensures echoed { IfOk result (λ d. d.reply ≡ None) }
+    ensures echoed { IfOk result (λ d. d.has_own ≡ false) }
     ensures of { AreOf interfaces.now table.new.entries }
 {
     let Ok(mut spare) = prepare(table) else {
@@ -131,13 +133,13 @@ fn add(table: &mut Table<Route>, interfaces: &Interfaces, asked: &NewRoute) -> R
 /// Changes a route. Refused as `request_change`, or by ENOBUFS for want of memory.
 fn change(table: &mut Table<Route>, interfaces: &Interfaces, asked: &Change) -> Result<Done, Errno>
     requires of { AreOf interfaces.now table.old.entries }
-    ensures outcome { (pid : ℕ) (m : List ℕ) → MatchResult result
+    ensures outcome { (pid : ℕ) (m own : List ℕ) → MatchResult result
         (λ d. adding_outcome (done_reply pid m) (change_of asked.now interfaces.now table.old.entries)
-        ≡ Ok (outcome_with pid m table.new.entries d.notices.items d.reply))
+        ≡ Ok (outcome_with pid m table.new.entries d.notices.items d.has_own own))
         (λ e. (adding_outcome (done_reply pid m) (change_of asked.now interfaces.now table.old.entries) ≡ Err e)
         ⊎ ((makes_room interfaces.now table.old.entries (asks.Change asked.now) ≡ true) × (e ≡ ENOBUFS))) }
     ensures kept { OnErr result (table.new.entries ≡ table.old.entries) }
-    ensures echoed { IfOk result (λ d. d.reply ≡ None) }
+    ensures echoed { IfOk result (λ d. d.has_own ≡ false) }
     ensures of { AreOf interfaces.now table.new.entries }
 {
     let Ok(mut spare) = prepare(table) else {
@@ -159,19 +161,19 @@ fn delete(
     netmask: Option<Prefix>,
     flags: u16,
 ) -> Result<Done, Errno>
-    ensures outcome { (pid : ℕ) (m : List ℕ) → MatchResult result
+    ensures outcome { (pid : ℕ) (m own : List ℕ) → MatchResult result
         (λ d. delete_outcome table.old.entries (done_reply pid m)
         (route_to_delete key netmask flags table.old.entries)
-        ≡ Ok (outcome_with pid m table.new.entries d.notices.items d.reply))
+        ≡ Ok (outcome_with pid m table.new.entries d.notices.items d.has_own own))
         (λ e. delete_outcome table.old.entries (done_reply pid m)
         (route_to_delete key netmask flags table.old.entries)
         ≡ Err e) }
     ensures kept { OnErr result (table.new.entries ≡ table.old.entries) }
-    ensures echoed { IfOk result (λ d. d.reply ≡ None) }
+    ensures echoed { IfOk result (λ d. d.has_own ≡ false) }
     ensures of { KeepsAreOf table.old.entries table.new.entries }
 {
     request_delete(table, key, netmask, flags)?;
-    Ok(Done::quiet(None))
+    Ok(Done::quiet(false))
 }
 
 /// Locks and unlocks metrics of a route. Refused as `request_lock`.
@@ -182,22 +184,22 @@ fn lock(
     inits: u32,
     locks: u32,
 ) -> Result<Done, Errno>
-    ensures outcome { (pid : ℕ) (m : List ℕ) → MatchResult result
+    ensures outcome { (pid : ℕ) (m own : List ℕ) → MatchResult result
         (λ d. lock_outcome table.old.entries (done_reply pid m)
         (lock_of destination netmask inits locks table.old.entries)
-        ≡ Ok (outcome_with pid m table.new.entries d.notices.items d.reply))
+        ≡ Ok (outcome_with pid m table.new.entries d.notices.items d.has_own own))
         (λ e. lock_outcome table.old.entries (done_reply pid m)
         (lock_of destination netmask inits locks table.old.entries)
         ≡ Err e) }
     ensures kept { OnErr result (table.new.entries ≡ table.old.entries) }
-    ensures echoed { IfOk result (λ d. d.reply ≡ None) }
+    ensures echoed { IfOk result (λ d. d.has_own ≡ false) }
     ensures of { KeepsAreOf table.old.entries table.new.entries }
 {
     request_lock(table, destination, netmask, inits, locks)?;
-    Ok(Done::quiet(None))
+    Ok(Done::quiet(false))
 }
 
-/// Shows a route, with its interface where that is asked for. Refused as `request_get`.
+/// Shows a route in `own`, with its interface where that is asked for. Refused as `request_get`.
 fn get(
     table: &mut Table<Route>,
     interfaces: &Interfaces,
@@ -205,16 +207,17 @@ fn get(
     pid: u32,
     destination: Inet,
     shows_interface: bool,
+    own: &mut Message,
 ) -> Result<Done, Errno>
     requires of { AreOf interfaces.now table.old.entries }
     ensures outcome { (m : List ℕ) → header.now ≡ header_in m → MatchResult result
         (λ d. get_outcome interfaces.now table.old.entries pid m shows_interface
         (route_to_show destination table.old.entries)
-        ≡ Ok (outcome_with pid m table.new.entries d.notices.items d.reply))
+        ≡ Ok (outcome_with pid m table.new.entries d.notices.items d.has_own own.new.items))
         (λ e. get_outcome interfaces.now table.old.entries pid m shows_interface
         (route_to_show destination table.old.entries)
         ≡ Err e) }
-    ensures message { IfOk result (λ d. IfSome d.reply (λ reply. IsMessage reply.items)) }
+    ensures message { OnOk result (IsMessage own.new.items) }
     ensures kept { table.new.entries ≡ table.old.entries }
 {
     let mut visits = table.begin();
@@ -223,7 +226,8 @@ fn get(
         Err(errno) => return Err(errno),
     };
     let shown = shown(interfaces, header.index, route.value.ifa, shows_interface);
-    Ok(Done::quiet(Some(route_got(header, pid, &shown, &route))))
+    put_route_got(header, pid, &shown, &route, own);
+    Ok(Done::quiet(true))
 }
 
 /// What a GET shows of the interface of a route: that interface where it is asked for, and otherwise the written

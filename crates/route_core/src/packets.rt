@@ -6,7 +6,7 @@ ghost use Rattle.route_core.specs.Packets.{choice_of, clones_for, fate_of, rejec
 ghost use Rattle.route_core.specs.Step.{Steps};
 ghost use Rattle.route_core.specs.declared.command.Command.TheVariants.{Packet};
 
-use crate::telling::tell;
+use crate::telling::{tell, tell_one};
 use crate::tried::answer_to;
 use crate::{Answer, Choice, World};
 use if_addrs::Interfaces;
@@ -37,7 +37,7 @@ impl World {
                 about: Gate::Inet(destination),
                 errno: None,
             };
-            tell(&mut self.listeners, &[miss]);
+            tell_one(&mut self.listeners, &miss);
             return Err(Errno::EHOSTUNREACH);
         };
         if best.value.has(RTF_CLONING) {

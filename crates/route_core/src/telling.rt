@@ -1,10 +1,12 @@
 //! The messages of look-ups and redirects, told to the sockets.
-ghost use Rattle.std.specs.Prelude.{◌≡◌, map};
-ghost use Rattle.route_core.specs.Messages.{notice_told};
+ghost use Rattle.std.specs.Prelude.{◌≡◌, None, map};
+ghost use Rattle.listeners.specs.Sockets.{delivered};
+ghost use Rattle.route_core.specs.Messages.{notice_family as family_of, notice_message as message_of, notice_told};
 ghost use Rattle.route_core.specs.Telling.{delivered_all};
 
-use crate::messages::{notice_family, notice_message};
+use crate::messages::{notice_family, put_notice};
 use listeners::Listeners;
+use route_msgs::Message;
 use route_ops::Notice;
 
 /// Tells the sockets of look-ups and redirects, one after another.
@@ -13,6 +15,15 @@ pub(crate) fn tell(listeners: &mut Listeners, notices: &[Notice])
     ensures { listeners.new ≡ delivered_all (map notice_told notices.now) listeners.old }
 {
     for notice in notices {
-        listeners.deliver(&notice_message(notice), notice_family(notice), None);
+        tell_one(listeners, notice);
     }
+}
+
+/// Tells the sockets of a look-up or a redirect.
+pub(crate) fn tell_one(listeners: &mut Listeners, notice: &Notice)
+    ensures { listeners.new ≡ delivered (message_of notice.now) (family_of notice.now) None listeners.old }
+{
+    let mut message = Message::new();
+    put_notice(notice, &mut message);
+    listeners.deliver(&message, notice_family(notice), None);
 }

@@ -1,5 +1,5 @@
 //! Writes to a routing socket.
-ghost use Rattle.std.specs.Prelude.{◌≡◌, IfSome, IsSome, Some};
+ghost use Rattle.std.specs.Prelude.{◌≡◌, IsSome, Some, true};
 ghost use Rattle.listeners.specs.Queue.{IsMessage};
 ghost use Rattle.listeners.specs.Sockets.{delivered};
 ghost use Rattle.route_msgs.specs.Headers.{header_in};
@@ -18,7 +18,7 @@ use crate::telling::tell;
 use crate::tried::done_or_refused;
 use crate::{Answer, World};
 use listeners::Listeners;
-use route_msgs::Header;
+use route_msgs::{Header, Message};
 use sock_addrs::families::AF_INET;
 use sock_addrs::{Errno, Name};
 
@@ -58,7 +58,8 @@ impl World {
             (outcome_of self.old.interfaces self.old.table pid bytes.now asked.now.request))
             self.old (answer_of result) self.new }
     {
-        match carry_out(&mut self.table, &self.interfaces, asked, pid) {
+        let mut own = Message::new();
+        match carry_out(&mut self.table, &self.interfaces, asked, pid, &mut own) {
             Ok(done) => {
                 tell(&mut self.listeners, &done.notices);
                 reply(
@@ -69,6 +70,7 @@ impl World {
                     bytes,
                     &asked.header,
                     &done,
+                    &own,
                 );
                 Ok(())
             }
@@ -105,14 +107,16 @@ fn reply(
     bytes: &[u8],
     header: &Header,
     done: &Done,
+    own: &Message,
 )
     requires echoed { IsEchoed bytes.now }
     requires header { header.now ≡ header_in bytes.now }
-    requires message { IfSome done.now.reply (λ reply. IsMessage reply.items) }
-    ensures { listeners.new ≡ delivered (reply_with pid bytes.now done.now.reply) AF_INET (Some id) listeners.old }
+    requires message { done.now.has_own ≡ true → IsMessage own.now.items }
+    ensures { listeners.new ≡ delivered (reply_with pid bytes.now done.now.has_own own.now.items) AF_INET (Some id) listeners.old }
 {
-    match &done.reply {
-        Some(reply) => listeners.deliver(reply, AF_INET, Some(id)),
-        None => listeners.deliver(buffer.done(bytes, header, pid), AF_INET, Some(id)),
+    if done.has_own {
+        listeners.deliver(own, AF_INET, Some(id));
+    } else {
+        listeners.deliver(buffer.done(bytes, header, pid), AF_INET, Some(id));
     }
 }

@@ -12,6 +12,6 @@ refused reply (Ok it) e h = absurd (cc)
 refused reply (Err x) e h = cc
 
 pub returns-in_default-clause-outcome : goal.returns-in_default-clause-outcome
-returns-in_default-clause-outcome c = λ pid m.
+returns-in_default-clause-outcome c = λ pid m own.
     inl (refused (done_reply pid m) _ c.in-Err.errno
     (rw (c.begin-visits.ensures.turn, c.prepare.ensures.entries) at c.in-Err.ensures.fault))

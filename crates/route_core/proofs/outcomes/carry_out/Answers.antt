@@ -11,21 +11,21 @@ or_no_memory P Q R (Ok d) h = h
 or_no_memory P Q R (Err e) h = inl h
 
 pub returns-in-Add-clause-outcome : goal.returns-in-Add-clause-outcome
-returns-in-Add-clause-outcome c = λ m header. rw c.in-Add.is (c.add.ensures.outcome c.args.pid m)
+returns-in-Add-clause-outcome c = λ m header. rw c.in-Add.is (c.add.ensures.outcome c.args.pid m c.args.own.now.items)
 
 pub returns-in-Change-clause-outcome : goal.returns-in-Change-clause-outcome
-returns-in-Change-clause-outcome c = λ m header. rw c.in-Change.is (c.change.ensures.outcome c.args.pid m)
+returns-in-Change-clause-outcome c = λ m header. rw c.in-Change.is (c.change.ensures.outcome c.args.pid m c.args.own.now.items)
 
 pub returns-in-Delete-clause-outcome : goal.returns-in-Delete-clause-outcome
 returns-in-Delete-clause-outcome c = λ m header.
-    rw c.in-Delete.is (or_no_memory _ _ _ c.delete.result (c.delete.ensures.outcome c.args.pid m))
+    rw c.in-Delete.is (or_no_memory _ _ _ c.delete.result (c.delete.ensures.outcome c.args.pid m c.args.own.now.items))
 
 pub returns-in-Delete-clause-of : goal.returns-in-Delete-clause-of
 returns-in-Delete-clause-of c = c.delete.ensures.of c.args.interfaces.now c.requires.of
 
 pub returns-in-Lock-clause-outcome : goal.returns-in-Lock-clause-outcome
 returns-in-Lock-clause-outcome c = λ m header.
-    rw c.in-Lock.is (or_no_memory _ _ _ c.lock.result (c.lock.ensures.outcome c.args.pid m))
+    rw c.in-Lock.is (or_no_memory _ _ _ c.lock.result (c.lock.ensures.outcome c.args.pid m c.args.own.now.items))
 
 pub returns-in-Lock-clause-of : goal.returns-in-Lock-clause-of
 returns-in-Lock-clause-of c = c.lock.ensures.of c.args.interfaces.now c.requires.of
