@@ -1,18 +1,16 @@
 -- The bytes of a header are told by its fields.
-use Rattle.std.proofs.Common.{◌≡◌, ◌∙◌, ℕ, zero, suc, ◌+◌, ◌*◌, ◌-◌, ◌<◌, ◌≤◌, ◌^◌, true, List, [], ◌∷◌, ◌++◌, length, get_or, take, drop, refl, sym, ap, arith, get_or-drop, get_or-take, length-drop, length-take-le}
+use Rattle.std.proofs.Common.{◌≡◌, ◌∙◌, ℕ, zero, suc, ◌+◌, ◌<◌, ◌≤◌, true, List, ◌++◌, length, get_or, take, drop, refl, sym, ap, arith, get_or-take, length-drop, length-take-le}
 use Rattle.std.specs.Prelude.{slice_index}
 use Rattle.std.proofs.Math.Seq.{take-add}
 use Rattle.std.proofs.lemmas.List.{get_or_default, same_lists}
 use Rattle.hex.specs.Hex.{IsBytes}
-use Rattle.byteorder.specs.Endian.{big_from, big_number}
 use Rattle.route_msgs.specs.Layout.{number_at}
 use Rattle.message_text.specs.Rows.{rows_text}
 use Rattle.message_text.specs.Tables.{ifa_field_rows, ifa_first_rows, ifa_rows, path_rows, route_addrs_rows, route_field_rows, route_first_rows, route_rows, time_rows}
 use Rattle.message_text.proofs.Told.{AreSame, bytes_behind, row_ends, rows_end, rows_told, starts_apart, style_ends}
-use Rattle.message_text.proofs.Numbers.{is_digit}
 
 -- the bytes of a number of one, two or four bytes
-one_told : (o : ℕ) (m n : List ℕ) → number_at o 1 m ≡ number_at o 1 n → slice_index (drop o m) 0 ≡ slice_index (drop o n) 0
+pub one_told : (o : ℕ) (m n : List ℕ) → number_at o 1 m ≡ number_at o 1 n → slice_index (drop o m) 0 ≡ slice_index (drop o n) 0
 unfolding number_at
 one_told o m n e = omega (arith, e)
 
@@ -132,22 +130,33 @@ ifa_told m n p q long long_too same =
     more_four 16 m n p q (omega arith) (omega arith) to_16 same.1.1.1.1.0
 
 route_rows_end : rows_end route_rows ≡ true
-unfolding rows_end row_ends style_ends starts_apart is_digit route_rows route_first_rows route_field_rows path_rows time_rows route_addrs_rows
+unfolding rows_end row_ends style_ends starts_apart route_rows route_first_rows route_field_rows path_rows time_rows route_addrs_rows
 route_rows_end = refl
 
 ifa_rows_end : rows_end ifa_rows ≡ true
-unfolding rows_end row_ends style_ends starts_apart is_digit ifa_rows ifa_first_rows ifa_field_rows
+unfolding rows_end row_ends style_ends starts_apart ifa_rows ifa_first_rows ifa_field_rows
 ifa_rows_end = refl
+
+-- the addresses that it names
+route_addrs_told : (m n : List ℕ) → AreSame route_rows m n → number_at 12 4 m ≡ number_at 12 4 n
+unfolding route_rows route_first_rows route_field_rows path_rows time_rows route_addrs_rows
+route_addrs_told m n same = same.1.1.1.1.1.1.1.1.1.1.1.1.1.1.1.1.1.1.1.1.1.0
+
+ifa_addrs_told : (m n : List ℕ) → AreSame ifa_rows m n → number_at 4 4 m ≡ number_at 4 4 n
+unfolding ifa_rows ifa_first_rows ifa_field_rows
+ifa_addrs_told m n same = same.1.1.1.1.1.1.1.0
 
 -- a header is told by its rows, whatever follows
 pub route_header_told : (m n t u : List ℕ) → IsBytes m → IsBytes n → 76 ≤ length m → 76 ≤ length n
-    → rows_text route_rows m ++ t ≡ rows_text route_rows n ++ u → (take 76 m ≡ take 76 n) × (t ≡ u)
+    → rows_text route_rows m ++ t ≡ rows_text route_rows n ++ u
+    → (take 76 m ≡ take 76 n) × (number_at 12 4 m ≡ number_at 12 4 n) × (t ≡ u)
 route_header_told m n t u p q long long_too e =
     let told = rows_told route_rows m n t u p q route_rows_end e in
-    (route_told m n p q long long_too told.0, told.1)
+    (route_told m n p q long long_too told.0, route_addrs_told m n told.0, told.1)
 
 pub ifa_header_told : (m n t u : List ℕ) → IsBytes m → IsBytes n → 20 ≤ length m → 20 ≤ length n
-    → rows_text ifa_rows m ++ t ≡ rows_text ifa_rows n ++ u → (take 20 m ≡ take 20 n) × (t ≡ u)
+    → rows_text ifa_rows m ++ t ≡ rows_text ifa_rows n ++ u
+    → (take 20 m ≡ take 20 n) × (number_at 4 4 m ≡ number_at 4 4 n) × (t ≡ u)
 ifa_header_told m n t u p q long long_too e =
     let told = rows_told ifa_rows m n t u p q ifa_rows_end e in
-    (ifa_told m n p q long long_too told.0, told.1)
+    (ifa_told m n p q long long_too told.0, ifa_addrs_told m n told.0, told.1)

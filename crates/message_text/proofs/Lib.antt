@@ -1,9 +1,13 @@
-pub mod FieldsTold
+pub mod AddressForms
+pub mod AddressesTold
+pub mod BytesTold
 pub mod HeadersTold
 pub mod HexText
 pub mod Joined
+pub mod LinesTold
 pub mod Numbers
 pub mod Onto
 pub mod Parting
 pub mod Padding
+pub mod Printable
 pub mod Told

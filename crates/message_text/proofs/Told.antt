@@ -1,6 +1,6 @@
 -- The fields of a header are told by the text of its rows, whatever follows.
-use Rattle.std.proofs.Common.{◌≡◌, ◌≢◌, ◌∙◌, ℕ, zero, suc, ◌+◌, ◌*◌, ◌<◌, ◌≤◌, ◌^◌, Bool, true, false, ◌&&◌, not, cond, nat_le, nat_eq, ◌==◌, bytes_eq, List, [], ◌∷◌, ◌++◌, length, get_or, take, drop, refl, sym, ap, arith, lit<, decimal, append_assoc, get_or-drop}
-use Rattle.std.specs.Prelude.{if◌then◌else◌, slice_index, unwrap_or, Option, Some, None, ⊤}
+use Rattle.std.proofs.Common.{◌≡◌, ◌∙◌, ℕ, zero, suc, ◌+◌, ◌<◌, ◌^◌, Bool, true, false, ◌&&◌, not, nat_le, nat_eq, ◌==◌, bytes_eq, List, [], ◌∷◌, ◌++◌, length, take, drop, refl, sym, ap, arith, lit<, append_assoc, get_or-drop}
+use Rattle.std.specs.Prelude.{if◌then◌else◌, unwrap_or, Option, Some, None, ⊤}
 use Rattle.std.specs.Int.{w32, to_be_bytes, from_be_bytes}
 use Rattle.std.specs.Fmt.{digits}
 use Rattle.std.specs.List.{list_all}
@@ -9,7 +9,6 @@ use Rattle.std.proofs.lemmas.Bool.{and_parts, leb-true, eqb-true}
 use Rattle.std.proofs.lemmas.Slice.Eq.{bytes_eq-Decides}
 use Rattle.std.proofs.lemmas.List.{append_cancel_left, take-append-le}
 use Rattle.std.proofs.lemmas.Nat.{from_be_bytes-to_be_bytes_4}
-use Rattle.byteorder.specs.Endian.{big_from, big_number}
 use Rattle.hex.specs.Hex.{IsBytes, encode_lower, lower_digits}
 use Rattle.hex.proofs.HexLemmas.{length-encode_with}
 use Rattle.route_msgs.specs.Layout.{number_at}
@@ -17,7 +16,7 @@ use Rattle.sock_addrs.proofs.Below.{passes_below, passes_at}
 use Rattle.message_text.specs.Names.{Named, kind_text, kinds}
 use Rattle.message_text.specs.Rows.{Bits, Decimal, Kind, Row, Style, number_text, row_text, rows_text}
 use Rattle.message_text.proofs.Numbers.{decimal_told, hex_told, is_digit}
-use Rattle.message_text.proofs.Parting.{differs, parted, parted_even, same_tail, stops}
+use Rattle.message_text.proofs.Parting.{differs, parted, parted_even, same_tail}
 
 -- ---- numbers in bytes
 
@@ -60,7 +59,7 @@ kinds_are_named : passes_below 256 (λ n. kind_named (kind_text n) == n) ≡ tru
 unfolding passes_below digits kind_named number_among
 kinds_are_named = refl
 
-kind_told : (n k : ℕ) (x y : List ℕ) → n < 256 → k < 256
+pub kind_told : (n k : ℕ) (x y : List ℕ) → n < 256 → k < 256
     → kind_text n ++ 58 ∷ x ≡ kind_text k ++ 58 ∷ y → (n ≡ k) × (x ≡ y)
 unfolding is_no_colon
 kind_told n k x y a b e =

@@ -1,7 +1,7 @@
 //! Laws of texts: each function does nothing, and its contract is the law.
-ghost use Rattle.message_text.specs.Laws.{TextsTellTheirFields};
+ghost use Rattle.message_text.specs.Laws.{TextsTellTheirBytes};
 
-/// A text tells each field of its message's header: two messages of one layout that have one text have the same header.
-pub fn texts_tell_their_fields()
-    ensures { TextsTellTheirFields }
+/// A text tells its bytes: whatever bytes have one text are the same.
+pub fn texts_tell_their_bytes()
+    ensures { TextsTellTheirBytes }
 {}

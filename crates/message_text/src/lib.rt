@@ -1,5 +1,5 @@
 //! Messages of the routing socket as people read them, in the way of `route -n monitor`: the fields of the header by
-//! their names, and each address on a line of its own. A text tells each field of its message's header.
+//! their names, and each address on a line of its own. A text tells all bytes of its message.
 #![tactic(auto)]
 
 mod addresses;
