@@ -22,5 +22,5 @@ pub use bad::Bad;
 pub use counted::Counted;
 pub use grammar::{read_line, read_said};
 pub use line_buffer::{LineBuffer, is_passed};
-pub use output::Stopped;
+pub use output::{Stopped, write_bytes};
 pub use route_words::{MetricWords, RouteWords, Verb, compose};

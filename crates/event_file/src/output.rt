@@ -20,7 +20,7 @@ impl fmt::Display for Stopped {
 
 /// Writes all of `bytes`, going on behind what a short write took. It is refused at the first write that answers an
 /// error or takes no byte, and what was taken before is then a front of `bytes`.
-pub(crate) fn write_bytes<W: Write>(bytes: &[u8], writer: &mut Counted<W>) -> Result<(), Stopped>
+pub fn write_bytes<W: Write>(bytes: &[u8], writer: &mut Counted<W>) -> Result<(), Stopped>
     requires { writer.old.failures ≡ 0 }
     ensures ok { OnOk result (Wrote W.contents writer.old writer.new bytes.now) }
     ensures err { OnErr result (WroteFront W.contents writer.old writer.new bytes.now) }

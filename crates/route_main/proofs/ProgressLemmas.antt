@@ -6,8 +6,8 @@ use Rattle.std.proofs.KnownBytes.{Appends-nil, Appends-trans, Consumes-kept, Con
 use Rattle.std.proofs.Math.Bool.{or_assoc}
 use Rattle.std.proofs.lemmas.Bool.{cond-true}
 use Rattle.std.proofs.lemmas.List.{take_all}
-use Rattle.route_main.specs.declared.run.outcome.Outcome.{Outcome}
-use Rattle.route_main.specs.declared.run.outcome.Outcome.TheVariants.{Done, BadLine, ReadFault, WriteFault, NoMemory}
+use Rattle.program_ends.specs.declared.outcome.Outcome.{Outcome}
+use Rattle.program_ends.specs.declared.outcome.Outcome.TheVariants.{Done, BadLine, ReadFault, WriteFault, NoMemory}
 use Rattle.event_file.specs.declared.bad.Bad.{Bad}
 use Rattle.route_core.specs.declared.answer.Answer.{Answer}
 use Rattle.event_file.specs.Answers.{response_text}

@@ -4,8 +4,8 @@ use Rattle.std.specs.Prelude.{◌≡◌, Bool, true, false, List, ◌++◌, ℕ,
 use Rattle.std.specs.Io.KnownBytes.{Appends, Consumes, IsAtEnd, Keeps}
 use Rattle.event_file.specs.Lines.{answered_lines, ended_lines}
 use Rattle.event_file.specs.Transcript.{IsTranscript, has_bad_line}
-use Rattle.route_main.specs.declared.run.outcome.Outcome.{Outcome}
-use Rattle.route_main.specs.declared.run.outcome.Outcome.TheVariants.{Done, BadLine, ReadFault, WriteFault, NoMemory}
+use Rattle.program_ends.specs.declared.outcome.Outcome.{Outcome}
+use Rattle.program_ends.specs.declared.outcome.Outcome.TheVariants.{Done, BadLine, ReadFault, WriteFault, NoMemory}
 
 -- it wrote a transcript of all that the reader had; of a malformed line among it or of none
 pub record AnsweredAll (before after old new : Option (List ℕ)) (is_bad : Bool) : Type 0 where

@@ -1,7 +1,7 @@
 -- How far a run has come: its world and what its writer took, beside what was read.
 use Rattle.std.specs.Prelude.{◌≡◌, Bool, false, ◌||◌, filter, List, [], ◌∷◌, ◌++◌, length, ◌≤◌, ℕ, Option}
 use Rattle.std.specs.Io.KnownBytes.{Appends, Consumes, IsAtEnd}
-use Rattle.route_main.specs.declared.run.outcome.Outcome.{Outcome}
+use Rattle.program_ends.specs.declared.outcome.Outcome.{Outcome}
 use Rattle.event_file.specs.Lines.{Line, answered_lines, begun_line, ended_lines, is_answered, kept}
 use Rattle.event_file.specs.Transcript.{Answered, has_bad_line}
 use Rattle.route_main.specs.Ends.{Ends}

@@ -7,22 +7,14 @@ mod run;
 #[cfg(test)]
 mod tests;
 
-use program::{refusal_status, refusal_text, run_words, words_of};
-use run::{fault_text, status};
+use program::{PROGRAM, run_words};
+use program_ends::{end, words_of};
 use std::process::ExitCode;
 
 fn main(rt: HostRuntime) -> ExitCode {
-    let outcome = match words_of(&rt) {
+    let ended = match words_of(&rt) {
         Ok(words) => run_words(&rt, words.as_slice()),
         Err(refusal) => Err(refusal),
     };
-    let (status, text) = match outcome {
-        Ok(outcome) => (status(outcome), fault_text(outcome)),
-        Err(refusal) => (refusal_status(refusal), refusal_text(refusal)),
-    };
-    if !text.is_empty() {
-        // Where standard error fails too, there is nobody left to tell.
-        let _ = eprintln!(rt; "{text}");
-    }
-    ExitCode::from(status)
+    end(&rt, PROGRAM, ended)
 }

@@ -1,20 +1,18 @@
 //! The program round a run: what its words ask for, and what kept it from running.
-ghost use Rattle.std.specs.Prelude.{◌≡◌, [], IfErr, OnOk, map};
+ghost use Rattle.std.specs.Prelude.{◌≡◌, [], IfErr, OnOk, codes, map};
 ghost use Rattle.std.specs.String.{string_bytes};
-ghost use Rattle.route_main.specs.CommandLine.{faults_of};
-ghost use Rattle.route_main.specs.Refusals.{Refuses};
+ghost use Rattle.program_ends.specs.CommandLine.{faults_of};
+ghost use Rattle.program_ends.specs.Refusals.{Refuses};
 
-mod refusal;
-mod words;
-
-use crate::run::{Outcome, run};
+use crate::run::run;
 use event_file::Counted;
-pub(crate) use refusal::{Refusal, refusal_status, refusal_text};
+use program_ends::{Outcome, Refusal, file_named};
 use std::io::{BufWriter, Read};
 use std::rt::Files;
 use std::{fs, io};
-use words::file_named;
-pub(crate) use words::words_of;
+
+/// What the program is called.
+pub(crate) const PROGRAM: &str = "routesim";
 
 /// The most bytes of a transcript that are kept back until they are written at once: those of one read's lines are
 /// seldom more.
@@ -25,10 +23,10 @@ pub(crate) fn run_words<R: Files + Input + Print + AllocGlobal>(
     rt: &R,
     words: &[String],
 ) -> Result<Outcome, Refusal>
-    ensures right { OnOk result (faults_of (map string_bytes words.now) ≡ []) }
-    ensures refused { IfErr result (λ why. Refuses (map string_bytes words.now) why) }
+    ensures right { OnOk result (faults_of (codes "routesim") (map string_bytes words.now) ≡ []) }
+    ensures refused { IfErr result (λ why. Refuses (codes "routesim") (map string_bytes words.now) why) }
 {
-    match file_named(rt.alloc(), words)? {
+    match file_named(rt.alloc(), PROGRAM, words)? {
         None => Ok(run_over(rt, rt.reader())),
         Some(file) => match fs::open(rt, file) {
             Ok(script) => Ok(run_over(rt, script)),

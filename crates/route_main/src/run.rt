@@ -8,12 +8,11 @@ ghost use Rattle.event_file.specs.Transcript.{IsTranscript, has_bad_line};
 ghost use Rattle.route_main.specs.Ends.{Ends, IsAnswered};
 
 mod answerer;
-mod outcome;
 
 use answerer::Answerer;
 use event_file::laws::others_leave_the_text;
 use event_file::{Counted, LineBuffer};
-pub(crate) use outcome::{Outcome, fault_text, status};
+use program_ends::Outcome;
 use std::alloc::{AllocError, Global};
 use std::io::{Read, Write};
 

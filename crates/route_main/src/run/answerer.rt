@@ -6,8 +6,8 @@ ghost use Rattle.event_file.specs.declared.answers.TheConstants.{TEXT_ROOM};
 ghost use Rattle.route_core.specs.declared.written.TheConstants.{MOST_WRITTEN};
 ghost use Rattle.route_main.specs.Ends.{IsAnswered};
 
-use super::Outcome;
 use event_file::{Bad, Counted, LineBuffer, Stopped, TEXT_ROOM, read_said, write_answer};
+use program_ends::Outcome;
 use route_core::{Answer, MOST_WRITTEN, Room, World};
 use std::alloc::{AllocError, Global};
 use std::io::Write;

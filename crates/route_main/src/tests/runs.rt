@@ -2,8 +2,9 @@
 ghost use Rattle.std.specs.Prelude.{◌<◌};
 
 use super::fakes::{FakeReader, FakeWriter, Fault};
-use crate::run::{Outcome, run};
+use crate::run::run;
 use event_file::Counted;
+use program_ends::Outcome;
 use std::alloc::Global;
 use std::test::Fail;
 

@@ -2,10 +2,10 @@
 ghost use Rattle.std.specs.Prelude.{◌≡◌, ◌≢◌, ◌⊎◌, [], IfErr, IfOk, map, option_map};
 ghost use Rattle.std.specs.IoError.{error_kind};
 ghost use Rattle.std.specs.String.{string_bytes};
-ghost use Rattle.route_main.specs.CommandLine.{faults_of, file_of};
-ghost use Rattle.route_main.specs.declared.program.refusal.Refusal.TheVariants.{NoMemory, Usage};
+ghost use Rattle.program_ends.specs.CommandLine.{faults_of, file_of};
+ghost use Rattle.program_ends.specs.declared.refusal.Refusal.TheVariants.{NoMemory, Usage};
 
-use super::Refusal;
+use crate::Refusal;
 use clap::{Arg, Command};
 use std::alloc::Global;
 use std::env;
@@ -24,7 +24,7 @@ fn words_refused(error: &io::Error) -> Refusal
 }
 
 /// The words of this process. They can't be had where one is not text.
-pub(crate) fn words_of<R: Env + AllocGlobal>(rt: &R) -> Result<Vec<String>, Refusal>
+pub fn words_of<R: Env + AllocGlobal>(rt: &R) -> Result<Vec<String>, Refusal>
     ensures { IfErr result (λ why. (why ≡ NoMemory) ⊎ (why ≡ Usage)) }
 {
     let args = match env::args(rt) {
@@ -40,16 +40,20 @@ pub(crate) fn words_of<R: Env + AllocGlobal>(rt: &R) -> Result<Vec<String>, Refu
     Ok(words)
 }
 
-/// The FILE that the words name, or `None` where they name none. A word that begins with `-` and has more is an option,
+/// The FILE that the words of a program with this name name, or `None` where they name none. A word that begins with `-` and has more is an option,
 /// and refused; a first `--` is none and ends the options; `-` is a file of that name.
-pub(super) fn file_named<'a>(alloc: Global, words: &'a [String]) -> Result<Option<&'a str>, Refusal>
-    ensures named { IfOk result (λ file. option_map (λ f. f.now) file ≡ file_of (map string_bytes words.entry.now)) }
-    ensures right { IfOk result (λ _. faults_of (map string_bytes words.entry.now) ≡ []) }
+pub fn file_named<'a>(
+    alloc: Global,
+    program: &'a str,
+    words: &'a [String],
+) -> Result<Option<&'a str>, Refusal>
+    ensures named { IfOk result (λ file. option_map (λ f. f.now) file ≡ file_of program.now (map string_bytes words.entry.now)) }
+    ensures right { IfOk result (λ _. faults_of program.now (map string_bytes words.entry.now) ≡ []) }
     ensures refused { IfErr result (λ why. (why ≡ NoMemory)
-        ⊎ ((why ≡ Usage) × (faults_of (map string_bytes words.entry.now) ≢ []))) }
+        ⊎ ((why ≡ Usage) × (faults_of program.now (map string_bytes words.entry.now) ≢ []))) }
 {
     let file = Arg::new(alloc, "FILE");
-    let command = Command::new(alloc, "routesim")
+    let command = Command::new(alloc, program)
         .disable_help_flag(true)
         .arg(file)?;
     let matches = command.try_get_matches_from(words)?;

@@ -1,14 +1,15 @@
+//! Why a program begins no run, and what its caller is told.
 ghost use Rattle.std.specs.Prelude.{◌≡◌};
 ghost use Rattle.clap.specs.Words.{kind_of};
-ghost use Rattle.route_main.specs.Refusals.{of_kind, status_of, text_of};
-ghost use Rattle.route_main.specs.declared.program.refusal.Refusal.TheVariants.{NoMemory};
+ghost use Rattle.program_ends.specs.Refusals.{of_kind, status_of, text_of};
+ghost use Rattle.program_ends.specs.declared.refusal.Refusal.TheVariants.{NoMemory};
 
 use clap::error::ErrorKind;
 use std::alloc::AllocError;
 
 /// Why the program began no run.
 #[derive(Clone, Copy, Debug, PartialEq, Eq)]
-pub(crate) enum Refusal {
+pub enum Refusal {
     /// The words are not `[FILE]`, or they can't be had.
     Usage,
     /// There was no memory to read the words.
@@ -37,7 +38,7 @@ impl From<clap::Error> for Refusal {
 }
 
 /// The exit status that tells of a refusal.
-pub(crate) fn refusal_status(refusal: Refusal) -> u8
+pub fn refusal_status(refusal: Refusal) -> u8
     ensures { result ≡ status_of refusal }
 {
     match refusal {
@@ -47,13 +48,13 @@ pub(crate) fn refusal_status(refusal: Refusal) -> u8
     }
 }
 
-/// What standard error says of a refusal, without a newline.
-pub(crate) fn refusal_text(refusal: Refusal) -> &'static str
+/// What standard error says of a refusal behind the program's name, without a newline.
+pub fn refusal_text(refusal: Refusal) -> &'static str
     ensures { result.now ≡ text_of refusal }
 {
     match refusal {
-        Refusal::Usage => "routesim: usage",
-        Refusal::Unopened => "routesim: read fault",
-        Refusal::NoMemory => "routesim: no memory",
+        Refusal::Usage => "usage",
+        Refusal::Unopened => "read fault",
+        Refusal::NoMemory => "no memory",
     }
 }

@@ -1,4 +1,4 @@
-use Rattle.std.proofs.Common.{arith, ◌≡◌, ◌≢◌, ◌⊎◌, ◌∙◌, [], ◌∷◌, length, Result, Ok, Err, IfErr, inl, inr, map, ap, ap₂, refl, sym, true, codes}
+use Rattle.std.proofs.Common.{arith, ℕ, List, ◌≡◌, ◌≢◌, ◌⊎◌, ◌∙◌, [], ◌∷◌, length, Result, Ok, Err, IfErr, inl, inr, map, ap, ap₂, refl, sym, true, codes}
 use Rattle.std.specs.Result.{IsErrAnd}
 use Rattle.std.specs.String.{string_bytes}
 use Rattle.clap.specs.Words.{App, HasKind, Kinds, app_of, first_of, found_of, is_simple, is_simple_and_free, kind_of, matches_of, fault_of, with_rule}
@@ -8,22 +8,22 @@ use Rattle.clap.specs.declared.error.kind.ErrorKind.{ErrorKind}
 use Rattle.clap.specs.declared.error.kind.ErrorKind.TheVariants.{OutOfMemory}
 use Rattle.clap.proofs.OnLiterals.{clap_on_literals}
 use Rattle.clap.proofs.WalkLemmas.{first_value-rows}
-use Rattle.route_main.specs.CommandLine.{routesim}
-use Rattle.route_main.specs.Refusals.{of_kind}
-use Rattle.route_main.specs.declared.program.refusal.Refusal.{Refusal}
-use Rattle.route_main.specs.declared.program.refusal.Refusal.TheVariants.{NoMemory, Usage}
-use Rattle.route_main.proofs.program.words.file_named.Goals as goal
+use Rattle.program_ends.specs.CommandLine.{program}
+use Rattle.program_ends.specs.Refusals.{of_kind}
+use Rattle.program_ends.specs.declared.refusal.Refusal.{Refusal}
+use Rattle.program_ends.specs.declared.refusal.Refusal.TheVariants.{NoMemory, Usage}
+use Rattle.program_ends.proofs.words.file_named.Goals as goal
 
 abbrev without_help : App → App
 without_help a = record a { top = record a.top { disable_help_flag = true } }
 
-is_plain : is_simple routesim ≡ true
+is_plain : (name : List ℕ) → is_simple (program name) ≡ true
 unfolding clap_on_literals
-is_plain = refl
+is_plain name = refl
 
-is_free : is_simple_and_free routesim ≡ true
+is_free : (name : List ℕ) → is_simple_and_free (program name) ≡ true
 unfolding clap_on_literals
-is_free = refl
+is_free name = refl
 
 -- an error is want of memory, or something is wrong
 some_fault : (faults : Kinds) (e : Error) → HasKind faults e → (kind_of e ≡ OutOfMemory) ⊎ (faults ≢ [])
@@ -50,23 +50,23 @@ refused (Err refusal) kind is why = refused-by refusal kind is why
 
 pub returns-in_err-matches-clause-refused : goal.returns-in_err-matches-clause-refused
 returns-in_err-matches-clause-refused c =
-    let command_is : app_of c.in_ok-command.command ≡ routesim = c.in_ok-command.ensures.shape c.new-file.ensures.optional.1
+    let command_is : app_of c.in_ok-command.command ≡ program c.args.program.now = c.in_ok-command.ensures.shape c.new-file.ensures.optional.1
     ∙ ap₂ with_rule (ap app_of_fields c.disable_help_flag.ensures ∙ ap without_help c.new.ensures.app) c.new-file.ensures.rule in
     let faults_are = ap (λ a. fault_of a (map string_bytes c.args.words.now)) command_is in
     refused _ _ c.from_residual-in_err-matches.ensures.1 (some_fault _ c.in_err-matches.field-0.0
-    (rw (← faults_are) (c.in_err-matches.ensures.kinds (ap is_simple_and_free command_is ∙ is_free))))
+    (rw (← faults_are) (c.in_err-matches.ensures.kinds (ap is_simple_and_free command_is ∙ is_free c.args.program.now))))
 
 pub returns-clause-named : goal.returns-clause-named
 returns-clause-named c =
-    let command_is : app_of c.in_ok-command.command ≡ routesim = c.in_ok-command.ensures.shape c.new-file.ensures.optional.1
+    let command_is : app_of c.in_ok-command.command ≡ program c.args.program.now = c.in_ok-command.ensures.shape c.new-file.ensures.optional.1
     ∙ ap₂ with_rule (ap app_of_fields c.disable_help_flag.ensures ∙ ap without_help c.new.ensures.app) c.new-file.ensures.rule in
     c.get_str.ensures ∙ first_value-rows (found_of c.in_ok-matches.matches) (codes "FILE")
-    ∙ ap (first_of (codes "FILE")) ((c.in_ok-matches.ensures.matches (ap is_simple command_is ∙ is_plain)).0
+    ∙ ap (first_of (codes "FILE")) ((c.in_ok-matches.ensures.matches (ap is_simple command_is ∙ is_plain c.args.program.now)).0
     ∙ ap (λ a. matches_of a (map string_bytes c.args.words.now)) command_is)
 
 pub returns-clause-right : goal.returns-clause-right
 returns-clause-right c =
-    let command_is : app_of c.in_ok-command.command ≡ routesim = c.in_ok-command.ensures.shape c.new-file.ensures.optional.1
+    let command_is : app_of c.in_ok-command.command ≡ program c.args.program.now = c.in_ok-command.ensures.shape c.new-file.ensures.optional.1
     ∙ ap₂ with_rule (ap app_of_fields c.disable_help_flag.ensures ∙ ap without_help c.new.ensures.app) c.new-file.ensures.rule in
     sym (ap (λ a. fault_of a (map string_bytes c.args.words.now)) command_is)
-    ∙ c.in_ok-matches.ensures.kinds (ap is_simple_and_free command_is ∙ is_free)
+    ∙ c.in_ok-matches.ensures.kinds (ap is_simple_and_free command_is ∙ is_free c.args.program.now)

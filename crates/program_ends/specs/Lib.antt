@@ -1,0 +1,4 @@
+pub mod CommandLine
+pub mod Endings
+pub mod Outcomes
+pub mod Refusals
