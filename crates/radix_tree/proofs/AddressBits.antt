@@ -1,9 +1,8 @@
 -- What bits tell of a route's key, and of an address that it covers.
-use Rattle.std.proofs.Common.{◌≡◌, ℕ, ◌-◌, ◌/◌, ◌%◌, ◌^◌, ◌<◌, ◌≤◌, ◌⊎◌, inl, inr, sym, ap, ◌∙◌, subst, true, arith}
-use Rattle.std.proofs.lemmas.Bool.{eqb-true, cases_eq}
 use Rattle.mask_table.proofs.Agreeing.{bit_of_front, masked_bits, agrees_where_masked_equal, masked_agrees}
-use Rattle.radix_tree.proofs.Words.{front, agrees, masked, bit, IsRoute, Entry}
 use Rattle.radix_tree.specs.Tree.{bit_at, Covers}
+use Rattle.radix_tree.proofs.Words.{◌≡◌, ℕ, ◌-◌, ◌/◌, ◌%◌, ◌^◌, ◌<◌, ◌≤◌, ◌⊎◌, inl, inr, sym, ap, ◌∙◌, subst, true, arith, eqb-true, cases_eq, front}
+use Rattle.radix_tree.proofs.Words.{agrees, masked, bit, IsRoute, Entry}
 
 pub zero_not_one : {n : ℕ} → n ≡ 0 → n ≡ 1 → ⊥
 zero_not_one zero one = omega arith

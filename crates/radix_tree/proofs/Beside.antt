@@ -1,13 +1,12 @@
 -- A route of a new key comes into the tree: what the rooms say afterwards is the tree with it.
-use Rattle.std.proofs.Common.{◌≡◌, ℕ, ◌<◌, ◌≤◌, ◌==◌, Bool, if◌then◌else◌, List, [], ◌∷◌, Option, Some, None, refl, sym, ap, ◌∙◌, subst, ⊎_elim, arith}
-use Rattle.std.proofs.lemmas.Bool.{eq-eqb, ne_eqb}
-use Rattle.radix_tree.proofs.Words.{Id, Node, LeafOf, BitOf, IsRoute, Placed, Tree, leaf, fork, bit_at, HaveBit, LeafPart, BitPart, Part, leaves_in, bits_in}
-use Rattle.radix_tree.proofs.Words.{name_of, Stands, Way, one_if, leaves_at, forks_at, with_child, name_child, root_after, AreOnce, IsPlace, IsSpot, IsBeside}
-use Rattle.radix_tree.proofs.Words.{forked_tree, IsExchange, Exchanged, lift_leaf, lift_bit, leaf_above, bit_above, Lodged}
-use Rattle.radix_tree.proofs.AddressBits.{zero_not_one, zero_or_one}
-use Rattle.radix_tree.proofs.PartRooms.{one_if_same, way_once, spine_out}
-use Rattle.radix_tree.proofs.Exchanging.{exchanged}
-use Rattle.radix_tree.proofs.Forking.{one_value, zero_fork_is, one_fork_is, lifted, leaves_there, forks_there}
+use Rattle.radix_tree.proofs.Words.{◌≡◌, ℕ, ◌<◌, ◌≤◌, ◌==◌, Bool, if◌then◌else◌, List, [], ◌∷◌, Option, Some, None, refl, sym, ap, ◌∙◌, subst, arith, inl}
+use Rattle.radix_tree.proofs.Words.{inr, eq-eqb, ne_eqb, Id, Node, LeafOf, BitOf, IsRoute, Placed, Tree, leaf, fork, bit_at, HaveBit, LeafPart, BitPart}
+use Rattle.radix_tree.proofs.Words.{Part, leaves_in, bits_in, name_of, Stands, Way, one_if, leaves_at, forks_at, with_child, name_child, root_after}
+use Rattle.radix_tree.proofs.Words.{AreOnce, IsPlace, IsSpot, IsBeside, forked_tree, IsExchange, Exchanged, lift_leaf, lift_bit, leaf_above, bit_above}
+use Rattle.radix_tree.proofs.Words.{Lodged}
+use Rattle.radix_tree.proofs.{AddressBits.zero_not_one, AddressBits.zero_or_one, PartRooms.one_if_same, PartRooms.way_once, PartRooms.spine_out}
+use Rattle.radix_tree.proofs.{Exchanging.exchanged, Forking.one_value, Forking.zero_fork_is, Forking.one_fork_is, Forking.lifted, Forking.leaves_there}
+use Rattle.radix_tree.proofs.{Forking.forks_there}
 
 -- a name that is not in a room is not the room's
 pub misses_leaf : {A : Type 0} (at : Node) (n : ℕ) → ((room : Id) → at ≡ LeafOf room → n ≡ room.number → ⊥) → (above : Option Id) (said : Option (LeafPart A))
@@ -49,8 +48,7 @@ module _ {V : Type 0} where
 
   -- the bit node above a part is not in it
   pub not_above : (m : Lodged V) (address : ℕ) (whole at : Part m) (ups : List (Part m)) → Way address whole at ups → whole.above ≡ None → AreOnce whole.tree
-      → (to : Node) (n : ℕ) → 1 ≤ forks_at n at.tree
-      → name_child at.above address to n (bits_in m n) ≡ bits_in m n
+      → (to : Node) (n : ℕ) → 1 ≤ forks_at n at.tree → name_child at.above address to n (bits_in m n) ≡ bits_in m n
   not_above m address whole at [] way top once to n some =
       ap (λ (o : Option Id). name_child o address to n (bits_in m n)) (ap (λ (p : Part m). p.above) way ∙ top)
   not_above m address whole at (p ∷ ps) way top once to n some =
@@ -65,15 +63,12 @@ module _ {V : Type 0} where
   beneath_stands : (m new : Lodged V) {bit : ℕ} (x : Placed V) (whole : Part m) {above : Option Id} (below : Node)
       (s : IsSpot m x.entry.key bit whole above below) → IsBeside m new bit x above below
       → Stands (leaves_in new) (bits_in new) (Some x.room) s.at.tree
-  beneath_stands m new x whole below s b =
-      lifted (leaves_in m) (leaves_in new) (bits_in m) (bits_in new) s.at.above (Some x.room) s.at.tree
+  beneath_stands m new x whole below s b = lifted (leaves_in m) (leaves_in new) (bits_in m) (bits_in new) s.at.above (Some x.room) s.at.tree
       (λ n some. b.leaves n (not_new s.at x.room b.no_leaf n some) ∙ ap (λ (z : Node). lift_leaf z (Some x.room) n (leaves_in m n)) (sym s.named))
-      (λ n some. b.bits n (not_new_bit s.at x.room b.no_bit n some)
-      ∙ ap (λ (said : Option BitPart). lift_bit below (Some x.room) n said)
+      (λ n some. b.bits n (not_new_bit s.at x.room b.no_bit n some) ∙ ap (λ (said : Option BitPart). lift_bit below (Some x.room) n said)
       (ap (λ (o : Option Id). name_child o x.entry.key (BitOf x.room) n (bits_in m n)) (sym s.above_is)
       ∙ not_above m x.entry.key whole s.at s.ups s.way s.top s.once (BitOf x.room) n some)
-      ∙ ap (λ (z : Node). lift_bit z (Some x.room) n (bits_in m n)) (sym s.named))
-      (way_once x.entry.key whole s.at s.ups s.way s.once) s.at.stands
+      ∙ ap (λ (z : Node). lift_bit z (Some x.room) n (bits_in m n)) (sym s.named)) (way_once x.entry.key whole s.at s.ups s.way s.once) s.at.stands
 
   -- the new bit node with what is beneath it
   record Forked (m new : Lodged V) (bit : ℕ) (x : Placed V) (at : Part m) : Type 0 where
@@ -84,8 +79,7 @@ module _ {V : Type 0} where
 
   -- on either side of it
   pub zero_forked : (bit : ℕ) (x : Placed V) (t : Tree V) → bit_at bit x.entry.key ≡ 0 → fork x.room bit (leaf x []) t ≡ forked_tree bit x t
-  zero_forked bit x t clear =
-      sym (ap (λ (b : Bool). if b then fork x.room bit t (leaf x []) else fork x.room bit (leaf x []) t)
+  zero_forked bit x t clear = sym (ap (λ (b : Bool). if b then fork x.room bit t (leaf x []) else fork x.room bit (leaf x []) t)
       (ne_eqb (bit_at bit x.entry.key) 1 (λ set. zero_not_one clear set)))
 
   pub one_forked : (bit : ℕ) (x : Placed V) (t : Tree V) → bit_at bit x.entry.key ≡ 1 → fork x.room bit t (leaf x []) ≡ forked_tree bit x t
@@ -93,61 +87,59 @@ module _ {V : Type 0} where
       sym (ap (λ (b : Bool). if b then fork x.room bit t (leaf x []) else fork x.room bit (leaf x []) t) (eq-eqb (bit_at bit x.entry.key) 1 set))
 
   forked_name : (bit : ℕ) (x : Placed V) (t : Tree V) → name_of (forked_tree bit x t) ≡ BitOf x.room
-  forked_name bit x t =
-      ⊎_elim (λ (clear : bit_at bit x.entry.key ≡ 0). ap (λ (s : Tree V). name_of s) (sym (zero_forked bit x t clear)))
-      (λ (set : bit_at bit x.entry.key ≡ 1). ap (λ (s : Tree V). name_of s) (sym (one_forked bit x t set)))
-      (zero_or_one bit x.entry.key)
+  forked_name bit x t = elim (zero_or_one bit x.entry.key) [
+    | inl clear ↦ ap (λ (s : Tree V). name_of s) (sym (zero_forked bit x t clear))
+    | inr set ↦ ap (λ (s : Tree V). name_of s) (sym (one_forked bit x t set))
+  ]
 
   forked_part : (m new : Lodged V) (bit : ℕ) (x : Placed V) (whole : Part m) (above : Option Id) (below : Node)
       (s : IsSpot m x.entry.key bit whole above below) → IsBeside m new bit x above below → IsRoute x.entry → Forked m new bit x s.at
   forked_part m new bit x whole above below s b route =
       let stands = beneath_stands m new x whole below s b in
-      ⊎_elim
-      (λ (clear : bit_at bit x.entry.key ≡ 0).
-      record {
-        part = record {
-          tree = fork x.room bit (leaf x []) s.at.tree;
-          low = s.at.low;
-          above = s.at.above;
-          is = zero_fork_is s.at.low bit x x.room route s.place clear;
-          stands = (
-            b.bit_node ∙ ap (λ (t : Bool). Some (if t then record { block = x.room.block; bit = bit; zero = below; one = LeafOf x.room; above = above }
-                else record { block = x.room.block; bit = bit; zero = LeafOf x.room; one = below; above = above }))
-                (ne_eqb (bit_at bit x.entry.key) 1 (λ set. zero_not_one clear set))
-                ∙ ap (λ (z : Node). Some (record { block = x.room.block; bit = bit; zero = LeafOf x.room; one = z; above = above })) (sym s.named)
-                ∙ ap (λ (o : Option Id). Some (record { block = x.room.block; bit = bit; zero = LeafOf x.room; one = name_of s.at.tree; above = o }))
-                (sym s.above_is),
-            (b.leaf, tt),
-            stands,
-          );
-        };
-        tree = zero_forked bit x s.at.tree clear;
-        low = refl;
-        above = refl;
-      })
-      (λ (set : bit_at bit x.entry.key ≡ 1).
-      record {
-        part = record {
-          tree = fork x.room bit s.at.tree (leaf x []);
-          low = s.at.low;
-          above = s.at.above;
-          is = one_fork_is s.at.low bit x x.room route s.place set;
-          stands = (
-            b.bit_node ∙ ap (λ (t : Bool). Some (if t then record { block = x.room.block; bit = bit; zero = below; one = LeafOf x.room; above = above }
-                else record { block = x.room.block; bit = bit; zero = LeafOf x.room; one = below; above = above }))
-                (eq-eqb (bit_at bit x.entry.key) 1 set)
-                ∙ ap (λ (z : Node). Some (record { block = x.room.block; bit = bit; zero = z; one = LeafOf x.room; above = above })) (sym s.named)
-                ∙ ap (λ (o : Option Id). Some (record { block = x.room.block; bit = bit; zero = name_of s.at.tree; one = LeafOf x.room; above = o }))
-                (sym s.above_is),
-            stands,
-            (b.leaf, tt),
-          );
-        };
-        tree = one_forked bit x s.at.tree set;
-        low = refl;
-        above = refl;
-      })
-      (zero_or_one bit x.entry.key)
+      elim (zero_or_one bit x.entry.key) [
+        | inl clear ↦ record {
+          part = record {
+            tree = fork x.room bit (leaf x []) s.at.tree;
+            low = s.at.low;
+            above = s.at.above;
+            is = zero_fork_is s.at.low bit x x.room route s.place clear;
+            stands = (
+              b.bit_node ∙ ap (λ (t : Bool). Some (if t then record { block = x.room.block; bit = bit; zero = below; one = LeafOf x.room; above = above }
+                  else record { block = x.room.block; bit = bit; zero = LeafOf x.room; one = below; above = above }))
+                  (ne_eqb (bit_at bit x.entry.key) 1 (λ set. zero_not_one clear set))
+                  ∙ ap (λ (z : Node). Some (record { block = x.room.block; bit = bit; zero = LeafOf x.room; one = z; above = above })) (sym s.named)
+                  ∙ ap (λ (o : Option Id). Some (record { block = x.room.block; bit = bit; zero = LeafOf x.room; one = name_of s.at.tree; above = o }))
+                  (sym s.above_is),
+              (b.leaf, tt),
+              stands,
+            );
+          };
+          tree = zero_forked bit x s.at.tree clear;
+          low = refl;
+          above = refl;
+        }
+        | inr set ↦ record {
+          part = record {
+            tree = fork x.room bit s.at.tree (leaf x []);
+            low = s.at.low;
+            above = s.at.above;
+            is = one_fork_is s.at.low bit x x.room route s.place set;
+            stands = (
+              b.bit_node ∙ ap (λ (t : Bool). Some (if t then record { block = x.room.block; bit = bit; zero = below; one = LeafOf x.room; above = above }
+                  else record { block = x.room.block; bit = bit; zero = LeafOf x.room; one = below; above = above }))
+                  (eq-eqb (bit_at bit x.entry.key) 1 set)
+                  ∙ ap (λ (z : Node). Some (record { block = x.room.block; bit = bit; zero = z; one = LeafOf x.room; above = above })) (sym s.named)
+                  ∙ ap (λ (o : Option Id). Some (record { block = x.room.block; bit = bit; zero = name_of s.at.tree; one = LeafOf x.room; above = o }))
+                  (sym s.above_is),
+              stands,
+              (b.leaf, tt),
+            );
+          };
+          tree = one_forked bit x s.at.tree set;
+          low = refl;
+          above = refl;
+        }
+      ]
 
   -- its keys agree on the bits before the new one as those of the part beneath
   forked_keys : (bit low : ℕ) (x : Placed V) (t : Tree V) → IsPlace x.entry.key low bit t → (c value : ℕ) → c < low → HaveBit c value t
@@ -155,17 +147,16 @@ module _ {V : Type 0} where
   forked_keys bit low x t p c value before have =
       let rises : low ≤ bit = p.rises in
       let own : bit_at c x.entry.key ≡ value = one_value c (bit_at c x.entry.key) value t (p.agree c (omega arith)) have in
-      ⊎_elim (λ (clear : bit_at bit x.entry.key ≡ 0). subst (HaveBit c value) (zero_forked bit x t clear) (own, have))
-      (λ (set : bit_at bit x.entry.key ≡ 1). subst (HaveBit c value) (one_forked bit x t set) (have, own))
-      (zero_or_one bit x.entry.key)
+      elim (zero_or_one bit x.entry.key) [
+        | inl clear ↦ subst (HaveBit c value) (zero_forked bit x t clear) (own, have)
+        | inr set ↦ subst (HaveBit c value) (one_forked bit x t set) (have, own)
+      ]
 
   -- ---- the whole
   -- a room that is not in the part beneath says what it said, or is the bit node above
   leaf_stays : (m new : Lodged V) {bit : ℕ} (x : Placed V) (whole : Part m) {above : Option Id} (below : Node) (s : IsSpot m x.entry.key bit whole above below)
-      → IsBeside m new bit x above below
-      → (n : ℕ) → leaves_at n s.at.tree ≡ 0 → 1 ≤ leaves_at n whole.tree → leaves_in new n ≡ leaves_in m n
-  leaf_stays m new x whole below s b n out some =
-      b.leaves n (not_new whole x.room b.no_leaf n some)
+      → IsBeside m new bit x above below → (n : ℕ) → leaves_at n s.at.tree ≡ 0 → 1 ≤ leaves_at n whole.tree → leaves_in new n ≡ leaves_in m n
+  leaf_stays m new x whole below s b n out some = b.leaves n (not_new whole x.room b.no_leaf n some)
       ∙ misses_leaf below n (λ r is same. let there : 1 ≤ leaves_at r.number s.at.tree = named_leaf s.at.tree r (s.named ∙ is) in
       let e : leaves_at n s.at.tree ≡ leaves_at r.number s.at.tree = ap (λ (k : ℕ). leaves_at k s.at.tree) same in absurd (omega arith)) (Some x.room)
       (leaves_in m n)
@@ -173,8 +164,7 @@ module _ {V : Type 0} where
   bit_stays : (m new : Lodged V) {bit : ℕ} (x : Placed V) (whole : Part m) (above : Option Id) (below : Node) (s : IsSpot m x.entry.key bit whole above below)
       → IsBeside m new bit x above below
       → (n : ℕ) → forks_at n s.at.tree ≡ 0 → 1 ≤ forks_at n whole.tree → bits_in new n ≡ name_child above x.entry.key (BitOf x.room) n (bits_in m n)
-  bit_stays m new x whole above below s b n out some =
-      b.bits n (not_new_bit whole x.room b.no_bit n some)
+  bit_stays m new x whole above below s b n out some = b.bits n (not_new_bit whole x.room b.no_bit n some)
       ∙ misses_bit below n (λ r is same. let there : 1 ≤ forks_at r.number s.at.tree = named_bit s.at.tree r (s.named ∙ is) in
       let e : forks_at n s.at.tree ≡ forks_at r.number s.at.tree = ap (λ (k : ℕ). forks_at k s.at.tree) same in absurd (omega arith)) (Some x.room)
       (name_child above x.entry.key (BitOf x.room) n (bits_in m n))

@@ -1,19 +1,12 @@
 -- What has come of the rooms once a route of a new key stands in them, beneath a new bit node.
-use Rattle.std.proofs.Common.{◌≡◌, ℕ, ◌+◌, ◌≤◌, ◌⊎◌, ◌==◌, ◌||◌, Bool, true, false, if◌then◌else◌, List, [], ◌∷◌, Option, Some, None, refl, sym, ap, ◌∙◌, subst}
-use Rattle.std.proofs.Common.{inl, inr, ⊎_elim, arith}
-use Rattle.std.proofs.lemmas.Bool.{eq-eqb, ne_eqb, cases_eq}
-use Rattle.std.proofs.lemmas.List.{append-nil}
-use Rattle.radix_tree.proofs.Words.{is_some, Has, Id, Node, LeafOf, BitOf, Placed, Tree, leaf, fork, bit_at, IsIn, routes_of, LeafPart, BitPart, MaskPart}
-use Rattle.radix_tree.proofs.Words.{Heads, Masks, Bits, Part, leaves_in, bits_in, heads_in, masks_in, Beneath, Way, one_if, leaves_at, forks_at, HasHome}
-use Rattle.radix_tree.proofs.Words.{HaveOneFork, name_child, with_child, with_head, forked_tree, Gains, IsPlace, IsSpot, IsBeside, Exchanged, IsMarked}
-use Rattle.radix_tree.proofs.Words.{IsMaskList, MarkedIn, MarkedLists, HasRoomMore, KeepsLeaves, KeepsBits, KeepsMasks, lift_leaf, lift_bit, leaf_above}
-use Rattle.radix_tree.proofs.Words.{bit_above, Lodged}
-use Rattle.radix_tree.proofs.AddressBits.{zero_or_one}
-use Rattle.radix_tree.proofs.RoomReads.{Has-leaf}
-use Rattle.radix_tree.proofs.TreeMembers.{bit_beneath}
-use Rattle.radix_tree.proofs.Lodging.{stays}
-use Rattle.radix_tree.proofs.Beside.{zero_forked, one_forked}
-use Rattle.radix_tree.proofs.Cuts.{IsCut}
+use Rattle.radix_tree.proofs.Words.{◌≡◌, ℕ, ◌+◌, ◌≤◌, ◌⊎◌, ◌==◌, ◌||◌, Bool, true, false, if◌then◌else◌, List, [], ◌∷◌, Option, Some, None, refl, sym, ap}
+use Rattle.radix_tree.proofs.Words.{◌∙◌, subst, inl, inr, arith, eq-eqb, ne_eqb, cases_eq, append-nil, is_some, Has, Id, Node, LeafOf, BitOf, Placed}
+use Rattle.radix_tree.proofs.Words.{Tree, leaf, fork, bit_at, IsIn, routes_of, LeafPart, BitPart, MaskPart, Heads, Masks, Bits, Part, leaves_in, bits_in}
+use Rattle.radix_tree.proofs.Words.{heads_in, masks_in, Beneath, Way, one_if, leaves_at, forks_at, HasHome, HaveOneFork, name_child, with_child}
+use Rattle.radix_tree.proofs.Words.{with_head, forked_tree, Gains, IsPlace, IsSpot, IsBeside, Exchanged, IsMarked, IsMaskList, MarkedIn, MarkedLists}
+use Rattle.radix_tree.proofs.Words.{HasRoomMore, KeepsLeaves, KeepsBits, KeepsMasks, lift_leaf, lift_bit, leaf_above, bit_above, Lodged}
+use Rattle.radix_tree.proofs.{AddressBits.zero_or_one, RoomReads.Has-leaf, TreeMembers.bit_beneath, Lodging.stays, Beside.zero_forked, Beside.one_forked}
+use Rattle.radix_tree.proofs.{Cuts.IsCut}
 
 -- ---- what a room says stays something
 turned_some : (key : ℕ) (to : Node) (said : Option BitPart) → is_some (with_child key to said) ≡ is_some said
@@ -78,8 +71,10 @@ module _ {V : Type 0} where
   -- ---- the new bit node's tree
   forked_cases : (P : Tree V → Type 0) (bit : ℕ) (x : Placed V) (t : Tree V) → (bit_at bit x.entry.key ≡ 0 → P (fork x.room bit (leaf x []) t))
       → (bit_at bit x.entry.key ≡ 1 → P (fork x.room bit t (leaf x []))) → P (forked_tree bit x t)
-  forked_cases P bit x t zero one = ⊎_elim (λ (clear : bit_at bit x.entry.key ≡ 0). subst P (zero_forked bit x t clear) (zero clear))
-      (λ (set : bit_at bit x.entry.key ≡ 1). subst P (one_forked bit x t set) (one set)) (zero_or_one bit x.entry.key)
+  forked_cases P bit x t zero one = elim (zero_or_one bit x.entry.key) [
+    | inl clear ↦ subst P (zero_forked bit x t clear) (zero clear)
+    | inr set ↦ subst P (one_forked bit x t set) (one set)
+  ]
 
   pub forked_leaves : (bit : ℕ) (x : Placed V) (t : Tree V) (n : ℕ) → leaves_at n (forked_tree bit x t) ≡ one_if (x.room.number == n) + leaves_at n t
   forked_leaves bit x t n =
@@ -90,12 +85,12 @@ module _ {V : Type 0} where
       forked_cases (λ (s : Tree V). forks_at n s ≡ one_if (x.room.number == n) + forks_at n t) bit x t (λ clear. omega arith) (λ set. omega arith)
 
   in_leaf : (x y : Placed V) → IsIn y (leaf x []) → x ≡ y
-  in_leaf x y is = ⊎_elim (λ (e : x ≡ y). e) (λ none. absurd none) is
+  in_leaf x y is = elim is [ inl e ↦ e | inr none ↦ absurd none ]
 
   pub in_forked : (bit : ℕ) (x : Placed V) (t : Tree V) (y : Placed V) → IsIn y (forked_tree bit x t) → (x ≡ y) ⊎ IsIn y t
   in_forked bit x t y = forked_cases (λ (s : Tree V). IsIn y s → (x ≡ y) ⊎ IsIn y t) bit x t
-      (λ clear is. ⊎_elim (λ (new : IsIn y (leaf x [])). inl (in_leaf x y new)) (λ (old : IsIn y t). inr old) is)
-      (λ set is. ⊎_elim (λ (old : IsIn y t). inr old) (λ (new : IsIn y (leaf x [])). inl (in_leaf x y new)) is)
+      (λ clear is. elim is [ inl new ↦ inl (in_leaf x y new) | inr old ↦ inr old ])
+      (λ set is. elim is [ inl old ↦ inr old | inr new ↦ inl (in_leaf x y new) ])
 
   pub forked_in : (bit : ℕ) (x : Placed V) (t : Tree V) (y : Placed V) → IsIn y t → IsIn y (forked_tree bit x t)
   forked_in bit x t y is = forked_cases (λ (s : Tree V). IsIn y s) bit x t (λ clear. inr is) (λ set. inl is)
@@ -109,12 +104,8 @@ module _ {V : Type 0} where
   -- a route beneath it has its home at the new bit node, or where it had it
   pub home_forked : (bit : ℕ) (x : Placed V) (t : Tree V) (key rank : ℕ) → HasHome key rank (forked_tree bit x t) → (rank ≤ bit) ⊎ HasHome key rank t
   home_forked bit x t key rank = forked_cases (λ (s : Tree V). HasHome key rank s → (rank ≤ bit) ⊎ HasHome key rank t) bit x t
-      (λ clear home. ⊎_elim (λ (here : rank ≤ bit). inl here)
-      (λ (sides : ((bit_at bit key ≡ 0) × ⊥) ⊎ ((bit_at bit key ≡ 1) × HasHome key rank t)).
-      ⊎_elim (λ (left : (bit_at bit key ≡ 0) × ⊥). absurd left.1) (λ (right : (bit_at bit key ≡ 1) × HasHome key rank t). inr right.1) sides) home)
-      (λ set home. ⊎_elim (λ (here : rank ≤ bit). inl here)
-      (λ (sides : ((bit_at bit key ≡ 0) × HasHome key rank t) ⊎ ((bit_at bit key ≡ 1) × ⊥)).
-      ⊎_elim (λ (left : (bit_at bit key ≡ 0) × HasHome key rank t). inr left.1) (λ (right : (bit_at bit key ≡ 1) × ⊥). absurd right.1) sides) home)
+      (λ clear home. elim home [ inl here ↦ inl here | inr sides ↦ elim sides [ inl left ↦ absurd left.1 | inr right ↦ inr right.1 ] ])
+      (λ set home. elim home [ inl here ↦ inl here | inr sides ↦ elim sides [ inl left ↦ inr left.1 | inr right ↦ absurd right.1 ] ])
 
   pub forked_home : (bit low : ℕ) (x : Placed V) (t : Tree V) → IsPlace x.entry.key low bit t → (y : Placed V) → IsIn y t → HasHome y.entry.key y.entry.rank t
       → HasHome y.entry.key y.entry.rank (forked_tree bit x t)
@@ -149,14 +140,12 @@ module _ {V : Type 0} where
   }
 
   pub same_way : (m new : Lodged V) (leaves : KeepsLeaves m new) (bits : KeepsBits m new) (key : ℕ) (whole at : Part m) (ups : List (Part m))
-      → Way key whole at ups
-      → Way key (same_part new leaves bits whole) (same_part new leaves bits at) (same_parts m new leaves bits ups)
+      → Way key whole at ups → Way key (same_part new leaves bits whole) (same_part new leaves bits at) (same_parts m new leaves bits ups)
   same_way m new leaves bits key whole at [] way = ap (same_part {m = m} new leaves bits) way
   same_way m new leaves bits key whole at (p ∷ ps) way = (same_beneath m new leaves bits at p way.0, same_way m new leaves bits key whole p ps way.1)
 
   abbrev pub same_spot : {m : Lodged V} (new : Lodged V) (leaves : KeepsLeaves m new) (bits : KeepsBits m new) {key bit : ℕ} (whole : Part m)
-      {above : Option Id} {below : Node} → IsSpot m key bit whole above below
-      → IsSpot new key bit (same_part new leaves bits whole) above below
+      {above : Option Id} {below : Node} → IsSpot m key bit whole above below → IsSpot new key bit (same_part new leaves bits whole) above below
   same_spot {m = m} new leaves bits {key = key} whole s = record {
     at = same_part new leaves bits s.at;
     ups = same_parts m new leaves bits s.ups;
@@ -209,8 +198,7 @@ module _ {V : Type 0} where
 
   pub other_bit : (m mid new : Lodged V) {low bit : ℕ} {t : Tree V} (x : Placed V) (above : Option Id) (below : Node) → Came m mid new low bit t x above below
       → (n : ℕ) → (n ≡ x.room.number → ⊥) → is_some (bits_in new n) ≡ is_some (bits_in m n)
-  other_bit m mid new x above below c n other =
-      ap (λ (o : Option BitPart). is_some o) (c.beside.bits n other) ∙ lift_bit_some below (Some x.room) n
+  other_bit m mid new x above below c n other = ap (λ (o : Option BitPart). is_some o) (c.beside.bits n other) ∙ lift_bit_some below (Some x.room) n
       (name_child above x.entry.key (BitOf x.room) n (bits_in mid n)) ∙ turn_some above x.entry.key (BitOf x.room) n (bits_in mid n)
       ∙ ap (λ (o : Option BitPart). is_some o) (c.cut.bits n)
 
@@ -225,12 +213,11 @@ module _ {V : Type 0} where
 
   pub room_more : {m mid new : Lodged V} {low bit : ℕ} (t : Tree V) {x : Placed V} {above : Option Id} {below : Node} → Came m mid new low bit t x above below
       → HasRoomMore m new x.room.number
-  room_more {m = m} {mid = mid} {new = new} t {x = x} {below = below} c n = ⊎_elim
-      (λ (same : n ≡ x.room.number). ap (λ (k : ℕ). is_some (leaves_in new k)) same ∙ ap (λ (o : Option (LeafPart V)). is_some o) c.beside.leaf
-      ∙ sym (ap (λ (b : Bool). b || is_some (leaves_in m n)) (eq-eqb n x.room.number same)))
-      (λ (other : n ≡ x.room.number → ⊥). other_leaf m mid new t x below c n other
-      ∙ sym (ap (λ (b : Bool). b || is_some (leaves_in m n)) (ne_eqb n x.room.number other)))
-      (cases_eq n x.room.number)
+  room_more {m = m} {mid = mid} {new = new} t {x = x} {below = below} c n = elim (cases_eq n x.room.number) [
+    | inl same ↦ ap (λ (k : ℕ). is_some (leaves_in new k)) same ∙ ap (λ (o : Option (LeafPart V)). is_some o) c.beside.leaf
+        ∙ sym (ap (λ (b : Bool). b || is_some (leaves_in m n)) (eq-eqb n x.room.number same))
+    | inr other ↦ other_leaf m mid new t x below c n other ∙ sym (ap (λ (b : Bool). b || is_some (leaves_in m n)) (ne_eqb n x.room.number other))
+  ]
 
   pub leaf_kept : {m mid new : Lodged V} {low bit : ℕ} {t : Tree V} {x : Placed V} {above : Option Id} {below : Node} → Came m mid new low bit t x above below
       → (n : ℕ) (p : LeafPart V) → leaves_in m n ≡ Some p

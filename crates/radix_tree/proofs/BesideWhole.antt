@@ -1,23 +1,17 @@
 -- A route of a new key stands in the table's rooms, beneath a new bit node that has taken over a list of masks: the whole.
-use Rattle.std.proofs.Common.{◌≡◌, ℕ, ◌+◌, ◌<◌, ◌≤◌, ◌⊎◌, ◌==◌, ◌||◌, Bool, true, false, if◌then◌else◌, List, ◌∷◌, Option, Some, None, refl, sym, ap, ◌∙◌}
-use Rattle.std.proofs.Common.{subst, inl, inr, ⊎_elim, arith}
-use Rattle.std.proofs.lemmas.Bool.{eq-eqb, ne_eqb, cases_eq}
-use Rattle.radix_tree.proofs.Words.{is_some, Id, Node, LeafOf, BitOf, Placed, Tree, leaf, fork, IsIn, IsTree, routes_of, LeafPart, BitPart, MaskPart, Part}
-use Rattle.radix_tree.proofs.Words.{leaves_in, bits_in, heads_in, masks_in, LedTo, one_if, leaves_at, forks_at, HasHome, HaveOneFork, IsWhole, shown, with_head}
-use Rattle.radix_tree.proofs.Words.{forked_tree, Gains, IsSpot, IsBeside, IsNew, Differs, Exchanged, IsMasks, IsAside, past_bit, up_to_bit, IsMarked, MarkedIn}
-use Rattle.radix_tree.proofs.Words.{MarkedLists, IsWholeBut, has_key, is_of_key, nobody_late, nobody_out, KeepsLeaves, KeepsBits, KeepsMasks, Lodged}
-use Rattle.radix_tree.proofs.TreeMembers.{chain_key, tree_said}
-use Rattle.radix_tree.proofs.Beside.{not_new, not_new_bit}
-use Rattle.radix_tree.proofs.Plugs.{counted_leaf, spare_same}
-use Rattle.radix_tree.proofs.PlugLists.{mask_list_same, lists_same, marked_same}
-use Rattle.radix_tree.proofs.WholeParts.{Fits, some_of, whole_but, once_but}
-use Rattle.radix_tree.proofs.WholeChanges.{spare_changed, whole_changed}
-use Rattle.radix_tree.proofs.WholeRoutes.{routes_changed, gains_spliced}
-use Rattle.radix_tree.proofs.LeafWays.{same_leaf}
-use Rattle.radix_tree.proofs.Cuts.{cut_at}
+use Rattle.radix_tree.proofs.Words.{◌≡◌, ℕ, ◌+◌, ◌<◌, ◌≤◌, ◌⊎◌, ◌==◌, ◌||◌, Bool, true, false, if◌then◌else◌, List, ◌∷◌, Option, Some, None, refl, sym}
+use Rattle.radix_tree.proofs.Words.{ap, ◌∙◌, subst, inl, inr, arith, eq-eqb, ne_eqb, cases_eq, is_some, Id, Node, LeafOf, BitOf, Placed, Tree, leaf, fork}
+use Rattle.radix_tree.proofs.Words.{IsIn, IsTree, routes_of, LeafPart, BitPart, MaskPart, Part, leaves_in, bits_in, heads_in, masks_in, LedTo, one_if}
+use Rattle.radix_tree.proofs.Words.{leaves_at, forks_at, HasHome, HaveOneFork, IsWhole, shown, with_head, forked_tree, Gains, IsSpot, IsBeside, IsNew}
+use Rattle.radix_tree.proofs.Words.{Differs, Exchanged, IsMasks, IsAside, past_bit, up_to_bit, IsMarked, MarkedIn, MarkedLists, IsWholeBut, has_key}
+use Rattle.radix_tree.proofs.Words.{is_of_key, nobody_late, nobody_out, KeepsLeaves, KeepsBits, KeepsMasks, Lodged}
 use Rattle.radix_tree.proofs.BesideRooms.{none_of, false_true, or_true, one_if_turned, one_if_here, forked_leaves, forked_forks, in_forked, forked_in}
-use Rattle.radix_tree.proofs.BesideRooms.{forked_lists, home_forked, forked_home, forked_spare, forked_gains, Came, no_leaf, no_bit, other_leaf, other_bit}
-use Rattle.radix_tree.proofs.BesideRooms.{same_marks, new_unmarked}
+use Rattle.radix_tree.proofs.BesideRooms.{forked_lists, home_forked, forked_home, forked_spare, forked_gains, Came, no_leaf, no_bit, other_leaf}
+use Rattle.radix_tree.proofs.BesideRooms.{other_bit, same_marks, new_unmarked}
+use Rattle.radix_tree.proofs.{TreeMembers.chain_key, TreeMembers.tree_said, Beside.not_new, Beside.not_new_bit, Plugs.counted_leaf, Plugs.spare_same}
+use Rattle.radix_tree.proofs.{PlugLists.mask_list_same, PlugLists.lists_same, PlugLists.marked_same, WholeParts.Fits, WholeParts.some_of}
+use Rattle.radix_tree.proofs.{WholeParts.whole_but, WholeParts.once_but, WholeChanges.spare_changed, WholeChanges.whole_changed}
+use Rattle.radix_tree.proofs.{WholeRoutes.routes_changed, WholeRoutes.gains_spliced, LeafWays.same_leaf, Cuts.cut_at}
 
 module _ {V : Type 0} where
   -- ---- the whole
@@ -26,23 +20,20 @@ module _ {V : Type 0} where
   late_beside m key room n = (n == room) || has_key m key n
 
   pub counts : (m mid new : Lodged V) {low bit : ℕ} {t : Tree V} (x : Placed V) (above : Option Id) (below : Node) (c : Came m mid new low bit t x above below)
-      (n : ℕ)
-      → (one_if (x.room.number == n) + one_if (is_some (leaves_in m n)) ≡ one_if (is_some (leaves_in new n)))
+      (n : ℕ) → (one_if (x.room.number == n) + one_if (is_some (leaves_in m n)) ≡ one_if (is_some (leaves_in new n)))
       × (one_if (x.room.number == n) + one_if (is_some (bits_in m n)) ≡ one_if (is_some (bits_in new n)))
-  counts m mid new {t = t} x above below c n = ⊎_elim
-      (λ (same : n ≡ x.room.number).
-      let here : one_if (x.room.number == n) ≡ 1 = one_if_here x.room n same in
-      let l : one_if (is_some (leaves_in m n)) ≡ 0 = ap (λ (o : Option (LeafPart V)). one_if (is_some o)) (ap (leaves_in m) same ∙ no_leaf x c) in
-      let b : one_if (is_some (bits_in m n)) ≡ 0 = ap (λ (o : Option BitPart). one_if (is_some o)) (ap (bits_in m) same ∙ no_bit x c) in
-      let l2 : one_if (is_some (leaves_in new n)) ≡ 1 = ap (λ (o : Option (LeafPart V)). one_if (is_some o)) (ap (leaves_in new) same ∙ c.beside.leaf) in
-      let b2 : one_if (is_some (bits_in new n)) ≡ 1 = ap (λ (o : Option BitPart). one_if (is_some o)) (ap (bits_in new) same ∙ c.beside.bit_node) in
-      (omega arith, omega arith))
-      (λ (other : n ≡ x.room.number → ⊥).
-      let none : one_if (x.room.number == n) ≡ 0 = one_if_turned x.room n other in
-      let l : one_if (is_some (leaves_in new n)) ≡ one_if (is_some (leaves_in m n)) = ap one_if (other_leaf m mid new t x below c n other) in
-      let b : one_if (is_some (bits_in new n)) ≡ one_if (is_some (bits_in m n)) = ap one_if (other_bit m mid new x above below c n other) in
-      (omega arith, omega arith))
-      (cases_eq n x.room.number)
+  counts m mid new {t = t} x above below c n = elim (cases_eq n x.room.number) [
+    | inl same ↦ let here : one_if (x.room.number == n) ≡ 1 = one_if_here x.room n same in
+        let l : one_if (is_some (leaves_in m n)) ≡ 0 = ap (λ (o : Option (LeafPart V)). one_if (is_some o)) (ap (leaves_in m) same ∙ no_leaf x c) in
+        let b : one_if (is_some (bits_in m n)) ≡ 0 = ap (λ (o : Option BitPart). one_if (is_some o)) (ap (bits_in m) same ∙ no_bit x c) in
+        let l2 : one_if (is_some (leaves_in new n)) ≡ 1 = ap (λ (o : Option (LeafPart V)). one_if (is_some o)) (ap (leaves_in new) same ∙ c.beside.leaf) in
+        let b2 : one_if (is_some (bits_in new n)) ≡ 1 = ap (λ (o : Option BitPart). one_if (is_some o)) (ap (bits_in new) same ∙ c.beside.bit_node) in
+        (omega arith, omega arith)
+    | inr other ↦ let none : one_if (x.room.number == n) ≡ 0 = one_if_turned x.room n other in
+        let l : one_if (is_some (leaves_in new n)) ≡ one_if (is_some (leaves_in m n)) = ap one_if (other_leaf m mid new t x below c n other) in
+        let b : one_if (is_some (bits_in new n)) ≡ one_if (is_some (bits_in m n)) = ap one_if (other_bit m mid new x above below c n other) in
+        (omega arith, omega arith)
+  ]
 
   -- a route that the new bit node would be the home of is late, or had a home
   late_or_home : (m : Lodged V) (bit key room : ℕ) (p : Part m) (y : Placed V) (t : Tree V) → p.tree ≡ t → IsTree (bit + 1) p.tree
@@ -85,62 +76,56 @@ module _ {V : Type 0} where
         masks = λ n none some. c.masks n ∙ c.cut.masks n none;
         masks_above = λ y at short marked. c.masks y.room.number ∙ c.cut.masks_above y at short;
         marks = λ n p is. some_of (masks_in m n) (sym (marks n) ∙ ap (λ (o : Option MaskPart). is_some o) is);
-        kept =
-            λ y at marked. (
-              subst (IsIn y) (sym tree) (forked_in bit x s.at.tree y at),
-              λ home.
-                  inr (subst (HasHome y.entry.key y.entry.rank) (sym tree) (forked_home bit s.at.low x s.at.tree s.place y at home)),
-            );
-        came = λ y there marked. ⊎_elim (λ (e : x ≡ y). absurd (new_one y e marked)) (λ (at : IsIn y s.at.tree). at)
-            (in_forked bit x s.at.tree y (subst (IsIn y) tree there));
+        kept = λ y at marked. (
+          subst (IsIn y) (sym tree) (forked_in bit x s.at.tree y at),
+          λ home. inr (subst (HasHome y.entry.key y.entry.rank) (sym tree) (forked_home bit s.at.low x s.at.tree s.place y at home)),
+        );
+        came = λ y there marked. elim (in_forked bit x s.at.tree y (subst (IsIn y) tree there)) [
+          | inl e ↦ absurd (new_one y e marked)
+          | inr at ↦ at
+        ];
         gone = λ y at short marked. marks y.room.number ∙ marked;
         lists = subst (MarkedLists (heads_in new) (masks_in new) s.at.low) (sym tree) (forked_lists (heads_in new) s.at.low bit x s.at.tree
             (mask_list_same (masks_in mid) (masks_in new) s.at.low bit (MarkedIn (masks_in new) (forked_tree bit x s.at.tree))
             (c.heads x.room.number ∙ ap (λ (b : Bool). if b then c.first else heads_in mid x.room.number) (eq-eqb x.room.number x.room.number refl))
             (λ y member most. (
               (forked_in bit x s.at.tree y member.0, marked_same (masks_in mid) (masks_in new) y (c.masks y.room.number) member.1),
-              c.masks
-                  y.room.number,
-            ))
-            (λ y member most. (
-              ⊎_elim (λ (e : x ≡ y). absurd (new_one y e member.1)) (λ (at : IsIn y s.at.tree). at)
-                  (in_forked bit x s.at.tree y member.0),
+              c.masks y.room.number,
+            )) (λ y member most. (
+              elim (in_forked bit x s.at.tree y member.0) [ inl e ↦ absurd (new_one y e member.1) | inr at ↦ at ],
               marked_same (masks_in new) (masks_in mid) y (sym (c.masks y.room.number)) member.1,
-            ))
-            c.cut.list)
+            )) c.cut.list)
             (lists_same (heads_in mid) (heads_in new) (masks_in mid) (masks_in new) (bit + 1) s.at.tree (λ n some. off n (not_room n some))
             (λ y at. c.masks y.room.number) c.cut.lists));
-        all = λ y there home. ⊎_elim
-            (λ (e : x ≡ y). inl (ap (λ (b : Bool). b || has_key m key y.room.number)
-            (eq-eqb y.room.number x.room.number (ap (λ (p : Placed V). p.room.number) (sym e)))))
-            (λ (at : IsIn y s.at.tree). ⊎_elim
-            (λ (short : y.entry.rank < s.at.low). inr (
+        all = λ y there home. elim (in_forked bit x s.at.tree y (subst (IsIn y) tree there)) [
+          | inl e ↦ inl (ap (λ (b : Bool). b || has_key m key y.room.number)
+              (eq-eqb y.room.number x.room.number (ap (λ (p : Placed V). p.room.number) (sym e))))
+          | inr at ↦ elim home [
+            | inl short ↦ inr (
               at,
               inl short,
               (λ (marked : IsMarked (masks_in m) y). marks y.room.number ∙ marked),
               (λ (late : false ≡ true). absurd (false_true late)),
-            ))
-            (λ (new_home : HasHome y.entry.key y.entry.rank u.tree). ⊎_elim
-            (λ (here : y.entry.rank ≤ bit). ⊎_elim
-            (λ (late : late_beside m key x.room.number y.room.number ≡ true). inl late)
-            (λ (had : HasHome y.entry.key y.entry.rank s.at.tree). inr (
-              at,
-              inr
-                  had,
-              (λ (marked : IsMarked (masks_in m) y). marks y.room.number ∙ marked),
-              (λ (late : false ≡ true). absurd (false_true late)),
-            ))
-            (late_or_home m bit key x.room.number s.at y s.at.tree refl s.place.is (λ z zs is. keyed y z zs at is) at here))
-            (λ (had : HasHome y.entry.key y.entry.rank s.at.tree). inr (
-              at,
-              inr
-                  had,
-              (λ (marked : IsMarked (masks_in m) y). marks y.room.number ∙ marked),
-              (λ (late : false ≡ true). absurd (false_true late)),
-            ))
-            (home_forked bit x s.at.tree y.entry.key y.entry.rank (subst (HasHome y.entry.key y.entry.rank) tree new_home)))
-            home)
-            (in_forked bit x s.at.tree y (subst (IsIn y) tree there));
+            )
+            | inr new_home ↦ elim (home_forked bit x s.at.tree y.entry.key y.entry.rank (subst (HasHome y.entry.key y.entry.rank) tree new_home)) [
+              | inl here ↦ elim (late_or_home m bit key x.room.number s.at y s.at.tree refl s.place.is (λ z zs is. keyed y z zs at is) at here) [
+                | inl late ↦ inl late
+                | inr had ↦ inr (
+                  at,
+                  inr had,
+                  (λ (marked : IsMarked (masks_in m) y). marks y.room.number ∙ marked),
+                  (λ (late : false ≡ true). absurd (false_true late)),
+                )
+              ]
+              | inr had ↦ inr (
+                at,
+                inr had,
+                (λ (marked : IsMarked (masks_in m) y). marks y.room.number ∙ marked),
+                (λ (late : false ≡ true). absurd (false_true late)),
+              )
+            ]
+          ]
+        ];
         late_aside = λ n none some late. absurd (false_true late);
       }
 
@@ -153,11 +138,9 @@ module _ {V : Type 0} where
       let none = no_leaf x c in
       let idle : (n : ℕ) → (n ≡ x.room.number → ⊥) → bits_in m n ≡ None → bits_in new n ≡ None =
       λ n other. none_of (bits_in new n) (bits_in m n) (other_bit m mid new x above below c n other) in
-      spare_changed m new w e
-      (λ spare. subst (HaveOneFork (bits_in new)) (sym tree) (forked_spare (bits_in new) bit x s.at.tree
+      spare_changed m new w e (λ spare. subst (HaveOneFork (bits_in new)) (sym tree) (forked_spare (bits_in new) bit x s.at.tree
       (spare_same (bits_in m) (bits_in new) s.at.tree (λ y at. idle y.room.number (not_new s.at x.room none y.room.number (counted_leaf y s.at.tree at)))
-      spare)))
-      (λ n out some. idle n (not_new w.part x.room none n some))
+      spare))) (λ n out some. idle n (not_new w.part x.room none n some))
 
   pub whole_beside : {m mid new : Lodged V} {root name : Node} (w : IsWholeBut m root nobody_late nobody_out) {bit : ℕ} {x : Placed V} {above : Option Id}
       {below : Node} (s : IsSpot m x.entry.key bit w.part above below) {room : Id} (d : LedTo x.entry.key w.part room) (u : Part new)
@@ -169,28 +152,19 @@ module _ {V : Type 0} where
       let keyed : (y z : Placed V) (zs : List (Placed V)) → IsIn y s.at.tree → s.at.tree ≡ leaf z zs → y.entry.key ≡ f.first.entry.key =
       λ y z zs at is. chain_key f.first.entry.key 34 (f.first ∷ f.rest) chain y
       (subst (IsIn y) (is ∙ same_leaf m x.entry.key w.part s.at d.part s.ups d.ups z f.first zs f.rest s.way d.way is f.is) at) in
-      whole_changed m new w e
-      (fits_beside m mid new w bit x above below s f.first.entry.key u c tree keyed)
+      whole_changed m new w e (fits_beside m mid new w bit x above below s f.first.entry.key u c tree keyed)
       (spare_beside m mid new w bit x above below s u c tree e)
 
   pub routes_beside : {m new : Lodged V} {root name : Node} (w : IsWholeBut m root nobody_late nobody_out) {bit : ℕ} (x : Placed V) {above : Option Id}
       {below : Node} (s : IsSpot m x.entry.key bit w.part above below) (u : Part new)
       → u.tree ≡ forked_tree bit x s.at.tree → Exchanged m new x.entry.key w.part s.at u name → Gains x.entry (shown m (Some root)) (shown new (Some name))
-  routes_beside w {bit = bit} x s u tree e =
-      gains_spliced (routes_changed w e)
+  routes_beside w {bit = bit} x s u tree e = gains_spliced (routes_changed w e)
       (subst (λ (t : Tree V). Gains x.entry (routes_of s.at.tree) (routes_of t)) (sym tree) (forked_gains bit x s.at.tree))
 
   -- ---- a key that no route of the table has, and the rooms once its route stands there
   abbrev pub new_key : {m : Lodged V} {root : Node} (w : IsWhole m root) {key bit : ℕ} {room : Id} (d : LedTo key w.part room)
       → Differs key d.leaf.first.entry.key bit → IsNew m key bit room
-  new_key w d differs = record {
-    whole = w.part;
-    led = d;
-    top = w.top;
-    low = w.low;
-    once = once_but (whole_but w);
-    differs = differs;
-  }
+  new_key w d differs = record { whole = w.part; led = d; top = w.top; low = w.low; once = once_but (whole_but w); differs = differs }
 
   pub came_beside : {m mid new : Lodged V} {root : Node} (w : IsWhole m root) {bit : ℕ} {x : Placed V} {above : Option Id} {below : Node} (first : Option Id)
       (s : IsSpot m x.entry.key bit w.part above below)
@@ -200,17 +174,14 @@ module _ {V : Type 0} where
       → ((room : Id) → below ≡ LeafOf room → (first ≡ None) × (mid ≡ m))
       → ((n : ℕ) → ((fork : Id) → below ≡ BitOf fork → n ≡ fork.number → ⊥) → heads_in mid n ≡ heads_in m n)
       → ((fork : Id) (ms : List (Placed V)) → below ≡ BitOf fork → IsMasks m (heads_in m fork.number) ms → (n : ℕ) → IsAside n ms
-      → masks_in mid n ≡ masks_in m n)
-      → ((n : ℕ) → is_some (masks_in mid n) ≡ is_some (masks_in m n)) → KeepsLeaves m mid → KeepsBits m mid
+      → masks_in mid n ≡ masks_in m n) → ((n : ℕ) → is_some (masks_in mid n) ≡ is_some (masks_in m n)) → KeepsLeaves m mid → KeepsBits m mid
       → IsBeside mid new bit x above below → ((n : ℕ) → heads_in new n ≡ with_head x.room first n (heads_in mid n)) → KeepsMasks mid new
-      → masks_in m x.room.number ≡ None
-      → Came m mid new s.at.low bit s.at.tree x above below
+      → masks_in m x.room.number ≡ None → Came m mid new s.at.low bit s.at.tree x above below
   came_beside {m = m} {mid = mid} w {bit = bit} {x = x} {below = below} first s kept others same heads masks marks leaves bits beside new_heads new_masks
       unmarked = record {
         first = first;
         cut = cut_at m mid (whole_but w) x.entry.key bit s.at s.ups below first s.at.tree refl s.way s.once s.place.rises s.place.is s.named kept others same
-            heads
-            masks marks leaves bits;
+            heads masks marks leaves bits;
         beside = beside;
         heads = new_heads;
         masks = new_masks;

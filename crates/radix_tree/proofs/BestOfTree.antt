@@ -1,12 +1,9 @@
 -- The best route that is found in a tree is that of its list of routes.
-use Rattle.std.proofs.Common.{◌≡◌, ℕ, ◌<◌, ◌≤◌, ◌⊎◌, List, [], ◌∷◌, ◌++◌, map, Option, Some, None, refl, inl, inr, ⊎_elim, sym, ap, subst, arith}
-use Rattle.radix_tree.proofs.Words.{Contains, AllByRecursion, best_of, StandsIn, Agrees, Placed, Tree, leaf, fork, IsAmong, IsIn, IsTree, routes_of, Best}
-use Rattle.radix_tree.proofs.Words.{Entry}
 use Rattle.radix_tree.specs.Tree.{Covers}
-use Rattle.radix_tree.proofs.MemberLemmas.{all_contains, all_stand, members_stand, best_is_member}
-use Rattle.radix_tree.proofs.LawLemmas.{best_is_unique}
-use Rattle.radix_tree.proofs.TreeOrder.{all_in, tree_is_table}
-use Rattle.radix_tree.proofs.TreeMembers.{tree_route}
+use Rattle.radix_tree.proofs.Words.{◌≡◌, ℕ, ◌<◌, ◌≤◌, ◌⊎◌, List, [], ◌∷◌, ◌++◌, map, Option, Some, None, refl, inl, inr, sym, ap, subst, arith, Contains}
+use Rattle.radix_tree.proofs.Words.{AllByRecursion, best_of, StandsIn, Agrees, Placed, Tree, leaf, fork, IsAmong, IsIn, IsTree, routes_of, Best, Entry}
+use Rattle.radix_tree.proofs.{MemberLemmas.all_contains, MemberLemmas.all_stand, MemberLemmas.members_stand, MemberLemmas.best_is_member}
+use Rattle.radix_tree.proofs.{LawLemmas.best_is_unique, TreeOrder.all_in, TreeOrder.tree_is_table, TreeMembers.tree_route}
 
 module _ {V : Type 0} where
   -- ---- the routes of a tree and the members of its list
@@ -23,7 +20,7 @@ module _ {V : Type 0} where
 
   among_left : (e : Entry V) (es fs : List (Entry V)) → Among e es → Among e (es ++ fs)
   among_left e [] fs among = absurd among
-  among_left e (f ∷ es) fs among = ⊎_elim (λ (is : f ≡ e). inl is) (λ (later : Among e es). inr (among_left e es fs later)) among
+  among_left e (f ∷ es) fs among = elim among [ inl is ↦ inl is | inr later ↦ inr (among_left e es fs later) ]
 
   among_right : (e : Entry V) (es fs : List (Entry V)) → Among e fs → Among e (es ++ fs)
   among_right e [] fs among = among
@@ -31,17 +28,18 @@ module _ {V : Type 0} where
 
   among_chain : (x : Placed V) (c : List (Placed V)) → IsAmong x c → Among x.entry (map (λ (p : Placed V). p.entry) c)
   among_chain x [] among = absurd among
-  among_chain x (y ∷ c) among = ⊎_elim (λ (is : y ≡ x). inl (ap (λ (p : Placed V). p.entry) is)) (λ (later : IsAmong x c). inr (among_chain x c later)) among
+  among_chain x (y ∷ c) among = elim among [ inl is ↦ inl (ap (λ (p : Placed V). p.entry) is) | inr later ↦ inr (among_chain x c later) ]
 
   among_routes : (x : Placed V) (t : Tree V) → IsIn x t → Among x.entry (routes_of t)
   among_routes x (leaf z zs) at = among_chain x (z ∷ zs) at
-  among_routes x (fork room b zero one) at =
-      ⊎_elim (λ (left : IsIn x zero). among_left x.entry (routes_of zero) (routes_of one) (among_routes x zero left))
-      (λ (right : IsIn x one). among_right x.entry (routes_of zero) (routes_of one) (among_routes x one right)) at
+  among_routes x (fork room b zero one) at = elim at [
+    | inl left ↦ among_left x.entry (routes_of zero) (routes_of one) (among_routes x zero left)
+    | inr right ↦ among_right x.entry (routes_of zero) (routes_of one) (among_routes x one right)
+  ]
 
   all_at : (P : Entry V → Type 0) (e : Entry V) (es : List (Entry V)) → AllByRecursion P es → Among e es → P e
   all_at P e [] all among = absurd among
-  all_at P e (f ∷ es) all among = ⊎_elim (λ (is : f ≡ e). subst P is all.0) (λ (later : Among e es). all_at P e es all.1 later) among
+  all_at P e (f ∷ es) all among = elim among [ inl is ↦ subst P is all.0 | inr later ↦ all_at P e es all.1 later ]
 
   -- each route of a tree stands in its list
   pub stands_in : (low : ℕ) (t : Tree V) → IsTree low t → (x : Placed V) → IsIn x t → StandsIn (routes_of t) x.entry

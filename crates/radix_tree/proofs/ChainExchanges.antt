@@ -1,17 +1,13 @@
 -- The chain of a leaf is exchanged for another one: the part that is the leaf.
-use Rattle.std.proofs.Common.{◌≡◌, ℕ, ◌+◌, ◌≤◌, ◌==◌, ◌||◌, Bool, true, false, true≢false, if◌then◌else◌, List, [], ◌∷◌, ◌++◌, Option, Some, None, refl, sym}
-use Rattle.std.proofs.Common.{ap, ◌∙◌, subst, arith}
-use Rattle.std.proofs.lemmas.Bool.{eqb-true, eqb-false, eq-eqb, ne_eqb}
-use Rattle.radix_tree.proofs.Words.{is_some, Id, Node, LeafOf, Placed, Tree, leaf, bit_at, HaveBit, IsAmong, IsIn, IsChain, IsTree, routes_of, BitPart}
-use Rattle.radix_tree.proofs.Words.{MaskPart, Part, leaves_in, bits_in, masks_in, name_of, ChainStands, Way, one_if, members_at, leaves_at, forks_at, HasHome}
-use Rattle.radix_tree.proofs.Words.{HasOneFork, HaveOneFork, shown, name_child, with_child, root_after, IsExchange, Exchanged, IsMarked, IsWholeBut, KeepsHeads}
-use Rattle.radix_tree.proofs.Words.{KeepsMasks, above_behind, last_room, root_past, Entry, Lodged}
-use Rattle.radix_tree.proofs.PartRooms.{same_turned}
-use Rattle.radix_tree.proofs.Exchanging.{exchanged}
-use Rattle.radix_tree.proofs.WholeParts.{Fits, once_but}
-use Rattle.radix_tree.proofs.WholeChanges.{spare_changed, whole_changed}
-use Rattle.radix_tree.proofs.WholeRoutes.{Spliced, routes_changed}
-use Rattle.radix_tree.proofs.ChainLists.{IsCons, cons_at, map_entries, one_fork_same}
+use Rattle.radix_tree.proofs.Words.{◌≡◌, ℕ, ◌+◌, ◌≤◌, ◌==◌, ◌||◌, Bool, true, false, true≢false, if◌then◌else◌, List, [], ◌∷◌, ◌++◌, Option, Some, None}
+use Rattle.radix_tree.proofs.Words.{refl, sym, ap, ◌∙◌, subst, arith, eqb-true, eqb-false, eq-eqb, ne_eqb, is_some, Id, Node, LeafOf, Placed, Tree, leaf}
+use Rattle.radix_tree.proofs.Words.{bit_at, HaveBit, IsAmong, IsIn, IsChain, IsTree, routes_of, BitPart, MaskPart, Part, leaves_in, bits_in, masks_in}
+use Rattle.radix_tree.proofs.Words.{name_of, ChainStands, Way, one_if, members_at, leaves_at, forks_at, HasHome, HasOneFork, HaveOneFork, shown}
+use Rattle.radix_tree.proofs.Words.{name_child, with_child, root_after, IsExchange, Exchanged, IsMarked, IsWholeBut, KeepsHeads, KeepsMasks, above_behind}
+use Rattle.radix_tree.proofs.Words.{last_room, root_past, Entry, Lodged}
+use Rattle.radix_tree.proofs.{PartRooms.same_turned, Exchanging.exchanged, WholeParts.Fits, WholeParts.once_but, WholeChanges.spare_changed}
+use Rattle.radix_tree.proofs.{WholeChanges.whole_changed, WholeRoutes.Spliced, WholeRoutes.routes_changed, ChainLists.IsCons, ChainLists.cons_at}
+use Rattle.radix_tree.proofs.{ChainLists.map_entries, ChainLists.one_fork_same}
 
 -- ---- the bit node above
 turned_some : (key : ℕ) (to : Node) (said : Option BitPart) → is_some (with_child key to said) ≡ is_some said
@@ -21,11 +17,10 @@ turned_some key to (Some p) = refl
 -- a bit node that names another node is a bit node as before
 pub turn_some : (above : Option Id) (key n : ℕ) (to : Node) (said : Option BitPart) → is_some (name_child above key to n said) ≡ is_some said
 turn_some None key n to said = refl
-turn_some (Some up) key n to said =
-    elim (n == up.number) as (λ t. is_some (if t then with_child key to said else said) ≡ is_some said) [
-      | true ↦ turned_some key to said
-      | false ↦ refl
-    ]
+turn_some (Some up) key n to said = elim (n == up.number) as (λ t. is_some (if t then with_child key to said else said) ≡ is_some said) [
+  | true ↦ turned_some key to said
+  | false ↦ refl
+]
 
 pub none_is : {A : Type 0} (o : Option A) → is_some o ≡ false → o ≡ None
 none_is None e = refl
@@ -35,24 +30,22 @@ pub same_none : {A : Type 0} {o : Option A} (p : Option A) → is_some p ≡ is_
 same_none p same none = none_is p (same ∙ ap (λ (q : Option _). is_some q) none)
 
 pub one_more : (has : ℕ → Bool) (a n : ℕ) → has a ≡ false → one_if ((n == a) || has n) ≡ one_if (a == n) + one_if (has n)
-one_more has a n free =
-    elim (n == a) as (λ t. (n == a) ≡ t → one_if (t || has n) ≡ one_if (a == n) + one_if (has n)) [
-      | true ↦ λ e.
-          let same : n ≡ a = eqb-true n a e in
-          let own : one_if (a == n) ≡ 1 = ap one_if (eq-eqb a n (sym same)) in
-          let none : one_if (has n) ≡ 0 = ap (λ (k : ℕ). one_if (has k)) same ∙ ap one_if free in
-          omega arith
-      | false ↦ λ e.
-          let other : one_if (a == n) ≡ 0 = ap one_if (ne_eqb a n (λ same. eqb-false n a e (sym same))) in
-          omega arith
-    ] refl
+one_more has a n free = elim (n == a) as (λ t. (n == a) ≡ t → one_if (t || has n) ≡ one_if (a == n) + one_if (has n)) [
+  | true ↦ λ e.
+      let same : n ≡ a = eqb-true n a e in
+      let own : one_if (a == n) ≡ 1 = ap one_if (eq-eqb a n (sym same)) in
+      let none : one_if (has n) ≡ 0 = ap (λ (k : ℕ). one_if (has k)) same ∙ ap one_if free in
+      omega arith
+  | false ↦ λ e.
+      let other : one_if (a == n) ≡ 0 = ap one_if (ne_eqb a n (λ same. eqb-false n a e (sym same))) in
+      omega arith
+] refl
 
 pub turned_about : (a n : ℕ) → one_if (n == a) ≡ one_if (a == n)
-turned_about a n =
-    elim (n == a) as (λ t. (n == a) ≡ t → one_if t ≡ one_if (a == n)) [
-      | true ↦ λ e. sym (ap one_if (eq-eqb a n (sym (eqb-true n a e))))
-      | false ↦ λ e. sym (ap one_if (ne_eqb a n (λ same. eqb-false n a e (sym same))))
-    ] refl
+turned_about a n = elim (n == a) as (λ t. (n == a) ≡ t → one_if t ≡ one_if (a == n)) [
+  | true ↦ λ e. sym (ap one_if (eq-eqb a n (sym (eqb-true n a e))))
+  | false ↦ λ e. sym (ap one_if (ne_eqb a n (λ same. eqb-false n a e (sym same))))
+] refl
 
 module _ {V : Type 0} where
   -- to name the part above as before changes nothing
@@ -107,8 +100,7 @@ module _ {V : Type 0} where
       → root_past (last_room None front) (above_behind at.above front) (LeafOf x.room) (name_of whole.tree)
       ≡ root_after at.above (LeafOf (cons_at front back x).first.room) (name_of whole.tree)
   place_root m key whole at ups [] back x way top named = refl
-  place_root m key whole at ups (f ∷ front) back x way top named =
-      past_root f.room front None (LeafOf x.room) (name_of whole.tree)
+  place_root m key whole at ups (f ∷ front) back x way top named = past_root f.room front None (LeafOf x.room) (name_of whole.tree)
       ∙ sym (ap (λ (z : Node). root_after at.above z (name_of whole.tree)) (sym named) ∙ root_same m key whole at ups way top)
 
   -- ---- the exchange
@@ -156,8 +148,7 @@ module _ {V : Type 0} where
       (ups : List (Part m)) {old now : List (Placed V)} → Way key w.part at ups
       → (r : Rechained m new key w.part at old now) → Exchanged m new key w.part at (under r)
       (root_after at.above (LeafOf r.cons.first.room) (name_of w.part.tree))
-  with_chain m new w at ups way r =
-      exchanged m new w.part at ups way w.top (once_but w) (exchange m new w.part at r)
+  with_chain m new w at ups way r = exchanged m new w.part at ups way w.top (once_but w) (exchange m new w.part at r)
 
   pub bits_some : (m new : Lodged V) (key : ℕ) {whole : Part m} (at : Part m) {old now : List (Placed V)} → Rechained m new key whole at old now → (n : ℕ)
       → is_some (bits_in new n) ≡ is_some (bits_in m n)
@@ -170,24 +161,19 @@ module _ {V : Type 0} where
       → IsWholeBut new (root_after at.above (LeafOf r.cons.first.room) (name_of w.part.tree)) later outs
   rechained m new key w at ups {now = now} way r f spare =
       let none : (n : ℕ) → bits_in m n ≡ None → bits_in new n ≡ None = λ n gone. same_none (bits_in new n) (bits_some m new key at r n) gone in
-      whole_changed m new w (with_chain m new w at ups way r) f
-      (spare_changed m new w (with_chain m new w at ups way r)
+      whole_changed m new w (with_chain m new w at ups way r) f (spare_changed m new w (with_chain m new w at ups way r)
       (λ one. subst (HasOneFork (bits_in new)) r.cons.is (one_fork_same (bits_in m) (bits_in new) now none
-      (spare (subst (HasOneFork (bits_in m)) (sym r.was.is) (subst (HaveOneFork (bits_in m)) r.is one)))))
-      (λ n out_of some gone. none n gone))
+      (spare (subst (HasOneFork (bits_in m)) (sym r.was.is) (subst (HaveOneFork (bits_in m)) r.is one))))) (λ n out_of some gone. none n gone))
 
   pub spliced : (m new : Lodged V) (root : Node) {late : ℕ → Bool} {out : ℕ → ℕ} {key : ℕ} (w : IsWholeBut m root late out) (at : Part m) (ups : List (Part m))
-      {old now : List (Placed V)} → Way key w.part at ups
-      → (r : Rechained m new key w.part at old now) → Spliced (shown m (Some root))
+      {old now : List (Placed V)} → Way key w.part at ups → (r : Rechained m new key w.part at old now) → Spliced (shown m (Some root))
       (shown new (Some (root_after at.above (LeafOf r.cons.first.room) (name_of w.part.tree)))) (map_entries old) (map_entries now)
   spliced m new root w at ups {now = now} way r =
       let s = routes_changed w (with_chain m new w at ups way r) in
       subst (λ (es : List (Entry V)). Spliced (shown m (Some root)) (shown new (Some (root_after at.above (LeafOf r.cons.first.room) (name_of w.part.tree))))
-      es (map_entries now))
-      (ap (λ (t : Tree V). routes_of t) r.is ∙ ap (λ (c : List (Placed V)). map_entries c) (sym r.was.is))
+      es (map_entries now)) (ap (λ (t : Tree V). routes_of t) r.is ∙ ap (λ (c : List (Placed V)). map_entries c) (sym r.was.is))
       (subst (λ (es : List (Entry V)). Spliced (shown m (Some root)) (shown new (Some (root_after at.above (LeafOf r.cons.first.room) (name_of w.part.tree))))
-      (routes_of at.tree) es)
-      (ap (λ (c : List (Placed V)). map_entries c) (sym r.cons.is)) s)
+      (routes_of at.tree) es) (ap (λ (c : List (Placed V)). map_entries c) (sym r.cons.is)) s)
 
   -- ---- what both have in common
   pub old_among : (m new : Lodged V) {key : ℕ} {whole at : Part m} {old now : List (Placed V)} → Rechained m new key whole at old now → (y : Placed V)
@@ -207,8 +193,7 @@ module _ {V : Type 0} where
   same_marks r y marked = ap (λ (o : Option MaskPart). is_some o) (r.masks y.room.number) ∙ marked
 
   pub not_marked : (m new : Lodged V) (x y : Placed V) → KeepsMasks m new → masks_in m x.room.number ≡ None → x ≡ y → IsMarked (masks_in new) y → ⊥
-  not_marked m new x y keeps none same marked =
-      true≢false (sym marked ∙ ap (λ (p : Placed V). is_some (masks_in new p.room.number)) (sym same)
+  not_marked m new x y keeps none same marked = true≢false (sym marked ∙ ap (λ (p : Placed V). is_some (masks_in new p.room.number)) (sym same)
       ∙ ap (λ (o : Option MaskPart). is_some o) (keeps x.room.number ∙ none))
 
   pub same_forks : (m new : Lodged V) (key : ℕ) (whole at : Part m) {old now : List (Placed V)} (r : Rechained m new key whole at old now) (n : ℕ)

@@ -1,22 +1,21 @@
 -- A walk along a chain to the gap for a rank.
-use Rattle.std.proofs.Common.{◌≡◌, ℕ, ◌+◌, ◌<◌, ◌≤◌, List, [], ◌∷◌, ◌++◌, length, Option, Some, None, true, true≢false, Equal, Greater, refl, sym, ap, ◌∙◌}
-use Rattle.std.proofs.Common.{subst, inl, inr, ⊎_elim, arith}
-use Rattle.std.proofs.lemmas.List.{append_assoc}
-use Rattle.std.proofs.lemmas.Bool.{cases_eq, cases_lt}
 use Rattle.std.specs.Cmp.{nat_cmp_is}
-use Rattle.radix_tree.proofs.Words.{nat_cmp, is_lt, Has, leaf_of, Id, Leaf, Links, Placed, IsAmong, Leaves, Run, leaves_in, first_room, leaf_part, ChainStands}
-use Rattle.radix_tree.proofs.Words.{above_behind, last_room, ArePast, IsBelow, Passed, FindsGap, Lodged}
-use Rattle.radix_tree.proofs.RoomReads.{none_some, AreLinks, Has-leaf, leaf_read}
-use Rattle.radix_tree.proofs.TreeMembers.{IsHead, head_of}
-use Rattle.radix_tree.proofs.Scans.{chain_most}
+use Rattle.radix_tree.proofs.Words.{◌≡◌, ℕ, ◌+◌, ◌<◌, ◌≤◌, List, [], ◌∷◌, ◌++◌, length, Option, Some, None, true, true≢false, Equal, Greater, refl, sym}
+use Rattle.radix_tree.proofs.Words.{ap, ◌∙◌, subst, inl, inr, arith, append_assoc, cases_eq, cases_lt, nat_cmp, is_lt, Has, leaf_of, Id, Leaf, Links}
+use Rattle.radix_tree.proofs.Words.{Placed, IsAmong, Leaves, Run, leaves_in, first_room, leaf_part, ChainStands, above_behind, last_room, ArePast}
+use Rattle.radix_tree.proofs.Words.{IsBelow, Passed, FindsGap, Lodged}
+use Rattle.radix_tree.proofs.{RoomReads.none_some, RoomReads.AreLinks, RoomReads.Has-leaf, RoomReads.leaf_read, TreeMembers.IsHead, TreeMembers.head_of}
+use Rattle.radix_tree.proofs.{Scans.chain_most}
 
 -- what a comparison of ranks says
 pub less_of : (a b : ℕ) → is_lt (nat_cmp a b) ≡ true → a < b
-less_of a b h = ⊎_elim (λ (l : a < b). l)
-    (λ (ge : b ≤ a). ⊎_elim (λ (e : a ≡ b). absurd (true≢false (sym h ∙ sym (ap is_lt (nat_cmp_is a b Equal e)))))
-    (λ (ne : a ≡ b → ⊥). absurd (true≢false (sym h ∙ sym (ap is_lt (nat_cmp_is a b Greater (omega (arith, ge, ne)))))))
-    (cases_eq a b))
-    (cases_lt a b)
+less_of a b h = elim (cases_lt a b) [
+  | inl l ↦ l
+  | inr ge ↦ elim (cases_eq a b) [
+    | inl e ↦ absurd (true≢false (sym h ∙ sym (ap is_lt (nat_cmp_is a b Equal e))))
+    | inr ne ↦ absurd (true≢false (sym h ∙ sym (ap is_lt (nat_cmp_is a b Greater (omega (arith, ge, ne))))))
+  ]
+]
 
 module _ {V : Type 0} where
   pub none_behind : (front : List (Placed V)) → above_behind None front ≡ None
@@ -51,8 +50,7 @@ module _ {V : Type 0} where
 
   head_there : (m : Lodged V) (above previous : Option Id) {ms : List (Placed V)} (at : Id) → IsHead ms at → ChainStands (leaves_in m) above previous ms
       → Has m at
-  head_there m above previous at x stands =
-      Has-leaf m at (head_said m above previous x stands) (ap (λ (i : Id). i.block) x.room_is)
+  head_there m above previous at x stands = Has-leaf m at (head_said m above previous x stands) (ap (λ (i : Id). i.block) x.room_is)
 
   head_read : (m : Lodged V) (above previous : Option Id) {ms : List (Placed V)} (at : Id) (links : Links) (l : Leaf) (x : IsHead ms at)
       → ChainStands (leaves_in m) above previous ms → AreLinks m at links → l ≡ leaf_of links
@@ -89,8 +87,7 @@ module _ {V : Type 0} where
 
   pub Has-at : (m : Lodged V) {rank : ℕ} (c : Run m) {above previous next : Option Id} {steps : ℕ} (at : Id) → Passed rank c above previous next steps
       → next ≡ Some at → Has m at
-  Has-at m c at p is =
-      head_there m (above_behind c.above p.front) (last_room c.previous p.front) at (member_at m p is) (rest_stands m c p)
+  Has-at m c at p is = head_there m (above_behind c.above p.front) (last_room c.previous p.front) at (member_at m p is) (rest_stands m c p)
 
   pub few_at : (m : Lodged V) {rank : ℕ} (c : Run m) {above previous next : Option Id} (steps : ℕ) {at : Id} → Passed rank c above previous next steps
       → next ≡ Some at → steps ≤ 34
@@ -134,8 +131,7 @@ module _ {V : Type 0} where
 
   -- a member has the rank
   pub taken : (m : Lodged V) (key : ℕ) {rank : ℕ} (c : Run m) {above previous next : Option Id} {steps : ℕ} (at : Id) (links : Links) {l : Leaf}
-      → Passed rank c above previous next steps → next ≡ Some at → AreLinks m at links → l ≡ leaf_of links
-      → l.rank ≡ rank → FindsGap key rank c None
+      → Passed rank c above previous next steps → next ≡ Some at → AreLinks m at links → l ≡ leaf_of links → l.rank ≡ rank → FindsGap key rank c None
   taken m key c at links {l = l} p is are leaf same =
       let r = read_at m c at links l p is are leaf in
       let x = r.0 in (
@@ -145,8 +141,7 @@ module _ {V : Type 0} where
       )
 
   gap_of : (m : Lodged V) (key rank : ℕ) (c : Run m) (above previous next : Option Id) {steps : ℕ} (p : Passed rank c above previous next steps)
-      → IsBelow rank p.back
-      → FindsGap key rank c (Some (record { key = key; rank = rank; above = above; next = next; previous = previous }))
+      → IsBelow rank p.back → FindsGap key rank c (Some (record { key = key; rank = rank; above = above; next = next; previous = previous }))
   gap_of m key rank c above previous next p below = record {
     front = p.front;
     back = p.back;

@@ -1,25 +1,15 @@
 -- A route comes into the chain of its key.
-use Rattle.std.proofs.Common.{◌≡◌, ℕ, ◌≤◌, ◌==◌, ◌||◌, Bool, true, false, if◌then◌else◌, List, [], ◌∷◌, ◌++◌, Option, Some, None, refl, sym, ap, ◌∙◌, subst}
-use Rattle.std.proofs.Common.{arith}
-use Rattle.std.proofs.lemmas.Bool.{ne_eqb}
-use Rattle.radix_tree.proofs.Words.{is_some, Has, Id, Leaf, Node, LeafOf, IsRoute, Placed, Tree, leaf, IsIn, IsChain, LeafPart, Part, Run, Leaves, leaves_in}
-use Rattle.radix_tree.proofs.Words.{bits_in, masks_in, name_of, first_room, leaf_part, ChainStands, Way, LedTo, ForkAt, HasPair, one_if, members_at, leaves_at}
-use Rattle.radix_tree.proofs.Words.{IsWhole, shown, name_child, root_after, placed, Gains, AreOnce, IsWholeBut, late_at, nobody_out, lodge_leaf, KeepsBits}
-use Rattle.radix_tree.proofs.Words.{KeepsHeads, KeepsMasks, leaf_next, leaf_back, name_next, name_back, link_in, above_behind, last_room, root_past, IsGap}
-use Rattle.radix_tree.proofs.Words.{FindsGap, Content, content_of, Entry, Lodged}
-use Rattle.radix_tree.proofs.RoomReads.{inside, none_some, Has-leaf}
-use Rattle.radix_tree.proofs.Parts.{leaf_run, in_leaf, way_inside}
-use Rattle.radix_tree.proofs.TreeMembers.{chain_key, tree_said}
-use Rattle.radix_tree.proofs.PartRooms.{way_once}
-use Rattle.radix_tree.proofs.Lodging.{over_at, stays}
-use Rattle.radix_tree.proofs.Beside.{not_new}
-use Rattle.radix_tree.proofs.ChainRooms.{room_route}
-use Rattle.radix_tree.proofs.WholeParts.{whole_but, once_but}
-use Rattle.radix_tree.proofs.ChainGaps.{behind_stands}
-use Rattle.radix_tree.proofs.ChainLinks.{linked_in, in_others}
-use Rattle.radix_tree.proofs.ChainLists.{cons_at, chain_more}
-use Rattle.radix_tree.proofs.ChainExchanges.{Rechained, front_named, place_bits, place_root}
-use Rattle.radix_tree.proofs.ChainWholes.{grown_whole, grown_routes}
+use Rattle.radix_tree.proofs.Words.{◌≡◌, ℕ, ◌≤◌, ◌==◌, ◌||◌, Bool, true, false, if◌then◌else◌, List, [], ◌∷◌, ◌++◌, Option, Some, None, refl, sym, ap}
+use Rattle.radix_tree.proofs.Words.{◌∙◌, subst, arith, ne_eqb, is_some, Has, Id, Leaf, Node, LeafOf, IsRoute, Placed, Tree, leaf, IsIn, IsChain, LeafPart}
+use Rattle.radix_tree.proofs.Words.{Part, Run, Leaves, leaves_in, bits_in, masks_in, name_of, first_room, leaf_part, ChainStands, Way, LedTo, ForkAt}
+use Rattle.radix_tree.proofs.Words.{HasPair, one_if, members_at, leaves_at, IsWhole, shown, name_child, root_after, placed, Gains, AreOnce, IsWholeBut}
+use Rattle.radix_tree.proofs.Words.{late_at, nobody_out, lodge_leaf, KeepsBits, KeepsHeads, KeepsMasks, leaf_next, leaf_back, name_next, name_back}
+use Rattle.radix_tree.proofs.Words.{link_in, above_behind, last_room, root_past, IsGap, FindsGap, Content, content_of, Entry, Lodged}
+use Rattle.radix_tree.proofs.{RoomReads.inside, RoomReads.none_some, RoomReads.Has-leaf, Parts.leaf_run, Parts.in_leaf, Parts.way_inside}
+use Rattle.radix_tree.proofs.{TreeMembers.chain_key, TreeMembers.tree_said, PartRooms.way_once, Lodging.over_at, Lodging.stays, Beside.not_new}
+use Rattle.radix_tree.proofs.{ChainRooms.room_route, WholeParts.whole_but, WholeParts.once_but, ChainGaps.behind_stands, ChainLinks.linked_in}
+use Rattle.radix_tree.proofs.{ChainLinks.in_others, ChainLists.cons_at, ChainLists.chain_more, ChainExchanges.Rechained, ChainExchanges.front_named}
+use Rattle.radix_tree.proofs.{ChainExchanges.place_bits, ChainExchanges.place_root, ChainWholes.grown_whole, ChainWholes.grown_routes}
 
 module _ {V : Type 0} where
   -- ---- members on both sides of a place are in the map
@@ -42,8 +32,7 @@ module _ {V : Type 0} where
 
   -- the bit node above a place, where there is one
   pub place_above : (m : Lodged V) (key : ℕ) (whole at : Part m) (ups : List (Part m)) (front : List (Placed V)) {up : Id} → Way key whole at ups
-      → whole.above ≡ None → above_behind at.above front ≡ Some up
-      → (p : Part m) × ForkAt p up
+      → whole.above ≡ None → above_behind at.above front ≡ Some up → (p : Part m) × ForkAt p up
   place_above m key whole at ups [] way top is = over_at m key whole at ups way top refl is
   place_above m key whole at ups (f ∷ front) way top is = absurd (none_some is)
 
@@ -73,15 +62,13 @@ module _ {V : Type 0} where
   lodged_above m new room value l up free leaves bits p = (
     stays m new p.0
         (λ n some. leaves n ∙ ap (λ (t : Bool). if t then Some (record { block = room.block; value = value; leaf = l }) else leaves_in m n)
-        (ne_eqb n room.number (not_new p.0 room free n some)))
-        (λ n some. bits n),
+        (ne_eqb n room.number (not_new p.0 room free n some))) (λ n some. bits n),
     record { bit = p.1.bit; zero = p.1.zero; one = p.1.one; is = p.1.is },
   )
 
   pub gap_above : (m : Lodged V) {key rank : ℕ} (whole : Part m) {first : Id} (d : LedTo key whole first) {l : Leaf} → whole.above ≡ None
       → IsGap rank (chain_of m d) key l → (up : Id) → l.above ≡ Some up → (p : Part m) × ForkAt p up
-  gap_above m {key = key} whole d top g up is =
-      place_above m key whole d.part d.ups g.front d.way top (sym (ap (λ (z : Leaf). z.above) g.leaf) ∙ is)
+  gap_above m {key = key} whole d top g up is = place_above m key whole d.part d.ups g.front d.way top (sym (ap (λ (z : Leaf). z.above) g.leaf) ∙ is)
 
   -- ---- what the writes leave
   pub record IsWritten (m new : Lodged V) (id : Id) (e : Entry V) (l : Leaf) : Type 0 where
@@ -138,8 +125,7 @@ module _ {V : Type 0} where
   linked_rooms m new id value l is n = ap (λ (o : Option (LeafPart V)). is_some o) (is n)
       ∙ same_some (link_in id value l n (leaves_in m n)) (lodge_leaf id value l n (leaves_in m n))
       (back_same l.next None (Some id) n (name_next l.previous (Some id) n (lodge_leaf id value l n (leaves_in m n)))
-      ∙ next_same l.previous (Some id) n (lodge_leaf id value l n (leaves_in m n)))
-      ∙ lodged_some id value l n (leaves_in m n)
+      ∙ next_same l.previous (Some id) n (lodge_leaf id value l n (leaves_in m n))) ∙ lodged_some id value l n (leaves_in m n)
 
   cons_head : {x y : Placed V} {xs ys : List (Placed V)} → x ∷ xs ≡ y ∷ ys → x ≡ y
   cons_head e = cc
@@ -187,8 +173,7 @@ module _ {V : Type 0} where
   in_name : (m new : Lodged V) (e : Entry V) (id : Id) {first : Id} (root : Node) (w : IsWhole m root) (d : LedTo e.key w.part first) (l : Leaf)
       (g : IsGap e.rank (chain_of m d) e.key l)
       → root_after d.part.above (LeafOf (cons_at g.front g.back (placed id e)).first.room) (name_of w.part.tree) ≡ root_past l.previous l.above (LeafOf id) root
-  in_name m new e id root w d l g = sym
-      (ap (λ (z : Leaf). root_past z.previous z.above (LeafOf id) root) g.leaf
+  in_name m new e id root w d l g = sym (ap (λ (z : Leaf). root_past z.previous z.above (LeafOf id) root) g.leaf
       ∙ ap (λ (r : Node). root_past (last_room None g.front) (above_behind d.part.above g.front) (LeafOf id) r) (sym w.named)
       ∙ place_root m e.key w.part d.part d.ups g.front g.back (placed id e) d.way w.top (front_named g.front g.back d.leaf.is g.is))
 
@@ -209,8 +194,7 @@ module _ {V : Type 0} where
 
   -- ---- a member has the rank
   pub taken_there : {m : Lodged V} (key rank : ℕ) {root : Node} {first : Id} (w v : IsWhole m root) (d : LedTo key w.part first) → d.leaf.first.entry.key ≡ key
-      → FindsGap key rank (chain_of m d) None
-      → (x : Placed V) × IsIn x v.part.tree × HasPair key rank x
+      → FindsGap key rank (chain_of m d) None → (x : Placed V) × IsIn x v.part.tree × HasPair key rank x
   taken_there {m = m} key rank w v d same g =
       let x = g.0 in
       let inside_leaf = in_leaf m d.leaf g.0 g.1 in
@@ -223,8 +207,5 @@ module _ {V : Type 0} where
       let c = chain_of m d in (
         r.route,
         r.is_in,
-        (
-          ap (λ (z : Entry V). z.key) r.entry ∙ chain_key c.key c.top c.members c.is g.0 g.1 ∙ same,
-          ap (λ (z : Entry V). z.rank) r.entry ∙ g.2,
-        ),
+        (ap (λ (z : Entry V). z.key) r.entry ∙ chain_key c.key c.top c.members c.is g.0 g.1 ∙ same, ap (λ (z : Entry V). z.rank) r.entry ∙ g.2),
       )

@@ -1,13 +1,9 @@
 -- The links of a chain with a member more, and without it.
-use Rattle.std.proofs.Common.{◌≡◌, ℕ, ◌+◌, ◌≤◌, ◌==◌, Bool, if◌then◌else◌, List, [], ◌∷◌, ◌++◌, Option, Some, None, refl, sym, ap, ◌∙◌, arith}
-use Rattle.std.proofs.lemmas.Bool.{eq-eqb, ne_eqb}
-use Rattle.radix_tree.proofs.Words.{Id, Leaf, Placed, LeafPart, Leaves, first_room, ChainStands, one_if, members_at, lodge_leaf, leaf_next, leaf_back}
-use Rattle.radix_tree.proofs.Words.{name_next, name_back, link_in, link_out, above_behind, last_room}
-use Rattle.radix_tree.proofs.RoomReads.{inside, none_some}
-use Rattle.radix_tree.proofs.PartRooms.{one_if_same, chain_frame}
-use Rattle.radix_tree.proofs.Forking.{chain_there}
-use Rattle.radix_tree.proofs.ChainGaps.{behind_stands}
-use Rattle.radix_tree.proofs.ChainLists.{members_append, members_more}
+use Rattle.radix_tree.proofs.Words.{◌≡◌, ℕ, ◌+◌, ◌≤◌, ◌==◌, Bool, if◌then◌else◌, List, [], ◌∷◌, ◌++◌, Option, Some, None, refl, sym, ap, ◌∙◌, arith}
+use Rattle.radix_tree.proofs.Words.{eq-eqb, ne_eqb, Id, Leaf, Placed, LeafPart, Leaves, first_room, ChainStands, one_if, members_at, lodge_leaf}
+use Rattle.radix_tree.proofs.Words.{leaf_next, leaf_back, name_next, name_back, link_in, link_out, above_behind, last_room}
+use Rattle.radix_tree.proofs.{RoomReads.inside, RoomReads.none_some, PartRooms.one_if_same, PartRooms.chain_frame, Forking.chain_there}
+use Rattle.radix_tree.proofs.{ChainGaps.behind_stands, ChainLists.members_append, ChainLists.members_more}
 
 on_room : {A : Type 0} (room : Id) (x y : A) → (if room.number == room.number then x else y) ≡ x
 on_room room x y = ap (λ (t : Bool). if t then x else y) (eq-eqb room.number room.number refl)
@@ -58,16 +54,13 @@ module _ {V : Type 0} where
     rest,
   )
   front_linked L M above previous (y ∷ z ∷ front) old now stands said once rest = (
-    said y.room.number (own_counts y (z ∷ front))
-        ∙ next_off (last_room (Some z.room) front) (first_room now) y.room.number (L y.room.number)
+    said y.room.number (own_counts y (z ∷ front)) ∙ next_off (last_room (Some z.room) front) (first_room now) y.room.number (L y.room.number)
         (λ r is same. let behind : 1 ≤ members_at r.number (z ∷ front) = last_in z front r is in let most : members_at r.number (y ∷ z ∷ front) ≤ 1 =
         once r.number in
         let one : one_if (y.room.number == r.number) ≡ 1 = ap (λ (k : ℕ). one_if (y.room.number == k)) (sym same) ∙ one_if_same y.room.number in omega arith)
         ∙ stands.0,
-    front_linked L M None (Some y.room) (z ∷ front) old now stands.1
-        (λ n some. said n (omega arith))
-        (λ n. let most : members_at n (y ∷ z ∷ front) ≤ 1 = once n in omega arith)
-        rest,
+    front_linked L M None (Some y.room) (z ∷ front) old now stands.1 (λ n some. said n (omega arith))
+        (λ n. let most : members_at n (y ∷ z ∷ front) ≤ 1 = once n in omega arith) rest,
   )
 
   -- and one whose first member has other links before it
@@ -76,11 +69,9 @@ module _ {V : Type 0} where
   back_linked L M above previous a p [] stands said once = tt
   back_linked L M above previous a p (y ∷ back) stands said once = (
     said y.room.number (own_counts y back) ∙ on_room y.room (leaf_back a p (L y.room.number)) (L y.room.number) ∙ ap (leaf_back a p) stands.0,
-    chain_frame L M None (Some y.room) back
-        (λ n some. said n (omega arith) ∙ off_room y.room n (leaf_back a p (L n)) (L n)
+    chain_frame L M None (Some y.room) back (λ n some. said n (omega arith) ∙ off_room y.room n (leaf_back a p (L n)) (L n)
         (λ same. let most : members_at n (y ∷ back) ≤ 1 = once n in let one : one_if (y.room.number == n) ≡ 1 =
-        ap (λ (k : ℕ). one_if (y.room.number == k)) same ∙ one_if_same y.room.number in omega arith))
-        stands.1,
+        ap (λ (k : ℕ). one_if (y.room.number == k)) same ∙ one_if_same y.room.number in omega arith)) stands.1,
   )
 
   -- ---- a member more
@@ -90,16 +81,13 @@ module _ {V : Type 0} where
 
   -- a room that is not of the chain, and not the new one
   pub in_others : (L M : Leaves V) (front back : List (Placed V)) (room : Id) (value : V) (l : Leaf) (n : ℕ) → l.next ≡ first_room back
-      → l.previous ≡ last_room None front → M n ≡ link_in room value l n (L n)
-      → (n ≡ room.number → ⊥) → members_at n (front ++ back) ≡ 0 → M n ≡ L n
+      → l.previous ≡ last_room None front → M n ≡ link_in room value l n (L n) → (n ≡ room.number → ⊥) → members_at n (front ++ back) ≡ 0 → M n ≡ L n
   in_others L M front back room value l n next previous said other out =
       let none : members_at n (front ++ back) ≡ members_at n front + members_at n back = members_append n front back in
       let lodged = lodge_leaf room value l n (L n) in
-      said
-      ∙ back_off l.next None (Some room) n (name_next l.previous (Some room) n (lodge_leaf room value l n (L n)))
+      said ∙ back_off l.next None (Some room) n (name_next l.previous (Some room) n (lodge_leaf room value l n (L n)))
       (λ r is same. let some : 1 ≤ members_at r.number back = first_among back r (sym next ∙ is) in let at : members_at n back ≡ members_at r.number back =
-      ap (λ (k : ℕ). members_at k back) same in omega arith)
-      ∙ next_off l.previous (Some room) n (lodge_leaf room value l n (L n))
+      ap (λ (k : ℕ). members_at k back) same in omega arith) ∙ next_off l.previous (Some room) n (lodge_leaf room value l n (L n))
       (λ r is same. let some : 1 ≤ members_at r.number front = last_among front r (sym previous ∙ is) in
       let at : members_at n front ≡ members_at r.number front = ap (λ (k : ℕ). members_at k front) same in omega arith)
       ∙ off_room room n (Some (record { block = room.block; value = value; leaf = l })) (L n) other
@@ -134,8 +122,7 @@ module _ {V : Type 0} where
       ∙ ap (λ (o : Option (LeafPart V)). name_next (last_room None front) (Some x.room) n o) (lodged n (omega arith)))
       (λ n. let both : members_at n (front ++ back) ≡ members_at n front + members_at n back = sum n in let most : members_at n (front ++ back) ≤ 1 = once n in
       omega arith) (
-        said x.room.number
-            ∙ back_off (first_room back) None (Some x.room) x.room.number (name_next (last_room None front) (Some x.room) x.room.number
+        said x.room.number ∙ back_off (first_room back) None (Some x.room) x.room.number (name_next (last_room None front) (Some x.room) x.room.number
             (lodge_leaf x.room x.entry.value (leaf_at x.entry.key x.entry.rank above front back) x.room.number (L x.room.number)))
             (not_first x.room.number (let both : members_at x.room.number (front ++ back) ≡ members_at x.room.number front + members_at x.room.number back =
             sum x.room.number in omega arith))
@@ -161,8 +148,7 @@ module _ {V : Type 0} where
       → M n ≡ link_out l n (L n) → members_at n (front ++ back) ≡ 0 → M n ≡ L n
   out_others L M front back l n next previous said out =
       let none : members_at n (front ++ back) ≡ members_at n front + members_at n back = members_append n front back in
-      said
-      ∙ next_off l.previous l.next n (name_back l.next l.above l.previous n (L n))
+      said ∙ next_off l.previous l.next n (name_back l.next l.above l.previous n (L n))
       (λ r is same. let some : 1 ≤ members_at r.number front = last_among front r (sym previous ∙ is) in
       let at : members_at n front ≡ members_at r.number front = ap (λ (k : ℕ). members_at k front) same in omega arith)
       ∙ back_off l.next l.above l.previous n (L n)

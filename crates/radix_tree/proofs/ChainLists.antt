@@ -1,9 +1,8 @@
 -- A chain with a member more.
-use Rattle.std.proofs.Common.{◌≡◌, ℕ, ◌+◌, ◌<◌, ◌≤◌, ◌⊎◌, ◌==◌, List, [], ◌∷◌, ◌++◌, map, Some, None, refl, sym, ap, ◌∙◌, inl, inr, ⊎_elim, arith}
 use Rattle.std.proofs.lemmas.List.{map-append}
-use Rattle.radix_tree.proofs.Words.{IsRoute, Placed, IsAmong, IsChain, BitPart, Bits, one_if, members_at, AreIdle, HasOneFork, Gains, ArePast, IsBelow, Entry}
-use Rattle.radix_tree.proofs.RoomReads.{none_some}
-use Rattle.radix_tree.proofs.PartRooms.{one_if_same}
+use Rattle.radix_tree.proofs.Words.{◌≡◌, ℕ, ◌+◌, ◌<◌, ◌≤◌, ◌⊎◌, ◌==◌, List, [], ◌∷◌, ◌++◌, map, Some, None, refl, sym, ap, ◌∙◌, inl, inr, arith, IsRoute}
+use Rattle.radix_tree.proofs.Words.{Placed, IsAmong, IsChain, BitPart, Bits, one_if, members_at, AreIdle, HasOneFork, Gains, ArePast, IsBelow, Entry}
+use Rattle.radix_tree.proofs.{RoomReads.none_some, PartRooms.one_if_same}
 
 module _ {V : Type 0} where
   -- a list has a first member
@@ -33,16 +32,16 @@ module _ {V : Type 0} where
 
   pub member_counts : (c : List (Placed V)) (y : Placed V) → IsAmong y c → 1 ≤ members_at y.room.number c
   member_counts [] y is = absurd is
-  member_counts (x ∷ c) y is = ⊎_elim
-      (λ (e : x ≡ y). let one : one_if (x.room.number == y.room.number) ≡ 1 =
-      ap (λ (p : Placed V). one_if (x.room.number == p.room.number)) (sym e) ∙ one_if_same x.room.number in omega arith)
-      (λ (later : IsAmong y c). let some : 1 ≤ members_at y.room.number c = member_counts c y later in omega arith)
-      is
+  member_counts (x ∷ c) y is = elim is [
+    | inl e ↦ let one : one_if (x.room.number == y.room.number) ≡ 1 =
+        ap (λ (p : Placed V). one_if (x.room.number == p.room.number)) (sym e) ∙ one_if_same x.room.number in omega arith
+    | inr later ↦ let some : 1 ≤ members_at y.room.number c = member_counts c y later in omega arith
+  ]
 
   -- ---- what is among
   pub among_more : (front back : List (Placed V)) (x y : Placed V) → IsAmong y (front ++ back) → IsAmong y (front ++ (x ∷ back))
   among_more [] back x y is = inr is
-  among_more (z ∷ front) back x y is = ⊎_elim (λ (e : z ≡ y). inl e) (λ (later : IsAmong y (front ++ back)). inr (among_more front back x y later)) is
+  among_more (z ∷ front) back x y is = elim is [ inl e ↦ inl e | inr later ↦ inr (among_more front back x y later) ]
 
   pub among_own : (front back : List (Placed V)) (x : Placed V) → IsAmong x (front ++ (x ∷ back))
   among_own [] back x = inl refl
@@ -50,11 +49,10 @@ module _ {V : Type 0} where
 
   pub among_less : (front back : List (Placed V)) (x y : Placed V) → IsAmong y (front ++ (x ∷ back)) → (x ≡ y) ⊎ IsAmong y (front ++ back)
   among_less [] back x y is = is
-  among_less (z ∷ front) back x y is = ⊎_elim
-      (λ (e : z ≡ y). inr (inl e))
-      (λ (later : IsAmong y (front ++ (x ∷ back))). ⊎_elim (λ (e : x ≡ y). inl e) (λ (own : IsAmong y (front ++ back)). inr (inr own))
-      (among_less front back x y later))
-      is
+  among_less (z ∷ front) back x y is = elim is [
+    | inl e ↦ inr (inl e)
+    | inr later ↦ elim (among_less front back x y later) [ inl e ↦ inl e | inr own ↦ inr (inr own) ]
+  ]
 
   -- a member splits a list
   pub record IsSplit (c : List (Placed V)) (x : Placed V) : Type 0 where
@@ -64,10 +62,10 @@ module _ {V : Type 0} where
 
   pub split_at : (c : List (Placed V)) (x : Placed V) → IsAmong x c → IsSplit c x
   split_at [] x is = absurd is
-  split_at (z ∷ c) x is = ⊎_elim
-      (λ (e : z ≡ x). record { front = []; back = c; is = ap (λ (p : Placed V). p ∷ c) e })
-      (λ (later : IsAmong x c). let s = split_at c x later in record { front = z ∷ s.front; back = s.back; is = ap (λ (ms : List (Placed V)). z ∷ ms) s.is })
-      is
+  split_at (z ∷ c) x is = elim is [
+    | inl e ↦ record { front = []; back = c; is = ap (λ (p : Placed V). p ∷ c) e }
+    | inr later ↦ let s = split_at c x later in record { front = z ∷ s.front; back = s.back; is = ap (λ (ms : List (Placed V)). z ∷ ms) s.is }
+  ]
 
   -- ---- bit nodes in use
   idle_less : (B : Bits) (front back : List (Placed V)) (x : Placed V) → AreIdle B (front ++ (x ∷ back)) → AreIdle B (front ++ back)
@@ -83,19 +81,19 @@ module _ {V : Type 0} where
   idle_one B (y ∷ c) idle = inl idle.1
 
   pub one_fork_less : (B : Bits) (front back : List (Placed V)) (x : Placed V) → HasOneFork B (front ++ (x ∷ back)) → HasOneFork B (front ++ back)
-  one_fork_less B [] back x one = ⊎_elim (λ (idle : AreIdle B back). idle_one B back idle) (λ (own : (B x.room.number ≡ None) × HasOneFork B back). own.1) one
-  one_fork_less B (y ∷ front) back x one = ⊎_elim
-      (λ (idle : AreIdle B (front ++ (x ∷ back))). inl (idle_less B front back x idle))
-      (λ (own : (B y.room.number ≡ None) × HasOneFork B (front ++ (x ∷ back))). inr (own.0, one_fork_less B front back x own.1))
-      one
+  one_fork_less B [] back x one = elim one [ inl idle ↦ idle_one B back idle | inr own ↦ own.1 ]
+  one_fork_less B (y ∷ front) back x one = elim one [
+    | inl idle ↦ inl (idle_less B front back x idle)
+    | inr own ↦ inr (own.0, one_fork_less B front back x own.1)
+  ]
 
   pub one_fork_more : (B : Bits) (front back : List (Placed V)) (x : Placed V) → HasOneFork B (front ++ back) → B x.room.number ≡ None
       → HasOneFork B (front ++ (x ∷ back))
   one_fork_more B [] back x one none = inr (none, one)
-  one_fork_more B (y ∷ front) back x one none = ⊎_elim
-      (λ (idle : AreIdle B (front ++ back)). inl (idle_more B front back x idle none))
-      (λ (own : (B y.room.number ≡ None) × HasOneFork B (front ++ back)). inr (own.0, one_fork_more B front back x own.1 none))
-      one
+  one_fork_more B (y ∷ front) back x one none = elim one [
+    | inl idle ↦ inl (idle_more B front back x idle none)
+    | inr own ↦ inr (own.0, one_fork_more B front back x own.1 none)
+  ]
 
   idle_same : (B C : Bits) (c : List (Placed V)) → ((n : ℕ) → B n ≡ None → C n ≡ None) → AreIdle B c → AreIdle C c
   idle_same B C [] same idle = tt
@@ -103,30 +101,26 @@ module _ {V : Type 0} where
 
   pub one_fork_same : (B C : Bits) (c : List (Placed V)) → ((n : ℕ) → B n ≡ None → C n ≡ None) → HasOneFork B c → HasOneFork C c
   one_fork_same B C [] same one = tt
-  one_fork_same B C (y ∷ c) same one = ⊎_elim
-      (λ (idle : AreIdle B c). inl (idle_same B C c same idle))
-      (λ (own : (B y.room.number ≡ None) × HasOneFork B c). inr (same y.room.number own.0, one_fork_same B C c same own.1))
-      one
+  one_fork_same B C (y ∷ c) same one = elim one [
+    | inl idle ↦ inl (idle_same B C c same idle)
+    | inr own ↦ inr (same y.room.number own.0, one_fork_same B C c same own.1)
+  ]
 
   idle_at : (B : Bits) (c : List (Placed V)) (y : Placed V) → AreIdle B c → IsAmong y c → B y.room.number ≡ None
   idle_at B [] y idle is = absurd is
-  idle_at B (z ∷ c) y idle is =
-      ⊎_elim (λ (e : z ≡ y). ap (λ (p : Placed V). B p.room.number) (sym e) ∙ idle.0) (λ (later : IsAmong y c). idle_at B c y idle.1 later) is
+  idle_at B (z ∷ c) y idle is = elim is [ inl e ↦ ap (λ (p : Placed V). B p.room.number) (sym e) ∙ idle.0 | inr later ↦ idle_at B c y idle.1 later ]
 
   -- where one member's room is a bit node in use, no other one's is
   pub others_idle : (B : Bits) (front back : List (Placed V)) (x y : Placed V) {b : BitPart} → HasOneFork B (front ++ (x ∷ back)) → B x.room.number ≡ Some b
       → IsAmong y (front ++ back) → B y.room.number ≡ None
-  others_idle B [] back x y one used is = ⊎_elim
-      (λ (idle : AreIdle B back). idle_at B back y idle is)
-      (λ (own : (B x.room.number ≡ None) × HasOneFork B back). absurd (none_some (sym own.0 ∙ used)))
-      one
-  others_idle B (z ∷ front) back x y one used is = ⊎_elim
-      (λ (idle : AreIdle B (front ++ (x ∷ back))). absurd (none_some (sym (idle_at B (front ++ (x ∷ back)) x idle (among_own front back x)) ∙ used)))
-      (λ (own : (B z.room.number ≡ None) × HasOneFork B (front ++ (x ∷ back))). ⊎_elim
-      (λ (e : z ≡ y). ap (λ (p : Placed V). B p.room.number) (sym e) ∙ own.0)
-      (λ (later : IsAmong y (front ++ back)). others_idle B front back x y own.1 used later)
-      is)
-      one
+  others_idle B [] back x y one used is = elim one [ inl idle ↦ idle_at B back y idle is | inr own ↦ absurd (none_some (sym own.0 ∙ used)) ]
+  others_idle B (z ∷ front) back x y one used is = elim one [
+    | inl idle ↦ absurd (none_some (sym (idle_at B (front ++ (x ∷ back)) x idle (among_own front back x)) ∙ used))
+    | inr own ↦ elim is [
+      | inl e ↦ ap (λ (p : Placed V). B p.room.number) (sym e) ∙ own.0
+      | inr later ↦ others_idle B front back x y own.1 used later
+    ]
+  ]
 
   -- ---- order
   chain_raise : (key low top : ℕ) (c : List (Placed V)) → low ≤ top → IsChain key low c → IsChain key top c
@@ -142,8 +136,7 @@ module _ {V : Type 0} where
   chain_lower key top rank (y ∷ c) below is = (is.0, is.1, below, is.3)
 
   pub chain_more : {key : ℕ} (top : ℕ) (front back : List (Placed V)) (x : Placed V) → IsChain key top (front ++ back) → IsRoute x.entry → x.entry.key ≡ key
-      → x.entry.rank < top → ArePast x.entry.rank front → IsBelow x.entry.rank back
-      → IsChain key top (front ++ (x ∷ back))
+      → x.entry.rank < top → ArePast x.entry.rank front → IsBelow x.entry.rank back → IsChain key top (front ++ (x ∷ back))
   chain_more {key = key} top [] back x is route same lt past below = (route, same, lt, chain_lower key top x.entry.rank back below is)
   chain_more top (y ∷ front) back x is route same lt past below = (is.0, is.1, is.2, chain_more y.entry.rank front back x is.3 route same past.0 past.1 below)
 

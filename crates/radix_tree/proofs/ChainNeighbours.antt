@@ -1,21 +1,15 @@
 -- A member of a chain whose neighbours name each other in its place.
-use Rattle.std.proofs.Common.{◌≡◌, ℕ, ◌+◌, ◌≤◌, ◌==◌, Bool, true, true≢false, List, [], ◌∷◌, ◌++◌, Option, Some, None, refl, sym, ap, ◌∙◌, subst, inl, arith}
-use Rattle.std.proofs.lemmas.Bool.{eq-eqb}
-use Rattle.radix_tree.proofs.Words.{is_some, Has, Id, leaf_of, Leaf, Links, Node, LeafOf, Placed, leaf, IsAmong, IsChain, IsTree, LeafPart, Part, leaves_in}
-use Rattle.radix_tree.proofs.Words.{bits_in, name_of, first_room, leaf_part, ChainStands, Stands, Way, ForkAt, one_if, members_at, leaves_at, name_child}
-use Rattle.radix_tree.proofs.Words.{root_after, IsWholeBut, nobody_out, KeepsHeads, KeepsMasks, link_out, above_behind, last_room, root_past, Lodged}
-use Rattle.radix_tree.proofs.RoomReads.{inside, none_some, AreLinks}
-use Rattle.radix_tree.proofs.Parts.{among_leaf}
-use Rattle.radix_tree.proofs.TreeMembers.{head_of, chain_key}
-use Rattle.radix_tree.proofs.WaysDown.{way_to_leaf}
-use Rattle.radix_tree.proofs.WholeParts.{once_but}
-use Rattle.radix_tree.proofs.ChainWrites.{own_said}
-use Rattle.radix_tree.proofs.ChainGaps.{behind_stands}
-use Rattle.radix_tree.proofs.ChainLinks.{linked_out, out_others}
-use Rattle.radix_tree.proofs.ChainLists.{IsCons, cons_at, split_at, members_more, chain_less}
-use Rattle.radix_tree.proofs.ChainRooms.{room_route}
+use Rattle.radix_tree.proofs.Words.{◌≡◌, ℕ, ◌+◌, ◌≤◌, ◌==◌, Bool, true, true≢false, List, [], ◌∷◌, ◌++◌, Option, Some, None, refl, sym, ap, ◌∙◌, subst}
+use Rattle.radix_tree.proofs.Words.{inl, arith, eq-eqb, is_some, Has, Id, leaf_of, Leaf, Links, Node, LeafOf, Placed, leaf, IsAmong, IsChain, IsTree}
+use Rattle.radix_tree.proofs.Words.{LeafPart, Part, leaves_in, bits_in, name_of, first_room, leaf_part, ChainStands, Stands, Way, ForkAt, one_if}
+use Rattle.radix_tree.proofs.Words.{members_at, leaves_at, name_child, root_after, IsWholeBut, nobody_out, KeepsHeads, KeepsMasks, link_out, above_behind}
+use Rattle.radix_tree.proofs.Words.{last_room, root_past, Lodged}
 use Rattle.radix_tree.proofs.ChainExchanges.{Rechained, FrontNamed, front_named, place_bits, place_root, turn_same, root_same}
-use Rattle.radix_tree.proofs.ChainInserts.{first_there, last_there, place_above, chain_once}
+use Rattle.radix_tree.proofs.{RoomReads.inside, RoomReads.none_some, RoomReads.AreLinks, Parts.among_leaf, TreeMembers.head_of, TreeMembers.chain_key}
+use Rattle.radix_tree.proofs.{WaysDown.way_to_leaf, WholeParts.once_but, ChainWrites.own_said, ChainGaps.behind_stands, ChainLinks.linked_out}
+use Rattle.radix_tree.proofs.{ChainLinks.out_others, ChainLists.IsCons, ChainLists.cons_at, ChainLists.split_at, ChainLists.members_more}
+use Rattle.radix_tree.proofs.{ChainLists.chain_less, ChainRooms.room_route, ChainInserts.first_there, ChainInserts.last_there, ChainInserts.place_above}
+use Rattle.radix_tree.proofs.{ChainInserts.chain_once}
 
 pub some_is : {A : Type 0} (o : Option A) → is_some o ≡ true → (x : A) × (o ≡ Some x)
 some_is None e = absurd (true≢false (sym e))
@@ -99,13 +93,11 @@ module _ {V : Type 0} where
 
   -- ---- its neighbours
   pub before_there : {m : Lodged V} {whole : Part m} {n : ℕ} {p : LeafPart V} (b : IsMember m whole n p) (r : Id) → p.leaf.previous ≡ Some r → Has m r
-  before_there {m = m} b r is =
-      last_there m b.part.above None b.front (b.x ∷ b.back) r (leaf_stands m b.part b.is b.split)
+  before_there {m = m} b r is = last_there m b.part.above None b.front (b.x ∷ b.back) r (leaf_stands m b.part b.is b.split)
       (sym (ap (λ (q : LeafPart V). q.leaf.previous) b.part_is) ∙ is)
 
   pub behind_there : {m : Lodged V} {whole : Part m} {n : ℕ} {p : LeafPart V} (b : IsMember m whole n p) (r : Id) → p.leaf.next ≡ Some r → Has m r
-  behind_there {m = m} b r is =
-      first_there m None (Some b.x.room) b.back r
+  behind_there {m = m} b r is = first_there m None (Some b.x.room) b.back r
       (behind_stands (leaves_in m) b.part.above None b.front (b.x ∷ b.back) (leaf_stands m b.part b.is b.split)).1
       (sym (ap (λ (q : LeafPart V). q.leaf.next) b.part_is) ∙ is)
 
@@ -133,15 +125,12 @@ module _ {V : Type 0} where
             record {
               first = (cons_at b.front h.behind h.first).first;
               rest = (cons_at b.front h.behind h.first).rest;
-              is =
-                  ap (λ (ms : List (Placed V)). b.front ++ ms) h.is ∙ (cons_at b.front h.behind h.first).is;
+              is = ap (λ (ms : List (Placed V)). b.front ++ ms) h.is ∙ (cons_at b.front h.behind h.first).is;
             };
-        bits = λ k. bits k
-            ∙ ap (λ (q : LeafPart V). name_child q.leaf.above q.leaf.key (LeafOf to) k (bits_in m k)) b.part_is
+        bits = λ k. bits k ∙ ap (λ (q : LeafPart V). name_child q.leaf.above q.leaf.key (LeafOf to) k (bits_in m k)) b.part_is
             ∙ ap (λ (i : Id). name_child (above_behind b.part.above b.front) b.x.entry.key (LeafOf i) k (bits_in m k)) (sym h.room_is)
             ∙ place_bits m b.x.entry.key w.part b.part b.ups b.front h.behind h.first b.way w.top front_is k;
-        named = sym (named
-            ∙ ap (λ (q : LeafPart V). root_past q.leaf.previous q.leaf.above (LeafOf to) root) b.part_is
+        named = sym (named ∙ ap (λ (q : LeafPart V). root_past q.leaf.previous q.leaf.above (LeafOf to) root) b.part_is
             ∙ ap (λ (i : Id). root_past (last_room None b.front) (above_behind b.part.above b.front) (LeafOf i) root) (sym h.room_is)
             ∙ ap (λ (r : Node). root_past (last_room None b.front) (above_behind b.part.above b.front) (LeafOf h.first.room) r) (sym w.named)
             ∙ place_root m b.x.entry.key w.part b.part b.ups b.front h.behind h.first b.way w.top front_is);

@@ -1,22 +1,16 @@
 -- A route goes out of the chain of its key.
-use Rattle.std.proofs.Common.{◌≡◌, ℕ, ◌+◌, ◌≤◌, ◌⊎◌, ◌==◌, Bool, true, false, true≢false, List, [], ◌∷◌, ◌++◌, Option, Some, None, refl, sym, ap, ◌∙◌, subst}
-use Rattle.std.proofs.Common.{⊎_elim, arith}
-use Rattle.std.proofs.lemmas.Bool.{eqb-true, eq-eqb}
-use Rattle.radix_tree.proofs.Words.{is_some, Has, Id, Leaf, Node, LeafOf, Placed, leaf, IsAmong, IsIn, LeafPart, BitPart, Part, leaves_in, bits_in, masks_in}
-use Rattle.radix_tree.proofs.Words.{name_of, Way, one_if, members_at, leaves_at, HaveOneFork, HasOneFork, shown, shown_entry, root_after, Gains, IsWholeBut}
-use Rattle.radix_tree.proofs.Words.{is_of_key, has_key, nobody_late, late_at, nobody_out, out_at, Content, content_of, KeepsRoutes, name_back, link_out, Entry}
-use Rattle.radix_tree.proofs.Words.{Lodged}
-use Rattle.radix_tree.proofs.Parts.{way_leads}
-use Rattle.radix_tree.proofs.TreeMembers.{chain_key, tree_said}
-use Rattle.radix_tree.proofs.WholeParts.{later_than}
-use Rattle.radix_tree.proofs.ChainWrites.{Has-linked_out}
-use Rattle.radix_tree.proofs.ChainLinks.{out_others, last_among, first_among}
-use Rattle.radix_tree.proofs.ChainLists.{members_append, members_more, among_own, among_less, others_idle}
-use Rattle.radix_tree.proofs.ChainRooms.{among_at, room_route}
-use Rattle.radix_tree.proofs.ChainExchanges.{turn_some, same_none}
-use Rattle.radix_tree.proofs.ChainWholes.{shrunk_whole, shrunk_routes}
-use Rattle.radix_tree.proofs.ChainInserts.{next_same, back_same, same_some}
-use Rattle.radix_tree.proofs.ChainNeighbours.{some_is, IsMember, leaf_chain, member_once, own_out, IsUnlinked, before_there, behind_there, IsLeft, out_chain}
+use Rattle.radix_tree.proofs.Words.{⊎_elim, ◌≡◌, ℕ, ◌+◌, ◌≤◌, ◌⊎◌, ◌==◌, Bool, true, false, true≢false, List, [], ◌∷◌, ◌++◌, Option, Some, None, refl, sym, ap}
+use Rattle.radix_tree.proofs.Words.{◌∙◌, subst, inl, inr, arith, eqb-true, eq-eqb, is_some, Has, Id, Leaf, Node, LeafOf, Placed, leaf, IsAmong, IsIn}
+use Rattle.radix_tree.proofs.Words.{LeafPart, BitPart, Part, leaves_in, bits_in, masks_in, name_of, Way, one_if, members_at, leaves_at, HaveOneFork}
+use Rattle.radix_tree.proofs.Words.{HasOneFork, shown, shown_entry, root_after, Gains, IsWholeBut, is_of_key, has_key, nobody_late, late_at, nobody_out}
+use Rattle.radix_tree.proofs.Words.{out_at, Content, content_of, KeepsRoutes, name_back, link_out, Entry, Lodged}
+use Rattle.radix_tree.proofs.ChainNeighbours.{some_is, IsMember, leaf_chain, member_once, own_out, IsUnlinked, before_there, behind_there, IsLeft}
+use Rattle.radix_tree.proofs.ChainNeighbours.{out_chain}
+use Rattle.radix_tree.proofs.{Parts.way_leads, TreeMembers.chain_key, TreeMembers.tree_said, WholeParts.later_than, ChainWrites.Has-linked_out}
+use Rattle.radix_tree.proofs.{ChainLinks.out_others, ChainLinks.last_among, ChainLinks.first_among, ChainLists.members_append, ChainLists.members_more}
+use Rattle.radix_tree.proofs.{ChainLists.among_own, ChainLists.among_less, ChainLists.others_idle, ChainRooms.among_at, ChainRooms.room_route}
+use Rattle.radix_tree.proofs.{ChainExchanges.turn_some, ChainExchanges.same_none, ChainWholes.shrunk_whole, ChainWholes.shrunk_routes}
+use Rattle.radix_tree.proofs.{ChainInserts.next_same, ChainInserts.back_same, ChainInserts.same_some}
 
 module _ {V : Type 0} where
   -- ---- each room keeps its route
@@ -46,8 +40,7 @@ module _ {V : Type 0} where
   pub removed_whole : {m new : Lodged V} {root name : Node} {n : ℕ} (w : IsWholeBut m root (late_at n) nobody_out) {p : LeafPart V} (b : IsMember m w.part n p)
       → masks_in m n ≡ None → IsUnlinked m new p.leaf
       → IsLeft m new b.x.entry.key w.part b.part b.front b.back name → IsWholeBut new name nobody_late (out_at n)
-  removed_whole {m = m} {new = new} {n = n} w {p = p} b unmarked u l =
-      subst (λ (z : Node). IsWholeBut new z nobody_late (out_at n)) l.named
+  removed_whole {m = m} {new = new} {n = n} w {p = p} b unmarked u l = subst (λ (z : Node). IsWholeBut new z nobody_late (out_at n)) l.named
       (subst (λ (k : ℕ). IsWholeBut new (root_after b.part.above (LeafOf l.cons.first.room) (name_of w.part.tree)) nobody_late (out_at k)) b.number
       (shrunk_whole m new b.x.entry.key b.front b.back b.x (late_here m n w p b) b.part b.ups b.way (out_chain m new w n p b u l) (member_once m w b)
       (ap (λ (k : ℕ). masks_in m k) b.number ∙ unmarked) (routes_some m new (unlinked_routes m new p.leaf u.leaves))))
@@ -77,7 +70,7 @@ module _ {V : Type 0} where
   way_spare m key whole at [] way spare = subst (λ (p : Part m). HaveOneFork (bits_in m) p.tree) (sym way) spare
   way_spare m key whole at (p ∷ ps) way spare =
       let both = subst (HaveOneFork (bits_in m)) way.0.at.is (way_spare m key whole p ps way.1 spare) in
-      ⊎_elim (λ e. subst (HaveOneFork (bits_in m)) (sym e.0) both.0) (λ e. subst (HaveOneFork (bits_in m)) (sym e.0) both.1) way.0.side
+      elim way.0.side [ inl e ↦ subst (HaveOneFork (bits_in m)) (sym e.0) both.0 | inr e ↦ subst (HaveOneFork (bits_in m)) (sym e.0) both.1 ]
 
   -- a room of a key says so
   record IsOfKey (said : Option (LeafPart V)) (key : ℕ) : Type 0 where
@@ -105,12 +98,11 @@ module _ {V : Type 0} where
       let among = subst (IsAmong r.route) b.split (subst (IsIn r.route) b.is at) in
       let spare = subst (HasOneFork (bits_in m)) b.split (subst (HaveOneFork (bits_in m)) b.is (way_spare m b.x.entry.key w.part b.part b.ups b.way w.spare)) in
       let own = some_is (bits_in m n) (sym (some n) ∙ ap (λ (o : Option BitPart). is_some o) is) in
-      same_none (bits_in new k) (some k)
-      (⊎_elim
-      (λ (e : b.x ≡ r.route). absurd (other (sym r.number ∙ ap (λ (z : Placed V). z.room.number) (sym e) ∙ b.number)))
-      (λ (among_others : IsAmong r.route (b.front ++ b.back)). ap (λ (z : ℕ). bits_in m z) (sym r.number)
-      ∙ others_idle (bits_in m) b.front b.back b.x r.route spare (ap (λ (z : ℕ). bits_in m z) b.number ∙ own.1) among_others)
-      (among_less b.front b.back b.x r.route among))
+      same_none (bits_in new k) (some k) (elim (among_less b.front b.back b.x r.route among) [
+        | inl e ↦ absurd (other (sym r.number ∙ ap (λ (z : Placed V). z.room.number) (sym e) ∙ b.number))
+        | inr among_others ↦ ap (λ (z : ℕ). bits_in m z) (sym r.number)
+            ∙ others_idle (bits_in m) b.front b.back b.x r.route spare (ap (λ (z : ℕ). bits_in m z) b.number ∙ own.1) among_others
+      ])
 
   -- ---- a neighbour afterwards
   counted_key : (m : Lodged V) (at : Part m) (z : Placed V) {zs c : List (Placed V)} (r : ℕ) → at.tree ≡ leaf z zs → z ∷ zs ≡ c → 1 ≤ members_at r c
@@ -130,12 +122,12 @@ module _ {V : Type 0} where
       members_append to.number b.front b.back in
       let more : members_at to.number (b.front ++ (b.x ∷ b.back)) ≡ members_at to.number (b.front ++ b.back) + one_if (b.x.room.number == to.number) =
       members_more to.number b.front b.back b.x in
-      let some : 1 ≤ members_at to.number (b.front ++ b.back) = ⊎_elim
-      (λ (e : p.leaf.next ≡ Some to). let own : 1 ≤ members_at to.number b.back =
-      first_among b.back to (sym (ap (λ (q : LeafPart V). q.leaf.next) b.part_is) ∙ e) in omega arith)
-      (λ (e : p.leaf.previous ≡ Some to). let own : 1 ≤ members_at to.number b.front =
-      last_among b.front to (sym (ap (λ (q : LeafPart V). q.leaf.previous) b.part_is) ∙ e) in omega arith)
-      side in
+      let some : 1 ≤ members_at to.number (b.front ++ b.back) = elim side [
+        | inl e ↦ let own : 1 ≤ members_at to.number b.back =
+            first_among b.back to (sym (ap (λ (q : LeafPart V). q.leaf.next) b.part_is) ∙ e) in omega arith
+        | inr e ↦ let own : 1 ≤ members_at to.number b.front =
+            last_among b.front to (sym (ap (λ (q : LeafPart V). q.leaf.previous) b.part_is) ∙ e) in omega arith
+      ] in
       let all : 1 ≤ members_at to.number (b.front ++ (b.x ∷ b.back)) = omega arith in
       let first_key : b.first.entry.key ≡ p.leaf.key =
       sym (chain_key b.first.entry.key 34 (b.front ++ (b.x ∷ b.back)) (leaf_chain b.part b.is b.split) b.x (among_own b.front b.back b.x))
@@ -144,7 +136,6 @@ module _ {V : Type 0} where
         Has-linked_out m new p.leaf to u.leaves there,
         λ same. let at : members_at to.number (b.front ++ b.back) ≡ members_at n (b.front ++ b.back) = ap (λ (k : ℕ). members_at k (b.front ++ b.back)) same in
             omega arith,
-        routes_key m new (unlinked_routes m new p.leaf u.leaves) p.leaf.key to.number
-            ∙ ap (λ (k : ℕ). has_key m k to.number) (sym first_key)
+        routes_key m new (unlinked_routes m new p.leaf u.leaves) p.leaf.key to.number ∙ ap (λ (k : ℕ). has_key m k to.number) (sym first_key)
             ∙ counted_key m b.part b.first to.number b.is b.split all,
       )

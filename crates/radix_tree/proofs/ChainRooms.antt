@@ -1,10 +1,8 @@
 -- The route of a room that is in a tree.
-use Rattle.std.proofs.Common.{◌≡◌, ℕ, ◌+◌, ◌≤◌, ◌==◌, true, false, List, [], ◌∷◌, Some, refl, sym, ap, ◌∙◌, inl, inr, arith}
-use Rattle.std.proofs.lemmas.Bool.{eqb-true, cases_lt}
-use Rattle.radix_tree.proofs.Words.{Placed, Tree, leaf, fork, IsAmong, IsIn, LeafPart, Part, leaves_in, bits_in, one_if, members_at, leaves_at, shown_entry}
-use Rattle.radix_tree.proofs.Words.{Lodged}
-use Rattle.radix_tree.proofs.RoomReads.{inside}
-use Rattle.radix_tree.proofs.TreeMembers.{tree_said}
+use Rattle.radix_tree.proofs.Words.{◌≡◌, ℕ, ◌+◌, ◌≤◌, ◌==◌, true, false, List, [], ◌∷◌, Some, refl, sym, ap, ◌∙◌, inl, inr, arith, eqb-true, cases_lt}
+use Rattle.radix_tree.proofs.Words.{Placed, Tree, leaf, fork, IsAmong, IsIn, LeafPart, Part, leaves_in, bits_in, one_if, members_at, leaves_at}
+use Rattle.radix_tree.proofs.Words.{shown_entry, Lodged}
+use Rattle.radix_tree.proofs.{RoomReads.inside, TreeMembers.tree_said}
 
 module _ {V : Type 0} where
   abbrev pub AmongAt : ℕ → List (Placed V) → Type 0
@@ -15,20 +13,18 @@ module _ {V : Type 0} where
 
   pub among_at : (n : ℕ) (c : List (Placed V)) → 1 ≤ members_at n c → AmongAt n c
   among_at n [] some = absurd (omega arith)
-  among_at n (x ∷ c) some =
-      elim (x.room.number == n) as (λ t. (x.room.number == n) ≡ t → 1 ≤ one_if t + members_at n c → AmongAt n (x ∷ c)) [
-        | true ↦ λ e many. (x, inl refl, eqb-true x.room.number n e)
-        | false ↦ λ e many. let y = among_at n c (omega arith) in (y.0, inr y.1, y.2)
-      ] refl some
+  among_at n (x ∷ c) some = elim (x.room.number == n) as (λ t. (x.room.number == n) ≡ t → 1 ≤ one_if t + members_at n c → AmongAt n (x ∷ c)) [
+    | true ↦ λ e many. (x, inl refl, eqb-true x.room.number n e)
+    | false ↦ λ e many. let y = among_at n c (omega arith) in (y.0, inr y.1, y.2)
+  ] refl some
 
   -- a tree has a route in each room that is a leaf of it
   pub in_at : (n : ℕ) (t : Tree V) → 1 ≤ leaves_at n t → InAt n t
   in_at n (leaf x xs) some = among_at n (x ∷ xs) some
-  in_at n (fork room b zero one) some =
-      elim (cases_lt 0 (leaves_at n zero)) [
-        | inl left ↦ let y = in_at n zero left in (y.0, inl y.1, y.2)
-        | inr none ↦ let y = in_at n one (omega arith) in (y.0, inr y.1, y.2)
-      ]
+  in_at n (fork room b zero one) some = elim (cases_lt 0 (leaves_at n zero)) [
+    | inl left ↦ let y = in_at n zero left in (y.0, inl y.1, y.2)
+    | inr none ↦ let y = in_at n one (omega arith) in (y.0, inr y.1, y.2)
+  ]
 
   -- and it is the route that the room has
   pub record RoomRoute (whole : Tree V) (n : ℕ) (p : LeafPart V) : Type 0 where

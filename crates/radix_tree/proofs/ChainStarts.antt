@@ -1,9 +1,9 @@
 -- A walk back along a chain, to its first member.
-use Rattle.std.proofs.Common.{◌≡◌, ℕ, ◌+◌, ◌≤◌, ◌<◌, ◌⊎◌, List, [], ◌∷◌, Option, Some, None, refl, inl, inr, sym, ap, ◌∙◌, subst, ⊎_elim, arith}
-use Rattle.radix_tree.proofs.Words.{Has, leaf_of, Id, Leaf, Links, Placed, IsAmong, IsChain, LeafPart, Leaves, Run, leaves_in, first_room, leaf_part}
+use Rattle.radix_tree.proofs.Words.{◌≡◌, ℕ, ◌+◌, ◌≤◌, ◌<◌, ◌⊎◌, List, [], ◌∷◌, Option, Some, None, refl, inl, inr, sym, ap, ◌∙◌, subst, arith, Has}
+use Rattle.radix_tree.proofs.Words.{leaf_of, Id, Leaf, Links, Placed, IsAmong, IsChain, LeafPart, Leaves, Run, leaves_in, first_room, leaf_part}
 use Rattle.radix_tree.proofs.Words.{ChainStands, Lodged}
-use Rattle.radix_tree.proofs.RoomReads.{inside, none_some, AreLinks, Has-leaf, leaf_read}
-use Rattle.radix_tree.proofs.TreeMembers.{chain_below, chain_route}
+use Rattle.radix_tree.proofs.{RoomReads.inside, RoomReads.none_some, RoomReads.AreLinks, RoomReads.Has-leaf, RoomReads.leaf_read, TreeMembers.chain_below}
+use Rattle.radix_tree.proofs.{TreeMembers.chain_route}
 
 module _ {V : Type 0} where
   -- what a member names before it: what is before the list, where it is the first, or a member of a greater rank
@@ -18,19 +18,20 @@ module _ {V : Type 0} where
 
   behind_prior : (key top : ℕ) (y : Placed V) (c : List (Placed V)) (previous : Option Id) (x : Placed V) (o : Option Id) → IsChain key top (y ∷ c)
       → IsAmong x c → Prior c (Some y.room) x o → Prior (y ∷ c) previous x o
-  behind_prior key top y c previous x o is among p = ⊎_elim
-      (λ (first : (first_room c ≡ Some x.room) × (o ≡ Some y.room)). inr (y, inl refl, first.1, chain_below key y.entry.rank c is.3 x among))
-      (λ (w : (w : Placed V) × IsAmong w c × (o ≡ Some w.room) × (x.entry.rank < w.entry.rank)). inr (w.0, inr w.1, w.2, w.3)) p
+  behind_prior key top y c previous x o is among p = elim p [
+    | inl first ↦ inr (y, inl refl, first.1, chain_below key y.entry.rank c is.3 x among)
+    | inr w ↦ inr (w.0, inr w.1, w.2, w.3)
+  ]
 
   pub member_of : (L : Leaves V) (above previous : Option Id) (key top : ℕ) (c : List (Placed V)) → IsChain key top c → ChainStands L above previous c
       → (x : Placed V) → IsAmong x c → Member L c previous x
   member_of L above previous key top [] is stands x among = absurd among
-  member_of L above previous key top (y ∷ c) is stands x among = ⊎_elim
-      (λ (e : y ≡ x). subst (λ (p : Placed V). Member L (y ∷ c) previous p) e
-      (record { part = leaf_part y above previous (first_room c); said = stands.0; block = refl; prior = inl (refl, refl) }))
-      (λ (behind : IsAmong x c).
-      let m = member_of L None (Some y.room) key y.entry.rank c is.3 stands.1 x behind in
-      record { part = m.part; said = m.said; block = m.block; prior = behind_prior key top y c previous x m.part.leaf.previous is behind m.prior }) among
+  member_of L above previous key top (y ∷ c) is stands x among = elim among [
+    | inl e ↦ subst (λ (p : Placed V). Member L (y ∷ c) previous p) e
+        (record { part = leaf_part y above previous (first_room c); said = stands.0; block = refl; prior = inl (refl, refl) })
+    | inr behind ↦ let m = member_of L None (Some y.room) key y.entry.rank c is.3 stands.1 x behind in
+        record { part = m.part; said = m.said; block = m.block; prior = behind_prior key top y c previous x m.part.leaf.previous is behind m.prior }
+  ]
 
   -- a walk back that has come to a member, and knows what that names before it
   pub record Back {m : Lodged V} (whole : Run m) (at : Id) (before : Option Id) (steps : ℕ) : Type 0 where
@@ -56,8 +57,7 @@ module _ {V : Type 0} where
 
   -- at a member
   pub come : {m : Lodged V} (c : Run m) (x : Placed V) {room : Id} (steps : ℕ) (links : Links) {l : Leaf} → c.previous ≡ None → IsAmong x c.members
-      → x.room ≡ room → steps ≤ x.entry.rank + 1
-      → AreLinks m room links → l ≡ leaf_of links → Back c room l.previous steps
+      → x.room ≡ room → steps ≤ x.entry.rank + 1 → AreLinks m room links → l ≡ leaf_of links → Back c room l.previous steps
   come {m = m} c x {room = room} steps links first among is few are leaf =
       let k = member_in m c x first among in
       let read = leaf ∙ leaf_read m room links (said_at m c x k is) (block_at m c x k is) are in
@@ -74,11 +74,11 @@ module _ {V : Type 0} where
       → Earlier c room steps
   earlier m c {before = before} steps b is =
       let few : steps ≤ b.is.entry.rank + 1 = b.few in
-      ⊎_elim
-      (λ (first : (first_room c.members ≡ Some b.is.room) × (before ≡ None)). absurd (none_some (sym first.1 ∙ is)))
-      (λ (w : (w : Placed V) × IsAmong w c.members × (before ≡ Some w.room) × (b.is.entry.rank < w.entry.rank)).
-      let greater : b.is.entry.rank < w.0.entry.rank = w.3 in
-      record { is = w.0; among = w.1; room_is = inside (sym w.2 ∙ is); few = omega arith }) b.prior
+      elim b.prior [
+        | inl first ↦ absurd (none_some (sym first.1 ∙ is))
+        | inr w ↦ let greater : b.is.entry.rank < w.0.entry.rank = w.3 in
+            record { is = w.0; among = w.1; room_is = inside (sym w.2 ∙ is); few = omega arith }
+      ]
 
   pub few_at : (m : Lodged V) (c : Run m) {at : Id} {before : Option Id} (steps : ℕ) → Back c at before steps → steps ≤ 34
   few_at m c steps b =
@@ -86,6 +86,7 @@ module _ {V : Type 0} where
       omega arith
 
   pub ended : (m : Lodged V) (c : Run m) {at : Id} {before : Option Id} {steps : ℕ} → Back c at before steps → before ≡ None → first_room c.members ≡ Some at
-  ended m c {before = before} b none = ⊎_elim
-      (λ (first : (first_room c.members ≡ Some b.is.room) × (before ≡ None)). first.0 ∙ ap (λ (i : Id). Some i) b.room_is)
-      (λ (w : (w : Placed V) × IsAmong w c.members × (before ≡ Some w.room) × (b.is.entry.rank < w.entry.rank)). absurd (none_some (sym none ∙ w.2))) b.prior
+  ended m c {before = before} b none = elim b.prior [
+    | inl first ↦ first.0 ∙ ap (λ (i : Id). Some i) b.room_is
+    | inr w ↦ absurd (none_some (sym none ∙ w.2))
+  ]

@@ -1,14 +1,12 @@
 -- The chain of a leaf has a member more, or one less, and so the whole.
-use Rattle.std.proofs.Common.{◌≡◌, ℕ, ◌+◌, ◌<◌, ◌≤◌, ◌⊎◌, ◌==◌, ◌||◌, Bool, true≢false, List, ◌∷◌, ◌++◌, Option, Some, None, sym, ap, ◌∙◌, subst, inl, inr}
-use Rattle.std.proofs.Common.{⊎_elim, arith}
-use Rattle.std.proofs.lemmas.Bool.{eqb-true, eq-eqb}
-use Rattle.radix_tree.proofs.Words.{is_some, Node, LeafOf, Placed, leaf, IsAmong, IsIn, LeafPart, Part, leaves_in, bits_in, masks_in, name_of, Way, one_if}
-use Rattle.radix_tree.proofs.Words.{members_at, leaves_at, shown, root_after, Gains, IsWholeBut, nobody_late, late_at, nobody_out, out_at, Lodged}
-use Rattle.radix_tree.proofs.WholeParts.{Fits}
-use Rattle.radix_tree.proofs.WholeRoutes.{gains_spliced, loses_spliced}
+use Rattle.radix_tree.proofs.Words.{◌≡◌, ℕ, ◌+◌, ◌<◌, ◌≤◌, ◌⊎◌, ◌==◌, ◌||◌, Bool, true≢false, List, ◌∷◌, ◌++◌, Option, Some, None, sym, ap, ◌∙◌, subst}
+use Rattle.radix_tree.proofs.Words.{inl, inr, arith, eqb-true, eq-eqb, is_some, Node, LeafOf, Placed, leaf, IsAmong, IsIn, LeafPart, Part, leaves_in}
+use Rattle.radix_tree.proofs.Words.{bits_in, masks_in, name_of, Way, one_if, members_at, leaves_at, shown, root_after, Gains, IsWholeBut, nobody_late}
+use Rattle.radix_tree.proofs.Words.{late_at, nobody_out, out_at, Lodged}
 use Rattle.radix_tree.proofs.ChainLists.{members_more, member_counts, among_more, among_own, among_less, one_fork_less, one_fork_more, routes_more}
 use Rattle.radix_tree.proofs.ChainExchanges.{one_more, turned_about, Rechained, under, old_counts, now_counts, rechained, spliced, old_among, among_old}
 use Rattle.radix_tree.proofs.ChainExchanges.{no_home, same_marks, not_marked, same_forks}
+use Rattle.radix_tree.proofs.{WholeParts.Fits, WholeRoutes.gains_spliced, WholeRoutes.loses_spliced}
 
 module _ {V : Type 0} where
   -- ---- a member more
@@ -38,21 +36,18 @@ module _ {V : Type 0} where
           subst (IsAmong y) r.cons.is (among_more front back x y (old_among m new r y is)),
           λ home. absurd (no_home m new r y.entry.key y.entry.rank home),
         );
-        came = λ y is marked. ⊎_elim
-            (λ (e : x ≡ y). absurd (not_marked m new x y r.masks unmarked e marked))
-            (λ (own : IsAmong y (front ++ back)). among_old r y own)
-            (split y is);
+        came = λ y is marked. elim (split y is) [ inl e ↦ absurd (not_marked m new x y r.masks unmarked e marked) | inr own ↦ among_old r y own ];
         gone = λ y is below marked. same_marks r y marked;
         lists = tt;
-        all = λ y is home. ⊎_elim
-            (λ (e : x ≡ y). inl (eq-eqb y.room.number x.room.number (ap (λ (p : Placed V). p.room.number) (sym e))))
-            (λ (own : IsAmong y (front ++ back)). inr (
-              among_old r y own,
-              ⊎_elim (λ (lt : y.entry.rank < at.low). inl lt) (λ never. absurd never) home,
-              λ marked. same_marks r y marked,
-              λ late. absurd (true≢false (sym late)),
-            ))
-            (split y is);
+        all = λ y is home. elim (split y is) [
+          | inl e ↦ inl (eq-eqb y.room.number x.room.number (ap (λ (p : Placed V). p.room.number) (sym e)))
+          | inr own ↦ inr (
+            among_old r y own,
+            elim home [ inl lt ↦ inl lt | inr never ↦ absurd never ],
+            λ marked. same_marks r y marked,
+            λ late. absurd (true≢false (sym late)),
+          )
+        ];
         late_aside = λ n none some late. absurd (true≢false (sym late));
       }
 
@@ -76,10 +71,10 @@ module _ {V : Type 0} where
         masks_above = λ y is below marked. r.masks y.room.number;
         marks = λ n p e. (p, sym (r.masks n) ∙ e);
         kept = λ y is marked. (
-          ⊎_elim
-              (λ (e : x ≡ y). absurd (not_marked m new x y r.masks unmarked e marked))
-              (λ (own : IsAmong y (front ++ back)). subst (IsAmong y) r.cons.is own)
-              (among_less front back x y (old_among m new r y is)),
+          elim (among_less front back x y (old_among m new r y is)) [
+            | inl e ↦ absurd (not_marked m new x y r.masks unmarked e marked)
+            | inr own ↦ subst (IsAmong y) r.cons.is own
+          ],
           λ home. absurd (no_home m new r y.entry.key y.entry.rank home),
         );
         came = λ y is marked. among_old r y (among_more front back x y (own_now y is));
@@ -87,7 +82,7 @@ module _ {V : Type 0} where
         lists = tt;
         all = λ y is home. inr (
           among_old r y (among_more front back x y (own_now y is)),
-          ⊎_elim (λ (lt : y.entry.rank < at.low). inl lt) (λ never. absurd never) home,
+          elim home [ inl lt ↦ inl lt | inr never ↦ absurd never ],
           λ marked. same_marks r y marked,
           λ late.
               let same : y.room.number ≡ x.room.number = eqb-true y.room.number x.room.number late in
@@ -119,9 +114,7 @@ module _ {V : Type 0} where
       (front back : List (Placed V)) (x : Placed V) → Way key w.part at ups
       → (r : Rechained m new key w.part at (front ++ back) (front ++ (x ∷ back)))
       → Gains x.entry (shown m (Some root)) (shown new (Some (root_after at.above (LeafOf r.cons.first.room) (name_of w.part.tree))))
-  grown_routes m new root w at ups front back x way r =
-      gains_spliced
-      (spliced m new root w at ups way r) (routes_more front back x)
+  grown_routes m new root w at ups front back x way r = gains_spliced (spliced m new root w at ups way r) (routes_more front back x)
 
   pub shrunk_whole : (m new : Lodged V) {root : Node} (key : ℕ) (front back : List (Placed V)) (x : Placed V)
       (w : IsWholeBut m root (late_at x.room.number) nobody_out) (at : Part m) (ups : List (Part m)) → Way key w.part at ups
@@ -136,6 +129,4 @@ module _ {V : Type 0} where
       (w : IsWholeBut m root late nobody_out) (at : Part m) (ups : List (Part m)) → Way key w.part at ups
       → (r : Rechained m new key w.part at (front ++ (x ∷ back)) (front ++ back))
       → Gains x.entry (shown new (Some (root_after at.above (LeafOf r.cons.first.room) (name_of w.part.tree)))) (shown m (Some root))
-  shrunk_routes m new root front back x w at ups way r =
-      loses_spliced
-      (spliced m new root w at ups way r) (routes_more front back x)
+  shrunk_routes m new root front back x w at ups way r = loses_spliced (spliced m new root w at ups way r) (routes_more front back x)

@@ -1,7 +1,6 @@
 -- Writes to the links of a chain's members.
-use Rattle.std.proofs.Common.{◌≡◌, ℕ, ◌==◌, Bool, true, false, if◌then◌else◌, Option, Some, None, refl, sym, ap, ◌∙◌}
-use Rattle.std.proofs.lemmas.Bool.{eqb-true, eq-eqb, ne_eqb}
-use Rattle.radix_tree.proofs.Words.{Has, leaf_of, Id, Leaf, Links, LeafPart, leaf_in, leaves_in, with_leaf, put_leaf, lodge_leaf, KeepsLeaves, leaf_next}
+use Rattle.radix_tree.proofs.Words.{◌≡◌, ℕ, ◌==◌, Bool, true, false, if◌then◌else◌, Option, Some, None, refl, sym, ap, ◌∙◌, eqb-true, eq-eqb, ne_eqb, Has}
+use Rattle.radix_tree.proofs.Words.{leaf_of, Id, Leaf, Links, LeafPart, leaf_in, leaves_in, with_leaf, put_leaf, lodge_leaf, KeepsLeaves, leaf_next}
 use Rattle.radix_tree.proofs.Words.{leaf_back, name_next, name_back, link_in, link_out, Lodged}
 use Rattle.radix_tree.proofs.RoomReads.{none_some, AreLinks, Has-leaf}
 
@@ -25,8 +24,7 @@ module _ {V : Type 0} where
       ] refl
 
   pub back_put : {m : Lodged V} (room : Id) (links : Links) {l : Leaf} (above previous : Option Id) (n : ℕ) → Has m room → AreLinks m room links
-      → l ≡ leaf_of links
-      → put_leaf room (record l { above = above; previous = previous }) n (leaves_in m n)
+      → l ≡ leaf_of links → put_leaf room (record l { above = above; previous = previous }) n (leaves_in m n)
       ≡ (if n == room.number then leaf_back above previous (leaves_in m n) else leaves_in m n)
   back_put {m = m} room links {l = l} above previous n h are leaf =
       let read = leaf ∙ ap leaf_of (are h.room h.at) in
@@ -69,17 +67,13 @@ module _ {V : Type 0} where
       record {
         part = record p.part { leaf = record p.part.leaf { above = above; previous = previous } };
         is = ap (leaf_back above previous) p.is;
-        block =
-            p.block;
+        block = p.block;
       }
 
   next_part : (before next : Option Id) (at : Id) {said : Option (LeafPart V)} → IsPart said at → IsPart (name_next before next at.number said) at
   next_part None next at p = p
   next_part (Some room) next at {said = said} p =
-      elim (at.number == room.number) as (λ t. IsPart (if t then leaf_next next said else said) at) [
-        | true ↦ some_next next p
-        | false ↦ p
-      ]
+      elim (at.number == room.number) as (λ t. IsPart (if t then leaf_next next said else said) at) [ true ↦ some_next next p | false ↦ p ]
 
   back_part : (behind above previous : Option Id) (at : Id) {said : Option (LeafPart V)}
       → IsPart said at → IsPart (name_back behind above previous at.number said) at

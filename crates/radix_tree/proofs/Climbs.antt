@@ -1,10 +1,8 @@
 -- A walk up a tree, from a leaf of a key.
-use Rattle.std.proofs.Common.{◌≡◌, ℕ, ◌+◌, ◌≤◌, List, [], ◌∷◌, Option, Some, None, refl, sym, ap, ◌∙◌, subst, arith}
-use Rattle.radix_tree.proofs.Words.{Counter, Id, BitNode, Leaf, IsBitNode, IsBitNodeOf, ReadsOnce, LeafPart, Part, leaves_in, ForkAt, LedTo, Beneath, Way, fork}
-use Rattle.radix_tree.proofs.Words.{IsTree, Lodged}
-use Rattle.radix_tree.proofs.Lifts.{part_at, leaf_said}
-use Rattle.radix_tree.proofs.Parts.{bit_part_of, fork_is, fork_stands}
-use Rattle.radix_tree.proofs.RoomReads.{IsNode, inside, none_some, node_said}
+use Rattle.radix_tree.proofs.Words.{◌≡◌, ℕ, ◌+◌, ◌≤◌, List, [], ◌∷◌, Option, Some, None, refl, sym, ap, ◌∙◌, subst, arith, Counter, Id, BitNode, Leaf}
+use Rattle.radix_tree.proofs.Words.{IsBitNode, IsBitNodeOf, ReadsOnce, LeafPart, Part, leaves_in, ForkAt, LedTo, Beneath, Way, fork, IsTree, Lodged}
+use Rattle.radix_tree.proofs.{Lifts.part_at, Lifts.leaf_said, Parts.bit_part_of, Parts.fork_is, Parts.fork_stands, RoomReads.IsNode, RoomReads.inside}
+use Rattle.radix_tree.proofs.{RoomReads.none_some, RoomReads.node_said}
 
 module _ {V : Type 0} {m : Lodged V} where
   -- a walk up that has come to what is above a part, of which something holds

@@ -2,14 +2,12 @@
 --     none_of_rank                     a rank that no route has
 --     few_of_rank                      no more than there are keys
 --     counted_more, counted_less       with a route more or less
-use Rattle.std.proofs.Common.{◌≡◌, ℕ, ◌+◌, ◌-◌, ◌^◌, ◌<◌, ◌≤◌, ◌==◌, ◌&&◌, Bool, true, false, cond, if◌then◌else◌, IsTrue, List, [], ◌∷◌, ◌++◌, Some, None}
-use Rattle.std.proofs.Common.{refl, sym, ap, ◌∙◌, subst, ⊎_elim, arith}
-use Rattle.std.proofs.lemmas.Bool.{eqb-true, eq-eqb, ne_eqb, cases_lt}
-use Rattle.std.proofs.lemmas.List.Sums.{sum_by-cons, sum_by-append}
 use Rattle.mask_table.specs.Counts.{count_of, AreNone}
-use Rattle.radix_tree.proofs.Words.{AllByRecursion, HasOneMore, precedes, IsTable, entry_at, Gains, of_rank, AreCounted, Entry}
-use Rattle.radix_tree.proofs.ListLemmas.{all_weaker}
-use Rattle.radix_tree.proofs.OrderLemmas.{precedes_in_words}
+use Rattle.std.proofs.lemmas.List.Sums.{sum_by-cons, sum_by-append}
+use Rattle.radix_tree.proofs.Words.{◌≡◌, ℕ, ◌+◌, ◌-◌, ◌^◌, ◌<◌, ◌≤◌, ◌==◌, ◌&&◌, Bool, true, false, cond, if◌then◌else◌, IsTrue, List, [], ◌∷◌, ◌++◌}
+use Rattle.radix_tree.proofs.Words.{Some, None, inl, inr, refl, sym, ap, ◌∙◌, subst, arith, eqb-true, eq-eqb, ne_eqb, cases_lt, AllByRecursion}
+use Rattle.radix_tree.proofs.Words.{HasOneMore, precedes, IsTable, entry_at, Gains, of_rank, AreCounted, Entry}
+use Rattle.radix_tree.proofs.{ListLemmas.all_weaker, OrderLemmas.precedes_in_words}
 
 abbrev pub one_of : Bool → ℕ
 one_of b = cond b 1 0
@@ -58,9 +56,10 @@ module _ {V : Type 0} where
   Above low rank es = AllByRecursion (λ f. f.rank ≡ rank → low ≤ f.key) es
 
   above_next : {rank : ℕ} (e f : Entry V) → e.rank ≡ rank → IsTrue (precedes e f) → f.rank ≡ rank → e.key + 1 ≤ f.key
-  above_next e f is ahead same = ⊎_elim (λ (less : e.key < f.key). omega arith)
-      (λ (equal : (e.key ≡ f.key) × (f.rank < e.rank)). let lower : f.rank < e.rank = equal.1 in absurd (omega (arith, lower, is, same)))
-      ((precedes_in_words e f).0 ahead)
+  above_next e f is ahead same = elim ((precedes_in_words e f).0 ahead) [
+    | inl less ↦ omega arith
+    | inr equal ↦ let lower : f.rank < e.rank = equal.1 in absurd (omega (arith, lower, is, same))
+  ]
 
   few_from : (low rank : ℕ) (es : List (Entry V)) → low ≤ 2 ^ 32 → IsTable es → Above low rank es → of_rank rank es + low ≤ 2 ^ 32
   few_from low rank [] within table above = omega arith
@@ -109,12 +108,13 @@ module _ {V : Type 0} where
       omega (arith, held_was, before, after, same)
 
   -- what the counts say of a rank
-  pub not_held : (counts : List ℕ) (es : List (Entry V)) (key rank : ℕ) {has : Bool} → AreCounted counts es → rank ≤ 33 → (0 < count_of rank counts → IsTrue has)
+  pub not_held : (counts : List ℕ) (es : List (Entry V)) (key rank : ℕ) {has : Bool} → AreCounted counts es → rank ≤ 33
+      → (0 < count_of rank counts → IsTrue has)
       → has ≡ false → entry_at key rank es ≡ None
-  not_held counts es key rank counted fits asks not =
-      ⊎_elim (λ (some : 0 < count_of rank counts). absurd (true_false (sym (subst IsTrue not (asks some)))))
-      (λ (none : count_of rank counts ≤ 0). none_of_rank key rank es (let is : count_of rank counts ≡ of_rank rank es = counted rank fits in omega (arith, none, is)))
-      (cases_lt 0 (count_of rank counts))
+  not_held counts es key rank counted fits asks not = elim (cases_lt 0 (count_of rank counts)) [
+    | inl some ↦ absurd (true_false (sym (subst IsTrue not (asks some))))
+    | inr none ↦ none_of_rank key rank es (let is : count_of rank counts ≡ of_rank rank es = counted rank fits in omega (arith, none, is))
+  ]
 
   pub few_held : (counts : List ℕ) (es : List (Entry V)) (rank : ℕ) → AreCounted counts es → IsTable es → rank ≤ 33 → count_of rank counts < 2 ^ 64 - 1
   few_held counts es rank counted table fits =

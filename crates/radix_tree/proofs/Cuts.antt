@@ -1,18 +1,12 @@
 -- The list of masks of a bit node is cut at a bit, or a leaf has none.
-use Rattle.std.proofs.Common.{◌≡◌, ℕ, ◌+◌, ◌<◌, ◌≤◌, ◌==◌, Bool, List, [], Option, None, refl, sym, ap, ◌∙◌, subst, inl, inr, ⊎_elim, arith}
-use Rattle.radix_tree.proofs.Words.{is_some, Id, Node, LeafOf, BitOf, Placed, Tree, leaf, fork, IsAmong, IsIn, IsTree, LeafPart, Part, leaves_in, bits_in}
-use Rattle.radix_tree.proofs.Words.{heads_in, masks_in, leaf_part, name_of, ForkAt, Way, one_if, leaves_at, forks_at, HasHome, AreOnce, low_past, IsMarked}
+use Rattle.radix_tree.proofs.Words.{◌≡◌, ℕ, ◌+◌, ◌<◌, ◌≤◌, ◌==◌, Bool, List, [], Option, None, refl, sym, ap, ◌∙◌, subst, inl, inr, arith, is_some, Id}
+use Rattle.radix_tree.proofs.Words.{Node, LeafOf, BitOf, Placed, Tree, leaf, fork, IsAmong, IsIn, IsTree, LeafPart, Part, leaves_in, bits_in, heads_in}
+use Rattle.radix_tree.proofs.Words.{masks_in, leaf_part, name_of, ForkAt, Way, one_if, leaves_at, forks_at, HasHome, AreOnce, low_past, IsMarked}
 use Rattle.radix_tree.proofs.Words.{IsMaskList, MarkedIn, MarkedLists, IsWholeBut, IsMasks, IsAside, past_bit, up_to_bit, KeepsLeaves, KeepsBits, Lodged}
-use Rattle.radix_tree.proofs.RoomReads.{inside}
-use Rattle.radix_tree.proofs.TreeMembers.{tree_said}
-use Rattle.radix_tree.proofs.Parts.{fork_is, fork_named}
-use Rattle.radix_tree.proofs.PartRooms.{one_if_same, elsewhere, way_once}
-use Rattle.radix_tree.proofs.Plugs.{counted_leaf, home_plug, plug_in}
-use Rattle.radix_tree.proofs.PlugLists.{falls_between, lists_at}
-use Rattle.radix_tree.proofs.FrameLists.{lists_stay}
-use Rattle.radix_tree.proofs.WholeParts.{some_of}
-use Rattle.radix_tree.proofs.LeafWays.{on_way}
 use Rattle.radix_tree.proofs.MaskLists.{not_below_among, among_not_below, below_among, among_below, falls_not_below, falls_below, masks_listed}
+use Rattle.radix_tree.proofs.{RoomReads.inside, TreeMembers.tree_said, Parts.fork_is, Parts.fork_named, PartRooms.one_if_same, PartRooms.elsewhere}
+use Rattle.radix_tree.proofs.{PartRooms.way_once, Plugs.counted_leaf, Plugs.home_plug, Plugs.plug_in, PlugLists.falls_between, PlugLists.lists_at}
+use Rattle.radix_tree.proofs.{FrameLists.lists_stay, WholeParts.some_of, LeafWays.on_way}
 
 same_bit_node : {x y : Id} → BitOf x ≡ BitOf y → x ≡ y
 same_bit_node e = cc
@@ -53,10 +47,10 @@ module _ {V : Type 0} where
       let home : HasHome x.entry.key x.entry.rank w.part.tree =
       subst (λ (r : ℕ). HasHome x.entry.key r w.part.tree) pair.1 (subst (λ (k : ℕ). HasHome k z.0.entry.rank w.part.tree) pair.0 z.3) in
       let low : at.low ≡ low_past w.part.low o.frames = o.lowest in
-      ⊎_elim
-      (λ (above : x.entry.rank < low_past w.part.low o.frames). absurd (omega arith))
-      (λ (here : HasHome x.entry.key x.entry.rank at.tree). subst (λ (t : Tree V). HasHome x.entry.key x.entry.rank t) is here)
-      (home_plug w.part.low o.frames at.tree x whole_is there (subst (λ (t : Tree V). HasHome x.entry.key x.entry.rank t) o.was home))
+      elim (home_plug w.part.low o.frames at.tree x whole_is there (subst (λ (t : Tree V). HasHome x.entry.key x.entry.rank t) o.was home)) [
+        | inl above ↦ absurd (omega arith)
+        | inr here ↦ subst (λ (t : Tree V). HasHome x.entry.key x.entry.rank t) is here
+      ]
 
   pub cut_leaf : (m : Lodged V) (low bit : ℕ) {t : Tree V} (y : Placed V) (ys : List (Placed V)) → t ≡ leaf y ys
       → ((x : Placed V) → IsIn x t → IsMarked (masks_in m) x → low ≤ x.entry.rank → ⊥) → IsCut m m low bit t None
@@ -74,8 +68,7 @@ module _ {V : Type 0} where
           stands = tt;
           falls = tt;
           has = λ x member least most. absurd (none x member.0 member.1 least);
-          within =
-              λ x among. absurd among;
+          within = λ x among. absurd among;
         };
     lists = subst (MarkedLists (heads_in m) (masks_in m) (bit + 1)) (sym is) tt;
   }

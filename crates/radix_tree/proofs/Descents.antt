@@ -1,9 +1,10 @@
 -- A walk down a tree.
-use Rattle.std.proofs.Common.{◌≡◌, ℕ, ◌+◌, ◌≤◌, List, [], ◌∷◌, Option, Some, None, refl, sym, ◌∙◌, subst, arith}
-use Rattle.radix_tree.proofs.Words.{Counter, Id, BitNode, Node, LeafOf, BitOf, IsBitNode, Reads, ReadsOnce, IsBitNodeOf, Part, name_of, Tells, Finds, HasPair}
-use Rattle.radix_tree.proofs.Words.{In, LedTo, Way, bit_at, IsAmong, IsTree, Lodged}
+use Rattle.radix_tree.proofs.Words.{◌≡◌, ℕ, ◌+◌, ◌≤◌, List, [], ◌∷◌, Option, Some, None, refl, sym, ◌∙◌, subst, arith, Counter, Id, BitNode, Node, LeafOf}
+use Rattle.radix_tree.proofs.Words.{BitOf, IsBitNode, Reads, ReadsOnce, IsBitNodeOf, Part, name_of, Tells, Finds, HasPair, In, LedTo, Way, bit_at}
+use Rattle.radix_tree.proofs.Words.{IsAmong, IsTree, Lodged}
+use Rattle.radix_tree.proofs.Parts.{fork_named, leaf_named, fork_is, zero_part, one_part, zero_beneath, one_beneath, among_leaf, in_leaf, way_inside}
+use Rattle.radix_tree.proofs.Parts.{way_leads}
 use Rattle.radix_tree.proofs.Climbs.{used, node_at}
-use Rattle.radix_tree.proofs.Parts.{fork_named, leaf_named, fork_is, zero_part, one_part, zero_beneath, one_beneath, among_leaf, in_leaf, way_inside, way_leads}
 
 module _ {V : Type 0} {m : Lodged V} where
   -- a walk down that has come to a node, by as many reads as there are bits above it at most
@@ -29,8 +30,7 @@ module _ {V : Type 0} {m : Lodged V} where
     pub one : bit_at n.bit address ≡ 1 → Down address whole n.one start later
 
   pub parted : {address : ℕ} {whole : Part m} {at : Node} {room : Id} {start now later : Counter} {n : BitNode} → Down address whole at start now
-      → at ≡ BitOf room
-      → IsBitNodeOf m room n → ReadsOnce now later → Parted address whole n start later
+      → at ≡ BitOf room → IsBitNodeOf m room n → ReadsOnce now later → Parted address whole n start later
   parted {address} {whole} {at} {room} {start} {now} {later} {n} d is said more =
       let f = fork_named d.part (d.named ∙ is) in
       let same = node_at f said in

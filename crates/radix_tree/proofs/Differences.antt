@@ -1,12 +1,11 @@
 -- The first bit at which two keys differ.
-use Rattle.std.proofs.Common.{◌≡◌, ℕ, zero, suc, ◌+◌, ◌*◌, ◌-◌, ◌^◌, ◌/◌, ◌<◌, ◌≤◌, sym, ap, ◌∙◌, subst, refl, arith}
 use Rattle.std.proofs.Math.Nat.{div-eq_of_lt, lt-div-mul-add}
-use Rattle.std.proofs.lemmas.Nat.{and_le_l, and_le_r, leading_top, pow_pos, xor_lt, xor_shr}
-use Rattle.std.specs.Int.Bits.{xor_add_and, xor_self}
-use Rattle.std.specs.Int.Count.{leading_of_zero}
 use Rattle.mask_table.proofs.Agreeing.{front_suc, bit_of_front}
-use Rattle.radix_tree.proofs.Words.{bit_xor, count_leading_zeros, front, Differs}
+use Rattle.std.proofs.lemmas.Nat.{and_le_l, and_le_r, leading_top, pow_pos, xor_lt, xor_shr}
+use Rattle.std.specs.{Int.Bits.xor_add_and, Int.Bits.xor_self, Int.Count.leading_of_zero}
 use Rattle.radix_tree.specs.Tree.{bit_at}
+use Rattle.radix_tree.proofs.Words.{◌≡◌, ℕ, zero, suc, ◌+◌, ◌*◌, ◌-◌, ◌^◌, ◌/◌, ◌<◌, ◌≤◌, sym, ap, ◌∙◌, subst, refl, arith, bit_xor, count_leading_zeros}
+use Rattle.radix_tree.proofs.Words.{front, Differs}
 
 -- numbers that differ in no bit are the same
 same_numbers : (x y : ℕ) → bit_xor x y ≡ 0 → x ≡ y
@@ -44,8 +43,7 @@ differs_first x y fits_x fits_y few = first_of (bit_xor x y) refl
         let top = leading_top 32 (bit_xor x y) (omega (arith, e)) (xor_lt 32 x y fits_x fits_y) in
         let past : suc top.0 ≡ 32 - count_leading_zeros 32 (bit_xor x y) = omega (arith, top.1) in
         let at : 32 - (count_leading_zeros 32 (bit_xor x y) + 1) ≡ top.0 = omega (arith, top.1) in
-        differs_at _ x y few
-        (subst (λ (k : ℕ). x / 2 ^ k ≡ y / 2 ^ k) past (same_fronts x y (suc top.0) top.3))
+        differs_at _ x y few (subst (λ (k : ℕ). x / 2 ^ k ≡ y / 2 ^ k) past (same_fronts x y (suc top.0) top.3))
         (λ same. other_fronts x y top.0 top.2 (subst (λ (k : ℕ). x / 2 ^ k ≡ y / 2 ^ k) at same))
 
 -- and there is none where all bits of what differs are 0

@@ -1,13 +1,11 @@
 -- A part of a tree is exchanged for another, and so the whole.
-use Rattle.std.proofs.Common.{◌≡◌, ℕ, ◌+◌, ◌<◌, ◌≤◌, ◌⊎◌, ◌==◌, Bool, if◌then◌else◌, List, [], ◌∷◌, Option, Some, None, refl, sym, ap, ◌∙◌, subst, inl, inr}
-use Rattle.std.proofs.Common.{⊎_elim, arith}
-use Rattle.std.proofs.lemmas.Bool.{eq-eqb, ne_eqb, cases_lt}
-use Rattle.radix_tree.proofs.Words.{Id, Node, BitOf, Tree, fork, bit_at, HaveBit, IsTree, BitPart, Part, leaves_in, bits_in, name_of, Stands, ForkAt, Beneath}
-use Rattle.radix_tree.proofs.Words.{Way, one_if, leaves_at, forks_at, with_child, name_child, root_after, AreOnce, on_zero, on_one, low_past, IsExchange}
-use Rattle.radix_tree.proofs.Words.{Exchanged, Lodged}
+use Rattle.radix_tree.proofs.Words.{◌≡◌, ℕ, ◌+◌, ◌<◌, ◌≤◌, ◌⊎◌, ◌==◌, Bool, if◌then◌else◌, List, [], ◌∷◌, Option, Some, None, refl, sym, ap, ◌∙◌, subst}
+use Rattle.radix_tree.proofs.Words.{inl, inr, arith, eq-eqb, ne_eqb, cases_lt, Id, Node, BitOf, Tree, fork, bit_at, HaveBit, IsTree, BitPart, Part}
+use Rattle.radix_tree.proofs.Words.{leaves_in, bits_in, name_of, Stands, ForkAt, Beneath, Way, one_if, leaves_at, forks_at, with_child, name_child}
+use Rattle.radix_tree.proofs.Words.{root_after, AreOnce, on_zero, on_one, low_past, IsExchange, Exchanged, Lodged}
+use Rattle.radix_tree.proofs.PartRooms.{said, zero_turned, one_turned, elsewhere, frame, Keeps, fork_forks, fork_leaves, same_turned, way_counts}
+use Rattle.radix_tree.proofs.PartRooms.{way_once, beneath_counts, spine_out}
 use Rattle.radix_tree.proofs.Parts.{fork_is, fork_stands}
-use Rattle.radix_tree.proofs.PartRooms.{said, zero_turned, one_turned, elsewhere, frame, Keeps, fork_forks, fork_leaves, same_turned, way_counts, way_once}
-use Rattle.radix_tree.proofs.PartRooms.{beneath_counts, spine_out}
 
 -- the bit node above a place says what it said in all other rooms, and in its own names the other node
 pub turn_misses : {above : Option Id} (over : Id) (key n : ℕ) (to : Node) (said : Option BitPart) → above ≡ Some over → (n ≡ over.number → ⊥)
@@ -22,7 +20,7 @@ turn_hits over key to said is =
     (eq-eqb over.number over.number refl)
 
 pub one_of : (x y : ℕ) → 1 ≤ x + y → (1 ≤ x) ⊎ (1 ≤ y)
-one_of x y some = ⊎_elim (λ (none : x < 1). inr (omega arith)) (λ (le : 1 ≤ x). inl le) (cases_lt x 1)
+one_of x y some = elim (cases_lt x 1) [ inl none ↦ inr (omega arith) | inr le ↦ inl le ]
 
 module _ {V : Type 0} where
   -- the part above one in which the exchange is made; on the bits before its own its keys agree as they did
@@ -134,24 +132,22 @@ module _ {V : Type 0} where
       let old = (fork_stands m f).0 in
       let all_forks : (n : ℕ) → forks_at n over.tree ≡ one_if (b.room.number == n) + (forks_at n f.zero + forks_at n f.one) = fork_forks m f in
       let all_leaves : (n : ℕ) → leaves_at n over.tree ≡ leaves_at n f.zero + leaves_at n f.one = fork_leaves m f in
-      ⊎_elim
-      (λ (e : (mid.tree ≡ f.zero) × (bit_at f.bit key ≡ 0)).
-      zero_climbed m new at mid over b.room f e.0 e.1 b.low b.above g
-      (spine ∙ ap (with_child key name) old ∙ zero_turned key name (said b.room f.bit (name_of f.zero) (name_of f.one) over.above) e.1)
-      (λ n some. let sum = all_leaves n in let most : leaves_at n over.tree ≤ 1 = once.leaves n in let same : leaves_at n mid.tree ≡ leaves_at n f.zero =
-      ap (λ (t : Tree V). leaves_at n t) e.0 in leaves n (omega arith) (omega arith))
-      (λ n some. let sum = all_forks n in let most : forks_at n over.tree ≤ 1 = once.forks n in let same : forks_at n mid.tree ≡ forks_at n f.zero =
-      ap (λ (t : Tree V). forks_at n t) e.0 in
-      forks n (elsewhere b.room n (forks_at n f.one) some (omega arith)) (omega arith) (omega arith)))
-      (λ (e : (mid.tree ≡ f.one) × (bit_at f.bit key ≡ 1)).
-      one_climbed m new at mid over b.room f e.0 e.1 b.low b.above g
-      (spine ∙ ap (with_child key name) old ∙ one_turned key name (said b.room f.bit (name_of f.zero) (name_of f.one) over.above) e.1)
-      (λ n some. let sum = all_leaves n in let most : leaves_at n over.tree ≤ 1 = once.leaves n in let same : leaves_at n mid.tree ≡ leaves_at n f.one =
-      ap (λ (t : Tree V). leaves_at n t) e.0 in leaves n (omega arith) (omega arith))
-      (λ n some. let sum = all_forks n in let most : forks_at n over.tree ≤ 1 = once.forks n in let same : forks_at n mid.tree ≡ forks_at n f.one =
-      ap (λ (t : Tree V). forks_at n t) e.0 in
-      forks n (elsewhere b.room n (forks_at n f.zero) some (omega arith)) (omega arith) (omega arith)))
-      b.side
+      elim b.side [
+        | inl e ↦ zero_climbed m new at mid over b.room f e.0 e.1 b.low b.above g
+            (spine ∙ ap (with_child key name) old ∙ zero_turned key name (said b.room f.bit (name_of f.zero) (name_of f.one) over.above) e.1)
+            (λ n some. let sum = all_leaves n in let most : leaves_at n over.tree ≤ 1 = once.leaves n in let same : leaves_at n mid.tree ≡ leaves_at n f.zero =
+            ap (λ (t : Tree V). leaves_at n t) e.0 in leaves n (omega arith) (omega arith))
+            (λ n some. let sum = all_forks n in let most : forks_at n over.tree ≤ 1 = once.forks n in let same : forks_at n mid.tree ≡ forks_at n f.zero =
+            ap (λ (t : Tree V). forks_at n t) e.0 in
+            forks n (elsewhere b.room n (forks_at n f.one) some (omega arith)) (omega arith) (omega arith))
+        | inr e ↦ one_climbed m new at mid over b.room f e.0 e.1 b.low b.above g
+            (spine ∙ ap (with_child key name) old ∙ one_turned key name (said b.room f.bit (name_of f.zero) (name_of f.one) over.above) e.1)
+            (λ n some. let sum = all_leaves n in let most : leaves_at n over.tree ≤ 1 = once.leaves n in let same : leaves_at n mid.tree ≡ leaves_at n f.one =
+            ap (λ (t : Tree V). leaves_at n t) e.0 in leaves n (omega arith) (omega arith))
+            (λ n some. let sum = all_forks n in let most : forks_at n over.tree ≤ 1 = once.forks n in let same : forks_at n mid.tree ≡ forks_at n f.one =
+            ap (λ (t : Tree V). forks_at n t) e.0 in
+            forks n (elsewhere b.room n (forks_at n f.zero) some (omega arith)) (omega arith) (omega arith))
+      ]
 
   -- above that all keep their names
   way_climbed : (m new : Lodged V) (key : ℕ) (at : Part m) (under : Part new) (whole mid : Part m) (ups : List (Part m)) → Way key whole mid ups
@@ -171,12 +167,10 @@ module _ {V : Type 0} where
       (let le : forks_at b.room.number p.tree ≤ forks_at b.room.number whole.tree = (in_whole b.room.number).1 in
       let some : 1 ≤ forks_at b.room.number p.tree = out.1 in
       keeps.forks b.room.number out.0 (omega arith) ∙ same_turned m key mid p (name_of mid.tree) b refl) in
-      way_climbed m new key at under whole p ps way.1 once
-      (record {
+      way_climbed m new key at under whole p ps way.1 once (record {
         leaves = λ n none some. let le : leaves_at n mid.tree ≤ leaves_at n p.tree = (near n).0 in keeps.leaves n (omega arith) some;
         forks = λ n none some. let le : forks_at n mid.tree ≤ forks_at n p.tree = (near n).1 in keeps.forks n (omega arith) some;
-      })
-      (subst (λ (z : Node). Climbed m new key p at under z) (sym (ap (λ (t : Tree V). name_of t) b.at.is)) next)
+      }) (subst (λ (z : Node). Climbed m new key p at under z) (sym (ap (λ (t : Tree V). name_of t) b.at.is)) next)
 
   -- ---- the whole
   here : (m new : Lodged V) {key : ℕ} {whole at : Part m} (under : Part new) → IsExchange m new key whole at under
@@ -193,8 +187,7 @@ module _ {V : Type 0} where
   pub exchanged : (m new : Lodged V) {key : ℕ} (whole at : Part m) (ups : List (Part m)) {under : Part new} → Way key whole at ups → whole.above ≡ None
       → AreOnce whole.tree → IsExchange m new key whole at under
       → Exchanged m new key whole at under (root_after at.above (name_of under.tree) (name_of whole.tree))
-  exchanged m new {key = key} whole at [] {under = under} way top once e =
-      renamed m new key whole at under
+  exchanged m new {key = key} whole at [] {under = under} way top once e = renamed m new key whole at under
       (sym (ap (λ (o : Option Id). root_after o (name_of under.tree) (name_of whole.tree)) (ap (λ (p : Part m). p.above) way ∙ top)))
       (subst (λ (p : Part m). Exchanged m new key p at under (name_of under.tree)) way (here m new under e).made)
   exchanged m new {key = key} whole at (p ∷ ps) {under = under} way top once e =
@@ -211,15 +204,11 @@ module _ {V : Type 0} where
       (let le : forks_at b.room.number p.tree ≤ forks_at b.room.number whole.tree = (in_whole b.room.number).1 in
       let some : 1 ≤ forks_at b.room.number p.tree = out.1 in
       e.bits b.room.number out.0 (omega arith) ∙ turn_hits b.room key (name_of under.tree) (bits_in m b.room.number) b.above) in
-      renamed m new key whole at under
-      (sym (ap (λ (o : Option Id). root_after o (name_of under.tree) (name_of whole.tree)) b.above))
-      (way_climbed m new key at under whole p ps way.1 once
-      (record {
+      renamed m new key whole at under (sym (ap (λ (o : Option Id). root_after o (name_of under.tree) (name_of whole.tree)) b.above))
+      (way_climbed m new key at under whole p ps way.1 once (record {
         leaves = λ n none some. let le : leaves_at n at.tree ≤ leaves_at n p.tree = (near n).0 in e.leaves n (omega arith) some;
         forks = λ n none some. let le : forks_at n at.tree ≤ forks_at n p.tree = (near n).1 in
-            e.bits n (omega arith) some
-            ∙ turn_misses b.room key n (name_of under.tree) (bits_in m n) b.above
+            e.bits n (omega arith) some ∙ turn_misses b.room key n (name_of under.tree) (bits_in m n) b.above
             (λ same. let there : 1 ≤ forks_at b.room.number p.tree = out.1 in let e2 : forks_at n p.tree ≡ forks_at b.room.number p.tree =
             ap (λ (k : ℕ). forks_at k p.tree) same in absurd (omega arith));
-      })
-      (subst (λ (z : Node). Climbed m new key p at under z) (sym (ap (λ (t : Tree V). name_of t) b.at.is)) next)).made
+      }) (subst (λ (z : Node). Climbed m new key p at under z) (sym (ap (λ (t : Tree V). name_of t) b.at.is)) next)).made

@@ -1,10 +1,9 @@
 -- A new bit node above a part of a tree, with the new leaf on the side of its key.
-use Rattle.std.proofs.Common.{◌≡◌, ℕ, ◌+◌, ◌≤◌, ◌==◌, Bool, true, false, if◌then◌else◌, List, [], ◌∷◌, Option, Some, None, refl, sym, ap, ◌∙◌, arith}
-use Rattle.std.proofs.lemmas.Bool.{eqb-true, eq-eqb, ne_eqb}
-use Rattle.radix_tree.proofs.Words.{Id, IsRoute, Placed, Tree, leaf, fork, bit_at, HaveBit, IsTree, Leaves, Bits, name_of, ChainStands, Stands, one_if}
-use Rattle.radix_tree.proofs.Words.{members_at, leaves_at, forks_at, IsPlace, AreOnce, leaf_above, bit_above, lift_leaf, lift_bit}
-use Rattle.radix_tree.proofs.RoomReads.{none_some}
-use Rattle.radix_tree.proofs.PartRooms.{one_if_same, elsewhere, chain_frame, frame}
+use Rattle.radix_tree.proofs.Words.{◌≡◌, ℕ, ◌+◌, ◌≤◌, ◌==◌, Bool, true, false, if◌then◌else◌, List, [], ◌∷◌, Option, Some, None, refl, sym, ap, ◌∙◌}
+use Rattle.radix_tree.proofs.Words.{arith, eqb-true, eq-eqb, ne_eqb, Id, IsRoute, Placed, Tree, leaf, fork, bit_at, HaveBit, IsTree, Leaves, Bits}
+use Rattle.radix_tree.proofs.Words.{name_of, ChainStands, Stands, one_if, members_at, leaves_at, forks_at, IsPlace, AreOnce, leaf_above, bit_above}
+use Rattle.radix_tree.proofs.Words.{lift_leaf, lift_bit}
+use Rattle.radix_tree.proofs.{RoomReads.none_some, PartRooms.one_if_same, PartRooms.elsewhere, PartRooms.chain_frame, PartRooms.frame}
 
 not_same : (room : Id) (n many : ℕ) → 1 ≤ many → one_if (room.number == n) + many ≤ 1 → (n == room.number) ≡ false
 not_same room n many some few = ne_eqb n room.number (elsewhere room n many some few)
@@ -26,8 +25,7 @@ module _ {V : Type 0} where
           within = p.within;
           agree = λ c before. (bit_at c x.entry.key, refl, p.agree c before);
           zeros = clear;
-          ones =
-              p.far_one clear;
+          ones = p.far_one clear;
         },
         (omega arith, (route, refl, omega arith, tt)),
         p.is,
@@ -46,14 +44,12 @@ module _ {V : Type 0} where
   -- ---- the part beneath it
   -- it is the same with another bit node above
   pub lifted : (L M : Leaves V) (B C : Bits) (above new : Option Id) (t : Tree V) → ((n : ℕ) → 1 ≤ leaves_at n t → M n ≡ lift_leaf (name_of t) new n (L n))
-      → ((n : ℕ) → 1 ≤ forks_at n t → C n ≡ lift_bit (name_of t) new n (B n))
-      → AreOnce t → Stands L B above t → Stands M C new t
+      → ((n : ℕ) → 1 ≤ forks_at n t → C n ≡ lift_bit (name_of t) new n (B n)) → AreOnce t → Stands L B above t → Stands M C new t
   lifted L M B C above new (leaf x xs) leaves forks once stands =
       let own : one_if (x.room.number == x.room.number) ≡ 1 = one_if_same x.room.number in (
         leaves x.room.number (omega arith) ∙ ap (λ (t : Bool). if t then leaf_above new (L x.room.number) else L x.room.number)
             (eq-eqb x.room.number x.room.number refl) ∙ ap (leaf_above new) stands.0,
-        chain_frame L M None (Some x.room) xs
-            (λ n some. let few : one_if (x.room.number == n) + members_at n xs ≤ 1 = once.leaves n in
+        chain_frame L M None (Some x.room) xs (λ n some. let few : one_if (x.room.number == n) + members_at n xs ≤ 1 = once.leaves n in
             leaves n (omega arith) ∙ ap (λ (t : Bool). if t then leaf_above new (L n) else L n) (not_same x.room n (members_at n xs) some few))
             stands.1,
       )

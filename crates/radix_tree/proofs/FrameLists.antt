@@ -1,9 +1,8 @@
 -- The bit nodes above a part of a tree, and lists of masks that stay where the masks of their ranks do.
-use Rattle.std.proofs.Common.{◌≡◌, ℕ, ◌+◌, ◌≤◌, ◌==◌, List, [], ◌∷◌, Option, refl, inl, inr, sym, ap, ◌∙◌, subst, ⊎_elim, arith}
-use Rattle.radix_tree.proofs.Words.{Id, Placed, Tree, leaf, fork, bit_at, IsAmong, IsIn, IsTree, Heads, Masks, Part, Beneath, Way, one_if, forks_at, Frame}
-use Rattle.radix_tree.proofs.Words.{on_zero, on_one, plug, low_past, IsMaskList, MarkedIn, MarkedLists, Lodged}
-use Rattle.radix_tree.proofs.PartRooms.{one_if_same}
-use Rattle.radix_tree.proofs.PlugLists.{falls_between, masks_stand_same, marked_same}
+use Rattle.radix_tree.proofs.Words.{◌≡◌, ℕ, ◌+◌, ◌≤◌, ◌==◌, List, [], ◌∷◌, Option, refl, inl, inr, sym, ap, ◌∙◌, subst, arith, Id, Placed, Tree, leaf}
+use Rattle.radix_tree.proofs.Words.{fork, bit_at, IsAmong, IsIn, IsTree, Heads, Masks, Part, Beneath, Way, one_if, forks_at, Frame, on_zero, on_one, plug}
+use Rattle.radix_tree.proofs.Words.{low_past, IsMaskList, MarkedIn, MarkedLists, Lodged}
+use Rattle.radix_tree.proofs.{PartRooms.one_if_same, PlugLists.falls_between, PlugLists.masks_stand_same, PlugLists.marked_same}
 
 module _ {V : Type 0} where
   -- ---- the bit nodes above a part
@@ -16,18 +15,18 @@ module _ {V : Type 0} where
   beneath_framed m key at under over b f =
       let n = b.at in
       let low : at.low ≡ low_past (n.bit + 1) f.frames = f.lowest ∙ ap (λ (k : ℕ). low_past k f.frames) b.low in
-      ⊎_elim
-      (λ (e : (under.tree ≡ n.zero) × (bit_at n.bit key ≡ 0)). record {
-        frames = on_zero b.room n.bit n.one ∷ f.frames;
-        was = n.is ∙ ap (λ (t : Tree V). fork b.room n.bit t n.one) (sym e.0 ∙ f.was);
-        lowest = low;
-      })
-      (λ (e : (under.tree ≡ n.one) × (bit_at n.bit key ≡ 1)). record {
-        frames = on_one b.room n.bit n.zero ∷ f.frames;
-        was = n.is ∙ ap (λ (t : Tree V). fork b.room n.bit n.zero t) (sym e.0 ∙ f.was);
-        lowest = low;
-      })
-      b.side
+      elim b.side [
+        | inl e ↦ record {
+          frames = on_zero b.room n.bit n.one ∷ f.frames;
+          was = n.is ∙ ap (λ (t : Tree V). fork b.room n.bit t n.one) (sym e.0 ∙ f.was);
+          lowest = low;
+        }
+        | inr e ↦ record {
+          frames = on_one b.room n.bit n.zero ∷ f.frames;
+          was = n.is ∙ ap (λ (t : Tree V). fork b.room n.bit n.zero t) (sym e.0 ∙ f.was);
+          lowest = low;
+        }
+      ]
 
   up_framed : (m : Lodged V) (key : ℕ) (whole mid at : Part m) (ups : List (Part m)) → Way key whole mid ups → Framed mid at → Framed whole at
   up_framed m key whole mid at [] way f = subst (λ (p : Part m). Framed p at) way f

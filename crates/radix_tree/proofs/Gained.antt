@@ -3,18 +3,13 @@
 --     shown_same                     rooms that say the same of leaves and bit nodes show the same
 --     nobody, among_left, new_left   whose masks are not listed yet
 --     IsLost, lost                   what a route that goes leaves
-use Rattle.std.proofs.Common.{◌≡◌, ℕ, ◌+◌, ◌≤◌, ◌==◌, ◌&&◌, ◌||◌, Bool, true, false, not, if◌then◌else◌, List, [], Option, Some, None, is_some, refl, sym, ap}
-use Rattle.std.proofs.Common.{◌∙◌, subst, inl, arith}
-use Rattle.std.proofs.lemmas.Bool.{eqb-true, eq-eqb, ne_eqb}
-use Rattle.radix_tree.proofs.Words.{get, Seen, Id, Leaf, Node, LeafOf, IsRoute, without, leaf, LeafPart, Part, leaf_in, bit_in, mask_in, leaves_in, leaf_part}
-use Rattle.radix_tree.proofs.Words.{first_room, LedTo, Gains, placed, IsWholeBut, has_key, is_of_key, nobody_late, nobody_out, late_at, lodge_leaf, KeepsLeaves}
-use Rattle.radix_tree.proofs.Words.{KeepsBits, KeepsMasks, one_if, beneath_shown, shown, shown_entry, IsWhole, Holds, Entry, Lodged}
-use Rattle.radix_tree.proofs.RoomReads.{none_some}
-use Rattle.radix_tree.proofs.Parts.{leaf_run}
-use Rattle.radix_tree.proofs.Showing.{shown_is}
-use Rattle.radix_tree.proofs.WholeParts.{but_whole, later_than}
-use Rattle.radix_tree.proofs.WholeRoutes.{loses_entry}
-use Rattle.radix_tree.proofs.Kept.{IsFound, shown_table}
+use Rattle.radix_tree.proofs.Words.{◌≡◌, ℕ, ◌+◌, ◌≤◌, ◌==◌, ◌&&◌, ◌||◌, Bool, true, false, not, if◌then◌else◌, List, [], Option, Some, None, is_some}
+use Rattle.radix_tree.proofs.Words.{refl, sym, ap, ◌∙◌, subst, inl, arith, eqb-true, eq-eqb, ne_eqb, get, Seen, Id, Leaf, Node, LeafOf, IsRoute, without}
+use Rattle.radix_tree.proofs.Words.{leaf, LeafPart, Part, leaf_in, bit_in, mask_in, leaves_in, leaf_part, first_room, LedTo, Gains, placed, IsWholeBut}
+use Rattle.radix_tree.proofs.Words.{has_key, is_of_key, nobody_late, nobody_out, late_at, lodge_leaf, KeepsLeaves, KeepsBits, KeepsMasks, one_if}
+use Rattle.radix_tree.proofs.Words.{beneath_shown, shown, shown_entry, IsWhole, Holds, Entry, Lodged}
+use Rattle.radix_tree.proofs.{RoomReads.none_some, Parts.leaf_run, Showing.shown_is, WholeParts.but_whole, WholeParts.later_than, WholeRoutes.loses_entry}
+use Rattle.radix_tree.proofs.{Kept.IsFound, Kept.shown_table}
 
 true_false : true ≡ false → ⊥
 true_false e = cc
@@ -58,13 +53,7 @@ module _ {V : Type 0} where
       let most : e.rank ≤ 33 = route.rank in
       let gone = λ (n : ℕ). no_room m n (get m n) refl (none n) in
       let w : IsWhole new (LeafOf id) = record {
-        part = record {
-          tree = leaf (placed id e) [];
-          low = 0;
-          above = None;
-          is = (omega arith, (route, refl, omega arith, tt));
-          stands = (at, tt);
-        };
+        part = record { tree = leaf (placed id e) []; low = 0; above = None; is = (omega arith, (route, refl, omega arith, tt)); stands = (at, tt) };
         low = refl;
         top = refl;
         named = refl;

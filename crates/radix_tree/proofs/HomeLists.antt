@@ -1,21 +1,16 @@
 -- The home of a mask, and what a change of the list there leaves as it was.
-use Rattle.std.proofs.Common.{◌≡◌, ℕ, ◌+◌, ◌<◌, ◌≤◌, ◌==◌, ◌⊎◌, Bool, true, false, ◌||◌, List, [], ◌∷◌, Option, Some, None, refl, inl, inr, sym, ap, ◌∙◌, subst}
-use Rattle.std.proofs.Common.{⊎_elim, arith}
-use Rattle.std.proofs.lemmas.Bool.{eqb-true, cases_lt}
 use Rattle.mask_table.proofs.Agreeing.{front_of_bits}
-use Rattle.radix_tree.proofs.Words.{is_some, Ptr, front, Seen, Has, leaf_of, Id, Node, IsRoute, Placed, Tree, leaf, fork, IsAmong, IsIn, IsChain, IsTree}
-use Rattle.radix_tree.proofs.Words.{LeafPart, MaskPart, Leaves, Heads, Masks, Part, leaves_in, bits_in, heads_in, masks_in, leaf_in, leaf_part, Way, one_if}
-use Rattle.radix_tree.proofs.Words.{members_at, leaves_at, forks_at, HasHome, KeepsLeaves, KeepsBits, AreOnce, plug, low_past, IsMarked, IsMaskList, MarkedIn}
-use Rattle.radix_tree.proofs.Words.{MarkedLists, IsWholeBut, nobody_out, HomeAt, Entry, Lodged}
 use Rattle.radix_tree.specs.Tree.{bit_at}
-use Rattle.radix_tree.proofs.RoomReads.{inside}
-use Rattle.radix_tree.proofs.AddressBits.{zero_not_one, clear_bit}
-use Rattle.radix_tree.proofs.TreeMembers.{IsSaid, chain_below, tree_route, bit_beneath, tree_said}
-use Rattle.radix_tree.proofs.Parts.{fork_is, way_inside}
-use Rattle.radix_tree.proofs.PartRooms.{one_if_same, elsewhere, frame, way_once}
-use Rattle.radix_tree.proofs.Plugs.{aside_in, aside_at, counted_leaf, spare_same}
-use Rattle.radix_tree.proofs.PlugLists.{KeepsAbove, plug_lists, lists_at, marked_same}
-use Rattle.radix_tree.proofs.FrameLists.{way_framed, lists_stay}
+use Rattle.radix_tree.proofs.Words.{◌≡◌, ℕ, ◌+◌, ◌<◌, ◌≤◌, ◌==◌, ◌⊎◌, Bool, true, false, ◌||◌, List, [], ◌∷◌, Option, Some, None, refl, inl, inr, sym, ap}
+use Rattle.radix_tree.proofs.Words.{◌∙◌, subst, arith, eqb-true, cases_lt, is_some, Ptr, front, Seen, Has, leaf_of, Id, Node, IsRoute, Placed, Tree, leaf}
+use Rattle.radix_tree.proofs.Words.{fork, IsAmong, IsIn, IsChain, IsTree, LeafPart, MaskPart, Leaves, Heads, Masks, Part, leaves_in, bits_in, heads_in}
+use Rattle.radix_tree.proofs.Words.{masks_in, leaf_in, leaf_part, Way, one_if, members_at, leaves_at, forks_at, HasHome, KeepsLeaves, KeepsBits, AreOnce}
+use Rattle.radix_tree.proofs.Words.{plug, low_past, IsMarked, IsMaskList, MarkedIn, MarkedLists, IsWholeBut, nobody_out, HomeAt, Entry, Lodged}
+use Rattle.radix_tree.proofs.{RoomReads.inside, AddressBits.zero_not_one, AddressBits.clear_bit, TreeMembers.IsSaid, TreeMembers.chain_below}
+use Rattle.radix_tree.proofs.{TreeMembers.tree_route, TreeMembers.bit_beneath, TreeMembers.tree_said, Parts.fork_is, Parts.way_inside}
+use Rattle.radix_tree.proofs.{PartRooms.one_if_same, PartRooms.elsewhere, PartRooms.frame, PartRooms.way_once, Plugs.aside_in, Plugs.aside_at}
+use Rattle.radix_tree.proofs.{Plugs.counted_leaf, Plugs.spare_same, PlugLists.KeepsAbove, PlugLists.plug_lists, PlugLists.lists_at, PlugLists.marked_same}
+use Rattle.radix_tree.proofs.{FrameLists.way_framed, FrameLists.lists_stay}
 
 pub true_false : true ≡ false → ⊥
 true_false e = cc
@@ -46,8 +41,7 @@ module _ {V : Type 0} where
       ap (λ (n : ℕ). told n (leaf_part x sx.0 sx.1 sx.2)) same ∙ ap (λ (p : LeafPart V). told y.room.number p) parts
 
   pub one_room : (m : Lodged V) (p : Part m) (x y : Placed V) → IsIn x p.tree → IsIn y p.tree → x.room.number ≡ y.room.number → x ≡ y
-  one_room m p x y in_x in_y same =
-      one_said (leaves_in m) x y (tree_said (leaves_in m) (bits_in m) p.above p.tree p.stands x in_x)
+  one_room m p x y in_x in_y same = one_said (leaves_in m) x y (tree_said (leaves_in m) (bits_in m) p.above p.tree p.stands x in_x)
       (tree_said (leaves_in m) (bits_in m) p.above p.tree p.stands y in_y) same
 
   -- the route in a room
@@ -61,33 +55,42 @@ module _ {V : Type 0} where
 
   pub route_at : (n : ℕ) (t : Tree V) → 1 ≤ leaves_at n t → (y : Placed V) × IsIn y t × (y.room.number ≡ n)
   route_at n (leaf x xs) some = member_at n (x ∷ xs) some
-  route_at n (fork room b zero one) some = ⊎_elim
-      (λ (none : leaves_at n zero < 1). let y = route_at n one (omega arith) in (y.0, inr y.1, y.2))
-      (λ (here : 1 ≤ leaves_at n zero). let y = route_at n zero here in (y.0, inl y.1, y.2)) (cases_lt (leaves_at n zero) 1)
+  route_at n (fork room b zero one) some = elim (cases_lt (leaves_at n zero) 1) [
+    | inl none ↦ let y = route_at n one (omega arith) in (y.0, inr y.1, y.2)
+    | inr here ↦ let y = route_at n zero here in (y.0, inl y.1, y.2)
+  ]
 
   -- ---- one pair, one route
   chain_one : (key top : ℕ) (c : List (Placed V)) → IsChain key top c → (x y : Placed V) → IsAmong x c → IsAmong y c → x.entry.rank ≡ y.entry.rank → x ≡ y
   chain_one key top [] is x y in_x in_y same = absurd in_x
-  chain_one key top (z ∷ c) is x y in_x in_y same = ⊎_elim
-      (λ (e : z ≡ x). ⊎_elim (λ (f : z ≡ y). sym e ∙ f)
-      (λ (behind : IsAmong y c). let first : z.entry.rank ≡ x.entry.rank = ap (λ (p : Placed V). p.entry.rank) e in let lower : y.entry.rank < z.entry.rank =
-      chain_below key z.entry.rank c is.3 y behind in absurd (omega arith)) in_y)
-      (λ (behind : IsAmong x c). ⊎_elim
-      (λ (f : z ≡ y). let first : z.entry.rank ≡ y.entry.rank = ap (λ (p : Placed V). p.entry.rank) f in let lower : x.entry.rank < z.entry.rank =
-      chain_below key z.entry.rank c is.3 x behind in absurd (omega arith))
-      (λ (other : IsAmong y c). chain_one key z.entry.rank c is.3 x y behind other same) in_y) in_x
+  chain_one key top (z ∷ c) is x y in_x in_y same = elim in_x [
+    | inl e ↦ elim in_y [
+      | inl f ↦ sym e ∙ f
+      | inr behind ↦ let first : z.entry.rank ≡ x.entry.rank = ap (λ (p : Placed V). p.entry.rank) e in let lower : y.entry.rank < z.entry.rank =
+          chain_below key z.entry.rank c is.3 y behind in absurd (omega arith)
+    ]
+    | inr behind ↦ elim in_y [
+      | inl f ↦ let first : z.entry.rank ≡ y.entry.rank = ap (λ (p : Placed V). p.entry.rank) f in let lower : x.entry.rank < z.entry.rank =
+          chain_below key z.entry.rank c is.3 x behind in absurd (omega arith)
+      | inr other ↦ chain_one key z.entry.rank c is.3 x y behind other same
+    ]
+  ]
 
   pub one_pair : (low : ℕ) (t : Tree V) → IsTree low t → (x y : Placed V) → IsIn x t → IsIn y t → x.entry.key ≡ y.entry.key → x.entry.rank ≡ y.entry.rank
       → x ≡ y
   one_pair low (leaf z zs) is x y in_x in_y key rank = chain_one z.entry.key 34 (z ∷ zs) is.1 x y in_x in_y rank
-  one_pair low (fork room b zero one) is x y in_x in_y key rank = ⊎_elim
-      (λ (x0 : IsIn x zero). ⊎_elim (λ (y0 : IsIn y zero). one_pair (b + 1) zero is.1 x y x0 y0 key rank)
-      (λ (y1 : IsIn y one). absurd (zero_not_one (sym (ap (bit_at b) key) ∙ bit_beneath (b + 1) b 0 zero is.1 is.0.zeros x x0)
-      (bit_beneath (b + 1) b 1 one is.2 is.0.ones y y1))) in_y)
-      (λ (x1 : IsIn x one). ⊎_elim
-      (λ (y0 : IsIn y zero). absurd (zero_not_one (ap (bit_at b) key ∙ bit_beneath (b + 1) b 0 zero is.1 is.0.zeros y y0)
-      (bit_beneath (b + 1) b 1 one is.2 is.0.ones x x1)))
-      (λ (y1 : IsIn y one). one_pair (b + 1) one is.2 x y x1 y1 key rank) in_y) in_x
+  one_pair low (fork room b zero one) is x y in_x in_y key rank = elim in_x [
+    | inl x0 ↦ elim in_y [
+      | inl y0 ↦ one_pair (b + 1) zero is.1 x y x0 y0 key rank
+      | inr y1 ↦ absurd (zero_not_one (sym (ap (bit_at b) key) ∙ bit_beneath (b + 1) b 0 zero is.1 is.0.zeros x x0)
+          (bit_beneath (b + 1) b 1 one is.2 is.0.ones y y1))
+    ]
+    | inr x1 ↦ elim in_y [
+      | inl y0 ↦ absurd (zero_not_one (ap (bit_at b) key ∙ bit_beneath (b + 1) b 0 zero is.1 is.0.zeros y y0)
+          (bit_beneath (b + 1) b 1 one is.2 is.0.ones x x1))
+      | inr y1 ↦ one_pair (b + 1) one is.2 x y x1 y1 key rank
+    ]
+  ]
 
   -- equal bits, equal keys
   same_keys : (x y : Entry V) → IsRoute x → IsRoute y → ((c : ℕ) → c ≤ 31 → bit_at c x.key ≡ bit_at c y.key) → x.key ≡ y.key
@@ -103,16 +106,12 @@ module _ {V : Type 0} where
       let within : b ≤ 31 = is.0.within in
       let rx = tree_route low (fork room b zero one) is x in_x in
       let ry = tree_route low (fork room b zero one) is y in_y in
-      one_pair low (fork room b zero one) is x y in_x in_y
-      (same_keys x.entry y.entry rx ry
-      (λ c fits. ⊎_elim
-      (λ (before : c < x.entry.rank).
-      let lt : c < b = omega arith in
-      let a = is.0.agree c lt in bit_beneath low c a.0 (fork room b zero one) is (a.1, a.2) x in_x
-      ∙ sym (bit_beneath low c a.0 (fork room b zero one) is (a.1, a.2) y in_y))
-      (λ (past : x.entry.rank ≤ c). let further : y.entry.rank ≤ c = omega arith in clear_bit c rx past fits ∙ sym (clear_bit c ry further fits))
-      (cases_lt c x.entry.rank)))
-      same
+      one_pair low (fork room b zero one) is x y in_x in_y (same_keys x.entry y.entry rx ry (λ c fits. elim (cases_lt c x.entry.rank) [
+        | inl before ↦ let lt : c < b = omega arith in
+            let a = is.0.agree c lt in bit_beneath low c a.0 (fork room b zero one) is (a.1, a.2) x in_x
+            ∙ sym (bit_beneath low c a.0 (fork room b zero one) is (a.1, a.2) y in_y)
+        | inr past ↦ let further : y.entry.rank ≤ c = omega arith in clear_bit c rx past fits ∙ sym (clear_bit c ry further fits)
+      ])) same
 
   -- ---- the home of a mask
   way_home : (m : Lodged V) (key rank : ℕ) (whole at : Part m) (ups : List (Part m)) → Way key whole at ups → HasHome key rank at.tree
@@ -121,9 +120,10 @@ module _ {V : Type 0} where
   way_home m key rank whole at (p ∷ ps) way home =
       let b = way.0 in
       let f = b.at in
-      way_home m key rank whole p ps way.1 (subst (HasHome key rank) (sym f.is) (⊎_elim
-      (λ (e : (at.tree ≡ f.zero) × (bit_at f.bit key ≡ 0)). inr (inl (e.1, subst (HasHome key rank) e.0 home)))
-      (λ (e : (at.tree ≡ f.one) × (bit_at f.bit key ≡ 1)). inr (inr (e.1, subst (HasHome key rank) e.0 home))) b.side))
+      way_home m key rank whole p ps way.1 (subst (HasHome key rank) (sym f.is) (elim b.side [
+        | inl e ↦ inr (inl (e.1, subst (HasHome key rank) e.0 home))
+        | inr e ↦ inr (inr (e.1, subst (HasHome key rank) e.0 home))
+      ]))
 
   pub home_has : (m : Lodged V) {key rank : ℕ} (whole : Part m) {room : Id} → HomeAt m key rank whole room → HasHome key rank whole.tree
   home_has m {key = key} {rank = rank} whole h = way_home m key rank whole h.part h.ups h.way (subst (HasHome key rank) (sym h.at.is) (inl h.within))

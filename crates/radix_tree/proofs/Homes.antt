@@ -1,8 +1,8 @@
 -- A walk up from a leaf to the bit node at which a mask is listed.
-use Rattle.std.proofs.Common.{◌≡◌, ℕ, ◌+◌, ◌<◌, ◌≤◌, ◌⊎◌, List, [], ◌∷◌, Option, Some, None, refl, sym, ◌∙◌, subst, ⊎_elim, arith}
-use Rattle.radix_tree.proofs.Words.{Counter, Id, BitNode, IsHome, IsBitNodeOf, ReadsOnce, Part, ForkAt, Way, LedTo, Tree, bit_at, HasHome, Lodged}
-use Rattle.radix_tree.proofs.Climbs.{Climb, Over, fork_over, node_at, ended, Steps, step_begun, step_risen}
-use Rattle.radix_tree.proofs.Parts.{fork_is}
+use Rattle.radix_tree.proofs.Words.{◌≡◌, ℕ, ◌+◌, ◌<◌, ◌≤◌, ◌⊎◌, List, [], ◌∷◌, Option, Some, None, refl, sym, ◌∙◌, subst, arith, inl, inr, Counter, Id}
+use Rattle.radix_tree.proofs.Words.{BitNode, IsHome, IsBitNodeOf, ReadsOnce, Part, ForkAt, Way, LedTo, Tree, bit_at, HasHome, Lodged}
+use Rattle.radix_tree.proofs.{Climbs.Climb, Climbs.Over, Climbs.fork_over, Climbs.node_at, Climbs.ended, Climbs.Steps, Climbs.step_begun}
+use Rattle.radix_tree.proofs.{Climbs.step_risen, Parts.fork_is}
 
 module _ {V : Type 0} {m : Lodged V} where
   -- past bit nodes whose bits are all at or past the rank, of which the last one is told
@@ -35,17 +35,19 @@ module _ {V : Type 0} {m : Lodged V} where
       let f = b.at in
       let low_is : under.low ≡ f.bit + 1 = b.low in
       let rises : p.low ≤ f.bit = (fork_is m f).0.rises in
-      let none_here : HasHome key rank p.tree → ⊥ = λ here.
-      ⊎_elim (λ (within : rank ≤ f.bit). omega arith)
-      (λ (beneath : ((bit_at f.bit key ≡ 0) × HasHome key rank f.zero) ⊎ ((bit_at f.bit key ≡ 1) × HasHome key rank f.one)).
-      ⊎_elim (λ (z : (bit_at f.bit key ≡ 0) × HasHome key rank f.zero).
-      ⊎_elim (λ (s : (under.tree ≡ f.zero) × (bit_at f.bit key ≡ 0)). none (subst (λ (t : Tree V). HasHome key rank t) (sym s.0) z.1))
-      (λ (s : (under.tree ≡ f.one) × (bit_at f.bit key ≡ 1)). let never : 0 ≡ 1 = sym z.0 ∙ s.1 in omega arith) b.side)
-      (λ (o : (bit_at f.bit key ≡ 1) × HasHome key rank f.one).
-      ⊎_elim (λ (s : (under.tree ≡ f.zero) × (bit_at f.bit key ≡ 0)). let never : 0 ≡ 1 = sym s.1 ∙ o.0 in omega arith)
-      (λ (s : (under.tree ≡ f.one) × (bit_at f.bit key ≡ 1)). none (subst (λ (t : Tree V). HasHome key rank t) (sym s.0) o.1)) b.side)
-      beneath)
-      (subst (λ (t : Tree V). HasHome key rank t) f.is here) in
+      let none_here : HasHome key rank p.tree → ⊥ = λ here. elim (subst (λ (t : Tree V). HasHome key rank t) f.is here) [
+        | inl within ↦ omega arith
+        | inr beneath ↦ elim beneath [
+          | inl z ↦ elim b.side [
+            | inl s ↦ none (subst (λ (t : Tree V). HasHome key rank t) (sym s.0) z.1)
+            | inr s ↦ let never : 0 ≡ 1 = sym z.0 ∙ s.1 in omega arith
+          ]
+          | inr o ↦ elim b.side [
+            | inl s ↦ let never : 0 ≡ 1 = sym s.1 ∙ o.0 in omega arith
+            | inr s ↦ none (subst (λ (t : Tree V). HasHome key rank t) (sym s.0) o.1)
+          ]
+        ]
+      ] in
       let higher : p.low ≤ rank = omega arith in
       no_home key rank whole p ps way.1 higher none_here home
 

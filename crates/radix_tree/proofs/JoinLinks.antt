@@ -1,13 +1,10 @@
 -- A node comes into the place of the bit node above it, which is none from then on: what the rooms say.
-use Rattle.std.proofs.Common.{◌≡◌, ◌+◌, ◌≤◌, ◌==◌, Bool, true, false, if◌then◌else◌, List, [], ◌∷◌, Option, Some, None, refl, sym, ap, ◌∙◌, arith, ℕ}
-use Rattle.std.proofs.lemmas.Bool.{eq-eqb, ne_eqb}
-use Rattle.radix_tree.proofs.Words.{is_some, Has, Id, Node, LeafOf, BitOf, Tree, LeafPart, BitPart, Part, bit_part, leaf_in, leaves_in, bits_in, name_of, Way}
-use Rattle.radix_tree.proofs.Words.{one_if, forks_at, name_child, with_child, AreOnce, IsApart, IsLone, content_of, put_bit, put_head, leaf_above, bit_above}
-use Rattle.radix_tree.proofs.Words.{lift_leaf, lift_bit, Lodged}
-use Rattle.radix_tree.proofs.RoomReads.{inside, none_some, Has-leaf}
-use Rattle.radix_tree.proofs.PartRooms.{elsewhere, way_once, spine_out}
-use Rattle.radix_tree.proofs.Lodging.{stays}
-use Rattle.radix_tree.proofs.JoinSides.{side_is, side_stands, side_forks}
+use Rattle.radix_tree.proofs.Words.{◌≡◌, ◌+◌, ◌≤◌, ◌==◌, Bool, true, false, if◌then◌else◌, List, [], ◌∷◌, Option, Some, None, refl, sym, ap, ◌∙◌, arith}
+use Rattle.radix_tree.proofs.Words.{ℕ, eq-eqb, ne_eqb, is_some, Has, Id, Node, LeafOf, BitOf, Tree, LeafPart, BitPart, Part, bit_part, leaf_in, leaves_in}
+use Rattle.radix_tree.proofs.Words.{bits_in, name_of, Way, one_if, forks_at, name_child, with_child, AreOnce, IsApart, IsLone, content_of, put_bit}
+use Rattle.radix_tree.proofs.Words.{put_head, leaf_above, bit_above, lift_leaf, lift_bit, Lodged}
+use Rattle.radix_tree.proofs.{RoomReads.inside, RoomReads.none_some, RoomReads.Has-leaf, PartRooms.elsewhere, PartRooms.way_once, PartRooms.spine_out}
+use Rattle.radix_tree.proofs.{Lodging.stays, JoinSides.side_is, JoinSides.side_stands, JoinSides.side_forks}
 
 -- ---- a room that is not written
 pub put_off : (room : Id) (n : ℕ) (said : Option BitPart) → (n ≡ room.number → ⊥) → put_bit room None n said ≡ said
@@ -76,8 +73,7 @@ module _ {V : Type 0} where
 
   -- ---- a room that is there
   pub Has-kept : {m : Lodged V} (new : Lodged V) {room : Id} → Has m room → leaves_in new room.number ≡ leaves_in m room.number → Has new room
-  Has-kept new {room = room} h same =
-      Has-leaf new room (same ∙ ap leaf_in h.at) h.block
+  Has-kept new {room = room} h same = Has-leaf new room (same ∙ ap leaf_in h.at) h.block
 
   -- ---- the node beneath stays as it is while the bit nodes above it are written
   pub quiet : {t : Tree V} (up : Id) {above : Option Id} (key : ℕ) (to : Node) (n : ℕ) (said : Option BitPart) → IsApart t up above → 1 ≤ forks_at n t
@@ -86,8 +82,7 @@ module _ {V : Type 0} where
       put_off up n (name_child above key to n said) (apart.up_is n some) ∙ turn_off above key n to said (λ over is. apart.above_is over is n some)
 
   pub below_stays : (m with_child put : Lodged V) (p : Part m) (up : Id) {above : Option Id} (key : ℕ) (to : Node) → name_of p.tree ≡ to
-      → IsApart p.tree up above
-      → ((n : ℕ) → leaves_in with_child n ≡ leaves_in m n) → ((n : ℕ) → leaves_in put n ≡ leaves_in with_child n)
+      → IsApart p.tree up above → ((n : ℕ) → leaves_in with_child n ≡ leaves_in m n) → ((n : ℕ) → leaves_in put n ≡ leaves_in with_child n)
       → ((n : ℕ) → bits_in with_child n ≡ name_child above key to n (bits_in m n)) → ((n : ℕ) → bits_in put n ≡ put_bit up None n (bits_in with_child n))
       → (q : Part put) × (name_of q.tree ≡ to)
   below_stays m with_child put p up key to named apart leaves1 leaves2 bits1 bits2 = (
@@ -98,8 +93,7 @@ module _ {V : Type 0} where
 
   -- ---- the other side of the bit node above a lone leaf
   out_of_above : (m : Lodged V) (key : ℕ) (whole at : Part m) (ups : List (Part m)) (over : Id) → Way key whole at ups → whole.above ≡ None
-      → AreOnce whole.tree → at.above ≡ Some over
-      → (n : ℕ) → 1 ≤ forks_at n at.tree → n ≡ over.number → ⊥
+      → AreOnce whole.tree → at.above ≡ Some over → (n : ℕ) → 1 ≤ forks_at n at.tree → n ≡ over.number → ⊥
   out_of_above m key whole at [] over way top once is n some same = none_some (sym top ∙ sym (ap (λ (p : Part m). p.above) way) ∙ is)
   out_of_above m key whole at (p ∷ ps) over way top once is n some same =
       let b = way.0 in

@@ -1,16 +1,12 @@
 -- The list of masks of a bit node that goes is handed on to the node that takes its place.
-use Rattle.std.proofs.Common.{◌≡◌, ◌+◌, ◌<◌, ◌≤◌, ◌⊎◌, ◌==◌, false, List, [], ◌∷◌, ◌++◌, Option, Some, None, inl, inr, refl, sym, ap, ◌∙◌, subst, arith, ℕ}
-use Rattle.std.proofs.Common.{⊎_elim}
-use Rattle.std.proofs.lemmas.Bool.{cases_lt, cases_eq}
-use Rattle.radix_tree.proofs.Words.{is_some, Id, LeafOf, BitOf, Placed, Tree, leaf, fork, IsAmong, IsIn, IsTree, LeafPart, MaskPart, Heads, Masks, Part}
-use Rattle.radix_tree.proofs.Words.{leaves_in, bits_in, heads_in, masks_in, name_of, Falls, one_if, forks_at, HasHome, AreOnce, HasSides, IsLone, IsHanded}
-use Rattle.radix_tree.proofs.Words.{IsMarked, IsMaskList, MarkedIn, MarkedLists, IsMasks, IsBitNode, IsAside, Lodged}
-use Rattle.radix_tree.proofs.RoomReads.{inside, none_some}
-use Rattle.radix_tree.proofs.PartRooms.{one_if_same, way_once}
-use Rattle.radix_tree.proofs.PlugLists.{masks_stand_same}
-use Rattle.radix_tree.proofs.WholeParts.{some_of}
+use Rattle.radix_tree.proofs.Words.{◌≡◌, ◌+◌, ◌<◌, ◌≤◌, ◌⊎◌, ◌==◌, false, List, [], ◌∷◌, ◌++◌, Option, Some, None, inl, inr, refl, sym, ap, ◌∙◌, subst}
+use Rattle.radix_tree.proofs.Words.{arith, ℕ, cases_lt, cases_eq, is_some, Id, LeafOf, BitOf, Placed, Tree, leaf, fork, IsAmong, IsIn, IsTree, LeafPart}
+use Rattle.radix_tree.proofs.Words.{MaskPart, Heads, Masks, Part, leaves_in, bits_in, heads_in, masks_in, name_of, Falls, one_if, forks_at, HasHome}
+use Rattle.radix_tree.proofs.Words.{AreOnce, HasSides, IsLone, IsHanded, IsMarked, IsMaskList, MarkedIn, MarkedLists, IsMasks, IsBitNode, IsAside, Lodged}
 use Rattle.radix_tree.proofs.MaskLists.{falls_wider, falls_among, falls_appended, among_appended, in_front, in_back, ranked_in, masks_listed}
 use Rattle.radix_tree.proofs.JoinSides.{true_not_false, side_is, side_stands, side_forks, side_in, in_side, side_list, side_lists, side_home}
+use Rattle.radix_tree.proofs.{RoomReads.inside, RoomReads.none_some, PartRooms.one_if_same, PartRooms.way_once, PlugLists.masks_stand_same}
+use Rattle.radix_tree.proofs.{WholeParts.some_of}
 
 unmarked_marked : {A : Type 0} (K : Masks) (x y : Placed A) → K x.room.number ≡ None → x ≡ y → IsMarked K y → ⊥
 unmarked_marked {A = A} K x y none same marked =
@@ -21,14 +17,16 @@ module _ {V : Type 0} where
   -- one of the members is in a room, or none
   member_or_aside : (n : ℕ) (ms : List (Placed V)) → ((y : Placed V) × IsAmong y ms × (y.room.number ≡ n)) ⊎ IsAside n ms
   member_or_aside n [] = inr (λ y among same. among)
-  member_or_aside n (x ∷ ms) =
-      ⊎_elim (λ (here : x.room.number ≡ n). inl (x, inl refl, here))
-      (λ (other : x.room.number ≡ n → ⊥).
-      ⊎_elim (λ (found : (y : Placed V) × IsAmong y ms × (y.room.number ≡ n)). inl (found.0, inr found.1, found.2))
-      (λ (aside : IsAside n ms). inr (λ y among same. ⊎_elim (λ (e : x ≡ y). other (ap (λ (p : Placed V). p.room.number) e ∙ same))
-      (λ (behind : IsAmong y ms). aside y behind same) among))
-      (member_or_aside n ms))
-      (cases_eq x.room.number n)
+  member_or_aside n (x ∷ ms) = elim (cases_eq x.room.number n) [
+    | inl here ↦ inl (x, inl refl, here)
+    | inr other ↦ elim (member_or_aside n ms) [
+      | inl found ↦ inl (found.0, inr found.1, found.2)
+      | inr aside ↦ inr (λ y among same. elim among [
+        | inl e ↦ other (ap (λ (p : Placed V). p.room.number) e ∙ same)
+        | inr behind ↦ aside y behind same
+      ])
+    ]
+  ]
 
   -- the routes of a part tell their ranks by their rooms
   pub same_rank_at : (m : Lodged V) (p : Part m) (x y : Placed V) → IsIn x p.tree → IsIn y p.tree → x.room.number ≡ y.room.number → x.entry.rank ≡ y.entry.rank
@@ -120,8 +118,7 @@ module _ {V : Type 0} where
   Ready m room first = (ms : List (Placed V)) × (ts : List (Placed V)) × IsMasks m (heads_in m room.number) ms × IsMasks m first ts × Falls 0 34 (ms ++ ts)
 
   pub append_ready : {m : Lodged V} {whole : Part m} (at up room : Id) {first : Option Id} (l : IsLone m whole at up) → name_of l.other ≡ BitOf room
-      → heads_in m up.number ≡ first
-      → MarkedLists (heads_in m) (masks_in m) l.over.low l.over.tree → Ready m room first
+      → heads_in m up.number ≡ first → MarkedLists (heads_in m) (masks_in m) l.over.low l.over.tree → Ready m room first
   append_ready {m = m} at up room l named head lists =
       let f = fork_of l.other named in
       let s = subst (λ (t : Tree V). HasSides l.route.entry.key l.over.tree up l.bit (leaf l.route []) t) f.is l.sides in
@@ -154,8 +151,7 @@ module _ {V : Type 0} where
   rank_stays : (m new : Lodged V) (over : Part m) {up room : Id} (b c : ℕ) {first : Option Id} {t : Tree V} → (w : AreTwo m over up room b c t)
       → IsAppended m new room first → ((y : Placed V) → IsIn y t → IsIn y over.tree)
       → (y : Placed V) → IsIn y over.tree → c + 1 ≤ y.entry.rank → masks_in new y.room.number ≡ masks_in m y.room.number
-  rank_stays m new over b c w a inside_over y at past =
-      a.masks w.own.masks w.own_is y.room.number (λ z among same.
+  rank_stays m new over b c w a inside_over y at past = a.masks w.own.masks w.own_is y.room.number (λ z among same.
       let rank : z.entry.rank ≡ y.entry.rank = same_rank_at m over z y (inside_over z (w.own.within z among).0) at same in
       let most : z.entry.rank < c + 1 = (falls_among (b + 1) (c + 1) w.own.masks w.own.falls z among).1 in absurd (omega arith))
 
@@ -187,11 +183,10 @@ module _ {V : Type 0} where
         masks = λ n aside. a.masks w.own.masks w.own_is n (λ z among same. aside z (beneath z (w.own.within z among).0)
             (let least : b + 1 ≤ z.entry.rank = (falls_among (b + 1) (c + 1) w.own.masks w.own.falls z among).0 in omega arith) same);
         marks = λ n p said. some_of (masks_in m n) (sym (a.marks n) ∙ ap (λ (o : Option MaskPart). is_some o) said);
-        kept = λ y at marked home. ⊎_elim (λ (le : y.entry.rank ≤ b). inr (inl (omega arith)))
-            (λ (deep : HasHome y.entry.key y.entry.rank (leaf x []) ⊎ HasHome y.entry.key y.entry.rank (fork room c zero one)).
-            ⊎_elim (λ (no : HasHome y.entry.key y.entry.rank (leaf x [])). absurd no)
-            (λ (yes : HasHome y.entry.key y.entry.rank (fork room c zero one)). inr yes) deep)
-            (side_home b y.entry.key y.entry.rank s home);
+        kept = λ y at marked home. elim (side_home b y.entry.key y.entry.rank s home) [
+          | inl le ↦ inr (inl (omega arith))
+          | inr deep ↦ elim deep [ inl none ↦ absurd none | inr there ↦ inr there ]
+        ];
         all = λ y at home marked. marked_now y marked;
         lists = (
           record {
@@ -199,30 +194,26 @@ module _ {V : Type 0} where
             begins = now.begins;
             stands = now.stands;
             falls = w.falls;
-            has = λ y member least most. ⊎_elim
-                (λ (short : y.entry.rank < b + 1). in_back w.own.masks w.gone.masks y
-                (w.gone.has y (beneath y member.0, marked_then y member.1) least (omega arith)))
-                (λ (long : b + 1 ≤ y.entry.rank). in_front w.own.masks w.gone.masks y (w.own.has y (member.0, marked_then y member.1) long most))
-                (cases_lt y.entry.rank (b + 1));
-            within = λ y among. ⊎_elim
-                (λ (own_one : IsAmong y w.own.masks). let member = w.own.within y own_one in (member.0, marked_now y member.1))
-                (λ (gone_one : IsAmong y w.gone.masks). let member = w.gone.within y gone_one in (
-                  ⊎_elim
-                      (λ (lone : IsIn y (leaf x [])). ⊎_elim (λ (e : x ≡ y). absurd (unmarked_marked (masks_in m) x y unmarked e member.1))
-                      (λ (no : ⊥). absurd no) lone)
-                      (λ (there : IsIn y (fork room c zero one)). there)
-                      (side_in y s member.0),
-                  marked_now y member.1,
-                ))
-                (among_appended w.own.masks w.gone.masks y among);
+            has = λ y member least most. elim (cases_lt y.entry.rank (b + 1)) [
+              | inl short ↦ in_back w.own.masks w.gone.masks y (w.gone.has y (beneath y member.0, marked_then y member.1) least (omega arith))
+              | inr long ↦ in_front w.own.masks w.gone.masks y (w.own.has y (member.0, marked_then y member.1) long most)
+            ];
+            within = λ y among. elim (among_appended w.own.masks w.gone.masks y among) [
+              | inl own_one ↦ let member = w.own.within y own_one in (member.0, marked_now y member.1)
+              | inr gone_one ↦ let member = w.gone.within y gone_one in (
+                elim (side_in y s member.0) [
+                  | inl lone ↦ elim lone [ inl e ↦ absurd (unmarked_marked (masks_in m) x y unmarked e member.1) | inr none ↦ absurd none ]
+                  | inr there ↦ there
+                ],
+                marked_now y member.1,
+              )
+            ];
           },
-          lists_past (heads_in m) (heads_in new) (masks_in m) (masks_in new) (c + 1) zero
-              (λ n some. let most =
+          lists_past (heads_in m) (heads_in new) (masks_in m) (masks_in new) (c + 1) zero (λ n some. let most =
               most_forks n in a.heads n (λ same. let here : one_if (room.number == n) ≡ 1 =
               ap (λ (k : ℕ). one_if (room.number == k)) same ∙ one_if_same room.number in absurd (omega arith)))
               (λ y at past. rank_stays m new over b c w a beneath y (beneath y (inl at)) past) (λ y at. a.marks y.room.number) is.0.1 old.1,
-          lists_past (heads_in m) (heads_in new) (masks_in m) (masks_in new) (c + 1) one
-              (λ n some. let most =
+          lists_past (heads_in m) (heads_in new) (masks_in m) (masks_in new) (c + 1) one (λ n some. let most =
               most_forks n in a.heads n (λ same. let here : one_if (room.number == n) ≡ 1 =
               ap (λ (k : ℕ). one_if (room.number == k)) same ∙ one_if_same room.number in absurd (omega arith)))
               (λ y at past. rank_stays m new over b c w a beneath y (beneath y (inr at)) past) (λ y at. a.marks y.room.number) is.0.2 old.2,
@@ -263,27 +254,25 @@ module _ {V : Type 0} where
       let within : b ≤ 31 = is.2 in
       let mine = side_list up b (heads_in m) (masks_in m) over.low s lists in
       let ready : IsMasks m first mine.masks = subst (λ (o : Option Id). IsMasks m o mine.masks) head (masks_listed over mine within (λ y member. member.0)) in
-      let marks : (n : ℕ) (p : MaskPart) → masks_in new n ≡ Some p → masks_in m n ≡ Some p = λ n p said.
-      ⊎_elim (λ (found : (y : Placed V) × IsAmong y mine.masks × (y.room.number ≡ n)).
-      absurd (none_some (sym (a.cleared mine.masks found.0 ready found.1) ∙ ap (masks_in new) found.2 ∙ said)))
-      (λ (aside : IsAside n mine.masks). sym (a.masks mine.masks ready n aside) ∙ said) (member_or_aside n mine.masks) in
+      let marks : (n : ℕ) (p : MaskPart) → masks_in new n ≡ Some p → masks_in m n ≡ Some p = λ n p said. elim (member_or_aside n mine.masks) [
+        | inl found ↦ absurd (none_some (sym (a.cleared mine.masks found.0 ready found.1) ∙ ap (masks_in new) found.2 ∙ said))
+        | inr aside ↦ sym (a.masks mine.masks ready n aside) ∙ said
+      ] in
       record {
         heads = λ n none. a.heads n;
-        masks =
-            λ n aside. a.masks mine.masks ready n (λ z among same. aside z (mine.within z among).0
+        masks = λ n aside. a.masks mine.masks ready n (λ z among same. aside z (mine.within z among).0
             (falls_among over.low (b + 1) mine.masks mine.falls z among).0 same);
         marks = λ n p said. (p, marks n p said);
-        kept = λ y at marked home. ⊎_elim
-            (λ (le : y.entry.rank ≤ b). ⊎_elim (λ (short : y.entry.rank < over.low). inl short)
-            (λ (long : over.low ≤ y.entry.rank).
-            let q = some_of (masks_in new y.room.number) marked in
-            let was : IsMarked (masks_in m) y = ap (λ (o : Option MaskPart). is_some o) (marks y.room.number q.0 q.1) in
-            let among = mine.has y (in_side y s at, was) long le in
-            absurd (none_some (sym (a.cleared mine.masks y ready among) ∙ q.1)))
-            (cases_lt y.entry.rank over.low))
-            (λ (deep : HasHome y.entry.key y.entry.rank (leaf x []) ⊎ HasHome y.entry.key y.entry.rank (leaf y0 ys)).
-            ⊎_elim (λ (no : ⊥). absurd no) (λ (no : ⊥). absurd no) deep)
-            (side_home b y.entry.key y.entry.rank s home);
+        kept = λ y at marked home. elim (side_home b y.entry.key y.entry.rank s home) [
+          | inl le ↦ elim (cases_lt y.entry.rank over.low) [
+            | inl short ↦ inl short
+            | inr long ↦ let q = some_of (masks_in new y.room.number) marked in
+                let was : IsMarked (masks_in m) y = ap (λ (o : Option MaskPart). is_some o) (marks y.room.number q.0 q.1) in
+                let among = mine.has y (in_side y s at, was) long le in
+                absurd (none_some (sym (a.cleared mine.masks y ready among) ∙ q.1))
+          ]
+          | inr deep ↦ elim deep [ inl none ↦ absurd none | inr none ↦ absurd none ]
+        ];
         all = λ y at home marked. absurd home;
         lists = tt;
       }

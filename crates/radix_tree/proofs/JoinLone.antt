@@ -1,14 +1,10 @@
 -- A route that is alone at its leaf, found by its room.
-use Rattle.std.proofs.Common.{◌≡◌, ◌+◌, ◌≤◌, ◌==◌, Bool, true, false, List, [], ◌∷◌, Option, Some, None, inl, inr, refl, sym, ap, ◌∙◌, subst, arith, ℕ, ⊎_elim}
-use Rattle.std.proofs.lemmas.Bool.{eqb-true, cases_eq}
-use Rattle.radix_tree.proofs.Words.{is_some, Ptr, Id, Node, Placed, Tree, leaf, fork, IsAmong, IsIn, LeafPart, Leaves, Part, leaves_in, bits_in, first_room}
-use Rattle.radix_tree.proofs.Words.{leaf_part, ChainStands, Stands, Way, one_if, members_at, leaves_at, AreOnce, HasSides, IsLone, IsWholeBut, nobody_out}
-use Rattle.radix_tree.proofs.Words.{Lodged}
-use Rattle.radix_tree.proofs.RoomReads.{inside, none_some}
-use Rattle.radix_tree.proofs.TreeMembers.{tree_said}
-use Rattle.radix_tree.proofs.WaysDown.{way_to_leaf}
-use Rattle.radix_tree.proofs.WholeParts.{once_but}
-use Rattle.radix_tree.proofs.JoinSides.{sides_of, side_own_stands}
+use Rattle.radix_tree.proofs.Words.{◌≡◌, ◌+◌, ◌≤◌, ◌==◌, Bool, true, false, List, [], ◌∷◌, Option, Some, None, inl, inr, refl, sym, ap, ◌∙◌, subst, arith}
+use Rattle.radix_tree.proofs.Words.{ℕ, eqb-true, cases_eq, is_some, Ptr, Id, Node, Placed, Tree, leaf, fork, IsAmong, IsIn, LeafPart, Leaves, Part}
+use Rattle.radix_tree.proofs.Words.{leaves_in, bits_in, first_room, leaf_part, ChainStands, Stands, Way, one_if, members_at, leaves_at, AreOnce, HasSides}
+use Rattle.radix_tree.proofs.Words.{IsLone, IsWholeBut, nobody_out, Lodged}
+use Rattle.radix_tree.proofs.{RoomReads.inside, RoomReads.none_some, TreeMembers.tree_said, WaysDown.way_to_leaf, WholeParts.once_but, JoinSides.sides_of}
+use Rattle.radix_tree.proofs.{JoinSides.side_own_stands}
 
 same_id : (a b : Id) → a.number ≡ b.number → a.block ≡ b.block → a ≡ b
 same_id a b number block =
@@ -30,19 +26,20 @@ module _ {V : Type 0} where
 
   pub tree_room : (n : ℕ) (t : Tree V) → 1 ≤ leaves_at n t → (y : Placed V) × IsIn y t × (y.room.number ≡ n)
   tree_room n (leaf x xs) some = chain_room n (x ∷ xs) some
-  tree_room n (fork room b zero one) some =
-      ⊎_elim (λ (none : leaves_at n zero ≡ 0). let right = tree_room n one (omega arith) in (right.0, inr right.1, right.2))
-      (λ (ne : leaves_at n zero ≡ 0 → ⊥). let left = tree_room n zero (omega (arith, ne)) in (left.0, inl left.1, left.2))
-      (cases_eq (leaves_at n zero) 0)
+  tree_room n (fork room b zero one) some = elim (cases_eq (leaves_at n zero) 0) [
+    | inl none ↦ let right = tree_room n one (omega arith) in (right.0, inr right.1, right.2)
+    | inr ne ↦ let left = tree_room n zero (omega (arith, ne)) in (left.0, inl left.1, left.2)
+  ]
 
   -- ---- alone in its chain
   has_previous : (L : Leaves V) (above : Option Id) (previous : Id) (c : List (Placed V)) (y : Placed V) {p : LeafPart V}
       → ChainStands L above (Some previous) c → IsAmong y c → L y.room.number ≡ Some p → p.leaf.previous ≡ None → ⊥
   has_previous L above previous [] y stands among said none = among
-  has_previous L above previous (x ∷ c) y stands among said none =
-      ⊎_elim (λ (e : x ≡ y). none_some (sym none ∙ ap (λ (q : LeafPart V). q.leaf.previous)
-      (inside (sym said ∙ ap (λ (z : Placed V). L z.room.number) (sym e) ∙ stands.0))))
-      (λ (behind : IsAmong y c). has_previous L None x.room c y stands.1 behind said none) among
+  has_previous L above previous (x ∷ c) y stands among said none = elim among [
+    | inl e ↦ none_some (sym none ∙ ap (λ (q : LeafPart V). q.leaf.previous)
+        (inside (sym said ∙ ap (λ (z : Placed V). L z.room.number) (sym e) ∙ stands.0)))
+    | inr behind ↦ has_previous L None x.room c y stands.1 behind said none
+  ]
 
   pub record IsAlone (L : Leaves V) (above : Option Id) (x : Placed V) (xs : List (Placed V)) (y : Placed V) (p : LeafPart V) : Type 0 where
     pub first : x ≡ y
@@ -50,20 +47,16 @@ module _ {V : Type 0} where
     pub above_is : p.leaf.above ≡ above
 
   alone : (L : Leaves V) (above : Option Id) (x : Placed V) (xs : List (Placed V)) (y : Placed V) (p : LeafPart V) → ChainStands L above None (x ∷ xs)
-      → IsAmong y (x ∷ xs) → L y.room.number ≡ Some p
-      → p.leaf.next ≡ None → p.leaf.previous ≡ None → IsAlone L above x xs y p
-  alone L above x xs y p stands among said next previous =
-      ⊎_elim
-      (λ (e : x ≡ y).
-      let is : p ≡ leaf_part x above None (first_room xs) = inside (sym said ∙ ap (λ (z : Placed V). L z.room.number) (sym e) ∙ stands.0) in
-      record { first = e; rest = none_first xs (sym (ap (λ (q : LeafPart V). q.leaf.next) is) ∙ next); above_is = ap (λ (q : LeafPart V). q.leaf.above) is })
-      (λ (behind : IsAmong y xs). absurd (has_previous L None x.room xs y stands.1 behind said previous))
-      among
+      → IsAmong y (x ∷ xs) → L y.room.number ≡ Some p → p.leaf.next ≡ None → p.leaf.previous ≡ None → IsAlone L above x xs y p
+  alone L above x xs y p stands among said next previous = elim among [
+    | inl e ↦ let is : p ≡ leaf_part x above None (first_room xs) = inside (sym said ∙ ap (λ (z : Placed V). L z.room.number) (sym e) ∙ stands.0) in
+        record { first = e; rest = none_first xs (sym (ap (λ (q : LeafPart V). q.leaf.next) is) ∙ next); above_is = ap (λ (q : LeafPart V). q.leaf.above) is }
+    | inr behind ↦ absurd (has_previous L None x.room xs y stands.1 behind said previous)
+  ]
 
   -- ---- and the bit node above it
   lone_over : (m : Lodged V) (whole : Part m) (at up : Id) (y : Placed V) (under : Part m) (ups : List (Part m)) → y.room ≡ at → under.tree ≡ leaf y []
-      → under.above ≡ Some up
-      → Way y.entry.key whole under ups → whole.above ≡ None → AreOnce whole.tree → IsLone m whole at up
+      → under.above ≡ Some up → Way y.entry.key whole under ups → whole.above ≡ None → AreOnce whole.tree → IsLone m whole at up
   lone_over m whole at up y under [] room_is tree above way top once = absurd (none_some (sym top ∙ sym (ap (λ (p : Part m). p.above) way) ∙ above))
   lone_over m whole at up y under (q ∷ qs) room_is tree above way top once =
       let b = way.0 in
@@ -103,6 +96,5 @@ module _ {V : Type 0} where
 
   -- what the room says
   pub lone_said : (m : Lodged V) {whole : Part m} (at up : Id) (l : IsLone m whole at up) → leaves_in m at.number ≡ Some (leaf_part l.route (Some up) None None)
-  lone_said m at up l =
-      ap (λ (i : Id). leaves_in m i.number) (sym l.room_is)
+  lone_said m at up l = ap (λ (i : Id). leaves_in m i.number) (sym l.room_is)
       ∙ (side_own_stands up (leaves_in m) (bits_in m) l.over.above l.sides l.over.stands).0

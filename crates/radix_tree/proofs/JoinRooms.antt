@@ -1,19 +1,14 @@
 -- A route that is alone at its leaf, and the bit node above it, as they are read of their rooms.
-use Rattle.std.proofs.Common.{◌≡◌, ◌+◌, ◌≤◌, Bool, true, List, [], ◌∷◌, Option, Some, None, refl, sym, ap, ◌∙◌, subst, arith, ℕ, ⊎_elim}
-use Rattle.std.proofs.lemmas.Bool.{eqb-true, cases_eq}
-use Rattle.radix_tree.proofs.Words.{is_some, Seen, Has, leaf_of, bit_node_of, Id, BitNode, Leaf, Links, Node, Placed, Tree, leaf, fork, bit_at, IsAmong, IsIn}
-use Rattle.radix_tree.proofs.Words.{IsTree, LeafPart, BitPart, Bits, Part, leaf_in, leaves_in, bits_in, heads_in, masks_in, leaf_part, name_of, ForkAt, Beneath}
-use Rattle.radix_tree.proofs.Words.{Way, one_if, leaves_at, AreIdle, HasOneFork, HaveOneFork, name_child, other_side, IsApart, IsLone, MarkedLists, IsWholeBut}
-use Rattle.radix_tree.proofs.Words.{is_of_key, has_key, nobody_out, Content, content_of, KeepsRoutes, put_bit, lift_leaf, lift_bit, Lodged, IsLonely}
-use Rattle.radix_tree.proofs.AddressBits.{zero_not_one}
+use Rattle.radix_tree.proofs.Words.{◌≡◌, ◌+◌, ◌≤◌, Bool, true, List, [], ◌∷◌, Option, Some, None, refl, sym, ap, ◌∙◌, subst, arith, ℕ, inl, inr, eqb-true}
+use Rattle.radix_tree.proofs.Words.{cases_eq, is_some, Seen, Has, leaf_of, bit_node_of, Id, BitNode, Leaf, Links, Node, Placed, Tree, leaf, fork, bit_at}
+use Rattle.radix_tree.proofs.Words.{IsAmong, IsIn, IsTree, LeafPart, BitPart, Bits, Part, leaf_in, leaves_in, bits_in, heads_in, masks_in, leaf_part}
+use Rattle.radix_tree.proofs.Words.{name_of, ForkAt, Beneath, Way, one_if, leaves_at, AreIdle, HasOneFork, HaveOneFork, name_child, other_side, IsApart}
+use Rattle.radix_tree.proofs.Words.{IsLone, MarkedLists, IsWholeBut, is_of_key, has_key, nobody_out, Content, content_of, KeepsRoutes, put_bit, lift_leaf}
+use Rattle.radix_tree.proofs.Words.{lift_bit, Lodged, IsLonely}
 use Rattle.radix_tree.proofs.RoomReads.{inside, none_some, AreLinks, Has-leaf, bit_read, bit_used, head_read}
-use Rattle.radix_tree.proofs.Parts.{Has-fork}
-use Rattle.radix_tree.proofs.TreeMembers.{bit_beneath, tree_said}
-use Rattle.radix_tree.proofs.Lodging.{stays, over_at}
-use Rattle.radix_tree.proofs.JoinSides.{true_not_false, SaysOther, side_is, side_says, side_fork}
-use Rattle.radix_tree.proofs.JoinLone.{tree_room, lone, lone_said}
-use Rattle.radix_tree.proofs.JoinLinks.{lone_apart, other_part}
-use Rattle.radix_tree.proofs.JoinWhole.{IsJoined}
+use Rattle.radix_tree.proofs.{AddressBits.zero_not_one, Parts.Has-fork, TreeMembers.bit_beneath, TreeMembers.tree_said, Lodging.stays, Lodging.over_at}
+use Rattle.radix_tree.proofs.{JoinSides.true_not_false, JoinSides.SaysOther, JoinSides.side_is, JoinSides.side_says, JoinSides.side_fork}
+use Rattle.radix_tree.proofs.{JoinLone.tree_room, JoinLone.lone, JoinLone.lone_said, JoinLinks.lone_apart, JoinLinks.other_part, JoinWhole.IsJoined}
 
 module _ {V : Type 0} where
   -- ---- the route's room
@@ -24,8 +19,7 @@ module _ {V : Type 0} where
   read_is links h are is = sym (is ∙ ap leaf_of (are h.room h.at))
 
   pub lone_read : {m : Lodged V} {root : Node} {late : ℕ → Bool} (w : IsWholeBut m root late nobody_out) {at up : Id} (links : Links) {l : Leaf}
-      → Has m at → AreLinks m at links → l ≡ leaf_of links → IsLonely m at → l.above ≡ Some up
-      → IsLone m w.part at up
+      → Has m at → AreLinks m at links → l ≡ leaf_of links → IsLonely m at → l.above ≡ Some up → IsLone m w.part at up
   lone_read {m = m} w {at = at} {up = up} links h are is lonely above =
       let r = lonely (own_part h) (ap leaf_in h.at) in
       lone m w at up (ap leaf_in h.at) h.block r.0 r.1 (ap (λ (z : Leaf). z.above) (read_is links h are is) ∙ above)
@@ -68,8 +62,7 @@ module _ {V : Type 0} where
       record {
         bit = omega arith;
         above = sym (read.above ∙ s.above_is);
-        to = sym s.other
-            ∙ ap (λ (k : ℕ). other_side k l.bit s.part.zero s.part.one) key_is
+        to = sym s.other ∙ ap (λ (k : ℕ). other_side k l.bit s.part.zero s.part.one) key_is
             ∙ ap (λ (b : ℕ). other_side key b s.part.zero s.part.one) (sym same_bit)
             ∙ ap (λ (z : Node). other_side key node.bit z s.part.one) (sym read.zero)
             ∙ ap (λ (z : Node). other_side key node.bit node.zero z) (sym read.one);
@@ -82,10 +75,10 @@ module _ {V : Type 0} where
   marked_beneath m address under over b listed =
       let f = b.at in
       let lists = subst (MarkedLists (heads_in m) (masks_in m) over.low) f.is listed in
-      subst (λ (low : ℕ). MarkedLists (heads_in m) (masks_in m) low under.tree) (sym b.low) (⊎_elim
-      (λ (e : (under.tree ≡ f.zero) × (bit_at f.bit address ≡ 0)). subst (MarkedLists (heads_in m) (masks_in m) (f.bit + 1)) (sym e.0) lists.1)
-      (λ (e : (under.tree ≡ f.one) × (bit_at f.bit address ≡ 1)). subst (MarkedLists (heads_in m) (masks_in m) (f.bit + 1)) (sym e.0) lists.2)
-      b.side)
+      subst (λ (low : ℕ). MarkedLists (heads_in m) (masks_in m) low under.tree) (sym b.low) (elim b.side [
+        | inl e ↦ subst (MarkedLists (heads_in m) (masks_in m) (f.bit + 1)) (sym e.0) lists.1
+        | inr e ↦ subst (MarkedLists (heads_in m) (masks_in m) (f.bit + 1)) (sym e.0) lists.2
+      ])
 
   pub way_marked : {m : Lodged V} (address : ℕ) (whole at : Part m) (ups : List (Part m)) → Way address whole at ups
       → MarkedLists (heads_in m) (masks_in m) whole.low whole.tree → MarkedLists (heads_in m) (masks_in m) at.low at.tree
@@ -129,37 +122,43 @@ module _ {V : Type 0} where
   idle_among : (B : Bits) (xs : List (Placed V)) (z : Placed V) → AreIdle B xs → IsAmong z xs → B z.room.number ≡ None
   idle_among B [] z idle among = absurd among
   idle_among B (x ∷ xs) z idle among =
-      ⊎_elim (λ (e : x ≡ z). ap (λ (p : Placed V). B p.room.number) (sym e) ∙ idle.0) (λ (behind : IsAmong z xs). idle_among B xs z idle.1 behind) among
+      elim among [ inl e ↦ ap (λ (p : Placed V). B p.room.number) (sym e) ∙ idle.0 | inr behind ↦ idle_among B xs z idle.1 behind ]
 
   chain_others : (B : Bits) (xs : List (Placed V)) (y z : Placed V) → HasOneFork B xs → IsAmong y xs → IsAmong z xs → (z.room.number ≡ y.room.number → ⊥)
       → (B y.room.number ≡ None → ⊥) → B z.room.number ≡ None
   chain_others B [] y z one first second apart used = absurd first
-  chain_others B (x ∷ xs) y z one first second apart used =
-      ⊎_elim
-      (λ (idle : AreIdle B xs). ⊎_elim
-      (λ (ez : x ≡ z). ⊎_elim (λ (ey : x ≡ y). absurd (apart (ap (λ (p : Placed V). p.room.number) (sym ez ∙ ey))))
-      (λ (by : IsAmong y xs). absurd (used (idle_among B xs y idle by))) first)
-      (λ (bz : IsAmong z xs). idle_among B xs z idle bz) second)
-      (λ (rest : (B x.room.number ≡ None) × HasOneFork B xs). ⊎_elim
-      (λ (ez : x ≡ z). ap (λ (p : Placed V). B p.room.number) (sym ez) ∙ rest.0)
-      (λ (bz : IsAmong z xs). ⊎_elim (λ (ey : x ≡ y). absurd (used (ap (λ (p : Placed V). B p.room.number) (sym ey) ∙ rest.0)))
-      (λ (by : IsAmong y xs). chain_others B xs y z rest.1 by bz apart used) first) second)
-      one
+  chain_others B (x ∷ xs) y z one first second apart used = elim one [
+    | inl idle ↦ elim second [
+      | inl ez ↦ elim first [
+        | inl ey ↦ absurd (apart (ap (λ (p : Placed V). p.room.number) (sym ez ∙ ey)))
+        | inr by ↦ absurd (used (idle_among B xs y idle by))
+      ]
+      | inr bz ↦ idle_among B xs z idle bz
+    ]
+    | inr rest ↦ elim second [
+      | inl ez ↦ ap (λ (p : Placed V). B p.room.number) (sym ez) ∙ rest.0
+      | inr bz ↦ elim first [
+        | inl ey ↦ absurd (used (ap (λ (p : Placed V). B p.room.number) (sym ey) ∙ rest.0))
+        | inr by ↦ chain_others B xs y z rest.1 by bz apart used
+      ]
+    ]
+  ]
 
   tree_others : (B : Bits) (low : ℕ) (t : Tree V) (y z : Placed V) → IsTree low t → HaveOneFork B t → IsIn y t → IsIn z t → y.entry.key ≡ z.entry.key
       → (z.room.number ≡ y.room.number → ⊥) → (B y.room.number ≡ None → ⊥) → B z.room.number ≡ None
   tree_others B low (leaf x xs) y z is one first second keys apart used = chain_others B (x ∷ xs) y z one first second apart used
-  tree_others B low (fork room b zero ones) y z is one first second keys apart used =
-      ⊎_elim
-      (λ (fz : IsIn y zero). ⊎_elim
-      (λ (sz : IsIn z zero). tree_others B (b + 1) zero y z is.1 one.0 fz sz keys apart used)
-      (λ (so : IsIn z ones). absurd (zero_not_one (bit_beneath (b + 1) b 0 zero is.1 is.0.zeros y fz)
-      (ap (bit_at b) keys ∙ bit_beneath (b + 1) b 1 ones is.2 is.0.ones z so))) second)
-      (λ (fo : IsIn y ones). ⊎_elim
-      (λ (sz : IsIn z zero). absurd (zero_not_one (bit_beneath (b + 1) b 0 zero is.1 is.0.zeros z sz)
-      (ap (bit_at b) (sym keys) ∙ bit_beneath (b + 1) b 1 ones is.2 is.0.ones y fo)))
-      (λ (so : IsIn z ones). tree_others B (b + 1) ones y z is.2 one.1 fo so keys apart used) second)
-      first
+  tree_others B low (fork room b zero ones) y z is one first second keys apart used = elim first [
+    | inl fz ↦ elim second [
+      | inl sz ↦ tree_others B (b + 1) zero y z is.1 one.0 fz sz keys apart used
+      | inr so ↦ absurd (zero_not_one (bit_beneath (b + 1) b 0 zero is.1 is.0.zeros y fz)
+          (ap (bit_at b) keys ∙ bit_beneath (b + 1) b 1 ones is.2 is.0.ones z so))
+    ]
+    | inr fo ↦ elim second [
+      | inl sz ↦ absurd (zero_not_one (bit_beneath (b + 1) b 0 zero is.1 is.0.zeros z sz)
+          (ap (bit_at b) (sym keys) ∙ bit_beneath (b + 1) b 1 ones is.2 is.0.ones y fo))
+      | inr so ↦ tree_others B (b + 1) ones y z is.2 one.1 fo so keys apart used
+    ]
+  ]
 
   -- the route of a room of the whole
   record RouteOf (m : Lodged V) (t : Tree V) (n : ℕ) (p : LeafPart V) : Type 0 where
@@ -206,15 +205,13 @@ module _ {V : Type 0} where
       there_by m new room h (leaves_in new room.number) refl (keeps room.number ∙ ap (λ (o : Option (Seen V)). content_of (leaf_in o)) h.at)
 
   pub idle_joined : (m new : Lodged V) {root : Node} {late : ℕ → Bool} (w : IsWholeBut m root late nobody_out) (at up : Id) (l : IsLone m w.part at up)
-      → KeepsRoutes m new
-      → ((n : ℕ) → bits_in m n ≡ None → bits_in new n ≡ None) → bits_in new up.number ≡ None
+      → KeepsRoutes m new → ((n : ℕ) → bits_in m n ≡ None → bits_in new n ≡ None) → bits_in new up.number ≡ None
       → (p : LeafPart V) → leaves_in new up.number ≡ Some p → (n : ℕ) → has_key new p.leaf.key n ≡ true → bits_in new n ≡ None
-  idle_joined m new w at up l keeps idle free p said n of_key =
-      ⊎_elim (λ (same : n ≡ up.number). ap (bits_in new) same ∙ free)
-      (λ (apart : n ≡ up.number → ⊥).
-      let q = key_of p.leaf.key (leaves_in new n) of_key in
-      let before = was_said (leaves_in m up.number) p (ap content_of (sym said) ∙ keeps up.number) in
-      let other = was_said (leaves_in m n) q.0 (ap content_of (sym q.1) ∙ keeps n) in
-      let s = up_says m at up l in
-      idle n (others_idle m w up.number n before.0 other.0 before.1 other.1 (before.2 ∙ sym q.2 ∙ sym other.2) s.says apart))
-      (cases_eq n up.number)
+  idle_joined m new w at up l keeps idle free p said n of_key = elim (cases_eq n up.number) [
+    | inl same ↦ ap (bits_in new) same ∙ free
+    | inr apart ↦ let q = key_of p.leaf.key (leaves_in new n) of_key in
+        let before = was_said (leaves_in m up.number) p (ap content_of (sym said) ∙ keeps up.number) in
+        let other = was_said (leaves_in m n) q.0 (ap content_of (sym q.1) ∙ keeps n) in
+        let s = up_says m at up l in
+        idle n (others_idle m w up.number n before.0 other.0 before.1 other.1 (before.2 ∙ sym q.2 ∙ sym other.2) s.says apart)
+  ]

@@ -1,13 +1,9 @@
 -- A bit node with what is on the side of a key and what is on the other side.
-use Rattle.std.proofs.Common.{◌≡◌, ◌+◌, ◌≤◌, ◌==◌, ◌⊎◌, Bool, true, false, if◌then◌else◌, [], Option, Some, inl, inr, refl, sym, ap, ◌∙◌, subst, arith, ℕ}
-use Rattle.std.proofs.Common.{⊎_elim}
-use Rattle.std.proofs.lemmas.Bool.{eq-eqb, ne_eqb}
-use Rattle.std.proofs.lemmas.List.{append-nil}
-use Rattle.radix_tree.proofs.Words.{Id, Node, Placed, Tree, leaf, fork, bit_at, HaveBit, IsIn, IsTree, routes_of, BitPart, Leaves, Bits, Heads, Masks, Part}
-use Rattle.radix_tree.proofs.Words.{name_of, Stands, ForkAt, Beneath, one_if, leaves_at, forks_at, HasHome, HaveOneFork, Gains, other_side, HasSides}
-use Rattle.radix_tree.proofs.Words.{IsMaskList, MarkedIn, MarkedLists, Lodged}
-use Rattle.radix_tree.proofs.AddressBits.{zero_not_one}
-use Rattle.radix_tree.proofs.TreeMembers.{bit_beneath}
+use Rattle.radix_tree.proofs.Words.{◌≡◌, ◌+◌, ◌≤◌, ◌==◌, ◌⊎◌, Bool, true, false, if◌then◌else◌, [], Option, Some, inl, inr, refl, sym, ap, ◌∙◌, subst}
+use Rattle.radix_tree.proofs.Words.{arith, ℕ, eq-eqb, ne_eqb, append-nil, Id, Node, Placed, Tree, leaf, fork, bit_at, HaveBit, IsIn, IsTree, routes_of}
+use Rattle.radix_tree.proofs.Words.{BitPart, Leaves, Bits, Heads, Masks, Part, name_of, Stands, ForkAt, Beneath, one_if, leaves_at, forks_at, HasHome}
+use Rattle.radix_tree.proofs.Words.{HaveOneFork, Gains, other_side, HasSides, IsMaskList, MarkedIn, MarkedLists, Lodged}
+use Rattle.radix_tree.proofs.{AddressBits.zero_not_one, TreeMembers.bit_beneath}
 
 pub true_not_false : true ≡ false → ⊥
 true_not_false e = cc
@@ -32,8 +28,7 @@ module _ {V : Type 0} where
   pub by_sides : {key : ℕ} {t : Tree V} {room : Id} {b : ℕ} {own other : Tree V} (P : Tree V → Type 0) → HasSides key t room b own other
       → (bit_at b key ≡ 0 → P (fork room b own other)) → (bit_at b key ≡ 1 → P (fork room b other own)) → P t
   by_sides {key = key} {t = t} {room = room} {b = b} {own = own} {other = other} P s zero one =
-      ⊎_elim (λ (e : (t ≡ fork room b own other) × (bit_at b key ≡ 0)). subst P (sym e.0) (zero e.1))
-      (λ (e : (t ≡ fork room b other own) × (bit_at b key ≡ 1)). subst P (sym e.0) (one e.1)) s.is
+      elim s.is [ inl e ↦ subst P (sym e.0) (zero e.1) | inr e ↦ subst P (sym e.0) (one e.1) ]
 
   pub side_is : {key : ℕ} {t : Tree V} {room : Id} {b : ℕ} {own other : Tree V} (low : ℕ) → HasSides key t room b own other → IsTree low t
       → IsTree (b + 1) other × (low ≤ b) × (b ≤ 31)
@@ -60,8 +55,7 @@ module _ {V : Type 0} where
         bit = refl;
         above_is = refl;
         other = other_of_zero key b (name_of own) (name_of other) clear;
-      })
-      (λ set stands. record {
+      }) (λ set stands. record {
         part = record { block = room.block; bit = b; zero = name_of other; one = name_of own; above = above };
         says = stands.0;
         block = refl;
@@ -82,7 +76,7 @@ module _ {V : Type 0} where
   pub side_in : {key : ℕ} {t : Tree V} {room : Id} {b : ℕ} {own other : Tree V} (y : Placed V) → HasSides key t room b own other → IsIn y t
       → IsIn y own ⊎ IsIn y other
   side_in {own = own} {other = other} y s =
-      by_sides (λ u. IsIn y u → IsIn y own ⊎ IsIn y other) s (λ clear is. is) (λ set is. ⊎_elim (λ (o : IsIn y other). inr o) (λ (o : IsIn y own). inl o) is)
+      by_sides (λ u. IsIn y u → IsIn y own ⊎ IsIn y other) s (λ clear is. is) (λ set is. elim is [ inl o ↦ inr o | inr o ↦ inl o ])
 
   pub in_side : {key : ℕ} {t : Tree V} {room : Id} {b : ℕ} {own other : Tree V} (y : Placed V) → HasSides key t room b own other → IsIn y other → IsIn y t
   in_side y s is = by_sides (λ u. IsIn y u) s (λ clear. inr is) (λ set. inl is)
@@ -105,14 +99,8 @@ module _ {V : Type 0} where
       → (rank ≤ b) ⊎ (HasHome address rank own ⊎ HasHome address rank other)
   side_home b {own = own} {other = other} address rank s =
       by_sides (λ u. HasHome address rank u → (rank ≤ b) ⊎ (HasHome address rank own ⊎ HasHome address rank other)) s
-      (λ clear home. ⊎_elim (λ (le : rank ≤ b). inl le)
-      (λ (deep : ((bit_at b address ≡ 0) × HasHome address rank own) ⊎ ((bit_at b address ≡ 1) × HasHome address rank other)).
-      inr (⊎_elim (λ (h : (bit_at b address ≡ 0) × HasHome address rank own). inl h.1) (λ (h : (bit_at b address ≡ 1) × HasHome address rank other). inr h.1)
-      deep)) home)
-      (λ set home. ⊎_elim (λ (le : rank ≤ b). inl le)
-      (λ (deep : ((bit_at b address ≡ 0) × HasHome address rank other) ⊎ ((bit_at b address ≡ 1) × HasHome address rank own)).
-      inr (⊎_elim (λ (h : (bit_at b address ≡ 0) × HasHome address rank other). inr h.1) (λ (h : (bit_at b address ≡ 1) × HasHome address rank own). inl h.1)
-      deep)) home)
+      (λ clear home. elim home [ inl le ↦ inl le | inr deep ↦ inr (elim deep [ inl h ↦ inl h.1 | inr h ↦ inr h.1 ]) ])
+      (λ set home. elim home [ inl le ↦ inl le | inr deep ↦ inr (elim deep [ inl h ↦ inr h.1 | inr h ↦ inl h.1 ]) ])
 
   pub home_side : {key : ℕ} {t : Tree V} {room : Id} (b : ℕ) {own : Tree V} (other : Tree V) (low : ℕ) (y : Placed V) → HasSides key t room b own other
       → IsTree low t → IsIn y other → HasHome y.entry.key y.entry.rank other → HasHome y.entry.key y.entry.rank t
@@ -132,27 +120,14 @@ module _ {V : Type 0} where
 
   pub side_fork : (m : Lodged V) {key : ℕ} (p : Part m) (room : Id) (b : ℕ) (own other : Tree V) → HasSides key p.tree room b own other → ForkAt p room
   side_fork m {key = key} p room b own other s =
-      ⊎_elim (λ (e : (p.tree ≡ fork room b own other) × (bit_at b key ≡ 0)). record { bit = b; zero = own; one = other; is = e.0 })
-      (λ (e : (p.tree ≡ fork room b other own) × (bit_at b key ≡ 1)). record { bit = b; zero = other; one = own; is = e.0 }) s.is
+      elim s.is [ inl e ↦ record { bit = b; zero = own; one = other; is = e.0 } | inr e ↦ record { bit = b; zero = other; one = own; is = e.0 } ]
 
   -- a part beneath a bit node is on a side of it
   pub sides_of : (m : Lodged V) (key : ℕ) (under over : Part m) (b : Beneath key under over)
       → (other : Tree V) × HasSides key over.tree b.room b.at.bit under.tree other
   sides_of m key under over b =
       let f = b.at in
-      ⊎_elim
-      (λ (e : (under.tree ≡ f.zero) × (bit_at f.bit key ≡ 0)). (
-        f.one,
-        record {
-          is =
-              inl (f.is ∙ ap (λ (t : Tree V). fork b.room f.bit t f.one) (sym e.0), e.1);
-        },
-      ))
-      (λ (e : (under.tree ≡ f.one) × (bit_at f.bit key ≡ 1)). (
-        f.zero,
-        record {
-          is =
-              inr (f.is ∙ ap (λ (t : Tree V). fork b.room f.bit f.zero t) (sym e.0), e.1);
-        },
-      ))
-      b.side
+      elim b.side [
+        | inl e ↦ (f.one, record { is = inl (f.is ∙ ap (λ (t : Tree V). fork b.room f.bit t f.one) (sym e.0), e.1) })
+        | inr e ↦ (f.zero, record { is = inr (f.is ∙ ap (λ (t : Tree V). fork b.room f.bit f.zero t) (sym e.0), e.1) })
+      ]

@@ -1,25 +1,16 @@
 -- A route that is alone at its leaf goes, and with it the bit node above: the rooms as a whole.
-use Rattle.std.proofs.Common.{◌≡◌, ◌+◌, ◌<◌, ◌≤◌, ◌==◌, true, false, [], Option, Some, None, inl, inr, refl, sym, ap, ◌∙◌, subst, arith, ℕ, ⊎_elim}
-use Rattle.std.proofs.lemmas.Bool.{eqb-true, eq-eqb, ne_eqb}
-use Rattle.radix_tree.proofs.Words.{is_some, Id, Node, Placed, Tree, leaf, fork, IsIn, IsTree, LeafPart, BitPart, Part, leaves_in, bits_in, heads_in, masks_in}
-use Rattle.radix_tree.proofs.Words.{leaf_part, name_of, one_if, leaves_at, forks_at, HasHome, shown, shown_entry, name_child, root_after, AreOnce, Gains}
-use Rattle.radix_tree.proofs.Words.{IsExchange, Exchanged, IsLone, IsHanded, IsWholeBut, nobody_late, nobody_out, late_at, out_at, content_of, KeepsRoutes}
-use Rattle.radix_tree.proofs.Words.{put_bit, lift_leaf, lift_bit, Lodged}
-use Rattle.radix_tree.proofs.RoomReads.{inside, none_some}
-use Rattle.radix_tree.proofs.PartRooms.{one_if_same}
-use Rattle.radix_tree.proofs.Forking.{lifted}
-use Rattle.radix_tree.proofs.Beside.{misses_leaf, misses_bit, named_leaf, named_bit}
-use Rattle.radix_tree.proofs.Plugs.{counted_leaf, spare_same}
-use Rattle.radix_tree.proofs.PlugLists.{marked_same, lists_same}
-use Rattle.radix_tree.proofs.Exchanging.{exchanged}
-use Rattle.radix_tree.proofs.WholeParts.{Fits, some_of}
-use Rattle.radix_tree.proofs.WholeChanges.{spare_changed, whole_changed}
-use Rattle.radix_tree.proofs.WholeRoutes.{routes_changed, loses_spliced}
+use Rattle.radix_tree.proofs.Words.{◌≡◌, ◌+◌, ◌<◌, ◌≤◌, ◌==◌, true, false, [], Option, Some, None, inl, inr, refl, sym, ap, ◌∙◌, subst, arith, ℕ}
+use Rattle.radix_tree.proofs.Words.{eqb-true, eq-eqb, ne_eqb, is_some, Id, Node, Placed, Tree, leaf, fork, IsIn, IsTree, LeafPart, BitPart, Part}
+use Rattle.radix_tree.proofs.Words.{leaves_in, bits_in, heads_in, masks_in, leaf_part, name_of, one_if, leaves_at, forks_at, HasHome, shown, shown_entry}
+use Rattle.radix_tree.proofs.Words.{name_child, root_after, AreOnce, Gains, IsExchange, Exchanged, IsLone, IsHanded, IsWholeBut, nobody_late, nobody_out}
+use Rattle.radix_tree.proofs.Words.{late_at, out_at, content_of, KeepsRoutes, put_bit, lift_leaf, lift_bit, Lodged}
 use Rattle.radix_tree.proofs.JoinSides.{true_not_false, side_is, side_says, side_leaves, side_in, in_side, side_have, home_side, side_spare, side_gains}
-use Rattle.radix_tree.proofs.JoinLists.{same_rank_at}
-use Rattle.radix_tree.proofs.JoinLone.{lone_said}
-use Rattle.radix_tree.proofs.JoinLinks.{put_off, put_none, put_here, turn_none, turn_used, lift_none, lift_used, lift_content, content_used, quiet, lone_once}
-use Rattle.radix_tree.proofs.JoinLinks.{lone_forks, lone_apart, other_part}
+use Rattle.radix_tree.proofs.JoinLinks.{put_off, put_none, put_here, turn_none, turn_used, lift_none, lift_used, lift_content, content_used, quiet}
+use Rattle.radix_tree.proofs.JoinLinks.{lone_once, lone_forks, lone_apart, other_part}
+use Rattle.radix_tree.proofs.{RoomReads.inside, RoomReads.none_some, PartRooms.one_if_same, Forking.lifted, Beside.misses_leaf, Beside.misses_bit}
+use Rattle.radix_tree.proofs.{Beside.named_leaf, Beside.named_bit, Plugs.counted_leaf, Plugs.spare_same, PlugLists.marked_same, PlugLists.lists_same}
+use Rattle.radix_tree.proofs.{Exchanging.exchanged, WholeParts.Fits, WholeParts.some_of, WholeChanges.spare_changed, WholeChanges.whole_changed}
+use Rattle.radix_tree.proofs.{WholeRoutes.routes_changed, WholeRoutes.loses_spliced, JoinLists.same_rank_at, JoinLone.lone_said}
 
 one_flip : (a b : ℕ) → one_if (a == b) ≡ one_if (b == a)
 one_flip a b = elim (a == b) as (λ t. (a == b) ≡ t → one_if t ≡ one_if (b == a)) [
@@ -78,11 +69,9 @@ module _ {V : Type 0} where
         low = l.over.low;
         above = l.over.above;
         is = lower l.over.low (l.bit + 1) l.other (let le : l.over.low ≤ l.bit = is.1 in omega arith) is.0;
-        stands = lifted (leaves_in m) (leaves_in new) (bits_in m) (bits_in new) (Some up) l.over.above l.other
-            (λ n some. j.leaves n)
+        stands = lifted (leaves_in m) (leaves_in new) (bits_in m) (bits_in new) (Some up) l.over.above l.other (λ n some. j.leaves n)
             (λ n some. j.bits n ∙ ap (λ (said : Option BitPart). lift_bit (name_of l.other) l.over.above n said)
-            (quiet up l.route.entry.key (name_of l.other) n (bits_in m n) (lone_apart m at up l) some))
-            (other_once m at up l)
+            (quiet up l.route.entry.key (name_of l.other) n (bits_in m n) (lone_apart m at up l) some)) (other_once m at up l)
             (other_part m at up l).stands;
       }
 
@@ -92,16 +81,14 @@ module _ {V : Type 0} where
     low = refl;
     above = refl;
     keys = λ c value before have. side_have l.other c value l.sides have;
-    leaves = λ n none some. j.leaves n
-        ∙ misses_leaf (name_of l.other) n (λ r is same.
+    leaves = λ n none some. j.leaves n ∙ misses_leaf (name_of l.other) n (λ r is same.
         let there : 1 ≤ leaves_at r.number l.other = named_leaf l.other r is in
         let here : leaves_at n l.other ≡ leaves_at r.number l.other = ap (λ (k : ℕ). leaves_at k l.other) same in
         let sum : leaves_at n l.over.tree ≡ leaves_at n (leaf l.route []) + leaves_at n l.other = side_leaves n l.sides in absurd (omega arith))
         l.over.above (leaves_in m n);
     bits = λ n none some.
         let sum : forks_at n l.over.tree ≡ one_if (up.number == n) + (0 + forks_at n l.other) = lone_forks l n in
-        j.bits n
-        ∙ misses_bit (name_of l.other) n (λ r is same.
+        j.bits n ∙ misses_bit (name_of l.other) n (λ r is same.
         let there : 1 ≤ forks_at r.number l.other = named_bit l.other r is in
         let here : forks_at n l.other ≡ forks_at r.number l.other = ap (λ (k : ℕ). forks_at k l.other) same in absurd (omega arith))
         l.over.above (put_bit up None n (name_child l.over.above l.route.entry.key (name_of l.other) n (bits_in m n)))
@@ -119,25 +106,19 @@ module _ {V : Type 0} where
   -- a room that is no bit node stays none
   pub idle_stays : {m new : Lodged V} {whole : Part m} {at up : Id} (l : IsLone m whole at up) → IsJoined m new whole at up l → (n : ℕ) → bits_in m n ≡ None
       → bits_in new n ≡ None
-  idle_stays {up = up} l j n none =
-      j.bits n
-      ∙ ap (λ (said : Option BitPart). lift_bit (name_of l.other) l.over.above n said)
+  idle_stays {up = up} l j n none = j.bits n ∙ ap (λ (said : Option BitPart). lift_bit (name_of l.other) l.over.above n said)
       (ap (λ (said : Option BitPart). put_bit up None n said)
       (ap (λ (said : Option BitPart). name_child l.over.above l.route.entry.key (name_of l.other) n said) none
-      ∙ turn_none l.over.above l.route.entry.key n (name_of l.other)) ∙ put_none up n)
-      ∙ lift_none (name_of l.other) l.over.above n
+      ∙ turn_none l.over.above l.route.entry.key n (name_of l.other)) ∙ put_none up n) ∙ lift_none (name_of l.other) l.over.above n
 
   pub freed : {m new : Lodged V} {whole : Part m} {at up : Id} (l : IsLone m whole at up) → IsJoined m new whole at up l → bits_in new up.number ≡ None
-  freed {m = m} {up = up} l j =
-      j.bits up.number
-      ∙ ap (λ (said : Option BitPart). lift_bit (name_of l.other) l.over.above up.number said)
+  freed {m = m} {up = up} l j = j.bits up.number ∙ ap (λ (said : Option BitPart). lift_bit (name_of l.other) l.over.above up.number said)
       (put_here up (name_child l.over.above l.route.entry.key (name_of l.other) up.number (bits_in m up.number)))
       ∙ lift_none (name_of l.other) l.over.above up.number
 
   same_bits : (m new : Lodged V) {whole : Part m} (at up : Id) (l : IsLone m whole at up) → IsJoined m new whole at up l → (n : ℕ) → (n ≡ up.number → ⊥)
       → is_some (bits_in new n) ≡ is_some (bits_in m n)
-  same_bits m new at up l j n other =
-      ap is_some (j.bits n)
+  same_bits m new at up l j n other = ap is_some (j.bits n)
       ∙ lift_used (name_of l.other) l.over.above n (put_bit up None n (name_child l.over.above l.route.entry.key (name_of l.other) n (bits_in m n)))
       ∙ ap is_some (put_off up n (name_child l.over.above l.route.entry.key (name_of l.other) n (bits_in m n)) other)
       ∙ turn_used l.over.above l.route.entry.key n (name_of l.other) (bits_in m n)
@@ -195,25 +176,25 @@ module _ {V : Type 0} where
             absurd (omega arith));
         masks_above = λ y is short marked. short_stays m new l h y is short;
         marks = h.marks;
-        kept = λ y is marked. ⊎_elim
-            (λ (own : IsIn y (leaf l.route [])). ⊎_elim
-            (λ (e : l.route ≡ y).
-            let p = some_of (masks_in new y.room.number) marked in
-            let q = h.marks y.room.number p.0 p.1 in
-            absurd (none_some (sym unmarked ∙ ap (λ (i : Id). masks_in m i.number) (sym l.room_is ∙ ap (λ (z : Placed V). z.room) e) ∙ q.1)))
-            (λ (no : ⊥). absurd no) own)
-            (λ (there : IsIn y l.other). (there, λ home. h.kept y there marked home))
-            (side_in y l.sides is);
+        kept = λ y is marked. elim (side_in y l.sides is) [
+          | inl own ↦ elim own [
+            | inl e ↦ let p = some_of (masks_in new y.room.number) marked in
+                let q = h.marks y.room.number p.0 p.1 in
+                absurd (none_some (sym unmarked ∙ ap (λ (i : Id). masks_in m i.number) (sym l.room_is ∙ ap (λ (z : Placed V). z.room) e) ∙ q.1))
+            | inr none ↦ absurd none
+          ]
+          | inr there ↦ (there, λ home. h.kept y there marked home)
+        ];
         came = λ y is marked. in_over y is;
         gone = λ y is short marked. marked_same (masks_in m) (masks_in new) y (short_stays m new l h y is short) marked;
         lists = h.lists;
         all = λ y is home. inr (
           in_over y is,
-          ⊎_elim (λ (short : y.entry.rank < l.over.low). inl short)
-              (λ (there : HasHome y.entry.key y.entry.rank l.other). inr (home_side l.bit l.other l.over.low y l.sides l.over.is is there)) home,
-          λ marked. ⊎_elim
-              (λ (short : y.entry.rank < l.over.low). marked_same (masks_in m) (masks_in new) y (short_stays m new l h y (in_over y is) short) marked)
-              (λ (there : HasHome y.entry.key y.entry.rank l.other). h.all y is there marked) home,
+          elim home [ inl short ↦ inl short | inr there ↦ inr (home_side l.bit l.other l.over.low y l.sides l.over.is is there) ],
+          λ marked. elim home [
+            | inl short ↦ marked_same (masks_in m) (masks_in new) y (short_stays m new l h y (in_over y is) short) marked
+            | inr there ↦ h.all y is there marked
+          ],
           λ late.
               let same : y.room.number ≡ at.number = eqb-true y.room.number at.number late in
               let there : 1 ≤ leaves_at y.room.number l.other = counted_leaf y l.other is in
@@ -227,21 +208,17 @@ module _ {V : Type 0} where
       }
 
   abbrev pub exchanged_whole : (m new : Lodged V) (whole : Part m) {root : Node} (at up : Id) (l : IsLone m whole at up) (j : IsJoined m new whole at up l)
-      → name_of whole.tree ≡ root
-      → Exchanged m new l.route.entry.key whole l.over (under_part j) (root_after l.over.above (name_of l.other) root)
+      → name_of whole.tree ≡ root → Exchanged m new l.route.entry.key whole l.over (under_part j) (root_after l.over.above (name_of l.other) root)
   exchanged_whole m new whole at up l j named =
       subst (λ (r : Node). Exchanged m new l.route.entry.key whole l.over (under_part j) (root_after l.over.above (name_of l.other) r)) named
       (exchanged m new whole l.over l.ups l.way l.top l.once (exchange m new at up l j))
 
   pub whole_joined : {m new : Lodged V} {root : Node} (at up : Id) (w : IsWholeBut m root (late_at at.number) nobody_out) (l : IsLone m w.part at up)
-      → IsJoined m new w.part at up l
-      → IsHanded m new l.over.low l.over.tree l.other → masks_in m at.number ≡ None
+      → IsJoined m new w.part at up l → IsHanded m new l.over.low l.over.tree l.other → masks_in m at.number ≡ None
       → IsWholeBut new (root_after l.over.above (name_of l.other) root) nobody_late (out_at at.number)
   whole_joined {m = m} {new = new} at up w l j h unmarked =
       let e = exchanged_whole m new w.part at up l j w.named in
-      whole_changed m new w e
-      (fits m new at up l j h unmarked)
-      (spare_changed m new w e
+      whole_changed m new w e (fits m new at up l j h unmarked) (spare_changed m new w e
       (λ spare. spare_same (bits_in m) (bits_in new) l.other (λ y is none. idle_stays l j y.room.number none) (side_spare l.other (bits_in m) l.sides spare))
       (λ n none some idle. idle_stays l j n idle))
 
@@ -253,16 +230,12 @@ module _ {V : Type 0} where
       let e = exchanged_whole m new w.part at up l j w.named in
       let is : p ≡ leaf_part l.route (Some up) None None = inside (sym said ∙ lone_said m at up l) in
       subst (λ (q : LeafPart V). Gains (shown_entry q) (shown new (Some (root_after l.over.above (name_of l.other) root))) (shown m (Some root))) (sym is)
-      (loses_spliced
-      (routes_changed w e)
-      (side_gains l.route l.other l.sides))
+      (loses_spliced (routes_changed w e) (side_gains l.route l.other l.sides))
 
   -- the leaf of the route that goes stays as it is
   pub own_leaf : {m new : Lodged V} {whole : Part m} (at up : Id) (l : IsLone m whole at up) → IsJoined m new whole at up l
       → leaves_in new at.number ≡ leaves_in m at.number
-  own_leaf {m = m} at up l j =
-      j.leaves at.number
-      ∙ misses_leaf (name_of l.other) at.number (λ r is same.
+  own_leaf {m = m} at up l j = j.leaves at.number ∙ misses_leaf (name_of l.other) at.number (λ r is same.
       let there : 1 ≤ leaves_at r.number l.other = named_leaf l.other r is in
       let here : leaves_at at.number l.other ≡ leaves_at r.number l.other = ap (λ (k : ℕ). leaves_at k l.other) same in
       let none : leaves_at at.number l.other ≡ 0 = (own_room m at up l).0 in absurd (omega arith)) l.over.above (leaves_in m at.number)

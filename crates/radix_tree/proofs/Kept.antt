@@ -1,17 +1,16 @@
 -- What a table's rooms show is found by its searches.
-use Rattle.std.proofs.Common.{◌≡◌, ℕ, ◌+◌, ◌≤◌, ◌==◌, Bool, true, false, cond, not, List, [], ◌∷◌, Option, Some, None, refl, sym, ap, ◌∙◌, subst, inl, arith}
 use Rattle.std.specs.Prelude.{IsSome}
-use Rattle.std.proofs.lemmas.Bool.{eq-eqb, eqb-true, not-false}
-use Rattle.radix_tree.proofs.Words.{Contains, is_some, AllByRecursion, get, Seen, Rooms, Has, leaf_of, Id, Leaf, Links, Node, Contents, IsTable, entry_at}
-use Rattle.radix_tree.proofs.Words.{first_of, Placed, IsAmong, IsIn, IsChain, routes_of, LeafPart, Part, leaves_in, bits_in, leaf_part, Tells, Finds, HasPair}
-use Rattle.radix_tree.proofs.Words.{In, LeafAt, LedTo, contents, shown, shown_entry, IsWhole, Holds, Entry, Lodged}
-use Rattle.radix_tree.proofs.RoomReads.{inside, none_some, AreLinks, Has-leaf, leaf_read, value_read}
-use Rattle.radix_tree.proofs.TreeMembers.{tree_said, chain_key, first_greatest}
-use Rattle.radix_tree.proofs.TreeOrder.{tree_is_table}
-use Rattle.radix_tree.proofs.Parts.{among_leaf, in_leaf, leaf_run, way_inside, way_leads}
-use Rattle.radix_tree.proofs.BestOfTree.{member_of, stands_in}
+use Rattle.std.proofs.lemmas.Bool.{not-false}
+use Rattle.radix_tree.proofs.Words.{◌≡◌, ℕ, ◌+◌, ◌≤◌, ◌==◌, Bool, true, false, cond, not, List, [], ◌∷◌, Option, Some, None, refl, sym, ap, ◌∙◌, subst}
+use Rattle.radix_tree.proofs.Words.{inl, arith, eq-eqb, eqb-true, Contains, is_some, AllByRecursion, get, Seen, Rooms, Has, leaf_of, Id, Leaf, Links}
+use Rattle.radix_tree.proofs.Words.{Node, Contents, IsTable, entry_at, first_of, Placed, IsAmong, IsIn, IsChain, routes_of, LeafPart, Part, leaves_in}
+use Rattle.radix_tree.proofs.Words.{bits_in, leaf_part, Tells, Finds, HasPair, In, LeafAt, LedTo, contents, shown, shown_entry, IsWhole, Holds, Entry}
+use Rattle.radix_tree.proofs.Words.{Lodged}
 use Rattle.radix_tree.proofs.MemberLemmas.{all_contains, entry_at_is_member, first_of_is_member, first_is_greatest, members_stand}
-use Rattle.radix_tree.proofs.Showing.{shown_is}
+use Rattle.radix_tree.proofs.{RoomReads.inside, RoomReads.none_some, RoomReads.AreLinks, RoomReads.Has-leaf, RoomReads.leaf_read, RoomReads.value_read}
+use Rattle.radix_tree.proofs.{TreeMembers.tree_said, TreeMembers.chain_key, TreeMembers.first_greatest, TreeOrder.tree_is_table, Parts.among_leaf}
+use Rattle.radix_tree.proofs.{Parts.in_leaf, Parts.leaf_run, Parts.way_inside, Parts.way_leads, BestOfTree.member_of, BestOfTree.stands_in}
+use Rattle.radix_tree.proofs.{Showing.shown_is}
 
 -- what is some is not none
 is_none : {A : Type 0} (o : Option A) → ((x : A) → o ≡ Some x → ⊥) → o ≡ None
@@ -99,8 +98,7 @@ module _ {V : Type 0} where
   value_found {m = m} {key = key} {rank = rank} {room = room} f value is =
       let x = f.route.entry in
       ap (λ (e : Entry V). Some e) (entry_make key rank value x (sym f.has.0) (sym f.has.1)
-      (value_read m room value f.said.at f.said.block is ∙ ap (λ (e : Entry V). e.value) f.said.entry))
-      ∙ sym f.entry
+      (value_read m room value f.said.at f.said.block is ∙ ap (λ (e : Entry V). e.value) f.said.entry)) ∙ sym f.entry
 
   -- ---- the first route of a key
   pub Has-led : (m : Lodged V) {address : ℕ} {whole : Part m} {room : Id} → LedTo address whole room → Has m room
@@ -139,8 +137,7 @@ module _ {V : Type 0} where
 
   -- the first route of the key is the first of that chain
   some_first : (m : Lodged V) {root : Node} (w : IsWhole m root) (key : ℕ) {room : Id} (l : LedTo key w.part room) (e : Entry V)
-      → first_of key (routes_of w.part.tree) ≡ Some e
-      → (l.leaf.first.entry.key ≡ key) × (e ≡ l.leaf.first.entry)
+      → first_of key (routes_of w.part.tree) ≡ Some e → (l.leaf.first.entry.key ≡ key) × (e ≡ l.leaf.first.entry)
   some_first m w key l e is =
       let es = routes_of w.part.tree in
       let x = l.leaf.first in
@@ -160,8 +157,7 @@ module _ {V : Type 0} where
 
   -- where the chain's key is another, no route has the key
   pub no_first : (m : Lodged V) (root : Node) (w : IsWhole m root) (key : ℕ) {room : Id} (l : LedTo key w.part room) (links : Links) (leaf : Leaf)
-      → AreLinks m room links → leaf ≡ leaf_of links
-      → (leaf.key ≡ key → ⊥) → first_of key (shown m (Some root)) ≡ None
+      → AreLinks m room links → leaf ≡ leaf_of links → (leaf.key ≡ key → ⊥) → first_of key (shown m (Some root)) ≡ None
   no_first m root w key {room = room} l links leaf are read differs =
       is_none (first_of key (shown m (Some root))) (λ e is. differs ((leaf_is m room (led_first m l) links are read).0
       ∙ (some_first m w key l e (ap (λ (es : List (Entry V)). first_of key es) (sym (shown_is w)) ∙ is)).0))
@@ -184,8 +180,7 @@ module _ {V : Type 0} where
   first_is es key x member is (Some e) some own = ap (λ (e : Entry V). Some e) (own e some)
 
   pub first_found : (m : Lodged V) {root : Node} (w : IsWhole m root) (key : ℕ) {room : Id} (l : LedTo key w.part room) (links : Links) (leaf : Leaf)
-      (value : V) → AreLinks m room links → leaf ≡ leaf_of links
-      → ((s : Seen V) → get m room.number ≡ Some s → value ≡ s.value) → leaf.key ≡ key
+      (value : V) → AreLinks m room links → leaf ≡ leaf_of links → ((s : Seen V) → get m room.number ≡ Some s → value ≡ s.value) → leaf.key ≡ key
       → first_of key (shown m (Some root)) ≡ Some (record { key = key; rank = leaf.rank; value = value })
   first_found m w key {room = room} l links leaf value are read is same =
       let es = routes_of w.part.tree in
@@ -226,6 +221,5 @@ module _ {V : Type 0} where
   -- a pair whose route is in the tree is there
   pub pair_there : {m : Lodged V} {root : Node} (w : IsWhole m root) (key rank : ℕ) (x : Placed V) → IsIn x w.part.tree → HasPair key rank x
       → IsSome (entry_at key rank (shown m (Some root)))
-  pair_there w key rank x at has =
-      ap (λ (o : Option (Entry V)). is_some o) (ap (λ (es : List (Entry V)). entry_at key rank es) (shown_is w)
+  pair_there w key rank x at has = ap (λ (o : Option (Entry V)). is_some o) (ap (λ (es : List (Entry V)). entry_at key rank es) (shown_is w)
       ∙ stands_at (routes_of w.part.tree) (stands_in w.part.low w.part.tree w.part.is x at) has.0 has.1)

@@ -1,18 +1,14 @@
 -- The laws of a table: those of its best routes, and of putting an entry in and taking it out.
-use Rattle.std.proofs.Common.{◌≡◌, ℕ, ◌*◌, ◌-◌, ◌^◌, ◌≤◌, true, false, cond, filter, List, [], ◌∷◌, Option, Some, None, refl, sym, ◌∙◌, ap, inl, inr, arith}
-use Rattle.std.specs.Prelude.{IfSome}
-use Rattle.std.specs.Borrow.{Bor}
-use Rattle.std.proofs.lemmas.Bool.{cases_lt}
-use Rattle.std.proofs.lemmas.Bool.Decides.{nat_tests}
-use Rattle.std.proofs.lemmas.List.{append-nil}
+use Rattle.std.specs.{Prelude.IfSome, Borrow.Bor}
 use Rattle.std.proofs.lemmas.List.Elements.{filter-append}
-use Rattle.radix_tree.proofs.Words.{option_map, agrees, masked, front, precedes, IsRoute, IsTable, has_pair, entry_at, without, with_entry, agreeing, greater}
-use Rattle.radix_tree.proofs.Words.{greatest, best_of, AreOnePair, StandsIn, Agrees, IsBest, BestIsGreatest, BestIsUnique, NoneAgrees, BestStays, BestIsGreater}
-use Rattle.radix_tree.proofs.Words.{BestStaysWithout, WithThenWithout, WithoutThenWith, WithTwiceIsLast, routed, Entry}
-use Rattle.radix_tree.proofs.ListLemmas.{filter_filter}
-use Rattle.radix_tree.proofs.OrderLemmas.{own_pair}
+use Rattle.radix_tree.proofs.Words.{◌≡◌, ℕ, ◌*◌, ◌-◌, ◌^◌, ◌≤◌, true, false, cond, filter, List, [], ◌∷◌, Option, Some, None, refl, sym, ◌∙◌, ap, inl}
+use Rattle.radix_tree.proofs.Words.{inr, arith, cases_lt, nat_tests, append-nil, option_map, agrees, masked, front, precedes, IsRoute, IsTable, has_pair}
+use Rattle.radix_tree.proofs.Words.{entry_at, without, with_entry, agreeing, greater, greatest, best_of, AreOnePair, StandsIn, Agrees, IsBest}
+use Rattle.radix_tree.proofs.Words.{BestIsGreatest, BestIsUnique, NoneAgrees, BestStays, BestIsGreater, BestStaysWithout, WithThenWithout}
+use Rattle.radix_tree.proofs.Words.{WithoutThenWith, WithTwiceIsLast, routed, Entry}
 use Rattle.radix_tree.proofs.TableLemmas.{later, same, sooner, with_later, with_parts, without_absent, without_is_table}
 use Rattle.radix_tree.proofs.MemberLemmas.{best_is_member, members_stand, members_are_routes, members_of_without, without_keeps}
+use Rattle.radix_tree.proofs.{ListLemmas.filter_filter, OrderLemmas.own_pair}
 pub use Rattle.radix_tree.proofs.OrderLemmas.{precedes_in_words, precedes_one_way, precedes_transitively, precedes_or_same}
 pub use Rattle.radix_tree.proofs.TableLemmas.{with_is_table, without_is_table}
 pub use Rattle.radix_tree.proofs.MemberLemmas.{members_stand, members_are_routes, entry_at_is_member, first_of_is_member, best_is_member, first_is_greatest}
@@ -41,8 +37,7 @@ greater_least x (Some f) = elim (cases_lt x.rank f.rank) [
 best_reaches : {V : Type 0} (address : ℕ) (es : List (Entry V)) (o : Entry V) → StandsIn es o → Agrees address o
     → (f : Entry V) × (best_of address es ≡ Some f) × (o.rank ≤ f.rank)
 best_reaches address [] o h a = cc
-best_reaches {V} address (x ∷ xs) o h a =
-    elim (has_pair o.key o.rank x) as (λ b. cond b (Some x) (entry_at o.key o.rank xs) ≡ Some o
+best_reaches {V} address (x ∷ xs) o h a = elim (has_pair o.key o.rank x) as (λ b. cond b (Some x) (entry_at o.key o.rank xs) ≡ Some o
     → (f : Entry V) × (best_of address (x ∷ xs) ≡ Some f) × (o.rank ≤ f.rank)) [
       | true ↦ λ k. (let is : o ≡ x = cc in let b : agrees x.rank x.key address ≡ true = rw (← is) a in
           let least = greater_least x (best_of address xs) in (least.0, best_here address x xs b ∙ least.1, rw is least.2))
@@ -63,8 +58,7 @@ best_is_greatest address entries e r h =
     record {
       stands = (members_stand entries e r).1 member.0;
       agrees = member.1;
-      greatest =
-          λ o s a. (let reached = best_reaches address entries o s a in let is : reached.0 ≡ e =
+      greatest = λ o s a. (let reached = best_reaches address entries o s a in let is : reached.0 ≡ e =
           (let both : Some reached.0 ≡ Some e = sym reached.1 ∙ h in cc) in rw (← is) reached.2);
     }
 
@@ -75,8 +69,7 @@ best_stands address es None table h = tt
 best_stands address es (Some r) table h = (best_is_greatest address es (routed r) table (sym h)).stands
 
 pub none_agrees : {V : Type 0} → NoneAgrees V
-none_agrees address entries e h s =
-    elim (agrees e.rank e.key address) as (λ b. agrees e.rank e.key address ≡ b → b ≡ false)
+none_agrees address entries e h s = elim (agrees e.rank e.key address) as (λ b. agrees e.rank e.key address ≡ b → b ≡ false)
     [ true ↦ λ a. (let reached = best_reaches address entries e s a in let gone : Some reached.0 ≡ None = sym reached.1 ∙ h in cc) | false ↦ λ a. refl ] refl
 
 -- an entry of the table whose pair has the key and the rank of another is that one
@@ -159,8 +152,7 @@ best_left : {V : Type 0} {address : ℕ} (key rank : ℕ) (es : List (Entry V)) 
 best_left key rank es e r other best = record {
   stands = without_keeps key rank es e other best.stands;
   agrees = best.agrees;
-  greatest =
-      λ o s a. best.greatest o ((members_stand es o r).1 (members_of_without key rank es o
+  greatest = λ o s a. best.greatest o ((members_stand es o r).1 (members_of_without key rank es o
       ((members_stand (without key rank es) o (without_is_table es key rank r)).0 s)).0) a;
 }
 
@@ -176,8 +168,7 @@ none_left address key rank es r h (Some e) k =
 best_stays_by : {V : Type 0} (address key rank : ℕ) (es : List (Entry V)) → IsTable es → (m : Option (Entry V)) → best_of address es ≡ m
     → ((e : Entry V) → m ≡ Some e → ¬ (AreOnePair e.key e.rank key rank)) → best_of address (without key rank es) ≡ m
 best_stays_by address key rank es r None h other = none_left address key rank es r h (best_of address (without key rank es)) refl
-best_stays_by address key rank es r (Some e) h other =
-    best_is_unique address (without key rank es) e (without_is_table es key rank r)
+best_stays_by address key rank es r (Some e) h other = best_is_unique address (without key rank es) e (without_is_table es key rank r)
     (best_left key rank es e r (other e refl) (best_is_greatest address es e r h))
 
 pub best_stays_without : {V : Type 0} → BestStaysWithout V
@@ -218,18 +209,14 @@ with_twice_is_last entries e last p =
     rw (
       filter_filter before_last (λ x. precedes x e) true (λ x k. grind (arith, nat_tests)) entries,
       fails,
-      filter_filter before_last (λ x. precedes e x)
-          false (λ x k. grind (arith, nat_tests)) entries,
-    )
-    (append-nil (filter before_last entries))) in
+      filter_filter before_last (λ x. precedes e x) false (λ x k. grind (arith, nat_tests)) entries,
+    ) (append-nil (filter before_last entries))) in
     let second : filter behind_last (with_entry e entries) ≡ filter behind_last entries =
     filter-append behind_last (filter (λ x. precedes x e) entries) (e ∷ filter (λ x. precedes e x) entries)
     ∙ (let fails : precedes last e ≡ false = grind (arith, nat_tests) in
     rw (
       filter_filter behind_last (λ x. precedes x e) false (λ x k. grind (arith, nat_tests)) entries,
       fails,
-      filter_filter behind_last (λ x. precedes e x)
-          true (λ x k. grind (arith, nat_tests)) entries,
-    )
-    refl) in
+      filter_filter behind_last (λ x. precedes e x) true (λ x k. grind (arith, nat_tests)) entries,
+    ) refl) in
     rw (first, second) refl

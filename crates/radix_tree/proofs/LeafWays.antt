@@ -1,6 +1,6 @@
 -- The bit nodes on the way of a key to a part, and the one leaf that is on it.
-use Rattle.std.proofs.Common.{◌≡◌, ℕ, ◌+◌, List, [], ◌∷◌, refl, sym, ap, ◌∙◌, subst, ⊎_elim}
-use Rattle.radix_tree.proofs.Words.{Id, Placed, Tree, leaf, fork, bit_at, Part, Way, Frame, on_zero, on_one, plug, low_past, Lead, Lodged}
+use Rattle.radix_tree.proofs.Words.{◌≡◌, ℕ, ◌+◌, List, [], ◌∷◌, refl, sym, ap, ◌∙◌, subst, inl, inr, Id, Placed, Tree, leaf, fork, bit_at, Part, Way}
+use Rattle.radix_tree.proofs.Words.{Frame, on_zero, on_one, plug, low_past, Lead, Lodged}
 use Rattle.radix_tree.proofs.AddressBits.{zero_not_one}
 
 module _ {V : Type 0} where
@@ -22,14 +22,14 @@ module _ {V : Type 0} where
       let b = way.0 in
       let f = b.at in
       let low : at.low ≡ low_past (f.bit + 1) fs = lowest ∙ ap (λ (n : ℕ). low_past n fs) b.low in
-      ⊎_elim
-      (λ (e : (mid.tree ≡ f.zero) × (bit_at f.bit key ≡ 0)).
-      way_from m key whole p at ps way.1 (on_zero b.room f.bit f.one ∷ fs) (f.is ∙ ap (λ (t : Tree V). fork b.room f.bit t f.one) (sym e.0 ∙ was)) (e.1, lead)
-      low)
-      (λ (e : (mid.tree ≡ f.one) × (bit_at f.bit key ≡ 1)).
-      way_from m key whole p at ps way.1 (on_one b.room f.bit f.zero ∷ fs) (f.is ∙ ap (λ (t : Tree V). fork b.room f.bit f.zero t) (sym e.0 ∙ was)) (e.1, lead)
-      low)
-      b.side
+      elim b.side [
+        | inl e ↦ way_from m key whole p at ps way.1 (on_zero b.room f.bit f.one ∷ fs)
+            (f.is ∙ ap (λ (t : Tree V). fork b.room f.bit t f.one) (sym e.0 ∙ was)) (e.1, lead)
+            low
+        | inr e ↦ way_from m key whole p at ps way.1 (on_one b.room f.bit f.zero ∷ fs)
+            (f.is ∙ ap (λ (t : Tree V). fork b.room f.bit f.zero t) (sym e.0 ∙ was)) (e.1, lead)
+            low
+      ]
 
   pub on_way : (m : Lodged V) (key : ℕ) (whole at : Part m) (ups : List (Part m)) → Way key whole at ups → OnWay m key whole at
   on_way m key whole at ups way = way_from m key whole at at ups way [] refl tt refl

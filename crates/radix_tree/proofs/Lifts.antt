@@ -1,10 +1,8 @@
 -- A node with another bit node above it.
-use Rattle.std.proofs.Common.{◌≡◌, ℕ, ◌==◌, true, false, if◌then◌else◌, Option, Some, None, refl, sym, ap, ◌∙◌}
-use Rattle.std.proofs.lemmas.Bool.{eqb-true}
-use Rattle.radix_tree.proofs.Words.{Has, leaf_of, Id, Leaf, BitNode, Links, IsBitNodeOf, LeafPart, BitPart, Part, leaves_in, bits_in, heads_in, bit_part}
-use Rattle.radix_tree.proofs.Words.{head_part, first_room, leaf_part, LeafAt, with_leaf, put_leaf, put_bit, put_head, leaf_above, Lodged}
-use Rattle.radix_tree.proofs.RoomReads.{AreLinks, Has-leaf, leaf_read}
-use Rattle.radix_tree.proofs.Parts.{leaf_run}
+use Rattle.radix_tree.proofs.Words.{◌≡◌, ℕ, ◌==◌, true, false, if◌then◌else◌, Option, Some, None, refl, sym, ap, ◌∙◌, eqb-true, Has, leaf_of, Id, Leaf}
+use Rattle.radix_tree.proofs.Words.{BitNode, Links, IsBitNodeOf, LeafPart, BitPart, Part, leaves_in, bits_in, heads_in, bit_part, head_part, first_room}
+use Rattle.radix_tree.proofs.Words.{leaf_part, LeafAt, with_leaf, put_leaf, put_bit, put_head, leaf_above, Lodged}
+use Rattle.radix_tree.proofs.{RoomReads.AreLinks, RoomReads.Has-leaf, RoomReads.leaf_read, Parts.leaf_run}
 
 module _ {V : Type 0} where
   abbrev pub part_at : (m : Lodged V) {p : Part m} {room : Id} → LeafAt p room → LeafPart V
@@ -22,8 +20,7 @@ module _ {V : Type 0} where
       → put_leaf room (record l { above = above }) n (leaves_in m n) ≡ (if n == room.number then leaf_above above (leaves_in m n) else leaves_in m n)
   leaf_lifted m p room links {l = l} above n f are leaf =
       let read = leaf ∙ leaf_read m room links (leaf_said m f) (ap (λ (i : Id). i.block) f.room_is) are in
-      elim (n == room.number) as (λ t. (n == room.number) ≡ t
-      → (if t then with_leaf (record l { above = above }) (leaves_in m n) else leaves_in m n)
+      elim (n == room.number) as (λ t. (n == room.number) ≡ t → (if t then with_leaf (record l { above = above }) (leaves_in m n) else leaves_in m n)
       ≡ (if t then leaf_above above (leaves_in m n) else leaves_in m n)) [
         | true ↦ λ e. let said = ap (λ (k : ℕ). leaves_in m k) (eqb-true n room.number e) ∙ leaf_said m f in
             ap (with_leaf (record l { above = above })) said ∙ ap (λ (z : Leaf). with_leaf (record z { above = above }) (Some (part_at m f))) read

@@ -1,6 +1,6 @@
 -- What holds of all elements of a list, and what is filtered from it or found in it.
-use Rattle.std.proofs.Common.{◌≡◌, Bool, true, false, cond, List, [], ◌∷◌, ◌++◌, filter, Option, Some, None, refl, ap, subst}
-use Rattle.radix_tree.proofs.Words.{find, AllByRecursion, option_or}
+use Rattle.radix_tree.proofs.Words.{◌≡◌, Bool, true, false, cond, List, [], ◌∷◌, ◌++◌, filter, Option, Some, None, refl, ap, subst, find, AllByRecursion}
+use Rattle.radix_tree.proofs.Words.{option_or}
 
 module _ {X : Type 0} (P : X → Type 0) where
   pub all_weaker : (Q : X → Type 0) → ((x : X) → P x → Q x) → (xs : List X) → AllByRecursion P xs → AllByRecursion Q xs
@@ -18,8 +18,7 @@ module _ {X : Type 0} (P : X → Type 0) where
   -- what a filter leaves has passed its test
   pub all_passed : (p : X → Bool) (xs : List X) → AllByRecursion P xs → AllByRecursion (λ x. P x × (p x ≡ true)) (filter p xs)
   all_passed p [] h = tt
-  all_passed p (x ∷ xs) h =
-      elim (p x) as (λ b. p x ≡ b → AllByRecursion (λ y. P y × (p y ≡ true)) (cond b (x ∷ filter p xs) (filter p xs)))
+  all_passed p (x ∷ xs) h = elim (p x) as (λ b. p x ≡ b → AllByRecursion (λ y. P y × (p y ≡ true)) (cond b (x ∷ filter p xs) (filter p xs)))
       [ true ↦ λ k. ((h.0, k), all_passed p xs h.1) | false ↦ λ k. all_passed p xs h.1 ] refl
 
   pub all_filter : (p : X → Bool) (xs : List X) → AllByRecursion P xs → AllByRecursion P (filter p xs)
@@ -30,8 +29,7 @@ module _ {X : Type 0} (P : X → Type 0) where
   -- what is found passes the test
   pub all_find : (q : X → Bool) (xs : List X) (x : X) → AllByRecursion P xs → find q xs ≡ Some x → P x × (q x ≡ true)
   all_find q [] x h k = cc
-  all_find q (y ∷ ys) x h k =
-      elim (q y) as (λ b. q y ≡ b → cond b (Some y) (find q ys) ≡ Some x → P x × (q x ≡ true))
+  all_find q (y ∷ ys) x h k = elim (q y) as (λ b. q y ≡ b → cond b (Some y) (find q ys) ≡ Some x → P x × (q x ≡ true))
       [ true ↦ λ e s. (let same : y ≡ x = cc in subst (λ z. P z × (q z ≡ true)) same (h.0, e)) | false ↦ λ e s. all_find q ys x h.1 s ] refl k
 
 module _ {X : Type 0} where

@@ -1,17 +1,13 @@
 -- The mask of a route comes into the list of its bit node, or goes out of it: the table's rooms as a whole.
-use Rattle.std.proofs.Common.{◌≡◌, ℕ, ◌+◌, ◌<◌, ◌≤◌, ◌==◌, Bool, true, false, not, ◌&&◌, ◌||◌, List, Option, Some, None, refl, inl, inr, sym, ap, ◌∙◌}
-use Rattle.std.proofs.Common.{subst, ⊎_elim, arith}
-use Rattle.std.proofs.lemmas.Bool.{eq-eqb, ne_eqb, cases_eq}
-use Rattle.radix_tree.proofs.Words.{is_some, Id, Node, Placed, IsAmong, IsIn, MaskPart, Part, heads_in, masks_in, HasHome, KeepsLeaves, KeepsBits, AreOnce}
-use Rattle.radix_tree.proofs.Words.{IsMarked, IsMaskList, MarkedIn, IsWholeBut, nobody_late, nobody_out, IsMasks, IsBitNode, IsFree, IsAside, IsNoRank, HomeAt}
-use Rattle.radix_tree.proofs.Words.{IsHome, sorted_in, taken_out, Lodged}
-use Rattle.radix_tree.proofs.RoomReads.{none_some}
-use Rattle.radix_tree.proofs.Parts.{fork_is, way_leads}
-use Rattle.radix_tree.proofs.PlugLists.{falls_between}
-use Rattle.radix_tree.proofs.WholeParts.{with_late}
-use Rattle.radix_tree.proofs.MaskLists.{sorted_here, among_sorted, sorted_among, falls_sorted, taken_among, among_taken, falls_taken, ranked_in, bit_node_at}
-use Rattle.radix_tree.proofs.MaskLists.{masks_listed}
-use Rattle.radix_tree.proofs.HomeLists.{true_false, or_right, some_of, one_room, one_of_bit, home_has, tree_of, home_list, home_inside, relisted, whole_kept}
+use Rattle.radix_tree.proofs.Words.{◌≡◌, ℕ, ◌+◌, ◌<◌, ◌≤◌, ◌==◌, Bool, true, false, not, ◌&&◌, ◌||◌, List, Option, Some, None, refl, inl, inr, sym, ap}
+use Rattle.radix_tree.proofs.Words.{◌∙◌, subst, arith, eq-eqb, ne_eqb, cases_eq, is_some, Id, Node, Placed, IsAmong, IsIn, MaskPart, Part, heads_in}
+use Rattle.radix_tree.proofs.Words.{masks_in, HasHome, KeepsLeaves, KeepsBits, AreOnce, IsMarked, IsMaskList, MarkedIn, IsWholeBut, nobody_late}
+use Rattle.radix_tree.proofs.Words.{nobody_out, IsMasks, IsBitNode, IsFree, IsAside, IsNoRank, HomeAt, IsHome, sorted_in, taken_out, Lodged}
+use Rattle.radix_tree.proofs.MaskLists.{sorted_here, among_sorted, sorted_among, falls_sorted, taken_among, among_taken, falls_taken, ranked_in}
+use Rattle.radix_tree.proofs.MaskLists.{bit_node_at, masks_listed}
+use Rattle.radix_tree.proofs.HomeLists.{true_false, or_right, some_of, one_room, one_of_bit, home_has, tree_of, home_list, home_inside, relisted}
+use Rattle.radix_tree.proofs.HomeLists.{whole_kept}
+use Rattle.radix_tree.proofs.{RoomReads.none_some, Parts.fork_is, Parts.way_leads, PlugLists.falls_between, WholeParts.with_late}
 
 module _ {V : Type 0} where
   -- ---- a mask comes into the list of its home
@@ -50,8 +46,7 @@ module _ {V : Type 0} where
   are_masks : (m : Lodged V) {whole : Part m} {room node : Id} (y : Homed m whole room node) (l : list_at m y) → IsMasks m (heads_in m node.number) l.masks
   are_masks m y l =
       let h = y.home in
-      masks_listed h.part l (fork_is m h.at).0.within
-      (λ x is. subst (IsIn x) (sym h.at.is) is.0)
+      masks_listed h.part l (fork_is m h.at).0.within (λ x is. subst (IsIn x) (sym h.at.is) is.0)
 
   -- a room that is not of a route of the list's ranks is aside of it
   out_of_range : (m : Lodged V) (whole : Part m) {room node : Id} (y : Homed m whole room node) (x : Placed V) → IsIn x whole.tree
@@ -84,9 +79,10 @@ module _ {V : Type 0} where
       true_false (sym marked ∙ ap (λ (i : Id). is_some (masks_in m i.number)) y.room_is ∙ ap is_some unmarked)
 
   marks_more : (m new : Lodged V) (node room : Id) → IsSortedIn m new node room → (x : Placed V) → IsMarked (masks_in m) x → IsMarked (masks_in new) x
-  marks_more m new node room s x marked = ⊎_elim
-      (λ (same : x.room.number ≡ room.number). ap (λ (n : ℕ). is_some (masks_in new n)) same ∙ s.marked)
-      (λ (other : x.room.number ≡ room.number → ⊥). s.marks x.room.number other ∙ marked) (cases_eq x.room.number room.number)
+  marks_more m new node room s x marked = elim (cases_eq x.room.number room.number) [
+    | inl same ↦ ap (λ (n : ℕ). is_some (masks_in new n)) same ∙ s.marked
+    | inr other ↦ s.marks x.room.number other ∙ marked
+  ]
 
   -- the list has the route and those of before
   list_more : (m new : Lodged V) (whole : Part m) (room node : Id) (y : Homed m whole room node) → list_at m y → masks_in m room.number ≡ None
@@ -103,18 +99,16 @@ module _ {V : Type 0} where
         begins = after.begins;
         stands = after.stands;
         falls = falls_sorted h.part.low (h.at.bit + 1) y.is l.masks l.falls h.past (omega arith) none;
-        has = λ x is least most. ⊎_elim
-            (λ (same : x.room.number ≡ room.number).
-            subst (λ (p : Placed V). IsAmong p (sorted_in y.is l.masks)) (one_room m whole y.is x y.inside (to_whole m y x is.0)
-            (ap (λ (i : Id). i.number) y.room_is ∙ sym same)) (sorted_here y.is l.masks))
-            (λ (other : x.room.number ≡ room.number → ⊥).
-            among_sorted h.part.low (h.at.bit + 1) y.is l.masks l.falls x (l.has x (is.0, sym (s.marks x.room.number other) ∙ is.1) least most))
-            (cases_eq x.room.number room.number);
-        within = λ x among. ⊎_elim
-            (λ (e : y.is ≡ x). subst (λ (p : Placed V). MarkedIn (masks_in new) (tree_of h) p) e
-            (in_home m y, ap (λ (i : Id). is_some (masks_in new i.number)) y.room_is ∙ s.marked))
-            (λ (old : IsAmong x l.masks). let is = l.within x old in (is.0, marks_more m new node room s x is.1))
-            (sorted_among h.part.low (h.at.bit + 1) y.is l.masks l.falls x among);
+        has = λ x is least most. elim (cases_eq x.room.number room.number) [
+          | inl same ↦ subst (λ (p : Placed V). IsAmong p (sorted_in y.is l.masks)) (one_room m whole y.is x y.inside (to_whole m y x is.0)
+              (ap (λ (i : Id). i.number) y.room_is ∙ sym same)) (sorted_here y.is l.masks)
+          | inr other ↦ among_sorted h.part.low (h.at.bit + 1) y.is l.masks l.falls x (l.has x (is.0, sym (s.marks x.room.number other) ∙ is.1) least most)
+        ];
+        within = λ x among. elim (sorted_among h.part.low (h.at.bit + 1) y.is l.masks l.falls x among) [
+          | inl e ↦ subst (λ (p : Placed V). MarkedIn (masks_in new) (tree_of h) p) e
+              (in_home m y, ap (λ (i : Id). is_some (masks_in new i.number)) y.room_is ∙ s.marked)
+          | inr old ↦ let is = l.within x old in (is.0, marks_more m new node room s x is.1)
+        ];
       }
 
   pub listed_more : (m new : Lodged V) {root : Node} (late : ℕ → Bool) (w : IsWholeBut m root late nobody_out) (room node : Id) → AreOnce w.part.tree
@@ -124,24 +118,23 @@ module _ {V : Type 0} where
       let l = home_list m y.home w.lists in
       let number : y.is.room.number ≡ room.number = ap (λ (i : Id). i.number) y.room_is in
       whole_kept m new late (λ n. late n && not (n == room.number)) w leaves bits
-      (relisted m new y.is.entry.key y.is.entry.rank w.part node y.home once
-      (record {
+      (relisted m new y.is.entry.key y.is.entry.rank w.part node y.home once (record {
         heads = s.heads;
         masks = λ x in_x out. s.masks l.masks (are_masks m y l) x.room.number (not_room m w.part y x in_x out) (aside_of m w.part y l x in_x out);
         list = list_more m new w.part room node y l unmarked s;
-      }) w.lists)
-      (record {
-        listed = λ n p said. ⊎_elim
-            (λ (same : n ≡ room.number). (y.is, y.inside, number ∙ sym same, home_has m w.part y.home))
-            (λ (other : n ≡ room.number → ⊥). let q = some_of (masks_in m n) (sym (s.marks n other) ∙ ap is_some said) in w.listed n q.0 q.1)
-            (cases_eq n room.number);
-        all = λ x in_x home. ⊎_elim
-            (λ (same : x.room.number ≡ room.number). inl (ap (λ (n : ℕ). is_some (masks_in new n)) same ∙ s.marked))
-            (λ (other : x.room.number ≡ room.number → ⊥). ⊎_elim
-            (λ (marked : IsMarked (masks_in m) x). inl (s.marks x.room.number other ∙ marked))
-            (λ (is_late : late x.room.number ≡ true). inr (ap (λ (t : Bool). t && not (x.room.number == room.number)) is_late
-            ∙ ap not (ne_eqb x.room.number room.number other)))
-            (w.all x in_x home)) (cases_eq x.room.number room.number);
+      }) w.lists) (record {
+        listed = λ n p said. elim (cases_eq n room.number) [
+          | inl same ↦ (y.is, y.inside, number ∙ sym same, home_has m w.part y.home)
+          | inr other ↦ let q = some_of (masks_in m n) (sym (s.marks n other) ∙ ap is_some said) in w.listed n q.0 q.1
+        ];
+        all = λ x in_x home. elim (cases_eq x.room.number room.number) [
+          | inl same ↦ inl (ap (λ (n : ℕ). is_some (masks_in new n)) same ∙ s.marked)
+          | inr other ↦ elim (w.all x in_x home) [
+            | inl marked ↦ inl (s.marks x.room.number other ∙ marked)
+            | inr is_late ↦ inr (ap (λ (t : Bool). t && not (x.room.number == room.number)) is_late
+                ∙ ap not (ne_eqb x.room.number room.number other))
+          ]
+        ];
       })
 
   -- ---- a mask goes out of the list of its home
@@ -190,24 +183,23 @@ module _ {V : Type 0} where
       → KeepsLeaves m new → KeepsBits m new → IsWholeBut new root (λ n. late n || (n == room.number)) nobody_out
   listed_less m new late w room node once y marked s leaves bits =
       let l = home_list m y.home w.lists in
-      whole_kept m new late (λ n. late n || (n == room.number)) w leaves bits
-      (relisted m new y.is.entry.key y.is.entry.rank w.part node y.home once
+      whole_kept m new late (λ n. late n || (n == room.number)) w leaves bits (relisted m new y.is.entry.key y.is.entry.rank w.part node y.home once
       (record {
         heads = s.heads;
         masks = λ x in_x out. s.masks l.masks (are_masks m y l) x.room.number (not_room m w.part y x in_x out) (aside_of m w.part y l x in_x out);
         list = list_less m new w.part room node y l marked s;
-      }) w.lists)
-      (record {
-        listed = λ n p said. ⊎_elim
-            (λ (same : n ≡ room.number). absurd (none_some (sym s.unmarked ∙ ap (masks_in new) (sym same) ∙ said)))
-            (λ (other : n ≡ room.number → ⊥). let q = some_of (masks_in m n) (sym (s.marks n other) ∙ ap is_some said) in w.listed n q.0 q.1)
-            (cases_eq n room.number);
-        all = λ x in_x home. ⊎_elim
-            (λ (same : x.room.number ≡ room.number). inr (or_right (late x.room.number) (eq-eqb x.room.number room.number same)))
-            (λ (other : x.room.number ≡ room.number → ⊥). ⊎_elim
-            (λ (old : IsMarked (masks_in m) x). inl (s.marks x.room.number other ∙ old))
-            (λ (is_late : late x.room.number ≡ true). inr (ap (λ (t : Bool). t || (x.room.number == room.number)) is_late))
-            (w.all x in_x home)) (cases_eq x.room.number room.number);
+      }) w.lists) (record {
+        listed = λ n p said. elim (cases_eq n room.number) [
+          | inl same ↦ absurd (none_some (sym s.unmarked ∙ ap (masks_in new) (sym same) ∙ said))
+          | inr other ↦ let q = some_of (masks_in m n) (sym (s.marks n other) ∙ ap is_some said) in w.listed n q.0 q.1
+        ];
+        all = λ x in_x home. elim (cases_eq x.room.number room.number) [
+          | inl same ↦ inr (or_right (late x.room.number) (eq-eqb x.room.number room.number same))
+          | inr other ↦ elim (w.all x in_x home) [
+            | inl old ↦ inl (s.marks x.room.number other ∙ old)
+            | inr is_late ↦ inr (ap (λ (t : Bool). t || (x.room.number == room.number)) is_late)
+          ]
+        ];
       })
 
   -- ---- a route with no home
@@ -227,17 +219,16 @@ module _ {V : Type 0} where
   pub settled : (m : Lodged V) {root : Node} (late : ℕ → Bool) (w : IsWholeBut m root late nobody_out) (room : Id)
       → ((x : Placed V) → IsIn x w.part.tree → HasHome x.entry.key x.entry.rank w.part.tree → x.room.number ≡ room.number → IsMarked (masks_in m) x)
       → IsWholeBut m root (λ n. late n && not (n == room.number)) nobody_out
-  settled m late w room here = with_late (λ n. late n && not (n == room.number)) w (λ x in_x home. ⊎_elim
-      (λ (same : x.room.number ≡ room.number). inl (here x in_x home same))
-      (λ (other : x.room.number ≡ room.number → ⊥). ⊎_elim
-      (λ (marked : IsMarked (masks_in m) x). inl marked)
-      (λ (is_late : late x.room.number ≡ true). inr (ap (λ (t : Bool). t && not (x.room.number == room.number)) is_late
-      ∙ ap not (ne_eqb x.room.number room.number other)))
-      (w.all x in_x home)) (cases_eq x.room.number room.number))
+  settled m late w room here = with_late (λ n. late n && not (n == room.number)) w (λ x in_x home. elim (cases_eq x.room.number room.number) [
+    | inl same ↦ inl (here x in_x home same)
+    | inr other ↦ elim (w.all x in_x home) [
+      | inl marked ↦ inl marked
+      | inr is_late ↦ inr (ap (λ (t : Bool). t && not (x.room.number == room.number)) is_late ∙ ap not (ne_eqb x.room.number room.number other))
+    ]
+  ])
 
   pub never_late : {m : Lodged V} {root : Node} (late : ℕ → Bool) (w : IsWholeBut m root late nobody_out) (room : Id) (y : Placed V) → IsIn y w.part.tree
-      → y.room ≡ room → (HasHome y.entry.key y.entry.rank w.part.tree → ⊥)
-      → IsWholeBut m root (λ n. late n && not (n == room.number)) nobody_out
+      → y.room ≡ room → (HasHome y.entry.key y.entry.rank w.part.tree → ⊥) → IsWholeBut m root (λ n. late n && not (n == room.number)) nobody_out
   never_late {m = m} late w room y in_y is none = settled m late w room
       (λ x in_x home same. absurd (none (subst (λ (p : Placed V). HasHome p.entry.key p.entry.rank w.part.tree)
       (one_room m w.part x y in_x in_y (same ∙ sym (ap (λ (i : Id). i.number) is))) home)))
@@ -260,8 +251,7 @@ module _ {V : Type 0} where
   home_free {m = m} whole y unmarked = record { is = y.is; room_is = y.room_is; ranked = ranked_in m whole y.is y.inside; unmarked = unmarked }
 
   pub home_member : {m : Lodged V} {root : Node} {late : ℕ → Bool} (w : IsWholeBut m root late nobody_out) {room node : Id} (y : Homed m w.part room node)
-      → IsMarked (masks_in m) y.is
-      → (ms : List (Placed V)) × (x : Placed V) × IsMasks m (heads_in m node.number) ms × IsAmong x ms × (x.room ≡ room)
+      → IsMarked (masks_in m) y.is → (ms : List (Placed V)) × (x : Placed V) × IsMasks m (heads_in m node.number) ms × IsAmong x ms × (x.room ≡ room)
   home_member {m = m} w y marked =
       let l = home_list m y.home w.lists in
       (l.masks, y.is, are_masks m y l, at_home m y l marked, y.room_is)
@@ -269,5 +259,7 @@ module _ {V : Type 0} where
   -- where nobody is late a route with a home is marked
   pub marked_at : {m : Lodged V} {root : Node} (w : IsWholeBut m root nobody_late nobody_out) {room node : Id} (y : Homed m w.part room node)
       → IsMarked (masks_in m) y.is
-  marked_at {m = m} w y = ⊎_elim (λ (marked : IsMarked (masks_in m) y.is). marked) (λ (is_late : false ≡ true). absurd (true_false (sym is_late)))
-      (w.all y.is y.inside (home_has m w.part y.home))
+  marked_at {m = m} w y = elim (w.all y.is y.inside (home_has m w.part y.home)) [
+    | inl marked ↦ marked
+    | inr is_late ↦ absurd (true_false (sym is_late))
+  ]

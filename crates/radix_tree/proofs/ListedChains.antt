@@ -1,19 +1,13 @@
 -- A walk along a chain whose masks are listed one after the other.
-use Rattle.std.proofs.Common.{◌≡◌, ℕ, ◌+◌, ◌<◌, ◌≤◌, ◌==◌, Bool, true, false, not, ◌&&◌, List, [], ◌∷◌, Option, Some, None, refl, sym, ap, ◌∙◌, subst, ⊎_elim}
-use Rattle.std.proofs.Common.{arith}
-use Rattle.std.proofs.lemmas.Bool.{eqb-true, eq-eqb}
-use Rattle.radix_tree.proofs.Words.{is_some, Has, leaf_of, mask_node_of, Id, Leaf, Links, MaskNode, Node, Placed, IsAmong, IsIn, IsChain, LeafPart, MaskPart}
-use Rattle.radix_tree.proofs.Words.{Leaves, Part, Run, leaves_in, bits_in, masks_in, mask_in, mask_part, first_room, leaf_part, ChainStands, one_if, leaves_at}
-use Rattle.radix_tree.proofs.Words.{KeepsLeaves, IsWholeBut, is_of_key, has_key, nobody_out, Lodged}
-use Rattle.radix_tree.proofs.RoomReads.{inside, none_some, AreLinks, Has-leaf, leaf_read}
-use Rattle.radix_tree.proofs.TreeMembers.{IsHead, head_of, tree_said}
-use Rattle.radix_tree.proofs.Parts.{among_leaf, way_leads}
-use Rattle.radix_tree.proofs.WaysDown.{way_to_leaf}
-use Rattle.radix_tree.proofs.ChainStarts.{Member, member_of}
-use Rattle.radix_tree.proofs.HomeLists.{true_false, placed_in, route_at}
-use Rattle.radix_tree.proofs.Listed.{settled}
-use Rattle.radix_tree.proofs.WholeParts.{later_than}
-use Rattle.radix_tree.proofs.ListedHomes.{chain_of, in_chain}
+use Rattle.radix_tree.proofs.Words.{◌≡◌, ℕ, ◌+◌, ◌<◌, ◌≤◌, ◌==◌, Bool, true, false, not, ◌&&◌, List, [], ◌∷◌, Option, Some, None, refl, sym, ap, ◌∙◌}
+use Rattle.radix_tree.proofs.Words.{subst, inl, inr, arith, eqb-true, eq-eqb, is_some, Has, leaf_of, mask_node_of, Id, Leaf, Links, MaskNode, Node}
+use Rattle.radix_tree.proofs.Words.{Placed, IsAmong, IsIn, IsChain, LeafPart, MaskPart, Leaves, Part, Run, leaves_in, bits_in, masks_in, mask_in}
+use Rattle.radix_tree.proofs.Words.{mask_part, first_room, leaf_part, ChainStands, one_if, leaves_at, KeepsLeaves, IsWholeBut, is_of_key, has_key}
+use Rattle.radix_tree.proofs.Words.{nobody_out, Lodged}
+use Rattle.radix_tree.proofs.{RoomReads.inside, RoomReads.none_some, RoomReads.AreLinks, RoomReads.Has-leaf, RoomReads.leaf_read, TreeMembers.IsHead}
+use Rattle.radix_tree.proofs.{TreeMembers.head_of, TreeMembers.tree_said, Parts.among_leaf, Parts.way_leads, WaysDown.way_to_leaf, ChainStarts.Member}
+use Rattle.radix_tree.proofs.{ChainStarts.member_of, HomeLists.true_false, HomeLists.placed_in, HomeLists.route_at, Listed.settled, WholeParts.later_than}
+use Rattle.radix_tree.proofs.{ListedHomes.chain_of, ListedHomes.in_chain}
 
 and_left : (a b : Bool) → (a && b) ≡ true → a ≡ true
 and_left true b both = refl
@@ -48,8 +42,7 @@ module _ {V : Type 0} where
 
   -- a room whose mask is listed is not late
   pub listed_late : {m : Lodged V} {root : Node} (late : ℕ → Bool) (w : IsWholeBut m root late nobody_out) (room : Id) (links : Links) (n : MaskNode)
-      → Has m room → AreLinks m room links → mask_node_of links ≡ Some n
-      → IsWholeBut m root (λ k. late k && not (k == room.number)) nobody_out
+      → Has m room → AreLinks m room links → mask_node_of links ≡ Some n → IsWholeBut m root (λ k. late k && not (k == room.number)) nobody_out
   listed_late {m = m} late w room links n h are some =
       settled m late w room (λ x in_x home same. ap (λ (k : ℕ). is_some (masks_in m k)) same ∙ mask_some m links n h are some)
 
@@ -98,8 +91,7 @@ module _ {V : Type 0} where
 
   -- a route of the key stands in its chain
   in_its_chain : (m : Lodged V) {root : Node} {late : ℕ → Bool} (w : IsWholeBut m root late nobody_out) (y : Placed V) (is : IsIn y w.part.tree) (n : ℕ)
-      → has_key m y.entry.key n ≡ true
-      → (x : Placed V) × IsAmong x (chain_of w.part y is).members × (x.room.number ≡ n)
+      → has_key m y.entry.key n ≡ true → (x : Placed V) × IsAmong x (chain_of w.part y is).members × (x.room.number ≡ n)
   in_its_chain m w y is n has =
       let q = of_key y.entry.key (leaves_in m n) has in
       let count : leaves_at n w.part.tree + 0 ≡ 1 = w.leaves n ∙ ap (λ (o : Option (LeafPart V)). one_if (is_some o)) q.1 in
@@ -116,13 +108,10 @@ module _ {V : Type 0} where
       let k : Member (leaves_in m) c.members None y = member_of (leaves_in m) c.above None c.key c.top c.members c.is c.stands y (in_chain whole y is) in
       let same : k.part ≡ p = inside (sym k.said ∙ said) in
       let before : k.part.leaf.previous ≡ None = ap (λ (z : LeafPart V). z.leaf.previous) same ∙ none in
-      ⊎_elim (λ (first : (first_room c.members ≡ Some y.room) × (k.part.leaf.previous ≡ None)). first.0)
-      (λ (other : (x : Placed V) × IsAmong x c.members × (k.part.leaf.previous ≡ Some x.room) × (y.entry.rank < x.entry.rank)).
-      absurd (none_some (sym before ∙ other.2))) k.prior
+      elim k.prior [ inl first ↦ first.0 | inr other ↦ absurd (none_some (sym before ∙ other.2)) ]
 
   pub begun : {m : Lodged V} {root : Node} (late : ℕ → Bool) (first : Id) (p : LeafPart V) → IsWholeBut m root late nobody_out
-      → leaves_in m first.number ≡ Some p → p.block ≡ first.block → p.leaf.previous ≡ None
-      → Left m m root late p.leaf.key (Some first)
+      → leaves_in m first.number ≡ Some p → p.block ≡ first.block → p.leaf.previous ≡ None → Left m m root late p.leaf.key (Some first)
   begun {m = m} late first p w said block none =
       let y = placed_in w (Has-leaf m first said block) in
       let key : p.leaf.key ≡ y.0.entry.key = (key_said m w.part y.0 p y.1 (ap (λ (i : Id). i.number) y.2) said).0 in
@@ -182,8 +171,10 @@ module _ {V : Type 0} where
             let y = l.behind n (and_left (l.later n) (not (n == room.number)) is_late) has in
             let other = eqb_not n room.number (and_right (l.later n) (not (n == room.number)) is_late) in (
               y.0,
-              ⊎_elim (λ (e : x.first ≡ y.0). absurd (other (sym y.2 ∙ ap (λ (p : Placed V). p.room.number) (sym e) ∙ ap (λ (i : Id). i.number) x.room_is)))
-                  (λ (among : IsAmong y.0 x.behind). among) (subst (IsAmong y.0) x.is y.1),
+              elim (subst (IsAmong y.0) x.is y.1) [
+                | inl e ↦ absurd (other (sym y.2 ∙ ap (λ (p : Placed V). p.room.number) (sym e) ∙ ap (λ (i : Id). i.number) x.room_is))
+                | inr among ↦ among
+              ],
               y.2,
             );
       }

@@ -1,13 +1,10 @@
 -- A walk through the masks that a bit node lists.
-use Rattle.std.proofs.Common.{◌≡◌, ℕ, ◌+◌, ◌*◌, ◌≤◌, List, ◌∷◌, Option, Some, None, refl, sym, ap, ◌∙◌, subst, inl, inr, arith}
-use Rattle.radix_tree.proofs.Words.{masked, Counter, Id, Leaf, MaskNode, Reads, LeafPart, MaskPart, Part, MasksAreListed, leaves_in, bits_in, heads_in}
-use Rattle.radix_tree.proofs.Words.{masks_in, mask_part, first_room, leaf_part, MasksStand, Falls, Tells, Finds, HasPair, Best, In, ForkAt, Placed, IsAmong}
-use Rattle.radix_tree.proofs.Words.{IsIn, Lodged}
-use Rattle.radix_tree.proofs.RoomReads.{inside}
-use Rattle.radix_tree.proofs.Parts.{fork_is, fork_lists}
-use Rattle.radix_tree.proofs.Scans.{ended_at}
-use Rattle.radix_tree.proofs.Searching.{AreListed, mask_hit, mask_miss, listed_behind, list_ends}
-use Rattle.radix_tree.proofs.TreeMembers.{head_of, tree_route, tree_said}
+use Rattle.radix_tree.proofs.Words.{◌≡◌, ℕ, ◌+◌, ◌*◌, ◌≤◌, List, ◌∷◌, Option, Some, None, refl, sym, ap, ◌∙◌, subst, inl, inr, arith, masked, Counter, Id}
+use Rattle.radix_tree.proofs.Words.{Leaf, MaskNode, Reads, LeafPart, MaskPart, Part, MasksAreListed, leaves_in, bits_in, heads_in, masks_in, mask_part}
+use Rattle.radix_tree.proofs.Words.{first_room, leaf_part, MasksStand, Falls, Tells, Finds, HasPair, Best, In, ForkAt, Placed, IsAmong, IsIn, Lodged}
+use Rattle.radix_tree.proofs.{RoomReads.inside, Parts.fork_is, Parts.fork_lists, Scans.ended_at, Searching.AreListed, Searching.mask_hit}
+use Rattle.radix_tree.proofs.{Searching.mask_miss, Searching.listed_behind, Searching.list_ends, TreeMembers.head_of, TreeMembers.tree_route}
+use Rattle.radix_tree.proofs.{TreeMembers.tree_said}
 
 module _ {V : Type 0} {m : Lodged V} where
   -- a walk through the list of a bit node, whose masks so far were tried in vain

@@ -1,13 +1,10 @@
 -- A room in which a route is lodged, as a leaf and as a bit node.
-use Rattle.std.proofs.Common.{◌≡◌, ℕ, ◌≤◌, ◌==◌, Bool, if◌then◌else◌, List, [], ◌∷◌, Option, Some, None, refl, sym, ap, ◌∙◌}
-use Rattle.std.proofs.lemmas.Bool.{eq-eqb, ne_eqb}
-use Rattle.radix_tree.proofs.Words.{get, Has, Id, BitNode, Leaf, Node, BitOf, fork, LeafPart, BitPart, Part, leaf_in, bit_in, leaves_in, bits_in, bit_part}
-use Rattle.radix_tree.proofs.Words.{name_of, ForkAt, Way, leaves_at, forks_at, name_child, with_child, IsSpot, IsLodged, IsBeside, forked, placed, lodge_leaf}
-use Rattle.radix_tree.proofs.Words.{put_leaf, put_bit, with_leaf, lift_leaf, lift_bit, KeepsLeaves, KeepsBits, Entry, Lodged}
-use Rattle.radix_tree.proofs.RoomReads.{inside, none_some, Has-leaf}
-use Rattle.radix_tree.proofs.PartRooms.{frame}
-use Rattle.radix_tree.proofs.Parts.{fork_stands}
-use Rattle.radix_tree.proofs.Beside.{misses_leaf, misses_bit, named_leaf, named_bit, not_new, not_new_bit, not_above}
+use Rattle.radix_tree.proofs.Words.{◌≡◌, ℕ, ◌≤◌, ◌==◌, Bool, if◌then◌else◌, List, [], ◌∷◌, Option, Some, None, refl, sym, ap, ◌∙◌, eq-eqb, ne_eqb, get}
+use Rattle.radix_tree.proofs.Words.{Has, Id, BitNode, Leaf, Node, BitOf, fork, LeafPart, BitPart, Part, leaf_in, bit_in, leaves_in, bits_in, bit_part}
+use Rattle.radix_tree.proofs.Words.{name_of, ForkAt, Way, leaves_at, forks_at, name_child, with_child, IsSpot, IsLodged, IsBeside, forked, placed}
+use Rattle.radix_tree.proofs.Words.{lodge_leaf, put_leaf, put_bit, with_leaf, lift_leaf, lift_bit, KeepsLeaves, KeepsBits, Entry, Lodged}
+use Rattle.radix_tree.proofs.{RoomReads.inside, RoomReads.none_some, RoomReads.Has-leaf, PartRooms.frame, Parts.fork_stands, Beside.misses_leaf}
+use Rattle.radix_tree.proofs.{Beside.misses_bit, Beside.named_leaf, Beside.named_bit, Beside.not_new, Beside.not_new_bit, Beside.not_above}
 
 at_room : {A : Type 0} (room : Id) (x y : A) → (if room.number == room.number then x else y) ≡ x
 at_room room x y = ap (λ (t : Bool). if t then x else y) (eq-eqb room.number room.number refl)
@@ -31,8 +28,7 @@ module _ {V : Type 0} where
       → leaves_in m room.number ≡ lodge_leaf room value first room.number said
       → leaves_in new room.number ≡ put_leaf room then_ room.number (leaves_in m room.number)
       → leaves_in new room.number ≡ Some (record { block = room.block; value = value; leaf = then_ })
-  leaf_again m new room value first then_ said was is =
-      is ∙ at_room room (with_leaf then_ (leaves_in m room.number)) (leaves_in m room.number)
+  leaf_again m new room value first then_ said was is = is ∙ at_room room (with_leaf then_ (leaves_in m room.number)) (leaves_in m room.number)
       ∙ ap (with_leaf then_) (was ∙ at_room room (Some (record { block = room.block; value = value; leaf = first })) said)
 
   pub Has-again : (m new : Lodged V) (room : Id) (value : V) (first then_ : Leaf) (said : Option (LeafPart V))
@@ -80,8 +76,7 @@ module _ {V : Type 0} where
 
   -- the bit node above the spot is there once the room is lodged
   pub over_there : {m new : Lodged V} {key bit : ℕ} {room over : Id} {e : Entry V} (node : BitPart) (whole : Part m) {above : Option Id} {below : Node}
-      → IsSpot m key bit whole above below → IsLodged m new room e node
-      → above ≡ Some over → (p : Part new) × ForkAt p over
+      → IsSpot m key bit whole above below → IsLodged m new room e node → above ≡ Some over → (p : Part new) × ForkAt p over
   over_there {m = m} {new = new} {key = key} {bit = bit} {room = room} node whole s l is =
       let o = over_at m key whole s.at s.ups s.way s.top s.above_is is in (
         stays m new o.0 (λ n some. l.leaves n (not_new o.0 room l.no_leaf n some)) (λ n some. l.bits n (not_new_bit o.0 room l.no_bit n some)),
@@ -94,8 +89,7 @@ module _ {V : Type 0} where
       → KeepsLeaves new turned → ((n : ℕ) → bits_in turned n ≡ name_child above key (BitOf room) n (bits_in new n))
       → (p : Part turned) × (name_of p.tree ≡ below)
   below_there m new turned {key = key} {room = room} node whole {above = above} s l leaves bits = (
-    stays m turned s.at
-        (λ n some. leaves n ∙ l.leaves n (not_new s.at room l.no_leaf n some))
+    stays m turned s.at (λ n some. leaves n ∙ l.leaves n (not_new s.at room l.no_leaf n some))
         (λ n some. bits n ∙ ap (λ (said : Option BitPart). name_child above key (BitOf room) n said) (l.bits n (not_new_bit s.at room l.no_bit n some))
         ∙ ap (λ (o : Option Id). name_child o key (BitOf room) n (bits_in m n)) (sym s.above_is)
         ∙ not_above m key whole s.at s.ups s.way s.top s.once (BitOf room) n some),
@@ -104,8 +98,7 @@ module _ {V : Type 0} where
 
   -- what all writes together leave
   pub beside : {m new : Lodged V} (turned last : Lodged V) {bit : ℕ} {room : Id} {e : Entry V} (whole : Part m) {above : Option Id} {below : Node}
-      → IsSpot m e.key bit whole above below
-      → IsLodged m new room e (forked e.key bit room below above)
+      → IsSpot m e.key bit whole above below → IsLodged m new room e (forked e.key bit room below above)
       → KeepsLeaves new turned → ((n : ℕ) → bits_in turned n ≡ name_child above e.key (BitOf room) n (bits_in new n))
       → ((n : ℕ) → leaves_in last n ≡ lift_leaf below (Some room) n (leaves_in turned n))
       → ((n : ℕ) → bits_in last n ≡ lift_bit below (Some room) n (bits_in turned n)) → IsBeside m last bit (placed room e) above below
@@ -118,8 +111,7 @@ module _ {V : Type 0} where
         no_bit = l.no_bit;
         leaf = lifted_leaves room.number
             ∙ misses_leaf below room.number (λ r is same. not_new s.at room l.no_leaf r.number (named_leaf s.at.tree r (s.named ∙ is)) (sym same)) (Some room)
-            (leaves_in turned room.number)
-            ∙ leaves room.number ∙ l.leaf;
+            (leaves_in turned room.number) ∙ leaves room.number ∙ l.leaf;
         bit_node = lifted_bits room.number
             ∙ misses_bit below room.number (λ r is same. not_new_bit s.at room l.no_bit r.number (named_bit s.at.tree r (s.named ∙ is)) (sym same)) (Some room)
             (bits_in turned room.number)

@@ -1,16 +1,14 @@
 -- A list of masks is cut, has another one behind it, gains a mask or loses one.
-use Rattle.std.proofs.Common.{◌≡◌, ℕ, ◌+◌, ◌<◌, ◌≤◌, Bool, if◌then◌else◌, List, [], ◌∷◌, ◌++◌, Option, Some, None, is_some, refl, sym, ap, ◌∙◌, subst, inr}
-use Rattle.std.proofs.Common.{⊎_elim, arith}
-use Rattle.std.proofs.lemmas.Bool.{eq-eqb}
-use Rattle.radix_tree.proofs.Words.{Id, Placed, IsAmong, MaskNode, MaskPart, Masks, leaves_in, heads_in, masks_in, mask_part, first_room, MasksStand, Falls}
-use Rattle.radix_tree.proofs.Words.{KeepsLeaves, KeepsHeads, put_mask, IsMasks, IsRanked, IsAside, IsNoRank, last_mask, head_linked, mask_linked, not_below}
-use Rattle.radix_tree.proofs.Words.{below, sorted_in, taken_out, Lodged}
-use Rattle.radix_tree.proofs.TreeMembers.{same_rank}
+use Rattle.radix_tree.proofs.Words.{◌≡◌, ℕ, ◌+◌, ◌<◌, ◌≤◌, Bool, if◌then◌else◌, List, [], ◌∷◌, ◌++◌, Option, Some, None, is_some, refl, sym, ap, ◌∙◌}
+use Rattle.radix_tree.proofs.Words.{subst, inr, inl, arith, eq-eqb, Id, Placed, IsAmong, MaskNode, MaskPart, Masks, leaves_in, heads_in, masks_in}
+use Rattle.radix_tree.proofs.Words.{mask_part, first_room, MasksStand, Falls, KeepsLeaves, KeepsHeads, put_mask, IsMasks, IsRanked, IsAside, IsNoRank}
+use Rattle.radix_tree.proofs.Words.{last_mask, head_linked, mask_linked, not_below, below, sorted_in, taken_out, Lodged}
 use Rattle.radix_tree.proofs.MaskLists.{falls_among, falls_wider, falls_not_below, falls_behind, falls_sorted, falls_taken, not_below_long, below_short}
 use Rattle.radix_tree.proofs.MaskLists.{below_long, not_below_among, below_among, taken_among, one_rank, ranked_among, among_ranked, marked_among}
 use Rattle.radix_tree.proofs.MaskLists.{among_appended}
-use Rattle.radix_tree.proofs.MaskLinks.{put_aside, some_none, aside_linked, marks_linked, stand_same, ranked_same, masks_same, linked, stands_back, back_stays}
-use Rattle.radix_tree.proofs.MaskLinks.{list_parted, nothing_behind}
+use Rattle.radix_tree.proofs.MaskLinks.{put_aside, some_none, aside_linked, marks_linked, stand_same, ranked_same, masks_same, linked, stands_back}
+use Rattle.radix_tree.proofs.MaskLinks.{back_stays, list_parted, nothing_behind}
+use Rattle.radix_tree.proofs.TreeMembers.{same_rank}
 
 module _ {V : Type 0} where
   -- ---- a list is cut
@@ -18,8 +16,7 @@ module _ {V : Type 0} where
       → last_mask (not_below low ms) ≡ before → KeepsLeaves m new
       → ((n : ℕ) → heads_in new n ≡ head_linked fork before None n (heads_in m n)) → ((n : ℕ) → masks_in new n ≡ mask_linked before None n (masks_in m n))
       → IsMasks new (heads_in new fork.number) (not_below low ms)
-  kept_of_cut m new fork low ms is last keeps heads masks =
-      subst (IsMasks new (heads_in new fork.number)) (nothing_behind (not_below low ms))
+  kept_of_cut m new fork low ms is last keeps heads masks = subst (IsMasks new (heads_in new fork.number)) (nothing_behind (not_below low ms))
       (linked m new fork (not_below low ms) (below low ms) [] None (list_parted low is) last refl keeps heads masks tt
       (subst (Falls 0 34) (sym (nothing_behind (not_below low ms))) (falls_wider low 34 0 34 (not_below low ms) (falls_not_below 0 34 low ms is.falls)
       (omega arith) (omega arith))) tt)
@@ -35,8 +32,7 @@ module _ {V : Type 0} where
             stand_same (masks_in m) (masks_in new) (below low ms) (back_stays m new (not_below low ms) (below low ms) None all.falls all.ranked last masks)
             (stands_back (masks_in m) (not_below low ms) (below low ms) all.stands);
         falls = falls_behind 0 34 low ms is.falls;
-        ranked =
-            among_ranked (leaves_in new) (below low ms) (λ y among. ranked_same m new y keeps
+        ranked = among_ranked (leaves_in new) (below low ms) (λ y among. ranked_same m new y keeps
             (ranked_among (leaves_in m) ms is.ranked y (below_among 0 34 low ms is.falls y among).0));
       }
 
@@ -51,9 +47,10 @@ module _ {V : Type 0} where
       → IsMasks new (heads_in new fork.number) (ms ++ ts)
   appended m new fork ms ts tail is behind falls last keeps heads masks =
       let end = ap (λ (l : List (Placed V)). last_mask l) (sym (all_long ms)) ∙ last in
-      let ranked = among_ranked (leaves_in m) (ms ++ ts) (λ y among.
-      ⊎_elim (λ (one : IsAmong y ms). ranked_among (leaves_in m) ms is.ranked y one)
-      (λ (other : IsAmong y ts). ranked_among (leaves_in m) ts behind.ranked y other) (among_appended ms ts y among)) in
+      let ranked = among_ranked (leaves_in m) (ms ++ ts) (λ y among. elim (among_appended ms ts y among) [
+        | inl one ↦ ranked_among (leaves_in m) ms is.ranked y one
+        | inr other ↦ ranked_among (leaves_in m) ts behind.ranked y other
+      ]) in
       linked m new fork ms [] ts tail (subst (IsMasks m (heads_in m fork.number)) (sym (nothing_behind ms)) is) end behind.begins keeps heads masks
       (stand_same (masks_in m) (masks_in new) ts (back_stays m new ms ts tail falls ranked end masks) behind.stands) falls behind.ranked
 
@@ -69,12 +66,10 @@ module _ {V : Type 0} where
 
   pub sorted : (m between new : Lodged V) (fork : Id) (x : Placed V) (room : Id) (node : MaskNode) {rank : ℕ} (ms : List (Placed V)) {before : Option Id}
       → IsMasks m (heads_in m fork.number) ms → x.room ≡ room → IsRanked (leaves_in m) x → masks_in m room.number ≡ None → rank ≡ x.entry.rank → rank ≤ 33
-      → IsNoRank x.entry.rank ms
-      → last_mask (not_below rank ms) ≡ before → first_room (below rank ms) ≡ node.next
+      → IsNoRank x.entry.rank ms → last_mask (not_below rank ms) ≡ before → first_room (below rank ms) ≡ node.next
       → KeepsLeaves m between → KeepsHeads m between → ((n : ℕ) → masks_in between n ≡ put_mask room (Some node) n (masks_in m n))
       → KeepsLeaves between new → ((n : ℕ) → heads_in new n ≡ head_linked fork before (Some room) n (heads_in between n))
-      → ((n : ℕ) → masks_in new n ≡ mask_linked before (Some room) n (masks_in between n))
-      → IsMasks new (heads_in new fork.number) (sorted_in x ms)
+      → ((n : ℕ) → masks_in new n ≡ mask_linked before (Some room) n (masks_in between n)) → IsMasks new (heads_in new fork.number) (sorted_in x ms)
   sorted m between new fork x room node ms {before = before} is room_is own free rank_is most no_rank last first keeps_one heads_one masks_one keeps heads
       masks =
       let last_is : last_mask (not_below x.entry.rank ms) ≡ before = subst (λ (n : ℕ). last_mask (not_below n ms) ≡ before) rank_is last in
@@ -108,27 +103,24 @@ module _ {V : Type 0} where
   pub below_next : (least top : ℕ) (ms : List (Placed V)) (x : Placed V) → Falls least top ms → IsAmong x ms
       → below (x.entry.rank + 1) ms ≡ x ∷ below x.entry.rank ms
   below_next least top [] x falls among = absurd among
-  below_next least top (z ∷ zs) x falls among =
-      ⊎_elim (λ (e : z ≡ x).
-      let same : z.entry.rank ≡ x.entry.rank = same_rank e in
-      let short : z.entry.rank < x.entry.rank + 1 = omega arith in
-      let long : x.entry.rank ≤ z.entry.rank = omega arith in
-      below_short (x.entry.rank + 1) z zs short ∙ ap (λ (p : Placed V). p ∷ zs) e
-      ∙ ap (λ (l : List (Placed V)). x ∷ l) (sym (below_long x.entry.rank z zs long
-      ∙ all_below least x.entry.rank zs (subst (λ (n : ℕ). Falls least n zs) same falls.2))))
-      (λ (behind : IsAmong x zs).
-      let less : x.entry.rank < z.entry.rank = (falls_among least z.entry.rank zs falls.2 x behind).1 in
-      let past : x.entry.rank + 1 ≤ z.entry.rank = omega arith in
-      let long : x.entry.rank ≤ z.entry.rank = omega arith in
-      below_long (x.entry.rank + 1) z zs past ∙ below_next least z.entry.rank zs x falls.2 behind
-      ∙ ap (λ (l : List (Placed V)). x ∷ l) (sym (below_long x.entry.rank z zs long)))
-      among
+  below_next least top (z ∷ zs) x falls among = elim among [
+    | inl e ↦ let same : z.entry.rank ≡ x.entry.rank = same_rank e in
+        let short : z.entry.rank < x.entry.rank + 1 = omega arith in
+        let long : x.entry.rank ≤ z.entry.rank = omega arith in
+        below_short (x.entry.rank + 1) z zs short ∙ ap (λ (p : Placed V). p ∷ zs) e
+        ∙ ap (λ (l : List (Placed V)). x ∷ l) (sym (below_long x.entry.rank z zs long
+        ∙ all_below least x.entry.rank zs (subst (λ (n : ℕ). Falls least n zs) same falls.2)))
+    | inr behind ↦ let less : x.entry.rank < z.entry.rank = (falls_among least z.entry.rank zs falls.2 x behind).1 in
+        let past : x.entry.rank + 1 ≤ z.entry.rank = omega arith in
+        let long : x.entry.rank ≤ z.entry.rank = omega arith in
+        below_long (x.entry.rank + 1) z zs past ∙ below_next least z.entry.rank zs x falls.2 behind
+        ∙ ap (λ (l : List (Placed V)). x ∷ l) (sym (below_long x.entry.rank z zs long))
+  ]
 
   -- the mask behind one of a list
   pub stands_at : {m : Lodged V} {first : Option Id} (ms : List (Placed V)) (x : Placed V) → IsMasks m first ms → IsAmong x ms
       → MasksStand (masks_in m) (x ∷ below x.entry.rank ms)
-  stands_at {m = m} ms x is among =
-      subst (MasksStand (masks_in m)) (below_next 0 34 ms x is.falls among)
+  stands_at {m = m} ms x is among = subst (MasksStand (masks_in m)) (below_next 0 34 ms x is.falls among)
       (stands_back (masks_in m) (not_below (x.entry.rank + 1) ms) (below (x.entry.rank + 1) ms) (list_parted (x.entry.rank + 1) is).stands)
 
   pub taken : (m between new : Lodged V) (fork : Id) (x : Placed V) (room : Id) {low : ℕ} (ms : List (Placed V)) {before next : Option Id}
@@ -160,7 +152,6 @@ module _ {V : Type 0} where
   pub sorted_marks : (K J : Masks) (ms front : List (Placed V)) (room : Id) (node : MaskNode) {before : Option Id} (next : Option Id) (n : ℕ) → MasksStand K ms
       → K room.number ≡ None → ((k : ℕ) → J k ≡ put_mask room (Some node) k (K k))
       → ((y : Placed V) → IsAmong y front → IsAmong y ms) → last_mask front ≡ before → is_some (mask_linked before next n (J n)) ≡ is_some (J n)
-  sorted_marks K J ms front room node next n stands free one within last =
-      marks_linked J ms front next n
+  sorted_marks K J ms front room node next n stands free one within last = marks_linked J ms front next n
       (stand_same K J ms (λ y among. one y.room.number ∙ put_aside room (Some node) y.room.number (K y.room.number) (free_aside K ms room stands free y among))
       stands) within last

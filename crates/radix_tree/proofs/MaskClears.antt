@@ -1,13 +1,9 @@
 -- A walk along a list of masks, whose rooms are no mask nodes any more.
-use Rattle.std.proofs.Common.{◌≡◌, ℕ, ◌+◌, ◌<◌, ◌≤◌, ◌==◌, ◌⊎◌, Bool, true, false, if◌then◌else◌, List, [], ◌∷◌, Option, Some, None, refl, sym, ap, ◌∙◌, subst}
-use Rattle.std.proofs.Common.{inl, inr, ⊎_elim, arith}
-use Rattle.std.proofs.lemmas.Bool.{eq-eqb}
-use Rattle.radix_tree.proofs.Words.{Id, MaskNode, Placed, IsAmong, LeafPart, Leaves, MaskPart, leaves_in, masks_in, mask_part, first_room, MasksStand, Falls}
-use Rattle.radix_tree.proofs.Words.{KeepsLeaves, put_mask, IsMasks, IsRanked, AreRanked, IsAside, Lodged}
-use Rattle.radix_tree.proofs.Scans.{ended_at}
-use Rattle.radix_tree.proofs.TreeMembers.{head_of}
-use Rattle.radix_tree.proofs.MaskWalks.{listed_as, next_told}
-use Rattle.radix_tree.proofs.MaskLinks.{apart, stand_same, are_ranked_same, put_aside}
+use Rattle.radix_tree.proofs.Words.{◌≡◌, ℕ, ◌+◌, ◌<◌, ◌≤◌, ◌==◌, ◌⊎◌, Bool, true, false, if◌then◌else◌, List, [], ◌∷◌, Option, Some, None, refl, sym, ap}
+use Rattle.radix_tree.proofs.Words.{◌∙◌, subst, inl, inr, arith, eq-eqb, Id, MaskNode, Placed, IsAmong, LeafPart, Leaves, MaskPart, leaves_in, masks_in}
+use Rattle.radix_tree.proofs.Words.{mask_part, first_room, MasksStand, Falls, KeepsLeaves, put_mask, IsMasks, IsRanked, AreRanked, IsAside, Lodged}
+use Rattle.radix_tree.proofs.{Scans.ended_at, TreeMembers.head_of, MaskWalks.listed_as, MaskWalks.next_told, MaskLinks.apart, MaskLinks.stand_same}
+use Rattle.radix_tree.proofs.{MaskLinks.are_ranked_same, MaskLinks.put_aside}
 
 put_none : (room : Id) (n : ℕ) {said : Option MaskPart} → said ≡ None → put_mask room None n said ≡ None
 put_none room n {said = said} none = elim (n == room.number) as (λ t. (if t then None else said) ≡ None) [ true ↦ refl | false ↦ none ]
@@ -94,17 +90,19 @@ module _ {V : Type 0} where
           rest = x.behind;
           top = x.first.entry.rank;
           begins = next;
-          stands =
-              stand_same (masks_in now) (masks_in new) x.behind (λ y among. masks y.room.number
+          stands = stand_same (masks_in now) (masks_in new) x.behind (λ y among. masks y.room.number
               ∙ put_aside room None y.room.number (masks_in now y.room.number) (λ same. others y among (same ∙ sym number))) stands.1;
           falls = falls.2;
           ranked = ranked_now;
           within = λ y among. w.within y (subst (IsAmong y) (sym x.is) (inr among));
-          cleared = λ y among. ⊎_elim (λ (none : masks_in now y.room.number ≡ None). inl (masks y.room.number ∙ put_none room y.room.number none))
-              (λ (left : IsAmong y w.rest). ⊎_elim
-              (λ (e : x.first ≡ y). inl (masks y.room.number ∙ put_own_none room (masks_in now y.room.number)
-              (ap (λ (p : Placed V). p.room.number) (sym e) ∙ number)))
-              (λ (behind : IsAmong y x.behind). inr behind) (subst (IsAmong y) x.is left)) (w.cleared y among);
+          cleared = λ y among. elim (w.cleared y among) [
+            | inl none ↦ inl (masks y.room.number ∙ put_none room y.room.number none)
+            | inr left ↦ elim (subst (IsAmong y) x.is left) [
+              | inl e ↦ inl (masks y.room.number ∙ put_own_none room (masks_in now y.room.number)
+                  (ap (λ (p : Placed V). p.room.number) (sym e) ∙ number))
+              | inr behind ↦ inr behind
+            ]
+          ];
           aside = λ n aside. masks n ∙ put_aside room None n (masks_in now n) (λ same. aside x.first first_among (number ∙ sym same)) ∙ w.aside n aside;
           fewer = λ n. subst (λ (o : Option MaskPart). (o ≡ None) ⊎ (o ≡ masks_in m n)) (sym (masks n))
               (put_fewer room n (masks_in now n) (masks_in m n) (w.fewer n));
@@ -114,5 +112,4 @@ module _ {V : Type 0} where
 
   pub ended : {m now : Lodged V} {ms : List (Placed V)} {at : Option Id} (w : Clearing m now ms at) → at ≡ None → (y : Placed V) → IsAmong y ms
       → masks_in now y.room.number ≡ None
-  ended {now = now} w is y among = ⊎_elim (λ (none : masks_in now y.room.number ≡ None). none)
-      (λ (left : IsAmong y w.rest). absurd (ended_at w.rest (w.begins ∙ is) y left)) (w.cleared y among)
+  ended {now = now} w is y among = elim (w.cleared y among) [ inl none ↦ none | inr left ↦ absurd (ended_at w.rest (w.begins ∙ is) y left) ]

@@ -1,13 +1,10 @@
 -- A list of masks, once a member has another one behind it.
-use Rattle.std.proofs.Common.{◌≡◌, ℕ, ◌<◌, ◌==◌, Bool, true, false, if◌then◌else◌, List, [], ◌∷◌, ◌++◌, Option, Some, None, is_some, refl, sym, ap, ◌∙◌, subst}
-use Rattle.std.proofs.Common.{inl, inr, ⊎_elim, arith}
-use Rattle.std.proofs.lemmas.Bool.{eq-eqb, ne_eqb, eqb-true}
-use Rattle.radix_tree.proofs.Words.{Has, Id, Placed, IsAmong, MaskNode, Leaves, MaskPart, Masks, leaves_in, heads_in, masks_in, mask_part, first_room}
-use Rattle.radix_tree.proofs.Words.{MasksStand, Falls, KeepsLeaves, put_mask, IsMasks, IsRanked, AreRanked, IsAside, last_from, last_mask, head_linked}
-use Rattle.radix_tree.proofs.Words.{mask_linked, not_below, below, Lodged}
-use Rattle.radix_tree.proofs.RoomReads.{inside, none_some}
+use Rattle.radix_tree.proofs.Words.{◌≡◌, ℕ, ◌<◌, ◌==◌, Bool, true, false, if◌then◌else◌, List, [], ◌∷◌, ◌++◌, Option, Some, None, is_some, refl, sym, ap}
+use Rattle.radix_tree.proofs.Words.{◌∙◌, subst, inl, inr, arith, eq-eqb, ne_eqb, eqb-true, Has, Id, Placed, IsAmong, MaskNode, Leaves, MaskPart, Masks}
+use Rattle.radix_tree.proofs.Words.{leaves_in, heads_in, masks_in, mask_part, first_room, MasksStand, Falls, KeepsLeaves, put_mask, IsMasks, IsRanked}
+use Rattle.radix_tree.proofs.Words.{AreRanked, IsAside, last_from, last_mask, head_linked, mask_linked, not_below, below, Lodged}
 use Rattle.radix_tree.proofs.MaskLists.{in_front, in_back, falls_among, parted, one_rank, ranked_among, among_ranked, marked_among, among_appended}
-use Rattle.radix_tree.proofs.MaskWalks.{Has-ranked}
+use Rattle.radix_tree.proofs.{RoomReads.inside, RoomReads.none_some, MaskWalks.Has-ranked}
 
 -- a mask node that no link names stays
 pub linked_aside : (before next : Option Id) (n : ℕ) (said : Option MaskPart) → ((room : Id) → before ≡ Some room → n ≡ room.number → ⊥)
@@ -22,10 +19,7 @@ pub linked_some : (before next : Option Id) (n : ℕ) (said : Option MaskPart) �
 linked_some None next n said was = refl
 linked_some (Some before) next n said was =
     elim (n == before.number) as (λ t. (n == before.number) ≡ t → is_some (if t then Some (record { block = before.block; next = next }) else said)
-    ≡ is_some said) [
-      | true ↦ λ e. sym (was before refl (eqb-true n before.number e))
-      | false ↦ λ e. refl
-    ] refl
+    ≡ is_some said) [ true ↦ λ e. sym (was before refl (eqb-true n before.number e)) | false ↦ λ e. refl ] refl
 
 pub put_aside : (room : Id) (node : Option MaskNode) (n : ℕ) (said : Option MaskPart) → (n ≡ room.number → ⊥) → put_mask room node n said ≡ said
 put_aside room node n said aside = ap (λ (t : Bool). if t then mask_part room.block node else said) (ne_eqb n room.number aside)
@@ -55,9 +49,10 @@ module _ {V : Type 0} where
   pub apart_across : (front back : List (Placed V)) → Apart (front ++ back) → (x y : Placed V) → IsAmong x front → IsAmong y back
       → y.room.number ≡ x.room.number → ⊥
   apart_across [] back is x y one other = absurd one
-  apart_across (z ∷ zs) back is x y one other =
-      ⊎_elim (λ (e : z ≡ x). λ same. is.0 y (in_back zs back y other) (same ∙ sym (ap (λ (p : Placed V). p.room.number) e)))
-      (λ (behind : IsAmong x zs). apart_across zs back is.1 x y behind other) one
+  apart_across (z ∷ zs) back is x y one other = elim one [
+    | inl e ↦ λ same. is.0 y (in_back zs back y other) (same ∙ sym (ap (λ (p : Placed V). p.room.number) e))
+    | inr behind ↦ apart_across zs back is.1 x y behind other
+  ]
 
   -- ---- the last member
   last_of : (before : Option Id) (ms : List (Placed V)) {room : Id} → last_from before ms ≡ Some room → (before ≡ None)
@@ -85,8 +80,7 @@ module _ {V : Type 0} where
   aside_linked front {before = before} next n said last aside = linked_aside before next n said (not_last front n aside last)
 
   pub marks_linked : (K : Masks) (ms front : List (Placed V)) {before : Option Id} (next : Option Id) (n : ℕ) → MasksStand K ms
-      → ((y : Placed V) → IsAmong y front → IsAmong y ms) → last_mask front ≡ before
-      → is_some (mask_linked before next n (K n)) ≡ is_some (K n)
+      → ((y : Placed V) → IsAmong y front → IsAmong y ms) → last_mask front ≡ before → is_some (mask_linked before next n (K n)) ≡ is_some (K n)
   marks_linked K ms front {before = before} next n stands within last = linked_some before next n (K n) (λ room is same.
       let x = last_among front (last ∙ is) in
       ap (λ (k : ℕ). is_some (K k)) (same ∙ sym (ap (λ (i : Id). i.number) x.2)) ∙ marked_among K ms stands x.0 (within x.0 x.1))
@@ -155,9 +149,10 @@ module _ {V : Type 0} where
             (λ y among. masks y.room.number ∙ ap (λ (o : Option Id). mask_linked o next y.room.number (masks_in m y.room.number)) (sym last)
             ∙ ap (λ (o : Option Id). mask_linked (last_mask front) o y.room.number (masks_in m y.room.number)) (sym first)) after;
         falls = falls;
-        ranked = among_ranked (leaves_in new) (front ++ behind) (λ y among. ranked_same m new y keeps
-            (⊎_elim (λ (one : IsAmong y front). ranked_among (leaves_in m) (front ++ back) is.ranked y (in_front front back y one))
-            (λ (other : IsAmong y behind). ranked_among (leaves_in m) behind ranked y other) (among_appended front behind y among)));
+        ranked = among_ranked (leaves_in new) (front ++ behind) (λ y among. ranked_same m new y keeps (elim (among_appended front behind y among) [
+          | inl one ↦ ranked_among (leaves_in m) (front ++ back) is.ranked y (in_front front back y one)
+          | inr other ↦ ranked_among (leaves_in m) behind ranked y other
+        ]));
       }
 
   pub stands_back : (K : Masks) (front back : List (Placed V)) → MasksStand K (front ++ back) → MasksStand K back

@@ -1,13 +1,10 @@
 -- The members of a list of masks, and of what comes of it.
-use Rattle.std.proofs.Common.{◌≡◌, ℕ, ◌+◌, ◌<◌, ◌≤◌, ◌⊎◌, Bool, true, false, nat_lt, if◌then◌else◌, List, [], ◌∷◌, ◌++◌, Option, is_some, refl, sym, ap, ◌∙◌}
-use Rattle.std.proofs.Common.{subst, inl, inr, ⊎_elim, arith}
-use Rattle.std.proofs.lemmas.Bool.{ltb-true, ltb-false, lt-ltb, le-ltb, cases_eq}
-use Rattle.radix_tree.proofs.Words.{Id, Placed, IsAmong, IsIn, LeafPart, Leaves, MaskPart, Masks, Part, leaves_in, bits_in, masks_in, leaf_part, MasksStand}
-use Rattle.radix_tree.proofs.Words.{Falls, ForkAt, IsMarked, IsMaskList, IsMasks, IsRanked, AreRanked, IsBitNode, IsNoRank, not_below, below, sorted_in}
-use Rattle.radix_tree.proofs.Words.{taken_out, Lodged}
-use Rattle.radix_tree.proofs.RoomReads.{inside}
-use Rattle.radix_tree.proofs.TreeMembers.{tree_said}
-use Rattle.radix_tree.proofs.Parts.{bit_part_of, fork_stands}
+use Rattle.std.proofs.lemmas.Bool.{ltb-true, ltb-false, lt-ltb, le-ltb}
+use Rattle.radix_tree.proofs.Words.{◌≡◌, ℕ, ◌+◌, ◌<◌, ◌≤◌, ◌⊎◌, Bool, true, false, nat_lt, if◌then◌else◌, List, [], ◌∷◌, ◌++◌, Option, is_some, refl, sym}
+use Rattle.radix_tree.proofs.Words.{ap, ◌∙◌, subst, inl, inr, arith, cases_eq, Id, Placed, IsAmong, IsIn, LeafPart, Leaves, MaskPart, Masks, Part}
+use Rattle.radix_tree.proofs.Words.{leaves_in, bits_in, masks_in, leaf_part, MasksStand, Falls, ForkAt, IsMarked, IsMaskList, IsMasks, IsRanked}
+use Rattle.radix_tree.proofs.Words.{AreRanked, IsBitNode, IsNoRank, not_below, below, sorted_in, taken_out, Lodged}
+use Rattle.radix_tree.proofs.{RoomReads.inside, TreeMembers.tree_said, Parts.bit_part_of, Parts.fork_stands}
 
 pub short_or_long : (rank low : ℕ) → (rank < low) ⊎ (low ≤ rank)
 short_or_long rank low = elim (nat_lt rank low) as (λ t. nat_lt rank low ≡ t → (rank < low) ⊎ (low ≤ rank)) [
@@ -20,12 +17,11 @@ module _ {V : Type 0} where
   pub among_appended : (ms ts : List (Placed V)) (y : Placed V) → IsAmong y (ms ++ ts) → IsAmong y ms ⊎ IsAmong y ts
   among_appended [] ts y among = inr among
   among_appended (x ∷ xs) ts y among =
-      ⊎_elim (λ (e : x ≡ y). inl (inl e)) (λ (behind : IsAmong y (xs ++ ts)).
-      ⊎_elim (λ (front : IsAmong y xs). inl (inr front)) (λ (back : IsAmong y ts). inr back) (among_appended xs ts y behind)) among
+      elim among [ inl e ↦ inl (inl e) | inr behind ↦ elim (among_appended xs ts y behind) [ inl front ↦ inl (inr front) | inr back ↦ inr back ] ]
 
   pub in_front : (ms ts : List (Placed V)) (y : Placed V) → IsAmong y ms → IsAmong y (ms ++ ts)
   in_front [] ts y among = absurd among
-  in_front (x ∷ xs) ts y among = ⊎_elim (λ (e : x ≡ y). inl e) (λ (behind : IsAmong y xs). inr (in_front xs ts y behind)) among
+  in_front (x ∷ xs) ts y among = elim among [ inl e ↦ inl e | inr behind ↦ inr (in_front xs ts y behind) ]
 
   pub in_back : (ms ts : List (Placed V)) (y : Placed V) → IsAmong y ts → IsAmong y (ms ++ ts)
   in_back [] ts y among = among
@@ -40,12 +36,12 @@ module _ {V : Type 0} where
 
   pub falls_among : (low top : ℕ) (ms : List (Placed V)) → Falls low top ms → (y : Placed V) → IsAmong y ms → (low ≤ y.entry.rank) × (y.entry.rank < top)
   falls_among low top [] falls y among = absurd among
-  falls_among low top (x ∷ xs) falls y among =
-      ⊎_elim (λ (e : x ≡ y). subst (λ (p : Placed V). (low ≤ p.entry.rank) × (p.entry.rank < top)) e (falls.0, falls.1))
-      (λ (behind : IsAmong y xs).
-      let between = falls_among low x.entry.rank xs falls.2 y behind in
-      let first : x.entry.rank < top = falls.1 in let lower : y.entry.rank < x.entry.rank = between.1 in
-      let most : y.entry.rank < top = omega arith in (between.0, most)) among
+  falls_among low top (x ∷ xs) falls y among = elim among [
+    | inl e ↦ subst (λ (p : Placed V). (low ≤ p.entry.rank) × (p.entry.rank < top)) e (falls.0, falls.1)
+    | inr behind ↦ let between = falls_among low x.entry.rank xs falls.2 y behind in
+        let first : x.entry.rank < top = falls.1 in let lower : y.entry.rank < x.entry.rank = between.1 in
+        let most : y.entry.rank < top = omega arith in (between.0, most)
+  ]
 
   pub falls_appended : (low middle top : ℕ) (ms ts : List (Placed V)) → Falls middle top ms → Falls low middle ts → low ≤ middle → middle ≤ top
       → Falls low top (ms ++ ts)
@@ -70,47 +66,46 @@ module _ {V : Type 0} where
   -- together they are all
   pub parted : (low : ℕ) (ms : List (Placed V)) → ms ≡ not_below low ms ++ below low ms
   parted low [] = refl
-  parted low (x ∷ xs) =
-      ⊎_elim (λ (short : x.entry.rank < low). sym (ap (λ (l : List (Placed V)). l ++ below low (x ∷ xs)) (not_below_short low x xs short)
-      ∙ below_short low x xs short))
-      (λ (long : low ≤ x.entry.rank). ap (λ (l : List (Placed V)). x ∷ l) (parted low xs)
-      ∙ sym (ap (λ (l : List (Placed V)). l ++ below low (x ∷ xs)) (not_below_long low x xs long)
-      ∙ ap (λ (l : List (Placed V)). (x ∷ not_below low xs) ++ l) (below_long low x xs long)))
-      (short_or_long x.entry.rank low)
+  parted low (x ∷ xs) = elim (short_or_long x.entry.rank low) [
+    | inl short ↦ sym (ap (λ (l : List (Placed V)). l ++ below low (x ∷ xs)) (not_below_short low x xs short) ∙ below_short low x xs short)
+    | inr long ↦ ap (λ (l : List (Placed V)). x ∷ l) (parted low xs)
+        ∙ sym (ap (λ (l : List (Placed V)). l ++ below low (x ∷ xs)) (not_below_long low x xs long)
+        ∙ ap (λ (l : List (Placed V)). (x ∷ not_below low xs) ++ l) (below_long low x xs long))
+  ]
 
   pub falls_not_below : (least top low : ℕ) (ms : List (Placed V)) → Falls least top ms → Falls low top (not_below low ms)
   falls_not_below least top low [] falls = tt
-  falls_not_below least top low (x ∷ xs) falls =
-      ⊎_elim (λ (short : x.entry.rank < low). subst (Falls low top) (sym (not_below_short low x xs short)) tt)
-      (λ (long : low ≤ x.entry.rank). subst (Falls low top) (sym (not_below_long low x xs long))
-      (long, falls.1, falls_not_below least x.entry.rank low xs falls.2))
-      (short_or_long x.entry.rank low)
+  falls_not_below least top low (x ∷ xs) falls = elim (short_or_long x.entry.rank low) [
+    | inl short ↦ subst (Falls low top) (sym (not_below_short low x xs short)) tt
+    | inr long ↦ subst (Falls low top) (sym (not_below_long low x xs long)) (long, falls.1, falls_not_below least x.entry.rank low xs falls.2)
+  ]
 
   pub falls_below : (least top low : ℕ) (ms : List (Placed V)) → Falls least top ms → Falls least low (below low ms)
   falls_below least top low [] falls = tt
-  falls_below least top low (x ∷ xs) falls =
-      ⊎_elim (λ (short : x.entry.rank < low). subst (Falls least low) (sym (below_short low x xs short)) (falls.0, short, falls.2))
-      (λ (long : low ≤ x.entry.rank). subst (Falls least low) (sym (below_long low x xs long)) (falls_below least x.entry.rank low xs falls.2))
-      (short_or_long x.entry.rank low)
+  falls_below least top low (x ∷ xs) falls = elim (short_or_long x.entry.rank low) [
+    | inl short ↦ subst (Falls least low) (sym (below_short low x xs short)) (falls.0, short, falls.2)
+    | inr long ↦ subst (Falls least low) (sym (below_long low x xs long)) (falls_below least x.entry.rank low xs falls.2)
+  ]
 
   pub falls_behind : (least top low : ℕ) (ms : List (Placed V)) → Falls least top ms → Falls least top (below low ms)
   falls_behind least top low [] falls = tt
   falls_behind least top low (x ∷ xs) falls =
       let first : x.entry.rank < top = falls.1 in
-      ⊎_elim (λ (short : x.entry.rank < low). subst (Falls least top) (sym (below_short low x xs short)) falls)
-      (λ (long : low ≤ x.entry.rank). subst (Falls least top) (sym (below_long low x xs long))
-      (falls_wider least x.entry.rank least top (below low xs) (falls_behind least x.entry.rank low xs falls.2) (omega arith) (omega arith)))
-      (short_or_long x.entry.rank low)
+      elim (short_or_long x.entry.rank low) [
+        | inl short ↦ subst (Falls least top) (sym (below_short low x xs short)) falls
+        | inr long ↦ subst (Falls least top) (sym (below_long low x xs long))
+            (falls_wider least x.entry.rank least top (below low xs) (falls_behind least x.entry.rank low xs falls.2) (omega arith) (omega arith))
+      ]
 
   pub not_below_among : (low : ℕ) (ms : List (Placed V)) (y : Placed V) → IsAmong y (not_below low ms) → IsAmong y ms × (low ≤ y.entry.rank)
   not_below_among low [] y among = absurd among
-  not_below_among low (x ∷ xs) y among =
-      ⊎_elim (λ (short : x.entry.rank < low). absurd (subst (IsAmong y) (not_below_short low x xs short) among))
-      (λ (long : low ≤ x.entry.rank).
-      ⊎_elim (λ (e : x ≡ y). (inl e, subst (λ (p : Placed V). low ≤ p.entry.rank) e long))
-      (λ (behind : IsAmong y (not_below low xs)). let rest = not_below_among low xs y behind in (inr rest.0, rest.1))
-      (subst (IsAmong y) (not_below_long low x xs long) among))
-      (short_or_long x.entry.rank low)
+  not_below_among low (x ∷ xs) y among = elim (short_or_long x.entry.rank low) [
+    | inl short ↦ absurd (subst (IsAmong y) (not_below_short low x xs short) among)
+    | inr long ↦ elim (subst (IsAmong y) (not_below_long low x xs long) among) [
+      | inl e ↦ (inl e, subst (λ (p : Placed V). low ≤ p.entry.rank) e long)
+      | inr behind ↦ let rest = not_below_among low xs y behind in (inr rest.0, rest.1)
+    ]
+  ]
 
   pub below_among : (least top low : ℕ) (ms : List (Placed V)) → Falls least top ms → (y : Placed V) → IsAmong y (below low ms)
       → IsAmong y ms × (y.entry.rank < low)
@@ -122,41 +117,40 @@ module _ {V : Type 0} where
   pub among_not_below : (least top low : ℕ) (ms : List (Placed V)) → Falls least top ms → (y : Placed V) → IsAmong y ms → low ≤ y.entry.rank
       → IsAmong y (not_below low ms)
   among_not_below least top low ms falls y among long =
-      ⊎_elim (λ (front : IsAmong y (not_below low ms)). front)
-      (λ (back : IsAmong y (below low ms)). let short : y.entry.rank < low = (below_among least top low ms falls y back).1 in absurd (omega arith))
-      (among_appended (not_below low ms) (below low ms) y (subst (IsAmong y) (parted low ms) among))
+      elim (among_appended (not_below low ms) (below low ms) y (subst (IsAmong y) (parted low ms) among)) [
+        | inl front ↦ front
+        | inr back ↦ let short : y.entry.rank < low = (below_among least top low ms falls y back).1 in absurd (omega arith)
+      ]
 
   pub among_below : (low : ℕ) (ms : List (Placed V)) (y : Placed V) → IsAmong y ms → y.entry.rank < low → IsAmong y (below low ms)
-  among_below low ms y among short =
-      ⊎_elim (λ (front : IsAmong y (not_below low ms)). let long : low ≤ y.entry.rank = (not_below_among low ms y front).1 in absurd (omega arith))
-      (λ (back : IsAmong y (below low ms)). back)
-      (among_appended (not_below low ms) (below low ms) y (subst (IsAmong y) (parted low ms) among))
+  among_below low ms y among short = elim (among_appended (not_below low ms) (below low ms) y (subst (IsAmong y) (parted low ms) among)) [
+    | inl front ↦ let long : low ≤ y.entry.rank = (not_below_among low ms y front).1 in absurd (omega arith)
+    | inr back ↦ back
+  ]
 
   -- ---- a mask more
   pub sorted_here : (x : Placed V) (ms : List (Placed V)) → IsAmong x (sorted_in x ms)
   sorted_here x ms = in_back (not_below x.entry.rank ms) (x ∷ below x.entry.rank ms) x (inl refl)
 
   pub among_sorted : (least top : ℕ) (x : Placed V) (ms : List (Placed V)) → Falls least top ms → (y : Placed V) → IsAmong y ms → IsAmong y (sorted_in x ms)
-  among_sorted least top x ms falls y among =
-      ⊎_elim (λ (short : y.entry.rank < x.entry.rank). in_back (not_below x.entry.rank ms) (x ∷ below x.entry.rank ms) y
-      (inr (among_below x.entry.rank ms y among short)))
-      (λ (long : x.entry.rank ≤ y.entry.rank). in_front (not_below x.entry.rank ms) (x ∷ below x.entry.rank ms) y
-      (among_not_below least top x.entry.rank ms falls y among long))
-      (short_or_long y.entry.rank x.entry.rank)
+  among_sorted least top x ms falls y among = elim (short_or_long y.entry.rank x.entry.rank) [
+    | inl short ↦ in_back (not_below x.entry.rank ms) (x ∷ below x.entry.rank ms) y (inr (among_below x.entry.rank ms y among short))
+    | inr long ↦ in_front (not_below x.entry.rank ms) (x ∷ below x.entry.rank ms) y
+        (among_not_below least top x.entry.rank ms falls y among long)
+  ]
 
   pub sorted_among : (least top : ℕ) (x : Placed V) (ms : List (Placed V)) → Falls least top ms → (y : Placed V) → IsAmong y (sorted_in x ms)
       → (x ≡ y) ⊎ IsAmong y ms
-  sorted_among least top x ms falls y among =
-      ⊎_elim (λ (front : IsAmong y (not_below x.entry.rank ms)). inr (not_below_among x.entry.rank ms y front).0)
-      (λ (back : IsAmong y (x ∷ below x.entry.rank ms)).
-      ⊎_elim (λ (e : x ≡ y). inl e) (λ (behind : IsAmong y (below x.entry.rank ms)). inr (below_among least top x.entry.rank ms falls y behind).0) back)
-      (among_appended (not_below x.entry.rank ms) (x ∷ below x.entry.rank ms) y among)
+  sorted_among least top x ms falls y among = elim (among_appended (not_below x.entry.rank ms) (x ∷ below x.entry.rank ms) y among) [
+    | inl front ↦ inr (not_below_among x.entry.rank ms y front).0
+    | inr back ↦ elim back [ inl e ↦ inl e | inr behind ↦ inr (below_among least top x.entry.rank ms falls y behind).0 ]
+  ]
 
   raised : (low top : ℕ) (ms : List (Placed V)) → Falls low top ms → IsNoRank low ms → Falls (low + 1) top ms
   raised low top [] falls no_rank = tt
   raised low top (x ∷ xs) falls no_rank =
       let least : low ≤ x.entry.rank = falls.0 in let other : x.entry.rank ≡ low → ⊥ = no_rank x (inl refl) in (
-        ⊎_elim (λ (e : x.entry.rank ≡ low). absurd (other e)) (λ (ne : x.entry.rank ≡ low → ⊥). omega (arith, ne, least)) (cases_eq x.entry.rank low),
+        elim (cases_eq x.entry.rank low) [ inl e ↦ absurd (other e) | inr ne ↦ omega (arith, ne, least) ],
         falls.1,
         raised low x.entry.rank xs falls.2 (λ y among. no_rank y (inr among)),
       )
@@ -173,48 +167,45 @@ module _ {V : Type 0} where
   -- ---- a mask less
   pub taken_among : (least top rank : ℕ) (ms : List (Placed V)) → Falls least top ms → (y : Placed V) → IsAmong y (taken_out rank ms)
       → IsAmong y ms × (y.entry.rank ≡ rank → ⊥)
-  taken_among least top rank ms falls y among =
-      ⊎_elim (λ (front : IsAmong y (not_below (rank + 1) ms)).
-      let is = not_below_among (rank + 1) ms y front in let long : rank + 1 ≤ y.entry.rank = is.1 in
-      let other : y.entry.rank ≡ rank → ⊥ = λ same. omega arith in (is.0, other))
-      (λ (back : IsAmong y (below rank ms)).
-      let is = below_among least top rank ms falls y back in let short : y.entry.rank < rank = is.1 in
-      let other : y.entry.rank ≡ rank → ⊥ = λ same. omega arith in (is.0, other))
-      (among_appended (not_below (rank + 1) ms) (below rank ms) y among)
+  taken_among least top rank ms falls y among = elim (among_appended (not_below (rank + 1) ms) (below rank ms) y among) [
+    | inl front ↦ let is = not_below_among (rank + 1) ms y front in let long : rank + 1 ≤ y.entry.rank = is.1 in
+        let other : y.entry.rank ≡ rank → ⊥ = λ same. omega arith in (is.0, other)
+    | inr back ↦ let is = below_among least top rank ms falls y back in let short : y.entry.rank < rank = is.1 in
+        let other : y.entry.rank ≡ rank → ⊥ = λ same. omega arith in (is.0, other)
+  ]
 
   pub among_taken : (least top rank : ℕ) (ms : List (Placed V)) → Falls least top ms → (y : Placed V) → IsAmong y ms → (y.entry.rank ≡ rank → ⊥)
       → IsAmong y (taken_out rank ms)
-  among_taken least top rank ms falls y among differs =
-      ⊎_elim (λ (short : y.entry.rank < rank). in_back (not_below (rank + 1) ms) (below rank ms) y (among_below rank ms y among short))
-      (λ (long : rank ≤ y.entry.rank).
-      let past : rank + 1 ≤ y.entry.rank =
-      ⊎_elim (λ (e : y.entry.rank ≡ rank). absurd (differs e)) (λ (ne : y.entry.rank ≡ rank → ⊥). omega (arith, ne, long)) (cases_eq y.entry.rank rank) in
-      in_front (not_below (rank + 1) ms) (below rank ms) y (among_not_below least top (rank + 1) ms falls y among past))
-      (short_or_long y.entry.rank rank)
+  among_taken least top rank ms falls y among differs = elim (short_or_long y.entry.rank rank) [
+    | inl short ↦ in_back (not_below (rank + 1) ms) (below rank ms) y (among_below rank ms y among short)
+    | inr long ↦ let past : rank + 1 ≤ y.entry.rank =
+        elim (cases_eq y.entry.rank rank) [ inl e ↦ absurd (differs e) | inr ne ↦ omega (arith, ne, long) ] in
+        in_front (not_below (rank + 1) ms) (below rank ms) y (among_not_below least top (rank + 1) ms falls y among past)
+  ]
 
   pub falls_taken : (low top rank : ℕ) (ms : List (Placed V)) → Falls low top ms → Falls low top (taken_out rank ms)
   falls_taken low top rank [] falls = tt
-  falls_taken low top rank (x ∷ xs) falls =
-      ⊎_elim (λ (short : x.entry.rank < rank + 1). subst (λ (l : List (Placed V)). Falls low top (l ++ below rank (x ∷ xs)))
-      (sym (not_below_short (rank + 1) x xs short)) (falls_behind low top rank (x ∷ xs) falls))
-      (λ (long : rank + 1 ≤ x.entry.rank).
-      let past : rank ≤ x.entry.rank = omega arith in
-      subst (λ (l : List (Placed V)). Falls low top (l ++ below rank (x ∷ xs))) (sym (not_below_long (rank + 1) x xs long))
-      (subst (λ (l : List (Placed V)). Falls low top ((x ∷ not_below (rank + 1) xs) ++ l)) (sym (below_long rank x xs past))
-      (falls.0, falls.1, falls_taken low x.entry.rank rank xs falls.2)))
-      (short_or_long x.entry.rank (rank + 1))
+  falls_taken low top rank (x ∷ xs) falls = elim (short_or_long x.entry.rank (rank + 1)) [
+    | inl short ↦ subst (λ (l : List (Placed V)). Falls low top (l ++ below rank (x ∷ xs)))
+        (sym (not_below_short (rank + 1) x xs short)) (falls_behind low top rank (x ∷ xs) falls)
+    | inr long ↦ let past : rank ≤ x.entry.rank = omega arith in
+        subst (λ (l : List (Placed V)). Falls low top (l ++ below rank (x ∷ xs))) (sym (not_below_long (rank + 1) x xs long))
+        (subst (λ (l : List (Placed V)). Falls low top ((x ∷ not_below (rank + 1) xs) ++ l)) (sym (below_long rank x xs past))
+        (falls.0, falls.1, falls_taken low x.entry.rank rank xs falls.2))
+  ]
 
   -- ---- the rooms
   pub marked_among : (K : Masks) (ms : List (Placed V)) → MasksStand K ms → (y : Placed V) → IsAmong y ms → IsMarked K y
   marked_among K [] stands y among = absurd among
-  marked_among K (x ∷ xs) stands y among =
-      ⊎_elim (λ (e : x ≡ y). subst (λ (p : Placed V). IsMarked K p) e (ap (λ (o : Option MaskPart). is_some o) stands.0))
-      (λ (behind : IsAmong y xs). marked_among K xs stands.1 y behind) among
+  marked_among K (x ∷ xs) stands y among = elim among [
+    | inl e ↦ subst (λ (p : Placed V). IsMarked K p) e (ap (λ (o : Option MaskPart). is_some o) stands.0)
+    | inr behind ↦ marked_among K xs stands.1 y behind
+  ]
 
   pub ranked_among : (L : Leaves V) (ms : List (Placed V)) → AreRanked L ms → (y : Placed V) → IsAmong y ms → IsRanked L y
   ranked_among L [] ranked y among = absurd among
   ranked_among L (x ∷ xs) ranked y among =
-      ⊎_elim (λ (e : x ≡ y). subst (λ (p : Placed V). IsRanked L p) e ranked.0) (λ (behind : IsAmong y xs). ranked_among L xs ranked.1 y behind) among
+      elim among [ inl e ↦ subst (λ (p : Placed V). IsRanked L p) e ranked.0 | inr behind ↦ ranked_among L xs ranked.1 y behind ]
 
   pub among_ranked : (L : Leaves V) (ms : List (Placed V)) → ((y : Placed V) → IsAmong y ms → IsRanked L y) → AreRanked L ms
   among_ranked L [] all = tt

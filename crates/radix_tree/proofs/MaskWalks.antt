@@ -1,10 +1,9 @@
 -- A walk along a list of masks.
-use Rattle.std.proofs.Common.{◌≡◌, ℕ, ◌+◌, ◌≤◌, ◌<◌, List, [], ◌∷◌, Option, Some, None, refl, sym, ap, ◌∙◌, subst, arith}
-use Rattle.radix_tree.proofs.Words.{Counter, Has, Id, Leaf, MaskNode, IsMasks, IsRanked, AreRanked, last_from, last_mask, not_below, below, ReadsOnce, LeafPart}
-use Rattle.radix_tree.proofs.Words.{MaskPart, leaves_in, masks_in, mask_part, first_room, MasksStand, Falls, Placed, Lodged}
-use Rattle.radix_tree.proofs.MaskLists.{not_below_short, not_below_long, below_short, below_long}
-use Rattle.radix_tree.proofs.RoomReads.{inside, none_some, Has-leaf, Has-mask}
-use Rattle.radix_tree.proofs.TreeMembers.{head_of}
+use Rattle.radix_tree.proofs.Words.{◌≡◌, ℕ, ◌+◌, ◌≤◌, ◌<◌, List, [], ◌∷◌, Option, Some, None, refl, sym, ap, ◌∙◌, subst, arith, Counter, Has, Id, Leaf}
+use Rattle.radix_tree.proofs.Words.{MaskNode, IsMasks, IsRanked, AreRanked, last_from, last_mask, not_below, below, ReadsOnce, LeafPart, MaskPart}
+use Rattle.radix_tree.proofs.Words.{leaves_in, masks_in, mask_part, first_room, MasksStand, Falls, Placed, Lodged}
+use Rattle.radix_tree.proofs.{MaskLists.not_below_short, MaskLists.not_below_long, MaskLists.below_short, MaskLists.below_long, RoomReads.inside}
+use Rattle.radix_tree.proofs.{RoomReads.none_some, RoomReads.Has-leaf, RoomReads.Has-mask, TreeMembers.head_of}
 
 module _ {V : Type 0} where
   -- ---- the room of a mask's route

@@ -1,21 +1,19 @@
 -- What stands in a table, what holds of all its entries, and what is found among them; and all this with or without an entry.
-use Rattle.std.proofs.Common.{◌≡◌, ℕ, ◌+◌, ◌≤◌, ◌⊎◌, Bool, true, false, cond, not, filter, length, is_some, IsTrue, nat_lt, nat_eq, ◌&&◌, ◌||◌, List, [], ◌∷◌}
-use Rattle.std.proofs.Common.{Option, Some, None, refl, sym, ap, ◌∙◌, subst, inl, inr, suc, arith}
-use Rattle.std.proofs.lemmas.Bool.Decides.{nat_tests}
-use Rattle.std.proofs.lemmas.List.Elements.{All-contains, All-contains_itself, All-from_recursion, recursion_from_All}
-use Rattle.std.proofs.lemmas.List.Folds.{find-append}
-use Rattle.radix_tree.proofs.Words.{find, Contains, AllByRecursion, option_or, agrees, precedes, IsRoute, IsTable, has_pair, entry_at, first_of, without}
-use Rattle.radix_tree.proofs.Words.{with_entry, agreeing, greater, greatest, best_of, AreOnePair, StandsIn, Agrees, MembersStand, MembersAreRoutes}
-use Rattle.radix_tree.proofs.Words.{EntryAtIsMember, FirstOfIsMember, BestIsMember, FirstIsGreatest, WithStands, WithKeepsOthers, WithoutLeavesNone}
-use Rattle.radix_tree.proofs.Words.{WithoutKeepsOthers, MembersOfWith, MembersOfWithout, WithCounts, WithoutCounts, Entry}
+use Rattle.std.proofs.lemmas.{List.Elements.All-contains, List.Elements.All-contains_itself, List.Elements.All-from_recursion}
+use Rattle.std.proofs.lemmas.{List.Elements.recursion_from_All, List.Folds.find-append}
+use Rattle.radix_tree.proofs.Words.{◌≡◌, ℕ, ◌+◌, ◌≤◌, ◌⊎◌, Bool, true, false, cond, not, filter, length, is_some, IsTrue, nat_lt, nat_eq, ◌&&◌, ◌||◌}
+use Rattle.radix_tree.proofs.Words.{List, [], ◌∷◌, Option, Some, None, refl, sym, ap, ◌∙◌, subst, inl, inr, suc, arith, nat_tests, find, Contains}
+use Rattle.radix_tree.proofs.Words.{AllByRecursion, option_or, agrees, precedes, IsRoute, IsTable, has_pair, entry_at, first_of, without, with_entry}
+use Rattle.radix_tree.proofs.Words.{agreeing, greater, greatest, best_of, AreOnePair, StandsIn, Agrees, MembersStand, MembersAreRoutes, EntryAtIsMember}
+use Rattle.radix_tree.proofs.Words.{FirstOfIsMember, BestIsMember, FirstIsGreatest, WithStands, WithKeepsOthers, WithoutLeavesNone, WithoutKeepsOthers}
+use Rattle.radix_tree.proofs.Words.{MembersOfWith, MembersOfWithout, WithCounts, WithoutCounts, Entry}
 use Rattle.radix_tree.proofs.ListLemmas.{all_weaker, all_both, all_append, all_passed, all_filter, all_find, find_filter, or_none}
-use Rattle.radix_tree.proofs.OrderLemmas.{stands_before, pair_is, own_pair, other_pair, not_pair}
 use Rattle.radix_tree.proofs.TableLemmas.{later, same, sooner, with_parts, without_absent, all_behind, none_at}
+use Rattle.radix_tree.proofs.OrderLemmas.{stands_before, pair_is, own_pair, other_pair, not_pair}
 
 -- what holds of all entries holds with one more of which it holds, and without a pair
 pub all_with : {V : Type 0} (P : Entry V → Type 0) (e : Entry V) (es : List (Entry V)) → AllByRecursion P es → P e → AllByRecursion P (with_entry e es)
-all_with P e es h k =
-    all_append P (filter (λ x. precedes x e) es) (e ∷ filter (λ x. precedes e x) es) (all_filter P (λ x. precedes x e) es h)
+all_with P e es h k = all_append P (filter (λ x. precedes x e) es) (e ∷ filter (λ x. precedes e x) es) (all_filter P (λ x. precedes x e) es h)
     (k, all_filter P (λ x. precedes e x) es h)
 
 pub all_without : {V : Type 0} (P : Entry V → Type 0) (key rank : ℕ) (es : List (Entry V)) → AllByRecursion P es → AllByRecursion P (without key rank es)
@@ -61,8 +59,7 @@ first_of_is_member key entries e h =
     (found.0, grind (arith, nat_tests))
 
 pub best_is_member : {V : Type 0} → BestIsMember V
-best_is_member address entries e h =
-    all_greatest (λ x. Contains entries x × Agrees address x) (agreeing address entries) e
+best_is_member address entries e h = all_greatest (λ x. Contains entries x × Agrees address x) (agreeing address entries) e
     (all_passed (Contains entries) (λ x. agrees x.rank x.key address) entries (all_members entries)) h
 
 -- each member of a table stands in it
@@ -89,15 +86,13 @@ members_are_routes entries e r h = all_contains IsRoute entries e (all_routes en
 all_of_key : {V : Type 0} (key : ℕ) (es : List (Entry V)) (e : Entry V) → IsTable es → first_of key es ≡ Some e
     → AllByRecursion (λ o. o.key ≡ key → o.rank ≤ e.rank) es
 all_of_key key [] e r h = tt
-all_of_key {V} key (x ∷ xs) e r h =
-    elim (nat_eq x.key key) as (λ b. nat_eq x.key key ≡ b → cond b (Some x) (first_of key xs) ≡ Some e
+all_of_key {V} key (x ∷ xs) e r h = elim (nat_eq x.key key) as (λ b. nat_eq x.key key ≡ b → cond b (Some x) (first_of key xs) ≡ Some e
     → AllByRecursion (λ o. o.key ≡ key → o.rank ≤ e.rank) (x ∷ xs)) [
       | true ↦ λ k s. (let is : x ≡ e = cc in
           let P : Entry V → Type 0 = λ y. AllByRecursion (λ o. o.key ≡ key → o.rank ≤ y.rank) (x ∷ xs) in
           subst P is (
             (λ o. omega arith),
-            all_weaker (λ f. IsTrue (precedes x f)) (λ o. o.key ≡ key → o.rank ≤ x.rank) (λ f p o. grind (arith, nat_tests)) xs
-                r.1,
+            all_weaker (λ f. IsTrue (precedes x f)) (λ o. o.key ≡ key → o.rank ≤ x.rank) (λ f p o. grind (arith, nat_tests)) xs r.1,
           ))
       | false ↦ λ k s. ((λ o. absurd (grind (arith, nat_tests))), all_of_key key xs e r.2 s)
     ] refl h
@@ -127,15 +122,12 @@ with_keeps_others key rank entries e other =
       | true ↦ λ k. rw (
         find_filter q (λ x. precedes x e) true (λ x s. grind (arith, nat_tests)) entries,
         fails,
-        find_filter q (λ x. precedes e x) false
-            (λ x s. grind (arith, nat_tests)) entries,
-      )
-          (or_none (find q entries))
+        find_filter q (λ x. precedes e x) false (λ x s. grind (arith, nat_tests)) entries,
+      ) (or_none (find q entries))
       | false ↦ λ k. rw (
         find_filter q (λ x. precedes x e) false (λ x s. grind (arith, nat_tests)) entries,
         fails,
-        find_filter q (λ x. precedes e x) true
-            (λ x s. grind (arith, nat_tests)) entries,
+        find_filter q (λ x. precedes e x) true (λ x s. grind (arith, nat_tests)) entries,
       ) refl
     ] refl)
 
@@ -143,17 +135,14 @@ pub without_leaves_none : {V : Type 0} → WithoutLeavesNone V
 without_leaves_none key rank entries = find_filter (has_pair key rank) (λ x. not (has_pair key rank x)) false (λ x k. rw k refl) entries
 
 pub without_keeps_others : {V : Type 0} → WithoutKeepsOthers V
-without_keeps_others key rank gone_key gone_rank entries other =
-    find_filter (has_pair key rank) (λ x. not (has_pair gone_key gone_rank x)) true
+without_keeps_others key rank gone_key gone_rank entries other = find_filter (has_pair key rank) (λ x. not (has_pair gone_key gone_rank x)) true
     (λ x k. (let is = pair_is key rank x k in
     let fails : has_pair gone_key gone_rank x ≡ false = other_pair gone_key gone_rank x (λ same. other (sym is.0 ∙ same.0, sym is.1 ∙ same.1)) in
-    rw fails refl))
-    entries
+    rw fails refl)) entries
 
 -- so an entry stays that stood before one of another pair was put in, or another pair was taken out
 pub with_keeps : {V : Type 0} (es : List (Entry V)) (e r : Entry V) → entry_at e.key e.rank es ≡ None → StandsIn es r → StandsIn (with_entry e es) r
-with_keeps es e r none stands =
-    with_keeps_others r.key r.rank es e (λ same. (let gone : Some r ≡ None =
+with_keeps es e r none stands = with_keeps_others r.key r.rank es e (λ same. (let gone : Some r ≡ None =
     sym stands ∙ (ap (λ k. entry_at k r.rank es) same.0 ∙ (ap (λ n. entry_at e.key n es) same.1 ∙ none)) in cc)) ∙ stands
 
 pub without_keeps : {V : Type 0} (key rank : ℕ) (es : List (Entry V)) (r : Entry V) → ¬ (AreOnePair r.key r.rank key rank) → StandsIn es r
@@ -176,8 +165,7 @@ members_of_with {V} entries e member h =
 pub members_of_without : {V : Type 0} → MembersOfWithout V
 members_of_without {V} key rank entries member h =
     let Was : Entry V → Type 0 = λ x. Contains entries x × ¬ (AreOnePair x.key x.rank key rank) in
-    all_contains Was (without key rank entries) member
-    (all_weaker (λ x. Contains entries x × (not (has_pair key rank x) ≡ true)) Was
+    all_contains Was (without key rank entries) member (all_weaker (λ x. Contains entries x × (not (has_pair key rank x) ≡ true)) Was
     (λ x k. (k.0, not_pair key rank x (let test = k.1 in grind (arith, nat_tests))))
     (without key rank entries) (all_passed (Contains entries) (λ x. not (has_pair key rank x)) entries (all_members entries))) h
 

@@ -1,16 +1,12 @@
 -- A bit node in use moves from its room to another: the rooms before the writes and after them.
-use Rattle.std.proofs.Common.{◌≡◌, ℕ, ◌+◌, ◌≤◌, ◌==◌, true, false, List, [], ◌∷◌, Option, Some, None, refl, sym, ap, ◌∙◌, subst, arith}
-use Rattle.radix_tree.proofs.Words.{is_some, Has, bit_node_of, Id, Links, Node, BitNode, Tree, BitPart, Part, leaves_in, bits_in, heads_in, bit_in, bit_part}
-use Rattle.radix_tree.proofs.Words.{head_part, name_of, ForkAt, Way, one_if, leaves_at, forks_at, AreOnce, IsWholeBut, nobody_late, out_at, put_bit, put_head}
-use Rattle.radix_tree.proofs.Words.{lift_leaf, lift_bit, KeepsMasks, rename, content_of, KeepsRoutes, CanTake, Lodged}
-use Rattle.radix_tree.proofs.RoomReads.{inside, none_some, AreLinks, head_read}
-use Rattle.radix_tree.proofs.Parts.{fork_is, fork_stands, bit_part_of, Has-fork, zero_part}
-use Rattle.radix_tree.proofs.PartRooms.{frame, way_once, way_counts, spine_out}
-use Rattle.radix_tree.proofs.Forking.{forks_there}
-use Rattle.radix_tree.proofs.Beside.{misses_leaf, misses_bit}
-use Rattle.radix_tree.proofs.WaysDown.{way_to_fork}
-use Rattle.radix_tree.proofs.WholeParts.{once_but}
+use Rattle.radix_tree.proofs.Words.{◌≡◌, ℕ, ◌+◌, ◌≤◌, ◌==◌, true, false, List, [], ◌∷◌, Option, Some, None, refl, sym, ap, ◌∙◌, subst, arith, is_some}
+use Rattle.radix_tree.proofs.Words.{Has, bit_node_of, Id, Links, Node, BitNode, Tree, BitPart, Part, leaves_in, bits_in, heads_in, bit_in, bit_part}
+use Rattle.radix_tree.proofs.Words.{head_part, name_of, ForkAt, Way, one_if, leaves_at, forks_at, AreOnce, IsWholeBut, nobody_late, out_at, put_bit}
+use Rattle.radix_tree.proofs.Words.{put_head, lift_leaf, lift_bit, KeepsMasks, rename, content_of, KeepsRoutes, CanTake, Lodged}
 use Rattle.radix_tree.proofs.MovedReads.{one_if_is, none_of, at_room, off_room, content_lift, lift_used, rename_used, leaf_off, bit_off}
+use Rattle.radix_tree.proofs.{RoomReads.inside, RoomReads.none_some, RoomReads.AreLinks, RoomReads.head_read, Parts.fork_is, Parts.fork_stands}
+use Rattle.radix_tree.proofs.{Parts.bit_part_of, Parts.Has-fork, Parts.zero_part, PartRooms.frame, PartRooms.way_once, PartRooms.way_counts}
+use Rattle.radix_tree.proofs.{PartRooms.spine_out, Forking.forks_there, Beside.misses_leaf, Beside.misses_bit, WaysDown.way_to_fork, WholeParts.once_but}
 
 pub bit_said : (to : Id) (n : BitNode) {bit : ℕ} {left right : Node} {above : Option Id} → n.bit ≡ bit → n.zero ≡ left → n.one ≡ right → n.above ≡ above
     → bit_part to.block (Some n) ≡ Some (record { block = to.block; bit = bit; zero = left; one = right; above = above })
@@ -126,13 +122,11 @@ module _ {V : Type 0} where
 
   -- the rooms differ
   pub apart : (m : Lodged V) {root : Node} {from to : Id} (n : BitNode) (v : IsMove m root from to n) → from.number ≡ to.number → ⊥
-  apart m n v same =
-      none_some (sym (ap (bits_in m) (v.number ∙ same) ∙ v.takes.free) ∙ (fork_stands m v.f).0)
+  apart m n v same = none_some (sym (ap (bits_in m) (v.number ∙ same) ∙ v.takes.free) ∙ (fork_stands m v.f).0)
 
   -- the bit node above is in the tree, but not in the part
   pub spine_apart : (m : Lodged V) (key : ℕ) (whole at : Part m) (ups : List (Part m)) → Way key whole at ups → whole.above ≡ None → AreOnce whole.tree
-      → (up : Id) → at.above ≡ Some up
-      → (forks_at up.number at.tree ≡ 0) × (1 ≤ forks_at up.number whole.tree)
+      → (up : Id) → at.above ≡ Some up → (forks_at up.number at.tree ≡ 0) × (1 ≤ forks_at up.number whole.tree)
   spine_apart m key whole at [] way top once up is = absurd (none_some (sym (ap (λ (p : Part m). p.above) way ∙ top) ∙ is))
   spine_apart m key whole at (p ∷ ps) way top once up is =
       let out = spine_out m at p way.0 (way_once key whole p ps way.1 once) in
@@ -173,8 +167,7 @@ module _ {V : Type 0} where
               leaves k ∙ misses_leaf n.zero k (leaf_off v.f.zero k v.left (omega arith)) (Some to) (leaves_in m k))
               (λ k some. let sum : forks_at k v.at.tree ≡ one_if (v.room.number == k) + (forks_at k v.f.zero + forks_at k v.f.one) = at_forks v k in
               let most : forks_at k v.at.tree ≤ 1 = once.forks k in
-              bits k ∙ misses_bit n.zero k (bit_off v.f.zero k v.left (omega arith)) (Some to) (bits_in m k))
-              (fork_stands m v.f).2;
+              bits k ∙ misses_bit n.zero k (bit_off v.f.zero k v.left (omega arith)) (Some to) (bits_in m k)) (fork_stands m v.f).2;
         },
         sym v.right,
       )
@@ -204,23 +197,19 @@ module _ {V : Type 0} where
       → is_some (bits_in new k) ≡ is_some (bits_in m k)
   used_stays m new from to n d k other off =
       let lift = lift_bit n.one (Some to) k (lift_bit n.zero (Some to) k (bits_in m k)) in
-      used_is m new from to n d k
-      ∙ ap (λ (o : Option BitPart). is_some o) (off_room to k (bit_part to.block (Some n))
+      used_is m new from to n d k ∙ ap (λ (o : Option BitPart). is_some o) (off_room to k (bit_part to.block (Some n))
       (put_bit from None k (lift_bit n.one (Some to) k (lift_bit n.zero (Some to) k (bits_in m k)))) off)
       ∙ ap (λ (o : Option BitPart). is_some o) (off_room from k (bit_part from.block None)
       (lift_bit n.one (Some to) k (lift_bit n.zero (Some to) k (bits_in m k))) other)
       ∙ lift_used n.one (Some to) k (lift_bit n.zero (Some to) k (bits_in m k)) ∙ lift_used n.zero (Some to) k (bits_in m k)
 
   pub used_to : (m new : Lodged V) (from to : Id) (n : BitNode) → IsMoved m new from to n → (k : ℕ) → k ≡ to.number → is_some (bits_in new k) ≡ true
-  used_to m new from to n d k same =
-      used_is m new from to n d k
-      ∙ ap (λ (o : Option BitPart). is_some o) (at_room to k (bit_part to.block (Some n))
+  used_to m new from to n d k same = used_is m new from to n d k ∙ ap (λ (o : Option BitPart). is_some o) (at_room to k (bit_part to.block (Some n))
       (put_bit from None k (lift_bit n.one (Some to) k (lift_bit n.zero (Some to) k (bits_in m k)))) same)
 
   pub used_from : (m new : Lodged V) (from to : Id) (n : BitNode) → IsMoved m new from to n → (from.number ≡ to.number → ⊥) → (k : ℕ) → k ≡ from.number
       → is_some (bits_in new k) ≡ false
-  used_from m new from to n d other k same =
-      used_is m new from to n d k
+  used_from m new from to n d other k same = used_is m new from to n d k
       ∙ ap (λ (o : Option BitPart). is_some o) (off_room to k (bit_part to.block (Some n))
       (put_bit from None k (lift_bit n.one (Some to) k (lift_bit n.zero (Some to) k (bits_in m k)))) (λ e. other (sym same ∙ e)))
       ∙ ap (λ (o : Option BitPart). is_some o) (at_room from k (bit_part from.block None)
@@ -232,8 +221,7 @@ module _ {V : Type 0} where
   -- a room that is neither of the two
   pub bit_lifts : (m new : Lodged V) (from to : Id) (n : BitNode) → IsMoved m new from to n → (k : ℕ) → (k ≡ from.number → ⊥) → (k ≡ to.number → ⊥)
       → bits_in new k ≡ rename n.above from to k (lift_bit n.one (Some to) k (lift_bit n.zero (Some to) k (bits_in m k)))
-  bit_lifts m new from to n d k other off =
-      d.bits k ∙ ap (λ (o : Option BitPart). rename n.above from to k o)
+  bit_lifts m new from to n d k other off = d.bits k ∙ ap (λ (o : Option BitPart). rename n.above from to k o)
       (off_room to k (bit_part to.block (Some n)) (put_bit from None k (lift_bit n.one (Some to) k (lift_bit n.zero (Some to) k (bits_in m k)))) off
       ∙ off_room from k (bit_part from.block None) (lift_bit n.one (Some to) k (lift_bit n.zero (Some to) k (bits_in m k))) other)
 

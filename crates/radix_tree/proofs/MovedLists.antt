@@ -1,7 +1,7 @@
 -- Lists of masks stay where all masks say what they said.
-use Rattle.std.proofs.Common.{◌≡◌, ℕ, ◌+◌, ◌≤◌, ◌==◌, List, [], ◌∷◌, Option, sym, ap, ◌∙◌, subst, ⊎_elim, arith}
-use Rattle.radix_tree.proofs.Words.{is_some, Id, Placed, Tree, leaf, fork, bit_at, MaskPart, Heads, Masks, Part, heads_in, masks_in, MasksStand, Beneath, Way}
-use Rattle.radix_tree.proofs.Words.{one_if, forks_at, IsMarked, IsMaskList, MarkedIn, MarkedLists, Lodged}
+use Rattle.radix_tree.proofs.Words.{◌≡◌, ℕ, ◌+◌, ◌≤◌, ◌==◌, List, [], ◌∷◌, Option, sym, ap, ◌∙◌, subst, arith, inl, inr, is_some, Id, Placed, Tree, leaf}
+use Rattle.radix_tree.proofs.Words.{fork, bit_at, MaskPart, Heads, Masks, Part, heads_in, masks_in, MasksStand, Beneath, Way, one_if, forks_at, IsMarked}
+use Rattle.radix_tree.proofs.Words.{IsMaskList, MarkedIn, MarkedLists, Lodged}
 use Rattle.radix_tree.proofs.PartRooms.{one_if_same}
 
 module _ {V : Type 0} where
@@ -38,13 +38,12 @@ module _ {V : Type 0} where
       → MarkedLists (heads_in m) (masks_in m) under.low under.tree
   lists_under m key under over b lists =
       let all = subst (MarkedLists (heads_in m) (masks_in m) over.low) b.at.is lists in
-      subst (λ (low : ℕ). MarkedLists (heads_in m) (masks_in m) low under.tree) (sym b.low) (⊎_elim
-      (λ (e : (under.tree ≡ b.at.zero) × (bit_at b.at.bit key ≡ 0)). subst (MarkedLists (heads_in m) (masks_in m) (b.at.bit + 1)) (sym e.0) all.1)
-      (λ (e : (under.tree ≡ b.at.one) × (bit_at b.at.bit key ≡ 1)). subst (MarkedLists (heads_in m) (masks_in m) (b.at.bit + 1)) (sym e.0) all.2)
-      b.side)
+      subst (λ (low : ℕ). MarkedLists (heads_in m) (masks_in m) low under.tree) (sym b.low) (elim b.side [
+        | inl e ↦ subst (MarkedLists (heads_in m) (masks_in m) (b.at.bit + 1)) (sym e.0) all.1
+        | inr e ↦ subst (MarkedLists (heads_in m) (masks_in m) (b.at.bit + 1)) (sym e.0) all.2
+      ])
 
   pub lists_on_way : (m : Lodged V) (key : ℕ) (whole at : Part m) (ups : List (Part m)) → Way key whole at ups
-      → MarkedLists (heads_in m) (masks_in m) whole.low whole.tree
-      → MarkedLists (heads_in m) (masks_in m) at.low at.tree
+      → MarkedLists (heads_in m) (masks_in m) whole.low whole.tree → MarkedLists (heads_in m) (masks_in m) at.low at.tree
   lists_on_way m key whole at [] way lists = subst (λ (p : Part m). MarkedLists (heads_in m) (masks_in m) p.low p.tree) (sym way) lists
   lists_on_way m key whole at (p ∷ ps) way lists = lists_under m key at p way.0 (lists_on_way m key whole p ps way.1 lists)

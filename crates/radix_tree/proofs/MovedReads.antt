@@ -1,12 +1,9 @@
 -- What rooms say where a bit node is renamed, moved, or has another bit node above it.
-use Rattle.std.proofs.Common.{◌≡◌, ℕ, ◌≤◌, ◌==◌, ◌⊎◌, Bool, true, false, if◌then◌else◌, Option, Some, None, refl, sym, ap, ◌∙◌, inl, inr, ⊎_elim, arith}
-use Rattle.std.proofs.lemmas.Bool.{eqb-true, eq-eqb, ne_eqb}
-use Rattle.radix_tree.proofs.Words.{is_some, get, Seen, Has, Id, Node, LeafOf, BitOf, Tree, leaf, fork, bit_at, LeafPart, BitPart, leaf_in, leaves_in}
-use Rattle.radix_tree.proofs.Words.{name_of, one_if, leaves_at, forks_at, with_child, lift_leaf, lift_bit, leaf_above, bit_above, renamed}
-use Rattle.radix_tree.proofs.Words.{with_renamed, rename, Content, content_of, Lodged}
-use Rattle.radix_tree.proofs.AddressBits.{zero_not_one}
-use Rattle.radix_tree.proofs.RoomReads.{inside, none_some}
-use Rattle.radix_tree.proofs.Beside.{named_leaf, named_bit}
+use Rattle.radix_tree.proofs.Words.{◌≡◌, ℕ, ◌≤◌, ◌==◌, ◌⊎◌, Bool, true, false, if◌then◌else◌, Option, Some, None, refl, sym, ap, ◌∙◌, inl, inr, arith}
+use Rattle.radix_tree.proofs.Words.{eqb-true, eq-eqb, ne_eqb, is_some, get, Seen, Has, Id, Node, LeafOf, BitOf, Tree, leaf, fork, bit_at, LeafPart}
+use Rattle.radix_tree.proofs.Words.{BitPart, leaf_in, leaves_in, name_of, one_if, leaves_at, forks_at, with_child, lift_leaf, lift_bit, leaf_above}
+use Rattle.radix_tree.proofs.Words.{bit_above, renamed, with_renamed, rename, Content, content_of, Lodged}
+use Rattle.radix_tree.proofs.{AddressBits.zero_not_one, RoomReads.inside, RoomReads.none_some, Beside.named_leaf, Beside.named_bit}
 
 true_false : true ≡ false → ⊥
 true_false e = cc
@@ -18,7 +15,7 @@ same_or_not a b = elim (a == b) as (λ t. (a == b) ≡ t → (a ≡ b) ⊎ (a �
 ] refl
 
 pub none_or_some : (k : ℕ) → (k ≡ 0) ⊎ (1 ≤ k)
-none_or_some k = ⊎_elim (λ (e : k ≡ 0). inl e) (λ (other : k ≡ 0 → ⊥). inr (omega arith)) (same_or_not k 0)
+none_or_some k = elim (same_or_not k 0) [ inl e ↦ inl e | inr other ↦ inr (omega arith) ]
 
 pub one_if_most : (t : Bool) → one_if t ≤ 1
 one_if_most true = omega arith
@@ -98,8 +95,7 @@ module _ {V : Type 0} where
   -- a name of a tree without bit nodes in the room stays
   pub renamed_off : (from to : Id) (t : Tree V) → forks_at from.number t ≡ 0 → renamed from to (name_of t) ≡ name_of t
   renamed_off from to (leaf x xs) none = refl
-  renamed_off from to (fork room b left right) none =
-      ap (λ (t : Bool). if t then BitOf to else BitOf room)
+  renamed_off from to (fork room b left right) none = ap (λ (t : Bool). if t then BitOf to else BitOf room)
       (ne_eqb room.number from.number (λ same. let own : one_if (room.number == from.number) ≡ 1 = one_if_is from.number same in omega arith))
 
   -- a room outside of a tree is not that of its name

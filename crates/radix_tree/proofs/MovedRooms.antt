@@ -1,20 +1,16 @@
 -- A bit node in use moves from its room to another: what the rooms say afterwards is the tree with the bit node there.
-use Rattle.std.proofs.Common.{◌≡◌, ℕ, ◌+◌, ◌<◌, ◌≤◌, ◌==◌, true, false, if◌then◌else◌, List, [], ◌∷◌, Option, Some, None, refl, sym, ap, ◌∙◌, subst, inl, inr}
-use Rattle.std.proofs.Common.{⊎_elim, arith}
-use Rattle.std.proofs.lemmas.Bool.{eqb-true}
-use Rattle.radix_tree.proofs.Words.{is_some, Id, Node, BitOf, BitNode, Tree, fork, bit_at, HaveBit, IsIn, BitPart, Part, leaves_in, bits_in, heads_in, masks_in}
-use Rattle.radix_tree.proofs.Words.{bit_part, head_part, name_of, Stands, Beneath, Way, one_if, leaves_at, forks_at, HasHome, name_child, with_child, AreOnce}
-use Rattle.radix_tree.proofs.Words.{MarkedLists, nobody_late, out_at, put_bit, put_head, lift_leaf, lift_bit, IsExchange, renamed, with_renamed, rename, Lodged}
-use Rattle.radix_tree.proofs.Parts.{fork_is, fork_stands, bit_part_of}
-use Rattle.radix_tree.proofs.PartRooms.{way_once}
-use Rattle.radix_tree.proofs.Forking.{lifted}
-use Rattle.radix_tree.proofs.Beside.{misses_leaf, misses_bit}
-use Rattle.radix_tree.proofs.MovedLists.{marked_stays, list_kept, lists_kept, lists_on_way}
-use Rattle.radix_tree.proofs.WholeParts.{Fits}
-use Rattle.radix_tree.proofs.MovedReads.{same_or_not, one_if_is, one_if_not, at_room, rename_misses, renamed_to, zero_turned, one_turned, renamed_off, leaf_off}
-use Rattle.radix_tree.proofs.MovedReads.{bit_off, content_used}
-use Rattle.radix_tree.proofs.MoveWrites.{bit_said, IsMove, IsMoved, at_once, at_forks, at_leaves, from_in, not_from, out_not_from, not_to, beneath_whole, apart}
-use Rattle.radix_tree.proofs.MoveWrites.{not_spine, to_not_spine, contents_stay, used_stays, used_to, used_from, bit_lifts, head_stays}
+use Rattle.radix_tree.proofs.Words.{◌≡◌, ℕ, ◌+◌, ◌<◌, ◌≤◌, ◌==◌, true, false, if◌then◌else◌, List, [], ◌∷◌, Option, Some, None, refl, sym, ap, ◌∙◌, subst}
+use Rattle.radix_tree.proofs.Words.{inl, inr, arith, eqb-true, is_some, Id, Node, BitOf, BitNode, Tree, fork, bit_at, HaveBit, IsIn, BitPart, Part}
+use Rattle.radix_tree.proofs.Words.{leaves_in, bits_in, heads_in, masks_in, bit_part, head_part, name_of, Stands, Beneath, Way, one_if, leaves_at}
+use Rattle.radix_tree.proofs.Words.{forks_at, HasHome, name_child, with_child, AreOnce, MarkedLists, nobody_late, out_at, put_bit, put_head, lift_leaf}
+use Rattle.radix_tree.proofs.Words.{lift_bit, IsExchange, renamed, with_renamed, rename, Lodged}
+use Rattle.radix_tree.proofs.MovedReads.{same_or_not, one_if_is, one_if_not, at_room, rename_misses, renamed_to, zero_turned, one_turned, renamed_off}
+use Rattle.radix_tree.proofs.MovedReads.{leaf_off, bit_off, content_used}
+use Rattle.radix_tree.proofs.MoveWrites.{bit_said, IsMove, IsMoved, at_once, at_forks, at_leaves, from_in, not_from, out_not_from, not_to, beneath_whole}
+use Rattle.radix_tree.proofs.MoveWrites.{apart, not_spine, to_not_spine, contents_stay, used_stays, used_to, used_from, bit_lifts, head_stays}
+use Rattle.radix_tree.proofs.{Parts.fork_is, Parts.fork_stands, Parts.bit_part_of, PartRooms.way_once, Forking.lifted, Beside.misses_leaf}
+use Rattle.radix_tree.proofs.{Beside.misses_bit, MovedLists.marked_stays, MovedLists.list_kept, MovedLists.lists_kept, MovedLists.lists_on_way}
+use Rattle.radix_tree.proofs.{WholeParts.Fits}
 
 module _ {V : Type 0} where
   -- ---- the part with the bit node in the other room
@@ -33,14 +29,12 @@ module _ {V : Type 0} where
       bit_lifts m new from to n d k (not_from from to v k (omega arith)) (not_to m v k (omega arith))
       ∙ rename_misses n.above from to k (lift_bit n.one (Some to) k (lift_bit n.zero (Some to) k (bits_in m k))) (not_spine m n v k (omega arith))
       ∙ misses_bit n.one k (bit_off v.f.one k v.right (omega arith)) (Some to) (lift_bit n.zero (Some to) k (bits_in m k))
-      ∙ ap (λ (z : Node). lift_bit z (Some to) k (bits_in m k)) v.left)
-      (record {
+      ∙ ap (λ (z : Node). lift_bit z (Some to) k (bits_in m k)) v.left) (record {
         leaves = λ k. let sum : leaves_at k v.at.tree ≡ leaves_at k v.f.zero + leaves_at k v.f.one = at_leaves v k in let most : leaves_at k v.at.tree ≤ 1 =
             once.leaves k in omega arith;
         forks = λ k. let sum : forks_at k v.at.tree ≡ one_if (v.room.number == k) + (forks_at k v.f.zero + forks_at k v.f.one) = at_forks v k in
             let most : forks_at k v.at.tree ≤ 1 = once.forks k in omega arith;
-      })
-      (fork_stands m v.f).1
+      }) (fork_stands m v.f).1
 
   pub right_stands : (m new : Lodged V) {root : Node} (from to : Id) (n : BitNode) (v : IsMove m root from to n) → IsMoved m new from to n
       → Stands (leaves_in new) (bits_in new) (Some to) v.f.one
@@ -57,23 +51,18 @@ module _ {V : Type 0} where
       bit_lifts m new from to n d k (not_from from to v k (omega arith)) (not_to m v k (omega arith))
       ∙ rename_misses n.above from to k (lift_bit n.one (Some to) k (lift_bit n.zero (Some to) k (bits_in m k))) (not_spine m n v k (omega arith))
       ∙ ap (λ (o : Option BitPart). lift_bit n.one (Some to) k o) (misses_bit n.zero k (bit_off v.f.zero k v.left (omega arith)) (Some to) (bits_in m k))
-      ∙ ap (λ (z : Node). lift_bit z (Some to) k (bits_in m k)) v.right)
-      (record {
+      ∙ ap (λ (z : Node). lift_bit z (Some to) k (bits_in m k)) v.right) (record {
         leaves = λ k. let sum : leaves_at k v.at.tree ≡ leaves_at k v.f.zero + leaves_at k v.f.one = at_leaves v k in let most : leaves_at k v.at.tree ≤ 1 =
             once.leaves k in omega arith;
         forks = λ k. let sum : forks_at k v.at.tree ≡ one_if (v.room.number == k) + (forks_at k v.f.zero + forks_at k v.f.one) = at_forks v k in
             let most : forks_at k v.at.tree ≤ 1 = once.forks k in omega arith;
-      })
-      (fork_stands m v.f).2
+      }) (fork_stands m v.f).2
 
   pub here_said : (m new : Lodged V) {root : Node} (from to : Id) (n : BitNode) (v : IsMove m root from to n) → IsMoved m new from to n
       → bits_in new to.number ≡ Some (record { block = to.block; bit = v.f.bit; zero = name_of v.f.zero; one = name_of v.f.one; above = v.at.above })
-  here_said m new from to n v d =
-      d.bits to.number
-      ∙ rename_misses n.above from to to.number (put_bit to (Some n) to.number
+  here_said m new from to n v d = d.bits to.number ∙ rename_misses n.above from to to.number (put_bit to (Some n) to.number
       (put_bit from None to.number (lift_bit n.one (Some to) to.number (lift_bit n.zero (Some to) to.number (bits_in m to.number)))))
-      (to_not_spine m from to n v)
-      ∙ at_room to to.number (bit_part to.block (Some n)) (put_bit from None to.number
+      (to_not_spine m from to n v) ∙ at_room to to.number (bit_part to.block (Some n)) (put_bit from None to.number
       (lift_bit n.one (Some to) to.number (lift_bit n.zero (Some to) to.number (bits_in m to.number)))) refl
       ∙ bit_said to n v.bit v.left v.right v.above
 
@@ -119,16 +108,12 @@ module _ {V : Type 0} where
       let sum : forks_at from.number over.tree ≡ one_if (b.room.number == from.number) + (forks_at from.number b.at.zero + forks_at from.number b.at.one) =
       ap (λ (t : Tree V). forks_at from.number t) b.at.is in
       let most : forks_at from.number over.tree ≤ 1 = once.forks from.number in
-      ap (with_renamed from to) said
-      ∙ ⊎_elim
-      (λ (e : (under.tree ≡ b.at.zero) × (bit_at b.at.bit key ≡ 0)).
-      let is : forks_at from.number under.tree ≡ forks_at from.number b.at.zero = ap (λ (t : Tree V). forks_at from.number t) e.0 in
-      zero_named m from to room key b named same e.0 e.1 (omega arith))
-      (λ (e : (under.tree ≡ b.at.one) × (bit_at b.at.bit key ≡ 1)).
-      let is : forks_at from.number under.tree ≡ forks_at from.number b.at.one = ap (λ (t : Tree V). forks_at from.number t) e.0 in
-      one_named m from to room key b named same e.0 e.1 (omega arith))
-      b.side
-      ∙ sym (ap (with_child key (BitOf to)) said)
+      ap (with_renamed from to) said ∙ elim b.side [
+        | inl e ↦ let is : forks_at from.number under.tree ≡ forks_at from.number b.at.zero = ap (λ (t : Tree V). forks_at from.number t) e.0 in
+            zero_named m from to room key b named same e.0 e.1 (omega arith)
+        | inr e ↦ let is : forks_at from.number under.tree ≡ forks_at from.number b.at.one = ap (λ (t : Tree V). forks_at from.number t) e.0 in
+            one_named m from to room key b named same e.0 e.1 (omega arith)
+      ] ∙ sym (ap (with_child key (BitOf to)) said)
 
   spine_named : (m : Lodged V) (from to room : Id) (key : ℕ) (whole at : Part m) (ups : List (Part m)) → Way key whole at ups → whole.above ≡ None
       → AreOnce whole.tree → 1 ≤ forks_at from.number at.tree → name_of at.tree ≡ BitOf room → room.number ≡ from.number
@@ -138,14 +123,12 @@ module _ {V : Type 0} where
       ap (λ (o : Option Id). rename o from to k (bits_in m k)) none ∙ sym (ap (λ (o : Option Id). name_child o key (BitOf to) k (bits_in m k)) none)
   spine_named m from to room key whole at (p ∷ ps) way top once some named same k =
       let b = way.0 in
-      ap (λ (o : Option Id). rename o from to k (bits_in m k)) b.above
-      ∙ elim (k == b.room.number) as (λ t. (k == b.room.number) ≡ t
+      ap (λ (o : Option Id). rename o from to k (bits_in m k)) b.above ∙ elim (k == b.room.number) as (λ t. (k == b.room.number) ≡ t
       → (if t then with_renamed from to (bits_in m k) else bits_in m k) ≡ (if t then with_child key (BitOf to) (bits_in m k) else bits_in m k)) [
         | true ↦ λ e. subst (λ (j : ℕ). with_renamed from to (bits_in m j) ≡ with_child key (BitOf to) (bits_in m j)) (sym (eqb-true k b.room.number e))
             (over_named m from to room key at p b (way_once key whole p ps way.1 once) some named same)
         | false ↦ λ e. refl
-      ] refl
-      ∙ sym (ap (λ (o : Option Id). name_child o key (BitOf to) k (bits_in m k)) b.above)
+      ] refl ∙ sym (ap (λ (o : Option Id). name_child o key (BitOf to) k (bits_in m k)) b.above)
 
   -- ---- the exchange
   pub exchange : (m new : Lodged V) {root : Node} (from to : Id) (n : BitNode) (v : IsMove m root from to n) (d : IsMoved m new from to n)
@@ -188,25 +171,23 @@ module _ {V : Type 0} where
       → one_if (to.number == k) + one_if (is_some (bits_in m k)) ≡ one_if (v.room.number == k) + one_if (is_some (bits_in new k))
   count_moved m new from to n v d k =
       let other = apart m n v in
-      ⊎_elim
-      (λ (same : to.number ≡ k).
-      let a : one_if (to.number == k) ≡ 1 = one_if_is k same in
-      let b : one_if (is_some (bits_in m k)) ≡ 0 = ap (λ (o : Option BitPart). one_if (is_some o)) (ap (bits_in m) (sym same) ∙ v.takes.free) in
-      let c : one_if (v.room.number == k) ≡ 0 = one_if_not v.room.number k (λ (e : v.room.number ≡ k). other (sym v.number ∙ e ∙ sym same)) in
-      let e : one_if (is_some (bits_in new k)) ≡ 1 = ap one_if (used_to m new from to n d k (sym same)) in omega arith)
-      (λ (off : to.number ≡ k → ⊥).
-      let a : one_if (to.number == k) ≡ 0 = one_if_not to.number k off in
-      ⊎_elim
-      (λ (same : v.room.number ≡ k).
-      let b : one_if (is_some (bits_in m k)) ≡ 1 = ap (λ (o : Option BitPart). one_if (is_some o)) (ap (bits_in m) (sym same) ∙ (fork_stands m v.f).0) in
-      let c : one_if (v.room.number == k) ≡ 1 = one_if_is k same in
-      let e : one_if (is_some (bits_in new k)) ≡ 0 = ap one_if (used_from m new from to n d other k (sym same ∙ v.number)) in omega arith)
-      (λ (far : v.room.number ≡ k → ⊥).
-      let c : one_if (v.room.number == k) ≡ 0 = one_if_not v.room.number k far in
-      let e : one_if (is_some (bits_in new k)) ≡ one_if (is_some (bits_in m k)) =
-      ap one_if (used_stays m new from to n d k (λ (s : k ≡ from.number). far (v.number ∙ sym s)) (λ (s : k ≡ to.number). off (sym s))) in omega arith)
-      (same_or_not v.room.number k))
-      (same_or_not to.number k)
+      elim (same_or_not to.number k) [
+        | inl same ↦ let a : one_if (to.number == k) ≡ 1 = one_if_is k same in
+            let b : one_if (is_some (bits_in m k)) ≡ 0 = ap (λ (o : Option BitPart). one_if (is_some o)) (ap (bits_in m) (sym same) ∙ v.takes.free) in
+            let c : one_if (v.room.number == k) ≡ 0 = one_if_not v.room.number k (λ (e : v.room.number ≡ k). other (sym v.number ∙ e ∙ sym same)) in
+            let e : one_if (is_some (bits_in new k)) ≡ 1 = ap one_if (used_to m new from to n d k (sym same)) in omega arith
+        | inr off ↦ let a : one_if (to.number == k) ≡ 0 = one_if_not to.number k off in
+            elim (same_or_not v.room.number k) [
+              | inl same ↦ let b : one_if (is_some (bits_in m k)) ≡ 1 =
+                  ap (λ (o : Option BitPart). one_if (is_some o)) (ap (bits_in m) (sym same) ∙ (fork_stands m v.f).0) in
+                  let c : one_if (v.room.number == k) ≡ 1 = one_if_is k same in
+                  let e : one_if (is_some (bits_in new k)) ≡ 0 = ap one_if (used_from m new from to n d other k (sym same ∙ v.number)) in omega arith
+              | inr far ↦ let c : one_if (v.room.number == k) ≡ 0 = one_if_not v.room.number k far in
+                  let e : one_if (is_some (bits_in new k)) ≡ one_if (is_some (bits_in m k)) =
+                  ap one_if (used_stays m new from to n d k (λ (s : k ≡ from.number). far (v.number ∙ sym s))
+                  (λ (s : k ≡ to.number). off (sym s))) in omega arith
+            ]
+      ]
 
   pub fits : (m new : Lodged V) {root : Node} (from to : Id) (n : BitNode) (v : IsMove m root from to n) (d : IsMoved m new from to n)
       → Fits m new v.whole.part v.at (under_of v d) nobody_late nobody_late (out_at from.number) (out_at from.number)
@@ -229,8 +210,7 @@ module _ {V : Type 0} where
     lists = lists_moved m new from to n v d;
     all = λ y is home. inr (
       subst (IsIn y) (sym v.f.is) is,
-      ⊎_elim (λ (below : y.entry.rank < v.at.low). inl below) (λ (here : HasHome y.entry.key y.entry.rank (fork to v.f.bit v.f.zero v.f.one)).
-          inr (subst (HasHome y.entry.key y.entry.rank) (sym v.f.is) here)) home,
+      elim home [ inl below ↦ inl below | inr here ↦ inr (subst (HasHome y.entry.key y.entry.rank) (sym v.f.is) here) ],
       λ marked. marked_stays (masks_in m) (masks_in new) y d.masks marked,
       λ late. late,
     );

@@ -1,8 +1,7 @@
 -- In each chain at most one bit node is in use, also where one has moved to another room.
-use Rattle.std.proofs.Common.{◌≡◌, ℕ, ◌+◌, ◌≤◌, ◌==◌, true, List, [], ◌∷◌, Option, Some, None, refl, sym, ap, ◌∙◌, inl, inr, ⊎_elim, arith}
-use Rattle.std.proofs.lemmas.Bool.{eqb-true, eq-eqb}
-use Rattle.radix_tree.proofs.Words.{Id, Placed, Tree, leaf, fork, IsChain, IsTree, LeafPart, Bits, leaves_in, bits_in, ChainStands, Stands, one_if, members_at}
-use Rattle.radix_tree.proofs.Words.{leaves_at, AreIdle, HasOneFork, HaveOneFork, is_of_key, has_key, CanTake, Lodged}
+use Rattle.radix_tree.proofs.Words.{◌≡◌, ℕ, ◌+◌, ◌≤◌, ◌==◌, true, List, [], ◌∷◌, Option, Some, None, refl, sym, ap, ◌∙◌, inl, inr, arith, eqb-true}
+use Rattle.radix_tree.proofs.Words.{eq-eqb, Id, Placed, Tree, leaf, fork, IsChain, IsTree, LeafPart, Bits, leaves_in, bits_in, ChainStands, Stands}
+use Rattle.radix_tree.proofs.Words.{one_if, members_at, leaves_at, AreIdle, HasOneFork, HaveOneFork, is_of_key, has_key, CanTake, Lodged}
 use Rattle.radix_tree.proofs.MovedReads.{same_or_not, none_or_some, one_if_is, one_if_not}
 
 module _ {V : Type 0} where
@@ -18,13 +17,10 @@ module _ {V : Type 0} where
   chain_stays B C [] none spare = tt
   chain_stays B C (x ∷ xs) none spare =
       let here : one_if (x.room.number == x.room.number) ≡ 1 = one_if_is {a = x.room.number} x.room.number refl in
-      ⊎_elim (λ (idle : AreIdle B xs). inl (chain_idle_stays B C xs (λ n some. none n (omega arith)) idle))
-      (λ (rest : (B x.room.number ≡ None) × HasOneFork B xs). inr (
-        none x.room.number (omega arith) rest.0,
-        chain_stays B C xs (λ n some. none n (omega arith))
-            rest.1,
-      ))
-      spare
+      elim spare [
+        | inl idle ↦ inl (chain_idle_stays B C xs (λ n some. none n (omega arith)) idle)
+        | inr rest ↦ inr (none x.room.number (omega arith) rest.0, chain_stays B C xs (λ n some. none n (omega arith)) rest.1)
+      ]
 
   -- where all are idle but for one room's
   all_idle : (C : Bits) (c : List (Placed V)) → ((n : ℕ) → 1 ≤ members_at n c → C n ≡ None) → AreIdle C c
@@ -37,25 +33,23 @@ module _ {V : Type 0} where
   one_at C to [] most none = tt
   one_at C to (x ∷ xs) most none =
       let here : one_if (x.room.number == x.room.number) ≡ 1 = one_if_is {a = x.room.number} x.room.number refl in
-      ⊎_elim
-      (λ (same : x.room.number ≡ to).
-      let own : one_if (x.room.number == to) ≡ 1 = one_if_is to same in
-      inl (all_idle C xs (λ n some. none n (omega arith) (λ (e : n ≡ to). let is : members_at n xs ≡ members_at to xs = ap (λ (k : ℕ). members_at k xs) e in
-      omega arith))))
-      (λ (other : x.room.number ≡ to → ⊥). inr (none x.room.number (omega arith) other, one_at C to xs (omega arith) (λ n some. none n (omega arith))))
-      (same_or_not x.room.number to)
+      elim (same_or_not x.room.number to) [
+        | inl same ↦ let own : one_if (x.room.number == to) ≡ 1 = one_if_is to same in
+            inl (all_idle C xs (λ n some. none n (omega arith)
+            (λ (e : n ≡ to). let is : members_at n xs ≡ members_at to xs = ap (λ (k : ℕ). members_at k xs) e in
+            omega arith)))
+        | inr other ↦ inr (none x.room.number (omega arith) other, one_at C to xs (omega arith) (λ n some. none n (omega arith)))
+      ]
 
   -- ---- the rooms of a chain have its key
   pub chain_keyed : (m : Lodged V) (above previous : Option Id) (key top : ℕ) (c : List (Placed V)) → ChainStands (leaves_in m) above previous c
       → IsChain key top c → (n : ℕ) → 1 ≤ members_at n c → has_key m key n ≡ true
   chain_keyed m above previous key top [] stands is n some = absurd (omega arith)
-  chain_keyed m above previous key top (x ∷ xs) stands is n some =
-      ⊎_elim
-      (λ (same : x.room.number ≡ n). ap (λ (k : ℕ). has_key m key k) (sym same) ∙ ap (is_of_key key) stands.0 ∙ eq-eqb x.entry.key key is.1)
-      (λ (other : x.room.number ≡ n → ⊥).
-      let off : one_if (x.room.number == n) ≡ 0 = one_if_not x.room.number n other in
-      chain_keyed m None (Some x.room) key x.entry.rank xs stands.1 is.3 n (omega arith))
-      (same_or_not x.room.number n)
+  chain_keyed m above previous key top (x ∷ xs) stands is n some = elim (same_or_not x.room.number n) [
+    | inl same ↦ ap (λ (k : ℕ). has_key m key k) (sym same) ∙ ap (is_of_key key) stands.0 ∙ eq-eqb x.entry.key key is.1
+    | inr other ↦ let off : one_if (x.room.number == n) ≡ 0 = one_if_not x.room.number n other in
+        chain_keyed m None (Some x.room) key x.entry.rank xs stands.1 is.3 n (omega arith)
+  ]
 
   -- what a room of a key says
   pub record OfKey (key : ℕ) (o : Option (LeafPart V)) : Type 0 where
@@ -72,18 +66,16 @@ module _ {V : Type 0} where
       → Stands (leaves_in m) (bits_in m) above t → leaves_at to.number t ≤ 1
       → ((n : ℕ) → 1 ≤ leaves_at n t → (n ≡ to.number → ⊥) → bits_in m n ≡ None → C n ≡ None) → ((n : ℕ) → 1 ≤ leaves_at n t → n ≡ from.number → ⊥)
       → CanTake m from to → HaveOneFork (bits_in m) t → HaveOneFork C t
-  moved_spare m C to above low (leaf x xs) is stands once none off takes spare =
-      ⊎_elim
-      (λ (out : members_at to.number (x ∷ xs) ≡ 0).
-      chain_stays (bits_in m) C (x ∷ xs)
-      (λ n some. none n some (λ (e : n ≡ to.number). let same : members_at n (x ∷ xs) ≡ members_at to.number (x ∷ xs) =
-      ap (λ (k : ℕ). members_at k (x ∷ xs)) e in omega arith)) spare)
-      (λ (there : 1 ≤ members_at to.number (x ∷ xs)).
-      let keyed : (n : ℕ) → 1 ≤ members_at n (x ∷ xs) → has_key m x.entry.key n ≡ true = chain_keyed m above None x.entry.key 34 (x ∷ xs) stands is.1 in
-      let p = of_key x.entry.key (leaves_in m to.number) (keyed to.number there) in
-      one_at C to.number (x ∷ xs) once
-      (λ n some other. none n some other (takes.idle p.part p.is n (ap (λ (k : ℕ). has_key m k n) p.key_is ∙ keyed n some) (off n some))))
-      (none_or_some (members_at to.number (x ∷ xs)))
+  moved_spare m C to above low (leaf x xs) is stands once none off takes spare = elim (none_or_some (members_at to.number (x ∷ xs))) [
+    | inl out ↦ chain_stays (bits_in m) C (x ∷ xs)
+        (λ n some. none n some (λ (e : n ≡ to.number). let same : members_at n (x ∷ xs) ≡ members_at to.number (x ∷ xs) =
+        ap (λ (k : ℕ). members_at k (x ∷ xs)) e in omega arith)) spare
+    | inr there ↦ let keyed : (n : ℕ) → 1 ≤ members_at n (x ∷ xs)
+        → has_key m x.entry.key n ≡ true = chain_keyed m above None x.entry.key 34 (x ∷ xs) stands is.1 in
+        let p = of_key x.entry.key (leaves_in m to.number) (keyed to.number there) in
+        one_at C to.number (x ∷ xs) once
+        (λ n some other. none n some other (takes.idle p.part p.is n (ap (λ (k : ℕ). has_key m k n) p.key_is ∙ keyed n some) (off n some)))
+  ]
   moved_spare m C to above low (fork room b zero one) is stands once none off takes spare = (
     moved_spare m C to (Some room) (b + 1) zero is.1 stands.1 (omega arith) (λ n some. none n (omega arith)) (λ n some. off n (omega arith)) takes spare.0,
     moved_spare m C to (Some room) (b + 1) one is.2 stands.2 (omega arith) (λ n some. none n (omega arith)) (λ n some. off n (omega arith)) takes spare.1,

@@ -1,15 +1,10 @@
 -- A bit node in use moves from its room to another: the whole afterwards.
-use Rattle.std.proofs.Common.{◌≡◌, ℕ, ◌+◌, ◌≤◌, ◌==◌, List, ◌++◌, Option, Some, refl, sym, ap, ◌∙◌, subst, arith}
-use Rattle.radix_tree.proofs.Words.{is_some, Id, Node, BitOf, BitNode, Tree, fork, routes_of, BitPart, leaves_in, bits_in, name_of, one_if, leaves_at}
-use Rattle.radix_tree.proofs.Words.{HaveOneFork, shown, root_after, Exchanged, IsWholeBut, nobody_late, out_at, Entry, Lodged}
-use Rattle.radix_tree.proofs.Exchanging.{exchanged}
-use Rattle.radix_tree.proofs.Plugs.{spare_at, spare_plug}
-use Rattle.radix_tree.proofs.WholeChanges.{whole_changed}
-use Rattle.radix_tree.proofs.WholeRoutes.{routes_changed}
-use Rattle.radix_tree.proofs.MovedReads.{none_of, one_if_most, one_if_is}
-use Rattle.radix_tree.proofs.MovedSpare.{moved_spare}
-use Rattle.radix_tree.proofs.MoveWrites.{IsMove, IsMoved, used_stays}
-use Rattle.radix_tree.proofs.MovedRooms.{under_of, exchange, fits}
+use Rattle.radix_tree.proofs.Words.{◌≡◌, ℕ, ◌+◌, ◌≤◌, ◌==◌, List, ◌++◌, Option, Some, refl, sym, ap, ◌∙◌, subst, arith, is_some, Id, Node, BitOf, BitNode}
+use Rattle.radix_tree.proofs.Words.{Tree, fork, routes_of, BitPart, leaves_in, bits_in, name_of, one_if, leaves_at, HaveOneFork, shown, root_after}
+use Rattle.radix_tree.proofs.Words.{Exchanged, IsWholeBut, nobody_late, out_at, Entry, Lodged}
+use Rattle.radix_tree.proofs.{Exchanging.exchanged, Plugs.spare_at, Plugs.spare_plug, WholeChanges.whole_changed, WholeRoutes.routes_changed}
+use Rattle.radix_tree.proofs.{MovedReads.none_of, MovedReads.one_if_most, MovedReads.one_if_is, MovedSpare.moved_spare, MoveWrites.IsMove}
+use Rattle.radix_tree.proofs.{MoveWrites.IsMoved, MoveWrites.used_stays, MovedRooms.under_of, MovedRooms.exchange, MovedRooms.fits}
 
 module _ {V : Type 0} where
   -- a room on its way out is no leaf of the tree
@@ -36,16 +31,14 @@ module _ {V : Type 0} where
       let w = v.whole in
       moved_spare m (bits_in new) to w.part.above w.part.low w.part.tree w.part.is w.part.stands (leaves_once m from.number to.number w)
       (λ k some other none. none_of (bits_in new k) (used_stays m new from to n d k (out_apart m from.number w k some) other
-      ∙ ap (λ (o : Option BitPart). is_some o) none))
-      (out_apart m from.number w) v.takes w.spare
+      ∙ ap (λ (o : Option BitPart). is_some o) none)) (out_apart m from.number w) v.takes w.spare
 
   abbrev name_now : {m : Lodged V} {root : Node} {from to : Id} {n : BitNode} → IsMove m root from to n → Node
   name_now {to = to} v = root_after v.at.above (BitOf to) (name_of v.whole.part.tree)
 
   changed : (m new : Lodged V) {root : Node} (from to : Id) (n : BitNode) (v : IsMove m root from to n) (d : IsMoved m new from to n)
       → Exchanged m new v.key v.whole.part v.at (under_of v d) (name_now v)
-  changed m new from to n v d =
-      exchanged m new v.whole.part v.at v.ups v.way v.whole.top v.once (exchange m new from to n v d)
+  changed m new from to n v d = exchanged m new v.whole.part v.at v.ups v.way v.whole.top v.once (exchange m new from to n v d)
 
   spare_now : (m new : Lodged V) {root : Node} (from to : Id) (n : BitNode) (v : IsMove m root from to n) (d : IsMoved m new from to n)
       → (e : Exchanged m new v.key v.whole.part v.at (under_of v d) (name_now v)) → HaveOneFork (bits_in new) e.part.tree
@@ -60,17 +53,14 @@ module _ {V : Type 0} where
       ap (λ (o : Option Id). root_after o (BitOf to) (name_of v.whole.part.tree)) (sym v.above) ∙ ap (root_after n.above (BitOf to)) v.whole.named
 
   pub whole_moved : {m new : Lodged V} {root name : Node} (from to : Id) {n : BitNode} (v : IsMove m root from to n) (d : IsMoved m new from to n)
-      → name ≡ root_after n.above (BitOf to) root
-      → IsWholeBut new name nobody_late (out_at from.number)
+      → name ≡ root_after n.above (BitOf to) root → IsWholeBut new name nobody_late (out_at from.number)
   whole_moved {m = m} {new = new} from to {n = n} v d is =
       let e = changed m new from to n v d in
       subst (λ (z : Node). IsWholeBut new z nobody_late (out_at from.number)) (named_now m to n v ∙ sym is)
-      (whole_changed m new v.whole e
-      (fits m new from to n v d) (spare_now m new from to n v d e))
+      (whole_changed m new v.whole e (fits m new from to n v d) (spare_now m new from to n v d e))
 
   pub routes_moved : {m new : Lodged V} {root name : Node} (from to : Id) {n : BitNode} (v : IsMove m root from to n) (d : IsMoved m new from to n)
-      → name ≡ root_after n.above (BitOf to) root
-      → shown new (Some name) ≡ shown m (Some root)
+      → name ≡ root_after n.above (BitOf to) root → shown new (Some name) ≡ shown m (Some root)
   routes_moved {m = m} {new = new} from to {n = n} v d is =
       let e = changed m new from to n v d in
       let s = routes_changed v.whole e in

@@ -1,20 +1,14 @@
 -- The numbers of the rooms in use.
 --     uses_keys        a number is used once where a room of it is in the map, and else never
 --     free_room, used_more, used_less, same_numbers      what follows for a room that comes, goes, or is written
-use Rattle.std.proofs.Common.{◌≡◌, ℕ, ◌+◌, ◌<◌, ◌==◌, ◌||◌, Bool, true, false, cond, if◌then◌else◌, nat_eq, List, [], ◌∷◌, length, map, Result, Ok, Err, Option}
-use Rattle.std.proofs.Common.{Some, None, is_some, refl, sym, ap, ◌∙◌, subst, arith}
-use Rattle.std.specs.Prelude.{T, ◌&&◌, IfOk}
-use Rattle.std.proofs.lemmas.Bool.{eqb-true, eq-eqb, ne_eqb}
-use Rattle.std.proofs.lemmas.Cmp.{nat_cmp_total}
-use Rattle.std.proofs.lemmas.List.Sums.{sum_by-cons}
-use Rattle.std.specs.Cmp.{unsigned_tied, ranked}
-use Rattle.std.specs.Ordering.{eq_by_cmp, is_eq, MatchOrdering}
-use Rattle.std.specs.declared.cmp.Ordering.{Ordering}
 use Rattle.std.specs.declared.cmp.Ordering.TheVariants.{Less, Equal, Greater}
 use Rattle.std.specs.FinMap.{insert, entries, entries_sorted, entries-insert, get-entries, len-entries, len-empty, empty, find, put, is_sorted}
-use Rattle.std.specs.FinMap.Entries.{below_all, by_order}
-use Rattle.radix_tree.proofs.Words.{nat_cmp, is_lt, FinMap, get, keys, Seen, Rooms, Node, Contents, uses, contents, leaf_in, leaves_in, HasRoomMore, one_if}
-use Rattle.radix_tree.proofs.Words.{Lodged}
+use Rattle.std.specs.{Prelude.T, Prelude.◌&&◌, Prelude.IfOk, Cmp.unsigned_tied, Cmp.ranked, Ordering.eq_by_cmp, Ordering.is_eq, Ordering.MatchOrdering}
+use Rattle.std.specs.{declared.cmp.Ordering.Ordering, FinMap.Entries.below_all, FinMap.Entries.by_order}
+use Rattle.std.proofs.lemmas.{Cmp.nat_cmp_total, List.Sums.sum_by-cons}
+use Rattle.radix_tree.proofs.Words.{◌≡◌, ℕ, ◌+◌, ◌<◌, ◌==◌, ◌||◌, Bool, true, false, cond, if◌then◌else◌, nat_eq, List, [], ◌∷◌, length, map, Result, Ok}
+use Rattle.radix_tree.proofs.Words.{Err, Option, Some, None, is_some, refl, sym, ap, ◌∙◌, subst, arith, eqb-true, eq-eqb, ne_eqb, nat_cmp, is_lt, FinMap}
+use Rattle.radix_tree.proofs.Words.{get, keys, Seen, Rooms, Node, Contents, uses, contents, leaf_in, leaves_in, HasRoomMore, one_if, Lodged}
 
 both_first : (a b : Bool) → T (a && b) → T a
 both_first true b p = tt
@@ -45,11 +39,10 @@ module _ {X : Type 0} where
 
   none_below : (n : ℕ) (es : List (ℕ × X)) → T (below_all nat_cmp n es) → find nat_cmp n es ≡ None
   none_below n [] below = refl
-  none_below n (e ∷ es) below =
-      elim (eq_by_cmp nat_cmp n e.0) as (λ b. eq_by_cmp nat_cmp n e.0 ≡ b → cond b (Some e.1) (find nat_cmp n es) ≡ None) [
-        | true ↦ λ is. absurd (not_below n e (both_first _ _ below) is)
-        | false ↦ λ is. none_below n es (both_second _ _ below)
-      ] refl
+  none_below n (e ∷ es) below = elim (eq_by_cmp nat_cmp n e.0) as (λ b. eq_by_cmp nat_cmp n e.0 ≡ b → cond b (Some e.1) (find nat_cmp n es) ≡ None) [
+    | true ↦ λ is. absurd (not_below n e (both_first _ _ below) is)
+    | false ↦ λ is. none_below n es (both_second _ _ below)
+  ] refl
 
   uses_list : (n : ℕ) (es : List (ℕ × X)) → T (is_sorted nat_cmp es) → uses n (numbers es) ≡ one_if (is_some (find nat_cmp n es))
   uses_list n [] sorted = refl
@@ -111,8 +104,7 @@ module _ {V : Type 0} where
 
   -- a room that was made is not in use
   pub made_free : {E : Type 0} (nodes : Rooms V) (root : Option Node) (t : Contents V) → contents nodes root ≡ t → (r : Result ℕ E)
-      → IfOk r (λ n. (n ≡ nodes.next) × (get nodes.lodged n ≡ None))
-      → IfOk r (λ n. (n ≡ t.next) × (uses n t.numbers ≡ 0))
+      → IfOk r (λ n. (n ≡ nodes.next) × (get nodes.lodged n ≡ None)) → IfOk r (λ n. (n ≡ t.next) × (uses n t.numbers ≡ 0))
   made_free nodes root t view (Ok n) made =
       (made.0 ∙ ap (λ (t : Contents V). t.next) view, ap (λ (t : Contents V). uses n t.numbers) (sym view) ∙ unused_room nodes.lodged n made.1)
   made_free nodes root t view (Err e) made = tt
@@ -123,8 +115,7 @@ module _ {V : Type 0} where
   used_more m new room free more n =
       let now : uses n (keys new) ≡ one_if (is_some (leaves_in new n)) = uses_leaves new n in
       let was : uses n (keys m) ≡ one_if (is_some (leaves_in m n)) = uses_leaves m n in
-      let step =
-      more_by n room (is_some (leaves_in m n)) (more n) (λ (e : n ≡ room). ap (λ (k : ℕ). is_some (leaves_in m k)) e
+      let step = more_by n room (is_some (leaves_in m n)) (more n) (λ (e : n ≡ room). ap (λ (k : ℕ). is_some (leaves_in m k)) e
       ∙ ap (λ (o : Option (Seen V)). is_some (leaf_in o)) free) in
       now ∙ step ∙ ap (λ (u : ℕ). u + (if room == n then 1 else 0)) (sym was)
 
@@ -134,8 +125,7 @@ no_length [] e = refl
 no_length (x ∷ es) e = absurd (omega (arith, e))
 
 pub no_keys : (X : Type 0) → keys (empty {X = X} {R = nat_cmp}) ≡ []
-no_keys X =
-    ap (λ (es : List (ℕ × X)). numbers es) (no_length (entries (empty {X = X} {R = nat_cmp}))
+no_keys X = ap (λ (es : List (ℕ × X)). numbers es) (no_length (entries (empty {X = X} {R = nat_cmp}))
     (sym (len-entries (empty {X = X} {R = nat_cmp})) ∙ len-empty nat_cmp X))
 
 -- ---- a room that is written again
@@ -163,8 +153,7 @@ module _ {X : Type 0} where
 
   put_keys : (k : ℕ) (v c : X) (es : List (ℕ × X)) → T (is_sorted nat_cmp es) → find nat_cmp k es ≡ Some c → numbers (put nat_cmp k v es) ≡ numbers es
   put_keys k v c [] sorted found = absurd (no_some found)
-  put_keys k v c (e ∷ es) sorted found =
-      elim (nat_cmp k e.0) as (λ o. nat_cmp k e.0 ≡ o → cond (is_eq o) (Some e.1) (find nat_cmp k es) ≡ Some c
+  put_keys k v c (e ∷ es) sorted found = elim (nat_cmp k e.0) as (λ o. nat_cmp k e.0 ≡ o → cond (is_eq o) (Some e.1) (find nat_cmp k es) ≡ Some c
       → numbers (by_order o ((k, v) ∷ e ∷ es) ((e.0, v) ∷ es) (e ∷ put nat_cmp k v es)) ≡ e.0 ∷ numbers es) [
         | Less ↦ λ is at. absurd (no_some (sym (not_later k e.0 es (ranked k e.0 Less (sym is)) (both_first _ _ sorted)) ∙ at))
         | Equal ↦ λ is at. refl

@@ -1,8 +1,6 @@
 -- Table order, and where an entry stands beside a pair in it.
-use Rattle.std.proofs.Common.{◌≡◌, ℕ, Bool, true, false, ◌&&◌, ◌||◌, nat_lt, nat_eq, IsTrue, refl, inl, inr, arith}
-use Rattle.std.proofs.lemmas.Bool.{cases_lt}
-use Rattle.std.proofs.lemmas.Bool.Decides.{nat_tests}
-use Rattle.radix_tree.proofs.Words.{precedes, has_pair, AreOnePair, PrecedesInWords, PrecedesOneWay, PrecedesTransitively, PrecedesOrSame, Entry}
+use Rattle.radix_tree.proofs.Words.{◌≡◌, ℕ, Bool, true, false, ◌&&◌, ◌||◌, nat_lt, nat_eq, IsTrue, refl, inl, inr, arith, cases_lt, nat_tests, precedes}
+use Rattle.radix_tree.proofs.Words.{has_pair, AreOnePair, PrecedesInWords, PrecedesOneWay, PrecedesTransitively, PrecedesOrSame, Entry}
 
 -- the entry precedes, in table order, those that have this pair
 abbrev pub stands_before : {V : Type 0} → ℕ → ℕ → Entry V → Bool

@@ -1,10 +1,9 @@
 -- The rooms of a tree that stay, the bit node above a part, and how often a room is in a part and in what is above it.
-use Rattle.std.proofs.Common.{◌≡◌, ℕ, ◌+◌, ◌≤◌, ◌==◌, Bool, false, if◌then◌else◌, List, [], ◌∷◌, Option, Some, None, refl, sym, ap, ◌∙◌, ⊎_elim, arith}
-use Rattle.std.proofs.lemmas.Bool.{eq-eqb, ne_eqb}
-use Rattle.radix_tree.proofs.Words.{Id, Node, Placed, Tree, leaf, fork, bit_at, BitPart, Leaves, Bits, Part, leaves_in, bits_in, name_of, ChainStands, Stands}
-use Rattle.radix_tree.proofs.Words.{ForkAt, Beneath, Way, one_if, members_at, leaves_at, forks_at, with_child, AreOnce, Lodged}
-use Rattle.radix_tree.proofs.AddressBits.{zero_not_one}
-use Rattle.radix_tree.proofs.Parts.{fork_stands}
+use Rattle.radix_tree.proofs.Words.{◌≡◌, ℕ, ◌+◌, ◌≤◌, ◌==◌, Bool, false, if◌then◌else◌, List, [], ◌∷◌, Option, Some, None, refl, sym, ap, ◌∙◌, arith, inl}
+use Rattle.radix_tree.proofs.Words.{inr, eq-eqb, ne_eqb, Id, Node, Placed, Tree, leaf, fork, bit_at, BitPart, Leaves, Bits, Part, leaves_in, bits_in}
+use Rattle.radix_tree.proofs.Words.{name_of, ChainStands, Stands, ForkAt, Beneath, Way, one_if, members_at, leaves_at, forks_at, with_child, AreOnce}
+use Rattle.radix_tree.proofs.Words.{Lodged}
+use Rattle.radix_tree.proofs.{AddressBits.zero_not_one, Parts.fork_stands}
 
 pub one_if_same : (n : ℕ) → one_if (n == n) ≡ 1
 one_if_same n = ap one_if (eq-eqb n n refl)
@@ -65,12 +64,12 @@ module _ {V : Type 0} where
   same_turned m address under over name b is =
       let f = b.at in
       let old = (fork_stands m f).0 in
-      old ∙ sym (ap (with_child address name) old ∙ ⊎_elim
-      (λ (e : (under.tree ≡ f.zero) × (bit_at f.bit address ≡ 0)). zero_turned address name (said b.room f.bit (name_of f.zero) (name_of f.one) over.above) e.1
-      ∙ ap (λ (z : Node). Some (said b.room f.bit z (name_of f.one) over.above)) (is ∙ ap (λ (t : Tree V). name_of t) e.0))
-      (λ (e : (under.tree ≡ f.one) × (bit_at f.bit address ≡ 1)). one_turned address name (said b.room f.bit (name_of f.zero) (name_of f.one) over.above) e.1
-      ∙ ap (λ (z : Node). Some (said b.room f.bit (name_of f.zero) z over.above)) (is ∙ ap (λ (t : Tree V). name_of t) e.0))
-      b.side)
+      old ∙ sym (ap (with_child address name) old ∙ elim b.side [
+        | inl e ↦ zero_turned address name (said b.room f.bit (name_of f.zero) (name_of f.one) over.above) e.1
+            ∙ ap (λ (z : Node). Some (said b.room f.bit z (name_of f.one) over.above)) (is ∙ ap (λ (t : Tree V). name_of t) e.0)
+        | inr e ↦ one_turned address name (said b.room f.bit (name_of f.zero) (name_of f.one) over.above) e.1
+            ∙ ap (λ (z : Node). Some (said b.room f.bit (name_of f.zero) z over.above)) (is ∙ ap (λ (t : Tree V). name_of t) e.0)
+      ])
 
   -- ---- all the way up
   pub beneath_counts : (m : Lodged V) (address : ℕ) (under over : Part m) (n : ℕ) → Beneath address under over
@@ -79,16 +78,16 @@ module _ {V : Type 0} where
       let f = b.at in
       let forks : forks_at n over.tree ≡ one_if (b.room.number == n) + (forks_at n f.zero + forks_at n f.one) = fork_forks m f n in
       let leaves : leaves_at n over.tree ≡ leaves_at n f.zero + leaves_at n f.one = fork_leaves m f n in
-      ⊎_elim
-      (λ (e : (under.tree ≡ f.zero) × (bit_at f.bit address ≡ 0)).
-      let l : leaves_at n under.tree ≡ leaves_at n f.zero = ap (λ (t : Tree V). leaves_at n t) e.0 in let k : forks_at n under.tree ≡ forks_at n f.zero =
-      ap (λ (t : Tree V). forks_at n t) e.0 in
-      (omega arith, omega arith))
-      (λ (e : (under.tree ≡ f.one) × (bit_at f.bit address ≡ 1)).
-      let l : leaves_at n under.tree ≡ leaves_at n f.one = ap (λ (t : Tree V). leaves_at n t) e.0 in let k : forks_at n under.tree ≡ forks_at n f.one =
-      ap (λ (t : Tree V). forks_at n t) e.0 in
-      (omega arith, omega arith))
-      b.side
+      elim b.side [
+        | inl e ↦ let l : leaves_at n under.tree ≡ leaves_at n f.zero = ap (λ (t : Tree V). leaves_at n t) e.0 in
+            let k : forks_at n under.tree ≡ forks_at n f.zero =
+            ap (λ (t : Tree V). forks_at n t) e.0 in
+            (omega arith, omega arith)
+        | inr e ↦ let l : leaves_at n under.tree ≡ leaves_at n f.one = ap (λ (t : Tree V). leaves_at n t) e.0 in
+            let k : forks_at n under.tree ≡ forks_at n f.one =
+            ap (λ (t : Tree V). forks_at n t) e.0 in
+            (omega arith, omega arith)
+      ]
 
   pub way_counts : (m : Lodged V) (address : ℕ) (whole at : Part m) (ups : List (Part m)) (n : ℕ) → Way address whole at ups
       → (leaves_at n at.tree ≤ leaves_at n whole.tree) × (forks_at n at.tree ≤ forks_at n whole.tree)
@@ -121,11 +120,11 @@ module _ {V : Type 0} where
       let forks : forks_at b.room.number over.tree ≡ one_if (b.room.number == b.room.number) + (forks_at b.room.number f.zero + forks_at b.room.number f.one) =
       fork_forks m f b.room.number in
       let most : forks_at b.room.number over.tree ≤ 1 = once.forks b.room.number in (
-        ⊎_elim
-            (λ (e : (under.tree ≡ f.zero) × (bit_at f.bit address ≡ 0)). let k : forks_at b.room.number under.tree ≡ forks_at b.room.number f.zero =
-            ap (λ (t : Tree V). forks_at b.room.number t) e.0 in omega arith)
-            (λ (e : (under.tree ≡ f.one) × (bit_at f.bit address ≡ 1)). let k : forks_at b.room.number under.tree ≡ forks_at b.room.number f.one =
-            ap (λ (t : Tree V). forks_at b.room.number t) e.0 in omega arith)
-            b.side,
+        elim b.side [
+          | inl e ↦ let k : forks_at b.room.number under.tree ≡ forks_at b.room.number f.zero =
+              ap (λ (t : Tree V). forks_at b.room.number t) e.0 in omega arith
+          | inr e ↦ let k : forks_at b.room.number under.tree ≡ forks_at b.room.number f.one =
+              ap (λ (t : Tree V). forks_at b.room.number t) e.0 in omega arith
+        ],
         omega arith,
       )

@@ -1,9 +1,8 @@
 -- The parts of a tree: a bit node with what is beneath it, a leaf, and the way between one part and the whole.
-use Rattle.std.proofs.Common.{◌≡◌, ℕ, ◌+◌, List, [], ◌∷◌, Some, None, refl, sym, ap, ◌∙◌, subst, inl, inr, ⊎_elim}
-use Rattle.radix_tree.proofs.Words.{Has, Id, LeafOf, BitOf, Placed, Tree, leaf, fork, bit_at, IsAmong, IsIn, IsTree, BitPart, Part, Run, leaves_in, bits_in}
-use Rattle.radix_tree.proofs.Words.{heads_in, masks_in, first_room, name_of, Stands, Lists, AreListed, Best, In, ForkAt, LeafAt, LedTo, Beneath, Way, Lodged}
-use Rattle.radix_tree.proofs.RoomReads.{Has-bit}
-use Rattle.radix_tree.proofs.Searching.{IsSide, zero_side, one_side, side_hit}
+use Rattle.radix_tree.proofs.Words.{◌≡◌, ℕ, ◌+◌, List, [], ◌∷◌, Some, None, refl, sym, ap, ◌∙◌, subst, inl, inr, Has, Id, LeafOf, BitOf, Placed, Tree}
+use Rattle.radix_tree.proofs.Words.{leaf, fork, bit_at, IsAmong, IsIn, IsTree, BitPart, Part, Run, leaves_in, bits_in, heads_in, masks_in, first_room}
+use Rattle.radix_tree.proofs.Words.{name_of, Stands, Lists, AreListed, Best, In, ForkAt, LeafAt, LedTo, Beneath, Way, Lodged}
+use Rattle.radix_tree.proofs.{RoomReads.Has-bit, Searching.IsSide, Searching.zero_side, Searching.one_side, Searching.side_hit}
 
 leaf_not_bit : {x y : Id} → LeafOf x ≡ BitOf y → ⊥
 leaf_not_bit e = cc
@@ -58,22 +57,10 @@ module _ {V : Type 0} where
 
   -- its sides
   abbrev pub zero_part : (m : Lodged V) {p : Part m} {room : Id} → ForkAt p room → Part m
-  zero_part m {room = room} f = record {
-    tree = f.zero;
-    low = f.bit + 1;
-    above = Some room;
-    is = (fork_is m f).1;
-    stands = (fork_stands m f).1;
-  }
+  zero_part m {room = room} f = record { tree = f.zero; low = f.bit + 1; above = Some room; is = (fork_is m f).1; stands = (fork_stands m f).1 }
 
   abbrev pub one_part : (m : Lodged V) {p : Part m} {room : Id} → ForkAt p room → Part m
-  one_part m {room = room} f = record {
-    tree = f.one;
-    low = f.bit + 1;
-    above = Some room;
-    is = (fork_is m f).2;
-    stands = (fork_stands m f).2;
-  }
+  one_part m {room = room} f = record { tree = f.one; low = f.bit + 1; above = Some room; is = (fork_is m f).2; stands = (fork_stands m f).2 }
 
   pub zero_beneath : (m : Lodged V) (address : ℕ) {p : Part m} (room : Id) (f : ForkAt p room) → bit_at f.bit address ≡ 0 → Beneath address (zero_part m f) p
   zero_beneath m address room f is = record { room = room; at = f; above = refl; low = refl; side = inl (refl, is) }
@@ -86,12 +73,12 @@ module _ {V : Type 0} where
       let f = b.at in
       let is = fork_is m f in
       let whole = fork b.room f.bit f.zero f.one in
-      subst (λ (t : Tree V). IsSide address f.bit under.tree t) (sym f.is) (⊎_elim
-      (λ (e : (under.tree ≡ f.zero) × (bit_at f.bit address ≡ 0)). subst (λ (c : Tree V). IsSide address f.bit c (fork b.room f.bit f.zero f.one)) (sym e.0)
-      (zero_side address over.low f.bit b.room f.zero f.one is e.1))
-      (λ (e : (under.tree ≡ f.one) × (bit_at f.bit address ≡ 1)). subst (λ (c : Tree V). IsSide address f.bit c (fork b.room f.bit f.zero f.one)) (sym e.0)
-      (one_side address over.low f.bit b.room f.zero f.one is e.1))
-      b.side)
+      subst (λ (t : Tree V). IsSide address f.bit under.tree t) (sym f.is) (elim b.side [
+        | inl e ↦ subst (λ (c : Tree V). IsSide address f.bit c (fork b.room f.bit f.zero f.one)) (sym e.0)
+            (zero_side address over.low f.bit b.room f.zero f.one is e.1)
+        | inr e ↦ subst (λ (c : Tree V). IsSide address f.bit c (fork b.room f.bit f.zero f.one)) (sym e.0)
+            (one_side address over.low f.bit b.room f.zero f.one is e.1)
+      ])
 
   -- ---- a leaf
   abbrev pub leaf_run : (m : Lodged V) {p : Part m} {room : Id} → LeafAt p room → Run m
@@ -130,17 +117,19 @@ module _ {V : Type 0} where
   way_leads m whole at [] way y is key = subst (λ (p : Part m). IsIn y p.tree) (sym way) is
   way_leads m whole at (p ∷ ps) way y is key =
       let side = side_of m way.0 in
-      ⊎_elim (λ (here : IsIn y at.tree). here) (λ differs. absurd (differs (ap (bit_at way.0.at.bit) key)))
-      (side.parted y (way_leads m whole p ps way.1 y is key))
+      elim (side.parted y (way_leads m whole p ps way.1 y is key)) [
+        | inl here ↦ here
+        | inr differs ↦ absurd (differs (ap (bit_at way.0.at.bit) key))
+      ]
 
   lists_beneath : (m : Lodged V) (address : ℕ) (under over : Part m) → Beneath address under over → AreListed m over → AreListed m under
   lists_beneath m address under over b listed =
       let f = b.at in
       let lists = fork_lists m over f listed in
-      subst (λ (low : ℕ). Lists (heads_in m) (masks_in m) low under.tree) (sym b.low) (⊎_elim
-      (λ (e : (under.tree ≡ f.zero) × (bit_at f.bit address ≡ 0)). subst (Lists (heads_in m) (masks_in m) (f.bit + 1)) (sym e.0) lists.1)
-      (λ (e : (under.tree ≡ f.one) × (bit_at f.bit address ≡ 1)). subst (Lists (heads_in m) (masks_in m) (f.bit + 1)) (sym e.0) lists.2)
-      b.side)
+      subst (λ (low : ℕ). Lists (heads_in m) (masks_in m) low under.tree) (sym b.low) (elim b.side [
+        | inl e ↦ subst (Lists (heads_in m) (masks_in m) (f.bit + 1)) (sym e.0) lists.1
+        | inr e ↦ subst (Lists (heads_in m) (masks_in m) (f.bit + 1)) (sym e.0) lists.2
+      ])
 
   pub way_lists : (m : Lodged V) (address : ℕ) (whole at : Part m) (ups : List (Part m)) → Way address whole at ups → AreListed m whole → AreListed m at
   way_lists m address whole at [] way listed = subst (AreListed m) (sym way) listed

@@ -1,22 +1,21 @@
 -- The lists of masks of bit nodes above a part stay where the part is exchanged and its masks that are listed further up stay.
-use Rattle.std.proofs.Common.{◌≡◌, ℕ, ◌+◌, ◌<◌, ◌≤◌, ◌==◌, List, [], ◌∷◌, Option, refl, sym, ap, ◌∙◌, subst, inl, inr, ⊎_elim, arith}
-use Rattle.radix_tree.proofs.Words.{is_some, Id, Placed, Tree, leaf, fork, IsAmong, IsIn, IsTree, Heads, Masks, MaskPart, MasksStand, Falls, one_if, forks_at}
-use Rattle.radix_tree.proofs.Words.{Frame, on_zero, on_one, plug, low_past, IsMarked, IsMaskList, MarkedIn, MarkedLists}
-use Rattle.radix_tree.proofs.PartRooms.{one_if_same}
-use Rattle.radix_tree.proofs.Plugs.{Aside, aside_in, in_plug, plug_in, forks_within, low_rises}
+use Rattle.radix_tree.proofs.Words.{◌≡◌, ℕ, ◌+◌, ◌<◌, ◌≤◌, ◌==◌, List, [], ◌∷◌, Option, refl, sym, ap, ◌∙◌, subst, inl, inr, arith, is_some, Id, Placed}
+use Rattle.radix_tree.proofs.Words.{Tree, leaf, fork, IsAmong, IsIn, IsTree, Heads, Masks, MaskPart, MasksStand, Falls, one_if, forks_at, Frame, on_zero}
+use Rattle.radix_tree.proofs.Words.{on_one, plug, low_past, IsMarked, IsMaskList, MarkedIn, MarkedLists}
+use Rattle.radix_tree.proofs.{PartRooms.one_if_same, Plugs.Aside, Plugs.aside_in, Plugs.in_plug, Plugs.plug_in, Plugs.forks_within, Plugs.low_rises}
 
 module _ {V : Type 0} where
   -- ---- one list
   -- the ranks of a list are between its bounds
   pub falls_between : (low top : ℕ) (ms : List (Placed V)) → Falls low top ms → (x : Placed V) → IsAmong x ms → (low ≤ x.entry.rank) × (x.entry.rank < top)
   falls_between low top [] falls x among = absurd among
-  falls_between low top (y ∷ ys) falls x among =
-      ⊎_elim (λ (e : y ≡ x). subst (λ (p : Placed V). (low ≤ p.entry.rank) × (p.entry.rank < top)) e (falls.0, falls.1))
-      (λ (behind : IsAmong x ys).
-      let between = falls_between low y.entry.rank ys falls.2 x behind in
-      let first : y.entry.rank < top = falls.1 in
-      let below : x.entry.rank < y.entry.rank = between.1 in
-      let lt : x.entry.rank < top = omega arith in (between.0, lt)) among
+  falls_between low top (y ∷ ys) falls x among = elim among [
+    | inl e ↦ subst (λ (p : Placed V). (low ≤ p.entry.rank) × (p.entry.rank < top)) e (falls.0, falls.1)
+    | inr behind ↦ let between = falls_between low y.entry.rank ys falls.2 x behind in
+        let first : y.entry.rank < top = falls.1 in
+        let below : x.entry.rank < y.entry.rank = between.1 in
+        let lt : x.entry.rank < top = omega arith in (between.0, lt)
+  ]
 
   pub masks_stand_same : (K J : Masks) (ms : List (Placed V)) → ((x : Placed V) → IsAmong x ms → J x.room.number ≡ K x.room.number) → MasksStand K ms
       → MasksStand J ms
@@ -26,9 +25,10 @@ module _ {V : Type 0} where
   -- a member of a list is marked
   pub stands_marked : (K : Masks) (ms : List (Placed V)) → MasksStand K ms → (x : Placed V) → IsAmong x ms → IsMarked K x
   stands_marked K [] stands x among = absurd among
-  stands_marked K (y ∷ ys) stands x among =
-      ⊎_elim (λ (e : y ≡ x). subst (λ (p : Placed V). IsMarked K p) e (ap (λ (o : Option MaskPart). is_some o) stands.0))
-      (λ (behind : IsAmong x ys). stands_marked K ys stands.1 x behind) among
+  stands_marked K (y ∷ ys) stands x among = elim among [
+    | inl e ↦ subst (λ (p : Placed V). IsMarked K p) e (ap (λ (o : Option MaskPart). is_some o) stands.0)
+    | inr behind ↦ stands_marked K ys stands.1 x behind
+  ]
 
   pub marked_same : (K J : Masks) (x : Placed V) → J x.room.number ≡ K x.room.number → IsMarked K x → IsMarked J x
   marked_same K J x same marked = ap (λ (o : Option MaskPart). is_some o) same ∙ marked
@@ -52,15 +52,13 @@ module _ {V : Type 0} where
   -- ---- the lists of a tree
   -- they stay where its heads and its masks stay
   pub lists_same : (H G : Heads) (K J : Masks) (low : ℕ) (t : Tree V) → ((n : ℕ) → 1 ≤ forks_at n t → G n ≡ H n)
-      → ((y : Placed V) → IsIn y t → J y.room.number ≡ K y.room.number)
-      → MarkedLists H K low t → MarkedLists G J low t
+      → ((y : Placed V) → IsIn y t → J y.room.number ≡ K y.room.number) → MarkedLists H K low t → MarkedLists G J low t
   lists_same H G K J low (leaf x xs) heads masks lists = tt
   lists_same H G K J low (fork room b zero one) heads masks lists = (
     mask_list_same K J low b (MarkedIn J (fork room b zero one))
         (heads room.number (let own : one_if (room.number == room.number) ≡ 1 = one_if_same room.number in omega arith))
         (λ x member most. ((member.0, marked_same K J x (masks x member.0) member.1), masks x member.0))
-        (λ x member most. (member.0, marked_same J K x (sym (masks x member.0)) member.1))
-        lists.0,
+        (λ x member most. (member.0, marked_same J K x (sym (masks x member.0)) member.1)) lists.0,
     lists_same H G K J (b + 1) zero (λ n some. heads n (omega arith)) (λ y at. masks y (inl at)) lists.1,
     lists_same H G K J (b + 1) one (λ n some. heads n (omega arith)) (λ y at. masks y (inr at)) lists.2,
   )
@@ -91,18 +89,18 @@ module _ {V : Type 0} where
 
   -- the marked routes of ranks below top are the same
   stays_within : (H G : Heads) (K J : Masks) {top : ℕ} {fs : List (Frame V)} (t u : Tree V) → KeepsAbove H G K J top fs t u → (y : Placed V)
-      → IsIn y (plug fs t) → y.entry.rank < top → IsMarked K y
-      → MarkedIn J (plug fs u) y × (J y.room.number ≡ K y.room.number)
-  stays_within H G K J {fs = fs} t u k y is below marked =
-      ⊎_elim (λ (aside : Aside fs y). ((aside_in fs u y aside, marked_same K J y (k.aside y aside) marked), k.aside y aside))
-      (λ (at : IsIn y t). let s = k.stays y at below marked in ((plug_in fs u y s.0, marked_same K J y s.1 marked), s.1)) (in_plug fs t y is)
+      → IsIn y (plug fs t) → y.entry.rank < top → IsMarked K y → MarkedIn J (plug fs u) y × (J y.room.number ≡ K y.room.number)
+  stays_within H G K J {fs = fs} t u k y is below marked = elim (in_plug fs t y is) [
+    | inl aside ↦ ((aside_in fs u y aside, marked_same K J y (k.aside y aside) marked), k.aside y aside)
+    | inr at ↦ let s = k.stays y at below marked in ((plug_in fs u y s.0, marked_same K J y s.1 marked), s.1)
+  ]
 
   came_within : (H G : Heads) (K J : Masks) {top : ℕ} {fs : List (Frame V)} (t u : Tree V) → KeepsAbove H G K J top fs t u → (y : Placed V)
-      → IsIn y (plug fs u) → y.entry.rank < top → IsMarked J y
-      → IsIn y (plug fs t) × IsMarked K y
-  came_within H G K J {fs = fs} t u k y is below marked =
-      ⊎_elim (λ (aside : Aside fs y). (aside_in fs t y aside, marked_same J K y (sym (k.aside y aside)) marked))
-      (λ (at : IsIn y u). let c = k.came y at below marked in (plug_in fs t y c.0, c.1)) (in_plug fs u y is)
+      → IsIn y (plug fs u) → y.entry.rank < top → IsMarked J y → IsIn y (plug fs t) × IsMarked K y
+  came_within H G K J {fs = fs} t u k y is below marked = elim (in_plug fs u y is) [
+    | inl aside ↦ (aside_in fs t y aside, marked_same J K y (sym (k.aside y aside)) marked)
+    | inr at ↦ let c = k.came y at below marked in (plug_in fs t y c.0, c.1)
+  ]
 
   -- the whole's lists, once the part is exchanged
   pub plug_lists : {H G : Heads} {K J : Masks} (low : ℕ) (fs : List (Frame V)) {t u : Tree V} → IsTree low (plug fs t)
@@ -117,8 +115,7 @@ module _ {V : Type 0} where
             (k.heads room.number (let own : one_if (room.number == room.number) ≡ 1 = one_if_same room.number in
             let le : forks_at room.number t ≤ forks_at room.number (plug fs t) = within room.number in omega arith))
             (λ x member most. stays_within H G K J t u k x member.0 (omega arith) member.1)
-            (λ x member most. came_within H G K J t u k x member.0 (omega arith) member.1)
-            lists.0,
+            (λ x member most. came_within H G K J t u k x member.0 (omega arith) member.1) lists.0,
         plug_lists (b + 1) fs is.1 (keeps_zero H G K J room b one fs t u k) lists.1 own,
         lists_same H G K J (b + 1) one (λ n some. k.heads n (let le : forks_at n t ≤ forks_at n (plug fs t) = within n in omega arith))
             (λ y at. k.aside y (inl at)) lists.2,
@@ -131,8 +128,7 @@ module _ {V : Type 0} where
             (k.heads room.number (let own : one_if (room.number == room.number) ≡ 1 = one_if_same room.number in
             let le : forks_at room.number t ≤ forks_at room.number (plug fs t) = within room.number in omega arith))
             (λ x member most. stays_within H G K J t u k x member.0 (omega arith) member.1)
-            (λ x member most. came_within H G K J t u k x member.0 (omega arith) member.1)
-            lists.0,
+            (λ x member most. came_within H G K J t u k x member.0 (omega arith) member.1) lists.0,
         lists_same H G K J (b + 1) zero (λ n some. k.heads n (let le : forks_at n t ≤ forks_at n (plug fs t) = within n in omega arith))
             (λ y at. k.aside y (inl at)) lists.1,
         plug_lists (b + 1) fs is.2 (keeps_one H G K J room b zero fs t u k) lists.2 own,

@@ -1,12 +1,9 @@
 -- A tree is a part of it beneath bit nodes: what it holds beside the part stays, whatever part stands there.
-use Rattle.std.proofs.Common.{◌≡◌, ℕ, ◌+◌, ◌<◌, ◌≤◌, ◌==◌, ◌⊎◌, List, [], ◌∷◌, ◌++◌, None, refl, sym, ap, ◌∙◌, inl, inr, ⊎_elim, arith}
-use Rattle.std.proofs.lemmas.Bool.{cases_lt}
-use Rattle.std.proofs.lemmas.List.{append_assoc, append-nil}
-use Rattle.radix_tree.proofs.Words.{Id, Placed, Tree, leaf, fork, bit_at, IsAmong, IsIn, IsTree, routes_of, Bits, one_if, members_at, leaves_at, forks_at}
-use Rattle.radix_tree.proofs.Words.{HasHome, AreIdle, HasOneFork, HaveOneFork, Frame, on_zero, on_one, plug, low_past, Lead, Entry}
-use Rattle.radix_tree.proofs.AddressBits.{zero_not_one}
-use Rattle.radix_tree.proofs.PartRooms.{one_if_same}
-use Rattle.radix_tree.proofs.TreeMembers.{bit_beneath}
+use Rattle.radix_tree.proofs.Words.{◌≡◌, ℕ, ◌+◌, ◌<◌, ◌≤◌, ◌==◌, ◌⊎◌, List, [], ◌∷◌, ◌++◌, None, refl, sym, ap, ◌∙◌, inl, inr, arith, cases_lt}
+use Rattle.radix_tree.proofs.Words.{append_assoc, append-nil, Id, Placed, Tree, leaf, fork, bit_at, IsAmong, IsIn, IsTree, routes_of, Bits, one_if}
+use Rattle.radix_tree.proofs.Words.{members_at, leaves_at, forks_at, HasHome, AreIdle, HasOneFork, HaveOneFork, Frame, on_zero, on_one, plug, low_past}
+use Rattle.radix_tree.proofs.Words.{Lead, Entry}
+use Rattle.radix_tree.proofs.{AddressBits.zero_not_one, PartRooms.one_if_same, TreeMembers.bit_beneath}
 
 module _ {V : Type 0} where
   -- what the bit nodes have on their other sides
@@ -43,17 +40,19 @@ module _ {V : Type 0} where
   -- a route's room is a leaf
   pub counted_member : (x : Placed V) (xs : List (Placed V)) → IsAmong x xs → 1 ≤ members_at x.room.number xs
   counted_member x [] among = absurd among
-  counted_member x (y ∷ ys) among =
-      ⊎_elim (λ (e : y ≡ x).
-      let own : one_if (y.room.number == x.room.number) ≡ 1 = ap (λ (p : Placed V). one_if (p.room.number == x.room.number)) e ∙ one_if_same x.room.number in
-      omega arith)
-      (λ (behind : IsAmong x ys). let some : 1 ≤ members_at x.room.number ys = counted_member x ys behind in omega arith) among
+  counted_member x (y ∷ ys) among = elim among [
+    | inl e ↦ let own : one_if (y.room.number == x.room.number) ≡ 1 = ap (λ (p : Placed V). one_if (p.room.number == x.room.number)) e
+        ∙ one_if_same x.room.number in
+        omega arith
+    | inr behind ↦ let some : 1 ≤ members_at x.room.number ys = counted_member x ys behind in omega arith
+  ]
 
   pub counted_leaf : (x : Placed V) (t : Tree V) → IsIn x t → 1 ≤ leaves_at x.room.number t
   counted_leaf x (leaf y ys) is = counted_member x (y ∷ ys) is
-  counted_leaf x (fork room b zero one) is =
-      ⊎_elim (λ (at : IsIn x zero). let some : 1 ≤ leaves_at x.room.number zero = counted_leaf x zero at in omega arith)
-      (λ (at : IsIn x one). let some : 1 ≤ leaves_at x.room.number one = counted_leaf x one at in omega arith) is
+  counted_leaf x (fork room b zero one) is = elim is [
+    | inl at ↦ let some : 1 ≤ leaves_at x.room.number zero = counted_leaf x zero at in omega arith
+    | inr at ↦ let some : 1 ≤ leaves_at x.room.number one = counted_leaf x one at in omega arith
+  ]
 
   pub plug_in : (fs : List (Frame V)) (t : Tree V) (y : Placed V) → IsIn y t → IsIn y (plug fs t)
   plug_in [] t y is = is
@@ -62,29 +61,31 @@ module _ {V : Type 0} where
 
   pub aside_in : (fs : List (Frame V)) (t : Tree V) (y : Placed V) → Aside fs y → IsIn y (plug fs t)
   aside_in [] t y is = absurd is
-  aside_in (on_zero room b one ∷ fs) t y is = ⊎_elim (λ (at : IsIn y one). inr at) (λ (at : Aside fs y). inl (aside_in fs t y at)) is
-  aside_in (on_one room b zero ∷ fs) t y is = ⊎_elim (λ (at : IsIn y zero). inl at) (λ (at : Aside fs y). inr (aside_in fs t y at)) is
+  aside_in (on_zero room b one ∷ fs) t y is = elim is [ inl at ↦ inr at | inr at ↦ inl (aside_in fs t y at) ]
+  aside_in (on_one room b zero ∷ fs) t y is = elim is [ inl at ↦ inl at | inr at ↦ inr (aside_in fs t y at) ]
 
   pub in_plug : (fs : List (Frame V)) (t : Tree V) (y : Placed V) → IsIn y (plug fs t) → Aside fs y ⊎ IsIn y t
   in_plug [] t y is = inr is
   in_plug (on_zero room b one ∷ fs) t y is =
-      ⊎_elim (λ (at : IsIn y (plug fs t)). ⊎_elim (λ (aside : Aside fs y). inl (inr aside)) (λ (beneath : IsIn y t). inr beneath) (in_plug fs t y at))
-      (λ (at : IsIn y one). inl (inl at)) is
+      elim is [ inl at ↦ elim (in_plug fs t y at) [ inl aside ↦ inl (inr aside) | inr beneath ↦ inr beneath ] | inr at ↦ inl (inl at) ]
   in_plug (on_one room b zero ∷ fs) t y is =
-      ⊎_elim (λ (at : IsIn y zero). inl (inl at)) (λ (at : IsIn y (plug fs t)).
-      ⊎_elim (λ (aside : Aside fs y). inl (inr aside)) (λ (beneath : IsIn y t). inr beneath) (in_plug fs t y at)) is
+      elim is [ inl at ↦ inl (inl at) | inr at ↦ elim (in_plug fs t y at) [ inl aside ↦ inl (inr aside) | inr beneath ↦ inr beneath ] ]
 
   -- what is aside is in rooms of its own: in none of the part
   pub aside_at : (fs : List (Frame V)) (t : Tree V) (y : Placed V) → Aside fs y → 1 + leaves_at y.room.number t ≤ leaves_at y.room.number (plug fs t)
   aside_at [] t y is = absurd is
   aside_at (on_zero room b one ∷ fs) t y is =
       let le : leaves_at y.room.number t ≤ leaves_at y.room.number (plug fs t) = leaves_within fs t y.room.number in
-      ⊎_elim (λ (at : IsIn y one). let some : 1 ≤ leaves_at y.room.number one = counted_leaf y one at in omega arith)
-      (λ (at : Aside fs y). let more : 1 + leaves_at y.room.number t ≤ leaves_at y.room.number (plug fs t) = aside_at fs t y at in omega arith) is
+      elim is [
+        | inl at ↦ let some : 1 ≤ leaves_at y.room.number one = counted_leaf y one at in omega arith
+        | inr at ↦ let more : 1 + leaves_at y.room.number t ≤ leaves_at y.room.number (plug fs t) = aside_at fs t y at in omega arith
+      ]
   aside_at (on_one room b zero ∷ fs) t y is =
       let le : leaves_at y.room.number t ≤ leaves_at y.room.number (plug fs t) = leaves_within fs t y.room.number in
-      ⊎_elim (λ (at : IsIn y zero). let some : 1 ≤ leaves_at y.room.number zero = counted_leaf y zero at in omega arith)
-      (λ (at : Aside fs y). let more : 1 + leaves_at y.room.number t ≤ leaves_at y.room.number (plug fs t) = aside_at fs t y at in omega arith) is
+      elim is [
+        | inl at ↦ let some : 1 ≤ leaves_at y.room.number zero = counted_leaf y zero at in omega arith
+        | inr at ↦ let more : 1 + leaves_at y.room.number t ≤ leaves_at y.room.number (plug fs t) = aside_at fs t y at in omega arith
+      ]
 
   -- the routes before it and those behind
   pub record Surround (fs : List (Frame V)) : Type 0 where
@@ -96,8 +97,7 @@ module _ {V : Type 0} where
   surround_zero room b one fs s = record {
     front = s.front;
     back = s.back ++ routes_of one;
-    routes = λ t. ap (λ (es : List (Entry V)). es ++ routes_of one) (s.routes t)
-        ∙ append_assoc (s.front ++ routes_of t) s.back (routes_of one);
+    routes = λ t. ap (λ (es : List (Entry V)). es ++ routes_of one) (s.routes t) ∙ append_assoc (s.front ++ routes_of t) s.back (routes_of one);
   }
 
   surround_one : (room : Id) (b : ℕ) (zero : Tree V) (fs : List (Frame V)) → Surround fs → Surround (on_one room b zero ∷ fs)
@@ -128,9 +128,10 @@ module _ {V : Type 0} where
   one_fork_same : (B C : Bits) (xs : List (Placed V)) → ((y : Placed V) → IsAmong y xs → B y.room.number ≡ None → C y.room.number ≡ None) → HasOneFork B xs
       → HasOneFork C xs
   one_fork_same B C [] same has = tt
-  one_fork_same B C (x ∷ xs) same has =
-      ⊎_elim (λ (idle : AreIdle B xs). inl (idle_same B C xs (λ y among. same y (inr among)) idle))
-      (λ (h : (B x.room.number ≡ None) × HasOneFork B xs). inr (same x (inl refl) h.0, one_fork_same B C xs (λ y among. same y (inr among)) h.1)) has
+  one_fork_same B C (x ∷ xs) same has = elim has [
+    | inl idle ↦ inl (idle_same B C xs (λ y among. same y (inr among)) idle)
+    | inr h ↦ inr (same x (inl refl) h.0, one_fork_same B C xs (λ y among. same y (inr among)) h.1)
+  ]
 
   -- where no bit node comes into use there is at most one as before
   pub spare_same : (B C : Bits) (t : Tree V) → ((y : Placed V) → IsIn y t → B y.room.number ≡ None → C y.room.number ≡ None) → HaveOneFork B t → HaveOneFork C t
@@ -164,42 +165,52 @@ module _ {V : Type 0} where
   pub home_plug : (low : ℕ) (fs : List (Frame V)) (t : Tree V) (y : Placed V) → IsTree low (plug fs t) → IsIn y t → HasHome y.entry.key y.entry.rank (plug fs t)
       → (y.entry.rank < low_past low fs) ⊎ HasHome y.entry.key y.entry.rank t
   home_plug low [] t y is at home = inr home
-  home_plug low (on_zero room b one ∷ fs) t y is at home =
-      ⊎_elim (λ (here : y.entry.rank ≤ b). let further : b + 1 ≤ low_past (b + 1) fs = low_rises (b + 1) fs t is.1 in
-      let lt : y.entry.rank < low_past (b + 1) fs = omega arith in inl lt)
-      (λ beneath. ⊎_elim (λ (left : (bit_at b y.entry.key ≡ 0) × HasHome y.entry.key y.entry.rank (plug fs t)). home_plug (b + 1) fs t y is.1 at left.1)
-      (λ (right : (bit_at b y.entry.key ≡ 1) × HasHome y.entry.key y.entry.rank one).
-      absurd (zero_not_one (bit_beneath (b + 1) b 0 (plug fs t) is.1 is.0.zeros y (plug_in fs t y at)) right.0)) beneath) home
-  home_plug low (on_one room b zero ∷ fs) t y is at home =
-      ⊎_elim (λ (here : y.entry.rank ≤ b). let further : b + 1 ≤ low_past (b + 1) fs = low_rises (b + 1) fs t is.2 in
-      let lt : y.entry.rank < low_past (b + 1) fs = omega arith in inl lt)
-      (λ beneath. ⊎_elim (λ (left : (bit_at b y.entry.key ≡ 0) × HasHome y.entry.key y.entry.rank zero).
-      absurd (zero_not_one left.0 (bit_beneath (b + 1) b 1 (plug fs t) is.2 is.0.ones y (plug_in fs t y at))))
-      (λ (right : (bit_at b y.entry.key ≡ 1) × HasHome y.entry.key y.entry.rank (plug fs t)). home_plug (b + 1) fs t y is.2 at right.1) beneath) home
+  home_plug low (on_zero room b one ∷ fs) t y is at home = elim home [
+    | inl here ↦ let further : b + 1 ≤ low_past (b + 1) fs = low_rises (b + 1) fs t is.1 in
+        let lt : y.entry.rank < low_past (b + 1) fs = omega arith in inl lt
+    | inr beneath ↦ elim beneath [
+      | inl left ↦ home_plug (b + 1) fs t y is.1 at left.1
+      | inr right ↦ absurd (zero_not_one (bit_beneath (b + 1) b 0 (plug fs t) is.1 is.0.zeros y (plug_in fs t y at)) right.0)
+    ]
+  ]
+  home_plug low (on_one room b zero ∷ fs) t y is at home = elim home [
+    | inl here ↦ let further : b + 1 ≤ low_past (b + 1) fs = low_rises (b + 1) fs t is.2 in
+        let lt : y.entry.rank < low_past (b + 1) fs = omega arith in inl lt
+    | inr beneath ↦ elim beneath [
+      | inl left ↦ absurd (zero_not_one left.0 (bit_beneath (b + 1) b 1 (plug fs t) is.2 is.0.ones y (plug_in fs t y at)))
+      | inr right ↦ home_plug (b + 1) fs t y is.2 at right.1
+    ]
+  ]
 
   pub plug_home : (low key rank : ℕ) (fs : List (Frame V)) (t : Tree V) → IsTree low (plug fs t) → Lead key fs → low ≤ rank
       → (rank < low_past low fs) ⊎ HasHome key rank t → HasHome key rank (plug fs t)
-  plug_home low key rank [] t is lead least home = ⊎_elim (λ (lt : rank < low). absurd (omega arith)) (λ (h : HasHome key rank t). h) home
+  plug_home low key rank [] t is lead least home = elim home [ inl lt ↦ absurd (omega arith) | inr h ↦ h ]
   plug_home low key rank (on_zero room b one ∷ fs) t is lead least home =
-      ⊎_elim (λ (past : b < rank). inr (inl (lead.0, plug_home (b + 1) key rank fs t is.1 lead.1 (omega arith) home))) (λ (here : rank ≤ b). inl here)
-      (cases_lt b rank)
+      elim (cases_lt b rank) [ inl past ↦ inr (inl (lead.0, plug_home (b + 1) key rank fs t is.1 lead.1 (omega arith) home)) | inr here ↦ inl here ]
   plug_home low key rank (on_one room b zero ∷ fs) t is lead least home =
-      ⊎_elim (λ (past : b < rank). inr (inr (lead.0, plug_home (b + 1) key rank fs t is.2 lead.1 (omega arith) home))) (λ (here : rank ≤ b). inl here)
-      (cases_lt b rank)
+      elim (cases_lt b rank) [ inl past ↦ inr (inr (lead.0, plug_home (b + 1) key rank fs t is.2 lead.1 (omega arith) home)) | inr here ↦ inl here ]
 
   -- a route aside has a home as before
   pub aside_home : (low : ℕ) (fs : List (Frame V)) (t u : Tree V) (y : Placed V) → IsTree low (plug fs t) → Aside fs y
       → HasHome y.entry.key y.entry.rank (plug fs t) → HasHome y.entry.key y.entry.rank (plug fs u)
   aside_home low [] t u y is aside home = absurd aside
-  aside_home low (on_zero room b one ∷ fs) t u y is aside home =
-      ⊎_elim (λ (here : y.entry.rank ≤ b). inl here)
-      (λ beneath. ⊎_elim (λ (left : (bit_at b y.entry.key ≡ 0) × HasHome y.entry.key y.entry.rank (plug fs t)).
-      ⊎_elim (λ (at : IsIn y one). absurd (zero_not_one left.0 (bit_beneath (b + 1) b 1 one is.2 is.0.ones y at)))
-      (λ (at : Aside fs y). inr (inl (left.0, aside_home (b + 1) fs t u y is.1 at left.1))) aside)
-      (λ (right : (bit_at b y.entry.key ≡ 1) × HasHome y.entry.key y.entry.rank one). inr (inr right)) beneath) home
-  aside_home low (on_one room b zero ∷ fs) t u y is aside home =
-      ⊎_elim (λ (here : y.entry.rank ≤ b). inl here)
-      (λ beneath. ⊎_elim (λ (left : (bit_at b y.entry.key ≡ 0) × HasHome y.entry.key y.entry.rank zero). inr (inl left))
-      (λ (right : (bit_at b y.entry.key ≡ 1) × HasHome y.entry.key y.entry.rank (plug fs t)).
-      ⊎_elim (λ (at : IsIn y zero). absurd (zero_not_one (bit_beneath (b + 1) b 0 zero is.1 is.0.zeros y at) right.0))
-      (λ (at : Aside fs y). inr (inr (right.0, aside_home (b + 1) fs t u y is.2 at right.1))) aside) beneath) home
+  aside_home low (on_zero room b one ∷ fs) t u y is aside home = elim home [
+    | inl here ↦ inl here
+    | inr beneath ↦ elim beneath [
+      | inl left ↦ elim aside [
+        | inl at ↦ absurd (zero_not_one left.0 (bit_beneath (b + 1) b 1 one is.2 is.0.ones y at))
+        | inr at ↦ inr (inl (left.0, aside_home (b + 1) fs t u y is.1 at left.1))
+      ]
+      | inr right ↦ inr (inr right)
+    ]
+  ]
+  aside_home low (on_one room b zero ∷ fs) t u y is aside home = elim home [
+    | inl here ↦ inl here
+    | inr beneath ↦ elim beneath [
+      | inl left ↦ inr (inl left)
+      | inr right ↦ elim aside [
+        | inl at ↦ absurd (zero_not_one (bit_beneath (b + 1) b 0 zero is.1 is.0.zeros y at) right.0)
+        | inr at ↦ inr (inr (right.0, aside_home (b + 1) fs t u y is.2 at right.1))
+      ]
+    ]
+  ]

@@ -1,12 +1,10 @@
 -- The only route of a tree, which has no other member in its chain and no bit node above.
-use Rattle.std.proofs.Common.{◌≡◌, ℕ, ◌+◌, ◌≤◌, ◌==◌, ◌⊎◌, Bool, true, false, List, [], ◌∷◌, Option, Some, None, refl, sym, ap, ◌∙◌, inl, inr, ⊎_elim, arith}
-use Rattle.std.proofs.lemmas.Bool.{eqb-true}
-use Rattle.radix_tree.proofs.Words.{is_some, Has, leaf_of, Id, Links, Leaf, Node, Placed, Tree, leaf, fork, routes_of, LeafPart, Leaves, Bits, leaf_in}
-use Rattle.radix_tree.proofs.Words.{leaves_in, bits_in, leaf_part, first_room, ChainStands, Stands, one_if, members_at, leaves_at, shown, shown_entry, Gains}
-use Rattle.radix_tree.proofs.Words.{IsWholeBut, is_of_key, has_key, late_at, nobody_out, CanTake, member_beside, Entry, Lodged}
-use Rattle.radix_tree.proofs.RoomReads.{inside, none_some, AreLinks}
-use Rattle.radix_tree.proofs.WholeRoutes.{part_shown}
-use Rattle.radix_tree.proofs.MovedReads.{same_or_not, none_or_some, none_of, one_if_not}
+use Rattle.radix_tree.proofs.Words.{◌≡◌, ℕ, ◌+◌, ◌≤◌, ◌==◌, ◌⊎◌, Bool, true, false, List, [], ◌∷◌, Option, Some, None, refl, sym, ap, ◌∙◌, inl, inr}
+use Rattle.radix_tree.proofs.Words.{arith, eqb-true, is_some, Has, leaf_of, Id, Links, Leaf, Node, Placed, Tree, leaf, fork, routes_of, LeafPart, Leaves}
+use Rattle.radix_tree.proofs.Words.{Bits, leaf_in, leaves_in, bits_in, leaf_part, first_room, ChainStands, Stands, one_if, members_at, leaves_at, shown}
+use Rattle.radix_tree.proofs.Words.{shown_entry, Gains, IsWholeBut, is_of_key, has_key, late_at, nobody_out, CanTake, member_beside, Entry, Lodged}
+use Rattle.radix_tree.proofs.{RoomReads.inside, RoomReads.none_some, RoomReads.AreLinks, WholeRoutes.part_shown, MovedReads.same_or_not}
+use Rattle.radix_tree.proofs.{MovedReads.none_or_some, MovedReads.none_of, MovedReads.one_if_not}
 
 -- ---- the other member of a chain
 pub beside_is : (next previous : Option Id) {to : Id} → member_beside next previous ≡ Some to → (next ≡ Some to) ⊎ (previous ≡ Some to)
@@ -69,30 +67,23 @@ module _ {V : Type 0} where
   behind_named : (L : Leaves V) (above : Option Id) (before : Id) (c : List (Placed V)) (n : ℕ) {p : LeafPart V} → ChainStands L above (Some before) c
       → 1 ≤ members_at n c → L n ≡ Some p → p.leaf.previous ≡ None → ⊥
   behind_named L above before [] n stands some said none = omega arith
-  behind_named L above before (x ∷ xs) n stands some said none =
-      ⊎_elim
-      (λ (same : x.room.number ≡ n).
-      none_some (sym none ∙ ap (λ (q : LeafPart V). q.leaf.previous) (inside (sym said ∙ ap L (sym same) ∙ stands.0))))
-      (λ (other : x.room.number ≡ n → ⊥).
-      let off : one_if (x.room.number == n) ≡ 0 = one_if_not x.room.number n other in
-      behind_named L None x.room xs n stands.1 (omega arith) said none)
-      (same_or_not x.room.number n)
+  behind_named L above before (x ∷ xs) n stands some said none = elim (same_or_not x.room.number n) [
+    | inl same ↦ none_some (sym none ∙ ap (λ (q : LeafPart V). q.leaf.previous) (inside (sym said ∙ ap L (sym same) ∙ stands.0)))
+    | inr other ↦ let off : one_if (x.room.number == n) ≡ 0 = one_if_not x.room.number n other in
+        behind_named L None x.room xs n stands.1 (omega arith) said none
+  ]
 
   beneath_named : (L : Leaves V) (B : Bits) (up : Id) (t : Tree V) (n : ℕ) {p : LeafPart V} → Stands L B (Some up) t → 1 ≤ leaves_at n t → L n ≡ Some p
       → p.leaf.previous ≡ None → p.leaf.above ≡ None → ⊥
-  beneath_named L B up (leaf x xs) n stands some said previous above =
-      ⊎_elim
-      (λ (same : x.room.number ≡ n).
-      none_some (sym above ∙ ap (λ (q : LeafPart V). q.leaf.above) (inside (sym said ∙ ap L (sym same) ∙ stands.0))))
-      (λ (other : x.room.number ≡ n → ⊥).
-      let off : one_if (x.room.number == n) ≡ 0 = one_if_not x.room.number n other in
-      behind_named L None x.room xs n stands.1 (omega arith) said previous)
-      (same_or_not x.room.number n)
-  beneath_named L B up (fork room b left right) n stands some said previous above =
-      ⊎_elim
-      (λ (none : leaves_at n left ≡ 0). beneath_named L B room right n stands.2 (omega arith) said previous above)
-      (λ (there : 1 ≤ leaves_at n left). beneath_named L B room left n stands.1 there said previous above)
-      (none_or_some (leaves_at n left))
+  beneath_named L B up (leaf x xs) n stands some said previous above = elim (same_or_not x.room.number n) [
+    | inl same ↦ none_some (sym above ∙ ap (λ (q : LeafPart V). q.leaf.above) (inside (sym said ∙ ap L (sym same) ∙ stands.0)))
+    | inr other ↦ let off : one_if (x.room.number == n) ≡ 0 = one_if_not x.room.number n other in
+        behind_named L None x.room xs n stands.1 (omega arith) said previous
+  ]
+  beneath_named L B up (fork room b left right) n stands some said previous above = elim (none_or_some (leaves_at n left)) [
+    | inl none ↦ beneath_named L B room right n stands.2 (omega arith) said previous above
+    | inr there ↦ beneath_named L B room left n stands.1 there said previous above
+  ]
 
   no_behind : (x : Placed V) (xs : List (Placed V)) → first_room xs ≡ None → leaf x xs ≡ leaf x []
   no_behind x [] none = refl
@@ -100,29 +91,24 @@ module _ {V : Type 0} where
 
   only_of : (L : Leaves V) (B : Bits) (top : Option Id) (t : Tree V) (n : ℕ) (p : LeafPart V) → Stands L B top t → 1 ≤ leaves_at n t → L n ≡ Some p
       → p.leaf.next ≡ None → p.leaf.previous ≡ None → p.leaf.above ≡ None → IsOnly t n p
-  only_of L B top (leaf x xs) n p stands some said next previous above =
-      ⊎_elim
-      (λ (same : x.room.number ≡ n).
-      let is : leaf_part x top None (first_room xs) ≡ p = inside (sym stands.0 ∙ ap L same ∙ said) in
-      record {
-        route = x;
-        is = no_behind x xs (ap (λ (q : LeafPart V). q.leaf.next) is ∙ next);
-        number = same;
-        entry = ap (λ (q : LeafPart V). shown_entry q) is;
-      })
-      (λ (other : x.room.number ≡ n → ⊥).
-      let off : one_if (x.room.number == n) ≡ 0 = one_if_not x.room.number n other in
-      absurd (behind_named L None x.room xs n stands.1 (omega arith) said previous))
-      (same_or_not x.room.number n)
-  only_of L B top (fork room b left right) n p stands some said next previous above =
-      ⊎_elim
-      (λ (none : leaves_at n left ≡ 0). absurd (beneath_named L B room right n stands.2 (omega arith) said previous above))
-      (λ (there : 1 ≤ leaves_at n left). absurd (beneath_named L B room left n stands.1 there said previous above))
-      (none_or_some (leaves_at n left))
+  only_of L B top (leaf x xs) n p stands some said next previous above = elim (same_or_not x.room.number n) [
+    | inl same ↦ let is : leaf_part x top None (first_room xs) ≡ p = inside (sym stands.0 ∙ ap L same ∙ said) in
+        record {
+          route = x;
+          is = no_behind x xs (ap (λ (q : LeafPart V). q.leaf.next) is ∙ next);
+          number = same;
+          entry = ap (λ (q : LeafPart V). shown_entry q) is;
+        }
+    | inr other ↦ let off : one_if (x.room.number == n) ≡ 0 = one_if_not x.room.number n other in
+        absurd (behind_named L None x.room xs n stands.1 (omega arith) said previous)
+  ]
+  only_of L B top (fork room b left right) n p stands some said next previous above = elim (none_or_some (leaves_at n left)) [
+    | inl none ↦ absurd (beneath_named L B room right n stands.2 (omega arith) said previous above)
+    | inr there ↦ absurd (beneath_named L B room left n stands.1 there said previous above)
+  ]
 
   pub only : {m : Lodged V} {root : Node} (n : ℕ) (w : IsWholeBut m root (late_at n) nobody_out) (p : LeafPart V) → leaves_in m n ≡ Some p → p.leaf.next ≡ None
-      → p.leaf.previous ≡ None → p.leaf.above ≡ None
-      → IsOnly w.part.tree n p
+      → p.leaf.previous ≡ None → p.leaf.above ≡ None → IsOnly w.part.tree n p
   only {m = m} n w p said next previous above =
       let count : leaves_at n w.part.tree + 0 ≡ 1 = w.leaves n ∙ ap (λ (o : Option (LeafPart V)). one_if (is_some o)) said in
       only_of (leaves_in m) (bits_in m) w.part.above w.part.tree n p w.part.stands (omega arith) said next previous above

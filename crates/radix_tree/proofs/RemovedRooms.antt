@@ -1,21 +1,14 @@
 -- A room that is out of the tree leaves the map: the whole and its routes stay.
-use Rattle.std.proofs.Common.{◌≡◌, ℕ, ◌+◌, ◌≤◌, ◌==◌, ◌||◌, Bool, if◌then◌else◌, List, Option, Some, None, refl, sym, ap, ◌∙◌, inl, inr, ⊎_elim, arith}
-use Rattle.std.proofs.lemmas.Bool.{eq-eqb, ne_eqb}
-use Rattle.std.specs.FinMap.{remove}
 use Rattle.radix_nodes.proofs.Callers.{get-removed}
-use Rattle.radix_tree.proofs.Words.{is_some, get, Ptr, Seen, Has, bit_node_of, Id, Node, BitNode, LeafPart, BitPart, MaskPart, Part, leaf_in, bit_in, head_in}
-use Rattle.radix_tree.proofs.Words.{mask_in, bit_part, head_part, leaves_in, bits_in, heads_in, masks_in, one_if, leaves_at, IsWhole, Holds, shown, Gains}
-use Rattle.radix_tree.proofs.Words.{IsMarked, IsWholeBut, HasRoomMore, nobody_late, out_at, KeepsLeaves, KeepsBits, Content, content_of, KeepsRoutes, IsOut}
-use Rattle.radix_tree.proofs.Words.{Entry, Lodged}
-use Rattle.radix_tree.proofs.RoomReads.{inside, none_some}
-use Rattle.radix_tree.proofs.PartRooms.{frame}
-use Rattle.radix_tree.proofs.Plugs.{counted_leaf}
-use Rattle.radix_tree.proofs.WholeParts.{but_whole}
-use Rattle.radix_tree.proofs.WholeRoutes.{part_shown}
-use Rattle.radix_tree.proofs.MovedReads.{same_or_not, content_used}
-use Rattle.radix_tree.proofs.MovedLists.{marked_stays, lists_kept}
-use Rattle.radix_tree.proofs.MovedSpare.{tree_stays}
-use Rattle.radix_tree.proofs.MovedWhole.{out_leaf, out_apart}
+use Rattle.std.specs.FinMap.{remove}
+use Rattle.radix_tree.proofs.Words.{◌≡◌, ℕ, ◌+◌, ◌≤◌, ◌==◌, ◌||◌, Bool, if◌then◌else◌, List, Option, Some, None, refl, sym, ap, ◌∙◌, inl, inr, arith}
+use Rattle.radix_tree.proofs.Words.{eq-eqb, ne_eqb, is_some, get, Ptr, Seen, Has, bit_node_of, Id, Node, BitNode, LeafPart, BitPart, MaskPart, Part}
+use Rattle.radix_tree.proofs.Words.{leaf_in, bit_in, head_in, mask_in, bit_part, head_part, leaves_in, bits_in, heads_in, masks_in, one_if, leaves_at}
+use Rattle.radix_tree.proofs.Words.{IsWhole, Holds, shown, Gains, IsMarked, IsWholeBut, HasRoomMore, nobody_late, out_at, KeepsLeaves, KeepsBits, Content}
+use Rattle.radix_tree.proofs.Words.{content_of, KeepsRoutes, IsOut, Entry, Lodged}
+use Rattle.radix_tree.proofs.{RoomReads.inside, RoomReads.none_some, PartRooms.frame, Plugs.counted_leaf, WholeParts.but_whole, WholeRoutes.part_shown}
+use Rattle.radix_tree.proofs.{MovedReads.same_or_not, MovedReads.content_used, MovedLists.marked_stays, MovedLists.lists_kept, MovedSpare.tree_stays}
+use Rattle.radix_tree.proofs.{MovedWhole.out_leaf, MovedWhole.out_apart}
 
 no_head_of : (block : Ptr) (o : Option BitNode) → bit_part block o ≡ None → head_part o ≡ None
 no_head_of block None none = refl
@@ -30,9 +23,10 @@ module _ {V : Type 0} where
   get_other m n k other = get-removed m n k ∙ ap (λ (t : Bool). if t then None else get m k) (ne_eqb k n other)
 
   role_stays : {A : Type 0} (f : Option (Seen V) → A) (m : Lodged V) (n : ℕ) → f (get m n) ≡ f None → (k : ℕ) → f (get (remove m n) k) ≡ f (get m k)
-  role_stays f m n none k = ⊎_elim
-      (λ (same : k ≡ n). ap (λ (j : ℕ). f (get (remove m n) j)) same ∙ ap f (get_out m n) ∙ sym none ∙ ap (λ (j : ℕ). f (get m j)) (sym same))
-      (λ (other : k ≡ n → ⊥). ap f (get_other m n k other)) (same_or_not k n)
+  role_stays f m n none k = elim (same_or_not k n) [
+    | inl same ↦ ap (λ (j : ℕ). f (get (remove m n) j)) same ∙ ap f (get_out m n) ∙ sym none ∙ ap (λ (j : ℕ). f (get m j)) (sym same)
+    | inr other ↦ ap f (get_other m n k other)
+  ]
 
   no_head : (o : Option (Seen V)) → bit_in o ≡ None → head_in o ≡ None
   no_head None none = refl
@@ -60,27 +54,24 @@ module _ {V : Type 0} where
 
   leaves_left : (m : Lodged V) {root : Node} (n : ℕ) (w : IsWholeBut m root nobody_late (out_at n)) (k : ℕ)
       → leaves_at k w.part.tree + 0 ≡ one_if (is_some (leaves_in (remove m n) k))
-  leaves_left m n w k = ⊎_elim
-      (λ (same : k ≡ n).
-      let out : leaves_at n w.part.tree ≡ 0 = out_leaf m n w in
-      let here : leaves_at k w.part.tree ≡ leaves_at n w.part.tree = ap (λ (j : ℕ). leaves_at j w.part.tree) same in
-      let gone : one_if (is_some (leaves_in (remove m n) k)) ≡ 0 =
-      ap (λ (j : ℕ). one_if (is_some (leaves_in (remove m n) j))) same ∙ ap (λ (o : Option (Seen V)). one_if (is_some (leaf_in o))) (get_out m n) in
-      omega arith)
-      (λ (other : k ≡ n → ⊥).
-      let was : leaves_at k w.part.tree + one_if (k == n) ≡ one_if (is_some (leaves_in m k)) = w.leaves k in
-      let off : one_if (k == n) ≡ 0 = ap one_if (ne_eqb k n other) in
-      let stays : one_if (is_some (leaves_in (remove m n) k)) ≡ one_if (is_some (leaves_in m k)) =
-      ap (λ (o : Option (Seen V)). one_if (is_some (leaf_in o))) (get_other m n k other) in omega arith)
-      (same_or_not k n)
+  leaves_left m n w k = elim (same_or_not k n) [
+    | inl same ↦ let out : leaves_at n w.part.tree ≡ 0 = out_leaf m n w in
+        let here : leaves_at k w.part.tree ≡ leaves_at n w.part.tree = ap (λ (j : ℕ). leaves_at j w.part.tree) same in
+        let gone : one_if (is_some (leaves_in (remove m n) k)) ≡ 0 =
+        ap (λ (j : ℕ). one_if (is_some (leaves_in (remove m n) j))) same ∙ ap (λ (o : Option (Seen V)). one_if (is_some (leaf_in o))) (get_out m n) in
+        omega arith
+    | inr other ↦ let was : leaves_at k w.part.tree + one_if (k == n) ≡ one_if (is_some (leaves_in m k)) = w.leaves k in
+        let off : one_if (k == n) ≡ 0 = ap one_if (ne_eqb k n other) in
+        let stays : one_if (is_some (leaves_in (remove m n) k)) ≡ one_if (is_some (leaves_in m k)) =
+        ap (λ (o : Option (Seen V)). one_if (is_some (leaf_in o))) (get_other m n k other) in omega arith
+  ]
 
   pub evicted : (m : Lodged V) (root : Node) (n : ℕ) → IsWholeBut m root nobody_late (out_at n) → bits_in m n ≡ None → IsWhole (remove m n) root
   evicted m root n w none =
       let bits : (k : ℕ) → bits_in (remove m n) k ≡ bits_in m k = role_stays bit_in m n none in
       let heads : (k : ℕ) → heads_in (remove m n) k ≡ heads_in m k = role_stays head_in m n (no_head (get m n) none) in
       let masks : (k : ℕ) → masks_in (remove m n) k ≡ masks_in m k = role_stays mask_in m n (no_mask m n w (masks_in m n) refl) in
-      but_whole (remove m n) root
-      (record {
+      but_whole (remove m n) root (record {
         part = part_left m n w none;
         low = w.low;
         top = w.top;
@@ -90,8 +81,10 @@ module _ {V : Type 0} where
         spare = tree_stays (bits_in m) (bits_in (remove m n)) w.part.tree (λ k some idle. bits k ∙ idle) w.spare;
         lists = lists_kept (heads_in m) (heads_in (remove m n)) (masks_in m) (masks_in (remove m n)) w.part.low w.part.tree masks (λ k some. heads k) w.lists;
         listed = λ k p is. w.listed k p (sym (masks k) ∙ is);
-        all = λ x is home. ⊎_elim (λ (marked : IsMarked (masks_in m) x). inl (marked_stays (masks_in m) (masks_in (remove m n)) x masks marked))
-            (λ late. inr late) (w.all x is home);
+        all = λ x is home. elim (w.all x is home) [
+          | inl marked ↦ inl (marked_stays (masks_in m) (masks_in (remove m n)) x masks marked)
+          | inr late ↦ inr late
+        ];
       })
 
   evicted_shown : (m : Lodged V) {root : Node} (n : ℕ) → IsWholeBut m root nobody_late (out_at n) → bits_in m n ≡ None
@@ -100,9 +93,10 @@ module _ {V : Type 0} where
 
   -- ---- a room that is out, where there may be no tree left
   pub out_gone : (m : Lodged V) (rest : Option Node) (n : ℕ) → IsOut m rest n → Holds (remove m n) rest
-  out_gone m None n out = λ k. ⊎_elim
-      (λ (same : k ≡ n). ap (leaves_in (remove m n)) same ∙ ap leaf_in (get_out m n))
-      (λ (other : k ≡ n → ⊥). ap leaf_in (get_other m n k other) ∙ out k other) (same_or_not k n)
+  out_gone m None n out = λ k. elim (same_or_not k n) [
+    | inl same ↦ ap (leaves_in (remove m n)) same ∙ ap leaf_in (get_out m n)
+    | inr other ↦ ap leaf_in (get_other m n k other) ∙ out k other
+  ]
   out_gone m (Some root) n out = evicted m root n out.0 out.1
 
   pub out_shown : (m : Lodged V) (rest : Option Node) (n : ℕ) → IsOut m rest n → shown (remove m n) rest ≡ shown m rest
@@ -112,15 +106,13 @@ module _ {V : Type 0} where
   -- ---- a table's removal
   -- where leaves and bit nodes stay the routes do
   pub shown_stays : (m new : Lodged V) {root : Node} → IsWhole m root → KeepsLeaves m new → KeepsBits m new → shown new (Some root) ≡ shown m (Some root)
-  shown_stays m new w leaves bits =
-      part_shown {m = new} (record {
-        tree = w.part.tree;
-        low = w.part.low;
-        above = w.part.above;
-        is = w.part.is;
-        stands = frame (leaves_in m) (leaves_in new) (bits_in m) (bits_in new) w.part.above w.part.tree (λ k some. leaves k) (λ k some. bits k) w.part.stands;
-      }) w.low w.named
-      ∙ sym (part_shown w.part w.low w.named)
+  shown_stays m new w leaves bits = part_shown {m = new} (record {
+    tree = w.part.tree;
+    low = w.part.low;
+    above = w.part.above;
+    is = w.part.is;
+    stands = frame (leaves_in m) (leaves_in new) (bits_in m) (bits_in new) w.part.above w.part.tree (λ k some. leaves k) (λ k some. bits k) w.part.stands;
+  }) w.low w.named ∙ sym (part_shown w.part w.low w.named)
 
   pub gains_stays : (e : Entry V) (old now before after : List (Entry V)) → Gains e old before → now ≡ old → after ≡ before → Gains e now after
   gains_stays e old now before after g same too = record { front = g.front; back = g.back; was = same ∙ g.was; now = too ∙ g.now }
@@ -137,11 +129,10 @@ module _ {V : Type 0} where
 
   -- the map has one room less
   pub room_less : (m now : Lodged V) (at : Id) → Has m at → KeepsRoutes m now → HasRoomMore (remove now at.number) m at.number
-  room_less m now at h same k = ⊎_elim
-      (λ (e : k ≡ at.number).
-      ap (λ (j : ℕ). is_some (leaves_in m j)) e ∙ ap (λ (o : Option (Seen V)). is_some (leaf_in o)) h.at
-      ∙ sym (ap (λ (t : Bool). t || is_some (leaves_in (remove now at.number) k)) (eq-eqb k at.number e)))
-      (λ (other : k ≡ at.number → ⊥).
-      sym (content_used (leaves_in now k) (leaves_in m k) (same k)) ∙ sym (ap (λ (o : Option (Seen V)). is_some (leaf_in o)) (get_other now at.number k other))
-      ∙ sym (ap (λ (t : Bool). t || is_some (leaves_in (remove now at.number) k)) (ne_eqb k at.number other)))
-      (same_or_not k at.number)
+  room_less m now at h same k = elim (same_or_not k at.number) [
+    | inl e ↦ ap (λ (j : ℕ). is_some (leaves_in m j)) e ∙ ap (λ (o : Option (Seen V)). is_some (leaf_in o)) h.at
+        ∙ sym (ap (λ (t : Bool). t || is_some (leaves_in (remove now at.number) k)) (eq-eqb k at.number e))
+    | inr other ↦ sym (content_used (leaves_in now k) (leaves_in m k) (same k))
+        ∙ sym (ap (λ (o : Option (Seen V)). is_some (leaf_in o)) (get_other now at.number k other))
+        ∙ sym (ap (λ (t : Bool). t || is_some (leaves_in (remove now at.number) k)) (ne_eqb k at.number other))
+  ]

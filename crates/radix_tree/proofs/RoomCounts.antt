@@ -2,16 +2,11 @@
 --     equally_long      two lists in which each number stands equally often
 --     rooms_as_routes   as many rooms of a map as routes that it shows
 --     rooms_once        no room's number twice
-use Rattle.std.proofs.Common.{◌≡◌, ℕ, ◌+◌, ◌≤◌, ◌==◌, Bool, true, false, cond, nat_eq, List, [], ◌∷◌, ◌++◌, length, map, Option, Some, None, is_some, refl, sym}
-use Rattle.std.proofs.Common.{ap, ◌∙◌, arith}
-use Rattle.std.proofs.lemmas.Bool.{eqb-true}
-use Rattle.std.proofs.lemmas.List.{length-append, length-map}
-use Rattle.std.proofs.lemmas.List.Sums.{sum_by-cons, sum_by-append}
-use Rattle.radix_tree.proofs.Words.{get, keys, Node, uses, Placed, Tree, leaf, fork, routes_of, LeafPart, one_if, members_at, leaves_at, shown, Holds, Entry}
-use Rattle.radix_tree.proofs.Words.{Lodged}
-use Rattle.radix_tree.proofs.PartRooms.{one_if_same}
-use Rattle.radix_tree.proofs.Numbers.{uses_keys, uses_leaves}
-use Rattle.radix_tree.proofs.Showing.{shown_is}
+use Rattle.std.proofs.lemmas.{List.length-append, List.length-map, List.Sums.sum_by-cons, List.Sums.sum_by-append}
+use Rattle.radix_tree.proofs.Words.{◌≡◌, ℕ, ◌+◌, ◌≤◌, ◌==◌, Bool, true, false, cond, nat_eq, List, [], ◌∷◌, ◌++◌, length, map, Option, Some, None}
+use Rattle.radix_tree.proofs.Words.{is_some, refl, sym, ap, ◌∙◌, arith, eqb-true, get, keys, Node, uses, Placed, Tree, leaf, fork, routes_of, LeafPart}
+use Rattle.radix_tree.proofs.Words.{one_if, members_at, leaves_at, shown, Holds, Entry, Lodged}
+use Rattle.radix_tree.proofs.{PartRooms.one_if_same, Numbers.uses_keys, Numbers.uses_leaves, Showing.shown_is}
 
 one_if_cond : (b : Bool) → cond b 1 0 ≡ one_if b
 one_if_cond true = refl
@@ -36,23 +31,22 @@ record Without (k : ℕ) (ks : List ℕ) : Type 0 where
 
 take_out : (k : ℕ) (ks : List ℕ) → 1 ≤ uses k ks → Without k ks
 take_out k [] some = absurd (omega (arith, some))
-take_out k (j ∷ js) some =
-    elim (j == k) as (λ b. (j == k) ≡ b → Without k (j ∷ js)) [
-      | true ↦ λ is. record {
-        others = js;
-        longer = omega arith;
-        more = λ n. uses_cons n j js ∙ ap (λ (i : ℕ). one_if (i == n) + uses n js) (eqb-true j k is);
+take_out k (j ∷ js) some = elim (j == k) as (λ b. (j == k) ≡ b → Without k (j ∷ js)) [
+  | true ↦ λ is. record {
+    others = js;
+    longer = omega arith;
+    more = λ n. uses_cons n j js ∙ ap (λ (i : ℕ). one_if (i == n) + uses n js) (eqb-true j k is);
+  }
+  | false ↦ λ is.
+      let not_here : one_if (j == k) ≡ 0 = ap (λ (b : Bool). one_if b) is in
+      let behind = take_out k js (omega (arith, some, uses_cons k j js, not_here)) in
+      let longer : length js ≡ length behind.others + 1 = behind.longer in
+      record {
+        others = j ∷ behind.others;
+        longer = omega (arith, longer);
+        more = λ n. omega (arith, uses_cons n j js, uses_cons n j behind.others, behind.more n);
       }
-      | false ↦ λ is.
-          let not_here : one_if (j == k) ≡ 0 = ap (λ (b : Bool). one_if b) is in
-          let behind = take_out k js (omega (arith, some, uses_cons k j js, not_here)) in
-          let longer : length js ≡ length behind.others + 1 = behind.longer in
-          record {
-            others = j ∷ behind.others;
-            longer = omega (arith, longer);
-            more = λ n. omega (arith, uses_cons n j js, uses_cons n j behind.others, behind.more n);
-          }
-    ] refl
+] refl
 
 pub equally_long : (js ks : List ℕ) → ((n : ℕ) → uses n js ≡ uses n ks) → length js ≡ length ks
 equally_long [] [] same = refl
@@ -77,8 +71,7 @@ module _ {V : Type 0} where
 
   uses_tree : (n : ℕ) (t : Tree V) → uses n (numbers_of t) ≡ leaves_at n t
   uses_tree n (leaf x xs) = uses_chain n (x ∷ xs)
-  uses_tree n (fork room b left right) =
-      omega (arith, uses_append n (numbers_of left) (numbers_of right), uses_tree n left, uses_tree n right)
+  uses_tree n (fork room b left right) = omega (arith, uses_append n (numbers_of left) (numbers_of right), uses_tree n left, uses_tree n right)
 
   one_each : (t : Tree V) → length (numbers_of t) ≡ length (routes_of t)
   one_each (leaf x xs) = length-map (x ∷ xs) (λ (p : Placed V). p.room.number) ∙ sym (length-map (x ∷ xs) (λ (p : Placed V). p.entry))
@@ -87,11 +80,9 @@ module _ {V : Type 0} where
 
   -- ---- the rooms of a map
   pub rooms_as_routes : (m : Lodged V) (root : Option Node) → Holds m root → length (keys m) ≡ length (shown m root)
-  rooms_as_routes m None none =
-      equally_long (keys m) [] (λ n. uses_leaves m n ∙ ap (λ (o : Option (LeafPart V)). one_if (is_some o)) (none n))
+  rooms_as_routes m None none = equally_long (keys m) [] (λ n. uses_leaves m n ∙ ap (λ (o : Option (LeafPart V)). one_if (is_some o)) (none n))
   rooms_as_routes m (Some root) w =
-      equally_long (keys m) (numbers_of w.part.tree) (λ n. uses_leaves m n ∙ sym (w.leaves n) ∙ sym (uses_tree n w.part.tree))
-      ∙ one_each w.part.tree
+      equally_long (keys m) (numbers_of w.part.tree) (λ n. uses_leaves m n ∙ sym (w.leaves n) ∙ sym (uses_tree n w.part.tree)) ∙ one_each w.part.tree
       ∙ ap (λ (es : List (Entry V)). length es) (sym (shown_is w))
 
   pub rooms_once : (m : Lodged V) (n : ℕ) → uses n (keys m) ≤ 1

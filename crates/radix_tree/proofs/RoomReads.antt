@@ -1,7 +1,7 @@
 -- What is read of a room that stands for a part of a tree.
-use Rattle.std.proofs.Common.{◌≡◌, Option, Some, None, refl, sym, ap, ◌∙◌}
-use Rattle.radix_tree.proofs.Words.{get, Ptr, Seen, Has, leaf_of, bit_node_of, mask_node_of, Id, BitNode, MaskNode, Links, LeafPart, BitPart, MaskPart}
-use Rattle.radix_tree.proofs.Words.{bit_part, head_part, mask_part, leaf_in, bit_in, head_in, mask_in, leaves_in, bits_in, heads_in, masks_in, Lodged}
+use Rattle.radix_tree.proofs.Words.{◌≡◌, Option, Some, None, refl, sym, ap, ◌∙◌, get, Ptr, Seen, Has, leaf_of, bit_node_of, mask_node_of, Id, BitNode}
+use Rattle.radix_tree.proofs.Words.{MaskNode, Links, LeafPart, BitPart, MaskPart, bit_part, head_part, mask_part, leaf_in, bit_in, head_in, mask_in}
+use Rattle.radix_tree.proofs.Words.{leaves_in, bits_in, heads_in, masks_in, Lodged}
 
 pub inside : {A : Type 0} {x y : A} → Some x ≡ Some y → x ≡ y
 inside e = cc
@@ -71,8 +71,7 @@ module _ {V : Type 0} where
   bit_said m p links h e are = ap (λ (l : Links). bit_part h.room.block (bit_node_of l)) (are h.room h.at) ∙ sym (ap bit_in h.at) ∙ e
 
   pub bit_read : (m : Lodged V) (room : Id) {p : BitPart} (links : Links) {n : BitNode} → bits_in m room.number ≡ Some p → p.block ≡ room.block
-      → AreLinks m room links
-      → bit_node_of links ≡ Some n → IsNode n p
+      → AreLinks m room links → bit_node_of links ≡ Some n → IsNode n p
   bit_read m room {p = p} links e block are is =
       let h = Has-bit m room e block in
       let same = inside (sym (ap (bit_part h.room.block) is) ∙ bit_said m p links h e are) in
@@ -92,14 +91,12 @@ module _ {V : Type 0} where
   -- what the links say is what the room says
   pub bit_told : {m : Lodged V} {room : Id} {links : Links} → Has m room → AreLinks m room links
       → bits_in m room.number ≡ bit_part room.block (bit_node_of links)
-  bit_told {links = links} h are =
-      ap bit_in h.at ∙ ap (λ (l : Links). bit_part h.room.block (bit_node_of l)) (sym (are h.room h.at))
+  bit_told {links = links} h are = ap bit_in h.at ∙ ap (λ (l : Links). bit_part h.room.block (bit_node_of l)) (sym (are h.room h.at))
       ∙ ap (λ (b : Ptr). bit_part b (bit_node_of links)) h.block
 
   pub mask_told : {m : Lodged V} {room : Id} {links : Links} → Has m room → AreLinks m room links
       → masks_in m room.number ≡ mask_part room.block (mask_node_of links)
-  mask_told {links = links} h are =
-      ap mask_in h.at ∙ ap (λ (l : Links). mask_part h.room.block (mask_node_of l)) (sym (are h.room h.at))
+  mask_told {links = links} h are = ap mask_in h.at ∙ ap (λ (l : Links). mask_part h.room.block (mask_node_of l)) (sym (are h.room h.at))
       ∙ ap (λ (b : Ptr). mask_part b (mask_node_of links)) h.block
 
   pub head_read : {m : Lodged V} {room : Id} (links : Links) {n : BitNode} → Has m room → AreLinks m room links → bit_node_of links ≡ Some n

@@ -1,10 +1,9 @@
 -- What the rooms say in each role once one of them has other links.
-use Rattle.std.proofs.Common.{◌≡◌, ℕ, ◌==◌, Bool, true, false, if◌then◌else◌, Option, Some, None, refl, sym, ap, ◌∙◌}
-use Rattle.std.proofs.lemmas.Bool.{eqb-true}
 use Rattle.radix_nodes.proofs.Callers.{get-put_room, get-put_links}
-use Rattle.radix_tree.proofs.Words.{get, Ptr, Seen, seen, Has, put_room, put_links, leaf_of, bit_node_of, mask_node_of, Id, Leaf, BitNode, MaskNode, Links}
-use Rattle.radix_tree.proofs.Words.{LeafPart, leaf_in, bit_in, head_in, mask_in, bit_part, head_part, mask_part, leaves_in, bits_in, heads_in, masks_in}
-use Rattle.radix_tree.proofs.Words.{lodge_leaf, put_leaf, with_leaf, put_bit, put_head, put_mask, KeepsLeaves, KeepsBits, KeepsHeads, KeepsMasks, Lodged}
+use Rattle.radix_tree.proofs.Words.{◌≡◌, ℕ, ◌==◌, Bool, true, false, if◌then◌else◌, Option, Some, None, refl, sym, ap, ◌∙◌, eqb-true, get, Ptr, Seen}
+use Rattle.radix_tree.proofs.Words.{seen, Has, put_room, put_links, leaf_of, bit_node_of, mask_node_of, Id, Leaf, BitNode, MaskNode, Links, LeafPart}
+use Rattle.radix_tree.proofs.Words.{leaf_in, bit_in, head_in, mask_in, bit_part, head_part, mask_part, leaves_in, bits_in, heads_in, masks_in, lodge_leaf}
+use Rattle.radix_tree.proofs.Words.{put_leaf, with_leaf, put_bit, put_head, put_mask, KeepsLeaves, KeepsBits, KeepsHeads, KeepsMasks, Lodged}
 use Rattle.radix_tree.proofs.RoomReads.{AreLinks}
 
 through_if : {A B : Type 0} (f : A → B) (t : Bool) (x y : A) → f (if t then x else y) ≡ (if t then f x else f y)
@@ -15,8 +14,7 @@ module _ {V : Type 0} where
   -- a role of each room, once one of them has other links
   role : {A : Type 0} (f : Option (Seen V) → A) (m new : Lodged V) {room : Id} (links : Links) (h : Has m room) → new ≡ put_links m room links → (n : ℕ)
       → f (get new n) ≡ (if n == room.number then f (Some (seen room.block h.room.value links)) else f (get m n))
-  role f m new {room = room} links h is n =
-      ap (λ (k : Lodged V). f (get k n)) is ∙ ap f (get-put_links m room links h n)
+  role f m new {room = room} links h is n = ap (λ (k : Lodged V). f (get k n)) is ∙ ap f (get-put_links m room links h n)
       ∙ through_if f (n == room.number) (Some (seen room.block h.room.value links)) (get m n)
 
   there : (m : Lodged V) (room : Id) (h : Has m room) (n : ℕ) → (n == room.number) ≡ true → get m n ≡ Some h.room
@@ -65,8 +63,7 @@ module _ {V : Type 0} where
   heads_put {m = m} {new = new} room links h is said n = role head_in m new links h is n ∙ ap (λ (o : Option BitNode). put_head room o n (heads_in m n)) said
 
   pub masks_put : {m new : Lodged V} (room : Id) (links : Links) {node : Option MaskNode} → Has m room → new ≡ put_links m room links
-      → mask_node_of links ≡ node
-      → (n : ℕ) → masks_in new n ≡ put_mask room node n (masks_in m n)
+      → mask_node_of links ≡ node → (n : ℕ) → masks_in new n ≡ put_mask room node n (masks_in m n)
   masks_put {m = m} {new = new} room links h is said n = role mask_in m new links h is n ∙ ap (λ (o : Option MaskNode). put_mask room o n (masks_in m n)) said
 
   pub leaves_put : {m new : Lodged V} (room : Id) (links : Links) (leaf : Leaf) → Has m room → new ≡ put_links m room links → leaf_of links ≡ leaf
@@ -90,8 +87,7 @@ module _ {V : Type 0} where
 
   -- it says nothing new in a role in which its links say nothing
   lodged_kept : {A : Type 0} (f : Option (Seen V) → A) (m : Lodged V) (room : Id) (value : V) (links : Links) → get m room.number ≡ None
-      → f (Some (seen room.block value links)) ≡ f None
-      → (n : ℕ) → f (get (put_room m room value links) n) ≡ f (get m n)
+      → f (Some (seen room.block value links)) ≡ f None → (n : ℕ) → f (get (put_room m room value links) n) ≡ f (get m n)
   lodged_kept f m room value links free same n = lodged_role f m room value links n
       ∙ elim (n == room.number) as (λ t. (n == room.number) ≡ t → (if t then f (Some (seen room.block value links)) else f (get m n)) ≡ f (get m n)) [
         | true ↦ λ e. same ∙ sym (ap f (ap (get m) (eqb-true n room.number e) ∙ free))
@@ -113,8 +109,7 @@ module _ {V : Type 0} where
   pub lodged_leaves : (m new : Lodged V) (room : Id) (value : V) (links : Links) (leaf : Leaf)
       → ((n : ℕ) → leaves_in new n ≡ put_leaf room leaf n (leaves_in (put_room m room value links) n))
       → (n : ℕ) → leaves_in new n ≡ lodge_leaf room value leaf n (leaves_in m n)
-  lodged_leaves m new room value links leaf is n = is n
-      ∙ elim (n == room.number) as (λ t. leaves_in (put_room m room value links) n
+  lodged_leaves m new room value links leaf is n = is n ∙ elim (n == room.number) as (λ t. leaves_in (put_room m room value links) n
       ≡ (if t then leaf_in (Some (seen room.block value links)) else leaf_in (get m n))
       → (if t then with_leaf leaf (leaves_in (put_room m room value links) n) else leaves_in (put_room m room value links) n)
       ≡ (if t then Some (record { block = room.block; value = value; leaf = leaf }) else leaves_in m n)) [

@@ -1,10 +1,9 @@
 -- A walk along a chain.
-use Rattle.std.proofs.Common.{◌≡◌, ℕ, ◌+◌, ◌≤◌, List, [], ◌∷◌, length, Option, Some, None, true, false, refl, sym, ap, ◌∙◌, subst, inl, inr, ⊎_elim, arith}
-use Rattle.radix_tree.proofs.Words.{agrees, Counter, Has, Id, Leaf, ReadsOnce, LeafPart, Run, leaves_in, first_room, leaf_part, ChainStands, Placed, IsAmong}
-use Rattle.radix_tree.proofs.Words.{IsChain, Lodged}
 use Rattle.radix_tree.specs.Tree.{Covers}
-use Rattle.radix_tree.proofs.RoomReads.{none_some, Has-leaf}
-use Rattle.radix_tree.proofs.TreeMembers.{head_of, first_greatest, chain_short}
+use Rattle.radix_tree.proofs.Words.{◌≡◌, ℕ, ◌+◌, ◌≤◌, List, [], ◌∷◌, length, Option, Some, None, true, false, refl, sym, ap, ◌∙◌, subst, inl, inr, arith}
+use Rattle.radix_tree.proofs.Words.{agrees, Counter, Has, Id, Leaf, ReadsOnce, LeafPart, Run, leaves_in, first_room, leaf_part, ChainStands, Placed}
+use Rattle.radix_tree.proofs.Words.{IsAmong, IsChain, Lodged}
+use Rattle.radix_tree.proofs.{RoomReads.none_some, RoomReads.Has-leaf, TreeMembers.head_of, TreeMembers.first_greatest, TreeMembers.chain_short}
 
 -- a chain has a route for each rank at most
 pub chain_most : {V : Type 0} (key top : ℕ) (c : List (Placed V)) → IsChain key top c → length c ≤ 34
@@ -76,13 +75,14 @@ module _ {V : Type 0} {m : Lodged V} where
                 above = None;
                 previous = Some x.first.room;
                 is = is.3;
-                stands =
-                    stands.1;
+                stands = stands.1;
               };
           begins = sym (ap (λ (z : Leaf). z.next) l_is);
           inside = λ y among. w.inside y (subst (IsAmong y) (sym x.is) (inr among));
-          kept = λ y among has. ⊎_elim (λ (e : x.first ≡ y). absurd (hasnt (subst P (sym e) has))) (λ (behind : IsAmong y x.behind). behind)
-              (subst (IsAmong y) x.is (w.kept y among has));
+          kept = λ y among has. elim (subst (IsAmong y) x.is (w.kept y among has)) [
+            | inl e ↦ absurd (hasnt (subst P (sym e) has))
+            | inr behind ↦ behind
+          ];
           turn = once.turn ∙ w.turn;
           rises = omega arith;
           few = omega arith;

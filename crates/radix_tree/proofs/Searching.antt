@@ -1,9 +1,8 @@
 -- What a search beneath a bit node, and one for each of its listed masks, tell of all that is beneath it.
-use Rattle.std.proofs.Common.{◌≡◌, ℕ, ◌+◌, ◌<◌, ◌≤◌, ◌⊎◌, List, [], ◌∷◌, None, Some, inl, inr, ⊎_elim, sym, ap, ◌∙◌, arith}
-use Rattle.std.proofs.lemmas.Bool.{cases_lt}
-use Rattle.radix_tree.proofs.Words.{masked, IsRoute, Placed, Tree, fork, bit_at, Covers, IsAmong, IsIn, IsTree, Falls, Finds, HasPair, Best}
-use Rattle.radix_tree.proofs.AddressBits.{zero_not_one, covered_bit, clear_bit, covered_key, key_covers}
-use Rattle.radix_tree.proofs.TreeMembers.{same_rank, tree_route, bit_beneath}
+use Rattle.radix_tree.proofs.Words.{◌≡◌, ℕ, ◌+◌, ◌<◌, ◌≤◌, ◌⊎◌, List, [], ◌∷◌, None, Some, inl, inr, sym, ap, ◌∙◌, arith, cases_lt, masked, IsRoute}
+use Rattle.radix_tree.proofs.Words.{Placed, Tree, fork, bit_at, Covers, IsAmong, IsIn, IsTree, Falls, Finds, HasPair, Best}
+use Rattle.radix_tree.proofs.{AddressBits.zero_not_one, AddressBits.covered_bit, AddressBits.clear_bit, AddressBits.covered_key, AddressBits.key_covers}
+use Rattle.radix_tree.proofs.{TreeMembers.same_rank, TreeMembers.tree_route, TreeMembers.bit_beneath}
 
 module _ {V : Type 0} where
   -- the routes beneath a bit node, parted by whether they have the address's bit there
@@ -21,8 +20,7 @@ module _ {V : Type 0} where
     routes = tree_route low (fork room b zero one) is;
     inside = λ y at. inl at;
     here = λ y at. bit_beneath (b + 1) b 0 zero is.1 is.0.zeros y at ∙ sym bit;
-    parted = λ y at. ⊎_elim (λ (p : IsIn y zero). inl p)
-        (λ (p : IsIn y one). inr (λ e. zero_not_one bit (sym e ∙ bit_beneath (b + 1) b 1 one is.2 is.0.ones y p))) at;
+    parted = λ y at. elim at [ inl p ↦ inl p | inr p ↦ inr (λ e. zero_not_one bit (sym e ∙ bit_beneath (b + 1) b 1 one is.2 is.0.ones y p)) ];
   }
 
   pub one_side : (address low b : ℕ) (room : _) (zero one : Tree V) → IsTree low (fork room b zero one) → bit_at b address ≡ 1
@@ -32,16 +30,17 @@ module _ {V : Type 0} where
     routes = tree_route low (fork room b zero one) is;
     inside = λ y at. inr at;
     here = λ y at. bit_beneath (b + 1) b 1 one is.2 is.0.ones y at ∙ sym bit;
-    parted = λ y at. ⊎_elim (λ (p : IsIn y zero). inr (λ e. zero_not_one (sym e ∙ bit_beneath (b + 1) b 0 zero is.1 is.0.zeros y p) bit))
-        (λ (p : IsIn y one). inl p) at;
+    parted = λ y at. elim at [ inl p ↦ inr (λ e. zero_not_one (sym e ∙ bit_beneath (b + 1) b 0 zero is.1 is.0.zeros y p) bit) | inr p ↦ inl p ];
   }
 
   -- a route of the other side that covers the address has a rank not past the bit, and so a 0 there
   other_side : (address b : ℕ) (y : Placed V) → b ≤ 31 → IsRoute y.entry → Covers address y.entry → (bit_at b y.entry.key ≡ bit_at b address → ⊥)
       → (y.entry.rank ≤ b) × (bit_at b y.entry.key ≡ 0)
   other_side address b y within route covers differs =
-      let short : y.entry.rank ≤ b = ⊎_elim (λ (long : b < y.entry.rank). absurd (differs (covered_bit address b y.entry long within covers)))
-      (λ (le : y.entry.rank ≤ b). le) (cases_lt b y.entry.rank) in
+      let short : y.entry.rank ≤ b = elim (cases_lt b y.entry.rank) [
+        | inl long ↦ absurd (differs (covered_bit address b y.entry long within covers))
+        | inr le ↦ le
+      ] in
       (short, clear_bit b route short within)
 
   -- so the best of the address's side is the best of both
@@ -50,24 +49,24 @@ module _ {V : Type 0} where
   side_hit address low b side whole x is best = (
     is.inside x best.0,
     best.1,
-    λ y at covers below. ⊎_elim (λ (p : IsIn y side). best.2 y p covers below)
-        (λ (differs : bit_at b y.entry.key ≡ bit_at b address → ⊥).
-        let other : (y.entry.rank ≤ b) × (bit_at b y.entry.key ≡ 0) = other_side address b y is.within (is.routes y at) covers differs in
-        let short : y.entry.rank ≤ b = other.0 in
-        ⊎_elim (λ (long : b < x.entry.rank). omega arith)
-        (λ (le : x.entry.rank ≤ b). absurd (differs (other.1 ∙ sym (clear_bit b (is.routes x (is.inside x best.0)) le is.within) ∙ is.here x best.0)))
-        (cases_lt b x.entry.rank))
-        (is.parted y at),
+    λ y at covers below. elim (is.parted y at) [
+      | inl p ↦ best.2 y p covers below
+      | inr differs ↦ let other : (y.entry.rank ≤ b) × (bit_at b y.entry.key ≡ 0) = other_side address b y is.within (is.routes y at) covers differs in
+          let short : y.entry.rank ≤ b = other.0 in
+          elim (cases_lt b x.entry.rank) [
+            | inl long ↦ omega arith
+            | inr le ↦ absurd (differs (other.1 ∙ sym (clear_bit b (is.routes x (is.inside x best.0)) le is.within) ∙ is.here x best.0))
+          ]
+    ],
   )
 
   -- where that side has none, all that cover the address have a rank not past the bit
   all_short : (address b : ℕ) (side whole : Tree V) → IsSide address b side whole → Best address (b + 1) 34 (λ y. IsIn y side) None
       → (y : Placed V) → IsIn y whole → Covers address y.entry → y.entry.rank < 34 → y.entry.rank < b + 1
-  all_short address b side whole is none y at covers below =
-      ⊎_elim (λ (p : IsIn y side). none y p covers below)
-      (λ (differs : bit_at b y.entry.key ≡ bit_at b address → ⊥).
-      let short : y.entry.rank ≤ b = (other_side address b y is.within (is.routes y at) covers differs).0 in omega arith)
-      (is.parted y at)
+  all_short address b side whole is none y at covers below = elim (is.parted y at) [
+    | inl p ↦ none y p covers below
+    | inr differs ↦ let short : y.entry.rank ≤ b = (other_side address b y is.within (is.routes y at) covers differs).0 in omega arith
+  ]
 
   -- and the masks that the node lists decide
   pub listed_hit : (address low b : ℕ) (side whole : Tree V) (x : Placed V) → IsSide address b side whole
@@ -79,16 +78,17 @@ module _ {V : Type 0} where
   pub listed_miss : (address low b : ℕ) (side whole : Tree V) → IsSide address b side whole
       → Best address (b + 1) 34 (λ y. IsIn y side) None → Best address low (b + 1) (λ y. IsIn y whole) None
       → Best address low 34 (λ y. IsIn y whole) None
-  listed_miss address low b side whole is none best =
-      λ y at covers below. best y at covers (all_short address b side whole is none y at covers below)
+  listed_miss address low b side whole is none best = λ y at covers below. best y at covers (all_short address b side whole is none y at covers below)
 
   -- ---- the masks of one bit node
   falls_below : (low top : ℕ) (ms : List (Placed V)) → Falls low top ms → (y : Placed V) → IsAmong y ms → y.entry.rank < top
   falls_below low top [] falls y among = absurd among
   falls_below low top (m ∷ ms) falls y among =
       let first : m.entry.rank < top = falls.1 in
-      ⊎_elim (λ (e : m ≡ y). let same : m.entry.rank ≡ y.entry.rank = same_rank e in omega arith)
-      (λ (behind : IsAmong y ms). let lower : y.entry.rank < m.entry.rank = falls_below low m.entry.rank ms falls.2 y behind in omega arith) among
+      elim among [
+        | inl e ↦ let same : m.entry.rank ≡ y.entry.rank = same_rank e in omega arith
+        | inr behind ↦ let lower : y.entry.rank < m.entry.rank = falls_below low m.entry.rank ms falls.2 y behind in omega arith
+      ]
 
   -- all routes of a rank from low to below top are listed
   abbrev pub AreListed : ℕ → ℕ → List (Placed V) → Tree V → Type 0
@@ -99,11 +99,13 @@ module _ {V : Type 0} where
       → (y : Placed V) → IsIn y t → y.entry.rank < top → y.entry.rank ≤ m.entry.rank
   none_longer low top m ms t falls listed y at below =
       let least : low ≤ m.entry.rank = falls.0 in
-      ⊎_elim (λ (longer : m.entry.rank < y.entry.rank).
-      ⊎_elim (λ (e : m ≡ y). let same : m.entry.rank ≡ y.entry.rank = same_rank e in omega arith)
-      (λ (behind : IsAmong y ms). let lower : y.entry.rank < m.entry.rank = falls_below low m.entry.rank ms falls.2 y behind in omega arith)
-      (listed y at (omega arith) below))
-      (λ (le : y.entry.rank ≤ m.entry.rank). le) (cases_lt m.entry.rank y.entry.rank)
+      elim (cases_lt m.entry.rank y.entry.rank) [
+        | inl longer ↦ elim (listed y at (omega arith) below) [
+          | inl e ↦ let same : m.entry.rank ≡ y.entry.rank = same_rank e in omega arith
+          | inr behind ↦ let lower : y.entry.rank < m.entry.rank = falls_below low m.entry.rank ms falls.2 y behind in omega arith
+        ]
+        | inr le ↦ le
+      ]
 
   -- a route found for the first mask is the best, once longer masks were tried in vain
   pub mask_hit : (address low top past : ℕ) (m : Placed V) (ms : List (Placed V)) (t : Tree V) (x : Placed V) → Falls low top (m ∷ ms)
@@ -124,22 +126,24 @@ module _ {V : Type 0} where
       → Best address m.entry.rank past (λ y. IsIn y t) None
   mask_miss address low top past m ms t routes falls listed tried none y at covers below =
       let le : y.entry.rank ≤ m.entry.rank = none_longer low top m ms t falls listed y at (tried y at covers below) in
-      ⊎_elim (λ (lower : y.entry.rank < m.entry.rank). lower)
-      (λ (ge : m.entry.rank ≤ y.entry.rank). let same : y.entry.rank ≡ m.entry.rank = omega arith in
-      absurd (none y at (covered_key address y.entry (routes y at) covers ∙ ap (λ (r : ℕ). masked r address) same, same)))
-      (cases_lt y.entry.rank m.entry.rank)
+      elim (cases_lt y.entry.rank m.entry.rank) [
+        | inl lower ↦ lower
+        | inr ge ↦ let same : y.entry.rank ≡ m.entry.rank = omega arith in
+            absurd (none y at (covered_key address y.entry (routes y at) covers ∙ ap (λ (r : ℕ). masked r address) same, same))
+      ]
 
   -- what is listed behind the first mask
   pub listed_behind : (low top : ℕ) (m : Placed V) (ms : List (Placed V)) (t : Tree V) → Falls low top (m ∷ ms) → AreListed low top (m ∷ ms) t
       → AreListed low m.entry.rank ms t
   listed_behind low top m ms t falls listed y at least below =
       let first : m.entry.rank < top = falls.1 in
-      ⊎_elim (λ (e : m ≡ y). let same : m.entry.rank ≡ y.entry.rank = same_rank e in absurd (omega arith)) (λ (behind : IsAmong y ms). behind)
-      (listed y at least (omega arith))
+      elim (listed y at least (omega arith)) [
+        | inl e ↦ let same : m.entry.rank ≡ y.entry.rank = same_rank e in absurd (omega arith)
+        | inr behind ↦ behind
+      ]
 
   -- at the end of the list all masks were tried
   pub list_ends : (address low top past : ℕ) (t : Tree V) → AreListed low top [] t → Best address top past (λ y. IsIn y t) None
       → Best address low past (λ y. IsIn y t) None
   list_ends address low top past t listed tried y at covers below =
-      ⊎_elim (λ (lower : y.entry.rank < low). lower) (λ (ge : low ≤ y.entry.rank). absurd (listed y at ge (tried y at covers below)))
-      (cases_lt y.entry.rank low)
+      elim (cases_lt y.entry.rank low) [ inl lower ↦ lower | inr ge ↦ absurd (listed y at ge (tried y at covers below)) ]

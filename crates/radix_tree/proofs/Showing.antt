@@ -1,8 +1,8 @@
 -- The rooms show the routes of the tree that they stand for.
-use Rattle.std.proofs.Common.{◌≡◌, ℕ, zero, suc, ◌+◌, ◌≤◌, List, [], ◌∷◌, ◌++◌, length, map, Option, Some, None, refl, sym, ap, ◌∙◌, arith}
-use Rattle.radix_tree.proofs.Words.{Id, Node, Placed, Tree, leaf, fork, IsTree, routes_of, LeafPart, BitPart, Leaves, Bits, leaves_in, bits_in, first_room}
-use Rattle.radix_tree.proofs.Words.{name_of, ChainStands, Stands, chain_from, sides_from, shown, IsWhole, Entry, Lodged}
 use Rattle.radix_tree.specs.Whole.{chain_shown, beneath_shown}
+use Rattle.radix_tree.proofs.Words.{◌≡◌, ℕ, zero, suc, ◌+◌, ◌≤◌, List, [], ◌∷◌, ◌++◌, length, map, Option, Some, None, refl, sym, ap, ◌∙◌, arith, Id}
+use Rattle.radix_tree.proofs.Words.{Node, Placed, Tree, leaf, fork, IsTree, routes_of, LeafPart, BitPart, Leaves, Bits, leaves_in, bits_in, first_room}
+use Rattle.radix_tree.proofs.Words.{name_of, ChainStands, Stands, chain_from, sides_from, shown, IsWhole, Entry, Lodged}
 use Rattle.radix_tree.proofs.Scans.{chain_most}
 
 module _ {V : Type 0} where
@@ -12,8 +12,7 @@ module _ {V : Type 0} where
   chain_is zero L above previous [] fits stands = refl
   chain_is (suc n) L above previous [] fits stands = refl
   chain_is zero L above previous (x ∷ c) fits stands = absurd (omega arith)
-  chain_is (suc n) L above previous (x ∷ c) fits stands =
-      ap (λ (o : Option (LeafPart V)). chain_from o (chain_shown n L)) stands.0
+  chain_is (suc n) L above previous (x ∷ c) fits stands = ap (λ (o : Option (LeafPart V)). chain_from o (chain_shown n L)) stands.0
       ∙ ap (λ (es : List (Entry V)). x.entry ∷ es) (chain_is n L None (Some x.room) c (omega arith) stands.1)
 
   -- 33 levels are enough

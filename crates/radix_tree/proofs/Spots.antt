@@ -1,12 +1,9 @@
 -- A walk up from a leaf to the spot at which a route of a new key comes in.
-use Rattle.std.proofs.Common.{◌≡◌, ℕ, ◌+◌, ◌<◌, ◌≤◌, [], Option, None, refl, sym, ap, ◌∙◌, subst, ⊎_elim, arith}
-use Rattle.std.proofs.lemmas.Bool.{cases_eq}
-use Rattle.radix_tree.proofs.Words.{Counter, Id, BitNode, Node, LeafOf, BitOf, AreOnce, IsNew, IsSpot, Differs, IsBitNodeOf, ReadsOnce, Part, name_of, ForkAt}
-use Rattle.radix_tree.proofs.Words.{Beneath, LedTo, Tree, bit_at, HaveBit, IsTree, Lodged}
-use Rattle.radix_tree.proofs.AddressBits.{zero_or_one}
-use Rattle.radix_tree.proofs.Climbs.{Climb, Over, fork_over, node_at, ended, Steps, step_begun, step_risen}
-use Rattle.radix_tree.proofs.Forking.{one_value}
-use Rattle.radix_tree.proofs.Parts.{fork_is, fork_name}
+use Rattle.radix_tree.proofs.Words.{◌≡◌, ℕ, ◌+◌, ◌<◌, ◌≤◌, [], Option, None, refl, sym, ap, ◌∙◌, subst, ⊎_elim, arith, inl, inr, cases_eq, Counter, Id}
+use Rattle.radix_tree.proofs.Words.{BitNode, Node, LeafOf, BitOf, AreOnce, IsNew, IsSpot, Differs, IsBitNodeOf, ReadsOnce, Part, name_of, ForkAt, Beneath}
+use Rattle.radix_tree.proofs.Words.{LedTo, Tree, bit_at, HaveBit, IsTree, Lodged}
+use Rattle.radix_tree.proofs.{AddressBits.zero_or_one, Climbs.Climb, Climbs.Over, Climbs.fork_over, Climbs.node_at, Climbs.ended, Climbs.Steps}
+use Rattle.radix_tree.proofs.{Climbs.step_begun, Climbs.step_risen, Forking.one_value, Parts.fork_is, Parts.fork_name}
 
 module _ {V : Type 0} {m : Lodged V} where
   -- a value that all keys of a part have at a bit before the node's above is that of all beneath the node
@@ -15,10 +12,10 @@ module _ {V : Type 0} {m : Lodged V} where
   agree_up key c value under b before have =
       let f = b.at in
       let a = (fork_is m f).0.agree c before in
-      let same : a.0 ≡ value = ⊎_elim
-      (λ (e : (under.tree ≡ f.zero) × (bit_at f.bit key ≡ 0)). one_value c a.0 value f.zero a.1 (subst (HaveBit c value) e.0 have))
-      (λ (e : (under.tree ≡ f.one) × (bit_at f.bit key ≡ 1)). one_value c a.0 value f.one a.2 (subst (HaveBit c value) e.0 have))
-      b.side in
+      let same : a.0 ≡ value = elim b.side [
+        | inl e ↦ one_value c a.0 value f.zero a.1 (subst (HaveBit c value) e.0 have)
+        | inr e ↦ one_value c a.0 value f.one a.2 (subst (HaveBit c value) e.0 have)
+      ] in
       subst (HaveBit c value) (sym f.is) (subst (λ (v : ℕ). HaveBit c v f.zero) same a.1, subst (λ (v : ℕ). HaveBit c v f.one) same a.2)
 
   -- beneath a bit node on a key's side all keys have the key's bit
@@ -26,25 +23,16 @@ module _ {V : Type 0} {m : Lodged V} where
   own_side key under over b =
       let f = b.at in
       let is = (fork_is m f).0 in
-      ⊎_elim
-      (λ (e : (under.tree ≡ f.zero) × (bit_at f.bit key ≡ 0)). subst (HaveBit f.bit (bit_at f.bit key)) (sym e.0)
-      (subst (λ (v : ℕ). HaveBit f.bit v f.zero) (sym e.1) is.zeros))
-      (λ (e : (under.tree ≡ f.one) × (bit_at f.bit key ≡ 1)). subst (HaveBit f.bit (bit_at f.bit key)) (sym e.0)
-      (subst (λ (v : ℕ). HaveBit f.bit v f.one) (sym e.1) is.ones))
-      b.side
+      elim b.side [
+        | inl e ↦ subst (HaveBit f.bit (bit_at f.bit key)) (sym e.0) (subst (λ (v : ℕ). HaveBit f.bit v f.zero) (sym e.1) is.zeros)
+        | inr e ↦ subst (HaveBit f.bit (bit_at f.bit key)) (sym e.0) (subst (λ (v : ℕ). HaveBit f.bit v f.one) (sym e.1) is.ones)
+      ]
 
   raised : {over : Part m} {room : Id} (f : ForkAt over room) (bit : ℕ) → bit < f.bit → IsTree (bit + 1) over.tree
   raised f bit past =
       let is = fork_is m f in
       subst (IsTree (bit + 1)) (sym f.is) (
-        record {
-          rises = omega arith;
-          within = is.0.within;
-          agree = is.0.agree;
-          zeros = is.0.zeros;
-          ones =
-              is.0.ones;
-        },
+        record { rises = omega arith; within = is.0.within; agree = is.0.agree; zeros = is.0.zeros; ones = is.0.ones },
         is.1,
         is.2,
       )
@@ -59,8 +47,7 @@ module _ {V : Type 0} {m : Lodged V} where
 
   -- the leaf is one
   pub leaf_past : {key bit : ℕ} {whole : Part m} {room : Id} {start now : Counter} (d : LedTo key whole room) → Differs key d.leaf.first.entry.key bit
-      → ReadsOnce start now
-      → Past key d.leaf.first.entry.key bit (LeafOf room) start now d.part
+      → ReadsOnce start now → Past key d.leaf.first.entry.key bit (LeafOf room) start now d.part
   leaf_past {bit = bit} d differs once =
       let f = d.leaf in
       let have : (c : ℕ) → HaveBit c (bit_at c f.first.entry.key) d.part.tree = λ c. subst (HaveBit c (bit_at c f.first.entry.key)) (sym f.is) refl in
@@ -124,11 +111,10 @@ module _ {V : Type 0} {m : Lodged V} where
       (one_value bit (bit_at bit key) (bit_at bit other) c.part.tree (subst (λ (k : ℕ). HaveBit k (bit_at k key) c.part.tree) e (own_side key c.part o.part b))
       c.holds.here) in
       spot_of c w.top w.once w.differs
-      (⊎_elim (λ (e : b.at.bit ≡ bit). absurd (other_bit e)) (λ (ne : b.at.bit ≡ bit → ⊥). omega (arith, ne, same, b.low, before)) (cases_eq b.at.bit bit))
+      (elim (cases_eq b.at.bit bit) [ inl e ↦ absurd (other_bit e) | inr ne ↦ omega (arith, ne, same, b.low, before) ])
 
   -- or above the whole tree
   pub topped : {key bit : ℕ} {leaf : Id} {below : Node} {start now : Counter} (w : IsNew m key bit leaf) {above : Option Id}
-      → Climb key w.whole (Past key w.led.leaf.first.entry.key bit below start now) above → above ≡ None
-      → IsSpot m key bit w.whole above below
+      → Climb key w.whole (Past key w.led.leaf.first.entry.key bit below start now) above → above ≡ None → IsSpot m key bit w.whole above below
   topped {key} w c is =
       spot_of (record { part = w.whole; above = w.top ∙ sym is; ups = []; way = refl; holds = ended c is }) w.top w.once w.differs (omega (arith, w.low))

@@ -1,9 +1,9 @@
 -- A table with or without an entry, by its first entry; and that it stays a table.
-use Rattle.std.proofs.Common.{◌≡◌, ℕ, Bool, true, false, cond, not, filter, IsTrue, List, [], ◌∷◌, Some, None, refl, ap}
-use Rattle.radix_tree.proofs.Words.{AllByRecursion, precedes, IsTable, has_pair, entry_at, without, with_entry, AreOnePair, WithIsTable, WithoutIsTable, Entry}
+use Rattle.radix_tree.proofs.Words.{◌≡◌, ℕ, Bool, true, false, cond, not, filter, IsTrue, List, [], ◌∷◌, Some, None, refl, ap, AllByRecursion, precedes}
+use Rattle.radix_tree.proofs.Words.{IsTable, has_pair, entry_at, without, with_entry, AreOnePair, WithIsTable, WithoutIsTable, Entry}
+use Rattle.radix_tree.proofs.OrderLemmas.{stands_before, before, here, behind, beside, stands_behind, pair_is, behind_next, behind_not_before}
+use Rattle.radix_tree.proofs.OrderLemmas.{behind_not_pair, precedes_one_way, precedes_transitively}
 use Rattle.radix_tree.proofs.ListLemmas.{all_weaker, all_filter, filter_all, filter_none, find_none}
-use Rattle.radix_tree.proofs.OrderLemmas.{stands_before, before, here, behind, beside, stands_behind, pair_is, behind_next, behind_not_before, behind_not_pair}
-use Rattle.radix_tree.proofs.OrderLemmas.{precedes_one_way, precedes_transitively}
 
 -- behind an entry that doesn't stand before a pair, all stand behind the pair
 pub all_behind : {V : Type 0} (key rank : ℕ) (x : Entry V) (xs : List (Entry V)) → stands_before key rank x ≡ false
@@ -87,8 +87,7 @@ with_is_table (x ∷ xs) e r route = elim (with_parts e x xs r) [
 
 pub filter_is_table : {V : Type 0} (q : Entry V → Bool) (es : List (Entry V)) → IsTable es → IsTable (filter q es)
 filter_is_table q [] r = tt
-filter_is_table q (e ∷ es) r =
-    elim (q e) as (λ b. IsTable (cond b (e ∷ filter q es) (filter q es)))
+filter_is_table q (e ∷ es) r = elim (q e) as (λ b. IsTable (cond b (e ∷ filter q es) (filter q es)))
     [ true ↦ (r.0, all_filter (λ f. IsTrue (precedes e f)) q es r.1, filter_is_table q es r.2) | false ↦ filter_is_table q es r.2 ]
 
 pub without_is_table : {V : Type 0} → WithoutIsTable V

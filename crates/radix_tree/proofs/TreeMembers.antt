@@ -1,7 +1,7 @@
 -- The routes of a chain and of a tree.
-use Rattle.std.proofs.Common.{◌≡◌, ℕ, ◌+◌, ◌<◌, ◌≤◌, List, [], ◌∷◌, length, Option, Some, None, refl, ⊎_elim, ap, ◌∙◌, subst, arith}
-use Rattle.radix_tree.proofs.Words.{Id, IsRoute, Leaves, Bits, first_room, leaf_part, ChainStands, Stands, Placed, Tree, leaf, fork, bit_at, IsAmong, IsIn}
-use Rattle.radix_tree.proofs.Words.{IsChain, IsTree, HaveBit}
+use Rattle.radix_tree.proofs.Words.{◌≡◌, ℕ, ◌+◌, ◌<◌, ◌≤◌, List, [], ◌∷◌, length, Option, Some, None, refl, ap, ◌∙◌, subst, arith, inl, inr, Id, IsRoute}
+use Rattle.radix_tree.proofs.Words.{Leaves, Bits, first_room, leaf_part, ChainStands, Stands, Placed, Tree, leaf, fork, bit_at, IsAmong, IsIn, IsChain}
+use Rattle.radix_tree.proofs.Words.{IsTree, HaveBit}
 use Rattle.radix_tree.proofs.RoomReads.{inside, none_some}
 
 module _ {V : Type 0} where
@@ -22,26 +22,29 @@ module _ {V : Type 0} where
   pub chain_route : (key top : ℕ) (c : List (Placed V)) → IsChain key top c → (x : Placed V) → IsAmong x c → IsRoute x.entry
   chain_route key top [] is x among = absurd among
   chain_route key top (y ∷ c) is x among =
-      ⊎_elim (λ (e : y ≡ x). subst (λ (p : Placed V). IsRoute p.entry) e is.0) (chain_route key y.entry.rank c is.3 x) among
+      elim among [ inl e ↦ subst (λ (p : Placed V). IsRoute p.entry) e is.0 | inr it ↦ chain_route key y.entry.rank c is.3 x it ]
 
   pub chain_key : (key top : ℕ) (c : List (Placed V)) → IsChain key top c → (x : Placed V) → IsAmong x c → x.entry.key ≡ key
   chain_key key top [] is x among = absurd among
   chain_key key top (y ∷ c) is x among =
-      ⊎_elim (λ (e : y ≡ x). subst (λ (p : Placed V). p.entry.key ≡ key) e is.1) (chain_key key y.entry.rank c is.3 x) among
+      elim among [ inl e ↦ subst (λ (p : Placed V). p.entry.key ≡ key) e is.1 | inr it ↦ chain_key key y.entry.rank c is.3 x it ]
 
   pub chain_below : (key top : ℕ) (c : List (Placed V)) → IsChain key top c → (x : Placed V) → IsAmong x c → x.entry.rank < top
   chain_below key top [] is x among = absurd among
   chain_below key top (y ∷ c) is x among =
       let first : y.entry.rank < top = is.2 in
-      ⊎_elim (λ (e : y ≡ x). subst (λ (p : Placed V). p.entry.rank < top) e first)
-      (λ (behind : IsAmong x c). let lower : x.entry.rank < y.entry.rank = chain_below key y.entry.rank c is.3 x behind in omega arith) among
+      elim among [
+        | inl e ↦ subst (λ (p : Placed V). p.entry.rank < top) e first
+        | inr behind ↦ let lower : x.entry.rank < y.entry.rank = chain_below key y.entry.rank c is.3 x behind in omega arith
+      ]
 
   -- of a chain the first route is of greatest rank
   pub first_greatest : (key top : ℕ) (x : Placed V) (c : List (Placed V)) → IsChain key top (x ∷ c) → (y : Placed V) → IsAmong y (x ∷ c)
       → y.entry.rank ≤ x.entry.rank
-  first_greatest key top x c is y among =
-      ⊎_elim (λ (e : x ≡ y). let same : x.entry.rank ≡ y.entry.rank = same_rank e in omega arith)
-      (λ (behind : IsAmong y c). let lower : y.entry.rank < x.entry.rank = chain_below key x.entry.rank c is.3 y behind in omega arith) among
+  first_greatest key top x c is y among = elim among [
+    | inl e ↦ let same : x.entry.rank ≡ y.entry.rank = same_rank e in omega arith
+    | inr behind ↦ let lower : y.entry.rank < x.entry.rank = chain_below key x.entry.rank c is.3 y behind in omega arith
+  ]
 
   pub chain_short : (key top : ℕ) (c : List (Placed V)) → IsChain key top c → length c ≤ top
   chain_short key top [] is = omega arith
@@ -50,13 +53,13 @@ module _ {V : Type 0} where
 
   pub tree_route : (low : ℕ) (t : Tree V) → IsTree low t → (x : Placed V) → IsIn x t → IsRoute x.entry
   tree_route low (leaf z zs) is x at = chain_route z.entry.key 34 (z ∷ zs) is.1 x at
-  tree_route low (fork room b zero one) is x at = ⊎_elim (tree_route (b + 1) zero is.1 x) (tree_route (b + 1) one is.2 x) at
+  tree_route low (fork room b zero one) is x at = elim at [ inl it ↦ tree_route (b + 1) zero is.1 x it | inr it ↦ tree_route (b + 1) one is.2 x it ]
 
   -- a bit that all keys of a tree have is each one's
   pub bit_beneath : (low b value : ℕ) (t : Tree V) → IsTree low t → HaveBit b value t → (x : Placed V) → IsIn x t → bit_at b x.entry.key ≡ value
   bit_beneath low b value (leaf z zs) is have x at = ap (bit_at b) (chain_key z.entry.key 34 (z ∷ zs) is.1 x at) ∙ have
   bit_beneath low b value (fork room c zero one) is have x at =
-      ⊎_elim (bit_beneath (c + 1) b value zero is.1 have.0 x) (bit_beneath (c + 1) b value one is.2 have.1 x) at
+      elim at [ inl it ↦ bit_beneath (c + 1) b value zero is.1 have.0 x it | inr it ↦ bit_beneath (c + 1) b value one is.2 have.1 x it ]
 
   -- ---- the room of a route
   abbrev pub IsSaid : Leaves V → Placed V → Type 0
@@ -65,8 +68,11 @@ module _ {V : Type 0} where
   chain_said : (L : Leaves V) (above previous : Option Id) (c : List (Placed V)) → ChainStands L above previous c → (x : Placed V) → IsAmong x c → IsSaid L x
   chain_said L above previous [] stands x among = absurd among
   chain_said L above previous (y ∷ c) stands x among =
-      ⊎_elim (λ (e : y ≡ x). subst (IsSaid L) e (above, previous, first_room c, stands.0)) (chain_said L None (Some y.room) c stands.1 x) among
+      elim among [ inl e ↦ subst (IsSaid L) e (above, previous, first_room c, stands.0) | inr it ↦ chain_said L None (Some y.room) c stands.1 x it ]
 
   pub tree_said : (L : Leaves V) (B : Bits) (above : Option Id) (t : Tree V) → Stands L B above t → (x : Placed V) → IsIn x t → IsSaid L x
   tree_said L B above (leaf z zs) stands x at = chain_said L above None (z ∷ zs) stands x at
-  tree_said L B above (fork room b zero one) stands x at = ⊎_elim (tree_said L B (Some room) zero stands.1 x) (tree_said L B (Some room) one stands.2 x) at
+  tree_said L B above (fork room b zero one) stands x at = elim at [
+    | inl it ↦ tree_said L B (Some room) zero stands.1 x it
+    | inr it ↦ tree_said L B (Some room) one stands.2 x it
+  ]

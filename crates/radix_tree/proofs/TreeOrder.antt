@@ -1,15 +1,13 @@
 -- The routes of a tree, from left to right, are a table.
-use Rattle.std.proofs.Common.{◌≡◌, ℕ, suc, ◌+◌, ◌*◌, ◌-◌, ◌/◌, ◌^◌, ◌<◌, ◌≤◌, IsTrue, List, [], ◌∷◌, ◌++◌, map, refl, inl, inr, ⊎_elim, sym, ◌∙◌, arith}
-use Rattle.std.proofs.lemmas.Bool.{cases_lt}
 use Rattle.std.proofs.Math.Nat.{div-mul-le_self}
-use Rattle.std.proofs.lemmas.Nat.{le-div, pow_pos}
 use Rattle.mask_table.proofs.Agreeing.{front_of_bits, front_suc}
-use Rattle.radix_tree.proofs.Words.{AllByRecursion, front, bit, precedes, IsTable, Placed, Tree, leaf, fork, IsAmong, IsIn, IsChain, IsFork, IsTree, routes_of}
-use Rattle.radix_tree.proofs.Words.{Entry}
+use Rattle.std.proofs.lemmas.Nat.{le-div, pow_pos}
 use Rattle.radix_tree.specs.Tree.{bit_at}
-use Rattle.radix_tree.proofs.ListLemmas.{all_append}
-use Rattle.radix_tree.proofs.OrderLemmas.{precedes_in_words}
-use Rattle.radix_tree.proofs.TreeMembers.{chain_key, chain_below, tree_route, bit_beneath}
+use Rattle.radix_tree.proofs.Words.{◌≡◌, ℕ, suc, ◌+◌, ◌*◌, ◌-◌, ◌/◌, ◌^◌, ◌<◌, ◌≤◌, IsTrue, List, [], ◌∷◌, ◌++◌, map, refl, inl, inr, sym, ◌∙◌, arith}
+use Rattle.radix_tree.proofs.Words.{cases_lt, AllByRecursion, front, bit, precedes, IsTable, Placed, Tree, leaf, fork, IsAmong, IsIn, IsChain, IsFork}
+use Rattle.radix_tree.proofs.Words.{IsTree, routes_of, Entry}
+use Rattle.radix_tree.proofs.{ListLemmas.all_append, OrderLemmas.precedes_in_words, TreeMembers.chain_key, TreeMembers.chain_below}
+use Rattle.radix_tree.proofs.{TreeMembers.tree_route, TreeMembers.bit_beneath}
 
 monotone : (k x y : ℕ) → y ≤ x → y / 2 ^ k ≤ x / 2 ^ k
 monotone k x y le = let low : y / 2 ^ k * 2 ^ k ≤ y = div-mul-le_self y (2 ^ k) in le-div (y / 2 ^ k) x (2 ^ k) (pow_pos k) (omega arith)
@@ -23,8 +21,10 @@ less b x y within fits_x fits_y same zero one =
     let of_x : front (suc b) x ≡ 2 * front b x + bit b x = front_suc b x inside in
     let of_y : front (suc b) y ≡ 2 * front b y + bit b y = front_suc b y inside in
     let more : front (suc b) x < front (suc b) y = omega (arith, before, of_x, of_y, zero, one) in
-    ⊎_elim (λ (lt : x < y). lt) (λ (ge : y ≤ x). let le : front (suc b) y ≤ front (suc b) x = monotone (32 - suc b) x y ge in absurd (omega (arith, more, le)))
-    (cases_lt x y)
+    elim (cases_lt x y) [
+      | inl lt ↦ lt
+      | inr ge ↦ let le : front (suc b) y ≤ front (suc b) x = monotone (32 - suc b) x y ge in absurd (omega (arith, more, le))
+    ]
 
 module _ {V : Type 0} where
   -- ---- what holds of all routes of a tree
@@ -42,31 +42,23 @@ module _ {V : Type 0} where
   chain_is_table key top [] is = tt
   chain_is_table key top (x ∷ c) is = (
     is.0,
-    all_among (λ f. IsTrue (precedes x.entry f)) c
-        (λ y among. (precedes_in_words x.entry y.entry).1 (inr (
-          is.1 ∙ sym (chain_key key x.entry.rank c is.3 y among),
-          chain_below key x.entry.rank c is.3 y
-              among,
-        ))),
+    all_among (λ f. IsTrue (precedes x.entry f)) c (λ y among. (precedes_in_words x.entry y.entry).1 (inr (
+      is.1 ∙ sym (chain_key key x.entry.rank c is.3 y among),
+      chain_below key x.entry.rank c is.3 y among,
+    ))),
     chain_is_table key x.entry.rank c is.3,
   )
 
   joined : (xs ys : List (Entry V)) → IsTable xs → IsTable ys → AllByRecursion (λ e. AllByRecursion (λ f. IsTrue (precedes e f)) ys) xs → IsTable (xs ++ ys)
   joined [] ys left right before = right
-  joined (x ∷ xs) ys left right before = (
-    left.0,
-    all_append (λ f. IsTrue (precedes x f)) xs ys left.1 before.0,
-    joined xs ys left.2 right before.1,
-  )
+  joined (x ∷ xs) ys left right before = (left.0, all_append (λ f. IsTrue (precedes x f)) xs ys left.1 before.0, joined xs ys left.2 right before.1)
 
   -- what is beneath a bit node on the one side precedes what is on the other
   sides_precede : (low b : ℕ) (zero one : Tree V) → IsFork low b zero one → IsTree (b + 1) zero → IsTree (b + 1) one → (x y : Placed V) → IsIn x zero
-      → IsIn y one
-      → IsTrue (precedes x.entry y.entry)
+      → IsIn y one → IsTrue (precedes x.entry y.entry)
   sides_precede low b zero one is zeros ones x y left right =
       (precedes_in_words x.entry y.entry).1 (inl (less b x.entry.key y.entry.key is.within (tree_route (b + 1) zero zeros x left).address
-      (tree_route (b + 1) one ones y right).address
-      (λ c before. let agreed =
+      (tree_route (b + 1) one ones y right).address (λ c before. let agreed =
       is.agree c before in bit_beneath (b + 1) c agreed.0 zero zeros agreed.1 x left ∙ sym (bit_beneath (b + 1) c agreed.0 one ones agreed.2 y right))
       (bit_beneath (b + 1) b 0 zero zeros is.zeros x left) (bit_beneath (b + 1) b 1 one ones is.ones y right)))
 

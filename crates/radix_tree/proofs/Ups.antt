@@ -1,9 +1,8 @@
 -- A walk up a tree from the leaf of an address, in search of its best route.
-use Rattle.std.proofs.Common.{◌≡◌, ℕ, ◌+◌, ◌-◌, ◌*◌, ◌≤◌, ◌∷◌, Option, Some, None, subst, arith}
-use Rattle.radix_tree.proofs.Words.{Counter, Id, Reads, Part, Tells, Best, In, LedTo, IsAmong, IsTree, Lodged}
-use Rattle.radix_tree.proofs.Climbs.{Over, fork_over}
-use Rattle.radix_tree.proofs.Parts.{fork_is, among_leaf, in_leaf, side_of, way_best}
-use Rattle.radix_tree.proofs.Searching.{listed_hit, listed_miss}
+use Rattle.radix_tree.proofs.Words.{◌≡◌, ℕ, ◌+◌, ◌-◌, ◌*◌, ◌≤◌, ◌∷◌, Option, Some, None, subst, arith, Counter, Id, Reads, Part, Tells, Best, In, LedTo}
+use Rattle.radix_tree.proofs.Words.{IsAmong, IsTree, Lodged}
+use Rattle.radix_tree.proofs.{Climbs.Over, Climbs.fork_over, Parts.fork_is, Parts.among_leaf, Parts.in_leaf, Parts.side_of, Parts.way_best}
+use Rattle.radix_tree.proofs.{Searching.listed_hit, Searching.listed_miss}
 
 module _ {V : Type 0} {m : Lodged V} where
   -- all beneath a part was searched in vain

@@ -1,23 +1,17 @@
 -- A value in a room changes, and with it the route that stands there.
-use Rattle.std.proofs.Common.{◌≡◌, ℕ, ◌+◌, ◌≤◌, ◌==◌, Bool, true, false, IsTrue, if◌then◌else◌, List, [], ◌∷◌, ◌++◌, map, Option, Some, None, is_some, refl}
-use Rattle.std.proofs.Common.{sym, ap, ◌∙◌, subst, ⊎_elim, arith}
-use Rattle.std.proofs.lemmas.Bool.{eqb-true, eq-eqb}
-use Rattle.std.proofs.lemmas.List.{append_assoc}
 use Rattle.radix_nodes.proofs.Callers.{put_value-is, get-put_room}
-use Rattle.radix_tree.proofs.Words.{AllByRecursion, get, keys, Ptr, Seen, Has, seen, put_value, leaf_of, bit_node_of, mask_node_of, Id, Node, precedes, IsTable}
-use Rattle.radix_tree.proofs.Words.{with_entry, Placed, Tree, leaf, fork, IsAmong, IsIn, routes_of, LeafPart, BitPart, Bits, Heads, Masks, leaf_in, bit_in}
-use Rattle.radix_tree.proofs.Words.{head_in, mask_in, bit_part, mask_part, leaves_in, bits_in, heads_in, masks_in, Stands, Lists, one_if, members_at, leaves_at}
+use Rattle.radix_tree.proofs.Words.{◌≡◌, ℕ, ◌+◌, ◌≤◌, ◌==◌, Bool, true, false, IsTrue, if◌then◌else◌, List, [], ◌∷◌, ◌++◌, map, Option, Some, None}
+use Rattle.radix_tree.proofs.Words.{is_some, refl, inl, inr, sym, ap, ◌∙◌, subst, arith, eqb-true, eq-eqb, append_assoc, AllByRecursion, get, keys, Ptr}
+use Rattle.radix_tree.proofs.Words.{Seen, Has, seen, put_value, leaf_of, bit_node_of, mask_node_of, Id, Node, precedes, IsTable, with_entry, Placed, Tree}
+use Rattle.radix_tree.proofs.Words.{leaf, fork, IsAmong, IsIn, routes_of, LeafPart, BitPart, Bits, Heads, Masks, leaf_in, bit_in, head_in, mask_in}
+use Rattle.radix_tree.proofs.Words.{bit_part, mask_part, leaves_in, bits_in, heads_in, masks_in, Stands, Lists, one_if, members_at, leaves_at}
 use Rattle.radix_tree.proofs.Words.{HaveOneFork, shown, IsWhole, KeepsBits, KeepsHeads, KeepsMasks, Entry, of_rank, AreCounted, Tells, Finds, HasPair, In}
 use Rattle.radix_tree.proofs.Words.{Lodged}
-use Rattle.radix_tree.proofs.Counted.{of_rank-cons, of_rank-append}
-use Rattle.radix_tree.proofs.Numbers.{insert_keys}
-use Rattle.radix_tree.proofs.OrderLemmas.{own_pair}
-use Rattle.radix_tree.proofs.TableLemmas.{with_parts, with_later}
-use Rattle.radix_tree.proofs.TableLemmas.With.{later, same, sooner}
-use Rattle.radix_tree.proofs.TreeOrder.{tree_is_table}
-use Rattle.radix_tree.proofs.Showing.{shown_is}
 use Rattle.radix_tree.proofs.ValuedTrees.{true_false, pointwise, valued, all_valued, tree_valued, name_valued, tree_is_valued, put, stands_valued}
 use Rattle.radix_tree.proofs.ValuedTrees.{leaves_valued, forks_valued, spare_valued, in_valued, home_valued, lists_valued}
+use Rattle.radix_tree.proofs.{Counted.of_rank-cons, Counted.of_rank-append, Numbers.insert_keys, OrderLemmas.own_pair, TableLemmas.with_parts}
+use Rattle.radix_tree.proofs.{TableLemmas.with_later, TableLemmas.With.later, TableLemmas.With.same, TableLemmas.With.sooner, TreeOrder.tree_is_table}
+use Rattle.radix_tree.proofs.{Showing.shown_is}
 
 module _ {V : Type 0} (n : ℕ) (value : V) where
   -- ---- its routes
@@ -59,74 +53,74 @@ module _ {V : Type 0} (n : ℕ) (value : V) where
 
   counted_among : (x : Placed V) (c : List (Placed V)) → x.room.number ≡ n → IsAmong x c → 1 ≤ members_at n c
   counted_among x [] is among = absurd among
-  counted_among x (y ∷ c) is among = ⊎_elim
-      (λ (e : y ≡ x). let here : one_if (y.room.number == n) ≡ 1 =
-      ap (λ (b : Bool). one_if b) (eq-eqb y.room.number n (ap (λ (p : Placed V). p.room.number) e ∙ is)) in omega (arith, here))
-      (λ (rest : IsAmong x c). let more : 1 ≤ members_at n c = counted_among x c is rest in omega (arith, more)) among
+  counted_among x (y ∷ c) is among = elim among [
+    | inl e ↦ let here : one_if (y.room.number == n) ≡ 1 =
+        ap (λ (b : Bool). one_if b) (eq-eqb y.room.number n (ap (λ (p : Placed V). p.room.number) e ∙ is)) in omega (arith, here)
+    | inr rest ↦ let more : 1 ≤ members_at n c = counted_among x c is rest in omega (arith, more)
+  ]
 
   counted_in : (x : Placed V) (t : Tree V) → x.room.number ≡ n → IsIn x t → 1 ≤ leaves_at n t
   counted_in x (leaf y ys) is at = counted_among x (y ∷ ys) is at
-  counted_in x (fork room b zero one) is at = ⊎_elim
-      (λ (left : IsIn x zero). let some : 1 ≤ leaves_at n zero = counted_in x zero is left in omega (arith, some))
-      (λ (right : IsIn x one). let some : 1 ≤ leaves_at n one = counted_in x one is right in omega (arith, some)) at
+  counted_in x (fork room b zero one) is at = elim at [
+    | inl left ↦ let some : 1 ≤ leaves_at n zero = counted_in x zero is left in omega (arith, some)
+    | inr right ↦ let some : 1 ≤ leaves_at n one = counted_in x one is right in omega (arith, some)
+  ]
 
   chain_put : (x : Placed V) (c : List (Placed V)) → x.room.number ≡ n → IsAmong x c → members_at n c ≤ 1
       → IsPut x.entry (entries_of c) (entries_of (all_valued n value c))
   chain_put x [] is among once = absurd among
-  chain_put x (y ∷ c) is among once = ⊎_elim
-      (λ (e : y ≡ x).
-      let at : (y.room.number == n) ≡ true = eq-eqb y.room.number n (ap (λ (p : Placed V). p.room.number) e ∙ is) in
-      let here : one_if (y.room.number == n) ≡ 1 = ap (λ (b : Bool). one_if b) at in
-      let none : members_at n c ≡ 0 = omega (arith, here, once) in
-      subst (λ (p : Placed V). IsPut p.entry (y.entry ∷ entries_of c) (entries_of (all_valued n value (y ∷ c)))) e (record {
-        front = [];
-        back = entries_of c;
-        was = refl;
-        now = ap (λ (f : Entry V). f ∷ entries_of (all_valued n value c)) (here_is y at)
-            ∙ ap (λ (es : List (Entry V)). record y.entry { value = value } ∷ es) (chain_aside c none);
-      }))
-      (λ (rest : IsAmong x c).
-      let some : 1 ≤ members_at n c = counted_among x c is rest in
-      let here : one_if (y.room.number == n) ≡ 0 = omega (arith, some, once) in
-      let fewer : members_at n c ≤ 1 = omega (arith, once) in
-      let p = chain_put x c is rest fewer in
-      record {
-        front = y.entry ∷ p.front;
-        back = p.back;
-        was = ap (λ (es : List (Entry V)). y.entry ∷ es) p.was;
-        now = ap (λ (f : Entry V). f ∷ entries_of (all_valued n value c)) (apart y (not_one (y.room.number == n) here))
-            ∙ ap (λ (es : List (Entry V)). y.entry ∷ es) p.now;
-      }) among
+  chain_put x (y ∷ c) is among once = elim among [
+    | inl e ↦ let at : (y.room.number == n) ≡ true = eq-eqb y.room.number n (ap (λ (p : Placed V). p.room.number) e ∙ is) in
+        let here : one_if (y.room.number == n) ≡ 1 = ap (λ (b : Bool). one_if b) at in
+        let none : members_at n c ≡ 0 = omega (arith, here, once) in
+        subst (λ (p : Placed V). IsPut p.entry (y.entry ∷ entries_of c) (entries_of (all_valued n value (y ∷ c)))) e (record {
+          front = [];
+          back = entries_of c;
+          was = refl;
+          now = ap (λ (f : Entry V). f ∷ entries_of (all_valued n value c)) (here_is y at)
+              ∙ ap (λ (es : List (Entry V)). record y.entry { value = value } ∷ es) (chain_aside c none);
+        })
+    | inr rest ↦ let some : 1 ≤ members_at n c = counted_among x c is rest in
+        let here : one_if (y.room.number == n) ≡ 0 = omega (arith, some, once) in
+        let fewer : members_at n c ≤ 1 = omega (arith, once) in
+        let p = chain_put x c is rest fewer in
+        record {
+          front = y.entry ∷ p.front;
+          back = p.back;
+          was = ap (λ (es : List (Entry V)). y.entry ∷ es) p.was;
+          now = ap (λ (f : Entry V). f ∷ entries_of (all_valued n value c)) (apart y (not_one (y.room.number == n) here))
+              ∙ ap (λ (es : List (Entry V)). y.entry ∷ es) p.now;
+        }
+  ]
 
   tree_put : (x : Placed V) (t : Tree V) → x.room.number ≡ n → IsIn x t → leaves_at n t ≤ 1 → IsPut x.entry (routes_of t) (routes_of (tree_valued n value t))
   tree_put x (leaf y ys) is at once = chain_put x (y ∷ ys) is at once
-  tree_put x (fork room b zero one) is at once = ⊎_elim
-      (λ (left : IsIn x zero).
-      let some : 1 ≤ leaves_at n zero = counted_in x zero is left in
-      let none : leaves_at n one ≡ 0 = omega (arith, some, once) in
-      let fewer : leaves_at n zero ≤ 1 = omega (arith, once) in
-      let p = tree_put x zero is left fewer in
-      record {
-        front = p.front;
-        back = p.back ++ routes_of one;
-        was = ap (λ (es : List (Entry V)). es ++ routes_of one) p.was ∙ append_assoc p.front (x.entry ∷ p.back) (routes_of one);
-        now = ap (λ (es : List (Entry V)). es ++ routes_of (tree_valued n value one)) p.now
-            ∙ ap (λ (es : List (Entry V)). (p.front ++ record x.entry { value = value } ∷ p.back) ++ es) (tree_aside one none)
-            ∙ append_assoc p.front (record x.entry { value = value } ∷ p.back) (routes_of one);
-      })
-      (λ (right : IsIn x one).
-      let some : 1 ≤ leaves_at n one = counted_in x one is right in
-      let none : leaves_at n zero ≡ 0 = omega (arith, some, once) in
-      let fewer : leaves_at n one ≤ 1 = omega (arith, once) in
-      let p = tree_put x one is right fewer in
-      record {
-        front = routes_of zero ++ p.front;
-        back = p.back;
-        was = ap (λ (es : List (Entry V)). routes_of zero ++ es) p.was ∙ sym (append_assoc (routes_of zero) p.front (x.entry ∷ p.back));
-        now = ap (λ (es : List (Entry V)). es ++ routes_of (tree_valued n value one)) (tree_aside zero none)
-            ∙ ap (λ (es : List (Entry V)). routes_of zero ++ es) p.now
-            ∙ sym (append_assoc (routes_of zero) p.front (record x.entry { value = value } ∷ p.back));
-      }) at
+  tree_put x (fork room b zero one) is at once = elim at [
+    | inl left ↦ let some : 1 ≤ leaves_at n zero = counted_in x zero is left in
+        let none : leaves_at n one ≡ 0 = omega (arith, some, once) in
+        let fewer : leaves_at n zero ≤ 1 = omega (arith, once) in
+        let p = tree_put x zero is left fewer in
+        record {
+          front = p.front;
+          back = p.back ++ routes_of one;
+          was = ap (λ (es : List (Entry V)). es ++ routes_of one) p.was ∙ append_assoc p.front (x.entry ∷ p.back) (routes_of one);
+          now = ap (λ (es : List (Entry V)). es ++ routes_of (tree_valued n value one)) p.now
+              ∙ ap (λ (es : List (Entry V)). (p.front ++ record x.entry { value = value } ∷ p.back) ++ es) (tree_aside one none)
+              ∙ append_assoc p.front (record x.entry { value = value } ∷ p.back) (routes_of one);
+        }
+    | inr right ↦ let some : 1 ≤ leaves_at n one = counted_in x one is right in
+        let none : leaves_at n zero ≡ 0 = omega (arith, some, once) in
+        let fewer : leaves_at n one ≤ 1 = omega (arith, once) in
+        let p = tree_put x one is right fewer in
+        record {
+          front = routes_of zero ++ p.front;
+          back = p.back;
+          was = ap (λ (es : List (Entry V)). routes_of zero ++ es) p.was ∙ sym (append_assoc (routes_of zero) p.front (x.entry ∷ p.back));
+          now = ap (λ (es : List (Entry V)). es ++ routes_of (tree_valued n value one)) (tree_aside zero none)
+              ∙ ap (λ (es : List (Entry V)). routes_of zero ++ es) p.now
+              ∙ sym (append_assoc (routes_of zero) p.front (record x.entry { value = value } ∷ p.back));
+        }
+  ]
 
   -- in a table that is the entry at its pair
   first_ahead : (P : Entry V → Type 0) (front back : List (Entry V)) (x : Entry V) → AllByRecursion P (front ++ x ∷ back) → P x
@@ -193,14 +187,12 @@ module _ {V : Type 0} where
   valued_whole m new n value root v w = (whole_and_shown m new n value root v w).0
 
   pub valued_shown : (m new : Lodged V) (n : ℕ) (value : V) (root : Node) (v : IsValued m new n value) (w : IsWhole m root) (x : Placed V) → x.room.number ≡ n
-      → IsIn x w.part.tree
-      → shown new (Some root) ≡ with_entry (record x.entry { value = value }) (shown m (Some root))
+      → IsIn x w.part.tree → shown new (Some root) ≡ with_entry (record x.entry { value = value }) (shown m (Some root))
   valued_shown m new n value root v w x is at =
       let once : leaves_at n w.part.tree ≤ 1 = subst (λ (k : ℕ). k ≤ 1) (sym (w.leaves n)) (one_most (is_some (leaves_in m n))) in
       let p = tree_put n value x w.part.tree is at once in
       let table = subst (λ (es : List (Entry V)). IsTable es) p.was (tree_is_table w.part.low w.part.tree w.part.is) in
-      (whole_and_shown m new n value root v w).1
-      ∙ p.now ∙ sym (placed_in n value p.front p.back x.entry table)
+      (whole_and_shown m new n value root v w).1 ∙ p.now ∙ sym (placed_in n value p.front p.back x.entry table)
       ∙ ap (λ (es : List (Entry V)). with_entry (record x.entry { value = value }) es) (sym p.was ∙ sym (shown_is w))
 
   -- ---- a room whose value is written
@@ -214,8 +206,7 @@ module _ {V : Type 0} where
 
     kept : {A : Type 0} (r : Option (Seen V) → A) → r (Some (seen room.block value h.room.links)) ≡ r (Some h.room) → (k : ℕ)
         → r (get (put_value m room value) k) ≡ r (get m k)
-    kept r alike k =
-        ap r (put_get k) ∙ elim (k == room.number) as (λ b. (k == room.number) ≡ b
+    kept r alike k = ap r (put_get k) ∙ elim (k == room.number) as (λ b. (k == room.number) ≡ b
         → r (if b then Some (seen room.block value h.room.links) else get m k) ≡ r (get m k)) [
           | true ↦ λ is. alike ∙ ap r (sym h.at) ∙ ap (λ (j : ℕ). r (get m j)) (sym (eqb-true k room.number is))
           | false ↦ λ is. refl

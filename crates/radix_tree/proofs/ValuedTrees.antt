@@ -1,9 +1,8 @@
 -- A value in a room changes: the tree with it, which the rooms stand for as before.
-use Rattle.std.proofs.Common.{◌≡◌, ℕ, ◌+◌, ◌≤◌, ◌==◌, ◌⊎◌, Bool, true, false, if◌then◌else◌, List, [], ◌∷◌, Option, Some, None, refl, sym, ap, ◌∙◌, subst, inl}
-use Rattle.std.proofs.Common.{inr, ⊎_elim}
-use Rattle.radix_tree.proofs.Words.{Id, Node, Placed, Tree, leaf, fork, bit_at, IsAmong, IsIn, IsChain, HaveBit, IsTree, LeafPart, Leaves, Bits, Heads, Masks}
-use Rattle.radix_tree.proofs.Words.{leaf_part, first_room, name_of, ChainStands, Stands, MasksStand, Falls, IsList, Lists, one_if, members_at, leaves_at}
-use Rattle.radix_tree.proofs.Words.{forks_at, HasHome, AreIdle, HasOneFork, HaveOneFork}
+use Rattle.radix_tree.proofs.Words.{◌≡◌, ℕ, ◌+◌, ◌≤◌, ◌==◌, ◌⊎◌, Bool, true, false, if◌then◌else◌, List, [], ◌∷◌, Option, Some, None, refl, sym, ap, ◌∙◌}
+use Rattle.radix_tree.proofs.Words.{subst, inl, inr, Id, Node, Placed, Tree, leaf, fork, bit_at, IsAmong, IsIn, IsChain, HaveBit, IsTree, LeafPart}
+use Rattle.radix_tree.proofs.Words.{Leaves, Bits, Heads, Masks, leaf_part, first_room, name_of, ChainStands, Stands, MasksStand, Falls, IsList, Lists}
+use Rattle.radix_tree.proofs.Words.{one_if, members_at, leaves_at, forks_at, HasHome, AreIdle, HasOneFork, HaveOneFork}
 
 pub true_false : true ≡ false → ⊥
 true_false e = cc
@@ -98,8 +97,7 @@ module _ {V : Type 0} (n : ℕ) (value : V) where
 
   one_fork_valued : (B : Bits) (c : List (Placed V)) → HasOneFork B c → HasOneFork B (all_valued c)
   one_fork_valued B [] has = tt
-  one_fork_valued B (x ∷ xs) has = ⊎_elim (λ (idle : AreIdle B xs). inl (idle_valued B xs idle))
-      (λ (rest : (B x.room.number ≡ None) × HasOneFork B xs). inr (rest.0, one_fork_valued B xs rest.1)) has
+  one_fork_valued B (x ∷ xs) has = elim has [ inl idle ↦ inl (idle_valued B xs idle) | inr rest ↦ inr (rest.0, one_fork_valued B xs rest.1) ]
 
   pub spare_valued : (B : Bits) (t : Tree V) → HaveOneFork B t → HaveOneFork B (tree_valued t)
   spare_valued B (leaf x xs) have = one_fork_valued B (x ∷ xs) have
@@ -108,30 +106,35 @@ module _ {V : Type 0} (n : ℕ) (value : V) where
   -- ---- what is in it
   among_valued : (x : Placed V) (c : List (Placed V)) → IsAmong x c → IsAmong (valued x) (all_valued c)
   among_valued x [] among = absurd among
-  among_valued x (y ∷ c) among = ⊎_elim (λ (e : y ≡ x). inl (ap (λ (y : Placed V). valued y) e)) (λ (rest : IsAmong x c). inr (among_valued x c rest)) among
+  among_valued x (y ∷ c) among = elim among [ inl e ↦ inl (ap (λ (y : Placed V). valued y) e) | inr rest ↦ inr (among_valued x c rest) ]
 
   pub in_valued : (x : Placed V) (t : Tree V) → IsIn x t → IsIn (valued x) (tree_valued t)
   in_valued x (leaf y ys) at = among_valued x (y ∷ ys) at
-  in_valued x (fork room b zero one) at = ⊎_elim (λ (left : IsIn x zero). inl (in_valued x zero left)) (λ (right : IsIn x one). inr (in_valued x one right)) at
+  in_valued x (fork room b zero one) at = elim at [ inl left ↦ inl (in_valued x zero left) | inr right ↦ inr (in_valued x one right) ]
 
   abbrev Was : (Placed V → Type 0) → Placed V → Type 0
   Was P y = (x : Placed V) × P x × (valued x ≡ y)
 
   among_was : (y : Placed V) (c : List (Placed V)) → IsAmong y (all_valued c) → Was (λ x. IsAmong x c) y
   among_was y [] among = absurd among
-  among_was y (x ∷ c) among =
-      ⊎_elim (λ (e : valued x ≡ y). (x, inl refl, e)) (λ (rest : IsAmong y (all_valued c)). let w = among_was y c rest in (w.0, inr w.1, w.2)) among
+  among_was y (x ∷ c) among = elim among [ inl e ↦ (x, inl refl, e) | inr rest ↦ let w = among_was y c rest in (w.0, inr w.1, w.2) ]
 
   in_was : (y : Placed V) (t : Tree V) → IsIn y (tree_valued t) → Was (λ x. IsIn x t) y
   in_was y (leaf x xs) at = among_was y (x ∷ xs) at
-  in_was y (fork room b zero one) at = ⊎_elim (λ (left : IsIn y (tree_valued zero)). let w = in_was y zero left in (w.0, inl w.1, w.2))
-      (λ (right : IsIn y (tree_valued one)). let w = in_was y one right in (w.0, inr w.1, w.2)) at
+  in_was y (fork room b zero one) at = elim at [
+    | inl left ↦ let w = in_was y zero left in (w.0, inl w.1, w.2)
+    | inr right ↦ let w = in_was y one right in (w.0, inr w.1, w.2)
+  ]
 
   pub home_valued : (key rank : ℕ) (t : Tree V) → HasHome key rank t → HasHome key rank (tree_valued t)
   home_valued key rank (leaf x xs) home = absurd home
-  home_valued key rank (fork room b zero one) home = ⊎_elim (λ (here : rank ≤ b). inl here) (λ further. inr (⊎_elim
-      (λ (left : (bit_at b key ≡ 0) × HasHome key rank zero). inl (left.0, home_valued key rank zero left.1))
-      (λ (right : (bit_at b key ≡ 1) × HasHome key rank one). inr (right.0, home_valued key rank one right.1)) further)) home
+  home_valued key rank (fork room b zero one) home = elim home [
+    | inl here ↦ inl here
+    | inr further ↦ inr (elim further [
+      | inl left ↦ inl (left.0, home_valued key rank zero left.1)
+      | inr right ↦ inr (right.0, home_valued key rank one right.1)
+    ])
+  ]
 
   -- ---- its lists of masks
   masks_stand : (K : Masks) (ms : List (Placed V)) → MasksStand K ms → MasksStand K (all_valued ms)
@@ -158,11 +161,13 @@ module _ {V : Type 0} (n : ℕ) (value : V) where
   }
     where
       side_was : (zero one : Tree V) (y : Placed V) → IsIn y (tree_valued zero) ⊎ IsIn y (tree_valued one) → Was (λ x. IsIn x zero ⊎ IsIn x one) y
-      side_was zero one y at = ⊎_elim (λ (left : IsIn y (tree_valued zero)). let w = in_was y zero left in (w.0, inl w.1, w.2))
-          (λ (right : IsIn y (tree_valued one)). let w = in_was y one right in (w.0, inr w.1, w.2)) at
+      side_was zero one y at = elim at [
+        | inl left ↦ let w = in_was y zero left in (w.0, inl w.1, w.2)
+        | inr right ↦ let w = in_was y one right in (w.0, inr w.1, w.2)
+      ]
 
       side_valued : (zero one : Tree V) (x : Placed V) → IsIn x zero ⊎ IsIn x one → IsIn (valued x) (tree_valued zero) ⊎ IsIn (valued x) (tree_valued one)
-      side_valued zero one x at = ⊎_elim (λ (left : IsIn x zero). inl (in_valued x zero left)) (λ (right : IsIn x one). inr (in_valued x one right)) at
+      side_valued zero one x at = elim at [ inl left ↦ inl (in_valued x zero left) | inr right ↦ inr (in_valued x one right) ]
 
   pub lists_valued : (H : Heads) (K : Masks) (low : ℕ) (t : Tree V) → Lists H K low t → Lists H K low (tree_valued t)
   lists_valued H K low (leaf x xs) lists = tt

@@ -1,20 +1,13 @@
 -- A walk over a tree: what stands behind a part of it, and the first route beneath a part.
-use Rattle.std.proofs.Common.{◌≡◌, ℕ, zero, suc, ◌+◌, ◌-◌, ◌%◌, ◌^◌, ◌≤◌, ◌==◌, Bool, true, false, if◌then◌else◌, List, [], ◌∷◌, ◌++◌, map, Option, Some, None}
-use Rattle.std.proofs.Common.{refl, sym, ap, ◌∙◌, subst, inl, inr, ⊎_elim, arith}
-use Rattle.std.proofs.lemmas.Bool.{eqb-true, eq-eqb}
-use Rattle.std.proofs.lemmas.List.{append_assoc}
 use Rattle.std.proofs.Math.Nat.{zero-div}
-use Rattle.radix_tree.proofs.Words.{Id, Placed, Tree, IsIn, IsTree, routes_of, LeafPart, BitPart, Leaves, Bits, Part, Run, leaves_in, bits_in, leaf_part}
-use Rattle.radix_tree.proofs.Words.{first_room, name_of, ForkAt, LeafAt, Way, LedTo, side_behind, chain_behind, ahead, Under, IsBefore, IsFirst, IsAt}
-use Rattle.radix_tree.proofs.Words.{chain_shown, beneath_shown, Entry, Place, Lodged}
-use Rattle.radix_tree.specs.Tree.{bit_at}
-use Rattle.radix_tree.specs.Walks.{up_behind}
-use Rattle.radix_tree.proofs.AddressBits.{zero_not_one, zero_or_one}
-use Rattle.radix_tree.proofs.RoomReads.{inside}
-use Rattle.radix_tree.proofs.TreeMembers.{bit_beneath}
-use Rattle.radix_tree.proofs.Parts.{fork_is, fork_stands, leaf_run, leaf_begins}
-use Rattle.radix_tree.proofs.Scans.{chain_most}
-use Rattle.radix_tree.proofs.Showing.{beneath_is, chain_is}
+use Rattle.radix_tree.specs.{Tree.bit_at, Walks.up_behind}
+use Rattle.radix_tree.proofs.Words.{◌≡◌, ℕ, zero, suc, ◌+◌, ◌-◌, ◌%◌, ◌^◌, ◌≤◌, ◌==◌, Bool, true, false, if◌then◌else◌, List, [], ◌∷◌, ◌++◌, map, Option}
+use Rattle.radix_tree.proofs.Words.{Some, None, refl, sym, ap, ◌∙◌, subst, inl, inr, arith, eqb-true, eq-eqb, append_assoc, Id, Placed, Tree, IsIn}
+use Rattle.radix_tree.proofs.Words.{IsTree, routes_of, LeafPart, BitPart, Leaves, Bits, Part, Run, leaves_in, bits_in, leaf_part, first_room, name_of}
+use Rattle.radix_tree.proofs.Words.{ForkAt, LeafAt, Way, LedTo, side_behind, chain_behind, ahead, Under, IsBefore, IsFirst, IsAt, chain_shown}
+use Rattle.radix_tree.proofs.Words.{beneath_shown, Entry, Place, Lodged}
+use Rattle.radix_tree.proofs.{AddressBits.zero_not_one, AddressBits.zero_or_one, RoomReads.inside, TreeMembers.bit_beneath, Parts.fork_is}
+use Rattle.radix_tree.proofs.{Parts.fork_stands, Parts.leaf_run, Parts.leaf_begins, Scans.chain_most, Showing.beneath_is, Showing.chain_is}
 
 true_false : true ≡ false → ⊥
 true_false e = cc
@@ -31,8 +24,7 @@ at_one {v = v} x y e = ap (λ (v : ℕ). if v == 1 then x else y) e
 
 -- the side on which a key is, as it was tested
 pub on_zero : (b key : ℕ) {t : Bool} → t ≡ (bit_at b key == 1) → t ≡ false → bit_at b key ≡ 0
-on_zero b key is fails =
-    ⊎_elim (λ (e : bit_at b key ≡ 0). e) (λ (e : bit_at b key ≡ 1). absurd (true_false (sym (eq-eqb (bit_at b key) 1 e) ∙ sym is ∙ fails))) (zero_or_one b key)
+on_zero b key is fails = elim (zero_or_one b key) [ inl e ↦ e | inr e ↦ absurd (true_false (sym (eq-eqb (bit_at b key) 1 e) ∙ sym is ∙ fails)) ]
 
 pub on_one : (b key : ℕ) {t : Bool} → t ≡ (bit_at b key == 1) → t ≡ true → bit_at b key ≡ 1
 on_one b key is holds = eqb-true (bit_at b key) 1 (sym is ∙ holds)
@@ -55,18 +47,20 @@ module _ {V : Type 0} where
 
   pub under_inside : (m : Lodged V) (right : List (Entry V)) (under over : Part m) (u : Under right under over) (x : Placed V) → IsIn x under.tree
       → IsIn x over.tree
-  under_inside m right under over u x at = subst (IsIn x) (sym u.at.is) (⊎_elim
-      (λ (e : (under.tree ≡ u.at.zero) × (right ≡ routes_of u.at.one)). inl (subst (IsIn x) e.0 at))
-      (λ (e : (under.tree ≡ u.at.one) × (right ≡ [])). inr (subst (IsIn x) e.0 at)) u.side)
+  under_inside m right under over u x at = subst (IsIn x) (sym u.at.is) (elim u.side [
+    | inl e ↦ inl (subst (IsIn x) e.0 at)
+    | inr e ↦ inr (subst (IsIn x) e.0 at)
+  ])
 
   one_shown : (m : Lodged V) {over : Part m} (room : Id) (f : ForkAt over room) → beneath_shown 33 (leaves_in m) (bits_in m) (name_of f.one) ≡ routes_of f.one
   one_shown m room f = beneath_is 33 (f.bit + 1) (leaves_in m) (bits_in m) (Some room) f.one (fork_is m f).2 (fork_stands m f).2 (omega arith)
 
   right_is : (m : Lodged V) (right : List (Entry V)) (under over : Part m) (u : Under right under over) (x : Placed V) → IsIn x under.tree
       → (if bit_at u.at.bit x.entry.key == 1 then [] else beneath_shown 33 (leaves_in m) (bits_in m) (name_of u.at.one)) ≡ right
-  right_is m right under over u x at = ⊎_elim
-      (λ (e : (under.tree ≡ u.at.zero) × (right ≡ routes_of u.at.one)). at_zero [] _ (side_zero m u.at x e.0 at) ∙ one_shown m u.room u.at ∙ sym e.1)
-      (λ (e : (under.tree ≡ u.at.one) × (right ≡ [])). at_one [] _ (side_one m u.at x e.0 at) ∙ sym e.1) u.side
+  right_is m right under over u x at = elim u.side [
+    | inl e ↦ at_zero [] _ (side_zero m u.at x e.0 at) ∙ one_shown m u.room u.at ∙ sym e.1
+    | inr e ↦ at_one [] _ (side_one m u.at x e.0 at) ∙ sym e.1
+  ]
 
   -- the bit node above a part
   up_from : (m : Lodged V) (n : ℕ) (key : ℕ) {over : Part m} {room : Id} (f : ForkAt over room) → up_behind (suc n) (leaves_in m) (bits_in m) key (Some room)
@@ -82,8 +76,7 @@ module _ {V : Type 0} where
   up_none n key L B = refl
 
   pub up_is : (m : Lodged V) (n : ℕ) (whole at : Part m) (behind : List (Entry V)) (ups : List (Part m)) (x : Placed V) → IsIn x at.tree
-      → IsBefore whole at behind ups → whole.above ≡ None → at.low ≤ n
-      → up_behind (suc n) (leaves_in m) (bits_in m) x.entry.key at.above ≡ behind
+      → IsBefore whole at behind ups → whole.above ≡ None → at.low ≤ n → up_behind (suc n) (leaves_in m) (bits_in m) x.entry.key at.above ≡ behind
   up_is m n whole at behind [] x inside before top low =
       ap (λ (a : Option Id). up_behind (suc n) (leaves_in m) (bits_in m) x.entry.key a) (ap (λ (p : Part m). p.above) before.0 ∙ top)
       ∙ up_none n x.entry.key (leaves_in m) (bits_in m) ∙ sym before.1
@@ -93,12 +86,10 @@ module _ {V : Type 0} where
       let u = before.2 in
       let past : at.low ≡ u.at.bit + 1 = u.low in
       let rises : over.low ≤ u.at.bit = (fork_is m u.at).0.rises in
-      ap (λ (a : Option Id). up_behind (suc (suc n)) (leaves_in m) (bits_in m) x.entry.key a) u.above
-      ∙ up_from m (suc n) x.entry.key u.at
+      ap (λ (a : Option Id). up_behind (suc (suc n)) (leaves_in m) (bits_in m) x.entry.key a) u.above ∙ up_from m (suc n) x.entry.key u.at
       ∙ ap (λ (es : List (Entry V)). es ++ up_behind (suc n) (leaves_in m) (bits_in m) x.entry.key over.above) (right_is m before.0 at over u x inside)
       ∙ ap (λ (es : List (Entry V)). before.0 ++ es) (up_is m n whole over before.1 ups x (under_inside m before.0 at over u x inside) before.3 top
-      (omega (arith, past, rises, low)))
-      ∙ sym before.4
+      (omega (arith, past, rises, low))) ∙ sym before.4
 
   -- ---- the first route beneath a part
   record Lowest (m : Lodged V) (whole sub at : Part m) (behind : List (Entry V)) : Type 0 where
@@ -119,14 +110,12 @@ module _ {V : Type 0} where
       let r = lowest m whole sub over us behind vs way.1 before in
       let b = way.0 in
       let f = b.at in
-      let left : at.tree ≡ f.zero = ⊎_elim (λ (e : (at.tree ≡ f.zero) × (bit_at f.bit 0 ≡ 0)). e.0)
-      (λ (e : (at.tree ≡ f.one) × (bit_at f.bit 0 ≡ 1)). absurd (zero_not_one (zero_bit f.bit) e.1)) b.side in
+      let left : at.tree ≡ f.zero = elim b.side [ inl e ↦ e.0 | inr e ↦ absurd (zero_not_one (zero_bit f.bit) e.1) ] in
       record {
         later = routes_of f.one ++ r.later;
         ups = over ∷ r.ups;
         before = (routes_of f.one, r.later, record { room = b.room; at = f; above = b.above; low = b.low; side = inl (left, refl) }, r.before, refl);
-        same = ap (λ (t : Tree V). routes_of t ++ (routes_of f.one ++ r.later)) left
-            ∙ sym (append_assoc (routes_of f.zero) (routes_of f.one) r.later)
+        same = ap (λ (t : Tree V). routes_of t ++ (routes_of f.one ++ r.later)) left ∙ sym (append_assoc (routes_of f.zero) (routes_of f.one) r.later)
             ∙ ap (λ (t : Tree V). routes_of t ++ r.later) (sym f.is) ∙ r.same;
       }
 
@@ -143,8 +132,7 @@ module _ {V : Type 0} where
 
   pub first_behind : (m : Lodged V) {key : ℕ} {first : Id} (f : IsFirst m key first)
       → chain_behind (leaves_in m) (bits_in m) (leaves_in m first.number) ≡ f.behind
-  first_behind m f =
-      ap (λ (o : Option (LeafPart V)). chain_behind (leaves_in m) (bits_in m) o) (first_said m f.leaf)
+  first_behind m f = ap (λ (o : Option (LeafPart V)). chain_behind (leaves_in m) (bits_in m) o) (first_said m f.leaf)
       ∙ up_is m 32 f.whole f.part f.behind f.ups f.leaf.first (first_in m f.leaf) f.before f.top (leaf_low m f.leaf)
 
   pub run_shown : (m : Lodged V) (r : Run m) → chain_shown 34 (leaves_in m) (first_room r.members) ≡ map (λ (p : Placed V). p.entry) r.members
@@ -166,6 +154,5 @@ module _ {V : Type 0} where
         on = record { key = l.leaf.first.entry.key; first = first; run = run; begins = leaf_begins m l.leaf; of_key = refl };
         rest = ap (λ (es : List (Entry V)). chain_shown 34 (leaves_in m) (Some room) ++ es) (first_behind m first)
             ∙ ap (λ (es : List (Entry V)). es ++ r.later) (ap (λ (o : Option Id). chain_shown 34 (leaves_in m) o) (sym (leaf_begins m l.leaf)) ∙ run_shown m run
-            ∙ ap (λ (t : Tree V). routes_of t) (sym l.leaf.is))
-            ∙ r.same;
+            ∙ ap (λ (t : Tree V). routes_of t) (sym l.leaf.is)) ∙ r.same;
       }

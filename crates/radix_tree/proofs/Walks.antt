@@ -1,13 +1,13 @@
 -- A walk over a tree: where the next route is, within a chain and on the way up.
-use Rattle.std.proofs.Common.{◌≡◌, ℕ, ◌+◌, ◌≤◌, ◌⊎◌, List, [], ◌∷◌, ◌++◌, map, Option, Some, None, refl, sym, ap, ◌∙◌, subst, inr, ⊎_elim, arith}
-use Rattle.radix_tree.proofs.Words.{Has, leaf_of, bit_node_of, Id, BitNode, Leaf, Links, levels, Placed, fork, IsIn, IsChain, routes_of, LeafPart, Part, Run}
+use Rattle.radix_tree.specs.Tree.{bit_at}
+use Rattle.radix_tree.proofs.Words.{◌≡◌, ℕ, ◌+◌, ◌≤◌, ◌⊎◌, List, [], ◌∷◌, ◌++◌, map, Option, Some, None, refl, sym, ap, ◌∙◌, subst, inr, arith, inl, Has}
+use Rattle.radix_tree.proofs.Words.{leaf_of, bit_node_of, Id, BitNode, Leaf, Links, levels, Placed, fork, IsIn, IsChain, routes_of, LeafPart, Part, Run}
 use Rattle.radix_tree.proofs.Words.{leaves_in, bits_in, leaf_part, first_room, name_of, ChainStands, ForkAt, LedTo, chain_behind, ahead, Under, IsBefore}
 use Rattle.radix_tree.proofs.Words.{IsFirst, IsAt, IsOn, chain_shown, chain_from, Entry, Place, Lodged}
-use Rattle.radix_tree.specs.Tree.{bit_at}
-use Rattle.radix_tree.proofs.AddressBits.{zero_not_one}
 use Rattle.radix_tree.proofs.RoomReads.{inside, none_some, AreLinks, bit_read, bit_used, Has-leaf, leaf_read}
-use Rattle.radix_tree.proofs.Parts.{fork_is, fork_stands, Has-fork, one_part}
-use Rattle.radix_tree.proofs.WalkStarts.{beside, side_zero, side_one, under_inside, first_in, leaf_low, first_said, first_behind, run_shown, Begins, first_on}
+use Rattle.radix_tree.proofs.WalkStarts.{beside, side_zero, side_one, under_inside, first_in, leaf_low, first_said, first_behind, run_shown, Begins}
+use Rattle.radix_tree.proofs.WalkStarts.{first_on}
+use Rattle.radix_tree.proofs.{AddressBits.zero_not_one, Parts.fork_is, Parts.fork_stands, Parts.Has-fork, Parts.one_part}
 
 module _ {V : Type 0} where
   -- ---- within a chain
@@ -62,8 +62,7 @@ module _ {V : Type 0} where
 
   followed : (m : Lodged V) (place : Place) (a : IsAt m place) (h : IsHere m place a) (next : Option Place)
       → map (λ (p : Placed V). p.entry) h.rest ++ behind_of m place.first ≡ ahead (leaves_in m) (bits_in m) next → FollowedBy m place next
-  followed m place a h next rest =
-      chain_rest m place a h ∙ ap (λ (es : List (Entry V)). h.route.entry ∷ es) rest
+  followed m place a h next rest = chain_rest m place a h ∙ ap (λ (es : List (Entry V)). h.route.entry ∷ es) rest
       ∙ ap (λ (o : Option (LeafPart V)). chain_from o (λ _. ahead (leaves_in m) (bits_in m) next)) (sym h.said)
 
   pub record Follows (m : Lodged V) (place : Place) (next : Option Place) : Type 0 where
@@ -83,13 +82,11 @@ module _ {V : Type 0} where
         above = None;
         previous = Some h.route.room;
         is = h.chain.3;
-        stands =
-            h.stands.1;
+        stands = h.stands.1;
       } in
       record {
         on = record { key = a.key; first = a.first; run = run; begins = begins; of_key = a.of_key };
-        rest =
-            followed m place a h (Some (beside place next)) (ap (λ (es : List (Entry V)). es ++ behind_of m place.first)
+        rest = followed m place a h (Some (beside place next)) (ap (λ (es : List (Entry V)). es ++ behind_of m place.first)
             (sym (run_shown m run) ∙ ap (λ (o : Option Id). chain_shown 34 (leaves_in m) o) begins));
       }
 
@@ -98,8 +95,7 @@ module _ {V : Type 0} where
   no_more (x ∷ xs) es none = absurd (none_some (sym none))
 
   pub last_of : {m : Lodged V} (place : Place) (a : IsAt m place) (links : Links) {l : Leaf} (next : Option Place) → AreLinks m place.room links
-      → l ≡ leaf_of links → l.next ≡ None
-      → ahead (leaves_in m) (bits_in m) next ≡ behind_of m place.first → FollowedBy m place next
+      → l ≡ leaf_of links → l.next ≡ None → ahead (leaves_in m) (bits_in m) next ≡ behind_of m place.first → FollowedBy m place next
   last_of {m = m} place a links {l = l} next are is none rest =
       let h = here m a in
       followed m place a h next (no_more h.rest (behind_of m place.first) (sym (ap (λ (l : Leaf). l.next) (here_read m a links are is)) ∙ none) ∙ sym rest)
@@ -224,9 +220,10 @@ module _ {V : Type 0} where
         within = omega (arith, bit, within);
         few = omega (arith, few, low);
         up = λ one.
-            let nothing : o.right ≡ [] = ⊎_elim
-            (λ (e : (c.part.tree ≡ f.zero) × (o.right ≡ routes_of f.one)). absurd (zero_not_one (side_zero m f c.route e.0 c.inside) (sym key_bit ∙ one)))
-            (λ (e : (c.part.tree ≡ f.one) × (o.right ≡ [])). e.1) o.side in
+            let nothing : o.right ≡ [] = elim o.side [
+              | inl e ↦ absurd (zero_not_one (side_zero m f c.route e.0 c.inside) (sym key_bit ∙ one))
+              | inr e ↦ e.1
+            ] in
             record {
               whole = c.whole;
               top = c.top;
@@ -244,9 +241,10 @@ module _ {V : Type 0} where
         named = (one_part m f, sym same.one);
         turn = λ zero_bit_is room led.
             let sub = one_part m f in
-            let right : o.right ≡ routes_of f.one = ⊎_elim
-            (λ (e : (c.part.tree ≡ f.zero) × (o.right ≡ routes_of f.one)). e.1)
-            (λ (e : (c.part.tree ≡ f.one) × (o.right ≡ [])). absurd (zero_not_one (sym key_bit ∙ zero_bit_is) (side_one m f c.route e.0 c.inside))) o.side in
+            let right : o.right ≡ routes_of f.one = elim o.side [
+              | inl e ↦ e.1
+              | inr e ↦ absurd (zero_not_one (sym key_bit ∙ zero_bit_is) (side_one m f c.route e.0 c.inside))
+            ] in
             let b = first_on m c.whole sub o.later (o.over ∷ o.ups) c.top (led sub (sym same.one))
             ([], o.later, record { room = up; at = f; above = refl; low = refl; side = inr (refl, refl) }, o.before, refl) in
             record { on = b.on; rest = b.rest ∙ ap (λ (es : List (Entry V)). es ++ o.later) (sym right) ∙ sym o.is ∙ c.same };

@@ -1,10 +1,8 @@
 -- The ways to parts of a tree.
-use Rattle.std.proofs.Common.{◌≡◌, ℕ, ◌+◌, ◌≤◌, ◌⊎◌, ◌==◌, true, false, List, [], ◌∷◌, refl, sym, subst, inl, inr, ⊎_elim, arith}
-use Rattle.std.proofs.lemmas.Bool.{eqb-true}
-use Rattle.radix_tree.proofs.Words.{Id, Placed, Tree, leaf, fork, IsIn, Part, ForkAt, LeafAt, Way, one_if, forks_at, Lodged}
-use Rattle.radix_tree.proofs.TreeMembers.{bit_beneath}
-use Rattle.radix_tree.proofs.Parts.{fork_is, zero_part, one_part, zero_beneath, one_beneath}
-use Rattle.radix_tree.proofs.Exchanging.{one_of}
+use Rattle.radix_tree.proofs.Words.{◌≡◌, ℕ, ◌+◌, ◌≤◌, ◌⊎◌, ◌==◌, true, false, List, [], ◌∷◌, refl, sym, subst, inl, inr, arith, eqb-true, Id, Placed}
+use Rattle.radix_tree.proofs.Words.{Tree, leaf, fork, IsIn, Part, ForkAt, LeafAt, Way, one_if, forks_at, Lodged}
+use Rattle.radix_tree.proofs.{TreeMembers.bit_beneath, Parts.fork_is, Parts.zero_part, Parts.one_part, Parts.zero_beneath, Parts.one_beneath}
+use Rattle.radix_tree.proofs.{Exchanging.one_of}
 
 module _ {V : Type 0} where
   -- ---- the ways to parts
@@ -30,12 +28,12 @@ module _ {V : Type 0} where
   leaf_down m whole y at ups (fork room b zero one) is way there =
       let f : ForkAt at room = record { bit = b; zero = zero; one = one; is = is } in
       let tree = fork_is m f in
-      ⊎_elim
-      (λ (z : IsIn y zero). leaf_down m whole y (zero_part m f) (at ∷ ups) zero refl
-      (zero_beneath m y.entry.key room f (bit_beneath (b + 1) b 0 zero tree.1 tree.0.zeros y z), way) z)
-      (λ (o : IsIn y one). leaf_down m whole y (one_part m f) (at ∷ ups) one refl
-      (one_beneath m y.entry.key room f (bit_beneath (b + 1) b 1 one tree.2 tree.0.ones y o), way) o)
-      there
+      elim there [
+        | inl z ↦ leaf_down m whole y (zero_part m f) (at ∷ ups) zero refl
+            (zero_beneath m y.entry.key room f (bit_beneath (b + 1) b 0 zero tree.1 tree.0.zeros y z), way) z
+        | inr o ↦ leaf_down m whole y (one_part m f) (at ∷ ups) one refl
+            (one_beneath m y.entry.key room f (bit_beneath (b + 1) b 1 one tree.2 tree.0.ones y o), way) o
+      ]
 
   pub way_to_leaf : (m : Lodged V) (whole : Part m) (y : Placed V) → IsIn y whole.tree → FoundLeaf m whole y
   way_to_leaf m whole y is = leaf_down m whole y whole [] whole.tree refl refl is
@@ -57,9 +55,10 @@ module _ {V : Type 0} where
 
   over_in : (n : ℕ) (y : Placed V) (t : Tree V) → HasOver n y t → IsIn y t
   over_in n y (leaf x xs) o = absurd o
-  over_in n y (fork room b zero one) o = ⊎_elim (λ (h : (room.number ≡ n) × IsIn y zero). inl h.1)
-      (λ (s : HasOver n y zero ⊎ HasOver n y one). ⊎_elim (λ (z : HasOver n y zero). inl (over_in n y zero z))
-      (λ (u : HasOver n y one). inr (over_in n y one u)) s) o
+  over_in n y (fork room b zero one) o = elim o [
+    | inl h ↦ inl h.1
+    | inr s ↦ elim s [ inl z ↦ inl (over_in n y zero z) | inr u ↦ inr (over_in n y one u) ]
+  ]
 
   some_route : (t : Tree V) → (y : Placed V) × IsIn y t
   some_route (leaf x xs) = (x, inl refl)
@@ -71,10 +70,10 @@ module _ {V : Type 0} where
       elim (room.number == n) as (λ t. (room.number == n) ≡ t → 1 ≤ one_if t + (forks_at n zero + forks_at n one)
       → (y : Placed V) × HasOver n y (fork room b zero one)) [
         | true ↦ λ e sum. let y = some_route zero in (y.0, inl (eqb-true room.number n e, y.1))
-        | false ↦ λ e sum. ⊎_elim
-            (λ (lt : 1 ≤ forks_at n zero). let y = some_over n zero lt in (y.0, inr (inl y.1)))
-            (λ (le : 1 ≤ forks_at n one). let y = some_over n one le in (y.0, inr (inr y.1)))
-            (one_of (forks_at n zero) (forks_at n one) (omega arith))
+        | false ↦ λ e sum. elim (one_of (forks_at n zero) (forks_at n one) (omega arith)) [
+          | inl lt ↦ let y = some_over n zero lt in (y.0, inr (inl y.1))
+          | inr le ↦ let y = some_over n one le in (y.0, inr (inr y.1))
+        ]
       ] refl some
 
   fork_down : (m : Lodged V) (whole : Part m) (n : ℕ) (y : Placed V) (at : Part m) (ups : List (Part m)) (t : Tree V) → at.tree ≡ t
@@ -83,15 +82,15 @@ module _ {V : Type 0} where
   fork_down m whole n y at ups (fork room b zero one) is way o =
       let f : ForkAt at room = record { bit = b; zero = zero; one = one; is = is } in
       let tree = fork_is m f in
-      ⊎_elim
-      (λ (h : (room.number ≡ n) × IsIn y zero). record { key = y.entry.key; part = at; room = room; at = f; number = h.0; ups = ups; way = way })
-      (λ (s : HasOver n y zero ⊎ HasOver n y one). ⊎_elim
-      (λ (z : HasOver n y zero). fork_down m whole n y (zero_part m f) (at ∷ ups) zero refl
-      (zero_beneath m y.entry.key room f (bit_beneath (b + 1) b 0 zero tree.1 tree.0.zeros y (over_in n y zero z)), way) z)
-      (λ (u : HasOver n y one). fork_down m whole n y (one_part m f) (at ∷ ups) one refl
-      (one_beneath m y.entry.key room f (bit_beneath (b + 1) b 1 one tree.2 tree.0.ones y (over_in n y one u)), way) u)
-      s)
-      o
+      elim o [
+        | inl h ↦ record { key = y.entry.key; part = at; room = room; at = f; number = h.0; ups = ups; way = way }
+        | inr s ↦ elim s [
+          | inl z ↦ fork_down m whole n y (zero_part m f) (at ∷ ups) zero refl
+              (zero_beneath m y.entry.key room f (bit_beneath (b + 1) b 0 zero tree.1 tree.0.zeros y (over_in n y zero z)), way) z
+          | inr u ↦ fork_down m whole n y (one_part m f) (at ∷ ups) one refl
+              (one_beneath m y.entry.key room f (bit_beneath (b + 1) b 1 one tree.2 tree.0.ones y (over_in n y one u)), way) u
+        ]
+      ]
 
   pub way_to_fork : (m : Lodged V) (whole : Part m) (n : ℕ) → 1 ≤ forks_at n whole.tree → FoundFork m whole n
   way_to_fork m whole n some = let y = some_over n whole.tree some in fork_down m whole n y.0 whole [] whole.tree refl refl y.1

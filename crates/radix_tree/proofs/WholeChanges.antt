@@ -1,13 +1,12 @@
 -- A part of a table's tree is exchanged for another, and so the table's rooms as a whole change.
-use Rattle.std.proofs.Common.{◌≡◌, ℕ, ◌+◌, ◌<◌, ◌≤◌, ◌⊎◌, Bool, true, List, [], ◌∷◌, Option, Some, None, sym, ap, ◌∙◌, subst, inl, inr, ⊎_elim, arith}
+use Rattle.radix_tree.proofs.Words.{◌≡◌, ℕ, ◌+◌, ◌<◌, ◌≤◌, ◌⊎◌, Bool, true, List, [], ◌∷◌, Option, Some, None, sym, ap, ◌∙◌, subst, inl, inr, arith}
 use Rattle.radix_tree.proofs.Words.{is_some, Node, Placed, Tree, IsIn, IsTree, MaskPart, Part, leaves_in, bits_in, heads_in, masks_in, one_if, leaves_at}
-use Rattle.radix_tree.proofs.Words.{forks_at, HasHome, HaveOneFork, Frame, on_zero, on_one, plug, low_past, Lead, Exchanged, IsMarked, MarkedLists, IsWholeBut}
-use Rattle.radix_tree.proofs.Words.{Lodged}
-use Rattle.radix_tree.proofs.TreeMembers.{bit_beneath}
+use Rattle.radix_tree.proofs.Words.{forks_at, HasHome, HaveOneFork, Frame, on_zero, on_one, plug, low_past, Lead, Exchanged, IsMarked, MarkedLists}
+use Rattle.radix_tree.proofs.Words.{IsWholeBut, Lodged}
 use Rattle.radix_tree.proofs.Plugs.{Aside, plug_leaves, plug_forks, plug_in, aside_in, in_plug, aside_at, spare_at, spare_plug, home_plug, plug_home}
 use Rattle.radix_tree.proofs.Plugs.{aside_home}
-use Rattle.radix_tree.proofs.PlugLists.{marked_same, plug_lists, KeepsAbove}
-use Rattle.radix_tree.proofs.WholeParts.{some_of, once_but, Fits}
+use Rattle.radix_tree.proofs.{TreeMembers.bit_beneath, PlugLists.marked_same, PlugLists.plug_lists, PlugLists.KeepsAbove, WholeParts.some_of}
+use Rattle.radix_tree.proofs.{WholeParts.once_but, WholeParts.Fits}
 
 module _ {V : Type 0} where
   -- ---- an exchange
@@ -23,8 +22,7 @@ module _ {V : Type 0} where
       let some : 1 ≤ leaves_at y.room.number w.part.tree = omega arith in (none, some)
 
   pub spare_changed : (m new : Lodged V) {root name : Node} {late : ℕ → Bool} {out : ℕ → ℕ} {key : ℕ} (w : IsWholeBut m root late out) {at : Part m}
-      {under : Part new} (e : Exchanged m new key w.part at under name)
-      → (HaveOneFork (bits_in m) at.tree → HaveOneFork (bits_in new) under.tree)
+      {under : Part new} (e : Exchanged m new key w.part at under name) → (HaveOneFork (bits_in m) at.tree → HaveOneFork (bits_in new) under.tree)
       → ((n : ℕ) → leaves_at n at.tree ≡ 0 → 1 ≤ leaves_at n w.part.tree → bits_in m n ≡ None → bits_in new n ≡ None)
       → HaveOneFork (bits_in new) e.part.tree
   spare_changed m new w {at = at} {under = under} e own idle =
@@ -99,13 +97,10 @@ module _ {V : Type 0} where
   lists_changed : (m new : Lodged V) {root name : Node} (late later : ℕ → Bool) (out outs : ℕ → ℕ) {key : ℕ} (w : IsWholeBut m root late out) (at : Part m)
       (under : Part new) (e : Exchanged m new key w.part at under name) → Fits m new w.part at under late later out outs
       → MarkedLists (heads_in new) (masks_in new) e.part.low e.part.tree
-  lists_changed m new late later out outs w at under e f =
-      subst (λ (n : ℕ). MarkedLists (heads_in new) (masks_in new) n e.part.tree) (sym e.low)
-      (subst (MarkedLists (heads_in new) (masks_in new) w.part.low) (sym e.is_now)
-      (plug_lists w.part.low e.frames (old_is late later out outs w e)
+  lists_changed m new late later out outs w at under e f = subst (λ (n : ℕ). MarkedLists (heads_in new) (masks_in new) n e.part.tree) (sym e.low)
+      (subst (MarkedLists (heads_in new) (masks_in new) w.part.low) (sym e.is_now) (plug_lists w.part.low e.frames (old_is late later out outs w e)
       (subst (λ (n : ℕ). KeepsAbove (heads_in m) (heads_in new) (masks_in m) (masks_in new) n e.frames at.tree under.tree) e.lowest
-      (keeps_above m new w at e f))
-      (subst (MarkedLists (heads_in m) (masks_in m) w.part.low) e.was w.lists)
+      (keeps_above m new w at e f)) (subst (MarkedLists (heads_in m) (masks_in m) w.part.low) e.was w.lists)
       (subst (λ (n : ℕ). MarkedLists (heads_in new) (masks_in new) n under.tree) e.lowest f.lists)))
 
   -- a route of the other part has a home in the whole where it has one in the part, or its rank is before the part's bits
@@ -141,27 +136,26 @@ module _ {V : Type 0} where
   listed_now : (m new : Lodged V) {root name : Node} (late later : ℕ → Bool) (out outs : ℕ → ℕ) {key : ℕ} (w : IsWholeBut m root late out) (at : Part m)
       (under : Part new) (e : Exchanged m new key w.part at under name) → Fits m new w.part at under late later out outs
       → (n : ℕ) (p : MaskPart) → masks_in new n ≡ Some p → (x : Placed V) → IsIn x w.part.tree → x.room.number ≡ n
-      → HasHome x.entry.key x.entry.rank w.part.tree
-      → IsIn x e.part.tree × HasHome x.entry.key x.entry.rank e.part.tree
+      → HasHome x.entry.key x.entry.rank w.part.tree → IsIn x e.part.tree × HasHome x.entry.key x.entry.rank e.part.tree
   listed_now m new late later out outs w at under e f n p said x is number home =
       let marked : IsMarked (masks_in new) x = ap (λ (o : Option MaskPart). is_some o) (ap (λ (k : ℕ). masks_in new k) number ∙ said) in
       let old_home = subst (HasHome x.entry.key x.entry.rank) e.was home in
       let old_tree = old_is late later out outs w e in
-      ⊎_elim
-      (λ (aside : Aside e.frames x). (
-        in_new m new late later out outs w e x (aside_in e.frames under.tree x aside),
-        subst (HasHome x.entry.key x.entry.rank) (sym e.is_now) (aside_home w.part.low e.frames at.tree under.tree x old_tree aside old_home),
-      ))
-      (λ (beneath : IsIn x at.tree).
-      let k = f.kept x beneath marked in
-      let place : (x.entry.rank < at.low) ⊎ HasHome x.entry.key x.entry.rank under.tree =
-      ⊎_elim (λ (before : x.entry.rank < low_past w.part.low e.frames). inl (subst (λ (b : ℕ). x.entry.rank < b) (sym e.lowest) before))
-      (λ (h : HasHome x.entry.key x.entry.rank at.tree). k.1 h)
-      (home_plug w.part.low e.frames at.tree x old_tree beneath old_home) in (
-        in_new m new late later out outs w e x (plug_in e.frames under.tree x k.0),
-        subst (HasHome x.entry.key x.entry.rank) (sym e.is_now) (home_in_new m new late later out outs w at under e x k.0 place),
-      ))
-      (in_plug e.frames at.tree x (subst (IsIn x) e.was is))
+      elim (in_plug e.frames at.tree x (subst (IsIn x) e.was is)) [
+        | inl aside ↦ (
+          in_new m new late later out outs w e x (aside_in e.frames under.tree x aside),
+          subst (HasHome x.entry.key x.entry.rank) (sym e.is_now) (aside_home w.part.low e.frames at.tree under.tree x old_tree aside old_home),
+        )
+        | inr beneath ↦ let k = f.kept x beneath marked in
+            let place : (x.entry.rank < at.low) ⊎ HasHome x.entry.key x.entry.rank under.tree =
+            elim (home_plug w.part.low e.frames at.tree x old_tree beneath old_home) [
+              | inl before ↦ inl (subst (λ (b : ℕ). x.entry.rank < b) (sym e.lowest) before)
+              | inr h ↦ k.1 h
+            ] in (
+              in_new m new late later out outs w e x (plug_in e.frames under.tree x k.0),
+              subst (HasHome x.entry.key x.entry.rank) (sym e.is_now) (home_in_new m new late later out outs w at under e x k.0 place),
+            )
+      ]
 
   listed_changed : (m new : Lodged V) {root name : Node} (late later : ℕ → Bool) (out outs : ℕ → ℕ) {key : ℕ} (w : IsWholeBut m root late out) (at : Part m)
       (under : Part new) (e : Exchanged m new key w.part at under name) → Fits m new w.part at under late later out outs
@@ -181,9 +175,11 @@ module _ {V : Type 0} where
   all_aside m new late later out outs w at under e f x aside home =
       let o = aside_out w at e x aside in
       let old_home = aside_home w.part.low e.frames under.tree at.tree x (new_is late later out outs w e) aside home in
-      ⊎_elim (λ (marked : IsMarked (masks_in m) x). inl (marked_same (masks_in m) (masks_in new) x (f.masks x.room.number o.0 o.1) marked))
-      (λ (is_late : late x.room.number ≡ true). inr (f.late_aside x.room.number o.0 o.1 is_late))
-      (w.all x (in_old m new late later out outs w e x (aside_in e.frames at.tree x aside)) (subst (HasHome x.entry.key x.entry.rank) (sym e.was) old_home))
+      elim (w.all x (in_old m new late later out outs w e x (aside_in e.frames at.tree x aside))
+      (subst (HasHome x.entry.key x.entry.rank) (sym e.was) old_home)) [
+        | inl marked ↦ inl (marked_same (masks_in m) (masks_in new) x (f.masks x.room.number o.0 o.1) marked)
+        | inr is_late ↦ inr (f.late_aside x.room.number o.0 o.1 is_late)
+      ]
 
   all_beneath : (m new : Lodged V) {root name : Node} (late later : ℕ → Bool) (out outs : ℕ → ℕ) {key : ℕ} (w : IsWholeBut m root late out) (at : Part m)
       (under : Part new) (e : Exchanged m new key w.part at under name) → Fits m new w.part at under late later out outs
@@ -193,21 +189,24 @@ module _ {V : Type 0} where
       let place : (x.entry.rank < at.low) ⊎ HasHome x.entry.key x.entry.rank under.tree =
       subst (λ (n : ℕ). (x.entry.rank < n) ⊎ HasHome x.entry.key x.entry.rank under.tree) (sym e.lowest)
       (home_plug w.part.low e.frames under.tree x (new_is late later out outs w e) is home) in
-      ⊎_elim (λ (is_later : later x.room.number ≡ true). inr is_later)
-      (λ (old : IsIn x at.tree × ((x.entry.rank < at.low) ⊎ HasHome x.entry.key x.entry.rank at.tree) × (IsMarked (masks_in m) x → IsMarked (masks_in new) x)
-      × (late x.room.number ≡ true → later x.room.number ≡ true)).
-      ⊎_elim (λ (marked : IsMarked (masks_in m) x). inl (old.2 marked)) (λ (is_late : late x.room.number ≡ true). inr (old.3 is_late))
-      (w.all x (in_old m new late later out outs w e x (plug_in e.frames at.tree x old.0)) (home_in_old m new late later out outs w at e x old.0 old.1)))
-      (f.all x is place)
+      elim (f.all x is place) [
+        | inl is_later ↦ inr is_later
+        | inr old ↦ elim (w.all x (in_old m new late later out outs w e x (plug_in e.frames at.tree x old.0))
+            (home_in_old m new late later out outs w at e x old.0 old.1)) [
+              | inl marked ↦ inl (old.2 marked)
+              | inr is_late ↦ inr (old.3 is_late)
+            ]
+      ]
 
   all_changed : (m new : Lodged V) {root name : Node} (late later : ℕ → Bool) (out outs : ℕ → ℕ) {key : ℕ} (w : IsWholeBut m root late out) (at : Part m)
       (under : Part new) (e : Exchanged m new key w.part at under name) → Fits m new w.part at under late later out outs
       → (x : Placed V) → IsIn x e.part.tree → HasHome x.entry.key x.entry.rank e.part.tree → IsMarked (masks_in new) x ⊎ (later x.room.number ≡ true)
   all_changed m new late later out outs w at under e f x is home =
       let now = subst (HasHome x.entry.key x.entry.rank) e.is_now home in
-      ⊎_elim (λ (aside : Aside e.frames x). all_aside m new late later out outs w at under e f x aside now)
-      (λ (beneath : IsIn x under.tree). all_beneath m new late later out outs w at under e f x beneath now)
-      (in_plug e.frames under.tree x (subst (IsIn x) e.is_now is))
+      elim (in_plug e.frames under.tree x (subst (IsIn x) e.is_now is)) [
+        | inl aside ↦ all_aside m new late later out outs w at under e f x aside now
+        | inr beneath ↦ all_beneath m new late later out outs w at under e f x beneath now
+      ]
 
   pub whole_changed : (m new : Lodged V) {root name : Node} {late later : ℕ → Bool} {out outs : ℕ → ℕ} {key : ℕ} (w : IsWholeBut m root late out) {at : Part m}
       {under : Part new} (e : Exchanged m new key w.part at under name)

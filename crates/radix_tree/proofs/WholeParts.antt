@@ -1,12 +1,9 @@
 -- A table's rooms as a whole, where no route is late and no room is on its way out.
-use Rattle.std.proofs.Common.{◌≡◌, ℕ, ◌+◌, ◌<◌, ◌≤◌, ◌⊎◌, Bool, true, false, Option, Some, None, refl, inl, inr, ⊎_elim, arith}
-use Rattle.std.proofs.lemmas.Bool.{cases_lt}
-use Rattle.radix_tree.proofs.Words.{is_some, Id, Node, Placed, Tree, leaf, fork, bit_at, IsIn, IsTree, MaskPart, Heads, Masks, Part, Lists, leaves_in, bits_in}
-use Rattle.radix_tree.proofs.Words.{heads_in, masks_in, one_if, leaves_at, forks_at, HasHome, IsWhole, AreOnce, IsMarked, MarkedLists, IsWholeBut, nobody_late}
+use Rattle.radix_tree.proofs.Words.{◌≡◌, ℕ, ◌+◌, ◌<◌, ◌≤◌, ◌⊎◌, Bool, true, false, Option, Some, None, refl, inl, inr, arith, cases_lt, is_some, Id, Node}
+use Rattle.radix_tree.proofs.Words.{Placed, Tree, leaf, fork, bit_at, IsIn, IsTree, MaskPart, Heads, Masks, Part, Lists, leaves_in, bits_in, heads_in}
+use Rattle.radix_tree.proofs.Words.{masks_in, one_if, leaves_at, forks_at, HasHome, IsWhole, AreOnce, IsMarked, MarkedLists, IsWholeBut, nobody_late}
 use Rattle.radix_tree.proofs.Words.{nobody_out, Lodged}
-use Rattle.radix_tree.proofs.AddressBits.{zero_not_one}
-use Rattle.radix_tree.proofs.TreeMembers.{bit_beneath}
-use Rattle.radix_tree.proofs.PlugLists.{stands_marked}
+use Rattle.radix_tree.proofs.{AddressBits.zero_not_one, TreeMembers.bit_beneath, PlugLists.stands_marked}
 
 pub one_if_most : (b : Bool) → one_if b ≤ 1
 one_if_most true = omega arith
@@ -22,34 +19,36 @@ some_of (Some p) e = (p, refl)
 module _ {V : Type 0} where
   -- ---- no route late, and no room on its way out
   pub home_zero : (low b : ℕ) (room : Id) (zero one : Tree V) → IsTree low (fork room b zero one) → (x : Placed V) → IsIn x zero → b < x.entry.rank
-      → HasHome x.entry.key x.entry.rank (fork room b zero one)
-      → HasHome x.entry.key x.entry.rank zero
-  home_zero low b room zero one is x at past home =
-      ⊎_elim (λ (here : x.entry.rank ≤ b). absurd (omega arith))
-      (λ beneath. ⊎_elim (λ (left : (bit_at b x.entry.key ≡ 0) × HasHome x.entry.key x.entry.rank zero). left.1)
-      (λ (right : (bit_at b x.entry.key ≡ 1) × HasHome x.entry.key x.entry.rank one).
-      absurd (zero_not_one (bit_beneath (b + 1) b 0 zero is.1 is.0.zeros x at) right.0)) beneath) home
+      → HasHome x.entry.key x.entry.rank (fork room b zero one) → HasHome x.entry.key x.entry.rank zero
+  home_zero low b room zero one is x at past home = elim home [
+    | inl here ↦ absurd (omega arith)
+    | inr beneath ↦ elim beneath [
+      | inl left ↦ left.1
+      | inr right ↦ absurd (zero_not_one (bit_beneath (b + 1) b 0 zero is.1 is.0.zeros x at) right.0)
+    ]
+  ]
 
   pub home_one : (low b : ℕ) (room : Id) (zero one : Tree V) → IsTree low (fork room b zero one) → (x : Placed V) → IsIn x one → b < x.entry.rank
-      → HasHome x.entry.key x.entry.rank (fork room b zero one)
-      → HasHome x.entry.key x.entry.rank one
-  home_one low b room zero one is x at past home =
-      ⊎_elim (λ (here : x.entry.rank ≤ b). absurd (omega arith))
-      (λ beneath. ⊎_elim (λ (left : (bit_at b x.entry.key ≡ 0) × HasHome x.entry.key x.entry.rank zero).
-      absurd (zero_not_one left.0 (bit_beneath (b + 1) b 1 one is.2 is.0.ones x at)))
-      (λ (right : (bit_at b x.entry.key ≡ 1) × HasHome x.entry.key x.entry.rank one). right.1) beneath) home
+      → HasHome x.entry.key x.entry.rank (fork room b zero one) → HasHome x.entry.key x.entry.rank one
+  home_one low b room zero one is x at past home = elim home [
+    | inl here ↦ absurd (omega arith)
+    | inr beneath ↦ elim beneath [
+      | inl left ↦ absurd (zero_not_one left.0 (bit_beneath (b + 1) b 1 one is.2 is.0.ones x at))
+      | inr right ↦ right.1
+    ]
+  ]
 
   -- where all masks with a home are listed, each route that has one is marked
   pub listed_marked : (H : Heads) (K : Masks) (low : ℕ) (t : Tree V) → IsTree low t → Lists H K low t → (x : Placed V) → IsIn x t → low ≤ x.entry.rank
       → HasHome x.entry.key x.entry.rank t → IsMarked K x
   listed_marked H K low (leaf y ys) is lists x at least home = absurd home
-  listed_marked H K low (fork room b zero one) is lists x at least home =
-      ⊎_elim
-      (λ (past : b < x.entry.rank). ⊎_elim
-      (λ (left : IsIn x zero). listed_marked H K (b + 1) zero is.1 lists.1 x left (omega arith) (home_zero low b room zero one is x left past home))
-      (λ (right : IsIn x one). listed_marked H K (b + 1) one is.2 lists.2 x right (omega arith) (home_one low b room zero one is x right past home)) at)
-      (λ (here : x.entry.rank ≤ b). stands_marked K lists.0.masks lists.0.stands x (lists.0.has x at least here))
-      (cases_lt b x.entry.rank)
+  listed_marked H K low (fork room b zero one) is lists x at least home = elim (cases_lt b x.entry.rank) [
+    | inl past ↦ elim at [
+      | inl left ↦ listed_marked H K (b + 1) zero is.1 lists.1 x left (omega arith) (home_zero low b room zero one is x left past home)
+      | inr right ↦ listed_marked H K (b + 1) one is.2 lists.2 x right (omega arith) (home_one low b room zero one is x right past home)
+    ]
+    | inr here ↦ stands_marked K lists.0.masks lists.0.stands x (lists.0.has x at least here)
+  ]
 
   pub lists_marked : (H : Heads) (K : Masks) (low : ℕ) (t : Tree V) → Lists H K low t → MarkedLists H K low t
   lists_marked H K low (leaf x xs) lists = tt
@@ -109,7 +108,7 @@ module _ {V : Type 0} where
     forks = w.forks;
     spare = w.spare;
     lists = marked_lists (heads_in m) (masks_in m) w.part.low w.part.tree w.part.is
-        (λ x at home. ⊎_elim (λ (marked : IsMarked (masks_in m) x). marked) (λ (late : false ≡ true). absurd (false_not_true late)) (w.all x at home)) w.lists;
+        (λ x at home. elim (w.all x at home) [ inl marked ↦ marked | inr late ↦ absurd (false_not_true late) ]) w.lists;
     listed = w.listed;
   }
 
@@ -134,7 +133,7 @@ module _ {V : Type 0} where
   abbrev pub later_than : {m : Lodged V} {root : Node} {late : ℕ → Bool} (later : ℕ → Bool) → ((n : ℕ) → late n ≡ true → later n ≡ true)
       → IsWholeBut m root late nobody_out → IsWholeBut m root later nobody_out
   later_than later more w = with_late later w
-      (λ x in_x home. ⊎_elim (λ marked. inl marked) (λ is_late. inr (more x.room.number is_late)) (w.all x in_x home))
+      (λ x in_x home. elim (w.all x in_x home) [ inl marked ↦ inl marked | inr is_late ↦ inr (more x.room.number is_late) ])
 
   pub once_but : {m : Lodged V} {root : Node} {late : ℕ → Bool} {out : ℕ → ℕ} (w : IsWholeBut m root late out) → AreOnce w.part.tree
   once_but {m = m} {out = out} w = record {

@@ -1,14 +1,9 @@
 -- The routes that a table's rooms show, and a table with an entry and without.
-use Rattle.std.proofs.Common.{◌≡◌, ℕ, Bool, false, IsTrue, List, [], ◌∷◌, ◌++◌, Some, None, refl, sym, ap, ◌∙◌, subst, arith}
-use Rattle.std.proofs.lemmas.Bool.Decides.{nat_tests}
-use Rattle.std.proofs.lemmas.List.{append_assoc}
-use Rattle.radix_tree.proofs.Words.{AllByRecursion, Node, precedes, IsTable, has_pair, entry_at, with_entry, without, Tree, routes_of, Part, leaves_in, bits_in}
-use Rattle.radix_tree.proofs.Words.{name_of, beneath_shown, shown, Gains, Exchanged, IsWholeBut, Entry, Lodged}
-use Rattle.radix_tree.proofs.ListLemmas.{all_weaker, filter_all, filter_none}
-use Rattle.radix_tree.proofs.OrderLemmas.{own_pair, precedes_one_way}
-use Rattle.radix_tree.proofs.TableLemmas.{with_later, without_absent, none_at}
-use Rattle.radix_tree.proofs.Showing.{beneath_is}
-use Rattle.radix_tree.proofs.Plugs.{surround}
+use Rattle.radix_tree.proofs.Words.{◌≡◌, ℕ, Bool, false, IsTrue, List, [], ◌∷◌, ◌++◌, Some, None, refl, sym, ap, ◌∙◌, subst, arith, nat_tests}
+use Rattle.radix_tree.proofs.Words.{append_assoc, AllByRecursion, Node, precedes, IsTable, has_pair, entry_at, with_entry, without, Tree, routes_of, Part}
+use Rattle.radix_tree.proofs.Words.{leaves_in, bits_in, name_of, beneath_shown, shown, Gains, Exchanged, IsWholeBut, Entry, Lodged}
+use Rattle.radix_tree.proofs.{ListLemmas.all_weaker, ListLemmas.filter_all, ListLemmas.filter_none, OrderLemmas.own_pair, OrderLemmas.precedes_one_way}
+use Rattle.radix_tree.proofs.{TableLemmas.with_later, TableLemmas.without_absent, TableLemmas.none_at, Showing.beneath_is, Plugs.surround}
 
 module _ {V : Type 0} where
   -- ---- the routes that the rooms show
@@ -81,10 +76,7 @@ module _ {V : Type 0} where
 
   lost : (e : Entry V) (front back : List (Entry V)) → IsTable (front ++ e ∷ back)
       → (front ++ back ≡ without e.key e.rank (front ++ e ∷ back)) × (entry_at e.key e.rank (front ++ e ∷ back) ≡ Some e)
-  lost e [] back is = (
-    rw (own_pair e) (sym (without_absent e.key e.rank back (none_at e.key e.rank back is.1))),
-    rw (own_pair e) refl,
-  )
+  lost e [] back is = (rw (own_pair e) (sym (without_absent e.key e.rank back (none_at e.key e.rank back is.1))), rw (own_pair e) refl)
   lost e (x ∷ front) back is =
       let ahead = all_at (λ f. IsTrue (precedes x f)) front back e is.1 in
       let rest = lost e front back is.2 in (

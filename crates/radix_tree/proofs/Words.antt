@@ -1,4 +1,10 @@
--- The words of definitions, of this crate and of those below, that proofs use.
+-- The words of definitions, of this crate and of those below, and those of std with its lemmas of tests and lists, that proofs use.
+pub use Rattle.std.proofs.Common.{Bool, Equal, Err, Greater, IsTrue, List, None, Ok, Option, Result, Some, [], ap, arith, cond, false, filter, if◌then◌else◌}
+pub use Rattle.std.proofs.Common.{inl, inr, length, map, nat_eq, nat_lt, not, refl, subst, suc, sym, true, true≢false, zero, ℕ, ⊎_elim, ◌%◌, ◌&&◌, ◌*◌, ◌++◌}
+pub use Rattle.std.proofs.Common.{◌+◌, ◌-◌, ◌/◌, ◌<◌, ◌==◌, ◌^◌, ◌||◌, ◌∙◌, ◌∷◌, ◌≡◌, ◌≤◌, ◌⊎◌}
+pub use Rattle.std.proofs.lemmas.Bool.{cases_eq, cases_lt, eq-eqb, eqb-false, eqb-true, ne_eqb}
+pub use Rattle.std.proofs.lemmas.Bool.Decides.{nat_tests}
+pub use Rattle.std.proofs.lemmas.List.{append-nil, append_assoc}
 pub use Rattle.std.specs.FinMap.{FinMap, get, keys}
 pub use Rattle.std.specs.Int.Bits.{bit_xor}
 pub use Rattle.std.specs.Int.Count.{count_leading_zeros}

@@ -1,6 +1,5 @@
-use Rattle.std.proofs.Common.{◌∙◌, arith}
-use Rattle.radix_tree.proofs.Listings.{begun, mask_at, hit, miss, ended}
-use Rattle.radix_tree.proofs.Parts.{fork_is, fork_name}
+use Rattle.radix_tree.proofs.Words.{◌∙◌, arith}
+use Rattle.radix_tree.proofs.{Listings.begun, Listings.mask_at, Listings.hit, Listings.miss, Listings.ended, Parts.fork_is, Parts.fork_name}
 use Rattle.radix_tree.proofs.backtracking.best_listed.Goals as goal
 
 pub loop-at-init : goal.loop-at-init
@@ -23,8 +22,7 @@ room_of-requires-clause-turn g c =
 pub returns-in-Some-room_of-clause-best : goal.returns-in-Some-room_of-clause-best
 returns-in-Some-room_of-clause-best g c p f listed =
     let x = mask_at (c.loop-at.invariant p f listed) c.in-Some.is in
-    hit x (c.mask_node.ensures.leaf x.part x.said) c.masked-key.ensures.number c.in-Some-room_of.is
-    (c.room_of.ensures.found p (fork_name _ f))
+    hit x (c.mask_node.ensures.leaf x.part x.said) c.masked-key.ensures.number c.in-Some-room_of.is (c.room_of.ensures.found p (fork_name _ f))
 
 pub returns-in-Some-room_of-clause-visits : goal.returns-in-Some-room_of-clause-visits
 returns-in-Some-room_of-clause-visits g c p f listed =

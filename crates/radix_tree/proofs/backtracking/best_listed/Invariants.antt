@@ -1,5 +1,4 @@
-use Rattle.std.proofs.Common.{◌+◌, ◌-◌}
-use Rattle.radix_tree.proofs.Words.{Part, AreListed, ForkAt}
+use Rattle.radix_tree.proofs.Words.{◌+◌, ◌-◌, Part, AreListed, ForkAt}
 use Rattle.radix_tree.proofs.Listings.{Through}
 use Rattle.radix_tree.proofs.backtracking.best_listed.Given as goal
 

@@ -1,9 +1,6 @@
-use Rattle.std.proofs.Common.{◌∙◌, subst, None, arith}
-use Rattle.radix_tree.proofs.Words.{Best, In}
-use Rattle.radix_tree.proofs.Climbs.{begun, over, fork_over, used, risen, ended}
-use Rattle.radix_tree.proofs.Lifts.{Has-leaf_at}
-use Rattle.radix_tree.proofs.Parts.{chain_led, way_lists}
-use Rattle.radix_tree.proofs.Ups.{leaf_hit, searched, hit, miss}
+use Rattle.radix_tree.proofs.Words.{◌∙◌, subst, None, arith, Best, In}
+use Rattle.radix_tree.proofs.{Climbs.begun, Climbs.over, Climbs.fork_over, Climbs.used, Climbs.risen, Climbs.ended, Lifts.Has-leaf_at, Parts.chain_led}
+use Rattle.radix_tree.proofs.{Parts.way_lists, Ups.leaf_hit, Ups.searched, Ups.hit, Ups.miss}
 use Rattle.radix_tree.proofs.backtracking.best_room.Goals as goal
 
 pub leaf_for-leaf-requires-clause-tree : goal.leaf_for-leaf-requires-clause-tree
@@ -55,8 +52,7 @@ returns-in-Some-best_listed-clause-visits g c =
     record {
       turn = more.turn ∙ c.bit_node-node.ensures.visit.turn ∙ c.loop-at.invariant.turn;
       rises = omega (arith, s.rises, more.rises);
-      bound =
-          omega (arith, more.bound, s.few, o.beneath.low);
+      bound = omega (arith, more.bound, s.few, o.beneath.low);
     }
 
 pub loop-at-smaller : goal.loop-at-smaller

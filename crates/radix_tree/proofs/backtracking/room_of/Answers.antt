@@ -1,5 +1,4 @@
-use Rattle.radix_tree.proofs.Parts.{chain_led}
-use Rattle.radix_tree.proofs.Descents.{pair_led}
+use Rattle.radix_tree.proofs.{Parts.chain_led, Descents.pair_led}
 use Rattle.radix_tree.proofs.backtracking.room_of.Goals as goal
 
 pub of_pair-requires-clause-chain : goal.of_pair-requires-clause-chain

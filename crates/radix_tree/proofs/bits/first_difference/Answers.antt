@@ -1,5 +1,4 @@
-use Rattle.std.proofs.Common.{ℕ, subst, arith}
-use Rattle.radix_tree.proofs.Words.{bit_xor, count_leading_zeros, Differs}
+use Rattle.radix_tree.proofs.Words.{ℕ, subst, arith, bit_xor, count_leading_zeros, Differs}
 use Rattle.radix_tree.proofs.Differences.{differs_first, none_differs}
 use Rattle.radix_tree.proofs.bits.first_difference.Goals as goal
 

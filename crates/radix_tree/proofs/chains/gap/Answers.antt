@@ -1,7 +1,6 @@
-use Rattle.std.proofs.Common.{◌≡◌, ◌≤◌, ◌<◌, ◌+◌, ◌-◌, ◌∙◌, ℕ, Option, Some, None, sym, ap, subst, arith}
-use Rattle.std.proofs.lemmas.Bool.{eqb-true, eqb-false}
 use Rattle.std.proofs.lemmas.Map.Keys.{ge_from_not_lt}
-use Rattle.radix_tree.proofs.Words.{Id, Counter, Passed, FindsGap}
+use Rattle.radix_tree.proofs.Words.{◌≡◌, ◌≤◌, ◌<◌, ◌+◌, ◌-◌, ◌∙◌, ℕ, Option, Some, None, sym, ap, subst, arith, eqb-true, eqb-false, Id, Counter, Passed}
+use Rattle.radix_tree.proofs.Words.{FindsGap}
 use Rattle.radix_tree.proofs.ChainGaps.{less_of, Has-first, begun, Has-at, few_at, passed, taken, found, ended}
 use Rattle.radix_tree.proofs.chains.gap.Goals as goal
 
@@ -30,8 +29,7 @@ returns-then-eq-clause-gap g c r begins =
     c.links-in-Some.ensures.links c.leaf-member.ensures (eqb-true c.leaf-member.result.rank c.args.rank (sym c.eq.ensures ∙ c.if-eq.true))
 
 pub returns-then-lt-clause-gap : goal.returns-then-lt-clause-gap
-returns-then-lt-clause-gap g c r begins =
-    subst (λ (o : Option Id). FindsGap c.args.key c.args.rank r (Some (record
+returns-then-lt-clause-gap g c r begins = subst (λ (o : Option Id). FindsGap c.args.key c.args.rank r (Some (record
     { key = c.args.key; rank = c.args.rank; above = c.loop-next.above; next = o; previous = c.loop-next.previous }))) c.in-Some.is
     (found c.args.nodes.now.lodged c.args.key c.args.rank r c.in-Some.at c.links-in-Some.result.now (c.loop-next.invariant.passed r begins) c.in-Some.is
     c.links-in-Some.ensures.links c.leaf-member.ensures (less_of c.leaf-member.result.rank c.args.rank (sym c.lt.ensures ∙ c.if-lt.true)))
@@ -61,5 +59,4 @@ loop-next-preserved g c =
     }
 
 pub returns-clause-gap : goal.returns-clause-gap
-returns-clause-gap g c r begins =
-    ended c.args.nodes.now.lodged c.args.key c.args.rank r (c.loop-next.invariant.passed r begins) c.in_default.is
+returns-clause-gap g c r begins = ended c.args.nodes.now.lodged c.args.key c.args.rank r (c.loop-next.invariant.passed r begins) c.in_default.is

@@ -1,5 +1,4 @@
-use Rattle.std.proofs.Common.{◌≡◌, ◌≤◌, ◌+◌, ◌-◌, Some}
-use Rattle.radix_tree.proofs.Words.{Run, first_room, Passed}
+use Rattle.radix_tree.proofs.Words.{◌≡◌, ◌≤◌, ◌+◌, ◌-◌, Some, Run, first_room, Passed}
 use Rattle.radix_tree.proofs.chains.gap.Given as goal
 
 abbrev pub invariant-loop-next : goal.invariant-loop-next

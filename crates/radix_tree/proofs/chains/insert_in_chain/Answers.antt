@@ -1,13 +1,12 @@
-use Rattle.std.proofs.Common.{◌==◌, ◌||◌, ◌∙◌, ℕ, Option, Some, None, sym, ap, subst}
-use Rattle.radix_tree.proofs.Words.{is_some, get, Node, LeafOf, LeafPart, BitPart, leaf_in, bit_in, mask_in, leaves_in, name_child, Gains, shown, IsWholeBut}
-use Rattle.radix_tree.proofs.Words.{late_at, nobody_out, name_next, name_back, root_past, FindsGap}
-use Rattle.radix_tree.proofs.Parts.{leaf_begins}
-use Rattle.radix_tree.proofs.ChainWrites.{Has-lodged, Has-kept, Has-next, Has-linked_in}
+use Rattle.radix_tree.proofs.Words.{◌==◌, ◌||◌, ◌∙◌, ℕ, Option, Some, None, sym, ap, subst, is_some, get, Node, LeafOf, LeafPart, BitPart, leaf_in}
+use Rattle.radix_tree.proofs.Words.{bit_in, mask_in, leaves_in, name_child, Gains, shown, IsWholeBut, late_at, nobody_out, name_next, name_back}
+use Rattle.radix_tree.proofs.Words.{root_past, FindsGap}
 use Rattle.radix_tree.proofs.ChainInserts.{chain_of, gap_before, gap_behind, gap_above, lodged_above, linked_rooms, inserted_whole, inserted_routes}
 use Rattle.radix_tree.proofs.ChainInserts.{IsWritten, taken_there}
+use Rattle.radix_tree.proofs.{Parts.leaf_begins, ChainWrites.Has-lodged, ChainWrites.Has-kept, ChainWrites.Has-next, ChainWrites.Has-linked_in}
+use Rattle.radix_tree.proofs.{chains.insert_in_chain.Goals.In-Some, chains.insert_in_chain.Goals.After-name_back}
 use Rattle.radix_tree.proofs.chains.insert_in_chain.Given as given
 use Rattle.radix_tree.proofs.chains.insert_in_chain.Goals as goal
-use Rattle.radix_tree.proofs.chains.insert_in_chain.Goals.{In-Some, After-name_back}
 
 -- the gap for the route
 in_gap : (g : given.Over) (c : In-Some g) → FindsGap c.args.entry.key c.args.entry.rank (chain_of c.args.nodes.now.lodged c.requires.led.1)
@@ -24,8 +23,7 @@ linked g c = record {
   free = (ap (λ (k : ℕ). leaf_in (get c.args.nodes.now.lodged k)) c.lodge_leaf-id.ensures.number ∙ ap leaf_in c.requires.spare.free);
   no_bit = ap (λ (k : ℕ). bit_in (get c.args.nodes.now.lodged k)) c.lodge_leaf-id.ensures.number ∙ ap bit_in c.requires.spare.free;
   no_mask = ap (λ (k : ℕ). mask_in (get c.args.nodes.now.lodged k)) c.lodge_leaf-id.ensures.number ∙ ap mask_in c.requires.spare.free;
-  leaves =
-      (λ n. c.name_back.ensures.leaves n ∙ ap (λ (o : Option (LeafPart g.row.V.Denot)).
+  leaves = (λ n. c.name_back.ensures.leaves n ∙ ap (λ (o : Option (LeafPart g.row.V.Denot)).
       name_back c.in-Some.leaf.next None (Some c.lodge_leaf-id.result) n o)
       (c.name_next.ensures.leaves n ∙ ap (λ (o : Option (LeafPart g.row.V.Denot)). name_next c.in-Some.leaf.previous (Some c.lodge_leaf-id.result) n o)
       (c.rename-root.ensures.only.leaves n ∙ c.lodge_leaf-id.ensures.leaves n)));
@@ -62,8 +60,7 @@ name_next-requires-clause-there g c at is =
     Has-kept c.rename-root.new.nodes.lodged at c.rename-root.ensures.only.leaves
     (Has-lodged c.lodge_leaf-id.new.nodes.lodged c.lodge_leaf-id.result at c.args.entry.value c.in-Some.leaf
     (ap (λ (k : ℕ). leaf_in (get c.args.nodes.now.lodged k)) c.lodge_leaf-id.ensures.number ∙ ap leaf_in c.requires.spare.free)
-    c.lodge_leaf-id.ensures.leaves
-    (gap_before c.args.nodes.now.lodged r.1 (in_gap g (goal.at.name_next-requires-clause-there g c).In-Some) at is))
+    c.lodge_leaf-id.ensures.leaves (gap_before c.args.nodes.now.lodged r.1 (in_gap g (goal.at.name_next-requires-clause-there g c).In-Some) at is))
 
 pub name_back-requires-clause-there : goal.name_back-requires-clause-there
 name_back-requires-clause-there g c at is =
@@ -72,8 +69,7 @@ name_back-requires-clause-there g c at is =
     (Has-kept c.rename-root.new.nodes.lodged at c.rename-root.ensures.only.leaves
     (Has-lodged c.lodge_leaf-id.new.nodes.lodged c.lodge_leaf-id.result at c.args.entry.value c.in-Some.leaf
     (ap (λ (k : ℕ). leaf_in (get c.args.nodes.now.lodged k)) c.lodge_leaf-id.ensures.number ∙ ap leaf_in c.requires.spare.free)
-    c.lodge_leaf-id.ensures.leaves
-    (gap_behind c.args.nodes.now.lodged r.1 (in_gap g (goal.at.name_back-requires-clause-there g c).In-Some) at is)))
+    c.lodge_leaf-id.ensures.leaves (gap_behind c.args.nodes.now.lodged r.1 (in_gap g (goal.at.name_back-requires-clause-there g c).In-Some) at is)))
 
 pub returns-clause-ok : goal.returns-clause-ok
 returns-clause-ok g c =
@@ -82,8 +78,7 @@ returns-clause-ok g c =
     (subst (λ (k : ℕ). IsWholeBut c.name_back.new.nodes.lodged (root_past c.in-Some.leaf.previous c.in-Some.leaf.above (LeafOf c.lodge_leaf-id.result)
     c.args.root) (late_at k) nobody_out) c.lodge_leaf-id.ensures.number
     (inserted_whole c.args.nodes.now.lodged c.name_back.new.nodes.lodged c.args.entry c.lodge_leaf-id.result c.args.first c.args.root r.0 r.1
-    (in_gap g (goal.at.returns-clause-ok g c).In-Some) r.2 c.requires.route
-    (linked g (goal.at.returns-clause-ok g c).After-name_back)))
+    (in_gap g (goal.at.returns-clause-ok g c).In-Some) r.2 c.requires.route (linked g (goal.at.returns-clause-ok g c).After-name_back)))
 
 pub returns-clause-routes : goal.returns-clause-routes
 returns-clause-routes g c =
@@ -91,8 +86,7 @@ returns-clause-routes g c =
     subst (λ (z : Node). Gains c.args.entry (shown c.args.nodes.now.lodged (Some c.args.root)) (shown c.name_back.new.nodes.lodged (Some z)))
     (sym c.rename-root.ensures.root)
     (inserted_routes c.args.nodes.now.lodged c.name_back.new.nodes.lodged c.args.entry c.lodge_leaf-id.result c.args.first c.args.root r.0 r.1
-    (in_gap g (goal.at.returns-clause-routes g c).In-Some) r.2 c.requires.route
-    (linked g (goal.at.returns-clause-routes g c).After-name_back))
+    (in_gap g (goal.at.returns-clause-routes g c).In-Some) r.2 c.requires.route (linked g (goal.at.returns-clause-routes g c).After-name_back))
 
 pub returns-clause-rooms : goal.returns-clause-rooms
 returns-clause-rooms g c n =

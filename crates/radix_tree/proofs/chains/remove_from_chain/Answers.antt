@@ -1,12 +1,12 @@
-use Rattle.std.proofs.Common.{◌≡◌, ◌∙◌, Option, Some, sym, ap}
-use Rattle.radix_tree.proofs.Words.{Id, Leaf, LeafOf, leaves_in, Lodged, Node, Part, LeafPart, bits_in, name_child, link_out, root_past}
-use Rattle.radix_tree.proofs.ChainWrites.{own_part, own_said, Has-kept}
-use Rattle.radix_tree.proofs.ChainNeighbours.{IsMember, IsUnlinked, IsLeft, member_of, leaf_is, unlinked, before_there, behind_there, fork_above, left_kept}
-use Rattle.radix_tree.proofs.ChainNeighbours.{left_renamed}
+use Rattle.radix_tree.proofs.Words.{◌≡◌, ◌∙◌, Option, Some, sym, ap, Id, Leaf, LeafOf, leaves_in, Lodged, Node, Part, LeafPart, bits_in, name_child}
+use Rattle.radix_tree.proofs.Words.{link_out, root_past}
+use Rattle.radix_tree.proofs.ChainNeighbours.{IsMember, IsUnlinked, IsLeft, member_of, leaf_is, unlinked, before_there, behind_there, fork_above}
+use Rattle.radix_tree.proofs.ChainNeighbours.{left_kept, left_renamed}
 use Rattle.radix_tree.proofs.ChainRemovals.{removed_whole, removed_routes, unlinked_routes, own_kept, left_bits, idle_others, neighbour}
+use Rattle.radix_tree.proofs.{ChainWrites.own_part, ChainWrites.own_said, ChainWrites.Has-kept, chains.remove_from_chain.Goals.After-link_out}
+use Rattle.radix_tree.proofs.{chains.remove_from_chain.Goals.After-link_out-2}
 use Rattle.radix_tree.proofs.chains.remove_from_chain.Given as given
 use Rattle.radix_tree.proofs.chains.remove_from_chain.Goals as goal
-use Rattle.radix_tree.proofs.chains.remove_from_chain.Goals.{After-link_out, After-link_out-2}
 
 pub link_out-requires-clause-before : goal.link_out-requires-clause-before
 link_out-requires-clause-before g c r is = before_there (member_of c.requires.whole c.args.at.number (own_said c.requires.there)) r
@@ -59,8 +59,7 @@ gone g c {p = p} said =
       b,
       unlinked c.args.nodes.now.lodged c.link_out-2.new.nodes.lodged read
           (λ k. c.link_out-2.ensures.leaves k ∙ ap (λ (o : Option (LeafPart g.row.V.Denot)). link_out c.leaf-leaf.result k o)
-          (c.rename-root.ensures.only.leaves k))
-          (λ k. c.link_out-2.ensures.only.heads k ∙ c.rename-root.ensures.only.heads k)
+          (c.rename-root.ensures.only.leaves k)) (λ k. c.link_out-2.ensures.only.heads k ∙ c.rename-root.ensures.only.heads k)
           (λ k. c.link_out-2.ensures.only.masks k ∙ c.rename-root.ensures.only.masks k),
       left_renamed c.link_out-2.new.nodes.lodged c.requires.whole b (sym (ap (λ (z : Leaf). z.next) read) ∙ c.in-Some.is)
           (λ k. c.link_out-2.ensures.only.bits k ∙ c.rename-root.ensures.bits k

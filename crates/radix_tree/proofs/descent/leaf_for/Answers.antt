@@ -1,8 +1,6 @@
-use Rattle.std.proofs.Common.{⊎_elim, sym, ◌∙◌, arith}
-use Rattle.std.proofs.lemmas.Bool.{eqb-true, eqb-false}
 use Rattle.radix_tree.specs.Tree.{bit_at}
-use Rattle.radix_tree.proofs.AddressBits.{zero_or_one}
-use Rattle.radix_tree.proofs.Descents.{begun, used_at, parted, led, soon_at}
+use Rattle.radix_tree.proofs.Words.{sym, ◌∙◌, arith, inl, inr, eqb-true, eqb-false}
+use Rattle.radix_tree.proofs.{AddressBits.zero_or_one, Descents.begun, Descents.used_at, Descents.parted, Descents.led, Descents.soon_at}
 use Rattle.radix_tree.proofs.descent.leaf_for.Goals as goal
 
 pub loop-at-init : goal.loop-at-init
@@ -37,7 +35,8 @@ loop-at-preserved-then-is_one g c = λ p named.
     (eqb-true (bit_at c.bit_node-node.result.bit c.args.address) 1 (sym c.is_one.ensures ∙ c.if-is_one.true))
 
 pub loop-at-preserved : goal.loop-at-preserved
-loop-at-preserved g c = λ p named.
-    (parted (c.loop-at.invariant p named) c.in-Bit.is c.bit_node-node.ensures.node c.bit_node-node.ensures.visit).zero
-    (⊎_elim (λ clear. clear) (λ set. absurd (eqb-false (bit_at c.bit_node-node.result.bit c.args.address) 1 (sym c.is_one.ensures ∙ c.if-is_one.false) set))
-    (zero_or_one c.bit_node-node.result.bit c.args.address))
+loop-at-preserved g c = λ p named. (parted (c.loop-at.invariant p named) c.in-Bit.is c.bit_node-node.ensures.node c.bit_node-node.ensures.visit).zero
+    (elim (zero_or_one c.bit_node-node.result.bit c.args.address) [
+      | inl clear ↦ clear
+      | inr set ↦ absurd (eqb-false (bit_at c.bit_node-node.result.bit c.args.address) 1 (sym c.is_one.ensures ∙ c.if-is_one.false) set)
+    ])

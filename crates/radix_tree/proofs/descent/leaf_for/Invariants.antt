@@ -1,5 +1,5 @@
-use Rattle.std.proofs.Common.{◌≡◌, ◌+◌, ◌-◌}
 use Rattle.radix_tree.specs.Rooms.{Part, name_of}
+use Rattle.radix_tree.proofs.Words.{◌≡◌, ◌+◌, ◌-◌}
 use Rattle.radix_tree.proofs.Descents.{Down}
 use Rattle.radix_tree.proofs.descent.leaf_for.Given as goal
 

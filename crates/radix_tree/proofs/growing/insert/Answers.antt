@@ -1,5 +1,5 @@
-use Rattle.std.proofs.Common.{ℕ, sym, ◌∙◌, subst}
 use Rattle.radix_tree.specs.Growth.{Differs}
+use Rattle.radix_tree.proofs.Words.{ℕ, sym, ◌∙◌, subst}
 use Rattle.radix_tree.proofs.Kept.{Has-led, leaf_key, whole_at}
 use Rattle.radix_tree.proofs.growing.insert.Goals as goal
 

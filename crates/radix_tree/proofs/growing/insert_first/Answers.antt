@@ -1,4 +1,4 @@
-use Rattle.std.proofs.Common.{refl}
+use Rattle.radix_tree.proofs.Words.{refl}
 use Rattle.radix_tree.proofs.Gained.{first_whole}
 use Rattle.radix_tree.proofs.growing.insert_first.Goals as goal
 

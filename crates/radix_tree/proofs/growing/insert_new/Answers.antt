@@ -1,5 +1,4 @@
-use Rattle.std.proofs.Common.{ℕ, ap, ◌∙◌}
-use Rattle.radix_tree.proofs.Words.{has_key, masks_in}
+use Rattle.radix_tree.proofs.Words.{ℕ, ap, ◌∙◌, has_key, masks_in}
 use Rattle.radix_tree.proofs.Gained.{gains_same, new_left, led_begun, still_begun, same_begun, still_key}
 use Rattle.radix_tree.proofs.growing.insert_new.Goals as goal
 
@@ -32,8 +31,7 @@ returns-clause-whole g c =
     let m = c.args.nodes.now.lodged in
     let key = i.1.leaf.first.entry.key in
     let b = same_begun c.list_mask.new.nodes.lodged
-    (still_begun m c.insert_beside-root.new.nodes.lodged (led_begun m i.1) c.insert_beside-root.ensures.leaves)
-    c.list_mask.ensures.tree.leaves in
+    (still_begun m c.insert_beside-root.new.nodes.lodged (led_begun m i.1) c.insert_beside-root.ensures.leaves) c.list_mask.ensures.tree.leaves in
     new_left c.list_chain.new.nodes.lodged c.list_mask.new.nodes.lodged c.args.room key b.part.leaf.key (has_key m key)
     c.insert_beside-root.ensures.number b.key_is
     (λ n has. still_key m c.insert_beside-root.new.nodes.lodged c.list_mask.new.nodes.lodged key n c.insert_beside-root.ensures.leaves
@@ -42,8 +40,6 @@ returns-clause-whole g c =
     (c.insert_beside-root.ensures.whole i.0 i.1 i.2)) b.at)
 
 pub returns-clause-routes : goal.returns-clause-routes
-returns-clause-routes g c =
-    gains_same _ _ c.list_mask.new.nodes.lodged c.list_chain.new.nodes.lodged c.insert_beside-root.result.0
+returns-clause-routes g c = gains_same _ _ c.list_mask.new.nodes.lodged c.list_chain.new.nodes.lodged c.insert_beside-root.result.0
     (gains_same _ _ c.insert_beside-root.new.nodes.lodged c.list_mask.new.nodes.lodged c.insert_beside-root.result.0 c.insert_beside-root.ensures.routes
-    c.list_mask.ensures.tree.leaves c.list_mask.ensures.tree.bits)
-    c.list_chain.ensures.tree.leaves c.list_chain.ensures.tree.bits
+    c.list_mask.ensures.tree.leaves c.list_mask.ensures.tree.bits) c.list_chain.ensures.tree.leaves c.list_chain.ensures.tree.bits

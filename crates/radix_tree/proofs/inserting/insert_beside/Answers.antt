@@ -1,12 +1,8 @@
-use Rattle.std.proofs.Common.{◌≡◌, ℕ, ◌==◌, ◌||◌, sym, ap, ◌∙◌, subst}
-use Rattle.radix_tree.proofs.Words.{get, Nodes, Part, mask_in, LedTo, IsWhole, Differs, IsSpot, forked_tree, placed, Exchanged, IsWholeBut, HasRoomMore}
-use Rattle.radix_tree.proofs.Words.{has_key, nobody_out}
-use Rattle.radix_tree.proofs.Parts.{fork_named}
-use Rattle.radix_tree.proofs.MaskLists.{bit_node_at}
-use Rattle.radix_tree.proofs.Cuts.{list_at}
-use Rattle.radix_tree.proofs.WholeParts.{whole_but}
+use Rattle.radix_tree.proofs.Words.{◌≡◌, ℕ, ◌==◌, ◌||◌, sym, ap, ◌∙◌, subst, get, Nodes, Part, mask_in, LedTo, IsWhole, Differs, IsSpot, forked_tree}
+use Rattle.radix_tree.proofs.Words.{placed, Exchanged, IsWholeBut, HasRoomMore, has_key, nobody_out}
 use Rattle.radix_tree.proofs.BesideRooms.{Came, same_part, same_spot, exchanged_from, room_more, leaf_kept, new_there}
-use Rattle.radix_tree.proofs.BesideWhole.{new_key, came_beside, whole_beside, routes_beside}
+use Rattle.radix_tree.proofs.{Parts.fork_named, MaskLists.bit_node_at, Cuts.list_at, WholeParts.whole_but, BesideWhole.new_key, BesideWhole.came_beside}
+use Rattle.radix_tree.proofs.{BesideWhole.whole_beside, BesideWhole.routes_beside}
 use Rattle.radix_tree.proofs.inserting.insert_beside.Given as given
 use Rattle.radix_tree.proofs.inserting.insert_beside.Goals as goal
 
@@ -42,21 +38,17 @@ spot_of : (g : given.Over) (c : goal.After-add_beside g) (w : IsWhole c.args.nod
     → IsSpot c.args.nodes.now.lodged c.args.entry.key c.spot_above-spot.result.bit w.part c.spot_above-spot.result.above c.spot_above-spot.result.below
 spot_of g c w d differs =
     subst (λ (b : ℕ). IsSpot c.args.nodes.now.lodged c.args.entry.key b w.part c.spot_above-spot.result.above c.spot_above-spot.result.below)
-    (sym c.spot_above-spot.ensures.bit)
-    (c.spot_above-spot.ensures.spot c.args.entry.key (new_key w d differs))
+    (sym c.spot_above-spot.ensures.bit) (c.spot_above-spot.ensures.spot c.args.entry.key (new_key w d differs))
 
 -- all that has come of the rooms
 came_of : (g : given.Over) (c : goal.After-add_beside g) (w : IsWhole c.args.nodes.now.lodged c.args.root)
     (s : IsSpot c.args.nodes.now.lodged c.args.entry.key c.spot_above-spot.result.bit w.part c.spot_above-spot.result.above c.spot_above-spot.result.below)
     → Came c.args.nodes.now.lodged c.cut-masks.new.nodes.lodged c.add_beside.new.nodes.lodged s.at.low c.spot_above-spot.result.bit s.at.tree
     (placed c.add_beside.result.1 c.args.entry) c.spot_above-spot.result.above c.spot_above-spot.result.below
-came_of g c w s =
-    came_beside w c.cut-masks.result s
-    c.cut-masks.ensures.kept c.cut-masks.ensures.others
+came_of g c w s = came_beside w c.cut-masks.result s c.cut-masks.ensures.kept c.cut-masks.ensures.others
     (λ room is. let l = c.cut-masks.ensures.leaf room is in (l.0, ap (λ (n : Nodes g.row.V.Denot). n.lodged) l.1))
     c.cut-masks.ensures.heads (λ fork ms is. c.cut-masks.ensures.masks fork is ms) c.cut-masks.ensures.marks c.cut-masks.ensures.tree.leaves
-    c.cut-masks.ensures.tree.bits
-    c.add_beside.ensures.beside c.add_beside.ensures.heads c.add_beside.ensures.masks
+    c.cut-masks.ensures.tree.bits c.add_beside.ensures.beside c.add_beside.ensures.heads c.add_beside.ensures.masks
     (ap (λ (k : ℕ). mask_in (get c.args.nodes.now.lodged k)) c.add_beside.ensures.number ∙ ap mask_in c.requires.spare.free)
 
 -- the part with the route in it
@@ -77,8 +69,7 @@ returns-clause-whole g c w d differs =
     let p = part_of g c w s in
     subst (λ (r : ℕ). IsWholeBut c.add_beside.new.nodes.lodged c.add_beside.result.0
     (λ n. (n == r) || has_key c.args.nodes.now.lodged d.leaf.first.entry.key n) nobody_out) c.add_beside.ensures.number
-    (whole_beside (whole_but w) s
-    d p.0 (came_of g c w s) p.1 p.2)
+    (whole_beside (whole_but w) s d p.0 (came_of g c w s) p.1 p.2)
 
 pub returns-clause-routes : goal.returns-clause-routes
 returns-clause-routes g c =
@@ -91,8 +82,7 @@ pub returns-clause-rooms : goal.returns-clause-rooms
 returns-clause-rooms g c =
     let n = c.requires.new in
     let s = spot_of g c n.0 n.1 n.2 in
-    subst (HasRoomMore c.args.nodes.now.lodged c.add_beside.new.nodes.lodged) c.add_beside.ensures.number
-    (room_more s.at.tree (came_of g c n.0 s))
+    subst (HasRoomMore c.args.nodes.now.lodged c.add_beside.new.nodes.lodged) c.add_beside.ensures.number (room_more s.at.tree (came_of g c n.0 s))
 
 pub returns-clause-there : goal.returns-clause-there
 returns-clause-there g c =

@@ -1,5 +1,4 @@
-use Rattle.std.proofs.Common.{◌∙◌, ap, ℕ, Option}
-use Rattle.radix_tree.proofs.Words.{get, Id, heads_in, with_head}
+use Rattle.radix_tree.proofs.Words.{◌∙◌, ap, ℕ, Option, get, Id, heads_in, with_head}
 use Rattle.radix_tree.proofs.Lodging.{Has-lodged_leaf, Has-again, lodged}
 use Rattle.radix_tree.proofs.inserting.lodge_forked.Goals as goal
 
@@ -8,8 +7,7 @@ put_leaf-requires-clause-there g c =
     Has-lodged_leaf c.lodge_leaf-id.new.nodes.lodged c.lodge_leaf-id.result _ _ _ (c.lodge_leaf-id.ensures.leaves c.lodge_leaf-id.result.number)
 
 pub put_bit_node-requires-clause-there : goal.put_bit_node-requires-clause-there
-put_bit_node-requires-clause-there g c =
-    Has-again c.lodge_leaf-id.new.nodes.lodged c.put_leaf.new.nodes.lodged c.lodge_leaf-id.result _ _ _ _
+put_bit_node-requires-clause-there g c = Has-again c.lodge_leaf-id.new.nodes.lodged c.put_leaf.new.nodes.lodged c.lodge_leaf-id.result _ _ _ _
     (c.lodge_leaf-id.ensures.leaves c.lodge_leaf-id.result.number) (c.put_leaf.ensures.leaves c.lodge_leaf-id.result.number)
 
 pub returns-clause-lodged : goal.returns-clause-lodged
@@ -18,12 +16,10 @@ returns-clause-lodged g c =
     c.args.entry c.lone_leaf.result c.lone_leaf-2.result c.forked_node-node.result _
     (ap (λ (k : ℕ). get c.args.nodes.now.lodged k) c.lodge_leaf-id.ensures.number ∙ c.requires.spare.free)
     c.lodge_leaf-id.ensures.leaves c.lodge_leaf-id.ensures.only.bits c.put_leaf.ensures.leaves c.put_leaf.ensures.only.bits c.put_bit_node.ensures.leaves
-    c.put_bit_node.ensures.bits
-    c.lone_leaf-2.ensures c.forked_node-node.ensures.part
+    c.put_bit_node.ensures.bits c.lone_leaf-2.ensures c.forked_node-node.ensures.part
 
 pub returns-clause-heads : goal.returns-clause-heads
-returns-clause-heads g c n =
-    c.put_bit_node.ensures.heads n
+returns-clause-heads g c n = c.put_bit_node.ensures.heads n
     ∙ ap (λ (first : Option Id). with_head c.lodge_leaf-id.result first n (heads_in c.put_leaf.new.nodes.lodged n)) c.forked_node-node.ensures.masks
     ∙ ap (λ (said : Option Id). with_head c.lodge_leaf-id.result c.args.masks n said) (c.put_leaf.ensures.only.heads n ∙ c.lodge_leaf-id.ensures.only.heads n)
 

@@ -1,4 +1,4 @@
-use Rattle.std.proofs.Common.{◌∙◌}
+use Rattle.radix_tree.proofs.Words.{◌∙◌}
 use Rattle.radix_tree.proofs.JoinLists.{append_ready, sibling_node, bit_handed, clear_ready, leaf_side_handed}
 use Rattle.radix_tree.proofs.joining.hand_masks_on.Goals as goal
 

@@ -1,12 +1,12 @@
-use Rattle.std.proofs.Common.{◌∙◌, ap, sym, subst, Option, Some}
-use Rattle.radix_tree.proofs.Words.{Id, Node, IsLone, root_after, Gains, IsWholeBut, nobody_late, out_at, heads_in, name_of, shown, shown_entry}
-use Rattle.radix_tree.proofs.JoinLinks.{Has-kept, head_off}
+use Rattle.radix_tree.proofs.Words.{◌∙◌, ap, sym, subst, Option, Some, Id, Node, IsLone, root_after, Gains, IsWholeBut, nobody_late, out_at, heads_in}
+use Rattle.radix_tree.proofs.Words.{name_of, shown, shown_entry}
 use Rattle.radix_tree.proofs.JoinWhole.{IsJoined, handed_on, routes_kept, idle_stays, freed, whole_joined, routes_joined, own_leaf}
 use Rattle.radix_tree.proofs.JoinRooms.{lone_read, never_top, key_read, Has-up, Has-routes, never_unused, up_read, way_marked, above_after, beneath_after}
 use Rattle.radix_tree.proofs.JoinRooms.{IsUp, joined, idle_joined}
+use Rattle.radix_tree.proofs.joining.remove_lone.Goals.{In-Some, In-Some-bit_node, After-root_after}
+use Rattle.radix_tree.proofs.JoinLinks.{Has-kept, head_off}
 use Rattle.radix_tree.proofs.joining.remove_lone.Given as given
 use Rattle.radix_tree.proofs.joining.remove_lone.Goals as goal
-use Rattle.radix_tree.proofs.joining.remove_lone.Goals.{In-Some, In-Some-bit_node, After-root_after}
 
 -- the route, and the bit node above it, as they are read
 lone : (g : given.Over) (c : In-Some g) → IsLone c.args.nodes.now.lodged c.requires.whole.part c.args.at c.in-Some.up
@@ -36,8 +36,7 @@ done g c =
     )
 
 pub unreachable-requires : goal.unreachable-requires
-unreachable-requires g c =
-    never_top c.links.result.now c.requires.there c.links.ensures.links c.leaf-leaf.ensures c.requires.lone c.in_default.is
+unreachable-requires g c = never_top c.links.result.now c.requires.there c.links.ensures.links c.leaf-leaf.ensures c.requires.lone c.in_default.is
 
 pub links-requires-2-clause-there : goal.links-requires-2-clause-there
 links-requires-2-clause-there g c =
@@ -64,8 +63,7 @@ hand_masks_on-requires-clause-lone g c =
       u.to ∙ sym c.sibling_of-to.ensures,
       u.head,
       c.requires.unmarked,
-      way_marked l.route.entry.key
-          c.requires.whole.part l.over l.ups l.way c.requires.whole.lists,
+      way_marked l.route.entry.key c.requires.whole.part l.over l.ups l.way c.requires.whole.lists,
     )
 
 pub join-requires-clause-up : goal.join-requires-clause-up

@@ -1,5 +1,5 @@
-use Rattle.std.proofs.Common.{subst}
 use Rattle.radix_tree.specs.Table.{Contents, IsTable}
+use Rattle.radix_tree.proofs.Words.{subst}
 use Rattle.radix_tree.proofs.Kept.{shown_table}
 use Rattle.radix_tree.proofs.laws.is_table.Goals as goal
 

@@ -1,5 +1,5 @@
-use Rattle.std.proofs.Common.{◌≡◌, ◌≤◌, length, subst}
 use Rattle.radix_tree.specs.Table.{Contents, uses}
+use Rattle.radix_tree.proofs.Words.{◌≡◌, ◌≤◌, length, subst}
 use Rattle.radix_tree.proofs.RoomCounts.{rooms_as_routes, rooms_once}
 use Rattle.radix_tree.proofs.laws.one_room_a_route.Goals as goal
 

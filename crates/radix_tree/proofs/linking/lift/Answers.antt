@@ -1,4 +1,4 @@
-use Rattle.std.proofs.Common.{◌∙◌}
+use Rattle.radix_tree.proofs.Words.{◌∙◌}
 use Rattle.radix_tree.proofs.Parts.{fork_named, leaf_named}
 use Rattle.radix_tree.proofs.linking.lift.Goals as goal
 

@@ -1,4 +1,4 @@
-use Rattle.std.proofs.Common.{◌∙◌}
+use Rattle.radix_tree.proofs.Words.{◌∙◌}
 use Rattle.radix_tree.proofs.Lifts.{Has-leaf_at, leaf_lifted}
 use Rattle.radix_tree.proofs.linking.lift_leaf.Goals as goal
 

@@ -1,6 +1,6 @@
-use Rattle.std.proofs.Common.{◌≡◌, ◌∙◌, refl, ap, ℕ, None}
-use Rattle.std.specs.FinMap.{get}
 use Rattle.radix_nodes.proofs.Callers.{Has-lodged}
+use Rattle.std.specs.FinMap.{get}
+use Rattle.radix_tree.proofs.Words.{◌≡◌, ◌∙◌, refl, ap, ℕ, None}
 use Rattle.radix_tree.proofs.RoomWrites.{lodged_bits, lodged_heads, lodged_masks, lodged_leaves}
 use Rattle.radix_tree.proofs.linking.lodge_leaf.Goals as goal
 

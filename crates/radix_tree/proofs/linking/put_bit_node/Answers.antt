@@ -1,5 +1,5 @@
-use Rattle.std.proofs.Common.{ap}
 use Rattle.radix_nodes.specs.Rooms.{Rooms}
+use Rattle.radix_tree.proofs.Words.{ap}
 use Rattle.radix_tree.proofs.RoomWrites.{leaves_kept, masks_kept, bits_put, heads_put}
 use Rattle.radix_tree.proofs.linking.put_bit_node.Goals as goal
 

@@ -1,5 +1,5 @@
-use Rattle.std.proofs.Common.{ap}
 use Rattle.radix_nodes.specs.Rooms.{Rooms}
+use Rattle.radix_tree.proofs.Words.{ap}
 use Rattle.radix_tree.proofs.RoomWrites.{bits_kept, heads_kept, masks_kept, leaves_put}
 use Rattle.radix_tree.proofs.linking.put_leaf.Goals as goal
 

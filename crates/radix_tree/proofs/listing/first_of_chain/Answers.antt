@@ -1,5 +1,4 @@
-use Rattle.std.proofs.Common.{◌≡◌, ◌≤◌, ◌+◌, ◌-◌, ◌∙◌, ap, arith}
-use Rattle.radix_tree.proofs.Words.{Counter}
+use Rattle.radix_tree.proofs.Words.{◌≡◌, ◌≤◌, ◌+◌, ◌-◌, ◌∙◌, ap, arith, Counter}
 use Rattle.radix_tree.proofs.ChainStarts.{Has-member, come, earlier, few_at, ended}
 use Rattle.radix_tree.proofs.listing.first_of_chain.Goals as goal
 
@@ -41,8 +40,7 @@ loop-before-preserved g c =
           let e = earlier c.args.nodes.now.lodged r _ (c.loop-before.invariant.back r y first among is) c.in-Some.is in
           let few : c.loop-before.visits.count - c.args.visits.now.count ≤ e.is.entry.rank = e.few in
           come r e.is (c.links-in-Some.new.visits.count - c.args.visits.now.count) c.links-in-Some.result.now first e.among e.room_is (omega arith)
-          c.links-in-Some.ensures.links
-          c.leaf-before-in-Some.ensures;
+          c.links-in-Some.ensures.links c.leaf-before-in-Some.ensures;
       rises = omega arith;
     }
 

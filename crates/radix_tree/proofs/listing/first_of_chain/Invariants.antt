@@ -1,5 +1,4 @@
-use Rattle.std.proofs.Common.{◌≡◌, ◌≤◌, ◌+◌, ◌-◌, None}
-use Rattle.radix_tree.proofs.Words.{Placed, IsAmong, Run}
+use Rattle.radix_tree.proofs.Words.{◌≡◌, ◌≤◌, ◌+◌, ◌-◌, None, Placed, IsAmong, Run}
 use Rattle.radix_tree.proofs.ChainStarts.{Back}
 use Rattle.radix_tree.proofs.listing.first_of_chain.Given as goal
 

@@ -1,7 +1,6 @@
-use Rattle.std.proofs.Common.{◌∙◌, refl, sym, ap}
-use Rattle.radix_tree.proofs.Words.{Counter, LeafPart}
-use Rattle.radix_tree.proofs.RoomReads.{inside}
+use Rattle.radix_tree.proofs.Words.{◌∙◌, refl, sym, ap, Counter, LeafPart}
 use Rattle.radix_tree.proofs.ListedChains.{begun, Has-at, passed, nearer, ended}
+use Rattle.radix_tree.proofs.RoomReads.{inside}
 use Rattle.radix_tree.proofs.listing.list_chain.Goals as goal
 
 pub loop-at-init : goal.loop-at-init
@@ -33,8 +32,7 @@ links-requires-clause-there g c =
     let w = c.requires.whole in
     let f = c.requires.first in
     let l = c.loop-at.invariant.left w.0 w.1 f.0 w.2 f.1 f.2 f.3 in
-    Has-at c.list_late.new.nodes.lodged l
-    (λ n. c.list_late.ensures.tree.leaves n ∙ c.loop-at.invariant.leaves n) c.in-Some.is
+    Has-at c.list_late.new.nodes.lodged l (λ n. c.list_late.ensures.tree.leaves n ∙ c.loop-at.invariant.leaves n) c.in-Some.is
 
 pub loop-at-smaller : goal.loop-at-smaller
 loop-at-smaller g c =
@@ -42,8 +40,7 @@ loop-at-smaller g c =
     let f = c.requires.first in
     let l = c.loop-at.invariant.left w.0 w.1 f.0 w.2 f.1 f.2 f.3 in
     nearer c.args.nodes.now.lodged c.loop-at.nodes.lodged c.list_late.new.nodes.lodged c.loop-at.at c.in-Some.room c.links.result.now l c.in-Some.is
-    c.loop-at.invariant.leaves
-    (λ n. c.list_late.ensures.tree.leaves n ∙ c.loop-at.invariant.leaves n) c.links.ensures.links c.leaf-at.ensures
+    c.loop-at.invariant.leaves (λ n. c.list_late.ensures.tree.leaves n ∙ c.loop-at.invariant.leaves n) c.links.ensures.links c.leaf-at.ensures
 
 pub loop-at-preserved : goal.loop-at-preserved
 loop-at-preserved g c = record {
@@ -63,6 +60,5 @@ pub returns-clause-whole : goal.returns-clause-whole
 returns-clause-whole g c root late p w said =
     let f = c.requires.first in
     let same = inside (sym f.1 ∙ said) in
-    ended late p.leaf.key
-    (c.loop-at.invariant.left root late p w said (ap (λ (q : LeafPart g.row.V.Denot). q.block) (sym same) ∙ f.2)
+    ended late p.leaf.key (c.loop-at.invariant.left root late p w said (ap (λ (q : LeafPart g.row.V.Denot). q.block) (sym same) ∙ f.2)
     (ap (λ (q : LeafPart g.row.V.Denot). q.leaf.previous) (sym same) ∙ f.3)) c.in_default.is

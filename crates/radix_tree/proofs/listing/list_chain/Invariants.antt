@@ -1,5 +1,4 @@
-use Rattle.std.proofs.Common.{◌≡◌, Bool, ℕ, Some, None}
-use Rattle.radix_tree.proofs.Words.{Node, LeafPart, leaves_in, KeepsLeaves, KeepsBits, IsWholeBut, nobody_out}
+use Rattle.radix_tree.proofs.Words.{◌≡◌, Bool, ℕ, Some, None, Node, LeafPart, leaves_in, KeepsLeaves, KeepsBits, IsWholeBut, nobody_out}
 use Rattle.radix_tree.proofs.ListedChains.{Left, left_at}
 use Rattle.radix_tree.proofs.listing.list_chain.Given as goal
 

@@ -1,4 +1,4 @@
-use Rattle.std.proofs.Common.{◌∙◌, sym}
+use Rattle.radix_tree.proofs.Words.{◌∙◌, sym}
 use Rattle.radix_tree.proofs.ListedChains.{mask_none, listed_late}
 use Rattle.radix_tree.proofs.listing.list_late.Goals as goal
 

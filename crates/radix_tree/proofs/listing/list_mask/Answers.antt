@@ -1,8 +1,6 @@
-use Rattle.std.proofs.Common.{subst}
-use Rattle.radix_tree.proofs.Words.{IsHome}
-use Rattle.radix_tree.proofs.WholeParts.{once_but}
-use Rattle.radix_tree.proofs.HomeLists.{placed_in}
-use Rattle.radix_tree.proofs.Listed.{listed_more, never_late, homed, home_node, home_masks, home_free}
+use Rattle.radix_tree.proofs.Words.{subst, IsHome}
+use Rattle.radix_tree.proofs.{WholeParts.once_but, HomeLists.placed_in, Listed.listed_more, Listed.never_late, Listed.homed, Listed.home_node}
+use Rattle.radix_tree.proofs.{Listed.home_masks, Listed.home_free}
 use Rattle.radix_tree.proofs.listing.list_mask.Goals as goal
 
 pub returns-in_default-clause-whole : goal.returns-in_default-clause-whole
@@ -15,34 +13,28 @@ pub sort_in-requires-clause-node : goal.sort_in-requires-clause-node
 sort_in-requires-clause-node g c =
     let w = c.requires.whole in
     let y = placed_in w.2 c.requires.there in
-    home_node
-    (homed w.2.part y.0 y.1 y.2 c.in-Some.is (c.home_of.ensures.home w.0 w.1 w.2 y.0 y.1 y.2))
+    home_node (homed w.2.part y.0 y.1 y.2 c.in-Some.is (c.home_of.ensures.home w.0 w.1 w.2 y.0 y.1 y.2))
 
 pub sort_in-requires-clause-list : goal.sort_in-requires-clause-list
 sort_in-requires-clause-list g c =
     let w = c.requires.whole in
     let y = placed_in w.2 c.requires.there in
-    home_masks w.2
-    (homed w.2.part y.0 y.1 y.2 c.in-Some.is (c.home_of.ensures.home w.0 w.1 w.2 y.0 y.1 y.2))
+    home_masks w.2 (homed w.2.part y.0 y.1 y.2 c.in-Some.is (c.home_of.ensures.home w.0 w.1 w.2 y.0 y.1 y.2))
 
 pub sort_in-requires-clause-free : goal.sort_in-requires-clause-free
 sort_in-requires-clause-free g c =
     let w = c.requires.whole in
     let y = placed_in w.2 c.requires.there in
-    home_free w.2.part
-    (homed w.2.part y.0 y.1 y.2 c.in-Some.is (c.home_of.ensures.home w.0 w.1 w.2 y.0 y.1 y.2)) c.requires.unmarked
+    home_free w.2.part (homed w.2.part y.0 y.1 y.2 c.in-Some.is (c.home_of.ensures.home w.0 w.1 w.2 y.0 y.1 y.2)) c.requires.unmarked
 
 pub returns-clause-whole : goal.returns-clause-whole
 returns-clause-whole g c root late w =
     let y = placed_in w c.requires.there in
     listed_more c.args.nodes.now.lodged c.sort_in.new.nodes.lodged late w c.args.room c.in-Some.fork (once_but w)
-    (homed w.part y.0 y.1 y.2 c.in-Some.is (c.home_of.ensures.home root late w y.0 y.1 y.2)) c.requires.unmarked
-    (record {
+    (homed w.part y.0 y.1 y.2 c.in-Some.is (c.home_of.ensures.home root late w y.0 y.1 y.2)) c.requires.unmarked (record {
       list = c.sort_in.ensures.list;
       heads = c.sort_in.ensures.heads;
       masks = c.sort_in.ensures.masks;
       marked = c.sort_in.ensures.marked;
-      marks =
-          c.sort_in.ensures.marks;
-    })
-    c.sort_in.ensures.tree.leaves c.sort_in.ensures.tree.bits
+      marks = c.sort_in.ensures.marks;
+    }) c.sort_in.ensures.tree.leaves c.sort_in.ensures.tree.bits

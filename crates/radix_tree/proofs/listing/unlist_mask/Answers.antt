@@ -1,16 +1,13 @@
-use Rattle.std.proofs.Common.{sym, subst}
-use Rattle.radix_tree.proofs.Words.{nobody_late, late_at, IsHome}
-use Rattle.radix_tree.proofs.WholeParts.{whole_but, once_but, later_than}
-use Rattle.radix_tree.proofs.HomeLists.{placed_in, true_false}
-use Rattle.radix_tree.proofs.Listed.{listed_less, homeless, homed, home_node, home_member, marked_at}
+use Rattle.radix_tree.proofs.Words.{sym, subst, nobody_late, late_at, IsHome}
+use Rattle.radix_tree.proofs.{WholeParts.whole_but, WholeParts.once_but, WholeParts.later_than, HomeLists.placed_in, HomeLists.true_false}
+use Rattle.radix_tree.proofs.{Listed.listed_less, Listed.homeless, Listed.homed, Listed.home_node, Listed.home_member, Listed.marked_at}
 use Rattle.radix_tree.proofs.listing.unlist_mask.Goals as goal
 
 pub home_of-requires-clause-whole : goal.home_of-requires-clause-whole
 home_of-requires-clause-whole g c = let w = c.requires.whole in (w.0, nobody_late, whole_but w.1)
 
 pub returns-in_default-clause-whole : goal.returns-in_default-clause-whole
-returns-in_default-clause-whole g c root is =
-    later_than (late_at c.args.room.number) (λ n never. absurd (true_false (sym never))) (whole_but is)
+returns-in_default-clause-whole g c root is = later_than (late_at c.args.room.number) (λ n never. absurd (true_false (sym never))) (whole_but is)
 
 pub returns-in_default-clause-gone : goal.returns-in_default-clause-gone
 returns-in_default-clause-gone g c =
@@ -25,8 +22,7 @@ sort_out-requires-clause-node g c =
     let r = c.requires.whole in
     let w = whole_but r.1 in
     let y = placed_in w c.requires.there in
-    home_node
-    (homed w.part y.0 y.1 y.2 c.in-Some.is (c.home_of.ensures.home r.0 nobody_late w y.0 y.1 y.2))
+    home_node (homed w.part y.0 y.1 y.2 c.in-Some.is (c.home_of.ensures.home r.0 nobody_late w y.0 y.1 y.2))
 
 pub sort_out-requires-clause-list : goal.sort_out-requires-clause-list
 sort_out-requires-clause-list g c =
@@ -41,14 +37,10 @@ returns-clause-whole g c root is =
     let w = whole_but is in
     let y = placed_in w c.requires.there in
     let h = homed w.part y.0 y.1 y.2 c.in-Some.is (c.home_of.ensures.home root nobody_late w y.0 y.1 y.2) in
-    listed_less c.args.nodes.now.lodged c.sort_out.new.nodes.lodged nobody_late w c.args.room c.in-Some.fork (once_but w) h
-    (marked_at w h)
-    (record {
+    listed_less c.args.nodes.now.lodged c.sort_out.new.nodes.lodged nobody_late w c.args.room c.in-Some.fork (once_but w) h (marked_at w h) (record {
       list = c.sort_out.ensures.list;
       heads = c.sort_out.ensures.heads;
       masks = c.sort_out.ensures.masks;
-      unmarked =
-          c.sort_out.ensures.unmarked;
+      unmarked = c.sort_out.ensures.unmarked;
       marks = c.sort_out.ensures.marks;
-    })
-    c.sort_out.ensures.tree.leaves c.sort_out.ensures.tree.bits
+    }) c.sort_out.ensures.tree.leaves c.sort_out.ensures.tree.bits

@@ -1,8 +1,6 @@
-use Rattle.std.proofs.Common.{◌∙◌, ap}
-use Rattle.radix_tree.proofs.Words.{is_some, masks_in, not_below}
-use Rattle.radix_tree.proofs.MaskLists.{not_below_among}
-use Rattle.radix_tree.proofs.MaskLinks.{list_of, Has-last, aside_linked, marks_linked}
-use Rattle.radix_tree.proofs.MaskChanges.{appended}
+use Rattle.radix_tree.proofs.Words.{◌∙◌, ap, is_some, masks_in, not_below}
+use Rattle.radix_tree.proofs.{MaskLists.not_below_among, MaskLinks.list_of, MaskLinks.Has-last, MaskLinks.aside_linked, MaskLinks.marks_linked}
+use Rattle.radix_tree.proofs.{MaskChanges.appended}
 use Rattle.radix_tree.proofs.masks.append.Goals as goal
 
 pub link-requires-clause-there : goal.link-requires-clause-there
@@ -12,10 +10,8 @@ link-requires-clause-there g c room is =
     (c.gap_at-gap.ensures.before l.0 (list_of c.masks_of-first.ensures.head l.2)) is
 
 pub returns-clause-list : goal.returns-clause-list
-returns-clause-list g c ms ts is behind falls =
-    appended c.args.nodes.now.lodged c.link.new.nodes.lodged c.args.fork ms ts c.args.tail is behind falls
-    (c.gap_at-gap.ensures.before ms (list_of c.masks_of-first.ensures.head is))
-    c.link.ensures.tree.leaves c.link.ensures.heads c.link.ensures.masks
+returns-clause-list g c ms ts is behind falls = appended c.args.nodes.now.lodged c.link.new.nodes.lodged c.args.fork ms ts c.args.tail is behind falls
+    (c.gap_at-gap.ensures.before ms (list_of c.masks_of-first.ensures.head is)) c.link.ensures.tree.leaves c.link.ensures.heads c.link.ensures.masks
 
 pub returns-clause-masks : goal.returns-clause-masks
 returns-clause-masks g c ms is n aside =

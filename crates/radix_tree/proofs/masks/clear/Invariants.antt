@@ -1,5 +1,4 @@
-use Rattle.std.proofs.Common.{◌≡◌, List}
-use Rattle.radix_tree.proofs.Words.{IsMasks, Stays, leaves_in, Placed, KeepsTree, KeepsHeads}
+use Rattle.radix_tree.proofs.Words.{◌≡◌, List, IsMasks, Stays, leaves_in, Placed, KeepsTree, KeepsHeads}
 use Rattle.radix_tree.proofs.MaskClears.{Clearing, ranks_from}
 use Rattle.radix_tree.proofs.masks.clear.Given as goal
 

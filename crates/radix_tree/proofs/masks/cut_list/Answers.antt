@@ -1,8 +1,6 @@
-use Rattle.std.proofs.Common.{◌+◌, ◌∙◌, ap}
-use Rattle.radix_tree.proofs.Words.{is_some, masks_in, not_below}
-use Rattle.radix_tree.proofs.MaskLists.{not_below_among}
-use Rattle.radix_tree.proofs.MaskLinks.{list_of, Has-last, aside_linked, marks_linked}
-use Rattle.radix_tree.proofs.MaskChanges.{kept_of_cut, others_of_cut}
+use Rattle.radix_tree.proofs.Words.{◌+◌, ◌∙◌, ap, is_some, masks_in, not_below}
+use Rattle.radix_tree.proofs.{MaskLists.not_below_among, MaskLinks.list_of, MaskLinks.Has-last, MaskLinks.aside_linked, MaskLinks.marks_linked}
+use Rattle.radix_tree.proofs.{MaskChanges.kept_of_cut, MaskChanges.others_of_cut}
 use Rattle.radix_tree.proofs.masks.cut_list.Goals as goal
 
 pub link-requires-clause-there : goal.link-requires-clause-there
@@ -13,10 +11,8 @@ link-requires-clause-there g c room is =
     (c.gap_at-gap.ensures.before l.0 (list_of head l.1)) is
 
 pub returns-clause-kept : goal.returns-clause-kept
-returns-clause-kept g c ms is =
-    kept_of_cut c.args.nodes.now.lodged c.link.new.nodes.lodged c.args.fork (c.args.bit + 1) ms is
-    (c.gap_at-gap.ensures.before ms (list_of c.masks_of-first.ensures.head is))
-    c.link.ensures.tree.leaves c.link.ensures.heads c.link.ensures.masks
+returns-clause-kept g c ms is = kept_of_cut c.args.nodes.now.lodged c.link.new.nodes.lodged c.args.fork (c.args.bit + 1) ms is
+    (c.gap_at-gap.ensures.before ms (list_of c.masks_of-first.ensures.head is)) c.link.ensures.tree.leaves c.link.ensures.heads c.link.ensures.masks
 
 pub returns-clause-others : goal.returns-clause-others
 returns-clause-others g c ms is =
@@ -34,6 +30,5 @@ pub returns-clause-marks : goal.returns-clause-marks
 returns-clause-marks g c n =
     let l = c.requires.list in
     let first = list_of c.masks_of-first.ensures.head l.1 in
-    ap is_some (c.link.ensures.masks n)
-    ∙ marks_linked (masks_in c.args.nodes.now.lodged) l.0 (not_below (c.args.bit + 1) l.0) _ n l.1.stands
+    ap is_some (c.link.ensures.masks n) ∙ marks_linked (masks_in c.args.nodes.now.lodged) l.0 (not_below (c.args.bit + 1) l.0) _ n l.1.stands
     (λ y among. (not_below_among (c.args.bit + 1) l.0 y among).0) (c.gap_at-gap.ensures.before l.0 first)

@@ -1,4 +1,4 @@
-use Rattle.std.proofs.Common.{◌≤◌, ◌<◌, ◌∙◌, ℕ, refl, sym, subst, arith}
+use Rattle.radix_tree.proofs.Words.{◌≤◌, ◌<◌, ◌∙◌, ℕ, refl, sym, subst, arith}
 use Rattle.radix_tree.proofs.MaskWalks.{begun, next_of, rank_told, ended}
 use Rattle.radix_tree.proofs.masks.gap_at.Goals as goal
 

@@ -1,5 +1,4 @@
-use Rattle.std.proofs.Common.{◌≡◌, ◌+◌, ◌-◌, List}
-use Rattle.radix_tree.proofs.Words.{IsMasks, Placed}
+use Rattle.radix_tree.proofs.Words.{◌≡◌, ◌+◌, ◌-◌, List, IsMasks, Placed}
 use Rattle.radix_tree.proofs.MaskWalks.{Passing}
 use Rattle.radix_tree.proofs.masks.gap_at.Given as goal
 

@@ -1,7 +1,6 @@
-use Rattle.std.proofs.Common.{◌≤◌, ◌<◌, ◌∙◌, ℕ, subst, arith}
-use Rattle.radix_tree.proofs.Climbs.{begun, over, fork_over, used, risen, step_soon}
-use Rattle.radix_tree.proofs.Homes.{none_passed, passed, stopped, topped}
-use Rattle.radix_tree.proofs.Lifts.{Has-leaf_at}
+use Rattle.radix_tree.proofs.Words.{◌≤◌, ◌<◌, ◌∙◌, ℕ, subst, arith}
+use Rattle.radix_tree.proofs.{Climbs.begun, Climbs.over, Climbs.fork_over, Climbs.used, Climbs.risen, Climbs.step_soon, Homes.none_passed, Homes.passed}
+use Rattle.radix_tree.proofs.{Homes.stopped, Homes.topped, Lifts.Has-leaf_at}
 use Rattle.radix_tree.proofs.masks.home.Goals as goal
 
 pub leaf-above-requires-clause-there : goal.leaf-above-requires-clause-there

@@ -1,4 +1,4 @@
-use Rattle.std.proofs.Common.{sym}
+use Rattle.radix_tree.proofs.Words.{sym}
 use Rattle.radix_tree.proofs.masks.masks_of.Goals as goal
 
 pub returns-clause-head : goal.returns-clause-head

@@ -1,9 +1,7 @@
-use Rattle.std.proofs.Common.{◌∙◌, ◌+◌, ℕ, None, ap}
-use Rattle.radix_tree.proofs.Words.{is_some, masks_in, leaves_in, not_below, below}
-use Rattle.radix_tree.proofs.MaskLists.{not_below_among, ranked_among}
-use Rattle.radix_tree.proofs.MaskWalks.{Has-ranked, rank_told, listed_as, next_told}
-use Rattle.radix_tree.proofs.MaskLinks.{list_of, Has-last, ranked_same, put_aside, aside_linked, marks_linked}
-use Rattle.radix_tree.proofs.MaskChanges.{stands_at, taken}
+use Rattle.radix_tree.proofs.Words.{◌∙◌, ◌+◌, ℕ, None, ap, is_some, masks_in, leaves_in, not_below, below}
+use Rattle.radix_tree.proofs.{MaskLists.not_below_among, MaskLists.ranked_among, MaskWalks.Has-ranked, MaskWalks.rank_told, MaskWalks.listed_as}
+use Rattle.radix_tree.proofs.{MaskWalks.next_told, MaskLinks.list_of, MaskLinks.Has-last, MaskLinks.ranked_same, MaskLinks.put_aside}
+use Rattle.radix_tree.proofs.{MaskLinks.aside_linked, MaskLinks.marks_linked, MaskChanges.stands_at, MaskChanges.taken}
 use Rattle.radix_tree.proofs.masks.sort_out.Goals as goal
 
 pub mask_node-leaf-requires-clause-listed : goal.mask_node-leaf-requires-clause-listed
@@ -38,8 +36,7 @@ returns-clause-list g c ms x is among room_is =
 pub returns-clause-masks : goal.returns-clause-masks
 returns-clause-masks g c ms is n other aside =
     let first = list_of c.masks_of-first.ensures.head is in
-    c.put_mask_node.ensures.masks n ∙ put_aside c.args.room None n (masks_in c.link.new.nodes.lodged n) other
-    ∙ c.link.ensures.masks n
+    c.put_mask_node.ensures.masks n ∙ put_aside c.args.room None n (masks_in c.link.new.nodes.lodged n) other ∙ c.link.ensures.masks n
     ∙ aside_linked (not_below (c.number.result + 1) ms) _ n (masks_in c.args.nodes.now.lodged n) (c.gap_at-gap.ensures.before ms first)
     (λ y among. aside y (not_below_among (c.number.result + 1) ms y among).0)
 

@@ -1,11 +1,10 @@
-use Rattle.std.proofs.Common.{◌∙◌, Option, Some, None, sym, ap}
-use Rattle.radix_tree.proofs.Words.{Id, LeafPart, BitPart, leaves_in, put_bit, put_head, lift_leaf, lift_bit, rename, content_of}
-use Rattle.radix_tree.proofs.MovedReads.{Has_kept, content_lift}
+use Rattle.radix_tree.proofs.Words.{◌∙◌, Option, Some, None, sym, ap, Id, LeafPart, BitPart, leaves_in, put_bit, put_head, lift_leaf, lift_bit, rename}
+use Rattle.radix_tree.proofs.Words.{content_of}
 use Rattle.radix_tree.proofs.MoveWrites.{IsMove, IsMoved, move_of, left_there, right_there, Has-over, contents_stay, gone}
-use Rattle.radix_tree.proofs.MovedWhole.{whole_moved, routes_moved}
+use Rattle.radix_tree.proofs.{MovedReads.Has_kept, MovedReads.content_lift, MovedWhole.whole_moved, MovedWhole.routes_moved, moving.vacate.Goals.In-Some}
+use Rattle.radix_tree.proofs.{moving.vacate.Goals.After-root_after}
 use Rattle.radix_tree.proofs.moving.vacate.Given as given
 use Rattle.radix_tree.proofs.moving.vacate.Goals as goal
-use Rattle.radix_tree.proofs.moving.vacate.Goals.{In-Some, After-root_after}
 
 -- the bit node that moves, and its place
 move : (g : given.Over) (c : In-Some g) → IsMove c.args.nodes.now.lodged c.args.root c.args.from c.args.to c.in-Some.node
@@ -29,8 +28,7 @@ moved g c = record {
 }
 
 pub lift-requires-clause-tree : goal.lift-requires-clause-tree
-lift-requires-clause-tree g c =
-    left_there (move g (goal.at.lift-requires-clause-tree g c).In-Some)
+lift-requires-clause-tree g c = left_there (move g (goal.at.lift-requires-clause-tree g c).In-Some)
 
 pub lift-requires-2-clause-tree : goal.lift-requires-2-clause-tree
 lift-requires-2-clause-tree g c =
@@ -38,27 +36,22 @@ lift-requires-2-clause-tree g c =
     c.lift.ensures.bits
 
 pub put_bit_node-requires-clause-there : goal.put_bit_node-requires-clause-there
-put_bit_node-requires-clause-there g c =
-    Has_kept c.lift-2.new.nodes.lodged
+put_bit_node-requires-clause-there g c = Has_kept c.lift-2.new.nodes.lodged
     (ap (λ (o : Option (LeafPart g.row.V.Denot)). content_of o) (c.lift-2.ensures.leaves c.args.from.number)
     ∙ content_lift c.in-Some.node.one (Some c.args.to) c.args.from.number (leaves_in c.lift.new.nodes.lodged c.args.from.number)
     ∙ ap (λ (o : Option (LeafPart g.row.V.Denot)). content_of o) (c.lift.ensures.leaves c.args.from.number)
-    ∙ content_lift c.in-Some.node.zero (Some c.args.to) c.args.from.number (leaves_in c.args.nodes.now.lodged c.args.from.number))
-    c.requires.from
+    ∙ content_lift c.in-Some.node.zero (Some c.args.to) c.args.from.number (leaves_in c.args.nodes.now.lodged c.args.from.number)) c.requires.from
 
 pub put_bit_node-requires-2-clause-there : goal.put_bit_node-requires-2-clause-there
-put_bit_node-requires-2-clause-there g c =
-    Has_kept c.put_bit_node.new.nodes.lodged
+put_bit_node-requires-2-clause-there g c = Has_kept c.put_bit_node.new.nodes.lodged
     (ap (λ (o : Option (LeafPart g.row.V.Denot)). content_of o) (c.put_bit_node.ensures.leaves c.args.to.number)
     ∙ ap (λ (o : Option (LeafPart g.row.V.Denot)). content_of o) (c.lift-2.ensures.leaves c.args.to.number)
     ∙ content_lift c.in-Some.node.one (Some c.args.to) c.args.to.number (leaves_in c.lift.new.nodes.lodged c.args.to.number)
     ∙ ap (λ (o : Option (LeafPart g.row.V.Denot)). content_of o) (c.lift.ensures.leaves c.args.to.number)
-    ∙ content_lift c.in-Some.node.zero (Some c.args.to) c.args.to.number (leaves_in c.args.nodes.now.lodged c.args.to.number))
-    c.requires.to
+    ∙ content_lift c.in-Some.node.zero (Some c.args.to) c.args.to.number (leaves_in c.args.nodes.now.lodged c.args.to.number)) c.requires.to
 
 pub rename_child-requires-clause-there : goal.rename_child-requires-clause-there
-rename_child-requires-clause-there g c up is =
-    Has_kept c.put_bit_node-2.new.nodes.lodged
+rename_child-requires-clause-there g c up is = Has_kept c.put_bit_node-2.new.nodes.lodged
     (ap (λ (o : Option (LeafPart g.row.V.Denot)). content_of o) (c.put_bit_node-2.ensures.leaves up.number)
     ∙ ap (λ (o : Option (LeafPart g.row.V.Denot)). content_of o) (c.put_bit_node.ensures.leaves up.number)
     ∙ ap (λ (o : Option (LeafPart g.row.V.Denot)). content_of o) (c.lift-2.ensures.leaves up.number)
@@ -68,17 +61,13 @@ rename_child-requires-clause-there g c up is =
     (Has-over (move g (goal.at.rename_child-requires-clause-there g c).In-Some) up is)
 
 pub returns-clause-whole : goal.returns-clause-whole
-returns-clause-whole g c =
-    whole_moved c.args.from c.args.to (move g (goal.at.returns-clause-whole g c).In-Some) (moved g c) c.root_after.ensures
+returns-clause-whole g c = whole_moved c.args.from c.args.to (move g (goal.at.returns-clause-whole g c).In-Some) (moved g c) c.root_after.ensures
 
 pub returns-clause-gone : goal.returns-clause-gone
-returns-clause-gone g c =
-    gone c.args.from c.args.to (move g (goal.at.returns-clause-gone g c).In-Some) (moved g c)
+returns-clause-gone g c = gone c.args.from c.args.to (move g (goal.at.returns-clause-gone g c).In-Some) (moved g c)
 
 pub returns-clause-routes : goal.returns-clause-routes
-returns-clause-routes g c =
-    routes_moved c.args.from c.args.to (move g (goal.at.returns-clause-routes g c).In-Some) (moved g c) c.root_after.ensures
+returns-clause-routes g c = routes_moved c.args.from c.args.to (move g (goal.at.returns-clause-routes g c).In-Some) (moved g c) c.root_after.ensures
 
 pub returns-clause-rooms : goal.returns-clause-rooms
-returns-clause-rooms g c =
-    contents_stay c.args.to (moved g c)
+returns-clause-rooms g c = contents_stay c.args.to (moved g c)

@@ -1,8 +1,6 @@
-use Rattle.std.proofs.Common.{◌∙◌, subst, Option, arith}
-use Rattle.radix_tree.proofs.Words.{Id, IsSpot}
-use Rattle.radix_tree.proofs.Climbs.{begun, over, fork_over, used, risen, step_soon}
-use Rattle.radix_tree.proofs.Lifts.{Has-leaf_at}
-use Rattle.radix_tree.proofs.Spots.{leaf_past, over_past, stopped, topped}
+use Rattle.radix_tree.proofs.Words.{◌∙◌, subst, Option, arith, Id, IsSpot}
+use Rattle.radix_tree.proofs.{Climbs.begun, Climbs.over, Climbs.fork_over, Climbs.used, Climbs.risen, Climbs.step_soon, Lifts.Has-leaf_at}
+use Rattle.radix_tree.proofs.{Spots.leaf_past, Spots.over_past, Spots.stopped, Spots.topped}
 use Rattle.radix_tree.proofs.placing.spot_above.Goals as goal
 
 pub leaf-above-requires-clause-there : goal.leaf-above-requires-clause-there

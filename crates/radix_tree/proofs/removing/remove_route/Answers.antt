@@ -1,7 +1,6 @@
-use Rattle.std.proofs.Common.{◌∙◌, Option, sym, ap, subst}
-use Rattle.radix_tree.proofs.Words.{get, Rooms, LeafPart, Holds, shown, HasRoomMore, content_of, Lodged}
-use Rattle.radix_tree.proofs.MovedReads.{Has_kept}
+use Rattle.radix_tree.proofs.Words.{◌∙◌, Option, sym, ap, subst, get, Rooms, LeafPart, Holds, shown, HasRoomMore, content_of, Lodged}
 use Rattle.radix_tree.proofs.RemovedRooms.{get_out, out_gone, out_shown, shown_stays, gains_stays, value_taken, room_less}
+use Rattle.radix_tree.proofs.MovedReads.{Has_kept}
 use Rattle.radix_tree.proofs.removing.remove_route.Goals as goal
 
 pub take_out-rest-requires-clause-whole : goal.take_out-rest-requires-clause-whole
@@ -14,8 +13,7 @@ take_out-rest-requires-clause-there g c = Has_kept c.unlist_mask.new.nodes.lodge
 pub evict-room-requires : goal.evict-room-requires
 evict-room-requires g c =
     record {
-      there =
-          Has_kept c.take_out-rest.new.nodes.lodged (c.take_out-rest.ensures.rooms c.args.at.number
+      there = Has_kept c.take_out-rest.new.nodes.lodged (c.take_out-rest.ensures.rooms c.args.at.number
           ∙ ap (λ (o : Option (LeafPart g.row.V.Denot)). content_of o) (c.unlist_mask.ensures.tree.leaves c.args.at.number)) c.requires.there;
     }
 

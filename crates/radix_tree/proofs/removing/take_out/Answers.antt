@@ -1,7 +1,6 @@
-use Rattle.std.proofs.Common.{◌∙◌, sym, ap}
-use Rattle.radix_tree.proofs.Words.{Leaf}
-use Rattle.radix_tree.proofs.MovedReads.{Has_kept}
+use Rattle.radix_tree.proofs.Words.{◌∙◌, sym, ap, Leaf}
 use Rattle.radix_tree.proofs.RemovedOnly.{none_if, can_take, leaf_at, leaf_is, alone_is, member_is, only, only_room, only_shown}
+use Rattle.radix_tree.proofs.MovedReads.{Has_kept}
 use Rattle.radix_tree.proofs.removing.take_out.Goals as goal
 
 pub vacate-requires-clause-from : goal.vacate-requires-clause-from

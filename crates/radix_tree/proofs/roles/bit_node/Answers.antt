@@ -1,5 +1,5 @@
-use Rattle.std.proofs.Common.{sym, ◌∙◌, ap}
 use Rattle.radix_tree.specs.Rooms.{bit_part}
+use Rattle.radix_tree.proofs.Words.{sym, ◌∙◌, ap}
 use Rattle.radix_tree.proofs.RoomReads.{Has-bit, bit_used, bit_told, head_read}
 use Rattle.radix_tree.proofs.roles.bit_node.Goals as goal
 

@@ -1,5 +1,5 @@
-use Rattle.std.proofs.Common.{sym, ◌∙◌, ap}
 use Rattle.radix_tree.specs.Rooms.{mask_part}
+use Rattle.radix_tree.proofs.Words.{sym, ◌∙◌, ap}
 use Rattle.radix_tree.proofs.RoomReads.{Has-mask, mask_used, mask_told}
 use Rattle.radix_tree.proofs.roles.mask_node.Goals as goal
 

@@ -1,7 +1,5 @@
-use Rattle.std.proofs.Common.{◌∙◌, sym, ap, List}
-use Rattle.radix_tree.proofs.Words.{best_of, Entry}
-use Rattle.radix_tree.proofs.Answered.{answer, Has-best, best_answer, best_none}
-use Rattle.radix_tree.proofs.Showing.{shown_is}
+use Rattle.radix_tree.proofs.Words.{◌∙◌, sym, ap, List, best_of, Entry}
+use Rattle.radix_tree.proofs.{Answered.answer, Answered.Has-best, Answered.best_answer, Answered.best_none, Showing.shown_is}
 use Rattle.radix_tree.proofs.routing.best.Goals as goal
 
 pub leaf-leaf-requires-clause-there : goal.leaf-leaf-requires-clause-there

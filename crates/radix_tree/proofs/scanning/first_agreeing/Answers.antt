@@ -1,4 +1,4 @@
-use Rattle.std.proofs.Common.{sym, ◌∙◌}
+use Rattle.radix_tree.proofs.Words.{sym, ◌∙◌}
 use Rattle.radix_tree.proofs.Scans.{begun, member, Has-at, agrees_is, covered, not_covered}
 use Rattle.radix_tree.proofs.scanning.first_agreeing.Goals as goal
 
@@ -17,8 +17,7 @@ returns-then-agrees-clause-best g c r begins =
       (
         x.among,
         covered c.args.address x.route (sym same ∙ sym c.agrees.ensures ∙ c.if-agrees.true),
-        λ y among covers below.
-            x.greatest y among covers,
+        λ y among covers below. x.greatest y among covers,
       ),
     )
 

@@ -1,5 +1,5 @@
-use Rattle.std.proofs.Common.{◌≡◌, ◌+◌, ◌-◌, Some}
 use Rattle.radix_tree.specs.Rooms.{Run, first_room}
+use Rattle.radix_tree.proofs.Words.{◌≡◌, ◌+◌, ◌-◌, Some}
 use Rattle.radix_tree.proofs.Scans.{Along, CoversIt}
 use Rattle.radix_tree.proofs.scanning.first_agreeing.Given as goal
 

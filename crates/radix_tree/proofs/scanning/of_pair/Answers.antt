@@ -1,9 +1,7 @@
-use Rattle.std.proofs.Common.{◌≡◌, sym, ap, ◌∙◌}
-use Rattle.std.proofs.lemmas.Bool.{eqb-true, eqb-false}
-use Rattle.radix_tree.proofs.Words.{Leaf}
-use Rattle.radix_tree.proofs.Scans.{begun, member, Has-at, ended}
+use Rattle.radix_tree.proofs.Words.{◌≡◌, sym, ap, ◌∙◌, eqb-true, eqb-false, Leaf}
+use Rattle.radix_tree.proofs.{Scans.begun, Scans.member, Scans.Has-at, Scans.ended, scanning.of_pair.Goals.else-eq-via-then-eq+else-eq-2}
+use Rattle.radix_tree.proofs.{scanning.of_pair.Goals.else-eq-via-else-eq}
 use Rattle.radix_tree.proofs.scanning.of_pair.Goals as goal
-use Rattle.radix_tree.proofs.scanning.of_pair.Goals.{else-eq-via-then-eq+else-eq-2, else-eq-via-else-eq}
 
 pub loop-at-init : goal.loop-at-init
 loop-at-init g c = λ r begins. begun c.args.visits.now begins

@@ -1,5 +1,4 @@
-use Rattle.std.proofs.Common.{◌≡◌, ◌+◌, ◌-◌, Some}
-use Rattle.radix_tree.proofs.Words.{Run, first_room, HasPair}
+use Rattle.radix_tree.proofs.Words.{◌≡◌, ◌+◌, ◌-◌, Some, Run, first_room, HasPair}
 use Rattle.radix_tree.proofs.Scans.{Along}
 use Rattle.radix_tree.proofs.scanning.of_pair.Given as goal
 

@@ -1,9 +1,7 @@
-use Rattle.std.proofs.Common.{◌≡◌, ◌≤◌, ◌+◌, ◌-◌, ◌∙◌, sym, ap, arith}
-use Rattle.radix_tree.proofs.Words.{Counter}
-use Rattle.radix_tree.proofs.WalkStarts.{on_zero, on_one}
-use Rattle.radix_tree.proofs.Walks.{Read, climb_begun, Has-first, Has-over, used_over, read_over, climb_ended, begins_on, begins_rest}
+use Rattle.radix_tree.proofs.Words.{◌≡◌, ◌≤◌, ◌+◌, ◌-◌, ◌∙◌, sym, ap, arith, Counter}
+use Rattle.radix_tree.proofs.{WalkStarts.on_zero, WalkStarts.on_one, Walks.Read, Walks.climb_begun, Walks.Has-first, Walks.Has-over, Walks.used_over}
+use Rattle.radix_tree.proofs.{Walks.read_over, Walks.climb_ended, Walks.begins_on, Walks.begins_rest, walk.place_behind.Goals.In-Some-bit_node}
 use Rattle.radix_tree.proofs.walk.place_behind.Goals as goal
-use Rattle.radix_tree.proofs.walk.place_behind.Goals.{In-Some-bit_node}
 
 pub links-requires-clause-there : goal.links-requires-clause-there
 links-requires-clause-there g c = Has-first c.args.first c.requires.first
@@ -21,8 +19,7 @@ pub links-requires-in-Some-clause-there : goal.links-requires-in-Some-clause-the
 links-requires-in-Some-clause-there g c = Has-over c.in-Some.up c.loop-above.invariant.climb c.in-Some.is
 
 pub unreachable-requires : goal.unreachable-requires
-unreachable-requires g c =
-    used_over c.in-Some.up c.links-in-Some.result.now c.loop-above.invariant.climb c.in-Some.is c.links-in-Some.ensures.links
+unreachable-requires g c = used_over c.in-Some.up c.links-in-Some.result.now c.loop-above.invariant.climb c.in-Some.is c.links-in-Some.ensures.links
     (sym c.bit_node.ensures ∙ c.in_default-bit_node.is)
 
 -- what the bit node above says

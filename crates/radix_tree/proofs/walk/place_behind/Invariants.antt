@@ -1,4 +1,4 @@
-use Rattle.std.proofs.Common.{◌≡◌, ◌≤◌, ◌+◌, ◌-◌}
+use Rattle.radix_tree.proofs.Words.{◌≡◌, ◌≤◌, ◌+◌, ◌-◌}
 use Rattle.radix_tree.proofs.Walks.{Upward}
 use Rattle.radix_tree.proofs.walk.place_behind.Given as goal
 

@@ -1,11 +1,9 @@
-use Rattle.std.proofs.Common.{◌≡◌, ℕ, ◌+◌, ◌≤◌, ◌==◌, if◌then◌else◌, true, false, List, Option, Some, None, is_some, refl, sym, ap, subst, ◌∙◌, rules}
+use Rattle.std.proofs.Common.{rules}
+use Rattle.radix_tree.proofs.Words.{◌≡◌, ℕ, ◌+◌, ◌≤◌, ◌==◌, if◌then◌else◌, true, false, List, Option, Some, None, is_some, refl, sym, ap, subst, ◌∙◌}
 use Rattle.radix_tree.proofs.Words.{keys, HasOneMore, Rooms, AreCounted, Contents, entry_at, uses, with_entry, shown, Entry}
-use Rattle.radix_tree.proofs.Counted.{few_held, counted_more}
-use Rattle.radix_tree.proofs.Numbers.{free_room, used_more}
-use Rattle.radix_tree.proofs.WholeRoutes.{gains_entry}
-use Rattle.radix_tree.proofs.Kept.{shown_table, shown_next}
+use Rattle.radix_tree.proofs.{Counted.few_held, Counted.counted_more, Numbers.free_room, Numbers.used_more, WholeRoutes.gains_entry, Kept.shown_table}
+use Rattle.radix_tree.proofs.{Kept.shown_next, routes.Table.add.Goals.After-begin-visits, routes.Table.add.Goals.In-Ok}
 use Rattle.radix_tree.proofs.routes.Table.add.Goals as goal
-use Rattle.radix_tree.proofs.routes.Table.add.Goals.{After-begin-visits, In-Ok}
 
 true_false : true ≡ false → ⊥
 true_false e = cc
@@ -29,8 +27,7 @@ added-requires g c =
 
 -- the pair was not there
 absent : (g : _) (c : In-Ok g) → entry_at c.args.key c.args.rank c.args.self.now.entries ≡ None
-absent g c =
-    ap (λ (es : List (Entry g.row.V.Denot)). entry_at c.args.key c.args.rank es)
+absent g c = ap (λ (es : List (Entry g.row.V.Denot)). entry_at c.args.key c.args.rank es)
     (sym (shown_next c.self.inside.nodes c.begin-visits.new.self c.self.inside.root _ c.self.view_is c.begin-visits.ensures.turn))
     ∙ ap (λ (e : Entry g.row.V.Denot). entry_at e.key e.rank (shown c.begin-visits.new.self.lodged c.self.inside.root)) (sym c.of-entry.ensures.entry)
     ∙ (gains_entry c.in-Ok.ensures.routes (shown_table c.insert.new.nodes.lodged (Some c.in-Ok.root) c.in-Ok.ensures.whole)).1
@@ -55,8 +52,7 @@ pub returns-clause-absent : goal.returns-clause-absent
 returns-clause-absent g c = absent g (goal.at.returns-clause-absent g c).In-Ok
 
 pub returns-clause-ok : goal.returns-clause-ok
-returns-clause-ok g c =
-    (gains_entry c.in-Ok.ensures.routes (shown_table c.insert.new.nodes.lodged (Some c.in-Ok.root) c.in-Ok.ensures.whole)).0
+returns-clause-ok g c = (gains_entry c.in-Ok.ensures.routes (shown_table c.insert.new.nodes.lodged (Some c.in-Ok.root) c.in-Ok.ensures.whole)).0
     ∙ ap (λ (e : Entry g.row.V.Denot). with_entry e (shown c.begin-visits.new.self.lodged c.self.inside.root)) c.of-entry.ensures.entry
     ∙ ap (λ (es : List (Entry g.row.V.Denot)). with_entry (record { key = c.args.key; rank = c.args.rank; value = c.args.value }) es)
     (shown_next c.self.inside.nodes c.begin-visits.new.self c.self.inside.root _ c.self.view_is c.begin-visits.ensures.turn)
@@ -65,5 +61,4 @@ pub returns-clause-numbers : goal.returns-clause-numbers
 returns-clause-numbers g c = λ n.
     let at = (goal.at.returns-clause-numbers g c).After-begin-visits in
     used_more c.begin-visits.new.self.lodged c.insert.new.nodes.lodged c.args.room (free_room _ c.args.room (numbers g at c.args.room ∙ c.requires.free))
-    c.in-Ok.ensures.rooms n
-    ∙ ap (λ (u : ℕ). u + (if c.args.room == n then 1 else 0)) (numbers g at n)
+    c.in-Ok.ensures.rooms n ∙ ap (λ (u : ℕ). u + (if c.args.room == n then 1 else 0)) (numbers g at n)

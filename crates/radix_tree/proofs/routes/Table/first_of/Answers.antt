@@ -1,5 +1,4 @@
-use Rattle.std.proofs.Common.{List, sym, ap, ◌∙◌}
-use Rattle.radix_tree.proofs.Words.{first_of, Entry}
+use Rattle.radix_tree.proofs.Words.{List, sym, ap, ◌∙◌, first_of, Entry}
 use Rattle.radix_tree.proofs.Kept.{differ, agree, Has-led, no_first, first_found, whole_at, entries_at}
 use Rattle.radix_tree.proofs.routes.Table.first_of.Goals as goal
 

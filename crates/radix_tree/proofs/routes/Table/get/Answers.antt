@@ -1,7 +1,6 @@
-use Rattle.std.proofs.Common.{◌≤◌, List, sym, ap, ◌∙◌, rules}
-use Rattle.radix_tree.proofs.Words.{Contents, entry_at, Entry}
-use Rattle.radix_tree.proofs.Counted.{not_held}
-use Rattle.radix_tree.proofs.Kept.{Has-found, found, not_found, value_found, whole_at, entries_at}
+use Rattle.std.proofs.Common.{rules}
+use Rattle.radix_tree.proofs.Words.{◌≤◌, List, sym, ap, ◌∙◌, Contents, entry_at, Entry}
+use Rattle.radix_tree.proofs.{Counted.not_held, Kept.Has-found, Kept.found, Kept.not_found, Kept.value_found, Kept.whole_at, Kept.entries_at}
 use Rattle.radix_tree.proofs.routes.Table.get.Goals as goal
 
 pub returns-then-not-has-clause-entry : goal.returns-then-not-has-clause-entry

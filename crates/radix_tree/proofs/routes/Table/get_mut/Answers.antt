@@ -1,11 +1,10 @@
-use Rattle.std.proofs.Common.{◌≡◌, ◌+◌, ◌≤◌, List, Option, Some, None, refl, sym, ap, subst, ◌∙◌, inl, inr, rules}
-use Rattle.radix_tree.proofs.Words.{option_map, keys, Rooms, put_value, Node, contents, IsKept, AreCounted, with_value, Contents, entry_at, with_entry, shown}
-use Rattle.radix_tree.proofs.Words.{Entry}
-use Rattle.radix_tree.proofs.Counted.{not_held}
-use Rattle.radix_tree.proofs.Valued.{put_valued, valued_whole, lent_shown, lent_counted, lent_keys}
-use Rattle.radix_tree.proofs.Kept.{Has-found, IsFound, found, not_found, value_found, whole_next, entries_next}
+use Rattle.std.proofs.Common.{rules}
+use Rattle.radix_tree.proofs.Words.{◌≡◌, ◌+◌, ◌≤◌, List, Option, Some, None, refl, sym, ap, subst, ◌∙◌, inl, inr, option_map, keys, Rooms, put_value}
+use Rattle.radix_tree.proofs.Words.{Node, contents, IsKept, AreCounted, with_value, Contents, entry_at, with_entry, shown, Entry}
+use Rattle.radix_tree.proofs.{Counted.not_held, Valued.put_valued, Valued.valued_whole, Valued.lent_shown, Valued.lent_counted, Valued.lent_keys}
+use Rattle.radix_tree.proofs.{Kept.Has-found, Kept.IsFound, Kept.found, Kept.not_found, Kept.value_found, Kept.whole_next, Kept.entries_next}
+use Rattle.radix_tree.proofs.{routes.Table.get_mut.Goals.In-Some-room_of}
 use Rattle.radix_tree.proofs.routes.Table.get_mut.Goals as goal
-use Rattle.radix_tree.proofs.routes.Table.get_mut.Goals.{In-Some-room_of}
 
 -- a table of which a turn began and no more
 only_begun : {V : Type 0} (old : Rooms V) {new : Rooms V} (root : Option Node) {table : Contents V} → contents old root ≡ table
@@ -55,8 +54,7 @@ invariant_of-self-lent g c = λ v.
     subst (λ (o : Option Node). IsKept (record {
       lodged = put_value m c.in-Some-room_of.room v;
       next = c.begin-visits.new.self.next;
-      turn =
-          c.begin-visits.new.self.turn;
+      turn = c.begin-visits.new.self.turn;
     }) o c.self.inside.counts) (sym c.in-Some.is) (record {
       holds =
           valued_whole m (put_value m c.in-Some-room_of.room v) c.in-Some-room_of.room.number v c.in-Some.root (put_valued m c.in-Some-room_of.room v has) w;
@@ -67,8 +65,7 @@ invariant_of-self-lent g c = λ v.
 -- the table once the value is given back
 lent : (g : _) (c : In-Some-room_of g) (v : g.row.V.Denot) → contents (record
     { lodged = put_value c.begin-visits.new.self.lodged c.in-Some-room_of.room v; next = c.begin-visits.new.self.next; turn = c.begin-visits.new.self.turn })
-    c.self.inside.root
-    ≡ with_value c.args.key c.args.rank c.args.self.now v
+    c.self.inside.root ≡ with_value c.args.key c.args.rank c.args.self.now v
 lent g c v =
     let m = c.begin-visits.new.self.lodged in
     let w = whole_next c.self.inside.nodes c.begin-visits.new.self c.self.invariant.holds c.in-Some.is c.begin-visits.ensures.turn in

@@ -1,8 +1,6 @@
-use Rattle.std.proofs.Common.{List, [], ℕ, None, Option, ap, ◌∙◌}
 use Rattle.std.specs.FinMap.{get-empty}
-use Rattle.radix_tree.proofs.Words.{nat_cmp, Rooms, Seen, leaf_in, leaves_in, contents}
-use Rattle.radix_tree.proofs.Counted.{counted_none}
-use Rattle.radix_tree.proofs.Numbers.{no_keys}
+use Rattle.radix_tree.proofs.Words.{List, [], ℕ, None, Option, ap, ◌∙◌, nat_cmp, Rooms, Seen, leaf_in, leaves_in, contents}
+use Rattle.radix_tree.proofs.{Counted.counted_none, Numbers.no_keys}
 use Rattle.radix_tree.proofs.routes.Table.new.Goals as goal
 
 pub invariant_of-result : goal.invariant_of-result
@@ -12,6 +10,5 @@ invariant_of-result g c = record {
 }
 
 pub returns : goal.returns
-returns g c =
-    ap (λ (r : Rooms g.row.V.Denot). contents r None) c.new.ensures
+returns g c = ap (λ (r : Rooms g.row.V.Denot). contents r None) c.new.ensures
     ∙ ap (λ (ns : List ℕ). record { entries = []; numbers = ns; next = 1; turn = 0 }) (no_keys (Seen g.row.V.Denot))

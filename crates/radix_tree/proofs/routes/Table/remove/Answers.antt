@@ -1,12 +1,10 @@
-use Rattle.std.proofs.Common.{◌≡◌, ◌+◌, ◌≤◌, ◌==◌, if◌then◌else◌, List, Option, Some, None, refl, sym, ap, subst, ◌∙◌, rules}
-use Rattle.radix_tree.proofs.Words.{option_map, keys, HasOneMore, Rooms, IsKept, AreCounted, Contents, entry_at, uses, without, shown, Entry}
-use Rattle.radix_tree.proofs.Counted.{not_held, counted_less}
-use Rattle.radix_tree.proofs.Numbers.{used_more}
-use Rattle.radix_tree.proofs.TableLemmas.{without_absent}
-use Rattle.radix_tree.proofs.Gained.{lost}
-use Rattle.radix_tree.proofs.Kept.{Has-found, IsFound, found, not_found, whole_next, shown_next, entries_next}
-use Rattle.radix_tree.proofs.routes.Table.remove.Goals as goal
+use Rattle.std.proofs.Common.{rules}
+use Rattle.radix_tree.proofs.Words.{◌≡◌, ◌+◌, ◌≤◌, ◌==◌, if◌then◌else◌, List, Option, Some, None, refl, sym, ap, subst, ◌∙◌, option_map, keys, HasOneMore}
+use Rattle.radix_tree.proofs.Words.{Rooms, IsKept, AreCounted, Contents, entry_at, uses, without, shown, Entry}
 use Rattle.radix_tree.proofs.routes.Table.remove.Goals.{Then-not-has, In_default-room_of, In-Some-room_of}
+use Rattle.radix_tree.proofs.{Counted.not_held, Counted.counted_less, Numbers.used_more, TableLemmas.without_absent, Gained.lost, Kept.Has-found}
+use Rattle.radix_tree.proofs.{Kept.IsFound, Kept.found, Kept.not_found, Kept.whole_next, Kept.shown_next, Kept.entries_next}
+use Rattle.radix_tree.proofs.routes.Table.remove.Goals as goal
 
 -- a rank of which no route is held
 not_there : (g : _) (c : Then-not-has g) → entry_at c.args.key c.args.rank c.args.self.now.entries ≡ None
@@ -50,8 +48,7 @@ is_found g c =
     found w c.args.key c.args.rank c.in-Some-room_of.is (c.room_of.ensures.found w.part w.named)
 
 pub remove_route-root-requires-clause-there : goal.remove_route-root-requires-clause-there
-remove_route-root-requires-clause-there g c =
-    Has-found _ (is_found g (goal.at.remove_route-root-requires-clause-there g c).In-Some-room_of)
+remove_route-root-requires-clause-there g c = Has-found _ (is_found g (goal.at.remove_route-root-requires-clause-there g c).In-Some-room_of)
 
 pub invariant_of-self-2 : goal.invariant_of-self-2
 invariant_of-self-2 g c =
@@ -72,8 +69,7 @@ returns-clause-value g c =
     let f = is_found g (goal.at.returns-clause-value g c).In-Some-room_of in
     let is : entry_at c.args.key c.args.rank c.args.self.now.entries ≡ Some f.route.entry
     = ap (λ (es : List (Entry g.row.V.Denot)). entry_at c.args.key c.args.rank es)
-    (sym (entries_next c.self.inside.nodes c.begin-visits.new.self _ c.self.view_is c.in-Some.is c.begin-visits.ensures.turn))
-    ∙ f.entry in
+    (sym (entries_next c.self.inside.nodes c.begin-visits.new.self _ c.self.view_is c.in-Some.is c.begin-visits.ensures.turn)) ∙ f.entry in
     ap (λ (v : g.row.V.Denot). Some v) (c.remove_route-root.ensures.value f.said.part f.said.at ∙ ap (λ (e : Entry g.row.V.Denot). e.value) f.said.entry)
     ∙ ap (λ (o : Option (Entry g.row.V.Denot)). option_map (λ e. e.value) o) (sym is)
 

@@ -1,10 +1,5 @@
-use Rattle.std.proofs.Common.{[], ◌∙◌, sym, ap, refl, Option}
-use Rattle.std.proofs.lemmas.List.{append-nil}
-use Rattle.radix_tree.proofs.Words.{Node, shown}
-use Rattle.radix_tree.proofs.Kept.{whole_at}
-use Rattle.radix_tree.proofs.Showing.{shown_is}
-use Rattle.radix_tree.proofs.WalkStarts.{first_on}
-use Rattle.radix_tree.proofs.Walks.{begins_on, begins_rest}
+use Rattle.radix_tree.proofs.Words.{[], ◌∙◌, sym, ap, refl, Option, append-nil, Node, shown}
+use Rattle.radix_tree.proofs.{Kept.whole_at, Showing.shown_is, WalkStarts.first_on, Walks.begins_on, Walks.begins_rest}
 use Rattle.radix_tree.proofs.walk.Walk.over.Goals as goal
 
 pub first_place-place-requires-clause-tree : goal.first_place-place-requires-clause-tree

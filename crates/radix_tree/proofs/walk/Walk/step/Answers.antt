@@ -1,5 +1,5 @@
-use Rattle.std.proofs.Common.{subst}
 use Rattle.radix_tree.specs.Walks.{IsOn}
+use Rattle.radix_tree.proofs.Words.{subst}
 use Rattle.radix_tree.proofs.Walks.{Has-here}
 use Rattle.radix_tree.proofs.walk.Walk.step.Goals as goal
 
