@@ -1,5 +1,5 @@
 -- A route of a new key stands in the table's rooms, beneath a new bit node that has taken over a list of masks: the whole.
-use Rattle.radix_tree.proofs.Words.{◌≡◌, ℕ, ◌+◌, ◌<◌, ◌≤◌, ◌⊎◌, ◌==◌, ◌||◌, Bool, true, false, if◌then◌else◌, List, ◌∷◌, Option, Some, None, refl, sym}
+use Rattle.radix_tree.proofs.Words.{◌≡◌, ℕ, ◌+◌, ◌≤◌, ◌⊎◌, ◌==◌, ◌||◌, Bool, true, false, if◌then◌else◌, List, ◌∷◌, Option, Some, None, refl, sym}
 use Rattle.radix_tree.proofs.Words.{ap, ◌∙◌, subst, inl, inr, arith, eq-eqb, ne_eqb, cases_eq, is_some, Id, Node, LeafOf, BitOf, Placed, Tree, leaf, fork}
 use Rattle.radix_tree.proofs.Words.{IsIn, IsTree, routes_of, LeafPart, BitPart, MaskPart, Part, leaves_in, bits_in, heads_in, masks_in, LedTo, one_if}
 use Rattle.radix_tree.proofs.Words.{leaves_at, forks_at, HasHome, HaveOneFork, IsWhole, shown, with_head, forked_tree, Gains, IsSpot, IsBeside, IsNew}

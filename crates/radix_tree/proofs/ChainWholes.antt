@@ -1,5 +1,5 @@
 -- The chain of a leaf has a member more, or one less, and so the whole.
-use Rattle.radix_tree.proofs.Words.{◌≡◌, ℕ, ◌+◌, ◌<◌, ◌≤◌, ◌⊎◌, ◌==◌, ◌||◌, Bool, true≢false, List, ◌∷◌, ◌++◌, Option, Some, None, sym, ap, ◌∙◌, subst}
+use Rattle.radix_tree.proofs.Words.{◌≡◌, ℕ, ◌+◌, ◌≤◌, ◌⊎◌, ◌==◌, ◌||◌, Bool, true≢false, List, ◌∷◌, ◌++◌, Option, Some, None, sym, ap, ◌∙◌, subst}
 use Rattle.radix_tree.proofs.Words.{inl, inr, arith, eqb-true, eq-eqb, is_some, Node, LeafOf, Placed, leaf, IsAmong, IsIn, LeafPart, Part, leaves_in}
 use Rattle.radix_tree.proofs.Words.{bits_in, masks_in, name_of, Way, one_if, members_at, leaves_at, shown, root_after, Gains, IsWholeBut, nobody_late}
 use Rattle.radix_tree.proofs.Words.{late_at, nobody_out, out_at, Lodged}

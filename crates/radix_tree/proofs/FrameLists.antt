@@ -1,6 +1,6 @@
 -- The bit nodes above a part of a tree, and lists of masks that stay where the masks of their ranks do.
 use Rattle.radix_tree.proofs.Words.{◌≡◌, ℕ, ◌+◌, ◌≤◌, ◌==◌, List, [], ◌∷◌, Option, refl, inl, inr, sym, ap, ◌∙◌, subst, arith, Id, Placed, Tree, leaf}
-use Rattle.radix_tree.proofs.Words.{fork, bit_at, IsAmong, IsIn, IsTree, Heads, Masks, Part, Beneath, Way, one_if, forks_at, Frame, on_zero, on_one, plug}
+use Rattle.radix_tree.proofs.Words.{fork, IsAmong, IsIn, IsTree, Heads, Masks, Part, Beneath, Way, one_if, forks_at, Frame, on_zero, on_one, plug}
 use Rattle.radix_tree.proofs.Words.{low_past, IsMaskList, MarkedIn, MarkedLists, Lodged}
 use Rattle.radix_tree.proofs.{PartRooms.one_if_same, PlugLists.falls_between, PlugLists.masks_stand_same, PlugLists.marked_same}
 

@@ -1,6 +1,6 @@
 -- A walk up from a leaf to the bit node at which a mask is listed.
-use Rattle.radix_tree.proofs.Words.{◌≡◌, ℕ, ◌+◌, ◌<◌, ◌≤◌, ◌⊎◌, List, [], ◌∷◌, Option, Some, None, refl, sym, ◌∙◌, subst, arith, inl, inr, Counter, Id}
-use Rattle.radix_tree.proofs.Words.{BitNode, IsHome, IsBitNodeOf, ReadsOnce, Part, ForkAt, Way, LedTo, Tree, bit_at, HasHome, Lodged}
+use Rattle.radix_tree.proofs.Words.{◌≡◌, ℕ, ◌+◌, ◌<◌, ◌≤◌, List, [], ◌∷◌, Option, Some, None, refl, sym, ◌∙◌, subst, arith, inl, inr, Counter, Id}
+use Rattle.radix_tree.proofs.Words.{BitNode, IsHome, IsBitNodeOf, ReadsOnce, Part, ForkAt, Way, LedTo, Tree, HasHome, Lodged}
 use Rattle.radix_tree.proofs.{Climbs.Climb, Climbs.Over, Climbs.fork_over, Climbs.node_at, Climbs.ended, Climbs.Steps, Climbs.step_begun}
 use Rattle.radix_tree.proofs.{Climbs.step_risen, Parts.fork_is}
 

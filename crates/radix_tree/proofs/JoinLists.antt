@@ -1,7 +1,7 @@
 -- The list of masks of a bit node that goes is handed on to the node that takes its place.
 use Rattle.radix_tree.proofs.Words.{◌≡◌, ◌+◌, ◌<◌, ◌≤◌, ◌⊎◌, ◌==◌, false, List, [], ◌∷◌, ◌++◌, Option, Some, None, inl, inr, refl, sym, ap, ◌∙◌, subst}
 use Rattle.radix_tree.proofs.Words.{arith, ℕ, cases_lt, cases_eq, is_some, Id, LeafOf, BitOf, Placed, Tree, leaf, fork, IsAmong, IsIn, IsTree, LeafPart}
-use Rattle.radix_tree.proofs.Words.{MaskPart, Heads, Masks, Part, leaves_in, bits_in, heads_in, masks_in, name_of, Falls, one_if, forks_at, HasHome}
+use Rattle.radix_tree.proofs.Words.{MaskPart, Heads, Masks, Part, leaves_in, bits_in, heads_in, masks_in, name_of, Falls, one_if, forks_at}
 use Rattle.radix_tree.proofs.Words.{AreOnce, HasSides, IsLone, IsHanded, IsMarked, IsMaskList, MarkedIn, MarkedLists, IsMasks, IsBitNode, IsAside, Lodged}
 use Rattle.radix_tree.proofs.MaskLists.{falls_wider, falls_among, falls_appended, among_appended, in_front, in_back, ranked_in, masks_listed}
 use Rattle.radix_tree.proofs.JoinSides.{true_not_false, side_is, side_stands, side_forks, side_in, in_side, side_list, side_lists, side_home}

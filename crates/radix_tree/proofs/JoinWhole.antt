@@ -1,7 +1,7 @@
 -- A route that is alone at its leaf goes, and with it the bit node above: the rooms as a whole.
 use Rattle.radix_tree.proofs.Words.{◌≡◌, ◌+◌, ◌<◌, ◌≤◌, ◌==◌, true, false, [], Option, Some, None, inl, inr, refl, sym, ap, ◌∙◌, subst, arith, ℕ}
 use Rattle.radix_tree.proofs.Words.{eqb-true, eq-eqb, ne_eqb, is_some, Id, Node, Placed, Tree, leaf, fork, IsIn, IsTree, LeafPart, BitPart, Part}
-use Rattle.radix_tree.proofs.Words.{leaves_in, bits_in, heads_in, masks_in, leaf_part, name_of, one_if, leaves_at, forks_at, HasHome, shown, shown_entry}
+use Rattle.radix_tree.proofs.Words.{leaves_in, bits_in, heads_in, masks_in, leaf_part, name_of, one_if, leaves_at, forks_at, shown, shown_entry}
 use Rattle.radix_tree.proofs.Words.{name_child, root_after, AreOnce, Gains, IsExchange, Exchanged, IsLone, IsHanded, IsWholeBut, nobody_late, nobody_out}
 use Rattle.radix_tree.proofs.Words.{late_at, out_at, content_of, KeepsRoutes, put_bit, lift_leaf, lift_bit, Lodged}
 use Rattle.radix_tree.proofs.JoinSides.{true_not_false, side_is, side_says, side_leaves, side_in, in_side, side_have, home_side, side_spare, side_gains}

@@ -1,5 +1,5 @@
 -- The mask of a route comes into the list of its bit node, or goes out of it: the table's rooms as a whole.
-use Rattle.radix_tree.proofs.Words.{◌≡◌, ℕ, ◌+◌, ◌<◌, ◌≤◌, ◌==◌, Bool, true, false, not, ◌&&◌, ◌||◌, List, Option, Some, None, refl, inl, inr, sym, ap}
+use Rattle.radix_tree.proofs.Words.{◌≡◌, ℕ, ◌+◌, ◌<◌, ◌≤◌, ◌==◌, Bool, true, not, ◌&&◌, ◌||◌, List, Option, Some, None, refl, inl, inr, sym, ap}
 use Rattle.radix_tree.proofs.Words.{◌∙◌, subst, arith, eq-eqb, ne_eqb, cases_eq, is_some, Id, Node, Placed, IsAmong, IsIn, MaskPart, Part, heads_in}
 use Rattle.radix_tree.proofs.Words.{masks_in, HasHome, KeepsLeaves, KeepsBits, AreOnce, IsMarked, IsMaskList, MarkedIn, IsWholeBut, nobody_late}
 use Rattle.radix_tree.proofs.Words.{nobody_out, IsMasks, IsBitNode, IsFree, IsAside, IsNoRank, HomeAt, IsHome, sorted_in, taken_out, Lodged}

@@ -1,6 +1,6 @@
 -- Lists of masks stay where all masks say what they said.
 use Rattle.radix_tree.proofs.Words.{◌≡◌, ℕ, ◌+◌, ◌≤◌, ◌==◌, List, [], ◌∷◌, Option, sym, ap, ◌∙◌, subst, arith, inl, inr, is_some, Id, Placed, Tree, leaf}
-use Rattle.radix_tree.proofs.Words.{fork, bit_at, MaskPart, Heads, Masks, Part, heads_in, masks_in, MasksStand, Beneath, Way, one_if, forks_at, IsMarked}
+use Rattle.radix_tree.proofs.Words.{fork, MaskPart, Heads, Masks, Part, heads_in, masks_in, MasksStand, Beneath, Way, one_if, forks_at, IsMarked}
 use Rattle.radix_tree.proofs.Words.{IsMaskList, MarkedIn, MarkedLists, Lodged}
 use Rattle.radix_tree.proofs.PartRooms.{one_if_same}
 

@@ -1,5 +1,5 @@
 -- A bit node in use moves from its room to another: what the rooms say afterwards is the tree with the bit node there.
-use Rattle.radix_tree.proofs.Words.{◌≡◌, ℕ, ◌+◌, ◌<◌, ◌≤◌, ◌==◌, true, false, if◌then◌else◌, List, [], ◌∷◌, Option, Some, None, refl, sym, ap, ◌∙◌, subst}
+use Rattle.radix_tree.proofs.Words.{◌≡◌, ℕ, ◌+◌, ◌≤◌, ◌==◌, true, false, if◌then◌else◌, List, [], ◌∷◌, Option, Some, None, refl, sym, ap, ◌∙◌, subst}
 use Rattle.radix_tree.proofs.Words.{inl, inr, arith, eqb-true, is_some, Id, Node, BitOf, BitNode, Tree, fork, bit_at, HaveBit, IsIn, BitPart, Part}
 use Rattle.radix_tree.proofs.Words.{leaves_in, bits_in, heads_in, masks_in, bit_part, head_part, name_of, Stands, Beneath, Way, one_if, leaves_at}
 use Rattle.radix_tree.proofs.Words.{forks_at, HasHome, name_child, with_child, AreOnce, MarkedLists, nobody_late, out_at, put_bit, put_head, lift_leaf}

@@ -1,6 +1,6 @@
 -- A tree is a part of it beneath bit nodes: what it holds beside the part stays, whatever part stands there.
 use Rattle.radix_tree.proofs.Words.{◌≡◌, ℕ, ◌+◌, ◌<◌, ◌≤◌, ◌==◌, ◌⊎◌, List, [], ◌∷◌, ◌++◌, None, refl, sym, ap, ◌∙◌, inl, inr, arith, cases_lt}
-use Rattle.radix_tree.proofs.Words.{append_assoc, append-nil, Id, Placed, Tree, leaf, fork, bit_at, IsAmong, IsIn, IsTree, routes_of, Bits, one_if}
+use Rattle.radix_tree.proofs.Words.{append_assoc, append-nil, Id, Placed, Tree, leaf, fork, IsAmong, IsIn, IsTree, routes_of, Bits, one_if}
 use Rattle.radix_tree.proofs.Words.{members_at, leaves_at, forks_at, HasHome, AreIdle, HasOneFork, HaveOneFork, Frame, on_zero, on_one, plug, low_past}
 use Rattle.radix_tree.proofs.Words.{Lead, Entry}
 use Rattle.radix_tree.proofs.{AddressBits.zero_not_one, PartRooms.one_if_same, TreeMembers.bit_beneath}

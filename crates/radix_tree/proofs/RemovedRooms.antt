@@ -4,7 +4,7 @@ use Rattle.std.specs.FinMap.{remove}
 use Rattle.radix_tree.proofs.Words.{◌≡◌, ℕ, ◌+◌, ◌≤◌, ◌==◌, ◌||◌, Bool, if◌then◌else◌, List, Option, Some, None, refl, sym, ap, ◌∙◌, inl, inr, arith}
 use Rattle.radix_tree.proofs.Words.{eq-eqb, ne_eqb, is_some, get, Ptr, Seen, Has, bit_node_of, Id, Node, BitNode, LeafPart, BitPart, MaskPart, Part}
 use Rattle.radix_tree.proofs.Words.{leaf_in, bit_in, head_in, mask_in, bit_part, head_part, leaves_in, bits_in, heads_in, masks_in, one_if, leaves_at}
-use Rattle.radix_tree.proofs.Words.{IsWhole, Holds, shown, Gains, IsMarked, IsWholeBut, HasRoomMore, nobody_late, out_at, KeepsLeaves, KeepsBits, Content}
+use Rattle.radix_tree.proofs.Words.{IsWhole, Holds, shown, Gains, IsWholeBut, HasRoomMore, nobody_late, out_at, KeepsLeaves, KeepsBits, Content}
 use Rattle.radix_tree.proofs.Words.{content_of, KeepsRoutes, IsOut, Entry, Lodged}
 use Rattle.radix_tree.proofs.{RoomReads.inside, RoomReads.none_some, PartRooms.frame, Plugs.counted_leaf, WholeParts.but_whole, WholeRoutes.part_shown}
 use Rattle.radix_tree.proofs.{MovedReads.same_or_not, MovedReads.content_used, MovedLists.marked_stays, MovedLists.lists_kept, MovedSpare.tree_stays}

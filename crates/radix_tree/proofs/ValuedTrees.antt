@@ -1,6 +1,6 @@
 -- A value in a room changes: the tree with it, which the rooms stand for as before.
 use Rattle.radix_tree.proofs.Words.{◌≡◌, ℕ, ◌+◌, ◌≤◌, ◌==◌, ◌⊎◌, Bool, true, false, if◌then◌else◌, List, [], ◌∷◌, Option, Some, None, refl, sym, ap, ◌∙◌}
-use Rattle.radix_tree.proofs.Words.{subst, inl, inr, Id, Node, Placed, Tree, leaf, fork, bit_at, IsAmong, IsIn, IsChain, HaveBit, IsTree, LeafPart}
+use Rattle.radix_tree.proofs.Words.{subst, inl, inr, Id, Node, Placed, Tree, leaf, fork, IsAmong, IsIn, IsChain, HaveBit, IsTree, LeafPart}
 use Rattle.radix_tree.proofs.Words.{Leaves, Bits, Heads, Masks, leaf_part, first_room, name_of, ChainStands, Stands, MasksStand, Falls, IsList, Lists}
 use Rattle.radix_tree.proofs.Words.{one_if, members_at, leaves_at, forks_at, HasHome, AreIdle, HasOneFork, HaveOneFork}
 

@@ -1,7 +1,7 @@
 -- A part of a table's tree is exchanged for another, and so the table's rooms as a whole change.
 use Rattle.radix_tree.proofs.Words.{◌≡◌, ℕ, ◌+◌, ◌<◌, ◌≤◌, ◌⊎◌, Bool, true, List, [], ◌∷◌, Option, Some, None, sym, ap, ◌∙◌, subst, inl, inr, arith}
 use Rattle.radix_tree.proofs.Words.{is_some, Node, Placed, Tree, IsIn, IsTree, MaskPart, Part, leaves_in, bits_in, heads_in, masks_in, one_if, leaves_at}
-use Rattle.radix_tree.proofs.Words.{forks_at, HasHome, HaveOneFork, Frame, on_zero, on_one, plug, low_past, Lead, Exchanged, IsMarked, MarkedLists}
+use Rattle.radix_tree.proofs.Words.{forks_at, HasHome, HaveOneFork, Frame, on_zero, on_one, plug, Lead, Exchanged, IsMarked, MarkedLists}
 use Rattle.radix_tree.proofs.Words.{IsWholeBut, Lodged}
 use Rattle.radix_tree.proofs.Plugs.{Aside, plug_leaves, plug_forks, plug_in, aside_in, in_plug, aside_at, spare_at, spare_plug, home_plug, plug_home}
 use Rattle.radix_tree.proofs.Plugs.{aside_home}

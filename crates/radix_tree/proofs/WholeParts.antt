@@ -1,6 +1,6 @@
 -- A table's rooms as a whole, where no route is late and no room is on its way out.
 use Rattle.radix_tree.proofs.Words.{◌≡◌, ℕ, ◌+◌, ◌<◌, ◌≤◌, ◌⊎◌, Bool, true, false, Option, Some, None, refl, inl, inr, arith, cases_lt, is_some, Id, Node}
-use Rattle.radix_tree.proofs.Words.{Placed, Tree, leaf, fork, bit_at, IsIn, IsTree, MaskPart, Heads, Masks, Part, Lists, leaves_in, bits_in, heads_in}
+use Rattle.radix_tree.proofs.Words.{Placed, Tree, leaf, fork, IsIn, IsTree, MaskPart, Heads, Masks, Part, Lists, leaves_in, bits_in, heads_in}
 use Rattle.radix_tree.proofs.Words.{masks_in, one_if, leaves_at, forks_at, HasHome, IsWhole, AreOnce, IsMarked, MarkedLists, IsWholeBut, nobody_late}
 use Rattle.radix_tree.proofs.Words.{nobody_out, Lodged}
 use Rattle.radix_tree.proofs.{AddressBits.zero_not_one, TreeMembers.bit_beneath, PlugLists.stands_marked}
