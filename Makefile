@@ -22,7 +22,7 @@ names := $(foreach line,$(lines),$(call name,$(line)))
 built = crates/$(1)/out/built
 # The programs, by their crates, and what each is called.
 programs := $(patsubst crates/%/src/main.rt,%,$(wildcard crates/*/src/main.rt))
-called = $(subst route_main,routesim,$(1))
+called = $(subst show_main,routeshow,$(subst route_main,routesim,$(1)))
 archive = crates/hoiskend/out/$(1)/libhoiskend.a
 
 ifeq ($(filter -j% --jobserver%,$(MAKEFLAGS)),)

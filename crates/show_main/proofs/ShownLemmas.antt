@@ -1,0 +1,280 @@
+-- How what is shown of the parts of a text is put together, and the steps of a run.
+use Rattle.std.proofs.Common.{◌≡◌, ◌≢◌, ◌⊎◌, ◌||◌, ℕ, Bool, true, false, cond, List, [], ◌∷◌, ◌++◌, Option, Some, None, Result, Ok, Err, refl, sym, ap, ◌∙◌, subst, append_assoc, append-nil, inl, inr, ◌+◌, ◌≤◌, length, length-append, length-take-le, take, drop, take-append-drop, suc, ◌<◌, arith}
+use Rattle.std.specs.Prelude.{IfErr, IfNone, IfSome, flat_map}
+use Rattle.std.specs.Result.{IsErrAnd}
+use Rattle.std.specs.Io.KnownBytes.{Appends, Consumes, IsAtEnd, Keeps}
+use Rattle.std.proofs.KnownBytes.{Appends-nil, Appends-trans, Consumes-kept, Consumes-nil, Consumes-trans, Consumes-whole}
+use Rattle.std.proofs.lemmas.Grind.{flat_map-append}
+use Rattle.event_file.specs.Counts.{Counts}
+use Rattle.event_file.specs.Lines.{begun_line, ended_lines, first_line, has_newline, lines_of}
+use Rattle.event_file.specs.Output.{Wrote, WroteFront}
+use Rattle.event_file.proofs.Fronts.{Wrote-nil, Wrote-then}
+use Rattle.event_file.proofs.LineLemmas.{begun_line-end, begun_line-more, begun_line-no_newline, ended_lines-append, ended_lines-end, ended_lines-more, has_newline-append, lines_of-ended, lines_of-line, take-first_line}
+use Rattle.program_ends.specs.declared.outcome.Outcome.{Outcome}
+use Rattle.program_ends.specs.declared.outcome.Outcome.TheVariants.{Done, BadLine, ReadFault, WriteFault, NoMemory}
+use Rattle.show_main.specs.declared.lines.Fault.{Fault}
+use Rattle.show_main.specs.declared.lines.Fault.TheVariants as fault
+use Rattle.show_main.specs.Ends.{Ends, ShowedFrontOf, WroteFrontOf}
+use Rattle.show_main.specs.Faults.{ShowedBefore, ShowedFront, failures_of}
+use Rattle.show_main.specs.Progress.{Finishes, HasRead, Reached}
+use Rattle.show_main.specs.Shown.{shown_ended, shown_line, shown_text}
+
+-- ---- a text in parts
+
+-- what has come of a line does not depend on the lines before it
+pub begun_line-append : (xs ys : List ℕ) → begun_line (xs ++ ys) ≡ begun_line (begun_line xs ++ ys)
+begun_line-append [] ys = refl
+begun_line-append (b ∷ bs) ys = elim (has_newline (b ∷ bs)) as (λ t. has_newline (b ∷ bs) ≡ t
+    → begun_line (b ∷ (bs ++ ys)) ≡ begun_line (cond t (begun_line bs) (b ∷ bs) ++ ys)) [
+      | true ↦ λ has.
+          ap (λ t. cond t (begun_line (bs ++ ys)) (b ∷ (bs ++ ys))) (has_newline-append (b ∷ bs) ys ∙ ap (λ t. t || has_newline ys) has)
+          ∙ begun_line-append bs ys
+      | false ↦ λ _. refl
+    ] refl
+
+-- whole lines are shown alike whatever follows
+pub shown_ended-append : (xs ys : List ℕ) → shown_ended (xs ++ ys) ≡ shown_ended xs ++ shown_ended (begun_line xs ++ ys)
+shown_ended-append xs ys =
+    ap (λ text. flat_map (λ line. shown_line line (10 ∷ [])) (lines_of text)) (ended_lines-append xs ys)
+    ∙ ap (flat_map (λ line. shown_line line (10 ∷ []))) (lines_of-ended xs (ended_lines (begun_line xs ++ ys)))
+    ∙ flat_map-append (λ line. shown_line line (10 ∷ [])) (lines_of (ended_lines xs)) (lines_of (ended_lines (begun_line xs ++ ys)))
+
+-- bytes without a newline end no line
+pub shown_ended-none : (xs : List ℕ) → has_newline xs ≡ false → shown_ended xs ≡ []
+shown_ended-none xs none = ap (λ text. flat_map (λ line. shown_line line (10 ∷ [])) (lines_of text)) (ended_lines-more [] xs none)
+
+-- a line that ends is shown, and then those behind it
+pub shown_ended-line : (line rest : List ℕ) → has_newline line ≡ false → shown_ended (line ++ 10 ∷ rest) ≡ shown_line line (10 ∷ []) ++ shown_ended rest
+shown_ended-line line rest none =
+    let front : shown_ended (line ++ 10 ∷ []) ≡ shown_line line (10 ∷ []) =
+    ap (λ text. flat_map (λ l. shown_line l (10 ∷ [])) (lines_of text)) (ended_lines-end line)
+    ∙ ap (flat_map (λ l. shown_line l (10 ∷ []))) (lines_of-line line [] none) ∙ append-nil (shown_line line (10 ∷ [])) in
+    ap shown_ended (sym (append_assoc line (10 ∷ []) rest)) ∙ shown_ended-append (line ++ 10 ∷ []) rest
+    ∙ ap (λ x. shown_ended (line ++ 10 ∷ []) ++ shown_ended (x ++ rest)) (begun_line-end line)
+    ∙ ap (λ x. x ++ shown_ended rest) front
+
+pub begun_line-line : (line rest : List ℕ) → begun_line (line ++ 10 ∷ rest) ≡ begun_line rest
+begun_line-line line rest =
+    ap begun_line (sym (append_assoc line (10 ∷ []) rest)) ∙ begun_line-append (line ++ 10 ∷ []) rest
+    ∙ ap (λ x. begun_line (x ++ rest)) (begun_line-end line)
+
+pub begun_line-all : (xs : List ℕ) → has_newline xs ≡ false → begun_line xs ≡ xs
+begun_line-all xs none = begun_line-more [] xs none
+
+pub no_newline-append : (xs ys : List ℕ) → has_newline xs ≡ false → has_newline ys ≡ false → has_newline (xs ++ ys) ≡ false
+no_newline-append xs ys p q = has_newline-append xs ys ∙ ap (λ t. t || has_newline ys) p ∙ q
+
+-- bytes that end the line that has begun, in their parts
+pub shown_ended-parted : (line front bytes behind : List ℕ) → bytes ≡ front ++ 10 ∷ behind → has_newline line ≡ false → has_newline front ≡ false
+    → shown_ended (line ++ bytes) ≡ shown_line (line ++ front) (10 ∷ []) ++ shown_ended behind
+shown_ended-parted line front bytes behind is begun first =
+    ap (λ x. shown_ended (line ++ x)) is ∙ ap shown_ended (sym (append_assoc line front (10 ∷ behind)))
+    ∙ shown_ended-line (line ++ front) behind (no_newline-append line front begun first)
+
+pub begun_line-parted : (line front bytes behind : List ℕ) → bytes ≡ front ++ 10 ∷ behind → begun_line (line ++ bytes) ≡ begun_line behind
+begun_line-parted line front bytes behind is =
+    ap (λ x. begun_line (line ++ x)) is ∙ ap begun_line (sym (append_assoc line front (10 ∷ behind))) ∙ begun_line-line (line ++ front) behind
+
+-- ---- a writer that stops
+
+module _ {T : Type 0} {contents : T → Option (List ℕ)} where
+  pub ShowedFront-none : (f : Fault) (a b : Counts T) (t : List ℕ) → a ≡ b → failures_of f ≡ 0 → ShowedFront f contents a b t
+  ShowedFront-none f a b t same none = record {
+    written = [];
+    unwritten = t;
+    whole = refl;
+    appends = subst (λ w. Appends (contents a.inner) (contents w.inner) []) same (Appends-nil (contents a.inner));
+    failures = let e = ap (λ w. w.failures) same in omega (arith, e, none);
+  }
+
+  pub ShowedFront-stopped : (f : Fault) {a b : Counts T} {t : List ℕ} → f ≡ fault.Stopped → WroteFront contents a b t → ShowedFront f contents a b t
+  ShowedFront-stopped f {a} {b} {t} is p = record {
+    written = p.written;
+    unwritten = p.unwritten;
+    whole = p.whole;
+    appends = p.appends;
+    failures = p.failures ∙ ap (λ x. a.failures + failures_of x) (sym is);
+  }
+
+  -- text that would have come after it doesn't undo a stop
+  pub ShowedFront-more : {f : Fault} {a b : Counts T} {t : List ℕ} (u : List ℕ) → ShowedFront f contents a b t → ShowedFront f contents a b (t ++ u)
+  ShowedFront-more u p = record {
+    written = p.written;
+    unwritten = p.unwritten ++ u;
+    whole = ap (λ l. l ++ u) p.whole ∙ append_assoc p.written p.unwritten u;
+    appends = p.appends;
+    failures = p.failures;
+  }
+
+  pub ShowedFront-then : {f : Fault} {a b c : Counts T} {t u : List ℕ} → Wrote contents a b t → ShowedFront f contents b c u → ShowedFront f contents a c (t ++ u)
+  ShowedFront-then {f} {a} {b} {c} {t} {u} p q = record {
+    written = t ++ q.written;
+    unwritten = q.unwritten;
+    whole = ap (λ l. t ++ l) q.whole ∙ sym (append_assoc t q.written q.unwritten);
+    appends = Appends-trans (contents a.inner) (contents b.inner) (contents c.inner) t q.written p.appends q.appends;
+    failures = q.failures ∙ ap (λ n. n + failures_of f) p.failures;
+  }
+
+-- ---- a run that reads
+
+pub Reached-start : (before old : Option (List ℕ)) (line : List ℕ) → line ≡ [] → Reached before before old old line
+Reached-start before old line none = record { read = []; consumes = Consumes-nil before; appends = Appends-nil old; line_is = none }
+
+pub Appends-kept : (a b c : Option (List ℕ)) (t : List ℕ) → Appends a b t → Keeps b c → Appends a c t
+Appends-kept None b c t p k = tt
+Appends-kept (Some xs) None c t p k = absurd (p)
+Appends-kept (Some xs) (Some ys) None t p k = absurd (k)
+Appends-kept (Some xs) (Some ys) (Some zs) t p k = k ∙ p
+
+-- the lines that some bytes end, behind what had come of the first
+shown_after : {before mid c d : Option (List ℕ)} {line : List ℕ} (bytes : List ℕ) (r : Reached before mid c d line)
+    → shown_ended (r.read ++ bytes) ≡ shown_ended r.read ++ shown_ended (line ++ bytes)
+shown_after bytes r = shown_ended-append r.read bytes ∙ ap (λ l. shown_ended r.read ++ shown_ended (l ++ bytes)) (sym r.line_is)
+
+pub Reached-read : {before mid c d : Option (List ℕ)} {line next : List ℕ} (after e f : Option (List ℕ)) (bytes : List ℕ) → Reached before mid c d line → Consumes mid after bytes
+    → Appends d e (shown_ended (line ++ bytes)) → next ≡ begun_line (line ++ bytes) → Keeps e f → Reached before after c f next
+Reached-read {before} {mid} {c} {d} {line} {next} after e f bytes r consumes appends begun keeps = record {
+  read = r.read ++ bytes;
+  consumes = Consumes-trans before mid after r.read bytes r.consumes consumes;
+  appends = Appends-kept c e f (shown_ended (r.read ++ bytes)) (subst (Appends c e) (sym (shown_after bytes r))
+      (Appends-trans c d e (shown_ended r.read) (shown_ended (line ++ bytes)) r.appends appends)) keeps;
+  line_is = begun ∙ ap (λ l. begun_line (l ++ bytes)) r.line_is ∙ sym (begun_line-append r.read bytes);
+}
+
+pub HasRead-start : (before : Option (List ℕ)) → HasRead 0 before before
+HasRead-start before = record { read = []; consumes = Consumes-nil before; many = omega (arith) }
+
+-- a read that gives some bytes makes them one more at least
+pub HasRead-more : {n : ℕ} {before mid after : Option (List ℕ)} (taken : ℕ) (buf : List ℕ) → HasRead n before mid → Consumes mid after (take taken buf) → taken ≤ length buf → taken ≢ 0
+    → HasRead (n + 1) before after
+HasRead-more {n} {before} {mid} {after} taken buf p consumes bound some = record {
+  read = p.read ++ take taken buf;
+  consumes = Consumes-trans before mid after p.read (take taken buf) p.consumes consumes;
+  many = omega (arith, p.many, length-append p.read (take taken buf), length-take-le taken buf bound, some);
+}
+
+-- so the text is at least so long
+pub HasRead-text : {n : ℕ} {before after : Option (List ℕ)} → HasRead n before after → IfSome before (λ text. n ≤ length text)
+HasRead-text {before = None} p = tt
+HasRead-text {before = Some text} {after = None} p = absurd p.consumes
+HasRead-text {before = Some text} {after = Some rest} p = omega (arith, p.many, ap length p.consumes, length-append p.read rest)
+
+-- each read but the last gave a byte
+pub HasRead-reads : (n r : ℕ) (before after : Option (List ℕ)) → HasRead n before after → r ≤ n + 1 → IfSome before (λ text. r ≤ length text + 1)
+HasRead-reads n r None after p h = tt
+HasRead-reads n r (Some text) None p h = absurd p.consumes
+HasRead-reads n r (Some text) (Some rest) p h = omega (arith, h, p.many, ap length p.consumes, length-append p.read rest)
+
+-- ---- how a run ends
+
+pub Ends-read_fault : {before mid after c d : Option (List ℕ)} {l : List ℕ} → Reached before mid c d l → Keeps mid after → Ends ReadFault before after c d
+Ends-read_fault {before} {mid} {after} r keeps = record {
+  read = r.read;
+  consumes = Consumes-kept before mid after r.read r.consumes keeps;
+  appends = r.appends;
+}
+
+by_fault : (outcome : Outcome) (before after old new : Option (List ℕ)) → (outcome ≡ WriteFault) ⊎ (outcome ≡ NoMemory) → ShowedFrontOf before after old new → Ends outcome before after old new
+by_fault outcome before after old new (inl is) p = subst (λ (o : Outcome). Ends o before after old new) (sym is) p
+by_fault outcome before after old new (inr is) p = subst (λ (o : Outcome). Ends o before after old new) (sym is) p
+
+-- the writer stopped, or memory ended, within what these bytes are shown as
+pub Ends-stopped : {T : Type 0} {contents : T → Option (List ℕ)} {f : Fault} {a b : Counts T} {before mid c : Option (List ℕ)} {line : List ℕ} (outcome : Outcome) (after e : Option (List ℕ)) (bytes : List ℕ)
+    → (outcome ≡ WriteFault) ⊎ (outcome ≡ NoMemory) → Reached before mid c (contents a.inner) line → Consumes mid after bytes
+    → ShowedFront f contents a b (shown_ended (line ++ bytes)) → Keeps (contents b.inner) e → Ends outcome before after c e
+Ends-stopped {contents = contents} {a = a} {b = b} {before = before} {mid = mid} {c = c} outcome after e bytes is r consumes p keeps =
+    by_fault outcome before after c e is (record {
+      read = r.read ++ bytes;
+      consumes = Consumes-trans before mid after r.read bytes r.consumes consumes;
+      front = inl (record {
+        written = shown_ended r.read ++ p.written;
+        unwritten = p.unwritten;
+        appends = Appends-kept c (contents b.inner) e (shown_ended r.read ++ p.written)
+            (Appends-trans c (contents a.inner) (contents b.inner) (shown_ended r.read) p.written r.appends p.appends) keeps;
+        whole = shown_after bytes r ∙ ap (λ x. shown_ended r.read ++ x) p.whole ∙ sym (append_assoc (shown_ended r.read) p.written p.unwritten);
+      });
+    })
+
+pub Ends-flush_fault : {before after c d : Option (List ℕ)} {l : List ℕ} → Reached before after c d l → Ends WriteFault before after c d
+Ends-flush_fault r = record {
+  read = r.read;
+  consumes = r.consumes;
+  front = inl (record { written = shown_ended r.read; unwritten = []; appends = r.appends; whole = sym (append-nil (shown_ended r.read)) });
+}
+
+-- what was written of the last line stands behind all lines before it
+front_at_end : {before mid c d : Option (List ℕ)} {l : List ℕ} (after e : Option (List ℕ)) → Reached before mid c d l → Consumes mid after [] → IsAtEnd after
+    → WroteFrontOf (shown_line l []) d e → ShowedFrontOf before after c e
+front_at_end {before} {mid} {c} {d} after e r consumes end p = record {
+  read = r.read;
+  consumes = subst (Consumes before after) (append-nil r.read) (Consumes-trans before mid after r.read [] r.consumes consumes);
+  front = inr (
+    end,
+    record {
+      written = shown_ended r.read ++ p.written;
+      unwritten = p.unwritten;
+      appends = Appends-trans c d e (shown_ended r.read) p.written r.appends p.appends;
+      whole = ap (λ x. shown_ended r.read ++ shown_line x []) (sym r.line_is) ∙ ap (λ x. shown_ended r.read ++ x) p.whole ∙ sym (append_assoc (shown_ended r.read) p.written p.unwritten);
+    },
+  );
+}
+
+pub Ends-finish : {before mid c d : Option (List ℕ)} {l : List ℕ} (outcome : Outcome) (after e : Option (List ℕ)) → Reached before mid c d l → Consumes mid after [] → IsAtEnd after
+    → Finishes outcome d e l → Ends outcome before after c e
+Ends-finish {before} {mid} {c} {d} {l} Done after e r consumes end p = record {
+  read = r.read;
+  consumes = subst (Consumes before after) (append-nil r.read) (Consumes-trans before mid after r.read [] r.consumes consumes);
+  all = end;
+  appends = subst (λ x. Appends c e (shown_ended r.read ++ shown_line x [])) r.line_is (Appends-trans c d e (shown_ended r.read) (shown_line l []) r.appends p);
+}
+Ends-finish BadLine after e r consumes end p = absurd p
+Ends-finish ReadFault after e r consumes end p = absurd p
+Ends-finish WriteFault after e r consumes end p = front_at_end after e r consumes end p
+Ends-finish NoMemory after e r consumes end p = front_at_end after e r consumes end p
+
+pub shown_of_all : (outcome : Outcome) (before after old new : Option (List ℕ)) → Ends outcome before after old new → outcome ≡ Done
+    → IfSome before (λ text. Appends old new (shown_text text))
+shown_of_all outcome before after old new p is =
+    let q = subst (λ (o : Outcome). Ends o before after old new) is p in
+    Consumes-whole before after q.read (λ text. Appends old new (shown_text text)) q.consumes q.all q.appends
+
+-- ---- a line that is shown
+
+-- what was taken of a text whose rest is shown next
+pub ShowedBefore-none : {T : Type 0} {contents : T → Option (List ℕ)} (w : Counts T) (text : List ℕ) → ShowedBefore contents w w text text
+ShowedBefore-none w text = record { written = []; wrote = Wrote-nil w; whole = refl }
+
+-- the line that ended was shown
+pub ShowedBefore-line : {T : Type 0} {contents : T → Option (List ℕ)} {a b d : Counts T} {text : List ℕ} (line front bytes behind : List ℕ) → ShowedBefore contents a b text (shown_ended (line ++ bytes))
+    → bytes ≡ front ++ 10 ∷ behind → has_newline line ≡ false → has_newline front ≡ false → Wrote contents b d (shown_line (line ++ front) (10 ∷ []))
+    → ShowedBefore contents a d text (shown_ended behind)
+ShowedBefore-line line front bytes behind p is begun first wrote = record {
+  written = p.written ++ shown_line (line ++ front) (10 ∷ []);
+  wrote = Wrote-then p.wrote wrote;
+  whole = p.whole ∙ ap (λ x. p.written ++ x) (shown_ended-parted line front bytes behind is begun first) ∙ sym (append_assoc p.written (shown_line (line ++ front) (10 ∷ [])) (shown_ended behind));
+}
+
+-- no more lines end
+pub ShowedBefore-all : {T : Type 0} {contents : T → Option (List ℕ)} {a b : Counts T} {text : List ℕ} (rest : List ℕ) → ShowedBefore contents a b text (shown_ended rest) → has_newline rest ≡ false
+    → Wrote contents a b text
+ShowedBefore-all {contents = contents} {a = a} {b = b} rest p none =
+    subst (Wrote contents a b) (sym (p.whole ∙ ap (λ x. p.written ++ x) (shown_ended-none rest none) ∙ append-nil p.written)) p.wrote
+
+-- the rest was shown in part
+pub ShowedBefore-stopped : {T : Type 0} {contents : T → Option (List ℕ)} {f : Fault} {a b d : Counts T} {text rest : List ℕ} → ShowedBefore contents a b text rest → ShowedFront f contents b d rest
+    → ShowedFront f contents a d text
+ShowedBefore-stopped {contents = contents} {f = f} {a = a} {d = d} p q = subst (ShowedFront f contents a d) (sym p.whole) (ShowedFront-then p.wrote q)
+
+-- what holds of the error that `?` makes of another
+pub by_error : {X E : Type 0} (r : Result X E) {P Q : E → Type 0} → IsErrAnd r P → ((e : E) → P e → Q e) → IfErr r Q
+by_error (Ok x) p f = tt
+by_error (Err e) p f = f e p
+
+-- ---- the first newline
+
+pub parted_at : (xs : List ℕ) (at : ℕ) → at < length xs → has_newline xs ≡ true → first_line xs ≡ take at xs → xs ≡ take at xs ++ 10 ∷ drop (at + 1) xs
+parted_at xs at below has is =
+    let long : length (first_line xs) ≡ at = ap length is ∙ length-take-le at xs (omega (arith, below)) in
+    let one : at + 1 ≡ suc (length (first_line xs)) = omega (arith, long) in
+    let front : take (at + 1) xs ≡ take at xs ++ 10 ∷ [] = ap (λ n. take n xs) one ∙ take-first_line xs has ∙ ap (λ l. l ++ 10 ∷ []) is in
+    sym (take-append-drop (at + 1) xs) ∙ ap (λ l. l ++ drop (at + 1) xs) front ∙ append_assoc (take at xs) (10 ∷ []) (drop (at + 1) xs)

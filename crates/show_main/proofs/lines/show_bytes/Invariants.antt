@@ -1,0 +1,16 @@
+use Rattle.std.proofs.Common.{◌≡◌, ◌++◌, false, length}
+use Rattle.event_file.specs.Lines.{begun_line, has_newline}
+use Rattle.show_main.specs.Faults.{ShowedBefore}
+use Rattle.show_main.specs.Shown.{shown_ended}
+use Rattle.show_main.proofs.lines.show_bytes.Given as goal
+
+abbrev pub invariant-loop-front : goal.invariant-loop-front
+invariant-loop-front g l = record {
+  begun : has_newline l.line.items ≡ false;
+  no_failure : l.writer.failures ≡ 0;
+  shown : ShowedBefore g.W.Write.contents l.initial.writer l.writer (shown_ended (l.initial.line.items ++ l.bytes)) (shown_ended (l.line.items ++ l.rest));
+  leaves : begun_line (l.initial.line.items ++ l.bytes) ≡ begun_line (l.line.items ++ l.rest);
+}
+
+abbrev pub decreases-loop-front : goal.decreases-loop-front
+decreases-loop-front g l = length l.rest

@@ -1,0 +1,104 @@
+//! The lines of a text, each shown as it ends.
+ghost use Rattle.std.specs.Prelude.{◌≡◌, ◌∷◌, ◌++◌, false, IfErr, IfNone, IfSome, OnOk, position};
+ghost use Rattle.event_file.specs.Lines.{begun_line, has_newline, is_newline};
+ghost use Rattle.event_file.specs.Output.{Wrote};
+ghost use Rattle.show_main.specs.Faults.{ShowedFront};
+ghost use Rattle.show_main.specs.Shown.{shown_ended, shown_line as shown};
+ghost use Rattle.show_main.specs.declared.lines.Fault.TheVariants.{NoMemory, Stopped as WriterStopped};
+
+use crate::messages::message_in;
+use event_file::{Counted, Stopped, write_bytes};
+use message_text::text_of;
+use std::alloc::{AllocError, Global};
+use std::io::Write;
+
+/// Why some text could not be shown.
+#[derive(Clone, Copy, Debug, PartialEq, Eq)]
+pub(crate) enum Fault {
+    /// The writer failed, or took no byte.
+    Stopped,
+    /// There was no memory for a line or for a message's text.
+    NoMemory,
+}
+
+impl From<Stopped> for Fault {
+    ghost from_gives = { λ _ fault. fault ≡ WriterStopped };
+
+    fn from(_error: Stopped) -> Fault {
+        Fault::Stopped
+    }
+}
+
+impl From<AllocError> for Fault {
+    ghost from_gives = { λ _ fault. fault ≡ NoMemory };
+
+    fn from(_error: AllocError) -> Fault {
+        Fault::NoMemory
+    }
+}
+
+/// Shows each line that these bytes end, and leaves what they begin in `line`, which has what had come of the first.
+pub(crate) fn show_bytes<W: Write>(
+    alloc: Global,
+    line: &mut Vec<u8>,
+    bytes: &[u8],
+    writer: &mut Counted<W>,
+) -> Result<(), Fault>
+    requires begun { has_newline line.old.items ≡ false }
+    requires no_failure { writer.old.failures ≡ 0 }
+    ensures shown { OnOk result (Wrote W.contents writer.old writer.new (shown_ended (line.old.items ++ bytes.now))) }
+    ensures begun { OnOk result (line.new.items ≡ begun_line (line.old.items ++ bytes.now)) }
+    ensures fault { IfErr result (λ fault. ShowedFront fault W.contents writer.old writer.new
+        (shown_ended (line.old.items ++ bytes.now))) }
+{
+    let mut rest = bytes;
+    while let Some((front, behind)) = cut_line(rest) {
+        line.extend_from_slice(front)?;
+        show_line(alloc, line, b"\n", writer)?;
+        line.clear();
+        rest = behind;
+    }
+    line.extend_from_slice(rest)?;
+    Ok(())
+}
+
+/// What stands before the first newline and what stands behind it, or `None` where there is none.
+fn cut_line(bytes: &[u8]) -> Option<(&[u8], &[u8])>
+    ensures whole { IfSome result (λ p. bytes.now ≡ p.0.now ++ 10 ∷ p.1.now) }
+    ensures first { IfSome result (λ p. has_newline p.0.now ≡ false) }
+    ensures none { IfNone result (has_newline bytes.now ≡ false) }
+{
+    let at = newline_in(bytes)?;
+    Some((&bytes[..at], &bytes[at + 1..]))
+}
+
+/// The place of the first newline.
+fn newline_in(bytes: &[u8]) -> Option<usize>
+    ensures { result ≡ position is_newline bytes.now }
+{
+    bytes.iter().position(|byte| *byte == b'\n')
+}
+
+/// Writes a line with its end, or in its place the message that it tells.
+pub(crate) fn show_line<W: Write>(
+    alloc: Global,
+    line: &[u8],
+    end: &[u8],
+    writer: &mut Counted<W>,
+) -> Result<(), Fault>
+    requires no_failure { writer.old.failures ≡ 0 }
+    ensures shown { OnOk result (Wrote W.contents writer.old writer.new (shown line.now end.now)) }
+    ensures fault { IfErr result (λ fault. ShowedFront fault W.contents writer.old writer.new (shown line.now end.now)) }
+{
+    match message_in(alloc, line)? {
+        Some(message) => {
+            let text = text_of(alloc, &message)?;
+            write_bytes(&text, writer)?;
+        }
+        None => {
+            write_bytes(line, writer)?;
+            write_bytes(end, writer)?;
+        }
+    }
+    Ok(())
+}
