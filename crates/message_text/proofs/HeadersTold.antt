@@ -129,11 +129,11 @@ ifa_told m n p q long long_too same =
     let to_16 : take 16 m ≡ take 16 n = more_two 14 m n p q (omega arith) (omega arith) to_14 same.1.1.1.1.1.1.0 in
     more_four 16 m n p q (omega arith) (omega arith) to_16 same.1.1.1.1.0
 
-route_rows_end : rows_end route_rows ≡ true
+pub route_rows_end : rows_end route_rows ≡ true
 unfolding rows_end row_ends style_ends starts_apart route_rows route_first_rows route_field_rows path_rows time_rows route_addrs_rows
 route_rows_end = refl
 
-ifa_rows_end : rows_end ifa_rows ≡ true
+pub ifa_rows_end : rows_end ifa_rows ≡ true
 unfolding rows_end row_ends style_ends starts_apart ifa_rows ifa_first_rows ifa_field_rows
 ifa_rows_end = refl
 

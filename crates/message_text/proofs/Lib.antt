@@ -1,6 +1,7 @@
 pub mod AddressForms
 pub mod AddressesTold
 pub mod BytesTold
+pub mod HeaderLines
 pub mod HeadersTold
 pub mod HexText
 pub mod Joined
@@ -10,4 +11,5 @@ pub mod Onto
 pub mod Parting
 pub mod Padding
 pub mod Printable
+pub mod TextLines
 pub mod Told

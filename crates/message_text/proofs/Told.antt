@@ -72,7 +72,7 @@ kind_told n k x y a b e =
 
 -- ---- bits
 
-four_bytes : (n : ℕ) → IsBytes (to_be_bytes w32 n)
+pub four_bytes : (n : ℕ) → IsBytes (to_be_bytes w32 n)
 four_bytes n zero = omega arith
 four_bytes n (suc zero) = omega arith
 four_bytes n (suc (suc zero)) = omega arith
@@ -95,7 +95,7 @@ style_ends Kind width stop = nat_eq width 1 && nat_eq stop 58
 style_ends Decimal width stop = not (is_digit stop)
 style_ends Bits width stop = true
 
-same_stop : (s t : ℕ) → nat_eq s t ≡ true → s ≡ t
+pub same_stop : (s t : ℕ) → nat_eq s t ≡ true → s ≡ t
 same_stop s t e = eqb-true s t e
 
 number_told : (s : Style) (o w stop : ℕ) (m n x y : List ℕ) → IsBytes m → IsBytes n
