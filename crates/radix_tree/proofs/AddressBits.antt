@@ -34,4 +34,4 @@ module _ {V : Type 0} where
 
   pub key_covers : (address : ℕ) (e : Entry V) → e.key ≡ masked e.rank address → Covers address e
   unfolding Covers
-  key_covers address e is = subst (λ (k : ℕ). agrees e.rank k address ≡ true) (sym is) (masked_agrees e.rank address)
+  key_covers address e is = subst (λ k. agrees e.rank k address ≡ true) (sym is) (masked_agrees e.rank address)

@@ -1,7 +1,7 @@
 -- What is read of the room that a search found.
-use Rattle.radix_tree.proofs.Words.{◌≡◌, ℕ, Option, Some, None, refl, sym, ap, ◌∙◌, subst, get, Seen, Has, Id, Leaf, LeafPart, Part, leaves_in, bits_in}
-use Rattle.radix_tree.proofs.Words.{leaf_part, Tells, Best, In, best_of, Placed, routes_of, Entry, Lodged}
 use Rattle.radix_tree.proofs.{BestOfTree.some_best, BestOfTree.no_best, RoomReads.Has-leaf, RoomReads.value_read, TreeMembers.tree_said}
+use Rattle.radix_tree.proofs.Words.{◌≡◌, ℕ, Option, Some, None, refl, sym, ap, ◌∙◌, subst, get, Seen, Has, Id, Leaf, LeafPart, Part, leaves_in, bits_in}
+use Rattle.radix_tree.proofs.Words.{leaf_part, Tells, Best, In, best_of, Placed, routes_of, Lodged}
 
 module _ {V : Type 0} {m : Lodged V} where
   -- the best route, and what its room says as a leaf
@@ -21,8 +21,8 @@ module _ {V : Type 0} {m : Lodged V} where
         route = told.0;
         best = told.2;
         part = leaf_part told.0 said.0 said.1 said.2;
-        said = ap (λ (i : Id). leaves_in m i.number) (sym told.1) ∙ said.3;
-        block = ap (λ (i : Id). i.block) told.1;
+        said = ap (λ i. leaves_in m i.number) (sym told.1) ∙ said.3;
+        block = ap (λ i. i.block) told.1;
         is = refl;
       }
 
@@ -32,9 +32,9 @@ module _ {V : Type 0} {m : Lodged V} where
   pub best_answer : {p : Part m} {address : ℕ} {room : Id} (a : Answer p address room) {l : Leaf} (value : V) → l ≡ a.part.leaf
       → ((s : Seen V) → get m room.number ≡ Some s → value ≡ s.value)
       → Some (record { key = l.key; rank = l.rank; value = value }) ≡ best_of address (routes_of p.tree)
-  best_answer {p} {address} {room} a value l_is value_is = ap (λ (z : Leaf). Some (record { key = z.key; rank = z.rank; value = value })) l_is
-      ∙ ap (λ (v : V). Some (record { key = a.part.leaf.key; rank = a.part.leaf.rank; value = v })) (value_read m room value a.said a.block value_is)
-      ∙ ap (λ (e : Entry V). Some e) a.is ∙ sym (some_best address p.low p.tree p.is a.route a.best)
+  best_answer {p} {address} {room} a value l_is value_is = ap (λ z. Some (record { key = z.key; rank = z.rank; value = value })) l_is
+      ∙ ap (λ v. Some (record { key = a.part.leaf.key; rank = a.part.leaf.rank; value = v })) (value_read m room value a.said a.block value_is)
+      ∙ ap Some a.is ∙ sym (some_best address p.low p.tree p.is a.route a.best)
 
   pub best_none : (p : Part m) (address : ℕ) {o : Option Id} → o ≡ None → Tells (Best address 0 34 (In p)) o → None ≡ best_of address (routes_of p.tree)
   best_none p address none tells = sym (no_best address p.low p.tree p.is (subst (Tells (Best address 0 34 (In p))) none tells))

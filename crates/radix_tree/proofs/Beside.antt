@@ -1,30 +1,29 @@
 -- A route of a new key comes into the tree: what the rooms say afterwards is the tree with it.
-use Rattle.radix_tree.proofs.Words.{◌≡◌, ℕ, ◌<◌, ◌≤◌, ◌==◌, Bool, if◌then◌else◌, List, [], ◌∷◌, Option, Some, None, refl, sym, ap, ◌∙◌, subst, arith, inl}
-use Rattle.radix_tree.proofs.Words.{inr, eq-eqb, ne_eqb, Id, Node, LeafOf, BitOf, IsRoute, Placed, Tree, leaf, fork, bit_at, HaveBit, LeafPart, BitPart}
-use Rattle.radix_tree.proofs.Words.{Part, leaves_in, bits_in, name_of, Stands, Way, one_if, leaves_at, forks_at, with_child, name_child, root_after}
-use Rattle.radix_tree.proofs.Words.{AreOnce, IsPlace, IsSpot, IsBeside, forked_tree, IsExchange, Exchanged, lift_leaf, lift_bit, leaf_above, bit_above}
-use Rattle.radix_tree.proofs.Words.{Lodged}
 use Rattle.radix_tree.proofs.{AddressBits.zero_not_one, AddressBits.zero_or_one, PartRooms.one_if_same, PartRooms.way_once, PartRooms.spine_out}
 use Rattle.radix_tree.proofs.{Exchanging.exchanged, Forking.one_value, Forking.zero_fork_is, Forking.one_fork_is, Forking.lifted, Forking.leaves_there}
 use Rattle.radix_tree.proofs.{Forking.forks_there}
+use Rattle.radix_tree.proofs.Words.{◌≡◌, ℕ, ◌<◌, ◌≤◌, ◌==◌, if◌then◌else◌, List, [], ◌∷◌, Option, Some, None, refl, sym, ap, ◌∙◌, subst, arith, inl, inr}
+use Rattle.radix_tree.proofs.Words.{eq-eqb, ne_eqb, Id, Node, LeafOf, BitOf, IsRoute, Placed, Tree, leaf, fork, bit_at, HaveBit, LeafPart, BitPart, Part}
+use Rattle.radix_tree.proofs.Words.{leaves_in, bits_in, name_of, Stands, Way, one_if, leaves_at, forks_at, with_child, name_child, root_after, AreOnce}
+use Rattle.radix_tree.proofs.Words.{IsPlace, IsSpot, IsBeside, forked_tree, IsExchange, Exchanged, lift_leaf, lift_bit, leaf_above, bit_above, Lodged}
 
 -- a name that is not in a room is not the room's
 pub misses_leaf : {A : Type 0} (at : Node) (n : ℕ) → ((room : Id) → at ≡ LeafOf room → n ≡ room.number → ⊥) → (above : Option Id) (said : Option (LeafPart A))
     → lift_leaf at above n said ≡ said
-misses_leaf (LeafOf room) n other above said = ap (λ (t : Bool). if t then leaf_above above said else said) (ne_eqb n room.number (other room refl))
+misses_leaf (LeafOf room) n other above said = ap (λ t. if t then leaf_above above said else said) (ne_eqb n room.number (other room refl))
 misses_leaf (BitOf room) n other above said = refl
 
 pub misses_bit : (at : Node) (n : ℕ) → ((room : Id) → at ≡ BitOf room → n ≡ room.number → ⊥) → (above : Option Id) (said : Option BitPart)
     → lift_bit at above n said ≡ said
 misses_bit (LeafOf room) n other above said = refl
-misses_bit (BitOf room) n other above said = ap (λ (t : Bool). if t then bit_above above said else said) (ne_eqb n room.number (other room refl))
+misses_bit (BitOf room) n other above said = ap (λ t. if t then bit_above above said else said) (ne_eqb n room.number (other room refl))
 
 module _ {V : Type 0} where
   -- the room of a part's name is in the part
   pub named_leaf : (t : Tree V) (room : Id) → name_of t ≡ LeafOf room → 1 ≤ leaves_at room.number t
   named_leaf (leaf x xs) room e =
       let same : x.room ≡ room = cc in
-      let own : one_if (x.room.number == room.number) ≡ 1 = ap (λ (i : Id). one_if (x.room.number == i.number)) (sym same) ∙ one_if_same x.room.number in
+      let own = ap (λ i. one_if (x.room.number == i.number)) (sym same) ∙ one_if_same x.room.number in
       omega arith
   named_leaf (fork i b zero one) room e = cc
 
@@ -32,43 +31,40 @@ module _ {V : Type 0} where
   named_bit (leaf x xs) room e = cc
   named_bit (fork i b zero one) room e =
       let same : i ≡ room = cc in
-      let own : one_if (i.number == room.number) ≡ 1 = ap (λ (j : Id). one_if (i.number == j.number)) (sym same) ∙ one_if_same i.number in omega arith
+      let own = ap (λ j. one_if (i.number == j.number)) (sym same) ∙ one_if_same i.number in omega arith
 
   -- ---- the state before and after
   -- a room of the part isn't the new one
   pub not_new : {m : Lodged V} (p : Part m) (room : Id) → leaves_in m room.number ≡ None → (n : ℕ) → 1 ≤ leaves_at n p.tree → n ≡ room.number → ⊥
   not_new {m = m} p room none n some same =
-      let gone : leaves_at room.number p.tree ≡ 0 = leaves_there (leaves_in m) (bits_in m) p.above p.tree room.number p.stands none in
-      let is : leaves_at n p.tree ≡ leaves_at room.number p.tree = ap (λ (k : ℕ). leaves_at k p.tree) same in omega arith
+      let gone = leaves_there (leaves_in m) (bits_in m) p.above p.tree room.number p.stands none in
+      let is = ap (λ k. leaves_at k p.tree) same in omega arith
 
   pub not_new_bit : {m : Lodged V} (p : Part m) (room : Id) → bits_in m room.number ≡ None → (n : ℕ) → 1 ≤ forks_at n p.tree → n ≡ room.number → ⊥
   not_new_bit {m = m} p room none n some same =
-      let gone : forks_at room.number p.tree ≡ 0 = forks_there (leaves_in m) (bits_in m) p.above p.tree room.number p.stands none in
-      let is : forks_at n p.tree ≡ forks_at room.number p.tree = ap (λ (k : ℕ). forks_at k p.tree) same in omega arith
+      let gone = forks_there (leaves_in m) (bits_in m) p.above p.tree room.number p.stands none in
+      let is = ap (λ k. forks_at k p.tree) same in omega arith
 
   -- the bit node above a part is not in it
   pub not_above : (m : Lodged V) (address : ℕ) (whole at : Part m) (ups : List (Part m)) → Way address whole at ups → whole.above ≡ None → AreOnce whole.tree
       → (to : Node) (n : ℕ) → 1 ≤ forks_at n at.tree → name_child at.above address to n (bits_in m n) ≡ bits_in m n
-  not_above m address whole at [] way top once to n some =
-      ap (λ (o : Option Id). name_child o address to n (bits_in m n)) (ap (λ (p : Part m). p.above) way ∙ top)
+  not_above m address whole at [] way top once to n some = ap (λ o. name_child o address to n (bits_in m n)) (ap (λ p. p.above) way ∙ top)
   not_above m address whole at (p ∷ ps) way top once to n some =
       let b = way.0 in
-      let out : forks_at b.room.number at.tree ≡ 0 = (spine_out m at p b (way_once address whole p ps way.1 once)).0 in
-      ap (λ (o : Option Id). name_child o address to n (bits_in m n)) b.above
-      ∙ ap (λ (t : Bool). if t then with_child address to (bits_in m n) else bits_in m n)
-      (ne_eqb n b.room.number (λ same. let is : forks_at n at.tree ≡ forks_at b.room.number at.tree = ap (λ (k : ℕ). forks_at k at.tree) same in
-      absurd (omega arith)))
+      let out = (spine_out m at p b (way_once address whole p ps way.1 once)).0 in
+      ap (λ o. name_child o address to n (bits_in m n)) b.above ∙ ap (λ t. if t then with_child address to (bits_in m n) else bits_in m n)
+      (ne_eqb n b.room.number (λ same. let is = ap (λ k. forks_at k at.tree) same in absurd (omega arith)))
 
   -- the part beneath stands beneath the new bit node
   beneath_stands : (m new : Lodged V) {bit : ℕ} (x : Placed V) (whole : Part m) {above : Option Id} (below : Node)
       (s : IsSpot m x.entry.key bit whole above below) → IsBeside m new bit x above below
       → Stands (leaves_in new) (bits_in new) (Some x.room) s.at.tree
   beneath_stands m new x whole below s b = lifted (leaves_in m) (leaves_in new) (bits_in m) (bits_in new) s.at.above (Some x.room) s.at.tree
-      (λ n some. b.leaves n (not_new s.at x.room b.no_leaf n some) ∙ ap (λ (z : Node). lift_leaf z (Some x.room) n (leaves_in m n)) (sym s.named))
-      (λ n some. b.bits n (not_new_bit s.at x.room b.no_bit n some) ∙ ap (λ (said : Option BitPart). lift_bit below (Some x.room) n said)
-      (ap (λ (o : Option Id). name_child o x.entry.key (BitOf x.room) n (bits_in m n)) (sym s.above_is)
+      (λ n some. b.leaves n (not_new s.at x.room b.no_leaf n some) ∙ ap (λ z. lift_leaf z (Some x.room) n (leaves_in m n)) (sym s.named))
+      (λ n some. b.bits n (not_new_bit s.at x.room b.no_bit n some) ∙ ap (lift_bit below (Some x.room) n)
+      (ap (λ o. name_child o x.entry.key (BitOf x.room) n (bits_in m n)) (sym s.above_is)
       ∙ not_above m x.entry.key whole s.at s.ups s.way s.top s.once (BitOf x.room) n some)
-      ∙ ap (λ (z : Node). lift_bit z (Some x.room) n (bits_in m n)) (sym s.named)) (way_once x.entry.key whole s.at s.ups s.way s.once) s.at.stands
+      ∙ ap (λ z. lift_bit z (Some x.room) n (bits_in m n)) (sym s.named)) (way_once x.entry.key whole s.at s.ups s.way s.once) s.at.stands
 
   -- the new bit node with what is beneath it
   record Forked (m new : Lodged V) (bit : ℕ) (x : Placed V) (at : Part m) : Type 0 where
@@ -79,17 +75,17 @@ module _ {V : Type 0} where
 
   -- on either side of it
   pub zero_forked : (bit : ℕ) (x : Placed V) (t : Tree V) → bit_at bit x.entry.key ≡ 0 → fork x.room bit (leaf x []) t ≡ forked_tree bit x t
-  zero_forked bit x t clear = sym (ap (λ (b : Bool). if b then fork x.room bit t (leaf x []) else fork x.room bit (leaf x []) t)
+  zero_forked bit x t clear = sym (ap (λ b. if b then fork x.room bit t (leaf x []) else fork x.room bit (leaf x []) t)
       (ne_eqb (bit_at bit x.entry.key) 1 (λ set. zero_not_one clear set)))
 
   pub one_forked : (bit : ℕ) (x : Placed V) (t : Tree V) → bit_at bit x.entry.key ≡ 1 → fork x.room bit t (leaf x []) ≡ forked_tree bit x t
   one_forked bit x t set =
-      sym (ap (λ (b : Bool). if b then fork x.room bit t (leaf x []) else fork x.room bit (leaf x []) t) (eq-eqb (bit_at bit x.entry.key) 1 set))
+      sym (ap (λ b. if b then fork x.room bit t (leaf x []) else fork x.room bit (leaf x []) t) (eq-eqb (bit_at bit x.entry.key) 1 set))
 
   forked_name : (bit : ℕ) (x : Placed V) (t : Tree V) → name_of (forked_tree bit x t) ≡ BitOf x.room
   forked_name bit x t = elim (zero_or_one bit x.entry.key) [
-    | inl clear ↦ ap (λ (s : Tree V). name_of s) (sym (zero_forked bit x t clear))
-    | inr set ↦ ap (λ (s : Tree V). name_of s) (sym (one_forked bit x t set))
+    | inl clear ↦ ap name_of (sym (zero_forked bit x t clear))
+    | inr set ↦ ap name_of (sym (one_forked bit x t set))
   ]
 
   forked_part : (m new : Lodged V) (bit : ℕ) (x : Placed V) (whole : Part m) (above : Option Id) (below : Node)
@@ -104,11 +100,11 @@ module _ {V : Type 0} where
             above = s.at.above;
             is = zero_fork_is s.at.low bit x x.room route s.place clear;
             stands = (
-              b.bit_node ∙ ap (λ (t : Bool). Some (if t then record { block = x.room.block; bit = bit; zero = below; one = LeafOf x.room; above = above }
+              b.bit_node ∙ ap (λ t. Some (if t then record { block = x.room.block; bit = bit; zero = below; one = LeafOf x.room; above = above }
                   else record { block = x.room.block; bit = bit; zero = LeafOf x.room; one = below; above = above }))
                   (ne_eqb (bit_at bit x.entry.key) 1 (λ set. zero_not_one clear set))
-                  ∙ ap (λ (z : Node). Some (record { block = x.room.block; bit = bit; zero = LeafOf x.room; one = z; above = above })) (sym s.named)
-                  ∙ ap (λ (o : Option Id). Some (record { block = x.room.block; bit = bit; zero = LeafOf x.room; one = name_of s.at.tree; above = o }))
+                  ∙ ap (λ z. Some (record { block = x.room.block; bit = bit; zero = LeafOf x.room; one = z; above = above })) (sym s.named)
+                  ∙ ap (λ o. Some (record { block = x.room.block; bit = bit; zero = LeafOf x.room; one = name_of s.at.tree; above = o }))
                   (sym s.above_is),
               (b.leaf, tt),
               stands,
@@ -125,11 +121,11 @@ module _ {V : Type 0} where
             above = s.at.above;
             is = one_fork_is s.at.low bit x x.room route s.place set;
             stands = (
-              b.bit_node ∙ ap (λ (t : Bool). Some (if t then record { block = x.room.block; bit = bit; zero = below; one = LeafOf x.room; above = above }
+              b.bit_node ∙ ap (λ t. Some (if t then record { block = x.room.block; bit = bit; zero = below; one = LeafOf x.room; above = above }
                   else record { block = x.room.block; bit = bit; zero = LeafOf x.room; one = below; above = above }))
                   (eq-eqb (bit_at bit x.entry.key) 1 set)
-                  ∙ ap (λ (z : Node). Some (record { block = x.room.block; bit = bit; zero = z; one = LeafOf x.room; above = above })) (sym s.named)
-                  ∙ ap (λ (o : Option Id). Some (record { block = x.room.block; bit = bit; zero = name_of s.at.tree; one = LeafOf x.room; above = o }))
+                  ∙ ap (λ z. Some (record { block = x.room.block; bit = bit; zero = z; one = LeafOf x.room; above = above })) (sym s.named)
+                  ∙ ap (λ o. Some (record { block = x.room.block; bit = bit; zero = name_of s.at.tree; one = LeafOf x.room; above = o }))
                   (sym s.above_is),
               stands,
               (b.leaf, tt),
@@ -145,8 +141,8 @@ module _ {V : Type 0} where
   forked_keys : (bit low : ℕ) (x : Placed V) (t : Tree V) → IsPlace x.entry.key low bit t → (c value : ℕ) → c < low → HaveBit c value t
       → HaveBit c value (forked_tree bit x t)
   forked_keys bit low x t p c value before have =
-      let rises : low ≤ bit = p.rises in
-      let own : bit_at c x.entry.key ≡ value = one_value c (bit_at c x.entry.key) value t (p.agree c (omega arith)) have in
+      let rises = p.rises in
+      let own = one_value c (bit_at c x.entry.key) value t (p.agree c (omega arith)) have in
       elim (zero_or_one bit x.entry.key) [
         | inl clear ↦ subst (HaveBit c value) (zero_forked bit x t clear) (own, have)
         | inr set ↦ subst (HaveBit c value) (one_forked bit x t set) (have, own)
@@ -157,37 +153,34 @@ module _ {V : Type 0} where
   leaf_stays : (m new : Lodged V) {bit : ℕ} (x : Placed V) (whole : Part m) {above : Option Id} (below : Node) (s : IsSpot m x.entry.key bit whole above below)
       → IsBeside m new bit x above below → (n : ℕ) → leaves_at n s.at.tree ≡ 0 → 1 ≤ leaves_at n whole.tree → leaves_in new n ≡ leaves_in m n
   leaf_stays m new x whole below s b n out some = b.leaves n (not_new whole x.room b.no_leaf n some)
-      ∙ misses_leaf below n (λ r is same. let there : 1 ≤ leaves_at r.number s.at.tree = named_leaf s.at.tree r (s.named ∙ is) in
-      let e : leaves_at n s.at.tree ≡ leaves_at r.number s.at.tree = ap (λ (k : ℕ). leaves_at k s.at.tree) same in absurd (omega arith)) (Some x.room)
-      (leaves_in m n)
+      ∙ misses_leaf below n (λ r is same. let there = named_leaf s.at.tree r (s.named ∙ is) in
+      let e = ap (λ k. leaves_at k s.at.tree) same in absurd (omega arith)) (Some x.room) (leaves_in m n)
 
   bit_stays : (m new : Lodged V) {bit : ℕ} (x : Placed V) (whole : Part m) (above : Option Id) (below : Node) (s : IsSpot m x.entry.key bit whole above below)
       → IsBeside m new bit x above below
       → (n : ℕ) → forks_at n s.at.tree ≡ 0 → 1 ≤ forks_at n whole.tree → bits_in new n ≡ name_child above x.entry.key (BitOf x.room) n (bits_in m n)
   bit_stays m new x whole above below s b n out some = b.bits n (not_new_bit whole x.room b.no_bit n some)
-      ∙ misses_bit below n (λ r is same. let there : 1 ≤ forks_at r.number s.at.tree = named_bit s.at.tree r (s.named ∙ is) in
-      let e : forks_at n s.at.tree ≡ forks_at r.number s.at.tree = ap (λ (k : ℕ). forks_at k s.at.tree) same in absurd (omega arith)) (Some x.room)
-      (name_child above x.entry.key (BitOf x.room) n (bits_in m n))
+      ∙ misses_bit below n (λ r is same. let there = named_bit s.at.tree r (s.named ∙ is) in
+      let e = ap (λ k. forks_at k s.at.tree) same in absurd (omega arith)) (Some x.room) (name_child above x.entry.key (BitOf x.room) n (bits_in m n))
 
   pub whole_forked : {m new : Lodged V} {bit : ℕ} {x : Placed V} (whole : Part m) {above : Option Id} {below root : Node}
       (s : IsSpot m x.entry.key bit whole above below) → IsBeside m new bit x above below → IsRoute x.entry → name_of whole.tree ≡ root
       → (u : Part new) × (u.tree ≡ forked_tree bit x s.at.tree) × Exchanged m new x.entry.key whole s.at u (root_after above (BitOf x.room) root)
   whole_forked {m = m} {new = new} {bit = bit} {x = x} whole {above = above} {below = below} s b route named =
       let u = forked_part m new bit x whole above below s b route in
-      let name : name_of u.part.tree ≡ BitOf x.room = ap (λ (t : Tree V). name_of t) u.tree ∙ forked_name bit x s.at.tree in
+      let name = ap name_of u.tree ∙ forked_name bit x s.at.tree in
       let e : IsExchange m new x.entry.key whole s.at u.part = record {
         low = u.low;
         above = u.above;
         keys = λ c value before have. subst (HaveBit c value) (sym u.tree) (forked_keys bit s.at.low x s.at.tree s.place c value before have);
         leaves = leaf_stays m new x whole below s b;
         bits = λ n none some. bit_stays m new x whole above below s b n none some
-            ∙ ap (λ (o : Option Id). name_child o x.entry.key (BitOf x.room) n (bits_in m n)) (sym s.above_is)
-            ∙ ap (λ (z : Node). name_child s.at.above x.entry.key z n (bits_in m n)) (sym name);
+            ∙ ap (λ o. name_child o x.entry.key (BitOf x.room) n (bits_in m n)) (sym s.above_is)
+            ∙ ap (λ z. name_child s.at.above x.entry.key z n (bits_in m n)) (sym name);
       } in (
         u.part,
         u.tree,
-        subst (λ (z : Node). Exchanged m new x.entry.key whole s.at u.part z)
-            (ap (λ (o : Option Id). root_after o (name_of u.part.tree) (name_of whole.tree)) s.above_is
-            ∙ ap (λ (z : Node). root_after above z (name_of whole.tree)) name ∙ ap (λ (z : Node). root_after above (BitOf x.room) z) named)
+        subst (Exchanged m new x.entry.key whole s.at u.part) (ap (λ o. root_after o (name_of u.part.tree) (name_of whole.tree)) s.above_is
+            ∙ ap (λ z. root_after above z (name_of whole.tree)) name ∙ ap (root_after above (BitOf x.room)) named)
             (exchanged m new whole s.at s.ups s.way s.top s.once e),
       )

@@ -1,12 +1,12 @@
 -- What has come of the rooms once a route of a new key stands in them, beneath a new bit node.
-use Rattle.radix_tree.proofs.Words.{◌≡◌, ℕ, ◌+◌, ◌≤◌, ◌⊎◌, ◌==◌, ◌||◌, Bool, true, false, if◌then◌else◌, List, [], ◌∷◌, Option, Some, None, refl, sym, ap}
-use Rattle.radix_tree.proofs.Words.{◌∙◌, subst, inl, inr, arith, eq-eqb, ne_eqb, cases_eq, append-nil, is_some, Has, Id, Node, LeafOf, BitOf, Placed}
-use Rattle.radix_tree.proofs.Words.{Tree, leaf, fork, bit_at, IsIn, routes_of, LeafPart, BitPart, MaskPart, Heads, Masks, Bits, Part, leaves_in, bits_in}
-use Rattle.radix_tree.proofs.Words.{heads_in, masks_in, Beneath, Way, one_if, leaves_at, forks_at, HasHome, HaveOneFork, name_child, with_child}
-use Rattle.radix_tree.proofs.Words.{with_head, forked_tree, Gains, IsPlace, IsSpot, IsBeside, Exchanged, IsMarked, IsMaskList, MarkedIn, MarkedLists}
-use Rattle.radix_tree.proofs.Words.{HasRoomMore, KeepsLeaves, KeepsBits, KeepsMasks, lift_leaf, lift_bit, leaf_above, bit_above, Lodged}
 use Rattle.radix_tree.proofs.{AddressBits.zero_or_one, RoomReads.Has-leaf, TreeMembers.bit_beneath, Lodging.stays, Beside.zero_forked, Beside.one_forked}
 use Rattle.radix_tree.proofs.{Cuts.IsCut}
+use Rattle.radix_tree.proofs.Words.{◌≡◌, ℕ, ◌+◌, ◌≤◌, ◌⊎◌, ◌==◌, ◌||◌, Bool, true, false, if◌then◌else◌, List, [], ◌∷◌, Option, Some, None, refl, sym, ap}
+use Rattle.radix_tree.proofs.Words.{◌∙◌, subst, inl, inr, arith, eq-eqb, ne_eqb, cases_eq, append-nil, is_some, Has, Id, Node, LeafOf, BitOf, Placed}
+use Rattle.radix_tree.proofs.Words.{Tree, leaf, fork, bit_at, IsIn, routes_of, LeafPart, BitPart, Heads, Masks, Bits, Part, leaves_in, bits_in, heads_in}
+use Rattle.radix_tree.proofs.Words.{masks_in, Beneath, Way, one_if, leaves_at, forks_at, HasHome, HaveOneFork, name_child, with_child, with_head}
+use Rattle.radix_tree.proofs.Words.{forked_tree, Gains, IsPlace, IsSpot, IsBeside, Exchanged, IsMarked, IsMaskList, MarkedIn, MarkedLists, HasRoomMore}
+use Rattle.radix_tree.proofs.Words.{KeepsLeaves, KeepsBits, KeepsMasks, lift_leaf, lift_bit, leaf_above, bit_above, Lodged}
 
 -- ---- what a room says stays something
 turned_some : (key : ℕ) (to : Node) (said : Option BitPart) → is_some (with_child key to said) ≡ is_some said
@@ -31,7 +31,7 @@ lift_bit_some (BitOf room) above n said = chosen (n == room.number) (bit_above a
 
 pub none_of : {A : Type 0} (x y : Option A) → is_some x ≡ is_some y → y ≡ None → x ≡ None
 none_of None y same none = refl
-none_of (Some a) y same none = absurd (true_false (same ∙ ap (λ (o : Option _). is_some o) none))
+none_of (Some a) y same none = absurd (true_false (same ∙ ap is_some none))
   where
     true_false : true ≡ false → ⊥
     true_false e = cc
@@ -192,31 +192,29 @@ module _ {V : Type 0} where
 
   pub other_leaf : (m mid new : Lodged V) {low bit : ℕ} (t : Tree V) (x : Placed V) {above : Option Id} (below : Node) → Came m mid new low bit t x above below
       → (n : ℕ) → (n ≡ x.room.number → ⊥) → is_some (leaves_in new n) ≡ is_some (leaves_in m n)
-  other_leaf m mid new t x below c n other =
-      ap (λ (o : Option (LeafPart V)). is_some o) (c.beside.leaves n other) ∙ lift_leaf_some below (Some x.room) n (leaves_in mid n)
-      ∙ ap (λ (o : Option (LeafPart V)). is_some o) (c.cut.leaves n)
+  other_leaf m mid new t x below c n other = ap is_some (c.beside.leaves n other) ∙ lift_leaf_some below (Some x.room) n (leaves_in mid n)
+      ∙ ap is_some (c.cut.leaves n)
 
   pub other_bit : (m mid new : Lodged V) {low bit : ℕ} {t : Tree V} (x : Placed V) (above : Option Id) (below : Node) → Came m mid new low bit t x above below
       → (n : ℕ) → (n ≡ x.room.number → ⊥) → is_some (bits_in new n) ≡ is_some (bits_in m n)
-  other_bit m mid new x above below c n other = ap (λ (o : Option BitPart). is_some o) (c.beside.bits n other) ∙ lift_bit_some below (Some x.room) n
+  other_bit m mid new x above below c n other = ap is_some (c.beside.bits n other) ∙ lift_bit_some below (Some x.room) n
       (name_child above x.entry.key (BitOf x.room) n (bits_in mid n)) ∙ turn_some above x.entry.key (BitOf x.room) n (bits_in mid n)
-      ∙ ap (λ (o : Option BitPart). is_some o) (c.cut.bits n)
+      ∙ ap is_some (c.cut.bits n)
 
   pub same_marks : (m mid new : Lodged V) {low bit : ℕ} {t : Tree V} (x : Placed V) {above : Option Id} {below : Node} → Came m mid new low bit t x above below
       → (n : ℕ) → is_some (masks_in new n) ≡ is_some (masks_in m n)
-  same_marks m mid new x c n = ap (λ (o : Option MaskPart). is_some o) (c.masks n) ∙ c.cut.marks n
+  same_marks m mid new x c n = ap is_some (c.masks n) ∙ c.cut.marks n
 
   pub new_unmarked : (m mid new : Lodged V) {low bit : ℕ} {t : Tree V} (x : Placed V) {above : Option Id} {below : Node}
       → Came m mid new low bit t x above below → IsMarked (masks_in new) x → ⊥
-  new_unmarked m mid new x c marked =
-      false_true (sym (ap (λ (o : Option MaskPart). is_some o) c.unmarked) ∙ sym (same_marks m mid new x c x.room.number) ∙ marked)
+  new_unmarked m mid new x c marked = false_true (sym (ap is_some c.unmarked) ∙ sym (same_marks m mid new x c x.room.number) ∙ marked)
 
   pub room_more : {m mid new : Lodged V} {low bit : ℕ} (t : Tree V) {x : Placed V} {above : Option Id} {below : Node} → Came m mid new low bit t x above below
       → HasRoomMore m new x.room.number
   room_more {m = m} {mid = mid} {new = new} t {x = x} {below = below} c n = elim (cases_eq n x.room.number) [
-    | inl same ↦ ap (λ (k : ℕ). is_some (leaves_in new k)) same ∙ ap (λ (o : Option (LeafPart V)). is_some o) c.beside.leaf
-        ∙ sym (ap (λ (b : Bool). b || is_some (leaves_in m n)) (eq-eqb n x.room.number same))
-    | inr other ↦ other_leaf m mid new t x below c n other ∙ sym (ap (λ (b : Bool). b || is_some (leaves_in m n)) (ne_eqb n x.room.number other))
+    | inl same ↦ ap (λ k. is_some (leaves_in new k)) same ∙ ap is_some c.beside.leaf
+        ∙ sym (ap (λ b. b || is_some (leaves_in m n)) (eq-eqb n x.room.number same))
+    | inr other ↦ other_leaf m mid new t x below c n other ∙ sym (ap (λ b. b || is_some (leaves_in m n)) (ne_eqb n x.room.number other))
   ]
 
   pub leaf_kept : {m mid new : Lodged V} {low bit : ℕ} {t : Tree V} {x : Placed V} {above : Option Id} {below : Node} → Came m mid new low bit t x above below

@@ -1,17 +1,17 @@
 -- A route of a new key stands in the table's rooms, beneath a new bit node that has taken over a list of masks: the whole.
-use Rattle.radix_tree.proofs.Words.{◌≡◌, ℕ, ◌+◌, ◌≤◌, ◌⊎◌, ◌==◌, ◌||◌, Bool, true, false, if◌then◌else◌, List, ◌∷◌, Option, Some, None, refl, sym}
-use Rattle.radix_tree.proofs.Words.{ap, ◌∙◌, subst, inl, inr, arith, eq-eqb, ne_eqb, cases_eq, is_some, Id, Node, LeafOf, BitOf, Placed, Tree, leaf, fork}
-use Rattle.radix_tree.proofs.Words.{IsIn, IsTree, routes_of, LeafPart, BitPart, MaskPart, Part, leaves_in, bits_in, heads_in, masks_in, LedTo, one_if}
-use Rattle.radix_tree.proofs.Words.{leaves_at, forks_at, HasHome, HaveOneFork, IsWhole, shown, with_head, forked_tree, Gains, IsSpot, IsBeside, IsNew}
-use Rattle.radix_tree.proofs.Words.{Differs, Exchanged, IsMasks, IsAside, past_bit, up_to_bit, IsMarked, MarkedIn, MarkedLists, IsWholeBut, has_key}
-use Rattle.radix_tree.proofs.Words.{is_of_key, nobody_late, nobody_out, KeepsLeaves, KeepsBits, KeepsMasks, Lodged}
-use Rattle.radix_tree.proofs.BesideRooms.{none_of, false_true, or_true, one_if_turned, one_if_here, forked_leaves, forked_forks, in_forked, forked_in}
-use Rattle.radix_tree.proofs.BesideRooms.{forked_lists, home_forked, forked_home, forked_spare, forked_gains, Came, no_leaf, no_bit, other_leaf}
-use Rattle.radix_tree.proofs.BesideRooms.{other_bit, same_marks, new_unmarked}
 use Rattle.radix_tree.proofs.{TreeMembers.chain_key, TreeMembers.tree_said, Beside.not_new, Beside.not_new_bit, Plugs.counted_leaf, Plugs.spare_same}
 use Rattle.radix_tree.proofs.{PlugLists.mask_list_same, PlugLists.lists_same, PlugLists.marked_same, WholeParts.Fits, WholeParts.some_of}
 use Rattle.radix_tree.proofs.{WholeParts.whole_but, WholeParts.once_but, WholeChanges.spare_changed, WholeChanges.whole_changed}
 use Rattle.radix_tree.proofs.{WholeRoutes.routes_changed, WholeRoutes.gains_spliced, LeafWays.same_leaf, Cuts.cut_at}
+use Rattle.radix_tree.proofs.Words.{◌≡◌, ℕ, ◌+◌, ◌≤◌, ◌⊎◌, ◌==◌, ◌||◌, Bool, true, false, if◌then◌else◌, List, ◌∷◌, Option, Some, None, refl, sym, ap}
+use Rattle.radix_tree.proofs.Words.{◌∙◌, subst, inl, inr, arith, eq-eqb, ne_eqb, cases_eq, is_some, Id, Node, LeafOf, BitOf, Placed, Tree, leaf, fork}
+use Rattle.radix_tree.proofs.Words.{IsIn, IsTree, routes_of, Part, leaves_in, bits_in, heads_in, masks_in, LedTo, one_if, leaves_at, forks_at, HasHome}
+use Rattle.radix_tree.proofs.Words.{HaveOneFork, IsWhole, shown, with_head, forked_tree, Gains, IsSpot, IsBeside, IsNew, Differs, Exchanged, IsMasks}
+use Rattle.radix_tree.proofs.Words.{IsAside, past_bit, up_to_bit, IsMarked, MarkedIn, MarkedLists, IsWholeBut, has_key, is_of_key, nobody_late}
+use Rattle.radix_tree.proofs.Words.{nobody_out, KeepsLeaves, KeepsBits, KeepsMasks, Lodged}
+use Rattle.radix_tree.proofs.BesideRooms.{none_of, false_true, or_true, one_if_turned, one_if_here, forked_leaves, forked_forks, in_forked, forked_in}
+use Rattle.radix_tree.proofs.BesideRooms.{forked_lists, home_forked, forked_home, forked_spare, forked_gains, Came, no_leaf, no_bit, other_leaf}
+use Rattle.radix_tree.proofs.BesideRooms.{other_bit, same_marks, new_unmarked}
 
 module _ {V : Type 0} where
   -- ---- the whole
@@ -23,15 +23,15 @@ module _ {V : Type 0} where
       (n : ℕ) → (one_if (x.room.number == n) + one_if (is_some (leaves_in m n)) ≡ one_if (is_some (leaves_in new n)))
       × (one_if (x.room.number == n) + one_if (is_some (bits_in m n)) ≡ one_if (is_some (bits_in new n)))
   counts m mid new {t = t} x above below c n = elim (cases_eq n x.room.number) [
-    | inl same ↦ let here : one_if (x.room.number == n) ≡ 1 = one_if_here x.room n same in
-        let l : one_if (is_some (leaves_in m n)) ≡ 0 = ap (λ (o : Option (LeafPart V)). one_if (is_some o)) (ap (leaves_in m) same ∙ no_leaf x c) in
-        let b : one_if (is_some (bits_in m n)) ≡ 0 = ap (λ (o : Option BitPart). one_if (is_some o)) (ap (bits_in m) same ∙ no_bit x c) in
-        let l2 : one_if (is_some (leaves_in new n)) ≡ 1 = ap (λ (o : Option (LeafPart V)). one_if (is_some o)) (ap (leaves_in new) same ∙ c.beside.leaf) in
-        let b2 : one_if (is_some (bits_in new n)) ≡ 1 = ap (λ (o : Option BitPart). one_if (is_some o)) (ap (bits_in new) same ∙ c.beside.bit_node) in
+    | inl same ↦ let here = one_if_here x.room n same in
+        let l = ap (λ o. one_if (is_some o)) (ap (leaves_in m) same ∙ no_leaf x c) in
+        let b = ap (λ o. one_if (is_some o)) (ap (bits_in m) same ∙ no_bit x c) in
+        let l2 = ap (λ o. one_if (is_some o)) (ap (leaves_in new) same ∙ c.beside.leaf) in
+        let b2 = ap (λ o. one_if (is_some o)) (ap (bits_in new) same ∙ c.beside.bit_node) in
         (omega arith, omega arith)
-    | inr other ↦ let none : one_if (x.room.number == n) ≡ 0 = one_if_turned x.room n other in
-        let l : one_if (is_some (leaves_in new n)) ≡ one_if (is_some (leaves_in m n)) = ap one_if (other_leaf m mid new t x below c n other) in
-        let b : one_if (is_some (bits_in new n)) ≡ one_if (is_some (bits_in m n)) = ap one_if (other_bit m mid new x above below c n other) in
+    | inr other ↦ let none = one_if_turned x.room n other in
+        let l = ap one_if (other_leaf m mid new t x below c n other) in
+        let b = ap one_if (other_bit m mid new x above below c n other) in
         (omega arith, omega arith)
   ]
 
@@ -41,12 +41,12 @@ module _ {V : Type 0} where
       → (late_beside m key room y.room.number ≡ true) ⊎ HasHome y.entry.key y.entry.rank p.tree
   late_or_home m bit key room p y (leaf z zs) is tree keyed at short =
       let said = tree_said (leaves_in m) (bits_in m) p.above p.tree p.stands y at in
-      let has : has_key m key y.room.number ≡ true = ap (is_of_key key) said.3 ∙ eq-eqb y.entry.key key (keyed z zs is) in
-      inl (ap (λ (b : Bool). (y.room.number == room) || b) has ∙ or_true (y.room.number == room))
+      let has = ap (is_of_key key) said.3 ∙ eq-eqb y.entry.key key (keyed z zs is) in
+      inl (ap (λ b. (y.room.number == room) || b) has ∙ or_true (y.room.number == room))
   late_or_home m bit key room p y (fork i b zero one) is tree keyed at short =
-      let past : bit + 1 ≤ b = (subst (IsTree (bit + 1)) is tree).0.rises in
+      let past = (subst (IsTree (bit + 1)) is tree).0.rises in
       let home : y.entry.rank ≤ b = omega arith in
-      inr (subst (λ (t : Tree V). HasHome y.entry.key y.entry.rank t) (sym is) (inl home))
+      inr (subst (HasHome y.entry.key y.entry.rank) (sym is) (inl home))
 
   fits_beside : (m mid new : Lodged V) {root : Node} (w : IsWholeBut m root nobody_late nobody_out) (bit : ℕ) (x : Placed V) (above : Option Id) (below : Node)
       (s : IsSpot m x.entry.key bit w.part above below) (key : ℕ) (u : Part new)
@@ -56,26 +56,24 @@ module _ {V : Type 0} where
   fits_beside m mid new w bit x above below s key u c tree keyed =
       let t = s.at.tree in
       let low = s.at.low in
-      let marks : (n : ℕ) → is_some (masks_in new n) ≡ is_some (masks_in m n) = same_marks m mid new x c in
+      let marks = same_marks m mid new x c in
       let new_one : (y : Placed V) → x ≡ y → IsMarked (masks_in new) y → ⊥ =
       λ y e marked. new_unmarked m mid new x c (subst (IsMarked (masks_in new)) (sym e) marked) in
-      let not_room : (n : ℕ) → 1 ≤ forks_at n s.at.tree → n ≡ x.room.number → ⊥ = not_new_bit s.at x.room (no_bit x c) in
+      let not_room = not_new_bit s.at x.room (no_bit x c) in
       let off : (n : ℕ) → (n ≡ x.room.number → ⊥) → heads_in new n ≡ heads_in mid n =
-      λ n other. c.heads n ∙ ap (λ (b : Bool). if b then c.first else heads_in mid n) (ne_eqb n x.room.number other) in
-      let rises : s.at.low ≤ bit = s.place.rises in
+      λ n other. c.heads n ∙ ap (λ b. if b then c.first else heads_in mid n) (ne_eqb n x.room.number other) in
+      let rises = s.place.rises in
       record {
-        leaves = λ n. let e : one_if (x.room.number == n) + one_if (is_some (leaves_in m n)) ≡ one_if (is_some (leaves_in new n)) =
-            (counts m mid new x above below c n).0 in
-            let k : leaves_at n u.tree ≡ one_if (x.room.number == n) + leaves_at n s.at.tree = ap (leaves_at n) tree ∙ forked_leaves bit x s.at.tree n in
+        leaves = λ n. let e = (counts m mid new x above below c n).0 in
+            let k = ap (leaves_at n) tree ∙ forked_leaves bit x s.at.tree n in
             omega arith;
-        forks = λ n. let e : one_if (x.room.number == n) + one_if (is_some (bits_in m n)) ≡ one_if (is_some (bits_in new n)) =
-            (counts m mid new x above below c n).1 in
-            let k : forks_at n u.tree ≡ one_if (x.room.number == n) + forks_at n s.at.tree = ap (forks_at n) tree ∙ forked_forks bit x s.at.tree n in
+        forks = λ n. let e = (counts m mid new x above below c n).1 in
+            let k = ap (forks_at n) tree ∙ forked_forks bit x s.at.tree n in
             omega arith;
         heads = λ n none some. off n (not_new_bit w.part x.room (no_bit x c) n some) ∙ c.cut.heads n none;
         masks = λ n none some. c.masks n ∙ c.cut.masks n none;
         masks_above = λ y at short marked. c.masks y.room.number ∙ c.cut.masks_above y at short;
-        marks = λ n p is. some_of (masks_in m n) (sym (marks n) ∙ ap (λ (o : Option MaskPart). is_some o) is);
+        marks = λ n p is. some_of (masks_in m n) (sym (marks n) ∙ ap is_some is);
         kept = λ y at marked. (
           subst (IsIn y) (sym tree) (forked_in bit x s.at.tree y at),
           λ home. inr (subst (HasHome y.entry.key y.entry.rank) (sym tree) (forked_home bit s.at.low x s.at.tree s.place y at home)),
@@ -87,7 +85,7 @@ module _ {V : Type 0} where
         gone = λ y at short marked. marks y.room.number ∙ marked;
         lists = subst (MarkedLists (heads_in new) (masks_in new) s.at.low) (sym tree) (forked_lists (heads_in new) s.at.low bit x s.at.tree
             (mask_list_same (masks_in mid) (masks_in new) s.at.low bit (MarkedIn (masks_in new) (forked_tree bit x s.at.tree))
-            (c.heads x.room.number ∙ ap (λ (b : Bool). if b then c.first else heads_in mid x.room.number) (eq-eqb x.room.number x.room.number refl))
+            (c.heads x.room.number ∙ ap (λ b. if b then c.first else heads_in mid x.room.number) (eq-eqb x.room.number x.room.number refl))
             (λ y member most. (
               (forked_in bit x s.at.tree y member.0, marked_same (masks_in mid) (masks_in new) y (c.masks y.room.number) member.1),
               c.masks y.room.number,
@@ -98,8 +96,7 @@ module _ {V : Type 0} where
             (lists_same (heads_in mid) (heads_in new) (masks_in mid) (masks_in new) (bit + 1) s.at.tree (λ n some. off n (not_room n some))
             (λ y at. c.masks y.room.number) c.cut.lists));
         all = λ y there home. elim (in_forked bit x s.at.tree y (subst (IsIn y) tree there)) [
-          | inl e ↦ inl (ap (λ (b : Bool). b || has_key m key y.room.number)
-              (eq-eqb y.room.number x.room.number (ap (λ (p : Placed V). p.room.number) (sym e))))
+          | inl e ↦ inl (ap (λ b. b || has_key m key y.room.number) (eq-eqb y.room.number x.room.number (ap (λ p. p.room.number) (sym e))))
           | inr at ↦ elim home [
             | inl short ↦ inr (
               at,
@@ -159,7 +156,7 @@ module _ {V : Type 0} where
       {below : Node} (s : IsSpot m x.entry.key bit w.part above below) (u : Part new)
       → u.tree ≡ forked_tree bit x s.at.tree → Exchanged m new x.entry.key w.part s.at u name → Gains x.entry (shown m (Some root)) (shown new (Some name))
   routes_beside w {bit = bit} x s u tree e = gains_spliced (routes_changed w e)
-      (subst (λ (t : Tree V). Gains x.entry (routes_of s.at.tree) (routes_of t)) (sym tree) (forked_gains bit x s.at.tree))
+      (subst (λ t. Gains x.entry (routes_of s.at.tree) (routes_of t)) (sym tree) (forked_gains bit x s.at.tree))
 
   -- ---- a key that no route of the table has, and the rooms once its route stands there
   abbrev pub new_key : {m : Lodged V} {root : Node} (w : IsWhole m root) {key bit : ℕ} {room : Id} (d : LedTo key w.part room)

@@ -1,9 +1,9 @@
 -- The best route that is found in a tree is that of its list of routes.
+use Rattle.radix_tree.proofs.{MemberLemmas.all_contains, MemberLemmas.all_stand, MemberLemmas.members_stand, MemberLemmas.best_is_member}
+use Rattle.radix_tree.proofs.{LawLemmas.best_is_unique, TreeOrder.all_in, TreeOrder.tree_is_table, TreeMembers.tree_route}
 use Rattle.radix_tree.specs.Tree.{Covers}
 use Rattle.radix_tree.proofs.Words.{◌≡◌, ℕ, ◌<◌, ◌≤◌, ◌⊎◌, List, [], ◌∷◌, ◌++◌, map, Option, Some, None, refl, inl, inr, sym, ap, subst, arith, Contains}
 use Rattle.radix_tree.proofs.Words.{AllByRecursion, best_of, StandsIn, Agrees, Placed, Tree, leaf, fork, IsAmong, IsIn, IsTree, routes_of, Best, Entry}
-use Rattle.radix_tree.proofs.{MemberLemmas.all_contains, MemberLemmas.all_stand, MemberLemmas.members_stand, MemberLemmas.best_is_member}
-use Rattle.radix_tree.proofs.{LawLemmas.best_is_unique, TreeOrder.all_in, TreeOrder.tree_is_table, TreeMembers.tree_route}
 
 module _ {V : Type 0} where
   -- ---- the routes of a tree and the members of its list
@@ -28,7 +28,7 @@ module _ {V : Type 0} where
 
   among_chain : (x : Placed V) (c : List (Placed V)) → IsAmong x c → Among x.entry (map (λ (p : Placed V). p.entry) c)
   among_chain x [] among = absurd among
-  among_chain x (y ∷ c) among = elim among [ inl is ↦ inl (ap (λ (p : Placed V). p.entry) is) | inr later ↦ inr (among_chain x c later) ]
+  among_chain x (y ∷ c) among = elim among [ inl is ↦ inl (ap (λ p. p.entry) is) | inr later ↦ inr (among_chain x c later) ]
 
   among_routes : (x : Placed V) (t : Tree V) → IsIn x t → Among x.entry (routes_of t)
   among_routes x (leaf z zs) at = among_chain x (z ∷ zs) at
@@ -59,7 +59,7 @@ module _ {V : Type 0} where
   covering address e agrees = agrees
 
   below_34 : (low : ℕ) (t : Tree V) → IsTree low t → (y : Placed V) → IsIn y t → y.entry.rank < 34
-  below_34 low t is y at = let most : y.entry.rank ≤ 33 = (tree_route low t is y at).rank in omega arith
+  below_34 low t is y at = let most = (tree_route low t is y at).rank in omega arith
 
   pub some_best : (address low : ℕ) (t : Tree V) → IsTree low t → (x : Placed V) → Best address 0 34 (λ y. IsIn y t) (Some x)
       → best_of address (routes_of t) ≡ Some x.entry
@@ -68,8 +68,8 @@ module _ {V : Type 0} where
     agrees = agreeing address x.entry best.1;
     greatest = λ other stands agrees.
         let of = standing low t is other stands in
-        subst (λ (e : Entry V). e.rank ≤ x.entry.rank) of.2
-        (best.2 of.0 of.1 (covering address of.0.entry (subst (λ (e : Entry V). Agrees address e) (sym of.2) agrees)) (below_34 low t is of.0 of.1));
+        subst (λ e. e.rank ≤ x.entry.rank) of.2
+        (best.2 of.0 of.1 (covering address of.0.entry (subst (Agrees address) (sym of.2) agrees)) (below_34 low t is of.0 of.1));
   })
 
   none_of : (address low : ℕ) (t : Tree V) → IsTree low t → Best address 0 34 (λ y. IsIn y t) None → (o : Option (Entry V)) → best_of address (routes_of t) ≡ o
@@ -78,8 +78,7 @@ module _ {V : Type 0} where
   none_of address low t is best (Some f) e =
       let member = best_is_member address (routes_of t) f e in
       let of = member_of t f member.0 in
-      let never : of.0.entry.rank < 0 =
-      best of.0 of.1 (covering address of.0.entry (subst (λ (g : Entry V). Agrees address g) (sym of.2) member.1)) (below_34 low t is of.0 of.1) in
+      let never = best of.0 of.1 (covering address of.0.entry (subst (Agrees address) (sym of.2) member.1)) (below_34 low t is of.0 of.1) in
       absurd (omega arith)
 
   pub no_best : (address low : ℕ) (t : Tree V) → IsTree low t → Best address 0 34 (λ y. IsIn y t) None → best_of address (routes_of t) ≡ None

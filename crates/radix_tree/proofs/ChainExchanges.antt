@@ -1,13 +1,13 @@
 -- The chain of a leaf is exchanged for another one: the part that is the leaf.
-use Rattle.radix_tree.proofs.Words.{◌≡◌, ℕ, ◌+◌, ◌≤◌, ◌==◌, ◌||◌, Bool, true, false, true≢false, if◌then◌else◌, List, [], ◌∷◌, ◌++◌, Option, Some, None}
-use Rattle.radix_tree.proofs.Words.{refl, sym, ap, ◌∙◌, subst, arith, eqb-true, eqb-false, eq-eqb, ne_eqb, is_some, Id, Node, LeafOf, Placed, Tree, leaf}
-use Rattle.radix_tree.proofs.Words.{bit_at, HaveBit, IsAmong, IsIn, IsChain, IsTree, routes_of, BitPart, MaskPart, Part, leaves_in, bits_in, masks_in}
-use Rattle.radix_tree.proofs.Words.{name_of, ChainStands, Way, one_if, members_at, leaves_at, forks_at, HasHome, HasOneFork, HaveOneFork, shown}
-use Rattle.radix_tree.proofs.Words.{name_child, with_child, root_after, IsExchange, Exchanged, IsMarked, IsWholeBut, KeepsHeads, KeepsMasks, above_behind}
-use Rattle.radix_tree.proofs.Words.{last_room, root_past, Entry, Lodged}
 use Rattle.radix_tree.proofs.{PartRooms.same_turned, Exchanging.exchanged, WholeParts.Fits, WholeParts.once_but, WholeChanges.spare_changed}
 use Rattle.radix_tree.proofs.{WholeChanges.whole_changed, WholeRoutes.Spliced, WholeRoutes.routes_changed, ChainLists.IsCons, ChainLists.cons_at}
 use Rattle.radix_tree.proofs.{ChainLists.map_entries, ChainLists.one_fork_same}
+use Rattle.radix_tree.proofs.Words.{◌≡◌, ℕ, ◌+◌, ◌≤◌, ◌==◌, ◌||◌, Bool, true, false, true≢false, if◌then◌else◌, List, [], ◌∷◌, ◌++◌, Option, Some, None}
+use Rattle.radix_tree.proofs.Words.{refl, sym, ap, ◌∙◌, subst, arith, eqb-true, eqb-false, eq-eqb, ne_eqb, is_some, Id, Node, LeafOf, Placed, Tree, leaf}
+use Rattle.radix_tree.proofs.Words.{bit_at, HaveBit, IsAmong, IsIn, IsChain, IsTree, routes_of, BitPart, Part, leaves_in, bits_in, masks_in, name_of}
+use Rattle.radix_tree.proofs.Words.{ChainStands, Way, one_if, members_at, leaves_at, forks_at, HasHome, HasOneFork, HaveOneFork, shown, name_child}
+use Rattle.radix_tree.proofs.Words.{with_child, root_after, IsExchange, Exchanged, IsMarked, IsWholeBut, KeepsHeads, KeepsMasks, above_behind, last_room}
+use Rattle.radix_tree.proofs.Words.{root_past, Lodged}
 
 -- ---- the bit node above
 turned_some : (key : ℕ) (to : Node) (said : Option BitPart) → is_some (with_child key to said) ≡ is_some said
@@ -27,17 +27,17 @@ none_is None e = refl
 none_is (Some x) e = absurd (true≢false e)
 
 pub same_none : {A : Type 0} {o : Option A} (p : Option A) → is_some p ≡ is_some o → o ≡ None → p ≡ None
-same_none p same none = none_is p (same ∙ ap (λ (q : Option _). is_some q) none)
+same_none p same none = none_is p (same ∙ ap is_some none)
 
 pub one_more : (has : ℕ → Bool) (a n : ℕ) → has a ≡ false → one_if ((n == a) || has n) ≡ one_if (a == n) + one_if (has n)
 one_more has a n free = elim (n == a) as (λ t. (n == a) ≡ t → one_if (t || has n) ≡ one_if (a == n) + one_if (has n)) [
   | true ↦ λ e.
-      let same : n ≡ a = eqb-true n a e in
-      let own : one_if (a == n) ≡ 1 = ap one_if (eq-eqb a n (sym same)) in
-      let none : one_if (has n) ≡ 0 = ap (λ (k : ℕ). one_if (has k)) same ∙ ap one_if free in
+      let same = eqb-true n a e in
+      let own = ap one_if (eq-eqb a n (sym same)) in
+      let none = ap (λ k. one_if (has k)) same ∙ ap one_if free in
       omega arith
   | false ↦ λ e.
-      let other : one_if (a == n) ≡ 0 = ap one_if (ne_eqb a n (λ same. eqb-false n a e (sym same))) in
+      let other = ap one_if (ne_eqb a n (λ same. eqb-false n a e (sym same))) in
       omega arith
 ] refl
 
@@ -51,23 +51,22 @@ module _ {V : Type 0} where
   -- to name the part above as before changes nothing
   pub turn_same : (m : Lodged V) (key : ℕ) (whole at : Part m) (ups : List (Part m)) → Way key whole at ups → whole.above ≡ None → (n : ℕ)
       → name_child at.above key (name_of at.tree) n (bits_in m n) ≡ bits_in m n
-  turn_same m key whole at [] way top n = ap (λ (o : Option Id). name_child o key (name_of at.tree) n (bits_in m n)) (ap (λ (p : Part m). p.above) way ∙ top)
+  turn_same m key whole at [] way top n = ap (λ o. name_child o key (name_of at.tree) n (bits_in m n)) (ap (λ p. p.above) way ∙ top)
   turn_same m key whole at (p ∷ ps) way top n =
       let b = way.0 in
-      ap (λ (o : Option Id). name_child o key (name_of at.tree) n (bits_in m n)) b.above
+      ap (λ o. name_child o key (name_of at.tree) n (bits_in m n)) b.above
       ∙ elim (n == b.room.number) as (λ t. (n == b.room.number) ≡ t → (if t then with_child key (name_of at.tree) (bits_in m n) else bits_in m n)
       ≡ bits_in m n) [
-        | true ↦ λ e. ap (λ (k : ℕ). with_child key (name_of at.tree) (bits_in m k)) (eqb-true n b.room.number e)
-            ∙ sym (same_turned m key at p (name_of at.tree) b refl) ∙ ap (λ (k : ℕ). bits_in m k) (sym (eqb-true n b.room.number e))
+        | true ↦ λ e. ap (λ k. with_child key (name_of at.tree) (bits_in m k)) (eqb-true n b.room.number e)
+            ∙ sym (same_turned m key at p (name_of at.tree) b refl) ∙ ap (bits_in m) (sym (eqb-true n b.room.number e))
         | false ↦ λ e. refl
       ] refl
 
   pub root_same : (m : Lodged V) (key : ℕ) (whole at : Part m) (ups : List (Part m)) → Way key whole at ups → whole.above ≡ None
       → root_after at.above (name_of at.tree) (name_of whole.tree) ≡ name_of whole.tree
-  root_same m key whole at [] way top =
-      ap (λ (o : Option Id). root_after o (name_of at.tree) (name_of whole.tree)) (ap (λ (p : Part m). p.above) way ∙ top)
-      ∙ ap (λ (p : Part m). name_of p.tree) way
-  root_same m key whole at (p ∷ ps) way top = ap (λ (o : Option Id). root_after o (name_of at.tree) (name_of whole.tree)) way.0.above
+  root_same m key whole at [] way top = ap (λ o. root_after o (name_of at.tree) (name_of whole.tree)) (ap (λ p. p.above) way ∙ top)
+      ∙ ap (λ p. name_of p.tree) way
+  root_same m key whole at (p ∷ ps) way top = ap (λ o. root_after o (name_of at.tree) (name_of whole.tree)) way.0.above
 
   -- a chain begins with the first member before a place, where there is one
   abbrev pub FrontNamed : List (Placed V) → Node → Type 0
@@ -80,7 +79,7 @@ module _ {V : Type 0} where
   pub front_named : {t : Tree V} {z : Placed V} {zs : List (Placed V)} (front back : List (Placed V)) → t ≡ leaf z zs → z ∷ zs ≡ front ++ back
       → FrontNamed front (name_of t)
   front_named [] back is same = tt
-  front_named (f ∷ front) back is same = ap (λ (u : Tree V). name_of u) is ∙ ap (λ (p : Placed V). LeafOf p.room) (cons_head same)
+  front_named (f ∷ front) back is same = ap name_of is ∙ ap (λ p. LeafOf p.room) (cons_head same)
 
   -- the member behind a place is named above where it is the first
   pub place_bits : (m : Lodged V) (key : ℕ) (whole at : Part m) (ups : List (Part m)) (front back : List (Placed V)) (x : Placed V) → Way key whole at ups
@@ -89,7 +88,7 @@ module _ {V : Type 0} where
       ≡ name_child at.above key (LeafOf (cons_at front back x).first.room) n (bits_in m n)
   place_bits m key whole at ups [] back x way top named n = refl
   place_bits m key whole at ups (f ∷ front) back x way top named n =
-      sym (ap (λ (z : Node). name_child at.above key z n (bits_in m n)) (sym named) ∙ turn_same m key whole at ups way top n)
+      sym (ap (λ z. name_child at.above key z n (bits_in m n)) (sym named) ∙ turn_same m key whole at ups way top n)
 
   past_root : (r : Id) (front : List (Placed V)) (above : Option Id) (to root : Node) → root_past (last_room (Some r) front) above to root ≡ root
   past_root r [] above to root = refl
@@ -101,7 +100,7 @@ module _ {V : Type 0} where
       ≡ root_after at.above (LeafOf (cons_at front back x).first.room) (name_of whole.tree)
   place_root m key whole at ups [] back x way top named = refl
   place_root m key whole at ups (f ∷ front) back x way top named = past_root f.room front None (LeafOf x.room) (name_of whole.tree)
-      ∙ sym (ap (λ (z : Node). root_after at.above z (name_of whole.tree)) (sym named) ∙ root_same m key whole at ups way top)
+      ∙ sym (ap (λ z. root_after at.above z (name_of whole.tree)) (sym named) ∙ root_same m key whole at ups way top)
 
   -- ---- the exchange
   pub record Rechained (m new : Lodged V) (key : ℕ) (whole at : Part m) (old now : List (Placed V)) : Type 0 where
@@ -127,18 +126,18 @@ module _ {V : Type 0} where
 
   pub old_counts : {m new : Lodged V} {key : ℕ} {whole at : Part m} {old now : List (Placed V)} → Rechained m new key whole at old now → (n : ℕ)
       → leaves_at n at.tree ≡ members_at n old
-  old_counts r n = ap (λ (t : Tree V). leaves_at n t) r.is ∙ ap (λ (c : List (Placed V)). members_at n c) (sym r.was.is)
+  old_counts r n = ap (leaves_at n) r.is ∙ ap (members_at n) (sym r.was.is)
 
   pub now_counts : (m new : Lodged V) {key : ℕ} {whole at : Part m} {old now : List (Placed V)} (r : Rechained m new key whole at old now) → (n : ℕ)
       → leaves_at n (under r).tree ≡ members_at n now
-  now_counts m new r n = ap (λ (c : List (Placed V)). members_at n c) (sym r.cons.is)
+  now_counts m new r n = ap (members_at n) (sym r.cons.is)
 
   pub exchange : (m new : Lodged V) {key : ℕ} (whole at : Part m) {old now : List (Placed V)} (r : Rechained m new key whole at old now)
       → IsExchange m new key whole at (under r)
   exchange m new whole at r = record {
     low = refl;
     above = refl;
-    keys = λ c value before have. ap (λ (k : ℕ). bit_at c k) r.key_is ∙ subst (HaveBit c value) r.is have;
+    keys = λ c value before have. ap (bit_at c) r.key_is ∙ subst (HaveBit c value) r.is have;
     leaves = λ n none some. r.leaves n (sym (old_counts r n) ∙ none) some;
     bits = λ n none some. r.bits n;
   }
@@ -152,7 +151,7 @@ module _ {V : Type 0} where
 
   pub bits_some : (m new : Lodged V) (key : ℕ) {whole : Part m} (at : Part m) {old now : List (Placed V)} → Rechained m new key whole at old now → (n : ℕ)
       → is_some (bits_in new n) ≡ is_some (bits_in m n)
-  bits_some m new key at r n = ap (λ (o : Option BitPart). is_some o) (r.bits n) ∙ turn_some at.above key n (LeafOf r.cons.first.room) (bits_in m n)
+  bits_some m new key at r n = ap is_some (r.bits n) ∙ turn_some at.above key n (LeafOf r.cons.first.room) (bits_in m n)
 
   pub rechained : (m new : Lodged V) {root : Node} {late later : ℕ → Bool} {out outs : ℕ → ℕ} (key : ℕ) (w : IsWholeBut m root late out) (at : Part m)
       (ups : List (Part m)) {old now : List (Placed V)} → Way key w.part at ups
@@ -170,10 +169,10 @@ module _ {V : Type 0} where
       (shown new (Some (root_after at.above (LeafOf r.cons.first.room) (name_of w.part.tree)))) (map_entries old) (map_entries now)
   spliced m new root w at ups {now = now} way r =
       let s = routes_changed w (with_chain m new w at ups way r) in
-      subst (λ (es : List (Entry V)). Spliced (shown m (Some root)) (shown new (Some (root_after at.above (LeafOf r.cons.first.room) (name_of w.part.tree))))
-      es (map_entries now)) (ap (λ (t : Tree V). routes_of t) r.is ∙ ap (λ (c : List (Placed V)). map_entries c) (sym r.was.is))
-      (subst (λ (es : List (Entry V)). Spliced (shown m (Some root)) (shown new (Some (root_after at.above (LeafOf r.cons.first.room) (name_of w.part.tree))))
-      (routes_of at.tree) es) (ap (λ (c : List (Placed V)). map_entries c) (sym r.cons.is)) s)
+      subst (λ es. Spliced (shown m (Some root)) (shown new (Some (root_after at.above (LeafOf r.cons.first.room) (name_of w.part.tree))))
+      es (map_entries now)) (ap routes_of r.is ∙ ap map_entries (sym r.was.is))
+      (subst (λ es. Spliced (shown m (Some root)) (shown new (Some (root_after at.above (LeafOf r.cons.first.room) (name_of w.part.tree))))
+      (routes_of at.tree) es) (ap map_entries (sym r.cons.is)) s)
 
   -- ---- what both have in common
   pub old_among : (m new : Lodged V) {key : ℕ} {whole at : Part m} {old now : List (Placed V)} → Rechained m new key whole at old now → (y : Placed V)
@@ -190,14 +189,14 @@ module _ {V : Type 0} where
 
   pub same_marks : {m new : Lodged V} {key : ℕ} {whole at : Part m} {old now : List (Placed V)} → Rechained m new key whole at old now → (y : Placed V)
       → IsMarked (masks_in m) y → IsMarked (masks_in new) y
-  same_marks r y marked = ap (λ (o : Option MaskPart). is_some o) (r.masks y.room.number) ∙ marked
+  same_marks r y marked = ap is_some (r.masks y.room.number) ∙ marked
 
   pub not_marked : (m new : Lodged V) (x y : Placed V) → KeepsMasks m new → masks_in m x.room.number ≡ None → x ≡ y → IsMarked (masks_in new) y → ⊥
-  not_marked m new x y keeps none same marked = true≢false (sym marked ∙ ap (λ (p : Placed V). is_some (masks_in new p.room.number)) (sym same)
-      ∙ ap (λ (o : Option MaskPart). is_some o) (keeps x.room.number ∙ none))
+  not_marked m new x y keeps none same marked = true≢false (sym marked ∙ ap (λ p. is_some (masks_in new p.room.number)) (sym same)
+      ∙ ap is_some (keeps x.room.number ∙ none))
 
   pub same_forks : (m new : Lodged V) (key : ℕ) (whole at : Part m) {old now : List (Placed V)} (r : Rechained m new key whole at old now) (n : ℕ)
       → forks_at n (under r).tree + one_if (is_some (bits_in m n)) ≡ forks_at n at.tree + one_if (is_some (bits_in new n))
   same_forks m new key whole at r n =
-      let none : forks_at n at.tree ≡ 0 = ap (λ (t : Tree V). forks_at n t) r.is in
-      let same : one_if (is_some (bits_in new n)) ≡ one_if (is_some (bits_in m n)) = ap one_if (bits_some m new key at r n) in omega arith
+      let none = ap (forks_at n) r.is in
+      let same = ap one_if (bits_some m new key at r n) in omega arith

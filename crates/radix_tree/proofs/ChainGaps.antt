@@ -1,11 +1,11 @@
 -- A walk along a chain to the gap for a rank.
+use Rattle.radix_tree.proofs.{RoomReads.none_some, RoomReads.AreLinks, RoomReads.Has-leaf, RoomReads.leaf_read, TreeMembers.IsHead, TreeMembers.head_of}
+use Rattle.radix_tree.proofs.{Scans.chain_most}
 use Rattle.std.specs.Cmp.{nat_cmp_is}
 use Rattle.radix_tree.proofs.Words.{◌≡◌, ℕ, ◌+◌, ◌<◌, ◌≤◌, List, [], ◌∷◌, ◌++◌, length, Option, Some, None, true, true≢false, Equal, Greater, refl, sym}
 use Rattle.radix_tree.proofs.Words.{ap, ◌∙◌, subst, inl, inr, arith, append_assoc, cases_eq, cases_lt, nat_cmp, is_lt, Has, leaf_of, Id, Leaf, Links}
 use Rattle.radix_tree.proofs.Words.{Placed, IsAmong, Leaves, Run, leaves_in, first_room, leaf_part, ChainStands, above_behind, last_room, ArePast}
 use Rattle.radix_tree.proofs.Words.{IsBelow, Passed, FindsGap, Lodged}
-use Rattle.radix_tree.proofs.{RoomReads.none_some, RoomReads.AreLinks, RoomReads.Has-leaf, RoomReads.leaf_read, TreeMembers.IsHead, TreeMembers.head_of}
-use Rattle.radix_tree.proofs.{Scans.chain_most}
 
 -- what a comparison of ranks says
 pub less_of : (a b : ℕ) → is_lt (nat_cmp a b) ≡ true → a < b
@@ -26,8 +26,7 @@ module _ {V : Type 0} where
   pub behind_stands : (L : Leaves V) (above previous : Option Id) (front back : List (Placed V)) → ChainStands L above previous (front ++ back)
       → ChainStands L (above_behind above front) (last_room previous front) back
   behind_stands L above previous [] back stands = stands
-  behind_stands L above previous (y ∷ front) back stands =
-      subst (λ (a : Option Id). ChainStands L a (last_room (Some y.room) front) back) (none_behind front)
+  behind_stands L above previous (y ∷ front) back stands = subst (λ a. ChainStands L a (last_room (Some y.room) front) back) (none_behind front)
       (behind_stands L None (Some y.room) front back stands.1)
 
   -- ---- a member more in front
@@ -46,17 +45,17 @@ module _ {V : Type 0} where
   -- ---- the member that a walk has come to
   pub head_said : (m : Lodged V) (above previous : Option Id) {ms : List (Placed V)} {at : Id} (x : IsHead ms at) → ChainStands (leaves_in m) above previous ms
       → leaves_in m at.number ≡ Some (leaf_part x.first above previous (first_room x.behind))
-  head_said m above previous x stands = ap (λ (i : Id). leaves_in m i.number) (sym x.room_is) ∙ (subst (ChainStands (leaves_in m) above previous) x.is stands).0
+  head_said m above previous x stands = ap (λ i. leaves_in m i.number) (sym x.room_is) ∙ (subst (ChainStands (leaves_in m) above previous) x.is stands).0
 
   head_there : (m : Lodged V) (above previous : Option Id) {ms : List (Placed V)} (at : Id) → IsHead ms at → ChainStands (leaves_in m) above previous ms
       → Has m at
-  head_there m above previous at x stands = Has-leaf m at (head_said m above previous x stands) (ap (λ (i : Id). i.block) x.room_is)
+  head_there m above previous at x stands = Has-leaf m at (head_said m above previous x stands) (ap (λ i. i.block) x.room_is)
 
   head_read : (m : Lodged V) (above previous : Option Id) {ms : List (Placed V)} (at : Id) (links : Links) (l : Leaf) (x : IsHead ms at)
       → ChainStands (leaves_in m) above previous ms → AreLinks m at links → l ≡ leaf_of links
       → l ≡ record { key = x.first.entry.key; rank = x.first.entry.rank; above = above; next = first_room x.behind; previous = previous }
   head_read m above previous at links l x stands are is = is
-      ∙ leaf_read m at links (head_said m above previous x stands) (ap (λ (i : Id). i.block) x.room_is) are
+      ∙ leaf_read m at links (head_said m above previous x stands) (ap (λ i. i.block) x.room_is) are
 
   pub Has-first : {m : Lodged V} (c : Run m) (first : Id) → first_room c.members ≡ Some first → Has m first
   Has-first {m = m} c first begins = head_there m c.above c.previous first (head_of c.members begins) c.stands
@@ -65,14 +64,14 @@ module _ {V : Type 0} where
       → l ≡ leaf_of links → Passed rank c l.above l.previous (Some first) 1
   begun {m = m} rank c first links {l = l} begins are is =
       let read = head_read m c.above c.previous first links l (head_of c.members begins) c.stands are is in
-      let most : length c.members ≤ 34 = chain_most c.key c.top c.members c.is in
+      let most = chain_most c.key c.top c.members c.is in
       record {
         front = [];
         back = c.members;
         is = refl;
         past = tt;
-        above_is = ap (λ (z : Leaf). z.above) read;
-        previous_is = ap (λ (z : Leaf). z.previous) read;
+        above_is = ap (λ z. z.above) read;
+        previous_is = ap (λ z. z.previous) read;
         next_is = sym begins;
         few = omega arith;
       }
@@ -93,8 +92,8 @@ module _ {V : Type 0} where
       → next ≡ Some at → steps ≤ 34
   few_at m c steps p is =
       let x = member_at m p is in
-      let some : length p.back ≡ length (x.first ∷ x.behind) = ap (λ (ms : List (Placed V)). length ms) x.is in
-      let few : steps + length p.back ≤ 35 = p.few in omega arith
+      let some = ap length x.is in
+      let few = p.few in omega arith
 
   read_at : (m : Lodged V) {rank : ℕ} (c : Run m) {above previous next : Option Id} {steps : ℕ} (at : Id) (links : Links) (l : Leaf)
       (p : Passed rank c above previous next steps) (is : next ≡ Some at) → AreLinks m at links → l ≡ leaf_of links
@@ -102,7 +101,7 @@ module _ {V : Type 0} where
   read_at m c at links l p is are leaf =
       let x = member_at m p is in
       let read = head_read m (above_behind c.above p.front) (last_room c.previous p.front) at links l x (rest_stands m c p) are leaf in
-      (x, ap (λ (z : Leaf). z.rank) read, ap (λ (z : Leaf). z.next) read)
+      (x, ap (λ z. z.rank) read, ap (λ z. z.next) read)
 
   -- a member of a greater rank is passed
   pub passed : (m : Lodged V) (rank : ℕ) (c : Run m) {above previous next : Option Id} (steps : ℕ) (at : Id) (links : Links) {l : Leaf}
@@ -111,16 +110,16 @@ module _ {V : Type 0} where
   passed m rank c steps at links {l = l} p is are leaf lt =
       let r = read_at m c at links l p is are leaf in
       let x = r.0 in
-      let same : l.rank ≡ x.first.entry.rank = r.1 in
-      let few : steps + length p.back ≤ 35 = p.few in
-      let some : length p.back ≡ length (x.first ∷ x.behind) = ap (λ (ms : List (Placed V)). length ms) x.is in
+      let same = r.1 in
+      let few = p.few in
+      let some = ap length x.is in
       record {
         front = p.front ++ (x.first ∷ []);
         back = x.behind;
-        is = p.is ∙ ap (λ (ms : List (Placed V)). p.front ++ ms) x.is ∙ sym (append_assoc p.front (x.first ∷ []) x.behind);
+        is = p.is ∙ ap (λ ms. p.front ++ ms) x.is ∙ sym (append_assoc p.front (x.first ∷ []) x.behind);
         past = past_more rank p.front x.first p.past (omega arith);
         above_is = sym (above_more c.above p.front x.first);
-        previous_is = sym (last_more c.previous p.front x.first ∙ ap (λ (i : Id). Some i) x.room_is);
+        previous_is = sym (last_more c.previous p.front x.first ∙ ap Some x.room_is);
         next_is = r.2;
         few = omega arith;
       }
@@ -148,9 +147,9 @@ module _ {V : Type 0} where
     is = p.is;
     past = p.past;
     below = below;
-    leaf = ap (λ (o : Option Id). record { key = key; rank = rank; above = o; next = next; previous = previous }) p.above_is
-        ∙ ap (λ (o : Option Id). record { key = key; rank = rank; above = above_behind c.above p.front; next = o; previous = previous }) p.next_is
-        ∙ ap (λ (o : Option Id). record { key = key; rank = rank; above = above_behind c.above p.front; next = first_room p.back; previous = o }) p.previous_is;
+    leaf = ap (λ o. record { key = key; rank = rank; above = o; next = next; previous = previous }) p.above_is
+        ∙ ap (λ o. record { key = key; rank = rank; above = above_behind c.above p.front; next = o; previous = previous }) p.next_is
+        ∙ ap (λ o. record { key = key; rank = rank; above = above_behind c.above p.front; next = first_room p.back; previous = o }) p.previous_is;
   }
 
   -- the first one of a smaller rank
@@ -160,7 +159,7 @@ module _ {V : Type 0} where
   found m key rank c {above = above} {previous = previous} {next = next} at links {l = l} p is are leaf lt =
       let r = read_at m c at links l p is are leaf in
       let x = r.0 in
-      let same : l.rank ≡ x.first.entry.rank = r.1 in
+      let same = r.1 in
       let less : x.first.entry.rank < rank = omega arith in
       gap_of m key rank c above previous next p (subst (IsBelow rank) (sym x.is) less)
 

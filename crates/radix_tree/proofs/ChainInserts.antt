@@ -1,15 +1,15 @@
 -- A route comes into the chain of its key.
-use Rattle.radix_tree.proofs.Words.{◌≡◌, ℕ, ◌≤◌, ◌==◌, ◌||◌, Bool, true, false, if◌then◌else◌, List, [], ◌∷◌, ◌++◌, Option, Some, None, refl, sym, ap}
-use Rattle.radix_tree.proofs.Words.{◌∙◌, subst, arith, ne_eqb, is_some, Has, Id, Leaf, Node, LeafOf, IsRoute, Placed, Tree, leaf, IsIn, IsChain, LeafPart}
-use Rattle.radix_tree.proofs.Words.{Part, Run, Leaves, leaves_in, bits_in, masks_in, name_of, first_room, leaf_part, ChainStands, Way, LedTo, ForkAt}
-use Rattle.radix_tree.proofs.Words.{HasPair, one_if, members_at, leaves_at, IsWhole, shown, name_child, root_after, placed, Gains, AreOnce, IsWholeBut}
-use Rattle.radix_tree.proofs.Words.{late_at, nobody_out, lodge_leaf, KeepsBits, KeepsHeads, KeepsMasks, leaf_next, leaf_back, name_next, name_back}
-use Rattle.radix_tree.proofs.Words.{link_in, above_behind, last_room, root_past, IsGap, FindsGap, Content, content_of, Entry, Lodged}
 use Rattle.radix_tree.proofs.{RoomReads.inside, RoomReads.none_some, RoomReads.Has-leaf, Parts.leaf_run, Parts.in_leaf, Parts.way_inside}
 use Rattle.radix_tree.proofs.{TreeMembers.chain_key, TreeMembers.tree_said, PartRooms.way_once, Lodging.over_at, Lodging.stays, Beside.not_new}
 use Rattle.radix_tree.proofs.{ChainRooms.room_route, WholeParts.whole_but, WholeParts.once_but, ChainGaps.behind_stands, ChainLinks.linked_in}
 use Rattle.radix_tree.proofs.{ChainLinks.in_others, ChainLists.cons_at, ChainLists.chain_more, ChainExchanges.Rechained, ChainExchanges.front_named}
 use Rattle.radix_tree.proofs.{ChainExchanges.place_bits, ChainExchanges.place_root, ChainWholes.grown_whole, ChainWholes.grown_routes}
+use Rattle.radix_tree.proofs.Words.{◌≡◌, ℕ, ◌≤◌, ◌==◌, ◌||◌, true, false, if◌then◌else◌, List, [], ◌∷◌, ◌++◌, Option, Some, None, refl, sym, ap, ◌∙◌}
+use Rattle.radix_tree.proofs.Words.{subst, arith, ne_eqb, is_some, Has, Id, Leaf, Node, LeafOf, IsRoute, Placed, leaf, IsIn, IsChain, LeafPart, Part, Run}
+use Rattle.radix_tree.proofs.Words.{Leaves, leaves_in, bits_in, masks_in, name_of, first_room, leaf_part, ChainStands, Way, LedTo, ForkAt, HasPair}
+use Rattle.radix_tree.proofs.Words.{one_if, members_at, leaves_at, IsWhole, shown, name_child, root_after, placed, Gains, AreOnce, IsWholeBut, late_at}
+use Rattle.radix_tree.proofs.Words.{nobody_out, lodge_leaf, KeepsBits, KeepsHeads, KeepsMasks, leaf_next, leaf_back, name_next, name_back, link_in}
+use Rattle.radix_tree.proofs.Words.{above_behind, last_room, root_past, IsGap, FindsGap, content_of, Entry, Lodged}
 
 module _ {V : Type 0} where
   -- ---- members on both sides of a place are in the map
@@ -45,7 +45,7 @@ module _ {V : Type 0} where
   gap_before m d g r is =
       let c = chain_of m d in
       last_there m d.part.above None g.front g.back r (subst (ChainStands (leaves_in m) d.part.above None) g.is c.stands)
-      (sym (ap (λ (z : Leaf). z.previous) g.leaf) ∙ is)
+      (sym (ap (λ z. z.previous) g.leaf) ∙ is)
 
   pub gap_behind : (m : Lodged V) {key rank : ℕ} {whole : Part m} {first : Id} (d : LedTo key whole first) {l : Leaf} → IsGap rank (chain_of m d) key l
       → (r : Id) → l.next ≡ Some r → Has m r
@@ -53,22 +53,21 @@ module _ {V : Type 0} where
       let c = chain_of m d in
       first_there m (above_behind d.part.above g.front) (last_room None g.front) g.back r
       (behind_stands (leaves_in m) d.part.above None g.front g.back (subst (ChainStands (leaves_in m) d.part.above None) g.is c.stands))
-      (sym (ap (λ (z : Leaf). z.next) g.leaf) ∙ is)
+      (sym (ap (λ z. z.next) g.leaf) ∙ is)
 
   -- it is there once the room is lodged
   pub lodged_above : (m new : Lodged V) (room : Id) (value : V) (l : Leaf) (up : Id) → leaves_in m room.number ≡ None
       → ((n : ℕ) → leaves_in new n ≡ lodge_leaf room value l n (leaves_in m n)) → KeepsBits m new
       → (p : Part m) × ForkAt p up → (p : Part new) × ForkAt p up
   lodged_above m new room value l up free leaves bits p = (
-    stays m new p.0
-        (λ n some. leaves n ∙ ap (λ (t : Bool). if t then Some (record { block = room.block; value = value; leaf = l }) else leaves_in m n)
+    stays m new p.0 (λ n some. leaves n ∙ ap (λ t. if t then Some (record { block = room.block; value = value; leaf = l }) else leaves_in m n)
         (ne_eqb n room.number (not_new p.0 room free n some))) (λ n some. bits n),
     record { bit = p.1.bit; zero = p.1.zero; one = p.1.one; is = p.1.is },
   )
 
   pub gap_above : (m : Lodged V) {key rank : ℕ} (whole : Part m) {first : Id} (d : LedTo key whole first) {l : Leaf} → whole.above ≡ None
       → IsGap rank (chain_of m d) key l → (up : Id) → l.above ≡ Some up → (p : Part m) × ForkAt p up
-  gap_above m {key = key} whole d top g up is = place_above m key whole d.part d.ups g.front d.way top (sym (ap (λ (z : Leaf). z.above) g.leaf) ∙ is)
+  gap_above m {key = key} whole d top g up is = place_above m key whole d.part d.ups g.front d.way top (sym (ap (λ z. z.above) g.leaf) ∙ is)
 
   -- ---- what the writes leave
   pub record IsWritten (m new : Lodged V) (id : Id) (e : Entry V) (l : Leaf) : Type 0 where
@@ -110,7 +109,7 @@ module _ {V : Type 0} where
   content_some (Some p) = refl
 
   pub same_some : (o p : Option (LeafPart V)) → content_of o ≡ content_of p → is_some o ≡ is_some p
-  same_some o p same = sym (content_some o) ∙ ap (λ (c : Option (Content V)). is_some c) same ∙ content_some p
+  same_some o p same = sym (content_some o) ∙ ap is_some same ∙ content_some p
 
   lodged_some : (room : Id) (value : V) (l : Leaf) (n : ℕ) (said : Option (LeafPart V))
       → is_some (lodge_leaf room value l n said) ≡ (n == room.number) || is_some said
@@ -122,8 +121,7 @@ module _ {V : Type 0} where
 
   pub linked_rooms : (m new : Lodged V) (id : Id) (value : V) (l : Leaf) → ((n : ℕ) → leaves_in new n ≡ link_in id value l n (leaves_in m n)) → (n : ℕ)
       → is_some (leaves_in new n) ≡ (n == id.number) || is_some (leaves_in m n)
-  linked_rooms m new id value l is n = ap (λ (o : Option (LeafPart V)). is_some o) (is n)
-      ∙ same_some (link_in id value l n (leaves_in m n)) (lodge_leaf id value l n (leaves_in m n))
+  linked_rooms m new id value l is n = ap is_some (is n) ∙ same_some (link_in id value l n (leaves_in m n)) (lodge_leaf id value l n (leaves_in m n))
       (back_same l.next None (Some id) n (name_next l.previous (Some id) n (lodge_leaf id value l n (leaves_in m n)))
       ∙ next_same l.previous (Some id) n (lodge_leaf id value l n (leaves_in m n))) ∙ lodged_some id value l n (leaves_in m n)
 
@@ -133,14 +131,14 @@ module _ {V : Type 0} where
   pub cons_key : (front back : List (Placed V)) (x z : Placed V) (zs : List (Placed V)) → z ∷ zs ≡ front ++ back → z.entry.key ≡ x.entry.key
       → (cons_at front back x).first.entry.key ≡ z.entry.key
   cons_key [] back x z zs is same = sym same
-  cons_key (f ∷ front) back x z zs is same = ap (λ (p : Placed V). p.entry.key) (sym (cons_head is))
+  cons_key (f ∷ front) back x z zs is same = ap (λ p. p.entry.key) (sym (cons_head is))
 
   -- no room is twice in the chain
   pub chain_once : (m : Lodged V) (key : ℕ) (whole at : Part m) (ups : List (Part m)) {z : Placed V} {zs c : List (Placed V)} → Way key whole at ups
       → AreOnce whole.tree → at.tree ≡ leaf z zs → z ∷ zs ≡ c → (n : ℕ) → members_at n c ≤ 1
   chain_once m key whole at ups {c = c} way once is same n =
-      let few : leaves_at n at.tree ≤ 1 = (way_once key whole at ups way once).leaves n in
-      let counts : leaves_at n at.tree ≡ members_at n c = ap (λ (t : Tree V). leaves_at n t) is ∙ ap (λ (ms : List (Placed V)). members_at n ms) same in
+      let few = (way_once key whole at ups way once).leaves n in
+      let counts = ap (leaves_at n) is ∙ ap (members_at n) same in
       omega arith
 
   -- the chain afterwards
@@ -149,22 +147,22 @@ module _ {V : Type 0} where
       → IsWritten m new id e l → Rechained m new e.key w.part d.part (g.front ++ g.back) (g.front ++ (placed id e ∷ g.back))
   in_chain m new e id first w d l g same route wr =
       let c = chain_of m d in
-      let once : (n : ℕ) → members_at n (g.front ++ g.back) ≤ 1 = chain_once m e.key w.part d.part d.ups d.way (once_but (whole_but w)) d.leaf.is g.is in
+      let once = chain_once m e.key w.part d.part d.ups d.way (once_but (whole_but w)) d.leaf.is g.is in
       let key = cons_key g.front g.back (placed id e) d.leaf.first d.leaf.rest g.is same in
-      let most : e.rank ≤ 33 = route.rank in
+      let most = route.rank in
       record {
         was = record { first = d.leaf.first; rest = d.leaf.rest; is = sym g.is };
         cons = cons_at g.front g.back (placed id e);
         is = d.leaf.is;
         key_is = key;
-        chain = subst (λ (k : ℕ). IsChain k 34 (g.front ++ (placed id e ∷ g.back))) (sym key)
+        chain = subst (λ k. IsChain k 34 (g.front ++ (placed id e ∷ g.back))) (sym key)
             (chain_more 34 g.front g.back (placed id e) (subst (IsChain d.leaf.first.entry.key 34) g.is c.is) route (sym same) (omega arith) g.past g.below);
         stands = linked_in (leaves_in m) (leaves_in new) d.part.above g.front g.back (placed id e)
             (subst (ChainStands (leaves_in m) d.part.above None) g.is c.stands) wr.free once
-            (λ n. wr.leaves n ∙ ap (λ (z : Leaf). link_in id e.value z n (leaves_in m n)) g.leaf);
-        leaves = λ n none some. in_others (leaves_in m) (leaves_in new) g.front g.back id e.value l n (ap (λ (z : Leaf). z.next) g.leaf)
-            (ap (λ (z : Leaf). z.previous) g.leaf) (wr.leaves n) (not_new w.part id wr.free n some) none;
-        bits = λ n. wr.bits n ∙ ap (λ (z : Leaf). name_child z.above e.key (LeafOf id) n (bits_in m n)) g.leaf
+            (λ n. wr.leaves n ∙ ap (λ z. link_in id e.value z n (leaves_in m n)) g.leaf);
+        leaves = λ n none some. in_others (leaves_in m) (leaves_in new) g.front g.back id e.value l n (ap (λ z. z.next) g.leaf)
+            (ap (λ z. z.previous) g.leaf) (wr.leaves n) (not_new w.part id wr.free n some) none;
+        bits = λ n. wr.bits n ∙ ap (λ z. name_child z.above e.key (LeafOf id) n (bits_in m n)) g.leaf
             ∙ place_bits m e.key w.part d.part d.ups g.front g.back (placed id e) d.way w.top (front_named g.front g.back d.leaf.is g.is) n;
         heads = wr.heads;
         masks = wr.masks;
@@ -173,15 +171,15 @@ module _ {V : Type 0} where
   in_name : (m new : Lodged V) (e : Entry V) (id : Id) {first : Id} (root : Node) (w : IsWhole m root) (d : LedTo e.key w.part first) (l : Leaf)
       (g : IsGap e.rank (chain_of m d) e.key l)
       → root_after d.part.above (LeafOf (cons_at g.front g.back (placed id e)).first.room) (name_of w.part.tree) ≡ root_past l.previous l.above (LeafOf id) root
-  in_name m new e id root w d l g = sym (ap (λ (z : Leaf). root_past z.previous z.above (LeafOf id) root) g.leaf
-      ∙ ap (λ (r : Node). root_past (last_room None g.front) (above_behind d.part.above g.front) (LeafOf id) r) (sym w.named)
+  in_name m new e id root w d l g = sym (ap (λ z. root_past z.previous z.above (LeafOf id) root) g.leaf
+      ∙ ap (root_past (last_room None g.front) (above_behind d.part.above g.front) (LeafOf id)) (sym w.named)
       ∙ place_root m e.key w.part d.part d.ups g.front g.back (placed id e) d.way w.top (front_named g.front g.back d.leaf.is g.is))
 
   pub inserted_whole : (m new : Lodged V) (e : Entry V) (id first : Id) (root : Node) (w : IsWhole m root) (d : LedTo e.key w.part first) {l : Leaf}
       → IsGap e.rank (chain_of m d) e.key l → d.leaf.first.entry.key ≡ e.key → IsRoute e
       → IsWritten m new id e l → IsWholeBut new (root_past l.previous l.above (LeafOf id) root) (late_at id.number) nobody_out
   inserted_whole m new e id first root w d {l = l} g same route wr =
-      subst (λ (z : Node). IsWholeBut new z (late_at id.number) nobody_out) (in_name m new e id root w d l g)
+      subst (λ z. IsWholeBut new z (late_at id.number) nobody_out) (in_name m new e id root w d l g)
       (grown_whole m new e.key (whole_but w) d.part d.ups g.front g.back (placed id e) d.way (in_chain m new e id first w d l g same route wr) wr.free
       wr.no_mask wr.no_bit (linked_rooms m new id e.value l wr.leaves))
 
@@ -189,7 +187,7 @@ module _ {V : Type 0} where
       → IsGap e.rank (chain_of m d) e.key l → d.leaf.first.entry.key ≡ e.key → IsRoute e
       → IsWritten m new id e l → Gains e (shown m (Some root)) (shown new (Some (root_past l.previous l.above (LeafOf id) root)))
   inserted_routes m new e id first root w d {l = l} g same route wr =
-      subst (λ (z : Node). Gains e (shown m (Some root)) (shown new (Some z))) (in_name m new e id root w d l g)
+      subst (λ z. Gains e (shown m (Some root)) (shown new (Some z))) (in_name m new e id root w d l g)
       (grown_routes m new root (whole_but w) d.part d.ups g.front g.back (placed id e) d.way (in_chain m new e id first w d l g same route wr))
 
   -- ---- a member has the rank
@@ -201,11 +199,11 @@ module _ {V : Type 0} where
       let own = way_inside m key w.part d.part d.ups d.way g.0 inside_leaf in
       let s = tree_said (leaves_in m) (bits_in m) w.part.above w.part.tree w.part.stands g.0 own in
       let p = leaf_part g.0 s.0 s.1 s.2 in
-      let counts : leaves_at g.0.room.number v.part.tree ≡ one_if (is_some (leaves_in m g.0.room.number)) = v.leaves g.0.room.number in
-      let one : one_if (is_some (leaves_in m g.0.room.number)) ≡ 1 = ap (λ (o : Option (LeafPart V)). one_if (is_some o)) s.3 in
+      let counts = v.leaves g.0.room.number in
+      let one = ap (λ o. one_if (is_some o)) s.3 in
       let r = room_route m v.part g.0.room.number s.3 (omega arith) in
       let c = chain_of m d in (
         r.route,
         r.is_in,
-        (ap (λ (z : Entry V). z.key) r.entry ∙ chain_key c.key c.top c.members c.is g.0 g.1 ∙ same, ap (λ (z : Entry V). z.rank) r.entry ∙ g.2),
+        (ap (λ z. z.key) r.entry ∙ chain_key c.key c.top c.members c.is g.0 g.1 ∙ same, ap (λ z. z.rank) r.entry ∙ g.2),
       )

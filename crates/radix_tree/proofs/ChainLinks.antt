@@ -1,15 +1,15 @@
 -- The links of a chain with a member more, and without it.
-use Rattle.radix_tree.proofs.Words.{◌≡◌, ℕ, ◌+◌, ◌≤◌, ◌==◌, Bool, if◌then◌else◌, List, [], ◌∷◌, ◌++◌, Option, Some, None, refl, sym, ap, ◌∙◌, arith}
-use Rattle.radix_tree.proofs.Words.{eq-eqb, ne_eqb, Id, Leaf, Placed, LeafPart, Leaves, first_room, ChainStands, one_if, members_at, lodge_leaf}
-use Rattle.radix_tree.proofs.Words.{leaf_next, leaf_back, name_next, name_back, link_in, link_out, above_behind, last_room}
 use Rattle.radix_tree.proofs.{RoomReads.inside, RoomReads.none_some, PartRooms.one_if_same, PartRooms.chain_frame, Forking.chain_there}
 use Rattle.radix_tree.proofs.{ChainGaps.behind_stands, ChainLists.members_append, ChainLists.members_more}
+use Rattle.radix_tree.proofs.Words.{◌≡◌, ℕ, ◌+◌, ◌≤◌, ◌==◌, if◌then◌else◌, List, [], ◌∷◌, ◌++◌, Option, Some, None, refl, sym, ap, ◌∙◌, arith, eq-eqb}
+use Rattle.radix_tree.proofs.Words.{ne_eqb, Id, Leaf, Placed, LeafPart, Leaves, first_room, ChainStands, one_if, members_at, lodge_leaf, leaf_next}
+use Rattle.radix_tree.proofs.Words.{leaf_back, name_next, name_back, link_in, link_out, above_behind, last_room}
 
 on_room : {A : Type 0} (room : Id) (x y : A) → (if room.number == room.number then x else y) ≡ x
-on_room room x y = ap (λ (t : Bool). if t then x else y) (eq-eqb room.number room.number refl)
+on_room room x y = ap (λ t. if t then x else y) (eq-eqb room.number room.number refl)
 
 off_room : {A : Type 0} (room : Id) (n : ℕ) (x y : A) → (n ≡ room.number → ⊥) → (if n == room.number then x else y) ≡ y
-off_room room n x y other = ap (λ (t : Bool). if t then x else y) (ne_eqb n room.number other)
+off_room room n x y other = ap (λ t. if t then x else y) (ne_eqb n room.number other)
 
 module _ {V : Type 0} where
   -- ---- rooms that are not written
@@ -25,13 +25,13 @@ module _ {V : Type 0} where
 
   -- ---- the members on both sides of a place
   own_counts : (x : Placed V) (c : List (Placed V)) → 1 ≤ members_at x.room.number (x ∷ c)
-  own_counts x c = let one : one_if (x.room.number == x.room.number) ≡ 1 = one_if_same x.room.number in omega arith
+  own_counts x c = let one = one_if_same x.room.number in omega arith
 
   last_in : (x : Placed V) (c : List (Placed V)) (r : Id) → last_room (Some x.room) c ≡ Some r → 1 ≤ members_at r.number (x ∷ c)
   last_in x [] r is =
-      let one : one_if (x.room.number == r.number) ≡ 1 = ap (λ (i : Id). one_if (x.room.number == i.number)) (sym (inside is)) ∙ one_if_same x.room.number in
+      let one = ap (λ i. one_if (x.room.number == i.number)) (sym (inside is)) ∙ one_if_same x.room.number in
       omega arith
-  last_in x (y ∷ c) r is = let rest : 1 ≤ members_at r.number (y ∷ c) = last_in y c r is in omega arith
+  last_in x (y ∷ c) r is = let rest = last_in y c r is in omega arith
 
   pub last_among : (c : List (Placed V)) (r : Id) → last_room None c ≡ Some r → 1 ≤ members_at r.number c
   last_among [] r is = absurd (none_some is)
@@ -40,7 +40,7 @@ module _ {V : Type 0} where
   pub first_among : (c : List (Placed V)) (r : Id) → first_room c ≡ Some r → 1 ≤ members_at r.number c
   first_among [] r is = absurd (none_some is)
   first_among (x ∷ c) r is =
-      let one : one_if (x.room.number == r.number) ≡ 1 = ap (λ (i : Id). one_if (x.room.number == i.number)) (sym (inside is)) ∙ one_if_same x.room.number in
+      let one = ap (λ i. one_if (x.room.number == i.number)) (sym (inside is)) ∙ one_if_same x.room.number in
       omega arith
 
   -- ---- a chain whose end is another one
@@ -55,12 +55,9 @@ module _ {V : Type 0} where
   )
   front_linked L M above previous (y ∷ z ∷ front) old now stands said once rest = (
     said y.room.number (own_counts y (z ∷ front)) ∙ next_off (last_room (Some z.room) front) (first_room now) y.room.number (L y.room.number)
-        (λ r is same. let behind : 1 ≤ members_at r.number (z ∷ front) = last_in z front r is in let most : members_at r.number (y ∷ z ∷ front) ≤ 1 =
-        once r.number in
-        let one : one_if (y.room.number == r.number) ≡ 1 = ap (λ (k : ℕ). one_if (y.room.number == k)) (sym same) ∙ one_if_same y.room.number in omega arith)
-        ∙ stands.0,
-    front_linked L M None (Some y.room) (z ∷ front) old now stands.1 (λ n some. said n (omega arith))
-        (λ n. let most : members_at n (y ∷ z ∷ front) ≤ 1 = once n in omega arith) rest,
+        (λ r is same. let behind = last_in z front r is in let most = once r.number in
+        let one = ap (λ k. one_if (y.room.number == k)) (sym same) ∙ one_if_same y.room.number in omega arith) ∙ stands.0,
+    front_linked L M None (Some y.room) (z ∷ front) old now stands.1 (λ n some. said n (omega arith)) (λ n. let most = once n in omega arith) rest,
   )
 
   -- and one whose first member has other links before it
@@ -70,8 +67,7 @@ module _ {V : Type 0} where
   back_linked L M above previous a p (y ∷ back) stands said once = (
     said y.room.number (own_counts y back) ∙ on_room y.room (leaf_back a p (L y.room.number)) (L y.room.number) ∙ ap (leaf_back a p) stands.0,
     chain_frame L M None (Some y.room) back (λ n some. said n (omega arith) ∙ off_room y.room n (leaf_back a p (L n)) (L n)
-        (λ same. let most : members_at n (y ∷ back) ≤ 1 = once n in let one : one_if (y.room.number == n) ≡ 1 =
-        ap (λ (k : ℕ). one_if (y.room.number == k)) same ∙ one_if_same y.room.number in omega arith)) stands.1,
+        (λ same. let most = once n in let one = ap (λ k. one_if (y.room.number == k)) same ∙ one_if_same y.room.number in omega arith)) stands.1,
   )
 
   -- ---- a member more
@@ -83,13 +79,13 @@ module _ {V : Type 0} where
   pub in_others : (L M : Leaves V) (front back : List (Placed V)) (room : Id) (value : V) (l : Leaf) (n : ℕ) → l.next ≡ first_room back
       → l.previous ≡ last_room None front → M n ≡ link_in room value l n (L n) → (n ≡ room.number → ⊥) → members_at n (front ++ back) ≡ 0 → M n ≡ L n
   in_others L M front back room value l n next previous said other out =
-      let none : members_at n (front ++ back) ≡ members_at n front + members_at n back = members_append n front back in
+      let none = members_append n front back in
       let lodged = lodge_leaf room value l n (L n) in
       said ∙ back_off l.next None (Some room) n (name_next l.previous (Some room) n (lodge_leaf room value l n (L n)))
-      (λ r is same. let some : 1 ≤ members_at r.number back = first_among back r (sym next ∙ is) in let at : members_at n back ≡ members_at r.number back =
-      ap (λ (k : ℕ). members_at k back) same in omega arith) ∙ next_off l.previous (Some room) n (lodge_leaf room value l n (L n))
-      (λ r is same. let some : 1 ≤ members_at r.number front = last_among front r (sym previous ∙ is) in
-      let at : members_at n front ≡ members_at r.number front = ap (λ (k : ℕ). members_at k front) same in omega arith)
+      (λ r is same. let some = first_among back r (sym next ∙ is) in let at = ap (λ k. members_at k back) same in omega arith)
+      ∙ next_off l.previous (Some room) n (lodge_leaf room value l n (L n))
+      (λ r is same. let some = last_among front r (sym previous ∙ is) in
+      let at = ap (λ k. members_at k front) same in omega arith)
       ∙ off_room room n (Some (record { block = room.block; value = value; leaf = l })) (L n) other
 
   pub linked_in : (L M : Leaves V) (above : Option Id) (front back : List (Placed V)) (x : Placed V) → ChainStands L above None (front ++ back)
@@ -100,46 +96,35 @@ module _ {V : Type 0} where
       let room = x.room in
       let l = leaf_at x.entry.key x.entry.rank above front back in
       let sum : (n : ℕ) → members_at n (front ++ back) ≡ members_at n front + members_at n back = λ n. members_append n front back in
-      let gone : members_at x.room.number (front ++ back) ≡ 0 = chain_there L above None (front ++ back) x.room.number stands none in
+      let gone = chain_there L above None (front ++ back) x.room.number stands none in
       let new : (n : ℕ) → 1 ≤ members_at n (front ++ back) → n ≡ x.room.number
-      → ⊥ = λ n some same. let at : members_at n (front ++ back) ≡ members_at x.room.number (front ++ back) =
-      ap (λ (k : ℕ). members_at k (front ++ back)) same in omega arith in
+      → ⊥ = λ n some same. let at = ap (λ k. members_at k (front ++ back)) same in omega arith in
       let lodged : (n : ℕ) → 1 ≤ members_at n (front ++ back) → lodge_leaf x.room x.entry.value (leaf_at x.entry.key x.entry.rank above front back) n (L n)
       ≡ L n =
       λ n some. off_room x.room n (Some (record { block = x.room.block; value = x.entry.value; leaf = leaf_at x.entry.key x.entry.rank above front back }))
       (L n) (new n some) in
       let not_first : (n : ℕ) → members_at n back ≡ 0 → (r : Id) → first_room back ≡ Some r → n ≡ r.number → ⊥ = λ n out r is same.
-      let some : 1 ≤ members_at r.number back = first_among back r is in let at : members_at n back ≡ members_at r.number back =
-      ap (λ (k : ℕ). members_at k back) same in omega arith in
+      let some = first_among back r is in let at = ap (λ k. members_at k back) same in omega arith in
       let not_last : (n : ℕ) → members_at n front ≡ 0 → (r : Id) → last_room None front ≡ Some r → n ≡ r.number → ⊥ = λ n out r is same.
-      let some : 1 ≤ members_at r.number front = last_among front r is in let at : members_at n front ≡ members_at r.number front =
-      ap (λ (k : ℕ). members_at k front) same in omega arith in
-      front_linked L M above None front back (x ∷ back) stands
-      (λ n some. let both : members_at n (front ++ back) ≡ members_at n front + members_at n back = sum n in let most : members_at n (front ++ back) ≤ 1 =
-      once n in
+      let some = last_among front r is in let at = ap (λ k. members_at k front) same in omega arith in
+      front_linked L M above None front back (x ∷ back) stands (λ n some. let both = sum n in let most = once n in
       said n ∙ back_off (first_room back) None (Some x.room) n (name_next (last_room None front) (Some x.room) n
       (lodge_leaf x.room x.entry.value (leaf_at x.entry.key x.entry.rank above front back) n (L n))) (not_first n (omega arith))
-      ∙ ap (λ (o : Option (LeafPart V)). name_next (last_room None front) (Some x.room) n o) (lodged n (omega arith)))
-      (λ n. let both : members_at n (front ++ back) ≡ members_at n front + members_at n back = sum n in let most : members_at n (front ++ back) ≤ 1 = once n in
+      ∙ ap (name_next (last_room None front) (Some x.room) n) (lodged n (omega arith))) (λ n. let both = sum n in let most = once n in
       omega arith) (
         said x.room.number ∙ back_off (first_room back) None (Some x.room) x.room.number (name_next (last_room None front) (Some x.room) x.room.number
             (lodge_leaf x.room x.entry.value (leaf_at x.entry.key x.entry.rank above front back) x.room.number (L x.room.number)))
-            (not_first x.room.number (let both : members_at x.room.number (front ++ back) ≡ members_at x.room.number front + members_at x.room.number back =
-            sum x.room.number in omega arith))
+            (not_first x.room.number (let both = sum x.room.number in omega arith))
             ∙ next_off (last_room None front) (Some x.room) x.room.number (lodge_leaf x.room x.entry.value (leaf_at x.entry.key x.entry.rank above front back)
-            x.room.number (L x.room.number))
-            (not_last x.room.number (let both : members_at x.room.number (front ++ back) ≡ members_at x.room.number front + members_at x.room.number back =
-            sum x.room.number in omega arith))
+            x.room.number (L x.room.number)) (not_last x.room.number (let both = sum x.room.number in omega arith))
             ∙ on_room x.room (Some (record { block = x.room.block; value = x.entry.value; leaf = leaf_at x.entry.key x.entry.rank above front back }))
             (L x.room.number),
         back_linked L M (above_behind above front) (last_room None front) None (Some x.room) back (behind_stands L above None front back stands)
-            (λ n some. let both : members_at n (front ++ back) ≡ members_at n front + members_at n back = sum n in
-            let most : members_at n (front ++ back) ≤ 1 = once n in
-            said n ∙ ap (λ (o : Option (LeafPart V)). name_back (first_room back) None (Some x.room) n o)
+            (λ n some. let both = sum n in
+            let most = once n in
+            said n ∙ ap (name_back (first_room back) None (Some x.room) n)
             (next_off (last_room None front) (Some x.room) n (lodge_leaf x.room x.entry.value (leaf_at x.entry.key x.entry.rank above front back) n (L n))
-            (not_last n (omega arith)) ∙ lodged n (omega arith)))
-            (λ n. let both : members_at n (front ++ back) ≡ members_at n front + members_at n back = sum n in let most : members_at n (front ++ back) ≤ 1 =
-            once n in omega arith),
+            (not_last n (omega arith)) ∙ lodged n (omega arith))) (λ n. let both = sum n in let most = once n in omega arith),
       )
 
   -- ---- a member less
@@ -147,33 +132,25 @@ module _ {V : Type 0} where
   pub out_others : (L M : Leaves V) (front back : List (Placed V)) (l : Leaf) (n : ℕ) → l.next ≡ first_room back → l.previous ≡ last_room None front
       → M n ≡ link_out l n (L n) → members_at n (front ++ back) ≡ 0 → M n ≡ L n
   out_others L M front back l n next previous said out =
-      let none : members_at n (front ++ back) ≡ members_at n front + members_at n back = members_append n front back in
+      let none = members_append n front back in
       said ∙ next_off l.previous l.next n (name_back l.next l.above l.previous n (L n))
-      (λ r is same. let some : 1 ≤ members_at r.number front = last_among front r (sym previous ∙ is) in
-      let at : members_at n front ≡ members_at r.number front = ap (λ (k : ℕ). members_at k front) same in omega arith)
-      ∙ back_off l.next l.above l.previous n (L n)
-      (λ r is same. let some : 1 ≤ members_at r.number back = first_among back r (sym next ∙ is) in let at : members_at n back ≡ members_at r.number back =
-      ap (λ (k : ℕ). members_at k back) same in omega arith)
+      (λ r is same. let some = last_among front r (sym previous ∙ is) in
+      let at = ap (λ k. members_at k front) same in omega arith) ∙ back_off l.next l.above l.previous n (L n)
+      (λ r is same. let some = first_among back r (sym next ∙ is) in let at = ap (λ k. members_at k back) same in omega arith)
 
   pub linked_out : (L M : Leaves V) (above : Option Id) (front back : List (Placed V)) (x : Placed V) → ChainStands L above None (front ++ (x ∷ back))
       → ((n : ℕ) → members_at n (front ++ (x ∷ back)) ≤ 1)
       → ((n : ℕ) → M n ≡ link_out (leaf_at x.entry.key x.entry.rank above front back) n (L n)) → ChainStands M above None (front ++ back)
   linked_out L M above front back x stands once said =
-      let few : (n : ℕ) → members_at n front + members_at n back ≤ 1 = λ n. let sum : members_at n (front ++ back) ≡ members_at n front + members_at n back =
-      members_append n front back in
-      let more : members_at n (front ++ (x ∷ back)) ≡ members_at n (front ++ back) + one_if (x.room.number == n) = members_more n front back x in
-      let most : members_at n (front ++ (x ∷ back)) ≤ 1 = once n in omega arith in
-      front_linked L M above None front (x ∷ back) back stands
-      (λ n some. said n ∙ ap (λ (o : Option (LeafPart V)). name_next (last_room None front) (first_room back) n o)
+      let few : (n : ℕ) → members_at n front + members_at n back ≤ 1 = λ n. let sum = members_append n front back in
+      let more = members_more n front back x in
+      let most = once n in omega arith in
+      front_linked L M above None front (x ∷ back) back stands (λ n some. said n ∙ ap (name_next (last_room None front) (first_room back) n)
       (back_off (first_room back) (above_behind above front) (last_room None front) n (L n)
-      (λ r is same. let own : 1 ≤ members_at r.number back = first_among back r is in let at : members_at n back ≡ members_at r.number back =
-      ap (λ (k : ℕ). members_at k back) same in
-      let most : members_at n front + members_at n back ≤ 1 = few n in omega arith)))
-      (λ n. let most : members_at n front + members_at n back ≤ 1 = few n in omega arith)
+      (λ r is same. let own = first_among back r is in let at = ap (λ k. members_at k back) same in
+      let most = few n in omega arith))) (λ n. let most = few n in omega arith)
       (back_linked L M None (Some x.room) (above_behind above front) (last_room None front) back (behind_stands L above None front (x ∷ back) stands).1
       (λ n some. said n ∙ next_off (last_room None front) (first_room back) n
       (name_back (first_room back) (above_behind above front) (last_room None front) n (L n))
-      (λ r is same. let own : 1 ≤ members_at r.number front = last_among front r is in let at : members_at n front ≡ members_at r.number front =
-      ap (λ (k : ℕ). members_at k front) same in
-      let most : members_at n front + members_at n back ≤ 1 = few n in omega arith))
-      (λ n. let most : members_at n front + members_at n back ≤ 1 = few n in omega arith))
+      (λ r is same. let own = last_among front r is in let at = ap (λ k. members_at k front) same in
+      let most = few n in omega arith)) (λ n. let most = few n in omega arith))

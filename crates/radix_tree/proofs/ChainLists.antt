@@ -1,8 +1,8 @@
 -- A chain with a member more.
+use Rattle.radix_tree.proofs.{RoomReads.none_some, PartRooms.one_if_same}
 use Rattle.std.proofs.lemmas.List.{map-append}
 use Rattle.radix_tree.proofs.Words.{◌≡◌, ℕ, ◌+◌, ◌<◌, ◌≤◌, ◌⊎◌, ◌==◌, List, [], ◌∷◌, ◌++◌, map, Some, None, refl, sym, ap, ◌∙◌, inl, inr, arith, IsRoute}
 use Rattle.radix_tree.proofs.Words.{Placed, IsAmong, IsChain, BitPart, Bits, one_if, members_at, AreIdle, HasOneFork, Gains, ArePast, IsBelow, Entry}
-use Rattle.radix_tree.proofs.{RoomReads.none_some, PartRooms.one_if_same}
 
 module _ {V : Type 0} where
   -- a list has a first member
@@ -21,21 +21,20 @@ module _ {V : Type 0} where
   -- ---- how often
   pub members_append : (n : ℕ) (front back : List (Placed V)) → members_at n (front ++ back) ≡ members_at n front + members_at n back
   members_append n [] back = omega arith
-  members_append n (y ∷ front) back = let rest : members_at n (front ++ back) ≡ members_at n front + members_at n back = members_append n front back in
+  members_append n (y ∷ front) back = let rest = members_append n front back in
       omega arith
 
   pub members_more : (n : ℕ) (front back : List (Placed V)) (x : Placed V)
       → members_at n (front ++ (x ∷ back)) ≡ members_at n (front ++ back) + one_if (x.room.number == n)
   members_more n front back x =
-      let more : members_at n (front ++ (x ∷ back)) ≡ members_at n front + members_at n (x ∷ back) = members_append n front (x ∷ back) in
-      let less : members_at n (front ++ back) ≡ members_at n front + members_at n back = members_append n front back in omega arith
+      let more = members_append n front (x ∷ back) in
+      let less = members_append n front back in omega arith
 
   pub member_counts : (c : List (Placed V)) (y : Placed V) → IsAmong y c → 1 ≤ members_at y.room.number c
   member_counts [] y is = absurd is
   member_counts (x ∷ c) y is = elim is [
-    | inl e ↦ let one : one_if (x.room.number == y.room.number) ≡ 1 =
-        ap (λ (p : Placed V). one_if (x.room.number == p.room.number)) (sym e) ∙ one_if_same x.room.number in omega arith
-    | inr later ↦ let some : 1 ≤ members_at y.room.number c = member_counts c y later in omega arith
+    | inl e ↦ let one = ap (λ p. one_if (x.room.number == p.room.number)) (sym e) ∙ one_if_same x.room.number in omega arith
+    | inr later ↦ let some = member_counts c y later in omega arith
   ]
 
   -- ---- what is among
@@ -63,8 +62,8 @@ module _ {V : Type 0} where
   pub split_at : (c : List (Placed V)) (x : Placed V) → IsAmong x c → IsSplit c x
   split_at [] x is = absurd is
   split_at (z ∷ c) x is = elim is [
-    | inl e ↦ record { front = []; back = c; is = ap (λ (p : Placed V). p ∷ c) e }
-    | inr later ↦ let s = split_at c x later in record { front = z ∷ s.front; back = s.back; is = ap (λ (ms : List (Placed V)). z ∷ ms) s.is }
+    | inl e ↦ record { front = []; back = c; is = ap (λ p. p ∷ c) e }
+    | inr later ↦ let s = split_at c x later in record { front = z ∷ s.front; back = s.back; is = ap (λ ms. z ∷ ms) s.is }
   ]
 
   -- ---- bit nodes in use
@@ -108,7 +107,7 @@ module _ {V : Type 0} where
 
   idle_at : (B : Bits) (c : List (Placed V)) (y : Placed V) → AreIdle B c → IsAmong y c → B y.room.number ≡ None
   idle_at B [] y idle is = absurd is
-  idle_at B (z ∷ c) y idle is = elim is [ inl e ↦ ap (λ (p : Placed V). B p.room.number) (sym e) ∙ idle.0 | inr later ↦ idle_at B c y idle.1 later ]
+  idle_at B (z ∷ c) y idle is = elim is [ inl e ↦ ap (λ p. B p.room.number) (sym e) ∙ idle.0 | inr later ↦ idle_at B c y idle.1 later ]
 
   -- where one member's room is a bit node in use, no other one's is
   pub others_idle : (B : Bits) (front back : List (Placed V)) (x y : Placed V) {b : BitPart} → HasOneFork B (front ++ (x ∷ back)) → B x.room.number ≡ Some b
@@ -116,19 +115,16 @@ module _ {V : Type 0} where
   others_idle B [] back x y one used is = elim one [ inl idle ↦ idle_at B back y idle is | inr own ↦ absurd (none_some (sym own.0 ∙ used)) ]
   others_idle B (z ∷ front) back x y one used is = elim one [
     | inl idle ↦ absurd (none_some (sym (idle_at B (front ++ (x ∷ back)) x idle (among_own front back x)) ∙ used))
-    | inr own ↦ elim is [
-      | inl e ↦ ap (λ (p : Placed V). B p.room.number) (sym e) ∙ own.0
-      | inr later ↦ others_idle B front back x y own.1 used later
-    ]
+    | inr own ↦ elim is [ inl e ↦ ap (λ p. B p.room.number) (sym e) ∙ own.0 | inr later ↦ others_idle B front back x y own.1 used later ]
   ]
 
   -- ---- order
   chain_raise : (key low top : ℕ) (c : List (Placed V)) → low ≤ top → IsChain key low c → IsChain key top c
   chain_raise key low top [] le is = tt
-  chain_raise key low top (y ∷ c) le is = let lt : y.entry.rank < low = is.2 in (is.0, is.1, omega arith, is.3)
+  chain_raise key low top (y ∷ c) le is = let lt = is.2 in (is.0, is.1, omega arith, is.3)
 
   pub chain_less : (key top : ℕ) (front back : List (Placed V)) (x : Placed V) → IsChain key top (front ++ (x ∷ back)) → IsChain key top (front ++ back)
-  chain_less key top [] back x is = let lt : x.entry.rank < top = is.2 in chain_raise key x.entry.rank top back (omega arith) is.3
+  chain_less key top [] back x is = let lt = is.2 in chain_raise key x.entry.rank top back (omega arith) is.3
   chain_less key top (y ∷ front) back x is = (is.0, is.1, is.2, chain_less key y.entry.rank front back x is.3)
 
   chain_lower : (key top rank : ℕ) (c : List (Placed V)) → IsBelow rank c → IsChain key top c → IsChain key rank c

@@ -1,15 +1,14 @@
 -- A member of a chain whose neighbours name each other in its place.
-use Rattle.radix_tree.proofs.Words.{◌≡◌, ℕ, ◌+◌, ◌≤◌, ◌==◌, Bool, true, true≢false, List, [], ◌∷◌, ◌++◌, Option, Some, None, refl, sym, ap, ◌∙◌, subst}
-use Rattle.radix_tree.proofs.Words.{inl, arith, eq-eqb, is_some, Has, Id, leaf_of, Leaf, Links, Node, LeafOf, Placed, leaf, IsAmong, IsChain, IsTree}
-use Rattle.radix_tree.proofs.Words.{LeafPart, Part, leaves_in, bits_in, name_of, first_room, leaf_part, ChainStands, Stands, Way, ForkAt, one_if}
-use Rattle.radix_tree.proofs.Words.{members_at, leaves_at, name_child, root_after, IsWholeBut, nobody_out, KeepsHeads, KeepsMasks, link_out, above_behind}
-use Rattle.radix_tree.proofs.Words.{last_room, root_past, Lodged}
-use Rattle.radix_tree.proofs.ChainExchanges.{Rechained, FrontNamed, front_named, place_bits, place_root, turn_same, root_same}
 use Rattle.radix_tree.proofs.{RoomReads.inside, RoomReads.none_some, RoomReads.AreLinks, Parts.among_leaf, TreeMembers.head_of, TreeMembers.chain_key}
 use Rattle.radix_tree.proofs.{WaysDown.way_to_leaf, WholeParts.once_but, ChainWrites.own_said, ChainGaps.behind_stands, ChainLinks.linked_out}
 use Rattle.radix_tree.proofs.{ChainLinks.out_others, ChainLists.IsCons, ChainLists.cons_at, ChainLists.split_at, ChainLists.members_more}
 use Rattle.radix_tree.proofs.{ChainLists.chain_less, ChainRooms.room_route, ChainInserts.first_there, ChainInserts.last_there, ChainInserts.place_above}
 use Rattle.radix_tree.proofs.{ChainInserts.chain_once}
+use Rattle.radix_tree.proofs.Words.{◌≡◌, ℕ, ◌≤◌, Bool, true, true≢false, List, [], ◌∷◌, ◌++◌, Option, Some, None, refl, sym, ap, ◌∙◌, subst, inl, arith}
+use Rattle.radix_tree.proofs.Words.{eq-eqb, is_some, Has, Id, leaf_of, Leaf, Links, Node, LeafOf, Placed, leaf, IsAmong, IsChain, IsTree, LeafPart, Part}
+use Rattle.radix_tree.proofs.Words.{leaves_in, bits_in, name_of, first_room, leaf_part, ChainStands, Stands, Way, ForkAt, one_if, members_at, name_child}
+use Rattle.radix_tree.proofs.Words.{root_after, IsWholeBut, nobody_out, KeepsHeads, KeepsMasks, link_out, above_behind, last_room, root_past, Lodged}
+use Rattle.radix_tree.proofs.ChainExchanges.{Rechained, FrontNamed, front_named, place_bits, place_root, turn_same, root_same}
 
 pub some_is : {A : Type 0} (o : Option A) → is_some o ≡ true → (x : A) × (o ≡ Some x)
 some_is None e = absurd (true≢false (sym e))
@@ -41,8 +40,8 @@ module _ {V : Type 0} where
   pub member_of : {m : Lodged V} {root : Node} {late : ℕ → Bool} (w : IsWholeBut m root late nobody_out) (n : ℕ) {p : LeafPart V} → leaves_in m n ≡ Some p
       → IsMember m w.part n p
   member_of {m = m} w n said =
-      let counts : leaves_at n w.part.tree + nobody_out n ≡ one_if (is_some (leaves_in m n)) = w.leaves n in
-      let one : one_if (is_some (leaves_in m n)) ≡ 1 = ap (λ (o : Option (LeafPart V)). one_if (is_some o)) said in
+      let counts = w.leaves n in
+      let one = ap (λ o. one_if (is_some o)) said in
       let r = room_route m w.part n said (omega arith) in
       let f = way_to_leaf m w.part r.route r.is_in in
       let s = split_at (f.at.first ∷ f.at.rest) r.route (among_leaf m f.at r.route f.among) in
@@ -59,7 +58,7 @@ module _ {V : Type 0} where
         is = f.at.is;
         split = s.is;
         number = r.number;
-        part_is = inside (sym said ∙ ap (λ (k : ℕ). leaves_in m k) (sym r.number) ∙ stands.0);
+        part_is = inside (sym said ∙ ap (leaves_in m) (sym r.number) ∙ stands.0);
       }
 
   pub member_once : (m : Lodged V) {root : Node} {late : ℕ → Bool} (w : IsWholeBut m root late nobody_out) {n : ℕ} {p : LeafPart V} (b : IsMember m w.part n p)
@@ -70,10 +69,9 @@ module _ {V : Type 0} where
   pub own_out : (m : Lodged V) {root : Node} {late : ℕ → Bool} (w : IsWholeBut m root late nobody_out) (n : ℕ) (p : LeafPart V) (b : IsMember m w.part n p)
       → members_at n (b.front ++ b.back) ≡ 0
   own_out m w n p b =
-      let most : members_at n (b.front ++ (b.x ∷ b.back)) ≤ 1 = member_once m w b n in
-      let more : members_at n (b.front ++ (b.x ∷ b.back)) ≡ members_at n (b.front ++ b.back) + one_if (b.x.room.number == n) =
-      members_more n b.front b.back b.x in
-      let one : one_if (b.x.room.number == n) ≡ 1 = ap one_if (eq-eqb b.x.room.number n b.number) in omega arith
+      let most = member_once m w b n in
+      let more = members_more n b.front b.back b.x in
+      let one = ap one_if (eq-eqb b.x.room.number n b.number) in omega arith
 
   -- ---- what the writes leave
   pub record IsUnlinked (m new : Lodged V) (l : Leaf) : Type 0 where
@@ -84,27 +82,27 @@ module _ {V : Type 0} where
   -- what was read of the room is its part's leaf
   pub leaf_is : {m : Lodged V} {at : Id} (links : Links) {l : Leaf} (h : Has m at) {p : LeafPart V} → leaves_in m at.number ≡ Some p → AreLinks m at links
       → l ≡ leaf_of links → l ≡ p.leaf
-  leaf_is links h said are is = is ∙ ap leaf_of (are h.room h.at) ∙ ap (λ (q : LeafPart V). q.leaf) (inside (sym (own_said h) ∙ said))
+  leaf_is links h said are is = is ∙ ap leaf_of (are h.room h.at) ∙ ap (λ q. q.leaf) (inside (sym (own_said h) ∙ said))
 
   pub unlinked : (m new : Lodged V) {l k : Leaf} → l ≡ k → ((n : ℕ) → leaves_in new n ≡ link_out l n (leaves_in m n)) → KeepsHeads m new → KeepsMasks m new
       → IsUnlinked m new k
   unlinked m new same leaves heads masks =
-      record { leaves = λ n. leaves n ∙ ap (λ (z : Leaf). link_out z n (leaves_in m n)) same; heads = heads; masks = masks }
+      record { leaves = λ n. leaves n ∙ ap (λ z. link_out z n (leaves_in m n)) same; heads = heads; masks = masks }
 
   -- ---- its neighbours
   pub before_there : {m : Lodged V} {whole : Part m} {n : ℕ} {p : LeafPart V} (b : IsMember m whole n p) (r : Id) → p.leaf.previous ≡ Some r → Has m r
   before_there {m = m} b r is = last_there m b.part.above None b.front (b.x ∷ b.back) r (leaf_stands m b.part b.is b.split)
-      (sym (ap (λ (q : LeafPart V). q.leaf.previous) b.part_is) ∙ is)
+      (sym (ap (λ q. q.leaf.previous) b.part_is) ∙ is)
 
   pub behind_there : {m : Lodged V} {whole : Part m} {n : ℕ} {p : LeafPart V} (b : IsMember m whole n p) (r : Id) → p.leaf.next ≡ Some r → Has m r
   behind_there {m = m} b r is = first_there m None (Some b.x.room) b.back r
       (behind_stands (leaves_in m) b.part.above None b.front (b.x ∷ b.back) (leaf_stands m b.part b.is b.split)).1
-      (sym (ap (λ (q : LeafPart V). q.leaf.next) b.part_is) ∙ is)
+      (sym (ap (λ q. q.leaf.next) b.part_is) ∙ is)
 
   pub fork_above : {m : Lodged V} {whole : Part m} {n : ℕ} {p : LeafPart V} (b : IsMember m whole n p) (up : Id) → whole.above ≡ None → p.leaf.above ≡ Some up
       → (q : Part m) × ForkAt q up
   fork_above {m = m} {whole = whole} b up top is =
-      place_above m b.x.entry.key whole b.part b.ups b.front b.way top (sym (ap (λ (q : LeafPart V). q.leaf.above) b.part_is) ∙ is)
+      place_above m b.x.entry.key whole b.part b.ups b.front b.way top (sym (ap (λ q. q.leaf.above) b.part_is) ∙ is)
 
   -- the chain that is left, and who names it
   pub record IsLeft (m new : Lodged V) (key : ℕ) (whole at : Part m) (front back : List (Placed V)) (name : Node) : Type 0 where
@@ -117,7 +115,7 @@ module _ {V : Type 0} where
       → ((k : ℕ) → bits_in new k ≡ name_child p.leaf.above p.leaf.key (LeafOf to) k (bits_in m k))
       → name ≡ root_past p.leaf.previous p.leaf.above (LeafOf to) root → IsLeft m new b.x.entry.key w.part b.part b.front b.back name
   left_renamed {m = m} new {root = root} w b {to = to} next bits named =
-      let h = head_of b.back (sym (ap (λ (q : LeafPart V). q.leaf.next) b.part_is) ∙ next) in
+      let h = head_of b.back (sym (ap (λ q. q.leaf.next) b.part_is) ∙ next) in
       let c = cons_at b.front h.behind h.first in
       let front_is = front_named b.front (b.x ∷ b.back) b.is b.split in
       record {
@@ -125,14 +123,14 @@ module _ {V : Type 0} where
             record {
               first = (cons_at b.front h.behind h.first).first;
               rest = (cons_at b.front h.behind h.first).rest;
-              is = ap (λ (ms : List (Placed V)). b.front ++ ms) h.is ∙ (cons_at b.front h.behind h.first).is;
+              is = ap (λ ms. b.front ++ ms) h.is ∙ (cons_at b.front h.behind h.first).is;
             };
-        bits = λ k. bits k ∙ ap (λ (q : LeafPart V). name_child q.leaf.above q.leaf.key (LeafOf to) k (bits_in m k)) b.part_is
-            ∙ ap (λ (i : Id). name_child (above_behind b.part.above b.front) b.x.entry.key (LeafOf i) k (bits_in m k)) (sym h.room_is)
+        bits = λ k. bits k ∙ ap (λ q. name_child q.leaf.above q.leaf.key (LeafOf to) k (bits_in m k)) b.part_is
+            ∙ ap (λ i. name_child (above_behind b.part.above b.front) b.x.entry.key (LeafOf i) k (bits_in m k)) (sym h.room_is)
             ∙ place_bits m b.x.entry.key w.part b.part b.ups b.front h.behind h.first b.way w.top front_is k;
-        named = sym (named ∙ ap (λ (q : LeafPart V). root_past q.leaf.previous q.leaf.above (LeafOf to) root) b.part_is
-            ∙ ap (λ (i : Id). root_past (last_room None b.front) (above_behind b.part.above b.front) (LeafOf i) root) (sym h.room_is)
-            ∙ ap (λ (r : Node). root_past (last_room None b.front) (above_behind b.part.above b.front) (LeafOf h.first.room) r) (sym w.named)
+        named = sym (named ∙ ap (λ q. root_past q.leaf.previous q.leaf.above (LeafOf to) root) b.part_is
+            ∙ ap (λ i. root_past (last_room None b.front) (above_behind b.part.above b.front) (LeafOf i) root) (sym h.room_is)
+            ∙ ap (root_past (last_room None b.front) (above_behind b.part.above b.front) (LeafOf h.first.room)) (sym w.named)
             ∙ place_root m b.x.entry.key w.part b.part b.ups b.front h.behind h.first b.way w.top front_is);
       }
 
@@ -143,8 +141,8 @@ module _ {V : Type 0} where
   kept_at m new key whole at ups [] back way top named front_is some bits = absurd (some refl)
   kept_at m new key whole at ups (f ∷ front) back way top named front_is some bits = record {
     cons = record { first = f; rest = front ++ back; is = refl };
-    bits = λ k. bits k ∙ sym (ap (λ (z : Node). name_child at.above key z k (bits_in m k)) (sym front_is) ∙ turn_same m key whole at ups way top k);
-    named = ap (λ (z : Node). root_after at.above z (name_of whole.tree)) (sym front_is) ∙ root_same m key whole at ups way top ∙ named;
+    bits = λ k. bits k ∙ sym (ap (λ z. name_child at.above key z k (bits_in m k)) (sym front_is) ∙ turn_same m key whole at ups way top k);
+    named = ap (λ z. root_after at.above z (name_of whole.tree)) (sym front_is) ∙ root_same m key whole at ups way top ∙ named;
   }
 
   pub left_kept : {m : Lodged V} (new : Lodged V) {root : Node} {late : ℕ → Bool} (w : IsWholeBut m root late nobody_out) {n : ℕ} {p : LeafPart V}
@@ -153,7 +151,7 @@ module _ {V : Type 0} where
       → IsLeft m new b.x.entry.key w.part b.part b.front b.back root
   left_kept {m = m} new w b next first bits =
       kept_at m new b.x.entry.key w.part b.part b.ups b.front b.back b.way w.top w.named (front_named b.front (b.x ∷ b.back) b.is b.split)
-      (λ none. none_some (sym next ∙ (first (ap (λ (q : LeafPart V). q.leaf.previous) b.part_is ∙ none)).1)) bits
+      (λ none. none_some (sym next ∙ (first (ap (λ q. q.leaf.previous) b.part_is ∙ none)).1)) bits
 
   abbrev pub out_chain : (m new : Lodged V) {root name : Node} {late : ℕ → Bool} (w : IsWholeBut m root late nobody_out) (n : ℕ) (p : LeafPart V)
       (b : IsMember m w.part n p) → IsUnlinked m new p.leaf
@@ -168,14 +166,13 @@ module _ {V : Type 0} where
         cons = l.cons;
         is = b.is;
         key_is = key;
-        chain = subst (λ (k : ℕ). IsChain k 34 (b.front ++ b.back)) (sym key) less;
+        chain = subst (λ k. IsChain k 34 (b.front ++ b.back)) (sym key) less;
         stands = linked_out (leaves_in m) (leaves_in new) b.part.above b.front b.back b.x (leaf_stands m b.part b.is b.split) (member_once m w b)
-            (λ k. u.leaves k ∙ ap (λ (q : LeafPart V). link_out q.leaf k (leaves_in m k)) b.part_is);
+            (λ k. u.leaves k ∙ ap (λ q. link_out q.leaf k (leaves_in m k)) b.part_is);
         leaves = λ k none some.
-            let more : members_at k (b.front ++ (b.x ∷ b.back)) ≡ members_at k (b.front ++ b.back) + one_if (b.x.room.number == k) =
-            members_more k b.front b.back b.x in
-            out_others (leaves_in m) (leaves_in new) b.front b.back p.leaf k (ap (λ (q : LeafPart V). q.leaf.next) b.part_is)
-            (ap (λ (q : LeafPart V). q.leaf.previous) b.part_is) (u.leaves k) (omega arith);
+            let more = members_more k b.front b.back b.x in
+            out_others (leaves_in m) (leaves_in new) b.front b.back p.leaf k (ap (λ q. q.leaf.next) b.part_is)
+            (ap (λ q. q.leaf.previous) b.part_is) (u.leaves k) (omega arith);
         bits = l.bits;
         heads = u.heads;
         masks = u.masks;

@@ -1,21 +1,21 @@
 -- A route goes out of the chain of its key.
-use Rattle.radix_tree.proofs.Words.{⊎_elim, ◌≡◌, ℕ, ◌+◌, ◌≤◌, ◌⊎◌, ◌==◌, Bool, true, false, true≢false, List, [], ◌∷◌, ◌++◌, Option, Some, None, refl, sym, ap}
-use Rattle.radix_tree.proofs.Words.{◌∙◌, subst, inl, inr, arith, eqb-true, eq-eqb, is_some, Has, Id, Leaf, Node, LeafOf, Placed, leaf, IsAmong, IsIn}
-use Rattle.radix_tree.proofs.Words.{LeafPart, BitPart, Part, leaves_in, bits_in, masks_in, name_of, Way, one_if, members_at, leaves_at, HaveOneFork}
-use Rattle.radix_tree.proofs.Words.{HasOneFork, shown, shown_entry, root_after, Gains, IsWholeBut, is_of_key, has_key, nobody_late, late_at, nobody_out}
-use Rattle.radix_tree.proofs.Words.{out_at, Content, content_of, KeepsRoutes, name_back, link_out, Entry, Lodged}
-use Rattle.radix_tree.proofs.ChainNeighbours.{some_is, IsMember, leaf_chain, member_once, own_out, IsUnlinked, before_there, behind_there, IsLeft}
-use Rattle.radix_tree.proofs.ChainNeighbours.{out_chain}
 use Rattle.radix_tree.proofs.{Parts.way_leads, TreeMembers.chain_key, TreeMembers.tree_said, WholeParts.later_than, ChainWrites.Has-linked_out}
 use Rattle.radix_tree.proofs.{ChainLinks.out_others, ChainLinks.last_among, ChainLinks.first_among, ChainLists.members_append, ChainLists.members_more}
 use Rattle.radix_tree.proofs.{ChainLists.among_own, ChainLists.among_less, ChainLists.others_idle, ChainRooms.among_at, ChainRooms.room_route}
 use Rattle.radix_tree.proofs.{ChainExchanges.turn_some, ChainExchanges.same_none, ChainWholes.shrunk_whole, ChainWholes.shrunk_routes}
 use Rattle.radix_tree.proofs.{ChainInserts.next_same, ChainInserts.back_same, ChainInserts.same_some}
+use Rattle.radix_tree.proofs.Words.{⊎_elim, ◌≡◌, ℕ, ◌≤◌, ◌⊎◌, ◌==◌, Bool, true, false, true≢false, List, [], ◌∷◌, ◌++◌, Option, Some, None, refl, sym, ap}
+use Rattle.radix_tree.proofs.Words.{◌∙◌, subst, inl, inr, arith, eqb-true, eq-eqb, is_some, Has, Id, Leaf, Node, LeafOf, Placed, leaf, IsAmong, IsIn}
+use Rattle.radix_tree.proofs.Words.{LeafPart, BitPart, Part, leaves_in, bits_in, masks_in, name_of, Way, one_if, members_at, HaveOneFork, HasOneFork}
+use Rattle.radix_tree.proofs.Words.{shown, shown_entry, root_after, Gains, IsWholeBut, is_of_key, has_key, nobody_late, late_at, nobody_out, out_at}
+use Rattle.radix_tree.proofs.Words.{Content, content_of, KeepsRoutes, name_back, link_out, Lodged}
+use Rattle.radix_tree.proofs.ChainNeighbours.{some_is, IsMember, leaf_chain, member_once, own_out, IsUnlinked, before_there, behind_there, IsLeft}
+use Rattle.radix_tree.proofs.ChainNeighbours.{out_chain}
 
 module _ {V : Type 0} where
   -- ---- each room keeps its route
   pub unlinked_routes : (m new : Lodged V) (l : Leaf) → ((n : ℕ) → leaves_in new n ≡ link_out l n (leaves_in m n)) → KeepsRoutes m new
-  unlinked_routes m new l is n = ap (λ (o : Option (LeafPart V)). content_of o) (is n)
+  unlinked_routes m new l is n = ap content_of (is n)
       ∙ next_same l.previous l.next n (name_back l.next l.above l.previous n (leaves_in m n)) ∙ back_same l.next l.above l.previous n (leaves_in m n)
 
   pub routes_some : (m new : Lodged V) → KeepsRoutes m new → (n : ℕ) → is_some (leaves_in new n) ≡ is_some (leaves_in m n)
@@ -35,39 +35,38 @@ module _ {V : Type 0} where
   -- ---- the whole
   abbrev late_here : (m : Lodged V) {root : Node} (n : ℕ) (w : IsWholeBut m root (late_at n) nobody_out) (p : LeafPart V) (b : IsMember m w.part n p)
       → IsWholeBut m root (late_at b.x.room.number) nobody_out
-  late_here m n w p b = later_than (late_at b.x.room.number) (λ k late. ap (λ (r : ℕ). k == r) b.number ∙ late) w
+  late_here m n w p b = later_than (late_at b.x.room.number) (λ k late. ap (λ r. k == r) b.number ∙ late) w
 
   pub removed_whole : {m new : Lodged V} {root name : Node} {n : ℕ} (w : IsWholeBut m root (late_at n) nobody_out) {p : LeafPart V} (b : IsMember m w.part n p)
       → masks_in m n ≡ None → IsUnlinked m new p.leaf
       → IsLeft m new b.x.entry.key w.part b.part b.front b.back name → IsWholeBut new name nobody_late (out_at n)
-  removed_whole {m = m} {new = new} {n = n} w {p = p} b unmarked u l = subst (λ (z : Node). IsWholeBut new z nobody_late (out_at n)) l.named
-      (subst (λ (k : ℕ). IsWholeBut new (root_after b.part.above (LeafOf l.cons.first.room) (name_of w.part.tree)) nobody_late (out_at k)) b.number
+  removed_whole {m = m} {new = new} {n = n} w {p = p} b unmarked u l = subst (λ z. IsWholeBut new z nobody_late (out_at n)) l.named
+      (subst (λ k. IsWholeBut new (root_after b.part.above (LeafOf l.cons.first.room) (name_of w.part.tree)) nobody_late (out_at k)) b.number
       (shrunk_whole m new b.x.entry.key b.front b.back b.x (late_here m n w p b) b.part b.ups b.way (out_chain m new w n p b u l) (member_once m w b)
-      (ap (λ (k : ℕ). masks_in m k) b.number ∙ unmarked) (routes_some m new (unlinked_routes m new p.leaf u.leaves))))
+      (ap (masks_in m) b.number ∙ unmarked) (routes_some m new (unlinked_routes m new p.leaf u.leaves))))
 
   pub removed_routes : {m new : Lodged V} {root name : Node} {n : ℕ} (w : IsWholeBut m root (late_at n) nobody_out) (p : LeafPart V)
       (b : IsMember m w.part n p) → IsUnlinked m new p.leaf
       → IsLeft m new b.x.entry.key w.part b.part b.front b.back name → Gains (shown_entry p) (shown new (Some name)) (shown m (Some root))
   removed_routes {m = m} {new = new} {root = root} {name = name} {n = n} w p b u l =
-      subst (λ (e : Entry V). Gains e (shown new (Some name)) (shown m (Some root))) (sym (ap (λ (q : LeafPart V). shown_entry q) b.part_is))
-      (subst (λ (z : Node). Gains b.x.entry (shown new (Some z)) (shown m (Some root))) l.named
+      subst (λ e. Gains e (shown new (Some name)) (shown m (Some root))) (sym (ap shown_entry b.part_is))
+      (subst (λ z. Gains b.x.entry (shown new (Some z)) (shown m (Some root))) l.named
       (shrunk_routes m new root b.front b.back b.x w b.part b.ups b.way (out_chain m new w n p b u l)))
 
   pub own_kept : {m new : Lodged V} {root : Node} {late : ℕ → Bool} (w : IsWholeBut m root late nobody_out) {n : ℕ} {p : LeafPart V}
       (b : IsMember m w.part n p) → IsUnlinked m new p.leaf → leaves_in new n ≡ leaves_in m n
   own_kept {m = m} {new = new} w {n = n} {p = p} b u =
-      out_others (leaves_in m) (leaves_in new) b.front b.back p.leaf n (ap (λ (q : LeafPart V). q.leaf.next) b.part_is)
-      (ap (λ (q : LeafPart V). q.leaf.previous) b.part_is) (u.leaves n) (own_out m w n p b)
+      out_others (leaves_in m) (leaves_in new) b.front b.back p.leaf n (ap (λ q. q.leaf.next) b.part_is)
+      (ap (λ q. q.leaf.previous) b.part_is) (u.leaves n) (own_out m w n p b)
 
   pub left_bits : {m new : Lodged V} {key : ℕ} {whole at : Part m} {front back : List (Placed V)} {name : Node} → IsLeft m new key whole at front back name
       → (n : ℕ) → is_some (bits_in new n) ≡ is_some (bits_in m n)
-  left_bits {m = m} {key = key} {at = at} l n =
-      ap (λ (o : Option BitPart). is_some o) (l.bits n) ∙ turn_some at.above key n (LeafOf l.cons.first.room) (bits_in m n)
+  left_bits {m = m} {key = key} {at = at} l n = ap is_some (l.bits n) ∙ turn_some at.above key n (LeafOf l.cons.first.room) (bits_in m n)
 
   -- ---- the other rooms of the key
   way_spare : (m : Lodged V) (key : ℕ) (whole at : Part m) (ups : List (Part m)) → Way key whole at ups → HaveOneFork (bits_in m) whole.tree
       → HaveOneFork (bits_in m) at.tree
-  way_spare m key whole at [] way spare = subst (λ (p : Part m). HaveOneFork (bits_in m) p.tree) (sym way) spare
+  way_spare m key whole at [] way spare = subst (λ p. HaveOneFork (bits_in m) p.tree) (sym way) spare
   way_spare m key whole at (p ∷ ps) way spare =
       let both = subst (HaveOneFork (bits_in m)) way.0.at.is (way_spare m key whole p ps way.1 spare) in
       elim way.0.side [ inl e ↦ subst (HaveOneFork (bits_in m)) (sym e.0) both.0 | inr e ↦ subst (HaveOneFork (bits_in m)) (sym e.0) both.1 ]
@@ -90,18 +89,18 @@ module _ {V : Type 0} where
       let some = left_bits l in
       let q =
       of_that_key (leaves_in m k) (leaves_in m k) p.leaf.key refl (sym (routes_key m new (unlinked_routes m new p.leaf u.leaves) p.leaf.key k) ∙ keyed) in
-      let counts : leaves_at k w.part.tree + nobody_out k ≡ one_if (is_some (leaves_in m k)) = w.leaves k in
-      let one : one_if (is_some (leaves_in m k)) ≡ 1 = ap (λ (o : Option (LeafPart V)). one_if (is_some o)) q.is in
+      let counts = w.leaves k in
+      let one = ap (λ o. one_if (is_some o)) q.is in
       let r = room_route m w.part k q.is (omega arith) in
-      let key : r.route.entry.key ≡ b.x.entry.key = ap (λ (e : Entry V). e.key) r.entry ∙ q.key_is ∙ ap (λ (z : LeafPart V). z.leaf.key) b.part_is in
+      let key = ap (λ e. e.key) r.entry ∙ q.key_is ∙ ap (λ z. z.leaf.key) b.part_is in
       let at = way_leads m w.part b.part b.ups b.way r.route r.is_in key in
       let among = subst (IsAmong r.route) b.split (subst (IsIn r.route) b.is at) in
       let spare = subst (HasOneFork (bits_in m)) b.split (subst (HaveOneFork (bits_in m)) b.is (way_spare m b.x.entry.key w.part b.part b.ups b.way w.spare)) in
-      let own = some_is (bits_in m n) (sym (some n) ∙ ap (λ (o : Option BitPart). is_some o) is) in
+      let own = some_is (bits_in m n) (sym (some n) ∙ ap is_some is) in
       same_none (bits_in new k) (some k) (elim (among_less b.front b.back b.x r.route among) [
-        | inl e ↦ absurd (other (sym r.number ∙ ap (λ (z : Placed V). z.room.number) (sym e) ∙ b.number))
-        | inr among_others ↦ ap (λ (z : ℕ). bits_in m z) (sym r.number)
-            ∙ others_idle (bits_in m) b.front b.back b.x r.route spare (ap (λ (z : ℕ). bits_in m z) b.number ∙ own.1) among_others
+        | inl e ↦ absurd (other (sym r.number ∙ ap (λ z. z.room.number) (sym e) ∙ b.number))
+        | inr among_others ↦ ap (bits_in m) (sym r.number)
+            ∙ others_idle (bits_in m) b.front b.back b.x r.route spare (ap (bits_in m) b.number ∙ own.1) among_others
       ])
 
   -- ---- a neighbour afterwards
@@ -110,7 +109,7 @@ module _ {V : Type 0} where
   counted_key m at z {c = c} r is same some =
       let y = among_at r c some in
       let s = tree_said (leaves_in m) (bits_in m) at.above at.tree at.stands y.0 (subst (IsIn y.0) (sym is) (subst (IsAmong y.0) (sym same) y.1)) in
-      ap (λ (k : ℕ). has_key m z.entry.key k) (sym y.2) ∙ ap (λ (o : Option (LeafPart V)). is_of_key z.entry.key o) s.3
+      ap (has_key m z.entry.key) (sym y.2) ∙ ap (is_of_key z.entry.key) s.3
       ∙ eq-eqb y.0.entry.key z.entry.key (chain_key z.entry.key 34 c (leaf_chain at is same) y.0 y.1)
 
   pub neighbour : {m new : Lodged V} {root : Node} {late : ℕ → Bool} (w : IsWholeBut m root late nobody_out) {n : ℕ} (p : LeafPart V)
@@ -118,24 +117,19 @@ module _ {V : Type 0} where
       → (p.leaf.next ≡ Some to) ⊎ (p.leaf.previous ≡ Some to) → Has new to × (to.number ≡ n → ⊥) × (has_key new p.leaf.key to.number ≡ true)
   neighbour {m = m} {new = new} w {n = n} p b u to side =
       let there = ⊎_elim (λ e. behind_there b to e) (λ e. before_there b to e) side in
-      let sum : members_at to.number (b.front ++ b.back) ≡ members_at to.number b.front + members_at to.number b.back =
-      members_append to.number b.front b.back in
-      let more : members_at to.number (b.front ++ (b.x ∷ b.back)) ≡ members_at to.number (b.front ++ b.back) + one_if (b.x.room.number == to.number) =
-      members_more to.number b.front b.back b.x in
+      let sum = members_append to.number b.front b.back in
+      let more = members_more to.number b.front b.back b.x in
       let some : 1 ≤ members_at to.number (b.front ++ b.back) = elim side [
-        | inl e ↦ let own : 1 ≤ members_at to.number b.back =
-            first_among b.back to (sym (ap (λ (q : LeafPart V). q.leaf.next) b.part_is) ∙ e) in omega arith
-        | inr e ↦ let own : 1 ≤ members_at to.number b.front =
-            last_among b.front to (sym (ap (λ (q : LeafPart V). q.leaf.previous) b.part_is) ∙ e) in omega arith
+        | inl e ↦ let own = first_among b.back to (sym (ap (λ q. q.leaf.next) b.part_is) ∙ e) in omega arith
+        | inr e ↦ let own = last_among b.front to (sym (ap (λ q. q.leaf.previous) b.part_is) ∙ e) in omega arith
       ] in
       let all : 1 ≤ members_at to.number (b.front ++ (b.x ∷ b.back)) = omega arith in
-      let first_key : b.first.entry.key ≡ p.leaf.key =
-      sym (chain_key b.first.entry.key 34 (b.front ++ (b.x ∷ b.back)) (leaf_chain b.part b.is b.split) b.x (among_own b.front b.back b.x))
-      ∙ sym (ap (λ (q : LeafPart V). q.leaf.key) b.part_is) in
-      let out : members_at n (b.front ++ b.back) ≡ 0 = own_out m w n p b in (
+      let first_key = sym (chain_key b.first.entry.key 34 (b.front ++ (b.x ∷ b.back)) (leaf_chain b.part b.is b.split) b.x (among_own b.front b.back b.x))
+      ∙ sym (ap (λ q. q.leaf.key) b.part_is) in
+      let out = own_out m w n p b in (
         Has-linked_out m new p.leaf to u.leaves there,
-        λ same. let at : members_at to.number (b.front ++ b.back) ≡ members_at n (b.front ++ b.back) = ap (λ (k : ℕ). members_at k (b.front ++ b.back)) same in
+        λ same. let at = ap (λ k. members_at k (b.front ++ b.back)) same in
             omega arith,
-        routes_key m new (unlinked_routes m new p.leaf u.leaves) p.leaf.key to.number ∙ ap (λ (k : ℕ). has_key m k to.number) (sym first_key)
+        routes_key m new (unlinked_routes m new p.leaf u.leaves) p.leaf.key to.number ∙ ap (λ k. has_key m k to.number) (sym first_key)
             ∙ counted_key m b.part b.first to.number b.is b.split all,
       )

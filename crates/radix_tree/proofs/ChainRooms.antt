@@ -1,8 +1,8 @@
 -- The route of a room that is in a tree.
+use Rattle.radix_tree.proofs.{RoomReads.inside, TreeMembers.tree_said}
 use Rattle.radix_tree.proofs.Words.{◌≡◌, ℕ, ◌+◌, ◌≤◌, ◌==◌, true, false, List, [], ◌∷◌, Some, refl, sym, ap, ◌∙◌, inl, inr, arith, eqb-true, cases_lt}
 use Rattle.radix_tree.proofs.Words.{Placed, Tree, leaf, fork, IsAmong, IsIn, LeafPart, Part, leaves_in, bits_in, one_if, members_at, leaves_at}
 use Rattle.radix_tree.proofs.Words.{shown_entry, Lodged}
-use Rattle.radix_tree.proofs.{RoomReads.inside, TreeMembers.tree_said}
 
 module _ {V : Type 0} where
   abbrev pub AmongAt : ℕ → List (Placed V) → Type 0
@@ -38,11 +38,5 @@ module _ {V : Type 0} where
   room_route m whole n said some =
       let y = in_at n whole.tree some in
       let s = tree_said (leaves_in m) (bits_in m) whole.above whole.tree whole.stands y.0 y.1 in
-      let same = inside (sym s.3 ∙ ap (λ (k : ℕ). leaves_in m k) y.2 ∙ said) in
-      record {
-        route = y.0;
-        is_in = y.1;
-        number = y.2;
-        block = ap (λ (q : LeafPart V). q.block) same;
-        entry = ap (λ (q : LeafPart V). shown_entry q) same;
-      }
+      let same = inside (sym s.3 ∙ ap (leaves_in m) y.2 ∙ said) in
+      record { route = y.0; is_in = y.1; number = y.2; block = ap (λ q. q.block) same; entry = ap shown_entry same }

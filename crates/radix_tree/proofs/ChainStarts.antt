@@ -1,9 +1,9 @@
 -- A walk back along a chain, to its first member.
+use Rattle.radix_tree.proofs.{RoomReads.inside, RoomReads.none_some, RoomReads.AreLinks, RoomReads.Has-leaf, RoomReads.leaf_read, TreeMembers.chain_below}
+use Rattle.radix_tree.proofs.{TreeMembers.chain_route}
 use Rattle.radix_tree.proofs.Words.{◌≡◌, ℕ, ◌+◌, ◌≤◌, ◌<◌, ◌⊎◌, List, [], ◌∷◌, Option, Some, None, refl, inl, inr, sym, ap, ◌∙◌, subst, arith, Has}
 use Rattle.radix_tree.proofs.Words.{leaf_of, Id, Leaf, Links, Placed, IsAmong, IsChain, LeafPart, Leaves, Run, leaves_in, first_room, leaf_part}
 use Rattle.radix_tree.proofs.Words.{ChainStands, Lodged}
-use Rattle.radix_tree.proofs.{RoomReads.inside, RoomReads.none_some, RoomReads.AreLinks, RoomReads.Has-leaf, RoomReads.leaf_read, TreeMembers.chain_below}
-use Rattle.radix_tree.proofs.{TreeMembers.chain_route}
 
 module _ {V : Type 0} where
   -- what a member names before it: what is before the list, where it is the first, or a member of a greater rank
@@ -27,7 +27,7 @@ module _ {V : Type 0} where
       → (x : Placed V) → IsAmong x c → Member L c previous x
   member_of L above previous key top [] is stands x among = absurd among
   member_of L above previous key top (y ∷ c) is stands x among = elim among [
-    | inl e ↦ subst (λ (p : Placed V). Member L (y ∷ c) previous p) e
+    | inl e ↦ subst (Member L (y ∷ c) previous) e
         (record { part = leaf_part y above previous (first_room c); said = stands.0; block = refl; prior = inl (refl, refl) })
     | inr behind ↦ let m = member_of L None (Some y.room) key y.entry.rank c is.3 stands.1 x behind in
         record { part = m.part; said = m.said; block = m.block; prior = behind_prior key top y c previous x m.part.leaf.previous is behind m.prior }
@@ -42,15 +42,15 @@ module _ {V : Type 0} where
     pub few : steps ≤ is.entry.rank + 1
 
   member_in : (m : Lodged V) (c : Run m) (x : Placed V) → c.previous ≡ None → IsAmong x c.members → Member (leaves_in m) c.members None x
-  member_in m c x first among = subst (λ (o : Option Id). Member (leaves_in m) c.members o x) first
+  member_in m c x first among = subst (λ o. Member (leaves_in m) c.members o x) first
       (member_of (leaves_in m) c.above c.previous c.key c.top c.members c.is c.stands x among)
 
   said_at : (m : Lodged V) (c : Run m) (x : Placed V) {room : Id} (k : Member (leaves_in m) c.members None x) → x.room ≡ room
       → leaves_in m room.number ≡ Some k.part
-  said_at m c x k is = ap (λ (i : Id). leaves_in m i.number) (sym is) ∙ k.said
+  said_at m c x k is = ap (λ i. leaves_in m i.number) (sym is) ∙ k.said
 
   block_at : (m : Lodged V) (c : Run m) (x : Placed V) {room : Id} (k : Member (leaves_in m) c.members None x) → x.room ≡ room → k.part.block ≡ room.block
-  block_at m c x k is = k.block ∙ ap (λ (i : Id). i.block) is
+  block_at m c x k is = k.block ∙ ap (λ i. i.block) is
 
   pub Has-member : {m : Lodged V} (c : Run m) (x : Placed V) {room : Id} → c.previous ≡ None → IsAmong x c.members → x.room ≡ room → Has m room
   Has-member {m = m} c x {room = room} first among is = let k = member_in m c x first among in Has-leaf m room (said_at m c x k is) (block_at m c x k is)
@@ -61,7 +61,7 @@ module _ {V : Type 0} where
   come {m = m} c x {room = room} steps links first among is few are leaf =
       let k = member_in m c x first among in
       let read = leaf ∙ leaf_read m room links (said_at m c x k is) (block_at m c x k is) are in
-      record { is = x; among = among; room_is = is; prior = subst (Prior c.members None x) (sym (ap (λ (z : Leaf). z.previous) read)) k.prior; few = few }
+      record { is = x; among = among; room_is = is; prior = subst (Prior c.members None x) (sym (ap (λ z. z.previous) read)) k.prior; few = few }
 
   -- at the one before
   pub record Earlier {m : Lodged V} (whole : Run m) (room : Id) (steps : ℕ) : Type 0 where
@@ -73,20 +73,17 @@ module _ {V : Type 0} where
   pub earlier : (m : Lodged V) (c : Run m) {at : Id} {before : Option Id} {room : Id} (steps : ℕ) → Back c at before steps → before ≡ Some room
       → Earlier c room steps
   earlier m c {before = before} steps b is =
-      let few : steps ≤ b.is.entry.rank + 1 = b.few in
+      let few = b.few in
       elim b.prior [
         | inl first ↦ absurd (none_some (sym first.1 ∙ is))
-        | inr w ↦ let greater : b.is.entry.rank < w.0.entry.rank = w.3 in
+        | inr w ↦ let greater = w.3 in
             record { is = w.0; among = w.1; room_is = inside (sym w.2 ∙ is); few = omega arith }
       ]
 
   pub few_at : (m : Lodged V) (c : Run m) {at : Id} {before : Option Id} (steps : ℕ) → Back c at before steps → steps ≤ 34
   few_at m c steps b =
-      let most : b.is.entry.rank ≤ 33 = (chain_route c.key c.top c.members c.is b.is b.among).rank in let few : steps ≤ b.is.entry.rank + 1 = b.few in
+      let most = (chain_route c.key c.top c.members c.is b.is b.among).rank in let few = b.few in
       omega arith
 
   pub ended : (m : Lodged V) (c : Run m) {at : Id} {before : Option Id} {steps : ℕ} → Back c at before steps → before ≡ None → first_room c.members ≡ Some at
-  ended m c {before = before} b none = elim b.prior [
-    | inl first ↦ first.0 ∙ ap (λ (i : Id). Some i) b.room_is
-    | inr w ↦ absurd (none_some (sym none ∙ w.2))
-  ]
+  ended m c {before = before} b none = elim b.prior [ inl first ↦ first.0 ∙ ap Some b.room_is | inr w ↦ absurd (none_some (sym none ∙ w.2)) ]

@@ -1,12 +1,12 @@
 -- The chain of a leaf has a member more, or one less, and so the whole.
-use Rattle.radix_tree.proofs.Words.{◌≡◌, ℕ, ◌+◌, ◌≤◌, ◌⊎◌, ◌==◌, ◌||◌, Bool, true≢false, List, ◌∷◌, ◌++◌, Option, Some, None, sym, ap, ◌∙◌, subst}
-use Rattle.radix_tree.proofs.Words.{inl, inr, arith, eqb-true, eq-eqb, is_some, Node, LeafOf, Placed, leaf, IsAmong, IsIn, LeafPart, Part, leaves_in}
-use Rattle.radix_tree.proofs.Words.{bits_in, masks_in, name_of, Way, one_if, members_at, leaves_at, shown, root_after, Gains, IsWholeBut, nobody_late}
-use Rattle.radix_tree.proofs.Words.{late_at, nobody_out, out_at, Lodged}
+use Rattle.radix_tree.proofs.{WholeParts.Fits, WholeRoutes.gains_spliced, WholeRoutes.loses_spliced}
+use Rattle.radix_tree.proofs.Words.{◌≡◌, ℕ, ◌≤◌, ◌⊎◌, ◌==◌, ◌||◌, Bool, true≢false, List, ◌∷◌, ◌++◌, Some, None, sym, ap, ◌∙◌, subst, inl, inr, arith}
+use Rattle.radix_tree.proofs.Words.{eqb-true, eq-eqb, is_some, Node, LeafOf, Placed, leaf, IsAmong, IsIn, Part, leaves_in, bits_in, masks_in, name_of}
+use Rattle.radix_tree.proofs.Words.{Way, one_if, members_at, leaves_at, shown, root_after, Gains, IsWholeBut, nobody_late, late_at, nobody_out, out_at}
+use Rattle.radix_tree.proofs.Words.{Lodged}
 use Rattle.radix_tree.proofs.ChainLists.{members_more, member_counts, among_more, among_own, among_less, one_fork_less, one_fork_more, routes_more}
 use Rattle.radix_tree.proofs.ChainExchanges.{one_more, turned_about, Rechained, under, old_counts, now_counts, rechained, spliced, old_among, among_old}
 use Rattle.radix_tree.proofs.ChainExchanges.{no_home, same_marks, not_marked, same_forks}
-use Rattle.radix_tree.proofs.{WholeParts.Fits, WholeRoutes.gains_spliced, WholeRoutes.loses_spliced}
 
 module _ {V : Type 0} where
   -- ---- a member more
@@ -22,11 +22,10 @@ module _ {V : Type 0} where
       λ y is. among_less front back x y (subst (IsAmong y) (sym r.cons.is) is) in
       record {
         leaves = λ n.
-            let o : leaves_at n at.tree ≡ members_at n (front ++ back) = old_counts r n in
-            let t : members_at n (r.cons.first ∷ r.cons.rest) ≡ members_at n (front ++ (x ∷ back)) = now_counts m new r n in
-            let more : members_at n (front ++ (x ∷ back)) ≡ members_at n (front ++ back) + one_if (x.room.number == n) = members_more n front back x in
-            let rise : one_if (is_some (leaves_in new n)) ≡ one_if (x.room.number == n) + one_if (is_some (leaves_in m n)) =
-            ap one_if (rooms n) ∙ one_more (λ k. is_some (leaves_in m k)) x.room.number n (ap (λ (p : Option (LeafPart V)). is_some p) free) in omega arith;
+            let o = old_counts r n in
+            let t = now_counts m new r n in
+            let more = members_more n front back x in
+            let rise = ap one_if (rooms n) ∙ one_more (λ k. is_some (leaves_in m k)) x.room.number n (ap is_some free) in omega arith;
         forks = λ n. same_forks m new key whole at r n;
         heads = λ n none some. r.heads n;
         masks = λ n none some. r.masks n;
@@ -40,7 +39,7 @@ module _ {V : Type 0} where
         gone = λ y is below marked. same_marks r y marked;
         lists = tt;
         all = λ y is home. elim (split y is) [
-          | inl e ↦ inl (eq-eqb y.room.number x.room.number (ap (λ (p : Placed V). p.room.number) (sym e)))
+          | inl e ↦ inl (eq-eqb y.room.number x.room.number (ap (λ p. p.room.number) (sym e)))
           | inr own ↦ inr (
             among_old r y own,
             elim home [ inl lt ↦ inl lt | inr never ↦ absurd never ],
@@ -60,11 +59,11 @@ module _ {V : Type 0} where
       let own_now : (y : Placed V) → IsIn y (leaf r.cons.first r.cons.rest) → IsAmong y (front ++ back) = λ y is. subst (IsAmong y) (sym r.cons.is) is in
       record {
         leaves = λ n.
-            let o : leaves_at n at.tree ≡ members_at n (front ++ (x ∷ back)) = old_counts r n in
-            let t : members_at n (r.cons.first ∷ r.cons.rest) ≡ members_at n (front ++ back) = now_counts m new r n in
-            let more : members_at n (front ++ (x ∷ back)) ≡ members_at n (front ++ back) + one_if (x.room.number == n) = members_more n front back x in
-            let same : one_if (is_some (leaves_in new n)) ≡ one_if (is_some (leaves_in m n)) = ap one_if (rooms n) in
-            let about : one_if (n == x.room.number) ≡ one_if (x.room.number == n) = turned_about x.room.number n in omega arith;
+            let o = old_counts r n in
+            let t = now_counts m new r n in
+            let more = members_more n front back x in
+            let same = ap one_if (rooms n) in
+            let about = turned_about x.room.number n in omega arith;
         forks = λ n. same_forks m new key whole at r n;
         heads = λ n none some. r.heads n;
         masks = λ n none some. r.masks n;
@@ -85,18 +84,17 @@ module _ {V : Type 0} where
           elim home [ inl lt ↦ inl lt | inr never ↦ absurd never ],
           λ marked. same_marks r y marked,
           λ late.
-              let same : y.room.number ≡ x.room.number = eqb-true y.room.number x.room.number late in
-              let some : 1 ≤ members_at y.room.number (front ++ back) = member_counts (front ++ back) y (own_now y is) in
-              let more : members_at y.room.number (front ++ (x ∷ back)) ≡ members_at y.room.number (front ++ back) + one_if (x.room.number == y.room.number) =
-              members_more y.room.number front back x in
-              let one : one_if (x.room.number == y.room.number) ≡ 1 = ap one_if (eq-eqb x.room.number y.room.number (sym same)) in
-              let most : members_at y.room.number (front ++ (x ∷ back)) ≤ 1 = once y.room.number in absurd (omega arith),
+              let same = eqb-true y.room.number x.room.number late in
+              let some = member_counts (front ++ back) y (own_now y is) in
+              let more = members_more y.room.number front back x in
+              let one = ap one_if (eq-eqb x.room.number y.room.number (sym same)) in
+              let most = once y.room.number in absurd (omega arith),
         );
         late_aside = λ n none some late.
-            let same : n ≡ x.room.number = eqb-true n x.room.number late in
-            let own : 1 ≤ members_at x.room.number (front ++ (x ∷ back)) = member_counts (front ++ (x ∷ back)) x (among_own front back x) in
-            let counts : leaves_at x.room.number at.tree ≡ members_at x.room.number (front ++ (x ∷ back)) = old_counts r x.room.number in
-            let gone : leaves_at x.room.number at.tree ≡ 0 = ap (λ (k : ℕ). leaves_at k at.tree) (sym same) ∙ none in absurd (omega arith);
+            let same = eqb-true n x.room.number late in
+            let own = member_counts (front ++ (x ∷ back)) x (among_own front back x) in
+            let counts = old_counts r x.room.number in
+            let gone = ap (λ k. leaves_at k at.tree) (sym same) ∙ none in absurd (omega arith);
       }
 
   -- ---- the whole

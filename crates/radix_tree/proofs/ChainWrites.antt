@@ -1,5 +1,5 @@
 -- Writes to the links of a chain's members.
-use Rattle.radix_tree.proofs.Words.{◌≡◌, ℕ, ◌==◌, Bool, true, false, if◌then◌else◌, Option, Some, None, refl, sym, ap, ◌∙◌, eqb-true, eq-eqb, ne_eqb, Has}
+use Rattle.radix_tree.proofs.Words.{◌≡◌, ℕ, ◌==◌, true, false, if◌then◌else◌, Option, Some, None, refl, sym, ap, ◌∙◌, eqb-true, eq-eqb, ne_eqb, Has}
 use Rattle.radix_tree.proofs.Words.{leaf_of, Id, Leaf, Links, LeafPart, leaf_in, leaves_in, with_leaf, put_leaf, lodge_leaf, KeepsLeaves, leaf_next}
 use Rattle.radix_tree.proofs.Words.{leaf_back, name_next, name_back, link_in, link_out, Lodged}
 use Rattle.radix_tree.proofs.RoomReads.{none_some, AreLinks, Has-leaf}
@@ -17,8 +17,8 @@ module _ {V : Type 0} where
       let read = leaf ∙ ap leaf_of (are h.room h.at) in
       elim (n == room.number) as (λ t. (n == room.number) ≡ t
       → (if t then with_leaf (record l { next = next }) (leaves_in m n) else leaves_in m n) ≡ (if t then leaf_next next (leaves_in m n) else leaves_in m n)) [
-        | true ↦ λ e. let said = ap (λ (k : ℕ). leaves_in m k) (eqb-true n room.number e) ∙ own_said h in
-            ap (with_leaf (record l { next = next })) said ∙ ap (λ (z : Leaf). with_leaf (record z { next = next }) (Some (own_part h))) read
+        | true ↦ λ e. let said = ap (leaves_in m) (eqb-true n room.number e) ∙ own_said h in
+            ap (with_leaf (record l { next = next })) said ∙ ap (λ z. with_leaf (record z { next = next }) (Some (own_part h))) read
             ∙ sym (ap (leaf_next next) said)
         | false ↦ λ e. refl
       ] refl
@@ -31,9 +31,9 @@ module _ {V : Type 0} where
       elim (n == room.number) as (λ t. (n == room.number) ≡ t
       → (if t then with_leaf (record l { above = above; previous = previous }) (leaves_in m n) else leaves_in m n)
       ≡ (if t then leaf_back above previous (leaves_in m n) else leaves_in m n)) [
-        | true ↦ λ e. let said = ap (λ (k : ℕ). leaves_in m k) (eqb-true n room.number e) ∙ own_said h in
+        | true ↦ λ e. let said = ap (leaves_in m) (eqb-true n room.number e) ∙ own_said h in
             ap (with_leaf (record l { above = above; previous = previous })) said
-            ∙ ap (λ (z : Leaf). with_leaf (record z { above = above; previous = previous }) (Some (own_part h))) read
+            ∙ ap (λ z. with_leaf (record z { above = above; previous = previous }) (Some (own_part h))) read
             ∙ sym (ap (leaf_back above previous) said)
         | false ↦ λ e. refl
       ] refl
@@ -55,7 +55,7 @@ module _ {V : Type 0} where
       → IsPart said at → IsPart (lodge_leaf room value l at.number said) at
   lodged_part room at value l {said = said} other p = record {
     part = p.part;
-    is = ap (λ (t : Bool). if t then Some (record { block = room.block; value = value; leaf = l }) else said) (ne_eqb at.number room.number other) ∙ p.is;
+    is = ap (λ t. if t then Some (record { block = room.block; value = value; leaf = l }) else said) (ne_eqb at.number room.number other) ∙ p.is;
     block = p.block;
   }
 
@@ -103,7 +103,7 @@ module _ {V : Type 0} where
 
   -- a room that is in the map has no free number
   pub not_free : (m : Lodged V) (room at : Id) → leaves_in m room.number ≡ None → Has m at → at.number ≡ room.number → ⊥
-  not_free m room at free h same = none_some (sym free ∙ ap (λ (k : ℕ). leaves_in m k) (sym same) ∙ own_said h)
+  not_free m room at free h same = none_some (sym free ∙ ap (leaves_in m) (sym same) ∙ own_said h)
 
   pub Has-lodged : {m : Lodged V} (new : Lodged V) (room at : Id) (value : V) (l : Leaf) → leaves_in m room.number ≡ None
       → ((n : ℕ) → leaves_in new n ≡ lodge_leaf room value l n (leaves_in m n)) → Has m at → Has new at
@@ -123,7 +123,7 @@ module _ {V : Type 0} where
   Has-linked_in m new room value l is =
       let lodged : IsPart (lodge_leaf room value l room.number (leaves_in m room.number)) room = record {
         part = record { block = room.block; value = value; leaf = l };
-        is = ap (λ (t : Bool). if t then Some (record { block = room.block; value = value; leaf = l }) else leaves_in m room.number)
+        is = ap (λ t. if t then Some (record { block = room.block; value = value; leaf = l }) else leaves_in m room.number)
             (eq-eqb room.number room.number refl);
         block = refl;
       } in

@@ -1,8 +1,8 @@
 -- A walk up a tree, from a leaf of a key.
-use Rattle.radix_tree.proofs.Words.{◌≡◌, ℕ, ◌+◌, ◌≤◌, List, [], ◌∷◌, Option, Some, None, refl, sym, ap, ◌∙◌, subst, arith, Counter, Id, BitNode, Leaf}
-use Rattle.radix_tree.proofs.Words.{IsBitNode, IsBitNodeOf, ReadsOnce, LeafPart, Part, leaves_in, ForkAt, LedTo, Beneath, Way, fork, IsTree, Lodged}
 use Rattle.radix_tree.proofs.{Lifts.part_at, Lifts.leaf_said, Parts.bit_part_of, Parts.fork_is, Parts.fork_stands, RoomReads.IsNode, RoomReads.inside}
 use Rattle.radix_tree.proofs.{RoomReads.none_some, RoomReads.node_said}
+use Rattle.radix_tree.proofs.Words.{◌≡◌, ℕ, ◌+◌, ◌≤◌, List, [], ◌∷◌, Option, Some, None, refl, sym, ap, ◌∙◌, subst, arith, Counter, Id, BitNode, Leaf}
+use Rattle.radix_tree.proofs.Words.{IsBitNode, IsBitNodeOf, ReadsOnce, LeafPart, Part, leaves_in, ForkAt, LedTo, Beneath, Way, fork, IsTree, Lodged}
 
 module _ {V : Type 0} {m : Lodged V} where
   -- a walk up that has come to what is above a part, of which something holds
@@ -18,7 +18,7 @@ module _ {V : Type 0} {m : Lodged V} where
       → ((p : LeafPart V) → leaves_in m room.number ≡ Some p → f ≡ p.leaf) → Holds l.part → Climb key whole Holds f.above
   begun {room = room} l said holds = record {
     part = l.part;
-    above = sym (ap (λ (z : Leaf). z.above) (said (part_at m l.leaf) (leaf_said m l.leaf)));
+    above = sym (ap (λ z. z.above) (said (part_at m l.leaf) (leaf_said m l.leaf)));
     ups = l.ups;
     way = l.way;
     holds = holds;
@@ -34,7 +34,7 @@ module _ {V : Type 0} {m : Lodged V} where
 
   over_of : (key : ℕ) {whole under : Part m} {room : Id} (ups : List (Part m)) → Way key whole under ups → whole.above ≡ None → under.above ≡ Some room
       → Over key whole under room
-  over_of key [] way top is = absurd (none_some (sym top ∙ sym (ap (λ (p : Part m). p.above) way) ∙ is))
+  over_of key [] way top is = absurd (none_some (sym top ∙ sym (ap (λ p. p.above) way) ∙ is))
   over_of key (p ∷ ps) way top is = record { part = p; beneath = way.0; room_is = inside (sym way.0.above ∙ is); ups = ps; way = way.1 }
 
   pub over : {key : ℕ} {whole : Part m} {Holds : Part m → Type 0} {at : Option Id} {room : Id} → whole.above ≡ None → (c : Climb key whole Holds at)
@@ -43,7 +43,7 @@ module _ {V : Type 0} {m : Lodged V} where
 
   abbrev pub fork_over : {key : ℕ} {whole under : Part m} {room : Id} (o : Over key whole under room) → ForkAt o.part room
   fork_over o = let f = o.beneath.at in
-      record { bit = f.bit; zero = f.zero; one = f.one; is = f.is ∙ ap (λ (i : Id). fork i f.bit f.zero f.one) o.room_is }
+      record { bit = f.bit; zero = f.zero; one = f.one; is = f.is ∙ ap (λ i. fork i f.bit f.zero f.one) o.room_is }
 
   pub used : {p : Part m} {room : Id} (f : ForkAt p room) → IsBitNode m room
   used {p} {room} f = record { part = bit_part_of m f; said = (fork_stands m f).0; block = refl }

@@ -1,12 +1,12 @@
 -- The list of masks of a bit node is cut at a bit, or a leaf has none.
-use Rattle.radix_tree.proofs.Words.{◌≡◌, ℕ, ◌+◌, ◌<◌, ◌≤◌, ◌==◌, Bool, List, [], Option, None, refl, sym, ap, ◌∙◌, subst, inl, inr, arith, is_some, Id}
-use Rattle.radix_tree.proofs.Words.{Node, LeafOf, BitOf, Placed, Tree, leaf, fork, IsAmong, IsIn, IsTree, LeafPart, Part, leaves_in, bits_in, heads_in}
-use Rattle.radix_tree.proofs.Words.{masks_in, leaf_part, name_of, ForkAt, Way, one_if, leaves_at, forks_at, HasHome, AreOnce, low_past, IsMarked}
-use Rattle.radix_tree.proofs.Words.{IsMaskList, MarkedIn, MarkedLists, IsWholeBut, IsMasks, IsAside, past_bit, up_to_bit, KeepsLeaves, KeepsBits, Lodged}
-use Rattle.radix_tree.proofs.MaskLists.{not_below_among, among_not_below, below_among, among_below, falls_not_below, falls_below, masks_listed}
 use Rattle.radix_tree.proofs.{RoomReads.inside, TreeMembers.tree_said, Parts.fork_is, Parts.fork_named, PartRooms.one_if_same, PartRooms.elsewhere}
 use Rattle.radix_tree.proofs.{PartRooms.way_once, Plugs.counted_leaf, Plugs.home_plug, Plugs.plug_in, PlugLists.falls_between, PlugLists.lists_at}
 use Rattle.radix_tree.proofs.{FrameLists.lists_stay, WholeParts.some_of, LeafWays.on_way}
+use Rattle.radix_tree.proofs.Words.{◌≡◌, ℕ, ◌+◌, ◌<◌, ◌≤◌, ◌==◌, Bool, List, [], Option, None, refl, sym, ap, ◌∙◌, subst, inl, inr, arith, is_some, Id}
+use Rattle.radix_tree.proofs.Words.{Node, LeafOf, BitOf, Placed, Tree, leaf, fork, IsAmong, IsIn, IsTree, Part, leaves_in, bits_in, heads_in, masks_in}
+use Rattle.radix_tree.proofs.Words.{name_of, ForkAt, Way, one_if, leaves_at, forks_at, HasHome, AreOnce, IsMarked, IsMaskList, MarkedIn, MarkedLists}
+use Rattle.radix_tree.proofs.Words.{IsWholeBut, IsMasks, IsAside, past_bit, up_to_bit, KeepsLeaves, KeepsBits, Lodged}
+use Rattle.radix_tree.proofs.MaskLists.{not_below_among, among_not_below, below_among, among_below, falls_not_below, falls_below, masks_listed}
 
 same_bit_node : {x y : Id} → BitOf x ≡ BitOf y → x ≡ y
 same_bit_node e = cc
@@ -18,8 +18,8 @@ module _ {V : Type 0} where
   same_pair m p x y one other same =
       let a = tree_said (leaves_in m) (bits_in m) p.above p.tree p.stands x one in
       let b = tree_said (leaves_in m) (bits_in m) p.above p.tree p.stands y other in
-      let e : leaf_part x a.0 a.1 a.2 ≡ leaf_part y b.0 b.1 b.2 = inside (sym a.3 ∙ ap (leaves_in m) same ∙ b.3) in
-      (ap (λ (l : LeafPart V). l.leaf.key) e, ap (λ (l : LeafPart V). l.leaf.rank) e)
+      let e = inside (sym a.3 ∙ ap (leaves_in m) same ∙ b.3) in
+      (ap (λ l. l.leaf.key) e, ap (λ l. l.leaf.rank) e)
 
   -- the masks of a part, once those of its bit node that are past a bit are listed there, and the others are a list of their own
   pub record IsCut (m new : Lodged V) (low bit : ℕ) (t : Tree V) (first : Option Id) : Type 0 where
@@ -42,14 +42,13 @@ module _ {V : Type 0} where
       let z = w.listed x.room.number p.0 p.1 in
       let o = on_way m key w.part at ups way in
       let whole_is = subst (IsTree w.part.low) o.was w.part.is in
-      let in_whole : IsIn x w.part.tree = subst (IsIn x) (sym o.was) (plug_in o.frames at.tree x there) in
+      let in_whole = subst (IsIn x) (sym o.was) (plug_in o.frames at.tree x there) in
       let pair = same_pair m w.part z.0 x z.1 in_whole z.2 in
-      let home : HasHome x.entry.key x.entry.rank w.part.tree =
-      subst (λ (r : ℕ). HasHome x.entry.key r w.part.tree) pair.1 (subst (λ (k : ℕ). HasHome k z.0.entry.rank w.part.tree) pair.0 z.3) in
-      let low : at.low ≡ low_past w.part.low o.frames = o.lowest in
-      elim (home_plug w.part.low o.frames at.tree x whole_is there (subst (λ (t : Tree V). HasHome x.entry.key x.entry.rank t) o.was home)) [
+      let home = subst (λ r. HasHome x.entry.key r w.part.tree) pair.1 (subst (λ k. HasHome k z.0.entry.rank w.part.tree) pair.0 z.3) in
+      let low = o.lowest in
+      elim (home_plug w.part.low o.frames at.tree x whole_is there (subst (HasHome x.entry.key x.entry.rank) o.was home)) [
         | inl above ↦ absurd (omega arith)
-        | inr here ↦ subst (λ (t : Tree V). HasHome x.entry.key x.entry.rank t) is here
+        | inr here ↦ subst (HasHome x.entry.key x.entry.rank) is here
       ]
 
   pub cut_leaf : (m : Lodged V) (low bit : ℕ) {t : Tree V} (y : Placed V) (ys : List (Placed V)) → t ≡ leaf y ys
@@ -83,34 +82,31 @@ module _ {V : Type 0} where
       → ((n : ℕ) → is_some (masks_in new n) ≡ is_some (masks_in m n)) → KeepsLeaves m new → KeepsBits m new → IsCut m new p.low bit p.tree first
   cut_fork m new p room f bit first once rises is lists kept others heads masks marks leaves bits =
       let fork_lists = subst (MarkedLists (heads_in m) (masks_in m) p.low) f.is lists in
-      let l : IsMaskList (masks_in m) (heads_in m room.number) p.low f.bit (MarkedIn (masks_in m) p.tree) =
-      subst (λ (t : Tree V). IsMaskList (masks_in m) (heads_in m room.number) p.low f.bit (MarkedIn (masks_in m) t)) (sym f.is) fork_lists.0 in
+      let l = subst (λ t. IsMaskList (masks_in m) (heads_in m room.number) p.low f.bit (MarkedIn (masks_in m) t)) (sym f.is) fork_lists.0 in
       let tree = fork_is m f in
-      let past : bit + 1 ≤ f.bit = (subst (IsTree (bit + 1)) f.is is).0.rises in
+      let past = (subst (IsTree (bit + 1)) f.is is).0.rises in
       let ms = masks_listed p l tree.0.within (λ x member. member.0) in
       let long = kept l.masks ms in
       let short = others l.masks ms in
-      let own : one_if (room.number == room.number) ≡ 1 = one_if_same room.number in
-      let all_forks : (n : ℕ) → forks_at n p.tree ≡ one_if (room.number == n) + (forks_at n f.zero + forks_at n f.one) =
-      λ n. ap (λ (t : Tree V). forks_at n t) f.is in
+      let own = one_if_same room.number in
+      let all_forks : (n : ℕ) → forks_at n p.tree ≡ one_if (room.number == n) + (forks_at n f.zero + forks_at n f.one) = λ n. ap (forks_at n) f.is in
       let outside : (y : Placed V) → IsIn y p.tree → ((z : Placed V) → IsAmong z l.masks → y.entry.rank ≡ z.entry.rank → ⊥)
       → masks_in new y.room.number ≡ masks_in m y.room.number =
       λ y at other. masks l.masks ms y.room.number (λ z among same. other z among (same_pair m p y z at (l.within z among).0 (sym same)).1) in
       let zeros : (y : Placed V) → IsIn y f.zero → f.bit + 1 ≤ y.entry.rank → masks_in new y.room.number ≡ masks_in m y.room.number =
-      λ y at least. outside y (subst (IsIn y) (sym f.is) (inl at)) (λ z among same. let most : z.entry.rank < f.bit + 1 =
-      (falls_between p.low (f.bit + 1) l.masks l.falls z among).1 in omega arith) in
+      λ y at least. outside y (subst (IsIn y) (sym f.is) (inl at))
+      (λ z among same. let most = (falls_between p.low (f.bit + 1) l.masks l.falls z among).1 in omega arith) in
       let ones : (y : Placed V) → IsIn y f.one → f.bit + 1 ≤ y.entry.rank → masks_in new y.room.number ≡ masks_in m y.room.number =
-      λ y at least. outside y (subst (IsIn y) (sym f.is) (inr at)) (λ z among same. let most : z.entry.rank < f.bit + 1 =
-      (falls_between p.low (f.bit + 1) l.masks l.falls z among).1 in omega arith) in
+      λ y at least. outside y (subst (IsIn y) (sym f.is) (inr at))
+      (λ z among same. let most = (falls_between p.low (f.bit + 1) l.masks l.falls z among).1 in omega arith) in
       record {
         leaves = leaves;
         bits = bits;
-        heads = λ n out. heads n (λ same. let sum : forks_at n p.tree ≡ one_if (room.number == n) + (forks_at n f.zero + forks_at n f.one) = all_forks n in
-            let here : one_if (room.number == n) ≡ 1 = ap (λ (k : ℕ). one_if (room.number == k)) same ∙ own in absurd (omega arith));
-        masks = λ n out. masks l.masks ms n (λ z among same. let some : 1 ≤ leaves_at z.room.number p.tree = counted_leaf z p.tree (l.within z among).0 in
-            let e : leaves_at z.room.number p.tree ≡ leaves_at n p.tree = ap (λ (k : ℕ). leaves_at k p.tree) same in omega arith);
-        masks_above =
-            λ y at above. outside y at (λ z among same. let least : p.low ≤ z.entry.rank = (falls_between p.low (f.bit + 1) l.masks l.falls z among).0 in
+        heads = λ n out. heads n (λ same. let sum = all_forks n in
+            let here = ap (λ k. one_if (room.number == k)) same ∙ own in absurd (omega arith));
+        masks = λ n out. masks l.masks ms n (λ z among same. let some = counted_leaf z p.tree (l.within z among).0 in
+            let e = ap (λ k. leaves_at k p.tree) same in omega arith);
+        masks_above = λ y at above. outside y at (λ z among same. let least = (falls_between p.low (f.bit + 1) l.masks l.falls z among).0 in
             omega arith);
         marks = marks;
         list = record {
@@ -133,12 +129,10 @@ module _ {V : Type 0} where
             within = λ x among. let was = l.within x (not_below_among (bit + 1) l.masks x among).0 in (subst (IsIn x) f.is was.0, marks x.room.number ∙ was.1);
           },
           lists_stay (heads_in m) (heads_in new) (masks_in m) (masks_in new) (f.bit + 1) f.zero tree.1
-              (λ n some. heads n (elsewhere room n (forks_at n f.zero) some (let sum : forks_at n p.tree ≡ one_if (room.number == n)
-              + (forks_at n f.zero + forks_at n f.one) = all_forks n in let most : forks_at n p.tree ≤ 1 = once.forks n in omega arith)))
+              (λ n some. heads n (elsewhere room n (forks_at n f.zero) some (let sum = all_forks n in let most = once.forks n in omega arith)))
               zeros fork_lists.1,
           lists_stay (heads_in m) (heads_in new) (masks_in m) (masks_in new) (f.bit + 1) f.one tree.2
-              (λ n some. heads n (elsewhere room n (forks_at n f.one) some (let sum : forks_at n p.tree ≡ one_if (room.number == n)
-              + (forks_at n f.zero + forks_at n f.one) = all_forks n in let most : forks_at n p.tree ≤ 1 = once.forks n in omega arith)))
+              (λ n some. heads n (elsewhere room n (forks_at n f.one) some (let sum = all_forks n in let most = once.forks n in omega arith)))
               ones fork_lists.2,
         );
       }
@@ -148,7 +142,7 @@ module _ {V : Type 0} where
       → Way key w.part at ups → MarkedLists (heads_in m) (masks_in m) at.low at.tree
   part_lists m w key at ups way =
       let o = on_way m key w.part at ups way in
-      subst (λ (n : ℕ). MarkedLists (heads_in m) (masks_in m) n at.tree) (sym o.lowest)
+      subst (λ n. MarkedLists (heads_in m) (masks_in m) n at.tree) (sym o.lowest)
       (lists_at (heads_in m) (masks_in m) w.part.low o.frames at.tree (subst (MarkedLists (heads_in m) (masks_in m) w.part.low) o.was w.lists))
 
   -- ---- either of them
@@ -164,15 +158,15 @@ module _ {V : Type 0} where
       → masks_in new n ≡ masks_in m n)
       → ((n : ℕ) → is_some (masks_in new n) ≡ is_some (masks_in m n)) → KeepsLeaves m new → KeepsBits m new → IsCut m new p.low bit p.tree first
   cut_at m new w key bit p ups below first (leaf y ys) is way once rises tree named kept others same heads masks marks leaves bits =
-      let s = same y.room (sym named ∙ ap (λ (t : Tree V). name_of t) is) in
-      subst (λ (o : Option Id). IsCut m new p.low bit p.tree o) (sym s.0)
-      (subst (λ (n : Lodged V). IsCut m n p.low bit p.tree None) (sym s.1) (cut_leaf m p.low bit y ys is (unmarked_leaf m w key p ups y ys way is)))
+      let s = same y.room (sym named ∙ ap name_of is) in
+      subst (IsCut m new p.low bit p.tree) (sym s.0)
+      (subst (λ n. IsCut m n p.low bit p.tree None) (sym s.1) (cut_leaf m p.low bit y ys is (unmarked_leaf m w key p ups y ys way is)))
   cut_at m new w key bit p ups below first (fork room b zero one) is way once rises tree named kept others same heads masks marks leaves bits =
       let f : ForkAt p room = record { bit = b; zero = zero; one = one; is = is } in
-      let here : below ≡ BitOf room = sym named ∙ ap (λ (t : Tree V). name_of t) is in
+      let here = sym named ∙ ap name_of is in
       cut_fork m new p room f bit first (way_once key w.part p ups way once) rises tree (part_lists m w key p ups way)
       (λ ms. kept room ms here) (λ ms. others room ms here)
-      (λ n other. heads n (λ i at same. other (same ∙ ap (λ (j : Id). j.number) (same_bit_node (sym at ∙ here)))))
+      (λ n other. heads n (λ i at same. other (same ∙ ap (λ j. j.number) (same_bit_node (sym at ∙ here)))))
       (λ ms. masks room ms here) marks leaves bits
 
   -- the list of the part's bit node

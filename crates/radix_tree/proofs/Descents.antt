@@ -35,7 +35,7 @@ module _ {V : Type 0} {m : Lodged V} where
       let f = fork_named d.part (d.named ∙ is) in
       let same = node_at f said in
       let tree = (fork_is m f).0 in
-      let bit : n.bit ≡ f.bit = same.bit in
+      let bit = same.bit in
       let reads : Reads start later (f.bit + 1) = record { turn = more.turn ∙ d.reads.turn; rises = omega arith; bound = omega arith } in
       record {
         within = omega arith;
@@ -44,14 +44,14 @@ module _ {V : Type 0} {m : Lodged V} where
           part = zero_part m f;
           named = sym same.zero;
           ups = d.part ∷ d.ups;
-          way = (zero_beneath m address room f (subst (λ (b : ℕ). bit_at b address ≡ 0) bit clear), d.way);
+          way = (zero_beneath m address room f (subst (λ b. bit_at b address ≡ 0) bit clear), d.way);
           reads = reads;
         };
         one = λ set. record {
           part = one_part m f;
           named = sym same.one;
           ups = d.part ∷ d.ups;
-          way = (one_beneath m address room f (subst (λ (b : ℕ). bit_at b address ≡ 1) bit set), d.way);
+          way = (one_beneath m address room f (subst (λ b. bit_at b address ≡ 1) bit set), d.way);
           reads = reads;
         };
       }
@@ -64,7 +64,7 @@ module _ {V : Type 0} {m : Lodged V} where
       → Reads start now 32
   soon_at {room = room} d is =
       let l = leaf_named d.part (d.named ∙ is) in
-      let low : d.part.low ≤ 32 = (subst (IsTree d.part.low) l.is d.part.is).0 in
+      let low = (subst (IsTree d.part.low) l.is d.part.is).0 in
       record { turn = d.reads.turn; rises = d.reads.rises; bound = omega arith }
 
   -- a pair that is found at the leaf to which its key leads, or not there, is found so in the whole tree

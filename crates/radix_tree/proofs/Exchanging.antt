@@ -1,8 +1,8 @@
 -- A part of a tree is exchanged for another, and so the whole.
-use Rattle.radix_tree.proofs.Words.{◌≡◌, ℕ, ◌+◌, ◌<◌, ◌≤◌, ◌⊎◌, ◌==◌, Bool, if◌then◌else◌, List, [], ◌∷◌, Option, Some, None, refl, sym, ap, ◌∙◌, subst}
-use Rattle.radix_tree.proofs.Words.{inl, inr, arith, eq-eqb, ne_eqb, cases_lt, Id, Node, BitOf, Tree, fork, bit_at, HaveBit, IsTree, BitPart, Part}
-use Rattle.radix_tree.proofs.Words.{leaves_in, bits_in, name_of, Stands, ForkAt, Beneath, Way, one_if, leaves_at, forks_at, with_child, name_child}
-use Rattle.radix_tree.proofs.Words.{root_after, AreOnce, on_zero, on_one, low_past, IsExchange, Exchanged, Lodged}
+use Rattle.radix_tree.proofs.Words.{◌≡◌, ℕ, ◌+◌, ◌<◌, ◌≤◌, ◌⊎◌, if◌then◌else◌, List, [], ◌∷◌, Option, Some, None, refl, sym, ap, ◌∙◌, subst, inl, inr}
+use Rattle.radix_tree.proofs.Words.{arith, eq-eqb, ne_eqb, cases_lt, Id, Node, BitOf, fork, bit_at, HaveBit, IsTree, BitPart, Part, leaves_in, bits_in}
+use Rattle.radix_tree.proofs.Words.{name_of, Stands, ForkAt, Beneath, Way, leaves_at, forks_at, with_child, name_child, root_after, AreOnce, on_zero}
+use Rattle.radix_tree.proofs.Words.{on_one, low_past, IsExchange, Exchanged, Lodged}
 use Rattle.radix_tree.proofs.PartRooms.{said, zero_turned, one_turned, elsewhere, frame, Keeps, fork_forks, fork_leaves, same_turned, way_counts}
 use Rattle.radix_tree.proofs.PartRooms.{way_once, beneath_counts, spine_out}
 use Rattle.radix_tree.proofs.Parts.{fork_is, fork_stands}
@@ -11,12 +11,11 @@ use Rattle.radix_tree.proofs.Parts.{fork_is, fork_stands}
 pub turn_misses : {above : Option Id} (over : Id) (key n : ℕ) (to : Node) (said : Option BitPart) → above ≡ Some over → (n ≡ over.number → ⊥)
     → name_child above key to n said ≡ said
 turn_misses over key n to said is other =
-    ap (λ (o : Option Id). name_child o key to n said) is ∙ ap (λ (t : Bool). if t then with_child key to said else said) (ne_eqb n over.number other)
+    ap (λ o. name_child o key to n said) is ∙ ap (λ t. if t then with_child key to said else said) (ne_eqb n over.number other)
 
 pub turn_hits : {above : Option Id} (over : Id) (key : ℕ) (to : Node) (said : Option BitPart) → above ≡ Some over
     → name_child above key to over.number said ≡ with_child key to said
-turn_hits over key to said is =
-    ap (λ (o : Option Id). name_child o key to over.number said) is ∙ ap (λ (t : Bool). if t then with_child key to said else said)
+turn_hits over key to said is = ap (λ o. name_child o key to over.number said) is ∙ ap (λ t. if t then with_child key to said else said)
     (eq-eqb over.number over.number refl)
 
 pub one_of : (x y : ℕ) → 1 ≤ x + y → (1 ≤ x) ⊎ (1 ≤ y)
@@ -36,15 +35,15 @@ module _ {V : Type 0} where
   zero_climbed m new at mid over room f tree side low above g spine leaves forks =
       let e = g.made in
       let is = fork_is m f in
-      let rises : over.low ≤ f.bit = is.0.rises in
+      let rises = is.0.rises in
       let keys : (c value : ℕ) → c < f.bit + 1 → HaveBit c value f.zero → HaveBit c value e.part.tree =
       λ c value before have. g.keys c value (omega arith) (subst (HaveBit c value) (sym tree) have) in
       record {
         made = record {
           frames = on_zero room f.bit f.one ∷ e.frames;
-          was = f.is ∙ ap (λ (t : Tree V). fork room f.bit t f.one) (sym tree ∙ e.was);
+          was = f.is ∙ ap (λ t. fork room f.bit t f.one) (sym tree ∙ e.was);
           lead = (side, e.lead);
-          lowest = e.lowest ∙ ap (λ (n : ℕ). low_past n e.frames) low;
+          lowest = e.lowest ∙ ap (λ n. low_past n e.frames) low;
           part = record {
             tree = fork room f.bit e.part.tree f.one;
             low = over.low;
@@ -58,16 +57,16 @@ module _ {V : Type 0} where
                 zeros = keys f.bit 0 (omega arith) is.0.zeros;
                 ones = is.0.ones;
               },
-              subst (λ (n : ℕ). IsTree n e.part.tree) (e.low ∙ low) e.part.is,
+              subst (λ n. IsTree n e.part.tree) (e.low ∙ low) e.part.is,
               is.2,
             );
             stands = (
-              spine ∙ ap (λ (z : Node). Some (said room f.bit z (name_of f.one) over.above)) (sym e.named),
-              subst (λ (a : Option Id). Stands (leaves_in new) (bits_in new) a e.part.tree) (e.above ∙ above) e.part.stands,
+              spine ∙ ap (λ z. Some (said room f.bit z (name_of f.one) over.above)) (sym e.named),
+              subst (λ a. Stands (leaves_in new) (bits_in new) a e.part.tree) (e.above ∙ above) e.part.stands,
               frame (leaves_in m) (leaves_in new) (bits_in m) (bits_in new) (Some room) f.one leaves forks (fork_stands m f).2,
             );
           };
-          is_now = ap (λ (t : Tree V). fork room f.bit t f.one) e.is_now;
+          is_now = ap (λ t. fork room f.bit t f.one) e.is_now;
           low = refl;
           above = refl;
           named = refl;
@@ -83,15 +82,15 @@ module _ {V : Type 0} where
   one_climbed m new at mid over room f tree side low above g spine leaves forks =
       let e = g.made in
       let is = fork_is m f in
-      let rises : over.low ≤ f.bit = is.0.rises in
+      let rises = is.0.rises in
       let keys : (c value : ℕ) → c < f.bit + 1 → HaveBit c value f.one → HaveBit c value e.part.tree =
       λ c value before have. g.keys c value (omega arith) (subst (HaveBit c value) (sym tree) have) in
       record {
         made = record {
           frames = on_one room f.bit f.zero ∷ e.frames;
-          was = f.is ∙ ap (λ (t : Tree V). fork room f.bit f.zero t) (sym tree ∙ e.was);
+          was = f.is ∙ ap (fork room f.bit f.zero) (sym tree ∙ e.was);
           lead = (side, e.lead);
-          lowest = e.lowest ∙ ap (λ (n : ℕ). low_past n e.frames) low;
+          lowest = e.lowest ∙ ap (λ n. low_past n e.frames) low;
           part = record {
             tree = fork room f.bit f.zero e.part.tree;
             low = over.low;
@@ -106,15 +105,15 @@ module _ {V : Type 0} where
                 ones = keys f.bit 1 (omega arith) is.0.ones;
               },
               is.1,
-              subst (λ (n : ℕ). IsTree n e.part.tree) (e.low ∙ low) e.part.is,
+              subst (λ n. IsTree n e.part.tree) (e.low ∙ low) e.part.is,
             );
             stands = (
-              spine ∙ ap (λ (z : Node). Some (said room f.bit (name_of f.zero) z over.above)) (sym e.named),
+              spine ∙ ap (λ z. Some (said room f.bit (name_of f.zero) z over.above)) (sym e.named),
               frame (leaves_in m) (leaves_in new) (bits_in m) (bits_in new) (Some room) f.zero leaves forks (fork_stands m f).1,
-              subst (λ (a : Option Id). Stands (leaves_in new) (bits_in new) a e.part.tree) (e.above ∙ above) e.part.stands,
+              subst (λ a. Stands (leaves_in new) (bits_in new) a e.part.tree) (e.above ∙ above) e.part.stands,
             );
           };
-          is_now = ap (λ (t : Tree V). fork room f.bit f.zero t) e.is_now;
+          is_now = ap (fork room f.bit f.zero) e.is_now;
           low = refl;
           above = refl;
           named = refl;
@@ -130,22 +129,18 @@ module _ {V : Type 0} where
   climbed m new key at mid over {name = name} b g once leaves forks spine =
       let f = b.at in
       let old = (fork_stands m f).0 in
-      let all_forks : (n : ℕ) → forks_at n over.tree ≡ one_if (b.room.number == n) + (forks_at n f.zero + forks_at n f.one) = fork_forks m f in
-      let all_leaves : (n : ℕ) → leaves_at n over.tree ≡ leaves_at n f.zero + leaves_at n f.one = fork_leaves m f in
+      let all_forks = fork_forks m f in
+      let all_leaves = fork_leaves m f in
       elim b.side [
         | inl e ↦ zero_climbed m new at mid over b.room f e.0 e.1 b.low b.above g
             (spine ∙ ap (with_child key name) old ∙ zero_turned key name (said b.room f.bit (name_of f.zero) (name_of f.one) over.above) e.1)
-            (λ n some. let sum = all_leaves n in let most : leaves_at n over.tree ≤ 1 = once.leaves n in let same : leaves_at n mid.tree ≡ leaves_at n f.zero =
-            ap (λ (t : Tree V). leaves_at n t) e.0 in leaves n (omega arith) (omega arith))
-            (λ n some. let sum = all_forks n in let most : forks_at n over.tree ≤ 1 = once.forks n in let same : forks_at n mid.tree ≡ forks_at n f.zero =
-            ap (λ (t : Tree V). forks_at n t) e.0 in
+            (λ n some. let sum = all_leaves n in let most = once.leaves n in let same = ap (leaves_at n) e.0 in leaves n (omega arith) (omega arith))
+            (λ n some. let sum = all_forks n in let most = once.forks n in let same = ap (forks_at n) e.0 in
             forks n (elsewhere b.room n (forks_at n f.one) some (omega arith)) (omega arith) (omega arith))
         | inr e ↦ one_climbed m new at mid over b.room f e.0 e.1 b.low b.above g
             (spine ∙ ap (with_child key name) old ∙ one_turned key name (said b.room f.bit (name_of f.zero) (name_of f.one) over.above) e.1)
-            (λ n some. let sum = all_leaves n in let most : leaves_at n over.tree ≤ 1 = once.leaves n in let same : leaves_at n mid.tree ≡ leaves_at n f.one =
-            ap (λ (t : Tree V). leaves_at n t) e.0 in leaves n (omega arith) (omega arith))
-            (λ n some. let sum = all_forks n in let most : forks_at n over.tree ≤ 1 = once.forks n in let same : forks_at n mid.tree ≡ forks_at n f.one =
-            ap (λ (t : Tree V). forks_at n t) e.0 in
+            (λ n some. let sum = all_leaves n in let most = once.leaves n in let same = ap (leaves_at n) e.0 in leaves n (omega arith) (omega arith))
+            (λ n some. let sum = all_forks n in let most = once.forks n in let same = ap (forks_at n) e.0 in
             forks n (elsewhere b.room n (forks_at n f.zero) some (omega arith)) (omega arith) (omega arith))
       ]
 
@@ -153,7 +148,7 @@ module _ {V : Type 0} where
   way_climbed : (m new : Lodged V) (key : ℕ) (at : Part m) (under : Part new) (whole mid : Part m) (ups : List (Part m)) → Way key whole mid ups
       → AreOnce whole.tree → Keeps m new mid.tree whole.tree
       → Climbed m new key mid at under (name_of mid.tree) → Climbed m new key whole at under (name_of whole.tree)
-  way_climbed m new key at under whole mid [] way once keeps g = subst (λ (p : Part m). Climbed m new key p at under (name_of p.tree)) way g
+  way_climbed m new key at under whole mid [] way once keeps g = subst (λ p. Climbed m new key p at under (name_of p.tree)) way g
   way_climbed m new key at under whole mid (p ∷ ps) way once keeps g =
       let b = way.0 in
       let once_p = way_once key whole p ps way.1 once in
@@ -161,16 +156,14 @@ module _ {V : Type 0} where
       let in_whole : (n : ℕ) → (leaves_at n p.tree ≤ leaves_at n whole.tree) × (forks_at n p.tree ≤ forks_at n whole.tree) =
       λ n. way_counts m key whole p ps n way.1 in
       let near : (n : ℕ) → (leaves_at n mid.tree ≤ leaves_at n p.tree) × (forks_at n mid.tree ≤ forks_at n p.tree) = λ n. beneath_counts m key mid p n b in
-      let next = climbed m new key at mid p b g once_p
-      (λ n none some. let le : leaves_at n p.tree ≤ leaves_at n whole.tree = (in_whole n).0 in keeps.leaves n none (omega arith))
-      (λ n other none some. let le : forks_at n p.tree ≤ forks_at n whole.tree = (in_whole n).1 in keeps.forks n none (omega arith))
-      (let le : forks_at b.room.number p.tree ≤ forks_at b.room.number whole.tree = (in_whole b.room.number).1 in
-      let some : 1 ≤ forks_at b.room.number p.tree = out.1 in
+      let next = climbed m new key at mid p b g once_p (λ n none some. let le = (in_whole n).0 in keeps.leaves n none (omega arith))
+      (λ n other none some. let le = (in_whole n).1 in keeps.forks n none (omega arith)) (let le = (in_whole b.room.number).1 in
+      let some = out.1 in
       keeps.forks b.room.number out.0 (omega arith) ∙ same_turned m key mid p (name_of mid.tree) b refl) in
       way_climbed m new key at under whole p ps way.1 once (record {
-        leaves = λ n none some. let le : leaves_at n mid.tree ≤ leaves_at n p.tree = (near n).0 in keeps.leaves n (omega arith) some;
-        forks = λ n none some. let le : forks_at n mid.tree ≤ forks_at n p.tree = (near n).1 in keeps.forks n (omega arith) some;
-      }) (subst (λ (z : Node). Climbed m new key p at under z) (sym (ap (λ (t : Tree V). name_of t) b.at.is)) next)
+        leaves = λ n none some. let le = (near n).0 in keeps.leaves n (omega arith) some;
+        forks = λ n none some. let le = (near n).1 in keeps.forks n (omega arith) some;
+      }) (subst (Climbed m new key p at under) (sym (ap name_of b.at.is)) next)
 
   -- ---- the whole
   here : (m new : Lodged V) {key : ℕ} {whole at : Part m} (under : Part new) → IsExchange m new key whole at under
@@ -182,14 +175,14 @@ module _ {V : Type 0} where
 
   renamed : (m new : Lodged V) (key : ℕ) (whole at : Part m) (under : Part new) {name root : Node} → name ≡ root → Exchanged m new key whole at under name
       → Exchanged m new key whole at under root
-  renamed m new key whole at under same e = subst (λ (z : Node). Exchanged m new key whole at under z) same e
+  renamed m new key whole at under same e = subst (Exchanged m new key whole at under) same e
 
   pub exchanged : (m new : Lodged V) {key : ℕ} (whole at : Part m) (ups : List (Part m)) {under : Part new} → Way key whole at ups → whole.above ≡ None
       → AreOnce whole.tree → IsExchange m new key whole at under
       → Exchanged m new key whole at under (root_after at.above (name_of under.tree) (name_of whole.tree))
   exchanged m new {key = key} whole at [] {under = under} way top once e = renamed m new key whole at under
-      (sym (ap (λ (o : Option Id). root_after o (name_of under.tree) (name_of whole.tree)) (ap (λ (p : Part m). p.above) way ∙ top)))
-      (subst (λ (p : Part m). Exchanged m new key p at under (name_of under.tree)) way (here m new under e).made)
+      (sym (ap (λ o. root_after o (name_of under.tree) (name_of whole.tree)) (ap (λ p. p.above) way ∙ top)))
+      (subst (λ p. Exchanged m new key p at under (name_of under.tree)) way (here m new under e).made)
   exchanged m new {key = key} whole at (p ∷ ps) {under = under} way top once e =
       let b = way.0 in
       let once_p = way_once key whole p ps way.1 once in
@@ -197,18 +190,15 @@ module _ {V : Type 0} where
       let in_whole : (n : ℕ) → (leaves_at n p.tree ≤ leaves_at n whole.tree) × (forks_at n p.tree ≤ forks_at n whole.tree) =
       λ n. way_counts m key whole p ps n way.1 in
       let near : (n : ℕ) → (leaves_at n at.tree ≤ leaves_at n p.tree) × (forks_at n at.tree ≤ forks_at n p.tree) = λ n. beneath_counts m key at p n b in
-      let next = climbed m new key at at p b (here m new under e) once_p
-      (λ n none some. let le : leaves_at n p.tree ≤ leaves_at n whole.tree = (in_whole n).0 in e.leaves n none (omega arith))
-      (λ n other none some. let le : forks_at n p.tree ≤ forks_at n whole.tree = (in_whole n).1 in
-      e.bits n none (omega arith) ∙ turn_misses b.room key n (name_of under.tree) (bits_in m n) b.above other)
-      (let le : forks_at b.room.number p.tree ≤ forks_at b.room.number whole.tree = (in_whole b.room.number).1 in
-      let some : 1 ≤ forks_at b.room.number p.tree = out.1 in
+      let next = climbed m new key at at p b (here m new under e) once_p (λ n none some. let le = (in_whole n).0 in e.leaves n none (omega arith))
+      (λ n other none some. let le = (in_whole n).1 in
+      e.bits n none (omega arith) ∙ turn_misses b.room key n (name_of under.tree) (bits_in m n) b.above other) (let le = (in_whole b.room.number).1 in
+      let some = out.1 in
       e.bits b.room.number out.0 (omega arith) ∙ turn_hits b.room key (name_of under.tree) (bits_in m b.room.number) b.above) in
-      renamed m new key whole at under (sym (ap (λ (o : Option Id). root_after o (name_of under.tree) (name_of whole.tree)) b.above))
+      renamed m new key whole at under (sym (ap (λ o. root_after o (name_of under.tree) (name_of whole.tree)) b.above))
       (way_climbed m new key at under whole p ps way.1 once (record {
-        leaves = λ n none some. let le : leaves_at n at.tree ≤ leaves_at n p.tree = (near n).0 in e.leaves n (omega arith) some;
-        forks = λ n none some. let le : forks_at n at.tree ≤ forks_at n p.tree = (near n).1 in
+        leaves = λ n none some. let le = (near n).0 in e.leaves n (omega arith) some;
+        forks = λ n none some. let le = (near n).1 in
             e.bits n (omega arith) some ∙ turn_misses b.room key n (name_of under.tree) (bits_in m n) b.above
-            (λ same. let there : 1 ≤ forks_at b.room.number p.tree = out.1 in let e2 : forks_at n p.tree ≡ forks_at b.room.number p.tree =
-            ap (λ (k : ℕ). forks_at k p.tree) same in absurd (omega arith));
-      }) (subst (λ (z : Node). Climbed m new key p at under z) (sym (ap (λ (t : Tree V). name_of t) b.at.is)) next)).made
+            (λ same. let there = out.1 in let e2 = ap (λ k. forks_at k p.tree) same in absurd (omega arith));
+      }) (subst (Climbed m new key p at under) (sym (ap name_of b.at.is)) next)).made

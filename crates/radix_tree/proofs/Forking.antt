@@ -1,9 +1,9 @@
 -- A new bit node above a part of a tree, with the new leaf on the side of its key.
-use Rattle.radix_tree.proofs.Words.{◌≡◌, ℕ, ◌+◌, ◌≤◌, ◌==◌, Bool, true, false, if◌then◌else◌, List, [], ◌∷◌, Option, Some, None, refl, sym, ap, ◌∙◌}
-use Rattle.radix_tree.proofs.Words.{arith, eqb-true, eq-eqb, ne_eqb, Id, IsRoute, Placed, Tree, leaf, fork, bit_at, HaveBit, IsTree, Leaves, Bits}
-use Rattle.radix_tree.proofs.Words.{name_of, ChainStands, Stands, one_if, members_at, leaves_at, forks_at, IsPlace, AreOnce, leaf_above, bit_above}
-use Rattle.radix_tree.proofs.Words.{lift_leaf, lift_bit}
 use Rattle.radix_tree.proofs.{RoomReads.none_some, PartRooms.one_if_same, PartRooms.elsewhere, PartRooms.chain_frame, PartRooms.frame}
+use Rattle.radix_tree.proofs.Words.{◌≡◌, ℕ, ◌+◌, ◌≤◌, ◌==◌, true, false, if◌then◌else◌, List, [], ◌∷◌, Option, Some, None, refl, sym, ap, ◌∙◌, arith}
+use Rattle.radix_tree.proofs.Words.{eqb-true, eq-eqb, ne_eqb, Id, IsRoute, Placed, Tree, leaf, fork, bit_at, HaveBit, IsTree, Leaves, Bits, name_of}
+use Rattle.radix_tree.proofs.Words.{ChainStands, Stands, one_if, members_at, leaves_at, forks_at, IsPlace, AreOnce, leaf_above, bit_above, lift_leaf}
+use Rattle.radix_tree.proofs.Words.{lift_bit}
 
 not_same : (room : Id) (n many : ℕ) → 1 ≤ many → one_if (room.number == n) + many ≤ 1 → (n == room.number) ≡ false
 not_same room n many some few = ne_eqb n room.number (elsewhere room n many some few)
@@ -18,8 +18,8 @@ module _ {V : Type 0} where
   pub zero_fork_is : (low bit : ℕ) (x : Placed V) (room : Id) {t : Tree V} → IsRoute x.entry → IsPlace x.entry.key low bit t → bit_at bit x.entry.key ≡ 0
       → IsTree low (fork room bit (leaf x []) t)
   zero_fork_is low bit x room route p clear =
-      let rank : x.entry.rank ≤ 33 = route.rank in
-      let within : bit ≤ 31 = p.within in (
+      let rank = route.rank in
+      let within = p.within in (
         record {
           rises = p.rises;
           within = p.within;
@@ -34,8 +34,8 @@ module _ {V : Type 0} where
   pub one_fork_is : (low bit : ℕ) (x : Placed V) (room : Id) {t : Tree V} → IsRoute x.entry → IsPlace x.entry.key low bit t → bit_at bit x.entry.key ≡ 1
       → IsTree low (fork room bit t (leaf x []))
   one_fork_is low bit x room route p set =
-      let rank : x.entry.rank ≤ 33 = route.rank in
-      let within : bit ≤ 31 = p.within in (
+      let rank = route.rank in
+      let within = p.within in (
         record { rises = p.rises; within = p.within; agree = λ c before. (bit_at c x.entry.key, p.agree c before, refl); zeros = p.far_zero set; ones = set },
         p.is,
         (omega arith, (route, refl, omega arith, tt)),
@@ -46,32 +46,27 @@ module _ {V : Type 0} where
   pub lifted : (L M : Leaves V) (B C : Bits) (above new : Option Id) (t : Tree V) → ((n : ℕ) → 1 ≤ leaves_at n t → M n ≡ lift_leaf (name_of t) new n (L n))
       → ((n : ℕ) → 1 ≤ forks_at n t → C n ≡ lift_bit (name_of t) new n (B n)) → AreOnce t → Stands L B above t → Stands M C new t
   lifted L M B C above new (leaf x xs) leaves forks once stands =
-      let own : one_if (x.room.number == x.room.number) ≡ 1 = one_if_same x.room.number in (
-        leaves x.room.number (omega arith) ∙ ap (λ (t : Bool). if t then leaf_above new (L x.room.number) else L x.room.number)
+      let own = one_if_same x.room.number in (
+        leaves x.room.number (omega arith) ∙ ap (λ t. if t then leaf_above new (L x.room.number) else L x.room.number)
             (eq-eqb x.room.number x.room.number refl) ∙ ap (leaf_above new) stands.0,
-        chain_frame L M None (Some x.room) xs (λ n some. let few : one_if (x.room.number == n) + members_at n xs ≤ 1 = once.leaves n in
-            leaves n (omega arith) ∙ ap (λ (t : Bool). if t then leaf_above new (L n) else L n) (not_same x.room n (members_at n xs) some few))
-            stands.1,
+        chain_frame L M None (Some x.room) xs (λ n some. let few = once.leaves n in
+            leaves n (omega arith) ∙ ap (λ t. if t then leaf_above new (L n) else L n) (not_same x.room n (members_at n xs) some few)) stands.1,
       )
   lifted L M B C above new (fork room b zero one) leaves forks once stands =
-      let own : one_if (room.number == room.number) ≡ 1 = one_if_same room.number in (
-        forks room.number (omega arith) ∙ ap (λ (t : Bool). if t then bit_above new (B room.number) else B room.number) (eq-eqb room.number room.number refl)
+      let own = one_if_same room.number in (
+        forks room.number (omega arith) ∙ ap (λ t. if t then bit_above new (B room.number) else B room.number) (eq-eqb room.number room.number refl)
             ∙ ap (bit_above new) stands.0,
-        frame L M B C (Some room) zero (λ n some. leaves n (omega arith))
-            (λ n some. let few : one_if (room.number == n) + (forks_at n zero + forks_at n one) ≤ 1 = once.forks n in
-            forks n (omega arith) ∙ ap (λ (t : Bool). if t then bit_above new (B n) else B n) (not_same room n (forks_at n zero) some (omega arith)))
-            stands.1,
-        frame L M B C (Some room) one (λ n some. leaves n (omega arith))
-            (λ n some. let few : one_if (room.number == n) + (forks_at n zero + forks_at n one) ≤ 1 = once.forks n in
-            forks n (omega arith) ∙ ap (λ (t : Bool). if t then bit_above new (B n) else B n) (not_same room n (forks_at n one) some (omega arith)))
-            stands.2,
+        frame L M B C (Some room) zero (λ n some. leaves n (omega arith)) (λ n some. let few = once.forks n in
+            forks n (omega arith) ∙ ap (λ t. if t then bit_above new (B n) else B n) (not_same room n (forks_at n zero) some (omega arith))) stands.1,
+        frame L M B C (Some room) one (λ n some. leaves n (omega arith)) (λ n some. let few = once.forks n in
+            forks n (omega arith) ∙ ap (λ t. if t then bit_above new (B n) else B n) (not_same room n (forks_at n one) some (omega arith))) stands.2,
       )
 
   -- ---- rooms of a part are in the map
   pub chain_there : (L : Leaves V) (above previous : Option Id) (c : List (Placed V)) (n : ℕ) → ChainStands L above previous c → L n ≡ None → members_at n c ≡ 0
   chain_there L above previous [] n stands none = refl
   chain_there L above previous (x ∷ c) n stands none =
-      let behind : members_at n c ≡ 0 = chain_there L None (Some x.room) c n stands.1 none in
+      let behind = chain_there L None (Some x.room) c n stands.1 none in
       elim (x.room.number == n) as (λ t. (x.room.number == n) ≡ t → one_if t + members_at n c ≡ 0) [
         | true ↦ λ e. absurd (none_some (sym none ∙ ap L (sym (eqb-true x.room.number n e)) ∙ stands.0))
         | false ↦ λ e. omega arith
@@ -80,14 +75,12 @@ module _ {V : Type 0} where
   pub leaves_there : (L : Leaves V) (B : Bits) (above : Option Id) (t : Tree V) (n : ℕ) → Stands L B above t → L n ≡ None → leaves_at n t ≡ 0
   leaves_there L B above (leaf x xs) n stands none = chain_there L above None (x ∷ xs) n stands none
   leaves_there L B above (fork room b zero one) n stands none =
-      let left : leaves_at n zero ≡ 0 = leaves_there L B (Some room) zero n stands.1 none in let right : leaves_at n one ≡ 0 =
-      leaves_there L B (Some room) one n stands.2 none in omega arith
+      let left = leaves_there L B (Some room) zero n stands.1 none in let right = leaves_there L B (Some room) one n stands.2 none in omega arith
 
   pub forks_there : (L : Leaves V) (B : Bits) (above : Option Id) (t : Tree V) (n : ℕ) → Stands L B above t → B n ≡ None → forks_at n t ≡ 0
   forks_there L B above (leaf x xs) n stands none = refl
   forks_there L B above (fork room b zero one) n stands none =
-      let left : forks_at n zero ≡ 0 = forks_there L B (Some room) zero n stands.1 none in let right : forks_at n one ≡ 0 =
-      forks_there L B (Some room) one n stands.2 none in
+      let left = forks_there L B (Some room) zero n stands.1 none in let right = forks_there L B (Some room) one n stands.2 none in
       elim (room.number == n) as (λ t. (room.number == n) ≡ t → one_if t + (forks_at n zero + forks_at n one) ≡ 0) [
         | true ↦ λ e. absurd (none_some (sym none ∙ ap B (sym (eqb-true room.number n e)) ∙ stands.0))
         | false ↦ λ e. omega arith

@@ -1,8 +1,8 @@
 -- The bit nodes above a part of a tree, and lists of masks that stay where the masks of their ranks do.
-use Rattle.radix_tree.proofs.Words.{◌≡◌, ℕ, ◌+◌, ◌≤◌, ◌==◌, List, [], ◌∷◌, Option, refl, inl, inr, sym, ap, ◌∙◌, subst, arith, Id, Placed, Tree, leaf}
-use Rattle.radix_tree.proofs.Words.{fork, IsAmong, IsIn, IsTree, Heads, Masks, Part, Beneath, Way, one_if, forks_at, Frame, on_zero, on_one, plug}
-use Rattle.radix_tree.proofs.Words.{low_past, IsMaskList, MarkedIn, MarkedLists, Lodged}
 use Rattle.radix_tree.proofs.{PartRooms.one_if_same, PlugLists.falls_between, PlugLists.masks_stand_same, PlugLists.marked_same}
+use Rattle.radix_tree.proofs.Words.{◌≡◌, ℕ, ◌+◌, ◌≤◌, List, [], ◌∷◌, Option, refl, inl, inr, sym, ap, ◌∙◌, subst, arith, Id, Placed, Tree, leaf, fork}
+use Rattle.radix_tree.proofs.Words.{IsAmong, IsIn, IsTree, Heads, Masks, Part, Beneath, Way, forks_at, Frame, on_zero, on_one, plug, low_past, IsMaskList}
+use Rattle.radix_tree.proofs.Words.{MarkedIn, MarkedLists, Lodged}
 
 module _ {V : Type 0} where
   -- ---- the bit nodes above a part
@@ -14,22 +14,22 @@ module _ {V : Type 0} where
   beneath_framed : (m : Lodged V) (key : ℕ) (at under over : Part m) → Beneath key under over → Framed under at → Framed over at
   beneath_framed m key at under over b f =
       let n = b.at in
-      let low : at.low ≡ low_past (n.bit + 1) f.frames = f.lowest ∙ ap (λ (k : ℕ). low_past k f.frames) b.low in
+      let low = f.lowest ∙ ap (λ k. low_past k f.frames) b.low in
       elim b.side [
         | inl e ↦ record {
           frames = on_zero b.room n.bit n.one ∷ f.frames;
-          was = n.is ∙ ap (λ (t : Tree V). fork b.room n.bit t n.one) (sym e.0 ∙ f.was);
+          was = n.is ∙ ap (λ t. fork b.room n.bit t n.one) (sym e.0 ∙ f.was);
           lowest = low;
         }
         | inr e ↦ record {
           frames = on_one b.room n.bit n.zero ∷ f.frames;
-          was = n.is ∙ ap (λ (t : Tree V). fork b.room n.bit n.zero t) (sym e.0 ∙ f.was);
+          was = n.is ∙ ap (fork b.room n.bit n.zero) (sym e.0 ∙ f.was);
           lowest = low;
         }
       ]
 
   up_framed : (m : Lodged V) (key : ℕ) (whole mid at : Part m) (ups : List (Part m)) → Way key whole mid ups → Framed mid at → Framed whole at
-  up_framed m key whole mid at [] way f = subst (λ (p : Part m). Framed p at) way f
+  up_framed m key whole mid at [] way f = subst (λ p. Framed p at) way f
   up_framed m key whole mid at (p ∷ ps) way f = up_framed m key whole p at ps way.1 (beneath_framed m key at mid p way.0 f)
 
   pub way_framed : (m : Lodged V) (key : ℕ) (whole at : Part m) (ups : List (Part m)) → Way key whole at ups → Framed whole at
@@ -56,9 +56,9 @@ module _ {V : Type 0} where
       → ((y : Placed V) → IsIn y t → low ≤ y.entry.rank → M y.room.number ≡ K y.room.number) → MarkedLists H K low t → MarkedLists J M low t
   lists_stay H J K M low (leaf x xs) is heads masks lists = tt
   lists_stay H J K M low (fork room b zero one) is heads masks lists =
-      let rises : low ≤ b = is.0.rises in
-      let here : one_if (room.number == room.number) ≡ 1 = one_if_same room.number in (
-        subst (λ (first : Option Id). IsMaskList M first low b (MarkedIn M (fork room b zero one))) (sym (heads room.number (omega arith)))
+      let rises = is.0.rises in
+      let here = one_if_same room.number in (
+        subst (λ first. IsMaskList M first low b (MarkedIn M (fork room b zero one))) (sym (heads room.number (omega arith)))
             (list_stays K M low b (fork room b zero one) masks lists.0),
         lists_stay H J K M (b + 1) zero is.1 (λ n some. heads n (omega arith)) (λ y at least. masks y (inl at) (omega arith)) lists.1,
         lists_stay H J K M (b + 1) one is.2 (λ n some. heads n (omega arith)) (λ y at least. masks y (inr at) (omega arith)) lists.2,

@@ -3,13 +3,13 @@
 --     shown_same                     rooms that say the same of leaves and bit nodes show the same
 --     nobody, among_left, new_left   whose masks are not listed yet
 --     IsLost, lost                   what a route that goes leaves
-use Rattle.radix_tree.proofs.Words.{◌≡◌, ℕ, ◌+◌, ◌≤◌, ◌==◌, ◌&&◌, ◌||◌, Bool, true, false, not, if◌then◌else◌, List, [], Option, Some, None, is_some}
-use Rattle.radix_tree.proofs.Words.{refl, sym, ap, ◌∙◌, subst, inl, arith, eqb-true, eq-eqb, ne_eqb, get, Seen, Id, Leaf, Node, LeafOf, IsRoute, without}
-use Rattle.radix_tree.proofs.Words.{leaf, LeafPart, Part, leaf_in, bit_in, mask_in, leaves_in, leaf_part, first_room, LedTo, Gains, placed, IsWholeBut}
-use Rattle.radix_tree.proofs.Words.{has_key, is_of_key, nobody_late, nobody_out, late_at, lodge_leaf, KeepsLeaves, KeepsBits, KeepsMasks, one_if}
-use Rattle.radix_tree.proofs.Words.{beneath_shown, shown, shown_entry, IsWhole, Holds, Entry, Lodged}
 use Rattle.radix_tree.proofs.{RoomReads.none_some, Parts.leaf_run, Showing.shown_is, WholeParts.but_whole, WholeParts.later_than, WholeRoutes.loses_entry}
 use Rattle.radix_tree.proofs.{Kept.IsFound, Kept.shown_table}
+use Rattle.radix_tree.proofs.Words.{◌≡◌, ℕ, ◌+◌, ◌==◌, ◌&&◌, ◌||◌, Bool, true, false, not, if◌then◌else◌, List, [], Option, Some, None, is_some, refl}
+use Rattle.radix_tree.proofs.Words.{sym, ap, ◌∙◌, subst, inl, arith, eqb-true, eq-eqb, ne_eqb, get, Seen, Id, Leaf, Node, LeafOf, IsRoute, without, leaf}
+use Rattle.radix_tree.proofs.Words.{LeafPart, Part, leaf_in, bit_in, mask_in, leaves_in, leaf_part, first_room, LedTo, Gains, placed, IsWholeBut, has_key}
+use Rattle.radix_tree.proofs.Words.{is_of_key, nobody_late, nobody_out, late_at, lodge_leaf, KeepsLeaves, KeepsBits, KeepsMasks, one_if, beneath_shown}
+use Rattle.radix_tree.proofs.Words.{shown, shown_entry, IsWhole, Holds, Entry, Lodged}
 
 true_false : true ≡ false → ⊥
 true_false e = cc
@@ -33,7 +33,7 @@ module _ {V : Type 0} where
   -- ---- the first route
   no_room : (m : Lodged V) (n : ℕ) (o : Option (Seen V)) → get m n ≡ o → leaves_in m n ≡ None → get m n ≡ None
   no_room m n None is none = is
-  no_room m n (Some s) is none = absurd (none_some (sym none ∙ ap (λ (o : Option (Seen V)). leaf_in o) is))
+  no_room m n (Some s) is none = absurd (none_some (sym none ∙ ap leaf_in is))
 
   abbrev lodged_part : Id → V → Leaf → Option (LeafPart V)
   lodged_part id value l = Some (record { block = id.block; value = value; leaf = l })
@@ -47,23 +47,22 @@ module _ {V : Type 0} where
       → ((n : ℕ) → leaves_in new n ≡ lodge_leaf id e.value l n (leaves_in m n)) → KeepsBits m new → KeepsMasks m new
       → IsWhole new (LeafOf id) × Gains e [] (shown new (Some (LeafOf id)))
   first_whole m new id {e = e} l leaf_is none route leaves bits masks =
-      let at : leaves_in new id.number ≡ Some (leaf_part (placed id e) None None None) = leaves id.number
-      ∙ ap (λ (b : Bool). if b then lodged_part id e.value l else leaves_in m id.number) (eq-eqb id.number id.number refl)
-      ∙ ap (λ (l : Leaf). lodged_part id e.value l) leaf_is in
-      let most : e.rank ≤ 33 = route.rank in
+      let at = leaves id.number ∙ ap (λ b. if b then lodged_part id e.value l else leaves_in m id.number) (eq-eqb id.number id.number refl)
+      ∙ ap (lodged_part id e.value) leaf_is in
+      let most = route.rank in
       let gone = λ (n : ℕ). no_room m n (get m n) refl (none n) in
       let w : IsWhole new (LeafOf id) = record {
         part = record { tree = leaf (placed id e) []; low = 0; above = None; is = (omega arith, (route, refl, omega arith, tt)); stands = (at, tt) };
         low = refl;
         top = refl;
         named = refl;
-        leaves = λ n. ap (λ (b : Bool). one_if b + 0) (turned id.number n) ∙ lodged_at id e.value l n (n == id.number)
-            ∙ ap (λ (o : Option (LeafPart V)). one_if (is_some (if n == id.number then lodged_part id e.value l else o))) (sym (none n))
-            ∙ ap (λ (o : Option (LeafPart V)). one_if (is_some o)) (sym (leaves n));
-        forks = λ n. ap (λ (o : Option (Seen V)). one_if (is_some (bit_in o))) (sym (gone n)) ∙ ap (λ o. one_if (is_some o)) (sym (bits n));
+        leaves = λ n. ap (λ b. one_if b + 0) (turned id.number n) ∙ lodged_at id e.value l n (n == id.number)
+            ∙ ap (λ o. one_if (is_some (if n == id.number then lodged_part id e.value l else o))) (sym (none n))
+            ∙ ap (λ o. one_if (is_some o)) (sym (leaves n));
+        forks = λ n. ap (λ o. one_if (is_some (bit_in o))) (sym (gone n)) ∙ ap (λ o. one_if (is_some o)) (sym (bits n));
         spare = inl tt;
         lists = tt;
-        listed = λ n p some. absurd (none_some (ap (λ (o : Option (Seen V)). mask_in o) (sym (gone n)) ∙ sym (masks n) ∙ some));
+        listed = λ n p some. absurd (none_some (ap mask_in (sym (gone n)) ∙ sym (masks n) ∙ some));
       } in
       (w, record { front = []; back = []; was = refl; now = shown_is w })
 
@@ -73,7 +72,7 @@ module _ {V : Type 0} where
 
   pub gains_same : (e : Entry V) (es : List (Entry V)) (m new : Lodged V) (root : Node) → Gains e es (shown m (Some root)) → KeepsLeaves m new
       → KeepsBits m new → Gains e es (shown new (Some root))
-  gains_same e es m new root g leaves bits = subst (λ (fs : List (Entry V)). Gains e es fs) (sym (shown_same m new root leaves bits)) g
+  gains_same e es m new root g leaves bits = subst (Gains e es) (sym (shown_same m new root leaves bits)) g
 
   -- ---- whose masks are not listed yet
   not_late : (m : Lodged V) {root : Node} {late : ℕ → Bool} → IsWholeBut m root late nobody_out → ((n : ℕ) → late n ≡ true → ⊥)
@@ -92,8 +91,8 @@ module _ {V : Type 0} where
   new_left m old {root = root} room {id = id} key k was same key_is stays w = but_whole m root (not_late m w (λ n e.
       let both = and_not (((n == room) || was n) && not (n == id)) (has_key old k n) e in
       let first = and_not ((n == room) || was n) (n == id) both.0 in
-      let other : (n == room) ≡ false = ap (λ (r : ℕ). n == r) (sym same) ∙ first.1 in
-      true_false (sym (stays n (or_left (n == room) (was n) first.0 other)) ∙ ap (λ (k : ℕ). has_key old k n) (sym key_is) ∙ both.1)))
+      let other = ap (λ r. n == r) (sym same) ∙ first.1 in
+      true_false (sym (stays n (or_left (n == room) (was n) first.0 other)) ∙ ap (λ k. has_key old k n) (sym key_is) ∙ both.1)))
 
   -- ---- the leaf beside which a route comes in
   -- what the first room of a leaf says
@@ -107,8 +106,8 @@ module _ {V : Type 0} where
   pub led_begun : (m : Lodged V) {key : ℕ} {whole : Part m} {first : Id} (d : LedTo key whole first) → IsBegun m d.leaf.first.entry.key first
   led_begun m d = record {
     part = leaf_part d.leaf.first d.part.above None (first_room d.leaf.rest);
-    at = ap (λ (i : Id). leaves_in m i.number) (sym d.leaf.room_is) ∙ (leaf_run m d.leaf).stands.0;
-    block = ap (λ (i : Id). i.block) d.leaf.room_is;
+    at = ap (λ i. leaves_in m i.number) (sym d.leaf.room_is) ∙ (leaf_run m d.leaf).stands.0;
+    block = ap (λ i. i.block) d.leaf.room_is;
     key_is = refl;
     previous = refl;
   }
@@ -135,7 +134,7 @@ module _ {V : Type 0} where
   still_key m new last key n keeps leaves has =
       let s = said_key m key n (leaves_in m n) refl has in
       let k = keeps n s.0 s.1 in
-      ap (λ (o : Option (LeafPart V)). is_of_key key o) (leaves n ∙ k.1) ∙ s.2
+      ap (is_of_key key) (leaves n ∙ k.1) ∙ s.2
 
   -- ---- a route that goes
   pub record IsLost (m new : Lodged V) (root : Node) (after : Option Node) (key rank : ℕ) (e : Entry V) : Type 0 where
@@ -148,9 +147,9 @@ module _ {V : Type 0} where
       → IsLost m new root after key rank f.route.entry
   lost {m = m} new {root = root} after {key = key} holds f routes =
       let e = f.route.entry in
-      let gains = subst (λ (e : Entry V). Gains e (shown new after) (shown m (Some root))) f.said.entry (routes f.said.part f.said.at) in
+      let gains = subst (λ e. Gains e (shown new after) (shown m (Some root))) f.said.entry (routes f.said.part f.said.at) in
       record {
         gains = gains;
         entries = (loses_entry e gains (shown_table m (Some root) holds)).0
-            ∙ ap (λ (k : ℕ). without k e.rank (shown m (Some root))) f.has.0 ∙ ap (λ (r : ℕ). without key r (shown m (Some root))) f.has.1;
+            ∙ ap (λ k. without k e.rank (shown m (Some root))) f.has.0 ∙ ap (λ r. without key r (shown m (Some root))) f.has.1;
       }

@@ -1,16 +1,16 @@
 -- The home of a mask, and what a change of the list there leaves as it was.
 use Rattle.mask_table.proofs.Agreeing.{front_of_bits}
-use Rattle.radix_tree.specs.Tree.{bit_at}
-use Rattle.radix_tree.proofs.Words.{◌≡◌, ℕ, ◌+◌, ◌<◌, ◌≤◌, ◌==◌, ◌⊎◌, Bool, true, false, ◌||◌, List, [], ◌∷◌, Option, Some, None, refl, inl, inr, sym, ap}
-use Rattle.radix_tree.proofs.Words.{◌∙◌, subst, arith, eqb-true, cases_lt, is_some, Ptr, front, Seen, Has, leaf_of, Id, Node, IsRoute, Placed, Tree, leaf}
-use Rattle.radix_tree.proofs.Words.{fork, IsAmong, IsIn, IsChain, IsTree, LeafPart, MaskPart, Leaves, Heads, Masks, Part, leaves_in, bits_in, heads_in}
-use Rattle.radix_tree.proofs.Words.{masks_in, leaf_in, leaf_part, Way, one_if, members_at, leaves_at, forks_at, HasHome, KeepsLeaves, KeepsBits, AreOnce}
-use Rattle.radix_tree.proofs.Words.{plug, low_past, IsMarked, IsMaskList, MarkedIn, MarkedLists, IsWholeBut, nobody_out, HomeAt, Entry, Lodged}
 use Rattle.radix_tree.proofs.{RoomReads.inside, AddressBits.zero_not_one, AddressBits.clear_bit, TreeMembers.IsSaid, TreeMembers.chain_below}
 use Rattle.radix_tree.proofs.{TreeMembers.tree_route, TreeMembers.bit_beneath, TreeMembers.tree_said, Parts.fork_is, Parts.way_inside}
 use Rattle.radix_tree.proofs.{PartRooms.one_if_same, PartRooms.elsewhere, PartRooms.frame, PartRooms.way_once, Plugs.aside_in, Plugs.aside_at}
 use Rattle.radix_tree.proofs.{Plugs.counted_leaf, Plugs.spare_same, PlugLists.KeepsAbove, PlugLists.plug_lists, PlugLists.lists_at, PlugLists.marked_same}
 use Rattle.radix_tree.proofs.{FrameLists.way_framed, FrameLists.lists_stay}
+use Rattle.radix_tree.specs.Tree.{bit_at}
+use Rattle.radix_tree.proofs.Words.{◌≡◌, ℕ, ◌+◌, ◌<◌, ◌≤◌, ◌==◌, ◌⊎◌, Bool, true, false, ◌||◌, List, [], ◌∷◌, Option, Some, None, refl, inl, inr, sym, ap}
+use Rattle.radix_tree.proofs.Words.{◌∙◌, subst, arith, eqb-true, cases_lt, is_some, Ptr, Seen, Has, Id, Node, IsRoute, Placed, Tree, leaf, fork, IsAmong}
+use Rattle.radix_tree.proofs.Words.{IsIn, IsChain, IsTree, LeafPart, MaskPart, Leaves, Heads, Masks, Part, leaves_in, bits_in, heads_in, masks_in}
+use Rattle.radix_tree.proofs.Words.{leaf_in, leaf_part, Way, one_if, members_at, leaves_at, forks_at, HasHome, KeepsLeaves, KeepsBits, AreOnce, plug}
+use Rattle.radix_tree.proofs.Words.{low_past, IsMarked, IsMaskList, MarkedIn, MarkedLists, IsWholeBut, nobody_out, HomeAt, Entry, Lodged}
 
 pub true_false : true ≡ false → ⊥
 true_false e = cc
@@ -19,7 +19,7 @@ abbrev id_of : ℕ → Ptr → Id
 id_of number block = record { number = number; block = block }
 
 same_id : (x y : Id) → x.number ≡ y.number → x.block ≡ y.block → x ≡ y
-same_id x y number block = ap (λ (n : ℕ). id_of n x.block) number ∙ ap (λ (b : Ptr). id_of y.number b) block
+same_id x y number block = ap (λ n. id_of n x.block) number ∙ ap (id_of y.number) block
 
 pub or_right : (a : Bool) {b : Bool} → b ≡ true → (a || b) ≡ true
 or_right true is = refl
@@ -38,7 +38,7 @@ module _ {V : Type 0} where
   one_said : (L : Leaves V) (x y : Placed V) → IsSaid L x → IsSaid L y → x.room.number ≡ y.room.number → x ≡ y
   one_said L x y sx sy same =
       let parts = inside (sym sx.3 ∙ ap L same ∙ sy.3) in
-      ap (λ (n : ℕ). told n (leaf_part x sx.0 sx.1 sx.2)) same ∙ ap (λ (p : LeafPart V). told y.room.number p) parts
+      ap (λ n. told n (leaf_part x sx.0 sx.1 sx.2)) same ∙ ap (told y.room.number) parts
 
   pub one_room : (m : Lodged V) (p : Part m) (x y : Placed V) → IsIn x p.tree → IsIn y p.tree → x.room.number ≡ y.room.number → x ≡ y
   one_room m p x y in_x in_y same = one_said (leaves_in m) x y (tree_said (leaves_in m) (bits_in m) p.above p.tree p.stands x in_x)
@@ -66,12 +66,10 @@ module _ {V : Type 0} where
   chain_one key top (z ∷ c) is x y in_x in_y same = elim in_x [
     | inl e ↦ elim in_y [
       | inl f ↦ sym e ∙ f
-      | inr behind ↦ let first : z.entry.rank ≡ x.entry.rank = ap (λ (p : Placed V). p.entry.rank) e in let lower : y.entry.rank < z.entry.rank =
-          chain_below key z.entry.rank c is.3 y behind in absurd (omega arith)
+      | inr behind ↦ let first = ap (λ p. p.entry.rank) e in let lower = chain_below key z.entry.rank c is.3 y behind in absurd (omega arith)
     ]
     | inr behind ↦ elim in_y [
-      | inl f ↦ let first : z.entry.rank ≡ y.entry.rank = ap (λ (p : Placed V). p.entry.rank) f in let lower : x.entry.rank < z.entry.rank =
-          chain_below key z.entry.rank c is.3 x behind in absurd (omega arith)
+      | inl f ↦ let first = ap (λ p. p.entry.rank) f in let lower = chain_below key z.entry.rank c is.3 x behind in absurd (omega arith)
       | inr other ↦ chain_one key z.entry.rank c is.3 x y behind other same
     ]
   ]
@@ -96,14 +94,14 @@ module _ {V : Type 0} where
   same_keys : (x y : Entry V) → IsRoute x → IsRoute y → ((c : ℕ) → c ≤ 31 → bit_at c x.key ≡ bit_at c y.key) → x.key ≡ y.key
   unfolding bit_at
   same_keys x y rx ry same =
-      let all : front 32 x.key ≡ front 32 y.key = front_of_bits 32 x.key y.key (omega arith) rx.address ry.address (λ c before. same c (omega arith)) in
+      let all = front_of_bits 32 x.key y.key (omega arith) rx.address ry.address (λ c before. same c (omega arith)) in
       omega (arith, all)
 
   -- beneath a bit node two routes of a rank not past its bit are one
   pub one_of_bit : (low b : ℕ) (room : Id) (zero one : Tree V) → IsTree low (fork room b zero one) → (x y : Placed V) → IsIn x (fork room b zero one)
       → IsIn y (fork room b zero one) → x.entry.rank ≡ y.entry.rank → x.entry.rank ≤ b → x ≡ y
   one_of_bit low b room zero one is x y in_x in_y same most =
-      let within : b ≤ 31 = is.0.within in
+      let within = is.0.within in
       let rx = tree_route low (fork room b zero one) is x in_x in
       let ry = tree_route low (fork room b zero one) is y in_y in
       one_pair low (fork room b zero one) is x y in_x in_y (same_keys x.entry y.entry rx ry (λ c fits. elim (cases_lt c x.entry.rank) [
@@ -116,7 +114,7 @@ module _ {V : Type 0} where
   -- ---- the home of a mask
   way_home : (m : Lodged V) (key rank : ℕ) (whole at : Part m) (ups : List (Part m)) → Way key whole at ups → HasHome key rank at.tree
       → HasHome key rank whole.tree
-  way_home m key rank whole at [] way home = subst (λ (p : Part m). HasHome key rank p.tree) way home
+  way_home m key rank whole at [] way home = subst (λ p. HasHome key rank p.tree) way home
   way_home m key rank whole at (p ∷ ps) way home =
       let b = way.0 in
       let f = b.at in
@@ -135,7 +133,7 @@ module _ {V : Type 0} where
       → MarkedLists H K whole.low whole.tree → MarkedLists H K h.part.low (tree_of h)
   lists_of m key whole h H K lists =
       let f = way_framed m key whole h.part h.ups h.way in
-      subst (MarkedLists H K h.part.low) h.at.is (subst (λ (n : ℕ). MarkedLists H K n h.part.tree) (sym f.lowest)
+      subst (MarkedLists H K h.part.low) h.at.is (subst (λ n. MarkedLists H K n h.part.tree) (sym f.lowest)
       (lists_at H K whole.low f.frames h.part.tree (subst (MarkedLists H K whole.low) f.was lists)))
 
   -- the list there
@@ -166,7 +164,7 @@ module _ {V : Type 0} where
       let old = lists_of m key whole h (heads_in m) (masks_in m) lists in
       let once_at = way_once key whole h.part h.ups h.way once in
       let most : (n : ℕ) → one_if (room.number == n) + (forks_at n f.zero + forks_at n f.one) ≤ 1 =
-      λ n. subst (λ (t : Tree V). forks_at n t ≤ 1) f.is (once_at.forks n) in (
+      λ n. subst (λ t. forks_at n t ≤ 1) f.is (once_at.forks n) in (
         r.list,
         lists_stay (heads_in m) (heads_in new) (masks_in m) (masks_in new) (f.bit + 1) f.zero is.1
             (λ n some. r.heads n (let few = most n in elsewhere room n (forks_at n f.zero) some (omega arith)))
@@ -181,26 +179,21 @@ module _ {V : Type 0} where
       → MarkedLists (heads_in m) (masks_in m) whole.low whole.tree → MarkedLists (heads_in new) (masks_in new) whole.low whole.tree
   relisted m new key rank whole room h once r lists =
       let f = way_framed m key whole h.part h.ups h.way in
-      let lowest : h.part.low ≡ low_past whole.low f.frames = f.lowest in
-      let own : MarkedLists (heads_in new) (masks_in new) (low_past whole.low f.frames) h.part.tree =
-      subst (λ (n : ℕ). MarkedLists (heads_in new) (masks_in new) n h.part.tree) f.lowest
+      let lowest = f.lowest in
+      let own = subst (λ n. MarkedLists (heads_in new) (masks_in new) n h.part.tree) f.lowest
       (subst (MarkedLists (heads_in new) (masks_in new) h.part.low) (sym h.at.is) (home_lists m new key rank whole room h once r lists)) in
       let in_whole : (y : Placed V) → IsIn y (plug f.frames h.part.tree) → IsIn y whole.tree = λ y is. subst (IsIn y) (sym f.was) is in
-      let forks : (n : ℕ) → forks_at n (plug f.frames h.part.tree) ≤ 1 = λ n. subst (λ (u : Tree V). forks_at n u ≤ 1) f.was (once.forks n) in
-      let leaves : (n : ℕ) → leaves_at n (plug f.frames h.part.tree) ≤ 1 = λ n. subst (λ (u : Tree V). leaves_at n u ≤ 1) f.was (once.leaves n) in
-      let here : 1 ≤ forks_at room.number h.part.tree =
-      subst (λ (u : Tree V). 1 ≤ forks_at room.number u) (sym h.at.is) (let one : one_if (room.number == room.number) ≡ 1 = one_if_same room.number in
+      let forks : (n : ℕ) → forks_at n (plug f.frames h.part.tree) ≤ 1 = λ n. subst (λ u. forks_at n u ≤ 1) f.was (once.forks n) in
+      let leaves : (n : ℕ) → leaves_at n (plug f.frames h.part.tree) ≤ 1 = λ n. subst (λ u. leaves_at n u ≤ 1) f.was (once.leaves n) in
+      let here = subst (λ u. 1 ≤ forks_at room.number u) (sym h.at.is) (let one = one_if_same room.number in
       omega arith) in
       let above : (y : Placed V) → IsIn y h.part.tree → y.entry.rank < low_past whole.low f.frames → masks_in new y.room.number ≡ masks_in m y.room.number =
       λ y is below. r.masks y (way_inside m key whole h.part h.ups h.way y is) (λ _ least _. omega arith) in
       let keeps : KeepsAbove (heads_in m) (heads_in new) (masks_in m) (masks_in new) (low_past whole.low f.frames) f.frames h.part.tree h.part.tree = record {
-        heads =
-            λ n some. r.heads n (λ e. let most = forks n in let at : 1 ≤ forks_at n h.part.tree = subst (λ (k : ℕ). 1 ≤ forks_at k h.part.tree) (sym e) here in
+        heads = λ n some. r.heads n (λ e. let most = forks n in let at = subst (λ k. 1 ≤ forks_at k h.part.tree) (sym e) here in
             omega arith);
-        aside = λ y aside. r.masks y (in_whole y (aside_in f.frames h.part.tree y aside))
-            (λ is _ _. let own_at : 1 ≤ leaves_at y.room.number h.part.tree = counted_leaf y h.part.tree is in
-            let more : 1 + leaves_at y.room.number h.part.tree ≤ leaves_at y.room.number (plug f.frames h.part.tree) =
-            aside_at f.frames h.part.tree y aside in
+        aside = λ y aside. r.masks y (in_whole y (aside_in f.frames h.part.tree y aside)) (λ is _ _. let own_at = counted_leaf y h.part.tree is in
+            let more = aside_at f.frames h.part.tree y aside in
             let most = leaves y.room.number in omega arith);
         stays = λ y is below marked. (is, above y is below);
         came = λ y is below marked. (is, marked_same (masks_in new) (masks_in m) y (sym (above y is below)) marked);
@@ -231,7 +224,7 @@ module _ {V : Type 0} where
     low = w.low;
     top = w.top;
     named = w.named;
-    leaves = λ n. w.leaves n ∙ ap (λ (o : Option (LeafPart V)). one_if (is_some o)) (sym (leaves n));
+    leaves = λ n. w.leaves n ∙ ap (λ o. one_if (is_some o)) (sym (leaves n));
     forks = λ n. w.forks n ∙ ap (λ o. one_if (is_some o)) (sym (bits n));
     spare = spare_same (bits_in m) (bits_in new) w.part.tree (λ y is none. bits y.room.number ∙ none) w.spare;
     lists = lists;
@@ -243,14 +236,13 @@ module _ {V : Type 0} where
   block_said : (m : Lodged V) (y : Placed V) {n : ℕ} (s : Seen V) → IsSaid (leaves_in m) y → y.room.number ≡ n → leaves_in m n ≡ leaf_in (Some s)
       → y.room.block ≡ s.block
   block_said m y s is same said =
-      let parts : leaf_part y is.0 is.1 is.2 ≡ record { block = s.block; value = s.value; leaf = leaf_of s.links } =
-      inside (sym is.3 ∙ ap (leaves_in m) same ∙ said) in ap (λ (p : LeafPart V). p.block) parts
+      let parts = inside (sym is.3 ∙ ap (leaves_in m) same ∙ said) in ap (λ p. p.block) parts
 
   pub placed_in : {m : Lodged V} {root : Node} {late : ℕ → Bool} (w : IsWholeBut m root late nobody_out) {room : Id} → Has m room
       → (y : Placed V) × IsIn y w.part.tree × (y.room ≡ room)
   placed_in {m = m} w {room = room} h =
-      let said : leaves_in m room.number ≡ leaf_in (Some h.room) = ap leaf_in h.at in
-      let count : leaves_at room.number w.part.tree + 0 ≡ 1 = w.leaves room.number ∙ ap (λ (o : Option (LeafPart V)). one_if (is_some o)) said in
+      let said = ap leaf_in h.at in
+      let count = w.leaves room.number ∙ ap (λ o. one_if (is_some o)) said in
       let y = route_at room.number w.part.tree (omega arith) in (
         y.0,
         y.1,

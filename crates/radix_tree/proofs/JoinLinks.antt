@@ -1,22 +1,22 @@
 -- A node comes into the place of the bit node above it, which is none from then on: what the rooms say.
+use Rattle.radix_tree.proofs.{RoomReads.inside, RoomReads.none_some, RoomReads.Has-leaf, PartRooms.elsewhere, PartRooms.way_once, PartRooms.spine_out}
+use Rattle.radix_tree.proofs.{Lodging.stays, JoinSides.side_is, JoinSides.side_stands, JoinSides.side_forks}
 use Rattle.radix_tree.proofs.Words.{◌≡◌, ◌+◌, ◌≤◌, ◌==◌, Bool, true, false, if◌then◌else◌, List, [], ◌∷◌, Option, Some, None, refl, sym, ap, ◌∙◌, arith}
 use Rattle.radix_tree.proofs.Words.{ℕ, eq-eqb, ne_eqb, is_some, Has, Id, Node, LeafOf, BitOf, Tree, LeafPart, BitPart, Part, bit_part, leaf_in, leaves_in}
 use Rattle.radix_tree.proofs.Words.{bits_in, name_of, Way, one_if, forks_at, name_child, with_child, AreOnce, IsApart, IsLone, content_of, put_bit}
 use Rattle.radix_tree.proofs.Words.{put_head, leaf_above, bit_above, lift_leaf, lift_bit, Lodged}
-use Rattle.radix_tree.proofs.{RoomReads.inside, RoomReads.none_some, RoomReads.Has-leaf, PartRooms.elsewhere, PartRooms.way_once, PartRooms.spine_out}
-use Rattle.radix_tree.proofs.{Lodging.stays, JoinSides.side_is, JoinSides.side_stands, JoinSides.side_forks}
 
 -- ---- a room that is not written
 pub put_off : (room : Id) (n : ℕ) (said : Option BitPart) → (n ≡ room.number → ⊥) → put_bit room None n said ≡ said
-put_off room n said other = ap (λ (t : Bool). if t then None else said) (ne_eqb n room.number other)
+put_off room n said other = ap (λ t. if t then None else said) (ne_eqb n room.number other)
 
 pub head_off : (room : Id) (n : ℕ) (said : Option Id) → (n ≡ room.number → ⊥) → put_head room None n said ≡ said
-head_off room n said other = ap (λ (t : Bool). if t then None else said) (ne_eqb n room.number other)
+head_off room n said other = ap (λ t. if t then None else said) (ne_eqb n room.number other)
 
 pub turn_off : (above : Option Id) (key n : ℕ) (to : Node) (said : Option BitPart) → ((over : Id) → above ≡ Some over → n ≡ over.number → ⊥)
     → name_child above key to n said ≡ said
 turn_off None key n to said other = refl
-turn_off (Some over) key n to said other = ap (λ (t : Bool). if t then with_child key to said else said) (ne_eqb n over.number (other over refl))
+turn_off (Some over) key n to said other = ap (λ t. if t then with_child key to said else said) (ne_eqb n over.number (other over refl))
 
 -- ---- a room that is no bit node
 both_none : (t : Bool) (x y : Option BitPart) → x ≡ None → y ≡ None → (if t then x else y) ≡ None
@@ -35,7 +35,7 @@ lift_none (LeafOf room) above n = refl
 lift_none (BitOf room) above n = both_none (n == room.number) (bit_above above None) None refl refl
 
 pub put_here : (room : Id) (said : Option BitPart) → put_bit room None room.number said ≡ None
-put_here room said = ap (λ (t : Bool). if t then bit_part room.block None else said) (eq-eqb room.number room.number refl)
+put_here room said = ap (λ t. if t then bit_part room.block None else said) (eq-eqb room.number room.number refl)
 
 -- ---- a room that is a bit node stays one
 turned_used : (key : ℕ) (to : Node) (said : Option BitPart) → is_some (with_child key to said) ≡ is_some said
@@ -87,19 +87,19 @@ module _ {V : Type 0} where
       → (q : Part put) × (name_of q.tree ≡ to)
   below_stays m with_child put p up key to named apart leaves1 leaves2 bits1 bits2 = (
     stays m put p (λ n some. leaves2 n ∙ leaves1 n)
-        (λ n some. bits2 n ∙ ap (λ (said : Option BitPart). put_bit up None n said) (bits1 n) ∙ quiet up key to n (bits_in m n) apart some),
+        (λ n some. bits2 n ∙ ap (put_bit up None n) (bits1 n) ∙ quiet up key to n (bits_in m n) apart some),
     named,
   )
 
   -- ---- the other side of the bit node above a lone leaf
   out_of_above : (m : Lodged V) (key : ℕ) (whole at : Part m) (ups : List (Part m)) (over : Id) → Way key whole at ups → whole.above ≡ None
       → AreOnce whole.tree → at.above ≡ Some over → (n : ℕ) → 1 ≤ forks_at n at.tree → n ≡ over.number → ⊥
-  out_of_above m key whole at [] over way top once is n some same = none_some (sym top ∙ sym (ap (λ (p : Part m). p.above) way) ∙ is)
+  out_of_above m key whole at [] over way top once is n some same = none_some (sym top ∙ sym (ap (λ p. p.above) way) ∙ is)
   out_of_above m key whole at (p ∷ ps) over way top once is n some same =
       let b = way.0 in
-      let out : forks_at b.room.number at.tree ≡ 0 = (spine_out m at p b (way_once key whole p ps way.1 once)).0 in
-      let room : b.room ≡ over = inside (sym b.above ∙ is) in
-      let here : forks_at n at.tree ≡ forks_at b.room.number at.tree = ap (λ (k : ℕ). forks_at k at.tree) (same ∙ ap (λ (i : Id). i.number) (sym room)) in
+      let out = (spine_out m at p b (way_once key whole p ps way.1 once)).0 in
+      let room = inside (sym b.above ∙ is) in
+      let here = ap (λ k. forks_at k at.tree) (same ∙ ap (λ i. i.number) (sym room)) in
       omega arith
 
   pub lone_once : {m : Lodged V} {whole : Part m} {at up : Id} (l : IsLone m whole at up) → AreOnce l.over.tree
@@ -111,9 +111,9 @@ module _ {V : Type 0} where
 
   pub lone_apart : (m : Lodged V) {whole : Part m} (at up : Id) (l : IsLone m whole at up) → IsApart l.other up l.over.above
   lone_apart m {whole = whole} at up l = record {
-    up_is = λ n some. let sum : forks_at n l.over.tree ≡ one_if (up.number == n) + (0 + forks_at n l.other) = lone_forks l n in
-        let most : forks_at n l.over.tree ≤ 1 = (lone_once l).forks n in elsewhere up n (forks_at n l.other) some (omega arith);
-    above_is = λ over is n some. let sum : forks_at n l.over.tree ≡ one_if (up.number == n) + (0 + forks_at n l.other) = lone_forks l n in
+    up_is = λ n some. let sum = lone_forks l n in
+        let most = (lone_once l).forks n in elsewhere up n (forks_at n l.other) some (omega arith);
+    above_is = λ over is n some. let sum = lone_forks l n in
         out_of_above m l.route.entry.key whole l.over l.ups over l.way l.top l.once is n (omega arith);
   }
 

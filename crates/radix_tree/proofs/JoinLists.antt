@@ -1,16 +1,16 @@
 -- The list of masks of a bit node that goes is handed on to the node that takes its place.
-use Rattle.radix_tree.proofs.Words.{◌≡◌, ◌+◌, ◌<◌, ◌≤◌, ◌⊎◌, ◌==◌, false, List, [], ◌∷◌, ◌++◌, Option, Some, None, inl, inr, refl, sym, ap, ◌∙◌, subst}
-use Rattle.radix_tree.proofs.Words.{arith, ℕ, cases_lt, cases_eq, is_some, Id, LeafOf, BitOf, Placed, Tree, leaf, fork, IsAmong, IsIn, IsTree, LeafPart}
-use Rattle.radix_tree.proofs.Words.{MaskPart, Heads, Masks, Part, leaves_in, bits_in, heads_in, masks_in, name_of, Falls, one_if, forks_at}
-use Rattle.radix_tree.proofs.Words.{AreOnce, HasSides, IsLone, IsHanded, IsMarked, IsMaskList, MarkedIn, MarkedLists, IsMasks, IsBitNode, IsAside, Lodged}
-use Rattle.radix_tree.proofs.MaskLists.{falls_wider, falls_among, falls_appended, among_appended, in_front, in_back, ranked_in, masks_listed}
-use Rattle.radix_tree.proofs.JoinSides.{true_not_false, side_is, side_stands, side_forks, side_in, in_side, side_list, side_lists, side_home}
 use Rattle.radix_tree.proofs.{RoomReads.inside, RoomReads.none_some, PartRooms.one_if_same, PartRooms.way_once, PlugLists.masks_stand_same}
 use Rattle.radix_tree.proofs.{WholeParts.some_of}
+use Rattle.radix_tree.proofs.Words.{◌≡◌, ◌+◌, ◌≤◌, ◌⊎◌, ◌==◌, List, [], ◌∷◌, ◌++◌, Option, Some, None, inl, inr, refl, sym, ap, ◌∙◌, subst, arith, ℕ}
+use Rattle.radix_tree.proofs.Words.{cases_lt, cases_eq, is_some, Id, LeafOf, BitOf, Placed, Tree, leaf, fork, IsAmong, IsIn, IsTree, MaskPart, Heads}
+use Rattle.radix_tree.proofs.Words.{Masks, Part, leaves_in, bits_in, heads_in, masks_in, name_of, Falls, one_if, forks_at, AreOnce, HasSides, IsLone}
+use Rattle.radix_tree.proofs.Words.{IsHanded, IsMarked, IsMaskList, MarkedIn, MarkedLists, IsMasks, IsBitNode, IsAside, Lodged}
+use Rattle.radix_tree.proofs.MaskLists.{falls_wider, falls_among, falls_appended, among_appended, in_front, in_back, ranked_in, masks_listed}
+use Rattle.radix_tree.proofs.JoinSides.{true_not_false, side_is, side_stands, side_forks, side_in, in_side, side_list, side_lists, side_home}
 
 unmarked_marked : {A : Type 0} (K : Masks) (x y : Placed A) → K x.room.number ≡ None → x ≡ y → IsMarked K y → ⊥
 unmarked_marked {A = A} K x y none same marked =
-    let never : is_some (K y.room.number) ≡ false = ap (λ (o : Option MaskPart). is_some o) (ap (λ (p : Placed A). K p.room.number) (sym same) ∙ none) in
+    let never = ap is_some (ap (λ p. K p.room.number) (sym same) ∙ none) in
     true_not_false (sym marked ∙ never)
 
 module _ {V : Type 0} where
@@ -21,10 +21,7 @@ module _ {V : Type 0} where
     | inl here ↦ inl (x, inl refl, here)
     | inr other ↦ elim (member_or_aside n ms) [
       | inl found ↦ inl (found.0, inr found.1, found.2)
-      | inr aside ↦ inr (λ y among same. elim among [
-        | inl e ↦ other (ap (λ (p : Placed V). p.room.number) e ∙ same)
-        | inr behind ↦ aside y behind same
-      ])
+      | inr aside ↦ inr (λ y among same. elim among [ inl e ↦ other (ap (λ p. p.room.number) e ∙ same) | inr behind ↦ aside y behind same ])
     ]
   ]
 
@@ -33,7 +30,7 @@ module _ {V : Type 0} where
   same_rank_at m p x y one other same =
       let first = ranked_in m p x one in
       let second = ranked_in m p y other in
-      sym first.rank ∙ ap (λ (q : LeafPart V). q.leaf.rank) (inside (sym first.said ∙ ap (leaves_in m) same ∙ second.said)) ∙ second.rank
+      sym first.rank ∙ ap (λ q. q.leaf.rank) (inside (sym first.said ∙ ap (leaves_in m) same ∙ second.said)) ∙ second.rank
 
   -- lists stay where their heads stay, and the masks of ranks at or past low
   lists_past : (H G : Heads) (K J : Masks) (low : ℕ) (t : Tree V) → ((n : ℕ) → 1 ≤ forks_at n t → G n ≡ H n)
@@ -42,11 +39,11 @@ module _ {V : Type 0} where
       → IsTree low t → MarkedLists H K low t → MarkedLists G J low t
   lists_past H G K J low (leaf x xs) heads masks marks is lists = tt
   lists_past H G K J low (fork room b zero one) heads masks marks is lists =
-      let rises : low ≤ b = is.0.rises in
-      let old : IsMaskList K (H room.number) low b (MarkedIn K (fork room b zero one)) = lists.0 in (
+      let rises = is.0.rises in
+      let old = lists.0 in (
         record {
           masks = old.masks;
-          begins = old.begins ∙ sym (heads room.number (let own : one_if (room.number == room.number) ≡ 1 = one_if_same room.number in omega arith));
+          begins = old.begins ∙ sym (heads room.number (let own = one_if_same room.number in omega arith));
           stands =
               masks_stand_same K J old.masks (λ y among. masks y (old.within y among).0 (falls_among low (b + 1) old.masks old.falls y among).0) old.stands;
           falls = old.falls;
@@ -75,12 +72,11 @@ module _ {V : Type 0} where
   two m over up room b c {own = own} zero one s lists =
       let t = fork room c zero one in
       let is = side_is over.low s over.is in
-      let low : over.low ≤ b = is.1 in
-      let within_b : b ≤ 31 = is.2 in
-      let rises : b + 1 ≤ c = is.0.0.rises in
-      let within : c ≤ 31 = is.0.0.within in
-      let theirs : IsMaskList (masks_in m) (heads_in m room.number) (b + 1) c (MarkedIn (masks_in m) (fork room c zero one)) =
-      (side_lists b (heads_in m) (masks_in m) over.low s lists).0 in
+      let low = is.1 in
+      let within_b = is.2 in
+      let rises = is.0.0.rises in
+      let within = is.0.0.within in
+      let theirs = (side_lists b (heads_in m) (masks_in m) over.low s lists).0 in
       let mine = side_list up b (heads_in m) (masks_in m) over.low s lists in
       record {
         own = theirs;
@@ -103,7 +99,7 @@ module _ {V : Type 0} where
   pub fork_of : (t : Tree V) {room : Id} → name_of t ≡ BitOf room → IsForkOf t room
   fork_of (leaf x xs) named = cc
   fork_of (fork i b zero one) {room = room} named = let same : i ≡ room = cc in
-      record { bit = b; zero = zero; one = one; is = ap (λ (j : Id). fork j b zero one) same }
+      record { bit = b; zero = zero; one = one; is = ap (λ j. fork j b zero one) same }
 
   pub record IsLeafOf (t : Tree V) (room : Id) : Type 0 where
     pub first : Placed V
@@ -121,13 +117,13 @@ module _ {V : Type 0} where
       → heads_in m up.number ≡ first → MarkedLists (heads_in m) (masks_in m) l.over.low l.over.tree → Ready m room first
   append_ready {m = m} at up room l named head lists =
       let f = fork_of l.other named in
-      let s = subst (λ (t : Tree V). HasSides l.route.entry.key l.over.tree up l.bit (leaf l.route []) t) f.is l.sides in
+      let s = subst (HasSides l.route.entry.key l.over.tree up l.bit (leaf l.route [])) f.is l.sides in
       let w = two m l.over up room l.bit f.bit f.zero f.one s lists in
-      let within : f.bit ≤ 31 = w.within in (
+      let within = w.within in (
         w.own.masks,
         w.gone.masks,
         w.own_is,
-        subst (λ (o : Option Id). IsMasks m o w.gone.masks) head w.gone_is,
+        subst (λ o. IsMasks m o w.gone.masks) head w.gone_is,
         falls_wider l.over.low (f.bit + 1) 0 34 (w.own.masks ++ w.gone.masks) w.falls (omega arith) (omega arith),
       )
 
@@ -135,7 +131,7 @@ module _ {V : Type 0} where
   pub sibling_node : {m : Lodged V} {whole : Part m} (at up room : Id) (l : IsLone m whole at up) → name_of l.other ≡ BitOf room → IsBitNode m room
   sibling_node {m = m} at up room l named =
       let f = fork_of l.other named in
-      let s = subst (λ (t : Tree V). HasSides l.route.entry.key l.over.tree up l.bit (leaf l.route []) t) f.is l.sides in
+      let s = subst (HasSides l.route.entry.key l.over.tree up l.bit (leaf l.route [])) f.is l.sides in
       let stands = side_stands up (leaves_in m) (bits_in m) l.over.above s l.over.stands in
       record { part = record { block = room.block; bit = f.bit; zero = name_of f.zero; one = name_of f.one; above = Some up }; said = stands.0; block = refl }
 
@@ -152,8 +148,8 @@ module _ {V : Type 0} where
       → IsAppended m new room first → ((y : Placed V) → IsIn y t → IsIn y over.tree)
       → (y : Placed V) → IsIn y over.tree → c + 1 ≤ y.entry.rank → masks_in new y.room.number ≡ masks_in m y.room.number
   rank_stays m new over b c w a inside_over y at past = a.masks w.own.masks w.own_is y.room.number (λ z among same.
-      let rank : z.entry.rank ≡ y.entry.rank = same_rank_at m over z y (inside_over z (w.own.within z among).0) at same in
-      let most : z.entry.rank < c + 1 = (falls_among (b + 1) (c + 1) w.own.masks w.own.falls z among).1 in absurd (omega arith))
+      let rank = same_rank_at m over z y (inside_over z (w.own.within z among).0) at same in
+      let most = (falls_among (b + 1) (c + 1) w.own.masks w.own.falls z among).1 in absurd (omega arith))
 
   fork_handed : (m new : Lodged V) (over : Part m) {key : ℕ} (up room : Id) (b c : ℕ) (x : Placed V) (zero one : Tree V) {first : Option Id}
       → HasSides key over.tree up b (leaf x []) (fork room c zero one) → heads_in m up.number ≡ first → masks_in m x.room.number ≡ None
@@ -163,26 +159,25 @@ module _ {V : Type 0} where
       let w = two m over up room b c zero one s lists in
       let is = side_is over.low s over.is in
       let old = side_lists b (heads_in m) (masks_in m) over.low s lists in
-      let low : over.low ≤ b = w.low in
-      let rises : b + 1 ≤ c = w.rises in
-      let within : c ≤ 31 = w.within in
+      let low = w.low in
+      let rises = w.rises in
+      let within = w.within in
       let beneath : (y : Placed V) → IsIn y (fork room c zero one) → IsIn y over.tree = λ y at. in_side y s at in
-      let own : one_if (room.number == room.number) ≡ 1 = one_if_same room.number in
-      let now = a.list w.own.masks w.gone.masks w.own_is (subst (λ (o : Option Id). IsMasks m o w.gone.masks) head w.gone_is)
+      let own = one_if_same room.number in
+      let now = a.list w.own.masks w.gone.masks w.own_is (subst (λ o. IsMasks m o w.gone.masks) head w.gone_is)
       (falls_wider over.low (c + 1) 0 34 (w.own.masks ++ w.gone.masks) w.falls (omega arith) (omega arith)) in
       let marked_now : (y : Placed V) → IsMarked (masks_in m) y → IsMarked (masks_in new) y = λ y marked. a.marks y.room.number ∙ marked in
       let marked_then : (y : Placed V) → IsMarked (masks_in new) y → IsMarked (masks_in m) y = λ y marked. sym (a.marks y.room.number) ∙ marked in
       let most_forks : (n : ℕ) → one_if (up.number == n) + (0 + (one_if (room.number == n) + (forks_at n zero + forks_at n one))) ≤ 1 = λ n.
-      let sum : forks_at n over.tree ≡ one_if (up.number == n) + (0 + (one_if (room.number == n) + (forks_at n zero + forks_at n one))) = side_forks up n s in
-      let most : forks_at n over.tree ≤ 1 = once.forks n in omega arith in
+      let sum = side_forks up n s in
+      let most = once.forks n in omega arith in
       record {
         heads = λ n none. a.heads n (λ same.
-            let sum : forks_at n over.tree ≡ one_if (up.number == n) + (0 + (one_if (room.number == n) + (forks_at n zero + forks_at n one))) =
-            side_forks up n s in
-            let here : one_if (room.number == n) ≡ 1 = ap (λ (k : ℕ). one_if (room.number == k)) same ∙ one_if_same room.number in absurd (omega arith));
+            let sum = side_forks up n s in
+            let here = ap (λ k. one_if (room.number == k)) same ∙ one_if_same room.number in absurd (omega arith));
         masks = λ n aside. a.masks w.own.masks w.own_is n (λ z among same. aside z (beneath z (w.own.within z among).0)
-            (let least : b + 1 ≤ z.entry.rank = (falls_among (b + 1) (c + 1) w.own.masks w.own.falls z among).0 in omega arith) same);
-        marks = λ n p said. some_of (masks_in m n) (sym (a.marks n) ∙ ap (λ (o : Option MaskPart). is_some o) said);
+            (let least = (falls_among (b + 1) (c + 1) w.own.masks w.own.falls z among).0 in omega arith) same);
+        marks = λ n p said. some_of (masks_in m n) (sym (a.marks n) ∙ ap is_some said);
         kept = λ y at marked home. elim (side_home b y.entry.key y.entry.rank s home) [
           | inl le ↦ inr (inl (omega arith))
           | inr deep ↦ elim deep [ inl none ↦ absurd none | inr there ↦ inr there ]
@@ -210,12 +205,10 @@ module _ {V : Type 0} where
             ];
           },
           lists_past (heads_in m) (heads_in new) (masks_in m) (masks_in new) (c + 1) zero (λ n some. let most =
-              most_forks n in a.heads n (λ same. let here : one_if (room.number == n) ≡ 1 =
-              ap (λ (k : ℕ). one_if (room.number == k)) same ∙ one_if_same room.number in absurd (omega arith)))
+              most_forks n in a.heads n (λ same. let here = ap (λ k. one_if (room.number == k)) same ∙ one_if_same room.number in absurd (omega arith)))
               (λ y at past. rank_stays m new over b c w a beneath y (beneath y (inl at)) past) (λ y at. a.marks y.room.number) is.0.1 old.1,
           lists_past (heads_in m) (heads_in new) (masks_in m) (masks_in new) (c + 1) one (λ n some. let most =
-              most_forks n in a.heads n (λ same. let here : one_if (room.number == n) ≡ 1 =
-              ap (λ (k : ℕ). one_if (room.number == k)) same ∙ one_if_same room.number in absurd (omega arith)))
+              most_forks n in a.heads n (λ same. let here = ap (λ k. one_if (room.number == k)) same ∙ one_if_same room.number in absurd (omega arith)))
               (λ y at past. rank_stays m new over b c w a beneath y (beneath y (inr at)) past) (λ y at. a.marks y.room.number) is.0.2 old.2,
         );
       }
@@ -225,10 +218,10 @@ module _ {V : Type 0} where
       → MarkedLists (heads_in m) (masks_in m) l.over.low l.over.tree → IsAppended m new room first → IsHanded m new l.over.low l.over.tree l.other
   bit_handed m new whole at up room l named head unmarked lists a =
       let f = fork_of l.other named in
-      let s = subst (λ (t : Tree V). HasSides l.route.entry.key l.over.tree up l.bit (leaf l.route []) t) f.is l.sides in
+      let s = subst (HasSides l.route.entry.key l.over.tree up l.bit (leaf l.route [])) f.is l.sides in
       let once = way_once l.route.entry.key whole l.over l.ups l.way l.once in
-      subst (λ (t : Tree V). IsHanded m new l.over.low l.over.tree t) (sym f.is)
-      (fork_handed m new l.over up room l.bit f.bit l.route f.zero f.one s head (ap (λ (i : Id). masks_in m i.number) l.room_is ∙ unmarked) lists once a)
+      subst (IsHanded m new l.over.low l.over.tree) (sym f.is)
+      (fork_handed m new l.over up room l.bit f.bit l.route f.zero f.one s head (ap (λ i. masks_in m i.number) l.room_is ∙ unmarked) lists once a)
 
   -- ---- to a leaf
   pub clear_ready : {m : Lodged V} {whole : Part m} (at up : Id) {first : Option Id} (l : IsLone m whole at up) → heads_in m up.number ≡ first
@@ -237,7 +230,7 @@ module _ {V : Type 0} where
       let is = side_is l.over.low l.sides l.over.is in
       let mine = side_list up l.bit (heads_in m) (masks_in m) l.over.low l.sides lists in (
         mine.masks,
-        subst (λ (o : Option Id). IsMasks m o mine.masks) head (masks_listed l.over mine is.2 (λ y member. member.0)),
+        subst (λ o. IsMasks m o mine.masks) head (masks_listed l.over mine is.2 (λ y member. member.0)),
       )
 
   -- what clear leaves
@@ -251,9 +244,9 @@ module _ {V : Type 0} where
       → IsCleared m new first → IsHanded m new over.low over.tree (leaf y0 ys)
   leaf_handed m new over up b x y0 ys first s head lists a =
       let is = side_is over.low s over.is in
-      let within : b ≤ 31 = is.2 in
+      let within = is.2 in
       let mine = side_list up b (heads_in m) (masks_in m) over.low s lists in
-      let ready : IsMasks m first mine.masks = subst (λ (o : Option Id). IsMasks m o mine.masks) head (masks_listed over mine within (λ y member. member.0)) in
+      let ready = subst (λ o. IsMasks m o mine.masks) head (masks_listed over mine within (λ y member. member.0)) in
       let marks : (n : ℕ) (p : MaskPart) → masks_in new n ≡ Some p → masks_in m n ≡ Some p = λ n p said. elim (member_or_aside n mine.masks) [
         | inl found ↦ absurd (none_some (sym (a.cleared mine.masks found.0 ready found.1) ∙ ap (masks_in new) found.2 ∙ said))
         | inr aside ↦ sym (a.masks mine.masks ready n aside) ∙ said
@@ -267,7 +260,7 @@ module _ {V : Type 0} where
           | inl le ↦ elim (cases_lt y.entry.rank over.low) [
             | inl short ↦ inl short
             | inr long ↦ let q = some_of (masks_in new y.room.number) marked in
-                let was : IsMarked (masks_in m) y = ap (λ (o : Option MaskPart). is_some o) (marks y.room.number q.0 q.1) in
+                let was = ap is_some (marks y.room.number q.0 q.1) in
                 let among = mine.has y (in_side y s at, was) long le in
                 absurd (none_some (sym (a.cleared mine.masks y ready among) ∙ q.1))
           ]
@@ -282,5 +275,5 @@ module _ {V : Type 0} where
       → MarkedLists (heads_in m) (masks_in m) l.over.low l.over.tree → IsCleared m new first → IsHanded m new l.over.low l.over.tree l.other
   leaf_side_handed m new at up first l named head lists a =
       let f = leaf_of l.other named in
-      let s = subst (λ (t : Tree V). HasSides l.route.entry.key l.over.tree up l.bit (leaf l.route []) t) f.is l.sides in
-      subst (λ (t : Tree V). IsHanded m new l.over.low l.over.tree t) (sym f.is) (leaf_handed m new l.over up l.bit l.route f.first f.rest first s head lists a)
+      let s = subst (HasSides l.route.entry.key l.over.tree up l.bit (leaf l.route [])) f.is l.sides in
+      subst (IsHanded m new l.over.low l.over.tree) (sym f.is) (leaf_handed m new l.over up l.bit l.route f.first f.rest first s head lists a)

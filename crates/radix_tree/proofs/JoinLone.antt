@@ -1,14 +1,13 @@
 -- A route that is alone at its leaf, found by its room.
-use Rattle.radix_tree.proofs.Words.{◌≡◌, ◌+◌, ◌≤◌, ◌==◌, Bool, true, false, List, [], ◌∷◌, Option, Some, None, inl, inr, refl, sym, ap, ◌∙◌, subst, arith}
-use Rattle.radix_tree.proofs.Words.{ℕ, eqb-true, cases_eq, is_some, Ptr, Id, Node, Placed, Tree, leaf, fork, IsAmong, IsIn, LeafPart, Leaves, Part}
-use Rattle.radix_tree.proofs.Words.{leaves_in, bits_in, first_room, leaf_part, ChainStands, Stands, Way, one_if, members_at, leaves_at, AreOnce, HasSides}
-use Rattle.radix_tree.proofs.Words.{IsLone, IsWholeBut, nobody_out, Lodged}
 use Rattle.radix_tree.proofs.{RoomReads.inside, RoomReads.none_some, TreeMembers.tree_said, WaysDown.way_to_leaf, WholeParts.once_but, JoinSides.sides_of}
 use Rattle.radix_tree.proofs.{JoinSides.side_own_stands}
+use Rattle.radix_tree.proofs.Words.{◌≡◌, ◌+◌, ◌≤◌, ◌==◌, Bool, true, false, List, [], ◌∷◌, Option, Some, None, inl, inr, refl, sym, ap, ◌∙◌, subst, arith}
+use Rattle.radix_tree.proofs.Words.{ℕ, eqb-true, cases_eq, is_some, Id, Node, Placed, Tree, leaf, fork, IsAmong, IsIn, LeafPart, Leaves, Part, leaves_in}
+use Rattle.radix_tree.proofs.Words.{bits_in, first_room, leaf_part, ChainStands, Stands, Way, one_if, members_at, leaves_at, AreOnce, HasSides, IsLone}
+use Rattle.radix_tree.proofs.Words.{IsWholeBut, nobody_out, Lodged}
 
 same_id : (a b : Id) → a.number ≡ b.number → a.block ≡ b.block → a ≡ b
-same_id a b number block =
-    ap (λ (n : ℕ). record { number = n; block = a.block }) number ∙ ap (λ (p : Ptr). record { number = b.number; block = p }) block
+same_id a b number block = ap (λ n. record { number = n; block = a.block }) number ∙ ap (λ p. record { number = b.number; block = p }) block
 
 module _ {V : Type 0} where
   none_first : (xs : List (Placed V)) → first_room xs ≡ None → xs ≡ []
@@ -36,8 +35,7 @@ module _ {V : Type 0} where
       → ChainStands L above (Some previous) c → IsAmong y c → L y.room.number ≡ Some p → p.leaf.previous ≡ None → ⊥
   has_previous L above previous [] y stands among said none = among
   has_previous L above previous (x ∷ c) y stands among said none = elim among [
-    | inl e ↦ none_some (sym none ∙ ap (λ (q : LeafPart V). q.leaf.previous)
-        (inside (sym said ∙ ap (λ (z : Placed V). L z.room.number) (sym e) ∙ stands.0)))
+    | inl e ↦ none_some (sym none ∙ ap (λ q. q.leaf.previous) (inside (sym said ∙ ap (λ z. L z.room.number) (sym e) ∙ stands.0)))
     | inr behind ↦ has_previous L None x.room c y stands.1 behind said none
   ]
 
@@ -49,27 +47,27 @@ module _ {V : Type 0} where
   alone : (L : Leaves V) (above : Option Id) (x : Placed V) (xs : List (Placed V)) (y : Placed V) (p : LeafPart V) → ChainStands L above None (x ∷ xs)
       → IsAmong y (x ∷ xs) → L y.room.number ≡ Some p → p.leaf.next ≡ None → p.leaf.previous ≡ None → IsAlone L above x xs y p
   alone L above x xs y p stands among said next previous = elim among [
-    | inl e ↦ let is : p ≡ leaf_part x above None (first_room xs) = inside (sym said ∙ ap (λ (z : Placed V). L z.room.number) (sym e) ∙ stands.0) in
-        record { first = e; rest = none_first xs (sym (ap (λ (q : LeafPart V). q.leaf.next) is) ∙ next); above_is = ap (λ (q : LeafPart V). q.leaf.above) is }
+    | inl e ↦ let is = inside (sym said ∙ ap (λ z. L z.room.number) (sym e) ∙ stands.0) in
+        record { first = e; rest = none_first xs (sym (ap (λ q. q.leaf.next) is) ∙ next); above_is = ap (λ q. q.leaf.above) is }
     | inr behind ↦ absurd (has_previous L None x.room xs y stands.1 behind said previous)
   ]
 
   -- ---- and the bit node above it
   lone_over : (m : Lodged V) (whole : Part m) (at up : Id) (y : Placed V) (under : Part m) (ups : List (Part m)) → y.room ≡ at → under.tree ≡ leaf y []
       → under.above ≡ Some up → Way y.entry.key whole under ups → whole.above ≡ None → AreOnce whole.tree → IsLone m whole at up
-  lone_over m whole at up y under [] room_is tree above way top once = absurd (none_some (sym top ∙ sym (ap (λ (p : Part m). p.above) way) ∙ above))
+  lone_over m whole at up y under [] room_is tree above way top once = absurd (none_some (sym top ∙ sym (ap (λ p. p.above) way) ∙ above))
   lone_over m whole at up y under (q ∷ qs) room_is tree above way top once =
       let b = way.0 in
       let found = sides_of m y.entry.key under q b in
-      let same : b.room ≡ up = inside (sym b.above ∙ above) in
+      let same = inside (sym b.above ∙ above) in
       record {
         route = y;
         room_is = room_is;
         over = q;
         bit = b.at.bit;
         other = found.0;
-        sides = subst (λ (i : Id). HasSides y.entry.key q.tree i b.at.bit (leaf y []) found.0) same
-            (subst (λ (t : Tree V). HasSides y.entry.key q.tree b.room b.at.bit t found.0) tree found.1);
+        sides = subst (λ i. HasSides y.entry.key q.tree i b.at.bit (leaf y []) found.0) same
+            (subst (λ t. HasSides y.entry.key q.tree b.room b.at.bit t found.0) tree found.1);
         ups = qs;
         way = way.1;
         top = top;
@@ -80,21 +78,20 @@ module _ {V : Type 0} where
       → leaves_in m at.number ≡ Some p → p.block ≡ at.block
       → p.leaf.next ≡ None → p.leaf.previous ≡ None → p.leaf.above ≡ Some up → IsLone m w.part at up
   lone m w at up {p = p} said block next previous above =
-      let count : leaves_at at.number w.part.tree + 0 ≡ one_if (is_some (leaves_in m at.number)) = w.leaves at.number in
-      let used : one_if (is_some (leaves_in m at.number)) ≡ 1 = ap (λ (o : Option (LeafPart V)). one_if (is_some o)) said in
+      let count = w.leaves at.number in
+      let used = ap (λ o. one_if (is_some o)) said in
       let y = tree_room at.number w.part.tree (omega arith) in
-      let own : leaves_in m y.0.room.number ≡ Some p = ap (leaves_in m) y.2 ∙ said in
+      let own = ap (leaves_in m) y.2 ∙ said in
       let told = tree_said (leaves_in m) (bits_in m) w.part.above w.part.tree w.part.stands y.0 y.1 in
-      let same : y.0.room ≡ at = same_id y.0.room at y.2 (sym (ap (λ (q : LeafPart V). q.block) (inside (sym own ∙ told.3))) ∙ block) in
+      let same = same_id y.0.room at y.2 (sym (ap (λ q. q.block) (inside (sym own ∙ told.3))) ∙ block) in
       let found = way_to_leaf m w.part y.0 y.1 in
       let f = found.at in
       let is_alone = alone (leaves_in m) found.part.above f.first f.rest y.0 p
       (subst (Stands (leaves_in m) (bits_in m) found.part.above) f.is found.part.stands) (subst (IsIn y.0) f.is found.among) own next previous in
-      lone_over m w.part at up y.0 found.part found.ups same
-      (f.is ∙ ap (λ (x : Placed V). leaf x f.rest) is_alone.first ∙ ap (λ (xs : List (Placed V)). leaf y.0 xs) is_alone.rest)
+      lone_over m w.part at up y.0 found.part found.ups same (f.is ∙ ap (λ x. leaf x f.rest) is_alone.first ∙ ap (leaf y.0) is_alone.rest)
       (sym is_alone.above_is ∙ above) found.way w.top (once_but w)
 
   -- what the room says
   pub lone_said : (m : Lodged V) {whole : Part m} (at up : Id) (l : IsLone m whole at up) → leaves_in m at.number ≡ Some (leaf_part l.route (Some up) None None)
-  lone_said m at up l = ap (λ (i : Id). leaves_in m i.number) (sym l.room_is)
+  lone_said m at up l = ap (λ i. leaves_in m i.number) (sym l.room_is)
       ∙ (side_own_stands up (leaves_in m) (bits_in m) l.over.above l.sides l.over.stands).0

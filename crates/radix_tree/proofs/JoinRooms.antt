@@ -1,14 +1,13 @@
 -- A route that is alone at its leaf, and the bit node above it, as they are read of their rooms.
-use Rattle.radix_tree.proofs.Words.{◌≡◌, ◌+◌, ◌≤◌, Bool, true, List, [], ◌∷◌, Option, Some, None, refl, sym, ap, ◌∙◌, subst, arith, ℕ, inl, inr, eqb-true}
-use Rattle.radix_tree.proofs.Words.{cases_eq, is_some, Seen, Has, leaf_of, bit_node_of, Id, BitNode, Leaf, Links, Node, Placed, Tree, leaf, fork, bit_at}
-use Rattle.radix_tree.proofs.Words.{IsAmong, IsIn, IsTree, LeafPart, BitPart, Bits, Part, leaf_in, leaves_in, bits_in, heads_in, masks_in, leaf_part}
-use Rattle.radix_tree.proofs.Words.{name_of, ForkAt, Beneath, Way, one_if, leaves_at, AreIdle, HasOneFork, HaveOneFork, name_child, other_side, IsApart}
-use Rattle.radix_tree.proofs.Words.{IsLone, MarkedLists, IsWholeBut, is_of_key, has_key, nobody_out, Content, content_of, KeepsRoutes, put_bit, lift_leaf}
-use Rattle.radix_tree.proofs.Words.{lift_bit, Lodged, IsLonely}
-use Rattle.radix_tree.proofs.RoomReads.{inside, none_some, AreLinks, Has-leaf, bit_read, bit_used, head_read}
 use Rattle.radix_tree.proofs.{AddressBits.zero_not_one, Parts.Has-fork, TreeMembers.bit_beneath, TreeMembers.tree_said, Lodging.stays, Lodging.over_at}
 use Rattle.radix_tree.proofs.{JoinSides.true_not_false, JoinSides.SaysOther, JoinSides.side_is, JoinSides.side_says, JoinSides.side_fork}
 use Rattle.radix_tree.proofs.{JoinLone.tree_room, JoinLone.lone, JoinLone.lone_said, JoinLinks.lone_apart, JoinLinks.other_part, JoinWhole.IsJoined}
+use Rattle.radix_tree.proofs.Words.{◌≡◌, ◌+◌, ◌≤◌, Bool, true, List, [], ◌∷◌, Option, Some, None, refl, sym, ap, ◌∙◌, subst, arith, ℕ, inl, inr, eqb-true}
+use Rattle.radix_tree.proofs.Words.{cases_eq, is_some, Has, leaf_of, bit_node_of, Id, BitNode, Leaf, Links, Node, Placed, Tree, leaf, fork, bit_at}
+use Rattle.radix_tree.proofs.Words.{IsAmong, IsIn, IsTree, LeafPart, BitPart, Bits, Part, leaf_in, leaves_in, bits_in, heads_in, masks_in, name_of}
+use Rattle.radix_tree.proofs.Words.{ForkAt, Beneath, Way, one_if, AreIdle, HasOneFork, HaveOneFork, name_child, other_side, IsApart, IsLone, MarkedLists}
+use Rattle.radix_tree.proofs.Words.{IsWholeBut, is_of_key, has_key, nobody_out, content_of, KeepsRoutes, put_bit, lift_leaf, lift_bit, Lodged, IsLonely}
+use Rattle.radix_tree.proofs.RoomReads.{inside, none_some, AreLinks, Has-leaf, bit_read, bit_used, head_read}
 
 module _ {V : Type 0} where
   -- ---- the route's room
@@ -22,18 +21,18 @@ module _ {V : Type 0} where
       → Has m at → AreLinks m at links → l ≡ leaf_of links → IsLonely m at → l.above ≡ Some up → IsLone m w.part at up
   lone_read {m = m} w {at = at} {up = up} links h are is lonely above =
       let r = lonely (own_part h) (ap leaf_in h.at) in
-      lone m w at up (ap leaf_in h.at) h.block r.0 r.1 (ap (λ (z : Leaf). z.above) (read_is links h are is) ∙ above)
+      lone m w at up (ap leaf_in h.at) h.block r.0 r.1 (ap (λ z. z.above) (read_is links h are is) ∙ above)
 
   pub never_top : {m : Lodged V} {at : Id} (links : Links) {l : Leaf} → Has m at → AreLinks m at links → l ≡ leaf_of links → IsLonely m at → l.above ≡ None → ⊥
   never_top links h are is lonely none =
       let r = lonely (own_part h) (ap leaf_in h.at) in
-      true_not_false (sym r.2 ∙ ap (λ (z : Leaf). is_some z.above) (read_is links h are is) ∙ ap (λ (o : Option Id). is_some o) none)
+      true_not_false (sym r.2 ∙ ap (λ z. is_some z.above) (read_is links h are is) ∙ ap is_some none)
 
   pub key_read : {m : Lodged V} {whole : Part m} {at up : Id} (links : Links) {l : Leaf} (f : IsLone m whole at up) → Has m at → AreLinks m at links
       → l ≡ leaf_of links → f.route.entry.key ≡ l.key
   key_read {m = m} {at = at} {up = up} links f h are is =
-      let same : leaf_part f.route (Some up) None None ≡ own_part h = inside (sym (lone_said m at up f) ∙ ap leaf_in h.at) in
-      ap (λ (p : LeafPart V). p.leaf.key) same ∙ ap (λ (z : Leaf). z.key) (read_is links h are is)
+      let same = inside (sym (lone_said m at up f) ∙ ap leaf_in h.at) in
+      ap (λ p. p.leaf.key) same ∙ ap (λ z. z.key) (read_is links h are is)
 
   -- ---- the bit node above
   pub Has-up : {m : Lodged V} {whole : Part m} {at up : Id} → IsLone m whole at up → Has m up
@@ -57,15 +56,14 @@ module _ {V : Type 0} where
   up_read {m = m} {at = at} {up = up} links {node = node} {key = key} l are is key_is =
       let s = up_says m at up l in
       let read = bit_read m up links s.says s.block are is in
-      let same_bit : node.bit ≡ l.bit = read.bit ∙ s.bit in
-      let most : l.bit ≤ 31 = (side_is l.over.low l.sides l.over.is).2 in
+      let same_bit = read.bit ∙ s.bit in
+      let most = (side_is l.over.low l.sides l.over.is).2 in
       record {
         bit = omega arith;
         above = sym (read.above ∙ s.above_is);
-        to = sym s.other ∙ ap (λ (k : ℕ). other_side k l.bit s.part.zero s.part.one) key_is
-            ∙ ap (λ (b : ℕ). other_side key b s.part.zero s.part.one) (sym same_bit)
-            ∙ ap (λ (z : Node). other_side key node.bit z s.part.one) (sym read.zero)
-            ∙ ap (λ (z : Node). other_side key node.bit node.zero z) (sym read.one);
+        to = sym s.other ∙ ap (λ k. other_side k l.bit s.part.zero s.part.one) key_is
+            ∙ ap (λ b. other_side key b s.part.zero s.part.one) (sym same_bit) ∙ ap (λ z. other_side key node.bit z s.part.one) (sym read.zero)
+            ∙ ap (other_side key node.bit node.zero) (sym read.one);
         head = head_read links (Has-up l) are is;
       }
 
@@ -75,14 +73,14 @@ module _ {V : Type 0} where
   marked_beneath m address under over b listed =
       let f = b.at in
       let lists = subst (MarkedLists (heads_in m) (masks_in m) over.low) f.is listed in
-      subst (λ (low : ℕ). MarkedLists (heads_in m) (masks_in m) low under.tree) (sym b.low) (elim b.side [
+      subst (λ low. MarkedLists (heads_in m) (masks_in m) low under.tree) (sym b.low) (elim b.side [
         | inl e ↦ subst (MarkedLists (heads_in m) (masks_in m) (f.bit + 1)) (sym e.0) lists.1
         | inr e ↦ subst (MarkedLists (heads_in m) (masks_in m) (f.bit + 1)) (sym e.0) lists.2
       ])
 
   pub way_marked : {m : Lodged V} (address : ℕ) (whole at : Part m) (ups : List (Part m)) → Way address whole at ups
       → MarkedLists (heads_in m) (masks_in m) whole.low whole.tree → MarkedLists (heads_in m) (masks_in m) at.low at.tree
-  way_marked {m = m} address whole at [] way listed = subst (λ (p : Part m). MarkedLists (heads_in m) (masks_in m) p.low p.tree) (sym way) listed
+  way_marked {m = m} address whole at [] way listed = subst (λ p. MarkedLists (heads_in m) (masks_in m) p.low p.tree) (sym way) listed
   way_marked {m = m} address whole at (p ∷ ps) way listed = marked_beneath m address at p way.0 (way_marked address whole p ps way.1 listed)
 
   -- ---- in the rooms once the list is handed on
@@ -99,7 +97,7 @@ module _ {V : Type 0} where
   beneath_after m new at up l leaves bits above_is to_is = (
     stays m new (other_part m at up l) (λ n some. leaves n) (λ n some. bits n),
     to_is,
-    subst (λ (o : Option Id). IsApart l.other up o) above_is (lone_apart m at up l),
+    subst (IsApart l.other up) above_is (lone_apart m at up l),
   )
 
   pub joined : {m : Lodged V} (handed new : Lodged V) {whole : Part m} {at up : Id} (l : IsLone m whole at up) {above : Option Id} {key : ℕ} {to : Node}
@@ -108,13 +106,12 @@ module _ {V : Type 0} where
       → ((n : ℕ) → leaves_in new n ≡ lift_leaf to above n (leaves_in handed n))
       → ((n : ℕ) → bits_in new n ≡ lift_bit to above n (put_bit up None n (name_child above key to n (bits_in handed n)))) → IsJoined m new whole at up l
   joined {m = m} handed new {up = up} l {above = above} {key = key} {to = to} above_is key_is to_is leaves bits new_leaves new_bits = record {
-    leaves = λ n. new_leaves n ∙ ap (λ (said : Option (LeafPart V)). lift_leaf to above n said) (leaves n)
-        ∙ ap (λ (z : Node). lift_leaf z above n (leaves_in m n)) (sym to_is)
-        ∙ ap (λ (o : Option Id). lift_leaf (name_of l.other) o n (leaves_in m n)) (sym above_is);
-    bits = λ n. new_bits n ∙ ap (λ (said : Option BitPart). lift_bit to above n (put_bit up None n (name_child above key to n said))) (bits n)
-        ∙ ap (λ (z : Node). lift_bit z above n (put_bit up None n (name_child above key z n (bits_in m n)))) (sym to_is)
-        ∙ ap (λ (o : Option Id). lift_bit (name_of l.other) o n (put_bit up None n (name_child o key (name_of l.other) n (bits_in m n)))) (sym above_is)
-        ∙ ap (λ (k : ℕ). lift_bit (name_of l.other) l.over.above n (put_bit up None n (name_child l.over.above k (name_of l.other) n (bits_in m n))))
+    leaves = λ n. new_leaves n ∙ ap (lift_leaf to above n) (leaves n) ∙ ap (λ z. lift_leaf z above n (leaves_in m n)) (sym to_is)
+        ∙ ap (λ o. lift_leaf (name_of l.other) o n (leaves_in m n)) (sym above_is);
+    bits = λ n. new_bits n ∙ ap (λ said. lift_bit to above n (put_bit up None n (name_child above key to n said))) (bits n)
+        ∙ ap (λ z. lift_bit z above n (put_bit up None n (name_child above key z n (bits_in m n)))) (sym to_is)
+        ∙ ap (λ o. lift_bit (name_of l.other) o n (put_bit up None n (name_child o key (name_of l.other) n (bits_in m n)))) (sym above_is)
+        ∙ ap (λ k. lift_bit (name_of l.other) l.over.above n (put_bit up None n (name_child l.over.above k (name_of l.other) n (bits_in m n))))
         (sym key_is);
   }
 
@@ -122,23 +119,20 @@ module _ {V : Type 0} where
   idle_among : (B : Bits) (xs : List (Placed V)) (z : Placed V) → AreIdle B xs → IsAmong z xs → B z.room.number ≡ None
   idle_among B [] z idle among = absurd among
   idle_among B (x ∷ xs) z idle among =
-      elim among [ inl e ↦ ap (λ (p : Placed V). B p.room.number) (sym e) ∙ idle.0 | inr behind ↦ idle_among B xs z idle.1 behind ]
+      elim among [ inl e ↦ ap (λ p. B p.room.number) (sym e) ∙ idle.0 | inr behind ↦ idle_among B xs z idle.1 behind ]
 
   chain_others : (B : Bits) (xs : List (Placed V)) (y z : Placed V) → HasOneFork B xs → IsAmong y xs → IsAmong z xs → (z.room.number ≡ y.room.number → ⊥)
       → (B y.room.number ≡ None → ⊥) → B z.room.number ≡ None
   chain_others B [] y z one first second apart used = absurd first
   chain_others B (x ∷ xs) y z one first second apart used = elim one [
     | inl idle ↦ elim second [
-      | inl ez ↦ elim first [
-        | inl ey ↦ absurd (apart (ap (λ (p : Placed V). p.room.number) (sym ez ∙ ey)))
-        | inr by ↦ absurd (used (idle_among B xs y idle by))
-      ]
+      | inl ez ↦ elim first [ inl ey ↦ absurd (apart (ap (λ p. p.room.number) (sym ez ∙ ey))) | inr by ↦ absurd (used (idle_among B xs y idle by)) ]
       | inr bz ↦ idle_among B xs z idle bz
     ]
     | inr rest ↦ elim second [
-      | inl ez ↦ ap (λ (p : Placed V). B p.room.number) (sym ez) ∙ rest.0
+      | inl ez ↦ ap (λ p. B p.room.number) (sym ez) ∙ rest.0
       | inr bz ↦ elim first [
-        | inl ey ↦ absurd (used (ap (λ (p : Placed V). B p.room.number) (sym ey) ∙ rest.0))
+        | inl ey ↦ absurd (used (ap (λ p. B p.room.number) (sym ey) ∙ rest.0))
         | inr by ↦ chain_others B xs y z rest.1 by bz apart used
       ]
     ]
@@ -170,11 +164,11 @@ module _ {V : Type 0} where
   route_of : (m : Lodged V) {root : Node} {late : ℕ → Bool} (w : IsWholeBut m root late nobody_out) (n : ℕ) (p : LeafPart V) → leaves_in m n ≡ Some p
       → RouteOf m w.part.tree n p
   route_of m w n p said =
-      let count : leaves_at n w.part.tree + 0 ≡ one_if (is_some (leaves_in m n)) = w.leaves n in
-      let used : one_if (is_some (leaves_in m n)) ≡ 1 = ap (λ (o : Option (LeafPart V)). one_if (is_some o)) said in
+      let count = w.leaves n in
+      let used = ap (λ o. one_if (is_some o)) said in
       let y = tree_room n w.part.tree (omega arith) in
       let told = tree_said (leaves_in m) (bits_in m) w.part.above w.part.tree w.part.stands y.0 y.1 in
-      record { route = y.0; is = y.1; room = y.2; key = ap (λ (q : LeafPart V). q.leaf.key) (inside (sym told.3 ∙ ap (leaves_in m) y.2 ∙ said)) }
+      record { route = y.0; is = y.1; room = y.2; key = ap (λ q. q.leaf.key) (inside (sym told.3 ∙ ap (leaves_in m) y.2 ∙ said)) }
 
   pub others_idle : (m : Lodged V) {root : Node} {late : ℕ → Bool} (w : IsWholeBut m root late nobody_out) (used other : ℕ) (p q : LeafPart V) {b : BitPart}
       → leaves_in m used ≡ Some p → leaves_in m other ≡ Some q
@@ -192,17 +186,16 @@ module _ {V : Type 0} where
 
   was_said : (o : Option (LeafPart V)) (p : LeafPart V) → content_of (Some p) ≡ content_of o → (q : LeafPart V) × (o ≡ Some q) × (q.leaf.key ≡ p.leaf.key)
   was_said None p same = absurd (none_some (sym same))
-  was_said (Some q) p same = (q, refl, sym (ap (λ (c : Content V). c.entry.key) (inside same)))
+  was_said (Some q) p same = (q, refl, sym (ap (λ c. c.entry.key) (inside same)))
 
   -- a room with its route is there
   there_by : (m new : Lodged V) (room : Id) (h : Has m room) (o : Option (LeafPart V)) → leaves_in new room.number ≡ o
       → content_of o ≡ content_of (Some (own_part h)) → Has new room
   there_by m new room h None said same = absurd (none_some same)
-  there_by m new room h (Some p) said same = Has-leaf new room said (ap (λ (c : Content V). c.block) (inside same) ∙ h.block)
+  there_by m new room h (Some p) said same = Has-leaf new room said (ap (λ c. c.block) (inside same) ∙ h.block)
 
   pub Has-routes : (m new : Lodged V) (room : Id) → Has m room → KeepsRoutes m new → Has new room
-  Has-routes m new room h keeps =
-      there_by m new room h (leaves_in new room.number) refl (keeps room.number ∙ ap (λ (o : Option (Seen V)). content_of (leaf_in o)) h.at)
+  Has-routes m new room h keeps = there_by m new room h (leaves_in new room.number) refl (keeps room.number ∙ ap (λ o. content_of (leaf_in o)) h.at)
 
   pub idle_joined : (m new : Lodged V) {root : Node} {late : ℕ → Bool} (w : IsWholeBut m root late nobody_out) (at up : Id) (l : IsLone m w.part at up)
       → KeepsRoutes m new → ((n : ℕ) → bits_in m n ≡ None → bits_in new n ≡ None) → bits_in new up.number ≡ None

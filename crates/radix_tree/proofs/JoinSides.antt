@@ -1,18 +1,18 @@
 -- A bit node with what is on the side of a key and what is on the other side.
-use Rattle.radix_tree.proofs.Words.{◌≡◌, ◌+◌, ◌≤◌, ◌==◌, ◌⊎◌, Bool, true, false, if◌then◌else◌, [], Option, Some, inl, inr, refl, sym, ap, ◌∙◌, subst}
-use Rattle.radix_tree.proofs.Words.{arith, ℕ, eq-eqb, ne_eqb, append-nil, Id, Node, Placed, Tree, leaf, fork, bit_at, HaveBit, IsIn, IsTree, routes_of}
-use Rattle.radix_tree.proofs.Words.{BitPart, Leaves, Bits, Heads, Masks, Part, name_of, Stands, ForkAt, Beneath, one_if, leaves_at, forks_at, HasHome}
-use Rattle.radix_tree.proofs.Words.{HaveOneFork, Gains, other_side, HasSides, IsMaskList, MarkedIn, MarkedLists, Lodged}
 use Rattle.radix_tree.proofs.{AddressBits.zero_not_one, TreeMembers.bit_beneath}
+use Rattle.radix_tree.proofs.Words.{◌≡◌, ◌+◌, ◌≤◌, ◌==◌, ◌⊎◌, true, false, if◌then◌else◌, [], Option, Some, inl, inr, refl, sym, ap, ◌∙◌, subst, arith, ℕ}
+use Rattle.radix_tree.proofs.Words.{eq-eqb, ne_eqb, append-nil, Id, Node, Placed, Tree, leaf, fork, bit_at, HaveBit, IsIn, IsTree, routes_of, BitPart}
+use Rattle.radix_tree.proofs.Words.{Leaves, Bits, Heads, Masks, Part, name_of, Stands, ForkAt, Beneath, one_if, leaves_at, forks_at, HasHome, HaveOneFork}
+use Rattle.radix_tree.proofs.Words.{Gains, other_side, HasSides, IsMaskList, MarkedIn, MarkedLists, Lodged}
 
 pub true_not_false : true ≡ false → ⊥
 true_not_false e = cc
 
 other_of_zero : (key b : ℕ) (zero one : Node) → bit_at b key ≡ 0 → other_side key b zero one ≡ one
-other_of_zero key b zero one clear = ap (λ (t : Bool). if t then zero else one) (ne_eqb (bit_at b key) 1 (λ set. zero_not_one clear set))
+other_of_zero key b zero one clear = ap (λ t. if t then zero else one) (ne_eqb (bit_at b key) 1 (λ set. zero_not_one clear set))
 
 other_of_one : (key b : ℕ) (zero one : Node) → bit_at b key ≡ 1 → other_side key b zero one ≡ zero
-other_of_one key b zero one set = ap (λ (t : Bool). if t then zero else one) (eq-eqb (bit_at b key) 1 set)
+other_of_one key b zero one set = ap (λ t. if t then zero else one) (eq-eqb (bit_at b key) 1 set)
 
 -- what the room of a bit node says: of its two nodes the one on the other side
 pub record SaysOther (B : Bits) (room : Id) (key b : ℕ) (above : Option Id) (name : Node) : Type 0 where
@@ -128,6 +128,6 @@ module _ {V : Type 0} where
   sides_of m key under over b =
       let f = b.at in
       elim b.side [
-        | inl e ↦ (f.one, record { is = inl (f.is ∙ ap (λ (t : Tree V). fork b.room f.bit t f.one) (sym e.0), e.1) })
-        | inr e ↦ (f.zero, record { is = inr (f.is ∙ ap (λ (t : Tree V). fork b.room f.bit f.zero t) (sym e.0), e.1) })
+        | inl e ↦ (f.one, record { is = inl (f.is ∙ ap (λ t. fork b.room f.bit t f.one) (sym e.0), e.1) })
+        | inr e ↦ (f.zero, record { is = inr (f.is ∙ ap (fork b.room f.bit f.zero) (sym e.0), e.1) })
       ]

@@ -1,16 +1,16 @@
 -- A route that is alone at its leaf goes, and with it the bit node above: the rooms as a whole.
-use Rattle.radix_tree.proofs.Words.{◌≡◌, ◌+◌, ◌<◌, ◌≤◌, ◌==◌, true, false, [], Option, Some, None, inl, inr, refl, sym, ap, ◌∙◌, subst, arith, ℕ}
-use Rattle.radix_tree.proofs.Words.{eqb-true, eq-eqb, ne_eqb, is_some, Id, Node, Placed, Tree, leaf, fork, IsIn, IsTree, LeafPart, BitPart, Part}
-use Rattle.radix_tree.proofs.Words.{leaves_in, bits_in, heads_in, masks_in, leaf_part, name_of, one_if, leaves_at, forks_at, shown, shown_entry}
-use Rattle.radix_tree.proofs.Words.{name_child, root_after, AreOnce, Gains, IsExchange, Exchanged, IsLone, IsHanded, IsWholeBut, nobody_late, nobody_out}
-use Rattle.radix_tree.proofs.Words.{late_at, out_at, content_of, KeepsRoutes, put_bit, lift_leaf, lift_bit, Lodged}
-use Rattle.radix_tree.proofs.JoinSides.{true_not_false, side_is, side_says, side_leaves, side_in, in_side, side_have, home_side, side_spare, side_gains}
-use Rattle.radix_tree.proofs.JoinLinks.{put_off, put_none, put_here, turn_none, turn_used, lift_none, lift_used, lift_content, content_used, quiet}
-use Rattle.radix_tree.proofs.JoinLinks.{lone_once, lone_forks, lone_apart, other_part}
 use Rattle.radix_tree.proofs.{RoomReads.inside, RoomReads.none_some, PartRooms.one_if_same, Forking.lifted, Beside.misses_leaf, Beside.misses_bit}
 use Rattle.radix_tree.proofs.{Beside.named_leaf, Beside.named_bit, Plugs.counted_leaf, Plugs.spare_same, PlugLists.marked_same, PlugLists.lists_same}
 use Rattle.radix_tree.proofs.{Exchanging.exchanged, WholeParts.Fits, WholeParts.some_of, WholeChanges.spare_changed, WholeChanges.whole_changed}
 use Rattle.radix_tree.proofs.{WholeRoutes.routes_changed, WholeRoutes.loses_spliced, JoinLists.same_rank_at, JoinLone.lone_said}
+use Rattle.radix_tree.proofs.Words.{◌≡◌, ◌+◌, ◌<◌, ◌≤◌, ◌==◌, true, false, Some, None, inl, inr, refl, sym, ap, ◌∙◌, subst, arith, ℕ, eqb-true, eq-eqb}
+use Rattle.radix_tree.proofs.Words.{ne_eqb, is_some, Id, Node, Placed, Tree, leaf, fork, IsIn, IsTree, LeafPart, Part, leaves_in, bits_in, heads_in}
+use Rattle.radix_tree.proofs.Words.{masks_in, name_of, one_if, leaves_at, forks_at, shown, shown_entry, name_child, root_after, AreOnce, Gains}
+use Rattle.radix_tree.proofs.Words.{IsExchange, Exchanged, IsLone, IsHanded, IsWholeBut, nobody_late, nobody_out, late_at, out_at, content_of}
+use Rattle.radix_tree.proofs.Words.{KeepsRoutes, put_bit, lift_leaf, lift_bit, Lodged}
+use Rattle.radix_tree.proofs.JoinSides.{true_not_false, side_is, side_says, side_leaves, side_in, in_side, side_have, home_side, side_spare, side_gains}
+use Rattle.radix_tree.proofs.JoinLinks.{put_off, put_none, put_here, turn_none, turn_used, lift_none, lift_used, lift_content, content_used, quiet}
+use Rattle.radix_tree.proofs.JoinLinks.{lone_once, lone_forks, lone_apart, other_part}
 
 one_flip : (a b : ℕ) → one_if (a == b) ≡ one_if (b == a)
 one_flip a b = elim (a == b) as (λ t. (a == b) ≡ t → one_if t ≡ one_if (b == a)) [
@@ -21,10 +21,9 @@ one_flip a b = elim (a == b) as (λ t. (a == b) ≡ t → one_if t ≡ one_if (b
 module _ {V : Type 0} where
   -- a tree whose bits are past one is one whose bits are past a lower one
   pub lower : (low high : ℕ) (t : Tree V) → low ≤ high → IsTree high t → IsTree low t
-  lower low high (leaf x xs) le is = let most : high ≤ 32 = is.0 in (omega arith, is.1)
+  lower low high (leaf x xs) le is = let most = is.0 in (omega arith, is.1)
   lower low high (fork room b zero one) le is =
-      let rises : high ≤ b =
-      is.0.rises in (record { rises = omega arith; within = is.0.within; agree = is.0.agree; zeros = is.0.zeros; ones = is.0.ones }, is.1, is.2)
+      let rises = is.0.rises in (record { rises = omega arith; within = is.0.within; agree = is.0.agree; zeros = is.0.zeros; ones = is.0.ones }, is.1, is.2)
 
   -- what the rooms say once the bit node is gone
   pub record IsJoined (m new : Lodged V) (whole : Part m) (at up : Id) (l : IsLone m whole at up) : Type 0 where
@@ -37,12 +36,11 @@ module _ {V : Type 0} where
       → ((n : ℕ) → masks_in new n ≡ masks_in handed n) → ((n : ℕ) → (n ≡ up.number → ⊥) → heads_in new n ≡ heads_in handed n)
       → IsHanded m new l.over.low l.over.tree l.other
   handed_on m handed new at up l h masks heads =
-      let own : one_if (up.number == up.number) ≡ 1 = one_if_same up.number in
-      let sum : forks_at up.number l.over.tree ≡ one_if (up.number == up.number) + (0 + forks_at up.number l.other) = lone_forks l up.number in
+      let own = one_if_same up.number in
+      let sum = lone_forks l up.number in
       let apart = lone_apart m at up l in
       record {
-        heads =
-            λ n none. heads n (λ same. let here : forks_at n l.over.tree ≡ forks_at up.number l.over.tree = ap (λ (k : ℕ). forks_at k l.over.tree) same in
+        heads = λ n none. heads n (λ same. let here = ap (λ k. forks_at k l.over.tree) same in
             absurd (omega arith)) ∙ h.heads n none;
         masks = λ n aside. masks n ∙ h.masks n aside;
         marks = λ n p said. h.marks n p (sym (masks n) ∙ said);
@@ -54,10 +52,10 @@ module _ {V : Type 0} where
 
   pub other_once : (m : Lodged V) {whole : Part m} (at up : Id) (l : IsLone m whole at up) → AreOnce l.other
   other_once m at up l = record {
-    leaves = λ n. let most : leaves_at n l.over.tree ≤ 1 = (lone_once l).leaves n in
-        let sum : leaves_at n l.over.tree ≡ leaves_at n (leaf l.route []) + leaves_at n l.other = side_leaves n l.sides in omega arith;
-    forks = λ n. let most : forks_at n l.over.tree ≤ 1 = (lone_once l).forks n in
-        let sum : forks_at n l.over.tree ≡ one_if (up.number == n) + (0 + forks_at n l.other) = lone_forks l n in omega arith;
+    leaves = λ n. let most = (lone_once l).leaves n in
+        let sum = side_leaves n l.sides in omega arith;
+    forks = λ n. let most = (lone_once l).forks n in
+        let sum = lone_forks l n in omega arith;
   }
 
   -- ---- the part that takes the bit node's place
@@ -68,9 +66,9 @@ module _ {V : Type 0} where
         tree = l.other;
         low = l.over.low;
         above = l.over.above;
-        is = lower l.over.low (l.bit + 1) l.other (let le : l.over.low ≤ l.bit = is.1 in omega arith) is.0;
+        is = lower l.over.low (l.bit + 1) l.other (let le = is.1 in omega arith) is.0;
         stands = lifted (leaves_in m) (leaves_in new) (bits_in m) (bits_in new) (Some up) l.over.above l.other (λ n some. j.leaves n)
-            (λ n some. j.bits n ∙ ap (λ (said : Option BitPart). lift_bit (name_of l.other) l.over.above n said)
+            (λ n some. j.bits n ∙ ap (lift_bit (name_of l.other) l.over.above n)
             (quiet up l.route.entry.key (name_of l.other) n (bits_in m n) (lone_apart m at up l) some)) (other_once m at up l)
             (other_part m at up l).stands;
       }
@@ -82,18 +80,17 @@ module _ {V : Type 0} where
     above = refl;
     keys = λ c value before have. side_have l.other c value l.sides have;
     leaves = λ n none some. j.leaves n ∙ misses_leaf (name_of l.other) n (λ r is same.
-        let there : 1 ≤ leaves_at r.number l.other = named_leaf l.other r is in
-        let here : leaves_at n l.other ≡ leaves_at r.number l.other = ap (λ (k : ℕ). leaves_at k l.other) same in
-        let sum : leaves_at n l.over.tree ≡ leaves_at n (leaf l.route []) + leaves_at n l.other = side_leaves n l.sides in absurd (omega arith))
-        l.over.above (leaves_in m n);
+        let there = named_leaf l.other r is in
+        let here = ap (λ k. leaves_at k l.other) same in
+        let sum = side_leaves n l.sides in absurd (omega arith)) l.over.above (leaves_in m n);
     bits = λ n none some.
-        let sum : forks_at n l.over.tree ≡ one_if (up.number == n) + (0 + forks_at n l.other) = lone_forks l n in
+        let sum = lone_forks l n in
         j.bits n ∙ misses_bit (name_of l.other) n (λ r is same.
-        let there : 1 ≤ forks_at r.number l.other = named_bit l.other r is in
-        let here : forks_at n l.other ≡ forks_at r.number l.other = ap (λ (k : ℕ). forks_at k l.other) same in absurd (omega arith))
+        let there = named_bit l.other r is in
+        let here = ap (λ k. forks_at k l.other) same in absurd (omega arith))
         l.over.above (put_bit up None n (name_child l.over.above l.route.entry.key (name_of l.other) n (bits_in m n)))
         ∙ put_off up n (name_child l.over.above l.route.entry.key (name_of l.other) n (bits_in m n))
-        (λ same. let own : one_if (up.number == n) ≡ 1 = ap (λ (k : ℕ). one_if (up.number == k)) same ∙ one_if_same up.number in absurd (omega arith));
+        (λ same. let own = ap (λ k. one_if (up.number == k)) same ∙ one_if_same up.number in absurd (omega arith));
   }
 
   -- ---- what the rooms say
@@ -106,13 +103,12 @@ module _ {V : Type 0} where
   -- a room that is no bit node stays none
   pub idle_stays : {m new : Lodged V} {whole : Part m} {at up : Id} (l : IsLone m whole at up) → IsJoined m new whole at up l → (n : ℕ) → bits_in m n ≡ None
       → bits_in new n ≡ None
-  idle_stays {up = up} l j n none = j.bits n ∙ ap (λ (said : Option BitPart). lift_bit (name_of l.other) l.over.above n said)
-      (ap (λ (said : Option BitPart). put_bit up None n said)
-      (ap (λ (said : Option BitPart). name_child l.over.above l.route.entry.key (name_of l.other) n said) none
+  idle_stays {up = up} l j n none = j.bits n ∙ ap (lift_bit (name_of l.other) l.over.above n) (ap (put_bit up None n)
+      (ap (name_child l.over.above l.route.entry.key (name_of l.other) n) none
       ∙ turn_none l.over.above l.route.entry.key n (name_of l.other)) ∙ put_none up n) ∙ lift_none (name_of l.other) l.over.above n
 
   pub freed : {m new : Lodged V} {whole : Part m} {at up : Id} (l : IsLone m whole at up) → IsJoined m new whole at up l → bits_in new up.number ≡ None
-  freed {m = m} {up = up} l j = j.bits up.number ∙ ap (λ (said : Option BitPart). lift_bit (name_of l.other) l.over.above up.number said)
+  freed {m = m} {up = up} l j = j.bits up.number ∙ ap (lift_bit (name_of l.other) l.over.above up.number)
       (put_here up (name_child l.over.above l.route.entry.key (name_of l.other) up.number (bits_in m up.number)))
       ∙ lift_none (name_of l.other) l.over.above up.number
 
@@ -126,18 +122,17 @@ module _ {V : Type 0} where
   fork_count : (m new : Lodged V) {whole : Part m} (at up : Id) (l : IsLone m whole at up) → IsJoined m new whole at up l → (n : ℕ)
       → forks_at n l.other + one_if (is_some (bits_in m n)) ≡ forks_at n l.over.tree + one_if (is_some (bits_in new n))
   fork_count m new at up l j n =
-      let sum : forks_at n l.over.tree ≡ one_if (up.number == n) + (0 + forks_at n l.other) = lone_forks l n in
+      let sum = lone_forks l n in
       elim (up.number == n) as (λ t. (up.number == n) ≡ t → forks_at n l.over.tree ≡ one_if t + (0 + forks_at n l.other)
       → forks_at n l.other + one_if (is_some (bits_in m n)) ≡ forks_at n l.over.tree + one_if (is_some (bits_in new n))) [
         | true ↦ λ e all.
-            let same : up.number ≡ n = eqb-true up.number n e in
+            let same = eqb-true up.number n e in
             let says = side_says up l.bit l.other (leaves_in m) (bits_in m) l.over.above l.sides l.over.stands in
-            let was : one_if (is_some (bits_in m n)) ≡ 1 = ap (λ (o : Option BitPart). one_if (is_some o)) (ap (bits_in m) (sym same) ∙ says.says) in
-            let is : one_if (is_some (bits_in new n)) ≡ 0 = ap (λ (o : Option BitPart). one_if (is_some o)) (ap (bits_in new) (sym same) ∙ freed l j) in
+            let was = ap (λ o. one_if (is_some o)) (ap (bits_in m) (sym same) ∙ says.says) in
+            let is = ap (λ o. one_if (is_some o)) (ap (bits_in new) (sym same) ∙ freed l j) in
             omega arith
         | false ↦ λ e all.
-            let same : one_if (is_some (bits_in new n)) ≡ one_if (is_some (bits_in m n)) =
-            ap one_if (same_bits m new at up l j n (λ is. true_not_false (sym (eq-eqb up.number n (sym is)) ∙ e))) in omega arith
+            let same = ap one_if (same_bits m new at up l j n (λ is. true_not_false (sym (eq-eqb up.number n (sym is)) ∙ e))) in omega arith
       ] refl sum
 
   -- ---- the whole
@@ -145,16 +140,15 @@ module _ {V : Type 0} where
   own_room : (m : Lodged V) {whole : Part m} (at up : Id) (l : IsLone m whole at up) → (leaves_at at.number l.other ≡ 0) × (leaves_at at.number l.over.tree ≡ 1)
   own_room m at up l =
       let n = at.number in
-      let own : one_if (l.route.room.number == at.number) ≡ 1 = ap (λ (i : Id). one_if (i.number == at.number)) l.room_is ∙ one_if_same at.number in
-      let most : leaves_at at.number l.over.tree ≤ 1 = (lone_once l).leaves at.number in
-      let sum : leaves_at at.number l.over.tree ≡ (one_if (l.route.room.number == at.number) + 0) + leaves_at at.number l.other =
-      side_leaves at.number l.sides in
+      let own = ap (λ i. one_if (i.number == at.number)) l.room_is ∙ one_if_same at.number in
+      let most = (lone_once l).leaves at.number in
+      let sum = side_leaves at.number l.sides in
       (omega arith, omega arith)
 
   short_stays : (m new : Lodged V) {whole : Part m} {at up : Id} (l : IsLone m whole at up) → IsHanded m new l.over.low l.over.tree l.other
       → (y : Placed V) → IsIn y l.over.tree → y.entry.rank < l.over.low → masks_in new y.room.number ≡ masks_in m y.room.number
   short_stays m new l h y is short =
-      h.masks y.room.number (λ z there past same. let rank : z.entry.rank ≡ y.entry.rank = same_rank_at m l.over z y there is same in absurd (omega arith))
+      h.masks y.room.number (λ z there past same. let rank = same_rank_at m l.over z y there is same in absurd (omega arith))
 
   pub fits : (m new : Lodged V) {whole : Part m} (at up : Id) (l : IsLone m whole at up) (j : IsJoined m new whole at up l)
       → IsHanded m new l.over.low l.over.tree l.other → masks_in m at.number ≡ None
@@ -164,15 +158,14 @@ module _ {V : Type 0} where
       let in_over : (y : Placed V) → IsIn y l.other → IsIn y l.over.tree = λ y is. in_side y l.sides is in
       record {
         leaves = λ n.
-            let sum : leaves_at n l.over.tree ≡ (one_if (l.route.room.number == n) + 0) + leaves_at n l.other = side_leaves n l.sides in
-            let same : one_if (is_some (leaves_in new n)) ≡ one_if (is_some (leaves_in m n)) = ap one_if (same_leaves m new (routes_kept l j) n) in
-            let flip : one_if (n == at.number) ≡ one_if (l.route.room.number == n) =
-            one_flip n at.number ∙ ap (λ (i : Id). one_if (i.number == n)) (sym l.room_is) in omega arith;
+            let sum = side_leaves n l.sides in
+            let same = ap one_if (same_leaves m new (routes_kept l j) n) in
+            let flip = one_flip n at.number ∙ ap (λ i. one_if (i.number == n)) (sym l.room_is) in omega arith;
         forks = λ n. fork_count m new at up l j n;
         heads = λ n none some. h.heads n none;
         masks = λ n none some. h.masks n (λ y is past same.
-            let there : 1 ≤ leaves_at y.room.number l.over.tree = counted_leaf y l.over.tree is in
-            let here : leaves_at n l.over.tree ≡ leaves_at y.room.number l.over.tree = ap (λ (k : ℕ). leaves_at k l.over.tree) (sym same) in
+            let there = counted_leaf y l.over.tree is in
+            let here = ap (λ k. leaves_at k l.over.tree) (sym same) in
             absurd (omega arith));
         masks_above = λ y is short marked. short_stays m new l h y is short;
         marks = h.marks;
@@ -180,7 +173,7 @@ module _ {V : Type 0} where
           | inl own ↦ elim own [
             | inl e ↦ let p = some_of (masks_in new y.room.number) marked in
                 let q = h.marks y.room.number p.0 p.1 in
-                absurd (none_some (sym unmarked ∙ ap (λ (i : Id). masks_in m i.number) (sym l.room_is ∙ ap (λ (z : Placed V). z.room) e) ∙ q.1))
+                absurd (none_some (sym unmarked ∙ ap (λ i. masks_in m i.number) (sym l.room_is ∙ ap (λ z. z.room) e) ∙ q.1))
             | inr none ↦ absurd none
           ]
           | inr there ↦ (there, λ home. h.kept y there marked home)
@@ -196,21 +189,21 @@ module _ {V : Type 0} where
             | inr there ↦ h.all y is there marked
           ],
           λ late.
-              let same : y.room.number ≡ at.number = eqb-true y.room.number at.number late in
-              let there : 1 ≤ leaves_at y.room.number l.other = counted_leaf y l.other is in
-              let here : leaves_at y.room.number l.other ≡ leaves_at at.number l.other = ap (λ (k : ℕ). leaves_at k l.other) same in
-              let none : leaves_at at.number l.other ≡ 0 = room.0 in absurd (omega arith),
+              let same = eqb-true y.room.number at.number late in
+              let there = counted_leaf y l.other is in
+              let here = ap (λ k. leaves_at k l.other) same in
+              let none = room.0 in absurd (omega arith),
         );
         late_aside = λ n none some late.
-            let same : n ≡ at.number = eqb-true n at.number late in
-            let here : leaves_at n l.over.tree ≡ leaves_at at.number l.over.tree = ap (λ (k : ℕ). leaves_at k l.over.tree) same in
-            let one : leaves_at at.number l.over.tree ≡ 1 = room.1 in absurd (omega arith);
+            let same = eqb-true n at.number late in
+            let here = ap (λ k. leaves_at k l.over.tree) same in
+            let one = room.1 in absurd (omega arith);
       }
 
   abbrev pub exchanged_whole : (m new : Lodged V) (whole : Part m) {root : Node} (at up : Id) (l : IsLone m whole at up) (j : IsJoined m new whole at up l)
       → name_of whole.tree ≡ root → Exchanged m new l.route.entry.key whole l.over (under_part j) (root_after l.over.above (name_of l.other) root)
   exchanged_whole m new whole at up l j named =
-      subst (λ (r : Node). Exchanged m new l.route.entry.key whole l.over (under_part j) (root_after l.over.above (name_of l.other) r)) named
+      subst (λ r. Exchanged m new l.route.entry.key whole l.over (under_part j) (root_after l.over.above (name_of l.other) r)) named
       (exchanged m new whole l.over l.ups l.way l.top l.once (exchange m new at up l j))
 
   pub whole_joined : {m new : Lodged V} {root : Node} (at up : Id) (w : IsWholeBut m root (late_at at.number) nobody_out) (l : IsLone m w.part at up)
@@ -228,14 +221,14 @@ module _ {V : Type 0} where
       (shown m (Some root))
   routes_joined {m = m} {new = new} root at up w l j p said =
       let e = exchanged_whole m new w.part at up l j w.named in
-      let is : p ≡ leaf_part l.route (Some up) None None = inside (sym said ∙ lone_said m at up l) in
-      subst (λ (q : LeafPart V). Gains (shown_entry q) (shown new (Some (root_after l.over.above (name_of l.other) root))) (shown m (Some root))) (sym is)
+      let is = inside (sym said ∙ lone_said m at up l) in
+      subst (λ q. Gains (shown_entry q) (shown new (Some (root_after l.over.above (name_of l.other) root))) (shown m (Some root))) (sym is)
       (loses_spliced (routes_changed w e) (side_gains l.route l.other l.sides))
 
   -- the leaf of the route that goes stays as it is
   pub own_leaf : {m new : Lodged V} {whole : Part m} (at up : Id) (l : IsLone m whole at up) → IsJoined m new whole at up l
       → leaves_in new at.number ≡ leaves_in m at.number
   own_leaf {m = m} at up l j = j.leaves at.number ∙ misses_leaf (name_of l.other) at.number (λ r is same.
-      let there : 1 ≤ leaves_at r.number l.other = named_leaf l.other r is in
-      let here : leaves_at at.number l.other ≡ leaves_at r.number l.other = ap (λ (k : ℕ). leaves_at k l.other) same in
-      let none : leaves_at at.number l.other ≡ 0 = (own_room m at up l).0 in absurd (omega arith)) l.over.above (leaves_in m at.number)
+      let there = named_leaf l.other r is in
+      let here = ap (λ k. leaves_at k l.other) same in
+      let none = (own_room m at up l).0 in absurd (omega arith)) l.over.above (leaves_in m at.number)

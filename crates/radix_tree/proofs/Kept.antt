@@ -1,16 +1,15 @@
 -- What a table's rooms show is found by its searches.
-use Rattle.std.specs.Prelude.{IsSome}
-use Rattle.std.proofs.lemmas.Bool.{not-false}
-use Rattle.radix_tree.proofs.Words.{◌≡◌, ℕ, ◌+◌, ◌≤◌, ◌==◌, Bool, true, false, cond, not, List, [], ◌∷◌, Option, Some, None, refl, sym, ap, ◌∙◌, subst}
-use Rattle.radix_tree.proofs.Words.{inl, arith, eq-eqb, eqb-true, Contains, is_some, AllByRecursion, get, Seen, Rooms, Has, leaf_of, Id, Leaf, Links}
-use Rattle.radix_tree.proofs.Words.{Node, Contents, IsTable, entry_at, first_of, Placed, IsAmong, IsIn, IsChain, routes_of, LeafPart, Part, leaves_in}
-use Rattle.radix_tree.proofs.Words.{bits_in, leaf_part, Tells, Finds, HasPair, In, LeafAt, LedTo, contents, shown, shown_entry, IsWhole, Holds, Entry}
-use Rattle.radix_tree.proofs.Words.{Lodged}
-use Rattle.radix_tree.proofs.MemberLemmas.{all_contains, entry_at_is_member, first_of_is_member, first_is_greatest, members_stand}
 use Rattle.radix_tree.proofs.{RoomReads.inside, RoomReads.none_some, RoomReads.AreLinks, RoomReads.Has-leaf, RoomReads.leaf_read, RoomReads.value_read}
 use Rattle.radix_tree.proofs.{TreeMembers.tree_said, TreeMembers.chain_key, TreeMembers.first_greatest, TreeOrder.tree_is_table, Parts.among_leaf}
 use Rattle.radix_tree.proofs.{Parts.in_leaf, Parts.leaf_run, Parts.way_inside, Parts.way_leads, BestOfTree.member_of, BestOfTree.stands_in}
 use Rattle.radix_tree.proofs.{Showing.shown_is}
+use Rattle.std.specs.Prelude.{IsSome}
+use Rattle.std.proofs.lemmas.Bool.{not-false}
+use Rattle.radix_tree.proofs.Words.{◌≡◌, ℕ, ◌+◌, ◌==◌, Bool, true, false, cond, not, List, [], ◌∷◌, Option, Some, None, refl, sym, ap, ◌∙◌, subst, inl}
+use Rattle.radix_tree.proofs.Words.{arith, eq-eqb, eqb-true, Contains, is_some, AllByRecursion, get, Seen, Rooms, Has, leaf_of, Id, Leaf, Links, Node}
+use Rattle.radix_tree.proofs.Words.{Contents, IsTable, entry_at, first_of, Placed, IsAmong, IsIn, IsChain, routes_of, LeafPart, Part, leaves_in, bits_in}
+use Rattle.radix_tree.proofs.Words.{leaf_part, Tells, Finds, HasPair, In, LeafAt, LedTo, contents, shown, shown_entry, IsWhole, Holds, Entry, Lodged}
+use Rattle.radix_tree.proofs.MemberLemmas.{all_contains, entry_at_is_member, first_of_is_member, first_is_greatest, members_stand}
 
 -- what is some is not none
 is_none : {A : Type 0} (o : Option A) → ((x : A) → o ≡ Some x → ⊥) → o ≡ None
@@ -31,12 +30,12 @@ pub entry_make : {V : Type 0} (key rank : ℕ) (value : V) (e : Entry V) → key
     → record { key = key; rank = rank; value = value } ≡ e
 entry_make {V} key rank value e k r v =
     let make : ℕ → ℕ → V → Entry V = λ k r v. record { key = k; rank = r; value = v } in
-    ap (λ (k : ℕ). make k rank value) k ∙ ap (λ (r : ℕ). make e.key r value) r ∙ ap (λ (v : V). make e.key e.rank v) v
+    ap (λ k. make k rank value) k ∙ ap (λ r. make e.key r value) r ∙ ap (make e.key e.rank) v
 
 module _ {V : Type 0} where
   pub shown_table : (m : Lodged V) (root : Option Node) → Holds m root → IsTable (shown m root)
   shown_table m None holds = tt
-  shown_table m (Some root) w = subst (λ (es : List (Entry V)). IsTable es) (sym (shown_is w)) (tree_is_table w.part.low w.part.tree w.part.is)
+  shown_table m (Some root) w = subst IsTable (sym (shown_is w)) (tree_is_table w.part.low w.part.tree w.part.is)
 
   -- what a route's room says
   pub record IsSaid (m : Lodged V) (room : Id) (x : Placed V) : Type 0 where
@@ -50,8 +49,8 @@ module _ {V : Type 0} where
       let said = tree_said (leaves_in m) (bits_in m) p.above p.tree p.stands x at in
       record {
         part = leaf_part x said.0 said.1 said.2;
-        at = ap (λ (i : Id). leaves_in m i.number) (sym room_is) ∙ said.3;
-        block = ap (λ (i : Id). i.block) room_is;
+        at = ap (λ i. leaves_in m i.number) (sym room_is) ∙ said.3;
+        block = ap (λ i. i.block) room_is;
         entry = refl;
       }
 
@@ -68,28 +67,28 @@ module _ {V : Type 0} where
 
   stands_at : (es : List (Entry V)) {key rank : ℕ} {e : Entry V} → entry_at e.key e.rank es ≡ Some e → e.key ≡ key → e.rank ≡ rank
       → entry_at key rank es ≡ Some e
-  stands_at es {rank = rank} {e = e} stands k r = ap (λ (k : ℕ). entry_at k rank es) (sym k) ∙ ap (λ (r : ℕ). entry_at e.key r es) (sym r) ∙ stands
+  stands_at es {rank = rank} {e = e} stands k r = ap (λ k. entry_at k rank es) (sym k) ∙ ap (λ r. entry_at e.key r es) (sym r) ∙ stands
 
   pub found : {m : Lodged V} {root : Node} (w : IsWhole m root) (key rank : ℕ) {o : Option Id} {room : Id} → o ≡ Some room
       → Tells (Finds (HasPair key rank) (In w.part)) o → IsFound m root key rank room
   found {m = m} w key rank {o = o} some tells =
-      let told = subst (λ (o : Option Id). Tells (Finds (HasPair key rank) (In w.part)) o) some tells in
+      let told = subst (λ o. Tells (Finds (HasPair key rank) (In w.part)) o) some tells in
       record {
         route = told.0;
         said = said_of m w.part told.0 told.2.0 told.1;
         has = told.2.1;
-        entry = ap (λ (es : List (Entry V)). entry_at key rank es) (shown_is w)
+        entry = ap (entry_at key rank) (shown_is w)
             ∙ stands_at (routes_of w.part.tree) (stands_in w.part.low w.part.tree w.part.is told.0 told.2.0) told.2.1.0 told.2.1.1;
       }
 
   pub not_found : {m : Lodged V} {root : Node} (w : IsWhole m root) (key rank : ℕ) {o : Option Id} → o ≡ None → Tells (Finds (HasPair key rank) (In w.part)) o
       → entry_at key rank (shown m (Some root)) ≡ None
   not_found {m = m} {root = root} w key rank {o = o} none tells =
-      let told = subst (λ (o : Option Id). Tells (Finds (HasPair key rank) (In w.part)) o) none tells in
+      let told = subst (λ o. Tells (Finds (HasPair key rank) (In w.part)) o) none tells in
       is_none (entry_at key rank (shown m (Some root))) (λ e is.
-      let member = entry_at_is_member key rank (routes_of w.part.tree) e (ap (λ (es : List (Entry V)). entry_at key rank es) (sym (shown_is w)) ∙ is) in
+      let member = entry_at_is_member key rank (routes_of w.part.tree) e (ap (entry_at key rank) (sym (shown_is w)) ∙ is) in
       let of = member_of w.part.tree e member.0 in
-      told of.0 of.1 (ap (λ (e : Entry V). e.key) of.2 ∙ member.1.0, ap (λ (e : Entry V). e.rank) of.2 ∙ member.1.1))
+      told of.0 of.1 (ap (λ e. e.key) of.2 ∙ member.1.0, ap (λ e. e.rank) of.2 ∙ member.1.1))
 
   -- its value
   pub value_found : {m : Lodged V} {root : Node} {key rank : ℕ} {room : Id} (f : IsFound m root key rank room) (value : V)
@@ -97,8 +96,8 @@ module _ {V : Type 0} where
       ≡ entry_at key rank (shown m (Some root))
   value_found {m = m} {key = key} {rank = rank} {room = room} f value is =
       let x = f.route.entry in
-      ap (λ (e : Entry V). Some e) (entry_make key rank value x (sym f.has.0) (sym f.has.1)
-      (value_read m room value f.said.at f.said.block is ∙ ap (λ (e : Entry V). e.value) f.said.entry)) ∙ sym f.entry
+      ap Some (entry_make key rank value x (sym f.has.0) (sym f.has.1)
+      (value_read m room value f.said.at f.said.block is ∙ ap (λ e. e.value) f.said.entry)) ∙ sym f.entry
 
   -- ---- the first route of a key
   pub Has-led : (m : Lodged V) {address : ℕ} {whole : Part m} {room : Id} → LedTo address whole room → Has m room
@@ -115,8 +114,8 @@ module _ {V : Type 0} where
       → (l.key ≡ x.entry.key) × (l.rank ≡ x.entry.rank)
   leaf_is m room s links are leaf =
       let read = leaf ∙ leaf_read m room links s.at s.block are in (
-        ap (λ (z : Leaf). z.key) read ∙ ap (λ (e : Entry V). e.key) s.entry,
-        ap (λ (z : Leaf). z.rank) read ∙ ap (λ (e : Entry V). e.rank) s.entry,
+        ap (λ z. z.key) read ∙ ap (λ e. e.key) s.entry,
+        ap (λ z. z.rank) read ∙ ap (λ e. e.rank) s.entry,
       )
 
   pub leaf_key : (m : Lodged V) {address : ℕ} {whole : Part m} {room : Id} (d : LedTo address whole room) (links : Links) {l : Leaf} → AreLinks m room links
@@ -145,13 +144,13 @@ module _ {V : Type 0} where
       let chain = chain_of m l.leaf in
       let member = first_of_is_member key es e is in
       let of = member_of w.part.tree e member.0 in
-      let own = of_chain m w.part l of.0 of.1 (ap (λ (e : Entry V). e.key) of.2 ∙ member.1) in
-      let same : of.0.entry.key ≡ x.entry.key = chain_key x.entry.key 34 (x ∷ l.leaf.rest) chain of.0 own in
-      let key_is : x.entry.key ≡ key = sym same ∙ ap (λ (e : Entry V). e.key) of.2 ∙ member.1 in
+      let own = of_chain m w.part l of.0 of.1 (ap (λ e. e.key) of.2 ∙ member.1) in
+      let same = chain_key x.entry.key 34 (x ∷ l.leaf.rest) chain of.0 own in
+      let key_is = sym same ∙ ap (λ e. e.key) of.2 ∙ member.1 in
       let stands = stands_in w.part.low w.part.tree w.part.is x (led_inside m key w.part l) in
-      let low : of.0.entry.rank ≤ x.entry.rank = first_greatest x.entry.key 34 x l.leaf.rest chain of.0 own in
-      let high : x.entry.rank ≤ e.rank = first_is_greatest key es e x.entry table is ((members_stand es x.entry table).0 stands) key_is in
-      let rank : of.0.entry.rank ≡ e.rank = ap (λ (e : Entry V). e.rank) of.2 in
+      let low = first_greatest x.entry.key 34 x l.leaf.rest chain of.0 own in
+      let high = first_is_greatest key es e x.entry table is ((members_stand es x.entry table).0 stands) key_is in
+      let rank = ap (λ e. e.rank) of.2 in
       let rank_is : e.rank ≡ x.entry.rank = omega (arith, low, high, rank) in
       (key_is, same_of_pair es e x.entry ((members_stand es e table).1 member.0) stands (member.1 ∙ sym key_is) rank_is)
 
@@ -160,7 +159,7 @@ module _ {V : Type 0} where
       → AreLinks m room links → leaf ≡ leaf_of links → (leaf.key ≡ key → ⊥) → first_of key (shown m (Some root)) ≡ None
   no_first m root w key {room = room} l links leaf are read differs =
       is_none (first_of key (shown m (Some root))) (λ e is. differs ((leaf_is m room (led_first m l) links are read).0
-      ∙ (some_first m w key l e (ap (λ (es : List (Entry V)). first_of key es) (sym (shown_is w)) ∙ is)).0))
+      ∙ (some_first m w key l e (ap (first_of key) (sym (shown_is w)) ∙ is)).0))
 
   abbrev NoneOf : ℕ → List (Entry V) → Type 0
   NoneOf key es = AllByRecursion (λ (f : Entry V). (f.key == key) ≡ false) es
@@ -177,7 +176,7 @@ module _ {V : Type 0} where
       → ((e : Entry V) → first_of key es ≡ Some e → e ≡ x) → o ≡ Some x
   first_is es key x member is None none own =
       absurd (true_false (sym (eq-eqb x.key key is) ∙ all_contains (λ (f : Entry V). (f.key == key) ≡ false) es x (none_of_key key es none) member))
-  first_is es key x member is (Some e) some own = ap (λ (e : Entry V). Some e) (own e some)
+  first_is es key x member is (Some e) some own = ap Some (own e some)
 
   pub first_found : (m : Lodged V) {root : Node} (w : IsWhole m root) (key : ℕ) {room : Id} (l : LedTo key w.part room) (links : Links) (leaf : Leaf)
       (value : V) → AreLinks m room links → leaf ≡ leaf_of links → ((s : Seen V) → get m room.number ≡ Some s → value ≡ s.value) → leaf.key ≡ key
@@ -187,13 +186,12 @@ module _ {V : Type 0} where
       let x = l.leaf.first in
       let said = led_first m l in
       let leaf_of_x = leaf_is m room said links are read in
-      let key_is : x.entry.key ≡ key = sym leaf_of_x.0 ∙ same in
+      let key_is = sym leaf_of_x.0 ∙ same in
       let table = tree_is_table w.part.low w.part.tree w.part.is in
       let member = (members_stand es x.entry table).0 (stands_in w.part.low w.part.tree w.part.is x (led_inside m key w.part l)) in
-      ap (λ (es : List (Entry V)). first_of key es) (shown_is w)
-      ∙ first_is es key x.entry member key_is (first_of key es) refl (λ e some. (some_first m w key l e some).1)
-      ∙ ap (λ (e : Entry V). Some e) (sym (entry_make key leaf.rank value x.entry (sym key_is) leaf_of_x.1
-      (value_read m room value said.at said.block is ∙ ap (λ (e : Entry V). e.value) said.entry)))
+      ap (first_of key) (shown_is w) ∙ first_is es key x.entry member key_is (first_of key es) refl (λ e some. (some_first m w key l e some).1)
+      ∙ ap Some (sym (entry_make key leaf.rank value x.entry (sym key_is) leaf_of_x.1
+      (value_read m room value said.at said.block is ∙ ap (λ e. e.value) said.entry)))
 
   -- ---- a table's own rooms
   pub whole_at : (m : Lodged V) {o : Option Node} {root : Node} → Holds m o → o ≡ Some root → IsWhole m root
@@ -201,25 +199,24 @@ module _ {V : Type 0} where
 
   pub entries_at : (nodes : Rooms V) (o : Option Node) {root : Node} (t : Contents V) → contents nodes o ≡ t → o ≡ Some root
       → shown nodes.lodged (Some root) ≡ t.entries
-  entries_at nodes o t view some = ap (λ (o : Option Node). shown nodes.lodged o) (sym some) ∙ ap (λ (t : Contents V). t.entries) view
+  entries_at nodes o t view some = ap (shown nodes.lodged) (sym some) ∙ ap (λ t. t.entries) view
 
   -- in the turn that begins next
   abbrev pub IsNext : Rooms V → Rooms V → Type 0
   IsNext nodes next = next ≡ record nodes { turn = nodes.turn + 1 }
 
   pub shown_next : (nodes next : Rooms V) (o : Option Node) (t : Contents V) → contents nodes o ≡ t → IsNext nodes next → shown next.lodged o ≡ t.entries
-  shown_next nodes next o t view begins = ap (λ (r : Rooms V). shown r.lodged o) begins ∙ ap (λ (t : Contents V). t.entries) view
+  shown_next nodes next o t view begins = ap (λ r. shown r.lodged o) begins ∙ ap (λ t. t.entries) view
 
   pub entries_next : (nodes next : Rooms V) {o : Option Node} {root : Node} (t : Contents V) → contents nodes o ≡ t → o ≡ Some root → IsNext nodes next
       → shown next.lodged (Some root) ≡ t.entries
-  entries_next nodes next {o = o} t view some begins = ap (λ (o : Option Node). shown next.lodged o) (sym some) ∙ shown_next nodes next o t view begins
+  entries_next nodes next {o = o} t view some begins = ap (shown next.lodged) (sym some) ∙ shown_next nodes next o t view begins
 
   pub whole_next : (nodes next : Rooms V) {o : Option Node} {root : Node} → Holds nodes.lodged o → o ≡ Some root → IsNext nodes next → IsWhole next.lodged root
-  whole_next nodes next {root = root} holds some begins =
-      subst (λ (r : Rooms V). IsWhole r.lodged root) (sym begins) (whole_at nodes.lodged holds some)
+  whole_next nodes next {root = root} holds some begins = subst (λ r. IsWhole r.lodged root) (sym begins) (whole_at nodes.lodged holds some)
 
   -- a pair whose route is in the tree is there
   pub pair_there : {m : Lodged V} {root : Node} (w : IsWhole m root) (key rank : ℕ) (x : Placed V) → IsIn x w.part.tree → HasPair key rank x
       → IsSome (entry_at key rank (shown m (Some root)))
-  pair_there w key rank x at has = ap (λ (o : Option (Entry V)). is_some o) (ap (λ (es : List (Entry V)). entry_at key rank es) (shown_is w)
+  pair_there w key rank x at has = ap is_some (ap (entry_at key rank) (shown_is w)
       ∙ stands_at (routes_of w.part.tree) (stands_in w.part.low w.part.tree w.part.is x at) has.0 has.1)

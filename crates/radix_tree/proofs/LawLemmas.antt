@@ -1,5 +1,6 @@
 -- The laws of a table: those of its best routes, and of putting an entry in and taking it out.
 use Rattle.std.specs.{Prelude.IfSome, Borrow.Bor}
+use Rattle.radix_tree.proofs.{ListLemmas.filter_filter, OrderLemmas.own_pair}
 use Rattle.std.proofs.lemmas.List.Elements.{filter-append}
 use Rattle.radix_tree.proofs.Words.{◌≡◌, ℕ, ◌*◌, ◌-◌, ◌^◌, ◌≤◌, true, false, cond, filter, List, [], ◌∷◌, Option, Some, None, refl, sym, ◌∙◌, ap, inl}
 use Rattle.radix_tree.proofs.Words.{inr, arith, cases_lt, nat_tests, append-nil, option_map, agrees, masked, front, precedes, IsRoute, IsTable, has_pair}
@@ -8,7 +9,6 @@ use Rattle.radix_tree.proofs.Words.{BestIsGreatest, BestIsUnique, NoneAgrees, Be
 use Rattle.radix_tree.proofs.Words.{WithoutThenWith, WithTwiceIsLast, routed, Entry}
 use Rattle.radix_tree.proofs.TableLemmas.{later, same, sooner, with_later, with_parts, without_absent, without_is_table}
 use Rattle.radix_tree.proofs.MemberLemmas.{best_is_member, members_stand, members_are_routes, members_of_without, without_keeps}
-use Rattle.radix_tree.proofs.{ListLemmas.filter_filter, OrderLemmas.own_pair}
 pub use Rattle.radix_tree.proofs.OrderLemmas.{precedes_in_words, precedes_one_way, precedes_transitively, precedes_or_same}
 pub use Rattle.radix_tree.proofs.TableLemmas.{with_is_table, without_is_table}
 pub use Rattle.radix_tree.proofs.MemberLemmas.{members_stand, members_are_routes, entry_at_is_member, first_of_is_member, best_is_member, first_is_greatest}
@@ -45,7 +45,7 @@ best_reaches {V} address (x ∷ xs) o h a = elim (has_pair o.key o.rank x) as (�
           elim (agrees x.rank x.key address) as (λ b. agrees x.rank x.key address ≡ b
           → (f : Entry V) × (best_of address (x ∷ xs) ≡ Some f) × (o.rank ≤ f.rank)) [
             | true ↦ λ b. (let least = greater_least x (best_of address xs) in
-                let more : behind.0.rank ≤ least.0.rank = least.3 behind.0 behind.1 in
+                let more = least.3 behind.0 behind.1 in
                 (least.0, best_here address x xs b ∙ least.1, omega (arith, more, behind.2)))
             | false ↦ λ b. (behind.0, best_behind address x xs b ∙ behind.1, behind.2)
           ] refl)
@@ -59,7 +59,7 @@ best_is_greatest address entries e r h =
       stands = (members_stand entries e r).1 member.0;
       agrees = member.1;
       greatest = λ o s a. (let reached = best_reaches address entries o s a in let is : reached.0 ≡ e =
-          (let both : Some reached.0 ≡ Some e = sym reached.1 ∙ h in cc) in rw (← is) reached.2);
+          (let both = sym reached.1 ∙ h in cc) in rw (← is) reached.2);
     }
 
 -- so what is answered as the best route stands in the table
@@ -70,11 +70,11 @@ best_stands address es (Some r) table h = (best_is_greatest address es (routed r
 
 pub none_agrees : {V : Type 0} → NoneAgrees V
 none_agrees address entries e h s = elim (agrees e.rank e.key address) as (λ b. agrees e.rank e.key address ≡ b → b ≡ false)
-    [ true ↦ λ a. (let reached = best_reaches address entries e s a in let gone : Some reached.0 ≡ None = sym reached.1 ∙ h in cc) | false ↦ λ a. refl ] refl
+    [ true ↦ λ a. (let reached = best_reaches address entries e s a in let gone = sym reached.1 ∙ h in cc) | false ↦ λ a. refl ] refl
 
 -- an entry of the table whose pair has the key and the rank of another is that one
 one_of_pair : {V : Type 0} (es : List (Entry V)) (e f : Entry V) → StandsIn es e → StandsIn es f → e.key ≡ f.key → e.rank ≡ f.rank → e ≡ f
-one_of_pair es e f s t k n = (let both : Some e ≡ Some f = sym s ∙ ap (λ x. entry_at x e.rank es) k ∙ ap (λ x. entry_at f.key x es) n ∙ t in cc)
+one_of_pair es e f s t k n = (let both = sym s ∙ ap (λ x. entry_at x e.rank es) k ∙ ap (λ x. entry_at f.key x es) n ∙ t in cc)
 
 -- where an address agrees, the fronts are one
 sym_true : (rank key address : ℕ) → agrees rank key address ≡ true → front rank key ≡ front rank address
@@ -85,7 +85,7 @@ same_key : {V : Type 0} (address : ℕ) (e f : Entry V) → IsRoute e → IsRout
 same_key address e f route other a b ranks =
     let agrees_too : agrees e.rank f.key address ≡ true = rw ranks b in
     let masked_too : masked e.rank f.key ≡ f.key = rw ranks other.key in
-    let fronts : front e.rank e.key ≡ front e.rank f.key = sym_true e.rank e.key address a ∙ sym (sym_true e.rank f.key address agrees_too) in
+    let fronts = sym_true e.rank e.key address a ∙ sym (sym_true e.rank f.key address agrees_too) in
     sym route.key ∙ ap (λ t. t * 2 ^ (32 - e.rank)) fronts ∙ masked_too
 
 -- an entry of a table is a route
@@ -97,11 +97,10 @@ best_is_unique address entries e r best =
     let reached = best_reaches address entries e best.stands best.agrees in
     let member = best_is_member address entries reached.0 reached.1 in
     let stands = (members_stand entries reached.0 r).1 member.0 in
-    let least : reached.0.rank ≤ e.rank = best.greatest reached.0 stands member.1 in
+    let least = best.greatest reached.0 stands member.1 in
     let ranks : e.rank ≡ reached.0.rank = omega (arith, least, reached.2) in
-    let keys : e.key ≡ reached.0.key =
-    same_key address e reached.0 (stands_route entries e r best.stands) (stands_route entries reached.0 r stands) best.agrees member.1 ranks in
-    let is : e ≡ reached.0 = one_of_pair entries e reached.0 best.stands stands keys ranks in
+    let keys = same_key address e reached.0 (stands_route entries e r best.stands) (stands_route entries reached.0 r stands) best.agrees member.1 ranks in
+    let is = one_of_pair entries e reached.0 best.stands stands keys ranks in
     reached.1 ∙ ap (λ x. Some x) (sym is)
 
 -- an entry that an address doesn't agree with leaves those that it agrees with
@@ -193,7 +192,7 @@ without_then_with (x ∷ xs) e r h = elim (with_parts e x xs r) [
       let found : Some x ≡ Some e = rw n at h in
       let one : e ≡ x = cc in
       rw (n, without_absent e.key e.rank xs gone) (alone ∙ ap (λ t. t ∷ xs) one))
-  | sooner p n gone is ↦ (let there : StandsIn xs e = rw n at h in let found : Some e ≡ None = sym there ∙ gone in cc)
+  | sooner p n gone is ↦ (let there : StandsIn xs e = rw n at h in let found = sym there ∙ gone in cc)
 ]
 
 -- of two entries with one pair the last stays

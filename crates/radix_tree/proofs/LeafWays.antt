@@ -1,6 +1,6 @@
 -- The bit nodes on the way of a key to a part, and the one leaf that is on it.
-use Rattle.radix_tree.proofs.Words.{◌≡◌, ℕ, ◌+◌, List, [], ◌∷◌, refl, sym, ap, ◌∙◌, subst, inl, inr, Id, Placed, Tree, leaf, fork, bit_at, Part, Way}
-use Rattle.radix_tree.proofs.Words.{Frame, on_zero, on_one, plug, low_past, Lead, Lodged}
+use Rattle.radix_tree.proofs.Words.{◌≡◌, ℕ, List, [], ◌∷◌, refl, sym, ap, ◌∙◌, subst, inl, inr, Id, Placed, Tree, leaf, fork, bit_at, Part, Way, Frame}
+use Rattle.radix_tree.proofs.Words.{on_zero, on_one, plug, low_past, Lead, Lodged}
 use Rattle.radix_tree.proofs.AddressBits.{zero_not_one}
 
 module _ {V : Type 0} where
@@ -14,20 +14,18 @@ module _ {V : Type 0} where
       → mid.tree ≡ plug fs at.tree → Lead key fs → at.low ≡ low_past mid.low fs → OnWay m key whole at
   way_from m key whole mid at [] way fs was lead lowest = record {
     frames = fs;
-    was = sym (ap (λ (p : Part m). p.tree) way) ∙ was;
+    was = sym (ap (λ p. p.tree) way) ∙ was;
     lead = lead;
-    lowest = lowest ∙ ap (λ (p : Part m). low_past p.low fs) way;
+    lowest = lowest ∙ ap (λ p. low_past p.low fs) way;
   }
   way_from m key whole mid at (p ∷ ps) way fs was lead lowest =
       let b = way.0 in
       let f = b.at in
-      let low : at.low ≡ low_past (f.bit + 1) fs = lowest ∙ ap (λ (n : ℕ). low_past n fs) b.low in
+      let low = lowest ∙ ap (λ n. low_past n fs) b.low in
       elim b.side [
-        | inl e ↦ way_from m key whole p at ps way.1 (on_zero b.room f.bit f.one ∷ fs)
-            (f.is ∙ ap (λ (t : Tree V). fork b.room f.bit t f.one) (sym e.0 ∙ was)) (e.1, lead)
+        | inl e ↦ way_from m key whole p at ps way.1 (on_zero b.room f.bit f.one ∷ fs) (f.is ∙ ap (λ t. fork b.room f.bit t f.one) (sym e.0 ∙ was)) (e.1, lead)
             low
-        | inr e ↦ way_from m key whole p at ps way.1 (on_one b.room f.bit f.zero ∷ fs)
-            (f.is ∙ ap (λ (t : Tree V). fork b.room f.bit f.zero t) (sym e.0 ∙ was)) (e.1, lead)
+        | inr e ↦ way_from m key whole p at ps way.1 (on_one b.room f.bit f.zero ∷ fs) (f.is ∙ ap (fork b.room f.bit f.zero) (sym e.0 ∙ was)) (e.1, lead)
             low
       ]
 
@@ -57,9 +55,9 @@ module _ {V : Type 0} where
   one_leaf key (on_zero i b t ∷ fs) (on_zero j c v ∷ gs) x y xs ys e one other =
       one_leaf key fs gs x y xs ys (zero_of i j b c (plug fs (leaf x xs)) t (plug gs (leaf y ys)) v e) one.1 other.1
   one_leaf key (on_zero i b t ∷ fs) (on_one j c u ∷ gs) x y xs ys e one other =
-      absurd (zero_not_one (subst (λ (n : ℕ). bit_at n key ≡ 0) (bit_of i j b c e) one.0) other.0)
+      absurd (zero_not_one (subst (λ n. bit_at n key ≡ 0) (bit_of i j b c e) one.0) other.0)
   one_leaf key (on_one i b s ∷ fs) (on_zero j c v ∷ gs) x y xs ys e one other =
-      absurd (zero_not_one other.0 (subst (λ (n : ℕ). bit_at n key ≡ 1) (bit_of i j b c e) one.0))
+      absurd (zero_not_one other.0 (subst (λ n. bit_at n key ≡ 1) (bit_of i j b c e) one.0))
   one_leaf key (on_one i b s ∷ fs) (on_one j c u ∷ gs) x y xs ys e one other =
       one_leaf key fs gs x y xs ys (one_of i j b c s (plug fs (leaf x xs)) u (plug gs (leaf y ys)) e) one.1 other.1
 

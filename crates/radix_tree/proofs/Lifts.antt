@@ -1,29 +1,29 @@
 -- A node with another bit node above it.
+use Rattle.radix_tree.proofs.{RoomReads.AreLinks, RoomReads.Has-leaf, RoomReads.leaf_read, Parts.leaf_run}
 use Rattle.radix_tree.proofs.Words.{◌≡◌, ℕ, ◌==◌, true, false, if◌then◌else◌, Option, Some, None, refl, sym, ap, ◌∙◌, eqb-true, Has, leaf_of, Id, Leaf}
 use Rattle.radix_tree.proofs.Words.{BitNode, Links, IsBitNodeOf, LeafPart, BitPart, Part, leaves_in, bits_in, heads_in, bit_part, head_part, first_room}
 use Rattle.radix_tree.proofs.Words.{leaf_part, LeafAt, with_leaf, put_leaf, put_bit, put_head, leaf_above, Lodged}
-use Rattle.radix_tree.proofs.{RoomReads.AreLinks, RoomReads.Has-leaf, RoomReads.leaf_read, Parts.leaf_run}
 
 module _ {V : Type 0} where
   abbrev pub part_at : (m : Lodged V) {p : Part m} {room : Id} → LeafAt p room → LeafPart V
   part_at m {p = p} f = leaf_part f.first p.above None (first_room f.rest)
 
   pub leaf_said : (m : Lodged V) {p : Part m} {room : Id} (f : LeafAt p room) → leaves_in m room.number ≡ Some (part_at m f)
-  leaf_said m f = ap (λ (i : Id). leaves_in m i.number) (sym f.room_is) ∙ (leaf_run m f).stands.0
+  leaf_said m f = ap (λ i. leaves_in m i.number) (sym f.room_is) ∙ (leaf_run m f).stands.0
 
   pub Has-leaf_at : (m : Lodged V) {p : Part m} {room : Id} → LeafAt p room → Has m room
-  Has-leaf_at m {room = room} f = Has-leaf m room (leaf_said m f) (ap (λ (i : Id). i.block) f.room_is)
+  Has-leaf_at m {room = room} f = Has-leaf m room (leaf_said m f) (ap (λ i. i.block) f.room_is)
 
   -- the leaf that is written is the old one beneath another bit node
   pub leaf_lifted : (m : Lodged V) (p : Part m) (room : Id) (links : Links) {l : Leaf} (above : Option Id) (n : ℕ) → LeafAt p room → AreLinks m room links
       → l ≡ leaf_of links
       → put_leaf room (record l { above = above }) n (leaves_in m n) ≡ (if n == room.number then leaf_above above (leaves_in m n) else leaves_in m n)
   leaf_lifted m p room links {l = l} above n f are leaf =
-      let read = leaf ∙ leaf_read m room links (leaf_said m f) (ap (λ (i : Id). i.block) f.room_is) are in
+      let read = leaf ∙ leaf_read m room links (leaf_said m f) (ap (λ i. i.block) f.room_is) are in
       elim (n == room.number) as (λ t. (n == room.number) ≡ t → (if t then with_leaf (record l { above = above }) (leaves_in m n) else leaves_in m n)
       ≡ (if t then leaf_above above (leaves_in m n) else leaves_in m n)) [
-        | true ↦ λ e. let said = ap (λ (k : ℕ). leaves_in m k) (eqb-true n room.number e) ∙ leaf_said m f in
-            ap (with_leaf (record l { above = above })) said ∙ ap (λ (z : Leaf). with_leaf (record z { above = above }) (Some (part_at m f))) read
+        | true ↦ λ e. let said = ap (leaves_in m) (eqb-true n room.number e) ∙ leaf_said m f in
+            ap (with_leaf (record l { above = above })) said ∙ ap (λ z. with_leaf (record z { above = above }) (Some (part_at m f))) read
             ∙ sym (ap (leaf_above above) said)
         | false ↦ λ e. refl
       ] refl
@@ -35,7 +35,7 @@ module _ {V : Type 0} where
   node_changed m {room = room} new change n is same =
       elim (n == room.number) as (λ t. (n == room.number) ≡ t → (if t then bit_part room.block (Some new) else bits_in m n)
       ≡ (if t then change (bits_in m n) else bits_in m n)) [
-        | true ↦ λ e. sym same ∙ ap change (sym is.said ∙ ap (λ (k : ℕ). bits_in m k) (sym (eqb-true n room.number e)))
+        | true ↦ λ e. sym same ∙ ap change (sym is.said ∙ ap (bits_in m) (sym (eqb-true n room.number e)))
         | false ↦ λ e. refl
       ] refl
 
@@ -44,6 +44,6 @@ module _ {V : Type 0} where
       → put_head room (Some new) n (heads_in m n) ≡ heads_in m n
   head_kept m room new n is same =
       elim (n == room.number) as (λ t. (n == room.number) ≡ t → (if t then head_part (Some new) else heads_in m n) ≡ heads_in m n) [
-        | true ↦ λ e. same ∙ sym is.head ∙ ap (λ (k : ℕ). heads_in m k) (sym (eqb-true n room.number e))
+        | true ↦ λ e. same ∙ sym is.head ∙ ap (heads_in m) (sym (eqb-true n room.number e))
         | false ↦ λ e. refl
       ] refl

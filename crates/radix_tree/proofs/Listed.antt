@@ -1,13 +1,13 @@
 -- The mask of a route comes into the list of its bit node, or goes out of it: the table's rooms as a whole.
-use Rattle.radix_tree.proofs.Words.{◌≡◌, ℕ, ◌+◌, ◌<◌, ◌≤◌, ◌==◌, Bool, true, not, ◌&&◌, ◌||◌, List, Option, Some, None, refl, inl, inr, sym, ap}
-use Rattle.radix_tree.proofs.Words.{◌∙◌, subst, arith, eq-eqb, ne_eqb, cases_eq, is_some, Id, Node, Placed, IsAmong, IsIn, MaskPart, Part, heads_in}
-use Rattle.radix_tree.proofs.Words.{masks_in, HasHome, KeepsLeaves, KeepsBits, AreOnce, IsMarked, IsMaskList, MarkedIn, IsWholeBut, nobody_late}
-use Rattle.radix_tree.proofs.Words.{nobody_out, IsMasks, IsBitNode, IsFree, IsAside, IsNoRank, HomeAt, IsHome, sorted_in, taken_out, Lodged}
+use Rattle.radix_tree.proofs.{RoomReads.none_some, Parts.fork_is, Parts.way_leads, PlugLists.falls_between, WholeParts.with_late}
+use Rattle.radix_tree.proofs.Words.{◌≡◌, ℕ, ◌+◌, ◌≤◌, ◌==◌, Bool, true, not, ◌&&◌, ◌||◌, List, Option, Some, None, refl, inl, inr, sym, ap, ◌∙◌, subst}
+use Rattle.radix_tree.proofs.Words.{arith, eq-eqb, ne_eqb, cases_eq, is_some, Id, Node, Placed, IsAmong, IsIn, MaskPart, Part, heads_in, masks_in}
+use Rattle.radix_tree.proofs.Words.{HasHome, KeepsLeaves, KeepsBits, AreOnce, IsMarked, IsMaskList, MarkedIn, IsWholeBut, nobody_late, nobody_out}
+use Rattle.radix_tree.proofs.Words.{IsMasks, IsBitNode, IsFree, IsAside, IsNoRank, HomeAt, IsHome, sorted_in, taken_out, Lodged}
 use Rattle.radix_tree.proofs.MaskLists.{sorted_here, among_sorted, sorted_among, falls_sorted, taken_among, among_taken, falls_taken, ranked_in}
 use Rattle.radix_tree.proofs.MaskLists.{bit_node_at, masks_listed}
 use Rattle.radix_tree.proofs.HomeLists.{true_false, or_right, some_of, one_room, one_of_bit, home_has, tree_of, home_list, home_inside, relisted}
 use Rattle.radix_tree.proofs.HomeLists.{whole_kept}
-use Rattle.radix_tree.proofs.{RoomReads.none_some, Parts.fork_is, Parts.way_leads, PlugLists.falls_between, WholeParts.with_late}
 
 module _ {V : Type 0} where
   -- ---- a mask comes into the list of its home
@@ -40,7 +40,7 @@ module _ {V : Type 0} where
       → x.entry.rank ≡ y.is.entry.rank → x ≡ y.is
   rank_is m node y x is same =
       let h = y.home in
-      let within : y.is.entry.rank ≤ h.at.bit = h.within in
+      let within = h.within in
       one_of_bit h.part.low h.at.bit node h.at.zero h.at.one (fork_is m h.at) x y.is is (in_home m y) same (omega arith)
 
   are_masks : (m : Lodged V) {whole : Part m} {room node : Id} (y : Homed m whole room node) (l : list_at m y) → IsMasks m (heads_in m node.number) l.masks
@@ -55,32 +55,32 @@ module _ {V : Type 0} where
   out_of_range m whole y x in_x out z in_z least most same =
       let e = one_room m whole z x (to_whole m y z in_z) in_x same in
       let h = y.home in
-      out (subst (IsIn x) (sym h.at.is) (subst (λ (p : Placed V). IsIn p (tree_of h)) e in_z))
-      (subst (λ (p : Placed V). h.part.low ≤ p.entry.rank) e least) (subst (λ (p : Placed V). p.entry.rank ≤ h.at.bit) e most)
+      out (subst (IsIn x) (sym h.at.is) (subst (λ p. IsIn p (tree_of h)) e in_z))
+      (subst (λ p. h.part.low ≤ p.entry.rank) e least) (subst (λ p. p.entry.rank ≤ h.at.bit) e most)
 
   aside_of : (m : Lodged V) (whole : Part m) {room node : Id} (y : Homed m whole room node) (l : list_at m y) (x : Placed V) → IsIn x whole.tree
       → (IsIn x y.home.part.tree → y.home.part.low ≤ x.entry.rank → x.entry.rank ≤ y.home.at.bit → ⊥) → IsAside x.room.number l.masks
   aside_of m whole y l x in_x out z among same =
       let range = falls_between y.home.part.low (y.home.at.bit + 1) l.masks l.falls z among in
-      let below : z.entry.rank < y.home.at.bit + 1 = range.1 in
+      let below = range.1 in
       out_of_range m whole y x in_x out z (l.within z among).0 range.0 (omega arith) same
 
   not_room : (m : Lodged V) (whole : Part m) {room node : Id} (y : Homed m whole room node) (x : Placed V) → IsIn x whole.tree
       → (IsIn x y.home.part.tree → y.home.part.low ≤ x.entry.rank → x.entry.rank ≤ y.home.at.bit → ⊥) → x.room.number ≡ room.number → ⊥
   not_room m whole y x in_x out same =
-      out_of_range m whole y x in_x out y.is (in_home m y) y.home.past y.home.within (ap (λ (i : Id). i.number) y.room_is ∙ sym same)
+      out_of_range m whole y x in_x out y.is (in_home m y) y.home.past y.home.within (ap (λ i. i.number) y.room_is ∙ sym same)
 
   no_rank : (m : Lodged V) {whole : Part m} (room node : Id) (y : Homed m whole room node) (l : list_at m y) → masks_in m room.number ≡ None
       → IsNoRank y.is.entry.rank l.masks
   no_rank m room node y l unmarked x among same =
       let is = l.within x among in
       let e = rank_is m node y x is.0 same in
-      let marked = subst (λ (p : Placed V). IsMarked (masks_in m) p) e is.1 in
-      true_false (sym marked ∙ ap (λ (i : Id). is_some (masks_in m i.number)) y.room_is ∙ ap is_some unmarked)
+      let marked = subst (IsMarked (masks_in m)) e is.1 in
+      true_false (sym marked ∙ ap (λ i. is_some (masks_in m i.number)) y.room_is ∙ ap is_some unmarked)
 
   marks_more : (m new : Lodged V) (node room : Id) → IsSortedIn m new node room → (x : Placed V) → IsMarked (masks_in m) x → IsMarked (masks_in new) x
   marks_more m new node room s x marked = elim (cases_eq x.room.number room.number) [
-    | inl same ↦ ap (λ (n : ℕ). is_some (masks_in new n)) same ∙ s.marked
+    | inl same ↦ ap (λ n. is_some (masks_in new n)) same ∙ s.marked
     | inr other ↦ s.marks x.room.number other ∙ marked
   ]
 
@@ -93,20 +93,19 @@ module _ {V : Type 0} where
       let none = no_rank m room node y l unmarked in
       let free : IsFree m room = record { is = y.is; room_is = y.room_is; ranked = ranked_in m whole y.is y.inside; unmarked = unmarked } in
       let after = s.list l.masks free (are_masks m y l) none in
-      let within : y.is.entry.rank ≤ h.at.bit = h.within in
+      let within = h.within in
       record {
         masks = sorted_in y.is l.masks;
         begins = after.begins;
         stands = after.stands;
         falls = falls_sorted h.part.low (h.at.bit + 1) y.is l.masks l.falls h.past (omega arith) none;
         has = λ x is least most. elim (cases_eq x.room.number room.number) [
-          | inl same ↦ subst (λ (p : Placed V). IsAmong p (sorted_in y.is l.masks)) (one_room m whole y.is x y.inside (to_whole m y x is.0)
-              (ap (λ (i : Id). i.number) y.room_is ∙ sym same)) (sorted_here y.is l.masks)
+          | inl same ↦ subst (λ p. IsAmong p (sorted_in y.is l.masks)) (one_room m whole y.is x y.inside (to_whole m y x is.0)
+              (ap (λ i. i.number) y.room_is ∙ sym same)) (sorted_here y.is l.masks)
           | inr other ↦ among_sorted h.part.low (h.at.bit + 1) y.is l.masks l.falls x (l.has x (is.0, sym (s.marks x.room.number other) ∙ is.1) least most)
         ];
         within = λ x among. elim (sorted_among h.part.low (h.at.bit + 1) y.is l.masks l.falls x among) [
-          | inl e ↦ subst (λ (p : Placed V). MarkedIn (masks_in new) (tree_of h) p) e
-              (in_home m y, ap (λ (i : Id). is_some (masks_in new i.number)) y.room_is ∙ s.marked)
+          | inl e ↦ subst (MarkedIn (masks_in new) (tree_of h)) e (in_home m y, ap (λ i. is_some (masks_in new i.number)) y.room_is ∙ s.marked)
           | inr old ↦ let is = l.within x old in (is.0, marks_more m new node room s x is.1)
         ];
       }
@@ -116,7 +115,7 @@ module _ {V : Type 0} where
       → KeepsLeaves m new → KeepsBits m new → IsWholeBut new root (λ n. late n && not (n == room.number)) nobody_out
   listed_more m new late w room node once y unmarked s leaves bits =
       let l = home_list m y.home w.lists in
-      let number : y.is.room.number ≡ room.number = ap (λ (i : Id). i.number) y.room_is in
+      let number = ap (λ i. i.number) y.room_is in
       whole_kept m new late (λ n. late n && not (n == room.number)) w leaves bits
       (relisted m new y.is.entry.key y.is.entry.rank w.part node y.home once (record {
         heads = s.heads;
@@ -128,11 +127,10 @@ module _ {V : Type 0} where
           | inr other ↦ let q = some_of (masks_in m n) (sym (s.marks n other) ∙ ap is_some said) in w.listed n q.0 q.1
         ];
         all = λ x in_x home. elim (cases_eq x.room.number room.number) [
-          | inl same ↦ inl (ap (λ (n : ℕ). is_some (masks_in new n)) same ∙ s.marked)
+          | inl same ↦ inl (ap (λ n. is_some (masks_in new n)) same ∙ s.marked)
           | inr other ↦ elim (w.all x in_x home) [
             | inl marked ↦ inl (s.marks x.room.number other ∙ marked)
-            | inr is_late ↦ inr (ap (λ (t : Bool). t && not (x.room.number == room.number)) is_late
-                ∙ ap not (ne_eqb x.room.number room.number other))
+            | inr is_late ↦ inr (ap (λ t. t && not (x.room.number == room.number)) is_late ∙ ap not (ne_eqb x.room.number room.number other))
           ]
         ];
       })
@@ -151,7 +149,7 @@ module _ {V : Type 0} where
   at_home m y l marked = l.has y.is (in_home m y, marked) y.home.past y.home.within
 
   not_marked : (m new : Lodged V) {node room : Id} → IsTakenOut m new node room → (x : Placed V) → IsMarked (masks_in new) x → x.room.number ≡ room.number → ⊥
-  not_marked m new s x marked same = true_false (sym marked ∙ ap (λ (n : ℕ). is_some (masks_in new n)) same ∙ ap is_some s.unmarked)
+  not_marked m new s x marked same = true_false (sym marked ∙ ap (λ n. is_some (masks_in new n)) same ∙ ap is_some s.unmarked)
 
   -- the list has all but the route
   list_less : (m new : Lodged V) (whole : Part m) (room node : Id) (y : Homed m whole room node) → list_at m y → IsMarked (masks_in m) y.is
@@ -160,7 +158,7 @@ module _ {V : Type 0} where
   list_less m new whole room node y l marked s =
       let h = y.home in
       let after = s.list l.masks y.is (are_masks m y l) (at_home m y l marked) y.room_is in
-      let number : y.is.room.number ≡ room.number = ap (λ (i : Id). i.number) y.room_is in
+      let number = ap (λ i. i.number) y.room_is in
       record {
         masks = taken_out y.is.entry.rank l.masks;
         begins = after.begins;
@@ -169,12 +167,12 @@ module _ {V : Type 0} where
         has = λ x is least most.
             let other = not_marked m new s x is.1 in
             among_taken h.part.low (h.at.bit + 1) y.is.entry.rank l.masks l.falls x (l.has x (is.0, sym (s.marks x.room.number other) ∙ is.1) least most)
-            (λ same. other (ap (λ (p : Placed V). p.room.number) (rank_is m node y x is.0 same) ∙ number));
+            (λ same. other (ap (λ p. p.room.number) (rank_is m node y x is.0 same) ∙ number));
         within = λ x among.
             let old = taken_among h.part.low (h.at.bit + 1) y.is.entry.rank l.masks l.falls x among in
             let is = l.within x old.0 in
             let other : x.room.number ≡ room.number → ⊥ =
-            λ same. old.1 (ap (λ (p : Placed V). p.entry.rank) (one_room m whole x y.is (to_whole m y x is.0) y.inside (same ∙ sym number))) in
+            λ same. old.1 (ap (λ p. p.entry.rank) (one_room m whole x y.is (to_whole m y x is.0) y.inside (same ∙ sym number))) in
             (is.0, s.marks x.room.number other ∙ is.1);
       }
 
@@ -197,7 +195,7 @@ module _ {V : Type 0} where
           | inl same ↦ inr (or_right (late x.room.number) (eq-eqb x.room.number room.number same))
           | inr other ↦ elim (w.all x in_x home) [
             | inl old ↦ inl (s.marks x.room.number other ∙ old)
-            | inr is_late ↦ inr (ap (λ (t : Bool). t || (x.room.number == room.number)) is_late)
+            | inr is_late ↦ inr (ap (λ t. t || (x.room.number == room.number)) is_late)
           ]
         ];
       })
@@ -212,8 +210,8 @@ module _ {V : Type 0} where
       unsaid None e = e
       unsaid (Some p) e =
           let x = w.listed room.number p e in
-          let same = one_room m w.part x.0 y x.1 in_y (x.2 ∙ sym (ap (λ (i : Id). i.number) is)) in
-          absurd (none (subst (λ (p : Placed V). HasHome p.entry.key p.entry.rank w.part.tree) same x.3))
+          let same = one_room m w.part x.0 y x.1 in_y (x.2 ∙ sym (ap (λ i. i.number) is)) in
+          absurd (none (subst (λ p. HasHome p.entry.key p.entry.rank w.part.tree) same x.3))
 
   -- a room whose mask is listed, or has no home, is not late
   pub settled : (m : Lodged V) {root : Node} (late : ℕ → Bool) (w : IsWholeBut m root late nobody_out) (room : Id)
@@ -223,15 +221,15 @@ module _ {V : Type 0} where
     | inl same ↦ inl (here x in_x home same)
     | inr other ↦ elim (w.all x in_x home) [
       | inl marked ↦ inl marked
-      | inr is_late ↦ inr (ap (λ (t : Bool). t && not (x.room.number == room.number)) is_late ∙ ap not (ne_eqb x.room.number room.number other))
+      | inr is_late ↦ inr (ap (λ t. t && not (x.room.number == room.number)) is_late ∙ ap not (ne_eqb x.room.number room.number other))
     ]
   ])
 
   pub never_late : {m : Lodged V} {root : Node} (late : ℕ → Bool) (w : IsWholeBut m root late nobody_out) (room : Id) (y : Placed V) → IsIn y w.part.tree
       → y.room ≡ room → (HasHome y.entry.key y.entry.rank w.part.tree → ⊥) → IsWholeBut m root (λ n. late n && not (n == room.number)) nobody_out
   never_late {m = m} late w room y in_y is none = settled m late w room
-      (λ x in_x home same. absurd (none (subst (λ (p : Placed V). HasHome p.entry.key p.entry.rank w.part.tree)
-      (one_room m w.part x y in_x in_y (same ∙ sym (ap (λ (i : Id). i.number) is))) home)))
+      (λ x in_x home same. absurd (none (subst (λ p. HasHome p.entry.key p.entry.rank w.part.tree)
+      (one_room m w.part x y in_x in_y (same ∙ sym (ap (λ i. i.number) is))) home)))
 
   -- ---- what a list's change asks for
   pub homed : {m : Lodged V} (whole : Part m) (y : Placed V) {room : Id} {o : Option Id} {node : Id} → IsIn y whole.tree → y.room ≡ room → o ≡ Some node

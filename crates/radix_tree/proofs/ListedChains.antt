@@ -1,13 +1,12 @@
 -- A walk along a chain whose masks are listed one after the other.
+use Rattle.radix_tree.proofs.{RoomReads.inside, RoomReads.none_some, RoomReads.AreLinks, RoomReads.Has-leaf, RoomReads.leaf_read, TreeMembers.IsHead}
+use Rattle.radix_tree.proofs.{TreeMembers.head_of, TreeMembers.tree_said, Parts.among_leaf, Parts.way_leads, WaysDown.way_to_leaf, ChainStarts.member_of}
+use Rattle.radix_tree.proofs.{HomeLists.true_false, HomeLists.placed_in, HomeLists.route_at, Listed.settled, WholeParts.later_than, ListedHomes.chain_of}
+use Rattle.radix_tree.proofs.{ListedHomes.in_chain}
 use Rattle.radix_tree.proofs.Words.{◌≡◌, ℕ, ◌+◌, ◌<◌, ◌≤◌, ◌==◌, Bool, true, false, not, ◌&&◌, List, [], ◌∷◌, Option, Some, None, refl, sym, ap, ◌∙◌}
 use Rattle.radix_tree.proofs.Words.{subst, inl, inr, arith, eqb-true, eq-eqb, is_some, Has, leaf_of, mask_node_of, Id, Leaf, Links, MaskNode, Node}
-use Rattle.radix_tree.proofs.Words.{Placed, IsAmong, IsIn, IsChain, LeafPart, MaskPart, Leaves, Part, Run, leaves_in, bits_in, masks_in, mask_in}
-use Rattle.radix_tree.proofs.Words.{mask_part, first_room, leaf_part, ChainStands, one_if, leaves_at, KeepsLeaves, IsWholeBut, is_of_key, has_key}
-use Rattle.radix_tree.proofs.Words.{nobody_out, Lodged}
-use Rattle.radix_tree.proofs.{RoomReads.inside, RoomReads.none_some, RoomReads.AreLinks, RoomReads.Has-leaf, RoomReads.leaf_read, TreeMembers.IsHead}
-use Rattle.radix_tree.proofs.{TreeMembers.head_of, TreeMembers.tree_said, Parts.among_leaf, Parts.way_leads, WaysDown.way_to_leaf, ChainStarts.Member}
-use Rattle.radix_tree.proofs.{ChainStarts.member_of, HomeLists.true_false, HomeLists.placed_in, HomeLists.route_at, Listed.settled, WholeParts.later_than}
-use Rattle.radix_tree.proofs.{ListedHomes.chain_of, ListedHomes.in_chain}
+use Rattle.radix_tree.proofs.Words.{Placed, IsAmong, IsIn, IsChain, LeafPart, Leaves, Part, Run, leaves_in, bits_in, masks_in, mask_in, mask_part}
+use Rattle.radix_tree.proofs.Words.{first_room, leaf_part, ChainStands, one_if, KeepsLeaves, IsWholeBut, is_of_key, has_key, nobody_out, Lodged}
 
 and_left : (a b : Bool) → (a && b) ≡ true → a ≡ true
 and_left true b both = refl
@@ -22,7 +21,7 @@ not_true none is = true_false (sym none ∙ ap not is)
 
 both_true : (a b : Bool) → a ≡ true → (b ≡ true → ⊥) → (a && not b) ≡ true
 both_true a true is other = absurd (other refl)
-both_true a false is other = ap (λ (t : Bool). t && true) is
+both_true a false is other = ap (λ t. t && true) is
 
 eqb_not : (n k : ℕ) → not (n == k) ≡ true → n ≡ k → ⊥
 eqb_not n k none same = not_true none (eq-eqb n k same)
@@ -31,20 +30,20 @@ module _ {V : Type 0} where
   -- ---- one room
   mask_said : (m : Lodged V) {room : Id} (h : Has m room) (links : Links) → AreLinks m room links
       → masks_in m room.number ≡ mask_part h.room.block (mask_node_of links)
-  mask_said m h links are = ap mask_in h.at ∙ ap (λ (l : Links). mask_part h.room.block (mask_node_of l)) (sym (are h.room h.at))
+  mask_said m h links are = ap mask_in h.at ∙ ap (λ l. mask_part h.room.block (mask_node_of l)) (sym (are h.room h.at))
 
   pub mask_none : {m : Lodged V} {room : Id} (links : Links) → Has m room → AreLinks m room links → mask_node_of links ≡ None → masks_in m room.number ≡ None
   mask_none {m = m} links h are none = mask_said m h links are ∙ ap (mask_part h.room.block) none
 
   mask_some : (m : Lodged V) {room : Id} (links : Links) (n : MaskNode) → Has m room → AreLinks m room links → mask_node_of links ≡ Some n
       → is_some (masks_in m room.number) ≡ true
-  mask_some m links n h are some = ap (λ (o : Option MaskPart). is_some o) (mask_said m h links are ∙ ap (mask_part h.room.block) some)
+  mask_some m links n h are some = ap is_some (mask_said m h links are ∙ ap (mask_part h.room.block) some)
 
   -- a room whose mask is listed is not late
   pub listed_late : {m : Lodged V} {root : Node} (late : ℕ → Bool) (w : IsWholeBut m root late nobody_out) (room : Id) (links : Links) (n : MaskNode)
       → Has m room → AreLinks m room links → mask_node_of links ≡ Some n → IsWholeBut m root (λ k. late k && not (k == room.number)) nobody_out
   listed_late {m = m} late w room links n h are some =
-      settled m late w room (λ x in_x home same. ap (λ (k : ℕ). is_some (masks_in m k)) same ∙ mask_some m links n h are some)
+      settled m late w room (λ x in_x home same. ap (λ k. is_some (masks_in m k)) same ∙ mask_some m links n h are some)
 
   -- ---- how far the walk has to go: one more than the rank of the route that it has come to
   abbrev pub left_of : Option (LeafPart V) → ℕ
@@ -57,14 +56,13 @@ module _ {V : Type 0} where
 
   left_same : (L M : Leaves V) (at : Option Id) → ((n : ℕ) → L n ≡ M n) → left_at L at ≡ left_at M at
   left_same L M None same = refl
-  left_same L M (Some room) same = ap (λ (o : Option (LeafPart V)). left_of o) (same room.number)
+  left_same L M (Some room) same = ap left_of (same room.number)
 
   chain_left : (L : Leaves V) (above previous : Option Id) (key top : ℕ) (c : List (Placed V)) → IsChain key top c → ChainStands L above previous c
       → left_at L (first_room c) ≤ top
   chain_left L above previous key top [] is stands = omega arith
   chain_left L above previous key top (x ∷ c) is stands =
-      let same : left_of (L x.room.number) ≡ x.entry.rank + 1 = ap (λ (o : Option (LeafPart V)). left_of o) stands.0 in let below : x.entry.rank < top =
-      is.2 in omega arith
+      let same = ap left_of stands.0 in let below = is.2 in omega arith
 
   -- ---- the walk
   -- in the rooms of m, whose leaves the rooms of now have too: what is left of the chain of a key; all routes of this key
@@ -82,8 +80,8 @@ module _ {V : Type 0} where
       → (q.leaf.key ≡ y.entry.key) × (q.block ≡ y.room.block)
   key_said m p y q is same said =
       let t = tree_said (leaves_in m) (bits_in m) p.above p.tree p.stands y is in
-      let parts : leaf_part y t.0 t.1 t.2 ≡ q = inside (sym t.3 ∙ ap (leaves_in m) same ∙ said) in
-      (ap (λ (z : LeafPart V). z.leaf.key) (sym parts), ap (λ (z : LeafPart V). z.block) (sym parts))
+      let parts = inside (sym t.3 ∙ ap (leaves_in m) same ∙ said) in
+      (ap (λ z. z.leaf.key) (sym parts), ap (λ z. z.block) (sym parts))
 
   of_key : (key : ℕ) (o : Option (LeafPart V)) → is_of_key key o ≡ true → (q : LeafPart V) × (o ≡ Some q) × (q.leaf.key ≡ key)
   of_key key None is = absurd (true_false (sym is))
@@ -94,10 +92,10 @@ module _ {V : Type 0} where
       → has_key m y.entry.key n ≡ true → (x : Placed V) × IsAmong x (chain_of w.part y is).members × (x.room.number ≡ n)
   in_its_chain m w y is n has =
       let q = of_key y.entry.key (leaves_in m n) has in
-      let count : leaves_at n w.part.tree + 0 ≡ 1 = w.leaves n ∙ ap (λ (o : Option (LeafPart V)). one_if (is_some o)) q.1 in
+      let count = w.leaves n ∙ ap (λ o. one_if (is_some o)) q.1 in
       let x = route_at n w.part.tree (omega arith) in
       let f = way_to_leaf m w.part y is in
-      let key : x.0.entry.key ≡ y.entry.key = sym (key_said m w.part x.0 q.0 x.1 x.2 q.1).0 ∙ q.2 in
+      let key = sym (key_said m w.part x.0 q.0 x.1 x.2 q.1).0 ∙ q.2 in
       (x.0, among_leaf m f.at x.0 (way_leads m w.part f.part f.ups f.way x.0 x.1 key), x.2)
 
   -- a route that names none before it is the first of its chain
@@ -105,23 +103,23 @@ module _ {V : Type 0} where
       → p.leaf.previous ≡ None → first_room (chain_of whole y is).members ≡ Some y.room
   begins_at m whole y is p said none =
       let c = chain_of whole y is in
-      let k : Member (leaves_in m) c.members None y = member_of (leaves_in m) c.above None c.key c.top c.members c.is c.stands y (in_chain whole y is) in
-      let same : k.part ≡ p = inside (sym k.said ∙ said) in
-      let before : k.part.leaf.previous ≡ None = ap (λ (z : LeafPart V). z.leaf.previous) same ∙ none in
+      let k = member_of (leaves_in m) c.above None c.key c.top c.members c.is c.stands y (in_chain whole y is) in
+      let same = inside (sym k.said ∙ said) in
+      let before = ap (λ z. z.leaf.previous) same ∙ none in
       elim k.prior [ inl first ↦ first.0 | inr other ↦ absurd (none_some (sym before ∙ other.2)) ]
 
   pub begun : {m : Lodged V} {root : Node} (late : ℕ → Bool) (first : Id) (p : LeafPart V) → IsWholeBut m root late nobody_out
       → leaves_in m first.number ≡ Some p → p.block ≡ first.block → p.leaf.previous ≡ None → Left m m root late p.leaf.key (Some first)
   begun {m = m} late first p w said block none =
       let y = placed_in w (Has-leaf m first said block) in
-      let key : p.leaf.key ≡ y.0.entry.key = (key_said m w.part y.0 p y.1 (ap (λ (i : Id). i.number) y.2) said).0 in
+      let key = (key_said m w.part y.0 p y.1 (ap (λ i. i.number) y.2) said).0 in
       record {
         later = late;
         whole = w;
         rest = chain_of w.part y.0 y.1;
-        begins = begins_at m w.part y.0 y.1 p (ap (λ (i : Id). leaves_in m i.number) y.2 ∙ said) none ∙ ap (λ (i : Id). Some i) y.2;
+        begins = begins_at m w.part y.0 y.1 p (ap (λ i. leaves_in m i.number) y.2 ∙ said) none ∙ ap Some y.2;
         less = λ n is_late. is_late;
-        behind = λ n is_late has. in_its_chain m w y.0 y.1 n (subst (λ (k : ℕ). has_key m k n ≡ true) key has);
+        behind = λ n is_late has. in_its_chain m w y.0 y.1 n (subst (λ k. has_key m k n ≡ true) key has);
       }
 
   -- ---- at a member
@@ -133,17 +131,17 @@ module _ {V : Type 0} where
   part_at rest x = leaf_part x.first rest.above rest.previous (first_room x.behind)
 
   said_at : (m : Lodged V) (rest : Run m) {room : Id} (x : IsHead rest.members room) → leaves_in m room.number ≡ Some (part_at rest x)
-  said_at m rest x = ap (λ (i : Id). leaves_in m i.number) (sym x.room_is) ∙ (subst (ChainStands (leaves_in m) rest.above rest.previous) x.is rest.stands).0
+  said_at m rest x = ap (λ i. leaves_in m i.number) (sym x.room_is) ∙ (subst (ChainStands (leaves_in m) rest.above rest.previous) x.is rest.stands).0
 
   pub Has-at : {m now : Lodged V} (new : Lodged V) {root : Node} {late : ℕ → Bool} {key : ℕ} {at : Option Id} {room : Id}
       → Left m now root late key at → KeepsLeaves m new → at ≡ Some room → Has new room
   Has-at {m = m} new {room = room} l kept is =
-      let x = head_at l is in Has-leaf new room (kept room.number ∙ said_at m l.rest x) (ap (λ (i : Id). i.block) x.room_is)
+      let x = head_at l is in Has-leaf new room (kept room.number ∙ said_at m l.rest x) (ap (λ i. i.block) x.room_is)
 
   next_read : (m new : Lodged V) (rest : Run m) (room : Id) (links : Links) (l : Leaf) (x : IsHead rest.members room) → KeepsLeaves m new
       → AreLinks new room links → l ≡ leaf_of links → l.next ≡ first_room x.behind
   next_read m new rest room links l x kept are leaf =
-      ap (λ (z : Leaf). z.next) (leaf ∙ leaf_read new room links (kept room.number ∙ said_at m rest x) (ap (λ (i : Id). i.block) x.room_is) are)
+      ap (λ z. z.next) (leaf ∙ leaf_read new room links (kept room.number ∙ said_at m rest x) (ap (λ i. i.block) x.room_is) are)
 
   abbrev run_behind : (m : Lodged V) (rest : Run m) {room : Id} → IsHead rest.members room → Run m
   run_behind m rest x = record {
@@ -172,7 +170,7 @@ module _ {V : Type 0} where
             let other = eqb_not n room.number (and_right (l.later n) (not (n == room.number)) is_late) in (
               y.0,
               elim (subst (IsAmong y.0) x.is y.1) [
-                | inl e ↦ absurd (other (sym y.2 ∙ ap (λ (p : Placed V). p.room.number) (sym e) ∙ ap (λ (i : Id). i.number) x.room_is))
+                | inl e ↦ absurd (other (sym y.2 ∙ ap (λ p. p.room.number) (sym e) ∙ ap (λ i. i.number) x.room_is))
                 | inr among ↦ among
               ],
               y.2,
@@ -186,12 +184,9 @@ module _ {V : Type 0} where
       let x = head_at l is in
       let r = run_behind m l.rest x in
       let next = next_read m new l.rest room links f x kept are leaf in
-      let few : left_at (leaves_in m) (first_room x.behind) ≤ x.first.entry.rank =
-      chain_left (leaves_in m) r.above r.previous r.key r.top x.behind r.is r.stands in
-      let far : left_at (leaves_in now) at ≡ x.first.entry.rank + 1 =
-      ap (left_at (leaves_in now)) is ∙ ap (λ (o : Option (LeafPart V)). left_of o) (was room.number ∙ said_at m l.rest x) in
-      let near : left_at (leaves_in new) f.next ≡ left_at (leaves_in m) (first_room x.behind) =
-      ap (left_at (leaves_in new)) next ∙ left_same (leaves_in new) (leaves_in m) (first_room x.behind) kept in
+      let few = chain_left (leaves_in m) r.above r.previous r.key r.top x.behind r.is r.stands in
+      let far = ap (left_at (leaves_in now)) is ∙ ap left_of (was room.number ∙ said_at m l.rest x) in
+      let near = ap (left_at (leaves_in new)) next ∙ left_same (leaves_in new) (leaves_in m) (first_room x.behind) kept in
       omega arith
 
   -- ---- its end

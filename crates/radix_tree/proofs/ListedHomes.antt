@@ -1,8 +1,8 @@
 -- The way from a room to its leaf, and from there to the bit node at which its mask is listed.
-use Rattle.radix_tree.proofs.Words.{◌≡◌, ℕ, Bool, Option, Some, None, refl, sym, ap, ◌∙◌, subst, Has, leaf_of, Id, Leaf, Links, Node, Placed, IsAmong}
-use Rattle.radix_tree.proofs.Words.{IsIn, Part, Run, leaves_in, bits_in, first_room, LedTo, IsWholeBut, nobody_out, IsHome, Lodged}
 use Rattle.radix_tree.proofs.{RoomReads.inside, RoomReads.AreLinks, RoomReads.leaf_read, TreeMembers.tree_said, Parts.leaf_run, Parts.leaf_begins}
 use Rattle.radix_tree.proofs.{Parts.among_leaf, WaysDown.way_to_leaf, HomeLists.placed_in}
+use Rattle.radix_tree.proofs.Words.{◌≡◌, ℕ, Bool, Option, Some, None, refl, sym, ap, ◌∙◌, subst, Has, leaf_of, Id, Leaf, Links, Node, Placed, IsAmong}
+use Rattle.radix_tree.proofs.Words.{IsIn, Part, Run, leaves_in, bits_in, first_room, LedTo, IsWholeBut, nobody_out, IsHome, Lodged}
 
 module _ {V : Type 0} where
   -- the chain of a route of a tree
@@ -27,8 +27,8 @@ module _ {V : Type 0} where
       → l ≡ leaf_of links → l.rank ≡ y.entry.rank
   rank_read {m = m} p y room links at is are leaf =
       let said = tree_said (leaves_in m) (bits_in m) p.above p.tree p.stands y at in
-      ap (λ (z : Leaf). z.rank) (leaf ∙ leaf_read m room links (ap (λ (i : Id). leaves_in m i.number) (sym is) ∙ said.3) (ap (λ (i : Id). i.block) is) are)
+      ap (λ z. z.rank) (leaf ∙ leaf_read m room links (ap (λ i. leaves_in m i.number) (sym is) ∙ said.3) (ap (λ i. i.block) is) are)
 
   pub home_is : {m : Lodged V} (key : ℕ) {rank other : ℕ} (whole : Part m) (o : Option Id) → rank ≡ other → IsHome m key rank whole o
       → IsHome m key other whole o
-  home_is {m = m} key whole o same home = subst (λ (r : ℕ). IsHome m key r whole o) same home
+  home_is {m = m} key whole o same home = subst (λ r. IsHome m key r whole o) same home

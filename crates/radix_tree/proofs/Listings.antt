@@ -1,10 +1,10 @@
 -- A walk through the masks that a bit node lists.
-use Rattle.radix_tree.proofs.Words.{◌≡◌, ℕ, ◌+◌, ◌*◌, ◌≤◌, List, ◌∷◌, Option, Some, None, refl, sym, ap, ◌∙◌, subst, inl, inr, arith, masked, Counter, Id}
-use Rattle.radix_tree.proofs.Words.{Leaf, MaskNode, Reads, LeafPart, MaskPart, Part, MasksAreListed, leaves_in, bits_in, heads_in, masks_in, mask_part}
-use Rattle.radix_tree.proofs.Words.{first_room, leaf_part, MasksStand, Falls, Tells, Finds, HasPair, Best, In, ForkAt, Placed, IsAmong, IsIn, Lodged}
 use Rattle.radix_tree.proofs.{RoomReads.inside, Parts.fork_is, Parts.fork_lists, Scans.ended_at, Searching.AreListed, Searching.mask_hit}
 use Rattle.radix_tree.proofs.{Searching.mask_miss, Searching.listed_behind, Searching.list_ends, TreeMembers.head_of, TreeMembers.tree_route}
 use Rattle.radix_tree.proofs.{TreeMembers.tree_said}
+use Rattle.radix_tree.proofs.Words.{◌≡◌, ℕ, ◌+◌, ◌*◌, ◌≤◌, List, ◌∷◌, Option, Some, None, refl, sym, ap, ◌∙◌, subst, inl, inr, arith, masked, Counter, Id}
+use Rattle.radix_tree.proofs.Words.{Leaf, MaskNode, Reads, LeafPart, MaskPart, Part, MasksAreListed, leaves_in, bits_in, heads_in, masks_in, mask_part}
+use Rattle.radix_tree.proofs.Words.{first_room, leaf_part, MasksStand, Falls, Tells, Finds, HasPair, Best, In, ForkAt, Placed, IsAmong, IsIn, Lodged}
 
 module _ {V : Type 0} {m : Lodged V} where
   -- a walk through the list of a bit node, whose masks so far were tried in vain
@@ -27,7 +27,7 @@ module _ {V : Type 0} {m : Lodged V} where
       → heads_in m room.number ≡ first → Through address p f.bit first v v
   begun {p = p} {room} v f listed head =
       let list = (fork_lists m p f listed).0 in
-      let rises : p.low ≤ f.bit = (fork_is m f).0.rises in
+      let rises = (fork_is m f).0.rises in
       record {
         rest = list.masks;
         top = f.bit + 1;
@@ -64,7 +64,7 @@ module _ {V : Type 0} {m : Lodged V} where
       → Mask address p bit room start now
   mask_at {address} {p} {bit} {at} {room} {start} {now} w is =
       let x = head_of w.rest (w.begins ∙ is) in
-      let in_tree : IsIn x.first p.tree = w.inside x.first (subst (IsAmong x.first) (sym x.is) (inl refl)) in
+      let in_tree = w.inside x.first (subst (IsAmong x.first) (sym x.is) (inl refl)) in
       let leaf = tree_said (leaves_in m) (bits_in m) p.above p.tree p.stands x.first in_tree in
       let stands = subst (MasksStand (masks_in m)) x.is w.stands in
       let falls = subst (Falls p.low w.top) x.is w.falls in
@@ -72,11 +72,11 @@ module _ {V : Type 0} {m : Lodged V} where
       record {
         route = x.first;
         part = leaf_part x.first leaf.0 leaf.1 leaf.2;
-        said = ap (λ (i : Id). leaves_in m i.number) (sym x.room_is) ∙ leaf.3;
+        said = ap (λ i. leaves_in m i.number) (sym x.room_is) ∙ leaf.3;
         rank = refl;
         mask = record { block = x.first.room.block; next = first_room x.behind };
-        listed = ap (λ (i : Id). masks_in m i.number) (sym x.room_is) ∙ stands.0;
-        block = ap (λ (i : Id). i.block) x.room_is;
+        listed = ap (λ i. masks_in m i.number) (sym x.room_is) ∙ stands.0;
+        block = ap (λ i. i.block) x.room_is;
         turn = w.turn;
         rises = w.rises;
         soon = omega (arith, falls.0, falls.1);
@@ -102,21 +102,21 @@ module _ {V : Type 0} {m : Lodged V} where
   asked : (address : ℕ) (p : Part m) {key rank own : ℕ} (o : Option Id) → key ≡ masked rank address → rank ≡ own → Tells (Finds (HasPair key rank) (In p)) o
       → Tells (Finds (HasPair (masked own address) own) (In p)) o
   asked address p {rank = rank} o key_is rank_is found =
-      subst (λ (r : ℕ). Tells (Finds (HasPair (masked r address) r) (In p)) o) rank_is (subst (λ (k : ℕ). Tells (Finds (HasPair k rank) (In p)) o) key_is found)
+      subst (λ r. Tells (Finds (HasPair (masked r address) r) (In p)) o) rank_is (subst (λ k. Tells (Finds (HasPair k rank) (In p)) o) key_is found)
 
   pub hit : {address : ℕ} {p : Part m} {bit : ℕ} {room : Id} {start now : Counter} (x : Mask address p bit room start now) {l : Leaf} {key : ℕ} {o : Option Id}
       {found : Id} → l ≡ x.part.leaf → key ≡ masked l.rank address → o ≡ Some found
       → Tells (Finds (HasPair key l.rank) (In p)) o → Tells (Best address p.low (bit + 1) (In p)) (Some found)
   hit {address} {p} x {l = l} {key = key} {o} {found} is key_is some tells =
-      let told = asked address p (Some found) key_is (ap (λ (z : Leaf). z.rank) is ∙ x.rank) (subst (Tells (Finds (HasPair key l.rank) (In p))) some tells) in
+      let told = asked address p (Some found) key_is (ap (λ z. z.rank) is ∙ x.rank) (subst (Tells (Finds (HasPair key l.rank) (In p))) some tells) in
       (told.0, told.1, x.hit told.0 told.2)
 
   pub miss : {address : ℕ} {p : Part m} {bit : ℕ} {room : Id} {start now later : Counter} (x : Mask address p bit room start now) {l : Leaf} (n : MaskNode)
       {key : ℕ} {o : Option Id} → l ≡ x.part.leaf → masks_in m room.number ≡ mask_part room.block (Some n)
       → key ≡ masked l.rank address → o ≡ None → Tells (Finds (HasPair key l.rank) (In p)) o → Reads now later 67 → Through address p bit n.next start later
   miss {address} {p} {bit} {start = start} {later = later} x {l = l} n {key = key} is said key_is none tells more =
-      let told = asked address p None key_is (ap (λ (z : Leaf). z.rank) is ∙ x.rank) (subst (Tells (Finds (HasPair key l.rank) (In p))) none tells) in
-      subst (λ (i : Option Id). Through address p bit i start later) (ap (λ (k : MaskPart). k.next) (inside (sym x.listed ∙ said))) (x.miss later told more)
+      let told = asked address p None key_is (ap (λ z. z.rank) is ∙ x.rank) (subst (Tells (Finds (HasPair key l.rank) (In p))) none tells) in
+      subst (λ i. Through address p bit i start later) (ap (λ k. k.next) (inside (sym x.listed ∙ said))) (x.miss later told more)
 
   pub ended : {address : ℕ} {p : Part m} {bit : ℕ} {at : Option Id} {start now : Counter} → Through address p bit at start now → at ≡ None
       → Best address p.low (bit + 1) (In p) None

@@ -1,16 +1,16 @@
 -- A room in which a route is lodged, as a leaf and as a bit node.
-use Rattle.radix_tree.proofs.Words.{◌≡◌, ℕ, ◌≤◌, ◌==◌, Bool, if◌then◌else◌, List, [], ◌∷◌, Option, Some, None, refl, sym, ap, ◌∙◌, eq-eqb, ne_eqb, get}
-use Rattle.radix_tree.proofs.Words.{Has, Id, BitNode, Leaf, Node, BitOf, fork, LeafPart, BitPart, Part, leaf_in, bit_in, leaves_in, bits_in, bit_part}
-use Rattle.radix_tree.proofs.Words.{name_of, ForkAt, Way, leaves_at, forks_at, name_child, with_child, IsSpot, IsLodged, IsBeside, forked, placed}
-use Rattle.radix_tree.proofs.Words.{lodge_leaf, put_leaf, put_bit, with_leaf, lift_leaf, lift_bit, KeepsLeaves, KeepsBits, Entry, Lodged}
 use Rattle.radix_tree.proofs.{RoomReads.inside, RoomReads.none_some, RoomReads.Has-leaf, PartRooms.frame, Parts.fork_stands, Beside.misses_leaf}
 use Rattle.radix_tree.proofs.{Beside.misses_bit, Beside.named_leaf, Beside.named_bit, Beside.not_new, Beside.not_new_bit, Beside.not_above}
+use Rattle.radix_tree.proofs.Words.{◌≡◌, ℕ, ◌≤◌, ◌==◌, if◌then◌else◌, List, [], ◌∷◌, Option, Some, None, refl, sym, ap, ◌∙◌, eq-eqb, ne_eqb, get, Has, Id}
+use Rattle.radix_tree.proofs.Words.{BitNode, Leaf, Node, BitOf, fork, LeafPart, BitPart, Part, leaf_in, bit_in, leaves_in, bits_in, bit_part, name_of}
+use Rattle.radix_tree.proofs.Words.{ForkAt, Way, leaves_at, forks_at, name_child, with_child, IsSpot, IsLodged, IsBeside, forked, placed, lodge_leaf}
+use Rattle.radix_tree.proofs.Words.{put_leaf, put_bit, with_leaf, lift_leaf, lift_bit, KeepsLeaves, KeepsBits, Entry, Lodged}
 
 at_room : {A : Type 0} (room : Id) (x y : A) → (if room.number == room.number then x else y) ≡ x
-at_room room x y = ap (λ (t : Bool). if t then x else y) (eq-eqb room.number room.number refl)
+at_room room x y = ap (λ t. if t then x else y) (eq-eqb room.number room.number refl)
 
 off_room : {A : Type 0} (room : Id) (n : ℕ) (x y : A) → (n ≡ room.number → ⊥) → (if n == room.number then x else y) ≡ y
-off_room room n x y other = ap (λ (t : Bool). if t then x else y) (ne_eqb n room.number other)
+off_room room n x y other = ap (λ t. if t then x else y) (ne_eqb n room.number other)
 
 -- a room that isn't the bit node above isn't turned
 new_turn : (above : Option Id) (key n : ℕ) (to : Node) (said : Option BitPart) → ((over : Id) → above ≡ Some over → n ≡ over.number → ⊥)
@@ -47,7 +47,7 @@ module _ {V : Type 0} where
     no_leaf = ap leaf_in free;
     no_bit = ap bit_in free;
     leaf = leaves4 room.number ∙ leaf_again m2 m3 room e.value first then_ (leaves_in m1 room.number) (leaves2 room.number) (leaves3 room.number)
-        ∙ ap (λ (l : Leaf). Some (record { block = room.block; value = e.value; leaf = l })) leaf_is;
+        ∙ ap (λ l. Some (record { block = room.block; value = e.value; leaf = l })) leaf_is;
     bit_node = bits4 room.number ∙ at_room room (bit_part room.block (Some n)) (bits_in m3 room.number) ∙ node_is;
     leaves = λ k other. leaves4 k ∙ leaves3 k ∙ off_room room k (with_leaf then_ (leaves_in m2 k)) (leaves_in m2 k) other
         ∙ leaves2 k ∙ off_room room k (Some (record { block = room.block; value = e.value; leaf = first })) (leaves_in m1 k) other;
@@ -67,12 +67,12 @@ module _ {V : Type 0} where
 
   pub over_at : (m : Lodged V) (key : ℕ) (whole at : Part m) (ups : List (Part m)) {above : Option Id} {over : Id} → Way key whole at ups → whole.above ≡ None
       → at.above ≡ above → above ≡ Some over → (p : Part m) × ForkAt p over
-  over_at m key whole at [] way top is some = absurd (none_some (sym top ∙ sym (ap (λ (p : Part m). p.above) way) ∙ is ∙ some))
+  over_at m key whole at [] way top is some = absurd (none_some (sym top ∙ sym (ap (λ p. p.above) way) ∙ is ∙ some))
   over_at m key whole at (p ∷ ps) {over = over} way top is some =
       let b = way.0 in
       let f = b.at in
-      let same : b.room ≡ over = inside (sym b.above ∙ is ∙ some) in
-      (p, record { bit = f.bit; zero = f.zero; one = f.one; is = f.is ∙ ap (λ (i : Id). fork i f.bit f.zero f.one) same })
+      let same = inside (sym b.above ∙ is ∙ some) in
+      (p, record { bit = f.bit; zero = f.zero; one = f.one; is = f.is ∙ ap (λ i. fork i f.bit f.zero f.one) same })
 
   -- the bit node above the spot is there once the room is lodged
   pub over_there : {m new : Lodged V} {key bit : ℕ} {room over : Id} {e : Entry V} (node : BitPart) (whole : Part m) {above : Option Id} {below : Node}
@@ -90,8 +90,8 @@ module _ {V : Type 0} where
       → (p : Part turned) × (name_of p.tree ≡ below)
   below_there m new turned {key = key} {room = room} node whole {above = above} s l leaves bits = (
     stays m turned s.at (λ n some. leaves n ∙ l.leaves n (not_new s.at room l.no_leaf n some))
-        (λ n some. bits n ∙ ap (λ (said : Option BitPart). name_child above key (BitOf room) n said) (l.bits n (not_new_bit s.at room l.no_bit n some))
-        ∙ ap (λ (o : Option Id). name_child o key (BitOf room) n (bits_in m n)) (sym s.above_is)
+        (λ n some. bits n ∙ ap (name_child above key (BitOf room) n) (l.bits n (not_new_bit s.at room l.no_bit n some))
+        ∙ ap (λ o. name_child o key (BitOf room) n (bits_in m n)) (sym s.above_is)
         ∙ not_above m key whole s.at s.ups s.way s.top s.once (BitOf room) n some),
     s.named,
   )
@@ -116,7 +116,6 @@ module _ {V : Type 0} where
             ∙ misses_bit below room.number (λ r is same. not_new_bit s.at room l.no_bit r.number (named_bit s.at.tree r (s.named ∙ is)) (sym same)) (Some room)
             (bits_in turned room.number)
             ∙ bits room.number ∙ new_turn above e.key room.number (BitOf room) (bits_in new room.number) new_above ∙ l.bit_node;
-        leaves = λ n other. lifted_leaves n ∙ ap (λ (said : Option (LeafPart V)). lift_leaf below (Some room) n said) (leaves n ∙ l.leaves n other);
-        bits = λ n other. lifted_bits n ∙ ap (λ (said : Option BitPart). lift_bit below (Some room) n said)
-            (bits n ∙ ap (λ (said : Option BitPart). name_child above e.key (BitOf room) n said) (l.bits n other));
+        leaves = λ n other. lifted_leaves n ∙ ap (lift_leaf below (Some room) n) (leaves n ∙ l.leaves n other);
+        bits = λ n other. lifted_bits n ∙ ap (lift_bit below (Some room) n) (bits n ∙ ap (name_child above e.key (BitOf room) n) (l.bits n other));
       }

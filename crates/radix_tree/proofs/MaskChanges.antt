@@ -1,8 +1,8 @@
 -- A list of masks is cut, has another one behind it, gains a mask or loses one.
-use Rattle.radix_tree.proofs.Words.{◌≡◌, ℕ, ◌+◌, ◌<◌, ◌≤◌, Bool, if◌then◌else◌, List, [], ◌∷◌, ◌++◌, Option, Some, None, is_some, refl, sym, ap, ◌∙◌}
-use Rattle.radix_tree.proofs.Words.{subst, inr, inl, arith, eq-eqb, Id, Placed, IsAmong, MaskNode, MaskPart, Masks, leaves_in, heads_in, masks_in}
-use Rattle.radix_tree.proofs.Words.{mask_part, first_room, MasksStand, Falls, KeepsLeaves, KeepsHeads, put_mask, IsMasks, IsRanked, IsAside, IsNoRank}
-use Rattle.radix_tree.proofs.Words.{last_mask, head_linked, mask_linked, not_below, below, sorted_in, taken_out, Lodged}
+use Rattle.radix_tree.proofs.Words.{◌≡◌, ℕ, ◌+◌, ◌<◌, ◌≤◌, if◌then◌else◌, List, [], ◌∷◌, ◌++◌, Option, Some, None, is_some, refl, sym, ap, ◌∙◌, subst}
+use Rattle.radix_tree.proofs.Words.{inr, inl, arith, eq-eqb, Id, Placed, IsAmong, MaskNode, MaskPart, Masks, leaves_in, heads_in, masks_in, mask_part}
+use Rattle.radix_tree.proofs.Words.{first_room, MasksStand, Falls, KeepsLeaves, KeepsHeads, put_mask, IsMasks, IsRanked, IsAside, IsNoRank, last_mask}
+use Rattle.radix_tree.proofs.Words.{head_linked, mask_linked, not_below, below, sorted_in, taken_out, Lodged}
 use Rattle.radix_tree.proofs.MaskLists.{falls_among, falls_wider, falls_not_below, falls_behind, falls_sorted, falls_taken, not_below_long, below_short}
 use Rattle.radix_tree.proofs.MaskLists.{below_long, not_below_among, below_among, taken_among, one_rank, ranked_among, among_ranked, marked_among}
 use Rattle.radix_tree.proofs.MaskLists.{among_appended}
@@ -39,14 +39,14 @@ module _ {V : Type 0} where
   -- ---- a list is appended
   all_long : (ms : List (Placed V)) → not_below 0 ms ≡ ms
   all_long [] = refl
-  all_long (x ∷ xs) = not_below_long 0 x xs (omega arith) ∙ ap (λ (l : List (Placed V)). x ∷ l) (all_long xs)
+  all_long (x ∷ xs) = not_below_long 0 x xs (omega arith) ∙ ap (λ l. x ∷ l) (all_long xs)
 
   pub appended : (m new : Lodged V) (fork : Id) (ms ts : List (Placed V)) {before : Option Id} (tail : Option Id) → IsMasks m (heads_in m fork.number) ms
       → IsMasks m tail ts → Falls 0 34 (ms ++ ts) → last_mask (not_below 0 ms) ≡ before → KeepsLeaves m new
       → ((n : ℕ) → heads_in new n ≡ head_linked fork before tail n (heads_in m n)) → ((n : ℕ) → masks_in new n ≡ mask_linked before tail n (masks_in m n))
       → IsMasks new (heads_in new fork.number) (ms ++ ts)
   appended m new fork ms ts tail is behind falls last keeps heads masks =
-      let end = ap (λ (l : List (Placed V)). last_mask l) (sym (all_long ms)) ∙ last in
+      let end = ap last_mask (sym (all_long ms)) ∙ last in
       let ranked = among_ranked (leaves_in m) (ms ++ ts) (λ y among. elim (among_appended ms ts y among) [
         | inl one ↦ ranked_among (leaves_in m) ms is.ranked y one
         | inr other ↦ ranked_among (leaves_in m) ts behind.ranked y other
@@ -57,8 +57,8 @@ module _ {V : Type 0} where
   -- ---- a mask comes in
   put_own : (x : Placed V) {room : Id} (node : MaskNode) (said : Option MaskPart) → x.room ≡ room
       → put_mask room (Some node) x.room.number said ≡ Some (record { block = x.room.block; next = node.next })
-  put_own x node said room_is = subst (λ (i : Id). put_mask i (Some node) x.room.number said ≡ Some (record { block = x.room.block; next = node.next })) room_is
-      (ap (λ (t : Bool). if t then mask_part x.room.block (Some node) else said) (eq-eqb x.room.number x.room.number refl))
+  put_own x node said room_is = subst (λ i. put_mask i (Some node) x.room.number said ≡ Some (record { block = x.room.block; next = node.next })) room_is
+      (ap (λ t. if t then mask_part x.room.block (Some node) else said) (eq-eqb x.room.number x.room.number refl))
 
   -- no member of a list is in a room that is no mask node
   pub free_aside : (K : Masks) (ms : List (Placed V)) (room : Id) → MasksStand K ms → K room.number ≡ None → IsAside room.number ms
@@ -72,8 +72,8 @@ module _ {V : Type 0} where
       → ((n : ℕ) → masks_in new n ≡ mask_linked before (Some room) n (masks_in between n)) → IsMasks new (heads_in new fork.number) (sorted_in x ms)
   sorted m between new fork x room node ms {before = before} is room_is own free rank_is most no_rank last first keeps_one heads_one masks_one keeps heads
       masks =
-      let last_is : last_mask (not_below x.entry.rank ms) ≡ before = subst (λ (n : ℕ). last_mask (not_below n ms) ≡ before) rank_is last in
-      let first_is : first_room (below x.entry.rank ms) ≡ node.next = subst (λ (n : ℕ). first_room (below n ms) ≡ node.next) rank_is first in
+      let last_is = subst (λ n. last_mask (not_below n ms) ≡ before) rank_is last in
+      let first_is = subst (λ n. first_room (below n ms) ≡ node.next) rank_is first in
       let aside = free_aside (masks_in m) ms room is.stands free in
       let is_one = masks_same m between keeps_one
       (λ y among. masks_one y.room.number ∙ put_aside room (Some node) y.room.number (masks_in m y.room.number) (aside y among)) (sym (heads_one fork.number))
@@ -81,15 +81,14 @@ module _ {V : Type 0} where
       let all = list_parted x.entry.rank is_one in
       let stands_own = masks x.room.number
       ∙ aside_linked (not_below x.entry.rank ms) (Some room) x.room.number (masks_in between x.room.number) last_is
-      (λ y among same. aside y (not_below_among x.entry.rank ms y among).0 (same ∙ ap (λ (i : Id). i.number) room_is))
+      (λ y among same. aside y (not_below_among x.entry.rank ms y among).0 (same ∙ ap (λ i. i.number) room_is))
       ∙ masks_one x.room.number ∙ put_own x node (masks_in m x.room.number) room_is
-      ∙ ap (λ (o : Option Id). Some (record { block = x.room.block; next = o })) (sym first_is) in
+      ∙ ap (λ o. Some (record { block = x.room.block; next = o })) (sym first_is) in
       let stands_behind = stand_same (masks_in between) (masks_in new) (below x.entry.rank ms)
       (back_stays between new (not_below x.entry.rank ms) (below x.entry.rank ms) (Some room) all.falls all.ranked last_is masks)
       (stands_back (masks_in between) (not_below x.entry.rank ms) (below x.entry.rank ms) all.stands) in
       linked between new fork (not_below x.entry.rank ms) (below x.entry.rank ms) (x ∷ below x.entry.rank ms) (Some room) all last_is
-      (ap (λ (i : Id). Some i) room_is) keeps heads masks
-      (stands_own, stands_behind) (falls_sorted 0 34 x ms is.falls (omega arith) (omega arith) no_rank) (
+      (ap Some room_is) keeps heads masks (stands_own, stands_behind) (falls_sorted 0 34 x ms is.falls (omega arith) (omega arith) no_rank) (
         ranked_same m between x keeps_one own,
         among_ranked (leaves_in between) (below x.entry.rank ms)
             (λ y among. ranked_among (leaves_in between) ms is_one.ranked y (below_among 0 34 x.entry.rank ms is.falls y among).0),
@@ -104,17 +103,16 @@ module _ {V : Type 0} where
       → below (x.entry.rank + 1) ms ≡ x ∷ below x.entry.rank ms
   below_next least top [] x falls among = absurd among
   below_next least top (z ∷ zs) x falls among = elim among [
-    | inl e ↦ let same : z.entry.rank ≡ x.entry.rank = same_rank e in
+    | inl e ↦ let same = same_rank e in
         let short : z.entry.rank < x.entry.rank + 1 = omega arith in
         let long : x.entry.rank ≤ z.entry.rank = omega arith in
-        below_short (x.entry.rank + 1) z zs short ∙ ap (λ (p : Placed V). p ∷ zs) e
-        ∙ ap (λ (l : List (Placed V)). x ∷ l) (sym (below_long x.entry.rank z zs long
-        ∙ all_below least x.entry.rank zs (subst (λ (n : ℕ). Falls least n zs) same falls.2)))
-    | inr behind ↦ let less : x.entry.rank < z.entry.rank = (falls_among least z.entry.rank zs falls.2 x behind).1 in
+        below_short (x.entry.rank + 1) z zs short ∙ ap (λ p. p ∷ zs) e
+        ∙ ap (λ l. x ∷ l) (sym (below_long x.entry.rank z zs long ∙ all_below least x.entry.rank zs (subst (λ n. Falls least n zs) same falls.2)))
+    | inr behind ↦ let less = (falls_among least z.entry.rank zs falls.2 x behind).1 in
         let past : x.entry.rank + 1 ≤ z.entry.rank = omega arith in
         let long : x.entry.rank ≤ z.entry.rank = omega arith in
         below_long (x.entry.rank + 1) z zs past ∙ below_next least z.entry.rank zs x falls.2 behind
-        ∙ ap (λ (l : List (Placed V)). x ∷ l) (sym (below_long x.entry.rank z zs long))
+        ∙ ap (λ l. x ∷ l) (sym (below_long x.entry.rank z zs long))
   ]
 
   -- the mask behind one of a list
@@ -131,7 +129,7 @@ module _ {V : Type 0} where
       → KeepsLeaves between new → KeepsHeads between new → ((n : ℕ) → masks_in new n ≡ put_mask room None n (masks_in between n))
       → IsMasks new (heads_in new fork.number) (taken_out x.entry.rank ms)
   taken m between new fork x room ms {before = before} {next = next} is among room_is low_is last first keeps heads masks keeps_two heads_two masks_two =
-      let last_is : last_mask (not_below (x.entry.rank + 1) ms) ≡ before = subst (λ (n : ℕ). last_mask (not_below n ms) ≡ before) low_is last in
+      let last_is = subst (λ n. last_mask (not_below n ms) ≡ before) low_is last in
       let all = list_parted (x.entry.rank + 1) is in
       let own = ranked_among (leaves_in m) ms is.ranked x among in
       let stays = λ (y : Placed V) (behind : IsAmong y (below x.entry.rank ms)).
@@ -145,7 +143,7 @@ module _ {V : Type 0} where
       masks_same between new keeps_two
       (λ y left. masks_two y.room.number ∙ put_aside room None y.room.number (masks_in between y.room.number) (λ same.
       let was = taken_among 0 34 x.entry.rank ms is.falls y left in
-      was.1 (one_rank y x (ranked_among (leaves_in m) ms is.ranked y was.0) own (same ∙ ap (λ (i : Id). i.number) (sym room_is)))))
+      was.1 (one_rank y x (ranked_among (leaves_in m) ms is.ranked y was.0) own (same ∙ ap (λ i. i.number) (sym room_is)))))
       (sym (heads_two fork.number)) list
 
   -- the members of a list stay mask nodes

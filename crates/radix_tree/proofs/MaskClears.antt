@@ -1,15 +1,15 @@
 -- A walk along a list of masks, whose rooms are no mask nodes any more.
-use Rattle.radix_tree.proofs.Words.{◌≡◌, ℕ, ◌+◌, ◌<◌, ◌≤◌, ◌==◌, ◌⊎◌, Bool, true, false, if◌then◌else◌, List, [], ◌∷◌, Option, Some, None, refl, sym, ap}
-use Rattle.radix_tree.proofs.Words.{◌∙◌, subst, inl, inr, arith, eq-eqb, Id, MaskNode, Placed, IsAmong, LeafPart, Leaves, MaskPart, leaves_in, masks_in}
-use Rattle.radix_tree.proofs.Words.{mask_part, first_room, MasksStand, Falls, KeepsLeaves, put_mask, IsMasks, IsRanked, AreRanked, IsAside, Lodged}
 use Rattle.radix_tree.proofs.{Scans.ended_at, TreeMembers.head_of, MaskWalks.listed_as, MaskWalks.next_told, MaskLinks.apart, MaskLinks.stand_same}
 use Rattle.radix_tree.proofs.{MaskLinks.are_ranked_same, MaskLinks.put_aside}
+use Rattle.radix_tree.proofs.Words.{◌≡◌, ℕ, ◌+◌, ◌<◌, ◌≤◌, ◌==◌, ◌⊎◌, true, false, if◌then◌else◌, List, [], ◌∷◌, Option, Some, None, refl, sym, ap, ◌∙◌}
+use Rattle.radix_tree.proofs.Words.{subst, inl, inr, arith, eq-eqb, Id, MaskNode, Placed, IsAmong, LeafPart, Leaves, MaskPart, leaves_in, masks_in}
+use Rattle.radix_tree.proofs.Words.{mask_part, first_room, MasksStand, Falls, KeepsLeaves, put_mask, IsMasks, IsRanked, AreRanked, IsAside, Lodged}
 
 put_none : (room : Id) (n : ℕ) {said : Option MaskPart} → said ≡ None → put_mask room None n said ≡ None
 put_none room n {said = said} none = elim (n == room.number) as (λ t. (if t then None else said) ≡ None) [ true ↦ refl | false ↦ none ]
 
 put_own_none : (room : Id) {n : ℕ} (said : Option MaskPart) → n ≡ room.number → put_mask room None n said ≡ None
-put_own_none room {n = n} said same = ap (λ (t : Bool). if t then None else said) (eq-eqb n room.number same)
+put_own_none room {n = n} said same = ap (λ t. if t then None else said) (eq-eqb n room.number same)
 
 put_fewer : (room : Id) (n : ℕ) (said was : Option MaskPart) → (said ≡ None) ⊎ (said ≡ was)
     → (put_mask room None n said ≡ None) ⊎ (put_mask room None n said ≡ was)
@@ -28,13 +28,12 @@ ranks_from L (Some room) = ranks_in (L room.number)
 module _ {V : Type 0} where
   -- the ranks of rooms fall along the list
   own_ranks : {L : Leaves V} {x : Placed V} (room : Id) → IsRanked L x → x.room ≡ room → ranks_from L (Some room) ≡ x.entry.rank + 1
-  own_ranks {L = L} room r room_is =
-      ap (λ (i : Id). ranks_in (L i.number)) (sym room_is) ∙ ap (λ (o : Option (LeafPart V)). ranks_in o) r.said ∙ ap (λ (n : ℕ). n + 1) r.rank
+  own_ranks {L = L} room r room_is = ap (λ i. ranks_in (L i.number)) (sym room_is) ∙ ap ranks_in r.said ∙ ap (λ n. n + 1) r.rank
 
   ranks_behind : (L : Leaves V) (top : ℕ) (ms : List (Placed V)) → Falls 0 top ms → AreRanked L ms → ranks_from L (first_room ms) ≤ top
   ranks_behind L top [] falls ranked = omega arith
   ranks_behind L top (x ∷ xs) falls ranked =
-      let own : ranks_from L (Some x.room) ≡ x.entry.rank + 1 = own_ranks x.room ranked.0 refl in let less : x.entry.rank < top = falls.1 in omega arith
+      let own = own_ranks x.room ranked.0 refl in let less = falls.1 in omega arith
 
   -- a walk along a list, whose rooms are no mask nodes any more
   pub record Clearing (m now : Lodged V) (ms : List (Placed V)) (at : Option Id) : Type 0 where
@@ -78,14 +77,13 @@ module _ {V : Type 0} where
       let falls = subst (Falls 0 w.top) x.is w.falls in
       let ranked = subst (AreRanked (leaves_in now)) x.is w.ranked in
       let ranked_now = are_ranked_same now new x.behind keeps ranked.1 in
-      let number = ap (λ (i : Id). i.number) x.room_is in
+      let number = ap (λ i. i.number) x.room_is in
       let others = (apart (leaves_in now) 0 w.top (x.first ∷ x.behind) falls ranked).0 in
       let first_among = w.within x.first (subst (IsAmong x.first) (sym x.is) (inl refl)) in
       let next = next_told now x.first x.behind node stands x.room_is said in
-      let behind : ranks_from (leaves_in new) (first_room x.behind) ≤ x.first.entry.rank =
-      ranks_behind (leaves_in new) x.first.entry.rank x.behind falls.2 ranked_now in
-      let fewer : ranks_from (leaves_in new) (first_room x.behind) ≡ ranks_from (leaves_in new) node.next = ap (ranks_from (leaves_in new)) next in
-      let own : ranks_from (leaves_in now) at ≡ x.first.entry.rank + 1 = ap (ranks_from (leaves_in now)) is ∙ own_ranks room ranked.0 x.room_is in (
+      let behind = ranks_behind (leaves_in new) x.first.entry.rank x.behind falls.2 ranked_now in
+      let fewer = ap (ranks_from (leaves_in new)) next in
+      let own = ap (ranks_from (leaves_in now)) is ∙ own_ranks room ranked.0 x.room_is in (
         record {
           rest = x.behind;
           top = x.first.entry.rank;
@@ -98,14 +96,12 @@ module _ {V : Type 0} where
           cleared = λ y among. elim (w.cleared y among) [
             | inl none ↦ inl (masks y.room.number ∙ put_none room y.room.number none)
             | inr left ↦ elim (subst (IsAmong y) x.is left) [
-              | inl e ↦ inl (masks y.room.number ∙ put_own_none room (masks_in now y.room.number)
-                  (ap (λ (p : Placed V). p.room.number) (sym e) ∙ number))
+              | inl e ↦ inl (masks y.room.number ∙ put_own_none room (masks_in now y.room.number) (ap (λ p. p.room.number) (sym e) ∙ number))
               | inr behind ↦ inr behind
             ]
           ];
           aside = λ n aside. masks n ∙ put_aside room None n (masks_in now n) (λ same. aside x.first first_among (number ∙ sym same)) ∙ w.aside n aside;
-          fewer = λ n. subst (λ (o : Option MaskPart). (o ≡ None) ⊎ (o ≡ masks_in m n)) (sym (masks n))
-              (put_fewer room n (masks_in now n) (masks_in m n) (w.fewer n));
+          fewer = λ n. subst (λ o. (o ≡ None) ⊎ (o ≡ masks_in m n)) (sym (masks n)) (put_fewer room n (masks_in now n) (masks_in m n) (w.fewer n));
         },
         omega arith,
       )

@@ -1,17 +1,17 @@
 -- A list of masks, once a member has another one behind it.
-use Rattle.radix_tree.proofs.Words.{◌≡◌, ℕ, ◌<◌, ◌==◌, Bool, true, false, if◌then◌else◌, List, [], ◌∷◌, ◌++◌, Option, Some, None, is_some, refl, sym, ap}
-use Rattle.radix_tree.proofs.Words.{◌∙◌, subst, inl, inr, arith, eq-eqb, ne_eqb, eqb-true, Has, Id, Placed, IsAmong, MaskNode, Leaves, MaskPart, Masks}
-use Rattle.radix_tree.proofs.Words.{leaves_in, heads_in, masks_in, mask_part, first_room, MasksStand, Falls, KeepsLeaves, put_mask, IsMasks, IsRanked}
-use Rattle.radix_tree.proofs.Words.{AreRanked, IsAside, last_from, last_mask, head_linked, mask_linked, not_below, below, Lodged}
-use Rattle.radix_tree.proofs.MaskLists.{in_front, in_back, falls_among, parted, one_rank, ranked_among, among_ranked, marked_among, among_appended}
 use Rattle.radix_tree.proofs.{RoomReads.inside, RoomReads.none_some, MaskWalks.Has-ranked}
+use Rattle.radix_tree.proofs.Words.{◌≡◌, ℕ, ◌==◌, true, false, if◌then◌else◌, List, [], ◌∷◌, ◌++◌, Option, Some, None, is_some, refl, sym, ap, ◌∙◌, subst}
+use Rattle.radix_tree.proofs.Words.{inl, inr, arith, eq-eqb, ne_eqb, eqb-true, Has, Id, Placed, IsAmong, MaskNode, Leaves, MaskPart, Masks, leaves_in}
+use Rattle.radix_tree.proofs.Words.{heads_in, masks_in, mask_part, first_room, MasksStand, Falls, KeepsLeaves, put_mask, IsMasks, IsRanked, AreRanked}
+use Rattle.radix_tree.proofs.Words.{IsAside, last_from, last_mask, head_linked, mask_linked, not_below, below, Lodged}
+use Rattle.radix_tree.proofs.MaskLists.{in_front, in_back, falls_among, parted, one_rank, ranked_among, among_ranked, marked_among, among_appended}
 
 -- a mask node that no link names stays
 pub linked_aside : (before next : Option Id) (n : ℕ) (said : Option MaskPart) → ((room : Id) → before ≡ Some room → n ≡ room.number → ⊥)
     → mask_linked before next n said ≡ said
 linked_aside None next n said aside = refl
 linked_aside (Some before) next n said aside =
-    ap (λ (t : Bool). if t then Some (record { block = before.block; next = next }) else said) (ne_eqb n before.number (aside before refl))
+    ap (λ t. if t then Some (record { block = before.block; next = next }) else said) (ne_eqb n before.number (aside before refl))
 
 -- a mask node that was listed still is
 pub linked_some : (before next : Option Id) (n : ℕ) (said : Option MaskPart) → ((room : Id) → before ≡ Some room → n ≡ room.number → is_some said ≡ true)
@@ -22,7 +22,7 @@ linked_some (Some before) next n said was =
     ≡ is_some said) [ true ↦ λ e. sym (was before refl (eqb-true n before.number e)) | false ↦ λ e. refl ] refl
 
 pub put_aside : (room : Id) (node : Option MaskNode) (n : ℕ) (said : Option MaskPart) → (n ≡ room.number → ⊥) → put_mask room node n said ≡ said
-put_aside room node n said aside = ap (λ (t : Bool). if t then mask_part room.block node else said) (ne_eqb n room.number aside)
+put_aside room node n said aside = ap (λ t. if t then mask_part room.block node else said) (ne_eqb n room.number aside)
 
 pub some_none : {o : Option MaskPart} → o ≡ None → is_some o ≡ true → ⊥
 some_none none some = cc
@@ -37,8 +37,8 @@ module _ {V : Type 0} where
   apart L low top [] falls ranked = tt
   apart L low top (x ∷ xs) falls ranked = (
     λ y among same.
-        let less : y.entry.rank < x.entry.rank = (falls_among low x.entry.rank xs falls.2 y among).1 in
-        let one : y.entry.rank ≡ x.entry.rank = one_rank y x (ranked_among L xs ranked.1 y among) ranked.0 same in omega arith,
+        let less = (falls_among low x.entry.rank xs falls.2 y among).1 in
+        let one = one_rank y x (ranked_among L xs ranked.1 y among) ranked.0 same in omega arith,
     apart L low x.entry.rank xs falls.2 ranked.1,
   )
 
@@ -50,7 +50,7 @@ module _ {V : Type 0} where
       → y.room.number ≡ x.room.number → ⊥
   apart_across [] back is x y one other = absurd one
   apart_across (z ∷ zs) back is x y one other = elim one [
-    | inl e ↦ λ same. is.0 y (in_back zs back y other) (same ∙ sym (ap (λ (p : Placed V). p.room.number) e))
+    | inl e ↦ λ same. is.0 y (in_back zs back y other) (same ∙ sym (ap (λ p. p.room.number) e))
     | inr behind ↦ apart_across zs back is.1 x y behind other
   ]
 
@@ -73,7 +73,7 @@ module _ {V : Type 0} where
   not_last : (front : List (Placed V)) (n : ℕ) → IsAside n front → {before : Option Id} → last_mask front ≡ before → (room : Id) → before ≡ Some room
       → n ≡ room.number → ⊥
   not_last front n aside last room is same =
-      let x = last_among front (last ∙ is) in aside x.0 x.1 (ap (λ (i : Id). i.number) x.2 ∙ sym same)
+      let x = last_among front (last ∙ is) in aside x.0 x.1 (ap (λ i. i.number) x.2 ∙ sym same)
 
   pub aside_linked : (front : List (Placed V)) {before : Option Id} (next : Option Id) (n : ℕ) (said : Option MaskPart) → last_mask front ≡ before
       → IsAside n front → mask_linked before next n said ≡ said
@@ -83,7 +83,7 @@ module _ {V : Type 0} where
       → ((y : Placed V) → IsAmong y front → IsAmong y ms) → last_mask front ≡ before → is_some (mask_linked before next n (K n)) ≡ is_some (K n)
   marks_linked K ms front {before = before} next n stands within last = linked_some before next n (K n) (λ room is same.
       let x = last_among front (last ∙ is) in
-      ap (λ (k : ℕ). is_some (K k)) (same ∙ sym (ap (λ (i : Id). i.number) x.2)) ∙ marked_among K ms stands x.0 (within x.0 x.1))
+      ap (λ k. is_some (K k)) (same ∙ sym (ap (λ i. i.number) x.2)) ∙ marked_among K ms stands x.0 (within x.0 x.1))
 
   -- ---- the masks of other rooms say what they said
   pub stand_same : (K J : Masks) (ms : List (Placed V)) → ((x : Placed V) → IsAmong x ms → J x.room.number ≡ K x.room.number) → MasksStand K ms
@@ -113,7 +113,7 @@ module _ {V : Type 0} where
       → MasksStand J behind → MasksStand J (front ++ behind)
   relinked K J [] back behind stands is said after = after
   relinked K J (x ∷ []) back behind stands is said after = (
-    said x (inl refl) ∙ ap (λ (t : Bool). if t then Some (record { block = x.room.block; next = first_room behind }) else K x.room.number)
+    said x (inl refl) ∙ ap (λ t. if t then Some (record { block = x.room.block; next = first_room behind }) else K x.room.number)
         (eq-eqb x.room.number x.room.number refl),
     after,
   )
@@ -129,7 +129,7 @@ module _ {V : Type 0} where
   head_relinked : (fork : Id) (front back behind : List (Placed V)) {old new : Option Id} → first_room (front ++ back) ≡ old
       → new ≡ head_linked fork (last_mask front) (first_room behind) fork.number old → first_room (front ++ behind) ≡ new
   head_relinked fork [] back behind {old = old} begins said =
-      sym (said ∙ ap (λ (t : Bool). if t then first_room behind else old) (eq-eqb fork.number fork.number refl))
+      sym (said ∙ ap (λ t. if t then first_room behind else old) (eq-eqb fork.number fork.number refl))
   head_relinked fork (x ∷ xs) back behind {old = old} begins said = begins ∙ sym (said ∙ head_stays fork x xs (first_room behind) old)
 
   -- a list whose front's last member has another list behind it
@@ -143,11 +143,11 @@ module _ {V : Type 0} where
       let all = apart (leaves_in m) 0 34 (front ++ back) is.falls is.ranked in
       record {
         begins = head_relinked fork front back behind is.begins
-            (heads fork.number ∙ ap (λ (o : Option Id). head_linked fork o next fork.number (heads_in m fork.number)) (sym last)
-            ∙ ap (λ (o : Option Id). head_linked fork (last_mask front) o fork.number (heads_in m fork.number)) (sym first));
+            (heads fork.number ∙ ap (λ o. head_linked fork o next fork.number (heads_in m fork.number)) (sym last)
+            ∙ ap (λ o. head_linked fork (last_mask front) o fork.number (heads_in m fork.number)) (sym first));
         stands = relinked (masks_in m) (masks_in new) front back behind is.stands (apart_front front back all)
-            (λ y among. masks y.room.number ∙ ap (λ (o : Option Id). mask_linked o next y.room.number (masks_in m y.room.number)) (sym last)
-            ∙ ap (λ (o : Option Id). mask_linked (last_mask front) o y.room.number (masks_in m y.room.number)) (sym first)) after;
+            (λ y among. masks y.room.number ∙ ap (λ o. mask_linked o next y.room.number (masks_in m y.room.number)) (sym last)
+            ∙ ap (λ o. mask_linked (last_mask front) o y.room.number (masks_in m y.room.number)) (sym first)) after;
         falls = falls;
         ranked = among_ranked (leaves_in new) (front ++ behind) (λ y among. ranked_same m new y keeps (elim (among_appended front behind y among) [
           | inl one ↦ ranked_among (leaves_in m) (front ++ back) is.ranked y (in_front front back y one)
@@ -169,7 +169,7 @@ module _ {V : Type 0} where
       (λ z one same. apart_across front back (apart (leaves_in m) 0 34 (front ++ back) falls ranked) z y one among (sym same))
 
   pub list_of : {m : Lodged V} {head first : Option Id} {ms : List (Placed V)} → first ≡ head → IsMasks m head ms → IsMasks m first ms
-  list_of {m = m} {ms = ms} same is = subst (λ (o : Option Id). IsMasks m o ms) (sym same) is
+  list_of {m = m} {ms = ms} same is = subst (λ o. IsMasks m o ms) (sym same) is
 
   pub list_parted : {m : Lodged V} {first : Option Id} (low : ℕ) {ms : List (Placed V)} → IsMasks m first ms
       → IsMasks m first (not_below low ms ++ below low ms)
@@ -177,4 +177,4 @@ module _ {V : Type 0} where
 
   pub nothing_behind : (ms : List (Placed V)) → ms ++ [] ≡ ms
   nothing_behind [] = refl
-  nothing_behind (x ∷ xs) = ap (λ (l : List (Placed V)). x ∷ l) (nothing_behind xs)
+  nothing_behind (x ∷ xs) = ap (λ l. x ∷ l) (nothing_behind xs)

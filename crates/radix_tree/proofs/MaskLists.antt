@@ -1,10 +1,10 @@
 -- The members of a list of masks, and of what comes of it.
-use Rattle.std.proofs.lemmas.Bool.{ltb-true, ltb-false, lt-ltb, le-ltb}
-use Rattle.radix_tree.proofs.Words.{◌≡◌, ℕ, ◌+◌, ◌<◌, ◌≤◌, ◌⊎◌, Bool, true, false, nat_lt, if◌then◌else◌, List, [], ◌∷◌, ◌++◌, Option, is_some, refl, sym}
-use Rattle.radix_tree.proofs.Words.{ap, ◌∙◌, subst, inl, inr, arith, cases_eq, Id, Placed, IsAmong, IsIn, LeafPart, Leaves, MaskPart, Masks, Part}
-use Rattle.radix_tree.proofs.Words.{leaves_in, bits_in, masks_in, leaf_part, MasksStand, Falls, ForkAt, IsMarked, IsMaskList, IsMasks, IsRanked}
-use Rattle.radix_tree.proofs.Words.{AreRanked, IsBitNode, IsNoRank, not_below, below, sorted_in, taken_out, Lodged}
 use Rattle.radix_tree.proofs.{RoomReads.inside, TreeMembers.tree_said, Parts.bit_part_of, Parts.fork_stands}
+use Rattle.std.proofs.lemmas.Bool.{ltb-true, ltb-false, lt-ltb, le-ltb}
+use Rattle.radix_tree.proofs.Words.{◌≡◌, ℕ, ◌+◌, ◌<◌, ◌≤◌, ◌⊎◌, true, false, nat_lt, if◌then◌else◌, List, [], ◌∷◌, ◌++◌, Option, is_some, refl, sym, ap}
+use Rattle.radix_tree.proofs.Words.{◌∙◌, subst, inl, inr, arith, cases_eq, Id, Placed, IsAmong, IsIn, Leaves, Masks, Part, leaves_in, bits_in, masks_in}
+use Rattle.radix_tree.proofs.Words.{leaf_part, MasksStand, Falls, ForkAt, IsMarked, IsMaskList, IsMasks, IsRanked, AreRanked, IsBitNode, IsNoRank}
+use Rattle.radix_tree.proofs.Words.{not_below, below, sorted_in, taken_out, Lodged}
 
 pub short_or_long : (rank low : ℕ) → (rank < low) ⊎ (low ≤ rank)
 short_or_long rank low = elim (nat_lt rank low) as (λ t. nat_lt rank low ≡ t → (rank < low) ⊎ (low ≤ rank)) [
@@ -31,15 +31,15 @@ module _ {V : Type 0} where
   pub falls_wider : (low top less more : ℕ) (ms : List (Placed V)) → Falls low top ms → less ≤ low → top ≤ more → Falls less more ms
   falls_wider low top less more [] falls least most = tt
   falls_wider low top less more (x ∷ xs) falls least most =
-      let long : low ≤ x.entry.rank = falls.0 in let short : x.entry.rank < top = falls.1 in
+      let long = falls.0 in let short = falls.1 in
       (omega arith, omega arith, falls_wider low x.entry.rank less x.entry.rank xs falls.2 least (omega arith))
 
   pub falls_among : (low top : ℕ) (ms : List (Placed V)) → Falls low top ms → (y : Placed V) → IsAmong y ms → (low ≤ y.entry.rank) × (y.entry.rank < top)
   falls_among low top [] falls y among = absurd among
   falls_among low top (x ∷ xs) falls y among = elim among [
-    | inl e ↦ subst (λ (p : Placed V). (low ≤ p.entry.rank) × (p.entry.rank < top)) e (falls.0, falls.1)
+    | inl e ↦ subst (λ p. (low ≤ p.entry.rank) × (p.entry.rank < top)) e (falls.0, falls.1)
     | inr behind ↦ let between = falls_among low x.entry.rank xs falls.2 y behind in
-        let first : x.entry.rank < top = falls.1 in let lower : y.entry.rank < x.entry.rank = between.1 in
+        let first = falls.1 in let lower = between.1 in
         let most : y.entry.rank < top = omega arith in (between.0, most)
   ]
 
@@ -47,30 +47,29 @@ module _ {V : Type 0} where
       → Falls low top (ms ++ ts)
   falls_appended low middle top [] ts longer shorter least most = falls_wider low middle low top ts shorter (omega arith) most
   falls_appended low middle top (x ∷ xs) ts longer shorter least most =
-      let long : middle ≤ x.entry.rank = longer.0 in
+      let long = longer.0 in
       (omega arith, longer.1, falls_appended low middle x.entry.rank xs ts longer.2 shorter least long)
 
   -- ---- the members before the first one below a rank, and the others
   pub not_below_short : (low : ℕ) (x : Placed V) (xs : List (Placed V)) → x.entry.rank < low → not_below low (x ∷ xs) ≡ []
-  not_below_short low x xs short = ap (λ (t : Bool). if t then [] else x ∷ not_below low xs) (lt-ltb x.entry.rank low short)
+  not_below_short low x xs short = ap (λ t. if t then [] else x ∷ not_below low xs) (lt-ltb x.entry.rank low short)
 
   pub not_below_long : (low : ℕ) (x : Placed V) (xs : List (Placed V)) → low ≤ x.entry.rank → not_below low (x ∷ xs) ≡ x ∷ not_below low xs
-  not_below_long low x xs long = ap (λ (t : Bool). if t then [] else x ∷ not_below low xs) (le-ltb x.entry.rank low long)
+  not_below_long low x xs long = ap (λ t. if t then [] else x ∷ not_below low xs) (le-ltb x.entry.rank low long)
 
   pub below_short : (low : ℕ) (x : Placed V) (xs : List (Placed V)) → x.entry.rank < low → below low (x ∷ xs) ≡ x ∷ xs
-  below_short low x xs short = ap (λ (t : Bool). if t then x ∷ xs else below low xs) (lt-ltb x.entry.rank low short)
+  below_short low x xs short = ap (λ t. if t then x ∷ xs else below low xs) (lt-ltb x.entry.rank low short)
 
   pub below_long : (low : ℕ) (x : Placed V) (xs : List (Placed V)) → low ≤ x.entry.rank → below low (x ∷ xs) ≡ below low xs
-  below_long low x xs long = ap (λ (t : Bool). if t then x ∷ xs else below low xs) (le-ltb x.entry.rank low long)
+  below_long low x xs long = ap (λ t. if t then x ∷ xs else below low xs) (le-ltb x.entry.rank low long)
 
   -- together they are all
   pub parted : (low : ℕ) (ms : List (Placed V)) → ms ≡ not_below low ms ++ below low ms
   parted low [] = refl
   parted low (x ∷ xs) = elim (short_or_long x.entry.rank low) [
-    | inl short ↦ sym (ap (λ (l : List (Placed V)). l ++ below low (x ∷ xs)) (not_below_short low x xs short) ∙ below_short low x xs short)
-    | inr long ↦ ap (λ (l : List (Placed V)). x ∷ l) (parted low xs)
-        ∙ sym (ap (λ (l : List (Placed V)). l ++ below low (x ∷ xs)) (not_below_long low x xs long)
-        ∙ ap (λ (l : List (Placed V)). (x ∷ not_below low xs) ++ l) (below_long low x xs long))
+    | inl short ↦ sym (ap (λ l. l ++ below low (x ∷ xs)) (not_below_short low x xs short) ∙ below_short low x xs short)
+    | inr long ↦ ap (λ l. x ∷ l) (parted low xs)
+        ∙ sym (ap (λ l. l ++ below low (x ∷ xs)) (not_below_long low x xs long) ∙ ap (λ l. (x ∷ not_below low xs) ++ l) (below_long low x xs long))
   ]
 
   pub falls_not_below : (least top low : ℕ) (ms : List (Placed V)) → Falls least top ms → Falls low top (not_below low ms)
@@ -90,7 +89,7 @@ module _ {V : Type 0} where
   pub falls_behind : (least top low : ℕ) (ms : List (Placed V)) → Falls least top ms → Falls least top (below low ms)
   falls_behind least top low [] falls = tt
   falls_behind least top low (x ∷ xs) falls =
-      let first : x.entry.rank < top = falls.1 in
+      let first = falls.1 in
       elim (short_or_long x.entry.rank low) [
         | inl short ↦ subst (Falls least top) (sym (below_short low x xs short)) falls
         | inr long ↦ subst (Falls least top) (sym (below_long low x xs long))
@@ -102,7 +101,7 @@ module _ {V : Type 0} where
   not_below_among low (x ∷ xs) y among = elim (short_or_long x.entry.rank low) [
     | inl short ↦ absurd (subst (IsAmong y) (not_below_short low x xs short) among)
     | inr long ↦ elim (subst (IsAmong y) (not_below_long low x xs long) among) [
-      | inl e ↦ (inl e, subst (λ (p : Placed V). low ≤ p.entry.rank) e long)
+      | inl e ↦ (inl e, subst (λ p. low ≤ p.entry.rank) e long)
       | inr behind ↦ let rest = not_below_among low xs y behind in (inr rest.0, rest.1)
     ]
   ]
@@ -119,12 +118,12 @@ module _ {V : Type 0} where
   among_not_below least top low ms falls y among long =
       elim (among_appended (not_below low ms) (below low ms) y (subst (IsAmong y) (parted low ms) among)) [
         | inl front ↦ front
-        | inr back ↦ let short : y.entry.rank < low = (below_among least top low ms falls y back).1 in absurd (omega arith)
+        | inr back ↦ let short = (below_among least top low ms falls y back).1 in absurd (omega arith)
       ]
 
   pub among_below : (low : ℕ) (ms : List (Placed V)) (y : Placed V) → IsAmong y ms → y.entry.rank < low → IsAmong y (below low ms)
   among_below low ms y among short = elim (among_appended (not_below low ms) (below low ms) y (subst (IsAmong y) (parted low ms) among)) [
-    | inl front ↦ let long : low ≤ y.entry.rank = (not_below_among low ms y front).1 in absurd (omega arith)
+    | inl front ↦ let long = (not_below_among low ms y front).1 in absurd (omega arith)
     | inr back ↦ back
   ]
 
@@ -135,8 +134,7 @@ module _ {V : Type 0} where
   pub among_sorted : (least top : ℕ) (x : Placed V) (ms : List (Placed V)) → Falls least top ms → (y : Placed V) → IsAmong y ms → IsAmong y (sorted_in x ms)
   among_sorted least top x ms falls y among = elim (short_or_long y.entry.rank x.entry.rank) [
     | inl short ↦ in_back (not_below x.entry.rank ms) (x ∷ below x.entry.rank ms) y (inr (among_below x.entry.rank ms y among short))
-    | inr long ↦ in_front (not_below x.entry.rank ms) (x ∷ below x.entry.rank ms) y
-        (among_not_below least top x.entry.rank ms falls y among long)
+    | inr long ↦ in_front (not_below x.entry.rank ms) (x ∷ below x.entry.rank ms) y (among_not_below least top x.entry.rank ms falls y among long)
   ]
 
   pub sorted_among : (least top : ℕ) (x : Placed V) (ms : List (Placed V)) → Falls least top ms → (y : Placed V) → IsAmong y (sorted_in x ms)
@@ -149,7 +147,7 @@ module _ {V : Type 0} where
   raised : (low top : ℕ) (ms : List (Placed V)) → Falls low top ms → IsNoRank low ms → Falls (low + 1) top ms
   raised low top [] falls no_rank = tt
   raised low top (x ∷ xs) falls no_rank =
-      let least : low ≤ x.entry.rank = falls.0 in let other : x.entry.rank ≡ low → ⊥ = no_rank x (inl refl) in (
+      let least = falls.0 in let other = no_rank x (inl refl) in (
         elim (cases_eq x.entry.rank low) [ inl e ↦ absurd (other e) | inr ne ↦ omega (arith, ne, least) ],
         falls.1,
         raised low x.entry.rank xs falls.2 (λ y among. no_rank y (inr among)),
@@ -168,9 +166,9 @@ module _ {V : Type 0} where
   pub taken_among : (least top rank : ℕ) (ms : List (Placed V)) → Falls least top ms → (y : Placed V) → IsAmong y (taken_out rank ms)
       → IsAmong y ms × (y.entry.rank ≡ rank → ⊥)
   taken_among least top rank ms falls y among = elim (among_appended (not_below (rank + 1) ms) (below rank ms) y among) [
-    | inl front ↦ let is = not_below_among (rank + 1) ms y front in let long : rank + 1 ≤ y.entry.rank = is.1 in
+    | inl front ↦ let is = not_below_among (rank + 1) ms y front in let long = is.1 in
         let other : y.entry.rank ≡ rank → ⊥ = λ same. omega arith in (is.0, other)
-    | inr back ↦ let is = below_among least top rank ms falls y back in let short : y.entry.rank < rank = is.1 in
+    | inr back ↦ let is = below_among least top rank ms falls y back in let short = is.1 in
         let other : y.entry.rank ≡ rank → ⊥ = λ same. omega arith in (is.0, other)
   ]
 
@@ -186,11 +184,11 @@ module _ {V : Type 0} where
   pub falls_taken : (low top rank : ℕ) (ms : List (Placed V)) → Falls low top ms → Falls low top (taken_out rank ms)
   falls_taken low top rank [] falls = tt
   falls_taken low top rank (x ∷ xs) falls = elim (short_or_long x.entry.rank (rank + 1)) [
-    | inl short ↦ subst (λ (l : List (Placed V)). Falls low top (l ++ below rank (x ∷ xs)))
+    | inl short ↦ subst (λ l. Falls low top (l ++ below rank (x ∷ xs)))
         (sym (not_below_short (rank + 1) x xs short)) (falls_behind low top rank (x ∷ xs) falls)
     | inr long ↦ let past : rank ≤ x.entry.rank = omega arith in
-        subst (λ (l : List (Placed V)). Falls low top (l ++ below rank (x ∷ xs))) (sym (not_below_long (rank + 1) x xs long))
-        (subst (λ (l : List (Placed V)). Falls low top ((x ∷ not_below (rank + 1) xs) ++ l)) (sym (below_long rank x xs past))
+        subst (λ l. Falls low top (l ++ below rank (x ∷ xs))) (sym (not_below_long (rank + 1) x xs long))
+        (subst (λ l. Falls low top ((x ∷ not_below (rank + 1) xs) ++ l)) (sym (below_long rank x xs past))
         (falls.0, falls.1, falls_taken low x.entry.rank rank xs falls.2))
   ]
 
@@ -198,14 +196,13 @@ module _ {V : Type 0} where
   pub marked_among : (K : Masks) (ms : List (Placed V)) → MasksStand K ms → (y : Placed V) → IsAmong y ms → IsMarked K y
   marked_among K [] stands y among = absurd among
   marked_among K (x ∷ xs) stands y among = elim among [
-    | inl e ↦ subst (λ (p : Placed V). IsMarked K p) e (ap (λ (o : Option MaskPart). is_some o) stands.0)
+    | inl e ↦ subst (IsMarked K) e (ap is_some stands.0)
     | inr behind ↦ marked_among K xs stands.1 y behind
   ]
 
   pub ranked_among : (L : Leaves V) (ms : List (Placed V)) → AreRanked L ms → (y : Placed V) → IsAmong y ms → IsRanked L y
   ranked_among L [] ranked y among = absurd among
-  ranked_among L (x ∷ xs) ranked y among =
-      elim among [ inl e ↦ subst (λ (p : Placed V). IsRanked L p) e ranked.0 | inr behind ↦ ranked_among L xs ranked.1 y behind ]
+  ranked_among L (x ∷ xs) ranked y among = elim among [ inl e ↦ subst (IsRanked L) e ranked.0 | inr behind ↦ ranked_among L xs ranked.1 y behind ]
 
   pub among_ranked : (L : Leaves V) (ms : List (Placed V)) → ((y : Placed V) → IsAmong y ms → IsRanked L y) → AreRanked L ms
   among_ranked L [] all = tt
@@ -213,8 +210,7 @@ module _ {V : Type 0} where
 
   -- routes in one room are of one rank
   pub one_rank : {L : Leaves V} (x y : Placed V) → IsRanked L x → IsRanked L y → x.room.number ≡ y.room.number → x.entry.rank ≡ y.entry.rank
-  one_rank {L = L} x y one other same =
-      sym one.rank ∙ ap (λ (p : LeafPart V). p.leaf.rank) (inside (sym one.said ∙ ap (λ (n : ℕ). L n) same ∙ other.said)) ∙ other.rank
+  one_rank {L = L} x y one other same = sym one.rank ∙ ap (λ p. p.leaf.rank) (inside (sym one.said ∙ ap L same ∙ other.said)) ∙ other.rank
 
   pub ranked_in : (m : Lodged V) (p : Part m) (x : Placed V) → IsIn x p.tree → IsRanked (leaves_in m) x
   ranked_in m p x is =

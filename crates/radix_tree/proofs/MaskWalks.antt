@@ -1,9 +1,9 @@
 -- A walk along a list of masks.
+use Rattle.radix_tree.proofs.{MaskLists.not_below_short, MaskLists.not_below_long, MaskLists.below_short, MaskLists.below_long, RoomReads.inside}
+use Rattle.radix_tree.proofs.{RoomReads.none_some, RoomReads.Has-leaf, RoomReads.Has-mask, TreeMembers.head_of}
 use Rattle.radix_tree.proofs.Words.{◌≡◌, ℕ, ◌+◌, ◌≤◌, ◌<◌, List, [], ◌∷◌, Option, Some, None, refl, sym, ap, ◌∙◌, subst, arith, Counter, Has, Id, Leaf}
 use Rattle.radix_tree.proofs.Words.{MaskNode, IsMasks, IsRanked, AreRanked, last_from, last_mask, not_below, below, ReadsOnce, LeafPart, MaskPart}
 use Rattle.radix_tree.proofs.Words.{leaves_in, masks_in, mask_part, first_room, MasksStand, Falls, Placed, Lodged}
-use Rattle.radix_tree.proofs.{MaskLists.not_below_short, MaskLists.not_below_long, MaskLists.below_short, MaskLists.below_long, RoomReads.inside}
-use Rattle.radix_tree.proofs.{RoomReads.none_some, RoomReads.Has-leaf, RoomReads.Has-mask, TreeMembers.head_of}
 
 module _ {V : Type 0} where
   -- ---- the room of a mask's route
@@ -12,7 +12,7 @@ module _ {V : Type 0} where
 
   pub rank_told : (m : Lodged V) {x : Placed V} {room : Id} (l : Leaf) → IsRanked (leaves_in m) x → x.room ≡ room
       → ((p : LeafPart V) → leaves_in m room.number ≡ Some p → l ≡ p.leaf) → l.rank ≡ x.entry.rank
-  rank_told m l r room_is told = ap (λ (z : Leaf). z.rank) (told r.part (ap (λ (i : Id). leaves_in m i.number) (sym room_is) ∙ r.said)) ∙ r.rank
+  rank_told m l r room_is told = ap (λ z. z.rank) (told r.part (ap (λ i. leaves_in m i.number) (sym room_is) ∙ r.said)) ∙ r.rank
 
   abbrev part_of : (room : Id) (ms : List (Placed V)) → MaskPart
   part_of room ms = record { block = room.block; next = first_room ms }
@@ -20,19 +20,19 @@ module _ {V : Type 0} where
   -- it is a mask node, and names the next one
   abbrev pub listed_as : (m : Lodged V) (x : Placed V) (xs : List (Placed V)) {room : Id} → MasksStand (masks_in m) (x ∷ xs) → x.room ≡ room
       → (p : MaskPart) × (masks_in m room.number ≡ Some p) × (p.block ≡ room.block)
-  listed_as m x xs {room = room} stands room_is = (part_of room xs, subst (λ (i : Id). masks_in m i.number ≡ Some (part_of i xs)) room_is stands.0, refl)
+  listed_as m x xs {room = room} stands room_is = (part_of room xs, subst (λ i. masks_in m i.number ≡ Some (part_of i xs)) room_is stands.0, refl)
 
   pub Has-listed : {m : Lodged V} {room : Id} → (p : MaskPart) × (masks_in m room.number ≡ Some p) × (p.block ≡ room.block) → Has m room
   Has-listed {m} {room} l = Has-mask m room l.1 l.2
 
   pub next_told : (m : Lodged V) (x : Placed V) (xs : List (Placed V)) {room : Id} (n : MaskNode) → MasksStand (masks_in m) (x ∷ xs) → x.room ≡ room
       → masks_in m room.number ≡ mask_part room.block (Some n) → first_room xs ≡ n.next
-  next_told m x xs n stands room_is said = ap (λ (p : MaskPart). p.next) (inside (sym (listed_as m x xs stands room_is).1 ∙ said))
+  next_told m x xs n stands room_is said = ap (λ p. p.next) (inside (sym (listed_as m x xs stands room_is).1 ∙ said))
 
   ended_at : (low : ℕ) (ms rest : List (Placed V)) (before : Option Id) → first_room rest ≡ None
       → last_from before (not_below low rest) ≡ last_mask (not_below low ms) → below low rest ≡ below low ms
       → (last_mask (not_below low ms) ≡ before) × (first_room (below low ms) ≡ None)
-  ended_at low ms [] before ends last left = (sym last, sym (ap (λ (r : List (Placed V)). first_room r) left))
+  ended_at low ms [] before ends last left = (sym last, sym (ap first_room left))
   ended_at low ms (x ∷ xs) before ends last left = absurd (none_some (sym ends))
 
 module _ {V : Type 0} where
@@ -82,7 +82,7 @@ module _ {V : Type 0} where
       let stands = subst (MasksStand (masks_in m)) x.is w.stands in
       let falls = subst (Falls 0 w.top) x.is w.falls in
       let ranked = subst (AreRanked (leaves_in m)) x.is w.ranked in
-      let less : x.first.entry.rank < w.top = falls.1 in
+      let less = falls.1 in
       record {
         route = x.first;
         room_is = x.room_is;
@@ -90,10 +90,9 @@ module _ {V : Type 0} where
         listed = listed_as m x.first x.behind stands x.room_is;
         soon = omega arith;
         stopped = λ short. (
-          sym w.last ∙ ap (λ (r : List (Placed V)). last_from before (not_below low r)) x.is
-              ∙ ap (last_from before) (not_below_short low x.first x.behind short),
-          sym (ap (λ (r : List (Placed V)). first_room r) w.left) ∙ ap (λ (r : List (Placed V)). first_room (below low r)) x.is
-              ∙ ap (λ (r : List (Placed V)). first_room r) (below_short low x.first x.behind short) ∙ ap (λ (i : Id). Some i) x.room_is,
+          sym w.last ∙ ap (λ r. last_from before (not_below low r)) x.is ∙ ap (last_from before) (not_below_short low x.first x.behind short),
+          sym (ap first_room w.left) ∙ ap (λ r. first_room (below low r)) x.is
+              ∙ ap first_room (below_short low x.first x.behind short) ∙ ap Some x.room_is,
         );
         passed = λ n later said long once. record {
           rest = x.behind;
@@ -102,9 +101,9 @@ module _ {V : Type 0} where
           stands = stands.1;
           falls = falls.2;
           ranked = ranked.1;
-          last = ap (λ (i : Id). last_from (Some i) (not_below low x.behind)) (sym x.room_is)
+          last = ap (λ i. last_from (Some i) (not_below low x.behind)) (sym x.room_is)
               ∙ sym (ap (last_from before) (not_below_long low x.first x.behind long))
-              ∙ sym (ap (λ (r : List (Placed V)). last_from before (not_below low r)) x.is) ∙ w.last;
+              ∙ sym (ap (λ r. last_from before (not_below low r)) x.is) ∙ w.last;
           left = sym (below_long low x.first x.behind long) ∙ sym (ap (below low) x.is) ∙ w.left;
           rises = omega arith;
           few = omega arith;

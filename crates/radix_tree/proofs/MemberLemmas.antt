@@ -55,7 +55,7 @@ entry_at_is_member key rank entries e h =
 pub first_of_is_member : {V : Type 0} → FirstOfIsMember V
 first_of_is_member key entries e h =
     let found = all_find (Contains entries) (λ x. nat_eq x.key key) entries e (all_members entries) h in
-    let test : nat_eq e.key key ≡ true = found.1 in
+    let test = found.1 in
     (found.0, grind (arith, nat_tests))
 
 pub best_is_member : {V : Type 0} → BestIsMember V
@@ -115,7 +115,7 @@ pair_precedes key rank e = nat_lt key e.key || (nat_eq key e.key && nat_lt e.ran
 pub with_keeps_others : {V : Type 0} → WithKeepsOthers V
 with_keeps_others key rank entries e other =
     let q = has_pair key rank in
-    let fails : has_pair key rank e ≡ false = other_pair key rank e (λ same. other (sym same.0, sym same.1)) in
+    let fails = other_pair key rank e (λ same. other (sym same.0, sym same.1)) in
     find-append q (filter (λ x. precedes x e) entries) (e ∷ filter (λ x. precedes e x) entries)
     ∙ (elim (pair_precedes key rank e) as (λ b. pair_precedes key rank e ≡ b
     → option_or (find q (filter (λ x. precedes x e) entries)) (find q (e ∷ filter (λ x. precedes e x) entries)) ≡ find q entries) [
@@ -137,13 +137,14 @@ without_leaves_none key rank entries = find_filter (has_pair key rank) (λ x. no
 pub without_keeps_others : {V : Type 0} → WithoutKeepsOthers V
 without_keeps_others key rank gone_key gone_rank entries other = find_filter (has_pair key rank) (λ x. not (has_pair gone_key gone_rank x)) true
     (λ x k. (let is = pair_is key rank x k in
-    let fails : has_pair gone_key gone_rank x ≡ false = other_pair gone_key gone_rank x (λ same. other (sym is.0 ∙ same.0, sym is.1 ∙ same.1)) in
+    let fails = other_pair gone_key gone_rank x (λ same. other (sym is.0 ∙ same.0, sym is.1 ∙ same.1)) in
     rw fails refl)) entries
 
 -- so an entry stays that stood before one of another pair was put in, or another pair was taken out
 pub with_keeps : {V : Type 0} (es : List (Entry V)) (e r : Entry V) → entry_at e.key e.rank es ≡ None → StandsIn es r → StandsIn (with_entry e es) r
-with_keeps es e r none stands = with_keeps_others r.key r.rank es e (λ same. (let gone : Some r ≡ None =
-    sym stands ∙ (ap (λ k. entry_at k r.rank es) same.0 ∙ (ap (λ n. entry_at e.key n es) same.1 ∙ none)) in cc)) ∙ stands
+with_keeps es e r none stands =
+    with_keeps_others r.key r.rank es e
+    (λ same. (let gone = sym stands ∙ (ap (λ k. entry_at k r.rank es) same.0 ∙ (ap (λ n. entry_at e.key n es) same.1 ∙ none)) in cc)) ∙ stands
 
 pub without_keeps : {V : Type 0} (key rank : ℕ) (es : List (Entry V)) (r : Entry V) → ¬ (AreOnePair r.key r.rank key rank) → StandsIn es r
     → StandsIn (without key rank es) r
@@ -189,7 +190,7 @@ without_counts key rank (x ∷ xs) r =
     + cond (is_some (cond b (Some x) (entry_at key rank xs))) 1 0) [
       | true ↦ λ k. (
           let here : stands_before key rank x ≡ false = grind (arith, nat_tests) in
-          let none : without key rank xs ≡ xs = without_absent key rank xs (none_at key rank xs (all_behind key rank x xs here r.1)) in
+          let none = without_absent key rank xs (none_at key rank xs (all_behind key rank x xs here r.1)) in
           rw none (omega arith))
       | false ↦ λ k. elim (is_some (entry_at key rank xs)) as (λ b. length xs ≡ length (without key rank xs) + cond b 1 0
           → suc (length xs) ≡ suc (length (without key rank xs)) + cond b 1 0)

@@ -1,12 +1,12 @@
 -- A bit node in use moves from its room to another: the rooms before the writes and after them.
-use Rattle.radix_tree.proofs.Words.{◌≡◌, ℕ, ◌+◌, ◌≤◌, ◌==◌, true, false, List, [], ◌∷◌, Option, Some, None, refl, sym, ap, ◌∙◌, subst, arith, is_some}
-use Rattle.radix_tree.proofs.Words.{Has, bit_node_of, Id, Links, Node, BitNode, Tree, BitPart, Part, leaves_in, bits_in, heads_in, bit_in, bit_part}
-use Rattle.radix_tree.proofs.Words.{head_part, name_of, ForkAt, Way, one_if, leaves_at, forks_at, AreOnce, IsWholeBut, nobody_late, out_at, put_bit}
-use Rattle.radix_tree.proofs.Words.{put_head, lift_leaf, lift_bit, KeepsMasks, rename, content_of, KeepsRoutes, CanTake, Lodged}
-use Rattle.radix_tree.proofs.MovedReads.{one_if_is, none_of, at_room, off_room, content_lift, lift_used, rename_used, leaf_off, bit_off}
 use Rattle.radix_tree.proofs.{RoomReads.inside, RoomReads.none_some, RoomReads.AreLinks, RoomReads.head_read, Parts.fork_is, Parts.fork_stands}
-use Rattle.radix_tree.proofs.{Parts.bit_part_of, Parts.Has-fork, Parts.zero_part, PartRooms.frame, PartRooms.way_once, PartRooms.way_counts}
-use Rattle.radix_tree.proofs.{PartRooms.spine_out, Forking.forks_there, Beside.misses_leaf, Beside.misses_bit, WaysDown.way_to_fork, WholeParts.once_but}
+use Rattle.radix_tree.proofs.{Parts.Has-fork, Parts.zero_part, PartRooms.frame, PartRooms.way_once, PartRooms.way_counts, PartRooms.spine_out}
+use Rattle.radix_tree.proofs.{Forking.forks_there, Beside.misses_leaf, Beside.misses_bit, WaysDown.way_to_fork, WholeParts.once_but}
+use Rattle.radix_tree.proofs.Words.{◌≡◌, ℕ, ◌+◌, ◌≤◌, ◌==◌, true, false, List, [], ◌∷◌, Option, Some, None, refl, sym, ap, ◌∙◌, subst, arith, is_some}
+use Rattle.radix_tree.proofs.Words.{Has, bit_node_of, Id, Links, Node, BitNode, BitPart, Part, leaves_in, bits_in, heads_in, bit_in, bit_part, head_part}
+use Rattle.radix_tree.proofs.Words.{name_of, ForkAt, Way, one_if, leaves_at, forks_at, AreOnce, IsWholeBut, nobody_late, out_at, put_bit, put_head}
+use Rattle.radix_tree.proofs.Words.{lift_leaf, lift_bit, KeepsMasks, rename, content_of, KeepsRoutes, CanTake, Lodged}
+use Rattle.radix_tree.proofs.MovedReads.{one_if_is, none_of, at_room, off_room, content_lift, lift_used, rename_used, leaf_off, bit_off}
 
 pub bit_said : (to : Id) (n : BitNode) {bit : ℕ} {left right : Node} {above : Option Id} → n.bit ≡ bit → n.zero ≡ left → n.one ≡ right → n.above ≡ above
     → bit_part to.block (Some n) ≡ Some (record { block = to.block; bit = bit; zero = left; one = right; above = above })
@@ -42,12 +42,10 @@ module _ {V : Type 0} where
   pub move_of : {m : Lodged V} {root : Node} (from to : Id) (links : Links) {n : BitNode} → IsWholeBut m root nobody_late (out_at from.number) → Has m from
       → ((p : BitPart) → bits_in m from.number ≡ Some p → CanTake m from to) → AreLinks m from links → bit_node_of links ≡ Some n → IsMove m root from to n
   move_of {m = m} from to links {n = n} w h takes are is =
-      let said : bits_in m from.number ≡ bit_part h.room.block (Some n) =
-      ap bit_in h.at ∙ sym (ap (λ (l : Links). bit_part h.room.block (bit_node_of l)) (are h.room h.at)) ∙ ap (bit_part h.room.block) is in
-      let count : forks_at from.number w.part.tree ≡ 1 = w.forks from.number ∙ ap (λ (o : Option BitPart). one_if (is_some o)) said in
+      let said = ap bit_in h.at ∙ sym (ap (λ l. bit_part h.room.block (bit_node_of l)) (are h.room h.at)) ∙ ap (bit_part h.room.block) is in
+      let count = w.forks from.number ∙ ap (λ o. one_if (is_some o)) said in
       let found = way_to_fork m w.part from.number (omega arith) in
-      let same : record { block = h.room.block; bit = n.bit; zero = n.zero; one = n.one; above = n.above } ≡ bit_part_of m found.at =
-      inside (sym said ∙ ap (bits_in m) (sym found.number) ∙ (fork_stands m found.at).0) in
+      let same = inside (sym said ∙ ap (bits_in m) (sym found.number) ∙ (fork_stands m found.at).0) in
       record {
         whole = w;
         once = once_but w;
@@ -58,10 +56,10 @@ module _ {V : Type 0} where
         number = found.number;
         ups = found.ups;
         way = found.way;
-        bit = ap (λ (p : BitPart). p.bit) same;
-        left = ap (λ (p : BitPart). p.zero) same;
-        right = ap (λ (p : BitPart). p.one) same;
-        above = ap (λ (p : BitPart). p.above) same;
+        bit = ap (λ p. p.bit) same;
+        left = ap (λ p. p.zero) same;
+        right = ap (λ p. p.one) same;
+        above = ap (λ p. p.above) same;
         head = head_read links h are is;
         takes = takes (record { block = h.room.block; bit = n.bit; zero = n.zero; one = n.one; above = n.above }) said;
       }
@@ -72,53 +70,50 @@ module _ {V : Type 0} where
 
   pub at_forks : {m : Lodged V} {root : Node} {from to : Id} {n : BitNode} (v : IsMove m root from to n) (k : ℕ)
       → forks_at k v.at.tree ≡ one_if (v.room.number == k) + (forks_at k v.f.zero + forks_at k v.f.one)
-  at_forks v k = ap (λ (t : Tree V). forks_at k t) v.f.is
+  at_forks v k = ap (forks_at k) v.f.is
 
   pub at_leaves : {m : Lodged V} {root : Node} {from to : Id} {n : BitNode} (v : IsMove m root from to n) (k : ℕ)
       → leaves_at k v.at.tree ≡ leaves_at k v.f.zero + leaves_at k v.f.one
-  at_leaves v k = ap (λ (t : Tree V). leaves_at k t) v.f.is
+  at_leaves v k = ap (leaves_at k) v.f.is
 
   from_here : {m : Lodged V} {root : Node} (from to : Id) {n : BitNode} (v : IsMove m root from to n) → one_if (v.room.number == from.number) ≡ 1
   from_here from to v = one_if_is from.number v.number
 
   pub from_in : (m : Lodged V) {root : Node} (from to : Id) (n : BitNode) (v : IsMove m root from to n) → 1 ≤ forks_at from.number v.at.tree
   from_in m from to n v =
-      let sum : forks_at from.number v.at.tree ≡ one_if (v.room.number == from.number) + (forks_at from.number v.f.zero + forks_at from.number v.f.one) =
-      at_forks v from.number in
-      let one : one_if (v.room.number == from.number) ≡ 1 = from_here from to v in omega arith
+      let sum = at_forks v from.number in
+      let one = from_here from to v in omega arith
 
   -- beneath it there is no bit node of the same room
   pub not_from : {m : Lodged V} {root : Node} (from to : Id) {n : BitNode} (v : IsMove m root from to n) (k : ℕ) → 1 ≤ forks_at k v.f.zero + forks_at k v.f.one
       → k ≡ from.number → ⊥
   not_from from to v k some same =
-      let sum : forks_at from.number v.at.tree ≡ one_if (v.room.number == from.number) + (forks_at from.number v.f.zero + forks_at from.number v.f.one) =
-      at_forks v from.number in
-      let one : one_if (v.room.number == from.number) ≡ 1 = from_here from to v in
-      let most : forks_at from.number v.at.tree ≤ 1 = (at_once v).forks from.number in
-      let left : forks_at k v.f.zero ≡ forks_at from.number v.f.zero = ap (λ (j : ℕ). forks_at j v.f.zero) same in
-      let right : forks_at k v.f.one ≡ forks_at from.number v.f.one = ap (λ (j : ℕ). forks_at j v.f.one) same in omega arith
+      let sum = at_forks v from.number in
+      let one = from_here from to v in
+      let most = (at_once v).forks from.number in
+      let left = ap (λ j. forks_at j v.f.zero) same in
+      let right = ap (λ j. forks_at j v.f.one) same in omega arith
 
   pub out_not_from : (m : Lodged V) {root : Node} (from to : Id) (n : BitNode) (v : IsMove m root from to n) (k : ℕ) → forks_at k v.at.tree ≡ 0
       → k ≡ from.number → ⊥
   out_not_from m from to n v k none same =
-      let sum : forks_at from.number v.at.tree ≡ one_if (v.room.number == from.number) + (forks_at from.number v.f.zero + forks_at from.number v.f.one) =
-      at_forks v from.number in
-      let one : one_if (v.room.number == from.number) ≡ 1 = from_here from to v in
-      let is : forks_at k v.at.tree ≡ forks_at from.number v.at.tree = ap (λ (j : ℕ). forks_at j v.at.tree) same in omega arith
+      let sum = at_forks v from.number in
+      let one = from_here from to v in
+      let is = ap (λ j. forks_at j v.at.tree) same in omega arith
 
   -- the other room is no bit node of the tree
   pub not_to : (m : Lodged V) {root : Node} {from to : Id} {n : BitNode} (v : IsMove m root from to n) (k : ℕ) → 1 ≤ forks_at k v.whole.part.tree
       → k ≡ to.number → ⊥
   not_to m {to = to} v k some same =
       let p = v.whole.part in
-      let gone : forks_at to.number v.whole.part.tree ≡ 0 = forks_there (leaves_in m) (bits_in m) p.above p.tree to.number p.stands v.takes.free in
-      let is : forks_at k v.whole.part.tree ≡ forks_at to.number v.whole.part.tree = ap (λ (j : ℕ). forks_at j v.whole.part.tree) same in omega arith
+      let gone = forks_there (leaves_in m) (bits_in m) p.above p.tree to.number p.stands v.takes.free in
+      let is = ap (λ j. forks_at j v.whole.part.tree) same in omega arith
 
   pub beneath_whole : (m : Lodged V) {root : Node} {from to : Id} {n : BitNode} (v : IsMove m root from to n) (k : ℕ)
       → forks_at k v.f.zero + forks_at k v.f.one ≤ forks_at k v.whole.part.tree
   beneath_whole m v k =
-      let sum : forks_at k v.at.tree ≡ one_if (v.room.number == k) + (forks_at k v.f.zero + forks_at k v.f.one) = at_forks v k in
-      let le : forks_at k v.at.tree ≤ forks_at k v.whole.part.tree = (way_counts m v.key v.whole.part v.at v.ups k v.way).1 in omega arith
+      let sum = at_forks v k in
+      let le = (way_counts m v.key v.whole.part v.at v.ups k v.way).1 in omega arith
 
   -- the rooms differ
   pub apart : (m : Lodged V) {root : Node} {from to : Id} (n : BitNode) (v : IsMove m root from to n) → from.number ≡ to.number → ⊥
@@ -127,20 +122,20 @@ module _ {V : Type 0} where
   -- the bit node above is in the tree, but not in the part
   pub spine_apart : (m : Lodged V) (key : ℕ) (whole at : Part m) (ups : List (Part m)) → Way key whole at ups → whole.above ≡ None → AreOnce whole.tree
       → (up : Id) → at.above ≡ Some up → (forks_at up.number at.tree ≡ 0) × (1 ≤ forks_at up.number whole.tree)
-  spine_apart m key whole at [] way top once up is = absurd (none_some (sym (ap (λ (p : Part m). p.above) way ∙ top) ∙ is))
+  spine_apart m key whole at [] way top once up is = absurd (none_some (sym (ap (λ p. p.above) way ∙ top) ∙ is))
   spine_apart m key whole at (p ∷ ps) way top once up is =
       let out = spine_out m at p way.0 (way_once key whole p ps way.1 once) in
-      let same : way.0.room ≡ up = inside (sym way.0.above ∙ is) in
-      let none : forks_at way.0.room.number at.tree ≡ 0 = out.0 in
-      let some : 1 ≤ forks_at way.0.room.number p.tree = out.1 in
-      let le : forks_at way.0.room.number p.tree ≤ forks_at way.0.room.number whole.tree = (way_counts m key whole p ps way.0.room.number way.1).1 in
-      subst (λ (i : Id). (forks_at i.number at.tree ≡ 0) × (1 ≤ forks_at i.number whole.tree)) same (none, omega arith)
+      let same = inside (sym way.0.above ∙ is) in
+      let none = out.0 in
+      let some = out.1 in
+      let le = (way_counts m key whole p ps way.0.room.number way.1).1 in
+      subst (λ i. (forks_at i.number at.tree ≡ 0) × (1 ≤ forks_at i.number whole.tree)) same (none, omega arith)
 
   pub not_spine : (m : Lodged V) {root : Node} {from to : Id} (n : BitNode) (v : IsMove m root from to n) (k : ℕ) → 1 ≤ forks_at k v.at.tree → (up : Id)
       → n.above ≡ Some up → k ≡ up.number → ⊥
   not_spine m n v k some up is same =
-      let none : forks_at up.number v.at.tree ≡ 0 = (spine_apart m v.key v.whole.part v.at v.ups v.way v.whole.top v.once up (sym v.above ∙ is)).0 in
-      let e : forks_at k v.at.tree ≡ forks_at up.number v.at.tree = ap (λ (j : ℕ). forks_at j v.at.tree) same in omega arith
+      let none = (spine_apart m v.key v.whole.part v.at v.ups v.way v.whole.top v.once up (sym v.above ∙ is)).0 in
+      let e = ap (λ j. forks_at j v.at.tree) same in omega arith
 
   pub to_not_spine : (m : Lodged V) {root : Node} (from to : Id) (n : BitNode) (v : IsMove m root from to n) (up : Id) → n.above ≡ Some up
       → to.number ≡ up.number → ⊥
@@ -162,11 +157,10 @@ module _ {V : Type 0} where
           above = Some v.room;
           is = (fork_is m v.f).2;
           stands = frame (leaves_in m) (leaves_in new) (bits_in m) (bits_in new) (Some v.room) v.f.one
-              (λ k some. let sum : leaves_at k v.at.tree ≡ leaves_at k v.f.zero + leaves_at k v.f.one = at_leaves v k in let most : leaves_at k v.at.tree ≤ 1 =
-              once.leaves k in
+              (λ k some. let sum = at_leaves v k in let most = once.leaves k in
               leaves k ∙ misses_leaf n.zero k (leaf_off v.f.zero k v.left (omega arith)) (Some to) (leaves_in m k))
-              (λ k some. let sum : forks_at k v.at.tree ≡ one_if (v.room.number == k) + (forks_at k v.f.zero + forks_at k v.f.one) = at_forks v k in
-              let most : forks_at k v.at.tree ≤ 1 = once.forks k in
+              (λ k some. let sum = at_forks v k in
+              let most = once.forks k in
               bits k ∙ misses_bit n.zero k (bit_off v.f.zero k v.left (omega arith)) (Some to) (bits_in m k)) (fork_stands m v.f).2;
         },
         sym v.right,
@@ -175,7 +169,7 @@ module _ {V : Type 0} where
   -- the bit node above is a room of the map
   pub Has-above : (m : Lodged V) (key : ℕ) (whole at : Part m) (ups : List (Part m)) → Way key whole at ups → whole.above ≡ None → {up : Id}
       → at.above ≡ Some up → Has m up
-  Has-above m key whole at [] way top is = absurd (none_some (sym (ap (λ (p : Part m). p.above) way ∙ top) ∙ is))
+  Has-above m key whole at [] way top is = absurd (none_some (sym (ap (λ p. p.above) way ∙ top) ∙ is))
   Has-above m key whole at (p ∷ ps) way top is = subst (Has m) (inside (sym way.0.above ∙ is)) (Has-fork m way.0.at)
 
   pub Has-over : {m : Lodged V} {root : Node} {from to : Id} {n : BitNode} → IsMove m root from to n → (up : Id) → n.above ≡ Some up → Has m up
@@ -189,7 +183,7 @@ module _ {V : Type 0} where
 
   used_is : (m new : Lodged V) (from to : Id) (n : BitNode) → IsMoved m new from to n → (k : ℕ)
       → is_some (bits_in new k) ≡ is_some (put_bit to (Some n) k (put_bit from None k (lift_bit n.one (Some to) k (lift_bit n.zero (Some to) k (bits_in m k)))))
-  used_is m new from to n d k = ap (λ (o : Option BitPart). is_some o) (d.bits k)
+  used_is m new from to n d k = ap is_some (d.bits k)
       ∙ rename_used n.above from to k (put_bit to (Some n) k (put_bit from None k (lift_bit n.one (Some to) k (lift_bit n.zero (Some to) k (bits_in m k)))))
 
   -- a bit node is in use in each room where one was, but for the two rooms
@@ -197,23 +191,20 @@ module _ {V : Type 0} where
       → is_some (bits_in new k) ≡ is_some (bits_in m k)
   used_stays m new from to n d k other off =
       let lift = lift_bit n.one (Some to) k (lift_bit n.zero (Some to) k (bits_in m k)) in
-      used_is m new from to n d k ∙ ap (λ (o : Option BitPart). is_some o) (off_room to k (bit_part to.block (Some n))
+      used_is m new from to n d k ∙ ap is_some (off_room to k (bit_part to.block (Some n))
       (put_bit from None k (lift_bit n.one (Some to) k (lift_bit n.zero (Some to) k (bits_in m k)))) off)
-      ∙ ap (λ (o : Option BitPart). is_some o) (off_room from k (bit_part from.block None)
-      (lift_bit n.one (Some to) k (lift_bit n.zero (Some to) k (bits_in m k))) other)
+      ∙ ap is_some (off_room from k (bit_part from.block None) (lift_bit n.one (Some to) k (lift_bit n.zero (Some to) k (bits_in m k))) other)
       ∙ lift_used n.one (Some to) k (lift_bit n.zero (Some to) k (bits_in m k)) ∙ lift_used n.zero (Some to) k (bits_in m k)
 
   pub used_to : (m new : Lodged V) (from to : Id) (n : BitNode) → IsMoved m new from to n → (k : ℕ) → k ≡ to.number → is_some (bits_in new k) ≡ true
-  used_to m new from to n d k same = used_is m new from to n d k ∙ ap (λ (o : Option BitPart). is_some o) (at_room to k (bit_part to.block (Some n))
+  used_to m new from to n d k same = used_is m new from to n d k ∙ ap is_some (at_room to k (bit_part to.block (Some n))
       (put_bit from None k (lift_bit n.one (Some to) k (lift_bit n.zero (Some to) k (bits_in m k)))) same)
 
   pub used_from : (m new : Lodged V) (from to : Id) (n : BitNode) → IsMoved m new from to n → (from.number ≡ to.number → ⊥) → (k : ℕ) → k ≡ from.number
       → is_some (bits_in new k) ≡ false
-  used_from m new from to n d other k same = used_is m new from to n d k
-      ∙ ap (λ (o : Option BitPart). is_some o) (off_room to k (bit_part to.block (Some n))
+  used_from m new from to n d other k same = used_is m new from to n d k ∙ ap is_some (off_room to k (bit_part to.block (Some n))
       (put_bit from None k (lift_bit n.one (Some to) k (lift_bit n.zero (Some to) k (bits_in m k)))) (λ e. other (sym same ∙ e)))
-      ∙ ap (λ (o : Option BitPart). is_some o) (at_room from k (bit_part from.block None)
-      (lift_bit n.one (Some to) k (lift_bit n.zero (Some to) k (bits_in m k))) same)
+      ∙ ap is_some (at_room from k (bit_part from.block None) (lift_bit n.one (Some to) k (lift_bit n.zero (Some to) k (bits_in m k))) same)
 
   pub gone : {m new : Lodged V} {root : Node} (from to : Id) {n : BitNode} → IsMove m root from to n → IsMoved m new from to n → bits_in new from.number ≡ None
   gone {m = m} {new = new} from to {n = n} v d = none_of (bits_in new from.number) (used_from m new from to n d (apart m n v) from.number refl)
@@ -221,7 +212,7 @@ module _ {V : Type 0} where
   -- a room that is neither of the two
   pub bit_lifts : (m new : Lodged V) (from to : Id) (n : BitNode) → IsMoved m new from to n → (k : ℕ) → (k ≡ from.number → ⊥) → (k ≡ to.number → ⊥)
       → bits_in new k ≡ rename n.above from to k (lift_bit n.one (Some to) k (lift_bit n.zero (Some to) k (bits_in m k)))
-  bit_lifts m new from to n d k other off = d.bits k ∙ ap (λ (o : Option BitPart). rename n.above from to k o)
+  bit_lifts m new from to n d k other off = d.bits k ∙ ap (rename n.above from to k)
       (off_room to k (bit_part to.block (Some n)) (put_bit from None k (lift_bit n.one (Some to) k (lift_bit n.zero (Some to) k (bits_in m k)))) off
       ∙ off_room from k (bit_part from.block None) (lift_bit n.one (Some to) k (lift_bit n.zero (Some to) k (bits_in m k))) other)
 

@@ -1,12 +1,12 @@
 -- Lists of masks stay where all masks say what they said.
-use Rattle.radix_tree.proofs.Words.{◌≡◌, ℕ, ◌+◌, ◌≤◌, ◌==◌, List, [], ◌∷◌, Option, sym, ap, ◌∙◌, subst, arith, inl, inr, is_some, Id, Placed, Tree, leaf}
-use Rattle.radix_tree.proofs.Words.{fork, MaskPart, Heads, Masks, Part, heads_in, masks_in, MasksStand, Beneath, Way, one_if, forks_at, IsMarked}
-use Rattle.radix_tree.proofs.Words.{IsMaskList, MarkedIn, MarkedLists, Lodged}
+use Rattle.radix_tree.proofs.Words.{◌≡◌, ℕ, ◌+◌, ◌≤◌, List, [], ◌∷◌, Option, sym, ap, ◌∙◌, subst, arith, inl, inr, is_some, Id, Placed, Tree, leaf, fork}
+use Rattle.radix_tree.proofs.Words.{Heads, Masks, Part, heads_in, masks_in, MasksStand, Beneath, Way, forks_at, IsMarked, IsMaskList, MarkedIn}
+use Rattle.radix_tree.proofs.Words.{MarkedLists, Lodged}
 use Rattle.radix_tree.proofs.PartRooms.{one_if_same}
 
 module _ {V : Type 0} where
   pub marked_stays : (K M : Masks) (x : Placed V) → ((k : ℕ) → M k ≡ K k) → IsMarked K x → IsMarked M x
-  marked_stays K M x same marked = ap (λ (o : Option MaskPart). is_some o) (same x.room.number) ∙ marked
+  marked_stays K M x same marked = ap is_some (same x.room.number) ∙ marked
 
   stands_stays : (K M : Masks) (ms : List (Placed V)) → ((k : ℕ) → M k ≡ K k) → MasksStand K ms → MasksStand M ms
   stands_stays K M [] same stands = tt
@@ -27,7 +27,7 @@ module _ {V : Type 0} where
       → MarkedLists H K low t → MarkedLists J M low t
   lists_kept H J K M low (leaf x xs) same heads lists = tt
   lists_kept H J K M low (fork room b zero one) same heads lists =
-      let here : one_if (room.number == room.number) ≡ 1 = one_if_same room.number in (
+      let here = one_if_same room.number in (
         list_kept K M (fork room b zero one) same (heads room.number (omega arith)) lists.0,
         lists_kept H J K M (b + 1) zero same (λ k some. heads k (omega arith)) lists.1,
         lists_kept H J K M (b + 1) one same (λ k some. heads k (omega arith)) lists.2,
@@ -38,12 +38,12 @@ module _ {V : Type 0} where
       → MarkedLists (heads_in m) (masks_in m) under.low under.tree
   lists_under m key under over b lists =
       let all = subst (MarkedLists (heads_in m) (masks_in m) over.low) b.at.is lists in
-      subst (λ (low : ℕ). MarkedLists (heads_in m) (masks_in m) low under.tree) (sym b.low) (elim b.side [
+      subst (λ low. MarkedLists (heads_in m) (masks_in m) low under.tree) (sym b.low) (elim b.side [
         | inl e ↦ subst (MarkedLists (heads_in m) (masks_in m) (b.at.bit + 1)) (sym e.0) all.1
         | inr e ↦ subst (MarkedLists (heads_in m) (masks_in m) (b.at.bit + 1)) (sym e.0) all.2
       ])
 
   pub lists_on_way : (m : Lodged V) (key : ℕ) (whole at : Part m) (ups : List (Part m)) → Way key whole at ups
       → MarkedLists (heads_in m) (masks_in m) whole.low whole.tree → MarkedLists (heads_in m) (masks_in m) at.low at.tree
-  lists_on_way m key whole at [] way lists = subst (λ (p : Part m). MarkedLists (heads_in m) (masks_in m) p.low p.tree) (sym way) lists
+  lists_on_way m key whole at [] way lists = subst (λ p. MarkedLists (heads_in m) (masks_in m) p.low p.tree) (sym way) lists
   lists_on_way m key whole at (p ∷ ps) way lists = lists_under m key at p way.0 (lists_on_way m key whole p ps way.1 lists)

@@ -1,9 +1,9 @@
 -- What rooms say where a bit node is renamed, moved, or has another bit node above it.
+use Rattle.radix_tree.proofs.{AddressBits.zero_not_one, RoomReads.inside, RoomReads.none_some, Beside.named_leaf, Beside.named_bit}
 use Rattle.radix_tree.proofs.Words.{◌≡◌, ℕ, ◌≤◌, ◌==◌, ◌⊎◌, Bool, true, false, if◌then◌else◌, Option, Some, None, refl, sym, ap, ◌∙◌, inl, inr, arith}
 use Rattle.radix_tree.proofs.Words.{eqb-true, eq-eqb, ne_eqb, is_some, get, Seen, Has, Id, Node, LeafOf, BitOf, Tree, leaf, fork, bit_at, LeafPart}
 use Rattle.radix_tree.proofs.Words.{BitPart, leaf_in, leaves_in, name_of, one_if, leaves_at, forks_at, with_child, lift_leaf, lift_bit, leaf_above}
 use Rattle.radix_tree.proofs.Words.{bit_above, renamed, with_renamed, rename, Content, content_of, Lodged}
-use Rattle.radix_tree.proofs.{AddressBits.zero_not_one, RoomReads.inside, RoomReads.none_some, Beside.named_leaf, Beside.named_bit}
 
 true_false : true ≡ false → ⊥
 true_false e = cc
@@ -33,10 +33,10 @@ none_of (Some x) e = absurd (true_false e)
 
 -- a write to one room
 pub at_room : {A : Type 0} (room : Id) (n : ℕ) (x y : A) → n ≡ room.number → (if n == room.number then x else y) ≡ x
-at_room room n x y same = ap (λ (t : Bool). if t then x else y) (eq-eqb n room.number same)
+at_room room n x y same = ap (λ t. if t then x else y) (eq-eqb n room.number same)
 
 pub off_room : {A : Type 0} (room : Id) (n : ℕ) (x y : A) → (n ≡ room.number → ⊥) → (if n == room.number then x else y) ≡ y
-off_room room n x y other = ap (λ (t : Bool). if t then x else y) (ne_eqb n room.number other)
+off_room room n x y other = ap (λ t. if t then x else y) (ne_eqb n room.number other)
 
 -- ---- a node is lifted
 content_above : {A : Type 0} (above : Option Id) (said : Option (LeafPart A)) → content_of (leaf_above above said) ≡ content_of said
@@ -79,47 +79,45 @@ rename_misses None from to n said other = refl
 rename_misses (Some up) from to n said other = off_room up n (with_renamed from to said) said (other up refl)
 
 pub renamed_to : (from to room : Id) → room.number ≡ from.number → renamed from to (BitOf room) ≡ BitOf to
-renamed_to from to room same = ap (λ (t : Bool). if t then BitOf to else BitOf room) (eq-eqb room.number from.number same)
+renamed_to from to room same = ap (λ t. if t then BitOf to else BitOf room) (eq-eqb room.number from.number same)
 
 -- the bit node names the other one on the side of an address
 pub zero_turned : (address : ℕ) (name : Node) (p : BitPart) → bit_at p.bit address ≡ 0 → with_child address name (Some p) ≡ Some (record p { zero = name })
 zero_turned address name p clear =
-    let test : (bit_at p.bit address == 1) ≡ false = ne_eqb (bit_at p.bit address) 1 (λ set. zero_not_one clear set) in
-    ap (λ (t : Bool). Some (if t then record p { one = name } else record p { zero = name })) test
+    let test = ne_eqb (bit_at p.bit address) 1 (λ set. zero_not_one clear set) in
+    ap (λ t. Some (if t then record p { one = name } else record p { zero = name })) test
 
 pub one_turned : (address : ℕ) (name : Node) (p : BitPart) → bit_at p.bit address ≡ 1 → with_child address name (Some p) ≡ Some (record p { one = name })
-one_turned address name p set =
-    ap (λ (t : Bool). Some (if t then record p { one = name } else record p { zero = name })) (eq-eqb (bit_at p.bit address) 1 set)
+one_turned address name p set = ap (λ t. Some (if t then record p { one = name } else record p { zero = name })) (eq-eqb (bit_at p.bit address) 1 set)
 
 module _ {V : Type 0} where
   -- a name of a tree without bit nodes in the room stays
   pub renamed_off : (from to : Id) (t : Tree V) → forks_at from.number t ≡ 0 → renamed from to (name_of t) ≡ name_of t
   renamed_off from to (leaf x xs) none = refl
-  renamed_off from to (fork room b left right) none = ap (λ (t : Bool). if t then BitOf to else BitOf room)
-      (ne_eqb room.number from.number (λ same. let own : one_if (room.number == from.number) ≡ 1 = one_if_is from.number same in omega arith))
+  renamed_off from to (fork room b left right) none = ap (λ t. if t then BitOf to else BitOf room)
+      (ne_eqb room.number from.number (λ same. let own = one_if_is from.number same in omega arith))
 
   -- a room outside of a tree is not that of its name
   pub leaf_off : (t : Tree V) {name : Node} (n : ℕ) → name ≡ name_of t → leaves_at n t ≡ 0 → (r : Id) → name ≡ LeafOf r → n ≡ r.number → ⊥
   leaf_off t n named none r is same =
-      let there : 1 ≤ leaves_at r.number t = named_leaf t r (sym named ∙ is) in
-      let e : leaves_at n t ≡ leaves_at r.number t = ap (λ (k : ℕ). leaves_at k t) same in omega arith
+      let there = named_leaf t r (sym named ∙ is) in
+      let e = ap (λ k. leaves_at k t) same in omega arith
 
   pub bit_off : (t : Tree V) {name : Node} (n : ℕ) → name ≡ name_of t → forks_at n t ≡ 0 → (r : Id) → name ≡ BitOf r → n ≡ r.number → ⊥
   bit_off t n named none r is same =
-      let there : 1 ≤ forks_at r.number t = named_bit t r (sym named ∙ is) in
-      let e : forks_at n t ≡ forks_at r.number t = ap (λ (k : ℕ). forks_at k t) same in omega arith
+      let there = named_bit t r (sym named ∙ is) in
+      let e = ap (λ k. forks_at k t) same in omega arith
 
   -- ---- a room that has its route
   content_there : (m : Lodged V) (room : Id) (o : Option (Seen V)) {c : Content V} → get m room.number ≡ o → content_of (leaf_in o) ≡ Some c
       → c.block ≡ room.block → Has m room
   content_there m room None at e block = absurd (none_some e)
-  content_there m room (Some s) at e block = record { room = s; at = at; block = ap (λ (d : Content V). d.block) (inside e) ∙ block }
+  content_there m room (Some s) at e block = record { room = s; at = at; block = ap (λ d. d.block) (inside e) ∙ block }
 
   -- stays
   pub Has_kept : {m : Lodged V} (new : Lodged V) {room : Id} → content_of (leaves_in new room.number) ≡ content_of (leaves_in m room.number) → Has m room
       → Has new room
-  Has_kept new {room = room} same h =
-      content_there new room (get new room.number) refl (same ∙ ap (λ (o : Option (Seen V)). content_of (leaf_in o)) h.at) h.block
+  Has_kept new {room = room} same h = content_there new room (get new room.number) refl (same ∙ ap (λ o. content_of (leaf_in o)) h.at) h.block
 
   pub content_used : (o p : Option (LeafPart V)) → content_of o ≡ content_of p → is_some o ≡ is_some p
   content_used None None e = refl

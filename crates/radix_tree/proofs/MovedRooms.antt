@@ -1,16 +1,16 @@
 -- A bit node in use moves from its room to another: what the rooms say afterwards is the tree with the bit node there.
-use Rattle.radix_tree.proofs.Words.{◌≡◌, ℕ, ◌+◌, ◌≤◌, ◌==◌, true, false, if◌then◌else◌, List, [], ◌∷◌, Option, Some, None, refl, sym, ap, ◌∙◌, subst}
-use Rattle.radix_tree.proofs.Words.{inl, inr, arith, eqb-true, is_some, Id, Node, BitOf, BitNode, Tree, fork, bit_at, HaveBit, IsIn, BitPart, Part}
-use Rattle.radix_tree.proofs.Words.{leaves_in, bits_in, heads_in, masks_in, bit_part, head_part, name_of, Stands, Beneath, Way, one_if, leaves_at}
-use Rattle.radix_tree.proofs.Words.{forks_at, HasHome, name_child, with_child, AreOnce, MarkedLists, nobody_late, out_at, put_bit, put_head, lift_leaf}
-use Rattle.radix_tree.proofs.Words.{lift_bit, IsExchange, renamed, with_renamed, rename, Lodged}
+use Rattle.radix_tree.proofs.{Parts.fork_is, Parts.fork_stands, Parts.bit_part_of, PartRooms.way_once, Forking.lifted, Beside.misses_leaf}
+use Rattle.radix_tree.proofs.{Beside.misses_bit, MovedLists.marked_stays, MovedLists.list_kept, MovedLists.lists_kept, MovedLists.lists_on_way}
+use Rattle.radix_tree.proofs.{WholeParts.Fits}
+use Rattle.radix_tree.proofs.Words.{◌≡◌, ℕ, ◌+◌, ◌≤◌, ◌==◌, true, false, if◌then◌else◌, List, [], ◌∷◌, Some, None, refl, sym, ap, ◌∙◌, subst, inl, inr}
+use Rattle.radix_tree.proofs.Words.{arith, eqb-true, is_some, Id, Node, BitOf, BitNode, fork, bit_at, HaveBit, IsIn, Part, leaves_in, bits_in, heads_in}
+use Rattle.radix_tree.proofs.Words.{masks_in, bit_part, head_part, name_of, Stands, Beneath, Way, one_if, forks_at, HasHome, name_child, with_child}
+use Rattle.radix_tree.proofs.Words.{AreOnce, MarkedLists, nobody_late, out_at, put_bit, put_head, lift_leaf, lift_bit, IsExchange, renamed, with_renamed}
+use Rattle.radix_tree.proofs.Words.{rename, Lodged}
 use Rattle.radix_tree.proofs.MovedReads.{same_or_not, one_if_is, one_if_not, at_room, rename_misses, renamed_to, zero_turned, one_turned, renamed_off}
 use Rattle.radix_tree.proofs.MovedReads.{leaf_off, bit_off, content_used}
 use Rattle.radix_tree.proofs.MoveWrites.{bit_said, IsMove, IsMoved, at_once, at_forks, at_leaves, from_in, not_from, out_not_from, not_to, beneath_whole}
 use Rattle.radix_tree.proofs.MoveWrites.{apart, not_spine, to_not_spine, contents_stay, used_stays, used_to, used_from, bit_lifts, head_stays}
-use Rattle.radix_tree.proofs.{Parts.fork_is, Parts.fork_stands, Parts.bit_part_of, PartRooms.way_once, Forking.lifted, Beside.misses_leaf}
-use Rattle.radix_tree.proofs.{Beside.misses_bit, MovedLists.marked_stays, MovedLists.list_kept, MovedLists.lists_kept, MovedLists.lists_on_way}
-use Rattle.radix_tree.proofs.{WholeParts.Fits}
 
 module _ {V : Type 0} where
   -- ---- the part with the bit node in the other room
@@ -19,21 +19,18 @@ module _ {V : Type 0} where
   left_stands m new from to n v d =
       let once = at_once v in
       lifted (leaves_in m) (leaves_in new) (bits_in m) (bits_in new) (Some v.room) (Some to) v.f.zero
-      (λ k some. let sum : leaves_at k v.at.tree ≡ leaves_at k v.f.zero + leaves_at k v.f.one = at_leaves v k in let most : leaves_at k v.at.tree ≤ 1 =
-      once.leaves k in
+      (λ k some. let sum = at_leaves v k in let most = once.leaves k in
       d.leaves k ∙ misses_leaf n.one k (leaf_off v.f.one k v.right (omega arith)) (Some to) (lift_leaf n.zero (Some to) k (leaves_in m k))
-      ∙ ap (λ (z : Node). lift_leaf z (Some to) k (leaves_in m k)) v.left)
-      (λ k some. let sum : forks_at k v.at.tree ≡ one_if (v.room.number == k) + (forks_at k v.f.zero + forks_at k v.f.one) = at_forks v k in
-      let most : forks_at k v.at.tree ≤ 1 = once.forks k in
-      let le : forks_at k v.f.zero + forks_at k v.f.one ≤ forks_at k v.whole.part.tree = beneath_whole m v k in
+      ∙ ap (λ z. lift_leaf z (Some to) k (leaves_in m k)) v.left) (λ k some. let sum = at_forks v k in
+      let most = once.forks k in
+      let le = beneath_whole m v k in
       bit_lifts m new from to n d k (not_from from to v k (omega arith)) (not_to m v k (omega arith))
       ∙ rename_misses n.above from to k (lift_bit n.one (Some to) k (lift_bit n.zero (Some to) k (bits_in m k))) (not_spine m n v k (omega arith))
       ∙ misses_bit n.one k (bit_off v.f.one k v.right (omega arith)) (Some to) (lift_bit n.zero (Some to) k (bits_in m k))
-      ∙ ap (λ (z : Node). lift_bit z (Some to) k (bits_in m k)) v.left) (record {
-        leaves = λ k. let sum : leaves_at k v.at.tree ≡ leaves_at k v.f.zero + leaves_at k v.f.one = at_leaves v k in let most : leaves_at k v.at.tree ≤ 1 =
-            once.leaves k in omega arith;
-        forks = λ k. let sum : forks_at k v.at.tree ≡ one_if (v.room.number == k) + (forks_at k v.f.zero + forks_at k v.f.one) = at_forks v k in
-            let most : forks_at k v.at.tree ≤ 1 = once.forks k in omega arith;
+      ∙ ap (λ z. lift_bit z (Some to) k (bits_in m k)) v.left) (record {
+        leaves = λ k. let sum = at_leaves v k in let most = once.leaves k in omega arith;
+        forks = λ k. let sum = at_forks v k in
+            let most = once.forks k in omega arith;
       }) (fork_stands m v.f).1
 
   pub right_stands : (m new : Lodged V) {root : Node} (from to : Id) (n : BitNode) (v : IsMove m root from to n) → IsMoved m new from to n
@@ -41,21 +38,18 @@ module _ {V : Type 0} where
   right_stands m new from to n v d =
       let once = at_once v in
       lifted (leaves_in m) (leaves_in new) (bits_in m) (bits_in new) (Some v.room) (Some to) v.f.one
-      (λ k some. let sum : leaves_at k v.at.tree ≡ leaves_at k v.f.zero + leaves_at k v.f.one = at_leaves v k in let most : leaves_at k v.at.tree ≤ 1 =
-      once.leaves k in
+      (λ k some. let sum = at_leaves v k in let most = once.leaves k in
       d.leaves k ∙ ap (λ o. lift_leaf n.one (Some to) k o) (misses_leaf n.zero k (leaf_off v.f.zero k v.left (omega arith)) (Some to) (leaves_in m k))
-      ∙ ap (λ (z : Node). lift_leaf z (Some to) k (leaves_in m k)) v.right)
-      (λ k some. let sum : forks_at k v.at.tree ≡ one_if (v.room.number == k) + (forks_at k v.f.zero + forks_at k v.f.one) = at_forks v k in
-      let most : forks_at k v.at.tree ≤ 1 = once.forks k in
-      let le : forks_at k v.f.zero + forks_at k v.f.one ≤ forks_at k v.whole.part.tree = beneath_whole m v k in
+      ∙ ap (λ z. lift_leaf z (Some to) k (leaves_in m k)) v.right) (λ k some. let sum = at_forks v k in
+      let most = once.forks k in
+      let le = beneath_whole m v k in
       bit_lifts m new from to n d k (not_from from to v k (omega arith)) (not_to m v k (omega arith))
       ∙ rename_misses n.above from to k (lift_bit n.one (Some to) k (lift_bit n.zero (Some to) k (bits_in m k))) (not_spine m n v k (omega arith))
-      ∙ ap (λ (o : Option BitPart). lift_bit n.one (Some to) k o) (misses_bit n.zero k (bit_off v.f.zero k v.left (omega arith)) (Some to) (bits_in m k))
-      ∙ ap (λ (z : Node). lift_bit z (Some to) k (bits_in m k)) v.right) (record {
-        leaves = λ k. let sum : leaves_at k v.at.tree ≡ leaves_at k v.f.zero + leaves_at k v.f.one = at_leaves v k in let most : leaves_at k v.at.tree ≤ 1 =
-            once.leaves k in omega arith;
-        forks = λ k. let sum : forks_at k v.at.tree ≡ one_if (v.room.number == k) + (forks_at k v.f.zero + forks_at k v.f.one) = at_forks v k in
-            let most : forks_at k v.at.tree ≤ 1 = once.forks k in omega arith;
+      ∙ ap (lift_bit n.one (Some to) k) (misses_bit n.zero k (bit_off v.f.zero k v.left (omega arith)) (Some to) (bits_in m k))
+      ∙ ap (λ z. lift_bit z (Some to) k (bits_in m k)) v.right) (record {
+        leaves = λ k. let sum = at_leaves v k in let most = once.leaves k in omega arith;
+        forks = λ k. let sum = at_forks v k in
+            let most = once.forks k in omega arith;
       }) (fork_stands m v.f).2
 
   pub here_said : (m new : Lodged V) {root : Node} (from to : Id) (n : BitNode) (v : IsMove m root from to n) → IsMoved m new from to n
@@ -81,23 +75,19 @@ module _ {V : Type 0} where
       → with_renamed from to (Some (bit_part_of m b.at)) ≡ with_child key (BitOf to) (Some (bit_part_of m b.at))
   zero_named m from to room key b named same tree clear none =
       let p = bit_part_of m b.at in
-      let here : renamed from to (name_of b.at.zero) ≡ BitOf to =
-      ap (renamed from to) (sym (ap (λ (t : Tree V). name_of t) tree) ∙ named) ∙ renamed_to from to room same in
-      let there : renamed from to (name_of b.at.one) ≡ name_of b.at.one = renamed_off from to b.at.one none in
-      ap (λ (z : Node). Some (record (bit_part_of m b.at) { zero = z; one = renamed from to (name_of b.at.one) })) here
-      ∙ ap (λ (z : Node). Some (record (bit_part_of m b.at) { zero = BitOf to; one = z })) there
-      ∙ sym (zero_turned key (BitOf to) (bit_part_of m b.at) clear)
+      let here = ap (renamed from to) (sym (ap name_of tree) ∙ named) ∙ renamed_to from to room same in
+      let there = renamed_off from to b.at.one none in
+      ap (λ z. Some (record (bit_part_of m b.at) { zero = z; one = renamed from to (name_of b.at.one) })) here
+      ∙ ap (λ z. Some (record (bit_part_of m b.at) { zero = BitOf to; one = z })) there ∙ sym (zero_turned key (BitOf to) (bit_part_of m b.at) clear)
 
   one_named : (m : Lodged V) (from to room : Id) (key : ℕ) {under over : Part m} (b : Beneath key under over) → name_of under.tree ≡ BitOf room
       → room.number ≡ from.number → under.tree ≡ b.at.one → bit_at b.at.bit key ≡ 1 → forks_at from.number b.at.zero ≡ 0
       → with_renamed from to (Some (bit_part_of m b.at)) ≡ with_child key (BitOf to) (Some (bit_part_of m b.at))
   one_named m from to room key b named same tree set none =
-      let here : renamed from to (name_of b.at.one) ≡ BitOf to =
-      ap (renamed from to) (sym (ap (λ (t : Tree V). name_of t) tree) ∙ named) ∙ renamed_to from to room same in
-      let there : renamed from to (name_of b.at.zero) ≡ name_of b.at.zero = renamed_off from to b.at.zero none in
-      ap (λ (z : Node). Some (record (bit_part_of m b.at) { zero = renamed from to (name_of b.at.zero); one = z })) here
-      ∙ ap (λ (z : Node). Some (record (bit_part_of m b.at) { zero = z; one = BitOf to })) there
-      ∙ sym (one_turned key (BitOf to) (bit_part_of m b.at) set)
+      let here = ap (renamed from to) (sym (ap name_of tree) ∙ named) ∙ renamed_to from to room same in
+      let there = renamed_off from to b.at.zero none in
+      ap (λ z. Some (record (bit_part_of m b.at) { zero = renamed from to (name_of b.at.zero); one = z })) here
+      ∙ ap (λ z. Some (record (bit_part_of m b.at) { zero = z; one = BitOf to })) there ∙ sym (one_turned key (BitOf to) (bit_part_of m b.at) set)
 
   -- to name the room by its number is to turn the bit node above on the side of the way
   over_named : (m : Lodged V) (from to room : Id) (key : ℕ) (under over : Part m) (b : Beneath key under over) → AreOnce over.tree
@@ -105,13 +95,12 @@ module _ {V : Type 0} where
       → with_renamed from to (bits_in m b.room.number) ≡ with_child key (BitOf to) (bits_in m b.room.number)
   over_named m from to room key under over b once some named same =
       let said = (fork_stands m b.at).0 in
-      let sum : forks_at from.number over.tree ≡ one_if (b.room.number == from.number) + (forks_at from.number b.at.zero + forks_at from.number b.at.one) =
-      ap (λ (t : Tree V). forks_at from.number t) b.at.is in
-      let most : forks_at from.number over.tree ≤ 1 = once.forks from.number in
+      let sum = ap (forks_at from.number) b.at.is in
+      let most = once.forks from.number in
       ap (with_renamed from to) said ∙ elim b.side [
-        | inl e ↦ let is : forks_at from.number under.tree ≡ forks_at from.number b.at.zero = ap (λ (t : Tree V). forks_at from.number t) e.0 in
+        | inl e ↦ let is = ap (forks_at from.number) e.0 in
             zero_named m from to room key b named same e.0 e.1 (omega arith)
-        | inr e ↦ let is : forks_at from.number under.tree ≡ forks_at from.number b.at.one = ap (λ (t : Tree V). forks_at from.number t) e.0 in
+        | inr e ↦ let is = ap (forks_at from.number) e.0 in
             one_named m from to room key b named same e.0 e.1 (omega arith)
       ] ∙ sym (ap (with_child key (BitOf to)) said)
 
@@ -119,16 +108,16 @@ module _ {V : Type 0} where
       → AreOnce whole.tree → 1 ≤ forks_at from.number at.tree → name_of at.tree ≡ BitOf room → room.number ≡ from.number
       → (k : ℕ) → rename at.above from to k (bits_in m k) ≡ name_child at.above key (BitOf to) k (bits_in m k)
   spine_named m from to room key whole at [] way top once some named same k =
-      let none : at.above ≡ None = ap (λ (p : Part m). p.above) way ∙ top in
-      ap (λ (o : Option Id). rename o from to k (bits_in m k)) none ∙ sym (ap (λ (o : Option Id). name_child o key (BitOf to) k (bits_in m k)) none)
+      let none = ap (λ p. p.above) way ∙ top in
+      ap (λ o. rename o from to k (bits_in m k)) none ∙ sym (ap (λ o. name_child o key (BitOf to) k (bits_in m k)) none)
   spine_named m from to room key whole at (p ∷ ps) way top once some named same k =
       let b = way.0 in
-      ap (λ (o : Option Id). rename o from to k (bits_in m k)) b.above ∙ elim (k == b.room.number) as (λ t. (k == b.room.number) ≡ t
+      ap (λ o. rename o from to k (bits_in m k)) b.above ∙ elim (k == b.room.number) as (λ t. (k == b.room.number) ≡ t
       → (if t then with_renamed from to (bits_in m k) else bits_in m k) ≡ (if t then with_child key (BitOf to) (bits_in m k) else bits_in m k)) [
-        | true ↦ λ e. subst (λ (j : ℕ). with_renamed from to (bits_in m j) ≡ with_child key (BitOf to) (bits_in m j)) (sym (eqb-true k b.room.number e))
+        | true ↦ λ e. subst (λ j. with_renamed from to (bits_in m j) ≡ with_child key (BitOf to) (bits_in m j)) (sym (eqb-true k b.room.number e))
             (over_named m from to room key at p b (way_once key whole p ps way.1 once) some named same)
         | false ↦ λ e. refl
-      ] refl ∙ sym (ap (λ (o : Option Id). name_child o key (BitOf to) k (bits_in m k)) b.above)
+      ] refl ∙ sym (ap (λ o. name_child o key (BitOf to) k (bits_in m k)) b.above)
 
   -- ---- the exchange
   pub exchange : (m new : Lodged V) {root : Node} (from to : Id) (n : BitNode) (v : IsMove m root from to n) (d : IsMoved m new from to n)
@@ -137,17 +126,15 @@ module _ {V : Type 0} where
     low = refl;
     above = refl;
     keys = λ c value before have. subst (HaveBit c value) v.f.is have;
-    leaves = λ k none some. let sum : leaves_at k v.at.tree ≡ leaves_at k v.f.zero + leaves_at k v.f.one = at_leaves v k in
+    leaves = λ k none some. let sum = at_leaves v k in
         d.leaves k ∙ misses_leaf n.one k (leaf_off v.f.one k v.right (omega arith)) (Some to) (lift_leaf n.zero (Some to) k (leaves_in m k))
         ∙ misses_leaf n.zero k (leaf_off v.f.zero k v.left (omega arith)) (Some to) (leaves_in m k);
-    bits = λ k none some. let sum : forks_at k v.at.tree ≡ one_if (v.room.number == k) + (forks_at k v.f.zero + forks_at k v.f.one) = at_forks v k in
-        let own : 1 ≤ forks_at from.number v.at.tree = from_in m from to n v in
-        bit_lifts m new from to n d k (out_not_from m from to n v k none) (not_to m v k some)
-        ∙ ap (λ (o : Option BitPart). rename n.above from to k o)
+    bits = λ k none some. let sum = at_forks v k in
+        let own = from_in m from to n v in
+        bit_lifts m new from to n d k (out_not_from m from to n v k none) (not_to m v k some) ∙ ap (rename n.above from to k)
         (misses_bit n.one k (bit_off v.f.one k v.right (omega arith)) (Some to) (lift_bit n.zero (Some to) k (bits_in m k))
-        ∙ misses_bit n.zero k (bit_off v.f.zero k v.left (omega arith)) (Some to) (bits_in m k))
-        ∙ ap (λ (o : Option Id). rename o from to k (bits_in m k)) v.above
-        ∙ spine_named m from to v.room v.key v.whole.part v.at v.ups v.way v.whole.top v.once own (ap (λ (t : Tree V). name_of t) v.f.is) v.number k;
+        ∙ misses_bit n.zero k (bit_off v.f.zero k v.left (omega arith)) (Some to) (bits_in m k)) ∙ ap (λ o. rename o from to k (bits_in m k)) v.above
+        ∙ spine_named m from to v.room v.key v.whole.part v.at v.ups v.way v.whole.top v.once own (ap name_of v.f.is) v.number k;
   }
 
   -- the masks stay, and the lists with them
@@ -155,11 +142,9 @@ module _ {V : Type 0} where
       → MarkedLists (heads_in new) (masks_in new) v.at.low (fork to v.f.bit v.f.zero v.f.one)
   lists_moved m new from to n v d =
       let old = subst (MarkedLists (heads_in m) (masks_in m) v.at.low) v.f.is (lists_on_way m v.key v.whole.part v.at v.ups v.way v.whole.lists) in
-      let head : heads_in new to.number ≡ heads_in m v.room.number =
-      d.heads to.number ∙ at_room to to.number (head_part (Some n)) (put_head from None to.number (heads_in m to.number)) refl ∙ sym v.head
+      let head = d.heads to.number ∙ at_room to to.number (head_part (Some n)) (put_head from None to.number (heads_in m to.number)) refl ∙ sym v.head
       ∙ ap (heads_in m) (sym v.number) in
-      let stays : (k : ℕ) → 1 ≤ forks_at k v.f.zero + forks_at k v.f.one → heads_in new k ≡ heads_in m k =
-      λ k some. let le : forks_at k v.f.zero + forks_at k v.f.one ≤ forks_at k v.whole.part.tree = beneath_whole m v k in
+      let stays : (k : ℕ) → 1 ≤ forks_at k v.f.zero + forks_at k v.f.one → heads_in new k ≡ heads_in m k = λ k some. let le = beneath_whole m v k in
       head_stays m new from to n d k (not_from from to v k some) (not_to m v k (omega arith)) in (
         list_kept (masks_in m) (masks_in new) (fork to v.f.bit v.f.zero v.f.one) d.masks head old.0,
         lists_kept (heads_in m) (heads_in new) (masks_in m) (masks_in new) (v.f.bit + 1) v.f.zero d.masks (λ k some. stays k (omega arith)) old.1,
@@ -172,19 +157,17 @@ module _ {V : Type 0} where
   count_moved m new from to n v d k =
       let other = apart m n v in
       elim (same_or_not to.number k) [
-        | inl same ↦ let a : one_if (to.number == k) ≡ 1 = one_if_is k same in
-            let b : one_if (is_some (bits_in m k)) ≡ 0 = ap (λ (o : Option BitPart). one_if (is_some o)) (ap (bits_in m) (sym same) ∙ v.takes.free) in
-            let c : one_if (v.room.number == k) ≡ 0 = one_if_not v.room.number k (λ (e : v.room.number ≡ k). other (sym v.number ∙ e ∙ sym same)) in
-            let e : one_if (is_some (bits_in new k)) ≡ 1 = ap one_if (used_to m new from to n d k (sym same)) in omega arith
-        | inr off ↦ let a : one_if (to.number == k) ≡ 0 = one_if_not to.number k off in
+        | inl same ↦ let a = one_if_is k same in
+            let b = ap (λ o. one_if (is_some o)) (ap (bits_in m) (sym same) ∙ v.takes.free) in
+            let c = one_if_not v.room.number k (λ (e : v.room.number ≡ k). other (sym v.number ∙ e ∙ sym same)) in
+            let e = ap one_if (used_to m new from to n d k (sym same)) in omega arith
+        | inr off ↦ let a = one_if_not to.number k off in
             elim (same_or_not v.room.number k) [
-              | inl same ↦ let b : one_if (is_some (bits_in m k)) ≡ 1 =
-                  ap (λ (o : Option BitPart). one_if (is_some o)) (ap (bits_in m) (sym same) ∙ (fork_stands m v.f).0) in
-                  let c : one_if (v.room.number == k) ≡ 1 = one_if_is k same in
-                  let e : one_if (is_some (bits_in new k)) ≡ 0 = ap one_if (used_from m new from to n d other k (sym same ∙ v.number)) in omega arith
-              | inr far ↦ let c : one_if (v.room.number == k) ≡ 0 = one_if_not v.room.number k far in
-                  let e : one_if (is_some (bits_in new k)) ≡ one_if (is_some (bits_in m k)) =
-                  ap one_if (used_stays m new from to n d k (λ (s : k ≡ from.number). far (v.number ∙ sym s))
+              | inl same ↦ let b = ap (λ o. one_if (is_some o)) (ap (bits_in m) (sym same) ∙ (fork_stands m v.f).0) in
+                  let c = one_if_is k same in
+                  let e = ap one_if (used_from m new from to n d other k (sym same ∙ v.number)) in omega arith
+              | inr far ↦ let c = one_if_not v.room.number k far in
+                  let e = ap one_if (used_stays m new from to n d k (λ (s : k ≡ from.number). far (v.number ∙ sym s))
                   (λ (s : k ≡ to.number). off (sym s))) in omega arith
             ]
       ]
@@ -193,13 +176,11 @@ module _ {V : Type 0} where
       → Fits m new v.whole.part v.at (under_of v d) nobody_late nobody_late (out_at from.number) (out_at from.number)
   fits m new from to n v d = record {
     leaves = λ k.
-        let sum : leaves_at k v.at.tree ≡ leaves_at k v.f.zero + leaves_at k v.f.one = at_leaves v k in
-        let used : one_if (is_some (leaves_in new k)) ≡ one_if (is_some (leaves_in m k)) =
-        ap one_if (content_used (leaves_in new k) (leaves_in m k) (contents_stay to d k)) in omega arith;
+        let sum = at_leaves v k in
+        let used = ap one_if (content_used (leaves_in new k) (leaves_in m k) (contents_stay to d k)) in omega arith;
     forks = λ k.
-        let sum : forks_at k v.at.tree ≡ one_if (v.room.number == k) + (forks_at k v.f.zero + forks_at k v.f.one) = at_forks v k in
-        let used : one_if (to.number == k) + one_if (is_some (bits_in m k)) ≡ one_if (v.room.number == k) + one_if (is_some (bits_in new k)) =
-        count_moved m new from to n v d k in omega arith;
+        let sum = at_forks v k in
+        let used = count_moved m new from to n v d k in omega arith;
     heads = λ k none some. head_stays m new from to n d k (out_not_from m from to n v k none) (not_to m v k some);
     masks = λ k none some. d.masks k;
     masks_above = λ y is below marked. d.masks y.room.number;

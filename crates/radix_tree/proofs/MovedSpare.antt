@@ -1,7 +1,7 @@
 -- In each chain at most one bit node is in use, also where one has moved to another room.
-use Rattle.radix_tree.proofs.Words.{◌≡◌, ℕ, ◌+◌, ◌≤◌, ◌==◌, true, List, [], ◌∷◌, Option, Some, None, refl, sym, ap, ◌∙◌, inl, inr, arith, eqb-true}
-use Rattle.radix_tree.proofs.Words.{eq-eqb, Id, Placed, Tree, leaf, fork, IsChain, IsTree, LeafPart, Bits, leaves_in, bits_in, ChainStands, Stands}
-use Rattle.radix_tree.proofs.Words.{one_if, members_at, leaves_at, AreIdle, HasOneFork, HaveOneFork, is_of_key, has_key, CanTake, Lodged}
+use Rattle.radix_tree.proofs.Words.{◌≡◌, ℕ, ◌+◌, ◌≤◌, true, List, [], ◌∷◌, Option, Some, None, refl, sym, ap, ◌∙◌, inl, inr, arith, eqb-true, eq-eqb, Id}
+use Rattle.radix_tree.proofs.Words.{Placed, Tree, leaf, fork, IsChain, IsTree, LeafPart, Bits, leaves_in, bits_in, ChainStands, Stands, members_at}
+use Rattle.radix_tree.proofs.Words.{leaves_at, AreIdle, HasOneFork, HaveOneFork, is_of_key, has_key, CanTake, Lodged}
 use Rattle.radix_tree.proofs.MovedReads.{same_or_not, none_or_some, one_if_is, one_if_not}
 
 module _ {V : Type 0} where
@@ -10,13 +10,13 @@ module _ {V : Type 0} where
   chain_idle_stays : (B C : Bits) (c : List (Placed V)) → ((n : ℕ) → 1 ≤ members_at n c → B n ≡ None → C n ≡ None) → AreIdle B c → AreIdle C c
   chain_idle_stays B C [] none idle = tt
   chain_idle_stays B C (x ∷ xs) none idle =
-      let here : one_if (x.room.number == x.room.number) ≡ 1 = one_if_is {a = x.room.number} x.room.number refl in
+      let here = one_if_is {a = x.room.number} x.room.number refl in
       (none x.room.number (omega arith) idle.0, chain_idle_stays B C xs (λ n some. none n (omega arith)) idle.1)
 
   pub chain_stays : (B C : Bits) (c : List (Placed V)) → ((n : ℕ) → 1 ≤ members_at n c → B n ≡ None → C n ≡ None) → HasOneFork B c → HasOneFork C c
   chain_stays B C [] none spare = tt
   chain_stays B C (x ∷ xs) none spare =
-      let here : one_if (x.room.number == x.room.number) ≡ 1 = one_if_is {a = x.room.number} x.room.number refl in
+      let here = one_if_is {a = x.room.number} x.room.number refl in
       elim spare [
         | inl idle ↦ inl (chain_idle_stays B C xs (λ n some. none n (omega arith)) idle)
         | inr rest ↦ inr (none x.room.number (omega arith) rest.0, chain_stays B C xs (λ n some. none n (omega arith)) rest.1)
@@ -26,17 +26,16 @@ module _ {V : Type 0} where
   all_idle : (C : Bits) (c : List (Placed V)) → ((n : ℕ) → 1 ≤ members_at n c → C n ≡ None) → AreIdle C c
   all_idle C [] none = tt
   all_idle C (x ∷ xs) none =
-      let here : one_if (x.room.number == x.room.number) ≡ 1 = one_if_is {a = x.room.number} x.room.number refl in
+      let here = one_if_is {a = x.room.number} x.room.number refl in
       (none x.room.number (omega arith), all_idle C xs (λ n some. none n (omega arith)))
 
   one_at : (C : Bits) (to : ℕ) (c : List (Placed V)) → members_at to c ≤ 1 → ((n : ℕ) → 1 ≤ members_at n c → (n ≡ to → ⊥) → C n ≡ None) → HasOneFork C c
   one_at C to [] most none = tt
   one_at C to (x ∷ xs) most none =
-      let here : one_if (x.room.number == x.room.number) ≡ 1 = one_if_is {a = x.room.number} x.room.number refl in
+      let here = one_if_is {a = x.room.number} x.room.number refl in
       elim (same_or_not x.room.number to) [
-        | inl same ↦ let own : one_if (x.room.number == to) ≡ 1 = one_if_is to same in
-            inl (all_idle C xs (λ n some. none n (omega arith)
-            (λ (e : n ≡ to). let is : members_at n xs ≡ members_at to xs = ap (λ (k : ℕ). members_at k xs) e in
+        | inl same ↦ let own = one_if_is to same in
+            inl (all_idle C xs (λ n some. none n (omega arith) (λ (e : n ≡ to). let is = ap (λ k. members_at k xs) e in
             omega arith)))
         | inr other ↦ inr (none x.room.number (omega arith) other, one_at C to xs (omega arith) (λ n some. none n (omega arith)))
       ]
@@ -46,8 +45,8 @@ module _ {V : Type 0} where
       → IsChain key top c → (n : ℕ) → 1 ≤ members_at n c → has_key m key n ≡ true
   chain_keyed m above previous key top [] stands is n some = absurd (omega arith)
   chain_keyed m above previous key top (x ∷ xs) stands is n some = elim (same_or_not x.room.number n) [
-    | inl same ↦ ap (λ (k : ℕ). has_key m key k) (sym same) ∙ ap (is_of_key key) stands.0 ∙ eq-eqb x.entry.key key is.1
-    | inr other ↦ let off : one_if (x.room.number == n) ≡ 0 = one_if_not x.room.number n other in
+    | inl same ↦ ap (has_key m key) (sym same) ∙ ap (is_of_key key) stands.0 ∙ eq-eqb x.entry.key key is.1
+    | inr other ↦ let off = one_if_not x.room.number n other in
         chain_keyed m None (Some x.room) key x.entry.rank xs stands.1 is.3 n (omega arith)
   ]
 
@@ -68,13 +67,11 @@ module _ {V : Type 0} where
       → CanTake m from to → HaveOneFork (bits_in m) t → HaveOneFork C t
   moved_spare m C to above low (leaf x xs) is stands once none off takes spare = elim (none_or_some (members_at to.number (x ∷ xs))) [
     | inl out ↦ chain_stays (bits_in m) C (x ∷ xs)
-        (λ n some. none n some (λ (e : n ≡ to.number). let same : members_at n (x ∷ xs) ≡ members_at to.number (x ∷ xs) =
-        ap (λ (k : ℕ). members_at k (x ∷ xs)) e in omega arith)) spare
-    | inr there ↦ let keyed : (n : ℕ) → 1 ≤ members_at n (x ∷ xs)
-        → has_key m x.entry.key n ≡ true = chain_keyed m above None x.entry.key 34 (x ∷ xs) stands is.1 in
+        (λ n some. none n some (λ (e : n ≡ to.number). let same = ap (λ k. members_at k (x ∷ xs)) e in omega arith)) spare
+    | inr there ↦ let keyed = chain_keyed m above None x.entry.key 34 (x ∷ xs) stands is.1 in
         let p = of_key x.entry.key (leaves_in m to.number) (keyed to.number there) in
         one_at C to.number (x ∷ xs) once
-        (λ n some other. none n some other (takes.idle p.part p.is n (ap (λ (k : ℕ). has_key m k n) p.key_is ∙ keyed n some) (off n some)))
+        (λ n some other. none n some other (takes.idle p.part p.is n (ap (λ k. has_key m k n) p.key_is ∙ keyed n some) (off n some)))
   ]
   moved_spare m C to above low (fork room b zero one) is stands once none off takes spare = (
     moved_spare m C to (Some room) (b + 1) zero is.1 stands.1 (omega arith) (λ n some. none n (omega arith)) (λ n some. off n (omega arith)) takes spare.0,

@@ -1,28 +1,28 @@
 -- A bit node in use moves from its room to another: the whole afterwards.
-use Rattle.radix_tree.proofs.Words.{◌≡◌, ℕ, ◌+◌, ◌≤◌, ◌==◌, List, ◌++◌, Option, Some, refl, sym, ap, ◌∙◌, subst, arith, is_some, Id, Node, BitOf, BitNode}
-use Rattle.radix_tree.proofs.Words.{Tree, fork, routes_of, BitPart, leaves_in, bits_in, name_of, one_if, leaves_at, HaveOneFork, shown, root_after}
-use Rattle.radix_tree.proofs.Words.{Exchanged, IsWholeBut, nobody_late, out_at, Entry, Lodged}
 use Rattle.radix_tree.proofs.{Exchanging.exchanged, Plugs.spare_at, Plugs.spare_plug, WholeChanges.whole_changed, WholeRoutes.routes_changed}
 use Rattle.radix_tree.proofs.{MovedReads.none_of, MovedReads.one_if_most, MovedReads.one_if_is, MovedSpare.moved_spare, MoveWrites.IsMove}
 use Rattle.radix_tree.proofs.{MoveWrites.IsMoved, MoveWrites.used_stays, MovedRooms.under_of, MovedRooms.exchange, MovedRooms.fits}
+use Rattle.radix_tree.proofs.Words.{◌≡◌, ℕ, ◌≤◌, ◌++◌, Some, refl, sym, ap, ◌∙◌, subst, arith, is_some, Id, Node, BitOf, BitNode, fork, routes_of}
+use Rattle.radix_tree.proofs.Words.{leaves_in, bits_in, name_of, leaves_at, HaveOneFork, shown, root_after, Exchanged, IsWholeBut, nobody_late, out_at}
+use Rattle.radix_tree.proofs.Words.{Lodged}
 
 module _ {V : Type 0} where
   -- a room on its way out is no leaf of the tree
   pub out_leaf : (m : Lodged V) {root : Node} (from : ℕ) (w : IsWholeBut m root nobody_late (out_at from)) → leaves_at from w.part.tree ≡ 0
   out_leaf m from w =
-      let sum : leaves_at from w.part.tree + one_if (from == from) ≡ one_if (is_some (leaves_in m from)) = w.leaves from in
-      let own : one_if (from == from) ≡ 1 = one_if_is {a = from} from refl in
-      let most : one_if (is_some (leaves_in m from)) ≤ 1 = one_if_most (is_some (leaves_in m from)) in omega arith
+      let sum = w.leaves from in
+      let own = one_if_is {a = from} from refl in
+      let most = one_if_most (is_some (leaves_in m from)) in omega arith
 
   pub out_apart : (m : Lodged V) {root : Node} (from : ℕ) (w : IsWholeBut m root nobody_late (out_at from)) (k : ℕ) → 1 ≤ leaves_at k w.part.tree → k ≡ from → ⊥
   out_apart m from w k some same =
-      let none : leaves_at from w.part.tree ≡ 0 = out_leaf m from w in
-      let e : leaves_at k w.part.tree ≡ leaves_at from w.part.tree = ap (λ (j : ℕ). leaves_at j w.part.tree) same in omega arith
+      let none = out_leaf m from w in
+      let e = ap (λ j. leaves_at j w.part.tree) same in omega arith
 
   pub leaves_once : (m : Lodged V) {root : Node} (from k : ℕ) (w : IsWholeBut m root nobody_late (out_at from)) → leaves_at k w.part.tree ≤ 1
   leaves_once m from k w =
-      let sum : leaves_at k w.part.tree + one_if (k == from) ≡ one_if (is_some (leaves_in m k)) = w.leaves k in
-      let most : one_if (is_some (leaves_in m k)) ≤ 1 = one_if_most (is_some (leaves_in m k)) in omega arith
+      let sum = w.leaves k in
+      let most = one_if_most (is_some (leaves_in m k)) in omega arith
 
   -- in each chain of the tree of before at most one bit node is in use
   spare_before : (m new : Lodged V) {root : Node} (from to : Id) (n : BitNode) (v : IsMove m root from to n) → IsMoved m new from to n
@@ -31,7 +31,7 @@ module _ {V : Type 0} where
       let w = v.whole in
       moved_spare m (bits_in new) to w.part.above w.part.low w.part.tree w.part.is w.part.stands (leaves_once m from.number to.number w)
       (λ k some other none. none_of (bits_in new k) (used_stays m new from to n d k (out_apart m from.number w k some) other
-      ∙ ap (λ (o : Option BitPart). is_some o) none)) (out_apart m from.number w) v.takes w.spare
+      ∙ ap is_some none)) (out_apart m from.number w) v.takes w.spare
 
   abbrev name_now : {m : Lodged V} {root : Node} {from to : Id} {n : BitNode} → IsMove m root from to n → Node
   name_now {to = to} v = root_after v.at.above (BitOf to) (name_of v.whole.part.tree)
@@ -49,14 +49,13 @@ module _ {V : Type 0} where
       (spare_plug (bits_in new) (bits_in new) e.frames v.at.tree (fork to v.f.bit v.f.zero v.f.one) before own (λ y aside none. none))
 
   named_now : (m : Lodged V) {root : Node} {from : Id} (to : Id) (n : BitNode) (v : IsMove m root from to n) → name_now v ≡ root_after n.above (BitOf to) root
-  named_now m to n v =
-      ap (λ (o : Option Id). root_after o (BitOf to) (name_of v.whole.part.tree)) (sym v.above) ∙ ap (root_after n.above (BitOf to)) v.whole.named
+  named_now m to n v = ap (λ o. root_after o (BitOf to) (name_of v.whole.part.tree)) (sym v.above) ∙ ap (root_after n.above (BitOf to)) v.whole.named
 
   pub whole_moved : {m new : Lodged V} {root name : Node} (from to : Id) {n : BitNode} (v : IsMove m root from to n) (d : IsMoved m new from to n)
       → name ≡ root_after n.above (BitOf to) root → IsWholeBut new name nobody_late (out_at from.number)
   whole_moved {m = m} {new = new} from to {n = n} v d is =
       let e = changed m new from to n v d in
-      subst (λ (z : Node). IsWholeBut new z nobody_late (out_at from.number)) (named_now m to n v ∙ sym is)
+      subst (λ z. IsWholeBut new z nobody_late (out_at from.number)) (named_now m to n v ∙ sym is)
       (whole_changed m new v.whole e (fits m new from to n v d) (spare_now m new from to n v d e))
 
   pub routes_moved : {m new : Lodged V} {root name : Node} (from to : Id) {n : BitNode} (v : IsMove m root from to n) (d : IsMoved m new from to n)
@@ -64,5 +63,5 @@ module _ {V : Type 0} where
   routes_moved {m = m} {new = new} from to {n = n} v d is =
       let e = changed m new from to n v d in
       let s = routes_changed v.whole e in
-      ap (λ (z : Node). shown new (Some z)) (is ∙ sym (named_now m to n v))
-      ∙ s.is_now ∙ ap (λ (rs : List (Entry V)). s.front ++ rs ++ s.back) (sym (ap (λ (t : Tree V). routes_of t) v.f.is)) ∙ sym s.was
+      ap (λ z. shown new (Some z)) (is ∙ sym (named_now m to n v))
+      ∙ s.is_now ∙ ap (λ rs. s.front ++ rs ++ s.back) (sym (ap routes_of v.f.is)) ∙ sym s.was

@@ -47,23 +47,22 @@ module _ {X : Type 0} where
   uses_list : (n : ℕ) (es : List (ℕ × X)) → T (is_sorted nat_cmp es) → uses n (numbers es) ≡ one_if (is_some (find nat_cmp n es))
   uses_list n [] sorted = refl
   uses_list n (e ∷ es) sorted =
-      let behind : uses n (numbers es) ≡ one_if (is_some (find nat_cmp n es)) = uses_list n es (both_second _ _ sorted) in
-      let cons : uses n (e.0 ∷ numbers es) ≡ cond (nat_eq e.0 n) 1 0 + uses n (numbers es) = sum_by-cons (λ k. cond (nat_eq k n) 1 0) e.0 (numbers es) in
+      let behind = uses_list n es (both_second _ _ sorted) in
+      let cons = sum_by-cons (λ k. cond (nat_eq k n) 1 0) e.0 (numbers es) in
       elim (n == e.0) as (λ b. (n == e.0) ≡ b → uses n (e.0 ∷ numbers es) ≡ one_if (is_some (cond b (Some e.1) (find nat_cmp n es)))) [
         | true ↦ λ is.
-            let same : n ≡ e.0 = eqb-true n e.0 is in
-            let gone : find nat_cmp n es ≡ None = subst (λ (k : ℕ). find nat_cmp k es ≡ None) (sym same) (none_below e.0 es (both_first _ _ sorted)) in
-            let none : one_if (is_some (find nat_cmp n es)) ≡ 0 = ap (λ (o : Option X). one_if (is_some o)) gone in
-            let here : ◌≡◌ {A = ℕ} (cond (nat_eq e.0 n) 1 0) 1 = ap (λ (b : Bool). one_of b) (eq-eqb e.0 n (sym same)) in
+            let same = eqb-true n e.0 is in
+            let gone = subst (λ k. find nat_cmp k es ≡ None) (sym same) (none_below e.0 es (both_first _ _ sorted)) in
+            let none = ap (λ o. one_if (is_some o)) gone in
+            let here = ap one_of (eq-eqb e.0 n (sym same)) in
             omega (arith, cons, behind, none, here)
         | false ↦ λ is.
-            let here : ◌≡◌ {A = ℕ} (cond (nat_eq e.0 n) 1 0) 0 =
-            ap (λ (b : Bool). one_of b) (ne_eqb e.0 n (λ (e_is : e.0 ≡ n). true_false (sym (eq-eqb n e.0 (sym e_is)) ∙ is))) in
+            let here = ap one_of (ne_eqb e.0 n (λ (e_is : e.0 ≡ n). true_false (sym (eq-eqb n e.0 (sym e_is)) ∙ is))) in
             omega (arith, cons, behind, here)
-      ] refl ∙ ap (λ (b : Bool). one_if (is_some (cond b (Some e.1) (find nat_cmp n es)))) (sym (unsigned_tied n e.0))
+      ] refl ∙ ap (λ b. one_if (is_some (cond b (Some e.1) (find nat_cmp n es)))) (sym (unsigned_tied n e.0))
 
   pub uses_keys : (m : FinMap nat_cmp X) (n : ℕ) → uses n (keys m) ≡ one_if (is_some (get m n))
-  uses_keys m n = uses_list n (entries m) (entries_sorted m) ∙ ap (λ (o : Option X). one_if (is_some o)) (sym (get-entries m n))
+  uses_keys m n = uses_list n (entries m) (entries_sorted m) ∙ ap (λ o. one_if (is_some o)) (sym (get-entries m n))
 
 -- ---- rooms that come and go
 no_use : (b : Bool) → one_if b ≡ 0 → b ≡ false
@@ -78,13 +77,12 @@ more_by : (n room : ℕ) {now : Bool} (was : Bool) → now ≡ (n == room) || wa
 more_by n room {now = now} was is free =
     elim (n == room) as (λ b. (n == room) ≡ b → now ≡ b || was → one_if now ≡ one_if was + (if room == n then 1 else 0)) [
       | true ↦ λ same now_is.
-          let here : ◌≡◌ {A = ℕ} (cond (nat_eq room n) 1 0) 1 = ap (λ (b : Bool). one_of b) (eq-eqb room n (sym (eqb-true n room same))) in
-          let before : one_if was ≡ 0 = ap (λ (b : Bool). one_if b) (free (eqb-true n room same)) in
-          let after : one_if now ≡ 1 = ap (λ (b : Bool). one_if b) now_is in omega (arith, here, before, after)
+          let here = ap one_of (eq-eqb room n (sym (eqb-true n room same))) in
+          let before = ap one_if (free (eqb-true n room same)) in
+          let after = ap one_if now_is in omega (arith, here, before, after)
       | false ↦ λ other now_is.
-          let here : ◌≡◌ {A = ℕ} (cond (nat_eq room n) 1 0) 0 =
-          ap (λ (b : Bool). one_of b) (ne_eqb room n (λ (e : room ≡ n). true_false (sym (eq-eqb n room (sym e)) ∙ other))) in
-          let after : one_if now ≡ one_if was = ap (λ (b : Bool). one_if b) now_is in omega (arith, here, after)
+          let here = ap one_of (ne_eqb room n (λ (e : room ≡ n). true_false (sym (eq-eqb n room (sym e)) ∙ other))) in
+          let after = ap one_if now_is in omega (arith, here, after)
     ] refl is
 
 module _ {V : Type 0} where
@@ -93,31 +91,31 @@ module _ {V : Type 0} where
   leaf_there (Some s) = refl
 
   pub uses_leaves : (m : Lodged V) (n : ℕ) → uses n (keys m) ≡ one_if (is_some (leaves_in m n))
-  uses_leaves m n = uses_keys m n ∙ ap (λ (b : Bool). one_if b) (sym (leaf_there (get m n)))
+  uses_leaves m n = uses_keys m n ∙ ap one_if (sym (leaf_there (get m n)))
 
   -- a room that is not in use is not in the map
   pub free_room : (m : Lodged V) (n : ℕ) → uses n (keys m) ≡ 0 → get m n ≡ None
   free_room m n unused = none_of (get m n) (no_use (is_some (get m n)) (sym (uses_keys m n) ∙ unused))
 
   pub unused_room : (m : Lodged V) (n : ℕ) → get m n ≡ None → uses n (keys m) ≡ 0
-  unused_room m n free = uses_keys m n ∙ ap (λ (o : Option (Seen V)). one_if (is_some o)) free
+  unused_room m n free = uses_keys m n ∙ ap (λ o. one_if (is_some o)) free
 
   -- a room that was made is not in use
   pub made_free : {E : Type 0} (nodes : Rooms V) (root : Option Node) (t : Contents V) → contents nodes root ≡ t → (r : Result ℕ E)
       → IfOk r (λ n. (n ≡ nodes.next) × (get nodes.lodged n ≡ None)) → IfOk r (λ n. (n ≡ t.next) × (uses n t.numbers ≡ 0))
   made_free nodes root t view (Ok n) made =
-      (made.0 ∙ ap (λ (t : Contents V). t.next) view, ap (λ (t : Contents V). uses n t.numbers) (sym view) ∙ unused_room nodes.lodged n made.1)
+      (made.0 ∙ ap (λ t. t.next) view, ap (λ t. uses n t.numbers) (sym view) ∙ unused_room nodes.lodged n made.1)
   made_free nodes root t view (Err e) made = tt
 
   -- a room more is one use more
   pub used_more : (m new : Lodged V) (room : ℕ) → get m room ≡ None → HasRoomMore m new room → (n : ℕ)
       → uses n (keys new) ≡ uses n (keys m) + (if room == n then 1 else 0)
   used_more m new room free more n =
-      let now : uses n (keys new) ≡ one_if (is_some (leaves_in new n)) = uses_leaves new n in
-      let was : uses n (keys m) ≡ one_if (is_some (leaves_in m n)) = uses_leaves m n in
-      let step = more_by n room (is_some (leaves_in m n)) (more n) (λ (e : n ≡ room). ap (λ (k : ℕ). is_some (leaves_in m k)) e
-      ∙ ap (λ (o : Option (Seen V)). is_some (leaf_in o)) free) in
-      now ∙ step ∙ ap (λ (u : ℕ). u + (if room == n then 1 else 0)) (sym was)
+      let now = uses_leaves new n in
+      let was = uses_leaves m n in
+      let step = more_by n room (is_some (leaves_in m n)) (more n) (λ (e : n ≡ room). ap (λ k. is_some (leaves_in m k)) e
+      ∙ ap (λ o. is_some (leaf_in o)) free) in
+      now ∙ step ∙ ap (λ u. u + (if room == n then 1 else 0)) (sym was)
 
 -- no room is in use at first
 no_length : {A : Type 0} (es : List A) → length es ≡ 0 → es ≡ []
@@ -125,8 +123,7 @@ no_length [] e = refl
 no_length (x ∷ es) e = absurd (omega (arith, e))
 
 pub no_keys : (X : Type 0) → keys (empty {X = X} {R = nat_cmp}) ≡ []
-no_keys X = ap (λ (es : List (ℕ × X)). numbers es) (no_length (entries (empty {X = X} {R = nat_cmp}))
-    (sym (len-entries (empty {X = X} {R = nat_cmp})) ∙ len-empty nat_cmp X))
+no_keys X = ap numbers (no_length (entries (empty {X = X} {R = nat_cmp})) (sym (len-entries (empty {X = X} {R = nat_cmp})) ∙ len-empty nat_cmp X))
 
 -- ---- a room that is written again
 less_of : (o : Ordering) (P Q R : Type 0) → T (is_lt o) → MatchOrdering o P Q R → P
@@ -146,8 +143,8 @@ module _ {X : Type 0} where
   not_later k a (e ∷ es) less sorted =
       elim (eq_by_cmp nat_cmp k e.0) as (λ b. eq_by_cmp nat_cmp k e.0 ≡ b → cond b (Some e.1) (find nat_cmp k es) ≡ None) [
         | true ↦ λ is.
-            let tied : k ≡ e.0 = eqb-true k e.0 (sym (unsigned_tied k e.0) ∙ is) in
-            let further : a < e.0 = below a e.0 (both_first _ _ sorted) in absurd (omega (arith, less, further, tied))
+            let tied = eqb-true k e.0 (sym (unsigned_tied k e.0) ∙ is) in
+            let further = below a e.0 (both_first _ _ sorted) in absurd (omega (arith, less, further, tied))
         | false ↦ λ is. not_later k a es less (both_second _ _ sorted)
       ] refl
 
@@ -157,9 +154,9 @@ module _ {X : Type 0} where
       → numbers (by_order o ((k, v) ∷ e ∷ es) ((e.0, v) ∷ es) (e ∷ put nat_cmp k v es)) ≡ e.0 ∷ numbers es) [
         | Less ↦ λ is at. absurd (no_some (sym (not_later k e.0 es (ranked k e.0 Less (sym is)) (both_first _ _ sorted)) ∙ at))
         | Equal ↦ λ is at. refl
-        | Greater ↦ λ is at. ap (λ (ns : List ℕ). e.0 ∷ ns) (put_keys k v c es (both_second _ _ sorted) at)
+        | Greater ↦ λ is at. ap (λ ns. e.0 ∷ ns) (put_keys k v c es (both_second _ _ sorted) at)
       ] refl found
 
   pub insert_keys : (m : FinMap nat_cmp X) (k : ℕ) (v c : X) → get m k ≡ Some c → keys (insert m k v) ≡ keys m
   insert_keys m k v c at =
-      ap (λ (es : List (ℕ × X)). numbers es) (entries-insert nat_cmp_total m k v) ∙ put_keys k v c (entries m) (entries_sorted m) (sym (get-entries m k) ∙ at)
+      ap numbers (entries-insert nat_cmp_total m k v) ∙ put_keys k v c (entries m) (entries_sorted m) (sym (get-entries m k) ∙ at)

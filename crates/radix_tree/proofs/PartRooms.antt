@@ -1,9 +1,8 @@
 -- The rooms of a tree that stay, the bit node above a part, and how often a room is in a part and in what is above it.
-use Rattle.radix_tree.proofs.Words.{◌≡◌, ℕ, ◌+◌, ◌≤◌, ◌==◌, Bool, false, if◌then◌else◌, List, [], ◌∷◌, Option, Some, None, refl, sym, ap, ◌∙◌, arith, inl}
-use Rattle.radix_tree.proofs.Words.{inr, eq-eqb, ne_eqb, Id, Node, Placed, Tree, leaf, fork, bit_at, BitPart, Leaves, Bits, Part, leaves_in, bits_in}
-use Rattle.radix_tree.proofs.Words.{name_of, ChainStands, Stands, ForkAt, Beneath, Way, one_if, members_at, leaves_at, forks_at, with_child, AreOnce}
-use Rattle.radix_tree.proofs.Words.{Lodged}
 use Rattle.radix_tree.proofs.{AddressBits.zero_not_one, Parts.fork_stands}
+use Rattle.radix_tree.proofs.Words.{◌≡◌, ℕ, ◌+◌, ◌≤◌, ◌==◌, if◌then◌else◌, List, [], ◌∷◌, Option, Some, None, refl, sym, ap, ◌∙◌, arith, inl, inr, eq-eqb}
+use Rattle.radix_tree.proofs.Words.{ne_eqb, Id, Node, Placed, Tree, leaf, fork, bit_at, BitPart, Leaves, Bits, Part, leaves_in, bits_in, name_of}
+use Rattle.radix_tree.proofs.Words.{ChainStands, Stands, ForkAt, Beneath, Way, one_if, members_at, leaves_at, forks_at, with_child, AreOnce, Lodged}
 
 pub one_if_same : (n : ℕ) → one_if (n == n) ≡ 1
 one_if_same n = ap one_if (eq-eqb n n refl)
@@ -14,17 +13,16 @@ said room b zero one above = record { block = room.block; bit = b; zero = zero; 
 -- the bit node above names another node
 pub zero_turned : (address : ℕ) (name : Node) (p : BitPart) → bit_at p.bit address ≡ 0 → with_child address name (Some p) ≡ Some (record p { zero = name })
 zero_turned address name p clear =
-    let test : (bit_at p.bit address == 1) ≡ false = ne_eqb (bit_at p.bit address) 1 (λ set. zero_not_one clear set) in
-    ap (λ (t : Bool). Some (if t then record p { one = name } else record p { zero = name })) test
+    let test = ne_eqb (bit_at p.bit address) 1 (λ set. zero_not_one clear set) in
+    ap (λ t. Some (if t then record p { one = name } else record p { zero = name })) test
 
 pub one_turned : (address : ℕ) (name : Node) (p : BitPart) → bit_at p.bit address ≡ 1 → with_child address name (Some p) ≡ Some (record p { one = name })
-one_turned address name p set =
-    ap (λ (t : Bool). Some (if t then record p { one = name } else record p { zero = name })) (eq-eqb (bit_at p.bit address) 1 set)
+one_turned address name p set = ap (λ t. Some (if t then record p { one = name } else record p { zero = name })) (eq-eqb (bit_at p.bit address) 1 set)
 
 -- no other bit node of the tree is in its room
 pub elsewhere : (room : Id) (n many : ℕ) → 1 ≤ many → one_if (room.number == n) + many ≤ 1 → n ≡ room.number → ⊥
 elsewhere room n many some few same =
-    let one : one_if (room.number == n) ≡ 1 = ap (λ (k : ℕ). one_if (k == n)) (sym same) ∙ one_if_same n in omega arith
+    let one = ap (λ k. one_if (k == n)) (sym same) ∙ one_if_same n in omega arith
 
 module _ {V : Type 0} where
   -- ---- rooms that stay
@@ -32,7 +30,7 @@ module _ {V : Type 0} where
       → ChainStands L above previous c → ChainStands M above previous c
   chain_frame L M above previous [] same stands = tt
   chain_frame L M above previous (x ∷ c) same stands = (
-    same x.room.number (let one : one_if (x.room.number == x.room.number) ≡ 1 = one_if_same x.room.number in omega arith) ∙ stands.0,
+    same x.room.number (let one = one_if_same x.room.number in omega arith) ∙ stands.0,
     chain_frame L M None (Some x.room) c (λ n some. same n (omega arith)) stands.1,
   )
 
@@ -40,7 +38,7 @@ module _ {V : Type 0} where
       → ((n : ℕ) → 1 ≤ forks_at n t → C n ≡ B n) → Stands L B above t → Stands M C above t
   frame L M B C above (leaf x xs) leaves forks stands = chain_frame L M above None (x ∷ xs) leaves stands
   frame L M B C above (fork room b zero one) leaves forks stands = (
-    forks room.number (let one : one_if (room.number == room.number) ≡ 1 = one_if_same room.number in omega arith) ∙ stands.0,
+    forks room.number (let one = one_if_same room.number in omega arith) ∙ stands.0,
     frame L M B C (Some room) zero (λ n some. leaves n (omega arith)) (λ n some. forks n (omega arith)) stands.1,
     frame L M B C (Some room) one (λ n some. leaves n (omega arith)) (λ n some. forks n (omega arith)) stands.2,
   )
@@ -53,10 +51,10 @@ module _ {V : Type 0} where
   -- how often a room is in a bit node's tree
   pub fork_forks : (m : Lodged V) {over : Part m} {room : Id} (f : ForkAt over room) (n : ℕ)
       → forks_at n over.tree ≡ one_if (room.number == n) + (forks_at n f.zero + forks_at n f.one)
-  fork_forks m f n = ap (λ (t : Tree V). forks_at n t) f.is
+  fork_forks m f n = ap (forks_at n) f.is
 
   pub fork_leaves : (m : Lodged V) {over : Part m} {room : Id} (f : ForkAt over room) (n : ℕ) → leaves_at n over.tree ≡ leaves_at n f.zero + leaves_at n f.one
-  fork_leaves m f n = ap (λ (t : Tree V). leaves_at n t) f.is
+  fork_leaves m f n = ap (leaves_at n) f.is
 
   -- to name it as before changes nothing
   pub same_turned : (m : Lodged V) (address : ℕ) (under over : Part m) (name : Node) (b : Beneath address under over) → name ≡ name_of under.tree
@@ -66,9 +64,9 @@ module _ {V : Type 0} where
       let old = (fork_stands m f).0 in
       old ∙ sym (ap (with_child address name) old ∙ elim b.side [
         | inl e ↦ zero_turned address name (said b.room f.bit (name_of f.zero) (name_of f.one) over.above) e.1
-            ∙ ap (λ (z : Node). Some (said b.room f.bit z (name_of f.one) over.above)) (is ∙ ap (λ (t : Tree V). name_of t) e.0)
+            ∙ ap (λ z. Some (said b.room f.bit z (name_of f.one) over.above)) (is ∙ ap name_of e.0)
         | inr e ↦ one_turned address name (said b.room f.bit (name_of f.zero) (name_of f.one) over.above) e.1
-            ∙ ap (λ (z : Node). Some (said b.room f.bit (name_of f.zero) z over.above)) (is ∙ ap (λ (t : Tree V). name_of t) e.0)
+            ∙ ap (λ z. Some (said b.room f.bit (name_of f.zero) z over.above)) (is ∙ ap name_of e.0)
       ])
 
   -- ---- all the way up
@@ -76,38 +74,33 @@ module _ {V : Type 0} where
       → (leaves_at n under.tree ≤ leaves_at n over.tree) × (forks_at n under.tree ≤ forks_at n over.tree)
   beneath_counts m address under over n b =
       let f = b.at in
-      let forks : forks_at n over.tree ≡ one_if (b.room.number == n) + (forks_at n f.zero + forks_at n f.one) = fork_forks m f n in
-      let leaves : leaves_at n over.tree ≡ leaves_at n f.zero + leaves_at n f.one = fork_leaves m f n in
+      let forks = fork_forks m f n in
+      let leaves = fork_leaves m f n in
       elim b.side [
-        | inl e ↦ let l : leaves_at n under.tree ≡ leaves_at n f.zero = ap (λ (t : Tree V). leaves_at n t) e.0 in
-            let k : forks_at n under.tree ≡ forks_at n f.zero =
-            ap (λ (t : Tree V). forks_at n t) e.0 in
+        | inl e ↦ let l = ap (leaves_at n) e.0 in let k = ap (forks_at n) e.0 in
             (omega arith, omega arith)
-        | inr e ↦ let l : leaves_at n under.tree ≡ leaves_at n f.one = ap (λ (t : Tree V). leaves_at n t) e.0 in
-            let k : forks_at n under.tree ≡ forks_at n f.one =
-            ap (λ (t : Tree V). forks_at n t) e.0 in
+        | inr e ↦ let l = ap (leaves_at n) e.0 in let k = ap (forks_at n) e.0 in
             (omega arith, omega arith)
       ]
 
   pub way_counts : (m : Lodged V) (address : ℕ) (whole at : Part m) (ups : List (Part m)) (n : ℕ) → Way address whole at ups
       → (leaves_at n at.tree ≤ leaves_at n whole.tree) × (forks_at n at.tree ≤ forks_at n whole.tree)
   way_counts m address whole at [] n way =
-      let l : leaves_at n at.tree ≡ leaves_at n whole.tree = ap (λ (p : Part m). leaves_at n p.tree) way in
-      let k : forks_at n at.tree ≡ forks_at n whole.tree = ap (λ (p : Part m). forks_at n p.tree) way in
+      let l = ap (λ p. leaves_at n p.tree) way in
+      let k = ap (λ p. forks_at n p.tree) way in
       (omega arith, omega arith)
   way_counts m address whole at (p ∷ ps) n way =
       let near = beneath_counts m address at p n way.0 in
       let far = way_counts m address whole p ps n way.1 in
-      let l : leaves_at n at.tree ≤ leaves_at n p.tree = near.0 in let k : forks_at n at.tree ≤ forks_at n p.tree = near.1 in
-      let l2 : leaves_at n p.tree ≤ leaves_at n whole.tree = far.0 in let k2 : forks_at n p.tree ≤ forks_at n whole.tree = far.1 in
+      let l = near.0 in let k = near.1 in
+      let l2 = far.0 in let k2 = far.1 in
       (omega arith, omega arith)
 
   pub way_once : {m : Lodged V} (address : ℕ) (whole at : Part m) (ups : List (Part m)) → Way address whole at ups → AreOnce whole.tree → AreOnce at.tree
   way_once {m = m} address whole at ups way once = record {
-    leaves = λ n. let le : leaves_at n at.tree ≤ leaves_at n whole.tree = (way_counts m address whole at ups n way).0 in
-        let most : leaves_at n whole.tree ≤ 1 = once.leaves n in omega arith;
-    forks = λ n. let le : forks_at n at.tree ≤ forks_at n whole.tree = (way_counts m address whole at ups n way).1 in let most : forks_at n whole.tree ≤ 1 =
-        once.forks n in omega arith;
+    leaves = λ n. let le = (way_counts m address whole at ups n way).0 in
+        let most = once.leaves n in omega arith;
+    forks = λ n. let le = (way_counts m address whole at ups n way).1 in let most = once.forks n in omega arith;
   }
 
   -- the room of the bit node above is not beneath it
@@ -116,15 +109,12 @@ module _ {V : Type 0} where
   spine_out m {address = address} under over b once =
       let f = b.at in
       let n = b.room.number in
-      let one : one_if (b.room.number == b.room.number) ≡ 1 = one_if_same b.room.number in
-      let forks : forks_at b.room.number over.tree ≡ one_if (b.room.number == b.room.number) + (forks_at b.room.number f.zero + forks_at b.room.number f.one) =
-      fork_forks m f b.room.number in
-      let most : forks_at b.room.number over.tree ≤ 1 = once.forks b.room.number in (
+      let one = one_if_same b.room.number in
+      let forks = fork_forks m f b.room.number in
+      let most = once.forks b.room.number in (
         elim b.side [
-          | inl e ↦ let k : forks_at b.room.number under.tree ≡ forks_at b.room.number f.zero =
-              ap (λ (t : Tree V). forks_at b.room.number t) e.0 in omega arith
-          | inr e ↦ let k : forks_at b.room.number under.tree ≡ forks_at b.room.number f.one =
-              ap (λ (t : Tree V). forks_at b.room.number t) e.0 in omega arith
+          | inl e ↦ let k = ap (forks_at b.room.number) e.0 in omega arith
+          | inr e ↦ let k = ap (forks_at b.room.number) e.0 in omega arith
         ],
         omega arith,
       )

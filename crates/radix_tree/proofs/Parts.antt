@@ -1,8 +1,8 @@
 -- The parts of a tree: a bit node with what is beneath it, a leaf, and the way between one part and the whole.
+use Rattle.radix_tree.proofs.{RoomReads.Has-bit, Searching.IsSide, Searching.zero_side, Searching.one_side, Searching.side_hit}
 use Rattle.radix_tree.proofs.Words.{◌≡◌, ℕ, ◌+◌, List, [], ◌∷◌, Some, None, refl, sym, ap, ◌∙◌, subst, inl, inr, Has, Id, LeafOf, BitOf, Placed, Tree}
 use Rattle.radix_tree.proofs.Words.{leaf, fork, bit_at, IsAmong, IsIn, IsTree, BitPart, Part, Run, leaves_in, bits_in, heads_in, masks_in, first_room}
 use Rattle.radix_tree.proofs.Words.{name_of, Stands, Lists, AreListed, Best, In, ForkAt, LeafAt, LedTo, Beneath, Way, Lodged}
-use Rattle.radix_tree.proofs.{RoomReads.Has-bit, Searching.IsSide, Searching.zero_side, Searching.one_side, Searching.side_hit}
 
 leaf_not_bit : {x y : Id} → LeafOf x ≡ BitOf y → ⊥
 leaf_not_bit e = cc
@@ -19,7 +19,7 @@ same_leaf e = cc
 module _ {V : Type 0} where
   fork_of : (m : Lodged V) (p : Part m) {room : Id} (t : Tree V) → p.tree ≡ t → name_of t ≡ BitOf room → ForkAt p room
   fork_of m p (leaf x xs) is named = absurd (leaf_not_bit named)
-  fork_of m p (fork i b zero one) is named = record { bit = b; zero = zero; one = one; is = is ∙ ap (λ (j : Id). fork j b zero one) (same_bit_node named) }
+  fork_of m p (fork i b zero one) is named = record { bit = b; zero = zero; one = one; is = is ∙ ap (λ j. fork j b zero one) (same_bit_node named) }
 
   leaf_of : (m : Lodged V) (p : Part m) {room : Id} (t : Tree V) → p.tree ≡ t → name_of t ≡ LeafOf room → LeafAt p room
   leaf_of m p (leaf x xs) is named = record { first = x; rest = xs; is = is; room_is = same_leaf named }
@@ -34,7 +34,7 @@ module _ {V : Type 0} where
 
   -- ---- a bit node
   pub fork_name : (m : Lodged V) {p : Part m} {room : Id} → ForkAt p room → name_of p.tree ≡ BitOf room
-  fork_name m f = ap (λ (t : Tree V). name_of t) f.is
+  fork_name m f = ap name_of f.is
 
   abbrev pub whole_of : (m : Lodged V) {p : Part m} (room : Id) → ForkAt p room → Tree V
   whole_of m room f = fork room f.bit f.zero f.one
@@ -73,10 +73,10 @@ module _ {V : Type 0} where
       let f = b.at in
       let is = fork_is m f in
       let whole = fork b.room f.bit f.zero f.one in
-      subst (λ (t : Tree V). IsSide address f.bit under.tree t) (sym f.is) (elim b.side [
-        | inl e ↦ subst (λ (c : Tree V). IsSide address f.bit c (fork b.room f.bit f.zero f.one)) (sym e.0)
+      subst (IsSide address f.bit under.tree) (sym f.is) (elim b.side [
+        | inl e ↦ subst (λ c. IsSide address f.bit c (fork b.room f.bit f.zero f.one)) (sym e.0)
             (zero_side address over.low f.bit b.room f.zero f.one is e.1)
-        | inr e ↦ subst (λ (c : Tree V). IsSide address f.bit c (fork b.room f.bit f.zero f.one)) (sym e.0)
+        | inr e ↦ subst (λ c. IsSide address f.bit c (fork b.room f.bit f.zero f.one)) (sym e.0)
             (one_side address over.low f.bit b.room f.zero f.one is e.1)
       ])
 
@@ -93,7 +93,7 @@ module _ {V : Type 0} where
   }
 
   pub leaf_begins : (m : Lodged V) {p : Part m} {room : Id} (f : LeafAt p room) → first_room (f.first ∷ f.rest) ≡ Some room
-  leaf_begins m f = ap (λ (i : Id). Some i) f.room_is
+  leaf_begins m f = ap Some f.room_is
 
   -- that of the leaf to which an address leads
   abbrev pub chain_led : {m : Lodged V} {address : ℕ} {whole : Part m} {room : Id} → LedTo address whole room → (c : Run m) × (first_room c.members ≡ Some room)
@@ -108,13 +108,13 @@ module _ {V : Type 0} where
   -- ---- a way
   pub way_inside : (m : Lodged V) (address : ℕ) (whole at : Part m) (ups : List (Part m)) → Way address whole at ups → (y : Placed V) → IsIn y at.tree
       → IsIn y whole.tree
-  way_inside m address whole at [] way y is = subst (λ (p : Part m). IsIn y p.tree) way is
+  way_inside m address whole at [] way y is = subst (λ p. IsIn y p.tree) way is
   way_inside m address whole at (p ∷ ps) way y is = way_inside m address whole p ps way.1 y ((side_of m way.0).inside y is)
 
   -- a route whose key is the address is found on its way
   pub way_leads : (m : Lodged V) {address : ℕ} (whole at : Part m) (ups : List (Part m)) → Way address whole at ups → (y : Placed V) → IsIn y whole.tree
       → y.entry.key ≡ address → IsIn y at.tree
-  way_leads m whole at [] way y is key = subst (λ (p : Part m). IsIn y p.tree) (sym way) is
+  way_leads m whole at [] way y is key = subst (λ p. IsIn y p.tree) (sym way) is
   way_leads m whole at (p ∷ ps) way y is key =
       let side = side_of m way.0 in
       elim (side.parted y (way_leads m whole p ps way.1 y is key)) [
@@ -126,7 +126,7 @@ module _ {V : Type 0} where
   lists_beneath m address under over b listed =
       let f = b.at in
       let lists = fork_lists m over f listed in
-      subst (λ (low : ℕ). Lists (heads_in m) (masks_in m) low under.tree) (sym b.low) (elim b.side [
+      subst (λ low. Lists (heads_in m) (masks_in m) low under.tree) (sym b.low) (elim b.side [
         | inl e ↦ subst (Lists (heads_in m) (masks_in m) (f.bit + 1)) (sym e.0) lists.1
         | inr e ↦ subst (Lists (heads_in m) (masks_in m) (f.bit + 1)) (sym e.0) lists.2
       ])
@@ -138,6 +138,6 @@ module _ {V : Type 0} where
   -- the best beneath is the whole's best
   pub way_best : (m : Lodged V) (address : ℕ) (whole at : Part m) (ups : List (Part m)) → Way address whole at ups → (x : Placed V)
       → Best address at.low 34 (In at) (Some x) → Best address whole.low 34 (In whole) (Some x)
-  way_best m address whole at [] way x best = subst (λ (p : Part m). Best address p.low 34 (In p) (Some x)) way best
+  way_best m address whole at [] way x best = subst (λ p. Best address p.low 34 (In p) (Some x)) way best
   way_best m address whole at (p ∷ ps) way x best =
       way_best m address whole p ps way.1 x (side_hit address p.low way.0.at.bit at.tree p.tree x (side_of m way.0) best)

@@ -1,8 +1,8 @@
 -- The lists of masks of bit nodes above a part stay where the part is exchanged and its masks that are listed further up stay.
-use Rattle.radix_tree.proofs.Words.{◌≡◌, ℕ, ◌+◌, ◌<◌, ◌≤◌, ◌==◌, List, [], ◌∷◌, Option, refl, sym, ap, ◌∙◌, subst, inl, inr, arith, is_some, Id, Placed}
-use Rattle.radix_tree.proofs.Words.{Tree, leaf, fork, IsAmong, IsIn, IsTree, Heads, Masks, MaskPart, MasksStand, Falls, one_if, forks_at, Frame, on_zero}
-use Rattle.radix_tree.proofs.Words.{on_one, plug, low_past, IsMarked, IsMaskList, MarkedIn, MarkedLists}
 use Rattle.radix_tree.proofs.{PartRooms.one_if_same, Plugs.Aside, Plugs.aside_in, Plugs.in_plug, Plugs.plug_in, Plugs.forks_within, Plugs.low_rises}
+use Rattle.radix_tree.proofs.Words.{◌≡◌, ℕ, ◌+◌, ◌<◌, ◌≤◌, List, [], ◌∷◌, Option, refl, sym, ap, ◌∙◌, subst, inl, inr, arith, is_some, Id, Placed, Tree}
+use Rattle.radix_tree.proofs.Words.{leaf, fork, IsAmong, IsIn, IsTree, Heads, Masks, MasksStand, Falls, forks_at, Frame, on_zero, on_one, plug, low_past}
+use Rattle.radix_tree.proofs.Words.{IsMarked, IsMaskList, MarkedIn, MarkedLists}
 
 module _ {V : Type 0} where
   -- ---- one list
@@ -10,10 +10,10 @@ module _ {V : Type 0} where
   pub falls_between : (low top : ℕ) (ms : List (Placed V)) → Falls low top ms → (x : Placed V) → IsAmong x ms → (low ≤ x.entry.rank) × (x.entry.rank < top)
   falls_between low top [] falls x among = absurd among
   falls_between low top (y ∷ ys) falls x among = elim among [
-    | inl e ↦ subst (λ (p : Placed V). (low ≤ p.entry.rank) × (p.entry.rank < top)) e (falls.0, falls.1)
+    | inl e ↦ subst (λ p. (low ≤ p.entry.rank) × (p.entry.rank < top)) e (falls.0, falls.1)
     | inr behind ↦ let between = falls_between low y.entry.rank ys falls.2 x behind in
-        let first : y.entry.rank < top = falls.1 in
-        let below : x.entry.rank < y.entry.rank = between.1 in
+        let first = falls.1 in
+        let below = between.1 in
         let lt : x.entry.rank < top = omega arith in (between.0, lt)
   ]
 
@@ -26,12 +26,12 @@ module _ {V : Type 0} where
   pub stands_marked : (K : Masks) (ms : List (Placed V)) → MasksStand K ms → (x : Placed V) → IsAmong x ms → IsMarked K x
   stands_marked K [] stands x among = absurd among
   stands_marked K (y ∷ ys) stands x among = elim among [
-    | inl e ↦ subst (λ (p : Placed V). IsMarked K p) e (ap (λ (o : Option MaskPart). is_some o) stands.0)
+    | inl e ↦ subst (IsMarked K) e (ap is_some stands.0)
     | inr behind ↦ stands_marked K ys stands.1 x behind
   ]
 
   pub marked_same : (K J : Masks) (x : Placed V) → J x.room.number ≡ K x.room.number → IsMarked K x → IsMarked J x
-  marked_same K J x same marked = ap (λ (o : Option MaskPart). is_some o) same ∙ marked
+  marked_same K J x same marked = ap is_some same ∙ marked
 
   -- a list stays, where up to its bit the same masks are marked as before
   pub mask_list_same : (K J : Masks) {first other : Option Id} (low b : ℕ) {M : Placed V → Type 0} (N : Placed V → Type 0) → other ≡ first
@@ -39,7 +39,7 @@ module _ {V : Type 0} where
       → IsMaskList K first low b M → IsMaskList J other low b N
   mask_list_same K J low b N same stays came list =
       let short = λ (x : Placed V) (among : IsAmong x list.masks).
-      (let below : x.entry.rank < b + 1 = (falls_between low (b + 1) list.masks list.falls x among).1 in let le : x.entry.rank ≤ b = omega arith in le) in
+      (let below = (falls_between low (b + 1) list.masks list.falls x among).1 in let le : x.entry.rank ≤ b = omega arith in le) in
       record {
         masks = list.masks;
         begins = list.begins ∙ sym same;
@@ -55,8 +55,7 @@ module _ {V : Type 0} where
       → ((y : Placed V) → IsIn y t → J y.room.number ≡ K y.room.number) → MarkedLists H K low t → MarkedLists G J low t
   lists_same H G K J low (leaf x xs) heads masks lists = tt
   lists_same H G K J low (fork room b zero one) heads masks lists = (
-    mask_list_same K J low b (MarkedIn J (fork room b zero one))
-        (heads room.number (let own : one_if (room.number == room.number) ≡ 1 = one_if_same room.number in omega arith))
+    mask_list_same K J low b (MarkedIn J (fork room b zero one)) (heads room.number (let own = one_if_same room.number in omega arith))
         (λ x member most. ((member.0, marked_same K J x (masks x member.0) member.1), masks x member.0))
         (λ x member most. (member.0, marked_same J K x (sym (masks x member.0)) member.1)) lists.0,
     lists_same H G K J (b + 1) zero (λ n some. heads n (omega arith)) (λ y at. masks y (inl at)) lists.1,
@@ -109,27 +108,21 @@ module _ {V : Type 0} where
   plug_lists low [] is k lists own = own
   plug_lists {H = H} {G = G} {K = K} {J = J} low (on_zero room b one ∷ fs) {t = t} {u = u} is k lists own =
       let top = low_past (b + 1) fs in
-      let further : b + 1 ≤ low_past (b + 1) fs = low_rises (b + 1) fs t is.1 in
+      let further = low_rises (b + 1) fs t is.1 in
       let within : (n : ℕ) → forks_at n t ≤ forks_at n (plug fs t) = λ n. forks_within fs t n in (
-        mask_list_same K J low b (MarkedIn J (fork room b (plug fs u) one))
-            (k.heads room.number (let own : one_if (room.number == room.number) ≡ 1 = one_if_same room.number in
-            let le : forks_at room.number t ≤ forks_at room.number (plug fs t) = within room.number in omega arith))
-            (λ x member most. stays_within H G K J t u k x member.0 (omega arith) member.1)
+        mask_list_same K J low b (MarkedIn J (fork room b (plug fs u) one)) (k.heads room.number (let own = one_if_same room.number in
+            let le = within room.number in omega arith)) (λ x member most. stays_within H G K J t u k x member.0 (omega arith) member.1)
             (λ x member most. came_within H G K J t u k x member.0 (omega arith) member.1) lists.0,
         plug_lists (b + 1) fs is.1 (keeps_zero H G K J room b one fs t u k) lists.1 own,
-        lists_same H G K J (b + 1) one (λ n some. k.heads n (let le : forks_at n t ≤ forks_at n (plug fs t) = within n in omega arith))
-            (λ y at. k.aside y (inl at)) lists.2,
+        lists_same H G K J (b + 1) one (λ n some. k.heads n (let le = within n in omega arith)) (λ y at. k.aside y (inl at)) lists.2,
       )
   plug_lists {H = H} {G = G} {K = K} {J = J} low (on_one room b zero ∷ fs) {t = t} {u = u} is k lists own =
       let top = low_past (b + 1) fs in
-      let further : b + 1 ≤ low_past (b + 1) fs = low_rises (b + 1) fs t is.2 in
+      let further = low_rises (b + 1) fs t is.2 in
       let within : (n : ℕ) → forks_at n t ≤ forks_at n (plug fs t) = λ n. forks_within fs t n in (
-        mask_list_same K J low b (MarkedIn J (fork room b zero (plug fs u)))
-            (k.heads room.number (let own : one_if (room.number == room.number) ≡ 1 = one_if_same room.number in
-            let le : forks_at room.number t ≤ forks_at room.number (plug fs t) = within room.number in omega arith))
-            (λ x member most. stays_within H G K J t u k x member.0 (omega arith) member.1)
+        mask_list_same K J low b (MarkedIn J (fork room b zero (plug fs u))) (k.heads room.number (let own = one_if_same room.number in
+            let le = within room.number in omega arith)) (λ x member most. stays_within H G K J t u k x member.0 (omega arith) member.1)
             (λ x member most. came_within H G K J t u k x member.0 (omega arith) member.1) lists.0,
-        lists_same H G K J (b + 1) zero (λ n some. k.heads n (let le : forks_at n t ≤ forks_at n (plug fs t) = within n in omega arith))
-            (λ y at. k.aside y (inl at)) lists.1,
+        lists_same H G K J (b + 1) zero (λ n some. k.heads n (let le = within n in omega arith)) (λ y at. k.aside y (inl at)) lists.1,
         plug_lists (b + 1) fs is.2 (keeps_one H G K J room b zero fs t u k) lists.2 own,
       )

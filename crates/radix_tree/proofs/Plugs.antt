@@ -1,9 +1,8 @@
 -- A tree is a part of it beneath bit nodes: what it holds beside the part stays, whatever part stands there.
-use Rattle.radix_tree.proofs.Words.{◌≡◌, ℕ, ◌+◌, ◌<◌, ◌≤◌, ◌==◌, ◌⊎◌, List, [], ◌∷◌, ◌++◌, None, refl, sym, ap, ◌∙◌, inl, inr, arith, cases_lt}
-use Rattle.radix_tree.proofs.Words.{append_assoc, append-nil, Id, Placed, Tree, leaf, fork, IsAmong, IsIn, IsTree, routes_of, Bits, one_if}
-use Rattle.radix_tree.proofs.Words.{members_at, leaves_at, forks_at, HasHome, AreIdle, HasOneFork, HaveOneFork, Frame, on_zero, on_one, plug, low_past}
-use Rattle.radix_tree.proofs.Words.{Lead, Entry}
 use Rattle.radix_tree.proofs.{AddressBits.zero_not_one, PartRooms.one_if_same, TreeMembers.bit_beneath}
+use Rattle.radix_tree.proofs.Words.{◌≡◌, ℕ, ◌+◌, ◌<◌, ◌≤◌, ◌==◌, ◌⊎◌, List, [], ◌∷◌, ◌++◌, None, refl, sym, ap, ◌∙◌, inl, inr, arith, cases_lt}
+use Rattle.radix_tree.proofs.Words.{append_assoc, append-nil, Id, Placed, Tree, leaf, fork, IsAmong, IsIn, IsTree, routes_of, Bits, one_if, members_at}
+use Rattle.radix_tree.proofs.Words.{leaves_at, forks_at, HasHome, AreIdle, HasOneFork, HaveOneFork, Frame, on_zero, on_one, plug, low_past, Lead, Entry}
 
 module _ {V : Type 0} where
   -- what the bit nodes have on their other sides
@@ -15,43 +14,42 @@ module _ {V : Type 0} where
   pub plug_leaves : (fs : List (Frame V)) (t u : Tree V) (n : ℕ) → leaves_at n (plug fs u) + leaves_at n t ≡ leaves_at n (plug fs t) + leaves_at n u
   plug_leaves [] t u n = omega arith
   plug_leaves (on_zero room b one ∷ fs) t u n =
-      let e : leaves_at n (plug fs u) + leaves_at n t ≡ leaves_at n (plug fs t) + leaves_at n u = plug_leaves fs t u n in omega arith
+      let e = plug_leaves fs t u n in omega arith
   plug_leaves (on_one room b zero ∷ fs) t u n =
-      let e : leaves_at n (plug fs u) + leaves_at n t ≡ leaves_at n (plug fs t) + leaves_at n u = plug_leaves fs t u n in omega arith
+      let e = plug_leaves fs t u n in omega arith
 
   pub plug_forks : (fs : List (Frame V)) (t u : Tree V) (n : ℕ) → forks_at n (plug fs u) + forks_at n t ≡ forks_at n (plug fs t) + forks_at n u
   plug_forks [] t u n = omega arith
   plug_forks (on_zero room b one ∷ fs) t u n =
-      let e : forks_at n (plug fs u) + forks_at n t ≡ forks_at n (plug fs t) + forks_at n u = plug_forks fs t u n in omega arith
+      let e = plug_forks fs t u n in omega arith
   plug_forks (on_one room b zero ∷ fs) t u n =
-      let e : forks_at n (plug fs u) + forks_at n t ≡ forks_at n (plug fs t) + forks_at n u = plug_forks fs t u n in omega arith
+      let e = plug_forks fs t u n in omega arith
 
   -- the part has no more of a room's than the whole
   pub leaves_within : (fs : List (Frame V)) (t : Tree V) (n : ℕ) → leaves_at n t ≤ leaves_at n (plug fs t)
   leaves_within [] t n = omega arith
-  leaves_within (on_zero room b one ∷ fs) t n = let le : leaves_at n t ≤ leaves_at n (plug fs t) = leaves_within fs t n in omega arith
-  leaves_within (on_one room b zero ∷ fs) t n = let le : leaves_at n t ≤ leaves_at n (plug fs t) = leaves_within fs t n in omega arith
+  leaves_within (on_zero room b one ∷ fs) t n = let le = leaves_within fs t n in omega arith
+  leaves_within (on_one room b zero ∷ fs) t n = let le = leaves_within fs t n in omega arith
 
   pub forks_within : (fs : List (Frame V)) (t : Tree V) (n : ℕ) → forks_at n t ≤ forks_at n (plug fs t)
   forks_within [] t n = omega arith
-  forks_within (on_zero room b one ∷ fs) t n = let le : forks_at n t ≤ forks_at n (plug fs t) = forks_within fs t n in omega arith
-  forks_within (on_one room b zero ∷ fs) t n = let le : forks_at n t ≤ forks_at n (plug fs t) = forks_within fs t n in omega arith
+  forks_within (on_zero room b one ∷ fs) t n = let le = forks_within fs t n in omega arith
+  forks_within (on_one room b zero ∷ fs) t n = let le = forks_within fs t n in omega arith
 
   -- a route's room is a leaf
   pub counted_member : (x : Placed V) (xs : List (Placed V)) → IsAmong x xs → 1 ≤ members_at x.room.number xs
   counted_member x [] among = absurd among
   counted_member x (y ∷ ys) among = elim among [
-    | inl e ↦ let own : one_if (y.room.number == x.room.number) ≡ 1 = ap (λ (p : Placed V). one_if (p.room.number == x.room.number)) e
-        ∙ one_if_same x.room.number in
+    | inl e ↦ let own = ap (λ p. one_if (p.room.number == x.room.number)) e ∙ one_if_same x.room.number in
         omega arith
-    | inr behind ↦ let some : 1 ≤ members_at x.room.number ys = counted_member x ys behind in omega arith
+    | inr behind ↦ let some = counted_member x ys behind in omega arith
   ]
 
   pub counted_leaf : (x : Placed V) (t : Tree V) → IsIn x t → 1 ≤ leaves_at x.room.number t
   counted_leaf x (leaf y ys) is = counted_member x (y ∷ ys) is
   counted_leaf x (fork room b zero one) is = elim is [
-    | inl at ↦ let some : 1 ≤ leaves_at x.room.number zero = counted_leaf x zero at in omega arith
-    | inr at ↦ let some : 1 ≤ leaves_at x.room.number one = counted_leaf x one at in omega arith
+    | inl at ↦ let some = counted_leaf x zero at in omega arith
+    | inr at ↦ let some = counted_leaf x one at in omega arith
   ]
 
   pub plug_in : (fs : List (Frame V)) (t : Tree V) (y : Placed V) → IsIn y t → IsIn y (plug fs t)
@@ -75,16 +73,16 @@ module _ {V : Type 0} where
   pub aside_at : (fs : List (Frame V)) (t : Tree V) (y : Placed V) → Aside fs y → 1 + leaves_at y.room.number t ≤ leaves_at y.room.number (plug fs t)
   aside_at [] t y is = absurd is
   aside_at (on_zero room b one ∷ fs) t y is =
-      let le : leaves_at y.room.number t ≤ leaves_at y.room.number (plug fs t) = leaves_within fs t y.room.number in
+      let le = leaves_within fs t y.room.number in
       elim is [
-        | inl at ↦ let some : 1 ≤ leaves_at y.room.number one = counted_leaf y one at in omega arith
-        | inr at ↦ let more : 1 + leaves_at y.room.number t ≤ leaves_at y.room.number (plug fs t) = aside_at fs t y at in omega arith
+        | inl at ↦ let some = counted_leaf y one at in omega arith
+        | inr at ↦ let more = aside_at fs t y at in omega arith
       ]
   aside_at (on_one room b zero ∷ fs) t y is =
-      let le : leaves_at y.room.number t ≤ leaves_at y.room.number (plug fs t) = leaves_within fs t y.room.number in
+      let le = leaves_within fs t y.room.number in
       elim is [
-        | inl at ↦ let some : 1 ≤ leaves_at y.room.number zero = counted_leaf y zero at in omega arith
-        | inr at ↦ let more : 1 + leaves_at y.room.number t ≤ leaves_at y.room.number (plug fs t) = aside_at fs t y at in omega arith
+        | inl at ↦ let some = counted_leaf y zero at in omega arith
+        | inr at ↦ let more = aside_at fs t y at in omega arith
       ]
 
   -- the routes before it and those behind
@@ -97,16 +95,15 @@ module _ {V : Type 0} where
   surround_zero room b one fs s = record {
     front = s.front;
     back = s.back ++ routes_of one;
-    routes = λ t. ap (λ (es : List (Entry V)). es ++ routes_of one) (s.routes t) ∙ append_assoc (s.front ++ routes_of t) s.back (routes_of one);
+    routes = λ t. ap (λ es. es ++ routes_of one) (s.routes t) ∙ append_assoc (s.front ++ routes_of t) s.back (routes_of one);
   }
 
   surround_one : (room : Id) (b : ℕ) (zero : Tree V) (fs : List (Frame V)) → Surround fs → Surround (on_one room b zero ∷ fs)
   surround_one room b zero fs s = record {
     front = routes_of zero ++ s.front;
     back = s.back;
-    routes = λ t. ap (λ (es : List (Entry V)). routes_of zero ++ es) (s.routes t)
-        ∙ sym (append_assoc (routes_of zero) (s.front ++ routes_of t) s.back)
-        ∙ ap (λ (es : List (Entry V)). es ++ s.back) (sym (append_assoc (routes_of zero) s.front (routes_of t)));
+    routes = λ t. ap (λ es. routes_of zero ++ es) (s.routes t) ∙ sym (append_assoc (routes_of zero) (s.front ++ routes_of t) s.back)
+        ∙ ap (λ es. es ++ s.back) (sym (append_assoc (routes_of zero) s.front (routes_of t)));
   }
 
   pub surround : (fs : List (Frame V)) → Surround fs
@@ -157,16 +154,16 @@ module _ {V : Type 0} where
   pub low_rises : (low : ℕ) (fs : List (Frame V)) (t : Tree V) → IsTree low (plug fs t) → low ≤ low_past low fs
   low_rises low [] t is = omega arith
   low_rises low (on_zero room b one ∷ fs) t is =
-      let rises : low ≤ b = is.0.rises in let further : b + 1 ≤ low_past (b + 1) fs = low_rises (b + 1) fs t is.1 in omega arith
+      let rises = is.0.rises in let further = low_rises (b + 1) fs t is.1 in omega arith
   low_rises low (on_one room b zero ∷ fs) t is =
-      let rises : low ≤ b = is.0.rises in let further : b + 1 ≤ low_past (b + 1) fs = low_rises (b + 1) fs t is.2 in omega arith
+      let rises = is.0.rises in let further = low_rises (b + 1) fs t is.2 in omega arith
 
   -- the node at or past a rank is one of the bit nodes above, or in the part
   pub home_plug : (low : ℕ) (fs : List (Frame V)) (t : Tree V) (y : Placed V) → IsTree low (plug fs t) → IsIn y t → HasHome y.entry.key y.entry.rank (plug fs t)
       → (y.entry.rank < low_past low fs) ⊎ HasHome y.entry.key y.entry.rank t
   home_plug low [] t y is at home = inr home
   home_plug low (on_zero room b one ∷ fs) t y is at home = elim home [
-    | inl here ↦ let further : b + 1 ≤ low_past (b + 1) fs = low_rises (b + 1) fs t is.1 in
+    | inl here ↦ let further = low_rises (b + 1) fs t is.1 in
         let lt : y.entry.rank < low_past (b + 1) fs = omega arith in inl lt
     | inr beneath ↦ elim beneath [
       | inl left ↦ home_plug (b + 1) fs t y is.1 at left.1
@@ -174,7 +171,7 @@ module _ {V : Type 0} where
     ]
   ]
   home_plug low (on_one room b zero ∷ fs) t y is at home = elim home [
-    | inl here ↦ let further : b + 1 ≤ low_past (b + 1) fs = low_rises (b + 1) fs t is.2 in
+    | inl here ↦ let further = low_rises (b + 1) fs t is.2 in
         let lt : y.entry.rank < low_past (b + 1) fs = omega arith in inl lt
     | inr beneath ↦ elim beneath [
       | inl left ↦ absurd (zero_not_one left.0 (bit_beneath (b + 1) b 1 (plug fs t) is.2 is.0.ones y (plug_in fs t y at)))

@@ -1,10 +1,10 @@
 -- The only route of a tree, which has no other member in its chain and no bit node above.
-use Rattle.radix_tree.proofs.Words.{◌≡◌, ℕ, ◌+◌, ◌≤◌, ◌==◌, ◌⊎◌, Bool, true, false, List, [], ◌∷◌, Option, Some, None, refl, sym, ap, ◌∙◌, inl, inr}
-use Rattle.radix_tree.proofs.Words.{arith, eqb-true, is_some, Has, leaf_of, Id, Links, Leaf, Node, Placed, Tree, leaf, fork, routes_of, LeafPart, Leaves}
-use Rattle.radix_tree.proofs.Words.{Bits, leaf_in, leaves_in, bits_in, leaf_part, first_room, ChainStands, Stands, one_if, members_at, leaves_at, shown}
-use Rattle.radix_tree.proofs.Words.{shown_entry, Gains, IsWholeBut, is_of_key, has_key, late_at, nobody_out, CanTake, member_beside, Entry, Lodged}
 use Rattle.radix_tree.proofs.{RoomReads.inside, RoomReads.none_some, RoomReads.AreLinks, WholeRoutes.part_shown, MovedReads.same_or_not}
 use Rattle.radix_tree.proofs.{MovedReads.none_or_some, MovedReads.none_of, MovedReads.one_if_not}
+use Rattle.radix_tree.proofs.Words.{◌≡◌, ℕ, ◌≤◌, ◌⊎◌, Bool, true, false, List, [], ◌∷◌, Option, Some, None, refl, sym, ap, ◌∙◌, inl, inr, arith, eqb-true}
+use Rattle.radix_tree.proofs.Words.{is_some, Has, leaf_of, Id, Links, Leaf, Node, Placed, Tree, leaf, fork, routes_of, LeafPart, Leaves, Bits, leaf_in}
+use Rattle.radix_tree.proofs.Words.{leaves_in, bits_in, first_room, ChainStands, Stands, one_if, members_at, leaves_at, shown, shown_entry, Gains}
+use Rattle.radix_tree.proofs.Words.{IsWholeBut, is_of_key, has_key, late_at, nobody_out, CanTake, member_beside, Lodged}
 
 -- ---- the other member of a chain
 pub beside_is : (next previous : Option Id) {to : Id} → member_beside next previous ≡ Some to → (next ≡ Some to) ⊎ (previous ≡ Some to)
@@ -30,21 +30,21 @@ module _ {V : Type 0} where
 
   pub leaf_is : {m : Lodged V} {room : Id} (links : Links) {l : Leaf} → Has m room → AreLinks m room links → l ≡ leaf_of links → {p : LeafPart V}
       → leaves_in m room.number ≡ Some p → l ≡ p.leaf
-  leaf_is links h are reads said = reads ∙ ap leaf_of (are h.room h.at) ∙ ap (λ (q : LeafPart V). q.leaf) (inside (sym (ap leaf_in h.at) ∙ said))
+  leaf_is links h are reads said = reads ∙ ap leaf_of (are h.room h.at) ∙ ap (λ q. q.leaf) (inside (sym (ap leaf_in h.at) ∙ said))
 
   pub member_is : {m : Lodged V} {room to : Id} (links : Links) {l : Leaf} {o : Option Id} → Has m room → AreLinks m room links → l ≡ leaf_of links
       → o ≡ member_beside l.next l.previous → o ≡ Some to
       → (p : LeafPart V) → leaves_in m room.number ≡ Some p → (p.leaf.next ≡ Some to) ⊎ (p.leaf.previous ≡ Some to)
   member_is links h are reads beside some p said =
       let is = leaf_is links h are reads said in
-      beside_is p.leaf.next p.leaf.previous (ap (λ (z : Leaf). member_beside z.next z.previous) (sym is) ∙ sym beside ∙ some)
+      beside_is p.leaf.next p.leaf.previous (ap (λ z. member_beside z.next z.previous) (sym is) ∙ sym beside ∙ some)
 
   pub alone_is : {m : Lodged V} {room : Id} (links : Links) {l : Leaf} {o : Option Id} → Has m room → AreLinks m room links → l ≡ leaf_of links
       → o ≡ member_beside l.next l.previous → o ≡ None
       → (p : LeafPart V) → leaves_in m room.number ≡ Some p → (p.leaf.next ≡ None) × (p.leaf.previous ≡ None)
   alone_is links h are reads beside none p said =
       let is = leaf_is links h are reads said in
-      beside_none p.leaf.next p.leaf.previous (ap (λ (z : Leaf). member_beside z.next z.previous) (sym is) ∙ sym beside ∙ none)
+      beside_none p.leaf.next p.leaf.previous (ap (λ z. member_beside z.next z.previous) (sym is) ∙ sym beside ∙ none)
 
   -- ---- the other member's room takes the bit node
   same_key : (key : ℕ) {o : Option (LeafPart V)} (p : LeafPart V) → is_of_key key o ≡ true → o ≡ Some p → p.leaf.key ≡ key
@@ -54,7 +54,7 @@ module _ {V : Type 0} where
       → ((n : ℕ) → has_key m key n ≡ true → (n ≡ from.number → ⊥) → bits_in m n ≡ None) → CanTake m from to
   can_take m from to key other has idle = record {
     free = idle to.number has other;
-    idle = λ p is n keyed off. idle n (ap (λ (k : ℕ). has_key m k n) (sym (same_key key p has is)) ∙ keyed) off;
+    idle = λ p is n keyed off. idle n (ap (λ k. has_key m k n) (sym (same_key key p has is)) ∙ keyed) off;
   }
 
   -- ---- the only route
@@ -68,16 +68,16 @@ module _ {V : Type 0} where
       → 1 ≤ members_at n c → L n ≡ Some p → p.leaf.previous ≡ None → ⊥
   behind_named L above before [] n stands some said none = omega arith
   behind_named L above before (x ∷ xs) n stands some said none = elim (same_or_not x.room.number n) [
-    | inl same ↦ none_some (sym none ∙ ap (λ (q : LeafPart V). q.leaf.previous) (inside (sym said ∙ ap L (sym same) ∙ stands.0)))
-    | inr other ↦ let off : one_if (x.room.number == n) ≡ 0 = one_if_not x.room.number n other in
+    | inl same ↦ none_some (sym none ∙ ap (λ q. q.leaf.previous) (inside (sym said ∙ ap L (sym same) ∙ stands.0)))
+    | inr other ↦ let off = one_if_not x.room.number n other in
         behind_named L None x.room xs n stands.1 (omega arith) said none
   ]
 
   beneath_named : (L : Leaves V) (B : Bits) (up : Id) (t : Tree V) (n : ℕ) {p : LeafPart V} → Stands L B (Some up) t → 1 ≤ leaves_at n t → L n ≡ Some p
       → p.leaf.previous ≡ None → p.leaf.above ≡ None → ⊥
   beneath_named L B up (leaf x xs) n stands some said previous above = elim (same_or_not x.room.number n) [
-    | inl same ↦ none_some (sym above ∙ ap (λ (q : LeafPart V). q.leaf.above) (inside (sym said ∙ ap L (sym same) ∙ stands.0)))
-    | inr other ↦ let off : one_if (x.room.number == n) ≡ 0 = one_if_not x.room.number n other in
+    | inl same ↦ none_some (sym above ∙ ap (λ q. q.leaf.above) (inside (sym said ∙ ap L (sym same) ∙ stands.0)))
+    | inr other ↦ let off = one_if_not x.room.number n other in
         behind_named L None x.room xs n stands.1 (omega arith) said previous
   ]
   beneath_named L B up (fork room b left right) n stands some said previous above = elim (none_or_some (leaves_at n left)) [
@@ -92,14 +92,9 @@ module _ {V : Type 0} where
   only_of : (L : Leaves V) (B : Bits) (top : Option Id) (t : Tree V) (n : ℕ) (p : LeafPart V) → Stands L B top t → 1 ≤ leaves_at n t → L n ≡ Some p
       → p.leaf.next ≡ None → p.leaf.previous ≡ None → p.leaf.above ≡ None → IsOnly t n p
   only_of L B top (leaf x xs) n p stands some said next previous above = elim (same_or_not x.room.number n) [
-    | inl same ↦ let is : leaf_part x top None (first_room xs) ≡ p = inside (sym stands.0 ∙ ap L same ∙ said) in
-        record {
-          route = x;
-          is = no_behind x xs (ap (λ (q : LeafPart V). q.leaf.next) is ∙ next);
-          number = same;
-          entry = ap (λ (q : LeafPart V). shown_entry q) is;
-        }
-    | inr other ↦ let off : one_if (x.room.number == n) ≡ 0 = one_if_not x.room.number n other in
+    | inl same ↦ let is = inside (sym stands.0 ∙ ap L same ∙ said) in
+        record { route = x; is = no_behind x xs (ap (λ q. q.leaf.next) is ∙ next); number = same; entry = ap shown_entry is }
+    | inr other ↦ let off = one_if_not x.room.number n other in
         absurd (behind_named L None x.room xs n stands.1 (omega arith) said previous)
   ]
   only_of L B top (fork room b left right) n p stands some said next previous above = elim (none_or_some (leaves_at n left)) [
@@ -110,15 +105,15 @@ module _ {V : Type 0} where
   pub only : {m : Lodged V} {root : Node} (n : ℕ) (w : IsWholeBut m root (late_at n) nobody_out) (p : LeafPart V) → leaves_in m n ≡ Some p → p.leaf.next ≡ None
       → p.leaf.previous ≡ None → p.leaf.above ≡ None → IsOnly w.part.tree n p
   only {m = m} n w p said next previous above =
-      let count : leaves_at n w.part.tree + 0 ≡ 1 = w.leaves n ∙ ap (λ (o : Option (LeafPart V)). one_if (is_some o)) said in
+      let count = w.leaves n ∙ ap (λ o. one_if (is_some o)) said in
       only_of (leaves_in m) (bits_in m) w.part.above w.part.tree n p w.part.stands (omega arith) said next previous above
 
   pub only_room : {m : Lodged V} {root : Node} {n : ℕ} (w : IsWholeBut m root (late_at n) nobody_out) (p : LeafPart V) → IsOnly w.part.tree n p → (k : ℕ)
       → (k ≡ n → ⊥) → leaves_in m k ≡ None
   only_room {m = m} w p o k other =
-      let count : leaves_at k w.part.tree + 0 ≡ one_if (is_some (leaves_in m k)) = w.leaves k in
-      let one : leaves_at k w.part.tree ≡ one_if (o.route.room.number == k) + 0 = ap (λ (t : Tree V). leaves_at k t) o.is in
-      let off : one_if (o.route.room.number == k) ≡ 0 = one_if_not o.route.room.number k (λ (e : o.route.room.number ≡ k). other (sym e ∙ o.number)) in
+      let count = w.leaves k in
+      let one = ap (leaves_at k) o.is in
+      let off = one_if_not o.route.room.number k (λ (e : o.route.room.number ≡ k). other (sym e ∙ o.number)) in
       none_of (leaves_in m k) (not_one (is_some (leaves_in m k)) (omega arith))
 
   pub only_shown : {m : Lodged V} {root : Node} {n : ℕ} (w : IsWholeBut m root (late_at n) nobody_out) (p : LeafPart V) → IsOnly w.part.tree n p
@@ -127,5 +122,5 @@ module _ {V : Type 0} where
     front = [];
     back = [];
     was = refl;
-    now = part_shown w.part w.low w.named ∙ ap (λ (t : Tree V). routes_of t) o.is ∙ ap (λ (e : Entry V). e ∷ []) o.entry;
+    now = part_shown w.part w.low w.named ∙ ap routes_of o.is ∙ ap (λ e. e ∷ []) o.entry;
   }

@@ -1,14 +1,13 @@
 -- A room that is out of the tree leaves the map: the whole and its routes stay.
 use Rattle.radix_nodes.proofs.Callers.{get-removed}
-use Rattle.std.specs.FinMap.{remove}
-use Rattle.radix_tree.proofs.Words.{◌≡◌, ℕ, ◌+◌, ◌≤◌, ◌==◌, ◌||◌, Bool, if◌then◌else◌, List, Option, Some, None, refl, sym, ap, ◌∙◌, inl, inr, arith}
-use Rattle.radix_tree.proofs.Words.{eq-eqb, ne_eqb, is_some, get, Ptr, Seen, Has, bit_node_of, Id, Node, BitNode, LeafPart, BitPart, MaskPart, Part}
-use Rattle.radix_tree.proofs.Words.{leaf_in, bit_in, head_in, mask_in, bit_part, head_part, leaves_in, bits_in, heads_in, masks_in, one_if, leaves_at}
-use Rattle.radix_tree.proofs.Words.{IsWhole, Holds, shown, Gains, IsWholeBut, HasRoomMore, nobody_late, out_at, KeepsLeaves, KeepsBits, Content}
-use Rattle.radix_tree.proofs.Words.{content_of, KeepsRoutes, IsOut, Entry, Lodged}
 use Rattle.radix_tree.proofs.{RoomReads.inside, RoomReads.none_some, PartRooms.frame, Plugs.counted_leaf, WholeParts.but_whole, WholeRoutes.part_shown}
 use Rattle.radix_tree.proofs.{MovedReads.same_or_not, MovedReads.content_used, MovedLists.marked_stays, MovedLists.lists_kept, MovedSpare.tree_stays}
 use Rattle.radix_tree.proofs.{MovedWhole.out_leaf, MovedWhole.out_apart}
+use Rattle.std.specs.FinMap.{remove}
+use Rattle.radix_tree.proofs.Words.{◌≡◌, ℕ, ◌+◌, ◌||◌, if◌then◌else◌, List, Option, Some, None, refl, sym, ap, ◌∙◌, inl, inr, arith, eq-eqb, ne_eqb}
+use Rattle.radix_tree.proofs.Words.{is_some, get, Ptr, Seen, Has, bit_node_of, Id, Node, BitNode, LeafPart, MaskPart, Part, leaf_in, bit_in, head_in}
+use Rattle.radix_tree.proofs.Words.{mask_in, bit_part, head_part, leaves_in, bits_in, heads_in, masks_in, one_if, leaves_at, IsWhole, Holds, shown, Gains}
+use Rattle.radix_tree.proofs.Words.{IsWholeBut, HasRoomMore, nobody_late, out_at, KeepsLeaves, KeepsBits, content_of, KeepsRoutes, IsOut, Entry, Lodged}
 
 no_head_of : (block : Ptr) (o : Option BitNode) → bit_part block o ≡ None → head_part o ≡ None
 no_head_of block None none = refl
@@ -17,14 +16,14 @@ no_head_of block (Some n) none = absurd (none_some (sym none))
 module _ {V : Type 0} where
   -- ---- what the rooms say once one of them is gone
   pub get_out : (m : Lodged V) (n : ℕ) → get (remove m n) n ≡ None
-  get_out m n = get-removed m n n ∙ ap (λ (t : Bool). if t then None else get m n) (eq-eqb n n refl)
+  get_out m n = get-removed m n n ∙ ap (λ t. if t then None else get m n) (eq-eqb n n refl)
 
   pub get_other : (m : Lodged V) (n k : ℕ) → (k ≡ n → ⊥) → get (remove m n) k ≡ get m k
-  get_other m n k other = get-removed m n k ∙ ap (λ (t : Bool). if t then None else get m k) (ne_eqb k n other)
+  get_other m n k other = get-removed m n k ∙ ap (λ t. if t then None else get m k) (ne_eqb k n other)
 
   role_stays : {A : Type 0} (f : Option (Seen V) → A) (m : Lodged V) (n : ℕ) → f (get m n) ≡ f None → (k : ℕ) → f (get (remove m n) k) ≡ f (get m k)
   role_stays f m n none k = elim (same_or_not k n) [
-    | inl same ↦ ap (λ (j : ℕ). f (get (remove m n) j)) same ∙ ap f (get_out m n) ∙ sym none ∙ ap (λ (j : ℕ). f (get m j)) (sym same)
+    | inl same ↦ ap (λ j. f (get (remove m n) j)) same ∙ ap f (get_out m n) ∙ sym none ∙ ap (λ j. f (get m j)) (sym same)
     | inr other ↦ ap f (get_other m n k other)
   ]
 
@@ -37,9 +36,9 @@ module _ {V : Type 0} where
   no_mask m n w None is = is
   no_mask m n w (Some p) is =
       let x = w.listed n p is in
-      let out : leaves_at n w.part.tree ≡ 0 = out_leaf m n w in
-      let some : 1 ≤ leaves_at x.0.room.number w.part.tree = counted_leaf x.0 w.part.tree x.1 in
-      let same : leaves_at x.0.room.number w.part.tree ≡ leaves_at n w.part.tree = ap (λ (k : ℕ). leaves_at k w.part.tree) x.2 in absurd (omega arith)
+      let out = out_leaf m n w in
+      let some = counted_leaf x.0 w.part.tree x.1 in
+      let same = ap (λ k. leaves_at k w.part.tree) x.2 in absurd (omega arith)
 
   -- ---- the tree stays
   abbrev part_left : (m : Lodged V) {root : Node} (n : ℕ) (w : IsWholeBut m root nobody_late (out_at n)) → bits_in m n ≡ None → Part (remove m n)
@@ -55,29 +54,27 @@ module _ {V : Type 0} where
   leaves_left : (m : Lodged V) {root : Node} (n : ℕ) (w : IsWholeBut m root nobody_late (out_at n)) (k : ℕ)
       → leaves_at k w.part.tree + 0 ≡ one_if (is_some (leaves_in (remove m n) k))
   leaves_left m n w k = elim (same_or_not k n) [
-    | inl same ↦ let out : leaves_at n w.part.tree ≡ 0 = out_leaf m n w in
-        let here : leaves_at k w.part.tree ≡ leaves_at n w.part.tree = ap (λ (j : ℕ). leaves_at j w.part.tree) same in
-        let gone : one_if (is_some (leaves_in (remove m n) k)) ≡ 0 =
-        ap (λ (j : ℕ). one_if (is_some (leaves_in (remove m n) j))) same ∙ ap (λ (o : Option (Seen V)). one_if (is_some (leaf_in o))) (get_out m n) in
+    | inl same ↦ let out = out_leaf m n w in
+        let here = ap (λ j. leaves_at j w.part.tree) same in
+        let gone = ap (λ j. one_if (is_some (leaves_in (remove m n) j))) same ∙ ap (λ o. one_if (is_some (leaf_in o))) (get_out m n) in
         omega arith
-    | inr other ↦ let was : leaves_at k w.part.tree + one_if (k == n) ≡ one_if (is_some (leaves_in m k)) = w.leaves k in
-        let off : one_if (k == n) ≡ 0 = ap one_if (ne_eqb k n other) in
-        let stays : one_if (is_some (leaves_in (remove m n) k)) ≡ one_if (is_some (leaves_in m k)) =
-        ap (λ (o : Option (Seen V)). one_if (is_some (leaf_in o))) (get_other m n k other) in omega arith
+    | inr other ↦ let was = w.leaves k in
+        let off = ap one_if (ne_eqb k n other) in
+        let stays = ap (λ o. one_if (is_some (leaf_in o))) (get_other m n k other) in omega arith
   ]
 
   pub evicted : (m : Lodged V) (root : Node) (n : ℕ) → IsWholeBut m root nobody_late (out_at n) → bits_in m n ≡ None → IsWhole (remove m n) root
   evicted m root n w none =
-      let bits : (k : ℕ) → bits_in (remove m n) k ≡ bits_in m k = role_stays bit_in m n none in
-      let heads : (k : ℕ) → heads_in (remove m n) k ≡ heads_in m k = role_stays head_in m n (no_head (get m n) none) in
-      let masks : (k : ℕ) → masks_in (remove m n) k ≡ masks_in m k = role_stays mask_in m n (no_mask m n w (masks_in m n) refl) in
+      let bits = role_stays bit_in m n none in
+      let heads = role_stays head_in m n (no_head (get m n) none) in
+      let masks = role_stays mask_in m n (no_mask m n w (masks_in m n) refl) in
       but_whole (remove m n) root (record {
         part = part_left m n w none;
         low = w.low;
         top = w.top;
         named = w.named;
         leaves = leaves_left m n w;
-        forks = λ k. w.forks k ∙ ap (λ (o : Option BitPart). one_if (is_some o)) (sym (bits k));
+        forks = λ k. w.forks k ∙ ap (λ o. one_if (is_some o)) (sym (bits k));
         spare = tree_stays (bits_in m) (bits_in (remove m n)) w.part.tree (λ k some idle. bits k ∙ idle) w.spare;
         lists = lists_kept (heads_in m) (heads_in (remove m n)) (masks_in m) (masks_in (remove m n)) w.part.low w.part.tree masks (λ k some. heads k) w.lists;
         listed = λ k p is. w.listed k p (sym (masks k) ∙ is);
@@ -121,18 +118,17 @@ module _ {V : Type 0} where
   value_of : (o : Option (Seen V)) (p : LeafPart V) (value : V) → ((s : Seen V) → o ≡ Some s → value ≡ s.value) → content_of (leaf_in o) ≡ content_of (Some p)
       → value ≡ p.value
   value_of None p value is same = absurd (none_some same)
-  value_of (Some s) p value is same = is s refl ∙ ap (λ (c : Content V). c.entry.value) (inside same)
+  value_of (Some s) p value is same = is s refl ∙ ap (λ c. c.entry.value) (inside same)
 
   pub value_taken : (m now : Lodged V) (n : ℕ) (p : LeafPart V) (value : V) → ((s : Seen V) → get now n ≡ Some s → value ≡ s.value)
       → content_of (leaves_in now n) ≡ content_of (leaves_in m n) → leaves_in m n ≡ Some p → value ≡ p.value
-  value_taken m now n p value is same said = value_of (get now n) p value is (same ∙ ap (λ (o : Option (LeafPart V)). content_of o) said)
+  value_taken m now n p value is same said = value_of (get now n) p value is (same ∙ ap content_of said)
 
   -- the map has one room less
   pub room_less : (m now : Lodged V) (at : Id) → Has m at → KeepsRoutes m now → HasRoomMore (remove now at.number) m at.number
   room_less m now at h same k = elim (same_or_not k at.number) [
-    | inl e ↦ ap (λ (j : ℕ). is_some (leaves_in m j)) e ∙ ap (λ (o : Option (Seen V)). is_some (leaf_in o)) h.at
-        ∙ sym (ap (λ (t : Bool). t || is_some (leaves_in (remove now at.number) k)) (eq-eqb k at.number e))
-    | inr other ↦ sym (content_used (leaves_in now k) (leaves_in m k) (same k))
-        ∙ sym (ap (λ (o : Option (Seen V)). is_some (leaf_in o)) (get_other now at.number k other))
-        ∙ sym (ap (λ (t : Bool). t || is_some (leaves_in (remove now at.number) k)) (ne_eqb k at.number other))
+    | inl e ↦ ap (λ j. is_some (leaves_in m j)) e ∙ ap (λ o. is_some (leaf_in o)) h.at
+        ∙ sym (ap (λ t. t || is_some (leaves_in (remove now at.number) k)) (eq-eqb k at.number e))
+    | inr other ↦ sym (content_used (leaves_in now k) (leaves_in m k) (same k)) ∙ sym (ap (λ o. is_some (leaf_in o)) (get_other now at.number k other))
+        ∙ sym (ap (λ t. t || is_some (leaves_in (remove now at.number) k)) (ne_eqb k at.number other))
   ]

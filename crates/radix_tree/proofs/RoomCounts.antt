@@ -3,10 +3,10 @@
 --     rooms_as_routes   as many rooms of a map as routes that it shows
 --     rooms_once        no room's number twice
 use Rattle.std.proofs.lemmas.{List.length-append, List.length-map, List.Sums.sum_by-cons, List.Sums.sum_by-append}
-use Rattle.radix_tree.proofs.Words.{◌≡◌, ℕ, ◌+◌, ◌≤◌, ◌==◌, Bool, true, false, cond, nat_eq, List, [], ◌∷◌, ◌++◌, length, map, Option, Some, None}
-use Rattle.radix_tree.proofs.Words.{is_some, refl, sym, ap, ◌∙◌, arith, eqb-true, get, keys, Node, uses, Placed, Tree, leaf, fork, routes_of, LeafPart}
-use Rattle.radix_tree.proofs.Words.{one_if, members_at, leaves_at, shown, Holds, Entry, Lodged}
 use Rattle.radix_tree.proofs.{PartRooms.one_if_same, Numbers.uses_keys, Numbers.uses_leaves, Showing.shown_is}
+use Rattle.radix_tree.proofs.Words.{◌≡◌, ℕ, ◌+◌, ◌≤◌, ◌==◌, Bool, true, false, cond, nat_eq, List, [], ◌∷◌, ◌++◌, length, map, Option, Some, None}
+use Rattle.radix_tree.proofs.Words.{is_some, refl, sym, ap, ◌∙◌, arith, eqb-true, get, keys, Node, uses, Placed, Tree, leaf, fork, routes_of, one_if}
+use Rattle.radix_tree.proofs.Words.{members_at, leaves_at, shown, Holds, Lodged}
 
 one_if_cond : (b : Bool) → cond b 1 0 ≡ one_if b
 one_if_cond true = refl
@@ -17,7 +17,7 @@ one_if_most true = omega arith
 one_if_most false = omega arith
 
 uses_cons : (n k : ℕ) (ks : List ℕ) → uses n (k ∷ ks) ≡ one_if (k == n) + uses n ks
-uses_cons n k ks = sum_by-cons (λ j. cond (nat_eq j n) 1 0) k ks ∙ ap (λ (u : ℕ). u + uses n ks) (one_if_cond (k == n))
+uses_cons n k ks = sum_by-cons (λ j. cond (nat_eq j n) 1 0) k ks ∙ ap (λ u. u + uses n ks) (one_if_cond (k == n))
 
 uses_append : (n : ℕ) (js ks : List ℕ) → uses n (js ++ ks) ≡ uses n js + uses n ks
 uses_append n js ks = sum_by-append (λ j. cond (nat_eq j n) 1 0) js ks
@@ -32,15 +32,11 @@ record Without (k : ℕ) (ks : List ℕ) : Type 0 where
 take_out : (k : ℕ) (ks : List ℕ) → 1 ≤ uses k ks → Without k ks
 take_out k [] some = absurd (omega (arith, some))
 take_out k (j ∷ js) some = elim (j == k) as (λ b. (j == k) ≡ b → Without k (j ∷ js)) [
-  | true ↦ λ is. record {
-    others = js;
-    longer = omega arith;
-    more = λ n. uses_cons n j js ∙ ap (λ (i : ℕ). one_if (i == n) + uses n js) (eqb-true j k is);
-  }
+  | true ↦ λ is. record { others = js; longer = omega arith; more = λ n. uses_cons n j js ∙ ap (λ i. one_if (i == n) + uses n js) (eqb-true j k is) }
   | false ↦ λ is.
-      let not_here : one_if (j == k) ≡ 0 = ap (λ (b : Bool). one_if b) is in
+      let not_here = ap one_if is in
       let behind = take_out k js (omega (arith, some, uses_cons k j js, not_here)) in
-      let longer : length js ≡ length behind.others + 1 = behind.longer in
+      let longer = behind.longer in
       record {
         others = j ∷ behind.others;
         longer = omega (arith, longer);
@@ -53,7 +49,7 @@ equally_long [] [] same = refl
 equally_long [] (k ∷ ks) same = absurd (omega (arith, same k, uses_cons k k ks, one_if_same k))
 equally_long (j ∷ js) ks same =
     let out = take_out j ks (omega (arith, same j, uses_cons j j js, one_if_same j)) in
-    let behind : length js ≡ length out.others = equally_long js out.others (λ n. omega (arith, same n, uses_cons n j js, out.more n)) in
+    let behind = equally_long js out.others (λ n. omega (arith, same n, uses_cons n j js, out.more n)) in
     omega (arith, behind, out.longer)
 
 module _ {V : Type 0} where
@@ -67,7 +63,7 @@ module _ {V : Type 0} where
 
   uses_chain : (n : ℕ) (c : List (Placed V)) → uses n (numbers_in c) ≡ members_at n c
   uses_chain n [] = refl
-  uses_chain n (x ∷ c) = uses_cons n x.room.number (numbers_in c) ∙ ap (λ (u : ℕ). one_if (x.room.number == n) + u) (uses_chain n c)
+  uses_chain n (x ∷ c) = uses_cons n x.room.number (numbers_in c) ∙ ap (λ u. one_if (x.room.number == n) + u) (uses_chain n c)
 
   uses_tree : (n : ℕ) (t : Tree V) → uses n (numbers_of t) ≡ leaves_at n t
   uses_tree n (leaf x xs) = uses_chain n (x ∷ xs)
@@ -80,10 +76,10 @@ module _ {V : Type 0} where
 
   -- ---- the rooms of a map
   pub rooms_as_routes : (m : Lodged V) (root : Option Node) → Holds m root → length (keys m) ≡ length (shown m root)
-  rooms_as_routes m None none = equally_long (keys m) [] (λ n. uses_leaves m n ∙ ap (λ (o : Option (LeafPart V)). one_if (is_some o)) (none n))
+  rooms_as_routes m None none = equally_long (keys m) [] (λ n. uses_leaves m n ∙ ap (λ o. one_if (is_some o)) (none n))
   rooms_as_routes m (Some root) w =
       equally_long (keys m) (numbers_of w.part.tree) (λ n. uses_leaves m n ∙ sym (w.leaves n) ∙ sym (uses_tree n w.part.tree)) ∙ one_each w.part.tree
-      ∙ ap (λ (es : List (Entry V)). length es) (sym (shown_is w))
+      ∙ ap length (sym (shown_is w))
 
   pub rooms_once : (m : Lodged V) (n : ℕ) → uses n (keys m) ≤ 1
   rooms_once m n = omega (arith, uses_keys m n, one_if_most (is_some (get m n)))

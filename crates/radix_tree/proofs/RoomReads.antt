@@ -11,11 +11,11 @@ none_some e = cc
 
 bit_block : (block : Ptr) (o : Option BitNode) (p : BitPart) → bit_part block o ≡ Some p → block ≡ p.block
 bit_block block None p e = absurd (none_some e)
-bit_block block (Some n) p e = ap (λ (q : BitPart). q.block) (inside e)
+bit_block block (Some n) p e = ap (λ q. q.block) (inside e)
 
 mask_block : (block : Ptr) (o : Option MaskNode) (p : MaskPart) → mask_part block o ≡ Some p → block ≡ p.block
 mask_block block None p e = absurd (none_some e)
-mask_block block (Some n) p e = ap (λ (q : MaskPart). q.block) (inside e)
+mask_block block (Some n) p e = ap (λ q. q.block) (inside e)
 
 -- the bit node is the one that the tree has there
 pub record IsNode (n : BitNode) (p : BitPart) : Type 0 where
@@ -26,10 +26,10 @@ pub record IsNode (n : BitNode) (p : BitPart) : Type 0 where
 
 pub node_said : {said : Option BitPart} {block : Ptr} {n : BitNode} {p : BitPart} → said ≡ bit_part block (Some n) → said ≡ Some p → IsNode n p
 node_said e is = let same = inside (sym e ∙ is) in record {
-  bit = ap (λ (q : BitPart). q.bit) same;
-  zero = ap (λ (q : BitPart). q.zero) same;
-  one = ap (λ (q : BitPart). q.one) same;
-  above = ap (λ (q : BitPart). q.above) same;
+  bit = ap (λ q. q.bit) same;
+  zero = ap (λ q. q.zero) same;
+  one = ap (λ q. q.one) same;
+  above = ap (λ q. q.above) same;
 }
 
 module _ {V : Type 0} where
@@ -41,7 +41,7 @@ module _ {V : Type 0} where
   leaf_there : (m : Lodged V) (room : Id) (p : LeafPart V) (o : Option (Seen V)) → get m room.number ≡ o → leaf_in o ≡ Some p → p.block ≡ room.block
       → Has m room
   leaf_there m room p None at e block = absurd (none_some e)
-  leaf_there m room p (Some s) at e block = record { room = s; at = at; block = ap (λ (q : LeafPart V). q.block) (inside e) ∙ block }
+  leaf_there m room p (Some s) at e block = record { room = s; at = at; block = ap (λ q. q.block) (inside e) ∙ block }
 
   pub Has-leaf : (m : Lodged V) (room : Id) {p : LeafPart V} → leaves_in m room.number ≡ Some p → p.block ≡ room.block → Has m room
   Has-leaf m room {p = p} e block = leaf_there m room p (get m room.number) refl e block
@@ -50,13 +50,13 @@ module _ {V : Type 0} where
       → leaf_of links ≡ p.leaf
   leaf_read m room links e block are =
       let h = Has-leaf m room e block in
-      ap leaf_of (are h.room h.at) ∙ ap (λ (q : LeafPart V). q.leaf) (inside (sym (ap leaf_in h.at) ∙ e))
+      ap leaf_of (are h.room h.at) ∙ ap (λ q. q.leaf) (inside (sym (ap leaf_in h.at) ∙ e))
 
   pub value_read : (m : Lodged V) (room : Id) {p : LeafPart V} (value : V) → leaves_in m room.number ≡ Some p → p.block ≡ room.block
       → ((s : Seen V) → get m room.number ≡ Some s → value ≡ s.value) → value ≡ p.value
   value_read m room value e block is =
       let h = Has-leaf m room e block in
-      is h.room h.at ∙ ap (λ (q : LeafPart V). q.value) (inside (sym (ap leaf_in h.at) ∙ e))
+      is h.room h.at ∙ ap (λ q. q.value) (inside (sym (ap leaf_in h.at) ∙ e))
 
   -- ---- as a bit node
   bit_there : (m : Lodged V) (room : Id) (p : BitPart) (o : Option (Seen V)) → get m room.number ≡ o → bit_in o ≡ Some p → p.block ≡ room.block → Has m room
@@ -68,19 +68,14 @@ module _ {V : Type 0} where
 
   bit_said : (m : Lodged V) {room : Id} (p : BitPart) (links : Links) (h : Has m room) → bits_in m room.number ≡ Some p → AreLinks m room links
       → bit_part h.room.block (bit_node_of links) ≡ Some p
-  bit_said m p links h e are = ap (λ (l : Links). bit_part h.room.block (bit_node_of l)) (are h.room h.at) ∙ sym (ap bit_in h.at) ∙ e
+  bit_said m p links h e are = ap (λ l. bit_part h.room.block (bit_node_of l)) (are h.room h.at) ∙ sym (ap bit_in h.at) ∙ e
 
   pub bit_read : (m : Lodged V) (room : Id) {p : BitPart} (links : Links) {n : BitNode} → bits_in m room.number ≡ Some p → p.block ≡ room.block
       → AreLinks m room links → bit_node_of links ≡ Some n → IsNode n p
   bit_read m room {p = p} links e block are is =
       let h = Has-bit m room e block in
       let same = inside (sym (ap (bit_part h.room.block) is) ∙ bit_said m p links h e are) in
-      record {
-        bit = ap (λ (q : BitPart). q.bit) same;
-        zero = ap (λ (q : BitPart). q.zero) same;
-        one = ap (λ (q : BitPart). q.one) same;
-        above = ap (λ (q : BitPart). q.above) same;
-      }
+      record { bit = ap (λ q. q.bit) same; zero = ap (λ q. q.zero) same; one = ap (λ q. q.one) same; above = ap (λ q. q.above) same }
 
   pub bit_used : (m : Lodged V) (room : Id) {p : BitPart} (links : Links) → bits_in m room.number ≡ Some p → p.block ≡ room.block → AreLinks m room links
       → bit_node_of links ≡ None → ⊥
@@ -91,17 +86,17 @@ module _ {V : Type 0} where
   -- what the links say is what the room says
   pub bit_told : {m : Lodged V} {room : Id} {links : Links} → Has m room → AreLinks m room links
       → bits_in m room.number ≡ bit_part room.block (bit_node_of links)
-  bit_told {links = links} h are = ap bit_in h.at ∙ ap (λ (l : Links). bit_part h.room.block (bit_node_of l)) (sym (are h.room h.at))
-      ∙ ap (λ (b : Ptr). bit_part b (bit_node_of links)) h.block
+  bit_told {links = links} h are = ap bit_in h.at ∙ ap (λ l. bit_part h.room.block (bit_node_of l)) (sym (are h.room h.at))
+      ∙ ap (λ b. bit_part b (bit_node_of links)) h.block
 
   pub mask_told : {m : Lodged V} {room : Id} {links : Links} → Has m room → AreLinks m room links
       → masks_in m room.number ≡ mask_part room.block (mask_node_of links)
-  mask_told {links = links} h are = ap mask_in h.at ∙ ap (λ (l : Links). mask_part h.room.block (mask_node_of l)) (sym (are h.room h.at))
-      ∙ ap (λ (b : Ptr). mask_part b (mask_node_of links)) h.block
+  mask_told {links = links} h are = ap mask_in h.at ∙ ap (λ l. mask_part h.room.block (mask_node_of l)) (sym (are h.room h.at))
+      ∙ ap (λ b. mask_part b (mask_node_of links)) h.block
 
   pub head_read : {m : Lodged V} {room : Id} (links : Links) {n : BitNode} → Has m room → AreLinks m room links → bit_node_of links ≡ Some n
       → heads_in m room.number ≡ n.masks
-  head_read links h are is = ap head_in h.at ∙ sym (ap (λ (l : Links). head_part (bit_node_of l)) (are h.room h.at)) ∙ ap head_part is
+  head_read links h are is = ap head_in h.at ∙ sym (ap (λ l. head_part (bit_node_of l)) (are h.room h.at)) ∙ ap head_part is
 
   -- ---- as a mask node
   mask_there : (m : Lodged V) (room : Id) (p : MaskPart) (o : Option (Seen V)) → get m room.number ≡ o → mask_in o ≡ Some p → p.block ≡ room.block → Has m room
@@ -113,7 +108,7 @@ module _ {V : Type 0} where
 
   mask_said : (m : Lodged V) {room : Id} (p : MaskPart) (links : Links) (h : Has m room) → masks_in m room.number ≡ Some p → AreLinks m room links
       → mask_part h.room.block (mask_node_of links) ≡ Some p
-  mask_said m p links h e are = ap (λ (l : Links). mask_part h.room.block (mask_node_of l)) (are h.room h.at) ∙ sym (ap mask_in h.at) ∙ e
+  mask_said m p links h e are = ap (λ l. mask_part h.room.block (mask_node_of l)) (are h.room h.at) ∙ sym (ap mask_in h.at) ∙ e
 
   pub mask_used : (m : Lodged V) (room : Id) (p : MaskPart) (links : Links) → masks_in m room.number ≡ Some p → p.block ≡ room.block → AreLinks m room links
       → mask_node_of links ≡ None → ⊥

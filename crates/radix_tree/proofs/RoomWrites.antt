@@ -14,7 +14,7 @@ module _ {V : Type 0} where
   -- a role of each room, once one of them has other links
   role : {A : Type 0} (f : Option (Seen V) → A) (m new : Lodged V) {room : Id} (links : Links) (h : Has m room) → new ≡ put_links m room links → (n : ℕ)
       → f (get new n) ≡ (if n == room.number then f (Some (seen room.block h.room.value links)) else f (get m n))
-  role f m new {room = room} links h is n = ap (λ (k : Lodged V). f (get k n)) is ∙ ap f (get-put_links m room links h n)
+  role f m new {room = room} links h is n = ap (λ k. f (get k n)) is ∙ ap f (get-put_links m room links h n)
       ∙ through_if f (n == room.number) (Some (seen room.block h.room.value links)) (get m n)
 
   there : (m : Lodged V) (room : Id) (h : Has m room) (n : ℕ) → (n == room.number) ≡ true → get m n ≡ Some h.room
@@ -37,13 +37,13 @@ module _ {V : Type 0} where
       → leaf_of links ≡ leaf_of old → KeepsLeaves m new
   unfolding part
   leaves_kept {m = m} {new = new} links old h is are same = kept leaf_in m new links h is
-      (ap (λ (b : Ptr). Some (part b h.room.value (leaf_of links))) (sym h.block)
-      ∙ ap (λ (l : Leaf). Some (part h.room.block h.room.value l)) (same ∙ ap leaf_of (are h.room h.at)))
+      (ap (λ b. Some (part b h.room.value (leaf_of links))) (sym h.block)
+      ∙ ap (λ l. Some (part h.room.block h.room.value l)) (same ∙ ap leaf_of (are h.room h.at)))
 
   pub bits_kept : {m new : Lodged V} {room : Id} (links old : Links) → Has m room → new ≡ put_links m room links → AreLinks m room old
       → bit_node_of links ≡ bit_node_of old → KeepsBits m new
   bits_kept {m = m} {new = new} links old h is are same = kept bit_in m new links h is
-      (ap (λ (b : Ptr). bit_part b (bit_node_of links)) (sym h.block) ∙ ap (bit_part h.room.block) (same ∙ ap bit_node_of (are h.room h.at)))
+      (ap (λ b. bit_part b (bit_node_of links)) (sym h.block) ∙ ap (bit_part h.room.block) (same ∙ ap bit_node_of (are h.room h.at)))
 
   pub heads_kept : {m new : Lodged V} {room : Id} (links old : Links) → Has m room → new ≡ put_links m room links → AreLinks m room old
       → bit_node_of links ≡ bit_node_of old → KeepsHeads m new
@@ -52,19 +52,19 @@ module _ {V : Type 0} where
   pub masks_kept : {m new : Lodged V} {room : Id} (links old : Links) → Has m room → new ≡ put_links m room links → AreLinks m room old
       → mask_node_of links ≡ mask_node_of old → KeepsMasks m new
   masks_kept {m = m} {new = new} links old h is are same = kept mask_in m new links h is
-      (ap (λ (b : Ptr). mask_part b (mask_node_of links)) (sym h.block) ∙ ap (mask_part h.room.block) (same ∙ ap mask_node_of (are h.room h.at)))
+      (ap (λ b. mask_part b (mask_node_of links)) (sym h.block) ∙ ap (mask_part h.room.block) (same ∙ ap mask_node_of (are h.room h.at)))
 
   pub bits_put : {m new : Lodged V} (room : Id) (links : Links) {node : Option BitNode} → Has m room → new ≡ put_links m room links → bit_node_of links ≡ node
       → (n : ℕ) → bits_in new n ≡ put_bit room node n (bits_in m n)
-  bits_put {m = m} {new = new} room links h is said n = role bit_in m new links h is n ∙ ap (λ (o : Option BitNode). put_bit room o n (bits_in m n)) said
+  bits_put {m = m} {new = new} room links h is said n = role bit_in m new links h is n ∙ ap (λ o. put_bit room o n (bits_in m n)) said
 
   pub heads_put : {m new : Lodged V} (room : Id) (links : Links) {node : Option BitNode} → Has m room → new ≡ put_links m room links → bit_node_of links ≡ node
       → (n : ℕ) → heads_in new n ≡ put_head room node n (heads_in m n)
-  heads_put {m = m} {new = new} room links h is said n = role head_in m new links h is n ∙ ap (λ (o : Option BitNode). put_head room o n (heads_in m n)) said
+  heads_put {m = m} {new = new} room links h is said n = role head_in m new links h is n ∙ ap (λ o. put_head room o n (heads_in m n)) said
 
   pub masks_put : {m new : Lodged V} (room : Id) (links : Links) {node : Option MaskNode} → Has m room → new ≡ put_links m room links
       → mask_node_of links ≡ node → (n : ℕ) → masks_in new n ≡ put_mask room node n (masks_in m n)
-  masks_put {m = m} {new = new} room links h is said n = role mask_in m new links h is n ∙ ap (λ (o : Option MaskNode). put_mask room o n (masks_in m n)) said
+  masks_put {m = m} {new = new} room links h is said n = role mask_in m new links h is n ∙ ap (λ o. put_mask room o n (masks_in m n)) said
 
   pub leaves_put : {m new : Lodged V} (room : Id) (links : Links) (leaf : Leaf) → Has m room → new ≡ put_links m room links → leaf_of links ≡ leaf
       → (n : ℕ) → leaves_in new n ≡ put_leaf room leaf n (leaves_in m n)
@@ -73,9 +73,8 @@ module _ {V : Type 0} where
       ∙ elim (n == room.number) as (λ t. (n == room.number) ≡ t
       → (if t then Some (part room.block h.room.value (leaf_of links)) else leaf_in (get m n))
       ≡ (if t then with_leaf leaf (leaf_in (get m n)) else leaf_in (get m n))) [
-        | true ↦ λ e. ap (λ (b : Ptr). Some (part b h.room.value (leaf_of links))) (sym h.block)
-            ∙ ap (λ (l : Leaf). Some (part h.room.block h.room.value l)) said
-            ∙ sym (ap (λ (o : Option (Seen V)). with_leaf leaf (leaf_in o)) (there m room h n e))
+        | true ↦ λ e. ap (λ b. Some (part b h.room.value (leaf_of links))) (sym h.block) ∙ ap (λ l. Some (part h.room.block h.room.value l)) said
+            ∙ sym (ap (λ o. with_leaf leaf (leaf_in o)) (there m room h n e))
         | false ↦ λ e. refl
       ] refl
 

@@ -1,15 +1,15 @@
 -- A walk along a chain.
+use Rattle.radix_tree.proofs.{RoomReads.none_some, RoomReads.Has-leaf, TreeMembers.head_of, TreeMembers.first_greatest, TreeMembers.chain_short}
 use Rattle.radix_tree.specs.Tree.{Covers}
 use Rattle.radix_tree.proofs.Words.{◌≡◌, ℕ, ◌+◌, ◌≤◌, List, [], ◌∷◌, length, Option, Some, None, true, false, refl, sym, ap, ◌∙◌, subst, inl, inr, arith}
 use Rattle.radix_tree.proofs.Words.{agrees, Counter, Has, Id, Leaf, ReadsOnce, LeafPart, Run, leaves_in, first_room, leaf_part, ChainStands, Placed}
 use Rattle.radix_tree.proofs.Words.{IsAmong, IsChain, Lodged}
-use Rattle.radix_tree.proofs.{RoomReads.none_some, RoomReads.Has-leaf, TreeMembers.head_of, TreeMembers.first_greatest, TreeMembers.chain_short}
 
 -- a chain has a route for each rank at most
 pub chain_most : {V : Type 0} (key top : ℕ) (c : List (Placed V)) → IsChain key top c → length c ≤ 34
 chain_most key top [] is = omega arith
 chain_most key top (x ∷ c) is =
-    let rank : x.entry.rank ≤ 33 = is.0.rank in let behind : length c ≤ x.entry.rank = chain_short key x.entry.rank c is.3 in omega arith
+    let rank = is.0.rank in let behind = chain_short key x.entry.rank c is.3 in omega arith
 
 pub ended_at : {V : Type 0} (rest : List (Placed V)) → first_room rest ≡ None → (y : Placed V) → IsAmong y rest → ⊥
 ended_at [] ends y among = among
@@ -28,7 +28,7 @@ module _ {V : Type 0} {m : Lodged V} where
 
   pub begun : {P : Placed V → Type 0} {c : Run m} {first : Id} (v : Counter) → first_room c.members ≡ Some first → Along P c (Some first) v v
   begun {c = c} v begins =
-      let most : length c.members ≤ 34 = chain_most c.key c.top c.members c.is in
+      let most = chain_most c.key c.top c.members c.is in
       record { rest = c; begins = begins; inside = λ y among. among; kept = λ y among has. among; turn = refl; rises = omega arith; few = omega arith }
 
   -- the member that it has come to
@@ -50,16 +50,15 @@ module _ {V : Type 0} {m : Lodged V} where
       → Member P whole room start now
   member {P} {whole} {at} {room} {start} {now} w at_is =
       let x = head_of w.rest.members (w.begins ∙ at_is) in
-      let is : IsChain w.rest.key w.rest.top (x.first ∷ x.behind) = subst (IsChain w.rest.key w.rest.top) x.is w.rest.is in
-      let stands : ChainStands (leaves_in m) w.rest.above w.rest.previous (x.first ∷ x.behind) =
-      subst (ChainStands (leaves_in m) w.rest.above w.rest.previous) x.is w.rest.stands in
-      let some : length w.rest.members ≡ length (x.first ∷ x.behind) = ap (λ (ms : List (Placed V)). length ms) x.is in
+      let is = subst (IsChain w.rest.key w.rest.top) x.is w.rest.is in
+      let stands = subst (ChainStands (leaves_in m) w.rest.above w.rest.previous) x.is w.rest.stands in
+      let some = ap length x.is in
       record {
         route = x.first;
         room_is = x.room_is;
         part = leaf_part x.first w.rest.above w.rest.previous (first_room x.behind);
-        said = ap (λ (i : Id). leaves_in m i.number) (sym x.room_is) ∙ stands.0;
-        block = ap (λ (i : Id). i.block) x.room_is;
+        said = ap (λ i. leaves_in m i.number) (sym x.room_is) ∙ stands.0;
+        block = ap (λ i. i.block) x.room_is;
         key = refl;
         rank = refl;
         among = w.inside x.first (subst (IsAmong x.first) (sym x.is) (inl refl));
@@ -77,7 +76,7 @@ module _ {V : Type 0} {m : Lodged V} where
                 is = is.3;
                 stands = stands.1;
               };
-          begins = sym (ap (λ (z : Leaf). z.next) l_is);
+          begins = sym (ap (λ z. z.next) l_is);
           inside = λ y among. w.inside y (subst (IsAmong y) (sym x.is) (inr among));
           kept = λ y among has. elim (subst (IsAmong y) x.is (w.kept y among has)) [
             | inl e ↦ absurd (hasnt (subst P (sym e) has))
@@ -104,7 +103,7 @@ CoversIt address y = Covers address y.entry
 pub agrees_is : {V : Type 0} (address : ℕ) {l : Leaf} {p : Leaf} (x : Placed V) → l ≡ p → p.key ≡ x.entry.key → p.rank ≡ x.entry.rank
     → agrees l.rank l.key address ≡ agrees x.entry.rank x.entry.key address
 agrees_is address {p = p} x is key rank =
-    ap (λ (z : Leaf). agrees z.rank z.key address) is ∙ ap (λ (k : ℕ). agrees p.rank k address) key ∙ ap (λ (r : ℕ). agrees r x.entry.key address) rank
+    ap (λ z. agrees z.rank z.key address) is ∙ ap (λ k. agrees p.rank k address) key ∙ ap (λ r. agrees r x.entry.key address) rank
 
 pub covered : {V : Type 0} (address : ℕ) (x : Placed V) → agrees x.entry.rank x.entry.key address ≡ true → CoversIt address x
 unfolding Covers
@@ -112,4 +111,4 @@ covered address x agree = agree
 
 pub not_covered : {V : Type 0} (address : ℕ) (x : Placed V) → agrees x.entry.rank x.entry.key address ≡ false → CoversIt address x → ⊥
 unfolding Covers
-not_covered address x not covers = let both : false ≡ true = sym not ∙ covers in cc
+not_covered address x not covers = let both = sym not ∙ covers in cc

@@ -1,8 +1,8 @@
 -- What a search beneath a bit node, and one for each of its listed masks, tell of all that is beneath it.
-use Rattle.radix_tree.proofs.Words.{◌≡◌, ℕ, ◌+◌, ◌<◌, ◌≤◌, ◌⊎◌, List, [], ◌∷◌, None, Some, inl, inr, sym, ap, ◌∙◌, arith, cases_lt, masked, IsRoute}
-use Rattle.radix_tree.proofs.Words.{Placed, Tree, fork, bit_at, Covers, IsAmong, IsIn, IsTree, Falls, Finds, HasPair, Best}
 use Rattle.radix_tree.proofs.{AddressBits.zero_not_one, AddressBits.covered_bit, AddressBits.clear_bit, AddressBits.covered_key, AddressBits.key_covers}
 use Rattle.radix_tree.proofs.{TreeMembers.same_rank, TreeMembers.tree_route, TreeMembers.bit_beneath}
+use Rattle.radix_tree.proofs.Words.{◌≡◌, ℕ, ◌+◌, ◌<◌, ◌≤◌, ◌⊎◌, List, [], ◌∷◌, None, Some, inl, inr, sym, ap, ◌∙◌, arith, cases_lt, masked, IsRoute}
+use Rattle.radix_tree.proofs.Words.{Placed, Tree, fork, bit_at, Covers, IsAmong, IsIn, IsTree, Falls, Finds, HasPair, Best}
 
 module _ {V : Type 0} where
   -- the routes beneath a bit node, parted by whether they have the address's bit there
@@ -51,8 +51,8 @@ module _ {V : Type 0} where
     best.1,
     λ y at covers below. elim (is.parted y at) [
       | inl p ↦ best.2 y p covers below
-      | inr differs ↦ let other : (y.entry.rank ≤ b) × (bit_at b y.entry.key ≡ 0) = other_side address b y is.within (is.routes y at) covers differs in
-          let short : y.entry.rank ≤ b = other.0 in
+      | inr differs ↦ let other = other_side address b y is.within (is.routes y at) covers differs in
+          let short = other.0 in
           elim (cases_lt b x.entry.rank) [
             | inl long ↦ omega arith
             | inr le ↦ absurd (differs (other.1 ∙ sym (clear_bit b (is.routes x (is.inside x best.0)) le is.within) ∙ is.here x best.0))
@@ -65,7 +65,7 @@ module _ {V : Type 0} where
       → (y : Placed V) → IsIn y whole → Covers address y.entry → y.entry.rank < 34 → y.entry.rank < b + 1
   all_short address b side whole is none y at covers below = elim (is.parted y at) [
     | inl p ↦ none y p covers below
-    | inr differs ↦ let short : y.entry.rank ≤ b = (other_side address b y is.within (is.routes y at) covers differs).0 in omega arith
+    | inr differs ↦ let short = (other_side address b y is.within (is.routes y at) covers differs).0 in omega arith
   ]
 
   -- and the masks that the node lists decide
@@ -84,10 +84,10 @@ module _ {V : Type 0} where
   falls_below : (low top : ℕ) (ms : List (Placed V)) → Falls low top ms → (y : Placed V) → IsAmong y ms → y.entry.rank < top
   falls_below low top [] falls y among = absurd among
   falls_below low top (m ∷ ms) falls y among =
-      let first : m.entry.rank < top = falls.1 in
+      let first = falls.1 in
       elim among [
-        | inl e ↦ let same : m.entry.rank ≡ y.entry.rank = same_rank e in omega arith
-        | inr behind ↦ let lower : y.entry.rank < m.entry.rank = falls_below low m.entry.rank ms falls.2 y behind in omega arith
+        | inl e ↦ let same = same_rank e in omega arith
+        | inr behind ↦ let lower = falls_below low m.entry.rank ms falls.2 y behind in omega arith
       ]
 
   -- all routes of a rank from low to below top are listed
@@ -98,11 +98,11 @@ module _ {V : Type 0} where
   none_longer : (low top : ℕ) (m : Placed V) (ms : List (Placed V)) (t : Tree V) → Falls low top (m ∷ ms) → AreListed low top (m ∷ ms) t
       → (y : Placed V) → IsIn y t → y.entry.rank < top → y.entry.rank ≤ m.entry.rank
   none_longer low top m ms t falls listed y at below =
-      let least : low ≤ m.entry.rank = falls.0 in
+      let least = falls.0 in
       elim (cases_lt m.entry.rank y.entry.rank) [
         | inl longer ↦ elim (listed y at (omega arith) below) [
-          | inl e ↦ let same : m.entry.rank ≡ y.entry.rank = same_rank e in omega arith
-          | inr behind ↦ let lower : y.entry.rank < m.entry.rank = falls_below low m.entry.rank ms falls.2 y behind in omega arith
+          | inl e ↦ let same = same_rank e in omega arith
+          | inr behind ↦ let lower = falls_below low m.entry.rank ms falls.2 y behind in omega arith
         ]
         | inr le ↦ le
       ]
@@ -114,9 +114,9 @@ module _ {V : Type 0} where
       → Best address low past (λ y. IsIn y t) (Some x)
   mask_hit address low top past m ms t x falls listed tried found = (
     found.0,
-    key_covers address x.entry (found.1.0 ∙ ap (λ (r : ℕ). masked r address) (sym found.1.1)),
-    λ y at covers below. let le : y.entry.rank ≤ m.entry.rank = none_longer low top m ms t falls listed y at (tried y at covers below) in
-        let same : x.entry.rank ≡ m.entry.rank = found.1.1 in omega arith,
+    key_covers address x.entry (found.1.0 ∙ ap (λ r. masked r address) (sym found.1.1)),
+    λ y at covers below. let le = none_longer low top m ms t falls listed y at (tried y at covers below) in
+        let same = found.1.1 in omega arith,
   )
 
   -- where none is found, that mask was tried in vain too
@@ -125,20 +125,20 @@ module _ {V : Type 0} where
       → Best address top past (λ y. IsIn y t) None → Finds (HasPair (masked m.entry.rank address) m.entry.rank) (λ y. IsIn y t) None
       → Best address m.entry.rank past (λ y. IsIn y t) None
   mask_miss address low top past m ms t routes falls listed tried none y at covers below =
-      let le : y.entry.rank ≤ m.entry.rank = none_longer low top m ms t falls listed y at (tried y at covers below) in
+      let le = none_longer low top m ms t falls listed y at (tried y at covers below) in
       elim (cases_lt y.entry.rank m.entry.rank) [
         | inl lower ↦ lower
         | inr ge ↦ let same : y.entry.rank ≡ m.entry.rank = omega arith in
-            absurd (none y at (covered_key address y.entry (routes y at) covers ∙ ap (λ (r : ℕ). masked r address) same, same))
+            absurd (none y at (covered_key address y.entry (routes y at) covers ∙ ap (λ r. masked r address) same, same))
       ]
 
   -- what is listed behind the first mask
   pub listed_behind : (low top : ℕ) (m : Placed V) (ms : List (Placed V)) (t : Tree V) → Falls low top (m ∷ ms) → AreListed low top (m ∷ ms) t
       → AreListed low m.entry.rank ms t
   listed_behind low top m ms t falls listed y at least below =
-      let first : m.entry.rank < top = falls.1 in
+      let first = falls.1 in
       elim (listed y at least (omega arith)) [
-        | inl e ↦ let same : m.entry.rank ≡ y.entry.rank = same_rank e in absurd (omega arith)
+        | inl e ↦ let same = same_rank e in absurd (omega arith)
         | inr behind ↦ behind
       ]
 

@@ -1,8 +1,8 @@
 -- The rooms show the routes of the tree that they stand for.
 use Rattle.radix_tree.specs.Whole.{chain_shown, beneath_shown}
 use Rattle.radix_tree.proofs.Words.{◌≡◌, ℕ, zero, suc, ◌+◌, ◌≤◌, List, [], ◌∷◌, ◌++◌, length, map, Option, Some, None, refl, sym, ap, ◌∙◌, arith, Id}
-use Rattle.radix_tree.proofs.Words.{Node, Placed, Tree, leaf, fork, IsTree, routes_of, LeafPart, BitPart, Leaves, Bits, leaves_in, bits_in, first_room}
-use Rattle.radix_tree.proofs.Words.{name_of, ChainStands, Stands, chain_from, sides_from, shown, IsWhole, Entry, Lodged}
+use Rattle.radix_tree.proofs.Words.{Node, Placed, Tree, leaf, fork, IsTree, routes_of, Leaves, Bits, leaves_in, bits_in, first_room, name_of, ChainStands}
+use Rattle.radix_tree.proofs.Words.{Stands, chain_from, sides_from, shown, IsWhole, Lodged}
 use Rattle.radix_tree.proofs.Scans.{chain_most}
 
 module _ {V : Type 0} where
@@ -12,25 +12,25 @@ module _ {V : Type 0} where
   chain_is zero L above previous [] fits stands = refl
   chain_is (suc n) L above previous [] fits stands = refl
   chain_is zero L above previous (x ∷ c) fits stands = absurd (omega arith)
-  chain_is (suc n) L above previous (x ∷ c) fits stands = ap (λ (o : Option (LeafPart V)). chain_from o (chain_shown n L)) stands.0
-      ∙ ap (λ (es : List (Entry V)). x.entry ∷ es) (chain_is n L None (Some x.room) c (omega arith) stands.1)
+  chain_is (suc n) L above previous (x ∷ c) fits stands = ap (λ o. chain_from o (chain_shown n L)) stands.0
+      ∙ ap (λ es. x.entry ∷ es) (chain_is n L None (Some x.room) c (omega arith) stands.1)
 
   -- 33 levels are enough
   pub beneath_is : (n low : ℕ) (L : Leaves V) (B : Bits) (above : Option Id) (t : Tree V) → IsTree low t → Stands L B above t → 33 ≤ low + n
       → beneath_shown n L B (name_of t) ≡ routes_of t
   unfolding beneath_shown
-  beneath_is zero low L B above (leaf x xs) is stands enough = let most : low ≤ 32 = is.0 in absurd (omega arith)
+  beneath_is zero low L B above (leaf x xs) is stands enough = let most = is.0 in absurd (omega arith)
   beneath_is (suc n) low L B above (leaf x xs) is stands enough = chain_is 34 L above None (x ∷ xs) (chain_most x.entry.key 34 (x ∷ xs) is.1) stands
   beneath_is zero low L B above (fork room b left right) is stands enough =
-      let rises : low ≤ b = is.0.rises in let within : b ≤ 31 = is.0.within in absurd (omega arith)
+      let rises = is.0.rises in let within = is.0.within in absurd (omega arith)
   beneath_is (suc n) low L B above (fork room b left right) is stands enough =
-      let rises : low ≤ b = is.0.rises in
-      ap (λ (o : Option BitPart). sides_from o (beneath_shown n L B)) stands.0
-      ∙ ap (λ (es : List (Entry V)). es ++ beneath_shown n L B (name_of right)) (beneath_is n (b + 1) L B (Some room) left is.1 stands.1 (omega arith))
-      ∙ ap (λ (es : List (Entry V)). routes_of left ++ es) (beneath_is n (b + 1) L B (Some room) right is.2 stands.2 (omega arith))
+      let rises = is.0.rises in
+      ap (λ o. sides_from o (beneath_shown n L B)) stands.0
+      ∙ ap (λ es. es ++ beneath_shown n L B (name_of right)) (beneath_is n (b + 1) L B (Some room) left is.1 stands.1 (omega arith))
+      ∙ ap (λ es. routes_of left ++ es) (beneath_is n (b + 1) L B (Some room) right is.2 stands.2 (omega arith))
 
   pub shown_is : {m : Lodged V} {root : Node} (w : IsWhole m root) → shown m (Some root) ≡ routes_of w.part.tree
   shown_is {m = m} w =
-      let low : w.part.low ≡ 0 = w.low in
-      ap (λ (n : Node). beneath_shown 33 (leaves_in m) (bits_in m) n) (sym w.named)
+      let low = w.low in
+      ap (beneath_shown 33 (leaves_in m) (bits_in m)) (sym w.named)
       ∙ beneath_is 33 w.part.low (leaves_in m) (bits_in m) w.part.above w.part.tree w.part.is w.part.stands (omega arith)

@@ -1,9 +1,9 @@
 -- A walk up from a leaf to the spot at which a route of a new key comes in.
-use Rattle.radix_tree.proofs.Words.{◌≡◌, ℕ, ◌+◌, ◌<◌, ◌≤◌, [], Option, None, refl, sym, ap, ◌∙◌, subst, ⊎_elim, arith, inl, inr, cases_eq, Counter, Id}
-use Rattle.radix_tree.proofs.Words.{BitNode, Node, LeafOf, BitOf, AreOnce, IsNew, IsSpot, Differs, IsBitNodeOf, ReadsOnce, Part, name_of, ForkAt, Beneath}
-use Rattle.radix_tree.proofs.Words.{LedTo, Tree, bit_at, HaveBit, IsTree, Lodged}
 use Rattle.radix_tree.proofs.{AddressBits.zero_or_one, Climbs.Climb, Climbs.Over, Climbs.fork_over, Climbs.node_at, Climbs.ended, Climbs.Steps}
 use Rattle.radix_tree.proofs.{Climbs.step_begun, Climbs.step_risen, Forking.one_value, Parts.fork_is, Parts.fork_name}
+use Rattle.radix_tree.proofs.Words.{◌≡◌, ℕ, ◌+◌, ◌<◌, ◌≤◌, [], Option, None, refl, sym, ap, ◌∙◌, subst, ⊎_elim, arith, inl, inr, cases_eq, Counter, Id}
+use Rattle.radix_tree.proofs.Words.{BitNode, Node, LeafOf, BitOf, AreOnce, IsNew, IsSpot, Differs, IsBitNodeOf, ReadsOnce, Part, name_of, ForkAt, Beneath}
+use Rattle.radix_tree.proofs.Words.{LedTo, bit_at, HaveBit, IsTree, Lodged}
 
 module _ {V : Type 0} {m : Lodged V} where
   -- a value that all keys of a part have at a bit before the node's above is that of all beneath the node
@@ -16,7 +16,7 @@ module _ {V : Type 0} {m : Lodged V} where
         | inl e ↦ one_value c a.0 value f.zero a.1 (subst (HaveBit c value) e.0 have)
         | inr e ↦ one_value c a.0 value f.one a.2 (subst (HaveBit c value) e.0 have)
       ] in
-      subst (HaveBit c value) (sym f.is) (subst (λ (v : ℕ). HaveBit c v f.zero) same a.1, subst (λ (v : ℕ). HaveBit c v f.one) same a.2)
+      subst (HaveBit c value) (sym f.is) (subst (λ v. HaveBit c v f.zero) same a.1, subst (λ v. HaveBit c v f.one) same a.2)
 
   -- beneath a bit node on a key's side all keys have the key's bit
   own_side : (key : ℕ) (under over : Part m) (b : Beneath key under over) → HaveBit b.at.bit (bit_at b.at.bit key) under.tree
@@ -24,8 +24,8 @@ module _ {V : Type 0} {m : Lodged V} where
       let f = b.at in
       let is = (fork_is m f).0 in
       elim b.side [
-        | inl e ↦ subst (HaveBit f.bit (bit_at f.bit key)) (sym e.0) (subst (λ (v : ℕ). HaveBit f.bit v f.zero) (sym e.1) is.zeros)
-        | inr e ↦ subst (HaveBit f.bit (bit_at f.bit key)) (sym e.0) (subst (λ (v : ℕ). HaveBit f.bit v f.one) (sym e.1) is.ones)
+        | inl e ↦ subst (HaveBit f.bit (bit_at f.bit key)) (sym e.0) (subst (λ v. HaveBit f.bit v f.zero) (sym e.1) is.zeros)
+        | inr e ↦ subst (HaveBit f.bit (bit_at f.bit key)) (sym e.0) (subst (λ v. HaveBit f.bit v f.one) (sym e.1) is.ones)
       ]
 
   raised : {over : Part m} {room : Id} (f : ForkAt over room) (bit : ℕ) → bit < f.bit → IsTree (bit + 1) over.tree
@@ -52,9 +52,9 @@ module _ {V : Type 0} {m : Lodged V} where
       let f = d.leaf in
       let have : (c : ℕ) → HaveBit c (bit_at c f.first.entry.key) d.part.tree = λ c. subst (HaveBit c (bit_at c f.first.entry.key)) (sym f.is) refl in
       record {
-        named = ap (λ (t : Tree V). name_of t) f.is ∙ ap (λ (i : Id). LeafOf i) f.room_is;
+        named = ap name_of f.is ∙ ap LeafOf f.room_is;
         past = subst (IsTree (bit + 1)) (sym f.is) (omega (arith, differs.within), (subst (IsTree d.part.low) f.is d.part.is).1);
-        agree = λ c before. subst (λ (v : ℕ). HaveBit c v d.part.tree) (sym (differs.before c before)) (have c);
+        agree = λ c before. subst (λ v. HaveBit c v d.part.tree) (sym (differs.before c before)) (have c);
         here = have bit;
         steps = step_begun d once;
       }
@@ -65,7 +65,7 @@ module _ {V : Type 0} {m : Lodged V} where
       → bit < n.bit → ReadsOnce now later → Past key other bit (BitOf room) start later o.part
   over_past {key} {other} {bit} {under = under} {room} {n = n} o r is past once =
       let b = o.beneath in
-      let same : n.bit ≡ b.at.bit = (node_at (fork_over o) is).bit in
+      let same = (node_at (fork_over o) is).bit in
       let further : bit < b.at.bit = omega (arith, past, same) in
       record {
         named = fork_name m (fork_over o);
@@ -91,8 +91,8 @@ module _ {V : Type 0} {m : Lodged V} where
           is = r.past;
           agree = r.agree;
           far_one = λ clear. ⊎_elim (λ (zero : bit_at bit other ≡ 0). absurd (differs.at (clear ∙ sym zero)))
-              (λ (one : bit_at bit other ≡ 1). subst (λ (v : ℕ). HaveBit bit v c.part.tree) one r.here) (zero_or_one bit other);
-          far_zero = λ set. ⊎_elim (λ (zero : bit_at bit other ≡ 0). subst (λ (v : ℕ). HaveBit bit v c.part.tree) zero r.here)
+              (λ (one : bit_at bit other ≡ 1). subst (λ v. HaveBit bit v c.part.tree) one r.here) (zero_or_one bit other);
+          far_zero = λ set. ⊎_elim (λ (zero : bit_at bit other ≡ 0). subst (λ v. HaveBit bit v c.part.tree) zero r.here)
               (λ (one : bit_at bit other ≡ 1). absurd (differs.at (set ∙ sym one))) (zero_or_one bit other);
         };
         above_is = c.above;
@@ -106,9 +106,9 @@ module _ {V : Type 0} {m : Lodged V} where
   stopped {key} {bit} {n = n} w c o is before =
       let other = w.led.leaf.first.entry.key in
       let b = o.beneath in
-      let same : n.bit ≡ b.at.bit = (node_at (fork_over o) is).bit in
+      let same = (node_at (fork_over o) is).bit in
       let other_bit : b.at.bit ≡ bit → ⊥ = λ e. w.differs.at
-      (one_value bit (bit_at bit key) (bit_at bit other) c.part.tree (subst (λ (k : ℕ). HaveBit k (bit_at k key) c.part.tree) e (own_side key c.part o.part b))
+      (one_value bit (bit_at bit key) (bit_at bit other) c.part.tree (subst (λ k. HaveBit k (bit_at k key) c.part.tree) e (own_side key c.part o.part b))
       c.holds.here) in
       spot_of c w.top w.once w.differs
       (elim (cases_eq b.at.bit bit) [ inl e ↦ absurd (other_bit e) | inr ne ↦ omega (arith, ne, same, b.low, before) ])

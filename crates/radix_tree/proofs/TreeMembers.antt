@@ -17,39 +17,39 @@ module _ {V : Type 0} where
   head_of (x ∷ xs) begins = record { first = x; behind = xs; is = refl; room_is = inside begins }
 
   pub same_rank : {x y : Placed V} → x ≡ y → x.entry.rank ≡ y.entry.rank
-  same_rank e = ap (λ (p : Placed V). p.entry.rank) e
+  same_rank e = ap (λ p. p.entry.rank) e
 
   pub chain_route : (key top : ℕ) (c : List (Placed V)) → IsChain key top c → (x : Placed V) → IsAmong x c → IsRoute x.entry
   chain_route key top [] is x among = absurd among
   chain_route key top (y ∷ c) is x among =
-      elim among [ inl e ↦ subst (λ (p : Placed V). IsRoute p.entry) e is.0 | inr it ↦ chain_route key y.entry.rank c is.3 x it ]
+      elim among [ inl e ↦ subst (λ p. IsRoute p.entry) e is.0 | inr it ↦ chain_route key y.entry.rank c is.3 x it ]
 
   pub chain_key : (key top : ℕ) (c : List (Placed V)) → IsChain key top c → (x : Placed V) → IsAmong x c → x.entry.key ≡ key
   chain_key key top [] is x among = absurd among
   chain_key key top (y ∷ c) is x among =
-      elim among [ inl e ↦ subst (λ (p : Placed V). p.entry.key ≡ key) e is.1 | inr it ↦ chain_key key y.entry.rank c is.3 x it ]
+      elim among [ inl e ↦ subst (λ p. p.entry.key ≡ key) e is.1 | inr it ↦ chain_key key y.entry.rank c is.3 x it ]
 
   pub chain_below : (key top : ℕ) (c : List (Placed V)) → IsChain key top c → (x : Placed V) → IsAmong x c → x.entry.rank < top
   chain_below key top [] is x among = absurd among
   chain_below key top (y ∷ c) is x among =
-      let first : y.entry.rank < top = is.2 in
+      let first = is.2 in
       elim among [
-        | inl e ↦ subst (λ (p : Placed V). p.entry.rank < top) e first
-        | inr behind ↦ let lower : x.entry.rank < y.entry.rank = chain_below key y.entry.rank c is.3 x behind in omega arith
+        | inl e ↦ subst (λ p. p.entry.rank < top) e first
+        | inr behind ↦ let lower = chain_below key y.entry.rank c is.3 x behind in omega arith
       ]
 
   -- of a chain the first route is of greatest rank
   pub first_greatest : (key top : ℕ) (x : Placed V) (c : List (Placed V)) → IsChain key top (x ∷ c) → (y : Placed V) → IsAmong y (x ∷ c)
       → y.entry.rank ≤ x.entry.rank
   first_greatest key top x c is y among = elim among [
-    | inl e ↦ let same : x.entry.rank ≡ y.entry.rank = same_rank e in omega arith
-    | inr behind ↦ let lower : y.entry.rank < x.entry.rank = chain_below key x.entry.rank c is.3 y behind in omega arith
+    | inl e ↦ let same = same_rank e in omega arith
+    | inr behind ↦ let lower = chain_below key x.entry.rank c is.3 y behind in omega arith
   ]
 
   pub chain_short : (key top : ℕ) (c : List (Placed V)) → IsChain key top c → length c ≤ top
   chain_short key top [] is = omega arith
   chain_short key top (x ∷ c) is =
-      let first : x.entry.rank < top = is.2 in let behind : length c ≤ x.entry.rank = chain_short key x.entry.rank c is.3 in omega arith
+      let first = is.2 in let behind = chain_short key x.entry.rank c is.3 in omega arith
 
   pub tree_route : (low : ℕ) (t : Tree V) → IsTree low t → (x : Placed V) → IsIn x t → IsRoute x.entry
   tree_route low (leaf z zs) is x at = chain_route z.entry.key 34 (z ∷ zs) is.1 x at

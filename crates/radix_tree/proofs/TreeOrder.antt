@@ -1,29 +1,29 @@
 -- The routes of a tree, from left to right, are a table.
 use Rattle.std.proofs.Math.Nat.{div-mul-le_self}
 use Rattle.mask_table.proofs.Agreeing.{front_of_bits, front_suc}
-use Rattle.std.proofs.lemmas.Nat.{le-div, pow_pos}
-use Rattle.radix_tree.specs.Tree.{bit_at}
-use Rattle.radix_tree.proofs.Words.{◌≡◌, ℕ, suc, ◌+◌, ◌*◌, ◌-◌, ◌/◌, ◌^◌, ◌<◌, ◌≤◌, IsTrue, List, [], ◌∷◌, ◌++◌, map, refl, inl, inr, sym, ◌∙◌, arith}
-use Rattle.radix_tree.proofs.Words.{cases_lt, AllByRecursion, front, bit, precedes, IsTable, Placed, Tree, leaf, fork, IsAmong, IsIn, IsChain, IsFork}
-use Rattle.radix_tree.proofs.Words.{IsTree, routes_of, Entry}
 use Rattle.radix_tree.proofs.{ListLemmas.all_append, OrderLemmas.precedes_in_words, TreeMembers.chain_key, TreeMembers.chain_below}
 use Rattle.radix_tree.proofs.{TreeMembers.tree_route, TreeMembers.bit_beneath}
+use Rattle.std.proofs.lemmas.Nat.{le-div, pow_pos}
+use Rattle.radix_tree.specs.Tree.{bit_at}
+use Rattle.radix_tree.proofs.Words.{◌≡◌, ℕ, suc, ◌+◌, ◌-◌, ◌/◌, ◌^◌, ◌<◌, ◌≤◌, IsTrue, List, [], ◌∷◌, ◌++◌, map, refl, inl, inr, sym, ◌∙◌, arith}
+use Rattle.radix_tree.proofs.Words.{cases_lt, AllByRecursion, front, precedes, IsTable, Placed, Tree, leaf, fork, IsAmong, IsIn, IsChain, IsFork, IsTree}
+use Rattle.radix_tree.proofs.Words.{routes_of, Entry}
 
 monotone : (k x y : ℕ) → y ≤ x → y / 2 ^ k ≤ x / 2 ^ k
-monotone k x y le = let low : y / 2 ^ k * 2 ^ k ≤ y = div-mul-le_self y (2 ^ k) in le-div (y / 2 ^ k) x (2 ^ k) (pow_pos k) (omega arith)
+monotone k x y le = let low = div-mul-le_self y (2 ^ k) in le-div (y / 2 ^ k) x (2 ^ k) (pow_pos k) (omega arith)
 
 -- an address is smaller where the first bit that differs is 0
 less : (b x y : ℕ) → b ≤ 31 → x < 2 ^ 32 → y < 2 ^ 32 → ((c : ℕ) → c < b → bit_at c x ≡ bit_at c y) → bit_at b x ≡ 0 → bit_at b y ≡ 1 → x < y
 unfolding bit_at
 less b x y within fits_x fits_y same zero one =
     let inside : b < 32 = omega arith in
-    let before : front b x ≡ front b y = front_of_bits b x y (omega arith) fits_x fits_y same in
-    let of_x : front (suc b) x ≡ 2 * front b x + bit b x = front_suc b x inside in
-    let of_y : front (suc b) y ≡ 2 * front b y + bit b y = front_suc b y inside in
+    let before = front_of_bits b x y (omega arith) fits_x fits_y same in
+    let of_x = front_suc b x inside in
+    let of_y = front_suc b y inside in
     let more : front (suc b) x < front (suc b) y = omega (arith, before, of_x, of_y, zero, one) in
     elim (cases_lt x y) [
       | inl lt ↦ lt
-      | inr ge ↦ let le : front (suc b) y ≤ front (suc b) x = monotone (32 - suc b) x y ge in absurd (omega (arith, more, le))
+      | inr ge ↦ let le = monotone (32 - suc b) x y ge in absurd (omega (arith, more, le))
     ]
 
 module _ {V : Type 0} where

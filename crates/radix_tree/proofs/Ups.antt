@@ -1,8 +1,8 @@
 -- A walk up a tree from the leaf of an address, in search of its best route.
-use Rattle.radix_tree.proofs.Words.{◌≡◌, ℕ, ◌+◌, ◌-◌, ◌*◌, ◌≤◌, ◌∷◌, Option, Some, None, subst, arith, Counter, Id, Reads, Part, Tells, Best, In, LedTo}
-use Rattle.radix_tree.proofs.Words.{IsAmong, IsTree, Lodged}
 use Rattle.radix_tree.proofs.{Climbs.Over, Climbs.fork_over, Parts.fork_is, Parts.among_leaf, Parts.in_leaf, Parts.side_of, Parts.way_best}
 use Rattle.radix_tree.proofs.{Searching.listed_hit, Searching.listed_miss}
+use Rattle.radix_tree.proofs.Words.{◌≡◌, ℕ, ◌+◌, ◌-◌, ◌*◌, ◌≤◌, ◌∷◌, Option, Some, None, subst, arith, Counter, Id, Reads, Part, Tells, Best, In, LedTo}
+use Rattle.radix_tree.proofs.Words.{IsAmong, IsTree, Lodged}
 
 module _ {V : Type 0} {m : Lodged V} where
   -- all beneath a part was searched in vain
@@ -44,7 +44,7 @@ module _ {V : Type 0} {m : Lodged V} where
         told.0,
         told.1,
         way_best m address whole o.part o.ups o.way told.0 (listed_hit address o.part.low b.at.bit under.tree o.part.tree told.0 (side_of m b)
-            (subst (λ (n : ℕ). Best address n 34 (In under) None) b.low s.none) told.2),
+            (subst (λ n. Best address n 34 (In under) None) b.low s.none) told.2),
       )
 
   -- or none
@@ -57,7 +57,7 @@ module _ {V : Type 0} {m : Lodged V} where
       let told = subst (Tells (Best address o.part.low (b.at.bit + 1) (In o.part))) none tells in
       let rises = (fork_is m (fork_over o)).0.rises in
       record {
-        none = listed_miss address o.part.low b.at.bit under.tree o.part.tree (side_of m b) (subst (λ (n : ℕ). Best address n 34 (In under) None) b.low s.none)
+        none = listed_miss address o.part.low b.at.bit under.tree o.part.tree (side_of m b) (subst (λ n. Best address n 34 (In under) None) b.low s.none)
             told;
         rises = omega arith;
         few = omega (arith, rises, b.low, s.few);

@@ -1,17 +1,16 @@
 -- A value in a room changes, and with it the route that stands there.
 use Rattle.radix_nodes.proofs.Callers.{put_value-is, get-put_room}
-use Rattle.radix_tree.proofs.Words.{◌≡◌, ℕ, ◌+◌, ◌≤◌, ◌==◌, Bool, true, false, IsTrue, if◌then◌else◌, List, [], ◌∷◌, ◌++◌, map, Option, Some, None}
-use Rattle.radix_tree.proofs.Words.{is_some, refl, inl, inr, sym, ap, ◌∙◌, subst, arith, eqb-true, eq-eqb, append_assoc, AllByRecursion, get, keys, Ptr}
-use Rattle.radix_tree.proofs.Words.{Seen, Has, seen, put_value, leaf_of, bit_node_of, mask_node_of, Id, Node, precedes, IsTable, with_entry, Placed, Tree}
-use Rattle.radix_tree.proofs.Words.{leaf, fork, IsAmong, IsIn, routes_of, LeafPart, BitPart, Bits, Heads, Masks, leaf_in, bit_in, head_in, mask_in}
-use Rattle.radix_tree.proofs.Words.{bit_part, mask_part, leaves_in, bits_in, heads_in, masks_in, Stands, Lists, one_if, members_at, leaves_at}
-use Rattle.radix_tree.proofs.Words.{HaveOneFork, shown, IsWhole, KeepsBits, KeepsHeads, KeepsMasks, Entry, of_rank, AreCounted, Tells, Finds, HasPair, In}
-use Rattle.radix_tree.proofs.Words.{Lodged}
-use Rattle.radix_tree.proofs.ValuedTrees.{true_false, pointwise, valued, all_valued, tree_valued, name_valued, tree_is_valued, put, stands_valued}
-use Rattle.radix_tree.proofs.ValuedTrees.{leaves_valued, forks_valued, spare_valued, in_valued, home_valued, lists_valued}
 use Rattle.radix_tree.proofs.{Counted.of_rank-cons, Counted.of_rank-append, Numbers.insert_keys, OrderLemmas.own_pair, TableLemmas.with_parts}
 use Rattle.radix_tree.proofs.{TableLemmas.with_later, TableLemmas.With.later, TableLemmas.With.same, TableLemmas.With.sooner, TreeOrder.tree_is_table}
 use Rattle.radix_tree.proofs.{Showing.shown_is}
+use Rattle.radix_tree.proofs.Words.{◌≡◌, ℕ, ◌+◌, ◌≤◌, ◌==◌, Bool, true, false, IsTrue, if◌then◌else◌, List, [], ◌∷◌, ◌++◌, map, Option, Some, None}
+use Rattle.radix_tree.proofs.Words.{is_some, refl, inl, inr, sym, ap, ◌∙◌, subst, arith, eqb-true, eq-eqb, append_assoc, AllByRecursion, get, keys, Seen}
+use Rattle.radix_tree.proofs.Words.{Has, seen, put_value, leaf_of, bit_node_of, mask_node_of, Id, Node, precedes, IsTable, with_entry, Placed, Tree, leaf}
+use Rattle.radix_tree.proofs.Words.{fork, IsAmong, IsIn, routes_of, LeafPart, leaf_in, bit_in, head_in, mask_in, bit_part, mask_part, leaves_in, bits_in}
+use Rattle.radix_tree.proofs.Words.{heads_in, masks_in, Stands, Lists, one_if, members_at, leaves_at, HaveOneFork, shown, IsWhole, KeepsBits, KeepsHeads}
+use Rattle.radix_tree.proofs.Words.{KeepsMasks, Entry, of_rank, AreCounted, Tells, Finds, HasPair, In, Lodged}
+use Rattle.radix_tree.proofs.ValuedTrees.{true_false, pointwise, valued, all_valued, tree_valued, name_valued, tree_is_valued, put, stands_valued}
+use Rattle.radix_tree.proofs.ValuedTrees.{leaves_valued, forks_valued, spare_valued, in_valued, home_valued, lists_valued}
 
 module _ {V : Type 0} (n : ℕ) (value : V) where
   -- ---- its routes
@@ -26,10 +25,10 @@ module _ {V : Type 0} (n : ℕ) (value : V) where
   entries_of c = map (λ (p : Placed V). p.entry) c
 
   apart : (x : Placed V) → (x.room.number == n) ≡ false → (valued n value x).entry ≡ x.entry
-  apart x other = ap (λ (b : Bool). record { key = x.entry.key; rank = x.entry.rank; value = if b then value else x.entry.value }) other
+  apart x other = ap (λ b. record { key = x.entry.key; rank = x.entry.rank; value = if b then value else x.entry.value }) other
 
   here_is : (x : Placed V) → (x.room.number == n) ≡ true → (valued n value x).entry ≡ record x.entry { value = value }
-  here_is x is = ap (λ (b : Bool). record { key = x.entry.key; rank = x.entry.rank; value = if b then value else x.entry.value }) is
+  here_is x is = ap (λ b. record { key = x.entry.key; rank = x.entry.rank; value = if b then value else x.entry.value }) is
 
   not_one : (b : Bool) → one_if b ≡ 0 → b ≡ false
   not_one true e = absurd (omega (arith, e))
@@ -40,84 +39,79 @@ module _ {V : Type 0} (n : ℕ) (value : V) where
   chain_aside (x ∷ xs) none =
       let here : one_if (x.room.number == n) ≡ 0 = omega (arith, none) in
       let rest : members_at n xs ≡ 0 = omega (arith, none) in
-      ap (λ (e : Entry V). e ∷ entries_of (all_valued n value xs)) (apart x (not_one (x.room.number == n) here))
-      ∙ ap (λ (es : List (Entry V)). x.entry ∷ es) (chain_aside xs rest)
+      ap (λ e. e ∷ entries_of (all_valued n value xs)) (apart x (not_one (x.room.number == n) here)) ∙ ap (λ es. x.entry ∷ es) (chain_aside xs rest)
 
   tree_aside : (t : Tree V) → leaves_at n t ≡ 0 → routes_of (tree_valued n value t) ≡ routes_of t
   tree_aside (leaf x xs) none = chain_aside (x ∷ xs) none
   tree_aside (fork room b zero one) none =
       let left : leaves_at n zero ≡ 0 = omega (arith, none) in
       let right : leaves_at n one ≡ 0 = omega (arith, none) in
-      ap (λ (es : List (Entry V)). es ++ routes_of (tree_valued n value one)) (tree_aside zero left)
-      ∙ ap (λ (es : List (Entry V)). routes_of zero ++ es) (tree_aside one right)
+      ap (λ es. es ++ routes_of (tree_valued n value one)) (tree_aside zero left) ∙ ap (λ es. routes_of zero ++ es) (tree_aside one right)
 
   counted_among : (x : Placed V) (c : List (Placed V)) → x.room.number ≡ n → IsAmong x c → 1 ≤ members_at n c
   counted_among x [] is among = absurd among
   counted_among x (y ∷ c) is among = elim among [
-    | inl e ↦ let here : one_if (y.room.number == n) ≡ 1 =
-        ap (λ (b : Bool). one_if b) (eq-eqb y.room.number n (ap (λ (p : Placed V). p.room.number) e ∙ is)) in omega (arith, here)
-    | inr rest ↦ let more : 1 ≤ members_at n c = counted_among x c is rest in omega (arith, more)
+    | inl e ↦ let here = ap one_if (eq-eqb y.room.number n (ap (λ p. p.room.number) e ∙ is)) in omega (arith, here)
+    | inr rest ↦ let more = counted_among x c is rest in omega (arith, more)
   ]
 
   counted_in : (x : Placed V) (t : Tree V) → x.room.number ≡ n → IsIn x t → 1 ≤ leaves_at n t
   counted_in x (leaf y ys) is at = counted_among x (y ∷ ys) is at
   counted_in x (fork room b zero one) is at = elim at [
-    | inl left ↦ let some : 1 ≤ leaves_at n zero = counted_in x zero is left in omega (arith, some)
-    | inr right ↦ let some : 1 ≤ leaves_at n one = counted_in x one is right in omega (arith, some)
+    | inl left ↦ let some = counted_in x zero is left in omega (arith, some)
+    | inr right ↦ let some = counted_in x one is right in omega (arith, some)
   ]
 
   chain_put : (x : Placed V) (c : List (Placed V)) → x.room.number ≡ n → IsAmong x c → members_at n c ≤ 1
       → IsPut x.entry (entries_of c) (entries_of (all_valued n value c))
   chain_put x [] is among once = absurd among
   chain_put x (y ∷ c) is among once = elim among [
-    | inl e ↦ let at : (y.room.number == n) ≡ true = eq-eqb y.room.number n (ap (λ (p : Placed V). p.room.number) e ∙ is) in
-        let here : one_if (y.room.number == n) ≡ 1 = ap (λ (b : Bool). one_if b) at in
+    | inl e ↦ let at = eq-eqb y.room.number n (ap (λ p. p.room.number) e ∙ is) in
+        let here = ap one_if at in
         let none : members_at n c ≡ 0 = omega (arith, here, once) in
-        subst (λ (p : Placed V). IsPut p.entry (y.entry ∷ entries_of c) (entries_of (all_valued n value (y ∷ c)))) e (record {
+        subst (λ p. IsPut p.entry (y.entry ∷ entries_of c) (entries_of (all_valued n value (y ∷ c)))) e (record {
           front = [];
           back = entries_of c;
           was = refl;
-          now = ap (λ (f : Entry V). f ∷ entries_of (all_valued n value c)) (here_is y at)
-              ∙ ap (λ (es : List (Entry V)). record y.entry { value = value } ∷ es) (chain_aside c none);
+          now = ap (λ f. f ∷ entries_of (all_valued n value c)) (here_is y at)
+              ∙ ap (λ es. record y.entry { value = value } ∷ es) (chain_aside c none);
         })
-    | inr rest ↦ let some : 1 ≤ members_at n c = counted_among x c is rest in
+    | inr rest ↦ let some = counted_among x c is rest in
         let here : one_if (y.room.number == n) ≡ 0 = omega (arith, some, once) in
         let fewer : members_at n c ≤ 1 = omega (arith, once) in
         let p = chain_put x c is rest fewer in
         record {
           front = y.entry ∷ p.front;
           back = p.back;
-          was = ap (λ (es : List (Entry V)). y.entry ∷ es) p.was;
-          now = ap (λ (f : Entry V). f ∷ entries_of (all_valued n value c)) (apart y (not_one (y.room.number == n) here))
-              ∙ ap (λ (es : List (Entry V)). y.entry ∷ es) p.now;
+          was = ap (λ es. y.entry ∷ es) p.was;
+          now = ap (λ f. f ∷ entries_of (all_valued n value c)) (apart y (not_one (y.room.number == n) here)) ∙ ap (λ es. y.entry ∷ es) p.now;
         }
   ]
 
   tree_put : (x : Placed V) (t : Tree V) → x.room.number ≡ n → IsIn x t → leaves_at n t ≤ 1 → IsPut x.entry (routes_of t) (routes_of (tree_valued n value t))
   tree_put x (leaf y ys) is at once = chain_put x (y ∷ ys) is at once
   tree_put x (fork room b zero one) is at once = elim at [
-    | inl left ↦ let some : 1 ≤ leaves_at n zero = counted_in x zero is left in
+    | inl left ↦ let some = counted_in x zero is left in
         let none : leaves_at n one ≡ 0 = omega (arith, some, once) in
         let fewer : leaves_at n zero ≤ 1 = omega (arith, once) in
         let p = tree_put x zero is left fewer in
         record {
           front = p.front;
           back = p.back ++ routes_of one;
-          was = ap (λ (es : List (Entry V)). es ++ routes_of one) p.was ∙ append_assoc p.front (x.entry ∷ p.back) (routes_of one);
-          now = ap (λ (es : List (Entry V)). es ++ routes_of (tree_valued n value one)) p.now
-              ∙ ap (λ (es : List (Entry V)). (p.front ++ record x.entry { value = value } ∷ p.back) ++ es) (tree_aside one none)
+          was = ap (λ es. es ++ routes_of one) p.was ∙ append_assoc p.front (x.entry ∷ p.back) (routes_of one);
+          now = ap (λ es. es ++ routes_of (tree_valued n value one)) p.now
+              ∙ ap (λ es. (p.front ++ record x.entry { value = value } ∷ p.back) ++ es) (tree_aside one none)
               ∙ append_assoc p.front (record x.entry { value = value } ∷ p.back) (routes_of one);
         }
-    | inr right ↦ let some : 1 ≤ leaves_at n one = counted_in x one is right in
+    | inr right ↦ let some = counted_in x one is right in
         let none : leaves_at n zero ≡ 0 = omega (arith, some, once) in
         let fewer : leaves_at n one ≤ 1 = omega (arith, once) in
         let p = tree_put x one is right fewer in
         record {
           front = routes_of zero ++ p.front;
           back = p.back;
-          was = ap (λ (es : List (Entry V)). routes_of zero ++ es) p.was ∙ sym (append_assoc (routes_of zero) p.front (x.entry ∷ p.back));
-          now = ap (λ (es : List (Entry V)). es ++ routes_of (tree_valued n value one)) (tree_aside zero none)
-              ∙ ap (λ (es : List (Entry V)). routes_of zero ++ es) p.now
+          was = ap (λ es. routes_of zero ++ es) p.was ∙ sym (append_assoc (routes_of zero) p.front (x.entry ∷ p.back));
+          now = ap (λ es. es ++ routes_of (tree_valued n value one)) (tree_aside zero none) ∙ ap (λ es. routes_of zero ++ es) p.now
               ∙ sym (append_assoc (routes_of zero) p.front (record x.entry { value = value } ∷ p.back));
         }
   ]
@@ -136,7 +130,7 @@ module _ {V : Type 0} (n : ℕ) (value : V) where
   ]
   placed_in (f ∷ front) back x table =
       with_later (record x { value = value }) f (front ++ x ∷ back) (first_ahead (λ g. IsTrue (precedes f g)) front back x table.1)
-      ∙ ap (λ (es : List (Entry V)). f ∷ es) (placed_in front back x table.2)
+      ∙ ap (λ es. f ∷ es) (placed_in front back x table.2)
 
 one_most : (b : Bool) → one_if b ≤ 1
 one_most true = omega arith
@@ -166,17 +160,17 @@ module _ {V : Type 0} where
           low = w.part.low;
           above = w.part.above;
           is = tree_is_valued n value w.part.low w.part.tree w.part.is;
-          stands = subst (λ (B : Bits). Stands (leaves_in new) B w.part.above t) (sym (pointwise (bits_in new) (bits_in m) v.bits)) stands;
+          stands = subst (λ B. Stands (leaves_in new) B w.part.above t) (sym (pointwise (bits_in new) (bits_in m) v.bits)) stands;
         };
         low = w.low;
         top = w.top;
         named = name_valued n value w.part.tree ∙ w.named;
-        leaves = λ k. leaves_valued n value k w.part.tree ∙ w.leaves k ∙ ap (λ (b : Bool). one_if b)
-            (sym (some_put n value (k == n) (leaves_in m k)) ∙ ap (λ (o : Option (LeafPart V)). is_some o) (sym (v.leaves k)));
-        forks = λ k. forks_valued n value k w.part.tree ∙ w.forks k ∙ ap (λ (o : Option BitPart). one_if (is_some o)) (sym (v.bits k));
-        spare = subst (λ (B : Bits). HaveOneFork B t) (sym (pointwise (bits_in new) (bits_in m) v.bits)) (spare_valued n value (bits_in m) w.part.tree w.spare);
-        lists = subst (λ (H : Heads). Lists H (masks_in new) w.part.low t) (sym (pointwise (heads_in new) (heads_in m) v.heads))
-            (subst (λ (K : Masks). Lists (heads_in m) K w.part.low t) (sym (pointwise (masks_in new) (masks_in m) v.masks))
+        leaves = λ k. leaves_valued n value k w.part.tree ∙ w.leaves k ∙ ap one_if
+            (sym (some_put n value (k == n) (leaves_in m k)) ∙ ap is_some (sym (v.leaves k)));
+        forks = λ k. forks_valued n value k w.part.tree ∙ w.forks k ∙ ap (λ o. one_if (is_some o)) (sym (v.bits k));
+        spare = subst (λ B. HaveOneFork B t) (sym (pointwise (bits_in new) (bits_in m) v.bits)) (spare_valued n value (bits_in m) w.part.tree w.spare);
+        lists = subst (λ H. Lists H (masks_in new) w.part.low t) (sym (pointwise (heads_in new) (heads_in m) v.heads))
+            (subst (λ K. Lists (heads_in m) K w.part.low t) (sym (pointwise (masks_in new) (masks_in m) v.masks))
             (lists_valued n value (heads_in m) (masks_in m) w.part.low w.part.tree w.lists));
         listed = λ k p some.
             let l = w.listed k p (sym (v.masks k) ∙ some) in
@@ -189,11 +183,11 @@ module _ {V : Type 0} where
   pub valued_shown : (m new : Lodged V) (n : ℕ) (value : V) (root : Node) (v : IsValued m new n value) (w : IsWhole m root) (x : Placed V) → x.room.number ≡ n
       → IsIn x w.part.tree → shown new (Some root) ≡ with_entry (record x.entry { value = value }) (shown m (Some root))
   valued_shown m new n value root v w x is at =
-      let once : leaves_at n w.part.tree ≤ 1 = subst (λ (k : ℕ). k ≤ 1) (sym (w.leaves n)) (one_most (is_some (leaves_in m n))) in
+      let once = subst (λ k. k ≤ 1) (sym (w.leaves n)) (one_most (is_some (leaves_in m n))) in
       let p = tree_put n value x w.part.tree is at once in
-      let table = subst (λ (es : List (Entry V)). IsTable es) p.was (tree_is_table w.part.low w.part.tree w.part.is) in
+      let table = subst IsTable p.was (tree_is_table w.part.low w.part.tree w.part.is) in
       (whole_and_shown m new n value root v w).1 ∙ p.now ∙ sym (placed_in n value p.front p.back x.entry table)
-      ∙ ap (λ (es : List (Entry V)). with_entry (record x.entry { value = value }) es) (sym p.was ∙ sym (shown_is w))
+      ∙ ap (with_entry (record x.entry { value = value })) (sym p.was ∙ sym (shown_is w))
 
   -- ---- a room whose value is written
   put_none : (n : ℕ) (value : V) (o : Option (LeafPart V)) → o ≡ put n value false o
@@ -202,29 +196,29 @@ module _ {V : Type 0} where
 
   module _ (m : Lodged V) (room : Id) (value : V) (h : Has m room) where
     put_get : (k : ℕ) → get (put_value m room value) k ≡ (if k == room.number then Some (seen room.block value h.room.links) else get m k)
-    put_get k = ap (λ (q : Lodged V). get q k) (put_value-is m room value h) ∙ get-put_room m room value h.room.links k
+    put_get k = ap (λ q. get q k) (put_value-is m room value h) ∙ get-put_room m room value h.room.links k
 
     kept : {A : Type 0} (r : Option (Seen V) → A) → r (Some (seen room.block value h.room.links)) ≡ r (Some h.room) → (k : ℕ)
         → r (get (put_value m room value) k) ≡ r (get m k)
     kept r alike k = ap r (put_get k) ∙ elim (k == room.number) as (λ b. (k == room.number) ≡ b
         → r (if b then Some (seen room.block value h.room.links) else get m k) ≡ r (get m k)) [
-          | true ↦ λ is. alike ∙ ap r (sym h.at) ∙ ap (λ (j : ℕ). r (get m j)) (sym (eqb-true k room.number is))
+          | true ↦ λ is. alike ∙ ap r (sym h.at) ∙ ap (λ j. r (get m j)) (sym (eqb-true k room.number is))
           | false ↦ λ is. refl
         ] refl
 
     pub put_valued : IsValued m (put_value m room value) room.number value
     put_valued = record {
-      leaves = λ k. ap (λ (o : Option (Seen V)). leaf_in o) (put_get k)
+      leaves = λ k. ap leaf_in (put_get k)
           ∙ elim (k == room.number) as (λ b. (k == room.number) ≡ b → leaf_in (if b then Some (seen room.block value h.room.links) else get m k)
           ≡ put room.number value b (leaves_in m k)) [
-            | true ↦ λ is. ap (λ (p : Ptr). Some (record { block = p; value = value; leaf = leaf_of h.room.links })) (sym h.block)
-                ∙ ap (λ (o : Option (Seen V)). put room.number value true (leaf_in o)) (sym h.at)
-                ∙ ap (λ (j : ℕ). put room.number value true (leaves_in m j)) (sym (eqb-true k room.number is))
+            | true ↦ λ is. ap (λ p. Some (record { block = p; value = value; leaf = leaf_of h.room.links })) (sym h.block)
+                ∙ ap (λ o. put room.number value true (leaf_in o)) (sym h.at)
+                ∙ ap (λ j. put room.number value true (leaves_in m j)) (sym (eqb-true k room.number is))
             | false ↦ λ is. put_none room.number value (leaves_in m k)
           ] refl;
-      bits = kept (λ (o : Option (Seen V)). bit_in o) (ap (λ (p : Ptr). bit_part p (bit_node_of h.room.links)) (sym h.block));
+      bits = kept (λ (o : Option (Seen V)). bit_in o) (ap (λ p. bit_part p (bit_node_of h.room.links)) (sym h.block));
       heads = kept (λ (o : Option (Seen V)). head_in o) refl;
-      masks = kept (λ (o : Option (Seen V)). mask_in o) (ap (λ (p : Ptr). mask_part p (mask_node_of h.room.links)) (sym h.block));
+      masks = kept (λ (o : Option (Seen V)). mask_in o) (ap (λ p. mask_part p (mask_node_of h.room.links)) (sym h.block));
     }
 
   -- ---- a pair's value is written
@@ -236,28 +230,27 @@ module _ {V : Type 0} where
       → Tells (Finds (HasPair key rank) (In w.part)) o → Has m room → (value : V)
       → shown (put_value m room value) (Some root) ≡ with_entry (record { key = key; rank = rank; value = value }) (shown m (Some root))
   lent_shown m root w key rank o room some tells h value =
-      let told = subst (λ (o : Option Id). Tells (Finds (HasPair key rank) (In w.part)) o) some tells in
-      valued_shown m (put_value m room value) room.number value root (put_valued m room value h) w told.0 (ap (λ (i : Id). i.number) told.1) told.2.0
-      ∙ ap (λ (e : Entry V). with_entry e (shown m (Some root))) (put_entry told.0.entry key rank value told.2.1.0 told.2.1.1)
+      let told = subst (λ o. Tells (Finds (HasPair key rank) (In w.part)) o) some tells in
+      valued_shown m (put_value m room value) room.number value root (put_valued m room value h) w told.0 (ap (λ i. i.number) told.1) told.2.0
+      ∙ ap (λ e. with_entry e (shown m (Some root))) (put_entry told.0.entry key rank value told.2.1.0 told.2.1.1)
 
   counted_put : (n : ℕ) (value : V) (e : Entry V) (old new : List (Entry V)) (p : IsPut n value e old new) (r : ℕ) → of_rank r new ≡ of_rank r old
   counted_put n value e old new p r =
       let put_in : Entry V = record e { value = value } in
-      ap (λ (es : List (Entry V)). of_rank r es) p.now ∙ of_rank-append r p.front (put_in ∷ p.back)
-      ∙ ap (λ (k : ℕ). of_rank r p.front + k) (of_rank-cons r put_in p.back ∙ sym (of_rank-cons r e p.back))
-      ∙ sym (of_rank-append r p.front (e ∷ p.back)) ∙ ap (λ (es : List (Entry V)). of_rank r es) (sym p.was)
+      ap (of_rank r) p.now ∙ of_rank-append r p.front (put_in ∷ p.back)
+      ∙ ap (λ k. of_rank r p.front + k) (of_rank-cons r put_in p.back ∙ sym (of_rank-cons r e p.back))
+      ∙ sym (of_rank-append r p.front (e ∷ p.back)) ∙ ap (of_rank r) (sym p.was)
 
   pub lent_counted : (m : Lodged V) (root : Node) (w : IsWhole m root) (key rank : ℕ) (o : Option Id) (room : Id) (counts : List ℕ) → o ≡ Some room
       → Tells (Finds (HasPair key rank) (In w.part)) o → Has m room → (value : V)
       → AreCounted counts (shown m (Some root)) → AreCounted counts (shown (put_value m room value) (Some root))
   lent_counted m root w key rank o room counts some tells h value counted r fits =
-      let told = subst (λ (o : Option Id). Tells (Finds (HasPair key rank) (In w.part)) o) some tells in
+      let told = subst (λ o. Tells (Finds (HasPair key rank) (In w.part)) o) some tells in
       let n = room.number in
-      let once : leaves_at n w.part.tree ≤ 1 = subst (λ (k : ℕ). k ≤ 1) (sym (w.leaves n)) (one_most (is_some (leaves_in m n))) in
-      let p = tree_put n value told.0 w.part.tree (ap (λ (i : Id). i.number) told.1) told.2.0 once in
-      counted r fits ∙ ap (λ (es : List (Entry V)). of_rank r es) (shown_is w) ∙ sym (counted_put n value told.0.entry _ _ p r)
-      ∙ ap (λ (es : List (Entry V)). of_rank r es) (sym (whole_and_shown m (put_value m room value) n value root (put_valued m room value h) w).1)
+      let once = subst (λ k. k ≤ 1) (sym (w.leaves n)) (one_most (is_some (leaves_in m n))) in
+      let p = tree_put n value told.0 w.part.tree (ap (λ i. i.number) told.1) told.2.0 once in
+      counted r fits ∙ ap (of_rank r) (shown_is w) ∙ sym (counted_put n value told.0.entry _ _ p r)
+      ∙ ap (of_rank r) (sym (whole_and_shown m (put_value m room value) n value root (put_valued m room value h) w).1)
 
   pub lent_keys : (m : Lodged V) (room : Id) (value : V) → Has m room → keys (put_value m room value) ≡ keys m
-  lent_keys m room value h =
-      ap (λ (q : Lodged V). keys q) (put_value-is m room value h) ∙ insert_keys m room.number (seen room.block value h.room.links) h.room h.at
+  lent_keys m room value h = ap keys (put_value-is m room value h) ∙ insert_keys m room.number (seen room.block value h.room.links) h.room h.at

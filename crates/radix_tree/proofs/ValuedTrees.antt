@@ -1,8 +1,8 @@
 -- A value in a room changes: the tree with it, which the rooms stand for as before.
 use Rattle.radix_tree.proofs.Words.{◌≡◌, ℕ, ◌+◌, ◌≤◌, ◌==◌, ◌⊎◌, Bool, true, false, if◌then◌else◌, List, [], ◌∷◌, Option, Some, None, refl, sym, ap, ◌∙◌}
-use Rattle.radix_tree.proofs.Words.{subst, inl, inr, Id, Node, Placed, Tree, leaf, fork, IsAmong, IsIn, IsChain, HaveBit, IsTree, LeafPart}
-use Rattle.radix_tree.proofs.Words.{Leaves, Bits, Heads, Masks, leaf_part, first_room, name_of, ChainStands, Stands, MasksStand, Falls, IsList, Lists}
-use Rattle.radix_tree.proofs.Words.{one_if, members_at, leaves_at, forks_at, HasHome, AreIdle, HasOneFork, HaveOneFork}
+use Rattle.radix_tree.proofs.Words.{subst, inl, inr, Id, Placed, Tree, leaf, fork, IsAmong, IsIn, IsChain, HaveBit, IsTree, LeafPart, Leaves, Bits, Heads}
+use Rattle.radix_tree.proofs.Words.{Masks, leaf_part, first_room, name_of, ChainStands, Stands, MasksStand, Falls, IsList, Lists, one_if, members_at}
+use Rattle.radix_tree.proofs.Words.{leaves_at, forks_at, HasHome, AreIdle, HasOneFork, HaveOneFork}
 
 pub true_false : true ≡ false → ⊥
 true_false e = cc
@@ -63,33 +63,32 @@ module _ {V : Type 0} (n : ℕ) (value : V) where
     chain_stands : (above previous : Option Id) (c : List (Placed V)) → ChainStands L above previous c → ChainStands M above previous (all_valued c)
     chain_stands above previous [] stands = tt
     chain_stands above previous (x ∷ xs) stands = (
-      leaves x.room.number ∙ ap (λ (o : Option (LeafPart V)). put (x.room.number == n) o) stands.0
-          ∙ ap (λ (o : Option Id). Some (leaf_part (valued x) above previous o)) (sym (first_valued xs)),
+      leaves x.room.number ∙ ap (put (x.room.number == n)) stands.0 ∙ ap (λ o. Some (leaf_part (valued x) above previous o)) (sym (first_valued xs)),
       chain_stands None (Some x.room) xs stands.1,
     )
 
     pub stands_valued : (above : Option Id) (t : Tree V) → Stands L B above t → Stands M B above (tree_valued t)
     stands_valued above (leaf x xs) stands = chain_stands above None (x ∷ xs) stands
     stands_valued above (fork room b zero one) stands = (
-      stands.0 ∙ ap (λ (z : Node). Some (record { block = room.block; bit = b; zero = z; one = name_of one; above = above })) (sym (name_valued zero))
-          ∙ ap (λ (o : Node). Some (record { block = room.block; bit = b; zero = name_of (tree_valued zero); one = o; above = above })) (sym (name_valued one)),
+      stands.0 ∙ ap (λ z. Some (record { block = room.block; bit = b; zero = z; one = name_of one; above = above })) (sym (name_valued zero))
+          ∙ ap (λ o. Some (record { block = room.block; bit = b; zero = name_of (tree_valued zero); one = o; above = above })) (sym (name_valued one)),
       stands_valued (Some room) zero stands.1,
       stands_valued (Some room) one stands.2,
     )
 
   members_valued : (k : ℕ) (c : List (Placed V)) → members_at k (all_valued c) ≡ members_at k c
   members_valued k [] = refl
-  members_valued k (x ∷ xs) = ap (λ (m : ℕ). one_if (x.room.number == k) + m) (members_valued k xs)
+  members_valued k (x ∷ xs) = ap (λ m. one_if (x.room.number == k) + m) (members_valued k xs)
 
   pub leaves_valued : (k : ℕ) (t : Tree V) → leaves_at k (tree_valued t) ≡ leaves_at k t
   leaves_valued k (leaf x xs) = members_valued k (x ∷ xs)
   leaves_valued k (fork room b zero one) =
-      ap (λ (m : ℕ). m + leaves_at k (tree_valued one)) (leaves_valued k zero) ∙ ap (λ (m : ℕ). leaves_at k zero + m) (leaves_valued k one)
+      ap (λ m. m + leaves_at k (tree_valued one)) (leaves_valued k zero) ∙ ap (λ m. leaves_at k zero + m) (leaves_valued k one)
 
   pub forks_valued : (k : ℕ) (t : Tree V) → forks_at k (tree_valued t) ≡ forks_at k t
   forks_valued k (leaf x xs) = refl
-  forks_valued k (fork room b zero one) = ap (λ (m : ℕ). one_if (room.number == k) + (m + forks_at k (tree_valued one))) (forks_valued k zero)
-      ∙ ap (λ (m : ℕ). one_if (room.number == k) + (forks_at k zero + m)) (forks_valued k one)
+  forks_valued k (fork room b zero one) = ap (λ m. one_if (room.number == k) + (m + forks_at k (tree_valued one))) (forks_valued k zero)
+      ∙ ap (λ m. one_if (room.number == k) + (forks_at k zero + m)) (forks_valued k one)
 
   idle_valued : (B : Bits) (c : List (Placed V)) → AreIdle B c → AreIdle B (all_valued c)
   idle_valued B [] idle = tt
@@ -106,7 +105,7 @@ module _ {V : Type 0} (n : ℕ) (value : V) where
   -- ---- what is in it
   among_valued : (x : Placed V) (c : List (Placed V)) → IsAmong x c → IsAmong (valued x) (all_valued c)
   among_valued x [] among = absurd among
-  among_valued x (y ∷ c) among = elim among [ inl e ↦ inl (ap (λ (y : Placed V). valued y) e) | inr rest ↦ inr (among_valued x c rest) ]
+  among_valued x (y ∷ c) among = elim among [ inl e ↦ inl (ap valued e) | inr rest ↦ inr (among_valued x c rest) ]
 
   pub in_valued : (x : Placed V) (t : Tree V) → IsIn x t → IsIn (valued x) (tree_valued t)
   in_valued x (leaf y ys) at = among_valued x (y ∷ ys) at
@@ -140,7 +139,7 @@ module _ {V : Type 0} (n : ℕ) (value : V) where
   masks_stand : (K : Masks) (ms : List (Placed V)) → MasksStand K ms → MasksStand K (all_valued ms)
   masks_stand K [] stands = tt
   masks_stand K (x ∷ xs) stands =
-      (stands.0 ∙ ap (λ (o : Option Id). Some (record { block = x.room.block; next = o })) (sym (first_valued xs)), masks_stand K xs stands.1)
+      (stands.0 ∙ ap (λ o. Some (record { block = x.room.block; next = o })) (sym (first_valued xs)), masks_stand K xs stands.1)
 
   falls_valued : (low top : ℕ) (ms : List (Placed V)) → Falls low top ms → Falls low top (all_valued ms)
   falls_valued low top [] falls = tt
@@ -154,9 +153,9 @@ module _ {V : Type 0} (n : ℕ) (value : V) where
     stands = masks_stand K l.masks l.stands;
     falls = falls_valued low (b + 1) l.masks l.falls;
     has = λ y at least most. let w = side_was zero one y at in
-        subst (λ (y : Placed V). IsAmong y (all_valued l.masks)) w.2 (among_valued w.0 l.masks (l.has w.0 w.1
-        (subst (λ (y : Placed V). low ≤ y.entry.rank) (sym w.2) least) (subst (λ (y : Placed V). y.entry.rank ≤ b) (sym w.2) most)));
-    beneath = λ y among. let w = among_was y l.masks among in subst (λ (y : Placed V). IsIn y (tree_valued zero) ⊎ IsIn y (tree_valued one)) w.2
+        subst (λ y. IsAmong y (all_valued l.masks)) w.2 (among_valued w.0 l.masks (l.has w.0 w.1
+        (subst (λ y. low ≤ y.entry.rank) (sym w.2) least) (subst (λ y. y.entry.rank ≤ b) (sym w.2) most)));
+    beneath = λ y among. let w = among_was y l.masks among in subst (λ y. IsIn y (tree_valued zero) ⊎ IsIn y (tree_valued one)) w.2
         (side_valued zero one w.0 (l.beneath w.0 w.1));
   }
     where

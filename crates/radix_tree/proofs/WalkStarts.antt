@@ -1,26 +1,25 @@
 -- A walk over a tree: what stands behind a part of it, and the first route beneath a part.
 use Rattle.std.proofs.Math.Nat.{zero-div}
 use Rattle.radix_tree.specs.{Tree.bit_at, Walks.up_behind}
-use Rattle.radix_tree.proofs.Words.{◌≡◌, ℕ, zero, suc, ◌+◌, ◌-◌, ◌%◌, ◌^◌, ◌≤◌, ◌==◌, Bool, true, false, if◌then◌else◌, List, [], ◌∷◌, ◌++◌, map, Option}
-use Rattle.radix_tree.proofs.Words.{Some, None, refl, sym, ap, ◌∙◌, subst, inl, inr, arith, eqb-true, eq-eqb, append_assoc, Id, Placed, Tree, IsIn}
-use Rattle.radix_tree.proofs.Words.{IsTree, routes_of, LeafPart, BitPart, Leaves, Bits, Part, Run, leaves_in, bits_in, leaf_part, first_room, name_of}
-use Rattle.radix_tree.proofs.Words.{ForkAt, LeafAt, Way, LedTo, side_behind, chain_behind, ahead, Under, IsBefore, IsFirst, IsAt, chain_shown}
-use Rattle.radix_tree.proofs.Words.{beneath_shown, Entry, Place, Lodged}
 use Rattle.radix_tree.proofs.{AddressBits.zero_not_one, AddressBits.zero_or_one, RoomReads.inside, TreeMembers.bit_beneath, Parts.fork_is}
 use Rattle.radix_tree.proofs.{Parts.fork_stands, Parts.leaf_run, Parts.leaf_begins, Scans.chain_most, Showing.beneath_is, Showing.chain_is}
+use Rattle.radix_tree.proofs.Words.{◌≡◌, ℕ, zero, suc, ◌+◌, ◌-◌, ◌%◌, ◌^◌, ◌≤◌, ◌==◌, Bool, true, false, if◌then◌else◌, List, [], ◌∷◌, ◌++◌, map, Some}
+use Rattle.radix_tree.proofs.Words.{None, refl, sym, ap, ◌∙◌, subst, inl, inr, arith, eqb-true, eq-eqb, append_assoc, Id, Placed, Tree, IsIn, IsTree}
+use Rattle.radix_tree.proofs.Words.{routes_of, Leaves, Bits, Part, Run, leaves_in, bits_in, leaf_part, first_room, name_of, ForkAt, LeafAt, Way, LedTo}
+use Rattle.radix_tree.proofs.Words.{side_behind, chain_behind, ahead, Under, IsBefore, IsFirst, IsAt, chain_shown, beneath_shown, Entry, Place, Lodged}
 
 true_false : true ≡ false → ⊥
 true_false e = cc
 
 zero_bit : (b : ℕ) → bit_at b 0 ≡ 0
 unfolding bit_at
-zero_bit b = ap (λ (n : ℕ). n % 2) (zero-div (2 ^ (31 - b)))
+zero_bit b = ap (λ n. n % 2) (zero-div (2 ^ (31 - b)))
 
 at_zero : {A : Type 0} {v : ℕ} (x y : A) → v ≡ 0 → (if v == 1 then x else y) ≡ y
-at_zero {v = v} x y e = ap (λ (v : ℕ). if v == 1 then x else y) e
+at_zero {v = v} x y e = ap (λ v. if v == 1 then x else y) e
 
 at_one : {A : Type 0} {v : ℕ} (x y : A) → v ≡ 1 → (if v == 1 then x else y) ≡ x
-at_one {v = v} x y e = ap (λ (v : ℕ). if v == 1 then x else y) e
+at_one {v = v} x y e = ap (λ v. if v == 1 then x else y) e
 
 -- the side on which a key is, as it was tested
 pub on_zero : (b key : ℕ) {t : Bool} → t ≡ (bit_at b key == 1) → t ≡ false → bit_at b key ≡ 0
@@ -67,8 +66,7 @@ module _ {V : Type 0} where
       ≡ (if bit_at f.bit key == 1 then [] else beneath_shown 33 (leaves_in m) (bits_in m) (name_of f.one))
       ++ up_behind n (leaves_in m) (bits_in m) key over.above
   unfolding up_behind
-  up_from m n key f =
-      ap (λ (o : Option BitPart). side_behind key (beneath_shown 33 (leaves_in m) (bits_in m)) (up_behind n (leaves_in m) (bits_in m) key) o)
+  up_from m n key f = ap (λ o. side_behind key (beneath_shown 33 (leaves_in m) (bits_in m)) (up_behind n (leaves_in m) (bits_in m) key) o)
       (fork_stands m f).0
 
   up_none : (n key : ℕ) (L : Leaves V) (B : Bits) → up_behind (suc n) L B key None ≡ []
@@ -78,17 +76,17 @@ module _ {V : Type 0} where
   pub up_is : (m : Lodged V) (n : ℕ) (whole at : Part m) (behind : List (Entry V)) (ups : List (Part m)) (x : Placed V) → IsIn x at.tree
       → IsBefore whole at behind ups → whole.above ≡ None → at.low ≤ n → up_behind (suc n) (leaves_in m) (bits_in m) x.entry.key at.above ≡ behind
   up_is m n whole at behind [] x inside before top low =
-      ap (λ (a : Option Id). up_behind (suc n) (leaves_in m) (bits_in m) x.entry.key a) (ap (λ (p : Part m). p.above) before.0 ∙ top)
+      ap (up_behind (suc n) (leaves_in m) (bits_in m) x.entry.key) (ap (λ p. p.above) before.0 ∙ top)
       ∙ up_none n x.entry.key (leaves_in m) (bits_in m) ∙ sym before.1
-  up_is m zero whole at behind (over ∷ ups) x inside before top low = let past : at.low ≡ before.2.at.bit + 1 = before.2.low in
+  up_is m zero whole at behind (over ∷ ups) x inside before top low = let past = before.2.low in
       absurd (omega (arith, past, low))
   up_is m (suc n) whole at behind (over ∷ ups) x inside before top low =
       let u = before.2 in
-      let past : at.low ≡ u.at.bit + 1 = u.low in
-      let rises : over.low ≤ u.at.bit = (fork_is m u.at).0.rises in
-      ap (λ (a : Option Id). up_behind (suc (suc n)) (leaves_in m) (bits_in m) x.entry.key a) u.above ∙ up_from m (suc n) x.entry.key u.at
-      ∙ ap (λ (es : List (Entry V)). es ++ up_behind (suc n) (leaves_in m) (bits_in m) x.entry.key over.above) (right_is m before.0 at over u x inside)
-      ∙ ap (λ (es : List (Entry V)). before.0 ++ es) (up_is m n whole over before.1 ups x (under_inside m before.0 at over u x inside) before.3 top
+      let past = u.low in
+      let rises = (fork_is m u.at).0.rises in
+      ap (λ a. up_behind (suc (suc n)) (leaves_in m) (bits_in m) x.entry.key a) u.above ∙ up_from m (suc n) x.entry.key u.at
+      ∙ ap (λ es. es ++ up_behind (suc n) (leaves_in m) (bits_in m) x.entry.key over.above) (right_is m before.0 at over u x inside)
+      ∙ ap (λ es. before.0 ++ es) (up_is m n whole over before.1 ups x (under_inside m before.0 at over u x inside) before.3 top
       (omega (arith, past, rises, low))) ∙ sym before.4
 
   -- ---- the first route beneath a part
@@ -103,8 +101,8 @@ module _ {V : Type 0} where
   lowest m whole sub at [] behind vs way before = record {
     later = behind;
     ups = vs;
-    before = subst (λ (p : Part m). IsBefore whole p behind vs) (sym way) before;
-    same = ap (λ (p : Part m). routes_of p.tree ++ behind) way;
+    before = subst (λ p. IsBefore whole p behind vs) (sym way) before;
+    same = ap (λ p. routes_of p.tree ++ behind) way;
   }
   lowest m whole sub at (over ∷ us) behind vs way before =
       let r = lowest m whole sub over us behind vs way.1 before in
@@ -115,8 +113,8 @@ module _ {V : Type 0} where
         later = routes_of f.one ++ r.later;
         ups = over ∷ r.ups;
         before = (routes_of f.one, r.later, record { room = b.room; at = f; above = b.above; low = b.low; side = inl (left, refl) }, r.before, refl);
-        same = ap (λ (t : Tree V). routes_of t ++ (routes_of f.one ++ r.later)) left ∙ sym (append_assoc (routes_of f.zero) (routes_of f.one) r.later)
-            ∙ ap (λ (t : Tree V). routes_of t ++ r.later) (sym f.is) ∙ r.same;
+        same = ap (λ t. routes_of t ++ (routes_of f.one ++ r.later)) left ∙ sym (append_assoc (routes_of f.zero) (routes_of f.one) r.later)
+            ∙ ap (λ t. routes_of t ++ r.later) (sym f.is) ∙ r.same;
       }
 
   pub first_in : (m : Lodged V) {p : Part m} {room : Id} (f : LeafAt p room) → IsIn f.first p.tree
@@ -128,11 +126,11 @@ module _ {V : Type 0} where
   -- what a leaf's first room says
   pub first_said : (m : Lodged V) {p : Part m} {room : Id} (f : LeafAt p room)
       → leaves_in m room.number ≡ Some (leaf_part f.first p.above None (first_room f.rest))
-  first_said m f = ap (λ (i : Id). leaves_in m i.number) (sym f.room_is) ∙ (leaf_run m f).stands.0
+  first_said m f = ap (λ i. leaves_in m i.number) (sym f.room_is) ∙ (leaf_run m f).stands.0
 
   pub first_behind : (m : Lodged V) {key : ℕ} {first : Id} (f : IsFirst m key first)
       → chain_behind (leaves_in m) (bits_in m) (leaves_in m first.number) ≡ f.behind
-  first_behind m f = ap (λ (o : Option (LeafPart V)). chain_behind (leaves_in m) (bits_in m) o) (first_said m f.leaf)
+  first_behind m f = ap (chain_behind (leaves_in m) (bits_in m)) (first_said m f.leaf)
       ∙ up_is m 32 f.whole f.part f.behind f.ups f.leaf.first (first_in m f.leaf) f.before f.top (leaf_low m f.leaf)
 
   pub run_shown : (m : Lodged V) (r : Run m) → chain_shown 34 (leaves_in m) (first_room r.members) ≡ map (λ (p : Placed V). p.entry) r.members
@@ -152,7 +150,7 @@ module _ {V : Type 0} where
       record { whole = whole; top = top; part = l.part; leaf = l.leaf; own = refl; behind = r.later; ups = r.ups; before = r.before } in
       record {
         on = record { key = l.leaf.first.entry.key; first = first; run = run; begins = leaf_begins m l.leaf; of_key = refl };
-        rest = ap (λ (es : List (Entry V)). chain_shown 34 (leaves_in m) (Some room) ++ es) (first_behind m first)
-            ∙ ap (λ (es : List (Entry V)). es ++ r.later) (ap (λ (o : Option Id). chain_shown 34 (leaves_in m) o) (sym (leaf_begins m l.leaf)) ∙ run_shown m run
-            ∙ ap (λ (t : Tree V). routes_of t) (sym l.leaf.is)) ∙ r.same;
+        rest = ap (λ es. chain_shown 34 (leaves_in m) (Some room) ++ es) (first_behind m first)
+            ∙ ap (λ es. es ++ r.later) (ap (chain_shown 34 (leaves_in m)) (sym (leaf_begins m l.leaf)) ∙ run_shown m run
+            ∙ ap routes_of (sym l.leaf.is)) ∙ r.same;
       }

@@ -1,13 +1,13 @@
 -- A walk over a tree: where the next route is, within a chain and on the way up.
+use Rattle.radix_tree.proofs.{AddressBits.zero_not_one, Parts.fork_is, Parts.fork_stands, Parts.Has-fork, Parts.one_part}
 use Rattle.radix_tree.specs.Tree.{bit_at}
 use Rattle.radix_tree.proofs.Words.{◌≡◌, ℕ, ◌+◌, ◌≤◌, ◌⊎◌, List, [], ◌∷◌, ◌++◌, map, Option, Some, None, refl, sym, ap, ◌∙◌, subst, inr, arith, inl, Has}
-use Rattle.radix_tree.proofs.Words.{leaf_of, bit_node_of, Id, BitNode, Leaf, Links, levels, Placed, fork, IsIn, IsChain, routes_of, LeafPart, Part, Run}
-use Rattle.radix_tree.proofs.Words.{leaves_in, bits_in, leaf_part, first_room, name_of, ChainStands, ForkAt, LedTo, chain_behind, ahead, Under, IsBefore}
-use Rattle.radix_tree.proofs.Words.{IsFirst, IsAt, IsOn, chain_shown, chain_from, Entry, Place, Lodged}
+use Rattle.radix_tree.proofs.Words.{leaf_of, bit_node_of, Id, BitNode, Leaf, Links, levels, Placed, fork, IsIn, IsChain, routes_of, Part, Run, leaves_in}
+use Rattle.radix_tree.proofs.Words.{bits_in, leaf_part, first_room, name_of, ChainStands, ForkAt, LedTo, chain_behind, ahead, Under, IsBefore, IsFirst}
+use Rattle.radix_tree.proofs.Words.{IsAt, IsOn, chain_shown, chain_from, Entry, Place, Lodged}
 use Rattle.radix_tree.proofs.RoomReads.{inside, none_some, AreLinks, bit_read, bit_used, Has-leaf, leaf_read}
 use Rattle.radix_tree.proofs.WalkStarts.{beside, side_zero, side_one, under_inside, first_in, leaf_low, first_said, first_behind, run_shown, Begins}
 use Rattle.radix_tree.proofs.WalkStarts.{first_on}
-use Rattle.radix_tree.proofs.{AddressBits.zero_not_one, Parts.fork_is, Parts.fork_stands, Parts.Has-fork, Parts.one_part}
 
 module _ {V : Type 0} where
   -- ---- within a chain
@@ -30,7 +30,7 @@ module _ {V : Type 0} where
         rest = xs;
         is = is;
         room_is = inside begins;
-        said = ap (λ (i : Id). leaves_in m i.number) (sym (inside begins)) ∙ stands.0;
+        said = ap (λ i. leaves_in m i.number) (sym (inside begins)) ∙ stands.0;
         chain = subst (IsChain a.run.key a.run.top) is a.run.is;
         stands = stands;
       }
@@ -39,21 +39,20 @@ module _ {V : Type 0} where
   here m a = here_of m a a.run.members refl a.begins
 
   pub Has-here : {m : Lodged V} {place : Place} → IsAt m place → Has m place.room
-  Has-here {m = m} {place = place} a = let h = here m a in Has-leaf m place.room h.said (ap (λ (i : Id). i.block) h.room_is)
+  Has-here {m = m} {place = place} a = let h = here m a in Has-leaf m place.room h.said (ap (λ i. i.block) h.room_is)
 
   pub here_read : (m : Lodged V) {place : Place} (a : IsAt m place) (links : Links) {l : Leaf} → AreLinks m place.room links → l ≡ leaf_of links
       → let h = here m a in l ≡ (leaf_part h.route a.run.above a.run.previous (first_room h.rest)).leaf
   here_read m {place = place} a links are is =
-      let h = here m a in is ∙ leaf_read m place.room links h.said (ap (λ (i : Id). i.block) h.room_is) are
+      let h = here m a in is ∙ leaf_read m place.room links h.said (ap (λ i. i.block) h.room_is) are
 
   abbrev pub behind_of : (m : Lodged V) → Id → List (Entry V)
   behind_of m first = chain_behind (leaves_in m) (bits_in m) (leaves_in m first.number)
 
   chain_rest : (m : Lodged V) (place : Place) (a : IsAt m place) (h : IsHere m place a)
       → ahead (leaves_in m) (bits_in m) (Some place) ≡ (h.route.entry ∷ map (λ (p : Placed V). p.entry) h.rest) ++ behind_of m place.first
-  chain_rest m place a h = ap (λ (es : List (Entry V)). es ++ behind_of m place.first)
-      (ap (λ (o : Option Id). chain_shown 34 (leaves_in m) o) (sym a.begins) ∙ run_shown m a.run
-      ∙ ap (λ (ms : List (Placed V)). map (λ (p : Placed V). p.entry) ms) h.is)
+  chain_rest m place a h = ap (λ es. es ++ behind_of m place.first)
+      (ap (chain_shown 34 (leaves_in m)) (sym a.begins) ∙ run_shown m a.run ∙ ap (λ ms. map (λ (p : Placed V). p.entry) ms) h.is)
 
   -- what is told from a place on is its route, and then what is told from the next one on
   abbrev pub FollowedBy : Lodged V → Place → Option Place → Type 0
@@ -62,8 +61,8 @@ module _ {V : Type 0} where
 
   followed : (m : Lodged V) (place : Place) (a : IsAt m place) (h : IsHere m place a) (next : Option Place)
       → map (λ (p : Placed V). p.entry) h.rest ++ behind_of m place.first ≡ ahead (leaves_in m) (bits_in m) next → FollowedBy m place next
-  followed m place a h next rest = chain_rest m place a h ∙ ap (λ (es : List (Entry V)). h.route.entry ∷ es) rest
-      ∙ ap (λ (o : Option (LeafPart V)). chain_from o (λ _. ahead (leaves_in m) (bits_in m) next)) (sym h.said)
+  followed m place a h next rest = chain_rest m place a h ∙ ap (λ es. h.route.entry ∷ es) rest
+      ∙ ap (λ o. chain_from o (λ _. ahead (leaves_in m) (bits_in m) next)) (sym h.said)
 
   pub record Follows (m : Lodged V) (place : Place) (next : Option Place) : Type 0 where
     pub on : IsOn m next
@@ -73,7 +72,7 @@ module _ {V : Type 0} where
       → l.next ≡ Some next → Follows m place (Some (beside place next))
   next_on {m = m} {place = place} a links {l = l} {next = next} are is some =
       let h = here m a in
-      let begins : first_room h.rest ≡ Some next = sym (ap (λ (l : Leaf). l.next) (here_read m a links are is)) ∙ some in
+      let begins = sym (ap (λ l. l.next) (here_read m a links are is)) ∙ some in
       let run : Run m =
       record {
         members = h.rest;
@@ -86,8 +85,8 @@ module _ {V : Type 0} where
       } in
       record {
         on = record { key = a.key; first = a.first; run = run; begins = begins; of_key = a.of_key };
-        rest = followed m place a h (Some (beside place next)) (ap (λ (es : List (Entry V)). es ++ behind_of m place.first)
-            (sym (run_shown m run) ∙ ap (λ (o : Option Id). chain_shown 34 (leaves_in m) o) begins));
+        rest = followed m place a h (Some (beside place next)) (ap (λ es. es ++ behind_of m place.first)
+            (sym (run_shown m run) ∙ ap (chain_shown 34 (leaves_in m)) begins));
       }
 
   no_more : (ms : List (Placed V)) (es : List (Entry V)) → first_room ms ≡ None → map (λ (p : Placed V). p.entry) ms ++ es ≡ es
@@ -98,13 +97,13 @@ module _ {V : Type 0} where
       → l ≡ leaf_of links → l.next ≡ None → ahead (leaves_in m) (bits_in m) next ≡ behind_of m place.first → FollowedBy m place next
   last_of {m = m} place a links {l = l} next are is none rest =
       let h = here m a in
-      followed m place a h next (no_more h.rest (behind_of m place.first) (sym (ap (λ (l : Leaf). l.next) (here_read m a links are is)) ∙ none) ∙ sym rest)
+      followed m place a h next (no_more h.rest (behind_of m place.first) (sym (ap (λ l. l.next) (here_read m a links are is)) ∙ none) ∙ sym rest)
 
   pub first_of_key : {m : Lodged V} (place : Place) (a : IsAt m place) (links : Links) {l : Leaf} → AreLinks m place.room links → l ≡ leaf_of links
       → IsFirst m l.key place.first
   first_of_key {m = m} place a links {l = l} are is =
       let h = here m a in
-      subst (λ (k : ℕ). IsFirst m k place.first) (sym (ap (λ (l : Leaf). l.key) (here_read m a links are is) ∙ h.chain.1 ∙ a.of_key)) a.first
+      subst (λ k. IsFirst m k place.first) (sym (ap (λ l. l.key) (here_read m a links are is) ∙ h.chain.1 ∙ a.of_key)) a.first
 
   -- ---- the way up
   -- a walk up from that leaf, at a node beneath this one, behind which stands what stands behind the leaf
@@ -125,13 +124,13 @@ module _ {V : Type 0} where
   pub climb_begun : {m : Lodged V} {key : ℕ} (first : Id) (f : IsFirst m key first) (links : Links) {l : Leaf} (steps : ℕ) → AreLinks m first links
       → l ≡ leaf_of links → steps ≡ 1 → Upward m key first l.above steps
   climb_begun {m = m} first f links {l = l} steps are is one =
-      let low : f.part.low ≤ 32 = leaf_low m f.leaf in
-      let read = is ∙ leaf_read m first links (first_said m f.leaf) (ap (λ (i : Id). i.block) f.leaf.room_is) are in
+      let low = leaf_low m f.leaf in
+      let read = is ∙ leaf_read m first links (first_said m f.leaf) (ap (λ i. i.block) f.leaf.room_is) are in
       record {
         whole = f.whole;
         top = f.top;
         part = f.part;
-        above_is = sym (ap (λ (l : Leaf). l.above) read);
+        above_is = sym (ap (λ l. l.above) read);
         route = f.leaf.first;
         inside = first_in m f.leaf;
         own = f.own;
@@ -143,7 +142,7 @@ module _ {V : Type 0} where
       }
 
   pub Has-first : {m : Lodged V} {key : ℕ} (first : Id) → IsFirst m key first → Has m first
-  Has-first {m = m} first f = Has-leaf m first (first_said m f.leaf) (ap (λ (i : Id). i.block) f.leaf.room_is)
+  Has-first {m = m} first f = Has-leaf m first (first_said m f.leaf) (ap (λ i. i.block) f.leaf.room_is)
 
   -- the bit node above
   pub record Overhead (m : Lodged V) (whole at : Part m) (behind : List (Entry V)) (up : Id) : Type 0 where
@@ -162,13 +161,13 @@ module _ {V : Type 0} where
       (u : Under right at over) {room : Id} → room ≡ up → u.room ≡ room
       → IsBefore whole over later ups → behind ≡ right ++ later → Overhead m whole at behind up
   overhead_at m whole at up over ups right later u same own before is =
-      let name : u.room ≡ up = own ∙ same in
+      let name = own ∙ same in
       record {
         over = over;
         ups = ups;
         right = right;
         later = later;
-        at_up = record { bit = u.at.bit; zero = u.at.zero; one = u.at.one; is = u.at.is ∙ ap (λ (i : Id). fork i u.at.bit u.at.zero u.at.one) name };
+        at_up = record { bit = u.at.bit; zero = u.at.zero; one = u.at.one; is = u.at.is ∙ ap (λ i. fork i u.at.bit u.at.zero u.at.one) name };
         under = u;
         bit = refl;
         side = u.side;
@@ -178,7 +177,7 @@ module _ {V : Type 0} where
 
   overhead_of : (m : Lodged V) (whole at : Part m) (behind : List (Entry V)) (up : Id) (ups : List (Part m)) → whole.above ≡ None → at.above ≡ Some up
       → IsBefore whole at behind ups → Overhead m whole at behind up
-  overhead_of m whole at behind up [] top above before = absurd (none_some (sym top ∙ ap (λ (p : Part m). p.above) (sym before.0) ∙ above))
+  overhead_of m whole at behind up [] top above before = absurd (none_some (sym top ∙ ap (λ p. p.above) (sym before.0) ∙ above))
   overhead_of m whole at behind up (over ∷ ups) top above before =
       overhead_at m whole at up over ups before.0 before.1 before.2 refl (inside (sym before.2.above ∙ above)) before.3 before.4
 
@@ -210,12 +209,12 @@ module _ {V : Type 0} where
       let f = o.at_up in
       let is = fork_is m f in
       let same = bit_read m up links (fork_stands m f).0 refl are node in
-      let bit : n.bit ≡ f.bit = same.bit in
-      let within : f.bit ≤ 31 = is.0.within in
-      let rises : o.over.low ≤ f.bit = is.0.rises in
-      let low : c.part.low ≡ f.bit + 1 = o.under.low ∙ ap (λ (b : ℕ). b + 1) o.bit in
-      let few : steps + c.part.low ≤ 33 = c.few in
-      let key_bit : bit_at n.bit key ≡ bit_at f.bit c.route.entry.key = ap (λ (b : ℕ). bit_at b key) bit ∙ ap (λ (k : ℕ). bit_at f.bit k) (sym c.own) in
+      let bit = same.bit in
+      let within = is.0.within in
+      let rises = is.0.rises in
+      let low = o.under.low ∙ ap (λ b. b + 1) o.bit in
+      let few = c.few in
+      let key_bit = ap (λ b. bit_at b key) bit ∙ ap (bit_at f.bit) (sym c.own) in
       record {
         within = omega (arith, bit, within);
         few = omega (arith, few, low);
@@ -235,7 +234,7 @@ module _ {V : Type 0} where
               behind = o.later;
               ups = o.ups;
               before = o.before;
-              same = sym (o.is ∙ ap (λ (es : List (Entry V)). es ++ o.later) nothing) ∙ c.same;
+              same = sym (o.is ∙ ap (λ es. es ++ o.later) nothing) ∙ c.same;
               few = omega (arith, few, low, rises, soon);
             };
         named = (one_part m f, sym same.one);
@@ -247,7 +246,7 @@ module _ {V : Type 0} where
             ] in
             let b = first_on m c.whole sub o.later (o.over ∷ o.ups) c.top (led sub (sym same.one))
             ([], o.later, record { room = up; at = f; above = refl; low = refl; side = inr (refl, refl) }, o.before, refl) in
-            record { on = b.on; rest = b.rest ∙ ap (λ (es : List (Entry V)). es ++ o.later) (sym right) ∙ sym o.is ∙ c.same };
+            record { on = b.on; rest = b.rest ∙ ap (λ es. es ++ o.later) (sym right) ∙ sym o.is ∙ c.same };
       }
 
   ended_at : (m : Lodged V) (whole at : Part m) (behind : List (Entry V)) (ups : List (Part m)) → at.above ≡ None → IsBefore whole at behind ups → behind ≡ []
@@ -260,8 +259,8 @@ module _ {V : Type 0} where
 
   -- a place at the first room of its chain
   pub begins_on : {m : Lodged V} (place : Place) (es : List (Entry V)) → place.room ≡ place.first → Begins m place.first es → IsAt m place
-  begins_on {m = m} place es same b = subst (λ (i : Id). IsAt m (record { first = place.first; room = i })) (sym same) b.on
+  begins_on {m = m} place es same b = subst (λ i. IsAt m (record { first = place.first; room = i })) (sym same) b.on
 
   pub begins_rest : {m : Lodged V} (place : Place) (es : List (Entry V)) → place.room ≡ place.first → Begins m place.first es
       → ahead (leaves_in m) (bits_in m) (Some place) ≡ es
-  begins_rest {m = m} place es same b = ap (λ (i : Id). ahead (leaves_in m) (bits_in m) (Some (record { first = place.first; room = i }))) same ∙ b.rest
+  begins_rest {m = m} place es same b = ap (λ i. ahead (leaves_in m) (bits_in m) (Some (record { first = place.first; room = i }))) same ∙ b.rest

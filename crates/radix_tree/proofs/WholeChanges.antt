@@ -1,12 +1,11 @@
 -- A part of a table's tree is exchanged for another, and so the table's rooms as a whole change.
-use Rattle.radix_tree.proofs.Words.{◌≡◌, ℕ, ◌+◌, ◌<◌, ◌≤◌, ◌⊎◌, Bool, true, List, [], ◌∷◌, Option, Some, None, sym, ap, ◌∙◌, subst, inl, inr, arith}
-use Rattle.radix_tree.proofs.Words.{is_some, Node, Placed, Tree, IsIn, IsTree, MaskPart, Part, leaves_in, bits_in, heads_in, masks_in, one_if, leaves_at}
-use Rattle.radix_tree.proofs.Words.{forks_at, HasHome, HaveOneFork, Frame, on_zero, on_one, plug, Lead, Exchanged, IsMarked, MarkedLists}
-use Rattle.radix_tree.proofs.Words.{IsWholeBut, Lodged}
-use Rattle.radix_tree.proofs.Plugs.{Aside, plug_leaves, plug_forks, plug_in, aside_in, in_plug, aside_at, spare_at, spare_plug, home_plug, plug_home}
-use Rattle.radix_tree.proofs.Plugs.{aside_home}
 use Rattle.radix_tree.proofs.{TreeMembers.bit_beneath, PlugLists.marked_same, PlugLists.plug_lists, PlugLists.KeepsAbove, WholeParts.some_of}
 use Rattle.radix_tree.proofs.{WholeParts.once_but, WholeParts.Fits}
+use Rattle.radix_tree.proofs.Words.{◌≡◌, ℕ, ◌+◌, ◌<◌, ◌≤◌, ◌⊎◌, Bool, true, List, [], ◌∷◌, Some, None, sym, ap, ◌∙◌, subst, inl, inr, arith, is_some}
+use Rattle.radix_tree.proofs.Words.{Node, Placed, Tree, IsIn, IsTree, MaskPart, Part, leaves_in, bits_in, heads_in, masks_in, one_if, leaves_at, forks_at}
+use Rattle.radix_tree.proofs.Words.{HasHome, HaveOneFork, Frame, on_zero, on_one, plug, Lead, Exchanged, IsMarked, MarkedLists, IsWholeBut, Lodged}
+use Rattle.radix_tree.proofs.Plugs.{Aside, plug_leaves, plug_forks, plug_in, aside_in, in_plug, aside_at, spare_at, spare_plug, home_plug, plug_home}
+use Rattle.radix_tree.proofs.Plugs.{aside_home}
 
 module _ {V : Type 0} where
   -- ---- an exchange
@@ -15,9 +14,9 @@ module _ {V : Type 0} where
       {under : Part new} (e : Exchanged m new key w.part at under name)
       → (y : Placed V) → Aside e.frames y → (leaves_at y.room.number at.tree ≡ 0) × (1 ≤ leaves_at y.room.number w.part.tree)
   aside_out w at e y aside =
-      let more : 1 + leaves_at y.room.number at.tree ≤ leaves_at y.room.number (plug e.frames at.tree) = aside_at e.frames at.tree y aside in
-      let same : leaves_at y.room.number w.part.tree ≡ leaves_at y.room.number (plug e.frames at.tree) = ap (leaves_at y.room.number) e.was in
-      let most : leaves_at y.room.number w.part.tree ≤ 1 = (once_but w).leaves y.room.number in
+      let more = aside_at e.frames at.tree y aside in
+      let same = ap (leaves_at y.room.number) e.was in
+      let most = (once_but w).leaves y.room.number in
       let none : leaves_at y.room.number at.tree ≡ 0 = omega arith in
       let some : 1 ≤ leaves_at y.room.number w.part.tree = omega arith in (none, some)
 
@@ -44,31 +43,28 @@ module _ {V : Type 0} where
   new_is : {m new : Lodged V} {root name : Node} (late later : ℕ → Bool) (out outs : ℕ → ℕ) {key : ℕ} (w : IsWholeBut m root late out) {at : Part m}
       {under : Part new} (e : Exchanged m new key w.part at under name) → IsTree w.part.low (plug e.frames under.tree)
   new_is late later out outs w {under = under} e =
-      subst (λ (n : ℕ). IsTree n (plug e.frames under.tree)) e.low (subst (IsTree e.part.low) e.is_now e.part.is)
+      subst (λ n. IsTree n (plug e.frames under.tree)) e.low (subst (IsTree e.part.low) e.is_now e.part.is)
 
   leaves_changed : (m new : Lodged V) {root name : Node} {late later : ℕ → Bool} (out outs : ℕ → ℕ) {key : ℕ} (w : IsWholeBut m root late out) (at : Part m)
       (under : Part new) (e : Exchanged m new key w.part at under name) → Fits m new w.part at under late later out outs
       → (n : ℕ) → leaves_at n e.part.tree + outs n ≡ one_if (is_some (leaves_in new n))
   leaves_changed m new out outs w at under e f n =
-      let was : leaves_at n w.part.tree ≡ leaves_at n (plug e.frames at.tree) = ap (leaves_at n) e.was in
-      let now : leaves_at n e.part.tree ≡ leaves_at n (plug e.frames under.tree) = ap (leaves_at n) e.is_now in
-      let plugged : leaves_at n (plug e.frames under.tree) + leaves_at n at.tree ≡ leaves_at n (plug e.frames at.tree) + leaves_at n under.tree =
-      plug_leaves e.frames at.tree under.tree n in
-      let whole : leaves_at n w.part.tree + out n ≡ one_if (is_some (leaves_in m n)) = w.leaves n in
-      let fits : leaves_at n under.tree + outs n + one_if (is_some (leaves_in m n)) ≡ leaves_at n at.tree + out n + one_if (is_some (leaves_in new n)) =
-      f.leaves n in
+      let was = ap (leaves_at n) e.was in
+      let now = ap (leaves_at n) e.is_now in
+      let plugged = plug_leaves e.frames at.tree under.tree n in
+      let whole = w.leaves n in
+      let fits = f.leaves n in
       omega (arith, was, now, plugged, whole, fits)
 
   forks_changed : (m new : Lodged V) {root name : Node} {late later : ℕ → Bool} {out outs : ℕ → ℕ} {key : ℕ} (w : IsWholeBut m root late out) (at : Part m)
       (under : Part new) (e : Exchanged m new key w.part at under name) → Fits m new w.part at under late later out outs
       → (n : ℕ) → forks_at n e.part.tree ≡ one_if (is_some (bits_in new n))
   forks_changed m new w at under e f n =
-      let was : forks_at n w.part.tree ≡ forks_at n (plug e.frames at.tree) = ap (forks_at n) e.was in
-      let now : forks_at n e.part.tree ≡ forks_at n (plug e.frames under.tree) = ap (forks_at n) e.is_now in
-      let plugged : forks_at n (plug e.frames under.tree) + forks_at n at.tree ≡ forks_at n (plug e.frames at.tree) + forks_at n under.tree =
-      plug_forks e.frames at.tree under.tree n in
-      let whole : forks_at n w.part.tree ≡ one_if (is_some (bits_in m n)) = w.forks n in
-      let fits : forks_at n under.tree + one_if (is_some (bits_in m n)) ≡ forks_at n at.tree + one_if (is_some (bits_in new n)) = f.forks n in
+      let was = ap (forks_at n) e.was in
+      let now = ap (forks_at n) e.is_now in
+      let plugged = plug_forks e.frames at.tree under.tree n in
+      let whole = w.forks n in
+      let fits = f.forks n in
       omega (arith, was, now, plugged, whole, fits)
 
   -- what was marked before is so where it is now
@@ -77,15 +73,15 @@ module _ {V : Type 0} where
       → (y : Placed V) → IsMarked (masks_in new) y → IsMarked (masks_in m) y
   was_marked m new w at e f y marked =
       let now = some_of (masks_in new y.room.number) marked in
-      let before = f.marks y.room.number now.0 now.1 in ap (λ (o : Option MaskPart). is_some o) before.1
+      let before = f.marks y.room.number now.0 now.1 in ap is_some before.1
 
   keeps_above : (m new : Lodged V) {root name : Node} {late later : ℕ → Bool} {out outs : ℕ → ℕ} {key : ℕ} (w : IsWholeBut m root late out) (at : Part m)
       {under : Part new} (e : Exchanged m new key w.part at under name) → Fits m new w.part at under late later out outs
       → KeepsAbove (heads_in m) (heads_in new) (masks_in m) (masks_in new) at.low e.frames at.tree under.tree
   keeps_above m new w at e f = record {
     heads = λ n some.
-        let is : forks_at n w.part.tree ≡ forks_at n (plug e.frames at.tree) = ap (forks_at n) e.was in
-        let most : forks_at n w.part.tree ≤ 1 = (once_but w).forks n in
+        let is = ap (forks_at n) e.was in
+        let most = (once_but w).forks n in
         let none : forks_at n at.tree ≡ 0 = omega arith in
         let there : 1 ≤ forks_at n w.part.tree = omega arith in f.heads n none there;
     aside = λ y aside. let o = aside_out w at e y aside in f.masks y.room.number o.0 o.1;
@@ -97,11 +93,11 @@ module _ {V : Type 0} where
   lists_changed : (m new : Lodged V) {root name : Node} (late later : ℕ → Bool) (out outs : ℕ → ℕ) {key : ℕ} (w : IsWholeBut m root late out) (at : Part m)
       (under : Part new) (e : Exchanged m new key w.part at under name) → Fits m new w.part at under late later out outs
       → MarkedLists (heads_in new) (masks_in new) e.part.low e.part.tree
-  lists_changed m new late later out outs w at under e f = subst (λ (n : ℕ). MarkedLists (heads_in new) (masks_in new) n e.part.tree) (sym e.low)
+  lists_changed m new late later out outs w at under e f = subst (λ n. MarkedLists (heads_in new) (masks_in new) n e.part.tree) (sym e.low)
       (subst (MarkedLists (heads_in new) (masks_in new) w.part.low) (sym e.is_now) (plug_lists w.part.low e.frames (old_is late later out outs w e)
-      (subst (λ (n : ℕ). KeepsAbove (heads_in m) (heads_in new) (masks_in m) (masks_in new) n e.frames at.tree under.tree) e.lowest
+      (subst (λ n. KeepsAbove (heads_in m) (heads_in new) (masks_in m) (masks_in new) n e.frames at.tree under.tree) e.lowest
       (keeps_above m new w at e f)) (subst (MarkedLists (heads_in m) (masks_in m) w.part.low) e.was w.lists)
-      (subst (λ (n : ℕ). MarkedLists (heads_in new) (masks_in new) n under.tree) e.lowest f.lists)))
+      (subst (λ n. MarkedLists (heads_in new) (masks_in new) n under.tree) e.lowest f.lists)))
 
   -- a route of the other part has a home in the whole where it has one in the part, or its rank is before the part's bits
   home_in_new : (m new : Lodged V) {root name : Node} (late later : ℕ → Bool) (out outs : ℕ → ℕ) {key : ℕ} (w : IsWholeBut m root late out) (at : Part m)
@@ -109,20 +105,20 @@ module _ {V : Type 0} where
       → (y : Placed V) → IsIn y under.tree → (y.entry.rank < at.low) ⊎ HasHome y.entry.key y.entry.rank under.tree
       → HasHome y.entry.key y.entry.rank (plug e.frames under.tree)
   home_in_new m new late later out outs w at under e y is home =
-      let low : w.part.low ≡ 0 = w.low in
+      let low = w.low in
       let new_tree = new_is late later out outs w e in
       plug_home w.part.low y.entry.key y.entry.rank e.frames under.tree new_tree (leads w.part.low e.frames under.tree y new_tree is) (omega arith)
-      (subst (λ (n : ℕ). (y.entry.rank < n) ⊎ HasHome y.entry.key y.entry.rank under.tree) e.lowest home)
+      (subst (λ n. (y.entry.rank < n) ⊎ HasHome y.entry.key y.entry.rank under.tree) e.lowest home)
 
   home_in_old : (m new : Lodged V) {root name : Node} (late later : ℕ → Bool) (out outs : ℕ → ℕ) {key : ℕ} (w : IsWholeBut m root late out) (at : Part m)
       {under : Part new} (e : Exchanged m new key w.part at under name)
       → (y : Placed V) → IsIn y at.tree → (y.entry.rank < at.low) ⊎ HasHome y.entry.key y.entry.rank at.tree → HasHome y.entry.key y.entry.rank w.part.tree
   home_in_old m new late later out outs w at e y is home =
-      let low : w.part.low ≡ 0 = w.low in
+      let low = w.low in
       let old_tree = old_is late later out outs w e in
       subst (HasHome y.entry.key y.entry.rank) (sym e.was)
       (plug_home w.part.low y.entry.key y.entry.rank e.frames at.tree old_tree (leads w.part.low e.frames at.tree y old_tree is) (omega arith)
-      (subst (λ (n : ℕ). (y.entry.rank < n) ⊎ HasHome y.entry.key y.entry.rank at.tree) e.lowest home))
+      (subst (λ n. (y.entry.rank < n) ⊎ HasHome y.entry.key y.entry.rank at.tree) e.lowest home))
 
   in_new : (m new : Lodged V) {root name : Node} (late later : ℕ → Bool) (out outs : ℕ → ℕ) {key : ℕ} (w : IsWholeBut m root late out) {at : Part m}
       {under : Part new} (e : Exchanged m new key w.part at under name) → (y : Placed V) → IsIn y (plug e.frames under.tree) → IsIn y e.part.tree
@@ -138,7 +134,7 @@ module _ {V : Type 0} where
       → (n : ℕ) (p : MaskPart) → masks_in new n ≡ Some p → (x : Placed V) → IsIn x w.part.tree → x.room.number ≡ n
       → HasHome x.entry.key x.entry.rank w.part.tree → IsIn x e.part.tree × HasHome x.entry.key x.entry.rank e.part.tree
   listed_now m new late later out outs w at under e f n p said x is number home =
-      let marked : IsMarked (masks_in new) x = ap (λ (o : Option MaskPart). is_some o) (ap (λ (k : ℕ). masks_in new k) number ∙ said) in
+      let marked = ap is_some (ap (masks_in new) number ∙ said) in
       let old_home = subst (HasHome x.entry.key x.entry.rank) e.was home in
       let old_tree = old_is late later out outs w e in
       elim (in_plug e.frames at.tree x (subst (IsIn x) e.was is)) [
@@ -149,7 +145,7 @@ module _ {V : Type 0} where
         | inr beneath ↦ let k = f.kept x beneath marked in
             let place : (x.entry.rank < at.low) ⊎ HasHome x.entry.key x.entry.rank under.tree =
             elim (home_plug w.part.low e.frames at.tree x old_tree beneath old_home) [
-              | inl before ↦ inl (subst (λ (b : ℕ). x.entry.rank < b) (sym e.lowest) before)
+              | inl before ↦ inl (subst (λ b. x.entry.rank < b) (sym e.lowest) before)
               | inr h ↦ k.1 h
             ] in (
               in_new m new late later out outs w e x (plug_in e.frames under.tree x k.0),
@@ -186,8 +182,7 @@ module _ {V : Type 0} where
       → (x : Placed V) → IsIn x under.tree → HasHome x.entry.key x.entry.rank (plug e.frames under.tree)
       → IsMarked (masks_in new) x ⊎ (later x.room.number ≡ true)
   all_beneath m new late later out outs w at under e f x is home =
-      let place : (x.entry.rank < at.low) ⊎ HasHome x.entry.key x.entry.rank under.tree =
-      subst (λ (n : ℕ). (x.entry.rank < n) ⊎ HasHome x.entry.key x.entry.rank under.tree) (sym e.lowest)
+      let place = subst (λ n. (x.entry.rank < n) ⊎ HasHome x.entry.key x.entry.rank under.tree) (sym e.lowest)
       (home_plug w.part.low e.frames under.tree x (new_is late later out outs w e) is home) in
       elim (f.all x is place) [
         | inl is_later ↦ inr is_later

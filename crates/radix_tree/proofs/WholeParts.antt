@@ -1,9 +1,9 @@
 -- A table's rooms as a whole, where no route is late and no room is on its way out.
-use Rattle.radix_tree.proofs.Words.{◌≡◌, ℕ, ◌+◌, ◌<◌, ◌≤◌, ◌⊎◌, Bool, true, false, Option, Some, None, refl, inl, inr, arith, cases_lt, is_some, Id, Node}
-use Rattle.radix_tree.proofs.Words.{Placed, Tree, leaf, fork, IsIn, IsTree, MaskPart, Heads, Masks, Part, Lists, leaves_in, bits_in, heads_in}
-use Rattle.radix_tree.proofs.Words.{masks_in, one_if, leaves_at, forks_at, HasHome, IsWhole, AreOnce, IsMarked, MarkedLists, IsWholeBut, nobody_late}
-use Rattle.radix_tree.proofs.Words.{nobody_out, Lodged}
 use Rattle.radix_tree.proofs.{AddressBits.zero_not_one, TreeMembers.bit_beneath, PlugLists.stands_marked}
+use Rattle.radix_tree.proofs.Words.{◌≡◌, ℕ, ◌+◌, ◌<◌, ◌≤◌, ◌⊎◌, Bool, true, false, Option, Some, None, refl, inl, inr, arith, cases_lt, is_some, Id, Node}
+use Rattle.radix_tree.proofs.Words.{Placed, Tree, leaf, fork, IsIn, IsTree, MaskPart, Heads, Masks, Part, Lists, leaves_in, bits_in, heads_in, masks_in}
+use Rattle.radix_tree.proofs.Words.{one_if, leaves_at, forks_at, HasHome, IsWhole, AreOnce, IsMarked, MarkedLists, IsWholeBut, nobody_late, nobody_out}
+use Rattle.radix_tree.proofs.Words.{Lodged}
 
 pub one_if_most : (b : Bool) → one_if b ≤ 1
 one_if_most true = omega arith
@@ -32,10 +32,7 @@ module _ {V : Type 0} where
       → HasHome x.entry.key x.entry.rank (fork room b zero one) → HasHome x.entry.key x.entry.rank one
   home_one low b room zero one is x at past home = elim home [
     | inl here ↦ absurd (omega arith)
-    | inr beneath ↦ elim beneath [
-      | inl left ↦ absurd (zero_not_one left.0 (bit_beneath (b + 1) b 1 one is.2 is.0.ones x at))
-      | inr right ↦ right.1
-    ]
+    | inr beneath ↦ elim beneath [ inl left ↦ absurd (zero_not_one left.0 (bit_beneath (b + 1) b 1 one is.2 is.0.ones x at)) | inr right ↦ right.1 ]
   ]
 
   -- where all masks with a home are listed, each route that has one is marked
@@ -89,13 +86,12 @@ module _ {V : Type 0} where
     low = w.low;
     top = w.top;
     named = w.named;
-    leaves = λ n. let e : leaves_at n w.part.tree ≡ one_if (is_some (leaves_in m n)) = w.leaves n in omega arith;
+    leaves = λ n. let e = w.leaves n in omega arith;
     forks = w.forks;
     spare = w.spare;
     lists = lists_marked (heads_in m) (masks_in m) w.part.low w.part.tree w.lists;
     listed = w.listed;
-    all = λ x at home. let low : w.part.low ≡ 0 =
-        w.low in inl (listed_marked (heads_in m) (masks_in m) w.part.low w.part.tree w.part.is w.lists x at (omega arith) home);
+    all = λ x at home. let low = w.low in inl (listed_marked (heads_in m) (masks_in m) w.part.low w.part.tree w.part.is w.lists x at (omega arith) home);
   }
 
   pub but_whole : (m : Lodged V) (root : Node) → IsWholeBut m root nobody_late nobody_out → IsWhole m root
@@ -104,7 +100,7 @@ module _ {V : Type 0} where
     low = w.low;
     top = w.top;
     named = w.named;
-    leaves = λ n. let e : leaves_at n w.part.tree + 0 ≡ one_if (is_some (leaves_in m n)) = w.leaves n in omega arith;
+    leaves = λ n. let e = w.leaves n in omega arith;
     forks = w.forks;
     spare = w.spare;
     lists = marked_lists (heads_in m) (masks_in m) w.part.low w.part.tree w.part.is
@@ -137,10 +133,8 @@ module _ {V : Type 0} where
 
   pub once_but : {m : Lodged V} {root : Node} {late : ℕ → Bool} {out : ℕ → ℕ} (w : IsWholeBut m root late out) → AreOnce w.part.tree
   once_but {m = m} {out = out} w = record {
-    leaves = λ n. let e : leaves_at n w.part.tree + out n ≡ one_if (is_some (leaves_in m n)) = w.leaves n in let most : one_if (is_some (leaves_in m n)) ≤ 1 =
-        one_if_most (is_some (leaves_in m n)) in omega arith;
-    forks = λ n. let e : forks_at n w.part.tree ≡ one_if (is_some (bits_in m n)) = w.forks n in let most : one_if (is_some (bits_in m n)) ≤ 1 =
-        one_if_most (is_some (bits_in m n)) in omega arith;
+    leaves = λ n. let e = w.leaves n in let most = one_if_most (is_some (leaves_in m n)) in omega arith;
+    forks = λ n. let e = w.forks n in let most = one_if_most (is_some (bits_in m n)) in omega arith;
   }
 
   -- what an exchange of a part for another has to keep

@@ -1,16 +1,16 @@
 -- The routes that a table's rooms show, and a table with an entry and without.
-use Rattle.radix_tree.proofs.Words.{◌≡◌, ℕ, Bool, false, IsTrue, List, [], ◌∷◌, ◌++◌, Some, None, refl, sym, ap, ◌∙◌, subst, arith, nat_tests}
-use Rattle.radix_tree.proofs.Words.{append_assoc, AllByRecursion, Node, precedes, IsTable, has_pair, entry_at, with_entry, without, Tree, routes_of, Part}
-use Rattle.radix_tree.proofs.Words.{leaves_in, bits_in, name_of, beneath_shown, shown, Gains, Exchanged, IsWholeBut, Entry, Lodged}
 use Rattle.radix_tree.proofs.{ListLemmas.all_weaker, ListLemmas.filter_all, ListLemmas.filter_none, OrderLemmas.own_pair, OrderLemmas.precedes_one_way}
 use Rattle.radix_tree.proofs.{TableLemmas.with_later, TableLemmas.without_absent, TableLemmas.none_at, Showing.beneath_is, Plugs.surround}
+use Rattle.radix_tree.proofs.Words.{◌≡◌, ℕ, Bool, false, IsTrue, List, [], ◌∷◌, ◌++◌, Some, None, refl, sym, ap, ◌∙◌, subst, arith, nat_tests}
+use Rattle.radix_tree.proofs.Words.{append_assoc, AllByRecursion, Node, precedes, IsTable, has_pair, entry_at, with_entry, without, routes_of, Part}
+use Rattle.radix_tree.proofs.Words.{leaves_in, bits_in, name_of, beneath_shown, shown, Gains, Exchanged, IsWholeBut, Entry, Lodged}
 
 module _ {V : Type 0} where
   -- ---- the routes that the rooms show
   pub part_shown : {m : Lodged V} {root : Node} (p : Part m) → p.low ≡ 0 → name_of p.tree ≡ root → shown m (Some root) ≡ routes_of p.tree
   part_shown {m = m} p low named =
-      let none : p.low ≡ 0 = low in
-      ap (λ (n : Node). beneath_shown 33 (leaves_in m) (bits_in m) n) (sym named)
+      let none = low in
+      ap (beneath_shown 33 (leaves_in m) (bits_in m)) (sym named)
       ∙ beneath_is 33 p.low (leaves_in m) (bits_in m) p.above p.tree p.is p.stands (omega arith)
 
   -- before and behind those of the part they stay
@@ -28,20 +28,19 @@ module _ {V : Type 0} where
       record {
         front = s.front;
         back = s.back;
-        was = part_shown w.part w.low w.named ∙ ap (λ (t : Tree V). routes_of t) e.was ∙ s.routes at.tree;
-        is_now = part_shown e.part (e.low ∙ w.low) e.named ∙ ap (λ (t : Tree V). routes_of t) e.is_now ∙ s.routes under.tree;
+        was = part_shown w.part w.low w.named ∙ ap routes_of e.was ∙ s.routes at.tree;
+        is_now = part_shown e.part (e.low ∙ w.low) e.named ∙ ap routes_of e.is_now ∙ s.routes under.tree;
       }
 
   regrouped : (before front back behind : List (Entry V)) → before ++ (front ++ back) ++ behind ≡ (before ++ front) ++ (back ++ behind)
-  regrouped before front back behind =
-      ap (λ (es : List (Entry V)). es ++ behind) (sym (append_assoc before front back)) ∙ append_assoc (before ++ front) back behind
+  regrouped before front back behind = ap (λ es. es ++ behind) (sym (append_assoc before front back)) ∙ append_assoc (before ++ front) back behind
 
   pub gains_spliced : {e : Entry V} {old new before now : List (Entry V)} → Spliced old new before now → Gains e before now → Gains e old new
   gains_spliced {e = e} {now = now} s g = record {
     front = s.front ++ g.front;
     back = g.back ++ s.back;
-    was = s.was ∙ ap (λ (es : List (Entry V)). s.front ++ es ++ s.back) g.was ∙ regrouped s.front g.front g.back s.back;
-    now = s.is_now ∙ ap (λ (es : List (Entry V)). s.front ++ es ++ s.back) g.now ∙ regrouped s.front g.front (e ∷ g.back) s.back;
+    was = s.was ∙ ap (λ es. s.front ++ es ++ s.back) g.was ∙ regrouped s.front g.front g.back s.back;
+    now = s.is_now ∙ ap (λ es. s.front ++ es ++ s.back) g.now ∙ regrouped s.front g.front (e ∷ g.back) s.back;
   }
 
   pub loses_spliced : {e : Entry V} {old new before now : List (Entry V)} → Spliced old new before now → Gains e now before → Gains e new old
@@ -70,7 +69,7 @@ module _ {V : Type 0} where
   gained e (x ∷ front) back is =
       let ahead = all_at (λ f. IsTrue (precedes x f)) front back e is.1 in
       let rest = gained e front back is.2 in (
-        ap (λ (es : List (Entry V)). x ∷ es) rest.0 ∙ sym (with_later e x (front ++ back) ahead),
+        ap (λ es. x ∷ es) rest.0 ∙ sym (with_later e x (front ++ back) ahead),
         rw (ahead_not_pair x e ahead) rest.1,
       )
 
@@ -79,10 +78,7 @@ module _ {V : Type 0} where
   lost e [] back is = (rw (own_pair e) (sym (without_absent e.key e.rank back (none_at e.key e.rank back is.1))), rw (own_pair e) refl)
   lost e (x ∷ front) back is =
       let ahead = all_at (λ f. IsTrue (precedes x f)) front back e is.1 in
-      let rest = lost e front back is.2 in (
-        rw (ahead_not_pair x e ahead) (ap (λ (es : List (Entry V)). x ∷ es) rest.0),
-        rw (ahead_not_pair x e ahead) rest.1,
-      )
+      let rest = lost e front back is.2 in (rw (ahead_not_pair x e ahead) (ap (λ es. x ∷ es) rest.0), rw (ahead_not_pair x e ahead) rest.1)
 
   pub gains_entry : {e : Entry V} {old new : List (Entry V)} → Gains e old new → IsTable new → (new ≡ with_entry e old) × (entry_at e.key e.rank old ≡ None)
   gains_entry {e = e} g is =

@@ -1,5 +1,5 @@
-use Rattle.radix_tree.proofs.Words.{◌∙◌, arith}
 use Rattle.radix_tree.proofs.{Listings.begun, Listings.mask_at, Listings.hit, Listings.miss, Listings.ended, Parts.fork_is, Parts.fork_name}
+use Rattle.radix_tree.proofs.Words.{◌∙◌, arith}
 use Rattle.radix_tree.proofs.backtracking.best_listed.Goals as goal
 
 pub loop-at-init : goal.loop-at-init

@@ -1,6 +1,6 @@
-use Rattle.radix_tree.proofs.Words.{◌∙◌, subst, None, arith, Best, In}
 use Rattle.radix_tree.proofs.{Climbs.begun, Climbs.over, Climbs.fork_over, Climbs.used, Climbs.risen, Climbs.ended, Lifts.Has-leaf_at, Parts.chain_led}
 use Rattle.radix_tree.proofs.{Parts.way_lists, Ups.leaf_hit, Ups.searched, Ups.hit, Ups.miss}
+use Rattle.radix_tree.proofs.Words.{◌∙◌, subst, None, arith, Best, In}
 use Rattle.radix_tree.proofs.backtracking.best_room.Goals as goal
 
 pub leaf_for-leaf-requires-clause-tree : goal.leaf_for-leaf-requires-clause-tree

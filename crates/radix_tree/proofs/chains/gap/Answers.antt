@@ -1,6 +1,5 @@
 use Rattle.std.proofs.lemmas.Map.Keys.{ge_from_not_lt}
-use Rattle.radix_tree.proofs.Words.{◌≡◌, ◌≤◌, ◌<◌, ◌+◌, ◌-◌, ◌∙◌, ℕ, Option, Some, None, sym, ap, subst, arith, eqb-true, eqb-false, Id, Counter, Passed}
-use Rattle.radix_tree.proofs.Words.{FindsGap}
+use Rattle.radix_tree.proofs.Words.{◌≡◌, ◌<◌, ◌+◌, ◌-◌, ◌∙◌, Some, None, sym, ap, subst, arith, eqb-true, eqb-false, Passed, FindsGap}
 use Rattle.radix_tree.proofs.ChainGaps.{less_of, Has-first, begun, Has-at, few_at, passed, taken, found, ended}
 use Rattle.radix_tree.proofs.chains.gap.Goals as goal
 
@@ -9,11 +8,11 @@ links-requires-clause-there g c = let r = c.requires.chain in Has-first r.0 c.ar
 
 pub loop-next-init : goal.loop-next-init
 loop-next-init g c =
-    let count : c.links.new.visits.count ≡ c.args.visits.now.count + 1 = ap (λ (v : Counter). v.count) c.links.ensures.visit in
+    let count = ap (λ v. v.count) c.links.ensures.visit in
     let one : 1 ≡ c.links.new.visits.count - c.args.visits.now.count = omega arith in
     record {
-      turn = ap (λ (v : Counter). v.turn) c.links.ensures.visit ∙ c.requires.turn;
-      passed = λ r begins. subst (λ (n : ℕ). Passed c.args.rank r c.leaf-leaf.result.above c.leaf-leaf.result.previous (Some c.args.first) n) one
+      turn = ap (λ v. v.turn) c.links.ensures.visit ∙ c.requires.turn;
+      passed = λ r begins. subst (Passed c.args.rank r c.leaf-leaf.result.above c.leaf-leaf.result.previous (Some c.args.first)) one
           (begun c.args.rank r c.args.first c.links.result.now begins c.links.ensures.links c.leaf-leaf.ensures);
       rises = omega arith;
     }
@@ -29,7 +28,7 @@ returns-then-eq-clause-gap g c r begins =
     c.links-in-Some.ensures.links c.leaf-member.ensures (eqb-true c.leaf-member.result.rank c.args.rank (sym c.eq.ensures ∙ c.if-eq.true))
 
 pub returns-then-lt-clause-gap : goal.returns-then-lt-clause-gap
-returns-then-lt-clause-gap g c r begins = subst (λ (o : Option Id). FindsGap c.args.key c.args.rank r (Some (record
+returns-then-lt-clause-gap g c r begins = subst (λ o. FindsGap c.args.key c.args.rank r (Some (record
     { key = c.args.key; rank = c.args.rank; above = c.loop-next.above; next = o; previous = c.loop-next.previous }))) c.in-Some.is
     (found c.args.nodes.now.lodged c.args.key c.args.rank r c.in-Some.at c.links-in-Some.result.now (c.loop-next.invariant.passed r begins) c.in-Some.is
     c.links-in-Some.ensures.links c.leaf-member.ensures (less_of c.leaf-member.result.rank c.args.rank (sym c.lt.ensures ∙ c.if-lt.true)))
@@ -37,22 +36,21 @@ returns-then-lt-clause-gap g c r begins = subst (λ (o : Option Id). FindsGap c.
 pub loop-next-smaller : goal.loop-next-smaller
 loop-next-smaller g c =
     let r = c.requires.chain in
-    let few : c.loop-next.visits.count - c.args.visits.now.count ≤ 34 =
-    few_at c.args.nodes.now.lodged r.0 _ (c.loop-next.invariant.passed r.0 r.1) c.in-Some.is in
-    let count : c.links-in-Some.new.visits.count ≡ c.loop-next.visits.count + 1 = ap (λ (v : Counter). v.count) c.links-in-Some.ensures.visit in
+    let few = few_at c.args.nodes.now.lodged r.0 _ (c.loop-next.invariant.passed r.0 r.1) c.in-Some.is in
+    let count = ap (λ v. v.count) c.links-in-Some.ensures.visit in
     let rises = c.loop-next.invariant.rises in omega arith
 
 pub loop-next-preserved : goal.loop-next-preserved
 loop-next-preserved g c =
-    let count : c.links-in-Some.new.visits.count ≡ c.loop-next.visits.count + 1 = ap (λ (v : Counter). v.count) c.links-in-Some.ensures.visit in
+    let count = ap (λ v. v.count) c.links-in-Some.ensures.visit in
     let rises = c.loop-next.invariant.rises in
     let other : c.leaf-member.result.rank ≡ c.args.rank → ⊥ = λ e. eqb-false c.leaf-member.result.rank c.args.rank (sym c.eq.ensures ∙ c.if-eq.false) e in
-    let least : c.args.rank ≤ c.leaf-member.result.rank = ge_from_not_lt c.leaf-member.result.rank c.args.rank (sym c.lt.ensures ∙ c.if-lt.false) in
+    let least = ge_from_not_lt c.leaf-member.result.rank c.args.rank (sym c.lt.ensures ∙ c.if-lt.false) in
     let past : c.args.rank < c.leaf-member.result.rank = omega (arith, other, least) in
     let next : (c.loop-next.visits.count - c.args.visits.now.count) + 1 ≡ c.links-in-Some.new.visits.count - c.args.visits.now.count = omega arith in
     record {
-      turn = ap (λ (v : Counter). v.turn) c.links-in-Some.ensures.visit ∙ c.loop-next.invariant.turn;
-      passed = λ r begins. subst (λ (n : ℕ). Passed c.args.rank r None (Some c.in-Some.at) c.leaf-member.result.next n) next
+      turn = ap (λ v. v.turn) c.links-in-Some.ensures.visit ∙ c.loop-next.invariant.turn;
+      passed = λ r begins. subst (Passed c.args.rank r None (Some c.in-Some.at) c.leaf-member.result.next) next
           (passed c.args.nodes.now.lodged c.args.rank r _ c.in-Some.at c.links-in-Some.result.now (c.loop-next.invariant.passed r begins) c.in-Some.is
           c.links-in-Some.ensures.links c.leaf-member.ensures past);
       rises = omega arith;

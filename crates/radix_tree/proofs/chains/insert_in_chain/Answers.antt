@@ -1,10 +1,9 @@
-use Rattle.radix_tree.proofs.Words.{◌==◌, ◌||◌, ◌∙◌, ℕ, Option, Some, None, sym, ap, subst, is_some, get, Node, LeafOf, LeafPart, BitPart, leaf_in}
-use Rattle.radix_tree.proofs.Words.{bit_in, mask_in, leaves_in, name_child, Gains, shown, IsWholeBut, late_at, nobody_out, name_next, name_back}
-use Rattle.radix_tree.proofs.Words.{root_past, FindsGap}
-use Rattle.radix_tree.proofs.ChainInserts.{chain_of, gap_before, gap_behind, gap_above, lodged_above, linked_rooms, inserted_whole, inserted_routes}
-use Rattle.radix_tree.proofs.ChainInserts.{IsWritten, taken_there}
 use Rattle.radix_tree.proofs.{Parts.leaf_begins, ChainWrites.Has-lodged, ChainWrites.Has-kept, ChainWrites.Has-next, ChainWrites.Has-linked_in}
 use Rattle.radix_tree.proofs.{chains.insert_in_chain.Goals.In-Some, chains.insert_in_chain.Goals.After-name_back}
+use Rattle.radix_tree.proofs.Words.{◌==◌, ◌||◌, ◌∙◌, Option, Some, None, sym, ap, subst, is_some, get, LeafOf, LeafPart, leaf_in, bit_in, mask_in}
+use Rattle.radix_tree.proofs.Words.{leaves_in, name_child, Gains, shown, IsWholeBut, late_at, nobody_out, name_next, name_back, root_past, FindsGap}
+use Rattle.radix_tree.proofs.ChainInserts.{chain_of, gap_before, gap_behind, gap_above, lodged_above, linked_rooms, inserted_whole, inserted_routes}
+use Rattle.radix_tree.proofs.ChainInserts.{IsWritten, taken_there}
 use Rattle.radix_tree.proofs.chains.insert_in_chain.Given as given
 use Rattle.radix_tree.proofs.chains.insert_in_chain.Goals as goal
 
@@ -20,16 +19,15 @@ in_gap g c =
 linked : (g : given.Over) (c : After-name_back g) → IsWritten c.args.nodes.now.lodged c.name_back.new.nodes.lodged c.lodge_leaf-id.result c.args.entry
     c.in-Some.leaf
 linked g c = record {
-  free = (ap (λ (k : ℕ). leaf_in (get c.args.nodes.now.lodged k)) c.lodge_leaf-id.ensures.number ∙ ap leaf_in c.requires.spare.free);
-  no_bit = ap (λ (k : ℕ). bit_in (get c.args.nodes.now.lodged k)) c.lodge_leaf-id.ensures.number ∙ ap bit_in c.requires.spare.free;
-  no_mask = ap (λ (k : ℕ). mask_in (get c.args.nodes.now.lodged k)) c.lodge_leaf-id.ensures.number ∙ ap mask_in c.requires.spare.free;
+  free = (ap (λ k. leaf_in (get c.args.nodes.now.lodged k)) c.lodge_leaf-id.ensures.number ∙ ap leaf_in c.requires.spare.free);
+  no_bit = ap (λ k. bit_in (get c.args.nodes.now.lodged k)) c.lodge_leaf-id.ensures.number ∙ ap bit_in c.requires.spare.free;
+  no_mask = ap (λ k. mask_in (get c.args.nodes.now.lodged k)) c.lodge_leaf-id.ensures.number ∙ ap mask_in c.requires.spare.free;
   leaves = (λ n. c.name_back.ensures.leaves n ∙ ap (λ (o : Option (LeafPart g.row.V.Denot)).
       name_back c.in-Some.leaf.next None (Some c.lodge_leaf-id.result) n o)
-      (c.name_next.ensures.leaves n ∙ ap (λ (o : Option (LeafPart g.row.V.Denot)). name_next c.in-Some.leaf.previous (Some c.lodge_leaf-id.result) n o)
+      (c.name_next.ensures.leaves n ∙ ap (name_next c.in-Some.leaf.previous (Some c.lodge_leaf-id.result) n)
       (c.rename-root.ensures.only.leaves n ∙ c.lodge_leaf-id.ensures.leaves n)));
   bits = λ n. c.name_back.ensures.only.bits n ∙ c.name_next.ensures.only.bits n ∙ c.rename-root.ensures.bits n
-      ∙ ap (λ (o : Option BitPart). name_child c.in-Some.leaf.above c.args.entry.key (LeafOf c.lodge_leaf-id.result) n o)
-      (c.lodge_leaf-id.ensures.only.bits n);
+      ∙ ap (name_child c.in-Some.leaf.above c.args.entry.key (LeafOf c.lodge_leaf-id.result) n) (c.lodge_leaf-id.ensures.only.bits n);
   heads =
       λ n. c.name_back.ensures.only.heads n ∙ c.name_next.ensures.only.heads n ∙ c.rename-root.ensures.only.heads n ∙ c.lodge_leaf-id.ensures.only.heads n;
   masks =
@@ -50,7 +48,7 @@ pub rename-root-requires-clause-tree : goal.rename-root-requires-clause-tree
 rename-root-requires-clause-tree g c up is =
     let r = c.requires.led in
     lodged_above c.args.nodes.now.lodged c.lodge_leaf-id.new.nodes.lodged c.lodge_leaf-id.result c.args.entry.value c.in-Some.leaf up
-    (ap (λ (k : ℕ). leaf_in (get c.args.nodes.now.lodged k)) c.lodge_leaf-id.ensures.number ∙ ap leaf_in c.requires.spare.free)
+    (ap (λ k. leaf_in (get c.args.nodes.now.lodged k)) c.lodge_leaf-id.ensures.number ∙ ap leaf_in c.requires.spare.free)
     c.lodge_leaf-id.ensures.leaves c.lodge_leaf-id.ensures.only.bits
     (gap_above c.args.nodes.now.lodged r.0.part r.1 r.0.top (in_gap g (goal.at.rename-root-requires-clause-tree g c).In-Some) up is)
 
@@ -59,7 +57,7 @@ name_next-requires-clause-there g c at is =
     let r = c.requires.led in
     Has-kept c.rename-root.new.nodes.lodged at c.rename-root.ensures.only.leaves
     (Has-lodged c.lodge_leaf-id.new.nodes.lodged c.lodge_leaf-id.result at c.args.entry.value c.in-Some.leaf
-    (ap (λ (k : ℕ). leaf_in (get c.args.nodes.now.lodged k)) c.lodge_leaf-id.ensures.number ∙ ap leaf_in c.requires.spare.free)
+    (ap (λ k. leaf_in (get c.args.nodes.now.lodged k)) c.lodge_leaf-id.ensures.number ∙ ap leaf_in c.requires.spare.free)
     c.lodge_leaf-id.ensures.leaves (gap_before c.args.nodes.now.lodged r.1 (in_gap g (goal.at.name_next-requires-clause-there g c).In-Some) at is))
 
 pub name_back-requires-clause-there : goal.name_back-requires-clause-there
@@ -68,14 +66,14 @@ name_back-requires-clause-there g c at is =
     Has-next c.rename-root.new.nodes.lodged c.name_next.new.nodes.lodged c.in-Some.leaf.previous _ at c.name_next.ensures.leaves
     (Has-kept c.rename-root.new.nodes.lodged at c.rename-root.ensures.only.leaves
     (Has-lodged c.lodge_leaf-id.new.nodes.lodged c.lodge_leaf-id.result at c.args.entry.value c.in-Some.leaf
-    (ap (λ (k : ℕ). leaf_in (get c.args.nodes.now.lodged k)) c.lodge_leaf-id.ensures.number ∙ ap leaf_in c.requires.spare.free)
+    (ap (λ k. leaf_in (get c.args.nodes.now.lodged k)) c.lodge_leaf-id.ensures.number ∙ ap leaf_in c.requires.spare.free)
     c.lodge_leaf-id.ensures.leaves (gap_behind c.args.nodes.now.lodged r.1 (in_gap g (goal.at.name_back-requires-clause-there g c).In-Some) at is)))
 
 pub returns-clause-ok : goal.returns-clause-ok
 returns-clause-ok g c =
     let r = c.requires.led in
-    subst (λ (z : Node). IsWholeBut c.name_back.new.nodes.lodged z (late_at c.args.room) nobody_out) (sym c.rename-root.ensures.root)
-    (subst (λ (k : ℕ). IsWholeBut c.name_back.new.nodes.lodged (root_past c.in-Some.leaf.previous c.in-Some.leaf.above (LeafOf c.lodge_leaf-id.result)
+    subst (λ z. IsWholeBut c.name_back.new.nodes.lodged z (late_at c.args.room) nobody_out) (sym c.rename-root.ensures.root)
+    (subst (λ k. IsWholeBut c.name_back.new.nodes.lodged (root_past c.in-Some.leaf.previous c.in-Some.leaf.above (LeafOf c.lodge_leaf-id.result)
     c.args.root) (late_at k) nobody_out) c.lodge_leaf-id.ensures.number
     (inserted_whole c.args.nodes.now.lodged c.name_back.new.nodes.lodged c.args.entry c.lodge_leaf-id.result c.args.first c.args.root r.0 r.1
     (in_gap g (goal.at.returns-clause-ok g c).In-Some) r.2 c.requires.route (linked g (goal.at.returns-clause-ok g c).After-name_back)))
@@ -83,7 +81,7 @@ returns-clause-ok g c =
 pub returns-clause-routes : goal.returns-clause-routes
 returns-clause-routes g c =
     let r = c.requires.led in
-    subst (λ (z : Node). Gains c.args.entry (shown c.args.nodes.now.lodged (Some c.args.root)) (shown c.name_back.new.nodes.lodged (Some z)))
+    subst (λ z. Gains c.args.entry (shown c.args.nodes.now.lodged (Some c.args.root)) (shown c.name_back.new.nodes.lodged (Some z)))
     (sym c.rename-root.ensures.root)
     (inserted_routes c.args.nodes.now.lodged c.name_back.new.nodes.lodged c.args.entry c.lodge_leaf-id.result c.args.first c.args.root r.0 r.1
     (in_gap g (goal.at.returns-clause-routes g c).In-Some) r.2 c.requires.route (linked g (goal.at.returns-clause-routes g c).After-name_back))
@@ -92,7 +90,7 @@ pub returns-clause-rooms : goal.returns-clause-rooms
 returns-clause-rooms g c n =
     linked_rooms c.args.nodes.now.lodged c.name_back.new.nodes.lodged c.lodge_leaf-id.result c.args.entry.value c.in-Some.leaf
     (linked g (goal.at.returns-clause-rooms g c).After-name_back).leaves n
-    ∙ ap (λ (k : ℕ). (n == k) || is_some (leaves_in c.args.nodes.now.lodged n)) c.lodge_leaf-id.ensures.number
+    ∙ ap (λ k. (n == k) || is_some (leaves_in c.args.nodes.now.lodged n)) c.lodge_leaf-id.ensures.number
 
 pub returns-clause-here : goal.returns-clause-here
 returns-clause-here g c = Has-linked_in c.args.nodes.now.lodged c.name_back.new.nodes.lodged c.lodge_leaf-id.result c.args.entry.value c.in-Some.leaf

@@ -1,38 +1,37 @@
-use Rattle.radix_tree.proofs.Words.{◌≡◌, ◌∙◌, Option, Some, sym, ap, Id, Leaf, LeafOf, leaves_in, Lodged, Node, Part, LeafPart, bits_in, name_child}
-use Rattle.radix_tree.proofs.Words.{link_out, root_past}
+use Rattle.radix_tree.proofs.{ChainWrites.own_part, ChainWrites.own_said, ChainWrites.Has-kept, chains.remove_from_chain.Goals.After-link_out}
+use Rattle.radix_tree.proofs.{chains.remove_from_chain.Goals.After-link_out-2}
+use Rattle.radix_tree.proofs.Words.{◌≡◌, ◌∙◌, Some, sym, ap, Id, LeafOf, leaves_in, Lodged, Node, Part, LeafPart, bits_in, name_child, link_out}
+use Rattle.radix_tree.proofs.Words.{root_past}
 use Rattle.radix_tree.proofs.ChainNeighbours.{IsMember, IsUnlinked, IsLeft, member_of, leaf_is, unlinked, before_there, behind_there, fork_above}
 use Rattle.radix_tree.proofs.ChainNeighbours.{left_kept, left_renamed}
 use Rattle.radix_tree.proofs.ChainRemovals.{removed_whole, removed_routes, unlinked_routes, own_kept, left_bits, idle_others, neighbour}
-use Rattle.radix_tree.proofs.{ChainWrites.own_part, ChainWrites.own_said, ChainWrites.Has-kept, chains.remove_from_chain.Goals.After-link_out}
-use Rattle.radix_tree.proofs.{chains.remove_from_chain.Goals.After-link_out-2}
 use Rattle.radix_tree.proofs.chains.remove_from_chain.Given as given
 use Rattle.radix_tree.proofs.chains.remove_from_chain.Goals as goal
 
 pub link_out-requires-clause-before : goal.link_out-requires-clause-before
 link_out-requires-clause-before g c r is = before_there (member_of c.requires.whole c.args.at.number (own_said c.requires.there)) r
-    (sym (ap (λ (z : Leaf). z.previous) (leaf_is c.links.result.now c.requires.there (own_said c.requires.there) c.links.ensures.links c.leaf-leaf.ensures))
+    (sym (ap (λ z. z.previous) (leaf_is c.links.result.now c.requires.there (own_said c.requires.there) c.links.ensures.links c.leaf-leaf.ensures))
     ∙ is)
 
 pub link_out-requires-clause-behind : goal.link_out-requires-clause-behind
 link_out-requires-clause-behind g c r is = behind_there (member_of c.requires.whole c.args.at.number (own_said c.requires.there)) r
-    (sym (ap (λ (z : Leaf). z.next) (leaf_is c.links.result.now c.requires.there (own_said c.requires.there) c.links.ensures.links c.leaf-leaf.ensures)) ∙ is)
+    (sym (ap (λ z. z.next) (leaf_is c.links.result.now c.requires.there (own_said c.requires.there) c.links.ensures.links c.leaf-leaf.ensures)) ∙ is)
 
 pub rename-root-requires-clause-tree : goal.rename-root-requires-clause-tree
 rename-root-requires-clause-tree g c up is =
     fork_above (member_of c.requires.whole c.args.at.number (own_said c.requires.there)) up c.requires.whole.top
-    (sym (ap (λ (z : Leaf). z.above) (leaf_is c.links.result.now c.requires.there (own_said c.requires.there) c.links.ensures.links c.leaf-leaf.ensures))
-    ∙ is)
+    (sym (ap (λ z. z.above) (leaf_is c.links.result.now c.requires.there (own_said c.requires.there) c.links.ensures.links c.leaf-leaf.ensures)) ∙ is)
 
 pub link_out-requires-2-clause-before : goal.link_out-requires-2-clause-before
 link_out-requires-2-clause-before g c r is = Has-kept c.rename-root.new.nodes.lodged r c.rename-root.ensures.only.leaves
     (before_there (member_of c.requires.whole c.args.at.number (own_said c.requires.there)) r
-    (sym (ap (λ (z : Leaf). z.previous) (leaf_is c.links.result.now c.requires.there (own_said c.requires.there) c.links.ensures.links c.leaf-leaf.ensures))
+    (sym (ap (λ z. z.previous) (leaf_is c.links.result.now c.requires.there (own_said c.requires.there) c.links.ensures.links c.leaf-leaf.ensures))
     ∙ is))
 
 pub link_out-requires-2-clause-behind : goal.link_out-requires-2-clause-behind
 link_out-requires-2-clause-behind g c r is = Has-kept c.rename-root.new.nodes.lodged r c.rename-root.ensures.only.leaves
     (behind_there (member_of c.requires.whole c.args.at.number (own_said c.requires.there)) r
-    (sym (ap (λ (z : Leaf). z.next) (leaf_is c.links.result.now c.requires.there (own_said c.requires.there) c.links.ensures.links c.leaf-leaf.ensures)) ∙ is))
+    (sym (ap (λ z. z.next) (leaf_is c.links.result.now c.requires.there (own_said c.requires.there) c.links.ensures.links c.leaf-leaf.ensures)) ∙ is))
 
 -- a member of a chain, whose neighbours name each other, and what stands above the chain
 abbrev IsGone : {V : Type 0} (m new : Lodged V) (whole : Part m) (at : Id) (p : LeafPart V) (name : Node) → Type 0
@@ -43,10 +42,10 @@ last_gone : (g : given.Over) (c : After-link_out g) {p : LeafPart g.row.V.Denot}
     → IsGone c.args.nodes.now.lodged c.link_out.new.nodes.lodged c.requires.whole.part c.args.at p c.args.root
 last_gone g c {p = p} said =
     let b = member_of c.requires.whole c.args.at.number said in
-    let read : c.leaf-leaf.result ≡ p.leaf = leaf_is c.links.result.now c.requires.there said c.links.ensures.links c.leaf-leaf.ensures in (
+    let read = leaf_is c.links.result.now c.requires.there said c.links.ensures.links c.leaf-leaf.ensures in (
       b,
       unlinked c.args.nodes.now.lodged c.link_out.new.nodes.lodged read c.link_out.ensures.leaves c.link_out.ensures.only.heads c.link_out.ensures.only.masks,
-      left_kept c.link_out.new.nodes.lodged c.requires.whole b (sym (ap (λ (z : Leaf). z.next) read) ∙ c.in_default.is) (c.requires.chain p said)
+      left_kept c.link_out.new.nodes.lodged c.requires.whole b (sym (ap (λ z. z.next) read) ∙ c.in_default.is) (c.requires.chain p said)
           c.link_out.ensures.only.bits,
     )
 
@@ -55,16 +54,15 @@ gone : (g : given.Over) (c : After-link_out-2 g) {p : LeafPart g.row.V.Denot} �
     → IsGone c.args.nodes.now.lodged c.link_out-2.new.nodes.lodged c.requires.whole.part c.args.at p c.rename-root.result
 gone g c {p = p} said =
     let b = member_of c.requires.whole c.args.at.number said in
-    let read : c.leaf-leaf.result ≡ p.leaf = leaf_is c.links.result.now c.requires.there said c.links.ensures.links c.leaf-leaf.ensures in (
+    let read = leaf_is c.links.result.now c.requires.there said c.links.ensures.links c.leaf-leaf.ensures in (
       b,
-      unlinked c.args.nodes.now.lodged c.link_out-2.new.nodes.lodged read
-          (λ k. c.link_out-2.ensures.leaves k ∙ ap (λ (o : Option (LeafPart g.row.V.Denot)). link_out c.leaf-leaf.result k o)
+      unlinked c.args.nodes.now.lodged c.link_out-2.new.nodes.lodged read (λ k. c.link_out-2.ensures.leaves k ∙ ap (link_out c.leaf-leaf.result k)
           (c.rename-root.ensures.only.leaves k)) (λ k. c.link_out-2.ensures.only.heads k ∙ c.rename-root.ensures.only.heads k)
           (λ k. c.link_out-2.ensures.only.masks k ∙ c.rename-root.ensures.only.masks k),
-      left_renamed c.link_out-2.new.nodes.lodged c.requires.whole b (sym (ap (λ (z : Leaf). z.next) read) ∙ c.in-Some.is)
+      left_renamed c.link_out-2.new.nodes.lodged c.requires.whole b (sym (ap (λ z. z.next) read) ∙ c.in-Some.is)
           (λ k. c.link_out-2.ensures.only.bits k ∙ c.rename-root.ensures.bits k
-          ∙ ap (λ (z : Leaf). name_child z.above z.key (LeafOf c.in-Some.behind) k (bits_in c.args.nodes.now.lodged k)) read)
-          (c.rename-root.ensures.root ∙ ap (λ (z : Leaf). root_past z.previous z.above (LeafOf c.in-Some.behind) c.args.root) read),
+          ∙ ap (λ z. name_child z.above z.key (LeafOf c.in-Some.behind) k (bits_in c.args.nodes.now.lodged k)) read)
+          (c.rename-root.ensures.root ∙ ap (λ z. root_past z.previous z.above (LeafOf c.in-Some.behind) c.args.root) read),
     )
 
 pub returns-in_default-clause-whole : goal.returns-in_default-clause-whole

@@ -1,6 +1,6 @@
+use Rattle.radix_tree.proofs.{AddressBits.zero_or_one, Descents.begun, Descents.used_at, Descents.parted, Descents.led, Descents.soon_at}
 use Rattle.radix_tree.specs.Tree.{bit_at}
 use Rattle.radix_tree.proofs.Words.{sym, ◌∙◌, arith, inl, inr, eqb-true, eqb-false}
-use Rattle.radix_tree.proofs.{AddressBits.zero_or_one, Descents.begun, Descents.used_at, Descents.parted, Descents.led, Descents.soon_at}
 use Rattle.radix_tree.proofs.descent.leaf_for.Goals as goal
 
 pub loop-at-init : goal.loop-at-init

@@ -1,5 +1,5 @@
 use Rattle.radix_tree.specs.Growth.{Differs}
-use Rattle.radix_tree.proofs.Words.{ℕ, sym, ◌∙◌, subst}
+use Rattle.radix_tree.proofs.Words.{sym, ◌∙◌, subst}
 use Rattle.radix_tree.proofs.Kept.{Has-led, leaf_key, whole_at}
 use Rattle.radix_tree.proofs.growing.insert.Goals as goal
 
@@ -17,7 +17,7 @@ insert_new-requires-clause-new g c =
     let d = c.leaf_for-leaf.ensures.leaf w.part w.named in (
       w,
       d,
-      subst (λ (k : ℕ). Differs c.args.entry.key k c.in-Some-first_difference.bit)
+      subst (λ k. Differs c.args.entry.key k c.in-Some-first_difference.bit)
           (leaf_key _ d c.links.result.now c.links.ensures.links c.leaf.ensures) c.in-Some-first_difference.ensures,
     )
 

@@ -1,4 +1,4 @@
-use Rattle.radix_tree.proofs.Words.{ℕ, ap, ◌∙◌, has_key, masks_in}
+use Rattle.radix_tree.proofs.Words.{ap, ◌∙◌, has_key, masks_in}
 use Rattle.radix_tree.proofs.Gained.{gains_same, new_left, led_begun, still_begun, same_begun, still_key}
 use Rattle.radix_tree.proofs.growing.insert_new.Goals as goal
 
@@ -11,7 +11,7 @@ list_mask-requires-clause-there g c = c.insert_beside-root.ensures.there
 
 pub list_mask-requires-clause-unmarked : goal.list_mask-requires-clause-unmarked
 list_mask-requires-clause-unmarked g c =
-    ap (λ (n : ℕ). masks_in c.insert_beside-root.new.nodes.lodged n) c.insert_beside-root.ensures.number ∙ c.insert_beside-root.ensures.unmarked
+    ap (masks_in c.insert_beside-root.new.nodes.lodged) c.insert_beside-root.ensures.number ∙ c.insert_beside-root.ensures.unmarked
 
 pub list_chain-requires-clause-whole : goal.list_chain-requires-clause-whole
 list_chain-requires-clause-whole g c =

@@ -1,5 +1,5 @@
-use Rattle.radix_tree.proofs.Words.{◌≡◌, ◌∙◌, sym, subst, Node, Part, forked_tree, placed, Exchanged}
 use Rattle.radix_tree.proofs.{Lodging.over_there, Lodging.below_there, Lodging.beside, Beside.whole_forked}
+use Rattle.radix_tree.proofs.Words.{◌≡◌, ◌∙◌, sym, subst, Part, forked_tree, placed, Exchanged}
 use Rattle.radix_tree.proofs.inserting.add_beside.Goals as goal
 
 pub name_child-requires-clause-tree : goal.name_child-requires-clause-tree
@@ -23,7 +23,7 @@ pub returns-clause-exchanged : goal.returns-clause-exchanged
 returns-clause-exchanged g c p s named =
     let b = beside c.name_child.new.nodes.lodged c.lift.new.nodes.lodged p s
     c.lodge_forked-id.ensures.lodged c.name_child.ensures.only.leaves c.name_child.ensures.bits c.lift.ensures.leaves c.lift.ensures.bits in
-    subst (λ (z : Node). (u : Part c.lift.new.nodes.lodged) × (u.tree ≡ forked_tree c.args.spot.bit (placed c.lodge_forked-id.result c.args.entry) s.at.tree)
+    subst (λ z. (u : Part c.lift.new.nodes.lodged) × (u.tree ≡ forked_tree c.args.spot.bit (placed c.lodge_forked-id.result c.args.entry) s.at.tree)
     × Exchanged c.args.nodes.now.lodged c.lift.new.nodes.lodged c.args.entry.key p s.at u z) (sym c.root_after.ensures)
     (whole_forked p s b c.requires.route named)
 

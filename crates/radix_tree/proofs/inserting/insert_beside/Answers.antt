@@ -1,8 +1,8 @@
-use Rattle.radix_tree.proofs.Words.{◌≡◌, ℕ, ◌==◌, ◌||◌, sym, ap, ◌∙◌, subst, get, Nodes, Part, mask_in, LedTo, IsWhole, Differs, IsSpot, forked_tree}
-use Rattle.radix_tree.proofs.Words.{placed, Exchanged, IsWholeBut, HasRoomMore, has_key, nobody_out}
-use Rattle.radix_tree.proofs.BesideRooms.{Came, same_part, same_spot, exchanged_from, room_more, leaf_kept, new_there}
 use Rattle.radix_tree.proofs.{Parts.fork_named, MaskLists.bit_node_at, Cuts.list_at, WholeParts.whole_but, BesideWhole.new_key, BesideWhole.came_beside}
 use Rattle.radix_tree.proofs.{BesideWhole.whole_beside, BesideWhole.routes_beside}
+use Rattle.radix_tree.proofs.Words.{◌≡◌, ◌==◌, ◌||◌, sym, ap, ◌∙◌, subst, get, Part, mask_in, LedTo, IsWhole, Differs, IsSpot, forked_tree, placed}
+use Rattle.radix_tree.proofs.Words.{Exchanged, IsWholeBut, HasRoomMore, has_key, nobody_out}
+use Rattle.radix_tree.proofs.BesideRooms.{Came, same_part, same_spot, exchanged_from, room_more, leaf_kept, new_there}
 use Rattle.radix_tree.proofs.inserting.insert_beside.Given as given
 use Rattle.radix_tree.proofs.inserting.insert_beside.Goals as goal
 
@@ -28,7 +28,7 @@ add_beside-requires-clause-spot g c =
     let s = c.spot_above-spot.ensures.spot c.args.entry.key (new_key n.0 n.1 n.2) in (
       same_part c.cut-masks.new.nodes.lodged c.cut-masks.ensures.tree.leaves c.cut-masks.ensures.tree.bits n.0.part,
       same_spot c.cut-masks.new.nodes.lodged c.cut-masks.ensures.tree.leaves c.cut-masks.ensures.tree.bits n.0.part
-          (subst (λ (b : ℕ). IsSpot c.args.nodes.now.lodged c.args.entry.key b n.0.part c.spot_above-spot.result.above c.spot_above-spot.result.below)
+          (subst (λ b. IsSpot c.args.nodes.now.lodged c.args.entry.key b n.0.part c.spot_above-spot.result.above c.spot_above-spot.result.below)
           (sym c.spot_above-spot.ensures.bit) s),
     )
 
@@ -37,7 +37,7 @@ spot_of : (g : given.Over) (c : goal.After-add_beside g) (w : IsWhole c.args.nod
     → Differs c.args.entry.key d.leaf.first.entry.key c.args.bit
     → IsSpot c.args.nodes.now.lodged c.args.entry.key c.spot_above-spot.result.bit w.part c.spot_above-spot.result.above c.spot_above-spot.result.below
 spot_of g c w d differs =
-    subst (λ (b : ℕ). IsSpot c.args.nodes.now.lodged c.args.entry.key b w.part c.spot_above-spot.result.above c.spot_above-spot.result.below)
+    subst (λ b. IsSpot c.args.nodes.now.lodged c.args.entry.key b w.part c.spot_above-spot.result.above c.spot_above-spot.result.below)
     (sym c.spot_above-spot.ensures.bit) (c.spot_above-spot.ensures.spot c.args.entry.key (new_key w d differs))
 
 -- all that has come of the rooms
@@ -46,10 +46,10 @@ came_of : (g : given.Over) (c : goal.After-add_beside g) (w : IsWhole c.args.nod
     → Came c.args.nodes.now.lodged c.cut-masks.new.nodes.lodged c.add_beside.new.nodes.lodged s.at.low c.spot_above-spot.result.bit s.at.tree
     (placed c.add_beside.result.1 c.args.entry) c.spot_above-spot.result.above c.spot_above-spot.result.below
 came_of g c w s = came_beside w c.cut-masks.result s c.cut-masks.ensures.kept c.cut-masks.ensures.others
-    (λ room is. let l = c.cut-masks.ensures.leaf room is in (l.0, ap (λ (n : Nodes g.row.V.Denot). n.lodged) l.1))
+    (λ room is. let l = c.cut-masks.ensures.leaf room is in (l.0, ap (λ n. n.lodged) l.1))
     c.cut-masks.ensures.heads (λ fork ms is. c.cut-masks.ensures.masks fork is ms) c.cut-masks.ensures.marks c.cut-masks.ensures.tree.leaves
     c.cut-masks.ensures.tree.bits c.add_beside.ensures.beside c.add_beside.ensures.heads c.add_beside.ensures.masks
-    (ap (λ (k : ℕ). mask_in (get c.args.nodes.now.lodged k)) c.add_beside.ensures.number ∙ ap mask_in c.requires.spare.free)
+    (ap (λ k. mask_in (get c.args.nodes.now.lodged k)) c.add_beside.ensures.number ∙ ap mask_in c.requires.spare.free)
 
 -- the part with the route in it
 part_of : (g : given.Over) (c : goal.After-add_beside g) (w : IsWhole c.args.nodes.now.lodged c.args.root)
@@ -67,7 +67,7 @@ pub returns-clause-whole : goal.returns-clause-whole
 returns-clause-whole g c w d differs =
     let s = spot_of g c w d differs in
     let p = part_of g c w s in
-    subst (λ (r : ℕ). IsWholeBut c.add_beside.new.nodes.lodged c.add_beside.result.0
+    subst (λ r. IsWholeBut c.add_beside.new.nodes.lodged c.add_beside.result.0
     (λ n. (n == r) || has_key c.args.nodes.now.lodged d.leaf.first.entry.key n) nobody_out) c.add_beside.ensures.number
     (whole_beside (whole_but w) s d p.0 (came_of g c w s) p.1 p.2)
 

@@ -1,4 +1,4 @@
-use Rattle.radix_tree.proofs.Words.{◌∙◌, ap, Option, None, Id, LeafPart, BitPart, put_bit, put_head, lift_leaf, lift_bit}
+use Rattle.radix_tree.proofs.Words.{◌∙◌, ap, None, put_bit, put_head, lift_leaf, lift_bit}
 use Rattle.radix_tree.proofs.JoinLinks.{Has-kept, below_stays}
 use Rattle.radix_tree.proofs.joining.join.Goals as goal
 
@@ -15,16 +15,16 @@ lift-requires-clause-tree g c =
     c.name_child.ensures.only.leaves c.put_bit_node.ensures.leaves c.name_child.ensures.bits c.put_bit_node.ensures.bits
 
 pub returns-clause-leaves : goal.returns-clause-leaves
-returns-clause-leaves g c n = c.lift.ensures.leaves n ∙ ap (λ (said : Option (LeafPart g.row.V.Denot)). lift_leaf c.args.to c.args.above n said)
+returns-clause-leaves g c n = c.lift.ensures.leaves n ∙ ap (lift_leaf c.args.to c.args.above n)
     (c.put_bit_node.ensures.leaves n ∙ c.name_child.ensures.only.leaves n)
 
 pub returns-clause-bits : goal.returns-clause-bits
-returns-clause-bits g c n = c.lift.ensures.bits n ∙ ap (λ (said : Option BitPart). lift_bit c.args.to c.args.above n said)
-    (c.put_bit_node.ensures.bits n ∙ ap (λ (said : Option BitPart). put_bit c.args.up None n said) (c.name_child.ensures.bits n))
+returns-clause-bits g c n = c.lift.ensures.bits n ∙ ap (lift_bit c.args.to c.args.above n)
+    (c.put_bit_node.ensures.bits n ∙ ap (put_bit c.args.up None n) (c.name_child.ensures.bits n))
 
 pub returns-clause-heads : goal.returns-clause-heads
 returns-clause-heads g c n =
-    c.lift.ensures.heads n ∙ c.put_bit_node.ensures.heads n ∙ ap (λ (said : Option Id). put_head c.args.up None n said) (c.name_child.ensures.only.heads n)
+    c.lift.ensures.heads n ∙ c.put_bit_node.ensures.heads n ∙ ap (put_head c.args.up None n) (c.name_child.ensures.only.heads n)
 
 pub returns-clause-masks : goal.returns-clause-masks
 returns-clause-masks g c n = c.lift.ensures.masks n ∙ c.put_bit_node.ensures.masks n ∙ c.name_child.ensures.only.masks n

@@ -1,5 +1,5 @@
-use Rattle.radix_tree.proofs.Words.{◌∙◌, ap, sym, subst, Option, Some, Id, Node, IsLone, root_after, Gains, IsWholeBut, nobody_late, out_at, heads_in}
-use Rattle.radix_tree.proofs.Words.{name_of, shown, shown_entry}
+use Rattle.radix_tree.proofs.Words.{◌∙◌, ap, sym, subst, Some, IsLone, root_after, Gains, IsWholeBut, nobody_late, out_at, heads_in, name_of, shown}
+use Rattle.radix_tree.proofs.Words.{shown_entry}
 use Rattle.radix_tree.proofs.JoinWhole.{IsJoined, handed_on, routes_kept, idle_stays, freed, whole_joined, routes_joined, own_leaf}
 use Rattle.radix_tree.proofs.JoinRooms.{lone_read, never_top, key_read, Has-up, Has-routes, never_unused, up_read, way_marked, above_after, beneath_after}
 use Rattle.radix_tree.proofs.JoinRooms.{IsUp, joined, idle_joined}
@@ -89,17 +89,17 @@ returns-clause-whole g c =
     (c.hand_masks_on.ensures.handed c.requires.whole.part c.args.at c.in-Some.up l (u.to ∙ sym c.sibling_of-to.ensures) u.head c.requires.unmarked
     (way_marked l.route.entry.key c.requires.whole.part l.over l.ups l.way c.requires.whole.lists))
     c.join.ensures.masks (λ n other. c.join.ensures.heads n ∙ head_off c.in-Some.up n (heads_in c.hand_masks_on.new.nodes.lodged n) other) in
-    subst (λ (z : Node). IsWholeBut c.join.new.nodes.lodged z nobody_late (out_at c.args.at.number))
-    (ap (λ (o : Option Id). root_after o (name_of l.other) c.args.root) u.above
-    ∙ ap (λ (z : Node). root_after c.in-Some-bit_node.node.above z c.args.root) (u.to ∙ sym c.sibling_of-to.ensures) ∙ sym c.root_after.ensures)
+    subst (λ z. IsWholeBut c.join.new.nodes.lodged z nobody_late (out_at c.args.at.number))
+    (ap (λ o. root_after o (name_of l.other) c.args.root) u.above
+    ∙ ap (λ z. root_after c.in-Some-bit_node.node.above z c.args.root) (u.to ∙ sym c.sibling_of-to.ensures) ∙ sym c.root_after.ensures)
     (whole_joined c.args.at c.in-Some.up c.requires.whole l j h c.requires.unmarked)
 
 pub returns-clause-routes : goal.returns-clause-routes
 returns-clause-routes g c p said =
     let (l, u, j) = done g (goal.at.returns-clause-routes g c).After-root_after in
-    subst (λ (z : Node). Gains (shown_entry p) (shown c.join.new.nodes.lodged (Some z)) (shown c.args.nodes.now.lodged (Some c.args.root)))
-    (ap (λ (o : Option Id). root_after o (name_of l.other) c.args.root) u.above
-    ∙ ap (λ (z : Node). root_after c.in-Some-bit_node.node.above z c.args.root) (u.to ∙ sym c.sibling_of-to.ensures) ∙ sym c.root_after.ensures)
+    subst (λ z. Gains (shown_entry p) (shown c.join.new.nodes.lodged (Some z)) (shown c.args.nodes.now.lodged (Some c.args.root)))
+    (ap (λ o. root_after o (name_of l.other) c.args.root) u.above
+    ∙ ap (λ z. root_after c.in-Some-bit_node.node.above z c.args.root) (u.to ∙ sym c.sibling_of-to.ensures) ∙ sym c.root_after.ensures)
     (routes_joined c.args.root c.args.at c.in-Some.up c.requires.whole l j p said)
 
 pub returns-clause-rooms : goal.returns-clause-rooms

@@ -1,7 +1,7 @@
 use Rattle.std.proofs.Common.{rules}
+use Rattle.radix_tree.proofs.{Climbs.used, Lifts.node_changed, Lifts.head_kept, Parts.Has-fork}
 use Rattle.radix_tree.specs.Writes.{bit_above}
 use Rattle.radix_tree.proofs.Words.{◌∙◌, refl}
-use Rattle.radix_tree.proofs.{Climbs.used, Lifts.node_changed, Lifts.head_kept, Parts.Has-fork}
 use Rattle.radix_tree.proofs.linking.lift_bit_node.Goals as goal
 
 pub bit_node-node-requires-clause-used : goal.bit_node-node-requires-clause-used

@@ -1,6 +1,6 @@
 use Rattle.radix_nodes.proofs.Callers.{Has-lodged}
 use Rattle.std.specs.FinMap.{get}
-use Rattle.radix_tree.proofs.Words.{◌≡◌, ◌∙◌, refl, ap, ℕ, None}
+use Rattle.radix_tree.proofs.Words.{◌∙◌, refl, ap}
 use Rattle.radix_tree.proofs.RoomWrites.{lodged_bits, lodged_heads, lodged_masks, lodged_leaves}
 use Rattle.radix_tree.proofs.linking.lodge_leaf.Goals as goal
 
@@ -14,16 +14,13 @@ returns-clause-leaves g c =
 
 pub returns-clause-only : goal.returns-clause-only
 returns-clause-only g c = record {
-  bits = λ n. let free : get c.args.nodes.now.lodged c.lodge-id.result.number ≡ None =
-      ap (λ (k : ℕ). get c.args.nodes.now.lodged k) c.lodge-id.ensures.number ∙ c.requires.spare.free in
+  bits = λ n. let free = ap (get c.args.nodes.now.lodged) c.lodge-id.ensures.number ∙ c.requires.spare.free in
       c.put_leaf.ensures.only.bits n ∙ rw c.lodge-id.ensures.lodged.2 (lodged_bits c.args.nodes.now.lodged c.lodge-id.result c.args.value
       c.lodge-id.ensures.lodged.0 free c.lodge-id.ensures.lodged.1.bit_node n);
-  heads = λ n. let free : get c.args.nodes.now.lodged c.lodge-id.result.number ≡ None =
-      ap (λ (k : ℕ). get c.args.nodes.now.lodged k) c.lodge-id.ensures.number ∙ c.requires.spare.free in
+  heads = λ n. let free = ap (get c.args.nodes.now.lodged) c.lodge-id.ensures.number ∙ c.requires.spare.free in
       c.put_leaf.ensures.only.heads n ∙ rw c.lodge-id.ensures.lodged.2 (lodged_heads c.args.nodes.now.lodged c.lodge-id.result c.args.value
       c.lodge-id.ensures.lodged.0 free c.lodge-id.ensures.lodged.1.bit_node n);
-  masks = λ n. let free : get c.args.nodes.now.lodged c.lodge-id.result.number ≡ None =
-      ap (λ (k : ℕ). get c.args.nodes.now.lodged k) c.lodge-id.ensures.number ∙ c.requires.spare.free in
+  masks = λ n. let free = ap (get c.args.nodes.now.lodged) c.lodge-id.ensures.number ∙ c.requires.spare.free in
       c.put_leaf.ensures.only.masks n ∙ rw c.lodge-id.ensures.lodged.2 (lodged_masks c.args.nodes.now.lodged c.lodge-id.result c.args.value
       c.lodge-id.ensures.lodged.0 free c.lodge-id.ensures.lodged.1.mask_node n);
 }

@@ -1,24 +1,19 @@
-use Rattle.radix_nodes.specs.Rooms.{Rooms}
 use Rattle.radix_tree.proofs.Words.{ap}
 use Rattle.radix_tree.proofs.RoomWrites.{leaves_kept, masks_kept, bits_put, heads_put}
 use Rattle.radix_tree.proofs.linking.put_bit_node.Goals as goal
 
 pub returns-clause-leaves : goal.returns-clause-leaves
-returns-clause-leaves g c =
-    leaves_kept c.with_bit_node.result c.links-links.result.now c.requires.there (ap (λ (r : Rooms g.row.V.Denot). r.lodged) c.set_links.ensures)
+returns-clause-leaves g c = leaves_kept c.with_bit_node.result c.links-links.result.now c.requires.there (ap (λ r. r.lodged) c.set_links.ensures)
     c.links-links.ensures.links c.with_bit_node.ensures.leaf
 
 pub returns-clause-masks : goal.returns-clause-masks
-returns-clause-masks g c =
-    masks_kept c.with_bit_node.result c.links-links.result.now c.requires.there (ap (λ (r : Rooms g.row.V.Denot). r.lodged) c.set_links.ensures)
+returns-clause-masks g c = masks_kept c.with_bit_node.result c.links-links.result.now c.requires.there (ap (λ r. r.lodged) c.set_links.ensures)
     c.links-links.ensures.links c.with_bit_node.ensures.mask_node
 
 pub returns-clause-bits : goal.returns-clause-bits
-returns-clause-bits g c =
-    bits_put c.args.room c.with_bit_node.result c.requires.there (ap (λ (r : Rooms g.row.V.Denot). r.lodged) c.set_links.ensures)
+returns-clause-bits g c = bits_put c.args.room c.with_bit_node.result c.requires.there (ap (λ r. r.lodged) c.set_links.ensures)
     c.with_bit_node.ensures.bit_node
 
 pub returns-clause-heads : goal.returns-clause-heads
-returns-clause-heads g c =
-    heads_put c.args.room c.with_bit_node.result c.requires.there (ap (λ (r : Rooms g.row.V.Denot). r.lodged) c.set_links.ensures)
+returns-clause-heads g c = heads_put c.args.room c.with_bit_node.result c.requires.there (ap (λ r. r.lodged) c.set_links.ensures)
     c.with_bit_node.ensures.bit_node

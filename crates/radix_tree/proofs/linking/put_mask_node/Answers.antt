@@ -1,22 +1,19 @@
-use Rattle.radix_nodes.specs.Rooms.{Rooms}
 use Rattle.radix_tree.proofs.Words.{ap}
 use Rattle.radix_tree.proofs.RoomWrites.{leaves_kept, bits_kept, heads_kept, masks_put}
 use Rattle.radix_tree.proofs.linking.put_mask_node.Goals as goal
 
 pub returns-clause-tree : goal.returns-clause-tree
 returns-clause-tree g c = record {
-  leaves = leaves_kept c.with_mask_node.result c.links-links.result.now c.requires.there (ap (λ (r : Rooms g.row.V.Denot). r.lodged) c.set_links.ensures)
+  leaves = leaves_kept c.with_mask_node.result c.links-links.result.now c.requires.there (ap (λ r. r.lodged) c.set_links.ensures)
       c.links-links.ensures.links c.with_mask_node.ensures.leaf;
-  bits = bits_kept c.with_mask_node.result c.links-links.result.now c.requires.there (ap (λ (r : Rooms g.row.V.Denot). r.lodged) c.set_links.ensures)
+  bits = bits_kept c.with_mask_node.result c.links-links.result.now c.requires.there (ap (λ r. r.lodged) c.set_links.ensures)
       c.links-links.ensures.links c.with_mask_node.ensures.bit_node;
 }
 
 pub returns-clause-heads : goal.returns-clause-heads
-returns-clause-heads g c =
-    heads_kept c.with_mask_node.result c.links-links.result.now c.requires.there (ap (λ (r : Rooms g.row.V.Denot). r.lodged) c.set_links.ensures)
+returns-clause-heads g c = heads_kept c.with_mask_node.result c.links-links.result.now c.requires.there (ap (λ r. r.lodged) c.set_links.ensures)
     c.links-links.ensures.links c.with_mask_node.ensures.bit_node
 
 pub returns-clause-masks : goal.returns-clause-masks
-returns-clause-masks g c =
-    masks_put c.args.room c.with_mask_node.result c.requires.there (ap (λ (r : Rooms g.row.V.Denot). r.lodged) c.set_links.ensures)
+returns-clause-masks g c = masks_put c.args.room c.with_mask_node.result c.requires.there (ap (λ r. r.lodged) c.set_links.ensures)
     c.with_mask_node.ensures.mask_node

@@ -1,4 +1,4 @@
-use Rattle.radix_tree.proofs.Words.{◌≡◌, ◌≤◌, ◌+◌, ◌-◌, ◌∙◌, ap, arith, Counter}
+use Rattle.radix_tree.proofs.Words.{◌-◌, ◌∙◌, ap, arith}
 use Rattle.radix_tree.proofs.ChainStarts.{Has-member, come, earlier, few_at, ended}
 use Rattle.radix_tree.proofs.listing.first_of_chain.Goals as goal
 
@@ -7,9 +7,9 @@ links-requires-clause-there g c = let r = c.requires.chain in Has-member r.0 r.1
 
 pub loop-before-init : goal.loop-before-init
 loop-before-init g c =
-    let count : c.links.new.visits.count ≡ c.args.visits.now.count + 1 = ap (λ (v : Counter). v.count) c.links.ensures.visit in
+    let count = ap (λ v. v.count) c.links.ensures.visit in
     record {
-      turn = ap (λ (v : Counter). v.turn) c.links.ensures.visit ∙ c.requires.turn;
+      turn = ap (λ v. v.turn) c.links.ensures.visit ∙ c.requires.turn;
       back = λ r y first among is. come r y (c.links.new.visits.count - c.args.visits.now.count) c.links.result.now first among is (omega arith)
           c.links.ensures.links c.leaf-before.ensures;
       rises = omega arith;
@@ -24,21 +24,20 @@ links-requires-in-Some-clause-there g c =
 pub loop-before-smaller : goal.loop-before-smaller
 loop-before-smaller g c =
     let r = c.requires.chain in
-    let count : c.links-in-Some.new.visits.count ≡ c.loop-before.visits.count + 1 = ap (λ (v : Counter). v.count) c.links-in-Some.ensures.visit in
-    let rises : c.args.visits.now.count ≤ c.loop-before.visits.count = c.loop-before.invariant.rises in
-    let few : c.loop-before.visits.count - c.args.visits.now.count ≤ 34 =
-    few_at c.args.nodes.now.lodged r.0 _ (c.loop-before.invariant.back r.0 r.1 r.2 r.3 r.4) in
+    let count = ap (λ v. v.count) c.links-in-Some.ensures.visit in
+    let rises = c.loop-before.invariant.rises in
+    let few = few_at c.args.nodes.now.lodged r.0 _ (c.loop-before.invariant.back r.0 r.1 r.2 r.3 r.4) in
     omega arith
 
 pub loop-before-preserved : goal.loop-before-preserved
 loop-before-preserved g c =
-    let count : c.links-in-Some.new.visits.count ≡ c.loop-before.visits.count + 1 = ap (λ (v : Counter). v.count) c.links-in-Some.ensures.visit in
-    let rises : c.args.visits.now.count ≤ c.loop-before.visits.count = c.loop-before.invariant.rises in
+    let count = ap (λ v. v.count) c.links-in-Some.ensures.visit in
+    let rises = c.loop-before.invariant.rises in
     record {
-      turn = ap (λ (v : Counter). v.turn) c.links-in-Some.ensures.visit ∙ c.loop-before.invariant.turn;
+      turn = ap (λ v. v.turn) c.links-in-Some.ensures.visit ∙ c.loop-before.invariant.turn;
       back = λ r y first among is.
           let e = earlier c.args.nodes.now.lodged r _ (c.loop-before.invariant.back r y first among is) c.in-Some.is in
-          let few : c.loop-before.visits.count - c.args.visits.now.count ≤ e.is.entry.rank = e.few in
+          let few = e.few in
           come r e.is (c.links-in-Some.new.visits.count - c.args.visits.now.count) c.links-in-Some.result.now first e.among e.room_is (omega arith)
           c.links-in-Some.ensures.links c.leaf-before-in-Some.ensures;
       rises = omega arith;

@@ -1,4 +1,4 @@
-use Rattle.radix_tree.proofs.Words.{◌∙◌, refl, sym, ap, Counter, LeafPart}
+use Rattle.radix_tree.proofs.Words.{◌∙◌, refl, sym, ap}
 use Rattle.radix_tree.proofs.ListedChains.{begun, Has-at, passed, nearer, ended}
 use Rattle.radix_tree.proofs.RoomReads.{inside}
 use Rattle.radix_tree.proofs.listing.list_chain.Goals as goal
@@ -44,7 +44,7 @@ loop-at-smaller g c =
 
 pub loop-at-preserved : goal.loop-at-preserved
 loop-at-preserved g c = record {
-  turn = ap (λ (v : Counter). v.turn) c.links.ensures.visit ∙ c.list_late.ensures.stays.counter ∙ c.loop-at.invariant.turn ∙ sym c.list_late.ensures.stays.turn;
+  turn = ap (λ v. v.turn) c.links.ensures.visit ∙ c.list_late.ensures.stays.counter ∙ c.loop-at.invariant.turn ∙ sym c.list_late.ensures.stays.turn;
   next = c.list_late.ensures.stays.next ∙ c.loop-at.invariant.next;
   turns = c.list_late.ensures.stays.turn ∙ c.loop-at.invariant.turns;
   leaves = λ n. c.list_late.ensures.tree.leaves n ∙ c.loop-at.invariant.leaves n;
@@ -60,5 +60,5 @@ pub returns-clause-whole : goal.returns-clause-whole
 returns-clause-whole g c root late p w said =
     let f = c.requires.first in
     let same = inside (sym f.1 ∙ said) in
-    ended late p.leaf.key (c.loop-at.invariant.left root late p w said (ap (λ (q : LeafPart g.row.V.Denot). q.block) (sym same) ∙ f.2)
-    (ap (λ (q : LeafPart g.row.V.Denot). q.leaf.previous) (sym same) ∙ f.3)) c.in_default.is
+    ended late p.leaf.key (c.loop-at.invariant.left root late p w said (ap (λ q. q.block) (sym same) ∙ f.2)
+    (ap (λ q. q.leaf.previous) (sym same) ∙ f.3)) c.in_default.is

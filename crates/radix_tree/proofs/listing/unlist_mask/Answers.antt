@@ -1,6 +1,6 @@
-use Rattle.radix_tree.proofs.Words.{sym, subst, nobody_late, late_at, IsHome}
 use Rattle.radix_tree.proofs.{WholeParts.whole_but, WholeParts.once_but, WholeParts.later_than, HomeLists.placed_in, HomeLists.true_false}
 use Rattle.radix_tree.proofs.{Listed.listed_less, Listed.homeless, Listed.homed, Listed.home_node, Listed.home_member, Listed.marked_at}
+use Rattle.radix_tree.proofs.Words.{sym, subst, nobody_late, late_at, IsHome}
 use Rattle.radix_tree.proofs.listing.unlist_mask.Goals as goal
 
 pub home_of-requires-clause-whole : goal.home_of-requires-clause-whole

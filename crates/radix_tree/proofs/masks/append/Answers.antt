@@ -1,6 +1,6 @@
-use Rattle.radix_tree.proofs.Words.{◌∙◌, ap, is_some, masks_in, not_below}
 use Rattle.radix_tree.proofs.{MaskLists.not_below_among, MaskLinks.list_of, MaskLinks.Has-last, MaskLinks.aside_linked, MaskLinks.marks_linked}
 use Rattle.radix_tree.proofs.{MaskChanges.appended}
+use Rattle.radix_tree.proofs.Words.{◌∙◌, ap, is_some, masks_in, not_below}
 use Rattle.radix_tree.proofs.masks.append.Goals as goal
 
 pub link-requires-clause-there : goal.link-requires-clause-there

@@ -1,5 +1,5 @@
-use Rattle.radix_tree.proofs.Words.{◌∙◌, refl, sym}
 use Rattle.radix_tree.proofs.{MaskClears.begun, MaskClears.listed_at, MaskClears.cleared_one, MaskClears.ended, MaskWalks.Has-listed}
+use Rattle.radix_tree.proofs.Words.{◌∙◌, refl, sym}
 use Rattle.radix_tree.proofs.masks.clear.Goals as goal
 
 pub loop-at-init : goal.loop-at-init

@@ -1,4 +1,4 @@
-use Rattle.radix_tree.proofs.Words.{◌≤◌, ◌<◌, ◌∙◌, ℕ, refl, sym, subst, arith}
+use Rattle.radix_tree.proofs.Words.{◌≤◌, ◌<◌, ◌∙◌, refl, sym, subst, arith}
 use Rattle.radix_tree.proofs.MaskWalks.{begun, next_of, rank_told, ended}
 use Rattle.radix_tree.proofs.masks.gap_at.Goals as goal
 
@@ -12,13 +12,13 @@ pub returns-then-number-low-clause-before : goal.returns-then-number-low-clause-
 returns-then-number-low-clause-before g c ms is =
     let x = next_of (c.loop-behind.invariant.passing ms is) c.in-Some.is in
     let read = c.number.ensures.number ∙ rank_told _ c.mask_node-leaf.result.0 x.ranked x.room_is c.mask_node-leaf.ensures.leaf in
-    (x.stopped (subst (λ (n : ℕ). n < c.args.low) read c.if-number-low.true)).0
+    (x.stopped (subst (λ n. n < c.args.low) read c.if-number-low.true)).0
 
 pub returns-then-number-low-clause-behind : goal.returns-then-number-low-clause-behind
 returns-then-number-low-clause-behind g c ms is =
     let x = next_of (c.loop-behind.invariant.passing ms is) c.in-Some.is in
     let read = c.number.ensures.number ∙ rank_told _ c.mask_node-leaf.result.0 x.ranked x.room_is c.mask_node-leaf.ensures.leaf in
-    (x.stopped (subst (λ (n : ℕ). n < c.args.low) read c.if-number-low.true)).1
+    (x.stopped (subst (λ n. n < c.args.low) read c.if-number-low.true)).1
 
 pub loop-behind-smaller : goal.loop-behind-smaller
 loop-behind-smaller g c =
@@ -30,7 +30,7 @@ loop-behind-preserved g c = record {
   passing = λ ms is.
       let x = next_of (c.loop-behind.invariant.passing ms is) c.in-Some.is in
       let read = c.number.ensures.number ∙ rank_told _ c.mask_node-leaf.result.0 x.ranked x.room_is c.mask_node-leaf.ensures.leaf in
-      x.passed c.mask_node-leaf.result.1 _ c.mask_node-leaf.ensures.said (subst (λ (n : ℕ). c.args.low ≤ n) read c.if-number-low.false)
+      x.passed c.mask_node-leaf.result.1 _ c.mask_node-leaf.ensures.said (subst (λ n. c.args.low ≤ n) read c.if-number-low.false)
       c.mask_node-leaf.ensures.visit;
 }
 

@@ -1,6 +1,6 @@
-use Rattle.radix_tree.proofs.Words.{◌≤◌, ◌<◌, ◌∙◌, ℕ, subst, arith}
 use Rattle.radix_tree.proofs.{Climbs.begun, Climbs.over, Climbs.fork_over, Climbs.used, Climbs.risen, Climbs.step_soon, Homes.none_passed, Homes.passed}
 use Rattle.radix_tree.proofs.{Homes.stopped, Homes.topped, Lifts.Has-leaf_at}
+use Rattle.radix_tree.proofs.Words.{◌≤◌, ◌<◌, ◌∙◌, subst, arith}
 use Rattle.radix_tree.proofs.masks.home.Goals as goal
 
 pub leaf-above-requires-clause-there : goal.leaf-above-requires-clause-there
@@ -18,7 +18,7 @@ bit_node-node-requires-clause-used g c =
 
 pub returns-then-node-rank-clause-home : goal.returns-then-node-rank-clause-home
 returns-then-node-rank-clause-home g c key whole top low led =
-    let before = subst (λ (n : ℕ). c.bit_node-node.result.bit < n) c.number-rank.ensures.number c.if-node-rank.true in
+    let before = subst (λ n. c.bit_node-node.result.bit < n) c.number-rank.ensures.number c.if-node-rank.true in
     let w = c.loop-above.invariant.climb key whole top led in stopped w (over top w c.in-Some.is) c.bit_node-node.ensures.node before
 
 pub loop-above-smaller : goal.loop-above-smaller
@@ -29,7 +29,7 @@ loop-above-smaller g c =
 
 pub loop-above-preserved : goal.loop-above-preserved
 loop-above-preserved g c =
-    let past = subst (λ (n : ℕ). n ≤ c.bit_node-node.result.bit) c.number-rank.ensures.number c.if-node-rank.false in record {
+    let past = subst (λ n. n ≤ c.bit_node-node.result.bit) c.number-rank.ensures.number c.if-node-rank.false in record {
       turn = c.bit_node-node.ensures.visit.turn ∙ c.loop-above.invariant.turn;
       climb = λ key whole top led.
           let w = c.loop-above.invariant.climb key whole top led in

@@ -1,5 +1,5 @@
-use Rattle.radix_tree.proofs.Words.{◌≡◌, ◌+◌, ◌-◌, ℕ, None, Part, LedTo}
 use Rattle.radix_tree.proofs.{Climbs.Climb, Homes.Passed}
+use Rattle.radix_tree.proofs.Words.{◌≡◌, ◌+◌, ◌-◌, ℕ, None, Part, LedTo}
 use Rattle.radix_tree.proofs.masks.home.Given as goal
 
 abbrev pub invariant-loop-above : goal.invariant-loop-above

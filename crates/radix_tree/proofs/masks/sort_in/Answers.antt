@@ -1,6 +1,6 @@
-use Rattle.radix_tree.proofs.Words.{◌∙◌, ◌≤◌, ℕ, Some, sym, ap, subst, is_some, masks_in, not_below}
 use Rattle.radix_tree.proofs.{MaskLists.not_below_among, MaskWalks.Has-ranked, MaskWalks.rank_told, MaskLinks.list_of, MaskLinks.Has-last}
 use Rattle.radix_tree.proofs.{MaskLinks.are_ranked_same, MaskLinks.put_aside, MaskLinks.aside_linked, MaskChanges.sorted, MaskChanges.sorted_marks}
+use Rattle.radix_tree.proofs.Words.{◌∙◌, ◌≤◌, Some, sym, ap, subst, is_some, masks_in, not_below}
 use Rattle.radix_tree.proofs.masks.sort_in.Goals as goal
 
 pub leaf-requires-clause-there : goal.leaf-requires-clause-there
@@ -23,7 +23,7 @@ returns-clause-list g c ms f is no_rank =
     let read = rank_told c.args.nodes.now.lodged c.leaf.result f.ranked f.room_is c.leaf.ensures.said in
     sorted c.args.nodes.now.lodged c.put_mask_node.new.nodes.lodged c.link.new.nodes.lodged c.args.fork f.is c.args.room
     (record { next = c.gap_at-gap.result.behind }) ms is f.room_is f.ranked f.unmarked (c.number-rank.ensures.number ∙ read)
-    (subst (λ (n : ℕ). n ≤ 33) (sym c.number-rank.ensures.number) c.number-rank.ensures.most) no_rank
+    (subst (λ n. n ≤ 33) (sym c.number-rank.ensures.number) c.number-rank.ensures.most) no_rank
     (c.gap_at-gap.ensures.before ms first) (c.gap_at-gap.ensures.behind ms first)
     c.put_mask_node.ensures.tree.leaves c.put_mask_node.ensures.heads c.put_mask_node.ensures.masks c.link.ensures.tree.leaves c.link.ensures.heads
     c.link.ensures.masks

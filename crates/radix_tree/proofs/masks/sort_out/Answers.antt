@@ -1,7 +1,7 @@
-use Rattle.radix_tree.proofs.Words.{◌∙◌, ◌+◌, ℕ, None, ap, is_some, masks_in, leaves_in, not_below, below}
 use Rattle.radix_tree.proofs.{MaskLists.not_below_among, MaskLists.ranked_among, MaskWalks.Has-ranked, MaskWalks.rank_told, MaskWalks.listed_as}
 use Rattle.radix_tree.proofs.{MaskWalks.next_told, MaskLinks.list_of, MaskLinks.Has-last, MaskLinks.ranked_same, MaskLinks.put_aside}
 use Rattle.radix_tree.proofs.{MaskLinks.aside_linked, MaskLinks.marks_linked, MaskChanges.stands_at, MaskChanges.taken}
+use Rattle.radix_tree.proofs.Words.{◌∙◌, ◌+◌, None, ap, is_some, masks_in, leaves_in, not_below, below}
 use Rattle.radix_tree.proofs.masks.sort_out.Goals as goal
 
 pub mask_node-leaf-requires-clause-listed : goal.mask_node-leaf-requires-clause-listed
@@ -28,7 +28,7 @@ returns-clause-list g c ms x is among room_is =
     let own = ranked_among (leaves_in c.args.nodes.now.lodged) ms is.ranked x among in
     let read = rank_told c.args.nodes.now.lodged c.mask_node-leaf.result.0 own room_is c.mask_node-leaf.ensures.leaf in
     taken c.args.nodes.now.lodged c.link.new.nodes.lodged c.put_mask_node.new.nodes.lodged c.args.fork x c.args.room ms
-    is among room_is (ap (λ (n : ℕ). n + 1) (c.number.ensures.number ∙ read)) (c.gap_at-gap.ensures.before ms first)
+    is among room_is (ap (λ n. n + 1) (c.number.ensures.number ∙ read)) (c.gap_at-gap.ensures.before ms first)
     (next_told c.args.nodes.now.lodged x (below x.entry.rank ms) c.mask_node-leaf.result.1 (stands_at ms x is among) room_is c.mask_node-leaf.ensures.said)
     c.link.ensures.tree.leaves c.link.ensures.heads c.link.ensures.masks c.put_mask_node.ensures.tree.leaves c.put_mask_node.ensures.heads
     c.put_mask_node.ensures.masks

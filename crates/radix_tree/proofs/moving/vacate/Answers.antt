@@ -1,8 +1,7 @@
-use Rattle.radix_tree.proofs.Words.{◌∙◌, Option, Some, None, sym, ap, Id, LeafPart, BitPart, leaves_in, put_bit, put_head, lift_leaf, lift_bit, rename}
-use Rattle.radix_tree.proofs.Words.{content_of}
-use Rattle.radix_tree.proofs.MoveWrites.{IsMove, IsMoved, move_of, left_there, right_there, Has-over, contents_stay, gone}
 use Rattle.radix_tree.proofs.{MovedReads.Has_kept, MovedReads.content_lift, MovedWhole.whole_moved, MovedWhole.routes_moved, moving.vacate.Goals.In-Some}
 use Rattle.radix_tree.proofs.{moving.vacate.Goals.After-root_after}
+use Rattle.radix_tree.proofs.Words.{◌∙◌, Some, None, sym, ap, leaves_in, put_bit, put_head, lift_leaf, lift_bit, rename, content_of}
+use Rattle.radix_tree.proofs.MoveWrites.{IsMove, IsMoved, move_of, left_there, right_there, Has-over, contents_stay, gone}
 use Rattle.radix_tree.proofs.moving.vacate.Given as given
 use Rattle.radix_tree.proofs.moving.vacate.Goals as goal
 
@@ -15,14 +14,13 @@ move g c = move_of c.args.from c.args.to c.links.result.now c.requires.whole c.r
 moved : (g : given.Over) (c : After-root_after g) → IsMoved c.args.nodes.now.lodged c.rename_child.new.nodes.lodged c.args.from c.args.to c.in-Some.node
 moved g c = record {
   leaves = λ k. c.rename_child.ensures.only.leaves k ∙ c.put_bit_node-2.ensures.leaves k ∙ c.put_bit_node.ensures.leaves k ∙ c.lift-2.ensures.leaves k
-      ∙ ap (λ (o : Option (LeafPart g.row.V.Denot)). lift_leaf c.in-Some.node.one (Some c.args.to) k o) (c.lift.ensures.leaves k);
-  bits = λ k. c.rename_child.ensures.bits k ∙ ap (λ (o : Option BitPart). rename c.in-Some.node.above c.args.from c.args.to k o)
-      (c.put_bit_node-2.ensures.bits k ∙ ap (λ (o : Option BitPart). put_bit c.args.to (Some c.in-Some.node) k o)
-      (c.put_bit_node.ensures.bits k ∙ ap (λ (o : Option BitPart). put_bit c.args.from None k o)
-      (c.lift-2.ensures.bits k ∙ ap (λ (o : Option BitPart). lift_bit c.in-Some.node.one (Some c.args.to) k o) (c.lift.ensures.bits k))));
-  heads = λ k. c.rename_child.ensures.only.heads k ∙ c.put_bit_node-2.ensures.heads k
-      ∙ ap (λ (o : Option Id). put_head c.args.to (Some c.in-Some.node) k o)
-      (c.put_bit_node.ensures.heads k ∙ ap (λ (o : Option Id). put_head c.args.from None k o) (c.lift-2.ensures.heads k ∙ c.lift.ensures.heads k));
+      ∙ ap (lift_leaf c.in-Some.node.one (Some c.args.to) k) (c.lift.ensures.leaves k);
+  bits = λ k. c.rename_child.ensures.bits k ∙ ap (rename c.in-Some.node.above c.args.from c.args.to k)
+      (c.put_bit_node-2.ensures.bits k ∙ ap (put_bit c.args.to (Some c.in-Some.node) k)
+      (c.put_bit_node.ensures.bits k ∙ ap (put_bit c.args.from None k)
+      (c.lift-2.ensures.bits k ∙ ap (lift_bit c.in-Some.node.one (Some c.args.to) k) (c.lift.ensures.bits k))));
+  heads = λ k. c.rename_child.ensures.only.heads k ∙ c.put_bit_node-2.ensures.heads k ∙ ap (put_head c.args.to (Some c.in-Some.node) k)
+      (c.put_bit_node.ensures.heads k ∙ ap (put_head c.args.from None k) (c.lift-2.ensures.heads k ∙ c.lift.ensures.heads k));
   masks = λ k. c.rename_child.ensures.only.masks k ∙ c.put_bit_node-2.ensures.masks k ∙ c.put_bit_node.ensures.masks k ∙ c.lift-2.ensures.masks k
       ∙ c.lift.ensures.masks k;
 }
@@ -36,27 +34,23 @@ lift-requires-2-clause-tree g c =
     c.lift.ensures.bits
 
 pub put_bit_node-requires-clause-there : goal.put_bit_node-requires-clause-there
-put_bit_node-requires-clause-there g c = Has_kept c.lift-2.new.nodes.lodged
-    (ap (λ (o : Option (LeafPart g.row.V.Denot)). content_of o) (c.lift-2.ensures.leaves c.args.from.number)
+put_bit_node-requires-clause-there g c = Has_kept c.lift-2.new.nodes.lodged (ap content_of (c.lift-2.ensures.leaves c.args.from.number)
     ∙ content_lift c.in-Some.node.one (Some c.args.to) c.args.from.number (leaves_in c.lift.new.nodes.lodged c.args.from.number)
-    ∙ ap (λ (o : Option (LeafPart g.row.V.Denot)). content_of o) (c.lift.ensures.leaves c.args.from.number)
+    ∙ ap content_of (c.lift.ensures.leaves c.args.from.number)
     ∙ content_lift c.in-Some.node.zero (Some c.args.to) c.args.from.number (leaves_in c.args.nodes.now.lodged c.args.from.number)) c.requires.from
 
 pub put_bit_node-requires-2-clause-there : goal.put_bit_node-requires-2-clause-there
-put_bit_node-requires-2-clause-there g c = Has_kept c.put_bit_node.new.nodes.lodged
-    (ap (λ (o : Option (LeafPart g.row.V.Denot)). content_of o) (c.put_bit_node.ensures.leaves c.args.to.number)
-    ∙ ap (λ (o : Option (LeafPart g.row.V.Denot)). content_of o) (c.lift-2.ensures.leaves c.args.to.number)
+put_bit_node-requires-2-clause-there g c = Has_kept c.put_bit_node.new.nodes.lodged (ap content_of (c.put_bit_node.ensures.leaves c.args.to.number)
+    ∙ ap content_of (c.lift-2.ensures.leaves c.args.to.number)
     ∙ content_lift c.in-Some.node.one (Some c.args.to) c.args.to.number (leaves_in c.lift.new.nodes.lodged c.args.to.number)
-    ∙ ap (λ (o : Option (LeafPart g.row.V.Denot)). content_of o) (c.lift.ensures.leaves c.args.to.number)
+    ∙ ap content_of (c.lift.ensures.leaves c.args.to.number)
     ∙ content_lift c.in-Some.node.zero (Some c.args.to) c.args.to.number (leaves_in c.args.nodes.now.lodged c.args.to.number)) c.requires.to
 
 pub rename_child-requires-clause-there : goal.rename_child-requires-clause-there
-rename_child-requires-clause-there g c up is = Has_kept c.put_bit_node-2.new.nodes.lodged
-    (ap (λ (o : Option (LeafPart g.row.V.Denot)). content_of o) (c.put_bit_node-2.ensures.leaves up.number)
-    ∙ ap (λ (o : Option (LeafPart g.row.V.Denot)). content_of o) (c.put_bit_node.ensures.leaves up.number)
-    ∙ ap (λ (o : Option (LeafPart g.row.V.Denot)). content_of o) (c.lift-2.ensures.leaves up.number)
+rename_child-requires-clause-there g c up is = Has_kept c.put_bit_node-2.new.nodes.lodged (ap content_of (c.put_bit_node-2.ensures.leaves up.number)
+    ∙ ap content_of (c.put_bit_node.ensures.leaves up.number) ∙ ap content_of (c.lift-2.ensures.leaves up.number)
     ∙ content_lift c.in-Some.node.one (Some c.args.to) up.number (leaves_in c.lift.new.nodes.lodged up.number)
-    ∙ ap (λ (o : Option (LeafPart g.row.V.Denot)). content_of o) (c.lift.ensures.leaves up.number)
+    ∙ ap content_of (c.lift.ensures.leaves up.number)
     ∙ content_lift c.in-Some.node.zero (Some c.args.to) up.number (leaves_in c.args.nodes.now.lodged up.number))
     (Has-over (move g (goal.at.rename_child-requires-clause-there g c).In-Some) up is)
 

@@ -1,6 +1,6 @@
-use Rattle.radix_tree.proofs.Words.{◌∙◌, subst, Option, arith, Id, IsSpot}
 use Rattle.radix_tree.proofs.{Climbs.begun, Climbs.over, Climbs.fork_over, Climbs.used, Climbs.risen, Climbs.step_soon, Lifts.Has-leaf_at}
 use Rattle.radix_tree.proofs.{Spots.leaf_past, Spots.over_past, Spots.stopped, Spots.topped}
+use Rattle.radix_tree.proofs.Words.{◌∙◌, subst, arith, IsSpot}
 use Rattle.radix_tree.proofs.placing.spot_above.Goals as goal
 
 pub leaf-above-requires-clause-there : goal.leaf-above-requires-clause-there
@@ -19,7 +19,7 @@ bit_node-node-requires-clause-used g c =
 pub returns-then-node-bit-clause-spot : goal.returns-then-node-bit-clause-spot
 returns-then-node-bit-clause-spot g c key w =
     let r = c.loop-above.invariant.climb key w in
-    subst (λ (o : Option Id). IsSpot c.args.nodes.now.lodged key c.args.bit w.whole o c.loop-above.below) c.in-Some.is
+    subst (λ o. IsSpot c.args.nodes.now.lodged key c.args.bit w.whole o c.loop-above.below) c.in-Some.is
     (stopped w r (over w.top r c.in-Some.is) c.bit_node-node.ensures.node c.if-node-bit.true)
 
 pub loop-above-smaller : goal.loop-above-smaller

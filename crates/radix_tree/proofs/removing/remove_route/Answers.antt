@@ -1,4 +1,4 @@
-use Rattle.radix_tree.proofs.Words.{◌∙◌, Option, sym, ap, subst, get, Rooms, LeafPart, Holds, shown, HasRoomMore, content_of, Lodged}
+use Rattle.radix_tree.proofs.Words.{◌∙◌, sym, ap, subst, get, Holds, shown, HasRoomMore, content_of}
 use Rattle.radix_tree.proofs.RemovedRooms.{get_out, out_gone, out_shown, shown_stays, gains_stays, value_taken, room_less}
 use Rattle.radix_tree.proofs.MovedReads.{Has_kept}
 use Rattle.radix_tree.proofs.removing.remove_route.Goals as goal
@@ -8,26 +8,26 @@ take_out-rest-requires-clause-whole g c = c.unlist_mask.ensures.whole c.args.roo
 
 pub take_out-rest-requires-clause-there : goal.take_out-rest-requires-clause-there
 take_out-rest-requires-clause-there g c = Has_kept c.unlist_mask.new.nodes.lodged
-    (ap (λ (o : Option (LeafPart g.row.V.Denot)). content_of o) (c.unlist_mask.ensures.tree.leaves c.args.at.number)) c.requires.there
+    (ap content_of (c.unlist_mask.ensures.tree.leaves c.args.at.number)) c.requires.there
 
 pub evict-room-requires : goal.evict-room-requires
 evict-room-requires g c =
     record {
       there = Has_kept c.take_out-rest.new.nodes.lodged (c.take_out-rest.ensures.rooms c.args.at.number
-          ∙ ap (λ (o : Option (LeafPart g.row.V.Denot)). content_of o) (c.unlist_mask.ensures.tree.leaves c.args.at.number)) c.requires.there;
+          ∙ ap content_of (c.unlist_mask.ensures.tree.leaves c.args.at.number)) c.requires.there;
     }
 
 pub returns-clause-whole : goal.returns-clause-whole
 returns-clause-whole g c =
-    let e = ap (λ (r : Rooms g.row.V.Denot). r.lodged) c.evict-room.ensures.evicted in
-    subst (λ (m : Lodged g.row.V.Denot). Holds m c.take_out-rest.result) (sym e)
+    let e = ap (λ r. r.lodged) c.evict-room.ensures.evicted in
+    subst (λ m. Holds m c.take_out-rest.result) (sym e)
     (out_gone c.take_out-rest.new.nodes.lodged c.take_out-rest.result c.args.at.number c.take_out-rest.ensures.out)
 
 pub returns-clause-routes : goal.returns-clause-routes
 returns-clause-routes g c p said =
-    let e = ap (λ (r : Rooms g.row.V.Denot). r.lodged) c.evict-room.ensures.evicted in
+    let e = ap (λ r. r.lodged) c.evict-room.ensures.evicted in
     gains_stays _ _ _ _ _ (c.take_out-rest.ensures.routes p (c.unlist_mask.ensures.tree.leaves c.args.at.number ∙ said))
-    (ap (λ (m : Lodged g.row.V.Denot). shown m c.take_out-rest.result) e ∙ out_shown c.take_out-rest.new.nodes.lodged c.take_out-rest.result c.args.at.number
+    (ap (λ m. shown m c.take_out-rest.result) e ∙ out_shown c.take_out-rest.new.nodes.lodged c.take_out-rest.result c.args.at.number
     c.take_out-rest.ensures.out)
     (sym (shown_stays c.args.nodes.now.lodged c.unlist_mask.new.nodes.lodged c.requires.whole c.unlist_mask.ensures.tree.leaves
     c.unlist_mask.ensures.tree.bits))
@@ -35,17 +35,16 @@ returns-clause-routes g c p said =
 pub returns-clause-value : goal.returns-clause-value
 returns-clause-value g c p said =
     value_taken c.args.nodes.now.lodged c.take_out-rest.new.nodes.lodged c.args.at.number p c.evict-room.result.1 c.evict-room.ensures.value
-    (c.take_out-rest.ensures.rooms c.args.at.number ∙ ap (λ (o : Option (LeafPart g.row.V.Denot)). content_of o)
-    (c.unlist_mask.ensures.tree.leaves c.args.at.number)) said
+    (c.take_out-rest.ensures.rooms c.args.at.number ∙ ap content_of (c.unlist_mask.ensures.tree.leaves c.args.at.number)) said
 
 pub returns-clause-rooms : goal.returns-clause-rooms
 returns-clause-rooms g c =
-    let e = ap (λ (r : Rooms g.row.V.Denot). r.lodged) c.evict-room.ensures.evicted in
-    subst (λ (m : Lodged g.row.V.Denot). HasRoomMore m c.args.nodes.now.lodged c.args.at.number) (sym e)
+    let e = ap (λ r. r.lodged) c.evict-room.ensures.evicted in
+    subst (λ m. HasRoomMore m c.args.nodes.now.lodged c.args.at.number) (sym e)
     (room_less c.args.nodes.now.lodged c.take_out-rest.new.nodes.lodged c.args.at c.requires.there
-    (λ n. c.take_out-rest.ensures.rooms n ∙ ap (λ (o : Option (LeafPart g.row.V.Denot)). content_of o) (c.unlist_mask.ensures.tree.leaves n)))
+    (λ n. c.take_out-rest.ensures.rooms n ∙ ap content_of (c.unlist_mask.ensures.tree.leaves n)))
 
 pub returns-clause-gone : goal.returns-clause-gone
 returns-clause-gone g c =
-    let e = ap (λ (r : Rooms g.row.V.Denot). r.lodged) c.evict-room.ensures.evicted in
-    ap (λ (m : Lodged g.row.V.Denot). get m c.args.at.number) e ∙ get_out c.take_out-rest.new.nodes.lodged c.args.at.number
+    let e = ap (λ r. r.lodged) c.evict-room.ensures.evicted in
+    ap (λ m. get m c.args.at.number) e ∙ get_out c.take_out-rest.new.nodes.lodged c.args.at.number

@@ -1,4 +1,4 @@
-use Rattle.radix_tree.proofs.Words.{◌∙◌, sym, ap, Leaf}
+use Rattle.radix_tree.proofs.Words.{◌∙◌, sym, ap}
 use Rattle.radix_tree.proofs.RemovedOnly.{none_if, can_take, leaf_at, leaf_is, alone_is, member_is, only, only_room, only_shown}
 use Rattle.radix_tree.proofs.MovedReads.{Has_kept}
 use Rattle.radix_tree.proofs.removing.take_out.Goals as goal
@@ -28,12 +28,12 @@ returns-in-None-clause-out g c n other =
     let p = leaf_at c.requires.there in
     let a = alone_is c.links.result.now c.requires.there c.links.ensures.links c.leaf-leaf.ensures c.other_member.ensures
     (none_if c.other_member.result c.in_default.not-Some) p.0 p.1 in
-    let above = ap (λ (z : Leaf). z.above) (sym (leaf_is c.links.result.now c.requires.there c.links.ensures.links c.leaf-leaf.ensures p.1)) ∙ c.in-None.is in
+    let above = ap (λ z. z.above) (sym (leaf_is c.links.result.now c.requires.there c.links.ensures.links c.leaf-leaf.ensures p.1)) ∙ c.in-None.is in
     let o = only c.args.at.number c.requires.whole p.0 p.1 a.0 a.1 above in only_room c.requires.whole p.0 o n other
 
 pub returns-in-None-clause-routes : goal.returns-in-None-clause-routes
 returns-in-None-clause-routes g c p said =
     let a = alone_is c.links.result.now c.requires.there c.links.ensures.links c.leaf-leaf.ensures c.other_member.ensures
     (none_if c.other_member.result c.in_default.not-Some) p said in
-    let above = ap (λ (z : Leaf). z.above) (sym (leaf_is c.links.result.now c.requires.there c.links.ensures.links c.leaf-leaf.ensures said)) ∙ c.in-None.is in
+    let above = ap (λ z. z.above) (sym (leaf_is c.links.result.now c.requires.there c.links.ensures.links c.leaf-leaf.ensures said)) ∙ c.in-None.is in
     let o = only c.args.at.number c.requires.whole p said a.0 a.1 above in only_shown c.requires.whole p o

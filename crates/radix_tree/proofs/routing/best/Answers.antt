@@ -1,5 +1,5 @@
-use Rattle.radix_tree.proofs.Words.{◌∙◌, sym, ap, List, best_of, Entry}
 use Rattle.radix_tree.proofs.{Answered.answer, Answered.Has-best, Answered.best_answer, Answered.best_none, Showing.shown_is}
+use Rattle.radix_tree.proofs.Words.{◌∙◌, sym, ap, best_of}
 use Rattle.radix_tree.proofs.routing.best.Goals as goal
 
 pub leaf-leaf-requires-clause-there : goal.leaf-leaf-requires-clause-there
@@ -11,12 +11,10 @@ value-requires-clause-there g c = let w = c.requires.whole in Has-best (answer w
 pub returns-in_default-clause-best : goal.returns-in_default-clause-best
 returns-in_default-clause-best g c =
     let w = c.requires.whole in
-    best_none w.part c.args.address c.in_default.is (c.best_room.ensures.best w)
-    ∙ ap (λ (es : List (Entry g.row.V.Denot)). best_of c.args.address es) (sym (shown_is w))
+    best_none w.part c.args.address c.in_default.is (c.best_room.ensures.best w) ∙ ap (best_of c.args.address) (sym (shown_is w))
 
 pub returns-clause-best : goal.returns-clause-best
 returns-clause-best g c =
     let w = c.requires.whole in
     let a = answer w.part c.in-Some.is (c.best_room.ensures.best w) in
-    best_answer a c.value.result.now (c.leaf-leaf.ensures.said a.part a.said) c.value.ensures.value
-    ∙ ap (λ (es : List (Entry g.row.V.Denot)). best_of c.args.address es) (sym (shown_is w))
+    best_answer a c.value.result.now (c.leaf-leaf.ensures.said a.part a.said) c.value.ensures.value ∙ ap (best_of c.args.address) (sym (shown_is w))

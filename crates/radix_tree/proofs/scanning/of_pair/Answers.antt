@@ -1,6 +1,6 @@
-use Rattle.radix_tree.proofs.Words.{◌≡◌, sym, ap, ◌∙◌, eqb-true, eqb-false, Leaf}
 use Rattle.radix_tree.proofs.{Scans.begun, Scans.member, Scans.Has-at, Scans.ended, scanning.of_pair.Goals.else-eq-via-then-eq+else-eq-2}
 use Rattle.radix_tree.proofs.{scanning.of_pair.Goals.else-eq-via-else-eq}
+use Rattle.radix_tree.proofs.Words.{◌≡◌, sym, ap, ◌∙◌, eqb-true, eqb-false}
 use Rattle.radix_tree.proofs.scanning.of_pair.Goals as goal
 
 pub loop-at-init : goal.loop-at-init
@@ -15,7 +15,7 @@ returns-then-eq-2-clause-found g c r begins =
     let said = c.leaf-leaf.ensures.said x.part x.said in
     let key = eqb-true c.leaf-leaf.result.key c.args.key (sym c.eq.ensures ∙ c.if-eq.true) in
     let rank = eqb-true c.leaf-leaf.result.rank c.args.rank (sym c.eq-then-eq.ensures ∙ c.if-eq-2.true) in
-    (x.route, x.room_is, (x.among, (sym (ap (λ (l : Leaf). l.key) said ∙ x.key) ∙ key, sym (ap (λ (l : Leaf). l.rank) said ∙ x.rank) ∙ rank)))
+    (x.route, x.room_is, (x.among, (sym (ap (λ l. l.key) said ∙ x.key) ∙ key, sym (ap (λ l. l.rank) said ∙ x.rank) ∙ rank)))
 
 pub loop-at-preserved : goal.loop-at-preserved
 loop-at-preserved g c = λ r begins.
@@ -25,8 +25,8 @@ loop-at-preserved g c = λ r begins.
       | else-eq-via-then-eq+else-eq-2 w ↦ λ key rank. eqb-false c.leaf-leaf.result.rank c.args.rank (sym w.eq-then-eq.ensures ∙ w.if-eq-2.false) rank
       | else-eq-via-else-eq w ↦ λ key rank. eqb-false c.leaf-leaf.result.key c.args.key (sym c.eq.ensures ∙ w.if-eq.false) key
     ] in
-    x.passed c.leaf-leaf.result _ said c.leaf-leaf.ensures.visit (λ has. not (ap (λ (l : Leaf). l.key) said ∙ x.key ∙ has.0)
-    (ap (λ (l : Leaf). l.rank) said ∙ x.rank ∙ has.1))
+    x.passed c.leaf-leaf.result _ said c.leaf-leaf.ensures.visit (λ has. not (ap (λ l. l.key) said ∙ x.key ∙ has.0)
+    (ap (λ l. l.rank) said ∙ x.rank ∙ has.1))
 
 pub returns-clause-found : goal.returns-clause-found
 returns-clause-found g c r begins x among has = ended (c.loop-at.invariant r begins) c.in_default.is x among has

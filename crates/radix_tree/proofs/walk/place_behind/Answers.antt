@@ -1,6 +1,6 @@
-use Rattle.radix_tree.proofs.Words.{◌≡◌, ◌≤◌, ◌+◌, ◌-◌, ◌∙◌, sym, ap, arith, Counter}
 use Rattle.radix_tree.proofs.{WalkStarts.on_zero, WalkStarts.on_one, Walks.Read, Walks.climb_begun, Walks.Has-first, Walks.Has-over, Walks.used_over}
 use Rattle.radix_tree.proofs.{Walks.read_over, Walks.climb_ended, Walks.begins_on, Walks.begins_rest, walk.place_behind.Goals.In-Some-bit_node}
+use Rattle.radix_tree.proofs.Words.{◌-◌, ◌∙◌, sym, ap, arith}
 use Rattle.radix_tree.proofs.walk.place_behind.Goals as goal
 
 pub links-requires-clause-there : goal.links-requires-clause-there
@@ -8,9 +8,9 @@ links-requires-clause-there g c = Has-first c.args.first c.requires.first
 
 pub loop-above-init : goal.loop-above-init
 loop-above-init g c =
-    let count : c.links.new.visits.count ≡ c.args.visits.now.count + 1 = ap (λ (v : Counter). v.count) c.links.ensures.visit in
+    let count = ap (λ v. v.count) c.links.ensures.visit in
     record {
-      turn = ap (λ (v : Counter). v.turn) c.links.ensures.visit ∙ c.requires.turn;
+      turn = ap (λ v. v.turn) c.links.ensures.visit ∙ c.requires.turn;
       climb = climb_begun c.args.first c.requires.first c.links.result.now _ c.links.ensures.links c.leaf-above.ensures (omega arith);
       rises = omega arith;
     }
@@ -26,8 +26,8 @@ unreachable-requires g c = used_over c.in-Some.up c.links-in-Some.result.now c.l
 node : (g : _) (c : In-Some-bit_node g) → Read c.args.nodes.now.lodged c.args.key c.args.first c.in-Some-bit_node.node
     (c.loop-above.visits.count - c.args.visits.now.count) (c.links-in-Some.new.visits.count - c.args.visits.now.count)
 node g c =
-    let count : c.links-in-Some.new.visits.count ≡ c.loop-above.visits.count + 1 = ap (λ (v : Counter). v.count) c.links-in-Some.ensures.visit in
-    let rises : c.args.visits.now.count ≤ c.loop-above.visits.count = c.loop-above.invariant.rises in
+    let count = ap (λ v. v.count) c.links-in-Some.ensures.visit in
+    let rises = c.loop-above.invariant.rises in
     read_over c.args.key _ _ c.in-Some.up c.links-in-Some.result.now c.loop-above.invariant.climb c.in-Some.is c.links-in-Some.ensures.links
     (sym c.bit_node.ensures ∙ c.in-Some-bit_node.is) (omega (arith, count, rises))
 
@@ -51,17 +51,17 @@ returns-then-not-is_one-clause-rest g c =
 
 pub loop-above-smaller : goal.loop-above-smaller
 loop-above-smaller g c =
-    let few : c.loop-above.visits.count - c.args.visits.now.count ≤ 32 = (node g (goal.at.loop-above-smaller g c).In-Some-bit_node).few in
-    let count : c.links-in-Some.new.visits.count ≡ c.loop-above.visits.count + 1 = ap (λ (v : Counter). v.count) c.links-in-Some.ensures.visit in
-    let rises : c.args.visits.now.count ≤ c.loop-above.visits.count = c.loop-above.invariant.rises in omega arith
+    let few = (node g (goal.at.loop-above-smaller g c).In-Some-bit_node).few in
+    let count = ap (λ v. v.count) c.links-in-Some.ensures.visit in
+    let rises = c.loop-above.invariant.rises in omega arith
 
 pub loop-above-preserved : goal.loop-above-preserved
 loop-above-preserved g c =
     let n = node g (goal.at.loop-above-preserved g c).In-Some-bit_node in
-    let count : c.links-in-Some.new.visits.count ≡ c.loop-above.visits.count + 1 = ap (λ (v : Counter). v.count) c.links-in-Some.ensures.visit in
-    let rises : c.args.visits.now.count ≤ c.loop-above.visits.count = c.loop-above.invariant.rises in
+    let count = ap (λ v. v.count) c.links-in-Some.ensures.visit in
+    let rises = c.loop-above.invariant.rises in
     record {
-      turn = ap (λ (v : Counter). v.turn) c.links-in-Some.ensures.visit ∙ c.loop-above.invariant.turn;
+      turn = ap (λ v. v.turn) c.links-in-Some.ensures.visit ∙ c.loop-above.invariant.turn;
       climb = n.up (on_one c.in-Some-bit_node.node.bit c.args.key c.is_one.ensures c.if-not-is_one.false);
       rises = omega arith;
     }

@@ -1,4 +1,4 @@
-use Rattle.radix_tree.proofs.Words.{List, sym, ap, ◌∙◌, first_of, Entry}
+use Rattle.radix_tree.proofs.Words.{sym, ap, ◌∙◌, first_of}
 use Rattle.radix_tree.proofs.Kept.{differ, agree, Has-led, no_first, first_found, whole_at, entries_at}
 use Rattle.radix_tree.proofs.routes.Table.first_of.Goals as goal
 
@@ -14,7 +14,7 @@ pub returns-then-ne-clause-entry : goal.returns-then-ne-clause-entry
 returns-then-ne-clause-entry g c =
     let w = whole_at _ c.self.invariant.holds c.in-Some.is in
     let differs = differ c.leaf-leaf.result.key c.args.key c.ne.ensures c.if-ne.true in
-    sym (ap (λ (es : List (Entry g.row.V.Denot)). first_of c.args.key es) (sym (entries_at _ _ _ c.self.view_is c.in-Some.is))
+    sym (ap (first_of c.args.key) (sym (entries_at _ _ _ c.self.view_is c.in-Some.is))
     ∙ no_first _ c.in-Some.root w c.args.key (c.leaf_for-first.ensures.leaf w.part w.named) c.links.result.now c.leaf-leaf.result c.links.ensures.links
     c.leaf-leaf.ensures differs)
 
@@ -27,6 +27,6 @@ pub returns-clause-entry : goal.returns-clause-entry
 returns-clause-entry g c =
     let w = whole_at _ c.self.invariant.holds c.in-Some.is in
     let same = agree c.leaf-leaf.result.key c.args.key c.ne.ensures c.if-ne.false in
-    sym (ap (λ (es : List (Entry g.row.V.Denot)). first_of c.args.key es) (sym (entries_at _ _ _ c.self.view_is c.in-Some.is))
+    sym (ap (first_of c.args.key) (sym (entries_at _ _ _ c.self.view_is c.in-Some.is))
     ∙ first_found _ w c.args.key (c.leaf_for-first.ensures.leaf w.part w.named) c.links.result.now c.leaf-leaf.result c.value.result.now c.links.ensures.links
     c.leaf-leaf.ensures c.value.ensures.value same)

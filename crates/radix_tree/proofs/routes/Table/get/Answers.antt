@@ -1,12 +1,12 @@
 use Rattle.std.proofs.Common.{rules}
-use Rattle.radix_tree.proofs.Words.{◌≤◌, List, sym, ap, ◌∙◌, Contents, entry_at, Entry}
 use Rattle.radix_tree.proofs.{Counted.not_held, Kept.Has-found, Kept.found, Kept.not_found, Kept.value_found, Kept.whole_at, Kept.entries_at}
+use Rattle.radix_tree.proofs.Words.{◌≤◌, sym, ap, ◌∙◌, entry_at}
 use Rattle.radix_tree.proofs.routes.Table.get.Goals as goal
 
 pub returns-then-not-has-clause-entry : goal.returns-then-not-has-clause-entry
 returns-then-not-has-clause-entry g c =
     let fits : c.args.rank ≤ 33 = search rules in
-    sym (ap (λ (t : Contents g.row.V.Denot). entry_at c.args.key c.args.rank t.entries) (sym c.self.view_is)
+    sym (ap (λ t. entry_at c.args.key c.args.rank t.entries) (sym c.self.view_is)
     ∙ not_held c.self.inside.counts _ c.args.key c.args.rank c.self.invariant.counted fits c.has.ensures.1 c.if-not-has.true)
 
 pub room_of-requires-clause-tree : goal.room_of-requires-clause-tree
@@ -15,7 +15,7 @@ room_of-requires-clause-tree g c = let w = whole_at _ c.self.invariant.holds c.i
 pub returns-in_default-room_of-clause-entry : goal.returns-in_default-room_of-clause-entry
 returns-in_default-room_of-clause-entry g c =
     let w = whole_at _ c.self.invariant.holds c.in-Some.is in
-    sym (ap (λ (es : List (Entry g.row.V.Denot)). entry_at c.args.key c.args.rank es) (sym (entries_at _ _ _ c.self.view_is c.in-Some.is))
+    sym (ap (entry_at c.args.key c.args.rank) (sym (entries_at _ _ _ c.self.view_is c.in-Some.is))
     ∙ not_found w c.args.key c.args.rank c.in_default-room_of.is (c.room_of.ensures.found w.part w.named))
 
 pub value-requires-clause-there : goal.value-requires-clause-there
@@ -27,5 +27,4 @@ pub returns-clause-entry : goal.returns-clause-entry
 returns-clause-entry g c =
     let w = whole_at _ c.self.invariant.holds c.in-Some.is in
     let f = found w c.args.key c.args.rank c.in-Some-room_of.is (c.room_of.ensures.found w.part w.named) in
-    value_found f c.value.result.now c.value.ensures.value
-    ∙ ap (λ (es : List (Entry g.row.V.Denot)). entry_at c.args.key c.args.rank es) (entries_at _ _ _ c.self.view_is c.in-Some.is)
+    value_found f c.value.result.now c.value.ensures.value ∙ ap (entry_at c.args.key c.args.rank) (entries_at _ _ _ c.self.view_is c.in-Some.is)

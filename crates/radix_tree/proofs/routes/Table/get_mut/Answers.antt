@@ -1,9 +1,9 @@
 use Rattle.std.proofs.Common.{rules}
-use Rattle.radix_tree.proofs.Words.{◌≡◌, ◌+◌, ◌≤◌, List, Option, Some, None, refl, sym, ap, subst, ◌∙◌, inl, inr, option_map, keys, Rooms, put_value}
-use Rattle.radix_tree.proofs.Words.{Node, contents, IsKept, AreCounted, with_value, Contents, entry_at, with_entry, shown, Entry}
 use Rattle.radix_tree.proofs.{Counted.not_held, Valued.put_valued, Valued.valued_whole, Valued.lent_shown, Valued.lent_counted, Valued.lent_keys}
 use Rattle.radix_tree.proofs.{Kept.Has-found, Kept.IsFound, Kept.found, Kept.not_found, Kept.value_found, Kept.whole_next, Kept.entries_next}
 use Rattle.radix_tree.proofs.{routes.Table.get_mut.Goals.In-Some-room_of}
+use Rattle.radix_tree.proofs.Words.{◌≡◌, ◌+◌, ◌≤◌, Option, refl, sym, ap, subst, ◌∙◌, inl, inr, option_map, keys, Rooms, put_value, Node, contents}
+use Rattle.radix_tree.proofs.Words.{IsKept, AreCounted, with_value, Contents, entry_at, with_entry, shown, Entry}
 use Rattle.radix_tree.proofs.routes.Table.get_mut.Goals as goal
 
 -- a table of which a turn began and no more
@@ -14,8 +14,7 @@ only_begun {V} old root is began = ap (λ (r : Rooms V). contents r root) began 
 pub returns-then-not-has : goal.returns-then-not-has
 returns-then-not-has g c =
     let fits : c.args.rank ≤ 33 = search rules in
-    let none : entry_at c.args.key c.args.rank c.args.self.now.entries ≡ None
-    = ap (λ (t : Contents g.row.V.Denot). entry_at c.args.key c.args.rank t.entries) (sym c.self.view_is)
+    let none = ap (λ t. entry_at c.args.key c.args.rank t.entries) (sym c.self.view_is)
     ∙ not_held c.self.inside.counts _ c.args.key c.args.rank c.self.invariant.counted fits c.has.ensures.1 c.if-not-has.true in
     (ap inr (only_begun c.self.inside.nodes c.self.inside.root c.self.view_is c.begin-visits.ensures.turn), record { writes = tt; value = rw none refl })
 
@@ -26,8 +25,7 @@ room_of-requires-clause-tree g c =
 pub returns-in_default-room_of : goal.returns-in_default-room_of
 returns-in_default-room_of g c =
     let w = whole_next c.self.inside.nodes c.begin-visits.new.self c.self.invariant.holds c.in-Some.is c.begin-visits.ensures.turn in
-    let none : entry_at c.args.key c.args.rank c.args.self.now.entries ≡ None
-    = ap (λ (es : List (Entry g.row.V.Denot)). entry_at c.args.key c.args.rank es)
+    let none = ap (entry_at c.args.key c.args.rank)
     (sym (entries_next c.self.inside.nodes c.begin-visits.new.self _ c.self.view_is c.in-Some.is c.begin-visits.ensures.turn))
     ∙ not_found w c.args.key c.args.rank c.in_default-room_of.is (c.room_of.ensures.found w.part w.named) in
     (ap inr (only_begun c.self.inside.nodes c.self.inside.root c.self.view_is c.begin-visits.ensures.turn), record { writes = tt; value = rw none refl })
@@ -48,10 +46,9 @@ invariant_of-self-lent g c = λ v.
     let m = c.begin-visits.new.self.lodged in
     let w = whole_next c.self.inside.nodes c.begin-visits.new.self c.self.invariant.holds c.in-Some.is c.begin-visits.ensures.turn in
     let has = Has-found m f in
-    let before : shown m (Some c.in-Some.root) ≡ shown c.self.inside.nodes.lodged c.self.inside.root
-    = entries_next c.self.inside.nodes c.begin-visits.new.self _ refl c.in-Some.is c.begin-visits.ensures.turn in
-    let counted = subst (λ (es : List (Entry g.row.V.Denot)). AreCounted c.self.inside.counts es) (sym before) c.self.invariant.counted in
-    subst (λ (o : Option Node). IsKept (record {
+    let before = entries_next c.self.inside.nodes c.begin-visits.new.self _ refl c.in-Some.is c.begin-visits.ensures.turn in
+    let counted = subst (AreCounted c.self.inside.counts) (sym before) c.self.invariant.counted in
+    subst (λ o. IsKept (record {
       lodged = put_value m c.in-Some-room_of.room v;
       next = c.begin-visits.new.self.next;
       turn = c.begin-visits.new.self.turn;
@@ -71,27 +68,20 @@ lent g c v =
     let w = whole_next c.self.inside.nodes c.begin-visits.new.self c.self.invariant.holds c.in-Some.is c.begin-visits.ensures.turn in
     let has = Has-found m (is_found g c) in
     let e : Entry g.row.V.Denot = record { key = c.args.key; rank = c.args.rank; value = v } in
-    let entries : shown (put_value m c.in-Some-room_of.room v) c.self.inside.root ≡ with_entry e c.args.self.now.entries
-    = ap (λ (o : Option Node). shown (put_value m c.in-Some-room_of.room v) o) c.in-Some.is
+    let entries = ap (shown (put_value m c.in-Some-room_of.room v)) c.in-Some.is
     ∙ lent_shown m c.in-Some.root w c.args.key c.args.rank c.room_of.result c.in-Some-room_of.room c.in-Some-room_of.is
     (c.room_of.ensures.found w.part w.named) has v
-    ∙ ap (λ (es : List (Entry g.row.V.Denot)). with_entry e es) (entries_next c.self.inside.nodes c.begin-visits.new.self _ c.self.view_is c.in-Some.is
-    c.begin-visits.ensures.turn) in
-    let numbers : keys (put_value m c.in-Some-room_of.room v) ≡ c.args.self.now.numbers
-    = lent_keys m c.in-Some-room_of.room v has ∙ ap (λ (r : Rooms g.row.V.Denot). keys r.lodged) c.begin-visits.ensures.turn
-    ∙ ap (λ (t : Contents g.row.V.Denot). t.numbers) c.self.view_is in
-    let next : c.begin-visits.new.self.next ≡ c.args.self.now.next
-    = ap (λ (r : Rooms g.row.V.Denot). r.next) c.begin-visits.ensures.turn ∙ ap (λ (t : Contents g.row.V.Denot). t.next) c.self.view_is in
-    let turn : c.begin-visits.new.self.turn ≡ c.args.self.now.turn + 1
-    = ap (λ (r : Rooms g.row.V.Denot). r.turn) c.begin-visits.ensures.turn ∙ ap (λ (t : Contents g.row.V.Denot). t.turn + 1) c.self.view_is in
+    ∙ ap (with_entry e) (entries_next c.self.inside.nodes c.begin-visits.new.self _ c.self.view_is c.in-Some.is c.begin-visits.ensures.turn) in
+    let numbers = lent_keys m c.in-Some-room_of.room v has ∙ ap (λ r. keys r.lodged) c.begin-visits.ensures.turn
+    ∙ ap (λ t. t.numbers) c.self.view_is in
+    let next = ap (λ r. r.next) c.begin-visits.ensures.turn ∙ ap (λ t. t.next) c.self.view_is in
+    let turn = ap (λ r. r.turn) c.begin-visits.ensures.turn ∙ ap (λ t. t.turn + 1) c.self.view_is in
     λ i. record { entries = entries i; numbers = numbers i; next = next i; turn = turn i }
 
 pub returns : goal.returns
 returns g c =
     let at = (goal.at.returns g c).In-Some-room_of in
-    let value : option_map (λ e. e.value) (entry_at c.args.key c.args.rank c.args.self.now.entries) ≡ Some c.value_mut.result.now
-    = ap (λ (o : Option (Entry g.row.V.Denot)). option_map (λ e. e.value) o)
-    (ap (λ (es : List (Entry g.row.V.Denot)). entry_at c.args.key c.args.rank es)
+    let value = ap (option_map (λ e. e.value)) (ap (entry_at c.args.key c.args.rank)
     (sym (entries_next c.self.inside.nodes c.begin-visits.new.self _ c.self.view_is c.in-Some.is c.begin-visits.ensures.turn))
     ∙ sym (value_found (is_found g at) c.value_mut.result.now c.value_mut.ensures.value)) in
     (λ t. inl (c.value_mut.result.ghost_name, λ v. lent g at v t), record { writes = tt; value = sym value })

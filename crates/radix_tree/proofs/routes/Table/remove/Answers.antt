@@ -1,16 +1,16 @@
 use Rattle.std.proofs.Common.{rules}
-use Rattle.radix_tree.proofs.Words.{◌≡◌, ◌+◌, ◌≤◌, ◌==◌, if◌then◌else◌, List, Option, Some, None, refl, sym, ap, subst, ◌∙◌, option_map, keys, HasOneMore}
-use Rattle.radix_tree.proofs.Words.{Rooms, IsKept, AreCounted, Contents, entry_at, uses, without, shown, Entry}
-use Rattle.radix_tree.proofs.routes.Table.remove.Goals.{Then-not-has, In_default-room_of, In-Some-room_of}
 use Rattle.radix_tree.proofs.{Counted.not_held, Counted.counted_less, Numbers.used_more, TableLemmas.without_absent, Gained.lost, Kept.Has-found}
 use Rattle.radix_tree.proofs.{Kept.IsFound, Kept.found, Kept.not_found, Kept.whole_next, Kept.shown_next, Kept.entries_next}
+use Rattle.radix_tree.proofs.Words.{◌≡◌, ◌+◌, ◌≤◌, ◌==◌, if◌then◌else◌, Some, None, refl, sym, ap, subst, ◌∙◌, option_map, keys, HasOneMore, IsKept}
+use Rattle.radix_tree.proofs.Words.{AreCounted, entry_at, uses, without, shown}
+use Rattle.radix_tree.proofs.routes.Table.remove.Goals.{Then-not-has, In_default-room_of, In-Some-room_of}
 use Rattle.radix_tree.proofs.routes.Table.remove.Goals as goal
 
 -- a rank of which no route is held
 not_there : (g : _) (c : Then-not-has g) → entry_at c.args.key c.args.rank c.args.self.now.entries ≡ None
 not_there g c =
     let fits : c.args.rank ≤ 33 = search rules in
-    ap (λ (t : Contents g.row.V.Denot). entry_at c.args.key c.args.rank t.entries) (sym c.self.view_is)
+    ap (λ t. entry_at c.args.key c.args.rank t.entries) (sym c.self.view_is)
     ∙ not_held c.self.inside.counts _ c.args.key c.args.rank c.self.invariant.counted fits c.has.ensures.1 c.if-not-has.true
 
 pub returns-then-not-has-clause-value : goal.returns-then-not-has-clause-value
@@ -29,7 +29,7 @@ room_of-requires-clause-tree g c =
 not_in : (g : _) (c : In_default-room_of g) → entry_at c.args.key c.args.rank c.args.self.now.entries ≡ None
 not_in g c =
     let w = whole_next c.self.inside.nodes c.begin-visits.new.self c.self.invariant.holds c.in-Some.is c.begin-visits.ensures.turn in
-    ap (λ (es : List (Entry g.row.V.Denot)). entry_at c.args.key c.args.rank es)
+    ap (entry_at c.args.key c.args.rank)
     (sym (entries_next c.self.inside.nodes c.begin-visits.new.self _ c.self.view_is c.in-Some.is c.begin-visits.ensures.turn))
     ∙ not_found w c.args.key c.args.rank c.in_default-room_of.is (c.room_of.ensures.found w.part w.named)
 
@@ -55,10 +55,9 @@ invariant_of-self-2 g c =
     let f = is_found g (goal.at.invariant_of-self-2 g c).In-Some-room_of in
     let w = whole_next c.self.inside.nodes c.begin-visits.new.self c.self.invariant.holds c.in-Some.is c.begin-visits.ensures.turn in
     let went = lost c.remove_route-root.new.nodes.lodged c.remove_route-root.result.0 w f c.remove_route-root.ensures.routes in
-    let before : shown c.begin-visits.new.self.lodged (Some c.in-Some.root) ≡ shown c.self.inside.nodes.lodged c.self.inside.root
-    = entries_next c.self.inside.nodes c.begin-visits.new.self _ refl c.in-Some.is c.begin-visits.ensures.turn in
-    let counted = subst (λ (es : List (Entry g.row.V.Denot)). AreCounted c.self.inside.counts es) (sym before) c.self.invariant.counted in
-    subst (λ (r : Rooms g.row.V.Denot). IsKept r c.remove_route-root.result.0 c.dropped.new.self) (sym c.scrap.ensures) (record {
+    let before = entries_next c.self.inside.nodes c.begin-visits.new.self _ refl c.in-Some.is c.begin-visits.ensures.turn in
+    let counted = subst (AreCounted c.self.inside.counts) (sym before) c.self.invariant.counted in
+    subst (λ r. IsKept r c.remove_route-root.result.0 c.dropped.new.self) (sym c.scrap.ensures) (record {
       holds = c.remove_route-root.ensures.whole;
       counted = counted_less _ _ c.self.inside.counts c.dropped.new.self counted went.gains
           (subst (λ r. HasOneMore r c.dropped.new.self c.self.inside.counts) (sym f.has.1) c.dropped.ensures);
@@ -67,27 +66,23 @@ invariant_of-self-2 g c =
 pub returns-clause-value : goal.returns-clause-value
 returns-clause-value g c =
     let f = is_found g (goal.at.returns-clause-value g c).In-Some-room_of in
-    let is : entry_at c.args.key c.args.rank c.args.self.now.entries ≡ Some f.route.entry
-    = ap (λ (es : List (Entry g.row.V.Denot)). entry_at c.args.key c.args.rank es)
+    let is = ap (entry_at c.args.key c.args.rank)
     (sym (entries_next c.self.inside.nodes c.begin-visits.new.self _ c.self.view_is c.in-Some.is c.begin-visits.ensures.turn)) ∙ f.entry in
-    ap (λ (v : g.row.V.Denot). Some v) (c.remove_route-root.ensures.value f.said.part f.said.at ∙ ap (λ (e : Entry g.row.V.Denot). e.value) f.said.entry)
-    ∙ ap (λ (o : Option (Entry g.row.V.Denot)). option_map (λ e. e.value) o) (sym is)
+    ap Some (c.remove_route-root.ensures.value f.said.part f.said.at ∙ ap (λ e. e.value) f.said.entry) ∙ ap (option_map (λ e. e.value)) (sym is)
 
 pub returns-clause-entries : goal.returns-clause-entries
 returns-clause-entries g c =
     let f = is_found g (goal.at.returns-clause-entries g c).In-Some-room_of in
     let w = whole_next c.self.inside.nodes c.begin-visits.new.self c.self.invariant.holds c.in-Some.is c.begin-visits.ensures.turn in
     let went = lost c.remove_route-root.new.nodes.lodged c.remove_route-root.result.0 w f c.remove_route-root.ensures.routes in
-    ap (λ (r : Rooms g.row.V.Denot). shown r.lodged c.remove_route-root.result.0) c.scrap.ensures ∙ went.entries
-    ∙ ap (λ (es : List (Entry g.row.V.Denot)). without c.args.key c.args.rank es)
+    ap (λ r. shown r.lodged c.remove_route-root.result.0) c.scrap.ensures ∙ went.entries ∙ ap (without c.args.key c.args.rank)
     (entries_next c.self.inside.nodes c.begin-visits.new.self _ c.self.view_is c.in-Some.is c.begin-visits.ensures.turn)
 
 pub returns-clause-numbers : goal.returns-clause-numbers
 returns-clause-numbers g c = (
   c.in-Some-room_of.at.number,
-  λ n. ap (λ (t : Contents g.row.V.Denot). uses n t.numbers) (sym c.self.view_is)
-      ∙ ap (λ (r : Rooms g.row.V.Denot). uses n (keys r.lodged)) (sym c.begin-visits.ensures.turn)
+  λ n. ap (λ t. uses n t.numbers) (sym c.self.view_is) ∙ ap (λ r. uses n (keys r.lodged)) (sym c.begin-visits.ensures.turn)
       ∙ used_more c.remove_route-root.new.nodes.lodged c.begin-visits.new.self.lodged c.in-Some-room_of.at.number c.remove_route-root.ensures.gone
       c.remove_route-root.ensures.rooms n
-      ∙ ap (λ (r : Rooms g.row.V.Denot). uses n (keys r.lodged) + (if c.in-Some-room_of.at.number == n then 1 else 0)) (sym c.scrap.ensures),
+      ∙ ap (λ r. uses n (keys r.lodged) + (if c.in-Some-room_of.at.number == n then 1 else 0)) (sym c.scrap.ensures),
 )

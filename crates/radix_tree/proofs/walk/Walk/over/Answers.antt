@@ -1,5 +1,5 @@
-use Rattle.radix_tree.proofs.Words.{[], ◌∙◌, sym, ap, refl, Option, append-nil, Node, shown}
 use Rattle.radix_tree.proofs.{Kept.whole_at, Showing.shown_is, WalkStarts.first_on, Walks.begins_on, Walks.begins_rest}
+use Rattle.radix_tree.proofs.Words.{[], ◌∙◌, sym, ap, refl, append-nil, shown}
 use Rattle.radix_tree.proofs.walk.Walk.over.Goals as goal
 
 pub first_place-place-requires-clause-tree : goal.first_place-place-requires-clause-tree
@@ -17,4 +17,4 @@ returns-clause-rest g c =
     let w = whole_at _ c.requires.holds c.in-Some.is in
     begins_rest c.first_place-place.result _ c.first_place-place.ensures.room
     (first_on _ w.part w.part [] [] w.top (c.first_place-place.ensures.led w.part w.named) (refl, refl))
-    ∙ append-nil _ ∙ sym (shown_is w) ∙ ap (λ (o : Option Node). shown m o) (sym c.in-Some.is)
+    ∙ append-nil _ ∙ sym (shown_is w) ∙ ap (shown m) (sym c.in-Some.is)
