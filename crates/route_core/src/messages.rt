@@ -5,7 +5,7 @@ ghost use Rattle.mask_table.specs.Ranks.{mask_of};
 ghost use Rattle.listeners.specs.Queue.{IsMessage};
 ghost use Rattle.route_msgs.specs.AddrInfo.{address_bytes, bytes_or_none, gate_sockaddr, padded};
 ghost use Rattle.route_msgs.specs.Headers.{blank as blank_header};
-ghost use Rattle.route_core.specs.Messages.{address_message as address_message_of, doubted as doubted_message, errno_or_zero, gate_family as family_of_gate, interface_addresses as addresses_of_interface, looked_up as looked_up_message, notice_family as family_of_notice, notice_message as message_of_notice, redirected as redirected_message, route_deleted as deleted_message, route_got as got_message, route_added as added_message, route_told as told_message};
+ghost use Rattle.route_core.specs.Messages.{address_message as address_message_of, doubted as doubted_message, errno_or_zero, interface_addresses as addresses_of_interface, looked_up as looked_up_message, notice_message as message_of_notice, redirected as redirected_message, route_deleted as deleted_message, route_got as got_message, route_added as added_message, route_told as told_message};
 
 use if_addrs::Facts;
 use mask_table::Rank;
@@ -20,7 +20,6 @@ use route_msgs::{
     write_route_msg,
 };
 use route_ops::Notice;
-use sock_addrs::families::{AF_INET, AF_LINK};
 use sock_addrs::{Errno, Gate, Inet, Link};
 
 /// What the reply to a GET shows of a route's interface.
@@ -277,25 +276,5 @@ pub(crate) fn put_notice(notice: &Notice, message: &mut Message)
             rank,
             flags,
         } => put_doubted(*address, *gateway, *rank, *flags, message),
-    }
-}
-
-/// The family of an address.
-fn gate_family(gate: &Gate) -> u8
-    ensures { result ≡ family_of_gate gate.now }
-{
-    match gate {
-        Gate::Inet(_) => AF_INET,
-        Gate::Link(_) => AF_LINK,
-    }
-}
-
-/// The family of those who hear a notice: its destination's.
-pub(crate) fn notice_family(notice: &Notice) -> u8
-    ensures { result ≡ family_of_notice notice.now }
-{
-    match notice {
-        Notice::Miss { about, .. } | Notice::Resolve { about } => gate_family(about),
-        Notice::Redirect { .. } | Notice::Losing { .. } => AF_INET,
     }
 }

@@ -112,7 +112,8 @@ fn reply(
     requires echoed { IsEchoed bytes.now }
     requires header { header.now ≡ header_in bytes.now }
     requires message { done.now.has_own ≡ true → IsMessage own.now.items }
-    ensures { listeners.new ≡ delivered (reply_with pid bytes.now done.now.has_own own.now.items) AF_INET (Some id) listeners.old }
+    ensures { listeners.new
+        ≡ delivered (reply_with pid bytes.now done.now.has_own own.now.items) AF_INET (Some id) listeners.old }
 {
     if done.has_own {
         listeners.deliver(own, AF_INET, Some(id));
