@@ -23,8 +23,8 @@ def blocks(text):
 
 
 def run_the_first_script(sweep):
-    """README's first script ends with the message whose front README shows."""
-    script, front = blocks(README.read_text().split("## A first script\n")[1].split("\n## ")[0])
+    """README's first script ends with the message whose front README shows, behind the same in words."""
+    script, _, front = blocks(README.read_text().split("## A first script\n")[1].split("\n## ")[0])
     ran = sweep.run(script.encode())
     last = answers(ran.wrote)[-1] if ran.wrote else b""
     holds = last.startswith(front.strip().removesuffix("...").encode()) and ran.status == DONE and ran.left_nothing()
