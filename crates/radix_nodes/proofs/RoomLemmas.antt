@@ -148,12 +148,15 @@ module _ {V : Type 0} where
       ∙ ap (λ (l : FinMap nat_cmp (Seen V)). record { lodged = l; next = last + 1; turn = turn }) (seen_put m id.number (id.block, x))
       ∙ ap (λ (r : Rooms V). record r { lodged = put_room r.lodged id x.value x.links }) e
 
-  pub view_new : (m : FinMap nat_cmp (Ptr × Full V)) (turn : ℕ) → turn ≡ 0 → m ≡ empty → view m 0 turn ≡ record { lodged = empty; next = 1; turn = 0 }
-  view_new m turn nought e = ap (λ (m : FinMap nat_cmp (Ptr × Full V)). view m 0 turn) e
-      ∙ ap (λ (l : FinMap nat_cmp (Seen V)). record { lodged = l; next = 1; turn = turn }) seen_none ∙ ap (λ (t : ℕ). record { lodged = empty; next = 1; turn = t }) nought
+  pub view_new : (m : FinMap nat_cmp (Ptr × Full V)) (last turn : ℕ) → last ≡ 0 → turn ≡ 0 → m ≡ empty
+      → view m last turn ≡ record { lodged = empty; next = 1; turn = 0 }
+  view_new m last turn none nought e = ap (λ (m : FinMap nat_cmp (Ptr × Full V)). view m last turn) e
+      ∙ ap (λ (l : FinMap nat_cmp (Seen V)). record { lodged = l; next = last + 1; turn = turn }) seen_none
+      ∙ ap (λ (n : ℕ). record { lodged = empty; next = n + 1; turn = turn }) none
+      ∙ ap (λ (t : ℕ). record { lodged = empty; next = 1; turn = t }) nought
 
-  pub nothing_made : (m : FinMap nat_cmp (Ptr × Full V)) → m ≡ empty → AreMade 0 m
-  nothing_made m e k c at = absurd (none_some (sym (get-empty nat_cmp k) ∙ sym (ap (λ (m : FinMap nat_cmp (Ptr × Full V)). get m k) e) ∙ at))
+  pub nothing_made : (m : FinMap nat_cmp (Ptr × Full V)) (last : ℕ) → m ≡ empty → AreMade last m
+  nothing_made m last e k c at = absurd (none_some (sym (get-empty nat_cmp k) ∙ sym (ap (λ (m : FinMap nat_cmp (Ptr × Full V)). get m k) e) ∙ at))
 
   -- a room that is written again had a number that was given
   pub made_there : (last : ℕ) (m : FinMap nat_cmp (Ptr × Full V)) (n : ℕ) (c d : Ptr × Full V) → get m n ≡ Some c → AreMade last m → AreMade last (insert m n d)

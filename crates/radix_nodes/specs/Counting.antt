@@ -1,11 +1,5 @@
--- A number that exists in contracts alone.
-use Rattle.std.specs.Prelude.{ℕ, ◌+◌, Option, Some, None}
-use Rattle.std.specs.declared.snapshot.Snapshot.{Snapshot}
-
--- one more than the number that was before, or 0 where none was
-abbrev pub after : Option (Snapshot ℕ) → ℕ
-after None = 0
-after (Some s) = s.value + 1
+-- A counter that exists in contracts alone.
+use Rattle.std.specs.Prelude.{ℕ}
 
 -- a counter's value: the turn of the map that it is of, and how many visits it has counted
 pub record Counter : Type 0 where

@@ -5,7 +5,8 @@ ghost use Rattle.std.specs.FinMap.{empty};
 use crate::blocks::Blocks;
 use crate::id::Id;
 use crate::room::Full;
-use crate::visits::{Number, Visits};
+use crate::visits::Visits;
+use memory::{Number, Numbers};
 use std::alloc::Global;
 use std::marker::Model;
 
@@ -14,8 +15,8 @@ use std::marker::Model;
 /// are read with a counter of the present one.
 pub struct Nodes<V> {
     pub(crate) alloc: Global,
-    /// The number of the last room that was made, or 0.
-    pub(crate) last: u64,
+    /// The numbers of the rooms that were made.
+    pub(crate) numbers: Numbers,
     pub(crate) turn: Number,
     /// The room that was lodged last, of those in the map. It leads to all others.
     pub(crate) newest: Option<Id>,
@@ -32,9 +33,9 @@ impl<V> Model for Nodes<V> {
 
     ghost coded = { rooms_code V.code };
 
-    ghost view = { λ n. record { lodged = seen_all n.blocks.cells; next = n.last + 1; turn = n.turn } };
+    ghost view = { λ n. record { lodged = seen_all n.blocks.cells; next = n.numbers + 1; turn = n.turn } };
 
-    ghost invariant = { λ n. AreRow n.blocks.cells None n.newest × AreMade n.last n.blocks.cells };
+    ghost invariant = { λ n. AreRow n.blocks.cells None n.newest × AreMade n.numbers n.blocks.cells };
 }
 
 impl<V> Nodes<V> {
@@ -44,7 +45,7 @@ impl<V> Nodes<V> {
     {
         Nodes {
             alloc,
-            last: 0,
+            numbers: Numbers::new(),
             turn: Number::zero(),
             newest: None,
             blocks: Blocks::new(),
@@ -66,7 +67,7 @@ impl<V: Drop> Drop for Nodes<V> {
     fn drop(self) {
         let Nodes {
             alloc,
-            last: _,
+            numbers: _,
             turn: _,
             newest,
             blocks,

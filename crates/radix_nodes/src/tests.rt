@@ -3,6 +3,7 @@ ghost use Rattle.radix_nodes.specs.Keeping.{Keeps};
 
 use crate::{BitNode, Id, Leaf, Links, MaskNode, Node, Nodes, Visits};
 use mask_table::Rank;
+use memory::Memory;
 use sock_addrs::Inet;
 use std::alloc::AllocError;
 use std::mem::size_of;
@@ -49,7 +50,7 @@ fn links_to(id: Id) -> Links {
 #[test]
 fn links_by_role(rt: HostRuntime) -> Result<(), AllocError> {
     let mut nodes = Nodes::new(rt.alloc());
-    let room = nodes.make()?;
+    let room = nodes.make(&mut Memory::new())?;
     let id = nodes.lodge(room, 7u64);
     let links = links_to(id);
     assert!(rt; links.leaf().key == NET && links.leaf().rank == Rank::new(16));
@@ -68,7 +69,7 @@ fn links_by_role(rt: HostRuntime) -> Result<(), AllocError> {
 #[test]
 fn a_room_in_and_out(rt: HostRuntime) -> Result<(), AllocError> {
     let mut nodes = Nodes::new(rt.alloc());
-    let room = nodes.make()?;
+    let room = nodes.make(&mut Memory::new())?;
     let id = nodes.lodge(room, 7u64);
     let (room, value) = nodes.evict(id);
     nodes.scrap(room);
@@ -79,7 +80,7 @@ fn a_room_in_and_out(rt: HostRuntime) -> Result<(), AllocError> {
 #[test]
 fn a_room_read_and_written(rt: HostRuntime) -> Result<(), AllocError> {
     let mut nodes = Nodes::new(rt.alloc());
-    let room = nodes.make()?;
+    let room = nodes.make(&mut Memory::new())?;
     let id = nodes.lodge(room, 7u64);
     nodes.set_links(id, links_to(id));
     let mut visits = nodes.begin();
@@ -97,7 +98,7 @@ fn a_thousand_rooms_let_go(rt: HostRuntime) -> Result<(), Fail> {
     let mut nodes = Nodes::new(rt.alloc());
     for number in 0..1000u64 {
         let value = Box::new(rt.alloc(), number)?;
-        let room = nodes.make()?;
+        let room = nodes.make(&mut Memory::new())?;
         nodes.lodge(room, value);
     }
     Ok(())
@@ -111,7 +112,7 @@ fn nest(nodes: &mut Nodes<u64>, levels: u64, above: Option<Id>) -> Result<bool, 
     if levels == 0 {
         return Ok(true);
     }
-    let room = nodes.make()?;
+    let room = nodes.make(&mut Memory::new())?;
     let id = nodes.lodge(room, levels);
     let leaf = Leaf {
         key: NET,

@@ -1,7 +1,8 @@
 //! How rooms change.
-ghost use Rattle.std.specs.Prelude.{◌≡◌, ◌+◌, ◌<◌, None, Some, OnOk, OnErr, IfOk};
+ghost use Rattle.std.specs.Prelude.{◌≡◌, ◌+◌, ◌<◌, None, Some, is_err, OnOk, OnErr, IfOk};
 ghost use Rattle.std.specs.Borrow.{sem};
 ghost use Rattle.std.specs.FinMap.{get, remove};
+ghost use Rattle.memory.specs.Refusing.{Rises};
 ghost use Rattle.radix_nodes.specs.Rooms.{Seen, Has, put_room, put_links};
 ghost use Rattle.radix_nodes.specs.Links.{IsBlank};
 
@@ -10,29 +11,28 @@ use crate::links::Links;
 use crate::nodes::Nodes;
 use crate::room::{Full, Room};
 use crate::row::{name_newer, name_older, newest_without};
+use memory::Memory;
 use std::alloc::AllocError;
-use std_alloc::room::Vacant;
 
 impl<V> Nodes<V> {
     ghost use Rattle.radix_nodes.specs.LendingValue.{lends_value};
 
-    /// A room. `Err` where there is no memory for it, or 2^64 - 1 rooms were made.
-    pub fn make(&mut self) -> Result<Room<V>, AllocError>
+    /// A room. `Err` where there is no memory for it, or no number, which 2^64 - 1 rooms have used up.
+    pub fn make(&mut self, memory: &mut Memory) -> Result<Room<V>, AllocError>
         ensures ok { OnOk result (self.new ≡ record self.old { next = self.old.next + 1 }) }
         ensures number { IfOk result (λ room. (room ≡ self.old.next) × (get self.old.lodged room ≡ None)) }
         ensures err { OnErr result (self.new ≡ self.old) }
+        ensures counted { Rises (is_err result) memory.old memory.new }
     {
-        if self.last == u64::MAX {
-            return Err(AllocError);
+        let space = memory.block(self.alloc)?;
+        match memory.next(&mut self.numbers) {
+            Ok(number) => Ok(Room { number, space }),
+            Err(refused) => {
+                // What it answers is the allocator, which has no bytes.
+                let _ = space.free();
+                Err(refused)
+            }
         }
-        let Ok(space) = Vacant::take(self.alloc) else {
-            return Err(AllocError);
-        };
-        self.last += 1;
-        Ok(Room {
-            number: self.last,
-            space,
-        })
     }
 
     /// Puts a value into a room that is not in the map. Its links are blank.

@@ -1,5 +1,5 @@
 //! The table.
-ghost use Rattle.std.specs.Prelude.{◌≡◌, ◌+◌, [], IfOk};
+ghost use Rattle.std.specs.Prelude.{◌≡◌, ◌+◌, [], IfOk, IsOk};
 
 use mask_table::Counts;
 use radix_nodes::{Node, Nodes, Visits};
@@ -31,9 +31,10 @@ impl<V> Model for Table<V> {
 }
 
 impl<V> Table<V> {
-    /// A table without a route, whose rooms come from this allocator. It takes no memory today, and is never refused.
+    /// A table without a route, whose rooms come from this allocator. It takes no memory, and is never refused.
     pub fn new(alloc: Global) -> Result<Table<V>, AllocError>
-        ensures { IfOk result (λ t. t ≡ record { entries = []; numbers = []; next = 1; turn = 0 }) }
+        ensures empty { IfOk result (λ t. t ≡ record { entries = []; numbers = []; next = 1; turn = 0 }) }
+        ensures made { IsOk result }
     {
         Ok(Table {
             nodes: Nodes::new(alloc),

@@ -1,7 +1,8 @@
 //! How a table changes.
-ghost use Rattle.std.specs.Prelude.{◌≡◌, ℕ, ◌+◌, ◌<◌, ◌↔◌, ◌==◌, if◌then◌else◌, IsErr, IsSome, OnOk, OnErr, OnSome, IfOk, IfErr, IfNone, None, option_map};
+ghost use Rattle.std.specs.Prelude.{◌≡◌, ℕ, ◌+◌, ◌<◌, ◌↔◌, ◌==◌, if◌then◌else◌, is_err, IsErr, IsSome, OnOk, OnErr, OnSome, IfOk, IfErr, IfNone, None, option_map};
 ghost use Rattle.std.specs.Borrow.{sem};
 ghost use Rattle.mask_table.specs.Agreeing.{masked};
+ghost use Rattle.memory.specs.Refusing.{Rises};
 ghost use Rattle.radix_tree.specs.Table.{entry_at, without, with_entry, uses};
 ghost use Rattle.radix_tree.specs.Lending.{lends_value};
 
@@ -11,18 +12,20 @@ use crate::growing::insert;
 use crate::removing::remove_route;
 use crate::routes::Table;
 use mask_table::Rank;
+use memory::Memory;
 use radix_nodes::Room;
 use sock_addrs::Inet;
 use std::alloc::AllocError;
 
 impl<V: Drop> Table<V> {
     /// A room for one route. `Err` where there is no memory for it, or 2^64 - 1 rooms were made.
-    pub fn room(&mut self) -> Result<Room<V>, AllocError>
+    pub fn room(&mut self, memory: &mut Memory) -> Result<Room<V>, AllocError>
         ensures ok { OnOk result (self.new ≡ record self.old { next = self.old.next + 1 }) }
         ensures number { IfOk result (λ room. (room ≡ self.old.next) × (uses room self.old.numbers ≡ 0)) }
         ensures err { OnErr result (self.new ≡ self.old) }
+        ensures counted { Rises (is_err result) memory.old memory.new }
     {
-        self.nodes.make()
+        self.nodes.make(memory)
     }
 
     /// Takes back a room of this table in which no route stands, and frees it.

@@ -9,6 +9,6 @@ invariant_of-result g c = record {
   counted = counted_none g.row.V.Denot _ c.new-2.ensures;
 }
 
-pub returns : goal.returns
-returns g c = ap (λ r. contents r None) c.new.ensures
+pub returns-clause-empty : goal.returns-clause-empty
+returns-clause-empty g c = ap (λ r. contents r None) c.new.ensures
     ∙ ap (λ ns. record { entries = []; numbers = ns; next = 1; turn = 0 }) (no_keys (Seen g.row.V.Denot))
