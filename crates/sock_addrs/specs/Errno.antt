@@ -1,6 +1,5 @@
 -- The numbers of the errnos, as in <sys/errno.h> of 4.4BSD, and which of them is want of memory.
-use Rattle.std.specs.Prelude.{ℕ, Bool, true, false, Option, Some, None, Result}
-use Rattle.std.specs.Result.{result_err}
+use Rattle.std.specs.Prelude.{ℕ, Bool, true, false, Result, Ok, Err}
 use Rattle.sock_addrs.specs.declared.errno.Errno.{Errno}
 use Rattle.sock_addrs.specs.declared.errno.Errno.TheVariants as errno
 
@@ -23,11 +22,11 @@ errno_number errno.ENOBUFS = 55
 errno_number errno.ETOOMANYREFS = 59
 errno_number errno.EHOSTUNREACH = 65
 
-abbrev is_enobufs : Option Errno → Bool
-is_enobufs (Some errno.ENOBUFS) = true
-is_enobufs (Some e) = false
-is_enobufs None = false
+abbrev pub is_enobufs : Errno → Bool
+is_enobufs errno.ENOBUFS = true
+is_enobufs e = false
 
 -- it was refused for want of memory
 abbrev pub is_no_memory : {A : Type 0} → Result A Errno → Bool
-is_no_memory result = is_enobufs (result_err result)
+is_no_memory (Ok x) = false
+is_no_memory (Err e) = is_enobufs e
