@@ -3,11 +3,14 @@ ghost use Rattle.std.specs.List.{list_any};
 ghost use Rattle.std.specs.Result.{result_err};
 ghost use Rattle.listeners.specs.Queue.{cut, IsMessage, AreMessages};
 ghost use Rattle.listeners.specs.Sockets.{closed_fault, has_id, listen_fault, opened, pid_of, lost_of, messages_of, delivered, taken, without, with_loopback};
+ghost use Rattle.memory.specs.Refusing.{Rises};
+ghost use Rattle.sock_addrs.specs.Errno.{is_no_memory};
 
 use crate::limits::MOST_SOCKETS;
 use crate::queue::Queue;
 use crate::room::Room;
 use crate::socket::{self, Message, Socket, is_open, place_of};
+use memory::Memory;
 use sock_addrs::{Errno, Name};
 use std::alloc::Global;
 use std::marker::Model;
@@ -45,16 +48,24 @@ impl Listeners {
     /// Opens a socket for a process, which hears the family `protocol`, or all where it is 0. Loopback is on. It gets
     /// all the memory that its queue will have, 8,192 bytes.
     ///
-    /// Refused, in this order: EEXIST where the id is open; EMFILE where 64 sockets are; ENOBUFS for want of memory.
-    pub fn listen(&mut self, id: Name, pid: u32, protocol: u8) -> Result<(), Errno>
+    /// Refused, in this order: EEXIST where the id is open; EMFILE where 64 sockets are; ENOBUFS for want of memory,
+    /// which is counted.
+    pub fn listen(
+        &mut self,
+        id: Name,
+        pid: u32,
+        protocol: u8,
+        memory: &mut Memory,
+    ) -> Result<(), Errno>
         ensures ok { OnOk result (listen_fault id self.old ≡ None) }
         ensures opened { OnOk result (self.new ≡ self.old ++ opened id pid protocol ∷ []) }
         ensures refused { IfErr result (λ e. e ≡ unwrap_or (listen_fault id self.old) Errno.ENOBUFS) }
         ensures kept { OnErr result (self.new ≡ self.old) }
+        ensures counted { Rises (is_no_memory result) memory.old memory.new }
     {
         self.check_listen(id)?;
-        let socket = Socket::open(id, pid, protocol, Queue::new(self.alloc)?);
-        self.sockets.push(socket)?;
+        let socket = Socket::open(id, pid, protocol, Queue::new(self.alloc, memory)?);
+        memory.push(&mut self.sockets, socket)?;
         Ok(())
     }
 

@@ -1,8 +1,10 @@
-ghost use Rattle.std.specs.Prelude.{◌≡◌, ◌+◌, ◌≤◌, [], ◌∷◌, ◌++◌, length, IfOk, nat_le};
+ghost use Rattle.std.specs.Prelude.{◌≡◌, ◌+◌, ◌≤◌, [], ◌∷◌, ◌++◌, length, is_err, IfOk, nat_le};
 ghost use Rattle.listeners.specs.Queue.{cut, joined, IsMessage, AreMessages};
+ghost use Rattle.memory.specs.Refusing.{Rises};
 
 use crate::limits::MOST_QUEUED;
 use crate::room::Room;
+use memory::Memory;
 use std::alloc::{AllocError, Global};
 use std::marker::Model;
 
@@ -25,12 +27,13 @@ impl Model for Queue {
 }
 
 impl Queue {
-    /// A queue without a message, with all the memory that it will have. `Err` where there is none.
-    pub fn new(alloc: Global) -> Result<Queue, AllocError>
-        ensures { IfOk result (λ queue. queue ≡ []) }
+    /// A queue without a message, with all the memory that it will have. `Err` where there is none, which is counted.
+    pub fn new(alloc: Global, memory: &mut Memory) -> Result<Queue, AllocError>
+        ensures empty { IfOk result (λ queue. queue ≡ []) }
+        ensures counted { Rises (is_err result) memory.old memory.new }
     {
         Ok(Queue {
-            bytes: Vec::with_capacity(alloc, MOST_QUEUED)?,
+            bytes: memory.with_capacity(alloc, MOST_QUEUED)?,
         })
     }
 

@@ -1,7 +1,9 @@
-ghost use Rattle.std.specs.Prelude.{◌≡◌, ◌≤◌, [], vec_capacity};
+ghost use Rattle.std.specs.Prelude.{◌≡◌, ◌≤◌, [], is_err, vec_capacity};
 ghost use Rattle.listeners.specs.declared.limits.TheConstants.{MOST_QUEUED};
+ghost use Rattle.memory.specs.Refusing.{Rises};
 
 use crate::limits::MOST_QUEUED;
+use memory::Memory;
 use std::alloc::{AllocError, Global};
 use std::marker::Model;
 
@@ -24,10 +26,13 @@ impl Model for Room {
 }
 
 impl Room {
-    /// Room for the messages of any queue. `Err` where there is no memory for it.
-    pub fn new(alloc: Global) -> Result<Room, AllocError> {
+    /// Room for the messages of any queue. `Err` where there is no memory for it, which is
+    /// counted.
+    pub fn new(alloc: Global, memory: &mut Memory) -> Result<Room, AllocError>
+        ensures counted { Rises (is_err result) memory.old memory.new }
+    {
         Ok(Room {
-            bytes: Vec::with_capacity(alloc, MOST_QUEUED)?,
+            bytes: memory.with_capacity(alloc, MOST_QUEUED)?,
         })
     }
 
