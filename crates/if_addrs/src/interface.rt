@@ -1,12 +1,14 @@
-ghost use Rattle.std.specs.Prelude.{◌≡◌, filter, option_map, OnOk, OnErr};
+ghost use Rattle.std.specs.Prelude.{◌≡◌, filter, is_err, option_map, OnOk, OnErr};
 ghost use Rattle.std.specs.List.{find, list_any, position};
 ghost use Rattle.if_addrs.specs.Interfaces.{addresses_of, attached, has_name as is_named, named, holds, has_number, has_numbered as holds_number, with_one_more, with_changed, link_text};
 ghost use Rattle.if_addrs.specs.Searches.{standing, nearest as nearest_of, longest as longest_of};
 ghost use Rattle.if_addrs.specs.Wanted.{is_wanted, marked};
+ghost use Rattle.memory.specs.Refusing.{Rises};
 
 use crate::address::{self, Address, Mark, Wanted};
 use crate::kind::Kind;
 use crate::link_address::LinkAddress;
+use memory::Memory;
 use sock_addrs::{Inet, Link, Name};
 use std::alloc::{AllocError, Global};
 use std::marker::Model;
@@ -108,14 +110,12 @@ impl Interface {
     }
 
     /// Appends an address.
-    pub(crate) fn add(&mut self, address: Address) -> Result<(), AllocError>
+    pub(crate) fn add(&mut self, address: Address, memory: &mut Memory) -> Result<(), AllocError>
         ensures ok { OnOk result (self.new ≡ with_one_more address self.old) }
         ensures kept { OnErr result (self.new ≡ self.old) }
+        ensures counted { Rises (is_err result) memory.old memory.new }
     {
-        if self.addresses.push(address).is_err() {
-            return Err(AllocError);
-        }
-        Ok(())
+        memory.push(&mut self.addresses, address)
     }
 
     /// Marks the address with this number, where it has it.

@@ -1,9 +1,11 @@
-ghost use Rattle.std.specs.Prelude.{◌≡◌, ◌+◌, ◌≤◌, [], ◌∷◌, ◌++◌, length, unwrap_or, Some, None, IsSome, option_map, OnOk, OnErr, IfOk, IfErr};
+ghost use Rattle.std.specs.Prelude.{◌≡◌, ◌+◌, ◌≤◌, [], ◌∷◌, ◌++◌, length, unwrap_or, Some, None, IsSome, is_err, option_map, OnOk, OnErr, IfOk, IfErr};
 ghost use Rattle.std.specs.Result.{result_err};
 ghost use Rattle.if_addrs.specs.Facts.{facts_of};
 ghost use Rattle.if_addrs.specs.Interfaces.{attach_fault, attached, addr_fault, added, kind_of, new_address, with_address, address_of, find_addr, interface_of as index_of, link_text_of, text_of, marked_routed, without_addr, changed, IsOf, IsStanding};
 ghost use Rattle.if_addrs.specs.Keeping.{KeepsIfas, SameIfas};
 ghost use Rattle.if_addrs.specs.Wanted.{marked};
+ghost use Rattle.memory.specs.Refusing.{Rises};
+ghost use Rattle.sock_addrs.specs.Errno.{is_no_memory};
 
 use crate::address::{Address, Mark, Wanted};
 use crate::interface::{Interface, first, is_in_use, is_there, named, place_of, place_of_number};
@@ -12,6 +14,7 @@ use crate::limits::{MOST_ADDRESSES, MOST_INTERFACES};
 use crate::link_address::LinkAddress;
 use crate::reference::{Facts, IfaRef};
 use mask_table::Prefix;
+use memory::Memory;
 use sock_addrs::{Errno, Gate, Inet, Link, Name};
 use std::alloc::Global;
 use std::marker::Model;
@@ -55,13 +58,14 @@ impl Interfaces {
     /// address.
     ///
     /// Refused, in this order: EEXIST where the name is there; ENOSPC where 64 interfaces are; ENOBUFS for want of
-    /// memory.
+    /// memory, which is counted.
     pub fn attach(
         &mut self,
         name: Name,
         kind: Kind,
         type_number: u8,
         link: &LinkAddress,
+        memory: &mut Memory,
     ) -> Result<(), Errno>
         ensures ok { OnOk result (attach_fault name self.old ≡ None) }
         ensures attached { OnOk result (self.new ≡ self.old ++ attached name kind type_number link.now ∷ []) }
@@ -69,10 +73,11 @@ impl Interfaces {
         ensures same { SameIfas self.old self.new }
         ensures refused { IfErr result (λ e. e ≡ unwrap_or (attach_fault name self.old) Errno.ENOBUFS) }
         ensures kept { OnErr result (self.new ≡ self.old) }
+        ensures counted { Rises (is_no_memory result) memory.old memory.new }
     {
         self.check_attach(name)?;
         let interface = Interface::new(self.alloc, name, kind, type_number, *link);
-        self.interfaces.push(interface)?;
+        memory.push(&mut self.interfaces, interface)?;
         Ok(())
     }
 
@@ -112,7 +117,8 @@ impl Interfaces {
     }
 
     /// Adds an address to the interface of this name, with the next number, and answers a reference to it. `far` is the
-    /// other end's address, where the interface is point-to-point. ENOBUFS for want of memory.
+    /// other end's address, where the interface is point-to-point. ENOBUFS for want of memory, which is
+    /// counted.
     pub fn add_addr(
         &mut self,
         name: Name,
@@ -120,6 +126,7 @@ impl Interfaces {
         prefix: Prefix,
         cloning: bool,
         far: Option<Inet>,
+        memory: &mut Memory,
     ) -> Result<IfaRef, Errno>
         requires { addr_fault name address far self.old ≡ None }
         ensures number { IfOk result (λ ifa. ifa ≡ IfaRef.Inet (added self.old + 1)) }
@@ -130,12 +137,13 @@ impl Interfaces {
         ensures same { SameIfas self.old self.new }
         ensures refused { IfErr result (λ e. e ≡ Errno.ENOBUFS) }
         ensures kept { OnErr result (self.new ≡ self.old) }
+        ensures counted { Rises (is_err result) memory.old memory.new }
     {
         let number = self.added + 1;
         let at = place_of(&self.interfaces, name).unwrap();
         let interface = &mut self.interfaces[at];
         let address = Address::new(number, interface.kind(), address, prefix, cloning, far);
-        interface.add(address)?;
+        interface.add(address, memory)?;
         self.added = number;
         Ok(IfaRef::Inet(number))
     }

@@ -9,7 +9,7 @@ use Rattle.if_addrs.proofs.interfaces.Interfaces.attach.Goals.{In_ok-push}
 abbrev new : In_ok-push → Interface
 new c = attached c.args.name c.args.kind c.args.type_number c.args.link.now
 
-pushed : (c : In_ok-push) → c.push.new.self.items ≡ c.args.self.now ++ new c ∷ []
+pushed : (c : In_ok-push) → c.push.new.items.items ≡ c.args.self.now ++ new c ∷ []
 pushed c = search rules
 
 pub invariant_of-self-2 : goal.invariant_of-self-2
