@@ -1,11 +1,13 @@
 //! Dumps, and how long they are.
-ghost use Rattle.std.specs.Prelude.{◌≡◌, List, IfOk, OnOk};
+ghost use Rattle.std.specs.Prelude.{◌≡◌, List, is_err, IfOk, OnOk};
 ghost use Rattle.std.specs.List.{AllByRecursion};
 ghost use Rattle.if_addrs.specs.Interfaces.{Interface, IsOf};
+ghost use Rattle.memory.specs.Refusing.{Rises};
 ghost use Rattle.table_dump.specs.Dumps.{IsWhole, bytes_of, dump_fault, fitting, shown_of, total_of};
 
 use crate::shown::{is_asked, shown, shown_size};
 use if_addrs::Interfaces;
+use memory::Memory;
 use radix_tree::{Table, Visits};
 use route_entries::Route;
 use sock_addrs::Errno;
@@ -35,6 +37,7 @@ pub fn total(table: &Table<Route>, visits: &mut Visits, filter: Option<u32>) -> 
 #[tactic(auto, using(crate::proofs::Showing::asked, crate::proofs::Showing::passed, crate::proofs::Fronts::given_first, crate::proofs::Fronts::none_given, crate::proofs::Fronts::all_given))]
 pub fn dump_into(
     alloc: Global,
+    memory: &mut Memory,
     table: &Table<Route>,
     interfaces: &Interfaces,
     visits: &mut Visits,
@@ -49,6 +52,7 @@ pub fn dump_into(
     ensures whole { OnOk result
         (AllByRecursion IsWhole (fitting room (shown_of filter interfaces.now table.now.entries))) }
     ensures counter { visits.new.turn ≡ visits.old.turn }
+    ensures counted { Rises (is_err result) memory.old memory.new }
 {
     let mut walk = table.walk(visits);
     let mut bytes = Vec::new(alloc);
@@ -62,7 +66,7 @@ pub fn dump_into(
             return Ok((bytes, Some(Errno::ENOMEM)));
         }
         left -= message.len();
-        bytes.extend_from_slice(&message)?;
+        memory.extend(&mut bytes, &message)?;
     }
     Ok((bytes, None))
 }

@@ -15,7 +15,7 @@ loop-key-preserved c =
     let given_so_far = c.loop-key.bytes.items in
     let front : old ≡ message ∷ rest = search (rules, asked) in
     let given : fitting c.loop-key.left (message ∷ rest) ≡ message ∷ fitting (c.loop-key.left - c.len-left.result) rest = search (rules, given_first) in
-    let taken : c.extend_from_slice.new.self.items ≡ given_so_far ++ message = search rules in
+    let taken : c.extend.new.items.items ≡ given_so_far ++ message = search rules in
     let len : c.len-left.result ≡ length message = search rules in
     let fits : length message ≤ c.loop-key.left = search (rules, arith) in
     let sizes : size_of old ≡ length message + size_of rest = ap (λ (ms : List (List ℕ)). size_of ms) front ∙ sum_by-cons length message rest in
@@ -23,6 +23,7 @@ loop-key-preserved c =
     record {
       turn = search rules;
       counter = search rules;
+      memory = search rules;
       of = search rules;
       bytes = c.loop-key.invariant.bytes
           ∙ ap (λ (ms : List (List ℕ)). given_so_far ++ bytes_of (fitting c.loop-key.left ms)) front

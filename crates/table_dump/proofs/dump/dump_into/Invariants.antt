@@ -1,4 +1,4 @@
-use Rattle.std.proofs.Common.{◌≡◌, ℕ, ◌+◌, ◌≤◌, ◌++◌, length, List}
+use Rattle.std.proofs.Common.{◌≡◌, ◌+◌, ◌++◌, length}
 use Rattle.std.specs.List.{AllByRecursion}
 use Rattle.if_addrs.specs.Interfaces.{IsOf}
 use Rattle.table_dump.specs.Dumps.{IsWhole, bytes_of, fitting, shown_of, size_of}
@@ -12,6 +12,7 @@ invariant-loop-key l =
     record {
       turn : l.visits.turn ≡ l.walk.turn;
       counter : l.visits.turn ≡ l.fn.visits.turn;
+      memory : l.memory ≡ l.fn.memory;
       of : AllByRecursion (λ r. IsOf r.value.ifa l.interfaces) l.walk.rest;
       bytes : bytes_of (fitting l.room all) ≡ l.bytes.items ++ bytes_of (fitting l.left rest);
       size : l.left + size_of all ≡ l.room + size_of rest;
