@@ -6,6 +6,7 @@ pub mod Fitting
 pub mod FoundOf
 pub mod Keeping
 pub mod LossRefused
+pub mod MemoryThere
 pub mod RedirectRefused
 pub mod RefusingLemmas
 pub mod TablesStay

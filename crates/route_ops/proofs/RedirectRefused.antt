@@ -48,7 +48,7 @@ there_reason r table =
     either (λ (t : Result (Entry Route) Errno). IfErr t IsReason) (is_some (entry_at r.key r.rank table)) (Err EEXIST)
     (Ok r) there_already tt
 
-add_reason : (a : NewRoute) (interfaces : List Interface) (table : List (Entry Route))
+pub add_reason : (a : NewRoute) (interfaces : List Interface) (table : List (Entry Route))
     → IfErr (add a interfaces table) IsReason
 add_reason a interfaces table =
     let ifa = ifa_for a interfaces table in

@@ -13,6 +13,11 @@ pub ok_weaker : {A E : Type 0} (P Q : A → Type 0) (r : Result A E) → ((x : A
 ok_weaker P Q (Ok x) weaker h = weaker x h
 ok_weaker P Q (Err e) weaker h = tt
 
+-- and of the refusal
+pub err_weaker : {A E : Type 0} (P Q : E → Type 0) (r : Result A E) → ((e : E) → P e → Q e) → IfErr r P → IfErr r Q
+err_weaker P Q (Ok x) weaker h = tt
+err_weaker P Q (Err e) weaker h = weaker e h
+
 -- of the value that there is
 pub ok_is : {A E : Type 0} (P : A → Type 0) (r : Result A E) (x : A) → IfOk r P → r ≡ Ok x → P x
 ok_is P r x h is = subst (λ s. IfOk s P) is h

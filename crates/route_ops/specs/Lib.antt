@@ -7,6 +7,7 @@ pub mod LookLaws
 pub mod Looks
 pub mod Losses
 pub mod LossLaws
+pub mod MemoryLaws
 pub mod RedirectLaws
 pub mod Redirecting
 pub mod Refusing

@@ -1,16 +1,18 @@
 //! The request to add a route.
-ghost use Rattle.std.specs.Prelude.{◌≡◌, ◌+◌, ◌≤◌, length, Ok, Err, IfOk, IfSome, OnErr, MatchResult};
+ghost use Rattle.std.specs.Prelude.{◌≡◌, ◌+◌, ◌≤◌, false, length, Ok, Err, None, IfOk, IfSome, OnErr, MatchResult};
 ghost use Rattle.std.specs.Result.{result_err};
 ghost use Rattle.if_addrs.specs.Interfaces.{IsOf};
 ghost use Rattle.mask_table.specs.Agreeing.{masked as masked_by};
-ghost use Rattle.route_ops.specs.Adding.{add, add_fault, asked_rank, ifa_for, new_entry as entry_of};
+ghost use Rattle.radix_tree.specs.Table.{entry_at};
+ghost use Rattle.route_ops.specs.Adding.{add, add_fault, added as added_of, asked_rank, ifa_for, new_entry as entry_of};
 ghost use Rattle.route_ops.specs.Spares.{FitsSpare, KeepsRooms};
-ghost use Rattle.route_ops.specs.Standing.{AreOf, KeepsRoutes};
+ghost use Rattle.route_ops.specs.Standing.{AreOf, KeepsAreOfWith, KeepsRoutes};
+ghost use Rattle.sock_addrs.specs.Errno.{is_no_memory};
 
 use crate::looking::settle_gateway;
 use crate::notice::Notices;
 use crate::placing::place;
-use crate::reading::{best_ifa, route_at};
+use crate::reading::{best_ifa, is_there};
 use crate::spare::Spare;
 use if_addrs::{IfaRef, Interfaces};
 use mask_table::{Prefix, Rank, masked};
@@ -101,6 +103,57 @@ fn find_ifa(
     interfaces.for_route(asked.flags, asked.destination, asked.gateway, fallback)
 }
 
+/// The route that is asked for, where it can be added. Refused in this order: ENETUNREACH: no interface address is found
+/// for it; EEXIST: a route with its key and rank is there. It takes no memory, so that memory is taken for no route that
+/// is refused.
+pub fn plan_add(
+    table: &Table<Route>,
+    visits: &mut Visits,
+    interfaces: &Interfaces,
+    asked: &NewRoute,
+) -> Result<Entry<Route>, Errno>
+    requires turn { visits.old.turn ≡ table.now.turn }
+    requires of { AreOf interfaces.now table.now.entries }
+    ensures add { MatchResult result
+        (λ r. add asked.now interfaces.now table.now.entries ≡ Ok (added_of r table.now.entries))
+        (λ e. add asked.now interfaces.now table.now.entries ≡ Err e) }
+    ensures absent { IfOk result (λ r. entry_at r.key r.rank table.now.entries ≡ None) }
+    ensures masked { IfOk result (λ r. masked_by r.rank r.key ≡ r.key) }
+    ensures of { IfOk result (λ r. IsOf r.value.ifa interfaces.now) }
+    ensures memory { is_no_memory result ≡ false }
+    ensures counter { visits.new.turn ≡ visits.old.turn }
+{
+    let Some(ifa) = find_ifa(table, visits, interfaces, asked) else {
+        return Err(Errno::ENETUNREACH);
+    };
+    let route = asked.entry(ifa);
+    if is_there(table, visits, route.key, route.rank) {
+        return Err(Errno::EEXIST);
+    }
+    Ok(route)
+}
+
+/// Adds a route whose key and rank no route has, and then settles its gateway.
+pub fn add_planned(table: &mut Table<Route>, spare: &mut Spare, route: &Entry<Route>) -> Notices
+    requires absent { entry_at route.now.key route.now.rank table.old.entries ≡ None }
+    requires masked { masked_by route.now.rank route.now.key ≡ route.now.key }
+    requires fits { FitsSpare table.old spare.old }
+    requires rooms { 2 ≤ length spare.old }
+    ensures table { table.new.entries ≡ (added_of route.now table.old.entries).table }
+    ensures messages { result.items ≡ (added_of route.now table.old.entries).messages }
+    ensures few { length result.items ≤ 1 }
+    ensures keeps { KeepsRoutes table.old.entries table.new.entries }
+    ensures of { KeepsAreOfWith route.now.value.ifa table.old.entries table.new.entries }
+    ensures next { table.new.next ≡ table.old.next }
+    ensures fits { FitsSpare table.new spare.new }
+    ensures used { length spare.old ≤ length spare.new + 2 }
+{
+    match place(table, spare, route) {
+        Ok(()) => settle_gateway(table, spare, &route.value),
+        Err(_) => unreachable!(),
+    }
+}
+
 /// What refuses to add a route, in this order: ENETUNREACH: no interface address is found for it; EEXIST: a route
 /// with its key and rank is there. It takes no memory.
 pub fn check_add(
@@ -114,14 +167,10 @@ pub fn check_add(
     ensures fault { result_err result ≡ add_fault asked.now interfaces.now table.now.entries }
     ensures counter { visits.new.turn ≡ visits.old.turn }
 {
-    let Some(ifa) = find_ifa(table, visits, interfaces, asked) else {
-        return Err(Errno::ENETUNREACH);
-    };
-    let route = asked.entry(ifa);
-    if route_at(table, visits, route.key, route.rank).is_some() {
-        return Err(Errno::EEXIST);
+    match plan_add(table, visits, interfaces, asked) {
+        Ok(_) => Ok(()),
+        Err(errno) => Err(errno),
     }
-    Ok(())
 }
 
 /// Adds a route, and then settles its gateway. Refused as `check_add` says, and nothing is changed then.
@@ -149,11 +198,10 @@ pub fn request_add(
     ensures used { length spare.old ≤ length spare.new + 2 }
 {
     let mut visits = table.begin();
-    let Some(ifa) = find_ifa(table, &mut visits, interfaces, asked) else {
-        return Err(Errno::ENETUNREACH);
+    let route = match plan_add(table, &mut visits, interfaces, asked) {
+        Ok(route) => route,
+        Err(errno) => return Err(errno),
     };
-    let route = asked.entry(ifa);
-    place(table, spare, &route)?;
-    let messages = settle_gateway(table, spare, &route.value);
+    let messages = add_planned(table, spare, &route);
     Ok(Added { route, messages })
 }

@@ -1,12 +1,12 @@
 //! The requests to change and to lock a route.
-ghost use Rattle.std.specs.Prelude.{List, ◌≡◌, ◌+◌, ◌≤◌, length, Ok, Err, IfOk, IfSome, OnErr, MatchResult};
-ghost use Rattle.std.specs.Result.{result_err};
-ghost use Rattle.if_addrs.specs.Interfaces.{Interface, IsOf};
-ghost use Rattle.radix_tree.specs.Table.{with_entry};
+ghost use Rattle.std.specs.Prelude.{◌≡◌, ◌+◌, ◌≤◌, false, length, Ok, Err, IfOk, IfSome, IsSome, OnErr, MatchResult};
+ghost use Rattle.if_addrs.specs.Interfaces.{IsOf};
+ghost use Rattle.radix_tree.specs.Table.{entry_at, with_entry};
 ghost use Rattle.radix_tree.specs.TableLaws.{StandsIn};
-ghost use Rattle.route_ops.specs.Changing.{sought as sought_by, change, change_fault, changed as changed_by, ifa_asked, lock, settle_written as settled_by, target as target_of};
+ghost use Rattle.route_ops.specs.Changing.{sought as sought_by, change, changed as changed_by, ifa_asked, lock, rewritten, target as target_of};
 ghost use Rattle.route_ops.specs.Spares.{FitsSpare, KeepsRooms};
-ghost use Rattle.route_ops.specs.Standing.{AreOf, KeepsAreOf};
+ghost use Rattle.route_ops.specs.Standing.{AreOf, KeepsAreOf, KeepsAreOfWith};
+ghost use Rattle.sock_addrs.specs.Errno.{is_no_memory};
 
 use crate::adding::Added;
 use crate::looking::settle_gateway;
@@ -53,6 +53,7 @@ fn target(
     requires turn { visits.old.turn ≡ table.now.turn }
     ensures target { result ≡ target_of destination netmask table.now.entries }
     ensures stands { IfOk result (λ r. StandsIn table.now.entries r) }
+    ensures memory { is_no_memory result ≡ false }
     ensures counter { visits.new.turn ≡ visits.old.turn }
 {
     match best_route(table, visits, destination) {
@@ -60,20 +61,6 @@ fn target(
         _ => return Err(Errno::ESRCH),
     }
     route_at(table, visits, destination, Rank::of_mask(netmask)).ok_or(Errno::ETOOMANYREFS)
-}
-
-/// What refuses to change a route, in this order: ESRCH: the destination has no route of its own; ETOOMANYREFS: none with
-/// this mask. It takes no memory.
-pub fn check_change(table: &Table<Route>, visits: &mut Visits, asked: &Change) -> Result<(), Errno>
-    requires turn { visits.old.turn ≡ table.now.turn }
-    ensures fault { (interfaces : List Interface) → result_err result
-        ≡ change_fault asked.now interfaces table.now.entries }
-    ensures counter { visits.new.turn ≡ visits.old.turn }
-{
-    match target(table, visits, asked.destination, asked.netmask) {
-        Ok(_) => Ok(()),
-        Err(errno) => Err(errno),
-    }
 }
 
 /// Locks or unlocks the metrics of a route that `inits` names. Refused as `request_change`.
@@ -160,6 +147,56 @@ fn asked_ifa(
     interfaces.for_route(route.value.flags, route.key, gateway, fallback)
 }
 
+/// The route as it is to be after a change: with another gateway, another interface address, other metrics whatever is
+/// locked, another mask of its clones and other locks. ESRCH: the destination has no route of its own; ETOOMANYREFS:
+/// none with this mask. It takes no memory, so that memory is taken for no change that is refused.
+pub fn plan_change(
+    table: &Table<Route>,
+    visits: &mut Visits,
+    interfaces: &Interfaces,
+    asked: &Change,
+) -> Result<Entry<Route>, Errno>
+    requires turn { visits.old.turn ≡ table.now.turn }
+    requires of { AreOf interfaces.now table.now.entries }
+    ensures change { MatchResult result
+        (λ r. change asked.now interfaces.now table.now.entries ≡ Ok (rewritten asked.now.gateway r table.now.entries))
+        (λ e. change asked.now interfaces.now table.now.entries ≡ Err e) }
+    ensures there { IfOk result (λ r. IsSome (entry_at r.key r.rank table.now.entries)) }
+    ensures of { IfOk result (λ r. IsOf r.value.ifa interfaces.now) }
+    ensures memory { is_no_memory result ≡ false }
+    ensures counter { visits.new.turn ≡ visits.old.turn }
+{
+    let old = target(table, visits, asked.destination, asked.netmask)?;
+    let ifa = asked_ifa(table, visits, interfaces, asked, &old);
+    let value = asked.applied(&old.value, ifa);
+    Ok(Entry { value, ..old })
+}
+
+/// Writes a route of the table anew, which keeps its key and its rank; where a gateway is written, it is settled last.
+pub fn change_planned(
+    table: &mut Table<Route>,
+    spare: &mut Spare,
+    written: Option<Gate>,
+    route: &Entry<Route>,
+) -> Notices
+    requires there { IsSome (entry_at route.now.key route.now.rank table.old.entries) }
+    requires fits { FitsSpare table.old spare.old }
+    requires rooms { 1 ≤ length spare.old }
+    ensures table { table.new.entries ≡ (rewritten written route.now table.old.entries).table }
+    ensures messages { result.items ≡ (rewritten written route.now table.old.entries).messages }
+    ensures few { length result.items ≤ 1 }
+    ensures of { KeepsAreOfWith route.now.value.ifa table.old.entries table.new.entries }
+    ensures next { table.new.next ≡ table.old.next }
+    ensures fits { FitsSpare table.new spare.new }
+    ensures used { length spare.old ≤ length spare.new + 1 }
+{
+    rewrite(table, route, route.value);
+    match written {
+        Some(_) => settle_gateway(table, spare, &route.value),
+        None => Notices::new(),
+    }
+}
+
 /// Changes a route: its gateway, its interface address, its metrics whatever is locked, the mask of its clones, and
 /// its locks; where a gateway is written, it is settled last. ESRCH: the destination has no route of its own;
 /// ETOOMANYREFS: none with this mask.
@@ -186,34 +223,10 @@ pub fn request_change(
     ensures used { length spare.old ≤ length spare.new + 1 }
 {
     let mut visits = table.begin();
-    let old = target(table, &mut visits, asked.destination, asked.netmask)?;
-    let ifa = asked_ifa(table, &mut visits, interfaces, asked, &old);
-    let value = asked.applied(&old.value, ifa);
-    rewrite(table, &old, value);
-    let messages = settle_written(table, spare, asked.gateway, &value);
-    let route = Entry { value, ..old };
+    let route = match plan_change(table, &mut visits, interfaces, asked) {
+        Ok(route) => route,
+        Err(errno) => return Err(errno),
+    };
+    let messages = change_planned(table, spare, asked.gateway, &route);
     Ok(Added { route, messages })
-}
-
-/// Settles a route's gateway where one was written.
-fn settle_written(
-    table: &mut Table<Route>,
-    spare: &mut Spare,
-    written: Option<Gate>,
-    route: &Route,
-) -> Notices
-    requires fits { FitsSpare table.old spare.old }
-    requires rooms { 1 ≤ length spare.old }
-    ensures table { table.new.entries ≡ (settled_by written route.now table.old.entries).table }
-    ensures messages { result.items ≡ (settled_by written route.now table.old.entries).messages }
-    ensures few { length result.items ≤ 1 }
-    ensures of { KeepsAreOf table.old.entries table.new.entries }
-    ensures next { table.new.next ≡ table.old.next }
-    ensures fits { FitsSpare table.new spare.new }
-    ensures used { length spare.old ≤ length spare.new + 1 }
-{
-    match written {
-        Some(_) => settle_gateway(table, spare, route),
-        None => Notices::new(),
-    }
 }

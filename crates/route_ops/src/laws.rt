@@ -3,6 +3,7 @@
 ghost use Rattle.route_ops.specs.LookLaws.{AnswerIsThere, CloneIsAdded, CloneIsThere, LinkHasNoRoute, NoneAgrees, RouteIsKnown};
 ghost use Rattle.route_ops.specs.Bringing.{AddingBringsTwo, ChangingBringsOne, DeepLookBringsTwo, LockingBringsNone, LookBringsOne, LosingBringsNone, NoneTakenOut, NoneWrittenAnew, OneMoreAtMost, RedirectBringsTwo, SettlingBringsOne, TableBringsNone};
 ghost use Rattle.route_ops.specs.LossLaws.{RefusedLosingKeeps};
+ghost use Rattle.route_ops.specs.MemoryLaws.{AddingHasMemory, ChangingHasMemory, LockingHasMemory, LosingHasMemory, RedirectHasMemory, ShowingHasMemory};
 ghost use Rattle.route_ops.specs.RedirectLaws.{RefusedRedirectKeeps};
 ghost use Rattle.route_ops.specs.Tables.{AddingStays, AddressRouteIsOf, ChangingStays, KeptStays, LockingStays, LookStays, LosingStays, RedirectStays, WithStays, WithoutStays};
 
@@ -46,6 +47,16 @@ pub fn changes_bring()
 /// A redirect that is refused leaves the table, and makes one message: that it came, and why it was refused.
 pub fn refused_redirect_keeps()
     ensures { RefusedRedirectKeeps }
+{}
+
+/// Why a request, a redirect or the loss of a route is refused is never want of memory: that is found by `prepare` alone.
+pub fn nothing_else_wants_memory()
+    ensures request_add { AddingHasMemory }
+    ensures request_change { ChangingHasMemory }
+    ensures request_lock { LockingHasMemory }
+    ensures request_get { ShowingHasMemory }
+    ensures redirect { RedirectHasMemory }
+    ensures losing { LosingHasMemory }
 {}
 
 /// Where no route seems dead, since there is none, nothing is changed and nothing is told.

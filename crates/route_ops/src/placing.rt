@@ -1,7 +1,7 @@
 //! Routes that are put into the table, in a spare room or in the place of what they were, or taken out of it.
-ghost use Rattle.std.specs.Prelude.{◌≡◌, ◌+◌, ◌≤◌, length, Ok, Err, OnOk, OnErr, MatchResult};
+ghost use Rattle.std.specs.Prelude.{◌≡◌, ◌+◌, ◌≤◌, length, Ok, Err, IsSome, OnOk, OnErr, MatchResult};
 ghost use Rattle.mask_table.specs.Agreeing.{masked};
-ghost use Rattle.radix_tree.specs.Table.{with_entry, without};
+ghost use Rattle.radix_tree.specs.Table.{entry_at, with_entry, without};
 ghost use Rattle.radix_tree.specs.TableLaws.{StandsIn};
 ghost use Rattle.radix_tree.specs.Lending.{with_value};
 ghost use Rattle.route_ops.specs.Looks.{unless_there};
@@ -48,10 +48,10 @@ pub(crate) fn place(
 
 /// Writes a route of the table anew, which keeps its key and its rank.
 pub(crate) fn rewrite(table: &mut Table<Route>, old: &Entry<Route>, value: Route)
-    requires { StandsIn table.old.entries old.now }
+    requires { IsSome (entry_at old.now.key old.now.rank table.old.entries) }
     ensures { table.new ≡ with_value old.now.key old.now.rank table.old value }
 {
-    // The old route stands in the table, so there is such a place.
+    // The table has a route with this key and rank, so there is such a place.
     if let Some(place) = table.get_mut(old.key, old.rank) {
         *place = value;
     }

@@ -1,5 +1,5 @@
 //! Routes that are read from the table.
-ghost use Rattle.std.specs.Prelude.{◌≡◌, IfSome, option_map};
+ghost use Rattle.std.specs.Prelude.{◌≡◌, IfSome, is_some, option_map};
 ghost use Rattle.radix_tree.specs.Table.{best_of, entry_at, first_of};
 ghost use Rattle.radix_tree.specs.TableLaws.{StandsIn};
 ghost use Rattle.route_ops.specs.Standing.{IsIfaOf};
@@ -38,8 +38,8 @@ pub(crate) fn best_ifa(table: &Table<Route>, visits: &mut Visits, address: Inet)
     ensures of { IfSome result (λ i. IsIfaOf table.now.entries i) }
     ensures counter { visits.new.turn ≡ visits.old.turn }
 {
-    match best_route(table, visits, address) {
-        Some(route) => Some(route.value.ifa),
+    match table.best(address, visits) {
+        Some((_, _, route)) => Some(route.ifa),
         None => None,
     }
 }
@@ -64,6 +64,15 @@ pub(crate) fn route_at(
         }),
         None => None,
     }
+}
+
+/// Whether there is a route with this key and rank.
+pub(crate) fn is_there(table: &Table<Route>, visits: &mut Visits, key: Inet, rank: Rank) -> bool
+    requires turn { visits.old.turn ≡ table.now.turn }
+    ensures there { result ≡ is_some (entry_at key rank table.now.entries) }
+    ensures counter { visits.new.turn ≡ visits.old.turn }
+{
+    table.get(key, rank, visits).is_some()
 }
 
 /// The first route with this key.

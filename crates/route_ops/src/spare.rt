@@ -1,7 +1,9 @@
 //! The rooms that a step may need.
-ghost use Rattle.std.specs.Prelude.{◌≡◌, ◌≤◌, ◌∷◌, length, IfOk};
+ghost use Rattle.std.specs.Prelude.{◌≡◌, ◌≤◌, ◌∷◌, length, is_err, IfOk};
+ghost use Rattle.memory.specs.Refusing.{Rises};
 ghost use Rattle.route_ops.specs.Spares.{FitsSpare};
 
+use memory::Memory;
 use radix_tree::{Room, Table};
 use route_entries::Route;
 use std::alloc::AllocError;
@@ -25,15 +27,16 @@ impl Model for Spare {
 }
 
 /// Makes the two rooms that a step may need. `Err` where there is no memory for them.
-pub fn prepare(table: &mut Table<Route>) -> Result<Spare, AllocError>
+pub fn prepare(table: &mut Table<Route>, memory: &mut Memory) -> Result<Spare, AllocError>
     ensures two { IfOk result (λ spare. length spare ≡ 2) }
     ensures fits { IfOk result (λ spare. FitsSpare table.new spare) }
     ensures entries { table.new.entries ≡ table.old.entries }
     ensures numbers { table.new.numbers ≡ table.old.numbers }
     ensures next { table.old.next ≤ table.new.next }
+    ensures counted { Rises (is_err result) memory.old memory.new }
 {
-    let first = table.room()?;
-    match table.room() {
+    let first = table.room(memory)?;
+    match table.room(memory) {
         Ok(second) => Ok(Spare {
             first: Some(first),
             second: Some(second),
