@@ -1,12 +1,13 @@
 -- What is read of the room that a search found.
 use Rattle.radix_tree.proofs.{BestOfTree.some_best, BestOfTree.no_best, RoomReads.Has-leaf, RoomReads.value_read, TreeMembers.tree_said}
 use Rattle.radix_tree.proofs.Words.{◌≡◌, ℕ, Option, Some, None, refl, sym, ap, ◌∙◌, subst, get, Seen, Has, Id, Leaf, LeafPart, Part, leaves_in, bits_in}
-use Rattle.radix_tree.proofs.Words.{leaf_part, Tells, Best, In, best_of, Placed, routes_of, Lodged}
+use Rattle.radix_tree.proofs.Words.{leaf_part, Tells, Finds, HasPair, Best, In, best_of, Placed, routes_of, Lodged}
 
 module _ {V : Type 0} {m : Lodged V} where
   -- the best route, and what its room says as a leaf
   pub record Answer (p : Part m) (address : ℕ) (room : Id) : Type 0 where
     pub route : Placed V
+    pub room_is : route.room ≡ room
     pub best : Best address 0 34 (In p) (Some route)
     pub part : LeafPart V
     pub said : leaves_in m room.number ≡ Some part
@@ -19,6 +20,7 @@ module _ {V : Type 0} {m : Lodged V} where
       let said = tree_said (leaves_in m) (bits_in m) p.above p.tree p.stands told.0 told.2.0 in
       record {
         route = told.0;
+        room_is = told.1;
         best = told.2;
         part = leaf_part told.0 said.0 said.1 said.2;
         said = ap (λ i. leaves_in m i.number) (sym told.1) ∙ said.3;
@@ -35,6 +37,12 @@ module _ {V : Type 0} {m : Lodged V} where
   best_answer {p} {address} {room} a value l_is value_is = ap (λ z. Some (record { key = z.key; rank = z.rank; value = value })) l_is
       ∙ ap (λ v. Some (record { key = a.part.leaf.key; rank = a.part.leaf.rank; value = v })) (value_read m room value a.said a.block value_is)
       ∙ ap Some a.is ∙ sym (some_best address p.low p.tree p.is a.route a.best)
+
+  -- its pair is found by its leaf
+  pub best_pair : {p : Part m} {address : ℕ} {room : Id} (a : Answer p address room) {l : Leaf} → l ≡ a.part.leaf → {o : Option Id} → o ≡ Some room
+      → Tells (Finds (HasPair l.key l.rank) (In p)) o
+  best_pair {p} a {l} l_is some = subst (Tells (Finds (HasPair l.key l.rank) (In p))) (sym some)
+      (a.route, a.room_is, (a.best.0, (sym (ap (λ z. z.key) l_is ∙ ap (λ e. e.key) a.is), sym (ap (λ z. z.rank) l_is ∙ ap (λ e. e.rank) a.is))))
 
   pub best_none : (p : Part m) (address : ℕ) {o : Option Id} → o ≡ None → Tells (Best address 0 34 (In p)) o → None ≡ best_of address (routes_of p.tree)
   best_none p address none tells = sym (no_best address p.low p.tree p.is (subst (Tells (Best address 0 34 (In p))) none tells))

@@ -1,19 +1,21 @@
 //! How a table changes.
-ghost use Rattle.std.specs.Prelude.{◌≡◌, ℕ, ◌+◌, ◌<◌, ◌↔◌, ◌==◌, if◌then◌else◌, is_err, IsErr, IsSome, OnOk, OnErr, OnSome, IfOk, IfErr, IfNone, None, option_map};
+ghost use Rattle.std.specs.Prelude.{◌≡◌, ℕ, ◌+◌, ◌<◌, ◌≤◌, ◌↔◌, ◌==◌, if◌then◌else◌, is_err, IsErr, IsSome, OnOk, OnErr, OnSome, IfOk, IfErr, IfSome, IfNone, None, Some, option_map};
 ghost use Rattle.std.specs.Borrow.{sem};
 ghost use Rattle.mask_table.specs.Agreeing.{masked};
 ghost use Rattle.memory.specs.Refusing.{Rises};
-ghost use Rattle.radix_tree.specs.Table.{entry_at, without, with_entry, uses};
-ghost use Rattle.radix_tree.specs.Lending.{lends_value};
+ghost use Rattle.radix_tree.specs.Table.{entry_at, best_of, without, with_entry, uses};
+ghost use Rattle.radix_tree.specs.Found.{lent};
+ghost use Rattle.radix_tree.specs.Lending.{lends_value, lends_value_at};
 
-use crate::backtracking::room_of;
+use crate::backtracking::{best_room, room_of};
 use crate::entry::Entry;
 use crate::growing::insert;
 use crate::removing::remove_route;
+use crate::roles;
 use crate::routes::Table;
 use mask_table::Rank;
 use memory::Memory;
-use radix_nodes::Room;
+use radix_nodes::{Room, Visits};
 use sock_addrs::Inet;
 use std::alloc::AllocError;
 
@@ -116,6 +118,33 @@ impl<V: Drop> Table<V> {
         let Some(room) = room_of(&self.nodes, root, key, rank, &mut visits) else {
             return None;
         };
+        Some(self.nodes.value_mut(room))
+    }
+
+    /// The value of the best route of an address, to be changed, or `None` where none agrees; the key and the rank of that
+    /// route are put into `pair`. It is found as by `best`, with a counter of the table's present turn, and begins no turn.
+    pub fn best_mut(
+        &mut self,
+        address: Inet,
+        pair: &mut (Inet, Rank),
+        visits: &mut Visits,
+    ) -> Option<&mut V>
+        requires { visits.old.turn ≡ self.old.turn }
+        ensures* writes { sem 𝓛 (lends_value_at V.row pair.new.0 pair.new.1 self.entry result) }
+        ensures best { option_map (lent pair.new.0 pair.new.1) result ≡ best_of address self.old.entries }
+        ensures stands { IfSome result (λ v.
+            entry_at pair.new.0 pair.new.1 self.old.entries ≡ Some (lent pair.new.0 pair.new.1 v)) }
+        ensures counter { visits.new.turn ≡ visits.old.turn }
+        ensures bound { visits.new.count ≤ visits.old.count + 2400 }
+    {
+        let Some(root) = self.root else {
+            return None;
+        };
+        let Some(room) = best_room(&self.nodes, root, address, visits) else {
+            return None;
+        };
+        let leaf = roles::leaf(&self.nodes, room, visits);
+        *pair = (leaf.key, leaf.rank);
         Some(self.nodes.value_mut(room))
     }
 }

@@ -13,7 +13,7 @@ use if_addrs::Interfaces;
 use radix_tree::Entry;
 use route_entries::Route;
 use route_msgs::flags::{RTF_BLACKHOLE, RTF_CLONING, RTF_HOST, RTF_REJECT};
-use route_ops::{Notice, count_use, finish, look_up, prepare, request_get};
+use route_ops::{Notice, count_use, finish, look_up, prepare, use_best};
 use sock_addrs::{Errno, Gate, Inet};
 
 impl World {
@@ -31,8 +31,7 @@ impl World {
     fn try_packet(&mut self, destination: Inet) -> Result<Answer<'static>, Errno>
         ensures { Steps self.old (Packet destination) (answer_of result) self.new }
     {
-        let mut visits = self.table.begin();
-        let Ok(best) = request_get(&self.table, &mut visits, destination) else {
+        let Some(best) = use_best(&mut self.table, destination) else {
             let miss = Notice::Miss {
                 about: Gate::Inet(destination),
                 errno: None,
@@ -43,7 +42,6 @@ impl World {
         if best.value.has(RTF_CLONING) {
             return self.packet_that_clones(destination);
         }
-        count_use(&mut self.table, &best);
         Ok(fate(&self.interfaces, &best))
     }
 

@@ -1,10 +1,11 @@
 -- Adding a route whose pair isn't there keeps the others, and a route whose interface address is of the interfaces keeps them so.
-use Rattle.std.proofs.Common.{◌≡◌, List, [], ◌∷◌, Option, Some, None, refl}
+use Rattle.std.proofs.Common.{◌≡◌, List, [], ◌∷◌, Option, Some, None, refl, sym, ap, ◌∙◌}
 use Rattle.std.specs.Prelude.{IfSome, unwrap_or}
-use Rattle.radix_tree.specs.Table.{Contents, entry_at, with_entry}
+use Rattle.radix_tree.specs.Table.{Contents, IsTable, entry_at, with_entry, without}
 use Rattle.radix_tree.specs.TableLaws.{StandsIn}
 use Rattle.radix_tree.specs.Lending.{with_value}
 use Rattle.radix_tree.specs.declared.entry.Entry.{Entry}
+use Rattle.radix_tree.proofs.LawLemmas.{with_twice_is_last, without_then_with}
 use Rattle.radix_tree.proofs.MemberLemmas.{all_entry_at, all_with, with_keeps, with_stands}
 use Rattle.if_addrs.specs.Interfaces.{Interface, IsOf}
 use Rattle.if_addrs.specs.Keeping.{KeepsIfas}
@@ -42,3 +43,9 @@ unwrap_of interfaces (Some i) old h is = h
 pub rewritten_of : (interfaces : List Interface) (r : Entry Route) (v : Route) (old new : Contents Route) → new ≡ with_value r.key r.rank old v → v.ifa ≡ r.value.ifa → StandsIn old.entries r → AreOf interfaces old.entries → AreOf interfaces new.entries
 rewritten_of interfaces r v old new is same stands are =
     rw is (added_of interfaces (record { key = r.key; rank = r.rank; value = v }) old.entries _ refl (rw same (ifa_of interfaces old.entries r are stands)) are)
+
+-- a route that is put in where it stands leaves the table
+pub put_again : (table : List (Entry Route)) (r : Entry Route) → IsTable table → StandsIn table r → with_entry r table ≡ table
+put_again table r is stands =
+    let back = without_then_with table r is stands in
+    ap (with_entry r) (sym back) ∙ with_twice_is_last (without r.key r.rank table) r r (refl, refl) ∙ back

@@ -106,3 +106,9 @@ look deep about table = look_of deep about (found about table) table
 -- a route that one more packet took
 abbrev pub entry_with_one_more_use : Entry Route → Entry Route
 entry_with_one_more_use r = record r { value = with_one_more_use r.value }
+
+-- a packet takes the best route of an address, unless that clones for it
+abbrev pub with_best_used : Option (Entry Route) → List (Entry Route) → List (Entry Route)
+with_best_used None table = table
+with_best_used (Some r) table =
+    if has_flag RTF_CLONING r.value then table else with_entry (entry_with_one_more_use r) table

@@ -19,7 +19,7 @@ mod told;
 pub use adding::{Added, NewRoute, add_planned, check_add, plan_add, request_add};
 pub use addressing::{route_of_address, withdraw_route};
 pub use changing::{Change, change_planned, plan_change, request_change, request_lock};
-pub use counting::count_use;
+pub use counting::{count_use, use_best};
 pub use deleting::{request_delete, request_get};
 pub use looking::{Looked, look_up, resolve, settle_gateway};
 pub use losses::losing;

@@ -1,0 +1,88 @@
+-- The best route is lent, as the route of a pair is, and stands in the table.
+use Rattle.radix_tree.proofs.{Answered.Answer, Answered.answer, Answered.Has-best, Answered.best_answer, Answered.best_none, Answered.best_pair}
+use Rattle.radix_tree.proofs.{Showing.shown_is, LawLemmas.best_is_greatest, Valued.put_valued, Valued.valued_whole, Valued.lent_shown}
+use Rattle.radix_tree.proofs.{Valued.lent_counted, Valued.lent_keys, Kept.shown_table, Kept.whole_at, Kept.entries_at, routes.Table.best_mut.Goals.In-Some-best_room}
+use Rattle.radix_tree.specs.Lending.{with_value_at}
+use Rattle.radix_tree.proofs.Words.{◌≡◌, sym, ap, subst, ◌∙◌, inl, inr, arith, put_value, IsTable, contents, IsKept, AreCounted, best_of, with_entry}
+use Rattle.radix_tree.proofs.Words.{shown, IsWhole, Entry, Leaf}
+use Rattle.radix_tree.proofs.routes.Table.best_mut.Goals as goal
+
+pub returns-in_default-best_room : goal.returns-in_default-best_room
+returns-in_default-best_room g c =
+    let w = whole_at _ c.self.invariant.holds c.in-Some.is in
+    let bound = c.best_room.ensures.visits.bound in (
+      ap inr c.self.view_is,
+      record {
+        writes = tt;
+        best = best_none w.part c.args.address c.in_default-best_room.is (c.best_room.ensures.best w)
+            ∙ ap (best_of c.args.address) (sym (shown_is w) ∙ entries_at _ _ _ c.self.view_is c.in-Some.is);
+        stands = tt;
+        counter = c.best_room.ensures.visits.turn;
+        bound = omega (arith, bound);
+      },
+    )
+
+whole : (g : _) (c : In-Some-best_room g) → IsWhole c.self.inside.nodes.lodged c.in-Some.root
+whole g c = whole_at _ c.self.invariant.holds c.in-Some.is
+
+found : (g : _) (c : In-Some-best_room g) → Answer (whole g c).part c.args.address c.in-Some-best_room.room
+found g c = answer (whole g c).part c.in-Some-best_room.is (c.best_room.ensures.best (whole g c))
+
+pub leaf-leaf-requires-clause-there : goal.leaf-leaf-requires-clause-there
+leaf-leaf-requires-clause-there g c = Has-best (found g (goal.at.leaf-leaf-requires-clause-there g c).In-Some-best_room)
+
+pub value_mut-requires : goal.value_mut-requires
+value_mut-requires g c = record { there = Has-best (found g (goal.at.value_mut-requires g c).In-Some-best_room) }
+
+pub invariant_of-self-lent : goal.invariant_of-self-lent
+invariant_of-self-lent g c = λ v.
+    let at = (goal.at.invariant_of-self-lent g c).In-Some-best_room in
+    let m = c.self.inside.nodes.lodged in
+    let room = c.in-Some-best_room.room in
+    let w = whole g at in
+    let a = found g at in
+    let pair = best_pair a (c.leaf-leaf.ensures.said a.part a.said) c.in-Some-best_room.is in
+    let counted = subst (λ o. AreCounted c.self.inside.counts (shown m o)) c.in-Some.is c.self.invariant.counted in
+    subst (λ o. IsKept (record { lodged = put_value m room v; next = c.self.inside.nodes.next; turn = c.self.inside.nodes.turn }) o c.self.inside.counts)
+    (sym c.in-Some.is) (record {
+      holds = valued_whole m (put_value m room v) room.number v c.in-Some.root (put_valued m room v (Has-best a)) w;
+      counted = lent_counted m c.in-Some.root w c.leaf-leaf.result.key c.leaf-leaf.result.rank c.best_room.result room c.self.inside.counts
+          c.in-Some-best_room.is pair (Has-best a) v counted;
+    })
+
+-- the table once the value is given back
+lent : (g : _) (c : In-Some-best_room g) (l : Leaf) → l ≡ (found g c).part.leaf → (v : g.row.V.Denot) → contents (record
+    { lodged = put_value c.self.inside.nodes.lodged c.in-Some-best_room.room v; next = c.self.inside.nodes.next; turn = c.self.inside.nodes.turn })
+    c.self.inside.root ≡ with_value_at l.key l.rank c.args.self.now v
+lent g c l is v =
+    let m = c.self.inside.nodes.lodged in
+    let room = c.in-Some-best_room.room in
+    let a = found g c in
+    let e : Entry g.row.V.Denot = record { key = l.key; rank = l.rank; value = v } in
+    let entries = ap (shown (put_value m room v)) c.in-Some.is
+    ∙ lent_shown m c.in-Some.root (whole g c) l.key l.rank c.best_room.result room c.in-Some-best_room.is (best_pair a is c.in-Some-best_room.is) (Has-best a) v
+    ∙ ap (with_entry e) (entries_at _ _ _ c.self.view_is c.in-Some.is) in
+    let numbers = lent_keys m room v (Has-best a) ∙ ap (λ t. t.numbers) c.self.view_is in
+    let next = ap (λ t. t.next) c.self.view_is in
+    let turn = ap (λ t. t.turn) c.self.view_is in
+    λ i. record { entries = entries i; numbers = numbers i; next = next i; turn = turn i }
+
+pub returns : goal.returns
+returns g c =
+    let at = (goal.at.returns g c).In-Some-best_room in
+    let a = found g at in
+    let read = c.leaf-leaf.ensures.said a.part a.said in
+    let best = best_answer a c.value_mut.result.now read c.value_mut.ensures.value
+    ∙ ap (best_of c.args.address) (sym (shown_is (whole g at)) ∙ entries_at _ _ _ c.self.view_is c.in-Some.is) in
+    let table = subst (λ t. IsTable t.entries) c.self.view_is (shown_table _ c.self.inside.root c.self.invariant.holds) in
+    let once = c.leaf-leaf.ensures.visit.count in
+    let bound = c.best_room.ensures.visits.bound in (
+      λ t. inl (c.value_mut.result.ghost_name, λ v. lent g at c.leaf-leaf.result read v t),
+      record {
+        writes = tt;
+        best = best;
+        stands = (best_is_greatest c.args.address c.args.self.now.entries _ table (sym best)).stands;
+        counter = c.leaf-leaf.ensures.visit.turn ∙ c.best_room.ensures.visits.turn;
+        bound = omega (arith, once, bound);
+      },
+    )
