@@ -1,7 +1,7 @@
 -- A route of a new key stands in the table's rooms, beneath a new bit node that has taken over a list of masks: the whole.
 use Rattle.radix_tree.proofs.{TreeMembers.chain_key, TreeMembers.tree_said, Beside.not_new, Beside.not_new_bit, Plugs.counted_leaf, Plugs.spare_same}
 use Rattle.radix_tree.proofs.{PlugLists.mask_list_same, PlugLists.lists_same, PlugLists.marked_same, WholeParts.Fits, WholeParts.some_of}
-use Rattle.radix_tree.proofs.{WholeParts.whole_but, WholeParts.once_but, WholeChanges.spare_changed, WholeChanges.whole_changed}
+use Rattle.radix_tree.proofs.{WholeParts.once_but, WholeChanges.spare_changed, WholeChanges.whole_changed}
 use Rattle.radix_tree.proofs.{WholeRoutes.routes_changed, WholeRoutes.gains_spliced, LeafWays.same_leaf, Cuts.cut_at}
 use Rattle.radix_tree.proofs.Words.{◌≡◌, ℕ, ◌+◌, ◌≤◌, ◌⊎◌, ◌==◌, ◌||◌, Bool, true, false, if◌then◌else◌, List, ◌∷◌, Option, Some, None, refl, sym, ap}
 use Rattle.radix_tree.proofs.Words.{◌∙◌, subst, inl, inr, arith, eq-eqb, ne_eqb, cases_eq, is_some, Id, Node, LeafOf, BitOf, Placed, Tree, leaf, fork}
@@ -161,7 +161,7 @@ module _ {V : Type 0} where
   -- ---- a key that no route of the table has, and the rooms once its route stands there
   abbrev pub new_key : {m : Lodged V} {root : Node} (w : IsWhole m root) {key bit : ℕ} {room : Id} (d : LedTo key w.part room)
       → Differs key d.leaf.first.entry.key bit → IsNew m key bit room
-  new_key w d differs = record { whole = w.part; led = d; top = w.top; low = w.low; once = once_but (whole_but w); differs = differs }
+  new_key w d differs = record { whole = w.part; led = d; top = w.top; low = w.low; once = once_but w; differs = differs }
 
   pub came_beside : {m mid new : Lodged V} {root : Node} (w : IsWhole m root) {bit : ℕ} {x : Placed V} {above : Option Id} {below : Node} (first : Option Id)
       (s : IsSpot m x.entry.key bit w.part above below)
@@ -177,7 +177,7 @@ module _ {V : Type 0} where
   came_beside {m = m} {mid = mid} w {bit = bit} {x = x} {below = below} first s kept others same heads masks marks leaves bits beside new_heads new_masks
       unmarked = record {
         first = first;
-        cut = cut_at m mid (whole_but w) x.entry.key bit s.at s.ups below first s.at.tree refl s.way s.once s.place.rises s.place.is s.named kept others same
+        cut = cut_at m mid w x.entry.key bit s.at s.ups below first s.at.tree refl s.way s.once s.place.rises s.place.is s.named kept others same
             heads masks marks leaves bits;
         beside = beside;
         heads = new_heads;

@@ -1,15 +1,15 @@
 -- A route comes into the chain of its key.
 use Rattle.radix_tree.proofs.{RoomReads.inside, RoomReads.none_some, RoomReads.Has-leaf, Parts.leaf_run, Parts.in_leaf, Parts.way_inside}
 use Rattle.radix_tree.proofs.{TreeMembers.chain_key, TreeMembers.tree_said, PartRooms.way_once, Lodging.over_at, Lodging.stays, Beside.not_new}
-use Rattle.radix_tree.proofs.{ChainRooms.room_route, WholeParts.whole_but, WholeParts.once_but, ChainGaps.behind_stands, ChainLinks.linked_in}
-use Rattle.radix_tree.proofs.{ChainLinks.in_others, ChainLists.cons_at, ChainLists.chain_more, ChainExchanges.Rechained, ChainExchanges.front_named}
-use Rattle.radix_tree.proofs.{ChainExchanges.place_bits, ChainExchanges.place_root, ChainWholes.grown_whole, ChainWholes.grown_routes}
-use Rattle.radix_tree.proofs.Words.{◌≡◌, ℕ, ◌≤◌, ◌==◌, ◌||◌, true, false, if◌then◌else◌, List, [], ◌∷◌, ◌++◌, Option, Some, None, refl, sym, ap, ◌∙◌}
-use Rattle.radix_tree.proofs.Words.{subst, arith, ne_eqb, is_some, Has, Id, Leaf, Node, LeafOf, IsRoute, Placed, leaf, IsIn, IsChain, LeafPart, Part, Run}
+use Rattle.radix_tree.proofs.{ChainRooms.room_route, WholeParts.once_but, ChainGaps.behind_stands, ChainLinks.linked_in, ChainLinks.in_others}
+use Rattle.radix_tree.proofs.{ChainLists.cons_at, ChainLists.chain_more, ChainExchanges.Rechained, ChainExchanges.front_named, ChainExchanges.place_bits}
+use Rattle.radix_tree.proofs.{ChainExchanges.place_root, ChainWholes.grown_whole, ChainWholes.grown_routes}
+use Rattle.radix_tree.proofs.Words.{◌≡◌, ℕ, ◌≤◌, ◌==◌, ◌||◌, true, false, if◌then◌else◌, List, ◌∷◌, ◌++◌, Option, Some, None, refl, sym, ap, ◌∙◌, subst}
+use Rattle.radix_tree.proofs.Words.{arith, ne_eqb, is_some, Has, Id, Leaf, Node, LeafOf, IsRoute, Placed, leaf, IsIn, IsChain, LeafPart, Part, Run}
 use Rattle.radix_tree.proofs.Words.{Leaves, leaves_in, bits_in, masks_in, name_of, first_room, leaf_part, ChainStands, Way, LedTo, ForkAt, HasPair}
 use Rattle.radix_tree.proofs.Words.{one_if, members_at, leaves_at, IsWhole, shown, name_child, root_after, placed, Gains, AreOnce, IsWholeBut, late_at}
 use Rattle.radix_tree.proofs.Words.{nobody_out, lodge_leaf, KeepsBits, KeepsHeads, KeepsMasks, leaf_next, leaf_back, name_next, name_back, link_in}
-use Rattle.radix_tree.proofs.Words.{above_behind, last_room, root_past, IsGap, FindsGap, content_of, Entry, Lodged}
+use Rattle.radix_tree.proofs.Words.{above_behind, last_room, root_past, IsGap, FindsGap, content_of, Entry, Lodged, []}
 
 module _ {V : Type 0} where
   -- ---- members on both sides of a place are in the map
@@ -147,7 +147,7 @@ module _ {V : Type 0} where
       → IsWritten m new id e l → Rechained m new e.key w.part d.part (g.front ++ g.back) (g.front ++ (placed id e ∷ g.back))
   in_chain m new e id first w d l g same route wr =
       let c = chain_of m d in
-      let once = chain_once m e.key w.part d.part d.ups d.way (once_but (whole_but w)) d.leaf.is g.is in
+      let once = chain_once m e.key w.part d.part d.ups d.way (once_but w) d.leaf.is g.is in
       let key = cons_key g.front g.back (placed id e) d.leaf.first d.leaf.rest g.is same in
       let most = route.rank in
       record {
@@ -180,7 +180,7 @@ module _ {V : Type 0} where
       → IsWritten m new id e l → IsWholeBut new (root_past l.previous l.above (LeafOf id) root) (late_at id.number) nobody_out
   inserted_whole m new e id first root w d {l = l} g same route wr =
       subst (λ z. IsWholeBut new z (late_at id.number) nobody_out) (in_name m new e id root w d l g)
-      (grown_whole m new e.key (whole_but w) d.part d.ups g.front g.back (placed id e) d.way (in_chain m new e id first w d l g same route wr) wr.free
+      (grown_whole m new e.key w d.part d.ups g.front g.back (placed id e) d.way (in_chain m new e id first w d l g same route wr) wr.free
       wr.no_mask wr.no_bit (linked_rooms m new id e.value l wr.leaves))
 
   pub inserted_routes : (m new : Lodged V) (e : Entry V) (id first : Id) (root : Node) (w : IsWhole m root) (d : LedTo e.key w.part first) {l : Leaf}
@@ -188,7 +188,7 @@ module _ {V : Type 0} where
       → IsWritten m new id e l → Gains e (shown m (Some root)) (shown new (Some (root_past l.previous l.above (LeafOf id) root)))
   inserted_routes m new e id first root w d {l = l} g same route wr =
       subst (λ z. Gains e (shown m (Some root)) (shown new (Some z))) (in_name m new e id root w d l g)
-      (grown_routes m new root (whole_but w) d.part d.ups g.front g.back (placed id e) d.way (in_chain m new e id first w d l g same route wr))
+      (grown_routes m new root w d.part d.ups g.front g.back (placed id e) d.way (in_chain m new e id first w d l g same route wr))
 
   -- ---- a member has the rank
   pub taken_there : {m : Lodged V} (key rank : ℕ) {root : Node} {first : Id} (w v : IsWhole m root) (d : LedTo key w.part first) → d.leaf.first.entry.key ≡ key

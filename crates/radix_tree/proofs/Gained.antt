@@ -3,13 +3,13 @@
 --     shown_same                     rooms that say the same of leaves and bit nodes show the same
 --     nobody, among_left, new_left   whose masks are not listed yet
 --     IsLost, lost                   what a route that goes leaves
-use Rattle.radix_tree.proofs.{RoomReads.none_some, Parts.leaf_run, Showing.shown_is, WholeParts.but_whole, WholeParts.later_than, WholeRoutes.loses_entry}
-use Rattle.radix_tree.proofs.{Kept.IsFound, Kept.shown_table}
-use Rattle.radix_tree.proofs.Words.{◌≡◌, ℕ, ◌+◌, ◌==◌, ◌&&◌, ◌||◌, Bool, true, false, not, if◌then◌else◌, List, [], Option, Some, None, is_some, refl}
-use Rattle.radix_tree.proofs.Words.{sym, ap, ◌∙◌, subst, inl, arith, eqb-true, eq-eqb, ne_eqb, get, Seen, Id, Leaf, Node, LeafOf, IsRoute, without, leaf}
+use Rattle.radix_tree.proofs.{RoomReads.none_some, Parts.leaf_run, Showing.shown_is, WholeParts.later_than, WholeRoutes.loses_entry, Kept.IsFound}
+use Rattle.radix_tree.proofs.{Kept.shown_table}
+use Rattle.radix_tree.proofs.Words.{◌≡◌, ℕ, ◌+◌, ◌==◌, ◌&&◌, ◌||◌, Bool, true, false, not, if◌then◌else◌, List, Option, Some, None, is_some, refl, sym}
+use Rattle.radix_tree.proofs.Words.{ap, ◌∙◌, subst, inl, arith, eqb-true, eq-eqb, ne_eqb, get, Seen, Id, Leaf, Node, LeafOf, IsRoute, without, leaf}
 use Rattle.radix_tree.proofs.Words.{LeafPart, Part, leaf_in, bit_in, mask_in, leaves_in, leaf_part, first_room, LedTo, Gains, placed, IsWholeBut, has_key}
 use Rattle.radix_tree.proofs.Words.{is_of_key, nobody_late, nobody_out, late_at, lodge_leaf, KeepsLeaves, KeepsBits, KeepsMasks, one_if, beneath_shown}
-use Rattle.radix_tree.proofs.Words.{shown, shown_entry, IsWhole, Holds, Entry, Lodged}
+use Rattle.radix_tree.proofs.Words.{shown, shown_entry, IsWhole, Holds, Entry, Lodged, []}
 
 true_false : true ≡ false → ⊥
 true_false e = cc
@@ -38,7 +38,7 @@ module _ {V : Type 0} where
   abbrev lodged_part : Id → V → Leaf → Option (LeafPart V)
   lodged_part id value l = Some (record { block = id.block; value = value; leaf = l })
 
-  lodged_at : (id : Id) (value : V) (l : Leaf) (n : ℕ) (b : Bool) → one_if b + 0 ≡ one_if (is_some (if b then lodged_part id value l else None))
+  lodged_at : (id : Id) (value : V) (l : Leaf) (n : ℕ) (b : Bool) → one_if b + 0 + 0 ≡ one_if (is_some (if b then lodged_part id value l else None))
   lodged_at id value l n true = refl
   lodged_at id value l n false = refl
 
@@ -56,13 +56,14 @@ module _ {V : Type 0} where
         low = refl;
         top = refl;
         named = refl;
-        leaves = λ n. ap (λ b. one_if b + 0) (turned id.number n) ∙ lodged_at id e.value l n (n == id.number)
+        leaves = λ n. ap (λ b. one_if b + 0 + 0) (turned id.number n) ∙ lodged_at id e.value l n (n == id.number)
             ∙ ap (λ o. one_if (is_some (if n == id.number then lodged_part id e.value l else o))) (sym (none n))
             ∙ ap (λ o. one_if (is_some o)) (sym (leaves n));
         forks = λ n. ap (λ o. one_if (is_some (bit_in o))) (sym (gone n)) ∙ ap (λ o. one_if (is_some o)) (sym (bits n));
         spare = inl tt;
         lists = tt;
         listed = λ n p some. absurd (none_some (ap mask_in (sym (gone n)) ∙ sym (masks n) ∙ some));
+        all = λ x at home. absurd home;
       } in
       (w, record { front = []; back = []; was = refl; now = shown_is w })
 
@@ -75,24 +76,23 @@ module _ {V : Type 0} where
   gains_same e es m new root g leaves bits = subst (Gains e es) (sym (shown_same m new root leaves bits)) g
 
   -- ---- whose masks are not listed yet
-  not_late : (m : Lodged V) {root : Node} {late : ℕ → Bool} → IsWholeBut m root late nobody_out → ((n : ℕ) → late n ≡ true → ⊥)
-      → IsWholeBut m root nobody_late nobody_out
+  not_late : (m : Lodged V) {root : Node} {late : ℕ → Bool} → IsWholeBut m root late nobody_out → ((n : ℕ) → late n ≡ true → ⊥) → IsWhole m root
   not_late m w never = later_than nobody_late (λ n is. absurd (never n is)) w
 
   -- the route of one room was late, and is listed now
   pub among_left : {m : Lodged V} (root : Node) (room id : ℕ) → id ≡ room → IsWholeBut m root (λ n. late_at room n && not (n == id)) nobody_out → IsWhole m root
-  among_left {m = m} root room id same w = but_whole m root (not_late m w (λ n e.
-      let both = and_not (n == room) (n == id) e in true_false (sym (eq-eqb n id (eqb-true n room both.0 ∙ sym same)) ∙ both.1)))
+  among_left {m = m} root room id same w = not_late m w (λ n e.
+      let both = and_not (n == room) (n == id) e in true_false (sym (eq-eqb n id (eqb-true n room both.0 ∙ sym same)) ∙ both.1))
 
   -- and with it the routes of a key
   pub new_left : (m old : Lodged V) {root : Node} (room : ℕ) {id : ℕ} (key k : ℕ) (was : ℕ → Bool) → id ≡ room → k ≡ key
       → ((n : ℕ) → was n ≡ true → has_key old key n ≡ true)
       → IsWholeBut m root (λ n. (((n == room) || was n) && not (n == id)) && not (has_key old k n)) nobody_out → IsWhole m root
-  new_left m old {root = root} room {id = id} key k was same key_is stays w = but_whole m root (not_late m w (λ n e.
+  new_left m old {root = root} room {id = id} key k was same key_is stays w = not_late m w (λ n e.
       let both = and_not (((n == room) || was n) && not (n == id)) (has_key old k n) e in
       let first = and_not ((n == room) || was n) (n == id) both.0 in
       let other = ap (λ r. n == r) (sym same) ∙ first.1 in
-      true_false (sym (stays n (or_left (n == room) (was n) first.0 other)) ∙ ap (λ k. has_key old k n) (sym key_is) ∙ both.1)))
+      true_false (sym (stays n (or_left (n == room) (was n) first.0 other)) ∙ ap (λ k. has_key old k n) (sym key_is) ∙ both.1))
 
   -- ---- the leaf beside which a route comes in
   -- what the first room of a leaf says

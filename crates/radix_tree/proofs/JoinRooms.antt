@@ -2,11 +2,11 @@
 use Rattle.radix_tree.proofs.{AddressBits.zero_not_one, Parts.Has-fork, TreeMembers.bit_beneath, TreeMembers.tree_said, Lodging.stays, Lodging.over_at}
 use Rattle.radix_tree.proofs.{JoinSides.true_not_false, JoinSides.SaysOther, JoinSides.side_is, JoinSides.side_says, JoinSides.side_fork}
 use Rattle.radix_tree.proofs.{JoinLone.tree_room, JoinLone.lone, JoinLone.lone_said, JoinLinks.lone_apart, JoinLinks.other_part, JoinWhole.IsJoined}
-use Rattle.radix_tree.proofs.Words.{◌≡◌, ◌+◌, ◌≤◌, Bool, true, List, [], ◌∷◌, Option, Some, None, refl, sym, ap, ◌∙◌, subst, arith, ℕ, inl, inr, eqb-true}
+use Rattle.radix_tree.proofs.Words.{◌≡◌, ◌+◌, ◌≤◌, Bool, true, List, ◌∷◌, Option, Some, None, refl, sym, ap, ◌∙◌, subst, arith, ℕ, inl, inr, eqb-true}
 use Rattle.radix_tree.proofs.Words.{cases_eq, is_some, Has, leaf_of, bit_node_of, Id, BitNode, Leaf, Links, Node, Placed, Tree, leaf, fork, bit_at}
-use Rattle.radix_tree.proofs.Words.{IsAmong, IsIn, IsTree, LeafPart, BitPart, Bits, Part, leaf_in, leaves_in, bits_in, heads_in, masks_in, name_of}
-use Rattle.radix_tree.proofs.Words.{ForkAt, Beneath, Way, one_if, AreIdle, HasOneFork, HaveOneFork, name_child, other_side, IsApart, IsLone, MarkedLists}
-use Rattle.radix_tree.proofs.Words.{IsWholeBut, is_of_key, has_key, nobody_out, content_of, KeepsRoutes, put_bit, lift_leaf, lift_bit, Lodged, IsLonely}
+use Rattle.radix_tree.proofs.Words.{IsAmong, IsIn, IsTree, LeafPart, BitPart, Bits, Part, leaf_in, leaves_in, bits_in, heads_in, name_of, ForkAt, one_if}
+use Rattle.radix_tree.proofs.Words.{AreIdle, HasOneFork, HaveOneFork, name_child, other_side, IsApart, IsLone, IsWholeBut, is_of_key, has_key, nobody_out}
+use Rattle.radix_tree.proofs.Words.{content_of, KeepsRoutes, put_bit, lift_leaf, lift_bit, Lodged, IsLonely, []}
 use Rattle.radix_tree.proofs.RoomReads.{inside, none_some, AreLinks, Has-leaf, bit_read, bit_used, head_read}
 
 module _ {V : Type 0} where
@@ -66,22 +66,6 @@ module _ {V : Type 0} where
             ∙ ap (other_side key node.bit node.zero) (sym read.one);
         head = head_read links (Has-up l) are is;
       }
-
-  -- ---- the lists on a way
-  marked_beneath : (m : Lodged V) (address : ℕ) (under over : Part m) → Beneath address under over → MarkedLists (heads_in m) (masks_in m) over.low over.tree
-      → MarkedLists (heads_in m) (masks_in m) under.low under.tree
-  marked_beneath m address under over b listed =
-      let f = b.at in
-      let lists = subst (MarkedLists (heads_in m) (masks_in m) over.low) f.is listed in
-      subst (λ low. MarkedLists (heads_in m) (masks_in m) low under.tree) (sym b.low) (elim b.side [
-        | inl e ↦ subst (MarkedLists (heads_in m) (masks_in m) (f.bit + 1)) (sym e.0) lists.1
-        | inr e ↦ subst (MarkedLists (heads_in m) (masks_in m) (f.bit + 1)) (sym e.0) lists.2
-      ])
-
-  pub way_marked : {m : Lodged V} (address : ℕ) (whole at : Part m) (ups : List (Part m)) → Way address whole at ups
-      → MarkedLists (heads_in m) (masks_in m) whole.low whole.tree → MarkedLists (heads_in m) (masks_in m) at.low at.tree
-  way_marked {m = m} address whole at [] way listed = subst (λ p. MarkedLists (heads_in m) (masks_in m) p.low p.tree) (sym way) listed
-  way_marked {m = m} address whole at (p ∷ ps) way listed = marked_beneath m address at p way.0 (way_marked address whole p ps way.1 listed)
 
   -- ---- in the rooms once the list is handed on
   pub above_after : (m new : Lodged V) {whole : Part m} {at up : Id} (l : IsLone m whole at up) {above : Option Id} {over : Id}

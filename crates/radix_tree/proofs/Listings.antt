@@ -26,7 +26,7 @@ module _ {V : Type 0} {m : Lodged V} where
   pub begun : {address : ℕ} {p : Part m} {room : Id} {first : Option Id} (v : Counter) (f : ForkAt p room) → MasksAreListed m p
       → heads_in m room.number ≡ first → Through address p f.bit first v v
   begun {p = p} {room} v f listed head =
-      let list = (fork_lists m p f listed).0 in
+      let list = (fork_lists (λ x. Unit {0}) p f listed).0 in
       let rises = (fork_is m f).0.rises in
       record {
         rest = list.masks;
@@ -34,8 +34,8 @@ module _ {V : Type 0} {m : Lodged V} where
         begins = list.begins ∙ head;
         stands = list.stands;
         falls = list.falls;
-        inside = λ y among. subst (IsIn y) (sym f.is) (list.beneath y among);
-        listed = λ y at least below. list.has y (subst (IsIn y) f.is at) least (omega arith);
+        inside = λ y among. subst (IsIn y) (sym f.is) (list.within y among).0;
+        listed = λ y at least below. list.has y (subst (IsIn y) f.is at, tt) least (omega arith);
         tried = λ y at covers below. below;
         fits = omega arith;
         past = omega arith;

@@ -1,7 +1,6 @@
 -- Lists of masks stay where all masks say what they said.
-use Rattle.radix_tree.proofs.Words.{◌≡◌, ℕ, ◌+◌, ◌≤◌, List, [], ◌∷◌, Option, sym, ap, ◌∙◌, subst, arith, inl, inr, is_some, Id, Placed, Tree, leaf, fork}
-use Rattle.radix_tree.proofs.Words.{Heads, Masks, Part, heads_in, masks_in, MasksStand, Beneath, Way, forks_at, IsMarked, IsMaskList, MarkedIn}
-use Rattle.radix_tree.proofs.Words.{MarkedLists, Lodged}
+use Rattle.radix_tree.proofs.Words.{◌≡◌, ℕ, ◌+◌, ◌≤◌, List, ◌∷◌, Option, sym, ap, ◌∙◌, arith, is_some, Id, Placed, Tree, leaf, fork, Heads, Masks}
+use Rattle.radix_tree.proofs.Words.{MasksStand, forks_at, IsMarked, IsMaskList, MarkedIn, MarkedLists, []}
 use Rattle.radix_tree.proofs.PartRooms.{one_if_same}
 
 module _ {V : Type 0} where
@@ -32,18 +31,3 @@ module _ {V : Type 0} where
         lists_kept H J K M (b + 1) zero same (λ k some. heads k (omega arith)) lists.1,
         lists_kept H J K M (b + 1) one same (λ k some. heads k (omega arith)) lists.2,
       )
-
-  -- ---- a part on a way
-  lists_under : (m : Lodged V) (key : ℕ) (under over : Part m) → Beneath key under over → MarkedLists (heads_in m) (masks_in m) over.low over.tree
-      → MarkedLists (heads_in m) (masks_in m) under.low under.tree
-  lists_under m key under over b lists =
-      let all = subst (MarkedLists (heads_in m) (masks_in m) over.low) b.at.is lists in
-      subst (λ low. MarkedLists (heads_in m) (masks_in m) low under.tree) (sym b.low) (elim b.side [
-        | inl e ↦ subst (MarkedLists (heads_in m) (masks_in m) (b.at.bit + 1)) (sym e.0) all.1
-        | inr e ↦ subst (MarkedLists (heads_in m) (masks_in m) (b.at.bit + 1)) (sym e.0) all.2
-      ])
-
-  pub lists_on_way : (m : Lodged V) (key : ℕ) (whole at : Part m) (ups : List (Part m)) → Way key whole at ups
-      → MarkedLists (heads_in m) (masks_in m) whole.low whole.tree → MarkedLists (heads_in m) (masks_in m) at.low at.tree
-  lists_on_way m key whole at [] way lists = subst (λ p. MarkedLists (heads_in m) (masks_in m) p.low p.tree) (sym way) lists
-  lists_on_way m key whole at (p ∷ ps) way lists = lists_under m key at p way.0 (lists_on_way m key whole p ps way.1 lists)

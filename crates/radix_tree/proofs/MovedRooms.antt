@@ -1,12 +1,11 @@
 -- A bit node in use moves from its room to another: what the rooms say afterwards is the tree with the bit node there.
 use Rattle.radix_tree.proofs.{Parts.fork_is, Parts.fork_stands, Parts.bit_part_of, PartRooms.way_once, Forking.lifted, Beside.misses_leaf}
-use Rattle.radix_tree.proofs.{Beside.misses_bit, MovedLists.marked_stays, MovedLists.list_kept, MovedLists.lists_kept, MovedLists.lists_on_way}
-use Rattle.radix_tree.proofs.{WholeParts.Fits}
-use Rattle.radix_tree.proofs.Words.{◌≡◌, ℕ, ◌+◌, ◌≤◌, ◌==◌, true, false, if◌then◌else◌, List, [], ◌∷◌, Some, None, refl, sym, ap, ◌∙◌, subst, inl, inr}
-use Rattle.radix_tree.proofs.Words.{arith, eqb-true, is_some, Id, Node, BitOf, BitNode, fork, bit_at, HaveBit, IsIn, Part, leaves_in, bits_in, heads_in}
+use Rattle.radix_tree.proofs.{Beside.misses_bit, MovedLists.marked_stays, MovedLists.list_kept, MovedLists.lists_kept, WholeParts.Fits, Parts.way_lists}
+use Rattle.radix_tree.proofs.Words.{◌≡◌, ℕ, ◌+◌, ◌≤◌, ◌==◌, true, false, if◌then◌else◌, List, ◌∷◌, Some, None, refl, sym, ap, ◌∙◌, subst, inl, inr, arith}
+use Rattle.radix_tree.proofs.Words.{eqb-true, is_some, Id, Node, BitOf, BitNode, fork, bit_at, HaveBit, IsIn, Part, leaves_in, bits_in, heads_in}
 use Rattle.radix_tree.proofs.Words.{masks_in, bit_part, head_part, name_of, Stands, Beneath, Way, one_if, forks_at, HasHome, name_child, with_child}
 use Rattle.radix_tree.proofs.Words.{AreOnce, MarkedLists, nobody_late, out_at, put_bit, put_head, lift_leaf, lift_bit, IsExchange, renamed, with_renamed}
-use Rattle.radix_tree.proofs.Words.{rename, Lodged}
+use Rattle.radix_tree.proofs.Words.{rename, Lodged, IsMarked, []}
 use Rattle.radix_tree.proofs.MovedReads.{same_or_not, one_if_is, one_if_not, at_room, rename_misses, renamed_to, zero_turned, one_turned, renamed_off}
 use Rattle.radix_tree.proofs.MovedReads.{leaf_off, bit_off, content_used}
 use Rattle.radix_tree.proofs.MoveWrites.{bit_said, IsMove, IsMoved, at_once, at_forks, at_leaves, from_in, not_from, out_not_from, not_to, beneath_whole}
@@ -141,7 +140,7 @@ module _ {V : Type 0} where
   lists_moved : (m new : Lodged V) {root : Node} (from to : Id) (n : BitNode) (v : IsMove m root from to n) (d : IsMoved m new from to n)
       → MarkedLists (heads_in new) (masks_in new) v.at.low (fork to v.f.bit v.f.zero v.f.one)
   lists_moved m new from to n v d =
-      let old = subst (MarkedLists (heads_in m) (masks_in m) v.at.low) v.f.is (lists_on_way m v.key v.whole.part v.at v.ups v.way v.whole.lists) in
+      let old = subst (MarkedLists (heads_in m) (masks_in m) v.at.low) v.f.is (way_lists (IsMarked (masks_in m)) v.key v.whole.part v.at v.ups v.way v.whole.lists) in
       let head = d.heads to.number ∙ at_room to to.number (head_part (Some n)) (put_head from None to.number (heads_in m to.number)) refl ∙ sym v.head
       ∙ ap (heads_in m) (sym v.number) in
       let stays : (k : ℕ) → 1 ≤ forks_at k v.f.zero + forks_at k v.f.one → heads_in new k ≡ heads_in m k = λ k some. let le = beneath_whole m v k in

@@ -1,8 +1,8 @@
 -- The parts of a tree: a bit node with what is beneath it, a leaf, and the way between one part and the whole.
 use Rattle.radix_tree.proofs.{RoomReads.Has-bit, Searching.IsSide, Searching.zero_side, Searching.one_side, Searching.side_hit}
-use Rattle.radix_tree.proofs.Words.{◌≡◌, ℕ, ◌+◌, List, [], ◌∷◌, Some, None, refl, sym, ap, ◌∙◌, subst, inl, inr, Has, Id, LeafOf, BitOf, Placed, Tree}
-use Rattle.radix_tree.proofs.Words.{leaf, fork, bit_at, IsAmong, IsIn, IsTree, BitPart, Part, Run, leaves_in, bits_in, heads_in, masks_in, first_room}
-use Rattle.radix_tree.proofs.Words.{name_of, Stands, Lists, AreListed, Best, In, ForkAt, LeafAt, LedTo, Beneath, Way, Lodged}
+use Rattle.radix_tree.proofs.Words.{◌≡◌, ℕ, ◌+◌, List, ◌∷◌, Some, None, refl, sym, ap, ◌∙◌, subst, inl, inr, Has, Id, LeafOf, BitOf, Placed, Tree, leaf}
+use Rattle.radix_tree.proofs.Words.{fork, bit_at, IsAmong, IsIn, IsTree, BitPart, Part, Run, leaves_in, bits_in, heads_in, masks_in, first_room, name_of}
+use Rattle.radix_tree.proofs.Words.{Stands, Lists, Best, In, ForkAt, LeafAt, LedTo, Beneath, Way, Lodged, []}
 
 leaf_not_bit : {x y : Id} → LeafOf x ≡ BitOf y → ⊥
 leaf_not_bit e = cc
@@ -45,8 +45,9 @@ module _ {V : Type 0} where
   pub fork_stands : (m : Lodged V) {p : Part m} {room : Id} (f : ForkAt p room) → Stands (leaves_in m) (bits_in m) p.above (whole_of m room f)
   fork_stands m {p = p} f = subst (Stands (leaves_in m) (bits_in m) p.above) f.is p.stands
 
-  pub fork_lists : (m : Lodged V) (p : Part m) {room : Id} (f : ForkAt p room) → AreListed m p → Lists (heads_in m) (masks_in m) p.low (whole_of m room f)
-  fork_lists m p f listed = subst (Lists (heads_in m) (masks_in m) p.low) f.is listed
+  pub fork_lists : (M : Placed V → Type 0) {m : Lodged V} (p : Part m) {room : Id} (f : ForkAt p room) → Lists M (heads_in m) (masks_in m) p.low p.tree
+      → Lists M (heads_in m) (masks_in m) p.low (whole_of m room f)
+  fork_lists M {m = m} p f listed = subst (Lists M (heads_in m) (masks_in m) p.low) f.is listed
 
   -- what its room says
   abbrev pub bit_part_of : (m : Lodged V) {p : Part m} {room : Id} → ForkAt p room → BitPart
@@ -122,18 +123,23 @@ module _ {V : Type 0} where
         | inr differs ↦ absurd (differs (ap (bit_at way.0.at.bit) key))
       ]
 
-  lists_beneath : (m : Lodged V) (address : ℕ) (under over : Part m) → Beneath address under over → AreListed m over → AreListed m under
-  lists_beneath m address under over b listed =
+  -- the lists beneath
+  abbrev pub ListsOf : (Placed V → Type 0) → (m : Lodged V) → Part m → Type 0
+  ListsOf M m p = Lists M (heads_in m) (masks_in m) p.low p.tree
+
+  pub lists_beneath : (M : Placed V → Type 0) {m : Lodged V} {address : ℕ} (under over : Part m) → Beneath address under over → ListsOf M m over → ListsOf M m under
+  lists_beneath M {m = m} under over b listed =
       let f = b.at in
-      let lists = fork_lists m over f listed in
-      subst (λ low. Lists (heads_in m) (masks_in m) low under.tree) (sym b.low) (elim b.side [
-        | inl e ↦ subst (Lists (heads_in m) (masks_in m) (f.bit + 1)) (sym e.0) lists.1
-        | inr e ↦ subst (Lists (heads_in m) (masks_in m) (f.bit + 1)) (sym e.0) lists.2
+      let lists = fork_lists M over f listed in
+      subst (λ low. Lists M (heads_in m) (masks_in m) low under.tree) (sym b.low) (elim b.side [
+        | inl e ↦ subst (Lists M (heads_in m) (masks_in m) (f.bit + 1)) (sym e.0) lists.1
+        | inr e ↦ subst (Lists M (heads_in m) (masks_in m) (f.bit + 1)) (sym e.0) lists.2
       ])
 
-  pub way_lists : (m : Lodged V) (address : ℕ) (whole at : Part m) (ups : List (Part m)) → Way address whole at ups → AreListed m whole → AreListed m at
-  way_lists m address whole at [] way listed = subst (AreListed m) (sym way) listed
-  way_lists m address whole at (p ∷ ps) way listed = lists_beneath m address at p way.0 (way_lists m address whole p ps way.1 listed)
+  pub way_lists : (M : Placed V → Type 0) {m : Lodged V} (address : ℕ) (whole at : Part m) (ups : List (Part m)) → Way address whole at ups → ListsOf M m whole
+      → ListsOf M m at
+  way_lists M {m = m} address whole at [] way listed = subst (ListsOf M m) (sym way) listed
+  way_lists M address whole at (p ∷ ps) way listed = lists_beneath M at p way.0 (way_lists M address whole p ps way.1 listed)
 
   -- the best beneath is the whole's best
   pub way_best : (m : Lodged V) (address : ℕ) (whole at : Part m) (ups : List (Part m)) → Way address whole at ups → (x : Placed V)

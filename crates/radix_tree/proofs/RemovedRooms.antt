@@ -1,6 +1,6 @@
 -- A room that is out of the tree leaves the map: the whole and its routes stay.
 use Rattle.radix_nodes.proofs.Callers.{get-removed}
-use Rattle.radix_tree.proofs.{RoomReads.inside, RoomReads.none_some, PartRooms.frame, Plugs.counted_leaf, WholeParts.but_whole, WholeRoutes.part_shown}
+use Rattle.radix_tree.proofs.{RoomReads.inside, RoomReads.none_some, PartRooms.frame, Plugs.counted_leaf, WholeRoutes.part_shown}
 use Rattle.radix_tree.proofs.{MovedReads.same_or_not, MovedReads.content_used, MovedLists.marked_stays, MovedLists.lists_kept, MovedSpare.tree_stays}
 use Rattle.radix_tree.proofs.{MovedWhole.out_leaf, MovedWhole.out_apart}
 use Rattle.std.specs.FinMap.{remove}
@@ -68,7 +68,7 @@ module _ {V : Type 0} where
       let bits = role_stays bit_in m n none in
       let heads = role_stays head_in m n (no_head (get m n) none) in
       let masks = role_stays mask_in m n (no_mask m n w (masks_in m n) refl) in
-      but_whole (remove m n) root (record {
+      record {
         part = part_left m n w none;
         low = w.low;
         top = w.top;
@@ -82,7 +82,7 @@ module _ {V : Type 0} where
           | inl marked ↦ inl (marked_stays (masks_in m) (masks_in (remove m n)) x masks marked)
           | inr late ↦ inr late
         ];
-      })
+      }
 
   evicted_shown : (m : Lodged V) {root : Node} (n : ℕ) → IsWholeBut m root nobody_late (out_at n) → bits_in m n ≡ None
       → shown (remove m n) (Some root) ≡ shown m (Some root)

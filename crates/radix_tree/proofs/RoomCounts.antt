@@ -4,9 +4,9 @@
 --     rooms_once        no room's number twice
 use Rattle.std.proofs.lemmas.{List.length-append, List.length-map, List.Sums.sum_by-cons, List.Sums.sum_by-append}
 use Rattle.radix_tree.proofs.{PartRooms.one_if_same, Numbers.uses_keys, Numbers.uses_leaves, Showing.shown_is}
-use Rattle.radix_tree.proofs.Words.{◌≡◌, ℕ, ◌+◌, ◌≤◌, ◌==◌, Bool, true, false, cond, nat_eq, List, [], ◌∷◌, ◌++◌, length, map, Option, Some, None}
-use Rattle.radix_tree.proofs.Words.{is_some, refl, sym, ap, ◌∙◌, arith, eqb-true, get, keys, Node, uses, Placed, Tree, leaf, fork, routes_of, one_if}
-use Rattle.radix_tree.proofs.Words.{members_at, leaves_at, shown, Holds, Lodged}
+use Rattle.radix_tree.proofs.Words.{◌≡◌, ℕ, ◌+◌, ◌≤◌, ◌==◌, Bool, true, false, cond, nat_eq, List, ◌∷◌, ◌++◌, length, map, Option, Some, None, is_some}
+use Rattle.radix_tree.proofs.Words.{refl, sym, ap, ◌∙◌, arith, eqb-true, get, keys, Node, uses, Placed, Tree, leaf, fork, routes_of, one_if, members_at}
+use Rattle.radix_tree.proofs.Words.{leaves_at, shown, Holds, Lodged, []}
 
 one_if_cond : (b : Bool) → cond b 1 0 ≡ one_if b
 one_if_cond true = refl
@@ -78,7 +78,7 @@ module _ {V : Type 0} where
   pub rooms_as_routes : (m : Lodged V) (root : Option Node) → Holds m root → length (keys m) ≡ length (shown m root)
   rooms_as_routes m None none = equally_long (keys m) [] (λ n. uses_leaves m n ∙ ap (λ o. one_if (is_some o)) (none n))
   rooms_as_routes m (Some root) w =
-      equally_long (keys m) (numbers_of w.part.tree) (λ n. uses_leaves m n ∙ sym (w.leaves n) ∙ sym (uses_tree n w.part.tree)) ∙ one_each w.part.tree
+      equally_long (keys m) (numbers_of w.part.tree) (λ n. omega (arith, uses_leaves m n, w.leaves n, uses_tree n w.part.tree)) ∙ one_each w.part.tree
       ∙ ap length (sym (shown_is w))
 
   pub rooms_once : (m : Lodged V) (n : ℕ) → uses n (keys m) ≤ 1

@@ -2,13 +2,14 @@
 use Rattle.radix_nodes.proofs.Callers.{put_value-is, get-put_room}
 use Rattle.radix_tree.proofs.{Counted.of_rank-cons, Counted.of_rank-append, Numbers.insert_keys, OrderLemmas.own_pair, TableLemmas.with_parts}
 use Rattle.radix_tree.proofs.{TableLemmas.with_later, TableLemmas.With.later, TableLemmas.With.same, TableLemmas.With.sooner, TreeOrder.tree_is_table}
-use Rattle.radix_tree.proofs.{Showing.shown_is}
-use Rattle.radix_tree.proofs.Words.{◌≡◌, ℕ, ◌+◌, ◌≤◌, ◌==◌, Bool, true, false, IsTrue, if◌then◌else◌, List, [], ◌∷◌, ◌++◌, map, Option, Some, None}
-use Rattle.radix_tree.proofs.Words.{is_some, refl, inl, inr, sym, ap, ◌∙◌, subst, arith, eqb-true, eq-eqb, append_assoc, AllByRecursion, get, keys, Seen}
-use Rattle.radix_tree.proofs.Words.{Has, seen, put_value, leaf_of, bit_node_of, mask_node_of, Id, Node, precedes, IsTable, with_entry, Placed, Tree, leaf}
+use Rattle.radix_tree.proofs.{Showing.shown_is, WholeParts.once_but, ValuedTrees.all_valued_in}
+use Rattle.radix_tree.proofs.Words.{◌≡◌, ℕ, ◌+◌, ◌≤◌, ◌==◌, Bool, true, false, IsTrue, if◌then◌else◌, List, ◌∷◌, ◌++◌, map, Option, Some, None, is_some}
+use Rattle.radix_tree.proofs.Words.{refl, inl, inr, sym, ap, ◌∙◌, subst, arith, eqb-true, eq-eqb, append_assoc, AllByRecursion, get, keys, Seen, Has}
+use Rattle.radix_tree.proofs.Words.{seen, put_value, leaf_of, bit_node_of, mask_node_of, Id, Node, precedes, IsTable, with_entry, Placed, Tree, leaf}
 use Rattle.radix_tree.proofs.Words.{fork, IsAmong, IsIn, routes_of, LeafPart, leaf_in, bit_in, head_in, mask_in, bit_part, mask_part, leaves_in, bits_in}
-use Rattle.radix_tree.proofs.Words.{heads_in, masks_in, Stands, Lists, one_if, members_at, leaves_at, HaveOneFork, shown, IsWhole, KeepsBits, KeepsHeads}
-use Rattle.radix_tree.proofs.Words.{KeepsMasks, Entry, of_rank, AreCounted, Tells, Finds, HasPair, In, Lodged}
+use Rattle.radix_tree.proofs.Words.{heads_in, masks_in, Stands, one_if, members_at, leaves_at, HaveOneFork, shown, IsWhole, KeepsBits, KeepsHeads}
+use Rattle.radix_tree.proofs.Words.{KeepsMasks, Entry, of_rank, AreCounted, Tells, Finds, HasPair, In, Lodged, nobody_late, [], MarkedLists, IsMarked}
+use Rattle.radix_tree.proofs.Words.{◌⊎◌}
 use Rattle.radix_tree.proofs.ValuedTrees.{true_false, pointwise, valued, all_valued, tree_valued, name_valued, tree_is_valued, put, stands_valued}
 use Rattle.radix_tree.proofs.ValuedTrees.{leaves_valued, forks_valued, spare_valued, in_valued, home_valued, lists_valued}
 
@@ -132,10 +133,6 @@ module _ {V : Type 0} (n : ℕ) (value : V) where
       with_later (record x { value = value }) f (front ++ x ∷ back) (first_ahead (λ g. IsTrue (precedes f g)) front back x table.1)
       ∙ ap (λ es. f ∷ es) (placed_in front back x table.2)
 
-one_most : (b : Bool) → one_if b ≤ 1
-one_most true = omega arith
-one_most false = omega arith
-
 -- ---- the rooms
 module _ {V : Type 0} where
   -- but for the value in one room they say what they said
@@ -165,16 +162,20 @@ module _ {V : Type 0} where
         low = w.low;
         top = w.top;
         named = name_valued n value w.part.tree ∙ w.named;
-        leaves = λ k. leaves_valued n value k w.part.tree ∙ w.leaves k ∙ ap one_if
+        leaves = λ k. ap (λ j. j + 0) (leaves_valued n value k w.part.tree) ∙ w.leaves k ∙ ap one_if
             (sym (some_put n value (k == n) (leaves_in m k)) ∙ ap is_some (sym (v.leaves k)));
         forks = λ k. forks_valued n value k w.part.tree ∙ w.forks k ∙ ap (λ o. one_if (is_some o)) (sym (v.bits k));
         spare = subst (λ B. HaveOneFork B t) (sym (pointwise (bits_in new) (bits_in m) v.bits)) (spare_valued n value (bits_in m) w.part.tree w.spare);
-        lists = subst (λ H. Lists H (masks_in new) w.part.low t) (sym (pointwise (heads_in new) (heads_in m) v.heads))
-            (subst (λ K. Lists (heads_in m) K w.part.low t) (sym (pointwise (masks_in new) (masks_in m) v.masks))
+        lists = subst (λ H. MarkedLists H (masks_in new) w.part.low t) (sym (pointwise (heads_in new) (heads_in m) v.heads))
+            (subst (λ K. MarkedLists (heads_in m) K w.part.low t) (sym (pointwise (masks_in new) (masks_in m) v.masks))
             (lists_valued n value (heads_in m) (masks_in m) w.part.low w.part.tree w.lists));
         listed = λ k p some.
             let l = w.listed k p (sym (v.masks k) ∙ some) in
             (valued n value l.0, in_valued n value l.0 w.part.tree l.1, l.2, home_valued n value l.0.entry.key l.0.entry.rank w.part.tree l.3);
+        all = all_valued_in n value w.part.tree (λ x. IsMarked (masks_in new) x ⊎ (nobody_late x.room.number ≡ true)) (λ x at home. elim (w.all x at home) [
+          | inl marked ↦ inl (ap is_some (v.masks x.room.number) ∙ marked)
+          | inr late ↦ inr late
+        ]);
       } in (is, shown_is is)
 
   pub valued_whole : (m new : Lodged V) (n : ℕ) (value : V) (root : Node) → IsValued m new n value → IsWhole m root → IsWhole new root
@@ -183,7 +184,7 @@ module _ {V : Type 0} where
   pub valued_shown : (m new : Lodged V) (n : ℕ) (value : V) (root : Node) (v : IsValued m new n value) (w : IsWhole m root) (x : Placed V) → x.room.number ≡ n
       → IsIn x w.part.tree → shown new (Some root) ≡ with_entry (record x.entry { value = value }) (shown m (Some root))
   valued_shown m new n value root v w x is at =
-      let once = subst (λ k. k ≤ 1) (sym (w.leaves n)) (one_most (is_some (leaves_in m n))) in
+      let once = (once_but w).leaves n in
       let p = tree_put n value x w.part.tree is at once in
       let table = subst IsTable p.was (tree_is_table w.part.low w.part.tree w.part.is) in
       (whole_and_shown m new n value root v w).1 ∙ p.now ∙ sym (placed_in n value p.front p.back x.entry table)
@@ -247,7 +248,7 @@ module _ {V : Type 0} where
   lent_counted m root w key rank o room counts some tells h value counted r fits =
       let told = subst (λ o. Tells (Finds (HasPair key rank) (In w.part)) o) some tells in
       let n = room.number in
-      let once = subst (λ k. k ≤ 1) (sym (w.leaves n)) (one_most (is_some (leaves_in m n))) in
+      let once = (once_but w).leaves n in
       let p = tree_put n value told.0 w.part.tree (ap (λ i. i.number) told.1) told.2.0 once in
       counted r fits ∙ ap (of_rank r) (shown_is w) ∙ sym (counted_put n value told.0.entry _ _ p r)
       ∙ ap (of_rank r) (sym (whole_and_shown m (put_value m room value) n value root (put_valued m room value h) w).1)

@@ -1,8 +1,8 @@
 -- A value in a room changes: the tree with it, which the rooms stand for as before.
-use Rattle.radix_tree.proofs.Words.{◌≡◌, ℕ, ◌+◌, ◌≤◌, ◌==◌, ◌⊎◌, Bool, true, false, if◌then◌else◌, List, [], ◌∷◌, Option, Some, None, refl, sym, ap, ◌∙◌}
-use Rattle.radix_tree.proofs.Words.{subst, inl, inr, Id, Placed, Tree, leaf, fork, IsAmong, IsIn, IsChain, HaveBit, IsTree, LeafPart, Leaves, Bits, Heads}
-use Rattle.radix_tree.proofs.Words.{Masks, leaf_part, first_room, name_of, ChainStands, Stands, MasksStand, Falls, IsList, Lists, one_if, members_at}
-use Rattle.radix_tree.proofs.Words.{leaves_at, forks_at, HasHome, AreIdle, HasOneFork, HaveOneFork}
+use Rattle.radix_tree.proofs.Words.{◌≡◌, ℕ, ◌+◌, ◌≤◌, ◌==◌, Bool, true, false, if◌then◌else◌, List, ◌∷◌, Option, Some, None, refl, sym, ap, ◌∙◌, subst}
+use Rattle.radix_tree.proofs.Words.{inl, inr, Id, Placed, Tree, leaf, fork, IsAmong, IsIn, IsChain, HaveBit, IsTree, LeafPart, Leaves, Bits, Heads, Masks}
+use Rattle.radix_tree.proofs.Words.{leaf_part, first_room, name_of, ChainStands, Stands, MasksStand, Falls, IsMarked, MarkedIn, MarkedLists, one_if}
+use Rattle.radix_tree.proofs.Words.{members_at, leaves_at, forks_at, HasHome, AreIdle, HasOneFork, HaveOneFork, []}
 
 pub true_false : true ≡ false → ⊥
 true_false e = cc
@@ -135,6 +135,16 @@ module _ {V : Type 0} (n : ℕ) (value : V) where
     ])
   ]
 
+  home_was : (key rank : ℕ) (t : Tree V) → HasHome key rank (tree_valued t) → HasHome key rank t
+  home_was key rank (leaf x xs) home = absurd home
+  home_was key rank (fork room b zero one) home = elim home [
+    | inl here ↦ inl here
+    | inr further ↦ inr (elim further [
+      | inl left ↦ inl (left.0, home_was key rank zero left.1)
+      | inr right ↦ inr (right.0, home_was key rank one right.1)
+    ])
+  ]
+
   -- ---- its lists of masks
   masks_stand : (K : Masks) (ms : List (Placed V)) → MasksStand K ms → MasksStand K (all_valued ms)
   masks_stand K [] stands = tt
@@ -145,30 +155,28 @@ module _ {V : Type 0} (n : ℕ) (value : V) where
   falls_valued low top [] falls = tt
   falls_valued low top (x ∷ xs) falls = (falls.0, falls.1, falls_valued low x.entry.rank xs falls.2)
 
-  list_valued : (K : Masks) (first : Option Id) (low b : ℕ) (zero one : Tree V) → IsList K first low b zero one
-      → IsList K first low b (tree_valued zero) (tree_valued one)
-  list_valued K first low b zero one l = record {
-    masks = all_valued l.masks;
-    begins = first_valued l.masks ∙ l.begins;
-    stands = masks_stand K l.masks l.stands;
-    falls = falls_valued low (b + 1) l.masks l.falls;
-    has = λ y at least most. let w = side_was zero one y at in
-        subst (λ y. IsAmong y (all_valued l.masks)) w.2 (among_valued w.0 l.masks (l.has w.0 w.1
-        (subst (λ y. low ≤ y.entry.rank) (sym w.2) least) (subst (λ y. y.entry.rank ≤ b) (sym w.2) most)));
-    beneath = λ y among. let w = among_was y l.masks among in subst (λ y. IsIn y (tree_valued zero) ⊎ IsIn y (tree_valued one)) w.2
-        (side_valued zero one w.0 (l.beneath w.0 w.1));
-  }
-    where
-      side_was : (zero one : Tree V) (y : Placed V) → IsIn y (tree_valued zero) ⊎ IsIn y (tree_valued one) → Was (λ x. IsIn x zero ⊎ IsIn x one) y
-      side_was zero one y at = elim at [
-        | inl left ↦ let w = in_was y zero left in (w.0, inl w.1, w.2)
-        | inr right ↦ let w = in_was y one right in (w.0, inr w.1, w.2)
-      ]
-
-      side_valued : (zero one : Tree V) (x : Placed V) → IsIn x zero ⊎ IsIn x one → IsIn (valued x) (tree_valued zero) ⊎ IsIn (valued x) (tree_valued one)
-      side_valued zero one x at = elim at [ inl left ↦ inl (in_valued x zero left) | inr right ↦ inr (in_valued x one right) ]
-
-  pub lists_valued : (H : Heads) (K : Masks) (low : ℕ) (t : Tree V) → Lists H K low t → Lists H K low (tree_valued t)
+  pub lists_valued : (H : Heads) (K : Masks) (low : ℕ) (t : Tree V) → MarkedLists H K low t → MarkedLists H K low (tree_valued t)
   lists_valued H K low (leaf x xs) lists = tt
   lists_valued H K low (fork room b zero one) lists =
-      (list_valued K (H room.number) low b zero one lists.0, lists_valued H K (b + 1) zero lists.1, lists_valued H K (b + 1) one lists.2)
+      let t = fork room b zero one in
+      let l = lists.0 in (
+        record {
+          masks = all_valued l.masks;
+          begins = first_valued l.masks ∙ l.begins;
+          stands = masks_stand K l.masks l.stands;
+          falls = falls_valued low (b + 1) l.masks l.falls;
+          has = λ y member least most. let w = in_was y t member.0 in
+              subst (λ y. IsAmong y (all_valued l.masks)) w.2 (among_valued w.0 l.masks (l.has w.0 (w.1, subst (IsMarked K) (sym w.2) member.1)
+              (subst (λ y. low ≤ y.entry.rank) (sym w.2) least) (subst (λ y. y.entry.rank ≤ b) (sym w.2) most)));
+          within = λ y among. let w = among_was y l.masks among in
+              let member = l.within w.0 w.1 in subst (MarkedIn K (tree_valued t)) w.2 (in_valued w.0 t member.0, member.1);
+        },
+        lists_valued H K (b + 1) zero lists.1,
+        lists_valued H K (b + 1) one lists.2,
+      )
+
+  -- a route of it has its home where it had it
+  pub all_valued_in : (t : Tree V) (M : Placed V → Type 0) → ((x : Placed V) → IsIn x t → HasHome x.entry.key x.entry.rank t → M (valued x))
+      → (y : Placed V) → IsIn y (tree_valued t) → HasHome y.entry.key y.entry.rank (tree_valued t) → M y
+  all_valued_in t M all y at home = let w = in_was y t at in
+      subst M w.2 (all w.0 w.1 (home_was w.0.entry.key w.0.entry.rank t (subst (λ y. HasHome y.entry.key y.entry.rank (tree_valued t)) (sym w.2) home)))

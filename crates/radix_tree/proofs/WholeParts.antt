@@ -1,9 +1,8 @@
 -- A table's rooms as a whole, where no route is late and no room is on its way out.
-use Rattle.radix_tree.proofs.{AddressBits.zero_not_one, TreeMembers.bit_beneath, PlugLists.stands_marked}
-use Rattle.radix_tree.proofs.Words.{◌≡◌, ℕ, ◌+◌, ◌<◌, ◌≤◌, ◌⊎◌, Bool, true, false, Option, Some, None, refl, inl, inr, arith, cases_lt, is_some, Id, Node}
-use Rattle.radix_tree.proofs.Words.{Placed, Tree, leaf, fork, IsIn, IsTree, MaskPart, Heads, Masks, Part, Lists, leaves_in, bits_in, heads_in, masks_in}
-use Rattle.radix_tree.proofs.Words.{one_if, leaves_at, forks_at, HasHome, IsWhole, AreOnce, IsMarked, MarkedLists, IsWholeBut, nobody_late, nobody_out}
-use Rattle.radix_tree.proofs.Words.{Lodged}
+use Rattle.radix_tree.proofs.{TreeMembers.bit_beneath}
+use Rattle.radix_tree.proofs.Words.{◌≡◌, ℕ, ◌+◌, ◌<◌, ◌≤◌, ◌⊎◌, Bool, true, false, Option, Some, None, refl, inl, inr, arith, is_some, Node, Placed, Tree}
+use Rattle.radix_tree.proofs.Words.{leaf, fork, IsIn, IsTree, MaskPart, Heads, Masks, Part, Lists, leaves_in, bits_in, heads_in, masks_in, one_if}
+use Rattle.radix_tree.proofs.Words.{leaves_at, forks_at, HasHome, IsWhole, AreOnce, IsMarked, MarkedLists, IsWholeBut, nobody_out, Lodged, AreListed}
 
 pub one_if_most : (b : Bool) → one_if b ≤ 1
 one_if_most true = omega arith
@@ -18,53 +17,9 @@ some_of (Some p) e = (p, refl)
 
 module _ {V : Type 0} where
   -- ---- no route late, and no room on its way out
-  pub home_zero : (low b : ℕ) (room : Id) (zero one : Tree V) → IsTree low (fork room b zero one) → (x : Placed V) → IsIn x zero → b < x.entry.rank
-      → HasHome x.entry.key x.entry.rank (fork room b zero one) → HasHome x.entry.key x.entry.rank zero
-  home_zero low b room zero one is x at past home = elim home [
-    | inl here ↦ absurd (omega arith)
-    | inr beneath ↦ elim beneath [
-      | inl left ↦ left.1
-      | inr right ↦ absurd (zero_not_one (bit_beneath (b + 1) b 0 zero is.1 is.0.zeros x at) right.0)
-    ]
-  ]
-
-  pub home_one : (low b : ℕ) (room : Id) (zero one : Tree V) → IsTree low (fork room b zero one) → (x : Placed V) → IsIn x one → b < x.entry.rank
-      → HasHome x.entry.key x.entry.rank (fork room b zero one) → HasHome x.entry.key x.entry.rank one
-  home_one low b room zero one is x at past home = elim home [
-    | inl here ↦ absurd (omega arith)
-    | inr beneath ↦ elim beneath [ inl left ↦ absurd (zero_not_one left.0 (bit_beneath (b + 1) b 1 one is.2 is.0.ones x at)) | inr right ↦ right.1 ]
-  ]
-
-  -- where all masks with a home are listed, each route that has one is marked
-  pub listed_marked : (H : Heads) (K : Masks) (low : ℕ) (t : Tree V) → IsTree low t → Lists H K low t → (x : Placed V) → IsIn x t → low ≤ x.entry.rank
-      → HasHome x.entry.key x.entry.rank t → IsMarked K x
-  listed_marked H K low (leaf y ys) is lists x at least home = absurd home
-  listed_marked H K low (fork room b zero one) is lists x at least home = elim (cases_lt b x.entry.rank) [
-    | inl past ↦ elim at [
-      | inl left ↦ listed_marked H K (b + 1) zero is.1 lists.1 x left (omega arith) (home_zero low b room zero one is x left past home)
-      | inr right ↦ listed_marked H K (b + 1) one is.2 lists.2 x right (omega arith) (home_one low b room zero one is x right past home)
-    ]
-    | inr here ↦ stands_marked K lists.0.masks lists.0.stands x (lists.0.has x at least here)
-  ]
-
-  pub lists_marked : (H : Heads) (K : Masks) (low : ℕ) (t : Tree V) → Lists H K low t → MarkedLists H K low t
-  lists_marked H K low (leaf x xs) lists = tt
-  lists_marked H K low (fork room b zero one) lists =
-      let list = lists.0 in (
-        record {
-          masks = list.masks;
-          begins = list.begins;
-          stands = list.stands;
-          falls = list.falls;
-          has = λ x member least most. list.has x member.0 least most;
-          within = λ x among. (list.beneath x among, stands_marked K list.masks list.stands x among);
-        },
-        lists_marked H K (b + 1) zero lists.1,
-        lists_marked H K (b + 1) one lists.2,
-      )
-
-  pub marked_lists : (H : Heads) (K : Masks) (low : ℕ) (t : Tree V) → IsTree low t
-      → ((x : Placed V) → IsIn x t → HasHome x.entry.key x.entry.rank t → IsMarked K x) → MarkedLists H K low t → Lists H K low t
+  -- where all routes with a home are marked, all are listed
+  marked_lists : (H : Heads) (K : Masks) (low : ℕ) (t : Tree V) → IsTree low t
+      → ((x : Placed V) → IsIn x t → HasHome x.entry.key x.entry.rank t → IsMarked K x) → MarkedLists H K low t → Lists (λ x. Unit {0}) H K low t
   marked_lists H K low (leaf x xs) is all lists = tt
   marked_lists H K low (fork room b zero one) is all lists =
       let list = lists.0 in (
@@ -73,40 +28,16 @@ module _ {V : Type 0} where
           begins = list.begins;
           stands = list.stands;
           falls = list.falls;
-          has = λ x at least most. list.has x (at, all x at (inl most)) least most;
-          beneath = λ x among. (list.within x among).0;
+          has = λ x member least most. list.has x (member.0, all x member.0 (inl most)) least most;
+          within = λ x among. ((list.within x among).0, tt);
         },
         marked_lists H K (b + 1) zero is.1 (λ x at home. all x (inl at) (inr (inl (bit_beneath (b + 1) b 0 zero is.1 is.0.zeros x at, home)))) lists.1,
         marked_lists H K (b + 1) one is.2 (λ x at home. all x (inr at) (inr (inr (bit_beneath (b + 1) b 1 one is.2 is.0.ones x at, home)))) lists.2,
       )
 
-  abbrev pub whole_but : {m : Lodged V} {root : Node} → IsWhole m root → IsWholeBut m root nobody_late nobody_out
-  whole_but {m = m} w = record {
-    part = w.part;
-    low = w.low;
-    top = w.top;
-    named = w.named;
-    leaves = λ n. let e = w.leaves n in omega arith;
-    forks = w.forks;
-    spare = w.spare;
-    lists = lists_marked (heads_in m) (masks_in m) w.part.low w.part.tree w.lists;
-    listed = w.listed;
-    all = λ x at home. let low = w.low in inl (listed_marked (heads_in m) (masks_in m) w.part.low w.part.tree w.part.is w.lists x at (omega arith) home);
-  }
-
-  pub but_whole : (m : Lodged V) (root : Node) → IsWholeBut m root nobody_late nobody_out → IsWhole m root
-  but_whole m root w = record {
-    part = w.part;
-    low = w.low;
-    top = w.top;
-    named = w.named;
-    leaves = λ n. let e = w.leaves n in omega arith;
-    forks = w.forks;
-    spare = w.spare;
-    lists = marked_lists (heads_in m) (masks_in m) w.part.low w.part.tree w.part.is
-        (λ x at home. elim (w.all x at home) [ inl marked ↦ marked | inr late ↦ absurd (false_not_true late) ]) w.lists;
-    listed = w.listed;
-  }
+  pub whole_listed : {m : Lodged V} {root : Node} (w : IsWhole m root) → AreListed m w.part
+  whole_listed {m = m} w = marked_lists (heads_in m) (masks_in m) w.part.low w.part.tree w.part.is
+      (λ x at home. elim (w.all x at home) [ inl marked ↦ marked | inr late ↦ absurd (false_not_true late) ]) w.lists
 
   -- the routes that are late may be told anew: each route with a home is marked or among them
   abbrev pub with_late : {m : Lodged V} {root : Node} {late : ℕ → Bool} {out : ℕ → ℕ} (later : ℕ → Bool) (w : IsWholeBut m root late out)

@@ -4,11 +4,10 @@ use Rattle.std.specs.Prelude.{ℕ, ◌≡◌, ◌<◌, ◌≤◌, ◌⊎◌, ◌
 use Rattle.radix_nodes.specs.declared.id.Id.{Id}
 use Rattle.radix_nodes.specs.declared.links.Node.{Node}
 use Rattle.radix_tree.specs.Tree.{Placed, Tree, leaf, fork, bit_at, IsIn}
-use Rattle.radix_tree.specs.Rooms.{LeafPart, MaskPart, Part, leaves_in, heads_in, masks_in, Lodged}
+use Rattle.radix_tree.specs.Rooms.{LeafPart, MaskPart, Part, leaves_in, heads_in, masks_in, Lodged, IsMarked, MarkedLists}
 use Rattle.radix_tree.specs.Whole.{forks_at, HasHome}
 use Rattle.radix_tree.specs.Searches.{Way}
 use Rattle.radix_tree.specs.Growth.{AreOnce}
-use Rattle.radix_tree.specs.Marks.{IsMarked, MarkedLists}
 
 -- of a bit node's two nodes the one that is not on the side of a key
 abbrev pub other_side : ℕ → ℕ → Node → Node → Node

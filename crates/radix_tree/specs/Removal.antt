@@ -5,9 +5,9 @@ use Rattle.radix_nodes.specs.declared.id.Id.{Id}
 use Rattle.radix_nodes.specs.declared.links.Node.{Node}
 use Rattle.radix_nodes.specs.declared.links.Node.TheVariants.{Leaf as LeafOf, Bit as BitOf}
 use Rattle.radix_tree.specs.Rooms.{LeafPart, BitPart, leaves_in, bits_in, Lodged}
-use Rattle.radix_tree.specs.Whole.{shown, shown_entry}
+use Rattle.radix_tree.specs.Whole.{shown, shown_entry, IsWholeBut, nobody_late}
 use Rattle.radix_tree.specs.Growth.{Gains}
-use Rattle.radix_tree.specs.Marks.{IsWholeBut, has_key, nobody_late, out_at}
+use Rattle.radix_tree.specs.Marks.{has_key, out_at}
 use Rattle.radix_tree.specs.declared.entry.Entry.{Entry}
 
 -- a name, once the bit node of one room is in another room

@@ -1,6 +1,6 @@
 -- The rooms that a tree stands in. A room is a leaf, can be a bit node besides, and can be a mask node: what the rooms
 -- say is told for each of these roles by itself, so that a change of one leaves the others as they are.
-use Rattle.std.specs.Prelude.{◌≡◌, ℕ, ◌+◌, ◌<◌, ◌≤◌, ◌⊎◌, List, [], ◌∷◌, Option, None, Some}
+use Rattle.std.specs.Prelude.{◌≡◌, ℕ, ◌+◌, ◌<◌, ◌≤◌, true, List, [], ◌∷◌, Option, None, Some, is_some}
 use Rattle.std.specs.Ordering.{nat_cmp}
 use Rattle.std.specs.FinMap.{FinMap, get}
 use denote.RawPtr.{Ptr}
@@ -138,20 +138,34 @@ module _ {V : Type 0} where
   Falls low top [] = Unit {0}
   Falls low top (x ∷ xs) = (low ≤ x.entry.rank) × (x.entry.rank < top) × Falls low x.entry.rank xs
 
-  -- the list of a bit node beneath those of bits before low: longer masks first, it has the routes beneath the node
-  -- whose ranks are at or past low and not past its bit, which are those that have no such node further up
-  pub record IsList (K : Masks) (first : Option Id) (low b : ℕ) (zero one : Tree V) : Type 0 where
+  -- a list of masks, longer ones first: of those of M whose ranks are at or past low and not past a bit
+  pub record IsMaskList (K : Masks) (first : Option Id) (low b : ℕ) (M : Placed V → Type 0) : Type 0 where
     pub masks : List (Placed V)
     pub begins : first_room masks ≡ first
     pub stands : MasksStand K masks
     pub falls : Falls low (b + 1) masks
-    pub has : (x : Placed V) → IsIn x zero ⊎ IsIn x one → low ≤ x.entry.rank → x.entry.rank ≤ b → IsAmong x masks
-    pub beneath : (x : Placed V) → IsAmong x masks → IsIn x zero ⊎ IsIn x one
+    pub has : (x : Placed V) → M x → low ≤ x.entry.rank → x.entry.rank ≤ b → IsAmong x masks
+    pub within : (x : Placed V) → IsAmong x masks → M x
 
-  abbrev pub Lists : Heads → Masks → ℕ → Tree V → Type 0
-  Lists H K low (leaf x xs) = Unit {0}
-  Lists H K low (fork room b zero one) =
-      IsList K (H room.number) low b zero one × Lists H K (b + 1) zero × Lists H K (b + 1) one
+  -- each bit node beneath those of bits before low lists the routes of M beneath it whose ranks are at or past low and
+  -- not past its bit, which are those that have no such node further up
+  abbrev pub Lists : (Placed V → Type 0) → Heads → Masks → ℕ → Tree V → Type 0
+  Lists M H K low (leaf x xs) = Unit {0}
+  Lists M H K low (fork room b zero one) =
+      IsMaskList K (H room.number) low b (λ x. IsIn x (fork room b zero one) × M x)
+      × Lists M H K (b + 1) zero × Lists M H K (b + 1) one
+
+  -- the route's mask is listed somewhere
+  abbrev pub IsMarked : Masks → Placed V → Type 0
+  IsMarked K x = is_some (K x.room.number) ≡ true
+
+  -- the routes of a tree whose masks are listed somewhere
+  abbrev pub MarkedIn : Masks → Tree V → Placed V → Type 0
+  MarkedIn K t x = IsIn x t × IsMarked K x
+
+  -- the masks that are listed are where they belong
+  abbrev pub MarkedLists : Heads → Masks → ℕ → Tree V → Type 0
+  MarkedLists H K low t = Lists (IsMarked K) H K low t
 
   -- ---- a tree, or a part of one, in the rooms of a map
   pub record Part (m : Lodged V) : Type 0 where
@@ -161,9 +175,9 @@ module _ {V : Type 0} where
     pub is : IsTree low tree
     pub stands : Stands (leaves_in m) (bits_in m) above tree
 
-  -- the rooms list the masks of a part
+  -- the rooms list the masks of all routes of a part
   abbrev pub AreListed : (m : Lodged V) → Part m → Type 0
-  AreListed m p = Lists (heads_in m) (masks_in m) p.low p.tree
+  AreListed m p = Lists (λ x. Unit {0}) (heads_in m) (masks_in m) p.low p.tree
 
   -- part of a chain
   pub record Run (m : Lodged V) : Type 0 where

@@ -5,12 +5,20 @@ use Rattle.radix_nodes.specs.declared.links.Node.{Node}
 use Rattle.radix_nodes.specs.declared.links.Node.TheVariants.{Leaf as LeafOf, Bit as BitOf}
 use Rattle.radix_tree.specs.Bounds.{levels, ranks}
 use Rattle.radix_tree.specs.Tree.{Placed, Tree, leaf, fork, bit_at, IsIn}
-use Rattle.radix_tree.specs.Rooms.{LeafPart, BitPart, MaskPart, Leaves, Bits, Part, AreListed, leaves_in, bits_in, masks_in, name_of, Lodged}
+use Rattle.radix_tree.specs.Rooms.{LeafPart, BitPart, MaskPart, Leaves, Bits, Part, IsMarked, MarkedLists, leaves_in, bits_in, heads_in}
+use Rattle.radix_tree.specs.Rooms.{masks_in, name_of, Lodged}
 use Rattle.radix_tree.specs.declared.entry.Entry.{Entry}
 
 abbrev pub one_if : Bool → ℕ
 one_if true = 1
 one_if false = 0
+
+-- no route is late, and no room is on its way out
+abbrev pub nobody_late : ℕ → Bool
+nobody_late n = false
+
+abbrev pub nobody_out : ℕ → ℕ
+nobody_out n = 0
 
 module _ {V : Type 0} where
   -- ---- the routes that rooms show, with no word of a tree
@@ -75,18 +83,24 @@ module _ {V : Type 0} where
   HaveOneFork B (fork room b left right) = HaveOneFork B left × HaveOneFork B right
 
   -- the rooms of a map stand for a tree: each is a leaf of it once, and each bit node in use is one of it once; no mask
-  -- is listed but the tree's
-  pub record IsWhole (m : Lodged V) (root : Node) : Type 0 where
+  -- is listed but the tree's. On the way of a change the masks of the routes in some rooms may not be listed, and some
+  -- rooms are not of the tree
+  pub record IsWholeBut (m : Lodged V) (root : Node) (late : ℕ → Bool) (out : ℕ → ℕ) : Type 0 where
     pub part : Part m
     pub low : part.low ≡ 0
     pub top : part.above ≡ None
     pub named : name_of part.tree ≡ root
-    pub leaves : (n : ℕ) → leaves_at n part.tree ≡ one_if (is_some (leaves_in m n))
+    pub leaves : (n : ℕ) → leaves_at n part.tree + out n ≡ one_if (is_some (leaves_in m n))
     pub forks : (n : ℕ) → forks_at n part.tree ≡ one_if (is_some (bits_in m n))
     pub spare : HaveOneFork (bits_in m) part.tree
-    pub lists : AreListed m part
+    pub lists : MarkedLists (heads_in m) (masks_in m) part.low part.tree
     pub listed : (n : ℕ) (p : MaskPart) → masks_in m n ≡ Some p
         → (x : Placed V) × IsIn x part.tree × (x.room.number ≡ n) × HasHome x.entry.key x.entry.rank part.tree
+    pub all : (x : Placed V) → IsIn x part.tree → HasHome x.entry.key x.entry.rank part.tree
+        → IsMarked (masks_in m) x ⊎ (late x.room.number ≡ true)
+
+  abbrev pub IsWhole : Lodged V → Node → Type 0
+  IsWhole m root = IsWholeBut m root nobody_late nobody_out
 
   -- where there is a root there is a tree, and else no room
   abbrev pub Holds : Lodged V → Option Node → Type 0

@@ -5,13 +5,13 @@ ghost use Rattle.radix_nodes.specs.declared.links.Node.TheVariants.{Leaf as Leaf
 ghost use Rattle.radix_tree.specs.Chains.{name_next as next_named, name_back as back_named};
 ghost use Rattle.radix_tree.specs.Chains.{link_out as linked_out, root_past, FindsGap};
 ghost use Rattle.radix_tree.specs.Growth.{Gains, name_child as child_named, IsSpare, HasKeyAt};
-ghost use Rattle.radix_tree.specs.Marks.{IsWholeBut, HasRoomMore, has_key, late_at, nobody_late, out_at, nobody_out};
+ghost use Rattle.radix_tree.specs.Marks.{HasRoomMore, has_key, late_at, out_at};
 ghost use Rattle.radix_tree.specs.Removal.{KeepsRoutes, LosesRoute};
 ghost use Rattle.radix_tree.specs.Rooms.{LeafPart, BitPart, Part, Run, leaves_in, bits_in, masks_in, first_room};
 ghost use Rattle.radix_tree.specs.Searches.{ForkAt, HasPair};
 ghost use Rattle.radix_tree.specs.Table.{IsRoute};
 ghost use Rattle.radix_tree.specs.Tree.{Placed, IsIn};
-ghost use Rattle.radix_tree.specs.Whole.{IsWhole, shown};
+ghost use Rattle.radix_tree.specs.Whole.{IsWhole, shown, IsWholeBut, nobody_late, nobody_out};
 ghost use Rattle.radix_tree.specs.Writes.{KeepsMasks, OnlyLeaves, OnlyBits};
 ghost use Rattle.radix_tree.specs.Reads.{Stays};
 

@@ -6,11 +6,11 @@ ghost use Rattle.radix_tree.specs.Bounds.{last_bit};
 ghost use Rattle.radix_tree.specs.Exchange.{Exchanged};
 ghost use Rattle.radix_tree.specs.Growth.{Gains, Differs, IsSpot, IsLodged, IsBeside, forked, forked_tree, placed};
 ghost use Rattle.radix_tree.specs.Growth.{with_head, root_after as root_with, IsSpare, DiffersAt};
-ghost use Rattle.radix_tree.specs.Marks.{HasRoomMore, IsWholeBut, nobody_out, has_key};
+ghost use Rattle.radix_tree.specs.Marks.{HasRoomMore, has_key};
 ghost use Rattle.radix_tree.specs.Rooms.{Part, LeafPart, bit_part, leaves_in, heads_in, masks_in, name_of};
 ghost use Rattle.radix_tree.specs.Searches.{LedTo};
 ghost use Rattle.radix_tree.specs.Table.{IsRoute};
-ghost use Rattle.radix_tree.specs.Whole.{IsWhole, shown};
+ghost use Rattle.radix_tree.specs.Whole.{IsWhole, shown, IsWholeBut, nobody_out};
 ghost use Rattle.radix_tree.specs.Writes.{KeepsMasks};
 ghost use Rattle.radix_tree.specs.Reads.{Stays};
 

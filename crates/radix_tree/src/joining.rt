@@ -1,10 +1,12 @@
 //! How a route that is alone at its leaf goes from a tree.
 ghost use Rattle.std.specs.Prelude.{◌≡◌, ℕ, ◌≤◌, true, Some, None};
 ghost use Rattle.radix_nodes.specs.Rooms.{Has};
+ghost use Rattle.radix_tree.specs.Rooms.{MarkedLists};
+ghost use Rattle.radix_tree.specs.Whole.{IsWholeBut, nobody_late, nobody_out};
 ghost use Rattle.radix_tree.specs.Bounds.{last_bit};
 ghost use Rattle.radix_tree.specs.Growth.{name_child as child_named};
 ghost use Rattle.radix_tree.specs.Joining.{other_side, IsApart, IsLone, IsHanded, IsLonely};
-ghost use Rattle.radix_tree.specs.Marks.{IsWholeBut, MarkedLists, has_key, nobody_late, nobody_out, late_at, out_at};
+ghost use Rattle.radix_tree.specs.Marks.{has_key, late_at, out_at};
 ghost use Rattle.radix_tree.specs.Rooms.{LeafPart, Part, leaves_in, bits_in, heads_in, masks_in, name_of};
 ghost use Rattle.radix_tree.specs.Removal.{KeepsRoutes, LosesRoute};
 ghost use Rattle.radix_tree.specs.Searches.{ForkAt};

@@ -5,8 +5,8 @@ ghost use Rattle.radix_nodes.specs.declared.links.Node.{Node as Named};
 ghost use Rattle.radix_tree.specs.Tree.{Placed, IsAmong, IsIn};
 ghost use Rattle.radix_tree.specs.Rooms.{LeafPart, Run, leaves_in, masks_in, first_room};
 ghost use Rattle.radix_tree.specs.MaskLists.{IsHome, KeepsMarksBut};
-ghost use Rattle.radix_tree.specs.Whole.{IsWhole};
-ghost use Rattle.radix_tree.specs.Marks.{IsWholeBut, has_key, late_at, nobody_out, ListsMaskOf};
+ghost use Rattle.radix_tree.specs.Whole.{IsWhole, IsWholeBut, nobody_out};
+ghost use Rattle.radix_tree.specs.Marks.{has_key, late_at, ListsMaskOf};
 ghost use Rattle.radix_tree.specs.Writes.{KeepsTree};
 ghost use Rattle.radix_tree.specs.Reads.{Stays};
 

@@ -2,10 +2,10 @@
 ghost use Rattle.std.specs.Prelude.{◌≡◌, None, Some};
 ghost use Rattle.std.specs.FinMap.{get};
 ghost use Rattle.radix_nodes.specs.Rooms.{Has};
-ghost use Rattle.radix_tree.specs.Marks.{IsWholeBut, HasRoomMore, late_at, nobody_out};
+ghost use Rattle.radix_tree.specs.Marks.{HasRoomMore, late_at};
 ghost use Rattle.radix_tree.specs.Removal.{KeepsRoutes, IsOut, member_beside, LosesRoute};
 ghost use Rattle.radix_tree.specs.Rooms.{LeafPart, leaves_in, masks_in};
-ghost use Rattle.radix_tree.specs.Whole.{IsWhole, Holds};
+ghost use Rattle.radix_tree.specs.Whole.{IsWhole, Holds, IsWholeBut, nobody_out};
 ghost use Rattle.radix_tree.specs.Reads.{Stays};
 
 use crate::chains::remove_from_chain;

@@ -1,5 +1,5 @@
 use Rattle.radix_tree.proofs.{Climbs.begun, Climbs.over, Climbs.fork_over, Climbs.used, Climbs.risen, Climbs.ended, Lifts.Has-leaf_at, Parts.chain_led}
-use Rattle.radix_tree.proofs.{Parts.way_lists, Ups.leaf_hit, Ups.searched, Ups.hit, Ups.miss}
+use Rattle.radix_tree.proofs.{Parts.way_lists, Ups.leaf_hit, Ups.searched, Ups.hit, Ups.miss, WholeParts.whole_listed}
 use Rattle.radix_tree.proofs.Words.{◌∙◌, subst, None, arith, Best, In}
 use Rattle.radix_tree.proofs.backtracking.best_room.Goals as goal
 
@@ -35,20 +35,20 @@ bit_node-node-requires-clause-used g c = let w = c.requires.whole in used (fork_
 pub best_listed-requires-clause-node : goal.best_listed-requires-clause-node
 best_listed-requires-clause-node g c =
     let w = c.requires.whole in
-    let o = over w.top (c.loop-at.invariant.climb w) c.in-Some-at.is in (o.part, fork_over o, way_lists _ c.args.address w.part o.part o.ups o.way w.lists)
+    let o = over w.top (c.loop-at.invariant.climb w) c.in-Some-at.is in (o.part, fork_over o, way_lists (λ x. Unit {0}) c.args.address w.part o.part o.ups o.way (whole_listed w))
 
 pub returns-in-Some-best_listed-clause-best : goal.returns-in-Some-best_listed-clause-best
 returns-in-Some-best_listed-clause-best g c w =
     let o = over w.top (c.loop-at.invariant.climb w) c.in-Some-at.is in
     hit o (c.loop-at.invariant.climb w).holds c.in-Some-best_listed.is (c.best_listed.ensures.best o.part (fork_over o)
-    (way_lists _ c.args.address w.part o.part o.ups o.way w.lists))
+    (way_lists (λ x. Unit {0}) c.args.address w.part o.part o.ups o.way (whole_listed w)))
 
 pub returns-in-Some-best_listed-clause-visits : goal.returns-in-Some-best_listed-clause-visits
 returns-in-Some-best_listed-clause-visits g c =
     let w = c.requires.whole in
     let s = (c.loop-at.invariant.climb w).holds in
     let o = over w.top (c.loop-at.invariant.climb w) c.in-Some-at.is in
-    let more = c.best_listed.ensures.visits o.part (fork_over o) (way_lists _ c.args.address w.part o.part o.ups o.way w.lists) in
+    let more = c.best_listed.ensures.visits o.part (fork_over o) (way_lists (λ x. Unit {0}) c.args.address w.part o.part o.ups o.way (whole_listed w)) in
     record {
       turn = more.turn ∙ c.bit_node-node.ensures.visit.turn ∙ c.loop-at.invariant.turn;
       rises = omega (arith, s.rises, more.rises);
@@ -60,18 +60,18 @@ loop-at-smaller g c =
     let w = c.requires.whole in
     let s = (c.loop-at.invariant.climb w).holds in
     let o = over w.top (c.loop-at.invariant.climb w) c.in-Some-at.is in
-    let more = c.best_listed.ensures.visits o.part (fork_over o) (way_lists _ c.args.address w.part o.part o.ups o.way w.lists) in
+    let more = c.best_listed.ensures.visits o.part (fork_over o) (way_lists (λ x. Unit {0}) c.args.address w.part o.part o.ups o.way (whole_listed w)) in
     omega (arith, more.rises, s.few, o.beneath.low)
 
 pub loop-at-preserved : goal.loop-at-preserved
 loop-at-preserved g c =
     let w = c.requires.whole in
     let o = over w.top (c.loop-at.invariant.climb w) c.in-Some-at.is in record {
-      turn = (c.best_listed.ensures.visits o.part (fork_over o) (way_lists _ c.args.address w.part o.part o.ups o.way w.lists)).turn
+      turn = (c.best_listed.ensures.visits o.part (fork_over o) (way_lists (λ x. Unit {0}) c.args.address w.part o.part o.ups o.way (whole_listed w))).turn
           ∙ c.bit_node-node.ensures.visit.turn ∙ c.loop-at.invariant.turn;
       climb = λ w.
           let o = over w.top (c.loop-at.invariant.climb w) c.in-Some-at.is in
-          let lists = way_lists _ c.args.address w.part o.part o.ups o.way w.lists in
+          let lists = way_lists (λ x. Unit {0}) c.args.address w.part o.part o.ups o.way (whole_listed w) in
           let more = c.best_listed.ensures.visits o.part (fork_over o) lists in
           risen o c.bit_node-node.ensures.node (miss o (c.loop-at.invariant.climb w).holds c.in_default-best_listed.is
           (c.best_listed.ensures.best o.part (fork_over o) lists)

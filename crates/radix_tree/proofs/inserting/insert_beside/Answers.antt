@@ -1,4 +1,4 @@
-use Rattle.radix_tree.proofs.{Parts.fork_named, MaskLists.bit_node_at, Cuts.list_at, WholeParts.whole_but, BesideWhole.new_key, BesideWhole.came_beside}
+use Rattle.radix_tree.proofs.{Parts.fork_named, MaskLists.bit_node_at, Cuts.list_at, BesideWhole.new_key, BesideWhole.came_beside}
 use Rattle.radix_tree.proofs.{BesideWhole.whole_beside, BesideWhole.routes_beside}
 use Rattle.radix_tree.proofs.Words.{◌≡◌, ◌==◌, ◌||◌, sym, ap, ◌∙◌, subst, get, Part, mask_in, LedTo, IsWhole, Differs, IsSpot, forked_tree, placed}
 use Rattle.radix_tree.proofs.Words.{Exchanged, IsWholeBut, HasRoomMore, has_key, nobody_out}
@@ -20,7 +20,7 @@ pub cut-masks-requires-clause-list : goal.cut-masks-requires-clause-list
 cut-masks-requires-clause-list g c fork is =
     let n = c.requires.new in
     let s = c.spot_above-spot.ensures.spot c.args.entry.key (new_key n.0 n.1 n.2) in
-    list_at (whole_but n.0) c.args.entry.key s.at s.ups s.way (s.named ∙ is)
+    list_at n.0 c.args.entry.key s.at s.ups s.way (s.named ∙ is)
 
 pub add_beside-requires-clause-spot : goal.add_beside-requires-clause-spot
 add_beside-requires-clause-spot g c =
@@ -69,14 +69,14 @@ returns-clause-whole g c w d differs =
     let p = part_of g c w s in
     subst (λ r. IsWholeBut c.add_beside.new.nodes.lodged c.add_beside.result.0
     (λ n. (n == r) || has_key c.args.nodes.now.lodged d.leaf.first.entry.key n) nobody_out) c.add_beside.ensures.number
-    (whole_beside (whole_but w) s d p.0 (came_of g c w s) p.1 p.2)
+    (whole_beside w s d p.0 (came_of g c w s) p.1 p.2)
 
 pub returns-clause-routes : goal.returns-clause-routes
 returns-clause-routes g c =
     let n = c.requires.new in
     let s = spot_of g c n.0 n.1 n.2 in
     let p = part_of g c n.0 s in
-    routes_beside (whole_but n.0) (placed c.add_beside.result.1 c.args.entry) s p.0 p.1 p.2
+    routes_beside n.0 (placed c.add_beside.result.1 c.args.entry) s p.0 p.1 p.2
 
 pub returns-clause-rooms : goal.returns-clause-rooms
 returns-clause-rooms g c =

@@ -1,7 +1,8 @@
+use Rattle.radix_tree.proofs.{Parts.way_lists}
 use Rattle.radix_tree.proofs.Words.{◌∙◌, ap, sym, subst, Some, IsLone, root_after, Gains, IsWholeBut, nobody_late, out_at, heads_in, name_of, shown}
-use Rattle.radix_tree.proofs.Words.{shown_entry}
+use Rattle.radix_tree.proofs.Words.{shown_entry, IsMarked, masks_in}
 use Rattle.radix_tree.proofs.JoinWhole.{IsJoined, handed_on, routes_kept, idle_stays, freed, whole_joined, routes_joined, own_leaf}
-use Rattle.radix_tree.proofs.JoinRooms.{lone_read, never_top, key_read, Has-up, Has-routes, never_unused, up_read, way_marked, above_after, beneath_after}
+use Rattle.radix_tree.proofs.JoinRooms.{lone_read, never_top, key_read, Has-up, Has-routes, never_unused, up_read, above_after, beneath_after}
 use Rattle.radix_tree.proofs.JoinRooms.{IsUp, joined, idle_joined}
 use Rattle.radix_tree.proofs.joining.remove_lone.Goals.{In-Some, In-Some-bit_node, After-root_after}
 use Rattle.radix_tree.proofs.JoinLinks.{Has-kept, head_off}
@@ -63,7 +64,7 @@ hand_masks_on-requires-clause-lone g c =
       u.to ∙ sym c.sibling_of-to.ensures,
       u.head,
       c.requires.unmarked,
-      way_marked l.route.entry.key c.requires.whole.part l.over l.ups l.way c.requires.whole.lists,
+      way_lists (IsMarked (masks_in c.args.nodes.now.lodged)) l.route.entry.key c.requires.whole.part l.over l.ups l.way c.requires.whole.lists,
     )
 
 pub join-requires-clause-up : goal.join-requires-clause-up
@@ -87,7 +88,7 @@ returns-clause-whole g c =
     let (l, u, j) = done g (goal.at.returns-clause-whole g c).After-root_after in
     let h = handed_on c.args.nodes.now.lodged c.hand_masks_on.new.nodes.lodged c.join.new.nodes.lodged c.args.at c.in-Some.up l
     (c.hand_masks_on.ensures.handed c.requires.whole.part c.args.at c.in-Some.up l (u.to ∙ sym c.sibling_of-to.ensures) u.head c.requires.unmarked
-    (way_marked l.route.entry.key c.requires.whole.part l.over l.ups l.way c.requires.whole.lists))
+    (way_lists (IsMarked (masks_in c.args.nodes.now.lodged)) l.route.entry.key c.requires.whole.part l.over l.ups l.way c.requires.whole.lists))
     c.join.ensures.masks (λ n other. c.join.ensures.heads n ∙ head_off c.in-Some.up n (heads_in c.hand_masks_on.new.nodes.lodged n) other) in
     subst (λ z. IsWholeBut c.join.new.nodes.lodged z nobody_late (out_at c.args.at.number))
     (ap (λ o. root_after o (name_of l.other) c.args.root) u.above

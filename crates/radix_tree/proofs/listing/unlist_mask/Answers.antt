@@ -1,18 +1,18 @@
-use Rattle.radix_tree.proofs.{WholeParts.whole_but, WholeParts.once_but, WholeParts.later_than, HomeLists.placed_in, HomeLists.true_false}
+use Rattle.radix_tree.proofs.{WholeParts.once_but, WholeParts.later_than, HomeLists.placed_in, HomeLists.true_false}
 use Rattle.radix_tree.proofs.{Listed.listed_less, Listed.homeless, Listed.homed, Listed.home_node, Listed.home_member, Listed.marked_at}
 use Rattle.radix_tree.proofs.Words.{sym, subst, nobody_late, late_at, IsHome}
 use Rattle.radix_tree.proofs.listing.unlist_mask.Goals as goal
 
 pub home_of-requires-clause-whole : goal.home_of-requires-clause-whole
-home_of-requires-clause-whole g c = let w = c.requires.whole in (w.0, nobody_late, whole_but w.1)
+home_of-requires-clause-whole g c = let w = c.requires.whole in (w.0, nobody_late, w.1)
 
 pub returns-in_default-clause-whole : goal.returns-in_default-clause-whole
-returns-in_default-clause-whole g c root is = later_than (late_at c.args.room.number) (λ n never. absurd (true_false (sym never))) (whole_but is)
+returns-in_default-clause-whole g c root is = later_than (late_at c.args.room.number) (λ n never. absurd (true_false (sym never))) is
 
 pub returns-in_default-clause-gone : goal.returns-in_default-clause-gone
 returns-in_default-clause-gone g c =
     let r = c.requires.whole in
-    let w = whole_but r.1 in
+    let w = r.1 in
     let y = placed_in w c.requires.there in
     homeless w c.args.room y.0 y.1 y.2
     (subst (IsHome c.args.nodes.now.lodged y.0.entry.key y.0.entry.rank w.part) c.in_default.is (c.home_of.ensures.home r.0 nobody_late w y.0 y.1 y.2))
@@ -20,21 +20,21 @@ returns-in_default-clause-gone g c =
 pub sort_out-requires-clause-node : goal.sort_out-requires-clause-node
 sort_out-requires-clause-node g c =
     let r = c.requires.whole in
-    let w = whole_but r.1 in
+    let w = r.1 in
     let y = placed_in w c.requires.there in
     home_node (homed w.part y.0 y.1 y.2 c.in-Some.is (c.home_of.ensures.home r.0 nobody_late w y.0 y.1 y.2))
 
 pub sort_out-requires-clause-list : goal.sort_out-requires-clause-list
 sort_out-requires-clause-list g c =
     let r = c.requires.whole in
-    let w = whole_but r.1 in
+    let w = r.1 in
     let y = placed_in w c.requires.there in
     let h = homed w.part y.0 y.1 y.2 c.in-Some.is (c.home_of.ensures.home r.0 nobody_late w y.0 y.1 y.2) in
     home_member w h (marked_at w h)
 
 pub returns-clause-whole : goal.returns-clause-whole
 returns-clause-whole g c root is =
-    let w = whole_but is in
+    let w = is in
     let y = placed_in w c.requires.there in
     let h = homed w.part y.0 y.1 y.2 c.in-Some.is (c.home_of.ensures.home root nobody_late w y.0 y.1 y.2) in
     listed_less c.args.nodes.now.lodged c.sort_out.new.nodes.lodged nobody_late w c.args.room c.in-Some.fork (once_but w) h (marked_at w h) (record {
