@@ -1,16 +1,26 @@
 -- A bit node in use moves from its room to another: the rooms before the writes and after them.
 use Rattle.radix_tree.proofs.{RoomReads.inside, RoomReads.none_some, RoomReads.AreLinks, RoomReads.head_read, Parts.fork_is, Parts.fork_stands}
-use Rattle.radix_tree.proofs.{Parts.Has-fork, Parts.zero_part, PartRooms.frame, PartRooms.way_once, PartRooms.way_counts, PartRooms.spine_out}
-use Rattle.radix_tree.proofs.{Forking.forks_there, Beside.misses_leaf, Beside.misses_bit, WaysDown.way_to_fork, WholeParts.once_but}
+use Rattle.radix_tree.proofs.{Parts.zero_part, PartRooms.frame, PartRooms.way_once, PartRooms.way_counts, PartRooms.spine_out, Forking.forks_there}
+use Rattle.radix_tree.proofs.{Beside.misses_leaf, Beside.misses_bit, WaysDown.way_to_fork, WholeParts.once_but, Lodging.over_at, Parts.bit_part_of}
 use Rattle.radix_tree.proofs.Words.{◌≡◌, ℕ, ◌+◌, ◌≤◌, ◌==◌, true, false, List, [], ◌∷◌, Option, Some, None, refl, sym, ap, ◌∙◌, subst, arith, is_some}
 use Rattle.radix_tree.proofs.Words.{Has, bit_node_of, Id, Links, Node, BitNode, BitPart, Part, leaves_in, bits_in, heads_in, bit_in, bit_part, head_part}
 use Rattle.radix_tree.proofs.Words.{name_of, ForkAt, Way, one_if, leaves_at, forks_at, AreOnce, IsWholeBut, nobody_late, out_at, put_bit, put_head}
-use Rattle.radix_tree.proofs.Words.{lift_leaf, lift_bit, KeepsMasks, rename, content_of, KeepsRoutes, CanTake, Lodged}
+use Rattle.radix_tree.proofs.Words.{lift_leaf, lift_bit, KeepsMasks, rename, content_of, KeepsRoutes, CanTake, Lodged, IsBitNode, LeafOf, BitOf}
+use Rattle.radix_tree.proofs.Words.{bit_above, if◌then◌else◌}
 use Rattle.radix_tree.proofs.MovedReads.{one_if_is, none_of, at_room, off_room, content_lift, lift_used, rename_used, leaf_off, bit_off}
 
 pub bit_said : (to : Id) (n : BitNode) {bit : ℕ} {left right : Node} {above : Option Id} → n.bit ≡ bit → n.zero ≡ left → n.one ≡ right → n.above ≡ above
     → bit_part to.block (Some n) ≡ Some (record { block = to.block; bit = bit; zero = left; one = right; above = above })
 bit_said to n bit_is left_is right_is above_is = cc
+
+-- a bit node that is lifted is one, in its block
+lift_there : (at : Node) (above : Option Id) (n : ℕ) (p : BitPart) → (q : BitPart) × (lift_bit at above n (Some p) ≡ Some q) × (q.block ≡ p.block)
+lift_there (LeafOf room) above n p = (p, refl, refl)
+lift_there (BitOf room) above n p =
+    elim (n == room.number) as (λ t. (q : BitPart) × ((if t then bit_above above (Some p) else Some p) ≡ Some q) × (q.block ≡ p.block)) [
+      | true ↦ (record p { above = above }, refl, refl)
+      | false ↦ (p, refl, refl)
+    ]
 
 module _ {V : Type 0} where
   -- a bit node in use, in one room, that another room can take
@@ -166,14 +176,23 @@ module _ {V : Type 0} where
         sym v.right,
       )
 
-  -- the bit node above is a room of the map
-  pub Has-above : (m : Lodged V) (key : ℕ) (whole at : Part m) (ups : List (Part m)) → Way key whole at ups → whole.above ≡ None → {up : Id}
-      → at.above ≡ Some up → Has m up
-  Has-above m key whole at [] way top is = absurd (none_some (sym (ap (λ p. p.above) way ∙ top) ∙ is))
-  Has-above m key whole at (p ∷ ps) way top is = subst (Has m) (inside (sym way.0.above ∙ is)) (Has-fork m way.0.at)
-
-  pub Has-over : {m : Lodged V} {root : Node} {from to : Id} {n : BitNode} → IsMove m root from to n → (up : Id) → n.above ≡ Some up → Has m up
-  Has-over {m = m} v up is = Has-above m v.key v.whole.part v.at v.ups v.way v.whole.top (sym v.above ∙ is)
+  -- the bit node above is one still, once all but its names are written
+  pub over_used : {m new : Lodged V} {root : Node} (from to : Id) {n : BitNode} (v : IsMove m root from to n) (up : Id) → n.above ≡ Some up
+      → ((k : ℕ) → bits_in new k ≡ put_bit to (Some n) k (put_bit from None k (lift_bit n.one (Some to) k (lift_bit n.zero (Some to) k (bits_in m k)))))
+      → IsBitNode new up
+  over_used {m = m} from to {n = n} v up is bits =
+      let k = up.number in
+      let o = over_at m v.key v.whole.part v.at v.ups v.way v.whole.top (sym v.above) is in
+      let zero_lifted = lift_there n.zero (Some to) k (bit_part_of m o.1) in
+      let one_lifted = lift_there n.one (Some to) k zero_lifted.0 in
+      let said = lift_bit n.one (Some to) k (lift_bit n.zero (Some to) k (bits_in m k)) in
+      record {
+        part = one_lifted.0;
+        said = bits k ∙ off_room to k (bit_part to.block (Some n)) (put_bit from None k said) (λ same. to_not_spine m from to n v up is (sym same))
+            ∙ off_room from k (bit_part from.block None) said (λ same. not_spine m n v from.number (from_in m from to n v) up is (sym same))
+            ∙ ap (lift_bit n.one (Some to) k) (ap (lift_bit n.zero (Some to) k) (fork_stands m o.1).0 ∙ zero_lifted.1) ∙ one_lifted.1;
+        block = one_lifted.2 ∙ zero_lifted.2;
+      }
 
   -- ---- after the writes
   pub contents_stay : {m new : Lodged V} {from : Id} (to : Id) {n : BitNode} → IsMoved m new from to n → KeepsRoutes m new

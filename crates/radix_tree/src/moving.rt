@@ -2,6 +2,7 @@
 ghost use Rattle.std.specs.Prelude.{◌≡◌, ℕ, Some, None};
 ghost use Rattle.radix_nodes.specs.Rooms.{Has};
 ghost use Rattle.radix_nodes.specs.declared.id.Id.{Id};
+ghost use Rattle.radix_tree.specs.MaskLists.{IsBitNode};
 ghost use Rattle.radix_tree.specs.Rooms.{BitPart, bits_in};
 ghost use Rattle.radix_tree.specs.Whole.{shown, IsWholeBut, nobody_late};
 ghost use Rattle.radix_tree.specs.Marks.{out_at};
@@ -11,6 +12,7 @@ ghost use Rattle.radix_tree.specs.Reads.{Stays};
 
 use crate::inserting::root_after;
 use crate::linking::{lift, put_bit_node};
+use crate::roles;
 use radix_nodes::{BitNode, Id, Node, Nodes, Visits};
 
 /// What names a node, once the bit node of one room is in another room.
@@ -31,7 +33,7 @@ fn renamed(from: Id, to: Id, node: Node) -> Node
 
 /// Names one bit node in the place of another beneath a bit node, where there is one.
 fn rename_child<V>(nodes: &mut Nodes<V>, above: Option<Id>, from: Id, to: Id, visits: &mut Visits)
-    requires there { (up : Id) → above ≡ Some up → Has nodes.old.lodged up }
+    requires used { (up : Id) → above ≡ Some up → IsBitNode nodes.old.lodged up }
     requires turn { visits.old.turn ≡ nodes.old.turn }
     ensures only { OnlyBits nodes.old.lodged nodes.new.lodged }
     ensures bits { (n : ℕ) → bits_in nodes.new.lodged n ≡ rename above from to n (bits_in nodes.old.lodged n) }
@@ -40,9 +42,7 @@ fn rename_child<V>(nodes: &mut Nodes<V>, above: Option<Id>, from: Id, to: Id, vi
     let Some(up) = above else {
         return;
     };
-    let Some(node) = nodes.links(up, visits).bit_node() else {
-        return;
-    };
+    let node = roles::bit_node(nodes, up, visits);
     let zero = renamed(from, to, node.zero);
     let one = renamed(from, to, node.one);
     put_bit_node(nodes, up, Some(BitNode { zero, one, ..node }), visits);

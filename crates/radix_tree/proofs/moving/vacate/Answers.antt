@@ -1,7 +1,7 @@
 use Rattle.radix_tree.proofs.{MovedReads.Has_kept, MovedReads.content_lift, MovedWhole.whole_moved, MovedWhole.routes_moved, moving.vacate.Goals.In-Some}
-use Rattle.radix_tree.proofs.{moving.vacate.Goals.After-root_after}
+use Rattle.radix_tree.proofs.{moving.vacate.Goals.After-root_after, MoveWrites.over_used}
 use Rattle.radix_tree.proofs.Words.{◌∙◌, Some, None, sym, ap, leaves_in, put_bit, put_head, lift_leaf, lift_bit, rename, content_of}
-use Rattle.radix_tree.proofs.MoveWrites.{IsMove, IsMoved, move_of, left_there, right_there, Has-over, contents_stay, gone}
+use Rattle.radix_tree.proofs.MoveWrites.{IsMove, IsMoved, move_of, left_there, right_there, contents_stay, gone}
 use Rattle.radix_tree.proofs.moving.vacate.Given as given
 use Rattle.radix_tree.proofs.moving.vacate.Goals as goal
 
@@ -46,13 +46,10 @@ put_bit_node-requires-2-clause-there g c = Has_kept c.put_bit_node.new.nodes.lod
     ∙ ap content_of (c.lift.ensures.leaves c.args.to.number)
     ∙ content_lift c.in-Some.node.zero (Some c.args.to) c.args.to.number (leaves_in c.args.nodes.now.lodged c.args.to.number)) c.requires.to
 
-pub rename_child-requires-clause-there : goal.rename_child-requires-clause-there
-rename_child-requires-clause-there g c up is = Has_kept c.put_bit_node-2.new.nodes.lodged (ap content_of (c.put_bit_node-2.ensures.leaves up.number)
-    ∙ ap content_of (c.put_bit_node.ensures.leaves up.number) ∙ ap content_of (c.lift-2.ensures.leaves up.number)
-    ∙ content_lift c.in-Some.node.one (Some c.args.to) up.number (leaves_in c.lift.new.nodes.lodged up.number)
-    ∙ ap content_of (c.lift.ensures.leaves up.number)
-    ∙ content_lift c.in-Some.node.zero (Some c.args.to) up.number (leaves_in c.args.nodes.now.lodged up.number))
-    (Has-over (move g (goal.at.rename_child-requires-clause-there g c).In-Some) up is)
+pub rename_child-requires-clause-used : goal.rename_child-requires-clause-used
+rename_child-requires-clause-used g c up is = over_used c.args.from c.args.to (move g (goal.at.rename_child-requires-clause-used g c).In-Some) up is
+    (λ k. c.put_bit_node-2.ensures.bits k ∙ ap (put_bit c.args.to (Some c.in-Some.node) k) (c.put_bit_node.ensures.bits k
+    ∙ ap (put_bit c.args.from None k) (c.lift-2.ensures.bits k ∙ ap (lift_bit c.in-Some.node.one (Some c.args.to) k) (c.lift.ensures.bits k))))
 
 pub returns-clause-whole : goal.returns-clause-whole
 returns-clause-whole g c = whole_moved c.args.from c.args.to (move g (goal.at.returns-clause-whole g c).In-Some) (moved g c) c.root_after.ensures
