@@ -1,33 +1,21 @@
 -- What has come of the rooms once a route of a new key stands in them, beneath a new bit node.
 use Rattle.radix_tree.proofs.{AddressBits.zero_or_one, RoomReads.Has-leaf, TreeMembers.bit_beneath, Lodging.stays, Beside.zero_forked, Beside.one_forked}
-use Rattle.radix_tree.proofs.{Cuts.IsCut}
+use Rattle.radix_tree.proofs.{Cuts.IsCut, JoinLinks.turned_used, MovedReads.lift_used}
 use Rattle.radix_tree.proofs.Words.{◌≡◌, ℕ, ◌+◌, ◌≤◌, ◌⊎◌, ◌==◌, ◌||◌, Bool, true, false, if◌then◌else◌, List, [], ◌∷◌, Option, Some, None, refl, sym, ap}
 use Rattle.radix_tree.proofs.Words.{◌∙◌, subst, inl, inr, arith, eq-eqb, ne_eqb, cases_eq, append-nil, is_some, Has, Id, Node, LeafOf, BitOf, Placed}
 use Rattle.radix_tree.proofs.Words.{Tree, leaf, fork, bit_at, IsIn, routes_of, LeafPart, BitPart, Heads, Masks, Bits, Part, leaves_in, bits_in, heads_in}
 use Rattle.radix_tree.proofs.Words.{masks_in, Beneath, Way, one_if, leaves_at, forks_at, HasHome, HaveOneFork, name_child, with_child, with_head}
 use Rattle.radix_tree.proofs.Words.{forked_tree, Gains, IsPlace, IsSpot, IsBeside, Exchanged, IsMarked, IsMaskList, MarkedIn, MarkedLists, HasRoomMore}
-use Rattle.radix_tree.proofs.Words.{KeepsLeaves, KeepsBits, KeepsMasks, lift_leaf, lift_bit, leaf_above, bit_above, Lodged}
+use Rattle.radix_tree.proofs.Words.{KeepsLeaves, KeepsBits, KeepsMasks, lift_leaf, leaf_above, Lodged, true≢false}
 
 -- ---- what a room says stays something
-turned_some : (key : ℕ) (to : Node) (said : Option BitPart) → is_some (with_child key to said) ≡ is_some said
-turned_some key to None = refl
-turned_some key to (Some p) = refl
-
 chosen : {A : Type 0} (test : Bool) (x y : Option A) → is_some x ≡ is_some y → is_some (if test then x else y) ≡ is_some y
 chosen true x y same = same
 chosen false x y same = refl
 
 turn_some : (above : Option Id) (key : ℕ) (to : Node) (n : ℕ) (said : Option BitPart) → is_some (name_child above key to n said) ≡ is_some said
 turn_some None key to n said = refl
-turn_some (Some up) key to n said = chosen (n == up.number) (with_child key to said) said (turned_some key to said)
-
-bit_above_some : (above : Option Id) (said : Option BitPart) → is_some (bit_above above said) ≡ is_some said
-bit_above_some above None = refl
-bit_above_some above (Some p) = refl
-
-lift_bit_some : (at : Node) (above : Option Id) (n : ℕ) (said : Option BitPart) → is_some (lift_bit at above n said) ≡ is_some said
-lift_bit_some (LeafOf room) above n said = refl
-lift_bit_some (BitOf room) above n said = chosen (n == room.number) (bit_above above said) said (bit_above_some above said)
+turn_some (Some up) key to n said = chosen (n == up.number) (with_child key to said) said (turned_used key to said)
 
 pub none_of : {A : Type 0} (x y : Option A) → is_some x ≡ is_some y → y ≡ None → x ≡ None
 none_of None y same none = refl
@@ -35,9 +23,6 @@ none_of (Some a) y same none = absurd (true_false (same ∙ ap is_some none))
   where
     true_false : true ≡ false → ⊥
     true_false e = cc
-
-pub false_true : false ≡ true → ⊥
-false_true e = cc
 
 pub or_true : (b : Bool) → b || true ≡ true
 or_true true = refl
@@ -197,7 +182,7 @@ module _ {V : Type 0} where
 
   pub other_bit : (m mid new : Lodged V) {low bit : ℕ} {t : Tree V} (x : Placed V) (above : Option Id) (below : Node) → Came m mid new low bit t x above below
       → (n : ℕ) → (n ≡ x.room.number → ⊥) → is_some (bits_in new n) ≡ is_some (bits_in m n)
-  other_bit m mid new x above below c n other = ap is_some (c.beside.bits n other) ∙ lift_bit_some below (Some x.room) n
+  other_bit m mid new x above below c n other = ap is_some (c.beside.bits n other) ∙ lift_used below (Some x.room) n
       (name_child above x.entry.key (BitOf x.room) n (bits_in mid n)) ∙ turn_some above x.entry.key (BitOf x.room) n (bits_in mid n)
       ∙ ap is_some (c.cut.bits n)
 
@@ -207,7 +192,7 @@ module _ {V : Type 0} where
 
   pub new_unmarked : (m mid new : Lodged V) {low bit : ℕ} {t : Tree V} (x : Placed V) {above : Option Id} {below : Node}
       → Came m mid new low bit t x above below → IsMarked (masks_in new) x → ⊥
-  new_unmarked m mid new x c marked = false_true (sym (ap is_some c.unmarked) ∙ sym (same_marks m mid new x c x.room.number) ∙ marked)
+  new_unmarked m mid new x c marked = true≢false (sym marked ∙ same_marks m mid new x c x.room.number ∙ ap is_some c.unmarked)
 
   pub room_more : {m mid new : Lodged V} {low bit : ℕ} (t : Tree V) {x : Placed V} {above : Option Id} {below : Node} → Came m mid new low bit t x above below
       → HasRoomMore m new x.room.number

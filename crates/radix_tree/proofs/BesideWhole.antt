@@ -1,6 +1,6 @@
 -- A route of a new key stands in the table's rooms, beneath a new bit node that has taken over a list of masks: the whole.
 use Rattle.radix_tree.proofs.{TreeMembers.chain_key, TreeMembers.tree_said, Beside.not_new, Beside.not_new_bit, Plugs.counted_leaf, Plugs.spare_same}
-use Rattle.radix_tree.proofs.{PlugLists.mask_list_same, PlugLists.lists_same, PlugLists.marked_same, WholeParts.Fits, WholeParts.some_of}
+use Rattle.radix_tree.proofs.{PlugLists.mask_list_same, PlugLists.lists_same, PlugLists.marked_same, WholeParts.Fits, Facts.some_of}
 use Rattle.radix_tree.proofs.{WholeParts.once_but, WholeChanges.spare_changed, WholeChanges.whole_changed}
 use Rattle.radix_tree.proofs.{WholeRoutes.routes_changed, WholeRoutes.gains_spliced, LeafWays.same_leaf, Cuts.cut_at}
 use Rattle.radix_tree.proofs.Words.{◌≡◌, ℕ, ◌+◌, ◌≤◌, ◌⊎◌, ◌==◌, ◌||◌, Bool, true, false, if◌then◌else◌, List, ◌∷◌, Option, Some, None, refl, sym, ap}
@@ -9,9 +9,10 @@ use Rattle.radix_tree.proofs.Words.{IsIn, IsTree, routes_of, Part, leaves_in, bi
 use Rattle.radix_tree.proofs.Words.{HaveOneFork, IsWhole, shown, with_head, forked_tree, Gains, IsSpot, IsBeside, IsNew, Differs, Exchanged, IsMasks}
 use Rattle.radix_tree.proofs.Words.{IsAside, past_bit, up_to_bit, IsMarked, MarkedIn, MarkedLists, IsWholeBut, has_key, is_of_key, nobody_late}
 use Rattle.radix_tree.proofs.Words.{nobody_out, KeepsLeaves, KeepsBits, KeepsMasks, Lodged}
-use Rattle.radix_tree.proofs.BesideRooms.{none_of, false_true, or_true, one_if_turned, one_if_here, forked_leaves, forked_forks, in_forked, forked_in}
+use Rattle.radix_tree.proofs.BesideRooms.{none_of, or_true, one_if_turned, one_if_here, forked_leaves, forked_forks, in_forked, forked_in}
 use Rattle.radix_tree.proofs.BesideRooms.{forked_lists, home_forked, forked_home, forked_spare, forked_gains, Came, no_leaf, no_bit, other_leaf}
 use Rattle.radix_tree.proofs.BesideRooms.{other_bit, same_marks, new_unmarked}
+use Rattle.radix_tree.proofs.Words.{true≢false}
 
 module _ {V : Type 0} where
   -- ---- the whole
@@ -102,7 +103,7 @@ module _ {V : Type 0} where
               at,
               inl short,
               (λ (marked : IsMarked (masks_in m) y). marks y.room.number ∙ marked),
-              (λ (late : false ≡ true). absurd (false_true late)),
+              (λ (late : false ≡ true). absurd (true≢false (sym late))),
             )
             | inr new_home ↦ elim (home_forked bit x s.at.tree y.entry.key y.entry.rank (subst (HasHome y.entry.key y.entry.rank) tree new_home)) [
               | inl here ↦ elim (late_or_home m bit key x.room.number s.at y s.at.tree refl s.place.is (λ z zs is. keyed y z zs at is) at here) [
@@ -111,19 +112,19 @@ module _ {V : Type 0} where
                   at,
                   inr had,
                   (λ (marked : IsMarked (masks_in m) y). marks y.room.number ∙ marked),
-                  (λ (late : false ≡ true). absurd (false_true late)),
+                  (λ (late : false ≡ true). absurd (true≢false (sym late))),
                 )
               ]
               | inr had ↦ inr (
                 at,
                 inr had,
                 (λ (marked : IsMarked (masks_in m) y). marks y.room.number ∙ marked),
-                (λ (late : false ≡ true). absurd (false_true late)),
+                (λ (late : false ≡ true). absurd (true≢false (sym late))),
               )
             ]
           ]
         ];
-        late_aside = λ n none some late. absurd (false_true late);
+        late_aside = λ n none some late. absurd (true≢false (sym late));
       }
 
   -- bit nodes in use, of each chain one at most

@@ -1,33 +1,17 @@
 -- The chain of a leaf is exchanged for another one: the part that is the leaf.
 use Rattle.radix_tree.proofs.{PartRooms.same_turned, Exchanging.exchanged, WholeParts.Fits, WholeParts.once_but, WholeChanges.spare_changed}
 use Rattle.radix_tree.proofs.{WholeChanges.whole_changed, WholeRoutes.Spliced, WholeRoutes.routes_changed, ChainLists.IsCons, ChainLists.cons_at}
-use Rattle.radix_tree.proofs.{ChainLists.map_entries, ChainLists.one_fork_same}
+use Rattle.radix_tree.proofs.{ChainLists.map_entries, ChainLists.one_fork_same, Facts.none_of, JoinLinks.turn_used}
 use Rattle.radix_tree.proofs.Words.{◌≡◌, ℕ, ◌+◌, ◌≤◌, ◌==◌, ◌||◌, Bool, true, false, true≢false, if◌then◌else◌, List, [], ◌∷◌, ◌++◌, Option, Some, None}
 use Rattle.radix_tree.proofs.Words.{refl, sym, ap, ◌∙◌, subst, arith, eqb-true, eqb-false, eq-eqb, ne_eqb, is_some, Id, Node, LeafOf, Placed, Tree, leaf}
-use Rattle.radix_tree.proofs.Words.{bit_at, HaveBit, IsAmong, IsIn, IsChain, IsTree, routes_of, BitPart, Part, leaves_in, bits_in, masks_in, name_of}
-use Rattle.radix_tree.proofs.Words.{ChainStands, Way, one_if, members_at, leaves_at, forks_at, HasHome, HasOneFork, HaveOneFork, shown, name_child}
-use Rattle.radix_tree.proofs.Words.{with_child, root_after, IsExchange, Exchanged, IsMarked, IsWholeBut, KeepsHeads, KeepsMasks, above_behind, last_room}
-use Rattle.radix_tree.proofs.Words.{root_past, Lodged}
+use Rattle.radix_tree.proofs.Words.{bit_at, HaveBit, IsAmong, IsIn, IsChain, IsTree, routes_of, Part, leaves_in, bits_in, masks_in, name_of, ChainStands}
+use Rattle.radix_tree.proofs.Words.{Way, one_if, members_at, leaves_at, forks_at, HasHome, HasOneFork, HaveOneFork, shown, name_child, with_child}
+use Rattle.radix_tree.proofs.Words.{root_after, IsExchange, Exchanged, IsMarked, IsWholeBut, KeepsHeads, KeepsMasks, above_behind, last_room, root_past}
+use Rattle.radix_tree.proofs.Words.{Lodged}
 
 -- ---- the bit node above
-turned_some : (key : ℕ) (to : Node) (said : Option BitPart) → is_some (with_child key to said) ≡ is_some said
-turned_some key to None = refl
-turned_some key to (Some p) = refl
-
--- a bit node that names another node is a bit node as before
-pub turn_some : (above : Option Id) (key n : ℕ) (to : Node) (said : Option BitPart) → is_some (name_child above key to n said) ≡ is_some said
-turn_some None key n to said = refl
-turn_some (Some up) key n to said = elim (n == up.number) as (λ t. is_some (if t then with_child key to said else said) ≡ is_some said) [
-  | true ↦ turned_some key to said
-  | false ↦ refl
-]
-
-pub none_is : {A : Type 0} (o : Option A) → is_some o ≡ false → o ≡ None
-none_is None e = refl
-none_is (Some x) e = absurd (true≢false e)
-
 pub same_none : {A : Type 0} {o : Option A} (p : Option A) → is_some p ≡ is_some o → o ≡ None → p ≡ None
-same_none p same none = none_is p (same ∙ ap is_some none)
+same_none p same none = none_of p (same ∙ ap is_some none)
 
 pub one_more : (has : ℕ → Bool) (a n : ℕ) → has a ≡ false → one_if ((n == a) || has n) ≡ one_if (a == n) + one_if (has n)
 one_more has a n free = elim (n == a) as (λ t. (n == a) ≡ t → one_if (t || has n) ≡ one_if (a == n) + one_if (has n)) [
@@ -73,7 +57,7 @@ module _ {V : Type 0} where
   FrontNamed [] name = Unit {0}
   FrontNamed (f ∷ fs) name = name ≡ LeafOf f.room
 
-  cons_head : {x y : Placed V} {xs ys : List (Placed V)} → x ∷ xs ≡ y ∷ ys → x ≡ y
+  pub cons_head : {x y : Placed V} {xs ys : List (Placed V)} → x ∷ xs ≡ y ∷ ys → x ≡ y
   cons_head e = cc
 
   pub front_named : {t : Tree V} {z : Placed V} {zs : List (Placed V)} (front back : List (Placed V)) → t ≡ leaf z zs → z ∷ zs ≡ front ++ back
@@ -151,7 +135,7 @@ module _ {V : Type 0} where
 
   pub bits_some : (m new : Lodged V) (key : ℕ) {whole : Part m} (at : Part m) {old now : List (Placed V)} → Rechained m new key whole at old now → (n : ℕ)
       → is_some (bits_in new n) ≡ is_some (bits_in m n)
-  bits_some m new key at r n = ap is_some (r.bits n) ∙ turn_some at.above key n (LeafOf r.cons.first.room) (bits_in m n)
+  bits_some m new key at r n = ap is_some (r.bits n) ∙ turn_used at.above key n (LeafOf r.cons.first.room) (bits_in m n)
 
   pub rechained : (m new : Lodged V) {root : Node} {late later : ℕ → Bool} {out outs : ℕ → ℕ} (key : ℕ) (w : IsWholeBut m root late out) (at : Part m)
       (ups : List (Part m)) {old now : List (Placed V)} → Way key w.part at ups

@@ -6,6 +6,7 @@ use Rattle.radix_tree.proofs.Words.{◌≡◌, ℕ, ◌+◌, ◌<◌, ◌≤◌,
 use Rattle.radix_tree.proofs.Words.{ap, ◌∙◌, subst, inl, inr, arith, append_assoc, cases_eq, cases_lt, nat_cmp, is_lt, Has, leaf_of, Id, Leaf, Links}
 use Rattle.radix_tree.proofs.Words.{Placed, IsAmong, Leaves, Run, leaves_in, first_room, leaf_part, ChainStands, above_behind, last_room, ArePast}
 use Rattle.radix_tree.proofs.Words.{IsBelow, Passed, FindsGap, Lodged}
+use Rattle.radix_tree.proofs.{MaskLists.in_back}
 
 -- what a comparison of ranks says
 pub less_of : (a b : ℕ) → is_lt (nat_cmp a b) ≡ true → a < b
@@ -124,10 +125,6 @@ module _ {V : Type 0} where
         few = omega arith;
       }
 
-  among_behind : (front back : List (Placed V)) (x : Placed V) → IsAmong x back → IsAmong x (front ++ back)
-  among_behind [] back x is = is
-  among_behind (y ∷ front) back x is = inr (among_behind front back x is)
-
   -- a member has the rank
   pub taken : (m : Lodged V) (key : ℕ) {rank : ℕ} (c : Run m) {above previous next : Option Id} {steps : ℕ} (at : Id) (links : Links) {l : Leaf}
       → Passed rank c above previous next steps → next ≡ Some at → AreLinks m at links → l ≡ leaf_of links → l.rank ≡ rank → FindsGap key rank c None
@@ -135,7 +132,7 @@ module _ {V : Type 0} where
       let r = read_at m c at links l p is are leaf in
       let x = r.0 in (
         x.first,
-        subst (IsAmong x.first) (sym p.is) (among_behind p.front p.back x.first (subst (IsAmong x.first) (sym x.is) (inl refl))),
+        subst (IsAmong x.first) (sym p.is) (in_back p.front p.back x.first (subst (IsAmong x.first) (sym x.is) (inl refl))),
         sym r.1 ∙ same,
       )
 

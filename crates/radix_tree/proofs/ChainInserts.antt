@@ -10,6 +10,8 @@ use Rattle.radix_tree.proofs.Words.{Leaves, leaves_in, bits_in, masks_in, name_o
 use Rattle.radix_tree.proofs.Words.{one_if, members_at, leaves_at, IsWhole, shown, name_child, root_after, placed, Gains, AreOnce, IsWholeBut, late_at}
 use Rattle.radix_tree.proofs.Words.{nobody_out, lodge_leaf, KeepsBits, KeepsHeads, KeepsMasks, leaf_next, leaf_back, name_next, name_back, link_in}
 use Rattle.radix_tree.proofs.Words.{above_behind, last_room, root_past, IsGap, FindsGap, content_of, Entry, Lodged, []}
+use Rattle.radix_tree.proofs.{MovedReads.content_used}
+use Rattle.radix_tree.proofs.{ChainExchanges.cons_head}
 
 module _ {V : Type 0} where
   -- ---- members on both sides of a place are in the map
@@ -108,9 +110,6 @@ module _ {V : Type 0} where
   content_some None = refl
   content_some (Some p) = refl
 
-  pub same_some : (o p : Option (LeafPart V)) → content_of o ≡ content_of p → is_some o ≡ is_some p
-  same_some o p same = sym (content_some o) ∙ ap is_some same ∙ content_some p
-
   lodged_some : (room : Id) (value : V) (l : Leaf) (n : ℕ) (said : Option (LeafPart V))
       → is_some (lodge_leaf room value l n said) ≡ (n == room.number) || is_some said
   lodged_some room value l n said =
@@ -121,12 +120,9 @@ module _ {V : Type 0} where
 
   pub linked_rooms : (m new : Lodged V) (id : Id) (value : V) (l : Leaf) → ((n : ℕ) → leaves_in new n ≡ link_in id value l n (leaves_in m n)) → (n : ℕ)
       → is_some (leaves_in new n) ≡ (n == id.number) || is_some (leaves_in m n)
-  linked_rooms m new id value l is n = ap is_some (is n) ∙ same_some (link_in id value l n (leaves_in m n)) (lodge_leaf id value l n (leaves_in m n))
+  linked_rooms m new id value l is n = ap is_some (is n) ∙ content_used (link_in id value l n (leaves_in m n)) (lodge_leaf id value l n (leaves_in m n))
       (back_same l.next None (Some id) n (name_next l.previous (Some id) n (lodge_leaf id value l n (leaves_in m n)))
       ∙ next_same l.previous (Some id) n (lodge_leaf id value l n (leaves_in m n))) ∙ lodged_some id value l n (leaves_in m n)
-
-  cons_head : {x y : Placed V} {xs ys : List (Placed V)} → x ∷ xs ≡ y ∷ ys → x ≡ y
-  cons_head e = cc
 
   pub cons_key : (front back : List (Placed V)) (x z : Placed V) (zs : List (Placed V)) → z ∷ zs ≡ front ++ back → z.entry.key ≡ x.entry.key
       → (cons_at front back x).first.entry.key ≡ z.entry.key

@@ -1,15 +1,9 @@
 -- The links of a chain with a member more, and without it.
 use Rattle.radix_tree.proofs.{RoomReads.inside, RoomReads.none_some, PartRooms.one_if_same, PartRooms.chain_frame, Forking.chain_there}
-use Rattle.radix_tree.proofs.{ChainGaps.behind_stands, ChainLists.members_append, ChainLists.members_more}
-use Rattle.radix_tree.proofs.Words.{◌≡◌, ℕ, ◌+◌, ◌≤◌, ◌==◌, if◌then◌else◌, List, [], ◌∷◌, ◌++◌, Option, Some, None, refl, sym, ap, ◌∙◌, arith, eq-eqb}
-use Rattle.radix_tree.proofs.Words.{ne_eqb, Id, Leaf, Placed, LeafPart, Leaves, first_room, ChainStands, one_if, members_at, lodge_leaf, leaf_next}
-use Rattle.radix_tree.proofs.Words.{leaf_back, name_next, name_back, link_in, link_out, above_behind, last_room}
-
-on_room : {A : Type 0} (room : Id) (x y : A) → (if room.number == room.number then x else y) ≡ x
-on_room room x y = ap (λ t. if t then x else y) (eq-eqb room.number room.number refl)
-
-off_room : {A : Type 0} (room : Id) (n : ℕ) (x y : A) → (n ≡ room.number → ⊥) → (if n == room.number then x else y) ≡ y
-off_room room n x y other = ap (λ t. if t then x else y) (ne_eqb n room.number other)
+use Rattle.radix_tree.proofs.{ChainGaps.behind_stands, ChainLists.members_append, ChainLists.members_more, Facts.own_room, Facts.off_room}
+use Rattle.radix_tree.proofs.Words.{◌≡◌, ℕ, ◌+◌, ◌≤◌, ◌==◌, List, [], ◌∷◌, ◌++◌, Option, Some, None, refl, sym, ap, ◌∙◌, arith, Id, Leaf, Placed}
+use Rattle.radix_tree.proofs.Words.{LeafPart, Leaves, first_room, ChainStands, one_if, members_at, lodge_leaf, leaf_next, leaf_back, name_next, name_back}
+use Rattle.radix_tree.proofs.Words.{link_in, link_out, above_behind, last_room}
 
 module _ {V : Type 0} where
   -- ---- rooms that are not written
@@ -49,7 +43,7 @@ module _ {V : Type 0} where
       → ChainStands M (above_behind above front) (last_room previous front) now → ChainStands M above previous (front ++ now)
   front_linked L M above previous [] old now stands said once rest = rest
   front_linked L M above previous (y ∷ []) old now stands said once rest = (
-    said y.room.number (own_counts y []) ∙ on_room y.room (leaf_next (first_room now) (L y.room.number)) (L y.room.number)
+    said y.room.number (own_counts y []) ∙ own_room y.room (leaf_next (first_room now) (L y.room.number)) (L y.room.number)
         ∙ ap (leaf_next (first_room now)) stands.0,
     rest,
   )
@@ -65,7 +59,7 @@ module _ {V : Type 0} where
       → ((n : ℕ) → 1 ≤ members_at n back → M n ≡ name_back (first_room back) a p n (L n)) → ((n : ℕ) → members_at n back ≤ 1) → ChainStands M a p back
   back_linked L M above previous a p [] stands said once = tt
   back_linked L M above previous a p (y ∷ back) stands said once = (
-    said y.room.number (own_counts y back) ∙ on_room y.room (leaf_back a p (L y.room.number)) (L y.room.number) ∙ ap (leaf_back a p) stands.0,
+    said y.room.number (own_counts y back) ∙ own_room y.room (leaf_back a p (L y.room.number)) (L y.room.number) ∙ ap (leaf_back a p) stands.0,
     chain_frame L M None (Some y.room) back (λ n some. said n (omega arith) ∙ off_room y.room n (leaf_back a p (L n)) (L n)
         (λ same. let most = once n in let one = ap (λ k. one_if (y.room.number == k)) same ∙ one_if_same y.room.number in omega arith)) stands.1,
   )
@@ -117,7 +111,7 @@ module _ {V : Type 0} where
             (not_first x.room.number (let both = sum x.room.number in omega arith))
             ∙ next_off (last_room None front) (Some x.room) x.room.number (lodge_leaf x.room x.entry.value (leaf_at x.entry.key x.entry.rank above front back)
             x.room.number (L x.room.number)) (not_last x.room.number (let both = sum x.room.number in omega arith))
-            ∙ on_room x.room (Some (record { block = x.room.block; value = x.entry.value; leaf = leaf_at x.entry.key x.entry.rank above front back }))
+            ∙ own_room x.room (Some (record { block = x.room.block; value = x.entry.value; leaf = leaf_at x.entry.key x.entry.rank above front back }))
             (L x.room.number),
         back_linked L M (above_behind above front) (last_room None front) None (Some x.room) back (behind_stands L above None front back stands)
             (λ n some. let both = sum n in

@@ -105,7 +105,7 @@ module _ {V : Type 0} where
     | inr own ↦ inr (same y.room.number own.0, one_fork_same B C c same own.1)
   ]
 
-  idle_at : (B : Bits) (c : List (Placed V)) (y : Placed V) → AreIdle B c → IsAmong y c → B y.room.number ≡ None
+  pub idle_at : (B : Bits) (c : List (Placed V)) (y : Placed V) → AreIdle B c → IsAmong y c → B y.room.number ≡ None
   idle_at B [] y idle is = absurd is
   idle_at B (z ∷ c) y idle is = elim is [ inl e ↦ ap (λ p. B p.room.number) (sym e) ∙ idle.0 | inr later ↦ idle_at B c y idle.1 later ]
 

@@ -4,15 +4,11 @@ use Rattle.radix_tree.proofs.{WaysDown.way_to_leaf, WholeParts.once_but, ChainWr
 use Rattle.radix_tree.proofs.{ChainLinks.out_others, ChainLists.IsCons, ChainLists.cons_at, ChainLists.split_at, ChainLists.members_more}
 use Rattle.radix_tree.proofs.{ChainLists.chain_less, ChainRooms.room_route, ChainInserts.first_there, ChainInserts.last_there, ChainInserts.place_above}
 use Rattle.radix_tree.proofs.{ChainInserts.chain_once}
-use Rattle.radix_tree.proofs.Words.{◌≡◌, ℕ, ◌≤◌, Bool, true, true≢false, List, [], ◌∷◌, ◌++◌, Option, Some, None, refl, sym, ap, ◌∙◌, subst, inl, arith}
-use Rattle.radix_tree.proofs.Words.{eq-eqb, is_some, Has, Id, leaf_of, Leaf, Links, Node, LeafOf, Placed, leaf, IsAmong, IsChain, IsTree, LeafPart, Part}
-use Rattle.radix_tree.proofs.Words.{leaves_in, bits_in, name_of, first_room, leaf_part, ChainStands, Stands, Way, ForkAt, one_if, members_at, name_child}
-use Rattle.radix_tree.proofs.Words.{root_after, IsWholeBut, nobody_out, KeepsHeads, KeepsMasks, link_out, above_behind, last_room, root_past, Lodged}
+use Rattle.radix_tree.proofs.Words.{◌≡◌, ℕ, ◌≤◌, Bool, List, [], ◌∷◌, ◌++◌, Some, None, refl, sym, ap, ◌∙◌, subst, inl, arith, eq-eqb, is_some, Has, Id}
+use Rattle.radix_tree.proofs.Words.{leaf_of, Leaf, Links, Node, LeafOf, Placed, leaf, IsAmong, IsChain, IsTree, LeafPart, Part, leaves_in, bits_in}
+use Rattle.radix_tree.proofs.Words.{name_of, first_room, leaf_part, ChainStands, Stands, Way, ForkAt, one_if, members_at, name_child, root_after}
+use Rattle.radix_tree.proofs.Words.{IsWholeBut, nobody_out, KeepsHeads, KeepsMasks, link_out, above_behind, last_room, root_past, Lodged}
 use Rattle.radix_tree.proofs.ChainExchanges.{Rechained, FrontNamed, front_named, place_bits, place_root, turn_same, root_same}
-
-pub some_is : {A : Type 0} (o : Option A) → is_some o ≡ true → (x : A) × (o ≡ Some x)
-some_is None e = absurd (true≢false (sym e))
-some_is (Some x) e = (x, refl)
 
 module _ {V : Type 0} where
   -- ---- a room that is a leaf of a tree

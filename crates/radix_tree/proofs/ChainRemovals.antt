@@ -2,15 +2,18 @@
 use Rattle.radix_tree.proofs.{Parts.way_leads, TreeMembers.chain_key, TreeMembers.tree_said, WholeParts.later_than, ChainWrites.Has-linked_out}
 use Rattle.radix_tree.proofs.{ChainLinks.out_others, ChainLinks.last_among, ChainLinks.first_among, ChainLists.members_append, ChainLists.members_more}
 use Rattle.radix_tree.proofs.{ChainLists.among_own, ChainLists.among_less, ChainLists.others_idle, ChainRooms.among_at, ChainRooms.room_route}
-use Rattle.radix_tree.proofs.{ChainExchanges.turn_some, ChainExchanges.same_none, ChainWholes.shrunk_whole, ChainWholes.shrunk_routes}
-use Rattle.radix_tree.proofs.{ChainInserts.next_same, ChainInserts.back_same, ChainInserts.same_some}
+use Rattle.radix_tree.proofs.{ChainExchanges.same_none, ChainWholes.shrunk_whole, ChainWholes.shrunk_routes}
+use Rattle.radix_tree.proofs.{ChainInserts.next_same, ChainInserts.back_same}
 use Rattle.radix_tree.proofs.Words.{⊎_elim, ◌≡◌, ℕ, ◌≤◌, ◌⊎◌, ◌==◌, Bool, true, false, true≢false, List, [], ◌∷◌, ◌++◌, Option, Some, None, refl, sym, ap}
 use Rattle.radix_tree.proofs.Words.{◌∙◌, subst, inl, inr, arith, eqb-true, eq-eqb, is_some, Has, Id, Leaf, Node, LeafOf, Placed, leaf, IsAmong, IsIn}
 use Rattle.radix_tree.proofs.Words.{LeafPart, BitPart, Part, leaves_in, bits_in, masks_in, name_of, Way, one_if, members_at, HaveOneFork, HasOneFork}
 use Rattle.radix_tree.proofs.Words.{shown, shown_entry, root_after, Gains, IsWholeBut, is_of_key, has_key, nobody_late, late_at, nobody_out, out_at}
 use Rattle.radix_tree.proofs.Words.{Content, content_of, KeepsRoutes, name_back, link_out, Lodged}
-use Rattle.radix_tree.proofs.ChainNeighbours.{some_is, IsMember, leaf_chain, member_once, own_out, IsUnlinked, before_there, behind_there, IsLeft}
+use Rattle.radix_tree.proofs.ChainNeighbours.{IsMember, leaf_chain, member_once, own_out, IsUnlinked, before_there, behind_there, IsLeft}
 use Rattle.radix_tree.proofs.ChainNeighbours.{out_chain}
+use Rattle.radix_tree.proofs.{Facts.some_of}
+use Rattle.radix_tree.proofs.{JoinLinks.turn_used}
+use Rattle.radix_tree.proofs.{MovedReads.content_used}
 
 module _ {V : Type 0} where
   -- ---- each room keeps its route
@@ -19,7 +22,7 @@ module _ {V : Type 0} where
       ∙ next_same l.previous l.next n (name_back l.next l.above l.previous n (leaves_in m n)) ∙ back_same l.next l.above l.previous n (leaves_in m n)
 
   pub routes_some : (m new : Lodged V) → KeepsRoutes m new → (n : ℕ) → is_some (leaves_in new n) ≡ is_some (leaves_in m n)
-  routes_some m new keeps n = same_some (leaves_in new n) (leaves_in m n) (keeps n)
+  routes_some m new keeps n = content_used (leaves_in new n) (leaves_in m n) (keeps n)
 
   abbrev of_key : ℕ → Option (Content V) → Bool
   of_key key None = false
@@ -61,7 +64,7 @@ module _ {V : Type 0} where
 
   pub left_bits : {m new : Lodged V} {key : ℕ} {whole at : Part m} {front back : List (Placed V)} {name : Node} → IsLeft m new key whole at front back name
       → (n : ℕ) → is_some (bits_in new n) ≡ is_some (bits_in m n)
-  left_bits {m = m} {key = key} {at = at} l n = ap is_some (l.bits n) ∙ turn_some at.above key n (LeafOf l.cons.first.room) (bits_in m n)
+  left_bits {m = m} {key = key} {at = at} l n = ap is_some (l.bits n) ∙ turn_used at.above key n (LeafOf l.cons.first.room) (bits_in m n)
 
   -- ---- the other rooms of the key
   way_spare : (m : Lodged V) (key : ℕ) (whole at : Part m) (ups : List (Part m)) → Way key whole at ups → HaveOneFork (bits_in m) whole.tree
@@ -96,7 +99,7 @@ module _ {V : Type 0} where
       let at = way_leads m w.part b.part b.ups b.way r.route r.is_in key in
       let among = subst (IsAmong r.route) b.split (subst (IsIn r.route) b.is at) in
       let spare = subst (HasOneFork (bits_in m)) b.split (subst (HaveOneFork (bits_in m)) b.is (way_spare m b.x.entry.key w.part b.part b.ups b.way w.spare)) in
-      let own = some_is (bits_in m n) (sym (some n) ∙ ap is_some is) in
+      let own = some_of (bits_in m n) (sym (some n) ∙ ap is_some is) in
       same_none (bits_in new k) (some k) (elim (among_less b.front b.back b.x r.route among) [
         | inl e ↦ absurd (other (sym r.number ∙ ap (λ z. z.room.number) (sym e) ∙ b.number))
         | inr among_others ↦ ap (bits_in m) (sym r.number)

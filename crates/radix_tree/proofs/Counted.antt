@@ -8,17 +8,15 @@ use Rattle.std.proofs.lemmas.List.Sums.{sum_by-cons, sum_by-append}
 use Rattle.radix_tree.proofs.Words.{◌≡◌, ℕ, ◌+◌, ◌-◌, ◌^◌, ◌<◌, ◌≤◌, ◌==◌, ◌&&◌, Bool, true, false, cond, if◌then◌else◌, IsTrue, List, [], ◌∷◌, ◌++◌}
 use Rattle.radix_tree.proofs.Words.{Some, None, inl, inr, refl, sym, ap, ◌∙◌, subst, arith, eqb-true, eq-eqb, ne_eqb, cases_lt, AllByRecursion}
 use Rattle.radix_tree.proofs.Words.{HasOneMore, precedes, IsTable, entry_at, Gains, of_rank, AreCounted, Entry}
+use Rattle.radix_tree.proofs.Words.{true≢false}
 
 abbrev pub one_of : Bool → ℕ
 one_of b = cond b 1 0
 
-true_false : true ≡ false → ⊥
-true_false e = cc
-
 turned : (r rank : ℕ) → one_of (rank == r) ≡ (if r == rank then 1 else 0)
 turned r rank = elim (r == rank) as (λ b. (r == rank) ≡ b → one_of (rank == r) ≡ (if b then 1 else 0)) [
   | true ↦ λ is. ap one_of (eq-eqb rank r (sym (eqb-true r rank is)))
-  | false ↦ λ is. ap one_of (ne_eqb rank r (λ (e : rank ≡ r). true_false (sym (eq-eqb r rank (sym e)) ∙ is)))
+  | false ↦ λ is. ap one_of (ne_eqb rank r (λ (e : rank ≡ r). true≢false (sym (eq-eqb r rank (sym e)) ∙ is)))
 ] refl
 
 pub counted_none : (V : Type 0) (counts : List ℕ) → AreNone counts → AreCounted {V = V} counts []
@@ -112,7 +110,7 @@ module _ {V : Type 0} where
       → (0 < count_of rank counts → IsTrue has)
       → has ≡ false → entry_at key rank es ≡ None
   not_held counts es key rank counted fits asks not = elim (cases_lt 0 (count_of rank counts)) [
-    | inl some ↦ absurd (true_false (sym (subst IsTrue not (asks some))))
+    | inl some ↦ absurd (true≢false (sym (subst IsTrue not (asks some))))
     | inr none ↦ none_of_rank key rank es (let is = counted rank fits in omega (arith, none, is))
   ]
 

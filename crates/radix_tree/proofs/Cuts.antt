@@ -1,15 +1,14 @@
 -- The list of masks of a bit node is cut at a bit, or a leaf has none.
 use Rattle.radix_tree.proofs.{RoomReads.inside, TreeMembers.tree_said, Parts.fork_is, Parts.fork_named, PartRooms.one_if_same, PartRooms.elsewhere}
-use Rattle.radix_tree.proofs.{PartRooms.way_once, Plugs.counted_leaf, Plugs.home_plug, Plugs.plug_in, PlugLists.falls_between, PlugLists.lists_at}
-use Rattle.radix_tree.proofs.{FrameLists.lists_stay, WholeParts.some_of, LeafWays.on_way}
+use Rattle.radix_tree.proofs.{PartRooms.way_once, Plugs.counted_leaf, Plugs.home_plug, Plugs.plug_in, PlugLists.lists_at}
+use Rattle.radix_tree.proofs.{FrameLists.lists_stay, Facts.some_of, LeafWays.on_way}
 use Rattle.radix_tree.proofs.Words.{◌≡◌, ℕ, ◌+◌, ◌<◌, ◌≤◌, ◌==◌, Bool, List, [], Option, None, refl, sym, ap, ◌∙◌, subst, inl, inr, arith, is_some, Id}
 use Rattle.radix_tree.proofs.Words.{Node, LeafOf, BitOf, Placed, Tree, leaf, fork, IsAmong, IsIn, IsTree, Part, leaves_in, bits_in, heads_in, masks_in}
 use Rattle.radix_tree.proofs.Words.{name_of, ForkAt, Way, one_if, leaves_at, forks_at, HasHome, AreOnce, IsMarked, IsMaskList, MarkedIn, MarkedLists}
 use Rattle.radix_tree.proofs.Words.{IsWholeBut, IsMasks, IsAside, past_bit, up_to_bit, KeepsLeaves, KeepsBits, Lodged}
 use Rattle.radix_tree.proofs.MaskLists.{not_below_among, among_not_below, below_among, among_below, falls_not_below, falls_below, masks_listed}
-
-same_bit_node : {x y : Id} → BitOf x ≡ BitOf y → x ≡ y
-same_bit_node e = cc
+use Rattle.radix_tree.proofs.{Parts.same_bit_node}
+use Rattle.radix_tree.proofs.{MaskLists.falls_among}
 
 module _ {V : Type 0} where
   -- routes of a part in one room have one key and one rank
@@ -95,10 +94,10 @@ module _ {V : Type 0} where
       λ y at other. masks l.masks ms y.room.number (λ z among same. other z among (same_pair m p y z at (l.within z among).0 (sym same)).1) in
       let zeros : (y : Placed V) → IsIn y f.zero → f.bit + 1 ≤ y.entry.rank → masks_in new y.room.number ≡ masks_in m y.room.number =
       λ y at least. outside y (subst (IsIn y) (sym f.is) (inl at))
-      (λ z among same. let most = (falls_between p.low (f.bit + 1) l.masks l.falls z among).1 in omega arith) in
+      (λ z among same. let most = (falls_among p.low (f.bit + 1) l.masks l.falls z among).1 in omega arith) in
       let ones : (y : Placed V) → IsIn y f.one → f.bit + 1 ≤ y.entry.rank → masks_in new y.room.number ≡ masks_in m y.room.number =
       λ y at least. outside y (subst (IsIn y) (sym f.is) (inr at))
-      (λ z among same. let most = (falls_between p.low (f.bit + 1) l.masks l.falls z among).1 in omega arith) in
+      (λ z among same. let most = (falls_among p.low (f.bit + 1) l.masks l.falls z among).1 in omega arith) in
       record {
         leaves = leaves;
         bits = bits;
@@ -106,7 +105,7 @@ module _ {V : Type 0} where
             let here = ap (λ k. one_if (room.number == k)) same ∙ own in absurd (omega arith));
         masks = λ n out. masks l.masks ms n (λ z among same. let some = counted_leaf z p.tree (l.within z among).0 in
             let e = ap (λ k. leaves_at k p.tree) same in omega arith);
-        masks_above = λ y at above. outside y at (λ z among same. let least = (falls_between p.low (f.bit + 1) l.masks l.falls z among).0 in
+        masks_above = λ y at above. outside y at (λ z among same. let least = (falls_among p.low (f.bit + 1) l.masks l.falls z among).0 in
             omega arith);
         marks = marks;
         list = record {

@@ -1,8 +1,10 @@
 -- The bit nodes above a part of a tree, and lists of masks that stay where the masks of their ranks do.
-use Rattle.radix_tree.proofs.{PartRooms.one_if_same, PlugLists.falls_between, PlugLists.masks_stand_same, PlugLists.marked_same}
+use Rattle.radix_tree.proofs.{PartRooms.one_if_same, PlugLists.marked_same}
 use Rattle.radix_tree.proofs.Words.{◌≡◌, ℕ, ◌+◌, ◌≤◌, List, [], ◌∷◌, Option, refl, inl, inr, sym, ap, ◌∙◌, subst, arith, Id, Placed, Tree, leaf, fork}
 use Rattle.radix_tree.proofs.Words.{IsAmong, IsIn, IsTree, Heads, Masks, Part, Beneath, Way, forks_at, Frame, on_zero, on_one, plug, low_past, IsMaskList}
 use Rattle.radix_tree.proofs.Words.{MarkedIn, MarkedLists, Lodged}
+use Rattle.radix_tree.proofs.{MaskLists.falls_among}
+use Rattle.radix_tree.proofs.{MaskLinks.stand_same}
 
 module _ {V : Type 0} where
   -- ---- the bit nodes above a part
@@ -41,11 +43,11 @@ module _ {V : Type 0} where
       → IsMaskList K first low b (MarkedIn K t) → IsMaskList M first low b (MarkedIn M t)
   list_stays K M low b t same list =
       let kept : (x : Placed V) → IsAmong x list.masks → M x.room.number ≡ K x.room.number =
-      λ x among. same x (list.within x among).0 (falls_between low (b + 1) list.masks list.falls x among).0 in
+      λ x among. same x (list.within x among).0 (falls_among low (b + 1) list.masks list.falls x among).0 in
       record {
         masks = list.masks;
         begins = list.begins;
-        stands = masks_stand_same K M list.masks kept list.stands;
+        stands = stand_same K M list.masks kept list.stands;
         falls = list.falls;
         has = λ x is least most. list.has x (is.0, marked_same M K x (sym (same x is.0 least)) is.1) least most;
         within = λ x among. let is = list.within x among in (is.0, marked_same K M x (kept x among) is.1);

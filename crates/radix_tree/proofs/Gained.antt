@@ -10,23 +10,21 @@ use Rattle.radix_tree.proofs.Words.{ap, ◌∙◌, subst, inl, arith, eqb-true, 
 use Rattle.radix_tree.proofs.Words.{LeafPart, Part, leaf_in, bit_in, mask_in, leaves_in, leaf_part, first_room, LedTo, Gains, placed, IsWholeBut, has_key}
 use Rattle.radix_tree.proofs.Words.{is_of_key, nobody_late, nobody_out, late_at, lodge_leaf, KeepsLeaves, KeepsBits, KeepsMasks, one_if, beneath_shown}
 use Rattle.radix_tree.proofs.Words.{shown, shown_entry, IsWhole, Holds, Entry, Lodged, []}
-
-true_false : true ≡ false → ⊥
-true_false e = cc
+use Rattle.radix_tree.proofs.Words.{true≢false}
 
 turned : (n k : ℕ) → (n == k) ≡ (k == n)
 turned n k = elim (k == n) as (λ b. (k == n) ≡ b → (n == k) ≡ b) [
   | true ↦ λ is. eq-eqb n k (sym (eqb-true k n is))
-  | false ↦ λ is. ne_eqb n k (λ (e : n ≡ k). true_false (sym (eq-eqb k n (sym e)) ∙ is))
+  | false ↦ λ is. ne_eqb n k (λ (e : n ≡ k). true≢false (sym (eq-eqb k n (sym e)) ∙ is))
 ] refl
 
 and_not : (a b : Bool) → (a && not b) ≡ true → (a ≡ true) × (b ≡ false)
-and_not true true e = absurd (true_false (sym e))
+and_not true true e = absurd (true≢false (sym e))
 and_not true false e = (refl, refl)
-and_not false b e = absurd (true_false (sym e))
+and_not false b e = absurd (true≢false (sym e))
 
 or_left : (a b : Bool) → (a || b) ≡ true → a ≡ false → b ≡ true
-or_left true b e none = absurd (true_false none)
+or_left true b e none = absurd (true≢false none)
 or_left false b e none = e
 
 module _ {V : Type 0} where
@@ -82,7 +80,7 @@ module _ {V : Type 0} where
   -- the route of one room was late, and is listed now
   pub among_left : {m : Lodged V} (root : Node) (room id : ℕ) → id ≡ room → IsWholeBut m root (λ n. late_at room n && not (n == id)) nobody_out → IsWhole m root
   among_left {m = m} root room id same w = not_late m w (λ n e.
-      let both = and_not (n == room) (n == id) e in true_false (sym (eq-eqb n id (eqb-true n room both.0 ∙ sym same)) ∙ both.1))
+      let both = and_not (n == room) (n == id) e in true≢false (sym (eq-eqb n id (eqb-true n room both.0 ∙ sym same)) ∙ both.1))
 
   -- and with it the routes of a key
   pub new_left : (m old : Lodged V) {root : Node} (room : ℕ) {id : ℕ} (key k : ℕ) (was : ℕ → Bool) → id ≡ room → k ≡ key
@@ -92,7 +90,7 @@ module _ {V : Type 0} where
       let both = and_not (((n == room) || was n) && not (n == id)) (has_key old k n) e in
       let first = and_not ((n == room) || was n) (n == id) both.0 in
       let other = ap (λ r. n == r) (sym same) ∙ first.1 in
-      true_false (sym (stays n (or_left (n == room) (was n) first.0 other)) ∙ ap (λ k. has_key old k n) (sym key_is) ∙ both.1))
+      true≢false (sym (stays n (or_left (n == room) (was n) first.0 other)) ∙ ap (λ k. has_key old k n) (sym key_is) ∙ both.1))
 
   -- ---- the leaf beside which a route comes in
   -- what the first room of a leaf says
@@ -127,7 +125,7 @@ module _ {V : Type 0} where
 
   said_key : (m : Lodged V) (key n : ℕ) (o : Option (LeafPart V)) → leaves_in m n ≡ o → is_of_key key o ≡ true
       → (p : LeafPart V) × (leaves_in m n ≡ Some p) × ((p.leaf.key == key) ≡ true)
-  said_key m key n None is e = absurd (true_false (sym e))
+  said_key m key n None is e = absurd (true≢false (sym e))
   said_key m key n (Some p) is e = (p, is, e)
 
   pub still_key : (m new last : Lodged V) (key n : ℕ) → KeepsButAbove m new → KeepsLeaves new last → has_key m key n ≡ true → has_key last key n ≡ true

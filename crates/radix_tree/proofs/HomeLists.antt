@@ -4,30 +4,20 @@ use Rattle.radix_tree.proofs.{RoomReads.inside, AddressBits.zero_not_one, Addres
 use Rattle.radix_tree.proofs.{TreeMembers.tree_route, TreeMembers.bit_beneath, TreeMembers.tree_said, Parts.fork_is, Parts.way_inside}
 use Rattle.radix_tree.proofs.{PartRooms.one_if_same, PartRooms.elsewhere, PartRooms.frame, PartRooms.way_once, Plugs.aside_in, Plugs.aside_at}
 use Rattle.radix_tree.proofs.{Plugs.counted_leaf, Plugs.spare_same, PlugLists.KeepsAbove, PlugLists.plug_lists, PlugLists.lists_at, PlugLists.marked_same}
-use Rattle.radix_tree.proofs.{FrameLists.way_framed, FrameLists.lists_stay}
+use Rattle.radix_tree.proofs.{FrameLists.way_framed, FrameLists.lists_stay, Facts.same_id, JoinLone.tree_room}
 use Rattle.radix_tree.specs.Tree.{bit_at}
-use Rattle.radix_tree.proofs.Words.{◌≡◌, ℕ, ◌+◌, ◌<◌, ◌≤◌, ◌==◌, ◌⊎◌, Bool, true, false, ◌||◌, List, [], ◌∷◌, Option, Some, None, refl, inl, inr, sym, ap}
-use Rattle.radix_tree.proofs.Words.{◌∙◌, subst, arith, eqb-true, cases_lt, is_some, Ptr, Seen, Has, Id, Node, IsRoute, Placed, Tree, leaf, fork, IsAmong}
-use Rattle.radix_tree.proofs.Words.{IsIn, IsChain, IsTree, LeafPart, MaskPart, Leaves, Heads, Masks, Part, leaves_in, bits_in, heads_in, masks_in}
-use Rattle.radix_tree.proofs.Words.{leaf_in, leaf_part, Way, one_if, members_at, leaves_at, forks_at, HasHome, KeepsLeaves, KeepsBits, AreOnce, plug}
-use Rattle.radix_tree.proofs.Words.{low_past, IsMarked, IsMaskList, MarkedIn, MarkedLists, IsWholeBut, nobody_out, HomeAt, Entry, Lodged}
-
-pub true_false : true ≡ false → ⊥
-true_false e = cc
+use Rattle.radix_tree.proofs.Words.{◌≡◌, ℕ, ◌+◌, ◌<◌, ◌≤◌, ◌==◌, ◌⊎◌, Bool, true, false, ◌||◌, List, [], ◌∷◌, Some, refl, inl, inr, sym, ap, ◌∙◌, subst}
+use Rattle.radix_tree.proofs.Words.{arith, cases_lt, is_some, Ptr, Seen, Has, Id, Node, IsRoute, Placed, Tree, leaf, fork, IsAmong, IsIn, IsChain, IsTree}
+use Rattle.radix_tree.proofs.Words.{LeafPart, MaskPart, Leaves, Heads, Masks, Part, leaves_in, bits_in, heads_in, masks_in, leaf_in, leaf_part, Way}
+use Rattle.radix_tree.proofs.Words.{one_if, leaves_at, forks_at, HasHome, KeepsLeaves, KeepsBits, AreOnce, plug, low_past, IsMarked, IsMaskList, MarkedIn}
+use Rattle.radix_tree.proofs.Words.{MarkedLists, IsWholeBut, nobody_out, HomeAt, Entry, Lodged}
 
 abbrev id_of : ℕ → Ptr → Id
 id_of number block = record { number = number; block = block }
 
-same_id : (x y : Id) → x.number ≡ y.number → x.block ≡ y.block → x ≡ y
-same_id x y number block = ap (λ n. id_of n x.block) number ∙ ap (id_of y.number) block
-
 pub or_right : (a : Bool) {b : Bool} → b ≡ true → (a || b) ≡ true
 or_right true is = refl
 or_right false is = is
-
-pub some_of : {A : Type 0} (o : Option A) → is_some o ≡ true → (a : A) × (o ≡ Some a)
-some_of None is = absurd (true_false (sym is))
-some_of (Some a) is = (a, refl)
 
 module _ {V : Type 0} where
   -- ---- one room, one route
@@ -43,22 +33,6 @@ module _ {V : Type 0} where
   pub one_room : (m : Lodged V) (p : Part m) (x y : Placed V) → IsIn x p.tree → IsIn y p.tree → x.room.number ≡ y.room.number → x ≡ y
   one_room m p x y in_x in_y same = one_said (leaves_in m) x y (tree_said (leaves_in m) (bits_in m) p.above p.tree p.stands x in_x)
       (tree_said (leaves_in m) (bits_in m) p.above p.tree p.stands y in_y) same
-
-  -- the route in a room
-  member_at : (n : ℕ) (c : List (Placed V)) → 1 ≤ members_at n c → (y : Placed V) × IsAmong y c × (y.room.number ≡ n)
-  member_at n [] some = absurd (omega arith)
-  member_at n (x ∷ c) some =
-      elim (x.room.number == n) as (λ t. (x.room.number == n) ≡ t → 1 ≤ one_if t + members_at n c → (y : Placed V) × IsAmong y (x ∷ c) × (y.room.number ≡ n)) [
-        | true ↦ λ e sum. (x, inl refl, eqb-true x.room.number n e)
-        | false ↦ λ e sum. let y = member_at n c (omega arith) in (y.0, inr y.1, y.2)
-      ] refl some
-
-  pub route_at : (n : ℕ) (t : Tree V) → 1 ≤ leaves_at n t → (y : Placed V) × IsIn y t × (y.room.number ≡ n)
-  route_at n (leaf x xs) some = member_at n (x ∷ xs) some
-  route_at n (fork room b zero one) some = elim (cases_lt (leaves_at n zero) 1) [
-    | inl none ↦ let y = route_at n one (omega arith) in (y.0, inr y.1, y.2)
-    | inr here ↦ let y = route_at n zero here in (y.0, inl y.1, y.2)
-  ]
 
   -- ---- one pair, one route
   chain_one : (key top : ℕ) (c : List (Placed V)) → IsChain key top c → (x y : Placed V) → IsAmong x c → IsAmong y c → x.entry.rank ≡ y.entry.rank → x ≡ y
@@ -243,7 +217,7 @@ module _ {V : Type 0} where
   placed_in {m = m} w {room = room} h =
       let said = ap leaf_in h.at in
       let count = w.leaves room.number ∙ ap (λ o. one_if (is_some o)) said in
-      let y = route_at room.number w.part.tree (omega arith) in (
+      let y = tree_room room.number w.part.tree (omega arith) in (
         y.0,
         y.1,
         same_id y.0.room room y.2 (block_said m y.0 h.room (tree_said (leaves_in m) (bits_in m) w.part.above w.part.tree w.part.stands y.0 y.1) y.2

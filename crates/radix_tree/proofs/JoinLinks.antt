@@ -1,6 +1,6 @@
 -- A node comes into the place of the bit node above it, which is none from then on: what the rooms say.
 use Rattle.radix_tree.proofs.{RoomReads.inside, RoomReads.none_some, RoomReads.Has-leaf, PartRooms.elsewhere, PartRooms.way_once, PartRooms.spine_out}
-use Rattle.radix_tree.proofs.{Lodging.stays, JoinSides.side_is, JoinSides.side_stands, JoinSides.side_forks}
+use Rattle.radix_tree.proofs.{Lodging.stays, JoinSides.side_is, JoinSides.side_stands, JoinSides.side_forks, Lodging.new_turn}
 use Rattle.radix_tree.proofs.Words.{◌≡◌, ◌+◌, ◌≤◌, ◌==◌, Bool, true, false, if◌then◌else◌, List, [], ◌∷◌, Option, Some, None, refl, sym, ap, ◌∙◌, arith}
 use Rattle.radix_tree.proofs.Words.{ℕ, eq-eqb, ne_eqb, is_some, Has, Id, Node, LeafOf, BitOf, Tree, LeafPart, BitPart, Part, bit_part, leaf_in, leaves_in}
 use Rattle.radix_tree.proofs.Words.{bits_in, name_of, Way, one_if, forks_at, name_child, with_child, AreOnce, IsApart, IsLone, content_of, put_bit}
@@ -12,11 +12,6 @@ put_off room n said other = ap (λ t. if t then None else said) (ne_eqb n room.n
 
 pub head_off : (room : Id) (n : ℕ) (said : Option Id) → (n ≡ room.number → ⊥) → put_head room None n said ≡ said
 head_off room n said other = ap (λ t. if t then None else said) (ne_eqb n room.number other)
-
-pub turn_off : (above : Option Id) (key n : ℕ) (to : Node) (said : Option BitPart) → ((over : Id) → above ≡ Some over → n ≡ over.number → ⊥)
-    → name_child above key to n said ≡ said
-turn_off None key n to said other = refl
-turn_off (Some over) key n to said other = ap (λ t. if t then with_child key to said else said) (ne_eqb n over.number (other over refl))
 
 -- ---- a room that is no bit node
 both_none : (t : Bool) (x y : Option BitPart) → x ≡ None → y ≡ None → (if t then x else y) ≡ None
@@ -38,7 +33,7 @@ pub put_here : (room : Id) (said : Option BitPart) → put_bit room None room.nu
 put_here room said = ap (λ t. if t then bit_part room.block None else said) (eq-eqb room.number room.number refl)
 
 -- ---- a room that is a bit node stays one
-turned_used : (key : ℕ) (to : Node) (said : Option BitPart) → is_some (with_child key to said) ≡ is_some said
+pub turned_used : (key : ℕ) (to : Node) (said : Option BitPart) → is_some (with_child key to said) ≡ is_some said
 turned_used key to None = refl
 turned_used key to (Some p) = refl
 
@@ -46,15 +41,6 @@ pub turn_used : (above : Option Id) (key n : ℕ) (to : Node) (said : Option Bit
 turn_used None key n to said = refl
 turn_used (Some over) key n to said =
     elim (n == over.number) as (λ t. is_some (if t then with_child key to said else said) ≡ is_some said) [ true ↦ turned_used key to said | false ↦ refl ]
-
-bit_above_used : (above : Option Id) (said : Option BitPart) → is_some (bit_above above said) ≡ is_some said
-bit_above_used above None = refl
-bit_above_used above (Some p) = refl
-
-pub lift_used : (at : Node) (above : Option Id) (n : ℕ) (said : Option BitPart) → is_some (lift_bit at above n said) ≡ is_some said
-lift_used (LeafOf room) above n said = refl
-lift_used (BitOf room) above n said =
-    elim (n == room.number) as (λ t. is_some (if t then bit_above above said else said) ≡ is_some said) [ true ↦ bit_above_used above said | false ↦ refl ]
 
 module _ {V : Type 0} where
   -- ---- a leaf keeps its route
@@ -79,7 +65,7 @@ module _ {V : Type 0} where
   pub quiet : {t : Tree V} (up : Id) {above : Option Id} (key : ℕ) (to : Node) (n : ℕ) (said : Option BitPart) → IsApart t up above → 1 ≤ forks_at n t
       → put_bit up None n (name_child above key to n said) ≡ said
   quiet up {above = above} key to n said apart some =
-      put_off up n (name_child above key to n said) (apart.up_is n some) ∙ turn_off above key n to said (λ over is. apart.above_is over is n some)
+      put_off up n (name_child above key to n said) (apart.up_is n some) ∙ new_turn above key n to said (λ over is. apart.above_is over is n some)
 
   pub below_stays : (m with_child put : Lodged V) (p : Part m) (up : Id) {above : Option Id} (key : ℕ) (to : Node) → name_of p.tree ≡ to
       → IsApart p.tree up above → ((n : ℕ) → leaves_in with_child n ≡ leaves_in m n) → ((n : ℕ) → leaves_in put n ≡ leaves_in with_child n)

@@ -1,17 +1,19 @@
 -- The list of masks of a bit node that goes is handed on to the node that takes its place.
-use Rattle.radix_tree.proofs.{RoomReads.inside, RoomReads.none_some, PartRooms.one_if_same, PartRooms.way_once, PlugLists.masks_stand_same}
-use Rattle.radix_tree.proofs.{WholeParts.some_of}
+use Rattle.radix_tree.proofs.{RoomReads.inside, RoomReads.none_some, PartRooms.one_if_same, PartRooms.way_once}
+use Rattle.radix_tree.proofs.{Facts.some_of}
 use Rattle.radix_tree.proofs.Words.{◌≡◌, ◌+◌, ◌≤◌, ◌⊎◌, ◌==◌, List, [], ◌∷◌, ◌++◌, Option, Some, None, inl, inr, refl, sym, ap, ◌∙◌, subst, arith, ℕ}
 use Rattle.radix_tree.proofs.Words.{cases_lt, cases_eq, is_some, Id, LeafOf, BitOf, Placed, Tree, leaf, fork, IsAmong, IsIn, IsTree, MaskPart, Heads}
 use Rattle.radix_tree.proofs.Words.{Masks, Part, leaves_in, bits_in, heads_in, masks_in, name_of, Falls, one_if, forks_at, AreOnce, HasSides, IsLone}
 use Rattle.radix_tree.proofs.Words.{IsHanded, IsMarked, IsMaskList, MarkedIn, MarkedLists, IsMasks, IsBitNode, IsAside, Lodged}
 use Rattle.radix_tree.proofs.MaskLists.{falls_wider, falls_among, falls_appended, among_appended, in_front, in_back, ranked_in, masks_listed}
-use Rattle.radix_tree.proofs.JoinSides.{true_not_false, side_is, side_stands, side_forks, side_in, in_side, side_list, side_lists, side_home}
+use Rattle.radix_tree.proofs.JoinSides.{side_is, side_stands, side_forks, side_in, in_side, side_list, side_lists, side_home}
+use Rattle.radix_tree.proofs.Words.{true≢false}
+use Rattle.radix_tree.proofs.{MaskLinks.stand_same}
 
 unmarked_marked : {A : Type 0} (K : Masks) (x y : Placed A) → K x.room.number ≡ None → x ≡ y → IsMarked K y → ⊥
 unmarked_marked {A = A} K x y none same marked =
     let never = ap is_some (ap (λ p. K p.room.number) (sym same) ∙ none) in
-    true_not_false (sym marked ∙ never)
+    true≢false (sym marked ∙ never)
 
 module _ {V : Type 0} where
   -- one of the members is in a room, or none
@@ -45,7 +47,7 @@ module _ {V : Type 0} where
           masks = old.masks;
           begins = old.begins ∙ sym (heads room.number (let own = one_if_same room.number in omega arith));
           stands =
-              masks_stand_same K J old.masks (λ y among. masks y (old.within y among).0 (falls_among low (b + 1) old.masks old.falls y among).0) old.stands;
+              stand_same K J old.masks (λ y among. masks y (old.within y among).0 (falls_among low (b + 1) old.masks old.falls y among).0) old.stands;
           falls = old.falls;
           has = λ y member least most. old.has y (member.0, sym (marks y member.0) ∙ member.1) least most;
           within = λ y among. let w = old.within y among in (w.0, marks y w.0 ∙ w.1);

@@ -5,9 +5,7 @@ use Rattle.radix_tree.proofs.Words.{◌≡◌, ◌+◌, ◌≤◌, ◌==◌, Boo
 use Rattle.radix_tree.proofs.Words.{ℕ, eqb-true, cases_eq, is_some, Id, Node, Placed, Tree, leaf, fork, IsAmong, IsIn, LeafPart, Leaves, Part, leaves_in}
 use Rattle.radix_tree.proofs.Words.{bits_in, first_room, leaf_part, ChainStands, Stands, Way, one_if, members_at, leaves_at, AreOnce, HasSides, IsLone}
 use Rattle.radix_tree.proofs.Words.{IsWholeBut, nobody_out, Lodged}
-
-same_id : (a b : Id) → a.number ≡ b.number → a.block ≡ b.block → a ≡ b
-same_id a b number block = ap (λ n. record { number = n; block = a.block }) number ∙ ap (λ p. record { number = b.number; block = p }) block
+use Rattle.radix_tree.proofs.{Facts.same_id}
 
 module _ {V : Type 0} where
   none_first : (xs : List (Placed V)) → first_room xs ≡ None → xs ≡ []
@@ -15,7 +13,7 @@ module _ {V : Type 0} where
   none_first (x ∷ xs) none = absurd (none_some (sym none))
 
   -- ---- a room of the tree has a route of it
-  chain_room : (n : ℕ) (c : List (Placed V)) → 1 ≤ members_at n c → (y : Placed V) × IsAmong y c × (y.room.number ≡ n)
+  pub chain_room : (n : ℕ) (c : List (Placed V)) → 1 ≤ members_at n c → (y : Placed V) × IsAmong y c × (y.room.number ≡ n)
   chain_room n [] some = absurd (omega arith)
   chain_room n (x ∷ c) some =
       elim (x.room.number == n) as (λ t. (x.room.number == n) ≡ t → 1 ≤ one_if t + members_at n c → (y : Placed V) × IsAmong y (x ∷ c) × (y.room.number ≡ n)) [

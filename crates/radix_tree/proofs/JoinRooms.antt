@@ -1,12 +1,12 @@
 -- A route that is alone at its leaf, and the bit node above it, as they are read of their rooms.
 use Rattle.radix_tree.proofs.{AddressBits.zero_not_one, Parts.Has-fork, TreeMembers.bit_beneath, TreeMembers.tree_said, Lodging.stays, Lodging.over_at}
-use Rattle.radix_tree.proofs.{JoinSides.true_not_false, JoinSides.SaysOther, JoinSides.side_is, JoinSides.side_says, JoinSides.side_fork}
-use Rattle.radix_tree.proofs.{JoinLone.tree_room, JoinLone.lone, JoinLone.lone_said, JoinLinks.lone_apart, JoinLinks.other_part, JoinWhole.IsJoined}
-use Rattle.radix_tree.proofs.Words.{◌≡◌, ◌+◌, ◌≤◌, Bool, true, List, ◌∷◌, Option, Some, None, refl, sym, ap, ◌∙◌, subst, arith, ℕ, inl, inr, eqb-true}
-use Rattle.radix_tree.proofs.Words.{cases_eq, is_some, Has, leaf_of, bit_node_of, Id, BitNode, Leaf, Links, Node, Placed, Tree, leaf, fork, bit_at}
-use Rattle.radix_tree.proofs.Words.{IsAmong, IsIn, IsTree, LeafPart, BitPart, Bits, Part, leaf_in, leaves_in, bits_in, heads_in, name_of, ForkAt, one_if}
-use Rattle.radix_tree.proofs.Words.{AreIdle, HasOneFork, HaveOneFork, name_child, other_side, IsApart, IsLone, IsWholeBut, is_of_key, has_key, nobody_out}
-use Rattle.radix_tree.proofs.Words.{content_of, KeepsRoutes, put_bit, lift_leaf, lift_bit, Lodged, IsLonely, []}
+use Rattle.radix_tree.proofs.{JoinSides.SaysOther, JoinSides.side_is, JoinSides.side_says, JoinSides.side_fork, JoinLone.tree_room, JoinLone.lone}
+use Rattle.radix_tree.proofs.{JoinLone.lone_said, JoinLinks.lone_apart, JoinLinks.other_part, JoinWhole.IsJoined, ChainLists.idle_at, ListedChains.of_key}
+use Rattle.radix_tree.proofs.Words.{◌≡◌, ◌+◌, ◌≤◌, Bool, true, List, ◌∷◌, Option, Some, None, refl, sym, ap, ◌∙◌, subst, arith, ℕ, inl, inr, cases_eq}
+use Rattle.radix_tree.proofs.Words.{is_some, Has, leaf_of, bit_node_of, Id, BitNode, Leaf, Links, Node, Placed, Tree, leaf, fork, bit_at, IsAmong, IsIn}
+use Rattle.radix_tree.proofs.Words.{IsTree, LeafPart, BitPart, Bits, Part, leaf_in, leaves_in, bits_in, heads_in, name_of, ForkAt, one_if, HasOneFork}
+use Rattle.radix_tree.proofs.Words.{HaveOneFork, name_child, other_side, IsApart, IsLone, IsWholeBut, has_key, nobody_out, content_of, KeepsRoutes}
+use Rattle.radix_tree.proofs.Words.{put_bit, lift_leaf, lift_bit, Lodged, IsLonely, [], true≢false}
 use Rattle.radix_tree.proofs.RoomReads.{inside, none_some, AreLinks, Has-leaf, bit_read, bit_used, head_read}
 
 module _ {V : Type 0} where
@@ -26,7 +26,7 @@ module _ {V : Type 0} where
   pub never_top : {m : Lodged V} {at : Id} (links : Links) {l : Leaf} → Has m at → AreLinks m at links → l ≡ leaf_of links → IsLonely m at → l.above ≡ None → ⊥
   never_top links h are is lonely none =
       let r = lonely (own_part h) (ap leaf_in h.at) in
-      true_not_false (sym r.2 ∙ ap (λ z. is_some z.above) (read_is links h are is) ∙ ap is_some none)
+      true≢false (sym r.2 ∙ ap (λ z. is_some z.above) (read_is links h are is) ∙ ap is_some none)
 
   pub key_read : {m : Lodged V} {whole : Part m} {at up : Id} (links : Links) {l : Leaf} (f : IsLone m whole at up) → Has m at → AreLinks m at links
       → l ≡ leaf_of links → f.route.entry.key ≡ l.key
@@ -100,18 +100,13 @@ module _ {V : Type 0} where
   }
 
   -- ---- of the rooms of a key one at most is a bit node
-  idle_among : (B : Bits) (xs : List (Placed V)) (z : Placed V) → AreIdle B xs → IsAmong z xs → B z.room.number ≡ None
-  idle_among B [] z idle among = absurd among
-  idle_among B (x ∷ xs) z idle among =
-      elim among [ inl e ↦ ap (λ p. B p.room.number) (sym e) ∙ idle.0 | inr behind ↦ idle_among B xs z idle.1 behind ]
-
   chain_others : (B : Bits) (xs : List (Placed V)) (y z : Placed V) → HasOneFork B xs → IsAmong y xs → IsAmong z xs → (z.room.number ≡ y.room.number → ⊥)
       → (B y.room.number ≡ None → ⊥) → B z.room.number ≡ None
   chain_others B [] y z one first second apart used = absurd first
   chain_others B (x ∷ xs) y z one first second apart used = elim one [
     | inl idle ↦ elim second [
-      | inl ez ↦ elim first [ inl ey ↦ absurd (apart (ap (λ p. p.room.number) (sym ez ∙ ey))) | inr by ↦ absurd (used (idle_among B xs y idle by)) ]
-      | inr bz ↦ idle_among B xs z idle bz
+      | inl ez ↦ elim first [ inl ey ↦ absurd (apart (ap (λ p. p.room.number) (sym ez ∙ ey))) | inr by ↦ absurd (used (idle_at B xs y idle by)) ]
+      | inr bz ↦ idle_at B xs z idle bz
     ]
     | inr rest ↦ elim second [
       | inl ez ↦ ap (λ p. B p.room.number) (sym ez) ∙ rest.0
@@ -163,11 +158,6 @@ module _ {V : Type 0} where
       ap (bits_in m) (sym z.room) ∙ tree_others (bits_in m) w.part.low w.part.tree y.route z.route w.part.is w.spare y.is z.is (y.key ∙ keys ∙ sym z.key)
       (λ same. apart (sym z.room ∙ same ∙ y.room)) (λ none. none_some (sym none ∙ ap (bits_in m) y.room ∙ bit))
 
-  -- a room's key, before and after
-  key_of : (key : ℕ) (o : Option (LeafPart V)) → is_of_key key o ≡ true → (p : LeafPart V) × (o ≡ Some p) × (p.leaf.key ≡ key)
-  key_of key None is = absurd (true_not_false (sym is))
-  key_of key (Some p) is = (p, refl, eqb-true p.leaf.key key is)
-
   was_said : (o : Option (LeafPart V)) (p : LeafPart V) → content_of (Some p) ≡ content_of o → (q : LeafPart V) × (o ≡ Some q) × (q.leaf.key ≡ p.leaf.key)
   was_said None p same = absurd (none_some (sym same))
   was_said (Some q) p same = (q, refl, sym (ap (λ c. c.entry.key) (inside same)))
@@ -184,9 +174,9 @@ module _ {V : Type 0} where
   pub idle_joined : (m new : Lodged V) {root : Node} {late : ℕ → Bool} (w : IsWholeBut m root late nobody_out) (at up : Id) (l : IsLone m w.part at up)
       → KeepsRoutes m new → ((n : ℕ) → bits_in m n ≡ None → bits_in new n ≡ None) → bits_in new up.number ≡ None
       → (p : LeafPart V) → leaves_in new up.number ≡ Some p → (n : ℕ) → has_key new p.leaf.key n ≡ true → bits_in new n ≡ None
-  idle_joined m new w at up l keeps idle free p said n of_key = elim (cases_eq n up.number) [
+  idle_joined m new w at up l keeps idle free p said n same_key = elim (cases_eq n up.number) [
     | inl same ↦ ap (bits_in new) same ∙ free
-    | inr apart ↦ let q = key_of p.leaf.key (leaves_in new n) of_key in
+    | inr apart ↦ let q = of_key p.leaf.key (leaves_in new n) same_key in
         let before = was_said (leaves_in m up.number) p (ap content_of (sym said) ∙ keeps up.number) in
         let other = was_said (leaves_in m n) q.0 (ap content_of (sym q.1) ∙ keeps n) in
         let s = up_says m at up l in

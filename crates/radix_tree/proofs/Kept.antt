@@ -10,18 +10,12 @@ use Rattle.radix_tree.proofs.Words.{arith, eq-eqb, eqb-true, Contains, is_some, 
 use Rattle.radix_tree.proofs.Words.{Contents, IsTable, entry_at, first_of, Placed, IsAmong, IsIn, IsChain, routes_of, LeafPart, Part, leaves_in, bits_in}
 use Rattle.radix_tree.proofs.Words.{leaf_part, Tells, Finds, HasPair, In, LeafAt, LedTo, contents, shown, shown_entry, IsWhole, Holds, Entry, Lodged}
 use Rattle.radix_tree.proofs.MemberLemmas.{all_contains, entry_at_is_member, first_of_is_member, first_is_greatest, members_stand}
-
--- what is some is not none
-is_none : {A : Type 0} (o : Option A) → ((x : A) → o ≡ Some x → ⊥) → o ≡ None
-is_none None never = refl
-is_none (Some x) never = absurd (never x refl)
-
-true_false : true ≡ false → ⊥
-true_false e = cc
+use Rattle.radix_tree.proofs.{Facts.none_if}
+use Rattle.radix_tree.proofs.Words.{true≢false}
 
 -- what a comparison tells
 pub differ : (a b : ℕ) {t : Bool} → t ≡ not (a == b) → t ≡ true → a ≡ b → ⊥
-differ a b is holds e = true_false (sym holds ∙ is ∙ ap not (eq-eqb a b e))
+differ a b is holds e = true≢false (sym holds ∙ is ∙ ap not (eq-eqb a b e))
 
 pub agree : (a b : ℕ) {t : Bool} → t ≡ not (a == b) → t ≡ false → a ≡ b
 agree a b is fails = eqb-true a b (not-false (a == b) (sym is ∙ fails))
@@ -85,7 +79,7 @@ module _ {V : Type 0} where
       → entry_at key rank (shown m (Some root)) ≡ None
   not_found {m = m} {root = root} w key rank {o = o} none tells =
       let told = subst (λ o. Tells (Finds (HasPair key rank) (In w.part)) o) none tells in
-      is_none (entry_at key rank (shown m (Some root))) (λ e is.
+      none_if (entry_at key rank (shown m (Some root))) (λ e is.
       let member = entry_at_is_member key rank (routes_of w.part.tree) e (ap (entry_at key rank) (sym (shown_is w)) ∙ is) in
       let of = member_of w.part.tree e member.0 in
       told of.0 of.1 (ap (λ e. e.key) of.2 ∙ member.1.0, ap (λ e. e.rank) of.2 ∙ member.1.1))
@@ -158,7 +152,7 @@ module _ {V : Type 0} where
   pub no_first : (m : Lodged V) (root : Node) (w : IsWhole m root) (key : ℕ) {room : Id} (l : LedTo key w.part room) (links : Links) (leaf : Leaf)
       → AreLinks m room links → leaf ≡ leaf_of links → (leaf.key ≡ key → ⊥) → first_of key (shown m (Some root)) ≡ None
   no_first m root w key {room = room} l links leaf are read differs =
-      is_none (first_of key (shown m (Some root))) (λ e is. differs ((leaf_is m room (led_first m l) links are read).0
+      none_if (first_of key (shown m (Some root))) (λ e is. differs ((leaf_is m room (led_first m l) links are read).0
       ∙ (some_first m w key l e (ap (first_of key) (sym (shown_is w)) ∙ is)).0))
 
   abbrev NoneOf : ℕ → List (Entry V) → Type 0
@@ -175,7 +169,7 @@ module _ {V : Type 0} where
   first_is : (es : List (Entry V)) (key : ℕ) (x : Entry V) → Contains es x → x.key ≡ key → (o : Option (Entry V)) → first_of key es ≡ o
       → ((e : Entry V) → first_of key es ≡ Some e → e ≡ x) → o ≡ Some x
   first_is es key x member is None none own =
-      absurd (true_false (sym (eq-eqb x.key key is) ∙ all_contains (λ (f : Entry V). (f.key == key) ≡ false) es x (none_of_key key es none) member))
+      absurd (true≢false (sym (eq-eqb x.key key is) ∙ all_contains (λ (f : Entry V). (f.key == key) ≡ false) es x (none_of_key key es none) member))
   first_is es key x member is (Some e) some own = ap Some (own e some)
 
   pub first_found : (m : Lodged V) {root : Node} (w : IsWhole m root) (key : ℕ) {room : Id} (l : LedTo key w.part room) (links : Links) (leaf : Leaf)

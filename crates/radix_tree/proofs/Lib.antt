@@ -21,6 +21,7 @@ pub mod Cuts
 pub mod Descents
 pub mod Differences
 pub mod Exchanging
+pub mod Facts
 pub mod Forking
 pub mod FrameLists
 pub mod Gained

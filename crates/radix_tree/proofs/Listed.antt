@@ -1,13 +1,16 @@
 -- The mask of a route comes into the list of its bit node, or goes out of it: the table's rooms as a whole.
-use Rattle.radix_tree.proofs.{RoomReads.none_some, Parts.fork_is, Parts.way_leads, PlugLists.falls_between, WholeParts.with_late}
+use Rattle.radix_tree.proofs.{RoomReads.none_some, Parts.fork_is, Parts.way_leads, WholeParts.with_late}
 use Rattle.radix_tree.proofs.Words.{◌≡◌, ℕ, ◌+◌, ◌≤◌, ◌==◌, Bool, true, not, ◌&&◌, ◌||◌, List, Option, Some, None, refl, inl, inr, sym, ap, ◌∙◌, subst}
 use Rattle.radix_tree.proofs.Words.{arith, eq-eqb, ne_eqb, cases_eq, is_some, Id, Node, Placed, IsAmong, IsIn, MaskPart, Part, heads_in, masks_in}
 use Rattle.radix_tree.proofs.Words.{HasHome, KeepsLeaves, KeepsBits, AreOnce, IsMarked, IsMaskList, MarkedIn, IsWholeBut, nobody_late, nobody_out}
 use Rattle.radix_tree.proofs.Words.{IsMasks, IsBitNode, IsFree, IsAside, IsNoRank, HomeAt, IsHome, sorted_in, taken_out, Lodged}
 use Rattle.radix_tree.proofs.MaskLists.{sorted_here, among_sorted, sorted_among, falls_sorted, taken_among, among_taken, falls_taken, ranked_in}
 use Rattle.radix_tree.proofs.MaskLists.{bit_node_at, masks_listed}
-use Rattle.radix_tree.proofs.HomeLists.{true_false, or_right, some_of, one_room, one_of_bit, home_has, tree_of, home_list, home_inside, relisted}
+use Rattle.radix_tree.proofs.HomeLists.{or_right, one_room, one_of_bit, home_has, tree_of, home_list, home_inside, relisted}
 use Rattle.radix_tree.proofs.HomeLists.{whole_kept}
+use Rattle.radix_tree.proofs.Words.{true≢false}
+use Rattle.radix_tree.proofs.{MaskLists.falls_among}
+use Rattle.radix_tree.proofs.{Facts.some_of}
 
 module _ {V : Type 0} where
   -- ---- a mask comes into the list of its home
@@ -61,7 +64,7 @@ module _ {V : Type 0} where
   aside_of : (m : Lodged V) (whole : Part m) {room node : Id} (y : Homed m whole room node) (l : list_at m y) (x : Placed V) → IsIn x whole.tree
       → (IsIn x y.home.part.tree → y.home.part.low ≤ x.entry.rank → x.entry.rank ≤ y.home.at.bit → ⊥) → IsAside x.room.number l.masks
   aside_of m whole y l x in_x out z among same =
-      let range = falls_between y.home.part.low (y.home.at.bit + 1) l.masks l.falls z among in
+      let range = falls_among y.home.part.low (y.home.at.bit + 1) l.masks l.falls z among in
       let below = range.1 in
       out_of_range m whole y x in_x out z (l.within z among).0 range.0 (omega arith) same
 
@@ -76,7 +79,7 @@ module _ {V : Type 0} where
       let is = l.within x among in
       let e = rank_is m node y x is.0 same in
       let marked = subst (IsMarked (masks_in m)) e is.1 in
-      true_false (sym marked ∙ ap (λ i. is_some (masks_in m i.number)) y.room_is ∙ ap is_some unmarked)
+      true≢false (sym marked ∙ ap (λ i. is_some (masks_in m i.number)) y.room_is ∙ ap is_some unmarked)
 
   marks_more : (m new : Lodged V) (node room : Id) → IsSortedIn m new node room → (x : Placed V) → IsMarked (masks_in m) x → IsMarked (masks_in new) x
   marks_more m new node room s x marked = elim (cases_eq x.room.number room.number) [
@@ -149,7 +152,7 @@ module _ {V : Type 0} where
   at_home m y l marked = l.has y.is (in_home m y, marked) y.home.past y.home.within
 
   not_marked : (m new : Lodged V) {node room : Id} → IsTakenOut m new node room → (x : Placed V) → IsMarked (masks_in new) x → x.room.number ≡ room.number → ⊥
-  not_marked m new s x marked same = true_false (sym marked ∙ ap (λ n. is_some (masks_in new n)) same ∙ ap is_some s.unmarked)
+  not_marked m new s x marked same = true≢false (sym marked ∙ ap (λ n. is_some (masks_in new n)) same ∙ ap is_some s.unmarked)
 
   -- the list has all but the route
   list_less : (m new : Lodged V) (whole : Part m) (room node : Id) (y : Homed m whole room node) → list_at m y → IsMarked (masks_in m) y.is
@@ -259,5 +262,5 @@ module _ {V : Type 0} where
       → IsMarked (masks_in m) y.is
   marked_at {m = m} w y = elim (w.all y.is y.inside (home_has m w.part y.home)) [
     | inl marked ↦ marked
-    | inr is_late ↦ absurd (true_false (sym is_late))
+    | inr is_late ↦ absurd (true≢false (sym is_late))
   ]

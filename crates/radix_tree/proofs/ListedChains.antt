@@ -1,23 +1,25 @@
 -- A walk along a chain whose masks are listed one after the other.
 use Rattle.radix_tree.proofs.{RoomReads.inside, RoomReads.none_some, RoomReads.AreLinks, RoomReads.Has-leaf, RoomReads.leaf_read, TreeMembers.IsHead}
 use Rattle.radix_tree.proofs.{TreeMembers.head_of, TreeMembers.tree_said, Parts.among_leaf, Parts.way_leads, WaysDown.way_to_leaf, ChainStarts.member_of}
-use Rattle.radix_tree.proofs.{HomeLists.true_false, HomeLists.placed_in, HomeLists.route_at, Listed.settled, WholeParts.later_than, ListedHomes.chain_of}
+use Rattle.radix_tree.proofs.{HomeLists.placed_in, Listed.settled, WholeParts.later_than, ListedHomes.chain_of}
 use Rattle.radix_tree.proofs.{ListedHomes.in_chain}
 use Rattle.radix_tree.proofs.Words.{◌≡◌, ℕ, ◌+◌, ◌<◌, ◌≤◌, ◌==◌, Bool, true, false, not, ◌&&◌, List, [], ◌∷◌, Option, Some, None, refl, sym, ap, ◌∙◌}
 use Rattle.radix_tree.proofs.Words.{subst, inl, inr, arith, eqb-true, eq-eqb, is_some, Has, leaf_of, mask_node_of, Id, Leaf, Links, MaskNode, Node}
 use Rattle.radix_tree.proofs.Words.{Placed, IsAmong, IsIn, IsChain, LeafPart, Leaves, Part, Run, leaves_in, bits_in, masks_in, mask_in, mask_part}
 use Rattle.radix_tree.proofs.Words.{first_room, leaf_part, ChainStands, one_if, KeepsLeaves, IsWholeBut, is_of_key, has_key, nobody_out, Lodged}
+use Rattle.radix_tree.proofs.Words.{true≢false}
+use Rattle.radix_tree.proofs.{JoinLone.tree_room}
 
 and_left : (a b : Bool) → (a && b) ≡ true → a ≡ true
 and_left true b both = refl
-and_left false b both = absurd (true_false (sym both))
+and_left false b both = absurd (true≢false (sym both))
 
 and_right : (a b : Bool) → (a && b) ≡ true → b ≡ true
 and_right true b both = both
-and_right false b both = absurd (true_false (sym both))
+and_right false b both = absurd (true≢false (sym both))
 
 not_true : {b : Bool} → not b ≡ true → b ≡ true → ⊥
-not_true none is = true_false (sym none ∙ ap not is)
+not_true none is = true≢false (sym none ∙ ap not is)
 
 both_true : (a b : Bool) → a ≡ true → (b ≡ true → ⊥) → (a && not b) ≡ true
 both_true a true is other = absurd (other refl)
@@ -83,8 +85,8 @@ module _ {V : Type 0} where
       let parts = inside (sym t.3 ∙ ap (leaves_in m) same ∙ said) in
       (ap (λ z. z.leaf.key) (sym parts), ap (λ z. z.block) (sym parts))
 
-  of_key : (key : ℕ) (o : Option (LeafPart V)) → is_of_key key o ≡ true → (q : LeafPart V) × (o ≡ Some q) × (q.leaf.key ≡ key)
-  of_key key None is = absurd (true_false (sym is))
+  pub of_key : (key : ℕ) (o : Option (LeafPart V)) → is_of_key key o ≡ true → (q : LeafPart V) × (o ≡ Some q) × (q.leaf.key ≡ key)
+  of_key key None is = absurd (true≢false (sym is))
   of_key key (Some q) is = (q, refl, eqb-true q.leaf.key key is)
 
   -- a route of the key stands in its chain
@@ -93,7 +95,7 @@ module _ {V : Type 0} where
   in_its_chain m w y is n has =
       let q = of_key y.entry.key (leaves_in m n) has in
       let count = w.leaves n ∙ ap (λ o. one_if (is_some o)) q.1 in
-      let x = route_at n w.part.tree (omega arith) in
+      let x = tree_room n w.part.tree (omega arith) in
       let f = way_to_leaf m w.part y is in
       let key = sym (key_said m w.part x.0 q.0 x.1 x.2 q.1).0 ∙ q.2 in
       (x.0, among_leaf m f.at x.0 (way_leads m w.part f.part f.ups f.way x.0 x.1 key), x.2)

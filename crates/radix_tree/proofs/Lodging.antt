@@ -1,19 +1,14 @@
 -- A room in which a route is lodged, as a leaf and as a bit node.
 use Rattle.radix_tree.proofs.{RoomReads.inside, RoomReads.none_some, RoomReads.Has-leaf, PartRooms.frame, Parts.fork_stands, Beside.misses_leaf}
 use Rattle.radix_tree.proofs.{Beside.misses_bit, Beside.named_leaf, Beside.named_bit, Beside.not_new, Beside.not_new_bit, Beside.not_above}
-use Rattle.radix_tree.proofs.Words.{◌≡◌, ℕ, ◌≤◌, ◌==◌, if◌then◌else◌, List, [], ◌∷◌, Option, Some, None, refl, sym, ap, ◌∙◌, eq-eqb, ne_eqb, get, Has, Id}
-use Rattle.radix_tree.proofs.Words.{BitNode, Leaf, Node, BitOf, fork, LeafPart, BitPart, Part, leaf_in, bit_in, leaves_in, bits_in, bit_part, name_of}
-use Rattle.radix_tree.proofs.Words.{ForkAt, Way, leaves_at, forks_at, name_child, with_child, IsSpot, IsLodged, IsBeside, forked, placed, lodge_leaf}
-use Rattle.radix_tree.proofs.Words.{put_leaf, put_bit, with_leaf, lift_leaf, lift_bit, KeepsLeaves, KeepsBits, Entry, Lodged}
-
-at_room : {A : Type 0} (room : Id) (x y : A) → (if room.number == room.number then x else y) ≡ x
-at_room room x y = ap (λ t. if t then x else y) (eq-eqb room.number room.number refl)
-
-off_room : {A : Type 0} (room : Id) (n : ℕ) (x y : A) → (n ≡ room.number → ⊥) → (if n == room.number then x else y) ≡ y
-off_room room n x y other = ap (λ t. if t then x else y) (ne_eqb n room.number other)
+use Rattle.radix_tree.proofs.{Facts.off_room, Facts.own_room}
+use Rattle.radix_tree.proofs.Words.{◌≡◌, ℕ, ◌≤◌, List, [], ◌∷◌, Option, Some, None, refl, sym, ap, ◌∙◌, get, Has, Id, BitNode, Leaf, Node, BitOf, fork}
+use Rattle.radix_tree.proofs.Words.{LeafPart, BitPart, Part, leaf_in, bit_in, leaves_in, bits_in, bit_part, name_of, ForkAt, Way, leaves_at, forks_at}
+use Rattle.radix_tree.proofs.Words.{name_child, with_child, IsSpot, IsLodged, IsBeside, forked, placed, lodge_leaf, put_leaf, put_bit, with_leaf}
+use Rattle.radix_tree.proofs.Words.{lift_leaf, lift_bit, KeepsLeaves, KeepsBits, Entry, Lodged}
 
 -- a room that isn't the bit node above isn't turned
-new_turn : (above : Option Id) (key n : ℕ) (to : Node) (said : Option BitPart) → ((over : Id) → above ≡ Some over → n ≡ over.number → ⊥)
+pub new_turn : (above : Option Id) (key n : ℕ) (to : Node) (said : Option BitPart) → ((over : Id) → above ≡ Some over → n ≡ over.number → ⊥)
     → name_child above key to n said ≡ said
 new_turn None key n to said other = refl
 new_turn (Some over) key n to said other = off_room over n (with_child key to said) said (other over refl)
@@ -21,15 +16,15 @@ new_turn (Some over) key n to said other = off_room over n (with_child key to sa
 module _ {V : Type 0} where
   pub Has-lodged_leaf : (new : Lodged V) (room : Id) (value : V) (l : Leaf) (said : Option (LeafPart V))
       → leaves_in new room.number ≡ lodge_leaf room value l room.number said → Has new room
-  Has-lodged_leaf new room value l said is = Has-leaf new room (is ∙ at_room room (Some (record { block = room.block; value = value; leaf = l })) said) refl
+  Has-lodged_leaf new room value l said is = Has-leaf new room (is ∙ own_room room (Some (record { block = room.block; value = value; leaf = l })) said) refl
 
   -- a leaf that was lodged and written again
   pub leaf_again : (m new : Lodged V) (room : Id) (value : V) (first then_ : Leaf) (said : Option (LeafPart V))
       → leaves_in m room.number ≡ lodge_leaf room value first room.number said
       → leaves_in new room.number ≡ put_leaf room then_ room.number (leaves_in m room.number)
       → leaves_in new room.number ≡ Some (record { block = room.block; value = value; leaf = then_ })
-  leaf_again m new room value first then_ said was is = is ∙ at_room room (with_leaf then_ (leaves_in m room.number)) (leaves_in m room.number)
-      ∙ ap (with_leaf then_) (was ∙ at_room room (Some (record { block = room.block; value = value; leaf = first })) said)
+  leaf_again m new room value first then_ said was is = is ∙ own_room room (with_leaf then_ (leaves_in m room.number)) (leaves_in m room.number)
+      ∙ ap (with_leaf then_) (was ∙ own_room room (Some (record { block = room.block; value = value; leaf = first })) said)
 
   pub Has-again : (m new : Lodged V) (room : Id) (value : V) (first then_ : Leaf) (said : Option (LeafPart V))
       → leaves_in m room.number ≡ lodge_leaf room value first room.number said
@@ -48,7 +43,7 @@ module _ {V : Type 0} where
     no_bit = ap bit_in free;
     leaf = leaves4 room.number ∙ leaf_again m2 m3 room e.value first then_ (leaves_in m1 room.number) (leaves2 room.number) (leaves3 room.number)
         ∙ ap (λ l. Some (record { block = room.block; value = e.value; leaf = l })) leaf_is;
-    bit_node = bits4 room.number ∙ at_room room (bit_part room.block (Some n)) (bits_in m3 room.number) ∙ node_is;
+    bit_node = bits4 room.number ∙ own_room room (bit_part room.block (Some n)) (bits_in m3 room.number) ∙ node_is;
     leaves = λ k other. leaves4 k ∙ leaves3 k ∙ off_room room k (with_leaf then_ (leaves_in m2 k)) (leaves_in m2 k) other
         ∙ leaves2 k ∙ off_room room k (Some (record { block = room.block; value = e.value; leaf = first })) (leaves_in m1 k) other;
     bits = λ k other. bits4 k ∙ off_room room k (bit_part room.block (Some n)) (bits_in m3 k) other ∙ bits3 k ∙ bits2 k;

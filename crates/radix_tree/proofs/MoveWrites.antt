@@ -7,7 +7,9 @@ use Rattle.radix_tree.proofs.Words.{Has, bit_node_of, Id, Links, Node, BitNode, 
 use Rattle.radix_tree.proofs.Words.{name_of, ForkAt, Way, one_if, leaves_at, forks_at, AreOnce, IsWholeBut, nobody_late, out_at, put_bit, put_head}
 use Rattle.radix_tree.proofs.Words.{lift_leaf, lift_bit, KeepsMasks, rename, content_of, KeepsRoutes, CanTake, Lodged, IsBitNode, LeafOf, BitOf}
 use Rattle.radix_tree.proofs.Words.{bit_above, if◌then◌else◌}
-use Rattle.radix_tree.proofs.MovedReads.{one_if_is, none_of, at_room, off_room, content_lift, lift_used, rename_used, leaf_off, bit_off}
+use Rattle.radix_tree.proofs.MovedReads.{one_if_is, at_room, content_lift, lift_used, rename_used, leaf_off, bit_off}
+use Rattle.radix_tree.proofs.{Facts.none_of}
+use Rattle.radix_tree.proofs.{Facts.off_room}
 
 pub bit_said : (to : Id) (n : BitNode) {bit : ℕ} {left right : Node} {above : Option Id} → n.bit ≡ bit → n.zero ≡ left → n.one ≡ right → n.above ≡ above
     → bit_part to.block (Some n) ≡ Some (record { block = to.block; bit = bit; zero = left; one = right; above = above })

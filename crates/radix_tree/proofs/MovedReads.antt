@@ -1,25 +1,18 @@
 -- What rooms say where a bit node is renamed, moved, or has another bit node above it.
-use Rattle.radix_tree.proofs.{AddressBits.zero_not_one, RoomReads.inside, RoomReads.none_some, Beside.named_leaf, Beside.named_bit}
-use Rattle.radix_tree.proofs.Words.{◌≡◌, ℕ, ◌≤◌, ◌==◌, ◌⊎◌, Bool, true, false, if◌then◌else◌, Option, Some, None, refl, sym, ap, ◌∙◌, inl, inr, arith}
-use Rattle.radix_tree.proofs.Words.{eqb-true, eq-eqb, ne_eqb, is_some, get, Seen, Has, Id, Node, LeafOf, BitOf, Tree, leaf, fork, bit_at, LeafPart}
-use Rattle.radix_tree.proofs.Words.{BitPart, leaf_in, leaves_in, name_of, one_if, leaves_at, forks_at, with_child, lift_leaf, lift_bit, leaf_above}
-use Rattle.radix_tree.proofs.Words.{bit_above, renamed, with_renamed, rename, Content, content_of, Lodged}
-
-true_false : true ≡ false → ⊥
-true_false e = cc
+use Rattle.radix_tree.proofs.{RoomReads.inside, RoomReads.none_some, Beside.named_leaf, Beside.named_bit, Facts.off_room}
+use Rattle.radix_tree.proofs.Words.{◌≡◌, ℕ, ◌≤◌, ◌==◌, ◌⊎◌, true, false, if◌then◌else◌, Option, Some, None, refl, sym, ap, ◌∙◌, inl, inr, arith, eqb-true}
+use Rattle.radix_tree.proofs.Words.{eq-eqb, ne_eqb, is_some, get, Seen, Has, Id, Node, LeafOf, BitOf, Tree, leaf, fork, LeafPart, BitPart, leaf_in}
+use Rattle.radix_tree.proofs.Words.{leaves_in, name_of, one_if, leaves_at, forks_at, lift_leaf, lift_bit, leaf_above, bit_above, renamed, with_renamed}
+use Rattle.radix_tree.proofs.Words.{rename, Content, content_of, Lodged, true≢false}
 
 pub same_or_not : (a b : ℕ) → (a ≡ b) ⊎ (a ≡ b → ⊥)
 same_or_not a b = elim (a == b) as (λ t. (a == b) ≡ t → (a ≡ b) ⊎ (a ≡ b → ⊥)) [
   | true ↦ λ e. inl (eqb-true a b e)
-  | false ↦ λ e. inr (λ (s : a ≡ b). true_false (sym (eq-eqb a b s) ∙ e))
+  | false ↦ λ e. inr (λ (s : a ≡ b). true≢false (sym (eq-eqb a b s) ∙ e))
 ] refl
 
 pub none_or_some : (k : ℕ) → (k ≡ 0) ⊎ (1 ≤ k)
 none_or_some k = elim (same_or_not k 0) [ inl e ↦ inl e | inr other ↦ inr (omega arith) ]
-
-pub one_if_most : (t : Bool) → one_if t ≤ 1
-one_if_most true = omega arith
-one_if_most false = omega arith
 
 pub one_if_is : {a : ℕ} (b : ℕ) → a ≡ b → one_if (a == b) ≡ 1
 one_if_is {a = a} b e = ap one_if (eq-eqb a b e)
@@ -27,16 +20,9 @@ one_if_is {a = a} b e = ap one_if (eq-eqb a b e)
 pub one_if_not : (a b : ℕ) → (a ≡ b → ⊥) → one_if (a == b) ≡ 0
 one_if_not a b other = ap one_if (ne_eqb a b other)
 
-pub none_of : {A : Type 0} (o : Option A) → is_some o ≡ false → o ≡ None
-none_of None e = refl
-none_of (Some x) e = absurd (true_false e)
-
 -- a write to one room
 pub at_room : {A : Type 0} (room : Id) (n : ℕ) (x y : A) → n ≡ room.number → (if n == room.number then x else y) ≡ x
 at_room room n x y same = ap (λ t. if t then x else y) (eq-eqb n room.number same)
-
-pub off_room : {A : Type 0} (room : Id) (n : ℕ) (x y : A) → (n ≡ room.number → ⊥) → (if n == room.number then x else y) ≡ y
-off_room room n x y other = ap (λ t. if t then x else y) (ne_eqb n room.number other)
 
 -- ---- a node is lifted
 content_above : {A : Type 0} (above : Option Id) (said : Option (LeafPart A)) → content_of (leaf_above above said) ≡ content_of said
@@ -50,7 +36,7 @@ content_lift (LeafOf room) above n said = elim (n == room.number) as (λ t. cont
   | false ↦ refl
 ]
 
-above_used : (above : Option Id) (said : Option BitPart) → is_some (bit_above above said) ≡ is_some said
+pub above_used : (above : Option Id) (said : Option BitPart) → is_some (bit_above above said) ≡ is_some said
 above_used above None = refl
 above_used above (Some p) = refl
 
@@ -80,15 +66,6 @@ rename_misses (Some up) from to n said other = off_room up n (with_renamed from 
 
 pub renamed_to : (from to room : Id) → room.number ≡ from.number → renamed from to (BitOf room) ≡ BitOf to
 renamed_to from to room same = ap (λ t. if t then BitOf to else BitOf room) (eq-eqb room.number from.number same)
-
--- the bit node names the other one on the side of an address
-pub zero_turned : (address : ℕ) (name : Node) (p : BitPart) → bit_at p.bit address ≡ 0 → with_child address name (Some p) ≡ Some (record p { zero = name })
-zero_turned address name p clear =
-    let test = ne_eqb (bit_at p.bit address) 1 (λ set. zero_not_one clear set) in
-    ap (λ t. Some (if t then record p { one = name } else record p { zero = name })) test
-
-pub one_turned : (address : ℕ) (name : Node) (p : BitPart) → bit_at p.bit address ≡ 1 → with_child address name (Some p) ≡ Some (record p { one = name })
-one_turned address name p set = ap (λ t. Some (if t then record p { one = name } else record p { zero = name })) (eq-eqb (bit_at p.bit address) 1 set)
 
 module _ {V : Type 0} where
   -- a name of a tree without bit nodes in the room stays

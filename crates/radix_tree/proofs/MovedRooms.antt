@@ -6,10 +6,12 @@ use Rattle.radix_tree.proofs.Words.{eqb-true, is_some, Id, Node, BitOf, BitNode,
 use Rattle.radix_tree.proofs.Words.{masks_in, bit_part, head_part, name_of, Stands, Beneath, Way, one_if, forks_at, HasHome, name_child, with_child}
 use Rattle.radix_tree.proofs.Words.{AreOnce, MarkedLists, nobody_late, out_at, put_bit, put_head, lift_leaf, lift_bit, IsExchange, renamed, with_renamed}
 use Rattle.radix_tree.proofs.Words.{rename, Lodged, IsMarked, []}
-use Rattle.radix_tree.proofs.MovedReads.{same_or_not, one_if_is, one_if_not, at_room, rename_misses, renamed_to, zero_turned, one_turned, renamed_off}
+use Rattle.radix_tree.proofs.MovedReads.{same_or_not, one_if_is, one_if_not, at_room, rename_misses, renamed_to, renamed_off}
 use Rattle.radix_tree.proofs.MovedReads.{leaf_off, bit_off, content_used}
 use Rattle.radix_tree.proofs.MoveWrites.{bit_said, IsMove, IsMoved, at_once, at_forks, at_leaves, from_in, not_from, out_not_from, not_to, beneath_whole}
 use Rattle.radix_tree.proofs.MoveWrites.{apart, not_spine, to_not_spine, contents_stay, used_stays, used_to, used_from, bit_lifts, head_stays}
+use Rattle.radix_tree.proofs.{PartRooms.zero_turned}
+use Rattle.radix_tree.proofs.{PartRooms.one_turned}
 
 module _ {V : Type 0} where
   -- ---- the part with the bit node in the other room

@@ -9,6 +9,11 @@ use Rattle.std.proofs.lemmas.{Cmp.nat_cmp_total, List.Sums.sum_by-cons}
 use Rattle.radix_tree.proofs.Words.{◌≡◌, ℕ, ◌+◌, ◌<◌, ◌==◌, ◌||◌, Bool, true, false, cond, if◌then◌else◌, nat_eq, List, [], ◌∷◌, length, map, Result, Ok}
 use Rattle.radix_tree.proofs.Words.{Err, Option, Some, None, is_some, refl, sym, ap, ◌∙◌, subst, arith, eqb-true, eq-eqb, ne_eqb, nat_cmp, is_lt, FinMap}
 use Rattle.radix_tree.proofs.Words.{get, keys, Seen, Rooms, Node, Contents, uses, contents, leaf_in, leaves_in, HasRoomMore, one_if, Lodged}
+use Rattle.radix_tree.proofs.Words.{true≢false}
+use Rattle.radix_tree.proofs.{Counted.one_of}
+use Rattle.radix_tree.proofs.{Facts.none_of}
+use Rattle.radix_tree.proofs.{RoomReads.none_some}
+use Rattle.radix_tree.proofs.{Facts.no_use}
 
 both_first : (a b : Bool) → T (a && b) → T a
 both_first true b p = tt
@@ -17,12 +22,6 @@ both_first false b p = p
 both_second : (a b : Bool) → T (a && b) → T b
 both_second true b p = p
 both_second false b p = absurd p
-
-abbrev one_of : Bool → ℕ
-one_of b = cond b 1 0
-
-true_false : true ≡ false → ⊥
-true_false e = cc
 
 true_not_lt : (o : Ordering) → is_eq o ≡ true → T (is_lt o) → ⊥
 true_not_lt Less tied less = absurd (subst T (sym tied) tt)
@@ -57,7 +56,7 @@ module _ {X : Type 0} where
             let here = ap one_of (eq-eqb e.0 n (sym same)) in
             omega (arith, cons, behind, none, here)
         | false ↦ λ is.
-            let here = ap one_of (ne_eqb e.0 n (λ (e_is : e.0 ≡ n). true_false (sym (eq-eqb n e.0 (sym e_is)) ∙ is))) in
+            let here = ap one_of (ne_eqb e.0 n (λ (e_is : e.0 ≡ n). true≢false (sym (eq-eqb n e.0 (sym e_is)) ∙ is))) in
             omega (arith, cons, behind, here)
       ] refl ∙ ap (λ b. one_if (is_some (cond b (Some e.1) (find nat_cmp n es)))) (sym (unsigned_tied n e.0))
 
@@ -65,14 +64,6 @@ module _ {X : Type 0} where
   uses_keys m n = uses_list n (entries m) (entries_sorted m) ∙ ap (λ o. one_if (is_some o)) (sym (get-entries m n))
 
 -- ---- rooms that come and go
-no_use : (b : Bool) → one_if b ≡ 0 → b ≡ false
-no_use true e = absurd (omega (arith, e))
-no_use false e = refl
-
-none_of : {A : Type 0} (o : Option A) → is_some o ≡ false → o ≡ None
-none_of None e = refl
-none_of (Some x) e = absurd (true_false e)
-
 more_by : (n room : ℕ) {now : Bool} (was : Bool) → now ≡ (n == room) || was → (n ≡ room → was ≡ false) → one_if now ≡ one_if was + (if room == n then 1 else 0)
 more_by n room {now = now} was is free =
     elim (n == room) as (λ b. (n == room) ≡ b → now ≡ b || was → one_if now ≡ one_if was + (if room == n then 1 else 0)) [
@@ -81,7 +72,7 @@ more_by n room {now = now} was is free =
           let before = ap one_if (free (eqb-true n room same)) in
           let after = ap one_if now_is in omega (arith, here, before, after)
       | false ↦ λ other now_is.
-          let here = ap one_of (ne_eqb room n (λ (e : room ≡ n). true_false (sym (eq-eqb n room (sym e)) ∙ other))) in
+          let here = ap one_of (ne_eqb room n (λ (e : room ≡ n). true≢false (sym (eq-eqb n room (sym e)) ∙ other))) in
           let after = ap one_if now_is in omega (arith, here, after)
     ] refl is
 
@@ -134,9 +125,6 @@ less_of Greater P Q R less m = absurd less
 below : (a b : ℕ) → T (is_lt (nat_cmp a b)) → a < b
 below a b less = less_of (nat_cmp a b) (a < b) (a ≡ b) (b < a) less (ranked a b (nat_cmp a b) refl)
 
-no_some : {A : Type 0} {x : A} → None ≡ Some x → ⊥
-no_some e = cc
-
 module _ {X : Type 0} where
   not_later : (k a : ℕ) (es : List (ℕ × X)) → k < a → T (below_all nat_cmp a es) → find nat_cmp k es ≡ None
   not_later k a [] less sorted = refl
@@ -149,10 +137,10 @@ module _ {X : Type 0} where
       ] refl
 
   put_keys : (k : ℕ) (v c : X) (es : List (ℕ × X)) → T (is_sorted nat_cmp es) → find nat_cmp k es ≡ Some c → numbers (put nat_cmp k v es) ≡ numbers es
-  put_keys k v c [] sorted found = absurd (no_some found)
+  put_keys k v c [] sorted found = absurd (none_some found)
   put_keys k v c (e ∷ es) sorted found = elim (nat_cmp k e.0) as (λ o. nat_cmp k e.0 ≡ o → cond (is_eq o) (Some e.1) (find nat_cmp k es) ≡ Some c
       → numbers (by_order o ((k, v) ∷ e ∷ es) ((e.0, v) ∷ es) (e ∷ put nat_cmp k v es)) ≡ e.0 ∷ numbers es) [
-        | Less ↦ λ is at. absurd (no_some (sym (not_later k e.0 es (ranked k e.0 Less (sym is)) (both_first _ _ sorted)) ∙ at))
+        | Less ↦ λ is at. absurd (none_some (sym (not_later k e.0 es (ranked k e.0 Less (sym is)) (both_first _ _ sorted)) ∙ at))
         | Equal ↦ λ is at. refl
         | Greater ↦ λ is at. ap (λ ns. e.0 ∷ ns) (put_keys k v c es (both_second _ _ sorted) at)
       ] refl found

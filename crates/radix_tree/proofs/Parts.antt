@@ -10,7 +10,7 @@ leaf_not_bit e = cc
 bit_not_leaf : {x y : Id} → BitOf x ≡ LeafOf y → ⊥
 bit_not_leaf e = cc
 
-same_bit_node : {x y : Id} → BitOf x ≡ BitOf y → x ≡ y
+pub same_bit_node : {x y : Id} → BitOf x ≡ BitOf y → x ≡ y
 same_bit_node e = cc
 
 same_leaf : {x y : Id} → LeafOf x ≡ LeafOf y → x ≡ y

@@ -1,35 +1,12 @@
 -- The lists of masks of bit nodes above a part stay where the part is exchanged and its masks that are listed further up stay.
 use Rattle.radix_tree.proofs.{PartRooms.one_if_same, Plugs.Aside, Plugs.aside_in, Plugs.in_plug, Plugs.plug_in, Plugs.forks_within, Plugs.low_rises}
-use Rattle.radix_tree.proofs.Words.{◌≡◌, ℕ, ◌+◌, ◌<◌, ◌≤◌, List, [], ◌∷◌, Option, refl, sym, ap, ◌∙◌, subst, inl, inr, arith, is_some, Id, Placed, Tree}
-use Rattle.radix_tree.proofs.Words.{leaf, fork, IsAmong, IsIn, IsTree, Heads, Masks, MasksStand, Falls, forks_at, Frame, on_zero, on_one, plug, low_past}
-use Rattle.radix_tree.proofs.Words.{IsMarked, IsMaskList, MarkedIn, MarkedLists}
+use Rattle.radix_tree.proofs.{MaskLists.falls_among, MaskLinks.stand_same}
+use Rattle.radix_tree.proofs.Words.{◌≡◌, ℕ, ◌+◌, ◌<◌, ◌≤◌, List, [], ◌∷◌, Option, sym, ap, ◌∙◌, inl, inr, arith, is_some, Id, Placed, Tree, leaf, fork}
+use Rattle.radix_tree.proofs.Words.{IsAmong, IsIn, IsTree, Heads, Masks, forks_at, Frame, on_zero, on_one, plug, low_past, IsMarked, IsMaskList, MarkedIn}
+use Rattle.radix_tree.proofs.Words.{MarkedLists}
 
 module _ {V : Type 0} where
   -- ---- one list
-  -- the ranks of a list are between its bounds
-  pub falls_between : (low top : ℕ) (ms : List (Placed V)) → Falls low top ms → (x : Placed V) → IsAmong x ms → (low ≤ x.entry.rank) × (x.entry.rank < top)
-  falls_between low top [] falls x among = absurd among
-  falls_between low top (y ∷ ys) falls x among = elim among [
-    | inl e ↦ subst (λ p. (low ≤ p.entry.rank) × (p.entry.rank < top)) e (falls.0, falls.1)
-    | inr behind ↦ let between = falls_between low y.entry.rank ys falls.2 x behind in
-        let first = falls.1 in
-        let below = between.1 in
-        let lt : x.entry.rank < top = omega arith in (between.0, lt)
-  ]
-
-  pub masks_stand_same : (K J : Masks) (ms : List (Placed V)) → ((x : Placed V) → IsAmong x ms → J x.room.number ≡ K x.room.number) → MasksStand K ms
-      → MasksStand J ms
-  masks_stand_same K J [] same stands = tt
-  masks_stand_same K J (x ∷ xs) same stands = (same x (inl refl) ∙ stands.0, masks_stand_same K J xs (λ y among. same y (inr among)) stands.1)
-
-  -- a member of a list is marked
-  pub stands_marked : (K : Masks) (ms : List (Placed V)) → MasksStand K ms → (x : Placed V) → IsAmong x ms → IsMarked K x
-  stands_marked K [] stands x among = absurd among
-  stands_marked K (y ∷ ys) stands x among = elim among [
-    | inl e ↦ subst (IsMarked K) e (ap is_some stands.0)
-    | inr behind ↦ stands_marked K ys stands.1 x behind
-  ]
-
   pub marked_same : (K J : Masks) (x : Placed V) → J x.room.number ≡ K x.room.number → IsMarked K x → IsMarked J x
   marked_same K J x same marked = ap is_some same ∙ marked
 
@@ -39,11 +16,11 @@ module _ {V : Type 0} where
       → IsMaskList K first low b M → IsMaskList J other low b N
   mask_list_same K J low b N same stays came list =
       let short = λ (x : Placed V) (among : IsAmong x list.masks).
-      (let below = (falls_between low (b + 1) list.masks list.falls x among).1 in let le : x.entry.rank ≤ b = omega arith in le) in
+      (let below = (falls_among low (b + 1) list.masks list.falls x among).1 in let le : x.entry.rank ≤ b = omega arith in le) in
       record {
         masks = list.masks;
         begins = list.begins ∙ sym same;
-        stands = masks_stand_same K J list.masks (λ x among. (stays x (list.within x among) (short x among)).1) list.stands;
+        stands = stand_same K J list.masks (λ x among. (stays x (list.within x among) (short x among)).1) list.stands;
         falls = list.falls;
         has = λ x member least most. list.has x (came x member most) least most;
         within = λ x among. (stays x (list.within x among) (short x among)).0;

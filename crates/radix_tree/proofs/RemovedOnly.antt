@@ -1,10 +1,10 @@
 -- The only route of a tree, which has no other member in its chain and no bit node above.
 use Rattle.radix_tree.proofs.{RoomReads.inside, RoomReads.none_some, RoomReads.AreLinks, WholeRoutes.part_shown, MovedReads.same_or_not}
-use Rattle.radix_tree.proofs.{MovedReads.none_or_some, MovedReads.none_of, MovedReads.one_if_not}
-use Rattle.radix_tree.proofs.Words.{◌≡◌, ℕ, ◌≤◌, ◌⊎◌, Bool, true, false, List, [], ◌∷◌, Option, Some, None, refl, sym, ap, ◌∙◌, inl, inr, arith, eqb-true}
-use Rattle.radix_tree.proofs.Words.{is_some, Has, leaf_of, Id, Links, Leaf, Node, Placed, Tree, leaf, fork, routes_of, LeafPart, Leaves, Bits, leaf_in}
-use Rattle.radix_tree.proofs.Words.{leaves_in, bits_in, first_room, ChainStands, Stands, one_if, members_at, leaves_at, shown, shown_entry, Gains}
-use Rattle.radix_tree.proofs.Words.{IsWholeBut, is_of_key, has_key, late_at, nobody_out, CanTake, member_beside, Lodged}
+use Rattle.radix_tree.proofs.{MovedReads.none_or_some, MovedReads.one_if_not, Facts.no_use, Facts.none_of}
+use Rattle.radix_tree.proofs.Words.{◌≡◌, ℕ, ◌≤◌, ◌⊎◌, true, List, [], ◌∷◌, Option, Some, None, refl, sym, ap, ◌∙◌, inl, inr, arith, eqb-true, is_some}
+use Rattle.radix_tree.proofs.Words.{Has, leaf_of, Id, Links, Leaf, Node, Placed, Tree, leaf, fork, routes_of, LeafPart, Leaves, Bits, leaf_in, leaves_in}
+use Rattle.radix_tree.proofs.Words.{bits_in, first_room, ChainStands, Stands, one_if, members_at, leaves_at, shown, shown_entry, Gains, IsWholeBut}
+use Rattle.radix_tree.proofs.Words.{is_of_key, has_key, late_at, nobody_out, CanTake, member_beside, Lodged}
 
 -- ---- the other member of a chain
 pub beside_is : (next previous : Option Id) {to : Id} → member_beside next previous ≡ Some to → (next ≡ Some to) ⊎ (previous ≡ Some to)
@@ -14,14 +14,6 @@ beside_is (Some id) previous is = inl is
 pub beside_none : (next previous : Option Id) → member_beside next previous ≡ None → (next ≡ None) × (previous ≡ None)
 beside_none None previous is = (refl, is)
 beside_none (Some id) previous is = absurd (none_some (sym is))
-
-pub none_if : {A : Type 0} (o : Option A) → ((x : A) → o ≡ Some x → ⊥) → o ≡ None
-none_if None never = refl
-none_if (Some x) never = absurd (never x refl)
-
-not_one : (t : Bool) → one_if t ≡ 0 → t ≡ false
-not_one true e = absurd cc
-not_one false e = refl
 
 module _ {V : Type 0} where
   -- ---- a room's leaf
@@ -114,7 +106,7 @@ module _ {V : Type 0} where
       let count = w.leaves k in
       let one = ap (leaves_at k) o.is in
       let off = one_if_not o.route.room.number k (λ (e : o.route.room.number ≡ k). other (sym e ∙ o.number)) in
-      none_of (leaves_in m k) (not_one (is_some (leaves_in m k)) (omega arith))
+      none_of (leaves_in m k) (no_use (is_some (leaves_in m k)) (omega arith))
 
   pub only_shown : {m : Lodged V} {root : Node} {n : ℕ} (w : IsWholeBut m root (late_at n) nobody_out) (p : LeafPart V) → IsOnly w.part.tree n p
       → Gains (shown_entry p) [] (shown m (Some root))

@@ -7,14 +7,11 @@ use Rattle.radix_tree.proofs.{PartRooms.one_if_same, Numbers.uses_keys, Numbers.
 use Rattle.radix_tree.proofs.Words.{◌≡◌, ℕ, ◌+◌, ◌≤◌, ◌==◌, Bool, true, false, cond, nat_eq, List, ◌∷◌, ◌++◌, length, map, Option, Some, None, is_some}
 use Rattle.radix_tree.proofs.Words.{refl, sym, ap, ◌∙◌, arith, eqb-true, get, keys, Node, uses, Placed, Tree, leaf, fork, routes_of, one_if, members_at}
 use Rattle.radix_tree.proofs.Words.{leaves_at, shown, Holds, Lodged, []}
+use Rattle.radix_tree.proofs.{Facts.one_if_most}
 
 one_if_cond : (b : Bool) → cond b 1 0 ≡ one_if b
 one_if_cond true = refl
 one_if_cond false = refl
-
-one_if_most : (b : Bool) → one_if b ≤ 1
-one_if_most true = omega arith
-one_if_most false = omega arith
 
 uses_cons : (n k : ℕ) (ks : List ℕ) → uses n (k ∷ ks) ≡ one_if (k == n) + uses n ks
 uses_cons n k ks = sum_by-cons (λ j. cond (nat_eq j n) 1 0) k ks ∙ ap (λ u. u + uses n ks) (one_if_cond (k == n))

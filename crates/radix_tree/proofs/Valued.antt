@@ -2,15 +2,14 @@
 use Rattle.radix_nodes.proofs.Callers.{put_value-is, get-put_room}
 use Rattle.radix_tree.proofs.{Counted.of_rank-cons, Counted.of_rank-append, Numbers.insert_keys, OrderLemmas.own_pair, TableLemmas.with_parts}
 use Rattle.radix_tree.proofs.{TableLemmas.with_later, TableLemmas.With.later, TableLemmas.With.same, TableLemmas.With.sooner, TreeOrder.tree_is_table}
-use Rattle.radix_tree.proofs.{Showing.shown_is, WholeParts.once_but, ValuedTrees.all_valued_in}
-use Rattle.radix_tree.proofs.Words.{◌≡◌, ℕ, ◌+◌, ◌≤◌, ◌==◌, Bool, true, false, IsTrue, if◌then◌else◌, List, ◌∷◌, ◌++◌, map, Option, Some, None, is_some}
-use Rattle.radix_tree.proofs.Words.{refl, inl, inr, sym, ap, ◌∙◌, subst, arith, eqb-true, eq-eqb, append_assoc, AllByRecursion, get, keys, Seen, Has}
-use Rattle.radix_tree.proofs.Words.{seen, put_value, leaf_of, bit_node_of, mask_node_of, Id, Node, precedes, IsTable, with_entry, Placed, Tree, leaf}
-use Rattle.radix_tree.proofs.Words.{fork, IsAmong, IsIn, routes_of, LeafPart, leaf_in, bit_in, head_in, mask_in, bit_part, mask_part, leaves_in, bits_in}
-use Rattle.radix_tree.proofs.Words.{heads_in, masks_in, Stands, one_if, members_at, leaves_at, HaveOneFork, shown, IsWhole, KeepsBits, KeepsHeads}
-use Rattle.radix_tree.proofs.Words.{KeepsMasks, Entry, of_rank, AreCounted, Tells, Finds, HasPair, In, Lodged, nobody_late, [], MarkedLists, IsMarked}
-use Rattle.radix_tree.proofs.Words.{◌⊎◌}
-use Rattle.radix_tree.proofs.ValuedTrees.{true_false, pointwise, valued, all_valued, tree_valued, name_valued, tree_is_valued, put, stands_valued}
+use Rattle.radix_tree.proofs.{Showing.shown_is, WholeParts.once_but, ValuedTrees.all_valued_in, Facts.no_use, ChainLists.map_entries, WholeRoutes.all_at}
+use Rattle.radix_tree.proofs.Words.{◌≡◌, ℕ, ◌+◌, ◌≤◌, ◌==◌, Bool, true, false, IsTrue, if◌then◌else◌, List, ◌∷◌, ◌++◌, Option, Some, None, is_some, refl}
+use Rattle.radix_tree.proofs.Words.{inl, inr, sym, ap, ◌∙◌, subst, arith, eqb-true, eq-eqb, append_assoc, get, keys, Seen, Has, seen, put_value, leaf_of}
+use Rattle.radix_tree.proofs.Words.{bit_node_of, mask_node_of, Id, Node, precedes, IsTable, with_entry, Placed, Tree, leaf, fork, IsAmong, IsIn}
+use Rattle.radix_tree.proofs.Words.{routes_of, LeafPart, leaf_in, bit_in, head_in, mask_in, bit_part, mask_part, leaves_in, bits_in, heads_in, masks_in}
+use Rattle.radix_tree.proofs.Words.{Stands, one_if, members_at, leaves_at, HaveOneFork, shown, IsWhole, KeepsBits, KeepsHeads, KeepsMasks, Entry, of_rank}
+use Rattle.radix_tree.proofs.Words.{AreCounted, Tells, Finds, HasPair, In, Lodged, nobody_late, [], MarkedLists, IsMarked, ◌⊎◌, true≢false}
+use Rattle.radix_tree.proofs.ValuedTrees.{pointwise, valued, all_valued, tree_valued, name_valued, tree_is_valued, put, stands_valued}
 use Rattle.radix_tree.proofs.ValuedTrees.{leaves_valued, forks_valued, spare_valued, in_valued, home_valued, lists_valued}
 
 module _ {V : Type 0} (n : ℕ) (value : V) where
@@ -22,25 +21,18 @@ module _ {V : Type 0} (n : ℕ) (value : V) where
     was : old ≡ front ++ e ∷ back
     now : new ≡ front ++ record e { value = value } ∷ back
 
-  abbrev entries_of : List (Placed V) → List (Entry V)
-  entries_of c = map (λ (p : Placed V). p.entry) c
-
   apart : (x : Placed V) → (x.room.number == n) ≡ false → (valued n value x).entry ≡ x.entry
   apart x other = ap (λ b. record { key = x.entry.key; rank = x.entry.rank; value = if b then value else x.entry.value }) other
 
   here_is : (x : Placed V) → (x.room.number == n) ≡ true → (valued n value x).entry ≡ record x.entry { value = value }
   here_is x is = ap (λ b. record { key = x.entry.key; rank = x.entry.rank; value = if b then value else x.entry.value }) is
 
-  not_one : (b : Bool) → one_if b ≡ 0 → b ≡ false
-  not_one true e = absurd (omega (arith, e))
-  not_one false e = refl
-
-  chain_aside : (c : List (Placed V)) → members_at n c ≡ 0 → entries_of (all_valued n value c) ≡ entries_of c
+  chain_aside : (c : List (Placed V)) → members_at n c ≡ 0 → map_entries (all_valued n value c) ≡ map_entries c
   chain_aside [] none = refl
   chain_aside (x ∷ xs) none =
       let here : one_if (x.room.number == n) ≡ 0 = omega (arith, none) in
       let rest : members_at n xs ≡ 0 = omega (arith, none) in
-      ap (λ e. e ∷ entries_of (all_valued n value xs)) (apart x (not_one (x.room.number == n) here)) ∙ ap (λ es. x.entry ∷ es) (chain_aside xs rest)
+      ap (λ e. e ∷ map_entries (all_valued n value xs)) (apart x (no_use (x.room.number == n) here)) ∙ ap (λ es. x.entry ∷ es) (chain_aside xs rest)
 
   tree_aside : (t : Tree V) → leaves_at n t ≡ 0 → routes_of (tree_valued n value t) ≡ routes_of t
   tree_aside (leaf x xs) none = chain_aside (x ∷ xs) none
@@ -64,17 +56,17 @@ module _ {V : Type 0} (n : ℕ) (value : V) where
   ]
 
   chain_put : (x : Placed V) (c : List (Placed V)) → x.room.number ≡ n → IsAmong x c → members_at n c ≤ 1
-      → IsPut x.entry (entries_of c) (entries_of (all_valued n value c))
+      → IsPut x.entry (map_entries c) (map_entries (all_valued n value c))
   chain_put x [] is among once = absurd among
   chain_put x (y ∷ c) is among once = elim among [
     | inl e ↦ let at = eq-eqb y.room.number n (ap (λ p. p.room.number) e ∙ is) in
         let here = ap one_if at in
         let none : members_at n c ≡ 0 = omega (arith, here, once) in
-        subst (λ p. IsPut p.entry (y.entry ∷ entries_of c) (entries_of (all_valued n value (y ∷ c)))) e (record {
+        subst (λ p. IsPut p.entry (y.entry ∷ map_entries c) (map_entries (all_valued n value (y ∷ c)))) e (record {
           front = [];
-          back = entries_of c;
+          back = map_entries c;
           was = refl;
-          now = ap (λ f. f ∷ entries_of (all_valued n value c)) (here_is y at)
+          now = ap (λ f. f ∷ map_entries (all_valued n value c)) (here_is y at)
               ∙ ap (λ es. record y.entry { value = value } ∷ es) (chain_aside c none);
         })
     | inr rest ↦ let some = counted_among x c is rest in
@@ -85,7 +77,7 @@ module _ {V : Type 0} (n : ℕ) (value : V) where
           front = y.entry ∷ p.front;
           back = p.back;
           was = ap (λ es. y.entry ∷ es) p.was;
-          now = ap (λ f. f ∷ entries_of (all_valued n value c)) (apart y (not_one (y.room.number == n) here)) ∙ ap (λ es. y.entry ∷ es) p.now;
+          now = ap (λ f. f ∷ map_entries (all_valued n value c)) (apart y (no_use (y.room.number == n) here)) ∙ ap (λ es. y.entry ∷ es) p.now;
         }
   ]
 
@@ -117,20 +109,15 @@ module _ {V : Type 0} (n : ℕ) (value : V) where
         }
   ]
 
-  -- in a table that is the entry at its pair
-  first_ahead : (P : Entry V → Type 0) (front back : List (Entry V)) (x : Entry V) → AllByRecursion P (front ++ x ∷ back) → P x
-  first_ahead P [] back x all = all.0
-  first_ahead P (f ∷ front) back x all = first_ahead P front back x all.1
-
   placed_in : (front back : List (Entry V)) (x : Entry V) → IsTable (front ++ x ∷ back)
       → with_entry (record x { value = value }) (front ++ x ∷ back) ≡ front ++ record x { value = value } ∷ back
   placed_in [] back x table = elim (with_parts (record x { value = value }) x back table) [
-    | later ahead differs is ↦ absurd (true_false (sym (own_pair x) ∙ differs))
+    | later ahead differs is ↦ absurd (true≢false (sym (own_pair x) ∙ differs))
     | same pair at gone is alone ↦ is
-    | sooner ahead differs gone is ↦ absurd (true_false (sym (own_pair x) ∙ differs))
+    | sooner ahead differs gone is ↦ absurd (true≢false (sym (own_pair x) ∙ differs))
   ]
   placed_in (f ∷ front) back x table =
-      with_later (record x { value = value }) f (front ++ x ∷ back) (first_ahead (λ g. IsTrue (precedes f g)) front back x table.1)
+      with_later (record x { value = value }) f (front ++ x ∷ back) (all_at (λ g. IsTrue (precedes f g)) front back x table.1)
       ∙ ap (λ es. f ∷ es) (placed_in front back x table.2)
 
 -- ---- the rooms

@@ -1,11 +1,8 @@
 -- A value in a room changes: the tree with it, which the rooms stand for as before.
-use Rattle.radix_tree.proofs.Words.{◌≡◌, ℕ, ◌+◌, ◌≤◌, ◌==◌, Bool, true, false, if◌then◌else◌, List, ◌∷◌, Option, Some, None, refl, sym, ap, ◌∙◌, subst}
-use Rattle.radix_tree.proofs.Words.{inl, inr, Id, Placed, Tree, leaf, fork, IsAmong, IsIn, IsChain, HaveBit, IsTree, LeafPart, Leaves, Bits, Heads, Masks}
-use Rattle.radix_tree.proofs.Words.{leaf_part, first_room, name_of, ChainStands, Stands, MasksStand, Falls, IsMarked, MarkedIn, MarkedLists, one_if}
-use Rattle.radix_tree.proofs.Words.{members_at, leaves_at, forks_at, HasHome, AreIdle, HasOneFork, HaveOneFork, []}
-
-pub true_false : true ≡ false → ⊥
-true_false e = cc
+use Rattle.radix_tree.proofs.Words.{◌≡◌, ℕ, ◌+◌, ◌≤◌, ◌==◌, Bool, if◌then◌else◌, List, ◌∷◌, Option, Some, None, refl, sym, ap, ◌∙◌, subst, inl, inr, Id}
+use Rattle.radix_tree.proofs.Words.{Placed, Tree, leaf, fork, IsAmong, IsIn, IsChain, HaveBit, IsTree, LeafPart, Leaves, Bits, Heads, Masks, leaf_part}
+use Rattle.radix_tree.proofs.Words.{first_room, name_of, ChainStands, Stands, MasksStand, Falls, IsMarked, MarkedIn, MarkedLists, one_if, members_at}
+use Rattle.radix_tree.proofs.Words.{leaves_at, forks_at, HasHome, AreIdle, HasOneFork, HaveOneFork, []}
 
 pub pointwise : {A : Type 0} (f g : ℕ → A) → ((n : ℕ) → f n ≡ g n) → f ≡ g
 pointwise f g alike = λ i n. alike n i

@@ -7,9 +7,7 @@ use Rattle.radix_tree.proofs.Words.{◌≡◌, ℕ, zero, suc, ◌+◌, ◌-◌,
 use Rattle.radix_tree.proofs.Words.{None, refl, sym, ap, ◌∙◌, subst, inl, inr, arith, eqb-true, eq-eqb, append_assoc, Id, Placed, Tree, IsIn, IsTree}
 use Rattle.radix_tree.proofs.Words.{routes_of, Leaves, Bits, Part, Run, leaves_in, bits_in, leaf_part, first_room, name_of, ForkAt, LeafAt, Way, LedTo}
 use Rattle.radix_tree.proofs.Words.{side_behind, chain_behind, ahead, Under, IsBefore, IsFirst, IsAt, chain_shown, beneath_shown, Entry, Place, Lodged}
-
-true_false : true ≡ false → ⊥
-true_false e = cc
+use Rattle.radix_tree.proofs.Words.{true≢false}
 
 zero_bit : (b : ℕ) → bit_at b 0 ≡ 0
 unfolding bit_at
@@ -23,7 +21,7 @@ at_one {v = v} x y e = ap (λ v. if v == 1 then x else y) e
 
 -- the side on which a key is, as it was tested
 pub on_zero : (b key : ℕ) {t : Bool} → t ≡ (bit_at b key == 1) → t ≡ false → bit_at b key ≡ 0
-on_zero b key is fails = elim (zero_or_one b key) [ inl e ↦ e | inr e ↦ absurd (true_false (sym (eq-eqb (bit_at b key) 1 e) ∙ sym is ∙ fails)) ]
+on_zero b key is fails = elim (zero_or_one b key) [ inl e ↦ e | inr e ↦ absurd (true≢false (sym (eq-eqb (bit_at b key) 1 e) ∙ sym is ∙ fails)) ]
 
 pub on_one : (b key : ℕ) {t : Bool} → t ≡ (bit_at b key == 1) → t ≡ true → bit_at b key ≡ 1
 on_one b key is holds = eqb-true (bit_at b key) 1 (sym is ∙ holds)

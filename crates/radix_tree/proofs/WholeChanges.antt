@@ -1,5 +1,5 @@
 -- A part of a table's tree is exchanged for another, and so the table's rooms as a whole change.
-use Rattle.radix_tree.proofs.{TreeMembers.bit_beneath, PlugLists.marked_same, PlugLists.plug_lists, PlugLists.KeepsAbove, WholeParts.some_of}
+use Rattle.radix_tree.proofs.{TreeMembers.bit_beneath, PlugLists.marked_same, PlugLists.plug_lists, PlugLists.KeepsAbove, Facts.some_of}
 use Rattle.radix_tree.proofs.{WholeParts.once_but, WholeParts.Fits}
 use Rattle.radix_tree.proofs.Words.{◌≡◌, ℕ, ◌+◌, ◌<◌, ◌≤◌, ◌⊎◌, Bool, true, List, [], ◌∷◌, Some, None, sym, ap, ◌∙◌, subst, inl, inr, arith, is_some}
 use Rattle.radix_tree.proofs.Words.{Node, Placed, Tree, IsIn, IsTree, MaskPart, Part, leaves_in, bits_in, heads_in, masks_in, one_if, leaves_at, forks_at}

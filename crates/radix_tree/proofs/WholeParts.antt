@@ -1,19 +1,8 @@
 -- A table's rooms as a whole, where no route is late and no room is on its way out.
-use Rattle.radix_tree.proofs.{TreeMembers.bit_beneath}
-use Rattle.radix_tree.proofs.Words.{◌≡◌, ℕ, ◌+◌, ◌<◌, ◌≤◌, ◌⊎◌, Bool, true, false, Option, Some, None, refl, inl, inr, arith, is_some, Node, Placed, Tree}
-use Rattle.radix_tree.proofs.Words.{leaf, fork, IsIn, IsTree, MaskPart, Heads, Masks, Part, Lists, leaves_in, bits_in, heads_in, masks_in, one_if}
-use Rattle.radix_tree.proofs.Words.{leaves_at, forks_at, HasHome, IsWhole, AreOnce, IsMarked, MarkedLists, IsWholeBut, nobody_out, Lodged, AreListed}
-
-pub one_if_most : (b : Bool) → one_if b ≤ 1
-one_if_most true = omega arith
-one_if_most false = omega arith
-
-false_not_true : false ≡ true → ⊥
-false_not_true e = cc
-
-pub some_of : (o : Option MaskPart) → is_some o ≡ true → (p : MaskPart) × (o ≡ Some p)
-some_of None e = absurd (false_not_true e)
-some_of (Some p) e = (p, refl)
+use Rattle.radix_tree.proofs.{TreeMembers.bit_beneath, Facts.one_if_most}
+use Rattle.radix_tree.proofs.Words.{◌≡◌, ℕ, ◌+◌, ◌<◌, ◌≤◌, ◌⊎◌, Bool, true, Some, inl, inr, arith, is_some, Node, Placed, Tree, leaf, fork, IsIn, IsTree}
+use Rattle.radix_tree.proofs.Words.{MaskPart, Heads, Masks, Part, Lists, leaves_in, bits_in, heads_in, masks_in, one_if, leaves_at, forks_at, HasHome}
+use Rattle.radix_tree.proofs.Words.{IsWhole, AreOnce, IsMarked, MarkedLists, IsWholeBut, nobody_out, Lodged, AreListed, true≢false, sym}
 
 module _ {V : Type 0} where
   -- ---- no route late, and no room on its way out
@@ -37,7 +26,7 @@ module _ {V : Type 0} where
 
   pub whole_listed : {m : Lodged V} {root : Node} (w : IsWhole m root) → AreListed m w.part
   whole_listed {m = m} w = marked_lists (heads_in m) (masks_in m) w.part.low w.part.tree w.part.is
-      (λ x at home. elim (w.all x at home) [ inl marked ↦ marked | inr late ↦ absurd (false_not_true late) ]) w.lists
+      (λ x at home. elim (w.all x at home) [ inl marked ↦ marked | inr late ↦ absurd (true≢false (sym late)) ]) w.lists
 
   -- the routes that are late may be told anew: each route with a home is marked or among them
   abbrev pub with_late : {m : Lodged V} {root : Node} {late : ℕ → Bool} {out : ℕ → ℕ} (later : ℕ → Bool) (w : IsWholeBut m root late out)

@@ -49,7 +49,7 @@ module _ {V : Type 0} where
 
   -- ---- a table with an entry, and without
   -- what holds of all elements holds of one among them
-  all_at : (P : Entry V → Type 0) (front back : List (Entry V)) (e : Entry V) → AllByRecursion P (front ++ e ∷ back) → P e
+  pub all_at : (P : Entry V → Type 0) (front back : List (Entry V)) (e : Entry V) → AllByRecursion P (front ++ e ∷ back) → P e
   all_at P [] back e all = all.0
   all_at P (x ∷ front) back e all = all_at P front back e all.1
 

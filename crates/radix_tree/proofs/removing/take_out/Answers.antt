@@ -1,7 +1,8 @@
 use Rattle.radix_tree.proofs.Words.{◌∙◌, sym, ap}
-use Rattle.radix_tree.proofs.RemovedOnly.{none_if, can_take, leaf_at, leaf_is, alone_is, member_is, only, only_room, only_shown}
+use Rattle.radix_tree.proofs.RemovedOnly.{can_take, leaf_at, leaf_is, alone_is, member_is, only, only_room, only_shown}
 use Rattle.radix_tree.proofs.MovedReads.{Has_kept}
 use Rattle.radix_tree.proofs.removing.take_out.Goals as goal
+use Rattle.radix_tree.proofs.{Facts.none_if}
 
 pub vacate-requires-clause-from : goal.vacate-requires-clause-from
 vacate-requires-clause-from g c = Has_kept c.remove_from_chain-rest.new.nodes.lodged (c.remove_from_chain-rest.ensures.rooms c.args.at.number) c.requires.there

@@ -1,0 +1,32 @@
+-- Facts of options, of counts of one, and of a write to one room, which several proofs use.
+use Rattle.radix_tree.proofs.Words.{◌≡◌, ℕ, ◌≤◌, ◌==◌, Bool, true, false, if◌then◌else◌, Option, Some, None, is_some, refl, sym, ap, ◌∙◌, arith, eq-eqb, ne_eqb}
+use Rattle.radix_tree.proofs.Words.{true≢false, Id, one_if}
+
+pub some_of : {A : Type 0} (o : Option A) → is_some o ≡ true → (a : A) × (o ≡ Some a)
+some_of None is = absurd (true≢false (sym is))
+some_of (Some a) is = (a, refl)
+
+pub none_of : {A : Type 0} (o : Option A) → is_some o ≡ false → o ≡ None
+none_of None e = refl
+none_of (Some x) e = absurd (true≢false e)
+
+pub none_if : {A : Type 0} (o : Option A) → ((x : A) → o ≡ Some x → ⊥) → o ≡ None
+none_if None never = refl
+none_if (Some x) never = absurd (never x refl)
+
+pub no_use : (b : Bool) → one_if b ≡ 0 → b ≡ false
+no_use true e = absurd (omega (arith, e))
+no_use false e = refl
+
+pub one_if_most : (b : Bool) → one_if b ≤ 1
+one_if_most true = omega arith
+one_if_most false = omega arith
+
+pub same_id : (a b : Id) → a.number ≡ b.number → a.block ≡ b.block → a ≡ b
+same_id a b number block = ap (λ n. record { number = n; block = a.block }) number ∙ ap (λ p. record { number = b.number; block = p }) block
+
+pub own_room : {A : Type 0} (room : Id) (x y : A) → (if room.number == room.number then x else y) ≡ x
+own_room room x y = ap (λ t. if t then x else y) (eq-eqb room.number room.number refl)
+
+pub off_room : {A : Type 0} (room : Id) (n : ℕ) (x y : A) → (n ≡ room.number → ⊥) → (if n == room.number then x else y) ≡ y
+off_room room n x y other = ap (λ t. if t then x else y) (ne_eqb n room.number other)
