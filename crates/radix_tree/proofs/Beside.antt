@@ -57,8 +57,7 @@ module _ {V : Type 0} where
 
   -- the part beneath stands beneath the new bit node
   beneath_stands : (m new : Lodged V) {bit : ℕ} (x : Placed V) (whole : Part m) {above : Option Id} (below : Node)
-      (s : IsSpot m x.entry.key bit whole above below) → IsBeside m new bit x above below
-      → Stands (leaves_in new) (bits_in new) (Some x.room) s.at.tree
+      (s : IsSpot m x.entry.key bit whole above below) → IsBeside m new bit x above below → Stands (leaves_in new) (bits_in new) (Some x.room) s.at.tree
   beneath_stands m new x whole below s b = lifted (leaves_in m) (leaves_in new) (bits_in m) (bits_in new) s.at.above (Some x.room) s.at.tree
       (λ n some. b.leaves n (not_new s.at x.room b.no_leaf n some) ∙ ap (λ z. lift_leaf z (Some x.room) n (leaves_in m n)) (sym s.named))
       (λ n some. b.bits n (not_new_bit s.at x.room b.no_bit n some) ∙ ap (lift_bit below (Some x.room) n)
@@ -79,8 +78,7 @@ module _ {V : Type 0} where
       (ne_eqb (bit_at bit x.entry.key) 1 (λ set. zero_not_one clear set)))
 
   pub one_forked : (bit : ℕ) (x : Placed V) (t : Tree V) → bit_at bit x.entry.key ≡ 1 → fork x.room bit t (leaf x []) ≡ forked_tree bit x t
-  one_forked bit x t set =
-      sym (ap (λ b. if b then fork x.room bit t (leaf x []) else fork x.room bit (leaf x []) t) (eq-eqb (bit_at bit x.entry.key) 1 set))
+  one_forked bit x t set = sym (ap (λ b. if b then fork x.room bit t (leaf x []) else fork x.room bit (leaf x []) t) (eq-eqb (bit_at bit x.entry.key) 1 set))
 
   forked_name : (bit : ℕ) (x : Placed V) (t : Tree V) → name_of (forked_tree bit x t) ≡ BitOf x.room
   forked_name bit x t = elim (zero_or_one bit x.entry.key) [
@@ -104,8 +102,7 @@ module _ {V : Type 0} where
                   else record { block = x.room.block; bit = bit; zero = LeafOf x.room; one = below; above = above }))
                   (ne_eqb (bit_at bit x.entry.key) 1 (λ set. zero_not_one clear set))
                   ∙ ap (λ z. Some (record { block = x.room.block; bit = bit; zero = LeafOf x.room; one = z; above = above })) (sym s.named)
-                  ∙ ap (λ o. Some (record { block = x.room.block; bit = bit; zero = LeafOf x.room; one = name_of s.at.tree; above = o }))
-                  (sym s.above_is),
+                  ∙ ap (λ o. Some (record { block = x.room.block; bit = bit; zero = LeafOf x.room; one = name_of s.at.tree; above = o })) (sym s.above_is),
               (b.leaf, tt),
               stands,
             );
@@ -122,11 +119,9 @@ module _ {V : Type 0} where
             is = one_fork_is s.at.low bit x x.room route s.place set;
             stands = (
               b.bit_node ∙ ap (λ t. Some (if t then record { block = x.room.block; bit = bit; zero = below; one = LeafOf x.room; above = above }
-                  else record { block = x.room.block; bit = bit; zero = LeafOf x.room; one = below; above = above }))
-                  (eq-eqb (bit_at bit x.entry.key) 1 set)
+                  else record { block = x.room.block; bit = bit; zero = LeafOf x.room; one = below; above = above })) (eq-eqb (bit_at bit x.entry.key) 1 set)
                   ∙ ap (λ z. Some (record { block = x.room.block; bit = bit; zero = z; one = LeafOf x.room; above = above })) (sym s.named)
-                  ∙ ap (λ o. Some (record { block = x.room.block; bit = bit; zero = name_of s.at.tree; one = LeafOf x.room; above = o }))
-                  (sym s.above_is),
+                  ∙ ap (λ o. Some (record { block = x.room.block; bit = bit; zero = name_of s.at.tree; one = LeafOf x.room; above = o })) (sym s.above_is),
               stands,
               (b.leaf, tt),
             );
@@ -149,38 +144,35 @@ module _ {V : Type 0} where
       ]
 
   -- ---- the whole
-  -- a room that is not in the part beneath says what it said, or is the bit node above
-  leaf_stays : (m new : Lodged V) {bit : ℕ} (x : Placed V) (whole : Part m) {above : Option Id} (below : Node) (s : IsSpot m x.entry.key bit whole above below)
-      → IsBeside m new bit x above below → (n : ℕ) → leaves_at n s.at.tree ≡ 0 → 1 ≤ leaves_at n whole.tree → leaves_in new n ≡ leaves_in m n
-  leaf_stays m new x whole below s b n out some = b.leaves n (not_new whole x.room b.no_leaf n some)
-      ∙ misses_leaf below n (λ r is same. let there = named_leaf s.at.tree r (s.named ∙ is) in
-      let e = ap (λ k. leaves_at k s.at.tree) same in absurd (omega arith)) (Some x.room) (leaves_in m n)
+  module _ {m new : Lodged V} {bit : ℕ} (x : Placed V) {whole : Part m} {above : Option Id} {below : Node} (s : IsSpot m x.entry.key bit whole above below)
+      (b : IsBeside m new bit x above below) where
+    -- a room that is not in the part beneath says what it said, or is the bit node above
+    leaf_stays : (n : ℕ) → leaves_at n s.at.tree ≡ 0 → 1 ≤ leaves_at n whole.tree → leaves_in new n ≡ leaves_in m n
+    leaf_stays n out some = b.leaves n (not_new whole x.room b.no_leaf n some)
+        ∙ misses_leaf below n (λ r is same. let there = named_leaf s.at.tree r (s.named ∙ is) in
+        let e = ap (λ k. leaves_at k s.at.tree) same in absurd (omega arith)) (Some x.room) (leaves_in m n)
 
-  bit_stays : (m new : Lodged V) {bit : ℕ} (x : Placed V) (whole : Part m) (above : Option Id) (below : Node) (s : IsSpot m x.entry.key bit whole above below)
-      → IsBeside m new bit x above below
-      → (n : ℕ) → forks_at n s.at.tree ≡ 0 → 1 ≤ forks_at n whole.tree → bits_in new n ≡ name_child above x.entry.key (BitOf x.room) n (bits_in m n)
-  bit_stays m new x whole above below s b n out some = b.bits n (not_new_bit whole x.room b.no_bit n some)
-      ∙ misses_bit below n (λ r is same. let there = named_bit s.at.tree r (s.named ∙ is) in
-      let e = ap (λ k. forks_at k s.at.tree) same in absurd (omega arith)) (Some x.room) (name_child above x.entry.key (BitOf x.room) n (bits_in m n))
+    bit_stays : (n : ℕ) → forks_at n s.at.tree ≡ 0 → 1 ≤ forks_at n whole.tree → bits_in new n ≡ name_child above x.entry.key (BitOf x.room) n (bits_in m n)
+    bit_stays n out some = b.bits n (not_new_bit whole x.room b.no_bit n some)
+        ∙ misses_bit below n (λ r is same. let there = named_bit s.at.tree r (s.named ∙ is) in
+        let e = ap (λ k. forks_at k s.at.tree) same in absurd (omega arith)) (Some x.room) (name_child above x.entry.key (BitOf x.room) n (bits_in m n))
 
-  pub whole_forked : {m new : Lodged V} {bit : ℕ} {x : Placed V} (whole : Part m) {above : Option Id} {below root : Node}
-      (s : IsSpot m x.entry.key bit whole above below) → IsBeside m new bit x above below → IsRoute x.entry → name_of whole.tree ≡ root
-      → (u : Part new) × (u.tree ≡ forked_tree bit x s.at.tree) × Exchanged m new x.entry.key whole s.at u (root_after above (BitOf x.room) root)
-  whole_forked {m = m} {new = new} {bit = bit} {x = x} whole {above = above} {below = below} s b route named =
-      let u = forked_part m new bit x whole above below s b route in
-      let name = ap name_of u.tree ∙ forked_name bit x s.at.tree in
-      let e : IsExchange m new x.entry.key whole s.at u.part = record {
-        low = u.low;
-        above = u.above;
-        keys = λ c value before have. subst (HaveBit c value) (sym u.tree) (forked_keys bit s.at.low x s.at.tree s.place c value before have);
-        leaves = leaf_stays m new x whole below s b;
-        bits = λ n none some. bit_stays m new x whole above below s b n none some
-            ∙ ap (λ o. name_child o x.entry.key (BitOf x.room) n (bits_in m n)) (sym s.above_is)
-            ∙ ap (λ z. name_child s.at.above x.entry.key z n (bits_in m n)) (sym name);
-      } in (
-        u.part,
-        u.tree,
-        subst (Exchanged m new x.entry.key whole s.at u.part) (ap (λ o. root_after o (name_of u.part.tree) (name_of whole.tree)) s.above_is
-            ∙ ap (λ z. root_after above z (name_of whole.tree)) name ∙ ap (root_after above (BitOf x.room)) named)
-            (exchanged m new whole s.at s.ups s.way s.top s.once e),
-      )
+    pub whole_forked : {root : Node} → IsRoute x.entry → name_of whole.tree ≡ root
+        → (u : Part new) × (u.tree ≡ forked_tree bit x s.at.tree) × Exchanged m new x.entry.key whole s.at u (root_after above (BitOf x.room) root)
+    whole_forked route named =
+        let u = forked_part m new bit x whole above below s b route in
+        let name = ap name_of u.tree ∙ forked_name bit x s.at.tree in
+        let e : IsExchange m new x.entry.key whole s.at u.part = record {
+          low = u.low;
+          above = u.above;
+          keys = λ c value before have. subst (HaveBit c value) (sym u.tree) (forked_keys bit s.at.low x s.at.tree s.place c value before have);
+          leaves = leaf_stays;
+          bits = λ n none some. bit_stays n none some ∙ ap (λ o. name_child o x.entry.key (BitOf x.room) n (bits_in m n)) (sym s.above_is)
+              ∙ ap (λ z. name_child s.at.above x.entry.key z n (bits_in m n)) (sym name);
+        } in (
+          u.part,
+          u.tree,
+          subst (Exchanged m new x.entry.key whole s.at u.part) (ap (λ o. root_after o (name_of u.part.tree) (name_of whole.tree)) s.above_is
+              ∙ ap (λ z. root_after above z (name_of whole.tree)) name ∙ ap (root_after above (BitOf x.room)) named)
+              (exchanged m new whole s.at s.ups s.way s.top s.once e),
+        )

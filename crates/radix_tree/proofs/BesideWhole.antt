@@ -20,7 +20,8 @@ module _ {V : Type 0} where
   abbrev pub late_beside : Lodged V → ℕ → ℕ → ℕ → Bool
   late_beside m key room n = (n == room) || has_key m key n
 
-  pub counts : (m mid new : Lodged V) {low bit : ℕ} {t : Tree V} (x : Placed V) (above : Option Id) (below : Node) (c : Came m mid new low bit t x above below)
+  pub counts : (m mid new : Lodged V) {low bit : ℕ} {t : Tree V} (x : Placed V) (above : Option Id) (below : Node)
+      (c : Came m mid new low bit t x above below)
       (n : ℕ) → (one_if (x.room.number == n) + one_if (is_some (leaves_in m n)) ≡ one_if (is_some (leaves_in new n)))
       × (one_if (x.room.number == n) + one_if (is_some (bits_in m n)) ≡ one_if (is_some (bits_in new n)))
   counts m mid new {t = t} x above below c n = elim (cases_eq n x.room.number) [
@@ -31,8 +32,8 @@ module _ {V : Type 0} where
         let b2 = ap (λ o. one_if (is_some o)) (ap (bits_in new) same ∙ c.beside.bit_node) in
         (omega arith, omega arith)
     | inr other ↦ let none = one_if_turned x.room n other in
-        let l = ap one_if (other_leaf m mid new t x below c n other) in
-        let b = ap one_if (other_bit m mid new x above below c n other) in
+        let l = ap one_if (other_leaf x c n other) in
+        let b = ap one_if (other_bit x c n other) in
         (omega arith, omega arith)
   ]
 
@@ -49,65 +50,71 @@ module _ {V : Type 0} where
       let home : y.entry.rank ≤ b = omega arith in
       inr (subst (HasHome y.entry.key y.entry.rank) (sym is) (inl home))
 
-  fits_beside : (m mid new : Lodged V) {root : Node} (w : IsWholeBut m root nobody_late nobody_out) (bit : ℕ) (x : Placed V) (above : Option Id) (below : Node)
-      (s : IsSpot m x.entry.key bit w.part above below) (key : ℕ) (u : Part new)
-      → Came m mid new s.at.low bit s.at.tree x above below → u.tree ≡ forked_tree bit x s.at.tree
-      → ((y z : Placed V) (zs : List (Placed V)) → IsIn y s.at.tree → s.at.tree ≡ leaf z zs → y.entry.key ≡ key)
-      → Fits m new w.part s.at u nobody_late (late_beside m key x.room.number) nobody_out nobody_out
-  fits_beside m mid new w bit x above below s key u c tree keyed =
-      let t = s.at.tree in
-      let low = s.at.low in
-      let marks = same_marks m mid new x c in
-      let new_one : (y : Placed V) → x ≡ y → IsMarked (masks_in new) y → ⊥ =
-      λ y e marked. new_unmarked m mid new x c (subst (IsMarked (masks_in new)) (sym e) marked) in
-      let not_room = not_new_bit s.at x.room (no_bit x c) in
-      let off : (n : ℕ) → (n ≡ x.room.number → ⊥) → heads_in new n ≡ heads_in mid n =
-      λ n other. c.heads n ∙ ap (λ b. if b then c.first else heads_in mid n) (ne_eqb n x.room.number other) in
-      let rises = s.place.rises in
-      record {
-        leaves = λ n. let e = (counts m mid new x above below c n).0 in
-            let k = ap (leaves_at n) tree ∙ forked_leaves bit x s.at.tree n in
-            omega arith;
-        forks = λ n. let e = (counts m mid new x above below c n).1 in
-            let k = ap (forks_at n) tree ∙ forked_forks bit x s.at.tree n in
-            omega arith;
-        heads = λ n none some. off n (not_new_bit w.part x.room (no_bit x c) n some) ∙ c.cut.heads n none;
-        masks = λ n none some. c.masks n ∙ c.cut.masks n none;
-        masks_above = λ y at short marked. c.masks y.room.number ∙ c.cut.masks_above y at short;
-        marks = λ n p is. some_of (masks_in m n) (sym (marks n) ∙ ap is_some is);
-        kept = λ y at marked. (
-          subst (IsIn y) (sym tree) (forked_in bit x s.at.tree y at),
-          λ home. inr (subst (HasHome y.entry.key y.entry.rank) (sym tree) (forked_home bit s.at.low x s.at.tree s.place y at home)),
-        );
-        came = λ y there marked. elim (in_forked bit x s.at.tree y (subst (IsIn y) tree there)) [
-          | inl e ↦ absurd (new_one y e marked)
-          | inr at ↦ at
-        ];
-        gone = λ y at short marked. marks y.room.number ∙ marked;
-        lists = subst (MarkedLists (heads_in new) (masks_in new) s.at.low) (sym tree) (forked_lists (heads_in new) s.at.low bit x s.at.tree
-            (mask_list_same (masks_in mid) (masks_in new) s.at.low bit (MarkedIn (masks_in new) (forked_tree bit x s.at.tree))
-            (c.heads x.room.number ∙ ap (λ b. if b then c.first else heads_in mid x.room.number) (eq-eqb x.room.number x.room.number refl))
-            (λ y member most. (
-              (forked_in bit x s.at.tree y member.0, marked_same (masks_in mid) (masks_in new) y (c.masks y.room.number) member.1),
-              c.masks y.room.number,
-            )) (λ y member most. (
-              elim (in_forked bit x s.at.tree y member.0) [ inl e ↦ absurd (new_one y e member.1) | inr at ↦ at ],
-              marked_same (masks_in new) (masks_in mid) y (sym (c.masks y.room.number)) member.1,
-            )) c.cut.list)
-            (lists_same (heads_in mid) (heads_in new) (masks_in mid) (masks_in new) (bit + 1) s.at.tree (λ n some. off n (not_room n some))
-            (λ y at. c.masks y.room.number) c.cut.lists));
-        all = λ y there home. elim (in_forked bit x s.at.tree y (subst (IsIn y) tree there)) [
-          | inl e ↦ inl (ap (λ b. b || has_key m key y.room.number) (eq-eqb y.room.number x.room.number (ap (λ p. p.room.number) (sym e))))
-          | inr at ↦ elim home [
-            | inl short ↦ inr (
-              at,
-              inl short,
-              (λ (marked : IsMarked (masks_in m) y). marks y.room.number ∙ marked),
-              (λ (late : false ≡ true). absurd (true≢false (sym late))),
-            )
-            | inr new_home ↦ elim (home_forked bit x s.at.tree y.entry.key y.entry.rank (subst (HasHome y.entry.key y.entry.rank) tree new_home)) [
-              | inl here ↦ elim (late_or_home m bit key x.room.number s.at y s.at.tree refl s.place.is (λ z zs is. keyed y z zs at is) at here) [
-                | inl late ↦ inl late
+  module _ {m : Lodged V} {root : Node} (w : IsWholeBut m root nobody_late nobody_out) {bit : ℕ} (x : Placed V) {above : Option Id} {below : Node}
+      (s : IsSpot m x.entry.key bit w.part above below) where
+    fits_beside : (mid new : Lodged V) (key : ℕ) (u : Part new) → Came m mid new s.at.low bit s.at.tree x above below → u.tree ≡ forked_tree bit x s.at.tree
+        → ((y z : Placed V) (zs : List (Placed V)) → IsIn y s.at.tree → s.at.tree ≡ leaf z zs → y.entry.key ≡ key)
+        → Fits m new w.part s.at u nobody_late (late_beside m key x.room.number) nobody_out nobody_out
+    fits_beside mid new key u c tree keyed =
+        let t = s.at.tree in
+        let low = s.at.low in
+        let marks = same_marks x c in
+        let new_one : (y : Placed V) → x ≡ y → IsMarked (masks_in new) y → ⊥ =
+        λ y e marked. new_unmarked x c (subst (IsMarked (masks_in new)) (sym e) marked) in
+        let not_room = not_new_bit s.at x.room (no_bit x c) in
+        let off : (n : ℕ) → (n ≡ x.room.number → ⊥) → heads_in new n ≡ heads_in mid n =
+        λ n other. c.heads n ∙ ap (λ b. if b then c.first else heads_in mid n) (ne_eqb n x.room.number other) in
+        let rises = s.place.rises in
+        record {
+          leaves = λ n. let e = (counts m mid new x above below c n).0 in
+              let k = ap (leaves_at n) tree ∙ forked_leaves bit x s.at.tree n in
+              omega arith;
+          forks = λ n. let e = (counts m mid new x above below c n).1 in
+              let k = ap (forks_at n) tree ∙ forked_forks bit x s.at.tree n in
+              omega arith;
+          heads = λ n none some. off n (not_new_bit w.part x.room (no_bit x c) n some) ∙ c.cut.heads n none;
+          masks = λ n none some. c.masks n ∙ c.cut.masks n none;
+          masks_above = λ y at short marked. c.masks y.room.number ∙ c.cut.masks_above y at short;
+          marks = λ n p is. some_of (masks_in m n) (sym (marks n) ∙ ap is_some is);
+          kept = λ y at marked. (
+            subst (IsIn y) (sym tree) (forked_in bit x s.at.tree y at),
+            λ home. inr (subst (HasHome y.entry.key y.entry.rank) (sym tree) (forked_home bit s.at.low x s.at.tree s.place y at home)),
+          );
+          came = λ y there marked. elim (in_forked bit x s.at.tree y (subst (IsIn y) tree there)) [
+            | inl e ↦ absurd (new_one y e marked)
+            | inr at ↦ at
+          ];
+          gone = λ y at short marked. marks y.room.number ∙ marked;
+          lists = subst (MarkedLists (heads_in new) (masks_in new) s.at.low) (sym tree) (forked_lists (heads_in new) s.at.low bit x s.at.tree
+              (mask_list_same (masks_in mid) (masks_in new) s.at.low bit (MarkedIn (masks_in new) (forked_tree bit x s.at.tree))
+              (c.heads x.room.number ∙ ap (λ b. if b then c.first else heads_in mid x.room.number) (eq-eqb x.room.number x.room.number refl))
+              (λ y member most. (
+                (forked_in bit x s.at.tree y member.0, marked_same (masks_in mid) (masks_in new) y (c.masks y.room.number) member.1),
+                c.masks y.room.number,
+              )) (λ y member most. (
+                elim (in_forked bit x s.at.tree y member.0) [ inl e ↦ absurd (new_one y e member.1) | inr at ↦ at ],
+                marked_same (masks_in new) (masks_in mid) y (sym (c.masks y.room.number)) member.1,
+              )) c.cut.list) (lists_same (heads_in mid) (heads_in new) (masks_in mid) (masks_in new) (bit + 1) s.at.tree (λ n some. off n (not_room n some))
+              (λ y at. c.masks y.room.number) c.cut.lists));
+          all = λ y there home. elim (in_forked bit x s.at.tree y (subst (IsIn y) tree there)) [
+            | inl e ↦ inl (ap (λ b. b || has_key m key y.room.number) (eq-eqb y.room.number x.room.number (ap (λ p. p.room.number) (sym e))))
+            | inr at ↦ elim home [
+              | inl short ↦ inr (
+                at,
+                inl short,
+                (λ (marked : IsMarked (masks_in m) y). marks y.room.number ∙ marked),
+                (λ (late : false ≡ true). absurd (true≢false (sym late))),
+              )
+              | inr new_home ↦ elim (home_forked bit x s.at.tree y.entry.key y.entry.rank (subst (HasHome y.entry.key y.entry.rank) tree new_home)) [
+                | inl here ↦ elim (late_or_home m bit key x.room.number s.at y s.at.tree refl s.place.is (λ z zs is. keyed y z zs at is) at here) [
+                  | inl late ↦ inl late
+                  | inr had ↦ inr (
+                    at,
+                    inr had,
+                    (λ (marked : IsMarked (masks_in m) y). marks y.room.number ∙ marked),
+                    (λ (late : false ≡ true). absurd (true≢false (sym late))),
+                  )
+                ]
                 | inr had ↦ inr (
                   at,
                   inr had,
@@ -115,49 +122,37 @@ module _ {V : Type 0} where
                   (λ (late : false ≡ true). absurd (true≢false (sym late))),
                 )
               ]
-              | inr had ↦ inr (
-                at,
-                inr had,
-                (λ (marked : IsMarked (masks_in m) y). marks y.room.number ∙ marked),
-                (λ (late : false ≡ true). absurd (true≢false (sym late))),
-              )
             ]
-          ]
-        ];
-        late_aside = λ n none some late. absurd (true≢false (sym late));
-      }
+          ];
+          late_aside = λ n none some late. absurd (true≢false (sym late));
+        }
 
-  -- bit nodes in use, of each chain one at most
-  spare_beside : (m mid new : Lodged V) {root name : Node} (w : IsWholeBut m root nobody_late nobody_out) (bit : ℕ) (x : Placed V) (above : Option Id)
-      (below : Node) (s : IsSpot m x.entry.key bit w.part above below) (u : Part new)
-      → Came m mid new s.at.low bit s.at.tree x above below → u.tree ≡ forked_tree bit x s.at.tree → (e : Exchanged m new x.entry.key w.part s.at u name)
-      → HaveOneFork (bits_in new) e.part.tree
-  spare_beside m mid new w bit x above below s u c tree e =
-      let none = no_leaf x c in
-      let idle : (n : ℕ) → (n ≡ x.room.number → ⊥) → bits_in m n ≡ None → bits_in new n ≡ None =
-      λ n other. none_of (bits_in new n) (bits_in m n) (other_bit m mid new x above below c n other) in
-      spare_changed m new w e (λ spare. subst (HaveOneFork (bits_in new)) (sym tree) (forked_spare (bits_in new) bit x s.at.tree
-      (spare_same (bits_in m) (bits_in new) s.at.tree (λ y at. idle y.room.number (not_new s.at x.room none y.room.number (counted_leaf y s.at.tree at)))
-      spare))) (λ n out some. idle n (not_new w.part x.room none n some))
+    -- bit nodes in use, of each chain one at most
+    spare_beside : (mid new : Lodged V) {name : Node} (u : Part new) → Came m mid new s.at.low bit s.at.tree x above below
+        → u.tree ≡ forked_tree bit x s.at.tree → (e : Exchanged m new x.entry.key w.part s.at u name) → HaveOneFork (bits_in new) e.part.tree
+    spare_beside mid new u c tree e =
+        let none = no_leaf x c in
+        let idle : (n : ℕ) → (n ≡ x.room.number → ⊥) → bits_in m n ≡ None → bits_in new n ≡ None =
+        λ n other. none_of (bits_in new n) (bits_in m n) (other_bit x c n other) in
+        spare_changed m new w e (λ spare. subst (HaveOneFork (bits_in new)) (sym tree) (forked_spare (bits_in new) bit x s.at.tree
+        (spare_same (bits_in m) (bits_in new) s.at.tree (λ y at. idle y.room.number (not_new s.at x.room none y.room.number (counted_leaf y s.at.tree at)))
+        spare))) (λ n out some. idle n (not_new w.part x.room none n some))
 
-  pub whole_beside : {m mid new : Lodged V} {root name : Node} (w : IsWholeBut m root nobody_late nobody_out) {bit : ℕ} {x : Placed V} {above : Option Id}
-      {below : Node} (s : IsSpot m x.entry.key bit w.part above below) {room : Id} (d : LedTo x.entry.key w.part room) (u : Part new)
-      → Came m mid new s.at.low bit s.at.tree x above below → u.tree ≡ forked_tree bit x s.at.tree → Exchanged m new x.entry.key w.part s.at u name
-      → IsWholeBut new name (late_beside m d.leaf.first.entry.key x.room.number) nobody_out
-  whole_beside {m = m} {mid = mid} {new = new} w {bit = bit} {x = x} {above = above} {below = below} s d u c tree e =
-      let f = d.leaf in
-      let chain = (subst (IsTree d.part.low) f.is d.part.is).1 in
-      let keyed : (y z : Placed V) (zs : List (Placed V)) → IsIn y s.at.tree → s.at.tree ≡ leaf z zs → y.entry.key ≡ f.first.entry.key =
-      λ y z zs at is. chain_key f.first.entry.key 34 (f.first ∷ f.rest) chain y
-      (subst (IsIn y) (is ∙ same_leaf m x.entry.key w.part s.at d.part s.ups d.ups z f.first zs f.rest s.way d.way is f.is) at) in
-      whole_changed m new w e (fits_beside m mid new w bit x above below s f.first.entry.key u c tree keyed)
-      (spare_beside m mid new w bit x above below s u c tree e)
+    pub whole_beside : {mid new : Lodged V} {name : Node} {room : Id} (d : LedTo x.entry.key w.part room) (u : Part new)
+        → Came m mid new s.at.low bit s.at.tree x above below → u.tree ≡ forked_tree bit x s.at.tree → Exchanged m new x.entry.key w.part s.at u name
+        → IsWholeBut new name (late_beside m d.leaf.first.entry.key x.room.number) nobody_out
+    whole_beside {mid = mid} {new = new} d u c tree e =
+        let f = d.leaf in
+        let chain = (subst (IsTree d.part.low) f.is d.part.is).1 in
+        let keyed : (y z : Placed V) (zs : List (Placed V)) → IsIn y s.at.tree → s.at.tree ≡ leaf z zs → y.entry.key ≡ f.first.entry.key =
+        λ y z zs at is. chain_key f.first.entry.key 34 (f.first ∷ f.rest) chain y
+        (subst (IsIn y) (is ∙ same_leaf m x.entry.key w.part s.at d.part s.ups d.ups z f.first zs f.rest s.way d.way is f.is) at) in
+        whole_changed m new w e (fits_beside mid new f.first.entry.key u c tree keyed) (spare_beside mid new u c tree e)
 
-  pub routes_beside : {m new : Lodged V} {root name : Node} (w : IsWholeBut m root nobody_late nobody_out) {bit : ℕ} (x : Placed V) {above : Option Id}
-      {below : Node} (s : IsSpot m x.entry.key bit w.part above below) (u : Part new)
-      → u.tree ≡ forked_tree bit x s.at.tree → Exchanged m new x.entry.key w.part s.at u name → Gains x.entry (shown m (Some root)) (shown new (Some name))
-  routes_beside w {bit = bit} x s u tree e = gains_spliced (routes_changed w e)
-      (subst (λ t. Gains x.entry (routes_of s.at.tree) (routes_of t)) (sym tree) (forked_gains bit x s.at.tree))
+    pub routes_beside : {new : Lodged V} {name : Node} (u : Part new) → u.tree ≡ forked_tree bit x s.at.tree → Exchanged m new x.entry.key w.part s.at u name
+        → Gains x.entry (shown m (Some root)) (shown new (Some name))
+    routes_beside u tree e = gains_spliced (routes_changed w e)
+        (subst (λ t. Gains x.entry (routes_of s.at.tree) (routes_of t)) (sym tree) (forked_gains bit x s.at.tree))
 
   -- ---- a key that no route of the table has, and the rooms once its route stands there
   abbrev pub new_key : {m : Lodged V} {root : Node} (w : IsWhole m root) {key bit : ℕ} {room : Id} (d : LedTo key w.part room)
@@ -165,8 +160,7 @@ module _ {V : Type 0} where
   new_key w d differs = record { whole = w.part; led = d; top = w.top; low = w.low; once = once_but w; differs = differs }
 
   pub came_beside : {m mid new : Lodged V} {root : Node} (w : IsWhole m root) {bit : ℕ} {x : Placed V} {above : Option Id} {below : Node} (first : Option Id)
-      (s : IsSpot m x.entry.key bit w.part above below)
-      → ((fork : Id) (ms : List (Placed V)) → below ≡ BitOf fork → IsMasks m (heads_in m fork.number) ms
+      (s : IsSpot m x.entry.key bit w.part above below) → ((fork : Id) (ms : List (Placed V)) → below ≡ BitOf fork → IsMasks m (heads_in m fork.number) ms
       → IsMasks mid (heads_in mid fork.number) (past_bit bit ms))
       → ((fork : Id) (ms : List (Placed V)) → below ≡ BitOf fork → IsMasks m (heads_in m fork.number) ms → IsMasks mid first (up_to_bit bit ms))
       → ((room : Id) → below ≡ LeafOf room → (first ≡ None) × (mid ≡ m))

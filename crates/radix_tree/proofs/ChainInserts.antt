@@ -59,8 +59,7 @@ module _ {V : Type 0} where
 
   -- it is there once the room is lodged
   pub lodged_above : (m new : Lodged V) (room : Id) (value : V) (l : Leaf) (up : Id) → leaves_in m room.number ≡ None
-      → ((n : ℕ) → leaves_in new n ≡ lodge_leaf room value l n (leaves_in m n)) → KeepsBits m new
-      → (p : Part m) × ForkAt p up → (p : Part new) × ForkAt p up
+      → ((n : ℕ) → leaves_in new n ≡ lodge_leaf room value l n (leaves_in m n)) → KeepsBits m new → (p : Part m) × ForkAt p up → (p : Part new) × ForkAt p up
   lodged_above m new room value l up free leaves bits p = (
     stays m new p.0 (λ n some. leaves n ∙ ap (λ t. if t then Some (record { block = room.block; value = value; leaf = l }) else leaves_in m n)
         (ne_eqb n room.number (not_new p.0 room free n some))) (λ n some. bits n),
@@ -137,57 +136,56 @@ module _ {V : Type 0} where
       let counts = ap (leaves_at n) is ∙ ap (members_at n) same in
       omega arith
 
-  -- the chain afterwards
-  abbrev pub in_chain : (m new : Lodged V) (e : Entry V) (id first : Id) {root : Node} (w : IsWhole m root) (d : LedTo e.key w.part first) (l : Leaf)
-      (g : IsGap e.rank (chain_of m d) e.key l) → d.leaf.first.entry.key ≡ e.key → IsRoute e
-      → IsWritten m new id e l → Rechained m new e.key w.part d.part (g.front ++ g.back) (g.front ++ (placed id e ∷ g.back))
-  in_chain m new e id first w d l g same route wr =
-      let c = chain_of m d in
-      let once = chain_once m e.key w.part d.part d.ups d.way (once_but w) d.leaf.is g.is in
-      let key = cons_key g.front g.back (placed id e) d.leaf.first d.leaf.rest g.is same in
-      let most = route.rank in
-      record {
-        was = record { first = d.leaf.first; rest = d.leaf.rest; is = sym g.is };
-        cons = cons_at g.front g.back (placed id e);
-        is = d.leaf.is;
-        key_is = key;
-        chain = subst (λ k. IsChain k 34 (g.front ++ (placed id e ∷ g.back))) (sym key)
-            (chain_more 34 g.front g.back (placed id e) (subst (IsChain d.leaf.first.entry.key 34) g.is c.is) route (sym same) (omega arith) g.past g.below);
-        stands = linked_in (leaves_in m) (leaves_in new) d.part.above g.front g.back (placed id e)
-            (subst (ChainStands (leaves_in m) d.part.above None) g.is c.stands) wr.free once
-            (λ n. wr.leaves n ∙ ap (λ z. link_in id e.value z n (leaves_in m n)) g.leaf);
-        leaves = λ n none some. in_others (leaves_in m) (leaves_in new) g.front g.back id e.value l n (ap (λ z. z.next) g.leaf)
-            (ap (λ z. z.previous) g.leaf) (wr.leaves n) (not_new w.part id wr.free n some) none;
-        bits = λ n. wr.bits n ∙ ap (λ z. name_child z.above e.key (LeafOf id) n (bits_in m n)) g.leaf
-            ∙ place_bits m e.key w.part d.part d.ups g.front g.back (placed id e) d.way w.top (front_named g.front g.back d.leaf.is g.is) n;
-        heads = wr.heads;
-        masks = wr.masks;
-      }
+  module _ {m : Lodged V} (e : Entry V) {first : Id} {root : Node} (w : IsWhole m root) (d : LedTo e.key w.part first) {l : Leaf}
+      (g : IsGap e.rank (chain_of m d) e.key l) where
+    -- the chain afterwards
+    abbrev pub in_chain : (new : Lodged V) (id : Id) → d.leaf.first.entry.key ≡ e.key → IsRoute e → IsWritten m new id e l
+        → Rechained m new e.key w.part d.part (g.front ++ g.back) (g.front ++ (placed id e ∷ g.back))
+    in_chain new id same route wr =
+        let c = chain_of m d in
+        let once = chain_once m e.key w.part d.part d.ups d.way (once_but w) d.leaf.is g.is in
+        let key = cons_key g.front g.back (placed id e) d.leaf.first d.leaf.rest g.is same in
+        let most = route.rank in
+        record {
+          was = record { first = d.leaf.first; rest = d.leaf.rest; is = sym g.is };
+          cons = cons_at g.front g.back (placed id e);
+          is = d.leaf.is;
+          key_is = key;
+          chain = subst (λ k. IsChain k 34 (g.front ++ (placed id e ∷ g.back))) (sym key)
+              (chain_more 34 g.front g.back (placed id e) (subst (IsChain d.leaf.first.entry.key 34) g.is c.is) route (sym same) (omega arith) g.past
+              g.below);
+          stands = linked_in (leaves_in m) (leaves_in new) d.part.above g.front g.back (placed id e)
+              (subst (ChainStands (leaves_in m) d.part.above None) g.is c.stands) wr.free once
+              (λ n. wr.leaves n ∙ ap (λ z. link_in id e.value z n (leaves_in m n)) g.leaf);
+          leaves = λ n none some. in_others (leaves_in m) (leaves_in new) g.front g.back id e.value l n (ap (λ z. z.next) g.leaf)
+              (ap (λ z. z.previous) g.leaf) (wr.leaves n) (not_new w.part id wr.free n some) none;
+          bits = λ n. wr.bits n ∙ ap (λ z. name_child z.above e.key (LeafOf id) n (bits_in m n)) g.leaf
+              ∙ place_bits m e.key w.part d.part d.ups g.front g.back (placed id e) d.way w.top (front_named g.front g.back d.leaf.is g.is) n;
+          heads = wr.heads;
+          masks = wr.masks;
+        }
 
-  in_name : (m new : Lodged V) (e : Entry V) (id : Id) {first : Id} (root : Node) (w : IsWhole m root) (d : LedTo e.key w.part first) (l : Leaf)
-      (g : IsGap e.rank (chain_of m d) e.key l)
-      → root_after d.part.above (LeafOf (cons_at g.front g.back (placed id e)).first.room) (name_of w.part.tree) ≡ root_past l.previous l.above (LeafOf id) root
-  in_name m new e id root w d l g = sym (ap (λ z. root_past z.previous z.above (LeafOf id) root) g.leaf
-      ∙ ap (root_past (last_room None g.front) (above_behind d.part.above g.front) (LeafOf id)) (sym w.named)
-      ∙ place_root m e.key w.part d.part d.ups g.front g.back (placed id e) d.way w.top (front_named g.front g.back d.leaf.is g.is))
+    in_name : (new : Lodged V) (id : Id)
+        → root_after d.part.above (LeafOf (cons_at g.front g.back (placed id e)).first.room) (name_of w.part.tree) ≡ root_past l.previous l.above
+        (LeafOf id) root
+    in_name new id = sym (ap (λ z. root_past z.previous z.above (LeafOf id) root) g.leaf
+        ∙ ap (root_past (last_room None g.front) (above_behind d.part.above g.front) (LeafOf id)) (sym w.named)
+        ∙ place_root m e.key w.part d.part d.ups g.front g.back (placed id e) d.way w.top (front_named g.front g.back d.leaf.is g.is))
 
-  pub inserted_whole : (m new : Lodged V) (e : Entry V) (id first : Id) (root : Node) (w : IsWhole m root) (d : LedTo e.key w.part first) {l : Leaf}
-      → IsGap e.rank (chain_of m d) e.key l → d.leaf.first.entry.key ≡ e.key → IsRoute e
-      → IsWritten m new id e l → IsWholeBut new (root_past l.previous l.above (LeafOf id) root) (late_at id.number) nobody_out
-  inserted_whole m new e id first root w d {l = l} g same route wr =
-      subst (λ z. IsWholeBut new z (late_at id.number) nobody_out) (in_name m new e id root w d l g)
-      (grown_whole m new e.key w d.part d.ups g.front g.back (placed id e) d.way (in_chain m new e id first w d l g same route wr) wr.free
-      wr.no_mask wr.no_bit (linked_rooms m new id e.value l wr.leaves))
+    pub inserted_whole : (new : Lodged V) (id : Id) → d.leaf.first.entry.key ≡ e.key → IsRoute e → IsWritten m new id e l
+        → IsWholeBut new (root_past l.previous l.above (LeafOf id) root) (late_at id.number) nobody_out
+    inserted_whole new id same route wr = subst (λ z. IsWholeBut new z (late_at id.number) nobody_out) (in_name new id)
+        (grown_whole m new e.key w d.part d.ups g.front g.back (placed id e) d.way (in_chain new id same route wr) wr.free
+        wr.no_mask wr.no_bit (linked_rooms m new id e.value l wr.leaves))
 
-  pub inserted_routes : (m new : Lodged V) (e : Entry V) (id first : Id) (root : Node) (w : IsWhole m root) (d : LedTo e.key w.part first) {l : Leaf}
-      → IsGap e.rank (chain_of m d) e.key l → d.leaf.first.entry.key ≡ e.key → IsRoute e
-      → IsWritten m new id e l → Gains e (shown m (Some root)) (shown new (Some (root_past l.previous l.above (LeafOf id) root)))
-  inserted_routes m new e id first root w d {l = l} g same route wr =
-      subst (λ z. Gains e (shown m (Some root)) (shown new (Some z))) (in_name m new e id root w d l g)
-      (grown_routes m new root w d.part d.ups g.front g.back (placed id e) d.way (in_chain m new e id first w d l g same route wr))
+    pub inserted_routes : (new : Lodged V) (id : Id) → d.leaf.first.entry.key ≡ e.key → IsRoute e → IsWritten m new id e l
+        → Gains e (shown m (Some root)) (shown new (Some (root_past l.previous l.above (LeafOf id) root)))
+    inserted_routes new id same route wr = subst (λ z. Gains e (shown m (Some root)) (shown new (Some z))) (in_name new id)
+        (grown_routes m new root w d.part d.ups g.front g.back (placed id e) d.way (in_chain new id same route wr))
 
   -- ---- a member has the rank
-  pub taken_there : {m : Lodged V} (key rank : ℕ) {root : Node} {first : Id} (w v : IsWhole m root) (d : LedTo key w.part first) → d.leaf.first.entry.key ≡ key
+  pub taken_there : {m : Lodged V} (key rank : ℕ) {root : Node} {first : Id} (w v : IsWhole m root) (d : LedTo key w.part first) → d.leaf.first.entry.key ≡
+      key
       → FindsGap key rank (chain_of m d) None → (x : Placed V) × IsIn x v.part.tree × HasPair key rank x
   taken_there {m = m} key rank w v d same g =
       let x = g.0 in

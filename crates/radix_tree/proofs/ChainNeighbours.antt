@@ -57,7 +57,8 @@ module _ {V : Type 0} where
         part_is = inside (sym said ∙ ap (leaves_in m) (sym r.number) ∙ stands.0);
       }
 
-  pub member_once : (m : Lodged V) {root : Node} {late : ℕ → Bool} (w : IsWholeBut m root late nobody_out) {n : ℕ} {p : LeafPart V} (b : IsMember m w.part n p)
+  pub member_once : (m : Lodged V) {root : Node} {late : ℕ → Bool} (w : IsWholeBut m root late nobody_out) {n : ℕ} {p : LeafPart V}
+      (b : IsMember m w.part n p)
       → (k : ℕ) → members_at k (b.front ++ (b.x ∷ b.back)) ≤ 1
   member_once m w b = chain_once m b.x.entry.key w.part b.part b.ups b.way (once_but w) b.is b.split
 
@@ -86,19 +87,18 @@ module _ {V : Type 0} where
       record { leaves = λ n. leaves n ∙ ap (λ z. link_out z n (leaves_in m n)) same; heads = heads; masks = masks }
 
   -- ---- its neighbours
-  pub before_there : {m : Lodged V} {whole : Part m} {n : ℕ} {p : LeafPart V} (b : IsMember m whole n p) (r : Id) → p.leaf.previous ≡ Some r → Has m r
-  before_there {m = m} b r is = last_there m b.part.above None b.front (b.x ∷ b.back) r (leaf_stands m b.part b.is b.split)
-      (sym (ap (λ q. q.leaf.previous) b.part_is) ∙ is)
+  module _ {m : Lodged V} {whole : Part m} {n : ℕ} (p : LeafPart V) (b : IsMember m whole n p) where
+    pub before_there : (r : Id) → p.leaf.previous ≡ Some r → Has m r
+    before_there r is = last_there m b.part.above None b.front (b.x ∷ b.back) r (leaf_stands m b.part b.is b.split)
+        (sym (ap (λ q. q.leaf.previous) b.part_is) ∙ is)
 
-  pub behind_there : {m : Lodged V} {whole : Part m} {n : ℕ} {p : LeafPart V} (b : IsMember m whole n p) (r : Id) → p.leaf.next ≡ Some r → Has m r
-  behind_there {m = m} b r is = first_there m None (Some b.x.room) b.back r
-      (behind_stands (leaves_in m) b.part.above None b.front (b.x ∷ b.back) (leaf_stands m b.part b.is b.split)).1
-      (sym (ap (λ q. q.leaf.next) b.part_is) ∙ is)
+    pub behind_there : (r : Id) → p.leaf.next ≡ Some r → Has m r
+    behind_there r is = first_there m None (Some b.x.room) b.back r
+        (behind_stands (leaves_in m) b.part.above None b.front (b.x ∷ b.back) (leaf_stands m b.part b.is b.split)).1
+        (sym (ap (λ q. q.leaf.next) b.part_is) ∙ is)
 
-  pub fork_above : {m : Lodged V} {whole : Part m} {n : ℕ} {p : LeafPart V} (b : IsMember m whole n p) (up : Id) → whole.above ≡ None → p.leaf.above ≡ Some up
-      → (q : Part m) × ForkAt q up
-  fork_above {m = m} {whole = whole} b up top is =
-      place_above m b.x.entry.key whole b.part b.ups b.front b.way top (sym (ap (λ q. q.leaf.above) b.part_is) ∙ is)
+    pub fork_above : (up : Id) → whole.above ≡ None → p.leaf.above ≡ Some up → (q : Part m) × ForkAt q up
+    fork_above up top is = place_above m b.x.entry.key whole b.part b.ups b.front b.way top (sym (ap (λ q. q.leaf.above) b.part_is) ∙ is)
 
   -- the chain that is left, and who names it
   pub record IsLeft (m new : Lodged V) (key : ℕ) (whole at : Part m) (front back : List (Placed V)) (name : Node) : Type 0 where

@@ -36,30 +36,26 @@ module _ {V : Type 0} where
   routes_key m new keeps key n = sym (content_key key (leaves_in new n)) ∙ ap (of_key key) (keeps n) ∙ content_key key (leaves_in m n)
 
   -- ---- the whole
-  abbrev late_here : (m : Lodged V) {root : Node} (n : ℕ) (w : IsWholeBut m root (late_at n) nobody_out) (p : LeafPart V) (b : IsMember m w.part n p)
-      → IsWholeBut m root (late_at b.x.room.number) nobody_out
-  late_here m n w p b = later_than (late_at b.x.room.number) (λ k late. ap (λ r. k == r) b.number ∙ late) w
+  module _ {m : Lodged V} {root : Node} {n : ℕ} (w : IsWholeBut m root (late_at n) nobody_out) (p : LeafPart V) (b : IsMember m w.part n p) where
+    abbrev late_here : IsWholeBut m root (late_at b.x.room.number) nobody_out
+    late_here = later_than (late_at b.x.room.number) (λ k late. ap (λ r. k == r) b.number ∙ late) w
 
-  pub removed_whole : {m new : Lodged V} {root name : Node} {n : ℕ} (w : IsWholeBut m root (late_at n) nobody_out) {p : LeafPart V} (b : IsMember m w.part n p)
-      → masks_in m n ≡ None → IsUnlinked m new p.leaf
-      → IsLeft m new b.x.entry.key w.part b.part b.front b.back name → IsWholeBut new name nobody_late (out_at n)
-  removed_whole {m = m} {new = new} {n = n} w {p = p} b unmarked u l = subst (λ z. IsWholeBut new z nobody_late (out_at n)) l.named
-      (subst (λ k. IsWholeBut new (root_after b.part.above (LeafOf l.cons.first.room) (name_of w.part.tree)) nobody_late (out_at k)) b.number
-      (shrunk_whole m new b.x.entry.key b.front b.back b.x (late_here m n w p b) b.part b.ups b.way (out_chain m new w n p b u l) (member_once m w b)
-      (ap (masks_in m) b.number ∙ unmarked) (routes_some m new (unlinked_routes m new p.leaf u.leaves))))
+    pub removed_whole : {new : Lodged V} {name : Node} → masks_in m n ≡ None → IsUnlinked m new p.leaf
+        → IsLeft m new b.x.entry.key w.part b.part b.front b.back name → IsWholeBut new name nobody_late (out_at n)
+    removed_whole {new = new} unmarked u l = subst (λ z. IsWholeBut new z nobody_late (out_at n)) l.named
+        (subst (λ k. IsWholeBut new (root_after b.part.above (LeafOf l.cons.first.room) (name_of w.part.tree)) nobody_late (out_at k)) b.number
+        (shrunk_whole m new b.x.entry.key b.front b.back b.x late_here b.part b.ups b.way (out_chain m new w n p b u l) (member_once m w b)
+        (ap (masks_in m) b.number ∙ unmarked) (routes_some m new (unlinked_routes m new p.leaf u.leaves))))
 
-  pub removed_routes : {m new : Lodged V} {root name : Node} {n : ℕ} (w : IsWholeBut m root (late_at n) nobody_out) (p : LeafPart V)
-      (b : IsMember m w.part n p) → IsUnlinked m new p.leaf
-      → IsLeft m new b.x.entry.key w.part b.part b.front b.back name → Gains (shown_entry p) (shown new (Some name)) (shown m (Some root))
-  removed_routes {m = m} {new = new} {root = root} {name = name} {n = n} w p b u l =
-      subst (λ e. Gains e (shown new (Some name)) (shown m (Some root))) (sym (ap shown_entry b.part_is))
-      (subst (λ z. Gains b.x.entry (shown new (Some z)) (shown m (Some root))) l.named
-      (shrunk_routes m new root b.front b.back b.x w b.part b.ups b.way (out_chain m new w n p b u l)))
+    pub removed_routes : {new : Lodged V} {name : Node} → IsUnlinked m new p.leaf → IsLeft m new b.x.entry.key w.part b.part b.front b.back name
+        → Gains (shown_entry p) (shown new (Some name)) (shown m (Some root))
+    removed_routes {new = new} {name = name} u l = subst (λ e. Gains e (shown new (Some name)) (shown m (Some root))) (sym (ap shown_entry b.part_is))
+        (subst (λ z. Gains b.x.entry (shown new (Some z)) (shown m (Some root))) l.named
+        (shrunk_routes m new root b.front b.back b.x w b.part b.ups b.way (out_chain m new w n p b u l)))
 
   pub own_kept : {m new : Lodged V} {root : Node} {late : ℕ → Bool} (w : IsWholeBut m root late nobody_out) {n : ℕ} {p : LeafPart V}
       (b : IsMember m w.part n p) → IsUnlinked m new p.leaf → leaves_in new n ≡ leaves_in m n
-  own_kept {m = m} {new = new} w {n = n} {p = p} b u =
-      out_others (leaves_in m) (leaves_in new) b.front b.back p.leaf n (ap (λ q. q.leaf.next) b.part_is)
+  own_kept {m = m} {new = new} w {n = n} {p = p} b u = out_others (leaves_in m) (leaves_in new) b.front b.back p.leaf n (ap (λ q. q.leaf.next) b.part_is)
       (ap (λ q. q.leaf.previous) b.part_is) (u.leaves n) (own_out m w n p b)
 
   pub left_bits : {m new : Lodged V} {key : ℕ} {whole at : Part m} {front back : List (Placed V)} {name : Node} → IsLeft m new key whole at front back name
@@ -86,7 +82,8 @@ module _ {V : Type 0} where
 
   pub idle_others : {m new : Lodged V} {root name : Node} {late : ℕ → Bool} (w : IsWholeBut m root late nobody_out) {n : ℕ} (p : LeafPart V)
       (b : IsMember m w.part n p) → IsUnlinked m new p.leaf
-      → IsLeft m new b.x.entry.key w.part b.part b.front b.back name → {used : BitPart} → bits_in new n ≡ Some used → (k : ℕ) → has_key new p.leaf.key k ≡ true
+      → IsLeft m new b.x.entry.key w.part b.part b.front b.back name → {used : BitPart} → bits_in new n ≡ Some used → (k : ℕ) → has_key new p.leaf.key k ≡
+      true
       → (k ≡ n → ⊥) → bits_in new k ≡ None
   idle_others {m = m} {new = new} w {n = n} p b u l is k keyed other =
       let some = left_bits l in
@@ -98,7 +95,8 @@ module _ {V : Type 0} where
       let key = ap (λ e. e.key) r.entry ∙ q.key_is ∙ ap (λ z. z.leaf.key) b.part_is in
       let at = way_leads m w.part b.part b.ups b.way r.route r.is_in key in
       let among = subst (IsAmong r.route) b.split (subst (IsIn r.route) b.is at) in
-      let spare = subst (HasOneFork (bits_in m)) b.split (subst (HaveOneFork (bits_in m)) b.is (way_spare m b.x.entry.key w.part b.part b.ups b.way w.spare)) in
+      let spare = subst (HasOneFork (bits_in m)) b.split
+      (subst (HaveOneFork (bits_in m)) b.is (way_spare m b.x.entry.key w.part b.part b.ups b.way w.spare)) in
       let own = some_of (bits_in m n) (sym (some n) ∙ ap is_some is) in
       same_none (bits_in new k) (some k) (elim (among_less b.front b.back b.x r.route among) [
         | inl e ↦ absurd (other (sym r.number ∙ ap (λ z. z.room.number) (sym e) ∙ b.number))
@@ -119,7 +117,7 @@ module _ {V : Type 0} where
       (b : IsMember m w.part n p) → IsUnlinked m new p.leaf → (to : Id)
       → (p.leaf.next ≡ Some to) ⊎ (p.leaf.previous ≡ Some to) → Has new to × (to.number ≡ n → ⊥) × (has_key new p.leaf.key to.number ≡ true)
   neighbour {m = m} {new = new} w {n = n} p b u to side =
-      let there = ⊎_elim (λ e. behind_there b to e) (λ e. before_there b to e) side in
+      let there = ⊎_elim (λ e. behind_there _ b to e) (λ e. before_there _ b to e) side in
       let sum = members_append to.number b.front b.back in
       let more = members_more to.number b.front b.back b.x in
       let some : 1 ≤ members_at to.number (b.front ++ b.back) = elim side [

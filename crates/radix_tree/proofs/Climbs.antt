@@ -18,7 +18,7 @@ module _ {V : Type 0} {m : Lodged V} where
       → ((p : LeafPart V) → leaves_in m room.number ≡ Some p → f ≡ p.leaf) → Holds l.part → Climb key whole Holds f.above
   begun {room = room} l said holds = record {
     part = l.part;
-    above = sym (ap (λ z. z.above) (said (part_at m l.leaf) (leaf_said m l.leaf)));
+    above = sym (ap (λ z. z.above) (said (part_at l.leaf) (leaf_said l.leaf)));
     ups = l.ups;
     way = l.way;
     holds = holds;
@@ -46,11 +46,11 @@ module _ {V : Type 0} {m : Lodged V} where
       record { bit = f.bit; zero = f.zero; one = f.one; is = f.is ∙ ap (λ i. fork i f.bit f.zero f.one) o.room_is }
 
   pub used : {p : Part m} {room : Id} (f : ForkAt p room) → IsBitNode m room
-  used {p} {room} f = record { part = bit_part_of m f; said = (fork_stands m f).0; block = refl }
+  used {p} {room} f = record { part = bit_part_of f; said = (fork_stands f).0; block = refl }
 
   -- what its room says is what the tree has there
-  pub node_at : {p : Part m} {room : Id} {n : BitNode} (f : ForkAt p room) → IsBitNodeOf m room n → IsNode n (bit_part_of m f)
-  node_at {p} {room} f is = node_said is.said (fork_stands m f).0
+  pub node_at : {p : Part m} {room : Id} {n : BitNode} (f : ForkAt p room) → IsBitNodeOf m room n → IsNode n (bit_part_of f)
+  node_at {p} {room} f is = node_said is.said (fork_stands f).0
 
   -- and on from there
   pub risen : {key : ℕ} {whole under : Part m} {room : Id} {n : BitNode} {Holds : Part m → Type 0} (o : Over key whole under room) → IsBitNodeOf m room n
@@ -78,7 +78,7 @@ module _ {V : Type 0} {m : Lodged V} where
   pub step_risen : {key : ℕ} {whole under : Part m} {room : Id} {start now later : Counter} (o : Over key whole under room) → Steps start now under
       → ReadsOnce now later → Steps start later o.part
   step_risen {room = room} o s once =
-      let rises = (fork_is m (fork_over o)).0.rises in
+      let rises = (fork_is (fork_over o)).0.rises in
       let low = o.beneath.low in record { rises = omega arith; few = omega (arith, rises, low) }
 
   pub step_soon : {key : ℕ} {whole under : Part m} {room : Id} {start now : Counter} (o : Over key whole under room) → Steps start now under

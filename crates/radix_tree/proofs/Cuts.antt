@@ -82,7 +82,7 @@ module _ {V : Type 0} where
   cut_fork m new p room f bit first once rises is lists kept others heads masks marks leaves bits =
       let fork_lists = subst (MarkedLists (heads_in m) (masks_in m) p.low) f.is lists in
       let l = subst (λ t. IsMaskList (masks_in m) (heads_in m room.number) p.low f.bit (MarkedIn (masks_in m) t)) (sym f.is) fork_lists.0 in
-      let tree = fork_is m f in
+      let tree = fork_is f in
       let past = (subst (IsTree (bit + 1)) f.is is).0.rises in
       let ms = masks_listed p l tree.0.within (λ x member. member.0) in
       let long = kept l.masks ms in
@@ -115,7 +115,8 @@ module _ {V : Type 0} where
           falls = falls_below p.low (f.bit + 1) (bit + 1) l.masks l.falls;
           has = λ x member least most. among_below (bit + 1) l.masks x (l.has x (member.0, sym (marks x.room.number) ∙ member.1) least (omega arith))
               (omega arith);
-          within = λ x among. let was = l.within x (below_among p.low (f.bit + 1) (bit + 1) l.masks l.falls x among).0 in (was.0, marks x.room.number ∙ was.1);
+          within = λ x among. let was = l.within x (below_among p.low (f.bit + 1) (bit + 1) l.masks l.falls x among).0 in
+          (was.0, marks x.room.number ∙ was.1);
         };
         lists = subst (MarkedLists (heads_in new) (masks_in new) (bit + 1)) (sym f.is) (
           record {
@@ -125,7 +126,8 @@ module _ {V : Type 0} where
             falls = falls_not_below p.low (f.bit + 1) (bit + 1) l.masks l.falls;
             has = λ x member least most. among_not_below p.low (f.bit + 1) (bit + 1) l.masks l.falls x
                 (l.has x (subst (IsIn x) (sym f.is) member.0, sym (marks x.room.number) ∙ member.1) (omega arith) most) least;
-            within = λ x among. let was = l.within x (not_below_among (bit + 1) l.masks x among).0 in (subst (IsIn x) f.is was.0, marks x.room.number ∙ was.1);
+            within = λ x among. let was = l.within x (not_below_among (bit + 1) l.masks x among).0 in
+            (subst (IsIn x) f.is was.0, marks x.room.number ∙ was.1);
           },
           lists_stay (heads_in m) (heads_in new) (masks_in m) (masks_in new) (f.bit + 1) f.zero tree.1
               (λ n some. heads n (elsewhere room n (forks_at n f.zero) some (let sum = all_forks n in let most = once.forks n in omega arith)))
@@ -165,14 +167,13 @@ module _ {V : Type 0} where
       let here = sym named ∙ ap name_of is in
       cut_fork m new p room f bit first (way_once key w.part p ups way once) rises tree (part_lists m w key p ups way)
       (λ ms. kept room ms here) (λ ms. others room ms here)
-      (λ n other. heads n (λ i at same. other (same ∙ ap (λ j. j.number) (same_bit_node (sym at ∙ here)))))
-      (λ ms. masks room ms here) marks leaves bits
+      (λ n other. heads n (λ i at same. other (same ∙ ap (λ j. j.number) (same_bit_node (sym at ∙ here))))) (λ ms. masks room ms here) marks leaves bits
 
   -- the list of the part's bit node
   pub list_at : {m : Lodged V} {root : Node} {late : ℕ → Bool} {out : ℕ → ℕ} (w : IsWholeBut m root late out) (key : ℕ) (p : Part m) (ups : List (Part m))
       {room : Id} → Way key w.part p ups → name_of p.tree ≡ BitOf room → (ms : List (Placed V)) × IsMasks m (heads_in m room.number) ms
   list_at {m = m} w key p ups way named =
       let f = fork_named p named in
-      let tree = fork_is m f in
+      let tree = fork_is f in
       let l = (subst (MarkedLists (heads_in m) (masks_in m) p.low) f.is (part_lists m w key p ups way)).0 in
       (l.masks, masks_listed p l tree.0.within (λ x member. subst (IsIn x) (sym f.is) member.0))

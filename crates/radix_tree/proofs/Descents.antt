@@ -34,24 +34,24 @@ module _ {V : Type 0} {m : Lodged V} where
   parted {address} {whole} {at} {room} {start} {now} {later} {n} d is said more =
       let f = fork_named d.part (d.named ∙ is) in
       let same = node_at f said in
-      let tree = (fork_is m f).0 in
+      let tree = (fork_is f).0 in
       let bit = same.bit in
       let reads : Reads start later (f.bit + 1) = record { turn = more.turn ∙ d.reads.turn; rises = omega arith; bound = omega arith } in
       record {
         within = omega arith;
         soon = omega arith;
         zero = λ clear. record {
-          part = zero_part m f;
+          part = zero_part f;
           named = sym same.zero;
           ups = d.part ∷ d.ups;
-          way = (zero_beneath m address room f (subst (λ b. bit_at b address ≡ 0) bit clear), d.way);
+          way = (zero_beneath f address (subst (λ b. bit_at b address ≡ 0) bit clear), d.way);
           reads = reads;
         };
         one = λ set. record {
-          part = one_part m f;
+          part = one_part f;
           named = sym same.one;
           ups = d.part ∷ d.ups;
-          way = (one_beneath m address room f (subst (λ b. bit_at b address ≡ 1) bit set), d.way);
+          way = (one_beneath f address (subst (λ b. bit_at b address ≡ 1) bit set), d.way);
           reads = reads;
         };
       }
@@ -70,7 +70,6 @@ module _ {V : Type 0} {m : Lodged V} where
   -- a pair that is found at the leaf to which its key leads, or not there, is found so in the whole tree
   pub pair_led : (rank : ℕ) {key : ℕ} {whole : Part m} {room : Id} (l : LedTo key whole room) (o : Option Id)
       → Tells (Finds (HasPair key rank) (λ y. IsAmong y (l.leaf.first ∷ l.leaf.rest))) o → Tells (Finds (HasPair key rank) (In whole)) o
-  pair_led rank {key} {whole = whole} {room} l None none =
-      λ y is has. none y (among_leaf m l.leaf y (way_leads m whole l.part l.ups l.way y is has.0)) has
+  pair_led rank {key} {whole = whole} {room} l None none = λ y is has. none y (among_leaf m l.leaf y (way_leads m whole l.part l.ups l.way y is has.0)) has
   pair_led rank {key} {whole = whole} {room} l (Some i) found =
       (found.0, found.1, (way_inside m key whole l.part l.ups l.way found.0 (in_leaf m l.leaf found.0 found.2.0), found.2.1))

@@ -34,7 +34,7 @@ module _ {V : Type 0} where
       → Climbed m new key over at under (BitOf room)
   zero_climbed m new at mid over room f tree side low above g spine leaves forks =
       let e = g.made in
-      let is = fork_is m f in
+      let is = fork_is f in
       let rises = is.0.rises in
       let keys : (c value : ℕ) → c < f.bit + 1 → HaveBit c value f.zero → HaveBit c value e.part.tree =
       λ c value before have. g.keys c value (omega arith) (subst (HaveBit c value) (sym tree) have) in
@@ -63,7 +63,7 @@ module _ {V : Type 0} where
             stands = (
               spine ∙ ap (λ z. Some (said room f.bit z (name_of f.one) over.above)) (sym e.named),
               subst (λ a. Stands (leaves_in new) (bits_in new) a e.part.tree) (e.above ∙ above) e.part.stands,
-              frame (leaves_in m) (leaves_in new) (bits_in m) (bits_in new) (Some room) f.one leaves forks (fork_stands m f).2,
+              frame (leaves_in m) (leaves_in new) (bits_in m) (bits_in new) (Some room) f.one leaves forks (fork_stands f).2,
             );
           };
           is_now = ap (λ t. fork room f.bit t f.one) e.is_now;
@@ -81,7 +81,7 @@ module _ {V : Type 0} where
       → Climbed m new key over at under (BitOf room)
   one_climbed m new at mid over room f tree side low above g spine leaves forks =
       let e = g.made in
-      let is = fork_is m f in
+      let is = fork_is f in
       let rises = is.0.rises in
       let keys : (c value : ℕ) → c < f.bit + 1 → HaveBit c value f.one → HaveBit c value e.part.tree =
       λ c value before have. g.keys c value (omega arith) (subst (HaveBit c value) (sym tree) have) in
@@ -109,7 +109,7 @@ module _ {V : Type 0} where
             );
             stands = (
               spine ∙ ap (λ z. Some (said room f.bit (name_of f.zero) z over.above)) (sym e.named),
-              frame (leaves_in m) (leaves_in new) (bits_in m) (bits_in new) (Some room) f.zero leaves forks (fork_stands m f).1,
+              frame (leaves_in m) (leaves_in new) (bits_in m) (bits_in new) (Some room) f.zero leaves forks (fork_stands f).1,
               subst (λ a. Stands (leaves_in new) (bits_in new) a e.part.tree) (e.above ∙ above) e.part.stands,
             );
           };
@@ -128,7 +128,7 @@ module _ {V : Type 0} where
       → bits_in new b.room.number ≡ with_child key name (bits_in m b.room.number) → Climbed m new key over at under (BitOf b.room)
   climbed m new key at mid over {name = name} b g once leaves forks spine =
       let f = b.at in
-      let old = (fork_stands m f).0 in
+      let old = (fork_stands f).0 in
       let all_forks = fork_forks m f in
       let all_leaves = fork_leaves m f in
       elim b.side [

@@ -97,24 +97,23 @@ module _ {V : Type 0} where
         | inr e ↦ inr (inr (e.1, subst (HasHome key rank) e.0 home))
       ]))
 
-  pub home_has : (m : Lodged V) {key rank : ℕ} (whole : Part m) {room : Id} → HomeAt m key rank whole room → HasHome key rank whole.tree
-  home_has m {key = key} {rank = rank} whole h = way_home m key rank whole h.part h.ups h.way (subst (HasHome key rank) (sym h.at.is) (inl h.within))
+  module _ {m : Lodged V} {key rank : ℕ} {whole : Part m} {room : Id} (h : HomeAt m key rank whole room) where
+    pub home_has : HasHome key rank whole.tree
+    home_has = way_home m key rank whole h.part h.ups h.way (subst (HasHome key rank) (sym h.at.is) (inl h.within))
 
-  abbrev pub tree_of : {m : Lodged V} {key rank : ℕ} {whole : Part m} {room : Id} → HomeAt m key rank whole room → Tree V
-  tree_of {room = room} h = fork room h.at.bit h.at.zero h.at.one
+    abbrev pub tree_of : Tree V
+    tree_of = fork room h.at.bit h.at.zero h.at.one
 
-  lists_of : (m : Lodged V) (key : ℕ) {rank : ℕ} (whole : Part m) {room : Id} (h : HomeAt m key rank whole room) (H : Heads) (K : Masks)
-      → MarkedLists H K whole.low whole.tree → MarkedLists H K h.part.low (tree_of h)
-  lists_of m key whole h H K lists =
-      let f = way_framed m key whole h.part h.ups h.way in
-      subst (MarkedLists H K h.part.low) h.at.is (subst (λ n. MarkedLists H K n h.part.tree) (sym f.lowest)
-      (lists_at H K whole.low f.frames h.part.tree (subst (MarkedLists H K whole.low) f.was lists)))
+    lists_of : (H : Heads) (K : Masks) → MarkedLists H K whole.low whole.tree → MarkedLists H K h.part.low tree_of
+    lists_of H K lists =
+        let f = way_framed m key whole h.part h.ups h.way in
+        subst (MarkedLists H K h.part.low) h.at.is (subst (λ n. MarkedLists H K n h.part.tree) (sym f.lowest)
+        (lists_at H K whole.low f.frames h.part.tree (subst (MarkedLists H K whole.low) f.was lists)))
 
-  -- the list there
-  pub home_list : (m : Lodged V) {key rank : ℕ} {whole : Part m} {room : Id} (h : HomeAt m key rank whole room)
-      → MarkedLists (heads_in m) (masks_in m) whole.low whole.tree
-      → IsMaskList (masks_in m) (heads_in m room.number) h.part.low h.at.bit (MarkedIn (masks_in m) (tree_of h))
-  home_list m {key = key} {whole = whole} h lists = (lists_of m key whole h (heads_in m) (masks_in m) lists).0
+    -- the list there
+    pub home_list : MarkedLists (heads_in m) (masks_in m) whole.low whole.tree
+        → IsMaskList (masks_in m) (heads_in m room.number) h.part.low h.at.bit (MarkedIn (masks_in m) tree_of)
+    home_list lists = (lists_of (heads_in m) (masks_in m) lists).0
 
   -- ---- a list at a home changes, and so the lists of the whole tree
   -- rooms that list the same masks but for those of a home's list
@@ -134,8 +133,8 @@ module _ {V : Type 0} where
       → MarkedLists (heads_in m) (masks_in m) whole.low whole.tree → MarkedLists (heads_in new) (masks_in new) h.part.low (tree_of h)
   home_lists m new key rank whole room h once r lists =
       let f = h.at in
-      let is = fork_is m f in
-      let old = lists_of m key whole h (heads_in m) (masks_in m) lists in
+      let is = fork_is f in
+      let old = lists_of h (heads_in m) (masks_in m) lists in
       let once_at = way_once key whole h.part h.ups h.way once in
       let most : (n : ℕ) → one_if (room.number == n) + (forks_at n f.zero + forks_at n f.one) ≤ 1 =
       λ n. subst (λ t. forks_at n t ≤ 1) f.is (once_at.forks n) in (
@@ -173,7 +172,8 @@ module _ {V : Type 0} where
         came = λ y is below marked. (is, marked_same (masks_in new) (masks_in m) y (sym (above y is below)) marked);
       } in
       subst (MarkedLists (heads_in new) (masks_in new) whole.low) (sym f.was)
-      (plug_lists whole.low f.frames (subst (IsTree whole.low) f.was whole.is) keeps (subst (MarkedLists (heads_in m) (masks_in m) whole.low) f.was lists) own)
+      (plug_lists whole.low f.frames (subst (IsTree whole.low) f.was whole.is) keeps (subst (MarkedLists (heads_in m) (masks_in m) whole.low) f.was lists)
+      own)
 
   -- ---- the whole, where leaves and bit nodes stay
   abbrev pub kept_part : (m new : Lodged V) → KeepsLeaves m new → KeepsBits m new → Part m → Part new

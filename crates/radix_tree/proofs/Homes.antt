@@ -20,8 +20,7 @@ module _ {V : Type 0} {m : Lodged V} where
 
   -- a bit node above whose bit is at or past the rank
   pub passed : {key rank : ℕ} {last : Option Id} {whole under : Part m} {room : Id} {start now later : Counter} {n : BitNode} (o : Over key whole under room)
-      → Passed key rank last start now under → IsBitNodeOf m room n
-      → rank ≤ n.bit → ReadsOnce now later → Passed key rank (Some room) start later o.part
+      → Passed key rank last start now under → IsBitNodeOf m room n → rank ≤ n.bit → ReadsOnce now later → Passed key rank (Some room) start later o.part
   passed {n = n} o p is past once =
       let same = (node_at (fork_over o) is).bit in
       record { last_is = (fork_over o, omega (arith, past, same)); steps = step_risen o p.steps once }
@@ -34,7 +33,7 @@ module _ {V : Type 0} {m : Lodged V} where
       let b = way.0 in
       let f = b.at in
       let low_is = b.low in
-      let rises = (fork_is m f).0.rises in
+      let rises = (fork_is f).0.rises in
       let none_here : HasHome key rank p.tree → ⊥ = λ here. elim (subst (HasHome key rank) f.is here) [
         | inl within ↦ omega arith
         | inr beneath ↦ elim beneath [

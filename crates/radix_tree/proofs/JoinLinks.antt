@@ -72,8 +72,7 @@ module _ {V : Type 0} where
       → ((n : ℕ) → bits_in with_child n ≡ name_child above key to n (bits_in m n)) → ((n : ℕ) → bits_in put n ≡ put_bit up None n (bits_in with_child n))
       → (q : Part put) × (name_of q.tree ≡ to)
   below_stays m with_child put p up key to named apart leaves1 leaves2 bits1 bits2 = (
-    stays m put p (λ n some. leaves2 n ∙ leaves1 n)
-        (λ n some. bits2 n ∙ ap (put_bit up None n) (bits1 n) ∙ quiet up key to n (bits_in m n) apart some),
+    stays m put p (λ n some. leaves2 n ∙ leaves1 n) (λ n some. bits2 n ∙ ap (put_bit up None n) (bits1 n) ∙ quiet up key to n (bits_in m n) apart some),
     named,
   )
 
@@ -93,7 +92,7 @@ module _ {V : Type 0} where
 
   pub lone_forks : {m : Lodged V} {whole : Part m} {at up : Id} (l : IsLone m whole at up) (n : ℕ)
       → forks_at n l.over.tree ≡ one_if (up.number == n) + (0 + forks_at n l.other)
-  lone_forks {up = up} l n = side_forks up n l.sides
+  lone_forks {up = up} l n = side_forks l.sides n
 
   pub lone_apart : (m : Lodged V) {whole : Part m} (at up : Id) (l : IsLone m whole at up) → IsApart l.other up l.over.above
   lone_apart m {whole = whole} at up l = record {
@@ -108,6 +107,6 @@ module _ {V : Type 0} where
     tree = l.other;
     low = l.bit + 1;
     above = Some up;
-    is = (side_is l.over.low l.sides l.over.is).0;
-    stands = side_stands up (leaves_in m) (bits_in m) l.over.above l.sides l.over.stands;
+    is = (side_is l.sides l.over.low l.over.is).0;
+    stands = side_stands l.sides (leaves_in m) (bits_in m) l.over.above l.over.stands;
   }

@@ -28,7 +28,8 @@ module _ {V : Type 0} where
   ]
 
   -- the routes of a part tell their ranks by their rooms
-  pub same_rank_at : (m : Lodged V) (p : Part m) (x y : Placed V) → IsIn x p.tree → IsIn y p.tree → x.room.number ≡ y.room.number → x.entry.rank ≡ y.entry.rank
+  pub same_rank_at : (m : Lodged V) (p : Part m) (x y : Placed V) → IsIn x p.tree → IsIn y p.tree → x.room.number ≡ y.room.number → x.entry.rank ≡
+      y.entry.rank
   same_rank_at m p x y one other same =
       let first = ranked_in m p x one in
       let second = ranked_in m p y other in
@@ -37,8 +38,7 @@ module _ {V : Type 0} where
   -- lists stay where their heads stay, and the masks of ranks at or past low
   lists_past : (H G : Heads) (K J : Masks) (low : ℕ) (t : Tree V) → ((n : ℕ) → 1 ≤ forks_at n t → G n ≡ H n)
       → ((y : Placed V) → IsIn y t → low ≤ y.entry.rank → J y.room.number ≡ K y.room.number)
-      → ((y : Placed V) → IsIn y t → is_some (J y.room.number) ≡ is_some (K y.room.number))
-      → IsTree low t → MarkedLists H K low t → MarkedLists G J low t
+      → ((y : Placed V) → IsIn y t → is_some (J y.room.number) ≡ is_some (K y.room.number)) → IsTree low t → MarkedLists H K low t → MarkedLists G J low t
   lists_past H G K J low (leaf x xs) heads masks marks is lists = tt
   lists_past H G K J low (fork room b zero one) heads masks marks is lists =
       let rises = is.0.rises in
@@ -46,14 +46,15 @@ module _ {V : Type 0} where
         record {
           masks = old.masks;
           begins = old.begins ∙ sym (heads room.number (let own = one_if_same room.number in omega arith));
-          stands =
-              stand_same K J old.masks (λ y among. masks y (old.within y among).0 (falls_among low (b + 1) old.masks old.falls y among).0) old.stands;
+          stands = stand_same K J old.masks (λ y among. masks y (old.within y among).0 (falls_among low (b + 1) old.masks old.falls y among).0) old.stands;
           falls = old.falls;
           has = λ y member least most. old.has y (member.0, sym (marks y member.0) ∙ member.1) least most;
           within = λ y among. let w = old.within y among in (w.0, marks y w.0 ∙ w.1);
         },
-        lists_past H G K J (b + 1) zero (λ n some. heads n (omega arith)) (λ y at past. masks y (inl at) (omega arith)) (λ y at. marks y (inl at)) is.1 lists.1,
-        lists_past H G K J (b + 1) one (λ n some. heads n (omega arith)) (λ y at past. masks y (inr at) (omega arith)) (λ y at. marks y (inr at)) is.2 lists.2,
+        lists_past H G K J (b + 1) zero (λ n some. heads n (omega arith)) (λ y at past. masks y (inl at) (omega arith)) (λ y at. marks y (inl at)) is.1
+        lists.1,
+        lists_past H G K J (b + 1) one (λ n some. heads n (omega arith)) (λ y at past. masks y (inr at) (omega arith)) (λ y at. marks y (inr at)) is.2
+        lists.2,
       )
 
   -- ---- to a bit node
@@ -73,17 +74,17 @@ module _ {V : Type 0} where
       → MarkedLists (heads_in m) (masks_in m) over.low over.tree → AreTwo m over up room b c (fork room c zero one)
   two m over up room b c {own = own} zero one s lists =
       let t = fork room c zero one in
-      let is = side_is over.low s over.is in
+      let is = side_is s over.low over.is in
       let low = is.1 in
       let within_b = is.2 in
       let rises = is.0.0.rises in
       let within = is.0.0.within in
-      let theirs = (side_lists b (heads_in m) (masks_in m) over.low s lists).0 in
-      let mine = side_list up b (heads_in m) (masks_in m) over.low s lists in
+      let theirs = (side_lists s (heads_in m) (masks_in m) over.low lists).0 in
+      let mine = side_list s (heads_in m) (masks_in m) over.low lists in
       record {
         own = theirs;
         gone = mine;
-        own_is = masks_listed over theirs within (λ y member. in_side y s member.0);
+        own_is = masks_listed over theirs within (λ y member. in_side s y member.0);
         gone_is = masks_listed over mine within_b (λ y member. member.0);
         low = low;
         rises = rises;
@@ -134,7 +135,7 @@ module _ {V : Type 0} where
   sibling_node {m = m} at up room l named =
       let f = fork_of l.other named in
       let s = subst (HasSides l.route.entry.key l.over.tree up l.bit (leaf l.route [])) f.is l.sides in
-      let stands = side_stands up (leaves_in m) (bits_in m) l.over.above s l.over.stands in
+      let stands = side_stands s (leaves_in m) (bits_in m) l.over.above l.over.stands in
       record { part = record { block = room.block; bit = f.bit; zero = name_of f.zero; one = name_of f.one; above = Some up }; said = stands.0; block = refl }
 
   -- what append leaves
@@ -159,28 +160,28 @@ module _ {V : Type 0} where
       → IsAppended m new room first → IsHanded m new over.low over.tree (fork room c zero one)
   fork_handed m new over up room b c x zero one s head unmarked lists once a =
       let w = two m over up room b c zero one s lists in
-      let is = side_is over.low s over.is in
-      let old = side_lists b (heads_in m) (masks_in m) over.low s lists in
+      let is = side_is s over.low over.is in
+      let old = side_lists s (heads_in m) (masks_in m) over.low lists in
       let low = w.low in
       let rises = w.rises in
       let within = w.within in
-      let beneath : (y : Placed V) → IsIn y (fork room c zero one) → IsIn y over.tree = λ y at. in_side y s at in
+      let beneath : (y : Placed V) → IsIn y (fork room c zero one) → IsIn y over.tree = λ y at. in_side s y at in
       let own = one_if_same room.number in
       let now = a.list w.own.masks w.gone.masks w.own_is (subst (λ o. IsMasks m o w.gone.masks) head w.gone_is)
       (falls_wider over.low (c + 1) 0 34 (w.own.masks ++ w.gone.masks) w.falls (omega arith) (omega arith)) in
       let marked_now : (y : Placed V) → IsMarked (masks_in m) y → IsMarked (masks_in new) y = λ y marked. a.marks y.room.number ∙ marked in
       let marked_then : (y : Placed V) → IsMarked (masks_in new) y → IsMarked (masks_in m) y = λ y marked. sym (a.marks y.room.number) ∙ marked in
       let most_forks : (n : ℕ) → one_if (up.number == n) + (0 + (one_if (room.number == n) + (forks_at n zero + forks_at n one))) ≤ 1 = λ n.
-      let sum = side_forks up n s in
+      let sum = side_forks s n in
       let most = once.forks n in omega arith in
       record {
         heads = λ n none. a.heads n (λ same.
-            let sum = side_forks up n s in
+            let sum = side_forks s n in
             let here = ap (λ k. one_if (room.number == k)) same ∙ one_if_same room.number in absurd (omega arith));
         masks = λ n aside. a.masks w.own.masks w.own_is n (λ z among same. aside z (beneath z (w.own.within z among).0)
             (let least = (falls_among (b + 1) (c + 1) w.own.masks w.own.falls z among).0 in omega arith) same);
         marks = λ n p said. some_of (masks_in m n) (sym (a.marks n) ∙ ap is_some said);
-        kept = λ y at marked home. elim (side_home b y.entry.key y.entry.rank s home) [
+        kept = λ y at marked home. elim (side_home s y.entry.key y.entry.rank home) [
           | inl le ↦ inr (inl (omega arith))
           | inr deep ↦ elim deep [ inl none ↦ absurd none | inr there ↦ inr there ]
         ];
@@ -198,7 +199,7 @@ module _ {V : Type 0} where
             within = λ y among. elim (among_appended w.own.masks w.gone.masks y among) [
               | inl own_one ↦ let member = w.own.within y own_one in (member.0, marked_now y member.1)
               | inr gone_one ↦ let member = w.gone.within y gone_one in (
-                elim (side_in y s member.0) [
+                elim (side_in s y member.0) [
                   | inl lone ↦ elim lone [ inl e ↦ absurd (unmarked_marked (masks_in m) x y unmarked e member.1) | inr none ↦ absurd none ]
                   | inr there ↦ there
                 ],
@@ -229,8 +230,8 @@ module _ {V : Type 0} where
   pub clear_ready : {m : Lodged V} {whole : Part m} (at up : Id) {first : Option Id} (l : IsLone m whole at up) → heads_in m up.number ≡ first
       → MarkedLists (heads_in m) (masks_in m) l.over.low l.over.tree → (ms : List (Placed V)) × IsMasks m first ms
   clear_ready {m = m} at up l head lists =
-      let is = side_is l.over.low l.sides l.over.is in
-      let mine = side_list up l.bit (heads_in m) (masks_in m) l.over.low l.sides lists in (
+      let is = side_is l.sides l.over.low l.over.is in
+      let mine = side_list l.sides (heads_in m) (masks_in m) l.over.low lists in (
         mine.masks,
         subst (λ o. IsMasks m o mine.masks) head (masks_listed l.over mine is.2 (λ y member. member.0)),
       )
@@ -245,9 +246,9 @@ module _ {V : Type 0} where
       → HasSides key over.tree up b (leaf x []) (leaf y0 ys) → heads_in m up.number ≡ first → MarkedLists (heads_in m) (masks_in m) over.low over.tree
       → IsCleared m new first → IsHanded m new over.low over.tree (leaf y0 ys)
   leaf_handed m new over up b x y0 ys first s head lists a =
-      let is = side_is over.low s over.is in
+      let is = side_is s over.low over.is in
       let within = is.2 in
-      let mine = side_list up b (heads_in m) (masks_in m) over.low s lists in
+      let mine = side_list s (heads_in m) (masks_in m) over.low lists in
       let ready = subst (λ o. IsMasks m o mine.masks) head (masks_listed over mine within (λ y member. member.0)) in
       let marks : (n : ℕ) (p : MaskPart) → masks_in new n ≡ Some p → masks_in m n ≡ Some p = λ n p said. elim (member_or_aside n mine.masks) [
         | inl found ↦ absurd (none_some (sym (a.cleared mine.masks found.0 ready found.1) ∙ ap (masks_in new) found.2 ∙ said))
@@ -258,12 +259,12 @@ module _ {V : Type 0} where
         masks = λ n aside. a.masks mine.masks ready n (λ z among same. aside z (mine.within z among).0
             (falls_among over.low (b + 1) mine.masks mine.falls z among).0 same);
         marks = λ n p said. (p, marks n p said);
-        kept = λ y at marked home. elim (side_home b y.entry.key y.entry.rank s home) [
+        kept = λ y at marked home. elim (side_home s y.entry.key y.entry.rank home) [
           | inl le ↦ elim (cases_lt y.entry.rank over.low) [
             | inl short ↦ inl short
             | inr long ↦ let q = some_of (masks_in new y.room.number) marked in
                 let was = ap is_some (marks y.room.number q.0 q.1) in
-                let among = mine.has y (in_side y s at, was) long le in
+                let among = mine.has y (in_side s y at, was) long le in
                 absurd (none_some (sym (a.cleared mine.masks y ready among) ∙ q.1))
           ]
           | inr deep ↦ elim deep [ inl none ↦ absurd none | inr none ↦ absurd none ]

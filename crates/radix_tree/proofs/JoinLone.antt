@@ -16,7 +16,8 @@ module _ {V : Type 0} where
   pub chain_room : (n : ℕ) (c : List (Placed V)) → 1 ≤ members_at n c → (y : Placed V) × IsAmong y c × (y.room.number ≡ n)
   chain_room n [] some = absurd (omega arith)
   chain_room n (x ∷ c) some =
-      elim (x.room.number == n) as (λ t. (x.room.number == n) ≡ t → 1 ≤ one_if t + members_at n c → (y : Placed V) × IsAmong y (x ∷ c) × (y.room.number ≡ n)) [
+      elim (x.room.number == n) as (λ t. (x.room.number == n) ≡ t → 1 ≤ one_if t + members_at n c → (y : Placed V) × IsAmong y (x ∷ c) ×
+      (y.room.number ≡ n)) [
         | true ↦ λ e many. (x, inl refl, eqb-true x.room.number n e)
         | false ↦ λ e many. let behind = chain_room n c (omega arith) in (behind.0, inr behind.1, behind.2)
       ] refl some
@@ -73,8 +74,7 @@ module _ {V : Type 0} where
       }
 
   pub lone : (m : Lodged V) {root : Node} {late : ℕ → Bool} (w : IsWholeBut m root late nobody_out) (at up : Id) {p : LeafPart V}
-      → leaves_in m at.number ≡ Some p → p.block ≡ at.block
-      → p.leaf.next ≡ None → p.leaf.previous ≡ None → p.leaf.above ≡ Some up → IsLone m w.part at up
+      → leaves_in m at.number ≡ Some p → p.block ≡ at.block → p.leaf.next ≡ None → p.leaf.previous ≡ None → p.leaf.above ≡ Some up → IsLone m w.part at up
   lone m w at up {p = p} said block next previous above =
       let count = w.leaves at.number in
       let used = ap (λ o. one_if (is_some o)) said in
@@ -90,6 +90,6 @@ module _ {V : Type 0} where
       (sym is_alone.above_is ∙ above) found.way w.top (once_but w)
 
   -- what the room says
-  pub lone_said : (m : Lodged V) {whole : Part m} (at up : Id) (l : IsLone m whole at up) → leaves_in m at.number ≡ Some (leaf_part l.route (Some up) None None)
-  lone_said m at up l = ap (λ i. leaves_in m i.number) (sym l.room_is)
-      ∙ (side_own_stands up (leaves_in m) (bits_in m) l.over.above l.sides l.over.stands).0
+  pub lone_said : (m : Lodged V) {whole : Part m} (at up : Id) (l : IsLone m whole at up) → leaves_in m at.number ≡ Some
+      (leaf_part l.route (Some up) None None)
+  lone_said m at up l = ap (λ i. leaves_in m i.number) (sym l.room_is) ∙ (side_own_stands l.sides (leaves_in m) (bits_in m) l.over.above l.over.stands).0

@@ -23,7 +23,8 @@ module _ {V : Type 0} where
       let r = lonely (own_part h) (ap leaf_in h.at) in
       lone m w at up (ap leaf_in h.at) h.block r.0 r.1 (ap (λ z. z.above) (read_is links h are is) ∙ above)
 
-  pub never_top : {m : Lodged V} {at : Id} (links : Links) {l : Leaf} → Has m at → AreLinks m at links → l ≡ leaf_of links → IsLonely m at → l.above ≡ None → ⊥
+  pub never_top : {m : Lodged V} {at : Id} (links : Links) {l : Leaf} → Has m at → AreLinks m at links → l ≡ leaf_of links → IsLonely m at → l.above ≡ None
+      → ⊥
   never_top links h are is lonely none =
       let r = lonely (own_part h) (ap leaf_in h.at) in
       true≢false (sym r.2 ∙ ap (λ z. is_some z.above) (read_is links h are is) ∙ ap is_some none)
@@ -36,11 +37,11 @@ module _ {V : Type 0} where
 
   -- ---- the bit node above
   pub Has-up : {m : Lodged V} {whole : Part m} {at up : Id} → IsLone m whole at up → Has m up
-  Has-up {m = m} {up = up} l = Has-fork m (side_fork m l.over up l.bit (leaf l.route []) l.other l.sides)
+  Has-up {m = m} {up = up} l = Has-fork (side_fork m l.over up l.bit (leaf l.route []) l.other l.sides)
 
   up_says : (m : Lodged V) {whole : Part m} (at up : Id) (l : IsLone m whole at up)
       → SaysOther (bits_in m) up l.route.entry.key l.bit l.over.above (name_of l.other)
-  up_says m at up l = side_says up l.bit l.other (leaves_in m) (bits_in m) l.over.above l.sides l.over.stands
+  up_says m at up l = side_says l.sides (leaves_in m) (bits_in m) l.over.above l.over.stands
 
   pub never_unused : {m : Lodged V} {whole : Part m} (at up : Id) (links : Links) → IsLone m whole at up → AreLinks m up links → bit_node_of links ≡ None → ⊥
   never_unused {m = m} at up links l are none = let s = up_says m at up l in bit_used m up links s.says s.block are none
@@ -57,7 +58,7 @@ module _ {V : Type 0} where
       let s = up_says m at up l in
       let read = bit_read m up links s.says s.block are is in
       let same_bit = read.bit ∙ s.bit in
-      let most = (side_is l.over.low l.sides l.over.is).2 in
+      let most = (side_is l.sides l.over.low l.over.is).2 in
       record {
         bit = omega arith;
         above = sym (read.above ∙ s.above_is);
@@ -95,8 +96,7 @@ module _ {V : Type 0} where
     bits = λ n. new_bits n ∙ ap (λ said. lift_bit to above n (put_bit up None n (name_child above key to n said))) (bits n)
         ∙ ap (λ z. lift_bit z above n (put_bit up None n (name_child above key z n (bits_in m n)))) (sym to_is)
         ∙ ap (λ o. lift_bit (name_of l.other) o n (put_bit up None n (name_child o key (name_of l.other) n (bits_in m n)))) (sym above_is)
-        ∙ ap (λ k. lift_bit (name_of l.other) l.over.above n (put_bit up None n (name_child l.over.above k (name_of l.other) n (bits_in m n))))
-        (sym key_is);
+        ∙ ap (λ k. lift_bit (name_of l.other) l.over.above n (put_bit up None n (name_child l.over.above k (name_of l.other) n (bits_in m n)))) (sym key_is);
   }
 
   -- ---- of the rooms of a key one at most is a bit node

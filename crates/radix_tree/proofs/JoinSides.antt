@@ -21,97 +21,80 @@ pub record SaysOther (B : Bits) (room : Id) (key b : ℕ) (above : Option Id) (n
   pub other : other_side key b part.zero part.one ≡ name
 
 module _ {V : Type 0} where
-  -- what holds of either order holds of the bit node
-  pub by_sides : {key : ℕ} {t : Tree V} {room : Id} {b : ℕ} {own other : Tree V} (P : Tree V → Type 0) → HasSides key t room b own other
-      → (bit_at b key ≡ 0 → P (fork room b own other)) → (bit_at b key ≡ 1 → P (fork room b other own)) → P t
-  by_sides {key = key} {t = t} {room = room} {b = b} {own = own} {other = other} P s zero one =
-      elim s.is [ inl e ↦ subst P (sym e.0) (zero e.1) | inr e ↦ subst P (sym e.0) (one e.1) ]
+  module _ {key : ℕ} {t : Tree V} {room : Id} {b : ℕ} {own other : Tree V} (s : HasSides key t room b own other) where
+    -- what holds of either order holds of the bit node
+    pub by_sides : (P : Tree V → Type 0) → (bit_at b key ≡ 0 → P (fork room b own other)) → (bit_at b key ≡ 1 → P (fork room b other own)) → P t
+    by_sides P zero one = elim s.is [ inl e ↦ subst P (sym e.0) (zero e.1) | inr e ↦ subst P (sym e.0) (one e.1) ]
 
-  pub side_is : {key : ℕ} {t : Tree V} {room : Id} {b : ℕ} {own other : Tree V} (low : ℕ) → HasSides key t room b own other → IsTree low t
-      → IsTree (b + 1) other × (low ≤ b) × (b ≤ 31)
-  side_is {b = b} {other = other} low s = by_sides (λ u. IsTree low u → IsTree (b + 1) other × (low ≤ b) × (b ≤ 31)) s
-      (λ clear is. (is.2, is.0.rises, is.0.within)) (λ set is. (is.1, is.0.rises, is.0.within))
+    pub side_is : (low : ℕ) → IsTree low t → IsTree (b + 1) other × (low ≤ b) × (b ≤ 31)
+    side_is low = by_sides (λ u. IsTree low u → IsTree (b + 1) other × (low ≤ b) × (b ≤ 31))
+        (λ clear is. (is.2, is.0.rises, is.0.within)) (λ set is. (is.1, is.0.rises, is.0.within))
 
-  pub side_stands : {key : ℕ} {t : Tree V} (room : Id) {b : ℕ} {own other : Tree V} (L : Leaves V) (B : Bits) (above : Option Id)
-      → HasSides key t room b own other → Stands L B above t → Stands L B (Some room) other
-  side_stands room {other = other} L B above s = by_sides (λ u. Stands L B above u → Stands L B (Some room) other) s
-      (λ clear stands. stands.2) (λ set stands. stands.1)
+    pub side_stands : (L : Leaves V) (B : Bits) (above : Option Id) → Stands L B above t → Stands L B (Some room) other
+    side_stands L B above = by_sides (λ u. Stands L B above u → Stands L B (Some room) other) (λ clear stands. stands.2) (λ set stands. stands.1)
 
-  pub side_own_stands : {key : ℕ} {t : Tree V} (room : Id) {b : ℕ} {own other : Tree V} (L : Leaves V) (B : Bits) (above : Option Id)
-      → HasSides key t room b own other → Stands L B above t → Stands L B (Some room) own
-  side_own_stands room {own = own} L B above s = by_sides (λ u. Stands L B above u → Stands L B (Some room) own) s
-      (λ clear stands. stands.1) (λ set stands. stands.2)
+    pub side_own_stands : (L : Leaves V) (B : Bits) (above : Option Id) → Stands L B above t → Stands L B (Some room) own
+    side_own_stands L B above = by_sides (λ u. Stands L B above u → Stands L B (Some room) own) (λ clear stands. stands.1) (λ set stands. stands.2)
 
-  pub side_says : {key : ℕ} {t : Tree V} (room : Id) (b : ℕ) {own : Tree V} (other : Tree V) (L : Leaves V) (B : Bits) (above : Option Id)
-      → HasSides key t room b own other → Stands L B above t → SaysOther B room key b above (name_of other)
-  side_says {key = key} room b {own = own} other L B above s = by_sides (λ u. Stands L B above u → SaysOther B room key b above (name_of other)) s
-      (λ clear stands. record {
-        part = record { block = room.block; bit = b; zero = name_of own; one = name_of other; above = above };
-        says = stands.0;
-        block = refl;
-        bit = refl;
-        above_is = refl;
-        other = other_of_zero key b (name_of own) (name_of other) clear;
-      }) (λ set stands. record {
-        part = record { block = room.block; bit = b; zero = name_of other; one = name_of own; above = above };
-        says = stands.0;
-        block = refl;
-        bit = refl;
-        above_is = refl;
-        other = other_of_one key b (name_of other) (name_of own) set;
-      })
+    pub side_says : (L : Leaves V) (B : Bits) (above : Option Id) → Stands L B above t → SaysOther B room key b above (name_of other)
+    side_says L B above = by_sides (λ u. Stands L B above u → SaysOther B room key b above (name_of other))
+        (λ clear stands. record {
+          part = record { block = room.block; bit = b; zero = name_of own; one = name_of other; above = above };
+          says = stands.0;
+          block = refl;
+          bit = refl;
+          above_is = refl;
+          other = other_of_zero key b (name_of own) (name_of other) clear;
+        }) (λ set stands. record {
+          part = record { block = room.block; bit = b; zero = name_of other; one = name_of own; above = above };
+          says = stands.0;
+          block = refl;
+          bit = refl;
+          above_is = refl;
+          other = other_of_one key b (name_of other) (name_of own) set;
+        })
 
   pub side_leaves : {key : ℕ} {t : Tree V} {room : Id} {b : ℕ} {own other : Tree V} (n : ℕ) → HasSides key t room b own other
       → leaves_at n t ≡ leaves_at n own + leaves_at n other
-  side_leaves {own = own} {other = other} n s = by_sides (λ u. leaves_at n u ≡ leaves_at n own + leaves_at n other) s (λ clear. refl) (λ set. omega arith)
+  side_leaves {own = own} {other = other} n s = by_sides s (λ u. leaves_at n u ≡ leaves_at n own + leaves_at n other) (λ clear. refl) (λ set. omega arith)
 
-  pub side_forks : {key : ℕ} {t : Tree V} (room : Id) {b : ℕ} {own other : Tree V} (n : ℕ) → HasSides key t room b own other
-      → forks_at n t ≡ one_if (room.number == n) + (forks_at n own + forks_at n other)
-  side_forks room {own = own} {other = other} n s =
-      by_sides (λ u. forks_at n u ≡ one_if (room.number == n) + (forks_at n own + forks_at n other)) s (λ clear. refl) (λ set. omega arith)
+  module _ {key : ℕ} {t : Tree V} {room : Id} {b : ℕ} {own other : Tree V} (s : HasSides key t room b own other) where
+    pub side_forks : (n : ℕ) → forks_at n t ≡ one_if (room.number == n) + (forks_at n own + forks_at n other)
+    side_forks n = by_sides s (λ u. forks_at n u ≡ one_if (room.number == n) + (forks_at n own + forks_at n other)) (λ clear. refl) (λ set. omega arith)
 
-  pub side_in : {key : ℕ} {t : Tree V} {room : Id} {b : ℕ} {own other : Tree V} (y : Placed V) → HasSides key t room b own other → IsIn y t
-      → IsIn y own ⊎ IsIn y other
-  side_in {own = own} {other = other} y s =
-      by_sides (λ u. IsIn y u → IsIn y own ⊎ IsIn y other) s (λ clear is. is) (λ set is. elim is [ inl o ↦ inr o | inr o ↦ inl o ])
+    pub side_in : (y : Placed V) → IsIn y t → IsIn y own ⊎ IsIn y other
+    side_in y = by_sides s (λ u. IsIn y u → IsIn y own ⊎ IsIn y other) (λ clear is. is) (λ set is. elim is [ inl o ↦ inr o | inr o ↦ inl o ])
 
-  pub in_side : {key : ℕ} {t : Tree V} {room : Id} {b : ℕ} {own other : Tree V} (y : Placed V) → HasSides key t room b own other → IsIn y other → IsIn y t
-  in_side y s is = by_sides (λ u. IsIn y u) s (λ clear. inr is) (λ set. inl is)
+    pub in_side : (y : Placed V) → IsIn y other → IsIn y t
+    in_side y is = by_sides s (λ u. IsIn y u) (λ clear. inr is) (λ set. inl is)
 
-  pub side_have : {key : ℕ} {t : Tree V} {room : Id} {b : ℕ} {own : Tree V} (other : Tree V) (c v : ℕ) → HasSides key t room b own other → HaveBit c v t
-      → HaveBit c v other
-  side_have other c v s = by_sides (λ u. HaveBit c v u → HaveBit c v other) s (λ clear have. have.1) (λ set have. have.0)
+    pub side_have : (c v : ℕ) → HaveBit c v t → HaveBit c v other
+    side_have c v = by_sides s (λ u. HaveBit c v u → HaveBit c v other) (λ clear have. have.1) (λ set have. have.0)
 
-  pub side_list : {key : ℕ} {t : Tree V} (room : Id) (b : ℕ) {own other : Tree V} (H : Heads) (K : Masks) (low : ℕ) → HasSides key t room b own other
-      → MarkedLists H K low t → IsMaskList K (H room.number) low b (MarkedIn K t)
-  side_list room b H K low s =
-      by_sides (λ u. MarkedLists H K low u → IsMaskList K (H room.number) low b (MarkedIn K u)) s (λ clear lists. lists.0) (λ set lists. lists.0)
+    pub side_list : (H : Heads) (K : Masks) (low : ℕ) → MarkedLists H K low t → IsMaskList K (H room.number) low b (MarkedIn K t)
+    side_list H K low =
+        by_sides s (λ u. MarkedLists H K low u → IsMaskList K (H room.number) low b (MarkedIn K u)) (λ clear lists. lists.0) (λ set lists. lists.0)
 
-  pub side_lists : {key : ℕ} {t : Tree V} {room : Id} (b : ℕ) {own other : Tree V} (H : Heads) (K : Masks) (low : ℕ) → HasSides key t room b own other
-      → MarkedLists H K low t → MarkedLists H K (b + 1) other
-  side_lists b {other = other} H K low s =
-      by_sides (λ u. MarkedLists H K low u → MarkedLists H K (b + 1) other) s (λ clear lists. lists.2) (λ set lists. lists.1)
+    pub side_lists : (H : Heads) (K : Masks) (low : ℕ) → MarkedLists H K low t → MarkedLists H K (b + 1) other
+    side_lists H K low = by_sides s (λ u. MarkedLists H K low u → MarkedLists H K (b + 1) other) (λ clear lists. lists.2) (λ set lists. lists.1)
 
-  pub side_home : {key : ℕ} {t : Tree V} {room : Id} (b : ℕ) {own other : Tree V} (address rank : ℕ) → HasSides key t room b own other → HasHome address rank t
-      → (rank ≤ b) ⊎ (HasHome address rank own ⊎ HasHome address rank other)
-  side_home b {own = own} {other = other} address rank s =
-      by_sides (λ u. HasHome address rank u → (rank ≤ b) ⊎ (HasHome address rank own ⊎ HasHome address rank other)) s
-      (λ clear home. elim home [ inl le ↦ inl le | inr deep ↦ inr (elim deep [ inl h ↦ inl h.1 | inr h ↦ inr h.1 ]) ])
-      (λ set home. elim home [ inl le ↦ inl le | inr deep ↦ inr (elim deep [ inl h ↦ inr h.1 | inr h ↦ inl h.1 ]) ])
+    pub side_home : (address rank : ℕ) → HasHome address rank t → (rank ≤ b) ⊎ (HasHome address rank own ⊎ HasHome address rank other)
+    side_home address rank =
+        by_sides s (λ u. HasHome address rank u → (rank ≤ b) ⊎ (HasHome address rank own ⊎ HasHome address rank other))
+        (λ clear home. elim home [ inl le ↦ inl le | inr deep ↦ inr (elim deep [ inl h ↦ inl h.1 | inr h ↦ inr h.1 ]) ])
+        (λ set home. elim home [ inl le ↦ inl le | inr deep ↦ inr (elim deep [ inl h ↦ inr h.1 | inr h ↦ inl h.1 ]) ])
 
-  pub home_side : {key : ℕ} {t : Tree V} {room : Id} (b : ℕ) {own : Tree V} (other : Tree V) (low : ℕ) (y : Placed V) → HasSides key t room b own other
-      → IsTree low t → IsIn y other → HasHome y.entry.key y.entry.rank other → HasHome y.entry.key y.entry.rank t
-  home_side b other low y s = by_sides (λ u. IsTree low u → IsIn y other → HasHome y.entry.key y.entry.rank other → HasHome y.entry.key y.entry.rank u) s
-      (λ clear is at home. inr (inr (bit_beneath (b + 1) b 1 other is.2 is.0.ones y at, home)))
-      (λ set is at home. inr (inl (bit_beneath (b + 1) b 0 other is.1 is.0.zeros y at, home)))
+    pub home_side : (low : ℕ) (y : Placed V) → IsTree low t → IsIn y other → HasHome y.entry.key y.entry.rank other → HasHome y.entry.key y.entry.rank t
+    home_side low y = by_sides s (λ u. IsTree low u → IsIn y other → HasHome y.entry.key y.entry.rank other → HasHome y.entry.key y.entry.rank u)
+        (λ clear is at home. inr (inr (bit_beneath (b + 1) b 1 other is.2 is.0.ones y at, home)))
+        (λ set is at home. inr (inl (bit_beneath (b + 1) b 0 other is.1 is.0.zeros y at, home)))
 
-  pub side_spare : {key : ℕ} {t : Tree V} {room : Id} {b : ℕ} {own : Tree V} (other : Tree V) (B : Bits) → HasSides key t room b own other → HaveOneFork B t
-      → HaveOneFork B other
-  side_spare other B s = by_sides (λ u. HaveOneFork B u → HaveOneFork B other) s (λ clear spare. spare.1) (λ set spare. spare.0)
+    pub side_spare : (B : Bits) → HaveOneFork B t → HaveOneFork B other
+    side_spare B = by_sides s (λ u. HaveOneFork B u → HaveOneFork B other) (λ clear spare. spare.1) (λ set spare. spare.0)
 
   pub side_gains : {key : ℕ} {t : Tree V} {room : Id} {b : ℕ} (x : Placed V) (other : Tree V) → HasSides key t room b (leaf x []) other
       → Gains x.entry (routes_of other) (routes_of t)
-  side_gains x other s = by_sides (λ u. Gains x.entry (routes_of other) (routes_of u)) s
+  side_gains x other s = by_sides s (λ u. Gains x.entry (routes_of other) (routes_of u))
       (λ clear. record { front = []; back = routes_of other; was = refl; now = refl })
       (λ set. record { front = routes_of other; back = []; was = sym (append-nil (routes_of other)); now = refl })
 

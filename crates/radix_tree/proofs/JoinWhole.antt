@@ -62,7 +62,7 @@ module _ {V : Type 0} where
   -- ---- the part that takes the bit node's place
   abbrev pub under_part : {m new : Lodged V} {whole : Part m} {at up : Id} {l : IsLone m whole at up} → IsJoined m new whole at up l → Part new
   under_part {m = m} {new = new} {at = at} {up = up} {l = l} j =
-      let is = side_is l.over.low l.sides l.over.is in
+      let is = side_is l.sides l.over.low l.over.is in
       record {
         tree = l.other;
         low = l.over.low;
@@ -70,8 +70,7 @@ module _ {V : Type 0} where
         is = lower l.over.low (l.bit + 1) l.other (let le = is.1 in omega arith) is.0;
         stands = lifted (leaves_in m) (leaves_in new) (bits_in m) (bits_in new) (Some up) l.over.above l.other (λ n some. j.leaves n)
             (λ n some. j.bits n ∙ ap (lift_bit (name_of l.other) l.over.above n)
-            (quiet up l.route.entry.key (name_of l.other) n (bits_in m n) (lone_apart m at up l) some)) (other_once m at up l)
-            (other_part m at up l).stands;
+            (quiet up l.route.entry.key (name_of l.other) n (bits_in m n) (lone_apart m at up l) some)) (other_once m at up l) (other_part m at up l).stands;
       }
 
   pub exchange : (m new : Lodged V) {whole : Part m} (at up : Id) (l : IsLone m whole at up) (j : IsJoined m new whole at up l)
@@ -79,7 +78,7 @@ module _ {V : Type 0} where
   exchange m new at up l j = record {
     low = refl;
     above = refl;
-    keys = λ c value before have. side_have l.other c value l.sides have;
+    keys = λ c value before have. side_have l.sides c value have;
     leaves = λ n none some. j.leaves n ∙ misses_leaf (name_of l.other) n (λ r is same.
         let there = named_leaf l.other r is in
         let here = ap (λ k. leaves_at k l.other) same in
@@ -125,7 +124,7 @@ module _ {V : Type 0} where
       → forks_at n l.other + one_if (is_some (bits_in m n)) ≡ forks_at n l.over.tree + one_if (is_some (bits_in new n))) [
         | true ↦ λ e all.
             let same = eqb-true up.number n e in
-            let says = side_says up l.bit l.other (leaves_in m) (bits_in m) l.over.above l.sides l.over.stands in
+            let says = side_says l.sides (leaves_in m) (bits_in m) l.over.above l.over.stands in
             let was = ap (λ o. one_if (is_some o)) (ap (bits_in m) (sym same) ∙ says.says) in
             let is = ap (λ o. one_if (is_some o)) (ap (bits_in new) (sym same) ∙ freed l j) in
             omega arith
@@ -135,7 +134,8 @@ module _ {V : Type 0} where
 
   -- ---- the whole
   -- the room of the route that goes is not on the other side
-  own_room : (m : Lodged V) {whole : Part m} (at up : Id) (l : IsLone m whole at up) → (leaves_at at.number l.other ≡ 0) × (leaves_at at.number l.over.tree ≡ 1)
+  own_room : (m : Lodged V) {whole : Part m} (at up : Id) (l : IsLone m whole at up) → (leaves_at at.number l.other ≡ 0) ×
+      (leaves_at at.number l.over.tree ≡ 1)
   own_room m at up l =
       let n = at.number in
       let own = ap (λ i. one_if (i.number == at.number)) l.room_is ∙ one_if_same at.number in
@@ -145,15 +145,14 @@ module _ {V : Type 0} where
 
   short_stays : (m new : Lodged V) {whole : Part m} {at up : Id} (l : IsLone m whole at up) → IsHanded m new l.over.low l.over.tree l.other
       → (y : Placed V) → IsIn y l.over.tree → y.entry.rank < l.over.low → masks_in new y.room.number ≡ masks_in m y.room.number
-  short_stays m new l h y is short =
-      h.masks y.room.number (λ z there past same. let rank = same_rank_at m l.over z y there is same in absurd (omega arith))
+  short_stays m new l h y is short = h.masks y.room.number (λ z there past same. let rank = same_rank_at m l.over z y there is same in absurd (omega arith))
 
   pub fits : (m new : Lodged V) {whole : Part m} (at up : Id) (l : IsLone m whole at up) (j : IsJoined m new whole at up l)
       → IsHanded m new l.over.low l.over.tree l.other → masks_in m at.number ≡ None
       → Fits m new whole l.over (under_part j) (late_at at.number) nobody_late nobody_out (out_at at.number)
   fits m new at up l j h unmarked =
       let room = own_room m at up l in
-      let in_over : (y : Placed V) → IsIn y l.other → IsIn y l.over.tree = λ y is. in_side y l.sides is in
+      let in_over : (y : Placed V) → IsIn y l.other → IsIn y l.over.tree = λ y is. in_side l.sides y is in
       record {
         leaves = λ n.
             let sum = side_leaves n l.sides in
@@ -167,7 +166,7 @@ module _ {V : Type 0} where
             absurd (omega arith));
         masks_above = λ y is short marked. short_stays m new l h y is short;
         marks = h.marks;
-        kept = λ y is marked. elim (side_in y l.sides is) [
+        kept = λ y is marked. elim (side_in l.sides y is) [
           | inl own ↦ elim own [
             | inl e ↦ let p = some_of (masks_in new y.room.number) marked in
                 let q = h.marks y.room.number p.0 p.1 in
@@ -181,7 +180,7 @@ module _ {V : Type 0} where
         lists = h.lists;
         all = λ y is home. inr (
           in_over y is,
-          elim home [ inl short ↦ inl short | inr there ↦ inr (home_side l.bit l.other l.over.low y l.sides l.over.is is there) ],
+          elim home [ inl short ↦ inl short | inr there ↦ inr (home_side l.sides l.over.low y l.over.is is there) ],
           λ marked. elim home [
             | inl short ↦ marked_same (masks_in m) (masks_in new) y (short_stays m new l h y (in_over y is) short) marked
             | inr there ↦ h.all y is there marked
@@ -210,7 +209,7 @@ module _ {V : Type 0} where
   whole_joined {m = m} {new = new} at up w l j h unmarked =
       let e = exchanged_whole m new w.part at up l j w.named in
       whole_changed m new w e (fits m new at up l j h unmarked) (spare_changed m new w e
-      (λ spare. spare_same (bits_in m) (bits_in new) l.other (λ y is none. idle_stays l j y.room.number none) (side_spare l.other (bits_in m) l.sides spare))
+      (λ spare. spare_same (bits_in m) (bits_in new) l.other (λ y is none. idle_stays l j y.room.number none) (side_spare l.sides (bits_in m) spare))
       (λ n none some idle. idle_stays l j n idle))
 
   pub routes_joined : {m new : Lodged V} (root : Node) (at up : Id) (w : IsWholeBut m root (late_at at.number) nobody_out) (l : IsLone m w.part at up)

@@ -5,28 +5,28 @@ use Rattle.radix_tree.proofs.Words.{BitNode, Links, IsBitNodeOf, LeafPart, BitPa
 use Rattle.radix_tree.proofs.Words.{leaf_part, LeafAt, with_leaf, put_leaf, put_bit, put_head, leaf_above, Lodged}
 
 module _ {V : Type 0} where
-  abbrev pub part_at : (m : Lodged V) {p : Part m} {room : Id} → LeafAt p room → LeafPart V
-  part_at m {p = p} f = leaf_part f.first p.above None (first_room f.rest)
+  module _ {m : Lodged V} {p : Part m} {room : Id} (f : LeafAt p room) where
+    abbrev pub part_at : LeafPart V
+    part_at = leaf_part f.first p.above None (first_room f.rest)
 
-  pub leaf_said : (m : Lodged V) {p : Part m} {room : Id} (f : LeafAt p room) → leaves_in m room.number ≡ Some (part_at m f)
-  leaf_said m f = ap (λ i. leaves_in m i.number) (sym f.room_is) ∙ (leaf_run m f).stands.0
+    pub leaf_said : leaves_in m room.number ≡ Some part_at
+    leaf_said = ap (λ i. leaves_in m i.number) (sym f.room_is) ∙ (leaf_run m f).stands.0
 
-  pub Has-leaf_at : (m : Lodged V) {p : Part m} {room : Id} → LeafAt p room → Has m room
-  Has-leaf_at m {room = room} f = Has-leaf m room (leaf_said m f) (ap (λ i. i.block) f.room_is)
+    pub Has-leaf_at : Has m room
+    Has-leaf_at = Has-leaf m room leaf_said (ap (λ i. i.block) f.room_is)
 
-  -- the leaf that is written is the old one beneath another bit node
-  pub leaf_lifted : (m : Lodged V) (p : Part m) (room : Id) (links : Links) {l : Leaf} (above : Option Id) (n : ℕ) → LeafAt p room → AreLinks m room links
-      → l ≡ leaf_of links
-      → put_leaf room (record l { above = above }) n (leaves_in m n) ≡ (if n == room.number then leaf_above above (leaves_in m n) else leaves_in m n)
-  leaf_lifted m p room links {l = l} above n f are leaf =
-      let read = leaf ∙ leaf_read m room links (leaf_said m f) (ap (λ i. i.block) f.room_is) are in
-      elim (n == room.number) as (λ t. (n == room.number) ≡ t → (if t then with_leaf (record l { above = above }) (leaves_in m n) else leaves_in m n)
-      ≡ (if t then leaf_above above (leaves_in m n) else leaves_in m n)) [
-        | true ↦ λ e. let said = ap (leaves_in m) (eqb-true n room.number e) ∙ leaf_said m f in
-            ap (with_leaf (record l { above = above })) said ∙ ap (λ z. with_leaf (record z { above = above }) (Some (part_at m f))) read
-            ∙ sym (ap (leaf_above above) said)
-        | false ↦ λ e. refl
-      ] refl
+    -- the leaf that is written is the old one beneath another bit node
+    pub leaf_lifted : (links : Links) {l : Leaf} (above : Option Id) (n : ℕ) → AreLinks m room links → l ≡ leaf_of links
+        → put_leaf room (record l { above = above }) n (leaves_in m n) ≡ (if n == room.number then leaf_above above (leaves_in m n) else leaves_in m n)
+    leaf_lifted links {l = l} above n are leaf =
+        let read = leaf ∙ leaf_read m room links leaf_said (ap (λ i. i.block) f.room_is) are in
+        elim (n == room.number) as (λ t. (n == room.number) ≡ t → (if t then with_leaf (record l { above = above }) (leaves_in m n) else leaves_in m n)
+        ≡ (if t then leaf_above above (leaves_in m n) else leaves_in m n)) [
+          | true ↦ λ e. let said = ap (leaves_in m) (eqb-true n room.number e) ∙ leaf_said in
+              ap (with_leaf (record l { above = above })) said ∙ ap (λ z. with_leaf (record z { above = above }) (Some part_at)) read
+              ∙ sym (ap (leaf_above above) said)
+          | false ↦ λ e. refl
+        ] refl
 
   -- a bit node that is written is the old one, changed so
   pub node_changed : (m : Lodged V) {room : Id} {node : BitNode} (new : BitNode) (change : Option BitPart → Option BitPart) (n : ℕ) → IsBitNodeOf m room node

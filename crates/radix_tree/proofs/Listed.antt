@@ -18,7 +18,8 @@ module _ {V : Type 0} where
     pub list : (ms : List (Placed V)) (f : IsFree m room) → IsMasks m (heads_in m node.number) ms → IsNoRank f.is.entry.rank ms
         → IsMasks new (heads_in new node.number) (sorted_in f.is ms)
     pub heads : (n : ℕ) → (n ≡ node.number → ⊥) → heads_in new n ≡ heads_in m n
-    pub masks : (ms : List (Placed V)) → IsMasks m (heads_in m node.number) ms → (n : ℕ) → (n ≡ room.number → ⊥) → IsAside n ms → masks_in new n ≡ masks_in m n
+    pub masks : (ms : List (Placed V)) → IsMasks m (heads_in m node.number) ms → (n : ℕ) → (n ≡ room.number → ⊥) → IsAside n ms → masks_in new n ≡ masks_in
+      m n
     pub marked : is_some (masks_in new room.number) ≡ true
     pub marks : (n : ℕ) → (n ≡ room.number → ⊥) → is_some (masks_in new n) ≡ is_some (masks_in m n)
 
@@ -29,57 +30,54 @@ module _ {V : Type 0} where
     pub room_is : is.room ≡ room
     pub home : HomeAt m is.entry.key is.entry.rank whole node
 
-  abbrev list_at : (m : Lodged V) {whole : Part m} {room node : Id} (y : Homed m whole room node) → Type 0
-  list_at m {node = node} y = IsMaskList (masks_in m) (heads_in m node.number) y.home.part.low y.home.at.bit (MarkedIn (masks_in m) (tree_of y.home))
+  module _ {m : Lodged V} {whole : Part m} {room node : Id} (y : Homed m whole room node) where
+    abbrev list_at : Type 0
+    list_at = IsMaskList (masks_in m) (heads_in m node.number) y.home.part.low y.home.at.bit (MarkedIn (masks_in m) (tree_of y.home))
 
-  in_home : (m : Lodged V) {whole : Part m} {room node : Id} (y : Homed m whole room node) → IsIn y.is (tree_of y.home)
-  in_home m {whole = whole} y = let h = y.home in subst (IsIn y.is) h.at.is (way_leads m {address = y.is.entry.key} whole h.part h.ups h.way y.is y.inside refl)
+    in_home : IsIn y.is (tree_of y.home)
+    in_home = let h = y.home in subst (IsIn y.is) h.at.is (way_leads m {address = y.is.entry.key} whole h.part h.ups h.way y.is y.inside refl)
 
-  to_whole : (m : Lodged V) {whole : Part m} {room node : Id} (y : Homed m whole room node) (x : Placed V) → IsIn x (tree_of y.home) → IsIn x whole.tree
-  to_whole m y x is = home_inside m y.home x is
+    to_whole : (x : Placed V) → IsIn x (tree_of y.home) → IsIn x whole.tree
+    to_whole x is = home_inside m y.home x is
 
-  -- a member of the list of the route's rank is the route
-  rank_is : (m : Lodged V) {whole : Part m} {room : Id} (node : Id) (y : Homed m whole room node) (x : Placed V) → IsIn x (tree_of y.home)
-      → x.entry.rank ≡ y.is.entry.rank → x ≡ y.is
-  rank_is m node y x is same =
-      let h = y.home in
-      let within = h.within in
-      one_of_bit h.part.low h.at.bit node h.at.zero h.at.one (fork_is m h.at) x y.is is (in_home m y) same (omega arith)
+    -- a member of the list of the route's rank is the route
+    rank_is : (x : Placed V) → IsIn x (tree_of y.home) → x.entry.rank ≡ y.is.entry.rank → x ≡ y.is
+    rank_is x is same =
+        let h = y.home in
+        let within = h.within in
+        one_of_bit h.part.low h.at.bit node h.at.zero h.at.one (fork_is h.at) x y.is is in_home same (omega arith)
 
-  are_masks : (m : Lodged V) {whole : Part m} {room node : Id} (y : Homed m whole room node) (l : list_at m y) → IsMasks m (heads_in m node.number) l.masks
-  are_masks m y l =
-      let h = y.home in
-      masks_listed h.part l (fork_is m h.at).0.within (λ x is. subst (IsIn x) (sym h.at.is) is.0)
+    are_masks : (l : list_at) → IsMasks m (heads_in m node.number) l.masks
+    are_masks l =
+        let h = y.home in
+        masks_listed h.part l (fork_is h.at).0.within (λ x is. subst (IsIn x) (sym h.at.is) is.0)
 
-  -- a room that is not of a route of the list's ranks is aside of it
-  out_of_range : (m : Lodged V) (whole : Part m) {room node : Id} (y : Homed m whole room node) (x : Placed V) → IsIn x whole.tree
-      → (IsIn x y.home.part.tree → y.home.part.low ≤ x.entry.rank → x.entry.rank ≤ y.home.at.bit → ⊥)
-      → (z : Placed V) → IsIn z (tree_of y.home) → y.home.part.low ≤ z.entry.rank → z.entry.rank ≤ y.home.at.bit → z.room.number ≡ x.room.number → ⊥
-  out_of_range m whole y x in_x out z in_z least most same =
-      let e = one_room m whole z x (to_whole m y z in_z) in_x same in
-      let h = y.home in
-      out (subst (IsIn x) (sym h.at.is) (subst (λ p. IsIn p (tree_of h)) e in_z))
-      (subst (λ p. h.part.low ≤ p.entry.rank) e least) (subst (λ p. p.entry.rank ≤ h.at.bit) e most)
+    -- a room that is not of a route of the list's ranks is aside of it
+    out_of_range : (x : Placed V) → IsIn x whole.tree → (IsIn x y.home.part.tree → y.home.part.low ≤ x.entry.rank → x.entry.rank ≤ y.home.at.bit → ⊥)
+        → (z : Placed V) → IsIn z (tree_of y.home) → y.home.part.low ≤ z.entry.rank → z.entry.rank ≤ y.home.at.bit → z.room.number ≡ x.room.number → ⊥
+    out_of_range x in_x out z in_z least most same =
+        let e = one_room m whole z x (to_whole z in_z) in_x same in
+        let h = y.home in
+        out (subst (IsIn x) (sym h.at.is) (subst (λ p. IsIn p (tree_of h)) e in_z))
+        (subst (λ p. h.part.low ≤ p.entry.rank) e least) (subst (λ p. p.entry.rank ≤ h.at.bit) e most)
 
-  aside_of : (m : Lodged V) (whole : Part m) {room node : Id} (y : Homed m whole room node) (l : list_at m y) (x : Placed V) → IsIn x whole.tree
-      → (IsIn x y.home.part.tree → y.home.part.low ≤ x.entry.rank → x.entry.rank ≤ y.home.at.bit → ⊥) → IsAside x.room.number l.masks
-  aside_of m whole y l x in_x out z among same =
-      let range = falls_among y.home.part.low (y.home.at.bit + 1) l.masks l.falls z among in
-      let below = range.1 in
-      out_of_range m whole y x in_x out z (l.within z among).0 range.0 (omega arith) same
+    aside_of : (l : list_at) (x : Placed V) → IsIn x whole.tree
+        → (IsIn x y.home.part.tree → y.home.part.low ≤ x.entry.rank → x.entry.rank ≤ y.home.at.bit → ⊥) → IsAside x.room.number l.masks
+    aside_of l x in_x out z among same =
+        let range = falls_among y.home.part.low (y.home.at.bit + 1) l.masks l.falls z among in
+        let below = range.1 in
+        out_of_range x in_x out z (l.within z among).0 range.0 (omega arith) same
 
-  not_room : (m : Lodged V) (whole : Part m) {room node : Id} (y : Homed m whole room node) (x : Placed V) → IsIn x whole.tree
-      → (IsIn x y.home.part.tree → y.home.part.low ≤ x.entry.rank → x.entry.rank ≤ y.home.at.bit → ⊥) → x.room.number ≡ room.number → ⊥
-  not_room m whole y x in_x out same =
-      out_of_range m whole y x in_x out y.is (in_home m y) y.home.past y.home.within (ap (λ i. i.number) y.room_is ∙ sym same)
+    not_room : (x : Placed V) → IsIn x whole.tree → (IsIn x y.home.part.tree → y.home.part.low ≤ x.entry.rank → x.entry.rank ≤ y.home.at.bit → ⊥)
+        → x.room.number ≡ room.number → ⊥
+    not_room x in_x out same = out_of_range x in_x out y.is in_home y.home.past y.home.within (ap (λ i. i.number) y.room_is ∙ sym same)
 
-  no_rank : (m : Lodged V) {whole : Part m} (room node : Id) (y : Homed m whole room node) (l : list_at m y) → masks_in m room.number ≡ None
-      → IsNoRank y.is.entry.rank l.masks
-  no_rank m room node y l unmarked x among same =
-      let is = l.within x among in
-      let e = rank_is m node y x is.0 same in
-      let marked = subst (IsMarked (masks_in m)) e is.1 in
-      true≢false (sym marked ∙ ap (λ i. is_some (masks_in m i.number)) y.room_is ∙ ap is_some unmarked)
+    no_rank : (l : list_at) → masks_in m room.number ≡ None → IsNoRank y.is.entry.rank l.masks
+    no_rank l unmarked x among same =
+        let is = l.within x among in
+        let e = rank_is x is.0 same in
+        let marked = subst (IsMarked (masks_in m)) e is.1 in
+        true≢false (sym marked ∙ ap (λ i. is_some (masks_in m i.number)) y.room_is ∙ ap is_some unmarked)
 
   marks_more : (m new : Lodged V) (node room : Id) → IsSortedIn m new node room → (x : Placed V) → IsMarked (masks_in m) x → IsMarked (masks_in new) x
   marks_more m new node room s x marked = elim (cases_eq x.room.number room.number) [
@@ -88,14 +86,14 @@ module _ {V : Type 0} where
   ]
 
   -- the list has the route and those of before
-  list_more : (m new : Lodged V) (whole : Part m) (room node : Id) (y : Homed m whole room node) → list_at m y → masks_in m room.number ≡ None
+  list_more : (m new : Lodged V) (whole : Part m) (room node : Id) (y : Homed m whole room node) → list_at y → masks_in m room.number ≡ None
       → IsSortedIn m new node room
       → IsMaskList (masks_in new) (heads_in new node.number) y.home.part.low y.home.at.bit (MarkedIn (masks_in new) (tree_of y.home))
   list_more m new whole room node y l unmarked s =
       let h = y.home in
-      let none = no_rank m room node y l unmarked in
+      let none = no_rank y l unmarked in
       let free : IsFree m room = record { is = y.is; room_is = y.room_is; ranked = ranked_in m whole y.is y.inside; unmarked = unmarked } in
-      let after = s.list l.masks free (are_masks m y l) none in
+      let after = s.list l.masks free (are_masks y l) none in
       let within = h.within in
       record {
         masks = sorted_in y.is l.masks;
@@ -103,12 +101,12 @@ module _ {V : Type 0} where
         stands = after.stands;
         falls = falls_sorted h.part.low (h.at.bit + 1) y.is l.masks l.falls h.past (omega arith) none;
         has = λ x is least most. elim (cases_eq x.room.number room.number) [
-          | inl same ↦ subst (λ p. IsAmong p (sorted_in y.is l.masks)) (one_room m whole y.is x y.inside (to_whole m y x is.0)
+          | inl same ↦ subst (λ p. IsAmong p (sorted_in y.is l.masks)) (one_room m whole y.is x y.inside (to_whole y x is.0)
               (ap (λ i. i.number) y.room_is ∙ sym same)) (sorted_here y.is l.masks)
           | inr other ↦ among_sorted h.part.low (h.at.bit + 1) y.is l.masks l.falls x (l.has x (is.0, sym (s.marks x.room.number other) ∙ is.1) least most)
         ];
         within = λ x among. elim (sorted_among h.part.low (h.at.bit + 1) y.is l.masks l.falls x among) [
-          | inl e ↦ subst (MarkedIn (masks_in new) (tree_of h)) e (in_home m y, ap (λ i. is_some (masks_in new i.number)) y.room_is ∙ s.marked)
+          | inl e ↦ subst (MarkedIn (masks_in new) (tree_of h)) e (in_home y, ap (λ i. is_some (masks_in new i.number)) y.room_is ∙ s.marked)
           | inr old ↦ let is = l.within x old in (is.0, marks_more m new node room s x is.1)
         ];
       }
@@ -117,16 +115,16 @@ module _ {V : Type 0} where
       → Homed m w.part room node → masks_in m room.number ≡ None → IsSortedIn m new node room
       → KeepsLeaves m new → KeepsBits m new → IsWholeBut new root (λ n. late n && not (n == room.number)) nobody_out
   listed_more m new late w room node once y unmarked s leaves bits =
-      let l = home_list m y.home w.lists in
+      let l = home_list y.home w.lists in
       let number = ap (λ i. i.number) y.room_is in
       whole_kept m new late (λ n. late n && not (n == room.number)) w leaves bits
       (relisted m new y.is.entry.key y.is.entry.rank w.part node y.home once (record {
         heads = s.heads;
-        masks = λ x in_x out. s.masks l.masks (are_masks m y l) x.room.number (not_room m w.part y x in_x out) (aside_of m w.part y l x in_x out);
+        masks = λ x in_x out. s.masks l.masks (are_masks y l) x.room.number (not_room y x in_x out) (aside_of y l x in_x out);
         list = list_more m new w.part room node y l unmarked s;
       }) w.lists) (record {
         listed = λ n p said. elim (cases_eq n room.number) [
-          | inl same ↦ (y.is, y.inside, number ∙ sym same, home_has m w.part y.home)
+          | inl same ↦ (y.is, y.inside, number ∙ sym same, home_has y.home)
           | inr other ↦ let q = some_of (masks_in m n) (sym (s.marks n other) ∙ ap is_some said) in w.listed n q.0 q.1
         ];
         all = λ x in_x home. elim (cases_eq x.room.number room.number) [
@@ -143,24 +141,25 @@ module _ {V : Type 0} where
     pub list : (ms : List (Placed V)) (x : Placed V) → IsMasks m (heads_in m node.number) ms → IsAmong x ms → x.room ≡ room
         → IsMasks new (heads_in new node.number) (taken_out x.entry.rank ms)
     pub heads : (n : ℕ) → (n ≡ node.number → ⊥) → heads_in new n ≡ heads_in m n
-    pub masks : (ms : List (Placed V)) → IsMasks m (heads_in m node.number) ms → (n : ℕ) → (n ≡ room.number → ⊥) → IsAside n ms → masks_in new n ≡ masks_in m n
+    pub masks : (ms : List (Placed V)) → IsMasks m (heads_in m node.number) ms → (n : ℕ) → (n ≡ room.number → ⊥) → IsAside n ms → masks_in new n ≡ masks_in
+      m n
     pub unmarked : masks_in new room.number ≡ None
     pub marks : (n : ℕ) → (n ≡ room.number → ⊥) → is_some (masks_in new n) ≡ is_some (masks_in m n)
 
   -- a marked route is listed at its home
-  at_home : (m : Lodged V) {whole : Part m} {room node : Id} (y : Homed m whole room node) (l : list_at m y) → IsMarked (masks_in m) y.is → IsAmong y.is l.masks
-  at_home m y l marked = l.has y.is (in_home m y, marked) y.home.past y.home.within
+  at_home : (m : Lodged V) {whole : Part m} {room node : Id} (y : Homed m whole room node) (l : list_at y) → IsMarked (masks_in m) y.is → IsAmong y.is l.masks
+  at_home m y l marked = l.has y.is (in_home y, marked) y.home.past y.home.within
 
   not_marked : (m new : Lodged V) {node room : Id} → IsTakenOut m new node room → (x : Placed V) → IsMarked (masks_in new) x → x.room.number ≡ room.number → ⊥
   not_marked m new s x marked same = true≢false (sym marked ∙ ap (λ n. is_some (masks_in new n)) same ∙ ap is_some s.unmarked)
 
   -- the list has all but the route
-  list_less : (m new : Lodged V) (whole : Part m) (room node : Id) (y : Homed m whole room node) → list_at m y → IsMarked (masks_in m) y.is
+  list_less : (m new : Lodged V) (whole : Part m) (room node : Id) (y : Homed m whole room node) → list_at y → IsMarked (masks_in m) y.is
       → IsTakenOut m new node room
       → IsMaskList (masks_in new) (heads_in new node.number) y.home.part.low y.home.at.bit (MarkedIn (masks_in new) (tree_of y.home))
   list_less m new whole room node y l marked s =
       let h = y.home in
-      let after = s.list l.masks y.is (are_masks m y l) (at_home m y l marked) y.room_is in
+      let after = s.list l.masks y.is (are_masks y l) (at_home m y l marked) y.room_is in
       let number = ap (λ i. i.number) y.room_is in
       record {
         masks = taken_out y.is.entry.rank l.masks;
@@ -170,69 +169,68 @@ module _ {V : Type 0} where
         has = λ x is least most.
             let other = not_marked m new s x is.1 in
             among_taken h.part.low (h.at.bit + 1) y.is.entry.rank l.masks l.falls x (l.has x (is.0, sym (s.marks x.room.number other) ∙ is.1) least most)
-            (λ same. other (ap (λ p. p.room.number) (rank_is m node y x is.0 same) ∙ number));
+            (λ same. other (ap (λ p. p.room.number) (rank_is y x is.0 same) ∙ number));
         within = λ x among.
             let old = taken_among h.part.low (h.at.bit + 1) y.is.entry.rank l.masks l.falls x among in
             let is = l.within x old.0 in
             let other : x.room.number ≡ room.number → ⊥ =
-            λ same. old.1 (ap (λ p. p.entry.rank) (one_room m whole x y.is (to_whole m y x is.0) y.inside (same ∙ sym number))) in
+            λ same. old.1 (ap (λ p. p.entry.rank) (one_room m whole x y.is (to_whole y x is.0) y.inside (same ∙ sym number))) in
             (is.0, s.marks x.room.number other ∙ is.1);
       }
 
-  pub listed_less : (m new : Lodged V) {root : Node} (late : ℕ → Bool) (w : IsWholeBut m root late nobody_out) (room node : Id) → AreOnce w.part.tree
-      → (y : Homed m w.part room node) → IsMarked (masks_in m) y.is → IsTakenOut m new node room
-      → KeepsLeaves m new → KeepsBits m new → IsWholeBut new root (λ n. late n || (n == room.number)) nobody_out
-  listed_less m new late w room node once y marked s leaves bits =
-      let l = home_list m y.home w.lists in
-      whole_kept m new late (λ n. late n || (n == room.number)) w leaves bits (relisted m new y.is.entry.key y.is.entry.rank w.part node y.home once
-      (record {
-        heads = s.heads;
-        masks = λ x in_x out. s.masks l.masks (are_masks m y l) x.room.number (not_room m w.part y x in_x out) (aside_of m w.part y l x in_x out);
-        list = list_less m new w.part room node y l marked s;
-      }) w.lists) (record {
-        listed = λ n p said. elim (cases_eq n room.number) [
-          | inl same ↦ absurd (none_some (sym s.unmarked ∙ ap (masks_in new) (sym same) ∙ said))
-          | inr other ↦ let q = some_of (masks_in m n) (sym (s.marks n other) ∙ ap is_some said) in w.listed n q.0 q.1
-        ];
-        all = λ x in_x home. elim (cases_eq x.room.number room.number) [
-          | inl same ↦ inr (or_right (late x.room.number) (eq-eqb x.room.number room.number same))
-          | inr other ↦ elim (w.all x in_x home) [
-            | inl old ↦ inl (s.marks x.room.number other ∙ old)
-            | inr is_late ↦ inr (ap (λ t. t || (x.room.number == room.number)) is_late)
-          ]
-        ];
-      })
+  module _ {m : Lodged V} {root : Node} {late : ℕ → Bool} (w : IsWholeBut m root late nobody_out) where
+    pub listed_less : (new : Lodged V) (room node : Id) → AreOnce w.part.tree → (y : Homed m w.part room node) → IsMarked (masks_in m) y.is
+        → IsTakenOut m new node room → KeepsLeaves m new → KeepsBits m new → IsWholeBut new root (λ n. late n || (n == room.number)) nobody_out
+    listed_less new room node once y marked s leaves bits =
+        let l = home_list y.home w.lists in
+        whole_kept m new late (λ n. late n || (n == room.number)) w leaves bits (relisted m new y.is.entry.key y.is.entry.rank w.part node y.home once
+        (record {
+          heads = s.heads;
+          masks = λ x in_x out. s.masks l.masks (are_masks y l) x.room.number (not_room y x in_x out) (aside_of y l x in_x out);
+          list = list_less m new w.part room node y l marked s;
+        }) w.lists) (record {
+          listed = λ n p said. elim (cases_eq n room.number) [
+            | inl same ↦ absurd (none_some (sym s.unmarked ∙ ap (masks_in new) (sym same) ∙ said))
+            | inr other ↦ let q = some_of (masks_in m n) (sym (s.marks n other) ∙ ap is_some said) in w.listed n q.0 q.1
+          ];
+          all = λ x in_x home. elim (cases_eq x.room.number room.number) [
+            | inl same ↦ inr (or_right (late x.room.number) (eq-eqb x.room.number room.number same))
+            | inr other ↦ elim (w.all x in_x home) [
+              | inl old ↦ inl (s.marks x.room.number other ∙ old)
+              | inr is_late ↦ inr (ap (λ t. t || (x.room.number == room.number)) is_late)
+            ]
+          ];
+        })
 
-  -- ---- a route with no home
-  -- its mask is not listed
-  pub homeless : {m : Lodged V} {root : Node} {late : ℕ → Bool} (w : IsWholeBut m root late nobody_out) (room : Id) (y : Placed V) → IsIn y w.part.tree
-      → y.room ≡ room → (HasHome y.entry.key y.entry.rank w.part.tree → ⊥) → masks_in m room.number ≡ None
-  homeless {m = m} w room y in_y is none = unsaid (masks_in m room.number) refl
-    where
-      unsaid : (o : Option MaskPart) → masks_in m room.number ≡ o → masks_in m room.number ≡ None
-      unsaid None e = e
-      unsaid (Some p) e =
-          let x = w.listed room.number p e in
-          let same = one_room m w.part x.0 y x.1 in_y (x.2 ∙ sym (ap (λ i. i.number) is)) in
-          absurd (none (subst (λ p. HasHome p.entry.key p.entry.rank w.part.tree) same x.3))
+    -- ---- a route with no home
+    -- its mask is not listed
+    pub homeless : (room : Id) (y : Placed V) → IsIn y w.part.tree → y.room ≡ room → (HasHome y.entry.key y.entry.rank w.part.tree → ⊥)
+        → masks_in m room.number ≡ None
+    homeless room y in_y is none = unsaid (masks_in m room.number) refl
+      where
+        unsaid : (o : Option MaskPart) → masks_in m room.number ≡ o → masks_in m room.number ≡ None
+        unsaid None e = e
+        unsaid (Some p) e =
+            let x = w.listed room.number p e in
+            let same = one_room m w.part x.0 y x.1 in_y (x.2 ∙ sym (ap (λ i. i.number) is)) in
+            absurd (none (subst (λ p. HasHome p.entry.key p.entry.rank w.part.tree) same x.3))
 
-  -- a room whose mask is listed, or has no home, is not late
-  pub settled : (m : Lodged V) {root : Node} (late : ℕ → Bool) (w : IsWholeBut m root late nobody_out) (room : Id)
-      → ((x : Placed V) → IsIn x w.part.tree → HasHome x.entry.key x.entry.rank w.part.tree → x.room.number ≡ room.number → IsMarked (masks_in m) x)
-      → IsWholeBut m root (λ n. late n && not (n == room.number)) nobody_out
-  settled m late w room here = with_late (λ n. late n && not (n == room.number)) w (λ x in_x home. elim (cases_eq x.room.number room.number) [
-    | inl same ↦ inl (here x in_x home same)
-    | inr other ↦ elim (w.all x in_x home) [
-      | inl marked ↦ inl marked
-      | inr is_late ↦ inr (ap (λ t. t && not (x.room.number == room.number)) is_late ∙ ap not (ne_eqb x.room.number room.number other))
-    ]
-  ])
+    -- a room whose mask is listed, or has no home, is not late
+    pub settled : (room : Id)
+        → ((x : Placed V) → IsIn x w.part.tree → HasHome x.entry.key x.entry.rank w.part.tree → x.room.number ≡ room.number → IsMarked (masks_in m) x)
+        → IsWholeBut m root (λ n. late n && not (n == room.number)) nobody_out
+    settled room here = with_late (λ n. late n && not (n == room.number)) w (λ x in_x home. elim (cases_eq x.room.number room.number) [
+      | inl same ↦ inl (here x in_x home same)
+      | inr other ↦ elim (w.all x in_x home) [
+        | inl marked ↦ inl marked
+        | inr is_late ↦ inr (ap (λ t. t && not (x.room.number == room.number)) is_late ∙ ap not (ne_eqb x.room.number room.number other))
+      ]
+    ])
 
-  pub never_late : {m : Lodged V} {root : Node} (late : ℕ → Bool) (w : IsWholeBut m root late nobody_out) (room : Id) (y : Placed V) → IsIn y w.part.tree
-      → y.room ≡ room → (HasHome y.entry.key y.entry.rank w.part.tree → ⊥) → IsWholeBut m root (λ n. late n && not (n == room.number)) nobody_out
-  never_late {m = m} late w room y in_y is none = settled m late w room
-      (λ x in_x home same. absurd (none (subst (λ p. HasHome p.entry.key p.entry.rank w.part.tree)
-      (one_room m w.part x y in_x in_y (same ∙ sym (ap (λ i. i.number) is))) home)))
+    pub never_late : (room : Id) (y : Placed V) → IsIn y w.part.tree → y.room ≡ room → (HasHome y.entry.key y.entry.rank w.part.tree → ⊥)
+        → IsWholeBut m root (λ n. late n && not (n == room.number)) nobody_out
+    never_late room y in_y is none = settled room (λ x in_x home same. absurd (none (subst (λ p. HasHome p.entry.key p.entry.rank w.part.tree)
+        (one_room m w.part x y in_x in_y (same ∙ sym (ap (λ i. i.number) is))) home)))
 
   -- ---- what a list's change asks for
   pub homed : {m : Lodged V} (whole : Part m) (y : Placed V) {room : Id} {o : Option Id} {node : Id} → IsIn y whole.tree → y.room ≡ room → o ≡ Some node
@@ -246,7 +244,7 @@ module _ {V : Type 0} where
   pub home_masks : {m : Lodged V} {root : Node} {late : ℕ → Bool} (w : IsWholeBut m root late nobody_out) {room node : Id} → Homed m w.part room node
       → (ms : List (Placed V)) × IsMasks m (heads_in m node.number) ms
   home_masks {m = m} w y =
-      let l = home_list m y.home w.lists in (l.masks, are_masks m y l)
+      let l = home_list y.home w.lists in (l.masks, are_masks y l)
 
   pub home_free : {m : Lodged V} (whole : Part m) {room node : Id} → Homed m whole room node → masks_in m room.number ≡ None → IsFree m room
   home_free {m = m} whole y unmarked = record { is = y.is; room_is = y.room_is; ranked = ranked_in m whole y.is y.inside; unmarked = unmarked }
@@ -254,13 +252,13 @@ module _ {V : Type 0} where
   pub home_member : {m : Lodged V} {root : Node} {late : ℕ → Bool} (w : IsWholeBut m root late nobody_out) {room node : Id} (y : Homed m w.part room node)
       → IsMarked (masks_in m) y.is → (ms : List (Placed V)) × (x : Placed V) × IsMasks m (heads_in m node.number) ms × IsAmong x ms × (x.room ≡ room)
   home_member {m = m} w y marked =
-      let l = home_list m y.home w.lists in
-      (l.masks, y.is, are_masks m y l, at_home m y l marked, y.room_is)
+      let l = home_list y.home w.lists in
+      (l.masks, y.is, are_masks y l, at_home m y l marked, y.room_is)
 
   -- where nobody is late a route with a home is marked
   pub marked_at : {m : Lodged V} {root : Node} (w : IsWholeBut m root nobody_late nobody_out) {room node : Id} (y : Homed m w.part room node)
       → IsMarked (masks_in m) y.is
-  marked_at {m = m} w y = elim (w.all y.is y.inside (home_has m w.part y.home)) [
+  marked_at {m = m} w y = elim (w.all y.is y.inside (home_has y.home)) [
     | inl marked ↦ marked
     | inr is_late ↦ absurd (true≢false (sym is_late))
   ]

@@ -45,7 +45,7 @@ module _ {V : Type 0} where
   pub listed_late : {m : Lodged V} {root : Node} (late : ℕ → Bool) (w : IsWholeBut m root late nobody_out) (room : Id) (links : Links) (n : MaskNode)
       → Has m room → AreLinks m room links → mask_node_of links ≡ Some n → IsWholeBut m root (λ k. late k && not (k == room.number)) nobody_out
   listed_late {m = m} late w room links n h are some =
-      settled m late w room (λ x in_x home same. ap (λ k. is_some (masks_in m k)) same ∙ mask_some m links n h are some)
+      settled w room (λ x in_x home same. ap (λ k. is_some (masks_in m k)) same ∙ mask_some m links n h are some)
 
   -- ---- how far the walk has to go: one more than the rank of the route that it has come to
   abbrev pub left_of : Option (LeafPart V) → ℕ
@@ -198,6 +198,5 @@ module _ {V : Type 0} where
 
   pub ended : {m now : Lodged V} {root : Node} (late : ℕ → Bool) (key : ℕ) {at : Option Id} → Left m now root late key at → at ≡ None
       → IsWholeBut now root (λ n. late n && not (has_key m key n)) nobody_out
-  ended {m = m} late key l is = later_than (λ n. late n && not (has_key m key n))
-      (λ n is_late. both_true (late n) (has_key m key n) (l.less n is_late)
+  ended {m = m} late key l is = later_than (λ n. late n && not (has_key m key n)) (λ n is_late. both_true (late n) (has_key m key n) (l.less n is_late)
       (λ has. let x = l.behind n is_late has in none_among l.rest.members (l.begins ∙ is) x.0 x.1)) l.whole

@@ -26,8 +26,8 @@ module _ {V : Type 0} {m : Lodged V} where
   pub begun : {address : ℕ} {p : Part m} {room : Id} {first : Option Id} (v : Counter) (f : ForkAt p room) → MasksAreListed m p
       → heads_in m room.number ≡ first → Through address p f.bit first v v
   begun {p = p} {room} v f listed head =
-      let list = (fork_lists (λ x. Unit {0}) p f listed).0 in
-      let rises = (fork_is m f).0.rises in
+      let list = (fork_lists f (λ x. Unit {0}) listed).0 in
+      let rises = (fork_is f).0.rises in
       record {
         rest = list.masks;
         top = f.bit + 1;
@@ -56,7 +56,8 @@ module _ {V : Type 0} {m : Lodged V} where
     pub turn : now.turn ≡ start.turn
     pub rises : start.count ≤ now.count
     pub soon : now.count + 67 + 67 * p.low ≤ start.count + 67 * (bit + 1)
-    pub hit : (x : Placed V) → Finds (HasPair (masked route.entry.rank address) route.entry.rank) (In p) (Some x) → Best address p.low (bit + 1) (In p) (Some x)
+    pub hit : (x : Placed V) → Finds (HasPair (masked route.entry.rank address) route.entry.rank) (In p) (Some x) → Best address p.low (bit + 1) (In p)
+      (Some x)
     pub miss : (later : Counter) → Finds (HasPair (masked route.entry.rank address) route.entry.rank) (In p) None → Reads now later 67
         → Through address p bit mask.next start later
 
@@ -104,7 +105,8 @@ module _ {V : Type 0} {m : Lodged V} where
   asked address p {rank = rank} o key_is rank_is found =
       subst (λ r. Tells (Finds (HasPair (masked r address) r) (In p)) o) rank_is (subst (λ k. Tells (Finds (HasPair k rank) (In p)) o) key_is found)
 
-  pub hit : {address : ℕ} {p : Part m} {bit : ℕ} {room : Id} {start now : Counter} (x : Mask address p bit room start now) {l : Leaf} {key : ℕ} {o : Option Id}
+  pub hit : {address : ℕ} {p : Part m} {bit : ℕ} {room : Id} {start now : Counter} (x : Mask address p bit room start now) {l : Leaf} {key : ℕ}
+      {o : Option Id}
       {found : Id} → l ≡ x.part.leaf → key ≡ masked l.rank address → o ≡ Some found
       → Tells (Finds (HasPair key l.rank) (In p)) o → Tells (Best address p.low (bit + 1) (In p)) (Some found)
   hit {address} {p} x {l = l} {key = key} {o} {found} is key_is some tells =

@@ -69,27 +69,26 @@ module _ {V : Type 0} where
       let same = inside (sym b.above ∙ is ∙ some) in
       (p, record { bit = f.bit; zero = f.zero; one = f.one; is = f.is ∙ ap (λ i. fork i f.bit f.zero f.one) same })
 
-  -- the bit node above the spot is there once the room is lodged
-  pub over_there : {m new : Lodged V} {key bit : ℕ} {room over : Id} {e : Entry V} (node : BitPart) (whole : Part m) {above : Option Id} {below : Node}
-      → IsSpot m key bit whole above below → IsLodged m new room e node → above ≡ Some over → (p : Part new) × ForkAt p over
-  over_there {m = m} {new = new} {key = key} {bit = bit} {room = room} node whole s l is =
-      let o = over_at m key whole s.at s.ups s.way s.top s.above_is is in (
-        stays m new o.0 (λ n some. l.leaves n (not_new o.0 room l.no_leaf n some)) (λ n some. l.bits n (not_new_bit o.0 room l.no_bit n some)),
-        record { bit = o.1.bit; zero = o.1.zero; one = o.1.one; is = o.1.is },
-      )
+  module _ {m new : Lodged V} {key bit : ℕ} {room : Id} {e : Entry V} (node : BitPart) {whole : Part m} {above : Option Id} {below : Node}
+      (s : IsSpot m key bit whole above below) (l : IsLodged m new room e node) where
+    -- the bit node above the spot is there once the room is lodged
+    pub over_there : {over : Id} → above ≡ Some over → (p : Part new) × ForkAt p over
+    over_there is =
+        let o = over_at m key whole s.at s.ups s.way s.top s.above_is is in (
+          stays m new o.0 (λ n some. l.leaves n (not_new o.0 room l.no_leaf n some)) (λ n some. l.bits n (not_new_bit o.0 room l.no_bit n some)),
+          record { bit = o.1.bit; zero = o.1.zero; one = o.1.one; is = o.1.is },
+        )
 
-  -- and the part beneath it once that names the new bit node
-  pub below_there : (m new turned : Lodged V) {key bit : ℕ} {room : Id} {e : Entry V} (node : BitPart) (whole : Part m) {above : Option Id} {below : Node}
-      → IsSpot m key bit whole above below → IsLodged m new room e node
-      → KeepsLeaves new turned → ((n : ℕ) → bits_in turned n ≡ name_child above key (BitOf room) n (bits_in new n))
-      → (p : Part turned) × (name_of p.tree ≡ below)
-  below_there m new turned {key = key} {room = room} node whole {above = above} s l leaves bits = (
-    stays m turned s.at (λ n some. leaves n ∙ l.leaves n (not_new s.at room l.no_leaf n some))
-        (λ n some. bits n ∙ ap (name_child above key (BitOf room) n) (l.bits n (not_new_bit s.at room l.no_bit n some))
-        ∙ ap (λ o. name_child o key (BitOf room) n (bits_in m n)) (sym s.above_is)
-        ∙ not_above m key whole s.at s.ups s.way s.top s.once (BitOf room) n some),
-    s.named,
-  )
+    -- and the part beneath it once that names the new bit node
+    pub below_there : (turned : Lodged V) → KeepsLeaves new turned → ((n : ℕ) → bits_in turned n ≡ name_child above key (BitOf room) n (bits_in new n))
+        → (p : Part turned) × (name_of p.tree ≡ below)
+    below_there turned leaves bits = (
+      stays m turned s.at (λ n some. leaves n ∙ l.leaves n (not_new s.at room l.no_leaf n some))
+          (λ n some. bits n ∙ ap (name_child above key (BitOf room) n) (l.bits n (not_new_bit s.at room l.no_bit n some))
+          ∙ ap (λ o. name_child o key (BitOf room) n (bits_in m n)) (sym s.above_is)
+          ∙ not_above m key whole s.at s.ups s.way s.top s.once (BitOf room) n some),
+      s.named,
+    )
 
   -- what all writes together leave
   pub beside : {m new : Lodged V} (turned last : Lodged V) {bit : ℕ} {room : Id} {e : Entry V} (whole : Part m) {above : Option Id} {below : Node}
@@ -100,7 +99,7 @@ module _ {V : Type 0} where
   beside {m = m} {new = new} turned last {room = room} {e = e} whole {above = above} {below = below} s l leaves bits lifted_leaves lifted_bits =
       let new_above : (over : Id) → above ≡ Some over → room.number ≡ over.number → ⊥ = λ over is same.
       let o = over_at m e.key whole s.at s.ups s.way s.top s.above_is is in
-      none_some (sym l.no_bit ∙ ap (bits_in m) same ∙ (fork_stands m o.1).0) in
+      none_some (sym l.no_bit ∙ ap (bits_in m) same ∙ (fork_stands o.1).0) in
       record {
         no_leaf = l.no_leaf;
         no_bit = l.no_bit;
@@ -108,9 +107,9 @@ module _ {V : Type 0} where
             ∙ misses_leaf below room.number (λ r is same. not_new s.at room l.no_leaf r.number (named_leaf s.at.tree r (s.named ∙ is)) (sym same)) (Some room)
             (leaves_in turned room.number) ∙ leaves room.number ∙ l.leaf;
         bit_node = lifted_bits room.number
-            ∙ misses_bit below room.number (λ r is same. not_new_bit s.at room l.no_bit r.number (named_bit s.at.tree r (s.named ∙ is)) (sym same)) (Some room)
-            (bits_in turned room.number)
-            ∙ bits room.number ∙ new_turn above e.key room.number (BitOf room) (bits_in new room.number) new_above ∙ l.bit_node;
+            ∙ misses_bit below room.number (λ r is same. not_new_bit s.at room l.no_bit r.number (named_bit s.at.tree r (s.named ∙ is)) (sym same))
+            (Some room)
+            (bits_in turned room.number) ∙ bits room.number ∙ new_turn above e.key room.number (BitOf room) (bits_in new room.number) new_above ∙ l.bit_node;
         leaves = λ n other. lifted_leaves n ∙ ap (lift_leaf below (Some room) n) (leaves n ∙ l.leaves n other);
         bits = λ n other. lifted_bits n ∙ ap (lift_bit below (Some room) n) (bits n ∙ ap (name_child above e.key (BitOf room) n) (l.bits n other));
       }

@@ -176,8 +176,7 @@ module _ {V : Type 0} where
       → IsAmong y (taken_out rank ms)
   among_taken least top rank ms falls y among differs = elim (short_or_long y.entry.rank rank) [
     | inl short ↦ in_back (not_below (rank + 1) ms) (below rank ms) y (among_below rank ms y among short)
-    | inr long ↦ let past : rank + 1 ≤ y.entry.rank =
-        elim (cases_eq y.entry.rank rank) [ inl e ↦ absurd (differs e) | inr ne ↦ omega (arith, ne, long) ] in
+    | inr long ↦ let past : rank + 1 ≤ y.entry.rank = elim (cases_eq y.entry.rank rank) [ inl e ↦ absurd (differs e) | inr ne ↦ omega (arith, ne, long) ] in
         in_front (not_below (rank + 1) ms) (below rank ms) y (among_not_below least top (rank + 1) ms falls y among past)
   ]
 
@@ -218,7 +217,7 @@ module _ {V : Type 0} where
       record { part = leaf_part x said.0 said.1 said.2; said = said.3; block = refl; rank = refl }
 
   pub bit_node_at : (m : Lodged V) {p : Part m} {room : Id} → ForkAt p room → IsBitNode m room
-  bit_node_at m f = record { part = bit_part_of m f; said = (fork_stands m f).0; block = refl }
+  bit_node_at m f = record { part = bit_part_of f; said = (fork_stands f).0; block = refl }
 
   -- the list of a bit node of a tree
   pub masks_listed : {m : Lodged V} (p : Part m) {first : Option Id} {low b : ℕ} {M : Placed V → Type 0} (l : IsMaskList (masks_in m) first low b M) → b ≤ 31

@@ -57,7 +57,7 @@ module _ {V : Type 0} where
       let said = ap bit_in h.at ∙ sym (ap (λ l. bit_part h.room.block (bit_node_of l)) (are h.room h.at)) ∙ ap (bit_part h.room.block) is in
       let count = w.forks from.number ∙ ap (λ o. one_if (is_some o)) said in
       let found = way_to_fork m w.part from.number (omega arith) in
-      let same = inside (sym said ∙ ap (bits_in m) (sym found.number) ∙ (fork_stands m found.at).0) in
+      let same = inside (sym said ∙ ap (bits_in m) (sym found.number) ∙ (fork_stands found.at).0) in
       record {
         whole = w;
         once = once_but w;
@@ -77,59 +77,54 @@ module _ {V : Type 0} where
       }
 
   -- ---- counts
-  pub at_once : {m : Lodged V} {root : Node} {from to : Id} {n : BitNode} (v : IsMove m root from to n) → AreOnce v.at.tree
-  at_once v = way_once v.key v.whole.part v.at v.ups v.way v.once
+  module _ {m : Lodged V} {root : Node} {from to : Id} {n : BitNode} (v : IsMove m root from to n) where
+    pub at_once : AreOnce v.at.tree
+    at_once = way_once v.key v.whole.part v.at v.ups v.way v.once
 
-  pub at_forks : {m : Lodged V} {root : Node} {from to : Id} {n : BitNode} (v : IsMove m root from to n) (k : ℕ)
-      → forks_at k v.at.tree ≡ one_if (v.room.number == k) + (forks_at k v.f.zero + forks_at k v.f.one)
-  at_forks v k = ap (forks_at k) v.f.is
+    pub at_forks : (k : ℕ) → forks_at k v.at.tree ≡ one_if (v.room.number == k) + (forks_at k v.f.zero + forks_at k v.f.one)
+    at_forks k = ap (forks_at k) v.f.is
 
-  pub at_leaves : {m : Lodged V} {root : Node} {from to : Id} {n : BitNode} (v : IsMove m root from to n) (k : ℕ)
-      → leaves_at k v.at.tree ≡ leaves_at k v.f.zero + leaves_at k v.f.one
-  at_leaves v k = ap (leaves_at k) v.f.is
+    pub at_leaves : (k : ℕ) → leaves_at k v.at.tree ≡ leaves_at k v.f.zero + leaves_at k v.f.one
+    at_leaves k = ap (leaves_at k) v.f.is
 
-  from_here : {m : Lodged V} {root : Node} (from to : Id) {n : BitNode} (v : IsMove m root from to n) → one_if (v.room.number == from.number) ≡ 1
-  from_here from to v = one_if_is from.number v.number
+    from_here : one_if (v.room.number == from.number) ≡ 1
+    from_here = one_if_is from.number v.number
 
-  pub from_in : (m : Lodged V) {root : Node} (from to : Id) (n : BitNode) (v : IsMove m root from to n) → 1 ≤ forks_at from.number v.at.tree
-  from_in m from to n v =
-      let sum = at_forks v from.number in
-      let one = from_here from to v in omega arith
+    pub from_in : 1 ≤ forks_at from.number v.at.tree
+    from_in =
+        let sum = at_forks from.number in
+        let one = from_here in omega arith
 
-  -- beneath it there is no bit node of the same room
-  pub not_from : {m : Lodged V} {root : Node} (from to : Id) {n : BitNode} (v : IsMove m root from to n) (k : ℕ) → 1 ≤ forks_at k v.f.zero + forks_at k v.f.one
-      → k ≡ from.number → ⊥
-  not_from from to v k some same =
-      let sum = at_forks v from.number in
-      let one = from_here from to v in
-      let most = (at_once v).forks from.number in
-      let left = ap (λ j. forks_at j v.f.zero) same in
-      let right = ap (λ j. forks_at j v.f.one) same in omega arith
+    -- beneath it there is no bit node of the same room
+    pub not_from : (k : ℕ) → 1 ≤ forks_at k v.f.zero + forks_at k v.f.one → k ≡ from.number → ⊥
+    not_from k some same =
+        let sum = at_forks from.number in
+        let one = from_here in
+        let most = (at_once).forks from.number in
+        let left = ap (λ j. forks_at j v.f.zero) same in
+        let right = ap (λ j. forks_at j v.f.one) same in omega arith
 
-  pub out_not_from : (m : Lodged V) {root : Node} (from to : Id) (n : BitNode) (v : IsMove m root from to n) (k : ℕ) → forks_at k v.at.tree ≡ 0
-      → k ≡ from.number → ⊥
-  out_not_from m from to n v k none same =
-      let sum = at_forks v from.number in
-      let one = from_here from to v in
-      let is = ap (λ j. forks_at j v.at.tree) same in omega arith
+    pub out_not_from : (k : ℕ) → forks_at k v.at.tree ≡ 0 → k ≡ from.number → ⊥
+    out_not_from k none same =
+        let sum = at_forks from.number in
+        let one = from_here in
+        let is = ap (λ j. forks_at j v.at.tree) same in omega arith
 
-  -- the other room is no bit node of the tree
-  pub not_to : (m : Lodged V) {root : Node} {from to : Id} {n : BitNode} (v : IsMove m root from to n) (k : ℕ) → 1 ≤ forks_at k v.whole.part.tree
-      → k ≡ to.number → ⊥
-  not_to m {to = to} v k some same =
-      let p = v.whole.part in
-      let gone = forks_there (leaves_in m) (bits_in m) p.above p.tree to.number p.stands v.takes.free in
-      let is = ap (λ j. forks_at j v.whole.part.tree) same in omega arith
+    -- the other room is no bit node of the tree
+    pub not_to : (k : ℕ) → 1 ≤ forks_at k v.whole.part.tree → k ≡ to.number → ⊥
+    not_to k some same =
+        let p = v.whole.part in
+        let gone = forks_there (leaves_in m) (bits_in m) p.above p.tree to.number p.stands v.takes.free in
+        let is = ap (λ j. forks_at j v.whole.part.tree) same in omega arith
 
-  pub beneath_whole : (m : Lodged V) {root : Node} {from to : Id} {n : BitNode} (v : IsMove m root from to n) (k : ℕ)
-      → forks_at k v.f.zero + forks_at k v.f.one ≤ forks_at k v.whole.part.tree
-  beneath_whole m v k =
-      let sum = at_forks v k in
-      let le = (way_counts m v.key v.whole.part v.at v.ups k v.way).1 in omega arith
+    pub beneath_whole : (k : ℕ) → forks_at k v.f.zero + forks_at k v.f.one ≤ forks_at k v.whole.part.tree
+    beneath_whole k =
+        let sum = at_forks k in
+        let le = (way_counts m v.key v.whole.part v.at v.ups k v.way).1 in omega arith
 
-  -- the rooms differ
-  pub apart : (m : Lodged V) {root : Node} {from to : Id} (n : BitNode) (v : IsMove m root from to n) → from.number ≡ to.number → ⊥
-  apart m n v same = none_some (sym (ap (bits_in m) (v.number ∙ same) ∙ v.takes.free) ∙ (fork_stands m v.f).0)
+    -- the rooms differ
+    pub apart : from.number ≡ to.number → ⊥
+    apart same = none_some (sym (ap (bits_in m) (v.number ∙ same) ∙ v.takes.free) ∙ (fork_stands v.f).0)
 
   -- the bit node above is in the tree, but not in the part
   pub spine_apart : (m : Lodged V) (key : ℕ) (whole at : Part m) (ups : List (Part m)) → Way key whole at ups → whole.above ≡ None → AreOnce whole.tree
@@ -143,101 +138,95 @@ module _ {V : Type 0} where
       let le = (way_counts m key whole p ps way.0.room.number way.1).1 in
       subst (λ i. (forks_at i.number at.tree ≡ 0) × (1 ≤ forks_at i.number whole.tree)) same (none, omega arith)
 
-  pub not_spine : (m : Lodged V) {root : Node} {from to : Id} (n : BitNode) (v : IsMove m root from to n) (k : ℕ) → 1 ≤ forks_at k v.at.tree → (up : Id)
-      → n.above ≡ Some up → k ≡ up.number → ⊥
-  not_spine m n v k some up is same =
-      let none = (spine_apart m v.key v.whole.part v.at v.ups v.way v.whole.top v.once up (sym v.above ∙ is)).0 in
-      let e = ap (λ j. forks_at j v.at.tree) same in omega arith
+  module _ {m : Lodged V} {root : Node} {from to : Id} {n : BitNode} (v : IsMove m root from to n) where
+    pub not_spine : (k : ℕ) → 1 ≤ forks_at k v.at.tree → (up : Id) → n.above ≡ Some up → k ≡ up.number → ⊥
+    not_spine k some up is same =
+        let none = (spine_apart m v.key v.whole.part v.at v.ups v.way v.whole.top v.once up (sym v.above ∙ is)).0 in
+        let e = ap (λ j. forks_at j v.at.tree) same in omega arith
 
-  pub to_not_spine : (m : Lodged V) {root : Node} (from to : Id) (n : BitNode) (v : IsMove m root from to n) (up : Id) → n.above ≡ Some up
-      → to.number ≡ up.number → ⊥
-  to_not_spine m from to n v up is same =
-      not_to m v up.number (spine_apart m v.key v.whole.part v.at v.ups v.way v.whole.top v.once up (sym v.above ∙ is)).1 (sym same)
+    pub to_not_spine : (up : Id) → n.above ≡ Some up → to.number ≡ up.number → ⊥
+    to_not_spine up is same = not_to v up.number (spine_apart m v.key v.whole.part v.at v.ups v.way v.whole.top v.once up (sym v.above ∙ is)).1 (sym same)
 
-  -- ---- before the writes
-  pub left_there : {m : Lodged V} {root : Node} {from to : Id} {n : BitNode} → IsMove m root from to n → (p : Part m) × (name_of p.tree ≡ n.zero)
-  left_there {m = m} v = (zero_part m v.f, sym v.left)
+    -- ---- before the writes
+    pub left_there : (p : Part m) × (name_of p.tree ≡ n.zero)
+    left_there = (zero_part v.f, sym v.left)
 
-  pub right_there : (m new : Lodged V) {root : Node} {from : Id} (to : Id) {n : BitNode} → IsMove m root from to n
-      → ((k : ℕ) → leaves_in new k ≡ lift_leaf n.zero (Some to) k (leaves_in m k)) → ((k : ℕ) → bits_in new k ≡ lift_bit n.zero (Some to) k (bits_in m k))
-      → (p : Part new) × (name_of p.tree ≡ n.one)
-  right_there m new to {n = n} v leaves bits =
-      let once = at_once v in (
+    pub right_there : (new : Lodged V) → ((k : ℕ) → leaves_in new k ≡ lift_leaf n.zero (Some to) k (leaves_in m k))
+        → ((k : ℕ) → bits_in new k ≡ lift_bit n.zero (Some to) k (bits_in m k)) → (p : Part new) × (name_of p.tree ≡ n.one)
+    right_there new leaves bits =
+        let once = at_once v in (
+          record {
+            tree = v.f.one;
+            low = v.f.bit + 1;
+            above = Some v.room;
+            is = (fork_is v.f).2;
+            stands = frame (leaves_in m) (leaves_in new) (bits_in m) (bits_in new) (Some v.room) v.f.one
+                (λ k some. let sum = at_leaves v k in let most = once.leaves k in
+                leaves k ∙ misses_leaf n.zero k (leaf_off v.f.zero k v.left (omega arith)) (Some to) (leaves_in m k)) (λ k some. let sum = at_forks v k in
+                let most = once.forks k in
+                bits k ∙ misses_bit n.zero k (bit_off v.f.zero k v.left (omega arith)) (Some to) (bits_in m k)) (fork_stands v.f).2;
+          },
+          sym v.right,
+        )
+
+    -- the bit node above is one still, once all but its names are written
+    pub over_used : {new : Lodged V} (up : Id) → n.above ≡ Some up
+        → ((k : ℕ) → bits_in new k ≡ put_bit to (Some n) k (put_bit from None k (lift_bit n.one (Some to) k (lift_bit n.zero (Some to) k (bits_in m k)))))
+        → IsBitNode new up
+    over_used up is bits =
+        let k = up.number in
+        let o = over_at m v.key v.whole.part v.at v.ups v.way v.whole.top (sym v.above) is in
+        let zero_lifted = lift_there n.zero (Some to) k (bit_part_of o.1) in
+        let one_lifted = lift_there n.one (Some to) k zero_lifted.0 in
+        let said = lift_bit n.one (Some to) k (lift_bit n.zero (Some to) k (bits_in m k)) in
         record {
-          tree = v.f.one;
-          low = v.f.bit + 1;
-          above = Some v.room;
-          is = (fork_is m v.f).2;
-          stands = frame (leaves_in m) (leaves_in new) (bits_in m) (bits_in new) (Some v.room) v.f.one
-              (λ k some. let sum = at_leaves v k in let most = once.leaves k in
-              leaves k ∙ misses_leaf n.zero k (leaf_off v.f.zero k v.left (omega arith)) (Some to) (leaves_in m k))
-              (λ k some. let sum = at_forks v k in
-              let most = once.forks k in
-              bits k ∙ misses_bit n.zero k (bit_off v.f.zero k v.left (omega arith)) (Some to) (bits_in m k)) (fork_stands m v.f).2;
-        },
-        sym v.right,
-      )
-
-  -- the bit node above is one still, once all but its names are written
-  pub over_used : {m new : Lodged V} {root : Node} (from to : Id) {n : BitNode} (v : IsMove m root from to n) (up : Id) → n.above ≡ Some up
-      → ((k : ℕ) → bits_in new k ≡ put_bit to (Some n) k (put_bit from None k (lift_bit n.one (Some to) k (lift_bit n.zero (Some to) k (bits_in m k)))))
-      → IsBitNode new up
-  over_used {m = m} from to {n = n} v up is bits =
-      let k = up.number in
-      let o = over_at m v.key v.whole.part v.at v.ups v.way v.whole.top (sym v.above) is in
-      let zero_lifted = lift_there n.zero (Some to) k (bit_part_of m o.1) in
-      let one_lifted = lift_there n.one (Some to) k zero_lifted.0 in
-      let said = lift_bit n.one (Some to) k (lift_bit n.zero (Some to) k (bits_in m k)) in
-      record {
-        part = one_lifted.0;
-        said = bits k ∙ off_room to k (bit_part to.block (Some n)) (put_bit from None k said) (λ same. to_not_spine m from to n v up is (sym same))
-            ∙ off_room from k (bit_part from.block None) said (λ same. not_spine m n v from.number (from_in m from to n v) up is (sym same))
-            ∙ ap (lift_bit n.one (Some to) k) (ap (lift_bit n.zero (Some to) k) (fork_stands m o.1).0 ∙ zero_lifted.1) ∙ one_lifted.1;
-        block = one_lifted.2 ∙ zero_lifted.2;
-      }
+          part = one_lifted.0;
+          said = bits k ∙ off_room to k (bit_part to.block (Some n)) (put_bit from None k said) (λ same. to_not_spine up is (sym same))
+              ∙ off_room from k (bit_part from.block None) said (λ same. not_spine from.number (from_in v) up is (sym same))
+              ∙ ap (lift_bit n.one (Some to) k) (ap (lift_bit n.zero (Some to) k) (fork_stands o.1).0 ∙ zero_lifted.1) ∙ one_lifted.1;
+          block = one_lifted.2 ∙ zero_lifted.2;
+        }
 
   -- ---- after the writes
-  pub contents_stay : {m new : Lodged V} {from : Id} (to : Id) {n : BitNode} → IsMoved m new from to n → KeepsRoutes m new
-  contents_stay {m = m} to {n = n} d k =
-      ap (λ o. content_of o) (d.leaves k) ∙ content_lift n.one (Some to) k (lift_leaf n.zero (Some to) k (leaves_in m k))
-      ∙ content_lift n.zero (Some to) k (leaves_in m k)
+  module _ {m new : Lodged V} {from to : Id} {n : BitNode} (d : IsMoved m new from to n) where
+    pub contents_stay : KeepsRoutes m new
+    contents_stay k = ap (λ o. content_of o) (d.leaves k) ∙ content_lift n.one (Some to) k (lift_leaf n.zero (Some to) k (leaves_in m k))
+        ∙ content_lift n.zero (Some to) k (leaves_in m k)
 
-  used_is : (m new : Lodged V) (from to : Id) (n : BitNode) → IsMoved m new from to n → (k : ℕ)
-      → is_some (bits_in new k) ≡ is_some (put_bit to (Some n) k (put_bit from None k (lift_bit n.one (Some to) k (lift_bit n.zero (Some to) k (bits_in m k)))))
-  used_is m new from to n d k = ap is_some (d.bits k)
-      ∙ rename_used n.above from to k (put_bit to (Some n) k (put_bit from None k (lift_bit n.one (Some to) k (lift_bit n.zero (Some to) k (bits_in m k)))))
+    used_is : (k : ℕ)
+        → is_some (bits_in new k) ≡ is_some (put_bit to (Some n) k
+        (put_bit from None k (lift_bit n.one (Some to) k (lift_bit n.zero (Some to) k (bits_in m k)))))
+    used_is k = ap is_some (d.bits k)
+        ∙ rename_used n.above from to k (put_bit to (Some n) k (put_bit from None k (lift_bit n.one (Some to) k (lift_bit n.zero (Some to) k (bits_in m k)))))
 
-  -- a bit node is in use in each room where one was, but for the two rooms
-  pub used_stays : (m new : Lodged V) (from to : Id) (n : BitNode) → IsMoved m new from to n → (k : ℕ) → (k ≡ from.number → ⊥) → (k ≡ to.number → ⊥)
-      → is_some (bits_in new k) ≡ is_some (bits_in m k)
-  used_stays m new from to n d k other off =
-      let lift = lift_bit n.one (Some to) k (lift_bit n.zero (Some to) k (bits_in m k)) in
-      used_is m new from to n d k ∙ ap is_some (off_room to k (bit_part to.block (Some n))
-      (put_bit from None k (lift_bit n.one (Some to) k (lift_bit n.zero (Some to) k (bits_in m k)))) off)
-      ∙ ap is_some (off_room from k (bit_part from.block None) (lift_bit n.one (Some to) k (lift_bit n.zero (Some to) k (bits_in m k))) other)
-      ∙ lift_used n.one (Some to) k (lift_bit n.zero (Some to) k (bits_in m k)) ∙ lift_used n.zero (Some to) k (bits_in m k)
+    -- a bit node is in use in each room where one was, but for the two rooms
+    pub used_stays : (k : ℕ) → (k ≡ from.number → ⊥) → (k ≡ to.number → ⊥) → is_some (bits_in new k) ≡ is_some (bits_in m k)
+    used_stays k other off =
+        let lift = lift_bit n.one (Some to) k (lift_bit n.zero (Some to) k (bits_in m k)) in
+        used_is k ∙ ap is_some (off_room to k (bit_part to.block (Some n))
+        (put_bit from None k (lift_bit n.one (Some to) k (lift_bit n.zero (Some to) k (bits_in m k)))) off)
+        ∙ ap is_some (off_room from k (bit_part from.block None) (lift_bit n.one (Some to) k (lift_bit n.zero (Some to) k (bits_in m k))) other)
+        ∙ lift_used n.one (Some to) k (lift_bit n.zero (Some to) k (bits_in m k)) ∙ lift_used n.zero (Some to) k (bits_in m k)
 
-  pub used_to : (m new : Lodged V) (from to : Id) (n : BitNode) → IsMoved m new from to n → (k : ℕ) → k ≡ to.number → is_some (bits_in new k) ≡ true
-  used_to m new from to n d k same = used_is m new from to n d k ∙ ap is_some (at_room to k (bit_part to.block (Some n))
-      (put_bit from None k (lift_bit n.one (Some to) k (lift_bit n.zero (Some to) k (bits_in m k)))) same)
+    pub used_to : (k : ℕ) → k ≡ to.number → is_some (bits_in new k) ≡ true
+    used_to k same = used_is k ∙ ap is_some (at_room to k (bit_part to.block (Some n))
+        (put_bit from None k (lift_bit n.one (Some to) k (lift_bit n.zero (Some to) k (bits_in m k)))) same)
 
-  pub used_from : (m new : Lodged V) (from to : Id) (n : BitNode) → IsMoved m new from to n → (from.number ≡ to.number → ⊥) → (k : ℕ) → k ≡ from.number
-      → is_some (bits_in new k) ≡ false
-  used_from m new from to n d other k same = used_is m new from to n d k ∙ ap is_some (off_room to k (bit_part to.block (Some n))
-      (put_bit from None k (lift_bit n.one (Some to) k (lift_bit n.zero (Some to) k (bits_in m k)))) (λ e. other (sym same ∙ e)))
-      ∙ ap is_some (at_room from k (bit_part from.block None) (lift_bit n.one (Some to) k (lift_bit n.zero (Some to) k (bits_in m k))) same)
+    pub used_from : (from.number ≡ to.number → ⊥) → (k : ℕ) → k ≡ from.number → is_some (bits_in new k) ≡ false
+    used_from other k same = used_is k ∙ ap is_some (off_room to k (bit_part to.block (Some n))
+        (put_bit from None k (lift_bit n.one (Some to) k (lift_bit n.zero (Some to) k (bits_in m k)))) (λ e. other (sym same ∙ e)))
+        ∙ ap is_some (at_room from k (bit_part from.block None) (lift_bit n.one (Some to) k (lift_bit n.zero (Some to) k (bits_in m k))) same)
 
-  pub gone : {m new : Lodged V} {root : Node} (from to : Id) {n : BitNode} → IsMove m root from to n → IsMoved m new from to n → bits_in new from.number ≡ None
-  gone {m = m} {new = new} from to {n = n} v d = none_of (bits_in new from.number) (used_from m new from to n d (apart m n v) from.number refl)
+    pub gone : {root : Node} → IsMove m root from to n → bits_in new from.number ≡ None
+    gone v = none_of (bits_in new from.number) (used_from (apart v) from.number refl)
 
-  -- a room that is neither of the two
-  pub bit_lifts : (m new : Lodged V) (from to : Id) (n : BitNode) → IsMoved m new from to n → (k : ℕ) → (k ≡ from.number → ⊥) → (k ≡ to.number → ⊥)
-      → bits_in new k ≡ rename n.above from to k (lift_bit n.one (Some to) k (lift_bit n.zero (Some to) k (bits_in m k)))
-  bit_lifts m new from to n d k other off = d.bits k ∙ ap (rename n.above from to k)
-      (off_room to k (bit_part to.block (Some n)) (put_bit from None k (lift_bit n.one (Some to) k (lift_bit n.zero (Some to) k (bits_in m k)))) off
-      ∙ off_room from k (bit_part from.block None) (lift_bit n.one (Some to) k (lift_bit n.zero (Some to) k (bits_in m k))) other)
+    -- a room that is neither of the two
+    pub bit_lifts : (k : ℕ) → (k ≡ from.number → ⊥) → (k ≡ to.number → ⊥)
+        → bits_in new k ≡ rename n.above from to k (lift_bit n.one (Some to) k (lift_bit n.zero (Some to) k (bits_in m k)))
+    bit_lifts k other off = d.bits k ∙ ap (rename n.above from to k)
+        (off_room to k (bit_part to.block (Some n)) (put_bit from None k (lift_bit n.one (Some to) k (lift_bit n.zero (Some to) k (bits_in m k)))) off
+        ∙ off_room from k (bit_part from.block None) (lift_bit n.one (Some to) k (lift_bit n.zero (Some to) k (bits_in m k))) other)
 
-  pub head_stays : (m new : Lodged V) (from to : Id) (n : BitNode) → IsMoved m new from to n → (k : ℕ) → (k ≡ from.number → ⊥) → (k ≡ to.number → ⊥)
-      → heads_in new k ≡ heads_in m k
-  head_stays m new from to n d k other off =
-      d.heads k ∙ off_room to k (head_part (Some n)) (put_head from None k (heads_in m k)) off ∙ off_room from k (head_part None) (heads_in m k) other
+    pub head_stays : (k : ℕ) → (k ≡ from.number → ⊥) → (k ≡ to.number → ⊥) → heads_in new k ≡ heads_in m k
+    head_stays k other off =
+        d.heads k ∙ off_room to k (head_part (Some n)) (put_head from None k (heads_in m k)) off ∙ off_room from k (head_part None) (heads_in m k) other

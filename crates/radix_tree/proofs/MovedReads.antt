@@ -1,18 +1,12 @@
 -- What rooms say where a bit node is renamed, moved, or has another bit node above it.
 use Rattle.radix_tree.proofs.{RoomReads.inside, RoomReads.none_some, Beside.named_leaf, Beside.named_bit, Facts.off_room}
-use Rattle.radix_tree.proofs.Words.{◌≡◌, ℕ, ◌≤◌, ◌==◌, ◌⊎◌, true, false, if◌then◌else◌, Option, Some, None, refl, sym, ap, ◌∙◌, inl, inr, arith, eqb-true}
-use Rattle.radix_tree.proofs.Words.{eq-eqb, ne_eqb, is_some, get, Seen, Has, Id, Node, LeafOf, BitOf, Tree, leaf, fork, LeafPart, BitPart, leaf_in}
-use Rattle.radix_tree.proofs.Words.{leaves_in, name_of, one_if, leaves_at, forks_at, lift_leaf, lift_bit, leaf_above, bit_above, renamed, with_renamed}
-use Rattle.radix_tree.proofs.Words.{rename, Content, content_of, Lodged, true≢false}
-
-pub same_or_not : (a b : ℕ) → (a ≡ b) ⊎ (a ≡ b → ⊥)
-same_or_not a b = elim (a == b) as (λ t. (a == b) ≡ t → (a ≡ b) ⊎ (a ≡ b → ⊥)) [
-  | true ↦ λ e. inl (eqb-true a b e)
-  | false ↦ λ e. inr (λ (s : a ≡ b). true≢false (sym (eq-eqb a b s) ∙ e))
-] refl
+use Rattle.radix_tree.proofs.Words.{◌≡◌, ℕ, ◌≤◌, ◌==◌, ◌⊎◌, true, false, if◌then◌else◌, Option, Some, None, refl, sym, ap, ◌∙◌, inl, inr, arith, eq-eqb}
+use Rattle.radix_tree.proofs.Words.{ne_eqb, is_some, get, Seen, Has, Id, Node, LeafOf, BitOf, Tree, leaf, fork, LeafPart, BitPart, leaf_in, leaves_in}
+use Rattle.radix_tree.proofs.Words.{name_of, one_if, leaves_at, forks_at, lift_leaf, lift_bit, leaf_above, bit_above, renamed, with_renamed, rename}
+use Rattle.radix_tree.proofs.Words.{Content, content_of, Lodged, cases_eq}
 
 pub none_or_some : (k : ℕ) → (k ≡ 0) ⊎ (1 ≤ k)
-none_or_some k = elim (same_or_not k 0) [ inl e ↦ inl e | inr other ↦ inr (omega arith) ]
+none_or_some k = elim (cases_eq k 0) [ inl e ↦ inl e | inr other ↦ inr (omega arith) ]
 
 pub one_if_is : {a : ℕ} (b : ℕ) → a ≡ b → one_if (a == b) ≡ 1
 one_if_is {a = a} b e = ap one_if (eq-eqb a b e)

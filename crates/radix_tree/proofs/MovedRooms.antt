@@ -1,101 +1,98 @@
 -- A bit node in use moves from its room to another: what the rooms say afterwards is the tree with the bit node there.
 use Rattle.radix_tree.proofs.{Parts.fork_is, Parts.fork_stands, Parts.bit_part_of, PartRooms.way_once, Forking.lifted, Beside.misses_leaf}
 use Rattle.radix_tree.proofs.{Beside.misses_bit, MovedLists.marked_stays, MovedLists.list_kept, MovedLists.lists_kept, WholeParts.Fits, Parts.way_lists}
+use Rattle.radix_tree.proofs.{PartRooms.zero_turned, PartRooms.one_turned}
 use Rattle.radix_tree.proofs.Words.{◌≡◌, ℕ, ◌+◌, ◌≤◌, ◌==◌, true, false, if◌then◌else◌, List, ◌∷◌, Some, None, refl, sym, ap, ◌∙◌, subst, inl, inr, arith}
 use Rattle.radix_tree.proofs.Words.{eqb-true, is_some, Id, Node, BitOf, BitNode, fork, bit_at, HaveBit, IsIn, Part, leaves_in, bits_in, heads_in}
 use Rattle.radix_tree.proofs.Words.{masks_in, bit_part, head_part, name_of, Stands, Beneath, Way, one_if, forks_at, HasHome, name_child, with_child}
 use Rattle.radix_tree.proofs.Words.{AreOnce, MarkedLists, nobody_late, out_at, put_bit, put_head, lift_leaf, lift_bit, IsExchange, renamed, with_renamed}
-use Rattle.radix_tree.proofs.Words.{rename, Lodged, IsMarked, []}
-use Rattle.radix_tree.proofs.MovedReads.{same_or_not, one_if_is, one_if_not, at_room, rename_misses, renamed_to, renamed_off}
+use Rattle.radix_tree.proofs.Words.{rename, Lodged, IsMarked, [], cases_eq}
+use Rattle.radix_tree.proofs.MovedReads.{one_if_is, one_if_not, at_room, rename_misses, renamed_to, renamed_off}
 use Rattle.radix_tree.proofs.MovedReads.{leaf_off, bit_off, content_used}
 use Rattle.radix_tree.proofs.MoveWrites.{bit_said, IsMove, IsMoved, at_once, at_forks, at_leaves, from_in, not_from, out_not_from, not_to, beneath_whole}
 use Rattle.radix_tree.proofs.MoveWrites.{apart, not_spine, to_not_spine, contents_stay, used_stays, used_to, used_from, bit_lifts, head_stays}
-use Rattle.radix_tree.proofs.{PartRooms.zero_turned}
-use Rattle.radix_tree.proofs.{PartRooms.one_turned}
 
 module _ {V : Type 0} where
   -- ---- the part with the bit node in the other room
-  pub left_stands : (m new : Lodged V) {root : Node} (from to : Id) (n : BitNode) (v : IsMove m root from to n) → IsMoved m new from to n
-      → Stands (leaves_in new) (bits_in new) (Some to) v.f.zero
-  left_stands m new from to n v d =
-      let once = at_once v in
-      lifted (leaves_in m) (leaves_in new) (bits_in m) (bits_in new) (Some v.room) (Some to) v.f.zero
-      (λ k some. let sum = at_leaves v k in let most = once.leaves k in
-      d.leaves k ∙ misses_leaf n.one k (leaf_off v.f.one k v.right (omega arith)) (Some to) (lift_leaf n.zero (Some to) k (leaves_in m k))
-      ∙ ap (λ z. lift_leaf z (Some to) k (leaves_in m k)) v.left) (λ k some. let sum = at_forks v k in
-      let most = once.forks k in
-      let le = beneath_whole m v k in
-      bit_lifts m new from to n d k (not_from from to v k (omega arith)) (not_to m v k (omega arith))
-      ∙ rename_misses n.above from to k (lift_bit n.one (Some to) k (lift_bit n.zero (Some to) k (bits_in m k))) (not_spine m n v k (omega arith))
-      ∙ misses_bit n.one k (bit_off v.f.one k v.right (omega arith)) (Some to) (lift_bit n.zero (Some to) k (bits_in m k))
-      ∙ ap (λ z. lift_bit z (Some to) k (bits_in m k)) v.left) (record {
-        leaves = λ k. let sum = at_leaves v k in let most = once.leaves k in omega arith;
-        forks = λ k. let sum = at_forks v k in
-            let most = once.forks k in omega arith;
-      }) (fork_stands m v.f).1
+  module _ {m new : Lodged V} {root : Node} {from to : Id} {n : BitNode} (v : IsMove m root from to n) (d : IsMoved m new from to n) where
+    pub left_stands : Stands (leaves_in new) (bits_in new) (Some to) v.f.zero
+    left_stands =
+        let once = at_once v in
+        lifted (leaves_in m) (leaves_in new) (bits_in m) (bits_in new) (Some v.room) (Some to) v.f.zero
+        (λ k some. let sum = at_leaves v k in let most = once.leaves k in
+        d.leaves k ∙ misses_leaf n.one k (leaf_off v.f.one k v.right (omega arith)) (Some to) (lift_leaf n.zero (Some to) k (leaves_in m k))
+        ∙ ap (λ z. lift_leaf z (Some to) k (leaves_in m k)) v.left) (λ k some. let sum = at_forks v k in
+        let most = once.forks k in
+        let le = beneath_whole v k in
+        bit_lifts d k (not_from v k (omega arith)) (not_to v k (omega arith))
+        ∙ rename_misses n.above from to k (lift_bit n.one (Some to) k (lift_bit n.zero (Some to) k (bits_in m k))) (not_spine v k (omega arith))
+        ∙ misses_bit n.one k (bit_off v.f.one k v.right (omega arith)) (Some to) (lift_bit n.zero (Some to) k (bits_in m k))
+        ∙ ap (λ z. lift_bit z (Some to) k (bits_in m k)) v.left) (record {
+          leaves = λ k. let sum = at_leaves v k in let most = once.leaves k in omega arith;
+          forks = λ k. let sum = at_forks v k in
+              let most = once.forks k in omega arith;
+        }) (fork_stands v.f).1
 
-  pub right_stands : (m new : Lodged V) {root : Node} (from to : Id) (n : BitNode) (v : IsMove m root from to n) → IsMoved m new from to n
-      → Stands (leaves_in new) (bits_in new) (Some to) v.f.one
-  right_stands m new from to n v d =
-      let once = at_once v in
-      lifted (leaves_in m) (leaves_in new) (bits_in m) (bits_in new) (Some v.room) (Some to) v.f.one
-      (λ k some. let sum = at_leaves v k in let most = once.leaves k in
-      d.leaves k ∙ ap (λ o. lift_leaf n.one (Some to) k o) (misses_leaf n.zero k (leaf_off v.f.zero k v.left (omega arith)) (Some to) (leaves_in m k))
-      ∙ ap (λ z. lift_leaf z (Some to) k (leaves_in m k)) v.right) (λ k some. let sum = at_forks v k in
-      let most = once.forks k in
-      let le = beneath_whole m v k in
-      bit_lifts m new from to n d k (not_from from to v k (omega arith)) (not_to m v k (omega arith))
-      ∙ rename_misses n.above from to k (lift_bit n.one (Some to) k (lift_bit n.zero (Some to) k (bits_in m k))) (not_spine m n v k (omega arith))
-      ∙ ap (lift_bit n.one (Some to) k) (misses_bit n.zero k (bit_off v.f.zero k v.left (omega arith)) (Some to) (bits_in m k))
-      ∙ ap (λ z. lift_bit z (Some to) k (bits_in m k)) v.right) (record {
-        leaves = λ k. let sum = at_leaves v k in let most = once.leaves k in omega arith;
-        forks = λ k. let sum = at_forks v k in
-            let most = once.forks k in omega arith;
-      }) (fork_stands m v.f).2
+    pub right_stands : Stands (leaves_in new) (bits_in new) (Some to) v.f.one
+    right_stands =
+        let once = at_once v in
+        lifted (leaves_in m) (leaves_in new) (bits_in m) (bits_in new) (Some v.room) (Some to) v.f.one
+        (λ k some. let sum = at_leaves v k in let most = once.leaves k in
+        d.leaves k ∙ ap (λ o. lift_leaf n.one (Some to) k o) (misses_leaf n.zero k (leaf_off v.f.zero k v.left (omega arith)) (Some to) (leaves_in m k))
+        ∙ ap (λ z. lift_leaf z (Some to) k (leaves_in m k)) v.right) (λ k some. let sum = at_forks v k in
+        let most = once.forks k in
+        let le = beneath_whole v k in
+        bit_lifts d k (not_from v k (omega arith)) (not_to v k (omega arith))
+        ∙ rename_misses n.above from to k (lift_bit n.one (Some to) k (lift_bit n.zero (Some to) k (bits_in m k))) (not_spine v k (omega arith))
+        ∙ ap (lift_bit n.one (Some to) k) (misses_bit n.zero k (bit_off v.f.zero k v.left (omega arith)) (Some to) (bits_in m k))
+        ∙ ap (λ z. lift_bit z (Some to) k (bits_in m k)) v.right) (record {
+          leaves = λ k. let sum = at_leaves v k in let most = once.leaves k in omega arith;
+          forks = λ k. let sum = at_forks v k in
+              let most = once.forks k in omega arith;
+        }) (fork_stands v.f).2
 
-  pub here_said : (m new : Lodged V) {root : Node} (from to : Id) (n : BitNode) (v : IsMove m root from to n) → IsMoved m new from to n
-      → bits_in new to.number ≡ Some (record { block = to.block; bit = v.f.bit; zero = name_of v.f.zero; one = name_of v.f.one; above = v.at.above })
-  here_said m new from to n v d = d.bits to.number ∙ rename_misses n.above from to to.number (put_bit to (Some n) to.number
-      (put_bit from None to.number (lift_bit n.one (Some to) to.number (lift_bit n.zero (Some to) to.number (bits_in m to.number)))))
-      (to_not_spine m from to n v) ∙ at_room to to.number (bit_part to.block (Some n)) (put_bit from None to.number
-      (lift_bit n.one (Some to) to.number (lift_bit n.zero (Some to) to.number (bits_in m to.number)))) refl
-      ∙ bit_said to n v.bit v.left v.right v.above
+    pub here_said : bits_in new to.number ≡ Some
+        (record { block = to.block; bit = v.f.bit; zero = name_of v.f.zero; one = name_of v.f.one; above = v.at.above })
+    here_said = d.bits to.number ∙ rename_misses n.above from to to.number (put_bit to (Some n) to.number
+        (put_bit from None to.number (lift_bit n.one (Some to) to.number (lift_bit n.zero (Some to) to.number (bits_in m to.number)))))
+        (to_not_spine v) ∙ at_room to to.number (bit_part to.block (Some n)) (put_bit from None to.number
+        (lift_bit n.one (Some to) to.number (lift_bit n.zero (Some to) to.number (bits_in m to.number)))) refl ∙ bit_said to n v.bit v.left v.right v.above
 
-  abbrev pub under_of : {m new : Lodged V} {root : Node} {from to : Id} {n : BitNode} (v : IsMove m root from to n) → IsMoved m new from to n → Part new
-  under_of {m = m} {new = new} {from = from} {to = to} {n = n} v d = record {
-    tree = fork to v.f.bit v.f.zero v.f.one;
-    low = v.at.low;
-    above = v.at.above;
-    is = fork_is m v.f;
-    stands = (here_said m new from to n v d, left_stands m new from to n v d, right_stands m new from to n v d);
-  }
+    abbrev pub under_of : Part new
+    under_of = record {
+      tree = fork to v.f.bit v.f.zero v.f.one;
+      low = v.at.low;
+      above = v.at.above;
+      is = fork_is v.f;
+      stands = (here_said, left_stands, right_stands);
+    }
 
   -- ---- the bit node above
   zero_named : (m : Lodged V) (from to room : Id) (key : ℕ) {under over : Part m} (b : Beneath key under over) → name_of under.tree ≡ BitOf room
       → room.number ≡ from.number → under.tree ≡ b.at.zero → bit_at b.at.bit key ≡ 0 → forks_at from.number b.at.one ≡ 0
-      → with_renamed from to (Some (bit_part_of m b.at)) ≡ with_child key (BitOf to) (Some (bit_part_of m b.at))
+      → with_renamed from to (Some (bit_part_of b.at)) ≡ with_child key (BitOf to) (Some (bit_part_of b.at))
   zero_named m from to room key b named same tree clear none =
-      let p = bit_part_of m b.at in
+      let p = bit_part_of b.at in
       let here = ap (renamed from to) (sym (ap name_of tree) ∙ named) ∙ renamed_to from to room same in
       let there = renamed_off from to b.at.one none in
-      ap (λ z. Some (record (bit_part_of m b.at) { zero = z; one = renamed from to (name_of b.at.one) })) here
-      ∙ ap (λ z. Some (record (bit_part_of m b.at) { zero = BitOf to; one = z })) there ∙ sym (zero_turned key (BitOf to) (bit_part_of m b.at) clear)
+      ap (λ z. Some (record (bit_part_of b.at) { zero = z; one = renamed from to (name_of b.at.one) })) here
+      ∙ ap (λ z. Some (record (bit_part_of b.at) { zero = BitOf to; one = z })) there ∙ sym (zero_turned key (BitOf to) (bit_part_of b.at) clear)
 
   one_named : (m : Lodged V) (from to room : Id) (key : ℕ) {under over : Part m} (b : Beneath key under over) → name_of under.tree ≡ BitOf room
       → room.number ≡ from.number → under.tree ≡ b.at.one → bit_at b.at.bit key ≡ 1 → forks_at from.number b.at.zero ≡ 0
-      → with_renamed from to (Some (bit_part_of m b.at)) ≡ with_child key (BitOf to) (Some (bit_part_of m b.at))
+      → with_renamed from to (Some (bit_part_of b.at)) ≡ with_child key (BitOf to) (Some (bit_part_of b.at))
   one_named m from to room key b named same tree set none =
       let here = ap (renamed from to) (sym (ap name_of tree) ∙ named) ∙ renamed_to from to room same in
       let there = renamed_off from to b.at.zero none in
-      ap (λ z. Some (record (bit_part_of m b.at) { zero = renamed from to (name_of b.at.zero); one = z })) here
-      ∙ ap (λ z. Some (record (bit_part_of m b.at) { zero = z; one = BitOf to })) there ∙ sym (one_turned key (BitOf to) (bit_part_of m b.at) set)
+      ap (λ z. Some (record (bit_part_of b.at) { zero = renamed from to (name_of b.at.zero); one = z })) here
+      ∙ ap (λ z. Some (record (bit_part_of b.at) { zero = z; one = BitOf to })) there ∙ sym (one_turned key (BitOf to) (bit_part_of b.at) set)
 
   -- to name the room by its number is to turn the bit node above on the side of the way
   over_named : (m : Lodged V) (from to room : Id) (key : ℕ) (under over : Part m) (b : Beneath key under over) → AreOnce over.tree
       → 1 ≤ forks_at from.number under.tree → name_of under.tree ≡ BitOf room → room.number ≡ from.number
       → with_renamed from to (bits_in m b.room.number) ≡ with_child key (BitOf to) (bits_in m b.room.number)
   over_named m from to room key under over b once some named same =
-      let said = (fork_stands m b.at).0 in
+      let said = (fork_stands b.at).0 in
       let sum = ap (forks_at from.number) b.at.is in
       let most = once.forks from.number in
       ap (with_renamed from to) said ∙ elim b.side [
@@ -121,80 +118,77 @@ module _ {V : Type 0} where
       ] refl ∙ sym (ap (λ o. name_child o key (BitOf to) k (bits_in m k)) b.above)
 
   -- ---- the exchange
-  pub exchange : (m new : Lodged V) {root : Node} (from to : Id) (n : BitNode) (v : IsMove m root from to n) (d : IsMoved m new from to n)
-      → IsExchange m new v.key v.whole.part v.at (under_of v d)
-  exchange m new from to n v d = record {
-    low = refl;
-    above = refl;
-    keys = λ c value before have. subst (HaveBit c value) v.f.is have;
-    leaves = λ k none some. let sum = at_leaves v k in
-        d.leaves k ∙ misses_leaf n.one k (leaf_off v.f.one k v.right (omega arith)) (Some to) (lift_leaf n.zero (Some to) k (leaves_in m k))
-        ∙ misses_leaf n.zero k (leaf_off v.f.zero k v.left (omega arith)) (Some to) (leaves_in m k);
-    bits = λ k none some. let sum = at_forks v k in
-        let own = from_in m from to n v in
-        bit_lifts m new from to n d k (out_not_from m from to n v k none) (not_to m v k some) ∙ ap (rename n.above from to k)
-        (misses_bit n.one k (bit_off v.f.one k v.right (omega arith)) (Some to) (lift_bit n.zero (Some to) k (bits_in m k))
-        ∙ misses_bit n.zero k (bit_off v.f.zero k v.left (omega arith)) (Some to) (bits_in m k)) ∙ ap (λ o. rename o from to k (bits_in m k)) v.above
-        ∙ spine_named m from to v.room v.key v.whole.part v.at v.ups v.way v.whole.top v.once own (ap name_of v.f.is) v.number k;
-  }
+  module _ {m new : Lodged V} {root : Node} {from to : Id} {n : BitNode} (v : IsMove m root from to n) (d : IsMoved m new from to n) where
+    pub exchange : IsExchange m new v.key v.whole.part v.at (under_of v d)
+    exchange = record {
+      low = refl;
+      above = refl;
+      keys = λ c value before have. subst (HaveBit c value) v.f.is have;
+      leaves = λ k none some. let sum = at_leaves v k in
+          d.leaves k ∙ misses_leaf n.one k (leaf_off v.f.one k v.right (omega arith)) (Some to) (lift_leaf n.zero (Some to) k (leaves_in m k))
+          ∙ misses_leaf n.zero k (leaf_off v.f.zero k v.left (omega arith)) (Some to) (leaves_in m k);
+      bits = λ k none some. let sum = at_forks v k in
+          let own = from_in v in
+          bit_lifts d k (out_not_from v k none) (not_to v k some) ∙ ap (rename n.above from to k)
+          (misses_bit n.one k (bit_off v.f.one k v.right (omega arith)) (Some to) (lift_bit n.zero (Some to) k (bits_in m k))
+          ∙ misses_bit n.zero k (bit_off v.f.zero k v.left (omega arith)) (Some to) (bits_in m k)) ∙ ap (λ o. rename o from to k (bits_in m k)) v.above
+          ∙ spine_named m from to v.room v.key v.whole.part v.at v.ups v.way v.whole.top v.once own (ap name_of v.f.is) v.number k;
+    }
 
-  -- the masks stay, and the lists with them
-  lists_moved : (m new : Lodged V) {root : Node} (from to : Id) (n : BitNode) (v : IsMove m root from to n) (d : IsMoved m new from to n)
-      → MarkedLists (heads_in new) (masks_in new) v.at.low (fork to v.f.bit v.f.zero v.f.one)
-  lists_moved m new from to n v d =
-      let old = subst (MarkedLists (heads_in m) (masks_in m) v.at.low) v.f.is (way_lists (IsMarked (masks_in m)) v.key v.whole.part v.at v.ups v.way v.whole.lists) in
-      let head = d.heads to.number ∙ at_room to to.number (head_part (Some n)) (put_head from None to.number (heads_in m to.number)) refl ∙ sym v.head
-      ∙ ap (heads_in m) (sym v.number) in
-      let stays : (k : ℕ) → 1 ≤ forks_at k v.f.zero + forks_at k v.f.one → heads_in new k ≡ heads_in m k = λ k some. let le = beneath_whole m v k in
-      head_stays m new from to n d k (not_from from to v k some) (not_to m v k (omega arith)) in (
-        list_kept (masks_in m) (masks_in new) (fork to v.f.bit v.f.zero v.f.one) d.masks head old.0,
-        lists_kept (heads_in m) (heads_in new) (masks_in m) (masks_in new) (v.f.bit + 1) v.f.zero d.masks (λ k some. stays k (omega arith)) old.1,
-        lists_kept (heads_in m) (heads_in new) (masks_in m) (masks_in new) (v.f.bit + 1) v.f.one d.masks (λ k some. stays k (omega arith)) old.2,
-      )
+    -- the masks stay, and the lists with them
+    lists_moved : MarkedLists (heads_in new) (masks_in new) v.at.low (fork to v.f.bit v.f.zero v.f.one)
+    lists_moved =
+        let old = subst (MarkedLists (heads_in m) (masks_in m) v.at.low) v.f.is
+        (way_lists (IsMarked (masks_in m)) v.key v.whole.part v.at v.ups v.way v.whole.lists) in
+        let head = d.heads to.number ∙ at_room to to.number (head_part (Some n)) (put_head from None to.number (heads_in m to.number)) refl ∙ sym v.head
+        ∙ ap (heads_in m) (sym v.number) in
+        let stays : (k : ℕ) → 1 ≤ forks_at k v.f.zero + forks_at k v.f.one → heads_in new k ≡ heads_in m k = λ k some. let le = beneath_whole v k in
+        head_stays d k (not_from v k some) (not_to v k (omega arith)) in (
+          list_kept (masks_in m) (masks_in new) (fork to v.f.bit v.f.zero v.f.one) d.masks head old.0,
+          lists_kept (heads_in m) (heads_in new) (masks_in m) (masks_in new) (v.f.bit + 1) v.f.zero d.masks (λ k some. stays k (omega arith)) old.1,
+          lists_kept (heads_in m) (heads_in new) (masks_in m) (masks_in new) (v.f.bit + 1) v.f.one d.masks (λ k some. stays k (omega arith)) old.2,
+        )
 
-  -- what each number has in use
-  count_moved : (m new : Lodged V) {root : Node} (from to : Id) (n : BitNode) (v : IsMove m root from to n) → IsMoved m new from to n → (k : ℕ)
-      → one_if (to.number == k) + one_if (is_some (bits_in m k)) ≡ one_if (v.room.number == k) + one_if (is_some (bits_in new k))
-  count_moved m new from to n v d k =
-      let other = apart m n v in
-      elim (same_or_not to.number k) [
-        | inl same ↦ let a = one_if_is k same in
-            let b = ap (λ o. one_if (is_some o)) (ap (bits_in m) (sym same) ∙ v.takes.free) in
-            let c = one_if_not v.room.number k (λ (e : v.room.number ≡ k). other (sym v.number ∙ e ∙ sym same)) in
-            let e = ap one_if (used_to m new from to n d k (sym same)) in omega arith
-        | inr off ↦ let a = one_if_not to.number k off in
-            elim (same_or_not v.room.number k) [
-              | inl same ↦ let b = ap (λ o. one_if (is_some o)) (ap (bits_in m) (sym same) ∙ (fork_stands m v.f).0) in
-                  let c = one_if_is k same in
-                  let e = ap one_if (used_from m new from to n d other k (sym same ∙ v.number)) in omega arith
-              | inr far ↦ let c = one_if_not v.room.number k far in
-                  let e = ap one_if (used_stays m new from to n d k (λ (s : k ≡ from.number). far (v.number ∙ sym s))
-                  (λ (s : k ≡ to.number). off (sym s))) in omega arith
-            ]
-      ]
+    -- what each number has in use
+    count_moved : (k : ℕ) → one_if (to.number == k) + one_if (is_some (bits_in m k)) ≡ one_if (v.room.number == k) + one_if (is_some (bits_in new k))
+    count_moved k =
+        let other = apart v in
+        elim (cases_eq to.number k) [
+          | inl same ↦ let a = one_if_is k same in
+              let b = ap (λ o. one_if (is_some o)) (ap (bits_in m) (sym same) ∙ v.takes.free) in
+              let c = one_if_not v.room.number k (λ (e : v.room.number ≡ k). other (sym v.number ∙ e ∙ sym same)) in
+              let e = ap one_if (used_to d k (sym same)) in omega arith
+          | inr off ↦ let a = one_if_not to.number k off in
+              elim (cases_eq v.room.number k) [
+                | inl same ↦ let b = ap (λ o. one_if (is_some o)) (ap (bits_in m) (sym same) ∙ (fork_stands v.f).0) in
+                    let c = one_if_is k same in
+                    let e = ap one_if (used_from d other k (sym same ∙ v.number)) in omega arith
+                | inr far ↦ let c = one_if_not v.room.number k far in
+                    let e = ap one_if (used_stays d k (λ (s : k ≡ from.number). far (v.number ∙ sym s)) (λ (s : k ≡ to.number). off (sym s))) in omega arith
+              ]
+        ]
 
-  pub fits : (m new : Lodged V) {root : Node} (from to : Id) (n : BitNode) (v : IsMove m root from to n) (d : IsMoved m new from to n)
-      → Fits m new v.whole.part v.at (under_of v d) nobody_late nobody_late (out_at from.number) (out_at from.number)
-  fits m new from to n v d = record {
-    leaves = λ k.
-        let sum = at_leaves v k in
-        let used = ap one_if (content_used (leaves_in new k) (leaves_in m k) (contents_stay to d k)) in omega arith;
-    forks = λ k.
-        let sum = at_forks v k in
-        let used = count_moved m new from to n v d k in omega arith;
-    heads = λ k none some. head_stays m new from to n d k (out_not_from m from to n v k none) (not_to m v k some);
-    masks = λ k none some. d.masks k;
-    masks_above = λ y is below marked. d.masks y.room.number;
-    marks = λ k p is. (p, sym (d.masks k) ∙ is);
-    kept = λ y is marked. (subst (IsIn y) v.f.is is, λ home. inr (subst (HasHome y.entry.key y.entry.rank) v.f.is home));
-    came = λ y is marked. subst (IsIn y) (sym v.f.is) is;
-    gone = λ y is below marked. marked_stays (masks_in m) (masks_in new) y d.masks marked;
-    lists = lists_moved m new from to n v d;
-    all = λ y is home. inr (
-      subst (IsIn y) (sym v.f.is) is,
-      elim home [ inl below ↦ inl below | inr here ↦ inr (subst (HasHome y.entry.key y.entry.rank) (sym v.f.is) here) ],
-      λ marked. marked_stays (masks_in m) (masks_in new) y d.masks marked,
-      λ late. late,
-    );
-    late_aside = λ k none some late. late;
-  }
+    pub fits : Fits m new v.whole.part v.at (under_of v d) nobody_late nobody_late (out_at from.number) (out_at from.number)
+    fits = record {
+      leaves = λ k.
+          let sum = at_leaves v k in
+          let used = ap one_if (content_used (leaves_in new k) (leaves_in m k) (contents_stay d k)) in omega arith;
+      forks = λ k.
+          let sum = at_forks v k in
+          let used = count_moved k in omega arith;
+      heads = λ k none some. head_stays d k (out_not_from v k none) (not_to v k some);
+      masks = λ k none some. d.masks k;
+      masks_above = λ y is below marked. d.masks y.room.number;
+      marks = λ k p is. (p, sym (d.masks k) ∙ is);
+      kept = λ y is marked. (subst (IsIn y) v.f.is is, λ home. inr (subst (HasHome y.entry.key y.entry.rank) v.f.is home));
+      came = λ y is marked. subst (IsIn y) (sym v.f.is) is;
+      gone = λ y is below marked. marked_stays (masks_in m) (masks_in new) y d.masks marked;
+      lists = lists_moved;
+      all = λ y is home. inr (
+        subst (IsIn y) (sym v.f.is) is,
+        elim home [ inl below ↦ inl below | inr here ↦ inr (subst (HasHome y.entry.key y.entry.rank) (sym v.f.is) here) ],
+        λ marked. marked_stays (masks_in m) (masks_in new) y d.masks marked,
+        λ late. late,
+      );
+      late_aside = λ k none some late. late;
+    }

@@ -1,8 +1,8 @@
 -- In each chain at most one bit node is in use, also where one has moved to another room.
 use Rattle.radix_tree.proofs.Words.{◌≡◌, ℕ, ◌+◌, ◌≤◌, true, List, [], ◌∷◌, Option, Some, None, refl, sym, ap, ◌∙◌, inl, inr, arith, eqb-true, eq-eqb, Id}
 use Rattle.radix_tree.proofs.Words.{Placed, Tree, leaf, fork, IsChain, IsTree, LeafPart, Bits, leaves_in, bits_in, ChainStands, Stands, members_at}
-use Rattle.radix_tree.proofs.Words.{leaves_at, AreIdle, HasOneFork, HaveOneFork, is_of_key, has_key, CanTake, Lodged}
-use Rattle.radix_tree.proofs.MovedReads.{same_or_not, none_or_some, one_if_is, one_if_not}
+use Rattle.radix_tree.proofs.Words.{leaves_at, AreIdle, HasOneFork, HaveOneFork, is_of_key, has_key, CanTake, Lodged, cases_eq}
+use Rattle.radix_tree.proofs.MovedReads.{none_or_some, one_if_is, one_if_not}
 
 module _ {V : Type 0} where
   -- ---- one chain
@@ -33,7 +33,7 @@ module _ {V : Type 0} where
   one_at C to [] most none = tt
   one_at C to (x ∷ xs) most none =
       let here = one_if_is {a = x.room.number} x.room.number refl in
-      elim (same_or_not x.room.number to) [
+      elim (cases_eq x.room.number to) [
         | inl same ↦ let own = one_if_is to same in
             inl (all_idle C xs (λ n some. none n (omega arith) (λ (e : n ≡ to). let is = ap (λ k. members_at k xs) e in
             omega arith)))
@@ -44,7 +44,7 @@ module _ {V : Type 0} where
   pub chain_keyed : (m : Lodged V) (above previous : Option Id) (key top : ℕ) (c : List (Placed V)) → ChainStands (leaves_in m) above previous c
       → IsChain key top c → (n : ℕ) → 1 ≤ members_at n c → has_key m key n ≡ true
   chain_keyed m above previous key top [] stands is n some = absurd (omega arith)
-  chain_keyed m above previous key top (x ∷ xs) stands is n some = elim (same_or_not x.room.number n) [
+  chain_keyed m above previous key top (x ∷ xs) stands is n some = elim (cases_eq x.room.number n) [
     | inl same ↦ ap (has_key m key) (sym same) ∙ ap (is_of_key key) stands.0 ∙ eq-eqb x.entry.key key is.1
     | inr other ↦ let off = one_if_not x.room.number n other in
         chain_keyed m None (Some x.room) key x.entry.rank xs stands.1 is.3 n (omega arith)

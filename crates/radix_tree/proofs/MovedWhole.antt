@@ -9,61 +9,59 @@ use Rattle.radix_tree.proofs.{Facts.one_if_most}
 use Rattle.radix_tree.proofs.{Facts.none_of}
 
 module _ {V : Type 0} where
-  -- a room on its way out is no leaf of the tree
-  pub out_leaf : (m : Lodged V) {root : Node} (from : ℕ) (w : IsWholeBut m root nobody_late (out_at from)) → leaves_at from w.part.tree ≡ 0
-  out_leaf m from w =
-      let sum = w.leaves from in
-      let own = one_if_is {a = from} from refl in
-      let most = one_if_most (is_some (leaves_in m from)) in omega arith
+  module _ {m : Lodged V} {root : Node} (from : ℕ) (w : IsWholeBut m root nobody_late (out_at from)) where
+    -- a room on its way out is no leaf of the tree
+    pub out_leaf : leaves_at from w.part.tree ≡ 0
+    out_leaf =
+        let sum = w.leaves from in
+        let own = one_if_is {a = from} from refl in
+        let most = one_if_most (is_some (leaves_in m from)) in omega arith
 
-  pub out_apart : (m : Lodged V) {root : Node} (from : ℕ) (w : IsWholeBut m root nobody_late (out_at from)) (k : ℕ) → 1 ≤ leaves_at k w.part.tree → k ≡ from → ⊥
-  out_apart m from w k some same =
-      let none = out_leaf m from w in
-      let e = ap (λ j. leaves_at j w.part.tree) same in omega arith
+    pub out_apart : (k : ℕ) → 1 ≤ leaves_at k w.part.tree → k ≡ from → ⊥
+    out_apart k some same =
+        let none = out_leaf in
+        let e = ap (λ j. leaves_at j w.part.tree) same in omega arith
 
-  pub leaves_once : (m : Lodged V) {root : Node} (from k : ℕ) (w : IsWholeBut m root nobody_late (out_at from)) → leaves_at k w.part.tree ≤ 1
-  leaves_once m from k w =
-      let sum = w.leaves k in
-      let most = one_if_most (is_some (leaves_in m k)) in omega arith
+    pub leaves_once : (k : ℕ) → leaves_at k w.part.tree ≤ 1
+    leaves_once k =
+        let sum = w.leaves k in
+        let most = one_if_most (is_some (leaves_in m k)) in omega arith
 
-  -- in each chain of the tree of before at most one bit node is in use
-  spare_before : (m new : Lodged V) {root : Node} (from to : Id) (n : BitNode) (v : IsMove m root from to n) → IsMoved m new from to n
-      → HaveOneFork (bits_in new) v.whole.part.tree
-  spare_before m new from to n v d =
-      let w = v.whole in
-      moved_spare m (bits_in new) to w.part.above w.part.low w.part.tree w.part.is w.part.stands (leaves_once m from.number to.number w)
-      (λ k some other none. none_of (bits_in new k) (used_stays m new from to n d k (out_apart m from.number w k some) other
-      ∙ ap is_some none)) (out_apart m from.number w) v.takes w.spare
+  module _ {m : Lodged V} {root : Node} {from to : Id} {n : BitNode} (v : IsMove m root from to n) where
+    -- in each chain of the tree of before at most one bit node is in use
+    spare_before : (new : Lodged V) → IsMoved m new from to n → HaveOneFork (bits_in new) v.whole.part.tree
+    spare_before new d =
+        let w = v.whole in
+        moved_spare m (bits_in new) to w.part.above w.part.low w.part.tree w.part.is w.part.stands (leaves_once from.number w to.number)
+        (λ k some other none. none_of (bits_in new k) (used_stays d k (out_apart from.number w k some) other
+        ∙ ap is_some none)) (out_apart from.number w) v.takes w.spare
 
-  abbrev name_now : {m : Lodged V} {root : Node} {from to : Id} {n : BitNode} → IsMove m root from to n → Node
-  name_now {to = to} v = root_after v.at.above (BitOf to) (name_of v.whole.part.tree)
+    abbrev name_now : Node
+    name_now = root_after v.at.above (BitOf to) (name_of v.whole.part.tree)
 
-  changed : (m new : Lodged V) {root : Node} (from to : Id) (n : BitNode) (v : IsMove m root from to n) (d : IsMoved m new from to n)
-      → Exchanged m new v.key v.whole.part v.at (under_of v d) (name_now v)
-  changed m new from to n v d = exchanged m new v.whole.part v.at v.ups v.way v.whole.top v.once (exchange m new from to n v d)
+    changed : (new : Lodged V) (d : IsMoved m new from to n) → Exchanged m new v.key v.whole.part v.at (under_of v d) name_now
+    changed new d = exchanged m new v.whole.part v.at v.ups v.way v.whole.top v.once (exchange v d)
 
-  spare_now : (m new : Lodged V) {root : Node} (from to : Id) (n : BitNode) (v : IsMove m root from to n) (d : IsMoved m new from to n)
-      → (e : Exchanged m new v.key v.whole.part v.at (under_of v d) (name_now v)) → HaveOneFork (bits_in new) e.part.tree
-  spare_now m new from to n v d e =
-      let before = subst (HaveOneFork (bits_in new)) e.was (spare_before m new from to n v d) in
-      let own = subst (HaveOneFork (bits_in new)) v.f.is (spare_at (bits_in new) e.frames v.at.tree before) in
-      subst (HaveOneFork (bits_in new)) (sym e.is_now)
-      (spare_plug (bits_in new) (bits_in new) e.frames v.at.tree (fork to v.f.bit v.f.zero v.f.one) before own (λ y aside none. none))
+    spare_now : (new : Lodged V) (d : IsMoved m new from to n) (e : Exchanged m new v.key v.whole.part v.at (under_of v d) name_now)
+        → HaveOneFork (bits_in new) e.part.tree
+    spare_now new d e =
+        let before = subst (HaveOneFork (bits_in new)) e.was (spare_before new d) in
+        let own = subst (HaveOneFork (bits_in new)) v.f.is (spare_at (bits_in new) e.frames v.at.tree before) in
+        subst (HaveOneFork (bits_in new)) (sym e.is_now)
+        (spare_plug (bits_in new) (bits_in new) e.frames v.at.tree (fork to v.f.bit v.f.zero v.f.one) before own (λ y aside none. none))
 
-  named_now : (m : Lodged V) {root : Node} {from : Id} (to : Id) (n : BitNode) (v : IsMove m root from to n) → name_now v ≡ root_after n.above (BitOf to) root
-  named_now m to n v = ap (λ o. root_after o (BitOf to) (name_of v.whole.part.tree)) (sym v.above) ∙ ap (root_after n.above (BitOf to)) v.whole.named
+    named_now : name_now ≡ root_after n.above (BitOf to) root
+    named_now = ap (λ o. root_after o (BitOf to) (name_of v.whole.part.tree)) (sym v.above) ∙ ap (root_after n.above (BitOf to)) v.whole.named
 
-  pub whole_moved : {m new : Lodged V} {root name : Node} (from to : Id) {n : BitNode} (v : IsMove m root from to n) (d : IsMoved m new from to n)
-      → name ≡ root_after n.above (BitOf to) root → IsWholeBut new name nobody_late (out_at from.number)
-  whole_moved {m = m} {new = new} from to {n = n} v d is =
-      let e = changed m new from to n v d in
-      subst (λ z. IsWholeBut new z nobody_late (out_at from.number)) (named_now m to n v ∙ sym is)
-      (whole_changed m new v.whole e (fits m new from to n v d) (spare_now m new from to n v d e))
+    pub whole_moved : {new : Lodged V} {name : Node} (d : IsMoved m new from to n) → name ≡ root_after n.above (BitOf to) root
+        → IsWholeBut new name nobody_late (out_at from.number)
+    whole_moved {new = new} d is =
+        let e = changed new d in
+        subst (λ z. IsWholeBut new z nobody_late (out_at from.number)) (named_now ∙ sym is) (whole_changed m new v.whole e (fits v d) (spare_now new d e))
 
-  pub routes_moved : {m new : Lodged V} {root name : Node} (from to : Id) {n : BitNode} (v : IsMove m root from to n) (d : IsMoved m new from to n)
-      → name ≡ root_after n.above (BitOf to) root → shown new (Some name) ≡ shown m (Some root)
-  routes_moved {m = m} {new = new} from to {n = n} v d is =
-      let e = changed m new from to n v d in
-      let s = routes_changed v.whole e in
-      ap (λ z. shown new (Some z)) (is ∙ sym (named_now m to n v))
-      ∙ s.is_now ∙ ap (λ rs. s.front ++ rs ++ s.back) (sym (ap routes_of v.f.is)) ∙ sym s.was
+    pub routes_moved : {new : Lodged V} {name : Node} (d : IsMoved m new from to n) → name ≡ root_after n.above (BitOf to) root
+        → shown new (Some name) ≡ shown m (Some root)
+    routes_moved {new = new} d is =
+        let e = changed new d in
+        let s = routes_changed v.whole e in
+        ap (λ z. shown new (Some z)) (is ∙ sym named_now) ∙ s.is_now ∙ ap (λ rs. s.front ++ rs ++ s.back) (sym (ap routes_of v.f.is)) ∙ sym s.was

@@ -61,7 +61,7 @@ module _ {V : Type 0} where
       → bits_in m b.room.number ≡ with_child address name (bits_in m b.room.number)
   same_turned m address under over name b is =
       let f = b.at in
-      let old = (fork_stands m f).0 in
+      let old = (fork_stands f).0 in
       old ∙ sym (ap (with_child address name) old ∙ elim b.side [
         | inl e ↦ zero_turned address name (said b.room f.bit (name_of f.zero) (name_of f.one) over.above) e.1
             ∙ ap (λ z. Some (said b.room f.bit z (name_of f.one) over.above)) (is ∙ ap name_of e.0)

@@ -33,52 +33,51 @@ module _ {V : Type 0} where
   leaf_named {m = m} p named = leaf_of m p p.tree refl named
 
   -- ---- a bit node
-  pub fork_name : (m : Lodged V) {p : Part m} {room : Id} → ForkAt p room → name_of p.tree ≡ BitOf room
-  fork_name m f = ap name_of f.is
+  module _ {m : Lodged V} {p : Part m} {room : Id} (f : ForkAt p room) where
+    pub fork_name : name_of p.tree ≡ BitOf room
+    fork_name = ap name_of f.is
 
-  abbrev pub whole_of : (m : Lodged V) {p : Part m} (room : Id) → ForkAt p room → Tree V
-  whole_of m room f = fork room f.bit f.zero f.one
+    abbrev pub whole_of : Tree V
+    whole_of = fork room f.bit f.zero f.one
 
-  pub fork_is : (m : Lodged V) {p : Part m} {room : Id} (f : ForkAt p room) → IsTree p.low (whole_of m room f)
-  fork_is m {p = p} f = subst (IsTree p.low) f.is p.is
+    pub fork_is : IsTree p.low whole_of
+    fork_is = subst (IsTree p.low) f.is p.is
 
-  pub fork_stands : (m : Lodged V) {p : Part m} {room : Id} (f : ForkAt p room) → Stands (leaves_in m) (bits_in m) p.above (whole_of m room f)
-  fork_stands m {p = p} f = subst (Stands (leaves_in m) (bits_in m) p.above) f.is p.stands
+    pub fork_stands : Stands (leaves_in m) (bits_in m) p.above whole_of
+    fork_stands = subst (Stands (leaves_in m) (bits_in m) p.above) f.is p.stands
 
-  pub fork_lists : (M : Placed V → Type 0) {m : Lodged V} (p : Part m) {room : Id} (f : ForkAt p room) → Lists M (heads_in m) (masks_in m) p.low p.tree
-      → Lists M (heads_in m) (masks_in m) p.low (whole_of m room f)
-  fork_lists M {m = m} p f listed = subst (Lists M (heads_in m) (masks_in m) p.low) f.is listed
+    pub fork_lists : (M : Placed V → Type 0) → Lists M (heads_in m) (masks_in m) p.low p.tree → Lists M (heads_in m) (masks_in m) p.low whole_of
+    fork_lists M listed = subst (Lists M (heads_in m) (masks_in m) p.low) f.is listed
 
-  -- what its room says
-  abbrev pub bit_part_of : (m : Lodged V) {p : Part m} {room : Id} → ForkAt p room → BitPart
-  bit_part_of m {p = p} {room = room} f = record { block = room.block; bit = f.bit; zero = name_of f.zero; one = name_of f.one; above = p.above }
+    -- what its room says
+    abbrev pub bit_part_of : BitPart
+    bit_part_of = record { block = room.block; bit = f.bit; zero = name_of f.zero; one = name_of f.one; above = p.above }
 
-  pub Has-fork : (m : Lodged V) {p : Part m} {room : Id} → ForkAt p room → Has m room
-  Has-fork m {room = room} f = Has-bit m room (fork_stands m f).0 refl
+    pub Has-fork : Has m room
+    Has-fork = Has-bit m room (fork_stands).0 refl
 
-  -- its sides
-  abbrev pub zero_part : (m : Lodged V) {p : Part m} {room : Id} → ForkAt p room → Part m
-  zero_part m {room = room} f = record { tree = f.zero; low = f.bit + 1; above = Some room; is = (fork_is m f).1; stands = (fork_stands m f).1 }
+    -- its sides
+    abbrev pub zero_part : Part m
+    zero_part = record { tree = f.zero; low = f.bit + 1; above = Some room; is = (fork_is).1; stands = (fork_stands).1 }
 
-  abbrev pub one_part : (m : Lodged V) {p : Part m} {room : Id} → ForkAt p room → Part m
-  one_part m {room = room} f = record { tree = f.one; low = f.bit + 1; above = Some room; is = (fork_is m f).2; stands = (fork_stands m f).2 }
+    abbrev pub one_part : Part m
+    one_part = record { tree = f.one; low = f.bit + 1; above = Some room; is = (fork_is).2; stands = (fork_stands).2 }
 
-  pub zero_beneath : (m : Lodged V) (address : ℕ) {p : Part m} (room : Id) (f : ForkAt p room) → bit_at f.bit address ≡ 0 → Beneath address (zero_part m f) p
-  zero_beneath m address room f is = record { room = room; at = f; above = refl; low = refl; side = inl (refl, is) }
+    pub zero_beneath : (address : ℕ) → bit_at f.bit address ≡ 0 → Beneath address zero_part p
+    zero_beneath address is = record { room = room; at = f; above = refl; low = refl; side = inl (refl, is) }
 
-  pub one_beneath : (m : Lodged V) (address : ℕ) {p : Part m} (room : Id) (f : ForkAt p room) → bit_at f.bit address ≡ 1 → Beneath address (one_part m f) p
-  one_beneath m address room f is = record { room = room; at = f; above = refl; low = refl; side = inr (refl, is) }
+    pub one_beneath : (address : ℕ) → bit_at f.bit address ≡ 1 → Beneath address one_part p
+    one_beneath address is = record { room = room; at = f; above = refl; low = refl; side = inr (refl, is) }
 
   pub side_of : (m : Lodged V) {address : ℕ} {under over : Part m} (b : Beneath address under over) → IsSide address b.at.bit under.tree over.tree
   side_of m {address = address} {under = under} {over = over} b =
       let f = b.at in
-      let is = fork_is m f in
+      let is = fork_is f in
       let whole = fork b.room f.bit f.zero f.one in
       subst (IsSide address f.bit under.tree) (sym f.is) (elim b.side [
         | inl e ↦ subst (λ c. IsSide address f.bit c (fork b.room f.bit f.zero f.one)) (sym e.0)
             (zero_side address over.low f.bit b.room f.zero f.one is e.1)
-        | inr e ↦ subst (λ c. IsSide address f.bit c (fork b.room f.bit f.zero f.one)) (sym e.0)
-            (one_side address over.low f.bit b.room f.zero f.one is e.1)
+        | inr e ↦ subst (λ c. IsSide address f.bit c (fork b.room f.bit f.zero f.one)) (sym e.0) (one_side address over.low f.bit b.room f.zero f.one is e.1)
       ])
 
   -- ---- a leaf
@@ -97,7 +96,8 @@ module _ {V : Type 0} where
   leaf_begins m f = ap Some f.room_is
 
   -- that of the leaf to which an address leads
-  abbrev pub chain_led : {m : Lodged V} {address : ℕ} {whole : Part m} {room : Id} → LedTo address whole room → (c : Run m) × (first_room c.members ≡ Some room)
+  abbrev pub chain_led : {m : Lodged V} {address : ℕ} {whole : Part m} {room : Id} → LedTo address whole room → (c : Run m) ×
+      (first_room c.members ≡ Some room)
   chain_led {m} {room = room} l = (leaf_run m l.leaf, leaf_begins m l.leaf)
 
   pub among_leaf : (m : Lodged V) {p : Part m} {room : Id} (f : LeafAt p room) (y : Placed V) → IsIn y p.tree → IsAmong y (f.first ∷ f.rest)
@@ -127,16 +127,18 @@ module _ {V : Type 0} where
   abbrev pub ListsOf : (Placed V → Type 0) → (m : Lodged V) → Part m → Type 0
   ListsOf M m p = Lists M (heads_in m) (masks_in m) p.low p.tree
 
-  pub lists_beneath : (M : Placed V → Type 0) {m : Lodged V} {address : ℕ} (under over : Part m) → Beneath address under over → ListsOf M m over → ListsOf M m under
+  pub lists_beneath : (M : Placed V → Type 0) {m : Lodged V} {address : ℕ} (under over : Part m) → Beneath address under over → ListsOf M m over → ListsOf M
+      m under
   lists_beneath M {m = m} under over b listed =
       let f = b.at in
-      let lists = fork_lists M over f listed in
+      let lists = fork_lists f M listed in
       subst (λ low. Lists M (heads_in m) (masks_in m) low under.tree) (sym b.low) (elim b.side [
         | inl e ↦ subst (Lists M (heads_in m) (masks_in m) (f.bit + 1)) (sym e.0) lists.1
         | inr e ↦ subst (Lists M (heads_in m) (masks_in m) (f.bit + 1)) (sym e.0) lists.2
       ])
 
-  pub way_lists : (M : Placed V → Type 0) {m : Lodged V} (address : ℕ) (whole at : Part m) (ups : List (Part m)) → Way address whole at ups → ListsOf M m whole
+  pub way_lists : (M : Placed V → Type 0) {m : Lodged V} (address : ℕ) (whole at : Part m) (ups : List (Part m)) → Way address whole at ups → ListsOf M m
+      whole
       → ListsOf M m at
   way_lists M {m = m} address whole at [] way listed = subst (ListsOf M m) (sym way) listed
   way_lists M address whole at (p ∷ ps) way listed = lists_beneath M at p way.0 (way_lists M address whole p ps way.1 listed)

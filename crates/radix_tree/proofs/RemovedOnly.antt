@@ -1,10 +1,10 @@
 -- The only route of a tree, which has no other member in its chain and no bit node above.
-use Rattle.radix_tree.proofs.{RoomReads.inside, RoomReads.none_some, RoomReads.AreLinks, WholeRoutes.part_shown, MovedReads.same_or_not}
-use Rattle.radix_tree.proofs.{MovedReads.none_or_some, MovedReads.one_if_not, Facts.no_use, Facts.none_of}
+use Rattle.radix_tree.proofs.{RoomReads.inside, RoomReads.none_some, RoomReads.AreLinks, WholeRoutes.part_shown, MovedReads.none_or_some}
+use Rattle.radix_tree.proofs.{MovedReads.one_if_not, Facts.no_use, Facts.none_of}
 use Rattle.radix_tree.proofs.Words.{◌≡◌, ℕ, ◌≤◌, ◌⊎◌, true, List, [], ◌∷◌, Option, Some, None, refl, sym, ap, ◌∙◌, inl, inr, arith, eqb-true, is_some}
 use Rattle.radix_tree.proofs.Words.{Has, leaf_of, Id, Links, Leaf, Node, Placed, Tree, leaf, fork, routes_of, LeafPart, Leaves, Bits, leaf_in, leaves_in}
 use Rattle.radix_tree.proofs.Words.{bits_in, first_room, ChainStands, Stands, one_if, members_at, leaves_at, shown, shown_entry, Gains, IsWholeBut}
-use Rattle.radix_tree.proofs.Words.{is_of_key, has_key, late_at, nobody_out, CanTake, member_beside, Lodged}
+use Rattle.radix_tree.proofs.Words.{is_of_key, has_key, late_at, nobody_out, CanTake, member_beside, Lodged, cases_eq}
 
 -- ---- the other member of a chain
 pub beside_is : (next previous : Option Id) {to : Id} → member_beside next previous ≡ Some to → (next ≡ Some to) ⊎ (previous ≡ Some to)
@@ -59,7 +59,7 @@ module _ {V : Type 0} where
   behind_named : (L : Leaves V) (above : Option Id) (before : Id) (c : List (Placed V)) (n : ℕ) {p : LeafPart V} → ChainStands L above (Some before) c
       → 1 ≤ members_at n c → L n ≡ Some p → p.leaf.previous ≡ None → ⊥
   behind_named L above before [] n stands some said none = omega arith
-  behind_named L above before (x ∷ xs) n stands some said none = elim (same_or_not x.room.number n) [
+  behind_named L above before (x ∷ xs) n stands some said none = elim (cases_eq x.room.number n) [
     | inl same ↦ none_some (sym none ∙ ap (λ q. q.leaf.previous) (inside (sym said ∙ ap L (sym same) ∙ stands.0)))
     | inr other ↦ let off = one_if_not x.room.number n other in
         behind_named L None x.room xs n stands.1 (omega arith) said none
@@ -67,7 +67,7 @@ module _ {V : Type 0} where
 
   beneath_named : (L : Leaves V) (B : Bits) (up : Id) (t : Tree V) (n : ℕ) {p : LeafPart V} → Stands L B (Some up) t → 1 ≤ leaves_at n t → L n ≡ Some p
       → p.leaf.previous ≡ None → p.leaf.above ≡ None → ⊥
-  beneath_named L B up (leaf x xs) n stands some said previous above = elim (same_or_not x.room.number n) [
+  beneath_named L B up (leaf x xs) n stands some said previous above = elim (cases_eq x.room.number n) [
     | inl same ↦ none_some (sym above ∙ ap (λ q. q.leaf.above) (inside (sym said ∙ ap L (sym same) ∙ stands.0)))
     | inr other ↦ let off = one_if_not x.room.number n other in
         behind_named L None x.room xs n stands.1 (omega arith) said previous
@@ -83,7 +83,7 @@ module _ {V : Type 0} where
 
   only_of : (L : Leaves V) (B : Bits) (top : Option Id) (t : Tree V) (n : ℕ) (p : LeafPart V) → Stands L B top t → 1 ≤ leaves_at n t → L n ≡ Some p
       → p.leaf.next ≡ None → p.leaf.previous ≡ None → p.leaf.above ≡ None → IsOnly t n p
-  only_of L B top (leaf x xs) n p stands some said next previous above = elim (same_or_not x.room.number n) [
+  only_of L B top (leaf x xs) n p stands some said next previous above = elim (cases_eq x.room.number n) [
     | inl same ↦ let is = inside (sym stands.0 ∙ ap L same ∙ said) in
         record { route = x; is = no_behind x xs (ap (λ q. q.leaf.next) is ∙ next); number = same; entry = ap shown_entry is }
     | inr other ↦ let off = one_if_not x.room.number n other in
@@ -94,25 +94,23 @@ module _ {V : Type 0} where
     | inr there ↦ absurd (beneath_named L B room left n stands.1 there said previous above)
   ]
 
-  pub only : {m : Lodged V} {root : Node} (n : ℕ) (w : IsWholeBut m root (late_at n) nobody_out) (p : LeafPart V) → leaves_in m n ≡ Some p → p.leaf.next ≡ None
-      → p.leaf.previous ≡ None → p.leaf.above ≡ None → IsOnly w.part.tree n p
-  only {m = m} n w p said next previous above =
-      let count = w.leaves n ∙ ap (λ o. one_if (is_some o)) said in
-      only_of (leaves_in m) (bits_in m) w.part.above w.part.tree n p w.part.stands (omega arith) said next previous above
+  module _ {m : Lodged V} {root : Node} (n : ℕ) (w : IsWholeBut m root (late_at n) nobody_out) (p : LeafPart V) where
+    pub only : leaves_in m n ≡ Some p → p.leaf.next ≡ None → p.leaf.previous ≡ None → p.leaf.above ≡ None → IsOnly w.part.tree n p
+    only said next previous above =
+        let count = w.leaves n ∙ ap (λ o. one_if (is_some o)) said in
+        only_of (leaves_in m) (bits_in m) w.part.above w.part.tree n p w.part.stands (omega arith) said next previous above
 
-  pub only_room : {m : Lodged V} {root : Node} {n : ℕ} (w : IsWholeBut m root (late_at n) nobody_out) (p : LeafPart V) → IsOnly w.part.tree n p → (k : ℕ)
-      → (k ≡ n → ⊥) → leaves_in m k ≡ None
-  only_room {m = m} w p o k other =
-      let count = w.leaves k in
-      let one = ap (leaves_at k) o.is in
-      let off = one_if_not o.route.room.number k (λ (e : o.route.room.number ≡ k). other (sym e ∙ o.number)) in
-      none_of (leaves_in m k) (no_use (is_some (leaves_in m k)) (omega arith))
+    pub only_room : IsOnly w.part.tree n p → (k : ℕ) → (k ≡ n → ⊥) → leaves_in m k ≡ None
+    only_room o k other =
+        let count = w.leaves k in
+        let one = ap (leaves_at k) o.is in
+        let off = one_if_not o.route.room.number k (λ (e : o.route.room.number ≡ k). other (sym e ∙ o.number)) in
+        none_of (leaves_in m k) (no_use (is_some (leaves_in m k)) (omega arith))
 
-  pub only_shown : {m : Lodged V} {root : Node} {n : ℕ} (w : IsWholeBut m root (late_at n) nobody_out) (p : LeafPart V) → IsOnly w.part.tree n p
-      → Gains (shown_entry p) [] (shown m (Some root))
-  only_shown w p o = record {
-    front = [];
-    back = [];
-    was = refl;
-    now = part_shown w.part w.low w.named ∙ ap routes_of o.is ∙ ap (λ e. e ∷ []) o.entry;
-  }
+    pub only_shown : IsOnly w.part.tree n p → Gains (shown_entry p) [] (shown m (Some root))
+    only_shown o = record {
+      front = [];
+      back = [];
+      was = refl;
+      now = part_shown w.part w.low w.named ∙ ap routes_of o.is ∙ ap (λ e. e ∷ []) o.entry;
+    }

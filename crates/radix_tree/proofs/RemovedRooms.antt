@@ -1,13 +1,13 @@
 -- A room that is out of the tree leaves the map: the whole and its routes stay.
 use Rattle.radix_nodes.proofs.Callers.{get-removed}
-use Rattle.radix_tree.proofs.{RoomReads.inside, RoomReads.none_some, PartRooms.frame, Plugs.counted_leaf, WholeRoutes.part_shown}
-use Rattle.radix_tree.proofs.{MovedReads.same_or_not, MovedReads.content_used, MovedLists.marked_stays, MovedLists.lists_kept, MovedSpare.tree_stays}
-use Rattle.radix_tree.proofs.{MovedWhole.out_leaf, MovedWhole.out_apart}
+use Rattle.radix_tree.proofs.{RoomReads.inside, RoomReads.none_some, PartRooms.frame, Plugs.counted_leaf, WholeRoutes.part_shown, MovedReads.content_used}
+use Rattle.radix_tree.proofs.{MovedLists.marked_stays, MovedLists.lists_kept, MovedSpare.tree_stays, MovedWhole.out_leaf, MovedWhole.out_apart}
 use Rattle.std.specs.FinMap.{remove}
 use Rattle.radix_tree.proofs.Words.{◌≡◌, ℕ, ◌+◌, ◌||◌, if◌then◌else◌, List, Option, Some, None, refl, sym, ap, ◌∙◌, inl, inr, arith, eq-eqb, ne_eqb}
 use Rattle.radix_tree.proofs.Words.{is_some, get, Ptr, Seen, Has, bit_node_of, Id, Node, BitNode, LeafPart, MaskPart, Part, leaf_in, bit_in, head_in}
 use Rattle.radix_tree.proofs.Words.{mask_in, bit_part, head_part, leaves_in, bits_in, heads_in, masks_in, one_if, leaves_at, IsWhole, Holds, shown, Gains}
 use Rattle.radix_tree.proofs.Words.{IsWholeBut, HasRoomMore, nobody_late, out_at, KeepsLeaves, KeepsBits, content_of, KeepsRoutes, IsOut, Entry, Lodged}
+use Rattle.radix_tree.proofs.Words.{cases_eq}
 
 no_head_of : (block : Ptr) (o : Option BitNode) → bit_part block o ≡ None → head_part o ≡ None
 no_head_of block None none = refl
@@ -22,7 +22,7 @@ module _ {V : Type 0} where
   get_other m n k other = get-removed m n k ∙ ap (λ t. if t then None else get m k) (ne_eqb k n other)
 
   role_stays : {A : Type 0} (f : Option (Seen V) → A) (m : Lodged V) (n : ℕ) → f (get m n) ≡ f None → (k : ℕ) → f (get (remove m n) k) ≡ f (get m k)
-  role_stays f m n none k = elim (same_or_not k n) [
+  role_stays f m n none k = elim (cases_eq k n) [
     | inl same ↦ ap (λ j. f (get (remove m n) j)) same ∙ ap f (get_out m n) ∙ sym none ∙ ap (λ j. f (get m j)) (sym same)
     | inr other ↦ ap f (get_other m n k other)
   ]
@@ -31,74 +31,74 @@ module _ {V : Type 0} where
   no_head None none = refl
   no_head (Some s) none = no_head_of s.block (bit_node_of s.links) none
 
-  -- no mask is listed of a room that is out of the tree
-  no_mask : (m : Lodged V) {root : Node} (n : ℕ) (w : IsWholeBut m root nobody_late (out_at n)) (o : Option MaskPart) → masks_in m n ≡ o → masks_in m n ≡ None
-  no_mask m n w None is = is
-  no_mask m n w (Some p) is =
-      let x = w.listed n p is in
-      let out = out_leaf m n w in
-      let some = counted_leaf x.0 w.part.tree x.1 in
-      let same = ap (λ k. leaves_at k w.part.tree) x.2 in absurd (omega arith)
+  module _ {m : Lodged V} {root : Node} (n : ℕ) (w : IsWholeBut m root nobody_late (out_at n)) where
+    -- no mask is listed of a room that is out of the tree
+    no_mask : (o : Option MaskPart) → masks_in m n ≡ o → masks_in m n ≡ None
+    no_mask None is = is
+    no_mask (Some p) is =
+        let x = w.listed n p is in
+        let out = out_leaf n w in
+        let some = counted_leaf x.0 w.part.tree x.1 in
+        let same = ap (λ k. leaves_at k w.part.tree) x.2 in absurd (omega arith)
 
-  -- ---- the tree stays
-  abbrev part_left : (m : Lodged V) {root : Node} (n : ℕ) (w : IsWholeBut m root nobody_late (out_at n)) → bits_in m n ≡ None → Part (remove m n)
-  part_left m n w none = record {
-    tree = w.part.tree;
-    low = w.part.low;
-    above = w.part.above;
-    is = w.part.is;
-    stands = frame (leaves_in m) (leaves_in (remove m n)) (bits_in m) (bits_in (remove m n)) w.part.above w.part.tree
-        (λ k some. ap leaf_in (get_other m n k (out_apart m n w k some))) (λ k some. role_stays bit_in m n none k) w.part.stands;
-  }
+    -- ---- the tree stays
+    abbrev part_left : bits_in m n ≡ None → Part (remove m n)
+    part_left none = record {
+      tree = w.part.tree;
+      low = w.part.low;
+      above = w.part.above;
+      is = w.part.is;
+      stands = frame (leaves_in m) (leaves_in (remove m n)) (bits_in m) (bits_in (remove m n)) w.part.above w.part.tree
+          (λ k some. ap leaf_in (get_other m n k (out_apart n w k some))) (λ k some. role_stays bit_in m n none k) w.part.stands;
+    }
 
-  leaves_left : (m : Lodged V) {root : Node} (n : ℕ) (w : IsWholeBut m root nobody_late (out_at n)) (k : ℕ)
-      → leaves_at k w.part.tree + 0 ≡ one_if (is_some (leaves_in (remove m n) k))
-  leaves_left m n w k = elim (same_or_not k n) [
-    | inl same ↦ let out = out_leaf m n w in
-        let here = ap (λ j. leaves_at j w.part.tree) same in
-        let gone = ap (λ j. one_if (is_some (leaves_in (remove m n) j))) same ∙ ap (λ o. one_if (is_some (leaf_in o))) (get_out m n) in
-        omega arith
-    | inr other ↦ let was = w.leaves k in
-        let off = ap one_if (ne_eqb k n other) in
-        let stays = ap (λ o. one_if (is_some (leaf_in o))) (get_other m n k other) in omega arith
-  ]
+    leaves_left : (k : ℕ) → leaves_at k w.part.tree + 0 ≡ one_if (is_some (leaves_in (remove m n) k))
+    leaves_left k = elim (cases_eq k n) [
+      | inl same ↦ let out = out_leaf n w in
+          let here = ap (λ j. leaves_at j w.part.tree) same in
+          let gone = ap (λ j. one_if (is_some (leaves_in (remove m n) j))) same ∙ ap (λ o. one_if (is_some (leaf_in o))) (get_out m n) in
+          omega arith
+      | inr other ↦ let was = w.leaves k in
+          let off = ap one_if (ne_eqb k n other) in
+          let stays = ap (λ o. one_if (is_some (leaf_in o))) (get_other m n k other) in omega arith
+    ]
 
-  pub evicted : (m : Lodged V) (root : Node) (n : ℕ) → IsWholeBut m root nobody_late (out_at n) → bits_in m n ≡ None → IsWhole (remove m n) root
-  evicted m root n w none =
-      let bits = role_stays bit_in m n none in
-      let heads = role_stays head_in m n (no_head (get m n) none) in
-      let masks = role_stays mask_in m n (no_mask m n w (masks_in m n) refl) in
-      record {
-        part = part_left m n w none;
-        low = w.low;
-        top = w.top;
-        named = w.named;
-        leaves = leaves_left m n w;
-        forks = λ k. w.forks k ∙ ap (λ o. one_if (is_some o)) (sym (bits k));
-        spare = tree_stays (bits_in m) (bits_in (remove m n)) w.part.tree (λ k some idle. bits k ∙ idle) w.spare;
-        lists = lists_kept (heads_in m) (heads_in (remove m n)) (masks_in m) (masks_in (remove m n)) w.part.low w.part.tree masks (λ k some. heads k) w.lists;
-        listed = λ k p is. w.listed k p (sym (masks k) ∙ is);
-        all = λ x is home. elim (w.all x is home) [
-          | inl marked ↦ inl (marked_stays (masks_in m) (masks_in (remove m n)) x masks marked)
-          | inr late ↦ inr late
-        ];
-      }
+    pub evicted : bits_in m n ≡ None → IsWhole (remove m n) root
+    evicted none =
+        let bits = role_stays bit_in m n none in
+        let heads = role_stays head_in m n (no_head (get m n) none) in
+        let masks = role_stays mask_in m n (no_mask (masks_in m n) refl) in
+        record {
+          part = part_left none;
+          low = w.low;
+          top = w.top;
+          named = w.named;
+          leaves = leaves_left;
+          forks = λ k. w.forks k ∙ ap (λ o. one_if (is_some o)) (sym (bits k));
+          spare = tree_stays (bits_in m) (bits_in (remove m n)) w.part.tree (λ k some idle. bits k ∙ idle) w.spare;
+          lists = lists_kept (heads_in m) (heads_in (remove m n)) (masks_in m) (masks_in (remove m n)) w.part.low w.part.tree masks (λ k some. heads k)
+          w.lists;
+          listed = λ k p is. w.listed k p (sym (masks k) ∙ is);
+          all = λ x is home. elim (w.all x is home) [
+            | inl marked ↦ inl (marked_stays (masks_in m) (masks_in (remove m n)) x masks marked)
+            | inr late ↦ inr late
+          ];
+        }
 
-  evicted_shown : (m : Lodged V) {root : Node} (n : ℕ) → IsWholeBut m root nobody_late (out_at n) → bits_in m n ≡ None
-      → shown (remove m n) (Some root) ≡ shown m (Some root)
-  evicted_shown m n w none = part_shown (part_left m n w none) w.low w.named ∙ sym (part_shown w.part w.low w.named)
+    evicted_shown : bits_in m n ≡ None → shown (remove m n) (Some root) ≡ shown m (Some root)
+    evicted_shown none = part_shown (part_left none) w.low w.named ∙ sym (part_shown w.part w.low w.named)
 
   -- ---- a room that is out, where there may be no tree left
   pub out_gone : (m : Lodged V) (rest : Option Node) (n : ℕ) → IsOut m rest n → Holds (remove m n) rest
-  out_gone m None n out = λ k. elim (same_or_not k n) [
+  out_gone m None n out = λ k. elim (cases_eq k n) [
     | inl same ↦ ap (leaves_in (remove m n)) same ∙ ap leaf_in (get_out m n)
     | inr other ↦ ap leaf_in (get_other m n k other) ∙ out k other
   ]
-  out_gone m (Some root) n out = evicted m root n out.0 out.1
+  out_gone m (Some root) n out = evicted n out.0 out.1
 
   pub out_shown : (m : Lodged V) (rest : Option Node) (n : ℕ) → IsOut m rest n → shown (remove m n) rest ≡ shown m rest
   out_shown m None n out = refl
-  out_shown m (Some root) n out = evicted_shown m n out.0 out.1
+  out_shown m (Some root) n out = evicted_shown n out.0 out.1
 
   -- ---- a table's removal
   -- where leaves and bit nodes stay the routes do
@@ -126,7 +126,7 @@ module _ {V : Type 0} where
 
   -- the map has one room less
   pub room_less : (m now : Lodged V) (at : Id) → Has m at → KeepsRoutes m now → HasRoomMore (remove now at.number) m at.number
-  room_less m now at h same k = elim (same_or_not k at.number) [
+  room_less m now at h same k = elim (cases_eq k at.number) [
     | inl e ↦ ap (λ j. is_some (leaves_in m j)) e ∙ ap (λ o. is_some (leaf_in o)) h.at
         ∙ sym (ap (λ t. t || is_some (leaves_in (remove now at.number) k)) (eq-eqb k at.number e))
     | inr other ↦ sym (content_used (leaves_in now k) (leaves_in m k) (same k)) ∙ sym (ap (λ o. is_some (leaf_in o)) (get_other now at.number k other))

@@ -36,41 +36,40 @@ module _ {V : Type 0} where
   pub leaves_kept : {m new : Lodged V} {room : Id} (links old : Links) → Has m room → new ≡ put_links m room links → AreLinks m room old
       → leaf_of links ≡ leaf_of old → KeepsLeaves m new
   unfolding part
-  leaves_kept {m = m} {new = new} links old h is are same = kept leaf_in m new links h is
-      (ap (λ b. Some (part b h.room.value (leaf_of links))) (sym h.block)
+  leaves_kept {m = m} {new = new} links old h is are same = kept leaf_in m new links h is (ap (λ b. Some (part b h.room.value (leaf_of links))) (sym h.block)
       ∙ ap (λ l. Some (part h.room.block h.room.value l)) (same ∙ ap leaf_of (are h.room h.at)))
 
-  pub bits_kept : {m new : Lodged V} {room : Id} (links old : Links) → Has m room → new ≡ put_links m room links → AreLinks m room old
-      → bit_node_of links ≡ bit_node_of old → KeepsBits m new
-  bits_kept {m = m} {new = new} links old h is are same = kept bit_in m new links h is
-      (ap (λ b. bit_part b (bit_node_of links)) (sym h.block) ∙ ap (bit_part h.room.block) (same ∙ ap bit_node_of (are h.room h.at)))
+  module _ {m : Lodged V} {room : Id} (h : Has m room) where
+    pub bits_kept : {new : Lodged V} (links old : Links) → new ≡ put_links m room links → AreLinks m room old → bit_node_of links ≡ bit_node_of old
+        → KeepsBits m new
+    bits_kept {new = new} links old is are same = kept bit_in m new links h is
+        (ap (λ b. bit_part b (bit_node_of links)) (sym h.block) ∙ ap (bit_part h.room.block) (same ∙ ap bit_node_of (are h.room h.at)))
 
-  pub heads_kept : {m new : Lodged V} {room : Id} (links old : Links) → Has m room → new ≡ put_links m room links → AreLinks m room old
-      → bit_node_of links ≡ bit_node_of old → KeepsHeads m new
-  heads_kept {m = m} {new = new} links old h is are same = kept head_in m new links h is (ap head_part (same ∙ ap bit_node_of (are h.room h.at)))
+    pub heads_kept : {new : Lodged V} (links old : Links) → new ≡ put_links m room links → AreLinks m room old → bit_node_of links ≡ bit_node_of old
+        → KeepsHeads m new
+    heads_kept {new = new} links old is are same = kept head_in m new links h is (ap head_part (same ∙ ap bit_node_of (are h.room h.at)))
 
-  pub masks_kept : {m new : Lodged V} {room : Id} (links old : Links) → Has m room → new ≡ put_links m room links → AreLinks m room old
-      → mask_node_of links ≡ mask_node_of old → KeepsMasks m new
-  masks_kept {m = m} {new = new} links old h is are same = kept mask_in m new links h is
-      (ap (λ b. mask_part b (mask_node_of links)) (sym h.block) ∙ ap (mask_part h.room.block) (same ∙ ap mask_node_of (are h.room h.at)))
+    pub masks_kept : {new : Lodged V} (links old : Links) → new ≡ put_links m room links → AreLinks m room old → mask_node_of links ≡ mask_node_of old
+        → KeepsMasks m new
+    masks_kept {new = new} links old is are same = kept mask_in m new links h is
+        (ap (λ b. mask_part b (mask_node_of links)) (sym h.block) ∙ ap (mask_part h.room.block) (same ∙ ap mask_node_of (are h.room h.at)))
 
-  pub bits_put : {m new : Lodged V} (room : Id) (links : Links) {node : Option BitNode} → Has m room → new ≡ put_links m room links → bit_node_of links ≡ node
-      → (n : ℕ) → bits_in new n ≡ put_bit room node n (bits_in m n)
-  bits_put {m = m} {new = new} room links h is said n = role bit_in m new links h is n ∙ ap (λ o. put_bit room o n (bits_in m n)) said
+    pub bits_put : {new : Lodged V} (links : Links) {node : Option BitNode} → new ≡ put_links m room links → bit_node_of links ≡ node → (n : ℕ)
+        → bits_in new n ≡ put_bit room node n (bits_in m n)
+    bits_put {new = new} links is said n = role bit_in m new links h is n ∙ ap (λ o. put_bit room o n (bits_in m n)) said
 
-  pub heads_put : {m new : Lodged V} (room : Id) (links : Links) {node : Option BitNode} → Has m room → new ≡ put_links m room links → bit_node_of links ≡ node
-      → (n : ℕ) → heads_in new n ≡ put_head room node n (heads_in m n)
-  heads_put {m = m} {new = new} room links h is said n = role head_in m new links h is n ∙ ap (λ o. put_head room o n (heads_in m n)) said
+    pub heads_put : {new : Lodged V} (links : Links) {node : Option BitNode} → new ≡ put_links m room links → bit_node_of links ≡ node → (n : ℕ)
+        → heads_in new n ≡ put_head room node n (heads_in m n)
+    heads_put {new = new} links is said n = role head_in m new links h is n ∙ ap (λ o. put_head room o n (heads_in m n)) said
 
-  pub masks_put : {m new : Lodged V} (room : Id) (links : Links) {node : Option MaskNode} → Has m room → new ≡ put_links m room links
-      → mask_node_of links ≡ node → (n : ℕ) → masks_in new n ≡ put_mask room node n (masks_in m n)
-  masks_put {m = m} {new = new} room links h is said n = role mask_in m new links h is n ∙ ap (λ o. put_mask room o n (masks_in m n)) said
+    pub masks_put : {new : Lodged V} (links : Links) {node : Option MaskNode} → new ≡ put_links m room links → mask_node_of links ≡ node → (n : ℕ)
+        → masks_in new n ≡ put_mask room node n (masks_in m n)
+    masks_put {new = new} links is said n = role mask_in m new links h is n ∙ ap (λ o. put_mask room o n (masks_in m n)) said
 
   pub leaves_put : {m new : Lodged V} (room : Id) (links : Links) (leaf : Leaf) → Has m room → new ≡ put_links m room links → leaf_of links ≡ leaf
       → (n : ℕ) → leaves_in new n ≡ put_leaf room leaf n (leaves_in m n)
   unfolding part
-  leaves_put {m = m} {new = new} room links leaf h is said n = role leaf_in m new links h is n
-      ∙ elim (n == room.number) as (λ t. (n == room.number) ≡ t
+  leaves_put {m = m} {new = new} room links leaf h is said n = role leaf_in m new links h is n ∙ elim (n == room.number) as (λ t. (n == room.number) ≡ t
       → (if t then Some (part room.block h.room.value (leaf_of links)) else leaf_in (get m n))
       ≡ (if t then with_leaf leaf (leaf_in (get m n)) else leaf_in (get m n))) [
         | true ↦ λ e. ap (λ b. Some (part b h.room.value (leaf_of links))) (sym h.block) ∙ ap (λ l. Some (part h.room.block h.room.value l)) said

@@ -11,7 +11,7 @@ module _ {V : Type 0} {m : Lodged V} where
       → HaveBit c value over.tree
   agree_up key c value under b before have =
       let f = b.at in
-      let a = (fork_is m f).0.agree c before in
+      let a = (fork_is f).0.agree c before in
       let same : a.0 ≡ value = elim b.side [
         | inl e ↦ one_value c a.0 value f.zero a.1 (subst (HaveBit c value) e.0 have)
         | inr e ↦ one_value c a.0 value f.one a.2 (subst (HaveBit c value) e.0 have)
@@ -22,7 +22,7 @@ module _ {V : Type 0} {m : Lodged V} where
   own_side : (key : ℕ) (under over : Part m) (b : Beneath key under over) → HaveBit b.at.bit (bit_at b.at.bit key) under.tree
   own_side key under over b =
       let f = b.at in
-      let is = (fork_is m f).0 in
+      let is = (fork_is f).0 in
       elim b.side [
         | inl e ↦ subst (HaveBit f.bit (bit_at f.bit key)) (sym e.0) (subst (λ v. HaveBit f.bit v f.zero) (sym e.1) is.zeros)
         | inr e ↦ subst (HaveBit f.bit (bit_at f.bit key)) (sym e.0) (subst (λ v. HaveBit f.bit v f.one) (sym e.1) is.ones)
@@ -30,7 +30,7 @@ module _ {V : Type 0} {m : Lodged V} where
 
   raised : {over : Part m} {room : Id} (f : ForkAt over room) (bit : ℕ) → bit < f.bit → IsTree (bit + 1) over.tree
   raised f bit past =
-      let is = fork_is m f in
+      let is = fork_is f in
       subst (IsTree (bit + 1)) (sym f.is) (
         record { rises = omega arith; within = is.0.within; agree = is.0.agree; zeros = is.0.zeros; ones = is.0.ones },
         is.1,
@@ -68,7 +68,7 @@ module _ {V : Type 0} {m : Lodged V} where
       let same = (node_at (fork_over o) is).bit in
       let further : bit < b.at.bit = omega (arith, past, same) in
       record {
-        named = fork_name m (fork_over o);
+        named = fork_name (fork_over o);
         past = raised b.at bit further;
         agree = λ c before. agree_up key c (bit_at c key) under b (omega (arith, before, further)) (r.agree c before);
         here = agree_up key bit (bit_at bit other) under b further r.here;
@@ -110,8 +110,7 @@ module _ {V : Type 0} {m : Lodged V} where
       let other_bit : b.at.bit ≡ bit → ⊥ = λ e. w.differs.at
       (one_value bit (bit_at bit key) (bit_at bit other) c.part.tree (subst (λ k. HaveBit k (bit_at k key) c.part.tree) e (own_side key c.part o.part b))
       c.holds.here) in
-      spot_of c w.top w.once w.differs
-      (elim (cases_eq b.at.bit bit) [ inl e ↦ absurd (other_bit e) | inr ne ↦ omega (arith, ne, same, b.low, before) ])
+      spot_of c w.top w.once w.differs (elim (cases_eq b.at.bit bit) [ inl e ↦ absurd (other_bit e) | inr ne ↦ omega (arith, ne, same, b.low, before) ])
 
   -- or above the whole tree
   pub topped : {key bit : ℕ} {leaf : Id} {below : Node} {start now : Counter} (w : IsNew m key bit leaf) {above : Option Id}

@@ -55,7 +55,7 @@ module _ {V : Type 0} {m : Lodged V} where
   miss {address} {whole} {under} {room} o s none tells more =
       let b = o.beneath in
       let told = subst (Tells (Best address o.part.low (b.at.bit + 1) (In o.part))) none tells in
-      let rises = (fork_is m (fork_over o)).0.rises in
+      let rises = (fork_is (fork_over o)).0.rises in
       record {
         none = listed_miss address o.part.low b.at.bit under.tree o.part.tree (side_of m b) (subst (λ n. Best address n 34 (In under) None) b.low s.none)
             told;

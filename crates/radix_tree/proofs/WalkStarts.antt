@@ -36,11 +36,11 @@ module _ {V : Type 0} where
   -- a route beneath a side has its bit
   pub side_zero : (m : Lodged V) {over : Part m} {room : Id} (f : ForkAt over room) {under : Tree V} (x : Placed V) → under ≡ f.zero → IsIn x under
       → bit_at f.bit x.entry.key ≡ 0
-  side_zero m f x e at = let is = fork_is m f in bit_beneath (f.bit + 1) f.bit 0 f.zero is.1 is.0.zeros x (subst (IsIn x) e at)
+  side_zero m f x e at = let is = fork_is f in bit_beneath (f.bit + 1) f.bit 0 f.zero is.1 is.0.zeros x (subst (IsIn x) e at)
 
   pub side_one : (m : Lodged V) {over : Part m} {room : Id} (f : ForkAt over room) {under : Tree V} (x : Placed V) → under ≡ f.one → IsIn x under
       → bit_at f.bit x.entry.key ≡ 1
-  side_one m f x e at = let is = fork_is m f in bit_beneath (f.bit + 1) f.bit 1 f.one is.2 is.0.ones x (subst (IsIn x) e at)
+  side_one m f x e at = let is = fork_is f in bit_beneath (f.bit + 1) f.bit 1 f.one is.2 is.0.ones x (subst (IsIn x) e at)
 
   pub under_inside : (m : Lodged V) (right : List (Entry V)) (under over : Part m) (u : Under right under over) (x : Placed V) → IsIn x under.tree
       → IsIn x over.tree
@@ -50,7 +50,7 @@ module _ {V : Type 0} where
   ])
 
   one_shown : (m : Lodged V) {over : Part m} (room : Id) (f : ForkAt over room) → beneath_shown 33 (leaves_in m) (bits_in m) (name_of f.one) ≡ routes_of f.one
-  one_shown m room f = beneath_is 33 (f.bit + 1) (leaves_in m) (bits_in m) (Some room) f.one (fork_is m f).2 (fork_stands m f).2 (omega arith)
+  one_shown m room f = beneath_is 33 (f.bit + 1) (leaves_in m) (bits_in m) (Some room) f.one (fork_is f).2 (fork_stands f).2 (omega arith)
 
   right_is : (m : Lodged V) (right : List (Entry V)) (under over : Part m) (u : Under right under over) (x : Placed V) → IsIn x under.tree
       → (if bit_at u.at.bit x.entry.key == 1 then [] else beneath_shown 33 (leaves_in m) (bits_in m) (name_of u.at.one)) ≡ right
@@ -64,8 +64,7 @@ module _ {V : Type 0} where
       ≡ (if bit_at f.bit key == 1 then [] else beneath_shown 33 (leaves_in m) (bits_in m) (name_of f.one))
       ++ up_behind n (leaves_in m) (bits_in m) key over.above
   unfolding up_behind
-  up_from m n key f = ap (λ o. side_behind key (beneath_shown 33 (leaves_in m) (bits_in m)) (up_behind n (leaves_in m) (bits_in m) key) o)
-      (fork_stands m f).0
+  up_from m n key f = ap (λ o. side_behind key (beneath_shown 33 (leaves_in m) (bits_in m)) (up_behind n (leaves_in m) (bits_in m) key) o) (fork_stands f).0
 
   up_none : (n key : ℕ) (L : Leaves V) (B : Bits) → up_behind (suc n) L B key None ≡ []
   unfolding up_behind
@@ -73,15 +72,14 @@ module _ {V : Type 0} where
 
   pub up_is : (m : Lodged V) (n : ℕ) (whole at : Part m) (behind : List (Entry V)) (ups : List (Part m)) (x : Placed V) → IsIn x at.tree
       → IsBefore whole at behind ups → whole.above ≡ None → at.low ≤ n → up_behind (suc n) (leaves_in m) (bits_in m) x.entry.key at.above ≡ behind
-  up_is m n whole at behind [] x inside before top low =
-      ap (up_behind (suc n) (leaves_in m) (bits_in m) x.entry.key) (ap (λ p. p.above) before.0 ∙ top)
+  up_is m n whole at behind [] x inside before top low = ap (up_behind (suc n) (leaves_in m) (bits_in m) x.entry.key) (ap (λ p. p.above) before.0 ∙ top)
       ∙ up_none n x.entry.key (leaves_in m) (bits_in m) ∙ sym before.1
   up_is m zero whole at behind (over ∷ ups) x inside before top low = let past = before.2.low in
       absurd (omega (arith, past, low))
   up_is m (suc n) whole at behind (over ∷ ups) x inside before top low =
       let u = before.2 in
       let past = u.low in
-      let rises = (fork_is m u.at).0.rises in
+      let rises = (fork_is u.at).0.rises in
       ap (λ a. up_behind (suc (suc n)) (leaves_in m) (bits_in m) x.entry.key a) u.above ∙ up_from m (suc n) x.entry.key u.at
       ∙ ap (λ es. es ++ up_behind (suc n) (leaves_in m) (bits_in m) x.entry.key over.above) (right_is m before.0 at over u x inside)
       ∙ ap (λ es. before.0 ++ es) (up_is m n whole over before.1 ups x (under_inside m before.0 at over u x inside) before.3 top

@@ -181,17 +181,16 @@ module _ {V : Type 0} where
   overhead_of m whole at behind up (over ∷ ups) top above before =
       overhead_at m whole at up over ups before.0 before.1 before.2 refl (inside (sym before.2.above ∙ above)) before.3 before.4
 
-  pub overhead : (m : Lodged V) {key : ℕ} {first : Id} {above : Option Id} {steps : ℕ} (up : Id) (c : Upward m key first above steps) → above ≡ Some up
-      → Overhead m c.whole c.part c.behind up
-  overhead m up c some = overhead_of m c.whole c.part c.behind up c.ups c.top (c.above_is ∙ some) c.before
+  module _ {m : Lodged V} {key : ℕ} {first : Id} {above : Option Id} {steps : ℕ} (c : Upward m key first above steps) where
+    pub overhead : (up : Id) → above ≡ Some up → Overhead m c.whole c.part c.behind up
+    overhead up some = overhead_of m c.whole c.part c.behind up c.ups c.top (c.above_is ∙ some) c.before
 
-  pub Has-over : {m : Lodged V} {key : ℕ} {first : Id} {above : Option Id} {steps : ℕ} (up : Id) → Upward m key first above steps → above ≡ Some up → Has m up
-  Has-over {m = m} up c some = let o = overhead m up c some in Has-fork m o.at_up
+    pub Has-over : (up : Id) → above ≡ Some up → Has m up
+    Has-over up some = let o = overhead up some in Has-fork o.at_up
 
-  pub used_over : {m : Lodged V} {key : ℕ} {first : Id} {above : Option Id} {steps : ℕ} (up : Id) (links : Links) → Upward m key first above steps
-      → above ≡ Some up → AreLinks m up links → bit_node_of links ≡ None → ⊥
-  used_over {m = m} up links c some are none =
-      let o = overhead m up c some in bit_used m up links (fork_stands m o.at_up).0 refl are none
+    pub used_over : (up : Id) (links : Links) → above ≡ Some up → AreLinks m up links → bit_node_of links ≡ None → ⊥
+    used_over up links some are none =
+        let o = overhead up some in bit_used m up links (fork_stands o.at_up).0 refl are none
 
   -- the bit that is read is the node's
   pub record Read (m : Lodged V) (key : ℕ) (first : Id) (n : BitNode) (steps later : ℕ) : Type 0 where
@@ -205,10 +204,10 @@ module _ {V : Type 0} where
       → Upward m key first above steps → above ≡ Some up → AreLinks m up links → bit_node_of links ≡ Some n
       → later ≡ steps + 1 → Read m key first n steps later
   read_over {m = m} key {above = above} steps later up links {n = n} c some are node soon =
-      let o = overhead m up c some in
+      let o = overhead c up some in
       let f = o.at_up in
-      let is = fork_is m f in
-      let same = bit_read m up links (fork_stands m f).0 refl are node in
+      let is = fork_is f in
+      let same = bit_read m up links (fork_stands f).0 refl are node in
       let bit = same.bit in
       let within = is.0.within in
       let rises = is.0.rises in
@@ -237,9 +236,9 @@ module _ {V : Type 0} where
               same = sym (o.is ∙ ap (λ es. es ++ o.later) nothing) ∙ c.same;
               few = omega (arith, few, low, rises, soon);
             };
-        named = (one_part m f, sym same.one);
+        named = (one_part f, sym same.one);
         turn = λ zero_bit_is room led.
-            let sub = one_part m f in
+            let sub = one_part f in
             let right : o.right ≡ routes_of f.one = elim o.side [
               | inl e ↦ e.1
               | inr e ↦ absurd (zero_not_one (sym key_bit ∙ zero_bit_is) (side_one m f c.route e.0 c.inside))

@@ -27,12 +27,12 @@ module _ {V : Type 0} where
   }
   leaf_down m whole y at ups (fork room b zero one) is way there =
       let f : ForkAt at room = record { bit = b; zero = zero; one = one; is = is } in
-      let tree = fork_is m f in
+      let tree = fork_is f in
       elim there [
-        | inl z ↦ leaf_down m whole y (zero_part m f) (at ∷ ups) zero refl
-            (zero_beneath m y.entry.key room f (bit_beneath (b + 1) b 0 zero tree.1 tree.0.zeros y z), way) z
-        | inr o ↦ leaf_down m whole y (one_part m f) (at ∷ ups) one refl
-            (one_beneath m y.entry.key room f (bit_beneath (b + 1) b 1 one tree.2 tree.0.ones y o), way) o
+        | inl z ↦ leaf_down m whole y (zero_part f) (at ∷ ups) zero refl
+            (zero_beneath f y.entry.key (bit_beneath (b + 1) b 0 zero tree.1 tree.0.zeros y z), way) z
+        | inr o ↦ leaf_down m whole y (one_part f) (at ∷ ups) one refl
+            (one_beneath f y.entry.key (bit_beneath (b + 1) b 1 one tree.2 tree.0.ones y o), way) o
       ]
 
   pub way_to_leaf : (m : Lodged V) (whole : Part m) (y : Placed V) → IsIn y whole.tree → FoundLeaf m whole y
@@ -66,8 +66,7 @@ module _ {V : Type 0} where
 
   some_over : (n : ℕ) (t : Tree V) → 1 ≤ forks_at n t → (y : Placed V) × HasOver n y t
   some_over n (leaf x xs) some = absurd (omega arith)
-  some_over n (fork room b zero one) some =
-      elim (room.number == n) as (λ t. (room.number == n) ≡ t → 1 ≤ one_if t + (forks_at n zero + forks_at n one)
+  some_over n (fork room b zero one) some = elim (room.number == n) as (λ t. (room.number == n) ≡ t → 1 ≤ one_if t + (forks_at n zero + forks_at n one)
       → (y : Placed V) × HasOver n y (fork room b zero one)) [
         | true ↦ λ e sum. let y = some_route zero in (y.0, inl (eqb-true room.number n e, y.1))
         | false ↦ λ e sum. elim (one_of (forks_at n zero) (forks_at n one) (omega arith)) [
@@ -81,14 +80,14 @@ module _ {V : Type 0} where
   fork_down m whole n y at ups (leaf x xs) is way o = absurd o
   fork_down m whole n y at ups (fork room b zero one) is way o =
       let f : ForkAt at room = record { bit = b; zero = zero; one = one; is = is } in
-      let tree = fork_is m f in
+      let tree = fork_is f in
       elim o [
         | inl h ↦ record { key = y.entry.key; part = at; room = room; at = f; number = h.0; ups = ups; way = way }
         | inr s ↦ elim s [
-          | inl z ↦ fork_down m whole n y (zero_part m f) (at ∷ ups) zero refl
-              (zero_beneath m y.entry.key room f (bit_beneath (b + 1) b 0 zero tree.1 tree.0.zeros y (over_in n y zero z)), way) z
-          | inr u ↦ fork_down m whole n y (one_part m f) (at ∷ ups) one refl
-              (one_beneath m y.entry.key room f (bit_beneath (b + 1) b 1 one tree.2 tree.0.ones y (over_in n y one u)), way) u
+          | inl z ↦ fork_down m whole n y (zero_part f) (at ∷ ups) zero refl
+              (zero_beneath f y.entry.key (bit_beneath (b + 1) b 0 zero tree.1 tree.0.zeros y (over_in n y zero z)), way) z
+          | inr u ↦ fork_down m whole n y (one_part f) (at ∷ ups) one refl
+              (one_beneath f y.entry.key (bit_beneath (b + 1) b 1 one tree.2 tree.0.ones y (over_in n y one u)), way) u
         ]
       ]
 

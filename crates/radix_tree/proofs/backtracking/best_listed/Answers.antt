@@ -13,7 +13,7 @@ pub mask_node-requires-clause-turn : goal.mask_node-requires-clause-turn
 mask_node-requires-clause-turn g c = let n = c.requires.node in (c.loop-at.invariant n.0 n.1 n.2).turn ∙ c.requires.turn
 
 pub room_of-requires-clause-tree : goal.room_of-requires-clause-tree
-room_of-requires-clause-tree g c = let n = c.requires.node in (n.0, fork_name _ n.1)
+room_of-requires-clause-tree g c = let n = c.requires.node in (n.0, fork_name n.1)
 
 pub room_of-requires-clause-turn : goal.room_of-requires-clause-turn
 room_of-requires-clause-turn g c =
@@ -22,7 +22,7 @@ room_of-requires-clause-turn g c =
 pub returns-in-Some-room_of-clause-best : goal.returns-in-Some-room_of-clause-best
 returns-in-Some-room_of-clause-best g c p f listed =
     let x = mask_at (c.loop-at.invariant p f listed) c.in-Some.is in
-    hit x (c.mask_node.ensures.leaf x.part x.said) c.masked-key.ensures.number c.in-Some-room_of.is (c.room_of.ensures.found p (fork_name _ f))
+    hit x (c.mask_node.ensures.leaf x.part x.said) c.masked-key.ensures.number c.in-Some-room_of.is (c.room_of.ensures.found p (fork_name f))
 
 pub returns-in-Some-room_of-clause-visits : goal.returns-in-Some-room_of-clause-visits
 returns-in-Some-room_of-clause-visits g c p f listed =
@@ -33,14 +33,14 @@ pub loop-at-smaller : goal.loop-at-smaller
 loop-at-smaller g c =
     let n = c.requires.node in
     let x = mask_at (c.loop-at.invariant n.0 n.1 n.2) c.in-Some.is in
-    let within = (fork_is _ n.1).0.within in
+    let within = (fork_is n.1).0.within in
     omega (arith, x.soon, within)
 
 pub loop-at-preserved : goal.loop-at-preserved
 loop-at-preserved g c = λ p f listed.
     let x = mask_at (c.loop-at.invariant p f listed) c.in-Some.is in
     miss x c.mask_node.result.1 (c.mask_node.ensures.leaf x.part x.said) c.mask_node.ensures.said c.masked-key.ensures.number c.in_default-room_of.is
-    (c.room_of.ensures.found p (fork_name _ f))
+    (c.room_of.ensures.found p (fork_name f))
     (record { turn = c.room_of.ensures.visits.turn ∙ c.mask_node.ensures.visit.turn; rises = omega arith; bound = omega arith })
 
 pub returns-clause-best : goal.returns-clause-best

@@ -16,7 +16,7 @@ returns-in-Some-clause-best g c w =
 
 pub leaf-at-requires-clause-there : goal.leaf-at-requires-clause-there
 leaf-at-requires-clause-there g c =
-    let w = c.requires.whole in let l = c.leaf_for-leaf.ensures.leaf w.part w.named in Has-leaf_at _ l.leaf
+    let w = c.requires.whole in let l = c.leaf_for-leaf.ensures.leaf w.part w.named in Has-leaf_at l.leaf
 
 pub loop-at-init : goal.loop-at-init
 loop-at-init g c =
@@ -35,7 +35,8 @@ bit_node-node-requires-clause-used g c = let w = c.requires.whole in used (fork_
 pub best_listed-requires-clause-node : goal.best_listed-requires-clause-node
 best_listed-requires-clause-node g c =
     let w = c.requires.whole in
-    let o = over w.top (c.loop-at.invariant.climb w) c.in-Some-at.is in (o.part, fork_over o, way_lists (λ x. Unit {0}) c.args.address w.part o.part o.ups o.way (whole_listed w))
+    let o = over w.top (c.loop-at.invariant.climb w) c.in-Some-at.is in
+        (o.part, fork_over o, way_lists (λ x. Unit {0}) c.args.address w.part o.part o.ups o.way (whole_listed w))
 
 pub returns-in-Some-best_listed-clause-best : goal.returns-in-Some-best_listed-clause-best
 returns-in-Some-best_listed-clause-best g c w =

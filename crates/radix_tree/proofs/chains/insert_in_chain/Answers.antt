@@ -75,20 +75,19 @@ returns-clause-ok g c =
     subst (λ z. IsWholeBut c.name_back.new.nodes.lodged z (late_at c.args.room) nobody_out) (sym c.rename-root.ensures.root)
     (subst (λ k. IsWholeBut c.name_back.new.nodes.lodged (root_past c.in-Some.leaf.previous c.in-Some.leaf.above (LeafOf c.lodge_leaf-id.result)
     c.args.root) (late_at k) nobody_out) c.lodge_leaf-id.ensures.number
-    (inserted_whole c.args.nodes.now.lodged c.name_back.new.nodes.lodged c.args.entry c.lodge_leaf-id.result c.args.first c.args.root r.0 r.1
-    (in_gap g (goal.at.returns-clause-ok g c).In-Some) r.2 c.requires.route (linked g (goal.at.returns-clause-ok g c).After-name_back)))
+    (inserted_whole c.args.entry r.0 r.1 (in_gap g (goal.at.returns-clause-ok g c).In-Some) c.name_back.new.nodes.lodged c.lodge_leaf-id.result r.2
+      c.requires.route (linked g (goal.at.returns-clause-ok g c).After-name_back)))
 
 pub returns-clause-routes : goal.returns-clause-routes
 returns-clause-routes g c =
     let r = c.requires.led in
     subst (λ z. Gains c.args.entry (shown c.args.nodes.now.lodged (Some c.args.root)) (shown c.name_back.new.nodes.lodged (Some z)))
     (sym c.rename-root.ensures.root)
-    (inserted_routes c.args.nodes.now.lodged c.name_back.new.nodes.lodged c.args.entry c.lodge_leaf-id.result c.args.first c.args.root r.0 r.1
-    (in_gap g (goal.at.returns-clause-routes g c).In-Some) r.2 c.requires.route (linked g (goal.at.returns-clause-routes g c).After-name_back))
+    (inserted_routes c.args.entry r.0 r.1 (in_gap g (goal.at.returns-clause-routes g c).In-Some) c.name_back.new.nodes.lodged c.lodge_leaf-id.result r.2
+      c.requires.route (linked g (goal.at.returns-clause-routes g c).After-name_back))
 
 pub returns-clause-rooms : goal.returns-clause-rooms
-returns-clause-rooms g c n =
-    linked_rooms c.args.nodes.now.lodged c.name_back.new.nodes.lodged c.lodge_leaf-id.result c.args.entry.value c.in-Some.leaf
+returns-clause-rooms g c n = linked_rooms c.args.nodes.now.lodged c.name_back.new.nodes.lodged c.lodge_leaf-id.result c.args.entry.value c.in-Some.leaf
     (linked g (goal.at.returns-clause-rooms g c).After-name_back).leaves n
     ∙ ap (λ k. (n == k) || is_some (leaves_in c.args.nodes.now.lodged n)) c.lodge_leaf-id.ensures.number
 

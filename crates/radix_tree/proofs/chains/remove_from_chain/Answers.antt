@@ -9,29 +9,29 @@ use Rattle.radix_tree.proofs.chains.remove_from_chain.Given as given
 use Rattle.radix_tree.proofs.chains.remove_from_chain.Goals as goal
 
 pub link_out-requires-clause-before : goal.link_out-requires-clause-before
-link_out-requires-clause-before g c r is = before_there (member_of c.requires.whole c.args.at.number (own_said c.requires.there)) r
-    (sym (ap (λ z. z.previous) (leaf_is c.links.result.now c.requires.there (own_said c.requires.there) c.links.ensures.links c.leaf-leaf.ensures))
+link_out-requires-clause-before g c r is = before_there _ (member_of c.requires.whole c.args.at.number (own_said c.requires.there)) r
+      (sym (ap (λ z. z.previous) (leaf_is c.links.result.now c.requires.there (own_said c.requires.there) c.links.ensures.links c.leaf-leaf.ensures))
     ∙ is)
 
 pub link_out-requires-clause-behind : goal.link_out-requires-clause-behind
-link_out-requires-clause-behind g c r is = behind_there (member_of c.requires.whole c.args.at.number (own_said c.requires.there)) r
-    (sym (ap (λ z. z.next) (leaf_is c.links.result.now c.requires.there (own_said c.requires.there) c.links.ensures.links c.leaf-leaf.ensures)) ∙ is)
+link_out-requires-clause-behind g c r is = behind_there _ (member_of c.requires.whole c.args.at.number (own_said c.requires.there)) r
+      (sym (ap (λ z. z.next) (leaf_is c.links.result.now c.requires.there (own_said c.requires.there) c.links.ensures.links c.leaf-leaf.ensures)) ∙ is)
 
 pub rename-root-requires-clause-tree : goal.rename-root-requires-clause-tree
 rename-root-requires-clause-tree g c up is =
-    fork_above (member_of c.requires.whole c.args.at.number (own_said c.requires.there)) up c.requires.whole.top
-    (sym (ap (λ z. z.above) (leaf_is c.links.result.now c.requires.there (own_said c.requires.there) c.links.ensures.links c.leaf-leaf.ensures)) ∙ is)
+    fork_above _ (member_of c.requires.whole c.args.at.number (own_said c.requires.there)) up c.requires.whole.top
+      (sym (ap (λ z. z.above) (leaf_is c.links.result.now c.requires.there (own_said c.requires.there) c.links.ensures.links c.leaf-leaf.ensures)) ∙ is)
 
 pub link_out-requires-2-clause-before : goal.link_out-requires-2-clause-before
 link_out-requires-2-clause-before g c r is = Has-kept c.rename-root.new.nodes.lodged r c.rename-root.ensures.only.leaves
-    (before_there (member_of c.requires.whole c.args.at.number (own_said c.requires.there)) r
-    (sym (ap (λ z. z.previous) (leaf_is c.links.result.now c.requires.there (own_said c.requires.there) c.links.ensures.links c.leaf-leaf.ensures))
+    (before_there _ (member_of c.requires.whole c.args.at.number (own_said c.requires.there)) r
+      (sym (ap (λ z. z.previous) (leaf_is c.links.result.now c.requires.there (own_said c.requires.there) c.links.ensures.links c.leaf-leaf.ensures))
     ∙ is))
 
 pub link_out-requires-2-clause-behind : goal.link_out-requires-2-clause-behind
 link_out-requires-2-clause-behind g c r is = Has-kept c.rename-root.new.nodes.lodged r c.rename-root.ensures.only.leaves
-    (behind_there (member_of c.requires.whole c.args.at.number (own_said c.requires.there)) r
-    (sym (ap (λ z. z.next) (leaf_is c.links.result.now c.requires.there (own_said c.requires.there) c.links.ensures.links c.leaf-leaf.ensures)) ∙ is))
+    (behind_there _ (member_of c.requires.whole c.args.at.number (own_said c.requires.there)) r
+      (sym (ap (λ z. z.next) (leaf_is c.links.result.now c.requires.there (own_said c.requires.there) c.links.ensures.links c.leaf-leaf.ensures)) ∙ is))
 
 -- a member of a chain, whose neighbours name each other, and what stands above the chain
 abbrev IsGone : {V : Type 0} (m new : Lodged V) (whole : Part m) (at : Id) (p : LeafPart V) (name : Node) → Type 0
@@ -68,7 +68,7 @@ gone g c {p = p} said =
 pub returns-in_default-clause-whole : goal.returns-in_default-clause-whole
 returns-in_default-clause-whole g c =
     let u = last_gone g (goal.at.returns-in_default-clause-whole g c).After-link_out (own_said c.requires.there) in
-    removed_whole c.requires.whole u.0 c.requires.unmarked u.1 u.2
+    removed_whole c.requires.whole _ u.0 c.requires.unmarked u.1 u.2
 
 pub returns-in_default-clause-routes : goal.returns-in_default-clause-routes
 returns-in_default-clause-routes g c p said =
@@ -98,7 +98,7 @@ returns-in_default-clause-neighbours g c p to said side =
 pub returns-clause-whole : goal.returns-clause-whole
 returns-clause-whole g c =
     let u = gone g (goal.at.returns-clause-whole g c).After-link_out-2 (own_said c.requires.there) in
-    removed_whole c.requires.whole u.0 c.requires.unmarked u.1 u.2
+    removed_whole c.requires.whole _ u.0 c.requires.unmarked u.1 u.2
 
 pub returns-clause-routes : goal.returns-clause-routes
 returns-clause-routes g c p said =

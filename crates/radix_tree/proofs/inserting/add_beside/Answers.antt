@@ -5,13 +5,12 @@ use Rattle.radix_tree.proofs.inserting.add_beside.Goals as goal
 pub name_child-requires-clause-tree : goal.name_child-requires-clause-tree
 name_child-requires-clause-tree g c over is =
     let s = c.requires.spot in
-    over_there _ s.0 s.1 c.lodge_forked-id.ensures.lodged is
+    over_there _ s.1 c.lodge_forked-id.ensures.lodged is
 
 pub lift-requires-clause-tree : goal.lift-requires-clause-tree
 lift-requires-clause-tree g c =
     let s = c.requires.spot in
-    below_there c.args.nodes.now.lodged c.lodge_forked-id.new.nodes.lodged c.name_child.new.nodes.lodged _ s.0 s.1 c.lodge_forked-id.ensures.lodged
-    c.name_child.ensures.only.leaves c.name_child.ensures.bits
+    below_there _ s.1 c.lodge_forked-id.ensures.lodged c.name_child.new.nodes.lodged c.name_child.ensures.only.leaves c.name_child.ensures.bits
 
 pub returns-clause-beside : goal.returns-clause-beside
 returns-clause-beside g c =
@@ -25,7 +24,7 @@ returns-clause-exchanged g c p s named =
     c.lodge_forked-id.ensures.lodged c.name_child.ensures.only.leaves c.name_child.ensures.bits c.lift.ensures.leaves c.lift.ensures.bits in
     subst (λ z. (u : Part c.lift.new.nodes.lodged) × (u.tree ≡ forked_tree c.args.spot.bit (placed c.lodge_forked-id.result c.args.entry) s.at.tree)
     × Exchanged c.args.nodes.now.lodged c.lift.new.nodes.lodged c.args.entry.key p s.at u z) (sym c.root_after.ensures)
-    (whole_forked p s b c.requires.route named)
+    (whole_forked _ s b c.requires.route named)
 
 pub returns-clause-heads : goal.returns-clause-heads
 returns-clause-heads g c n = c.lift.ensures.heads n ∙ c.name_child.ensures.only.heads n ∙ c.lodge_forked-id.ensures.heads n

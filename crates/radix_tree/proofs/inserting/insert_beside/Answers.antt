@@ -36,8 +36,7 @@ add_beside-requires-clause-spot g c =
 spot_of : (g : given.Over) (c : goal.After-add_beside g) (w : IsWhole c.args.nodes.now.lodged c.args.root) (d : LedTo c.args.entry.key w.part c.args.leaf)
     → Differs c.args.entry.key d.leaf.first.entry.key c.args.bit
     → IsSpot c.args.nodes.now.lodged c.args.entry.key c.spot_above-spot.result.bit w.part c.spot_above-spot.result.above c.spot_above-spot.result.below
-spot_of g c w d differs =
-    subst (λ b. IsSpot c.args.nodes.now.lodged c.args.entry.key b w.part c.spot_above-spot.result.above c.spot_above-spot.result.below)
+spot_of g c w d differs = subst (λ b. IsSpot c.args.nodes.now.lodged c.args.entry.key b w.part c.spot_above-spot.result.above c.spot_above-spot.result.below)
     (sym c.spot_above-spot.ensures.bit) (c.spot_above-spot.ensures.spot c.args.entry.key (new_key w d differs))
 
 -- all that has come of the rooms
@@ -69,7 +68,7 @@ returns-clause-whole g c w d differs =
     let p = part_of g c w s in
     subst (λ r. IsWholeBut c.add_beside.new.nodes.lodged c.add_beside.result.0
     (λ n. (n == r) || has_key c.args.nodes.now.lodged d.leaf.first.entry.key n) nobody_out) c.add_beside.ensures.number
-    (whole_beside w s d p.0 (came_of g c w s) p.1 p.2)
+    (whole_beside w _ s d p.0 (came_of g c w s) p.1 p.2)
 
 pub returns-clause-routes : goal.returns-clause-routes
 returns-clause-routes g c =
@@ -82,16 +81,16 @@ pub returns-clause-rooms : goal.returns-clause-rooms
 returns-clause-rooms g c =
     let n = c.requires.new in
     let s = spot_of g c n.0 n.1 n.2 in
-    subst (HasRoomMore c.args.nodes.now.lodged c.add_beside.new.nodes.lodged) c.add_beside.ensures.number (room_more s.at.tree (came_of g c n.0 s))
+    subst (HasRoomMore c.args.nodes.now.lodged c.add_beside.new.nodes.lodged) c.add_beside.ensures.number (room_more _ (came_of g c n.0 s))
 
 pub returns-clause-there : goal.returns-clause-there
 returns-clause-there g c =
     let n = c.requires.new in
     let s = spot_of g c n.0 n.1 n.2 in
-    new_there (came_of g c n.0 s)
+    new_there _ (came_of g c n.0 s)
 
 pub returns-clause-leaves : goal.returns-clause-leaves
 returns-clause-leaves g c =
     let n = c.requires.new in
     let s = spot_of g c n.0 n.1 n.2 in
-    leaf_kept (came_of g c n.0 s)
+    leaf_kept _ (came_of g c n.0 s)

@@ -8,7 +8,7 @@ pub bit_node-node-requires-clause-used : goal.bit_node-node-requires-clause-used
 bit_node-node-requires-clause-used g c = used c.requires.tree.1
 
 pub put_bit_node-requires-clause-there : goal.put_bit_node-requires-clause-there
-put_bit_node-requires-clause-there g c = let t = c.requires.tree in Has-fork _ t.1
+put_bit_node-requires-clause-there g c = let t = c.requires.tree in Has-fork t.1
 
 pub returns-clause-bits : goal.returns-clause-bits
 returns-clause-bits g c n = c.put_bit_node.ensures.bits n ∙ node_changed _ (record c.bit_node-node.result { above = c.args.above }) (bit_above c.args.above) n
@@ -17,7 +17,8 @@ returns-clause-bits g c n = c.put_bit_node.ensures.bits n ∙ node_changed _ (re
 pub returns-clause-only : goal.returns-clause-only
 returns-clause-only g c = record {
   leaves = search rules;
-  heads = λ n. c.put_bit_node.ensures.heads n ∙ head_kept _ c.args.room (record c.bit_node-node.result { above = c.args.above }) n c.bit_node-node.ensures.node
+  heads = λ n. c.put_bit_node.ensures.heads n ∙ head_kept _ c.args.room (record c.bit_node-node.result { above = c.args.above }) n
+      c.bit_node-node.ensures.node
       refl;
   masks = search rules;
 }

@@ -7,13 +7,11 @@ returns-clause-leaves g c = leaves_kept c.with_bit_node.result c.links-links.res
     c.links-links.ensures.links c.with_bit_node.ensures.leaf
 
 pub returns-clause-masks : goal.returns-clause-masks
-returns-clause-masks g c = masks_kept c.with_bit_node.result c.links-links.result.now c.requires.there (ap (λ r. r.lodged) c.set_links.ensures)
-    c.links-links.ensures.links c.with_bit_node.ensures.mask_node
+returns-clause-masks g c = masks_kept c.requires.there c.with_bit_node.result c.links-links.result.now (ap (λ r. r.lodged) c.set_links.ensures)
+      c.links-links.ensures.links c.with_bit_node.ensures.mask_node
 
 pub returns-clause-bits : goal.returns-clause-bits
-returns-clause-bits g c = bits_put c.args.room c.with_bit_node.result c.requires.there (ap (λ r. r.lodged) c.set_links.ensures)
-    c.with_bit_node.ensures.bit_node
+returns-clause-bits g c = bits_put c.requires.there c.with_bit_node.result (ap (λ r. r.lodged) c.set_links.ensures) c.with_bit_node.ensures.bit_node
 
 pub returns-clause-heads : goal.returns-clause-heads
-returns-clause-heads g c = heads_put c.args.room c.with_bit_node.result c.requires.there (ap (λ r. r.lodged) c.set_links.ensures)
-    c.with_bit_node.ensures.bit_node
+returns-clause-heads g c = heads_put c.requires.there c.with_bit_node.result (ap (λ r. r.lodged) c.set_links.ensures) c.with_bit_node.ensures.bit_node

@@ -6,7 +6,7 @@ use Rattle.radix_tree.proofs.listing.list_mask.Goals as goal
 pub returns-in_default-clause-whole : goal.returns-in_default-clause-whole
 returns-in_default-clause-whole g c root late w =
     let y = placed_in w c.requires.there in
-    never_late late w c.args.room y.0 y.1 y.2
+    never_late w c.args.room y.0 y.1 y.2
     (subst (IsHome c.args.nodes.now.lodged y.0.entry.key y.0.entry.rank w.part) c.in_default.is (c.home_of.ensures.home root late w y.0 y.1 y.2))
 
 pub sort_in-requires-clause-node : goal.sort_in-requires-clause-node

@@ -38,7 +38,7 @@ returns-clause-whole g c root is =
     let w = is in
     let y = placed_in w c.requires.there in
     let h = homed w.part y.0 y.1 y.2 c.in-Some.is (c.home_of.ensures.home root nobody_late w y.0 y.1 y.2) in
-    listed_less c.args.nodes.now.lodged c.sort_out.new.nodes.lodged nobody_late w c.args.room c.in-Some.fork (once_but w) h (marked_at w h) (record {
+    listed_less w c.sort_out.new.nodes.lodged c.args.room c.in-Some.fork (once_but w) h (marked_at w h) (record {
       list = c.sort_out.ensures.list;
       heads = c.sort_out.ensures.heads;
       masks = c.sort_out.ensures.masks;

@@ -4,7 +4,7 @@ use Rattle.radix_tree.proofs.Words.{◌≤◌, ◌<◌, ◌∙◌, subst, arith}
 use Rattle.radix_tree.proofs.masks.home.Goals as goal
 
 pub leaf-above-requires-clause-there : goal.leaf-above-requires-clause-there
-leaf-above-requires-clause-there g c = let l = c.requires.led.4 in Has-leaf_at _ l.leaf
+leaf-above-requires-clause-there g c = let l = c.requires.led.4 in Has-leaf_at l.leaf
 
 pub loop-above-init : goal.loop-above-init
 loop-above-init g c = record {

@@ -16,8 +16,7 @@ moved g c = record {
   leaves = λ k. c.rename_child.ensures.only.leaves k ∙ c.put_bit_node-2.ensures.leaves k ∙ c.put_bit_node.ensures.leaves k ∙ c.lift-2.ensures.leaves k
       ∙ ap (lift_leaf c.in-Some.node.one (Some c.args.to) k) (c.lift.ensures.leaves k);
   bits = λ k. c.rename_child.ensures.bits k ∙ ap (rename c.in-Some.node.above c.args.from c.args.to k)
-      (c.put_bit_node-2.ensures.bits k ∙ ap (put_bit c.args.to (Some c.in-Some.node) k)
-      (c.put_bit_node.ensures.bits k ∙ ap (put_bit c.args.from None k)
+      (c.put_bit_node-2.ensures.bits k ∙ ap (put_bit c.args.to (Some c.in-Some.node) k) (c.put_bit_node.ensures.bits k ∙ ap (put_bit c.args.from None k)
       (c.lift-2.ensures.bits k ∙ ap (lift_bit c.in-Some.node.one (Some c.args.to) k) (c.lift.ensures.bits k))));
   heads = λ k. c.rename_child.ensures.only.heads k ∙ c.put_bit_node-2.ensures.heads k ∙ ap (put_head c.args.to (Some c.in-Some.node) k)
       (c.put_bit_node.ensures.heads k ∙ ap (put_head c.args.from None k) (c.lift-2.ensures.heads k ∙ c.lift.ensures.heads k));
@@ -30,8 +29,7 @@ lift-requires-clause-tree g c = left_there (move g (goal.at.lift-requires-clause
 
 pub lift-requires-2-clause-tree : goal.lift-requires-2-clause-tree
 lift-requires-2-clause-tree g c =
-    right_there c.args.nodes.now.lodged c.lift.new.nodes.lodged c.args.to (move g (goal.at.lift-requires-2-clause-tree g c).In-Some) c.lift.ensures.leaves
-    c.lift.ensures.bits
+    right_there (move g (goal.at.lift-requires-2-clause-tree g c).In-Some) c.lift.new.nodes.lodged c.lift.ensures.leaves c.lift.ensures.bits
 
 pub put_bit_node-requires-clause-there : goal.put_bit_node-requires-clause-there
 put_bit_node-requires-clause-there g c = Has_kept c.lift-2.new.nodes.lodged (ap content_of (c.lift-2.ensures.leaves c.args.from.number)
@@ -47,18 +45,18 @@ put_bit_node-requires-2-clause-there g c = Has_kept c.put_bit_node.new.nodes.lod
     ∙ content_lift c.in-Some.node.zero (Some c.args.to) c.args.to.number (leaves_in c.args.nodes.now.lodged c.args.to.number)) c.requires.to
 
 pub rename_child-requires-clause-used : goal.rename_child-requires-clause-used
-rename_child-requires-clause-used g c up is = over_used c.args.from c.args.to (move g (goal.at.rename_child-requires-clause-used g c).In-Some) up is
+rename_child-requires-clause-used g c up is = over_used (move g (goal.at.rename_child-requires-clause-used g c).In-Some) up is
     (λ k. c.put_bit_node-2.ensures.bits k ∙ ap (put_bit c.args.to (Some c.in-Some.node) k) (c.put_bit_node.ensures.bits k
     ∙ ap (put_bit c.args.from None k) (c.lift-2.ensures.bits k ∙ ap (lift_bit c.in-Some.node.one (Some c.args.to) k) (c.lift.ensures.bits k))))
 
 pub returns-clause-whole : goal.returns-clause-whole
-returns-clause-whole g c = whole_moved c.args.from c.args.to (move g (goal.at.returns-clause-whole g c).In-Some) (moved g c) c.root_after.ensures
+returns-clause-whole g c = whole_moved (move g (goal.at.returns-clause-whole g c).In-Some) (moved g c) c.root_after.ensures
 
 pub returns-clause-gone : goal.returns-clause-gone
-returns-clause-gone g c = gone c.args.from c.args.to (move g (goal.at.returns-clause-gone g c).In-Some) (moved g c)
+returns-clause-gone g c = gone (moved g c) (move g (goal.at.returns-clause-gone g c).In-Some)
 
 pub returns-clause-routes : goal.returns-clause-routes
-returns-clause-routes g c = routes_moved c.args.from c.args.to (move g (goal.at.returns-clause-routes g c).In-Some) (moved g c) c.root_after.ensures
+returns-clause-routes g c = routes_moved (move g (goal.at.returns-clause-routes g c).In-Some) (moved g c) c.root_after.ensures
 
 pub returns-clause-rooms : goal.returns-clause-rooms
-returns-clause-rooms g c = contents_stay c.args.to (moved g c)
+returns-clause-rooms g c = contents_stay (moved g c)

@@ -5,7 +5,8 @@ use Rattle.radix_tree.proofs.removing.take_out.Goals as goal
 use Rattle.radix_tree.proofs.{Facts.none_if}
 
 pub vacate-requires-clause-from : goal.vacate-requires-clause-from
-vacate-requires-clause-from g c = Has_kept c.remove_from_chain-rest.new.nodes.lodged (c.remove_from_chain-rest.ensures.rooms c.args.at.number) c.requires.there
+vacate-requires-clause-from g c = Has_kept c.remove_from_chain-rest.new.nodes.lodged (c.remove_from_chain-rest.ensures.rooms c.args.at.number)
+      c.requires.there
 
 pub vacate-requires-clause-to : goal.vacate-requires-clause-to
 vacate-requires-clause-to g c =
@@ -30,11 +31,11 @@ returns-in-None-clause-out g c n other =
     let a = alone_is c.links.result.now c.requires.there c.links.ensures.links c.leaf-leaf.ensures c.other_member.ensures
     (none_if c.other_member.result c.in_default.not-Some) p.0 p.1 in
     let above = ap (λ z. z.above) (sym (leaf_is c.links.result.now c.requires.there c.links.ensures.links c.leaf-leaf.ensures p.1)) ∙ c.in-None.is in
-    let o = only c.args.at.number c.requires.whole p.0 p.1 a.0 a.1 above in only_room c.requires.whole p.0 o n other
+    let o = only c.args.at.number c.requires.whole p.0 p.1 a.0 a.1 above in only_room _ c.requires.whole p.0 o n other
 
 pub returns-in-None-clause-routes : goal.returns-in-None-clause-routes
 returns-in-None-clause-routes g c p said =
     let a = alone_is c.links.result.now c.requires.there c.links.ensures.links c.leaf-leaf.ensures c.other_member.ensures
     (none_if c.other_member.result c.in_default.not-Some) p said in
     let above = ap (λ z. z.above) (sym (leaf_is c.links.result.now c.requires.there c.links.ensures.links c.leaf-leaf.ensures said)) ∙ c.in-None.is in
-    let o = only c.args.at.number c.requires.whole p said a.0 a.1 above in only_shown c.requires.whole p o
+    let o = only c.args.at.number c.requires.whole p said a.0 a.1 above in only_shown _ c.requires.whole p o

@@ -16,11 +16,11 @@ loop-above-init g c =
     }
 
 pub links-requires-in-Some-clause-there : goal.links-requires-in-Some-clause-there
-links-requires-in-Some-clause-there g c = Has-over c.in-Some.up c.loop-above.invariant.climb c.in-Some.is
+links-requires-in-Some-clause-there g c = Has-over c.loop-above.invariant.climb c.in-Some.up c.in-Some.is
 
 pub unreachable-requires : goal.unreachable-requires
-unreachable-requires g c = used_over c.in-Some.up c.links-in-Some.result.now c.loop-above.invariant.climb c.in-Some.is c.links-in-Some.ensures.links
-    (sym c.bit_node.ensures ∙ c.in_default-bit_node.is)
+unreachable-requires g c = used_over c.loop-above.invariant.climb c.in-Some.up c.links-in-Some.result.now c.in-Some.is c.links-in-Some.ensures.links
+      (sym c.bit_node.ensures ∙ c.in_default-bit_node.is)
 
 -- what the bit node above says
 node : (g : _) (c : In-Some-bit_node g) → Read c.args.nodes.now.lodged c.args.key c.args.first c.in-Some-bit_node.node
