@@ -127,32 +127,31 @@ module _ {V : Type 0} where
           late_aside = λ n none some late. absurd (true≢false (sym late));
         }
 
-    -- bit nodes in use, of each chain one at most
-    spare_beside : (mid new : Lodged V) {name : Node} (u : Part new) → Came m mid new s.at.low bit s.at.tree x above below
-        → u.tree ≡ forked_tree bit x s.at.tree → (e : Exchanged m new x.entry.key w.part s.at u name) → HaveOneFork (bits_in new) e.part.tree
-    spare_beside mid new u c tree e =
-        let none = no_leaf x c in
-        let idle : (n : ℕ) → (n ≡ x.room.number → ⊥) → bits_in m n ≡ None → bits_in new n ≡ None =
-        λ n other. none_of (bits_in new n) (bits_in m n) (other_bit x c n other) in
-        spare_changed m new w e (λ spare. subst (HaveOneFork (bits_in new)) (sym tree) (forked_spare (bits_in new) bit x s.at.tree
-        (spare_same (bits_in m) (bits_in new) s.at.tree (λ y at. idle y.room.number (not_new s.at x.room none y.room.number (counted_leaf y s.at.tree at)))
-        spare))) (λ n out some. idle n (not_new w.part x.room none n some))
+    module _ {new : Lodged V} {name : Node} {u : Part new} (e : Exchanged m new x.entry.key w.part s.at u name) where
+      -- bit nodes in use, of each chain one at most
+      spare_beside : (mid : Lodged V) → Came m mid new s.at.low bit s.at.tree x above below → u.tree ≡ forked_tree bit x s.at.tree
+          → HaveOneFork (bits_in new) e.part.tree
+      spare_beside mid c tree =
+          let none = no_leaf x c in
+          let idle : (n : ℕ) → (n ≡ x.room.number → ⊥) → bits_in m n ≡ None → bits_in new n ≡ None =
+          λ n other. none_of (bits_in new n) (bits_in m n) (other_bit x c n other) in
+          spare_changed w e (λ spare. subst (HaveOneFork (bits_in new)) (sym tree) (forked_spare (bits_in new) bit x s.at.tree
+          (spare_same (bits_in m) (bits_in new) s.at.tree (λ y at. idle y.room.number (not_new s.at x.room none y.room.number (counted_leaf y s.at.tree at)))
+          spare))) (λ n out some. idle n (not_new w.part x.room none n some))
 
-    pub whole_beside : {mid new : Lodged V} {name : Node} {room : Id} (d : LedTo x.entry.key w.part room) (u : Part new)
-        → Came m mid new s.at.low bit s.at.tree x above below → u.tree ≡ forked_tree bit x s.at.tree → Exchanged m new x.entry.key w.part s.at u name
-        → IsWholeBut new name (late_beside m d.leaf.first.entry.key x.room.number) nobody_out
-    whole_beside {mid = mid} {new = new} d u c tree e =
-        let f = d.leaf in
-        let chain = (subst (IsTree d.part.low) f.is d.part.is).1 in
-        let keyed : (y z : Placed V) (zs : List (Placed V)) → IsIn y s.at.tree → s.at.tree ≡ leaf z zs → y.entry.key ≡ f.first.entry.key =
-        λ y z zs at is. chain_key f.first.entry.key 34 (f.first ∷ f.rest) chain y
-        (subst (IsIn y) (is ∙ same_leaf m x.entry.key w.part s.at d.part s.ups d.ups z f.first zs f.rest s.way d.way is f.is) at) in
-        whole_changed m new w e (fits_beside mid new f.first.entry.key u c tree keyed) (spare_beside mid new u c tree e)
+      pub whole_beside : {mid : Lodged V} {room : Id} (d : LedTo x.entry.key w.part room) → Came m mid new s.at.low bit s.at.tree x above below
+          → u.tree ≡ forked_tree bit x s.at.tree → IsWholeBut new name (late_beside m d.leaf.first.entry.key x.room.number) nobody_out
+      whole_beside {mid = mid} d c tree =
+          let f = d.leaf in
+          let chain = (subst (IsTree d.part.low) f.is d.part.is).1 in
+          let keyed : (y z : Placed V) (zs : List (Placed V)) → IsIn y s.at.tree → s.at.tree ≡ leaf z zs → y.entry.key ≡ f.first.entry.key =
+          λ y z zs at is. chain_key f.first.entry.key 34 (f.first ∷ f.rest) chain y
+          (subst (IsIn y) (is ∙ same_leaf m x.entry.key w.part s.at d.part s.ups d.ups z f.first zs f.rest s.way d.way is f.is) at) in
+          whole_changed w e (fits_beside mid new f.first.entry.key u c tree keyed) (spare_beside mid c tree)
 
-    pub routes_beside : {new : Lodged V} {name : Node} (u : Part new) → u.tree ≡ forked_tree bit x s.at.tree → Exchanged m new x.entry.key w.part s.at u name
-        → Gains x.entry (shown m (Some root)) (shown new (Some name))
-    routes_beside u tree e = gains_spliced (routes_changed w e)
-        (subst (λ t. Gains x.entry (routes_of s.at.tree) (routes_of t)) (sym tree) (forked_gains bit x s.at.tree))
+      pub routes_beside : u.tree ≡ forked_tree bit x s.at.tree → Gains x.entry (shown m (Some root)) (shown new (Some name))
+      routes_beside tree = gains_spliced (routes_changed w e)
+          (subst (λ t. Gains x.entry (routes_of s.at.tree) (routes_of t)) (sym tree) (forked_gains bit x s.at.tree))
 
   -- ---- a key that no route of the table has, and the rooms once its route stands there
   abbrev pub new_key : {m : Lodged V} {root : Node} (w : IsWhole m root) {key bit : ℕ} {room : Id} (d : LedTo key w.part room)
@@ -172,8 +171,8 @@ module _ {V : Type 0} where
   came_beside {m = m} {mid = mid} w {bit = bit} {x = x} {below = below} first s kept others same heads masks marks leaves bits beside new_heads new_masks
       unmarked = record {
         first = first;
-        cut = cut_at m mid w x.entry.key bit s.at s.ups below first s.at.tree refl s.way s.once s.place.rises s.place.is s.named kept others same
-            heads masks marks leaves bits;
+        cut = cut_at w mid x.entry.key bit s.at s.ups below first s.at.tree refl s.way s.once s.place.rises s.place.is s.named kept others same heads masks
+        marks leaves bits;
         beside = beside;
         heads = new_heads;
         masks = new_masks;

@@ -67,8 +67,7 @@ module _ {V : Type 0} where
 
   -- the member behind a place is named above where it is the first
   pub place_bits : (m : Lodged V) (key : ℕ) (whole at : Part m) (ups : List (Part m)) (front back : List (Placed V)) (x : Placed V) → Way key whole at ups
-      → whole.above ≡ None → FrontNamed front (name_of at.tree) → (n : ℕ)
-      → name_child (above_behind at.above front) key (LeafOf x.room) n (bits_in m n)
+      → whole.above ≡ None → FrontNamed front (name_of at.tree) → (n : ℕ) → name_child (above_behind at.above front) key (LeafOf x.room) n (bits_in m n)
       ≡ name_child at.above key (LeafOf (cons_at front back x).first.room) n (bits_in m n)
   place_bits m key whole at ups [] back x way top named n = refl
   place_bits m key whole at ups (f ∷ front) back x way top named n =
@@ -99,81 +98,76 @@ module _ {V : Type 0} where
     pub heads : KeepsHeads m new
     pub masks : KeepsMasks m new
 
-  abbrev pub under : {m new : Lodged V} {key : ℕ} {whole at : Part m} {old now : List (Placed V)} → Rechained m new key whole at old now → Part new
-  under {new = new} {at = at} r = record {
-    tree = leaf r.cons.first r.cons.rest;
-    low = at.low;
-    above = at.above;
-    is = ((subst (IsTree at.low) r.is at.is).0, subst (IsChain r.cons.first.entry.key 34) r.cons.is r.chain);
-    stands = subst (ChainStands (leaves_in new) at.above None) r.cons.is r.stands;
-  }
+  module _ {m new : Lodged V} {key : ℕ} {whole at : Part m} {old now : List (Placed V)} (r : Rechained m new key whole at old now) where
+    abbrev pub under : Part new
+    under = record {
+      tree = leaf r.cons.first r.cons.rest;
+      low = at.low;
+      above = at.above;
+      is = ((subst (IsTree at.low) r.is at.is).0, subst (IsChain r.cons.first.entry.key 34) r.cons.is r.chain);
+      stands = subst (ChainStands (leaves_in new) at.above None) r.cons.is r.stands;
+    }
 
-  pub old_counts : {m new : Lodged V} {key : ℕ} {whole at : Part m} {old now : List (Placed V)} → Rechained m new key whole at old now → (n : ℕ)
-      → leaves_at n at.tree ≡ members_at n old
-  old_counts r n = ap (leaves_at n) r.is ∙ ap (members_at n) (sym r.was.is)
+    pub old_counts : (n : ℕ) → leaves_at n at.tree ≡ members_at n old
+    old_counts n = ap (leaves_at n) r.is ∙ ap (members_at n) (sym r.was.is)
 
-  pub now_counts : (m new : Lodged V) {key : ℕ} {whole at : Part m} {old now : List (Placed V)} (r : Rechained m new key whole at old now) → (n : ℕ)
-      → leaves_at n (under r).tree ≡ members_at n now
-  now_counts m new r n = ap (members_at n) (sym r.cons.is)
+    pub now_counts : (n : ℕ) → leaves_at n under.tree ≡ members_at n now
+    now_counts n = ap (members_at n) (sym r.cons.is)
 
-  pub exchange : (m new : Lodged V) {key : ℕ} (whole at : Part m) {old now : List (Placed V)} (r : Rechained m new key whole at old now)
-      → IsExchange m new key whole at (under r)
-  exchange m new whole at r = record {
-    low = refl;
-    above = refl;
-    keys = λ c value before have. ap (bit_at c) r.key_is ∙ subst (HaveBit c value) r.is have;
-    leaves = λ n none some. r.leaves n (sym (old_counts r n) ∙ none) some;
-    bits = λ n none some. r.bits n;
-  }
+    pub exchange : IsExchange m new key whole at under
+    exchange = record {
+      low = refl;
+      above = refl;
+      keys = λ c value before have. ap (bit_at c) r.key_is ∙ subst (HaveBit c value) r.is have;
+      leaves = λ n none some. r.leaves n (sym (old_counts n) ∙ none) some;
+      bits = λ n none some. r.bits n;
+    }
 
   -- the whole with the other chain
   abbrev pub with_chain : (m new : Lodged V) {root : Node} {late : ℕ → Bool} {out : ℕ → ℕ} {key : ℕ} (w : IsWholeBut m root late out) (at : Part m)
       (ups : List (Part m)) {old now : List (Placed V)} → Way key w.part at ups
       → (r : Rechained m new key w.part at old now) → Exchanged m new key w.part at (under r)
       (root_after at.above (LeafOf r.cons.first.room) (name_of w.part.tree))
-  with_chain m new w at ups way r = exchanged m new w.part at ups way w.top (once_but w) (exchange m new w.part at r)
+  with_chain m new w at ups way r = exchanged m new w.part at ups way w.top (once_but w) (exchange r)
 
   pub bits_some : (m new : Lodged V) (key : ℕ) {whole : Part m} (at : Part m) {old now : List (Placed V)} → Rechained m new key whole at old now → (n : ℕ)
       → is_some (bits_in new n) ≡ is_some (bits_in m n)
   bits_some m new key at r n = ap is_some (r.bits n) ∙ turn_used at.above key n (LeafOf r.cons.first.room) (bits_in m n)
 
-  pub rechained : (m new : Lodged V) {root : Node} {late later : ℕ → Bool} {out outs : ℕ → ℕ} (key : ℕ) (w : IsWholeBut m root late out) (at : Part m)
-      (ups : List (Part m)) {old now : List (Placed V)} → Way key w.part at ups
-      → (r : Rechained m new key w.part at old now) → Fits m new w.part at (under r) late later out outs
-      → (HasOneFork (bits_in m) old → HasOneFork (bits_in m) now)
-      → IsWholeBut new (root_after at.above (LeafOf r.cons.first.room) (name_of w.part.tree)) later outs
-  rechained m new key w at ups {now = now} way r f spare =
-      let none : (n : ℕ) → bits_in m n ≡ None → bits_in new n ≡ None = λ n gone. same_none (bits_in new n) (bits_some m new key at r n) gone in
-      whole_changed m new w (with_chain m new w at ups way r) f (spare_changed m new w (with_chain m new w at ups way r)
-      (λ one. subst (HasOneFork (bits_in new)) r.cons.is (one_fork_same (bits_in m) (bits_in new) now none
-      (spare (subst (HasOneFork (bits_in m)) (sym r.was.is) (subst (HaveOneFork (bits_in m)) r.is one))))) (λ n out_of some gone. none n gone))
+  module _ {m new : Lodged V} {root : Node} {late : ℕ → Bool} {out : ℕ → ℕ} {key : ℕ} (w : IsWholeBut m root late out) {at : Part m}
+      {old now : List (Placed V)} (r : Rechained m new key w.part at old now) where
+    pub rechained : {later : ℕ → Bool} {outs : ℕ → ℕ} (ups : List (Part m)) → Way key w.part at ups → Fits m new w.part at (under r) late later out outs
+        → (HasOneFork (bits_in m) old → HasOneFork (bits_in m) now)
+        → IsWholeBut new (root_after at.above (LeafOf r.cons.first.room) (name_of w.part.tree)) later outs
+    rechained ups way f spare =
+        let none : (n : ℕ) → bits_in m n ≡ None → bits_in new n ≡ None = λ n gone. same_none (bits_in new n) (bits_some m new key at r n) gone in
+        whole_changed w (with_chain m new w at ups way r) f (spare_changed w (with_chain m new w at ups way r)
+        (λ one. subst (HasOneFork (bits_in new)) r.cons.is (one_fork_same (bits_in m) (bits_in new) now none
+        (spare (subst (HasOneFork (bits_in m)) (sym r.was.is) (subst (HaveOneFork (bits_in m)) r.is one))))) (λ n out_of some gone. none n gone))
 
-  pub spliced : (m new : Lodged V) (root : Node) {late : ℕ → Bool} {out : ℕ → ℕ} {key : ℕ} (w : IsWholeBut m root late out) (at : Part m) (ups : List (Part m))
-      {old now : List (Placed V)} → Way key w.part at ups → (r : Rechained m new key w.part at old now) → Spliced (shown m (Some root))
-      (shown new (Some (root_after at.above (LeafOf r.cons.first.room) (name_of w.part.tree)))) (map_entries old) (map_entries now)
-  spliced m new root w at ups {now = now} way r =
-      let s = routes_changed w (with_chain m new w at ups way r) in
-      subst (λ es. Spliced (shown m (Some root)) (shown new (Some (root_after at.above (LeafOf r.cons.first.room) (name_of w.part.tree))))
-      es (map_entries now)) (ap routes_of r.is ∙ ap map_entries (sym r.was.is))
-      (subst (λ es. Spliced (shown m (Some root)) (shown new (Some (root_after at.above (LeafOf r.cons.first.room) (name_of w.part.tree))))
-      (routes_of at.tree) es) (ap map_entries (sym r.cons.is)) s)
+    pub spliced : (ups : List (Part m)) → Way key w.part at ups
+        → Spliced (shown m (Some root)) (shown new (Some (root_after at.above (LeafOf r.cons.first.room) (name_of w.part.tree)))) (map_entries old)
+        (map_entries now)
+    spliced ups way =
+        let s = routes_changed w (with_chain m new w at ups way r) in
+        subst (λ es. Spliced (shown m (Some root)) (shown new (Some (root_after at.above (LeafOf r.cons.first.room) (name_of w.part.tree))))
+        es (map_entries now)) (ap routes_of r.is ∙ ap map_entries (sym r.was.is))
+        (subst (λ es. Spliced (shown m (Some root)) (shown new (Some (root_after at.above (LeafOf r.cons.first.room) (name_of w.part.tree))))
+        (routes_of at.tree) es) (ap map_entries (sym r.cons.is)) s)
 
   -- ---- what both have in common
-  pub old_among : (m new : Lodged V) {key : ℕ} {whole at : Part m} {old now : List (Placed V)} → Rechained m new key whole at old now → (y : Placed V)
-      → IsIn y at.tree → IsAmong y old
-  old_among m new r y is = subst (IsAmong y) (sym r.was.is) (subst (IsIn y) r.is is)
+  module _ {m new : Lodged V} {key : ℕ} {whole at : Part m} {old now : List (Placed V)} (r : Rechained m new key whole at old now) where
+    pub old_among : (y : Placed V) → IsIn y at.tree → IsAmong y old
+    old_among y is = subst (IsAmong y) (sym r.was.is) (subst (IsIn y) r.is is)
 
-  pub among_old : {m new : Lodged V} {key : ℕ} {whole at : Part m} {old now : List (Placed V)} → Rechained m new key whole at old now → (y : Placed V)
-      → IsAmong y old → IsIn y at.tree
-  among_old r y is = subst (IsIn y) (sym r.is) (subst (IsAmong y) r.was.is is)
+    pub among_old : (y : Placed V) → IsAmong y old → IsIn y at.tree
+    among_old y is = subst (IsIn y) (sym r.is) (subst (IsAmong y) r.was.is is)
 
-  pub no_home : (m new : Lodged V) {key : ℕ} {whole at : Part m} {old now : List (Placed V)} → Rechained m new key whole at old now → (k rank : ℕ)
-      → HasHome k rank at.tree → ⊥
-  no_home m new r k rank home = subst (HasHome k rank) r.is home
+    pub no_home : (k rank : ℕ) → HasHome k rank at.tree → ⊥
+    no_home k rank home = subst (HasHome k rank) r.is home
 
-  pub same_marks : {m new : Lodged V} {key : ℕ} {whole at : Part m} {old now : List (Placed V)} → Rechained m new key whole at old now → (y : Placed V)
-      → IsMarked (masks_in m) y → IsMarked (masks_in new) y
-  same_marks r y marked = ap is_some (r.masks y.room.number) ∙ marked
+    pub same_marks : (y : Placed V) → IsMarked (masks_in m) y → IsMarked (masks_in new) y
+    same_marks y marked = ap is_some (r.masks y.room.number) ∙ marked
 
   pub not_marked : (m new : Lodged V) (x y : Placed V) → KeepsMasks m new → masks_in m x.room.number ≡ None → x ≡ y → IsMarked (masks_in new) y → ⊥
   not_marked m new x y keeps none same marked = true≢false (sym marked ∙ ap (λ p. is_some (masks_in new p.room.number)) (sym same)

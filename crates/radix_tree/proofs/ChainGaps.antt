@@ -44,7 +44,8 @@ module _ {V : Type 0} where
   last_more previous (y ∷ front) x = last_more (Some y.room) front x
 
   -- ---- the member that a walk has come to
-  pub head_said : (m : Lodged V) (above previous : Option Id) {ms : List (Placed V)} {at : Id} (x : IsHead ms at) → ChainStands (leaves_in m) above previous ms
+  pub head_said : (m : Lodged V) (above previous : Option Id) {ms : List (Placed V)} {at : Id} (x : IsHead ms at) → ChainStands (leaves_in m) above previous
+      ms
       → leaves_in m at.number ≡ Some (leaf_part x.first above previous (first_room x.behind))
   head_said m above previous x stands = ap (λ i. leaves_in m i.number) (sym x.room_is) ∙ (subst (ChainStands (leaves_in m) above previous) x.is stands).0
 
@@ -55,8 +56,7 @@ module _ {V : Type 0} where
   head_read : (m : Lodged V) (above previous : Option Id) {ms : List (Placed V)} (at : Id) (links : Links) (l : Leaf) (x : IsHead ms at)
       → ChainStands (leaves_in m) above previous ms → AreLinks m at links → l ≡ leaf_of links
       → l ≡ record { key = x.first.entry.key; rank = x.first.entry.rank; above = above; next = first_room x.behind; previous = previous }
-  head_read m above previous at links l x stands are is = is
-      ∙ leaf_read m at links (head_said m above previous x stands) (ap (λ i. i.block) x.room_is) are
+  head_read m above previous at links l x stands are is = is ∙ leaf_read m at links (head_said m above previous x stands) (ap (λ i. i.block) x.room_is) are
 
   pub Has-first : {m : Lodged V} (c : Run m) (first : Id) → first_room c.members ≡ Some first → Has m first
   Has-first {m = m} c first begins = head_there m c.above c.previous first (head_of c.members begins) c.stands
@@ -77,88 +77,82 @@ module _ {V : Type 0} where
         few = omega arith;
       }
 
-  rest_stands : (m : Lodged V) {rank : ℕ} (c : Run m) {above previous next : Option Id} {steps : ℕ} (p : Passed rank c above previous next steps)
-      → ChainStands (leaves_in m) (above_behind c.above p.front) (last_room c.previous p.front) p.back
-  rest_stands m c p = behind_stands (leaves_in m) c.above c.previous p.front p.back (subst (ChainStands (leaves_in m) c.above c.previous) p.is c.stands)
+  module _ {m : Lodged V} {rank : ℕ} {c : Run m} {above previous next : Option Id} {steps : ℕ} (p : Passed rank c above previous next steps) where
+    rest_stands : ChainStands (leaves_in m) (above_behind c.above p.front) (last_room c.previous p.front) p.back
+    rest_stands = behind_stands (leaves_in m) c.above c.previous p.front p.back (subst (ChainStands (leaves_in m) c.above c.previous) p.is c.stands)
 
-  member_at : (m : Lodged V) {rank : ℕ} {c : Run m} {above previous next : Option Id} {steps : ℕ} {at : Id} (p : Passed rank c above previous next steps)
-      → next ≡ Some at → IsHead p.back at
-  member_at m p is = head_of p.back (sym p.next_is ∙ is)
+    member_at : {at : Id} → next ≡ Some at → IsHead p.back at
+    member_at is = head_of p.back (sym p.next_is ∙ is)
 
-  pub Has-at : (m : Lodged V) {rank : ℕ} (c : Run m) {above previous next : Option Id} {steps : ℕ} (at : Id) → Passed rank c above previous next steps
-      → next ≡ Some at → Has m at
-  Has-at m c at p is = head_there m (above_behind c.above p.front) (last_room c.previous p.front) at (member_at m p is) (rest_stands m c p)
+    pub Has-at : (at : Id) → next ≡ Some at → Has m at
+    Has-at at is = head_there m (above_behind c.above p.front) (last_room c.previous p.front) at (member_at is) rest_stands
 
-  pub few_at : (m : Lodged V) {rank : ℕ} (c : Run m) {above previous next : Option Id} (steps : ℕ) {at : Id} → Passed rank c above previous next steps
-      → next ≡ Some at → steps ≤ 34
-  few_at m c steps p is =
-      let x = member_at m p is in
-      let some = ap length x.is in
-      let few = p.few in omega arith
+    pub few_at : {at : Id} → next ≡ Some at → steps ≤ 34
+    few_at is =
+        let x = member_at is in
+        let some = ap length x.is in
+        let few = p.few in omega arith
 
-  read_at : (m : Lodged V) {rank : ℕ} (c : Run m) {above previous next : Option Id} {steps : ℕ} (at : Id) (links : Links) (l : Leaf)
-      (p : Passed rank c above previous next steps) (is : next ≡ Some at) → AreLinks m at links → l ≡ leaf_of links
-      → (x : IsHead p.back at) × (l.rank ≡ x.first.entry.rank) × (l.next ≡ first_room x.behind)
-  read_at m c at links l p is are leaf =
-      let x = member_at m p is in
-      let read = head_read m (above_behind c.above p.front) (last_room c.previous p.front) at links l x (rest_stands m c p) are leaf in
-      (x, ap (λ z. z.rank) read, ap (λ z. z.next) read)
+    read_at : (at : Id) (links : Links) (l : Leaf) (is : next ≡ Some at) → AreLinks m at links → l ≡ leaf_of links
+        → (x : IsHead p.back at) × (l.rank ≡ x.first.entry.rank) × (l.next ≡ first_room x.behind)
+    read_at at links l is are leaf =
+        let x = member_at is in
+        let read = head_read m (above_behind c.above p.front) (last_room c.previous p.front) at links l x rest_stands are leaf in
+        (x, ap (λ z. z.rank) read, ap (λ z. z.next) read)
 
-  -- a member of a greater rank is passed
-  pub passed : (m : Lodged V) (rank : ℕ) (c : Run m) {above previous next : Option Id} (steps : ℕ) (at : Id) (links : Links) {l : Leaf}
-      → Passed rank c above previous next steps → next ≡ Some at → AreLinks m at links → l ≡ leaf_of links
-      → rank < l.rank → Passed rank c None (Some at) l.next (steps + 1)
-  passed m rank c steps at links {l = l} p is are leaf lt =
-      let r = read_at m c at links l p is are leaf in
-      let x = r.0 in
-      let same = r.1 in
-      let few = p.few in
-      let some = ap length x.is in
-      record {
-        front = p.front ++ (x.first ∷ []);
-        back = x.behind;
-        is = p.is ∙ ap (λ ms. p.front ++ ms) x.is ∙ sym (append_assoc p.front (x.first ∷ []) x.behind);
-        past = past_more rank p.front x.first p.past (omega arith);
-        above_is = sym (above_more c.above p.front x.first);
-        previous_is = sym (last_more c.previous p.front x.first ∙ ap Some x.room_is);
-        next_is = r.2;
-        few = omega arith;
-      }
+    -- a member of a greater rank is passed
+    pub passed : (at : Id) (links : Links) {l : Leaf} → next ≡ Some at → AreLinks m at links → l ≡ leaf_of links → rank < l.rank
+        → Passed rank c None (Some at) l.next (steps + 1)
+    passed at links {l = l} is are leaf lt =
+        let r = read_at at links l is are leaf in
+        let x = r.0 in
+        let same = r.1 in
+        let few = p.few in
+        let some = ap length x.is in
+        record {
+          front = p.front ++ (x.first ∷ []);
+          back = x.behind;
+          is = p.is ∙ ap (λ ms. p.front ++ ms) x.is ∙ sym (append_assoc p.front (x.first ∷ []) x.behind);
+          past = past_more rank p.front x.first p.past (omega arith);
+          above_is = sym (above_more c.above p.front x.first);
+          previous_is = sym (last_more c.previous p.front x.first ∙ ap Some x.room_is);
+          next_is = r.2;
+          few = omega arith;
+        }
 
-  -- a member has the rank
-  pub taken : (m : Lodged V) (key : ℕ) {rank : ℕ} (c : Run m) {above previous next : Option Id} {steps : ℕ} (at : Id) (links : Links) {l : Leaf}
-      → Passed rank c above previous next steps → next ≡ Some at → AreLinks m at links → l ≡ leaf_of links → l.rank ≡ rank → FindsGap key rank c None
-  taken m key c at links {l = l} p is are leaf same =
-      let r = read_at m c at links l p is are leaf in
-      let x = r.0 in (
-        x.first,
-        subst (IsAmong x.first) (sym p.is) (in_back p.front p.back x.first (subst (IsAmong x.first) (sym x.is) (inl refl))),
-        sym r.1 ∙ same,
-      )
+    -- a member has the rank
+    pub taken : (key : ℕ) (at : Id) (links : Links) {l : Leaf} → next ≡ Some at → AreLinks m at links → l ≡ leaf_of links → l.rank ≡ rank
+        → FindsGap key rank c None
+    taken key at links {l = l} is are leaf same =
+        let r = read_at at links l is are leaf in
+        let x = r.0 in (
+          x.first,
+          subst (IsAmong x.first) (sym p.is) (in_back p.front p.back x.first (subst (IsAmong x.first) (sym x.is) (inl refl))),
+          sym r.1 ∙ same,
+        )
 
-  gap_of : (m : Lodged V) (key rank : ℕ) (c : Run m) (above previous next : Option Id) {steps : ℕ} (p : Passed rank c above previous next steps)
-      → IsBelow rank p.back → FindsGap key rank c (Some (record { key = key; rank = rank; above = above; next = next; previous = previous }))
-  gap_of m key rank c above previous next p below = record {
-    front = p.front;
-    back = p.back;
-    is = p.is;
-    past = p.past;
-    below = below;
-    leaf = ap (λ o. record { key = key; rank = rank; above = o; next = next; previous = previous }) p.above_is
-        ∙ ap (λ o. record { key = key; rank = rank; above = above_behind c.above p.front; next = o; previous = previous }) p.next_is
-        ∙ ap (λ o. record { key = key; rank = rank; above = above_behind c.above p.front; next = first_room p.back; previous = o }) p.previous_is;
-  }
+    gap_of : (key : ℕ) → IsBelow rank p.back
+        → FindsGap key rank c (Some (record { key = key; rank = rank; above = above; next = next; previous = previous }))
+    gap_of key below = record {
+      front = p.front;
+      back = p.back;
+      is = p.is;
+      past = p.past;
+      below = below;
+      leaf = ap (λ o. record { key = key; rank = rank; above = o; next = next; previous = previous }) p.above_is
+          ∙ ap (λ o. record { key = key; rank = rank; above = above_behind c.above p.front; next = o; previous = previous }) p.next_is
+          ∙ ap (λ o. record { key = key; rank = rank; above = above_behind c.above p.front; next = first_room p.back; previous = o }) p.previous_is;
+    }
 
-  -- the first one of a smaller rank
-  pub found : (m : Lodged V) (key rank : ℕ) (c : Run m) {above previous next : Option Id} {steps : ℕ} (at : Id) (links : Links) {l : Leaf}
-      → Passed rank c above previous next steps → next ≡ Some at → AreLinks m at links → l ≡ leaf_of links
-      → l.rank < rank → FindsGap key rank c (Some (record { key = key; rank = rank; above = above; next = next; previous = previous }))
-  found m key rank c {above = above} {previous = previous} {next = next} at links {l = l} p is are leaf lt =
-      let r = read_at m c at links l p is are leaf in
-      let x = r.0 in
-      let same = r.1 in
-      let less : x.first.entry.rank < rank = omega arith in
-      gap_of m key rank c above previous next p (subst (IsBelow rank) (sym x.is) less)
+    -- the first one of a smaller rank
+    pub found : (key : ℕ) (at : Id) (links : Links) {l : Leaf} → next ≡ Some at → AreLinks m at links → l ≡ leaf_of links → l.rank < rank
+        → FindsGap key rank c (Some (record { key = key; rank = rank; above = above; next = next; previous = previous }))
+    found key at links {l = l} is are leaf lt =
+        let r = read_at at links l is are leaf in
+        let x = r.0 in
+        let same = r.1 in
+        let less : x.first.entry.rank < rank = omega arith in
+        gap_of key (subst (IsBelow rank) (sym x.is) less)
 
   none_below : (rank : ℕ) (back : List (Placed V)) → first_room back ≡ None → IsBelow rank back
   none_below rank [] ends = tt
@@ -167,5 +161,4 @@ module _ {V : Type 0} where
   -- the end of the chain
   pub ended : (m : Lodged V) (key rank : ℕ) (c : Run m) {above previous next : Option Id} {steps : ℕ} → Passed rank c above previous next steps → next ≡ None
       → FindsGap key rank c (Some (record { key = key; rank = rank; above = above; next = next; previous = previous }))
-  ended m key rank c {above = above} {previous = previous} {next = next} p is =
-      gap_of m key rank c above previous next p (none_below rank p.back (sym p.next_is ∙ is))
+  ended m key rank c {above = above} {previous = previous} {next = next} p is = gap_of p key (none_below rank p.back (sym p.next_is ∙ is))

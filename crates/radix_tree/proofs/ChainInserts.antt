@@ -39,23 +39,22 @@ module _ {V : Type 0} where
   place_above m key whole at ups (f ∷ front) way top is = absurd (none_some is)
 
   -- ---- the gap in the chain of a leaf
-  abbrev pub chain_of : (m : Lodged V) {key : ℕ} {whole : Part m} {first : Id} → LedTo key whole first → Run m
-  chain_of m d = leaf_run m d.leaf
+  module _ {m : Lodged V} {key : ℕ} {whole : Part m} {first : Id} (d : LedTo key whole first) where
+    abbrev pub chain_of : Run m
+    chain_of = leaf_run m d.leaf
 
-  pub gap_before : (m : Lodged V) {key rank : ℕ} {whole : Part m} {first : Id} (d : LedTo key whole first) {l : Leaf} → IsGap rank (chain_of m d) key l
-      → (r : Id) → l.previous ≡ Some r → Has m r
-  gap_before m d g r is =
-      let c = chain_of m d in
-      last_there m d.part.above None g.front g.back r (subst (ChainStands (leaves_in m) d.part.above None) g.is c.stands)
-      (sym (ap (λ z. z.previous) g.leaf) ∙ is)
+    pub gap_before : {rank : ℕ} {l : Leaf} → IsGap rank chain_of key l → (r : Id) → l.previous ≡ Some r → Has m r
+    gap_before g r is =
+        let c = chain_of in
+        last_there m d.part.above None g.front g.back r (subst (ChainStands (leaves_in m) d.part.above None) g.is c.stands)
+        (sym (ap (λ z. z.previous) g.leaf) ∙ is)
 
-  pub gap_behind : (m : Lodged V) {key rank : ℕ} {whole : Part m} {first : Id} (d : LedTo key whole first) {l : Leaf} → IsGap rank (chain_of m d) key l
-      → (r : Id) → l.next ≡ Some r → Has m r
-  gap_behind m d g r is =
-      let c = chain_of m d in
-      first_there m (above_behind d.part.above g.front) (last_room None g.front) g.back r
-      (behind_stands (leaves_in m) d.part.above None g.front g.back (subst (ChainStands (leaves_in m) d.part.above None) g.is c.stands))
-      (sym (ap (λ z. z.next) g.leaf) ∙ is)
+    pub gap_behind : {rank : ℕ} {l : Leaf} → IsGap rank chain_of key l → (r : Id) → l.next ≡ Some r → Has m r
+    gap_behind g r is =
+        let c = chain_of in
+        first_there m (above_behind d.part.above g.front) (last_room None g.front) g.back r
+        (behind_stands (leaves_in m) d.part.above None g.front g.back (subst (ChainStands (leaves_in m) d.part.above None) g.is c.stands))
+        (sym (ap (λ z. z.next) g.leaf) ∙ is)
 
   -- it is there once the room is lodged
   pub lodged_above : (m new : Lodged V) (room : Id) (value : V) (l : Leaf) (up : Id) → leaves_in m room.number ≡ None
@@ -67,7 +66,7 @@ module _ {V : Type 0} where
   )
 
   pub gap_above : (m : Lodged V) {key rank : ℕ} (whole : Part m) {first : Id} (d : LedTo key whole first) {l : Leaf} → whole.above ≡ None
-      → IsGap rank (chain_of m d) key l → (up : Id) → l.above ≡ Some up → (p : Part m) × ForkAt p up
+      → IsGap rank (chain_of d) key l → (up : Id) → l.above ≡ Some up → (p : Part m) × ForkAt p up
   gap_above m {key = key} whole d top g up is = place_above m key whole d.part d.ups g.front d.way top (sym (ap (λ z. z.above) g.leaf) ∙ is)
 
   -- ---- what the writes leave
@@ -137,12 +136,12 @@ module _ {V : Type 0} where
       omega arith
 
   module _ {m : Lodged V} (e : Entry V) {first : Id} {root : Node} (w : IsWhole m root) (d : LedTo e.key w.part first) {l : Leaf}
-      (g : IsGap e.rank (chain_of m d) e.key l) where
+      (g : IsGap e.rank (chain_of d) e.key l) where
     -- the chain afterwards
     abbrev pub in_chain : (new : Lodged V) (id : Id) → d.leaf.first.entry.key ≡ e.key → IsRoute e → IsWritten m new id e l
         → Rechained m new e.key w.part d.part (g.front ++ g.back) (g.front ++ (placed id e ∷ g.back))
     in_chain new id same route wr =
-        let c = chain_of m d in
+        let c = chain_of d in
         let once = chain_once m e.key w.part d.part d.ups d.way (once_but w) d.leaf.is g.is in
         let key = cons_key g.front g.back (placed id e) d.leaf.first d.leaf.rest g.is same in
         let most = route.rank in
@@ -175,18 +174,17 @@ module _ {V : Type 0} where
     pub inserted_whole : (new : Lodged V) (id : Id) → d.leaf.first.entry.key ≡ e.key → IsRoute e → IsWritten m new id e l
         → IsWholeBut new (root_past l.previous l.above (LeafOf id) root) (late_at id.number) nobody_out
     inserted_whole new id same route wr = subst (λ z. IsWholeBut new z (late_at id.number) nobody_out) (in_name new id)
-        (grown_whole m new e.key w d.part d.ups g.front g.back (placed id e) d.way (in_chain new id same route wr) wr.free
-        wr.no_mask wr.no_bit (linked_rooms m new id e.value l wr.leaves))
+        (grown_whole w g.front g.back (placed id e) (in_chain new id same route wr) d.ups d.way wr.free wr.no_mask wr.no_bit
+        (linked_rooms m new id e.value l wr.leaves))
 
     pub inserted_routes : (new : Lodged V) (id : Id) → d.leaf.first.entry.key ≡ e.key → IsRoute e → IsWritten m new id e l
         → Gains e (shown m (Some root)) (shown new (Some (root_past l.previous l.above (LeafOf id) root)))
     inserted_routes new id same route wr = subst (λ z. Gains e (shown m (Some root)) (shown new (Some z))) (in_name new id)
-        (grown_routes m new root w d.part d.ups g.front g.back (placed id e) d.way (in_chain new id same route wr))
+        (grown_routes w g.front g.back (placed id e) (in_chain new id same route wr) d.ups d.way)
 
   -- ---- a member has the rank
   pub taken_there : {m : Lodged V} (key rank : ℕ) {root : Node} {first : Id} (w v : IsWhole m root) (d : LedTo key w.part first) → d.leaf.first.entry.key ≡
-      key
-      → FindsGap key rank (chain_of m d) None → (x : Placed V) × IsIn x v.part.tree × HasPair key rank x
+      key → FindsGap key rank (chain_of d) None → (x : Placed V) × IsIn x v.part.tree × HasPair key rank x
   taken_there {m = m} key rank w v d same g =
       let x = g.0 in
       let inside_leaf = in_leaf m d.leaf g.0 g.1 in
@@ -196,7 +194,7 @@ module _ {V : Type 0} where
       let counts = v.leaves g.0.room.number in
       let one = ap (λ o. one_if (is_some o)) s.3 in
       let r = room_route m v.part g.0.room.number s.3 (omega arith) in
-      let c = chain_of m d in (
+      let c = chain_of d in (
         r.route,
         r.is_in,
         (ap (λ z. z.key) r.entry ∙ chain_key c.key c.top c.members c.is g.0 g.1 ∙ same, ap (λ z. z.rank) r.entry ∙ g.2),

@@ -33,42 +33,39 @@ module _ {V : Type 0} where
   pub leaf_chain : {m : Lodged V} (at : Part m) {z : Placed V} {zs c : List (Placed V)} → at.tree ≡ leaf z zs → z ∷ zs ≡ c → IsChain z.entry.key 34 c
   leaf_chain at {z = z} is same = subst (IsChain z.entry.key 34) same (subst (IsTree at.low) is at.is).1
 
-  pub member_of : {m : Lodged V} {root : Node} {late : ℕ → Bool} (w : IsWholeBut m root late nobody_out) (n : ℕ) {p : LeafPart V} → leaves_in m n ≡ Some p
-      → IsMember m w.part n p
-  member_of {m = m} w n said =
-      let counts = w.leaves n in
-      let one = ap (λ o. one_if (is_some o)) said in
-      let r = room_route m w.part n said (omega arith) in
-      let f = way_to_leaf m w.part r.route r.is_in in
-      let s = split_at (f.at.first ∷ f.at.rest) r.route (among_leaf m f.at r.route f.among) in
-      let stands = behind_stands (leaves_in m) f.part.above None s.front (r.route ∷ s.back) (leaf_stands m f.part f.at.is s.is) in
-      record {
-        x = r.route;
-        part = f.part;
-        ups = f.ups;
-        way = f.way;
-        first = f.at.first;
-        rest = f.at.rest;
-        front = s.front;
-        back = s.back;
-        is = f.at.is;
-        split = s.is;
-        number = r.number;
-        part_is = inside (sym said ∙ ap (leaves_in m) (sym r.number) ∙ stands.0);
-      }
+  module _ {m : Lodged V} {root : Node} {late : ℕ → Bool} (w : IsWholeBut m root late nobody_out) where
+    pub member_of : (n : ℕ) {p : LeafPart V} → leaves_in m n ≡ Some p → IsMember m w.part n p
+    member_of n said =
+        let counts = w.leaves n in
+        let one = ap (λ o. one_if (is_some o)) said in
+        let r = room_route m w.part n said (omega arith) in
+        let f = way_to_leaf m w.part r.route r.is_in in
+        let s = split_at (f.at.first ∷ f.at.rest) r.route (among_leaf m f.at r.route f.among) in
+        let stands = behind_stands (leaves_in m) f.part.above None s.front (r.route ∷ s.back) (leaf_stands m f.part f.at.is s.is) in
+        record {
+          x = r.route;
+          part = f.part;
+          ups = f.ups;
+          way = f.way;
+          first = f.at.first;
+          rest = f.at.rest;
+          front = s.front;
+          back = s.back;
+          is = f.at.is;
+          split = s.is;
+          number = r.number;
+          part_is = inside (sym said ∙ ap (leaves_in m) (sym r.number) ∙ stands.0);
+        }
 
-  pub member_once : (m : Lodged V) {root : Node} {late : ℕ → Bool} (w : IsWholeBut m root late nobody_out) {n : ℕ} {p : LeafPart V}
-      (b : IsMember m w.part n p)
-      → (k : ℕ) → members_at k (b.front ++ (b.x ∷ b.back)) ≤ 1
-  member_once m w b = chain_once m b.x.entry.key w.part b.part b.ups b.way (once_but w) b.is b.split
+    pub member_once : {n : ℕ} {p : LeafPart V} (b : IsMember m w.part n p) (k : ℕ) → members_at k (b.front ++ (b.x ∷ b.back)) ≤ 1
+    member_once b = chain_once m b.x.entry.key w.part b.part b.ups b.way (once_but w) b.is b.split
 
-  -- the room itself is not among the others
-  pub own_out : (m : Lodged V) {root : Node} {late : ℕ → Bool} (w : IsWholeBut m root late nobody_out) (n : ℕ) (p : LeafPart V) (b : IsMember m w.part n p)
-      → members_at n (b.front ++ b.back) ≡ 0
-  own_out m w n p b =
-      let most = member_once m w b n in
-      let more = members_more n b.front b.back b.x in
-      let one = ap one_if (eq-eqb b.x.room.number n b.number) in omega arith
+    -- the room itself is not among the others
+    pub own_out : (n : ℕ) (p : LeafPart V) (b : IsMember m w.part n p) → members_at n (b.front ++ b.back) ≡ 0
+    own_out n p b =
+        let most = member_once b n in
+        let more = members_more n b.front b.back b.x in
+        let one = ap one_if (eq-eqb b.x.room.number n b.number) in omega arith
 
   -- ---- what the writes leave
   pub record IsUnlinked (m new : Lodged V) (l : Leaf) : Type 0 where
@@ -163,7 +160,7 @@ module _ {V : Type 0} where
         is = b.is;
         key_is = key;
         chain = subst (λ k. IsChain k 34 (b.front ++ b.back)) (sym key) less;
-        stands = linked_out (leaves_in m) (leaves_in new) b.part.above b.front b.back b.x (leaf_stands m b.part b.is b.split) (member_once m w b)
+        stands = linked_out (leaves_in m) (leaves_in new) b.part.above b.front b.back b.x (leaf_stands m b.part b.is b.split) (member_once w b)
             (λ k. u.leaves k ∙ ap (λ q. link_out q.leaf k (leaves_in m k)) b.part_is);
         leaves = λ k none some.
             let more = members_more k b.front b.back b.x in

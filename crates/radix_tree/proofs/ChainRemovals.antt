@@ -44,7 +44,7 @@ module _ {V : Type 0} where
         → IsLeft m new b.x.entry.key w.part b.part b.front b.back name → IsWholeBut new name nobody_late (out_at n)
     removed_whole {new = new} unmarked u l = subst (λ z. IsWholeBut new z nobody_late (out_at n)) l.named
         (subst (λ k. IsWholeBut new (root_after b.part.above (LeafOf l.cons.first.room) (name_of w.part.tree)) nobody_late (out_at k)) b.number
-        (shrunk_whole m new b.x.entry.key b.front b.back b.x late_here b.part b.ups b.way (out_chain m new w n p b u l) (member_once m w b)
+        (shrunk_whole m new b.x.entry.key b.front b.back b.x late_here b.part b.ups b.way (out_chain m new w n p b u l) (member_once w b)
         (ap (masks_in m) b.number ∙ unmarked) (routes_some m new (unlinked_routes m new p.leaf u.leaves))))
 
     pub removed_routes : {new : Lodged V} {name : Node} → IsUnlinked m new p.leaf → IsLeft m new b.x.entry.key w.part b.part b.front b.back name
@@ -56,7 +56,7 @@ module _ {V : Type 0} where
   pub own_kept : {m new : Lodged V} {root : Node} {late : ℕ → Bool} (w : IsWholeBut m root late nobody_out) {n : ℕ} {p : LeafPart V}
       (b : IsMember m w.part n p) → IsUnlinked m new p.leaf → leaves_in new n ≡ leaves_in m n
   own_kept {m = m} {new = new} w {n = n} {p = p} b u = out_others (leaves_in m) (leaves_in new) b.front b.back p.leaf n (ap (λ q. q.leaf.next) b.part_is)
-      (ap (λ q. q.leaf.previous) b.part_is) (u.leaves n) (own_out m w n p b)
+      (ap (λ q. q.leaf.previous) b.part_is) (u.leaves n) (own_out w n p b)
 
   pub left_bits : {m new : Lodged V} {key : ℕ} {whole at : Part m} {front back : List (Placed V)} {name : Node} → IsLeft m new key whole at front back name
       → (n : ℕ) → is_some (bits_in new n) ≡ is_some (bits_in m n)
@@ -83,8 +83,7 @@ module _ {V : Type 0} where
   pub idle_others : {m new : Lodged V} {root name : Node} {late : ℕ → Bool} (w : IsWholeBut m root late nobody_out) {n : ℕ} (p : LeafPart V)
       (b : IsMember m w.part n p) → IsUnlinked m new p.leaf
       → IsLeft m new b.x.entry.key w.part b.part b.front b.back name → {used : BitPart} → bits_in new n ≡ Some used → (k : ℕ) → has_key new p.leaf.key k ≡
-      true
-      → (k ≡ n → ⊥) → bits_in new k ≡ None
+      true → (k ≡ n → ⊥) → bits_in new k ≡ None
   idle_others {m = m} {new = new} w {n = n} p b u l is k keyed other =
       let some = left_bits l in
       let q =
@@ -127,8 +126,8 @@ module _ {V : Type 0} where
       let all : 1 ≤ members_at to.number (b.front ++ (b.x ∷ b.back)) = omega arith in
       let first_key = sym (chain_key b.first.entry.key 34 (b.front ++ (b.x ∷ b.back)) (leaf_chain b.part b.is b.split) b.x (among_own b.front b.back b.x))
       ∙ sym (ap (λ q. q.leaf.key) b.part_is) in
-      let out = own_out m w n p b in (
-        Has-linked_out m new p.leaf to u.leaves there,
+      let out = own_out w n p b in (
+        Has-linked_out there new p.leaf u.leaves,
         λ same. let at = ap (λ k. members_at k (b.front ++ b.back)) same in
             omega arith,
         routes_key m new (unlinked_routes m new p.leaf u.leaves) p.leaf.key to.number ∙ ap (λ k. has_key m k to.number) (sym first_key)

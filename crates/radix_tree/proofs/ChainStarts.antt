@@ -70,20 +70,20 @@ module _ {V : Type 0} where
     pub room_is : is.room ≡ room
     pub few : steps ≤ is.entry.rank
 
-  pub earlier : (m : Lodged V) (c : Run m) {at : Id} {before : Option Id} {room : Id} (steps : ℕ) → Back c at before steps → before ≡ Some room
-      → Earlier c room steps
-  earlier m c {before = before} steps b is =
-      let few = b.few in
-      elim b.prior [
-        | inl first ↦ absurd (none_some (sym first.1 ∙ is))
-        | inr w ↦ let greater = w.3 in
-            record { is = w.0; among = w.1; room_is = inside (sym w.2 ∙ is); few = omega arith }
-      ]
+  module _ {m : Lodged V} {c : Run m} {at : Id} {before : Option Id} {steps : ℕ} (b : Back c at before steps) where
+    pub earlier : {room : Id} → before ≡ Some room → Earlier c room steps
+    earlier is =
+        let few = b.few in
+        elim b.prior [
+          | inl first ↦ absurd (none_some (sym first.1 ∙ is))
+          | inr w ↦ let greater = w.3 in
+              record { is = w.0; among = w.1; room_is = inside (sym w.2 ∙ is); few = omega arith }
+        ]
 
-  pub few_at : (m : Lodged V) (c : Run m) {at : Id} {before : Option Id} (steps : ℕ) → Back c at before steps → steps ≤ 34
-  few_at m c steps b =
-      let most = (chain_route c.key c.top c.members c.is b.is b.among).rank in let few = b.few in
-      omega arith
+    pub few_at : steps ≤ 34
+    few_at =
+        let most = (chain_route c.key c.top c.members c.is b.is b.among).rank in let few = b.few in
+        omega arith
 
-  pub ended : (m : Lodged V) (c : Run m) {at : Id} {before : Option Id} {steps : ℕ} → Back c at before steps → before ≡ None → first_room c.members ≡ Some at
-  ended m c {before = before} b none = elim b.prior [ inl first ↦ first.0 ∙ ap Some b.room_is | inr w ↦ absurd (none_some (sym none ∙ w.2)) ]
+    pub ended : before ≡ None → first_room c.members ≡ Some at
+    ended none = elim b.prior [ inl first ↦ first.0 ∙ ap Some b.room_is | inr w ↦ absurd (none_some (sym none ∙ w.2)) ]

@@ -23,7 +23,7 @@ module _ {V : Type 0} where
       record {
         leaves = λ n.
             let o = old_counts r n in
-            let t = now_counts m new r n in
+            let t = now_counts r n in
             let more = members_more n front back x in
             let rise = ap one_if (rooms n) ∙ one_more (λ k. is_some (leaves_in m k)) x.room.number n (ap is_some free) in omega arith;
         forks = λ n. same_forks m new key whole at r n;
@@ -32,8 +32,8 @@ module _ {V : Type 0} where
         masks_above = λ y is below marked. r.masks y.room.number;
         marks = λ n p e. (p, sym (r.masks n) ∙ e);
         kept = λ y is marked. (
-          subst (IsAmong y) r.cons.is (among_more front back x y (old_among m new r y is)),
-          λ home. absurd (no_home m new r y.entry.key y.entry.rank home),
+          subst (IsAmong y) r.cons.is (among_more front back x y (old_among r y is)),
+          λ home. absurd (no_home r y.entry.key y.entry.rank home),
         );
         came = λ y is marked. elim (split y is) [ inl e ↦ absurd (not_marked m new x y r.masks unmarked e marked) | inr own ↦ among_old r y own ];
         gone = λ y is below marked. same_marks r y marked;
@@ -60,7 +60,7 @@ module _ {V : Type 0} where
       record {
         leaves = λ n.
             let o = old_counts r n in
-            let t = now_counts m new r n in
+            let t = now_counts r n in
             let more = members_more n front back x in
             let same = ap one_if (rooms n) in
             let about = turned_about x.room.number n in omega arith;
@@ -70,11 +70,11 @@ module _ {V : Type 0} where
         masks_above = λ y is below marked. r.masks y.room.number;
         marks = λ n p e. (p, sym (r.masks n) ∙ e);
         kept = λ y is marked. (
-          elim (among_less front back x y (old_among m new r y is)) [
+          elim (among_less front back x y (old_among r y is)) [
             | inl e ↦ absurd (not_marked m new x y r.masks unmarked e marked)
             | inr own ↦ subst (IsAmong y) r.cons.is own
           ],
-          λ home. absurd (no_home m new r y.entry.key y.entry.rank home),
+          λ home. absurd (no_home r y.entry.key y.entry.rank home),
         );
         came = λ y is marked. among_old r y (among_more front back x y (own_now y is));
         gone = λ y is below marked. same_marks r y marked;
@@ -98,21 +98,17 @@ module _ {V : Type 0} where
       }
 
   -- ---- the whole
-  pub grown_whole : (m new : Lodged V) {root : Node} (key : ℕ) (w : IsWholeBut m root nobody_late nobody_out) (at : Part m) (ups : List (Part m))
-      (front back : List (Placed V)) (x : Placed V) → Way key w.part at ups
-      → (r : Rechained m new key w.part at (front ++ back) (front ++ (x ∷ back)))
-      → leaves_in m x.room.number ≡ None → masks_in m x.room.number ≡ None → bits_in m x.room.number ≡ None
-      → ((n : ℕ) → is_some (leaves_in new n) ≡ (n == x.room.number) || is_some (leaves_in m n))
-      → IsWholeBut new (root_after at.above (LeafOf r.cons.first.room) (name_of w.part.tree)) (late_at x.room.number) nobody_out
-  grown_whole m new key w at ups front back x way r free unmarked idle rooms =
-      rechained m new key w at ups way r (fits_in m new key w.part at front back x r free unmarked rooms)
-      (λ one. one_fork_more (bits_in m) front back x one idle)
+  module _ {m new : Lodged V} {root : Node} {key : ℕ} (w : IsWholeBut m root nobody_late nobody_out) {at : Part m} (front back : List (Placed V))
+      (x : Placed V) (r : Rechained m new key w.part at (front ++ back) (front ++ (x ∷ back))) where
+    pub grown_whole : (ups : List (Part m)) → Way key w.part at ups → leaves_in m x.room.number ≡ None → masks_in m x.room.number ≡ None
+        → bits_in m x.room.number ≡ None → ((n : ℕ) → is_some (leaves_in new n) ≡ (n == x.room.number) || is_some (leaves_in m n))
+        → IsWholeBut new (root_after at.above (LeafOf r.cons.first.room) (name_of w.part.tree)) (late_at x.room.number) nobody_out
+    grown_whole ups way free unmarked idle rooms =
+        rechained w r ups way (fits_in m new key w.part at front back x r free unmarked rooms) (λ one. one_fork_more (bits_in m) front back x one idle)
 
-  pub grown_routes : (m new : Lodged V) (root : Node) {key : ℕ} (w : IsWholeBut m root nobody_late nobody_out) (at : Part m) (ups : List (Part m))
-      (front back : List (Placed V)) (x : Placed V) → Way key w.part at ups
-      → (r : Rechained m new key w.part at (front ++ back) (front ++ (x ∷ back)))
-      → Gains x.entry (shown m (Some root)) (shown new (Some (root_after at.above (LeafOf r.cons.first.room) (name_of w.part.tree))))
-  grown_routes m new root w at ups front back x way r = gains_spliced (spliced m new root w at ups way r) (routes_more front back x)
+    pub grown_routes : (ups : List (Part m)) → Way key w.part at ups
+        → Gains x.entry (shown m (Some root)) (shown new (Some (root_after at.above (LeafOf r.cons.first.room) (name_of w.part.tree))))
+    grown_routes ups way = gains_spliced (spliced w r ups way) (routes_more front back x)
 
   pub shrunk_whole : (m new : Lodged V) {root : Node} (key : ℕ) (front back : List (Placed V)) (x : Placed V)
       (w : IsWholeBut m root (late_at x.room.number) nobody_out) (at : Part m) (ups : List (Part m)) → Way key w.part at ups
@@ -120,11 +116,10 @@ module _ {V : Type 0} where
       → ((n : ℕ) → members_at n (front ++ (x ∷ back)) ≤ 1) → masks_in m x.room.number ≡ None → ((n : ℕ) → is_some (leaves_in new n) ≡ is_some (leaves_in m n))
       → IsWholeBut new (root_after at.above (LeafOf r.cons.first.room) (name_of w.part.tree)) nobody_late (out_at x.room.number)
   shrunk_whole m new key front back x w at ups way r once unmarked rooms =
-      rechained m new key w at ups way r (fits_out m new key w.part at front back x r once unmarked rooms)
-      (λ one. one_fork_less (bits_in m) front back x one)
+      rechained w r ups way (fits_out m new key w.part at front back x r once unmarked rooms) (λ one. one_fork_less (bits_in m) front back x one)
 
   pub shrunk_routes : (m new : Lodged V) (root : Node) {late : ℕ → Bool} {key : ℕ} (front back : List (Placed V)) (x : Placed V)
       (w : IsWholeBut m root late nobody_out) (at : Part m) (ups : List (Part m)) → Way key w.part at ups
       → (r : Rechained m new key w.part at (front ++ (x ∷ back)) (front ++ back))
       → Gains x.entry (shown new (Some (root_after at.above (LeafOf r.cons.first.room) (name_of w.part.tree)))) (shown m (Some root))
-  shrunk_routes m new root front back x w at ups way r = loses_spliced (spliced m new root w at ups way r) (routes_more front back x)
+  shrunk_routes m new root front back x w at ups way r = loses_spliced (spliced w r ups way) (routes_more front back x)

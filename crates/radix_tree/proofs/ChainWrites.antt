@@ -5,38 +5,39 @@ use Rattle.radix_tree.proofs.Words.{leaf_back, name_next, name_back, link_in, li
 use Rattle.radix_tree.proofs.RoomReads.{none_some, AreLinks, Has-leaf}
 
 module _ {V : Type 0} where
-  abbrev pub own_part : {m : Lodged V} {room : Id} → Has m room → LeafPart V
-  own_part h = record { block = h.room.block; value = h.room.value; leaf = leaf_of h.room.links }
+  module _ {m : Lodged V} {room : Id} (h : Has m room) where
+    abbrev pub own_part : LeafPart V
+    own_part = record { block = h.room.block; value = h.room.value; leaf = leaf_of h.room.links }
 
-  pub own_said : {m : Lodged V} {room : Id} (h : Has m room) → leaves_in m room.number ≡ Some (own_part h)
-  own_said h = ap leaf_in h.at
+    pub own_said : leaves_in m room.number ≡ Some own_part
+    own_said = ap leaf_in h.at
 
-  pub next_put : {m : Lodged V} (room : Id) (links : Links) {l : Leaf} (next : Option Id) (n : ℕ) → Has m room → AreLinks m room links → l ≡ leaf_of links
-      → put_leaf room (record l { next = next }) n (leaves_in m n) ≡ (if n == room.number then leaf_next next (leaves_in m n) else leaves_in m n)
-  next_put {m = m} room links {l = l} next n h are leaf =
-      let read = leaf ∙ ap leaf_of (are h.room h.at) in
-      elim (n == room.number) as (λ t. (n == room.number) ≡ t
-      → (if t then with_leaf (record l { next = next }) (leaves_in m n) else leaves_in m n) ≡ (if t then leaf_next next (leaves_in m n) else leaves_in m n)) [
-        | true ↦ λ e. let said = ap (leaves_in m) (eqb-true n room.number e) ∙ own_said h in
-            ap (with_leaf (record l { next = next })) said ∙ ap (λ z. with_leaf (record z { next = next }) (Some (own_part h))) read
-            ∙ sym (ap (leaf_next next) said)
-        | false ↦ λ e. refl
-      ] refl
+    pub next_put : (links : Links) {l : Leaf} (next : Option Id) (n : ℕ) → AreLinks m room links → l ≡ leaf_of links
+        → put_leaf room (record l { next = next }) n (leaves_in m n) ≡ (if n == room.number then leaf_next next (leaves_in m n) else leaves_in m n)
+    next_put links {l = l} next n are leaf =
+        let read = leaf ∙ ap leaf_of (are h.room h.at) in
+        elim (n == room.number) as (λ t. (n == room.number) ≡ t
+        → (if t then with_leaf (record l { next = next }) (leaves_in m n) else leaves_in m n) ≡
+        (if t then leaf_next next (leaves_in m n) else leaves_in m n)) [
+          | true ↦ λ e. let said = ap (leaves_in m) (eqb-true n room.number e) ∙ own_said in
+              ap (with_leaf (record l { next = next })) said ∙ ap (λ z. with_leaf (record z { next = next }) (Some own_part)) read
+              ∙ sym (ap (leaf_next next) said)
+          | false ↦ λ e. refl
+        ] refl
 
-  pub back_put : {m : Lodged V} (room : Id) (links : Links) {l : Leaf} (above previous : Option Id) (n : ℕ) → Has m room → AreLinks m room links
-      → l ≡ leaf_of links → put_leaf room (record l { above = above; previous = previous }) n (leaves_in m n)
-      ≡ (if n == room.number then leaf_back above previous (leaves_in m n) else leaves_in m n)
-  back_put {m = m} room links {l = l} above previous n h are leaf =
-      let read = leaf ∙ ap leaf_of (are h.room h.at) in
-      elim (n == room.number) as (λ t. (n == room.number) ≡ t
-      → (if t then with_leaf (record l { above = above; previous = previous }) (leaves_in m n) else leaves_in m n)
-      ≡ (if t then leaf_back above previous (leaves_in m n) else leaves_in m n)) [
-        | true ↦ λ e. let said = ap (leaves_in m) (eqb-true n room.number e) ∙ own_said h in
-            ap (with_leaf (record l { above = above; previous = previous })) said
-            ∙ ap (λ z. with_leaf (record z { above = above; previous = previous }) (Some (own_part h))) read
-            ∙ sym (ap (leaf_back above previous) said)
-        | false ↦ λ e. refl
-      ] refl
+    pub back_put : (links : Links) {l : Leaf} (above previous : Option Id) (n : ℕ) → AreLinks m room links → l ≡ leaf_of links
+        → put_leaf room (record l { above = above; previous = previous }) n (leaves_in m n) ≡
+        (if n == room.number then leaf_back above previous (leaves_in m n) else leaves_in m n)
+    back_put links {l = l} above previous n are leaf =
+        let read = leaf ∙ ap leaf_of (are h.room h.at) in
+        elim (n == room.number) as (λ t. (n == room.number) ≡ t
+        → (if t then with_leaf (record l { above = above; previous = previous }) (leaves_in m n) else leaves_in m n)
+        ≡ (if t then leaf_back above previous (leaves_in m n) else leaves_in m n)) [
+          | true ↦ λ e. let said = ap (leaves_in m) (eqb-true n room.number e) ∙ own_said in
+              ap (with_leaf (record l { above = above; previous = previous })) said
+              ∙ ap (λ z. with_leaf (record z { above = above; previous = previous }) (Some own_part)) read ∙ sym (ap (leaf_back above previous) said)
+          | false ↦ λ e. refl
+        ] refl
 
   -- ---- rooms that stay there
   -- a room that says a part of the same block is there
@@ -84,38 +85,38 @@ module _ {V : Type 0} where
         | false ↦ p
       ]
 
-  pub Has-next : (m new : Lodged V) (before next : Option Id) (at : Id) → ((n : ℕ) → leaves_in new n ≡ name_next before next n (leaves_in m n))
-      → Has m at → Has new at
-  Has-next m new before next at is h =
-      let p = next_part before next at (part_has h) in
-      has_part new at (record { part = p.part; is = is at.number ∙ p.is; block = p.block })
+  module _ {m : Lodged V} {at : Id} (h : Has m at) where
+    pub Has-next : (new : Lodged V) (before next : Option Id) → ((n : ℕ) → leaves_in new n ≡ name_next before next n (leaves_in m n)) → Has new at
+    Has-next new before next is =
+        let p = next_part before next at (part_has h) in
+        has_part new at (record { part = p.part; is = is at.number ∙ p.is; block = p.block })
 
-  pub Has-back : (m new : Lodged V) (behind above previous : Option Id) (at : Id)
-      → ((n : ℕ) → leaves_in new n ≡ name_back behind above previous n (leaves_in m n)) → Has m at → Has new at
-  Has-back m new behind above previous at is h =
-      let p = back_part behind above previous at (part_has h) in
-      has_part new at (record { part = p.part; is = is at.number ∙ p.is; block = p.block })
+    pub Has-back : (new : Lodged V) (behind above previous : Option Id) → ((n : ℕ) → leaves_in new n ≡ name_back behind above previous n (leaves_in m n))
+        → Has new at
+    Has-back new behind above previous is =
+        let p = back_part behind above previous at (part_has h) in
+        has_part new at (record { part = p.part; is = is at.number ∙ p.is; block = p.block })
 
-  pub Has-kept : {m : Lodged V} (new : Lodged V) (at : Id) → KeepsLeaves m new → Has m at → Has new at
-  Has-kept new at is h =
-      let p = part_has h in
-      has_part new at (record { part = p.part; is = is at.number ∙ p.is; block = p.block })
+    pub Has-kept : (new : Lodged V) → KeepsLeaves m new → Has new at
+    Has-kept new is =
+        let p = part_has h in
+        has_part new at (record { part = p.part; is = is at.number ∙ p.is; block = p.block })
 
-  -- a room that is in the map has no free number
-  pub not_free : (m : Lodged V) (room at : Id) → leaves_in m room.number ≡ None → Has m at → at.number ≡ room.number → ⊥
-  not_free m room at free h same = none_some (sym free ∙ ap (leaves_in m) (sym same) ∙ own_said h)
+    -- a room that is in the map has no free number
+    pub not_free : (room : Id) → leaves_in m room.number ≡ None → at.number ≡ room.number → ⊥
+    not_free room free same = none_some (sym free ∙ ap (leaves_in m) (sym same) ∙ own_said h)
 
-  pub Has-lodged : {m : Lodged V} (new : Lodged V) (room at : Id) (value : V) (l : Leaf) → leaves_in m room.number ≡ None
-      → ((n : ℕ) → leaves_in new n ≡ lodge_leaf room value l n (leaves_in m n)) → Has m at → Has new at
-  Has-lodged {m = m} new room at value l free is h =
-      let p = lodged_part room at value l (not_free m room at free h) (part_has h) in
-      has_part new at (record { part = p.part; is = is at.number ∙ p.is; block = p.block })
+    pub Has-lodged : (new : Lodged V) (room : Id) (value : V) (l : Leaf) → leaves_in m room.number ≡ None
+        → ((n : ℕ) → leaves_in new n ≡ lodge_leaf room value l n (leaves_in m n)) → Has new at
+    Has-lodged new room value l free is =
+        let p = lodged_part room at value l (not_free room free) (part_has h) in
+        has_part new at (record { part = p.part; is = is at.number ∙ p.is; block = p.block })
 
-  pub Has-linked_out : (m new : Lodged V) (l : Leaf) (at : Id) → ((n : ℕ) → leaves_in new n ≡ link_out l n (leaves_in m n)) → Has m at → Has new at
-  Has-linked_out m new l at is h =
-      let said = leaves_in m at.number in
-      let p = next_part l.previous l.next at (back_part l.next l.above l.previous at (part_has h)) in
-      has_part new at (record { part = p.part; is = is at.number ∙ p.is; block = p.block })
+    pub Has-linked_out : (new : Lodged V) (l : Leaf) → ((n : ℕ) → leaves_in new n ≡ link_out l n (leaves_in m n)) → Has new at
+    Has-linked_out new l is =
+        let said = leaves_in m at.number in
+        let p = next_part l.previous l.next at (back_part l.next l.above l.previous at (part_has h)) in
+        has_part new at (record { part = p.part; is = is at.number ∙ p.is; block = p.block })
 
   -- the new room is there, whatever its neighbours say
   pub Has-linked_in : (m new : Lodged V) (room : Id) (value : V) (l : Leaf) → ((n : ℕ) → leaves_in new n ≡ link_in room value l n (leaves_in m n))

@@ -75,12 +75,11 @@ module _ {V : Type 0} {m : Lodged V} where
   step_begun l once =
       let low = (subst (IsTree l.part.low) l.leaf.is l.part.is).0 in record { rises = omega arith; few = omega (arith, low) }
 
-  pub step_risen : {key : ℕ} {whole under : Part m} {room : Id} {start now later : Counter} (o : Over key whole under room) → Steps start now under
-      → ReadsOnce now later → Steps start later o.part
-  step_risen {room = room} o s once =
-      let rises = (fork_is (fork_over o)).0.rises in
-      let low = o.beneath.low in record { rises = omega arith; few = omega (arith, rises, low) }
+  module _ {key : ℕ} {whole under : Part m} {room : Id} {start now : Counter} (o : Over key whole under room) (s : Steps start now under) where
+    pub step_risen : {later : Counter} → ReadsOnce now later → Steps start later o.part
+    step_risen once =
+        let rises = (fork_is (fork_over o)).0.rises in
+        let low = o.beneath.low in record { rises = omega arith; few = omega (arith, rises, low) }
 
-  pub step_soon : {key : ℕ} {whole under : Part m} {room : Id} {start now : Counter} (o : Over key whole under room) → Steps start now under
-      → now.count ≤ start.count + 32
-  step_soon o s = omega (arith, o.beneath.low, s.few)
+    pub step_soon : now.count ≤ start.count + 32
+    step_soon = omega (arith, o.beneath.low, s.few)

@@ -138,42 +138,41 @@ module _ {V : Type 0} where
         );
       }
 
-  -- the lists of a part of the whole
-  pub part_lists : (m : Lodged V) {root : Node} {late : ℕ → Bool} {out : ℕ → ℕ} (w : IsWholeBut m root late out) (key : ℕ) (at : Part m) (ups : List (Part m))
-      → Way key w.part at ups → MarkedLists (heads_in m) (masks_in m) at.low at.tree
-  part_lists m w key at ups way =
-      let o = on_way m key w.part at ups way in
-      subst (λ n. MarkedLists (heads_in m) (masks_in m) n at.tree) (sym o.lowest)
-      (lists_at (heads_in m) (masks_in m) w.part.low o.frames at.tree (subst (MarkedLists (heads_in m) (masks_in m) w.part.low) o.was w.lists))
+  module _ {m : Lodged V} {root : Node} {late : ℕ → Bool} {out : ℕ → ℕ} (w : IsWholeBut m root late out) where
+    -- the lists of a part of the whole
+    pub part_lists : (key : ℕ) (at : Part m) (ups : List (Part m)) → Way key w.part at ups → MarkedLists (heads_in m) (masks_in m) at.low at.tree
+    part_lists key at ups way =
+        let o = on_way m key w.part at ups way in
+        subst (λ n. MarkedLists (heads_in m) (masks_in m) n at.tree) (sym o.lowest)
+        (lists_at (heads_in m) (masks_in m) w.part.low o.frames at.tree (subst (MarkedLists (heads_in m) (masks_in m) w.part.low) o.was w.lists))
 
-  -- ---- either of them
-  pub cut_at : (m new : Lodged V) {root : Node} {late : ℕ → Bool} {out : ℕ → ℕ} (w : IsWholeBut m root late out) (key bit : ℕ) (p : Part m)
-      (ups : List (Part m)) (below : Node) (first : Option Id) (t : Tree V) → p.tree ≡ t
-      → Way key w.part p ups → AreOnce w.part.tree → p.low ≤ bit → IsTree (bit + 1) p.tree → name_of p.tree ≡ below
-      → ((fork : Id) (ms : List (Placed V)) → below ≡ BitOf fork → IsMasks m (heads_in m fork.number) ms
-      → IsMasks new (heads_in new fork.number) (past_bit bit ms))
-      → ((fork : Id) (ms : List (Placed V)) → below ≡ BitOf fork → IsMasks m (heads_in m fork.number) ms → IsMasks new first (up_to_bit bit ms))
-      → ((room : Id) → below ≡ LeafOf room → (first ≡ None) × (new ≡ m))
-      → ((n : ℕ) → ((fork : Id) → below ≡ BitOf fork → n ≡ fork.number → ⊥) → heads_in new n ≡ heads_in m n)
-      → ((fork : Id) (ms : List (Placed V)) → below ≡ BitOf fork → IsMasks m (heads_in m fork.number) ms → (n : ℕ) → IsAside n ms
-      → masks_in new n ≡ masks_in m n)
-      → ((n : ℕ) → is_some (masks_in new n) ≡ is_some (masks_in m n)) → KeepsLeaves m new → KeepsBits m new → IsCut m new p.low bit p.tree first
-  cut_at m new w key bit p ups below first (leaf y ys) is way once rises tree named kept others same heads masks marks leaves bits =
-      let s = same y.room (sym named ∙ ap name_of is) in
-      subst (IsCut m new p.low bit p.tree) (sym s.0)
-      (subst (λ n. IsCut m n p.low bit p.tree None) (sym s.1) (cut_leaf m p.low bit y ys is (unmarked_leaf m w key p ups y ys way is)))
-  cut_at m new w key bit p ups below first (fork room b zero one) is way once rises tree named kept others same heads masks marks leaves bits =
-      let f : ForkAt p room = record { bit = b; zero = zero; one = one; is = is } in
-      let here = sym named ∙ ap name_of is in
-      cut_fork m new p room f bit first (way_once key w.part p ups way once) rises tree (part_lists m w key p ups way)
-      (λ ms. kept room ms here) (λ ms. others room ms here)
-      (λ n other. heads n (λ i at same. other (same ∙ ap (λ j. j.number) (same_bit_node (sym at ∙ here))))) (λ ms. masks room ms here) marks leaves bits
+    -- ---- either of them
+    pub cut_at : (new : Lodged V) (key bit : ℕ) (p : Part m) (ups : List (Part m)) (below : Node) (first : Option Id) (t : Tree V) → p.tree ≡ t
+        → Way key w.part p ups → AreOnce w.part.tree → p.low ≤ bit → IsTree (bit + 1) p.tree → name_of p.tree ≡ below
+        → ((fork : Id) (ms : List (Placed V)) → below ≡ BitOf fork → IsMasks m (heads_in m fork.number) ms → IsMasks new (heads_in new fork.number)
+        (past_bit bit ms))
+        → ((fork : Id) (ms : List (Placed V)) → below ≡ BitOf fork → IsMasks m (heads_in m fork.number) ms → IsMasks new first (up_to_bit bit ms))
+        → ((room : Id) → below ≡ LeafOf room → (first ≡ None) × (new ≡ m))
+        → ((n : ℕ) → ((fork : Id) → below ≡ BitOf fork → n ≡ fork.number → ⊥) → heads_in new n ≡ heads_in m n)
+        → ((fork : Id) (ms : List (Placed V)) → below ≡ BitOf fork → IsMasks m (heads_in m fork.number) ms → (n : ℕ) → IsAside n ms → masks_in new n ≡
+        masks_in m n)
+        → ((n : ℕ) → is_some (masks_in new n) ≡ is_some (masks_in m n)) → KeepsLeaves m new → KeepsBits m new → IsCut m new p.low bit p.tree first
+    cut_at new key bit p ups below first (leaf y ys) is way once rises tree named kept others same heads masks marks leaves bits =
+        let s = same y.room (sym named ∙ ap name_of is) in
+        subst (IsCut m new p.low bit p.tree) (sym s.0)
+        (subst (λ n. IsCut m n p.low bit p.tree None) (sym s.1) (cut_leaf m p.low bit y ys is (unmarked_leaf m w key p ups y ys way is)))
+    cut_at new key bit p ups below first (fork room b zero one) is way once rises tree named kept others same heads masks marks leaves bits =
+        let f : ForkAt p room = record { bit = b; zero = zero; one = one; is = is } in
+        let here = sym named ∙ ap name_of is in
+        cut_fork m new p room f bit first (way_once key w.part p ups way once) rises tree (part_lists key p ups way)
+        (λ ms. kept room ms here) (λ ms. others room ms here)
+        (λ n other. heads n (λ i at same. other (same ∙ ap (λ j. j.number) (same_bit_node (sym at ∙ here))))) (λ ms. masks room ms here) marks leaves bits
 
-  -- the list of the part's bit node
-  pub list_at : {m : Lodged V} {root : Node} {late : ℕ → Bool} {out : ℕ → ℕ} (w : IsWholeBut m root late out) (key : ℕ) (p : Part m) (ups : List (Part m))
-      {room : Id} → Way key w.part p ups → name_of p.tree ≡ BitOf room → (ms : List (Placed V)) × IsMasks m (heads_in m room.number) ms
-  list_at {m = m} w key p ups way named =
-      let f = fork_named p named in
-      let tree = fork_is f in
-      let l = (subst (MarkedLists (heads_in m) (masks_in m) p.low) f.is (part_lists m w key p ups way)).0 in
-      (l.masks, masks_listed p l tree.0.within (λ x member. subst (IsIn x) (sym f.is) member.0))
+    -- the list of the part's bit node
+    pub list_at : (key : ℕ) (p : Part m) (ups : List (Part m)) {room : Id} → Way key w.part p ups → name_of p.tree ≡ BitOf room
+        → (ms : List (Placed V)) × IsMasks m (heads_in m room.number) ms
+    list_at key p ups way named =
+        let f = fork_named p named in
+        let tree = fork_is f in
+        let l = (subst (MarkedLists (heads_in m) (masks_in m) p.low) f.is (part_lists key p ups way)).0 in
+        (l.masks, masks_listed p l tree.0.within (λ x member. subst (IsIn x) (sym f.is) member.0))

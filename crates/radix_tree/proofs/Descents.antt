@@ -56,16 +56,15 @@ module _ {V : Type 0} {m : Lodged V} where
         };
       }
 
-  pub led : {address : ℕ} {whole : Part m} {at : Node} {room : Id} {start now : Counter} → Down address whole at start now → at ≡ LeafOf room
-      → LedTo address whole room
-  led {room = room} d is = record { part = d.part; leaf = leaf_named d.part (d.named ∙ is); ups = d.ups; way = d.way }
+  module _ {address : ℕ} {whole : Part m} {at : Node} {start now : Counter} (d : Down address whole at start now) where
+    pub led : {room : Id} → at ≡ LeafOf room → LedTo address whole room
+    led {room = room} is = record { part = d.part; leaf = leaf_named d.part (d.named ∙ is); ups = d.ups; way = d.way }
 
-  pub soon_at : {address : ℕ} {whole : Part m} {at : Node} {room : Id} {start now : Counter} → Down address whole at start now → at ≡ LeafOf room
-      → Reads start now 32
-  soon_at {room = room} d is =
-      let l = leaf_named d.part (d.named ∙ is) in
-      let low = (subst (IsTree d.part.low) l.is d.part.is).0 in
-      record { turn = d.reads.turn; rises = d.reads.rises; bound = omega arith }
+    pub soon_at : {room : Id} → at ≡ LeafOf room → Reads start now 32
+    soon_at {room = room} is =
+        let l = leaf_named d.part (d.named ∙ is) in
+        let low = (subst (IsTree d.part.low) l.is d.part.is).0 in
+        record { turn = d.reads.turn; rises = d.reads.rises; bound = omega arith }
 
   -- a pair that is found at the leaf to which its key leads, or not there, is found so in the whole tree
   pub pair_led : (rank : ℕ) {key : ℕ} {whole : Part m} {room : Id} (l : LedTo key whole room) (o : Option Id)

@@ -123,57 +123,56 @@ module _ {V : Type 0} where
         → masks_in new y.room.number ≡ masks_in m y.room.number
     pub list : IsMaskList (masks_in new) (heads_in new room.number) h.part.low h.at.bit (MarkedIn (masks_in new) (fork room h.at.bit h.at.zero h.at.one))
 
-  pub home_inside : (m : Lodged V) {key rank : ℕ} {whole : Part m} {room : Id} (h : HomeAt m key rank whole room) (y : Placed V) → IsIn y (tree_of h)
-      → IsIn y whole.tree
-  home_inside m {key = key} {whole = whole} h y is = way_inside m key whole h.part h.ups h.way y (subst (IsIn y) (sym h.at.is) is)
+  module _ {m : Lodged V} {key rank : ℕ} {whole : Part m} {room : Id} (h : HomeAt m key rank whole room) where
+    pub home_inside : (y : Placed V) → IsIn y (tree_of h) → IsIn y whole.tree
+    home_inside y is = way_inside m key whole h.part h.ups h.way y (subst (IsIn y) (sym h.at.is) is)
 
-  -- the home's tree, with its list
-  home_lists : (m new : Lodged V) (key rank : ℕ) (whole : Part m) (room : Id) (h : HomeAt m key rank whole room) → AreOnce whole.tree
-      → IsRelisted m new key rank whole room h
-      → MarkedLists (heads_in m) (masks_in m) whole.low whole.tree → MarkedLists (heads_in new) (masks_in new) h.part.low (tree_of h)
-  home_lists m new key rank whole room h once r lists =
-      let f = h.at in
-      let is = fork_is f in
-      let old = lists_of h (heads_in m) (masks_in m) lists in
-      let once_at = way_once key whole h.part h.ups h.way once in
-      let most : (n : ℕ) → one_if (room.number == n) + (forks_at n f.zero + forks_at n f.one) ≤ 1 =
-      λ n. subst (λ t. forks_at n t ≤ 1) f.is (once_at.forks n) in (
-        r.list,
-        lists_stay (heads_in m) (heads_in new) (masks_in m) (masks_in new) (f.bit + 1) f.zero is.1
-            (λ n some. r.heads n (let few = most n in elsewhere room n (forks_at n f.zero) some (omega arith)))
-            (λ y at least. r.masks y (home_inside m h y (inl at)) (λ _ _ short. omega arith)) old.1,
-        lists_stay (heads_in m) (heads_in new) (masks_in m) (masks_in new) (f.bit + 1) f.one is.2
-            (λ n some. r.heads n (let few = most n in elsewhere room n (forks_at n f.one) some (omega arith)))
-            (λ y at least. r.masks y (home_inside m h y (inr at)) (λ _ _ short. omega arith)) old.2,
-      )
+    -- the home's tree, with its list
+    home_lists : (new : Lodged V) → AreOnce whole.tree → IsRelisted m new key rank whole room h → MarkedLists (heads_in m) (masks_in m) whole.low whole.tree
+        → MarkedLists (heads_in new) (masks_in new) h.part.low (tree_of h)
+    home_lists new once r lists =
+        let f = h.at in
+        let is = fork_is f in
+        let old = lists_of h (heads_in m) (masks_in m) lists in
+        let once_at = way_once key whole h.part h.ups h.way once in
+        let most : (n : ℕ) → one_if (room.number == n) + (forks_at n f.zero + forks_at n f.one) ≤ 1 =
+        λ n. subst (λ t. forks_at n t ≤ 1) f.is (once_at.forks n) in (
+          r.list,
+          lists_stay (heads_in m) (heads_in new) (masks_in m) (masks_in new) (f.bit + 1) f.zero is.1
+              (λ n some. r.heads n (let few = most n in elsewhere room n (forks_at n f.zero) some (omega arith)))
+              (λ y at least. r.masks y (home_inside y (inl at)) (λ _ _ short. omega arith)) old.1,
+          lists_stay (heads_in m) (heads_in new) (masks_in m) (masks_in new) (f.bit + 1) f.one is.2
+              (λ n some. r.heads n (let few = most n in elsewhere room n (forks_at n f.one) some (omega arith)))
+              (λ y at least. r.masks y (home_inside y (inr at)) (λ _ _ short. omega arith)) old.2,
+        )
 
-  pub relisted : (m new : Lodged V) (key rank : ℕ) (whole : Part m) (room : Id) (h : HomeAt m key rank whole room) → AreOnce whole.tree
-      → IsRelisted m new key rank whole room h
-      → MarkedLists (heads_in m) (masks_in m) whole.low whole.tree → MarkedLists (heads_in new) (masks_in new) whole.low whole.tree
-  relisted m new key rank whole room h once r lists =
-      let f = way_framed m key whole h.part h.ups h.way in
-      let lowest = f.lowest in
-      let own = subst (λ n. MarkedLists (heads_in new) (masks_in new) n h.part.tree) f.lowest
-      (subst (MarkedLists (heads_in new) (masks_in new) h.part.low) (sym h.at.is) (home_lists m new key rank whole room h once r lists)) in
-      let in_whole : (y : Placed V) → IsIn y (plug f.frames h.part.tree) → IsIn y whole.tree = λ y is. subst (IsIn y) (sym f.was) is in
-      let forks : (n : ℕ) → forks_at n (plug f.frames h.part.tree) ≤ 1 = λ n. subst (λ u. forks_at n u ≤ 1) f.was (once.forks n) in
-      let leaves : (n : ℕ) → leaves_at n (plug f.frames h.part.tree) ≤ 1 = λ n. subst (λ u. leaves_at n u ≤ 1) f.was (once.leaves n) in
-      let here = subst (λ u. 1 ≤ forks_at room.number u) (sym h.at.is) (let one = one_if_same room.number in
-      omega arith) in
-      let above : (y : Placed V) → IsIn y h.part.tree → y.entry.rank < low_past whole.low f.frames → masks_in new y.room.number ≡ masks_in m y.room.number =
-      λ y is below. r.masks y (way_inside m key whole h.part h.ups h.way y is) (λ _ least _. omega arith) in
-      let keeps : KeepsAbove (heads_in m) (heads_in new) (masks_in m) (masks_in new) (low_past whole.low f.frames) f.frames h.part.tree h.part.tree = record {
-        heads = λ n some. r.heads n (λ e. let most = forks n in let at = subst (λ k. 1 ≤ forks_at k h.part.tree) (sym e) here in
-            omega arith);
-        aside = λ y aside. r.masks y (in_whole y (aside_in f.frames h.part.tree y aside)) (λ is _ _. let own_at = counted_leaf y h.part.tree is in
-            let more = aside_at f.frames h.part.tree y aside in
-            let most = leaves y.room.number in omega arith);
-        stays = λ y is below marked. (is, above y is below);
-        came = λ y is below marked. (is, marked_same (masks_in new) (masks_in m) y (sym (above y is below)) marked);
-      } in
-      subst (MarkedLists (heads_in new) (masks_in new) whole.low) (sym f.was)
-      (plug_lists whole.low f.frames (subst (IsTree whole.low) f.was whole.is) keeps (subst (MarkedLists (heads_in m) (masks_in m) whole.low) f.was lists)
-      own)
+    pub relisted : (new : Lodged V) → AreOnce whole.tree → IsRelisted m new key rank whole room h
+        → MarkedLists (heads_in m) (masks_in m) whole.low whole.tree → MarkedLists (heads_in new) (masks_in new) whole.low whole.tree
+    relisted new once r lists =
+        let f = way_framed m key whole h.part h.ups h.way in
+        let lowest = f.lowest in
+        let own = subst (λ n. MarkedLists (heads_in new) (masks_in new) n h.part.tree) f.lowest
+        (subst (MarkedLists (heads_in new) (masks_in new) h.part.low) (sym h.at.is) (home_lists new once r lists)) in
+        let in_whole : (y : Placed V) → IsIn y (plug f.frames h.part.tree) → IsIn y whole.tree = λ y is. subst (IsIn y) (sym f.was) is in
+        let forks : (n : ℕ) → forks_at n (plug f.frames h.part.tree) ≤ 1 = λ n. subst (λ u. forks_at n u ≤ 1) f.was (once.forks n) in
+        let leaves : (n : ℕ) → leaves_at n (plug f.frames h.part.tree) ≤ 1 = λ n. subst (λ u. leaves_at n u ≤ 1) f.was (once.leaves n) in
+        let here = subst (λ u. 1 ≤ forks_at room.number u) (sym h.at.is) (let one = one_if_same room.number in
+        omega arith) in
+        let above : (y : Placed V) → IsIn y h.part.tree → y.entry.rank < low_past whole.low f.frames → masks_in new y.room.number ≡ masks_in m y.room.number =
+        λ y is below. r.masks y (way_inside m key whole h.part h.ups h.way y is) (λ _ least _. omega arith) in
+        let keeps : KeepsAbove (heads_in m) (heads_in new) (masks_in m) (masks_in new) (low_past whole.low f.frames) f.frames h.part.tree h.part.tree =
+        record {
+          heads = λ n some. r.heads n (λ e. let most = forks n in let at = subst (λ k. 1 ≤ forks_at k h.part.tree) (sym e) here in
+              omega arith);
+          aside = λ y aside. r.masks y (in_whole y (aside_in f.frames h.part.tree y aside)) (λ is _ _. let own_at = counted_leaf y h.part.tree is in
+              let more = aside_at f.frames h.part.tree y aside in
+              let most = leaves y.room.number in omega arith);
+          stays = λ y is below marked. (is, above y is below);
+          came = λ y is below marked. (is, marked_same (masks_in new) (masks_in m) y (sym (above y is below)) marked);
+        } in
+        subst (MarkedLists (heads_in new) (masks_in new) whole.low) (sym f.was)
+        (plug_lists whole.low f.frames (subst (IsTree whole.low) f.was whole.is) keeps (subst (MarkedLists (heads_in m) (masks_in m) whole.low) f.was lists)
+        own)
 
   -- ---- the whole, where leaves and bit nodes stay
   abbrev pub kept_part : (m new : Lodged V) → KeepsLeaves m new → KeepsBits m new → Part m → Part new

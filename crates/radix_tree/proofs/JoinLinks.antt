@@ -87,26 +87,26 @@ module _ {V : Type 0} where
       let here = ap (λ k. forks_at k at.tree) (same ∙ ap (λ i. i.number) (sym room)) in
       omega arith
 
-  pub lone_once : {m : Lodged V} {whole : Part m} {at up : Id} (l : IsLone m whole at up) → AreOnce l.over.tree
-  lone_once {whole = whole} l = way_once l.route.entry.key whole l.over l.ups l.way l.once
+  module _ {m : Lodged V} {whole : Part m} {at up : Id} (l : IsLone m whole at up) where
+    pub lone_once : AreOnce l.over.tree
+    lone_once = way_once l.route.entry.key whole l.over l.ups l.way l.once
 
-  pub lone_forks : {m : Lodged V} {whole : Part m} {at up : Id} (l : IsLone m whole at up) (n : ℕ)
-      → forks_at n l.over.tree ≡ one_if (up.number == n) + (0 + forks_at n l.other)
-  lone_forks {up = up} l n = side_forks l.sides n
+    pub lone_forks : (n : ℕ) → forks_at n l.over.tree ≡ one_if (up.number == n) + (0 + forks_at n l.other)
+    lone_forks n = side_forks l.sides n
 
-  pub lone_apart : (m : Lodged V) {whole : Part m} (at up : Id) (l : IsLone m whole at up) → IsApart l.other up l.over.above
-  lone_apart m {whole = whole} at up l = record {
-    up_is = λ n some. let sum = lone_forks l n in
-        let most = (lone_once l).forks n in elsewhere up n (forks_at n l.other) some (omega arith);
-    above_is = λ over is n some. let sum = lone_forks l n in
-        out_of_above m l.route.entry.key whole l.over l.ups over l.way l.top l.once is n (omega arith);
-  }
+    pub lone_apart : IsApart l.other up l.over.above
+    lone_apart = record {
+      up_is = λ n some. let sum = lone_forks n in
+          let most = (lone_once).forks n in elsewhere up n (forks_at n l.other) some (omega arith);
+      above_is = λ over is n some. let sum = lone_forks n in
+          out_of_above m l.route.entry.key whole l.over l.ups over l.way l.top l.once is n (omega arith);
+    }
 
-  abbrev pub other_part : (m : Lodged V) {whole : Part m} (at up : Id) → IsLone m whole at up → Part m
-  other_part m at up l = record {
-    tree = l.other;
-    low = l.bit + 1;
-    above = Some up;
-    is = (side_is l.sides l.over.low l.over.is).0;
-    stands = side_stands l.sides (leaves_in m) (bits_in m) l.over.above l.over.stands;
-  }
+    abbrev pub other_part : Part m
+    other_part = record {
+      tree = l.other;
+      low = l.bit + 1;
+      above = Some up;
+      is = (side_is l.sides l.over.low l.over.is).0;
+      stands = side_stands l.sides (leaves_in m) (bits_in m) l.over.above l.over.stands;
+    }

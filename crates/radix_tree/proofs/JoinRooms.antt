@@ -11,40 +11,40 @@ use Rattle.radix_tree.proofs.RoomReads.{inside, none_some, AreLinks, Has-leaf, b
 
 module _ {V : Type 0} where
   -- ---- the route's room
-  abbrev own_part : {m : Lodged V} {at : Id} → Has m at → LeafPart V
-  own_part h = record { block = h.room.block; value = h.room.value; leaf = leaf_of h.room.links }
+  module _ {m : Lodged V} {at : Id} (h : Has m at) where
+    abbrev own_part : LeafPart V
+    own_part = record { block = h.room.block; value = h.room.value; leaf = leaf_of h.room.links }
 
-  read_is : {m : Lodged V} {at : Id} (links : Links) {l : Leaf} (h : Has m at) → AreLinks m at links → l ≡ leaf_of links → leaf_of h.room.links ≡ l
-  read_is links h are is = sym (is ∙ ap leaf_of (are h.room h.at))
+    read_is : (links : Links) {l : Leaf} → AreLinks m at links → l ≡ leaf_of links → leaf_of h.room.links ≡ l
+    read_is links are is = sym (is ∙ ap leaf_of (are h.room h.at))
 
-  pub lone_read : {m : Lodged V} {root : Node} {late : ℕ → Bool} (w : IsWholeBut m root late nobody_out) {at up : Id} (links : Links) {l : Leaf}
-      → Has m at → AreLinks m at links → l ≡ leaf_of links → IsLonely m at → l.above ≡ Some up → IsLone m w.part at up
-  lone_read {m = m} w {at = at} {up = up} links h are is lonely above =
-      let r = lonely (own_part h) (ap leaf_in h.at) in
-      lone m w at up (ap leaf_in h.at) h.block r.0 r.1 (ap (λ z. z.above) (read_is links h are is) ∙ above)
+    pub lone_read : {root : Node} {late : ℕ → Bool} (w : IsWholeBut m root late nobody_out) {up : Id} (links : Links) {l : Leaf} → AreLinks m at links
+        → l ≡ leaf_of links → IsLonely m at → l.above ≡ Some up → IsLone m w.part at up
+    lone_read w {up = up} links are is lonely above =
+        let r = lonely own_part (ap leaf_in h.at) in
+        lone m w at up (ap leaf_in h.at) h.block r.0 r.1 (ap (λ z. z.above) (read_is links are is) ∙ above)
 
-  pub never_top : {m : Lodged V} {at : Id} (links : Links) {l : Leaf} → Has m at → AreLinks m at links → l ≡ leaf_of links → IsLonely m at → l.above ≡ None
-      → ⊥
-  never_top links h are is lonely none =
-      let r = lonely (own_part h) (ap leaf_in h.at) in
-      true≢false (sym r.2 ∙ ap (λ z. is_some z.above) (read_is links h are is) ∙ ap is_some none)
+    pub never_top : (links : Links) {l : Leaf} → AreLinks m at links → l ≡ leaf_of links → IsLonely m at → l.above ≡ None → ⊥
+    never_top links are is lonely none =
+        let r = lonely own_part (ap leaf_in h.at) in
+        true≢false (sym r.2 ∙ ap (λ z. is_some z.above) (read_is links are is) ∙ ap is_some none)
 
-  pub key_read : {m : Lodged V} {whole : Part m} {at up : Id} (links : Links) {l : Leaf} (f : IsLone m whole at up) → Has m at → AreLinks m at links
-      → l ≡ leaf_of links → f.route.entry.key ≡ l.key
-  key_read {m = m} {at = at} {up = up} links f h are is =
-      let same = inside (sym (lone_said m at up f) ∙ ap leaf_in h.at) in
-      ap (λ p. p.leaf.key) same ∙ ap (λ z. z.key) (read_is links h are is)
+    pub key_read : {whole : Part m} {up : Id} (links : Links) {l : Leaf} (f : IsLone m whole at up) → AreLinks m at links → l ≡ leaf_of links
+        → f.route.entry.key ≡ l.key
+    key_read {up = up} links f are is =
+        let same = inside (sym (lone_said m at up f) ∙ ap leaf_in h.at) in
+        ap (λ p. p.leaf.key) same ∙ ap (λ z. z.key) (read_is links are is)
 
   -- ---- the bit node above
-  pub Has-up : {m : Lodged V} {whole : Part m} {at up : Id} → IsLone m whole at up → Has m up
-  Has-up {m = m} {up = up} l = Has-fork (side_fork m l.over up l.bit (leaf l.route []) l.other l.sides)
+  module _ {m : Lodged V} {whole : Part m} {at up : Id} (l : IsLone m whole at up) where
+    pub Has-up : Has m up
+    Has-up = Has-fork (side_fork m l.over up l.bit (leaf l.route []) l.other l.sides)
 
-  up_says : (m : Lodged V) {whole : Part m} (at up : Id) (l : IsLone m whole at up)
-      → SaysOther (bits_in m) up l.route.entry.key l.bit l.over.above (name_of l.other)
-  up_says m at up l = side_says l.sides (leaves_in m) (bits_in m) l.over.above l.over.stands
+    up_says : SaysOther (bits_in m) up l.route.entry.key l.bit l.over.above (name_of l.other)
+    up_says = side_says l.sides (leaves_in m) (bits_in m) l.over.above l.over.stands
 
-  pub never_unused : {m : Lodged V} {whole : Part m} (at up : Id) (links : Links) → IsLone m whole at up → AreLinks m up links → bit_node_of links ≡ None → ⊥
-  never_unused {m = m} at up links l are none = let s = up_says m at up l in bit_used m up links s.says s.block are none
+    pub never_unused : (links : Links) → AreLinks m up links → bit_node_of links ≡ None → ⊥
+    never_unused links are none = let s = up_says in bit_used m up links s.says s.block are none
 
   pub record IsUp (m : Lodged V) (whole : Part m) (at up : Id) (l : IsLone m whole at up) (node : BitNode) (key : ℕ) : Type 0 where
     pub bit : node.bit ≤ 31
@@ -52,52 +52,52 @@ module _ {V : Type 0} where
     pub to : name_of l.other ≡ other_side key node.bit node.zero node.one
     pub head : heads_in m up.number ≡ node.masks
 
-  pub up_read : {m : Lodged V} {whole : Part m} {at up : Id} (links : Links) {node : BitNode} {key : ℕ} (l : IsLone m whole at up) → AreLinks m up links
-      → bit_node_of links ≡ Some node → l.route.entry.key ≡ key → IsUp m whole at up l node key
-  up_read {m = m} {at = at} {up = up} links {node = node} {key = key} l are is key_is =
-      let s = up_says m at up l in
-      let read = bit_read m up links s.says s.block are is in
-      let same_bit = read.bit ∙ s.bit in
-      let most = (side_is l.sides l.over.low l.over.is).2 in
-      record {
-        bit = omega arith;
-        above = sym (read.above ∙ s.above_is);
-        to = sym s.other ∙ ap (λ k. other_side k l.bit s.part.zero s.part.one) key_is
-            ∙ ap (λ b. other_side key b s.part.zero s.part.one) (sym same_bit) ∙ ap (λ z. other_side key node.bit z s.part.one) (sym read.zero)
-            ∙ ap (other_side key node.bit node.zero) (sym read.one);
-        head = head_read links (Has-up l) are is;
-      }
+  module _ {m : Lodged V} {whole : Part m} {at up : Id} (l : IsLone m whole at up) where
+    pub up_read : (links : Links) {node : BitNode} {key : ℕ} → AreLinks m up links → bit_node_of links ≡ Some node → l.route.entry.key ≡ key
+        → IsUp m whole at up l node key
+    up_read links {node = node} {key = key} are is key_is =
+        let s = up_says l in
+        let read = bit_read m up links s.says s.block are is in
+        let same_bit = read.bit ∙ s.bit in
+        let most = (side_is l.sides l.over.low l.over.is).2 in
+        record {
+          bit = omega arith;
+          above = sym (read.above ∙ s.above_is);
+          to = sym s.other ∙ ap (λ k. other_side k l.bit s.part.zero s.part.one) key_is
+              ∙ ap (λ b. other_side key b s.part.zero s.part.one) (sym same_bit) ∙ ap (λ z. other_side key node.bit z s.part.one) (sym read.zero)
+              ∙ ap (other_side key node.bit node.zero) (sym read.one);
+          head = head_read (Has-up l) links are is;
+        }
 
-  -- ---- in the rooms once the list is handed on
-  pub above_after : (m new : Lodged V) {whole : Part m} {at up : Id} (l : IsLone m whole at up) {above : Option Id} {over : Id}
-      → ((n : ℕ) → leaves_in new n ≡ leaves_in m n) → ((n : ℕ) → bits_in new n ≡ bits_in m n)
-      → l.over.above ≡ above → above ≡ Some over → (p : Part new) × ForkAt p over
-  above_after m new {whole = whole} l leaves bits above_is is =
-      let o = over_at m l.route.entry.key whole l.over l.ups l.way l.top above_is is in
-      (stays m new o.0 (λ n some. leaves n) (λ n some. bits n), record { bit = o.1.bit; zero = o.1.zero; one = o.1.one; is = o.1.is })
+    -- ---- in the rooms once the list is handed on
+    pub above_after : (new : Lodged V) {above : Option Id} {over : Id} → ((n : ℕ) → leaves_in new n ≡ leaves_in m n)
+        → ((n : ℕ) → bits_in new n ≡ bits_in m n) → l.over.above ≡ above → above ≡ Some over → (p : Part new) × ForkAt p over
+    above_after new leaves bits above_is is =
+        let o = over_at m l.route.entry.key whole l.over l.ups l.way l.top above_is is in
+        (stays m new o.0 (λ n some. leaves n) (λ n some. bits n), record { bit = o.1.bit; zero = o.1.zero; one = o.1.one; is = o.1.is })
 
-  pub beneath_after : (m new : Lodged V) {whole : Part m} (at up : Id) (l : IsLone m whole at up) {above : Option Id} {to : Node}
-      → ((n : ℕ) → leaves_in new n ≡ leaves_in m n) → ((n : ℕ) → bits_in new n ≡ bits_in m n)
-      → l.over.above ≡ above → name_of l.other ≡ to → (p : Part new) × (name_of p.tree ≡ to) × IsApart p.tree up above
-  beneath_after m new at up l leaves bits above_is to_is = (
-    stays m new (other_part m at up l) (λ n some. leaves n) (λ n some. bits n),
-    to_is,
-    subst (IsApart l.other up) above_is (lone_apart m at up l),
-  )
+    pub beneath_after : (new : Lodged V) {above : Option Id} {to : Node} → ((n : ℕ) → leaves_in new n ≡ leaves_in m n)
+        → ((n : ℕ) → bits_in new n ≡ bits_in m n) → l.over.above ≡ above → name_of l.other ≡ to
+        → (p : Part new) × (name_of p.tree ≡ to) × IsApart p.tree up above
+    beneath_after new leaves bits above_is to_is = (
+      stays m new (other_part l) (λ n some. leaves n) (λ n some. bits n),
+      to_is,
+      subst (IsApart l.other up) above_is (lone_apart l),
+    )
 
-  pub joined : {m : Lodged V} (handed new : Lodged V) {whole : Part m} {at up : Id} (l : IsLone m whole at up) {above : Option Id} {key : ℕ} {to : Node}
-      → l.over.above ≡ above → l.route.entry.key ≡ key → name_of l.other ≡ to
-      → ((n : ℕ) → leaves_in handed n ≡ leaves_in m n) → ((n : ℕ) → bits_in handed n ≡ bits_in m n)
-      → ((n : ℕ) → leaves_in new n ≡ lift_leaf to above n (leaves_in handed n))
-      → ((n : ℕ) → bits_in new n ≡ lift_bit to above n (put_bit up None n (name_child above key to n (bits_in handed n)))) → IsJoined m new whole at up l
-  joined {m = m} handed new {up = up} l {above = above} {key = key} {to = to} above_is key_is to_is leaves bits new_leaves new_bits = record {
-    leaves = λ n. new_leaves n ∙ ap (lift_leaf to above n) (leaves n) ∙ ap (λ z. lift_leaf z above n (leaves_in m n)) (sym to_is)
-        ∙ ap (λ o. lift_leaf (name_of l.other) o n (leaves_in m n)) (sym above_is);
-    bits = λ n. new_bits n ∙ ap (λ said. lift_bit to above n (put_bit up None n (name_child above key to n said))) (bits n)
-        ∙ ap (λ z. lift_bit z above n (put_bit up None n (name_child above key z n (bits_in m n)))) (sym to_is)
-        ∙ ap (λ o. lift_bit (name_of l.other) o n (put_bit up None n (name_child o key (name_of l.other) n (bits_in m n)))) (sym above_is)
-        ∙ ap (λ k. lift_bit (name_of l.other) l.over.above n (put_bit up None n (name_child l.over.above k (name_of l.other) n (bits_in m n)))) (sym key_is);
-  }
+    pub joined : (handed new : Lodged V) {above : Option Id} {key : ℕ} {to : Node} → l.over.above ≡ above → l.route.entry.key ≡ key → name_of l.other ≡ to
+        → ((n : ℕ) → leaves_in handed n ≡ leaves_in m n) → ((n : ℕ) → bits_in handed n ≡ bits_in m n)
+        → ((n : ℕ) → leaves_in new n ≡ lift_leaf to above n (leaves_in handed n))
+        → ((n : ℕ) → bits_in new n ≡ lift_bit to above n (put_bit up None n (name_child above key to n (bits_in handed n)))) → IsJoined m new whole at up l
+    joined handed new {above = above} {key = key} {to = to} above_is key_is to_is leaves bits new_leaves new_bits = record {
+      leaves = λ n. new_leaves n ∙ ap (lift_leaf to above n) (leaves n) ∙ ap (λ z. lift_leaf z above n (leaves_in m n)) (sym to_is)
+          ∙ ap (λ o. lift_leaf (name_of l.other) o n (leaves_in m n)) (sym above_is);
+      bits = λ n. new_bits n ∙ ap (λ said. lift_bit to above n (put_bit up None n (name_child above key to n said))) (bits n)
+          ∙ ap (λ z. lift_bit z above n (put_bit up None n (name_child above key z n (bits_in m n)))) (sym to_is)
+          ∙ ap (λ o. lift_bit (name_of l.other) o n (put_bit up None n (name_child o key (name_of l.other) n (bits_in m n)))) (sym above_is)
+          ∙ ap (λ k. lift_bit (name_of l.other) l.over.above n (put_bit up None n (name_child l.over.above k (name_of l.other) n (bits_in m n))))
+          (sym key_is);
+    }
 
   -- ---- of the rooms of a key one at most is a bit node
   chain_others : (B : Bits) (xs : List (Placed V)) (y z : Placed V) → HasOneFork B xs → IsAmong y xs → IsAmong z xs → (z.room.number ≡ y.room.number → ⊥)
@@ -179,6 +179,6 @@ module _ {V : Type 0} where
     | inr apart ↦ let q = of_key p.leaf.key (leaves_in new n) same_key in
         let before = was_said (leaves_in m up.number) p (ap content_of (sym said) ∙ keeps up.number) in
         let other = was_said (leaves_in m n) q.0 (ap content_of (sym q.1) ∙ keeps n) in
-        let s = up_says m at up l in
+        let s = up_says l in
         idle n (others_idle m w up.number n before.0 other.0 before.1 other.1 (before.2 ∙ sym q.2 ∙ sym other.2) s.says apart)
   ]

@@ -32,195 +32,189 @@ module _ {V : Type 0} where
     pub bits : (n : ℕ) → bits_in new n ≡ lift_bit (name_of l.other) l.over.above n
         (put_bit up None n (name_child l.over.above l.route.entry.key (name_of l.other) n (bits_in m n)))
 
-  -- the list was handed on before
-  pub handed_on : (m handed new : Lodged V) {whole : Part m} (at up : Id) (l : IsLone m whole at up) → IsHanded m handed l.over.low l.over.tree l.other
-      → ((n : ℕ) → masks_in new n ≡ masks_in handed n) → ((n : ℕ) → (n ≡ up.number → ⊥) → heads_in new n ≡ heads_in handed n)
-      → IsHanded m new l.over.low l.over.tree l.other
-  handed_on m handed new at up l h masks heads =
-      let own = one_if_same up.number in
-      let sum = lone_forks l up.number in
-      let apart = lone_apart m at up l in
-      record {
-        heads = λ n none. heads n (λ same. let here = ap (λ k. forks_at k l.over.tree) same in
-            absurd (omega arith)) ∙ h.heads n none;
-        masks = λ n aside. masks n ∙ h.masks n aside;
-        marks = λ n p said. h.marks n p (sym (masks n) ∙ said);
-        kept = λ y is marked home. h.kept y is (marked_same (masks_in new) (masks_in handed) y (sym (masks y.room.number)) marked) home;
-        all = λ y is home marked. marked_same (masks_in handed) (masks_in new) y (masks y.room.number) (h.all y is home marked);
-        lists = lists_same (heads_in handed) (heads_in new) (masks_in handed) (masks_in new) l.over.low l.other (λ n some. heads n (apart.up_is n some))
-            (λ y is. masks y.room.number) h.lists;
-      }
+  module _ {m : Lodged V} {whole : Part m} {at up : Id} (l : IsLone m whole at up) where
+    -- the list was handed on before
+    pub handed_on : (handed new : Lodged V) → IsHanded m handed l.over.low l.over.tree l.other → ((n : ℕ) → masks_in new n ≡ masks_in handed n)
+        → ((n : ℕ) → (n ≡ up.number → ⊥) → heads_in new n ≡ heads_in handed n) → IsHanded m new l.over.low l.over.tree l.other
+    handed_on handed new h masks heads =
+        let own = one_if_same up.number in
+        let sum = lone_forks l up.number in
+        let apart = lone_apart l in
+        record {
+          heads = λ n none. heads n (λ same. let here = ap (λ k. forks_at k l.over.tree) same in
+              absurd (omega arith)) ∙ h.heads n none;
+          masks = λ n aside. masks n ∙ h.masks n aside;
+          marks = λ n p said. h.marks n p (sym (masks n) ∙ said);
+          kept = λ y is marked home. h.kept y is (marked_same (masks_in new) (masks_in handed) y (sym (masks y.room.number)) marked) home;
+          all = λ y is home marked. marked_same (masks_in handed) (masks_in new) y (masks y.room.number) (h.all y is home marked);
+          lists = lists_same (heads_in handed) (heads_in new) (masks_in handed) (masks_in new) l.over.low l.other (λ n some. heads n (apart.up_is n some))
+              (λ y is. masks y.room.number) h.lists;
+        }
 
-  pub other_once : (m : Lodged V) {whole : Part m} (at up : Id) (l : IsLone m whole at up) → AreOnce l.other
-  other_once m at up l = record {
-    leaves = λ n. let most = (lone_once l).leaves n in
-        let sum = side_leaves n l.sides in omega arith;
-    forks = λ n. let most = (lone_once l).forks n in
-        let sum = lone_forks l n in omega arith;
-  }
+    pub other_once : AreOnce l.other
+    other_once = record {
+      leaves = λ n. let most = (lone_once l).leaves n in
+          let sum = side_leaves n l.sides in omega arith;
+      forks = λ n. let most = (lone_once l).forks n in
+          let sum = lone_forks l n in omega arith;
+    }
 
-  -- ---- the part that takes the bit node's place
-  abbrev pub under_part : {m new : Lodged V} {whole : Part m} {at up : Id} {l : IsLone m whole at up} → IsJoined m new whole at up l → Part new
-  under_part {m = m} {new = new} {at = at} {up = up} {l = l} j =
-      let is = side_is l.sides l.over.low l.over.is in
-      record {
-        tree = l.other;
-        low = l.over.low;
-        above = l.over.above;
-        is = lower l.over.low (l.bit + 1) l.other (let le = is.1 in omega arith) is.0;
-        stands = lifted (leaves_in m) (leaves_in new) (bits_in m) (bits_in new) (Some up) l.over.above l.other (λ n some. j.leaves n)
-            (λ n some. j.bits n ∙ ap (lift_bit (name_of l.other) l.over.above n)
-            (quiet up l.route.entry.key (name_of l.other) n (bits_in m n) (lone_apart m at up l) some)) (other_once m at up l) (other_part m at up l).stands;
-      }
+    -- ---- the part that takes the bit node's place
+    abbrev pub under_part : {new : Lodged V} → IsJoined m new whole at up l → Part new
+    under_part {new = new} j =
+        let is = side_is l.sides l.over.low l.over.is in
+        record {
+          tree = l.other;
+          low = l.over.low;
+          above = l.over.above;
+          is = lower l.over.low (l.bit + 1) l.other (let le = is.1 in omega arith) is.0;
+          stands = lifted (leaves_in m) (leaves_in new) (bits_in m) (bits_in new) (Some up) l.over.above l.other (λ n some. j.leaves n)
+              (λ n some. j.bits n ∙ ap (lift_bit (name_of l.other) l.over.above n)
+              (quiet up l.route.entry.key (name_of l.other) n (bits_in m n) (lone_apart l) some)) other_once (other_part l).stands;
+        }
 
-  pub exchange : (m new : Lodged V) {whole : Part m} (at up : Id) (l : IsLone m whole at up) (j : IsJoined m new whole at up l)
-      → IsExchange m new l.route.entry.key whole l.over (under_part j)
-  exchange m new at up l j = record {
-    low = refl;
-    above = refl;
-    keys = λ c value before have. side_have l.sides c value have;
-    leaves = λ n none some. j.leaves n ∙ misses_leaf (name_of l.other) n (λ r is same.
-        let there = named_leaf l.other r is in
-        let here = ap (λ k. leaves_at k l.other) same in
-        let sum = side_leaves n l.sides in absurd (omega arith)) l.over.above (leaves_in m n);
-    bits = λ n none some.
+    pub exchange : (new : Lodged V) (j : IsJoined m new whole at up l) → IsExchange m new l.route.entry.key whole l.over (under_part j)
+    exchange new j = record {
+      low = refl;
+      above = refl;
+      keys = λ c value before have. side_have l.sides c value have;
+      leaves = λ n none some. j.leaves n ∙ misses_leaf (name_of l.other) n (λ r is same.
+          let there = named_leaf l.other r is in
+          let here = ap (λ k. leaves_at k l.other) same in
+          let sum = side_leaves n l.sides in absurd (omega arith)) l.over.above (leaves_in m n);
+      bits = λ n none some.
+          let sum = lone_forks l n in
+          j.bits n ∙ misses_bit (name_of l.other) n (λ r is same.
+          let there = named_bit l.other r is in
+          let here = ap (λ k. forks_at k l.other) same in absurd (omega arith))
+          l.over.above (put_bit up None n (name_child l.over.above l.route.entry.key (name_of l.other) n (bits_in m n)))
+          ∙ put_off up n (name_child l.over.above l.route.entry.key (name_of l.other) n (bits_in m n))
+          (λ same. let own = ap (λ k. one_if (up.number == k)) same ∙ one_if_same up.number in absurd (omega arith));
+    }
+
+    -- ---- what the rooms say
+    pub routes_kept : {new : Lodged V} → IsJoined m new whole at up l → KeepsRoutes m new
+    routes_kept j n = ap content_of (j.leaves n) ∙ lift_content (name_of l.other) l.over.above n (leaves_in m n)
+
+    -- a room that is no bit node stays none
+    pub idle_stays : {new : Lodged V} → IsJoined m new whole at up l → (n : ℕ) → bits_in m n ≡ None → bits_in new n ≡ None
+    idle_stays j n none = j.bits n ∙ ap (lift_bit (name_of l.other) l.over.above n) (ap (put_bit up None n)
+        (ap (name_child l.over.above l.route.entry.key (name_of l.other) n) none
+        ∙ turn_none l.over.above l.route.entry.key n (name_of l.other)) ∙ put_none up n) ∙ lift_none (name_of l.other) l.over.above n
+
+    pub freed : {new : Lodged V} → IsJoined m new whole at up l → bits_in new up.number ≡ None
+    freed j = j.bits up.number ∙ ap (lift_bit (name_of l.other) l.over.above up.number)
+        (put_here up (name_child l.over.above l.route.entry.key (name_of l.other) up.number (bits_in m up.number)))
+        ∙ lift_none (name_of l.other) l.over.above up.number
+
+    same_bits : (new : Lodged V) → IsJoined m new whole at up l → (n : ℕ) → (n ≡ up.number → ⊥) → is_some (bits_in new n) ≡ is_some (bits_in m n)
+    same_bits new j n other = ap is_some (j.bits n)
+        ∙ lift_used (name_of l.other) l.over.above n (put_bit up None n (name_child l.over.above l.route.entry.key (name_of l.other) n (bits_in m n)))
+        ∙ ap is_some (put_off up n (name_child l.over.above l.route.entry.key (name_of l.other) n (bits_in m n)) other)
+        ∙ turn_used l.over.above l.route.entry.key n (name_of l.other) (bits_in m n)
+
+    fork_count : (new : Lodged V) → IsJoined m new whole at up l → (n : ℕ)
+        → forks_at n l.other + one_if (is_some (bits_in m n)) ≡ forks_at n l.over.tree + one_if (is_some (bits_in new n))
+    fork_count new j n =
         let sum = lone_forks l n in
-        j.bits n ∙ misses_bit (name_of l.other) n (λ r is same.
-        let there = named_bit l.other r is in
-        let here = ap (λ k. forks_at k l.other) same in absurd (omega arith))
-        l.over.above (put_bit up None n (name_child l.over.above l.route.entry.key (name_of l.other) n (bits_in m n)))
-        ∙ put_off up n (name_child l.over.above l.route.entry.key (name_of l.other) n (bits_in m n))
-        (λ same. let own = ap (λ k. one_if (up.number == k)) same ∙ one_if_same up.number in absurd (omega arith));
-  }
+        elim (up.number == n) as (λ t. (up.number == n) ≡ t → forks_at n l.over.tree ≡ one_if t + (0 + forks_at n l.other)
+        → forks_at n l.other + one_if (is_some (bits_in m n)) ≡ forks_at n l.over.tree + one_if (is_some (bits_in new n))) [
+          | true ↦ λ e all.
+              let same = eqb-true up.number n e in
+              let says = side_says l.sides (leaves_in m) (bits_in m) l.over.above l.over.stands in
+              let was = ap (λ o. one_if (is_some o)) (ap (bits_in m) (sym same) ∙ says.says) in
+              let is = ap (λ o. one_if (is_some o)) (ap (bits_in new) (sym same) ∙ freed j) in
+              omega arith
+          | false ↦ λ e all.
+              let same = ap one_if (same_bits new j n (λ is. true≢false (sym (eq-eqb up.number n (sym is)) ∙ e))) in omega arith
+        ] refl sum
 
-  -- ---- what the rooms say
-  pub routes_kept : {m new : Lodged V} {whole : Part m} {at up : Id} (l : IsLone m whole at up) → IsJoined m new whole at up l → KeepsRoutes m new
-  routes_kept {m = m} l j n = ap content_of (j.leaves n) ∙ lift_content (name_of l.other) l.over.above n (leaves_in m n)
+    -- ---- the whole
+    -- the room of the route that goes is not on the other side
+    own_room : (leaves_at at.number l.other ≡ 0) × (leaves_at at.number l.over.tree ≡ 1)
+    own_room =
+        let n = at.number in
+        let own = ap (λ i. one_if (i.number == at.number)) l.room_is ∙ one_if_same at.number in
+        let most = (lone_once l).leaves at.number in
+        let sum = side_leaves at.number l.sides in
+        (omega arith, omega arith)
 
-  -- a room that is no bit node stays none
-  pub idle_stays : {m new : Lodged V} {whole : Part m} {at up : Id} (l : IsLone m whole at up) → IsJoined m new whole at up l → (n : ℕ) → bits_in m n ≡ None
-      → bits_in new n ≡ None
-  idle_stays {up = up} l j n none = j.bits n ∙ ap (lift_bit (name_of l.other) l.over.above n) (ap (put_bit up None n)
-      (ap (name_child l.over.above l.route.entry.key (name_of l.other) n) none
-      ∙ turn_none l.over.above l.route.entry.key n (name_of l.other)) ∙ put_none up n) ∙ lift_none (name_of l.other) l.over.above n
+    short_stays : (new : Lodged V) → IsHanded m new l.over.low l.over.tree l.other → (y : Placed V) → IsIn y l.over.tree → y.entry.rank < l.over.low
+        → masks_in new y.room.number ≡ masks_in m y.room.number
+    short_stays new h y is short = h.masks y.room.number (λ z there past same. let rank = same_rank_at m l.over z y there is same in absurd (omega arith))
 
-  pub freed : {m new : Lodged V} {whole : Part m} {at up : Id} (l : IsLone m whole at up) → IsJoined m new whole at up l → bits_in new up.number ≡ None
-  freed {m = m} {up = up} l j = j.bits up.number ∙ ap (lift_bit (name_of l.other) l.over.above up.number)
-      (put_here up (name_child l.over.above l.route.entry.key (name_of l.other) up.number (bits_in m up.number)))
-      ∙ lift_none (name_of l.other) l.over.above up.number
+    pub fits : (new : Lodged V) (j : IsJoined m new whole at up l) → IsHanded m new l.over.low l.over.tree l.other → masks_in m at.number ≡ None
+        → Fits m new whole l.over (under_part j) (late_at at.number) nobody_late nobody_out (out_at at.number)
+    fits new j h unmarked =
+        let room = own_room in
+        let in_over : (y : Placed V) → IsIn y l.other → IsIn y l.over.tree = λ y is. in_side l.sides y is in
+        record {
+          leaves = λ n.
+              let sum = side_leaves n l.sides in
+              let same = ap one_if (routes_some m new (routes_kept j) n) in
+              let flip = one_flip n at.number ∙ ap (λ i. one_if (i.number == n)) (sym l.room_is) in omega arith;
+          forks = λ n. fork_count new j n;
+          heads = λ n none some. h.heads n none;
+          masks = λ n none some. h.masks n (λ y is past same.
+              let there = counted_leaf y l.over.tree is in
+              let here = ap (λ k. leaves_at k l.over.tree) (sym same) in
+              absurd (omega arith));
+          masks_above = λ y is short marked. short_stays new h y is short;
+          marks = h.marks;
+          kept = λ y is marked. elim (side_in l.sides y is) [
+            | inl own ↦ elim own [
+              | inl e ↦ let p = some_of (masks_in new y.room.number) marked in
+                  let q = h.marks y.room.number p.0 p.1 in
+                  absurd (none_some (sym unmarked ∙ ap (λ i. masks_in m i.number) (sym l.room_is ∙ ap (λ z. z.room) e) ∙ q.1))
+              | inr none ↦ absurd none
+            ]
+            | inr there ↦ (there, λ home. h.kept y there marked home)
+          ];
+          came = λ y is marked. in_over y is;
+          gone = λ y is short marked. marked_same (masks_in m) (masks_in new) y (short_stays new h y is short) marked;
+          lists = h.lists;
+          all = λ y is home. inr (
+            in_over y is,
+            elim home [ inl short ↦ inl short | inr there ↦ inr (home_side l.sides l.over.low y l.over.is is there) ],
+            λ marked. elim home [
+              | inl short ↦ marked_same (masks_in m) (masks_in new) y (short_stays new h y (in_over y is) short) marked
+              | inr there ↦ h.all y is there marked
+            ],
+            λ late.
+                let same = eqb-true y.room.number at.number late in
+                let there = counted_leaf y l.other is in
+                let here = ap (λ k. leaves_at k l.other) same in
+                let none = room.0 in absurd (omega arith),
+          );
+          late_aside = λ n none some late.
+              let same = eqb-true n at.number late in
+              let here = ap (λ k. leaves_at k l.over.tree) same in
+              let one = room.1 in absurd (omega arith);
+        }
 
-  same_bits : (m new : Lodged V) {whole : Part m} (at up : Id) (l : IsLone m whole at up) → IsJoined m new whole at up l → (n : ℕ) → (n ≡ up.number → ⊥)
-      → is_some (bits_in new n) ≡ is_some (bits_in m n)
-  same_bits m new at up l j n other = ap is_some (j.bits n)
-      ∙ lift_used (name_of l.other) l.over.above n (put_bit up None n (name_child l.over.above l.route.entry.key (name_of l.other) n (bits_in m n)))
-      ∙ ap is_some (put_off up n (name_child l.over.above l.route.entry.key (name_of l.other) n (bits_in m n)) other)
-      ∙ turn_used l.over.above l.route.entry.key n (name_of l.other) (bits_in m n)
+    abbrev pub exchanged_whole : (new : Lodged V) {root : Node} (j : IsJoined m new whole at up l) → name_of whole.tree ≡ root
+        → Exchanged m new l.route.entry.key whole l.over (under_part j) (root_after l.over.above (name_of l.other) root)
+    exchanged_whole new j named =
+        subst (λ r. Exchanged m new l.route.entry.key whole l.over (under_part j) (root_after l.over.above (name_of l.other) r)) named
+        (exchanged m new whole l.over l.ups l.way l.top l.once (exchange new j))
 
-  fork_count : (m new : Lodged V) {whole : Part m} (at up : Id) (l : IsLone m whole at up) → IsJoined m new whole at up l → (n : ℕ)
-      → forks_at n l.other + one_if (is_some (bits_in m n)) ≡ forks_at n l.over.tree + one_if (is_some (bits_in new n))
-  fork_count m new at up l j n =
-      let sum = lone_forks l n in
-      elim (up.number == n) as (λ t. (up.number == n) ≡ t → forks_at n l.over.tree ≡ one_if t + (0 + forks_at n l.other)
-      → forks_at n l.other + one_if (is_some (bits_in m n)) ≡ forks_at n l.over.tree + one_if (is_some (bits_in new n))) [
-        | true ↦ λ e all.
-            let same = eqb-true up.number n e in
-            let says = side_says l.sides (leaves_in m) (bits_in m) l.over.above l.over.stands in
-            let was = ap (λ o. one_if (is_some o)) (ap (bits_in m) (sym same) ∙ says.says) in
-            let is = ap (λ o. one_if (is_some o)) (ap (bits_in new) (sym same) ∙ freed l j) in
-            omega arith
-        | false ↦ λ e all.
-            let same = ap one_if (same_bits m new at up l j n (λ is. true≢false (sym (eq-eqb up.number n (sym is)) ∙ e))) in omega arith
-      ] refl sum
+  module _ {m new : Lodged V} {root : Node} {at up : Id} (w : IsWholeBut m root (late_at at.number) nobody_out) (l : IsLone m w.part at up)
+      (j : IsJoined m new w.part at up l) where
+    pub whole_joined : IsHanded m new l.over.low l.over.tree l.other → masks_in m at.number ≡ None
+        → IsWholeBut new (root_after l.over.above (name_of l.other) root) nobody_late (out_at at.number)
+    whole_joined h unmarked =
+        let e = exchanged_whole l new j w.named in
+        whole_changed w e (fits l new j h unmarked) (spare_changed w e
+        (λ spare. spare_same (bits_in m) (bits_in new) l.other (λ y is none. idle_stays l j y.room.number none) (side_spare l.sides (bits_in m) spare))
+        (λ n none some idle. idle_stays l j n idle))
 
-  -- ---- the whole
-  -- the room of the route that goes is not on the other side
-  own_room : (m : Lodged V) {whole : Part m} (at up : Id) (l : IsLone m whole at up) → (leaves_at at.number l.other ≡ 0) ×
-      (leaves_at at.number l.over.tree ≡ 1)
-  own_room m at up l =
-      let n = at.number in
-      let own = ap (λ i. one_if (i.number == at.number)) l.room_is ∙ one_if_same at.number in
-      let most = (lone_once l).leaves at.number in
-      let sum = side_leaves at.number l.sides in
-      (omega arith, omega arith)
-
-  short_stays : (m new : Lodged V) {whole : Part m} {at up : Id} (l : IsLone m whole at up) → IsHanded m new l.over.low l.over.tree l.other
-      → (y : Placed V) → IsIn y l.over.tree → y.entry.rank < l.over.low → masks_in new y.room.number ≡ masks_in m y.room.number
-  short_stays m new l h y is short = h.masks y.room.number (λ z there past same. let rank = same_rank_at m l.over z y there is same in absurd (omega arith))
-
-  pub fits : (m new : Lodged V) {whole : Part m} (at up : Id) (l : IsLone m whole at up) (j : IsJoined m new whole at up l)
-      → IsHanded m new l.over.low l.over.tree l.other → masks_in m at.number ≡ None
-      → Fits m new whole l.over (under_part j) (late_at at.number) nobody_late nobody_out (out_at at.number)
-  fits m new at up l j h unmarked =
-      let room = own_room m at up l in
-      let in_over : (y : Placed V) → IsIn y l.other → IsIn y l.over.tree = λ y is. in_side l.sides y is in
-      record {
-        leaves = λ n.
-            let sum = side_leaves n l.sides in
-            let same = ap one_if (routes_some m new (routes_kept l j) n) in
-            let flip = one_flip n at.number ∙ ap (λ i. one_if (i.number == n)) (sym l.room_is) in omega arith;
-        forks = λ n. fork_count m new at up l j n;
-        heads = λ n none some. h.heads n none;
-        masks = λ n none some. h.masks n (λ y is past same.
-            let there = counted_leaf y l.over.tree is in
-            let here = ap (λ k. leaves_at k l.over.tree) (sym same) in
-            absurd (omega arith));
-        masks_above = λ y is short marked. short_stays m new l h y is short;
-        marks = h.marks;
-        kept = λ y is marked. elim (side_in l.sides y is) [
-          | inl own ↦ elim own [
-            | inl e ↦ let p = some_of (masks_in new y.room.number) marked in
-                let q = h.marks y.room.number p.0 p.1 in
-                absurd (none_some (sym unmarked ∙ ap (λ i. masks_in m i.number) (sym l.room_is ∙ ap (λ z. z.room) e) ∙ q.1))
-            | inr none ↦ absurd none
-          ]
-          | inr there ↦ (there, λ home. h.kept y there marked home)
-        ];
-        came = λ y is marked. in_over y is;
-        gone = λ y is short marked. marked_same (masks_in m) (masks_in new) y (short_stays m new l h y is short) marked;
-        lists = h.lists;
-        all = λ y is home. inr (
-          in_over y is,
-          elim home [ inl short ↦ inl short | inr there ↦ inr (home_side l.sides l.over.low y l.over.is is there) ],
-          λ marked. elim home [
-            | inl short ↦ marked_same (masks_in m) (masks_in new) y (short_stays m new l h y (in_over y is) short) marked
-            | inr there ↦ h.all y is there marked
-          ],
-          λ late.
-              let same = eqb-true y.room.number at.number late in
-              let there = counted_leaf y l.other is in
-              let here = ap (λ k. leaves_at k l.other) same in
-              let none = room.0 in absurd (omega arith),
-        );
-        late_aside = λ n none some late.
-            let same = eqb-true n at.number late in
-            let here = ap (λ k. leaves_at k l.over.tree) same in
-            let one = room.1 in absurd (omega arith);
-      }
-
-  abbrev pub exchanged_whole : (m new : Lodged V) (whole : Part m) {root : Node} (at up : Id) (l : IsLone m whole at up) (j : IsJoined m new whole at up l)
-      → name_of whole.tree ≡ root → Exchanged m new l.route.entry.key whole l.over (under_part j) (root_after l.over.above (name_of l.other) root)
-  exchanged_whole m new whole at up l j named =
-      subst (λ r. Exchanged m new l.route.entry.key whole l.over (under_part j) (root_after l.over.above (name_of l.other) r)) named
-      (exchanged m new whole l.over l.ups l.way l.top l.once (exchange m new at up l j))
-
-  pub whole_joined : {m new : Lodged V} {root : Node} (at up : Id) (w : IsWholeBut m root (late_at at.number) nobody_out) (l : IsLone m w.part at up)
-      → IsJoined m new w.part at up l → IsHanded m new l.over.low l.over.tree l.other → masks_in m at.number ≡ None
-      → IsWholeBut new (root_after l.over.above (name_of l.other) root) nobody_late (out_at at.number)
-  whole_joined {m = m} {new = new} at up w l j h unmarked =
-      let e = exchanged_whole m new w.part at up l j w.named in
-      whole_changed m new w e (fits m new at up l j h unmarked) (spare_changed m new w e
-      (λ spare. spare_same (bits_in m) (bits_in new) l.other (λ y is none. idle_stays l j y.room.number none) (side_spare l.sides (bits_in m) spare))
-      (λ n none some idle. idle_stays l j n idle))
-
-  pub routes_joined : {m new : Lodged V} (root : Node) (at up : Id) (w : IsWholeBut m root (late_at at.number) nobody_out) (l : IsLone m w.part at up)
-      → IsJoined m new w.part at up l
-      → (p : LeafPart V) → leaves_in m at.number ≡ Some p → Gains (shown_entry p) (shown new (Some (root_after l.over.above (name_of l.other) root)))
-      (shown m (Some root))
-  routes_joined {m = m} {new = new} root at up w l j p said =
-      let e = exchanged_whole m new w.part at up l j w.named in
-      let is = inside (sym said ∙ lone_said m at up l) in
-      subst (λ q. Gains (shown_entry q) (shown new (Some (root_after l.over.above (name_of l.other) root))) (shown m (Some root))) (sym is)
-      (loses_spliced (routes_changed w e) (side_gains l.route l.other l.sides))
+    pub routes_joined : (p : LeafPart V) → leaves_in m at.number ≡ Some p
+        → Gains (shown_entry p) (shown new (Some (root_after l.over.above (name_of l.other) root))) (shown m (Some root))
+    routes_joined p said =
+        let e = exchanged_whole l new j w.named in
+        let is = inside (sym said ∙ lone_said m at up l) in
+        subst (λ q. Gains (shown_entry q) (shown new (Some (root_after l.over.above (name_of l.other) root))) (shown m (Some root))) (sym is)
+        (loses_spliced (routes_changed w e) (side_gains l.route l.other l.sides))
 
   -- the leaf of the route that goes stays as it is
   pub own_leaf : {m new : Lodged V} {whole : Part m} (at up : Id) (l : IsLone m whole at up) → IsJoined m new whole at up l
@@ -228,4 +222,4 @@ module _ {V : Type 0} where
   own_leaf {m = m} at up l j = j.leaves at.number ∙ misses_leaf (name_of l.other) at.number (λ r is same.
       let there = named_leaf l.other r is in
       let here = ap (λ k. leaves_at k l.other) same in
-      let none = (own_room m at up l).0 in absurd (omega arith)) l.over.above (leaves_in m at.number)
+      let none = (own_room l).0 in absurd (omega arith)) l.over.above (leaves_in m at.number)

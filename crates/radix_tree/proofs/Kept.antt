@@ -94,12 +94,13 @@ module _ {V : Type 0} where
       (value_read m room value f.said.at f.said.block is ∙ ap (λ e. e.value) f.said.entry)) ∙ sym f.entry
 
   -- ---- the first route of a key
-  pub Has-led : (m : Lodged V) {address : ℕ} {whole : Part m} {room : Id} → LedTo address whole room → Has m room
-  Has-led m {room = room} l =
-      let s = said_of m l.part l.leaf.first (in_leaf m l.leaf l.leaf.first (inl refl)) l.leaf.room_is in Has-leaf m room s.at s.block
+  module _ {m : Lodged V} {address : ℕ} {whole : Part m} {room : Id} (l : LedTo address whole room) where
+    pub Has-led : Has m room
+    Has-led =
+        let s = said_of m l.part l.leaf.first (in_leaf m l.leaf l.leaf.first (inl refl)) l.leaf.room_is in Has-leaf m room s.at s.block
 
-  pub led_first : (m : Lodged V) {address : ℕ} {whole : Part m} {room : Id} (l : LedTo address whole room) → IsSaid m room l.leaf.first
-  led_first m l = said_of m l.part l.leaf.first (in_leaf m l.leaf l.leaf.first (inl refl)) l.leaf.room_is
+    pub led_first : IsSaid m room l.leaf.first
+    led_first = said_of m l.part l.leaf.first (in_leaf m l.leaf l.leaf.first (inl refl)) l.leaf.room_is
 
   led_inside : (m : Lodged V) (key : ℕ) (whole : Part m) {room : Id} (l : LedTo key whole room) → IsIn l.leaf.first whole.tree
   led_inside m key whole l = way_inside m key whole l.part l.ups l.way l.leaf.first (in_leaf m l.leaf l.leaf.first (inl refl))
@@ -114,7 +115,7 @@ module _ {V : Type 0} where
 
   pub leaf_key : (m : Lodged V) {address : ℕ} {whole : Part m} {room : Id} (d : LedTo address whole room) (links : Links) {l : Leaf} → AreLinks m room links
       → l ≡ leaf_of links → l.key ≡ d.leaf.first.entry.key
-  leaf_key m {room = room} d links are leaf = (leaf_is m room (led_first m d) links are leaf).0
+  leaf_key m {room = room} d links are leaf = (leaf_is m room (led_first d) links are leaf).0
 
   -- each route of the key is of the chain to which it leads
   of_chain : (m : Lodged V) {key : ℕ} (whole : Part m) {room : Id} (l : LedTo key whole room) (y : Placed V) → IsIn y whole.tree → y.entry.key ≡ key
@@ -152,7 +153,7 @@ module _ {V : Type 0} where
   pub no_first : (m : Lodged V) (root : Node) (w : IsWhole m root) (key : ℕ) {room : Id} (l : LedTo key w.part room) (links : Links) (leaf : Leaf)
       → AreLinks m room links → leaf ≡ leaf_of links → (leaf.key ≡ key → ⊥) → first_of key (shown m (Some root)) ≡ None
   no_first m root w key {room = room} l links leaf are read differs =
-      none_if (first_of key (shown m (Some root))) (λ e is. differs ((leaf_is m room (led_first m l) links are read).0
+      none_if (first_of key (shown m (Some root))) (λ e is. differs ((leaf_is m room (led_first l) links are read).0
       ∙ (some_first m w key l e (ap (first_of key) (sym (shown_is w)) ∙ is)).0))
 
   abbrev NoneOf : ℕ → List (Entry V) → Type 0
@@ -178,7 +179,7 @@ module _ {V : Type 0} where
   first_found m w key {room = room} l links leaf value are read is same =
       let es = routes_of w.part.tree in
       let x = l.leaf.first in
-      let said = led_first m l in
+      let said = led_first l in
       let leaf_of_x = leaf_is m room said links are read in
       let key_is = sym leaf_of_x.0 ∙ same in
       let table = tree_is_table w.part.low w.part.tree w.part.is in
@@ -206,7 +207,8 @@ module _ {V : Type 0} where
       → shown next.lodged (Some root) ≡ t.entries
   entries_next nodes next {o = o} t view some begins = ap (shown next.lodged) (sym some) ∙ shown_next nodes next o t view begins
 
-  pub whole_next : (nodes next : Rooms V) {o : Option Node} {root : Node} → Holds nodes.lodged o → o ≡ Some root → IsNext nodes next → IsWhole next.lodged root
+  pub whole_next : (nodes next : Rooms V) {o : Option Node} {root : Node} → Holds nodes.lodged o → o ≡ Some root → IsNext nodes next → IsWhole next.lodged
+      root
   whole_next nodes next {root = root} holds some begins = subst (λ r. IsWhole r.lodged root) (sym begins) (whole_at nodes.lodged holds some)
 
   -- a pair whose route is in the tree is there

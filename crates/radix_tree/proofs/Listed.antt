@@ -38,7 +38,7 @@ module _ {V : Type 0} where
     in_home = let h = y.home in subst (IsIn y.is) h.at.is (way_leads m {address = y.is.entry.key} whole h.part h.ups h.way y.is y.inside refl)
 
     to_whole : (x : Placed V) → IsIn x (tree_of y.home) → IsIn x whole.tree
-    to_whole x is = home_inside m y.home x is
+    to_whole x is = home_inside y.home x is
 
     -- a member of the list of the route's rank is the route
     rank_is : (x : Placed V) → IsIn x (tree_of y.home) → x.entry.rank ≡ y.is.entry.rank → x ≡ y.is
@@ -118,7 +118,7 @@ module _ {V : Type 0} where
       let l = home_list y.home w.lists in
       let number = ap (λ i. i.number) y.room_is in
       whole_kept m new late (λ n. late n && not (n == room.number)) w leaves bits
-      (relisted m new y.is.entry.key y.is.entry.rank w.part node y.home once (record {
+      (relisted y.home new once (record {
         heads = s.heads;
         masks = λ x in_x out. s.masks l.masks (are_masks y l) x.room.number (not_room y x in_x out) (aside_of y l x in_x out);
         list = list_more m new w.part room node y l unmarked s;
@@ -183,8 +183,7 @@ module _ {V : Type 0} where
         → IsTakenOut m new node room → KeepsLeaves m new → KeepsBits m new → IsWholeBut new root (λ n. late n || (n == room.number)) nobody_out
     listed_less new room node once y marked s leaves bits =
         let l = home_list y.home w.lists in
-        whole_kept m new late (λ n. late n || (n == room.number)) w leaves bits (relisted m new y.is.entry.key y.is.entry.rank w.part node y.home once
-        (record {
+        whole_kept m new late (λ n. late n || (n == room.number)) w leaves bits (relisted y.home new once (record {
           heads = s.heads;
           masks = λ x in_x out. s.masks l.masks (are_masks y l) x.room.number (not_room y x in_x out) (aside_of y l x in_x out);
           list = list_less m new w.part room node y l marked s;

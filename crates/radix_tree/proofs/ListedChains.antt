@@ -30,22 +30,20 @@ eqb_not n k none same = not_true none (eq-eqb n k same)
 
 module _ {V : Type 0} where
   -- ---- one room
-  mask_said : (m : Lodged V) {room : Id} (h : Has m room) (links : Links) → AreLinks m room links
-      → masks_in m room.number ≡ mask_part h.room.block (mask_node_of links)
-  mask_said m h links are = ap mask_in h.at ∙ ap (λ l. mask_part h.room.block (mask_node_of l)) (sym (are h.room h.at))
+  module _ {m : Lodged V} {room : Id} (h : Has m room) where
+    mask_said : (links : Links) → AreLinks m room links → masks_in m room.number ≡ mask_part h.room.block (mask_node_of links)
+    mask_said links are = ap mask_in h.at ∙ ap (λ l. mask_part h.room.block (mask_node_of l)) (sym (are h.room h.at))
 
-  pub mask_none : {m : Lodged V} {room : Id} (links : Links) → Has m room → AreLinks m room links → mask_node_of links ≡ None → masks_in m room.number ≡ None
-  mask_none {m = m} links h are none = mask_said m h links are ∙ ap (mask_part h.room.block) none
+    pub mask_none : (links : Links) → AreLinks m room links → mask_node_of links ≡ None → masks_in m room.number ≡ None
+    mask_none links are none = mask_said links are ∙ ap (mask_part h.room.block) none
 
-  mask_some : (m : Lodged V) {room : Id} (links : Links) (n : MaskNode) → Has m room → AreLinks m room links → mask_node_of links ≡ Some n
-      → is_some (masks_in m room.number) ≡ true
-  mask_some m links n h are some = ap is_some (mask_said m h links are ∙ ap (mask_part h.room.block) some)
+    mask_some : (links : Links) (n : MaskNode) → AreLinks m room links → mask_node_of links ≡ Some n → is_some (masks_in m room.number) ≡ true
+    mask_some links n are some = ap is_some (mask_said links are ∙ ap (mask_part h.room.block) some)
 
-  -- a room whose mask is listed is not late
-  pub listed_late : {m : Lodged V} {root : Node} (late : ℕ → Bool) (w : IsWholeBut m root late nobody_out) (room : Id) (links : Links) (n : MaskNode)
-      → Has m room → AreLinks m room links → mask_node_of links ≡ Some n → IsWholeBut m root (λ k. late k && not (k == room.number)) nobody_out
-  listed_late {m = m} late w room links n h are some =
-      settled w room (λ x in_x home same. ap (λ k. is_some (masks_in m k)) same ∙ mask_some m links n h are some)
+    -- a room whose mask is listed is not late
+    pub listed_late : {root : Node} (late : ℕ → Bool) (w : IsWholeBut m root late nobody_out) (links : Links) (n : MaskNode) → AreLinks m room links
+        → mask_node_of links ≡ Some n → IsWholeBut m root (λ k. late k && not (k == room.number)) nobody_out
+    listed_late late w links n are some = settled w room (λ x in_x home same. ap (λ k. is_some (masks_in m k)) same ∙ mask_some links n are some)
 
   -- ---- how far the walk has to go: one more than the rank of the route that it has come to
   abbrev pub left_of : Option (LeafPart V) → ℕ

@@ -72,7 +72,7 @@ module _ {V : Type 0} where
         left = ap (λ p. p.zero) same;
         right = ap (λ p. p.one) same;
         above = ap (λ p. p.above) same;
-        head = head_read links h are is;
+        head = head_read h links are is;
         takes = takes (record { block = h.room.block; bit = n.bit; zero = n.zero; one = n.one; above = n.above }) said;
       }
 
@@ -193,8 +193,7 @@ module _ {V : Type 0} where
     contents_stay k = ap (λ o. content_of o) (d.leaves k) ∙ content_lift n.one (Some to) k (lift_leaf n.zero (Some to) k (leaves_in m k))
         ∙ content_lift n.zero (Some to) k (leaves_in m k)
 
-    used_is : (k : ℕ)
-        → is_some (bits_in new k) ≡ is_some (put_bit to (Some n) k
+    used_is : (k : ℕ) → is_some (bits_in new k) ≡ is_some (put_bit to (Some n) k
         (put_bit from None k (lift_bit n.one (Some to) k (lift_bit n.zero (Some to) k (bits_in m k)))))
     used_is k = ap is_some (d.bits k)
         ∙ rename_used n.above from to k (put_bit to (Some n) k (put_bit from None k (lift_bit n.one (Some to) k (lift_bit n.zero (Some to) k (bits_in m k)))))

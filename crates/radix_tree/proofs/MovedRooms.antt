@@ -68,39 +68,37 @@ module _ {V : Type 0} where
     }
 
   -- ---- the bit node above
-  zero_named : (m : Lodged V) (from to room : Id) (key : ℕ) {under over : Part m} (b : Beneath key under over) → name_of under.tree ≡ BitOf room
-      → room.number ≡ from.number → under.tree ≡ b.at.zero → bit_at b.at.bit key ≡ 0 → forks_at from.number b.at.one ≡ 0
-      → with_renamed from to (Some (bit_part_of b.at)) ≡ with_child key (BitOf to) (Some (bit_part_of b.at))
-  zero_named m from to room key b named same tree clear none =
-      let p = bit_part_of b.at in
-      let here = ap (renamed from to) (sym (ap name_of tree) ∙ named) ∙ renamed_to from to room same in
-      let there = renamed_off from to b.at.one none in
-      ap (λ z. Some (record (bit_part_of b.at) { zero = z; one = renamed from to (name_of b.at.one) })) here
-      ∙ ap (λ z. Some (record (bit_part_of b.at) { zero = BitOf to; one = z })) there ∙ sym (zero_turned key (BitOf to) (bit_part_of b.at) clear)
+  module _ {m : Lodged V} {key : ℕ} {under over : Part m} (b : Beneath key under over) where
+    zero_named : (from to room : Id) → name_of under.tree ≡ BitOf room → room.number ≡ from.number → under.tree ≡ b.at.zero → bit_at b.at.bit key ≡ 0
+        → forks_at from.number b.at.one ≡ 0 → with_renamed from to (Some (bit_part_of b.at)) ≡ with_child key (BitOf to) (Some (bit_part_of b.at))
+    zero_named from to room named same tree clear none =
+        let p = bit_part_of b.at in
+        let here = ap (renamed from to) (sym (ap name_of tree) ∙ named) ∙ renamed_to from to room same in
+        let there = renamed_off from to b.at.one none in
+        ap (λ z. Some (record (bit_part_of b.at) { zero = z; one = renamed from to (name_of b.at.one) })) here
+        ∙ ap (λ z. Some (record (bit_part_of b.at) { zero = BitOf to; one = z })) there ∙ sym (zero_turned key (BitOf to) (bit_part_of b.at) clear)
 
-  one_named : (m : Lodged V) (from to room : Id) (key : ℕ) {under over : Part m} (b : Beneath key under over) → name_of under.tree ≡ BitOf room
-      → room.number ≡ from.number → under.tree ≡ b.at.one → bit_at b.at.bit key ≡ 1 → forks_at from.number b.at.zero ≡ 0
-      → with_renamed from to (Some (bit_part_of b.at)) ≡ with_child key (BitOf to) (Some (bit_part_of b.at))
-  one_named m from to room key b named same tree set none =
-      let here = ap (renamed from to) (sym (ap name_of tree) ∙ named) ∙ renamed_to from to room same in
-      let there = renamed_off from to b.at.zero none in
-      ap (λ z. Some (record (bit_part_of b.at) { zero = renamed from to (name_of b.at.zero); one = z })) here
-      ∙ ap (λ z. Some (record (bit_part_of b.at) { zero = z; one = BitOf to })) there ∙ sym (one_turned key (BitOf to) (bit_part_of b.at) set)
+    one_named : (from to room : Id) → name_of under.tree ≡ BitOf room → room.number ≡ from.number → under.tree ≡ b.at.one → bit_at b.at.bit key ≡ 1
+        → forks_at from.number b.at.zero ≡ 0 → with_renamed from to (Some (bit_part_of b.at)) ≡ with_child key (BitOf to) (Some (bit_part_of b.at))
+    one_named from to room named same tree set none =
+        let here = ap (renamed from to) (sym (ap name_of tree) ∙ named) ∙ renamed_to from to room same in
+        let there = renamed_off from to b.at.zero none in
+        ap (λ z. Some (record (bit_part_of b.at) { zero = renamed from to (name_of b.at.zero); one = z })) here
+        ∙ ap (λ z. Some (record (bit_part_of b.at) { zero = z; one = BitOf to })) there ∙ sym (one_turned key (BitOf to) (bit_part_of b.at) set)
 
-  -- to name the room by its number is to turn the bit node above on the side of the way
-  over_named : (m : Lodged V) (from to room : Id) (key : ℕ) (under over : Part m) (b : Beneath key under over) → AreOnce over.tree
-      → 1 ≤ forks_at from.number under.tree → name_of under.tree ≡ BitOf room → room.number ≡ from.number
-      → with_renamed from to (bits_in m b.room.number) ≡ with_child key (BitOf to) (bits_in m b.room.number)
-  over_named m from to room key under over b once some named same =
-      let said = (fork_stands b.at).0 in
-      let sum = ap (forks_at from.number) b.at.is in
-      let most = once.forks from.number in
-      ap (with_renamed from to) said ∙ elim b.side [
-        | inl e ↦ let is = ap (forks_at from.number) e.0 in
-            zero_named m from to room key b named same e.0 e.1 (omega arith)
-        | inr e ↦ let is = ap (forks_at from.number) e.0 in
-            one_named m from to room key b named same e.0 e.1 (omega arith)
-      ] ∙ sym (ap (with_child key (BitOf to)) said)
+    -- to name the room by its number is to turn the bit node above on the side of the way
+    over_named : (from to room : Id) → AreOnce over.tree → 1 ≤ forks_at from.number under.tree → name_of under.tree ≡ BitOf room → room.number ≡ from.number
+        → with_renamed from to (bits_in m b.room.number) ≡ with_child key (BitOf to) (bits_in m b.room.number)
+    over_named from to room once some named same =
+        let said = (fork_stands b.at).0 in
+        let sum = ap (forks_at from.number) b.at.is in
+        let most = once.forks from.number in
+        ap (with_renamed from to) said ∙ elim b.side [
+          | inl e ↦ let is = ap (forks_at from.number) e.0 in
+              zero_named from to room named same e.0 e.1 (omega arith)
+          | inr e ↦ let is = ap (forks_at from.number) e.0 in
+              one_named from to room named same e.0 e.1 (omega arith)
+        ] ∙ sym (ap (with_child key (BitOf to)) said)
 
   spine_named : (m : Lodged V) (from to room : Id) (key : ℕ) (whole at : Part m) (ups : List (Part m)) → Way key whole at ups → whole.above ≡ None
       → AreOnce whole.tree → 1 ≤ forks_at from.number at.tree → name_of at.tree ≡ BitOf room → room.number ≡ from.number
@@ -113,7 +111,7 @@ module _ {V : Type 0} where
       ap (λ o. rename o from to k (bits_in m k)) b.above ∙ elim (k == b.room.number) as (λ t. (k == b.room.number) ≡ t
       → (if t then with_renamed from to (bits_in m k) else bits_in m k) ≡ (if t then with_child key (BitOf to) (bits_in m k) else bits_in m k)) [
         | true ↦ λ e. subst (λ j. with_renamed from to (bits_in m j) ≡ with_child key (BitOf to) (bits_in m j)) (sym (eqb-true k b.room.number e))
-            (over_named m from to room key at p b (way_once key whole p ps way.1 once) some named same)
+            (over_named b from to room (way_once key whole p ps way.1 once) some named same)
         | false ↦ λ e. refl
       ] refl ∙ sym (ap (λ o. name_child o key (BitOf to) k (bits_in m k)) b.above)
 

@@ -57,7 +57,7 @@ module _ {V : Type 0} where
         → IsWholeBut new name nobody_late (out_at from.number)
     whole_moved {new = new} d is =
         let e = changed new d in
-        subst (λ z. IsWholeBut new z nobody_late (out_at from.number)) (named_now ∙ sym is) (whole_changed m new v.whole e (fits v d) (spare_now new d e))
+        subst (λ z. IsWholeBut new z nobody_late (out_at from.number)) (named_now ∙ sym is) (whole_changed v.whole e (fits v d) (spare_now new d e))
 
     pub routes_moved : {new : Lodged V} {name : Node} (d : IsMoved m new from to n) → name ≡ root_after n.above (BitOf to) root
         → shown new (Some name) ≡ shown m (Some root)

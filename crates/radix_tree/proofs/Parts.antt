@@ -138,8 +138,7 @@ module _ {V : Type 0} where
       ])
 
   pub way_lists : (M : Placed V → Type 0) {m : Lodged V} (address : ℕ) (whole at : Part m) (ups : List (Part m)) → Way address whole at ups → ListsOf M m
-      whole
-      → ListsOf M m at
+      whole → ListsOf M m at
   way_lists M {m = m} address whole at [] way listed = subst (ListsOf M m) (sym way) listed
   way_lists M address whole at (p ∷ ps) way listed = lists_beneath M at p way.0 (way_lists M address whole p ps way.1 listed)
 
@@ -147,5 +146,4 @@ module _ {V : Type 0} where
   pub way_best : (m : Lodged V) (address : ℕ) (whole at : Part m) (ups : List (Part m)) → Way address whole at ups → (x : Placed V)
       → Best address at.low 34 (In at) (Some x) → Best address whole.low 34 (In whole) (Some x)
   way_best m address whole at [] way x best = subst (λ p. Best address p.low 34 (In p) (Some x)) way best
-  way_best m address whole at (p ∷ ps) way x best =
-      way_best m address whole p ps way.1 x (side_hit address p.low way.0.at.bit at.tree p.tree x (side_of m way.0) best)
+  way_best m address whole at (p ∷ ps) way x best = way_best m address whole p ps way.1 x (side_hit (side_of m way.0) p.low x best)

@@ -63,33 +63,31 @@ module _ {V : Type 0} where
   keeps_one H G K J room b zero fs t u k =
       record { heads = λ n some. k.heads n (omega arith); aside = λ y at. k.aside y (inr at); stays = k.stays; came = k.came }
 
-  -- the marked routes of ranks below top are the same
-  stays_within : (H G : Heads) (K J : Masks) {top : ℕ} {fs : List (Frame V)} (t u : Tree V) → KeepsAbove H G K J top fs t u → (y : Placed V)
-      → IsIn y (plug fs t) → y.entry.rank < top → IsMarked K y → MarkedIn J (plug fs u) y × (J y.room.number ≡ K y.room.number)
-  stays_within H G K J {fs = fs} t u k y is below marked = elim (in_plug fs t y is) [
-    | inl aside ↦ ((aside_in fs u y aside, marked_same K J y (k.aside y aside) marked), k.aside y aside)
-    | inr at ↦ let s = k.stays y at below marked in ((plug_in fs u y s.0, marked_same K J y s.1 marked), s.1)
-  ]
+  module _ {H G : Heads} {K J : Masks} {top : ℕ} {fs : List (Frame V)} {t u : Tree V} (k : KeepsAbove H G K J top fs t u) where
+    -- the marked routes of ranks below top are the same
+    stays_within : (y : Placed V) → IsIn y (plug fs t) → y.entry.rank < top → IsMarked K y → MarkedIn J (plug fs u) y × (J y.room.number ≡ K y.room.number)
+    stays_within y is below marked = elim (in_plug fs t y is) [
+      | inl aside ↦ ((aside_in fs u y aside, marked_same K J y (k.aside y aside) marked), k.aside y aside)
+      | inr at ↦ let s = k.stays y at below marked in ((plug_in fs u y s.0, marked_same K J y s.1 marked), s.1)
+    ]
 
-  came_within : (H G : Heads) (K J : Masks) {top : ℕ} {fs : List (Frame V)} (t u : Tree V) → KeepsAbove H G K J top fs t u → (y : Placed V)
-      → IsIn y (plug fs u) → y.entry.rank < top → IsMarked J y → IsIn y (plug fs t) × IsMarked K y
-  came_within H G K J {fs = fs} t u k y is below marked = elim (in_plug fs u y is) [
-    | inl aside ↦ (aside_in fs t y aside, marked_same J K y (sym (k.aside y aside)) marked)
-    | inr at ↦ let c = k.came y at below marked in (plug_in fs t y c.0, c.1)
-  ]
+    came_within : (y : Placed V) → IsIn y (plug fs u) → y.entry.rank < top → IsMarked J y → IsIn y (plug fs t) × IsMarked K y
+    came_within y is below marked = elim (in_plug fs u y is) [
+      | inl aside ↦ (aside_in fs t y aside, marked_same J K y (sym (k.aside y aside)) marked)
+      | inr at ↦ let c = k.came y at below marked in (plug_in fs t y c.0, c.1)
+    ]
 
   -- the whole's lists, once the part is exchanged
   pub plug_lists : {H G : Heads} {K J : Masks} (low : ℕ) (fs : List (Frame V)) {t u : Tree V} → IsTree low (plug fs t)
-      → KeepsAbove H G K J (low_past low fs) fs t u
-      → MarkedLists H K low (plug fs t) → MarkedLists G J (low_past low fs) u → MarkedLists G J low (plug fs u)
+      → KeepsAbove H G K J (low_past low fs) fs t u → MarkedLists H K low (plug fs t) → MarkedLists G J (low_past low fs) u → MarkedLists G J low (plug fs u)
   plug_lists low [] is k lists own = own
   plug_lists {H = H} {G = G} {K = K} {J = J} low (on_zero room b one ∷ fs) {t = t} {u = u} is k lists own =
       let top = low_past (b + 1) fs in
       let further = low_rises (b + 1) fs t is.1 in
       let within : (n : ℕ) → forks_at n t ≤ forks_at n (plug fs t) = λ n. forks_within fs t n in (
         mask_list_same K J low b (MarkedIn J (fork room b (plug fs u) one)) (k.heads room.number (let own = one_if_same room.number in
-            let le = within room.number in omega arith)) (λ x member most. stays_within H G K J t u k x member.0 (omega arith) member.1)
-            (λ x member most. came_within H G K J t u k x member.0 (omega arith) member.1) lists.0,
+            let le = within room.number in omega arith)) (λ x member most. stays_within k x member.0 (omega arith) member.1)
+            (λ x member most. came_within k x member.0 (omega arith) member.1) lists.0,
         plug_lists (b + 1) fs is.1 (keeps_zero H G K J room b one fs t u k) lists.1 own,
         lists_same H G K J (b + 1) one (λ n some. k.heads n (let le = within n in omega arith)) (λ y at. k.aside y (inl at)) lists.2,
       )
@@ -98,8 +96,8 @@ module _ {V : Type 0} where
       let further = low_rises (b + 1) fs t is.2 in
       let within : (n : ℕ) → forks_at n t ≤ forks_at n (plug fs t) = λ n. forks_within fs t n in (
         mask_list_same K J low b (MarkedIn J (fork room b zero (plug fs u))) (k.heads room.number (let own = one_if_same room.number in
-            let le = within room.number in omega arith)) (λ x member most. stays_within H G K J t u k x member.0 (omega arith) member.1)
-            (λ x member most. came_within H G K J t u k x member.0 (omega arith) member.1) lists.0,
+            let le = within room.number in omega arith)) (λ x member most. stays_within k x member.0 (omega arith) member.1)
+            (λ x member most. came_within k x member.0 (omega arith) member.1) lists.0,
         lists_same H G K J (b + 1) zero (λ n some. k.heads n (let le = within n in omega arith)) (λ y at. k.aside y (inl at)) lists.1,
         plug_lists (b + 1) fs is.2 (keeps_one H G K J room b zero fs t u k) lists.2 own,
       )

@@ -46,7 +46,8 @@ module _ {V : Type 0} where
   pub Has-leaf : (m : Lodged V) (room : Id) {p : LeafPart V} → leaves_in m room.number ≡ Some p → p.block ≡ room.block → Has m room
   Has-leaf m room {p = p} e block = leaf_there m room p (get m room.number) refl e block
 
-  pub leaf_read : (m : Lodged V) (room : Id) {p : LeafPart V} (links : Links) → leaves_in m room.number ≡ Some p → p.block ≡ room.block → AreLinks m room links
+  pub leaf_read : (m : Lodged V) (room : Id) {p : LeafPart V} (links : Links) → leaves_in m room.number ≡ Some p → p.block ≡ room.block → AreLinks m room
+      links
       → leaf_of links ≡ p.leaf
   leaf_read m room links e block are =
       let h = Has-leaf m room e block in
@@ -83,23 +84,22 @@ module _ {V : Type 0} where
       let h = Has-bit m room e block in
       none_some (sym (ap (bit_part h.room.block) none) ∙ bit_said m p links h e are)
 
-  -- what the links say is what the room says
-  pub bit_told : {m : Lodged V} {room : Id} {links : Links} → Has m room → AreLinks m room links
-      → bits_in m room.number ≡ bit_part room.block (bit_node_of links)
-  bit_told {links = links} h are = ap bit_in h.at ∙ ap (λ l. bit_part h.room.block (bit_node_of l)) (sym (are h.room h.at))
-      ∙ ap (λ b. bit_part b (bit_node_of links)) h.block
+  module _ {m : Lodged V} {room : Id} (h : Has m room) where
+    -- what the links say is what the room says
+    pub bit_told : {links : Links} → AreLinks m room links → bits_in m room.number ≡ bit_part room.block (bit_node_of links)
+    bit_told {links = links} are = ap bit_in h.at ∙ ap (λ l. bit_part h.room.block (bit_node_of l)) (sym (are h.room h.at))
+        ∙ ap (λ b. bit_part b (bit_node_of links)) h.block
 
-  pub mask_told : {m : Lodged V} {room : Id} {links : Links} → Has m room → AreLinks m room links
-      → masks_in m room.number ≡ mask_part room.block (mask_node_of links)
-  mask_told {links = links} h are = ap mask_in h.at ∙ ap (λ l. mask_part h.room.block (mask_node_of l)) (sym (are h.room h.at))
-      ∙ ap (λ b. mask_part b (mask_node_of links)) h.block
+    pub mask_told : {links : Links} → AreLinks m room links → masks_in m room.number ≡ mask_part room.block (mask_node_of links)
+    mask_told {links = links} are = ap mask_in h.at ∙ ap (λ l. mask_part h.room.block (mask_node_of l)) (sym (are h.room h.at))
+        ∙ ap (λ b. mask_part b (mask_node_of links)) h.block
 
-  pub head_read : {m : Lodged V} {room : Id} (links : Links) {n : BitNode} → Has m room → AreLinks m room links → bit_node_of links ≡ Some n
-      → heads_in m room.number ≡ n.masks
-  head_read links h are is = ap head_in h.at ∙ sym (ap (λ l. head_part (bit_node_of l)) (are h.room h.at)) ∙ ap head_part is
+    pub head_read : (links : Links) {n : BitNode} → AreLinks m room links → bit_node_of links ≡ Some n → heads_in m room.number ≡ n.masks
+    head_read links are is = ap head_in h.at ∙ sym (ap (λ l. head_part (bit_node_of l)) (are h.room h.at)) ∙ ap head_part is
 
   -- ---- as a mask node
-  mask_there : (m : Lodged V) (room : Id) (p : MaskPart) (o : Option (Seen V)) → get m room.number ≡ o → mask_in o ≡ Some p → p.block ≡ room.block → Has m room
+  mask_there : (m : Lodged V) (room : Id) (p : MaskPart) (o : Option (Seen V)) → get m room.number ≡ o → mask_in o ≡ Some p → p.block ≡ room.block → Has m
+      room
   mask_there m room p None at e block = absurd (none_some e)
   mask_there m room p (Some s) at e block = record { room = s; at = at; block = mask_block s.block (mask_node_of s.links) p e ∙ block }
 

@@ -11,23 +11,25 @@ through_if f true x y = refl
 through_if f false x y = refl
 
 module _ {V : Type 0} where
-  -- a role of each room, once one of them has other links
-  role : {A : Type 0} (f : Option (Seen V) → A) (m new : Lodged V) {room : Id} (links : Links) (h : Has m room) → new ≡ put_links m room links → (n : ℕ)
-      → f (get new n) ≡ (if n == room.number then f (Some (seen room.block h.room.value links)) else f (get m n))
-  role f m new {room = room} links h is n = ap (λ k. f (get k n)) is ∙ ap f (get-put_links m room links h n)
-      ∙ through_if f (n == room.number) (Some (seen room.block h.room.value links)) (get m n)
+  module _ {m : Lodged V} {room : Id} (h : Has m room) where
+    -- a role of each room, once one of them has other links
+    role : {A : Type 0} (f : Option (Seen V) → A) (new : Lodged V) (links : Links) → new ≡ put_links m room links → (n : ℕ)
+        → f (get new n) ≡ (if n == room.number then f (Some (seen room.block h.room.value links)) else f (get m n))
+    role f new links is n = ap (λ k. f (get k n)) is ∙ ap f (get-put_links m room links h n)
+        ∙ through_if f (n == room.number) (Some (seen room.block h.room.value links)) (get m n)
 
-  there : (m : Lodged V) (room : Id) (h : Has m room) (n : ℕ) → (n == room.number) ≡ true → get m n ≡ Some h.room
-  there m room h n e = ap (get m) (eqb-true n room.number e) ∙ h.at
+    there : (n : ℕ) → (n == room.number) ≡ true → get m n ≡ Some h.room
+    there n e = ap (get m) (eqb-true n room.number e) ∙ h.at
 
-  -- it stays where the new links say the same
-  kept : {A : Type 0} (f : Option (Seen V) → A) (m new : Lodged V) {room : Id} (links : Links) (h : Has m room) → new ≡ put_links m room links
-      → f (Some (seen room.block h.room.value links)) ≡ f (Some h.room) → (n : ℕ) → f (get new n) ≡ f (get m n)
-  kept f m new {room = room} links h is same n = role f m new links h is n
-      ∙ elim (n == room.number) as (λ t. (n == room.number) ≡ t → (if t then f (Some (seen room.block h.room.value links)) else f (get m n)) ≡ f (get m n)) [
-        | true ↦ λ e. same ∙ sym (ap f (there m room h n e))
-        | false ↦ λ e. refl
-      ] refl
+    -- it stays where the new links say the same
+    kept : {A : Type 0} (f : Option (Seen V) → A) (new : Lodged V) (links : Links) → new ≡ put_links m room links
+        → f (Some (seen room.block h.room.value links)) ≡ f (Some h.room) → (n : ℕ) → f (get new n) ≡ f (get m n)
+    kept f new links is same n = role f new links is n
+        ∙ elim (n == room.number) as (λ t. (n == room.number) ≡ t → (if t then f (Some (seen room.block h.room.value links)) else f (get m n)) ≡ f
+        (get m n)) [
+          | true ↦ λ e. same ∙ sym (ap f (there n e))
+          | false ↦ λ e. refl
+        ] refl
 
   -- ---- each role
   part : Ptr → V → Leaf → LeafPart V
@@ -36,44 +38,44 @@ module _ {V : Type 0} where
   pub leaves_kept : {m new : Lodged V} {room : Id} (links old : Links) → Has m room → new ≡ put_links m room links → AreLinks m room old
       → leaf_of links ≡ leaf_of old → KeepsLeaves m new
   unfolding part
-  leaves_kept {m = m} {new = new} links old h is are same = kept leaf_in m new links h is (ap (λ b. Some (part b h.room.value (leaf_of links))) (sym h.block)
+  leaves_kept {m = m} {new = new} links old h is are same = kept h leaf_in new links is (ap (λ b. Some (part b h.room.value (leaf_of links))) (sym h.block)
       ∙ ap (λ l. Some (part h.room.block h.room.value l)) (same ∙ ap leaf_of (are h.room h.at)))
 
   module _ {m : Lodged V} {room : Id} (h : Has m room) where
     pub bits_kept : {new : Lodged V} (links old : Links) → new ≡ put_links m room links → AreLinks m room old → bit_node_of links ≡ bit_node_of old
         → KeepsBits m new
-    bits_kept {new = new} links old is are same = kept bit_in m new links h is
+    bits_kept {new = new} links old is are same = kept h bit_in new links is
         (ap (λ b. bit_part b (bit_node_of links)) (sym h.block) ∙ ap (bit_part h.room.block) (same ∙ ap bit_node_of (are h.room h.at)))
 
     pub heads_kept : {new : Lodged V} (links old : Links) → new ≡ put_links m room links → AreLinks m room old → bit_node_of links ≡ bit_node_of old
         → KeepsHeads m new
-    heads_kept {new = new} links old is are same = kept head_in m new links h is (ap head_part (same ∙ ap bit_node_of (are h.room h.at)))
+    heads_kept {new = new} links old is are same = kept h head_in new links is (ap head_part (same ∙ ap bit_node_of (are h.room h.at)))
 
     pub masks_kept : {new : Lodged V} (links old : Links) → new ≡ put_links m room links → AreLinks m room old → mask_node_of links ≡ mask_node_of old
         → KeepsMasks m new
-    masks_kept {new = new} links old is are same = kept mask_in m new links h is
+    masks_kept {new = new} links old is are same = kept h mask_in new links is
         (ap (λ b. mask_part b (mask_node_of links)) (sym h.block) ∙ ap (mask_part h.room.block) (same ∙ ap mask_node_of (are h.room h.at)))
 
     pub bits_put : {new : Lodged V} (links : Links) {node : Option BitNode} → new ≡ put_links m room links → bit_node_of links ≡ node → (n : ℕ)
         → bits_in new n ≡ put_bit room node n (bits_in m n)
-    bits_put {new = new} links is said n = role bit_in m new links h is n ∙ ap (λ o. put_bit room o n (bits_in m n)) said
+    bits_put {new = new} links is said n = role h bit_in new links is n ∙ ap (λ o. put_bit room o n (bits_in m n)) said
 
     pub heads_put : {new : Lodged V} (links : Links) {node : Option BitNode} → new ≡ put_links m room links → bit_node_of links ≡ node → (n : ℕ)
         → heads_in new n ≡ put_head room node n (heads_in m n)
-    heads_put {new = new} links is said n = role head_in m new links h is n ∙ ap (λ o. put_head room o n (heads_in m n)) said
+    heads_put {new = new} links is said n = role h head_in new links is n ∙ ap (λ o. put_head room o n (heads_in m n)) said
 
     pub masks_put : {new : Lodged V} (links : Links) {node : Option MaskNode} → new ≡ put_links m room links → mask_node_of links ≡ node → (n : ℕ)
         → masks_in new n ≡ put_mask room node n (masks_in m n)
-    masks_put {new = new} links is said n = role mask_in m new links h is n ∙ ap (λ o. put_mask room o n (masks_in m n)) said
+    masks_put {new = new} links is said n = role h mask_in new links is n ∙ ap (λ o. put_mask room o n (masks_in m n)) said
 
   pub leaves_put : {m new : Lodged V} (room : Id) (links : Links) (leaf : Leaf) → Has m room → new ≡ put_links m room links → leaf_of links ≡ leaf
       → (n : ℕ) → leaves_in new n ≡ put_leaf room leaf n (leaves_in m n)
   unfolding part
-  leaves_put {m = m} {new = new} room links leaf h is said n = role leaf_in m new links h is n ∙ elim (n == room.number) as (λ t. (n == room.number) ≡ t
+  leaves_put {m = m} {new = new} room links leaf h is said n = role h leaf_in new links is n ∙ elim (n == room.number) as (λ t. (n == room.number) ≡ t
       → (if t then Some (part room.block h.room.value (leaf_of links)) else leaf_in (get m n))
       ≡ (if t then with_leaf leaf (leaf_in (get m n)) else leaf_in (get m n))) [
         | true ↦ λ e. ap (λ b. Some (part b h.room.value (leaf_of links))) (sym h.block) ∙ ap (λ l. Some (part h.room.block h.room.value l)) said
-            ∙ sym (ap (λ o. with_leaf leaf (leaf_in o)) (there m room h n e))
+            ∙ sym (ap (λ o. with_leaf leaf (leaf_in o)) (there h n e))
         | false ↦ λ e. refl
       ] refl
 

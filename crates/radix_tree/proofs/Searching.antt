@@ -43,42 +43,39 @@ module _ {V : Type 0} where
       ] in
       (short, clear_bit b route short within)
 
-  -- so the best of the address's side is the best of both
-  pub side_hit : (address low b : ℕ) (side whole : Tree V) (x : Placed V) → IsSide address b side whole
-      → Best address (b + 1) 34 (λ y. IsIn y side) (Some x) → Best address low 34 (λ y. IsIn y whole) (Some x)
-  side_hit address low b side whole x is best = (
-    is.inside x best.0,
-    best.1,
-    λ y at covers below. elim (is.parted y at) [
-      | inl p ↦ best.2 y p covers below
-      | inr differs ↦ let other = other_side address b y is.within (is.routes y at) covers differs in
-          let short = other.0 in
-          elim (cases_lt b x.entry.rank) [
-            | inl long ↦ omega arith
-            | inr le ↦ absurd (differs (other.1 ∙ sym (clear_bit b (is.routes x (is.inside x best.0)) le is.within) ∙ is.here x best.0))
-          ]
-    ],
-  )
+  module _ {address b : ℕ} {side whole : Tree V} (is : IsSide address b side whole) where
+    -- so the best of the address's side is the best of both
+    pub side_hit : (low : ℕ) (x : Placed V) → Best address (b + 1) 34 (λ y. IsIn y side) (Some x) → Best address low 34 (λ y. IsIn y whole) (Some x)
+    side_hit low x best = (
+      is.inside x best.0,
+      best.1,
+      λ y at covers below. elim (is.parted y at) [
+        | inl p ↦ best.2 y p covers below
+        | inr differs ↦ let other = other_side address b y is.within (is.routes y at) covers differs in
+            let short = other.0 in
+            elim (cases_lt b x.entry.rank) [
+              | inl long ↦ omega arith
+              | inr le ↦ absurd (differs (other.1 ∙ sym (clear_bit b (is.routes x (is.inside x best.0)) le is.within) ∙ is.here x best.0))
+            ]
+      ],
+    )
 
-  -- where that side has none, all that cover the address have a rank not past the bit
-  all_short : (address b : ℕ) (side whole : Tree V) → IsSide address b side whole → Best address (b + 1) 34 (λ y. IsIn y side) None
-      → (y : Placed V) → IsIn y whole → Covers address y.entry → y.entry.rank < 34 → y.entry.rank < b + 1
-  all_short address b side whole is none y at covers below = elim (is.parted y at) [
-    | inl p ↦ none y p covers below
-    | inr differs ↦ let short = (other_side address b y is.within (is.routes y at) covers differs).0 in omega arith
-  ]
+    -- where that side has none, all that cover the address have a rank not past the bit
+    all_short : Best address (b + 1) 34 (λ y. IsIn y side) None → (y : Placed V) → IsIn y whole → Covers address y.entry → y.entry.rank < 34
+        → y.entry.rank < b + 1
+    all_short none y at covers below = elim (is.parted y at) [
+      | inl p ↦ none y p covers below
+      | inr differs ↦ let short = (other_side address b y is.within (is.routes y at) covers differs).0 in omega arith
+    ]
 
-  -- and the masks that the node lists decide
-  pub listed_hit : (address low b : ℕ) (side whole : Tree V) (x : Placed V) → IsSide address b side whole
-      → Best address (b + 1) 34 (λ y. IsIn y side) None → Best address low (b + 1) (λ y. IsIn y whole) (Some x)
-      → Best address low 34 (λ y. IsIn y whole) (Some x)
-  listed_hit address low b side whole x is none best =
-      (best.0, best.1, λ y at covers below. best.2 y at covers (all_short address b side whole is none y at covers below))
+    -- and the masks that the node lists decide
+    pub listed_hit : (low : ℕ) (x : Placed V) → Best address (b + 1) 34 (λ y. IsIn y side) None → Best address low (b + 1) (λ y. IsIn y whole) (Some x)
+        → Best address low 34 (λ y. IsIn y whole) (Some x)
+    listed_hit low x none best = (best.0, best.1, λ y at covers below. best.2 y at covers (all_short none y at covers below))
 
-  pub listed_miss : (address low b : ℕ) (side whole : Tree V) → IsSide address b side whole
-      → Best address (b + 1) 34 (λ y. IsIn y side) None → Best address low (b + 1) (λ y. IsIn y whole) None
-      → Best address low 34 (λ y. IsIn y whole) None
-  listed_miss address low b side whole is none best = λ y at covers below. best y at covers (all_short address b side whole is none y at covers below)
+    pub listed_miss : (low : ℕ) → Best address (b + 1) 34 (λ y. IsIn y side) None → Best address low (b + 1) (λ y. IsIn y whole) None
+        → Best address low 34 (λ y. IsIn y whole) None
+    listed_miss low none best = λ y at covers below. best y at covers (all_short none y at covers below)
 
   -- ---- the masks of one bit node
   falls_below : (low top : ℕ) (ms : List (Placed V)) → Falls low top ms → (y : Placed V) → IsAmong y ms → y.entry.rank < top

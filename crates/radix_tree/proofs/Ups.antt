@@ -43,8 +43,8 @@ module _ {V : Type 0} {m : Lodged V} where
       let told = subst (Tells (Best address o.part.low (b.at.bit + 1) (In o.part))) some tells in (
         told.0,
         told.1,
-        way_best m address whole o.part o.ups o.way told.0 (listed_hit address o.part.low b.at.bit under.tree o.part.tree told.0 (side_of m b)
-            (subst (λ n. Best address n 34 (In under) None) b.low s.none) told.2),
+        way_best m address whole o.part o.ups o.way told.0
+        (listed_hit (side_of m b) o.part.low told.0 (subst (λ n. Best address n 34 (In under) None) b.low s.none) told.2),
       )
 
   -- or none
@@ -57,8 +57,7 @@ module _ {V : Type 0} {m : Lodged V} where
       let told = subst (Tells (Best address o.part.low (b.at.bit + 1) (In o.part))) none tells in
       let rises = (fork_is (fork_over o)).0.rises in
       record {
-        none = listed_miss address o.part.low b.at.bit under.tree o.part.tree (side_of m b) (subst (λ n. Best address n 34 (In under) None) b.low s.none)
-            told;
+        none = listed_miss (side_of m b) o.part.low (subst (λ n. Best address n 34 (In under) None) b.low s.none) told;
         rises = omega arith;
         few = omega (arith, rises, b.low, s.few);
       }

@@ -66,8 +66,7 @@ module _ {V : Type 0} (n : ℕ) (value : V) where
           front = [];
           back = map_entries c;
           was = refl;
-          now = ap (λ f. f ∷ map_entries (all_valued n value c)) (here_is y at)
-              ∙ ap (λ es. record y.entry { value = value } ∷ es) (chain_aside c none);
+          now = ap (λ f. f ∷ map_entries (all_valued n value c)) (here_is y at) ∙ ap (λ es. record y.entry { value = value } ∷ es) (chain_aside c none);
         })
     | inr rest ↦ let some = counted_among x c is rest in
         let here : one_if (y.room.number == n) ≡ 0 = omega (arith, some, once) in
@@ -133,49 +132,49 @@ module _ {V : Type 0} where
   some_put n value b None = refl
   some_put n value b (Some p) = refl
 
-  whole_and_shown : (m new : Lodged V) (n : ℕ) (value : V) (root : Node) → IsValued m new n value → (w : IsWhole m root)
-      → IsWhole new root × (shown new (Some root) ≡ routes_of (tree_valued n value w.part.tree))
-  whole_and_shown m new n value root v w =
-      let t = tree_valued n value w.part.tree in
-      let stands = stands_valued n value (leaves_in m) (leaves_in new) (bits_in m) v.leaves w.part.above w.part.tree w.part.stands in
-      let is : IsWhole new root = record {
-        part = record {
-          tree = t;
-          low = w.part.low;
-          above = w.part.above;
-          is = tree_is_valued n value w.part.low w.part.tree w.part.is;
-          stands = subst (λ B. Stands (leaves_in new) B w.part.above t) (sym (pointwise (bits_in new) (bits_in m) v.bits)) stands;
-        };
-        low = w.low;
-        top = w.top;
-        named = name_valued n value w.part.tree ∙ w.named;
-        leaves = λ k. ap (λ j. j + 0) (leaves_valued n value k w.part.tree) ∙ w.leaves k ∙ ap one_if
-            (sym (some_put n value (k == n) (leaves_in m k)) ∙ ap is_some (sym (v.leaves k)));
-        forks = λ k. forks_valued n value k w.part.tree ∙ w.forks k ∙ ap (λ o. one_if (is_some o)) (sym (v.bits k));
-        spare = subst (λ B. HaveOneFork B t) (sym (pointwise (bits_in new) (bits_in m) v.bits)) (spare_valued n value (bits_in m) w.part.tree w.spare);
-        lists = subst (λ H. MarkedLists H (masks_in new) w.part.low t) (sym (pointwise (heads_in new) (heads_in m) v.heads))
-            (subst (λ K. MarkedLists (heads_in m) K w.part.low t) (sym (pointwise (masks_in new) (masks_in m) v.masks))
-            (lists_valued n value (heads_in m) (masks_in m) w.part.low w.part.tree w.lists));
-        listed = λ k p some.
-            let l = w.listed k p (sym (v.masks k) ∙ some) in
-            (valued n value l.0, in_valued n value l.0 w.part.tree l.1, l.2, home_valued n value l.0.entry.key l.0.entry.rank w.part.tree l.3);
-        all = all_valued_in n value w.part.tree (λ x. IsMarked (masks_in new) x ⊎ (nobody_late x.room.number ≡ true)) (λ x at home. elim (w.all x at home) [
-          | inl marked ↦ inl (ap is_some (v.masks x.room.number) ∙ marked)
-          | inr late ↦ inr late
-        ]);
-      } in (is, shown_is is)
+  module _ {m new : Lodged V} {n : ℕ} {value : V} {root : Node} (v : IsValued m new n value) (w : IsWhole m root) where
+    whole_and_shown : IsWhole new root × (shown new (Some root) ≡ routes_of (tree_valued n value w.part.tree))
+    whole_and_shown =
+        let t = tree_valued n value w.part.tree in
+        let stands = stands_valued n value (leaves_in m) (leaves_in new) (bits_in m) v.leaves w.part.above w.part.tree w.part.stands in
+        let is : IsWhole new root = record {
+          part = record {
+            tree = t;
+            low = w.part.low;
+            above = w.part.above;
+            is = tree_is_valued n value w.part.low w.part.tree w.part.is;
+            stands = subst (λ B. Stands (leaves_in new) B w.part.above t) (sym (pointwise (bits_in new) (bits_in m) v.bits)) stands;
+          };
+          low = w.low;
+          top = w.top;
+          named = name_valued n value w.part.tree ∙ w.named;
+          leaves = λ k. ap (λ j. j + 0) (leaves_valued n value k w.part.tree) ∙ w.leaves k ∙ ap one_if
+              (sym (some_put n value (k == n) (leaves_in m k)) ∙ ap is_some (sym (v.leaves k)));
+          forks = λ k. forks_valued n value k w.part.tree ∙ w.forks k ∙ ap (λ o. one_if (is_some o)) (sym (v.bits k));
+          spare = subst (λ B. HaveOneFork B t) (sym (pointwise (bits_in new) (bits_in m) v.bits)) (spare_valued n value (bits_in m) w.part.tree w.spare);
+          lists = subst (λ H. MarkedLists H (masks_in new) w.part.low t) (sym (pointwise (heads_in new) (heads_in m) v.heads))
+              (subst (λ K. MarkedLists (heads_in m) K w.part.low t) (sym (pointwise (masks_in new) (masks_in m) v.masks))
+              (lists_valued n value (heads_in m) (masks_in m) w.part.low w.part.tree w.lists));
+          listed = λ k p some.
+              let l = w.listed k p (sym (v.masks k) ∙ some) in
+              (valued n value l.0, in_valued n value l.0 w.part.tree l.1, l.2, home_valued n value l.0.entry.key l.0.entry.rank w.part.tree l.3);
+          all = all_valued_in n value w.part.tree (λ x. IsMarked (masks_in new) x ⊎ (nobody_late x.room.number ≡ true)) (λ x at home. elim (w.all x at home) [
+            | inl marked ↦ inl (ap is_some (v.masks x.room.number) ∙ marked)
+            | inr late ↦ inr late
+          ]);
+        } in (is, shown_is is)
 
-  pub valued_whole : (m new : Lodged V) (n : ℕ) (value : V) (root : Node) → IsValued m new n value → IsWhole m root → IsWhole new root
-  valued_whole m new n value root v w = (whole_and_shown m new n value root v w).0
+    pub valued_whole : IsWhole new root
+    valued_whole = (whole_and_shown).0
 
-  pub valued_shown : (m new : Lodged V) (n : ℕ) (value : V) (root : Node) (v : IsValued m new n value) (w : IsWhole m root) (x : Placed V) → x.room.number ≡ n
-      → IsIn x w.part.tree → shown new (Some root) ≡ with_entry (record x.entry { value = value }) (shown m (Some root))
-  valued_shown m new n value root v w x is at =
-      let once = (once_but w).leaves n in
-      let p = tree_put n value x w.part.tree is at once in
-      let table = subst IsTable p.was (tree_is_table w.part.low w.part.tree w.part.is) in
-      (whole_and_shown m new n value root v w).1 ∙ p.now ∙ sym (placed_in n value p.front p.back x.entry table)
-      ∙ ap (with_entry (record x.entry { value = value })) (sym p.was ∙ sym (shown_is w))
+    pub valued_shown : (x : Placed V) → x.room.number ≡ n → IsIn x w.part.tree
+        → shown new (Some root) ≡ with_entry (record x.entry { value = value }) (shown m (Some root))
+    valued_shown x is at =
+        let once = (once_but w).leaves n in
+        let p = tree_put n value x w.part.tree is at once in
+        let table = subst IsTable p.was (tree_is_table w.part.low w.part.tree w.part.is) in
+        (whole_and_shown).1 ∙ p.now ∙ sym (placed_in n value p.front p.back x.entry table)
+        ∙ ap (with_entry (record x.entry { value = value })) (sym p.was ∙ sym (shown_is w))
 
   -- ---- a room whose value is written
   put_none : (n : ℕ) (value : V) (o : Option (LeafPart V)) → o ≡ put n value false o
@@ -219,7 +218,7 @@ module _ {V : Type 0} where
       → shown (put_value m room value) (Some root) ≡ with_entry (record { key = key; rank = rank; value = value }) (shown m (Some root))
   lent_shown m root w key rank o room some tells h value =
       let told = subst (λ o. Tells (Finds (HasPair key rank) (In w.part)) o) some tells in
-      valued_shown m (put_value m room value) room.number value root (put_valued m room value h) w told.0 (ap (λ i. i.number) told.1) told.2.0
+      valued_shown (put_valued m room value h) w told.0 (ap (λ i. i.number) told.1) told.2.0
       ∙ ap (λ e. with_entry e (shown m (Some root))) (put_entry told.0.entry key rank value told.2.1.0 told.2.1.1)
 
   counted_put : (n : ℕ) (value : V) (e : Entry V) (old new : List (Entry V)) (p : IsPut n value e old new) (r : ℕ) → of_rank r new ≡ of_rank r old
@@ -238,7 +237,7 @@ module _ {V : Type 0} where
       let once = (once_but w).leaves n in
       let p = tree_put n value told.0 w.part.tree (ap (λ i. i.number) told.1) told.2.0 once in
       counted r fits ∙ ap (of_rank r) (shown_is w) ∙ sym (counted_put n value told.0.entry _ _ p r)
-      ∙ ap (of_rank r) (sym (whole_and_shown m (put_value m room value) n value root (put_valued m room value h) w).1)
+      ∙ ap (of_rank r) (sym (whole_and_shown (put_valued m room value h) w).1)
 
   pub lent_keys : (m : Lodged V) (room : Id) (value : V) → Has m room → keys (put_value m room value) ≡ keys m
   lent_keys m room value h = ap keys (put_value-is m room value h) ∙ insert_keys m room.number (seen room.block value h.room.links) h.room h.at

@@ -113,21 +113,21 @@ module _ {V : Type 0} where
             ∙ ap (λ t. routes_of t ++ r.later) (sym f.is) ∙ r.same;
       }
 
-  pub first_in : (m : Lodged V) {p : Part m} {room : Id} (f : LeafAt p room) → IsIn f.first p.tree
-  first_in m f = subst (IsIn f.first) (sym f.is) (inl refl)
+  module _ {m : Lodged V} {p : Part m} {room : Id} (f : LeafAt p room) where
+    pub first_in : IsIn f.first p.tree
+    first_in = subst (IsIn f.first) (sym f.is) (inl refl)
 
-  pub leaf_low : (m : Lodged V) {p : Part m} {room : Id} (f : LeafAt p room) → p.low ≤ 32
-  leaf_low m {p = p} f = (subst (IsTree p.low) f.is p.is).0
+    pub leaf_low : p.low ≤ 32
+    leaf_low = (subst (IsTree p.low) f.is p.is).0
 
-  -- what a leaf's first room says
-  pub first_said : (m : Lodged V) {p : Part m} {room : Id} (f : LeafAt p room)
-      → leaves_in m room.number ≡ Some (leaf_part f.first p.above None (first_room f.rest))
-  first_said m f = ap (λ i. leaves_in m i.number) (sym f.room_is) ∙ (leaf_run m f).stands.0
+    -- what a leaf's first room says
+    pub first_said : leaves_in m room.number ≡ Some (leaf_part f.first p.above None (first_room f.rest))
+    first_said = ap (λ i. leaves_in m i.number) (sym f.room_is) ∙ (leaf_run m f).stands.0
 
   pub first_behind : (m : Lodged V) {key : ℕ} {first : Id} (f : IsFirst m key first)
       → chain_behind (leaves_in m) (bits_in m) (leaves_in m first.number) ≡ f.behind
-  first_behind m f = ap (chain_behind (leaves_in m) (bits_in m)) (first_said m f.leaf)
-      ∙ up_is m 32 f.whole f.part f.behind f.ups f.leaf.first (first_in m f.leaf) f.before f.top (leaf_low m f.leaf)
+  first_behind m f = ap (chain_behind (leaves_in m) (bits_in m)) (first_said f.leaf)
+      ∙ up_is m 32 f.whole f.part f.behind f.ups f.leaf.first (first_in f.leaf) f.before f.top (leaf_low f.leaf)
 
   pub run_shown : (m : Lodged V) (r : Run m) → chain_shown 34 (leaves_in m) (first_room r.members) ≡ map (λ (p : Placed V). p.entry) r.members
   run_shown m r = chain_is 34 (leaves_in m) r.above r.previous r.members (chain_most r.key r.top r.members r.is) r.stands

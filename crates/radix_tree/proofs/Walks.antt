@@ -21,30 +21,31 @@ module _ {V : Type 0} where
     pub chain : IsChain a.run.key a.run.top (route ∷ rest)
     pub stands : ChainStands (leaves_in m) a.run.above a.run.previous (route ∷ rest)
 
-  here_of : (m : Lodged V) {place : Place} (a : IsAt m place) (ms : List (Placed V)) → a.run.members ≡ ms → first_room ms ≡ Some place.room → IsHere m place a
-  here_of m a [] is begins = absurd (none_some begins)
-  here_of m a (x ∷ xs) is begins =
-      let stands = subst (ChainStands (leaves_in m) a.run.above a.run.previous) is a.run.stands in
-      record {
-        route = x;
-        rest = xs;
-        is = is;
-        room_is = inside begins;
-        said = ap (λ i. leaves_in m i.number) (sym (inside begins)) ∙ stands.0;
-        chain = subst (IsChain a.run.key a.run.top) is a.run.is;
-        stands = stands;
-      }
+  module _ (m : Lodged V) {place : Place} (a : IsAt m place) where
+    here_of : (ms : List (Placed V)) → a.run.members ≡ ms → first_room ms ≡ Some place.room → IsHere m place a
+    here_of [] is begins = absurd (none_some begins)
+    here_of (x ∷ xs) is begins =
+        let stands = subst (ChainStands (leaves_in m) a.run.above a.run.previous) is a.run.stands in
+        record {
+          route = x;
+          rest = xs;
+          is = is;
+          room_is = inside begins;
+          said = ap (λ i. leaves_in m i.number) (sym (inside begins)) ∙ stands.0;
+          chain = subst (IsChain a.run.key a.run.top) is a.run.is;
+          stands = stands;
+        }
 
-  pub here : (m : Lodged V) {place : Place} (a : IsAt m place) → IsHere m place a
-  here m a = here_of m a a.run.members refl a.begins
+    pub here : IsHere m place a
+    here = here_of a.run.members refl a.begins
 
-  pub Has-here : {m : Lodged V} {place : Place} → IsAt m place → Has m place.room
-  Has-here {m = m} {place = place} a = let h = here m a in Has-leaf m place.room h.said (ap (λ i. i.block) h.room_is)
+    pub Has-here : Has m place.room
+    Has-here = let h = here in Has-leaf m place.room h.said (ap (λ i. i.block) h.room_is)
 
-  pub here_read : (m : Lodged V) {place : Place} (a : IsAt m place) (links : Links) {l : Leaf} → AreLinks m place.room links → l ≡ leaf_of links
-      → let h = here m a in l ≡ (leaf_part h.route a.run.above a.run.previous (first_room h.rest)).leaf
-  here_read m {place = place} a links are is =
-      let h = here m a in is ∙ leaf_read m place.room links h.said (ap (λ i. i.block) h.room_is) are
+    pub here_read : (links : Links) {l : Leaf} → AreLinks m place.room links → l ≡ leaf_of links
+        → let h = here in l ≡ (leaf_part h.route a.run.above a.run.previous (first_room h.rest)).leaf
+    here_read links are is =
+        let h = here in is ∙ leaf_read m place.room links h.said (ap (λ i. i.block) h.room_is) are
 
   abbrev pub behind_of : (m : Lodged V) → Id → List (Entry V)
   behind_of m first = chain_behind (leaves_in m) (bits_in m) (leaves_in m first.number)
@@ -124,15 +125,15 @@ module _ {V : Type 0} where
   pub climb_begun : {m : Lodged V} {key : ℕ} (first : Id) (f : IsFirst m key first) (links : Links) {l : Leaf} (steps : ℕ) → AreLinks m first links
       → l ≡ leaf_of links → steps ≡ 1 → Upward m key first l.above steps
   climb_begun {m = m} first f links {l = l} steps are is one =
-      let low = leaf_low m f.leaf in
-      let read = is ∙ leaf_read m first links (first_said m f.leaf) (ap (λ i. i.block) f.leaf.room_is) are in
+      let low = leaf_low f.leaf in
+      let read = is ∙ leaf_read m first links (first_said f.leaf) (ap (λ i. i.block) f.leaf.room_is) are in
       record {
         whole = f.whole;
         top = f.top;
         part = f.part;
         above_is = sym (ap (λ l. l.above) read);
         route = f.leaf.first;
-        inside = first_in m f.leaf;
+        inside = first_in f.leaf;
         own = f.own;
         behind = f.behind;
         ups = f.ups;
@@ -142,7 +143,7 @@ module _ {V : Type 0} where
       }
 
   pub Has-first : {m : Lodged V} {key : ℕ} (first : Id) → IsFirst m key first → Has m first
-  Has-first {m = m} first f = Has-leaf m first (first_said m f.leaf) (ap (λ i. i.block) f.leaf.room_is)
+  Has-first {m = m} first f = Has-leaf m first (first_said f.leaf) (ap (λ i. i.block) f.leaf.room_is)
 
   -- the bit node above
   pub record Overhead (m : Lodged V) (whole at : Part m) (behind : List (Entry V)) (up : Id) : Type 0 where
@@ -256,10 +257,10 @@ module _ {V : Type 0} where
       → [] ≡ behind_of m first
   climb_ended {m = m} c none = sym (ended_at m c.whole c.part c.behind c.ups (c.above_is ∙ none) c.before) ∙ c.same
 
-  -- a place at the first room of its chain
-  pub begins_on : {m : Lodged V} (place : Place) (es : List (Entry V)) → place.room ≡ place.first → Begins m place.first es → IsAt m place
-  begins_on {m = m} place es same b = subst (λ i. IsAt m (record { first = place.first; room = i })) (sym same) b.on
+  module _ {m : Lodged V} (place : Place) {es : List (Entry V)} (b : Begins m place.first es) where
+    -- a place at the first room of its chain
+    pub begins_on : place.room ≡ place.first → IsAt m place
+    begins_on same = subst (λ i. IsAt m (record { first = place.first; room = i })) (sym same) b.on
 
-  pub begins_rest : {m : Lodged V} (place : Place) (es : List (Entry V)) → place.room ≡ place.first → Begins m place.first es
-      → ahead (leaves_in m) (bits_in m) (Some place) ≡ es
-  begins_rest {m = m} place es same b = ap (λ i. ahead (leaves_in m) (bits_in m) (Some (record { first = place.first; room = i }))) same ∙ b.rest
+    pub begins_rest : place.room ≡ place.first → ahead (leaves_in m) (bits_in m) (Some place) ≡ es
+    begins_rest same = ap (λ i. ahead (leaves_in m) (bits_in m) (Some (record { first = place.first; room = i }))) same ∙ b.rest

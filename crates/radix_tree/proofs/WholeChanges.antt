@@ -9,26 +9,25 @@ use Rattle.radix_tree.proofs.Plugs.{aside_home}
 
 module _ {V : Type 0} where
   -- ---- an exchange
-  -- the room of a route aside is a leaf of the whole and none of the part
-  pub aside_out : {m new : Lodged V} {root name : Node} {late : ℕ → Bool} {out : ℕ → ℕ} {key : ℕ} (w : IsWholeBut m root late out) (at : Part m)
-      {under : Part new} (e : Exchanged m new key w.part at under name)
-      → (y : Placed V) → Aside e.frames y → (leaves_at y.room.number at.tree ≡ 0) × (1 ≤ leaves_at y.room.number w.part.tree)
-  aside_out w at e y aside =
-      let more = aside_at e.frames at.tree y aside in
-      let same = ap (leaves_at y.room.number) e.was in
-      let most = (once_but w).leaves y.room.number in
-      let none : leaves_at y.room.number at.tree ≡ 0 = omega arith in
-      let some : 1 ≤ leaves_at y.room.number w.part.tree = omega arith in (none, some)
+  module _ {m new : Lodged V} {root name : Node} {late : ℕ → Bool} {out : ℕ → ℕ} {key : ℕ} (w : IsWholeBut m root late out) {at : Part m} {under : Part new}
+      (e : Exchanged m new key w.part at under name) where
+    -- the room of a route aside is a leaf of the whole and none of the part
+    pub aside_out : (y : Placed V) → Aside e.frames y → (leaves_at y.room.number at.tree ≡ 0) × (1 ≤ leaves_at y.room.number w.part.tree)
+    aside_out y aside =
+        let more = aside_at e.frames at.tree y aside in
+        let same = ap (leaves_at y.room.number) e.was in
+        let most = (once_but w).leaves y.room.number in
+        let none : leaves_at y.room.number at.tree ≡ 0 = omega arith in
+        let some : 1 ≤ leaves_at y.room.number w.part.tree = omega arith in (none, some)
 
-  pub spare_changed : (m new : Lodged V) {root name : Node} {late : ℕ → Bool} {out : ℕ → ℕ} {key : ℕ} (w : IsWholeBut m root late out) {at : Part m}
-      {under : Part new} (e : Exchanged m new key w.part at under name) → (HaveOneFork (bits_in m) at.tree → HaveOneFork (bits_in new) under.tree)
-      → ((n : ℕ) → leaves_at n at.tree ≡ 0 → 1 ≤ leaves_at n w.part.tree → bits_in m n ≡ None → bits_in new n ≡ None)
-      → HaveOneFork (bits_in new) e.part.tree
-  spare_changed m new w {at = at} {under = under} e own idle =
-      let spare = subst (HaveOneFork (bits_in m)) e.was w.spare in
-      subst (HaveOneFork (bits_in new)) (sym e.is_now)
-      (spare_plug (bits_in m) (bits_in new) e.frames at.tree under.tree spare (own (spare_at (bits_in m) e.frames at.tree spare))
-      (λ y aside. let o = aside_out w at e y aside in idle y.room.number o.0 o.1))
+    pub spare_changed : (HaveOneFork (bits_in m) at.tree → HaveOneFork (bits_in new) under.tree)
+        → ((n : ℕ) → leaves_at n at.tree ≡ 0 → 1 ≤ leaves_at n w.part.tree → bits_in m n ≡ None → bits_in new n ≡ None)
+        → HaveOneFork (bits_in new) e.part.tree
+    spare_changed own idle =
+        let spare = subst (HaveOneFork (bits_in m)) e.was w.spare in
+        subst (HaveOneFork (bits_in new)) (sym e.is_now)
+        (spare_plug (bits_in m) (bits_in new) e.frames at.tree under.tree spare (own (spare_at (bits_in m) e.frames at.tree spare))
+        (λ y aside. let o = aside_out y aside in idle y.room.number o.0 o.1))
 
   -- a route's own bits lead to a part that has it
   pub leads : (low : ℕ) (fs : List (Frame V)) (t : Tree V) (y : Placed V) → IsTree low (plug fs t) → IsIn y t → Lead y.entry.key fs
@@ -36,185 +35,165 @@ module _ {V : Type 0} where
   leads low (on_zero room b one ∷ fs) t y is at = (bit_beneath (b + 1) b 0 (plug fs t) is.1 is.0.zeros y (plug_in fs t y at), leads (b + 1) fs t y is.1 at)
   leads low (on_one room b zero ∷ fs) t y is at = (bit_beneath (b + 1) b 1 (plug fs t) is.2 is.0.ones y (plug_in fs t y at), leads (b + 1) fs t y is.2 at)
 
-  old_is : {m new : Lodged V} {root name : Node} (late later : ℕ → Bool) (out outs : ℕ → ℕ) {key : ℕ} (w : IsWholeBut m root late out) {at : Part m}
-      {under : Part new} (e : Exchanged m new key w.part at under name) → IsTree w.part.low (plug e.frames at.tree)
-  old_is late later out outs w e = subst (IsTree w.part.low) e.was w.part.is
+  module _ {m new : Lodged V} {root name : Node} {late : ℕ → Bool} {out : ℕ → ℕ} {key : ℕ} (w : IsWholeBut m root late out) {at : Part m} {under : Part new}
+      (e : Exchanged m new key w.part at under name) where
+    old_is : (later : ℕ → Bool) (outs : ℕ → ℕ) → IsTree w.part.low (plug e.frames at.tree)
+    old_is later outs = subst (IsTree w.part.low) e.was w.part.is
 
-  new_is : {m new : Lodged V} {root name : Node} (late later : ℕ → Bool) (out outs : ℕ → ℕ) {key : ℕ} (w : IsWholeBut m root late out) {at : Part m}
-      {under : Part new} (e : Exchanged m new key w.part at under name) → IsTree w.part.low (plug e.frames under.tree)
-  new_is late later out outs w {under = under} e =
-      subst (λ n. IsTree n (plug e.frames under.tree)) e.low (subst (IsTree e.part.low) e.is_now e.part.is)
+    new_is : (later : ℕ → Bool) (outs : ℕ → ℕ) → IsTree w.part.low (plug e.frames under.tree)
+    new_is later outs = subst (λ n. IsTree n (plug e.frames under.tree)) e.low (subst (IsTree e.part.low) e.is_now e.part.is)
 
-  leaves_changed : (m new : Lodged V) {root name : Node} {late later : ℕ → Bool} (out outs : ℕ → ℕ) {key : ℕ} (w : IsWholeBut m root late out) (at : Part m)
-      (under : Part new) (e : Exchanged m new key w.part at under name) → Fits m new w.part at under late later out outs
-      → (n : ℕ) → leaves_at n e.part.tree + outs n ≡ one_if (is_some (leaves_in new n))
-  leaves_changed m new out outs w at under e f n =
-      let was = ap (leaves_at n) e.was in
-      let now = ap (leaves_at n) e.is_now in
-      let plugged = plug_leaves e.frames at.tree under.tree n in
-      let whole = w.leaves n in
-      let fits = f.leaves n in
-      omega (arith, was, now, plugged, whole, fits)
+    leaves_changed : {later : ℕ → Bool} (outs : ℕ → ℕ) → Fits m new w.part at under late later out outs → (n : ℕ)
+        → leaves_at n e.part.tree + outs n ≡ one_if (is_some (leaves_in new n))
+    leaves_changed outs f n =
+        let was = ap (leaves_at n) e.was in
+        let now = ap (leaves_at n) e.is_now in
+        let plugged = plug_leaves e.frames at.tree under.tree n in
+        let whole = w.leaves n in
+        let fits = f.leaves n in
+        omega (arith, was, now, plugged, whole, fits)
 
-  forks_changed : (m new : Lodged V) {root name : Node} {late later : ℕ → Bool} {out outs : ℕ → ℕ} {key : ℕ} (w : IsWholeBut m root late out) (at : Part m)
-      (under : Part new) (e : Exchanged m new key w.part at under name) → Fits m new w.part at under late later out outs
-      → (n : ℕ) → forks_at n e.part.tree ≡ one_if (is_some (bits_in new n))
-  forks_changed m new w at under e f n =
-      let was = ap (forks_at n) e.was in
-      let now = ap (forks_at n) e.is_now in
-      let plugged = plug_forks e.frames at.tree under.tree n in
-      let whole = w.forks n in
-      let fits = f.forks n in
-      omega (arith, was, now, plugged, whole, fits)
+    forks_changed : {later : ℕ → Bool} {outs : ℕ → ℕ} → Fits m new w.part at under late later out outs → (n : ℕ)
+        → forks_at n e.part.tree ≡ one_if (is_some (bits_in new n))
+    forks_changed f n =
+        let was = ap (forks_at n) e.was in
+        let now = ap (forks_at n) e.is_now in
+        let plugged = plug_forks e.frames at.tree under.tree n in
+        let whole = w.forks n in
+        let fits = f.forks n in
+        omega (arith, was, now, plugged, whole, fits)
 
-  -- what was marked before is so where it is now
-  was_marked : (m new : Lodged V) {root name : Node} {late later : ℕ → Bool} {out outs : ℕ → ℕ} {key : ℕ} (w : IsWholeBut m root late out) (at : Part m)
-      {under : Part new} (e : Exchanged m new key w.part at under name) → Fits m new w.part at under late later out outs
-      → (y : Placed V) → IsMarked (masks_in new) y → IsMarked (masks_in m) y
-  was_marked m new w at e f y marked =
-      let now = some_of (masks_in new y.room.number) marked in
-      let before = f.marks y.room.number now.0 now.1 in ap is_some before.1
+    -- what was marked before is so where it is now
+    was_marked : {later : ℕ → Bool} {outs : ℕ → ℕ} → Fits m new w.part at under late later out outs → (y : Placed V) → IsMarked (masks_in new) y
+        → IsMarked (masks_in m) y
+    was_marked f y marked =
+        let now = some_of (masks_in new y.room.number) marked in
+        let before = f.marks y.room.number now.0 now.1 in ap is_some before.1
 
-  keeps_above : (m new : Lodged V) {root name : Node} {late later : ℕ → Bool} {out outs : ℕ → ℕ} {key : ℕ} (w : IsWholeBut m root late out) (at : Part m)
-      {under : Part new} (e : Exchanged m new key w.part at under name) → Fits m new w.part at under late later out outs
-      → KeepsAbove (heads_in m) (heads_in new) (masks_in m) (masks_in new) at.low e.frames at.tree under.tree
-  keeps_above m new w at e f = record {
-    heads = λ n some.
-        let is = ap (forks_at n) e.was in
-        let most = (once_but w).forks n in
-        let none : forks_at n at.tree ≡ 0 = omega arith in
-        let there : 1 ≤ forks_at n w.part.tree = omega arith in f.heads n none there;
-    aside = λ y aside. let o = aside_out w at e y aside in f.masks y.room.number o.0 o.1;
-    stays = λ y is below marked.
-        let same = f.masks_above y is below marked in ((f.kept y is (marked_same (masks_in m) (masks_in new) y same marked)).0, same);
-    came = λ y is below marked. (f.came y is marked, was_marked m new w at e f y marked);
-  }
+    keeps_above : {later : ℕ → Bool} {outs : ℕ → ℕ} → Fits m new w.part at under late later out outs
+        → KeepsAbove (heads_in m) (heads_in new) (masks_in m) (masks_in new) at.low e.frames at.tree under.tree
+    keeps_above f = record {
+      heads = λ n some.
+          let is = ap (forks_at n) e.was in
+          let most = (once_but w).forks n in
+          let none : forks_at n at.tree ≡ 0 = omega arith in
+          let there : 1 ≤ forks_at n w.part.tree = omega arith in f.heads n none there;
+      aside = λ y aside. let o = aside_out w e y aside in f.masks y.room.number o.0 o.1;
+      stays = λ y is below marked.
+          let same = f.masks_above y is below marked in ((f.kept y is (marked_same (masks_in m) (masks_in new) y same marked)).0, same);
+      came = λ y is below marked. (f.came y is marked, was_marked f y marked);
+    }
 
-  lists_changed : (m new : Lodged V) {root name : Node} (late later : ℕ → Bool) (out outs : ℕ → ℕ) {key : ℕ} (w : IsWholeBut m root late out) (at : Part m)
-      (under : Part new) (e : Exchanged m new key w.part at under name) → Fits m new w.part at under late later out outs
-      → MarkedLists (heads_in new) (masks_in new) e.part.low e.part.tree
-  lists_changed m new late later out outs w at under e f = subst (λ n. MarkedLists (heads_in new) (masks_in new) n e.part.tree) (sym e.low)
-      (subst (MarkedLists (heads_in new) (masks_in new) w.part.low) (sym e.is_now) (plug_lists w.part.low e.frames (old_is late later out outs w e)
-      (subst (λ n. KeepsAbove (heads_in m) (heads_in new) (masks_in m) (masks_in new) n e.frames at.tree under.tree) e.lowest
-      (keeps_above m new w at e f)) (subst (MarkedLists (heads_in m) (masks_in m) w.part.low) e.was w.lists)
-      (subst (λ n. MarkedLists (heads_in new) (masks_in new) n under.tree) e.lowest f.lists)))
+    lists_changed : (later : ℕ → Bool) (outs : ℕ → ℕ) → Fits m new w.part at under late later out outs
+        → MarkedLists (heads_in new) (masks_in new) e.part.low e.part.tree
+    lists_changed later outs f = subst (λ n. MarkedLists (heads_in new) (masks_in new) n e.part.tree) (sym e.low)
+        (subst (MarkedLists (heads_in new) (masks_in new) w.part.low) (sym e.is_now) (plug_lists w.part.low e.frames (old_is later outs)
+        (subst (λ n. KeepsAbove (heads_in m) (heads_in new) (masks_in m) (masks_in new) n e.frames at.tree under.tree) e.lowest
+        (keeps_above f)) (subst (MarkedLists (heads_in m) (masks_in m) w.part.low) e.was w.lists)
+        (subst (λ n. MarkedLists (heads_in new) (masks_in new) n under.tree) e.lowest f.lists)))
 
-  -- a route of the other part has a home in the whole where it has one in the part, or its rank is before the part's bits
-  home_in_new : (m new : Lodged V) {root name : Node} (late later : ℕ → Bool) (out outs : ℕ → ℕ) {key : ℕ} (w : IsWholeBut m root late out) (at : Part m)
-      (under : Part new) (e : Exchanged m new key w.part at under name)
-      → (y : Placed V) → IsIn y under.tree → (y.entry.rank < at.low) ⊎ HasHome y.entry.key y.entry.rank under.tree
-      → HasHome y.entry.key y.entry.rank (plug e.frames under.tree)
-  home_in_new m new late later out outs w at under e y is home =
-      let low = w.low in
-      let new_tree = new_is late later out outs w e in
-      plug_home w.part.low y.entry.key y.entry.rank e.frames under.tree new_tree (leads w.part.low e.frames under.tree y new_tree is) (omega arith)
-      (subst (λ n. (y.entry.rank < n) ⊎ HasHome y.entry.key y.entry.rank under.tree) e.lowest home)
+    -- a route of the other part has a home in the whole where it has one in the part, or its rank is before the part's bits
+    home_in_new : (later : ℕ → Bool) (outs : ℕ → ℕ) (y : Placed V) → IsIn y under.tree
+        → (y.entry.rank < at.low) ⊎ HasHome y.entry.key y.entry.rank under.tree → HasHome y.entry.key y.entry.rank (plug e.frames under.tree)
+    home_in_new later outs y is home =
+        let low = w.low in
+        let new_tree = new_is later outs in
+        plug_home w.part.low y.entry.key y.entry.rank e.frames under.tree new_tree (leads w.part.low e.frames under.tree y new_tree is) (omega arith)
+        (subst (λ n. (y.entry.rank < n) ⊎ HasHome y.entry.key y.entry.rank under.tree) e.lowest home)
 
-  home_in_old : (m new : Lodged V) {root name : Node} (late later : ℕ → Bool) (out outs : ℕ → ℕ) {key : ℕ} (w : IsWholeBut m root late out) (at : Part m)
-      {under : Part new} (e : Exchanged m new key w.part at under name)
-      → (y : Placed V) → IsIn y at.tree → (y.entry.rank < at.low) ⊎ HasHome y.entry.key y.entry.rank at.tree → HasHome y.entry.key y.entry.rank w.part.tree
-  home_in_old m new late later out outs w at e y is home =
-      let low = w.low in
-      let old_tree = old_is late later out outs w e in
-      subst (HasHome y.entry.key y.entry.rank) (sym e.was)
-      (plug_home w.part.low y.entry.key y.entry.rank e.frames at.tree old_tree (leads w.part.low e.frames at.tree y old_tree is) (omega arith)
-      (subst (λ n. (y.entry.rank < n) ⊎ HasHome y.entry.key y.entry.rank at.tree) e.lowest home))
+    home_in_old : (later : ℕ → Bool) (outs : ℕ → ℕ) (y : Placed V) → IsIn y at.tree → (y.entry.rank < at.low) ⊎ HasHome y.entry.key y.entry.rank at.tree
+        → HasHome y.entry.key y.entry.rank w.part.tree
+    home_in_old later outs y is home =
+        let low = w.low in
+        let old_tree = old_is later outs in
+        subst (HasHome y.entry.key y.entry.rank) (sym e.was)
+        (plug_home w.part.low y.entry.key y.entry.rank e.frames at.tree old_tree (leads w.part.low e.frames at.tree y old_tree is) (omega arith)
+        (subst (λ n. (y.entry.rank < n) ⊎ HasHome y.entry.key y.entry.rank at.tree) e.lowest home))
 
-  in_new : (m new : Lodged V) {root name : Node} (late later : ℕ → Bool) (out outs : ℕ → ℕ) {key : ℕ} (w : IsWholeBut m root late out) {at : Part m}
-      {under : Part new} (e : Exchanged m new key w.part at under name) → (y : Placed V) → IsIn y (plug e.frames under.tree) → IsIn y e.part.tree
-  in_new m new late later out outs w e y is = subst (IsIn y) (sym e.is_now) is
+    in_new : (later : ℕ → Bool) (outs : ℕ → ℕ) (y : Placed V) → IsIn y (plug e.frames under.tree) → IsIn y e.part.tree
+    in_new later outs y is = subst (IsIn y) (sym e.is_now) is
 
-  in_old : (m new : Lodged V) {root name : Node} (late later : ℕ → Bool) (out outs : ℕ → ℕ) {key : ℕ} (w : IsWholeBut m root late out) {at : Part m}
-      {under : Part new} (e : Exchanged m new key w.part at under name) → (y : Placed V) → IsIn y (plug e.frames at.tree) → IsIn y w.part.tree
-  in_old m new late later out outs w e y is = subst (IsIn y) (sym e.was) is
+    in_old : (later : ℕ → Bool) (outs : ℕ → ℕ) (y : Placed V) → IsIn y (plug e.frames at.tree) → IsIn y w.part.tree
+    in_old later outs y is = subst (IsIn y) (sym e.was) is
 
-  -- a mask that is listed is that of a route with a home
-  listed_now : (m new : Lodged V) {root name : Node} (late later : ℕ → Bool) (out outs : ℕ → ℕ) {key : ℕ} (w : IsWholeBut m root late out) (at : Part m)
-      (under : Part new) (e : Exchanged m new key w.part at under name) → Fits m new w.part at under late later out outs
-      → (n : ℕ) (p : MaskPart) → masks_in new n ≡ Some p → (x : Placed V) → IsIn x w.part.tree → x.room.number ≡ n
-      → HasHome x.entry.key x.entry.rank w.part.tree → IsIn x e.part.tree × HasHome x.entry.key x.entry.rank e.part.tree
-  listed_now m new late later out outs w at under e f n p said x is number home =
-      let marked = ap is_some (ap (masks_in new) number ∙ said) in
-      let old_home = subst (HasHome x.entry.key x.entry.rank) e.was home in
-      let old_tree = old_is late later out outs w e in
-      elim (in_plug e.frames at.tree x (subst (IsIn x) e.was is)) [
-        | inl aside ↦ (
-          in_new m new late later out outs w e x (aside_in e.frames under.tree x aside),
-          subst (HasHome x.entry.key x.entry.rank) (sym e.is_now) (aside_home w.part.low e.frames at.tree under.tree x old_tree aside old_home),
-        )
-        | inr beneath ↦ let k = f.kept x beneath marked in
-            let place : (x.entry.rank < at.low) ⊎ HasHome x.entry.key x.entry.rank under.tree =
-            elim (home_plug w.part.low e.frames at.tree x old_tree beneath old_home) [
-              | inl before ↦ inl (subst (λ b. x.entry.rank < b) (sym e.lowest) before)
-              | inr h ↦ k.1 h
-            ] in (
-              in_new m new late later out outs w e x (plug_in e.frames under.tree x k.0),
-              subst (HasHome x.entry.key x.entry.rank) (sym e.is_now) (home_in_new m new late later out outs w at under e x k.0 place),
-            )
-      ]
+    -- a mask that is listed is that of a route with a home
+    listed_now : (later : ℕ → Bool) (outs : ℕ → ℕ) → Fits m new w.part at under late later out outs → (n : ℕ) (p : MaskPart) → masks_in new n ≡ Some p
+        → (x : Placed V) → IsIn x w.part.tree → x.room.number ≡ n → HasHome x.entry.key x.entry.rank w.part.tree
+        → IsIn x e.part.tree × HasHome x.entry.key x.entry.rank e.part.tree
+    listed_now later outs f n p said x is number home =
+        let marked = ap is_some (ap (masks_in new) number ∙ said) in
+        let old_home = subst (HasHome x.entry.key x.entry.rank) e.was home in
+        let old_tree = old_is later outs in
+        elim (in_plug e.frames at.tree x (subst (IsIn x) e.was is)) [
+          | inl aside ↦ (
+            in_new later outs x (aside_in e.frames under.tree x aside),
+            subst (HasHome x.entry.key x.entry.rank) (sym e.is_now) (aside_home w.part.low e.frames at.tree under.tree x old_tree aside old_home),
+          )
+          | inr beneath ↦ let k = f.kept x beneath marked in
+              let place : (x.entry.rank < at.low) ⊎ HasHome x.entry.key x.entry.rank under.tree =
+              elim (home_plug w.part.low e.frames at.tree x old_tree beneath old_home) [
+                | inl before ↦ inl (subst (λ b. x.entry.rank < b) (sym e.lowest) before)
+                | inr h ↦ k.1 h
+              ] in (
+                in_new later outs x (plug_in e.frames under.tree x k.0),
+                subst (HasHome x.entry.key x.entry.rank) (sym e.is_now) (home_in_new later outs x k.0 place),
+              )
+        ]
 
-  listed_changed : (m new : Lodged V) {root name : Node} (late later : ℕ → Bool) (out outs : ℕ → ℕ) {key : ℕ} (w : IsWholeBut m root late out) (at : Part m)
-      (under : Part new) (e : Exchanged m new key w.part at under name) → Fits m new w.part at under late later out outs
-      → (n : ℕ) (p : MaskPart) → masks_in new n ≡ Some p → (x : Placed V) × IsIn x e.part.tree × (x.room.number ≡ n)
-      × HasHome x.entry.key x.entry.rank e.part.tree
-  listed_changed m new late later out outs w at under e f n p said =
-      let before = f.marks n p said in
-      let x = w.listed n before.0 before.1 in
-      let now = listed_now m new late later out outs w at under e f n p said x.0 x.1 x.2 x.3 in
-      (x.0, now.0, x.2, now.1)
+    listed_changed : (later : ℕ → Bool) (outs : ℕ → ℕ) → Fits m new w.part at under late later out outs → (n : ℕ) (p : MaskPart) → masks_in new n ≡ Some p
+        → (x : Placed V) × IsIn x e.part.tree × (x.room.number ≡ n) × HasHome x.entry.key x.entry.rank e.part.tree
+    listed_changed later outs f n p said =
+        let before = f.marks n p said in
+        let x = w.listed n before.0 before.1 in
+        let now = listed_now later outs f n p said x.0 x.1 x.2 x.3 in
+        (x.0, now.0, x.2, now.1)
 
-  -- a route with a home has its mask listed, or is late
-  all_aside : (m new : Lodged V) {root name : Node} (late later : ℕ → Bool) (out outs : ℕ → ℕ) {key : ℕ} (w : IsWholeBut m root late out) (at : Part m)
-      (under : Part new) (e : Exchanged m new key w.part at under name) → Fits m new w.part at under late later out outs
-      → (x : Placed V) → Aside e.frames x → HasHome x.entry.key x.entry.rank (plug e.frames under.tree)
-      → IsMarked (masks_in new) x ⊎ (later x.room.number ≡ true)
-  all_aside m new late later out outs w at under e f x aside home =
-      let o = aside_out w at e x aside in
-      let old_home = aside_home w.part.low e.frames under.tree at.tree x (new_is late later out outs w e) aside home in
-      elim (w.all x (in_old m new late later out outs w e x (aside_in e.frames at.tree x aside))
-      (subst (HasHome x.entry.key x.entry.rank) (sym e.was) old_home)) [
-        | inl marked ↦ inl (marked_same (masks_in m) (masks_in new) x (f.masks x.room.number o.0 o.1) marked)
-        | inr is_late ↦ inr (f.late_aside x.room.number o.0 o.1 is_late)
-      ]
+    -- a route with a home has its mask listed, or is late
+    all_aside : (later : ℕ → Bool) (outs : ℕ → ℕ) → Fits m new w.part at under late later out outs → (x : Placed V) → Aside e.frames x
+        → HasHome x.entry.key x.entry.rank (plug e.frames under.tree) → IsMarked (masks_in new) x ⊎ (later x.room.number ≡ true)
+    all_aside later outs f x aside home =
+        let o = aside_out w e x aside in
+        let old_home = aside_home w.part.low e.frames under.tree at.tree x (new_is later outs) aside home in
+        elim (w.all x (in_old later outs x (aside_in e.frames at.tree x aside))
+        (subst (HasHome x.entry.key x.entry.rank) (sym e.was) old_home)) [
+          | inl marked ↦ inl (marked_same (masks_in m) (masks_in new) x (f.masks x.room.number o.0 o.1) marked)
+          | inr is_late ↦ inr (f.late_aside x.room.number o.0 o.1 is_late)
+        ]
 
-  all_beneath : (m new : Lodged V) {root name : Node} (late later : ℕ → Bool) (out outs : ℕ → ℕ) {key : ℕ} (w : IsWholeBut m root late out) (at : Part m)
-      (under : Part new) (e : Exchanged m new key w.part at under name) → Fits m new w.part at under late later out outs
-      → (x : Placed V) → IsIn x under.tree → HasHome x.entry.key x.entry.rank (plug e.frames under.tree)
-      → IsMarked (masks_in new) x ⊎ (later x.room.number ≡ true)
-  all_beneath m new late later out outs w at under e f x is home =
-      let place = subst (λ n. (x.entry.rank < n) ⊎ HasHome x.entry.key x.entry.rank under.tree) (sym e.lowest)
-      (home_plug w.part.low e.frames under.tree x (new_is late later out outs w e) is home) in
-      elim (f.all x is place) [
-        | inl is_later ↦ inr is_later
-        | inr old ↦ elim (w.all x (in_old m new late later out outs w e x (plug_in e.frames at.tree x old.0))
-            (home_in_old m new late later out outs w at e x old.0 old.1)) [
-              | inl marked ↦ inl (old.2 marked)
-              | inr is_late ↦ inr (old.3 is_late)
-            ]
-      ]
+    all_beneath : (later : ℕ → Bool) (outs : ℕ → ℕ) → Fits m new w.part at under late later out outs → (x : Placed V) → IsIn x under.tree
+        → HasHome x.entry.key x.entry.rank (plug e.frames under.tree) → IsMarked (masks_in new) x ⊎ (later x.room.number ≡ true)
+    all_beneath later outs f x is home =
+        let place = subst (λ n. (x.entry.rank < n) ⊎ HasHome x.entry.key x.entry.rank under.tree) (sym e.lowest)
+        (home_plug w.part.low e.frames under.tree x (new_is later outs) is home) in
+        elim (f.all x is place) [
+          | inl is_later ↦ inr is_later
+          | inr old ↦ elim (w.all x (in_old later outs x (plug_in e.frames at.tree x old.0))
+              (home_in_old later outs x old.0 old.1)) [
+                | inl marked ↦ inl (old.2 marked)
+                | inr is_late ↦ inr (old.3 is_late)
+              ]
+        ]
 
-  all_changed : (m new : Lodged V) {root name : Node} (late later : ℕ → Bool) (out outs : ℕ → ℕ) {key : ℕ} (w : IsWholeBut m root late out) (at : Part m)
-      (under : Part new) (e : Exchanged m new key w.part at under name) → Fits m new w.part at under late later out outs
-      → (x : Placed V) → IsIn x e.part.tree → HasHome x.entry.key x.entry.rank e.part.tree → IsMarked (masks_in new) x ⊎ (later x.room.number ≡ true)
-  all_changed m new late later out outs w at under e f x is home =
-      let now = subst (HasHome x.entry.key x.entry.rank) e.is_now home in
-      elim (in_plug e.frames under.tree x (subst (IsIn x) e.is_now is)) [
-        | inl aside ↦ all_aside m new late later out outs w at under e f x aside now
-        | inr beneath ↦ all_beneath m new late later out outs w at under e f x beneath now
-      ]
+    all_changed : (later : ℕ → Bool) (outs : ℕ → ℕ) → Fits m new w.part at under late later out outs → (x : Placed V) → IsIn x e.part.tree
+        → HasHome x.entry.key x.entry.rank e.part.tree → IsMarked (masks_in new) x ⊎ (later x.room.number ≡ true)
+    all_changed later outs f x is home =
+        let now = subst (HasHome x.entry.key x.entry.rank) e.is_now home in
+        elim (in_plug e.frames under.tree x (subst (IsIn x) e.is_now is)) [
+          | inl aside ↦ all_aside later outs f x aside now
+          | inr beneath ↦ all_beneath later outs f x beneath now
+        ]
 
-  pub whole_changed : (m new : Lodged V) {root name : Node} {late later : ℕ → Bool} {out outs : ℕ → ℕ} {key : ℕ} (w : IsWholeBut m root late out) {at : Part m}
-      {under : Part new} (e : Exchanged m new key w.part at under name)
-      → Fits m new w.part at under late later out outs → HaveOneFork (bits_in new) e.part.tree → IsWholeBut new name later outs
-  whole_changed m new {late = late} {later = later} {out = out} {outs = outs} w {at = at} {under = under} e f spare = record {
-    part = e.part;
-    low = e.low ∙ w.low;
-    top = e.above ∙ w.top;
-    named = e.named;
-    leaves = leaves_changed m new out outs w at under e f;
-    forks = forks_changed m new w at under e f;
-    spare = spare;
-    lists = lists_changed m new late later out outs w at under e f;
-    listed = listed_changed m new late later out outs w at under e f;
-    all = all_changed m new late later out outs w at under e f;
-  }
+    pub whole_changed : {later : ℕ → Bool} {outs : ℕ → ℕ} → Fits m new w.part at under late later out outs → HaveOneFork (bits_in new) e.part.tree
+        → IsWholeBut new name later outs
+    whole_changed {later = later} {outs = outs} f spare = record {
+      part = e.part;
+      low = e.low ∙ w.low;
+      top = e.above ∙ w.top;
+      named = e.named;
+      leaves = leaves_changed outs f;
+      forks = forks_changed f;
+      spare = spare;
+      lists = lists_changed later outs f;
+      listed = listed_changed later outs f;
+      all = all_changed later outs f;
+    }

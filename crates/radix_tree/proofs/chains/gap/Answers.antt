@@ -20,23 +20,23 @@ loop-next-init g c =
 pub links-requires-in-Some-clause-there : goal.links-requires-in-Some-clause-there
 links-requires-in-Some-clause-there g c =
     let r = c.requires.chain in
-    Has-at c.args.nodes.now.lodged r.0 c.in-Some.at (c.loop-next.invariant.passed r.0 r.1) c.in-Some.is
+    Has-at (c.loop-next.invariant.passed r.0 r.1) c.in-Some.at c.in-Some.is
 
 pub returns-then-eq-clause-gap : goal.returns-then-eq-clause-gap
 returns-then-eq-clause-gap g c r begins =
-    taken c.args.nodes.now.lodged c.args.key r c.in-Some.at c.links-in-Some.result.now (c.loop-next.invariant.passed r begins) c.in-Some.is
-    c.links-in-Some.ensures.links c.leaf-member.ensures (eqb-true c.leaf-member.result.rank c.args.rank (sym c.eq.ensures ∙ c.if-eq.true))
+    taken (c.loop-next.invariant.passed r begins) c.args.key c.in-Some.at c.links-in-Some.result.now c.in-Some.is c.links-in-Some.ensures.links
+      c.leaf-member.ensures (eqb-true c.leaf-member.result.rank c.args.rank (sym c.eq.ensures ∙ c.if-eq.true))
 
 pub returns-then-lt-clause-gap : goal.returns-then-lt-clause-gap
 returns-then-lt-clause-gap g c r begins = subst (λ o. FindsGap c.args.key c.args.rank r (Some (record
     { key = c.args.key; rank = c.args.rank; above = c.loop-next.above; next = o; previous = c.loop-next.previous }))) c.in-Some.is
-    (found c.args.nodes.now.lodged c.args.key c.args.rank r c.in-Some.at c.links-in-Some.result.now (c.loop-next.invariant.passed r begins) c.in-Some.is
-    c.links-in-Some.ensures.links c.leaf-member.ensures (less_of c.leaf-member.result.rank c.args.rank (sym c.lt.ensures ∙ c.if-lt.true)))
+    (found (c.loop-next.invariant.passed r begins) c.args.key c.in-Some.at c.links-in-Some.result.now c.in-Some.is c.links-in-Some.ensures.links
+      c.leaf-member.ensures (less_of c.leaf-member.result.rank c.args.rank (sym c.lt.ensures ∙ c.if-lt.true)))
 
 pub loop-next-smaller : goal.loop-next-smaller
 loop-next-smaller g c =
     let r = c.requires.chain in
-    let few = few_at c.args.nodes.now.lodged r.0 _ (c.loop-next.invariant.passed r.0 r.1) c.in-Some.is in
+    let few = few_at (c.loop-next.invariant.passed r.0 r.1) c.in-Some.is in
     let count = ap (λ v. v.count) c.links-in-Some.ensures.visit in
     let rises = c.loop-next.invariant.rises in omega arith
 
@@ -51,8 +51,8 @@ loop-next-preserved g c =
     record {
       turn = ap (λ v. v.turn) c.links-in-Some.ensures.visit ∙ c.loop-next.invariant.turn;
       passed = λ r begins. subst (Passed c.args.rank r None (Some c.in-Some.at) c.leaf-member.result.next) next
-          (passed c.args.nodes.now.lodged c.args.rank r _ c.in-Some.at c.links-in-Some.result.now (c.loop-next.invariant.passed r begins) c.in-Some.is
-          c.links-in-Some.ensures.links c.leaf-member.ensures past);
+          (passed (c.loop-next.invariant.passed r begins) c.in-Some.at c.links-in-Some.result.now c.in-Some.is c.links-in-Some.ensures.links
+          c.leaf-member.ensures past);
       rises = omega arith;
     }
 

@@ -8,12 +8,11 @@ use Rattle.radix_tree.proofs.chains.insert_in_chain.Given as given
 use Rattle.radix_tree.proofs.chains.insert_in_chain.Goals as goal
 
 -- the gap for the route
-in_gap : (g : given.Over) (c : In-Some g) → FindsGap c.args.entry.key c.args.entry.rank (chain_of c.args.nodes.now.lodged c.requires.led.1)
-    (Some c.in-Some.leaf)
+in_gap : (g : given.Over) (c : In-Some g) → FindsGap c.args.entry.key c.args.entry.rank (chain_of c.requires.led.1) (Some c.in-Some.leaf)
 in_gap g c =
     let r = c.requires.led in
-    subst (FindsGap c.args.entry.key c.args.entry.rank (chain_of c.args.nodes.now.lodged r.1)) c.in-Some.is
-    (c.gap.ensures.gap (chain_of c.args.nodes.now.lodged r.1) (leaf_begins c.args.nodes.now.lodged r.1.leaf))
+    subst (FindsGap c.args.entry.key c.args.entry.rank (chain_of r.1)) c.in-Some.is
+    (c.gap.ensures.gap (chain_of r.1) (leaf_begins c.args.nodes.now.lodged r.1.leaf))
 
 -- the route in it
 linked : (g : given.Over) (c : After-name_back g) → IsWritten c.args.nodes.now.lodged c.name_back.new.nodes.lodged c.lodge_leaf-id.result c.args.entry
@@ -35,14 +34,13 @@ linked g c = record {
 }
 
 pub gap-requires-clause-chain : goal.gap-requires-clause-chain
-gap-requires-clause-chain g c = let r = c.requires.led in (chain_of c.args.nodes.now.lodged r.1, leaf_begins c.args.nodes.now.lodged r.1.leaf)
+gap-requires-clause-chain g c = let r = c.requires.led in (chain_of r.1, leaf_begins c.args.nodes.now.lodged r.1.leaf)
 
 pub returns-in_default-clause-there : goal.returns-in_default-clause-there
 returns-in_default-clause-there g c v =
     let r = c.requires.led in
-    taken_there c.args.entry.key c.args.entry.rank r.0 v r.1 r.2
-    (subst (FindsGap c.args.entry.key c.args.entry.rank (chain_of c.args.nodes.now.lodged r.1)) c.in_default.is
-    (c.gap.ensures.gap (chain_of c.args.nodes.now.lodged r.1) (leaf_begins c.args.nodes.now.lodged r.1.leaf)))
+    taken_there c.args.entry.key c.args.entry.rank r.0 v r.1 r.2 (subst (FindsGap c.args.entry.key c.args.entry.rank (chain_of r.1)) c.in_default.is
+    (c.gap.ensures.gap (chain_of r.1) (leaf_begins c.args.nodes.now.lodged r.1.leaf)))
 
 pub rename-root-requires-clause-tree : goal.rename-root-requires-clause-tree
 rename-root-requires-clause-tree g c up is =
@@ -55,19 +53,18 @@ rename-root-requires-clause-tree g c up is =
 pub name_next-requires-clause-there : goal.name_next-requires-clause-there
 name_next-requires-clause-there g c at is =
     let r = c.requires.led in
-    Has-kept c.rename-root.new.nodes.lodged at c.rename-root.ensures.only.leaves
-    (Has-lodged c.lodge_leaf-id.new.nodes.lodged c.lodge_leaf-id.result at c.args.entry.value c.in-Some.leaf
-    (ap (λ k. leaf_in (get c.args.nodes.now.lodged k)) c.lodge_leaf-id.ensures.number ∙ ap leaf_in c.requires.spare.free)
-    c.lodge_leaf-id.ensures.leaves (gap_before c.args.nodes.now.lodged r.1 (in_gap g (goal.at.name_next-requires-clause-there g c).In-Some) at is))
+    Has-kept (Has-lodged (gap_before r.1 (in_gap g (goal.at.name_next-requires-clause-there g c).In-Some) at is) c.lodge_leaf-id.new.nodes.lodged
+      c.lodge_leaf-id.result c.args.entry.value c.in-Some.leaf
+      (ap (λ k. leaf_in (get c.args.nodes.now.lodged k)) c.lodge_leaf-id.ensures.number ∙ ap leaf_in c.requires.spare.free) c.lodge_leaf-id.ensures.leaves)
+      c.rename-root.new.nodes.lodged c.rename-root.ensures.only.leaves
 
 pub name_back-requires-clause-there : goal.name_back-requires-clause-there
 name_back-requires-clause-there g c at is =
     let r = c.requires.led in
-    Has-next c.rename-root.new.nodes.lodged c.name_next.new.nodes.lodged c.in-Some.leaf.previous _ at c.name_next.ensures.leaves
-    (Has-kept c.rename-root.new.nodes.lodged at c.rename-root.ensures.only.leaves
-    (Has-lodged c.lodge_leaf-id.new.nodes.lodged c.lodge_leaf-id.result at c.args.entry.value c.in-Some.leaf
-    (ap (λ k. leaf_in (get c.args.nodes.now.lodged k)) c.lodge_leaf-id.ensures.number ∙ ap leaf_in c.requires.spare.free)
-    c.lodge_leaf-id.ensures.leaves (gap_behind c.args.nodes.now.lodged r.1 (in_gap g (goal.at.name_back-requires-clause-there g c).In-Some) at is)))
+    Has-next (Has-kept (Has-lodged (gap_behind r.1 (in_gap g (goal.at.name_back-requires-clause-there g c).In-Some) at is) c.lodge_leaf-id.new.nodes.lodged
+      c.lodge_leaf-id.result c.args.entry.value c.in-Some.leaf
+      (ap (λ k. leaf_in (get c.args.nodes.now.lodged k)) c.lodge_leaf-id.ensures.number ∙ ap leaf_in c.requires.spare.free) c.lodge_leaf-id.ensures.leaves)
+      c.rename-root.new.nodes.lodged c.rename-root.ensures.only.leaves) c.name_next.new.nodes.lodged c.in-Some.leaf.previous _ c.name_next.ensures.leaves
 
 pub returns-clause-ok : goal.returns-clause-ok
 returns-clause-ok g c =

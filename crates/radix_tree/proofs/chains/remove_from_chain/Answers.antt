@@ -18,20 +18,18 @@ link_out-requires-clause-behind g c r is = behind_there _ (member_of c.requires.
       (sym (ap (λ z. z.next) (leaf_is c.links.result.now c.requires.there (own_said c.requires.there) c.links.ensures.links c.leaf-leaf.ensures)) ∙ is)
 
 pub rename-root-requires-clause-tree : goal.rename-root-requires-clause-tree
-rename-root-requires-clause-tree g c up is =
-    fork_above _ (member_of c.requires.whole c.args.at.number (own_said c.requires.there)) up c.requires.whole.top
+rename-root-requires-clause-tree g c up is = fork_above _ (member_of c.requires.whole c.args.at.number (own_said c.requires.there)) up c.requires.whole.top
       (sym (ap (λ z. z.above) (leaf_is c.links.result.now c.requires.there (own_said c.requires.there) c.links.ensures.links c.leaf-leaf.ensures)) ∙ is)
 
 pub link_out-requires-2-clause-before : goal.link_out-requires-2-clause-before
-link_out-requires-2-clause-before g c r is = Has-kept c.rename-root.new.nodes.lodged r c.rename-root.ensures.only.leaves
-    (before_there _ (member_of c.requires.whole c.args.at.number (own_said c.requires.there)) r
+link_out-requires-2-clause-before g c r is = Has-kept (before_there _ (member_of c.requires.whole c.args.at.number (own_said c.requires.there)) r
       (sym (ap (λ z. z.previous) (leaf_is c.links.result.now c.requires.there (own_said c.requires.there) c.links.ensures.links c.leaf-leaf.ensures))
-    ∙ is))
+    ∙ is)) c.rename-root.new.nodes.lodged c.rename-root.ensures.only.leaves
 
 pub link_out-requires-2-clause-behind : goal.link_out-requires-2-clause-behind
-link_out-requires-2-clause-behind g c r is = Has-kept c.rename-root.new.nodes.lodged r c.rename-root.ensures.only.leaves
-    (behind_there _ (member_of c.requires.whole c.args.at.number (own_said c.requires.there)) r
+link_out-requires-2-clause-behind g c r is = Has-kept (behind_there _ (member_of c.requires.whole c.args.at.number (own_said c.requires.there)) r
       (sym (ap (λ z. z.next) (leaf_is c.links.result.now c.requires.there (own_said c.requires.there) c.links.ensures.links c.leaf-leaf.ensures)) ∙ is))
+      c.rename-root.new.nodes.lodged c.rename-root.ensures.only.leaves
 
 -- a member of a chain, whose neighbours name each other, and what stands above the chain
 abbrev IsGone : {V : Type 0} (m new : Lodged V) (whole : Part m) (at : Id) (p : LeafPart V) (name : Node) → Type 0

@@ -9,7 +9,7 @@ leaf_for-leaf-requires-clause-tree g c = let w = whole_at _ c.requires.holds c.i
 pub links-requires-clause-there : goal.links-requires-clause-there
 links-requires-clause-there g c =
     let w = whole_at _ c.requires.holds c.in-Some.is in
-    Has-led _ (c.leaf_for-leaf.ensures.leaf w.part w.named)
+    Has-led (c.leaf_for-leaf.ensures.leaf w.part w.named)
 
 pub insert_new-requires-clause-new : goal.insert_new-requires-clause-new
 insert_new-requires-clause-new g c =

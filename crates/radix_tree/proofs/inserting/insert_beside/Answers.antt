@@ -68,14 +68,14 @@ returns-clause-whole g c w d differs =
     let p = part_of g c w s in
     subst (λ r. IsWholeBut c.add_beside.new.nodes.lodged c.add_beside.result.0
     (λ n. (n == r) || has_key c.args.nodes.now.lodged d.leaf.first.entry.key n) nobody_out) c.add_beside.ensures.number
-    (whole_beside w _ s d p.0 (came_of g c w s) p.1 p.2)
+    (whole_beside w _ s p.2 d (came_of g c w s) p.1)
 
 pub returns-clause-routes : goal.returns-clause-routes
 returns-clause-routes g c =
     let n = c.requires.new in
     let s = spot_of g c n.0 n.1 n.2 in
     let p = part_of g c n.0 s in
-    routes_beside n.0 (placed c.add_beside.result.1 c.args.entry) s p.0 p.1 p.2
+    routes_beside n.0 (placed c.add_beside.result.1 c.args.entry) s p.2 p.1
 
 pub returns-clause-rooms : goal.returns-clause-rooms
 returns-clause-rooms g c =

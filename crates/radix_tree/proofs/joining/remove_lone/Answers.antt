@@ -11,15 +11,15 @@ use Rattle.radix_tree.proofs.joining.remove_lone.Goals as goal
 
 -- the route, and the bit node above it, as they are read
 lone : (g : given.Over) (c : In-Some g) → IsLone c.args.nodes.now.lodged c.requires.whole.part c.args.at c.in-Some.up
-lone g c = lone_read c.requires.whole c.links.result.now c.requires.there c.links.ensures.links c.leaf-leaf.ensures c.requires.lone c.in-Some.is
+lone g c = lone_read c.requires.there c.requires.whole c.links.result.now c.links.ensures.links c.leaf-leaf.ensures c.requires.lone c.in-Some.is
 
 read : (g : given.Over) (c : In-Some-bit_node g) → (l : IsLone c.args.nodes.now.lodged c.requires.whole.part c.args.at c.in-Some.up)
     × IsUp c.args.nodes.now.lodged c.requires.whole.part c.args.at c.in-Some.up l c.in-Some-bit_node.node c.leaf-leaf.result.key
 read g c =
-    let l = lone_read c.requires.whole c.links.result.now c.requires.there c.links.ensures.links c.leaf-leaf.ensures c.requires.lone c.in-Some.is in (
+    let l = lone_read c.requires.there c.requires.whole c.links.result.now c.links.ensures.links c.leaf-leaf.ensures c.requires.lone c.in-Some.is in (
       l,
-      up_read c.links-2.result.now l c.links-2.ensures.links (sym c.bit_node.ensures ∙ c.in-Some-bit_node.is)
-          (key_read c.links.result.now l c.requires.there c.links.ensures.links c.leaf-leaf.ensures),
+      up_read l c.links-2.result.now c.links-2.ensures.links (sym c.bit_node.ensures ∙ c.in-Some-bit_node.is)
+      (key_read c.requires.there c.links.result.now l c.links.ensures.links c.leaf-leaf.ensures),
     )
 
 -- and what the writes leave
@@ -27,17 +27,17 @@ done : (g : given.Over) (c : After-root_after g) → (l : IsLone c.args.nodes.no
     × IsUp c.args.nodes.now.lodged c.requires.whole.part c.args.at c.in-Some.up l c.in-Some-bit_node.node c.leaf-leaf.result.key
     × IsJoined c.args.nodes.now.lodged c.join.new.nodes.lodged c.requires.whole.part c.args.at c.in-Some.up l
 done g c =
-    let l = lone_read c.requires.whole c.links.result.now c.requires.there c.links.ensures.links c.leaf-leaf.ensures c.requires.lone c.in-Some.is in
-    let key = key_read c.links.result.now l c.requires.there c.links.ensures.links c.leaf-leaf.ensures in
-    let u = up_read c.links-2.result.now l c.links-2.ensures.links (sym c.bit_node.ensures ∙ c.in-Some-bit_node.is) key in (
+    let l = lone_read c.requires.there c.requires.whole c.links.result.now c.links.ensures.links c.leaf-leaf.ensures c.requires.lone c.in-Some.is in
+    let key = key_read c.requires.there c.links.result.now l c.links.ensures.links c.leaf-leaf.ensures in
+    let u = up_read l c.links-2.result.now c.links-2.ensures.links (sym c.bit_node.ensures ∙ c.in-Some-bit_node.is) key in (
       l,
       u,
-      joined c.hand_masks_on.new.nodes.lodged c.join.new.nodes.lodged l u.above key (u.to ∙ sym c.sibling_of-to.ensures)
-          c.hand_masks_on.ensures.tree.leaves c.hand_masks_on.ensures.tree.bits c.join.ensures.leaves c.join.ensures.bits,
+      joined l c.hand_masks_on.new.nodes.lodged c.join.new.nodes.lodged u.above key (u.to ∙ sym c.sibling_of-to.ensures) c.hand_masks_on.ensures.tree.leaves
+      c.hand_masks_on.ensures.tree.bits c.join.ensures.leaves c.join.ensures.bits,
     )
 
 pub unreachable-requires : goal.unreachable-requires
-unreachable-requires g c = never_top c.links.result.now c.requires.there c.links.ensures.links c.leaf-leaf.ensures c.requires.lone c.in_default.is
+unreachable-requires g c = never_top c.requires.there c.links.result.now c.links.ensures.links c.leaf-leaf.ensures c.requires.lone c.in_default.is
 
 pub links-requires-2-clause-there : goal.links-requires-2-clause-there
 links-requires-2-clause-there g c =
@@ -47,7 +47,7 @@ links-requires-2-clause-there g c =
 pub unreachable-requires-in_default-bit_node : goal.unreachable-requires-in_default-bit_node
 unreachable-requires-in_default-bit_node g c =
     let l = lone g (goal.at.unreachable-requires-in_default-bit_node g c).In-Some in
-    never_unused c.args.at c.in-Some.up c.links-2.result.now l c.links-2.ensures.links (sym c.bit_node.ensures ∙ c.in_default-bit_node.is)
+    never_unused l c.links-2.result.now c.links-2.ensures.links (sym c.bit_node.ensures ∙ c.in_default-bit_node.is)
 
 pub sibling_of-to-requires : goal.sibling_of-to-requires
 sibling_of-to-requires g c =
@@ -75,25 +75,24 @@ join-requires-clause-up g c =
 pub join-requires-clause-above : goal.join-requires-clause-above
 join-requires-clause-above g c over is =
     let (l, u) = read g (goal.at.join-requires-clause-above g c).In-Some-bit_node in
-    above_after c.args.nodes.now.lodged c.hand_masks_on.new.nodes.lodged l c.hand_masks_on.ensures.tree.leaves c.hand_masks_on.ensures.tree.bits u.above is
+    above_after l c.hand_masks_on.new.nodes.lodged c.hand_masks_on.ensures.tree.leaves c.hand_masks_on.ensures.tree.bits u.above is
 
 pub join-requires-clause-beneath : goal.join-requires-clause-beneath
 join-requires-clause-beneath g c =
     let (l, u) = read g (goal.at.join-requires-clause-beneath g c).In-Some-bit_node in
-    beneath_after c.args.nodes.now.lodged c.hand_masks_on.new.nodes.lodged c.args.at c.in-Some.up l c.hand_masks_on.ensures.tree.leaves
-    c.hand_masks_on.ensures.tree.bits u.above (u.to ∙ sym c.sibling_of-to.ensures)
+    beneath_after l c.hand_masks_on.new.nodes.lodged c.hand_masks_on.ensures.tree.leaves c.hand_masks_on.ensures.tree.bits u.above
+      (u.to ∙ sym c.sibling_of-to.ensures)
 
 pub returns-clause-whole : goal.returns-clause-whole
 returns-clause-whole g c =
     let (l, u, j) = done g (goal.at.returns-clause-whole g c).After-root_after in
-    let h = handed_on c.args.nodes.now.lodged c.hand_masks_on.new.nodes.lodged c.join.new.nodes.lodged c.args.at c.in-Some.up l
-    (c.hand_masks_on.ensures.handed c.requires.whole.part c.args.at c.in-Some.up l (u.to ∙ sym c.sibling_of-to.ensures) u.head c.requires.unmarked
+    let h = handed_on l c.hand_masks_on.new.nodes.lodged c.join.new.nodes.lodged
+        (c.hand_masks_on.ensures.handed c.requires.whole.part c.args.at c.in-Some.up l (u.to ∙ sym c.sibling_of-to.ensures) u.head c.requires.unmarked
     (way_lists (IsMarked (masks_in c.args.nodes.now.lodged)) l.route.entry.key c.requires.whole.part l.over l.ups l.way c.requires.whole.lists))
-    c.join.ensures.masks (λ n other. c.join.ensures.heads n ∙ head_off c.in-Some.up n (heads_in c.hand_masks_on.new.nodes.lodged n) other) in
-    subst (λ z. IsWholeBut c.join.new.nodes.lodged z nobody_late (out_at c.args.at.number))
-    (ap (λ o. root_after o (name_of l.other) c.args.root) u.above
+      c.join.ensures.masks (λ n other. c.join.ensures.heads n ∙ head_off c.in-Some.up n (heads_in c.hand_masks_on.new.nodes.lodged n) other) in
+    subst (λ z. IsWholeBut c.join.new.nodes.lodged z nobody_late (out_at c.args.at.number)) (ap (λ o. root_after o (name_of l.other) c.args.root) u.above
     ∙ ap (λ z. root_after c.in-Some-bit_node.node.above z c.args.root) (u.to ∙ sym c.sibling_of-to.ensures) ∙ sym c.root_after.ensures)
-    (whole_joined c.args.at c.in-Some.up c.requires.whole l j h c.requires.unmarked)
+    (whole_joined c.requires.whole l j h c.requires.unmarked)
 
 pub returns-clause-routes : goal.returns-clause-routes
 returns-clause-routes g c p said =
@@ -101,7 +100,7 @@ returns-clause-routes g c p said =
     subst (λ z. Gains (shown_entry p) (shown c.join.new.nodes.lodged (Some z)) (shown c.args.nodes.now.lodged (Some c.args.root)))
     (ap (λ o. root_after o (name_of l.other) c.args.root) u.above
     ∙ ap (λ z. root_after c.in-Some-bit_node.node.above z c.args.root) (u.to ∙ sym c.sibling_of-to.ensures) ∙ sym c.root_after.ensures)
-    (routes_joined c.args.root c.args.at c.in-Some.up c.requires.whole l j p said)
+    (routes_joined c.requires.whole l j p said)
 
 pub returns-clause-rooms : goal.returns-clause-rooms
 returns-clause-rooms g c n =

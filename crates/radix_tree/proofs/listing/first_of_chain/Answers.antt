@@ -18,7 +18,7 @@ loop-before-init g c =
 pub links-requires-in-Some-clause-there : goal.links-requires-in-Some-clause-there
 links-requires-in-Some-clause-there g c =
     let r = c.requires.chain in
-    let e = earlier c.args.nodes.now.lodged r.0 _ (c.loop-before.invariant.back r.0 r.1 r.2 r.3 r.4) c.in-Some.is in
+    let e = earlier (c.loop-before.invariant.back r.0 r.1 r.2 r.3 r.4) c.in-Some.is in
     Has-member r.0 e.is r.2 e.among e.room_is
 
 pub loop-before-smaller : goal.loop-before-smaller
@@ -26,7 +26,7 @@ loop-before-smaller g c =
     let r = c.requires.chain in
     let count = ap (λ v. v.count) c.links-in-Some.ensures.visit in
     let rises = c.loop-before.invariant.rises in
-    let few = few_at c.args.nodes.now.lodged r.0 _ (c.loop-before.invariant.back r.0 r.1 r.2 r.3 r.4) in
+    let few = few_at (c.loop-before.invariant.back r.0 r.1 r.2 r.3 r.4) in
     omega arith
 
 pub loop-before-preserved : goal.loop-before-preserved
@@ -36,7 +36,7 @@ loop-before-preserved g c =
     record {
       turn = ap (λ v. v.turn) c.links-in-Some.ensures.visit ∙ c.loop-before.invariant.turn;
       back = λ r y first among is.
-          let e = earlier c.args.nodes.now.lodged r _ (c.loop-before.invariant.back r y first among is) c.in-Some.is in
+          let e = earlier (c.loop-before.invariant.back r y first among is) c.in-Some.is in
           let few = e.few in
           come r e.is (c.links-in-Some.new.visits.count - c.args.visits.now.count) c.links-in-Some.result.now first e.among e.room_is (omega arith)
           c.links-in-Some.ensures.links c.leaf-before-in-Some.ensures;
@@ -44,4 +44,4 @@ loop-before-preserved g c =
     }
 
 pub returns-clause-first : goal.returns-clause-first
-returns-clause-first g c r y first among is = ended c.args.nodes.now.lodged r (c.loop-before.invariant.back r y first among is) c.in_default.is
+returns-clause-first g c r y first among is = ended (c.loop-before.invariant.back r y first among is) c.in_default.is

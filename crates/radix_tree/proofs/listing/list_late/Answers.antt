@@ -4,7 +4,7 @@ use Rattle.radix_tree.proofs.listing.list_late.Goals as goal
 
 pub returns-in-Some-clause-whole : goal.returns-in-Some-clause-whole
 returns-in-Some-clause-whole g c root late w =
-    listed_late late w c.args.room c.links.result.now _ c.requires.there c.links.ensures.links (sym c.mask_node.ensures ∙ c.in-Some.is)
+    listed_late c.requires.there late w c.links.result.now _ c.links.ensures.links (sym c.mask_node.ensures ∙ c.in-Some.is)
 
 pub list_mask-requires-clause-unmarked : goal.list_mask-requires-clause-unmarked
-list_mask-requires-clause-unmarked g c = mask_none c.links.result.now c.requires.there c.links.ensures.links (sym c.mask_node.ensures ∙ c.in-None.is)
+list_mask-requires-clause-unmarked g c = mask_none c.requires.there c.links.result.now c.links.ensures.links (sym c.mask_node.ensures ∙ c.in-None.is)

@@ -18,5 +18,5 @@ returns-clause-node g c =
     let has = Has-bit c.args.nodes.now.lodged c.args.room u.said u.block in
     record {
       said = bit_told has c.links.ensures.links ∙ ap (bit_part c.args.room.block) is;
-      head = head_read c.links.result.now has c.links.ensures.links is;
+      head = head_read has c.links.result.now c.links.ensures.links is;
     }

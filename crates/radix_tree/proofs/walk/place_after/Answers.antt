@@ -2,7 +2,7 @@ use Rattle.radix_tree.proofs.Walks.{Has-here, next_on, last_of, first_of_key}
 use Rattle.radix_tree.proofs.walk.place_after.Goals as goal
 
 pub links-requires-clause-there : goal.links-requires-clause-there
-links-requires-clause-there g c = Has-here c.requires.at
+links-requires-clause-there g c = Has-here _ c.requires.at
 
 pub place_behind-requires-clause-first : goal.place_behind-requires-clause-first
 place_behind-requires-clause-first g c = first_of_key c.args.place c.requires.at c.links.result.now c.links.ensures.links c.leaf-leaf.ensures

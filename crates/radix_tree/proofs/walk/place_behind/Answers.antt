@@ -40,14 +40,14 @@ first_place-requires-clause-tree g c = (node g (goal.at.first_place-requires-cla
 pub returns-then-not-is_one-clause-on : goal.returns-then-not-is_one-clause-on
 returns-then-not-is_one-clause-on g c =
     let n = node g (goal.at.returns-then-not-is_one-clause-on g c).In-Some-bit_node in
-    begins_on c.first_place.result _ c.first_place.ensures.room
-    (n.turn (on_zero c.in-Some-bit_node.node.bit c.args.key c.is_one.ensures c.if-not-is_one.true) c.first_place.result.first c.first_place.ensures.led)
+    begins_on c.first_place.result (n.turn (on_zero c.in-Some-bit_node.node.bit c.args.key c.is_one.ensures c.if-not-is_one.true) c.first_place.result.first
+      c.first_place.ensures.led) c.first_place.ensures.room
 
 pub returns-then-not-is_one-clause-rest : goal.returns-then-not-is_one-clause-rest
 returns-then-not-is_one-clause-rest g c =
     let n = node g (goal.at.returns-then-not-is_one-clause-rest g c).In-Some-bit_node in
-    begins_rest c.first_place.result _ c.first_place.ensures.room
-    (n.turn (on_zero c.in-Some-bit_node.node.bit c.args.key c.is_one.ensures c.if-not-is_one.true) c.first_place.result.first c.first_place.ensures.led)
+    begins_rest c.first_place.result (n.turn (on_zero c.in-Some-bit_node.node.bit c.args.key c.is_one.ensures c.if-not-is_one.true)
+      c.first_place.result.first c.first_place.ensures.led) c.first_place.ensures.room
 
 pub loop-above-smaller : goal.loop-above-smaller
 loop-above-smaller g c =

@@ -8,7 +8,7 @@ leaf_for-first-requires-clause-tree g c = let w = whole_at _ c.self.invariant.ho
 pub links-requires-clause-there : goal.links-requires-clause-there
 links-requires-clause-there g c =
     let w = whole_at _ c.self.invariant.holds c.in-Some.is in
-    Has-led _ (c.leaf_for-first.ensures.leaf w.part w.named)
+    Has-led (c.leaf_for-first.ensures.leaf w.part w.named)
 
 pub returns-then-ne-clause-entry : goal.returns-then-ne-clause-entry
 returns-then-ne-clause-entry g c =
@@ -21,7 +21,7 @@ returns-then-ne-clause-entry g c =
 pub value-requires-clause-there : goal.value-requires-clause-there
 value-requires-clause-there g c =
     let w = whole_at _ c.self.invariant.holds c.in-Some.is in
-    Has-led _ (c.leaf_for-first.ensures.leaf w.part w.named)
+    Has-led (c.leaf_for-first.ensures.leaf w.part w.named)
 
 pub returns-clause-entry : goal.returns-clause-entry
 returns-clause-entry g c =

@@ -53,8 +53,7 @@ invariant_of-self-lent g c = λ v.
       next = c.begin-visits.new.self.next;
       turn = c.begin-visits.new.self.turn;
     }) o c.self.inside.counts) (sym c.in-Some.is) (record {
-      holds =
-          valued_whole m (put_value m c.in-Some-room_of.room v) c.in-Some-room_of.room.number v c.in-Some.root (put_valued m c.in-Some-room_of.room v has) w;
+      holds = valued_whole (put_valued m c.in-Some-room_of.room v has) w;
       counted = lent_counted m c.in-Some.root w c.args.key c.args.rank c.room_of.result c.in-Some-room_of.room c.self.inside.counts c.in-Some-room_of.is
           (c.room_of.ensures.found w.part w.named) has v counted;
     })
@@ -72,8 +71,7 @@ lent g c v =
     ∙ lent_shown m c.in-Some.root w c.args.key c.args.rank c.room_of.result c.in-Some-room_of.room c.in-Some-room_of.is
     (c.room_of.ensures.found w.part w.named) has v
     ∙ ap (with_entry e) (entries_next c.self.inside.nodes c.begin-visits.new.self _ c.self.view_is c.in-Some.is c.begin-visits.ensures.turn) in
-    let numbers = lent_keys m c.in-Some-room_of.room v has ∙ ap (λ r. keys r.lodged) c.begin-visits.ensures.turn
-    ∙ ap (λ t. t.numbers) c.self.view_is in
+    let numbers = lent_keys m c.in-Some-room_of.room v has ∙ ap (λ r. keys r.lodged) c.begin-visits.ensures.turn ∙ ap (λ t. t.numbers) c.self.view_is in
     let next = ap (λ r. r.next) c.begin-visits.ensures.turn ∙ ap (λ t. t.next) c.self.view_is in
     let turn = ap (λ r. r.turn) c.begin-visits.ensures.turn ∙ ap (λ t. t.turn + 1) c.self.view_is in
     λ i. record { entries = entries i; numbers = numbers i; next = next i; turn = turn i }
