@@ -51,7 +51,7 @@ module _ {V : Type 0} where
   not_above m address whole at [] way top once to n some = ap (λ o. name_child o address to n (bits_in m n)) (ap (λ p. p.above) way ∙ top)
   not_above m address whole at (p ∷ ps) way top once to n some =
       let b = way.0 in
-      let out = (spine_out m at p b (way_once address whole p ps way.1 once)).0 in
+      let out = (spine_out m b (way_once address whole p ps way.1 once)).0 in
       ap (λ o. name_child o address to n (bits_in m n)) b.above ∙ ap (λ t. if t then with_child address to (bits_in m n) else bits_in m n)
       (ne_eqb n b.room.number (λ same. let is = ap (λ k. forks_at k at.tree) same in absurd (omega arith)))
 
@@ -96,7 +96,7 @@ module _ {V : Type 0} where
             tree = fork x.room bit (leaf x []) s.at.tree;
             low = s.at.low;
             above = s.at.above;
-            is = zero_fork_is s.at.low bit x x.room route s.place clear;
+            is = zero_fork_is x x.room route s.place clear;
             stands = (
               b.bit_node ∙ ap (λ t. Some (if t then record { block = x.room.block; bit = bit; zero = below; one = LeafOf x.room; above = above }
                   else record { block = x.room.block; bit = bit; zero = LeafOf x.room; one = below; above = above }))
@@ -116,7 +116,7 @@ module _ {V : Type 0} where
             tree = fork x.room bit s.at.tree (leaf x []);
             low = s.at.low;
             above = s.at.above;
-            is = one_fork_is s.at.low bit x x.room route s.place set;
+            is = one_fork_is x x.room route s.place set;
             stands = (
               b.bit_node ∙ ap (λ t. Some (if t then record { block = x.room.block; bit = bit; zero = below; one = LeafOf x.room; above = above }
                   else record { block = x.room.block; bit = bit; zero = LeafOf x.room; one = below; above = above })) (eq-eqb (bit_at bit x.entry.key) 1 set)
@@ -133,9 +133,9 @@ module _ {V : Type 0} where
       ]
 
   -- its keys agree on the bits before the new one as those of the part beneath
-  forked_keys : (bit low : ℕ) (x : Placed V) (t : Tree V) → IsPlace x.entry.key low bit t → (c value : ℕ) → c < low → HaveBit c value t
+  forked_keys : (bit : ℕ) {low : ℕ} (x : Placed V) (t : Tree V) → IsPlace x.entry.key low bit t → (c value : ℕ) → c < low → HaveBit c value t
       → HaveBit c value (forked_tree bit x t)
-  forked_keys bit low x t p c value before have =
+  forked_keys bit x t p c value before have =
       let rises = p.rises in
       let own = one_value c (bit_at c x.entry.key) value t (p.agree c (omega arith)) have in
       elim (zero_or_one bit x.entry.key) [
@@ -165,7 +165,7 @@ module _ {V : Type 0} where
         let e : IsExchange m new x.entry.key whole s.at u.part = record {
           low = u.low;
           above = u.above;
-          keys = λ c value before have. subst (HaveBit c value) (sym u.tree) (forked_keys bit s.at.low x s.at.tree s.place c value before have);
+          keys = λ c value before have. subst (HaveBit c value) (sym u.tree) (forked_keys bit x s.at.tree s.place c value before have);
           leaves = leaf_stays;
           bits = λ n none some. bit_stays n none some ∙ ap (λ o. name_child o x.entry.key (BitOf x.room) n (bits_in m n)) (sym s.above_is)
               ∙ ap (λ z. name_child s.at.above x.entry.key z n (bits_in m n)) (sym name);

@@ -92,9 +92,9 @@ module _ {V : Type 0} where
       (λ clear home. elim home [ inl here ↦ inl here | inr sides ↦ elim sides [ inl left ↦ absurd left.1 | inr right ↦ inr right.1 ] ])
       (λ set home. elim home [ inl here ↦ inl here | inr sides ↦ elim sides [ inl left ↦ inr left.1 | inr right ↦ absurd right.1 ] ])
 
-  pub forked_home : (bit low : ℕ) (x : Placed V) (t : Tree V) → IsPlace x.entry.key low bit t → (y : Placed V) → IsIn y t → HasHome y.entry.key y.entry.rank t
-      → HasHome y.entry.key y.entry.rank (forked_tree bit x t)
-  forked_home bit low x t p y is home = forked_cases (λ (s : Tree V). HasHome y.entry.key y.entry.rank s) bit x t
+  pub forked_home : (bit : ℕ) {low : ℕ} (x : Placed V) (t : Tree V) → IsPlace x.entry.key low bit t → (y : Placed V) → IsIn y t
+      → HasHome y.entry.key y.entry.rank t → HasHome y.entry.key y.entry.rank (forked_tree bit x t)
+  forked_home bit x t p y is home = forked_cases (λ (s : Tree V). HasHome y.entry.key y.entry.rank s) bit x t
       (λ clear. inr (inr (bit_beneath (bit + 1) bit 1 t p.is (p.far_one clear) y is, home)))
       (λ set. inr (inl (bit_beneath (bit + 1) bit 0 t p.is (p.far_zero set) y is, home)))
 
@@ -114,9 +114,9 @@ module _ {V : Type 0} where
   same_parts m new leaves bits [] = []
   same_parts m new leaves bits (p ∷ ps) = same_part new leaves bits p ∷ same_parts m new leaves bits ps
 
-  same_beneath : (m new : Lodged V) (leaves : KeepsLeaves m new) (bits : KeepsBits m new) {key : ℕ} (under over : Part m) → Beneath key under over
-      → Beneath key (same_part new leaves bits under) (same_part new leaves bits over)
-  same_beneath m new leaves bits under over b = record {
+  same_beneath : {m : Lodged V} (new : Lodged V) (leaves : KeepsLeaves m new) (bits : KeepsBits m new) {key : ℕ} {under over : Part m}
+      → Beneath key under over → Beneath key (same_part new leaves bits under) (same_part new leaves bits over)
+  same_beneath new leaves bits b = record {
     room = b.room;
     at = record { bit = b.at.bit; zero = b.at.zero; one = b.at.one; is = b.at.is };
     above = b.above;
@@ -127,7 +127,7 @@ module _ {V : Type 0} where
   pub same_way : (m new : Lodged V) (leaves : KeepsLeaves m new) (bits : KeepsBits m new) (key : ℕ) (whole at : Part m) (ups : List (Part m))
       → Way key whole at ups → Way key (same_part new leaves bits whole) (same_part new leaves bits at) (same_parts m new leaves bits ups)
   same_way m new leaves bits key whole at [] way = ap (same_part {m = m} new leaves bits) way
-  same_way m new leaves bits key whole at (p ∷ ps) way = (same_beneath m new leaves bits at p way.0, same_way m new leaves bits key whole p ps way.1)
+  same_way m new leaves bits key whole at (p ∷ ps) way = (same_beneath new leaves bits way.0, same_way m new leaves bits key whole p ps way.1)
 
   abbrev pub same_spot : {m : Lodged V} (new : Lodged V) (leaves : KeepsLeaves m new) (bits : KeepsBits m new) {key bit : ℕ} (whole : Part m)
       {above : Option Id} {below : Node} → IsSpot m key bit whole above below → IsSpot new key bit (same_part new leaves bits whole) above below

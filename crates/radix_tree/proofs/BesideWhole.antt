@@ -20,11 +20,11 @@ module _ {V : Type 0} where
   abbrev pub late_beside : Lodged V → ℕ → ℕ → ℕ → Bool
   late_beside m key room n = (n == room) || has_key m key n
 
-  pub counts : (m mid new : Lodged V) {low bit : ℕ} {t : Tree V} (x : Placed V) (above : Option Id) (below : Node)
-      (c : Came m mid new low bit t x above below)
-      (n : ℕ) → (one_if (x.room.number == n) + one_if (is_some (leaves_in m n)) ≡ one_if (is_some (leaves_in new n)))
+  pub counts : (m : Lodged V) {mid : Lodged V} (new : Lodged V) {low bit : ℕ} {t : Tree V} (x : Placed V) {above : Option Id} {below : Node}
+      (c : Came m mid new low bit t x above below) (n : ℕ)
+      → (one_if (x.room.number == n) + one_if (is_some (leaves_in m n)) ≡ one_if (is_some (leaves_in new n)))
       × (one_if (x.room.number == n) + one_if (is_some (bits_in m n)) ≡ one_if (is_some (bits_in new n)))
-  counts m mid new {t = t} x above below c n = elim (cases_eq n x.room.number) [
+  counts m new {t = t} x c n = elim (cases_eq n x.room.number) [
     | inl same ↦ let here = one_if_here x.room n same in
         let l = ap (λ o. one_if (is_some o)) (ap (leaves_in m) same ∙ no_leaf x c) in
         let b = ap (λ o. one_if (is_some o)) (ap (bits_in m) same ∙ no_bit x c) in
@@ -66,10 +66,10 @@ module _ {V : Type 0} where
         λ n other. c.heads n ∙ ap (λ b. if b then c.first else heads_in mid n) (ne_eqb n x.room.number other) in
         let rises = s.place.rises in
         record {
-          leaves = λ n. let e = (counts m mid new x above below c n).0 in
+          leaves = λ n. let e = (counts m new x c n).0 in
               let k = ap (leaves_at n) tree ∙ forked_leaves bit x s.at.tree n in
               omega arith;
-          forks = λ n. let e = (counts m mid new x above below c n).1 in
+          forks = λ n. let e = (counts m new x c n).1 in
               let k = ap (forks_at n) tree ∙ forked_forks bit x s.at.tree n in
               omega arith;
           heads = λ n none some. off n (not_new_bit w.part x.room (no_bit x c) n some) ∙ c.cut.heads n none;
@@ -78,7 +78,7 @@ module _ {V : Type 0} where
           marks = λ n p is. some_of (masks_in m n) (sym (marks n) ∙ ap is_some is);
           kept = λ y at marked. (
             subst (IsIn y) (sym tree) (forked_in bit x s.at.tree y at),
-            λ home. inr (subst (HasHome y.entry.key y.entry.rank) (sym tree) (forked_home bit s.at.low x s.at.tree s.place y at home)),
+            λ home. inr (subst (HasHome y.entry.key y.entry.rank) (sym tree) (forked_home bit x s.at.tree s.place y at home)),
           );
           came = λ y there marked. elim (in_forked bit x s.at.tree y (subst (IsIn y) tree there)) [
             | inl e ↦ absurd (new_one y e marked)

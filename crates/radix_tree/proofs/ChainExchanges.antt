@@ -42,15 +42,15 @@ module _ {V : Type 0} where
       ∙ elim (n == b.room.number) as (λ t. (n == b.room.number) ≡ t → (if t then with_child key (name_of at.tree) (bits_in m n) else bits_in m n)
       ≡ bits_in m n) [
         | true ↦ λ e. ap (λ k. with_child key (name_of at.tree) (bits_in m k)) (eqb-true n b.room.number e)
-            ∙ sym (same_turned m key at p (name_of at.tree) b refl) ∙ ap (bits_in m) (sym (eqb-true n b.room.number e))
+            ∙ sym (same_turned key p (name_of at.tree) b refl) ∙ ap (bits_in m) (sym (eqb-true n b.room.number e))
         | false ↦ λ e. refl
       ] refl
 
-  pub root_same : (m : Lodged V) (key : ℕ) (whole at : Part m) (ups : List (Part m)) → Way key whole at ups → whole.above ≡ None
+  pub root_same : {m : Lodged V} (key : ℕ) (whole at : Part m) (ups : List (Part m)) → Way key whole at ups → whole.above ≡ None
       → root_after at.above (name_of at.tree) (name_of whole.tree) ≡ name_of whole.tree
-  root_same m key whole at [] way top = ap (λ o. root_after o (name_of at.tree) (name_of whole.tree)) (ap (λ p. p.above) way ∙ top)
+  root_same key whole at [] way top = ap (λ o. root_after o (name_of at.tree) (name_of whole.tree)) (ap (λ p. p.above) way ∙ top)
       ∙ ap (λ p. name_of p.tree) way
-  root_same m key whole at (p ∷ ps) way top = ap (λ o. root_after o (name_of at.tree) (name_of whole.tree)) way.0.above
+  root_same key whole at (p ∷ ps) way top = ap (λ o. root_after o (name_of at.tree) (name_of whole.tree)) way.0.above
 
   -- a chain begins with the first member before a place, where there is one
   abbrev pub FrontNamed : List (Placed V) → Node → Type 0
@@ -83,7 +83,7 @@ module _ {V : Type 0} where
       ≡ root_after at.above (LeafOf (cons_at front back x).first.room) (name_of whole.tree)
   place_root m key whole at ups [] back x way top named = refl
   place_root m key whole at ups (f ∷ front) back x way top named = past_root f.room front None (LeafOf x.room) (name_of whole.tree)
-      ∙ sym (ap (λ z. root_after at.above z (name_of whole.tree)) (sym named) ∙ root_same m key whole at ups way top)
+      ∙ sym (ap (λ z. root_after at.above z (name_of whole.tree)) (sym named) ∙ root_same key whole at ups way top)
 
   -- ---- the exchange
   pub record Rechained (m new : Lodged V) (key : ℕ) (whole at : Part m) (old now : List (Placed V)) : Type 0 where
@@ -130,9 +130,9 @@ module _ {V : Type 0} where
       (root_after at.above (LeafOf r.cons.first.room) (name_of w.part.tree))
   with_chain m new w at ups way r = exchanged m new w.part at ups way w.top (once_but w) (exchange r)
 
-  pub bits_some : (m new : Lodged V) (key : ℕ) {whole : Part m} (at : Part m) {old now : List (Placed V)} → Rechained m new key whole at old now → (n : ℕ)
-      → is_some (bits_in new n) ≡ is_some (bits_in m n)
-  bits_some m new key at r n = ap is_some (r.bits n) ∙ turn_used at.above key n (LeafOf r.cons.first.room) (bits_in m n)
+  pub bits_some : (m : Lodged V) {new : Lodged V} (key : ℕ) {whole : Part m} (at : Part m) {old now : List (Placed V)} → Rechained m new key whole at old now
+      → (n : ℕ) → is_some (bits_in new n) ≡ is_some (bits_in m n)
+  bits_some m key at r n = ap is_some (r.bits n) ∙ turn_used at.above key n (LeafOf r.cons.first.room) (bits_in m n)
 
   module _ {m new : Lodged V} {root : Node} {late : ℕ → Bool} {out : ℕ → ℕ} {key : ℕ} (w : IsWholeBut m root late out) {at : Part m}
       {old now : List (Placed V)} (r : Rechained m new key w.part at old now) where
@@ -140,7 +140,7 @@ module _ {V : Type 0} where
         → (HasOneFork (bits_in m) old → HasOneFork (bits_in m) now)
         → IsWholeBut new (root_after at.above (LeafOf r.cons.first.room) (name_of w.part.tree)) later outs
     rechained ups way f spare =
-        let none : (n : ℕ) → bits_in m n ≡ None → bits_in new n ≡ None = λ n gone. same_none (bits_in new n) (bits_some m new key at r n) gone in
+        let none : (n : ℕ) → bits_in m n ≡ None → bits_in new n ≡ None = λ n gone. same_none (bits_in new n) (bits_some m key at r n) gone in
         whole_changed w (with_chain m new w at ups way r) f (spare_changed w (with_chain m new w at ups way r)
         (λ one. subst (HasOneFork (bits_in new)) r.cons.is (one_fork_same (bits_in m) (bits_in new) now none
         (spare (subst (HasOneFork (bits_in m)) (sym r.was.is) (subst (HaveOneFork (bits_in m)) r.is one))))) (λ n out_of some gone. none n gone))
@@ -173,8 +173,8 @@ module _ {V : Type 0} where
   not_marked m new x y keeps none same marked = true≢false (sym marked ∙ ap (λ p. is_some (masks_in new p.room.number)) (sym same)
       ∙ ap is_some (keeps x.room.number ∙ none))
 
-  pub same_forks : (m new : Lodged V) (key : ℕ) (whole at : Part m) {old now : List (Placed V)} (r : Rechained m new key whole at old now) (n : ℕ)
+  pub same_forks : (m new : Lodged V) (key : ℕ) {whole : Part m} (at : Part m) {old now : List (Placed V)} (r : Rechained m new key whole at old now) (n : ℕ)
       → forks_at n (under r).tree + one_if (is_some (bits_in m n)) ≡ forks_at n at.tree + one_if (is_some (bits_in new n))
-  same_forks m new key whole at r n =
+  same_forks m new key at r n =
       let none = ap (forks_at n) r.is in
-      let same = ap one_if (bits_some m new key at r n) in omega arith
+      let same = ap one_if (bits_some m key at r n) in omega arith

@@ -45,8 +45,7 @@ module _ {V : Type 0} where
 
   -- ---- the member that a walk has come to
   pub head_said : (m : Lodged V) (above previous : Option Id) {ms : List (Placed V)} {at : Id} (x : IsHead ms at) → ChainStands (leaves_in m) above previous
-      ms
-      → leaves_in m at.number ≡ Some (leaf_part x.first above previous (first_room x.behind))
+      ms → leaves_in m at.number ≡ Some (leaf_part x.first above previous (first_room x.behind))
   head_said m above previous x stands = ap (λ i. leaves_in m i.number) (sym x.room_is) ∙ (subst (ChainStands (leaves_in m) above previous) x.is stands).0
 
   head_there : (m : Lodged V) (above previous : Option Id) {ms : List (Placed V)} (at : Id) → IsHead ms at → ChainStands (leaves_in m) above previous ms
@@ -159,6 +158,6 @@ module _ {V : Type 0} where
   none_below rank (x ∷ back) ends = absurd (none_some (sym ends))
 
   -- the end of the chain
-  pub ended : (m : Lodged V) (key rank : ℕ) (c : Run m) {above previous next : Option Id} {steps : ℕ} → Passed rank c above previous next steps → next ≡ None
+  pub ended : {m : Lodged V} (key rank : ℕ) {c : Run m} {above previous next : Option Id} {steps : ℕ} → Passed rank c above previous next steps → next ≡ None
       → FindsGap key rank c (Some (record { key = key; rank = rank; above = above; next = next; previous = previous }))
-  ended m key rank c {above = above} {previous = previous} {next = next} p is = gap_of p key (none_below rank p.back (sym p.next_is ∙ is))
+  ended key rank {above = above} {previous = previous} {next = next} p is = gap_of p key (none_below rank p.back (sym p.next_is ∙ is))

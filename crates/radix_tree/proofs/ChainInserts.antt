@@ -128,9 +128,9 @@ module _ {V : Type 0} where
   cons_key (f ∷ front) back x z zs is same = ap (λ p. p.entry.key) (sym (cons_head is))
 
   -- no room is twice in the chain
-  pub chain_once : (m : Lodged V) (key : ℕ) (whole at : Part m) (ups : List (Part m)) {z : Placed V} {zs c : List (Placed V)} → Way key whole at ups
+  pub chain_once : {m : Lodged V} (key : ℕ) (whole at : Part m) (ups : List (Part m)) {z : Placed V} {zs c : List (Placed V)} → Way key whole at ups
       → AreOnce whole.tree → at.tree ≡ leaf z zs → z ∷ zs ≡ c → (n : ℕ) → members_at n c ≤ 1
-  chain_once m key whole at ups {c = c} way once is same n =
+  chain_once key whole at ups {c = c} way once is same n =
       let few = (way_once key whole at ups way once).leaves n in
       let counts = ap (leaves_at n) is ∙ ap (members_at n) same in
       omega arith
@@ -142,7 +142,7 @@ module _ {V : Type 0} where
         → Rechained m new e.key w.part d.part (g.front ++ g.back) (g.front ++ (placed id e ∷ g.back))
     in_chain new id same route wr =
         let c = chain_of d in
-        let once = chain_once m e.key w.part d.part d.ups d.way (once_but w) d.leaf.is g.is in
+        let once = chain_once e.key w.part d.part d.ups d.way (once_but w) d.leaf.is g.is in
         let key = cons_key g.front g.back (placed id e) d.leaf.first d.leaf.rest g.is same in
         let most = route.rank in
         record {
@@ -187,7 +187,7 @@ module _ {V : Type 0} where
       key → FindsGap key rank (chain_of d) None → (x : Placed V) × IsIn x v.part.tree × HasPair key rank x
   taken_there {m = m} key rank w v d same g =
       let x = g.0 in
-      let inside_leaf = in_leaf m d.leaf g.0 g.1 in
+      let inside_leaf = in_leaf d.leaf g.0 g.1 in
       let own = way_inside m key w.part d.part d.ups d.way g.0 inside_leaf in
       let s = tree_said (leaves_in m) (bits_in m) w.part.above w.part.tree w.part.stands g.0 own in
       let p = leaf_part g.0 s.0 s.1 s.2 in

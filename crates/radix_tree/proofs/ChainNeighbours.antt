@@ -40,7 +40,7 @@ module _ {V : Type 0} where
         let one = ap (λ o. one_if (is_some o)) said in
         let r = room_route m w.part n said (omega arith) in
         let f = way_to_leaf m w.part r.route r.is_in in
-        let s = split_at (f.at.first ∷ f.at.rest) r.route (among_leaf m f.at r.route f.among) in
+        let s = split_at (f.at.first ∷ f.at.rest) r.route (among_leaf f.at r.route f.among) in
         let stands = behind_stands (leaves_in m) f.part.above None s.front (r.route ∷ s.back) (leaf_stands m f.part f.at.is s.is) in
         record {
           x = r.route;
@@ -58,7 +58,7 @@ module _ {V : Type 0} where
         }
 
     pub member_once : {n : ℕ} {p : LeafPart V} (b : IsMember m w.part n p) (k : ℕ) → members_at k (b.front ++ (b.x ∷ b.back)) ≤ 1
-    member_once b = chain_once m b.x.entry.key w.part b.part b.ups b.way (once_but w) b.is b.split
+    member_once b = chain_once b.x.entry.key w.part b.part b.ups b.way (once_but w) b.is b.split
 
     -- the room itself is not among the others
     pub own_out : (n : ℕ) (p : LeafPart V) (b : IsMember m w.part n p) → members_at n (b.front ++ b.back) ≡ 0
@@ -135,7 +135,7 @@ module _ {V : Type 0} where
   kept_at m new key whole at ups (f ∷ front) back way top named front_is some bits = record {
     cons = record { first = f; rest = front ++ back; is = refl };
     bits = λ k. bits k ∙ sym (ap (λ z. name_child at.above key z k (bits_in m k)) (sym front_is) ∙ turn_same m key whole at ups way top k);
-    named = ap (λ z. root_after at.above z (name_of whole.tree)) (sym front_is) ∙ root_same m key whole at ups way top ∙ named;
+    named = ap (λ z. root_after at.above z (name_of whole.tree)) (sym front_is) ∙ root_same key whole at ups way top ∙ named;
   }
 
   pub left_kept : {m : Lodged V} (new : Lodged V) {root : Node} {late : ℕ → Bool} (w : IsWholeBut m root late nobody_out) {n : ℕ} {p : LeafPart V}
@@ -146,11 +146,10 @@ module _ {V : Type 0} where
       kept_at m new b.x.entry.key w.part b.part b.ups b.front b.back b.way w.top w.named (front_named b.front (b.x ∷ b.back) b.is b.split)
       (λ none. none_some (sym next ∙ (first (ap (λ q. q.leaf.previous) b.part_is ∙ none)).1)) bits
 
-  abbrev pub out_chain : (m new : Lodged V) {root name : Node} {late : ℕ → Bool} (w : IsWholeBut m root late nobody_out) (n : ℕ) (p : LeafPart V)
-      (b : IsMember m w.part n p) → IsUnlinked m new p.leaf
-      → IsLeft m new b.x.entry.key w.part b.part b.front b.back name → Rechained m new b.x.entry.key w.part b.part (b.front ++ (b.x ∷ b.back))
-      (b.front ++ b.back)
-  out_chain m new w n p b u l =
+  abbrev pub out_chain : (m new : Lodged V) {root name : Node} {late : ℕ → Bool} (w : IsWholeBut m root late nobody_out) {n : ℕ} (p : LeafPart V)
+      (b : IsMember m w.part n p) → IsUnlinked m new p.leaf → IsLeft m new b.x.entry.key w.part b.part b.front b.back name
+      → Rechained m new b.x.entry.key w.part b.part (b.front ++ (b.x ∷ b.back)) (b.front ++ b.back)
+  out_chain m new w p b u l =
       let order = leaf_chain b.part b.is b.split in
       let less = chain_less b.first.entry.key 34 b.front b.back b.x order in
       let key = chain_key b.first.entry.key 34 (b.front ++ b.back) less l.cons.first (subst (IsAmong l.cons.first) (sym l.cons.is) (inl refl)) in

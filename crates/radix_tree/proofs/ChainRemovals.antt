@@ -44,14 +44,14 @@ module _ {V : Type 0} where
         → IsLeft m new b.x.entry.key w.part b.part b.front b.back name → IsWholeBut new name nobody_late (out_at n)
     removed_whole {new = new} unmarked u l = subst (λ z. IsWholeBut new z nobody_late (out_at n)) l.named
         (subst (λ k. IsWholeBut new (root_after b.part.above (LeafOf l.cons.first.room) (name_of w.part.tree)) nobody_late (out_at k)) b.number
-        (shrunk_whole m new b.x.entry.key b.front b.back b.x late_here b.part b.ups b.way (out_chain m new w n p b u l) (member_once w b)
+        (shrunk_whole m new b.x.entry.key b.front b.back b.x late_here b.part b.ups b.way (out_chain m new w p b u l) (member_once w b)
         (ap (masks_in m) b.number ∙ unmarked) (routes_some m new (unlinked_routes m new p.leaf u.leaves))))
 
     pub removed_routes : {new : Lodged V} {name : Node} → IsUnlinked m new p.leaf → IsLeft m new b.x.entry.key w.part b.part b.front b.back name
         → Gains (shown_entry p) (shown new (Some name)) (shown m (Some root))
     removed_routes {new = new} {name = name} u l = subst (λ e. Gains e (shown new (Some name)) (shown m (Some root))) (sym (ap shown_entry b.part_is))
         (subst (λ z. Gains b.x.entry (shown new (Some z)) (shown m (Some root))) l.named
-        (shrunk_routes m new root b.front b.back b.x w b.part b.ups b.way (out_chain m new w n p b u l)))
+        (shrunk_routes b.front b.back b.x w b.ups b.way (out_chain m new w p b u l)))
 
   pub own_kept : {m new : Lodged V} {root : Node} {late : ℕ → Bool} (w : IsWholeBut m root late nobody_out) {n : ℕ} {p : LeafPart V}
       (b : IsMember m w.part n p) → IsUnlinked m new p.leaf → leaves_in new n ≡ leaves_in m n

@@ -45,22 +45,22 @@ module _ {V : Type 0} where
   member_in m c x first among = subst (λ o. Member (leaves_in m) c.members o x) first
       (member_of (leaves_in m) c.above c.previous c.key c.top c.members c.is c.stands x among)
 
-  said_at : (m : Lodged V) (c : Run m) (x : Placed V) {room : Id} (k : Member (leaves_in m) c.members None x) → x.room ≡ room
+  said_at : (m : Lodged V) (c : Run m) {x : Placed V} {room : Id} (k : Member (leaves_in m) c.members None x) → x.room ≡ room
       → leaves_in m room.number ≡ Some k.part
-  said_at m c x k is = ap (λ i. leaves_in m i.number) (sym is) ∙ k.said
+  said_at m c k is = ap (λ i. leaves_in m i.number) (sym is) ∙ k.said
 
-  block_at : (m : Lodged V) (c : Run m) (x : Placed V) {room : Id} (k : Member (leaves_in m) c.members None x) → x.room ≡ room → k.part.block ≡ room.block
-  block_at m c x k is = k.block ∙ ap (λ i. i.block) is
+  block_at : (m : Lodged V) (c : Run m) {x : Placed V} {room : Id} (k : Member (leaves_in m) c.members None x) → x.room ≡ room → k.part.block ≡ room.block
+  block_at m c k is = k.block ∙ ap (λ i. i.block) is
 
   pub Has-member : {m : Lodged V} (c : Run m) (x : Placed V) {room : Id} → c.previous ≡ None → IsAmong x c.members → x.room ≡ room → Has m room
-  Has-member {m = m} c x {room = room} first among is = let k = member_in m c x first among in Has-leaf m room (said_at m c x k is) (block_at m c x k is)
+  Has-member {m = m} c x {room = room} first among is = let k = member_in m c x first among in Has-leaf m room (said_at m c k is) (block_at m c k is)
 
   -- at a member
   pub come : {m : Lodged V} (c : Run m) (x : Placed V) {room : Id} (steps : ℕ) (links : Links) {l : Leaf} → c.previous ≡ None → IsAmong x c.members
       → x.room ≡ room → steps ≤ x.entry.rank + 1 → AreLinks m room links → l ≡ leaf_of links → Back c room l.previous steps
   come {m = m} c x {room = room} steps links first among is few are leaf =
       let k = member_in m c x first among in
-      let read = leaf ∙ leaf_read m room links (said_at m c x k is) (block_at m c x k is) are in
+      let read = leaf ∙ leaf_read m room links (said_at m c k is) (block_at m c k is) are in
       record { is = x; among = among; room_is = is; prior = subst (Prior c.members None x) (sym (ap (λ z. z.previous) read)) k.prior; few = few }
 
   -- at the one before

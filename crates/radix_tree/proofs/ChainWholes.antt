@@ -26,7 +26,7 @@ module _ {V : Type 0} where
             let t = now_counts r n in
             let more = members_more n front back x in
             let rise = ap one_if (rooms n) ∙ one_more (λ k. is_some (leaves_in m k)) x.room.number n (ap is_some free) in omega arith;
-        forks = λ n. same_forks m new key whole at r n;
+        forks = λ n. same_forks m new key at r n;
         heads = λ n none some. r.heads n;
         masks = λ n none some. r.masks n;
         masks_above = λ y is below marked. r.masks y.room.number;
@@ -64,7 +64,7 @@ module _ {V : Type 0} where
             let more = members_more n front back x in
             let same = ap one_if (rooms n) in
             let about = turned_about x.room.number n in omega arith;
-        forks = λ n. same_forks m new key whole at r n;
+        forks = λ n. same_forks m new key at r n;
         heads = λ n none some. r.heads n;
         masks = λ n none some. r.masks n;
         masks_above = λ y is below marked. r.masks y.room.number;
@@ -118,8 +118,8 @@ module _ {V : Type 0} where
   shrunk_whole m new key front back x w at ups way r once unmarked rooms =
       rechained w r ups way (fits_out m new key w.part at front back x r once unmarked rooms) (λ one. one_fork_less (bits_in m) front back x one)
 
-  pub shrunk_routes : (m new : Lodged V) (root : Node) {late : ℕ → Bool} {key : ℕ} (front back : List (Placed V)) (x : Placed V)
-      (w : IsWholeBut m root late nobody_out) (at : Part m) (ups : List (Part m)) → Way key w.part at ups
+  pub shrunk_routes : {m new : Lodged V} {root : Node} {late : ℕ → Bool} {key : ℕ} (front back : List (Placed V)) (x : Placed V)
+      (w : IsWholeBut m root late nobody_out) {at : Part m} (ups : List (Part m)) → Way key w.part at ups
       → (r : Rechained m new key w.part at (front ++ (x ∷ back)) (front ++ back))
       → Gains x.entry (shown new (Some (root_after at.above (LeafOf r.cons.first.room) (name_of w.part.tree)))) (shown m (Some root))
-  shrunk_routes m new root front back x w at ups way r = loses_spliced (spliced w r ups way) (routes_more front back x)
+  shrunk_routes front back x w ups way r = loses_spliced (spliced w r ups way) (routes_more front back x)

@@ -82,8 +82,8 @@ module _ {V : Type 0} where
   few_of_rank rank es table = let most = few_from 0 rank es (omega arith) table (all_above rank es) in omega (arith, most)
 
   -- ---- a route more
-  one_more : (rank : ℕ) (e : Entry V) (old new : List (Entry V)) → Gains e old new → of_rank rank new ≡ of_rank rank old + one_of (e.rank == rank)
-  one_more rank e old new g =
+  one_more : (rank : ℕ) (e : Entry V) {old new : List (Entry V)} → Gains e old new → of_rank rank new ≡ of_rank rank old + one_of (e.rank == rank)
+  one_more rank e g =
       let now = ap (of_rank rank) g.now in
       let was = ap (of_rank rank) g.was in
       omega (arith, now, was, of_rank-append rank g.front (e ∷ g.back), of_rank-append rank g.front g.back, of_rank-cons rank e g.back)
@@ -93,7 +93,7 @@ module _ {V : Type 0} where
   counted_more {e = e} old new was now counted g more r fits =
       let held_now = more r fits in
       let before = counted r fits in
-      let after = one_more r e old new g in
+      let after = one_more r e g in
       held_now ∙ ap (λ n. n + (if r == e.rank then 1 else 0)) before ∙ ap (λ n. of_rank r old + n) (sym (turned r e.rank)) ∙ sym after
 
   pub counted_less : {e : Entry V} (old new : List (Entry V)) (was now : List ℕ) → AreCounted was old → Gains e new old → HasOneMore e.rank now was
@@ -101,14 +101,13 @@ module _ {V : Type 0} where
   counted_less {e = e} old new was now counted g more r fits =
       let held_was = more r fits in
       let before = counted r fits in
-      let after = one_more r e new old g in
+      let after = one_more r e g in
       let same = turned r e.rank in
       omega (arith, held_was, before, after, same)
 
   -- what the counts say of a rank
   pub not_held : (counts : List ℕ) (es : List (Entry V)) (key rank : ℕ) {has : Bool} → AreCounted counts es → rank ≤ 33
-      → (0 < count_of rank counts → IsTrue has)
-      → has ≡ false → entry_at key rank es ≡ None
+      → (0 < count_of rank counts → IsTrue has) → has ≡ false → entry_at key rank es ≡ None
   not_held counts es key rank counted fits asks not = elim (cases_lt 0 (count_of rank counts)) [
     | inl some ↦ absurd (true≢false (sym (subst IsTrue not (asks some))))
     | inr none ↦ none_of_rank key rank es (let is = counted rank fits in omega (arith, none, is))

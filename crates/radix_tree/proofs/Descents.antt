@@ -69,6 +69,6 @@ module _ {V : Type 0} {m : Lodged V} where
   -- a pair that is found at the leaf to which its key leads, or not there, is found so in the whole tree
   pub pair_led : (rank : ℕ) {key : ℕ} {whole : Part m} {room : Id} (l : LedTo key whole room) (o : Option Id)
       → Tells (Finds (HasPair key rank) (λ y. IsAmong y (l.leaf.first ∷ l.leaf.rest))) o → Tells (Finds (HasPair key rank) (In whole)) o
-  pair_led rank {key} {whole = whole} {room} l None none = λ y is has. none y (among_leaf m l.leaf y (way_leads m whole l.part l.ups l.way y is has.0)) has
+  pair_led rank {key} {whole = whole} {room} l None none = λ y is has. none y (among_leaf l.leaf y (way_leads m whole l.part l.ups l.way y is has.0)) has
   pair_led rank {key} {whole = whole} {room} l (Some i) found =
-      (found.0, found.1, (way_inside m key whole l.part l.ups l.way found.0 (in_leaf m l.leaf found.0 found.2.0), found.2.1))
+      (found.0, found.1, (way_inside m key whole l.part l.ups l.way found.0 (in_leaf l.leaf found.0 found.2.0), found.2.1))

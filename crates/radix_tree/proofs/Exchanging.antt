@@ -27,12 +27,12 @@ module _ {V : Type 0} where
     pub made : Exchanged m new key over at under name
     pub keys : (c value : ℕ) → c < over.low → HaveBit c value over.tree → HaveBit c value made.part.tree
 
-  zero_climbed : (m new : Lodged V) {key : ℕ} (at : Part m) {under : Part new} (mid over : Part m) {name : Node} (room : Id) (f : ForkAt over room)
-      → mid.tree ≡ f.zero → bit_at f.bit key ≡ 0 → mid.low ≡ f.bit + 1 → mid.above ≡ Some room
-      → Climbed m new key mid at under name → bits_in new room.number ≡ Some (said room f.bit name (name_of f.one) over.above)
+  zero_climbed : (m new : Lodged V) {key : ℕ} {at : Part m} {under : Part new} {mid : Part m} (over : Part m) {name : Node} (room : Id)
+      (f : ForkAt over room) → mid.tree ≡ f.zero → bit_at f.bit key ≡ 0 → mid.low ≡ f.bit + 1 → mid.above ≡ Some room → Climbed m new key mid at under name
+      → bits_in new room.number ≡ Some (said room f.bit name (name_of f.one) over.above)
       → ((n : ℕ) → 1 ≤ leaves_at n f.one → leaves_in new n ≡ leaves_in m n) → ((n : ℕ) → 1 ≤ forks_at n f.one → bits_in new n ≡ bits_in m n)
       → Climbed m new key over at under (BitOf room)
-  zero_climbed m new at mid over room f tree side low above g spine leaves forks =
+  zero_climbed m new over room f tree side low above g spine leaves forks =
       let e = g.made in
       let is = fork_is f in
       let rises = is.0.rises in
@@ -74,12 +74,12 @@ module _ {V : Type 0} where
         keys = λ c value before have. let h = subst (HaveBit c value) f.is have in (keys c value (omega arith) h.0, h.1);
       }
 
-  one_climbed : (m new : Lodged V) {key : ℕ} (at : Part m) {under : Part new} (mid over : Part m) {name : Node} (room : Id) (f : ForkAt over room)
-      → mid.tree ≡ f.one → bit_at f.bit key ≡ 1 → mid.low ≡ f.bit + 1 → mid.above ≡ Some room
-      → Climbed m new key mid at under name → bits_in new room.number ≡ Some (said room f.bit (name_of f.zero) name over.above)
+  one_climbed : (m new : Lodged V) {key : ℕ} {at : Part m} {under : Part new} {mid : Part m} (over : Part m) {name : Node} (room : Id) (f : ForkAt over room)
+      → mid.tree ≡ f.one → bit_at f.bit key ≡ 1 → mid.low ≡ f.bit + 1 → mid.above ≡ Some room → Climbed m new key mid at under name
+      → bits_in new room.number ≡ Some (said room f.bit (name_of f.zero) name over.above)
       → ((n : ℕ) → 1 ≤ leaves_at n f.zero → leaves_in new n ≡ leaves_in m n) → ((n : ℕ) → 1 ≤ forks_at n f.zero → bits_in new n ≡ bits_in m n)
       → Climbed m new key over at under (BitOf room)
-  one_climbed m new at mid over room f tree side low above g spine leaves forks =
+  one_climbed m new over room f tree side low above g spine leaves forks =
       let e = g.made in
       let is = fork_is f in
       let rises = is.0.rises in
@@ -129,15 +129,15 @@ module _ {V : Type 0} where
   climbed m new key at mid over {name = name} b g once leaves forks spine =
       let f = b.at in
       let old = (fork_stands f).0 in
-      let all_forks = fork_forks m f in
-      let all_leaves = fork_leaves m f in
+      let all_forks = fork_forks f in
+      let all_leaves = fork_leaves f in
       elim b.side [
-        | inl e ↦ zero_climbed m new at mid over b.room f e.0 e.1 b.low b.above g
+        | inl e ↦ zero_climbed m new over b.room f e.0 e.1 b.low b.above g
             (spine ∙ ap (with_child key name) old ∙ zero_turned key name (said b.room f.bit (name_of f.zero) (name_of f.one) over.above) e.1)
             (λ n some. let sum = all_leaves n in let most = once.leaves n in let same = ap (leaves_at n) e.0 in leaves n (omega arith) (omega arith))
             (λ n some. let sum = all_forks n in let most = once.forks n in let same = ap (forks_at n) e.0 in
             forks n (elsewhere b.room n (forks_at n f.one) some (omega arith)) (omega arith) (omega arith))
-        | inr e ↦ one_climbed m new at mid over b.room f e.0 e.1 b.low b.above g
+        | inr e ↦ one_climbed m new over b.room f e.0 e.1 b.low b.above g
             (spine ∙ ap (with_child key name) old ∙ one_turned key name (said b.room f.bit (name_of f.zero) (name_of f.one) over.above) e.1)
             (λ n some. let sum = all_leaves n in let most = once.leaves n in let same = ap (leaves_at n) e.0 in leaves n (omega arith) (omega arith))
             (λ n some. let sum = all_forks n in let most = once.forks n in let same = ap (forks_at n) e.0 in
@@ -152,23 +152,23 @@ module _ {V : Type 0} where
   way_climbed m new key at under whole mid (p ∷ ps) way once keeps g =
       let b = way.0 in
       let once_p = way_once key whole p ps way.1 once in
-      let out = spine_out m mid p b once_p in
+      let out = spine_out m b once_p in
       let in_whole : (n : ℕ) → (leaves_at n p.tree ≤ leaves_at n whole.tree) × (forks_at n p.tree ≤ forks_at n whole.tree) =
       λ n. way_counts m key whole p ps n way.1 in
-      let near : (n : ℕ) → (leaves_at n mid.tree ≤ leaves_at n p.tree) × (forks_at n mid.tree ≤ forks_at n p.tree) = λ n. beneath_counts m key mid p n b in
+      let near : (n : ℕ) → (leaves_at n mid.tree ≤ leaves_at n p.tree) × (forks_at n mid.tree ≤ forks_at n p.tree) = λ n. beneath_counts m n b in
       let next = climbed m new key at mid p b g once_p (λ n none some. let le = (in_whole n).0 in keeps.leaves n none (omega arith))
       (λ n other none some. let le = (in_whole n).1 in keeps.forks n none (omega arith)) (let le = (in_whole b.room.number).1 in
       let some = out.1 in
-      keeps.forks b.room.number out.0 (omega arith) ∙ same_turned m key mid p (name_of mid.tree) b refl) in
+      keeps.forks b.room.number out.0 (omega arith) ∙ same_turned key p (name_of mid.tree) b refl) in
       way_climbed m new key at under whole p ps way.1 once (record {
         leaves = λ n none some. let le = (near n).0 in keeps.leaves n (omega arith) some;
         forks = λ n none some. let le = (near n).1 in keeps.forks n (omega arith) some;
       }) (subst (Climbed m new key p at under) (sym (ap name_of b.at.is)) next)
 
   -- ---- the whole
-  here : (m new : Lodged V) {key : ℕ} {whole at : Part m} (under : Part new) → IsExchange m new key whole at under
+  here : {m new : Lodged V} {key : ℕ} {whole at : Part m} (under : Part new) → IsExchange m new key whole at under
       → Climbed m new key at at under (name_of under.tree)
-  here m new under e = record {
+  here under e = record {
     made = record { frames = []; was = refl; lead = tt; lowest = refl; part = under; is_now = refl; low = e.low; above = e.above; named = refl };
     keys = e.keys;
   }
@@ -182,15 +182,15 @@ module _ {V : Type 0} where
       → Exchanged m new key whole at under (root_after at.above (name_of under.tree) (name_of whole.tree))
   exchanged m new {key = key} whole at [] {under = under} way top once e = renamed m new key whole at under
       (sym (ap (λ o. root_after o (name_of under.tree) (name_of whole.tree)) (ap (λ p. p.above) way ∙ top)))
-      (subst (λ p. Exchanged m new key p at under (name_of under.tree)) way (here m new under e).made)
+      (subst (λ p. Exchanged m new key p at under (name_of under.tree)) way (here under e).made)
   exchanged m new {key = key} whole at (p ∷ ps) {under = under} way top once e =
       let b = way.0 in
       let once_p = way_once key whole p ps way.1 once in
-      let out = spine_out m at p b once_p in
+      let out = spine_out m b once_p in
       let in_whole : (n : ℕ) → (leaves_at n p.tree ≤ leaves_at n whole.tree) × (forks_at n p.tree ≤ forks_at n whole.tree) =
       λ n. way_counts m key whole p ps n way.1 in
-      let near : (n : ℕ) → (leaves_at n at.tree ≤ leaves_at n p.tree) × (forks_at n at.tree ≤ forks_at n p.tree) = λ n. beneath_counts m key at p n b in
-      let next = climbed m new key at at p b (here m new under e) once_p (λ n none some. let le = (in_whole n).0 in e.leaves n none (omega arith))
+      let near : (n : ℕ) → (leaves_at n at.tree ≤ leaves_at n p.tree) × (forks_at n at.tree ≤ forks_at n p.tree) = λ n. beneath_counts m n b in
+      let next = climbed m new key at at p b (here under e) once_p (λ n none some. let le = (in_whole n).0 in e.leaves n none (omega arith))
       (λ n other none some. let le = (in_whole n).1 in
       e.bits n none (omega arith) ∙ turn_misses b.room key n (name_of under.tree) (bits_in m n) b.above other) (let le = (in_whole b.room.number).1 in
       let some = out.1 in

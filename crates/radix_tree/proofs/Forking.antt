@@ -15,9 +15,9 @@ module _ {V : Type 0} where
   one_value c v w (fork room b zero one) have too = one_value c v w zero have.0 too.0
 
   -- ---- the new bit node
-  pub zero_fork_is : (low bit : ℕ) (x : Placed V) (room : Id) {t : Tree V} → IsRoute x.entry → IsPlace x.entry.key low bit t → bit_at bit x.entry.key ≡ 0
+  pub zero_fork_is : {low bit : ℕ} (x : Placed V) (room : Id) {t : Tree V} → IsRoute x.entry → IsPlace x.entry.key low bit t → bit_at bit x.entry.key ≡ 0
       → IsTree low (fork room bit (leaf x []) t)
-  zero_fork_is low bit x room route p clear =
+  zero_fork_is x room route p clear =
       let rank = route.rank in
       let within = p.within in (
         record {
@@ -31,9 +31,9 @@ module _ {V : Type 0} where
         p.is,
       )
 
-  pub one_fork_is : (low bit : ℕ) (x : Placed V) (room : Id) {t : Tree V} → IsRoute x.entry → IsPlace x.entry.key low bit t → bit_at bit x.entry.key ≡ 1
+  pub one_fork_is : {low bit : ℕ} (x : Placed V) (room : Id) {t : Tree V} → IsRoute x.entry → IsPlace x.entry.key low bit t → bit_at bit x.entry.key ≡ 1
       → IsTree low (fork room bit t (leaf x []))
-  one_fork_is low bit x room route p set =
+  one_fork_is x room route p set =
       let rank = route.rank in
       let within = p.within in (
         record { rises = p.rises; within = p.within; agree = λ c before. (bit_at c x.entry.key, p.agree c before, refl); zeros = p.far_zero set; ones = set },

@@ -13,8 +13,8 @@ module _ {V : Type 0} where
     pub was : whole.tree ≡ plug frames at.tree
     pub lowest : at.low ≡ low_past whole.low frames
 
-  beneath_framed : (m : Lodged V) (key : ℕ) (at under over : Part m) → Beneath key under over → Framed under at → Framed over at
-  beneath_framed m key at under over b f =
+  beneath_framed : {m : Lodged V} {key : ℕ} {at under over : Part m} → Beneath key under over → Framed under at → Framed over at
+  beneath_framed b f =
       let n = b.at in
       let low = f.lowest ∙ ap (λ k. low_past k f.frames) b.low in
       elim b.side [
@@ -32,7 +32,7 @@ module _ {V : Type 0} where
 
   up_framed : (m : Lodged V) (key : ℕ) (whole mid at : Part m) (ups : List (Part m)) → Way key whole mid ups → Framed mid at → Framed whole at
   up_framed m key whole mid at [] way f = subst (λ p. Framed p at) way f
-  up_framed m key whole mid at (p ∷ ps) way f = up_framed m key whole p at ps way.1 (beneath_framed m key at mid p way.0 f)
+  up_framed m key whole mid at (p ∷ ps) way f = up_framed m key whole p at ps way.1 (beneath_framed way.0 f)
 
   pub way_framed : (m : Lodged V) (key : ℕ) (whole at : Part m) (ups : List (Part m)) → Way key whole at ups → Framed whole at
   way_framed m key whole at ups way = up_framed m key whole at at ups way (record { frames = []; was = refl; lowest = refl })

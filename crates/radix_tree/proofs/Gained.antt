@@ -74,19 +74,20 @@ module _ {V : Type 0} where
   gains_same e es m new root g leaves bits = subst (Gains e es) (sym (shown_same m new root leaves bits)) g
 
   -- ---- whose masks are not listed yet
-  not_late : (m : Lodged V) {root : Node} {late : ℕ → Bool} → IsWholeBut m root late nobody_out → ((n : ℕ) → late n ≡ true → ⊥) → IsWhole m root
-  not_late m w never = later_than nobody_late (λ n is. absurd (never n is)) w
+  not_late : {m : Lodged V} {root : Node} {late : ℕ → Bool} → IsWholeBut m root late nobody_out → ((n : ℕ) → late n ≡ true → ⊥) → IsWhole m root
+  not_late w never = later_than nobody_late (λ n is. absurd (never n is)) w
 
   -- the route of one room was late, and is listed now
-  pub among_left : {m : Lodged V} (root : Node) (room id : ℕ) → id ≡ room → IsWholeBut m root (λ n. late_at room n && not (n == id)) nobody_out → IsWhole m root
-  among_left {m = m} root room id same w = not_late m w (λ n e.
+  pub among_left : {m : Lodged V} {root : Node} (room id : ℕ) → id ≡ room → IsWholeBut m root (λ n. late_at room n && not (n == id)) nobody_out
+      → IsWhole m root
+  among_left {m = m} room id same w = not_late w (λ n e.
       let both = and_not (n == room) (n == id) e in true≢false (sym (eq-eqb n id (eqb-true n room both.0 ∙ sym same)) ∙ both.1))
 
   -- and with it the routes of a key
   pub new_left : (m old : Lodged V) {root : Node} (room : ℕ) {id : ℕ} (key k : ℕ) (was : ℕ → Bool) → id ≡ room → k ≡ key
       → ((n : ℕ) → was n ≡ true → has_key old key n ≡ true)
       → IsWholeBut m root (λ n. (((n == room) || was n) && not (n == id)) && not (has_key old k n)) nobody_out → IsWhole m root
-  new_left m old {root = root} room {id = id} key k was same key_is stays w = not_late m w (λ n e.
+  new_left m old {root = root} room {id = id} key k was same key_is stays w = not_late w (λ n e.
       let both = and_not (((n == room) || was n) && not (n == id)) (has_key old k n) e in
       let first = and_not ((n == room) || was n) (n == id) both.0 in
       let other = ap (λ r. n == r) (sym same) ∙ first.1 in
@@ -115,8 +116,8 @@ module _ {V : Type 0} where
   KeepsButAbove old new = (n : ℕ) (p : LeafPart V) → leaves_in old n ≡ Some p
       → (a : Option Id) × (leaves_in new n ≡ Some (record p { leaf = record p.leaf { above = a } }))
 
-  pub still_begun : (m new : Lodged V) {key : ℕ} {first : Id} → IsBegun m key first → KeepsButAbove m new → IsBegun new key first
-  still_begun m new {first = first} b keeps =
+  pub still_begun : {m : Lodged V} (new : Lodged V) {key : ℕ} {first : Id} → IsBegun m key first → KeepsButAbove m new → IsBegun new key first
+  still_begun new {first = first} b keeps =
       let k = keeps first.number b.part b.at in
       record { part = record b.part { leaf = record b.part.leaf { above = k.0 } }; at = k.1; block = b.block; key_is = b.key_is; previous = b.previous }
 

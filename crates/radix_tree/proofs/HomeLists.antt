@@ -190,9 +190,10 @@ module _ {V : Type 0} where
         × HasHome x.entry.key x.entry.rank whole.tree
     pub all : (x : Placed V) → IsIn x whole.tree → HasHome x.entry.key x.entry.rank whole.tree → IsMarked (masks_in new) x ⊎ (late x.room.number ≡ true)
 
-  pub whole_kept : (m new : Lodged V) {root : Node} (late later : ℕ → Bool) (w : IsWholeBut m root late nobody_out) → KeepsLeaves m new → KeepsBits m new
-      → MarkedLists (heads_in new) (masks_in new) w.part.low w.part.tree → AreMarked m new later w.part → IsWholeBut new root later nobody_out
-  whole_kept m new late later w leaves bits lists marked = record {
+  pub whole_kept : (m new : Lodged V) {root : Node} {late : ℕ → Bool} (later : ℕ → Bool) (w : IsWholeBut m root late nobody_out) → KeepsLeaves m new
+      → KeepsBits m new → MarkedLists (heads_in new) (masks_in new) w.part.low w.part.tree → AreMarked m new later w.part
+      → IsWholeBut new root later nobody_out
+  whole_kept m new later w leaves bits lists marked = record {
     part = kept_part m new leaves bits w.part;
     low = w.low;
     top = w.top;
@@ -206,9 +207,9 @@ module _ {V : Type 0} where
   }
 
   -- ---- the route in a room of the table
-  block_said : (m : Lodged V) (y : Placed V) {n : ℕ} (s : Seen V) → IsSaid (leaves_in m) y → y.room.number ≡ n → leaves_in m n ≡ leaf_in (Some s)
+  block_said : (m : Lodged V) {y : Placed V} {n : ℕ} (s : Seen V) → IsSaid (leaves_in m) y → y.room.number ≡ n → leaves_in m n ≡ leaf_in (Some s)
       → y.room.block ≡ s.block
-  block_said m y s is same said =
+  block_said m s is same said =
       let parts = inside (sym is.3 ∙ ap (leaves_in m) same ∙ said) in ap (λ p. p.block) parts
 
   pub placed_in : {m : Lodged V} {root : Node} {late : ℕ → Bool} (w : IsWholeBut m root late nobody_out) {room : Id} → Has m room
@@ -219,6 +220,6 @@ module _ {V : Type 0} where
       let y = tree_room room.number w.part.tree (omega arith) in (
         y.0,
         y.1,
-        same_id y.0.room room y.2 (block_said m y.0 h.room (tree_said (leaves_in m) (bits_in m) w.part.above w.part.tree w.part.stands y.0 y.1) y.2
+        same_id y.0.room room y.2 (block_said m h.room (tree_said (leaves_in m) (bits_in m) w.part.above w.part.tree w.part.stands y.0 y.1) y.2
             said ∙ h.block),
       )

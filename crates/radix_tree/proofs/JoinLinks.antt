@@ -82,7 +82,7 @@ module _ {V : Type 0} where
   out_of_above m key whole at [] over way top once is n some same = none_some (sym top ∙ sym (ap (λ p. p.above) way) ∙ is)
   out_of_above m key whole at (p ∷ ps) over way top once is n some same =
       let b = way.0 in
-      let out = (spine_out m at p b (way_once key whole p ps way.1 once)).0 in
+      let out = (spine_out m b (way_once key whole p ps way.1 once)).0 in
       let room = inside (sym b.above ∙ is) in
       let here = ap (λ k. forks_at k at.tree) (same ∙ ap (λ i. i.number) (sym room)) in
       omega arith

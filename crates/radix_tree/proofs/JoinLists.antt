@@ -69,10 +69,10 @@ module _ {V : Type 0} where
     pub within : c ≤ 31
     pub falls : Falls over.low (c + 1) (own.masks ++ gone.masks)
 
-  two : (m : Lodged V) (over : Part m) {key : ℕ} (up room : Id) (b c : ℕ) {own : Tree V} (zero one : Tree V)
-      → HasSides key over.tree up b own (fork room c zero one)
-      → MarkedLists (heads_in m) (masks_in m) over.low over.tree → AreTwo m over up room b c (fork room c zero one)
-  two m over up room b c {own = own} zero one s lists =
+  two : (m : Lodged V) (over : Part m) {key : ℕ} {up : Id} (room : Id) (b c : ℕ) {own : Tree V} (zero one : Tree V)
+      → HasSides key over.tree up b own (fork room c zero one) → MarkedLists (heads_in m) (masks_in m) over.low over.tree
+      → AreTwo m over up room b c (fork room c zero one)
+  two m over room b c {own = own} zero one s lists =
       let t = fork room c zero one in
       let is = side_is s over.low over.is in
       let low = is.1 in
@@ -116,12 +116,12 @@ module _ {V : Type 0} where
   abbrev pub Ready : (m : Lodged V) (room : Id) (first : Option Id) → Type 0
   Ready m room first = (ms : List (Placed V)) × (ts : List (Placed V)) × IsMasks m (heads_in m room.number) ms × IsMasks m first ts × Falls 0 34 (ms ++ ts)
 
-  pub append_ready : {m : Lodged V} {whole : Part m} (at up room : Id) {first : Option Id} (l : IsLone m whole at up) → name_of l.other ≡ BitOf room
+  pub append_ready : {m : Lodged V} {whole : Part m} {at : Id} (up room : Id) {first : Option Id} (l : IsLone m whole at up) → name_of l.other ≡ BitOf room
       → heads_in m up.number ≡ first → MarkedLists (heads_in m) (masks_in m) l.over.low l.over.tree → Ready m room first
-  append_ready {m = m} at up room l named head lists =
+  append_ready {m = m} up room l named head lists =
       let f = fork_of l.other named in
       let s = subst (HasSides l.route.entry.key l.over.tree up l.bit (leaf l.route [])) f.is l.sides in
-      let w = two m l.over up room l.bit f.bit f.zero f.one s lists in
+      let w = two m l.over room l.bit f.bit f.zero f.one s lists in
       let within = w.within in (
         w.own.masks,
         w.gone.masks,
@@ -131,8 +131,8 @@ module _ {V : Type 0} where
       )
 
   -- the sibling as a bit node in use
-  pub sibling_node : {m : Lodged V} {whole : Part m} (at up room : Id) (l : IsLone m whole at up) → name_of l.other ≡ BitOf room → IsBitNode m room
-  sibling_node {m = m} at up room l named =
+  pub sibling_node : {m : Lodged V} {whole : Part m} {at : Id} (up room : Id) (l : IsLone m whole at up) → name_of l.other ≡ BitOf room → IsBitNode m room
+  sibling_node {m = m} up room l named =
       let f = fork_of l.other named in
       let s = subst (HasSides l.route.entry.key l.over.tree up l.bit (leaf l.route [])) f.is l.sides in
       let stands = side_stands s (leaves_in m) (bits_in m) l.over.above l.over.stands in
@@ -147,10 +147,10 @@ module _ {V : Type 0} where
     pub marks : (n : ℕ) → is_some (masks_in new n) ≡ is_some (masks_in m n)
 
   -- a mask of another rank than the members' stays
-  rank_stays : (m new : Lodged V) (over : Part m) {up room : Id} (b c : ℕ) {first : Option Id} {t : Tree V} → (w : AreTwo m over up room b c t)
-      → IsAppended m new room first → ((y : Placed V) → IsIn y t → IsIn y over.tree)
-      → (y : Placed V) → IsIn y over.tree → c + 1 ≤ y.entry.rank → masks_in new y.room.number ≡ masks_in m y.room.number
-  rank_stays m new over b c w a inside_over y at past = a.masks w.own.masks w.own_is y.room.number (λ z among same.
+  rank_stays : (m : Lodged V) {new : Lodged V} (over : Part m) {up room : Id} (b c : ℕ) {first : Option Id} {t : Tree V} (w : AreTwo m over up room b c t)
+      → IsAppended m new room first → ((y : Placed V) → IsIn y t → IsIn y over.tree) → (y : Placed V) → IsIn y over.tree → c + 1 ≤ y.entry.rank
+      → masks_in new y.room.number ≡ masks_in m y.room.number
+  rank_stays m over b c w a inside_over y at past = a.masks w.own.masks w.own_is y.room.number (λ z among same.
       let rank = same_rank_at m over z y (inside_over z (w.own.within z among).0) at same in
       let most = (falls_among (b + 1) (c + 1) w.own.masks w.own.falls z among).1 in absurd (omega arith))
 
@@ -159,7 +159,7 @@ module _ {V : Type 0} where
       → MarkedLists (heads_in m) (masks_in m) over.low over.tree → AreOnce over.tree
       → IsAppended m new room first → IsHanded m new over.low over.tree (fork room c zero one)
   fork_handed m new over up room b c x zero one s head unmarked lists once a =
-      let w = two m over up room b c zero one s lists in
+      let w = two m over room b c zero one s lists in
       let is = side_is s over.low over.is in
       let old = side_lists s (heads_in m) (masks_in m) over.low lists in
       let low = w.low in
@@ -209,17 +209,17 @@ module _ {V : Type 0} where
           },
           lists_past (heads_in m) (heads_in new) (masks_in m) (masks_in new) (c + 1) zero (λ n some. let most =
               most_forks n in a.heads n (λ same. let here = ap (λ k. one_if (room.number == k)) same ∙ one_if_same room.number in absurd (omega arith)))
-              (λ y at past. rank_stays m new over b c w a beneath y (beneath y (inl at)) past) (λ y at. a.marks y.room.number) is.0.1 old.1,
+              (λ y at past. rank_stays m over b c w a beneath y (beneath y (inl at)) past) (λ y at. a.marks y.room.number) is.0.1 old.1,
           lists_past (heads_in m) (heads_in new) (masks_in m) (masks_in new) (c + 1) one (λ n some. let most =
               most_forks n in a.heads n (λ same. let here = ap (λ k. one_if (room.number == k)) same ∙ one_if_same room.number in absurd (omega arith)))
-              (λ y at past. rank_stays m new over b c w a beneath y (beneath y (inr at)) past) (λ y at. a.marks y.room.number) is.0.2 old.2,
+              (λ y at past. rank_stays m over b c w a beneath y (beneath y (inr at)) past) (λ y at. a.marks y.room.number) is.0.2 old.2,
         );
       }
 
-  pub bit_handed : (m new : Lodged V) (whole : Part m) (at up room : Id) {first : Option Id} (l : IsLone m whole at up) → name_of l.other ≡ BitOf room
-      → heads_in m up.number ≡ first → masks_in m at.number ≡ None
-      → MarkedLists (heads_in m) (masks_in m) l.over.low l.over.tree → IsAppended m new room first → IsHanded m new l.over.low l.over.tree l.other
-  bit_handed m new whole at up room l named head unmarked lists a =
+  pub bit_handed : (m new : Lodged V) (whole : Part m) {at : Id} (up room : Id) {first : Option Id} (l : IsLone m whole at up) → name_of l.other ≡ BitOf room
+      → heads_in m up.number ≡ first → masks_in m at.number ≡ None → MarkedLists (heads_in m) (masks_in m) l.over.low l.over.tree
+      → IsAppended m new room first → IsHanded m new l.over.low l.over.tree l.other
+  bit_handed m new whole up room l named head unmarked lists a =
       let f = fork_of l.other named in
       let s = subst (HasSides l.route.entry.key l.over.tree up l.bit (leaf l.route [])) f.is l.sides in
       let once = way_once l.route.entry.key whole l.over l.ups l.way l.once in
@@ -227,9 +227,9 @@ module _ {V : Type 0} where
       (fork_handed m new l.over up room l.bit f.bit l.route f.zero f.one s head (ap (λ i. masks_in m i.number) l.room_is ∙ unmarked) lists once a)
 
   -- ---- to a leaf
-  pub clear_ready : {m : Lodged V} {whole : Part m} (at up : Id) {first : Option Id} (l : IsLone m whole at up) → heads_in m up.number ≡ first
+  pub clear_ready : {m : Lodged V} {whole : Part m} {at up : Id} {first : Option Id} (l : IsLone m whole at up) → heads_in m up.number ≡ first
       → MarkedLists (heads_in m) (masks_in m) l.over.low l.over.tree → (ms : List (Placed V)) × IsMasks m first ms
-  clear_ready {m = m} at up l head lists =
+  clear_ready {m = m} l head lists =
       let is = side_is l.sides l.over.low l.over.is in
       let mine = side_list l.sides (heads_in m) (masks_in m) l.over.low lists in (
         mine.masks,
@@ -242,10 +242,10 @@ module _ {V : Type 0} where
     pub masks : (ms : List (Placed V)) → IsMasks m first ms → (n : ℕ) → IsAside n ms → masks_in new n ≡ masks_in m n
     pub heads : (n : ℕ) → heads_in new n ≡ heads_in m n
 
-  leaf_handed : (m new : Lodged V) (over : Part m) {key : ℕ} (up : Id) (b : ℕ) (x y0 : Placed V) (ys : List (Placed V)) (first : Option Id)
+  leaf_handed : (m new : Lodged V) (over : Part m) {key : ℕ} {up : Id} (b : ℕ) {x y0 : Placed V} {ys : List (Placed V)} {first : Option Id}
       → HasSides key over.tree up b (leaf x []) (leaf y0 ys) → heads_in m up.number ≡ first → MarkedLists (heads_in m) (masks_in m) over.low over.tree
       → IsCleared m new first → IsHanded m new over.low over.tree (leaf y0 ys)
-  leaf_handed m new over up b x y0 ys first s head lists a =
+  leaf_handed m new over b s head lists a =
       let is = side_is s over.low over.is in
       let within = is.2 in
       let mine = side_list s (heads_in m) (masks_in m) over.low lists in
@@ -273,10 +273,10 @@ module _ {V : Type 0} where
         lists = tt;
       }
 
-  pub leaf_side_handed : (m new : Lodged V) {whole : Part m} (at up : Id) {room : Id} (first : Option Id) (l : IsLone m whole at up)
-      → name_of l.other ≡ LeafOf room → heads_in m up.number ≡ first
-      → MarkedLists (heads_in m) (masks_in m) l.over.low l.over.tree → IsCleared m new first → IsHanded m new l.over.low l.over.tree l.other
-  leaf_side_handed m new at up first l named head lists a =
+  pub leaf_side_handed : (m new : Lodged V) {whole : Part m} {at : Id} (up : Id) {room : Id} (first : Option Id) (l : IsLone m whole at up)
+      → name_of l.other ≡ LeafOf room → heads_in m up.number ≡ first → MarkedLists (heads_in m) (masks_in m) l.over.low l.over.tree → IsCleared m new first
+      → IsHanded m new l.over.low l.over.tree l.other
+  leaf_side_handed m new up first l named head lists a =
       let f = leaf_of l.other named in
       let s = subst (HasSides l.route.entry.key l.over.tree up l.bit (leaf l.route [])) f.is l.sides in
-      subst (IsHanded m new l.over.low l.over.tree) (sym f.is) (leaf_handed m new l.over up l.bit l.route f.first f.rest first s head lists a)
+      subst (IsHanded m new l.over.low l.over.tree) (sym f.is) (leaf_handed m new l.over l.bit s head lists a)

@@ -57,7 +57,7 @@ module _ {V : Type 0} where
   lone_over m whole at up y under [] room_is tree above way top once = absurd (none_some (sym top ∙ sym (ap (λ p. p.above) way) ∙ above))
   lone_over m whole at up y under (q ∷ qs) room_is tree above way top once =
       let b = way.0 in
-      let found = sides_of m y.entry.key under q b in
+      let found = sides_of b in
       let same = inside (sym b.above ∙ above) in
       record {
         route = y;
@@ -90,6 +90,6 @@ module _ {V : Type 0} where
       (sym is_alone.above_is ∙ above) found.way w.top (once_but w)
 
   -- what the room says
-  pub lone_said : (m : Lodged V) {whole : Part m} (at up : Id) (l : IsLone m whole at up) → leaves_in m at.number ≡ Some
-      (leaf_part l.route (Some up) None None)
-  lone_said m at up l = ap (λ i. leaves_in m i.number) (sym l.room_is) ∙ (side_own_stands l.sides (leaves_in m) (bits_in m) l.over.above l.over.stands).0
+  pub lone_said : (m : Lodged V) {whole : Part m} {at up : Id} (l : IsLone m whole at up)
+      → leaves_in m at.number ≡ Some (leaf_part l.route (Some up) None None)
+  lone_said m l = ap (λ i. leaves_in m i.number) (sym l.room_is) ∙ (side_own_stands l.sides (leaves_in m) (bits_in m) l.over.above l.over.stands).0

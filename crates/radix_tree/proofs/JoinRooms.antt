@@ -32,13 +32,13 @@ module _ {V : Type 0} where
     pub key_read : {whole : Part m} {up : Id} (links : Links) {l : Leaf} (f : IsLone m whole at up) → AreLinks m at links → l ≡ leaf_of links
         → f.route.entry.key ≡ l.key
     key_read {up = up} links f are is =
-        let same = inside (sym (lone_said m at up f) ∙ ap leaf_in h.at) in
+        let same = inside (sym (lone_said m f) ∙ ap leaf_in h.at) in
         ap (λ p. p.leaf.key) same ∙ ap (λ z. z.key) (read_is links are is)
 
   -- ---- the bit node above
   module _ {m : Lodged V} {whole : Part m} {at up : Id} (l : IsLone m whole at up) where
     pub Has-up : Has m up
-    Has-up = Has-fork (side_fork m l.over up l.bit (leaf l.route []) l.other l.sides)
+    Has-up = Has-fork (side_fork m l.over l.bit (leaf l.route []) l.other l.sides)
 
     up_says : SaysOther (bits_in m) up l.route.entry.key l.bit l.over.above (name_of l.other)
     up_says = side_says l.sides (leaves_in m) (bits_in m) l.over.above l.over.stands
@@ -163,18 +163,18 @@ module _ {V : Type 0} where
   was_said (Some q) p same = (q, refl, sym (ap (λ c. c.entry.key) (inside same)))
 
   -- a room with its route is there
-  there_by : (m new : Lodged V) (room : Id) (h : Has m room) (o : Option (LeafPart V)) → leaves_in new room.number ≡ o
+  there_by : {m : Lodged V} (new : Lodged V) (room : Id) (h : Has m room) (o : Option (LeafPart V)) → leaves_in new room.number ≡ o
       → content_of o ≡ content_of (Some (own_part h)) → Has new room
-  there_by m new room h None said same = absurd (none_some same)
-  there_by m new room h (Some p) said same = Has-leaf new room said (ap (λ c. c.block) (inside same) ∙ h.block)
+  there_by new room h None said same = absurd (none_some same)
+  there_by new room h (Some p) said same = Has-leaf new room said (ap (λ c. c.block) (inside same) ∙ h.block)
 
   pub Has-routes : (m new : Lodged V) (room : Id) → Has m room → KeepsRoutes m new → Has new room
-  Has-routes m new room h keeps = there_by m new room h (leaves_in new room.number) refl (keeps room.number ∙ ap (λ o. content_of (leaf_in o)) h.at)
+  Has-routes m new room h keeps = there_by new room h (leaves_in new room.number) refl (keeps room.number ∙ ap (λ o. content_of (leaf_in o)) h.at)
 
-  pub idle_joined : (m new : Lodged V) {root : Node} {late : ℕ → Bool} (w : IsWholeBut m root late nobody_out) (at up : Id) (l : IsLone m w.part at up)
-      → KeepsRoutes m new → ((n : ℕ) → bits_in m n ≡ None → bits_in new n ≡ None) → bits_in new up.number ≡ None
+  pub idle_joined : (m new : Lodged V) {root : Node} {late : ℕ → Bool} (w : IsWholeBut m root late nobody_out) {at : Id} (up : Id)
+      (l : IsLone m w.part at up) → KeepsRoutes m new → ((n : ℕ) → bits_in m n ≡ None → bits_in new n ≡ None) → bits_in new up.number ≡ None
       → (p : LeafPart V) → leaves_in new up.number ≡ Some p → (n : ℕ) → has_key new p.leaf.key n ≡ true → bits_in new n ≡ None
-  idle_joined m new w at up l keeps idle free p said n same_key = elim (cases_eq n up.number) [
+  idle_joined m new w up l keeps idle free p said n same_key = elim (cases_eq n up.number) [
     | inl same ↦ ap (bits_in new) same ∙ free
     | inr apart ↦ let q = of_key p.leaf.key (leaves_in new n) same_key in
         let before = was_said (leaves_in m up.number) p (ap content_of (sym said) ∙ keeps up.number) in

@@ -79,8 +79,7 @@ module _ {V : Type 0} where
     side_lists H K low = by_sides s (λ u. MarkedLists H K low u → MarkedLists H K (b + 1) other) (λ clear lists. lists.2) (λ set lists. lists.1)
 
     pub side_home : (address rank : ℕ) → HasHome address rank t → (rank ≤ b) ⊎ (HasHome address rank own ⊎ HasHome address rank other)
-    side_home address rank =
-        by_sides s (λ u. HasHome address rank u → (rank ≤ b) ⊎ (HasHome address rank own ⊎ HasHome address rank other))
+    side_home address rank = by_sides s (λ u. HasHome address rank u → (rank ≤ b) ⊎ (HasHome address rank own ⊎ HasHome address rank other))
         (λ clear home. elim home [ inl le ↦ inl le | inr deep ↦ inr (elim deep [ inl h ↦ inl h.1 | inr h ↦ inr h.1 ]) ])
         (λ set home. elim home [ inl le ↦ inl le | inr deep ↦ inr (elim deep [ inl h ↦ inr h.1 | inr h ↦ inl h.1 ]) ])
 
@@ -98,14 +97,14 @@ module _ {V : Type 0} where
       (λ clear. record { front = []; back = routes_of other; was = refl; now = refl })
       (λ set. record { front = routes_of other; back = []; was = sym (append-nil (routes_of other)); now = refl })
 
-  pub side_fork : (m : Lodged V) {key : ℕ} (p : Part m) (room : Id) (b : ℕ) (own other : Tree V) → HasSides key p.tree room b own other → ForkAt p room
-  side_fork m {key = key} p room b own other s =
+  pub side_fork : (m : Lodged V) {key : ℕ} (p : Part m) {room : Id} (b : ℕ) (own other : Tree V) → HasSides key p.tree room b own other → ForkAt p room
+  side_fork m {key = key} p b own other s =
       elim s.is [ inl e ↦ record { bit = b; zero = own; one = other; is = e.0 } | inr e ↦ record { bit = b; zero = other; one = own; is = e.0 } ]
 
   -- a part beneath a bit node is on a side of it
-  pub sides_of : (m : Lodged V) (key : ℕ) (under over : Part m) (b : Beneath key under over)
+  pub sides_of : {m : Lodged V} {key : ℕ} {under over : Part m} (b : Beneath key under over)
       → (other : Tree V) × HasSides key over.tree b.room b.at.bit under.tree other
-  sides_of m key under over b =
+  sides_of b =
       let f = b.at in
       elim b.side [
         | inl e ↦ (f.one, record { is = inl (f.is ∙ ap (λ t. fork b.room f.bit t f.one) (sym e.0), e.1) })

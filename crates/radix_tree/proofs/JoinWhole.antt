@@ -212,14 +212,14 @@ module _ {V : Type 0} where
         → Gains (shown_entry p) (shown new (Some (root_after l.over.above (name_of l.other) root))) (shown m (Some root))
     routes_joined p said =
         let e = exchanged_whole l new j w.named in
-        let is = inside (sym said ∙ lone_said m at up l) in
+        let is = inside (sym said ∙ lone_said m l) in
         subst (λ q. Gains (shown_entry q) (shown new (Some (root_after l.over.above (name_of l.other) root))) (shown m (Some root))) (sym is)
         (loses_spliced (routes_changed w e) (side_gains l.route l.other l.sides))
 
   -- the leaf of the route that goes stays as it is
-  pub own_leaf : {m new : Lodged V} {whole : Part m} (at up : Id) (l : IsLone m whole at up) → IsJoined m new whole at up l
+  pub own_leaf : {m new : Lodged V} {whole : Part m} (at : Id) {up : Id} (l : IsLone m whole at up) → IsJoined m new whole at up l
       → leaves_in new at.number ≡ leaves_in m at.number
-  own_leaf {m = m} at up l j = j.leaves at.number ∙ misses_leaf (name_of l.other) at.number (λ r is same.
+  own_leaf {m = m} at l j = j.leaves at.number ∙ misses_leaf (name_of l.other) at.number (λ r is same.
       let there = named_leaf l.other r is in
       let here = ap (λ k. leaves_at k l.other) same in
       let none = (own_room l).0 in absurd (omega arith)) l.over.above (leaves_in m at.number)

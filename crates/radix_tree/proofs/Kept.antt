@@ -97,13 +97,13 @@ module _ {V : Type 0} where
   module _ {m : Lodged V} {address : ℕ} {whole : Part m} {room : Id} (l : LedTo address whole room) where
     pub Has-led : Has m room
     Has-led =
-        let s = said_of m l.part l.leaf.first (in_leaf m l.leaf l.leaf.first (inl refl)) l.leaf.room_is in Has-leaf m room s.at s.block
+        let s = said_of m l.part l.leaf.first (in_leaf l.leaf l.leaf.first (inl refl)) l.leaf.room_is in Has-leaf m room s.at s.block
 
     pub led_first : IsSaid m room l.leaf.first
-    led_first = said_of m l.part l.leaf.first (in_leaf m l.leaf l.leaf.first (inl refl)) l.leaf.room_is
+    led_first = said_of m l.part l.leaf.first (in_leaf l.leaf l.leaf.first (inl refl)) l.leaf.room_is
 
   led_inside : (m : Lodged V) (key : ℕ) (whole : Part m) {room : Id} (l : LedTo key whole room) → IsIn l.leaf.first whole.tree
-  led_inside m key whole l = way_inside m key whole l.part l.ups l.way l.leaf.first (in_leaf m l.leaf l.leaf.first (inl refl))
+  led_inside m key whole l = way_inside m key whole l.part l.ups l.way l.leaf.first (in_leaf l.leaf l.leaf.first (inl refl))
 
   pub leaf_is : (m : Lodged V) (room : Id) {x : Placed V} (s : IsSaid m room x) (links : Links) {l : Leaf} → AreLinks m room links → l ≡ leaf_of links
       → (l.key ≡ x.entry.key) × (l.rank ≡ x.entry.rank)
@@ -120,7 +120,7 @@ module _ {V : Type 0} where
   -- each route of the key is of the chain to which it leads
   of_chain : (m : Lodged V) {key : ℕ} (whole : Part m) {room : Id} (l : LedTo key whole room) (y : Placed V) → IsIn y whole.tree → y.entry.key ≡ key
       → IsAmong y (l.leaf.first ∷ l.leaf.rest)
-  of_chain m whole l y at is = among_leaf m l.leaf y (way_leads m whole l.part l.ups l.way y at is)
+  of_chain m whole l y at is = among_leaf l.leaf y (way_leads m whole l.part l.ups l.way y at is)
 
   same_of_pair : (es : List (Entry V)) (e f : Entry V) → entry_at e.key e.rank es ≡ Some e → entry_at f.key f.rank es ≡ Some f → e.key ≡ f.key
       → e.rank ≡ f.rank → e ≡ f

@@ -79,8 +79,9 @@ module _ {V : Type 0} where
         let marked = subst (IsMarked (masks_in m)) e is.1 in
         true≢false (sym marked ∙ ap (λ i. is_some (masks_in m i.number)) y.room_is ∙ ap is_some unmarked)
 
-  marks_more : (m new : Lodged V) (node room : Id) → IsSortedIn m new node room → (x : Placed V) → IsMarked (masks_in m) x → IsMarked (masks_in new) x
-  marks_more m new node room s x marked = elim (cases_eq x.room.number room.number) [
+  marks_more : {m : Lodged V} (new : Lodged V) {node : Id} (room : Id) → IsSortedIn m new node room → (x : Placed V) → IsMarked (masks_in m) x
+      → IsMarked (masks_in new) x
+  marks_more new room s x marked = elim (cases_eq x.room.number room.number) [
     | inl same ↦ ap (λ n. is_some (masks_in new n)) same ∙ s.marked
     | inr other ↦ s.marks x.room.number other ∙ marked
   ]
@@ -107,7 +108,7 @@ module _ {V : Type 0} where
         ];
         within = λ x among. elim (sorted_among h.part.low (h.at.bit + 1) y.is l.masks l.falls x among) [
           | inl e ↦ subst (MarkedIn (masks_in new) (tree_of h)) e (in_home y, ap (λ i. is_some (masks_in new i.number)) y.room_is ∙ s.marked)
-          | inr old ↦ let is = l.within x old in (is.0, marks_more m new node room s x is.1)
+          | inr old ↦ let is = l.within x old in (is.0, marks_more new room s x is.1)
         ];
       }
 
@@ -117,7 +118,7 @@ module _ {V : Type 0} where
   listed_more m new late w room node once y unmarked s leaves bits =
       let l = home_list y.home w.lists in
       let number = ap (λ i. i.number) y.room_is in
-      whole_kept m new late (λ n. late n && not (n == room.number)) w leaves bits
+      whole_kept m new (λ n. late n && not (n == room.number)) w leaves bits
       (relisted y.home new once (record {
         heads = s.heads;
         masks = λ x in_x out. s.masks l.masks (are_masks y l) x.room.number (not_room y x in_x out) (aside_of y l x in_x out);
@@ -147,19 +148,21 @@ module _ {V : Type 0} where
     pub marks : (n : ℕ) → (n ≡ room.number → ⊥) → is_some (masks_in new n) ≡ is_some (masks_in m n)
 
   -- a marked route is listed at its home
-  at_home : (m : Lodged V) {whole : Part m} {room node : Id} (y : Homed m whole room node) (l : list_at y) → IsMarked (masks_in m) y.is → IsAmong y.is l.masks
-  at_home m y l marked = l.has y.is (in_home y, marked) y.home.past y.home.within
+  at_home : {m : Lodged V} {whole : Part m} {room node : Id} (y : Homed m whole room node) (l : list_at y) → IsMarked (masks_in m) y.is
+      → IsAmong y.is l.masks
+  at_home y l marked = l.has y.is (in_home y, marked) y.home.past y.home.within
 
-  not_marked : (m new : Lodged V) {node room : Id} → IsTakenOut m new node room → (x : Placed V) → IsMarked (masks_in new) x → x.room.number ≡ room.number → ⊥
-  not_marked m new s x marked same = true≢false (sym marked ∙ ap (λ n. is_some (masks_in new n)) same ∙ ap is_some s.unmarked)
+  not_marked : {m : Lodged V} (new : Lodged V) {node room : Id} → IsTakenOut m new node room → (x : Placed V) → IsMarked (masks_in new) x
+      → x.room.number ≡ room.number → ⊥
+  not_marked new s x marked same = true≢false (sym marked ∙ ap (λ n. is_some (masks_in new n)) same ∙ ap is_some s.unmarked)
 
   -- the list has all but the route
-  list_less : (m new : Lodged V) (whole : Part m) (room node : Id) (y : Homed m whole room node) → list_at y → IsMarked (masks_in m) y.is
+  list_less : (m new : Lodged V) (whole : Part m) (room : Id) {node : Id} (y : Homed m whole room node) → list_at y → IsMarked (masks_in m) y.is
       → IsTakenOut m new node room
       → IsMaskList (masks_in new) (heads_in new node.number) y.home.part.low y.home.at.bit (MarkedIn (masks_in new) (tree_of y.home))
-  list_less m new whole room node y l marked s =
+  list_less m new whole room y l marked s =
       let h = y.home in
-      let after = s.list l.masks y.is (are_masks y l) (at_home m y l marked) y.room_is in
+      let after = s.list l.masks y.is (are_masks y l) (at_home y l marked) y.room_is in
       let number = ap (λ i. i.number) y.room_is in
       record {
         masks = taken_out y.is.entry.rank l.masks;
@@ -167,7 +170,7 @@ module _ {V : Type 0} where
         stands = after.stands;
         falls = falls_taken h.part.low (h.at.bit + 1) y.is.entry.rank l.masks l.falls;
         has = λ x is least most.
-            let other = not_marked m new s x is.1 in
+            let other = not_marked new s x is.1 in
             among_taken h.part.low (h.at.bit + 1) y.is.entry.rank l.masks l.falls x (l.has x (is.0, sym (s.marks x.room.number other) ∙ is.1) least most)
             (λ same. other (ap (λ p. p.room.number) (rank_is y x is.0 same) ∙ number));
         within = λ x among.
@@ -183,10 +186,10 @@ module _ {V : Type 0} where
         → IsTakenOut m new node room → KeepsLeaves m new → KeepsBits m new → IsWholeBut new root (λ n. late n || (n == room.number)) nobody_out
     listed_less new room node once y marked s leaves bits =
         let l = home_list y.home w.lists in
-        whole_kept m new late (λ n. late n || (n == room.number)) w leaves bits (relisted y.home new once (record {
+        whole_kept m new (λ n. late n || (n == room.number)) w leaves bits (relisted y.home new once (record {
           heads = s.heads;
           masks = λ x in_x out. s.masks l.masks (are_masks y l) x.room.number (not_room y x in_x out) (aside_of y l x in_x out);
-          list = list_less m new w.part room node y l marked s;
+          list = list_less m new w.part room y l marked s;
         }) w.lists) (record {
           listed = λ n p said. elim (cases_eq n room.number) [
             | inl same ↦ absurd (none_some (sym s.unmarked ∙ ap (masks_in new) (sym same) ∙ said))
@@ -238,7 +241,7 @@ module _ {V : Type 0} where
       record { is = y; inside = is; room_is = room_is; home = subst (IsHome m y.entry.key y.entry.rank whole) some home }
 
   pub home_node : {m : Lodged V} {whole : Part m} {room node : Id} → Homed m whole room node → IsBitNode m node
-  home_node {m = m} y = bit_node_at m y.home.at
+  home_node {m = m} y = bit_node_at y.home.at
 
   pub home_masks : {m : Lodged V} {root : Node} {late : ℕ → Bool} (w : IsWholeBut m root late nobody_out) {room node : Id} → Homed m w.part room node
       → (ms : List (Placed V)) × IsMasks m (heads_in m node.number) ms
@@ -252,7 +255,7 @@ module _ {V : Type 0} where
       → IsMarked (masks_in m) y.is → (ms : List (Placed V)) × (x : Placed V) × IsMasks m (heads_in m node.number) ms × IsAmong x ms × (x.room ≡ room)
   home_member {m = m} w y marked =
       let l = home_list y.home w.lists in
-      (l.masks, y.is, are_masks y l, at_home m y l marked, y.room_is)
+      (l.masks, y.is, are_masks y l, at_home y l marked, y.room_is)
 
   -- where nobody is late a route with a home is marked
   pub marked_at : {m : Lodged V} {root : Node} (w : IsWholeBut m root nobody_late nobody_out) {room node : Id} (y : Homed m w.part room node)

@@ -96,7 +96,7 @@ module _ {V : Type 0} where
       let x = tree_room n w.part.tree (omega arith) in
       let f = way_to_leaf m w.part y is in
       let key = sym (key_said m w.part x.0 q.0 x.1 x.2 q.1).0 ∙ q.2 in
-      (x.0, among_leaf m f.at x.0 (way_leads m w.part f.part f.ups f.way x.0 x.1 key), x.2)
+      (x.0, among_leaf f.at x.0 (way_leads m w.part f.part f.ups f.way x.0 x.1 key), x.2)
 
   -- a route that names none before it is the first of its chain
   begins_at : (m : Lodged V) (whole : Part m) (y : Placed V) (is : IsIn y whole.tree) (p : LeafPart V) → leaves_in m y.room.number ≡ Some p
@@ -177,10 +177,10 @@ module _ {V : Type 0} where
             );
       }
 
-  pub nearer : (m now new : Lodged V) {root : Node} {late : ℕ → Bool} {key : ℕ} (at : Option Id) (room : Id) (links : Links) {f : Leaf}
-      (l : Left m now root late key at) → at ≡ Some room → KeepsLeaves m now → KeepsLeaves m new
-      → AreLinks new room links → f ≡ leaf_of links → left_at (leaves_in new) f.next < left_at (leaves_in now) at
-  nearer m now new at room links {f = f} l is was kept are leaf =
+  pub nearer : (m now new : Lodged V) {root : Node} {late : ℕ → Bool} {key : ℕ} {at : Option Id} (room : Id) (links : Links) {f : Leaf}
+      (l : Left m now root late key at) → at ≡ Some room → KeepsLeaves m now → KeepsLeaves m new → AreLinks new room links → f ≡ leaf_of links
+      → left_at (leaves_in new) f.next < left_at (leaves_in now) at
+  nearer m now new room links {f = f} l is was kept are leaf =
       let x = head_at l is in
       let r = run_behind m l.rest x in
       let next = next_read m new l.rest room links f x kept are leaf in

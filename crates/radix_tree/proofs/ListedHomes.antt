@@ -10,13 +10,13 @@ module _ {V : Type 0} where
   chain_of {m = m} whole y is = let f = way_to_leaf m whole y is in leaf_run m f.at
 
   pub in_chain : {m : Lodged V} (whole : Part m) (y : Placed V) (is : IsIn y whole.tree) → IsAmong y (chain_of whole y is).members
-  in_chain {m = m} whole y is = let f = way_to_leaf m whole y is in among_leaf m f.at y f.among
+  in_chain {m = m} whole y is = let f = way_to_leaf m whole y is in among_leaf f.at y f.among
 
   pub led_first : {m : Lodged V} (whole : Part m) (y : Placed V) (is : IsIn y whole.tree) {first : Id} → first_room (chain_of whole y is).members ≡ Some first
       → LedTo y.entry.key whole first
   led_first {m = m} whole y is begins =
       let f = way_to_leaf m whole y is in
-      subst (LedTo y.entry.key whole) (inside (sym (leaf_begins m f.at) ∙ begins)) (record { part = f.part; leaf = f.at; ups = f.ups; way = f.way })
+      subst (LedTo y.entry.key whole) (inside (sym (leaf_begins f.at) ∙ begins)) (record { part = f.part; leaf = f.at; ups = f.ups; way = f.way })
 
   pub chain_at : {m : Lodged V} {root : Node} {late : ℕ → Bool} (w : IsWholeBut m root late nobody_out) {room : Id} → Has m room
       → (c : Run m) × (y : Placed V) × (c.previous ≡ None) × IsAmong y c.members × (y.room ≡ room)

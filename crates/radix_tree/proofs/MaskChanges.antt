@@ -79,8 +79,7 @@ module _ {V : Type 0} where
       (λ y among. masks_one y.room.number ∙ put_aside room (Some node) y.room.number (masks_in m y.room.number) (aside y among)) (sym (heads_one fork.number))
       is in
       let all = list_parted x.entry.rank is_one in
-      let stands_own = masks x.room.number
-      ∙ aside_linked (not_below x.entry.rank ms) (Some room) x.room.number (masks_in between x.room.number) last_is
+      let stands_own = masks x.room.number ∙ aside_linked (not_below x.entry.rank ms) (Some room) x.room.number (masks_in between x.room.number) last_is
       (λ y among same. aside y (not_below_among x.entry.rank ms y among).0 (same ∙ ap (λ i. i.number) room_is))
       ∙ masks_one x.room.number ∙ put_own x node (masks_in m x.room.number) room_is
       ∙ ap (λ o. Some (record { block = x.room.block; next = o })) (sym first_is) in
@@ -140,11 +139,9 @@ module _ {V : Type 0} where
       (stand_same (masks_in m) (masks_in between) (below x.entry.rank ms) stays (stands_at ms x is among).1) (falls_taken 0 34 x.entry.rank ms is.falls)
       (among_ranked (leaves_in m) (below x.entry.rank ms) (λ y behind. ranked_among (leaves_in m) ms is.ranked y
       (below_among 0 34 x.entry.rank ms is.falls y behind).0)) in
-      masks_same between new keeps_two
-      (λ y left. masks_two y.room.number ∙ put_aside room None y.room.number (masks_in between y.room.number) (λ same.
+      masks_same between new keeps_two (λ y left. masks_two y.room.number ∙ put_aside room None y.room.number (masks_in between y.room.number) (λ same.
       let was = taken_among 0 34 x.entry.rank ms is.falls y left in
-      was.1 (one_rank y x (ranked_among (leaves_in m) ms is.ranked y was.0) own (same ∙ ap (λ i. i.number) (sym room_is)))))
-      (sym (heads_two fork.number)) list
+      was.1 (one_rank (ranked_among (leaves_in m) ms is.ranked y was.0) own (same ∙ ap (λ i. i.number) (sym room_is))))) (sym (heads_two fork.number)) list
 
   -- the members of a list stay mask nodes
   pub sorted_marks : (K J : Masks) (ms front : List (Placed V)) (room : Id) (node : MaskNode) {before : Option Id} (next : Option Id) (n : ℕ) → MasksStand K ms

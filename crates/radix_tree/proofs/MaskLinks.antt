@@ -38,7 +38,7 @@ module _ {V : Type 0} where
   apart L low top (x ∷ xs) falls ranked = (
     λ y among same.
         let less = (falls_among low x.entry.rank xs falls.2 y among).1 in
-        let one = one_rank y x (ranked_among L xs ranked.1 y among) ranked.0 same in omega arith,
+        let one = one_rank (ranked_among L xs ranked.1 y among) ranked.0 same in omega arith,
     apart L low x.entry.rank xs falls.2 ranked.1,
   )
 

@@ -208,16 +208,16 @@ module _ {V : Type 0} where
   among_ranked L (x ∷ xs) all = (all x (inl refl), among_ranked L xs (λ y among. all y (inr among)))
 
   -- routes in one room are of one rank
-  pub one_rank : {L : Leaves V} (x y : Placed V) → IsRanked L x → IsRanked L y → x.room.number ≡ y.room.number → x.entry.rank ≡ y.entry.rank
-  one_rank {L = L} x y one other same = sym one.rank ∙ ap (λ p. p.leaf.rank) (inside (sym one.said ∙ ap L same ∙ other.said)) ∙ other.rank
+  pub one_rank : {L : Leaves V} {x y : Placed V} → IsRanked L x → IsRanked L y → x.room.number ≡ y.room.number → x.entry.rank ≡ y.entry.rank
+  one_rank {L = L} one other same = sym one.rank ∙ ap (λ p. p.leaf.rank) (inside (sym one.said ∙ ap L same ∙ other.said)) ∙ other.rank
 
   pub ranked_in : (m : Lodged V) (p : Part m) (x : Placed V) → IsIn x p.tree → IsRanked (leaves_in m) x
   ranked_in m p x is =
       let said = tree_said (leaves_in m) (bits_in m) p.above p.tree p.stands x is in
       record { part = leaf_part x said.0 said.1 said.2; said = said.3; block = refl; rank = refl }
 
-  pub bit_node_at : (m : Lodged V) {p : Part m} {room : Id} → ForkAt p room → IsBitNode m room
-  bit_node_at m f = record { part = bit_part_of f; said = (fork_stands f).0; block = refl }
+  pub bit_node_at : {m : Lodged V} {p : Part m} {room : Id} → ForkAt p room → IsBitNode m room
+  bit_node_at f = record { part = bit_part_of f; said = (fork_stands f).0; block = refl }
 
   -- the list of a bit node of a tree
   pub masks_listed : {m : Lodged V} (p : Part m) {first : Option Id} {low b : ℕ} {M : Placed V → Type 0} (l : IsMaskList (masks_in m) first low b M) → b ≤ 31

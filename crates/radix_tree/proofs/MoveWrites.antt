@@ -131,7 +131,7 @@ module _ {V : Type 0} where
       → (up : Id) → at.above ≡ Some up → (forks_at up.number at.tree ≡ 0) × (1 ≤ forks_at up.number whole.tree)
   spine_apart m key whole at [] way top once up is = absurd (none_some (sym (ap (λ p. p.above) way ∙ top) ∙ is))
   spine_apart m key whole at (p ∷ ps) way top once up is =
-      let out = spine_out m at p way.0 (way_once key whole p ps way.1 once) in
+      let out = spine_out m way.0 (way_once key whole p ps way.1 once) in
       let same = inside (sym way.0.above ∙ is) in
       let none = out.0 in
       let some = out.1 in

@@ -49,17 +49,18 @@ module _ {V : Type 0} where
     pub forks : (n : ℕ) → forks_at n under ≡ 0 → 1 ≤ forks_at n over → bits_in new n ≡ bits_in m n
 
   -- how often a room is in a bit node's tree
-  pub fork_forks : (m : Lodged V) {over : Part m} {room : Id} (f : ForkAt over room) (n : ℕ)
+  pub fork_forks : {m : Lodged V} {over : Part m} {room : Id} (f : ForkAt over room) (n : ℕ)
       → forks_at n over.tree ≡ one_if (room.number == n) + (forks_at n f.zero + forks_at n f.one)
-  fork_forks m f n = ap (forks_at n) f.is
+  fork_forks f n = ap (forks_at n) f.is
 
-  pub fork_leaves : (m : Lodged V) {over : Part m} {room : Id} (f : ForkAt over room) (n : ℕ) → leaves_at n over.tree ≡ leaves_at n f.zero + leaves_at n f.one
-  fork_leaves m f n = ap (leaves_at n) f.is
+  pub fork_leaves : {m : Lodged V} {over : Part m} {room : Id} (f : ForkAt over room) (n : ℕ)
+      → leaves_at n over.tree ≡ leaves_at n f.zero + leaves_at n f.one
+  fork_leaves f n = ap (leaves_at n) f.is
 
   -- to name it as before changes nothing
-  pub same_turned : (m : Lodged V) (address : ℕ) (under over : Part m) (name : Node) (b : Beneath address under over) → name ≡ name_of under.tree
+  pub same_turned : {m : Lodged V} (address : ℕ) {under : Part m} (over : Part m) (name : Node) (b : Beneath address under over) → name ≡ name_of under.tree
       → bits_in m b.room.number ≡ with_child address name (bits_in m b.room.number)
-  same_turned m address under over name b is =
+  same_turned address over name b is =
       let f = b.at in
       let old = (fork_stands f).0 in
       old ∙ sym (ap (with_child address name) old ∙ elim b.side [
@@ -70,12 +71,12 @@ module _ {V : Type 0} where
       ])
 
   -- ---- all the way up
-  pub beneath_counts : (m : Lodged V) (address : ℕ) (under over : Part m) (n : ℕ) → Beneath address under over
+  pub beneath_counts : (m : Lodged V) {address : ℕ} {under over : Part m} (n : ℕ) → Beneath address under over
       → (leaves_at n under.tree ≤ leaves_at n over.tree) × (forks_at n under.tree ≤ forks_at n over.tree)
-  beneath_counts m address under over n b =
+  beneath_counts m n b =
       let f = b.at in
-      let forks = fork_forks m f n in
-      let leaves = fork_leaves m f n in
+      let forks = fork_forks f n in
+      let leaves = fork_leaves f n in
       elim b.side [
         | inl e ↦ let l = ap (leaves_at n) e.0 in let k = ap (forks_at n) e.0 in
             (omega arith, omega arith)
@@ -90,7 +91,7 @@ module _ {V : Type 0} where
       let k = ap (λ p. forks_at n p.tree) way in
       (omega arith, omega arith)
   way_counts m address whole at (p ∷ ps) n way =
-      let near = beneath_counts m address at p n way.0 in
+      let near = beneath_counts m n way.0 in
       let far = way_counts m address whole p ps n way.1 in
       let l = near.0 in let k = near.1 in
       let l2 = far.0 in let k2 = far.1 in
@@ -104,13 +105,13 @@ module _ {V : Type 0} where
   }
 
   -- the room of the bit node above is not beneath it
-  pub spine_out : (m : Lodged V) {address : ℕ} (under over : Part m) (b : Beneath address under over) → AreOnce over.tree
+  pub spine_out : (m : Lodged V) {address : ℕ} {under over : Part m} (b : Beneath address under over) → AreOnce over.tree
       → (forks_at b.room.number under.tree ≡ 0) × (1 ≤ forks_at b.room.number over.tree)
-  spine_out m {address = address} under over b once =
+  spine_out m {address = address} b once =
       let f = b.at in
       let n = b.room.number in
       let one = one_if_same b.room.number in
-      let forks = fork_forks m f b.room.number in
+      let forks = fork_forks f b.room.number in
       let most = once.forks b.room.number in (
         elim b.side [
           | inl e ↦ let k = ap (forks_at b.room.number) e.0 in omega arith

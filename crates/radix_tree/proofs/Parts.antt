@@ -69,8 +69,8 @@ module _ {V : Type 0} where
     pub one_beneath : (address : ℕ) → bit_at f.bit address ≡ 1 → Beneath address one_part p
     one_beneath address is = record { room = room; at = f; above = refl; low = refl; side = inr (refl, is) }
 
-  pub side_of : (m : Lodged V) {address : ℕ} {under over : Part m} (b : Beneath address under over) → IsSide address b.at.bit under.tree over.tree
-  side_of m {address = address} {under = under} {over = over} b =
+  pub side_of : {m : Lodged V} {address : ℕ} {under over : Part m} (b : Beneath address under over) → IsSide address b.at.bit under.tree over.tree
+  side_of {address = address} {under = under} {over = over} b =
       let f = b.at in
       let is = fork_is f in
       let whole = fork b.room f.bit f.zero f.one in
@@ -92,32 +92,32 @@ module _ {V : Type 0} where
     stands = subst (Stands (leaves_in m) (bits_in m) p.above) f.is p.stands;
   }
 
-  pub leaf_begins : (m : Lodged V) {p : Part m} {room : Id} (f : LeafAt p room) → first_room (f.first ∷ f.rest) ≡ Some room
-  leaf_begins m f = ap Some f.room_is
+  pub leaf_begins : {m : Lodged V} {p : Part m} {room : Id} (f : LeafAt p room) → first_room (f.first ∷ f.rest) ≡ Some room
+  leaf_begins f = ap Some f.room_is
 
   -- that of the leaf to which an address leads
   abbrev pub chain_led : {m : Lodged V} {address : ℕ} {whole : Part m} {room : Id} → LedTo address whole room → (c : Run m) ×
       (first_room c.members ≡ Some room)
-  chain_led {m} {room = room} l = (leaf_run m l.leaf, leaf_begins m l.leaf)
+  chain_led {m} {room = room} l = (leaf_run m l.leaf, leaf_begins l.leaf)
 
-  pub among_leaf : (m : Lodged V) {p : Part m} {room : Id} (f : LeafAt p room) (y : Placed V) → IsIn y p.tree → IsAmong y (f.first ∷ f.rest)
-  among_leaf m f y at = subst (IsIn y) f.is at
+  pub among_leaf : {m : Lodged V} {p : Part m} {room : Id} (f : LeafAt p room) (y : Placed V) → IsIn y p.tree → IsAmong y (f.first ∷ f.rest)
+  among_leaf f y at = subst (IsIn y) f.is at
 
-  pub in_leaf : (m : Lodged V) {p : Part m} {room : Id} (f : LeafAt p room) (y : Placed V) → IsAmong y (f.first ∷ f.rest) → IsIn y p.tree
-  in_leaf m f y among = subst (IsIn y) (sym f.is) among
+  pub in_leaf : {m : Lodged V} {p : Part m} {room : Id} (f : LeafAt p room) (y : Placed V) → IsAmong y (f.first ∷ f.rest) → IsIn y p.tree
+  in_leaf f y among = subst (IsIn y) (sym f.is) among
 
   -- ---- a way
   pub way_inside : (m : Lodged V) (address : ℕ) (whole at : Part m) (ups : List (Part m)) → Way address whole at ups → (y : Placed V) → IsIn y at.tree
       → IsIn y whole.tree
   way_inside m address whole at [] way y is = subst (λ p. IsIn y p.tree) way is
-  way_inside m address whole at (p ∷ ps) way y is = way_inside m address whole p ps way.1 y ((side_of m way.0).inside y is)
+  way_inside m address whole at (p ∷ ps) way y is = way_inside m address whole p ps way.1 y ((side_of way.0).inside y is)
 
   -- a route whose key is the address is found on its way
   pub way_leads : (m : Lodged V) {address : ℕ} (whole at : Part m) (ups : List (Part m)) → Way address whole at ups → (y : Placed V) → IsIn y whole.tree
       → y.entry.key ≡ address → IsIn y at.tree
   way_leads m whole at [] way y is key = subst (λ p. IsIn y p.tree) (sym way) is
   way_leads m whole at (p ∷ ps) way y is key =
-      let side = side_of m way.0 in
+      let side = side_of way.0 in
       elim (side.parted y (way_leads m whole p ps way.1 y is key)) [
         | inl here ↦ here
         | inr differs ↦ absurd (differs (ap (bit_at way.0.at.bit) key))
@@ -127,9 +127,9 @@ module _ {V : Type 0} where
   abbrev pub ListsOf : (Placed V → Type 0) → (m : Lodged V) → Part m → Type 0
   ListsOf M m p = Lists M (heads_in m) (masks_in m) p.low p.tree
 
-  pub lists_beneath : (M : Placed V → Type 0) {m : Lodged V} {address : ℕ} (under over : Part m) → Beneath address under over → ListsOf M m over → ListsOf M
-      m under
-  lists_beneath M {m = m} under over b listed =
+  pub lists_beneath : (M : Placed V → Type 0) {m : Lodged V} {address : ℕ} (under : Part m) {over : Part m} → Beneath address under over → ListsOf M m over
+      → ListsOf M m under
+  lists_beneath M {m = m} under b listed =
       let f = b.at in
       let lists = fork_lists f M listed in
       subst (λ low. Lists M (heads_in m) (masks_in m) low under.tree) (sym b.low) (elim b.side [
@@ -140,10 +140,10 @@ module _ {V : Type 0} where
   pub way_lists : (M : Placed V → Type 0) {m : Lodged V} (address : ℕ) (whole at : Part m) (ups : List (Part m)) → Way address whole at ups → ListsOf M m
       whole → ListsOf M m at
   way_lists M {m = m} address whole at [] way listed = subst (ListsOf M m) (sym way) listed
-  way_lists M address whole at (p ∷ ps) way listed = lists_beneath M at p way.0 (way_lists M address whole p ps way.1 listed)
+  way_lists M address whole at (p ∷ ps) way listed = lists_beneath M at way.0 (way_lists M address whole p ps way.1 listed)
 
   -- the best beneath is the whole's best
   pub way_best : (m : Lodged V) (address : ℕ) (whole at : Part m) (ups : List (Part m)) → Way address whole at ups → (x : Placed V)
       → Best address at.low 34 (In at) (Some x) → Best address whole.low 34 (In whole) (Some x)
   way_best m address whole at [] way x best = subst (λ p. Best address p.low 34 (In p) (Some x)) way best
-  way_best m address whole at (p ∷ ps) way x best = way_best m address whole p ps way.1 x (side_hit (side_of m way.0) p.low x best)
+  way_best m address whole at (p ∷ ps) way x best = way_best m address whole p ps way.1 x (side_hit (side_of way.0) p.low x best)

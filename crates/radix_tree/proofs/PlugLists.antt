@@ -53,14 +53,14 @@ module _ {V : Type 0} where
     pub came : (y : Placed V) → IsIn y u → y.entry.rank < top → IsMarked J y → IsIn y t × IsMarked K y
 
   -- what is so for a node above is so for those beneath it
-  keeps_zero : (H G : Heads) (K J : Masks) {top : ℕ} (room : Id) (b : ℕ) (one : Tree V) (fs : List (Frame V)) (t u : Tree V)
+  keeps_zero : {H G : Heads} {K J : Masks} {top : ℕ} (room : Id) (b : ℕ) (one : Tree V) {fs : List (Frame V)} {t u : Tree V}
       → KeepsAbove H G K J top (on_zero room b one ∷ fs) t u → KeepsAbove H G K J top fs t u
-  keeps_zero H G K J room b one fs t u k =
+  keeps_zero room b one k =
       record { heads = λ n some. k.heads n (omega arith); aside = λ y at. k.aside y (inr at); stays = k.stays; came = k.came }
 
-  keeps_one : (H G : Heads) (K J : Masks) {top : ℕ} (room : Id) (b : ℕ) (zero : Tree V) (fs : List (Frame V)) (t u : Tree V)
+  keeps_one : {H G : Heads} {K J : Masks} {top : ℕ} (room : Id) (b : ℕ) (zero : Tree V) {fs : List (Frame V)} {t u : Tree V}
       → KeepsAbove H G K J top (on_one room b zero ∷ fs) t u → KeepsAbove H G K J top fs t u
-  keeps_one H G K J room b zero fs t u k =
+  keeps_one room b zero k =
       record { heads = λ n some. k.heads n (omega arith); aside = λ y at. k.aside y (inr at); stays = k.stays; came = k.came }
 
   module _ {H G : Heads} {K J : Masks} {top : ℕ} {fs : List (Frame V)} {t u : Tree V} (k : KeepsAbove H G K J top fs t u) where
@@ -88,7 +88,7 @@ module _ {V : Type 0} where
         mask_list_same K J low b (MarkedIn J (fork room b (plug fs u) one)) (k.heads room.number (let own = one_if_same room.number in
             let le = within room.number in omega arith)) (λ x member most. stays_within k x member.0 (omega arith) member.1)
             (λ x member most. came_within k x member.0 (omega arith) member.1) lists.0,
-        plug_lists (b + 1) fs is.1 (keeps_zero H G K J room b one fs t u k) lists.1 own,
+        plug_lists (b + 1) fs is.1 (keeps_zero room b one k) lists.1 own,
         lists_same H G K J (b + 1) one (λ n some. k.heads n (let le = within n in omega arith)) (λ y at. k.aside y (inl at)) lists.2,
       )
   plug_lists {H = H} {G = G} {K = K} {J = J} low (on_one room b zero ∷ fs) {t = t} {u = u} is k lists own =
@@ -99,5 +99,5 @@ module _ {V : Type 0} where
             let le = within room.number in omega arith)) (λ x member most. stays_within k x member.0 (omega arith) member.1)
             (λ x member most. came_within k x member.0 (omega arith) member.1) lists.0,
         lists_same H G K J (b + 1) zero (λ n some. k.heads n (let le = within n in omega arith)) (λ y at. k.aside y (inl at)) lists.1,
-        plug_lists (b + 1) fs is.2 (keeps_one H G K J room b zero fs t u k) lists.2 own,
+        plug_lists (b + 1) fs is.2 (keeps_one room b zero k) lists.2 own,
       )

@@ -91,15 +91,15 @@ module _ {V : Type 0} where
     pub back : List (Entry V)
     pub routes : (t : Tree V) → routes_of (plug fs t) ≡ front ++ routes_of t ++ back
 
-  surround_zero : (room : Id) (b : ℕ) (one : Tree V) (fs : List (Frame V)) → Surround fs → Surround (on_zero room b one ∷ fs)
-  surround_zero room b one fs s = record {
+  surround_zero : (room : Id) (b : ℕ) (one : Tree V) {fs : List (Frame V)} → Surround fs → Surround (on_zero room b one ∷ fs)
+  surround_zero room b one s = record {
     front = s.front;
     back = s.back ++ routes_of one;
     routes = λ t. ap (λ es. es ++ routes_of one) (s.routes t) ∙ append_assoc (s.front ++ routes_of t) s.back (routes_of one);
   }
 
-  surround_one : (room : Id) (b : ℕ) (zero : Tree V) (fs : List (Frame V)) → Surround fs → Surround (on_one room b zero ∷ fs)
-  surround_one room b zero fs s = record {
+  surround_one : (room : Id) (b : ℕ) (zero : Tree V) {fs : List (Frame V)} → Surround fs → Surround (on_one room b zero ∷ fs)
+  surround_one room b zero s = record {
     front = routes_of zero ++ s.front;
     back = s.back;
     routes = λ t. ap (λ es. routes_of zero ++ es) (s.routes t) ∙ sym (append_assoc (routes_of zero) (s.front ++ routes_of t) s.back)
@@ -108,8 +108,8 @@ module _ {V : Type 0} where
 
   pub surround : (fs : List (Frame V)) → Surround fs
   surround [] = record { front = []; back = []; routes = λ t. sym (append-nil (routes_of t)) }
-  surround (on_zero room b one ∷ fs) = surround_zero room b one fs (surround fs)
-  surround (on_one room b zero ∷ fs) = surround_one room b zero fs (surround fs)
+  surround (on_zero room b one ∷ fs) = surround_zero room b one (surround fs)
+  surround (on_one room b zero ∷ fs) = surround_one room b zero (surround fs)
 
   -- at most one bit node in use in each chain
   pub spare_at : (B : Bits) (fs : List (Frame V)) (t : Tree V) → HaveOneFork B (plug fs t) → HaveOneFork B t

@@ -111,8 +111,9 @@ module _ {V : Type 0} where
     stands = frame (leaves_in m) (leaves_in new) (bits_in m) (bits_in new) w.part.above w.part.tree (λ k some. leaves k) (λ k some. bits k) w.part.stands;
   }) w.low w.named ∙ sym (part_shown w.part w.low w.named)
 
-  pub gains_stays : (e : Entry V) (old now before after : List (Entry V)) → Gains e old before → now ≡ old → after ≡ before → Gains e now after
-  gains_stays e old now before after g same too = record { front = g.front; back = g.back; was = same ∙ g.was; now = too ∙ g.now }
+  pub gains_stays : {e : Entry V} {old : List (Entry V)} (now : List (Entry V)) {before : List (Entry V)} (after : List (Entry V)) → Gains e old before
+      → now ≡ old → after ≡ before → Gains e now after
+  gains_stays now after g same too = record { front = g.front; back = g.back; was = same ∙ g.was; now = too ∙ g.now }
 
   -- the value that is taken is the route's
   value_of : (o : Option (Seen V)) (p : LeafPart V) (value : V) → ((s : Seen V) → o ≡ Some s → value ≡ s.value) → content_of (leaf_in o) ≡ content_of (Some p)

@@ -47,8 +47,7 @@ module _ {V : Type 0} where
   Has-leaf m room {p = p} e block = leaf_there m room p (get m room.number) refl e block
 
   pub leaf_read : (m : Lodged V) (room : Id) {p : LeafPart V} (links : Links) → leaves_in m room.number ≡ Some p → p.block ≡ room.block → AreLinks m room
-      links
-      → leaf_of links ≡ p.leaf
+      links → leaf_of links ≡ p.leaf
   leaf_read m room links e block are =
       let h = Has-leaf m room e block in
       ap leaf_of (are h.room h.at) ∙ ap (λ q. q.leaf) (inside (sym (ap leaf_in h.at) ∙ e))
@@ -67,22 +66,22 @@ module _ {V : Type 0} where
   pub Has-bit : (m : Lodged V) (room : Id) {p : BitPart} → bits_in m room.number ≡ Some p → p.block ≡ room.block → Has m room
   Has-bit m room {p = p} e block = bit_there m room p (get m room.number) refl e block
 
-  bit_said : (m : Lodged V) {room : Id} (p : BitPart) (links : Links) (h : Has m room) → bits_in m room.number ≡ Some p → AreLinks m room links
+  bit_said : {m : Lodged V} {room : Id} (p : BitPart) (links : Links) (h : Has m room) → bits_in m room.number ≡ Some p → AreLinks m room links
       → bit_part h.room.block (bit_node_of links) ≡ Some p
-  bit_said m p links h e are = ap (λ l. bit_part h.room.block (bit_node_of l)) (are h.room h.at) ∙ sym (ap bit_in h.at) ∙ e
+  bit_said p links h e are = ap (λ l. bit_part h.room.block (bit_node_of l)) (are h.room h.at) ∙ sym (ap bit_in h.at) ∙ e
 
   pub bit_read : (m : Lodged V) (room : Id) {p : BitPart} (links : Links) {n : BitNode} → bits_in m room.number ≡ Some p → p.block ≡ room.block
       → AreLinks m room links → bit_node_of links ≡ Some n → IsNode n p
   bit_read m room {p = p} links e block are is =
       let h = Has-bit m room e block in
-      let same = inside (sym (ap (bit_part h.room.block) is) ∙ bit_said m p links h e are) in
+      let same = inside (sym (ap (bit_part h.room.block) is) ∙ bit_said p links h e are) in
       record { bit = ap (λ q. q.bit) same; zero = ap (λ q. q.zero) same; one = ap (λ q. q.one) same; above = ap (λ q. q.above) same }
 
   pub bit_used : (m : Lodged V) (room : Id) {p : BitPart} (links : Links) → bits_in m room.number ≡ Some p → p.block ≡ room.block → AreLinks m room links
       → bit_node_of links ≡ None → ⊥
   bit_used m room {p = p} links e block are none =
       let h = Has-bit m room e block in
-      none_some (sym (ap (bit_part h.room.block) none) ∙ bit_said m p links h e are)
+      none_some (sym (ap (bit_part h.room.block) none) ∙ bit_said p links h e are)
 
   module _ {m : Lodged V} {room : Id} (h : Has m room) where
     -- what the links say is what the room says
@@ -106,12 +105,12 @@ module _ {V : Type 0} where
   pub Has-mask : (m : Lodged V) (room : Id) {p : MaskPart} → masks_in m room.number ≡ Some p → p.block ≡ room.block → Has m room
   Has-mask m room {p = p} e block = mask_there m room p (get m room.number) refl e block
 
-  mask_said : (m : Lodged V) {room : Id} (p : MaskPart) (links : Links) (h : Has m room) → masks_in m room.number ≡ Some p → AreLinks m room links
+  mask_said : {m : Lodged V} {room : Id} (p : MaskPart) (links : Links) (h : Has m room) → masks_in m room.number ≡ Some p → AreLinks m room links
       → mask_part h.room.block (mask_node_of links) ≡ Some p
-  mask_said m p links h e are = ap (λ l. mask_part h.room.block (mask_node_of l)) (are h.room h.at) ∙ sym (ap mask_in h.at) ∙ e
+  mask_said p links h e are = ap (λ l. mask_part h.room.block (mask_node_of l)) (are h.room h.at) ∙ sym (ap mask_in h.at) ∙ e
 
   pub mask_used : (m : Lodged V) (room : Id) (p : MaskPart) (links : Links) → masks_in m room.number ≡ Some p → p.block ≡ room.block → AreLinks m room links
       → mask_node_of links ≡ None → ⊥
   mask_used m room p links e block are none =
       let h = Has-mask m room e block in
-      none_some (sym (ap (mask_part h.room.block) none) ∙ mask_said m p links h e are)
+      none_some (sym (ap (mask_part h.room.block) none) ∙ mask_said p links h e are)

@@ -7,9 +7,9 @@ use Rattle.radix_tree.proofs.Words.{LedTo, bit_at, HaveBit, IsTree, Lodged}
 
 module _ {V : Type 0} {m : Lodged V} where
   -- a value that all keys of a part have at a bit before the node's above is that of all beneath the node
-  agree_up : (key c value : ℕ) (under : Part m) {over : Part m} (b : Beneath key under over) → c < b.at.bit → HaveBit c value under.tree
+  agree_up : {key : ℕ} (c value : ℕ) {under over : Part m} (b : Beneath key under over) → c < b.at.bit → HaveBit c value under.tree
       → HaveBit c value over.tree
-  agree_up key c value under b before have =
+  agree_up c value b before have =
       let f = b.at in
       let a = (fork_is f).0.agree c before in
       let same : a.0 ≡ value = elim b.side [
@@ -19,8 +19,8 @@ module _ {V : Type 0} {m : Lodged V} where
       subst (HaveBit c value) (sym f.is) (subst (λ v. HaveBit c v f.zero) same a.1, subst (λ v. HaveBit c v f.one) same a.2)
 
   -- beneath a bit node on a key's side all keys have the key's bit
-  own_side : (key : ℕ) (under over : Part m) (b : Beneath key under over) → HaveBit b.at.bit (bit_at b.at.bit key) under.tree
-  own_side key under over b =
+  own_side : (key : ℕ) {under over : Part m} (b : Beneath key under over) → HaveBit b.at.bit (bit_at b.at.bit key) under.tree
+  own_side key b =
       let f = b.at in
       let is = (fork_is f).0 in
       elim b.side [
@@ -70,8 +70,8 @@ module _ {V : Type 0} {m : Lodged V} where
       record {
         named = fork_name (fork_over o);
         past = raised b.at bit further;
-        agree = λ c before. agree_up key c (bit_at c key) under b (omega (arith, before, further)) (r.agree c before);
-        here = agree_up key bit (bit_at bit other) under b further r.here;
+        agree = λ c before. agree_up c (bit_at c key) b (omega (arith, before, further)) (r.agree c before);
+        here = agree_up bit (bit_at bit other) b further r.here;
         steps = step_risen o r.steps once;
       }
 
@@ -108,7 +108,7 @@ module _ {V : Type 0} {m : Lodged V} where
       let b = o.beneath in
       let same = (node_at (fork_over o) is).bit in
       let other_bit : b.at.bit ≡ bit → ⊥ = λ e. w.differs.at
-      (one_value bit (bit_at bit key) (bit_at bit other) c.part.tree (subst (λ k. HaveBit k (bit_at k key) c.part.tree) e (own_side key c.part o.part b))
+      (one_value bit (bit_at bit key) (bit_at bit other) c.part.tree (subst (λ k. HaveBit k (bit_at k key) c.part.tree) e (own_side key b))
       c.holds.here) in
       spot_of c w.top w.once w.differs (elim (cases_eq b.at.bit bit) [ inl e ↦ absurd (other_bit e) | inr ne ↦ omega (arith, ne, same, b.low, before) ])
 

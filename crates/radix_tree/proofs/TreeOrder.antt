@@ -54,9 +54,9 @@ module _ {V : Type 0} where
   joined (x ∷ xs) ys left right before = (left.0, all_append (λ f. IsTrue (precedes x f)) xs ys left.1 before.0, joined xs ys left.2 right before.1)
 
   -- what is beneath a bit node on the one side precedes what is on the other
-  sides_precede : (low b : ℕ) (zero one : Tree V) → IsFork low b zero one → IsTree (b + 1) zero → IsTree (b + 1) one → (x y : Placed V) → IsIn x zero
+  sides_precede : {low : ℕ} (b : ℕ) (zero one : Tree V) → IsFork low b zero one → IsTree (b + 1) zero → IsTree (b + 1) one → (x y : Placed V) → IsIn x zero
       → IsIn y one → IsTrue (precedes x.entry y.entry)
-  sides_precede low b zero one is zeros ones x y left right =
+  sides_precede b zero one is zeros ones x y left right =
       (precedes_in_words x.entry y.entry).1 (inl (less b x.entry.key y.entry.key is.within (tree_route (b + 1) zero zeros x left).address
       (tree_route (b + 1) one ones y right).address (λ c before. let agreed =
       is.agree c before in bit_beneath (b + 1) c agreed.0 zero zeros agreed.1 x left ∙ sym (bit_beneath (b + 1) c agreed.0 one ones agreed.2 y right))
@@ -64,7 +64,6 @@ module _ {V : Type 0} where
 
   pub tree_is_table : (low : ℕ) (t : Tree V) → IsTree low t → IsTable (routes_of t)
   tree_is_table low (leaf x xs) is = chain_is_table x.entry.key 34 (x ∷ xs) is.1
-  tree_is_table low (fork room b zero one) is =
-      joined (routes_of zero) (routes_of one) (tree_is_table (b + 1) zero is.1) (tree_is_table (b + 1) one is.2)
+  tree_is_table low (fork room b zero one) is = joined (routes_of zero) (routes_of one) (tree_is_table (b + 1) zero is.1) (tree_is_table (b + 1) one is.2)
       (all_in (λ e. AllByRecursion (λ f. IsTrue (precedes e f)) (routes_of one)) zero
-      (λ x left. all_in (λ f. IsTrue (precedes x.entry f)) one (λ y right. sides_precede low b zero one is.0 is.1 is.2 x y left right)))
+      (λ x left. all_in (λ f. IsTrue (precedes x.entry f)) one (λ y right. sides_precede b zero one is.0 is.1 is.2 x y left right)))

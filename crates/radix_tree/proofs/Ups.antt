@@ -20,7 +20,7 @@ module _ {V : Type 0} {m : Lodged V} where
         told.0,
         told.1,
         way_best m address whole l.part l.ups l.way told.0
-            (in_leaf m l.leaf told.0 best.0, best.1, λ y at covers below. best.2 y (among_leaf m l.leaf y at) covers below),
+            (in_leaf l.leaf told.0 best.0, best.1, λ y at covers below. best.2 y (among_leaf l.leaf y at) covers below),
       )
 
   pub searched : {address : ℕ} {whole : Part m} {room : Id} {start now : Counter} (l : LedTo address whole room) {o : Option Id} → o ≡ None
@@ -29,7 +29,7 @@ module _ {V : Type 0} {m : Lodged V} where
       let told = subst (Tells (Best address 0 34 (λ y. IsAmong y (l.leaf.first ∷ l.leaf.rest)))) none tells in
       let low = (subst (IsTree l.part.low) l.leaf.is l.part.is).0 in
       record {
-        none = λ y at covers below. let never = told y (among_leaf m l.leaf y at) covers below in omega (arith, never);
+        none = λ y at covers below. let never = told y (among_leaf l.leaf y at) covers below in omega (arith, never);
         rises = soon.rises;
         few = omega (arith, low);
       }
@@ -44,7 +44,7 @@ module _ {V : Type 0} {m : Lodged V} where
         told.0,
         told.1,
         way_best m address whole o.part o.ups o.way told.0
-        (listed_hit (side_of m b) o.part.low told.0 (subst (λ n. Best address n 34 (In under) None) b.low s.none) told.2),
+        (listed_hit (side_of b) o.part.low told.0 (subst (λ n. Best address n 34 (In under) None) b.low s.none) told.2),
       )
 
   -- or none
@@ -57,7 +57,7 @@ module _ {V : Type 0} {m : Lodged V} where
       let told = subst (Tells (Best address o.part.low (b.at.bit + 1) (In o.part))) none tells in
       let rises = (fork_is (fork_over o)).0.rises in
       record {
-        none = listed_miss (side_of m b) o.part.low (subst (λ n. Best address n 34 (In under) None) b.low s.none) told;
+        none = listed_miss (side_of b) o.part.low (subst (λ n. Best address n 34 (In under) None) b.low s.none) told;
         rises = omega arith;
         few = omega (arith, rises, b.low, s.few);
       }

@@ -221,22 +221,22 @@ module _ {V : Type 0} where
       valued_shown (put_valued m room value h) w told.0 (ap (λ i. i.number) told.1) told.2.0
       ∙ ap (λ e. with_entry e (shown m (Some root))) (put_entry told.0.entry key rank value told.2.1.0 told.2.1.1)
 
-  counted_put : (n : ℕ) (value : V) (e : Entry V) (old new : List (Entry V)) (p : IsPut n value e old new) (r : ℕ) → of_rank r new ≡ of_rank r old
-  counted_put n value e old new p r =
+  counted_put : {n : ℕ} (value : V) (e : Entry V) {old new : List (Entry V)} (p : IsPut n value e old new) (r : ℕ) → of_rank r new ≡ of_rank r old
+  counted_put value e p r =
       let put_in : Entry V = record e { value = value } in
       ap (of_rank r) p.now ∙ of_rank-append r p.front (put_in ∷ p.back)
       ∙ ap (λ k. of_rank r p.front + k) (of_rank-cons r put_in p.back ∙ sym (of_rank-cons r e p.back))
       ∙ sym (of_rank-append r p.front (e ∷ p.back)) ∙ ap (of_rank r) (sym p.was)
 
-  pub lent_counted : (m : Lodged V) (root : Node) (w : IsWhole m root) (key rank : ℕ) (o : Option Id) (room : Id) (counts : List ℕ) → o ≡ Some room
-      → Tells (Finds (HasPair key rank) (In w.part)) o → Has m room → (value : V)
-      → AreCounted counts (shown m (Some root)) → AreCounted counts (shown (put_value m room value) (Some root))
-  lent_counted m root w key rank o room counts some tells h value counted r fits =
+  pub lent_counted : (m : Lodged V) {root : Node} (w : IsWhole m root) (key rank : ℕ) (o : Option Id) (room : Id) (counts : List ℕ) → o ≡ Some room
+      → Tells (Finds (HasPair key rank) (In w.part)) o → Has m room → (value : V) → AreCounted counts (shown m (Some root))
+      → AreCounted counts (shown (put_value m room value) (Some root))
+  lent_counted m w key rank o room counts some tells h value counted r fits =
       let told = subst (λ o. Tells (Finds (HasPair key rank) (In w.part)) o) some tells in
       let n = room.number in
       let once = (once_but w).leaves n in
       let p = tree_put n value told.0 w.part.tree (ap (λ i. i.number) told.1) told.2.0 once in
-      counted r fits ∙ ap (of_rank r) (shown_is w) ∙ sym (counted_put n value told.0.entry _ _ p r)
+      counted r fits ∙ ap (of_rank r) (shown_is w) ∙ sym (counted_put value told.0.entry p r)
       ∙ ap (of_rank r) (sym (whole_and_shown (put_valued m room value h) w).1)
 
   pub lent_keys : (m : Lodged V) (room : Id) (value : V) → Has m room → keys (put_value m room value) ≡ keys m

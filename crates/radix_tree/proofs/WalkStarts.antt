@@ -34,17 +34,17 @@ beside place next = record { first = place.first; room = next }
 
 module _ {V : Type 0} where
   -- a route beneath a side has its bit
-  pub side_zero : (m : Lodged V) {over : Part m} {room : Id} (f : ForkAt over room) {under : Tree V} (x : Placed V) → under ≡ f.zero → IsIn x under
+  pub side_zero : {m : Lodged V} {over : Part m} {room : Id} (f : ForkAt over room) {under : Tree V} (x : Placed V) → under ≡ f.zero → IsIn x under
       → bit_at f.bit x.entry.key ≡ 0
-  side_zero m f x e at = let is = fork_is f in bit_beneath (f.bit + 1) f.bit 0 f.zero is.1 is.0.zeros x (subst (IsIn x) e at)
+  side_zero f x e at = let is = fork_is f in bit_beneath (f.bit + 1) f.bit 0 f.zero is.1 is.0.zeros x (subst (IsIn x) e at)
 
-  pub side_one : (m : Lodged V) {over : Part m} {room : Id} (f : ForkAt over room) {under : Tree V} (x : Placed V) → under ≡ f.one → IsIn x under
+  pub side_one : {m : Lodged V} {over : Part m} {room : Id} (f : ForkAt over room) {under : Tree V} (x : Placed V) → under ≡ f.one → IsIn x under
       → bit_at f.bit x.entry.key ≡ 1
-  side_one m f x e at = let is = fork_is f in bit_beneath (f.bit + 1) f.bit 1 f.one is.2 is.0.ones x (subst (IsIn x) e at)
+  side_one f x e at = let is = fork_is f in bit_beneath (f.bit + 1) f.bit 1 f.one is.2 is.0.ones x (subst (IsIn x) e at)
 
-  pub under_inside : (m : Lodged V) (right : List (Entry V)) (under over : Part m) (u : Under right under over) (x : Placed V) → IsIn x under.tree
+  pub under_inside : {m : Lodged V} {right : List (Entry V)} {under over : Part m} (u : Under right under over) (x : Placed V) → IsIn x under.tree
       → IsIn x over.tree
-  under_inside m right under over u x at = subst (IsIn x) (sym u.at.is) (elim u.side [
+  under_inside u x at = subst (IsIn x) (sym u.at.is) (elim u.side [
     | inl e ↦ inl (subst (IsIn x) e.0 at)
     | inr e ↦ inr (subst (IsIn x) e.0 at)
   ])
@@ -52,11 +52,11 @@ module _ {V : Type 0} where
   one_shown : (m : Lodged V) {over : Part m} (room : Id) (f : ForkAt over room) → beneath_shown 33 (leaves_in m) (bits_in m) (name_of f.one) ≡ routes_of f.one
   one_shown m room f = beneath_is 33 (f.bit + 1) (leaves_in m) (bits_in m) (Some room) f.one (fork_is f).2 (fork_stands f).2 (omega arith)
 
-  right_is : (m : Lodged V) (right : List (Entry V)) (under over : Part m) (u : Under right under over) (x : Placed V) → IsIn x under.tree
+  right_is : (m : Lodged V) {right : List (Entry V)} {under over : Part m} (u : Under right under over) (x : Placed V) → IsIn x under.tree
       → (if bit_at u.at.bit x.entry.key == 1 then [] else beneath_shown 33 (leaves_in m) (bits_in m) (name_of u.at.one)) ≡ right
-  right_is m right under over u x at = elim u.side [
-    | inl e ↦ at_zero [] _ (side_zero m u.at x e.0 at) ∙ one_shown m u.room u.at ∙ sym e.1
-    | inr e ↦ at_one [] _ (side_one m u.at x e.0 at) ∙ sym e.1
+  right_is m u x at = elim u.side [
+    | inl e ↦ at_zero [] _ (side_zero u.at x e.0 at) ∙ one_shown m u.room u.at ∙ sym e.1
+    | inr e ↦ at_one [] _ (side_one u.at x e.0 at) ∙ sym e.1
   ]
 
   -- the bit node above a part
@@ -81,8 +81,8 @@ module _ {V : Type 0} where
       let past = u.low in
       let rises = (fork_is u.at).0.rises in
       ap (λ a. up_behind (suc (suc n)) (leaves_in m) (bits_in m) x.entry.key a) u.above ∙ up_from m (suc n) x.entry.key u.at
-      ∙ ap (λ es. es ++ up_behind (suc n) (leaves_in m) (bits_in m) x.entry.key over.above) (right_is m before.0 at over u x inside)
-      ∙ ap (λ es. before.0 ++ es) (up_is m n whole over before.1 ups x (under_inside m before.0 at over u x inside) before.3 top
+      ∙ ap (λ es. es ++ up_behind (suc n) (leaves_in m) (bits_in m) x.entry.key over.above) (right_is m u x inside)
+      ∙ ap (λ es. before.0 ++ es) (up_is m n whole over before.1 ups x (under_inside u x inside) before.3 top
       (omega (arith, past, rises, low))) ∙ sym before.4
 
   -- ---- the first route beneath a part
@@ -145,8 +145,8 @@ module _ {V : Type 0} where
       let first : IsFirst m l.leaf.first.entry.key room =
       record { whole = whole; top = top; part = l.part; leaf = l.leaf; own = refl; behind = r.later; ups = r.ups; before = r.before } in
       record {
-        on = record { key = l.leaf.first.entry.key; first = first; run = run; begins = leaf_begins m l.leaf; of_key = refl };
+        on = record { key = l.leaf.first.entry.key; first = first; run = run; begins = leaf_begins l.leaf; of_key = refl };
         rest = ap (λ es. chain_shown 34 (leaves_in m) (Some room) ++ es) (first_behind m first)
-            ∙ ap (λ es. es ++ r.later) (ap (chain_shown 34 (leaves_in m)) (sym (leaf_begins m l.leaf)) ∙ run_shown m run
+            ∙ ap (λ es. es ++ r.later) (ap (chain_shown 34 (leaves_in m)) (sym (leaf_begins l.leaf)) ∙ run_shown m run
             ∙ ap routes_of (sym l.leaf.is)) ∙ r.same;
       }

@@ -158,10 +158,10 @@ module _ {V : Type 0} where
     pub before : IsBefore whole over later ups
     pub is : behind ≡ right ++ later
 
-  overhead_at : (m : Lodged V) (whole at : Part m) {behind : List (Entry V)} (up : Id) (over : Part m) (ups : List (Part m)) (right later : List (Entry V))
-      (u : Under right at over) {room : Id} → room ≡ up → u.room ≡ room
-      → IsBefore whole over later ups → behind ≡ right ++ later → Overhead m whole at behind up
-  overhead_at m whole at up over ups right later u same own before is =
+  overhead_at : {m : Lodged V} (whole : Part m) {at : Part m} {behind : List (Entry V)} (up : Id) (over : Part m) (ups : List (Part m))
+      (right later : List (Entry V)) (u : Under right at over) {room : Id} → room ≡ up → u.room ≡ room → IsBefore whole over later ups
+      → behind ≡ right ++ later → Overhead m whole at behind up
+  overhead_at whole up over ups right later u same own before is =
       let name = own ∙ same in
       record {
         over = over;
@@ -180,7 +180,7 @@ module _ {V : Type 0} where
       → IsBefore whole at behind ups → Overhead m whole at behind up
   overhead_of m whole at behind up [] top above before = absurd (none_some (sym top ∙ ap (λ p. p.above) (sym before.0) ∙ above))
   overhead_of m whole at behind up (over ∷ ups) top above before =
-      overhead_at m whole at up over ups before.0 before.1 before.2 refl (inside (sym before.2.above ∙ above)) before.3 before.4
+      overhead_at whole up over ups before.0 before.1 before.2 refl (inside (sym before.2.above ∙ above)) before.3 before.4
 
   module _ {m : Lodged V} {key : ℕ} {first : Id} {above : Option Id} {steps : ℕ} (c : Upward m key first above steps) where
     pub overhead : (up : Id) → above ≡ Some up → Overhead m c.whole c.part c.behind up
@@ -201,10 +201,10 @@ module _ {V : Type 0} where
     pub named : (p : Part m) × (name_of p.tree ≡ n.one)
     pub turn : bit_at n.bit key ≡ 0 → (room : Id) → ((p : Part m) → name_of p.tree ≡ n.one → LedTo 0 p room) → Begins m room (behind_of m first)
 
-  pub read_over : {m : Lodged V} (key : ℕ) {first : Id} {above : Option Id} (steps later : ℕ) (up : Id) (links : Links) {n : BitNode}
-      → Upward m key first above steps → above ≡ Some up → AreLinks m up links → bit_node_of links ≡ Some n
-      → later ≡ steps + 1 → Read m key first n steps later
-  read_over {m = m} key {above = above} steps later up links {n = n} c some are node soon =
+  pub read_over : {m : Lodged V} (key : ℕ) {first : Id} {above : Option Id} {steps : ℕ} (later : ℕ) (up : Id) (links : Links) {n : BitNode}
+      → Upward m key first above steps → above ≡ Some up → AreLinks m up links → bit_node_of links ≡ Some n → later ≡ steps + 1
+      → Read m key first n steps later
+  read_over {m = m} key {above = above} later up links {n = n} c some are node soon =
       let o = overhead c up some in
       let f = o.at_up in
       let is = fork_is f in
@@ -220,7 +220,7 @@ module _ {V : Type 0} where
         few = omega (arith, few, low);
         up = λ one.
             let nothing : o.right ≡ [] = elim o.side [
-              | inl e ↦ absurd (zero_not_one (side_zero m f c.route e.0 c.inside) (sym key_bit ∙ one))
+              | inl e ↦ absurd (zero_not_one (side_zero f c.route e.0 c.inside) (sym key_bit ∙ one))
               | inr e ↦ e.1
             ] in
             record {
@@ -229,7 +229,7 @@ module _ {V : Type 0} where
               part = o.over;
               above_is = sym same.above;
               route = c.route;
-              inside = under_inside m o.right c.part o.over o.under c.route c.inside;
+              inside = under_inside o.under c.route c.inside;
               own = c.own;
               behind = o.later;
               ups = o.ups;
@@ -242,7 +242,7 @@ module _ {V : Type 0} where
             let sub = one_part f in
             let right : o.right ≡ routes_of f.one = elim o.side [
               | inl e ↦ e.1
-              | inr e ↦ absurd (zero_not_one (sym key_bit ∙ zero_bit_is) (side_one m f c.route e.0 c.inside))
+              | inr e ↦ absurd (zero_not_one (sym key_bit ∙ zero_bit_is) (side_one f c.route e.0 c.inside))
             ] in
             let b = first_on m c.whole sub o.later (o.over ∷ o.ups) c.top (led sub (sym same.one))
             ([], o.later, record { room = up; at = f; above = refl; low = refl; side = inr (refl, refl) }, o.before, refl) in

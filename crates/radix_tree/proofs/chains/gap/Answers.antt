@@ -57,4 +57,4 @@ loop-next-preserved g c =
     }
 
 pub returns-clause-gap : goal.returns-clause-gap
-returns-clause-gap g c r begins = ended c.args.nodes.now.lodged c.args.key c.args.rank r (c.loop-next.invariant.passed r begins) c.in_default.is
+returns-clause-gap g c r begins = ended c.args.key c.args.rank (c.loop-next.invariant.passed r begins) c.in_default.is

@@ -11,8 +11,7 @@ use Rattle.radix_tree.proofs.chains.insert_in_chain.Goals as goal
 in_gap : (g : given.Over) (c : In-Some g) → FindsGap c.args.entry.key c.args.entry.rank (chain_of c.requires.led.1) (Some c.in-Some.leaf)
 in_gap g c =
     let r = c.requires.led in
-    subst (FindsGap c.args.entry.key c.args.entry.rank (chain_of r.1)) c.in-Some.is
-    (c.gap.ensures.gap (chain_of r.1) (leaf_begins c.args.nodes.now.lodged r.1.leaf))
+    subst (FindsGap c.args.entry.key c.args.entry.rank (chain_of r.1)) c.in-Some.is (c.gap.ensures.gap (chain_of r.1) (leaf_begins r.1.leaf))
 
 -- the route in it
 linked : (g : given.Over) (c : After-name_back g) → IsWritten c.args.nodes.now.lodged c.name_back.new.nodes.lodged c.lodge_leaf-id.result c.args.entry
@@ -34,13 +33,13 @@ linked g c = record {
 }
 
 pub gap-requires-clause-chain : goal.gap-requires-clause-chain
-gap-requires-clause-chain g c = let r = c.requires.led in (chain_of r.1, leaf_begins c.args.nodes.now.lodged r.1.leaf)
+gap-requires-clause-chain g c = let r = c.requires.led in (chain_of r.1, leaf_begins r.1.leaf)
 
 pub returns-in_default-clause-there : goal.returns-in_default-clause-there
 returns-in_default-clause-there g c v =
     let r = c.requires.led in
     taken_there c.args.entry.key c.args.entry.rank r.0 v r.1 r.2 (subst (FindsGap c.args.entry.key c.args.entry.rank (chain_of r.1)) c.in_default.is
-    (c.gap.ensures.gap (chain_of r.1) (leaf_begins c.args.nodes.now.lodged r.1.leaf)))
+    (c.gap.ensures.gap (chain_of r.1) (leaf_begins r.1.leaf)))
 
 pub rename-root-requires-clause-tree : goal.rename-root-requires-clause-tree
 rename-root-requires-clause-tree g c up is =

@@ -9,7 +9,7 @@ returns-in-Err-clause-there g c =
     pair_there w c.args.entry.key c.args.entry.rank at.0 at.1 at.2
 
 pub returns-in-Ok-clause-whole : goal.returns-in-Ok-clause-whole
-returns-in-Ok-clause-whole g c = among_left c.in-Ok.root c.args.room c.in-Ok.id.number c.in-Ok.ensures.number
+returns-in-Ok-clause-whole g c = among_left c.args.room c.in-Ok.id.number c.in-Ok.ensures.number
     (c.list_mask.ensures.whole c.in-Ok.root (late_at c.args.room) c.in-Ok.ensures.ok)
 
 pub returns-in-Ok-clause-routes : goal.returns-in-Ok-clause-routes

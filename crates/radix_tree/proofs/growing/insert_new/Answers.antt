@@ -22,7 +22,7 @@ pub list_chain-requires-clause-first : goal.list_chain-requires-clause-first
 list_chain-requires-clause-first g c =
     let i = c.requires.new in
     let b = same_begun c.list_mask.new.nodes.lodged
-    (still_begun c.args.nodes.now.lodged c.insert_beside-root.new.nodes.lodged (led_begun c.args.nodes.now.lodged i.1) c.insert_beside-root.ensures.leaves)
+    (still_begun c.insert_beside-root.new.nodes.lodged (led_begun c.args.nodes.now.lodged i.1) c.insert_beside-root.ensures.leaves)
     c.list_mask.ensures.tree.leaves in (b.part, b.at, b.block, b.previous)
 
 pub returns-clause-whole : goal.returns-clause-whole
@@ -31,7 +31,7 @@ returns-clause-whole g c =
     let m = c.args.nodes.now.lodged in
     let key = i.1.leaf.first.entry.key in
     let b = same_begun c.list_mask.new.nodes.lodged
-    (still_begun m c.insert_beside-root.new.nodes.lodged (led_begun m i.1) c.insert_beside-root.ensures.leaves) c.list_mask.ensures.tree.leaves in
+    (still_begun c.insert_beside-root.new.nodes.lodged (led_begun m i.1) c.insert_beside-root.ensures.leaves) c.list_mask.ensures.tree.leaves in
     new_left c.list_chain.new.nodes.lodged c.list_mask.new.nodes.lodged c.args.room key b.part.leaf.key (has_key m key)
     c.insert_beside-root.ensures.number b.key_is
     (λ n has. still_key m c.insert_beside-root.new.nodes.lodged c.list_mask.new.nodes.lodged key n c.insert_beside-root.ensures.leaves

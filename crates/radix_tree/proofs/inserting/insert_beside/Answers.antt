@@ -14,7 +14,7 @@ pub cut-masks-requires-clause-node : goal.cut-masks-requires-clause-node
 cut-masks-requires-clause-node g c fork is =
     let n = c.requires.new in
     let s = c.spot_above-spot.ensures.spot c.args.entry.key (new_key n.0 n.1 n.2) in
-    bit_node_at c.args.nodes.now.lodged (fork_named s.at (s.named ∙ is))
+    bit_node_at (fork_named s.at (s.named ∙ is))
 
 pub cut-masks-requires-clause-list : goal.cut-masks-requires-clause-list
 cut-masks-requires-clause-list g c fork is =

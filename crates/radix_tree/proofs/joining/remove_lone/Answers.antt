@@ -110,7 +110,7 @@ returns-clause-rooms g c n =
 pub returns-clause-leaf : goal.returns-clause-leaf
 returns-clause-leaf g c =
     let (l, u, j) = done g (goal.at.returns-clause-leaf g c).After-root_after in
-    own_leaf c.args.at c.in-Some.up l j
+    own_leaf c.args.at l j
 
 pub returns-clause-there : goal.returns-clause-there
 returns-clause-there g c =
@@ -125,5 +125,5 @@ returns-clause-free g c =
 pub returns-clause-idle : goal.returns-clause-idle
 returns-clause-idle g c p said n of_key other =
     let (l, u, j) = done g (goal.at.returns-clause-idle g c).After-root_after in
-    idle_joined c.args.nodes.now.lodged c.join.new.nodes.lodged c.requires.whole c.args.at c.in-Some.up l (routes_kept l j) (idle_stays l j)
+    idle_joined c.args.nodes.now.lodged c.join.new.nodes.lodged c.requires.whole c.in-Some.up l (routes_kept l j) (idle_stays l j)
     (freed l j) p said n of_key

@@ -39,7 +39,7 @@ loop-at-smaller g c =
     let w = c.requires.whole in
     let f = c.requires.first in
     let l = c.loop-at.invariant.left w.0 w.1 f.0 w.2 f.1 f.2 f.3 in
-    nearer c.args.nodes.now.lodged c.loop-at.nodes.lodged c.list_late.new.nodes.lodged c.loop-at.at c.in-Some.room c.links.result.now l c.in-Some.is
+    nearer c.args.nodes.now.lodged c.loop-at.nodes.lodged c.list_late.new.nodes.lodged c.in-Some.room c.links.result.now l c.in-Some.is
     c.loop-at.invariant.leaves (λ n. c.list_late.ensures.tree.leaves n ∙ c.loop-at.invariant.leaves n) c.links.ensures.links c.leaf-at.ensures
 
 pub loop-at-preserved : goal.loop-at-preserved

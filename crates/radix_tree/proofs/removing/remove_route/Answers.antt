@@ -26,10 +26,9 @@ returns-clause-whole g c =
 pub returns-clause-routes : goal.returns-clause-routes
 returns-clause-routes g c p said =
     let e = ap (λ r. r.lodged) c.evict-room.ensures.evicted in
-    gains_stays _ _ _ _ _ (c.take_out-rest.ensures.routes p (c.unlist_mask.ensures.tree.leaves c.args.at.number ∙ said))
+    gains_stays _ _ (c.take_out-rest.ensures.routes p (c.unlist_mask.ensures.tree.leaves c.args.at.number ∙ said))
     (ap (λ m. shown m c.take_out-rest.result) e ∙ out_shown c.take_out-rest.new.nodes.lodged c.take_out-rest.result c.args.at.number
-    c.take_out-rest.ensures.out)
-    (sym (shown_stays c.args.nodes.now.lodged c.unlist_mask.new.nodes.lodged c.requires.whole c.unlist_mask.ensures.tree.leaves
+    c.take_out-rest.ensures.out) (sym (shown_stays c.args.nodes.now.lodged c.unlist_mask.new.nodes.lodged c.requires.whole c.unlist_mask.ensures.tree.leaves
     c.unlist_mask.ensures.tree.bits))
 
 pub returns-clause-value : goal.returns-clause-value

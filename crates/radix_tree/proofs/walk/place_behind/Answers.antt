@@ -28,7 +28,7 @@ node : (g : _) (c : In-Some-bit_node g) → Read c.args.nodes.now.lodged c.args.
 node g c =
     let count = ap (λ v. v.count) c.links-in-Some.ensures.visit in
     let rises = c.loop-above.invariant.rises in
-    read_over c.args.key _ _ c.in-Some.up c.links-in-Some.result.now c.loop-above.invariant.climb c.in-Some.is c.links-in-Some.ensures.links
+    read_over c.args.key _ c.in-Some.up c.links-in-Some.result.now c.loop-above.invariant.climb c.in-Some.is c.links-in-Some.ensures.links
     (sym c.bit_node.ensures ∙ c.in-Some-bit_node.is) (omega (arith, count, rises))
 
 pub is_one-requires : goal.is_one-requires

@@ -54,7 +54,7 @@ invariant_of-self-lent g c = λ v.
       turn = c.begin-visits.new.self.turn;
     }) o c.self.inside.counts) (sym c.in-Some.is) (record {
       holds = valued_whole (put_valued m c.in-Some-room_of.room v has) w;
-      counted = lent_counted m c.in-Some.root w c.args.key c.args.rank c.room_of.result c.in-Some-room_of.room c.self.inside.counts c.in-Some-room_of.is
+      counted = lent_counted m w c.args.key c.args.rank c.room_of.result c.in-Some-room_of.room c.self.inside.counts c.in-Some-room_of.is
           (c.room_of.ensures.found w.part w.named) has v counted;
     })
 
