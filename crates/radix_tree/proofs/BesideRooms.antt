@@ -168,43 +168,43 @@ module _ {V : Type 0} where
     pub unmarked : masks_in m x.room.number ≡ None
 
   module _ {m mid new : Lodged V} {low bit : ℕ} {t : Tree V} (x : Placed V) {above : Option Id} {below : Node} (c : Came m mid new low bit t x above below)
-      where
-    pub no_leaf : leaves_in m x.room.number ≡ None
-    no_leaf = sym (c.cut.leaves x.room.number) ∙ c.beside.no_leaf
+    where
+      pub no_leaf : leaves_in m x.room.number ≡ None
+      no_leaf = sym (c.cut.leaves x.room.number) ∙ c.beside.no_leaf
 
-    pub no_bit : bits_in m x.room.number ≡ None
-    no_bit = sym (c.cut.bits x.room.number) ∙ c.beside.no_bit
+      pub no_bit : bits_in m x.room.number ≡ None
+      no_bit = sym (c.cut.bits x.room.number) ∙ c.beside.no_bit
 
-    pub other_leaf : (n : ℕ) → (n ≡ x.room.number → ⊥) → is_some (leaves_in new n) ≡ is_some (leaves_in m n)
-    other_leaf n other = ap is_some (c.beside.leaves n other) ∙ lift_leaf_some below (Some x.room) n (leaves_in mid n) ∙ ap is_some (c.cut.leaves n)
+      pub other_leaf : (n : ℕ) → (n ≡ x.room.number → ⊥) → is_some (leaves_in new n) ≡ is_some (leaves_in m n)
+      other_leaf n other = ap is_some (c.beside.leaves n other) ∙ lift_leaf_some below (Some x.room) n (leaves_in mid n) ∙ ap is_some (c.cut.leaves n)
 
-    pub other_bit : (n : ℕ) → (n ≡ x.room.number → ⊥) → is_some (bits_in new n) ≡ is_some (bits_in m n)
-    other_bit n other = ap is_some (c.beside.bits n other) ∙ lift_used below (Some x.room) n
-        (name_child above x.entry.key (BitOf x.room) n (bits_in mid n)) ∙ turn_some above x.entry.key (BitOf x.room) n (bits_in mid n)
-        ∙ ap is_some (c.cut.bits n)
+      pub other_bit : (n : ℕ) → (n ≡ x.room.number → ⊥) → is_some (bits_in new n) ≡ is_some (bits_in m n)
+      other_bit n other = ap is_some (c.beside.bits n other) ∙ lift_used below (Some x.room) n
+          (name_child above x.entry.key (BitOf x.room) n (bits_in mid n)) ∙ turn_some above x.entry.key (BitOf x.room) n (bits_in mid n)
+          ∙ ap is_some (c.cut.bits n)
 
-    pub same_marks : (n : ℕ) → is_some (masks_in new n) ≡ is_some (masks_in m n)
-    same_marks n = ap is_some (c.masks n) ∙ c.cut.marks n
+      pub same_marks : (n : ℕ) → is_some (masks_in new n) ≡ is_some (masks_in m n)
+      same_marks n = ap is_some (c.masks n) ∙ c.cut.marks n
 
-    pub new_unmarked : IsMarked (masks_in new) x → ⊥
-    new_unmarked marked = true≢false (sym marked ∙ same_marks x.room.number ∙ ap is_some c.unmarked)
+      pub new_unmarked : IsMarked (masks_in new) x → ⊥
+      new_unmarked marked = true≢false (sym marked ∙ same_marks x.room.number ∙ ap is_some c.unmarked)
 
-    pub room_more : HasRoomMore m new x.room.number
-    room_more n = elim (cases_eq n x.room.number) [
-      | inl same ↦ ap (λ k. is_some (leaves_in new k)) same ∙ ap is_some c.beside.leaf
-          ∙ sym (ap (λ b. b || is_some (leaves_in m n)) (eq-eqb n x.room.number same))
-      | inr other ↦ other_leaf n other ∙ sym (ap (λ b. b || is_some (leaves_in m n)) (ne_eqb n x.room.number other))
-    ]
+      pub room_more : HasRoomMore m new x.room.number
+      room_more n = elim (cases_eq n x.room.number) [
+        | inl same ↦ ap (λ k. is_some (leaves_in new k)) same ∙ ap is_some c.beside.leaf
+            ∙ sym (ap (λ b. b || is_some (leaves_in m n)) (eq-eqb n x.room.number same))
+        | inr other ↦ other_leaf n other ∙ sym (ap (λ b. b || is_some (leaves_in m n)) (ne_eqb n x.room.number other))
+      ]
 
-    pub leaf_kept : (n : ℕ) (p : LeafPart V) → leaves_in m n ≡ Some p
-        → (a : Option Id) × (leaves_in new n ≡ Some (record p { leaf = record p.leaf { above = a } }))
-    leaf_kept n p is =
-        let other : n ≡ x.room.number → ⊥ = λ same. some_none (sym is ∙ ap (leaves_in m) same ∙ no_leaf) in
-        let l = lifts below (Some x.room) n p in
-        (l.0, c.beside.leaves n other ∙ ap (lift_leaf below (Some x.room) n) (c.cut.leaves n ∙ is) ∙ l.1)
-      where
-        some_none : {A : Type 0} {a : A} → Some a ≡ None → ⊥
-        some_none e = cc
+      pub leaf_kept : (n : ℕ) (p : LeafPart V) → leaves_in m n ≡ Some p
+          → (a : Option Id) × (leaves_in new n ≡ Some (record p { leaf = record p.leaf { above = a } }))
+      leaf_kept n p is =
+          let other : n ≡ x.room.number → ⊥ = λ same. some_none (sym is ∙ ap (leaves_in m) same ∙ no_leaf) in
+          let l = lifts below (Some x.room) n p in
+          (l.0, c.beside.leaves n other ∙ ap (lift_leaf below (Some x.room) n) (c.cut.leaves n ∙ is) ∙ l.1)
+        where
+          some_none : {A : Type 0} {a : A} → Some a ≡ None → ⊥
+          some_none e = cc
 
-    pub new_there : Has new x.room
-    new_there = Has-leaf new x.room c.beside.leaf refl
+      pub new_there : Has new x.room
+      new_there = Has-leaf new x.room c.beside.leaf refl

@@ -172,7 +172,7 @@ module _ {V : Type 0} where
       unmarked = record {
         first = first;
         cut = cut_at w mid x.entry.key bit s.at s.ups below first s.at.tree refl s.way s.once s.place.rises s.place.is s.named kept others same heads masks
-        marks leaves bits;
+            marks leaves bits;
         beside = beside;
         heads = new_heads;
         masks = new_masks;

@@ -116,7 +116,7 @@ module _ {V : Type 0} where
           has = λ x member least most. among_below (bit + 1) l.masks x (l.has x (member.0, sym (marks x.room.number) ∙ member.1) least (omega arith))
               (omega arith);
           within = λ x among. let was = l.within x (below_among p.low (f.bit + 1) (bit + 1) l.masks l.falls x among).0 in
-          (was.0, marks x.room.number ∙ was.1);
+              (was.0, marks x.room.number ∙ was.1);
         };
         lists = subst (MarkedLists (heads_in new) (masks_in new) (bit + 1)) (sym f.is) (
           record {
@@ -127,7 +127,7 @@ module _ {V : Type 0} where
             has = λ x member least most. among_not_below p.low (f.bit + 1) (bit + 1) l.masks l.falls x
                 (l.has x (subst (IsIn x) (sym f.is) member.0, sym (marks x.room.number) ∙ member.1) (omega arith) most) least;
             within = λ x among. let was = l.within x (not_below_among (bit + 1) l.masks x among).0 in
-            (subst (IsIn x) f.is was.0, marks x.room.number ∙ was.1);
+                (subst (IsIn x) f.is was.0, marks x.room.number ∙ was.1);
           },
           lists_stay (heads_in m) (heads_in new) (masks_in m) (masks_in new) (f.bit + 1) f.zero tree.1
               (λ n some. heads n (elsewhere room n (forks_at n f.zero) some (let sum = all_forks n in let most = once.forks n in omega arith)))

@@ -52,9 +52,9 @@ module _ {V : Type 0} where
           within = λ y among. let w = old.within y among in (w.0, marks y w.0 ∙ w.1);
         },
         lists_past H G K J (b + 1) zero (λ n some. heads n (omega arith)) (λ y at past. masks y (inl at) (omega arith)) (λ y at. marks y (inl at)) is.1
-        lists.1,
+            lists.1,
         lists_past H G K J (b + 1) one (λ n some. heads n (omega arith)) (λ y at past. masks y (inr at) (omega arith)) (λ y at. marks y (inr at)) is.2
-        lists.2,
+            lists.2,
       )
 
   -- ---- to a bit node

@@ -19,7 +19,7 @@ module _ {V : Type 0} where
         → IsMasks new (heads_in new node.number) (sorted_in f.is ms)
     pub heads : (n : ℕ) → (n ≡ node.number → ⊥) → heads_in new n ≡ heads_in m n
     pub masks : (ms : List (Placed V)) → IsMasks m (heads_in m node.number) ms → (n : ℕ) → (n ≡ room.number → ⊥) → IsAside n ms → masks_in new n ≡ masks_in
-      m n
+        m n
     pub marked : is_some (masks_in new room.number) ≡ true
     pub marks : (n : ℕ) → (n ≡ room.number → ⊥) → is_some (masks_in new n) ≡ is_some (masks_in m n)
 
@@ -143,7 +143,7 @@ module _ {V : Type 0} where
         → IsMasks new (heads_in new node.number) (taken_out x.entry.rank ms)
     pub heads : (n : ℕ) → (n ≡ node.number → ⊥) → heads_in new n ≡ heads_in m n
     pub masks : (ms : List (Placed V)) → IsMasks m (heads_in m node.number) ms → (n : ℕ) → (n ≡ room.number → ⊥) → IsAside n ms → masks_in new n ≡ masks_in
-      m n
+        m n
     pub unmarked : masks_in new room.number ≡ None
     pub marks : (n : ℕ) → (n ≡ room.number → ⊥) → is_some (masks_in new n) ≡ is_some (masks_in m n)
 

@@ -77,7 +77,7 @@ module _ {V : Type 0} where
           forks = λ k. w.forks k ∙ ap (λ o. one_if (is_some o)) (sym (bits k));
           spare = tree_stays (bits_in m) (bits_in (remove m n)) w.part.tree (λ k some idle. bits k ∙ idle) w.spare;
           lists = lists_kept (heads_in m) (heads_in (remove m n)) (masks_in m) (masks_in (remove m n)) w.part.low w.part.tree masks (λ k some. heads k)
-          w.lists;
+              w.lists;
           listed = λ k p is. w.listed k p (sym (masks k) ∙ is);
           all = λ x is home. elim (w.all x is home) [
             | inl marked ↦ inl (marked_stays (masks_in m) (masks_in (remove m n)) x masks marked)

@@ -44,7 +44,7 @@ module _ {V : Type 0} {m : Lodged V} where
         told.0,
         told.1,
         way_best m address whole o.part o.ups o.way told.0
-        (listed_hit (side_of b) o.part.low told.0 (subst (λ n. Best address n 34 (In under) None) b.low s.none) told.2),
+            (listed_hit (side_of b) o.part.low told.0 (subst (λ n. Best address n 34 (In under) None) b.low s.none) told.2),
       )
 
   -- or none

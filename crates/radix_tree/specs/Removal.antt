@@ -1,13 +1,14 @@
 -- A route goes out of a tree, and a bit node in use moves from its room to another.
 use Rattle.std.specs.Prelude.{◌≡◌, ℕ, ◌==◌, if◌then◌else◌, true, Option, None, Some}
 use denote.RawPtr.{Ptr}
+use Rattle.radix_nodes.specs.Rooms.{Has}
 use Rattle.radix_nodes.specs.declared.id.Id.{Id}
 use Rattle.radix_nodes.specs.declared.links.Node.{Node}
 use Rattle.radix_nodes.specs.declared.links.Node.TheVariants.{Leaf as LeafOf, Bit as BitOf}
-use Rattle.radix_tree.specs.Rooms.{LeafPart, BitPart, leaves_in, bits_in, Lodged}
-use Rattle.radix_tree.specs.Whole.{shown, shown_entry, IsWholeBut, nobody_late}
+use Rattle.radix_tree.specs.Rooms.{LeafPart, BitPart, leaves_in, bits_in, masks_in, Lodged}
+use Rattle.radix_tree.specs.Whole.{shown, shown_entry, IsWholeBut, nobody_late, nobody_out}
 use Rattle.radix_tree.specs.Growth.{Gains}
-use Rattle.radix_tree.specs.Marks.{has_key, out_at}
+use Rattle.radix_tree.specs.Marks.{has_key, late_at, out_at}
 use Rattle.radix_tree.specs.declared.entry.Entry.{Entry}
 
 -- a name, once the bit node of one room is in another room
@@ -48,6 +49,19 @@ module _ {V : Type 0} where
   -- each room has the route that it had
   abbrev pub KeepsRoutes : Lodged V → Lodged V → Type 0
   KeepsRoutes old new = (n : ℕ) → content_of (leaves_in new n) ≡ content_of (leaves_in old n)
+
+  -- a route of the tree, by its room, whose mask is not listed
+  pub record IsUnlisted (m : Lodged V) (root : Node) (at : Id) : Type 0 where
+    pub whole : IsWholeBut m root (late_at at.number) nobody_out
+    pub unmarked : masks_in m at.number ≡ None
+    pub there : Has m at
+
+  -- it is out of the tree, and its room still in the map
+  pub record TakesOut (old new : Lodged V) (at : Id) (root to : Node) : Type 0 where
+    pub whole : IsWholeBut new to nobody_late (out_at at.number)
+    pub routes : LosesRoute old new at root (Some to)
+    pub rooms : KeepsRoutes old new
+    pub own : leaves_in new at.number ≡ leaves_in old at.number
 
   -- a bit node in use in the one room can move to the other: no room of that one's key has one, but for the first
   pub record CanTake (m : Lodged V) (from to : Id) : Type 0 where

@@ -5,13 +5,13 @@ ghost use Rattle.radix_nodes.specs.declared.links.Node.TheVariants.{Leaf as Leaf
 ghost use Rattle.radix_tree.specs.Chains.{name_next as next_named, name_back as back_named};
 ghost use Rattle.radix_tree.specs.Chains.{link_out as linked_out, root_past, FindsGap};
 ghost use Rattle.radix_tree.specs.Growth.{Gains, name_child as child_named, IsSpare, HasKeyAt};
-ghost use Rattle.radix_tree.specs.Marks.{HasRoomMore, has_key, late_at, out_at};
-ghost use Rattle.radix_tree.specs.Removal.{KeepsRoutes, LosesRoute};
+ghost use Rattle.radix_tree.specs.Marks.{HasRoomMore, has_key, late_at};
+ghost use Rattle.radix_tree.specs.Removal.{IsUnlisted, TakesOut};
 ghost use Rattle.radix_tree.specs.Rooms.{LeafPart, BitPart, Part, Run, leaves_in, bits_in, masks_in, first_room};
 ghost use Rattle.radix_tree.specs.Searches.{ForkAt, HasPair};
 ghost use Rattle.radix_tree.specs.Table.{IsRoute};
 ghost use Rattle.radix_tree.specs.Tree.{Placed, IsIn};
-ghost use Rattle.radix_tree.specs.Whole.{IsWhole, shown, IsWholeBut, nobody_late, nobody_out};
+ghost use Rattle.radix_tree.specs.Whole.{IsWhole, shown, IsWholeBut, nobody_out};
 ghost use Rattle.radix_tree.specs.Writes.{KeepsMasks, OnlyLeaves, OnlyBits};
 ghost use Rattle.radix_tree.specs.Reads.{Stays};
 
@@ -194,16 +194,11 @@ pub(crate) fn remove_from_chain<V>(
     at: Id,
     visits: &mut Visits,
 ) -> Node
-    requires whole { IsWholeBut nodes.old.lodged root (late_at at.number) nobody_out }
-    requires unmarked { masks_in nodes.old.lodged at.number ≡ None }
-    requires there { Has nodes.old.lodged at }
+    requires route { IsUnlisted nodes.old.lodged root at }
     requires chain { (p : LeafPart V) → leaves_in nodes.old.lodged at.number ≡ Some p → p.leaf.previous ≡ None
         → (behind : Id) × (p.leaf.next ≡ Some behind) }
     requires turn { visits.old.turn ≡ nodes.old.turn }
-    ensures whole { IsWholeBut nodes.new.lodged result nobody_late (out_at at.number) }
-    ensures routes { LosesRoute nodes.old.lodged nodes.new.lodged at root (Some result) }
-    ensures rooms { KeepsRoutes nodes.old.lodged nodes.new.lodged }
-    ensures own { leaves_in nodes.new.lodged at.number ≡ leaves_in nodes.old.lodged at.number }
+    ensures out { TakesOut nodes.old.lodged nodes.new.lodged at root result }
     ensures bits { (n : ℕ) → is_some (bits_in nodes.new.lodged n) ≡ is_some (bits_in nodes.old.lodged n) }
     ensures masks { KeepsMasks nodes.old.lodged nodes.new.lodged }
     ensures idle { (p : LeafPart V) (b : BitPart) → leaves_in nodes.old.lodged at.number ≡ Some p

@@ -2,13 +2,12 @@
 ghost use Rattle.std.specs.Prelude.{◌≡◌, ℕ, ◌≤◌, true, Some, None};
 ghost use Rattle.radix_nodes.specs.Rooms.{Has};
 ghost use Rattle.radix_tree.specs.Rooms.{MarkedLists};
-ghost use Rattle.radix_tree.specs.Whole.{IsWholeBut, nobody_late, nobody_out};
 ghost use Rattle.radix_tree.specs.Bounds.{last_bit};
 ghost use Rattle.radix_tree.specs.Growth.{name_child as child_named};
 ghost use Rattle.radix_tree.specs.Joining.{other_side, IsApart, IsLone, IsHanded, IsLonely};
-ghost use Rattle.radix_tree.specs.Marks.{has_key, late_at, out_at};
+ghost use Rattle.radix_tree.specs.Marks.{has_key};
 ghost use Rattle.radix_tree.specs.Rooms.{LeafPart, Part, leaves_in, bits_in, heads_in, masks_in, name_of};
-ghost use Rattle.radix_tree.specs.Removal.{KeepsRoutes, LosesRoute};
+ghost use Rattle.radix_tree.specs.Removal.{IsUnlisted, TakesOut};
 ghost use Rattle.radix_tree.specs.Searches.{ForkAt};
 ghost use Rattle.radix_tree.specs.Writes.{put_bit as bit_put, put_head as head_put, lift_leaf as leaf_lifted, lift_bit as bit_lifted, KeepsMasks, KeepsTree};
 ghost use Rattle.radix_tree.specs.Reads.{Stays};
@@ -88,15 +87,10 @@ pub(crate) fn remove_lone<V>(
     at: Id,
     visits: &mut Visits,
 ) -> (Node, Id)
-    requires whole { IsWholeBut nodes.old.lodged root (late_at at.number) nobody_out }
-    requires there { Has nodes.old.lodged at }
-    requires unmarked { masks_in nodes.old.lodged at.number ≡ None }
+    requires route { IsUnlisted nodes.old.lodged root at }
     requires lone { IsLonely nodes.old.lodged at }
     requires turn { visits.old.turn ≡ nodes.old.turn }
-    ensures whole { IsWholeBut nodes.new.lodged result.0 nobody_late (out_at at.number) }
-    ensures routes { LosesRoute nodes.old.lodged nodes.new.lodged at root (Some result.0) }
-    ensures rooms { KeepsRoutes nodes.old.lodged nodes.new.lodged }
-    ensures leaf { leaves_in nodes.new.lodged at.number ≡ leaves_in nodes.old.lodged at.number }
+    ensures out { TakesOut nodes.old.lodged nodes.new.lodged at root result.0 }
     ensures there { Has nodes.new.lodged result.1 }
     ensures free { bits_in nodes.new.lodged result.1.number ≡ None }
     ensures idle { (p : LeafPart V) → leaves_in nodes.new.lodged result.1.number ≡ Some p → (n : ℕ)

@@ -2,10 +2,10 @@
 ghost use Rattle.std.specs.Prelude.{◌≡◌, None, Some};
 ghost use Rattle.std.specs.FinMap.{get};
 ghost use Rattle.radix_nodes.specs.Rooms.{Has};
-ghost use Rattle.radix_tree.specs.Marks.{HasRoomMore, late_at};
-ghost use Rattle.radix_tree.specs.Removal.{KeepsRoutes, IsOut, member_beside, LosesRoute};
-ghost use Rattle.radix_tree.specs.Rooms.{LeafPart, leaves_in, masks_in};
-ghost use Rattle.radix_tree.specs.Whole.{IsWhole, Holds, IsWholeBut, nobody_out};
+ghost use Rattle.radix_tree.specs.Marks.{HasRoomMore};
+ghost use Rattle.radix_tree.specs.Removal.{KeepsRoutes, IsOut, member_beside, LosesRoute, IsUnlisted};
+ghost use Rattle.radix_tree.specs.Rooms.{LeafPart, leaves_in};
+ghost use Rattle.radix_tree.specs.Whole.{IsWhole, Holds};
 ghost use Rattle.radix_tree.specs.Reads.{Stays};
 
 use crate::chains::remove_from_chain;
@@ -28,9 +28,7 @@ fn other_member(leaf: Leaf) -> Option<Id>
 /// only route. The room stays in the map. Its bit node, where that is in use, moves to another member of the chain, or
 /// where there is none to the room of the bit node that went with the route.
 fn take_out<V>(nodes: &mut Nodes<V>, root: Node, at: Id, visits: &mut Visits) -> Option<Node>
-    requires whole { IsWholeBut nodes.old.lodged root (late_at at.number) nobody_out }
-    requires unmarked { masks_in nodes.old.lodged at.number ≡ None }
-    requires there { Has nodes.old.lodged at }
+    requires route { IsUnlisted nodes.old.lodged root at }
     requires turn { visits.old.turn ≡ nodes.old.turn }
     ensures out { IsOut nodes.new.lodged result at.number }
     ensures routes { LosesRoute nodes.old.lodged nodes.new.lodged at root result }

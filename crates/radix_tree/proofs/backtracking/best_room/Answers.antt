@@ -36,7 +36,7 @@ pub best_listed-requires-clause-node : goal.best_listed-requires-clause-node
 best_listed-requires-clause-node g c =
     let w = c.requires.whole in
     let o = over w.top (c.loop-at.invariant.climb w) c.in-Some-at.is in
-        (o.part, fork_over o, way_lists (λ x. Unit {0}) c.args.address w.part o.part o.ups o.way (whole_listed w))
+    (o.part, fork_over o, way_lists (λ x. Unit {0}) c.args.address w.part o.part o.ups o.way (whole_listed w))
 
 pub returns-in-Some-best_listed-clause-best : goal.returns-in-Some-best_listed-clause-best
 returns-in-Some-best_listed-clause-best g c w =

@@ -25,13 +25,13 @@ links-requires-in-Some-clause-there g c =
 pub returns-then-eq-clause-gap : goal.returns-then-eq-clause-gap
 returns-then-eq-clause-gap g c r begins =
     taken (c.loop-next.invariant.passed r begins) c.args.key c.in-Some.at c.links-in-Some.result.now c.in-Some.is c.links-in-Some.ensures.links
-      c.leaf-member.ensures (eqb-true c.leaf-member.result.rank c.args.rank (sym c.eq.ensures ∙ c.if-eq.true))
+    c.leaf-member.ensures (eqb-true c.leaf-member.result.rank c.args.rank (sym c.eq.ensures ∙ c.if-eq.true))
 
 pub returns-then-lt-clause-gap : goal.returns-then-lt-clause-gap
 returns-then-lt-clause-gap g c r begins = subst (λ o. FindsGap c.args.key c.args.rank r (Some (record
     { key = c.args.key; rank = c.args.rank; above = c.loop-next.above; next = o; previous = c.loop-next.previous }))) c.in-Some.is
     (found (c.loop-next.invariant.passed r begins) c.args.key c.in-Some.at c.links-in-Some.result.now c.in-Some.is c.links-in-Some.ensures.links
-      c.leaf-member.ensures (less_of c.leaf-member.result.rank c.args.rank (sym c.lt.ensures ∙ c.if-lt.true)))
+    c.leaf-member.ensures (less_of c.leaf-member.result.rank c.args.rank (sym c.lt.ensures ∙ c.if-lt.true)))
 
 pub loop-next-smaller : goal.loop-next-smaller
 loop-next-smaller g c =

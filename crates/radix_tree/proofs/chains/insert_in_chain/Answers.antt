@@ -53,17 +53,17 @@ pub name_next-requires-clause-there : goal.name_next-requires-clause-there
 name_next-requires-clause-there g c at is =
     let r = c.requires.led in
     Has-kept (Has-lodged (gap_before r.1 (in_gap g (goal.at.name_next-requires-clause-there g c).In-Some) at is) c.lodge_leaf-id.new.nodes.lodged
-      c.lodge_leaf-id.result c.args.entry.value c.in-Some.leaf
-      (ap (λ k. leaf_in (get c.args.nodes.now.lodged k)) c.lodge_leaf-id.ensures.number ∙ ap leaf_in c.requires.spare.free) c.lodge_leaf-id.ensures.leaves)
-      c.rename-root.new.nodes.lodged c.rename-root.ensures.only.leaves
+    c.lodge_leaf-id.result c.args.entry.value c.in-Some.leaf
+    (ap (λ k. leaf_in (get c.args.nodes.now.lodged k)) c.lodge_leaf-id.ensures.number ∙ ap leaf_in c.requires.spare.free) c.lodge_leaf-id.ensures.leaves)
+    c.rename-root.new.nodes.lodged c.rename-root.ensures.only.leaves
 
 pub name_back-requires-clause-there : goal.name_back-requires-clause-there
 name_back-requires-clause-there g c at is =
     let r = c.requires.led in
     Has-next (Has-kept (Has-lodged (gap_behind r.1 (in_gap g (goal.at.name_back-requires-clause-there g c).In-Some) at is) c.lodge_leaf-id.new.nodes.lodged
-      c.lodge_leaf-id.result c.args.entry.value c.in-Some.leaf
-      (ap (λ k. leaf_in (get c.args.nodes.now.lodged k)) c.lodge_leaf-id.ensures.number ∙ ap leaf_in c.requires.spare.free) c.lodge_leaf-id.ensures.leaves)
-      c.rename-root.new.nodes.lodged c.rename-root.ensures.only.leaves) c.name_next.new.nodes.lodged c.in-Some.leaf.previous _ c.name_next.ensures.leaves
+    c.lodge_leaf-id.result c.args.entry.value c.in-Some.leaf
+    (ap (λ k. leaf_in (get c.args.nodes.now.lodged k)) c.lodge_leaf-id.ensures.number ∙ ap leaf_in c.requires.spare.free) c.lodge_leaf-id.ensures.leaves)
+    c.rename-root.new.nodes.lodged c.rename-root.ensures.only.leaves) c.name_next.new.nodes.lodged c.in-Some.leaf.previous _ c.name_next.ensures.leaves
 
 pub returns-clause-ok : goal.returns-clause-ok
 returns-clause-ok g c =
@@ -72,7 +72,7 @@ returns-clause-ok g c =
     (subst (λ k. IsWholeBut c.name_back.new.nodes.lodged (root_past c.in-Some.leaf.previous c.in-Some.leaf.above (LeafOf c.lodge_leaf-id.result)
     c.args.root) (late_at k) nobody_out) c.lodge_leaf-id.ensures.number
     (inserted_whole c.args.entry r.0 r.1 (in_gap g (goal.at.returns-clause-ok g c).In-Some) c.name_back.new.nodes.lodged c.lodge_leaf-id.result r.2
-      c.requires.route (linked g (goal.at.returns-clause-ok g c).After-name_back)))
+    c.requires.route (linked g (goal.at.returns-clause-ok g c).After-name_back)))
 
 pub returns-clause-routes : goal.returns-clause-routes
 returns-clause-routes g c =
@@ -80,7 +80,7 @@ returns-clause-routes g c =
     subst (λ z. Gains c.args.entry (shown c.args.nodes.now.lodged (Some c.args.root)) (shown c.name_back.new.nodes.lodged (Some z)))
     (sym c.rename-root.ensures.root)
     (inserted_routes c.args.entry r.0 r.1 (in_gap g (goal.at.returns-clause-routes g c).In-Some) c.name_back.new.nodes.lodged c.lodge_leaf-id.result r.2
-      c.requires.route (linked g (goal.at.returns-clause-routes g c).After-name_back))
+    c.requires.route (linked g (goal.at.returns-clause-routes g c).After-name_back))
 
 pub returns-clause-rooms : goal.returns-clause-rooms
 returns-clause-rooms g c n = linked_rooms c.args.nodes.now.lodged c.name_back.new.nodes.lodged c.lodge_leaf-id.result c.args.entry.value c.in-Some.leaf

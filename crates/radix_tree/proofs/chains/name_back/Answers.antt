@@ -11,4 +11,4 @@ put_leaf-requires-clause-there g c = c.requires.there c.in-Some.room c.in-Some.i
 pub returns-clause-leaves : goal.returns-clause-leaves
 returns-clause-leaves g c n = c.put_leaf.ensures.leaves n
     ∙ back_put (c.requires.there c.in-Some.room c.in-Some.is) c.links.result.now c.args.above c.args.previous n c.links.ensures.links c.leaf-leaf.ensures ∙
-      ap (λ o. name_back o c.args.above c.args.previous n (leaves_in c.args.nodes.now.lodged n)) (sym c.in-Some.is)
+    ap (λ o. name_back o c.args.above c.args.previous n (leaves_in c.args.nodes.now.lodged n)) (sym c.in-Some.is)

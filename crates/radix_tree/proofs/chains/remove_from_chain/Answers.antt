@@ -1,124 +1,114 @@
 use Rattle.radix_tree.proofs.{ChainWrites.own_part, ChainWrites.own_said, ChainWrites.Has-kept, chains.remove_from_chain.Goals.After-link_out}
-use Rattle.radix_tree.proofs.{chains.remove_from_chain.Goals.After-link_out-2}
+use Rattle.radix_tree.proofs.{chains.remove_from_chain.Goals.After-link_out-2, RoomReads.AreLinks}
 use Rattle.radix_tree.proofs.Words.{◌≡◌, ◌∙◌, Some, sym, ap, Id, LeafOf, leaves_in, Lodged, Node, Part, LeafPart, bits_in, name_child, link_out}
-use Rattle.radix_tree.proofs.Words.{root_past}
+use Rattle.radix_tree.proofs.Words.{root_past, Links, Leaf, leaf_of}
 use Rattle.radix_tree.proofs.ChainNeighbours.{IsMember, IsUnlinked, IsLeft, member_of, leaf_is, unlinked, before_there, behind_there, fork_above}
 use Rattle.radix_tree.proofs.ChainNeighbours.{left_kept, left_renamed}
 use Rattle.radix_tree.proofs.ChainRemovals.{removed_whole, removed_routes, unlinked_routes, own_kept, left_bits, idle_others, neighbour}
+use Rattle.radix_tree.specs.Removal.{IsUnlisted, TakesOut}
 use Rattle.radix_tree.proofs.chains.remove_from_chain.Given as given
 use Rattle.radix_tree.proofs.chains.remove_from_chain.Goals as goal
 
+-- the route in its chain, and what is read of its leaf
+at_route : {V : Type 0} {m : Lodged V} {root : Node} {at : Id} (r : IsUnlisted m root at) (links : Links) {l : Leaf} → AreLinks m at links → l ≡ leaf_of links
+    → IsMember m r.whole.part at.number (own_part r.there) × (l ≡ (own_part r.there).leaf)
+at_route {at = at} r links are leaf = (member_of r.whole at.number (own_said r.there), leaf_is links r.there (own_said r.there) are leaf)
+
 pub link_out-requires-clause-before : goal.link_out-requires-clause-before
-link_out-requires-clause-before g c r is = before_there _ (member_of c.requires.whole c.args.at.number (own_said c.requires.there)) r
-      (sym (ap (λ z. z.previous) (leaf_is c.links.result.now c.requires.there (own_said c.requires.there) c.links.ensures.links c.leaf-leaf.ensures))
-    ∙ is)
+link_out-requires-clause-before g c r is =
+    let (b, e) = at_route c.requires.route c.links.result.now c.links.ensures.links c.leaf-leaf.ensures in
+    before_there _ b r (sym (ap (λ z. z.previous) e) ∙ is)
 
 pub link_out-requires-clause-behind : goal.link_out-requires-clause-behind
-link_out-requires-clause-behind g c r is = behind_there _ (member_of c.requires.whole c.args.at.number (own_said c.requires.there)) r
-      (sym (ap (λ z. z.next) (leaf_is c.links.result.now c.requires.there (own_said c.requires.there) c.links.ensures.links c.leaf-leaf.ensures)) ∙ is)
+link_out-requires-clause-behind g c r is =
+    let (b, e) = at_route c.requires.route c.links.result.now c.links.ensures.links c.leaf-leaf.ensures in
+    behind_there _ b r (sym (ap (λ z. z.next) e) ∙ is)
 
 pub rename-root-requires-clause-tree : goal.rename-root-requires-clause-tree
-rename-root-requires-clause-tree g c up is = fork_above _ (member_of c.requires.whole c.args.at.number (own_said c.requires.there)) up c.requires.whole.top
-      (sym (ap (λ z. z.above) (leaf_is c.links.result.now c.requires.there (own_said c.requires.there) c.links.ensures.links c.leaf-leaf.ensures)) ∙ is)
+rename-root-requires-clause-tree g c up is =
+    let (b, e) = at_route c.requires.route c.links.result.now c.links.ensures.links c.leaf-leaf.ensures in
+    fork_above _ b up c.requires.route.whole.top (sym (ap (λ z. z.above) e) ∙ is)
 
 pub link_out-requires-2-clause-before : goal.link_out-requires-2-clause-before
-link_out-requires-2-clause-before g c r is = Has-kept (before_there _ (member_of c.requires.whole c.args.at.number (own_said c.requires.there)) r
-      (sym (ap (λ z. z.previous) (leaf_is c.links.result.now c.requires.there (own_said c.requires.there) c.links.ensures.links c.leaf-leaf.ensures))
-    ∙ is)) c.rename-root.new.nodes.lodged c.rename-root.ensures.only.leaves
+link_out-requires-2-clause-before g c r is =
+    let (b, e) = at_route c.requires.route c.links.result.now c.links.ensures.links c.leaf-leaf.ensures in
+    Has-kept (before_there _ b r (sym (ap (λ z. z.previous) e) ∙ is)) c.rename-root.new.nodes.lodged c.rename-root.ensures.only.leaves
 
 pub link_out-requires-2-clause-behind : goal.link_out-requires-2-clause-behind
-link_out-requires-2-clause-behind g c r is = Has-kept (behind_there _ (member_of c.requires.whole c.args.at.number (own_said c.requires.there)) r
-      (sym (ap (λ z. z.next) (leaf_is c.links.result.now c.requires.there (own_said c.requires.there) c.links.ensures.links c.leaf-leaf.ensures)) ∙ is))
-      c.rename-root.new.nodes.lodged c.rename-root.ensures.only.leaves
+link_out-requires-2-clause-behind g c r is =
+    let (b, e) = at_route c.requires.route c.links.result.now c.links.ensures.links c.leaf-leaf.ensures in
+    Has-kept (behind_there _ b r (sym (ap (λ z. z.next) e) ∙ is)) c.rename-root.new.nodes.lodged c.rename-root.ensures.only.leaves
 
 -- a member of a chain, whose neighbours name each other, and what stands above the chain
 abbrev IsGone : {V : Type 0} (m new : Lodged V) (whole : Part m) (at : Id) (p : LeafPart V) (name : Node) → Type 0
 IsGone m new whole at p name = (b : IsMember m whole at.number p) × IsUnlinked m new p.leaf × IsLeft m new b.x.entry.key whole b.part b.front b.back name
 
+-- such a one is out of the tree
+out_of : {V : Type 0} {m new : Lodged V} {root : Node} {at : Id} (r : IsUnlisted m root at) (name : Node)
+    → ((p : LeafPart V) → leaves_in m at.number ≡ Some p → IsGone m new r.whole.part at p name) → TakesOut m new at root name
+out_of {m = m} {new = new} r name goes =
+    let u = goes (own_part r.there) (own_said r.there) in record {
+      whole = removed_whole r.whole _ u.0 r.unmarked u.1 u.2;
+      routes = λ p said. let u = goes p said in removed_routes r.whole p u.0 u.1 u.2;
+      rooms = unlinked_routes m new (own_part r.there).leaf u.1.leaves;
+      own = own_kept r.whole u.0 u.1;
+    }
+
 -- where no member is behind it
 last_gone : (g : given.Over) (c : After-link_out g) {p : LeafPart g.row.V.Denot} → leaves_in c.args.nodes.now.lodged c.args.at.number ≡ Some p
-    → IsGone c.args.nodes.now.lodged c.link_out.new.nodes.lodged c.requires.whole.part c.args.at p c.args.root
+    → IsGone c.args.nodes.now.lodged c.link_out.new.nodes.lodged c.requires.route.whole.part c.args.at p c.args.root
 last_gone g c {p = p} said =
-    let b = member_of c.requires.whole c.args.at.number said in
-    let read = leaf_is c.links.result.now c.requires.there said c.links.ensures.links c.leaf-leaf.ensures in (
+    let b = member_of c.requires.route.whole c.args.at.number said in
+    let read = leaf_is c.links.result.now c.requires.route.there said c.links.ensures.links c.leaf-leaf.ensures in (
       b,
       unlinked c.args.nodes.now.lodged c.link_out.new.nodes.lodged read c.link_out.ensures.leaves c.link_out.ensures.only.heads c.link_out.ensures.only.masks,
-      left_kept c.link_out.new.nodes.lodged c.requires.whole b (sym (ap (λ z. z.next) read) ∙ c.in_default.is) (c.requires.chain p said)
+      left_kept c.link_out.new.nodes.lodged c.requires.route.whole b (sym (ap (λ z. z.next) read) ∙ c.in_default.is) (c.requires.chain p said)
           c.link_out.ensures.only.bits,
     )
 
 -- where one is
 gone : (g : given.Over) (c : After-link_out-2 g) {p : LeafPart g.row.V.Denot} → leaves_in c.args.nodes.now.lodged c.args.at.number ≡ Some p
-    → IsGone c.args.nodes.now.lodged c.link_out-2.new.nodes.lodged c.requires.whole.part c.args.at p c.rename-root.result
+    → IsGone c.args.nodes.now.lodged c.link_out-2.new.nodes.lodged c.requires.route.whole.part c.args.at p c.rename-root.result
 gone g c {p = p} said =
-    let b = member_of c.requires.whole c.args.at.number said in
-    let read = leaf_is c.links.result.now c.requires.there said c.links.ensures.links c.leaf-leaf.ensures in (
+    let b = member_of c.requires.route.whole c.args.at.number said in
+    let read = leaf_is c.links.result.now c.requires.route.there said c.links.ensures.links c.leaf-leaf.ensures in (
       b,
       unlinked c.args.nodes.now.lodged c.link_out-2.new.nodes.lodged read (λ k. c.link_out-2.ensures.leaves k ∙ ap (link_out c.leaf-leaf.result k)
           (c.rename-root.ensures.only.leaves k)) (λ k. c.link_out-2.ensures.only.heads k ∙ c.rename-root.ensures.only.heads k)
           (λ k. c.link_out-2.ensures.only.masks k ∙ c.rename-root.ensures.only.masks k),
-      left_renamed c.link_out-2.new.nodes.lodged c.requires.whole b (sym (ap (λ z. z.next) read) ∙ c.in-Some.is)
+      left_renamed c.link_out-2.new.nodes.lodged c.requires.route.whole b (sym (ap (λ z. z.next) read) ∙ c.in-Some.is)
           (λ k. c.link_out-2.ensures.only.bits k ∙ c.rename-root.ensures.bits k
           ∙ ap (λ z. name_child z.above z.key (LeafOf c.in-Some.behind) k (bits_in c.args.nodes.now.lodged k)) read)
           (c.rename-root.ensures.root ∙ ap (λ z. root_past z.previous z.above (LeafOf c.in-Some.behind) c.args.root) read),
     )
 
-pub returns-in_default-clause-whole : goal.returns-in_default-clause-whole
-returns-in_default-clause-whole g c =
-    let u = last_gone g (goal.at.returns-in_default-clause-whole g c).After-link_out (own_said c.requires.there) in
-    removed_whole c.requires.whole _ u.0 c.requires.unmarked u.1 u.2
-
-pub returns-in_default-clause-routes : goal.returns-in_default-clause-routes
-returns-in_default-clause-routes g c p said =
-    let u = last_gone g (goal.at.returns-in_default-clause-routes g c).After-link_out said in removed_routes c.requires.whole p u.0 u.1 u.2
-
-pub returns-in_default-clause-rooms : goal.returns-in_default-clause-rooms
-returns-in_default-clause-rooms g c =
-    let u = last_gone g (goal.at.returns-in_default-clause-rooms g c).After-link_out (own_said c.requires.there) in
-    unlinked_routes c.args.nodes.now.lodged c.link_out.new.nodes.lodged (own_part c.requires.there).leaf u.1.leaves
-
-pub returns-in_default-clause-own : goal.returns-in_default-clause-own
-returns-in_default-clause-own g c =
-    let u = last_gone g (goal.at.returns-in_default-clause-own g c).After-link_out (own_said c.requires.there) in own_kept c.requires.whole u.0 u.1
+pub returns-in_default-clause-out : goal.returns-in_default-clause-out
+returns-in_default-clause-out g c =
+    out_of c.requires.route c.args.root (λ p said. last_gone g (goal.at.returns-in_default-clause-out g c).After-link_out said)
 
 pub returns-in_default-clause-bits : goal.returns-in_default-clause-bits
 returns-in_default-clause-bits g c =
-    let u = last_gone g (goal.at.returns-in_default-clause-bits g c).After-link_out (own_said c.requires.there) in left_bits u.2
+    let u = last_gone g (goal.at.returns-in_default-clause-bits g c).After-link_out (own_said c.requires.route.there) in left_bits u.2
 
 pub returns-in_default-clause-idle : goal.returns-in_default-clause-idle
 returns-in_default-clause-idle g c p used said is k keyed other =
-    let u = last_gone g (goal.at.returns-in_default-clause-idle g c).After-link_out said in idle_others c.requires.whole p u.0 u.1 u.2 is k keyed other
+    let u = last_gone g (goal.at.returns-in_default-clause-idle g c).After-link_out said in idle_others c.requires.route.whole p u.0 u.1 u.2 is k keyed other
 
 pub returns-in_default-clause-neighbours : goal.returns-in_default-clause-neighbours
 returns-in_default-clause-neighbours g c p to said side =
-    let u = last_gone g (goal.at.returns-in_default-clause-neighbours g c).After-link_out said in neighbour c.requires.whole p u.0 u.1 to side
+    let u = last_gone g (goal.at.returns-in_default-clause-neighbours g c).After-link_out said in neighbour c.requires.route.whole p u.0 u.1 to side
 
-pub returns-clause-whole : goal.returns-clause-whole
-returns-clause-whole g c =
-    let u = gone g (goal.at.returns-clause-whole g c).After-link_out-2 (own_said c.requires.there) in
-    removed_whole c.requires.whole _ u.0 c.requires.unmarked u.1 u.2
-
-pub returns-clause-routes : goal.returns-clause-routes
-returns-clause-routes g c p said =
-    let u = gone g (goal.at.returns-clause-routes g c).After-link_out-2 said in removed_routes c.requires.whole p u.0 u.1 u.2
-
-pub returns-clause-rooms : goal.returns-clause-rooms
-returns-clause-rooms g c =
-    let u = gone g (goal.at.returns-clause-rooms g c).After-link_out-2 (own_said c.requires.there) in
-    unlinked_routes c.args.nodes.now.lodged c.link_out-2.new.nodes.lodged (own_part c.requires.there).leaf u.1.leaves
-
-pub returns-clause-own : goal.returns-clause-own
-returns-clause-own g c =
-    let u = gone g (goal.at.returns-clause-own g c).After-link_out-2 (own_said c.requires.there) in own_kept c.requires.whole u.0 u.1
+pub returns-clause-out : goal.returns-clause-out
+returns-clause-out g c = out_of c.requires.route c.rename-root.result (λ p said. gone g (goal.at.returns-clause-out g c).After-link_out-2 said)
 
 pub returns-clause-bits : goal.returns-clause-bits
 returns-clause-bits g c =
-    let u = gone g (goal.at.returns-clause-bits g c).After-link_out-2 (own_said c.requires.there) in left_bits u.2
+    let u = gone g (goal.at.returns-clause-bits g c).After-link_out-2 (own_said c.requires.route.there) in left_bits u.2
 
 pub returns-clause-idle : goal.returns-clause-idle
 returns-clause-idle g c p used said is k keyed other =
-    let u = gone g (goal.at.returns-clause-idle g c).After-link_out-2 said in idle_others c.requires.whole p u.0 u.1 u.2 is k keyed other
+    let u = gone g (goal.at.returns-clause-idle g c).After-link_out-2 said in idle_others c.requires.route.whole p u.0 u.1 u.2 is k keyed other
 
 pub returns-clause-neighbours : goal.returns-clause-neighbours
 returns-clause-neighbours g c p to said side =
-    let u = gone g (goal.at.returns-clause-neighbours g c).After-link_out-2 said in neighbour c.requires.whole p u.0 u.1 to side
+    let u = gone g (goal.at.returns-clause-neighbours g c).After-link_out-2 said in neighbour c.requires.route.whole p u.0 u.1 to side

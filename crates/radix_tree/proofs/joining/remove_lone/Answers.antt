@@ -1,43 +1,44 @@
 use Rattle.radix_tree.proofs.{Parts.way_lists}
-use Rattle.radix_tree.proofs.Words.{◌∙◌, ap, sym, subst, Some, IsLone, root_after, Gains, IsWholeBut, nobody_late, out_at, heads_in, name_of, shown}
-use Rattle.radix_tree.proofs.Words.{shown_entry, IsMarked, masks_in}
+use Rattle.radix_tree.proofs.Words.{◌∙◌, ap, sym, subst, IsLone, root_after, heads_in, name_of, IsMarked, masks_in}
 use Rattle.radix_tree.proofs.JoinWhole.{IsJoined, handed_on, routes_kept, idle_stays, freed, whole_joined, routes_joined, own_leaf}
 use Rattle.radix_tree.proofs.JoinRooms.{lone_read, never_top, key_read, Has-up, Has-routes, never_unused, up_read, above_after, beneath_after}
 use Rattle.radix_tree.proofs.JoinRooms.{IsUp, joined, idle_joined}
 use Rattle.radix_tree.proofs.joining.remove_lone.Goals.{In-Some, In-Some-bit_node, After-root_after}
 use Rattle.radix_tree.proofs.JoinLinks.{Has-kept, head_off}
+use Rattle.radix_tree.specs.Removal.{TakesOut}
 use Rattle.radix_tree.proofs.joining.remove_lone.Given as given
 use Rattle.radix_tree.proofs.joining.remove_lone.Goals as goal
 
 -- the route, and the bit node above it, as they are read
-lone : (g : given.Over) (c : In-Some g) → IsLone c.args.nodes.now.lodged c.requires.whole.part c.args.at c.in-Some.up
-lone g c = lone_read c.requires.there c.requires.whole c.links.result.now c.links.ensures.links c.leaf-leaf.ensures c.requires.lone c.in-Some.is
+lone : (g : given.Over) (c : In-Some g) → IsLone c.args.nodes.now.lodged c.requires.route.whole.part c.args.at c.in-Some.up
+lone g c = lone_read c.requires.route.there c.requires.route.whole c.links.result.now c.links.ensures.links c.leaf-leaf.ensures c.requires.lone c.in-Some.is
 
-read : (g : given.Over) (c : In-Some-bit_node g) → (l : IsLone c.args.nodes.now.lodged c.requires.whole.part c.args.at c.in-Some.up)
-    × IsUp c.args.nodes.now.lodged c.requires.whole.part c.args.at c.in-Some.up l c.in-Some-bit_node.node c.leaf-leaf.result.key
+read : (g : given.Over) (c : In-Some-bit_node g) → (l : IsLone c.args.nodes.now.lodged c.requires.route.whole.part c.args.at c.in-Some.up)
+    × IsUp c.args.nodes.now.lodged c.requires.route.whole.part c.args.at c.in-Some.up l c.in-Some-bit_node.node c.leaf-leaf.result.key
 read g c =
-    let l = lone_read c.requires.there c.requires.whole c.links.result.now c.links.ensures.links c.leaf-leaf.ensures c.requires.lone c.in-Some.is in (
+    let l = lone_read c.requires.route.there c.requires.route.whole c.links.result.now c.links.ensures.links c.leaf-leaf.ensures c.requires.lone c.in-Some.is
+    in (
       l,
       up_read l c.links-2.result.now c.links-2.ensures.links (sym c.bit_node.ensures ∙ c.in-Some-bit_node.is)
-      (key_read c.requires.there c.links.result.now l c.links.ensures.links c.leaf-leaf.ensures),
+          (key_read c.requires.route.there c.links.result.now l c.links.ensures.links c.leaf-leaf.ensures),
     )
 
 -- and what the writes leave
-done : (g : given.Over) (c : After-root_after g) → (l : IsLone c.args.nodes.now.lodged c.requires.whole.part c.args.at c.in-Some.up)
-    × IsUp c.args.nodes.now.lodged c.requires.whole.part c.args.at c.in-Some.up l c.in-Some-bit_node.node c.leaf-leaf.result.key
-    × IsJoined c.args.nodes.now.lodged c.join.new.nodes.lodged c.requires.whole.part c.args.at c.in-Some.up l
+done : (g : given.Over) (c : After-root_after g) → (l : IsLone c.args.nodes.now.lodged c.requires.route.whole.part c.args.at c.in-Some.up)
+    × IsUp c.args.nodes.now.lodged c.requires.route.whole.part c.args.at c.in-Some.up l c.in-Some-bit_node.node c.leaf-leaf.result.key
+    × IsJoined c.args.nodes.now.lodged c.join.new.nodes.lodged c.requires.route.whole.part c.args.at c.in-Some.up l
 done g c =
-    let l = lone_read c.requires.there c.requires.whole c.links.result.now c.links.ensures.links c.leaf-leaf.ensures c.requires.lone c.in-Some.is in
-    let key = key_read c.requires.there c.links.result.now l c.links.ensures.links c.leaf-leaf.ensures in
+    let l = lone_read c.requires.route.there c.requires.route.whole c.links.result.now c.links.ensures.links c.leaf-leaf.ensures c.requires.lone c.in-Some.is in
+    let key = key_read c.requires.route.there c.links.result.now l c.links.ensures.links c.leaf-leaf.ensures in
     let u = up_read l c.links-2.result.now c.links-2.ensures.links (sym c.bit_node.ensures ∙ c.in-Some-bit_node.is) key in (
       l,
       u,
       joined l c.hand_masks_on.new.nodes.lodged c.join.new.nodes.lodged u.above key (u.to ∙ sym c.sibling_of-to.ensures) c.hand_masks_on.ensures.tree.leaves
-      c.hand_masks_on.ensures.tree.bits c.join.ensures.leaves c.join.ensures.bits,
+          c.hand_masks_on.ensures.tree.bits c.join.ensures.leaves c.join.ensures.bits,
     )
 
 pub unreachable-requires : goal.unreachable-requires
-unreachable-requires g c = never_top c.requires.there c.links.result.now c.links.ensures.links c.leaf-leaf.ensures c.requires.lone c.in_default.is
+unreachable-requires g c = never_top c.requires.route.there c.links.result.now c.links.ensures.links c.leaf-leaf.ensures c.requires.lone c.in_default.is
 
 pub links-requires-2-clause-there : goal.links-requires-2-clause-there
 links-requires-2-clause-there g c =
@@ -57,14 +58,14 @@ sibling_of-to-requires g c =
 pub hand_masks_on-requires-clause-lone : goal.hand_masks_on-requires-clause-lone
 hand_masks_on-requires-clause-lone g c =
     let (l, u) = read g (goal.at.hand_masks_on-requires-clause-lone g c).In-Some-bit_node in (
-      c.requires.whole.part,
+      c.requires.route.whole.part,
       c.args.at,
       c.in-Some.up,
       l,
       u.to ∙ sym c.sibling_of-to.ensures,
       u.head,
-      c.requires.unmarked,
-      way_lists (IsMarked (masks_in c.args.nodes.now.lodged)) l.route.entry.key c.requires.whole.part l.over l.ups l.way c.requires.whole.lists,
+      c.requires.route.unmarked,
+      way_lists (IsMarked (masks_in c.args.nodes.now.lodged)) l.route.entry.key c.requires.route.whole.part l.over l.ups l.way c.requires.route.whole.lists,
     )
 
 pub join-requires-clause-up : goal.join-requires-clause-up
@@ -81,36 +82,23 @@ pub join-requires-clause-beneath : goal.join-requires-clause-beneath
 join-requires-clause-beneath g c =
     let (l, u) = read g (goal.at.join-requires-clause-beneath g c).In-Some-bit_node in
     beneath_after l c.hand_masks_on.new.nodes.lodged c.hand_masks_on.ensures.tree.leaves c.hand_masks_on.ensures.tree.bits u.above
-      (u.to ∙ sym c.sibling_of-to.ensures)
+    (u.to ∙ sym c.sibling_of-to.ensures)
 
-pub returns-clause-whole : goal.returns-clause-whole
-returns-clause-whole g c =
-    let (l, u, j) = done g (goal.at.returns-clause-whole g c).After-root_after in
+pub returns-clause-out : goal.returns-clause-out
+returns-clause-out g c =
+    let (l, u, j) = done g (goal.at.returns-clause-out g c).After-root_after in
+    let named = u.to ∙ sym c.sibling_of-to.ensures in
     let h = handed_on l c.hand_masks_on.new.nodes.lodged c.join.new.nodes.lodged
-        (c.hand_masks_on.ensures.handed c.requires.whole.part c.args.at c.in-Some.up l (u.to ∙ sym c.sibling_of-to.ensures) u.head c.requires.unmarked
-    (way_lists (IsMarked (masks_in c.args.nodes.now.lodged)) l.route.entry.key c.requires.whole.part l.over l.ups l.way c.requires.whole.lists))
-      c.join.ensures.masks (λ n other. c.join.ensures.heads n ∙ head_off c.in-Some.up n (heads_in c.hand_masks_on.new.nodes.lodged n) other) in
-    subst (λ z. IsWholeBut c.join.new.nodes.lodged z nobody_late (out_at c.args.at.number)) (ap (λ o. root_after o (name_of l.other) c.args.root) u.above
-    ∙ ap (λ z. root_after c.in-Some-bit_node.node.above z c.args.root) (u.to ∙ sym c.sibling_of-to.ensures) ∙ sym c.root_after.ensures)
-    (whole_joined c.requires.whole l j h c.requires.unmarked)
-
-pub returns-clause-routes : goal.returns-clause-routes
-returns-clause-routes g c p said =
-    let (l, u, j) = done g (goal.at.returns-clause-routes g c).After-root_after in
-    subst (λ z. Gains (shown_entry p) (shown c.join.new.nodes.lodged (Some z)) (shown c.args.nodes.now.lodged (Some c.args.root)))
-    (ap (λ o. root_after o (name_of l.other) c.args.root) u.above
-    ∙ ap (λ z. root_after c.in-Some-bit_node.node.above z c.args.root) (u.to ∙ sym c.sibling_of-to.ensures) ∙ sym c.root_after.ensures)
-    (routes_joined c.requires.whole l j p said)
-
-pub returns-clause-rooms : goal.returns-clause-rooms
-returns-clause-rooms g c n =
-    let (l, u, j) = done g (goal.at.returns-clause-rooms g c).After-root_after in
-    routes_kept l j n
-
-pub returns-clause-leaf : goal.returns-clause-leaf
-returns-clause-leaf g c =
-    let (l, u, j) = done g (goal.at.returns-clause-leaf g c).After-root_after in
-    own_leaf c.args.at l j
+    (c.hand_masks_on.ensures.handed c.requires.route.whole.part c.args.at c.in-Some.up l named u.head c.requires.route.unmarked
+    (way_lists (IsMarked (masks_in c.args.nodes.now.lodged)) l.route.entry.key c.requires.route.whole.part l.over l.ups l.way c.requires.route.whole.lists))
+    c.join.ensures.masks (λ n other. c.join.ensures.heads n ∙ head_off c.in-Some.up n (heads_in c.hand_masks_on.new.nodes.lodged n) other) in
+    subst (TakesOut c.args.nodes.now.lodged c.join.new.nodes.lodged c.args.at c.args.root) (ap (λ o. root_after o (name_of l.other) c.args.root) u.above
+    ∙ ap (λ z. root_after c.in-Some-bit_node.node.above z c.args.root) named ∙ sym c.root_after.ensures) (record {
+      whole = whole_joined c.requires.route.whole l j h c.requires.route.unmarked;
+      routes = routes_joined c.requires.route.whole l j;
+      rooms = routes_kept l j;
+      own = own_leaf c.args.at l j;
+    })
 
 pub returns-clause-there : goal.returns-clause-there
 returns-clause-there g c =
@@ -125,5 +113,5 @@ returns-clause-free g c =
 pub returns-clause-idle : goal.returns-clause-idle
 returns-clause-idle g c p said n of_key other =
     let (l, u, j) = done g (goal.at.returns-clause-idle g c).After-root_after in
-    idle_joined c.args.nodes.now.lodged c.join.new.nodes.lodged c.requires.whole c.in-Some.up l (routes_kept l j) (idle_stays l j)
+    idle_joined c.args.nodes.now.lodged c.join.new.nodes.lodged c.requires.route.whole c.in-Some.up l (routes_kept l j) (idle_stays l j)
     (freed l j) p said n of_key

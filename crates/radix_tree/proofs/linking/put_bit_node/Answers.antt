@@ -8,7 +8,7 @@ returns-clause-leaves g c = leaves_kept c.with_bit_node.result c.links-links.res
 
 pub returns-clause-masks : goal.returns-clause-masks
 returns-clause-masks g c = masks_kept c.requires.there c.with_bit_node.result c.links-links.result.now (ap (λ r. r.lodged) c.set_links.ensures)
-      c.links-links.ensures.links c.with_bit_node.ensures.mask_node
+    c.links-links.ensures.links c.with_bit_node.ensures.mask_node
 
 pub returns-clause-bits : goal.returns-clause-bits
 returns-clause-bits g c = bits_put c.requires.there c.with_bit_node.result (ap (λ r. r.lodged) c.set_links.ensures) c.with_bit_node.ensures.bit_node

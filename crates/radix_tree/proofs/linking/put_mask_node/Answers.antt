@@ -12,7 +12,7 @@ returns-clause-tree g c = record {
 
 pub returns-clause-heads : goal.returns-clause-heads
 returns-clause-heads g c = heads_kept c.requires.there c.with_mask_node.result c.links-links.result.now (ap (λ r. r.lodged) c.set_links.ensures)
-      c.links-links.ensures.links c.with_mask_node.ensures.bit_node
+    c.links-links.ensures.links c.with_mask_node.ensures.bit_node
 
 pub returns-clause-masks : goal.returns-clause-masks
 returns-clause-masks g c = masks_put c.requires.there c.with_mask_node.result (ap (λ r. r.lodged) c.set_links.ensures) c.with_mask_node.ensures.mask_node

@@ -3,12 +3,12 @@ use Rattle.radix_tree.proofs.RemovedRooms.{get_out, out_gone, out_shown, shown_s
 use Rattle.radix_tree.proofs.MovedReads.{Has_kept}
 use Rattle.radix_tree.proofs.removing.remove_route.Goals as goal
 
-pub take_out-rest-requires-clause-whole : goal.take_out-rest-requires-clause-whole
-take_out-rest-requires-clause-whole g c = c.unlist_mask.ensures.whole c.args.root c.requires.whole
-
-pub take_out-rest-requires-clause-there : goal.take_out-rest-requires-clause-there
-take_out-rest-requires-clause-there g c = Has_kept c.unlist_mask.new.nodes.lodged
-    (ap content_of (c.unlist_mask.ensures.tree.leaves c.args.at.number)) c.requires.there
+pub take_out-rest-requires-clause-route : goal.take_out-rest-requires-clause-route
+take_out-rest-requires-clause-route g c = record {
+  whole = c.unlist_mask.ensures.whole c.args.root c.requires.whole;
+  unmarked = c.unlist_mask.ensures.gone;
+  there = Has_kept c.unlist_mask.new.nodes.lodged (ap content_of (c.unlist_mask.ensures.tree.leaves c.args.at.number)) c.requires.there;
+}
 
 pub evict-room-requires : goal.evict-room-requires
 evict-room-requires g c =

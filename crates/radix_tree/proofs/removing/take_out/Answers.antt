@@ -5,37 +5,37 @@ use Rattle.radix_tree.proofs.removing.take_out.Goals as goal
 use Rattle.radix_tree.proofs.{Facts.none_if}
 
 pub vacate-requires-clause-from : goal.vacate-requires-clause-from
-vacate-requires-clause-from g c = Has_kept c.remove_from_chain-rest.new.nodes.lodged (c.remove_from_chain-rest.ensures.rooms c.args.at.number)
-      c.requires.there
+vacate-requires-clause-from g c = Has_kept c.remove_from_chain-rest.new.nodes.lodged (c.remove_from_chain-rest.ensures.out.rooms c.args.at.number)
+    c.requires.route.there
 
 pub vacate-requires-clause-to : goal.vacate-requires-clause-to
 vacate-requires-clause-to g c =
-    let p = leaf_at c.requires.there in
-    let beside = member_is c.links.result.now c.requires.there c.links.ensures.links c.leaf-leaf.ensures c.other_member.ensures c.in-Some.is in
+    let p = leaf_at c.requires.route.there in
+    let beside = member_is c.links.result.now c.requires.route.there c.links.ensures.links c.leaf-leaf.ensures c.other_member.ensures c.in-Some.is in
     (c.remove_from_chain-rest.ensures.neighbours p.0 c.in-Some.to p.1 (beside p.0 p.1)).0
 
 pub vacate-requires-clause-takes : goal.vacate-requires-clause-takes
 vacate-requires-clause-takes g c b used =
-    let p = leaf_at c.requires.there in
-    let beside = member_is c.links.result.now c.requires.there c.links.ensures.links c.leaf-leaf.ensures c.other_member.ensures c.in-Some.is in
+    let p = leaf_at c.requires.route.there in
+    let beside = member_is c.links.result.now c.requires.route.there c.links.ensures.links c.leaf-leaf.ensures c.other_member.ensures c.in-Some.is in
     let n = c.remove_from_chain-rest.ensures.neighbours p.0 c.in-Some.to p.1 (beside p.0 p.1) in
     can_take c.remove_from_chain-rest.new.nodes.lodged c.args.at c.in-Some.to p.0.leaf.key n.1 n.2 (c.remove_from_chain-rest.ensures.idle p.0 b p.1 used)
 
 pub vacate-requires-in-Some-above-clause-from : goal.vacate-requires-in-Some-above-clause-from
 vacate-requires-in-Some-above-clause-from g c =
-    Has_kept c.remove_lone-rest.new.nodes.lodged (c.remove_lone-rest.ensures.rooms c.args.at.number) c.requires.there
+    Has_kept c.remove_lone-rest.new.nodes.lodged (c.remove_lone-rest.ensures.out.rooms c.args.at.number) c.requires.route.there
 
 pub returns-in-None-clause-out : goal.returns-in-None-clause-out
 returns-in-None-clause-out g c n other =
-    let p = leaf_at c.requires.there in
-    let a = alone_is c.links.result.now c.requires.there c.links.ensures.links c.leaf-leaf.ensures c.other_member.ensures
+    let p = leaf_at c.requires.route.there in
+    let a = alone_is c.links.result.now c.requires.route.there c.links.ensures.links c.leaf-leaf.ensures c.other_member.ensures
     (none_if c.other_member.result c.in_default.not-Some) p.0 p.1 in
-    let above = ap (λ z. z.above) (sym (leaf_is c.links.result.now c.requires.there c.links.ensures.links c.leaf-leaf.ensures p.1)) ∙ c.in-None.is in
-    let o = only c.args.at.number c.requires.whole p.0 p.1 a.0 a.1 above in only_room _ c.requires.whole p.0 o n other
+    let above = ap (λ z. z.above) (sym (leaf_is c.links.result.now c.requires.route.there c.links.ensures.links c.leaf-leaf.ensures p.1)) ∙ c.in-None.is in
+    let o = only c.args.at.number c.requires.route.whole p.0 p.1 a.0 a.1 above in only_room _ c.requires.route.whole p.0 o n other
 
 pub returns-in-None-clause-routes : goal.returns-in-None-clause-routes
 returns-in-None-clause-routes g c p said =
-    let a = alone_is c.links.result.now c.requires.there c.links.ensures.links c.leaf-leaf.ensures c.other_member.ensures
+    let a = alone_is c.links.result.now c.requires.route.there c.links.ensures.links c.leaf-leaf.ensures c.other_member.ensures
     (none_if c.other_member.result c.in_default.not-Some) p said in
-    let above = ap (λ z. z.above) (sym (leaf_is c.links.result.now c.requires.there c.links.ensures.links c.leaf-leaf.ensures said)) ∙ c.in-None.is in
-    let o = only c.args.at.number c.requires.whole p said a.0 a.1 above in only_shown _ c.requires.whole p o
+    let above = ap (λ z. z.above) (sym (leaf_is c.links.result.now c.requires.route.there c.links.ensures.links c.leaf-leaf.ensures said)) ∙ c.in-None.is in
+    let o = only c.args.at.number c.requires.route.whole p said a.0 a.1 above in only_shown _ c.requires.route.whole p o

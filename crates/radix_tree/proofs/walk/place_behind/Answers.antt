@@ -20,7 +20,7 @@ links-requires-in-Some-clause-there g c = Has-over c.loop-above.invariant.climb 
 
 pub unreachable-requires : goal.unreachable-requires
 unreachable-requires g c = used_over c.loop-above.invariant.climb c.in-Some.up c.links-in-Some.result.now c.in-Some.is c.links-in-Some.ensures.links
-      (sym c.bit_node.ensures ∙ c.in_default-bit_node.is)
+    (sym c.bit_node.ensures ∙ c.in_default-bit_node.is)
 
 -- what the bit node above says
 node : (g : _) (c : In-Some-bit_node g) → Read c.args.nodes.now.lodged c.args.key c.args.first c.in-Some-bit_node.node
@@ -41,13 +41,13 @@ pub returns-then-not-is_one-clause-on : goal.returns-then-not-is_one-clause-on
 returns-then-not-is_one-clause-on g c =
     let n = node g (goal.at.returns-then-not-is_one-clause-on g c).In-Some-bit_node in
     begins_on c.first_place.result (n.turn (on_zero c.in-Some-bit_node.node.bit c.args.key c.is_one.ensures c.if-not-is_one.true) c.first_place.result.first
-      c.first_place.ensures.led) c.first_place.ensures.room
+    c.first_place.ensures.led) c.first_place.ensures.room
 
 pub returns-then-not-is_one-clause-rest : goal.returns-then-not-is_one-clause-rest
 returns-then-not-is_one-clause-rest g c =
     let n = node g (goal.at.returns-then-not-is_one-clause-rest g c).In-Some-bit_node in
     begins_rest c.first_place.result (n.turn (on_zero c.in-Some-bit_node.node.bit c.args.key c.is_one.ensures c.if-not-is_one.true)
-      c.first_place.result.first c.first_place.ensures.led) c.first_place.ensures.room
+    c.first_place.result.first c.first_place.ensures.led) c.first_place.ensures.room
 
 pub loop-above-smaller : goal.loop-above-smaller
 loop-above-smaller g c =

@@ -9,12 +9,12 @@ pub invariant_of-result-2 : goal.invariant_of-result-2
 invariant_of-result-2 g c =
     let w = whole_at _ c.requires.holds c.in-Some.is in
     begins_on c.first_place-place.result (first_on _ w.part w.part [] [] w.top (c.first_place-place.ensures.led w.part w.named) (refl, refl))
-      c.first_place-place.ensures.room
+    c.first_place-place.ensures.room
 
 pub returns-clause-rest : goal.returns-clause-rest
 returns-clause-rest g c =
     let m = c.args.nodes.now.lodged in
     let w = whole_at _ c.requires.holds c.in-Some.is in
     begins_rest c.first_place-place.result (first_on _ w.part w.part [] [] w.top (c.first_place-place.ensures.led w.part w.named) (refl, refl))
-      c.first_place-place.ensures.room
+    c.first_place-place.ensures.room
     ∙ append-nil _ ∙ sym (shown_is w) ∙ ap (shown m) (sym c.in-Some.is)
