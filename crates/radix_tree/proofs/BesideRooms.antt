@@ -1,28 +1,17 @@
 -- What has come of the rooms once a route of a new key stands in them, beneath a new bit node.
 use Rattle.radix_tree.proofs.{AddressBits.zero_or_one, RoomReads.Has-leaf, TreeMembers.bit_beneath, Lodging.stays, Beside.zero_forked, Beside.one_forked}
-use Rattle.radix_tree.proofs.{Cuts.IsCut, JoinLinks.turned_used, MovedReads.lift_used}
+use Rattle.radix_tree.proofs.{Cuts.IsCut, JoinLinks.turn_used, MovedReads.lift_used}
 use Rattle.radix_tree.proofs.Words.{◌≡◌, ℕ, ◌+◌, ◌≤◌, ◌⊎◌, ◌==◌, ◌||◌, Bool, true, false, if◌then◌else◌, List, [], ◌∷◌, Option, Some, None, refl, sym, ap}
 use Rattle.radix_tree.proofs.Words.{◌∙◌, subst, inl, inr, arith, eq-eqb, ne_eqb, cases_eq, append-nil, is_some, Has, Id, Node, LeafOf, BitOf, Placed}
-use Rattle.radix_tree.proofs.Words.{Tree, leaf, fork, bit_at, IsIn, routes_of, LeafPart, BitPart, Heads, Masks, Bits, Part, leaves_in, bits_in, heads_in}
-use Rattle.radix_tree.proofs.Words.{masks_in, Beneath, Way, one_if, leaves_at, forks_at, HasHome, HaveOneFork, name_child, with_child, with_head}
-use Rattle.radix_tree.proofs.Words.{forked_tree, Gains, IsPlace, IsSpot, IsBeside, Exchanged, IsMarked, IsMaskList, MarkedIn, MarkedLists, HasRoomMore}
-use Rattle.radix_tree.proofs.Words.{KeepsLeaves, KeepsBits, KeepsMasks, lift_leaf, leaf_above, Lodged, true≢false}
+use Rattle.radix_tree.proofs.Words.{Tree, leaf, fork, bit_at, IsIn, routes_of, LeafPart, Heads, Masks, Bits, Part, leaves_in, bits_in, heads_in, masks_in}
+use Rattle.radix_tree.proofs.Words.{Beneath, Way, one_if, leaves_at, forks_at, HasHome, HaveOneFork, name_child, with_head, forked_tree, Gains, IsPlace}
+use Rattle.radix_tree.proofs.Words.{IsSpot, IsBeside, Exchanged, IsMarked, IsMaskList, MarkedIn, MarkedLists, HasRoomMore, KeepsLeaves, KeepsBits}
+use Rattle.radix_tree.proofs.Words.{KeepsMasks, lift_leaf, leaf_above, Lodged, true≢false}
 
 -- ---- what a room says stays something
 chosen : {A : Type 0} (test : Bool) (x y : Option A) → is_some x ≡ is_some y → is_some (if test then x else y) ≡ is_some y
 chosen true x y same = same
 chosen false x y same = refl
-
-turn_some : (above : Option Id) (key : ℕ) (to : Node) (n : ℕ) (said : Option BitPart) → is_some (name_child above key to n said) ≡ is_some said
-turn_some None key to n said = refl
-turn_some (Some up) key to n said = chosen (n == up.number) (with_child key to said) said (turned_used key to said)
-
-pub none_of : {A : Type 0} (x y : Option A) → is_some x ≡ is_some y → y ≡ None → x ≡ None
-none_of None y same none = refl
-none_of (Some a) y same none = absurd (true_false (same ∙ ap is_some none))
-  where
-    true_false : true ≡ false → ⊥
-    true_false e = cc
 
 pub or_true : (b : Bool) → b || true ≡ true
 or_true true = refl
@@ -180,7 +169,7 @@ module _ {V : Type 0} where
 
       pub other_bit : (n : ℕ) → (n ≡ x.room.number → ⊥) → is_some (bits_in new n) ≡ is_some (bits_in m n)
       other_bit n other = ap is_some (c.beside.bits n other) ∙ lift_used below (Some x.room) n
-          (name_child above x.entry.key (BitOf x.room) n (bits_in mid n)) ∙ turn_some above x.entry.key (BitOf x.room) n (bits_in mid n)
+          (name_child above x.entry.key (BitOf x.room) n (bits_in mid n)) ∙ turn_used above x.entry.key n (BitOf x.room) (bits_in mid n)
           ∙ ap is_some (c.cut.bits n)
 
       pub same_marks : (n : ℕ) → is_some (masks_in new n) ≡ is_some (masks_in m n)

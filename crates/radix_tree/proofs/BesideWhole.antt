@@ -9,7 +9,8 @@ use Rattle.radix_tree.proofs.Words.{IsIn, IsTree, routes_of, Part, leaves_in, bi
 use Rattle.radix_tree.proofs.Words.{HaveOneFork, IsWhole, shown, with_head, forked_tree, Gains, IsSpot, IsBeside, IsNew, Differs, Exchanged, IsMasks}
 use Rattle.radix_tree.proofs.Words.{IsAside, past_bit, up_to_bit, IsMarked, MarkedIn, MarkedLists, IsWholeBut, has_key, is_of_key, nobody_late}
 use Rattle.radix_tree.proofs.Words.{nobody_out, KeepsLeaves, KeepsBits, KeepsMasks, Lodged}
-use Rattle.radix_tree.proofs.BesideRooms.{none_of, or_true, one_if_turned, one_if_here, forked_leaves, forked_forks, in_forked, forked_in}
+use Rattle.radix_tree.proofs.{Facts.same_none}
+use Rattle.radix_tree.proofs.BesideRooms.{or_true, one_if_turned, one_if_here, forked_leaves, forked_forks, in_forked, forked_in}
 use Rattle.radix_tree.proofs.BesideRooms.{forked_lists, home_forked, forked_home, forked_spare, forked_gains, Came, no_leaf, no_bit, other_leaf}
 use Rattle.radix_tree.proofs.BesideRooms.{other_bit, same_marks, new_unmarked}
 use Rattle.radix_tree.proofs.Words.{true≢false}
@@ -134,7 +135,7 @@ module _ {V : Type 0} where
       spare_beside mid c tree =
           let none = no_leaf x c in
           let idle : (n : ℕ) → (n ≡ x.room.number → ⊥) → bits_in m n ≡ None → bits_in new n ≡ None =
-          λ n other. none_of (bits_in new n) (bits_in m n) (other_bit x c n other) in
+          λ n other. same_none (bits_in new n) (other_bit x c n other) in
           spare_changed w e (λ spare. subst (HaveOneFork (bits_in new)) (sym tree) (forked_spare (bits_in new) bit x s.at.tree
           (spare_same (bits_in m) (bits_in new) s.at.tree (λ y at. idle y.room.number (not_new s.at x.room none y.room.number (counted_leaf y s.at.tree at)))
           spare))) (λ n out some. idle n (not_new w.part x.room none n some))

@@ -1,7 +1,7 @@
 -- The chain of a leaf is exchanged for another one: the part that is the leaf.
 use Rattle.radix_tree.proofs.{PartRooms.same_turned, Exchanging.exchanged, WholeParts.Fits, WholeParts.once_but, WholeChanges.spare_changed}
 use Rattle.radix_tree.proofs.{WholeChanges.whole_changed, WholeRoutes.Spliced, WholeRoutes.routes_changed, ChainLists.IsCons, ChainLists.cons_at}
-use Rattle.radix_tree.proofs.{ChainLists.map_entries, ChainLists.one_fork_same, Facts.none_of, JoinLinks.turn_used}
+use Rattle.radix_tree.proofs.{ChainLists.map_entries, ChainLists.one_fork_same, Facts.same_none, JoinLinks.turn_used}
 use Rattle.radix_tree.proofs.Words.{◌≡◌, ℕ, ◌+◌, ◌≤◌, ◌==◌, ◌||◌, Bool, true, false, true≢false, if◌then◌else◌, List, [], ◌∷◌, ◌++◌, Option, Some, None}
 use Rattle.radix_tree.proofs.Words.{refl, sym, ap, ◌∙◌, subst, arith, eqb-true, eqb-false, eq-eqb, ne_eqb, is_some, Id, Node, LeafOf, Placed, Tree, leaf}
 use Rattle.radix_tree.proofs.Words.{bit_at, HaveBit, IsAmong, IsIn, IsChain, IsTree, routes_of, Part, leaves_in, bits_in, masks_in, name_of, ChainStands}
@@ -10,9 +10,6 @@ use Rattle.radix_tree.proofs.Words.{root_after, IsExchange, Exchanged, IsMarked,
 use Rattle.radix_tree.proofs.Words.{Lodged}
 
 -- ---- the bit node above
-pub same_none : {A : Type 0} {o : Option A} (p : Option A) → is_some p ≡ is_some o → o ≡ None → p ≡ None
-same_none p same none = none_of p (same ∙ ap is_some none)
-
 pub one_more : (has : ℕ → Bool) (a n : ℕ) → has a ≡ false → one_if ((n == a) || has n) ≡ one_if (a == n) + one_if (has n)
 one_more has a n free = elim (n == a) as (λ t. (n == a) ≡ t → one_if (t || has n) ≡ one_if (a == n) + one_if (has n)) [
   | true ↦ λ e.
@@ -23,12 +20,6 @@ one_more has a n free = elim (n == a) as (λ t. (n == a) ≡ t → one_if (t || 
   | false ↦ λ e.
       let other = ap one_if (ne_eqb a n (λ same. eqb-false n a e (sym same))) in
       omega arith
-] refl
-
-pub turned_about : (a n : ℕ) → one_if (n == a) ≡ one_if (a == n)
-turned_about a n = elim (n == a) as (λ t. (n == a) ≡ t → one_if t ≡ one_if (a == n)) [
-  | true ↦ λ e. sym (ap one_if (eq-eqb a n (sym (eqb-true n a e))))
-  | false ↦ λ e. sym (ap one_if (ne_eqb a n (λ same. eqb-false n a e (sym same))))
 ] refl
 
 module _ {V : Type 0} where

@@ -1,24 +1,20 @@
 -- A route comes into the chain of its key.
-use Rattle.radix_tree.proofs.{RoomReads.inside, RoomReads.none_some, RoomReads.Has-leaf, Parts.leaf_run, Parts.in_leaf, Parts.way_inside}
-use Rattle.radix_tree.proofs.{TreeMembers.chain_key, TreeMembers.tree_said, PartRooms.way_once, Lodging.over_at, Lodging.stays, Beside.not_new}
-use Rattle.radix_tree.proofs.{ChainRooms.room_route, WholeParts.once_but, ChainGaps.behind_stands, ChainLinks.linked_in, ChainLinks.in_others}
-use Rattle.radix_tree.proofs.{ChainLists.cons_at, ChainLists.chain_more, ChainExchanges.Rechained, ChainExchanges.front_named, ChainExchanges.place_bits}
-use Rattle.radix_tree.proofs.{ChainExchanges.place_root, ChainWholes.grown_whole, ChainWholes.grown_routes}
+use Rattle.radix_tree.proofs.{TreeMembers.IsSaid, RoomReads.inside, RoomReads.none_some, RoomReads.Has-leaf, Parts.leaf_run, Parts.in_leaf}
+use Rattle.radix_tree.proofs.{Parts.way_inside, TreeMembers.chain_key, TreeMembers.tree_said, PartRooms.way_once, Lodging.over_at, Lodging.stays}
+use Rattle.radix_tree.proofs.{Beside.not_new, ChainRooms.room_route, WholeParts.once_but, ChainGaps.behind_stands, ChainLinks.linked_in}
+use Rattle.radix_tree.proofs.{ChainLinks.in_others, ChainLists.cons_at, ChainLists.chain_more, ChainExchanges.Rechained, ChainExchanges.front_named}
+use Rattle.radix_tree.proofs.{ChainExchanges.place_bits, ChainExchanges.place_root, ChainWholes.grown_whole, ChainWholes.grown_routes}
+use Rattle.radix_tree.proofs.{MovedReads.content_used, ChainExchanges.cons_head}
 use Rattle.radix_tree.proofs.Words.{◌≡◌, ℕ, ◌≤◌, ◌==◌, ◌||◌, true, false, if◌then◌else◌, List, ◌∷◌, ◌++◌, Option, Some, None, refl, sym, ap, ◌∙◌, subst}
 use Rattle.radix_tree.proofs.Words.{arith, ne_eqb, is_some, Has, Id, Leaf, Node, LeafOf, IsRoute, Placed, leaf, IsIn, IsChain, LeafPart, Part, Run}
-use Rattle.radix_tree.proofs.Words.{Leaves, leaves_in, bits_in, masks_in, name_of, first_room, leaf_part, ChainStands, Way, LedTo, ForkAt, HasPair}
-use Rattle.radix_tree.proofs.Words.{one_if, members_at, leaves_at, IsWhole, shown, name_child, root_after, placed, Gains, AreOnce, IsWholeBut, late_at}
+use Rattle.radix_tree.proofs.Words.{leaves_in, bits_in, masks_in, name_of, first_room, leaf_part, ChainStands, Way, LedTo, ForkAt, HasPair, one_if}
+use Rattle.radix_tree.proofs.Words.{members_at, leaves_at, IsWhole, shown, name_child, root_after, placed, Gains, AreOnce, IsWholeBut, late_at}
 use Rattle.radix_tree.proofs.Words.{nobody_out, lodge_leaf, KeepsBits, KeepsHeads, KeepsMasks, leaf_next, leaf_back, name_next, name_back, link_in}
 use Rattle.radix_tree.proofs.Words.{above_behind, last_room, root_past, IsGap, FindsGap, content_of, Entry, Lodged, []}
-use Rattle.radix_tree.proofs.{MovedReads.content_used}
-use Rattle.radix_tree.proofs.{ChainExchanges.cons_head}
 
 module _ {V : Type 0} where
   -- ---- members on both sides of a place are in the map
-  abbrev pub Said : Leaves V → Placed V → Type 0
-  Said L x = (a : Option Id) × (p : Option Id) × (n : Option Id) × (L x.room.number ≡ Some (leaf_part x a p n))
-
-  said_there : (m : Lodged V) (x : Placed V) (r : Id) → Said (leaves_in m) x → x.room ≡ r → Has m r
+  said_there : (m : Lodged V) (x : Placed V) (r : Id) → IsSaid (leaves_in m) x → x.room ≡ r → Has m r
   said_there m x r s same = subst (Has m) same (Has-leaf m x.room s.3 refl)
 
   pub first_there : (m : Lodged V) (above previous : Option Id) (c : List (Placed V)) (r : Id) → ChainStands (leaves_in m) above previous c
@@ -103,10 +99,6 @@ module _ {V : Type 0} where
         | true ↦ back_content above previous said
         | false ↦ refl
       ]
-
-  content_some : (o : Option (LeafPart V)) → is_some (content_of o) ≡ is_some o
-  content_some None = refl
-  content_some (Some p) = refl
 
   lodged_some : (room : Id) (value : V) (l : Leaf) (n : ℕ) (said : Option (LeafPart V))
       → is_some (lodge_leaf room value l n said) ≡ (n == room.number) || is_some said

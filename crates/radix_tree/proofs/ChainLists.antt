@@ -1,5 +1,5 @@
 -- A chain with a member more.
-use Rattle.radix_tree.proofs.{RoomReads.none_some, PartRooms.one_if_same}
+use Rattle.radix_tree.proofs.{RoomReads.none_some}
 use Rattle.std.proofs.lemmas.List.{map-append}
 use Rattle.radix_tree.proofs.Words.{◌≡◌, ℕ, ◌+◌, ◌<◌, ◌≤◌, ◌⊎◌, ◌==◌, List, [], ◌∷◌, ◌++◌, map, Some, None, refl, sym, ap, ◌∙◌, inl, inr, arith, IsRoute}
 use Rattle.radix_tree.proofs.Words.{Placed, IsAmong, IsChain, BitPart, Bits, one_if, members_at, AreIdle, HasOneFork, Gains, ArePast, IsBelow, Entry}
@@ -29,13 +29,6 @@ module _ {V : Type 0} where
   members_more n front back x =
       let more = members_append n front (x ∷ back) in
       let less = members_append n front back in omega arith
-
-  pub member_counts : (c : List (Placed V)) (y : Placed V) → IsAmong y c → 1 ≤ members_at y.room.number c
-  member_counts [] y is = absurd is
-  member_counts (x ∷ c) y is = elim is [
-    | inl e ↦ let one = ap (λ p. one_if (x.room.number == p.room.number)) (sym e) ∙ one_if_same x.room.number in omega arith
-    | inr later ↦ let some = member_counts c y later in omega arith
-  ]
 
   -- ---- what is among
   pub among_more : (front back : List (Placed V)) (x y : Placed V) → IsAmong y (front ++ back) → IsAmong y (front ++ (x ∷ back))

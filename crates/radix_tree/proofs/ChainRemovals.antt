@@ -2,7 +2,7 @@
 use Rattle.radix_tree.proofs.{Parts.way_leads, TreeMembers.chain_key, TreeMembers.tree_said, WholeParts.later_than, ChainWrites.Has-linked_out}
 use Rattle.radix_tree.proofs.{ChainLinks.out_others, ChainLinks.last_among, ChainLinks.first_among, ChainLists.members_append, ChainLists.members_more}
 use Rattle.radix_tree.proofs.{ChainLists.among_own, ChainLists.among_less, ChainLists.others_idle, ChainRooms.among_at, ChainRooms.room_route}
-use Rattle.radix_tree.proofs.{ChainExchanges.same_none, ChainWholes.shrunk_whole, ChainWholes.shrunk_routes}
+use Rattle.radix_tree.proofs.{Facts.same_none, ChainWholes.shrunk_whole, ChainWholes.shrunk_routes}
 use Rattle.radix_tree.proofs.{ChainInserts.next_same, ChainInserts.back_same}
 use Rattle.radix_tree.proofs.Words.{⊎_elim, ◌≡◌, ℕ, ◌≤◌, ◌⊎◌, ◌==◌, Bool, true, false, true≢false, List, [], ◌∷◌, ◌++◌, Option, Some, None, refl, sym, ap}
 use Rattle.radix_tree.proofs.Words.{◌∙◌, subst, inl, inr, arith, eqb-true, eq-eqb, is_some, Has, Id, Leaf, Node, LeafOf, Placed, leaf, IsAmong, IsIn}

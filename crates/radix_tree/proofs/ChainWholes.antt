@@ -4,8 +4,9 @@ use Rattle.radix_tree.proofs.Words.{◌≡◌, ℕ, ◌≤◌, ◌⊎◌, ◌==�
 use Rattle.radix_tree.proofs.Words.{eqb-true, eq-eqb, is_some, Node, LeafOf, Placed, leaf, IsAmong, IsIn, Part, leaves_in, bits_in, masks_in, name_of}
 use Rattle.radix_tree.proofs.Words.{Way, one_if, members_at, leaves_at, shown, root_after, Gains, IsWholeBut, nobody_late, late_at, nobody_out, out_at}
 use Rattle.radix_tree.proofs.Words.{Lodged}
-use Rattle.radix_tree.proofs.ChainLists.{members_more, member_counts, among_more, among_own, among_less, one_fork_less, one_fork_more, routes_more}
-use Rattle.radix_tree.proofs.ChainExchanges.{one_more, turned_about, Rechained, under, old_counts, now_counts, rechained, spliced, old_among, among_old}
+use Rattle.radix_tree.proofs.{Facts.test_turned, Plugs.counted_member}
+use Rattle.radix_tree.proofs.ChainLists.{members_more, among_more, among_own, among_less, one_fork_less, one_fork_more, routes_more}
+use Rattle.radix_tree.proofs.ChainExchanges.{one_more, Rechained, under, old_counts, now_counts, rechained, spliced, old_among, among_old}
 use Rattle.radix_tree.proofs.ChainExchanges.{no_home, same_marks, not_marked, same_forks}
 
 module _ {V : Type 0} where
@@ -63,7 +64,7 @@ module _ {V : Type 0} where
             let t = now_counts r n in
             let more = members_more n front back x in
             let same = ap one_if (rooms n) in
-            let about = turned_about x.room.number n in omega arith;
+            let about = ap one_if (test_turned n x.room.number) in omega arith;
         forks = λ n. same_forks m new key at r n;
         heads = λ n none some. r.heads n;
         masks = λ n none some. r.masks n;
@@ -85,14 +86,14 @@ module _ {V : Type 0} where
           λ marked. same_marks r y marked,
           λ late.
               let same = eqb-true y.room.number x.room.number late in
-              let some = member_counts (front ++ back) y (own_now y is) in
+              let some = counted_member y (front ++ back) (own_now y is) in
               let more = members_more y.room.number front back x in
               let one = ap one_if (eq-eqb x.room.number y.room.number (sym same)) in
               let most = once y.room.number in absurd (omega arith),
         );
         late_aside = λ n none some late.
             let same = eqb-true n x.room.number late in
-            let own = member_counts (front ++ (x ∷ back)) x (among_own front back x) in
+            let own = counted_member x (front ++ (x ∷ back)) (among_own front back x) in
             let counts = old_counts r x.room.number in
             let gone = ap (λ k. leaves_at k at.tree) (sym same) ∙ none in absurd (omega arith);
       }

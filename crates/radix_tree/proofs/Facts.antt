@@ -1,6 +1,6 @@
--- Facts of options, of counts of one, and of a write to one room, which several proofs use.
-use Rattle.radix_tree.proofs.Words.{◌≡◌, ℕ, ◌≤◌, ◌==◌, Bool, true, false, if◌then◌else◌, Option, Some, None, is_some, refl, sym, ap, ◌∙◌, arith, eq-eqb, ne_eqb}
-use Rattle.radix_tree.proofs.Words.{true≢false, Id, one_if}
+-- Facts of options, of tests and counts of one, and of a write to one room, which several proofs use.
+use Rattle.radix_tree.proofs.Words.{◌≡◌, ℕ, ◌≤◌, ◌==◌, Bool, true, false, if◌then◌else◌, Option, Some, None, is_some, refl, sym, ap, ◌∙◌, arith, eq-eqb}
+use Rattle.radix_tree.proofs.Words.{ne_eqb, true≢false, Id, one_if, eqb-true}
 
 pub some_of : {A : Type 0} (o : Option A) → is_some o ≡ true → (a : A) × (o ≡ Some a)
 some_of None is = absurd (true≢false (sym is))
@@ -9,6 +9,9 @@ some_of (Some a) is = (a, refl)
 pub none_of : {A : Type 0} (o : Option A) → is_some o ≡ false → o ≡ None
 none_of None e = refl
 none_of (Some x) e = absurd (true≢false e)
+
+pub same_none : {A : Type 0} {o : Option A} (p : Option A) → is_some p ≡ is_some o → o ≡ None → p ≡ None
+same_none p same none = none_of p (same ∙ ap is_some none)
 
 pub none_if : {A : Type 0} (o : Option A) → ((x : A) → o ≡ Some x → ⊥) → o ≡ None
 none_if None never = refl
@@ -21,6 +24,13 @@ no_use false e = refl
 pub one_if_most : (b : Bool) → one_if b ≤ 1
 one_if_most true = omega arith
 one_if_most false = omega arith
+
+-- a test of two numbers, either way round
+pub test_turned : (n k : ℕ) → (n == k) ≡ (k == n)
+test_turned n k = elim (k == n) as (λ b. (k == n) ≡ b → (n == k) ≡ b) [
+  | true ↦ λ is. eq-eqb n k (sym (eqb-true k n is))
+  | false ↦ λ is. ne_eqb n k (λ (e : n ≡ k). true≢false (sym (eq-eqb k n (sym e)) ∙ is))
+] refl
 
 pub same_id : (a b : Id) → a.number ≡ b.number → a.block ≡ b.block → a ≡ b
 same_id a b number block = ap (λ n. record { number = n; block = a.block }) number ∙ ap (λ p. record { number = b.number; block = p }) block

@@ -4,19 +4,12 @@
 --     nobody, among_left, new_left   whose masks are not listed yet
 --     IsLost, lost                   what a route that goes leaves
 use Rattle.radix_tree.proofs.{RoomReads.none_some, Parts.leaf_run, Showing.shown_is, WholeParts.later_than, WholeRoutes.loses_entry, Kept.IsFound}
-use Rattle.radix_tree.proofs.{Kept.shown_table}
+use Rattle.radix_tree.proofs.{Kept.shown_table, Facts.test_turned}
 use Rattle.radix_tree.proofs.Words.{◌≡◌, ℕ, ◌+◌, ◌==◌, ◌&&◌, ◌||◌, Bool, true, false, not, if◌then◌else◌, List, Option, Some, None, is_some, refl, sym}
-use Rattle.radix_tree.proofs.Words.{ap, ◌∙◌, subst, inl, arith, eqb-true, eq-eqb, ne_eqb, get, Seen, Id, Leaf, Node, LeafOf, IsRoute, without, leaf}
-use Rattle.radix_tree.proofs.Words.{LeafPart, Part, leaf_in, bit_in, mask_in, leaves_in, leaf_part, first_room, LedTo, Gains, placed, IsWholeBut, has_key}
+use Rattle.radix_tree.proofs.Words.{ap, ◌∙◌, subst, inl, arith, eqb-true, eq-eqb, get, Seen, Id, Leaf, Node, LeafOf, IsRoute, without, leaf, LeafPart}
+use Rattle.radix_tree.proofs.Words.{Part, leaf_in, bit_in, mask_in, leaves_in, leaf_part, first_room, LedTo, Gains, placed, IsWholeBut, has_key}
 use Rattle.radix_tree.proofs.Words.{is_of_key, nobody_late, nobody_out, late_at, lodge_leaf, KeepsLeaves, KeepsBits, KeepsMasks, one_if, beneath_shown}
-use Rattle.radix_tree.proofs.Words.{shown, shown_entry, IsWhole, Holds, Entry, Lodged, []}
-use Rattle.radix_tree.proofs.Words.{true≢false}
-
-turned : (n k : ℕ) → (n == k) ≡ (k == n)
-turned n k = elim (k == n) as (λ b. (k == n) ≡ b → (n == k) ≡ b) [
-  | true ↦ λ is. eq-eqb n k (sym (eqb-true k n is))
-  | false ↦ λ is. ne_eqb n k (λ (e : n ≡ k). true≢false (sym (eq-eqb k n (sym e)) ∙ is))
-] refl
+use Rattle.radix_tree.proofs.Words.{shown, shown_entry, IsWhole, Holds, Entry, Lodged, [], true≢false}
 
 and_not : (a b : Bool) → (a && not b) ≡ true → (a ≡ true) × (b ≡ false)
 and_not true true e = absurd (true≢false (sym e))
@@ -54,7 +47,7 @@ module _ {V : Type 0} where
         low = refl;
         top = refl;
         named = refl;
-        leaves = λ n. ap (λ b. one_if b + 0 + 0) (turned id.number n) ∙ lodged_at id e.value l n (n == id.number)
+        leaves = λ n. ap (λ b. one_if b + 0 + 0) (test_turned id.number n) ∙ lodged_at id e.value l n (n == id.number)
             ∙ ap (λ o. one_if (is_some (if n == id.number then lodged_part id e.value l else o))) (sym (none n))
             ∙ ap (λ o. one_if (is_some o)) (sym (leaves n));
         forks = λ n. ap (λ o. one_if (is_some (bit_in o))) (sym (gone n)) ∙ ap (λ o. one_if (is_some o)) (sym (bits n));

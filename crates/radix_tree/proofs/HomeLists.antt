@@ -7,13 +7,10 @@ use Rattle.radix_tree.proofs.{Plugs.counted_leaf, Plugs.spare_same, PlugLists.Ke
 use Rattle.radix_tree.proofs.{FrameLists.way_framed, FrameLists.lists_stay, Facts.same_id, JoinLone.tree_room}
 use Rattle.radix_tree.specs.Tree.{bit_at}
 use Rattle.radix_tree.proofs.Words.{◌≡◌, ℕ, ◌+◌, ◌<◌, ◌≤◌, ◌==◌, ◌⊎◌, Bool, true, false, ◌||◌, List, [], ◌∷◌, Some, refl, inl, inr, sym, ap, ◌∙◌, subst}
-use Rattle.radix_tree.proofs.Words.{arith, cases_lt, is_some, Ptr, Seen, Has, Id, Node, IsRoute, Placed, Tree, leaf, fork, IsAmong, IsIn, IsChain, IsTree}
+use Rattle.radix_tree.proofs.Words.{arith, cases_lt, is_some, Seen, Has, Id, Node, IsRoute, Placed, Tree, leaf, fork, IsAmong, IsIn, IsChain, IsTree}
 use Rattle.radix_tree.proofs.Words.{LeafPart, MaskPart, Leaves, Heads, Masks, Part, leaves_in, bits_in, heads_in, masks_in, leaf_in, leaf_part, Way}
 use Rattle.radix_tree.proofs.Words.{one_if, leaves_at, forks_at, HasHome, KeepsLeaves, KeepsBits, AreOnce, plug, low_past, IsMarked, IsMaskList, MarkedIn}
 use Rattle.radix_tree.proofs.Words.{MarkedLists, IsWholeBut, nobody_out, HomeAt, Entry, Lodged}
-
-abbrev id_of : ℕ → Ptr → Id
-id_of number block = record { number = number; block = block }
 
 pub or_right : (a : Bool) {b : Bool} → b ≡ true → (a || b) ≡ true
 or_right true is = refl

@@ -2,9 +2,9 @@
 use Rattle.radix_tree.proofs.{RoomReads.inside, RoomReads.none_some, RoomReads.Has-leaf, PartRooms.elsewhere, PartRooms.way_once, PartRooms.spine_out}
 use Rattle.radix_tree.proofs.{Lodging.stays, JoinSides.side_is, JoinSides.side_stands, JoinSides.side_forks, Lodging.new_turn}
 use Rattle.radix_tree.proofs.Words.{◌≡◌, ◌+◌, ◌≤◌, ◌==◌, Bool, true, false, if◌then◌else◌, List, [], ◌∷◌, Option, Some, None, refl, sym, ap, ◌∙◌, arith}
-use Rattle.radix_tree.proofs.Words.{ℕ, eq-eqb, ne_eqb, is_some, Has, Id, Node, LeafOf, BitOf, Tree, LeafPart, BitPart, Part, bit_part, leaf_in, leaves_in}
-use Rattle.radix_tree.proofs.Words.{bits_in, name_of, Way, one_if, forks_at, name_child, with_child, AreOnce, IsApart, IsLone, content_of, put_bit}
-use Rattle.radix_tree.proofs.Words.{put_head, leaf_above, bit_above, lift_leaf, lift_bit, Lodged}
+use Rattle.radix_tree.proofs.Words.{ℕ, eq-eqb, ne_eqb, is_some, Has, Id, Node, LeafOf, BitOf, Tree, BitPart, Part, bit_part, leaf_in, leaves_in, bits_in}
+use Rattle.radix_tree.proofs.Words.{name_of, Way, one_if, forks_at, name_child, with_child, AreOnce, IsApart, IsLone, put_bit, put_head, bit_above}
+use Rattle.radix_tree.proofs.Words.{lift_bit, Lodged}
 
 -- ---- a room that is not written
 pub put_off : (room : Id) (n : ℕ) (said : Option BitPart) → (n ≡ room.number → ⊥) → put_bit room None n said ≡ said
@@ -43,20 +43,6 @@ turn_used (Some over) key n to said =
     elim (n == over.number) as (λ t. is_some (if t then with_child key to said else said) ≡ is_some said) [ true ↦ turned_used key to said | false ↦ refl ]
 
 module _ {V : Type 0} where
-  -- ---- a leaf keeps its route
-  above_content : (above : Option Id) (said : Option (LeafPart V)) → content_of (leaf_above above said) ≡ content_of said
-  above_content above None = refl
-  above_content above (Some p) = refl
-
-  pub lift_content : (at : Node) (above : Option Id) (n : ℕ) (said : Option (LeafPart V)) → content_of (lift_leaf at above n said) ≡ content_of said
-  lift_content (BitOf room) above n said = refl
-  lift_content (LeafOf room) above n said = elim (n == room.number) as (λ t. content_of (if t then leaf_above above said else said) ≡ content_of said)
-      [ true ↦ above_content above said | false ↦ refl ]
-
-  pub content_used : (said : Option (LeafPart V)) → is_some (content_of said) ≡ is_some said
-  content_used None = refl
-  content_used (Some p) = refl
-
   -- ---- a room that is there
   pub Has-kept : {m : Lodged V} (new : Lodged V) {room : Id} → Has m room → leaves_in new room.number ≡ leaves_in m room.number → Has new room
   Has-kept new {room = room} h same = Has-leaf new room (same ∙ ap leaf_in h.at) h.block

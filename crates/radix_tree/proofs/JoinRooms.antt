@@ -7,26 +7,24 @@ use Rattle.radix_tree.proofs.Words.{is_some, Has, leaf_of, bit_node_of, Id, BitN
 use Rattle.radix_tree.proofs.Words.{IsTree, LeafPart, BitPart, Bits, Part, leaf_in, leaves_in, bits_in, heads_in, name_of, ForkAt, one_if, HasOneFork}
 use Rattle.radix_tree.proofs.Words.{HaveOneFork, name_child, other_side, IsApart, IsLone, IsWholeBut, has_key, nobody_out, content_of, KeepsRoutes}
 use Rattle.radix_tree.proofs.Words.{put_bit, lift_leaf, lift_bit, Lodged, IsLonely, [], true≢false}
+use Rattle.radix_tree.proofs.{ChainWrites.own_part}
 use Rattle.radix_tree.proofs.RoomReads.{inside, none_some, AreLinks, Has-leaf, bit_read, bit_used, head_read}
 
 module _ {V : Type 0} where
   -- ---- the route's room
   module _ {m : Lodged V} {at : Id} (h : Has m at) where
-    abbrev own_part : LeafPart V
-    own_part = record { block = h.room.block; value = h.room.value; leaf = leaf_of h.room.links }
-
     read_is : (links : Links) {l : Leaf} → AreLinks m at links → l ≡ leaf_of links → leaf_of h.room.links ≡ l
     read_is links are is = sym (is ∙ ap leaf_of (are h.room h.at))
 
     pub lone_read : {root : Node} {late : ℕ → Bool} (w : IsWholeBut m root late nobody_out) {up : Id} (links : Links) {l : Leaf} → AreLinks m at links
         → l ≡ leaf_of links → IsLonely m at → l.above ≡ Some up → IsLone m w.part at up
     lone_read w {up = up} links are is lonely above =
-        let r = lonely own_part (ap leaf_in h.at) in
+        let r = lonely (own_part h) (ap leaf_in h.at) in
         lone m w at up (ap leaf_in h.at) h.block r.0 r.1 (ap (λ z. z.above) (read_is links are is) ∙ above)
 
     pub never_top : (links : Links) {l : Leaf} → AreLinks m at links → l ≡ leaf_of links → IsLonely m at → l.above ≡ None → ⊥
     never_top links are is lonely none =
-        let r = lonely own_part (ap leaf_in h.at) in
+        let r = lonely (own_part h) (ap leaf_in h.at) in
         true≢false (sym r.2 ∙ ap (λ z. is_some z.above) (read_is links are is) ∙ ap is_some none)
 
     pub key_read : {whole : Part m} {up : Id} (links : Links) {l : Leaf} (f : IsLone m whole at up) → AreLinks m at links → l ≡ leaf_of links

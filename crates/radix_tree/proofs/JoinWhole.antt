@@ -1,23 +1,18 @@
 -- A route that is alone at its leaf goes, and with it the bit node above: the rooms as a whole.
+use Rattle.radix_tree.proofs.{MovedReads.content_lift}
 use Rattle.radix_tree.proofs.{RoomReads.inside, RoomReads.none_some, PartRooms.one_if_same, Forking.lifted, Beside.misses_leaf, Beside.misses_bit}
 use Rattle.radix_tree.proofs.{Beside.named_leaf, Beside.named_bit, Plugs.counted_leaf, Plugs.spare_same, PlugLists.marked_same, PlugLists.lists_same}
 use Rattle.radix_tree.proofs.{Exchanging.exchanged, WholeParts.Fits, Facts.some_of, WholeChanges.spare_changed, WholeChanges.whole_changed}
 use Rattle.radix_tree.proofs.{WholeRoutes.routes_changed, WholeRoutes.loses_spliced, JoinLists.same_rank_at, JoinLone.lone_said}
-use Rattle.radix_tree.proofs.{ChainRemovals.routes_some, MovedReads.lift_used}
+use Rattle.radix_tree.proofs.{ChainRemovals.routes_some, MovedReads.lift_used, Facts.test_turned}
 use Rattle.radix_tree.proofs.Words.{◌≡◌, ◌+◌, ◌<◌, ◌≤◌, ◌==◌, true, false, Some, None, inl, inr, refl, sym, ap, ◌∙◌, subst, arith, ℕ, eqb-true, eq-eqb}
-use Rattle.radix_tree.proofs.Words.{ne_eqb, is_some, Id, Node, Placed, Tree, leaf, fork, IsIn, IsTree, LeafPart, Part, leaves_in, bits_in, heads_in}
-use Rattle.radix_tree.proofs.Words.{masks_in, name_of, one_if, leaves_at, forks_at, shown, shown_entry, name_child, root_after, AreOnce, Gains}
-use Rattle.radix_tree.proofs.Words.{IsExchange, Exchanged, IsLone, IsHanded, IsWholeBut, nobody_late, nobody_out, late_at, out_at, content_of}
-use Rattle.radix_tree.proofs.Words.{KeepsRoutes, put_bit, lift_leaf, lift_bit, Lodged, true≢false}
+use Rattle.radix_tree.proofs.Words.{is_some, Id, Node, Placed, Tree, leaf, fork, IsIn, IsTree, LeafPart, Part, leaves_in, bits_in, heads_in, masks_in}
+use Rattle.radix_tree.proofs.Words.{name_of, one_if, leaves_at, forks_at, shown, shown_entry, name_child, root_after, AreOnce, Gains, IsExchange}
+use Rattle.radix_tree.proofs.Words.{Exchanged, IsLone, IsHanded, IsWholeBut, nobody_late, nobody_out, late_at, out_at, content_of, KeepsRoutes, put_bit}
+use Rattle.radix_tree.proofs.Words.{lift_leaf, lift_bit, Lodged, true≢false}
 use Rattle.radix_tree.proofs.JoinSides.{side_is, side_says, side_leaves, side_in, in_side, side_have, home_side, side_spare, side_gains}
-use Rattle.radix_tree.proofs.JoinLinks.{put_off, put_none, put_here, turn_none, turn_used, lift_none, lift_content, quiet}
+use Rattle.radix_tree.proofs.JoinLinks.{put_off, put_none, put_here, turn_none, turn_used, lift_none, quiet}
 use Rattle.radix_tree.proofs.JoinLinks.{lone_once, lone_forks, lone_apart, other_part}
-
-one_flip : (a b : ℕ) → one_if (a == b) ≡ one_if (b == a)
-one_flip a b = elim (a == b) as (λ t. (a == b) ≡ t → one_if t ≡ one_if (b == a)) [
-  | true ↦ λ e. sym (ap one_if (eq-eqb b a (sym (eqb-true a b e))))
-  | false ↦ λ e. sym (ap one_if (ne_eqb b a (λ same. true≢false (sym (eq-eqb a b (sym same)) ∙ e))))
-] refl
 
 module _ {V : Type 0} where
   -- a tree whose bits are past one is one whose bits are past a lower one
@@ -94,7 +89,7 @@ module _ {V : Type 0} where
 
     -- ---- what the rooms say
     pub routes_kept : {new : Lodged V} → IsJoined m new whole at up l → KeepsRoutes m new
-    routes_kept j n = ap content_of (j.leaves n) ∙ lift_content (name_of l.other) l.over.above n (leaves_in m n)
+    routes_kept j n = ap content_of (j.leaves n) ∙ content_lift (name_of l.other) l.over.above n (leaves_in m n)
 
     -- a room that is no bit node stays none
     pub idle_stays : {new : Lodged V} → IsJoined m new whole at up l → (n : ℕ) → bits_in m n ≡ None → bits_in new n ≡ None
@@ -152,7 +147,7 @@ module _ {V : Type 0} where
           leaves = λ n.
               let sum = side_leaves n l.sides in
               let same = ap one_if (routes_some m new (routes_kept j) n) in
-              let flip = one_flip n at.number ∙ ap (λ i. one_if (i.number == n)) (sym l.room_is) in omega arith;
+              let flip = ap one_if (test_turned n at.number) ∙ ap (λ i. one_if (i.number == n)) (sym l.room_is) in omega arith;
           forks = λ n. fork_count new j n;
           heads = λ n none some. h.heads n none;
           masks = λ n none some. h.masks n (λ y is past same.

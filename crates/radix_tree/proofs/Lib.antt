@@ -49,7 +49,6 @@ pub mod MaskClears
 pub mod MaskLists
 pub mod MaskWalks
 pub mod MemberLemmas
-pub mod MovedLists
 pub mod MovedReads
 pub mod MoveWrites
 pub mod MovedRooms

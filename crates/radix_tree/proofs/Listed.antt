@@ -5,7 +5,8 @@ use Rattle.radix_tree.proofs.Words.{arith, eq-eqb, ne_eqb, cases_eq, is_some, Id
 use Rattle.radix_tree.proofs.Words.{HasHome, KeepsLeaves, KeepsBits, AreOnce, IsMarked, IsMaskList, MarkedIn, IsWholeBut, nobody_late, nobody_out}
 use Rattle.radix_tree.proofs.Words.{IsMasks, IsBitNode, IsFree, IsAside, IsNoRank, HomeAt, IsHome, sorted_in, taken_out, Lodged}
 use Rattle.radix_tree.proofs.MaskLists.{sorted_here, among_sorted, sorted_among, falls_sorted, taken_among, among_taken, falls_taken, ranked_in}
-use Rattle.radix_tree.proofs.MaskLists.{bit_node_at, masks_listed}
+use Rattle.radix_tree.proofs.{Climbs.used}
+use Rattle.radix_tree.proofs.MaskLists.{masks_listed}
 use Rattle.radix_tree.proofs.HomeLists.{or_right, one_room, one_of_bit, home_has, tree_of, home_list, home_inside, relisted}
 use Rattle.radix_tree.proofs.HomeLists.{whole_kept}
 use Rattle.radix_tree.proofs.Words.{true≢false}
@@ -241,7 +242,7 @@ module _ {V : Type 0} where
       record { is = y; inside = is; room_is = room_is; home = subst (IsHome m y.entry.key y.entry.rank whole) some home }
 
   pub home_node : {m : Lodged V} {whole : Part m} {room node : Id} → Homed m whole room node → IsBitNode m node
-  home_node {m = m} y = bit_node_at y.home.at
+  home_node {m = m} y = used y.home.at
 
   pub home_masks : {m : Lodged V} {root : Node} {late : ℕ → Bool} (w : IsWholeBut m root late nobody_out) {room node : Id} → Homed m w.part room node
       → (ms : List (Placed V)) × IsMasks m (heads_in m node.number) ms

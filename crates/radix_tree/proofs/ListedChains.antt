@@ -1,4 +1,5 @@
 -- A walk along a chain whose masks are listed one after the other.
+use Rattle.radix_tree.proofs.{Scans.ended_at}
 use Rattle.radix_tree.proofs.{RoomReads.inside, RoomReads.none_some, RoomReads.AreLinks, RoomReads.Has-leaf, RoomReads.leaf_read, TreeMembers.IsHead}
 use Rattle.radix_tree.proofs.{TreeMembers.head_of, TreeMembers.tree_said, Parts.among_leaf, Parts.way_leads, WaysDown.way_to_leaf, ChainStarts.member_of}
 use Rattle.radix_tree.proofs.{HomeLists.placed_in, Listed.settled, WholeParts.later_than, ListedHomes.chain_of}
@@ -190,11 +191,7 @@ module _ {V : Type 0} where
       omega arith
 
   -- ---- its end
-  none_among : (c : List (Placed V)) → first_room c ≡ None → (x : Placed V) → IsAmong x c → ⊥
-  none_among [] none x among = among
-  none_among (y ∷ c) none x among = absurd (none_some (sym none))
-
   pub ended : {m now : Lodged V} {root : Node} (late : ℕ → Bool) (key : ℕ) {at : Option Id} → Left m now root late key at → at ≡ None
       → IsWholeBut now root (λ n. late n && not (has_key m key n)) nobody_out
   ended {m = m} late key l is = later_than (λ n. late n && not (has_key m key n)) (λ n is_late. both_true (late n) (has_key m key n) (l.less n is_late)
-      (λ has. let x = l.behind n is_late has in none_among l.rest.members (l.begins ∙ is) x.0 x.1)) l.whole
+      (λ has. let x = l.behind n is_late has in ended_at l.rest.members (l.begins ∙ is) x.0 x.1)) l.whole

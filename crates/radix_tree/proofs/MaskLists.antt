@@ -1,10 +1,10 @@
 -- The members of a list of masks, and of what comes of it.
-use Rattle.radix_tree.proofs.{RoomReads.inside, TreeMembers.tree_said, Parts.bit_part_of, Parts.fork_stands}
+use Rattle.radix_tree.proofs.{RoomReads.inside, TreeMembers.tree_said}
 use Rattle.std.proofs.lemmas.Bool.{ltb-true, ltb-false, lt-ltb, le-ltb}
 use Rattle.radix_tree.proofs.Words.{◌≡◌, ℕ, ◌+◌, ◌<◌, ◌≤◌, ◌⊎◌, true, false, nat_lt, if◌then◌else◌, List, [], ◌∷◌, ◌++◌, Option, is_some, refl, sym, ap}
 use Rattle.radix_tree.proofs.Words.{◌∙◌, subst, inl, inr, arith, cases_eq, Id, Placed, IsAmong, IsIn, Leaves, Masks, Part, leaves_in, bits_in, masks_in}
-use Rattle.radix_tree.proofs.Words.{leaf_part, MasksStand, Falls, ForkAt, IsMarked, IsMaskList, IsMasks, IsRanked, AreRanked, IsBitNode, IsNoRank}
-use Rattle.radix_tree.proofs.Words.{not_below, below, sorted_in, taken_out, Lodged}
+use Rattle.radix_tree.proofs.Words.{leaf_part, MasksStand, Falls, IsMarked, IsMaskList, IsMasks, IsRanked, AreRanked, IsNoRank, not_below, below}
+use Rattle.radix_tree.proofs.Words.{sorted_in, taken_out, Lodged}
 
 pub short_or_long : (rank low : ℕ) → (rank < low) ⊎ (low ≤ rank)
 short_or_long rank low = elim (nat_lt rank low) as (λ t. nat_lt rank low ≡ t → (rank < low) ⊎ (low ≤ rank)) [
@@ -215,9 +215,6 @@ module _ {V : Type 0} where
   ranked_in m p x is =
       let said = tree_said (leaves_in m) (bits_in m) p.above p.tree p.stands x is in
       record { part = leaf_part x said.0 said.1 said.2; said = said.3; block = refl; rank = refl }
-
-  pub bit_node_at : {m : Lodged V} {p : Part m} {room : Id} → ForkAt p room → IsBitNode m room
-  bit_node_at f = record { part = bit_part_of f; said = (fork_stands f).0; block = refl }
 
   -- the list of a bit node of a tree
   pub masks_listed : {m : Lodged V} (p : Part m) {first : Option Id} {low b : ℕ} {M : Placed V → Type 0} (l : IsMaskList (masks_in m) first low b M) → b ≤ 31

@@ -1,12 +1,12 @@
 -- A bit node in use moves from its room to another: what the rooms say afterwards is the tree with the bit node there.
 use Rattle.radix_tree.proofs.{Parts.fork_is, Parts.fork_stands, Parts.bit_part_of, PartRooms.way_once, Forking.lifted, Beside.misses_leaf}
-use Rattle.radix_tree.proofs.{Beside.misses_bit, MovedLists.marked_stays, MovedLists.list_kept, MovedLists.lists_kept, WholeParts.Fits, Parts.way_lists}
+use Rattle.radix_tree.proofs.{Beside.misses_bit, PlugLists.marked_same, PlugLists.mask_list_same, PlugLists.lists_same, WholeParts.Fits, Parts.way_lists}
 use Rattle.radix_tree.proofs.{PartRooms.zero_turned, PartRooms.one_turned}
 use Rattle.radix_tree.proofs.Words.{◌≡◌, ℕ, ◌+◌, ◌≤◌, ◌==◌, true, false, if◌then◌else◌, List, ◌∷◌, Some, None, refl, sym, ap, ◌∙◌, subst, inl, inr, arith}
 use Rattle.radix_tree.proofs.Words.{eqb-true, is_some, Id, Node, BitOf, BitNode, fork, bit_at, HaveBit, IsIn, Part, leaves_in, bits_in, heads_in}
 use Rattle.radix_tree.proofs.Words.{masks_in, bit_part, head_part, name_of, Stands, Beneath, Way, one_if, forks_at, HasHome, name_child, with_child}
 use Rattle.radix_tree.proofs.Words.{AreOnce, MarkedLists, nobody_late, out_at, put_bit, put_head, lift_leaf, lift_bit, IsExchange, renamed, with_renamed}
-use Rattle.radix_tree.proofs.Words.{rename, Lodged, IsMarked, [], cases_eq}
+use Rattle.radix_tree.proofs.Words.{rename, Lodged, IsMarked, [], cases_eq, MarkedIn}
 use Rattle.radix_tree.proofs.MovedReads.{one_if_is, one_if_not, at_room, rename_misses, renamed_to, renamed_off}
 use Rattle.radix_tree.proofs.MovedReads.{leaf_off, bit_off, content_used}
 use Rattle.radix_tree.proofs.MoveWrites.{bit_said, IsMove, IsMoved, at_once, at_forks, at_leaves, from_in, not_from, out_not_from, not_to, beneath_whole}
@@ -142,9 +142,13 @@ module _ {V : Type 0} where
         ∙ ap (heads_in m) (sym v.number) in
         let stays : (k : ℕ) → 1 ≤ forks_at k v.f.zero + forks_at k v.f.one → heads_in new k ≡ heads_in m k = λ k some. let le = beneath_whole v k in
         head_stays d k (not_from v k some) (not_to v k (omega arith)) in (
-          list_kept (masks_in m) (masks_in new) (fork to v.f.bit v.f.zero v.f.one) d.masks head old.0,
-          lists_kept (heads_in m) (heads_in new) (masks_in m) (masks_in new) (v.f.bit + 1) v.f.zero d.masks (λ k some. stays k (omega arith)) old.1,
-          lists_kept (heads_in m) (heads_in new) (masks_in m) (masks_in new) (v.f.bit + 1) v.f.one d.masks (λ k some. stays k (omega arith)) old.2,
+          mask_list_same (masks_in m) (masks_in new) v.at.low v.f.bit (MarkedIn (masks_in new) (fork to v.f.bit v.f.zero v.f.one)) head
+              (λ x is below. ((is.0, marked_same (masks_in m) (masks_in new) x (d.masks x.room.number) is.1), d.masks x.room.number))
+              (λ x is below. (is.0, marked_same (masks_in new) (masks_in m) x (sym (d.masks x.room.number)) is.1)) old.0,
+          lists_same (heads_in m) (heads_in new) (masks_in m) (masks_in new) (v.f.bit + 1) v.f.zero (λ k some. stays k (omega arith))
+              (λ y at. d.masks y.room.number) old.1,
+          lists_same (heads_in m) (heads_in new) (masks_in m) (masks_in new) (v.f.bit + 1) v.f.one (λ k some. stays k (omega arith))
+              (λ y at. d.masks y.room.number) old.2,
         )
 
     -- what each number has in use
@@ -180,12 +184,12 @@ module _ {V : Type 0} where
       marks = λ k p is. (p, sym (d.masks k) ∙ is);
       kept = λ y is marked. (subst (IsIn y) v.f.is is, λ home. inr (subst (HasHome y.entry.key y.entry.rank) v.f.is home));
       came = λ y is marked. subst (IsIn y) (sym v.f.is) is;
-      gone = λ y is below marked. marked_stays (masks_in m) (masks_in new) y d.masks marked;
+      gone = λ y is below marked. marked_same (masks_in m) (masks_in new) y (d.masks y.room.number) marked;
       lists = lists_moved;
       all = λ y is home. inr (
         subst (IsIn y) (sym v.f.is) is,
         elim home [ inl below ↦ inl below | inr here ↦ inr (subst (HasHome y.entry.key y.entry.rank) (sym v.f.is) here) ],
-        λ marked. marked_stays (masks_in m) (masks_in new) y d.masks marked,
+        λ marked. marked_same (masks_in m) (masks_in new) y (d.masks y.room.number) marked,
         λ late. late,
       );
       late_aside = λ k none some late. late;

@@ -1,7 +1,7 @@
 -- A room that is out of the tree leaves the map: the whole and its routes stay.
 use Rattle.radix_nodes.proofs.Callers.{get-removed}
 use Rattle.radix_tree.proofs.{RoomReads.inside, RoomReads.none_some, PartRooms.frame, Plugs.counted_leaf, WholeRoutes.part_shown, MovedReads.content_used}
-use Rattle.radix_tree.proofs.{MovedLists.marked_stays, MovedLists.lists_kept, MovedSpare.tree_stays, MovedWhole.out_leaf, MovedWhole.out_apart}
+use Rattle.radix_tree.proofs.{PlugLists.marked_same, PlugLists.lists_same, MovedSpare.tree_stays, MovedWhole.out_leaf, MovedWhole.out_apart}
 use Rattle.std.specs.FinMap.{remove}
 use Rattle.radix_tree.proofs.Words.{◌≡◌, ℕ, ◌+◌, ◌||◌, if◌then◌else◌, List, Option, Some, None, refl, sym, ap, ◌∙◌, inl, inr, arith, eq-eqb, ne_eqb}
 use Rattle.radix_tree.proofs.Words.{is_some, get, Ptr, Seen, Has, bit_node_of, Id, Node, BitNode, LeafPart, MaskPart, Part, leaf_in, bit_in, head_in}
@@ -76,11 +76,11 @@ module _ {V : Type 0} where
           leaves = leaves_left;
           forks = λ k. w.forks k ∙ ap (λ o. one_if (is_some o)) (sym (bits k));
           spare = tree_stays (bits_in m) (bits_in (remove m n)) w.part.tree (λ k some idle. bits k ∙ idle) w.spare;
-          lists = lists_kept (heads_in m) (heads_in (remove m n)) (masks_in m) (masks_in (remove m n)) w.part.low w.part.tree masks (λ k some. heads k)
-              w.lists;
+          lists = lists_same (heads_in m) (heads_in (remove m n)) (masks_in m) (masks_in (remove m n)) w.part.low w.part.tree (λ k some. heads k)
+              (λ y at. masks y.room.number) w.lists;
           listed = λ k p is. w.listed k p (sym (masks k) ∙ is);
           all = λ x is home. elim (w.all x is home) [
-            | inl marked ↦ inl (marked_stays (masks_in m) (masks_in (remove m n)) x masks marked)
+            | inl marked ↦ inl (marked_same (masks_in m) (masks_in (remove m n)) x (masks x.room.number) marked)
             | inr late ↦ inr late
           ];
         }

@@ -1,4 +1,4 @@
-use Rattle.radix_tree.proofs.{Parts.fork_named, MaskLists.bit_node_at, Cuts.list_at, BesideWhole.new_key, BesideWhole.came_beside}
+use Rattle.radix_tree.proofs.{Parts.fork_named, Climbs.used, Cuts.list_at, BesideWhole.new_key, BesideWhole.came_beside}
 use Rattle.radix_tree.proofs.{BesideWhole.whole_beside, BesideWhole.routes_beside}
 use Rattle.radix_tree.proofs.Words.{◌≡◌, ◌==◌, ◌||◌, sym, ap, ◌∙◌, subst, get, Part, mask_in, LedTo, IsWhole, Differs, IsSpot, forked_tree, placed}
 use Rattle.radix_tree.proofs.Words.{Exchanged, IsWholeBut, HasRoomMore, has_key, nobody_out}
@@ -14,7 +14,7 @@ pub cut-masks-requires-clause-node : goal.cut-masks-requires-clause-node
 cut-masks-requires-clause-node g c fork is =
     let n = c.requires.new in
     let s = c.spot_above-spot.ensures.spot c.args.entry.key (new_key n.0 n.1 n.2) in
-    bit_node_at (fork_named s.at (s.named ∙ is))
+    used (fork_named s.at (s.named ∙ is))
 
 pub cut-masks-requires-clause-list : goal.cut-masks-requires-clause-list
 cut-masks-requires-clause-list g c fork is =

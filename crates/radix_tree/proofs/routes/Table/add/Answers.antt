@@ -1,12 +1,9 @@
 use Rattle.std.proofs.Common.{rules}
 use Rattle.radix_tree.proofs.{Counted.few_held, Counted.counted_more, Numbers.free_room, Numbers.used_more, WholeRoutes.gains_entry, Kept.shown_table}
 use Rattle.radix_tree.proofs.{Kept.shown_next, routes.Table.add.Goals.After-begin-visits, routes.Table.add.Goals.In-Ok}
-use Rattle.radix_tree.proofs.Words.{◌≡◌, ℕ, ◌+◌, ◌≤◌, ◌==◌, if◌then◌else◌, true, false, Some, None, is_some, refl, sym, ap, subst, ◌∙◌, keys, HasOneMore}
-use Rattle.radix_tree.proofs.Words.{AreCounted, entry_at, uses, with_entry, shown}
+use Rattle.radix_tree.proofs.Words.{◌≡◌, ℕ, ◌+◌, ◌≤◌, ◌==◌, if◌then◌else◌, Some, None, is_some, refl, sym, ap, subst, ◌∙◌, keys, HasOneMore, AreCounted}
+use Rattle.radix_tree.proofs.Words.{entry_at, uses, with_entry, shown, true≢false}
 use Rattle.radix_tree.proofs.routes.Table.add.Goals as goal
-
-true_false : true ≡ false → ⊥
-true_false e = cc
 
 -- the numbers in use before are those that the table shows
 numbers : (g : _) (c : After-begin-visits g) (n : ℕ) → uses n (keys c.begin-visits.new.self.lodged) ≡ uses n c.args.self.now.numbers
@@ -44,7 +41,7 @@ invariant_of-self-in-Ok g c =
 pub returns-clause-there : goal.returns-clause-there
 returns-clause-there g c =
     let none = absent g (goal.at.returns-clause-there g c).In-Ok in
-    (λ e. absurd (true_false (sym e)), λ some. ap is_some (sym none) ∙ some)
+    (λ e. absurd (true≢false (sym e)), λ some. ap is_some (sym none) ∙ some)
 
 pub returns-clause-absent : goal.returns-clause-absent
 returns-clause-absent g c = absent g (goal.at.returns-clause-absent g c).In-Ok
