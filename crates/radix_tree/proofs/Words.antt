@@ -26,7 +26,6 @@ pub use Rattle.radix_nodes.specs.declared.links.MaskNode.{MaskNode}
 pub use Rattle.radix_nodes.specs.declared.links.Node.{Node}
 pub use Rattle.radix_nodes.specs.declared.links.Node.TheVariants.{Bit as BitOf, Leaf as LeafOf}
 pub use Rattle.radix_nodes.specs.declared.nodes.Nodes.{Nodes}
-pub use Rattle.radix_tree.specs.Rooms.{IsMarked, IsMaskList, MarkedIn, MarkedLists}
 pub use Rattle.radix_tree.specs.Bounds.{levels}
 pub use Rattle.radix_tree.specs.Chains.{ArePast, FindsGap, IsBelow, IsGap, Passed, above_behind, last_room, leaf_back, leaf_next, link_in, link_out, name_back}
 pub use Rattle.radix_tree.specs.Chains.{name_next, root_past}
@@ -37,14 +36,14 @@ pub use Rattle.radix_tree.specs.Growth.{root_after, with_child, with_head}
 pub use Rattle.radix_tree.specs.Joining.{HasSides, IsApart, IsHanded, IsLone, IsLonely, other_side}
 pub use Rattle.radix_tree.specs.Kept.{AreCounted, IsKept, contents, of_rank}
 pub use Rattle.radix_tree.specs.Lending.{with_value}
-pub use Rattle.radix_tree.specs.Marks.{HasRoomMore, has_key, is_of_key, late_at}
-pub use Rattle.radix_tree.specs.Marks.{out_at}
+pub use Rattle.radix_tree.specs.Marks.{HasRoomMore, has_key, is_of_key, late_at, out_at}
 pub use Rattle.radix_tree.specs.MaskLists.{AreRanked, HomeAt, IsAside, IsBitNode, IsFree, IsHome, IsMasks, IsNoRank, IsRanked, below, head_linked, last_from}
 pub use Rattle.radix_tree.specs.MaskLists.{last_mask, mask_linked, not_below, past_bit, sorted_in, taken_out, up_to_bit}
 pub use Rattle.radix_tree.specs.Reads.{IsBitNodeOf, Reads, ReadsOnce, Stays}
 pub use Rattle.radix_tree.specs.Removal.{CanTake, Content, IsOut, KeepsRoutes, content_of, member_beside, rename, renamed, with_renamed}
-pub use Rattle.radix_tree.specs.Rooms.{AreListed, AreListed as MasksAreListed, BitPart, Bits, ChainStands, Falls, Heads, LeafPart, Leaves, Lists}
-pub use Rattle.radix_tree.specs.Rooms.{Lodged, MaskPart, Masks, MasksStand, Part, Run, Stands, bit_in, bit_part, bits_in, first_room, head_in, head_part}
+pub use Rattle.radix_tree.specs.Rooms.{AreListed, AreListed as MasksAreListed, BitPart, Bits, ChainStands, Falls, Heads, IsMarked, LeafPart, Leaves}
+pub use Rattle.radix_tree.specs.Rooms.{IsMaskList, Lists, Lodged, MarkedIn, MarkedLists}
+pub use Rattle.radix_tree.specs.Rooms.{MaskPart, Masks, MasksStand, Part, Run, Stands, bit_in, bit_part, bits_in, first_room, head_in, head_part}
 pub use Rattle.radix_tree.specs.Rooms.{heads_in, leaf_in, leaf_part, leaves_in, mask_in, mask_part, masks_in, name_of}
 pub use Rattle.radix_tree.specs.Searches.{Beneath, Best, Finds, ForkAt, HasPair, In, LeafAt, LedTo, Tells, Way}
 pub use Rattle.radix_tree.specs.Table.{Contents, IsRoute, IsTable, agreeing, best_of, entry_at, first_of, greater, greatest, has_pair, precedes, uses}

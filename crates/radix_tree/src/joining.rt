@@ -1,12 +1,11 @@
 //! How a route that is alone at its leaf goes from a tree.
 ghost use Rattle.std.specs.Prelude.{◌≡◌, ℕ, ◌≤◌, true, Some, None};
 ghost use Rattle.radix_nodes.specs.Rooms.{Has};
-ghost use Rattle.radix_tree.specs.Rooms.{MarkedLists};
 ghost use Rattle.radix_tree.specs.Bounds.{last_bit};
 ghost use Rattle.radix_tree.specs.Growth.{name_child as child_named};
 ghost use Rattle.radix_tree.specs.Joining.{other_side, IsApart, IsLone, IsHanded, IsLonely};
 ghost use Rattle.radix_tree.specs.Marks.{has_key};
-ghost use Rattle.radix_tree.specs.Rooms.{LeafPart, Part, leaves_in, bits_in, heads_in, masks_in, name_of};
+ghost use Rattle.radix_tree.specs.Rooms.{LeafPart, Part, MarkedLists, leaves_in, bits_in, heads_in, masks_in, name_of};
 ghost use Rattle.radix_tree.specs.Removal.{IsUnlisted, TakesOut};
 ghost use Rattle.radix_tree.specs.Searches.{ForkAt};
 ghost use Rattle.radix_tree.specs.Writes.{put_bit as bit_put, put_head as head_put, lift_leaf as leaf_lifted, lift_bit as bit_lifted, KeepsMasks, KeepsTree};
