@@ -1,7 +1,8 @@
 //! The words of the command line, of which the first is the program's name.
-ghost use Rattle.std.specs.Prelude.{◌≡◌, ◌≢◌, ◌⊎◌, [], IfErr, IfOk, map, option_map};
+ghost use Rattle.std.specs.Prelude.{◌≡◌, ◌≢◌, ◌⊎◌, [], Err, IfErr, IfOk, MatchResult, map, option_map};
 ghost use Rattle.std.specs.IoError.{error_kind};
 ghost use Rattle.std.specs.String.{string_bytes};
+ghost use Rattle.std.specs.Vec.Iter.{into_iter_items};
 ghost use Rattle.program_ends.specs.CommandLine.{faults_of, file_of};
 ghost use Rattle.program_ends.specs.declared.refusal.Refusal.TheVariants.{NoMemory, Usage};
 
@@ -9,7 +10,7 @@ use crate::Refusal;
 use clap::{Arg, Command};
 use std::alloc::Global;
 use std::env;
-use std::env::Env;
+use std::env::{Args, Env};
 use std::io::{self, ErrorKind};
 
 /// The refusal of words that can't be had for this error.
@@ -27,12 +28,21 @@ fn words_refused(error: &io::Error) -> Refusal
 pub fn words_of<R: Env + AllocGlobal>(rt: &R) -> Result<Vec<String>, Refusal>
     ensures { IfErr result (λ why. (why ≡ NoMemory) ⊎ (why ≡ Usage)) }
 {
-    let args = match env::args(rt) {
-        Ok(args) => args,
+    words_in(rt.alloc(), env::args(rt))
+}
+
+/// These words, all of them and in their order, where they could be had.
+fn words_in(alloc: Global, given: io::Result<Args>) -> Result<Vec<String>, Refusal>
+    ensures words { IfOk given (λ words. MatchResult result (λ all. all.items ≡ into_iter_items words) (λ why. why ≡ NoMemory)) }
+    ensures memory { IfErr given (λ error. error_kind error ≡ ErrorKind.OutOfMemory → result ≡ Err NoMemory) }
+    ensures other { IfErr given (λ error. error_kind error ≢ ErrorKind.OutOfMemory → result ≡ Err Usage) }
+{
+    let given = match given {
+        Ok(given) => given,
         Err(error) => return Err(words_refused(&error)),
     };
-    let mut words = Vec::new(rt.alloc());
-    for word in args {
+    let mut words = Vec::new(alloc);
+    for word in given {
         let Ok(()) = words.push(word) else {
             return Err(Refusal::NoMemory);
         };
