@@ -1,4 +1,5 @@
 pub mod CommandLine
 pub mod Endings
 pub mod Outcomes
+pub mod Reads
 pub mod Refusals

@@ -1,6 +1,6 @@
 -- How what is shown of the parts of a text is put together, and the steps of a run.
-use Rattle.std.proofs.Common.{◌≡◌, ◌≢◌, ◌⊎◌, ◌||◌, ℕ, Bool, true, false, cond, List, [], ◌∷◌, ◌++◌, Option, Some, None, Result, Ok, Err, refl, sym, ap, ◌∙◌, subst, append_assoc, append-nil, inl, inr, ◌+◌, ◌≤◌, length, length-append, length-take-le, take, drop, take-append-drop, suc, ◌<◌, arith}
-use Rattle.std.specs.Prelude.{IfErr, IfNone, IfSome, flat_map}
+use Rattle.std.proofs.Common.{◌≡◌, ◌⊎◌, ◌||◌, ℕ, true, false, cond, List, [], ◌∷◌, ◌++◌, Option, Result, Ok, Err, refl, sym, ap, ◌∙◌, subst, append_assoc, append-nil, inl, inr, ◌+◌, length, length-take-le, take, drop, take-append-drop, suc, ◌<◌, arith}
+use Rattle.std.specs.Prelude.{IfErr, IfSome, flat_map}
 use Rattle.std.specs.Result.{IsErrAnd}
 use Rattle.std.specs.Io.KnownBytes.{Appends, Consumes, IsAtEnd, Keeps}
 use Rattle.std.proofs.KnownBytes.{Appends-nil, Appends-trans, Consumes-kept, Consumes-nil, Consumes-trans, Consumes-whole}
@@ -9,14 +9,15 @@ use Rattle.event_file.specs.Counts.{Counts}
 use Rattle.event_file.specs.Lines.{begun_line, ended_lines, first_line, has_newline, lines_of}
 use Rattle.event_file.specs.Output.{Wrote, WroteFront}
 use Rattle.event_file.proofs.Fronts.{Wrote-nil, Wrote-then}
-use Rattle.event_file.proofs.LineLemmas.{begun_line-end, begun_line-more, begun_line-no_newline, ended_lines-append, ended_lines-end, ended_lines-more, has_newline-append, lines_of-ended, lines_of-line, take-first_line}
+use Rattle.event_file.proofs.LineLemmas.{begun_line-end, begun_line-more, ended_lines-append, ended_lines-end, ended_lines-more, has_newline-append, lines_of-ended, lines_of-line, take-first_line}
+use Rattle.program_ends.proofs.ReadLemmas.{Appends-kept}
 use Rattle.program_ends.specs.declared.outcome.Outcome.{Outcome}
 use Rattle.program_ends.specs.declared.outcome.Outcome.TheVariants.{Done, BadLine, ReadFault, WriteFault, NoMemory}
 use Rattle.show_main.specs.declared.lines.Fault.{Fault}
 use Rattle.show_main.specs.declared.lines.Fault.TheVariants as fault
 use Rattle.show_main.specs.Ends.{Ends, ShowedFrontOf, WroteFrontOf}
 use Rattle.show_main.specs.Faults.{ShowedBefore, ShowedFront, failures_of}
-use Rattle.show_main.specs.Progress.{Finishes, HasRead, Reached}
+use Rattle.show_main.specs.Progress.{Finishes, Reached}
 use Rattle.show_main.specs.Shown.{shown_ended, shown_line, shown_text}
 
 -- ---- a text in parts
@@ -120,12 +121,6 @@ module _ {T : Type 0} {contents : T → Option (List ℕ)} where
 pub Reached-start : (before old : Option (List ℕ)) (line : List ℕ) → line ≡ [] → Reached before before old old line
 Reached-start before old line none = record { read = []; consumes = Consumes-nil before; appends = Appends-nil old; line_is = none }
 
-pub Appends-kept : (a b c : Option (List ℕ)) (t : List ℕ) → Appends a b t → Keeps b c → Appends a c t
-Appends-kept None b c t p k = tt
-Appends-kept (Some xs) None c t p k = absurd (p)
-Appends-kept (Some xs) (Some ys) None t p k = absurd (k)
-Appends-kept (Some xs) (Some ys) (Some zs) t p k = k ∙ p
-
 -- the lines that some bytes end, behind what had come of the first
 shown_after : {before mid c d : Option (List ℕ)} {line : List ℕ} (bytes : List ℕ) (r : Reached before mid c d line)
     → shown_ended (r.read ++ bytes) ≡ shown_ended r.read ++ shown_ended (line ++ bytes)
@@ -140,30 +135,6 @@ Reached-read {before} {mid} {c} {d} {line} {next} after e f bytes r consumes app
       (Appends-trans c d e (shown_ended r.read) (shown_ended (line ++ bytes)) r.appends appends)) keeps;
   line_is = begun ∙ ap (λ l. begun_line (l ++ bytes)) r.line_is ∙ sym (begun_line-append r.read bytes);
 }
-
-pub HasRead-start : (before : Option (List ℕ)) → HasRead 0 before before
-HasRead-start before = record { read = []; consumes = Consumes-nil before; many = omega (arith) }
-
--- a read that gives some bytes makes them one more at least
-pub HasRead-more : {n : ℕ} {before mid after : Option (List ℕ)} (taken : ℕ) (buf : List ℕ) → HasRead n before mid → Consumes mid after (take taken buf) → taken ≤ length buf → taken ≢ 0
-    → HasRead (n + 1) before after
-HasRead-more {n} {before} {mid} {after} taken buf p consumes bound some = record {
-  read = p.read ++ take taken buf;
-  consumes = Consumes-trans before mid after p.read (take taken buf) p.consumes consumes;
-  many = omega (arith, p.many, length-append p.read (take taken buf), length-take-le taken buf bound, some);
-}
-
--- so the text is at least so long
-pub HasRead-text : {n : ℕ} {before after : Option (List ℕ)} → HasRead n before after → IfSome before (λ text. n ≤ length text)
-HasRead-text {before = None} p = tt
-HasRead-text {before = Some text} {after = None} p = absurd p.consumes
-HasRead-text {before = Some text} {after = Some rest} p = omega (arith, p.many, ap length p.consumes, length-append p.read rest)
-
--- each read but the last gave a byte
-pub HasRead-reads : (n r : ℕ) (before after : Option (List ℕ)) → HasRead n before after → r ≤ n + 1 → IfSome before (λ text. r ≤ length text + 1)
-HasRead-reads n r None after p h = tt
-HasRead-reads n r (Some text) None p h = absurd p.consumes
-HasRead-reads n r (Some text) (Some rest) p h = omega (arith, h, p.many, ap length p.consumes, length-append p.read rest)
 
 -- ---- how a run ends
 

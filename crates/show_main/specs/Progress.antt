@@ -1,5 +1,5 @@
 -- How far a run has come: what its writer took, beside what was read.
-use Rattle.std.specs.Prelude.{◌≡◌, List, length, ◌≤◌, ℕ, [], Option}
+use Rattle.std.specs.Prelude.{◌≡◌, List, ℕ, [], Option}
 use Rattle.std.specs.Io.KnownBytes.{Appends, Consumes}
 use Rattle.event_file.specs.Lines.{begun_line}
 use Rattle.program_ends.specs.declared.outcome.Outcome.{Outcome}
@@ -13,12 +13,6 @@ pub record Reached (before after old new : Option (List ℕ)) (line : List ℕ) 
   pub consumes : Consumes before after read
   pub appends : Appends old new (shown_ended read)
   pub line_is : line ≡ begun_line read
-
--- at least this many bytes have been read
-pub record HasRead (least : ℕ) (before after : Option (List ℕ)) : Type 0 where
-  pub read : List ℕ
-  pub consumes : Consumes before after read
-  pub many : least ≤ length read
 
 -- a run whose last line is this one, without a newline, ended so
 abbrev pub Finishes : Outcome → Option (List ℕ) → Option (List ℕ) → List ℕ → Type 0

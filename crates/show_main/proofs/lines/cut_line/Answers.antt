@@ -1,5 +1,4 @@
-use Rattle.std.proofs.Common.{◌≡◌, ◌+◌, ap, ◌∙◌, ◌∷◌, ◌++◌, subst, sym, Some, None, arith, false, length, take, drop, List, ℕ}
-use Rattle.std.specs.Prelude.{IfNone, Option}
+use Rattle.std.proofs.Common.{◌+◌, ap, ◌∙◌, sym, Some, None}
 use Rattle.event_file.specs.Lines.{has_newline}
 use Rattle.event_file.proofs.Fronts.{rest_is}
 use Rattle.event_file.proofs.LineLemmas.{first_line-no_newline, newline_at}

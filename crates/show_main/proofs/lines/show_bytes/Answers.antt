@@ -1,8 +1,5 @@
-use Rattle.std.proofs.Common.{◌≡◌, ◌∙◌, ◌∷◌, ◌++◌, [], ap, sym, arith, rules, length, subst, List, ℕ}
-use Rattle.event_file.specs.Lines.{begun_line}
-use Rattle.event_file.specs.Output.{Wrote}
-use Rattle.show_main.specs.Faults.{ShowedBefore, ShowedFront}
-use Rattle.show_main.specs.Shown.{shown_ended, shown_line}
+use Rattle.std.proofs.Common.{◌∙◌, ◌++◌, sym, rules}
+use Rattle.show_main.specs.Shown.{shown_ended}
 use Rattle.show_main.proofs.ShownLemmas.{ShowedBefore-all, ShowedBefore-line, ShowedBefore-stopped, ShowedFront-more, begun_line-all, begun_line-parted, by_error, no_newline-append, shown_ended-parted}
 use Rattle.show_main.proofs.lines.show_bytes.Goals as goal
 

@@ -1,7 +1,4 @@
-use Rattle.std.proofs.Common.{◌≡◌, ◌∙◌, ◌++◌, ap, sym, subst, List, ℕ}
 use Rattle.event_file.proofs.Fronts.{WroteFront-then, WroteFront-more}
-use Rattle.event_file.specs.Output.{WroteFront}
-use Rattle.show_main.specs.Shown.{told}
 use Rattle.show_main.proofs.ShownLemmas.{ShowedFront-stopped, by_error}
 use Rattle.show_main.proofs.lines.show_line.Goals as goal
 

@@ -1,6 +1,6 @@
 use Rattle.std.proofs.Common.{[], append-nil, sym}
 use Rattle.show_main.specs.Shown.{shown_line}
-use Rattle.show_main.proofs.ShownLemmas.{Appends-kept}
+use Rattle.program_ends.proofs.ReadLemmas.{Appends-kept}
 use Rattle.show_main.proofs.run.finish.Goals as goal
 
 pub returns-in_default-flush-clause-ends : goal.returns-in_default-flush-clause-ends

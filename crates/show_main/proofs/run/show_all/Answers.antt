@@ -1,11 +1,11 @@
-use Rattle.std.proofs.Common.{[], ◌≡◌, inr, ◌≤◌, length, ◌++◌, ◌∙◌, ap, arith, rules, subst, take, List, ℕ}
+use Rattle.std.proofs.Common.{◌≡◌, inr, ◌≤◌, length, ◌++◌, ◌∙◌, ap, arith, rules, subst, take}
 use Rattle.std.specs.Prelude.{IfSome}
 use Rattle.std.specs.Io.KnownBytes.{Consumes}
 use Rattle.event_file.specs.Lines.{has_newline}
 use Rattle.event_file.proofs.LineLemmas.{begun_line-no_newline}
 use Rattle.show_main.specs.declared.run.TheConstants.{MOST_READS}
-use Rattle.show_main.specs.Progress.{Finishes, HasRead}
-use Rattle.show_main.proofs.ShownLemmas.{Ends-finish, Ends-flush_fault, Ends-stopped, HasRead-more, HasRead-reads, HasRead-text, Reached-read}
+use Rattle.program_ends.proofs.ReadLemmas.{HasRead-more, HasRead-reads, HasRead-text}
+use Rattle.show_main.proofs.ShownLemmas.{Ends-finish, Ends-flush_fault, Ends-stopped, Reached-read}
 use Rattle.show_main.proofs.run.show_all.Goals as goal
 
 pub returns-then-taken-eq0-clause-ends : goal.returns-then-taken-eq0-clause-ends

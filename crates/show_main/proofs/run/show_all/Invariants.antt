@@ -1,7 +1,8 @@
 use Rattle.std.proofs.Common.{◌≡◌, ◌≤◌, false}
 use Rattle.event_file.specs.Lines.{has_newline}
 use Rattle.show_main.specs.declared.run.TheConstants.{READ_ROOM}
-use Rattle.show_main.specs.Progress.{HasRead, Reached}
+use Rattle.program_ends.specs.Reads.{HasRead}
+use Rattle.show_main.specs.Progress.{Reached}
 use Rattle.show_main.proofs.run.show_all.Given as goal
 
 abbrev pub invariant-loop-turn : goal.invariant-loop-turn
