@@ -6,9 +6,10 @@ import threading
 from by_calls import refused_in_turn
 from calls import LEFT_OUT, NO_MEMORY, OK, Room
 from callers import PAGE, TOP
-from heads import is_shown
+from messages import any_shown
 from misuse import FILLED, begun, state
 from prototypes import Sources
+from reading import reading
 
 FORMATS = TOP / "docs" / "FORMATS.md"
 # The size that was there before a call, which no text has.
@@ -42,8 +43,14 @@ def messages_of(example):
 def show_each_message(sweep, examples):
     shows = Shows(sweep.library())
     for message in {message for example in examples for message in messages_of(example)}:
-        text = (shows.text(message) or b"").decode("ascii")
-        sweep.claim(f"{message.hex()} in words", text.endswith("\n") and is_shown(message, text))
+        sweep.claim(f"{message.hex()} in words", shows.text(message) == reading(message).encode())
+
+
+def show_any_messages(sweep, seed):
+    """Messages with anything in them, from a fixed seed."""
+    shows = Shows(sweep.library())
+    for message in any_shown(seed):
+        sweep.claim(f"{message[:92].hex()} in words", shows.text(message) == reading(message).encode())
 
 
 def shown_texts():
@@ -134,11 +141,13 @@ def trials(examples):
     yield "cuts", show_each_message, [example]
     yield "cuts", show_what_pages_show, example
     yield "cuts", show_any_bytes
+    yield "cuts", show_any_messages, 0
 
 
 def jobs(examples):
     example = examples["one-get"]
     yield show_each_message, [*examples.values()]
     yield (show_any_bytes,)
+    yield from ((show_any_messages, seed) for seed in range(4))
     yield from ((job, example) for job in (show_what_pages_show, show_into_each_room, show_in_threads))
     yield from ((refuse_each_allocation, example, fault) for fault in ("refuse_at", "refuse_from"))

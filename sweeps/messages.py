@@ -1,10 +1,11 @@
 """Messages that are written to a socket: whole ones, and such as have something wrong. And what messages show."""
+import random
 import struct
 from dataclasses import dataclass
 
-HEADER = 76
+HEADER, ABOUT_ADDRESS = 76, 20
 DST, GATEWAY, NETMASK, GENMASK, IFP, IFA, AUTHOR, BRD = (1 << bit for bit in range(8))
-ADD, DELETE, CHANGE, GET, LOCK, OLDADD = 1, 2, 3, 4, 8, 9
+ADD, DELETE, CHANGE, GET, LOCK, OLDADD, NEWADDR, DELADDR = 1, 2, 3, 4, 8, 9, 12, 13
 CLONING = 0x100
 
 ADDRESSES = [
@@ -39,6 +40,13 @@ def message(kind, addresses, version=3, index=0, flags=0, pid=0, seq=1, errno=0,
     body = b"".join(padded(addresses[bit]) for bit in sorted(addresses))
     fields = flags, sum(addresses), pid, seq, errno, use, inits, *metrics
     return struct.pack(">HBBHH17I", HEADER + len(body), version, kind, index, 0, *fields) + body
+
+
+def about_address(kind, addresses, version=3, index=0, flags=0, padding=0, metric=0):
+    """A message about an interface's address."""
+    body = b"".join(padded(addresses[bit]) for bit in sorted(addresses))
+    fields = version, kind, sum(addresses), flags, index, padding, metric
+    return struct.pack(">HBBIIHHI", ABOUT_ADDRESS + len(body), *fields) + body
 
 
 def sized(text):
@@ -137,9 +145,16 @@ def any_whole(rng):
     )
 
 
-def any_message(rng):
+def any_about_address(rng):
+    """A message about an interface's address, with any addresses, and with numbers at their borders."""
+    addresses = {bit: any_sockaddr(rng, bit) for bit in map((1).__lshift__, range(8)) if rng.random() < 0.4}
+    index, padding = (rng.choice([0, 1, 2, 0xFFFF]) for _ in range(2))
+    return about_address(rng.choice([NEWADDR, DELADDR]), addresses, 3, index, rng.choice(BORDERS), padding, rng.choice(BORDERS))
+
+
+def any_message(rng, whole=any_whole):
     """A message of any type, at times cut, longer, or with a byte that is another."""
-    text = any_whole(rng)
+    text = whole(rng)
     at = rng.randrange(len(text))
     changed = [
         text[:at],
@@ -148,3 +163,9 @@ def any_message(rng):
         text[:at] + bytes([rng.choice([0, 1, 127, 128, 254, 255])]) + text[at + 1 :],
     ]
     return rng.choice(changed) if rng.random() < 0.3 else text
+
+
+def any_shown(seed):
+    """Messages of both layouts, from a fixed seed."""
+    rng = random.Random(seed)
+    return [any_message(rng, rng.choice([any_whole, any_about_address])) for _ in range(1000)]

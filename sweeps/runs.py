@@ -5,14 +5,15 @@ from dataclasses import dataclass
 from pathlib import Path
 
 DONE, USAGE, BAD_LINE, READ_FAULT, WRITE_FAULT, NO_MEMORY = 0, 2, 3, 4, 5, 6
-FAULT_TEXT = {
-    DONE: b"",
-    USAGE: b"routesim: usage\n",
-    BAD_LINE: b"routesim: bad line\n",
-    READ_FAULT: b"routesim: read fault\n",
-    WRITE_FAULT: b"routesim: write fault\n",
-    NO_MEMORY: b"routesim: no memory\n",
-}
+FAULTS = {USAGE: "usage", BAD_LINE: "bad line", READ_FAULT: "read fault", WRITE_FAULT: "write fault", NO_MEMORY: "no memory"}
+
+
+def fault_texts(program):
+    """What standard error says, the whole of it, by the status."""
+    return {DONE: b"", **{status: f"{program}: {fault}\n".encode() for status, fault in FAULTS.items()}}
+
+
+FAULT_TEXT = fault_texts("routesim")
 MOST_LINE = 16_500
 
 

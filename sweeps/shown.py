@@ -1,25 +1,17 @@
-"""Texts with their messages in words: those of the examples, lines that tell no message, faults, and the words of the
-program that shows them."""
-import os
+"""Texts with their messages in words: those of the examples, any messages, lines that tell none, and faults."""
 import re
-import subprocess
 from dataclasses import dataclass
 from pathlib import Path
 
-from heads import is_shown
 from manual import README, TOP, blocks
-from runs import DONE, NO_MEMORY, READ_FAULT, USAGE, WRITE_FAULT
-from streams import READ_ROOM, reads_of
+from messages import any_shown
+from reading import reading
+from runs import BAD_LINE, DONE, NO_MEMORY, READ_FAULT, WRITE_FAULT, fault_texts
+from streams import READ_ROOM, is_in_step, reads_of
 from words import FIRST_OPENED, folder_of
 
 PAGE = TOP / "docs" / "routeshow.1"
-FAULT_TEXT = {
-    DONE: b"",
-    USAGE: b"routeshow: usage\n",
-    READ_FAULT: b"routeshow: read fault\n",
-    WRITE_FAULT: b"routeshow: write fault\n",
-    NO_MEMORY: b"routeshow: no memory\n",
-}
+FAULT_TEXT = fault_texts("routeshow")
 # Texts in which no line tells a message: upper case, an odd number of digits or none, other bytes, a long line.
 NO_MESSAGES = [
     b"", b"\n", b"\n\n", b"ok", b"ok\n", b"msg", b"msg\n", b"msg \n", b"msg 0\n", b"msg 000\n", b"msg 0G\n", b"msg AB\n",
@@ -47,40 +39,38 @@ class Shown:
         return b"".join(self.pieces[: self.text.count(b"\n", 0, size)])
 
 
-def message_in(line):
-    """The bytes of the message that a line tells, by the second reading."""
+def shown_line(line):
+    """A line as the second reading shows it."""
     found = re.fullmatch(rb"msg ((?:[0-9a-f]{2})+)\n?", line)
-    return bytes.fromhex(found[1].decode()) if found else None
+    return reading(bytes.fromhex(found[1].decode())).encode() if found else line
 
 
-def parted(text, shown):
-    """The pieces of a shown text, one for each line: that of a message has its first line and those behind it that begin
-    with a space. None where a line is not shown as the second reading has it."""
-    pieces = []
-    for line in text.splitlines(keepends=True):
-        message = message_in(line)
-        end = len(line) if message is None else re.match(rb"[^\n]*\n(?: [^\n]*\n)*", shown + b"\n").end()
-        piece, shown = shown[:end], shown[end:]
-        if piece != line if message is None else not is_shown(message, piece.decode("ascii", "replace")):
-            return None
-        pieces.append(piece)
-    return None if shown else tuple(pieces)
+def lines_of(text):
+    return re.findall(rb"[^\n]*\n|[^\n]+", text)
+
+
+def shown_of(name, text):
+    return Shown(name, text, tuple(map(shown_line, lines_of(text))))
 
 
 def at(path):
-    """An example's transcript, and how it is shown, where that is stored."""
-    text, stored = path.read_bytes(), path.with_suffix(".shown")
-    pieces = parted(text, stored.read_bytes()) if stored.exists() else None
-    return Shown(path.stem, text, pieces or ())
+    """An example's transcript."""
+    return shown_of(path.stem, path.read_bytes())
 
 
 def show(sweep, path):
-    """A transcript is shown as it is stored, or as the second reading has it."""
-    example, ran = at(path), sweep.run(path.read_bytes())
-    pieces = example.pieces or parted(example.text, ran.wrote)
-    told = pieces is not None and ran.told() == (b"".join(pieces), DONE, b"")
-    is_stored = path.with_suffix(".shown").exists()
-    sweep.claim(f"{path.stem} in words", told and bool(example.pieces) == is_stored and ran.left_nothing())
+    """A transcript is shown as the second reading has it, and as it is stored, where it is."""
+    example, stored = at(path), path.with_suffix(".shown")
+    is_stored = not stored.exists() or stored.read_bytes() == example.whole()
+    ran = sweep.run(example.text)
+    sweep.claim(f"{path.stem} in words", is_stored and ran.told() == example.told() and ran.left_nothing())
+
+
+def show_any_messages(sweep, seed):
+    """Messages with anything in them, from a fixed seed, between lines that tell none."""
+    lines = [line for message in any_shown(seed) for line in (b"ok\n", b"msg %s\n" % message.hex().encode())]
+    example = shown_of(f"messages of seed {seed}", b"".join(lines))
+    sweep.claim(f"{example.name} in words", sweep.run(example.text).told() == example.told())
 
 
 def show_no_messages(sweep):
@@ -143,29 +133,8 @@ def refuse_each_allocation(sweep, path, fault):
 def show_each_line_at_once(sweep, path):
     """Each line is shown before the next one is sent."""
     example = at(path)
-    process = subprocess.Popen([sweep.program], stdin=subprocess.PIPE, stdout=subprocess.PIPE, env=sweep.environment())
-    holds = bool(example.pieces)
-    for line, piece in zip(example.text.splitlines(keepends=True), example.pieces):
-        process.stdin.write(line)
-        process.stdin.flush()
-        holds = holds and process.stdout.read(len(piece)) == piece
-    process.stdin.close()
-    sweep.claim(f"{path.stem} in words: line by line", holds and process.stdout.read() == b"" and process.wait() == DONE)
-
-
-def read_words(sweep, *commands):
-    """The words name a FILE, or are refused; and so they are by the scripts that pass them on."""
-    folder = folder_of(sweep, {"text": b"msg 00\nok\n"})
-    shown, of_input = b"no message: 00\n the length is wrong\nok\n", b"x\n"
-    forms = [
-        ([], (of_input, DONE)), (["text"], (shown, DONE)), (["--", "text"], (shown, DONE)), (["absent"], (b"", READ_FAULT)),
-        (["-x"], (b"", USAGE)), (["--help"], (b"", USAGE)), (["text", "text"], (b"", USAGE)), (["-"], (b"", READ_FAULT)),
-    ]
-    for command in (sweep.program, *commands):
-        for words, (wrote, status) in forms:
-            ran = subprocess.run([command, *words], cwd=folder, input=of_input, capture_output=True, env=os.environ)
-            told = ran.stdout, ran.returncode, ran.stderr
-            sweep.claim(f"{command.name} {words}", told == (wrote, status, FAULT_TEXT[status]))
+    holds = is_in_step(sweep, zip(lines_of(example.text), example.pieces), DONE)
+    sweep.claim(f"{path.stem} in words: line by line", holds)
 
 
 def fail_each_read_of_a_file(sweep, path):
@@ -177,12 +146,19 @@ def fail_each_read_of_a_file(sweep, path):
         sweep.claim(f"{path.stem} in words: read {call} of FILE fails", ran.told() == told and ran.left_nothing())
 
 
+def statuses_in(page):
+    items = page.split(".Sh EXIT STATUS")[1].split("\n.El")[0].split("\n.It ")[1:]
+    return {int(item.split()[0]): "".join(re.findall(r"\.Ql (routeshow: [a-z ]+[a-z])", item)) for item in items}
+
+
 def compare_statuses(sweep):
-    """The manual page has the statuses and texts of the program."""
-    items = PAGE.read_text().split(".Sh EXIT STATUS")[1].split("\n.El")[0].split("\n.It ")[1:]
-    told = {int(item[0]): "".join(re.findall(r"\.Ql (routeshow: [a-z ]+[a-z])", item)) for item in items}
-    wanted = {status: text.decode().strip() for status, text in FAULT_TEXT.items()} | {1: ""}
-    sweep.claim("the statuses of the manual page", told == wanted)
+    """The manual page has the statuses and texts of the program; and a slip of the pen is noticed."""
+    page, wanted = PAGE.read_text(), {status: text.decode().strip() for status, text in FAULT_TEXT.items()} | {1: ""}
+    del wanted[BAD_LINE]
+    sweep.claim("the statuses of the manual page", statuses_in(page) == wanted)
+    for old, new in ((".It 5\n", ".It 6\n"), (".Ql routeshow: read fault", ".Ql routeshow: fault")):
+        holds = page.count(old) == 1 and statuses_in(page.replace(old, new)) != wanted
+        sweep.claim(f"a slip of the pen: {new.strip()}", holds)
 
 
 def show_what_pages_show(sweep, folder):

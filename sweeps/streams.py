@@ -1,10 +1,14 @@
 """Reads and writes that fail, that move few bytes, or that never end."""
+import os
+import select
 import subprocess
 
 from runs import BAD_LINE, DONE, FAULT_TEXT, READ_FAULT, WRITE_FAULT, answered_lines, answers, ended_lines
 
 MOST_READS = 2**24
 READ_ROOM = 4096
+# How long an answer is waited for before it counts as none, in seconds.
+PATIENCE = 20
 
 
 def reads_of(size, piece):
@@ -44,16 +48,32 @@ def fail_each_write(sweep, example, fault):
     sweep.claim(f"{example.name}: {fault}, first at byte {wrong}", holds)
 
 
+def gives(stream, text):
+    """Whether the next bytes of a pipe are these, and come without more being sent."""
+    while text and select.select([stream], [], [], PATIENCE)[0]:
+        piece = os.read(stream.fileno(), len(text))
+        if not piece or not text.startswith(piece):
+            return False
+        text = text[len(piece):]
+    return not text
+
+
+def is_in_step(sweep, turns, status):
+    """Whether the program writes for each line what is wanted of it before the next line is sent, and ends so."""
+    pipes = {"stdin": subprocess.PIPE, "stdout": subprocess.PIPE, "bufsize": 0}
+    with subprocess.Popen([sweep.program], env=sweep.environment(), **pipes) as process:
+        holds = True
+        for line, wanted in turns:
+            process.stdin.write(line)
+            holds = holds and gives(process.stdout, wanted)
+        process.stdin.close()
+        return holds and process.stdout.read() == b"" and process.wait() == status
+
+
 def answer_each_line_at_once(sweep, example):
     """Each line is answered before the next one is sent."""
-    process = subprocess.Popen([sweep.program], stdin=subprocess.PIPE, stdout=subprocess.PIPE, env=sweep.environment())
-    holds = True
-    for line, answer in zip(answered_lines(example.script), answers(example.transcript)):
-        process.stdin.write(line + b"\n")
-        process.stdin.flush()
-        holds = holds and process.stdout.read(len(answer)) == answer
-    process.stdin.close()
-    holds = holds and process.stdout.read() == b"" and process.wait() == example.status
+    lines = [line + b"\n" for line in answered_lines(example.script)]
+    holds = is_in_step(sweep, zip(lines, answers(example.transcript)), example.status)
     sweep.claim(f"{example.name}: line by line", holds)
 
 

@@ -90,11 +90,12 @@ def trials(examples, tests):
     yield "lies", generated.run_seed, SEEDS[0]
     yield "lies", generated.run_fronts
     yield "lies", streams.read_in_pieces, bad
-    yield "deaf", words.refuse_memory_of_words
+    yield "late", streams.answer_each_line_at_once, one_get
+    yield "deaf", words.refuse_memory_of_words, words.ROUTESIM
     yield "deaf", words.read_a_file, one_get
-    yield "blind", words.refuse_memory_of_words
-    yield "confused", words.refuse_memory_of_words
-    yield "leaks", words.read_words
+    yield "blind", words.refuse_memory_of_words, words.ROUTESIM
+    yield "confused", words.refuse_memory_of_words, words.ROUTESIM
+    yield "leaks", words.read_words, words.ROUTESIM
     yield "hasty", words.read_a_file, one_get
     yield from (("leaks", leaks.run_tests, each) for each in tests if each.name == "radix_nodes_tests")
 
@@ -117,7 +118,11 @@ def run_trial(sweep, wrongs, wrong, job, *given):
     sweep.claim(f"trial of {job.__name__}: {wrong}", (wrong == RIGHT) != bool(tried.failed) and tried.claims() > 0)
 
 
-def jobs(wrongs, examples, tests):
-    tried = [*trials(examples, tests)]
+def jobs_of(wrongs, tried):
+    """What is wrong, each with its sweep; and each sweep where nothing is."""
     yield from ((run_trial, wrongs, *each) for each in tried)
     yield from ((run_trial, wrongs, RIGHT, *each) for each in dict.fromkeys(tuple(each) for _, *each in tried))
+
+
+def jobs(wrongs, examples, tests):
+    yield from jobs_of(wrongs, [*trials(examples, tests)])

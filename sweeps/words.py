@@ -1,14 +1,17 @@
-"""The program's words: whose script they name, and what is told where they name none."""
+"""A program's words: whose file they name, and what is told where they name none."""
 import os
+import shlex
 import shutil
 import subprocess
 import tempfile
+from dataclasses import dataclass
 from pathlib import Path
 
-from runs import DONE, FAULT_TEXT, NO_MEMORY, READ_FAULT, USAGE, Ran, answers, ended_lines, read_counts
+from runs import DONE, FAULT_TEXT, NO_MEMORY, READ_FAULT, USAGE, Ran, Sweep
+from runs import answers, ended_lines, fault_texts, read_counts
 from streams import READ_ROOM, reads_of
 
-# The scripts of the folder that the program runs in, by how many lines they have; standard input has one.
+# The files of the folder that a program runs in, by how many lines they have; standard input has one.
 SCRIPTS = {"script": 2, "-": 3, "--": 4, "-x": 5, "a script": 6, "Straße": 7}
 GIVEN = 1
 
@@ -40,24 +43,42 @@ REFUSED = [
 ]
 
 
-def script_of(lines):
-    return b"read z\n" * lines
+@dataclass(frozen=True)
+class Reader:
+    """A program that reads `[FILE]`: its name, a line, and what it writes of that, wherever the line stands."""
+
+    name: str
+    line: bytes
+    written: bytes
+
+    def told_of(self, lines):
+        return self.written * lines, DONE, b""
+
+    def told_as(self, status):
+        return b"", status, fault_texts(self.name)[status]
+
+    def forms(self):
+        """Each form of words, and what is told of it."""
+        yield from ((words, self.told_of(SCRIPTS.get(file, GIVEN))) for words, file in NAMED)
+        yield from ((words, self.told_as(READ_FAULT)) for words in UNOPENED)
+        yield from ((words, self.told_as(USAGE)) for words in REFUSED)
+
+    def folder(self, sweep):
+        """A folder with the files, a folder, and a link to itself."""
+        folder = folder_of(sweep, {name: self.line * lines for name, lines in SCRIPTS.items()})
+        Path(folder, "folder").mkdir()
+        Path(folder, "loop").symlink_to("loop")
+        return folder
+
+    def run(self, folder, command, environment, **how):
+        """What a command tells in this folder, with one line on standard input."""
+        how = {"stderr": subprocess.PIPE, **how}
+        ran = subprocess.run(command, cwd=folder, input=self.line * GIVEN, stdout=subprocess.PIPE, env=environment, **how)
+        return ran.stdout, ran.returncode, ran.stderr
 
 
-def told_of(lines):
-    return b"err 9\n" * lines, DONE, FAULT_TEXT[DONE]
-
-
-def told_as(status):
-    return b"", status, FAULT_TEXT[status]
-
-
-# Each form of words, and what is told of it.
-FORMS = [
-    *((words, told_of(SCRIPTS.get(file, GIVEN))) for words, file in NAMED),
-    *((words, told_as(READ_FAULT)) for words in UNOPENED),
-    *((words, told_as(USAGE)) for words in REFUSED),
-]
+ROUTESIM = Reader("routesim", b"read z\n", b"err 9\n")
+ROUTESHOW = Reader("routeshow", b"msg 00\n", b"no message: 00\n the length is wrong\n")
 
 
 def folder_of(sweep, files):
@@ -69,47 +90,60 @@ def folder_of(sweep, files):
     return folder
 
 
-def folder_of_scripts(sweep):
-    """A folder with the scripts, a folder, and a link to itself."""
-    folder = folder_of(sweep, {name: script_of(lines) for name, lines in SCRIPTS.items()})
-    Path(folder, "folder").mkdir()
-    Path(folder, "loop").symlink_to("loop")
-    return folder
-
-
-def run_in(folder, command, environment, **how):
-    """What a command tells in this folder, with a script of one line on standard input."""
-    given = script_of(GIVEN)
-    ran = subprocess.run(command, cwd=folder, input=given, capture_output=True, env=environment, **how)
-    return ran.stdout, ran.returncode, ran.stderr
-
-
-def read_words(sweep):
+def read_words(sweep, reader):
     """Each form of words names its file, or is told so; and what was allocated is freed."""
-    folder = folder_of_scripts(sweep)
+    folder = reader.folder(sweep)
     counts = Path(folder, "counts")
-    for words, told in FORMS:
+    for words, told in reader.forms():
         counts.unlink(missing_ok=True)
-        ran = Ran(*run_in(folder, [sweep.program, *words], sweep.environment(counts=counts)), read_counts(counts))
-        sweep.claim(f"words {words}", ran.told() == told and ran.left_nothing())
+        ran = Ran(*reader.run(folder, [sweep.program, *words], sweep.environment(counts=counts)), read_counts(counts))
+        sweep.claim(f"{reader.name} {words}", ran.told() == told and ran.left_nothing())
 
 
-def pass_words_on(sweep, script):
+def tell_nobody(sweep, reader):
+    """Where standard error takes nothing, or is closed, the rest is as ever."""
+    folder = reader.folder(sweep)
+    for words, (wrote, status, _) in reader.forms():
+        with open("/dev/full", "wb") as full:
+            told = reader.run(folder, [sweep.program, *words], {}, stderr=full)[:2]
+        closed = reader.run(folder, ["sh", "-c", 'exec "$0" "$@" 2>&-', sweep.program, *words], {})
+        sweep.claim(f"{reader.name} {words}: nobody is told", told == closed[:2] == (wrote, status))
+
+
+def pass_words_on(sweep, reader, script):
     """The script that builds the program tells of each form of words what the program does."""
-    folder = folder_of_scripts(sweep)
-    for words, told in FORMS:
-        sweep.claim(f"{script.name} {words}", run_in(folder, [script, *words], os.environ) == told)
+    folder = reader.folder(sweep)
+    for words, told in reader.forms():
+        sweep.claim(f"{script.name} {words}", reader.run(folder, [script, *words], os.environ) == told)
 
 
-def read_an_unreadable_file(sweep):
+# What a script does wrong that passes words on to a program.
+WRONG_SCRIPTS = [
+    "exec PROGRAM $*", "exec PROGRAM", 'exec PROGRAM "$@" </dev/null', 'exec PROGRAM "$@" 2>/dev/null', 'PROGRAM "$@"; exit 0',
+    'exec PROGRAM -- "$@"', 'cd / && exec PROGRAM "$@"', '[ "$1" != -h ] || exit 0; exec PROGRAM "$@"',
+]
+
+
+def notice_wrong_scripts(sweep, reader):
+    """Words that are passed on wrongly are noticed; and none is by a script that is right."""
+    for text in ('exec PROGRAM "$@"', *WRONG_SCRIPTS):
+        path = Path(folder_of(sweep, {}), "script")
+        path.write_text(f"#!/bin/sh\n{text.replace('PROGRAM', shlex.quote(str(sweep.program)))}\n")
+        path.chmod(0o755)
+        tried = Sweep(sweep.program, [], sweep.folder)
+        pass_words_on(tried, reader, path)
+        sweep.claim(f"trial of pass_words_on: {text}", (text in WRONG_SCRIPTS) == bool(tried.failed) and tried.claims() > 0)
+
+
+def read_an_unreadable_file(sweep, reader):
     """A file whose mode keeps its reader out; root is nobody here, since no mode keeps root out."""
-    folder = folder_of(sweep, {"secret": script_of(GIVEN)})
+    folder = folder_of(sweep, {"secret": reader.line})
     program = Path(shutil.copy(sweep.program, folder))
     program.chmod(0o755)
     how = {"user": "nobody"} if os.geteuid() == 0 else {}
-    for mode, told in ((0o444, told_of(GIVEN)), (0, told_as(READ_FAULT))):
+    for mode, told in ((0o444, reader.told_of(1)), (0, reader.told_as(READ_FAULT))):
         Path(folder, "secret").chmod(mode)
-        sweep.claim(f"a file of mode {mode:o}", run_in(folder, [program, "secret"], {}, **how) == told)
+        sweep.claim(f"{reader.name}: a file of mode {mode:o}", reader.run(folder, [program, "secret"], {}, **how) == told)
 
 
 # The descriptor of the file that a program opens first.
@@ -119,11 +153,11 @@ FIRST_OPENED = 3
 def read_a_file(sweep, example):
     """An example that is FILE is answered, and standard input is not read; and the read k of FILE fails, for each k."""
     path = Path(folder_of(sweep, {"script": example.script}), "script")
-    ran = sweep.run(script_of(GIVEN), [path])
+    ran = sweep.run(ROUTESIM.line, [path])
     sweep.claim(f"{example.name}: as FILE", ran.told() == example.told() and ran.counts["reads"] == 0)
     pieces, calls = answers(example.transcript), reads_of(len(example.script), READ_ROOM)
     for call in range(1, calls + 2):
-        ran = sweep.run(script_of(GIVEN), [path], reads_of=FIRST_OPENED, fail_read=call)
+        ran = sweep.run(ROUTESIM.line, [path], reads_of=FIRST_OPENED, fail_read=call)
         ended = b"".join(pieces[: ended_lines(example.script, READ_ROOM * (call - 1))])
         fault = (ended, READ_FAULT, FAULT_TEXT[READ_FAULT])
         told, faults = (fault, 1) if call <= calls else (example.told(), 0)
@@ -132,19 +166,25 @@ def read_a_file(sweep, example):
         sweep.claim(f"{example.name}: as FILE, read {call} fails", holds and ran.left_nothing())
 
 
-def refuse_memory_of_words(sweep):
+def refuse_memory_of_words(sweep, reader):
     """The allocation k is refused (or k and all later ones), for each k of a run that takes no memory for an answer:
     want of memory is told then, and nothing else, also of words that are refused where there is memory."""
     folder = folder_of(sweep, {"empty": b""})
     empty, absent = Path(folder, "empty"), Path(folder, "absent")
-    for words, told in (
-        ([], told_as(DONE)), ([empty], told_as(DONE)), ([absent], told_as(READ_FAULT)),
-        (["-x"], told_as(USAGE)), ([empty, empty], told_as(USAGE)), ([b"\xff"], told_as(USAGE)),
+    for words, status in (
+        ([], DONE), ([empty], DONE), ([absent], READ_FAULT), (["-x"], USAGE), ([empty, empty], USAGE), ([b"\xff"], USAGE),
     ):
         plain = sweep.run(b"", words)
-        sweep.claim(f"words {words}", plain.told() == told and plain.counts["allocations"] > 0)
+        sweep.claim(f"{reader.name} {words}", plain.told() == reader.told_as(status) and plain.counts["allocations"] > 0)
         for fault in ("refuse_alloc", "refuse_from"):
             for call in range(1, plain.counts["allocations"] + 1):
                 ran = sweep.run(b"", words, **{fault: call})
-                holds = ran.told() == told_as(NO_MEMORY) and ran.counts["faults"] > 0 and ran.left_nothing()
-                sweep.claim(f"words {words}: {fault} {call}", holds)
+                holds = ran.told() == reader.told_as(NO_MEMORY) and ran.counts["faults"] > 0 and ran.left_nothing()
+                sweep.claim(f"{reader.name} {words}: {fault} {call}", holds)
+
+
+def jobs(reader, scripts):
+    """The sweeps over a program's words, and over those that scripts pass on to it."""
+    each = read_words, tell_nobody, read_an_unreadable_file, refuse_memory_of_words, notice_wrong_scripts
+    yield from ((job, reader) for job in each)
+    yield from ((pass_words_on, reader, script) for script in scripts)

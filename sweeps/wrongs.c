@@ -22,6 +22,7 @@
  *   quits         is ended by a signal at the 20th write
  *   stops         ends the script at the 1,000th read
  *   lies          answers `ok` in place of `bad`
+ *   late          keeps what it writes until it has read once more
  */
 #define _GNU_SOURCE
 #include <dlfcn.h>
@@ -169,6 +170,18 @@ static void note_answer(const char *text, ssize_t size)
 	}
 }
 
+/* What is written late; what doesn't fit into it is written at once. */
+static char late[1 << 17];
+static size_t late_size;
+
+static void write_late(void)
+{
+	size_t size = late_size;
+	late_size = 0;
+	if (size > 0)
+		NEXT(write)(STDOUT_FILENO, late, size);
+}
+
 ssize_t read(int file, void *room, size_t size)
 {
 	ssize_t got;
@@ -189,6 +202,7 @@ ssize_t read(int file, void *room, size_t size)
 	if (got == 1 && is("forgets") && reads % 100 == 0)
 		return NEXT(read)(file, room, size);
 	note_lines(room, got);
+	write_late();
 	return got;
 }
 
@@ -207,6 +221,11 @@ static ssize_t write_piece(int file, const void *data, size_t size)
 	if (is("too-soon") && size == 3 && !memcmp(data, "ok\n", 3) && ++answers % 20 == 0) {
 		NEXT(write)(file, "err 55\n", 7);
 		return 3;
+	}
+	if (file == STDOUT_FILENO && is("late") && late_size + size <= sizeof late) {
+		memcpy(late + late_size, data, size);
+		late_size += size;
+		return size;
 	}
 	if (is("swells") && keeps < sizeof kept / sizeof *kept)
 		kept[keeps++] = NEXT(malloc)(100);
@@ -250,6 +269,7 @@ ssize_t write(int file, const void *data, size_t size)
 
 __attribute__((destructor)) static void end(void)
 {
+	write_late();
 	if (is("confused") && refusals)
 		syscall(SYS_write, STDERR_FILENO, "refused\n", 8);
 	while (keeps > 0)
