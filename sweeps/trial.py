@@ -96,6 +96,8 @@ def trials(examples, tests):
     yield "blind", words.refuse_memory_of_words, words.ROUTESIM
     yield "confused", words.refuse_memory_of_words, words.ROUTESIM
     yield "leaks", words.read_words, words.ROUTESIM
+    yield "mumbles", words.read_words, words.ROUTESIM
+    yield "mumbles", streams.fail_each_read, one_get
     yield "hasty", words.read_a_file, one_get
     yield from (("leaks", leaks.run_tests, each) for each in tests if each.name == "radix_nodes_tests")
 

@@ -23,6 +23,7 @@
  *   stops         ends the script at the 1,000th read
  *   lies          answers `ok` in place of `bad`
  *   late          keeps what it writes until it has read once more
+ *   mumbles       writes a question mark in place of a text to standard error
  */
 #define _GNU_SOURCE
 #include <dlfcn.h>
@@ -221,6 +222,10 @@ static ssize_t write_piece(int file, const void *data, size_t size)
 	if (is("too-soon") && size == 3 && !memcmp(data, "ok\n", 3) && ++answers % 20 == 0) {
 		NEXT(write)(file, "err 55\n", 7);
 		return 3;
+	}
+	if (file == STDERR_FILENO && is("mumbles")) {
+		NEXT(write)(file, "?", 1);
+		return size;
 	}
 	if (file == STDOUT_FILENO && is("late") && late_size + size <= sizeof late) {
 		memcpy(late + late_size, data, size);
