@@ -9,6 +9,7 @@ pub mod Joined
 pub mod LineLemmas
 pub mod ManyWords
 pub mod MessageLines
+pub mod Places
 pub mod PrintedWords
 pub mod PutMessages
 pub mod ReadForms

@@ -13,6 +13,7 @@ mod numbers;
 mod output;
 mod route_line;
 mod route_words;
+mod search;
 mod texts;
 mod words;
 

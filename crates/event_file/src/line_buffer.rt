@@ -1,6 +1,7 @@
 ghost use Rattle.std.specs.Prelude.{◌≡◌, ◌≤◌, ◌<◌, ◌+◌, false, true, length, position, IfOk, IfSome, cond, option_copied};
 ghost use Rattle.event_file.specs.Lines.{Line, after_bytes, extended, first_line, has_newline, is_begun, is_newline, is_passed as passes, kept, no_line};
 
+use crate::search::place_of;
 use std::alloc::{AllocError, Global};
 use std::marker::Model;
 
@@ -159,5 +160,5 @@ fn ended_line(bytes: &[u8]) -> Option<&[u8]>
 fn newline_in(bytes: &[u8]) -> Option<usize>
     ensures { result ≡ position is_newline bytes.now }
 {
-    bytes.iter().position(|byte| *byte == b'\n')
+    place_of(b'\n', bytes)
 }

@@ -2,6 +2,7 @@ ghost use Rattle.std.specs.Prelude.{◌≡◌, ◌<◌, [], ◌∷◌, length, m
 ghost use Rattle.std.specs.Option.{MatchOption, IfSome, IfNone};
 ghost use Rattle.event_file.specs.Words.{parted_by, option_written, words_behind};
 
+use crate::search::place_of;
 use arrayvec::ArrayVec;
 
 /// Whether a word is this one.
@@ -17,7 +18,7 @@ pub(crate) fn cut(byte: u8, text: &[u8]) -> Option<(&[u8], &[u8])>
     ensures rest { IfSome result (λ p. length p.1.now < length text.now) }
     ensures last { IfNone result (parted_by byte text.now ≡ text.now ∷ []) }
 {
-    let at = text.iter().position(|b| *b == byte)?;
+    let at = place_of(byte, text)?;
     Some((&text[..at], &text[at + 1..]))
 }
 
