@@ -5,6 +5,7 @@ pub mod Decimals
 pub mod Fronts
 pub mod GrammarRows
 pub mod HexPieces
+pub mod HexTables
 pub mod Joined
 pub mod LineLemmas
 pub mod ManyWords

@@ -5,9 +5,9 @@ ghost use Rattle.event_file.specs.Given.{given, pasted};
 ghost use Rattle.hex.specs.Hex.{encode_lower};
 ghost use Rattle.route_core.specs.Received.{cut, AreMessages};
 
-use crate::Bad;
 use crate::answers::{refusal, size_line};
 use crate::choices::choice_line;
+use crate::{Bad, hexadecimal};
 use arrayvec::ArrayVec;
 use route_core::{Answer, first_message};
 
@@ -111,7 +111,7 @@ fn put_hex(bytes: &[u8], out: &mut [u8], at: usize) -> usize
     ensures text { out.new ≡ pasted at (encode_lower bytes.now) out.old }
 {
     let end = at + 2 * bytes.len();
-    hex::encode_to_slice(bytes, &mut out[at..end]).unwrap();
+    hexadecimal::encode(bytes, &mut out[at..end]);
     end
 }
 

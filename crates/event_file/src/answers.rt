@@ -7,7 +7,7 @@ ghost use Rattle.route_core.specs.Received.{cut, AreMessages};
 
 use crate::choices::choice_line;
 use crate::output::write_bytes;
-use crate::{Bad, Counted, Stopped};
+use crate::{Bad, Counted, Stopped, hexadecimal};
 use arrayvec::ArrayVec;
 use route_core::{Answer, Choice, first_message};
 use sock_addrs::Errno;
@@ -194,6 +194,6 @@ fn write_piece<W: Write>(
     ensures err { OnErr result (WroteFront W.contents writer.old writer.new (encode_lower piece.now)) }
 {
     let text = &mut buffer[..2 * piece.len()];
-    hex::encode_to_slice(piece, text).unwrap();
+    hexadecimal::encode(piece, text);
     write_bytes(text, writer)
 }

@@ -4,6 +4,7 @@ ghost use Rattle.hex.specs.Hex.{encode_lower};
 ghost use Rattle.event_file.specs.Answers.{choice_line as line_of_choice, gate_word as word_of_gate, rank_word as word_of_rank};
 ghost use Rattle.event_file.specs.Printed.{hex_word as word_of_hex, inet_word as word_of_inet};
 
+use crate::hexadecimal;
 use arrayvec::ArrayVec;
 use mask_table::Rank;
 use route_core::Choice;
@@ -99,7 +100,7 @@ fn link_word(link: &Link) -> ArrayVec<u8, 69>
     let bytes = link.as_bytes();
     let mut room = [0; 64];
     let digits = &mut room[..2 * bytes.len()];
-    hex::encode_to_slice(bytes, digits).unwrap();
+    hexadecimal::encode(bytes, digits);
     let mut word = ArrayVec::new();
     word.try_extend_from_slice(b"link:").unwrap();
     word.try_extend_from_slice(digits).unwrap();
@@ -111,6 +112,6 @@ fn hex_word(number: u32) -> [u8; 8]
     ensures { result ≡ word_of_hex number }
 {
     let mut digits = [0; 8];
-    hex::encode_to_slice(number.to_be_bytes(), &mut digits).unwrap();
+    hexadecimal::encode(&number.to_be_bytes(), &mut digits);
     digits
 }

@@ -7,6 +7,7 @@ mod bad;
 mod choices;
 mod counted;
 mod grammar;
+mod hexadecimal;
 pub mod laws;
 mod line_buffer;
 mod numbers;

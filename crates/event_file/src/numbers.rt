@@ -4,6 +4,7 @@ ghost use Rattle.std.specs.Option.{IfSome, MatchOption};
 ghost use Rattle.std.specs.Str.Parse.{AllDigits, digits_value};
 ghost use Rattle.event_file.specs.Words.{decoded, number_to, protocol_number_of, protocol_of, hex_number_of, inet_of_parts, inet_of};
 
+use crate::hexadecimal;
 use crate::words::{is, parted};
 use mask_table::Prefix;
 use sock_addrs::Inet;
@@ -127,7 +128,9 @@ fn four_bytes(digits: &[u8]) -> Option<[u8; 4]>
     ensures { result ≡ decoded (decode_of digits.now) }
 {
     let mut bytes = [0; 4];
-    hex::decode_to_slice(digits, &mut bytes).ok()?;
+    if !hexadecimal::decode(digits, &mut bytes) {
+        return None;
+    }
     Some(bytes)
 }
 

@@ -4,6 +4,7 @@ ghost use Rattle.std.specs.Option.{IfSome, MatchOption};
 ghost use Rattle.event_file.specs.Grammar.{most_link_bytes};
 ghost use Rattle.event_file.specs.Words.{is_name_byte, name_of, interface_kind_of, switch_of, bytes_to, link_of, gate_of_parts, gate_of};
 
+use crate::hexadecimal;
 use crate::numbers::read_inet;
 use crate::words::{is, parted};
 use route_core::{Kind, Lent, LinkAddress, MOST_WRITTEN};
@@ -71,7 +72,9 @@ fn decode(word: &[u8], room: &mut [u8]) -> Option<usize>
     if pairs == 0 || pairs > room.len() {
         return None;
     }
-    hex::decode_to_slice(word, &mut room[..pairs]).ok()?;
+    if !hexadecimal::decode(word, &mut room[..pairs]) {
+        return None;
+    }
     Some(pairs)
 }
 
