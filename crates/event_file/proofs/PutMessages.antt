@@ -1,5 +1,5 @@
 -- The lines of messages, put one after another to the front of a room.
-use Rattle.std.proofs.Common.{◌≡◌, ℕ, ◌+◌, ◌*◌, ◌-◌, ◌≤◌, List, [], ◌∷◌, ◌++◌, length, take, drop, refl, sym, ap, ◌∙◌, arith, append_assoc, append-nil, length-append, length-drop, length-take-le}
+use Rattle.std.proofs.Common.{◌≡◌, ℕ, ◌+◌, ◌*◌, ◌≤◌, List, [], ◌∷◌, ◌++◌, length, take, drop, refl, sym, ap, ◌∙◌, arith, append_assoc, append-nil, length-append, length-drop, length-take-le}
 use Rattle.std.proofs.lemmas.List.{drop-drop, drop_at, take_at}
 use Rattle.hex.specs.Hex.{encode_lower, lower_digits}
 use Rattle.hex.proofs.HexLemmas.{length-encode_with}
@@ -29,6 +29,11 @@ pasted-then at xs ys room fits =
     ∙ ap (λ d. (front ++ ys) ++ d) rest
     ∙ ap (λ f. f ++ drop (n + length ys) room) (append_assoc (take at room) xs ys)
     ∙ ap (λ m. (take at room ++ (xs ++ ys)) ++ drop m room) end
+
+-- the line of a message, put to the front of a room
+pub line_put : (m room after : List ℕ) (end : ℕ) → end ≡ 0 + (5 + 2 * length m) → after ≡ pasted 0 (message_line m) room → take end after ≡ message_line m
+line_put m room after end ended stands =
+    ap (take end) stands ∙ take_at (message_line m) (drop (0 + length (message_line m)) room) end (omega (arith, length-message_line m, ended))
 
 -- of the messages of the bytes, the lines of those before the rest stand at the front of the room, up to the end
 pub record PutLines (bytes rest old new : List ℕ) (end : ℕ) : Type 0 where

@@ -61,7 +61,7 @@ fn line_of(bytes: &[u8]) -> ArrayVec<u8, 128>
 }
 
 /// How many bytes the lines of the messages have.
-fn lines_size(bytes: &[u8]) -> u128
+pub(crate) fn lines_size(bytes: &[u8]) -> u128
     requires { AreMessages bytes.now }
     ensures size { result ≡ length (flat_map message_line (cut bytes.now)) }
     ensures most { result ≤ 7 * length bytes.now }
@@ -77,7 +77,7 @@ fn lines_size(bytes: &[u8]) -> u128
 }
 
 /// Puts the lines of the messages to the front of `out`, and answers where they end.
-fn put_lines(bytes: &[u8], out: &mut [u8]) -> usize
+pub(crate) fn put_lines(bytes: &[u8], out: &mut [u8]) -> usize
     requires whole { AreMessages bytes.now }
     requires room { length (flat_map message_line (cut bytes.now)) ≤ length out.old }
     ensures end { result ≡ length (flat_map message_line (cut bytes.now)) }
@@ -94,7 +94,7 @@ fn put_lines(bytes: &[u8], out: &mut [u8]) -> usize
 }
 
 /// Puts the line of a message into `out` from a place on, and answers where it ends.
-fn put_line(message: &[u8], out: &mut [u8], at: usize) -> usize
+pub(crate) fn put_line(message: &[u8], out: &mut [u8], at: usize) -> usize
     requires { at + (5 + 2 * length message.now) ≤ length out.old }
     ensures end { result ≡ at + (5 + 2 * length message.now) }
     ensures text { out.new ≡ pasted at (message_line message.now) out.old }
@@ -116,7 +116,7 @@ fn put_hex(bytes: &[u8], out: &mut [u8], at: usize) -> usize
 }
 
 /// Puts bytes into `out` from a place on, and answers where they end.
-fn put(bytes: &[u8], out: &mut [u8], at: usize) -> usize
+pub(crate) fn put(bytes: &[u8], out: &mut [u8], at: usize) -> usize
     requires { at + length bytes.now ≤ length out.old }
     ensures end { result ≡ at + length bytes.now }
     ensures text { out.new ≡ pasted at bytes.now out.old }

@@ -1,10 +1,12 @@
-ghost use Rattle.std.specs.Prelude.{◌≡◌, ◌≤◌, length, flat_map, OnOk, OnErr};
+ghost use Rattle.std.specs.Prelude.{◌≡◌, ◌+◌, ◌≤◌, ◌++◌, length, flat_map, OnOk, OnErr};
 ghost use Rattle.hex.specs.Hex.{encode_lower};
 ghost use Rattle.sock_addrs.specs.Errno.{errno_number};
 ghost use Rattle.event_file.specs.Answers.{choice_line as line_of_choice, last_line, message_line, refusal_line, response_text, size_line as line_of_size};
+ghost use Rattle.event_file.specs.Given.{pasted};
 ghost use Rattle.event_file.specs.Output.{Wrote, WroteFront};
 ghost use Rattle.route_core.specs.Received.{cut, AreMessages};
 
+use crate::answer_text::{lines_size, put, put_line, put_lines};
 use crate::choices::choice_line;
 use crate::output::write_bytes;
 use crate::{Bad, Counted, Stopped, hexadecimal};
@@ -18,6 +20,9 @@ pub const TEXT_ROOM: usize = 4096;
 
 /// The bytes whose hexadecimal text fills that room.
 const PIECE: usize = 2048;
+
+/// The most bytes of the lines of messages for which that room has place with the line behind them.
+const MOST_AT_ONCE: u128 = 4080;
 
 /// Writes the text of a line's answer, going on behind what a short write took: `ok`, `err` with the errno's number,
 /// `via` or `drop` with a packet's route, `size` with a number of bytes or of messages, `msg` with its bytes for each message and then
@@ -41,10 +46,46 @@ pub fn write_answer<W: Write>(
         Ok(Answer::Dropped(choice)) => write_choice("drop", choice, writer),
         Ok(Answer::Size(size)) => write_size(*size, writer),
         Ok(Answer::Messages(received, left_out)) => {
-            write_messages(received.as_bytes(), buffer, writer)?;
-            write_last(*left_out, writer)
+            write_received(received.as_bytes(), *left_out, buffer, writer)
         }
         Err(Bad) => write_bytes(b"bad\n", writer),
+    }
+}
+
+/// Writes the line of each message of `bytes` and the line behind them, at once where they fit the buffer.
+fn write_received<W: Write>(
+    bytes: &[u8],
+    left_out: Option<Errno>,
+    buffer: &mut [u8],
+    writer: &mut Counted<W>,
+) -> Result<(), Stopped>
+    requires whole { AreMessages bytes.now }
+    requires buffer { length buffer.old ≡ TEXT_ROOM }
+    requires no_failure { writer.old.failures ≡ 0 }
+    ensures ok { OnOk result (Wrote W.contents writer.old writer.new
+        (flat_map message_line (cut bytes.now) ++ last_line left_out)) }
+    ensures err { OnErr result (WroteFront W.contents writer.old writer.new
+        (flat_map message_line (cut bytes.now) ++ last_line left_out)) }
+{
+    if lines_size(bytes) > MOST_AT_ONCE {
+        write_messages(bytes, buffer, writer)?;
+        return write_last(left_out, writer);
+    }
+    let at = put_lines(bytes, buffer);
+    let end = put_last(left_out, buffer, at);
+    write_bytes(&buffer[..end], writer)
+}
+
+/// Puts the line behind messages into `out` from a place on, and answers where it ends.
+fn put_last(left_out: Option<Errno>, out: &mut [u8], at: usize) -> usize
+    requires { at + 16 ≤ length out.old }
+    ensures end { result ≡ at + length (last_line left_out) }
+    ensures most { result ≤ at + 16 }
+    ensures text { out.new ≡ pasted at (last_line left_out) out.old }
+{
+    match left_out {
+        None => put(b"ok\n", out, at),
+        Some(errno) => put(&refusal(errno), out, at),
     }
 }
 
@@ -145,8 +186,26 @@ fn write_messages<W: Write>(
     Ok(())
 }
 
-/// Writes the line of one message.
+/// Writes the line of one message, at once where it fits the buffer.
 fn write_message<W: Write>(
+    message: &[u8],
+    buffer: &mut [u8],
+    writer: &mut Counted<W>,
+) -> Result<(), Stopped>
+    requires buffer { length buffer.old ≡ TEXT_ROOM }
+    requires no_failure { writer.old.failures ≡ 0 }
+    ensures ok { OnOk result (Wrote W.contents writer.old writer.new (message_line message.now)) }
+    ensures err { OnErr result (WroteFront W.contents writer.old writer.new (message_line message.now)) }
+{
+    if message.len() >= PIECE - 2 {
+        return write_long_message(message, buffer, writer);
+    }
+    let end = put_line(message, buffer, 0);
+    write_bytes(&buffer[..end], writer)
+}
+
+/// Writes the line of a message of any length.
+fn write_long_message<W: Write>(
     message: &[u8],
     buffer: &mut [u8],
     writer: &mut Counted<W>,
