@@ -30,4 +30,5 @@ pub mod RowRejectAndBlackhole
 pub mod RowShortWrites
 pub mod RowWrongVersion
 pub mod RunsTold
+pub mod SameWords
 pub mod TranscriptLemmas
