@@ -8,7 +8,8 @@ use crate::line_buffer::LONGEST_LINE;
 use crate::numbers::{read_byte, read_hex, read_inet, read_number, read_prefix, read_protocol};
 use crate::route_line::read_composed;
 use crate::texts::{read_kind, read_link, read_name, read_switch, read_written};
-use crate::words::{Options, if_written, is, parted};
+use crate::words::{Options, if_written, is, parted, put_parts};
+use arrayvec::ArrayVec;
 use route_core::{Command, MOST_WRITTEN, NewGateway, Said};
 use sock_addrs::Inet;
 
@@ -349,7 +350,10 @@ fn read_long<'a>(line: &[u8], room: &'a mut [u8]) -> Result<Said<'a>, Bad>
     requires room { length room.old ≡ MOST_WRITTEN }
     ensures { MatchResult result (λ s. command_of line.now ≡ Some s) (λ _. command_of line.now ≡ None) }
 {
-    let words = parted::<MOST_WORDS>(b' ', line).ok_or(Bad)?;
+    let mut words = ArrayVec::<&[u8], MOST_WORDS>::new();
+    if !put_parts(b' ', line, &mut words) {
+        return Err(Bad);
+    }
     said(words.as_slice(), room).ok_or(Bad)
 }
 
@@ -362,10 +366,11 @@ pub fn read_said<'a>(line: &[u8], room: &'a mut [u8]) -> Result<Said<'a>, Bad>
     if line.len() > LONGEST_LINE {
         return Err(Bad);
     }
-    match parted::<FEW_WORDS>(b' ', line) {
-        Some(words) => said(words.as_slice(), room).ok_or(Bad),
-        None => read_long(line, room),
+    let mut words = ArrayVec::<&[u8], FEW_WORDS>::new();
+    if !put_parts(b' ', line, &mut words) {
+        return read_long(line, room);
     }
+    said(words.as_slice(), room).ok_or(Bad)
 }
 
 /// The command that a line says, without its newline. `Bad` where the grammar has no such line, among them any of more

@@ -1,4 +1,4 @@
-ghost use Rattle.std.specs.Prelude.{◌≡◌, ◌<◌, [], ◌∷◌, length, map, bytes_eq, option_map, Option, Some, None};
+ghost use Rattle.std.specs.Prelude.{◌≡◌, ◌<◌, [], ◌∷◌, length, map, bytes_eq, option_map, Option, Some, None, MatchBool};
 ghost use Rattle.std.specs.Option.{MatchOption, IfSome, IfNone};
 ghost use Rattle.event_file.specs.Words.{parted_by, option_written, words_behind};
 
@@ -41,13 +41,31 @@ pub(crate) fn parted<const N: usize>(byte: u8, text: &[u8]) -> Option<ArrayVec<&
         (λ parts. map (λ p. p.now) parts.items ≡ parted_by byte text.now) }
 {
     let mut parts = ArrayVec::new();
+    if !put_parts(byte, text, &mut parts) {
+        return None;
+    }
+    Some(parts)
+}
+
+/// Puts the parts of a text between the bytes of this value into a room that has none: one of many words would else be
+/// cleared and copied at each return. `false` where there are more than N.
+pub(crate) fn put_parts<'t, const N: usize>(
+    byte: u8,
+    text: &'t [u8],
+    parts: &mut ArrayVec<&'t [u8], N>,
+) -> bool
+    requires { length parts.old.items ≡ 0 }
+    ensures { MatchBool result (map (λ p. p.now) parts.new.items ≡ parted_by byte text.now)
+        (N < length (parted_by byte text.now)) }
+{
     let mut rest = text;
     while let Some((part, behind)) = cut(byte, rest) {
-        parts.try_push(part).ok()?;
+        if parts.try_push(part).is_err() {
+            return false;
+        }
         rest = behind;
     }
-    parts.try_push(rest).ok()?;
-    Some(parts)
+    parts.try_push(rest).is_ok()
 }
 
 /// The options that are left to read, each a name and the word behind it.
