@@ -1,4 +1,4 @@
-ghost use Rattle.std.specs.Prelude.{◌≡◌, ◌≤◌, ◌<◌, ◌+◌, false, true, length, position, IfOk, IfSome, cond, option_copied};
+ghost use Rattle.std.specs.Prelude.{◌≡◌, ◌≤◌, ◌<◌, ◌+◌, ◌⊎◌, false, true, length, position, IfNone, IfOk, IfSome, cond, option_copied};
 ghost use Rattle.event_file.specs.Lines.{Line, after_bytes, extended, first_line, has_newline, is_begun, is_newline, is_passed as passes, kept, no_line};
 
 use crate::search::place_of;
@@ -42,7 +42,8 @@ impl LineBuffer {
     }
 
     /// The line that these bytes end, where nothing of it came before them: how many bytes it takes, with its newline, and
-    /// its bytes, or nothing of them where they are too many. Such a line need not be fed, and isn't copied.
+    /// its bytes, or nothing of them where they are too many. `None` where some of it came before, or where its newline
+    /// is not among these bytes. Such a line need not be fed, and isn't copied.
     pub fn whole_line<'a>(&self, bytes: &'a [u8]) -> Option<(usize, Option<&'a [u8]>)>
         requires { self.now.ended ≡ false }
         ensures empty { IfSome result (λ _. self.now ≡ no_line) }
@@ -50,6 +51,7 @@ impl LineBuffer {
         ensures taken { IfSome result (λ whole. whole.0 ≡ length (first_line bytes.now) + 1) }
         ensures most { IfSome result (λ whole. whole.0 ≤ length bytes.now) }
         ensures line { IfSome result (λ whole. option_copied whole.1 ≡ kept (first_line bytes.now)) }
+        ensures none { IfNone result ((is_begun self.now.text ≡ true) ⊎ (has_newline bytes.now ≡ false)) }
     {
         if self.pending() {
             return None;
@@ -149,6 +151,7 @@ fn ended_line(bytes: &[u8]) -> Option<&[u8]>
     ensures newline { IfSome result (λ _. has_newline bytes.now ≡ true) }
     ensures line { IfSome result (λ line. line.now ≡ first_line bytes.now) }
     ensures most { IfSome result (λ line. length line.now < length bytes.now) }
+    ensures none { IfNone result (has_newline bytes.now ≡ false) }
 {
     match newline_in(bytes) {
         Some(at) => Some(&bytes[..at]),
