@@ -37,15 +37,15 @@ module _ {V : Type 0} where
 
   module _ {m new : Lodged V} {root name : Node} {late : ℕ → Bool} {out : ℕ → ℕ} {key : ℕ} (w : IsWholeBut m root late out) {at : Part m} {under : Part new}
       (e : Exchanged m new key w.part at under name) where
-    old_is : (later : ℕ → Bool) (outs : ℕ → ℕ) → IsTree w.part.low (plug e.frames at.tree)
-    old_is later outs = subst (IsTree w.part.low) e.was w.part.is
+    old_is : IsTree w.part.low (plug e.frames at.tree)
+    old_is = subst (IsTree w.part.low) e.was w.part.is
 
-    new_is : (later : ℕ → Bool) (outs : ℕ → ℕ) → IsTree w.part.low (plug e.frames under.tree)
-    new_is later outs = subst (λ n. IsTree n (plug e.frames under.tree)) e.low (subst (IsTree e.part.low) e.is_now e.part.is)
+    new_is : IsTree w.part.low (plug e.frames under.tree)
+    new_is = subst (λ n. IsTree n (plug e.frames under.tree)) e.low (subst (IsTree e.part.low) e.is_now e.part.is)
 
-    leaves_changed : {later : ℕ → Bool} (outs : ℕ → ℕ) → Fits m new w.part at under late later out outs → (n : ℕ)
+    leaves_changed : {later : ℕ → Bool} {outs : ℕ → ℕ} → Fits m new w.part at under late later out outs → (n : ℕ)
         → leaves_at n e.part.tree + outs n ≡ one_if (is_some (leaves_in new n))
-    leaves_changed outs f n =
+    leaves_changed f n =
         let was = ap (leaves_at n) e.was in
         let now = ap (leaves_at n) e.is_now in
         let plugged = plug_leaves e.frames at.tree under.tree n in
@@ -84,49 +84,49 @@ module _ {V : Type 0} where
       came = λ y is below marked. (f.came y is marked, was_marked f y marked);
     }
 
-    lists_changed : (later : ℕ → Bool) (outs : ℕ → ℕ) → Fits m new w.part at under late later out outs
+    lists_changed : {later : ℕ → Bool} {outs : ℕ → ℕ} → Fits m new w.part at under late later out outs
         → MarkedLists (heads_in new) (masks_in new) e.part.low e.part.tree
-    lists_changed later outs f = subst (λ n. MarkedLists (heads_in new) (masks_in new) n e.part.tree) (sym e.low)
-        (subst (MarkedLists (heads_in new) (masks_in new) w.part.low) (sym e.is_now) (plug_lists w.part.low e.frames (old_is later outs)
+    lists_changed f = subst (λ n. MarkedLists (heads_in new) (masks_in new) n e.part.tree) (sym e.low)
+        (subst (MarkedLists (heads_in new) (masks_in new) w.part.low) (sym e.is_now) (plug_lists w.part.low e.frames old_is
         (subst (λ n. KeepsAbove (heads_in m) (heads_in new) (masks_in m) (masks_in new) n e.frames at.tree under.tree) e.lowest
         (keeps_above f)) (subst (MarkedLists (heads_in m) (masks_in m) w.part.low) e.was w.lists)
         (subst (λ n. MarkedLists (heads_in new) (masks_in new) n under.tree) e.lowest f.lists)))
 
     -- a route of the other part has a home in the whole where it has one in the part, or its rank is before the part's bits
-    home_in_new : (later : ℕ → Bool) (outs : ℕ → ℕ) (y : Placed V) → IsIn y under.tree
+    home_in_new : (y : Placed V) → IsIn y under.tree
         → (y.entry.rank < at.low) ⊎ HasHome y.entry.key y.entry.rank under.tree → HasHome y.entry.key y.entry.rank (plug e.frames under.tree)
-    home_in_new later outs y is home =
+    home_in_new y is home =
         let low = w.low in
-        let new_tree = new_is later outs in
+        let new_tree = new_is in
         plug_home w.part.low y.entry.key y.entry.rank e.frames under.tree new_tree (leads w.part.low e.frames under.tree y new_tree is) (omega arith)
         (subst (λ n. (y.entry.rank < n) ⊎ HasHome y.entry.key y.entry.rank under.tree) e.lowest home)
 
-    home_in_old : (later : ℕ → Bool) (outs : ℕ → ℕ) (y : Placed V) → IsIn y at.tree → (y.entry.rank < at.low) ⊎ HasHome y.entry.key y.entry.rank at.tree
+    home_in_old : (y : Placed V) → IsIn y at.tree → (y.entry.rank < at.low) ⊎ HasHome y.entry.key y.entry.rank at.tree
         → HasHome y.entry.key y.entry.rank w.part.tree
-    home_in_old later outs y is home =
+    home_in_old y is home =
         let low = w.low in
-        let old_tree = old_is later outs in
+        let old_tree = old_is in
         subst (HasHome y.entry.key y.entry.rank) (sym e.was)
         (plug_home w.part.low y.entry.key y.entry.rank e.frames at.tree old_tree (leads w.part.low e.frames at.tree y old_tree is) (omega arith)
         (subst (λ n. (y.entry.rank < n) ⊎ HasHome y.entry.key y.entry.rank at.tree) e.lowest home))
 
-    in_new : (later : ℕ → Bool) (outs : ℕ → ℕ) (y : Placed V) → IsIn y (plug e.frames under.tree) → IsIn y e.part.tree
-    in_new later outs y is = subst (IsIn y) (sym e.is_now) is
+    in_new : (y : Placed V) → IsIn y (plug e.frames under.tree) → IsIn y e.part.tree
+    in_new y is = subst (IsIn y) (sym e.is_now) is
 
-    in_old : (later : ℕ → Bool) (outs : ℕ → ℕ) (y : Placed V) → IsIn y (plug e.frames at.tree) → IsIn y w.part.tree
-    in_old later outs y is = subst (IsIn y) (sym e.was) is
+    in_old : (y : Placed V) → IsIn y (plug e.frames at.tree) → IsIn y w.part.tree
+    in_old y is = subst (IsIn y) (sym e.was) is
 
     -- a mask that is listed is that of a route with a home
-    listed_now : (later : ℕ → Bool) (outs : ℕ → ℕ) → Fits m new w.part at under late later out outs → (n : ℕ) (p : MaskPart) → masks_in new n ≡ Some p
+    listed_now : {later : ℕ → Bool} {outs : ℕ → ℕ} → Fits m new w.part at under late later out outs → (n : ℕ) (p : MaskPart) → masks_in new n ≡ Some p
         → (x : Placed V) → IsIn x w.part.tree → x.room.number ≡ n → HasHome x.entry.key x.entry.rank w.part.tree
         → IsIn x e.part.tree × HasHome x.entry.key x.entry.rank e.part.tree
-    listed_now later outs f n p said x is number home =
+    listed_now f n p said x is number home =
         let marked = ap is_some (ap (masks_in new) number ∙ said) in
         let old_home = subst (HasHome x.entry.key x.entry.rank) e.was home in
-        let old_tree = old_is later outs in
+        let old_tree = old_is in
         elim (in_plug e.frames at.tree x (subst (IsIn x) e.was is)) [
           | inl aside ↦ (
-            in_new later outs x (aside_in e.frames under.tree x aside),
+            in_new x (aside_in e.frames under.tree x aside),
             subst (HasHome x.entry.key x.entry.rank) (sym e.is_now) (aside_home w.part.low e.frames at.tree under.tree x old_tree aside old_home),
           )
           | inr beneath ↦ let k = f.kept x beneath marked in
@@ -135,52 +135,52 @@ module _ {V : Type 0} where
                 | inl before ↦ inl (subst (λ b. x.entry.rank < b) (sym e.lowest) before)
                 | inr h ↦ k.1 h
               ] in (
-                in_new later outs x (plug_in e.frames under.tree x k.0),
-                subst (HasHome x.entry.key x.entry.rank) (sym e.is_now) (home_in_new later outs x k.0 place),
+                in_new x (plug_in e.frames under.tree x k.0),
+                subst (HasHome x.entry.key x.entry.rank) (sym e.is_now) (home_in_new x k.0 place),
               )
         ]
 
-    listed_changed : (later : ℕ → Bool) (outs : ℕ → ℕ) → Fits m new w.part at under late later out outs → (n : ℕ) (p : MaskPart) → masks_in new n ≡ Some p
+    listed_changed : {later : ℕ → Bool} {outs : ℕ → ℕ} → Fits m new w.part at under late later out outs → (n : ℕ) (p : MaskPart) → masks_in new n ≡ Some p
         → (x : Placed V) × IsIn x e.part.tree × (x.room.number ≡ n) × HasHome x.entry.key x.entry.rank e.part.tree
-    listed_changed later outs f n p said =
+    listed_changed f n p said =
         let before = f.marks n p said in
         let x = w.listed n before.0 before.1 in
-        let now = listed_now later outs f n p said x.0 x.1 x.2 x.3 in
+        let now = listed_now f n p said x.0 x.1 x.2 x.3 in
         (x.0, now.0, x.2, now.1)
 
     -- a route with a home has its mask listed, or is late
-    all_aside : (later : ℕ → Bool) (outs : ℕ → ℕ) → Fits m new w.part at under late later out outs → (x : Placed V) → Aside e.frames x
+    all_aside : {later : ℕ → Bool} {outs : ℕ → ℕ} → Fits m new w.part at under late later out outs → (x : Placed V) → Aside e.frames x
         → HasHome x.entry.key x.entry.rank (plug e.frames under.tree) → IsMarked (masks_in new) x ⊎ (later x.room.number ≡ true)
-    all_aside later outs f x aside home =
+    all_aside f x aside home =
         let o = aside_out w e x aside in
-        let old_home = aside_home w.part.low e.frames under.tree at.tree x (new_is later outs) aside home in
-        elim (w.all x (in_old later outs x (aside_in e.frames at.tree x aside))
+        let old_home = aside_home w.part.low e.frames under.tree at.tree x new_is aside home in
+        elim (w.all x (in_old x (aside_in e.frames at.tree x aside))
         (subst (HasHome x.entry.key x.entry.rank) (sym e.was) old_home)) [
           | inl marked ↦ inl (marked_same (masks_in m) (masks_in new) x (f.masks x.room.number o.0 o.1) marked)
           | inr is_late ↦ inr (f.late_aside x.room.number o.0 o.1 is_late)
         ]
 
-    all_beneath : (later : ℕ → Bool) (outs : ℕ → ℕ) → Fits m new w.part at under late later out outs → (x : Placed V) → IsIn x under.tree
+    all_beneath : {later : ℕ → Bool} {outs : ℕ → ℕ} → Fits m new w.part at under late later out outs → (x : Placed V) → IsIn x under.tree
         → HasHome x.entry.key x.entry.rank (plug e.frames under.tree) → IsMarked (masks_in new) x ⊎ (later x.room.number ≡ true)
-    all_beneath later outs f x is home =
+    all_beneath f x is home =
         let place = subst (λ n. (x.entry.rank < n) ⊎ HasHome x.entry.key x.entry.rank under.tree) (sym e.lowest)
-        (home_plug w.part.low e.frames under.tree x (new_is later outs) is home) in
+        (home_plug w.part.low e.frames under.tree x new_is is home) in
         elim (f.all x is place) [
           | inl is_later ↦ inr is_later
-          | inr old ↦ elim (w.all x (in_old later outs x (plug_in e.frames at.tree x old.0))
-              (home_in_old later outs x old.0 old.1)) [
+          | inr old ↦ elim (w.all x (in_old x (plug_in e.frames at.tree x old.0))
+              (home_in_old x old.0 old.1)) [
                 | inl marked ↦ inl (old.2 marked)
                 | inr is_late ↦ inr (old.3 is_late)
               ]
         ]
 
-    all_changed : (later : ℕ → Bool) (outs : ℕ → ℕ) → Fits m new w.part at under late later out outs → (x : Placed V) → IsIn x e.part.tree
+    all_changed : {later : ℕ → Bool} {outs : ℕ → ℕ} → Fits m new w.part at under late later out outs → (x : Placed V) → IsIn x e.part.tree
         → HasHome x.entry.key x.entry.rank e.part.tree → IsMarked (masks_in new) x ⊎ (later x.room.number ≡ true)
-    all_changed later outs f x is home =
+    all_changed f x is home =
         let now = subst (HasHome x.entry.key x.entry.rank) e.is_now home in
         elim (in_plug e.frames under.tree x (subst (IsIn x) e.is_now is)) [
-          | inl aside ↦ all_aside later outs f x aside now
-          | inr beneath ↦ all_beneath later outs f x beneath now
+          | inl aside ↦ all_aside f x aside now
+          | inr beneath ↦ all_beneath f x beneath now
         ]
 
     pub whole_changed : {later : ℕ → Bool} {outs : ℕ → ℕ} → Fits m new w.part at under late later out outs → HaveOneFork (bits_in new) e.part.tree
@@ -190,10 +190,10 @@ module _ {V : Type 0} where
       low = e.low ∙ w.low;
       top = e.above ∙ w.top;
       named = e.named;
-      leaves = leaves_changed outs f;
+      leaves = leaves_changed f;
       forks = forks_changed f;
       spare = spare;
-      lists = lists_changed later outs f;
-      listed = listed_changed later outs f;
-      all = all_changed later outs f;
+      lists = lists_changed f;
+      listed = listed_changed f;
+      all = all_changed f;
     }
