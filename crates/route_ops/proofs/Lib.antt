@@ -10,3 +10,4 @@ pub mod MemoryThere
 pub mod RedirectRefused
 pub mod RefusingLemmas
 pub mod TablesStay
+pub mod Taken

@@ -1,13 +1,13 @@
 //! The requests to delete and to show a route.
-ghost use Rattle.std.specs.Prelude.{◌≡◌, MatchResult, IfOk, OnErr, Some, None};
-ghost use Rattle.radix_tree.specs.Table.{without};
+ghost use Rattle.std.specs.Prelude.{◌≡◌, MatchResult, IfOk, IfSome, IfNone, OnErr, Some, None};
+ghost use Rattle.radix_tree.specs.Table.{first_of, without};
 ghost use Rattle.radix_tree.specs.TableLaws.{StandsIn};
 ghost use Rattle.route_ops.specs.Deleting.{route_to_delete as deleted_by, route_to_show};
 ghost use Rattle.route_ops.specs.Spares.{KeepsFree, KeepsRooms};
 ghost use Rattle.route_ops.specs.Standing.{HasIfaOf, KeepsAreOf};
 
-use crate::placing::take_out;
-use crate::reading::{best_route, first_route, route_at};
+use crate::placing::{take_out, take_pair};
+use crate::reading::{best_route, first_route};
 use mask_table::{Prefix, Rank};
 use radix_tree::{Entry, Table, Visits};
 use route_entries::Route;
@@ -49,28 +49,45 @@ pub fn request_delete(
     ensures free { KeepsFree table.old table.new }
     ensures of { KeepsAreOf table.old.entries table.new.entries }
 {
-    let mut visits = table.begin();
-    let Some(route) = route_to_delete(table, &mut visits, key, netmask, flags) else {
+    let Some(route) = take_meant(table, key, netmask, flags) else {
         return Err(Errno::ESRCH);
     };
-    take_out(table, route.key, route.rank);
     Ok(route)
 }
 
-/// The route that DELETE means.
-fn route_to_delete(
-    table: &Table<Route>,
-    visits: &mut Visits,
+/// Takes out the route that DELETE means, where it is there.
+fn take_meant(
+    table: &mut Table<Route>,
     key: Inet,
     netmask: Option<Prefix>,
     flags: u16,
 ) -> Option<Entry<Route>>
-    requires turn { visits.old.turn ≡ table.now.turn }
-    ensures route { result ≡ deleted_by key netmask flags table.now.entries }
-    ensures counter { visits.new.turn ≡ visits.old.turn }
+    ensures route { result ≡ deleted_by key netmask flags table.old.entries }
+    ensures without { IfSome result (λ r. table.new.entries ≡ without r.key r.rank table.old.entries) }
+    ensures kept { IfNone result (table.new.entries ≡ table.old.entries) }
+    ensures rooms { IfNone result (KeepsRooms table.old table.new) }
+    ensures free { KeepsFree table.old table.new }
+    ensures of { KeepsAreOf table.old.entries table.new.entries }
 {
     match netmask {
-        Some(prefix) if flags & RTF_HOST == 0 => route_at(table, visits, key, Rank::of(prefix)),
-        _ => first_route(table, visits, key),
+        Some(prefix) if flags & RTF_HOST == 0 => take_pair(table, key, Rank::of(prefix)),
+        _ => take_first(table, key),
     }
+}
+
+/// Takes out the first route of a key, where there is one.
+fn take_first(table: &mut Table<Route>, key: Inet) -> Option<Entry<Route>>
+    ensures route { result ≡ first_of key table.old.entries }
+    ensures without { IfSome result (λ r. table.new.entries ≡ without r.key r.rank table.old.entries) }
+    ensures kept { IfNone result (table.new.entries ≡ table.old.entries) }
+    ensures rooms { IfNone result (KeepsRooms table.old table.new) }
+    ensures free { KeepsFree table.old table.new }
+    ensures of { KeepsAreOf table.old.entries table.new.entries }
+{
+    let mut visits = table.begin();
+    let Some(route) = first_route(table, &mut visits, key) else {
+        return None;
+    };
+    take_out(table, route.key, route.rank);
+    Some(route)
 }

@@ -1,5 +1,5 @@
 //! Routes that are put into the table, in a spare room or in the place of what they were, or taken out of it.
-ghost use Rattle.std.specs.Prelude.{◌≡◌, ◌+◌, ◌≤◌, length, Ok, Err, IsSome, OnOk, OnErr, MatchResult};
+ghost use Rattle.std.specs.Prelude.{◌≡◌, ◌+◌, ◌≤◌, length, Ok, Err, IfSome, IfNone, IsSome, OnOk, OnErr, MatchResult};
 ghost use Rattle.mask_table.specs.Agreeing.{masked};
 ghost use Rattle.radix_tree.specs.Table.{entry_at, with_entry, without};
 ghost use Rattle.radix_tree.specs.TableLaws.{StandsIn};
@@ -65,4 +65,19 @@ pub(crate) fn take_out(table: &mut Table<Route>, key: Inet, rank: Rank)
 {
     // What it answers is the value of a route that the caller has read already.
     let _ = table.remove(key, rank);
+}
+
+/// Takes the route with this key and rank out of the table, frees its room, and answers it. `None` where there is none.
+pub(crate) fn take_pair(table: &mut Table<Route>, key: Inet, rank: Rank) -> Option<Entry<Route>>
+    ensures taken { result ≡ entry_at key rank table.old.entries }
+    ensures without { IfSome result (λ r. table.new.entries ≡ without r.key r.rank table.old.entries) }
+    ensures kept { IfNone result (table.new.entries ≡ table.old.entries) }
+    ensures rooms { IfNone result (KeepsRooms table.old table.new) }
+    ensures free { KeepsFree table.old table.new }
+    ensures of { KeepsAreOf table.old.entries table.new.entries }
+{
+    let Some(value) = table.remove(key, rank) else {
+        return None;
+    };
+    Some(Entry { key, rank, value })
 }

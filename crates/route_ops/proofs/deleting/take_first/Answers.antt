@@ -1,6 +1,6 @@
 use Rattle.route_ops.specs.Standing.{AreOf}
 use Rattle.route_ops.proofs.Fitting.{begun_keeps_free}
-use Rattle.route_ops.proofs.deleting.request_delete.Goals as goal
+use Rattle.route_ops.proofs.deleting.take_first.Goals as goal
 
 pub returns-clause-of : goal.returns-clause-of
 returns-clause-of c = λ interfaces are.
