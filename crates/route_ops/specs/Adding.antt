@@ -6,7 +6,7 @@ use Rattle.sock_addrs.specs.declared.errno.Errno.TheVariants.{ENETUNREACH}
 use Rattle.mask_table.specs.Agreeing.{masked}
 use Rattle.mask_table.specs.Ranks.{rank_of}
 use Rattle.route_msgs.specs.Headers.{no_metrics}
-use Rattle.route_msgs.specs.declared.flags.TheConstants.{RTF_HOST, RTF_UP}
+use Rattle.route_msgs.specs.declared.flags.TheConstants.{RTF_GATEWAY, RTF_HOST, RTF_UP}
 use Rattle.if_addrs.specs.Interfaces.{Interface}
 use Rattle.if_addrs.specs.Searches.{for_route}
 use Rattle.if_addrs.specs.declared.reference.IfaRef.{IfaRef}
@@ -38,6 +38,13 @@ abbrev pub new_entry : NewRoute → IfaRef → Entry Route
 new_entry a ifa =
     let rank = asked_rank a.flags a.netmask in
     record { key = masked rank a.destination; rank = rank; value = new_value a ifa }
+
+-- the rooms that a new route may need: its own, and where it leads over a gateway that of a clone
+abbrev pub rooms_to_put : Route → ℕ
+rooms_to_put r = if bit_and r.flags RTF_GATEWAY == 0 then 1 else 2
+
+abbrev pub rooms_to_add : NewRoute → ℕ
+rooms_to_add a = if bit_and (bit_or a.flags RTF_UP) RTF_GATEWAY == 0 then 1 else 2
 
 -- the interface address of an address's best route
 abbrev pub best_ifa : ℕ → List (Entry Route) → Option IfaRef

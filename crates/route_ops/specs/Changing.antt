@@ -64,6 +64,11 @@ rewritten g r table =
     let settled = settle_written g r.value (with_entry r table) in
     record { route = r; table = settled.table; messages = settled.messages }
 
+-- the rooms that it may need: where a gateway is written that of a clone
+abbrev pub rooms_to_change : Option Gate → ℕ
+rooms_to_change None = 0
+rooms_to_change (Some g) = 1
+
 -- CHANGE
 abbrev pub changed_entry : Change → List Interface → List (Entry Route) → Entry Route → Entry Route
 changed_entry a interfaces table r = record r { value = changed a (ifa_asked a r interfaces table) r.value }

@@ -70,6 +70,10 @@ pub record Settled : Type 0 where
   pub table : List (Entry Route)
   pub messages : List Notice
 
+-- a route leads over a gateway, so that there is one to be settled
+abbrev pub leads_over : Route → Bool
+leads_over r = has_flag RTF_GATEWAY r
+
 -- nothing is to be settled
 abbrev pub unsettled : List (Entry Route) → Settled
 unsettled table = record { table = table; messages = [] }

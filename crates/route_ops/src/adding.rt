@@ -4,22 +4,23 @@ ghost use Rattle.std.specs.Result.{result_err};
 ghost use Rattle.if_addrs.specs.Interfaces.{IsOf};
 ghost use Rattle.mask_table.specs.Agreeing.{masked as masked_by};
 ghost use Rattle.radix_tree.specs.Table.{entry_at};
-ghost use Rattle.route_ops.specs.Adding.{add, add_fault, added as added_of, asked_rank, ifa_for, new_entry as entry_of};
+ghost use Rattle.route_ops.specs.Adding.{add, add_fault, added as added_of, asked_rank, ifa_for, new_entry as entry_of, rooms_to_add, rooms_to_put};
 ghost use Rattle.route_ops.specs.Spares.{FitsSpare, KeepsRooms};
 ghost use Rattle.route_ops.specs.Standing.{AreOf, KeepsAreOfWith, KeepsRoutes};
 ghost use Rattle.sock_addrs.specs.Errno.{is_no_memory};
 
+use crate::leading::ifa_of_route;
 use crate::looking::settle_gateway;
 use crate::notice::Notices;
 use crate::placing::place;
-use crate::reading::{best_ifa, is_there};
+use crate::reading::is_there;
 use crate::spare::Spare;
 use if_addrs::{IfaRef, Interfaces};
 use mask_table::{Prefix, Rank, masked};
 use radix_tree::{Entry, Table, Visits};
 use route_entries::Route;
 use route_msgs::Metrics;
-use route_msgs::flags::{RTF_HOST, RTF_UP};
+use route_msgs::flags::{RTF_GATEWAY, RTF_HOST, RTF_UP};
 use sock_addrs::{Errno, Gate, Inet};
 
 /// What ADD asks for.
@@ -51,6 +52,18 @@ pub struct Added {
 }
 
 impl NewRoute {
+    /// The rooms that `add_planned` may need for it, of `prepare_rooms`.
+    pub fn rooms(&self) -> usize
+        ensures rooms { result ≡ rooms_to_add self.now }
+        ensures few { result ≤ 2 }
+    {
+        if (self.flags | RTF_UP) & RTF_GATEWAY == 0 {
+            1
+        } else {
+            2
+        }
+    }
+
     /// Its rank: a host's where the flags say so or no mask was written.
     fn rank(&self) -> Rank
         ensures { result ≡ asked_rank self.now.flags self.now.netmask }
@@ -99,8 +112,14 @@ fn find_ifa(
     ensures of { IfSome result (λ i. IsOf i interfaces.now) }
     ensures counter { visits.new.turn ≡ visits.old.turn }
 {
-    let fallback = best_ifa(table, visits, asked.destination);
-    interfaces.for_route(asked.flags, asked.destination, asked.gateway, fallback)
+    ifa_of_route(
+        table,
+        visits,
+        interfaces,
+        asked.flags,
+        asked.destination,
+        &asked.gateway,
+    )
 }
 
 /// The route that is asked for, where it can be added. Refused in this order: ENETUNREACH: no interface address is found
@@ -119,6 +138,7 @@ pub fn plan_add(
         (λ e. add asked.now interfaces.now table.now.entries ≡ Err e) }
     ensures absent { IfOk result (λ r. entry_at r.key r.rank table.now.entries ≡ None) }
     ensures masked { IfOk result (λ r. masked_by r.rank r.key ≡ r.key) }
+    ensures rooms { IfOk result (λ r. rooms_to_put r.value ≡ rooms_to_add asked.now) }
     ensures of { IfOk result (λ r. IsOf r.value.ifa interfaces.now) }
     ensures memory { is_no_memory result ≡ false }
     ensures counter { visits.new.turn ≡ visits.old.turn }
@@ -138,7 +158,7 @@ pub fn add_planned(table: &mut Table<Route>, spare: &mut Spare, route: &Entry<Ro
     requires absent { entry_at route.now.key route.now.rank table.old.entries ≡ None }
     requires masked { masked_by route.now.rank route.now.key ≡ route.now.key }
     requires fits { FitsSpare table.old spare.old }
-    requires rooms { 2 ≤ length spare.old }
+    requires rooms { rooms_to_put route.now.value ≤ length spare.old }
     ensures table { table.new.entries ≡ (added_of route.now table.old.entries).table }
     ensures messages { result.items ≡ (added_of route.now table.old.entries).messages }
     ensures few { length result.items ≤ 1 }
@@ -182,7 +202,7 @@ pub fn request_add(
 ) -> Result<Added, Errno>
     requires of { AreOf interfaces.now table.old.entries }
     requires fits { FitsSpare table.old spare.old }
-    requires rooms { 2 ≤ length spare.old }
+    requires rooms { rooms_to_add asked.now ≤ length spare.old }
     ensures add { MatchResult result
         (λ a. add asked.now interfaces.now table.old.entries
         ≡ Ok (record { route = a.route; table = table.new.entries; messages = a.messages.items }))

@@ -3,16 +3,17 @@ ghost use Rattle.std.specs.Prelude.{◌≡◌, ◌+◌, ◌≤◌, false, length
 ghost use Rattle.if_addrs.specs.Interfaces.{IsOf};
 ghost use Rattle.radix_tree.specs.Table.{entry_at, with_entry};
 ghost use Rattle.radix_tree.specs.TableLaws.{StandsIn};
-ghost use Rattle.route_ops.specs.Changing.{sought as sought_by, change, changed as changed_by, ifa_asked, lock, rewritten, target as target_of};
+ghost use Rattle.route_ops.specs.Changing.{sought as sought_by, change, changed as changed_by, ifa_asked, lock, rewritten, rooms_to_change, target as target_of};
 ghost use Rattle.route_ops.specs.Spares.{FitsSpare, KeepsRooms};
 ghost use Rattle.route_ops.specs.Standing.{AreOf, KeepsAreOf, KeepsAreOfWith};
 ghost use Rattle.sock_addrs.specs.Errno.{is_no_memory};
 
 use crate::adding::Added;
+use crate::leading::ifa_of_route;
 use crate::looking::settle_gateway;
 use crate::notice::Notices;
 use crate::placing::rewrite;
-use crate::reading::{best_ifa, best_route, route_at};
+use crate::reading::{best_route, route_at};
 use crate::spare::Spare;
 use if_addrs::{IfaRef, Interfaces};
 use mask_table::{Prefix, Rank};
@@ -86,6 +87,17 @@ pub fn request_lock(
 }
 
 impl Change {
+    /// The rooms that `change_planned` may need for it, of `prepare_rooms`.
+    pub fn rooms(&self) -> usize
+        ensures rooms { result ≡ rooms_to_change self.now.gateway }
+        ensures few { result ≤ 2 }
+    {
+        match self.gateway {
+            Some(_) => 1,
+            None => 0,
+        }
+    }
+
     /// What the new interface address is searched by on its interface.
     fn sought(&self, route: &Entry<Route>) -> Gate
         ensures { result ≡ sought_by self.now route.now }
@@ -143,8 +155,14 @@ fn asked_ifa(
         }
     }
     let gateway = asked.gateway?;
-    let fallback = best_ifa(table, visits, route.key);
-    interfaces.for_route(route.value.flags, route.key, gateway, fallback)
+    ifa_of_route(
+        table,
+        visits,
+        interfaces,
+        route.value.flags,
+        route.key,
+        &gateway,
+    )
 }
 
 /// The route as it is to be after a change: with another gateway, another interface address, other metrics whatever is
@@ -181,7 +199,7 @@ pub fn change_planned(
 ) -> Notices
     requires there { IsSome (entry_at route.now.key route.now.rank table.old.entries) }
     requires fits { FitsSpare table.old spare.old }
-    requires rooms { 1 ≤ length spare.old }
+    requires rooms { rooms_to_change written ≤ length spare.old }
     ensures table { table.new.entries ≡ (rewritten written route.now table.old.entries).table }
     ensures messages { result.items ≡ (rewritten written route.now table.old.entries).messages }
     ensures few { length result.items ≤ 1 }
@@ -208,7 +226,7 @@ pub fn request_change(
 ) -> Result<Added, Errno>
     requires of { AreOf interfaces.now table.old.entries }
     requires fits { FitsSpare table.old spare.old }
-    requires rooms { 1 ≤ length spare.old }
+    requires rooms { rooms_to_change asked.now.gateway ≤ length spare.old }
     ensures change { MatchResult result
         (λ a. change asked.now interfaces.now table.old.entries
         ≡ Ok (record { route = a.route; table = table.new.entries; messages = a.messages.items }))

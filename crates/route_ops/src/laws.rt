@@ -49,7 +49,8 @@ pub fn refused_redirect_keeps()
     ensures { RefusedRedirectKeeps }
 {}
 
-/// Why a request, a redirect or the loss of a route is refused is never want of memory: that is found by `prepare` alone.
+/// Why a request, a redirect or the loss of a route is refused is never want of memory: that is found by `prepare` and
+/// `prepare_rooms` alone.
 pub fn nothing_else_wants_memory()
     ensures request_add { AddingHasMemory }
     ensures request_change { ChangingHasMemory }

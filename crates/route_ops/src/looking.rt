@@ -3,7 +3,7 @@ ghost use Rattle.std.specs.Prelude.{◌≡◌, ◌+◌, ◌≤◌, ◌++◌, [],
 ghost use Rattle.sock_addrs.specs.declared.gate.Gate.TheVariants as gate;
 ghost use Rattle.radix_tree.specs.Table.{with_entry};
 ghost use Rattle.radix_tree.specs.TableLaws.{StandsIn};
-ghost use Rattle.route_ops.specs.Looks.{resolved, found, answer_of, with_clone, told_of as told, settle, settle_found as settled, look};
+ghost use Rattle.route_ops.specs.Looks.{resolved, found, answer_of, with_clone, told_of as told, settle, settle_found as settled, leads_over, look};
 ghost use Rattle.route_ops.specs.Spares.{FitsSpare, KeepsRooms};
 ghost use Rattle.route_ops.specs.Standing.{HasIfaOf, KeepsAreOf, KeepsAreOfWith, KeepsRoutes};
 
@@ -137,7 +137,7 @@ fn tell(about: &Gate, found: &Found, messages: &mut Notices)
 /// The messages are those of this look-up.
 pub fn settle_gateway(table: &mut Table<Route>, spare: &mut Spare, route: &Route) -> Notices
     requires fits { FitsSpare table.old spare.old }
-    requires rooms { 1 ≤ length spare.old }
+    requires rooms { leads_over route.now ≡ true → 1 ≤ length spare.old }
     ensures table { table.new.entries ≡ (settle route.now table.old.entries).table }
     ensures messages { result.items ≡ (settle route.now table.old.entries).messages }
     ensures few { length result.items ≤ 1 }

@@ -1,5 +1,5 @@
 //! The rooms that a step may need.
-ghost use Rattle.std.specs.Prelude.{◌≡◌, ◌≤◌, ◌∷◌, length, is_err, IfOk};
+ghost use Rattle.std.specs.Prelude.{◌≡◌, ◌≤◌, ◌∷◌, length, min, is_err, IfOk};
 ghost use Rattle.memory.specs.Refusing.{Rises};
 ghost use Rattle.route_ops.specs.Spares.{FitsSpare};
 
@@ -9,8 +9,8 @@ use route_entries::Route;
 use std::alloc::AllocError;
 use std::marker::Model;
 
-/// The rooms that are left of the two that a step may need. `finish` gives them back; a `Spare` can't be dropped. A
-/// contract sees the rooms' numbers.
+/// The rooms that are left of those that a step may need, two at most. `finish` gives them back; a `Spare` can't be
+/// dropped. A contract sees the rooms' numbers.
 pub struct Spare {
     first: Option<Room<Route>>,
     second: Option<Room<Route>>,
@@ -45,6 +45,32 @@ pub fn prepare(table: &mut Table<Route>, memory: &mut Memory) -> Result<Spare, A
             table.give_back(first);
             Err(error)
         }
+    }
+}
+
+/// Makes so many rooms, two at most. `Err` where there is no memory for them.
+pub fn prepare_rooms(
+    table: &mut Table<Route>,
+    rooms: usize,
+    memory: &mut Memory,
+) -> Result<Spare, AllocError>
+    ensures rooms { IfOk result (λ spare. length spare ≡ min rooms 2) }
+    ensures fits { IfOk result (λ spare. FitsSpare table.new spare) }
+    ensures entries { table.new.entries ≡ table.old.entries }
+    ensures numbers { table.new.numbers ≡ table.old.numbers }
+    ensures next { table.old.next ≤ table.new.next }
+    ensures counted { Rises (is_err result) memory.old memory.new }
+{
+    match rooms {
+        0 => Ok(Spare {
+            first: None,
+            second: None,
+        }),
+        1 => Ok(Spare {
+            first: Some(table.room(memory)?),
+            second: None,
+        }),
+        _ => prepare(table, memory),
     }
 }
 
