@@ -1,7 +1,8 @@
 -- The best route is lent, as the route of a pair is, and stands in the table.
 use Rattle.radix_tree.proofs.{Answered.Answer, Answered.answer, Answered.Has-best, Answered.best_answer, Answered.best_none, Answered.best_pair}
 use Rattle.radix_tree.proofs.{Showing.shown_is, LawLemmas.best_is_greatest, Valued.put_valued, Valued.valued_whole, Valued.lent_shown}
-use Rattle.radix_tree.proofs.{Valued.lent_counted, Valued.lent_keys, Kept.shown_table, Kept.whole_at, Kept.entries_at, routes.Table.best_mut.Goals.In-Some-best_room}
+use Rattle.radix_tree.proofs.{Valued.lent_counted, Valued.lent_keys, Kept.shown_table, Kept.whole_at, Kept.entries_at}
+use Rattle.radix_tree.proofs.routes.Table.best_mut.Goals.{In-Some-best_room}
 use Rattle.radix_tree.specs.Lending.{with_value_at}
 use Rattle.radix_tree.proofs.Words.{◌≡◌, sym, ap, subst, ◌∙◌, inl, inr, arith, put_value, IsTable, contents, IsKept, AreCounted, best_of, with_entry}
 use Rattle.radix_tree.proofs.Words.{shown, IsWhole, Entry, Leaf}
