@@ -1,4 +1,5 @@
 pub mod Announcing
+pub mod Counting
 pub mod Dumping
 pub mod Effecting
 pub mod FewBrought

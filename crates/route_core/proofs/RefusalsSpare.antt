@@ -4,9 +4,10 @@ use Rattle.std.specs.Prelude.{Option, Some, None, Result, Ok, Err, ⊤, IfErr, I
 use Rattle.std.specs.List.{find, list_any}
 use Rattle.std.proofs.lemmas.Bool.Decides.{nat_tests}
 use Rattle.sock_addrs.specs.Rules.{Rule, rule, first_fault, unless_fault}
+use Rattle.sock_addrs.specs.Errno.{is_enobufs}
 use Rattle.sock_addrs.specs.Sockaddrs.{family}
 use Rattle.sock_addrs.specs.declared.errno.Errno.{Errno}
-use Rattle.sock_addrs.specs.declared.errno.Errno.TheVariants.{EADDRINUSE, EADDRNOTAVAIL, EBADF, EEXIST, EHOSTUNREACH, EINVAL, EMFILE, ENETUNREACH, ENOBUFS, ENOSPC, ENXIO, ESRCH, ETOOMANYREFS}
+use Rattle.sock_addrs.specs.declared.errno.Errno.TheVariants.{EADDRINUSE, EADDRNOTAVAIL, EBADF, EEXIST, EHOSTUNREACH, EINVAL, EMFILE, EMSGSIZE, ENETUNREACH, ENOBUFS, ENOMEM, ENOSPC, ENXIO, EOPNOTSUPP, EPROTONOSUPPORT, ESRCH, ETOOMANYREFS}
 use Rattle.sock_addrs.specs.declared.families.TheConstants.{AF_INET}
 use Rattle.sock_addrs.specs.declared.gate.Gate.TheVariants as gate
 use Rattle.route_msgs.specs.declared.flags.TheConstants.{RTF_BLACKHOLE, RTF_HOST, RTF_REJECT}
@@ -584,3 +585,27 @@ refusal_keeps_sockets old c errno new (inr h) =
 pub no_memory_keeps_all : NoMemoryKeepsAll
 no_memory_keeps_all old c new (inl is) = absurd ((spared old c ENOBUFS new is).found refl)
 no_memory_keeps_all old c new (inr h) = h.2
+
+-- the machine itself never answers that there is no memory
+enobufs_or : (e : Errno) → IsFound e → is_enobufs e ≡ false
+enobufs_or ENOBUFS found = absurd (found refl)
+enobufs_or ESRCH found = refl
+enobufs_or ENXIO found = refl
+enobufs_or EBADF found = refl
+enobufs_or ENOMEM found = refl
+enobufs_or EEXIST found = refl
+enobufs_or EINVAL found = refl
+enobufs_or EMFILE found = refl
+enobufs_or ENOSPC found = refl
+enobufs_or EMSGSIZE found = refl
+enobufs_or EPROTONOSUPPORT found = refl
+enobufs_or EOPNOTSUPP found = refl
+enobufs_or EADDRINUSE found = refl
+enobufs_or EADDRNOTAVAIL found = refl
+enobufs_or ENETUNREACH found = refl
+enobufs_or ETOOMANYREFS found = refl
+enobufs_or EHOSTUNREACH found = refl
+
+pub never_short : (old : World) (c : Command) (errno : Errno) (new : World)
+    → stepped old c ≡ record { world = new; answer = Refused errno } → is_enobufs errno ≡ false
+never_short old c errno new is = enobufs_or errno (spared old c errno new is).found

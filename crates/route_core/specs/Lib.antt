@@ -1,3 +1,4 @@
+pub mod CauseLaws
 pub mod Commands
 pub mod Effects
 pub mod Few

@@ -1,6 +1,7 @@
 -- One step of the world for each command: what it does, and the world and the answer after it.
-use Rattle.std.specs.Prelude.{◌≡◌, ◌⊎◌, ◌+◌, ◌*◌, ◌-◌, ◌/◌, ◌^◌, ◌&&◌, ℕ, Bool, true, false, not, is_some, is_none, if◌then◌else◌, min, List, [], ◌∷◌, ◌++◌, map, Option, Some, None, Result, Ok, Err, ok_or, unwrap_or}
+use Rattle.std.specs.Prelude.{◌≡◌, ◌⊎◌, ◌+◌, ◌*◌, ◌-◌, ◌/◌, ◌^◌, ◌&&◌, ◌<◌, ℕ, Bool, true, false, not, is_some, is_none, if◌then◌else◌, min, List, [], ◌∷◌, ◌++◌, map, Option, Some, None, Result, Ok, Err, ok_or, unwrap_or}
 use Rattle.std.specs.Option.{option_map_or}
+use Rattle.sock_addrs.specs.Errno.{is_enobufs}
 use Rattle.sock_addrs.specs.declared.errno.Errno.{Errno}
 use Rattle.sock_addrs.specs.declared.errno.Errno.TheVariants.{EBADF, EEXIST, EHOSTUNREACH, ENOBUFS}
 use Rattle.sock_addrs.specs.declared.families.TheConstants.{AF_INET}
@@ -277,6 +278,11 @@ takes_memory w (Losing destination) = false
 takes_memory w (DumpSize flags) = false
 takes_memory w (Dump flags room) = true
 
+-- the answer says that there was no memory
+abbrev pub lacks_memory : Answer → Bool
+lacks_memory (Refused errno) = is_enobufs errno
+lacks_memory answer = false
+
 -- the machine's step: this answer and this world
 abbrev pub IsStep : World → Command → Answer → World → Type 0
 IsStep old command answer new = stepped old command ≡ record { world = new; answer = answer }
@@ -287,3 +293,10 @@ abbrev pub Steps : World → Command → Answer → World → Type 0
 Steps old command answer new =
     IsStep old command answer new
     ⊎ ((takes_memory old command ≡ true) × (answer ≡ Refused ENOBUFS) × (new ≡ old))
+
+-- a step between two counts of how often memory was refused. The machine's, and it wasn't refused; or it was, the
+-- command may want memory, the answer is that there is none, and the world is the old one
+abbrev pub StepsCounted : World → Command → Answer → World → ℕ → ℕ → Type 0
+StepsCounted old command answer new before after =
+    (IsStep old command answer new × (after ≡ before))
+    ⊎ ((takes_memory old command ≡ true) × (answer ≡ Refused ENOBUFS) × (new ≡ old) × (before < after))

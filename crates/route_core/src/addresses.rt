@@ -1,8 +1,9 @@
 //! Addresses of interfaces that come and go.
 ghost use Rattle.std.specs.Prelude.{◌≡◌, ◌≤◌};
 ghost use Rattle.if_addrs.specs.Interfaces.{IsOf};
+ghost use Rattle.memory.specs.Refusing.{Rises};
 ghost use Rattle.route_core.specs.Tried.{done_or_refused as answer_of};
-ghost use Rattle.route_core.specs.Step.{Steps, announced, renounced};
+ghost use Rattle.route_core.specs.Step.{Steps, announced, lacks_memory, renounced};
 ghost use Rattle.route_core.specs.Telling.{delivered_all};
 ghost use Rattle.route_core.specs.declared.command.Command.TheVariants.{AddAddress, RemoveAddress};
 
@@ -12,6 +13,7 @@ use crate::{Answer, World};
 use if_addrs::{Facts, IfaRef, Interfaces};
 use listeners::Listeners;
 use mask_table::Prefix;
+use memory::Memory;
 use radix_tree::Entry;
 use route_entries::Route;
 use route_msgs::kinds::{RTM_DELADDR, RTM_NEWADDR};
@@ -35,7 +37,23 @@ impl World {
     ) -> Answer<'static>
         ensures { Steps self.old (AddAddress name address prefix cloning far) result self.new }
     {
-        done_or_refused(self.try_add_address(name, address, prefix, cloning, far))
+        self.add_address_counted(name, address, prefix, cloning, far, &mut Memory::new())
+    }
+
+    /// As `add_address`; the answer is ENOBUFS exactly where memory was refused.
+    pub fn add_address_counted(
+        &mut self,
+        name: Name,
+        address: Inet,
+        prefix: Prefix,
+        cloning: bool,
+        far: Option<Inet>,
+        memory: &mut Memory,
+    ) -> Answer<'static>
+        ensures step { Steps self.old (AddAddress name address prefix cloning far) result self.new }
+        ensures counted { Rises (lacks_memory result) memory.old memory.new }
+    {
+        done_or_refused(self.try_add_address(name, address, prefix, cloning, far, memory))
     }
 
     #[tactic(auto, using(route_ops::proofs::Keeping::are_kept, route_ops::proofs::Keeping::added_of), unfolding(crate::specs::Step::effect, crate::specs::Step::takes_memory))]
@@ -46,16 +64,18 @@ impl World {
         prefix: Prefix,
         cloning: bool,
         far: Option<Inet>,
+        memory: &mut Memory,
     ) -> Result<(), Errno>
-        ensures { Steps self.old (AddAddress name address prefix cloning far) (answer_of result) self.new }
+        ensures step { Steps self.old (AddAddress name address prefix cloning far) (answer_of result) self.new }
+        ensures counted { Rises (lacks_memory (answer_of result)) memory.old memory.new }
     {
         // an `Option` is copied before it is handed on twice, since the borrow checker covers no other form
         let other_end = far;
         self.interfaces.check_addr(name, address, other_end)?;
-        let room = self.table.room()?;
+        let room = self.table.room(memory)?;
         let ifa = match self
             .interfaces
-            .add_addr(name, address, prefix, cloning, far)
+            .add_addr(name, address, prefix, cloning, far, memory)
         {
             Ok(ifa) => ifa,
             Err(errno) => {

@@ -1,11 +1,13 @@
 //! Dumps of the table.
 ghost use Rattle.std.specs.Prelude.{◌≡◌};
+ghost use Rattle.memory.specs.Refusing.{Rises};
 ghost use Rattle.route_core.specs.Tried.{answer_to as answer_of};
-ghost use Rattle.route_core.specs.Step.{IsStep, Steps, size_to_ask as size_to_ask_of};
+ghost use Rattle.route_core.specs.Step.{IsStep, Steps, lacks_memory, size_to_ask as size_to_ask_of};
 ghost use Rattle.route_core.specs.declared.command.Command.TheVariants.{Dump, DumpSize};
 
 use crate::tried::answer_to;
 use crate::{Answer, Received, World};
+use memory::Memory;
 use sock_addrs::Errno;
 use table_dump::{dump_into, total};
 
@@ -25,16 +27,31 @@ impl World {
     pub fn dump(&mut self, filter: Option<u32>, room: u32) -> Answer<'static>
         ensures { Steps self.old (Dump filter room) result self.new }
     {
-        answer_to(self.try_dump(filter, room))
+        self.dump_counted(filter, room, &mut Memory::new())
+    }
+
+    /// As `dump`; the answer is ENOBUFS exactly where memory was refused.
+    pub fn dump_counted(&mut self, filter: Option<u32>, room: u32, memory: &mut Memory) -> Answer<'static>
+        ensures step { Steps self.old (Dump filter room) result self.new }
+        ensures counted { Rises (lacks_memory result) memory.old memory.new }
+    {
+        answer_to(self.try_dump(filter, room, memory))
     }
 
     #[tactic(auto, unfolding(crate::specs::Step::effect, crate::specs::Step::takes_memory))]
-    fn try_dump(&mut self, filter: Option<u32>, room: u32) -> Result<Answer<'static>, Errno>
-        ensures { Steps self.old (Dump filter room) (answer_of result) self.new }
+    fn try_dump(
+        &mut self,
+        filter: Option<u32>,
+        room: u32,
+        memory: &mut Memory,
+    ) -> Result<Answer<'static>, Errno>
+        ensures step { Steps self.old (Dump filter room) (answer_of result) self.new }
+        ensures counted { Rises (lacks_memory (answer_of result)) memory.old memory.new }
     {
         let mut visits = self.table.begin();
         let (bytes, left_out) = dump_into(
             self.alloc,
+            memory,
             &self.table,
             &self.interfaces,
             &mut visits,

@@ -3,6 +3,7 @@
 ghost use Rattle.std.specs.Prelude.{◌≡◌};
 ghost use Rattle.route_core.specs.declared.request.TheConstants.{MOST_BYTES};
 ghost use Rattle.route_core.specs.declared.written.TheConstants.{MOST_WRITTEN};
+ghost use Rattle.route_core.specs.CauseLaws.{AnswerHasACause, CountedIsAStep, EffectHasMemory, OthersLeaveTheCount};
 ghost use Rattle.route_core.specs.Few.{EffectsAreFew, StepsBringFew};
 ghost use Rattle.route_core.specs.Queues.{KeptIsOfWhatItMet, LossesDisturbNobody, OpensWithNothing, WaitsIsOfWhatItHeard};
 ghost use Rattle.route_core.specs.RefusalLaws.{NoMemoryKeepsAll, RefusalKeepsInterfaces, RefusalKeepsRoutes, RefusalKeepsSockets};
@@ -30,6 +31,16 @@ pub fn refusal_keeps_sockets()
 /// A step that answers that there is no memory has changed nothing at all.
 pub fn no_memory_keeps_all()
     ensures { NoMemoryKeepsAll }
+{}
+
+/// An answer that there is no memory has a cause. The machine of itself never gives it; a counted step is one of the
+/// machine's or one that finds no memory, answers so exactly where the count of refusals rose, and leaves the count
+/// where its command takes no memory.
+pub fn no_memory_has_a_cause()
+    ensures effect { EffectHasMemory }
+    ensures step { CountedIsAStep }
+    ensures cause { AnswerHasACause }
+    ensures others { OthersLeaveTheCount }
 {}
 
 /// What holds of the empty world stays with every step: the table is in table order with no pair twice, each route

@@ -2,11 +2,13 @@
 ghost use Rattle.std.specs.Prelude.{◌≡◌, ◌⊎◌, ℕ, List, [], Ok, Err, IfOk, OnErr, OnOk, MatchResult, false, true};
 ghost use Rattle.if_addrs.specs.Interfaces.{IsOf};
 ghost use Rattle.listeners.specs.Queue.{IsMessage};
+ghost use Rattle.memory.specs.Refusing.{Rises};
 ghost use Rattle.route_msgs.specs.Headers.{header_in};
 ghost use Rattle.route_ops.specs.Adding.{add as add_of};
 ghost use Rattle.route_ops.specs.Changing.{change as change_of, lock as lock_of};
 ghost use Rattle.route_ops.specs.Deleting.{route_to_delete, route_to_show};
 ghost use Rattle.route_ops.specs.Standing.{AreOf, KeepsAreOf};
+ghost use Rattle.sock_addrs.specs.Errno.{is_no_memory};
 ghost use Rattle.sock_addrs.specs.declared.errno.Errno.TheVariants.{ENOBUFS};
 ghost use Rattle.route_core.specs.Outcomes.{outcome_with};
 ghost use Rattle.route_core.specs.declared.request.Request.TheVariants as asks;
@@ -16,12 +18,13 @@ use crate::messages::{Shown, put_route_got};
 use crate::request::{Asked, Request};
 use if_addrs::{IfaRef, Interfaces};
 use mask_table::Prefix;
+use memory::Memory;
 use radix_tree::Table;
 use route_entries::Route;
 use route_msgs::{Header, Message};
 use route_ops::{
-    Change, NewRoute, Notices, check_add, check_change, finish, prepare, request_add,
-    request_change, request_delete, request_get, request_lock,
+    Change, NewRoute, Notices, add_planned, change_planned, finish, plan_add, plan_change, prepare_rooms,
+    request_delete, request_get, request_lock,
 };
 use sock_addrs::{Errno, Inet};
 
@@ -66,8 +69,10 @@ pub(crate) fn carry_out(
     asked: &Asked,
     pid: u32,
     own: &mut Message,
+    memory: &mut Memory,
 ) -> Result<Done, Errno>
     requires of { AreOf interfaces.now table.old.entries }
+    ensures counted { Rises (is_no_memory result) memory.old memory.new }
     ensures outcome { (m : List ℕ) → asked.now.header ≡ header_in m → MatchResult result
         (λ d. outcome_of interfaces.now table.old.entries pid m asked.now.request
         ≡ Ok (outcome_with pid m table.new.entries d.notices.items d.has_own own.new.items))
@@ -78,13 +83,13 @@ pub(crate) fn carry_out(
     ensures of { AreOf interfaces.now table.new.entries }
 {
     match &asked.request {
-        Request::Add(route) => add(table, interfaces, route),
+        Request::Add(route) => add(table, interfaces, route, memory),
         Request::Delete {
             key,
             netmask,
             flags,
         } => delete(table, *key, *netmask, *flags),
-        Request::Change(wanted) => change(table, interfaces, wanted),
+        Request::Change(wanted) => change(table, interfaces, wanted, memory),
         Request::Lock {
             destination,
             netmask,
@@ -107,8 +112,14 @@ pub(crate) fn carry_out(
 }
 
 /// Adds a route. Refused as `request_add`, or by ENOBUFS for want of memory.
-fn add(table: &mut Table<Route>, interfaces: &Interfaces, asked: &NewRoute) -> Result<Done, Errno>
+fn add(
+    table: &mut Table<Route>,
+    interfaces: &Interfaces,
+    asked: &NewRoute,
+    memory: &mut Memory,
+) -> Result<Done, Errno>
     requires of { AreOf interfaces.now table.old.entries }
+    ensures counted { Rises (is_no_memory result) memory.old memory.new }
     ensures outcome { (pid : ℕ) (m own : List ℕ) → MatchResult result
         (λ d. adding_outcome (done_reply pid m) (add_of asked.now interfaces.now table.old.entries)
         ≡ Ok (outcome_with pid m table.new.entries d.notices.items d.has_own own))
@@ -118,21 +129,26 @@ fn add(table: &mut Table<Route>, interfaces: &Interfaces, asked: &NewRoute) -> R
     ensures echoed { IfOk result (λ d. d.has_own ≡ false) }
     ensures of { AreOf interfaces.now table.new.entries }
 {
-    let Ok(mut spare) = prepare(table) else {
-        let mut visits = table.begin();
-        let Err(errno) = check_add(table, &mut visits, interfaces, asked) else {
-            return Err(Errno::ENOBUFS);
-        };
-        return Err(errno);
+    let mut visits = table.begin();
+    let route = match plan_add(table, &mut visits, interfaces, asked) {
+        Ok(route) => route,
+        Err(errno) => return Err(errno),
     };
-    let added = request_add(table, interfaces, &mut spare, asked);
+    let mut spare = prepare_rooms(table, asked.rooms(), memory)?;
+    let messages = add_planned(table, &mut spare, &route);
     finish(table, spare);
-    Ok(Done::told(added?.messages))
+    Ok(Done::told(messages))
 }
 
 /// Changes a route. Refused as `request_change`, or by ENOBUFS for want of memory.
-fn change(table: &mut Table<Route>, interfaces: &Interfaces, asked: &Change) -> Result<Done, Errno>
+fn change(
+    table: &mut Table<Route>,
+    interfaces: &Interfaces,
+    asked: &Change,
+    memory: &mut Memory,
+) -> Result<Done, Errno>
     requires of { AreOf interfaces.now table.old.entries }
+    ensures counted { Rises (is_no_memory result) memory.old memory.new }
     ensures outcome { (pid : ℕ) (m own : List ℕ) → MatchResult result
         (λ d. adding_outcome (done_reply pid m) (change_of asked.now interfaces.now table.old.entries)
         ≡ Ok (outcome_with pid m table.new.entries d.notices.items d.has_own own))
@@ -142,16 +158,15 @@ fn change(table: &mut Table<Route>, interfaces: &Interfaces, asked: &Change) -> 
     ensures echoed { IfOk result (λ d. d.has_own ≡ false) }
     ensures of { AreOf interfaces.now table.new.entries }
 {
-    let Ok(mut spare) = prepare(table) else {
-        let mut visits = table.begin();
-        let Err(errno) = check_change(table, &mut visits, asked) else {
-            return Err(Errno::ENOBUFS);
-        };
-        return Err(errno);
+    let mut visits = table.begin();
+    let route = match plan_change(table, &mut visits, interfaces, asked) {
+        Ok(route) => route,
+        Err(errno) => return Err(errno),
     };
-    let changed = request_change(table, interfaces, &mut spare, asked);
+    let mut spare = prepare_rooms(table, asked.rooms(), memory)?;
+    let messages = change_planned(table, &mut spare, asked.gateway, &route);
     finish(table, spare);
-    Ok(Done::told(changed?.messages))
+    Ok(Done::told(messages))
 }
 
 /// Deletes a route. Refused as `request_delete`.

@@ -1,15 +1,17 @@
 //! Packets.
-ghost use Rattle.std.specs.Prelude.{◌≡◌, true};
+ghost use Rattle.std.specs.Prelude.{◌≡◌, false, true};
 ghost use Rattle.if_addrs.specs.Interfaces.{IsOf};
+ghost use Rattle.memory.specs.Refusing.{Rises};
 ghost use Rattle.route_core.specs.Tried.{answer_to as answer_of};
 ghost use Rattle.route_core.specs.Packets.{choice_of, clones_for, fate_of, rejection_of};
-ghost use Rattle.route_core.specs.Step.{Steps};
+ghost use Rattle.route_core.specs.Step.{Steps, lacks_memory};
 ghost use Rattle.route_core.specs.declared.command.Command.TheVariants.{Packet};
 
 use crate::telling::{tell, tell_one};
 use crate::tried::answer_to;
 use crate::{Answer, Choice, World};
 use if_addrs::Interfaces;
+use memory::Memory;
 use radix_tree::Entry;
 use route_entries::Route;
 use route_msgs::flags::{RTF_BLACKHOLE, RTF_CLONING, RTF_HOST, RTF_REJECT};
@@ -24,12 +26,21 @@ impl World {
     pub fn packet(&mut self, destination: Inet) -> Answer<'static>
         ensures { Steps self.old (Packet destination) result self.new }
     {
-        answer_to(self.try_packet(destination))
+        self.packet_counted(destination, &mut Memory::new())
+    }
+
+    /// As `packet`; the answer is ENOBUFS exactly where memory was refused.
+    pub fn packet_counted(&mut self, destination: Inet, memory: &mut Memory) -> Answer<'static>
+        ensures step { Steps self.old (Packet destination) result self.new }
+        ensures counted { Rises (lacks_memory result) memory.old memory.new }
+    {
+        answer_to(self.try_packet(destination, memory))
     }
 
     #[tactic(auto, unfolding(crate::specs::Step::effect, crate::specs::Step::takes_memory))]
-    fn try_packet(&mut self, destination: Inet) -> Result<Answer<'static>, Errno>
-        ensures { Steps self.old (Packet destination) (answer_of result) self.new }
+    fn try_packet(&mut self, destination: Inet, memory: &mut Memory) -> Result<Answer<'static>, Errno>
+        ensures step { Steps self.old (Packet destination) (answer_of result) self.new }
+        ensures counted { Rises (lacks_memory (answer_of result)) memory.old memory.new }
     {
         let Some(best) = use_best(&mut self.table, destination) else {
             let miss = Notice::Miss {
@@ -40,18 +51,19 @@ impl World {
             return Err(Errno::EHOSTUNREACH);
         };
         if best.value.has(RTF_CLONING) {
-            return self.packet_that_clones(destination);
+            return self.packet_that_clones(destination, memory);
         }
         Ok(fate(&self.interfaces, &best))
     }
 
     /// Finds the route of a packet whose route clones for it.
     #[tactic(auto, unfolding(crate::specs::Step::effect, crate::specs::Step::takes_memory))]
-    fn packet_that_clones(&mut self, destination: Inet) -> Result<Answer<'static>, Errno>
+    fn packet_that_clones(&mut self, destination: Inet, memory: &mut Memory) -> Result<Answer<'static>, Errno>
         requires { clones_for destination self.old.table ≡ true }
-        ensures { Steps self.old (Packet destination) (answer_of result) self.new }
+        ensures step { Steps self.old (Packet destination) (answer_of result) self.new }
+        ensures counted { Rises (lacks_memory (answer_of result)) memory.old memory.new }
     {
-        let mut spare = prepare(&mut self.table)?;
+        let mut spare = prepare(&mut self.table, memory)?;
         let looked = look_up(&mut self.table, &mut spare, Gate::Inet(destination), true);
         finish(&mut self.table, spare);
         tell(&mut self.listeners, &looked.messages);
@@ -66,7 +78,8 @@ impl World {
 /// What becomes of a packet by its route.
 fn fate(interfaces: &Interfaces, route: &Entry<Route>) -> Answer<'static>
     requires { IsOf route.now.value.ifa interfaces.now }
-    ensures { result ≡ fate_of interfaces.now route.now }
+    ensures fate { result ≡ fate_of interfaces.now route.now }
+    ensures memory { lacks_memory result ≡ false }
 {
     if route.value.has(RTF_BLACKHOLE) {
         return Answer::Dropped(choice(interfaces, route));

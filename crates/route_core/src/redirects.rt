@@ -1,11 +1,13 @@
 //! Redirects.
+ghost use Rattle.memory.specs.Refusing.{Rises};
 ghost use Rattle.route_core.specs.Tried.{done_or_refused as answer_of};
-ghost use Rattle.route_core.specs.Step.{Steps};
+ghost use Rattle.route_core.specs.Step.{Steps, lacks_memory};
 ghost use Rattle.route_core.specs.declared.command.Command.TheVariants.{Redirect};
 
 use crate::telling::tell;
 use crate::tried::done_or_refused;
 use crate::{Answer, NewGateway, World};
+use memory::Memory;
 use route_ops::{finish, prepare, redirect};
 use sock_addrs::Errno;
 
@@ -16,14 +18,23 @@ impl World {
     pub fn redirect(&mut self, asked: &NewGateway) -> Answer<'static>
         ensures { Steps self.old (Redirect asked.now) result self.new }
     {
-        done_or_refused(self.try_redirect(asked))
+        self.redirect_counted(asked, &mut Memory::new())
+    }
+
+    /// As `redirect`; the answer is ENOBUFS exactly where memory was refused.
+    pub fn redirect_counted(&mut self, asked: &NewGateway, memory: &mut Memory) -> Answer<'static>
+        ensures step { Steps self.old (Redirect asked.now) result self.new }
+        ensures counted { Rises (lacks_memory result) memory.old memory.new }
+    {
+        done_or_refused(self.try_redirect(asked, memory))
     }
 
     #[tactic(auto, unfolding(crate::specs::Step::effect, crate::specs::Step::takes_memory))]
-    fn try_redirect(&mut self, asked: &NewGateway) -> Result<(), Errno>
-        ensures { Steps self.old (Redirect asked.now) (answer_of result) self.new }
+    fn try_redirect(&mut self, asked: &NewGateway, memory: &mut Memory) -> Result<(), Errno>
+        ensures step { Steps self.old (Redirect asked.now) (answer_of result) self.new }
+        ensures counted { Rises (lacks_memory (answer_of result)) memory.old memory.new }
     {
-        let mut spare = prepare(&mut self.table)?;
+        let mut spare = prepare(&mut self.table, memory)?;
         let redirected = redirect(&mut self.table, &self.interfaces, &mut spare, asked);
         finish(&mut self.table, spare);
         tell(&mut self.listeners, &redirected.messages);

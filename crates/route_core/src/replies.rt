@@ -1,12 +1,14 @@
 //! The replies to writes that echo the written bytes.
-ghost use Rattle.std.specs.Prelude.{◌≡◌, ◌≤◌, length, vec_capacity};
+ghost use Rattle.std.specs.Prelude.{◌≡◌, ◌≤◌, length, is_err, vec_capacity};
 ghost use Rattle.listeners.specs.Queue.{IsMessage};
+ghost use Rattle.memory.specs.Refusing.{Rises};
 ghost use Rattle.route_msgs.specs.Headers.{header_in};
 ghost use Rattle.route_core.specs.Effects.{IsEchoed};
 ghost use Rattle.route_core.specs.Requests.{done_reply};
 ghost use Rattle.route_core.specs.Writes.{refused_reply};
 
 use crate::request::MOST_BYTES;
+use memory::Memory;
 use route_msgs::flags::RTF_DONE;
 use route_msgs::{Header, set_errno, set_flags, set_pid};
 use sock_addrs::Errno;
@@ -32,9 +34,10 @@ impl Model for ReplyBuffer {
 
 impl ReplyBuffer {
     /// The room, which stays. `Err` where there is no memory for it.
-    pub(crate) fn new(alloc: Global) -> Result<ReplyBuffer, AllocError> {
-        let mut bytes = Vec::new(alloc);
-        bytes.reserve(MOST_BYTES)?;
+    pub(crate) fn new(alloc: Global, memory: &mut Memory) -> Result<ReplyBuffer, AllocError>
+        ensures counted { Rises (is_err result) memory.old memory.new }
+    {
+        let bytes = memory.with_capacity(alloc, MOST_BYTES)?;
         Ok(ReplyBuffer { bytes })
     }
 

@@ -1,8 +1,9 @@
-ghost use Rattle.std.specs.Prelude.{◌≡◌, ◌≤◌, length, IfOk};
+ghost use Rattle.std.specs.Prelude.{◌≡◌, ◌≤◌, length, is_err, IfOk};
+ghost use Rattle.memory.specs.Refusing.{Rises};
 ghost use Rattle.route_ops.specs.Standing.{brought};
 ghost use Rattle.route_core.specs.Tried.{answer_to as answer_of, read_or_refused};
 ghost use Rattle.route_core.specs.World.{empty_world};
-ghost use Rattle.route_core.specs.Step.{IsStep, Steps, effect};
+ghost use Rattle.route_core.specs.Step.{IsStep, Steps, StepsCounted, effect, lacks_memory};
 ghost use Rattle.route_core.specs.declared.command.Command.TheVariants.{Attach, Close, Loopback, Lost, Open, Read};
 
 use crate::replies::ReplyBuffer;
@@ -10,6 +11,7 @@ use crate::tried::{answer_to, done_or_refused};
 use crate::{Answer, Command, Kind, LinkAddress, Queue, Received, Room, Said};
 use if_addrs::Interfaces;
 use listeners::Listeners;
+use memory::Memory;
 use radix_tree::Table;
 use route_entries::Route;
 use sock_addrs::{Errno, Name};
@@ -43,11 +45,22 @@ impl World {
     pub fn new(alloc: Global) -> Result<World, AllocError>
         ensures { IfOk result (λ w. w ≡ empty_world) }
     {
+        World::new_counted(alloc, &mut Memory::new())
+    }
+
+    /// As `new`; `Err` exactly where memory was refused.
+    pub fn new_counted(alloc: Global, memory: &mut Memory) -> Result<World, AllocError>
+        ensures empty { IfOk result (λ w. w ≡ empty_world) }
+        ensures counted { Rises (is_err result) memory.old memory.new }
+    {
+        let Ok(table) = Table::new(alloc) else {
+            unreachable!()
+        };
         Ok(World {
-            table: Table::new(alloc)?,
+            table,
             interfaces: Interfaces::new(alloc),
             listeners: Listeners::new(alloc),
-            reply: ReplyBuffer::new(alloc)?,
+            reply: ReplyBuffer::new(alloc, memory)?,
             alloc,
         })
     }
@@ -63,9 +76,34 @@ impl World {
         self.obey(&command.said(), room)
     }
 
+    /// As `step`; the answer is ENOBUFS exactly where memory was refused, which is counted.
+    pub fn step_counted<'a>(&mut self, command: &Command, room: &'a mut Room, memory: &mut Memory) -> Answer<'a>
+        ensures step { StepsCounted self.old command.now result self.new memory.old memory.new }
+        ensures few_routes { brought self.old.table self.new.table ≤ 2 }
+        ensures few_messages { length (effect self.old command.now).told ≤ 2 }
+    {
+        self.obey_counted(&command.said(), room, memory)
+    }
+
     /// Takes one command whose bytes lie elsewhere, as `step` takes it.
     pub fn obey<'a>(&mut self, said: &Said<'_>, room: &'a mut Room) -> Answer<'a>
         ensures { Steps self.old said.now result self.new }
+    {
+        self.obey_counted(said, room, &mut Memory::new())
+    }
+
+    /// Takes one command whose bytes lie elsewhere, as `step_counted` takes it.
+    #[tactic(auto, using(crate::proofs::Counting::caused))]
+    pub fn obey_counted<'a>(&mut self, said: &Said<'_>, room: &'a mut Room, memory: &mut Memory) -> Answer<'a>
+        ensures { StepsCounted self.old said.now result self.new memory.old memory.new }
+    {
+        self.take_command(said, room, memory)
+    }
+
+    /// Takes one command, each by the call of its name.
+    fn take_command<'a>(&mut self, said: &Said<'_>, room: &'a mut Room, memory: &mut Memory) -> Answer<'a>
+        ensures step { Steps self.old said.now result self.new }
+        ensures counted { Rises (lacks_memory result) memory.old memory.new }
     {
         match said {
             Command::Attach {
@@ -73,31 +111,30 @@ impl World {
                 kind,
                 type_number,
                 link,
-            } => self.attach(*name, *kind, *type_number, *link),
+            } => self.attach_counted(*name, *kind, *type_number, *link, memory),
             Command::AddAddress {
                 name,
                 address,
                 prefix,
                 cloning,
                 far,
-            } => self.add_address(*name, *address, *prefix, *cloning, *far),
+            } => self.add_address_counted(*name, *address, *prefix, *cloning, *far, memory),
             Command::RemoveAddress { name, address } => self.remove_address(*name, *address),
-            Command::Open { id, pid, protocol } => self.listen(*id, *pid, *protocol),
+            Command::Open { id, pid, protocol } => self.listen_counted(*id, *pid, *protocol, memory),
             Command::Close { id } => self.shut(*id),
             Command::Loopback { id, on } => self.set_loopback(*id, *on),
-            Command::Write { id, bytes } => self.write(*id, bytes.as_slice()),
+            Command::Write { id, bytes } => self.write_counted(*id, bytes.as_slice(), memory),
             Command::Read { id } => self.take(*id, room),
             Command::Lost { id } => self.lost(*id),
-            Command::Packet { destination } => self.packet(*destination),
-            Command::Redirect(asked) => self.redirect(asked),
+            Command::Packet { destination } => self.packet_counted(*destination, memory),
+            Command::Redirect(asked) => self.redirect_counted(asked, memory),
             Command::Losing { destination } => self.losing(*destination),
             Command::DumpSize { filter } => self.dump_size(*filter),
-            Command::Dump { filter, room } => self.dump(*filter, *room),
+            Command::Dump { filter, room } => self.dump_counted(*filter, *room, memory),
         }
     }
 
     /// Attaches an interface. EEXIST: the name is there; ENOSPC: there are 64 interfaces; ENOBUFS: there is no memory.
-    #[tactic(auto, unfolding(crate::specs::Step::effect, crate::specs::Step::takes_memory))]
     pub fn attach(
         &mut self,
         name: Name,
@@ -107,16 +144,46 @@ impl World {
     ) -> Answer<'static>
         ensures { Steps self.old (Attach name kind type_number link) result self.new }
     {
-        done_or_refused(self.interfaces.attach(name, kind, type_number, &link))
+        self.attach_counted(name, kind, type_number, link, &mut Memory::new())
+    }
+
+    /// As `attach`; the answer is ENOBUFS exactly where memory was refused.
+    #[tactic(auto, unfolding(crate::specs::Step::effect, crate::specs::Step::takes_memory))]
+    pub fn attach_counted(
+        &mut self,
+        name: Name,
+        kind: Kind,
+        type_number: u8,
+        link: LinkAddress,
+        memory: &mut Memory,
+    ) -> Answer<'static>
+        ensures step { Steps self.old (Attach name kind type_number link) result self.new }
+        ensures counted { Rises (lacks_memory result) memory.old memory.new }
+    {
+        done_or_refused(self.interfaces.attach(name, kind, type_number, &link, memory))
     }
 
     /// Opens a socket, with room for its queue. EEXIST: the id is open; EMFILE: 64 sockets are open; ENOBUFS: there is
     /// no memory.
-    #[tactic(auto, unfolding(crate::specs::Step::effect, crate::specs::Step::takes_memory))]
     pub fn listen(&mut self, id: Name, pid: u32, protocol: u8) -> Answer<'static>
         ensures { Steps self.old (Open id pid protocol) result self.new }
     {
-        done_or_refused(self.listeners.listen(id, pid, protocol))
+        self.listen_counted(id, pid, protocol, &mut Memory::new())
+    }
+
+    /// As `listen`; the answer is ENOBUFS exactly where memory was refused.
+    #[tactic(auto, unfolding(crate::specs::Step::effect, crate::specs::Step::takes_memory))]
+    pub fn listen_counted(
+        &mut self,
+        id: Name,
+        pid: u32,
+        protocol: u8,
+        memory: &mut Memory,
+    ) -> Answer<'static>
+        ensures step { Steps self.old (Open id pid protocol) result self.new }
+        ensures counted { Rises (lacks_memory result) memory.old memory.new }
+    {
+        done_or_refused(self.listeners.listen(id, pid, protocol, memory))
     }
 
     /// Closes a socket; its queue goes with it. EBADF: it isn't open. It wants no memory.

@@ -1,12 +1,13 @@
 //! Writes to a routing socket.
-ghost use Rattle.std.specs.Prelude.{◌≡◌, IsSome, Some, true};
+ghost use Rattle.std.specs.Prelude.{◌≡◌, IsSome, Some, Err, true};
 ghost use Rattle.listeners.specs.Queue.{IsMessage};
 ghost use Rattle.listeners.specs.Sockets.{delivered};
+ghost use Rattle.memory.specs.Refusing.{Rises};
 ghost use Rattle.route_msgs.specs.Headers.{header_in};
 ghost use Rattle.route_core.specs.Effects.{EffectOr, IsEchoed, IsEffect, request_effect};
 ghost use Rattle.route_core.specs.Outcomes.{reply_with};
 ghost use Rattle.route_core.specs.Requests.{makes_room, outcome_of};
-ghost use Rattle.route_core.specs.Step.{Steps, refused_write};
+ghost use Rattle.route_core.specs.Step.{Steps, lacks_memory, refused_write};
 ghost use Rattle.route_core.specs.Tried.{done_or_refused as answer_of};
 ghost use Rattle.route_core.specs.declared.command.Command.TheVariants.{Write};
 
@@ -18,6 +19,7 @@ use crate::telling::tell;
 use crate::tried::done_or_refused;
 use crate::{Answer, World};
 use listeners::Listeners;
+use memory::Memory;
 use route_msgs::{Header, Message};
 use sock_addrs::families::AF_INET;
 use sock_addrs::{Errno, Name};
@@ -35,31 +37,48 @@ impl World {
     pub fn write(&mut self, id: Name, bytes: &[u8]) -> Answer<'static>
         ensures { Steps self.old (Write id bytes.now) result self.new }
     {
-        done_or_refused(self.try_write(id, bytes))
+        self.write_counted(id, bytes, &mut Memory::new())
+    }
+
+    /// As `write`; the answer is ENOBUFS exactly where memory was refused.
+    pub fn write_counted(&mut self, id: Name, bytes: &[u8], memory: &mut Memory) -> Answer<'static>
+        ensures step { Steps self.old (Write id bytes.now) result self.new }
+        ensures counted { Rises (lacks_memory result) memory.old memory.new }
+    {
+        done_or_refused(self.try_write(id, bytes, memory))
     }
 
     #[tactic(auto, unfolding(crate::specs::Step::effect, crate::specs::Step::takes_memory))]
-    fn try_write(&mut self, id: Name, bytes: &[u8]) -> Result<(), Errno>
-        ensures { Steps self.old (Write id bytes.now) (answer_of result) self.new }
+    fn try_write(&mut self, id: Name, bytes: &[u8], memory: &mut Memory) -> Result<(), Errno>
+        ensures step { Steps self.old (Write id bytes.now) (answer_of result) self.new }
+        ensures counted { Rises (lacks_memory (answer_of result)) memory.old memory.new }
     {
         let pid = self.listeners.pid_of(id)?;
         match Asked::read(bytes) {
-            Ok(asked) => self.request(id, pid, bytes, &asked),
+            Ok(asked) => self.request(id, pid, bytes, &asked, memory),
             Err(refusal) => self.refuse(id, pid, bytes, refusal),
         }
     }
 
     /// Carries out what a write asks, and delivers its messages and its reply.
-    fn request(&mut self, id: Name, pid: u32, bytes: &[u8], asked: &Asked) -> Result<(), Errno>
+    fn request(
+        &mut self,
+        id: Name,
+        pid: u32,
+        bytes: &[u8],
+        asked: &Asked,
+        memory: &mut Memory,
+    ) -> Result<(), Errno>
         requires echoed { IsEchoed bytes.now }
         requires header { asked.now.header ≡ header_in bytes.now }
-        ensures { EffectOr (makes_room self.old.interfaces self.old.table asked.now.request)
+        ensures effect { EffectOr (makes_room self.old.interfaces self.old.table asked.now.request)
             (request_effect self.old id pid bytes.now
             (outcome_of self.old.interfaces self.old.table pid bytes.now asked.now.request))
             self.old (answer_of result) self.new }
+        ensures counted { Rises (lacks_memory (answer_of result)) memory.old memory.new }
     {
         let mut own = Message::new();
-        match carry_out(&mut self.table, &self.interfaces, asked, pid, &mut own) {
+        match carry_out(&mut self.table, &self.interfaces, asked, pid, &mut own, memory) {
             Ok(done) => {
                 tell(&mut self.listeners, &done.notices);
                 reply(
@@ -88,7 +107,8 @@ impl World {
     /// Refuses a write, once its reply is delivered to those who hear of it.
     fn refuse(&mut self, id: Name, pid: u32, bytes: &[u8], refusal: Refusal) -> Result<(), Errno>
         requires { IsSome refusal.family → IsEchoed bytes.now }
-        ensures { IsEffect (refused_write self.old id pid bytes.now refusal) (answer_of result) self.new }
+        ensures effect { IsEffect (refused_write self.old id pid bytes.now refusal) (answer_of result) self.new }
+        ensures refused { result ≡ Err refusal.errno }
     {
         if let Some(family) = refusal.family {
             let reply = self.reply.refused(bytes, pid, refusal.errno);

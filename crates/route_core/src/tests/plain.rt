@@ -2,6 +2,7 @@
 ghost use Rattle.std.specs.Prelude.{◌≡◌, ◌≤◌, length};
 
 use mask_table::{Rank, agrees, masked};
+use memory::Memory;
 use radix_tree::{Table, Visits, Walk};
 use sock_addrs::Inet;
 use std::alloc::{AllocError, Global};
@@ -32,7 +33,7 @@ impl Both {
         value: u64,
     ) -> Result<bool, AllocError> {
         let key = masked(address, rank);
-        let room = self.table.room()?;
+        let room = self.table.room(&mut Memory::new())?;
         let there = plain_at(self.plain.as_slice(), key, rank).is_some();
         match self.table.add(room, key, rank, value) {
             Ok(()) => {

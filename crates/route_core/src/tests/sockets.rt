@@ -1,6 +1,7 @@
 //! Who hears a message, which is read once.
 
 use listeners::{Listeners, Room};
+use memory::Memory;
 use sock_addrs::Name;
 use std::test::Fail;
 
@@ -20,9 +21,9 @@ fn id(text: &[u8]) -> Result<Name, &'static str> {
 #[test]
 fn a_message_is_heard_by_its_family_and_read_once(rt: HostRuntime) -> Result<(), Fail> {
     let mut listeners = Listeners::new(rt.alloc());
-    let mut room = Room::new(rt.alloc())?;
+    let mut room = Room::new(rt.alloc(), &mut Memory::new())?;
     for (socket, protocol) in [(b"inet", 2), (b"link", 18), (b"any0", 0)] {
-        listeners.listen(id(socket)?, 100, protocol)?;
+        listeners.listen(id(socket)?, 100, protocol, &mut Memory::new())?;
     }
     listeners.deliver(&SHORT, 2, Some(id(b"inet")?));
     listeners.deliver(&LONGER, 18, None);

@@ -3,6 +3,7 @@
 ghost use Rattle.std.specs.Prelude.{◌≡◌};
 
 use mask_table::{Rank, masked};
+use memory::Memory;
 use radix_tree::{Table, Visits, laws};
 use sock_addrs::Inet;
 use std::alloc::AllocError;
@@ -13,7 +14,7 @@ const NET: Inet = Inet([10, 0, 0, 0]);
 
 /// Adds a route at the address masked by the rank, and answers whether its pair was free.
 fn put(table: &mut Table<u64>, address: Inet, rank: Rank, value: u64) -> Result<bool, AllocError> {
-    let room = table.room()?;
+    let room = table.room(&mut Memory::new())?;
     match table.add(room, masked(address, rank), rank, value) {
         Ok(()) => Ok(true),
         Err((room, _)) => {
@@ -44,7 +45,7 @@ fn each_call_once(rt: HostRuntime) -> Result<(), Fail> {
     let mut table = Table::new(rt.alloc())?;
     assert!(rt; put(&mut table, NET, Rank::new(8), 8)?);
     assert!(rt; put(&mut table, NET, Rank::host(), 33)?);
-    let room = table.room()?;
+    let room = table.room(&mut Memory::new())?;
     table.give_back(room);
     if let Some(value) = table.get_mut(NET, Rank::new(8)) {
         *value = 108;

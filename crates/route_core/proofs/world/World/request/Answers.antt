@@ -11,8 +11,8 @@ use Rattle.route_core.proofs.Effecting.{write_done}
 use Rattle.route_core.proofs.RefusalsSpare.{FoundErr, outcome-found}
 use Rattle.route_core.proofs.world.World.request.Goals as goal
 
-pub returns-in-Ok : goal.returns-in-Ok
-returns-in-Ok c =
+pub returns-in-Ok-clause-effect : goal.returns-in-Ok-clause-effect
+returns-in-Ok-clause-effect c =
     let w : World = record {
       table = c.self.inside.table.entries;
       interfaces = c.self.inside.interfaces;
@@ -34,8 +34,8 @@ short wants w id pid m (Ok o) new found (inl is) same = absurd (cc)
 short wants w id pid m (Err e) new found (inl is) same = absurd (found (cc))
 short wants w id pid m r new found (inr both) same = inr (both.0, refl, same)
 
-pub returns-in-Err-ENOBUFS : goal.returns-in-Err-ENOBUFS
-returns-in-Err-ENOBUFS c =
+pub returns-in-Err-ENOBUFS-clause-effect : goal.returns-in-Err-ENOBUFS-clause-effect
+returns-in-Err-ENOBUFS-clause-effect c =
     let w : World = record {
       table = c.self.inside.table.entries;
       interfaces = c.self.inside.interfaces;

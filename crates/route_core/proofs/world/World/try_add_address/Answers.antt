@@ -4,8 +4,8 @@ use Rattle.route_core.specs.World.{World}
 use Rattle.route_core.proofs.Effecting.{address_routed, address_taken, facts_known}
 use Rattle.route_core.proofs.world.World.try_add_address.Goals as goal
 
-pub returns-in-Err-add : goal.returns-in-Err-add
-returns-in-Err-add c =
+pub returns-in-Err-add-clause-step : goal.returns-in-Err-add-clause-step
+returns-in-Err-add-clause-step c =
     let w : World = record {
       table = c.self.inside.table.entries;
       interfaces = c.self.inside.interfaces;
@@ -20,8 +20,8 @@ returns-in-Err-add c =
     (rw c.in_ok-room.ensures.ok at (c.in-Err-add.ensures.there.0 refl))
     c.in-Ok.ensures.added)
 
-pub returns : goal.returns
-returns c =
+pub returns-clause-step : goal.returns-clause-step
+returns-clause-step c =
     let w : World = record {
       table = c.self.inside.table.entries;
       interfaces = c.self.inside.interfaces;

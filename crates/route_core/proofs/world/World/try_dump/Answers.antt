@@ -5,8 +5,8 @@ use Rattle.route_core.proofs.world.World.try_dump.Goals as goal
 pub new-requires : goal.new-requires
 new-requires c = dumped_are_messages _ _ c.in_ok-bytes.ensures.bytes c.in_ok-bytes.ensures.whole
 
-pub returns : goal.returns
-returns c =
+pub returns-clause-step : goal.returns-clause-step
+returns-clause-step c =
     let w : World = record {
       table = c.self.inside.table.entries;
       interfaces = c.self.inside.interfaces;
