@@ -1,9 +1,9 @@
 -- How a step and the count of refusals go together.
 use Rattle.std.proofs.Common.{◌≡◌, ℕ, ◌<◌, true, false, inl, inr, refl, sym, ap, subst, ◌∙◌}
 use Rattle.memory.specs.Refusing.{Rises}
-use Rattle.route_core.specs.CauseLaws.{EffectHasMemory, CountedIsAStep, AnswerHasACause, OthersLeaveTheCount}
+use Rattle.route_core.specs.CauseLaws.{CountedIsAStep, AnswerHasACause, OthersLeaveTheCount}
 use Rattle.route_core.specs.Commands.{Command}
-use Rattle.route_core.specs.Step.{IsStep, Steps, StepsCounted, effect, lacks_memory, takes_memory, world_after}
+use Rattle.route_core.specs.Step.{IsStep, Steps, StepsCounted, lacks_memory, takes_memory}
 use Rattle.route_core.specs.World.{World}
 use Rattle.route_core.specs.declared.answer.Answer.{Answer}
 use Rattle.route_core.specs.declared.answer.Answer.TheVariants.{Done, Refused, Size, Messages, Routed, Dropped}
@@ -17,9 +17,6 @@ has old c (Size n) new is = refl
 has old c (Messages messages errno) new is = refl
 has old c (Routed choice) new is = refl
 has old c (Dropped choice) new is = refl
-
-pub effect_has_memory : EffectHasMemory
-effect_has_memory w c = has w c (effect w c).answer (world_after (effect w c)) refl
 
 -- a step, and a count that rose exactly where it answered that there is no memory
 pub caused : (old : World) (c : Command) (answer : Answer) (new : World) (before after : ℕ)

@@ -2,6 +2,7 @@ pub mod Announcing
 pub mod Counting
 pub mod Dumping
 pub mod Effecting
+pub mod EffectsLeave
 pub mod FewBrought
 pub mod InterfacesFound
 pub mod MessageEffect

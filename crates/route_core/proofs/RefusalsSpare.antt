@@ -42,7 +42,7 @@ use Rattle.route_core.specs.Commands.{Command}
 use Rattle.route_core.specs.Effects.{request_effect}
 use Rattle.route_core.specs.Messages.{notice_told}
 use Rattle.route_core.specs.Packets.{choice_of, fate_of, rejection_of}
-use Rattle.route_core.specs.RefusalLaws.{IsRefusedFamily, NoMemoryKeepsAll, RefusalKeepsInterfaces, RefusalKeepsRoutes, RefusalKeepsSockets, RefusalTells, interfaces_left, is_packet}
+use Rattle.route_core.specs.RefusalLaws.{EffectsHaveMemory, IsRefusedFamily, NoMemoryKeepsAll, RefusalKeepsInterfaces, RefusalKeepsRoutes, RefusalKeepsSockets, RefusalTells, interfaces_left, is_packet}
 use Rattle.route_core.specs.Requests.{Outcome, adding_outcome, delete_outcome, done_reply, get_outcome, lock_outcome, outcome_of}
 use Rattle.route_core.specs.Step.{Effect, Stepped, bring_route, done, done_write, effect, lost_effect, packet_by, read_effect, refusal_tells, refused, refused_write, remove_address_effect, remove_found, stepped, take_route, unless_errno, unless_refused, upshot_effect, world_after, write_effect}
 use Rattle.route_core.specs.Telling.{delivered_all}
@@ -586,7 +586,11 @@ pub no_memory_keeps_all : NoMemoryKeepsAll
 no_memory_keeps_all old c new (inl is) = absurd ((spared old c ENOBUFS new is).found refl)
 no_memory_keeps_all old c new (inr h) = h.2
 
--- the machine itself never answers that there is no memory
+-- the machine itself never answers so
+pub effects_have_memory : EffectsHaveMemory
+effects_have_memory old c is = ((effect-spares old c).on ENOBUFS is).found refl
+
+-- nor, so, an errno that says it
 enobufs_or : (e : Errno) → IsFound e → is_enobufs e ≡ false
 enobufs_or ENOBUFS found = absurd (found refl)
 enobufs_or ESRCH found = refl

@@ -2,13 +2,9 @@
 use Rattle.std.specs.Prelude.{◌≡◌, false, ℕ}
 use Rattle.memory.specs.Refusing.{Rises}
 use Rattle.route_core.specs.Commands.{Command}
-use Rattle.route_core.specs.Step.{Steps, StepsCounted, effect, lacks_memory, takes_memory}
+use Rattle.route_core.specs.Step.{Steps, StepsCounted, lacks_memory, takes_memory}
 use Rattle.route_core.specs.World.{World}
 use Rattle.route_core.specs.declared.answer.Answer.{Answer}
-
--- the machine of itself never answers that there is no memory
-abbrev pub EffectHasMemory : Type 0
-EffectHasMemory = (w : World) (c : Command) → lacks_memory (effect w c).answer ≡ false
 
 -- a counted step is a step
 abbrev pub CountedIsAStep : Type 0

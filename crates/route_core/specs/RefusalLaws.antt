@@ -1,19 +1,19 @@
 -- What a refused command leaves as it was, in any step of the program: the machine's, or one that finds no memory.
-use Rattle.std.specs.Prelude.{◌≡◌, ◌⊎◌, ℕ, Bool, true, false, List, [], ◌∷◌, map, Some}
+use Rattle.std.specs.Prelude.{◌≡◌, ◌≢◌, ◌⊎◌, ℕ, Bool, true, false, List, [], ◌∷◌, map, Some}
 use Rattle.sock_addrs.specs.Sockaddrs.{family}
 use Rattle.sock_addrs.specs.declared.errno.Errno.{Errno}
-use Rattle.sock_addrs.specs.declared.errno.Errno.TheVariants.{EEXIST, ENOBUFS}
+use Rattle.sock_addrs.specs.declared.errno.Errno.TheVariants.{EEXIST, ENOBUFS, ENOMEM}
 use Rattle.sock_addrs.specs.declared.gate.Gate.TheVariants as gate
 use Rattle.if_addrs.specs.Interfaces.{Interface, with_address}
 use Rattle.listeners.specs.Sockets.{pid_of}
 use Rattle.route_ops.specs.Looks.{look}
 use Rattle.route_ops.specs.Redirecting.{redirect_told}
 use Rattle.route_core.specs.Messages.{notice_told}
-use Rattle.route_core.specs.Step.{Steps}
+use Rattle.route_core.specs.Step.{Steps, effect}
 use Rattle.route_core.specs.Telling.{Told, told, delivered_all}
 use Rattle.route_core.specs.World.{World}
 use Rattle.route_core.specs.Writes.{destination_bytes, refused_reply}
-use Rattle.route_core.specs.declared.answer.Answer.TheVariants.{Refused}
+use Rattle.route_core.specs.declared.answer.Answer.TheVariants.{Messages, Refused}
 use Rattle.route_core.specs.Commands.{Command}
 use Rattle.route_core.specs.declared.command.Command.TheVariants.{AddAddress, Packet, Redirect, Write}
 
@@ -64,3 +64,12 @@ RefusalKeepsSockets = (old : World) → (c : Command) → (errno : Errno) → (n
 -- a step that answers that there is no memory has changed nothing at all
 abbrev pub NoMemoryKeepsAll : Type 0
 NoMemoryKeepsAll = (old : World) → (c : Command) → (new : World) → Steps old c (Refused ENOBUFS) new → new ≡ old
+
+-- the machine never answers that there is no memory
+abbrev pub EffectsHaveMemory : Type 0
+EffectsHaveMemory = (w : World) → (c : Command) → (effect w c).answer ≢ Refused ENOBUFS
+
+-- nor does it leave messages out for want of it, but for want of room alone
+abbrev pub LeftOutForRoom : Type 0
+LeftOutForRoom = (w : World) → (c : Command) → (messages : List (List ℕ)) → (errno : Errno)
+    → (effect w c).answer ≡ Messages messages (Some errno) → errno ≡ ENOMEM

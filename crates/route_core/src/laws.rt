@@ -3,10 +3,10 @@
 ghost use Rattle.std.specs.Prelude.{◌≡◌};
 ghost use Rattle.route_core.specs.declared.request.TheConstants.{MOST_BYTES};
 ghost use Rattle.route_core.specs.declared.written.TheConstants.{MOST_WRITTEN};
-ghost use Rattle.route_core.specs.CauseLaws.{AnswerHasACause, CountedIsAStep, EffectHasMemory, OthersLeaveTheCount};
+ghost use Rattle.route_core.specs.CauseLaws.{AnswerHasACause, CountedIsAStep, OthersLeaveTheCount};
 ghost use Rattle.route_core.specs.Few.{EffectsAreFew, StepsBringFew};
 ghost use Rattle.route_core.specs.Queues.{KeptIsOfWhatItMet, LossesDisturbNobody, OpensWithNothing, WaitsIsOfWhatItHeard};
-ghost use Rattle.route_core.specs.RefusalLaws.{NoMemoryKeepsAll, RefusalKeepsInterfaces, RefusalKeepsRoutes, RefusalKeepsSockets};
+ghost use Rattle.route_core.specs.RefusalLaws.{EffectsHaveMemory, LeftOutForRoom, NoMemoryKeepsAll, RefusalKeepsInterfaces, RefusalKeepsRoutes, RefusalKeepsSockets};
 ghost use Rattle.route_core.specs.Undisturbed.{OthersAreNotNeeded, OthersDoNotDisturb};
 ghost use Rattle.route_core.specs.Worlds.{EmptyIsWorld, FoundAddressIsThere, NewAddressShowsItsInterface, RoutesHaveInterfaces, StepsKeepWorlds};
 
@@ -33,11 +33,19 @@ pub fn no_memory_keeps_all()
     ensures { NoMemoryKeepsAll }
 {}
 
-/// An answer that there is no memory has a cause. The machine of itself never gives it; a counted step is one of the
-/// machine's or one that finds no memory, answers so exactly where the count of refusals rose, and leaves the count
-/// where its command takes no memory.
+/// The machine never answers that there is no memory.
+pub fn effects_have_memory()
+    ensures { EffectsHaveMemory }
+{}
+
+/// The machine leaves messages of a dump out for want of room alone.
+pub fn left_out_for_room()
+    ensures { LeftOutForRoom }
+{}
+
+/// An answer that there is no memory has a cause. A counted step is one of the machine's or one that finds
+/// no memory, answers so exactly where the count of refusals rose, and leaves the count where its command takes no memory.
 pub fn no_memory_has_a_cause()
-    ensures effect { EffectHasMemory }
     ensures step { CountedIsAStep }
     ensures cause { AnswerHasACause }
     ensures others { OthersLeaveTheCount }

@@ -1,8 +1,5 @@
-use Rattle.route_core.proofs.Counting.{effect_has_memory, counted_is_a_step, answer_has_a_cause, others_leave_the_count}
+use Rattle.route_core.proofs.Counting.{counted_is_a_step, answer_has_a_cause, others_leave_the_count}
 use Rattle.route_core.proofs.laws.no_memory_has_a_cause.Goals as goal
-
-pub returns-clause-effect : goal.returns-clause-effect
-returns-clause-effect c = effect_has_memory
 
 pub returns-clause-step : goal.returns-clause-step
 returns-clause-step c = counted_is_a_step
