@@ -1,4 +1,5 @@
 pub mod ByteTexts
+pub mod CauseLemmas
 pub mod Composed
 pub mod Cutting
 pub mod Decimals
@@ -9,6 +10,7 @@ pub mod HexTables
 pub mod Joined
 pub mod LineLemmas
 pub mod ManyWords
+pub mod MemoryLines
 pub mod MessageLines
 pub mod Places
 pub mod PrintedWords

@@ -1,4 +1,5 @@
 pub mod Answers
+pub mod Causes
 pub mod Counts
 pub mod Given
 pub mod Grammar

@@ -7,6 +7,7 @@ ghost use Rattle.route_core.specs.declared.answer.Answer.TheVariants.{Dropped, M
 ghost use Rattle.sock_addrs.specs.declared.errno.Errno.TheVariants.{ENOMEM};
 ghost use Rattle.sock_addrs.specs.declared.gate.Gate.TheVariants.{Inet as InetGate, Link as LinkGate};
 ghost use Rattle.event_file.specs.Answers.{ResponsesEndInANewline, answer_text};
+ghost use Rattle.event_file.specs.Causes.{ComputedHasMemory, ComputedIsCounted, CountedIsTranscript, EachRefusalIsCounted, UnrefusedIsComputed};
 ghost use Rattle.event_file.specs.Lines.{EndedLinesAreRead, LastLineIsRead, ScriptIsItsLines};
 ghost use Rattle.event_file.specs.Printed.{PrintedFits, PrintedIsRead, ReadIsWithinBounds, line_of};
 ghost use Rattle.event_file.specs.Reached.{ScriptsLeadToWorlds};
@@ -16,7 +17,7 @@ ghost use Rattle.event_file.specs.Transcript.{ComputedIsTranscript, ResponseIsCo
 
 use crate::answers::TEXT_ROOM;
 use crate::line_buffer::LONGEST_LINE;
-use route_core::laws::others_do_not_disturb;
+use route_core::laws::{effects_have_memory, left_out_for_room, others_do_not_disturb};
 use route_msgs::laws::{sockaddrs_are_read, written_is_read};
 
 /// Lines without a newline in them are read of the script in which a newline stands behind each but perhaps the last,
@@ -133,6 +134,27 @@ pub fn response_is_computed()
 pub fn transcript_is_computed()
     ensures { TranscriptIsComputed }
 {}
+
+/// In what the machine computes no line is `err 55`.
+pub fn computed_has_memory()
+    ensures { ComputedHasMemory }
+{
+    effects_have_memory();
+    left_out_for_room();
+}
+
+/// A transcript in which memory is counted where it is refused is a transcript; the count rises for each line that is
+/// `err 55`, and for nothing else; and where it stands, the text is the one that the machine computes, which is such a
+/// transcript for every count.
+pub fn each_refusal_is_counted()
+    ensures transcript { CountedIsTranscript }
+    ensures each { EachRefusalIsCounted }
+    ensures unrefused { UnrefusedIsComputed }
+    ensures computed { ComputedIsCounted }
+{
+    effects_have_memory();
+    left_out_for_room();
+}
 
 /// A transcript of a script without a malformed line is the texts of the answers of a run of its commands, one after
 /// another, and those texts of each such run are a transcript.

@@ -1,7 +1,9 @@
-ghost use Rattle.std.specs.Prelude.{◌≡◌, ◌≤◌, ◌<◌, ◌+◌, ◌⊎◌, false, true, length, position, IfNone, IfOk, IfSome, cond, option_copied};
+ghost use Rattle.std.specs.Prelude.{◌≡◌, ◌≤◌, ◌<◌, ◌+◌, ◌⊎◌, false, true, length, position, is_err, IfNone, IfOk, IfSome, cond, option_copied};
 ghost use Rattle.event_file.specs.Lines.{Line, after_bytes, extended, first_line, has_newline, is_begun, is_newline, is_passed as passes, kept, no_line};
+ghost use Rattle.memory.specs.Refusing.{Rises};
 
 use crate::search::place_of;
+use memory::Memory;
 use std::alloc::{AllocError, Global};
 use std::marker::Model;
 
@@ -30,10 +32,11 @@ impl Model for LineBuffer {
 
 impl LineBuffer {
     /// No byte yet. This call alone takes memory: room for the longest line. `Err` where there is none.
-    pub fn new(alloc: Global) -> Result<LineBuffer, AllocError>
-        ensures { IfOk result (λ line. line ≡ no_line) }
+    pub fn new(alloc: Global, memory: &mut Memory) -> Result<LineBuffer, AllocError>
+        ensures ok { IfOk result (λ line. line ≡ no_line) }
+        ensures counted { Rises (is_err result) memory.old memory.new }
     {
-        let bytes = Vec::with_capacity(alloc, LONGEST_LINE)?;
+        let bytes = memory.with_capacity(alloc, LONGEST_LINE)?;
         Ok(LineBuffer {
             bytes,
             is_too_long: false,
