@@ -2,31 +2,34 @@
 use Rattle.std.proofs.Common.{◌≡◌, ℕ, Bool, true, false, not, ◌||◌, cond, List, [], ◌∷◌, ◌++◌, Option, Some, None, Result, Ok, Err, refl, sym, ap, ◌∙◌, subst, append_assoc, append-nil, inl, inr, suc, ◌+◌, ◌≤◌, ◌≢◌, length, length-append, length-take-le, take, drop, take-append-drop, arith, OnErr, OnOk}
 use Rattle.std.specs.Prelude.{is_none, is_err, IfSome}
 use Rattle.std.specs.Io.KnownBytes.{Appends, Consumes, IsAtEnd, Keeps}
-use Rattle.std.proofs.KnownBytes.{Appends-nil, Appends-trans, Consumes-kept, Consumes-nil, Consumes-trans, Consumes-whole}
+use Rattle.std.proofs.KnownBytes.{Appends-nil, Appends-trans, Consumes-kept, Consumes-nil, Consumes-trans}
 use Rattle.std.proofs.Math.Bool.{or_assoc}
 use Rattle.std.proofs.lemmas.Bool.{cond-true}
 use Rattle.std.proofs.lemmas.List.{take_all}
 use Rattle.program_ends.specs.declared.outcome.Outcome.{Outcome}
-use Rattle.program_ends.specs.declared.outcome.Outcome.TheVariants.{Done, BadLine, ReadFault, WriteFault, NoMemory}
+use Rattle.program_ends.specs.declared.outcome.Outcome.TheVariants.{Done, BadLine, ReadFault, WriteFault}
 use Rattle.event_file.specs.declared.bad.Bad.{Bad}
 use Rattle.route_core.specs.declared.answer.Answer.{Answer}
 use Rattle.event_file.specs.Answers.{response_text}
 use Rattle.event_file.specs.Counts.{Counts}
 use Rattle.event_file.specs.Lines.{Line, after_bytes, answered_lines, begun_line, ended_lines, extended, first_line, has_newline, is_answered, is_begun, is_passed, kept, no_line}
 use Rattle.event_file.specs.Output.{WroteFront}
-use Rattle.route_main.specs.Progress.{Standing, Answers, StopsWithin, Progress, Advances, Breaks, Finishes, Reached, HasRead, answered_of, fresh}
-use Rattle.event_file.specs.Transcript.{Answered, IsTranscript, Responds, command_in, has_bad_line, transcript_from}
-use Rattle.route_main.specs.Ends.{AnsweredAll, Ends, IsAnswered}
+use Rattle.route_main.specs.Progress.{Standing, Answers, StopsWithin, Progress, Advances, Breaks, Finishes, Reached, HasRead, answered_of, fresh, standing}
+use Rattle.event_file.specs.Causes.{AnsweredCounted, IsTranscriptCounted, RespondsCounted}
+use Rattle.event_file.specs.Transcript.{command_in, has_bad_line, transcript_from}
+use Rattle.route_main.specs.Ends.{AnsweredAll, EndsCounted}
 use Rattle.route_core.specs.World.{World}
-use Rattle.event_file.proofs.TranscriptLemmas.{transcript_from-is}
+use Rattle.event_file.proofs.CauseLemmas.{computed_from}
 use Rattle.event_file.proofs.LineLemmas.{answered_lines-ended, answered_lines-last, answered_lines-line, begun_line-end, begun_line-more, begun_line-no_newline, ended-append-begun, ended_lines-end, ended_lines-more, ended_lines-append, extended-kept, first_line-none, first_line-no_newline, has_newline-append, same_line, take-first_line}
 
 -- ---- answered lines, one part after another
 
-Answered-then : (l m : List (Option (List ℕ))) (a b c : World) (s t : List ℕ) → Answered a l s b → Answered b m t c → Answered a (l ++ m) (s ++ t) c
-Answered-then [] m a b c s t p q = subst (λ w. Answered w m (s ++ t) c) p.1 (subst (λ x. Answered b m (x ++ t) c) (sym p.0) q)
-Answered-then (line ∷ l) m a b c s t (response, next, rest, responses, text, more) q =
-    (response, next, rest ++ t, responses, ap (λ x. x ++ t) text ∙ append_assoc (response_text response) rest t, Answered-then l m next b c rest t more q)
+Answered-then : (l m : List (Option (List ℕ))) (a b c : World) (i j k : ℕ) (s t : List ℕ) → AnsweredCounted a l s b i j → AnsweredCounted b m t c j k
+    → AnsweredCounted a (l ++ m) (s ++ t) c i k
+Answered-then [] m a b c i j k s t p q =
+    subst (λ n. AnsweredCounted a m (s ++ t) c n k) p.2 (subst (λ w. AnsweredCounted w m (s ++ t) c j k) p.1 (subst (λ x. AnsweredCounted b m (x ++ t) c j k) (sym p.0) q))
+Answered-then (line ∷ l) m a b c i j k s t (response, next, mid, rest, responses, text, more) q =
+    (response, next, mid, rest ++ t, responses, ap (λ x. x ++ t) text ∙ append_assoc (response_text response) rest t, Answered-then l m next b c mid j k rest t more q)
 
 has_bad_line-append : (l m : List (Option (List ℕ))) → has_bad_line (l ++ m) ≡ (has_bad_line l || has_bad_line m)
 has_bad_line-append [] m = refl
@@ -37,37 +40,37 @@ or-false true = refl
 or-false false = refl
 
 pub Answers-none : (s : Standing) (c : Option (List ℕ)) → Answers s s c c []
-Answers-none s c = record { written = []; appends = Appends-nil c; answered = (refl, refl); bad = or-false s.has_bad }
+Answers-none s c = record { written = []; appends = Appends-nil c; answered = (refl, refl, refl); bad = or-false s.has_bad }
 
 pub Answers-then : {a b e : Standing} {c d f : Option (List ℕ)} {l m : List (Option (List ℕ))} → Answers a b c d l → Answers b e d f m → Answers a e c f (l ++ m)
 Answers-then {a} {b} {e} {c} {d} {f} {l} {m} p q = record {
   written = p.written ++ q.written;
   appends = Appends-trans c d f p.written q.written p.appends q.appends;
-  answered = Answered-then l m a.world b.world e.world p.written q.written p.answered q.answered;
+  answered = Answered-then l m a.world b.world e.world a.refused b.refused e.refused p.written q.written p.answered q.answered;
   bad = q.bad ∙ ap (λ t. t || has_bad_line m) p.bad ∙ or_assoc a.has_bad (has_bad_line l) (has_bad_line m) ∙ ap (λ t. a.has_bad || t) (sym (has_bad_line-append l m));
 }
 
-pub StopsWithin-then : {a b : Standing} {c d f : Option (List ℕ)} {l m : List (Option (List ℕ))} → Answers a b c d l → StopsWithin b d f m → StopsWithin a c f (l ++ m)
-StopsWithin-then {a} {b} {c} {d} {f} {l} {m} p q = record {
+pub StopsWithin-then : {a b : Standing} {n : ℕ} {c d f : Option (List ℕ)} {l m : List (Option (List ℕ))} → Answers a b c d l → StopsWithin b n d f m → StopsWithin a n c f (l ++ m)
+StopsWithin-then {a} {b} {n} {c} {d} {f} {l} {m} p q = record {
   written = p.written ++ q.written;
   unwritten = q.unwritten;
   last = q.last;
   appends = Appends-trans c d f p.written q.written p.appends q.appends;
-  answered = subst (λ t. Answered a.world (l ++ m) t q.last) (sym (append_assoc p.written q.written q.unwritten))
-      (Answered-then l m a.world b.world q.last p.written (q.written ++ q.unwritten) p.answered q.answered);
+  answered = subst (λ t. AnsweredCounted a.world (l ++ m) t q.last a.refused n) (sym (append_assoc p.written q.written q.unwritten))
+      (Answered-then l m a.world b.world q.last a.refused b.refused n p.written (q.written ++ q.unwritten) p.answered q.answered);
 }
 
 -- lines that would have come after it don't undo a stop
-pub StopsWithin-more : {a : Standing} {c d : Option (List ℕ)} {l : List (Option (List ℕ))} (m : List (Option (List ℕ))) → StopsWithin a c d l → StopsWithin a c d (l ++ m)
-StopsWithin-more {a} {c} {d} {l} m p =
-    let rest = transcript_from-is m p.last in
+pub StopsWithin-more : {a : Standing} {n : ℕ} {c d : Option (List ℕ)} {l : List (Option (List ℕ))} (m : List (Option (List ℕ))) → StopsWithin a n c d l → StopsWithin a n c d (l ++ m)
+StopsWithin-more {a} {n} {c} {d} {l} m p =
+    let rest = computed_from m p.last n in
     record {
       written = p.written;
       unwritten = p.unwritten ++ transcript_from m p.last;
       last = rest.0;
       appends = p.appends;
-      answered = subst (λ t. Answered a.world (l ++ m) t rest.0) (append_assoc p.written p.unwritten (transcript_from m p.last))
-          (Answered-then l m a.world p.last rest.0 (p.written ++ p.unwritten) (transcript_from m p.last) p.answered rest.1);
+      answered = subst (λ t. AnsweredCounted a.world (l ++ m) t rest.0 a.refused n) (append_assoc p.written p.unwritten (transcript_from m p.last))
+          (Answered-then l m a.world p.last rest.0 a.refused n n (p.written ++ p.unwritten) (transcript_from m p.last) p.answered rest.1);
     }
 
 -- ---- one line, and the writer
@@ -89,15 +92,15 @@ answered_of-line : (line : Option (List ℕ)) → is_passed line ≡ false → a
 answered_of-line line is = cond-true (is_answered line) (line ∷ []) [] (ap not is)
 
 -- the writer stopped within a line's answer
-pub StopsWithin-line : {W : Type 0} (contents : W → Option (List ℕ)) (old now : Counts W) (from : Standing) (line : Option (List ℕ)) (response : Result Answer Bad) (next : World)
-    → Responds from.world line response next → WroteFront contents old now (response_text response)
-    → StopsWithin from (contents old.inner) (contents now.inner) (line ∷ [])
-StopsWithin-line contents old now from line response next responses front = record {
+pub StopsWithin-line : {W : Type 0} (contents : W → Option (List ℕ)) (old now : Counts W) (from : Standing) (n : ℕ) (line : Option (List ℕ)) (response : Result Answer Bad) (next : World)
+    → RespondsCounted from.world line response next from.refused n → WroteFront contents old now (response_text response)
+    → StopsWithin from n (contents old.inner) (contents now.inner) (line ∷ [])
+StopsWithin-line contents old now from n line response next responses front = record {
   written = front.written;
   unwritten = front.unwritten;
   last = next;
   appends = front.appends;
-  answered = (response, next, [], responses, sym front.whole ∙ sym (append-nil (response_text response)), (refl, refl));
+  answered = (response, next, n, [], responses, sym front.whole ∙ sym (append-nil (response_text response)), (refl, refl, refl));
 }
 
 -- ---- a run that goes on
@@ -153,25 +156,25 @@ Advances-line {s} {t} {c} {d} bytes line q = record {
 }
 
 -- the writer stopped at a line that ends
-pub Breaks-line : {s : Standing} {c d : Option (List ℕ)} (bytes : List ℕ) (line : Line) → StopsWithin s c d (answered_of (after_bytes line bytes).text)
-    → Breaks s c d (first_line bytes ++ 10 ∷ []) line
-Breaks-line {s} {c} {d} bytes line q = record {
-  on = λ first start read p. subst (λ x. StopsWithin first start d x) (sym (lines_after bytes p)) (StopsWithin-then p.answers q);
+pub Breaks-line : {s : Standing} {n : ℕ} {c d : Option (List ℕ)} (bytes : List ℕ) (line : Line) → StopsWithin s n c d (answered_of (after_bytes line bytes).text)
+    → Breaks s n c d (first_line bytes ++ 10 ∷ []) line
+Breaks-line {s} {n} {c} {d} bytes line q = record {
+  on = λ first start read p. subst (λ x. StopsWithin first n start d x) (sym (lines_after bytes p)) (StopsWithin-then p.answers q);
 }
 
-pub Breaks-then : {a b : Standing} {c d f : Option (List ℕ)} {bs cs : List ℕ} {l m : Line} → Advances a b c d bs l m → Breaks b d f cs m → Breaks a c f (bs ++ cs) l
-Breaks-then {f = f} {bs = bs} {cs = cs} p q = record {
-  on = λ first start read r. subst (λ x. StopsWithin first start f (answered_lines (ended_lines x))) (append_assoc read bs cs) (q.on first start (read ++ bs) (p.on first start read r));
+pub Breaks-then : {a b : Standing} {n : ℕ} {c d f : Option (List ℕ)} {bs cs : List ℕ} {l m : Line} → Advances a b c d bs l m → Breaks b n d f cs m → Breaks a n c f (bs ++ cs) l
+Breaks-then {n = n} {f = f} {bs = bs} {cs = cs} p q = record {
+  on = λ first start read r. subst (λ x. StopsWithin first n start f (answered_lines (ended_lines x))) (append_assoc read bs cs) (q.on first start (read ++ bs) (p.on first start read r));
 }
 
 -- bytes that would have come after it don't undo a stop
-pub Breaks-more : {a : Standing} {c d : Option (List ℕ)} {bs : List ℕ} {l : Line} (cs : List ℕ) → Breaks a c d bs l → Breaks a c d (bs ++ cs) l
-Breaks-more {d = d} {bs = bs} cs q = record {
+pub Breaks-more : {a : Standing} {n : ℕ} {c d : Option (List ℕ)} {bs : List ℕ} {l : Line} (cs : List ℕ) → Breaks a n c d bs l → Breaks a n c d (bs ++ cs) l
+Breaks-more {n = n} {d = d} {bs = bs} cs q = record {
   on = λ first start read p.
       let rest = ended_lines (begun_line (read ++ bs) ++ cs) in
       let lines : answered_lines (ended_lines (read ++ (bs ++ cs))) ≡ answered_lines (ended_lines (read ++ bs)) ++ answered_lines rest =
       ap answered_lines (ap ended_lines (sym (append_assoc read bs cs)) ∙ ended_lines-append (read ++ bs) cs) ∙ answered_lines-ended (read ++ bs) rest in
-      subst (λ x. StopsWithin first start d x) (sym lines) (StopsWithin-more (answered_lines rest) (q.on first start read p));
+      subst (λ x. StopsWithin first n start d x) (sym lines) (StopsWithin-more (answered_lines rest) (q.on first start read p));
 }
 
 -- what was taken from the front of the bytes
@@ -198,12 +201,12 @@ Advances-answered {s} {t} {c} {d} bytes taken line mid next has is fed empty q =
     (Advances-line bytes line (subst (λ (m : Line). Answers s t c d (answered_of m.text)) fed q)))
 
 -- the writer stopped at the first line that the bytes end
-pub Breaks-answered : {s : Standing} {c d : Option (List ℕ)} (bytes : List ℕ) (line mid : Line) → has_newline bytes ≡ true → mid ≡ after_bytes line bytes
-    → StopsWithin s c d (answered_of mid.text) → Breaks s c d bytes line
-Breaks-answered {s} {c} {d} bytes line mid has fed q =
+pub Breaks-answered : {s : Standing} {high : ℕ} {c d : Option (List ℕ)} (bytes : List ℕ) (line mid : Line) → has_newline bytes ≡ true → mid ≡ after_bytes line bytes
+    → StopsWithin s high c d (answered_of mid.text) → Breaks s high c d bytes line
+Breaks-answered {s} {high} {c} {d} bytes line mid has fed q =
     let n = suc (length (first_line bytes)) in
-    let stop : Breaks s c d (first_line bytes ++ 10 ∷ []) line = Breaks-line bytes line (subst (λ (m : Line). StopsWithin s c d (answered_of m.text)) fed q) in
-    subst (λ x. Breaks s c d x line) (ap (λ x. x ++ drop n bytes) (sym (take-first_line bytes has)) ∙ take-append-drop n bytes) (Breaks-more (drop n bytes) stop)
+    let stop : Breaks s high c d (first_line bytes ++ 10 ∷ []) line = Breaks-line bytes line (subst (λ (m : Line). StopsWithin s high c d (answered_of m.text)) fed q) in
+    subst (λ x. Breaks s high c d x line) (ap (λ x. x ++ drop n bytes) (sym (take-first_line bytes has)) ∙ take-append-drop n bytes) (Breaks-more (drop n bytes) stop)
 
 -- a line of which no byte came before the bytes that end it
 text_whole : (bytes : List ℕ) (line : Line) (text : Option (List ℕ)) → line ≡ no_line → text ≡ kept (first_line bytes) → text ≡ (after_bytes line bytes).text
@@ -218,10 +221,10 @@ Advances-whole {s} {t} {c} {d} bytes taken line text has is empty fed q =
     (subst (λ x. Answers s t c d (answered_of x)) (text_whole bytes line text empty fed) q)
 
 -- the writer stopped at it
-pub Breaks-whole : {s : Standing} {c d : Option (List ℕ)} (bytes : List ℕ) (line : Line) (text : Option (List ℕ)) → has_newline bytes ≡ true
-    → line ≡ no_line → text ≡ kept (first_line bytes) → StopsWithin s c d (answered_of text) → Breaks s c d bytes line
-Breaks-whole {s} {c} {d} bytes line text has empty fed q =
-    Breaks-answered bytes line (after_bytes line bytes) has refl (subst (λ x. StopsWithin s c d (answered_of x)) (text_whole bytes line text empty fed) q)
+pub Breaks-whole : {s : Standing} {n : ℕ} {c d : Option (List ℕ)} (bytes : List ℕ) (line : Line) (text : Option (List ℕ)) → has_newline bytes ≡ true
+    → line ≡ no_line → text ≡ kept (first_line bytes) → StopsWithin s n c d (answered_of text) → Breaks s n c d bytes line
+Breaks-whole {s} {n} {c} {d} bytes line text has empty fed q =
+    Breaks-answered bytes line (after_bytes line bytes) has refl (subst (λ x. StopsWithin s n c d (answered_of x)) (text_whole bytes line text empty fed) q)
 
 -- ---- a run at the end of its script
 
@@ -233,10 +236,11 @@ lines_at_end {read = read} {line = line} p =
 
 -- what has come of a line was answered
 answered_all : {s t : Standing} {c d : Option (List ℕ)} {line : Line} (bad : Bool) → Answers s t c d (answered_of line.text) → t.has_bad ≡ bad
-    → (before after start : Option (List ℕ)) (read : List ℕ) → Consumes before after read → IsAtEnd after → Progress fresh s start c read line
-    → AnsweredAll before after start d bad
-answered_all {s} {t} {c} {d} bad q is before after start read consumes end p =
-    let all : Answers fresh t start d (answered_lines read) = subst (λ x. Answers fresh t start d x) (lines_at_end p) (Answers-then p.answers q) in
+    → (count : ℕ) (before after start : Option (List ℕ)) (read : List ℕ) → Consumes before after read → IsAtEnd after
+    → Progress (standing fresh count) s start c read line → AnsweredAll (λ script text. IsTranscriptCounted script text count t.refused) before after start d bad
+answered_all {s} {t} {c} {d} bad q is count before after start read consumes end p =
+    let first = standing fresh count in
+    let all : Answers first t start d (answered_lines read) = subst (λ x. Answers first t start d x) (lines_at_end p) (Answers-then p.answers q) in
     record {
       read = read;
       written = all.written;
@@ -247,16 +251,17 @@ answered_all {s} {t} {c} {d} bad q is before after start read consumes end p =
       bad = sym all.bad ∙ is;
     }
 
-pub Finishes-done : {s t : Standing} {c d : Option (List ℕ)} {line : Line} → Answers s t c d (answered_of line.text) → t.has_bad ≡ false → Finishes Done s c d line
+pub Finishes-done : {s t : Standing} {c d : Option (List ℕ)} {line : Line} → Answers s t c d (answered_of line.text) → t.has_bad ≡ false → Finishes Done s t.refused c d line
 Finishes-done q is = record { on = answered_all false q is }
 
-pub Finishes-bad_line : {s t : Standing} {c d : Option (List ℕ)} {line : Line} → Answers s t c d (answered_of line.text) → t.has_bad ≡ true → Finishes BadLine s c d line
+pub Finishes-bad_line : {s t : Standing} {c d : Option (List ℕ)} {line : Line} → Answers s t c d (answered_of line.text) → t.has_bad ≡ true → Finishes BadLine s t.refused c d line
 Finishes-bad_line q is = record { on = answered_all true q is }
 
-pub Finishes-write_fault : {s : Standing} {c d : Option (List ℕ)} {line : Line} → StopsWithin s c d (answered_of line.text) → Finishes WriteFault s c d line
-Finishes-write_fault {s} {c} {d} q = record {
-  on = λ before after start read consumes end p.
-      let all : StopsWithin fresh start d (answered_lines read) = subst (λ x. StopsWithin fresh start d x) (lines_at_end p) (StopsWithin-then p.answers q) in
+pub Finishes-write_fault : {s : Standing} {n : ℕ} {c d : Option (List ℕ)} {line : Line} → StopsWithin s n c d (answered_of line.text) → Finishes WriteFault s n c d line
+Finishes-write_fault {s} {n} {c} {d} q = record {
+  on = λ count before after start read consumes end p.
+      let first = standing fresh count in
+      let all : StopsWithin first n start d (answered_lines read) = subst (λ x. StopsWithin first n start d x) (lines_at_end p) (StopsWithin-then p.answers q) in
       record {
         read = read;
         consumes = consumes;
@@ -272,19 +277,19 @@ answered_of-none (Some (b ∷ bs)) none = absurd (cc)
 
 -- ---- a run that reads
 
-pub Reached-start : (before old : Option (List ℕ)) → Reached fresh before before old old no_line
-Reached-start before old = record {
+pub Reached-start : (count : ℕ) (before old : Option (List ℕ)) → Reached count (standing fresh count) before before old old no_line
+Reached-start count before old = record {
   read = [];
   consumes = Consumes-nil before;
-  progress = record { answers = Answers-none fresh old; line_is = refl };
+  progress = record { answers = Answers-none (standing fresh count) old; line_is = refl };
 }
 
-pub Reached-read : {s t : Standing} {before mid after c d e : Option (List ℕ)} {bytes : List ℕ} {l m : Line} → Reached s before mid c d l → Consumes mid after bytes → Advances s t d e bytes l m
-    → Reached t before after c e m
-Reached-read {before = before} {mid = mid} {after = after} {c = c} {bytes = bytes} p consumes q = record {
+pub Reached-read : {n : ℕ} {s t : Standing} {before mid after c d e : Option (List ℕ)} {bytes : List ℕ} {l m : Line} → Reached n s before mid c d l → Consumes mid after bytes → Advances s t d e bytes l m
+    → Reached n t before after c e m
+Reached-read {n = n} {before = before} {mid = mid} {after = after} {c = c} {bytes = bytes} p consumes q = record {
   read = p.read ++ bytes;
   consumes = Consumes-trans before mid after p.read bytes p.consumes consumes;
-  progress = q.on fresh c p.read p.progress;
+  progress = q.on (standing fresh n) c p.read p.progress;
 }
 
 pub HasRead-start : (before : Option (List ℕ)) → HasRead 0 before before
@@ -311,8 +316,8 @@ HasRead-reads n r None after p h = tt
 HasRead-reads n r (Some script) None p h = absurd p.consumes
 HasRead-reads n r (Some script) (Some rest) p h = omega (arith, h, p.many, ap length p.consumes, length-append p.read rest)
 
-pub Ends-read_fault : {s : Standing} {before mid after c d : Option (List ℕ)} {l : Line} → Reached s before mid c d l → Keeps mid after → Ends ReadFault before after c d
-Ends-read_fault {s} {before} {mid} {after} p keeps = record {
+pub Ends-read_fault : {n : ℕ} {s : Standing} {before mid after c d : Option (List ℕ)} {l : Line} → Reached n s before mid c d l → Keeps mid after → EndsCounted ReadFault before after c d n s.refused
+Ends-read_fault {n} {s} {before} {mid} {after} p keeps = record {
   read = p.read;
   written = p.progress.answers.written;
   consumes = Consumes-kept before mid after p.read p.consumes keeps;
@@ -320,41 +325,20 @@ Ends-read_fault {s} {before} {mid} {after} p keeps = record {
   transcript = (s.world, p.progress.answers.answered);
 }
 
-pub Ends-write_fault : {s : Standing} {before mid after c d e : Option (List ℕ)} {bytes : List ℕ} {l : Line} → Reached s before mid c d l → Consumes mid after bytes → Breaks s d e bytes l
-    → Ends WriteFault before after c e
-Ends-write_fault {s} {before} {mid} {after} {c} {bytes = bytes} p consumes q =
-    let stop = q.on fresh c p.read p.progress in
+pub Ends-write_fault : {n high : ℕ} {s : Standing} {before mid after c d e : Option (List ℕ)} {bytes : List ℕ} {l : Line} → Reached n s before mid c d l → Consumes mid after bytes → Breaks s high d e bytes l
+    → EndsCounted WriteFault before after c e n high
+Ends-write_fault {n} {high} {s} {before} {mid} {after} {c} {bytes = bytes} p consumes q =
+    let stop = q.on (standing fresh n) c p.read p.progress in
     record {
       read = p.read ++ bytes;
       consumes = Consumes-trans before mid after p.read bytes p.consumes consumes;
       front = inl (record { written = stop.written; unwritten = stop.unwritten; appends = stop.appends; transcript = (stop.last, stop.answered) });
     }
 
-pub Ends-finish : {s : Standing} {c d e : Option (List ℕ)} {l : Line} (before mid after : Option (List ℕ)) (outcome : Outcome) → Reached s before mid c d l → Consumes mid after [] → IsAtEnd after
-    → Finishes outcome s d e l → Ends outcome before after c e
-Ends-finish {c = c} before mid after outcome p consumes end q =
-    q.on before after c p.read (subst (Consumes before after) (append-nil p.read) (Consumes-trans before mid after p.read [] p.consumes consumes)) end p.progress
-
--- ---- what a whole run says
-
-pub transcript_of_all : (outcome : Outcome) (before after old new : Option (List ℕ)) → Ends outcome before after old new → IsAnswered outcome
-    → IfSome before (λ script. (text : List ℕ) × Appends old new text × IsTranscript script text)
-transcript_of_all Done before after old new p is = Consumes-whole before after p.read _ p.consumes p.all (p.written, p.appends, p.transcript)
-transcript_of_all BadLine before after old new p is = Consumes-whole before after p.read _ p.consumes p.all (p.written, p.appends, p.transcript)
-transcript_of_all ReadFault before after old new p is = absurd is
-transcript_of_all WriteFault before after old new p is = absurd is
-transcript_of_all NoMemory before after old new p is = absurd is
-
-bad_of_all : (before after old new : Option (List ℕ)) (bad : Bool) → AnsweredAll before after old new bad → IfSome before (λ script. has_bad_line (answered_lines script) ≡ bad)
-bad_of_all before after old new bad p = Consumes-whole before after p.read (λ script. has_bad_line (answered_lines script) ≡ bad) p.consumes p.all p.bad
-
-pub done_of_all : (outcome : Outcome) (before after old new : Option (List ℕ)) → Ends outcome before after old new → outcome ≡ Done
-    → IfSome before (λ script. has_bad_line (answered_lines script) ≡ false)
-done_of_all outcome before after old new p is = bad_of_all before after old new false (subst (λ (o : Outcome). Ends o before after old new) is p)
-
-pub bad_line_of_all : (outcome : Outcome) (before after old new : Option (List ℕ)) → Ends outcome before after old new → outcome ≡ BadLine
-    → IfSome before (λ script. has_bad_line (answered_lines script) ≡ true)
-bad_line_of_all outcome before after old new p is = bad_of_all before after old new true (subst (λ (o : Outcome). Ends o before after old new) is p)
+pub Ends-finish : {n high : ℕ} {s : Standing} {c d e : Option (List ℕ)} {l : Line} (before mid after : Option (List ℕ)) (outcome : Outcome) → Reached n s before mid c d l → Consumes mid after [] → IsAtEnd after
+    → Finishes outcome s high d e l → EndsCounted outcome before after c e n high
+Ends-finish {n = n} {c = c} before mid after outcome p consumes end q =
+    q.on n before after c p.read (subst (Consumes before after) (append-nil p.read) (Consumes-trans before mid after p.read [] p.consumes consumes)) end p.progress
 
 -- ---- a writer that is flushed
 
@@ -367,23 +351,24 @@ Appends-kept (Some xs) (Some ys) (Some zs) t p k = k ∙ p
 pub Answers-kept : {a b : Standing} {c d e : Option (List ℕ)} {l : List (Option (List ℕ))} → Answers a b c d l → Keeps d e → Answers a b c e l
 Answers-kept {a} {b} {c} {d} {e} {l} p k = record { written = p.written; appends = Appends-kept c d e p.written p.appends k; answered = p.answered; bad = p.bad }
 
-pub StopsWithin-kept : {a b : Standing} {c d e : Option (List ℕ)} {l : List (Option (List ℕ))} → Answers a b c d l → Keeps d e → StopsWithin a c e l
+pub StopsWithin-kept : {a b : Standing} {c d e : Option (List ℕ)} {l : List (Option (List ℕ))} → Answers a b c d l → Keeps d e → StopsWithin a b.refused c e l
 StopsWithin-kept {a} {b} {c} {d} {e} {l} p k = record {
   written = p.written;
   unwritten = [];
   last = b.world;
   appends = Appends-kept c d e p.written p.appends k;
-  answered = subst (λ t. Answered a.world l t b.world) (sym (append-nil p.written)) p.answered;
+  answered = subst (λ t. AnsweredCounted a.world l t b.world a.refused b.refused) (sym (append-nil p.written)) p.answered;
 }
 
 pub Progress-kept : {a b : Standing} {c d e : Option (List ℕ)} {read : List ℕ} {line : Line} → Progress a b c d read line → Keeps d e → Progress a b c e read line
 Progress-kept p k = record { answers = Answers-kept p.answers k; line_is = p.line_is }
 
-pub Reached-kept : {to : Standing} {before after old new next : Option (List ℕ)} {line : Line} → Reached to before after old new line → Keeps new next → Reached to before after old next line
+pub Reached-kept : {n : ℕ} {to : Standing} {before after old new next : Option (List ℕ)} {line : Line} → Reached n to before after old new line → Keeps new next
+    → Reached n to before after old next line
 Reached-kept r k = record { read = r.read; consumes = r.consumes; progress = Progress-kept r.progress k }
 
-pub Ends-flush_fault : {s : Standing} {before after c d e : Option (List ℕ)} {l : Line} → Reached s before after c d l → Keeps d e → Ends WriteFault before after c e
-Ends-flush_fault {s} {before} {after} {c} {d} {e} {l} p k =
+pub Ends-flush_fault : {n : ℕ} {s : Standing} {before after c d e : Option (List ℕ)} {l : Line} → Reached n s before after c d l → Keeps d e → EndsCounted WriteFault before after c e n s.refused
+Ends-flush_fault {n} {s} {before} {after} {c} {d} {e} {l} p k =
     let stop = StopsWithin-kept p.progress.answers k in
     record {
       read = p.read;

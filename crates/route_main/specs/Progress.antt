@@ -2,22 +2,32 @@
 use Rattle.std.specs.Prelude.{◌≡◌, Bool, false, ◌||◌, filter, List, [], ◌∷◌, ◌++◌, length, ◌≤◌, ℕ, Option}
 use Rattle.std.specs.Io.KnownBytes.{Appends, Consumes, IsAtEnd}
 use Rattle.program_ends.specs.declared.outcome.Outcome.{Outcome}
+use Rattle.event_file.specs.Causes.{AnsweredCounted}
 use Rattle.event_file.specs.Lines.{Line, answered_lines, begun_line, ended_lines, is_answered, kept}
-use Rattle.event_file.specs.Transcript.{Answered, has_bad_line}
-use Rattle.route_main.specs.Ends.{Ends}
+use Rattle.event_file.specs.Transcript.{has_bad_line}
+use Rattle.route_main.specs.Ends.{EndsCounted}
 use Rattle.route_core.specs.World.{World, empty_world}
 
 -- the world, and whether some line was malformed
-pub record Standing : Type 0 where
+pub record Held : Type 0 where
   pub world : World
   pub has_bad : Bool
 
-abbrev pub standing : World → Bool → Standing
-standing world has_bad = record { world = world; has_bad = has_bad }
+abbrev pub held : World → Bool → Held
+held world has_bad = record { world = world; has_bad = has_bad }
 
 -- before the first line
-abbrev pub fresh : Standing
+abbrev pub fresh : Held
 fresh = record { world = empty_world; has_bad = false }
+
+-- these, and how often memory was refused
+pub record Standing : Type 0 where
+  pub world : World
+  pub has_bad : Bool
+  pub refused : ℕ
+
+abbrev pub standing : Held → ℕ → Standing
+standing h refused = record { world = h.world; has_bad = h.has_bad; refused = refused }
 
 -- the line alone, or none where it gives no answer
 abbrev pub answered_of : Option (List ℕ) → List (Option (List ℕ))
@@ -28,16 +38,16 @@ answered_of line = filter is_answered (line ∷ [])
 pub record Answers (from to : Standing) (old new : Option (List ℕ)) (lines : List (Option (List ℕ))) : Type 0 where
   pub written : List ℕ
   pub appends : Appends old new written
-  pub answered : Answered from.world lines written to.world
+  pub answered : AnsweredCounted from.world lines written to.world from.refused to.refused
   pub bad : to.has_bad ≡ (from.has_bad || has_bad_line lines)
 
--- the writer stopped within what these lines may be answered
-pub record StopsWithin (from : Standing) (old new : Option (List ℕ)) (lines : List (Option (List ℕ))) : Type 0 where
+-- the writer stopped within what these lines may be answered, and memory was refused so often until then
+pub record StopsWithin (from : Standing) (refused : ℕ) (old new : Option (List ℕ)) (lines : List (Option (List ℕ))) : Type 0 where
   pub written : List ℕ
   pub unwritten : List ℕ
   pub last : World
   pub appends : Appends old new written
-  pub answered : Answered from.world lines (written ++ unwritten) last
+  pub answered : AnsweredCounted from.world lines (written ++ unwritten) last from.refused refused
 
 -- the lines that are whole among the bytes read were answered, and the line buffer holds what has come of the next
 pub record Progress (from to : Standing) (old new : Option (List ℕ)) (read : List ℕ) (line : Line) : Type 0 where
@@ -50,21 +60,21 @@ pub record Advances (from to : Standing) (old new : Option (List ℕ)) (bytes : 
       → Progress first to start new (read ++ bytes) next
 
 -- a run that had come to this standing and line was stopped by its writer within these bytes
-pub record Breaks (from : Standing) (old new : Option (List ℕ)) (bytes : List ℕ) (line : Line) : Type 0 where
+pub record Breaks (from : Standing) (refused : ℕ) (old new : Option (List ℕ)) (bytes : List ℕ) (line : Line) : Type 0 where
   pub on : (first : Standing) (start : Option (List ℕ)) (read : List ℕ) → Progress first from start old read line
-      → StopsWithin first start new (answered_lines (ended_lines (read ++ bytes)))
+      → StopsWithin first refused start new (answered_lines (ended_lines (read ++ bytes)))
 
 -- a run that had come to this standing and line at the end of its script ends so
-pub record Finishes (outcome : Outcome) (from : Standing) (old new : Option (List ℕ)) (line : Line) : Type 0 where
-  pub on : (before after start : Option (List ℕ)) (read : List ℕ) → Consumes before after read → IsAtEnd after
-      → Progress fresh from start old read line
-      → Ends outcome before after start new
+pub record Finishes (outcome : Outcome) (from : Standing) (refused : ℕ) (old new : Option (List ℕ)) (line : Line) : Type 0 where
+  pub on : (count : ℕ) (before after start : Option (List ℕ)) (read : List ℕ) → Consumes before after read → IsAtEnd after
+      → Progress (standing fresh count) from start old read line
+      → EndsCounted outcome before after start new count refused
 
--- a run has read these bytes, and come to this standing and line by them
-pub record Reached (to : Standing) (before after old new : Option (List ℕ)) (line : Line) : Type 0 where
+-- a run that began with this count has read these bytes, and come to this standing and line by them
+pub record Reached (count : ℕ) (to : Standing) (before after old new : Option (List ℕ)) (line : Line) : Type 0 where
   pub read : List ℕ
   pub consumes : Consumes before after read
-  pub progress : Progress fresh to old new read line
+  pub progress : Progress (standing fresh count) to old new read line
 
 -- at least this many bytes have been read
 pub record HasRead (least : ℕ) (before after : Option (List ℕ)) : Type 0 where

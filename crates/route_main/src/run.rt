@@ -1,17 +1,20 @@
 //! A run: a script's bytes in, its transcript out.
-ghost use Rattle.std.specs.Prelude.{◌≡◌, ◌≢◌, ◌+◌, ◌≤◌, ◌⊎◌, ℕ, List, length, IfOk, IfSome, true, false};
+ghost use Rattle.std.specs.Prelude.{◌≡◌, ◌≢◌, ◌+◌, ◌<◌, ◌≤◌, ◌⊎◌, ℕ, List, length, is_err, IfOk, IfSome, true, false};
 ghost use Rattle.std.specs.Io.KnownBytes.{Appends};
+ghost use Rattle.event_file.specs.Causes.{refusals};
 ghost use Rattle.event_file.specs.Lines.{answered_lines, no_line};
 ghost use Rattle.route_main.specs.Progress.{fresh};
 ghost use Rattle.event_file.specs.Runs.{IsUndisturbed};
-ghost use Rattle.event_file.specs.Transcript.{IsTranscript, has_bad_line};
-ghost use Rattle.route_main.specs.Ends.{Ends, IsAnswered};
+ghost use Rattle.event_file.specs.Transcript.{IsTranscript, has_bad_line, transcript_of};
+ghost use Rattle.route_main.specs.Ends.{Ends, EndsBy, EndsComputed, EndsCounted, IsAnswered};
+ghost use Rattle.memory.specs.Refusing.{Rises};
 
 mod answerer;
 
 use answerer::Answerer;
-use event_file::laws::others_leave_the_text;
+use event_file::laws::{computed_has_memory, each_refusal_is_counted, others_leave_the_text};
 use event_file::{Counted, LineBuffer};
+use memory::Memory;
 use program_ends::Outcome;
 use std::alloc::{AllocError, Global};
 use std::io::{Read, Write};
@@ -72,8 +75,77 @@ pub(crate) fn run<R: Read, W: Write>(
     ensures unfailed_reads { result ≡ Outcome.WriteFault → reader.new.failures ≡ 0 }
     ensures no_memory { result ≡ Outcome.NoMemory → (reader.new ≡ reader.old) × (writer.new ≡ writer.old) }
 {
+    run_counted(alloc, reader, writer, &mut Memory::new())
+}
+
+/// Reads a script, and writes its transcript, as `run` does, and counts how often memory was refused for it. What stands
+/// of `run` stands here, and beside it what the count says: each answer of 55 has its cause.
+pub(crate) fn run_counted<R: Read, W: Write>(
+    alloc: Global,
+    reader: &mut Counted<R>,
+    writer: &mut Counted<W>,
+    memory: &mut Memory,
+) -> Outcome
+    requires no_read { reader.old.reads ≡ 0 }
+    requires no_read_failure { reader.old.failures ≡ 0 }
+    requires no_write_failure { writer.old.failures ≡ 0 }
+
+    // Where all lines were answered, what was written is a transcript of the whole script, and nothing else.
+    ensures transcript { IsAnswered result → IfSome (R.remaining reader.old.inner) (λ script. (text : List ℕ)
+        × Appends (W.contents writer.old.inner) (W.contents writer.new.inner) text × IsTranscript script text) }
+    ensures done { result ≡ Outcome.Done → IfSome (R.remaining reader.old.inner) (λ script.
+        has_bad_line (answered_lines script) ≡ false) }
+    ensures bad_line { result ≡ Outcome.BadLine → IfSome (R.remaining reader.old.inner) (λ script.
+        has_bad_line (answered_lines script) ≡ true) }
+
+    // And no listener disturbs another in that transcript: what others open, close, read and turn off or on changes no
+    // byte of what is answered to one.
+    ensures undisturbed { result ≡ Outcome.Done → IfSome (R.remaining reader.old.inner) (λ script. (text : List ℕ)
+        × Appends (W.contents writer.old.inner) (W.contents writer.new.inner) text × IsTranscript script text
+        × IsUndisturbed script text) }
+
+    // What was read and written is said for each outcome.
+    ensures ends { Ends result (R.remaining reader.old.inner) (R.remaining reader.new.inner)
+        (W.contents writer.old.inner) (W.contents writer.new.inner) }
+    ensures reads { reader.new.reads ≤ MOST_READS }
+    ensures most_reads { MOST_READS ≡ 16777216 }
+    ensures room { READ_ROOM ≤ reader.old.least_room → READ_ROOM ≤ reader.new.least_room }
+    ensures read_room { READ_ROOM ≡ 4096 }
+
+    // Before each read all that was answered is flushed, and at the end too.
+    ensures prompt { writer.old.unflushed ≡ false → reader.new.early_reads ≡ reader.old.early_reads }
+    ensures flushed { writer.old.unflushed ≡ false → result ≢ Outcome.WriteFault → writer.new.unflushed ≡ false }
+    ensures reads_needed { IfSome (R.remaining reader.old.inner) (λ script. reader.new.reads ≤ length script + 1) }
+
+    // A run goes on as long as no read and no write fails, and a fault comes only where one failed, or the reads are
+    // spent on a script of at least as many bytes; and without memory nothing begins.
+    ensures unfailed { IsAnswered result → (reader.new.failures ≡ 0) × (writer.new.failures ≡ 0) }
+    ensures read_fault { result ≡ Outcome.ReadFault → (reader.new.failures ≡ 1) ⊎ ((reader.new.reads ≡ MOST_READS)
+        × IfSome (R.remaining reader.old.inner) (λ script. MOST_READS ≤ length script)) }
+    ensures unfailed_writes { result ≡ Outcome.ReadFault → writer.new.failures ≡ 0 }
+    ensures write_fault { result ≡ Outcome.WriteFault → writer.new.failures ≡ 1 }
+    ensures unfailed_reads { result ≡ Outcome.WriteFault → reader.new.failures ≡ 0 }
+    ensures no_memory { result ≡ Outcome.NoMemory → (reader.new ≡ reader.old) × (writer.new ≡ writer.old) }
+
+    // The count rises with each line `err 55` of the transcript, and where nothing could begin, and for nothing else.
+    ensures counted { EndsCounted result (R.remaining reader.old.inner) (R.remaining reader.new.inner)
+        (W.contents writer.old.inner) (W.contents writer.new.inner) memory.old memory.new }
+    ensures unbegun { result ≡ Outcome.NoMemory → memory.old < memory.new }
+    ensures short { memory.old < memory.new → EndsBy (λ script text. 1 ≤ refusals text) result
+        (R.remaining reader.old.inner) (R.remaining reader.new.inner)
+        (W.contents writer.old.inner) (W.contents writer.new.inner) }
+
+    // So where it stands, what was written is what the machine computes, without a line `err 55`: all of it where all
+    // lines were answered, and else of as many lines as `ends` says.
+    ensures exact { memory.new ≡ memory.old → IsAnswered result → IfSome (R.remaining reader.old.inner) (λ script.
+        Appends (W.contents writer.old.inner) (W.contents writer.new.inner) (transcript_of script)) }
+    ensures computed { memory.new ≡ memory.old → EndsComputed result (R.remaining reader.old.inner)
+        (R.remaining reader.new.inner) (W.contents writer.old.inner) (W.contents writer.new.inner) }
+{
     others_leave_the_text();
-    let Ok(mut start) = Start::new(alloc) else {
+    each_refusal_is_counted();
+    computed_has_memory();
+    let Ok(mut start) = Start::new(alloc, memory) else {
         return Outcome::NoMemory;
     };
     answer_script(
@@ -82,6 +154,7 @@ pub(crate) fn run<R: Read, W: Write>(
         &mut start.chunk,
         reader,
         writer,
+        memory,
     )
 }
 
@@ -95,14 +168,15 @@ struct Start {
 
 impl Start {
     /// No line, the room of a read, and the empty world.
-    fn new(alloc: Global) -> Result<Start, AllocError>
+    fn new(alloc: Global, memory: &mut Memory) -> Result<Start, AllocError>
         ensures line { IfOk result (λ start. start.line ≡ no_line) }
         ensures chunk { IfOk result (λ start. length start.chunk.items ≡ READ_ROOM) }
         ensures answerer { IfOk result (λ start. start.answerer ≡ fresh) }
+        ensures counted { Rises (is_err result) memory.old memory.new }
     {
-        let line = LineBuffer::new(alloc)?;
-        let chunk = vec![in alloc; 0u8; READ_ROOM]?;
-        let answerer = Answerer::new(alloc)?;
+        let line = LineBuffer::new(alloc, memory)?;
+        let chunk = memory.zeros(alloc, READ_ROOM)?;
+        let answerer = Answerer::new(alloc, memory)?;
         Ok(Start {
             line,
             chunk,
@@ -118,6 +192,7 @@ fn answer_script<R: Read, W: Write>(
     chunk: &mut [u8],
     reader: &mut Counted<R>,
     writer: &mut Counted<W>,
+    memory: &mut Memory,
 ) -> Outcome
     requires fresh { answerer.old ≡ fresh }
     requires line { line.old ≡ no_line }
@@ -125,8 +200,8 @@ fn answer_script<R: Read, W: Write>(
     requires no_read { reader.old.reads ≡ 0 }
     requires no_read_failure { reader.old.failures ≡ 0 }
     requires no_write_failure { writer.old.failures ≡ 0 }
-    ensures ends { Ends result (R.remaining reader.old.inner) (R.remaining reader.new.inner)
-        (W.contents writer.old.inner) (W.contents writer.new.inner) }
+    ensures counted { EndsCounted result (R.remaining reader.old.inner) (R.remaining reader.new.inner)
+        (W.contents writer.old.inner) (W.contents writer.new.inner) memory.old memory.new }
     ensures reads { reader.new.reads ≤ MOST_READS }
     ensures reads_needed { IfSome (R.remaining reader.old.inner) (λ script. reader.new.reads ≤ length script + 1) }
     ensures room { READ_ROOM ≤ reader.old.least_room → READ_ROOM ≤ reader.new.least_room }
@@ -145,9 +220,9 @@ fn answer_script<R: Read, W: Write>(
             return Outcome::ReadFault;
         };
         if taken == 0 {
-            return answerer.finish(line, writer);
+            return answerer.finish(line, writer, memory);
         }
-        let Ok(()) = answerer.answer_bytes(line, &chunk[..taken], writer) else {
+        let Ok(()) = answerer.answer_bytes(line, &chunk[..taken], writer, memory) else {
             return Outcome::WriteFault;
         };
         let Ok(()) = writer.flush() else {

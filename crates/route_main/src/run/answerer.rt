@@ -1,12 +1,14 @@
-ghost use Rattle.std.specs.Prelude.{Bool, ◌||◌, [], ◌∷◌, ◌≡◌, ◌≢◌, ◌<◌, ◌≤◌, false, length, take, IfOk, OnOk, OnErr, option_copied};
+ghost use Rattle.std.specs.Prelude.{Bool, ◌||◌, [], ◌∷◌, ◌≡◌, ◌≢◌, ◌<◌, ◌≤◌, false, length, take, is_err, IfOk, OnOk, OnErr, option_copied};
 ghost use Rattle.event_file.specs.Lines.{is_passed as passes};
-ghost use Rattle.route_main.specs.Progress.{Advances, Answers, Breaks, Finishes, StopsWithin, answered_of, fresh, standing};
-ghost use Rattle.event_file.specs.Transcript.{Responds};
+ghost use Rattle.route_main.specs.Progress.{Advances, Answers, Breaks, Finishes, StopsWithin, answered_of, fresh, held, standing};
+ghost use Rattle.event_file.specs.Causes.{RespondsCounted};
 ghost use Rattle.event_file.specs.declared.answers.TheConstants.{TEXT_ROOM};
 ghost use Rattle.route_core.specs.declared.written.TheConstants.{MOST_WRITTEN};
+ghost use Rattle.memory.specs.Refusing.{Rises};
 ghost use Rattle.route_main.specs.Ends.{IsAnswered};
 
 use event_file::{Bad, Counted, LineBuffer, Stopped, TEXT_ROOM, read_said, write_answer};
+use memory::Memory;
 use program_ends::Outcome;
 use route_core::{Answer, MOST_WRITTEN, Room, World};
 use std::alloc::{AllocError, Global};
@@ -27,9 +29,9 @@ impl Model for Answerer {
     ghost use Rattle.std.specs.Prelude.{◌≡◌, length};
     ghost use Rattle.route_core.specs.declared.written.TheConstants.{MOST_WRITTEN};
     ghost use Rattle.event_file.specs.declared.answers.TheConstants.{TEXT_ROOM};
-    ghost use Rattle.route_main.specs.Progress.{Standing};
+    ghost use Rattle.route_main.specs.Progress.{Held};
 
-    ghost Value = { Standing };
+    ghost Value = { Held };
 
     ghost view = { λ a. record { world = a.world; has_bad = a.has_bad } };
 
@@ -38,13 +40,14 @@ impl Model for Answerer {
 
 impl Answerer {
     /// Over the empty world. This call alone takes memory of its own; `Err` where there is none.
-    pub(super) fn new(alloc: Global) -> Result<Answerer, AllocError>
-        ensures { IfOk result (λ answerer. answerer ≡ fresh) }
+    pub(super) fn new(alloc: Global, memory: &mut Memory) -> Result<Answerer, AllocError>
+        ensures ok { IfOk result (λ answerer. answerer ≡ fresh) }
+        ensures counted { Rises (is_err result) memory.old memory.new }
     {
-        let world = World::new(alloc)?;
-        let text = vec![in alloc; 0u8; TEXT_ROOM]?;
-        let written = vec![in alloc; 0u8; MOST_WRITTEN]?;
-        let room = Room::new(alloc)?;
+        let world = World::new_counted(alloc, memory)?;
+        let text = memory.zeros(alloc, TEXT_ROOM)?;
+        let written = memory.zeros(alloc, MOST_WRITTEN)?;
+        let room = Room::new(alloc, memory)?;
         Ok(Answerer {
             world,
             has_bad: false,
@@ -60,20 +63,23 @@ impl Answerer {
         line: &mut LineBuffer,
         bytes: &[u8],
         writer: &mut Counted<W>,
+        memory: &mut Memory,
     ) -> Result<(), Stopped>
         requires no_failure { writer.old.failures ≡ 0 }
         requires unended { line.old.ended ≡ false }
-        ensures ok { OnOk result (Advances self.old self.new (W.contents writer.old.inner) (W.contents writer.new.inner)
+        ensures ok { OnOk result (Advances (standing self.old memory.old) (standing self.new memory.new)
+            (W.contents writer.old.inner) (W.contents writer.new.inner)
             bytes.now line.old line.new) }
         ensures unended { OnOk result (line.new.ended ≡ false) }
         ensures no_failure { OnOk result (writer.new.failures ≡ 0) }
-        ensures err { OnErr result (Breaks self.old (W.contents writer.old.inner) (W.contents writer.new.inner)
+        ensures err { OnErr result (Breaks (standing self.old memory.old) memory.new
+            (W.contents writer.old.inner) (W.contents writer.new.inner)
             bytes.now line.old) }
         ensures failure { OnErr result (writer.new.failures ≡ 1) }
     {
         let mut at = 0;
         while at < bytes.len() {
-            let taken = self.answer_next(line, &bytes[at..], writer)?;
+            let taken = self.answer_next(line, &bytes[at..], writer, memory)?;
             at += taken;
         }
         Ok(())
@@ -86,43 +92,51 @@ impl Answerer {
         line: &mut LineBuffer,
         bytes: &[u8],
         writer: &mut Counted<W>,
+        memory: &mut Memory,
     ) -> Result<usize, Stopped>
         requires no_failure { writer.old.failures ≡ 0 }
         requires unended { line.old.ended ≡ false }
         ensures most { IfOk result (λ taken. taken ≤ length bytes.now) }
         ensures some { 0 < length bytes.now → IfOk result (λ taken. 0 < taken) }
-        ensures ok { IfOk result (λ taken. Advances self.old self.new (W.contents writer.old.inner)
-            (W.contents writer.new.inner) (take taken bytes.now) line.old line.new) }
+        ensures ok { IfOk result (λ taken. Advances (standing self.old memory.old) (standing self.new memory.new)
+            (W.contents writer.old.inner) (W.contents writer.new.inner) (take taken bytes.now) line.old line.new) }
         ensures unended { OnOk result (line.new.ended ≡ false) }
         ensures no_failure { OnOk result (writer.new.failures ≡ 0) }
-        ensures err { OnErr result (Breaks self.old (W.contents writer.old.inner) (W.contents writer.new.inner)
+        ensures err { OnErr result (Breaks (standing self.old memory.old) memory.new
+            (W.contents writer.old.inner) (W.contents writer.new.inner)
             bytes.now line.old) }
         ensures failure { OnErr result (writer.new.failures ≡ 1) }
     {
         if let Some((taken, text)) = line.whole_line(bytes) {
-            self.answer(text, writer)?;
+            self.answer(text, writer, memory)?;
             return Ok(taken);
         }
         let (taken, has_ended) = line.feed(bytes);
         if !has_ended {
             return Ok(taken);
         }
-        self.answer(line.line(), writer)?;
+        self.answer(line.line(), writer, memory)?;
         line.clear();
         Ok(taken)
     }
 
     /// Answers what has come of a line at the end of the script, flushes the writer, and says how the run ended.
-    pub(super) fn finish<W: Write>(&mut self, line: &LineBuffer, writer: &mut Counted<W>) -> Outcome
+    pub(super) fn finish<W: Write>(
+        &mut self,
+        line: &LineBuffer,
+        writer: &mut Counted<W>,
+        memory: &mut Memory,
+    ) -> Outcome
         requires no_failure { writer.old.failures ≡ 0 }
-        ensures ends { Finishes result self.old (W.contents writer.old.inner) (W.contents writer.new.inner) line.now }
+        ensures ends { Finishes result (standing self.old memory.old) memory.new
+            (W.contents writer.old.inner) (W.contents writer.new.inner) line.now }
         ensures unfailed { IsAnswered result → writer.new.failures ≡ 0 }
         ensures write_fault { result ≡ Outcome.WriteFault → writer.new.failures ≡ 1 }
         ensures read { result ≢ Outcome.ReadFault }
         ensures flushed { result ≢ Outcome.WriteFault → writer.new.unflushed ≡ false }
         ensures begun { result ≢ Outcome.NoMemory }
     {
-        if self.end(line, writer).is_err() {
+        if self.end(line, writer, memory).is_err() {
             return Outcome::WriteFault;
         }
         if self.has_bad {
@@ -136,33 +150,43 @@ impl Answerer {
         &mut self,
         line: &LineBuffer,
         writer: &mut Counted<W>,
+        memory: &mut Memory,
     ) -> Result<(), Stopped>
         requires no_failure { writer.old.failures ≡ 0 }
-        ensures ok { OnOk result (Answers self.old self.new (W.contents writer.old.inner) (W.contents writer.new.inner)
+        ensures ok { OnOk result (Answers (standing self.old memory.old) (standing self.new memory.new)
+            (W.contents writer.old.inner) (W.contents writer.new.inner)
             (answered_of line.now.text)) }
         ensures no_failure { OnOk result (writer.new.failures ≡ 0) }
-        ensures err { OnErr result (StopsWithin self.old (W.contents writer.old.inner) (W.contents writer.new.inner)
+        ensures err { OnErr result (StopsWithin (standing self.old memory.old) memory.new
+            (W.contents writer.old.inner) (W.contents writer.new.inner)
             (answered_of line.now.text)) }
         ensures failure { OnErr result (writer.new.failures ≡ 1) }
     {
         if line.pending() {
-            self.answer(line.line(), writer)?;
+            self.answer(line.line(), writer, memory)?;
         }
         Ok(())
     }
 
     /// Answers what has come of a line, where at least one byte has, and flushes the writer.
-    fn end<W: Write>(&mut self, line: &LineBuffer, writer: &mut Counted<W>) -> Result<(), Stopped>
+    fn end<W: Write>(
+        &mut self,
+        line: &LineBuffer,
+        writer: &mut Counted<W>,
+        memory: &mut Memory,
+    ) -> Result<(), Stopped>
         requires no_failure { writer.old.failures ≡ 0 }
-        ensures ok { OnOk result (Answers self.old self.new (W.contents writer.old.inner) (W.contents writer.new.inner)
+        ensures ok { OnOk result (Answers (standing self.old memory.old) (standing self.new memory.new)
+            (W.contents writer.old.inner) (W.contents writer.new.inner)
             (answered_of line.now.text)) }
         ensures no_failure { OnOk result (writer.new.failures ≡ 0) }
         ensures flushed { OnOk result (writer.new.unflushed ≡ false) }
-        ensures err { OnErr result (StopsWithin self.old (W.contents writer.old.inner) (W.contents writer.new.inner)
+        ensures err { OnErr result (StopsWithin (standing self.old memory.old) memory.new
+            (W.contents writer.old.inner) (W.contents writer.new.inner)
             (answered_of line.now.text)) }
         ensures failure { OnErr result (writer.new.failures ≡ 1) }
     {
-        self.answer_last(line, writer)?;
+        self.answer_last(line, writer, memory)?;
         let Ok(()) = writer.flush() else {
             return Err(Stopped);
         };
@@ -174,12 +198,15 @@ impl Answerer {
         &mut self,
         line: Option<&[u8]>,
         writer: &mut Counted<W>,
+        memory: &mut Memory,
     ) -> Result<(), Stopped>
         requires no_failure { writer.old.failures ≡ 0 }
-        ensures ok { OnOk result (Answers self.old self.new (W.contents writer.old.inner) (W.contents writer.new.inner)
+        ensures ok { OnOk result (Answers (standing self.old memory.old) (standing self.new memory.new)
+            (W.contents writer.old.inner) (W.contents writer.new.inner)
             (answered_of (option_copied line.entry))) }
         ensures no_failure { OnOk result (writer.new.failures ≡ 0) }
-        ensures err { OnErr result (StopsWithin self.old (W.contents writer.old.inner) (W.contents writer.new.inner)
+        ensures err { OnErr result (StopsWithin (standing self.old memory.old) memory.new
+            (W.contents writer.old.inner) (W.contents writer.new.inner)
             (answered_of (option_copied line.entry))) }
         ensures failure { OnErr result (writer.new.failures ≡ 1) }
     {
@@ -193,6 +220,7 @@ impl Answerer {
             &mut self.room,
             &mut self.text,
             writer,
+            memory,
         )?;
         Ok(())
     }
@@ -206,19 +234,23 @@ fn answer_line<W: Write>(
     room: &mut Room,
     text: &mut [u8],
     writer: &mut Counted<W>,
+    memory: &mut Memory,
 ) -> Result<bool, Stopped>
     requires written { length written.old ≡ MOST_WRITTEN }
     requires text { length text.old ≡ TEXT_ROOM }
     requires no_failure { writer.old.failures ≡ 0 }
-    ensures ok { IfOk result (λ malformed. (has_bad : Bool) → Answers (standing world.old has_bad)
-        (standing world.new (has_bad || malformed)) (W.contents writer.old.inner) (W.contents writer.new.inner)
+    ensures ok { IfOk result (λ malformed. (has_bad : Bool)
+        → Answers (standing (held world.old has_bad) memory.old)
+        (standing (held world.new (has_bad || malformed)) memory.new)
+        (W.contents writer.old.inner) (W.contents writer.new.inner)
         (option_copied line.entry ∷ [])) }
     ensures no_failure { OnOk result (writer.new.failures ≡ 0) }
-    ensures err { OnErr result ((has_bad : Bool) → StopsWithin (standing world.old has_bad)
+    ensures err { OnErr result ((has_bad : Bool)
+        → StopsWithin (standing (held world.old has_bad) memory.old) memory.new
         (W.contents writer.old.inner) (W.contents writer.new.inner) (option_copied line.entry ∷ [])) }
     ensures failure { OnErr result (writer.new.failures ≡ 1) }
 {
-    let response = respond(world, line, written, room);
+    let response = respond(world, line, written, room, memory);
     write_answer(&response, text, writer)?;
     Ok(response.is_err())
 }
@@ -237,13 +269,14 @@ fn respond<'a>(
     line: Option<&[u8]>,
     written: &mut [u8],
     room: &'a mut Room,
+    memory: &mut Memory,
 ) -> Result<Answer<'a>, Bad>
     requires { length written.old ≡ MOST_WRITTEN }
-    ensures { Responds world.old (option_copied line.entry) result world.new }
+    ensures { RespondsCounted world.old (option_copied line.entry) result world.new memory.old memory.new }
 {
     let Some(line) = line else {
         return Err(Bad);
     };
     let said = read_said(line, written)?;
-    Ok(world.obey(&said, room))
+    Ok(world.obey_counted(&said, room, memory))
 }

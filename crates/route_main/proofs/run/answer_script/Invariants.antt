@@ -1,6 +1,6 @@
 use Rattle.std.proofs.Common.{◌≡◌, ◌≤◌, false}
 use Rattle.route_main.specs.declared.run.TheConstants.{READ_ROOM}
-use Rattle.route_main.specs.Progress.{HasRead, Reached}
+use Rattle.route_main.specs.Progress.{HasRead, Reached, standing}
 use Rattle.route_main.proofs.run.answer_script.Given as goal
 
 abbrev pub invariant-loop-turn : goal.invariant-loop-turn
@@ -12,7 +12,7 @@ invariant-loop-turn g l = record {
   prompt : l.initial.writer.unflushed ≡ false → l.reader.early_reads ≡ l.initial.reader.early_reads;
   flushed : l.initial.writer.unflushed ≡ false → l.writer.unflushed ≡ false;
   unended : l.line.ended ≡ false;
-  reached : Reached l.answerer (g.R.Read.remaining l.initial.reader.inner) (g.R.Read.remaining l.reader.inner)
+  reached : Reached l.initial.memory (standing l.answerer l.memory) (g.R.Read.remaining l.initial.reader.inner) (g.R.Read.remaining l.reader.inner)
       (g.W.Write.contents l.initial.writer.inner) (g.W.Write.contents l.writer.inner) l.line;
   many : HasRead l._turn (g.R.Read.remaining l.initial.reader.inner) (g.R.Read.remaining l.reader.inner);
 }
