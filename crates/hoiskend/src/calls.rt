@@ -1,7 +1,8 @@
 //! The functions over a handle that the library exports. Given a closed one each answers EINVAL, and does nothing.
-ghost use Rattle.std.specs.Prelude.{◌≡◌, ◌-◌, ◌^◌, Some, None, length, min, unwrap_or};
+ghost use Rattle.std.specs.Prelude.{◌≡◌, ◌-◌, ◌^◌, Some, None, IfOk, is_err, length, min, unwrap_or};
 ghost use Rattle.event_file.specs.Given.{given};
 ghost use Rattle.listeners.specs.Queue.{joined};
+ghost use Rattle.memory.specs.Refusing.{Rises};
 ghost use Rattle.route_core.specs.declared.command.Command.TheVariants.{Dump, DumpSize, Losing, Packet};
 ghost use Rattle.hoiskend.specs.Asked.{
   attach_asked,
@@ -17,13 +18,14 @@ ghost use Rattle.hoiskend.specs.Asked.{
   far_in,
   filter_in,
 };
-ghost use Rattle.hoiskend.specs.Sessions.{Asks, Says, Calls, Opens, heard_by, route_in, size_in, text_by, told_for};
+ghost use Rattle.hoiskend.specs.Sessions.{Asks, Says, Calls, Opens, fresh, heard_by, route_in, size_in, text_by, told_for};
 
 use crate::session::Session;
 use crate::{Handle, Route, asked};
+use memory::Memory;
 use route_core::Said;
 use sock_addrs::{Errno, Inet};
-use std::alloc::Global;
+use std::alloc::{AllocError, Global};
 use std_alloc::room::Vacant;
 
 /// Opens an empty world. EEXIST: it is open; ENOBUFS: there is no memory, and it stays closed.
@@ -34,14 +36,26 @@ pub extern "C" fn hk_open(alloc: Global, world: &mut Handle) -> u32
     if world.is_open() {
         return Errno::EEXIST.number();
     }
-    let Ok(session) = Session::new(alloc) else {
-        return Errno::ENOBUFS.number();
-    };
-    let Ok(room) = Vacant::take(alloc) else {
-        return Errno::ENOBUFS.number();
-    };
-    world.lay(room, session);
-    0
+    match session_in_a_room(alloc, &mut Memory::new()) {
+        Ok((session, room)) => {
+            world.lay(room, session);
+            0
+        }
+        Err(refused) => Errno::from(refused).number(),
+    }
+}
+
+/// An empty world, and a block of memory for it. `Err` where there is no memory for both, which is counted.
+fn session_in_a_room(
+    alloc: Global,
+    memory: &mut Memory,
+) -> Result<(Session, Vacant<Session, Global>), AllocError>
+    ensures fresh { IfOk result (λ both. both.0 ≡ fresh) }
+    ensures counted { Rises (is_err result) memory.old memory.new }
+{
+    let session = Session::new(alloc, memory)?;
+    let room = memory.block(alloc)?;
+    Ok((session, room))
 }
 
 /// Closes a world, and frees all that it has. A closed one stays closed.

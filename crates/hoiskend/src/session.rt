@@ -1,5 +1,6 @@
 //! A world with what it answered last.
-ghost use Rattle.std.specs.Prelude.{◌≡◌, ◌-◌, ◌^◌, IfOk, Some, None, Ok, Err, false, length, min, unwrap_or};
+ghost use Rattle.std.specs.Prelude.{◌≡◌, ◌-◌, ◌^◌, IfOk, Some, None, Ok, Err, false, is_err, length, min, unwrap_or};
+ghost use Rattle.memory.specs.Refusing.{Rises};
 ghost use Rattle.event_file.specs.Answers.{response_text};
 ghost use Rattle.event_file.specs.Given.{given};
 ghost use Rattle.listeners.specs.Queue.{joined};
@@ -11,6 +12,7 @@ ghost use Rattle.hoiskend.specs.Sessions.{fresh, Answers, Heeds, code_of as code
 use crate::codes::BAD;
 use crate::route::Route;
 use event_file::{Bad, give_text, is_passed, read_said};
+use memory::Memory;
 use route_core::{Answer, Command, MOST_WRITTEN, Queue, Received, Said, World};
 use sock_addrs::{Inet, Name};
 use std::alloc::{AllocError, Global};
@@ -46,13 +48,14 @@ impl Model for Session {
 }
 
 impl Session {
-    /// An empty world. `Err` where there is no memory for it.
-    pub(crate) fn new(alloc: Global) -> Result<Session, AllocError>
-        ensures { IfOk result (λ s. s ≡ fresh) }
+    /// An empty world. `Err` where there is no memory for it, which is counted.
+    pub(crate) fn new(alloc: Global, memory: &mut Memory) -> Result<Session, AllocError>
+        ensures fresh { IfOk result (λ s. s ≡ fresh) }
+        ensures counted { Rises (is_err result) memory.old memory.new }
     {
         Ok(Session {
-            world: World::new(alloc)?,
-            read: Queue::new(alloc)?,
+            world: World::new_counted(alloc, memory)?,
+            read: Queue::new(alloc, memory)?,
             last: Last::Nothing,
         })
     }
