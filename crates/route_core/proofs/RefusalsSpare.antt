@@ -157,7 +157,7 @@ adding-found : (reply : List ℕ) (r : Result Adding Errno) → FoundErr r → F
 adding-found reply (Ok a) found = tt
 adding-found reply (Err errno) found = found
 
-delete-found : (table : List (Entry Route)) (reply : List ℕ) (r : Option (Entry Route))
+pub delete-found : (table : List (Entry Route)) (reply : List ℕ) (r : Option (Entry Route))
     → FoundErr (delete_outcome table reply r)
 delete-found table reply None = λ h. absurd (cc)
 delete-found table reply (Some r) = tt
@@ -216,7 +216,7 @@ fate-found interfaces r errno =
 -- ---- what a write is refused for
 
 -- it is no want of memory, and its reply is of the destination's family, or of 0
-abbrev IsFoundIn : List ℕ → Refusal → Type 0
+abbrev pub IsFoundIn : List ℕ → Refusal → Type 0
 IsFoundIn m r = IsFound r.errno × IfSome r.family (IsRefusedFamily m)
 
 request_rules-found : (m : List ℕ) → AllFaults (IsFoundIn m) (request_rules m (family (destination_bytes m)))
@@ -228,7 +228,7 @@ request_rules-found m = (
   ),
 )
 
-message_rules-found : (m : List ℕ) → IfSome (first_fault (message_rules m)) (IsFoundIn m)
+pub message_rules-found : (m : List ℕ) → IfSome (first_fault (message_rules m)) (IsFoundIn m)
 message_rules-found m = first_fault-all (IsFoundIn m) (message_rules m) (
   (λ h. absurd (cc), tt),
   (
@@ -591,7 +591,7 @@ pub effects_have_memory : EffectsHaveMemory
 effects_have_memory old c is = ((effect-spares old c).on ENOBUFS is).found refl
 
 -- nor, so, an errno that says it
-enobufs_or : (e : Errno) → IsFound e → is_enobufs e ≡ false
+pub enobufs_or : (e : Errno) → IsFound e → is_enobufs e ≡ false
 enobufs_or ENOBUFS found = absurd (found refl)
 enobufs_or ESRCH found = refl
 enobufs_or ENXIO found = refl

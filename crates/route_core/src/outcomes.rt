@@ -206,6 +206,7 @@ fn lock(
         (λ e. lock_outcome table.old.entries (done_reply pid m)
         (lock_of destination netmask inits locks table.old.entries)
         ≡ Err e) }
+    ensures memory { is_no_memory result ≡ false }
     ensures kept { OnErr result (table.new.entries ≡ table.old.entries) }
     ensures echoed { IfOk result (λ d. d.has_own ≡ false) }
     ensures of { KeepsAreOf table.old.entries table.new.entries }
@@ -233,6 +234,7 @@ fn get(
         (route_to_show destination table.old.entries)
         ≡ Err e) }
     ensures message { OnOk result (IsMessage own.new.items) }
+    ensures memory { is_no_memory result ≡ false }
     ensures kept { table.new.entries ≡ table.old.entries }
 {
     let mut visits = table.begin();

@@ -1,7 +1,10 @@
-use Rattle.std.proofs.Common.{◌≡◌, ◌⊎◌, inl}
+use Rattle.std.proofs.Common.{◌≡◌, ◌⊎◌, [], inl}
 use Rattle.std.specs.Prelude.{Result, Ok, Err, MatchResult}
 use Rattle.sock_addrs.specs.declared.errno.Errno.{Errno}
 use Rattle.route_core.specs.declared.outcomes.Done.{Done}
+use Rattle.route_core.specs.Requests.{done_reply}
+use Rattle.route_core.proofs.Counting.{found_stands, same}
+use Rattle.route_core.proofs.RefusalsSpare.{delete-found}
 use Rattle.route_core.proofs.outcomes.carry_out.Goals as goal
 
 -- what is never refused for want of memory
@@ -29,3 +32,15 @@ returns-in-Lock-clause-outcome c = λ m header.
 
 pub returns-in-Lock-clause-of : goal.returns-in-Lock-clause-of
 returns-in-Lock-clause-of c = c.lock.ensures.of c.args.interfaces.now c.requires.of
+
+-- these three take no memory
+pub returns-in-Delete-clause-counted : goal.returns-in-Delete-clause-counted
+returns-in-Delete-clause-counted c =
+    found_stands _ _ c.delete.result _
+    (delete-found c.args.table.now.entries (done_reply 0 []) _) (c.delete.ensures.outcome 0 [] [])
+
+pub returns-in-Lock-clause-counted : goal.returns-in-Lock-clause-counted
+returns-in-Lock-clause-counted c = same _ _ c.lock.ensures.memory
+
+pub returns-in-Get-clause-counted : goal.returns-in-Get-clause-counted
+returns-in-Get-clause-counted c = same _ _ c.get.ensures.memory

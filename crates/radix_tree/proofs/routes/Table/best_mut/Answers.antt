@@ -46,8 +46,8 @@ invariant_of-self-lent g c = λ v.
     let counted = subst (λ o. AreCounted c.self.inside.counts (shown m o)) c.in-Some.is c.self.invariant.counted in
     subst (λ o. IsKept (record { lodged = put_value m room v; next = c.self.inside.nodes.next; turn = c.self.inside.nodes.turn }) o c.self.inside.counts)
     (sym c.in-Some.is) (record {
-      holds = valued_whole m (put_value m room v) room.number v c.in-Some.root (put_valued m room v (Has-best a)) w;
-      counted = lent_counted m c.in-Some.root w c.leaf-leaf.result.key c.leaf-leaf.result.rank c.best_room.result room c.self.inside.counts
+      holds = valued_whole (put_valued m room v (Has-best a)) w;
+      counted = lent_counted m w c.leaf-leaf.result.key c.leaf-leaf.result.rank c.best_room.result room c.self.inside.counts
           c.in-Some-best_room.is pair (Has-best a) v counted;
     })
 
