@@ -32,9 +32,14 @@ responds_of old line (Err bad) new before after h = (h.0, h.1)
 pub answered_of : (old : World) (lines : List (Option (List ℕ))) (text : List ℕ) (new : World) (before after : ℕ)
     → AnsweredCounted old lines text new before after → Answered old lines text new
 answered_of old [] text new before after h = (h.0, h.1)
-answered_of old (line ∷ lines) text new before after (response, next, mid, rest, responds, is, more) =
-    (response, next, rest, responds_of old line response next before mid responds, is,
-    answered_of next lines rest new mid after more)
+answered_of old (line ∷ lines) text new before after (response, next, mid, rest, responds, is, more) = (
+  response,
+  next,
+  rest,
+  responds_of old line response next before mid responds,
+  is,
+  answered_of next lines rest new mid after more,
+)
 
 pub counted_is_transcript : CountedIsTranscript
 counted_is_transcript script text before after (last, answered) =
@@ -52,9 +57,18 @@ pub computed_from : (lines : List (Option (List ℕ))) (old : World) (count : �
 computed_from [] old count = (old, (refl, refl, refl))
 computed_from (line ∷ lines) old count =
     let turn = turn_by old (command_in line) in
-    let rest = computed_from lines turn.world count in
-    (rest.0, (turn.response, turn.world, count, transcript_from lines turn.world,
-    turn_counted old line (command_in line) count refl, refl, rest.1))
+    let rest = computed_from lines turn.world count in (
+      rest.0,
+      (
+        turn.response,
+        turn.world,
+        count,
+        transcript_from lines turn.world,
+        turn_counted old line (command_in line) count refl,
+        refl,
+        rest.1,
+      ),
+    )
 
 pub computed_is_counted : ComputedIsCounted
 computed_is_counted script count = computed_from (answered_lines script) empty_world count

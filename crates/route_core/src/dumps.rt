@@ -31,7 +31,12 @@ impl World {
     }
 
     /// As `dump`; the answer is ENOBUFS exactly where memory was refused.
-    pub fn dump_counted(&mut self, filter: Option<u32>, room: u32, memory: &mut Memory) -> Answer<'static>
+    pub fn dump_counted(
+        &mut self,
+        filter: Option<u32>,
+        room: u32,
+        memory: &mut Memory,
+    ) -> Answer<'static>
         ensures step { Steps self.old (Dump filter room) result self.new }
         ensures counted { Rises (lacks_memory result) memory.old memory.new }
     {

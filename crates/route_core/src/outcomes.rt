@@ -23,8 +23,8 @@ use radix_tree::Table;
 use route_entries::Route;
 use route_msgs::{Header, Message};
 use route_ops::{
-    Change, NewRoute, Notices, add_planned, change_planned, finish, plan_add, plan_change, prepare_rooms,
-    request_delete, request_get, request_lock,
+    Change, NewRoute, Notices, add_planned, change_planned, finish, plan_add, plan_change,
+    prepare_rooms, request_delete, request_get, request_lock,
 };
 use sock_addrs::{Errno, Inet};
 

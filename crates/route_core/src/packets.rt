@@ -38,7 +38,11 @@ impl World {
     }
 
     #[tactic(auto, unfolding(crate::specs::Step::effect, crate::specs::Step::takes_memory))]
-    fn try_packet(&mut self, destination: Inet, memory: &mut Memory) -> Result<Answer<'static>, Errno>
+    fn try_packet(
+        &mut self,
+        destination: Inet,
+        memory: &mut Memory,
+    ) -> Result<Answer<'static>, Errno>
         ensures step { Steps self.old (Packet destination) (answer_of result) self.new }
         ensures counted { Rises (lacks_memory (answer_of result)) memory.old memory.new }
     {
@@ -58,7 +62,11 @@ impl World {
 
     /// Finds the route of a packet whose route clones for it.
     #[tactic(auto, unfolding(crate::specs::Step::effect, crate::specs::Step::takes_memory))]
-    fn packet_that_clones(&mut self, destination: Inet, memory: &mut Memory) -> Result<Answer<'static>, Errno>
+    fn packet_that_clones(
+        &mut self,
+        destination: Inet,
+        memory: &mut Memory,
+    ) -> Result<Answer<'static>, Errno>
         requires { clones_for destination self.old.table ≡ true }
         ensures step { Steps self.old (Packet destination) (answer_of result) self.new }
         ensures counted { Rises (lacks_memory (answer_of result)) memory.old memory.new }

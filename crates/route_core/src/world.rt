@@ -77,7 +77,12 @@ impl World {
     }
 
     /// As `step`; the answer is ENOBUFS exactly where memory was refused, which is counted.
-    pub fn step_counted<'a>(&mut self, command: &Command, room: &'a mut Room, memory: &mut Memory) -> Answer<'a>
+    pub fn step_counted<'a>(
+        &mut self,
+        command: &Command,
+        room: &'a mut Room,
+        memory: &mut Memory,
+    ) -> Answer<'a>
         ensures step { StepsCounted self.old command.now result self.new memory.old memory.new }
         ensures few_routes { brought self.old.table self.new.table ≤ 2 }
         ensures few_messages { length (effect self.old command.now).told ≤ 2 }
@@ -94,14 +99,24 @@ impl World {
 
     /// Takes one command whose bytes lie elsewhere, as `step_counted` takes it.
     #[tactic(auto, using(crate::proofs::Counting::caused))]
-    pub fn obey_counted<'a>(&mut self, said: &Said<'_>, room: &'a mut Room, memory: &mut Memory) -> Answer<'a>
+    pub fn obey_counted<'a>(
+        &mut self,
+        said: &Said<'_>,
+        room: &'a mut Room,
+        memory: &mut Memory,
+    ) -> Answer<'a>
         ensures { StepsCounted self.old said.now result self.new memory.old memory.new }
     {
         self.take_command(said, room, memory)
     }
 
     /// Takes one command, each by the call of its name.
-    fn take_command<'a>(&mut self, said: &Said<'_>, room: &'a mut Room, memory: &mut Memory) -> Answer<'a>
+    fn take_command<'a>(
+        &mut self,
+        said: &Said<'_>,
+        room: &'a mut Room,
+        memory: &mut Memory,
+    ) -> Answer<'a>
         ensures step { Steps self.old said.now result self.new }
         ensures counted { Rises (lacks_memory result) memory.old memory.new }
     {
@@ -120,7 +135,9 @@ impl World {
                 far,
             } => self.add_address_counted(*name, *address, *prefix, *cloning, *far, memory),
             Command::RemoveAddress { name, address } => self.remove_address(*name, *address),
-            Command::Open { id, pid, protocol } => self.listen_counted(*id, *pid, *protocol, memory),
+            Command::Open { id, pid, protocol } => self.listen_counted(
+                *id, *pid, *protocol, memory,
+            ),
             Command::Close { id } => self.shut(*id),
             Command::Loopback { id, on } => self.set_loopback(*id, *on),
             Command::Write { id, bytes } => self.write_counted(*id, bytes.as_slice(), memory),
@@ -160,7 +177,10 @@ impl World {
         ensures step { Steps self.old (Attach name kind type_number link) result self.new }
         ensures counted { Rises (lacks_memory result) memory.old memory.new }
     {
-        done_or_refused(self.interfaces.attach(name, kind, type_number, &link, memory))
+        done_or_refused(
+            self.interfaces
+                .attach(name, kind, type_number, &link, memory),
+        )
     }
 
     /// Opens a socket, with room for its queue. EEXIST: the id is open; EMFILE: 64 sockets are open; ENOBUFS: there is

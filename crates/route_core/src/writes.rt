@@ -78,7 +78,14 @@ impl World {
         ensures counted { Rises (lacks_memory (answer_of result)) memory.old memory.new }
     {
         let mut own = Message::new();
-        match carry_out(&mut self.table, &self.interfaces, asked, pid, &mut own, memory) {
+        match carry_out(
+            &mut self.table,
+            &self.interfaces,
+            asked,
+            pid,
+            &mut own,
+            memory,
+        ) {
             Ok(done) => {
                 tell(&mut self.listeners, &done.notices);
                 reply(

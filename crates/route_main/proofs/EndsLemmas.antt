@@ -91,8 +91,8 @@ pub computed_of_counted : UnrefusedIsComputed → ComputedHasMemory → (outcome
 computed_of_counted law memory outcome before after old new low high w stands =
     Ends-map (λ script text. IsTranscriptCounted script text low high) IsComputed outcome before after old new
     (λ script text is. (
-        let same = law script text low high is stands in
-        (same, subst TextHasMemory (sym same) (memory script))))
+    let same = law script text low high is stands in
+    (same, subst TextHasMemory (sym same) (memory script))))
     w
 
 -- where some was, some answer says so
@@ -101,9 +101,9 @@ pub refused_of_counted : EachRefusalIsCounted → (outcome : Outcome) (before af
 refused_of_counted law outcome before after old new low high w rose =
     Ends-map (λ script text. IsTranscriptCounted script text low high) (λ script text. 1 ≤ refusals text) outcome before after old new
     (λ script text is. (
-        let counts = law script text low high is in
-        let some : refusals text ≢ 0 = λ none. absurd (omega (arith, counts.1 none, rose)) in
-        omega (arith, some)))
+    let counts = law script text low high is in
+    let some : refusals text ≢ 0 = λ none. absurd (omega (arith, counts.1 none, rose)) in
+    omega (arith, some)))
     w
 
 -- and a whole run that was answered wrote just that
