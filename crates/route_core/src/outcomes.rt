@@ -211,8 +211,10 @@ fn lock(
     ensures echoed { IfOk result (λ d. d.has_own ≡ false) }
     ensures of { KeepsAreOf table.old.entries table.new.entries }
 {
-    request_lock(table, destination, netmask, inits, locks)?;
-    Ok(Done::quiet(false))
+    match request_lock(table, destination, netmask, inits, locks) {
+        Ok(_) => Ok(Done::quiet(false)),
+        Err(errno) => Err(errno),
+    }
 }
 
 /// Shows a route in `own`, with its interface where that is asked for. Refused as `request_get`.
