@@ -18,7 +18,7 @@ found byte at text before below here =
     let t : nat_lt (position_or_len (is_byte byte) text) (length text) ≡ true = lt-ltb _ _ (omega (arith, n, below)) in
     sym (cond-true _ (Some (position_or_len (is_byte byte) text)) None t ∙ ap Some n)
 
-pub missing : (byte : ℕ) (text : List ℕ) → NoneBefore byte text (length text) → None ≡ position (is_byte byte) text
+missing : (byte : ℕ) (text : List ℕ) → NoneBefore byte text (length text) → None ≡ position (is_byte byte) text
 missing byte text before =
     let n : position_or_len (is_byte byte) text ≡ length text = position_or_len_is (is_byte byte) text (length text) 0 (omega arith) before (λ below. absurd (omega (arith, below))) in
     let t : nat_lt (position_or_len (is_byte byte) text) (length text) ≡ false = le-ltb _ _ (omega (arith, n)) in

@@ -67,6 +67,9 @@ fn write_received<W: Write>(
     ensures err { OnErr result (WroteFront W.contents writer.old writer.new
         (flat_map message_line (cut bytes.now) ++ last_line left_out)) }
 {
+    if bytes.is_empty() {
+        return write_last(left_out, writer);
+    }
     if lines_size(bytes) > MOST_AT_ONCE {
         write_messages(bytes, buffer, writer)?;
         return write_last(left_out, writer);

@@ -2,7 +2,7 @@ ghost use Rattle.std.specs.Prelude.{◌≡◌, ◌≤◌, ◌<◌, ◌+◌, ◌�
 ghost use Rattle.event_file.specs.Lines.{Line, after_bytes, extended, first_line, has_newline, is_begun, is_newline, is_passed as passes, kept, no_line};
 ghost use Rattle.memory.specs.Refusing.{Rises};
 
-use crate::search::place_of;
+use crate::search::place_near;
 use memory::Memory;
 use std::alloc::{AllocError, Global};
 use std::marker::Model;
@@ -163,8 +163,9 @@ fn ended_line(bytes: &[u8]) -> Option<&[u8]>
 }
 
 /// The place of the first newline.
+#[inline(always)]
 fn newline_in(bytes: &[u8]) -> Option<usize>
     ensures { result ≡ position is_newline bytes.now }
 {
-    place_of(b'\n', bytes)
+    place_near(b'\n', bytes)
 }
