@@ -26,9 +26,9 @@ const MOST_READS: u64 = 16_777_216;
 const READ_ROOM: usize = 4096;
 
 /// Reads a script, and writes its transcript: each line is answered, and its answer written, before the next is
-/// looked at; what was written is flushed before each read and at the end. The run itself takes memory at the start alone; a command that wants some and gets none is answered
-/// `err 55`. A last line without a newline is answered at the end of the script, but not where a read fault comes
-/// first.
+/// looked at; what was written is flushed before each read and at the end. The run itself takes memory at the start
+/// alone; a command that wants some and gets none is answered `err 55`. A last line without a newline is answered at
+/// the end of the script, but not where a read fault comes first.
 pub(crate) fn run<R: Read, W: Write>(
     alloc: Global,
     reader: &mut Counted<R>,
