@@ -1,8 +1,8 @@
 -- A word is read as a decimal where some number prints as it.
-use Rattle.std.proofs.Common.{◌≡◌, ◌<◌, ◌≤◌, ◌^◌, ◌*◌, ◌+◌, ◌%◌, ◌∙◌, ℕ, zero, suc, Bool, true, cond, ◌&&◌, List, length, get_or, ap, sym, subst, arith, nat_le, bytes_eq, decimal, pow-suc, Option, Some, None}
+use Rattle.std.proofs.Common.{◌≡◌, ◌<◌, ◌≤◌, ◌^◌, ◌*◌, ◌+◌, ◌/◌, ◌%◌, ◌∙◌, ◌++◌, ◌∷◌, [], ℕ, zero, suc, Bool, true, cond, ◌&&◌, List, length, get_or, ap, sym, subst, arith, nat_le, bytes_eq, decimal, pow-suc, Option, Some, None}
 use Rattle.std.specs.Char.{digit_value}
 use Rattle.std.specs.Str.Parse.{AllDigits, digits_value}
-use Rattle.std.proofs.lemmas.Fmt.{decimal-digits_value, decimal_is_IsNumeral, decimal_nonempty, first_decimal, length-decimal-le, length-decimal-le_succ}
+use Rattle.std.proofs.lemmas.Fmt.{decimal-digits_value, decimal_digit, decimal_is_IsNumeral, decimal_step, decimal_nonempty, first_decimal, length-decimal-le, length-decimal-le_succ}
 use Rattle.std.proofs.lemmas.Slice.Eq.{bytes_eq-Decides}
 use Rattle.std.proofs.lemmas.Str.{digit_value_digit}
 use Rattle.std.proofs.lemmas.Str.Parse.{numerals_by_value, tells_digits}
@@ -33,6 +33,17 @@ digits_printed word digits some lead small = sym (decimal-digits_value (numerals
 -- they write that number
 pub printed_value : (n : ℕ) (word : List ℕ) → n < 2 ^ 32 → word ≡ decimal n → digits_value 10 word ≡ n
 printed_value n word small e = ap (λ (w : List ℕ). digits_value 10 w) e ∙ (decimal_is_IsNumeral n (omega arith)).1
+
+-- ---- the digits of a byte
+
+pub two_digits : (n : ℕ) → 10 ≤ n → n < 100 → decimal n ≡ (48 + n / 10) ∷ (48 + n % 10) ∷ []
+two_digits n least most = decimal_step n least (omega arith)
+    ∙ ap (λ (text : List ℕ). text ++ (48 + n % 10) ∷ []) (decimal_digit (n / 10) (omega arith))
+
+pub three_digits : (n : ℕ) → 100 ≤ n → n < 256 → decimal n ≡ (48 + n / 100) ∷ (48 + n / 10 % 10) ∷ (48 + n % 10) ∷ []
+three_digits n least most = decimal_step n (omega arith) (omega arith)
+    ∙ ap (λ (text : List ℕ). text ++ (48 + n % 10) ∷ []) (two_digits (n / 10) (omega arith) (omega arith))
+    ∙ ap (λ (hundreds : ℕ). (48 + hundreds) ∷ (48 + n / 10 % 10) ∷ (48 + n % 10) ∷ []) (omega arith)
 
 -- ---- digits, one after another
 

@@ -18,9 +18,9 @@ pub(crate) fn choice_line(fate: &str, choice: &Choice) -> ArrayVec<u8, 128>
     let mut digits = itoa::Buffer::new();
     let mut line = ArrayVec::new();
     line.try_extend_from_slice(fate.as_bytes()).unwrap();
-    put_word(&mut line, inet_word(choice.key).as_slice());
-    put_word(&mut line, rank_word(choice.rank).as_slice());
-    put_word(&mut line, gate_word(choice.gateway).as_slice());
+    put_inet(&mut line, choice.key);
+    put_rank(&mut line, choice.rank);
+    put_gate(&mut line, &choice.gateway);
     put_word(&mut line, digits.format(choice.index).as_bytes());
     put_word(&mut line, &hex_word(u32::from(choice.flags)));
     line.push(b'\n');
@@ -36,60 +36,63 @@ fn put_word(line: &mut ArrayVec<u8, 128>, word: &[u8])
     line.try_extend_from_slice(word).unwrap();
 }
 
-/// An IPv4 address: its four bytes in decimal, with dots between them.
-fn inet_word(address: Inet) -> ArrayVec<u8, 15>
-    ensures { result.items ≡ word_of_inet address }
+/// Puts a space and an IPv4 address behind the line: its four bytes in decimal, with dots between them.
+fn put_inet(line: &mut ArrayVec<u8, 128>, address: Inet)
+    requires { length line.old.items + 16 ≤ 128 }
+    ensures text { line.new.items ≡ line.old.items ++ 32 ∷ word_of_inet address }
+    ensures most { length line.new.items ≤ length line.old.items + 16 }
 {
     let [a, b, c, d] = address.number().to_be_bytes();
-    let mut word = ArrayVec::new();
-    put_byte(&mut word, a);
-    word.push(b'.');
-    put_byte(&mut word, b);
-    word.push(b'.');
-    put_byte(&mut word, c);
-    word.push(b'.');
-    put_byte(&mut word, d);
-    word
+    put_byte(line, b' ', a);
+    put_byte(line, b'.', b);
+    put_byte(line, b'.', c);
+    put_byte(line, b'.', d);
 }
 
-/// Puts the decimal of a byte behind the word.
-fn put_byte(word: &mut ArrayVec<u8, 15>, byte: u8)
-    requires { length word.old.items ≤ 12 }
-    ensures text { word.new.items ≡ word.old.items ++ decimal byte }
-    ensures most { length word.new.items ≤ length word.old.items + 3 }
+/// Puts a byte and then the decimal of another behind the line. Its few digits are put straight there: two addresses of a
+/// packet's line have eight such numbers.
+fn put_byte(line: &mut ArrayVec<u8, 128>, before: u8, number: u8)
+    requires { length line.old.items + 4 ≤ 128 }
+    ensures text { line.new.items ≡ line.old.items ++ before ∷ decimal number }
+    ensures most { length line.new.items ≤ length line.old.items + 4 }
 {
-    let mut digits = itoa::Buffer::new();
-    word.try_extend_from_slice(digits.format(byte).as_bytes())
-        .unwrap();
-}
-
-/// A rank in decimal, and `-` for that of one host.
-fn rank_word(rank: Rank) -> ArrayVec<u8, 3>
-    ensures { result.items ≡ word_of_rank rank }
-{
-    let mut word = ArrayVec::new();
-    if rank == Rank::host() {
-        word.push(b'-');
-        return word;
+    line.push(before);
+    if number < 10 {
+        line.push(b'0' + number);
+        return;
     }
-    let mut digits = itoa::Buffer::new();
-    word.try_extend_from_slice(digits.format(rank.number()).as_bytes())
-        .unwrap();
-    word
+    if number < 100 {
+        line.push(b'0' + number / 10);
+        line.push(b'0' + number % 10);
+        return;
+    }
+    line.push(b'0' + number / 100);
+    line.push(b'0' + number / 10 % 10);
+    line.push(b'0' + number % 10);
 }
 
-/// A gateway: its IPv4 address, or `link:` and its bytes in hexadecimal.
-fn gate_word(gateway: Gate) -> ArrayVec<u8, 69>
-    ensures { result.items ≡ word_of_gate gateway }
+/// Puts a space and a rank behind the line: in decimal, and `-` for that of one host.
+fn put_rank(line: &mut ArrayVec<u8, 128>, rank: Rank)
+    requires { length line.old.items + 4 ≤ 128 }
+    ensures text { line.new.items ≡ line.old.items ++ 32 ∷ word_of_rank rank }
+    ensures most { length line.new.items ≤ length line.old.items + 4 }
+{
+    if rank == Rank::host() {
+        put_word(line, b"-");
+        return;
+    }
+    put_byte(line, b' ', rank.number());
+}
+
+/// Puts a space and a gateway behind the line: its IPv4 address, or `link:` and its bytes in hexadecimal.
+fn put_gate(line: &mut ArrayVec<u8, 128>, gateway: &Gate)
+    requires { length line.old.items + 70 ≤ 128 }
+    ensures text { line.new.items ≡ line.old.items ++ 32 ∷ word_of_gate gateway.now }
+    ensures most { length line.new.items ≤ length line.old.items + 70 }
 {
     match gateway {
-        Gate::Inet(address) => {
-            let mut word = ArrayVec::new();
-            word.try_extend_from_slice(inet_word(address).as_slice())
-                .unwrap();
-            word
-        }
-        Gate::Link(link) => link_word(&link),
+        Gate::Inet(address) => put_inet(line, *address),
+        Gate::Link(link) => put_word(line, link_word(link).as_slice()),
     }
 }
 
