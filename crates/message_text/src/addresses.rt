@@ -1,11 +1,13 @@
 //! The addresses behind a header.
-ghost use Rattle.std.specs.Prelude.{◌≡◌, ◌+◌, ◌≤◌, ◌++◌, true, false, None, drop, length, MatchOption, OnOk, IfOk};
+ghost use Rattle.std.specs.Prelude.{◌≡◌, ◌+◌, ◌≤◌, ◌++◌, true, false, None, drop, length, MatchOption, OnOk, IfOk, is_err};
+ghost use Rattle.memory.specs.Refusing.{Rises};
 ghost use Rattle.sock_addrs.specs.Reading.{length_byte};
 ghost use Rattle.sock_addrs.specs.Rounding.{rounded};
 ghost use Rattle.message_text.specs.Addresses.{address_line, address_lines, address_text, behind, begins as begins_there, dotted, front, is_inet, mask_in, one_passes, passes, place, places, rest_line};
 
 use crate::link::{byte_at, is_link_sockaddr, put_link, put_named_hex};
 use crate::rows::put_number;
+use memory::Memory;
 use route_msgs::Sockaddr;
 use route_msgs::bits::{
     RTA_AUTHOR, RTA_BRD, RTA_DST, RTA_GATEWAY, RTA_GENMASK, RTA_IFA, RTA_IFP, RTA_NETMASK,
@@ -16,13 +18,14 @@ use std::alloc::AllocError;
 
 /// Puts bytes 4 to 7 as `10.0.0.1`.
 #[tactic(auto, unfolding(crate::specs::Addresses::dotted))]
-fn put_dotted(sockaddr: &[u8], out: &mut Vec<u8>) -> Result<(), AllocError>
-    ensures { OnOk result (out.new.items ≡ out.old.items ++ dotted sockaddr.now) }
+fn put_dotted(sockaddr: &[u8], out: &mut Vec<u8>, memory: &mut Memory) -> Result<(), AllocError>
+    ensures text { OnOk result (out.new.items ≡ out.old.items ++ dotted sockaddr.now) }
+    ensures counted { Rises (is_err result) memory.old memory.new }
 {
-    put_number("", u32::from(byte_at(sockaddr, 4)), ".", out)?;
-    put_number("", u32::from(byte_at(sockaddr, 5)), ".", out)?;
-    put_number("", u32::from(byte_at(sockaddr, 6)), ".", out)?;
-    put_number("", u32::from(byte_at(sockaddr, 7)), "", out)?;
+    put_number("", u32::from(byte_at(sockaddr, 4)), ".", out, memory)?;
+    put_number("", u32::from(byte_at(sockaddr, 5)), ".", out, memory)?;
+    put_number("", u32::from(byte_at(sockaddr, 6)), ".", out, memory)?;
+    put_number("", u32::from(byte_at(sockaddr, 7)), "", out, memory)?;
     Ok(())
 }
 
@@ -58,11 +61,17 @@ fn mask_written(sockaddr: &[u8]) -> Option<u8>
 }
 
 /// Puts an address; where a mask stands also as a mask.
-fn put_address(sockaddr: &[u8], is_mask: bool, out: &mut Vec<u8>) -> Result<(), AllocError>
-    ensures { OnOk result (out.new.items ≡ out.old.items ++ address_text is_mask sockaddr.now) }
+fn put_address(
+    sockaddr: &[u8],
+    is_mask: bool,
+    out: &mut Vec<u8>,
+    memory: &mut Memory,
+) -> Result<(), AllocError>
+    ensures text { OnOk result (out.new.items ≡ out.old.items ++ address_text is_mask sockaddr.now) }
+    ensures counted { Rises (is_err result) memory.old memory.new }
 {
     if is_inet_sockaddr(sockaddr) {
-        return put_dotted(sockaddr, out);
+        return put_dotted(sockaddr, out, memory);
     }
     let mask = if is_mask {
         mask_written(sockaddr)
@@ -70,13 +79,13 @@ fn put_address(sockaddr: &[u8], is_mask: bool, out: &mut Vec<u8>) -> Result<(), 
         None
     };
     if let Some(bits) = mask {
-        put_dotted(sockaddr, out)?;
-        return put_number(" (/", u32::from(bits), ")", out);
+        put_dotted(sockaddr, out, memory)?;
+        return put_number(" (/", u32::from(bits), ")", out, memory);
     }
     if is_link_sockaddr(sockaddr) {
-        return put_link(sockaddr, out);
+        return put_link(sockaddr, out, memory);
     }
-    put_named_hex("bytes ", sockaddr, "", out)
+    put_named_hex("bytes ", sockaddr, "", out, memory)
 }
 
 /// Whether the address of this bit is named, and begins before the end.
@@ -134,43 +143,53 @@ fn put_address_line<'a>(
     addrs: u32,
     bytes: &'a [u8],
     out: &mut Vec<u8>,
+    memory: &mut Memory,
 ) -> Result<&'a [u8], AllocError>
+    requires name { length name.now ≤ 40 }
     ensures text { OnOk result (out.new.items ≡ out.old.items ++ address_line (place bit name.now is_mask) addrs bytes.now) }
     ensures rest { IfOk result (λ rest. rest.now ≡ behind bit addrs bytes.now) }
+    ensures counted { Rises (is_err result) memory.old memory.new }
 {
     if !begins(bit, addrs, bytes) {
         return Ok(bytes);
     }
     let (sockaddr, rest) = parted(bytes);
-    out.extend_from_slice(name.as_bytes())?;
-    put_address(sockaddr, is_mask, out)?;
-    out.extend_from_slice(b"\n")?;
+    memory.extend(out, name.as_bytes())?;
+    put_address(sockaddr, is_mask, out, memory)?;
+    memory.extend(out, b"\n")?;
     Ok(rest)
 }
 
 /// Puts the line of the bytes that no address has, where there are any.
 #[tactic(auto, unfolding(crate::specs::Addresses::rest_line))]
-fn put_rest(bytes: &[u8], out: &mut Vec<u8>) -> Result<(), AllocError>
-    ensures { OnOk result (out.new.items ≡ out.old.items ++ rest_line bytes.now) }
+fn put_rest(bytes: &[u8], out: &mut Vec<u8>, memory: &mut Memory) -> Result<(), AllocError>
+    ensures text { OnOk result (out.new.items ≡ out.old.items ++ rest_line bytes.now) }
+    ensures counted { Rises (is_err result) memory.old memory.new }
 {
     if bytes.is_empty() {
         return Ok(());
     }
-    put_named_hex(" behind ", bytes, "\n", out)
+    put_named_hex(" behind ", bytes, "\n", out, memory)
 }
 
 /// Puts the lines of all addresses.
-pub(crate) fn put_addresses(addrs: u32, bytes: &[u8], out: &mut Vec<u8>) -> Result<(), AllocError>
-    ensures { OnOk result (out.new.items ≡ out.old.items ++ address_lines places addrs bytes.now) }
+pub(crate) fn put_addresses(
+    addrs: u32,
+    bytes: &[u8],
+    out: &mut Vec<u8>,
+    memory: &mut Memory,
+) -> Result<(), AllocError>
+    ensures text { OnOk result (out.new.items ≡ out.old.items ++ address_lines places addrs bytes.now) }
+    ensures counted { Rises (is_err result) memory.old memory.new }
 {
-    let bytes = put_address_line(RTA_DST, " DST ", false, addrs, bytes, out)?;
-    let bytes = put_address_line(RTA_GATEWAY, " GATEWAY ", false, addrs, bytes, out)?;
-    let bytes = put_address_line(RTA_NETMASK, " NETMASK ", true, addrs, bytes, out)?;
-    let bytes = put_address_line(RTA_GENMASK, " GENMASK ", true, addrs, bytes, out)?;
-    let bytes = put_address_line(RTA_IFP, " IFP ", false, addrs, bytes, out)?;
-    let bytes = put_address_line(RTA_IFA, " IFA ", false, addrs, bytes, out)?;
-    let bytes = put_address_line(RTA_AUTHOR, " AUTHOR ", false, addrs, bytes, out)?;
-    let bytes = put_address_line(RTA_BRD, " BRD ", false, addrs, bytes, out)?;
-    put_rest(bytes, out)?;
+    let bytes = put_address_line(RTA_DST, " DST ", false, addrs, bytes, out, memory)?;
+    let bytes = put_address_line(RTA_GATEWAY, " GATEWAY ", false, addrs, bytes, out, memory)?;
+    let bytes = put_address_line(RTA_NETMASK, " NETMASK ", true, addrs, bytes, out, memory)?;
+    let bytes = put_address_line(RTA_GENMASK, " GENMASK ", true, addrs, bytes, out, memory)?;
+    let bytes = put_address_line(RTA_IFP, " IFP ", false, addrs, bytes, out, memory)?;
+    let bytes = put_address_line(RTA_IFA, " IFA ", false, addrs, bytes, out, memory)?;
+    let bytes = put_address_line(RTA_AUTHOR, " AUTHOR ", false, addrs, bytes, out, memory)?;
+    let bytes = put_address_line(RTA_BRD, " BRD ", false, addrs, bytes, out, memory)?;
+    put_rest(bytes, out, memory)?;
     Ok(())
 }

@@ -12,4 +12,4 @@ mod rows;
 mod tests;
 mod texts;
 
-pub use texts::text_of;
+pub use texts::{text_of, text_of_counted};

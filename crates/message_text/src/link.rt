@@ -1,5 +1,6 @@
 //! Link-layer addresses.
-ghost use Rattle.std.specs.Prelude.{◌≡◌, ◌+◌, ◌≤◌, ◌++◌, ◌∷◌, [], true, false, length, codes, decimal, MatchOption, OnOk, slice_index};
+ghost use Rattle.std.specs.Prelude.{◌≡◌, ◌+◌, ◌≤◌, ◌++◌, ◌∷◌, [], true, false, length, codes, decimal, MatchOption, OnOk, slice_index, is_err};
+ghost use Rattle.memory.specs.Refusing.{Rises};
 ghost use Rattle.std.specs.List.{list_all};
 ghost use Rattle.hex.specs.Hex.{encode_lower};
 ghost use Rattle.sock_addrs.specs.Padded.{padded_to};
@@ -7,6 +8,7 @@ ghost use Rattle.message_text.specs.Addresses.{has_link_room as has_room_for_lin
 
 use crate::rows::put_number;
 use arrayvec::ArrayVec;
+use memory::Memory;
 use sock_addrs::families::AF_LINK;
 use sock_addrs::round;
 use std::alloc::AllocError;
@@ -19,22 +21,24 @@ pub(crate) fn byte_at(bytes: &[u8], at: usize) -> u8
 }
 
 /// Puts bytes in hexadecimal.
-fn put_hex(bytes: &[u8], out: &mut Vec<u8>) -> Result<(), AllocError>
-    ensures { OnOk result (out.new.items ≡ out.old.items ++ encode_lower bytes.now) }
+fn put_hex(bytes: &[u8], out: &mut Vec<u8>, memory: &mut Memory) -> Result<(), AllocError>
+    ensures text { OnOk result (out.new.items ≡ out.old.items ++ encode_lower bytes.now) }
+    ensures counted { Rises (is_err result) memory.old memory.new }
 {
     for byte in bytes {
-        put_byte(*byte, out)?;
+        put_byte(*byte, out, memory)?;
     }
     Ok(())
 }
 
 /// Puts a byte in hexadecimal.
-fn put_byte(byte: u8, out: &mut Vec<u8>) -> Result<(), AllocError>
-    ensures { OnOk result (out.new.items ≡ out.old.items ++ encode_lower (byte ∷ [])) }
+fn put_byte(byte: u8, out: &mut Vec<u8>, memory: &mut Memory) -> Result<(), AllocError>
+    ensures text { OnOk result (out.new.items ≡ out.old.items ++ encode_lower (byte ∷ [])) }
+    ensures counted { Rises (is_err result) memory.old memory.new }
 {
     let mut digits = [0; 2];
     hex::encode_to_slice([byte], &mut digits).unwrap();
-    out.extend_from_slice(&digits)?;
+    memory.extend(out, &digits)?;
     Ok(())
 }
 
@@ -44,12 +48,16 @@ pub(crate) fn put_named_hex(
     bytes: &[u8],
     end: &str,
     out: &mut Vec<u8>,
+    memory: &mut Memory,
 ) -> Result<(), AllocError>
-    ensures { OnOk result (out.new.items ≡ out.old.items ++ (name.now ++ encode_lower bytes.now ++ end.now)) }
+    requires name { length name.now ≤ 40 }
+    requires end { length end.now ≤ 40 }
+    ensures text { OnOk result (out.new.items ≡ out.old.items ++ (name.now ++ encode_lower bytes.now ++ end.now)) }
+    ensures counted { Rises (is_err result) memory.old memory.new }
 {
-    out.extend_from_slice(name.as_bytes())?;
-    put_hex(bytes, out)?;
-    out.extend_from_slice(end.as_bytes())?;
+    memory.extend(out, name.as_bytes())?;
+    put_hex(bytes, out, memory)?;
+    memory.extend(out, end.as_bytes())?;
     Ok(())
 }
 
@@ -65,7 +73,8 @@ fn has_link_room(sockaddr: &[u8]) -> bool
 /// The name in a link-layer address.
 fn name_in(sockaddr: &[u8]) -> &[u8]
     requires { has_room_for_link sockaddr.now ≡ true }
-    ensures { result.now ≡ link_name sockaddr.now }
+    ensures name { result.now ≡ link_name sockaddr.now }
+    ensures short { length result.now ≤ 255 }
 {
     let end = 8 + usize::from(byte_at(sockaddr, 5));
     &sockaddr[8..end]
@@ -136,17 +145,22 @@ pub(crate) fn is_link_sockaddr(sockaddr: &[u8]) -> bool
 
 /// Puts a link-layer address: its name and its octets, and its index, type and length.
 #[tactic(auto, unfolding(crate::specs::Addresses::link_text))]
-pub(crate) fn put_link(sockaddr: &[u8], out: &mut Vec<u8>) -> Result<(), AllocError>
+pub(crate) fn put_link(
+    sockaddr: &[u8],
+    out: &mut Vec<u8>,
+    memory: &mut Memory,
+) -> Result<(), AllocError>
     requires { has_room_for_link sockaddr.now ≡ true }
-    ensures { OnOk result (out.new.items ≡ out.old.items ++ link_text sockaddr.now) }
+    ensures text { OnOk result (out.new.items ≡ out.old.items ++ link_text sockaddr.now) }
+    ensures counted { Rises (is_err result) memory.old memory.new }
 {
     let index = u16::from_be_bytes([byte_at(sockaddr, 2), byte_at(sockaddr, 3)]);
-    out.extend_from_slice(b"link ")?;
-    out.extend_from_slice(name_in(sockaddr))?;
-    out.extend_from_slice(b":")?;
-    put_hex(address_in(sockaddr), out)?;
-    put_number(" index ", u32::from(index), "", out)?;
-    put_number(" type ", u32::from(byte_at(sockaddr, 4)), "", out)?;
-    put_number(" length ", u32::from(byte_at(sockaddr, 0)), "", out)?;
+    memory.extend(out, b"link ")?;
+    memory.extend(out, name_in(sockaddr))?;
+    memory.extend(out, b":")?;
+    put_hex(address_in(sockaddr), out, memory)?;
+    put_number(" index ", u32::from(index), "", out, memory)?;
+    put_number(" type ", u32::from(byte_at(sockaddr, 4)), "", out, memory)?;
+    put_number(" length ", u32::from(byte_at(sockaddr, 0)), "", out, memory)?;
     Ok(())
 }

@@ -1,8 +1,10 @@
 //! The names of types, errnos and bits.
-ghost use Rattle.std.specs.Prelude.{◌≡◌, ◌++◌, MatchOption, OnOk, IfOk, Some, None, true};
+ghost use Rattle.std.specs.Prelude.{◌≡◌, ◌++◌, MatchOption, OnOk, IfOk, IfSome, Some, None, ◌≤◌, length, true, is_err};
+ghost use Rattle.memory.specs.Refusing.{Rises};
 ghost use Rattle.message_text.specs.Names.{address_names, errno_name as name_of_errno, errnos, flag_names, ifa_flag_names, first_after, high_flag_names, kind_text, kinds, low_flag_names, metric_names, name_among, name_of_bit, named, names, names_from, still_first};
 
 use itoa::Buffer;
+use memory::Memory;
 use route_msgs::bits::{
     RTA_AUTHOR, RTA_BRD, RTA_DST, RTA_GATEWAY, RTA_GENMASK, RTA_IFA, RTA_IFP, RTA_NETMASK,
 };
@@ -29,7 +31,8 @@ const RTM_IFINFO: u8 = 14;
 
 /// The name of a type, where it has one.
 fn kind_name(kind: u8) -> Option<&'static str>
-    ensures { MatchOption result (name_among kinds kind ≡ None) (λ name. name_among kinds kind ≡ Some name.now) }
+    ensures name { MatchOption result (name_among kinds kind ≡ None) (λ name. name_among kinds kind ≡ Some name.now) }
+    ensures short { IfSome result (λ name. length name.now ≤ 40) }
 {
     match kind {
         RTM_ADD => Some("RTM_ADD"),
@@ -51,21 +54,23 @@ fn kind_name(kind: u8) -> Option<&'static str>
 }
 
 /// Puts a type by its name, and one without a name by its number.
-pub(crate) fn put_kind(kind: u8, out: &mut Vec<u8>) -> Result<(), AllocError>
-    ensures { OnOk result (out.new.items ≡ out.old.items ++ kind_text kind) }
+pub(crate) fn put_kind(kind: u8, out: &mut Vec<u8>, memory: &mut Memory) -> Result<(), AllocError>
+    ensures text { OnOk result (out.new.items ≡ out.old.items ++ kind_text kind) }
+    ensures counted { Rises (is_err result) memory.old memory.new }
 {
     match kind_name(kind) {
-        Some(name) => out.extend_from_slice(name.as_bytes()),
+        Some(name) => memory.extend(out, name.as_bytes()),
         None => {
             let mut digits = Buffer::new();
-            out.extend_from_slice(digits.format(kind).as_bytes())
+            memory.extend(out, digits.format(kind).as_bytes())
         }
     }
 }
 
 /// The name of an errno, or `unknown`.
 pub(crate) fn errno_name(errno: u32) -> &'static str
-    ensures { result.now ≡ name_of_errno errno }
+    ensures name { result.now ≡ name_of_errno errno }
+    ensures short { length result.now ≤ 40 }
 {
     match errno {
         3 => "ESRCH",
@@ -98,99 +103,154 @@ fn put_name(
     bit: u32,
     name: &str,
     out: &mut Vec<u8>,
+    memory: &mut Memory,
 ) -> Result<bool, AllocError>
+    requires name { length name.now ≤ 40 }
     ensures text { OnOk result (out.new.items ≡ out.old.items ++ name_of_bit first number (named bit name.now)) }
     ensures first { IfOk result (λ next. next ≡ still_first first number (named bit name.now)) }
+    ensures counted { Rises (is_err result) memory.old memory.new }
 {
     if number & bit == 0 {
         return Ok(first);
     }
     if !first {
-        out.push(b',')?;
+        memory.push(out, b',')?;
     }
-    out.extend_from_slice(name.as_bytes())?;
+    memory.extend(out, name.as_bytes())?;
     Ok(false)
 }
 
 /// Puts the names of the lower half of a route's flags. Answers whether none of them is set.
 #[tactic(auto, unfolding(crate::specs::Names::names_from, crate::specs::Names::first_after, crate::specs::Names::low_flag_names))]
-fn put_low_flag_names(flags: u32, out: &mut Vec<u8>) -> Result<bool, AllocError>
+fn put_low_flag_names(
+    flags: u32,
+    out: &mut Vec<u8>,
+    memory: &mut Memory,
+) -> Result<bool, AllocError>
     ensures text { OnOk result (out.new.items ≡ out.old.items ++ names_from true low_flag_names flags) }
     ensures first { IfOk result (λ first. first ≡ first_after true low_flag_names flags) }
+    ensures counted { Rises (is_err result) memory.old memory.new }
 {
-    let first = put_name(true, flags, u32::from(RTF_UP), "UP", out)?;
-    let first = put_name(first, flags, u32::from(RTF_GATEWAY), "GATEWAY", out)?;
-    let first = put_name(first, flags, u32::from(RTF_HOST), "HOST", out)?;
-    let first = put_name(first, flags, u32::from(RTF_REJECT), "REJECT", out)?;
-    let first = put_name(first, flags, u32::from(RTF_DYNAMIC), "DYNAMIC", out)?;
-    let first = put_name(first, flags, u32::from(RTF_MODIFIED), "MODIFIED", out)?;
-    let first = put_name(first, flags, u32::from(RTF_DONE), "DONE", out)?;
-    let first = put_name(first, flags, u32::from(RTF_MASK), "MASK", out)?;
+    let first = put_name(true, flags, u32::from(RTF_UP), "UP", out, memory)?;
+    let first = put_name(first, flags, u32::from(RTF_GATEWAY), "GATEWAY", out, memory)?;
+    let first = put_name(first, flags, u32::from(RTF_HOST), "HOST", out, memory)?;
+    let first = put_name(first, flags, u32::from(RTF_REJECT), "REJECT", out, memory)?;
+    let first = put_name(first, flags, u32::from(RTF_DYNAMIC), "DYNAMIC", out, memory)?;
+    let first = put_name(
+        first,
+        flags,
+        u32::from(RTF_MODIFIED),
+        "MODIFIED",
+        out,
+        memory,
+    )?;
+    let first = put_name(first, flags, u32::from(RTF_DONE), "DONE", out, memory)?;
+    let first = put_name(first, flags, u32::from(RTF_MASK), "MASK", out, memory)?;
     Ok(first)
 }
 
 /// Puts the names of the others.
 #[tactic(auto, unfolding(crate::specs::Names::names_from, crate::specs::Names::high_flag_names))]
-fn put_high_flag_names(first: bool, flags: u32, out: &mut Vec<u8>) -> Result<(), AllocError>
-    ensures { OnOk result (out.new.items ≡ out.old.items ++ names_from first high_flag_names flags) }
+fn put_high_flag_names(
+    first: bool,
+    flags: u32,
+    out: &mut Vec<u8>,
+    memory: &mut Memory,
+) -> Result<(), AllocError>
+    ensures text { OnOk result (out.new.items ≡ out.old.items ++ names_from first high_flag_names flags) }
+    ensures counted { Rises (is_err result) memory.old memory.new }
 {
-    let first = put_name(first, flags, u32::from(RTF_CLONING), "CLONING", out)?;
-    let first = put_name(first, flags, u32::from(RTF_XRESOLVE), "XRESOLVE", out)?;
-    let first = put_name(first, flags, u32::from(RTF_LLINFO), "LLINFO", out)?;
-    let first = put_name(first, flags, u32::from(RTF_STATIC), "STATIC", out)?;
-    let first = put_name(first, flags, u32::from(RTF_BLACKHOLE), "BLACKHOLE", out)?;
-    let first = put_name(first, flags, u32::from(RTF_PROTO2), "PROTO2", out)?;
-    let _first = put_name(first, flags, u32::from(RTF_PROTO1), "PROTO1", out)?;
+    let first = put_name(first, flags, u32::from(RTF_CLONING), "CLONING", out, memory)?;
+    let first = put_name(
+        first,
+        flags,
+        u32::from(RTF_XRESOLVE),
+        "XRESOLVE",
+        out,
+        memory,
+    )?;
+    let first = put_name(first, flags, u32::from(RTF_LLINFO), "LLINFO", out, memory)?;
+    let first = put_name(first, flags, u32::from(RTF_STATIC), "STATIC", out, memory)?;
+    let first = put_name(
+        first,
+        flags,
+        u32::from(RTF_BLACKHOLE),
+        "BLACKHOLE",
+        out,
+        memory,
+    )?;
+    let first = put_name(first, flags, u32::from(RTF_PROTO2), "PROTO2", out, memory)?;
+    let _first = put_name(first, flags, u32::from(RTF_PROTO1), "PROTO1", out, memory)?;
     Ok(())
 }
 
 /// Puts the names of a route's flags.
-pub(crate) fn put_flag_names(flags: u32, out: &mut Vec<u8>) -> Result<(), AllocError>
-    ensures { OnOk result (out.new.items ≡ out.old.items ++ names flag_names flags) }
+pub(crate) fn put_flag_names(
+    flags: u32,
+    out: &mut Vec<u8>,
+    memory: &mut Memory,
+) -> Result<(), AllocError>
+    ensures text { OnOk result (out.new.items ≡ out.old.items ++ names flag_names flags) }
+    ensures counted { Rises (is_err result) memory.old memory.new }
 {
-    let first = put_low_flag_names(flags, out)?;
-    put_high_flag_names(first, flags, out)?;
+    let first = put_low_flag_names(flags, out, memory)?;
+    put_high_flag_names(first, flags, out, memory)?;
     Ok(())
 }
 
 /// Puts the names of the flags of an interface's address.
 #[tactic(auto, unfolding(crate::specs::Names::names_from, crate::specs::Names::ifa_flag_names))]
-pub(crate) fn put_ifa_flag_names(flags: u32, out: &mut Vec<u8>) -> Result<(), AllocError>
-    ensures { OnOk result (out.new.items ≡ out.old.items ++ names ifa_flag_names flags) }
+pub(crate) fn put_ifa_flag_names(
+    flags: u32,
+    out: &mut Vec<u8>,
+    memory: &mut Memory,
+) -> Result<(), AllocError>
+    ensures text { OnOk result (out.new.items ≡ out.old.items ++ names ifa_flag_names flags) }
+    ensures counted { Rises (is_err result) memory.old memory.new }
 {
-    let first = put_name(true, flags, u32::from(IFA_ROUTE), "ROUTE", out)?;
-    let _first = put_name(first, flags, u32::from(RTF_CLONING), "CLONING", out)?;
+    let first = put_name(true, flags, u32::from(IFA_ROUTE), "ROUTE", out, memory)?;
+    let _first = put_name(first, flags, u32::from(RTF_CLONING), "CLONING", out, memory)?;
     Ok(())
 }
 
 /// Puts the names of metrics, of inits or of locks.
 #[tactic(auto, unfolding(crate::specs::Names::names_from, crate::specs::Names::metric_names))]
-pub(crate) fn put_metric_names(bits: u32, out: &mut Vec<u8>) -> Result<(), AllocError>
-    ensures { OnOk result (out.new.items ≡ out.old.items ++ names metric_names bits) }
+pub(crate) fn put_metric_names(
+    bits: u32,
+    out: &mut Vec<u8>,
+    memory: &mut Memory,
+) -> Result<(), AllocError>
+    ensures text { OnOk result (out.new.items ≡ out.old.items ++ names metric_names bits) }
+    ensures counted { Rises (is_err result) memory.old memory.new }
 {
-    let first = put_name(true, bits, RTV_MTU, "MTU", out)?;
-    let first = put_name(first, bits, RTV_HOPCOUNT, "HOPCOUNT", out)?;
-    let first = put_name(first, bits, RTV_EXPIRE, "EXPIRE", out)?;
-    let first = put_name(first, bits, RTV_RPIPE, "RPIPE", out)?;
-    let first = put_name(first, bits, RTV_SPIPE, "SPIPE", out)?;
-    let first = put_name(first, bits, RTV_SSTHRESH, "SSTHRESH", out)?;
-    let first = put_name(first, bits, RTV_RTT, "RTT", out)?;
-    let _first = put_name(first, bits, RTV_RTTVAR, "RTTVAR", out)?;
+    let first = put_name(true, bits, RTV_MTU, "MTU", out, memory)?;
+    let first = put_name(first, bits, RTV_HOPCOUNT, "HOPCOUNT", out, memory)?;
+    let first = put_name(first, bits, RTV_EXPIRE, "EXPIRE", out, memory)?;
+    let first = put_name(first, bits, RTV_RPIPE, "RPIPE", out, memory)?;
+    let first = put_name(first, bits, RTV_SPIPE, "SPIPE", out, memory)?;
+    let first = put_name(first, bits, RTV_SSTHRESH, "SSTHRESH", out, memory)?;
+    let first = put_name(first, bits, RTV_RTT, "RTT", out, memory)?;
+    let _first = put_name(first, bits, RTV_RTTVAR, "RTTVAR", out, memory)?;
     Ok(())
 }
 
 /// Puts the names of the addresses that a message names.
 #[tactic(auto, unfolding(crate::specs::Names::names_from, crate::specs::Names::address_names))]
-pub(crate) fn put_address_names(addrs: u32, out: &mut Vec<u8>) -> Result<(), AllocError>
-    ensures { OnOk result (out.new.items ≡ out.old.items ++ names address_names addrs) }
+pub(crate) fn put_address_names(
+    addrs: u32,
+    out: &mut Vec<u8>,
+    memory: &mut Memory,
+) -> Result<(), AllocError>
+    ensures text { OnOk result (out.new.items ≡ out.old.items ++ names address_names addrs) }
+    ensures counted { Rises (is_err result) memory.old memory.new }
 {
-    let first = put_name(true, addrs, RTA_DST, "DST", out)?;
-    let first = put_name(first, addrs, RTA_GATEWAY, "GATEWAY", out)?;
-    let first = put_name(first, addrs, RTA_NETMASK, "NETMASK", out)?;
-    let first = put_name(first, addrs, RTA_GENMASK, "GENMASK", out)?;
-    let first = put_name(first, addrs, RTA_IFP, "IFP", out)?;
-    let first = put_name(first, addrs, RTA_IFA, "IFA", out)?;
-    let first = put_name(first, addrs, RTA_AUTHOR, "AUTHOR", out)?;
-    let _first = put_name(first, addrs, RTA_BRD, "BRD", out)?;
+    let first = put_name(true, addrs, RTA_DST, "DST", out, memory)?;
+    let first = put_name(first, addrs, RTA_GATEWAY, "GATEWAY", out, memory)?;
+    let first = put_name(first, addrs, RTA_NETMASK, "NETMASK", out, memory)?;
+    let first = put_name(first, addrs, RTA_GENMASK, "GENMASK", out, memory)?;
+    let first = put_name(first, addrs, RTA_IFP, "IFP", out, memory)?;
+    let first = put_name(first, addrs, RTA_IFA, "IFA", out, memory)?;
+    let first = put_name(first, addrs, RTA_AUTHOR, "AUTHOR", out, memory)?;
+    let _first = put_name(first, addrs, RTA_BRD, "BRD", out, memory)?;
     Ok(())
 }

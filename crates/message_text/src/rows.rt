@@ -1,5 +1,6 @@
 //! A header's fields, each with its name.
-ghost use Rattle.std.specs.Prelude.{◌≡◌, ◌+◌, ◌≤◌, ◌++◌, ◌∷◌, ◌==◌, [], if◌then◌else◌, OnOk, length, codes, decimal, slice_index};
+ghost use Rattle.std.specs.Prelude.{◌≡◌, ◌+◌, ◌≤◌, ◌++◌, ◌∷◌, ◌==◌, [], if◌then◌else◌, OnOk, length, codes, decimal, slice_index, is_err};
+ghost use Rattle.memory.specs.Refusing.{Rises};
 ghost use Rattle.std.specs.Int.{w32, to_be_bytes};
 ghost use Rattle.hex.specs.Hex.{encode_lower};
 ghost use Rattle.route_msgs.specs.Layout.{number_at};
@@ -10,6 +11,7 @@ use crate::names::{
 };
 use byteorder::{BigEndian, ByteOrder};
 use itoa::Buffer;
+use memory::Memory;
 use std::alloc::AllocError;
 
 /// The number in the byte at `at`.
@@ -46,84 +48,117 @@ pub(crate) fn put_number(
     number: u32,
     end: &str,
     out: &mut Vec<u8>,
+    memory: &mut Memory,
 ) -> Result<(), AllocError>
-    ensures { OnOk result (out.new.items ≡ out.old.items ++ (name.now ++ decimal number ++ end.now)) }
+    requires name { length name.now ≤ 40 }
+    requires end { length end.now ≤ 40 }
+    ensures text { OnOk result (out.new.items ≡ out.old.items ++ (name.now ++ decimal number ++ end.now)) }
+    ensures counted { Rises (is_err result) memory.old memory.new }
 {
     let mut digits = Buffer::new();
-    out.extend_from_slice(name.as_bytes())?;
-    out.extend_from_slice(digits.format(number).as_bytes())?;
-    out.extend_from_slice(end.as_bytes())?;
+    memory.extend(out, name.as_bytes())?;
+    memory.extend(out, digits.format(number).as_bytes())?;
+    memory.extend(out, end.as_bytes())?;
     Ok(())
 }
 
 /// Puts the line of a number, where it isn't 0.
-pub(crate) fn put_number_line(name: &str, number: u32, out: &mut Vec<u8>) -> Result<(), AllocError>
-    ensures { OnOk result (out.new.items
+pub(crate) fn put_number_line(
+    name: &str,
+    number: u32,
+    out: &mut Vec<u8>,
+    memory: &mut Memory,
+) -> Result<(), AllocError>
+    requires name { length name.now ≤ 40 }
+    ensures text { OnOk result (out.new.items
         ≡ out.old.items ++ (if number == 0 then [] else name.now ++ decimal number ++ 10 ∷ [])) }
+    ensures counted { Rises (is_err result) memory.old memory.new }
 {
     if number == 0 {
         return Ok(());
     }
-    put_number(name, number, "\n", out)
+    put_number(name, number, "\n", out, memory)
 }
 
 /// Puts the line of an errno with its name, where it isn't 0.
-pub(crate) fn put_errno_line(errno: u32, out: &mut Vec<u8>) -> Result<(), AllocError>
-    ensures { OnOk result (out.new.items ≡ out.old.items ++ (if errno == 0 then []
+pub(crate) fn put_errno_line(
+    errno: u32,
+    out: &mut Vec<u8>,
+    memory: &mut Memory,
+) -> Result<(), AllocError>
+    ensures text { OnOk result (out.new.items ≡ out.old.items ++ (if errno == 0 then []
         else codes " errno " ++ decimal errno ++ 32 ∷ 40 ∷ name_of_errno errno ++ codes ")\n")) }
+    ensures counted { Rises (is_err result) memory.old memory.new }
 {
     if errno == 0 {
         return Ok(());
     }
-    put_number(" errno ", errno, " (", out)?;
-    out.extend_from_slice(errno_name(errno).as_bytes())?;
-    out.extend_from_slice(b")\n")?;
+    put_number(" errno ", errno, " (", out, memory)?;
+    memory.extend(out, errno_name(errno).as_bytes())?;
+    memory.extend(out, b")\n")?;
     Ok(())
 }
 
 /// Puts a number in eight hexadecimal digits, with its name before it and `<` behind it.
-fn put_bits(name: &str, bits: u32, out: &mut Vec<u8>) -> Result<(), AllocError>
-    ensures { OnOk result (out.new.items
+fn put_bits(name: &str, bits: u32, out: &mut Vec<u8>, memory: &mut Memory) -> Result<(), AllocError>
+    requires name { length name.now ≤ 40 }
+    ensures text { OnOk result (out.new.items
         ≡ out.old.items ++ (name.now ++ encode_lower (to_be_bytes w32 bits) ++ 60 ∷ [])) }
+    ensures counted { Rises (is_err result) memory.old memory.new }
 {
     let mut digits = [0; 8];
     hex::encode_to_slice(bits.to_be_bytes(), &mut digits).unwrap();
-    out.extend_from_slice(name.as_bytes())?;
-    out.extend_from_slice(&digits)?;
-    out.extend_from_slice(b"<")?;
+    memory.extend(out, name.as_bytes())?;
+    memory.extend(out, &digits)?;
+    memory.extend(out, b"<")?;
     Ok(())
 }
 
 /// Puts the line of a route's flags.
-pub(crate) fn put_flags_line(flags: u32, out: &mut Vec<u8>) -> Result<(), AllocError>
-    ensures { OnOk result (out.new.items ≡ out.old.items
+pub(crate) fn put_flags_line(
+    flags: u32,
+    out: &mut Vec<u8>,
+    memory: &mut Memory,
+) -> Result<(), AllocError>
+    ensures text { OnOk result (out.new.items ≡ out.old.items
         ++ (codes " flags " ++ encode_lower (to_be_bytes w32 flags) ++ 60 ∷ names flag_names flags ++ codes ">\n")) }
+    ensures counted { Rises (is_err result) memory.old memory.new }
 {
-    put_bits(" flags ", flags, out)?;
-    put_flag_names(flags, out)?;
-    out.extend_from_slice(b">\n")?;
+    put_bits(" flags ", flags, out, memory)?;
+    put_flag_names(flags, out, memory)?;
+    memory.extend(out, b">\n")?;
     Ok(())
 }
 
 /// Puts the line of the flags of an interface's address.
-pub(crate) fn put_ifa_flags_line(flags: u32, out: &mut Vec<u8>) -> Result<(), AllocError>
-    ensures { OnOk result (out.new.items ≡ out.old.items
+pub(crate) fn put_ifa_flags_line(
+    flags: u32,
+    out: &mut Vec<u8>,
+    memory: &mut Memory,
+) -> Result<(), AllocError>
+    ensures text { OnOk result (out.new.items ≡ out.old.items
         ++ (codes " flags " ++ encode_lower (to_be_bytes w32 flags) ++ 60 ∷ names ifa_flag_names flags ++ codes ">\n")) }
+    ensures counted { Rises (is_err result) memory.old memory.new }
 {
-    put_bits(" flags ", flags, out)?;
-    put_ifa_flag_names(flags, out)?;
-    out.extend_from_slice(b">\n")?;
+    put_bits(" flags ", flags, out, memory)?;
+    put_ifa_flag_names(flags, out, memory)?;
+    memory.extend(out, b">\n")?;
     Ok(())
 }
 
 /// Puts the line of the addresses that a message names.
-pub(crate) fn put_addrs_line(addrs: u32, out: &mut Vec<u8>) -> Result<(), AllocError>
-    ensures { OnOk result (out.new.items ≡ out.old.items
+pub(crate) fn put_addrs_line(
+    addrs: u32,
+    out: &mut Vec<u8>,
+    memory: &mut Memory,
+) -> Result<(), AllocError>
+    ensures text { OnOk result (out.new.items ≡ out.old.items
         ++ (codes " addrs " ++ encode_lower (to_be_bytes w32 addrs) ++ 60 ∷ names address_names addrs ++ codes ">\n")) }
+    ensures counted { Rises (is_err result) memory.old memory.new }
 {
-    put_bits(" addrs ", addrs, out)?;
-    put_address_names(addrs, out)?;
-    out.extend_from_slice(b">\n")?;
+    put_bits(" addrs ", addrs, out, memory)?;
+    put_address_names(addrs, out, memory)?;
+    memory.extend(out, b">\n")?;
     Ok(())
 }
 
@@ -132,15 +167,18 @@ pub(crate) fn put_metric_bits_line(
     name: &str,
     bits: u32,
     out: &mut Vec<u8>,
+    memory: &mut Memory,
 ) -> Result<(), AllocError>
-    ensures { OnOk result (out.new.items ≡ out.old.items ++ (if bits == 0 then []
+    requires name { length name.now ≤ 40 }
+    ensures text { OnOk result (out.new.items ≡ out.old.items ++ (if bits == 0 then []
         else name.now ++ encode_lower (to_be_bytes w32 bits) ++ 60 ∷ names metric_names bits ++ codes ">\n")) }
+    ensures counted { Rises (is_err result) memory.old memory.new }
 {
     if bits == 0 {
         return Ok(());
     }
-    put_bits(name, bits, out)?;
-    put_metric_names(bits, out)?;
-    out.extend_from_slice(b">\n")?;
+    put_bits(name, bits, out, memory)?;
+    put_metric_names(bits, out, memory)?;
+    memory.extend(out, b">\n")?;
     Ok(())
 }

@@ -1,4 +1,5 @@
-ghost use Rattle.std.specs.Prelude.{◌≡◌, ◌≤◌, ◌++◌, true, IfNone, IfOk, OnOk, length};
+ghost use Rattle.std.specs.Prelude.{◌≡◌, ◌≤◌, ◌++◌, true, IfNone, IfOk, OnOk, length, is_err};
+ghost use Rattle.memory.specs.Refusing.{Rises};
 ghost use Rattle.route_msgs.specs.Layout.{number_at};
 ghost use Rattle.message_text.specs.Texts.{addrs_in, body_of, fault_in, fault_text, has_size as has_size_said, header_size as size_of_header, is_about_address as about_address, message_text, text_of as text};
 
@@ -6,6 +7,7 @@ use crate::addresses::{have_room, put_addresses};
 use crate::headers::{put_ifa_header, put_route_header};
 use crate::link::{byte_at, put_named_hex};
 use crate::rows::{u8_at, u16_at, u32_at};
+use memory::Memory;
 use route_msgs::MsgErr;
 use route_msgs::kinds::{RTM_DELADDR, RTM_NEWADDR, RTM_VERSION};
 use std::alloc::{AllocError, Global};
@@ -16,10 +18,22 @@ use std::alloc::{AllocError, Global};
 pub fn text_of(alloc: Global, message: &[u8]) -> Result<Vec<u8>, AllocError>
     ensures { IfOk result (λ shown. shown.items ≡ text message.now) }
 {
+    text_of_counted(alloc, message, &mut Memory::new())
+}
+
+/// The text of a message, as `text_of`, and a count of how often memory was refused for it.
+pub fn text_of_counted(
+    alloc: Global,
+    message: &[u8],
+    memory: &mut Memory,
+) -> Result<Vec<u8>, AllocError>
+    ensures text { IfOk result (λ shown. shown.items ≡ text message.now) }
+    ensures counted { Rises (is_err result) memory.old memory.new }
+{
     let mut out = Vec::new(alloc);
     match fault_of(message) {
-        Some(fault) => put_fault(&fault, message, &mut out)?,
-        None => put_message(message, &mut out)?,
+        Some(fault) => put_fault(&fault, message, &mut out, memory)?,
+        None => put_message(message, &mut out, memory)?,
     }
     Ok(out)
 }
@@ -85,25 +99,32 @@ fn fault_of(message: &[u8]) -> Option<MsgErr>
 }
 
 /// Puts bytes that are no message, and the reason.
-fn put_fault(fault: &MsgErr, message: &[u8], out: &mut Vec<u8>) -> Result<(), AllocError>
-    ensures { OnOk result (out.new.items ≡ out.old.items ++ fault_text fault.now message.now) }
+fn put_fault(
+    fault: &MsgErr,
+    message: &[u8],
+    out: &mut Vec<u8>,
+    memory: &mut Memory,
+) -> Result<(), AllocError>
+    ensures text { OnOk result (out.new.items ≡ out.old.items ++ fault_text fault.now message.now) }
+    ensures counted { Rises (is_err result) memory.old memory.new }
 {
-    put_named_hex("no message: ", message, "\n ", out)?;
-    out.extend_from_slice(fault.text().as_bytes())?;
-    out.extend_from_slice(b"\n")?;
+    put_named_hex("no message: ", message, "\n ", out, memory)?;
+    memory.extend(out, fault.text().as_bytes())?;
+    memory.extend(out, b"\n")?;
     Ok(())
 }
 
 /// Puts a message: its header and its addresses.
-fn put_message(message: &[u8], out: &mut Vec<u8>) -> Result<(), AllocError>
+fn put_message(message: &[u8], out: &mut Vec<u8>, memory: &mut Memory) -> Result<(), AllocError>
     requires { size_of_header message.now ≤ length message.now }
-    ensures { OnOk result (out.new.items ≡ out.old.items ++ message_text message.now) }
+    ensures text { OnOk result (out.new.items ≡ out.old.items ++ message_text message.now) }
+    ensures counted { Rises (is_err result) memory.old memory.new }
 {
     if is_about_address(message) {
-        put_ifa_header(message, out)?;
+        put_ifa_header(message, out, memory)?;
     } else {
-        put_route_header(message, out)?;
+        put_route_header(message, out, memory)?;
     }
-    put_addresses(addrs(message), body(message), out)?;
+    put_addresses(addrs(message), body(message), out, memory)?;
     Ok(())
 }

@@ -1,13 +1,15 @@
 //! The words of the command line, of which the first is the program's name.
-ghost use Rattle.std.specs.Prelude.{◌≡◌, ◌≢◌, ◌⊎◌, [], Err, IfErr, IfOk, MatchResult, map, option_map};
+ghost use Rattle.std.specs.Prelude.{◌≡◌, ◌≢◌, ◌⊎◌, [], Err, IfErr, IfOk, MatchResult, is_err, map, option_map};
 ghost use Rattle.std.specs.IoError.{error_kind};
 ghost use Rattle.std.specs.String.{string_bytes};
 ghost use Rattle.std.specs.Vec.Iter.{into_iter_items};
+ghost use Rattle.memory.specs.Refusing.{Rises};
 ghost use Rattle.program_ends.specs.CommandLine.{faults_of, file_of};
 ghost use Rattle.program_ends.specs.declared.refusal.Refusal.TheVariants.{NoMemory, Usage};
 
 use crate::Refusal;
 use clap::{Arg, Command};
+use memory::Memory;
 use std::alloc::Global;
 use std::env;
 use std::env::{Args, Env};
@@ -28,14 +30,20 @@ fn words_refused(error: &io::Error) -> Refusal
 pub fn words_of<R: Env + AllocGlobal>(rt: &R) -> Result<Vec<String>, Refusal>
     ensures { IfErr result (λ why. (why ≡ NoMemory) ⊎ (why ≡ Usage)) }
 {
-    words_in(rt.alloc(), env::args(rt))
+    words_in(rt.alloc(), env::args(rt), &mut Memory::new())
 }
 
-/// These words, all of them and in their order, where they could be had.
-fn words_in(alloc: Global, given: io::Result<Args>) -> Result<Vec<String>, Refusal>
+/// These words, all of them and in their order, where they could be had. What is refused of room for them is counted.
+fn words_in(
+    alloc: Global,
+    given: io::Result<Args>,
+    memory: &mut Memory,
+) -> Result<Vec<String>, Refusal>
     ensures words { IfOk given (λ words. MatchResult result (λ all. all.items ≡ into_iter_items words) (λ why. why ≡ NoMemory)) }
     ensures memory { IfErr given (λ error. error_kind error ≡ ErrorKind.OutOfMemory → result ≡ Err NoMemory) }
     ensures other { IfErr given (λ error. error_kind error ≢ ErrorKind.OutOfMemory → result ≡ Err Usage) }
+    ensures counted { IfOk given (λ _. Rises (is_err result) memory.old memory.new) }
+    ensures uncounted { IfErr given (λ _. memory.new ≡ memory.old) }
 {
     let given = match given {
         Ok(given) => given,
@@ -43,7 +51,7 @@ fn words_in(alloc: Global, given: io::Result<Args>) -> Result<Vec<String>, Refus
     };
     let mut words = Vec::new(alloc);
     for word in given {
-        let Ok(()) = words.push(word) else {
+        let Ok(()) = memory.push(&mut words, word) else {
             return Err(Refusal::NoMemory);
         };
     }

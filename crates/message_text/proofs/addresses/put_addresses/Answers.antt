@@ -5,12 +5,12 @@ use Rattle.message_text.specs.Addresses.{place, places}
 use Rattle.message_text.proofs.Onto.{lines_then}
 use Rattle.message_text.proofs.addresses.put_addresses.Goals as goal
 
-pub returns : goal.returns
-returns c =
+pub returns-clause-text : goal.returns-clause-text
+returns-clause-text c =
     let addrs = c.args.addrs in
     let end = c.put_rest.new.out.items in
     let from_brd = lines_then (place RTA_BRD (codes " BRD ") false) (drop 8 places) addrs c.in_ok-bytes-7.bytes.now c.in_ok-bytes-8.bytes.now c.put_address_line-7.new.out.items c.put_address_line-8.new.out.items end
-    c.in_ok-bytes-8.ensures.text c.in_ok-bytes-8.ensures.rest c.in_ok-put_rest.ensures in
+    c.in_ok-bytes-8.ensures.text c.in_ok-bytes-8.ensures.rest c.in_ok-put_rest.ensures.text in
     let from_author = lines_then (place RTA_AUTHOR (codes " AUTHOR ") false) (drop 7 places) addrs c.in_ok-bytes-6.bytes.now c.in_ok-bytes-7.bytes.now c.put_address_line-6.new.out.items c.put_address_line-7.new.out.items end
     c.in_ok-bytes-7.ensures.text c.in_ok-bytes-7.ensures.rest from_brd in
     let from_ifa = lines_then (place RTA_IFA (codes " IFA ") false) (drop 6 places) addrs c.in_ok-bytes-5.bytes.now c.in_ok-bytes-6.bytes.now c.put_address_line-5.new.out.items c.put_address_line-6.new.out.items end

@@ -4,11 +4,11 @@ use Rattle.message_text.proofs.Joined.{flag_names_parted}
 use Rattle.message_text.proofs.Onto.{onto}
 use Rattle.message_text.proofs.names.put_flag_names.Goals as goal
 
-pub returns : goal.returns
-returns c =
+pub returns-clause-text : goal.returns-clause-text
+returns-clause-text c =
     let flags = c.args.flags in
     let old = c.args.out.now.items in
-    let high = c.in_ok-put_high_flag_names.ensures
+    let high = c.in_ok-put_high_flag_names.ensures.text
     ∙ ap (λ (first : Bool). c.put_low_flag_names.new.out.items ++ names_from first high_flag_names flags) c.in_ok-first.ensures.first in
     onto old (names_from true low_flag_names flags) (names_from (first_after true low_flag_names flags) high_flag_names flags)
     c.put_low_flag_names.new.out.items c.put_high_flag_names.new.out.items c.in_ok-first.ensures.text high
