@@ -1,5 +1,5 @@
 -- How what is shown of the parts of a text is put together, and the steps of a run.
-use Rattle.std.proofs.Common.{◌≡◌, ◌⊎◌, ◌||◌, ℕ, true, false, cond, List, [], ◌∷◌, ◌++◌, Option, Result, Ok, Err, refl, sym, ap, ◌∙◌, subst, append_assoc, append-nil, inl, inr, ◌+◌, length, length-take-le, take, drop, take-append-drop, suc, ◌<◌, arith}
+use Rattle.std.proofs.Common.{◌≡◌, ◌⊎◌, ◌||◌, ℕ, true, false, cond, List, [], ◌∷◌, ◌++◌, Option, Some, None, Result, Ok, Err, refl, sym, ap, ◌∙◌, subst, append_assoc, append-nil, inl, inr, ◌+◌, length, length-take-le, take, drop, take-append-drop, length-append, suc, ◌<◌, ◌≤◌, arith}
 use Rattle.std.specs.Prelude.{IfErr, IfSome, flat_map}
 use Rattle.std.specs.Result.{IsErrAnd}
 use Rattle.std.specs.Io.KnownBytes.{Appends, Consumes, IsAtEnd, Keeps}
@@ -15,8 +15,9 @@ use Rattle.program_ends.specs.declared.outcome.Outcome.{Outcome}
 use Rattle.program_ends.specs.declared.outcome.Outcome.TheVariants.{Done, BadLine, ReadFault, WriteFault, NoMemory}
 use Rattle.show_main.specs.declared.lines.Fault.{Fault}
 use Rattle.show_main.specs.declared.lines.Fault.TheVariants as fault
-use Rattle.show_main.specs.Ends.{Ends, ShowedFrontOf, WroteFrontOf}
-use Rattle.show_main.specs.Faults.{ShowedBefore, ShowedFront, failures_of}
+use Rattle.memory.specs.Refusing.{Rises}
+use Rattle.show_main.specs.Ends.{Ends, EndsCounted, ShowedFrontOf, WroteFrontOf}
+use Rattle.show_main.specs.Faults.{ShowedBefore, ShowedFront, failures_of, is_want_of_memory}
 use Rattle.show_main.specs.Progress.{Finishes, Reached}
 use Rattle.show_main.specs.Shown.{shown_ended, shown_line, shown_text}
 
@@ -240,6 +241,52 @@ ShowedBefore-stopped {contents = contents} {f = f} {a = a} {d = d} p q = subst (
 pub by_error : {X E : Type 0} (r : Result X E) {P Q : E → Type 0} → IsErrAnd r P → ((e : E) → P e → Q e) → IfErr r Q
 by_error (Ok x) p f = tt
 by_error (Err e) p f = f e p
+
+-- what stands behind a newline is no longer than the bytes
+pub shorter : {bytes : List ℕ} {n : ℕ} (front behind : List ℕ) → bytes ≡ front ++ 10 ∷ behind → length bytes ≤ n → length behind ≤ n
+shorter {bytes} {n} front behind is most =
+    let long : length bytes ≡ length front + suc (length behind) = ap length is ∙ length-append front (10 ∷ behind) in
+    omega (arith, long, most)
+
+-- ---- memory that was refused
+
+at_most : (f : Fault) (low high : ℕ) → Rises (is_want_of_memory f) low high → low ≤ high
+at_most fault.Stopped low high rises = omega (arith, rises)
+at_most fault.NoMemory low high rises = omega (arith, rises)
+
+-- a run that was stopped, by its writer or for want of memory
+pub counted-stopped : (outcome : Outcome) (f : Fault) (low high : ℕ) → (outcome ≡ WriteFault) ⊎ (outcome ≡ NoMemory)
+    → (outcome ≡ NoMemory → f ≡ fault.NoMemory) → Rises (is_want_of_memory f) low high → EndsCounted outcome low high
+counted-stopped outcome f low high (inl is) cause rises = subst (λ (o : Outcome). EndsCounted o low high) (sym is) (at_most f low high rises)
+counted-stopped outcome f low high (inr is) cause rises = subst (λ (o : Outcome). EndsCounted o low high) (sym is)
+    (subst (λ (e : Fault). Rises (is_want_of_memory e) low high) (cause is) rises)
+
+pub short_of : (outcome : Outcome) (failures low high : ℕ) → EndsCounted outcome low high → (outcome ≡ WriteFault → failures ≡ 1) → low < high
+    → (outcome ≡ NoMemory) ⊎ ((outcome ≡ WriteFault) × (failures ≡ 1))
+short_of Done failures low high counted fails less = absurd (omega (arith, counted, less))
+short_of BadLine failures low high counted fails less = absurd counted
+short_of ReadFault failures low high counted fails less = absurd (omega (arith, counted, less))
+short_of WriteFault failures low high counted fails less = inr (refl, fails refl)
+short_of NoMemory failures low high counted fails less = inl refl
+
+if_some : (text : Option (List ℕ)) {P Q : List ℕ → Type 0} → ((t : List ℕ) → P t → Q t) → IfSome text P → IfSome text Q
+if_some None f p = tt
+if_some (Some t) f p = f t p
+
+-- where nothing was refused and nothing failed, a text of fewer bytes than there are reads is shown
+pub exact_of : (outcome : Outcome) (before after old new : Option (List ℕ)) (low high read_failures write_failures reads most : ℕ)
+    → Ends outcome before after old new → EndsCounted outcome low high → (outcome ≡ WriteFault → write_failures ≡ 1)
+    → (outcome ≡ ReadFault → (read_failures ≡ 1) ⊎ ((reads ≡ most) × IfSome before (λ text. most ≤ length text)))
+    → high ≡ low → read_failures ≡ 0 → write_failures ≡ 0 → IfSome before (λ text. length text < most → Appends old new (shown_text text))
+exact_of Done before after old new low high rf wf reads most ends counted write read same no_rf no_wf =
+    if_some before (λ text shown _. shown) (shown_of_all Done before after old new ends refl)
+exact_of BadLine before after old new low high rf wf reads most ends counted write read same no_rf no_wf = absurd ends
+exact_of ReadFault before after old new low high rf wf reads most ends counted write read same no_rf no_wf = elim (read refl) [
+  | inl failed ↦ absurd (omega (arith, failed, no_rf))
+  | inr spent ↦ if_some before (λ text long less. absurd (omega (arith, long, less))) spent.1
+]
+exact_of WriteFault before after old new low high rf wf reads most ends counted write read same no_rf no_wf = absurd (omega (arith, write refl, no_wf))
+exact_of NoMemory before after old new low high rf wf reads most ends counted write read same no_rf no_wf = absurd (omega (arith, counted, same))
 
 -- ---- the first newline
 

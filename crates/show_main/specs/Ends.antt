@@ -1,6 +1,6 @@
 -- What a run with an outcome did to its reader, which had `before` and has `after` left, and to its writer, which
 -- held `old` and holds `new`.
-use Rattle.std.specs.Prelude.{◌≡◌, List, ◌++◌, ℕ, Option, ◌⊎◌}
+use Rattle.std.specs.Prelude.{◌≡◌, ◌<◌, ◌≤◌, List, ◌++◌, ℕ, Option, ◌⊎◌}
 use Rattle.std.specs.Io.KnownBytes.{Appends, Consumes, IsAtEnd}
 use Rattle.program_ends.specs.declared.outcome.Outcome.{Outcome}
 use Rattle.program_ends.specs.declared.outcome.Outcome.TheVariants.{Done, BadLine, ReadFault, WriteFault, NoMemory}
@@ -39,3 +39,12 @@ Ends BadLine before after old new = ⊥
 Ends ReadFault before after old new = ShowedEnded before after old new
 Ends WriteFault before after old new = ShowedFrontOf before after old new
 Ends NoMemory before after old new = ShowedFrontOf before after old new
+
+-- how often memory was refused before a run with this outcome, and after it. A want of memory ends the run, with its own
+-- outcome, or as a write fault where what was shown before it can't be flushed
+abbrev pub EndsCounted : Outcome → ℕ → ℕ → Type 0
+EndsCounted Done low high = high ≡ low
+EndsCounted BadLine low high = ⊥
+EndsCounted ReadFault low high = high ≡ low
+EndsCounted WriteFault low high = low ≤ high
+EndsCounted NoMemory low high = low < high

@@ -1,5 +1,5 @@
 -- What a call that shows some text did to its counted writer where it could not show all.
-use Rattle.std.specs.Prelude.{◌≡◌, ℕ, ◌+◌, List, ◌++◌, Option}
+use Rattle.std.specs.Prelude.{◌≡◌, ℕ, ◌+◌, Bool, true, false, List, ◌++◌, Option}
 use Rattle.std.specs.Io.KnownBytes.{Appends}
 use Rattle.event_file.specs.Counts.{Counts}
 use Rattle.event_file.specs.Output.{Wrote}
@@ -10,6 +10,11 @@ use Rattle.show_main.specs.declared.lines.Fault.TheVariants.{Stopped, NoMemory}
 abbrev pub failures_of : Fault → ℕ
 failures_of Stopped = 1
 failures_of NoMemory = 0
+
+-- whether there was no memory
+abbrev pub is_want_of_memory : Fault → Bool
+is_want_of_memory Stopped = false
+is_want_of_memory NoMemory = true
 
 -- the writer took what stands before some unwritten rest of the text
 pub record ShowedFront (fault : Fault) {T : Type 0} (contents : T → Option (List ℕ)) (old new : Counts T) (text : List ℕ) : Type 0 where

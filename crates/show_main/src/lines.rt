@@ -1,14 +1,16 @@
 //! The lines of a text, each shown as it ends.
-ghost use Rattle.std.specs.Prelude.{◌≡◌, ◌∷◌, ◌++◌, false, IfErr, IfNone, IfSome, OnOk, position};
+ghost use Rattle.std.specs.Prelude.{◌≡◌, ◌≤◌, ◌∷◌, ◌++◌, false, length, IfErr, IfNone, IfSome, OnOk, position};
 ghost use Rattle.event_file.specs.Lines.{begun_line, has_newline, is_newline};
 ghost use Rattle.event_file.specs.Output.{Wrote};
-ghost use Rattle.show_main.specs.Faults.{ShowedFront};
+ghost use Rattle.memory.specs.Refusing.{Rises};
+ghost use Rattle.show_main.specs.Faults.{ShowedFront, is_want_of_memory};
 ghost use Rattle.show_main.specs.Shown.{shown_ended, shown_line as shown};
 ghost use Rattle.show_main.specs.declared.lines.Fault.TheVariants.{NoMemory, Stopped as WriterStopped};
 
 use crate::messages::message_in;
 use event_file::{Counted, Stopped, write_bytes};
-use message_text::text_of;
+use memory::{MOST_ASKED, Memory};
+use message_text::text_of_counted;
 use std::alloc::{AllocError, Global};
 use std::io::Write;
 
@@ -43,22 +45,26 @@ pub(crate) fn show_bytes<W: Write>(
     line: &mut Vec<u8>,
     bytes: &[u8],
     writer: &mut Counted<W>,
+    memory: &mut Memory,
 ) -> Result<(), Fault>
+    requires modest { length bytes.now ≤ MOST_ASKED }
     requires begun { has_newline line.old.items ≡ false }
     requires no_failure { writer.old.failures ≡ 0 }
     ensures shown { OnOk result (Wrote W.contents writer.old writer.new (shown_ended (line.old.items ++ bytes.now))) }
     ensures begun { OnOk result (line.new.items ≡ begun_line (line.old.items ++ bytes.now)) }
     ensures fault { IfErr result (λ fault. ShowedFront fault W.contents writer.old writer.new
         (shown_ended (line.old.items ++ bytes.now))) }
+    ensures kept { OnOk result (memory.new ≡ memory.old) }
+    ensures refused { IfErr result (λ fault. Rises (is_want_of_memory fault) memory.old memory.new) }
 {
     let mut rest = bytes;
     while let Some((front, behind)) = cut_line(rest) {
-        line.extend_from_slice(front)?;
-        show_line(alloc, line, b"\n", writer)?;
+        memory.extend(line, front)?;
+        show_line(alloc, line, b"\n", writer, memory)?;
         line.clear();
         rest = behind;
     }
-    line.extend_from_slice(rest)?;
+    memory.extend(line, rest)?;
     Ok(())
 }
 
@@ -85,14 +91,17 @@ pub(crate) fn show_line<W: Write>(
     line: &[u8],
     end: &[u8],
     writer: &mut Counted<W>,
+    memory: &mut Memory,
 ) -> Result<(), Fault>
     requires no_failure { writer.old.failures ≡ 0 }
     ensures shown { OnOk result (Wrote W.contents writer.old writer.new (shown line.now end.now)) }
     ensures fault { IfErr result (λ fault. ShowedFront fault W.contents writer.old writer.new (shown line.now end.now)) }
+    ensures kept { OnOk result (memory.new ≡ memory.old) }
+    ensures refused { IfErr result (λ fault. Rises (is_want_of_memory fault) memory.old memory.new) }
 {
-    match message_in(alloc, line)? {
+    match message_in(alloc, line, memory)? {
         Some(message) => {
-            let text = text_of(alloc, &message)?;
+            let text = text_of_counted(alloc, &message, memory)?;
             write_bytes(&text, writer)?;
         }
         None => {

@@ -1,9 +1,10 @@
 //! The lines that tell a message.
-ghost use Rattle.std.specs.Prelude.{◌≡◌, IfOk, option_map};
+ghost use Rattle.std.specs.Prelude.{◌≡◌, IfOk, is_err, length, option_map};
 ghost use Rattle.std.specs.List.{list_all};
+ghost use Rattle.memory.specs.Refusing.{Rises};
 ghost use Rattle.show_main.specs.Shown.{digits_of, is_lower_digit as is_digit, message_in as message_told};
 
-use hex::FromHexError;
+use memory::{MOST_ASKED, Memory};
 use std::alloc::{AllocError, Global};
 
 /// Whether bytes are lower-case hexadecimal digits.
@@ -27,16 +28,37 @@ fn digits_in(line: &[u8]) -> Option<&[u8]>
     }
 }
 
-/// The message that a line tells, where it tells one. `Err` for want of memory alone.
-pub(crate) fn message_in(alloc: Global, line: &[u8]) -> Result<Option<Vec<u8>>, AllocError>
-    ensures { IfOk result (λ message. option_map (λ m. m.items) message ≡ message_told line.now) }
+/// The message that a line tells, where it tells one. `Err` for want of memory alone, which is counted.
+pub(crate) fn message_in(
+    alloc: Global,
+    line: &[u8],
+    memory: &mut Memory,
+) -> Result<Option<Vec<u8>>, AllocError>
+    ensures message { IfOk result (λ message. option_map (λ m. m.items) message ≡ message_told line.now) }
+    ensures counted { Rises (is_err result) memory.old memory.new }
 {
     let Some(digits) = digits_in(line) else {
         return Ok(None);
     };
-    match hex::decode(alloc, digits) {
-        Ok(message) => Ok(Some(message)),
-        Err(FromHexError::OutOfMemory) => Err(AllocError),
+    if digits.len() % 2 == 1 {
+        return Ok(None);
+    }
+    let mut message = zeros(alloc, digits.len() / 2, memory)?;
+    match hex::decode_to_slice(digits, &mut message) {
+        Ok(()) => Ok(Some(message)),
         Err(_) => Ok(None),
     }
+}
+
+/// As many bytes of 0, however many these are: past what may be asked for at once in small pieces.
+fn zeros(alloc: Global, n: usize, memory: &mut Memory) -> Result<Vec<u8>, AllocError>
+    ensures size { IfOk result (λ bytes. length bytes.items ≡ n) }
+    ensures counted { Rises (is_err result) memory.old memory.new }
+{
+    let mut bytes = memory.zeros(alloc, n.min(MOST_ASKED))?;
+    while bytes.len() < n {
+        let more = (n - bytes.len()).min(256);
+        memory.extend(&mut bytes, &[0; 256][..more])?;
+    }
+    Ok(bytes)
 }

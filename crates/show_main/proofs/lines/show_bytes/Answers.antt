@@ -1,6 +1,6 @@
 use Rattle.std.proofs.Common.{◌∙◌, ◌++◌, sym, rules}
 use Rattle.show_main.specs.Shown.{shown_ended}
-use Rattle.show_main.proofs.ShownLemmas.{ShowedBefore-all, ShowedBefore-line, ShowedBefore-stopped, ShowedFront-more, begun_line-all, begun_line-parted, by_error, no_newline-append, shown_ended-parted}
+use Rattle.show_main.proofs.ShownLemmas.{ShowedBefore-all, ShowedBefore-line, ShowedBefore-stopped, ShowedFront-more, begun_line-all, begun_line-parted, by_error, no_newline-append, shorter, shown_ended-parted}
 use Rattle.show_main.proofs.lines.show_bytes.Goals as goal
 
 pub returns-in_err-show_line-clause-fault : goal.returns-in_err-show_line-clause-fault
@@ -10,7 +10,7 @@ returns-in_err-show_line-clause-fault g c =
     let parts = shown_ended-parted line front c.loop-front.rest.now c.in-Some.behind.now c.in-Some.ensures.whole c.loop-front.invariant.begun c.in-Some.ensures.first in
     by_error c.from_residual-in_err-show_line.result c.from_residual-in_err-show_line.ensures.1
     (λ f is. ShowedBefore-stopped c.loop-front.invariant.shown (rw (parts, is) (ShowedFront-more (shown_ended c.in-Some.behind.now)
-    (rw (← c.in_ok-extend_from_slice.ensures.items, ← c.deref.ensures.value) c.in_err-show_line.ensures.fault))))
+    (rw (← c.in_ok-extend.ensures.ok, ← c.deref.ensures.value) c.in_err-show_line.ensures.fault))))
 
 pub loop-front-preserved : goal.loop-front-preserved
 loop-front-preserved g c =
@@ -19,8 +19,10 @@ loop-front-preserved g c =
     record {
       begun = search rules;
       no_failure = search rules;
+      memory = search rules;
+      modest = shorter front c.in-Some.behind.now c.in-Some.ensures.whole c.loop-front.invariant.modest;
       shown = rw c.clear.ensures.items (ShowedBefore-line line front c.loop-front.rest.now c.in-Some.behind.now c.loop-front.invariant.shown c.in-Some.ensures.whole
-          c.loop-front.invariant.begun c.in-Some.ensures.first (rw (← c.in_ok-extend_from_slice.ensures.items, ← c.deref.ensures.value) c.in_ok-show_line.ensures.shown));
+          c.loop-front.invariant.begun c.in-Some.ensures.first (rw (← c.in_ok-extend.ensures.ok, ← c.deref.ensures.value) c.in_ok-show_line.ensures.shown));
       leaves = rw c.clear.ensures.items (c.loop-front.invariant.leaves ∙ begun_line-parted line front c.loop-front.rest.now c.in-Some.behind.now c.in-Some.ensures.whole);
     }
 
@@ -31,6 +33,6 @@ returns-clause-shown g c =
 
 pub returns-clause-begun : goal.returns-clause-begun
 returns-clause-begun g c =
-    c.in_ok-extend_from_slice-2.ensures.items
+    c.in_ok-extend-2.ensures.ok
     ∙ sym (begun_line-all (c.loop-front.line.items ++ c.loop-front.rest.now) (no_newline-append c.loop-front.line.items c.loop-front.rest.now c.loop-front.invariant.begun c.in_default.ensures.none))
     ∙ sym c.loop-front.invariant.leaves

@@ -25,6 +25,7 @@ loop-turn-preserved g c =
       reads = search rules;
       no_read_failure = search rules;
       no_write_failure = search rules;
+      memory = search rules;
       room = grind arith;
       prompt = search rules;
       flushed = search rules;

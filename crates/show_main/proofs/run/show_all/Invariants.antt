@@ -10,6 +10,7 @@ invariant-loop-turn g l = record {
   reads : l.reader.reads ≡ l._turn;
   no_read_failure : l.reader.failures ≡ 0;
   no_write_failure : l.writer.failures ≡ 0;
+  memory : l.memory ≡ l.initial.memory;
   room : READ_ROOM ≤ l.initial.reader.least_room → READ_ROOM ≤ l.reader.least_room;
   prompt : l.initial.writer.unflushed ≡ false → l.reader.early_reads ≡ l.initial.reader.early_reads;
   flushed : l.initial.writer.unflushed ≡ false → l.writer.unflushed ≡ false;
