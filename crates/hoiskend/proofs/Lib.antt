@@ -1,2 +1,3 @@
 pub mod CallsRun
 pub mod Memory
+pub mod Spared

@@ -11,7 +11,7 @@ use Rattle.event_file.specs.Grammar.{command_of}
 use Rattle.event_file.specs.Lines.{is_passed, kept}
 use Rattle.event_file.specs.declared.bad.Bad.{Bad}
 use Rattle.route_core.specs.Commands.{Command}
-use Rattle.route_core.specs.Step.{Steps}
+use Rattle.route_core.specs.Step.{Steps, lacks_memory}
 use Rattle.route_core.specs.World.{World, empty_world}
 use Rattle.route_core.specs.declared.answer.Answer.{Answer}
 use Rattle.route_core.specs.declared.answer.Answer.TheVariants.{Done, Refused, Routed, Dropped, Size, Messages}
@@ -41,6 +41,12 @@ code_of (Dropped choice) = 0
 code_of (Size size) = 0
 code_of (Messages messages None) = 0
 code_of (Messages messages (Some errno)) = errno_number errno
+
+-- what was answered last is that there was no memory
+abbrev pub is_short : Option (Result Answer Bad) → Bool
+is_short None = false
+is_short (Some (Ok answer)) = lacks_memory answer
+is_short (Some (Err bad)) = false
 
 -- the command reads a socket
 abbrev pub is_read : Command → Bool

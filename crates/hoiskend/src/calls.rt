@@ -167,7 +167,7 @@ pub extern "C" fn hk_lost_n(world: &mut Handle, id: &[u8], lost: &mut u64) -> u3
     let Some(said) = asked::lost(id) else {
         return Errno::EINVAL.number();
     };
-    world.lend().size(&said, lost)
+    world.lend().size(&said, lost, &mut Memory::new())
 }
 
 /// Finds the route of a packet, and counts its use. No text is made, and memory is asked for only where the route
@@ -182,7 +182,9 @@ pub extern "C" fn hk_packet(world: &mut Handle, destination: u32, route: &mut Ro
     if !world.is_open() {
         return Errno::EINVAL.number();
     }
-    world.lend().packet(Inet::new(destination), route)
+    world
+        .lend()
+        .packet(Inet::new(destination), route, &mut Memory::new())
 }
 
 /// Follows a redirect.
@@ -225,7 +227,7 @@ pub extern "C" fn hk_dump_size(
         return Errno::EINVAL.number();
     }
     let said = asked::dump_size(has_filter, filter);
-    world.lend().size(&said, size)
+    world.lend().size(&said, size, &mut Memory::new())
 }
 
 /// Dumps routes into so many bytes, for `hk_fetch`.
@@ -247,7 +249,7 @@ pub extern "C" fn hk_line(world: &mut Handle, line: &[u8]) -> u32
     if !world.is_open() {
         return Errno::EINVAL.number();
     }
-    world.lend().heed(line)
+    world.lend().heed(line, &mut Memory::new())
 }
 
 /// Puts the messages of the last answer to the front of `out`, where there is room for all of them, and answers how
@@ -289,5 +291,5 @@ fn obey(world: &mut Handle, said: Option<Said<'_>>) -> u32
     let Some(said) = said else {
         return Errno::EINVAL.number();
     };
-    world.lend().obey(&said)
+    world.lend().obey(&said, &mut Memory::new())
 }

@@ -4,15 +4,16 @@ ghost use Rattle.memory.specs.Refusing.{Rises};
 ghost use Rattle.event_file.specs.Answers.{response_text};
 ghost use Rattle.event_file.specs.Given.{given};
 ghost use Rattle.listeners.specs.Queue.{joined};
-ghost use Rattle.route_core.specs.Step.{Steps};
+ghost use Rattle.route_core.specs.Step.{Steps, lacks_memory};
 ghost use Rattle.route_core.specs.declared.answer.Answer.TheVariants.{Messages};
 ghost use Rattle.route_core.specs.declared.command.Command.TheVariants.{Packet, Read as ReadOf};
-ghost use Rattle.hoiskend.specs.Sessions.{fresh, Answers, Heeds, code_of as code, heard, is_read, route_in, size_in, text_of, told_by};
+ghost use Rattle.hoiskend.specs.Sessions.{fresh, Answers, Heeds, code_of as code, heard, is_read, is_short, route_in, size_in, text_of, told_by};
 
 use crate::codes::BAD;
 use crate::route::Route;
 use event_file::{Bad, give_text, is_passed, read_said};
 use memory::Memory;
+use route_core::laws::effects_have_memory;
 use route_core::{Answer, Command, MOST_WRITTEN, Queue, Received, Said, World};
 use sock_addrs::{Inet, Name};
 use std::alloc::{AllocError, Global};
@@ -60,23 +61,31 @@ impl Session {
         })
     }
 
-    /// Gives the world a command, and answers its code: 0, or the errno of what refused it.
-    pub(crate) fn obey(&mut self, said: &Said<'_>) -> u32
-        ensures { Answers self.old.world said.now result self.new.response self.new.world }
+    /// Gives the world a command, and answers its code: 0, or the errno of what refused it. Where the answer is that there
+    /// is no memory, and only there, it was refused, and counted.
+    pub(crate) fn obey(&mut self, said: &Said<'_>, memory: &mut Memory) -> u32
+        ensures step { Answers self.old.world said.now result self.new.response self.new.world }
+        ensures counted { Rises (is_short self.new.response) memory.old memory.new }
     {
         if let Command::Read { id } = said {
             return self.read(*id);
         }
-        let answer = answer_to(&mut self.world, said);
+        let answer = answer_to(&mut self.world, said, memory);
         self.keep(answer)
     }
 
     /// Finds the route of a packet, and puts it into `route`, where there is one. Answers as `obey`.
-    pub(crate) fn packet(&mut self, destination: Inet, route: &mut Route) -> u32
+    pub(crate) fn packet(
+        &mut self,
+        destination: Inet,
+        route: &mut Route,
+        memory: &mut Memory,
+    ) -> u32
         ensures step { Answers self.old.world (Packet destination) result self.new.response self.new.world }
         ensures route { route.new ≡ unwrap_or (told_by route_in self.new.response) route.old }
+        ensures counted { Rises (is_short self.new.response) memory.old memory.new }
     {
-        let answer = self.world.packet(destination);
+        let answer = self.world.packet_counted(destination, memory);
         match &answer {
             Answer::Routed(choice) => *route = Route::of(choice, false),
             Answer::Dropped(choice) => *route = Route::of(choice, true),
@@ -86,11 +95,12 @@ impl Session {
     }
 
     /// Gives the world a command, and puts the size that it is answered into `size`, where it is one. Answers as `obey`.
-    pub(crate) fn size(&mut self, said: &Said<'_>, size: &mut u64) -> u32
+    pub(crate) fn size(&mut self, said: &Said<'_>, size: &mut u64, memory: &mut Memory) -> u32
         ensures step { Answers self.old.world said.now result self.new.response self.new.world }
         ensures size { size.new ≡ unwrap_or (told_by size_in self.new.response) size.old }
+        ensures counted { Rises (is_short self.new.response) memory.old memory.new }
     {
-        let code = self.obey(said);
+        let code = self.obey(said, memory);
         if let Last::Response(Ok(Answer::Size(told))) = &self.last {
             *size = *told;
         }
@@ -99,15 +109,16 @@ impl Session {
 
     /// Takes a line of a script, without its newline, and answers the code of its command, as `obey`; 0 where it gives no
     /// answer; or `BAD` where the grammar doesn't have it.
-    pub(crate) fn heed(&mut self, line: &[u8]) -> u32
-        ensures { Heeds self.old line.now result self.new }
+    pub(crate) fn heed(&mut self, line: &[u8], memory: &mut Memory) -> u32
+        ensures heeds { Heeds self.old line.now result self.new }
+        ensures counted { Rises (is_short self.new.response) memory.old memory.new }
     {
         if is_passed(line) {
             return self.pass();
         }
         let mut room = [0; MOST_WRITTEN];
         match read_said(line, &mut room) {
-            Ok(said) => self.obey(&said),
+            Ok(said) => self.obey(&said, memory),
             Err(bad) => self.reject(bad),
         }
     }
@@ -145,8 +156,10 @@ impl Session {
 
     /// Takes the messages of a socket. Answers as `obey`.
     fn read(&mut self, id: Name) -> u32
-        ensures { Answers self.old.world (ReadOf id) result self.new.response self.new.world }
+        ensures step { Answers self.old.world (ReadOf id) result self.new.response self.new.world }
+        ensures spared { is_short self.new.response ≡ false }
     {
+        effects_have_memory();
         match self.world.move_to(id, &mut self.read) {
             Ok(()) => told_read(&mut self.last),
             Err(errno) => self.keep(Answer::Refused(errno)),
@@ -192,36 +205,38 @@ fn told_read(last: &mut Last) -> u32
 }
 
 /// Gives a world a command that is no read.
-fn answer_to(world: &mut World, said: &Said<'_>) -> Answer<'static>
+fn answer_to(world: &mut World, said: &Said<'_>, memory: &mut Memory) -> Answer<'static>
     requires { is_read said.now ≡ false }
-    ensures { Steps world.old said.now result world.new }
+    ensures step { Steps world.old said.now result world.new }
+    ensures counted { Rises (lacks_memory result) memory.old memory.new }
 {
+    effects_have_memory();
     match said {
         Command::Attach {
             name,
             kind,
             type_number,
             link,
-        } => world.attach(*name, *kind, *type_number, *link),
+        } => world.attach_counted(*name, *kind, *type_number, *link, memory),
         Command::AddAddress {
             name,
             address,
             prefix,
             cloning,
             far,
-        } => world.add_address(*name, *address, *prefix, *cloning, *far),
+        } => world.add_address_counted(*name, *address, *prefix, *cloning, *far, memory),
         Command::RemoveAddress { name, address } => world.remove_address(*name, *address),
-        Command::Open { id, pid, protocol } => world.listen(*id, *pid, *protocol),
+        Command::Open { id, pid, protocol } => world.listen_counted(*id, *pid, *protocol, memory),
         Command::Close { id } => world.shut(*id),
         Command::Loopback { id, on } => world.set_loopback(*id, *on),
-        Command::Write { id, bytes } => world.write(*id, bytes.as_slice()),
+        Command::Write { id, bytes } => world.write_counted(*id, bytes.as_slice(), memory),
         Command::Read { .. } => unreachable!(),
         Command::Lost { id } => world.lost(*id),
-        Command::Packet { destination } => world.packet(*destination),
-        Command::Redirect(asked) => world.redirect(asked),
+        Command::Packet { destination } => world.packet_counted(*destination, memory),
+        Command::Redirect(asked) => world.redirect_counted(asked, memory),
         Command::Losing { destination } => world.losing(*destination),
         Command::DumpSize { filter } => world.dump_size(*filter),
-        Command::Dump { filter, room } => world.dump(*filter, *room),
+        Command::Dump { filter, room } => world.dump_counted(*filter, *room, memory),
     }
 }
 
