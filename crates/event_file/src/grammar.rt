@@ -151,7 +151,9 @@ fn write<'a>(words: &[&[u8]], room: &'a mut [u8]) -> Option<Said<'a>>
     })
 }
 
-/// `ID SEQ VERB DEST OPTION..`, behind `route`: a write of the message that they compose.
+/// `ID SEQ VERB DEST OPTION..`, behind `route`: a write of the message that they compose. It is not inlined, so that what
+/// it makes is cleared for no other line.
+#[inline(never)]
 fn route<'a>(words: &[&[u8]], room: &'a mut [u8]) -> Option<Said<'a>>
     requires { length room.old ≡ MOST_WRITTEN }
     ensures { result ≡ route_form (map (λ w. w.now) words.now) }

@@ -1,10 +1,11 @@
 //! The words behind `route`.
-ghost use Rattle.std.specs.Prelude.{◌≡◌, ◌≤◌, length, map, bytes_eq, option_map, MatchOption, IfSome, Some, None};
+ghost use Rattle.std.specs.Prelude.{◌≡◌, length, map, bytes_eq, option_map, Some, None};
+ghost use Rattle.event_file.specs.RouteWords.{composed};
 ghost use Rattle.event_file.specs.Words.{parted_by};
 ghost use Rattle.event_file.specs.RouteLine.{address_options, behind_addresses, behind_bits, bit_options, destination_of, destination_of_parts, gate_if_written, hex_if_written, if_none_left as unless_left, mask_if_written, message_of, metric_options, number_if_written, route_words_of, verb_of};
 
 use crate::numbers::{read_hex, read_inet, read_number, read_prefix};
-use crate::route_words::{MetricWords, RouteWords, Verb, compose};
+use crate::route_words::{MetricWords, RouteWords, Verb, put_composed};
 use crate::texts::read_gate;
 use crate::words::{Options, if_written, is, parted};
 use mask_table::Prefix;
@@ -118,6 +119,14 @@ fn read_addresses(options: &mut Options) -> Option<AddressOptions>
     ensures rest { map (λ w. w.now) options.new.words.now
         ≡ behind_addresses (map (λ w. w.now) options.old.words.now) }
 {
+    if options.words.is_empty() {
+        return Some(AddressOptions {
+            gateway: None,
+            genmask: None,
+            ifp: None,
+            ifa: None,
+        });
+    }
     let via = options.word("via");
     let genmask = options.word("genmask");
     let ifp = options.word("ifp");
@@ -144,6 +153,13 @@ fn read_bits(options: &mut Options) -> Option<BitOptions>
     ensures rest { map (λ w. w.now) options.new.words.now
         ≡ behind_bits (map (λ w. w.now) options.old.words.now) }
 {
+    if options.words.is_empty() {
+        return Some(BitOptions {
+            flags: 0,
+            inits: 0,
+            locks: 0,
+        });
+    }
     let flags = options.word("flags");
     let inits = options.word("inits");
     let locks = options.word("locks");
@@ -158,6 +174,9 @@ fn read_bits(options: &mut Options) -> Option<BitOptions>
 fn read_metrics(mut options: Options) -> Option<MetricWords>
     ensures { result ≡ metric_options (map (λ w. w.now) options.entry.words.now) }
 {
+    if options.words.is_empty() {
+        return Some(MetricWords::default());
+    }
     let mtu = options.word("mtu");
     let hopcount = options.word("hopcount");
     let expire = options.word("expire");
@@ -219,16 +238,17 @@ fn read_route_words(words: &[&[u8]]) -> Option<RouteWords>
     })
 }
 
-/// The message that the words behind `route ID` compose.
-fn read_message(words: &[&[u8]]) -> Option<Message>
-    ensures message { MatchOption result (message_of (map (λ w. w.now) words.now) ≡ None)
-        (λ m. message_of (map (λ w. w.now) words.now) ≡ Some m.items) }
-    ensures most { IfSome result (λ m. length m.items ≤ 204) }
+/// Puts the message that these words compose into the front of `room`. Its own room is cleared, so it is made here alone.
+#[inline(never)]
+fn lend_composed<'a>(words: &RouteWords, room: &'a mut [u8]) -> Option<Lent<'a>>
+    requires { length room.old ≡ MOST_WRITTEN }
+    ensures { result ≡ Some (composed words.now) }
 {
-    match read_route_words(words) {
-        Some(route_words) => Some(compose(&route_words)),
-        None => None,
-    }
+    let mut message = Message::new();
+    put_composed(words, &mut message);
+    let bytes = &mut room[..message.len()];
+    bytes.copy_from_slice(message.as_slice());
+    Lent::new(bytes)
 }
 
 /// The message that the words behind `route ID` compose, put into the front of `room`.
@@ -236,8 +256,8 @@ pub(crate) fn read_composed<'a>(words: &[&[u8]], room: &'a mut [u8]) -> Option<L
     requires { length room.old ≡ MOST_WRITTEN }
     ensures { result ≡ message_of (map (λ w. w.now) words.now) }
 {
-    let message = read_message(words)?;
-    let bytes = &mut room[..message.len()];
-    bytes.copy_from_slice(message.as_slice());
-    Lent::new(bytes)
+    match read_route_words(words) {
+        Some(route_words) => lend_composed(&route_words, room),
+        None => None,
+    }
 }

@@ -9,7 +9,7 @@ use route_msgs::inits::{
     RTV_EXPIRE, RTV_HOPCOUNT, RTV_MTU, RTV_RPIPE, RTV_RTT, RTV_RTTVAR, RTV_SPIPE, RTV_SSTHRESH,
 };
 use route_msgs::kinds::{RTM_ADD, RTM_CHANGE, RTM_DELETE, RTM_GET, RTM_LOCK};
-use route_msgs::{AddrInfo, Header, Message, Metrics, Sockaddr, write_route_msg};
+use route_msgs::{AddrInfo, Header, Message, Metrics, Sockaddr, put_route_msg};
 use sock_addrs::{Gate, Inet};
 
 /// What a `route` line asks for.
@@ -101,7 +101,17 @@ pub fn compose(words: &RouteWords) -> Message
     ensures message { result.items ≡ composed words.now }
     ensures most { length result.items ≤ 204 }
 {
-    write_route_msg(&header(words), &addresses(words))
+    let mut message = Message::new();
+    put_composed(words, &mut message);
+    message
+}
+
+/// Makes the message that the words compose in the place of what is in `message`.
+pub(crate) fn put_composed(words: &RouteWords, message: &mut Message)
+    ensures message { message.new.items ≡ composed words.now }
+    ensures most { length message.new.items ≤ 204 }
+{
+    put_route_msg(&header(words), &addresses(words), message);
 }
 
 /// Its header.
