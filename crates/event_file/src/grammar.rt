@@ -19,7 +19,10 @@ const MOST_WORDS: usize = 35;
 /// The most words of the lines that come most often (`write`, `read`, `packet`), for which less room is made.
 const FEW_WORDS: usize = 3;
 
+// The forms are not inlined: what each makes of its words would else be cleared, and moved once more, for each other line.
+
 /// `NAME KIND T HEX`, behind `if`.
+#[inline(never)]
 fn attach(words: &[&[u8]]) -> Option<Said<'static>>
     ensures { result ≡ attach_form (map (λ w. w.now) words.now) }
 {
@@ -75,6 +78,7 @@ fn cloning(options: &[&[u8]]) -> Option<bool>
 }
 
 /// `NAME A/P`, and behind it `to A` and `cloning`, each where it is written; behind `addr`.
+#[inline(never)]
 fn add_address(words: &[&[u8]]) -> Option<Said<'static>>
     ensures { result ≡ add_address_form (map (λ w. w.now) words.now) }
 {
@@ -88,6 +92,7 @@ fn add_address(words: &[&[u8]]) -> Option<Said<'static>>
 }
 
 /// `NAME A`, behind `unaddr`.
+#[inline(never)]
 fn remove_address(words: &[&[u8]]) -> Option<Said<'static>>
     ensures { result ≡ remove_address_form (map (λ w. w.now) words.now) }
 {
@@ -101,6 +106,7 @@ fn remove_address(words: &[&[u8]]) -> Option<Said<'static>>
 }
 
 /// `ID PID PROTOCOL`, behind `open`.
+#[inline(never)]
 fn open(words: &[&[u8]]) -> Option<Said<'static>>
     ensures { result ≡ open_form (map (λ w. w.now) words.now) }
 {
@@ -115,6 +121,7 @@ fn open(words: &[&[u8]]) -> Option<Said<'static>>
 }
 
 /// `ID on` and `ID off`, behind `loopback`.
+#[inline(never)]
 fn loopback(words: &[&[u8]]) -> Option<Said<'static>>
     ensures { result ≡ loopback_form (map (λ w. w.now) words.now) }
 {
@@ -138,6 +145,7 @@ fn close(words: &[&[u8]]) -> Option<Said<'static>>
 }
 
 /// `ID HEX`, behind `write`.
+#[inline(never)]
 fn write<'a>(words: &[&[u8]], room: &'a mut [u8]) -> Option<Said<'a>>
     requires { length room.old ≡ MOST_WRITTEN }
     ensures { result ≡ write_form (map (λ w. w.now) words.now) }
@@ -151,8 +159,7 @@ fn write<'a>(words: &[&[u8]], room: &'a mut [u8]) -> Option<Said<'a>>
     })
 }
 
-/// `ID SEQ VERB DEST OPTION..`, behind `route`: a write of the message that they compose. It is not inlined, so that what
-/// it makes is cleared for no other line.
+/// `ID SEQ VERB DEST OPTION..`, behind `route`: a write of the message that they compose.
 #[inline(never)]
 fn route<'a>(words: &[&[u8]], room: &'a mut [u8]) -> Option<Said<'a>>
     requires { length room.old ≡ MOST_WRITTEN }
@@ -188,6 +195,7 @@ fn lost(words: &[&[u8]]) -> Option<Said<'static>>
 }
 
 /// `A`, behind `packet`.
+#[inline(never)]
 fn packet(words: &[&[u8]]) -> Option<Said<'static>>
     ensures { result ≡ packet_form (map (λ w. w.now) words.now) }
 {
@@ -211,6 +219,7 @@ fn redirect_to(destination: &[u8], gateway: &[u8], author: &[u8]) -> Option<Said
 }
 
 /// `A A A`, behind `redirect`: the destination, the gateway that it is reached by, and who says so.
+#[inline(never)]
 fn redirect(words: &[&[u8]]) -> Option<Said<'static>>
     ensures { result ≡ redirect_form (map (λ w. w.now) words.now) }
 {
@@ -221,6 +230,7 @@ fn redirect(words: &[&[u8]]) -> Option<Said<'static>>
 }
 
 /// `A`, behind `losing`.
+#[inline(never)]
 fn losing(words: &[&[u8]]) -> Option<Said<'static>>
     ensures { result ≡ losing_form (map (λ w. w.now) words.now) }
 {
@@ -253,6 +263,7 @@ fn filtered_dump(filter: Option<u32>, word: &[u8]) -> Option<Said<'static>>
 }
 
 /// `ask` or `N`, behind `dump`: of all routes.
+#[inline(never)]
 fn dump(words: &[&[u8]]) -> Option<Said<'static>>
     ensures { result ≡ dump_form (map (λ w. w.now) words.now) }
 {
@@ -263,6 +274,7 @@ fn dump(words: &[&[u8]]) -> Option<Said<'static>>
 }
 
 /// `X ask` or `X N`, behind `flags`: of the routes that have a flag of X.
+#[inline(never)]
 fn flags(words: &[&[u8]]) -> Option<Said<'static>>
     ensures { result ≡ flags_form (map (λ w. w.now) words.now) }
 {
