@@ -23,9 +23,9 @@ pub fn total(table: &Table<Route>, visits: &mut Visits, filter: Option<u32>) -> 
 {
     let mut walk = table.walk(visits);
     let mut total = 0u64;
-    while let Some((key, rank, route)) = walk.step(visits) {
+    while let Some((_, rank, route)) = walk.step(visits) {
         if is_asked(route, filter) {
-            total = total.saturating_add(shown_size(key, rank, route) as u64);
+            total = total.saturating_add(shown_size(rank, route) as u64);
         }
     }
     total
