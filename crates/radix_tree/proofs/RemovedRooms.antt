@@ -1,13 +1,12 @@
 -- A room that is out of the tree leaves the map: the whole and its routes stay.
-use Rattle.radix_nodes.proofs.Callers.{get-removed}
-use Rattle.radix_tree.proofs.{RoomReads.inside, RoomReads.none_some, PartRooms.frame, Plugs.counted_leaf, WholeRoutes.part_shown, MovedReads.content_used}
+use Rattle.radix_tree.proofs.{RoomReads.inside, RoomReads.none_some, PartRooms.frame, Plugs.counted_leaf, Showing.part_shown, MovedReads.content_used}
 use Rattle.radix_tree.proofs.{PlugLists.marked_same, PlugLists.lists_same, MovedSpare.tree_stays, MovedWhole.out_leaf, MovedWhole.out_apart}
+use Rattle.radix_nodes.proofs.Callers.{get-removed}
 use Rattle.std.specs.FinMap.{remove}
-use Rattle.radix_tree.proofs.Words.{◌≡◌, ℕ, ◌+◌, ◌||◌, if◌then◌else◌, List, Option, Some, None, refl, sym, ap, ◌∙◌, inl, inr, arith, eq-eqb, ne_eqb}
-use Rattle.radix_tree.proofs.Words.{is_some, get, Ptr, Seen, Has, bit_node_of, Id, Node, BitNode, LeafPart, MaskPart, Part, leaf_in, bit_in, head_in}
-use Rattle.radix_tree.proofs.Words.{mask_in, bit_part, head_part, leaves_in, bits_in, heads_in, masks_in, one_if, leaves_at, IsWhole, Holds, shown, Gains}
-use Rattle.radix_tree.proofs.Words.{IsWholeBut, HasRoomMore, nobody_late, out_at, KeepsLeaves, KeepsBits, content_of, KeepsRoutes, IsOut, Entry, Lodged}
-use Rattle.radix_tree.proofs.Words.{cases_eq}
+use Rattle.radix_tree.proofs.Words.{◌≡◌, ℕ, ◌+◌, ◌||◌, if◌then◌else◌, List, Option, Some, None, refl, sym, ap, ◌∙◌, inl, inr, arith, eq-eqb, ne_eqb, is_some}
+use Rattle.radix_tree.proofs.Words.{get, Ptr, Seen, Has, bit_node_of, Id, Node, BitNode, LeafPart, MaskPart, Part, leaf_in, bit_in, head_in, mask_in, bit_part}
+use Rattle.radix_tree.proofs.Words.{head_part, leaves_in, bits_in, heads_in, masks_in, one_if, leaves_at, IsWhole, Holds, shown, Gains, IsWholeBut, HasRoomMore}
+use Rattle.radix_tree.proofs.Words.{nobody_late, out_at, content_of, KeepsRoutes, IsOut, Entry, Lodged, cases_eq}
 
 no_head_of : (block : Ptr) (o : Option BitNode) → bit_part block o ≡ None → head_part o ≡ None
 no_head_of block None none = refl
@@ -101,16 +100,6 @@ module _ {V : Type 0} where
   out_shown m (Some root) n out = evicted_shown n out.0 out.1
 
   -- ---- a table's removal
-  -- where leaves and bit nodes stay the routes do
-  pub shown_stays : (m new : Lodged V) {root : Node} → IsWhole m root → KeepsLeaves m new → KeepsBits m new → shown new (Some root) ≡ shown m (Some root)
-  shown_stays m new w leaves bits = part_shown {m = new} (record {
-    tree = w.part.tree;
-    low = w.part.low;
-    above = w.part.above;
-    is = w.part.is;
-    stands = frame (leaves_in m) (leaves_in new) (bits_in m) (bits_in new) w.part.above w.part.tree (λ k some. leaves k) (λ k some. bits k) w.part.stands;
-  }) w.low w.named ∙ sym (part_shown w.part w.low w.named)
-
   pub gains_stays : {e : Entry V} {old : List (Entry V)} (now : List (Entry V)) {before : List (Entry V)} (after : List (Entry V)) → Gains e old before
       → now ≡ old → after ≡ before → Gains e now after
   gains_stays now after g same too = record { front = g.front; back = g.back; was = same ∙ g.was; now = too ∙ g.now }

@@ -1,9 +1,9 @@
 -- The rooms show the routes of the tree that they stand for.
+use Rattle.radix_tree.proofs.{Scans.chain_most}
 use Rattle.radix_tree.specs.Whole.{chain_shown, beneath_shown}
-use Rattle.radix_tree.proofs.Words.{◌≡◌, ℕ, zero, suc, ◌+◌, ◌≤◌, List, [], ◌∷◌, ◌++◌, length, map, Option, Some, None, refl, sym, ap, ◌∙◌, arith, Id}
-use Rattle.radix_tree.proofs.Words.{Node, Placed, Tree, leaf, fork, IsTree, routes_of, Leaves, Bits, leaves_in, bits_in, first_room, name_of, ChainStands}
-use Rattle.radix_tree.proofs.Words.{Stands, chain_from, sides_from, shown, IsWhole, Lodged}
-use Rattle.radix_tree.proofs.Scans.{chain_most}
+use Rattle.radix_tree.proofs.Words.{◌≡◌, ℕ, zero, suc, ◌+◌, ◌≤◌, List, [], ◌∷◌, ◌++◌, length, map, Option, Some, None, refl, sym, ap, ◌∙◌, arith, Id, Node}
+use Rattle.radix_tree.proofs.Words.{Placed, Tree, leaf, fork, IsTree, routes_of, Leaves, Bits, leaves_in, bits_in, first_room, name_of, ChainStands, Stands}
+use Rattle.radix_tree.proofs.Words.{Part, chain_from, sides_from, shown, IsWhole, Lodged}
 
 module _ {V : Type 0} where
   pub chain_is : (n : ℕ) (L : Leaves V) (above previous : Option Id) (c : List (Placed V)) → length c ≤ n → ChainStands L above previous c
@@ -29,8 +29,11 @@ module _ {V : Type 0} where
       ∙ ap (λ es. es ++ beneath_shown n L B (name_of right)) (beneath_is n (b + 1) L B (Some room) left is.1 stands.1 (omega arith))
       ∙ ap (λ es. routes_of left ++ es) (beneath_is n (b + 1) L B (Some room) right is.2 stands.2 (omega arith))
 
+  pub part_shown : {m : Lodged V} {root : Node} (p : Part m) → p.low ≡ 0 → name_of p.tree ≡ root → shown m (Some root) ≡ routes_of p.tree
+  part_shown {m = m} p low named =
+      let none = low in
+      ap (beneath_shown 33 (leaves_in m) (bits_in m)) (sym named)
+      ∙ beneath_is 33 p.low (leaves_in m) (bits_in m) p.above p.tree p.is p.stands (omega arith)
+
   pub shown_is : {m : Lodged V} {root : Node} (w : IsWhole m root) → shown m (Some root) ≡ routes_of w.part.tree
-  shown_is {m = m} w =
-      let low = w.low in
-      ap (beneath_shown 33 (leaves_in m) (bits_in m)) (sym w.named)
-      ∙ beneath_is 33 w.part.low (leaves_in m) (bits_in m) w.part.above w.part.tree w.part.is w.part.stands (omega arith)
+  shown_is w = part_shown w.part w.low w.named

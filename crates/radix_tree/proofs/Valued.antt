@@ -1,16 +1,17 @@
 -- A value in a room changes, and with it the route that stands there.
-use Rattle.radix_nodes.proofs.Callers.{put_value-is, get-put_room}
 use Rattle.radix_tree.proofs.{Counted.of_rank-cons, Counted.of_rank-append, Numbers.insert_keys, OrderLemmas.own_pair, TableLemmas.with_parts}
-use Rattle.radix_tree.proofs.{TableLemmas.with_later, TableLemmas.With.later, TableLemmas.With.same, TableLemmas.With.sooner, TreeOrder.tree_is_table}
-use Rattle.radix_tree.proofs.{Showing.shown_is, WholeParts.once_but, ValuedTrees.all_valued_in, Facts.no_use, ChainLists.map_entries, WholeRoutes.all_at}
-use Rattle.radix_tree.proofs.Words.{◌≡◌, ℕ, ◌+◌, ◌≤◌, ◌==◌, Bool, true, false, IsTrue, if◌then◌else◌, List, ◌∷◌, ◌++◌, Option, Some, None, is_some, refl}
-use Rattle.radix_tree.proofs.Words.{inl, inr, sym, ap, ◌∙◌, subst, arith, eqb-true, eq-eqb, append_assoc, get, keys, Seen, Has, seen, put_value, leaf_of}
-use Rattle.radix_tree.proofs.Words.{bit_node_of, mask_node_of, Id, Node, precedes, IsTable, with_entry, Placed, Tree, leaf, fork, IsAmong, IsIn}
-use Rattle.radix_tree.proofs.Words.{routes_of, LeafPart, leaf_in, bit_in, head_in, mask_in, bit_part, mask_part, leaves_in, bits_in, heads_in, masks_in}
-use Rattle.radix_tree.proofs.Words.{Stands, one_if, members_at, leaves_at, HaveOneFork, shown, IsWhole, KeepsBits, KeepsHeads, KeepsMasks, Entry, of_rank}
-use Rattle.radix_tree.proofs.Words.{AreCounted, Tells, Finds, HasPair, In, Lodged, nobody_late, [], MarkedLists, IsMarked, ◌⊎◌, true≢false}
-use Rattle.radix_tree.proofs.ValuedTrees.{pointwise, valued, all_valued, tree_valued, name_valued, tree_is_valued, put, stands_valued}
-use Rattle.radix_tree.proofs.ValuedTrees.{leaves_valued, forks_valued, spare_valued, in_valued, home_valued, lists_valued}
+use Rattle.radix_tree.proofs.{TableLemmas.with_later, TreeOrder.tree_is_table, Showing.shown_is, WholeParts.once_but, Facts.no_use, ChainLists.map_entries}
+use Rattle.radix_tree.proofs.{WholeRoutes.all_at}
+use Rattle.radix_tree.proofs.TableLemmas.With.{later, same, sooner}
+use Rattle.radix_tree.proofs.ValuedTrees.{all_valued_in, valued, all_valued, tree_valued, name_valued, tree_is_valued, put, stands_valued, leaves_valued}
+use Rattle.radix_tree.proofs.ValuedTrees.{forks_valued, spare_valued, in_valued, home_is, lists_valued}
+use Rattle.radix_nodes.proofs.Callers.{put_value-is, get-put_room}
+use Rattle.radix_tree.proofs.Words.{◌≡◌, ℕ, ◌+◌, ◌≤◌, ◌==◌, Bool, true, false, IsTrue, if◌then◌else◌, List, ◌∷◌, ◌++◌, Option, Some, None, is_some, refl, inl}
+use Rattle.radix_tree.proofs.Words.{inr, sym, ap, ◌∙◌, subst, arith, eqb-true, eq-eqb, append_assoc, get, keys, Seen, Has, seen, put_value, leaf_of}
+use Rattle.radix_tree.proofs.Words.{bit_node_of, mask_node_of, Id, Node, precedes, IsTable, with_entry, Placed, Tree, leaf, fork, IsAmong, IsIn, routes_of}
+use Rattle.radix_tree.proofs.Words.{LeafPart, leaf_in, bit_in, head_in, mask_in, bit_part, mask_part, leaves_in, bits_in, heads_in, masks_in, Stands, one_if}
+use Rattle.radix_tree.proofs.Words.{members_at, leaves_at, HaveOneFork, shown, IsWhole, KeepsBits, KeepsHeads, KeepsMasks, Entry, of_rank, AreCounted, Tells}
+use Rattle.radix_tree.proofs.Words.{Finds, HasPair, In, Lodged, nobody_late, [], MarkedLists, IsMarked, ◌⊎◌, true≢false}
 
 module _ {V : Type 0} (n : ℕ) (value : V) where
   -- ---- its routes
@@ -143,7 +144,7 @@ module _ {V : Type 0} where
             low = w.part.low;
             above = w.part.above;
             is = tree_is_valued n value w.part.low w.part.tree w.part.is;
-            stands = subst (λ B. Stands (leaves_in new) B w.part.above t) (sym (pointwise (bits_in new) (bits_in m) v.bits)) stands;
+            stands = subst (λ B. Stands (leaves_in new) B w.part.above t) (sym (λ i k. v.bits k i)) stands;
           };
           low = w.low;
           top = w.top;
@@ -151,13 +152,14 @@ module _ {V : Type 0} where
           leaves = λ k. ap (λ j. j + 0) (leaves_valued n value k w.part.tree) ∙ w.leaves k ∙ ap one_if
               (sym (some_put n value (k == n) (leaves_in m k)) ∙ ap is_some (sym (v.leaves k)));
           forks = λ k. forks_valued n value k w.part.tree ∙ w.forks k ∙ ap (λ o. one_if (is_some o)) (sym (v.bits k));
-          spare = subst (λ B. HaveOneFork B t) (sym (pointwise (bits_in new) (bits_in m) v.bits)) (spare_valued n value (bits_in m) w.part.tree w.spare);
-          lists = subst (λ H. MarkedLists H (masks_in new) w.part.low t) (sym (pointwise (heads_in new) (heads_in m) v.heads))
-              (subst (λ K. MarkedLists (heads_in m) K w.part.low t) (sym (pointwise (masks_in new) (masks_in m) v.masks))
+          spare = subst (λ B. HaveOneFork B t) (sym (λ i k. v.bits k i)) (spare_valued n value (bits_in m) w.part.tree w.spare);
+          lists = subst (λ H. MarkedLists H (masks_in new) w.part.low t) (sym (λ i k. v.heads k i))
+              (subst (λ K. MarkedLists (heads_in m) K w.part.low t) (sym (λ i k. v.masks k i))
               (lists_valued n value (heads_in m) (masks_in m) w.part.low w.part.tree w.lists));
           listed = λ k p some.
               let l = w.listed k p (sym (v.masks k) ∙ some) in
-              (valued n value l.0, in_valued n value l.0 w.part.tree l.1, l.2, home_valued n value l.0.entry.key l.0.entry.rank w.part.tree l.3);
+              (valued n value l.0, in_valued n value l.0 w.part.tree l.1, l.2,
+              subst (λ T. T) (sym (home_is n value l.0.entry.key l.0.entry.rank w.part.tree)) l.3);
           all = all_valued_in n value w.part.tree (λ x. IsMarked (masks_in new) x ⊎ (nobody_late x.room.number ≡ true)) (λ x at home. elim (w.all x at home) [
             | inl marked ↦ inl (ap is_some (v.masks x.room.number) ∙ marked)
             | inr late ↦ inr late
@@ -209,35 +211,23 @@ module _ {V : Type 0} where
     }
 
   -- ---- a pair's value is written
-  put_entry : (e : Entry V) (key rank : ℕ) (value : V) → e.key ≡ key → e.rank ≡ rank
-      → record e { value = value } ≡ record { key = key; rank = rank; value = value }
-  put_entry e key rank value k r = λ i. record { key = k i; rank = r i; value = value }
+  module _ (m : Lodged V) {root : Node} (w : IsWhole m root) (key rank : ℕ) {o : Option Id} {room : Id} (some : o ≡ Some room)
+      (tells : Tells (Finds (HasPair key rank) (In w.part)) o) (h : Has m room) (value : V) where
+    abbrev told : Tells (Finds (HasPair key rank) (In w.part)) (Some room)
+    told = subst (Tells (Finds (HasPair key rank) (In w.part))) some tells
 
-  pub lent_shown : (m : Lodged V) (root : Node) (w : IsWhole m root) (key rank : ℕ) (o : Option Id) (room : Id) → o ≡ Some room
-      → Tells (Finds (HasPair key rank) (In w.part)) o → Has m room → (value : V)
-      → shown (put_value m room value) (Some root) ≡ with_entry (record { key = key; rank = rank; value = value }) (shown m (Some root))
-  lent_shown m root w key rank o room some tells h value =
-      let told = subst (λ o. Tells (Finds (HasPair key rank) (In w.part)) o) some tells in
-      valued_shown (put_valued m room value h) w told.0 (ap (λ i. i.number) told.1) told.2.0
-      ∙ ap (λ e. with_entry e (shown m (Some root))) (put_entry told.0.entry key rank value told.2.1.0 told.2.1.1)
+    pub lent_shown : shown (put_value m room value) (Some root) ≡ with_entry (record { key = key; rank = rank; value = value }) (shown m (Some root))
+    lent_shown = valued_shown (put_valued m room value h) w told.0 (ap (λ i. i.number) told.1) told.2.0
+        ∙ (λ i. with_entry (record { key = told.2.1.0 i; rank = told.2.1.1 i; value = value }) (shown m (Some root)))
 
-  counted_put : {n : ℕ} (value : V) (e : Entry V) {old new : List (Entry V)} (p : IsPut n value e old new) (r : ℕ) → of_rank r new ≡ of_rank r old
-  counted_put value e p r =
-      let put_in : Entry V = record e { value = value } in
-      ap (of_rank r) p.now ∙ of_rank-append r p.front (put_in ∷ p.back)
-      ∙ ap (λ k. of_rank r p.front + k) (of_rank-cons r put_in p.back ∙ sym (of_rank-cons r e p.back))
-      ∙ sym (of_rank-append r p.front (e ∷ p.back)) ∙ ap (of_rank r) (sym p.was)
-
-  pub lent_counted : (m : Lodged V) {root : Node} (w : IsWhole m root) (key rank : ℕ) (o : Option Id) (room : Id) (counts : List ℕ) → o ≡ Some room
-      → Tells (Finds (HasPair key rank) (In w.part)) o → Has m room → (value : V) → AreCounted counts (shown m (Some root))
-      → AreCounted counts (shown (put_value m room value) (Some root))
-  lent_counted m w key rank o room counts some tells h value counted r fits =
-      let told = subst (λ o. Tells (Finds (HasPair key rank) (In w.part)) o) some tells in
-      let n = room.number in
-      let once = (once_but w).leaves n in
-      let p = tree_put n value told.0 w.part.tree (ap (λ i. i.number) told.1) told.2.0 once in
-      counted r fits ∙ ap (of_rank r) (shown_is w) ∙ sym (counted_put value told.0.entry p r)
-      ∙ ap (of_rank r) (sym (whole_and_shown (put_valued m room value h) w).1)
+    pub lent_counted : (counts : List ℕ) → AreCounted counts (shown m (Some root)) → AreCounted counts (shown (put_value m room value) (Some root))
+    lent_counted counts counted r fits =
+        let e = told.0.entry in
+        let p = tree_put room.number value told.0 w.part.tree (ap (λ i. i.number) told.1) told.2.0 ((once_but w).leaves room.number) in
+        let put_in : Entry V = record e { value = value } in
+        counted r fits ∙ ap (of_rank r) (shown_is w ∙ p.was) ∙ of_rank-append r p.front (e ∷ p.back)
+        ∙ ap (λ k. of_rank r p.front + k) (of_rank-cons r e p.back ∙ sym (of_rank-cons r put_in p.back))
+        ∙ sym (of_rank-append r p.front (put_in ∷ p.back)) ∙ ap (of_rank r) (sym p.now ∙ sym (whole_and_shown (put_valued m room value h) w).1)
 
   pub lent_keys : (m : Lodged V) (room : Id) (value : V) → Has m room → keys (put_value m room value) ≡ keys m
   lent_keys m room value h = ap keys (put_value-is m room value h) ∙ insert_keys m room.number (seen room.block value h.room.links) h.room h.at

@@ -1,11 +1,8 @@
 -- A value in a room changes: the tree with it, which the rooms stand for as before.
-use Rattle.radix_tree.proofs.Words.{◌≡◌, ℕ, ◌+◌, ◌≤◌, ◌==◌, Bool, if◌then◌else◌, List, ◌∷◌, Option, Some, None, refl, sym, ap, ◌∙◌, subst, inl, inr, Id}
-use Rattle.radix_tree.proofs.Words.{Placed, Tree, leaf, fork, IsAmong, IsIn, IsChain, HaveBit, IsTree, LeafPart, Leaves, Bits, Heads, Masks, leaf_part}
-use Rattle.radix_tree.proofs.Words.{first_room, name_of, ChainStands, Stands, MasksStand, Falls, IsMarked, MarkedIn, MarkedLists, one_if, members_at}
-use Rattle.radix_tree.proofs.Words.{leaves_at, forks_at, HasHome, AreIdle, HasOneFork, HaveOneFork, []}
-
-pub pointwise : {A : Type 0} (f g : ℕ → A) → ((n : ℕ) → f n ≡ g n) → f ≡ g
-pointwise f g alike = λ i n. alike n i
+use Rattle.radix_tree.proofs.Words.{◌≡◌, ℕ, ◌+◌, ◌≤◌, ◌==◌, Bool, if◌then◌else◌, List, ◌∷◌, Option, Some, None, refl, sym, ap, ◌∙◌, subst, inl, inr, Id, Placed}
+use Rattle.radix_tree.proofs.Words.{Tree, leaf, fork, IsAmong, IsIn, IsChain, HaveBit, IsTree, LeafPart, Leaves, Bits, Heads, Masks, leaf_part, first_room}
+use Rattle.radix_tree.proofs.Words.{name_of, ChainStands, Stands, MasksStand, Falls, IsMarked, MarkedIn, MarkedLists, one_if, members_at, leaves_at, forks_at}
+use Rattle.radix_tree.proofs.Words.{HasHome, AreIdle, HasOneFork, HaveOneFork, [], ◌⊎◌, bit_at}
 
 module _ {V : Type 0} (n : ℕ) (value : V) where
   -- ---- the routes with the value in room n
@@ -122,25 +119,11 @@ module _ {V : Type 0} (n : ℕ) (value : V) where
     | inr right ↦ let w = in_was y one right in (w.0, inr w.1, w.2)
   ]
 
-  pub home_valued : (key rank : ℕ) (t : Tree V) → HasHome key rank t → HasHome key rank (tree_valued t)
-  home_valued key rank (leaf x xs) home = absurd home
-  home_valued key rank (fork room b zero one) home = elim home [
-    | inl here ↦ inl here
-    | inr further ↦ inr (elim further [
-      | inl left ↦ inl (left.0, home_valued key rank zero left.1)
-      | inr right ↦ inr (right.0, home_valued key rank one right.1)
-    ])
-  ]
-
-  home_was : (key rank : ℕ) (t : Tree V) → HasHome key rank (tree_valued t) → HasHome key rank t
-  home_was key rank (leaf x xs) home = absurd home
-  home_was key rank (fork room b zero one) home = elim home [
-    | inl here ↦ inl here
-    | inr further ↦ inr (elim further [
-      | inl left ↦ inl (left.0, home_was key rank zero left.1)
-      | inr right ↦ inr (right.0, home_was key rank one right.1)
-    ])
-  ]
+  -- what has a home has it still, and what has one had it
+  pub home_is : (key rank : ℕ) (t : Tree V) → HasHome key rank (tree_valued t) ≡ HasHome key rank t
+  home_is key rank (leaf x xs) = refl
+  home_is key rank (fork room b zero one) =
+      λ i. (rank ≤ b) ⊎ (((bit_at b key ≡ 0) × home_is key rank zero i) ⊎ ((bit_at b key ≡ 1) × home_is key rank one i))
 
   -- ---- its lists of masks
   masks_stand : (K : Masks) (ms : List (Placed V)) → MasksStand K ms → MasksStand K (all_valued ms)
@@ -176,4 +159,5 @@ module _ {V : Type 0} (n : ℕ) (value : V) where
   pub all_valued_in : (t : Tree V) (M : Placed V → Type 0) → ((x : Placed V) → IsIn x t → HasHome x.entry.key x.entry.rank t → M (valued x))
       → (y : Placed V) → IsIn y (tree_valued t) → HasHome y.entry.key y.entry.rank (tree_valued t) → M y
   all_valued_in t M all y at home = let w = in_was y t at in
-      subst M w.2 (all w.0 w.1 (home_was w.0.entry.key w.0.entry.rank t (subst (λ y. HasHome y.entry.key y.entry.rank (tree_valued t)) (sym w.2) home)))
+      subst M w.2 (all w.0 w.1 (subst (λ T. T) (home_is w.0.entry.key w.0.entry.rank t)
+      (subst (λ y. HasHome y.entry.key y.entry.rank (tree_valued t)) (sym w.2) home)))

@@ -1,18 +1,12 @@
 -- The routes that a table's rooms show, and a table with an entry and without.
 use Rattle.radix_tree.proofs.{ListLemmas.all_weaker, ListLemmas.filter_all, ListLemmas.filter_none, OrderLemmas.own_pair, OrderLemmas.precedes_one_way}
-use Rattle.radix_tree.proofs.{TableLemmas.with_later, TableLemmas.without_absent, TableLemmas.none_at, Showing.beneath_is, Plugs.surround}
-use Rattle.radix_tree.proofs.Words.{◌≡◌, ℕ, Bool, false, IsTrue, List, [], ◌∷◌, ◌++◌, Some, None, refl, sym, ap, ◌∙◌, subst, arith, nat_tests}
-use Rattle.radix_tree.proofs.Words.{append_assoc, AllByRecursion, Node, precedes, IsTable, has_pair, entry_at, with_entry, without, routes_of, Part}
-use Rattle.radix_tree.proofs.Words.{leaves_in, bits_in, name_of, beneath_shown, shown, Gains, Exchanged, IsWholeBut, Entry, Lodged}
+use Rattle.radix_tree.proofs.{TableLemmas.with_later, TableLemmas.without_absent, TableLemmas.none_at, Showing.part_shown, Plugs.surround}
+use Rattle.radix_tree.proofs.Words.{◌≡◌, ℕ, Bool, false, IsTrue, List, [], ◌∷◌, ◌++◌, Some, None, refl, sym, ap, ◌∙◌, subst, arith, nat_tests, append_assoc}
+use Rattle.radix_tree.proofs.Words.{AllByRecursion, Node, precedes, IsTable, has_pair, entry_at, with_entry, without, routes_of, Part, shown, Gains, Exchanged}
+use Rattle.radix_tree.proofs.Words.{IsWholeBut, Entry, Lodged}
 
 module _ {V : Type 0} where
   -- ---- the routes that the rooms show
-  pub part_shown : {m : Lodged V} {root : Node} (p : Part m) → p.low ≡ 0 → name_of p.tree ≡ root → shown m (Some root) ≡ routes_of p.tree
-  part_shown {m = m} p low named =
-      let none = low in
-      ap (beneath_shown 33 (leaves_in m) (bits_in m)) (sym named)
-      ∙ beneath_is 33 p.low (leaves_in m) (bits_in m) p.above p.tree p.is p.stands (omega arith)
-
   -- before and behind those of the part they stay
   pub record Spliced (old new before now : List (Entry V)) : Type 0 where
     pub front : List (Entry V)

@@ -1,6 +1,6 @@
 use Rattle.radix_tree.proofs.Words.{◌∙◌, sym, ap, subst, get, Holds, shown, HasRoomMore, content_of}
-use Rattle.radix_tree.proofs.RemovedRooms.{get_out, out_gone, out_shown, shown_stays, gains_stays, value_taken, room_less}
-use Rattle.radix_tree.proofs.MovedReads.{Has_kept}
+use Rattle.radix_tree.proofs.RemovedRooms.{get_out, out_gone, out_shown, gains_stays, value_taken, room_less}
+use Rattle.radix_tree.proofs.{MovedReads.Has_kept, Gained.shown_same}
 use Rattle.radix_tree.proofs.removing.remove_route.Goals as goal
 
 pub take_out-rest-requires-clause-route : goal.take_out-rest-requires-clause-route
@@ -28,7 +28,7 @@ returns-clause-routes g c p said =
     let e = ap (λ r. r.lodged) c.evict-room.ensures.evicted in
     gains_stays _ _ (c.take_out-rest.ensures.routes p (c.unlist_mask.ensures.tree.leaves c.args.at.number ∙ said))
     (ap (λ m. shown m c.take_out-rest.result) e ∙ out_shown c.take_out-rest.new.nodes.lodged c.take_out-rest.result c.args.at.number
-    c.take_out-rest.ensures.out) (sym (shown_stays c.args.nodes.now.lodged c.unlist_mask.new.nodes.lodged c.requires.whole c.unlist_mask.ensures.tree.leaves
+    c.take_out-rest.ensures.out) (sym (shown_same c.args.nodes.now.lodged c.unlist_mask.new.nodes.lodged c.args.root c.unlist_mask.ensures.tree.leaves
     c.unlist_mask.ensures.tree.bits))
 
 pub returns-clause-value : goal.returns-clause-value

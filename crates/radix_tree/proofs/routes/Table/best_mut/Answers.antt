@@ -1,11 +1,10 @@
 -- The best route is lent, as the route of a pair is, and stands in the table.
-use Rattle.radix_tree.proofs.{Answered.Answer, Answered.answer, Answered.Has-best, Answered.best_answer, Answered.best_none, Answered.best_pair}
-use Rattle.radix_tree.proofs.{Showing.shown_is, LawLemmas.best_is_greatest, Valued.put_valued, Valued.valued_whole, Valued.lent_shown}
-use Rattle.radix_tree.proofs.{Valued.lent_counted, Valued.lent_keys, Kept.shown_table, Kept.whole_at, Kept.entries_at}
-use Rattle.radix_tree.proofs.routes.Table.best_mut.Goals.{In-Some-best_room}
+use Rattle.radix_tree.proofs.{Showing.shown_is, LawLemmas.best_is_greatest, Valued.put_valued, Valued.valued_whole, Valued.lent_shown, Valued.lent_counted}
+use Rattle.radix_tree.proofs.{Valued.lent_keys, Kept.shown_table, Kept.whole_at, Kept.entries_at, routes.Table.best_mut.Goals.In-Some-best_room}
+use Rattle.radix_tree.proofs.Answered.{Answer, answer, Has-best, best_answer, best_none, best_pair}
 use Rattle.radix_tree.specs.Lending.{with_value_at}
-use Rattle.radix_tree.proofs.Words.{◌≡◌, sym, ap, subst, ◌∙◌, inl, inr, arith, put_value, IsTable, contents, IsKept, AreCounted, best_of, with_entry}
-use Rattle.radix_tree.proofs.Words.{shown, IsWhole, Entry, Leaf}
+use Rattle.radix_tree.proofs.Words.{◌≡◌, sym, ap, subst, ◌∙◌, inl, inr, arith, put_value, IsTable, contents, IsKept, AreCounted, best_of, with_entry, shown}
+use Rattle.radix_tree.proofs.Words.{IsWhole, Entry, Leaf}
 use Rattle.radix_tree.proofs.routes.Table.best_mut.Goals as goal
 
 pub returns-in_default-best_room : goal.returns-in_default-best_room
@@ -47,8 +46,7 @@ invariant_of-self-lent g c = λ v.
     subst (λ o. IsKept (record { lodged = put_value m room v; next = c.self.inside.nodes.next; turn = c.self.inside.nodes.turn }) o c.self.inside.counts)
     (sym c.in-Some.is) (record {
       holds = valued_whole (put_valued m room v (Has-best a)) w;
-      counted = lent_counted m w c.leaf-leaf.result.key c.leaf-leaf.result.rank c.best_room.result room c.self.inside.counts
-          c.in-Some-best_room.is pair (Has-best a) v counted;
+      counted = lent_counted m w c.leaf-leaf.result.key c.leaf-leaf.result.rank c.in-Some-best_room.is pair (Has-best a) v _ counted;
     })
 
 -- the table once the value is given back
@@ -61,7 +59,7 @@ lent g c l is v =
     let a = found g c in
     let e : Entry g.row.V.Denot = record { key = l.key; rank = l.rank; value = v } in
     let entries = ap (shown (put_value m room v)) c.in-Some.is
-    ∙ lent_shown m c.in-Some.root (whole g c) l.key l.rank c.best_room.result room c.in-Some-best_room.is (best_pair a is c.in-Some-best_room.is) (Has-best a) v
+    ∙ lent_shown m (whole g c) l.key l.rank c.in-Some-best_room.is (best_pair a is c.in-Some-best_room.is) (Has-best a) v
     ∙ ap (with_entry e) (entries_at _ _ _ c.self.view_is c.in-Some.is) in
     let numbers = lent_keys m room v (Has-best a) ∙ ap (λ t. t.numbers) c.self.view_is in
     let next = ap (λ t. t.next) c.self.view_is in

@@ -1,9 +1,9 @@
-use Rattle.std.proofs.Common.{rules}
 use Rattle.radix_tree.proofs.{Counted.not_held, Valued.put_valued, Valued.valued_whole, Valued.lent_shown, Valued.lent_counted, Valued.lent_keys}
 use Rattle.radix_tree.proofs.{Kept.Has-found, Kept.IsFound, Kept.found, Kept.not_found, Kept.value_found, Kept.whole_next, Kept.entries_next}
 use Rattle.radix_tree.proofs.{routes.Table.get_mut.Goals.In-Some-room_of}
-use Rattle.radix_tree.proofs.Words.{◌≡◌, ◌+◌, ◌≤◌, Option, refl, sym, ap, subst, ◌∙◌, inl, inr, option_map, keys, Rooms, put_value, Node, contents}
-use Rattle.radix_tree.proofs.Words.{IsKept, AreCounted, with_value, Contents, entry_at, with_entry, shown, Entry}
+use Rattle.std.proofs.Common.{rules}
+use Rattle.radix_tree.proofs.Words.{◌≡◌, ◌+◌, ◌≤◌, Option, refl, sym, ap, subst, ◌∙◌, inl, inr, option_map, keys, Rooms, put_value, Node, contents, IsKept}
+use Rattle.radix_tree.proofs.Words.{AreCounted, with_value, Contents, entry_at, with_entry, shown, Entry}
 use Rattle.radix_tree.proofs.routes.Table.get_mut.Goals as goal
 
 -- a table of which a turn began and no more
@@ -54,8 +54,7 @@ invariant_of-self-lent g c = λ v.
       turn = c.begin-visits.new.self.turn;
     }) o c.self.inside.counts) (sym c.in-Some.is) (record {
       holds = valued_whole (put_valued m c.in-Some-room_of.room v has) w;
-      counted = lent_counted m w c.args.key c.args.rank c.room_of.result c.in-Some-room_of.room c.self.inside.counts c.in-Some-room_of.is
-          (c.room_of.ensures.found w.part w.named) has v counted;
+      counted = lent_counted m w c.args.key c.args.rank c.in-Some-room_of.is (c.room_of.ensures.found w.part w.named) has v _ counted;
     })
 
 -- the table once the value is given back
@@ -68,8 +67,7 @@ lent g c v =
     let has = Has-found m (is_found g c) in
     let e : Entry g.row.V.Denot = record { key = c.args.key; rank = c.args.rank; value = v } in
     let entries = ap (shown (put_value m c.in-Some-room_of.room v)) c.in-Some.is
-    ∙ lent_shown m c.in-Some.root w c.args.key c.args.rank c.room_of.result c.in-Some-room_of.room c.in-Some-room_of.is
-    (c.room_of.ensures.found w.part w.named) has v
+    ∙ lent_shown m w c.args.key c.args.rank c.in-Some-room_of.is (c.room_of.ensures.found w.part w.named) has v
     ∙ ap (with_entry e) (entries_next c.self.inside.nodes c.begin-visits.new.self _ c.self.view_is c.in-Some.is c.begin-visits.ensures.turn) in
     let numbers = lent_keys m c.in-Some-room_of.room v has ∙ ap (λ r. keys r.lodged) c.begin-visits.ensures.turn ∙ ap (λ t. t.numbers) c.self.view_is in
     let next = ap (λ r. r.next) c.begin-visits.ensures.turn ∙ ap (λ t. t.next) c.self.view_is in
