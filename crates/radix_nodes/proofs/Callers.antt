@@ -10,6 +10,7 @@ use Rattle.radix_nodes.specs.Rooms.{Seen, seen, Has, put_room, put_links, put_va
 use Rattle.radix_nodes.specs.declared.id.Id.{Id}
 use Rattle.radix_nodes.specs.declared.links.Links.{Links}
 use Rattle.radix_nodes.proofs.Cells.{get_put, get_gone, same_number}
+use Rattle.radix_nodes.specs.Naming.{number_of}
 
 inside : {A : Type 0} {x y : A} → Some x ≡ Some y → x ≡ y
 inside e = cc
@@ -33,11 +34,11 @@ module _ {V : Type 0} where
   put_value-is m i value h = ap (value_put m i value) h.at
 
   pub get-put_room : (m : FinMap nat_cmp (Seen V)) (i : Id) (value : V) (links : Links) (n : ℕ)
-      → get (put_room m i value links) n ≡ (if n == i.number then Some (seen i.block value links) else get m n)
-  get-put_room m i value links n = get_put m i.number (seen i.block value links) n
+      → get (put_room m i value links) n ≡ (if n == (number_of i) then Some (seen i.block value links) else get m n)
+  get-put_room m i value links n = get_put m (number_of i) (seen i.block value links) n
 
   pub get-put_links : (m : FinMap nat_cmp (Seen V)) (i : Id) (links : Links) (h : Has m i) (n : ℕ)
-      → get (put_links m i links) n ≡ (if n == i.number then Some (seen i.block h.room.value links) else get m n)
+      → get (put_links m i links) n ≡ (if n == (number_of i) then Some (seen i.block h.room.value links) else get m n)
   get-put_links m i links h n = ap (λ (l : FinMap nat_cmp (Seen V)). get l n) (put_links-is m i links h) ∙ get-put_room m i h.room.value links n
 
   pub get-removed : (m : FinMap nat_cmp (Seen V)) (k n : ℕ) → get (remove m k) n ≡ (if n == k then None else get m n)
@@ -46,30 +47,30 @@ module _ {V : Type 0} where
   pub Has-lodged : (m : FinMap nat_cmp (Seen V)) (i : Id) (value : V) (links : Links) → Has (put_room m i value links) i
   Has-lodged m i value links = record {
     room = seen i.block value links;
-    at = get-put_room m i value links i.number ∙ ap (λ (b : Bool). if b then Some (seen i.block value links) else get m i.number) (same_number i.number);
+    at = get-put_room m i value links (number_of i) ∙ ap (λ (b : Bool). if b then Some (seen i.block value links) else get m (number_of i)) (same_number (number_of i));
     block = refl;
   }
 
   -- a room stays where another one is written
-  other : (m : FinMap nat_cmp (Seen V)) (i j : Id) (value : V) (links : Links) → (i.number == j.number) ≡ false → Has m i → Has (put_room m j value links) i
+  other : (m : FinMap nat_cmp (Seen V)) (i j : Id) (value : V) (links : Links) → ((number_of i) == (number_of j)) ≡ false → Has m i → Has (put_room m j value links) i
   other m i j value links apart h = record {
     room = h.room;
-    at = get-put_room m j value links i.number ∙ ap (λ (b : Bool). if b then Some (seen j.block value links) else get m i.number) apart ∙ h.at;
+    at = get-put_room m j value links (number_of i) ∙ ap (λ (b : Bool). if b then Some (seen j.block value links) else get m (number_of i)) apart ∙ h.at;
     block = h.block;
   }
 
   -- it stays where one is lodged that was not in the map
-  pub Has-put : (m : FinMap nat_cmp (Seen V)) (i j : Id) (value : V) (links : Links) → get m j.number ≡ None → Has m i → Has (put_room m j value links) i
-  Has-put m i j value links free h = other m i j value links (ne_eqb i.number j.number (λ e. none_some (sym free ∙ ap (get m) (sym e) ∙ h.at))) h
+  pub Has-put : (m : FinMap nat_cmp (Seen V)) (i j : Id) (value : V) (links : Links) → get m (number_of j) ≡ None → Has m i → Has (put_room m j value links) i
+  Has-put m i j value links free h = other m i j value links (ne_eqb (number_of i) (number_of j) (λ e. none_some (sym free ∙ ap (get m) (sym e) ∙ h.at))) h
 
   -- it stays where it or another one is put again with its block
   again : (m : FinMap nat_cmp (Seen V)) (i j : Id) (value : V) (links : Links) → Has m j → Has m i → Has (put_room m j value links) i
   again m i j value links there h =
-      elim (i.number == j.number) as (λ b. (i.number == j.number) ≡ b → Has (put_room m j value links) i) [
+      elim ((number_of i) == (number_of j)) as (λ b. ((number_of i) == (number_of j)) ≡ b → Has (put_room m j value links) i) [
         | true ↦ λ e. record {
           room = seen j.block value links;
-          at = get-put_room m j value links i.number ∙ ap (λ (b : Bool). if b then Some (seen j.block value links) else get m i.number) e;
-          block = sym there.block ∙ ap (λ (s : Seen V). s.block) (inside (sym there.at ∙ ap (get m) (sym (eqb-true i.number j.number e)) ∙ h.at)) ∙ h.block;
+          at = get-put_room m j value links (number_of i) ∙ ap (λ (b : Bool). if b then Some (seen j.block value links) else get m (number_of i)) e;
+          block = sym there.block ∙ ap (λ (s : Seen V). s.block) (inside (sym there.at ∙ ap (get m) (sym (eqb-true (number_of i) (number_of j) e)) ∙ h.at)) ∙ h.block;
         }
         | false ↦ λ e. other m i j value links e h
       ] refl
@@ -77,9 +78,9 @@ module _ {V : Type 0} where
   pub Has-written : (m : FinMap nat_cmp (Seen V)) (i j : Id) (links : Links) → Has m j → Has m i → Has (put_links m j links) i
   Has-written m i j links there h = rw (put_links-is m j links there) (again m i j there.room.value links there h)
 
-  pub Has-removed : (m : FinMap nat_cmp (Seen V)) (i : Id) (n : ℕ) → (i.number ≡ n → ⊥) → Has m i → Has (remove m n) i
+  pub Has-removed : (m : FinMap nat_cmp (Seen V)) (i : Id) (n : ℕ) → ((number_of i) ≡ n → ⊥) → Has m i → Has (remove m n) i
   Has-removed m i n apart h = record {
     room = h.room;
-    at = get-removed m n i.number ∙ ap (λ (b : Bool). if b then None else get m i.number) (ne_eqb i.number n apart) ∙ h.at;
+    at = get-removed m n (number_of i) ∙ ap (λ (b : Bool). if b then None else get m (number_of i)) (ne_eqb (number_of i) n apart) ∙ h.at;
     block = h.block;
   }

@@ -1,8 +1,11 @@
 pub mod Callers
 pub mod Cells
+mod Apart
+mod Bytes
 mod Memory
 mod Nested
 mod RoomLemmas
 mod RoomRows
 mod Rows
 mod Sharing
+mod Turning

@@ -4,12 +4,11 @@
 --     value_tells, value_out      a value is one machine value, of its type, by itself and in memory
 --     lent_out             of what a `&` to the blocks lends, one value
 --     owns_none, take_out, laid       of what the blocks own, one block, and the way back
-use Rattle.std.proofs.Common.{◌≡◌, ℕ, ◌<◌, ◌^◌, Bool, true, false, cond, List, [], ◌∷◌, ◌++◌, Some, None, refl, sym, ap, ◌∙◌, subst}
+use Rattle.std.proofs.Common.{◌≡◌, ℕ, Bool, true, false, cond, List, [], ◌∷◌, ◌++◌, Some, None, refl, sym, ap, ◌∙◌, subst}
 use seplogic.Ra.Ura.{Ura}
 use lib.Dec.{lit<}
-use mir.Syntax.{w64}
 use mir.Raw.{raw as bare}
-use mir.Val.{Val, vint, vptr, vunit, vstruct, vcons, vnil, of_list}
+use mir.Val.{Val, vptr, vunit, vstruct, vcons, vnil, of_list}
 use base.Fraction.{full_share}
 use base.Logic.{ent, sep, emp, ex, guard, via, never, fst∗, snd∗, id⊢}
 use base.Fml.{Lft, Fml, fat, froom}
@@ -22,9 +21,7 @@ use denote.Laws.{Is, shows}
 use denote.Memory.{lone, part_at}
 use denote.Param.{param, layout}
 use denote.Param.Laws.{Laws, param_laws}
-use denote.Steps.{nothing, owned, peeks}
-use denote.Builtin.{u64}
-use denote.Plain.{uint_Makes}
+use denote.Steps.{nothing, peeks}
 use denote.Struct.Declared as Declared
 use denote.Struct.Lending.{lent_at}
 use Rattle.core.proofs.cell.Inside.{Good, one}
@@ -48,19 +45,18 @@ use Rattle.radix_nodes.specs.contracts.id.Id as name
 use Rattle.radix_nodes.specs.contracts.blocks.Blocks as holder
 use Rattle.radix_nodes.specs.Owning.{one_owns, all_own, all_lent}
 
-abbrev pub id_val : ℕ → Ptr → Val
-id_val n p = vstruct (vcons (vint w64 n) (vcons (ptr_val p) vnil))
+abbrev pub id_val : Ptr → Val
+id_val p = vstruct (vcons (ptr_val p) vnil)
 
-pub id_good : (n : ℕ) (p : Ptr) → n < 2 ^ 64 → Good (layout name.the_row) (id_val n p)
-id_good n (block_ptr b o) h = (tt, (record { fits = h }, (tt, tt)))
-id_good n null_ptr h = (tt, (record { fits = h }, (record { fits = lit< tt }, tt)))
+pub id_good : (p : Ptr) → Good (layout name.the_row) (id_val p)
+id_good (block_ptr b o) = (tt, (tt, tt))
+id_good null_ptr = (tt, (record { fits = lit< tt }, tt))
 
 module _ {M : Type 1} {𝓤 : Ura M} {𝓛 : Logic 𝓤} {K : Type 0} {Γ : List (Item 𝓤)} {G : Goal 𝓤 𝓛.H} where
-  pub id_made : K → (n : ℕ) (p : Ptr) → n < 2 ^ 64 → Step K 𝓛 (‵ (name.the_row.own_val (record { number = n; block = p }) (id_val n p ∷ [])) ∷ Γ) G Γ G
-  id_made t n p h = step (λ s.
-      nothing t $ feq_i t (List Val) (ptr_val p ∷ []) (ptr_val p ∷ []) refl $ fjoin t $ owned t u64 _ (uint_Makes 𝓛 w64) n (vint w64 n ∷ []) (refl, h) $ fjoin t $
-      feq_i t (List Val) (id_val n p ∷ []) (id_val n p ∷ []) refl $ fjoin t $
-      fpack t (Valss (u64 ∷ RawPtr ∷ [])) (within (Declared.shape name.the_type) (n, (p, tt)) (id_val n p ∷ [])) (vint w64 n ∷ [], (ptr_val p ∷ [], tt)) $ s)
+  pub id_made : K → (p : Ptr) → Step K 𝓛 (‵ (name.the_row.own_val (record { block = p }) (id_val p ∷ [])) ∷ Γ) G Γ G
+  id_made t p = step (λ s.
+      nothing t $ feq_i t (List Val) (ptr_val p ∷ []) (ptr_val p ∷ []) refl $ fjoin t $ feq_i t (List Val) (id_val p ∷ []) (id_val p ∷ []) refl $ fjoin t $
+      fpack t (Valss (RawPtr ∷ [])) (within (Declared.shape name.the_type) (p, tt) (id_val p ∷ [])) (ptr_val p ∷ [], tt) $ s)
 
 -- an empty block whose memory comes from the heap
 abbrev pub Room : RattleType → RattleType

@@ -1,10 +1,12 @@
 pub mod At
+pub mod Beside
 pub mod Chunk
 pub mod Counting
 pub mod Keeping
 pub mod Lending
 pub mod LendingValue
 pub mod Links
+pub mod Naming
 pub mod Owning
 pub mod Rooms
 pub mod Row

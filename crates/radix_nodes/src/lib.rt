@@ -1,6 +1,7 @@
 //! Rooms over raw memory: each holds a route's value and its links in a tree, in one block of memory of its own.
 #![tactic(auto)]
 
+mod beside;
 mod blocks;
 mod id;
 mod links;

@@ -1,5 +1,5 @@
 //! What a room says of its place in a tree.
-ghost use Rattle.std.specs.Prelude.{◌≡◌};
+ghost use Rattle.std.specs.Prelude.{◌≡◌, not};
 ghost use Rattle.radix_nodes.specs.Links.{leaf_of, bit_node_of, mask_node_of, id_in, node_in, IsBlank};
 
 use crate::id::Id;
@@ -48,8 +48,8 @@ pub struct MaskNode {
     pub next: Option<Id>,
 }
 
-/// A room's links: what it is as a leaf, as a bit node and as a mask node. They take 144 bytes: eight names of 16 bytes
-/// each, and 16 bytes for the key, the rank, the bit, and the flags: which of the nodes beneath are leaves, which of
+/// A room's links: what it is as a leaf, as a bit node and as a mask node. They take 80 bytes: eight names of 8 bytes each,
+/// and 16 bytes for the key, the rank, the bit, and the flags: which of the nodes beneath are leaves, which of
 /// the other names are there, and in which roles the room is in use. What a descent reads comes first.
 #[derive(Clone, Copy)]
 pub struct Links {
@@ -146,6 +146,20 @@ impl Links {
         Some(MaskNode {
             next: read(self.has_next_mask, self.next_mask),
         })
+    }
+
+    /// One of the flags.
+    pub(crate) fn flag(&self) -> bool
+        ensures { result ≡ self.now.is_mask_node }
+    {
+        self.is_mask_node
+    }
+
+    /// Turns that flag.
+    pub(crate) fn turn_flag(&mut self)
+        ensures { self.new ≡ record self.old { is_mask_node = not self.old.is_mask_node } }
+    {
+        self.is_mask_node = !self.is_mask_node;
     }
 
     /// The same links with another leaf.

@@ -6,17 +6,15 @@ use crate::blocks::Blocks;
 use crate::id::Id;
 use crate::room::Full;
 use crate::visits::Visits;
-use memory::{Number, Numbers};
+use memory::Number;
 use std::alloc::Global;
 use std::marker::Model;
 
 /// The lodged rooms of a tree. A contract sees them as a finite map from a room's number to its block, its value and
-/// its links, and beside it the number that the next room gets, and the turn. `begin` begins the next turn, and rooms
-/// are read with a counter of the present one.
+/// its links, and beside it the turn. `begin` begins the next turn, and rooms are read with a counter of the present
+/// one.
 pub struct Nodes<V> {
     pub(crate) alloc: Global,
-    /// The numbers of the rooms that were made.
-    pub(crate) numbers: Numbers,
     pub(crate) turn: Number,
     /// The room that was lodged last, of those in the map. It leads to all others.
     pub(crate) newest: Option<Id>,
@@ -24,8 +22,8 @@ pub struct Nodes<V> {
 }
 
 impl<V> Model for Nodes<V> {
-    ghost use Rattle.std.specs.Prelude.{◌+◌};
-    ghost use Rattle.radix_nodes.specs.Rooms.{Rooms, rooms_code, seen_all, AreMade};
+    ghost use Rattle.radix_nodes.specs.At.{AreStarts};
+    ghost use Rattle.radix_nodes.specs.Rooms.{Rooms, rooms_code, seen_all};
     ghost use Rattle.radix_nodes.specs.Row.{AreRow};
     ghost use Rattle.std.specs.Prelude.{None};
 
@@ -33,19 +31,18 @@ impl<V> Model for Nodes<V> {
 
     ghost coded = { rooms_code V.code };
 
-    ghost view = { λ n. record { lodged = seen_all n.blocks.cells; next = n.numbers + 1; turn = n.turn } };
+    ghost view = { λ n. record { lodged = seen_all n.blocks.cells; turn = n.turn } };
 
-    ghost invariant = { λ n. AreRow n.blocks.cells None n.newest × AreMade n.numbers n.blocks.cells };
+    ghost invariant = { λ n. AreRow n.blocks.cells None n.newest × AreStarts n.blocks.cells };
 }
 
 impl<V> Nodes<V> {
     /// No room yet. The memory of the rooms will come from this allocator.
     pub fn new(alloc: Global) -> Nodes<V>
-        ensures { result ≡ record { lodged = empty; next = 1; turn = 0 } }
+        ensures { result ≡ record { lodged = empty; turn = 0 } }
     {
         Nodes {
             alloc,
-            numbers: Numbers::new(),
             turn: Number::zero(),
             newest: None,
             blocks: Blocks::new(),
@@ -67,7 +64,6 @@ impl<V: Drop> Drop for Nodes<V> {
     fn drop(self) {
         let Nodes {
             alloc,
-            numbers: _,
             turn: _,
             newest,
             blocks,
@@ -84,7 +80,7 @@ impl<V: Drop> Drop for Nodes<V> {
             } = full;
             // What it answers is the allocator, which has no bytes.
             let _ = space.free();
-            newest = older;
+            newest = older.name();
         }
         blocks.end();
     }

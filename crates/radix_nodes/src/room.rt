@@ -1,5 +1,5 @@
 //! A room in which nothing stands, and what stands in the block of one that is lodged.
-use crate::id::Id;
+use crate::beside::Beside;
 use crate::links::Links;
 use std::alloc::Global;
 use std::marker::Model;
@@ -9,23 +9,23 @@ use std_alloc::room::Vacant;
 pub(crate) struct Full<V> {
     pub(crate) links: Links,
     /// Of the rooms in the map, the one that was lodged after this one. The last one has none.
-    pub(crate) newer: Option<Id>,
+    pub(crate) newer: Beside,
     /// Of the rooms in the map, the one that was lodged before this one.
-    pub(crate) older: Option<Id>,
+    pub(crate) older: Beside,
     pub(crate) value: V,
 }
 
 /// A block of memory for one route, made by `Nodes::make` and not in use. It is lodged or scrapped, and can't be
-/// dropped. A contract sees its number.
+/// dropped. A contract sees the number that it has once it is lodged.
 pub struct Room<V> {
-    pub(crate) number: u64,
     pub(crate) space: Vacant<Full<V>, Global>,
 }
 
 impl<V> Model for Room<V> {
     ghost use Rattle.std.specs.Prelude.{ℕ};
+    ghost use Rattle.radix_nodes.specs.Naming.{number_at};
 
     ghost Value = { ℕ };
 
-    ghost view = { λ r. r.number };
+    ghost view = { λ r. number_at r.space.ptr };
 }

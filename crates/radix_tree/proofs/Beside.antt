@@ -6,43 +6,44 @@ use Rattle.radix_tree.proofs.Words.{◌≡◌, ℕ, ◌<◌, ◌≤◌, ◌==◌
 use Rattle.radix_tree.proofs.Words.{eq-eqb, ne_eqb, Id, Node, LeafOf, BitOf, IsRoute, Placed, Tree, leaf, fork, bit_at, HaveBit, LeafPart, BitPart, Part}
 use Rattle.radix_tree.proofs.Words.{leaves_in, bits_in, name_of, Stands, Way, one_if, leaves_at, forks_at, with_child, name_child, root_after, AreOnce}
 use Rattle.radix_tree.proofs.Words.{IsPlace, IsSpot, IsBeside, forked_tree, IsExchange, Exchanged, lift_leaf, lift_bit, leaf_above, bit_above, Lodged}
+use Rattle.radix_nodes.specs.Naming.{number_of}
 
 -- a name that is not in a room is not the room's
-pub misses_leaf : {A : Type 0} (at : Node) (n : ℕ) → ((room : Id) → at ≡ LeafOf room → n ≡ room.number → ⊥) → (above : Option Id) (said : Option (LeafPart A))
+pub misses_leaf : {A : Type 0} (at : Node) (n : ℕ) → ((room : Id) → at ≡ LeafOf room → n ≡ (number_of room) → ⊥) → (above : Option Id) (said : Option (LeafPart A))
     → lift_leaf at above n said ≡ said
-misses_leaf (LeafOf room) n other above said = ap (λ t. if t then leaf_above above said else said) (ne_eqb n room.number (other room refl))
+misses_leaf (LeafOf room) n other above said = ap (λ t. if t then leaf_above above said else said) (ne_eqb n (number_of room) (other room refl))
 misses_leaf (BitOf room) n other above said = refl
 
-pub misses_bit : (at : Node) (n : ℕ) → ((room : Id) → at ≡ BitOf room → n ≡ room.number → ⊥) → (above : Option Id) (said : Option BitPart)
+pub misses_bit : (at : Node) (n : ℕ) → ((room : Id) → at ≡ BitOf room → n ≡ (number_of room) → ⊥) → (above : Option Id) (said : Option BitPart)
     → lift_bit at above n said ≡ said
 misses_bit (LeafOf room) n other above said = refl
-misses_bit (BitOf room) n other above said = ap (λ t. if t then bit_above above said else said) (ne_eqb n room.number (other room refl))
+misses_bit (BitOf room) n other above said = ap (λ t. if t then bit_above above said else said) (ne_eqb n (number_of room) (other room refl))
 
 module _ {V : Type 0} where
   -- the room of a part's name is in the part
-  pub named_leaf : (t : Tree V) (room : Id) → name_of t ≡ LeafOf room → 1 ≤ leaves_at room.number t
+  pub named_leaf : (t : Tree V) (room : Id) → name_of t ≡ LeafOf room → 1 ≤ leaves_at (number_of room) t
   named_leaf (leaf x xs) room e =
       let same : x.room ≡ room = cc in
-      let own = ap (λ i. one_if (x.room.number == i.number)) (sym same) ∙ one_if_same x.room.number in
+      let own = ap (λ i. one_if ((number_of x.room) == (number_of i))) (sym same) ∙ one_if_same (number_of x.room) in
       omega arith
   named_leaf (fork i b zero one) room e = cc
 
-  pub named_bit : (t : Tree V) (room : Id) → name_of t ≡ BitOf room → 1 ≤ forks_at room.number t
+  pub named_bit : (t : Tree V) (room : Id) → name_of t ≡ BitOf room → 1 ≤ forks_at (number_of room) t
   named_bit (leaf x xs) room e = cc
   named_bit (fork i b zero one) room e =
       let same : i ≡ room = cc in
-      let own = ap (λ j. one_if (i.number == j.number)) (sym same) ∙ one_if_same i.number in omega arith
+      let own = ap (λ j. one_if ((number_of i) == (number_of j))) (sym same) ∙ one_if_same (number_of i) in omega arith
 
   -- ---- the state before and after
   -- a room of the part isn't the new one
-  pub not_new : {m : Lodged V} (p : Part m) (room : Id) → leaves_in m room.number ≡ None → (n : ℕ) → 1 ≤ leaves_at n p.tree → n ≡ room.number → ⊥
+  pub not_new : {m : Lodged V} (p : Part m) (room : Id) → leaves_in m (number_of room) ≡ None → (n : ℕ) → 1 ≤ leaves_at n p.tree → n ≡ (number_of room) → ⊥
   not_new {m = m} p room none n some same =
-      let gone = leaves_there (leaves_in m) (bits_in m) p.above p.tree room.number p.stands none in
+      let gone = leaves_there (leaves_in m) (bits_in m) p.above p.tree (number_of room) p.stands none in
       let is = ap (λ k. leaves_at k p.tree) same in omega arith
 
-  pub not_new_bit : {m : Lodged V} (p : Part m) (room : Id) → bits_in m room.number ≡ None → (n : ℕ) → 1 ≤ forks_at n p.tree → n ≡ room.number → ⊥
+  pub not_new_bit : {m : Lodged V} (p : Part m) (room : Id) → bits_in m (number_of room) ≡ None → (n : ℕ) → 1 ≤ forks_at n p.tree → n ≡ (number_of room) → ⊥
   not_new_bit {m = m} p room none n some same =
-      let gone = forks_there (leaves_in m) (bits_in m) p.above p.tree room.number p.stands none in
+      let gone = forks_there (leaves_in m) (bits_in m) p.above p.tree (number_of room) p.stands none in
       let is = ap (λ k. forks_at k p.tree) same in omega arith
 
   -- the bit node above a part is not in it
@@ -53,7 +54,7 @@ module _ {V : Type 0} where
       let b = way.0 in
       let out = (spine_out m b (way_once address whole p ps way.1 once)).0 in
       ap (λ o. name_child o address to n (bits_in m n)) b.above ∙ ap (λ t. if t then with_child address to (bits_in m n) else bits_in m n)
-      (ne_eqb n b.room.number (λ same. let is = ap (λ k. forks_at k at.tree) same in absurd (omega arith)))
+      (ne_eqb n (number_of b.room) (λ same. let is = ap (λ k. forks_at k at.tree) same in absurd (omega arith)))
 
   -- the part beneath stands beneath the new bit node
   beneath_stands : (m new : Lodged V) {bit : ℕ} (x : Placed V) (whole : Part m) {above : Option Id} (below : Node)

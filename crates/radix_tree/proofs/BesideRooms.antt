@@ -7,6 +7,7 @@ use Rattle.radix_tree.proofs.Words.{Tree, leaf, fork, bit_at, IsIn, routes_of, L
 use Rattle.radix_tree.proofs.Words.{Beneath, Way, one_if, leaves_at, forks_at, HasHome, HaveOneFork, name_child, with_head, forked_tree, Gains, IsPlace}
 use Rattle.radix_tree.proofs.Words.{IsSpot, IsBeside, Exchanged, IsMarked, IsMaskList, MarkedIn, MarkedLists, HasRoomMore, KeepsLeaves, KeepsBits}
 use Rattle.radix_tree.proofs.Words.{KeepsMasks, lift_leaf, leaf_above, Lodged, true≢false}
+use Rattle.radix_nodes.specs.Naming.{number_of}
 
 -- ---- what a room says stays something
 chosen : {A : Type 0} (test : Bool) (x y : Option A) → is_some x ≡ is_some y → is_some (if test then x else y) ≡ is_some y
@@ -18,11 +19,11 @@ or_true true = refl
 or_true false = refl
 
 -- the test of a room's number, either way round
-pub one_if_turned : (room : Id) (n : ℕ) → (n ≡ room.number → ⊥) → one_if (room.number == n) ≡ 0
-one_if_turned room n other = ap one_if (ne_eqb room.number n (λ e. other (sym e)))
+pub one_if_turned : (room : Id) (n : ℕ) → (n ≡ (number_of room) → ⊥) → one_if ((number_of room) == n) ≡ 0
+one_if_turned room n other = ap one_if (ne_eqb (number_of room) n (λ e. other (sym e)))
 
-pub one_if_here : (room : Id) (n : ℕ) → n ≡ room.number → one_if (room.number == n) ≡ 1
-one_if_here room n same = ap one_if (eq-eqb room.number n (sym same))
+pub one_if_here : (room : Id) (n : ℕ) → n ≡ (number_of room) → one_if ((number_of room) == n) ≡ 1
+one_if_here room n same = ap one_if (eq-eqb (number_of room) n (sym same))
 
 module _ {V : Type 0} where
   -- a room's leaf has another bit node above it, or the same
@@ -34,12 +35,12 @@ module _ {V : Type 0} where
   chosen_leaf false above p = (p.leaf.above, refl)
 
   lifts : (at : Node) (above : Option Id) (n : ℕ) (p : LeafPart V) → LiftsTo (lift_leaf at above n (Some p)) p
-  lifts (LeafOf room) above n p = chosen_leaf (n == room.number) above p
+  lifts (LeafOf room) above n p = chosen_leaf (n == (number_of room)) above p
   lifts (BitOf room) above n p = (p.leaf.above, refl)
 
   lift_leaf_some : (at : Node) (above : Option Id) (n : ℕ) (said : Option (LeafPart V)) → is_some (lift_leaf at above n said) ≡ is_some said
-  lift_leaf_some (LeafOf room) above n None = chosen (n == room.number) (leaf_above above None) None refl
-  lift_leaf_some (LeafOf room) above n (Some p) = chosen (n == room.number) (leaf_above above (Some p)) (Some p) refl
+  lift_leaf_some (LeafOf room) above n None = chosen (n == (number_of room)) (leaf_above above None) None refl
+  lift_leaf_some (LeafOf room) above n (Some p) = chosen (n == (number_of room)) (leaf_above above (Some p)) (Some p) refl
   lift_leaf_some (BitOf room) above n said = refl
 
   -- ---- the new bit node's tree
@@ -50,13 +51,13 @@ module _ {V : Type 0} where
     | inr set ↦ subst P (one_forked bit x t set) (one set)
   ]
 
-  pub forked_leaves : (bit : ℕ) (x : Placed V) (t : Tree V) (n : ℕ) → leaves_at n (forked_tree bit x t) ≡ one_if (x.room.number == n) + leaves_at n t
+  pub forked_leaves : (bit : ℕ) (x : Placed V) (t : Tree V) (n : ℕ) → leaves_at n (forked_tree bit x t) ≡ one_if ((number_of x.room) == n) + leaves_at n t
   forked_leaves bit x t n =
-      forked_cases (λ (s : Tree V). leaves_at n s ≡ one_if (x.room.number == n) + leaves_at n t) bit x t (λ clear. omega arith) (λ set. omega arith)
+      forked_cases (λ (s : Tree V). leaves_at n s ≡ one_if ((number_of x.room) == n) + leaves_at n t) bit x t (λ clear. omega arith) (λ set. omega arith)
 
-  pub forked_forks : (bit : ℕ) (x : Placed V) (t : Tree V) (n : ℕ) → forks_at n (forked_tree bit x t) ≡ one_if (x.room.number == n) + forks_at n t
+  pub forked_forks : (bit : ℕ) (x : Placed V) (t : Tree V) (n : ℕ) → forks_at n (forked_tree bit x t) ≡ one_if ((number_of x.room) == n) + forks_at n t
   forked_forks bit x t n =
-      forked_cases (λ (s : Tree V). forks_at n s ≡ one_if (x.room.number == n) + forks_at n t) bit x t (λ clear. omega arith) (λ set. omega arith)
+      forked_cases (λ (s : Tree V). forks_at n s ≡ one_if ((number_of x.room) == n) + forks_at n t) bit x t (λ clear. omega arith) (λ set. omega arith)
 
   in_leaf : (x y : Placed V) → IsIn y (leaf x []) → x ≡ y
   in_leaf x y is = elim is [ inl e ↦ e | inr none ↦ absurd none ]
@@ -70,9 +71,9 @@ module _ {V : Type 0} where
   forked_in bit x t y is = forked_cases (λ (s : Tree V). IsIn y s) bit x t (λ clear. inr is) (λ set. inl is)
 
   pub forked_lists : (H : Heads) {K : Masks} (low bit : ℕ) (x : Placed V) (t : Tree V)
-      → IsMaskList K (H x.room.number) low bit (MarkedIn K (forked_tree bit x t)) → MarkedLists H K (bit + 1) t → MarkedLists H K low (forked_tree bit x t)
+      → IsMaskList K (H (number_of x.room)) low bit (MarkedIn K (forked_tree bit x t)) → MarkedLists H K (bit + 1) t → MarkedLists H K low (forked_tree bit x t)
   forked_lists H {K = K} low bit x t =
-      forked_cases (λ (s : Tree V). IsMaskList K (H x.room.number) low bit (MarkedIn K s) → MarkedLists H K (bit + 1) t → MarkedLists H K low s) bit x t
+      forked_cases (λ (s : Tree V). IsMaskList K (H (number_of x.room)) low bit (MarkedIn K s) → MarkedLists H K (bit + 1) t → MarkedLists H K low s) bit x t
       (λ clear list lists. (list, tt, lists)) (λ set list lists. (list, lists, tt))
 
   -- a route beneath it has its home at the new bit node, or where it had it
@@ -154,20 +155,20 @@ module _ {V : Type 0} where
     pub beside : IsBeside mid new bit x above below
     pub heads : (n : ℕ) → heads_in new n ≡ with_head x.room first n (heads_in mid n)
     pub masks : KeepsMasks mid new
-    pub unmarked : masks_in m x.room.number ≡ None
+    pub unmarked : masks_in m (number_of x.room) ≡ None
 
   module _ {m mid new : Lodged V} {low bit : ℕ} {t : Tree V} (x : Placed V) {above : Option Id} {below : Node} (c : Came m mid new low bit t x above below)
     where
-      pub no_leaf : leaves_in m x.room.number ≡ None
-      no_leaf = sym (c.cut.leaves x.room.number) ∙ c.beside.no_leaf
+      pub no_leaf : leaves_in m (number_of x.room) ≡ None
+      no_leaf = sym (c.cut.leaves (number_of x.room)) ∙ c.beside.no_leaf
 
-      pub no_bit : bits_in m x.room.number ≡ None
-      no_bit = sym (c.cut.bits x.room.number) ∙ c.beside.no_bit
+      pub no_bit : bits_in m (number_of x.room) ≡ None
+      no_bit = sym (c.cut.bits (number_of x.room)) ∙ c.beside.no_bit
 
-      pub other_leaf : (n : ℕ) → (n ≡ x.room.number → ⊥) → is_some (leaves_in new n) ≡ is_some (leaves_in m n)
+      pub other_leaf : (n : ℕ) → (n ≡ (number_of x.room) → ⊥) → is_some (leaves_in new n) ≡ is_some (leaves_in m n)
       other_leaf n other = ap is_some (c.beside.leaves n other) ∙ lift_leaf_some below (Some x.room) n (leaves_in mid n) ∙ ap is_some (c.cut.leaves n)
 
-      pub other_bit : (n : ℕ) → (n ≡ x.room.number → ⊥) → is_some (bits_in new n) ≡ is_some (bits_in m n)
+      pub other_bit : (n : ℕ) → (n ≡ (number_of x.room) → ⊥) → is_some (bits_in new n) ≡ is_some (bits_in m n)
       other_bit n other = ap is_some (c.beside.bits n other) ∙ lift_used below (Some x.room) n
           (name_child above x.entry.key (BitOf x.room) n (bits_in mid n)) ∙ turn_used above x.entry.key n (BitOf x.room) (bits_in mid n)
           ∙ ap is_some (c.cut.bits n)
@@ -176,19 +177,19 @@ module _ {V : Type 0} where
       same_marks n = ap is_some (c.masks n) ∙ c.cut.marks n
 
       pub new_unmarked : IsMarked (masks_in new) x → ⊥
-      new_unmarked marked = true≢false (sym marked ∙ same_marks x.room.number ∙ ap is_some c.unmarked)
+      new_unmarked marked = true≢false (sym marked ∙ same_marks (number_of x.room) ∙ ap is_some c.unmarked)
 
-      pub room_more : HasRoomMore m new x.room.number
-      room_more n = elim (cases_eq n x.room.number) [
+      pub room_more : HasRoomMore m new (number_of x.room)
+      room_more n = elim (cases_eq n (number_of x.room)) [
         | inl same ↦ ap (λ k. is_some (leaves_in new k)) same ∙ ap is_some c.beside.leaf
-            ∙ sym (ap (λ b. b || is_some (leaves_in m n)) (eq-eqb n x.room.number same))
-        | inr other ↦ other_leaf n other ∙ sym (ap (λ b. b || is_some (leaves_in m n)) (ne_eqb n x.room.number other))
+            ∙ sym (ap (λ b. b || is_some (leaves_in m n)) (eq-eqb n (number_of x.room) same))
+        | inr other ↦ other_leaf n other ∙ sym (ap (λ b. b || is_some (leaves_in m n)) (ne_eqb n (number_of x.room) other))
       ]
 
       pub leaf_kept : (n : ℕ) (p : LeafPart V) → leaves_in m n ≡ Some p
           → (a : Option Id) × (leaves_in new n ≡ Some (record p { leaf = record p.leaf { above = a } }))
       leaf_kept n p is =
-          let other : n ≡ x.room.number → ⊥ = λ same. some_none (sym is ∙ ap (leaves_in m) same ∙ no_leaf) in
+          let other : n ≡ (number_of x.room) → ⊥ = λ same. some_none (sym is ∙ ap (leaves_in m) same ∙ no_leaf) in
           let l = lifts below (Some x.room) n p in
           (l.0, c.beside.leaves n other ∙ ap (lift_leaf below (Some x.room) n) (c.cut.leaves n ∙ is) ∙ l.1)
         where

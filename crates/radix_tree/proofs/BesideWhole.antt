@@ -14,6 +14,7 @@ use Rattle.radix_tree.proofs.BesideRooms.{or_true, one_if_turned, one_if_here, f
 use Rattle.radix_tree.proofs.BesideRooms.{forked_lists, home_forked, forked_home, forked_spare, forked_gains, Came, no_leaf, no_bit, other_leaf}
 use Rattle.radix_tree.proofs.BesideRooms.{other_bit, same_marks, new_unmarked}
 use Rattle.radix_tree.proofs.Words.{true≢false}
+use Rattle.radix_nodes.specs.Naming.{number_of}
 
 module _ {V : Type 0} where
   -- ---- the whole
@@ -23,9 +24,9 @@ module _ {V : Type 0} where
 
   pub counts : (m : Lodged V) {mid : Lodged V} (new : Lodged V) {low bit : ℕ} {t : Tree V} (x : Placed V) {above : Option Id} {below : Node}
       (c : Came m mid new low bit t x above below) (n : ℕ)
-      → (one_if (x.room.number == n) + one_if (is_some (leaves_in m n)) ≡ one_if (is_some (leaves_in new n)))
-      × (one_if (x.room.number == n) + one_if (is_some (bits_in m n)) ≡ one_if (is_some (bits_in new n)))
-  counts m new {t = t} x c n = elim (cases_eq n x.room.number) [
+      → (one_if ((number_of x.room) == n) + one_if (is_some (leaves_in m n)) ≡ one_if (is_some (leaves_in new n)))
+      × (one_if ((number_of x.room) == n) + one_if (is_some (bits_in m n)) ≡ one_if (is_some (bits_in new n)))
+  counts m new {t = t} x c n = elim (cases_eq n (number_of x.room)) [
     | inl same ↦ let here = one_if_here x.room n same in
         let l = ap (λ o. one_if (is_some o)) (ap (leaves_in m) same ∙ no_leaf x c) in
         let b = ap (λ o. one_if (is_some o)) (ap (bits_in m) same ∙ no_bit x c) in
@@ -41,11 +42,11 @@ module _ {V : Type 0} where
   -- a route that the new bit node would be the home of is late, or had a home
   late_or_home : (m : Lodged V) (bit key room : ℕ) (p : Part m) (y : Placed V) (t : Tree V) → p.tree ≡ t → IsTree (bit + 1) p.tree
       → ((z : Placed V) (zs : List (Placed V)) → p.tree ≡ leaf z zs → y.entry.key ≡ key) → IsIn y p.tree → y.entry.rank ≤ bit
-      → (late_beside m key room y.room.number ≡ true) ⊎ HasHome y.entry.key y.entry.rank p.tree
+      → (late_beside m key room (number_of y.room) ≡ true) ⊎ HasHome y.entry.key y.entry.rank p.tree
   late_or_home m bit key room p y (leaf z zs) is tree keyed at short =
       let said = tree_said (leaves_in m) (bits_in m) p.above p.tree p.stands y at in
       let has = ap (is_of_key key) said.3 ∙ eq-eqb y.entry.key key (keyed z zs is) in
-      inl (ap (λ b. (y.room.number == room) || b) has ∙ or_true (y.room.number == room))
+      inl (ap (λ b. ((number_of y.room) == room) || b) has ∙ or_true ((number_of y.room) == room))
   late_or_home m bit key room p y (fork i b zero one) is tree keyed at short =
       let past = (subst (IsTree (bit + 1)) is tree).0.rises in
       let home : y.entry.rank ≤ b = omega arith in
@@ -55,7 +56,7 @@ module _ {V : Type 0} where
       (s : IsSpot m x.entry.key bit w.part above below) where
     fits_beside : (mid new : Lodged V) (key : ℕ) (u : Part new) → Came m mid new s.at.low bit s.at.tree x above below → u.tree ≡ forked_tree bit x s.at.tree
         → ((y z : Placed V) (zs : List (Placed V)) → IsIn y s.at.tree → s.at.tree ≡ leaf z zs → y.entry.key ≡ key)
-        → Fits m new w.part s.at u nobody_late (late_beside m key x.room.number) nobody_out nobody_out
+        → Fits m new w.part s.at u nobody_late (late_beside m key (number_of x.room)) nobody_out nobody_out
     fits_beside mid new key u c tree keyed =
         let t = s.at.tree in
         let low = s.at.low in
@@ -63,8 +64,8 @@ module _ {V : Type 0} where
         let new_one : (y : Placed V) → x ≡ y → IsMarked (masks_in new) y → ⊥ =
         λ y e marked. new_unmarked x c (subst (IsMarked (masks_in new)) (sym e) marked) in
         let not_room = not_new_bit s.at x.room (no_bit x c) in
-        let off : (n : ℕ) → (n ≡ x.room.number → ⊥) → heads_in new n ≡ heads_in mid n =
-        λ n other. c.heads n ∙ ap (λ b. if b then c.first else heads_in mid n) (ne_eqb n x.room.number other) in
+        let off : (n : ℕ) → (n ≡ (number_of x.room) → ⊥) → heads_in new n ≡ heads_in mid n =
+        λ n other. c.heads n ∙ ap (λ b. if b then c.first else heads_in mid n) (ne_eqb n (number_of x.room) other) in
         let rises = s.place.rises in
         record {
           leaves = λ n. let e = (counts m new x c n).0 in
@@ -75,7 +76,7 @@ module _ {V : Type 0} where
               omega arith;
           heads = λ n none some. off n (not_new_bit w.part x.room (no_bit x c) n some) ∙ c.cut.heads n none;
           masks = λ n none some. c.masks n ∙ c.cut.masks n none;
-          masks_above = λ y at short marked. c.masks y.room.number ∙ c.cut.masks_above y at short;
+          masks_above = λ y at short marked. c.masks (number_of y.room) ∙ c.cut.masks_above y at short;
           marks = λ n p is. some_of (masks_in m n) (sym (marks n) ∙ ap is_some is);
           kept = λ y at marked. (
             subst (IsIn y) (sym tree) (forked_in bit x s.at.tree y at),
@@ -85,41 +86,41 @@ module _ {V : Type 0} where
             | inl e ↦ absurd (new_one y e marked)
             | inr at ↦ at
           ];
-          gone = λ y at short marked. marks y.room.number ∙ marked;
+          gone = λ y at short marked. marks (number_of y.room) ∙ marked;
           lists = subst (MarkedLists (heads_in new) (masks_in new) s.at.low) (sym tree) (forked_lists (heads_in new) s.at.low bit x s.at.tree
               (mask_list_same (masks_in mid) (masks_in new) s.at.low bit (MarkedIn (masks_in new) (forked_tree bit x s.at.tree))
-              (c.heads x.room.number ∙ ap (λ b. if b then c.first else heads_in mid x.room.number) (eq-eqb x.room.number x.room.number refl))
+              (c.heads (number_of x.room) ∙ ap (λ b. if b then c.first else heads_in mid (number_of x.room)) (eq-eqb (number_of x.room) (number_of x.room) refl))
               (λ y member most. (
-                (forked_in bit x s.at.tree y member.0, marked_same (masks_in mid) (masks_in new) y (c.masks y.room.number) member.1),
-                c.masks y.room.number,
+                (forked_in bit x s.at.tree y member.0, marked_same (masks_in mid) (masks_in new) y (c.masks (number_of y.room)) member.1),
+                c.masks (number_of y.room),
               )) (λ y member most. (
                 elim (in_forked bit x s.at.tree y member.0) [ inl e ↦ absurd (new_one y e member.1) | inr at ↦ at ],
-                marked_same (masks_in new) (masks_in mid) y (sym (c.masks y.room.number)) member.1,
+                marked_same (masks_in new) (masks_in mid) y (sym (c.masks (number_of y.room))) member.1,
               )) c.cut.list) (lists_same (heads_in mid) (heads_in new) (masks_in mid) (masks_in new) (bit + 1) s.at.tree (λ n some. off n (not_room n some))
-              (λ y at. c.masks y.room.number) c.cut.lists));
+              (λ y at. c.masks (number_of y.room)) c.cut.lists));
           all = λ y there home. elim (in_forked bit x s.at.tree y (subst (IsIn y) tree there)) [
-            | inl e ↦ inl (ap (λ b. b || has_key m key y.room.number) (eq-eqb y.room.number x.room.number (ap (λ p. p.room.number) (sym e))))
+            | inl e ↦ inl (ap (λ b. b || has_key m key (number_of y.room)) (eq-eqb (number_of y.room) (number_of x.room) (ap (λ p. (number_of p.room)) (sym e))))
             | inr at ↦ elim home [
               | inl short ↦ inr (
                 at,
                 inl short,
-                (λ (marked : IsMarked (masks_in m) y). marks y.room.number ∙ marked),
+                (λ (marked : IsMarked (masks_in m) y). marks (number_of y.room) ∙ marked),
                 (λ (late : false ≡ true). absurd (true≢false (sym late))),
               )
               | inr new_home ↦ elim (home_forked bit x s.at.tree y.entry.key y.entry.rank (subst (HasHome y.entry.key y.entry.rank) tree new_home)) [
-                | inl here ↦ elim (late_or_home m bit key x.room.number s.at y s.at.tree refl s.place.is (λ z zs is. keyed y z zs at is) at here) [
+                | inl here ↦ elim (late_or_home m bit key (number_of x.room) s.at y s.at.tree refl s.place.is (λ z zs is. keyed y z zs at is) at here) [
                   | inl late ↦ inl late
                   | inr had ↦ inr (
                     at,
                     inr had,
-                    (λ (marked : IsMarked (masks_in m) y). marks y.room.number ∙ marked),
+                    (λ (marked : IsMarked (masks_in m) y). marks (number_of y.room) ∙ marked),
                     (λ (late : false ≡ true). absurd (true≢false (sym late))),
                   )
                 ]
                 | inr had ↦ inr (
                   at,
                   inr had,
-                  (λ (marked : IsMarked (masks_in m) y). marks y.room.number ∙ marked),
+                  (λ (marked : IsMarked (masks_in m) y). marks (number_of y.room) ∙ marked),
                   (λ (late : false ≡ true). absurd (true≢false (sym late))),
                 )
               ]
@@ -134,14 +135,14 @@ module _ {V : Type 0} where
           → HaveOneFork (bits_in new) e.part.tree
       spare_beside mid c tree =
           let none = no_leaf x c in
-          let idle : (n : ℕ) → (n ≡ x.room.number → ⊥) → bits_in m n ≡ None → bits_in new n ≡ None =
+          let idle : (n : ℕ) → (n ≡ (number_of x.room) → ⊥) → bits_in m n ≡ None → bits_in new n ≡ None =
           λ n other. same_none (bits_in new n) (other_bit x c n other) in
           spare_changed w e (λ spare. subst (HaveOneFork (bits_in new)) (sym tree) (forked_spare (bits_in new) bit x s.at.tree
-          (spare_same (bits_in m) (bits_in new) s.at.tree (λ y at. idle y.room.number (not_new s.at x.room none y.room.number (counted_leaf y s.at.tree at)))
+          (spare_same (bits_in m) (bits_in new) s.at.tree (λ y at. idle (number_of y.room) (not_new s.at x.room none (number_of y.room) (counted_leaf y s.at.tree at)))
           spare))) (λ n out some. idle n (not_new w.part x.room none n some))
 
       pub whole_beside : {mid : Lodged V} {room : Id} (d : LedTo x.entry.key w.part room) → Came m mid new s.at.low bit s.at.tree x above below
-          → u.tree ≡ forked_tree bit x s.at.tree → IsWholeBut new name (late_beside m d.leaf.first.entry.key x.room.number) nobody_out
+          → u.tree ≡ forked_tree bit x s.at.tree → IsWholeBut new name (late_beside m d.leaf.first.entry.key (number_of x.room)) nobody_out
       whole_beside {mid = mid} d c tree =
           let f = d.leaf in
           let chain = (subst (IsTree d.part.low) f.is d.part.is).1 in
@@ -160,15 +161,15 @@ module _ {V : Type 0} where
   new_key w d differs = record { whole = w.part; led = d; top = w.top; low = w.low; once = once_but w; differs = differs }
 
   pub came_beside : {m mid new : Lodged V} {root : Node} (w : IsWhole m root) {bit : ℕ} {x : Placed V} {above : Option Id} {below : Node} (first : Option Id)
-      (s : IsSpot m x.entry.key bit w.part above below) → ((fork : Id) (ms : List (Placed V)) → below ≡ BitOf fork → IsMasks m (heads_in m fork.number) ms
-      → IsMasks mid (heads_in mid fork.number) (past_bit bit ms))
-      → ((fork : Id) (ms : List (Placed V)) → below ≡ BitOf fork → IsMasks m (heads_in m fork.number) ms → IsMasks mid first (up_to_bit bit ms))
+      (s : IsSpot m x.entry.key bit w.part above below) → ((fork : Id) (ms : List (Placed V)) → below ≡ BitOf fork → IsMasks m (heads_in m (number_of fork)) ms
+      → IsMasks mid (heads_in mid (number_of fork)) (past_bit bit ms))
+      → ((fork : Id) (ms : List (Placed V)) → below ≡ BitOf fork → IsMasks m (heads_in m (number_of fork)) ms → IsMasks mid first (up_to_bit bit ms))
       → ((room : Id) → below ≡ LeafOf room → (first ≡ None) × (mid ≡ m))
-      → ((n : ℕ) → ((fork : Id) → below ≡ BitOf fork → n ≡ fork.number → ⊥) → heads_in mid n ≡ heads_in m n)
-      → ((fork : Id) (ms : List (Placed V)) → below ≡ BitOf fork → IsMasks m (heads_in m fork.number) ms → (n : ℕ) → IsAside n ms
+      → ((n : ℕ) → ((fork : Id) → below ≡ BitOf fork → n ≡ (number_of fork) → ⊥) → heads_in mid n ≡ heads_in m n)
+      → ((fork : Id) (ms : List (Placed V)) → below ≡ BitOf fork → IsMasks m (heads_in m (number_of fork)) ms → (n : ℕ) → IsAside n ms
       → masks_in mid n ≡ masks_in m n) → ((n : ℕ) → is_some (masks_in mid n) ≡ is_some (masks_in m n)) → KeepsLeaves m mid → KeepsBits m mid
       → IsBeside mid new bit x above below → ((n : ℕ) → heads_in new n ≡ with_head x.room first n (heads_in mid n)) → KeepsMasks mid new
-      → masks_in m x.room.number ≡ None → Came m mid new s.at.low bit s.at.tree x above below
+      → masks_in m (number_of x.room) ≡ None → Came m mid new s.at.low bit s.at.tree x above below
   came_beside {m = m} {mid = mid} w {bit = bit} {x = x} {below = below} first s kept others same heads masks marks leaves bits beside new_heads new_masks
       unmarked = record {
         first = first;

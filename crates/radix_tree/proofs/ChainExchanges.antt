@@ -8,6 +8,7 @@ use Rattle.radix_tree.proofs.Words.{bit_at, HaveBit, IsAmong, IsIn, IsChain, IsT
 use Rattle.radix_tree.proofs.Words.{Way, one_if, members_at, leaves_at, forks_at, HasHome, HasOneFork, HaveOneFork, shown, name_child, with_child}
 use Rattle.radix_tree.proofs.Words.{root_after, IsExchange, Exchanged, IsMarked, IsWholeBut, KeepsHeads, KeepsMasks, above_behind, last_room, root_past}
 use Rattle.radix_tree.proofs.Words.{Lodged}
+use Rattle.radix_nodes.specs.Naming.{number_of}
 
 -- ---- the bit node above
 pub one_more : (has : ℕ → Bool) (a n : ℕ) → has a ≡ false → one_if ((n == a) || has n) ≡ one_if (a == n) + one_if (has n)
@@ -30,10 +31,10 @@ module _ {V : Type 0} where
   turn_same m key whole at (p ∷ ps) way top n =
       let b = way.0 in
       ap (λ o. name_child o key (name_of at.tree) n (bits_in m n)) b.above
-      ∙ elim (n == b.room.number) as (λ t. (n == b.room.number) ≡ t → (if t then with_child key (name_of at.tree) (bits_in m n) else bits_in m n)
+      ∙ elim (n == (number_of b.room)) as (λ t. (n == (number_of b.room)) ≡ t → (if t then with_child key (name_of at.tree) (bits_in m n) else bits_in m n)
       ≡ bits_in m n) [
-        | true ↦ λ e. ap (λ k. with_child key (name_of at.tree) (bits_in m k)) (eqb-true n b.room.number e)
-            ∙ sym (same_turned key p (name_of at.tree) b refl) ∙ ap (bits_in m) (sym (eqb-true n b.room.number e))
+        | true ↦ λ e. ap (λ k. with_child key (name_of at.tree) (bits_in m k)) (eqb-true n (number_of b.room) e)
+            ∙ sym (same_turned key p (name_of at.tree) b refl) ∙ ap (bits_in m) (sym (eqb-true n (number_of b.room) e))
         | false ↦ λ e. refl
       ] refl
 
@@ -158,11 +159,11 @@ module _ {V : Type 0} where
     no_home k rank home = subst (HasHome k rank) r.is home
 
     pub same_marks : (y : Placed V) → IsMarked (masks_in m) y → IsMarked (masks_in new) y
-    same_marks y marked = ap is_some (r.masks y.room.number) ∙ marked
+    same_marks y marked = ap is_some (r.masks (number_of y.room)) ∙ marked
 
-  pub not_marked : (m new : Lodged V) (x y : Placed V) → KeepsMasks m new → masks_in m x.room.number ≡ None → x ≡ y → IsMarked (masks_in new) y → ⊥
-  not_marked m new x y keeps none same marked = true≢false (sym marked ∙ ap (λ p. is_some (masks_in new p.room.number)) (sym same)
-      ∙ ap is_some (keeps x.room.number ∙ none))
+  pub not_marked : (m new : Lodged V) (x y : Placed V) → KeepsMasks m new → masks_in m (number_of x.room) ≡ None → x ≡ y → IsMarked (masks_in new) y → ⊥
+  not_marked m new x y keeps none same marked = true≢false (sym marked ∙ ap (λ p. is_some (masks_in new (number_of p.room))) (sym same)
+      ∙ ap is_some (keeps (number_of x.room) ∙ none))
 
   pub same_forks : (m new : Lodged V) (key : ℕ) {whole : Part m} (at : Part m) {old now : List (Placed V)} (r : Rechained m new key whole at old now) (n : ℕ)
       → forks_at n (under r).tree + one_if (is_some (bits_in m n)) ≡ forks_at n at.tree + one_if (is_some (bits_in new n))

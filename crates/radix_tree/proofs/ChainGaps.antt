@@ -7,6 +7,7 @@ use Rattle.radix_tree.proofs.Words.{ap, ◌∙◌, subst, inl, inr, arith, appen
 use Rattle.radix_tree.proofs.Words.{Placed, IsAmong, Leaves, Run, leaves_in, first_room, leaf_part, ChainStands, above_behind, last_room, ArePast}
 use Rattle.radix_tree.proofs.Words.{IsBelow, Passed, FindsGap, Lodged}
 use Rattle.radix_tree.proofs.{MaskLists.in_back}
+use Rattle.radix_nodes.specs.Naming.{number_of}
 
 -- what a comparison of ranks says
 pub less_of : (a b : ℕ) → is_lt (nat_cmp a b) ≡ true → a < b
@@ -45,8 +46,8 @@ module _ {V : Type 0} where
 
   -- ---- the member that a walk has come to
   pub head_said : (m : Lodged V) (above previous : Option Id) {ms : List (Placed V)} {at : Id} (x : IsHead ms at) → ChainStands (leaves_in m) above previous
-      ms → leaves_in m at.number ≡ Some (leaf_part x.first above previous (first_room x.behind))
-  head_said m above previous x stands = ap (λ i. leaves_in m i.number) (sym x.room_is) ∙ (subst (ChainStands (leaves_in m) above previous) x.is stands).0
+      ms → leaves_in m (number_of at) ≡ Some (leaf_part x.first above previous (first_room x.behind))
+  head_said m above previous x stands = ap (λ i. leaves_in m (number_of i)) (sym x.room_is) ∙ (subst (ChainStands (leaves_in m) above previous) x.is stands).0
 
   head_there : (m : Lodged V) (above previous : Option Id) {ms : List (Placed V)} (at : Id) → IsHead ms at → ChainStands (leaves_in m) above previous ms
       → Has m at

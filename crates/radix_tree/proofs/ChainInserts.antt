@@ -11,6 +11,7 @@ use Rattle.radix_tree.proofs.Words.{leaves_in, bits_in, masks_in, name_of, first
 use Rattle.radix_tree.proofs.Words.{members_at, leaves_at, IsWhole, shown, name_child, root_after, placed, Gains, AreOnce, IsWholeBut, late_at}
 use Rattle.radix_tree.proofs.Words.{nobody_out, lodge_leaf, KeepsBits, KeepsHeads, KeepsMasks, leaf_next, leaf_back, name_next, name_back, link_in}
 use Rattle.radix_tree.proofs.Words.{above_behind, last_room, root_past, IsGap, FindsGap, content_of, Entry, Lodged, []}
+use Rattle.radix_nodes.specs.Naming.{number_of}
 
 module _ {V : Type 0} where
   -- ---- members on both sides of a place are in the map
@@ -53,11 +54,11 @@ module _ {V : Type 0} where
         (sym (ap (λ z. z.next) g.leaf) ∙ is)
 
   -- it is there once the room is lodged
-  pub lodged_above : (m new : Lodged V) (room : Id) (value : V) (l : Leaf) (up : Id) → leaves_in m room.number ≡ None
+  pub lodged_above : (m new : Lodged V) (room : Id) (value : V) (l : Leaf) (up : Id) → leaves_in m (number_of room) ≡ None
       → ((n : ℕ) → leaves_in new n ≡ lodge_leaf room value l n (leaves_in m n)) → KeepsBits m new → (p : Part m) × ForkAt p up → (p : Part new) × ForkAt p up
   lodged_above m new room value l up free leaves bits p = (
     stays m new p.0 (λ n some. leaves n ∙ ap (λ t. if t then Some (record { block = room.block; value = value; leaf = l }) else leaves_in m n)
-        (ne_eqb n room.number (not_new p.0 room free n some))) (λ n some. bits n),
+        (ne_eqb n (number_of room) (not_new p.0 room free n some))) (λ n some. bits n),
     record { bit = p.1.bit; zero = p.1.zero; one = p.1.one; is = p.1.is },
   )
 
@@ -67,9 +68,9 @@ module _ {V : Type 0} where
 
   -- ---- what the writes leave
   pub record IsWritten (m new : Lodged V) (id : Id) (e : Entry V) (l : Leaf) : Type 0 where
-    pub free : leaves_in m id.number ≡ None
-    pub no_bit : bits_in m id.number ≡ None
-    pub no_mask : masks_in m id.number ≡ None
+    pub free : leaves_in m (number_of id) ≡ None
+    pub no_bit : bits_in m (number_of id) ≡ None
+    pub no_mask : masks_in m (number_of id) ≡ None
     pub leaves : (n : ℕ) → leaves_in new n ≡ link_in id e.value l n (leaves_in m n)
     pub bits : (n : ℕ) → bits_in new n ≡ name_child l.above e.key (LeafOf id) n (bits_in m n)
     pub heads : KeepsHeads m new
@@ -86,7 +87,7 @@ module _ {V : Type 0} where
 
   pub next_same : (before next : Option Id) (n : ℕ) (said : Option (LeafPart V)) → content_of (name_next before next n said) ≡ content_of said
   next_same None next n said = refl
-  next_same (Some room) next n said = elim (n == room.number) as (λ t. content_of (if t then leaf_next next said else said) ≡ content_of said) [
+  next_same (Some room) next n said = elim (n == (number_of room)) as (λ t. content_of (if t then leaf_next next said else said) ≡ content_of said) [
     | true ↦ next_content next said
     | false ↦ refl
   ]
@@ -95,21 +96,21 @@ module _ {V : Type 0} where
       → content_of (name_back behind above previous n said) ≡ content_of said
   back_same None above previous n said = refl
   back_same (Some room) above previous n said =
-      elim (n == room.number) as (λ t. content_of (if t then leaf_back above previous said else said) ≡ content_of said) [
+      elim (n == (number_of room)) as (λ t. content_of (if t then leaf_back above previous said else said) ≡ content_of said) [
         | true ↦ back_content above previous said
         | false ↦ refl
       ]
 
   lodged_some : (room : Id) (value : V) (l : Leaf) (n : ℕ) (said : Option (LeafPart V))
-      → is_some (lodge_leaf room value l n said) ≡ (n == room.number) || is_some said
+      → is_some (lodge_leaf room value l n said) ≡ (n == (number_of room)) || is_some said
   lodged_some room value l n said =
-      elim (n == room.number) as (λ t. is_some (if t then Some (record { block = room.block; value = value; leaf = l }) else said) ≡ t || is_some said) [
+      elim (n == (number_of room)) as (λ t. is_some (if t then Some (record { block = room.block; value = value; leaf = l }) else said) ≡ t || is_some said) [
         | true ↦ refl
         | false ↦ refl
       ]
 
   pub linked_rooms : (m new : Lodged V) (id : Id) (value : V) (l : Leaf) → ((n : ℕ) → leaves_in new n ≡ link_in id value l n (leaves_in m n)) → (n : ℕ)
-      → is_some (leaves_in new n) ≡ (n == id.number) || is_some (leaves_in m n)
+      → is_some (leaves_in new n) ≡ (n == (number_of id)) || is_some (leaves_in m n)
   linked_rooms m new id value l is n = ap is_some (is n) ∙ content_used (link_in id value l n (leaves_in m n)) (lodge_leaf id value l n (leaves_in m n))
       (back_same l.next None (Some id) n (name_next l.previous (Some id) n (lodge_leaf id value l n (leaves_in m n)))
       ∙ next_same l.previous (Some id) n (lodge_leaf id value l n (leaves_in m n))) ∙ lodged_some id value l n (leaves_in m n)
@@ -164,8 +165,8 @@ module _ {V : Type 0} where
         ∙ place_root m e.key w.part d.part d.ups g.front g.back (placed id e) d.way w.top (front_named g.front g.back d.leaf.is g.is))
 
     pub inserted_whole : (new : Lodged V) (id : Id) → d.leaf.first.entry.key ≡ e.key → IsRoute e → IsWritten m new id e l
-        → IsWholeBut new (root_past l.previous l.above (LeafOf id) root) (late_at id.number) nobody_out
-    inserted_whole new id same route wr = subst (λ z. IsWholeBut new z (late_at id.number) nobody_out) (in_name new id)
+        → IsWholeBut new (root_past l.previous l.above (LeafOf id) root) (late_at (number_of id)) nobody_out
+    inserted_whole new id same route wr = subst (λ z. IsWholeBut new z (late_at (number_of id)) nobody_out) (in_name new id)
         (grown_whole w g.front g.back (placed id e) (in_chain new id same route wr) d.ups d.way wr.free wr.no_mask wr.no_bit
         (linked_rooms m new id e.value l wr.leaves))
 
@@ -183,9 +184,9 @@ module _ {V : Type 0} where
       let own = way_inside m key w.part d.part d.ups d.way g.0 inside_leaf in
       let s = tree_said (leaves_in m) (bits_in m) w.part.above w.part.tree w.part.stands g.0 own in
       let p = leaf_part g.0 s.0 s.1 s.2 in
-      let counts = v.leaves g.0.room.number in
+      let counts = v.leaves (number_of g.0.room) in
       let one = ap (λ o. one_if (is_some o)) s.3 in
-      let r = room_route m v.part g.0.room.number s.3 (omega arith) in
+      let r = room_route m v.part (number_of g.0.room) s.3 (omega arith) in
       let c = chain_of d in (
         r.route,
         r.is_in,

@@ -4,37 +4,38 @@ use Rattle.radix_tree.proofs.{ChainGaps.behind_stands, ChainLists.members_append
 use Rattle.radix_tree.proofs.Words.{◌≡◌, ℕ, ◌+◌, ◌≤◌, ◌==◌, List, [], ◌∷◌, ◌++◌, Option, Some, None, refl, sym, ap, ◌∙◌, arith, Id, Leaf, Placed}
 use Rattle.radix_tree.proofs.Words.{LeafPart, Leaves, first_room, ChainStands, one_if, members_at, lodge_leaf, leaf_next, leaf_back, name_next, name_back}
 use Rattle.radix_tree.proofs.Words.{link_in, link_out, above_behind, last_room}
+use Rattle.radix_nodes.specs.Naming.{number_of}
 
 module _ {V : Type 0} where
   -- ---- rooms that are not written
-  next_off : (before next : Option Id) (n : ℕ) (said : Option (LeafPart V)) → ((r : Id) → before ≡ Some r → n ≡ r.number → ⊥)
+  next_off : (before next : Option Id) (n : ℕ) (said : Option (LeafPart V)) → ((r : Id) → before ≡ Some r → n ≡ (number_of r) → ⊥)
       → name_next before next n said ≡ said
   next_off None next n said other = refl
   next_off (Some room) next n said other = off_room room n (leaf_next next said) said (other room refl)
 
-  back_off : (behind above previous : Option Id) (n : ℕ) (said : Option (LeafPart V)) → ((r : Id) → behind ≡ Some r → n ≡ r.number → ⊥)
+  back_off : (behind above previous : Option Id) (n : ℕ) (said : Option (LeafPart V)) → ((r : Id) → behind ≡ Some r → n ≡ (number_of r) → ⊥)
       → name_back behind above previous n said ≡ said
   back_off None above previous n said other = refl
   back_off (Some room) above previous n said other = off_room room n (leaf_back above previous said) said (other room refl)
 
   -- ---- the members on both sides of a place
-  own_counts : (x : Placed V) (c : List (Placed V)) → 1 ≤ members_at x.room.number (x ∷ c)
-  own_counts x c = let one = one_if_same x.room.number in omega arith
+  own_counts : (x : Placed V) (c : List (Placed V)) → 1 ≤ members_at (number_of x.room) (x ∷ c)
+  own_counts x c = let one = one_if_same (number_of x.room) in omega arith
 
-  last_in : (x : Placed V) (c : List (Placed V)) (r : Id) → last_room (Some x.room) c ≡ Some r → 1 ≤ members_at r.number (x ∷ c)
+  last_in : (x : Placed V) (c : List (Placed V)) (r : Id) → last_room (Some x.room) c ≡ Some r → 1 ≤ members_at (number_of r) (x ∷ c)
   last_in x [] r is =
-      let one = ap (λ i. one_if (x.room.number == i.number)) (sym (inside is)) ∙ one_if_same x.room.number in
+      let one = ap (λ i. one_if ((number_of x.room) == (number_of i))) (sym (inside is)) ∙ one_if_same (number_of x.room) in
       omega arith
   last_in x (y ∷ c) r is = let rest = last_in y c r is in omega arith
 
-  pub last_among : (c : List (Placed V)) (r : Id) → last_room None c ≡ Some r → 1 ≤ members_at r.number c
+  pub last_among : (c : List (Placed V)) (r : Id) → last_room None c ≡ Some r → 1 ≤ members_at (number_of r) c
   last_among [] r is = absurd (none_some is)
   last_among (x ∷ c) r is = last_in x c r is
 
-  pub first_among : (c : List (Placed V)) (r : Id) → first_room c ≡ Some r → 1 ≤ members_at r.number c
+  pub first_among : (c : List (Placed V)) (r : Id) → first_room c ≡ Some r → 1 ≤ members_at (number_of r) c
   first_among [] r is = absurd (none_some is)
   first_among (x ∷ c) r is =
-      let one = ap (λ i. one_if (x.room.number == i.number)) (sym (inside is)) ∙ one_if_same x.room.number in
+      let one = ap (λ i. one_if ((number_of x.room) == (number_of i))) (sym (inside is)) ∙ one_if_same (number_of x.room) in
       omega arith
 
   -- ---- a chain whose end is another one
@@ -43,14 +44,14 @@ module _ {V : Type 0} where
       → ChainStands M (above_behind above front) (last_room previous front) now → ChainStands M above previous (front ++ now)
   front_linked L M above previous [] old now stands said once rest = rest
   front_linked L M above previous (y ∷ []) old now stands said once rest = (
-    said y.room.number (own_counts y []) ∙ own_room y.room (leaf_next (first_room now) (L y.room.number)) (L y.room.number)
+    said (number_of y.room) (own_counts y []) ∙ own_room y.room (leaf_next (first_room now) (L (number_of y.room))) (L (number_of y.room))
         ∙ ap (leaf_next (first_room now)) stands.0,
     rest,
   )
   front_linked L M above previous (y ∷ z ∷ front) old now stands said once rest = (
-    said y.room.number (own_counts y (z ∷ front)) ∙ next_off (last_room (Some z.room) front) (first_room now) y.room.number (L y.room.number)
-        (λ r is same. let behind = last_in z front r is in let most = once r.number in
-        let one = ap (λ k. one_if (y.room.number == k)) (sym same) ∙ one_if_same y.room.number in omega arith) ∙ stands.0,
+    said (number_of y.room) (own_counts y (z ∷ front)) ∙ next_off (last_room (Some z.room) front) (first_room now) (number_of y.room) (L (number_of y.room))
+        (λ r is same. let behind = last_in z front r is in let most = once (number_of r) in
+        let one = ap (λ k. one_if ((number_of y.room) == k)) (sym same) ∙ one_if_same (number_of y.room) in omega arith) ∙ stands.0,
     front_linked L M None (Some y.room) (z ∷ front) old now stands.1 (λ n some. said n (omega arith)) (λ n. let most = once n in omega arith) rest,
   )
 
@@ -59,9 +60,9 @@ module _ {V : Type 0} where
       → ((n : ℕ) → 1 ≤ members_at n back → M n ≡ name_back (first_room back) a p n (L n)) → ((n : ℕ) → members_at n back ≤ 1) → ChainStands M a p back
   back_linked L M above previous a p [] stands said once = tt
   back_linked L M above previous a p (y ∷ back) stands said once = (
-    said y.room.number (own_counts y back) ∙ own_room y.room (leaf_back a p (L y.room.number)) (L y.room.number) ∙ ap (leaf_back a p) stands.0,
+    said (number_of y.room) (own_counts y back) ∙ own_room y.room (leaf_back a p (L (number_of y.room))) (L (number_of y.room)) ∙ ap (leaf_back a p) stands.0,
     chain_frame L M None (Some y.room) back (λ n some. said n (omega arith) ∙ off_room y.room n (leaf_back a p (L n)) (L n)
-        (λ same. let most = once n in let one = ap (λ k. one_if (y.room.number == k)) same ∙ one_if_same y.room.number in omega arith)) stands.1,
+        (λ same. let most = once n in let one = ap (λ k. one_if ((number_of y.room) == k)) same ∙ one_if_same (number_of y.room) in omega arith)) stands.1,
   )
 
   -- ---- a member more
@@ -71,7 +72,7 @@ module _ {V : Type 0} where
 
   -- a room that is not of the chain, and not the new one
   pub in_others : (L M : Leaves V) (front back : List (Placed V)) (room : Id) (value : V) (l : Leaf) (n : ℕ) → l.next ≡ first_room back
-      → l.previous ≡ last_room None front → M n ≡ link_in room value l n (L n) → (n ≡ room.number → ⊥) → members_at n (front ++ back) ≡ 0 → M n ≡ L n
+      → l.previous ≡ last_room None front → M n ≡ link_in room value l n (L n) → (n ≡ (number_of room) → ⊥) → members_at n (front ++ back) ≡ 0 → M n ≡ L n
   in_others L M front back room value l n next previous said other out =
       let none = members_append n front back in
       let lodged = lodge_leaf room value l n (L n) in
@@ -83,36 +84,36 @@ module _ {V : Type 0} where
       ∙ off_room room n (Some (record { block = room.block; value = value; leaf = l })) (L n) other
 
   pub linked_in : (L M : Leaves V) (above : Option Id) (front back : List (Placed V)) (x : Placed V) → ChainStands L above None (front ++ back)
-      → L x.room.number ≡ None → ((n : ℕ) → members_at n (front ++ back) ≤ 1)
+      → L (number_of x.room) ≡ None → ((n : ℕ) → members_at n (front ++ back) ≤ 1)
       → ((n : ℕ) → M n ≡ link_in x.room x.entry.value (leaf_at x.entry.key x.entry.rank above front back) n (L n))
       → ChainStands M above None (front ++ (x ∷ back))
   linked_in L M above front back x stands none once said =
       let room = x.room in
       let l = leaf_at x.entry.key x.entry.rank above front back in
       let sum : (n : ℕ) → members_at n (front ++ back) ≡ members_at n front + members_at n back = λ n. members_append n front back in
-      let gone = chain_there L above None (front ++ back) x.room.number stands none in
-      let new : (n : ℕ) → 1 ≤ members_at n (front ++ back) → n ≡ x.room.number
+      let gone = chain_there L above None (front ++ back) (number_of x.room) stands none in
+      let new : (n : ℕ) → 1 ≤ members_at n (front ++ back) → n ≡ (number_of x.room)
       → ⊥ = λ n some same. let at = ap (λ k. members_at k (front ++ back)) same in omega arith in
       let lodged : (n : ℕ) → 1 ≤ members_at n (front ++ back) → lodge_leaf x.room x.entry.value (leaf_at x.entry.key x.entry.rank above front back) n (L n)
       ≡ L n =
       λ n some. off_room x.room n (Some (record { block = x.room.block; value = x.entry.value; leaf = leaf_at x.entry.key x.entry.rank above front back }))
       (L n) (new n some) in
-      let not_first : (n : ℕ) → members_at n back ≡ 0 → (r : Id) → first_room back ≡ Some r → n ≡ r.number → ⊥ = λ n out r is same.
+      let not_first : (n : ℕ) → members_at n back ≡ 0 → (r : Id) → first_room back ≡ Some r → n ≡ (number_of r) → ⊥ = λ n out r is same.
       let some = first_among back r is in let at = ap (λ k. members_at k back) same in omega arith in
-      let not_last : (n : ℕ) → members_at n front ≡ 0 → (r : Id) → last_room None front ≡ Some r → n ≡ r.number → ⊥ = λ n out r is same.
+      let not_last : (n : ℕ) → members_at n front ≡ 0 → (r : Id) → last_room None front ≡ Some r → n ≡ (number_of r) → ⊥ = λ n out r is same.
       let some = last_among front r is in let at = ap (λ k. members_at k front) same in omega arith in
       front_linked L M above None front back (x ∷ back) stands (λ n some. let both = sum n in let most = once n in
       said n ∙ back_off (first_room back) None (Some x.room) n (name_next (last_room None front) (Some x.room) n
       (lodge_leaf x.room x.entry.value (leaf_at x.entry.key x.entry.rank above front back) n (L n))) (not_first n (omega arith))
       ∙ ap (name_next (last_room None front) (Some x.room) n) (lodged n (omega arith))) (λ n. let both = sum n in let most = once n in
       omega arith) (
-        said x.room.number ∙ back_off (first_room back) None (Some x.room) x.room.number (name_next (last_room None front) (Some x.room) x.room.number
-            (lodge_leaf x.room x.entry.value (leaf_at x.entry.key x.entry.rank above front back) x.room.number (L x.room.number)))
-            (not_first x.room.number (let both = sum x.room.number in omega arith))
-            ∙ next_off (last_room None front) (Some x.room) x.room.number (lodge_leaf x.room x.entry.value (leaf_at x.entry.key x.entry.rank above front back)
-            x.room.number (L x.room.number)) (not_last x.room.number (let both = sum x.room.number in omega arith))
+        said (number_of x.room) ∙ back_off (first_room back) None (Some x.room) (number_of x.room) (name_next (last_room None front) (Some x.room) (number_of x.room)
+            (lodge_leaf x.room x.entry.value (leaf_at x.entry.key x.entry.rank above front back) (number_of x.room) (L (number_of x.room))))
+            (not_first (number_of x.room) (let both = sum (number_of x.room) in omega arith))
+            ∙ next_off (last_room None front) (Some x.room) (number_of x.room) (lodge_leaf x.room x.entry.value (leaf_at x.entry.key x.entry.rank above front back)
+            (number_of x.room) (L (number_of x.room))) (not_last (number_of x.room) (let both = sum (number_of x.room) in omega arith))
             ∙ own_room x.room (Some (record { block = x.room.block; value = x.entry.value; leaf = leaf_at x.entry.key x.entry.rank above front back }))
-            (L x.room.number),
+            (L (number_of x.room)),
         back_linked L M (above_behind above front) (last_room None front) None (Some x.room) back (behind_stands L above None front back stands)
             (λ n some. let both = sum n in
             let most = once n in

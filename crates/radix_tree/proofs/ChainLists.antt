@@ -3,6 +3,7 @@ use Rattle.radix_tree.proofs.{RoomReads.none_some}
 use Rattle.std.proofs.lemmas.List.{map-append}
 use Rattle.radix_tree.proofs.Words.{◌≡◌, ℕ, ◌+◌, ◌<◌, ◌≤◌, ◌⊎◌, ◌==◌, List, [], ◌∷◌, ◌++◌, map, Some, None, refl, sym, ap, ◌∙◌, inl, inr, arith, IsRoute}
 use Rattle.radix_tree.proofs.Words.{Placed, IsAmong, IsChain, BitPart, Bits, one_if, members_at, AreIdle, HasOneFork, Gains, ArePast, IsBelow, Entry}
+use Rattle.radix_nodes.specs.Naming.{number_of}
 
 module _ {V : Type 0} where
   -- a list has a first member
@@ -25,7 +26,7 @@ module _ {V : Type 0} where
       omega arith
 
   pub members_more : (n : ℕ) (front back : List (Placed V)) (x : Placed V)
-      → members_at n (front ++ (x ∷ back)) ≡ members_at n (front ++ back) + one_if (x.room.number == n)
+      → members_at n (front ++ (x ∷ back)) ≡ members_at n (front ++ back) + one_if ((number_of x.room) == n)
   members_more n front back x =
       let more = members_append n front (x ∷ back) in
       let less = members_append n front back in omega arith
@@ -64,7 +65,7 @@ module _ {V : Type 0} where
   idle_less B [] back x idle = idle.1
   idle_less B (y ∷ front) back x idle = (idle.0, idle_less B front back x idle.1)
 
-  idle_more : (B : Bits) (front back : List (Placed V)) (x : Placed V) → AreIdle B (front ++ back) → B x.room.number ≡ None → AreIdle B (front ++ (x ∷ back))
+  idle_more : (B : Bits) (front back : List (Placed V)) (x : Placed V) → AreIdle B (front ++ back) → B (number_of x.room) ≡ None → AreIdle B (front ++ (x ∷ back))
   idle_more B [] back x idle none = (none, idle)
   idle_more B (y ∷ front) back x idle none = (idle.0, idle_more B front back x idle.1 none)
 
@@ -79,7 +80,7 @@ module _ {V : Type 0} where
     | inr own ↦ inr (own.0, one_fork_less B front back x own.1)
   ]
 
-  pub one_fork_more : (B : Bits) (front back : List (Placed V)) (x : Placed V) → HasOneFork B (front ++ back) → B x.room.number ≡ None
+  pub one_fork_more : (B : Bits) (front back : List (Placed V)) (x : Placed V) → HasOneFork B (front ++ back) → B (number_of x.room) ≡ None
       → HasOneFork B (front ++ (x ∷ back))
   one_fork_more B [] back x one none = inr (none, one)
   one_fork_more B (y ∷ front) back x one none = elim one [
@@ -89,26 +90,26 @@ module _ {V : Type 0} where
 
   idle_same : (B C : Bits) (c : List (Placed V)) → ((n : ℕ) → B n ≡ None → C n ≡ None) → AreIdle B c → AreIdle C c
   idle_same B C [] same idle = tt
-  idle_same B C (y ∷ c) same idle = (same y.room.number idle.0, idle_same B C c same idle.1)
+  idle_same B C (y ∷ c) same idle = (same (number_of y.room) idle.0, idle_same B C c same idle.1)
 
   pub one_fork_same : (B C : Bits) (c : List (Placed V)) → ((n : ℕ) → B n ≡ None → C n ≡ None) → HasOneFork B c → HasOneFork C c
   one_fork_same B C [] same one = tt
   one_fork_same B C (y ∷ c) same one = elim one [
     | inl idle ↦ inl (idle_same B C c same idle)
-    | inr own ↦ inr (same y.room.number own.0, one_fork_same B C c same own.1)
+    | inr own ↦ inr (same (number_of y.room) own.0, one_fork_same B C c same own.1)
   ]
 
-  pub idle_at : (B : Bits) (c : List (Placed V)) (y : Placed V) → AreIdle B c → IsAmong y c → B y.room.number ≡ None
+  pub idle_at : (B : Bits) (c : List (Placed V)) (y : Placed V) → AreIdle B c → IsAmong y c → B (number_of y.room) ≡ None
   idle_at B [] y idle is = absurd is
-  idle_at B (z ∷ c) y idle is = elim is [ inl e ↦ ap (λ p. B p.room.number) (sym e) ∙ idle.0 | inr later ↦ idle_at B c y idle.1 later ]
+  idle_at B (z ∷ c) y idle is = elim is [ inl e ↦ ap (λ p. B (number_of p.room)) (sym e) ∙ idle.0 | inr later ↦ idle_at B c y idle.1 later ]
 
   -- where one member's room is a bit node in use, no other one's is
-  pub others_idle : (B : Bits) (front back : List (Placed V)) (x y : Placed V) {b : BitPart} → HasOneFork B (front ++ (x ∷ back)) → B x.room.number ≡ Some b
-      → IsAmong y (front ++ back) → B y.room.number ≡ None
+  pub others_idle : (B : Bits) (front back : List (Placed V)) (x y : Placed V) {b : BitPart} → HasOneFork B (front ++ (x ∷ back)) → B (number_of x.room) ≡ Some b
+      → IsAmong y (front ++ back) → B (number_of y.room) ≡ None
   others_idle B [] back x y one used is = elim one [ inl idle ↦ idle_at B back y idle is | inr own ↦ absurd (none_some (sym own.0 ∙ used)) ]
   others_idle B (z ∷ front) back x y one used is = elim one [
     | inl idle ↦ absurd (none_some (sym (idle_at B (front ++ (x ∷ back)) x idle (among_own front back x)) ∙ used))
-    | inr own ↦ elim is [ inl e ↦ ap (λ p. B p.room.number) (sym e) ∙ own.0 | inr later ↦ others_idle B front back x y own.1 used later ]
+    | inr own ↦ elim is [ inl e ↦ ap (λ p. B (number_of p.room)) (sym e) ∙ own.0 | inr later ↦ others_idle B front back x y own.1 used later ]
   ]
 
   -- ---- order

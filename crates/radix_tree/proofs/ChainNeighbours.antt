@@ -9,6 +9,7 @@ use Rattle.radix_tree.proofs.Words.{leaf_of, Leaf, Links, Node, LeafOf, Placed, 
 use Rattle.radix_tree.proofs.Words.{name_of, first_room, leaf_part, ChainStands, Stands, Way, ForkAt, one_if, members_at, name_child, root_after}
 use Rattle.radix_tree.proofs.Words.{IsWholeBut, nobody_out, KeepsHeads, KeepsMasks, link_out, above_behind, last_room, root_past, Lodged}
 use Rattle.radix_tree.proofs.ChainExchanges.{Rechained, FrontNamed, front_named, place_bits, place_root, turn_same, root_same}
+use Rattle.radix_nodes.specs.Naming.{number_of}
 
 module _ {V : Type 0} where
   -- ---- a room that is a leaf of a tree
@@ -23,7 +24,7 @@ module _ {V : Type 0} where
     pub back : List (Placed V)
     pub is : part.tree ≡ leaf first rest
     pub split : first ∷ rest ≡ front ++ (x ∷ back)
-    pub number : x.room.number ≡ n
+    pub number : (number_of x.room) ≡ n
     pub part_is : p ≡ leaf_part x (above_behind part.above front) (last_room None front) (first_room back)
 
   pub leaf_stands : (m : Lodged V) (at : Part m) {z : Placed V} {zs c : List (Placed V)} → at.tree ≡ leaf z zs → z ∷ zs ≡ c
@@ -65,7 +66,7 @@ module _ {V : Type 0} where
     own_out n p b =
         let most = member_once b n in
         let more = members_more n b.front b.back b.x in
-        let one = ap one_if (eq-eqb b.x.room.number n b.number) in omega arith
+        let one = ap one_if (eq-eqb (number_of b.x.room) n b.number) in omega arith
 
   -- ---- what the writes leave
   pub record IsUnlinked (m new : Lodged V) (l : Leaf) : Type 0 where
@@ -74,7 +75,7 @@ module _ {V : Type 0} where
     pub masks : KeepsMasks m new
 
   -- what was read of the room is its part's leaf
-  pub leaf_is : {m : Lodged V} {at : Id} (links : Links) {l : Leaf} (h : Has m at) {p : LeafPart V} → leaves_in m at.number ≡ Some p → AreLinks m at links
+  pub leaf_is : {m : Lodged V} {at : Id} (links : Links) {l : Leaf} (h : Has m at) {p : LeafPart V} → leaves_in m (number_of at) ≡ Some p → AreLinks m at links
       → l ≡ leaf_of links → l ≡ p.leaf
   leaf_is links h said are is = is ∙ ap leaf_of (are h.room h.at) ∙ ap (λ q. q.leaf) (inside (sym (own_said h) ∙ said))
 

@@ -14,6 +14,7 @@ use Rattle.radix_tree.proofs.ChainNeighbours.{out_chain}
 use Rattle.radix_tree.proofs.{Facts.some_of}
 use Rattle.radix_tree.proofs.{JoinLinks.turn_used}
 use Rattle.radix_tree.proofs.{MovedReads.content_used}
+use Rattle.radix_nodes.specs.Naming.{number_of}
 
 module _ {V : Type 0} where
   -- ---- each room keeps its route
@@ -37,8 +38,8 @@ module _ {V : Type 0} where
 
   -- ---- the whole
   module _ {m : Lodged V} {root : Node} {n : ℕ} (w : IsWholeBut m root (late_at n) nobody_out) (p : LeafPart V) (b : IsMember m w.part n p) where
-    abbrev late_here : IsWholeBut m root (late_at b.x.room.number) nobody_out
-    late_here = later_than (late_at b.x.room.number) (λ k late. ap (λ r. k == r) b.number ∙ late) w
+    abbrev late_here : IsWholeBut m root (late_at (number_of b.x.room)) nobody_out
+    late_here = later_than (late_at (number_of b.x.room)) (λ k late. ap (λ r. k == r) b.number ∙ late) w
 
     pub removed_whole : {new : Lodged V} {name : Node} → masks_in m n ≡ None → IsUnlinked m new p.leaf
         → IsLeft m new b.x.entry.key w.part b.part b.front b.back name → IsWholeBut new name nobody_late (out_at n)
@@ -98,7 +99,7 @@ module _ {V : Type 0} where
       (subst (HaveOneFork (bits_in m)) b.is (way_spare m b.x.entry.key w.part b.part b.ups b.way w.spare)) in
       let own = some_of (bits_in m n) (sym (some n) ∙ ap is_some is) in
       same_none (bits_in new k) (some k) (elim (among_less b.front b.back b.x r.route among) [
-        | inl e ↦ absurd (other (sym r.number ∙ ap (λ z. z.room.number) (sym e) ∙ b.number))
+        | inl e ↦ absurd (other (sym r.number ∙ ap (λ z. (number_of z.room)) (sym e) ∙ b.number))
         | inr among_others ↦ ap (bits_in m) (sym r.number)
             ∙ others_idle (bits_in m) b.front b.back b.x r.route spare (ap (bits_in m) b.number ∙ own.1) among_others
       ])
@@ -114,22 +115,22 @@ module _ {V : Type 0} where
 
   pub neighbour : {m new : Lodged V} {root : Node} {late : ℕ → Bool} (w : IsWholeBut m root late nobody_out) {n : ℕ} (p : LeafPart V)
       (b : IsMember m w.part n p) → IsUnlinked m new p.leaf → (to : Id)
-      → (p.leaf.next ≡ Some to) ⊎ (p.leaf.previous ≡ Some to) → Has new to × (to.number ≡ n → ⊥) × (has_key new p.leaf.key to.number ≡ true)
+      → (p.leaf.next ≡ Some to) ⊎ (p.leaf.previous ≡ Some to) → Has new to × ((number_of to) ≡ n → ⊥) × (has_key new p.leaf.key (number_of to) ≡ true)
   neighbour {m = m} {new = new} w {n = n} p b u to side =
       let there = ⊎_elim (λ e. behind_there _ b to e) (λ e. before_there _ b to e) side in
-      let sum = members_append to.number b.front b.back in
-      let more = members_more to.number b.front b.back b.x in
-      let some : 1 ≤ members_at to.number (b.front ++ b.back) = elim side [
+      let sum = members_append (number_of to) b.front b.back in
+      let more = members_more (number_of to) b.front b.back b.x in
+      let some : 1 ≤ members_at (number_of to) (b.front ++ b.back) = elim side [
         | inl e ↦ let own = first_among b.back to (sym (ap (λ q. q.leaf.next) b.part_is) ∙ e) in omega arith
         | inr e ↦ let own = last_among b.front to (sym (ap (λ q. q.leaf.previous) b.part_is) ∙ e) in omega arith
       ] in
-      let all : 1 ≤ members_at to.number (b.front ++ (b.x ∷ b.back)) = omega arith in
+      let all : 1 ≤ members_at (number_of to) (b.front ++ (b.x ∷ b.back)) = omega arith in
       let first_key = sym (chain_key b.first.entry.key 34 (b.front ++ (b.x ∷ b.back)) (leaf_chain b.part b.is b.split) b.x (among_own b.front b.back b.x))
       ∙ sym (ap (λ q. q.leaf.key) b.part_is) in
       let out = own_out w n p b in (
         Has-linked_out there new p.leaf u.leaves,
         λ same. let at = ap (λ k. members_at k (b.front ++ b.back)) same in
             omega arith,
-        routes_key m new (unlinked_routes m new p.leaf u.leaves) p.leaf.key to.number ∙ ap (λ k. has_key m k to.number) (sym first_key)
-            ∙ counted_key m b.part b.first to.number b.is b.split all,
+        routes_key m new (unlinked_routes m new p.leaf u.leaves) p.leaf.key (number_of to) ∙ ap (λ k. has_key m k (number_of to)) (sym first_key)
+            ∙ counted_key m b.part b.first (number_of to) b.is b.split all,
       )

@@ -4,6 +4,7 @@ use Rattle.radix_tree.proofs.{TreeMembers.chain_route}
 use Rattle.radix_tree.proofs.Words.{◌≡◌, ℕ, ◌+◌, ◌≤◌, ◌<◌, ◌⊎◌, List, [], ◌∷◌, Option, Some, None, refl, inl, inr, sym, ap, ◌∙◌, subst, arith, Has}
 use Rattle.radix_tree.proofs.Words.{leaf_of, Id, Leaf, Links, Placed, IsAmong, IsChain, LeafPart, Leaves, Run, leaves_in, first_room, leaf_part}
 use Rattle.radix_tree.proofs.Words.{ChainStands, Lodged}
+use Rattle.radix_nodes.specs.Naming.{number_of}
 
 module _ {V : Type 0} where
   -- what a member names before it: what is before the list, where it is the first, or a member of a greater rank
@@ -12,7 +13,7 @@ module _ {V : Type 0} where
 
   pub record Member (L : Leaves V) (c : List (Placed V)) (previous : Option Id) (x : Placed V) : Type 0 where
     pub part : LeafPart V
-    pub said : L x.room.number ≡ Some part
+    pub said : L (number_of x.room) ≡ Some part
     pub block : part.block ≡ x.room.block
     pub prior : Prior c previous x part.leaf.previous
 
@@ -46,8 +47,8 @@ module _ {V : Type 0} where
       (member_of (leaves_in m) c.above c.previous c.key c.top c.members c.is c.stands x among)
 
   said_at : (m : Lodged V) (c : Run m) {x : Placed V} {room : Id} (k : Member (leaves_in m) c.members None x) → x.room ≡ room
-      → leaves_in m room.number ≡ Some k.part
-  said_at m c k is = ap (λ i. leaves_in m i.number) (sym is) ∙ k.said
+      → leaves_in m (number_of room) ≡ Some k.part
+  said_at m c k is = ap (λ i. leaves_in m (number_of i)) (sym is) ∙ k.said
 
   block_at : (m : Lodged V) (c : Run m) {x : Placed V} {room : Id} (k : Member (leaves_in m) c.members None x) → x.room ≡ room → k.part.block ≡ room.block
   block_at m c k is = k.block ∙ ap (λ i. i.block) is

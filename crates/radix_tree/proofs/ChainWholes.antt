@@ -8,14 +8,15 @@ use Rattle.radix_tree.proofs.{Facts.test_turned, Plugs.counted_member}
 use Rattle.radix_tree.proofs.ChainLists.{members_more, among_more, among_own, among_less, one_fork_less, one_fork_more, routes_more}
 use Rattle.radix_tree.proofs.ChainExchanges.{one_more, Rechained, under, old_counts, now_counts, rechained, spliced, old_among, among_old}
 use Rattle.radix_tree.proofs.ChainExchanges.{no_home, same_marks, not_marked, same_forks}
+use Rattle.radix_nodes.specs.Naming.{number_of}
 
 module _ {V : Type 0} where
   -- ---- a member more
   fits_in : (m new : Lodged V) (key : ℕ) (whole at : Part m) (front back : List (Placed V)) (x : Placed V)
       (r : Rechained m new key whole at (front ++ back) (front ++ (x ∷ back)))
-      → leaves_in m x.room.number ≡ None → masks_in m x.room.number ≡ None → ((n : ℕ)
-      → is_some (leaves_in new n) ≡ (n == x.room.number) || is_some (leaves_in m n))
-      → Fits m new whole at (under r) nobody_late (late_at x.room.number) nobody_out nobody_out
+      → leaves_in m (number_of x.room) ≡ None → masks_in m (number_of x.room) ≡ None → ((n : ℕ)
+      → is_some (leaves_in new n) ≡ (n == (number_of x.room)) || is_some (leaves_in m n))
+      → Fits m new whole at (under r) nobody_late (late_at (number_of x.room)) nobody_out nobody_out
   fits_in m new key whole at front back x r free unmarked rooms =
       let old = front ++ back in
       let now = front ++ (x ∷ back) in
@@ -26,11 +27,11 @@ module _ {V : Type 0} where
             let o = old_counts r n in
             let t = now_counts r n in
             let more = members_more n front back x in
-            let rise = ap one_if (rooms n) ∙ one_more (λ k. is_some (leaves_in m k)) x.room.number n (ap is_some free) in omega arith;
+            let rise = ap one_if (rooms n) ∙ one_more (λ k. is_some (leaves_in m k)) (number_of x.room) n (ap is_some free) in omega arith;
         forks = λ n. same_forks m new key at r n;
         heads = λ n none some. r.heads n;
         masks = λ n none some. r.masks n;
-        masks_above = λ y is below marked. r.masks y.room.number;
+        masks_above = λ y is below marked. r.masks (number_of y.room);
         marks = λ n p e. (p, sym (r.masks n) ∙ e);
         kept = λ y is marked. (
           subst (IsAmong y) r.cons.is (among_more front back x y (old_among r y is)),
@@ -40,7 +41,7 @@ module _ {V : Type 0} where
         gone = λ y is below marked. same_marks r y marked;
         lists = tt;
         all = λ y is home. elim (split y is) [
-          | inl e ↦ inl (eq-eqb y.room.number x.room.number (ap (λ p. p.room.number) (sym e)))
+          | inl e ↦ inl (eq-eqb (number_of y.room) (number_of x.room) (ap (λ p. (number_of p.room)) (sym e)))
           | inr own ↦ inr (
             among_old r y own,
             elim home [ inl lt ↦ inl lt | inr never ↦ absurd never ],
@@ -54,8 +55,8 @@ module _ {V : Type 0} where
   -- ---- a member less
   fits_out : (m new : Lodged V) (key : ℕ) (whole at : Part m) (front back : List (Placed V)) (x : Placed V)
       (r : Rechained m new key whole at (front ++ (x ∷ back)) (front ++ back))
-      → ((n : ℕ) → members_at n (front ++ (x ∷ back)) ≤ 1) → masks_in m x.room.number ≡ None → ((n : ℕ) → is_some (leaves_in new n) ≡ is_some (leaves_in m n))
-      → Fits m new whole at (under r) (late_at x.room.number) nobody_late nobody_out (out_at x.room.number)
+      → ((n : ℕ) → members_at n (front ++ (x ∷ back)) ≤ 1) → masks_in m (number_of x.room) ≡ None → ((n : ℕ) → is_some (leaves_in new n) ≡ is_some (leaves_in m n))
+      → Fits m new whole at (under r) (late_at (number_of x.room)) nobody_late nobody_out (out_at (number_of x.room))
   fits_out m new key whole at front back x r once unmarked rooms =
       let own_now : (y : Placed V) → IsIn y (leaf r.cons.first r.cons.rest) → IsAmong y (front ++ back) = λ y is. subst (IsAmong y) (sym r.cons.is) is in
       record {
@@ -64,11 +65,11 @@ module _ {V : Type 0} where
             let t = now_counts r n in
             let more = members_more n front back x in
             let same = ap one_if (rooms n) in
-            let about = ap one_if (test_turned n x.room.number) in omega arith;
+            let about = ap one_if (test_turned n (number_of x.room)) in omega arith;
         forks = λ n. same_forks m new key at r n;
         heads = λ n none some. r.heads n;
         masks = λ n none some. r.masks n;
-        masks_above = λ y is below marked. r.masks y.room.number;
+        masks_above = λ y is below marked. r.masks (number_of y.room);
         marks = λ n p e. (p, sym (r.masks n) ∙ e);
         kept = λ y is marked. (
           elim (among_less front back x y (old_among r y is)) [
@@ -85,25 +86,25 @@ module _ {V : Type 0} where
           elim home [ inl lt ↦ inl lt | inr never ↦ absurd never ],
           λ marked. same_marks r y marked,
           λ late.
-              let same = eqb-true y.room.number x.room.number late in
+              let same = eqb-true (number_of y.room) (number_of x.room) late in
               let some = counted_member y (front ++ back) (own_now y is) in
-              let more = members_more y.room.number front back x in
-              let one = ap one_if (eq-eqb x.room.number y.room.number (sym same)) in
-              let most = once y.room.number in absurd (omega arith),
+              let more = members_more (number_of y.room) front back x in
+              let one = ap one_if (eq-eqb (number_of x.room) (number_of y.room) (sym same)) in
+              let most = once (number_of y.room) in absurd (omega arith),
         );
         late_aside = λ n none some late.
-            let same = eqb-true n x.room.number late in
+            let same = eqb-true n (number_of x.room) late in
             let own = counted_member x (front ++ (x ∷ back)) (among_own front back x) in
-            let counts = old_counts r x.room.number in
+            let counts = old_counts r (number_of x.room) in
             let gone = ap (λ k. leaves_at k at.tree) (sym same) ∙ none in absurd (omega arith);
       }
 
   -- ---- the whole
   module _ {m new : Lodged V} {root : Node} {key : ℕ} (w : IsWholeBut m root nobody_late nobody_out) {at : Part m} (front back : List (Placed V))
       (x : Placed V) (r : Rechained m new key w.part at (front ++ back) (front ++ (x ∷ back))) where
-    pub grown_whole : (ups : List (Part m)) → Way key w.part at ups → leaves_in m x.room.number ≡ None → masks_in m x.room.number ≡ None
-        → bits_in m x.room.number ≡ None → ((n : ℕ) → is_some (leaves_in new n) ≡ (n == x.room.number) || is_some (leaves_in m n))
-        → IsWholeBut new (root_after at.above (LeafOf r.cons.first.room) (name_of w.part.tree)) (late_at x.room.number) nobody_out
+    pub grown_whole : (ups : List (Part m)) → Way key w.part at ups → leaves_in m (number_of x.room) ≡ None → masks_in m (number_of x.room) ≡ None
+        → bits_in m (number_of x.room) ≡ None → ((n : ℕ) → is_some (leaves_in new n) ≡ (n == (number_of x.room)) || is_some (leaves_in m n))
+        → IsWholeBut new (root_after at.above (LeafOf r.cons.first.room) (name_of w.part.tree)) (late_at (number_of x.room)) nobody_out
     grown_whole ups way free unmarked idle rooms =
         rechained w r ups way (fits_in m new key w.part at front back x r free unmarked rooms) (λ one. one_fork_more (bits_in m) front back x one idle)
 
@@ -112,10 +113,10 @@ module _ {V : Type 0} where
     grown_routes ups way = gains_spliced (spliced w r ups way) (routes_more front back x)
 
   pub shrunk_whole : (m new : Lodged V) {root : Node} (key : ℕ) (front back : List (Placed V)) (x : Placed V)
-      (w : IsWholeBut m root (late_at x.room.number) nobody_out) (at : Part m) (ups : List (Part m)) → Way key w.part at ups
+      (w : IsWholeBut m root (late_at (number_of x.room)) nobody_out) (at : Part m) (ups : List (Part m)) → Way key w.part at ups
       → (r : Rechained m new key w.part at (front ++ (x ∷ back)) (front ++ back))
-      → ((n : ℕ) → members_at n (front ++ (x ∷ back)) ≤ 1) → masks_in m x.room.number ≡ None → ((n : ℕ) → is_some (leaves_in new n) ≡ is_some (leaves_in m n))
-      → IsWholeBut new (root_after at.above (LeafOf r.cons.first.room) (name_of w.part.tree)) nobody_late (out_at x.room.number)
+      → ((n : ℕ) → members_at n (front ++ (x ∷ back)) ≤ 1) → masks_in m (number_of x.room) ≡ None → ((n : ℕ) → is_some (leaves_in new n) ≡ is_some (leaves_in m n))
+      → IsWholeBut new (root_after at.above (LeafOf r.cons.first.room) (name_of w.part.tree)) nobody_late (out_at (number_of x.room))
   shrunk_whole m new key front back x w at ups way r once unmarked rooms =
       rechained w r ups way (fits_out m new key w.part at front back x r once unmarked rooms) (λ one. one_fork_less (bits_in m) front back x one)
 

@@ -3,6 +3,7 @@ use Rattle.radix_tree.proofs.{Lifts.part_at, Lifts.leaf_said, Parts.bit_part_of,
 use Rattle.radix_tree.proofs.{RoomReads.none_some, RoomReads.node_said}
 use Rattle.radix_tree.proofs.Words.{◌≡◌, ℕ, ◌+◌, ◌≤◌, List, [], ◌∷◌, Option, Some, None, refl, sym, ap, ◌∙◌, subst, arith, Counter, Id, BitNode, Leaf}
 use Rattle.radix_tree.proofs.Words.{IsBitNode, IsBitNodeOf, ReadsOnce, LeafPart, Part, leaves_in, ForkAt, LedTo, Beneath, Way, fork, IsTree, Lodged}
+use Rattle.radix_nodes.specs.Naming.{number_of}
 
 module _ {V : Type 0} {m : Lodged V} where
   -- a walk up that has come to what is above a part, of which something holds
@@ -15,7 +16,7 @@ module _ {V : Type 0} {m : Lodged V} where
 
   -- from the leaf to which a key leads
   pub begun : {key : ℕ} {whole : Part m} {room : Id} {f : Leaf} {Holds : Part m → Type 0} (l : LedTo key whole room)
-      → ((p : LeafPart V) → leaves_in m room.number ≡ Some p → f ≡ p.leaf) → Holds l.part → Climb key whole Holds f.above
+      → ((p : LeafPart V) → leaves_in m (number_of room) ≡ Some p → f ≡ p.leaf) → Holds l.part → Climb key whole Holds f.above
   begun {room = room} l said holds = record {
     part = l.part;
     above = sym (ap (λ z. z.above) (said (part_at l.leaf) (leaf_said l.leaf)));

@@ -9,10 +9,11 @@ use Rattle.radix_tree.proofs.Words.{IsWholeBut, IsMasks, IsAside, past_bit, up_t
 use Rattle.radix_tree.proofs.MaskLists.{not_below_among, among_not_below, below_among, among_below, falls_not_below, falls_below, masks_listed}
 use Rattle.radix_tree.proofs.{Parts.same_bit_node}
 use Rattle.radix_tree.proofs.{MaskLists.falls_among}
+use Rattle.radix_nodes.specs.Naming.{number_of}
 
 module _ {V : Type 0} where
   -- routes of a part in one room have one key and one rank
-  pub same_pair : (m : Lodged V) (p : Part m) (x y : Placed V) → IsIn x p.tree → IsIn y p.tree → x.room.number ≡ y.room.number
+  pub same_pair : (m : Lodged V) (p : Part m) (x y : Placed V) → IsIn x p.tree → IsIn y p.tree → (number_of x.room) ≡ (number_of y.room)
       → (x.entry.key ≡ y.entry.key) × (x.entry.rank ≡ y.entry.rank)
   same_pair m p x y one other same =
       let a = tree_said (leaves_in m) (bits_in m) p.above p.tree p.stands x one in
@@ -26,7 +27,7 @@ module _ {V : Type 0} where
     pub bits : KeepsBits m new
     pub heads : (n : ℕ) → forks_at n t ≡ 0 → heads_in new n ≡ heads_in m n
     pub masks : (n : ℕ) → leaves_at n t ≡ 0 → masks_in new n ≡ masks_in m n
-    pub masks_above : (y : Placed V) → IsIn y t → y.entry.rank < low → masks_in new y.room.number ≡ masks_in m y.room.number
+    pub masks_above : (y : Placed V) → IsIn y t → y.entry.rank < low → masks_in new (number_of y.room) ≡ masks_in m (number_of y.room)
     pub marks : (n : ℕ) → is_some (masks_in new n) ≡ is_some (masks_in m n)
     pub list : IsMaskList (masks_in new) first low bit (MarkedIn (masks_in new) t)
     pub lists : MarkedLists (heads_in new) (masks_in new) (bit + 1) t
@@ -37,8 +38,8 @@ module _ {V : Type 0} where
       (ups : List (Part m)) (y : Placed V) (ys : List (Placed V)) → Way key w.part at ups → at.tree ≡ leaf y ys
       → (x : Placed V) → IsIn x at.tree → IsMarked (masks_in m) x → at.low ≤ x.entry.rank → ⊥
   unmarked_leaf m w key at ups y ys way is x there marked least =
-      let p = some_of (masks_in m x.room.number) marked in
-      let z = w.listed x.room.number p.0 p.1 in
+      let p = some_of (masks_in m (number_of x.room)) marked in
+      let z = w.listed (number_of x.room) p.0 p.1 in
       let o = on_way m key w.part at ups way in
       let whole_is = subst (IsTree w.part.low) o.was w.part.is in
       let in_whole = subst (IsIn x) (sym o.was) (plug_in o.frames at.tree x there) in
@@ -74,35 +75,35 @@ module _ {V : Type 0} where
   -- ---- a bit node
   pub cut_fork : (m new : Lodged V) (p : Part m) (room : Id) (f : ForkAt p room) (bit : ℕ) (first : Option Id) → AreOnce p.tree → p.low ≤ bit
       → IsTree (bit + 1) p.tree → MarkedLists (heads_in m) (masks_in m) p.low p.tree
-      → ((ms : List (Placed V)) → IsMasks m (heads_in m room.number) ms → IsMasks new (heads_in new room.number) (past_bit bit ms))
-      → ((ms : List (Placed V)) → IsMasks m (heads_in m room.number) ms → IsMasks new first (up_to_bit bit ms))
-      → ((n : ℕ) → (n ≡ room.number → ⊥) → heads_in new n ≡ heads_in m n)
-      → ((ms : List (Placed V)) → IsMasks m (heads_in m room.number) ms → (n : ℕ) → IsAside n ms → masks_in new n ≡ masks_in m n)
+      → ((ms : List (Placed V)) → IsMasks m (heads_in m (number_of room)) ms → IsMasks new (heads_in new (number_of room)) (past_bit bit ms))
+      → ((ms : List (Placed V)) → IsMasks m (heads_in m (number_of room)) ms → IsMasks new first (up_to_bit bit ms))
+      → ((n : ℕ) → (n ≡ (number_of room) → ⊥) → heads_in new n ≡ heads_in m n)
+      → ((ms : List (Placed V)) → IsMasks m (heads_in m (number_of room)) ms → (n : ℕ) → IsAside n ms → masks_in new n ≡ masks_in m n)
       → ((n : ℕ) → is_some (masks_in new n) ≡ is_some (masks_in m n)) → KeepsLeaves m new → KeepsBits m new → IsCut m new p.low bit p.tree first
   cut_fork m new p room f bit first once rises is lists kept others heads masks marks leaves bits =
       let fork_lists = subst (MarkedLists (heads_in m) (masks_in m) p.low) f.is lists in
-      let l = subst (λ t. IsMaskList (masks_in m) (heads_in m room.number) p.low f.bit (MarkedIn (masks_in m) t)) (sym f.is) fork_lists.0 in
+      let l = subst (λ t. IsMaskList (masks_in m) (heads_in m (number_of room)) p.low f.bit (MarkedIn (masks_in m) t)) (sym f.is) fork_lists.0 in
       let tree = fork_is f in
       let past = (subst (IsTree (bit + 1)) f.is is).0.rises in
       let ms = masks_listed p l tree.0.within (λ x member. member.0) in
       let long = kept l.masks ms in
       let short = others l.masks ms in
-      let own = one_if_same room.number in
-      let all_forks : (n : ℕ) → forks_at n p.tree ≡ one_if (room.number == n) + (forks_at n f.zero + forks_at n f.one) = λ n. ap (forks_at n) f.is in
+      let own = one_if_same (number_of room) in
+      let all_forks : (n : ℕ) → forks_at n p.tree ≡ one_if ((number_of room) == n) + (forks_at n f.zero + forks_at n f.one) = λ n. ap (forks_at n) f.is in
       let outside : (y : Placed V) → IsIn y p.tree → ((z : Placed V) → IsAmong z l.masks → y.entry.rank ≡ z.entry.rank → ⊥)
-      → masks_in new y.room.number ≡ masks_in m y.room.number =
-      λ y at other. masks l.masks ms y.room.number (λ z among same. other z among (same_pair m p y z at (l.within z among).0 (sym same)).1) in
-      let zeros : (y : Placed V) → IsIn y f.zero → f.bit + 1 ≤ y.entry.rank → masks_in new y.room.number ≡ masks_in m y.room.number =
+      → masks_in new (number_of y.room) ≡ masks_in m (number_of y.room) =
+      λ y at other. masks l.masks ms (number_of y.room) (λ z among same. other z among (same_pair m p y z at (l.within z among).0 (sym same)).1) in
+      let zeros : (y : Placed V) → IsIn y f.zero → f.bit + 1 ≤ y.entry.rank → masks_in new (number_of y.room) ≡ masks_in m (number_of y.room) =
       λ y at least. outside y (subst (IsIn y) (sym f.is) (inl at))
       (λ z among same. let most = (falls_among p.low (f.bit + 1) l.masks l.falls z among).1 in omega arith) in
-      let ones : (y : Placed V) → IsIn y f.one → f.bit + 1 ≤ y.entry.rank → masks_in new y.room.number ≡ masks_in m y.room.number =
+      let ones : (y : Placed V) → IsIn y f.one → f.bit + 1 ≤ y.entry.rank → masks_in new (number_of y.room) ≡ masks_in m (number_of y.room) =
       λ y at least. outside y (subst (IsIn y) (sym f.is) (inr at))
       (λ z among same. let most = (falls_among p.low (f.bit + 1) l.masks l.falls z among).1 in omega arith) in
       record {
         leaves = leaves;
         bits = bits;
         heads = λ n out. heads n (λ same. let sum = all_forks n in
-            let here = ap (λ k. one_if (room.number == k)) same ∙ own in absurd (omega arith));
+            let here = ap (λ k. one_if ((number_of room) == k)) same ∙ own in absurd (omega arith));
         masks = λ n out. masks l.masks ms n (λ z among same. let some = counted_leaf z p.tree (l.within z among).0 in
             let e = ap (λ k. leaves_at k p.tree) same in omega arith);
         masks_above = λ y at above. outside y at (λ z among same. let least = (falls_among p.low (f.bit + 1) l.masks l.falls z among).0 in
@@ -113,10 +114,10 @@ module _ {V : Type 0} where
           begins = short.begins;
           stands = short.stands;
           falls = falls_below p.low (f.bit + 1) (bit + 1) l.masks l.falls;
-          has = λ x member least most. among_below (bit + 1) l.masks x (l.has x (member.0, sym (marks x.room.number) ∙ member.1) least (omega arith))
+          has = λ x member least most. among_below (bit + 1) l.masks x (l.has x (member.0, sym (marks (number_of x.room)) ∙ member.1) least (omega arith))
               (omega arith);
           within = λ x among. let was = l.within x (below_among p.low (f.bit + 1) (bit + 1) l.masks l.falls x among).0 in
-              (was.0, marks x.room.number ∙ was.1);
+              (was.0, marks (number_of x.room) ∙ was.1);
         };
         lists = subst (MarkedLists (heads_in new) (masks_in new) (bit + 1)) (sym f.is) (
           record {
@@ -125,9 +126,9 @@ module _ {V : Type 0} where
             stands = long.stands;
             falls = falls_not_below p.low (f.bit + 1) (bit + 1) l.masks l.falls;
             has = λ x member least most. among_not_below p.low (f.bit + 1) (bit + 1) l.masks l.falls x
-                (l.has x (subst (IsIn x) (sym f.is) member.0, sym (marks x.room.number) ∙ member.1) (omega arith) most) least;
+                (l.has x (subst (IsIn x) (sym f.is) member.0, sym (marks (number_of x.room)) ∙ member.1) (omega arith) most) least;
             within = λ x among. let was = l.within x (not_below_among (bit + 1) l.masks x among).0 in
-                (subst (IsIn x) f.is was.0, marks x.room.number ∙ was.1);
+                (subst (IsIn x) f.is was.0, marks (number_of x.room) ∙ was.1);
           },
           lists_stay (heads_in m) (heads_in new) (masks_in m) (masks_in new) (f.bit + 1) f.zero tree.1
               (λ n some. heads n (elsewhere room n (forks_at n f.zero) some (let sum = all_forks n in let most = once.forks n in omega arith)))
@@ -149,12 +150,12 @@ module _ {V : Type 0} where
     -- ---- either of them
     pub cut_at : (new : Lodged V) (key bit : ℕ) (p : Part m) (ups : List (Part m)) (below : Node) (first : Option Id) (t : Tree V) → p.tree ≡ t
         → Way key w.part p ups → AreOnce w.part.tree → p.low ≤ bit → IsTree (bit + 1) p.tree → name_of p.tree ≡ below
-        → ((fork : Id) (ms : List (Placed V)) → below ≡ BitOf fork → IsMasks m (heads_in m fork.number) ms → IsMasks new (heads_in new fork.number)
+        → ((fork : Id) (ms : List (Placed V)) → below ≡ BitOf fork → IsMasks m (heads_in m (number_of fork)) ms → IsMasks new (heads_in new (number_of fork))
         (past_bit bit ms))
-        → ((fork : Id) (ms : List (Placed V)) → below ≡ BitOf fork → IsMasks m (heads_in m fork.number) ms → IsMasks new first (up_to_bit bit ms))
+        → ((fork : Id) (ms : List (Placed V)) → below ≡ BitOf fork → IsMasks m (heads_in m (number_of fork)) ms → IsMasks new first (up_to_bit bit ms))
         → ((room : Id) → below ≡ LeafOf room → (first ≡ None) × (new ≡ m))
-        → ((n : ℕ) → ((fork : Id) → below ≡ BitOf fork → n ≡ fork.number → ⊥) → heads_in new n ≡ heads_in m n)
-        → ((fork : Id) (ms : List (Placed V)) → below ≡ BitOf fork → IsMasks m (heads_in m fork.number) ms → (n : ℕ) → IsAside n ms → masks_in new n ≡
+        → ((n : ℕ) → ((fork : Id) → below ≡ BitOf fork → n ≡ (number_of fork) → ⊥) → heads_in new n ≡ heads_in m n)
+        → ((fork : Id) (ms : List (Placed V)) → below ≡ BitOf fork → IsMasks m (heads_in m (number_of fork)) ms → (n : ℕ) → IsAside n ms → masks_in new n ≡
         masks_in m n)
         → ((n : ℕ) → is_some (masks_in new n) ≡ is_some (masks_in m n)) → KeepsLeaves m new → KeepsBits m new → IsCut m new p.low bit p.tree first
     cut_at new key bit p ups below first (leaf y ys) is way once rises tree named kept others same heads masks marks leaves bits =
@@ -166,11 +167,11 @@ module _ {V : Type 0} where
         let here = sym named ∙ ap name_of is in
         cut_fork m new p room f bit first (way_once key w.part p ups way once) rises tree (part_lists key p ups way)
         (λ ms. kept room ms here) (λ ms. others room ms here)
-        (λ n other. heads n (λ i at same. other (same ∙ ap (λ j. j.number) (same_bit_node (sym at ∙ here))))) (λ ms. masks room ms here) marks leaves bits
+        (λ n other. heads n (λ i at same. other (same ∙ ap (λ j. (number_of j)) (same_bit_node (sym at ∙ here))))) (λ ms. masks room ms here) marks leaves bits
 
     -- the list of the part's bit node
     pub list_at : (key : ℕ) (p : Part m) (ups : List (Part m)) {room : Id} → Way key w.part p ups → name_of p.tree ≡ BitOf room
-        → (ms : List (Placed V)) × IsMasks m (heads_in m room.number) ms
+        → (ms : List (Placed V)) × IsMasks m (heads_in m (number_of room)) ms
     list_at key p ups way named =
         let f = fork_named p named in
         let tree = fork_is f in

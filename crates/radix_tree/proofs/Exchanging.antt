@@ -6,17 +6,18 @@ use Rattle.radix_tree.proofs.Words.{on_one, low_past, IsExchange, Exchanged, Lod
 use Rattle.radix_tree.proofs.PartRooms.{said, zero_turned, one_turned, elsewhere, frame, Keeps, fork_forks, fork_leaves, same_turned, way_counts}
 use Rattle.radix_tree.proofs.PartRooms.{way_once, beneath_counts, spine_out}
 use Rattle.radix_tree.proofs.Parts.{fork_is, fork_stands}
+use Rattle.radix_nodes.specs.Naming.{number_of}
 
 -- the bit node above a place says what it said in all other rooms, and in its own names the other node
-pub turn_misses : {above : Option Id} (over : Id) (key n : ℕ) (to : Node) (said : Option BitPart) → above ≡ Some over → (n ≡ over.number → ⊥)
+pub turn_misses : {above : Option Id} (over : Id) (key n : ℕ) (to : Node) (said : Option BitPart) → above ≡ Some over → (n ≡ (number_of over) → ⊥)
     → name_child above key to n said ≡ said
 turn_misses over key n to said is other =
-    ap (λ o. name_child o key to n said) is ∙ ap (λ t. if t then with_child key to said else said) (ne_eqb n over.number other)
+    ap (λ o. name_child o key to n said) is ∙ ap (λ t. if t then with_child key to said else said) (ne_eqb n (number_of over) other)
 
 pub turn_hits : {above : Option Id} (over : Id) (key : ℕ) (to : Node) (said : Option BitPart) → above ≡ Some over
-    → name_child above key to over.number said ≡ with_child key to said
-turn_hits over key to said is = ap (λ o. name_child o key to over.number said) is ∙ ap (λ t. if t then with_child key to said else said)
-    (eq-eqb over.number over.number refl)
+    → name_child above key to (number_of over) said ≡ with_child key to said
+turn_hits over key to said is = ap (λ o. name_child o key to (number_of over) said) is ∙ ap (λ t. if t then with_child key to said else said)
+    (eq-eqb (number_of over) (number_of over) refl)
 
 pub one_of : (x y : ℕ) → 1 ≤ x + y → (1 ≤ x) ⊎ (1 ≤ y)
 one_of x y some = elim (cases_lt x 1) [ inl none ↦ inr (omega arith) | inr le ↦ inl le ]
@@ -29,7 +30,7 @@ module _ {V : Type 0} where
 
   zero_climbed : (m new : Lodged V) {key : ℕ} {at : Part m} {under : Part new} {mid : Part m} (over : Part m) {name : Node} (room : Id)
       (f : ForkAt over room) → mid.tree ≡ f.zero → bit_at f.bit key ≡ 0 → mid.low ≡ f.bit + 1 → mid.above ≡ Some room → Climbed m new key mid at under name
-      → bits_in new room.number ≡ Some (said room f.bit name (name_of f.one) over.above)
+      → bits_in new (number_of room) ≡ Some (said room f.bit name (name_of f.one) over.above)
       → ((n : ℕ) → 1 ≤ leaves_at n f.one → leaves_in new n ≡ leaves_in m n) → ((n : ℕ) → 1 ≤ forks_at n f.one → bits_in new n ≡ bits_in m n)
       → Climbed m new key over at under (BitOf room)
   zero_climbed m new over room f tree side low above g spine leaves forks =
@@ -76,7 +77,7 @@ module _ {V : Type 0} where
 
   one_climbed : (m new : Lodged V) {key : ℕ} {at : Part m} {under : Part new} {mid : Part m} (over : Part m) {name : Node} (room : Id) (f : ForkAt over room)
       → mid.tree ≡ f.one → bit_at f.bit key ≡ 1 → mid.low ≡ f.bit + 1 → mid.above ≡ Some room → Climbed m new key mid at under name
-      → bits_in new room.number ≡ Some (said room f.bit (name_of f.zero) name over.above)
+      → bits_in new (number_of room) ≡ Some (said room f.bit (name_of f.zero) name over.above)
       → ((n : ℕ) → 1 ≤ leaves_at n f.zero → leaves_in new n ≡ leaves_in m n) → ((n : ℕ) → 1 ≤ forks_at n f.zero → bits_in new n ≡ bits_in m n)
       → Climbed m new key over at under (BitOf room)
   one_climbed m new over room f tree side low above g spine leaves forks =
@@ -124,8 +125,8 @@ module _ {V : Type 0} where
   climbed : (m new : Lodged V) (key : ℕ) (at : Part m) {under : Part new} (mid over : Part m) {name : Node} (b : Beneath key mid over)
       → Climbed m new key mid at under name → AreOnce over.tree
       → ((n : ℕ) → leaves_at n mid.tree ≡ 0 → 1 ≤ leaves_at n over.tree → leaves_in new n ≡ leaves_in m n)
-      → ((n : ℕ) → (n ≡ b.room.number → ⊥) → forks_at n mid.tree ≡ 0 → 1 ≤ forks_at n over.tree → bits_in new n ≡ bits_in m n)
-      → bits_in new b.room.number ≡ with_child key name (bits_in m b.room.number) → Climbed m new key over at under (BitOf b.room)
+      → ((n : ℕ) → (n ≡ (number_of b.room) → ⊥) → forks_at n mid.tree ≡ 0 → 1 ≤ forks_at n over.tree → bits_in new n ≡ bits_in m n)
+      → bits_in new (number_of b.room) ≡ with_child key name (bits_in m (number_of b.room)) → Climbed m new key over at under (BitOf b.room)
   climbed m new key at mid over {name = name} b g once leaves forks spine =
       let f = b.at in
       let old = (fork_stands f).0 in
@@ -157,9 +158,9 @@ module _ {V : Type 0} where
       λ n. way_counts m key whole p ps n way.1 in
       let near : (n : ℕ) → (leaves_at n mid.tree ≤ leaves_at n p.tree) × (forks_at n mid.tree ≤ forks_at n p.tree) = λ n. beneath_counts m n b in
       let next = climbed m new key at mid p b g once_p (λ n none some. let le = (in_whole n).0 in keeps.leaves n none (omega arith))
-      (λ n other none some. let le = (in_whole n).1 in keeps.forks n none (omega arith)) (let le = (in_whole b.room.number).1 in
+      (λ n other none some. let le = (in_whole n).1 in keeps.forks n none (omega arith)) (let le = (in_whole (number_of b.room)).1 in
       let some = out.1 in
-      keeps.forks b.room.number out.0 (omega arith) ∙ same_turned key p (name_of mid.tree) b refl) in
+      keeps.forks (number_of b.room) out.0 (omega arith) ∙ same_turned key p (name_of mid.tree) b refl) in
       way_climbed m new key at under whole p ps way.1 once (record {
         leaves = λ n none some. let le = (near n).0 in keeps.leaves n (omega arith) some;
         forks = λ n none some. let le = (near n).1 in keeps.forks n (omega arith) some;
@@ -192,9 +193,9 @@ module _ {V : Type 0} where
       let near : (n : ℕ) → (leaves_at n at.tree ≤ leaves_at n p.tree) × (forks_at n at.tree ≤ forks_at n p.tree) = λ n. beneath_counts m n b in
       let next = climbed m new key at at p b (here under e) once_p (λ n none some. let le = (in_whole n).0 in e.leaves n none (omega arith))
       (λ n other none some. let le = (in_whole n).1 in
-      e.bits n none (omega arith) ∙ turn_misses b.room key n (name_of under.tree) (bits_in m n) b.above other) (let le = (in_whole b.room.number).1 in
+      e.bits n none (omega arith) ∙ turn_misses b.room key n (name_of under.tree) (bits_in m n) b.above other) (let le = (in_whole (number_of b.room)).1 in
       let some = out.1 in
-      e.bits b.room.number out.0 (omega arith) ∙ turn_hits b.room key (name_of under.tree) (bits_in m b.room.number) b.above) in
+      e.bits (number_of b.room) out.0 (omega arith) ∙ turn_hits b.room key (name_of under.tree) (bits_in m (number_of b.room)) b.above) in
       renamed m new key whole at under (sym (ap (λ o. root_after o (name_of under.tree) (name_of whole.tree)) b.above))
       (way_climbed m new key at under whole p ps way.1 once (record {
         leaves = λ n none some. let le = (near n).0 in e.leaves n (omega arith) some;

@@ -1,6 +1,7 @@
 -- Facts of options, of tests and counts of one, and of a write to one room, which several proofs use.
 use Rattle.radix_tree.proofs.Words.{◌≡◌, ℕ, ◌≤◌, ◌==◌, Bool, true, false, if◌then◌else◌, Option, Some, None, is_some, refl, sym, ap, ◌∙◌, arith, eq-eqb}
 use Rattle.radix_tree.proofs.Words.{ne_eqb, true≢false, Id, one_if, eqb-true}
+use Rattle.radix_nodes.specs.Naming.{number_of}
 
 pub some_of : {A : Type 0} (o : Option A) → is_some o ≡ true → (a : A) × (o ≡ Some a)
 some_of None is = absurd (true≢false (sym is))
@@ -32,11 +33,11 @@ test_turned n k = elim (k == n) as (λ b. (k == n) ≡ b → (n == k) ≡ b) [
   | false ↦ λ is. ne_eqb n k (λ (e : n ≡ k). true≢false (sym (eq-eqb k n (sym e)) ∙ is))
 ] refl
 
-pub same_id : (a b : Id) → a.number ≡ b.number → a.block ≡ b.block → a ≡ b
-same_id a b number block = ap (λ n. record { number = n; block = a.block }) number ∙ ap (λ p. record { number = b.number; block = p }) block
+pub same_id : (a b : Id) → a.block ≡ b.block → a ≡ b
+same_id a b block = ap (λ p. record { block = p }) block
 
-pub own_room : {A : Type 0} (room : Id) (x y : A) → (if room.number == room.number then x else y) ≡ x
-own_room room x y = ap (λ t. if t then x else y) (eq-eqb room.number room.number refl)
+pub own_room : {A : Type 0} (room : Id) (x y : A) → (if (number_of room) == (number_of room) then x else y) ≡ x
+own_room room x y = ap (λ t. if t then x else y) (eq-eqb (number_of room) (number_of room) refl)
 
-pub off_room : {A : Type 0} (room : Id) (n : ℕ) (x y : A) → (n ≡ room.number → ⊥) → (if n == room.number then x else y) ≡ y
-off_room room n x y other = ap (λ t. if t then x else y) (ne_eqb n room.number other)
+pub off_room : {A : Type 0} (room : Id) (n : ℕ) (x y : A) → (n ≡ (number_of room) → ⊥) → (if n == (number_of room) then x else y) ≡ y
+off_room room n x y other = ap (λ t. if t then x else y) (ne_eqb n (number_of room) other)

@@ -4,9 +4,10 @@ use Rattle.radix_tree.proofs.Words.{◌≡◌, ℕ, ◌+◌, ◌≤◌, ◌==◌
 use Rattle.radix_tree.proofs.Words.{eqb-true, eq-eqb, ne_eqb, Id, IsRoute, Placed, Tree, leaf, fork, bit_at, HaveBit, IsTree, Leaves, Bits, name_of}
 use Rattle.radix_tree.proofs.Words.{ChainStands, Stands, one_if, members_at, leaves_at, forks_at, IsPlace, AreOnce, leaf_above, bit_above, lift_leaf}
 use Rattle.radix_tree.proofs.Words.{lift_bit}
+use Rattle.radix_nodes.specs.Naming.{number_of}
 
-not_same : (room : Id) (n many : ℕ) → 1 ≤ many → one_if (room.number == n) + many ≤ 1 → (n == room.number) ≡ false
-not_same room n many some few = ne_eqb n room.number (elsewhere room n many some few)
+not_same : (room : Id) (n many : ℕ) → 1 ≤ many → one_if ((number_of room) == n) + many ≤ 1 → (n == (number_of room)) ≡ false
+not_same room n many some few = ne_eqb n (number_of room) (elsewhere room n many some few)
 
 module _ {V : Type 0} where
   -- all keys of a tree have one value at most at a bit
@@ -46,15 +47,15 @@ module _ {V : Type 0} where
   pub lifted : (L M : Leaves V) (B C : Bits) (above new : Option Id) (t : Tree V) → ((n : ℕ) → 1 ≤ leaves_at n t → M n ≡ lift_leaf (name_of t) new n (L n))
       → ((n : ℕ) → 1 ≤ forks_at n t → C n ≡ lift_bit (name_of t) new n (B n)) → AreOnce t → Stands L B above t → Stands M C new t
   lifted L M B C above new (leaf x xs) leaves forks once stands =
-      let own = one_if_same x.room.number in (
-        leaves x.room.number (omega arith) ∙ ap (λ t. if t then leaf_above new (L x.room.number) else L x.room.number)
-            (eq-eqb x.room.number x.room.number refl) ∙ ap (leaf_above new) stands.0,
+      let own = one_if_same (number_of x.room) in (
+        leaves (number_of x.room) (omega arith) ∙ ap (λ t. if t then leaf_above new (L (number_of x.room)) else L (number_of x.room))
+            (eq-eqb (number_of x.room) (number_of x.room) refl) ∙ ap (leaf_above new) stands.0,
         chain_frame L M None (Some x.room) xs (λ n some. let few = once.leaves n in
             leaves n (omega arith) ∙ ap (λ t. if t then leaf_above new (L n) else L n) (not_same x.room n (members_at n xs) some few)) stands.1,
       )
   lifted L M B C above new (fork room b zero one) leaves forks once stands =
-      let own = one_if_same room.number in (
-        forks room.number (omega arith) ∙ ap (λ t. if t then bit_above new (B room.number) else B room.number) (eq-eqb room.number room.number refl)
+      let own = one_if_same (number_of room) in (
+        forks (number_of room) (omega arith) ∙ ap (λ t. if t then bit_above new (B (number_of room)) else B (number_of room)) (eq-eqb (number_of room) (number_of room) refl)
             ∙ ap (bit_above new) stands.0,
         frame L M B C (Some room) zero (λ n some. leaves n (omega arith)) (λ n some. let few = once.forks n in
             forks n (omega arith) ∙ ap (λ t. if t then bit_above new (B n) else B n) (not_same room n (forks_at n zero) some (omega arith))) stands.1,
@@ -67,8 +68,8 @@ module _ {V : Type 0} where
   chain_there L above previous [] n stands none = refl
   chain_there L above previous (x ∷ c) n stands none =
       let behind = chain_there L None (Some x.room) c n stands.1 none in
-      elim (x.room.number == n) as (λ t. (x.room.number == n) ≡ t → one_if t + members_at n c ≡ 0) [
-        | true ↦ λ e. absurd (none_some (sym none ∙ ap L (sym (eqb-true x.room.number n e)) ∙ stands.0))
+      elim ((number_of x.room) == n) as (λ t. ((number_of x.room) == n) ≡ t → one_if t + members_at n c ≡ 0) [
+        | true ↦ λ e. absurd (none_some (sym none ∙ ap L (sym (eqb-true (number_of x.room) n e)) ∙ stands.0))
         | false ↦ λ e. omega arith
       ] refl
 
@@ -81,7 +82,7 @@ module _ {V : Type 0} where
   forks_there L B above (leaf x xs) n stands none = refl
   forks_there L B above (fork room b zero one) n stands none =
       let left = forks_there L B (Some room) zero n stands.1 none in let right = forks_there L B (Some room) one n stands.2 none in
-      elim (room.number == n) as (λ t. (room.number == n) ≡ t → one_if t + (forks_at n zero + forks_at n one) ≡ 0) [
-        | true ↦ λ e. absurd (none_some (sym none ∙ ap B (sym (eqb-true room.number n e)) ∙ stands.0))
+      elim ((number_of room) == n) as (λ t. ((number_of room) == n) ≡ t → one_if t + (forks_at n zero + forks_at n one) ≡ 0) [
+        | true ↦ λ e. absurd (none_some (sym none ∙ ap B (sym (eqb-true (number_of room) n e)) ∙ stands.0))
         | false ↦ λ e. omega arith
       ] refl

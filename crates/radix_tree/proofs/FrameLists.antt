@@ -5,6 +5,7 @@ use Rattle.radix_tree.proofs.Words.{IsAmong, IsIn, IsTree, Heads, Masks, Part, B
 use Rattle.radix_tree.proofs.Words.{MarkedIn, MarkedLists, Lodged}
 use Rattle.radix_tree.proofs.{MaskLists.falls_among}
 use Rattle.radix_tree.proofs.{MaskLinks.stand_same}
+use Rattle.radix_nodes.specs.Naming.{number_of}
 
 module _ {V : Type 0} where
   -- ---- the bit nodes above a part
@@ -39,10 +40,10 @@ module _ {V : Type 0} where
 
   -- ---- one list stays where the masks of its ranks do
   pub list_stays : (K M : Masks) {first : Option Id} (low b : ℕ) (t : Tree V)
-      → ((x : Placed V) → IsIn x t → low ≤ x.entry.rank → M x.room.number ≡ K x.room.number)
+      → ((x : Placed V) → IsIn x t → low ≤ x.entry.rank → M (number_of x.room) ≡ K (number_of x.room))
       → IsMaskList K first low b (MarkedIn K t) → IsMaskList M first low b (MarkedIn M t)
   list_stays K M low b t same list =
-      let kept : (x : Placed V) → IsAmong x list.masks → M x.room.number ≡ K x.room.number =
+      let kept : (x : Placed V) → IsAmong x list.masks → M (number_of x.room) ≡ K (number_of x.room) =
       λ x among. same x (list.within x among).0 (falls_among low (b + 1) list.masks list.falls x among).0 in
       record {
         masks = list.masks;
@@ -55,12 +56,12 @@ module _ {V : Type 0} where
 
   -- and so do those of a tree
   pub lists_stay : (H J : Heads) (K M : Masks) (low : ℕ) (t : Tree V) → IsTree low t → ((n : ℕ) → 1 ≤ forks_at n t → J n ≡ H n)
-      → ((y : Placed V) → IsIn y t → low ≤ y.entry.rank → M y.room.number ≡ K y.room.number) → MarkedLists H K low t → MarkedLists J M low t
+      → ((y : Placed V) → IsIn y t → low ≤ y.entry.rank → M (number_of y.room) ≡ K (number_of y.room)) → MarkedLists H K low t → MarkedLists J M low t
   lists_stay H J K M low (leaf x xs) is heads masks lists = tt
   lists_stay H J K M low (fork room b zero one) is heads masks lists =
       let rises = is.0.rises in
-      let here = one_if_same room.number in (
-        subst (λ first. IsMaskList M first low b (MarkedIn M (fork room b zero one))) (sym (heads room.number (omega arith)))
+      let here = one_if_same (number_of room) in (
+        subst (λ first. IsMaskList M first low b (MarkedIn M (fork room b zero one))) (sym (heads (number_of room) (omega arith)))
             (list_stays K M low b (fork room b zero one) masks lists.0),
         lists_stay H J K M (b + 1) zero is.1 (λ n some. heads n (omega arith)) (λ y at least. masks y (inl at) (omega arith)) lists.1,
         lists_stay H J K M (b + 1) one is.2 (λ n some. heads n (omega arith)) (λ y at least. masks y (inr at) (omega arith)) lists.2,

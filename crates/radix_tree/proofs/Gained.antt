@@ -10,6 +10,7 @@ use Rattle.radix_tree.proofs.Words.{ap, ◌∙◌, subst, inl, arith, eqb-true, 
 use Rattle.radix_tree.proofs.Words.{Part, leaf_in, bit_in, mask_in, leaves_in, leaf_part, first_room, LedTo, Gains, placed, IsWholeBut, has_key}
 use Rattle.radix_tree.proofs.Words.{is_of_key, nobody_late, nobody_out, late_at, lodge_leaf, KeepsLeaves, KeepsBits, KeepsMasks, one_if, beneath_shown}
 use Rattle.radix_tree.proofs.Words.{shown, shown_entry, IsWhole, Holds, Entry, Lodged, [], true≢false}
+use Rattle.radix_nodes.specs.Naming.{number_of}
 
 and_not : (a b : Bool) → (a && not b) ≡ true → (a ≡ true) × (b ≡ false)
 and_not true true e = absurd (true≢false (sym e))
@@ -38,7 +39,7 @@ module _ {V : Type 0} where
       → ((n : ℕ) → leaves_in new n ≡ lodge_leaf id e.value l n (leaves_in m n)) → KeepsBits m new → KeepsMasks m new
       → IsWhole new (LeafOf id) × Gains e [] (shown new (Some (LeafOf id)))
   first_whole m new id {e = e} l leaf_is none route leaves bits masks =
-      let at = leaves id.number ∙ ap (λ b. if b then lodged_part id e.value l else leaves_in m id.number) (eq-eqb id.number id.number refl)
+      let at = leaves (number_of id) ∙ ap (λ b. if b then lodged_part id e.value l else leaves_in m (number_of id)) (eq-eqb (number_of id) (number_of id) refl)
       ∙ ap (lodged_part id e.value) leaf_is in
       let most = route.rank in
       let gone = λ (n : ℕ). no_room m n (get m n) refl (none n) in
@@ -47,8 +48,8 @@ module _ {V : Type 0} where
         low = refl;
         top = refl;
         named = refl;
-        leaves = λ n. ap (λ b. one_if b + 0 + 0) (test_turned id.number n) ∙ lodged_at id e.value l n (n == id.number)
-            ∙ ap (λ o. one_if (is_some (if n == id.number then lodged_part id e.value l else o))) (sym (none n))
+        leaves = λ n. ap (λ b. one_if b + 0 + 0) (test_turned (number_of id) n) ∙ lodged_at id e.value l n (n == (number_of id))
+            ∙ ap (λ o. one_if (is_some (if n == (number_of id) then lodged_part id e.value l else o))) (sym (none n))
             ∙ ap (λ o. one_if (is_some o)) (sym (leaves n));
         forks = λ n. ap (λ o. one_if (is_some (bit_in o))) (sym (gone n)) ∙ ap (λ o. one_if (is_some o)) (sym (bits n));
         spare = inl tt;
@@ -90,7 +91,7 @@ module _ {V : Type 0} where
   -- what the first room of a leaf says
   pub record IsBegun (m : Lodged V) (key : ℕ) (first : Id) : Type 0 where
     pub part : LeafPart V
-    pub at : leaves_in m first.number ≡ Some part
+    pub at : leaves_in m (number_of first) ≡ Some part
     pub block : part.block ≡ first.block
     pub key_is : part.leaf.key ≡ key
     pub previous : part.leaf.previous ≡ None
@@ -98,7 +99,7 @@ module _ {V : Type 0} where
   pub led_begun : (m : Lodged V) {key : ℕ} {whole : Part m} {first : Id} (d : LedTo key whole first) → IsBegun m d.leaf.first.entry.key first
   led_begun m d = record {
     part = leaf_part d.leaf.first d.part.above None (first_room d.leaf.rest);
-    at = ap (λ i. leaves_in m i.number) (sym d.leaf.room_is) ∙ (leaf_run m d.leaf).stands.0;
+    at = ap (λ i. leaves_in m (number_of i)) (sym d.leaf.room_is) ∙ (leaf_run m d.leaf).stands.0;
     block = ap (λ i. i.block) d.leaf.room_is;
     key_is = refl;
     previous = refl;
@@ -111,11 +112,11 @@ module _ {V : Type 0} where
 
   pub still_begun : {m : Lodged V} (new : Lodged V) {key : ℕ} {first : Id} → IsBegun m key first → KeepsButAbove m new → IsBegun new key first
   still_begun new {first = first} b keeps =
-      let k = keeps first.number b.part b.at in
+      let k = keeps (number_of first) b.part b.at in
       record { part = record b.part { leaf = record b.part.leaf { above = k.0 } }; at = k.1; block = b.block; key_is = b.key_is; previous = b.previous }
 
   pub same_begun : {m : Lodged V} (new : Lodged V) {key : ℕ} {first : Id} → IsBegun m key first → KeepsLeaves m new → IsBegun new key first
-  same_begun new {first = first} b leaves = record { part = b.part; at = leaves first.number ∙ b.at; block = b.block; key_is = b.key_is; previous = b.previous }
+  same_begun new {first = first} b leaves = record { part = b.part; at = leaves (number_of first) ∙ b.at; block = b.block; key_is = b.key_is; previous = b.previous }
 
   said_key : (m : Lodged V) (key n : ℕ) (o : Option (LeafPart V)) → leaves_in m n ≡ o → is_of_key key o ≡ true
       → (p : LeafPart V) × (leaves_in m n ≡ Some p) × ((p.leaf.key == key) ≡ true)
@@ -135,7 +136,7 @@ module _ {V : Type 0} where
 
   pub lost : {m : Lodged V} (new : Lodged V) {root : Node} (after : Option Node) {key rank : ℕ} {at : Id} → Holds m (Some root)
       → (f : IsFound m root key rank at)
-      → ((p : LeafPart V) → leaves_in m at.number ≡ Some p → Gains (shown_entry p) (shown new after) (shown m (Some root)))
+      → ((p : LeafPart V) → leaves_in m (number_of at) ≡ Some p → Gains (shown_entry p) (shown new after) (shown m (Some root)))
       → IsLost m new root after key rank f.route.entry
   lost {m = m} new {root = root} after {key = key} holds f routes =
       let e = f.route.entry in

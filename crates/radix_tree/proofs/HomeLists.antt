@@ -8,9 +8,10 @@ use Rattle.radix_tree.proofs.{FrameLists.way_framed, FrameLists.lists_stay, Fact
 use Rattle.radix_tree.specs.Tree.{bit_at}
 use Rattle.radix_tree.proofs.Words.{◌≡◌, ℕ, ◌+◌, ◌<◌, ◌≤◌, ◌==◌, ◌⊎◌, Bool, true, false, ◌||◌, List, [], ◌∷◌, Some, refl, inl, inr, sym, ap, ◌∙◌, subst}
 use Rattle.radix_tree.proofs.Words.{arith, cases_lt, is_some, Seen, Has, Id, Node, IsRoute, Placed, Tree, leaf, fork, IsAmong, IsIn, IsChain, IsTree}
-use Rattle.radix_tree.proofs.Words.{LeafPart, MaskPart, Leaves, Heads, Masks, Part, leaves_in, bits_in, heads_in, masks_in, leaf_in, leaf_part, Way}
+use Rattle.radix_tree.proofs.Words.{LeafPart, MaskPart, Leaves, Heads, Masks, Part, leaves_in, bits_in, heads_in, masks_in, leaf_in, Way}
 use Rattle.radix_tree.proofs.Words.{one_if, leaves_at, forks_at, HasHome, KeepsLeaves, KeepsBits, AreOnce, plug, low_past, IsMarked, IsMaskList, MarkedIn}
 use Rattle.radix_tree.proofs.Words.{MarkedLists, IsWholeBut, nobody_out, HomeAt, Entry, Lodged}
+use Rattle.radix_nodes.specs.Naming.{number_of}
 
 pub or_right : (a : Bool) {b : Bool} → b ≡ true → (a || b) ≡ true
 or_right true is = refl
@@ -18,16 +19,15 @@ or_right false is = is
 
 module _ {V : Type 0} where
   -- ---- one room, one route
-  -- a route by the number of its room and what the room says
-  abbrev told : ℕ → LeafPart V → Placed V
-  told n p = record { room = record { number = n; block = p.block }; entry = record { key = p.leaf.key; rank = p.leaf.rank; value = p.value } }
+  -- a route by what its room says
+  abbrev told : LeafPart V → Placed V
+  told p = record { room = record { block = p.block }; entry = record { key = p.leaf.key; rank = p.leaf.rank; value = p.value } }
 
-  one_said : (L : Leaves V) (x y : Placed V) → IsSaid L x → IsSaid L y → x.room.number ≡ y.room.number → x ≡ y
+  one_said : (L : Leaves V) (x y : Placed V) → IsSaid L x → IsSaid L y → (number_of x.room) ≡ (number_of y.room) → x ≡ y
   one_said L x y sx sy same =
-      let parts = inside (sym sx.3 ∙ ap L same ∙ sy.3) in
-      ap (λ n. told n (leaf_part x sx.0 sx.1 sx.2)) same ∙ ap (told y.room.number) parts
+      ap told (inside (sym sx.3 ∙ ap L same ∙ sy.3))
 
-  pub one_room : (m : Lodged V) (p : Part m) (x y : Placed V) → IsIn x p.tree → IsIn y p.tree → x.room.number ≡ y.room.number → x ≡ y
+  pub one_room : (m : Lodged V) (p : Part m) (x y : Placed V) → IsIn x p.tree → IsIn y p.tree → (number_of x.room) ≡ (number_of y.room) → x ≡ y
   one_room m p x y in_x in_y same = one_said (leaves_in m) x y (tree_said (leaves_in m) (bits_in m) p.above p.tree p.stands x in_x)
       (tree_said (leaves_in m) (bits_in m) p.above p.tree p.stands y in_y) same
 
@@ -109,16 +109,16 @@ module _ {V : Type 0} where
 
     -- the list there
     pub home_list : MarkedLists (heads_in m) (masks_in m) whole.low whole.tree
-        → IsMaskList (masks_in m) (heads_in m room.number) h.part.low h.at.bit (MarkedIn (masks_in m) tree_of)
+        → IsMaskList (masks_in m) (heads_in m (number_of room)) h.part.low h.at.bit (MarkedIn (masks_in m) tree_of)
     home_list lists = (lists_of (heads_in m) (masks_in m) lists).0
 
   -- ---- a list at a home changes, and so the lists of the whole tree
   -- rooms that list the same masks but for those of a home's list
   pub record IsRelisted (m new : Lodged V) (key rank : ℕ) (whole : Part m) (room : Id) (h : HomeAt m key rank whole room) : Type 0 where
-    pub heads : (n : ℕ) → (n ≡ room.number → ⊥) → heads_in new n ≡ heads_in m n
+    pub heads : (n : ℕ) → (n ≡ (number_of room) → ⊥) → heads_in new n ≡ heads_in m n
     pub masks : (y : Placed V) → IsIn y whole.tree → (IsIn y h.part.tree → h.part.low ≤ y.entry.rank → y.entry.rank ≤ h.at.bit → ⊥)
-        → masks_in new y.room.number ≡ masks_in m y.room.number
-    pub list : IsMaskList (masks_in new) (heads_in new room.number) h.part.low h.at.bit (MarkedIn (masks_in new) (fork room h.at.bit h.at.zero h.at.one))
+        → masks_in new (number_of y.room) ≡ masks_in m (number_of y.room)
+    pub list : IsMaskList (masks_in new) (heads_in new (number_of room)) h.part.low h.at.bit (MarkedIn (masks_in new) (fork room h.at.bit h.at.zero h.at.one))
 
   module _ {m : Lodged V} {key rank : ℕ} {whole : Part m} {room : Id} (h : HomeAt m key rank whole room) where
     pub home_inside : (y : Placed V) → IsIn y (tree_of h) → IsIn y whole.tree
@@ -132,7 +132,7 @@ module _ {V : Type 0} where
         let is = fork_is f in
         let old = lists_of h (heads_in m) (masks_in m) lists in
         let once_at = way_once key whole h.part h.ups h.way once in
-        let most : (n : ℕ) → one_if (room.number == n) + (forks_at n f.zero + forks_at n f.one) ≤ 1 =
+        let most : (n : ℕ) → one_if ((number_of room) == n) + (forks_at n f.zero + forks_at n f.one) ≤ 1 =
         λ n. subst (λ t. forks_at n t ≤ 1) f.is (once_at.forks n) in (
           r.list,
           lists_stay (heads_in m) (heads_in new) (masks_in m) (masks_in new) (f.bit + 1) f.zero is.1
@@ -153,9 +153,9 @@ module _ {V : Type 0} where
         let in_whole : (y : Placed V) → IsIn y (plug f.frames h.part.tree) → IsIn y whole.tree = λ y is. subst (IsIn y) (sym f.was) is in
         let forks : (n : ℕ) → forks_at n (plug f.frames h.part.tree) ≤ 1 = λ n. subst (λ u. forks_at n u ≤ 1) f.was (once.forks n) in
         let leaves : (n : ℕ) → leaves_at n (plug f.frames h.part.tree) ≤ 1 = λ n. subst (λ u. leaves_at n u ≤ 1) f.was (once.leaves n) in
-        let here = subst (λ u. 1 ≤ forks_at room.number u) (sym h.at.is) (let one = one_if_same room.number in
+        let here = subst (λ u. 1 ≤ forks_at (number_of room) u) (sym h.at.is) (let one = one_if_same (number_of room) in
         omega arith) in
-        let above : (y : Placed V) → IsIn y h.part.tree → y.entry.rank < low_past whole.low f.frames → masks_in new y.room.number ≡ masks_in m y.room.number =
+        let above : (y : Placed V) → IsIn y h.part.tree → y.entry.rank < low_past whole.low f.frames → masks_in new (number_of y.room) ≡ masks_in m (number_of y.room) =
         λ y is below. r.masks y (way_inside m key whole h.part h.ups h.way y is) (λ _ least _. omega arith) in
         let keeps : KeepsAbove (heads_in m) (heads_in new) (masks_in m) (masks_in new) (low_past whole.low f.frames) f.frames h.part.tree h.part.tree =
         record {
@@ -163,7 +163,7 @@ module _ {V : Type 0} where
               omega arith);
           aside = λ y aside. r.masks y (in_whole y (aside_in f.frames h.part.tree y aside)) (λ is _ _. let own_at = counted_leaf y h.part.tree is in
               let more = aside_at f.frames h.part.tree y aside in
-              let most = leaves y.room.number in omega arith);
+              let most = leaves (number_of y.room) in omega arith);
           stays = λ y is below marked. (is, above y is below);
           came = λ y is below marked. (is, marked_same (masks_in new) (masks_in m) y (sym (above y is below)) marked);
         } in
@@ -183,9 +183,9 @@ module _ {V : Type 0} where
 
   -- each mask that is listed is of a route with a home, and each such route's mask is listed or late
   pub record AreMarked (m new : Lodged V) (late : ℕ → Bool) (whole : Part m) : Type 0 where
-    pub listed : (n : ℕ) (p : MaskPart) → masks_in new n ≡ Some p → (x : Placed V) × IsIn x whole.tree × (x.room.number ≡ n)
+    pub listed : (n : ℕ) (p : MaskPart) → masks_in new n ≡ Some p → (x : Placed V) × IsIn x whole.tree × ((number_of x.room) ≡ n)
         × HasHome x.entry.key x.entry.rank whole.tree
-    pub all : (x : Placed V) → IsIn x whole.tree → HasHome x.entry.key x.entry.rank whole.tree → IsMarked (masks_in new) x ⊎ (late x.room.number ≡ true)
+    pub all : (x : Placed V) → IsIn x whole.tree → HasHome x.entry.key x.entry.rank whole.tree → IsMarked (masks_in new) x ⊎ (late (number_of x.room) ≡ true)
 
   pub whole_kept : (m new : Lodged V) {root : Node} {late : ℕ → Bool} (later : ℕ → Bool) (w : IsWholeBut m root late nobody_out) → KeepsLeaves m new
       → KeepsBits m new → MarkedLists (heads_in new) (masks_in new) w.part.low w.part.tree → AreMarked m new later w.part
@@ -197,14 +197,14 @@ module _ {V : Type 0} where
     named = w.named;
     leaves = λ n. w.leaves n ∙ ap (λ o. one_if (is_some o)) (sym (leaves n));
     forks = λ n. w.forks n ∙ ap (λ o. one_if (is_some o)) (sym (bits n));
-    spare = spare_same (bits_in m) (bits_in new) w.part.tree (λ y is none. bits y.room.number ∙ none) w.spare;
+    spare = spare_same (bits_in m) (bits_in new) w.part.tree (λ y is none. bits (number_of y.room) ∙ none) w.spare;
     lists = lists;
     listed = marked.listed;
     all = marked.all;
   }
 
   -- ---- the route in a room of the table
-  block_said : (m : Lodged V) {y : Placed V} {n : ℕ} (s : Seen V) → IsSaid (leaves_in m) y → y.room.number ≡ n → leaves_in m n ≡ leaf_in (Some s)
+  block_said : (m : Lodged V) {y : Placed V} {n : ℕ} (s : Seen V) → IsSaid (leaves_in m) y → (number_of y.room) ≡ n → leaves_in m n ≡ leaf_in (Some s)
       → y.room.block ≡ s.block
   block_said m s is same said =
       let parts = inside (sym is.3 ∙ ap (leaves_in m) same ∙ said) in ap (λ p. p.block) parts
@@ -213,10 +213,10 @@ module _ {V : Type 0} where
       → (y : Placed V) × IsIn y w.part.tree × (y.room ≡ room)
   placed_in {m = m} w {room = room} h =
       let said = ap leaf_in h.at in
-      let count = w.leaves room.number ∙ ap (λ o. one_if (is_some o)) said in
-      let y = tree_room room.number w.part.tree (omega arith) in (
+      let count = w.leaves (number_of room) ∙ ap (λ o. one_if (is_some o)) said in
+      let y = tree_room (number_of room) w.part.tree (omega arith) in (
         y.0,
         y.1,
-        same_id y.0.room room y.2 (block_said m h.room (tree_said (leaves_in m) (bits_in m) w.part.above w.part.tree w.part.stands y.0 y.1) y.2
+        same_id y.0.room room (block_said m h.room (tree_said (leaves_in m) (bits_in m) w.part.above w.part.tree w.part.stands y.0 y.1) y.2
             said ∙ h.block),
       )

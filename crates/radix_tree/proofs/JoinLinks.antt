@@ -5,13 +5,14 @@ use Rattle.radix_tree.proofs.Words.{◌≡◌, ◌+◌, ◌≤◌, ◌==◌, Boo
 use Rattle.radix_tree.proofs.Words.{ℕ, eq-eqb, ne_eqb, is_some, Has, Id, Node, LeafOf, BitOf, Tree, BitPart, Part, bit_part, leaf_in, leaves_in, bits_in}
 use Rattle.radix_tree.proofs.Words.{name_of, Way, one_if, forks_at, name_child, with_child, AreOnce, IsApart, IsLone, put_bit, put_head, bit_above}
 use Rattle.radix_tree.proofs.Words.{lift_bit, Lodged}
+use Rattle.radix_nodes.specs.Naming.{number_of}
 
 -- ---- a room that is not written
-pub put_off : (room : Id) (n : ℕ) (said : Option BitPart) → (n ≡ room.number → ⊥) → put_bit room None n said ≡ said
-put_off room n said other = ap (λ t. if t then None else said) (ne_eqb n room.number other)
+pub put_off : (room : Id) (n : ℕ) (said : Option BitPart) → (n ≡ (number_of room) → ⊥) → put_bit room None n said ≡ said
+put_off room n said other = ap (λ t. if t then None else said) (ne_eqb n (number_of room) other)
 
-pub head_off : (room : Id) (n : ℕ) (said : Option Id) → (n ≡ room.number → ⊥) → put_head room None n said ≡ said
-head_off room n said other = ap (λ t. if t then None else said) (ne_eqb n room.number other)
+pub head_off : (room : Id) (n : ℕ) (said : Option Id) → (n ≡ (number_of room) → ⊥) → put_head room None n said ≡ said
+head_off room n said other = ap (λ t. if t then None else said) (ne_eqb n (number_of room) other)
 
 -- ---- a room that is no bit node
 both_none : (t : Bool) (x y : Option BitPart) → x ≡ None → y ≡ None → (if t then x else y) ≡ None
@@ -19,18 +20,18 @@ both_none true x y first second = first
 both_none false x y first second = second
 
 pub put_none : (room : Id) (n : ℕ) → put_bit room None n None ≡ None
-put_none room n = both_none (n == room.number) None None refl refl
+put_none room n = both_none (n == (number_of room)) None None refl refl
 
 pub turn_none : (above : Option Id) (key n : ℕ) (to : Node) → name_child above key to n None ≡ None
 turn_none None key n to = refl
-turn_none (Some over) key n to = both_none (n == over.number) (with_child key to None) None refl refl
+turn_none (Some over) key n to = both_none (n == (number_of over)) (with_child key to None) None refl refl
 
 pub lift_none : (at : Node) (above : Option Id) (n : ℕ) → lift_bit at above n None ≡ None
 lift_none (LeafOf room) above n = refl
-lift_none (BitOf room) above n = both_none (n == room.number) (bit_above above None) None refl refl
+lift_none (BitOf room) above n = both_none (n == (number_of room)) (bit_above above None) None refl refl
 
-pub put_here : (room : Id) (said : Option BitPart) → put_bit room None room.number said ≡ None
-put_here room said = ap (λ t. if t then bit_part room.block None else said) (eq-eqb room.number room.number refl)
+pub put_here : (room : Id) (said : Option BitPart) → put_bit room None (number_of room) said ≡ None
+put_here room said = ap (λ t. if t then bit_part room.block None else said) (eq-eqb (number_of room) (number_of room) refl)
 
 -- ---- a room that is a bit node stays one
 pub turned_used : (key : ℕ) (to : Node) (said : Option BitPart) → is_some (with_child key to said) ≡ is_some said
@@ -40,11 +41,11 @@ turned_used key to (Some p) = refl
 pub turn_used : (above : Option Id) (key n : ℕ) (to : Node) (said : Option BitPart) → is_some (name_child above key to n said) ≡ is_some said
 turn_used None key n to said = refl
 turn_used (Some over) key n to said =
-    elim (n == over.number) as (λ t. is_some (if t then with_child key to said else said) ≡ is_some said) [ true ↦ turned_used key to said | false ↦ refl ]
+    elim (n == (number_of over)) as (λ t. is_some (if t then with_child key to said else said) ≡ is_some said) [ true ↦ turned_used key to said | false ↦ refl ]
 
 module _ {V : Type 0} where
   -- ---- a room that is there
-  pub Has-kept : {m : Lodged V} (new : Lodged V) {room : Id} → Has m room → leaves_in new room.number ≡ leaves_in m room.number → Has new room
+  pub Has-kept : {m : Lodged V} (new : Lodged V) {room : Id} → Has m room → leaves_in new (number_of room) ≡ leaves_in m (number_of room) → Has new room
   Has-kept new {room = room} h same = Has-leaf new room (same ∙ ap leaf_in h.at) h.block
 
   -- ---- the node beneath stays as it is while the bit nodes above it are written
@@ -64,20 +65,20 @@ module _ {V : Type 0} where
 
   -- ---- the other side of the bit node above a lone leaf
   out_of_above : (m : Lodged V) (key : ℕ) (whole at : Part m) (ups : List (Part m)) (over : Id) → Way key whole at ups → whole.above ≡ None
-      → AreOnce whole.tree → at.above ≡ Some over → (n : ℕ) → 1 ≤ forks_at n at.tree → n ≡ over.number → ⊥
+      → AreOnce whole.tree → at.above ≡ Some over → (n : ℕ) → 1 ≤ forks_at n at.tree → n ≡ (number_of over) → ⊥
   out_of_above m key whole at [] over way top once is n some same = none_some (sym top ∙ sym (ap (λ p. p.above) way) ∙ is)
   out_of_above m key whole at (p ∷ ps) over way top once is n some same =
       let b = way.0 in
       let out = (spine_out m b (way_once key whole p ps way.1 once)).0 in
       let room = inside (sym b.above ∙ is) in
-      let here = ap (λ k. forks_at k at.tree) (same ∙ ap (λ i. i.number) (sym room)) in
+      let here = ap (λ k. forks_at k at.tree) (same ∙ ap (λ i. (number_of i)) (sym room)) in
       omega arith
 
   module _ {m : Lodged V} {whole : Part m} {at up : Id} (l : IsLone m whole at up) where
     pub lone_once : AreOnce l.over.tree
     lone_once = way_once l.route.entry.key whole l.over l.ups l.way l.once
 
-    pub lone_forks : (n : ℕ) → forks_at n l.over.tree ≡ one_if (up.number == n) + (0 + forks_at n l.other)
+    pub lone_forks : (n : ℕ) → forks_at n l.over.tree ≡ one_if ((number_of up) == n) + (0 + forks_at n l.other)
     lone_forks n = side_forks l.sides n
 
     pub lone_apart : IsApart l.other up l.over.above

@@ -9,26 +9,27 @@ use Rattle.radix_tree.proofs.MaskLists.{falls_wider, falls_among, falls_appended
 use Rattle.radix_tree.proofs.JoinSides.{side_is, side_stands, side_forks, side_in, in_side, side_list, side_lists, side_home}
 use Rattle.radix_tree.proofs.Words.{true≢false}
 use Rattle.radix_tree.proofs.{MaskLinks.stand_same}
+use Rattle.radix_nodes.specs.Naming.{number_of}
 
-unmarked_marked : {A : Type 0} (K : Masks) (x y : Placed A) → K x.room.number ≡ None → x ≡ y → IsMarked K y → ⊥
+unmarked_marked : {A : Type 0} (K : Masks) (x y : Placed A) → K (number_of x.room) ≡ None → x ≡ y → IsMarked K y → ⊥
 unmarked_marked {A = A} K x y none same marked =
-    let never = ap is_some (ap (λ p. K p.room.number) (sym same) ∙ none) in
+    let never = ap is_some (ap (λ p. K (number_of p.room)) (sym same) ∙ none) in
     true≢false (sym marked ∙ never)
 
 module _ {V : Type 0} where
   -- one of the members is in a room, or none
-  member_or_aside : (n : ℕ) (ms : List (Placed V)) → ((y : Placed V) × IsAmong y ms × (y.room.number ≡ n)) ⊎ IsAside n ms
+  member_or_aside : (n : ℕ) (ms : List (Placed V)) → ((y : Placed V) × IsAmong y ms × ((number_of y.room) ≡ n)) ⊎ IsAside n ms
   member_or_aside n [] = inr (λ y among same. among)
-  member_or_aside n (x ∷ ms) = elim (cases_eq x.room.number n) [
+  member_or_aside n (x ∷ ms) = elim (cases_eq (number_of x.room) n) [
     | inl here ↦ inl (x, inl refl, here)
     | inr other ↦ elim (member_or_aside n ms) [
       | inl found ↦ inl (found.0, inr found.1, found.2)
-      | inr aside ↦ inr (λ y among same. elim among [ inl e ↦ other (ap (λ p. p.room.number) e ∙ same) | inr behind ↦ aside y behind same ])
+      | inr aside ↦ inr (λ y among same. elim among [ inl e ↦ other (ap (λ p. (number_of p.room)) e ∙ same) | inr behind ↦ aside y behind same ])
     ]
   ]
 
   -- the routes of a part tell their ranks by their rooms
-  pub same_rank_at : (m : Lodged V) (p : Part m) (x y : Placed V) → IsIn x p.tree → IsIn y p.tree → x.room.number ≡ y.room.number → x.entry.rank ≡
+  pub same_rank_at : (m : Lodged V) (p : Part m) (x y : Placed V) → IsIn x p.tree → IsIn y p.tree → (number_of x.room) ≡ (number_of y.room) → x.entry.rank ≡
       y.entry.rank
   same_rank_at m p x y one other same =
       let first = ranked_in m p x one in
@@ -37,15 +38,15 @@ module _ {V : Type 0} where
 
   -- lists stay where their heads stay, and the masks of ranks at or past low
   lists_past : (H G : Heads) (K J : Masks) (low : ℕ) (t : Tree V) → ((n : ℕ) → 1 ≤ forks_at n t → G n ≡ H n)
-      → ((y : Placed V) → IsIn y t → low ≤ y.entry.rank → J y.room.number ≡ K y.room.number)
-      → ((y : Placed V) → IsIn y t → is_some (J y.room.number) ≡ is_some (K y.room.number)) → IsTree low t → MarkedLists H K low t → MarkedLists G J low t
+      → ((y : Placed V) → IsIn y t → low ≤ y.entry.rank → J (number_of y.room) ≡ K (number_of y.room))
+      → ((y : Placed V) → IsIn y t → is_some (J (number_of y.room)) ≡ is_some (K (number_of y.room))) → IsTree low t → MarkedLists H K low t → MarkedLists G J low t
   lists_past H G K J low (leaf x xs) heads masks marks is lists = tt
   lists_past H G K J low (fork room b zero one) heads masks marks is lists =
       let rises = is.0.rises in
       let old = lists.0 in (
         record {
           masks = old.masks;
-          begins = old.begins ∙ sym (heads room.number (let own = one_if_same room.number in omega arith));
+          begins = old.begins ∙ sym (heads (number_of room) (let own = one_if_same (number_of room) in omega arith));
           stands = stand_same K J old.masks (λ y among. masks y (old.within y among).0 (falls_among low (b + 1) old.masks old.falls y among).0) old.stands;
           falls = old.falls;
           has = λ y member least most. old.has y (member.0, sym (marks y member.0) ∙ member.1) least most;
@@ -60,10 +61,10 @@ module _ {V : Type 0} where
   -- ---- to a bit node
   -- its list, and that of the bit node that goes
   pub record AreTwo (m : Lodged V) (over : Part m) (up room : Id) (b c : ℕ) (t : Tree V) : Type 0 where
-    pub own : IsMaskList (masks_in m) (heads_in m room.number) (b + 1) c (MarkedIn (masks_in m) t)
-    pub gone : IsMaskList (masks_in m) (heads_in m up.number) over.low b (MarkedIn (masks_in m) over.tree)
-    pub own_is : IsMasks m (heads_in m room.number) own.masks
-    pub gone_is : IsMasks m (heads_in m up.number) gone.masks
+    pub own : IsMaskList (masks_in m) (heads_in m (number_of room)) (b + 1) c (MarkedIn (masks_in m) t)
+    pub gone : IsMaskList (masks_in m) (heads_in m (number_of up)) over.low b (MarkedIn (masks_in m) over.tree)
+    pub own_is : IsMasks m (heads_in m (number_of room)) own.masks
+    pub gone_is : IsMasks m (heads_in m (number_of up)) gone.masks
     pub low : over.low ≤ b
     pub rises : b + 1 ≤ c
     pub within : c ≤ 31
@@ -114,10 +115,10 @@ module _ {V : Type 0} where
   leaf_of (fork i b zero one) named = cc
 
   abbrev pub Ready : (m : Lodged V) (room : Id) (first : Option Id) → Type 0
-  Ready m room first = (ms : List (Placed V)) × (ts : List (Placed V)) × IsMasks m (heads_in m room.number) ms × IsMasks m first ts × Falls 0 34 (ms ++ ts)
+  Ready m room first = (ms : List (Placed V)) × (ts : List (Placed V)) × IsMasks m (heads_in m (number_of room)) ms × IsMasks m first ts × Falls 0 34 (ms ++ ts)
 
   pub append_ready : {m : Lodged V} {whole : Part m} {at : Id} (up room : Id) {first : Option Id} (l : IsLone m whole at up) → name_of l.other ≡ BitOf room
-      → heads_in m up.number ≡ first → MarkedLists (heads_in m) (masks_in m) l.over.low l.over.tree → Ready m room first
+      → heads_in m (number_of up) ≡ first → MarkedLists (heads_in m) (masks_in m) l.over.low l.over.tree → Ready m room first
   append_ready {m = m} up room l named head lists =
       let f = fork_of l.other named in
       let s = subst (HasSides l.route.entry.key l.over.tree up l.bit (leaf l.route [])) f.is l.sides in
@@ -140,22 +141,22 @@ module _ {V : Type 0} where
 
   -- what append leaves
   pub record IsAppended (m new : Lodged V) (room : Id) (first : Option Id) : Type 0 where
-    pub list : (ms : List (Placed V)) (ts : List (Placed V)) → IsMasks m (heads_in m room.number) ms → IsMasks m first ts → Falls 0 34 (ms ++ ts)
-        → IsMasks new (heads_in new room.number) (ms ++ ts)
-    pub heads : (n : ℕ) → (n ≡ room.number → ⊥) → heads_in new n ≡ heads_in m n
-    pub masks : (ms : List (Placed V)) → IsMasks m (heads_in m room.number) ms → (n : ℕ) → IsAside n ms → masks_in new n ≡ masks_in m n
+    pub list : (ms : List (Placed V)) (ts : List (Placed V)) → IsMasks m (heads_in m (number_of room)) ms → IsMasks m first ts → Falls 0 34 (ms ++ ts)
+        → IsMasks new (heads_in new (number_of room)) (ms ++ ts)
+    pub heads : (n : ℕ) → (n ≡ (number_of room) → ⊥) → heads_in new n ≡ heads_in m n
+    pub masks : (ms : List (Placed V)) → IsMasks m (heads_in m (number_of room)) ms → (n : ℕ) → IsAside n ms → masks_in new n ≡ masks_in m n
     pub marks : (n : ℕ) → is_some (masks_in new n) ≡ is_some (masks_in m n)
 
   -- a mask of another rank than the members' stays
   rank_stays : (m : Lodged V) {new : Lodged V} (over : Part m) {up room : Id} (b c : ℕ) {first : Option Id} {t : Tree V} (w : AreTwo m over up room b c t)
       → IsAppended m new room first → ((y : Placed V) → IsIn y t → IsIn y over.tree) → (y : Placed V) → IsIn y over.tree → c + 1 ≤ y.entry.rank
-      → masks_in new y.room.number ≡ masks_in m y.room.number
-  rank_stays m over b c w a inside_over y at past = a.masks w.own.masks w.own_is y.room.number (λ z among same.
+      → masks_in new (number_of y.room) ≡ masks_in m (number_of y.room)
+  rank_stays m over b c w a inside_over y at past = a.masks w.own.masks w.own_is (number_of y.room) (λ z among same.
       let rank = same_rank_at m over z y (inside_over z (w.own.within z among).0) at same in
       let most = (falls_among (b + 1) (c + 1) w.own.masks w.own.falls z among).1 in absurd (omega arith))
 
   fork_handed : (m new : Lodged V) (over : Part m) {key : ℕ} (up room : Id) (b c : ℕ) (x : Placed V) (zero one : Tree V) {first : Option Id}
-      → HasSides key over.tree up b (leaf x []) (fork room c zero one) → heads_in m up.number ≡ first → masks_in m x.room.number ≡ None
+      → HasSides key over.tree up b (leaf x []) (fork room c zero one) → heads_in m (number_of up) ≡ first → masks_in m (number_of x.room) ≡ None
       → MarkedLists (heads_in m) (masks_in m) over.low over.tree → AreOnce over.tree
       → IsAppended m new room first → IsHanded m new over.low over.tree (fork room c zero one)
   fork_handed m new over up room b c x zero one s head unmarked lists once a =
@@ -166,18 +167,18 @@ module _ {V : Type 0} where
       let rises = w.rises in
       let within = w.within in
       let beneath : (y : Placed V) → IsIn y (fork room c zero one) → IsIn y over.tree = λ y at. in_side s y at in
-      let own = one_if_same room.number in
+      let own = one_if_same (number_of room) in
       let now = a.list w.own.masks w.gone.masks w.own_is (subst (λ o. IsMasks m o w.gone.masks) head w.gone_is)
       (falls_wider over.low (c + 1) 0 34 (w.own.masks ++ w.gone.masks) w.falls (omega arith) (omega arith)) in
-      let marked_now : (y : Placed V) → IsMarked (masks_in m) y → IsMarked (masks_in new) y = λ y marked. a.marks y.room.number ∙ marked in
-      let marked_then : (y : Placed V) → IsMarked (masks_in new) y → IsMarked (masks_in m) y = λ y marked. sym (a.marks y.room.number) ∙ marked in
-      let most_forks : (n : ℕ) → one_if (up.number == n) + (0 + (one_if (room.number == n) + (forks_at n zero + forks_at n one))) ≤ 1 = λ n.
+      let marked_now : (y : Placed V) → IsMarked (masks_in m) y → IsMarked (masks_in new) y = λ y marked. a.marks (number_of y.room) ∙ marked in
+      let marked_then : (y : Placed V) → IsMarked (masks_in new) y → IsMarked (masks_in m) y = λ y marked. sym (a.marks (number_of y.room)) ∙ marked in
+      let most_forks : (n : ℕ) → one_if ((number_of up) == n) + (0 + (one_if ((number_of room) == n) + (forks_at n zero + forks_at n one))) ≤ 1 = λ n.
       let sum = side_forks s n in
       let most = once.forks n in omega arith in
       record {
         heads = λ n none. a.heads n (λ same.
             let sum = side_forks s n in
-            let here = ap (λ k. one_if (room.number == k)) same ∙ one_if_same room.number in absurd (omega arith));
+            let here = ap (λ k. one_if ((number_of room) == k)) same ∙ one_if_same (number_of room) in absurd (omega arith));
         masks = λ n aside. a.masks w.own.masks w.own_is n (λ z among same. aside z (beneath z (w.own.within z among).0)
             (let least = (falls_among (b + 1) (c + 1) w.own.masks w.own.falls z among).0 in omega arith) same);
         marks = λ n p said. some_of (masks_in m n) (sym (a.marks n) ∙ ap is_some said);
@@ -208,26 +209,26 @@ module _ {V : Type 0} where
             ];
           },
           lists_past (heads_in m) (heads_in new) (masks_in m) (masks_in new) (c + 1) zero (λ n some. let most =
-              most_forks n in a.heads n (λ same. let here = ap (λ k. one_if (room.number == k)) same ∙ one_if_same room.number in absurd (omega arith)))
-              (λ y at past. rank_stays m over b c w a beneath y (beneath y (inl at)) past) (λ y at. a.marks y.room.number) is.0.1 old.1,
+              most_forks n in a.heads n (λ same. let here = ap (λ k. one_if ((number_of room) == k)) same ∙ one_if_same (number_of room) in absurd (omega arith)))
+              (λ y at past. rank_stays m over b c w a beneath y (beneath y (inl at)) past) (λ y at. a.marks (number_of y.room)) is.0.1 old.1,
           lists_past (heads_in m) (heads_in new) (masks_in m) (masks_in new) (c + 1) one (λ n some. let most =
-              most_forks n in a.heads n (λ same. let here = ap (λ k. one_if (room.number == k)) same ∙ one_if_same room.number in absurd (omega arith)))
-              (λ y at past. rank_stays m over b c w a beneath y (beneath y (inr at)) past) (λ y at. a.marks y.room.number) is.0.2 old.2,
+              most_forks n in a.heads n (λ same. let here = ap (λ k. one_if ((number_of room) == k)) same ∙ one_if_same (number_of room) in absurd (omega arith)))
+              (λ y at past. rank_stays m over b c w a beneath y (beneath y (inr at)) past) (λ y at. a.marks (number_of y.room)) is.0.2 old.2,
         );
       }
 
   pub bit_handed : (m new : Lodged V) (whole : Part m) {at : Id} (up room : Id) {first : Option Id} (l : IsLone m whole at up) → name_of l.other ≡ BitOf room
-      → heads_in m up.number ≡ first → masks_in m at.number ≡ None → MarkedLists (heads_in m) (masks_in m) l.over.low l.over.tree
+      → heads_in m (number_of up) ≡ first → masks_in m (number_of at) ≡ None → MarkedLists (heads_in m) (masks_in m) l.over.low l.over.tree
       → IsAppended m new room first → IsHanded m new l.over.low l.over.tree l.other
   bit_handed m new whole up room l named head unmarked lists a =
       let f = fork_of l.other named in
       let s = subst (HasSides l.route.entry.key l.over.tree up l.bit (leaf l.route [])) f.is l.sides in
       let once = way_once l.route.entry.key whole l.over l.ups l.way l.once in
       subst (IsHanded m new l.over.low l.over.tree) (sym f.is)
-      (fork_handed m new l.over up room l.bit f.bit l.route f.zero f.one s head (ap (λ i. masks_in m i.number) l.room_is ∙ unmarked) lists once a)
+      (fork_handed m new l.over up room l.bit f.bit l.route f.zero f.one s head (ap (λ i. masks_in m (number_of i)) l.room_is ∙ unmarked) lists once a)
 
   -- ---- to a leaf
-  pub clear_ready : {m : Lodged V} {whole : Part m} {at up : Id} {first : Option Id} (l : IsLone m whole at up) → heads_in m up.number ≡ first
+  pub clear_ready : {m : Lodged V} {whole : Part m} {at up : Id} {first : Option Id} (l : IsLone m whole at up) → heads_in m (number_of up) ≡ first
       → MarkedLists (heads_in m) (masks_in m) l.over.low l.over.tree → (ms : List (Placed V)) × IsMasks m first ms
   clear_ready {m = m} l head lists =
       let is = side_is l.sides l.over.low l.over.is in
@@ -238,12 +239,12 @@ module _ {V : Type 0} where
 
   -- what clear leaves
   pub record IsCleared (m new : Lodged V) (first : Option Id) : Type 0 where
-    pub cleared : (ms : List (Placed V)) (y : Placed V) → IsMasks m first ms → IsAmong y ms → masks_in new y.room.number ≡ None
+    pub cleared : (ms : List (Placed V)) (y : Placed V) → IsMasks m first ms → IsAmong y ms → masks_in new (number_of y.room) ≡ None
     pub masks : (ms : List (Placed V)) → IsMasks m first ms → (n : ℕ) → IsAside n ms → masks_in new n ≡ masks_in m n
     pub heads : (n : ℕ) → heads_in new n ≡ heads_in m n
 
   leaf_handed : (m new : Lodged V) (over : Part m) {key : ℕ} {up : Id} (b : ℕ) {x y0 : Placed V} {ys : List (Placed V)} {first : Option Id}
-      → HasSides key over.tree up b (leaf x []) (leaf y0 ys) → heads_in m up.number ≡ first → MarkedLists (heads_in m) (masks_in m) over.low over.tree
+      → HasSides key over.tree up b (leaf x []) (leaf y0 ys) → heads_in m (number_of up) ≡ first → MarkedLists (heads_in m) (masks_in m) over.low over.tree
       → IsCleared m new first → IsHanded m new over.low over.tree (leaf y0 ys)
   leaf_handed m new over b s head lists a =
       let is = side_is s over.low over.is in
@@ -262,8 +263,8 @@ module _ {V : Type 0} where
         kept = λ y at marked home. elim (side_home s y.entry.key y.entry.rank home) [
           | inl le ↦ elim (cases_lt y.entry.rank over.low) [
             | inl short ↦ inl short
-            | inr long ↦ let q = some_of (masks_in new y.room.number) marked in
-                let was = ap is_some (marks y.room.number q.0 q.1) in
+            | inr long ↦ let q = some_of (masks_in new (number_of y.room)) marked in
+                let was = ap is_some (marks (number_of y.room) q.0 q.1) in
                 let among = mine.has y (in_side s y at, was) long le in
                 absurd (none_some (sym (a.cleared mine.masks y ready among) ∙ q.1))
           ]
@@ -274,7 +275,7 @@ module _ {V : Type 0} where
       }
 
   pub leaf_side_handed : (m new : Lodged V) {whole : Part m} {at : Id} (up : Id) {room : Id} (first : Option Id) (l : IsLone m whole at up)
-      → name_of l.other ≡ LeafOf room → heads_in m up.number ≡ first → MarkedLists (heads_in m) (masks_in m) l.over.low l.over.tree → IsCleared m new first
+      → name_of l.other ≡ LeafOf room → heads_in m (number_of up) ≡ first → MarkedLists (heads_in m) (masks_in m) l.over.low l.over.tree → IsCleared m new first
       → IsHanded m new l.over.low l.over.tree l.other
   leaf_side_handed m new up first l named head lists a =
       let f = leaf_of l.other named in

@@ -6,6 +6,7 @@ use Rattle.radix_tree.proofs.Words.{ℕ, eqb-true, cases_eq, is_some, Id, Node, 
 use Rattle.radix_tree.proofs.Words.{bits_in, first_room, leaf_part, ChainStands, Stands, Way, one_if, members_at, leaves_at, AreOnce, HasSides, IsLone}
 use Rattle.radix_tree.proofs.Words.{IsWholeBut, nobody_out, Lodged}
 use Rattle.radix_tree.proofs.{Facts.same_id}
+use Rattle.radix_nodes.specs.Naming.{number_of}
 
 module _ {V : Type 0} where
   none_first : (xs : List (Placed V)) → first_room xs ≡ None → xs ≡ []
@@ -13,16 +14,16 @@ module _ {V : Type 0} where
   none_first (x ∷ xs) none = absurd (none_some (sym none))
 
   -- ---- a room of the tree has a route of it
-  pub chain_room : (n : ℕ) (c : List (Placed V)) → 1 ≤ members_at n c → (y : Placed V) × IsAmong y c × (y.room.number ≡ n)
+  pub chain_room : (n : ℕ) (c : List (Placed V)) → 1 ≤ members_at n c → (y : Placed V) × IsAmong y c × ((number_of y.room) ≡ n)
   chain_room n [] some = absurd (omega arith)
   chain_room n (x ∷ c) some =
-      elim (x.room.number == n) as (λ t. (x.room.number == n) ≡ t → 1 ≤ one_if t + members_at n c → (y : Placed V) × IsAmong y (x ∷ c) ×
-      (y.room.number ≡ n)) [
-        | true ↦ λ e many. (x, inl refl, eqb-true x.room.number n e)
+      elim ((number_of x.room) == n) as (λ t. ((number_of x.room) == n) ≡ t → 1 ≤ one_if t + members_at n c → (y : Placed V) × IsAmong y (x ∷ c) ×
+      ((number_of y.room) ≡ n)) [
+        | true ↦ λ e many. (x, inl refl, eqb-true (number_of x.room) n e)
         | false ↦ λ e many. let behind = chain_room n c (omega arith) in (behind.0, inr behind.1, behind.2)
       ] refl some
 
-  pub tree_room : (n : ℕ) (t : Tree V) → 1 ≤ leaves_at n t → (y : Placed V) × IsIn y t × (y.room.number ≡ n)
+  pub tree_room : (n : ℕ) (t : Tree V) → 1 ≤ leaves_at n t → (y : Placed V) × IsIn y t × ((number_of y.room) ≡ n)
   tree_room n (leaf x xs) some = chain_room n (x ∷ xs) some
   tree_room n (fork room b zero one) some = elim (cases_eq (leaves_at n zero) 0) [
     | inl none ↦ let right = tree_room n one (omega arith) in (right.0, inr right.1, right.2)
@@ -31,10 +32,10 @@ module _ {V : Type 0} where
 
   -- ---- alone in its chain
   has_previous : (L : Leaves V) (above : Option Id) (previous : Id) (c : List (Placed V)) (y : Placed V) {p : LeafPart V}
-      → ChainStands L above (Some previous) c → IsAmong y c → L y.room.number ≡ Some p → p.leaf.previous ≡ None → ⊥
+      → ChainStands L above (Some previous) c → IsAmong y c → L (number_of y.room) ≡ Some p → p.leaf.previous ≡ None → ⊥
   has_previous L above previous [] y stands among said none = among
   has_previous L above previous (x ∷ c) y stands among said none = elim among [
-    | inl e ↦ none_some (sym none ∙ ap (λ q. q.leaf.previous) (inside (sym said ∙ ap (λ z. L z.room.number) (sym e) ∙ stands.0)))
+    | inl e ↦ none_some (sym none ∙ ap (λ q. q.leaf.previous) (inside (sym said ∙ ap (λ z. L (number_of z.room)) (sym e) ∙ stands.0)))
     | inr behind ↦ has_previous L None x.room c y stands.1 behind said none
   ]
 
@@ -44,9 +45,9 @@ module _ {V : Type 0} where
     pub above_is : p.leaf.above ≡ above
 
   alone : (L : Leaves V) (above : Option Id) (x : Placed V) (xs : List (Placed V)) (y : Placed V) (p : LeafPart V) → ChainStands L above None (x ∷ xs)
-      → IsAmong y (x ∷ xs) → L y.room.number ≡ Some p → p.leaf.next ≡ None → p.leaf.previous ≡ None → IsAlone L above x xs y p
+      → IsAmong y (x ∷ xs) → L (number_of y.room) ≡ Some p → p.leaf.next ≡ None → p.leaf.previous ≡ None → IsAlone L above x xs y p
   alone L above x xs y p stands among said next previous = elim among [
-    | inl e ↦ let is = inside (sym said ∙ ap (λ z. L z.room.number) (sym e) ∙ stands.0) in
+    | inl e ↦ let is = inside (sym said ∙ ap (λ z. L (number_of z.room)) (sym e) ∙ stands.0) in
         record { first = e; rest = none_first xs (sym (ap (λ q. q.leaf.next) is) ∙ next); above_is = ap (λ q. q.leaf.above) is }
     | inr behind ↦ absurd (has_previous L None x.room xs y stands.1 behind said previous)
   ]
@@ -74,14 +75,14 @@ module _ {V : Type 0} where
       }
 
   pub lone : (m : Lodged V) {root : Node} {late : ℕ → Bool} (w : IsWholeBut m root late nobody_out) (at up : Id) {p : LeafPart V}
-      → leaves_in m at.number ≡ Some p → p.block ≡ at.block → p.leaf.next ≡ None → p.leaf.previous ≡ None → p.leaf.above ≡ Some up → IsLone m w.part at up
+      → leaves_in m (number_of at) ≡ Some p → p.block ≡ at.block → p.leaf.next ≡ None → p.leaf.previous ≡ None → p.leaf.above ≡ Some up → IsLone m w.part at up
   lone m w at up {p = p} said block next previous above =
-      let count = w.leaves at.number in
+      let count = w.leaves (number_of at) in
       let used = ap (λ o. one_if (is_some o)) said in
-      let y = tree_room at.number w.part.tree (omega arith) in
+      let y = tree_room (number_of at) w.part.tree (omega arith) in
       let own = ap (leaves_in m) y.2 ∙ said in
       let told = tree_said (leaves_in m) (bits_in m) w.part.above w.part.tree w.part.stands y.0 y.1 in
-      let same = same_id y.0.room at y.2 (sym (ap (λ q. q.block) (inside (sym own ∙ told.3))) ∙ block) in
+      let same = same_id y.0.room at (sym (ap (λ q. q.block) (inside (sym own ∙ told.3))) ∙ block) in
       let found = way_to_leaf m w.part y.0 y.1 in
       let f = found.at in
       let is_alone = alone (leaves_in m) found.part.above f.first f.rest y.0 p
@@ -91,5 +92,5 @@ module _ {V : Type 0} where
 
   -- what the room says
   pub lone_said : (m : Lodged V) {whole : Part m} {at up : Id} (l : IsLone m whole at up)
-      → leaves_in m at.number ≡ Some (leaf_part l.route (Some up) None None)
-  lone_said m l = ap (λ i. leaves_in m i.number) (sym l.room_is) ∙ (side_own_stands l.sides (leaves_in m) (bits_in m) l.over.above l.over.stands).0
+      → leaves_in m (number_of at) ≡ Some (leaf_part l.route (Some up) None None)
+  lone_said m l = ap (λ i. leaves_in m (number_of i)) (sym l.room_is) ∙ (side_own_stands l.sides (leaves_in m) (bits_in m) l.over.above l.over.stands).0

@@ -9,6 +9,7 @@ use Rattle.radix_tree.proofs.Words.{HaveOneFork, name_child, other_side, IsApart
 use Rattle.radix_tree.proofs.Words.{put_bit, lift_leaf, lift_bit, Lodged, IsLonely, [], true≢false}
 use Rattle.radix_tree.proofs.{ChainWrites.own_part}
 use Rattle.radix_tree.proofs.RoomReads.{inside, none_some, AreLinks, Has-leaf, bit_read, bit_used, head_read}
+use Rattle.radix_nodes.specs.Naming.{number_of}
 
 module _ {V : Type 0} where
   -- ---- the route's room
@@ -48,7 +49,7 @@ module _ {V : Type 0} where
     pub bit : node.bit ≤ 31
     pub above : l.over.above ≡ node.above
     pub to : name_of l.other ≡ other_side key node.bit node.zero node.one
-    pub head : heads_in m up.number ≡ node.masks
+    pub head : heads_in m (number_of up) ≡ node.masks
 
   module _ {m : Lodged V} {whole : Part m} {at up : Id} (l : IsLone m whole at up) where
     pub up_read : (links : Links) {node : BitNode} {key : ℕ} → AreLinks m up links → bit_node_of links ≡ Some node → l.route.entry.key ≡ key
@@ -98,25 +99,25 @@ module _ {V : Type 0} where
     }
 
   -- ---- of the rooms of a key one at most is a bit node
-  chain_others : (B : Bits) (xs : List (Placed V)) (y z : Placed V) → HasOneFork B xs → IsAmong y xs → IsAmong z xs → (z.room.number ≡ y.room.number → ⊥)
-      → (B y.room.number ≡ None → ⊥) → B z.room.number ≡ None
+  chain_others : (B : Bits) (xs : List (Placed V)) (y z : Placed V) → HasOneFork B xs → IsAmong y xs → IsAmong z xs → ((number_of z.room) ≡ (number_of y.room) → ⊥)
+      → (B (number_of y.room) ≡ None → ⊥) → B (number_of z.room) ≡ None
   chain_others B [] y z one first second apart used = absurd first
   chain_others B (x ∷ xs) y z one first second apart used = elim one [
     | inl idle ↦ elim second [
-      | inl ez ↦ elim first [ inl ey ↦ absurd (apart (ap (λ p. p.room.number) (sym ez ∙ ey))) | inr by ↦ absurd (used (idle_at B xs y idle by)) ]
+      | inl ez ↦ elim first [ inl ey ↦ absurd (apart (ap (λ p. (number_of p.room)) (sym ez ∙ ey))) | inr by ↦ absurd (used (idle_at B xs y idle by)) ]
       | inr bz ↦ idle_at B xs z idle bz
     ]
     | inr rest ↦ elim second [
-      | inl ez ↦ ap (λ p. B p.room.number) (sym ez) ∙ rest.0
+      | inl ez ↦ ap (λ p. B (number_of p.room)) (sym ez) ∙ rest.0
       | inr bz ↦ elim first [
-        | inl ey ↦ absurd (used (ap (λ p. B p.room.number) (sym ey) ∙ rest.0))
+        | inl ey ↦ absurd (used (ap (λ p. B (number_of p.room)) (sym ey) ∙ rest.0))
         | inr by ↦ chain_others B xs y z rest.1 by bz apart used
       ]
     ]
   ]
 
   tree_others : (B : Bits) (low : ℕ) (t : Tree V) (y z : Placed V) → IsTree low t → HaveOneFork B t → IsIn y t → IsIn z t → y.entry.key ≡ z.entry.key
-      → (z.room.number ≡ y.room.number → ⊥) → (B y.room.number ≡ None → ⊥) → B z.room.number ≡ None
+      → ((number_of z.room) ≡ (number_of y.room) → ⊥) → (B (number_of y.room) ≡ None → ⊥) → B (number_of z.room) ≡ None
   tree_others B low (leaf x xs) y z is one first second keys apart used = chain_others B (x ∷ xs) y z one first second apart used
   tree_others B low (fork room b zero ones) y z is one first second keys apart used = elim first [
     | inl fz ↦ elim second [
@@ -135,7 +136,7 @@ module _ {V : Type 0} where
   record RouteOf (m : Lodged V) (t : Tree V) (n : ℕ) (p : LeafPart V) : Type 0 where
     pub route : Placed V
     pub is : IsIn route t
-    pub room : route.room.number ≡ n
+    pub room : (number_of route.room) ≡ n
     pub key : route.entry.key ≡ p.leaf.key
 
   route_of : (m : Lodged V) {root : Node} {late : ℕ → Bool} (w : IsWholeBut m root late nobody_out) (n : ℕ) (p : LeafPart V) → leaves_in m n ≡ Some p
@@ -161,22 +162,22 @@ module _ {V : Type 0} where
   was_said (Some q) p same = (q, refl, sym (ap (λ c. c.entry.key) (inside same)))
 
   -- a room with its route is there
-  there_by : {m : Lodged V} (new : Lodged V) (room : Id) (h : Has m room) (o : Option (LeafPart V)) → leaves_in new room.number ≡ o
+  there_by : {m : Lodged V} (new : Lodged V) (room : Id) (h : Has m room) (o : Option (LeafPart V)) → leaves_in new (number_of room) ≡ o
       → content_of o ≡ content_of (Some (own_part h)) → Has new room
   there_by new room h None said same = absurd (none_some same)
   there_by new room h (Some p) said same = Has-leaf new room said (ap (λ c. c.block) (inside same) ∙ h.block)
 
   pub Has-routes : (m new : Lodged V) (room : Id) → Has m room → KeepsRoutes m new → Has new room
-  Has-routes m new room h keeps = there_by new room h (leaves_in new room.number) refl (keeps room.number ∙ ap (λ o. content_of (leaf_in o)) h.at)
+  Has-routes m new room h keeps = there_by new room h (leaves_in new (number_of room)) refl (keeps (number_of room) ∙ ap (λ o. content_of (leaf_in o)) h.at)
 
   pub idle_joined : (m new : Lodged V) {root : Node} {late : ℕ → Bool} (w : IsWholeBut m root late nobody_out) {at : Id} (up : Id)
-      (l : IsLone m w.part at up) → KeepsRoutes m new → ((n : ℕ) → bits_in m n ≡ None → bits_in new n ≡ None) → bits_in new up.number ≡ None
-      → (p : LeafPart V) → leaves_in new up.number ≡ Some p → (n : ℕ) → has_key new p.leaf.key n ≡ true → bits_in new n ≡ None
-  idle_joined m new w up l keeps idle free p said n same_key = elim (cases_eq n up.number) [
+      (l : IsLone m w.part at up) → KeepsRoutes m new → ((n : ℕ) → bits_in m n ≡ None → bits_in new n ≡ None) → bits_in new (number_of up) ≡ None
+      → (p : LeafPart V) → leaves_in new (number_of up) ≡ Some p → (n : ℕ) → has_key new p.leaf.key n ≡ true → bits_in new n ≡ None
+  idle_joined m new w up l keeps idle free p said n same_key = elim (cases_eq n (number_of up)) [
     | inl same ↦ ap (bits_in new) same ∙ free
     | inr apart ↦ let q = of_key p.leaf.key (leaves_in new n) same_key in
-        let before = was_said (leaves_in m up.number) p (ap content_of (sym said) ∙ keeps up.number) in
+        let before = was_said (leaves_in m (number_of up)) p (ap content_of (sym said) ∙ keeps (number_of up)) in
         let other = was_said (leaves_in m n) q.0 (ap content_of (sym q.1) ∙ keeps n) in
         let s = up_says l in
-        idle n (others_idle m w up.number n before.0 other.0 before.1 other.1 (before.2 ∙ sym q.2 ∙ sym other.2) s.says apart)
+        idle n (others_idle m w (number_of up) n before.0 other.0 before.1 other.1 (before.2 ∙ sym q.2 ∙ sym other.2) s.says apart)
   ]

@@ -4,6 +4,7 @@ use Rattle.radix_tree.proofs.Words.{◌≡◌, ◌+◌, ◌≤◌, ◌==◌, ◌
 use Rattle.radix_tree.proofs.Words.{ne_eqb, append-nil, Id, Node, Placed, Tree, leaf, fork, bit_at, HaveBit, IsIn, IsTree, routes_of, BitPart, Leaves}
 use Rattle.radix_tree.proofs.Words.{Bits, Heads, Masks, Part, name_of, Stands, ForkAt, Beneath, one_if, leaves_at, forks_at, HasHome, HaveOneFork, Gains}
 use Rattle.radix_tree.proofs.Words.{other_side, HasSides, IsMaskList, MarkedIn, MarkedLists, Lodged}
+use Rattle.radix_nodes.specs.Naming.{number_of}
 
 other_of_zero : (key b : ℕ) (zero one : Node) → bit_at b key ≡ 0 → other_side key b zero one ≡ one
 other_of_zero key b zero one clear = ap (λ t. if t then zero else one) (ne_eqb (bit_at b key) 1 (λ set. zero_not_one clear set))
@@ -14,7 +15,7 @@ other_of_one key b zero one set = ap (λ t. if t then zero else one) (eq-eqb (bi
 -- what the room of a bit node says: of its two nodes the one on the other side
 pub record SaysOther (B : Bits) (room : Id) (key b : ℕ) (above : Option Id) (name : Node) : Type 0 where
   pub part : BitPart
-  pub says : B room.number ≡ Some part
+  pub says : B (number_of room) ≡ Some part
   pub block : part.block ≡ room.block
   pub bit : part.bit ≡ b
   pub above_is : part.above ≡ above
@@ -59,8 +60,8 @@ module _ {V : Type 0} where
   side_leaves {own = own} {other = other} n s = by_sides s (λ u. leaves_at n u ≡ leaves_at n own + leaves_at n other) (λ clear. refl) (λ set. omega arith)
 
   module _ {key : ℕ} {t : Tree V} {room : Id} {b : ℕ} {own other : Tree V} (s : HasSides key t room b own other) where
-    pub side_forks : (n : ℕ) → forks_at n t ≡ one_if (room.number == n) + (forks_at n own + forks_at n other)
-    side_forks n = by_sides s (λ u. forks_at n u ≡ one_if (room.number == n) + (forks_at n own + forks_at n other)) (λ clear. refl) (λ set. omega arith)
+    pub side_forks : (n : ℕ) → forks_at n t ≡ one_if ((number_of room) == n) + (forks_at n own + forks_at n other)
+    side_forks n = by_sides s (λ u. forks_at n u ≡ one_if ((number_of room) == n) + (forks_at n own + forks_at n other)) (λ clear. refl) (λ set. omega arith)
 
     pub side_in : (y : Placed V) → IsIn y t → IsIn y own ⊎ IsIn y other
     side_in y = by_sides s (λ u. IsIn y u → IsIn y own ⊎ IsIn y other) (λ clear is. is) (λ set is. elim is [ inl o ↦ inr o | inr o ↦ inl o ])
@@ -71,9 +72,9 @@ module _ {V : Type 0} where
     pub side_have : (c v : ℕ) → HaveBit c v t → HaveBit c v other
     side_have c v = by_sides s (λ u. HaveBit c v u → HaveBit c v other) (λ clear have. have.1) (λ set have. have.0)
 
-    pub side_list : (H : Heads) (K : Masks) (low : ℕ) → MarkedLists H K low t → IsMaskList K (H room.number) low b (MarkedIn K t)
+    pub side_list : (H : Heads) (K : Masks) (low : ℕ) → MarkedLists H K low t → IsMaskList K (H (number_of room)) low b (MarkedIn K t)
     side_list H K low =
-        by_sides s (λ u. MarkedLists H K low u → IsMaskList K (H room.number) low b (MarkedIn K u)) (λ clear lists. lists.0) (λ set lists. lists.0)
+        by_sides s (λ u. MarkedLists H K low u → IsMaskList K (H (number_of room)) low b (MarkedIn K u)) (λ clear lists. lists.0) (λ set lists. lists.0)
 
     pub side_lists : (H : Heads) (K : Masks) (low : ℕ) → MarkedLists H K low t → MarkedLists H K (b + 1) other
     side_lists H K low = by_sides s (λ u. MarkedLists H K low u → MarkedLists H K (b + 1) other) (λ clear lists. lists.2) (λ set lists. lists.1)

@@ -13,6 +13,7 @@ use Rattle.radix_tree.proofs.Words.{lift_leaf, lift_bit, Lodged, true≢false}
 use Rattle.radix_tree.proofs.JoinSides.{side_is, side_says, side_leaves, side_in, in_side, side_have, home_side, side_spare, side_gains}
 use Rattle.radix_tree.proofs.JoinLinks.{put_off, put_none, put_here, turn_none, turn_used, lift_none, quiet}
 use Rattle.radix_tree.proofs.JoinLinks.{lone_once, lone_forks, lone_apart, other_part}
+use Rattle.radix_nodes.specs.Naming.{number_of}
 
 module _ {V : Type 0} where
   -- a tree whose bits are past one is one whose bits are past a lower one
@@ -30,20 +31,20 @@ module _ {V : Type 0} where
   module _ {m : Lodged V} {whole : Part m} {at up : Id} (l : IsLone m whole at up) where
     -- the list was handed on before
     pub handed_on : (handed new : Lodged V) → IsHanded m handed l.over.low l.over.tree l.other → ((n : ℕ) → masks_in new n ≡ masks_in handed n)
-        → ((n : ℕ) → (n ≡ up.number → ⊥) → heads_in new n ≡ heads_in handed n) → IsHanded m new l.over.low l.over.tree l.other
+        → ((n : ℕ) → (n ≡ (number_of up) → ⊥) → heads_in new n ≡ heads_in handed n) → IsHanded m new l.over.low l.over.tree l.other
     handed_on handed new h masks heads =
-        let own = one_if_same up.number in
-        let sum = lone_forks l up.number in
+        let own = one_if_same (number_of up) in
+        let sum = lone_forks l (number_of up) in
         let apart = lone_apart l in
         record {
           heads = λ n none. heads n (λ same. let here = ap (λ k. forks_at k l.over.tree) same in
               absurd (omega arith)) ∙ h.heads n none;
           masks = λ n aside. masks n ∙ h.masks n aside;
           marks = λ n p said. h.marks n p (sym (masks n) ∙ said);
-          kept = λ y is marked home. h.kept y is (marked_same (masks_in new) (masks_in handed) y (sym (masks y.room.number)) marked) home;
-          all = λ y is home marked. marked_same (masks_in handed) (masks_in new) y (masks y.room.number) (h.all y is home marked);
+          kept = λ y is marked home. h.kept y is (marked_same (masks_in new) (masks_in handed) y (sym (masks (number_of y.room))) marked) home;
+          all = λ y is home marked. marked_same (masks_in handed) (masks_in new) y (masks (number_of y.room)) (h.all y is home marked);
           lists = lists_same (heads_in handed) (heads_in new) (masks_in handed) (masks_in new) l.over.low l.other (λ n some. heads n (apart.up_is n some))
-              (λ y is. masks y.room.number) h.lists;
+              (λ y is. masks (number_of y.room)) h.lists;
         }
 
     pub other_once : AreOnce l.other
@@ -84,7 +85,7 @@ module _ {V : Type 0} where
           let here = ap (λ k. forks_at k l.other) same in absurd (omega arith))
           l.over.above (put_bit up None n (name_child l.over.above l.route.entry.key (name_of l.other) n (bits_in m n)))
           ∙ put_off up n (name_child l.over.above l.route.entry.key (name_of l.other) n (bits_in m n))
-          (λ same. let own = ap (λ k. one_if (up.number == k)) same ∙ one_if_same up.number in absurd (omega arith));
+          (λ same. let own = ap (λ k. one_if ((number_of up) == k)) same ∙ one_if_same (number_of up) in absurd (omega arith));
     }
 
     -- ---- what the rooms say
@@ -97,12 +98,12 @@ module _ {V : Type 0} where
         (ap (name_child l.over.above l.route.entry.key (name_of l.other) n) none
         ∙ turn_none l.over.above l.route.entry.key n (name_of l.other)) ∙ put_none up n) ∙ lift_none (name_of l.other) l.over.above n
 
-    pub freed : {new : Lodged V} → IsJoined m new whole at up l → bits_in new up.number ≡ None
-    freed j = j.bits up.number ∙ ap (lift_bit (name_of l.other) l.over.above up.number)
-        (put_here up (name_child l.over.above l.route.entry.key (name_of l.other) up.number (bits_in m up.number)))
-        ∙ lift_none (name_of l.other) l.over.above up.number
+    pub freed : {new : Lodged V} → IsJoined m new whole at up l → bits_in new (number_of up) ≡ None
+    freed j = j.bits (number_of up) ∙ ap (lift_bit (name_of l.other) l.over.above (number_of up))
+        (put_here up (name_child l.over.above l.route.entry.key (name_of l.other) (number_of up) (bits_in m (number_of up))))
+        ∙ lift_none (name_of l.other) l.over.above (number_of up)
 
-    same_bits : (new : Lodged V) → IsJoined m new whole at up l → (n : ℕ) → (n ≡ up.number → ⊥) → is_some (bits_in new n) ≡ is_some (bits_in m n)
+    same_bits : (new : Lodged V) → IsJoined m new whole at up l → (n : ℕ) → (n ≡ (number_of up) → ⊥) → is_some (bits_in new n) ≡ is_some (bits_in m n)
     same_bits new j n other = ap is_some (j.bits n)
         ∙ lift_used (name_of l.other) l.over.above n (put_bit up None n (name_child l.over.above l.route.entry.key (name_of l.other) n (bits_in m n)))
         ∙ ap is_some (put_off up n (name_child l.over.above l.route.entry.key (name_of l.other) n (bits_in m n)) other)
@@ -112,34 +113,34 @@ module _ {V : Type 0} where
         → forks_at n l.other + one_if (is_some (bits_in m n)) ≡ forks_at n l.over.tree + one_if (is_some (bits_in new n))
     fork_count new j n =
         let sum = lone_forks l n in
-        elim (up.number == n) as (λ t. (up.number == n) ≡ t → forks_at n l.over.tree ≡ one_if t + (0 + forks_at n l.other)
+        elim ((number_of up) == n) as (λ t. ((number_of up) == n) ≡ t → forks_at n l.over.tree ≡ one_if t + (0 + forks_at n l.other)
         → forks_at n l.other + one_if (is_some (bits_in m n)) ≡ forks_at n l.over.tree + one_if (is_some (bits_in new n))) [
           | true ↦ λ e all.
-              let same = eqb-true up.number n e in
+              let same = eqb-true (number_of up) n e in
               let says = side_says l.sides (leaves_in m) (bits_in m) l.over.above l.over.stands in
               let was = ap (λ o. one_if (is_some o)) (ap (bits_in m) (sym same) ∙ says.says) in
               let is = ap (λ o. one_if (is_some o)) (ap (bits_in new) (sym same) ∙ freed j) in
               omega arith
           | false ↦ λ e all.
-              let same = ap one_if (same_bits new j n (λ is. true≢false (sym (eq-eqb up.number n (sym is)) ∙ e))) in omega arith
+              let same = ap one_if (same_bits new j n (λ is. true≢false (sym (eq-eqb (number_of up) n (sym is)) ∙ e))) in omega arith
         ] refl sum
 
     -- ---- the whole
     -- the room of the route that goes is not on the other side
-    own_room : (leaves_at at.number l.other ≡ 0) × (leaves_at at.number l.over.tree ≡ 1)
+    own_room : (leaves_at (number_of at) l.other ≡ 0) × (leaves_at (number_of at) l.over.tree ≡ 1)
     own_room =
-        let n = at.number in
-        let own = ap (λ i. one_if (i.number == at.number)) l.room_is ∙ one_if_same at.number in
-        let most = (lone_once l).leaves at.number in
-        let sum = side_leaves at.number l.sides in
+        let n = (number_of at) in
+        let own = ap (λ i. one_if ((number_of i) == (number_of at))) l.room_is ∙ one_if_same (number_of at) in
+        let most = (lone_once l).leaves (number_of at) in
+        let sum = side_leaves (number_of at) l.sides in
         (omega arith, omega arith)
 
     short_stays : (new : Lodged V) → IsHanded m new l.over.low l.over.tree l.other → (y : Placed V) → IsIn y l.over.tree → y.entry.rank < l.over.low
-        → masks_in new y.room.number ≡ masks_in m y.room.number
-    short_stays new h y is short = h.masks y.room.number (λ z there past same. let rank = same_rank_at m l.over z y there is same in absurd (omega arith))
+        → masks_in new (number_of y.room) ≡ masks_in m (number_of y.room)
+    short_stays new h y is short = h.masks (number_of y.room) (λ z there past same. let rank = same_rank_at m l.over z y there is same in absurd (omega arith))
 
-    pub fits : (new : Lodged V) (j : IsJoined m new whole at up l) → IsHanded m new l.over.low l.over.tree l.other → masks_in m at.number ≡ None
-        → Fits m new whole l.over (under_part j) (late_at at.number) nobody_late nobody_out (out_at at.number)
+    pub fits : (new : Lodged V) (j : IsJoined m new whole at up l) → IsHanded m new l.over.low l.over.tree l.other → masks_in m (number_of at) ≡ None
+        → Fits m new whole l.over (under_part j) (late_at (number_of at)) nobody_late nobody_out (out_at (number_of at))
     fits new j h unmarked =
         let room = own_room in
         let in_over : (y : Placed V) → IsIn y l.other → IsIn y l.over.tree = λ y is. in_side l.sides y is in
@@ -147,7 +148,7 @@ module _ {V : Type 0} where
           leaves = λ n.
               let sum = side_leaves n l.sides in
               let same = ap one_if (routes_some m new (routes_kept j) n) in
-              let flip = ap one_if (test_turned n at.number) ∙ ap (λ i. one_if (i.number == n)) (sym l.room_is) in omega arith;
+              let flip = ap one_if (test_turned n (number_of at)) ∙ ap (λ i. one_if ((number_of i) == n)) (sym l.room_is) in omega arith;
           forks = λ n. fork_count new j n;
           heads = λ n none some. h.heads n none;
           masks = λ n none some. h.masks n (λ y is past same.
@@ -158,9 +159,9 @@ module _ {V : Type 0} where
           marks = h.marks;
           kept = λ y is marked. elim (side_in l.sides y is) [
             | inl own ↦ elim own [
-              | inl e ↦ let p = some_of (masks_in new y.room.number) marked in
-                  let q = h.marks y.room.number p.0 p.1 in
-                  absurd (none_some (sym unmarked ∙ ap (λ i. masks_in m i.number) (sym l.room_is ∙ ap (λ z. z.room) e) ∙ q.1))
+              | inl e ↦ let p = some_of (masks_in new (number_of y.room)) marked in
+                  let q = h.marks (number_of y.room) p.0 p.1 in
+                  absurd (none_some (sym unmarked ∙ ap (λ i. masks_in m (number_of i)) (sym l.room_is ∙ ap (λ z. z.room) e) ∙ q.1))
               | inr none ↦ absurd none
             ]
             | inr there ↦ (there, λ home. h.kept y there marked home)
@@ -176,13 +177,13 @@ module _ {V : Type 0} where
               | inr there ↦ h.all y is there marked
             ],
             λ late.
-                let same = eqb-true y.room.number at.number late in
+                let same = eqb-true (number_of y.room) (number_of at) late in
                 let there = counted_leaf y l.other is in
                 let here = ap (λ k. leaves_at k l.other) same in
                 let none = room.0 in absurd (omega arith),
           );
           late_aside = λ n none some late.
-              let same = eqb-true n at.number late in
+              let same = eqb-true n (number_of at) late in
               let here = ap (λ k. leaves_at k l.over.tree) same in
               let one = room.1 in absurd (omega arith);
         }
@@ -193,17 +194,17 @@ module _ {V : Type 0} where
         subst (λ r. Exchanged m new l.route.entry.key whole l.over (under_part j) (root_after l.over.above (name_of l.other) r)) named
         (exchanged m new whole l.over l.ups l.way l.top l.once (exchange new j))
 
-  module _ {m new : Lodged V} {root : Node} {at up : Id} (w : IsWholeBut m root (late_at at.number) nobody_out) (l : IsLone m w.part at up)
+  module _ {m new : Lodged V} {root : Node} {at up : Id} (w : IsWholeBut m root (late_at (number_of at)) nobody_out) (l : IsLone m w.part at up)
       (j : IsJoined m new w.part at up l) where
-    pub whole_joined : IsHanded m new l.over.low l.over.tree l.other → masks_in m at.number ≡ None
-        → IsWholeBut new (root_after l.over.above (name_of l.other) root) nobody_late (out_at at.number)
+    pub whole_joined : IsHanded m new l.over.low l.over.tree l.other → masks_in m (number_of at) ≡ None
+        → IsWholeBut new (root_after l.over.above (name_of l.other) root) nobody_late (out_at (number_of at))
     whole_joined h unmarked =
         let e = exchanged_whole l new j w.named in
         whole_changed w e (fits l new j h unmarked) (spare_changed w e
-        (λ spare. spare_same (bits_in m) (bits_in new) l.other (λ y is none. idle_stays l j y.room.number none) (side_spare l.sides (bits_in m) spare))
+        (λ spare. spare_same (bits_in m) (bits_in new) l.other (λ y is none. idle_stays l j (number_of y.room) none) (side_spare l.sides (bits_in m) spare))
         (λ n none some idle. idle_stays l j n idle))
 
-    pub routes_joined : (p : LeafPart V) → leaves_in m at.number ≡ Some p
+    pub routes_joined : (p : LeafPart V) → leaves_in m (number_of at) ≡ Some p
         → Gains (shown_entry p) (shown new (Some (root_after l.over.above (name_of l.other) root))) (shown m (Some root))
     routes_joined p said =
         let e = exchanged_whole l new j w.named in
@@ -213,8 +214,8 @@ module _ {V : Type 0} where
 
   -- the leaf of the route that goes stays as it is
   pub own_leaf : {m new : Lodged V} {whole : Part m} (at : Id) {up : Id} (l : IsLone m whole at up) → IsJoined m new whole at up l
-      → leaves_in new at.number ≡ leaves_in m at.number
-  own_leaf {m = m} at l j = j.leaves at.number ∙ misses_leaf (name_of l.other) at.number (λ r is same.
+      → leaves_in new (number_of at) ≡ leaves_in m (number_of at)
+  own_leaf {m = m} at l j = j.leaves (number_of at) ∙ misses_leaf (name_of l.other) (number_of at) (λ r is same.
       let there = named_leaf l.other r is in
       let here = ap (λ k. leaves_at k l.other) same in
-      let none = (own_room l).0 in absurd (omega arith)) l.over.above (leaves_in m at.number)
+      let none = (own_room l).0 in absurd (omega arith)) l.over.above (leaves_in m (number_of at))

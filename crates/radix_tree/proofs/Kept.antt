@@ -8,10 +8,12 @@ use Rattle.std.proofs.lemmas.Bool.{not-false}
 use Rattle.radix_tree.proofs.Words.{◌≡◌, ℕ, ◌+◌, ◌==◌, Bool, true, false, cond, not, List, [], ◌∷◌, Option, Some, None, refl, sym, ap, ◌∙◌, subst, inl}
 use Rattle.radix_tree.proofs.Words.{arith, eq-eqb, eqb-true, Contains, is_some, AllByRecursion, get, Seen, Rooms, Has, leaf_of, Id, Leaf, Links, Node}
 use Rattle.radix_tree.proofs.Words.{Contents, IsTable, entry_at, first_of, Placed, IsAmong, IsIn, IsChain, routes_of, LeafPart, Part, leaves_in, bits_in}
-use Rattle.radix_tree.proofs.Words.{leaf_part, Tells, Finds, HasPair, In, LeafAt, LedTo, contents, shown, shown_entry, IsWhole, Holds, Entry, Lodged}
+use Rattle.radix_tree.proofs.Words.{leaf_part, Tells, Finds, HasPair, In, LeafAt, LedTo, shown, shown_entry, IsWhole, Holds, Entry, Lodged}
 use Rattle.radix_tree.proofs.MemberLemmas.{all_contains, entry_at_is_member, first_of_is_member, first_is_greatest, members_stand}
 use Rattle.radix_tree.proofs.{Facts.none_if}
 use Rattle.radix_tree.proofs.Words.{true≢false}
+use Rattle.radix_nodes.specs.Naming.{number_of}
+use Rattle.radix_tree.specs.Given.{AreGiven}
 
 -- what a comparison tells
 pub differ : (a b : ℕ) {t : Bool} → t ≡ not (a == b) → t ≡ true → a ≡ b → ⊥
@@ -34,7 +36,7 @@ module _ {V : Type 0} where
   -- what a route's room says
   pub record IsSaid (m : Lodged V) (room : Id) (x : Placed V) : Type 0 where
     pub part : LeafPart V
-    pub at : leaves_in m room.number ≡ Some part
+    pub at : leaves_in m (number_of room) ≡ Some part
     pub block : part.block ≡ room.block
     pub entry : shown_entry part ≡ x.entry
 
@@ -43,7 +45,7 @@ module _ {V : Type 0} where
       let said = tree_said (leaves_in m) (bits_in m) p.above p.tree p.stands x at in
       record {
         part = leaf_part x said.0 said.1 said.2;
-        at = ap (λ i. leaves_in m i.number) (sym room_is) ∙ said.3;
+        at = ap (λ i. leaves_in m (number_of i)) (sym room_is) ∙ said.3;
         block = ap (λ i. i.block) room_is;
         entry = refl;
       }
@@ -86,7 +88,7 @@ module _ {V : Type 0} where
 
   -- its value
   pub value_found : {m : Lodged V} {root : Node} {key rank : ℕ} {room : Id} (f : IsFound m root key rank room) (value : V)
-      → ((s : Seen V) → get m room.number ≡ Some s → value ≡ s.value) → Some (record { key = key; rank = rank; value = value })
+      → ((s : Seen V) → get m (number_of room) ≡ Some s → value ≡ s.value) → Some (record { key = key; rank = rank; value = value })
       ≡ entry_at key rank (shown m (Some root))
   value_found {m = m} {key = key} {rank = rank} {room = room} f value is =
       let x = f.route.entry in
@@ -174,7 +176,7 @@ module _ {V : Type 0} where
   first_is es key x member is (Some e) some own = ap Some (own e some)
 
   pub first_found : (m : Lodged V) {root : Node} (w : IsWhole m root) (key : ℕ) {room : Id} (l : LedTo key w.part room) (links : Links) (leaf : Leaf)
-      (value : V) → AreLinks m room links → leaf ≡ leaf_of links → ((s : Seen V) → get m room.number ≡ Some s → value ≡ s.value) → leaf.key ≡ key
+      (value : V) → AreLinks m room links → leaf ≡ leaf_of links → ((s : Seen V) → get m (number_of room) ≡ Some s → value ≡ s.value) → leaf.key ≡ key
       → first_of key (shown m (Some root)) ≡ Some (record { key = key; rank = leaf.rank; value = value })
   first_found m w key {room = room} l links leaf value are read is same =
       let es = routes_of w.part.tree in
@@ -192,7 +194,8 @@ module _ {V : Type 0} where
   pub whole_at : (m : Lodged V) {o : Option Node} {root : Node} → Holds m o → o ≡ Some root → IsWhole m root
   whole_at m holds some = subst (Holds m) some holds
 
-  pub entries_at : (nodes : Rooms V) (o : Option Node) {root : Node} (t : Contents V) → contents nodes o ≡ t → o ≡ Some root
+  pub entries_at : (nodes : Rooms V) (o : Option Node) {root : Node} {numbers : List ℕ} {at : ℕ} (t : Contents V)
+      → record { entries = shown nodes.lodged o; numbers = numbers; next = at; turn = nodes.turn } ≡ t → o ≡ Some root
       → shown nodes.lodged (Some root) ≡ t.entries
   entries_at nodes o t view some = ap (shown nodes.lodged) (sym some) ∙ ap (λ t. t.entries) view
 
@@ -200,12 +203,24 @@ module _ {V : Type 0} where
   abbrev pub IsNext : Rooms V → Rooms V → Type 0
   IsNext nodes next = next ≡ record nodes { turn = nodes.turn + 1 }
 
-  pub shown_next : (nodes next : Rooms V) (o : Option Node) (t : Contents V) → contents nodes o ≡ t → IsNext nodes next → shown next.lodged o ≡ t.entries
+  pub shown_next : (nodes next : Rooms V) (o : Option Node) {numbers : List ℕ} {at : ℕ} (t : Contents V)
+      → record { entries = shown nodes.lodged o; numbers = numbers; next = at; turn = nodes.turn } ≡ t → IsNext nodes next
+      → shown next.lodged o ≡ t.entries
   shown_next nodes next o t view begins = ap (λ r. shown r.lodged o) begins ∙ ap (λ t. t.entries) view
 
-  pub entries_next : (nodes next : Rooms V) {o : Option Node} {root : Node} (t : Contents V) → contents nodes o ≡ t → o ≡ Some root → IsNext nodes next
+  pub entries_next : (nodes next : Rooms V) {o : Option Node} {root : Node} {numbers : List ℕ} {at : ℕ} (t : Contents V)
+      → record { entries = shown nodes.lodged o; numbers = numbers; next = at; turn = nodes.turn } ≡ t → o ≡ Some root → IsNext nodes next
       → shown next.lodged (Some root) ≡ t.entries
   entries_next nodes next {o = o} t view some begins = ap (shown next.lodged) (sym some) ∙ shown_next nodes next o t view begins
+
+  pub shown_begun : (nodes next : Rooms V) {o : Option Node} {root : Node} → o ≡ Some root → IsNext nodes next
+      → shown next.lodged (Some root) ≡ shown nodes.lodged o
+  shown_begun nodes next {o = o} some begins = ap (shown next.lodged) (sym some) ∙ ap (λ r. shown r.lodged o) begins
+
+  -- the rooms in use are those of the turn before
+  pub given_begun : (nodes next : Rooms V) {given : List (ℕ × ℕ)} {last : ℕ} → IsNext nodes next → AreGiven nodes.lodged given last
+      → AreGiven next.lodged given last
+  given_begun nodes next {given = given} {last = last} begins are = subst (λ r. AreGiven r.lodged given last) (sym begins) are
 
   pub whole_next : (nodes next : Rooms V) {o : Option Node} {root : Node} → Holds nodes.lodged o → o ≡ Some root → IsNext nodes next → IsWhole next.lodged
       root

@@ -25,6 +25,7 @@ pub mod Facts
 pub mod Forking
 pub mod FrameLists
 pub mod Gained
+pub mod GivenNumbers
 pub mod Homes
 pub mod JoinLinks
 pub mod JoinLists
@@ -54,7 +55,6 @@ pub mod MoveWrites
 pub mod MovedRooms
 pub mod MovedSpare
 pub mod MovedWhole
-pub mod Numbers
 pub mod OrderLemmas
 pub mod PartRooms
 pub mod Parts

@@ -12,17 +12,18 @@ use Rattle.radix_tree.proofs.HomeLists.{whole_kept}
 use Rattle.radix_tree.proofs.Words.{true≢false}
 use Rattle.radix_tree.proofs.{MaskLists.falls_among}
 use Rattle.radix_tree.proofs.{Facts.some_of}
+use Rattle.radix_nodes.specs.Naming.{number_of}
 
 module _ {V : Type 0} where
   -- ---- a mask comes into the list of its home
   pub record IsSortedIn (m new : Lodged V) (node room : Id) : Type 0 where
-    pub list : (ms : List (Placed V)) (f : IsFree m room) → IsMasks m (heads_in m node.number) ms → IsNoRank f.is.entry.rank ms
-        → IsMasks new (heads_in new node.number) (sorted_in f.is ms)
-    pub heads : (n : ℕ) → (n ≡ node.number → ⊥) → heads_in new n ≡ heads_in m n
-    pub masks : (ms : List (Placed V)) → IsMasks m (heads_in m node.number) ms → (n : ℕ) → (n ≡ room.number → ⊥) → IsAside n ms → masks_in new n ≡ masks_in
+    pub list : (ms : List (Placed V)) (f : IsFree m room) → IsMasks m (heads_in m (number_of node)) ms → IsNoRank f.is.entry.rank ms
+        → IsMasks new (heads_in new (number_of node)) (sorted_in f.is ms)
+    pub heads : (n : ℕ) → (n ≡ (number_of node) → ⊥) → heads_in new n ≡ heads_in m n
+    pub masks : (ms : List (Placed V)) → IsMasks m (heads_in m (number_of node)) ms → (n : ℕ) → (n ≡ (number_of room) → ⊥) → IsAside n ms → masks_in new n ≡ masks_in
         m n
-    pub marked : is_some (masks_in new room.number) ≡ true
-    pub marks : (n : ℕ) → (n ≡ room.number → ⊥) → is_some (masks_in new n) ≡ is_some (masks_in m n)
+    pub marked : is_some (masks_in new (number_of room)) ≡ true
+    pub marks : (n : ℕ) → (n ≡ (number_of room) → ⊥) → is_some (masks_in new n) ≡ is_some (masks_in m n)
 
   -- a route of the whole in a room, and the home of its mask
   pub record Homed (m : Lodged V) (whole : Part m) (room node : Id) : Type 0 where
@@ -33,7 +34,7 @@ module _ {V : Type 0} where
 
   module _ {m : Lodged V} {whole : Part m} {room node : Id} (y : Homed m whole room node) where
     abbrev list_at : Type 0
-    list_at = IsMaskList (masks_in m) (heads_in m node.number) y.home.part.low y.home.at.bit (MarkedIn (masks_in m) (tree_of y.home))
+    list_at = IsMaskList (masks_in m) (heads_in m (number_of node)) y.home.part.low y.home.at.bit (MarkedIn (masks_in m) (tree_of y.home))
 
     in_home : IsIn y.is (tree_of y.home)
     in_home = let h = y.home in subst (IsIn y.is) h.at.is (way_leads m {address = y.is.entry.key} whole h.part h.ups h.way y.is y.inside refl)
@@ -48,14 +49,14 @@ module _ {V : Type 0} where
         let within = h.within in
         one_of_bit h.part.low h.at.bit node h.at.zero h.at.one (fork_is h.at) x y.is is in_home same (omega arith)
 
-    are_masks : (l : list_at) → IsMasks m (heads_in m node.number) l.masks
+    are_masks : (l : list_at) → IsMasks m (heads_in m (number_of node)) l.masks
     are_masks l =
         let h = y.home in
         masks_listed h.part l (fork_is h.at).0.within (λ x is. subst (IsIn x) (sym h.at.is) is.0)
 
     -- a room that is not of a route of the list's ranks is aside of it
     out_of_range : (x : Placed V) → IsIn x whole.tree → (IsIn x y.home.part.tree → y.home.part.low ≤ x.entry.rank → x.entry.rank ≤ y.home.at.bit → ⊥)
-        → (z : Placed V) → IsIn z (tree_of y.home) → y.home.part.low ≤ z.entry.rank → z.entry.rank ≤ y.home.at.bit → z.room.number ≡ x.room.number → ⊥
+        → (z : Placed V) → IsIn z (tree_of y.home) → y.home.part.low ≤ z.entry.rank → z.entry.rank ≤ y.home.at.bit → (number_of z.room) ≡ (number_of x.room) → ⊥
     out_of_range x in_x out z in_z least most same =
         let e = one_room m whole z x (to_whole z in_z) in_x same in
         let h = y.home in
@@ -63,34 +64,34 @@ module _ {V : Type 0} where
         (subst (λ p. h.part.low ≤ p.entry.rank) e least) (subst (λ p. p.entry.rank ≤ h.at.bit) e most)
 
     aside_of : (l : list_at) (x : Placed V) → IsIn x whole.tree
-        → (IsIn x y.home.part.tree → y.home.part.low ≤ x.entry.rank → x.entry.rank ≤ y.home.at.bit → ⊥) → IsAside x.room.number l.masks
+        → (IsIn x y.home.part.tree → y.home.part.low ≤ x.entry.rank → x.entry.rank ≤ y.home.at.bit → ⊥) → IsAside (number_of x.room) l.masks
     aside_of l x in_x out z among same =
         let range = falls_among y.home.part.low (y.home.at.bit + 1) l.masks l.falls z among in
         let below = range.1 in
         out_of_range x in_x out z (l.within z among).0 range.0 (omega arith) same
 
     not_room : (x : Placed V) → IsIn x whole.tree → (IsIn x y.home.part.tree → y.home.part.low ≤ x.entry.rank → x.entry.rank ≤ y.home.at.bit → ⊥)
-        → x.room.number ≡ room.number → ⊥
-    not_room x in_x out same = out_of_range x in_x out y.is in_home y.home.past y.home.within (ap (λ i. i.number) y.room_is ∙ sym same)
+        → (number_of x.room) ≡ (number_of room) → ⊥
+    not_room x in_x out same = out_of_range x in_x out y.is in_home y.home.past y.home.within (ap (λ i. (number_of i)) y.room_is ∙ sym same)
 
-    no_rank : (l : list_at) → masks_in m room.number ≡ None → IsNoRank y.is.entry.rank l.masks
+    no_rank : (l : list_at) → masks_in m (number_of room) ≡ None → IsNoRank y.is.entry.rank l.masks
     no_rank l unmarked x among same =
         let is = l.within x among in
         let e = rank_is x is.0 same in
         let marked = subst (IsMarked (masks_in m)) e is.1 in
-        true≢false (sym marked ∙ ap (λ i. is_some (masks_in m i.number)) y.room_is ∙ ap is_some unmarked)
+        true≢false (sym marked ∙ ap (λ i. is_some (masks_in m (number_of i))) y.room_is ∙ ap is_some unmarked)
 
   marks_more : {m : Lodged V} (new : Lodged V) {node : Id} (room : Id) → IsSortedIn m new node room → (x : Placed V) → IsMarked (masks_in m) x
       → IsMarked (masks_in new) x
-  marks_more new room s x marked = elim (cases_eq x.room.number room.number) [
+  marks_more new room s x marked = elim (cases_eq (number_of x.room) (number_of room)) [
     | inl same ↦ ap (λ n. is_some (masks_in new n)) same ∙ s.marked
-    | inr other ↦ s.marks x.room.number other ∙ marked
+    | inr other ↦ s.marks (number_of x.room) other ∙ marked
   ]
 
   -- the list has the route and those of before
-  list_more : (m new : Lodged V) (whole : Part m) (room node : Id) (y : Homed m whole room node) → list_at y → masks_in m room.number ≡ None
+  list_more : (m new : Lodged V) (whole : Part m) (room node : Id) (y : Homed m whole room node) → list_at y → masks_in m (number_of room) ≡ None
       → IsSortedIn m new node room
-      → IsMaskList (masks_in new) (heads_in new node.number) y.home.part.low y.home.at.bit (MarkedIn (masks_in new) (tree_of y.home))
+      → IsMaskList (masks_in new) (heads_in new (number_of node)) y.home.part.low y.home.at.bit (MarkedIn (masks_in new) (tree_of y.home))
   list_more m new whole room node y l unmarked s =
       let h = y.home in
       let none = no_rank y l unmarked in
@@ -102,51 +103,51 @@ module _ {V : Type 0} where
         begins = after.begins;
         stands = after.stands;
         falls = falls_sorted h.part.low (h.at.bit + 1) y.is l.masks l.falls h.past (omega arith) none;
-        has = λ x is least most. elim (cases_eq x.room.number room.number) [
+        has = λ x is least most. elim (cases_eq (number_of x.room) (number_of room)) [
           | inl same ↦ subst (λ p. IsAmong p (sorted_in y.is l.masks)) (one_room m whole y.is x y.inside (to_whole y x is.0)
-              (ap (λ i. i.number) y.room_is ∙ sym same)) (sorted_here y.is l.masks)
-          | inr other ↦ among_sorted h.part.low (h.at.bit + 1) y.is l.masks l.falls x (l.has x (is.0, sym (s.marks x.room.number other) ∙ is.1) least most)
+              (ap (λ i. (number_of i)) y.room_is ∙ sym same)) (sorted_here y.is l.masks)
+          | inr other ↦ among_sorted h.part.low (h.at.bit + 1) y.is l.masks l.falls x (l.has x (is.0, sym (s.marks (number_of x.room) other) ∙ is.1) least most)
         ];
         within = λ x among. elim (sorted_among h.part.low (h.at.bit + 1) y.is l.masks l.falls x among) [
-          | inl e ↦ subst (MarkedIn (masks_in new) (tree_of h)) e (in_home y, ap (λ i. is_some (masks_in new i.number)) y.room_is ∙ s.marked)
+          | inl e ↦ subst (MarkedIn (masks_in new) (tree_of h)) e (in_home y, ap (λ i. is_some (masks_in new (number_of i))) y.room_is ∙ s.marked)
           | inr old ↦ let is = l.within x old in (is.0, marks_more new room s x is.1)
         ];
       }
 
   pub listed_more : (m new : Lodged V) {root : Node} (late : ℕ → Bool) (w : IsWholeBut m root late nobody_out) (room node : Id) → AreOnce w.part.tree
-      → Homed m w.part room node → masks_in m room.number ≡ None → IsSortedIn m new node room
-      → KeepsLeaves m new → KeepsBits m new → IsWholeBut new root (λ n. late n && not (n == room.number)) nobody_out
+      → Homed m w.part room node → masks_in m (number_of room) ≡ None → IsSortedIn m new node room
+      → KeepsLeaves m new → KeepsBits m new → IsWholeBut new root (λ n. late n && not (n == (number_of room))) nobody_out
   listed_more m new late w room node once y unmarked s leaves bits =
       let l = home_list y.home w.lists in
-      let number = ap (λ i. i.number) y.room_is in
-      whole_kept m new (λ n. late n && not (n == room.number)) w leaves bits
+      let number = ap (λ i. (number_of i)) y.room_is in
+      whole_kept m new (λ n. late n && not (n == (number_of room))) w leaves bits
       (relisted y.home new once (record {
         heads = s.heads;
-        masks = λ x in_x out. s.masks l.masks (are_masks y l) x.room.number (not_room y x in_x out) (aside_of y l x in_x out);
+        masks = λ x in_x out. s.masks l.masks (are_masks y l) (number_of x.room) (not_room y x in_x out) (aside_of y l x in_x out);
         list = list_more m new w.part room node y l unmarked s;
       }) w.lists) (record {
-        listed = λ n p said. elim (cases_eq n room.number) [
+        listed = λ n p said. elim (cases_eq n (number_of room)) [
           | inl same ↦ (y.is, y.inside, number ∙ sym same, home_has y.home)
           | inr other ↦ let q = some_of (masks_in m n) (sym (s.marks n other) ∙ ap is_some said) in w.listed n q.0 q.1
         ];
-        all = λ x in_x home. elim (cases_eq x.room.number room.number) [
+        all = λ x in_x home. elim (cases_eq (number_of x.room) (number_of room)) [
           | inl same ↦ inl (ap (λ n. is_some (masks_in new n)) same ∙ s.marked)
           | inr other ↦ elim (w.all x in_x home) [
-            | inl marked ↦ inl (s.marks x.room.number other ∙ marked)
-            | inr is_late ↦ inr (ap (λ t. t && not (x.room.number == room.number)) is_late ∙ ap not (ne_eqb x.room.number room.number other))
+            | inl marked ↦ inl (s.marks (number_of x.room) other ∙ marked)
+            | inr is_late ↦ inr (ap (λ t. t && not ((number_of x.room) == (number_of room))) is_late ∙ ap not (ne_eqb (number_of x.room) (number_of room) other))
           ]
         ];
       })
 
   -- ---- a mask goes out of the list of its home
   pub record IsTakenOut (m new : Lodged V) (node room : Id) : Type 0 where
-    pub list : (ms : List (Placed V)) (x : Placed V) → IsMasks m (heads_in m node.number) ms → IsAmong x ms → x.room ≡ room
-        → IsMasks new (heads_in new node.number) (taken_out x.entry.rank ms)
-    pub heads : (n : ℕ) → (n ≡ node.number → ⊥) → heads_in new n ≡ heads_in m n
-    pub masks : (ms : List (Placed V)) → IsMasks m (heads_in m node.number) ms → (n : ℕ) → (n ≡ room.number → ⊥) → IsAside n ms → masks_in new n ≡ masks_in
+    pub list : (ms : List (Placed V)) (x : Placed V) → IsMasks m (heads_in m (number_of node)) ms → IsAmong x ms → x.room ≡ room
+        → IsMasks new (heads_in new (number_of node)) (taken_out x.entry.rank ms)
+    pub heads : (n : ℕ) → (n ≡ (number_of node) → ⊥) → heads_in new n ≡ heads_in m n
+    pub masks : (ms : List (Placed V)) → IsMasks m (heads_in m (number_of node)) ms → (n : ℕ) → (n ≡ (number_of room) → ⊥) → IsAside n ms → masks_in new n ≡ masks_in
         m n
-    pub unmarked : masks_in new room.number ≡ None
-    pub marks : (n : ℕ) → (n ≡ room.number → ⊥) → is_some (masks_in new n) ≡ is_some (masks_in m n)
+    pub unmarked : masks_in new (number_of room) ≡ None
+    pub marks : (n : ℕ) → (n ≡ (number_of room) → ⊥) → is_some (masks_in new n) ≡ is_some (masks_in m n)
 
   -- a marked route is listed at its home
   at_home : {m : Lodged V} {whole : Part m} {room node : Id} (y : Homed m whole room node) (l : list_at y) → IsMarked (masks_in m) y.is
@@ -154,17 +155,17 @@ module _ {V : Type 0} where
   at_home y l marked = l.has y.is (in_home y, marked) y.home.past y.home.within
 
   not_marked : {m : Lodged V} (new : Lodged V) {node room : Id} → IsTakenOut m new node room → (x : Placed V) → IsMarked (masks_in new) x
-      → x.room.number ≡ room.number → ⊥
+      → (number_of x.room) ≡ (number_of room) → ⊥
   not_marked new s x marked same = true≢false (sym marked ∙ ap (λ n. is_some (masks_in new n)) same ∙ ap is_some s.unmarked)
 
   -- the list has all but the route
   list_less : (m new : Lodged V) (whole : Part m) (room : Id) {node : Id} (y : Homed m whole room node) → list_at y → IsMarked (masks_in m) y.is
       → IsTakenOut m new node room
-      → IsMaskList (masks_in new) (heads_in new node.number) y.home.part.low y.home.at.bit (MarkedIn (masks_in new) (tree_of y.home))
+      → IsMaskList (masks_in new) (heads_in new (number_of node)) y.home.part.low y.home.at.bit (MarkedIn (masks_in new) (tree_of y.home))
   list_less m new whole room y l marked s =
       let h = y.home in
       let after = s.list l.masks y.is (are_masks y l) (at_home y l marked) y.room_is in
-      let number = ap (λ i. i.number) y.room_is in
+      let number = ap (λ i. (number_of i)) y.room_is in
       record {
         masks = taken_out y.is.entry.rank l.masks;
         begins = after.begins;
@@ -172,35 +173,35 @@ module _ {V : Type 0} where
         falls = falls_taken h.part.low (h.at.bit + 1) y.is.entry.rank l.masks l.falls;
         has = λ x is least most.
             let other = not_marked new s x is.1 in
-            among_taken h.part.low (h.at.bit + 1) y.is.entry.rank l.masks l.falls x (l.has x (is.0, sym (s.marks x.room.number other) ∙ is.1) least most)
-            (λ same. other (ap (λ p. p.room.number) (rank_is y x is.0 same) ∙ number));
+            among_taken h.part.low (h.at.bit + 1) y.is.entry.rank l.masks l.falls x (l.has x (is.0, sym (s.marks (number_of x.room) other) ∙ is.1) least most)
+            (λ same. other (ap (λ p. (number_of p.room)) (rank_is y x is.0 same) ∙ number));
         within = λ x among.
             let old = taken_among h.part.low (h.at.bit + 1) y.is.entry.rank l.masks l.falls x among in
             let is = l.within x old.0 in
-            let other : x.room.number ≡ room.number → ⊥ =
+            let other : (number_of x.room) ≡ (number_of room) → ⊥ =
             λ same. old.1 (ap (λ p. p.entry.rank) (one_room m whole x y.is (to_whole y x is.0) y.inside (same ∙ sym number))) in
-            (is.0, s.marks x.room.number other ∙ is.1);
+            (is.0, s.marks (number_of x.room) other ∙ is.1);
       }
 
   module _ {m : Lodged V} {root : Node} {late : ℕ → Bool} (w : IsWholeBut m root late nobody_out) where
     pub listed_less : (new : Lodged V) (room node : Id) → AreOnce w.part.tree → (y : Homed m w.part room node) → IsMarked (masks_in m) y.is
-        → IsTakenOut m new node room → KeepsLeaves m new → KeepsBits m new → IsWholeBut new root (λ n. late n || (n == room.number)) nobody_out
+        → IsTakenOut m new node room → KeepsLeaves m new → KeepsBits m new → IsWholeBut new root (λ n. late n || (n == (number_of room))) nobody_out
     listed_less new room node once y marked s leaves bits =
         let l = home_list y.home w.lists in
-        whole_kept m new (λ n. late n || (n == room.number)) w leaves bits (relisted y.home new once (record {
+        whole_kept m new (λ n. late n || (n == (number_of room))) w leaves bits (relisted y.home new once (record {
           heads = s.heads;
-          masks = λ x in_x out. s.masks l.masks (are_masks y l) x.room.number (not_room y x in_x out) (aside_of y l x in_x out);
+          masks = λ x in_x out. s.masks l.masks (are_masks y l) (number_of x.room) (not_room y x in_x out) (aside_of y l x in_x out);
           list = list_less m new w.part room y l marked s;
         }) w.lists) (record {
-          listed = λ n p said. elim (cases_eq n room.number) [
+          listed = λ n p said. elim (cases_eq n (number_of room)) [
             | inl same ↦ absurd (none_some (sym s.unmarked ∙ ap (masks_in new) (sym same) ∙ said))
             | inr other ↦ let q = some_of (masks_in m n) (sym (s.marks n other) ∙ ap is_some said) in w.listed n q.0 q.1
           ];
-          all = λ x in_x home. elim (cases_eq x.room.number room.number) [
-            | inl same ↦ inr (or_right (late x.room.number) (eq-eqb x.room.number room.number same))
+          all = λ x in_x home. elim (cases_eq (number_of x.room) (number_of room)) [
+            | inl same ↦ inr (or_right (late (number_of x.room)) (eq-eqb (number_of x.room) (number_of room) same))
             | inr other ↦ elim (w.all x in_x home) [
-              | inl old ↦ inl (s.marks x.room.number other ∙ old)
-              | inr is_late ↦ inr (ap (λ t. t || (x.room.number == room.number)) is_late)
+              | inl old ↦ inl (s.marks (number_of x.room) other ∙ old)
+              | inr is_late ↦ inr (ap (λ t. t || ((number_of x.room) == (number_of room))) is_late)
             ]
           ];
         })
@@ -208,32 +209,32 @@ module _ {V : Type 0} where
     -- ---- a route with no home
     -- its mask is not listed
     pub homeless : (room : Id) (y : Placed V) → IsIn y w.part.tree → y.room ≡ room → (HasHome y.entry.key y.entry.rank w.part.tree → ⊥)
-        → masks_in m room.number ≡ None
-    homeless room y in_y is none = unsaid (masks_in m room.number) refl
+        → masks_in m (number_of room) ≡ None
+    homeless room y in_y is none = unsaid (masks_in m (number_of room)) refl
       where
-        unsaid : (o : Option MaskPart) → masks_in m room.number ≡ o → masks_in m room.number ≡ None
+        unsaid : (o : Option MaskPart) → masks_in m (number_of room) ≡ o → masks_in m (number_of room) ≡ None
         unsaid None e = e
         unsaid (Some p) e =
-            let x = w.listed room.number p e in
-            let same = one_room m w.part x.0 y x.1 in_y (x.2 ∙ sym (ap (λ i. i.number) is)) in
+            let x = w.listed (number_of room) p e in
+            let same = one_room m w.part x.0 y x.1 in_y (x.2 ∙ sym (ap (λ i. (number_of i)) is)) in
             absurd (none (subst (λ p. HasHome p.entry.key p.entry.rank w.part.tree) same x.3))
 
     -- a room whose mask is listed, or has no home, is not late
     pub settled : (room : Id)
-        → ((x : Placed V) → IsIn x w.part.tree → HasHome x.entry.key x.entry.rank w.part.tree → x.room.number ≡ room.number → IsMarked (masks_in m) x)
-        → IsWholeBut m root (λ n. late n && not (n == room.number)) nobody_out
-    settled room here = with_late (λ n. late n && not (n == room.number)) w (λ x in_x home. elim (cases_eq x.room.number room.number) [
+        → ((x : Placed V) → IsIn x w.part.tree → HasHome x.entry.key x.entry.rank w.part.tree → (number_of x.room) ≡ (number_of room) → IsMarked (masks_in m) x)
+        → IsWholeBut m root (λ n. late n && not (n == (number_of room))) nobody_out
+    settled room here = with_late (λ n. late n && not (n == (number_of room))) w (λ x in_x home. elim (cases_eq (number_of x.room) (number_of room)) [
       | inl same ↦ inl (here x in_x home same)
       | inr other ↦ elim (w.all x in_x home) [
         | inl marked ↦ inl marked
-        | inr is_late ↦ inr (ap (λ t. t && not (x.room.number == room.number)) is_late ∙ ap not (ne_eqb x.room.number room.number other))
+        | inr is_late ↦ inr (ap (λ t. t && not ((number_of x.room) == (number_of room))) is_late ∙ ap not (ne_eqb (number_of x.room) (number_of room) other))
       ]
     ])
 
     pub never_late : (room : Id) (y : Placed V) → IsIn y w.part.tree → y.room ≡ room → (HasHome y.entry.key y.entry.rank w.part.tree → ⊥)
-        → IsWholeBut m root (λ n. late n && not (n == room.number)) nobody_out
+        → IsWholeBut m root (λ n. late n && not (n == (number_of room))) nobody_out
     never_late room y in_y is none = settled room (λ x in_x home same. absurd (none (subst (λ p. HasHome p.entry.key p.entry.rank w.part.tree)
-        (one_room m w.part x y in_x in_y (same ∙ sym (ap (λ i. i.number) is))) home)))
+        (one_room m w.part x y in_x in_y (same ∙ sym (ap (λ i. (number_of i)) is))) home)))
 
   -- ---- what a list's change asks for
   pub homed : {m : Lodged V} (whole : Part m) (y : Placed V) {room : Id} {o : Option Id} {node : Id} → IsIn y whole.tree → y.room ≡ room → o ≡ Some node
@@ -245,15 +246,15 @@ module _ {V : Type 0} where
   home_node {m = m} y = used y.home.at
 
   pub home_masks : {m : Lodged V} {root : Node} {late : ℕ → Bool} (w : IsWholeBut m root late nobody_out) {room node : Id} → Homed m w.part room node
-      → (ms : List (Placed V)) × IsMasks m (heads_in m node.number) ms
+      → (ms : List (Placed V)) × IsMasks m (heads_in m (number_of node)) ms
   home_masks {m = m} w y =
       let l = home_list y.home w.lists in (l.masks, are_masks y l)
 
-  pub home_free : {m : Lodged V} (whole : Part m) {room node : Id} → Homed m whole room node → masks_in m room.number ≡ None → IsFree m room
+  pub home_free : {m : Lodged V} (whole : Part m) {room node : Id} → Homed m whole room node → masks_in m (number_of room) ≡ None → IsFree m room
   home_free {m = m} whole y unmarked = record { is = y.is; room_is = y.room_is; ranked = ranked_in m whole y.is y.inside; unmarked = unmarked }
 
   pub home_member : {m : Lodged V} {root : Node} {late : ℕ → Bool} (w : IsWholeBut m root late nobody_out) {room node : Id} (y : Homed m w.part room node)
-      → IsMarked (masks_in m) y.is → (ms : List (Placed V)) × (x : Placed V) × IsMasks m (heads_in m node.number) ms × IsAmong x ms × (x.room ≡ room)
+      → IsMarked (masks_in m) y.is → (ms : List (Placed V)) × (x : Placed V) × IsMasks m (heads_in m (number_of node)) ms × IsAmong x ms × (x.room ≡ room)
   home_member {m = m} w y marked =
       let l = home_list y.home w.lists in
       (l.masks, y.is, are_masks y l, at_home y l marked, y.room_is)

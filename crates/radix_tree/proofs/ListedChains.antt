@@ -10,6 +10,7 @@ use Rattle.radix_tree.proofs.Words.{Placed, IsAmong, IsIn, IsChain, LeafPart, Le
 use Rattle.radix_tree.proofs.Words.{first_room, leaf_part, ChainStands, one_if, KeepsLeaves, IsWholeBut, is_of_key, has_key, nobody_out, Lodged}
 use Rattle.radix_tree.proofs.Words.{true≢false}
 use Rattle.radix_tree.proofs.{JoinLone.tree_room}
+use Rattle.radix_nodes.specs.Naming.{number_of}
 
 and_left : (a b : Bool) → (a && b) ≡ true → a ≡ true
 and_left true b both = refl
@@ -32,18 +33,18 @@ eqb_not n k none same = not_true none (eq-eqb n k same)
 module _ {V : Type 0} where
   -- ---- one room
   module _ {m : Lodged V} {room : Id} (h : Has m room) where
-    mask_said : (links : Links) → AreLinks m room links → masks_in m room.number ≡ mask_part h.room.block (mask_node_of links)
+    mask_said : (links : Links) → AreLinks m room links → masks_in m (number_of room) ≡ mask_part h.room.block (mask_node_of links)
     mask_said links are = ap mask_in h.at ∙ ap (λ l. mask_part h.room.block (mask_node_of l)) (sym (are h.room h.at))
 
-    pub mask_none : (links : Links) → AreLinks m room links → mask_node_of links ≡ None → masks_in m room.number ≡ None
+    pub mask_none : (links : Links) → AreLinks m room links → mask_node_of links ≡ None → masks_in m (number_of room) ≡ None
     mask_none links are none = mask_said links are ∙ ap (mask_part h.room.block) none
 
-    mask_some : (links : Links) (n : MaskNode) → AreLinks m room links → mask_node_of links ≡ Some n → is_some (masks_in m room.number) ≡ true
+    mask_some : (links : Links) (n : MaskNode) → AreLinks m room links → mask_node_of links ≡ Some n → is_some (masks_in m (number_of room)) ≡ true
     mask_some links n are some = ap is_some (mask_said links are ∙ ap (mask_part h.room.block) some)
 
     -- a room whose mask is listed is not late
     pub listed_late : {root : Node} (late : ℕ → Bool) (w : IsWholeBut m root late nobody_out) (links : Links) (n : MaskNode) → AreLinks m room links
-        → mask_node_of links ≡ Some n → IsWholeBut m root (λ k. late k && not (k == room.number)) nobody_out
+        → mask_node_of links ≡ Some n → IsWholeBut m root (λ k. late k && not (k == (number_of room))) nobody_out
     listed_late late w links n are some = settled w room (λ x in_x home same. ap (λ k. is_some (masks_in m k)) same ∙ mask_some links n are some)
 
   -- ---- how far the walk has to go: one more than the rank of the route that it has come to
@@ -53,11 +54,11 @@ module _ {V : Type 0} where
 
   abbrev pub left_at : Leaves V → Option Id → ℕ
   left_at L None = 0
-  left_at L (Some room) = left_of (L room.number)
+  left_at L (Some room) = left_of (L (number_of room))
 
   left_same : (L M : Leaves V) (at : Option Id) → ((n : ℕ) → L n ≡ M n) → left_at L at ≡ left_at M at
   left_same L M None same = refl
-  left_same L M (Some room) same = ap left_of (same room.number)
+  left_same L M (Some room) same = ap left_of (same (number_of room))
 
   chain_left : (L : Leaves V) (above previous : Option Id) (key top : ℕ) (c : List (Placed V)) → IsChain key top c → ChainStands L above previous c
       → left_at L (first_room c) ≤ top
@@ -74,10 +75,10 @@ module _ {V : Type 0} where
     pub rest : Run m
     pub begins : first_room rest.members ≡ at
     pub less : (n : ℕ) → later n ≡ true → late n ≡ true
-    pub behind : (n : ℕ) → later n ≡ true → has_key m key n ≡ true → (x : Placed V) × IsAmong x rest.members × (x.room.number ≡ n)
+    pub behind : (n : ℕ) → later n ≡ true → has_key m key n ≡ true → (x : Placed V) × IsAmong x rest.members × ((number_of x.room) ≡ n)
 
   -- ---- its begin
-  key_said : (m : Lodged V) (p : Part m) (y : Placed V) (q : LeafPart V) {n : ℕ} → IsIn y p.tree → y.room.number ≡ n → leaves_in m n ≡ Some q
+  key_said : (m : Lodged V) (p : Part m) (y : Placed V) (q : LeafPart V) {n : ℕ} → IsIn y p.tree → (number_of y.room) ≡ n → leaves_in m n ≡ Some q
       → (q.leaf.key ≡ y.entry.key) × (q.block ≡ y.room.block)
   key_said m p y q is same said =
       let t = tree_said (leaves_in m) (bits_in m) p.above p.tree p.stands y is in
@@ -90,7 +91,7 @@ module _ {V : Type 0} where
 
   -- a route of the key stands in its chain
   in_its_chain : (m : Lodged V) {root : Node} {late : ℕ → Bool} (w : IsWholeBut m root late nobody_out) (y : Placed V) (is : IsIn y w.part.tree) (n : ℕ)
-      → has_key m y.entry.key n ≡ true → (x : Placed V) × IsAmong x (chain_of w.part y is).members × (x.room.number ≡ n)
+      → has_key m y.entry.key n ≡ true → (x : Placed V) × IsAmong x (chain_of w.part y is).members × ((number_of x.room) ≡ n)
   in_its_chain m w y is n has =
       let q = of_key y.entry.key (leaves_in m n) has in
       let count = w.leaves n ∙ ap (λ o. one_if (is_some o)) q.1 in
@@ -100,7 +101,7 @@ module _ {V : Type 0} where
       (x.0, among_leaf f.at x.0 (way_leads m w.part f.part f.ups f.way x.0 x.1 key), x.2)
 
   -- a route that names none before it is the first of its chain
-  begins_at : (m : Lodged V) (whole : Part m) (y : Placed V) (is : IsIn y whole.tree) (p : LeafPart V) → leaves_in m y.room.number ≡ Some p
+  begins_at : (m : Lodged V) (whole : Part m) (y : Placed V) (is : IsIn y whole.tree) (p : LeafPart V) → leaves_in m (number_of y.room) ≡ Some p
       → p.leaf.previous ≡ None → first_room (chain_of whole y is).members ≡ Some y.room
   begins_at m whole y is p said none =
       let c = chain_of whole y is in
@@ -110,15 +111,15 @@ module _ {V : Type 0} where
       elim k.prior [ inl first ↦ first.0 | inr other ↦ absurd (none_some (sym before ∙ other.2)) ]
 
   pub begun : {m : Lodged V} {root : Node} (late : ℕ → Bool) (first : Id) (p : LeafPart V) → IsWholeBut m root late nobody_out
-      → leaves_in m first.number ≡ Some p → p.block ≡ first.block → p.leaf.previous ≡ None → Left m m root late p.leaf.key (Some first)
+      → leaves_in m (number_of first) ≡ Some p → p.block ≡ first.block → p.leaf.previous ≡ None → Left m m root late p.leaf.key (Some first)
   begun {m = m} late first p w said block none =
       let y = placed_in w (Has-leaf m first said block) in
-      let key = (key_said m w.part y.0 p y.1 (ap (λ i. i.number) y.2) said).0 in
+      let key = (key_said m w.part y.0 p y.1 (ap (λ i. (number_of i)) y.2) said).0 in
       record {
         later = late;
         whole = w;
         rest = chain_of w.part y.0 y.1;
-        begins = begins_at m w.part y.0 y.1 p (ap (λ i. leaves_in m i.number) y.2 ∙ said) none ∙ ap Some y.2;
+        begins = begins_at m w.part y.0 y.1 p (ap (λ i. leaves_in m (number_of i)) y.2 ∙ said) none ∙ ap Some y.2;
         less = λ n is_late. is_late;
         behind = λ n is_late has. in_its_chain m w y.0 y.1 n (subst (λ k. has_key m k n ≡ true) key has);
       }
@@ -131,18 +132,18 @@ module _ {V : Type 0} where
   abbrev part_at : {m : Lodged V} (rest : Run m) {room : Id} → IsHead rest.members room → LeafPart V
   part_at rest x = leaf_part x.first rest.above rest.previous (first_room x.behind)
 
-  said_at : (m : Lodged V) (rest : Run m) {room : Id} (x : IsHead rest.members room) → leaves_in m room.number ≡ Some (part_at rest x)
-  said_at m rest x = ap (λ i. leaves_in m i.number) (sym x.room_is) ∙ (subst (ChainStands (leaves_in m) rest.above rest.previous) x.is rest.stands).0
+  said_at : (m : Lodged V) (rest : Run m) {room : Id} (x : IsHead rest.members room) → leaves_in m (number_of room) ≡ Some (part_at rest x)
+  said_at m rest x = ap (λ i. leaves_in m (number_of i)) (sym x.room_is) ∙ (subst (ChainStands (leaves_in m) rest.above rest.previous) x.is rest.stands).0
 
   pub Has-at : {m now : Lodged V} (new : Lodged V) {root : Node} {late : ℕ → Bool} {key : ℕ} {at : Option Id} {room : Id}
       → Left m now root late key at → KeepsLeaves m new → at ≡ Some room → Has new room
   Has-at {m = m} new {room = room} l kept is =
-      let x = head_at l is in Has-leaf new room (kept room.number ∙ said_at m l.rest x) (ap (λ i. i.block) x.room_is)
+      let x = head_at l is in Has-leaf new room (kept (number_of room) ∙ said_at m l.rest x) (ap (λ i. i.block) x.room_is)
 
   next_read : (m new : Lodged V) (rest : Run m) (room : Id) (links : Links) (l : Leaf) (x : IsHead rest.members room) → KeepsLeaves m new
       → AreLinks new room links → l ≡ leaf_of links → l.next ≡ first_room x.behind
   next_read m new rest room links l x kept are leaf =
-      ap (λ z. z.next) (leaf ∙ leaf_read new room links (kept room.number ∙ said_at m rest x) (ap (λ i. i.block) x.room_is) are)
+      ap (λ z. z.next) (leaf ∙ leaf_read new room links (kept (number_of room) ∙ said_at m rest x) (ap (λ i. i.block) x.room_is) are)
 
   abbrev run_behind : (m : Lodged V) (rest : Run m) {room : Id} → IsHead rest.members room → Run m
   run_behind m rest x = record {
@@ -157,21 +158,21 @@ module _ {V : Type 0} where
 
   pub passed : {m now new : Lodged V} {root : Node} {late : ℕ → Bool} {key : ℕ} {at : Option Id} (room : Id) (links : Links) {f : Leaf}
       (l : Left m now root late key at) → at ≡ Some room → KeepsLeaves m new → AreLinks new room links → f ≡ leaf_of links
-      → IsWholeBut new root (λ n. l.later n && not (n == room.number)) nobody_out → Left m new root late key f.next
+      → IsWholeBut new root (λ n. l.later n && not (n == (number_of room))) nobody_out → Left m new root late key f.next
   passed {m = m} {new = new} room links {f = f} l is kept are leaf whole =
       let x = head_at l is in
       record {
-        later = λ n. l.later n && not (n == room.number);
+        later = λ n. l.later n && not (n == (number_of room));
         whole = whole;
         rest = run_behind m l.rest x;
         begins = sym (next_read m new l.rest room links f x kept are leaf);
-        less = λ n is_late. l.less n (and_left (l.later n) (not (n == room.number)) is_late);
+        less = λ n is_late. l.less n (and_left (l.later n) (not (n == (number_of room))) is_late);
         behind = λ n is_late has.
-            let y = l.behind n (and_left (l.later n) (not (n == room.number)) is_late) has in
-            let other = eqb_not n room.number (and_right (l.later n) (not (n == room.number)) is_late) in (
+            let y = l.behind n (and_left (l.later n) (not (n == (number_of room))) is_late) has in
+            let other = eqb_not n (number_of room) (and_right (l.later n) (not (n == (number_of room))) is_late) in (
               y.0,
               elim (subst (IsAmong y.0) x.is y.1) [
-                | inl e ↦ absurd (other (sym y.2 ∙ ap (λ p. p.room.number) (sym e) ∙ ap (λ i. i.number) x.room_is))
+                | inl e ↦ absurd (other (sym y.2 ∙ ap (λ p. (number_of p.room)) (sym e) ∙ ap (λ i. (number_of i)) x.room_is))
                 | inr among ↦ among
               ],
               y.2,
@@ -186,7 +187,7 @@ module _ {V : Type 0} where
       let r = run_behind m l.rest x in
       let next = next_read m new l.rest room links f x kept are leaf in
       let few = chain_left (leaves_in m) r.above r.previous r.key r.top x.behind r.is r.stands in
-      let far = ap (left_at (leaves_in now)) is ∙ ap left_of (was room.number ∙ said_at m l.rest x) in
+      let far = ap (left_at (leaves_in now)) is ∙ ap left_of (was (number_of room) ∙ said_at m l.rest x) in
       let near = ap (left_at (leaves_in new)) next ∙ left_same (leaves_in new) (leaves_in m) (first_room x.behind) kept in
       omega arith
 

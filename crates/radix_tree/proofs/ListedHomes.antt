@@ -3,6 +3,7 @@ use Rattle.radix_tree.proofs.{RoomReads.inside, RoomReads.AreLinks, RoomReads.le
 use Rattle.radix_tree.proofs.{Parts.among_leaf, WaysDown.way_to_leaf, HomeLists.placed_in}
 use Rattle.radix_tree.proofs.Words.{◌≡◌, ℕ, Bool, Option, Some, None, refl, sym, ap, ◌∙◌, subst, Has, leaf_of, Id, Leaf, Links, Node, Placed, IsAmong}
 use Rattle.radix_tree.proofs.Words.{IsIn, Part, Run, leaves_in, bits_in, first_room, LedTo, IsWholeBut, nobody_out, IsHome, Lodged}
+use Rattle.radix_nodes.specs.Naming.{number_of}
 
 module _ {V : Type 0} where
   -- the chain of a route of a tree
@@ -27,7 +28,7 @@ module _ {V : Type 0} where
       → l ≡ leaf_of links → l.rank ≡ y.entry.rank
   rank_read {m = m} p y room links at is are leaf =
       let said = tree_said (leaves_in m) (bits_in m) p.above p.tree p.stands y at in
-      ap (λ z. z.rank) (leaf ∙ leaf_read m room links (ap (λ i. leaves_in m i.number) (sym is) ∙ said.3) (ap (λ i. i.block) is) are)
+      ap (λ z. z.rank) (leaf ∙ leaf_read m room links (ap (λ i. leaves_in m (number_of i)) (sym is) ∙ said.3) (ap (λ i. i.block) is) are)
 
   pub home_is : {m : Lodged V} (key : ℕ) {rank other : ℕ} (whole : Part m) (o : Option Id) → rank ≡ other → IsHome m key rank whole o
       → IsHome m key other whole o

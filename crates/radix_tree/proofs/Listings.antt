@@ -5,6 +5,7 @@ use Rattle.radix_tree.proofs.{TreeMembers.tree_said}
 use Rattle.radix_tree.proofs.Words.{◌≡◌, ℕ, ◌+◌, ◌*◌, ◌≤◌, List, ◌∷◌, Option, Some, None, refl, sym, ap, ◌∙◌, subst, inl, inr, arith, masked, Counter, Id}
 use Rattle.radix_tree.proofs.Words.{Leaf, MaskNode, Reads, LeafPart, MaskPart, Part, MasksAreListed, leaves_in, bits_in, heads_in, masks_in, mask_part}
 use Rattle.radix_tree.proofs.Words.{first_room, leaf_part, MasksStand, Falls, Tells, Finds, HasPair, Best, In, ForkAt, Placed, IsAmong, IsIn, Lodged}
+use Rattle.radix_nodes.specs.Naming.{number_of}
 
 module _ {V : Type 0} {m : Lodged V} where
   -- a walk through the list of a bit node, whose masks so far were tried in vain
@@ -24,7 +25,7 @@ module _ {V : Type 0} {m : Lodged V} where
     pub few : now.count + 67 * top ≤ start.count + 67 * (bit + 1)
 
   pub begun : {address : ℕ} {p : Part m} {room : Id} {first : Option Id} (v : Counter) (f : ForkAt p room) → MasksAreListed m p
-      → heads_in m room.number ≡ first → Through address p f.bit first v v
+      → heads_in m (number_of room) ≡ first → Through address p f.bit first v v
   begun {p = p} {room} v f listed head =
       let list = (fork_lists f (λ x. Unit {0}) listed).0 in
       let rises = (fork_is f).0.rises in
@@ -48,10 +49,10 @@ module _ {V : Type 0} {m : Lodged V} where
   pub record Mask (address : ℕ) (p : Part m) (bit : ℕ) (room : Id) (start now : Counter) : Type 0 where
     pub route : Placed V
     pub part : LeafPart V
-    pub said : leaves_in m room.number ≡ Some part
+    pub said : leaves_in m (number_of room) ≡ Some part
     pub rank : part.leaf.rank ≡ route.entry.rank
     pub mask : MaskPart
-    pub listed : masks_in m room.number ≡ Some mask
+    pub listed : masks_in m (number_of room) ≡ Some mask
     pub block : mask.block ≡ room.block
     pub turn : now.turn ≡ start.turn
     pub rises : start.count ≤ now.count
@@ -73,10 +74,10 @@ module _ {V : Type 0} {m : Lodged V} where
       record {
         route = x.first;
         part = leaf_part x.first leaf.0 leaf.1 leaf.2;
-        said = ap (λ i. leaves_in m i.number) (sym x.room_is) ∙ leaf.3;
+        said = ap (λ i. leaves_in m (number_of i)) (sym x.room_is) ∙ leaf.3;
         rank = refl;
         mask = record { block = x.first.room.block; next = first_room x.behind };
-        listed = ap (λ i. masks_in m i.number) (sym x.room_is) ∙ stands.0;
+        listed = ap (λ i. masks_in m (number_of i)) (sym x.room_is) ∙ stands.0;
         block = ap (λ i. i.block) x.room_is;
         turn = w.turn;
         rises = w.rises;
@@ -114,7 +115,7 @@ module _ {V : Type 0} {m : Lodged V} where
       (told.0, told.1, x.hit told.0 told.2)
 
   pub miss : {address : ℕ} {p : Part m} {bit : ℕ} {room : Id} {start now later : Counter} (x : Mask address p bit room start now) {l : Leaf} (n : MaskNode)
-      {key : ℕ} {o : Option Id} → l ≡ x.part.leaf → masks_in m room.number ≡ mask_part room.block (Some n)
+      {key : ℕ} {o : Option Id} → l ≡ x.part.leaf → masks_in m (number_of room) ≡ mask_part room.block (Some n)
       → key ≡ masked l.rank address → o ≡ None → Tells (Finds (HasPair key l.rank) (In p)) o → Reads now later 67 → Through address p bit n.next start later
   miss {address} {p} {bit} {start = start} {later = later} x {l = l} n {key = key} is said key_is none tells more =
       let told = asked address p None key_is (ap (λ z. z.rank) is ∙ x.rank) (subst (Tells (Finds (HasPair key l.rank) (In p))) none tells) in

@@ -6,33 +6,34 @@ use Rattle.radix_tree.proofs.Words.{◌≡◌, ℕ, ◌≤◌, List, [], ◌∷�
 use Rattle.radix_tree.proofs.Words.{LeafPart, BitPart, Part, leaf_in, bit_in, leaves_in, bits_in, bit_part, name_of, ForkAt, Way, leaves_at, forks_at}
 use Rattle.radix_tree.proofs.Words.{name_child, with_child, IsSpot, IsLodged, IsBeside, forked, placed, lodge_leaf, put_leaf, put_bit, with_leaf}
 use Rattle.radix_tree.proofs.Words.{lift_leaf, lift_bit, KeepsLeaves, KeepsBits, Entry, Lodged}
+use Rattle.radix_nodes.specs.Naming.{number_of}
 
 -- a room that isn't the bit node above isn't turned
-pub new_turn : (above : Option Id) (key n : ℕ) (to : Node) (said : Option BitPart) → ((over : Id) → above ≡ Some over → n ≡ over.number → ⊥)
+pub new_turn : (above : Option Id) (key n : ℕ) (to : Node) (said : Option BitPart) → ((over : Id) → above ≡ Some over → n ≡ (number_of over) → ⊥)
     → name_child above key to n said ≡ said
 new_turn None key n to said other = refl
 new_turn (Some over) key n to said other = off_room over n (with_child key to said) said (other over refl)
 
 module _ {V : Type 0} where
   pub Has-lodged_leaf : (new : Lodged V) (room : Id) (value : V) (l : Leaf) (said : Option (LeafPart V))
-      → leaves_in new room.number ≡ lodge_leaf room value l room.number said → Has new room
+      → leaves_in new (number_of room) ≡ lodge_leaf room value l (number_of room) said → Has new room
   Has-lodged_leaf new room value l said is = Has-leaf new room (is ∙ own_room room (Some (record { block = room.block; value = value; leaf = l })) said) refl
 
   -- a leaf that was lodged and written again
   pub leaf_again : (m new : Lodged V) (room : Id) (value : V) (first then_ : Leaf) (said : Option (LeafPart V))
-      → leaves_in m room.number ≡ lodge_leaf room value first room.number said
-      → leaves_in new room.number ≡ put_leaf room then_ room.number (leaves_in m room.number)
-      → leaves_in new room.number ≡ Some (record { block = room.block; value = value; leaf = then_ })
-  leaf_again m new room value first then_ said was is = is ∙ own_room room (with_leaf then_ (leaves_in m room.number)) (leaves_in m room.number)
+      → leaves_in m (number_of room) ≡ lodge_leaf room value first (number_of room) said
+      → leaves_in new (number_of room) ≡ put_leaf room then_ (number_of room) (leaves_in m (number_of room))
+      → leaves_in new (number_of room) ≡ Some (record { block = room.block; value = value; leaf = then_ })
+  leaf_again m new room value first then_ said was is = is ∙ own_room room (with_leaf then_ (leaves_in m (number_of room))) (leaves_in m (number_of room))
       ∙ ap (with_leaf then_) (was ∙ own_room room (Some (record { block = room.block; value = value; leaf = first })) said)
 
   pub Has-again : (m new : Lodged V) (room : Id) (value : V) (first then_ : Leaf) (said : Option (LeafPart V))
-      → leaves_in m room.number ≡ lodge_leaf room value first room.number said
-      → leaves_in new room.number ≡ put_leaf room then_ room.number (leaves_in m room.number) → Has new room
+      → leaves_in m (number_of room) ≡ lodge_leaf room value first (number_of room) said
+      → leaves_in new (number_of room) ≡ put_leaf room then_ (number_of room) (leaves_in m (number_of room)) → Has new room
   Has-again m new room value first then_ said was is = Has-leaf new room (leaf_again m new room value first then_ said was is) refl
 
   -- the three writes together
-  pub lodged : (m1 m2 m3 m4 : Lodged V) (room : Id) (e : Entry V) (first then_ : Leaf) (n : BitNode) (p : BitPart) → get m1 room.number ≡ None
+  pub lodged : (m1 m2 m3 m4 : Lodged V) (room : Id) (e : Entry V) (first then_ : Leaf) (n : BitNode) (p : BitPart) → get m1 (number_of room) ≡ None
       → ((k : ℕ) → leaves_in m2 k ≡ lodge_leaf room e.value first k (leaves_in m1 k)) → KeepsBits m1 m2
       → ((k : ℕ) → leaves_in m3 k ≡ put_leaf room then_ k (leaves_in m2 k)) → KeepsBits m2 m3
       → KeepsLeaves m3 m4 → ((k : ℕ) → bits_in m4 k ≡ put_bit room (Some n) k (bits_in m3 k))
@@ -41,9 +42,9 @@ module _ {V : Type 0} where
   lodged m1 m2 m3 m4 room e first then_ n p free leaves2 bits2 leaves3 bits3 leaves4 bits4 leaf_is node_is = record {
     no_leaf = ap leaf_in free;
     no_bit = ap bit_in free;
-    leaf = leaves4 room.number ∙ leaf_again m2 m3 room e.value first then_ (leaves_in m1 room.number) (leaves2 room.number) (leaves3 room.number)
+    leaf = leaves4 (number_of room) ∙ leaf_again m2 m3 room e.value first then_ (leaves_in m1 (number_of room)) (leaves2 (number_of room)) (leaves3 (number_of room))
         ∙ ap (λ l. Some (record { block = room.block; value = e.value; leaf = l })) leaf_is;
-    bit_node = bits4 room.number ∙ own_room room (bit_part room.block (Some n)) (bits_in m3 room.number) ∙ node_is;
+    bit_node = bits4 (number_of room) ∙ own_room room (bit_part room.block (Some n)) (bits_in m3 (number_of room)) ∙ node_is;
     leaves = λ k other. leaves4 k ∙ leaves3 k ∙ off_room room k (with_leaf then_ (leaves_in m2 k)) (leaves_in m2 k) other
         ∙ leaves2 k ∙ off_room room k (Some (record { block = room.block; value = e.value; leaf = first })) (leaves_in m1 k) other;
     bits = λ k other. bits4 k ∙ off_room room k (bit_part room.block (Some n)) (bits_in m3 k) other ∙ bits3 k ∙ bits2 k;
@@ -97,19 +98,19 @@ module _ {V : Type 0} where
       → ((n : ℕ) → leaves_in last n ≡ lift_leaf below (Some room) n (leaves_in turned n))
       → ((n : ℕ) → bits_in last n ≡ lift_bit below (Some room) n (bits_in turned n)) → IsBeside m last bit (placed room e) above below
   beside {m = m} {new = new} turned last {room = room} {e = e} whole {above = above} {below = below} s l leaves bits lifted_leaves lifted_bits =
-      let new_above : (over : Id) → above ≡ Some over → room.number ≡ over.number → ⊥ = λ over is same.
+      let new_above : (over : Id) → above ≡ Some over → (number_of room) ≡ (number_of over) → ⊥ = λ over is same.
       let o = over_at m e.key whole s.at s.ups s.way s.top s.above_is is in
       none_some (sym l.no_bit ∙ ap (bits_in m) same ∙ (fork_stands o.1).0) in
       record {
         no_leaf = l.no_leaf;
         no_bit = l.no_bit;
-        leaf = lifted_leaves room.number
-            ∙ misses_leaf below room.number (λ r is same. not_new s.at room l.no_leaf r.number (named_leaf s.at.tree r (s.named ∙ is)) (sym same)) (Some room)
-            (leaves_in turned room.number) ∙ leaves room.number ∙ l.leaf;
-        bit_node = lifted_bits room.number
-            ∙ misses_bit below room.number (λ r is same. not_new_bit s.at room l.no_bit r.number (named_bit s.at.tree r (s.named ∙ is)) (sym same))
+        leaf = lifted_leaves (number_of room)
+            ∙ misses_leaf below (number_of room) (λ r is same. not_new s.at room l.no_leaf (number_of r) (named_leaf s.at.tree r (s.named ∙ is)) (sym same)) (Some room)
+            (leaves_in turned (number_of room)) ∙ leaves (number_of room) ∙ l.leaf;
+        bit_node = lifted_bits (number_of room)
+            ∙ misses_bit below (number_of room) (λ r is same. not_new_bit s.at room l.no_bit (number_of r) (named_bit s.at.tree r (s.named ∙ is)) (sym same))
             (Some room)
-            (bits_in turned room.number) ∙ bits room.number ∙ new_turn above e.key room.number (BitOf room) (bits_in new room.number) new_above ∙ l.bit_node;
+            (bits_in turned (number_of room)) ∙ bits (number_of room) ∙ new_turn above e.key (number_of room) (BitOf room) (bits_in new (number_of room)) new_above ∙ l.bit_node;
         leaves = λ n other. lifted_leaves n ∙ ap (lift_leaf below (Some room) n) (leaves n ∙ l.leaves n other);
         bits = λ n other. lifted_bits n ∙ ap (lift_bit below (Some room) n) (bits n ∙ ap (name_child above e.key (BitOf room) n) (l.bits n other));
       }

@@ -9,19 +9,20 @@ use Rattle.radix_tree.proofs.MaskLists.{among_appended}
 use Rattle.radix_tree.proofs.MaskLinks.{put_aside, some_none, aside_linked, marks_linked, stand_same, ranked_same, masks_same, linked, stands_back}
 use Rattle.radix_tree.proofs.MaskLinks.{back_stays, list_parted, nothing_behind}
 use Rattle.radix_tree.proofs.TreeMembers.{same_rank}
+use Rattle.radix_nodes.specs.Naming.{number_of}
 
 module _ {V : Type 0} where
   -- ---- a list is cut
-  pub kept_of_cut : (m new : Lodged V) (fork : Id) (low : ℕ) (ms : List (Placed V)) {before : Option Id} → IsMasks m (heads_in m fork.number) ms
+  pub kept_of_cut : (m new : Lodged V) (fork : Id) (low : ℕ) (ms : List (Placed V)) {before : Option Id} → IsMasks m (heads_in m (number_of fork)) ms
       → last_mask (not_below low ms) ≡ before → KeepsLeaves m new
       → ((n : ℕ) → heads_in new n ≡ head_linked fork before None n (heads_in m n)) → ((n : ℕ) → masks_in new n ≡ mask_linked before None n (masks_in m n))
-      → IsMasks new (heads_in new fork.number) (not_below low ms)
-  kept_of_cut m new fork low ms is last keeps heads masks = subst (IsMasks new (heads_in new fork.number)) (nothing_behind (not_below low ms))
+      → IsMasks new (heads_in new (number_of fork)) (not_below low ms)
+  kept_of_cut m new fork low ms is last keeps heads masks = subst (IsMasks new (heads_in new (number_of fork))) (nothing_behind (not_below low ms))
       (linked m new fork (not_below low ms) (below low ms) [] None (list_parted low is) last refl keeps heads masks tt
       (subst (Falls 0 34) (sym (nothing_behind (not_below low ms))) (falls_wider low 34 0 34 (not_below low ms) (falls_not_below 0 34 low ms is.falls)
       (omega arith) (omega arith))) tt)
 
-  pub others_of_cut : (m new : Lodged V) (fork : Id) (low : ℕ) (ms : List (Placed V)) {before behind : Option Id} → IsMasks m (heads_in m fork.number) ms
+  pub others_of_cut : (m new : Lodged V) (fork : Id) (low : ℕ) (ms : List (Placed V)) {before behind : Option Id} → IsMasks m (heads_in m (number_of fork)) ms
       → last_mask (not_below low ms) ≡ before → first_room (below low ms) ≡ behind → KeepsLeaves m new
       → ((n : ℕ) → masks_in new n ≡ mask_linked before None n (masks_in m n)) → IsMasks new behind (below low ms)
   others_of_cut m new fork low ms is last first keeps masks =
@@ -41,47 +42,47 @@ module _ {V : Type 0} where
   all_long [] = refl
   all_long (x ∷ xs) = not_below_long 0 x xs (omega arith) ∙ ap (λ l. x ∷ l) (all_long xs)
 
-  pub appended : (m new : Lodged V) (fork : Id) (ms ts : List (Placed V)) {before : Option Id} (tail : Option Id) → IsMasks m (heads_in m fork.number) ms
+  pub appended : (m new : Lodged V) (fork : Id) (ms ts : List (Placed V)) {before : Option Id} (tail : Option Id) → IsMasks m (heads_in m (number_of fork)) ms
       → IsMasks m tail ts → Falls 0 34 (ms ++ ts) → last_mask (not_below 0 ms) ≡ before → KeepsLeaves m new
       → ((n : ℕ) → heads_in new n ≡ head_linked fork before tail n (heads_in m n)) → ((n : ℕ) → masks_in new n ≡ mask_linked before tail n (masks_in m n))
-      → IsMasks new (heads_in new fork.number) (ms ++ ts)
+      → IsMasks new (heads_in new (number_of fork)) (ms ++ ts)
   appended m new fork ms ts tail is behind falls last keeps heads masks =
       let end = ap last_mask (sym (all_long ms)) ∙ last in
       let ranked = among_ranked (leaves_in m) (ms ++ ts) (λ y among. elim (among_appended ms ts y among) [
         | inl one ↦ ranked_among (leaves_in m) ms is.ranked y one
         | inr other ↦ ranked_among (leaves_in m) ts behind.ranked y other
       ]) in
-      linked m new fork ms [] ts tail (subst (IsMasks m (heads_in m fork.number)) (sym (nothing_behind ms)) is) end behind.begins keeps heads masks
+      linked m new fork ms [] ts tail (subst (IsMasks m (heads_in m (number_of fork))) (sym (nothing_behind ms)) is) end behind.begins keeps heads masks
       (stand_same (masks_in m) (masks_in new) ts (back_stays m new ms ts tail falls ranked end masks) behind.stands) falls behind.ranked
 
   -- ---- a mask comes in
   put_own : (x : Placed V) {room : Id} (node : MaskNode) (said : Option MaskPart) → x.room ≡ room
-      → put_mask room (Some node) x.room.number said ≡ Some (record { block = x.room.block; next = node.next })
-  put_own x node said room_is = subst (λ i. put_mask i (Some node) x.room.number said ≡ Some (record { block = x.room.block; next = node.next })) room_is
-      (ap (λ t. if t then mask_part x.room.block (Some node) else said) (eq-eqb x.room.number x.room.number refl))
+      → put_mask room (Some node) (number_of x.room) said ≡ Some (record { block = x.room.block; next = node.next })
+  put_own x node said room_is = subst (λ i. put_mask i (Some node) (number_of x.room) said ≡ Some (record { block = x.room.block; next = node.next })) room_is
+      (ap (λ t. if t then mask_part x.room.block (Some node) else said) (eq-eqb (number_of x.room) (number_of x.room) refl))
 
   -- no member of a list is in a room that is no mask node
-  pub free_aside : (K : Masks) (ms : List (Placed V)) (room : Id) → MasksStand K ms → K room.number ≡ None → IsAside room.number ms
+  pub free_aside : (K : Masks) (ms : List (Placed V)) (room : Id) → MasksStand K ms → K (number_of room) ≡ None → IsAside (number_of room) ms
   free_aside K ms room stands free y among same = some_none (ap K same ∙ free) (marked_among K ms stands y among)
 
   pub sorted : (m between new : Lodged V) (fork : Id) (x : Placed V) (room : Id) (node : MaskNode) {rank : ℕ} (ms : List (Placed V)) {before : Option Id}
-      → IsMasks m (heads_in m fork.number) ms → x.room ≡ room → IsRanked (leaves_in m) x → masks_in m room.number ≡ None → rank ≡ x.entry.rank → rank ≤ 33
+      → IsMasks m (heads_in m (number_of fork)) ms → x.room ≡ room → IsRanked (leaves_in m) x → masks_in m (number_of room) ≡ None → rank ≡ x.entry.rank → rank ≤ 33
       → IsNoRank x.entry.rank ms → last_mask (not_below rank ms) ≡ before → first_room (below rank ms) ≡ node.next
       → KeepsLeaves m between → KeepsHeads m between → ((n : ℕ) → masks_in between n ≡ put_mask room (Some node) n (masks_in m n))
       → KeepsLeaves between new → ((n : ℕ) → heads_in new n ≡ head_linked fork before (Some room) n (heads_in between n))
-      → ((n : ℕ) → masks_in new n ≡ mask_linked before (Some room) n (masks_in between n)) → IsMasks new (heads_in new fork.number) (sorted_in x ms)
+      → ((n : ℕ) → masks_in new n ≡ mask_linked before (Some room) n (masks_in between n)) → IsMasks new (heads_in new (number_of fork)) (sorted_in x ms)
   sorted m between new fork x room node ms {before = before} is room_is own free rank_is most no_rank last first keeps_one heads_one masks_one keeps heads
       masks =
       let last_is = subst (λ n. last_mask (not_below n ms) ≡ before) rank_is last in
       let first_is = subst (λ n. first_room (below n ms) ≡ node.next) rank_is first in
       let aside = free_aside (masks_in m) ms room is.stands free in
       let is_one = masks_same m between keeps_one
-      (λ y among. masks_one y.room.number ∙ put_aside room (Some node) y.room.number (masks_in m y.room.number) (aside y among)) (sym (heads_one fork.number))
+      (λ y among. masks_one (number_of y.room) ∙ put_aside room (Some node) (number_of y.room) (masks_in m (number_of y.room)) (aside y among)) (sym (heads_one (number_of fork)))
       is in
       let all = list_parted x.entry.rank is_one in
-      let stands_own = masks x.room.number ∙ aside_linked (not_below x.entry.rank ms) (Some room) x.room.number (masks_in between x.room.number) last_is
-      (λ y among same. aside y (not_below_among x.entry.rank ms y among).0 (same ∙ ap (λ i. i.number) room_is))
-      ∙ masks_one x.room.number ∙ put_own x node (masks_in m x.room.number) room_is
+      let stands_own = masks (number_of x.room) ∙ aside_linked (not_below x.entry.rank ms) (Some room) (number_of x.room) (masks_in between (number_of x.room)) last_is
+      (λ y among same. aside y (not_below_among x.entry.rank ms y among).0 (same ∙ ap (λ i. (number_of i)) room_is))
+      ∙ masks_one (number_of x.room) ∙ put_own x node (masks_in m (number_of x.room)) room_is
       ∙ ap (λ o. Some (record { block = x.room.block; next = o })) (sym first_is) in
       let stands_behind = stand_same (masks_in between) (masks_in new) (below x.entry.rank ms)
       (back_stays between new (not_below x.entry.rank ms) (below x.entry.rank ms) (Some room) all.falls all.ranked last_is masks)
@@ -121,12 +122,12 @@ module _ {V : Type 0} where
       (stands_back (masks_in m) (not_below (x.entry.rank + 1) ms) (below (x.entry.rank + 1) ms) (list_parted (x.entry.rank + 1) is).stands)
 
   pub taken : (m between new : Lodged V) (fork : Id) (x : Placed V) (room : Id) {low : ℕ} (ms : List (Placed V)) {before next : Option Id}
-      → IsMasks m (heads_in m fork.number) ms → IsAmong x ms → x.room ≡ room → low ≡ x.entry.rank + 1
+      → IsMasks m (heads_in m (number_of fork)) ms → IsAmong x ms → x.room ≡ room → low ≡ x.entry.rank + 1
       → last_mask (not_below low ms) ≡ before → first_room (below x.entry.rank ms) ≡ next
       → KeepsLeaves m between → ((n : ℕ) → heads_in between n ≡ head_linked fork before next n (heads_in m n))
       → ((n : ℕ) → masks_in between n ≡ mask_linked before next n (masks_in m n))
       → KeepsLeaves between new → KeepsHeads between new → ((n : ℕ) → masks_in new n ≡ put_mask room None n (masks_in between n))
-      → IsMasks new (heads_in new fork.number) (taken_out x.entry.rank ms)
+      → IsMasks new (heads_in new (number_of fork)) (taken_out x.entry.rank ms)
   taken m between new fork x room ms {before = before} {next = next} is among room_is low_is last first keeps heads masks keeps_two heads_two masks_two =
       let last_is = subst (λ n. last_mask (not_below n ms) ≡ before) low_is last in
       let all = list_parted (x.entry.rank + 1) is in
@@ -139,14 +140,14 @@ module _ {V : Type 0} where
       (stand_same (masks_in m) (masks_in between) (below x.entry.rank ms) stays (stands_at ms x is among).1) (falls_taken 0 34 x.entry.rank ms is.falls)
       (among_ranked (leaves_in m) (below x.entry.rank ms) (λ y behind. ranked_among (leaves_in m) ms is.ranked y
       (below_among 0 34 x.entry.rank ms is.falls y behind).0)) in
-      masks_same between new keeps_two (λ y left. masks_two y.room.number ∙ put_aside room None y.room.number (masks_in between y.room.number) (λ same.
+      masks_same between new keeps_two (λ y left. masks_two (number_of y.room) ∙ put_aside room None (number_of y.room) (masks_in between (number_of y.room)) (λ same.
       let was = taken_among 0 34 x.entry.rank ms is.falls y left in
-      was.1 (one_rank (ranked_among (leaves_in m) ms is.ranked y was.0) own (same ∙ ap (λ i. i.number) (sym room_is))))) (sym (heads_two fork.number)) list
+      was.1 (one_rank (ranked_among (leaves_in m) ms is.ranked y was.0) own (same ∙ ap (λ i. (number_of i)) (sym room_is))))) (sym (heads_two (number_of fork))) list
 
   -- the members of a list stay mask nodes
   pub sorted_marks : (K J : Masks) (ms front : List (Placed V)) (room : Id) (node : MaskNode) {before : Option Id} (next : Option Id) (n : ℕ) → MasksStand K ms
-      → K room.number ≡ None → ((k : ℕ) → J k ≡ put_mask room (Some node) k (K k))
+      → K (number_of room) ≡ None → ((k : ℕ) → J k ≡ put_mask room (Some node) k (K k))
       → ((y : Placed V) → IsAmong y front → IsAmong y ms) → last_mask front ≡ before → is_some (mask_linked before next n (J n)) ≡ is_some (J n)
   sorted_marks K J ms front room node next n stands free one within last = marks_linked J ms front next n
-      (stand_same K J ms (λ y among. one y.room.number ∙ put_aside room (Some node) y.room.number (K y.room.number) (free_aside K ms room stands free y among))
+      (stand_same K J ms (λ y among. one (number_of y.room) ∙ put_aside room (Some node) (number_of y.room) (K (number_of y.room)) (free_aside K ms room stands free y among))
       stands) within last

@@ -4,17 +4,18 @@ use Rattle.radix_tree.proofs.{MaskLinks.are_ranked_same, MaskLinks.put_aside}
 use Rattle.radix_tree.proofs.Words.{◌≡◌, ℕ, ◌+◌, ◌<◌, ◌≤◌, ◌==◌, ◌⊎◌, true, false, if◌then◌else◌, List, [], ◌∷◌, Option, Some, None, refl, sym, ap, ◌∙◌}
 use Rattle.radix_tree.proofs.Words.{subst, inl, inr, arith, eq-eqb, Id, MaskNode, Placed, IsAmong, LeafPart, Leaves, MaskPart, leaves_in, masks_in}
 use Rattle.radix_tree.proofs.Words.{mask_part, first_room, MasksStand, Falls, KeepsLeaves, put_mask, IsMasks, IsRanked, AreRanked, IsAside, Lodged}
+use Rattle.radix_nodes.specs.Naming.{number_of}
 
 put_none : (room : Id) (n : ℕ) {said : Option MaskPart} → said ≡ None → put_mask room None n said ≡ None
-put_none room n {said = said} none = elim (n == room.number) as (λ t. (if t then None else said) ≡ None) [ true ↦ refl | false ↦ none ]
+put_none room n {said = said} none = elim (n == (number_of room)) as (λ t. (if t then None else said) ≡ None) [ true ↦ refl | false ↦ none ]
 
-put_own_none : (room : Id) {n : ℕ} (said : Option MaskPart) → n ≡ room.number → put_mask room None n said ≡ None
-put_own_none room {n = n} said same = ap (λ t. if t then None else said) (eq-eqb n room.number same)
+put_own_none : (room : Id) {n : ℕ} (said : Option MaskPart) → n ≡ (number_of room) → put_mask room None n said ≡ None
+put_own_none room {n = n} said same = ap (λ t. if t then None else said) (eq-eqb n (number_of room) same)
 
 put_fewer : (room : Id) (n : ℕ) (said was : Option MaskPart) → (said ≡ None) ⊎ (said ≡ was)
     → (put_mask room None n said ≡ None) ⊎ (put_mask room None n said ≡ was)
 put_fewer room n said was fewer =
-    elim (n == room.number) as (λ t. ((if t then None else said) ≡ None) ⊎ ((if t then None else said) ≡ was)) [ true ↦ inl refl | false ↦ fewer ]
+    elim (n == (number_of room)) as (λ t. ((if t then None else said) ≡ None) ⊎ ((if t then None else said) ≡ was)) [ true ↦ inl refl | false ↦ fewer ]
 
 -- how many ranks there are up to that of a room
 abbrev pub ranks_in : {V : Type 0} → Option (LeafPart V) → ℕ
@@ -23,12 +24,12 @@ ranks_in (Some p) = p.leaf.rank + 1
 
 abbrev pub ranks_from : {V : Type 0} → Leaves V → Option Id → ℕ
 ranks_from L None = 0
-ranks_from L (Some room) = ranks_in (L room.number)
+ranks_from L (Some room) = ranks_in (L (number_of room))
 
 module _ {V : Type 0} where
   -- the ranks of rooms fall along the list
   own_ranks : {L : Leaves V} {x : Placed V} (room : Id) → IsRanked L x → x.room ≡ room → ranks_from L (Some room) ≡ x.entry.rank + 1
-  own_ranks {L = L} room r room_is = ap (λ i. ranks_in (L i.number)) (sym room_is) ∙ ap ranks_in r.said ∙ ap (λ n. n + 1) r.rank
+  own_ranks {L = L} room r room_is = ap (λ i. ranks_in (L (number_of i))) (sym room_is) ∙ ap ranks_in r.said ∙ ap (λ n. n + 1) r.rank
 
   ranks_behind : (L : Leaves V) (top : ℕ) (ms : List (Placed V)) → Falls 0 top ms → AreRanked L ms → ranks_from L (first_room ms) ≤ top
   ranks_behind L top [] falls ranked = omega arith
@@ -44,7 +45,7 @@ module _ {V : Type 0} where
     pub falls : Falls 0 top rest
     pub ranked : AreRanked (leaves_in now) rest
     pub within : (y : Placed V) → IsAmong y rest → IsAmong y ms
-    pub cleared : (y : Placed V) → IsAmong y ms → (masks_in now y.room.number ≡ None) ⊎ IsAmong y rest
+    pub cleared : (y : Placed V) → IsAmong y ms → (masks_in now (number_of y.room) ≡ None) ⊎ IsAmong y rest
     pub aside : (n : ℕ) → IsAside n ms → masks_in now n ≡ masks_in m n
     pub fewer : (n : ℕ) → (masks_in now n ≡ None) ⊎ (masks_in now n ≡ masks_in m n)
 
@@ -63,12 +64,12 @@ module _ {V : Type 0} where
   }
 
   pub listed_at : {m now : Lodged V} {ms : List (Placed V)} {at : Option Id} {room : Id} → Clearing m now ms at → at ≡ Some room
-      → (p : MaskPart) × (masks_in now room.number ≡ Some p) × (p.block ≡ room.block)
+      → (p : MaskPart) × (masks_in now (number_of room) ≡ Some p) × (p.block ≡ room.block)
   listed_at {now = now} {room = room} w is =
       let x = head_of w.rest (w.begins ∙ is) in listed_as now x.first x.behind (subst (MasksStand (masks_in now)) x.is w.stands) x.room_is
 
   pub cleared_one : {m now : Lodged V} {ms : List (Placed V)} {at : Option Id} {room : Id} (new : Lodged V) (node : MaskNode)
-      → Clearing m now ms at → at ≡ Some room → masks_in now room.number ≡ mask_part room.block (Some node)
+      → Clearing m now ms at → at ≡ Some room → masks_in now (number_of room) ≡ mask_part room.block (Some node)
       → KeepsLeaves now new → ((n : ℕ) → masks_in new n ≡ put_mask room None n (masks_in now n))
       → Clearing m new ms node.next × (ranks_from (leaves_in new) node.next < ranks_from (leaves_in now) at)
   cleared_one {m} {now} {at = at} {room} new node w is said keeps masks =
@@ -77,7 +78,7 @@ module _ {V : Type 0} where
       let falls = subst (Falls 0 w.top) x.is w.falls in
       let ranked = subst (AreRanked (leaves_in now)) x.is w.ranked in
       let ranked_now = are_ranked_same now new x.behind keeps ranked.1 in
-      let number = ap (λ i. i.number) x.room_is in
+      let number = ap (λ i. (number_of i)) x.room_is in
       let others = (apart (leaves_in now) 0 w.top (x.first ∷ x.behind) falls ranked).0 in
       let first_among = w.within x.first (subst (IsAmong x.first) (sym x.is) (inl refl)) in
       let next = next_told now x.first x.behind node stands x.room_is said in
@@ -88,15 +89,15 @@ module _ {V : Type 0} where
           rest = x.behind;
           top = x.first.entry.rank;
           begins = next;
-          stands = stand_same (masks_in now) (masks_in new) x.behind (λ y among. masks y.room.number
-              ∙ put_aside room None y.room.number (masks_in now y.room.number) (λ same. others y among (same ∙ sym number))) stands.1;
+          stands = stand_same (masks_in now) (masks_in new) x.behind (λ y among. masks (number_of y.room)
+              ∙ put_aside room None (number_of y.room) (masks_in now (number_of y.room)) (λ same. others y among (same ∙ sym number))) stands.1;
           falls = falls.2;
           ranked = ranked_now;
           within = λ y among. w.within y (subst (IsAmong y) (sym x.is) (inr among));
           cleared = λ y among. elim (w.cleared y among) [
-            | inl none ↦ inl (masks y.room.number ∙ put_none room y.room.number none)
+            | inl none ↦ inl (masks (number_of y.room) ∙ put_none room (number_of y.room) none)
             | inr left ↦ elim (subst (IsAmong y) x.is left) [
-              | inl e ↦ inl (masks y.room.number ∙ put_own_none room (masks_in now y.room.number) (ap (λ p. p.room.number) (sym e) ∙ number))
+              | inl e ↦ inl (masks (number_of y.room) ∙ put_own_none room (masks_in now (number_of y.room)) (ap (λ p. (number_of p.room)) (sym e) ∙ number))
               | inr behind ↦ inr behind
             ]
           ];
@@ -107,5 +108,5 @@ module _ {V : Type 0} where
       )
 
   pub ended : {m now : Lodged V} {ms : List (Placed V)} {at : Option Id} (w : Clearing m now ms at) → at ≡ None → (y : Placed V) → IsAmong y ms
-      → masks_in now y.room.number ≡ None
+      → masks_in now (number_of y.room) ≡ None
   ended {now = now} w is y among = elim (w.cleared y among) [ inl none ↦ none | inr left ↦ absurd (ended_at w.rest (w.begins ∙ is) y left) ]

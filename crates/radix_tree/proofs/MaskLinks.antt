@@ -5,24 +5,25 @@ use Rattle.radix_tree.proofs.Words.{inl, inr, arith, eq-eqb, ne_eqb, eqb-true, H
 use Rattle.radix_tree.proofs.Words.{heads_in, masks_in, mask_part, first_room, MasksStand, Falls, KeepsLeaves, put_mask, IsMasks, IsRanked, AreRanked}
 use Rattle.radix_tree.proofs.Words.{IsAside, last_from, last_mask, head_linked, mask_linked, not_below, below, Lodged}
 use Rattle.radix_tree.proofs.MaskLists.{in_front, in_back, falls_among, parted, one_rank, ranked_among, among_ranked, marked_among, among_appended}
+use Rattle.radix_nodes.specs.Naming.{number_of}
 
 -- a mask node that no link names stays
-pub linked_aside : (before next : Option Id) (n : ℕ) (said : Option MaskPart) → ((room : Id) → before ≡ Some room → n ≡ room.number → ⊥)
+pub linked_aside : (before next : Option Id) (n : ℕ) (said : Option MaskPart) → ((room : Id) → before ≡ Some room → n ≡ (number_of room) → ⊥)
     → mask_linked before next n said ≡ said
 linked_aside None next n said aside = refl
 linked_aside (Some before) next n said aside =
-    ap (λ t. if t then Some (record { block = before.block; next = next }) else said) (ne_eqb n before.number (aside before refl))
+    ap (λ t. if t then Some (record { block = before.block; next = next }) else said) (ne_eqb n (number_of before) (aside before refl))
 
 -- a mask node that was listed still is
-pub linked_some : (before next : Option Id) (n : ℕ) (said : Option MaskPart) → ((room : Id) → before ≡ Some room → n ≡ room.number → is_some said ≡ true)
+pub linked_some : (before next : Option Id) (n : ℕ) (said : Option MaskPart) → ((room : Id) → before ≡ Some room → n ≡ (number_of room) → is_some said ≡ true)
     → is_some (mask_linked before next n said) ≡ is_some said
 linked_some None next n said was = refl
 linked_some (Some before) next n said was =
-    elim (n == before.number) as (λ t. (n == before.number) ≡ t → is_some (if t then Some (record { block = before.block; next = next }) else said)
-    ≡ is_some said) [ true ↦ λ e. sym (was before refl (eqb-true n before.number e)) | false ↦ λ e. refl ] refl
+    elim (n == (number_of before)) as (λ t. (n == (number_of before)) ≡ t → is_some (if t then Some (record { block = before.block; next = next }) else said)
+    ≡ is_some said) [ true ↦ λ e. sym (was before refl (eqb-true n (number_of before) e)) | false ↦ λ e. refl ] refl
 
-pub put_aside : (room : Id) (node : Option MaskNode) (n : ℕ) (said : Option MaskPart) → (n ≡ room.number → ⊥) → put_mask room node n said ≡ said
-put_aside room node n said aside = ap (λ t. if t then mask_part room.block node else said) (ne_eqb n room.number aside)
+pub put_aside : (room : Id) (node : Option MaskNode) (n : ℕ) (said : Option MaskPart) → (n ≡ (number_of room) → ⊥) → put_mask room node n said ≡ said
+put_aside room node n said aside = ap (λ t. if t then mask_part room.block node else said) (ne_eqb n (number_of room) aside)
 
 pub some_none : {o : Option MaskPart} → o ≡ None → is_some o ≡ true → ⊥
 some_none none some = cc
@@ -31,7 +32,7 @@ module _ {V : Type 0} where
   -- ---- members' rooms are apart
   abbrev pub Apart : List (Placed V) → Type 0
   Apart [] = Unit {0}
-  Apart (x ∷ xs) = IsAside x.room.number xs × Apart xs
+  Apart (x ∷ xs) = IsAside (number_of x.room) xs × Apart xs
 
   pub apart : (L : Leaves V) (low top : ℕ) (ms : List (Placed V)) → Falls low top ms → AreRanked L ms → Apart ms
   apart L low top [] falls ranked = tt
@@ -47,10 +48,10 @@ module _ {V : Type 0} where
   apart_front (x ∷ xs) back is = (λ y among. is.0 y (in_front xs back y among), apart_front xs back is.1)
 
   pub apart_across : (front back : List (Placed V)) → Apart (front ++ back) → (x y : Placed V) → IsAmong x front → IsAmong y back
-      → y.room.number ≡ x.room.number → ⊥
+      → (number_of y.room) ≡ (number_of x.room) → ⊥
   apart_across [] back is x y one other = absurd one
   apart_across (z ∷ zs) back is x y one other = elim one [
-    | inl e ↦ λ same. is.0 y (in_back zs back y other) (same ∙ sym (ap (λ p. p.room.number) e))
+    | inl e ↦ λ same. is.0 y (in_back zs back y other) (same ∙ sym (ap (λ p. (number_of p.room)) e))
     | inr behind ↦ apart_across zs back is.1 x y behind other
   ]
 
@@ -71,9 +72,9 @@ module _ {V : Type 0} where
 
   -- no member of another list is the last one
   not_last : (front : List (Placed V)) (n : ℕ) → IsAside n front → {before : Option Id} → last_mask front ≡ before → (room : Id) → before ≡ Some room
-      → n ≡ room.number → ⊥
+      → n ≡ (number_of room) → ⊥
   not_last front n aside last room is same =
-      let x = last_among front (last ∙ is) in aside x.0 x.1 (ap (λ i. i.number) x.2 ∙ sym same)
+      let x = last_among front (last ∙ is) in aside x.0 x.1 (ap (λ i. (number_of i)) x.2 ∙ sym same)
 
   pub aside_linked : (front : List (Placed V)) {before : Option Id} (next : Option Id) (n : ℕ) (said : Option MaskPart) → last_mask front ≡ before
       → IsAside n front → mask_linked before next n said ≡ said
@@ -83,23 +84,23 @@ module _ {V : Type 0} where
       → ((y : Placed V) → IsAmong y front → IsAmong y ms) → last_mask front ≡ before → is_some (mask_linked before next n (K n)) ≡ is_some (K n)
   marks_linked K ms front {before = before} next n stands within last = linked_some before next n (K n) (λ room is same.
       let x = last_among front (last ∙ is) in
-      ap (λ k. is_some (K k)) (same ∙ sym (ap (λ i. i.number) x.2)) ∙ marked_among K ms stands x.0 (within x.0 x.1))
+      ap (λ k. is_some (K k)) (same ∙ sym (ap (λ i. (number_of i)) x.2)) ∙ marked_among K ms stands x.0 (within x.0 x.1))
 
   -- ---- the masks of other rooms say what they said
-  pub stand_same : (K J : Masks) (ms : List (Placed V)) → ((x : Placed V) → IsAmong x ms → J x.room.number ≡ K x.room.number) → MasksStand K ms
+  pub stand_same : (K J : Masks) (ms : List (Placed V)) → ((x : Placed V) → IsAmong x ms → J (number_of x.room) ≡ K (number_of x.room)) → MasksStand K ms
       → MasksStand J ms
   stand_same K J [] same stands = tt
   stand_same K J (x ∷ xs) same stands = (same x (inl refl) ∙ stands.0, stand_same K J xs (λ y among. same y (inr among)) stands.1)
 
   pub ranked_same : (m new : Lodged V) (x : Placed V) → KeepsLeaves m new → IsRanked (leaves_in m) x → IsRanked (leaves_in new) x
-  ranked_same m new x keeps r = record { part = r.part; said = keeps x.room.number ∙ r.said; block = r.block; rank = r.rank }
+  ranked_same m new x keeps r = record { part = r.part; said = keeps (number_of x.room) ∙ r.said; block = r.block; rank = r.rank }
 
   pub are_ranked_same : (m new : Lodged V) (ms : List (Placed V)) → KeepsLeaves m new → AreRanked (leaves_in m) ms → AreRanked (leaves_in new) ms
   are_ranked_same m new [] keeps ranked = tt
   are_ranked_same m new (x ∷ xs) keeps ranked = (ranked_same m new x keeps ranked.0, are_ranked_same m new xs keeps ranked.1)
 
   pub masks_same : (m new : Lodged V) {first other : Option Id} {ms : List (Placed V)} → KeepsLeaves m new
-      → ((y : Placed V) → IsAmong y ms → masks_in new y.room.number ≡ masks_in m y.room.number) → first ≡ other → IsMasks m first ms → IsMasks new other ms
+      → ((y : Placed V) → IsAmong y ms → masks_in new (number_of y.room) ≡ masks_in m (number_of y.room)) → first ≡ other → IsMasks m first ms → IsMasks new other ms
   masks_same m new {ms = ms} keeps same head is = record {
     begins = is.begins ∙ head;
     stands = stand_same (masks_in m) (masks_in new) ms same is.stands;
@@ -109,45 +110,45 @@ module _ {V : Type 0} where
 
   -- ---- the last member of a front has another list behind it
   relinked : (K J : Masks) (front back behind : List (Placed V)) → MasksStand K (front ++ back) → Apart front
-      → ((y : Placed V) → IsAmong y front → J y.room.number ≡ mask_linked (last_mask front) (first_room behind) y.room.number (K y.room.number))
+      → ((y : Placed V) → IsAmong y front → J (number_of y.room) ≡ mask_linked (last_mask front) (first_room behind) (number_of y.room) (K (number_of y.room)))
       → MasksStand J behind → MasksStand J (front ++ behind)
   relinked K J [] back behind stands is said after = after
   relinked K J (x ∷ []) back behind stands is said after = (
-    said x (inl refl) ∙ ap (λ t. if t then Some (record { block = x.room.block; next = first_room behind }) else K x.room.number)
-        (eq-eqb x.room.number x.room.number refl),
+    said x (inl refl) ∙ ap (λ t. if t then Some (record { block = x.room.block; next = first_room behind }) else K (number_of x.room))
+        (eq-eqb (number_of x.room) (number_of x.room) refl),
     after,
   )
   relinked K J (x ∷ y ∷ ys) back behind stands is said after = (
-    said x (inl refl) ∙ aside_linked (y ∷ ys) {before = last_mask (y ∷ ys)} (first_room behind) x.room.number (K x.room.number) refl is.0 ∙ stands.0,
+    said x (inl refl) ∙ aside_linked (y ∷ ys) {before = last_mask (y ∷ ys)} (first_room behind) (number_of x.room) (K (number_of x.room)) refl is.0 ∙ stands.0,
     relinked K J (y ∷ ys) back behind stands.1 is.1 (λ z among. said z (inr among)) after,
   )
 
-  head_stays : (fork : Id) (x : Placed V) (xs : List (Placed V)) (next old : Option Id) → head_linked fork (last_mask (x ∷ xs)) next fork.number old ≡ old
+  head_stays : (fork : Id) (x : Placed V) (xs : List (Placed V)) (next old : Option Id) → head_linked fork (last_mask (x ∷ xs)) next (number_of fork) old ≡ old
   head_stays fork x [] next old = refl
   head_stays fork x (y ∷ ys) next old = head_stays fork y ys next old
 
   head_relinked : (fork : Id) (front back behind : List (Placed V)) {old new : Option Id} → first_room (front ++ back) ≡ old
-      → new ≡ head_linked fork (last_mask front) (first_room behind) fork.number old → first_room (front ++ behind) ≡ new
+      → new ≡ head_linked fork (last_mask front) (first_room behind) (number_of fork) old → first_room (front ++ behind) ≡ new
   head_relinked fork [] back behind {old = old} begins said =
-      sym (said ∙ ap (λ t. if t then first_room behind else old) (eq-eqb fork.number fork.number refl))
+      sym (said ∙ ap (λ t. if t then first_room behind else old) (eq-eqb (number_of fork) (number_of fork) refl))
   head_relinked fork (x ∷ xs) back behind {old = old} begins said = begins ∙ sym (said ∙ head_stays fork x xs (first_room behind) old)
 
   -- a list whose front's last member has another list behind it
   pub linked : (m new : Lodged V) (fork : Id) (front back behind : List (Placed V)) {before : Option Id} (next : Option Id)
-      → IsMasks m (heads_in m fork.number) (front ++ back) → last_mask front ≡ before → first_room behind ≡ next
+      → IsMasks m (heads_in m (number_of fork)) (front ++ back) → last_mask front ≡ before → first_room behind ≡ next
       → KeepsLeaves m new → ((n : ℕ) → heads_in new n ≡ head_linked fork before next n (heads_in m n))
       → ((n : ℕ) → masks_in new n ≡ mask_linked before next n (masks_in m n))
       → MasksStand (masks_in new) behind → Falls 0 34 (front ++ behind) → AreRanked (leaves_in m) behind
-      → IsMasks new (heads_in new fork.number) (front ++ behind)
+      → IsMasks new (heads_in new (number_of fork)) (front ++ behind)
   linked m new fork front back behind next is last first keeps heads masks after falls ranked =
       let all = apart (leaves_in m) 0 34 (front ++ back) is.falls is.ranked in
       record {
         begins = head_relinked fork front back behind is.begins
-            (heads fork.number ∙ ap (λ o. head_linked fork o next fork.number (heads_in m fork.number)) (sym last)
-            ∙ ap (λ o. head_linked fork (last_mask front) o fork.number (heads_in m fork.number)) (sym first));
+            (heads (number_of fork) ∙ ap (λ o. head_linked fork o next (number_of fork) (heads_in m (number_of fork))) (sym last)
+            ∙ ap (λ o. head_linked fork (last_mask front) o (number_of fork) (heads_in m (number_of fork))) (sym first));
         stands = relinked (masks_in m) (masks_in new) front back behind is.stands (apart_front front back all)
-            (λ y among. masks y.room.number ∙ ap (λ o. mask_linked o next y.room.number (masks_in m y.room.number)) (sym last)
-            ∙ ap (λ o. mask_linked (last_mask front) o y.room.number (masks_in m y.room.number)) (sym first)) after;
+            (λ y among. masks (number_of y.room) ∙ ap (λ o. mask_linked o next (number_of y.room) (masks_in m (number_of y.room))) (sym last)
+            ∙ ap (λ o. mask_linked (last_mask front) o (number_of y.room) (masks_in m (number_of y.room))) (sym first)) after;
         falls = falls;
         ranked = among_ranked (leaves_in new) (front ++ behind) (λ y among. ranked_same m new y keeps (elim (among_appended front behind y among) [
           | inl one ↦ ranked_among (leaves_in m) (front ++ back) is.ranked y (in_front front back y one)
@@ -163,9 +164,9 @@ module _ {V : Type 0} where
   pub back_stays : (m new : Lodged V) (front back : List (Placed V)) {before : Option Id} (next : Option Id) → Falls 0 34 (front ++ back)
       → AreRanked (leaves_in m) (front ++ back) → last_mask front ≡ before
       → ((n : ℕ) → masks_in new n ≡ mask_linked before next n (masks_in m n)) → (y : Placed V) → IsAmong y back
-      → masks_in new y.room.number ≡ masks_in m y.room.number
+      → masks_in new (number_of y.room) ≡ masks_in m (number_of y.room)
   back_stays m new front back next falls ranked last masks y among =
-      masks y.room.number ∙ aside_linked front next y.room.number (masks_in m y.room.number) last
+      masks (number_of y.room) ∙ aside_linked front next (number_of y.room) (masks_in m (number_of y.room)) last
       (λ z one same. apart_across front back (apart (leaves_in m) 0 34 (front ++ back) falls ranked) z y one among (sym same))
 
   pub list_of : {m : Lodged V} {head first : Option Id} {ms : List (Placed V)} → first ≡ head → IsMasks m head ms → IsMasks m first ms

@@ -5,6 +5,7 @@ use Rattle.radix_tree.proofs.Words.{◌≡◌, ℕ, ◌+◌, ◌<◌, ◌≤◌,
 use Rattle.radix_tree.proofs.Words.{◌∙◌, subst, inl, inr, arith, cases_eq, Id, Placed, IsAmong, IsIn, Leaves, Masks, Part, leaves_in, bits_in, masks_in}
 use Rattle.radix_tree.proofs.Words.{leaf_part, MasksStand, Falls, IsMarked, IsMaskList, IsMasks, IsRanked, AreRanked, IsNoRank, not_below, below}
 use Rattle.radix_tree.proofs.Words.{sorted_in, taken_out, Lodged}
+use Rattle.radix_nodes.specs.Naming.{number_of}
 
 pub short_or_long : (rank low : ℕ) → (rank < low) ⊎ (low ≤ rank)
 short_or_long rank low = elim (nat_lt rank low) as (λ t. nat_lt rank low ≡ t → (rank < low) ⊎ (low ≤ rank)) [
@@ -208,7 +209,7 @@ module _ {V : Type 0} where
   among_ranked L (x ∷ xs) all = (all x (inl refl), among_ranked L xs (λ y among. all y (inr among)))
 
   -- routes in one room are of one rank
-  pub one_rank : {L : Leaves V} {x y : Placed V} → IsRanked L x → IsRanked L y → x.room.number ≡ y.room.number → x.entry.rank ≡ y.entry.rank
+  pub one_rank : {L : Leaves V} {x y : Placed V} → IsRanked L x → IsRanked L y → (number_of x.room) ≡ (number_of y.room) → x.entry.rank ≡ y.entry.rank
   one_rank {L = L} one other same = sym one.rank ∙ ap (λ p. p.leaf.rank) (inside (sym one.said ∙ ap L same ∙ other.said)) ∙ other.rank
 
   pub ranked_in : (m : Lodged V) (p : Part m) (x : Placed V) → IsIn x p.tree → IsRanked (leaves_in m) x

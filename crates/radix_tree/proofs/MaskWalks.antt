@@ -4,6 +4,7 @@ use Rattle.radix_tree.proofs.{RoomReads.none_some, RoomReads.Has-leaf, RoomReads
 use Rattle.radix_tree.proofs.Words.{◌≡◌, ℕ, ◌+◌, ◌≤◌, ◌<◌, List, [], ◌∷◌, Option, Some, None, refl, sym, ap, ◌∙◌, subst, arith, Counter, Has, Id, Leaf}
 use Rattle.radix_tree.proofs.Words.{MaskNode, IsMasks, IsRanked, AreRanked, last_from, last_mask, not_below, below, ReadsOnce, LeafPart, MaskPart}
 use Rattle.radix_tree.proofs.Words.{leaves_in, masks_in, mask_part, first_room, MasksStand, Falls, Placed, Lodged}
+use Rattle.radix_nodes.specs.Naming.{number_of}
 
 module _ {V : Type 0} where
   -- ---- the room of a mask's route
@@ -11,22 +12,22 @@ module _ {V : Type 0} where
   Has-ranked m {x = x} r room_is = subst (Has m) room_is (Has-leaf m x.room r.said r.block)
 
   pub rank_told : (m : Lodged V) {x : Placed V} {room : Id} (l : Leaf) → IsRanked (leaves_in m) x → x.room ≡ room
-      → ((p : LeafPart V) → leaves_in m room.number ≡ Some p → l ≡ p.leaf) → l.rank ≡ x.entry.rank
-  rank_told m l r room_is told = ap (λ z. z.rank) (told r.part (ap (λ i. leaves_in m i.number) (sym room_is) ∙ r.said)) ∙ r.rank
+      → ((p : LeafPart V) → leaves_in m (number_of room) ≡ Some p → l ≡ p.leaf) → l.rank ≡ x.entry.rank
+  rank_told m l r room_is told = ap (λ z. z.rank) (told r.part (ap (λ i. leaves_in m (number_of i)) (sym room_is) ∙ r.said)) ∙ r.rank
 
   abbrev part_of : (room : Id) (ms : List (Placed V)) → MaskPart
   part_of room ms = record { block = room.block; next = first_room ms }
 
   -- it is a mask node, and names the next one
   abbrev pub listed_as : (m : Lodged V) (x : Placed V) (xs : List (Placed V)) {room : Id} → MasksStand (masks_in m) (x ∷ xs) → x.room ≡ room
-      → (p : MaskPart) × (masks_in m room.number ≡ Some p) × (p.block ≡ room.block)
-  listed_as m x xs {room = room} stands room_is = (part_of room xs, subst (λ i. masks_in m i.number ≡ Some (part_of i xs)) room_is stands.0, refl)
+      → (p : MaskPart) × (masks_in m (number_of room) ≡ Some p) × (p.block ≡ room.block)
+  listed_as m x xs {room = room} stands room_is = (part_of room xs, subst (λ i. masks_in m (number_of i) ≡ Some (part_of i xs)) room_is stands.0, refl)
 
-  pub Has-listed : {m : Lodged V} {room : Id} → (p : MaskPart) × (masks_in m room.number ≡ Some p) × (p.block ≡ room.block) → Has m room
+  pub Has-listed : {m : Lodged V} {room : Id} → (p : MaskPart) × (masks_in m (number_of room) ≡ Some p) × (p.block ≡ room.block) → Has m room
   Has-listed {m} {room} l = Has-mask m room l.1 l.2
 
   pub next_told : (m : Lodged V) (x : Placed V) (xs : List (Placed V)) {room : Id} (n : MaskNode) → MasksStand (masks_in m) (x ∷ xs) → x.room ≡ room
-      → masks_in m room.number ≡ mask_part room.block (Some n) → first_room xs ≡ n.next
+      → masks_in m (number_of room) ≡ mask_part room.block (Some n) → first_room xs ≡ n.next
   next_told m x xs n stands room_is said = ap (λ p. p.next) (inside (sym (listed_as m x xs stands room_is).1 ∙ said))
 
   ended_at : (low : ℕ) (ms rest : List (Placed V)) (before : Option Id) → first_room rest ≡ None
@@ -68,11 +69,11 @@ module _ {V : Type 0} where
     pub route : Placed V
     pub room_is : route.room ≡ room
     pub ranked : IsRanked (leaves_in m) route
-    pub listed : (p : MaskPart) × (masks_in m room.number ≡ Some p) × (p.block ≡ room.block)
+    pub listed : (p : MaskPart) × (masks_in m (number_of room) ≡ Some p) × (p.block ≡ room.block)
     pub soon : now.count ≤ start.count + 33
     -- a shorter one, or one to be passed
     pub stopped : route.entry.rank < low → (last_mask (not_below low ms) ≡ before) × (first_room (below low ms) ≡ Some room)
-    pub passed : (n : MaskNode) (later : Counter) → masks_in m room.number ≡ mask_part room.block (Some n) → low ≤ route.entry.rank → ReadsOnce now later
+    pub passed : (n : MaskNode) (later : Counter) → masks_in m (number_of room) ≡ mask_part room.block (Some n) → low ≤ route.entry.rank → ReadsOnce now later
         → Passing m low ms (Some room) n.next start later
 
   pub next_of : {m : Lodged V} {low : ℕ} {ms : List (Placed V)} {before at : Option Id} {room : Id} {start now : Counter}

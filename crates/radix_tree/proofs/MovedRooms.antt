@@ -11,6 +11,7 @@ use Rattle.radix_tree.proofs.MovedReads.{one_if_is, one_if_not, at_room, rename_
 use Rattle.radix_tree.proofs.MovedReads.{leaf_off, bit_off, content_used}
 use Rattle.radix_tree.proofs.MoveWrites.{bit_said, IsMove, IsMoved, at_once, at_forks, at_leaves, from_in, not_from, out_not_from, not_to, beneath_whole}
 use Rattle.radix_tree.proofs.MoveWrites.{apart, not_spine, to_not_spine, contents_stay, used_stays, used_to, used_from, bit_lifts, head_stays}
+use Rattle.radix_nodes.specs.Naming.{number_of}
 
 module _ {V : Type 0} where
   -- ---- the part with the bit node in the other room
@@ -51,12 +52,12 @@ module _ {V : Type 0} where
               let most = once.forks k in omega arith;
         }) (fork_stands v.f).2
 
-    pub here_said : bits_in new to.number ≡ Some
+    pub here_said : bits_in new (number_of to) ≡ Some
         (record { block = to.block; bit = v.f.bit; zero = name_of v.f.zero; one = name_of v.f.one; above = v.at.above })
-    here_said = d.bits to.number ∙ rename_misses n.above from to to.number (put_bit to (Some n) to.number
-        (put_bit from None to.number (lift_bit n.one (Some to) to.number (lift_bit n.zero (Some to) to.number (bits_in m to.number)))))
-        (to_not_spine v) ∙ at_room to to.number (bit_part to.block (Some n)) (put_bit from None to.number
-        (lift_bit n.one (Some to) to.number (lift_bit n.zero (Some to) to.number (bits_in m to.number)))) refl ∙ bit_said to n v.bit v.left v.right v.above
+    here_said = d.bits (number_of to) ∙ rename_misses n.above from to (number_of to) (put_bit to (Some n) (number_of to)
+        (put_bit from None (number_of to) (lift_bit n.one (Some to) (number_of to) (lift_bit n.zero (Some to) (number_of to) (bits_in m (number_of to))))))
+        (to_not_spine v) ∙ at_room to (number_of to) (bit_part to.block (Some n)) (put_bit from None (number_of to)
+        (lift_bit n.one (Some to) (number_of to) (lift_bit n.zero (Some to) (number_of to) (bits_in m (number_of to))))) refl ∙ bit_said to n v.bit v.left v.right v.above
 
     abbrev pub under_of : Part new
     under_of = record {
@@ -69,8 +70,8 @@ module _ {V : Type 0} where
 
   -- ---- the bit node above
   module _ {m : Lodged V} {key : ℕ} {under over : Part m} (b : Beneath key under over) where
-    zero_named : (from to room : Id) → name_of under.tree ≡ BitOf room → room.number ≡ from.number → under.tree ≡ b.at.zero → bit_at b.at.bit key ≡ 0
-        → forks_at from.number b.at.one ≡ 0 → with_renamed from to (Some (bit_part_of b.at)) ≡ with_child key (BitOf to) (Some (bit_part_of b.at))
+    zero_named : (from to room : Id) → name_of under.tree ≡ BitOf room → (number_of room) ≡ (number_of from) → under.tree ≡ b.at.zero → bit_at b.at.bit key ≡ 0
+        → forks_at (number_of from) b.at.one ≡ 0 → with_renamed from to (Some (bit_part_of b.at)) ≡ with_child key (BitOf to) (Some (bit_part_of b.at))
     zero_named from to room named same tree clear none =
         let p = bit_part_of b.at in
         let here = ap (renamed from to) (sym (ap name_of tree) ∙ named) ∙ renamed_to from to room same in
@@ -78,8 +79,8 @@ module _ {V : Type 0} where
         ap (λ z. Some (record (bit_part_of b.at) { zero = z; one = renamed from to (name_of b.at.one) })) here
         ∙ ap (λ z. Some (record (bit_part_of b.at) { zero = BitOf to; one = z })) there ∙ sym (zero_turned key (BitOf to) (bit_part_of b.at) clear)
 
-    one_named : (from to room : Id) → name_of under.tree ≡ BitOf room → room.number ≡ from.number → under.tree ≡ b.at.one → bit_at b.at.bit key ≡ 1
-        → forks_at from.number b.at.zero ≡ 0 → with_renamed from to (Some (bit_part_of b.at)) ≡ with_child key (BitOf to) (Some (bit_part_of b.at))
+    one_named : (from to room : Id) → name_of under.tree ≡ BitOf room → (number_of room) ≡ (number_of from) → under.tree ≡ b.at.one → bit_at b.at.bit key ≡ 1
+        → forks_at (number_of from) b.at.zero ≡ 0 → with_renamed from to (Some (bit_part_of b.at)) ≡ with_child key (BitOf to) (Some (bit_part_of b.at))
     one_named from to room named same tree set none =
         let here = ap (renamed from to) (sym (ap name_of tree) ∙ named) ∙ renamed_to from to room same in
         let there = renamed_off from to b.at.zero none in
@@ -87,30 +88,30 @@ module _ {V : Type 0} where
         ∙ ap (λ z. Some (record (bit_part_of b.at) { zero = z; one = BitOf to })) there ∙ sym (one_turned key (BitOf to) (bit_part_of b.at) set)
 
     -- to name the room by its number is to turn the bit node above on the side of the way
-    over_named : (from to room : Id) → AreOnce over.tree → 1 ≤ forks_at from.number under.tree → name_of under.tree ≡ BitOf room → room.number ≡ from.number
-        → with_renamed from to (bits_in m b.room.number) ≡ with_child key (BitOf to) (bits_in m b.room.number)
+    over_named : (from to room : Id) → AreOnce over.tree → 1 ≤ forks_at (number_of from) under.tree → name_of under.tree ≡ BitOf room → (number_of room) ≡ (number_of from)
+        → with_renamed from to (bits_in m (number_of b.room)) ≡ with_child key (BitOf to) (bits_in m (number_of b.room))
     over_named from to room once some named same =
         let said = (fork_stands b.at).0 in
-        let sum = ap (forks_at from.number) b.at.is in
-        let most = once.forks from.number in
+        let sum = ap (forks_at (number_of from)) b.at.is in
+        let most = once.forks (number_of from) in
         ap (with_renamed from to) said ∙ elim b.side [
-          | inl e ↦ let is = ap (forks_at from.number) e.0 in
+          | inl e ↦ let is = ap (forks_at (number_of from)) e.0 in
               zero_named from to room named same e.0 e.1 (omega arith)
-          | inr e ↦ let is = ap (forks_at from.number) e.0 in
+          | inr e ↦ let is = ap (forks_at (number_of from)) e.0 in
               one_named from to room named same e.0 e.1 (omega arith)
         ] ∙ sym (ap (with_child key (BitOf to)) said)
 
   spine_named : (m : Lodged V) (from to room : Id) (key : ℕ) (whole at : Part m) (ups : List (Part m)) → Way key whole at ups → whole.above ≡ None
-      → AreOnce whole.tree → 1 ≤ forks_at from.number at.tree → name_of at.tree ≡ BitOf room → room.number ≡ from.number
+      → AreOnce whole.tree → 1 ≤ forks_at (number_of from) at.tree → name_of at.tree ≡ BitOf room → (number_of room) ≡ (number_of from)
       → (k : ℕ) → rename at.above from to k (bits_in m k) ≡ name_child at.above key (BitOf to) k (bits_in m k)
   spine_named m from to room key whole at [] way top once some named same k =
       let none = ap (λ p. p.above) way ∙ top in
       ap (λ o. rename o from to k (bits_in m k)) none ∙ sym (ap (λ o. name_child o key (BitOf to) k (bits_in m k)) none)
   spine_named m from to room key whole at (p ∷ ps) way top once some named same k =
       let b = way.0 in
-      ap (λ o. rename o from to k (bits_in m k)) b.above ∙ elim (k == b.room.number) as (λ t. (k == b.room.number) ≡ t
+      ap (λ o. rename o from to k (bits_in m k)) b.above ∙ elim (k == (number_of b.room)) as (λ t. (k == (number_of b.room)) ≡ t
       → (if t then with_renamed from to (bits_in m k) else bits_in m k) ≡ (if t then with_child key (BitOf to) (bits_in m k) else bits_in m k)) [
-        | true ↦ λ e. subst (λ j. with_renamed from to (bits_in m j) ≡ with_child key (BitOf to) (bits_in m j)) (sym (eqb-true k b.room.number e))
+        | true ↦ λ e. subst (λ j. with_renamed from to (bits_in m j) ≡ with_child key (BitOf to) (bits_in m j)) (sym (eqb-true k (number_of b.room) e))
             (over_named b from to room (way_once key whole p ps way.1 once) some named same)
         | false ↦ λ e. refl
       ] refl ∙ sym (ap (λ o. name_child o key (BitOf to) k (bits_in m k)) b.above)
@@ -138,39 +139,39 @@ module _ {V : Type 0} where
     lists_moved =
         let old = subst (MarkedLists (heads_in m) (masks_in m) v.at.low) v.f.is
         (way_lists (IsMarked (masks_in m)) v.key v.whole.part v.at v.ups v.way v.whole.lists) in
-        let head = d.heads to.number ∙ at_room to to.number (head_part (Some n)) (put_head from None to.number (heads_in m to.number)) refl ∙ sym v.head
+        let head = d.heads (number_of to) ∙ at_room to (number_of to) (head_part (Some n)) (put_head from None (number_of to) (heads_in m (number_of to))) refl ∙ sym v.head
         ∙ ap (heads_in m) (sym v.number) in
         let stays : (k : ℕ) → 1 ≤ forks_at k v.f.zero + forks_at k v.f.one → heads_in new k ≡ heads_in m k = λ k some. let le = beneath_whole v k in
         head_stays d k (not_from v k some) (not_to v k (omega arith)) in (
           mask_list_same (masks_in m) (masks_in new) v.at.low v.f.bit (MarkedIn (masks_in new) (fork to v.f.bit v.f.zero v.f.one)) head
-              (λ x is below. ((is.0, marked_same (masks_in m) (masks_in new) x (d.masks x.room.number) is.1), d.masks x.room.number))
-              (λ x is below. (is.0, marked_same (masks_in new) (masks_in m) x (sym (d.masks x.room.number)) is.1)) old.0,
+              (λ x is below. ((is.0, marked_same (masks_in m) (masks_in new) x (d.masks (number_of x.room)) is.1), d.masks (number_of x.room)))
+              (λ x is below. (is.0, marked_same (masks_in new) (masks_in m) x (sym (d.masks (number_of x.room))) is.1)) old.0,
           lists_same (heads_in m) (heads_in new) (masks_in m) (masks_in new) (v.f.bit + 1) v.f.zero (λ k some. stays k (omega arith))
-              (λ y at. d.masks y.room.number) old.1,
+              (λ y at. d.masks (number_of y.room)) old.1,
           lists_same (heads_in m) (heads_in new) (masks_in m) (masks_in new) (v.f.bit + 1) v.f.one (λ k some. stays k (omega arith))
-              (λ y at. d.masks y.room.number) old.2,
+              (λ y at. d.masks (number_of y.room)) old.2,
         )
 
     -- what each number has in use
-    count_moved : (k : ℕ) → one_if (to.number == k) + one_if (is_some (bits_in m k)) ≡ one_if (v.room.number == k) + one_if (is_some (bits_in new k))
+    count_moved : (k : ℕ) → one_if ((number_of to) == k) + one_if (is_some (bits_in m k)) ≡ one_if ((number_of v.room) == k) + one_if (is_some (bits_in new k))
     count_moved k =
         let other = apart v in
-        elim (cases_eq to.number k) [
+        elim (cases_eq (number_of to) k) [
           | inl same ↦ let a = one_if_is k same in
               let b = ap (λ o. one_if (is_some o)) (ap (bits_in m) (sym same) ∙ v.takes.free) in
-              let c = one_if_not v.room.number k (λ (e : v.room.number ≡ k). other (sym v.number ∙ e ∙ sym same)) in
+              let c = one_if_not (number_of v.room) k (λ (e : (number_of v.room) ≡ k). other (sym v.number ∙ e ∙ sym same)) in
               let e = ap one_if (used_to d k (sym same)) in omega arith
-          | inr off ↦ let a = one_if_not to.number k off in
-              elim (cases_eq v.room.number k) [
+          | inr off ↦ let a = one_if_not (number_of to) k off in
+              elim (cases_eq (number_of v.room) k) [
                 | inl same ↦ let b = ap (λ o. one_if (is_some o)) (ap (bits_in m) (sym same) ∙ (fork_stands v.f).0) in
                     let c = one_if_is k same in
                     let e = ap one_if (used_from d other k (sym same ∙ v.number)) in omega arith
-                | inr far ↦ let c = one_if_not v.room.number k far in
-                    let e = ap one_if (used_stays d k (λ (s : k ≡ from.number). far (v.number ∙ sym s)) (λ (s : k ≡ to.number). off (sym s))) in omega arith
+                | inr far ↦ let c = one_if_not (number_of v.room) k far in
+                    let e = ap one_if (used_stays d k (λ (s : k ≡ (number_of from)). far (v.number ∙ sym s)) (λ (s : k ≡ (number_of to)). off (sym s))) in omega arith
               ]
         ]
 
-    pub fits : Fits m new v.whole.part v.at (under_of v d) nobody_late nobody_late (out_at from.number) (out_at from.number)
+    pub fits : Fits m new v.whole.part v.at (under_of v d) nobody_late nobody_late (out_at (number_of from)) (out_at (number_of from))
     fits = record {
       leaves = λ k.
           let sum = at_leaves v k in
@@ -180,16 +181,16 @@ module _ {V : Type 0} where
           let used = count_moved k in omega arith;
       heads = λ k none some. head_stays d k (out_not_from v k none) (not_to v k some);
       masks = λ k none some. d.masks k;
-      masks_above = λ y is below marked. d.masks y.room.number;
+      masks_above = λ y is below marked. d.masks (number_of y.room);
       marks = λ k p is. (p, sym (d.masks k) ∙ is);
       kept = λ y is marked. (subst (IsIn y) v.f.is is, λ home. inr (subst (HasHome y.entry.key y.entry.rank) v.f.is home));
       came = λ y is marked. subst (IsIn y) (sym v.f.is) is;
-      gone = λ y is below marked. marked_same (masks_in m) (masks_in new) y (d.masks y.room.number) marked;
+      gone = λ y is below marked. marked_same (masks_in m) (masks_in new) y (d.masks (number_of y.room)) marked;
       lists = lists_moved;
       all = λ y is home. inr (
         subst (IsIn y) (sym v.f.is) is,
         elim home [ inl below ↦ inl below | inr here ↦ inr (subst (HasHome y.entry.key y.entry.rank) (sym v.f.is) here) ],
-        λ marked. marked_same (masks_in m) (masks_in new) y (d.masks y.room.number) marked,
+        λ marked. marked_same (masks_in m) (masks_in new) y (d.masks (number_of y.room)) marked,
         λ late. late,
       );
       late_aside = λ k none some late. late;

@@ -3,6 +3,7 @@ use Rattle.radix_tree.proofs.Words.{◌≡◌, ℕ, ◌+◌, ◌≤◌, true, Li
 use Rattle.radix_tree.proofs.Words.{Placed, Tree, leaf, fork, IsChain, IsTree, LeafPart, Bits, leaves_in, bits_in, ChainStands, Stands, members_at}
 use Rattle.radix_tree.proofs.Words.{leaves_at, AreIdle, HasOneFork, HaveOneFork, is_of_key, has_key, CanTake, Lodged, cases_eq}
 use Rattle.radix_tree.proofs.MovedReads.{none_or_some, one_if_is, one_if_not}
+use Rattle.radix_nodes.specs.Naming.{number_of}
 
 module _ {V : Type 0} where
   -- ---- one chain
@@ -10,43 +11,43 @@ module _ {V : Type 0} where
   chain_idle_stays : (B C : Bits) (c : List (Placed V)) → ((n : ℕ) → 1 ≤ members_at n c → B n ≡ None → C n ≡ None) → AreIdle B c → AreIdle C c
   chain_idle_stays B C [] none idle = tt
   chain_idle_stays B C (x ∷ xs) none idle =
-      let here = one_if_is {a = x.room.number} x.room.number refl in
-      (none x.room.number (omega arith) idle.0, chain_idle_stays B C xs (λ n some. none n (omega arith)) idle.1)
+      let here = one_if_is {a = (number_of x.room)} (number_of x.room) refl in
+      (none (number_of x.room) (omega arith) idle.0, chain_idle_stays B C xs (λ n some. none n (omega arith)) idle.1)
 
   pub chain_stays : (B C : Bits) (c : List (Placed V)) → ((n : ℕ) → 1 ≤ members_at n c → B n ≡ None → C n ≡ None) → HasOneFork B c → HasOneFork C c
   chain_stays B C [] none spare = tt
   chain_stays B C (x ∷ xs) none spare =
-      let here = one_if_is {a = x.room.number} x.room.number refl in
+      let here = one_if_is {a = (number_of x.room)} (number_of x.room) refl in
       elim spare [
         | inl idle ↦ inl (chain_idle_stays B C xs (λ n some. none n (omega arith)) idle)
-        | inr rest ↦ inr (none x.room.number (omega arith) rest.0, chain_stays B C xs (λ n some. none n (omega arith)) rest.1)
+        | inr rest ↦ inr (none (number_of x.room) (omega arith) rest.0, chain_stays B C xs (λ n some. none n (omega arith)) rest.1)
       ]
 
   -- where all are idle but for one room's
   all_idle : (C : Bits) (c : List (Placed V)) → ((n : ℕ) → 1 ≤ members_at n c → C n ≡ None) → AreIdle C c
   all_idle C [] none = tt
   all_idle C (x ∷ xs) none =
-      let here = one_if_is {a = x.room.number} x.room.number refl in
-      (none x.room.number (omega arith), all_idle C xs (λ n some. none n (omega arith)))
+      let here = one_if_is {a = (number_of x.room)} (number_of x.room) refl in
+      (none (number_of x.room) (omega arith), all_idle C xs (λ n some. none n (omega arith)))
 
   one_at : (C : Bits) (to : ℕ) (c : List (Placed V)) → members_at to c ≤ 1 → ((n : ℕ) → 1 ≤ members_at n c → (n ≡ to → ⊥) → C n ≡ None) → HasOneFork C c
   one_at C to [] most none = tt
   one_at C to (x ∷ xs) most none =
-      let here = one_if_is {a = x.room.number} x.room.number refl in
-      elim (cases_eq x.room.number to) [
+      let here = one_if_is {a = (number_of x.room)} (number_of x.room) refl in
+      elim (cases_eq (number_of x.room) to) [
         | inl same ↦ let own = one_if_is to same in
             inl (all_idle C xs (λ n some. none n (omega arith) (λ (e : n ≡ to). let is = ap (λ k. members_at k xs) e in
             omega arith)))
-        | inr other ↦ inr (none x.room.number (omega arith) other, one_at C to xs (omega arith) (λ n some. none n (omega arith)))
+        | inr other ↦ inr (none (number_of x.room) (omega arith) other, one_at C to xs (omega arith) (λ n some. none n (omega arith)))
       ]
 
   -- ---- the rooms of a chain have its key
   pub chain_keyed : (m : Lodged V) (above previous : Option Id) (key top : ℕ) (c : List (Placed V)) → ChainStands (leaves_in m) above previous c
       → IsChain key top c → (n : ℕ) → 1 ≤ members_at n c → has_key m key n ≡ true
   chain_keyed m above previous key top [] stands is n some = absurd (omega arith)
-  chain_keyed m above previous key top (x ∷ xs) stands is n some = elim (cases_eq x.room.number n) [
+  chain_keyed m above previous key top (x ∷ xs) stands is n some = elim (cases_eq (number_of x.room) n) [
     | inl same ↦ ap (has_key m key) (sym same) ∙ ap (is_of_key key) stands.0 ∙ eq-eqb x.entry.key key is.1
-    | inr other ↦ let off = one_if_not x.room.number n other in
+    | inr other ↦ let off = one_if_not (number_of x.room) n other in
         chain_keyed m None (Some x.room) key x.entry.rank xs stands.1 is.3 n (omega arith)
   ]
 
@@ -62,15 +63,15 @@ module _ {V : Type 0} where
 
   -- ---- the tree
   pub moved_spare : (m : Lodged V) (C : Bits) {from : Id} (to : Id) (above : Option Id) (low : ℕ) (t : Tree V) → IsTree low t
-      → Stands (leaves_in m) (bits_in m) above t → leaves_at to.number t ≤ 1
-      → ((n : ℕ) → 1 ≤ leaves_at n t → (n ≡ to.number → ⊥) → bits_in m n ≡ None → C n ≡ None) → ((n : ℕ) → 1 ≤ leaves_at n t → n ≡ from.number → ⊥)
+      → Stands (leaves_in m) (bits_in m) above t → leaves_at (number_of to) t ≤ 1
+      → ((n : ℕ) → 1 ≤ leaves_at n t → (n ≡ (number_of to) → ⊥) → bits_in m n ≡ None → C n ≡ None) → ((n : ℕ) → 1 ≤ leaves_at n t → n ≡ (number_of from) → ⊥)
       → CanTake m from to → HaveOneFork (bits_in m) t → HaveOneFork C t
-  moved_spare m C to above low (leaf x xs) is stands once none off takes spare = elim (none_or_some (members_at to.number (x ∷ xs))) [
+  moved_spare m C to above low (leaf x xs) is stands once none off takes spare = elim (none_or_some (members_at (number_of to) (x ∷ xs))) [
     | inl out ↦ chain_stays (bits_in m) C (x ∷ xs)
-        (λ n some. none n some (λ (e : n ≡ to.number). let same = ap (λ k. members_at k (x ∷ xs)) e in omega arith)) spare
+        (λ n some. none n some (λ (e : n ≡ (number_of to)). let same = ap (λ k. members_at k (x ∷ xs)) e in omega arith)) spare
     | inr there ↦ let keyed = chain_keyed m above None x.entry.key 34 (x ∷ xs) stands is.1 in
-        let p = of_key x.entry.key (leaves_in m to.number) (keyed to.number there) in
-        one_at C to.number (x ∷ xs) once
+        let p = of_key x.entry.key (leaves_in m (number_of to)) (keyed (number_of to) there) in
+        one_at C (number_of to) (x ∷ xs) once
         (λ n some other. none n some other (takes.idle p.part p.is n (ap (λ k. has_key m k n) p.key_is ∙ keyed n some) (off n some)))
   ]
   moved_spare m C to above low (fork room b zero one) is stands once none off takes spare = (

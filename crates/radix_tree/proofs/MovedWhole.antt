@@ -7,6 +7,7 @@ use Rattle.radix_tree.proofs.Words.{leaves_in, bits_in, name_of, leaves_at, Have
 use Rattle.radix_tree.proofs.Words.{Lodged}
 use Rattle.radix_tree.proofs.{Facts.one_if_most}
 use Rattle.radix_tree.proofs.{Facts.none_of}
+use Rattle.radix_nodes.specs.Naming.{number_of}
 
 module _ {V : Type 0} where
   module _ {m : Lodged V} {root : Node} (from : ℕ) (w : IsWholeBut m root nobody_late (out_at from)) where
@@ -32,9 +33,9 @@ module _ {V : Type 0} where
     spare_before : (new : Lodged V) → IsMoved m new from to n → HaveOneFork (bits_in new) v.whole.part.tree
     spare_before new d =
         let w = v.whole in
-        moved_spare m (bits_in new) to w.part.above w.part.low w.part.tree w.part.is w.part.stands (leaves_once from.number w to.number)
-        (λ k some other none. none_of (bits_in new k) (used_stays d k (out_apart from.number w k some) other
-        ∙ ap is_some none)) (out_apart from.number w) v.takes w.spare
+        moved_spare m (bits_in new) to w.part.above w.part.low w.part.tree w.part.is w.part.stands (leaves_once (number_of from) w (number_of to))
+        (λ k some other none. none_of (bits_in new k) (used_stays d k (out_apart (number_of from) w k some) other
+        ∙ ap is_some none)) (out_apart (number_of from) w) v.takes w.spare
 
     abbrev name_now : Node
     name_now = root_after v.at.above (BitOf to) (name_of v.whole.part.tree)
@@ -54,10 +55,10 @@ module _ {V : Type 0} where
     named_now = ap (λ o. root_after o (BitOf to) (name_of v.whole.part.tree)) (sym v.above) ∙ ap (root_after n.above (BitOf to)) v.whole.named
 
     pub whole_moved : {new : Lodged V} {name : Node} (d : IsMoved m new from to n) → name ≡ root_after n.above (BitOf to) root
-        → IsWholeBut new name nobody_late (out_at from.number)
+        → IsWholeBut new name nobody_late (out_at (number_of from))
     whole_moved {new = new} d is =
         let e = changed new d in
-        subst (λ z. IsWholeBut new z nobody_late (out_at from.number)) (named_now ∙ sym is) (whole_changed v.whole e (fits v d) (spare_now new d e))
+        subst (λ z. IsWholeBut new z nobody_late (out_at (number_of from))) (named_now ∙ sym is) (whole_changed v.whole e (fits v d) (spare_now new d e))
 
     pub routes_moved : {new : Lodged V} {name : Node} (d : IsMoved m new from to n) → name ≡ root_after n.above (BitOf to) root
         → shown new (Some name) ≡ shown m (Some root)

@@ -3,6 +3,7 @@ use Rattle.radix_tree.proofs.{AddressBits.zero_not_one, Parts.fork_stands}
 use Rattle.radix_tree.proofs.Words.{◌≡◌, ℕ, ◌+◌, ◌≤◌, ◌==◌, if◌then◌else◌, List, [], ◌∷◌, Option, Some, None, refl, sym, ap, ◌∙◌, arith, inl, inr, eq-eqb}
 use Rattle.radix_tree.proofs.Words.{ne_eqb, Id, Node, Placed, Tree, leaf, fork, bit_at, BitPart, Leaves, Bits, Part, leaves_in, bits_in, name_of}
 use Rattle.radix_tree.proofs.Words.{ChainStands, Stands, ForkAt, Beneath, Way, one_if, members_at, leaves_at, forks_at, with_child, AreOnce, Lodged}
+use Rattle.radix_nodes.specs.Naming.{number_of}
 
 pub one_if_same : (n : ℕ) → one_if (n == n) ≡ 1
 one_if_same n = ap one_if (eq-eqb n n refl)
@@ -20,7 +21,7 @@ pub one_turned : (address : ℕ) (name : Node) (p : BitPart) → bit_at p.bit ad
 one_turned address name p set = ap (λ t. Some (if t then record p { one = name } else record p { zero = name })) (eq-eqb (bit_at p.bit address) 1 set)
 
 -- no other bit node of the tree is in its room
-pub elsewhere : (room : Id) (n many : ℕ) → 1 ≤ many → one_if (room.number == n) + many ≤ 1 → n ≡ room.number → ⊥
+pub elsewhere : (room : Id) (n many : ℕ) → 1 ≤ many → one_if ((number_of room) == n) + many ≤ 1 → n ≡ (number_of room) → ⊥
 elsewhere room n many some few same =
     let one = ap (λ k. one_if (k == n)) (sym same) ∙ one_if_same n in omega arith
 
@@ -30,7 +31,7 @@ module _ {V : Type 0} where
       → ChainStands L above previous c → ChainStands M above previous c
   chain_frame L M above previous [] same stands = tt
   chain_frame L M above previous (x ∷ c) same stands = (
-    same x.room.number (let one = one_if_same x.room.number in omega arith) ∙ stands.0,
+    same (number_of x.room) (let one = one_if_same (number_of x.room) in omega arith) ∙ stands.0,
     chain_frame L M None (Some x.room) c (λ n some. same n (omega arith)) stands.1,
   )
 
@@ -38,7 +39,7 @@ module _ {V : Type 0} where
       → ((n : ℕ) → 1 ≤ forks_at n t → C n ≡ B n) → Stands L B above t → Stands M C above t
   frame L M B C above (leaf x xs) leaves forks stands = chain_frame L M above None (x ∷ xs) leaves stands
   frame L M B C above (fork room b zero one) leaves forks stands = (
-    forks room.number (let one = one_if_same room.number in omega arith) ∙ stands.0,
+    forks (number_of room) (let one = one_if_same (number_of room) in omega arith) ∙ stands.0,
     frame L M B C (Some room) zero (λ n some. leaves n (omega arith)) (λ n some. forks n (omega arith)) stands.1,
     frame L M B C (Some room) one (λ n some. leaves n (omega arith)) (λ n some. forks n (omega arith)) stands.2,
   )
@@ -50,7 +51,7 @@ module _ {V : Type 0} where
 
   -- how often a room is in a bit node's tree
   pub fork_forks : {m : Lodged V} {over : Part m} {room : Id} (f : ForkAt over room) (n : ℕ)
-      → forks_at n over.tree ≡ one_if (room.number == n) + (forks_at n f.zero + forks_at n f.one)
+      → forks_at n over.tree ≡ one_if ((number_of room) == n) + (forks_at n f.zero + forks_at n f.one)
   fork_forks f n = ap (forks_at n) f.is
 
   pub fork_leaves : {m : Lodged V} {over : Part m} {room : Id} (f : ForkAt over room) (n : ℕ)
@@ -59,7 +60,7 @@ module _ {V : Type 0} where
 
   -- to name it as before changes nothing
   pub same_turned : {m : Lodged V} (address : ℕ) {under : Part m} (over : Part m) (name : Node) (b : Beneath address under over) → name ≡ name_of under.tree
-      → bits_in m b.room.number ≡ with_child address name (bits_in m b.room.number)
+      → bits_in m (number_of b.room) ≡ with_child address name (bits_in m (number_of b.room))
   same_turned address over name b is =
       let f = b.at in
       let old = (fork_stands f).0 in
@@ -106,16 +107,16 @@ module _ {V : Type 0} where
 
   -- the room of the bit node above is not beneath it
   pub spine_out : (m : Lodged V) {address : ℕ} {under over : Part m} (b : Beneath address under over) → AreOnce over.tree
-      → (forks_at b.room.number under.tree ≡ 0) × (1 ≤ forks_at b.room.number over.tree)
+      → (forks_at (number_of b.room) under.tree ≡ 0) × (1 ≤ forks_at (number_of b.room) over.tree)
   spine_out m {address = address} b once =
       let f = b.at in
-      let n = b.room.number in
-      let one = one_if_same b.room.number in
-      let forks = fork_forks f b.room.number in
-      let most = once.forks b.room.number in (
+      let n = (number_of b.room) in
+      let one = one_if_same (number_of b.room) in
+      let forks = fork_forks f (number_of b.room) in
+      let most = once.forks (number_of b.room) in (
         elim b.side [
-          | inl e ↦ let k = ap (forks_at b.room.number) e.0 in omega arith
-          | inr e ↦ let k = ap (forks_at b.room.number) e.0 in omega arith
+          | inl e ↦ let k = ap (forks_at (number_of b.room)) e.0 in omega arith
+          | inr e ↦ let k = ap (forks_at (number_of b.room)) e.0 in omega arith
         ],
         omega arith,
       )

@@ -4,15 +4,16 @@ use Rattle.radix_tree.proofs.{MaskLists.falls_among, MaskLinks.stand_same}
 use Rattle.radix_tree.proofs.Words.{◌≡◌, ℕ, ◌+◌, ◌<◌, ◌≤◌, List, [], ◌∷◌, Option, sym, ap, ◌∙◌, inl, inr, arith, is_some, Id, Placed, Tree, leaf, fork}
 use Rattle.radix_tree.proofs.Words.{IsAmong, IsIn, IsTree, Heads, Masks, forks_at, Frame, on_zero, on_one, plug, low_past, IsMarked, IsMaskList, MarkedIn}
 use Rattle.radix_tree.proofs.Words.{MarkedLists}
+use Rattle.radix_nodes.specs.Naming.{number_of}
 
 module _ {V : Type 0} where
   -- ---- one list
-  pub marked_same : (K J : Masks) (x : Placed V) → J x.room.number ≡ K x.room.number → IsMarked K x → IsMarked J x
+  pub marked_same : (K J : Masks) (x : Placed V) → J (number_of x.room) ≡ K (number_of x.room) → IsMarked K x → IsMarked J x
   marked_same K J x same marked = ap is_some same ∙ marked
 
   -- a list stays, where up to its bit the same masks are marked as before
   pub mask_list_same : (K J : Masks) {first other : Option Id} (low b : ℕ) {M : Placed V → Type 0} (N : Placed V → Type 0) → other ≡ first
-      → ((x : Placed V) → M x → x.entry.rank ≤ b → N x × (J x.room.number ≡ K x.room.number)) → ((x : Placed V) → N x → x.entry.rank ≤ b → M x)
+      → ((x : Placed V) → M x → x.entry.rank ≤ b → N x × (J (number_of x.room) ≡ K (number_of x.room))) → ((x : Placed V) → N x → x.entry.rank ≤ b → M x)
       → IsMaskList K first low b M → IsMaskList J other low b N
   mask_list_same K J low b N same stays came list =
       let short = λ (x : Placed V) (among : IsAmong x list.masks).
@@ -29,10 +30,10 @@ module _ {V : Type 0} where
   -- ---- the lists of a tree
   -- they stay where its heads and its masks stay
   pub lists_same : (H G : Heads) (K J : Masks) (low : ℕ) (t : Tree V) → ((n : ℕ) → 1 ≤ forks_at n t → G n ≡ H n)
-      → ((y : Placed V) → IsIn y t → J y.room.number ≡ K y.room.number) → MarkedLists H K low t → MarkedLists G J low t
+      → ((y : Placed V) → IsIn y t → J (number_of y.room) ≡ K (number_of y.room)) → MarkedLists H K low t → MarkedLists G J low t
   lists_same H G K J low (leaf x xs) heads masks lists = tt
   lists_same H G K J low (fork room b zero one) heads masks lists = (
-    mask_list_same K J low b (MarkedIn J (fork room b zero one)) (heads room.number (let own = one_if_same room.number in omega arith))
+    mask_list_same K J low b (MarkedIn J (fork room b zero one)) (heads (number_of room) (let own = one_if_same (number_of room) in omega arith))
         (λ x member most. ((member.0, marked_same K J x (masks x member.0) member.1), masks x member.0))
         (λ x member most. (member.0, marked_same J K x (sym (masks x member.0)) member.1)) lists.0,
     lists_same H G K J (b + 1) zero (λ n some. heads n (omega arith)) (λ y at. masks y (inl at)) lists.1,
@@ -48,8 +49,8 @@ module _ {V : Type 0} where
   -- what an exchange keeps beside a part and above it: the heads of lists, the masks aside, and those of ranks below top, which are not the part's to list
   pub record KeepsAbove (H G : Heads) (K J : Masks) (top : ℕ) (fs : List (Frame V)) (t u : Tree V) : Type 0 where
     pub heads : (n : ℕ) → 1 + forks_at n t ≤ forks_at n (plug fs t) → G n ≡ H n
-    pub aside : (y : Placed V) → Aside fs y → J y.room.number ≡ K y.room.number
-    pub stays : (y : Placed V) → IsIn y t → y.entry.rank < top → IsMarked K y → IsIn y u × (J y.room.number ≡ K y.room.number)
+    pub aside : (y : Placed V) → Aside fs y → J (number_of y.room) ≡ K (number_of y.room)
+    pub stays : (y : Placed V) → IsIn y t → y.entry.rank < top → IsMarked K y → IsIn y u × (J (number_of y.room) ≡ K (number_of y.room))
     pub came : (y : Placed V) → IsIn y u → y.entry.rank < top → IsMarked J y → IsIn y t × IsMarked K y
 
   -- what is so for a node above is so for those beneath it
@@ -65,7 +66,7 @@ module _ {V : Type 0} where
 
   module _ {H G : Heads} {K J : Masks} {top : ℕ} {fs : List (Frame V)} {t u : Tree V} (k : KeepsAbove H G K J top fs t u) where
     -- the marked routes of ranks below top are the same
-    stays_within : (y : Placed V) → IsIn y (plug fs t) → y.entry.rank < top → IsMarked K y → MarkedIn J (plug fs u) y × (J y.room.number ≡ K y.room.number)
+    stays_within : (y : Placed V) → IsIn y (plug fs t) → y.entry.rank < top → IsMarked K y → MarkedIn J (plug fs u) y × (J (number_of y.room) ≡ K (number_of y.room))
     stays_within y is below marked = elim (in_plug fs t y is) [
       | inl aside ↦ ((aside_in fs u y aside, marked_same K J y (k.aside y aside) marked), k.aside y aside)
       | inr at ↦ let s = k.stays y at below marked in ((plug_in fs u y s.0, marked_same K J y s.1 marked), s.1)
@@ -85,8 +86,8 @@ module _ {V : Type 0} where
       let top = low_past (b + 1) fs in
       let further = low_rises (b + 1) fs t is.1 in
       let within : (n : ℕ) → forks_at n t ≤ forks_at n (plug fs t) = λ n. forks_within fs t n in (
-        mask_list_same K J low b (MarkedIn J (fork room b (plug fs u) one)) (k.heads room.number (let own = one_if_same room.number in
-            let le = within room.number in omega arith)) (λ x member most. stays_within k x member.0 (omega arith) member.1)
+        mask_list_same K J low b (MarkedIn J (fork room b (plug fs u) one)) (k.heads (number_of room) (let own = one_if_same (number_of room) in
+            let le = within (number_of room) in omega arith)) (λ x member most. stays_within k x member.0 (omega arith) member.1)
             (λ x member most. came_within k x member.0 (omega arith) member.1) lists.0,
         plug_lists (b + 1) fs is.1 (keeps_zero room b one k) lists.1 own,
         lists_same H G K J (b + 1) one (λ n some. k.heads n (let le = within n in omega arith)) (λ y at. k.aside y (inl at)) lists.2,
@@ -95,8 +96,8 @@ module _ {V : Type 0} where
       let top = low_past (b + 1) fs in
       let further = low_rises (b + 1) fs t is.2 in
       let within : (n : ℕ) → forks_at n t ≤ forks_at n (plug fs t) = λ n. forks_within fs t n in (
-        mask_list_same K J low b (MarkedIn J (fork room b zero (plug fs u))) (k.heads room.number (let own = one_if_same room.number in
-            let le = within room.number in omega arith)) (λ x member most. stays_within k x member.0 (omega arith) member.1)
+        mask_list_same K J low b (MarkedIn J (fork room b zero (plug fs u))) (k.heads (number_of room) (let own = one_if_same (number_of room) in
+            let le = within (number_of room) in omega arith)) (λ x member most. stays_within k x member.0 (omega arith) member.1)
             (λ x member most. came_within k x member.0 (omega arith) member.1) lists.0,
         lists_same H G K J (b + 1) zero (λ n some. k.heads n (let le = within n in omega arith)) (λ y at. k.aside y (inl at)) lists.1,
         plug_lists (b + 1) fs is.2 (keeps_one room b zero k) lists.2 own,

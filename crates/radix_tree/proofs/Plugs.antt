@@ -3,6 +3,7 @@ use Rattle.radix_tree.proofs.{AddressBits.zero_not_one, PartRooms.one_if_same, T
 use Rattle.radix_tree.proofs.Words.{◌≡◌, ℕ, ◌+◌, ◌<◌, ◌≤◌, ◌==◌, ◌⊎◌, List, [], ◌∷◌, ◌++◌, None, refl, sym, ap, ◌∙◌, inl, inr, arith, cases_lt}
 use Rattle.radix_tree.proofs.Words.{append_assoc, append-nil, Id, Placed, Tree, leaf, fork, IsAmong, IsIn, IsTree, routes_of, Bits, one_if, members_at}
 use Rattle.radix_tree.proofs.Words.{leaves_at, forks_at, HasHome, AreIdle, HasOneFork, HaveOneFork, Frame, on_zero, on_one, plug, low_past, Lead, Entry}
+use Rattle.radix_nodes.specs.Naming.{number_of}
 
 module _ {V : Type 0} where
   -- what the bit nodes have on their other sides
@@ -37,15 +38,15 @@ module _ {V : Type 0} where
   forks_within (on_one room b zero ∷ fs) t n = let le = forks_within fs t n in omega arith
 
   -- a route's room is a leaf
-  pub counted_member : (x : Placed V) (xs : List (Placed V)) → IsAmong x xs → 1 ≤ members_at x.room.number xs
+  pub counted_member : (x : Placed V) (xs : List (Placed V)) → IsAmong x xs → 1 ≤ members_at (number_of x.room) xs
   counted_member x [] among = absurd among
   counted_member x (y ∷ ys) among = elim among [
-    | inl e ↦ let own = ap (λ p. one_if (p.room.number == x.room.number)) e ∙ one_if_same x.room.number in
+    | inl e ↦ let own = ap (λ p. one_if ((number_of p.room) == (number_of x.room))) e ∙ one_if_same (number_of x.room) in
         omega arith
     | inr behind ↦ let some = counted_member x ys behind in omega arith
   ]
 
-  pub counted_leaf : (x : Placed V) (t : Tree V) → IsIn x t → 1 ≤ leaves_at x.room.number t
+  pub counted_leaf : (x : Placed V) (t : Tree V) → IsIn x t → 1 ≤ leaves_at (number_of x.room) t
   counted_leaf x (leaf y ys) is = counted_member x (y ∷ ys) is
   counted_leaf x (fork room b zero one) is = elim is [
     | inl at ↦ let some = counted_leaf x zero at in omega arith
@@ -70,16 +71,16 @@ module _ {V : Type 0} where
       elim is [ inl at ↦ inl (inl at) | inr at ↦ elim (in_plug fs t y at) [ inl aside ↦ inl (inr aside) | inr beneath ↦ inr beneath ] ]
 
   -- what is aside is in rooms of its own: in none of the part
-  pub aside_at : (fs : List (Frame V)) (t : Tree V) (y : Placed V) → Aside fs y → 1 + leaves_at y.room.number t ≤ leaves_at y.room.number (plug fs t)
+  pub aside_at : (fs : List (Frame V)) (t : Tree V) (y : Placed V) → Aside fs y → 1 + leaves_at (number_of y.room) t ≤ leaves_at (number_of y.room) (plug fs t)
   aside_at [] t y is = absurd is
   aside_at (on_zero room b one ∷ fs) t y is =
-      let le = leaves_within fs t y.room.number in
+      let le = leaves_within fs t (number_of y.room) in
       elim is [
         | inl at ↦ let some = counted_leaf y one at in omega arith
         | inr at ↦ let more = aside_at fs t y at in omega arith
       ]
   aside_at (on_one room b zero ∷ fs) t y is =
-      let le = leaves_within fs t y.room.number in
+      let le = leaves_within fs t (number_of y.room) in
       elim is [
         | inl at ↦ let some = counted_leaf y zero at in omega arith
         | inr at ↦ let more = aside_at fs t y at in omega arith
@@ -117,12 +118,12 @@ module _ {V : Type 0} where
   spare_at B (on_zero room b one ∷ fs) t spare = spare_at B fs t spare.0
   spare_at B (on_one room b zero ∷ fs) t spare = spare_at B fs t spare.1
 
-  idle_same : (B C : Bits) (xs : List (Placed V)) → ((y : Placed V) → IsAmong y xs → B y.room.number ≡ None → C y.room.number ≡ None) → AreIdle B xs
+  idle_same : (B C : Bits) (xs : List (Placed V)) → ((y : Placed V) → IsAmong y xs → B (number_of y.room) ≡ None → C (number_of y.room) ≡ None) → AreIdle B xs
       → AreIdle C xs
   idle_same B C [] same idle = tt
   idle_same B C (x ∷ xs) same idle = (same x (inl refl) idle.0, idle_same B C xs (λ y among. same y (inr among)) idle.1)
 
-  one_fork_same : (B C : Bits) (xs : List (Placed V)) → ((y : Placed V) → IsAmong y xs → B y.room.number ≡ None → C y.room.number ≡ None) → HasOneFork B xs
+  one_fork_same : (B C : Bits) (xs : List (Placed V)) → ((y : Placed V) → IsAmong y xs → B (number_of y.room) ≡ None → C (number_of y.room) ≡ None) → HasOneFork B xs
       → HasOneFork C xs
   one_fork_same B C [] same has = tt
   one_fork_same B C (x ∷ xs) same has = elim has [
@@ -131,7 +132,7 @@ module _ {V : Type 0} where
   ]
 
   -- where no bit node comes into use there is at most one as before
-  pub spare_same : (B C : Bits) (t : Tree V) → ((y : Placed V) → IsIn y t → B y.room.number ≡ None → C y.room.number ≡ None) → HaveOneFork B t → HaveOneFork C t
+  pub spare_same : (B C : Bits) (t : Tree V) → ((y : Placed V) → IsIn y t → B (number_of y.room) ≡ None → C (number_of y.room) ≡ None) → HaveOneFork B t → HaveOneFork C t
   spare_same B C (leaf x xs) same spare = one_fork_same B C (x ∷ xs) same spare
   spare_same B C (fork room b zero one) same spare = (
     spare_same B C zero (λ y at. same y (inl at)) spare.0,
@@ -139,7 +140,7 @@ module _ {V : Type 0} where
   )
 
   pub spare_plug : (B C : Bits) (fs : List (Frame V)) (t u : Tree V) → HaveOneFork B (plug fs t) → HaveOneFork C u
-      → ((y : Placed V) → Aside fs y → B y.room.number ≡ None → C y.room.number ≡ None) → HaveOneFork C (plug fs u)
+      → ((y : Placed V) → Aside fs y → B (number_of y.room) ≡ None → C (number_of y.room) ≡ None) → HaveOneFork C (plug fs u)
   spare_plug B C [] t u spare own idle = own
   spare_plug B C (on_zero room b one ∷ fs) t u spare own idle = (
     spare_plug B C fs t u spare.0 own (λ y aside. idle y (inr aside)),

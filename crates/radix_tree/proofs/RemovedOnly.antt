@@ -5,6 +5,7 @@ use Rattle.radix_tree.proofs.Words.{◌≡◌, ℕ, ◌≤◌, ◌⊎◌, true, 
 use Rattle.radix_tree.proofs.Words.{leaf_of, Id, Links, Leaf, Node, Placed, Tree, leaf, fork, routes_of, LeafPart, Leaves, Bits, leaf_in, leaves_in, bits_in}
 use Rattle.radix_tree.proofs.Words.{first_room, ChainStands, Stands, one_if, members_at, leaves_at, shown, shown_entry, Gains, IsWholeBut, is_of_key, has_key}
 use Rattle.radix_tree.proofs.Words.{late_at, nobody_out, CanTake, member_beside, Lodged, cases_eq}
+use Rattle.radix_nodes.specs.Naming.{number_of}
 
 -- ---- the other member of a chain
 pub beside_is : (next previous : Option Id) {to : Id} → member_beside next previous ≡ Some to → (next ≡ Some to) ⊎ (previous ≡ Some to)
@@ -17,23 +18,23 @@ beside_none (Some id) previous is = absurd (none_some (sym is))
 
 module _ {V : Type 0} where
   -- ---- a room's leaf
-  pub leaf_at : {m : Lodged V} {room : Id} → Has m room → (p : LeafPart V) × (leaves_in m room.number ≡ Some p)
+  pub leaf_at : {m : Lodged V} {room : Id} → Has m room → (p : LeafPart V) × (leaves_in m (number_of room) ≡ Some p)
   leaf_at h = (record { block = h.room.block; value = h.room.value; leaf = leaf_of h.room.links }, ap leaf_in h.at)
 
   pub leaf_is : {m : Lodged V} {room : Id} (links : Links) {l : Leaf} → Has m room → AreLinks m room links → l ≡ leaf_of links → {p : LeafPart V}
-      → leaves_in m room.number ≡ Some p → l ≡ p.leaf
+      → leaves_in m (number_of room) ≡ Some p → l ≡ p.leaf
   leaf_is links h are reads said = reads ∙ ap leaf_of (are h.room h.at) ∙ ap (λ q. q.leaf) (inside (sym (ap leaf_in h.at) ∙ said))
 
   pub member_is : {m : Lodged V} {room to : Id} (links : Links) {l : Leaf} {o : Option Id} → Has m room → AreLinks m room links → l ≡ leaf_of links
       → o ≡ member_beside l.next l.previous → o ≡ Some to
-      → (p : LeafPart V) → leaves_in m room.number ≡ Some p → (p.leaf.next ≡ Some to) ⊎ (p.leaf.previous ≡ Some to)
+      → (p : LeafPart V) → leaves_in m (number_of room) ≡ Some p → (p.leaf.next ≡ Some to) ⊎ (p.leaf.previous ≡ Some to)
   member_is links h are reads beside some p said =
       let is = leaf_is links h are reads said in
       beside_is p.leaf.next p.leaf.previous (ap (λ z. member_beside z.next z.previous) (sym is) ∙ sym beside ∙ some)
 
   pub alone_is : {m : Lodged V} {room : Id} (links : Links) {l : Leaf} {o : Option Id} → Has m room → AreLinks m room links → l ≡ leaf_of links
       → o ≡ member_beside l.next l.previous → o ≡ None
-      → (p : LeafPart V) → leaves_in m room.number ≡ Some p → (p.leaf.next ≡ None) × (p.leaf.previous ≡ None)
+      → (p : LeafPart V) → leaves_in m (number_of room) ≡ Some p → (p.leaf.next ≡ None) × (p.leaf.previous ≡ None)
   alone_is links h are reads beside none p said =
       let is = leaf_is links h are reads said in
       beside_none p.leaf.next p.leaf.previous (ap (λ z. member_beside z.next z.previous) (sym is) ∙ sym beside ∙ none)
@@ -42,10 +43,10 @@ module _ {V : Type 0} where
   same_key : (key : ℕ) {o : Option (LeafPart V)} (p : LeafPart V) → is_of_key key o ≡ true → o ≡ Some p → p.leaf.key ≡ key
   same_key key p has is = eqb-true p.leaf.key key (sym (ap (is_of_key key) is) ∙ has)
 
-  pub can_take : (m : Lodged V) (from to : Id) (key : ℕ) → (to.number ≡ from.number → ⊥) → has_key m key to.number ≡ true
-      → ((n : ℕ) → has_key m key n ≡ true → (n ≡ from.number → ⊥) → bits_in m n ≡ None) → CanTake m from to
+  pub can_take : (m : Lodged V) (from to : Id) (key : ℕ) → ((number_of to) ≡ (number_of from) → ⊥) → has_key m key (number_of to) ≡ true
+      → ((n : ℕ) → has_key m key n ≡ true → (n ≡ (number_of from) → ⊥) → bits_in m n ≡ None) → CanTake m from to
   can_take m from to key other has idle = record {
-    free = idle to.number has other;
+    free = idle (number_of to) has other;
     idle = λ p is n keyed off. idle n (ap (λ k. has_key m k n) (sym (same_key key p has is)) ∙ keyed) off;
   }
 
@@ -53,23 +54,23 @@ module _ {V : Type 0} where
   pub record IsOnly (t : Tree V) (n : ℕ) (p : LeafPart V) : Type 0 where
     pub route : Placed V
     pub is : t ≡ leaf route []
-    pub number : route.room.number ≡ n
+    pub number : (number_of route.room) ≡ n
     pub entry : route.entry ≡ shown_entry p
 
   behind_named : (L : Leaves V) (above : Option Id) (before : Id) (c : List (Placed V)) (n : ℕ) {p : LeafPart V} → ChainStands L above (Some before) c
       → 1 ≤ members_at n c → L n ≡ Some p → p.leaf.previous ≡ None → ⊥
   behind_named L above before [] n stands some said none = omega arith
-  behind_named L above before (x ∷ xs) n stands some said none = elim (cases_eq x.room.number n) [
+  behind_named L above before (x ∷ xs) n stands some said none = elim (cases_eq (number_of x.room) n) [
     | inl same ↦ none_some (sym none ∙ ap (λ q. q.leaf.previous) (inside (sym said ∙ ap L (sym same) ∙ stands.0)))
-    | inr other ↦ let off = one_if_not x.room.number n other in
+    | inr other ↦ let off = one_if_not (number_of x.room) n other in
         behind_named L None x.room xs n stands.1 (omega arith) said none
   ]
 
   beneath_named : (L : Leaves V) (B : Bits) (up : Id) (t : Tree V) (n : ℕ) {p : LeafPart V} → Stands L B (Some up) t → 1 ≤ leaves_at n t → L n ≡ Some p
       → p.leaf.previous ≡ None → p.leaf.above ≡ None → ⊥
-  beneath_named L B up (leaf x xs) n stands some said previous above = elim (cases_eq x.room.number n) [
+  beneath_named L B up (leaf x xs) n stands some said previous above = elim (cases_eq (number_of x.room) n) [
     | inl same ↦ none_some (sym above ∙ ap (λ q. q.leaf.above) (inside (sym said ∙ ap L (sym same) ∙ stands.0)))
-    | inr other ↦ let off = one_if_not x.room.number n other in
+    | inr other ↦ let off = one_if_not (number_of x.room) n other in
         behind_named L None x.room xs n stands.1 (omega arith) said previous
   ]
   beneath_named L B up (fork room b left right) n stands some said previous above = elim (none_or_some (leaves_at n left)) [
@@ -83,10 +84,10 @@ module _ {V : Type 0} where
 
   only_of : (L : Leaves V) (B : Bits) (top : Option Id) (t : Tree V) (n : ℕ) (p : LeafPart V) → Stands L B top t → 1 ≤ leaves_at n t → L n ≡ Some p
       → p.leaf.next ≡ None → p.leaf.previous ≡ None → p.leaf.above ≡ None → IsOnly t n p
-  only_of L B top (leaf x xs) n p stands some said next previous above = elim (cases_eq x.room.number n) [
+  only_of L B top (leaf x xs) n p stands some said next previous above = elim (cases_eq (number_of x.room) n) [
     | inl same ↦ let is = inside (sym stands.0 ∙ ap L same ∙ said) in
         record { route = x; is = no_behind x xs (ap (λ q. q.leaf.next) is ∙ next); number = same; entry = ap shown_entry is }
-    | inr other ↦ let off = one_if_not x.room.number n other in
+    | inr other ↦ let off = one_if_not (number_of x.room) n other in
         absurd (behind_named L None x.room xs n stands.1 (omega arith) said previous)
   ]
   only_of L B top (fork room b left right) n p stands some said next previous above = elim (none_or_some (leaves_at n left)) [
@@ -104,7 +105,7 @@ module _ {V : Type 0} where
     only_room o k other =
         let count = w.leaves k in
         let one = ap (leaves_at k) o.is in
-        let off = one_if_not o.route.room.number k (λ (e : o.route.room.number ≡ k). other (sym e ∙ o.number)) in
+        let off = one_if_not (number_of o.route.room) k (λ (e : (number_of o.route.room) ≡ k). other (sym e ∙ o.number)) in
         none_of (leaves_in m k) (no_use (is_some (leaves_in m k)) (omega arith))
 
     pub only_shown : IsOnly w.part.tree n p → Gains (shown_entry p) [] (shown m (Some root))

@@ -7,6 +7,7 @@ use Rattle.radix_tree.proofs.Words.{◌≡◌, ℕ, ◌+◌, ◌||◌, if◌then
 use Rattle.radix_tree.proofs.Words.{get, Ptr, Seen, Has, bit_node_of, Id, Node, BitNode, LeafPart, MaskPart, Part, leaf_in, bit_in, head_in, mask_in, bit_part}
 use Rattle.radix_tree.proofs.Words.{head_part, leaves_in, bits_in, heads_in, masks_in, one_if, leaves_at, IsWhole, Holds, shown, Gains, IsWholeBut, HasRoomMore}
 use Rattle.radix_tree.proofs.Words.{nobody_late, out_at, content_of, KeepsRoutes, IsOut, Entry, Lodged, cases_eq}
+use Rattle.radix_nodes.specs.Naming.{number_of}
 
 no_head_of : (block : Ptr) (o : Option BitNode) → bit_part block o ≡ None → head_part o ≡ None
 no_head_of block None none = refl
@@ -76,10 +77,10 @@ module _ {V : Type 0} where
           forks = λ k. w.forks k ∙ ap (λ o. one_if (is_some o)) (sym (bits k));
           spare = tree_stays (bits_in m) (bits_in (remove m n)) w.part.tree (λ k some idle. bits k ∙ idle) w.spare;
           lists = lists_same (heads_in m) (heads_in (remove m n)) (masks_in m) (masks_in (remove m n)) w.part.low w.part.tree (λ k some. heads k)
-              (λ y at. masks y.room.number) w.lists;
+              (λ y at. masks (number_of y.room)) w.lists;
           listed = λ k p is. w.listed k p (sym (masks k) ∙ is);
           all = λ x is home. elim (w.all x is home) [
-            | inl marked ↦ inl (marked_same (masks_in m) (masks_in (remove m n)) x (masks x.room.number) marked)
+            | inl marked ↦ inl (marked_same (masks_in m) (masks_in (remove m n)) x (masks (number_of x.room)) marked)
             | inr late ↦ inr late
           ];
         }
@@ -115,10 +116,10 @@ module _ {V : Type 0} where
   value_taken m now n p value is same said = value_of (get now n) p value is (same ∙ ap content_of said)
 
   -- the map has one room less
-  pub room_less : (m now : Lodged V) (at : Id) → Has m at → KeepsRoutes m now → HasRoomMore (remove now at.number) m at.number
-  room_less m now at h same k = elim (cases_eq k at.number) [
+  pub room_less : (m now : Lodged V) (at : Id) → Has m at → KeepsRoutes m now → HasRoomMore (remove now (number_of at)) m (number_of at)
+  room_less m now at h same k = elim (cases_eq k (number_of at)) [
     | inl e ↦ ap (λ j. is_some (leaves_in m j)) e ∙ ap (λ o. is_some (leaf_in o)) h.at
-        ∙ sym (ap (λ t. t || is_some (leaves_in (remove now at.number) k)) (eq-eqb k at.number e))
-    | inr other ↦ sym (content_used (leaves_in now k) (leaves_in m k) (same k)) ∙ sym (ap (λ o. is_some (leaf_in o)) (get_other now at.number k other))
-        ∙ sym (ap (λ t. t || is_some (leaves_in (remove now at.number) k)) (ne_eqb k at.number other))
+        ∙ sym (ap (λ t. t || is_some (leaves_in (remove now (number_of at)) k)) (eq-eqb k (number_of at) e))
+    | inr other ↦ sym (content_used (leaves_in now k) (leaves_in m k) (same k)) ∙ sym (ap (λ o. is_some (leaf_in o)) (get_other now (number_of at) k other))
+        ∙ sym (ap (λ t. t || is_some (leaves_in (remove now (number_of at)) k)) (ne_eqb k (number_of at) other))
   ]

@@ -1,20 +1,13 @@
 -- A table has as many rooms as routes.
 --     equally_long      two lists in which each number stands equally often
---     rooms_as_routes   as many rooms of a map as routes that it shows
---     rooms_once        no room's number twice
-use Rattle.std.proofs.lemmas.{List.length-append, List.length-map, List.Sums.sum_by-cons, List.Sums.sum_by-append}
-use Rattle.radix_tree.proofs.{PartRooms.one_if_same, Numbers.uses_keys, Numbers.uses_leaves, Showing.shown_is}
-use Rattle.radix_tree.proofs.Words.{◌≡◌, ℕ, ◌+◌, ◌≤◌, ◌==◌, Bool, true, false, cond, nat_eq, List, ◌∷◌, ◌++◌, length, map, Option, Some, None, is_some}
-use Rattle.radix_tree.proofs.Words.{refl, sym, ap, ◌∙◌, arith, eqb-true, get, keys, Node, uses, Placed, Tree, leaf, fork, routes_of, one_if, members_at}
+--     rooms_as_routes   as many numbers of rooms as routes that the rooms show
+use Rattle.std.proofs.lemmas.{List.length-append, List.length-map, List.Sums.sum_by-append}
+use Rattle.radix_tree.proofs.{PartRooms.one_if_same, GivenNumbers.uses_cons, GivenNumbers.as_many_numbers, Showing.shown_is}
+use Rattle.radix_tree.proofs.Words.{◌≡◌, ℕ, ◌+◌, ◌≤◌, ◌==◌, true, false, cond, nat_eq, List, ◌∷◌, ◌++◌, length, map, Option, Some, None, is_some}
+use Rattle.radix_tree.proofs.Words.{refl, sym, ap, ◌∙◌, arith, eqb-true, Node, uses, Placed, Tree, leaf, fork, routes_of, one_if, members_at}
 use Rattle.radix_tree.proofs.Words.{leaves_at, shown, Holds, Lodged, []}
-use Rattle.radix_tree.proofs.{Facts.one_if_most}
-
-one_if_cond : (b : Bool) → cond b 1 0 ≡ one_if b
-one_if_cond true = refl
-one_if_cond false = refl
-
-uses_cons : (n k : ℕ) (ks : List ℕ) → uses n (k ∷ ks) ≡ one_if (k == n) + uses n ks
-uses_cons n k ks = sum_by-cons (λ j. cond (nat_eq j n) 1 0) k ks ∙ ap (λ u. u + uses n ks) (one_if_cond (k == n))
+use Rattle.radix_tree.specs.Given.{AreGiven, rooms_in, numbers_in as given_numbers}
+use Rattle.radix_nodes.specs.Naming.{number_of}
 
 uses_append : (n : ℕ) (js ks : List ℕ) → uses n (js ++ ks) ≡ uses n js + uses n ks
 uses_append n js ks = sum_by-append (λ j. cond (nat_eq j n) 1 0) js ks
@@ -52,7 +45,7 @@ equally_long (j ∷ js) ks same =
 module _ {V : Type 0} where
   -- ---- the rooms of a tree, from left to right
   abbrev numbers_in : List (Placed V) → List ℕ
-  numbers_in c = map (λ (p : Placed V). p.room.number) c
+  numbers_in c = map (λ (p : Placed V). (number_of p.room)) c
 
   abbrev numbers_of : Tree V → List ℕ
   numbers_of (leaf x xs) = numbers_in (x ∷ xs)
@@ -60,23 +53,22 @@ module _ {V : Type 0} where
 
   uses_chain : (n : ℕ) (c : List (Placed V)) → uses n (numbers_in c) ≡ members_at n c
   uses_chain n [] = refl
-  uses_chain n (x ∷ c) = uses_cons n x.room.number (numbers_in c) ∙ ap (λ u. one_if (x.room.number == n) + u) (uses_chain n c)
+  uses_chain n (x ∷ c) = uses_cons n (number_of x.room) (numbers_in c) ∙ ap (λ u. one_if ((number_of x.room) == n) + u) (uses_chain n c)
 
   uses_tree : (n : ℕ) (t : Tree V) → uses n (numbers_of t) ≡ leaves_at n t
   uses_tree n (leaf x xs) = uses_chain n (x ∷ xs)
   uses_tree n (fork room b left right) = omega (arith, uses_append n (numbers_of left) (numbers_of right), uses_tree n left, uses_tree n right)
 
   one_each : (t : Tree V) → length (numbers_of t) ≡ length (routes_of t)
-  one_each (leaf x xs) = length-map (x ∷ xs) (λ (p : Placed V). p.room.number) ∙ sym (length-map (x ∷ xs) (λ (p : Placed V). p.entry))
+  one_each (leaf x xs) = length-map (x ∷ xs) (λ (p : Placed V). (number_of p.room)) ∙ sym (length-map (x ∷ xs) (λ (p : Placed V). p.entry))
   one_each (fork room b left right) =
       omega (arith, length-append (numbers_of left) (numbers_of right), length-append (routes_of left) (routes_of right), one_each left, one_each right)
 
   -- ---- the rooms of a map
-  pub rooms_as_routes : (m : Lodged V) (root : Option Node) → Holds m root → length (keys m) ≡ length (shown m root)
-  rooms_as_routes m None none = equally_long (keys m) [] (λ n. uses_leaves m n ∙ ap (λ o. one_if (is_some o)) (none n))
-  rooms_as_routes m (Some root) w =
-      equally_long (keys m) (numbers_of w.part.tree) (λ n. omega (arith, uses_leaves m n, w.leaves n, uses_tree n w.part.tree)) ∙ one_each w.part.tree
+  pub rooms_as_routes : (m : Lodged V) (root : Option Node) {given : List (ℕ × ℕ)} {last : ℕ} → Holds m root → AreGiven m given last
+      → length (given_numbers given) ≡ length (shown m root)
+  rooms_as_routes m None {given = given} none are =
+      as_many_numbers given ∙ equally_long (rooms_in given) [] (λ n. are.rooms n ∙ ap (λ o. one_if (is_some o)) (none n))
+  rooms_as_routes m (Some root) {given = given} w are = as_many_numbers given
+      ∙ equally_long (rooms_in given) (numbers_of w.part.tree) (λ n. omega (arith, are.rooms n, w.leaves n, uses_tree n w.part.tree)) ∙ one_each w.part.tree
       ∙ ap length (sym (shown_is w))
-
-  pub rooms_once : (m : Lodged V) (n : ℕ) → uses n (keys m) ≤ 1
-  rooms_once m n = omega (arith, uses_keys m n, one_if_most (is_some (get m n)))

@@ -4,6 +4,7 @@ use Rattle.radix_tree.specs.Tree.{Covers}
 use Rattle.radix_tree.proofs.Words.{◌≡◌, ℕ, ◌+◌, ◌≤◌, List, [], ◌∷◌, length, Option, Some, None, true, false, refl, sym, ap, ◌∙◌, subst, inl, inr, arith}
 use Rattle.radix_tree.proofs.Words.{agrees, Counter, Has, Id, Leaf, ReadsOnce, LeafPart, Run, leaves_in, first_room, leaf_part, ChainStands, Placed}
 use Rattle.radix_tree.proofs.Words.{IsAmong, IsChain, Lodged}
+use Rattle.radix_nodes.specs.Naming.{number_of}
 
 -- a chain has a route for each rank at most
 pub chain_most : {V : Type 0} (key top : ℕ) (c : List (Placed V)) → IsChain key top c → length c ≤ 34
@@ -36,7 +37,7 @@ module _ {V : Type 0} {m : Lodged V} where
     pub route : Placed V
     pub room_is : route.room ≡ room
     pub part : LeafPart V
-    pub said : leaves_in m room.number ≡ Some part
+    pub said : leaves_in m (number_of room) ≡ Some part
     pub block : part.block ≡ room.block
     pub key : part.leaf.key ≡ route.entry.key
     pub rank : part.leaf.rank ≡ route.entry.rank
@@ -57,7 +58,7 @@ module _ {V : Type 0} {m : Lodged V} where
         route = x.first;
         room_is = x.room_is;
         part = leaf_part x.first w.rest.above w.rest.previous (first_room x.behind);
-        said = ap (λ i. leaves_in m i.number) (sym x.room_is) ∙ stands.0;
+        said = ap (λ i. leaves_in m (number_of i)) (sym x.room_is) ∙ stands.0;
         block = ap (λ i. i.block) x.room_is;
         key = refl;
         rank = refl;

@@ -3,6 +3,7 @@ use Rattle.radix_tree.proofs.Words.{◌≡◌, ℕ, ◌+◌, ◌<◌, ◌≤◌,
 use Rattle.radix_tree.proofs.Words.{Leaves, Bits, first_room, leaf_part, ChainStands, Stands, Placed, Tree, leaf, fork, bit_at, IsAmong, IsIn, IsChain}
 use Rattle.radix_tree.proofs.Words.{IsTree, HaveBit}
 use Rattle.radix_tree.proofs.RoomReads.{inside, none_some}
+use Rattle.radix_nodes.specs.Naming.{number_of}
 
 module _ {V : Type 0} where
   -- a list begins with a route in this room
@@ -63,7 +64,7 @@ module _ {V : Type 0} where
 
   -- ---- the room of a route
   abbrev pub IsSaid : Leaves V → Placed V → Type 0
-  IsSaid L x = (above : Option Id) × (previous : Option Id) × (next : Option Id) × (L x.room.number ≡ Some (leaf_part x above previous next))
+  IsSaid L x = (above : Option Id) × (previous : Option Id) × (next : Option Id) × (L (number_of x.room) ≡ Some (leaf_part x above previous next))
 
   chain_said : (L : Leaves V) (above previous : Option Id) (c : List (Placed V)) → ChainStands L above previous c → (x : Placed V) → IsAmong x c → IsSaid L x
   chain_said L above previous [] stands x among = absurd among

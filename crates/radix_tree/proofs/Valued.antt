@@ -1,5 +1,5 @@
 -- A value in a room changes, and with it the route that stands there.
-use Rattle.radix_tree.proofs.{Counted.of_rank-cons, Counted.of_rank-append, Numbers.insert_keys, OrderLemmas.own_pair, TableLemmas.with_parts}
+use Rattle.radix_tree.proofs.{Counted.of_rank-cons, Counted.of_rank-append, GivenNumbers.given_same, OrderLemmas.own_pair, TableLemmas.with_parts}
 use Rattle.radix_tree.proofs.{TableLemmas.with_later, TreeOrder.tree_is_table, Showing.shown_is, WholeParts.once_but, Facts.no_use, ChainLists.map_entries}
 use Rattle.radix_tree.proofs.{WholeRoutes.all_at}
 use Rattle.radix_tree.proofs.TableLemmas.With.{later, same, sooner}
@@ -7,11 +7,13 @@ use Rattle.radix_tree.proofs.ValuedTrees.{all_valued_in, valued, all_valued, tre
 use Rattle.radix_tree.proofs.ValuedTrees.{forks_valued, spare_valued, in_valued, home_is, lists_valued}
 use Rattle.radix_nodes.proofs.Callers.{put_value-is, get-put_room}
 use Rattle.radix_tree.proofs.Words.{◌≡◌, ℕ, ◌+◌, ◌≤◌, ◌==◌, Bool, true, false, IsTrue, if◌then◌else◌, List, ◌∷◌, ◌++◌, Option, Some, None, is_some, refl, inl}
-use Rattle.radix_tree.proofs.Words.{inr, sym, ap, ◌∙◌, subst, arith, eqb-true, eq-eqb, append_assoc, get, keys, Seen, Has, seen, put_value, leaf_of}
+use Rattle.radix_tree.proofs.Words.{inr, sym, ap, ◌∙◌, subst, arith, eqb-true, eq-eqb, append_assoc, get, Seen, Has, seen, put_value, leaf_of}
 use Rattle.radix_tree.proofs.Words.{bit_node_of, mask_node_of, Id, Node, precedes, IsTable, with_entry, Placed, Tree, leaf, fork, IsAmong, IsIn, routes_of}
 use Rattle.radix_tree.proofs.Words.{LeafPart, leaf_in, bit_in, head_in, mask_in, bit_part, mask_part, leaves_in, bits_in, heads_in, masks_in, Stands, one_if}
 use Rattle.radix_tree.proofs.Words.{members_at, leaves_at, HaveOneFork, shown, IsWhole, KeepsBits, KeepsHeads, KeepsMasks, Entry, of_rank, AreCounted, Tells}
 use Rattle.radix_tree.proofs.Words.{Finds, HasPair, In, Lodged, nobody_late, [], MarkedLists, IsMarked, ◌⊎◌, true≢false}
+use Rattle.radix_tree.specs.Given.{AreGiven}
+use Rattle.radix_nodes.specs.Naming.{number_of}
 
 module _ {V : Type 0} (n : ℕ) (value : V) where
   -- ---- its routes
@@ -22,18 +24,18 @@ module _ {V : Type 0} (n : ℕ) (value : V) where
     was : old ≡ front ++ e ∷ back
     now : new ≡ front ++ record e { value = value } ∷ back
 
-  apart : (x : Placed V) → (x.room.number == n) ≡ false → (valued n value x).entry ≡ x.entry
+  apart : (x : Placed V) → ((number_of x.room) == n) ≡ false → (valued n value x).entry ≡ x.entry
   apart x other = ap (λ b. record { key = x.entry.key; rank = x.entry.rank; value = if b then value else x.entry.value }) other
 
-  here_is : (x : Placed V) → (x.room.number == n) ≡ true → (valued n value x).entry ≡ record x.entry { value = value }
+  here_is : (x : Placed V) → ((number_of x.room) == n) ≡ true → (valued n value x).entry ≡ record x.entry { value = value }
   here_is x is = ap (λ b. record { key = x.entry.key; rank = x.entry.rank; value = if b then value else x.entry.value }) is
 
   chain_aside : (c : List (Placed V)) → members_at n c ≡ 0 → map_entries (all_valued n value c) ≡ map_entries c
   chain_aside [] none = refl
   chain_aside (x ∷ xs) none =
-      let here : one_if (x.room.number == n) ≡ 0 = omega (arith, none) in
+      let here : one_if ((number_of x.room) == n) ≡ 0 = omega (arith, none) in
       let rest : members_at n xs ≡ 0 = omega (arith, none) in
-      ap (λ e. e ∷ map_entries (all_valued n value xs)) (apart x (no_use (x.room.number == n) here)) ∙ ap (λ es. x.entry ∷ es) (chain_aside xs rest)
+      ap (λ e. e ∷ map_entries (all_valued n value xs)) (apart x (no_use ((number_of x.room) == n) here)) ∙ ap (λ es. x.entry ∷ es) (chain_aside xs rest)
 
   tree_aside : (t : Tree V) → leaves_at n t ≡ 0 → routes_of (tree_valued n value t) ≡ routes_of t
   tree_aside (leaf x xs) none = chain_aside (x ∷ xs) none
@@ -42,25 +44,25 @@ module _ {V : Type 0} (n : ℕ) (value : V) where
       let right : leaves_at n one ≡ 0 = omega (arith, none) in
       ap (λ es. es ++ routes_of (tree_valued n value one)) (tree_aside zero left) ∙ ap (λ es. routes_of zero ++ es) (tree_aside one right)
 
-  counted_among : (x : Placed V) (c : List (Placed V)) → x.room.number ≡ n → IsAmong x c → 1 ≤ members_at n c
+  counted_among : (x : Placed V) (c : List (Placed V)) → (number_of x.room) ≡ n → IsAmong x c → 1 ≤ members_at n c
   counted_among x [] is among = absurd among
   counted_among x (y ∷ c) is among = elim among [
-    | inl e ↦ let here = ap one_if (eq-eqb y.room.number n (ap (λ p. p.room.number) e ∙ is)) in omega (arith, here)
+    | inl e ↦ let here = ap one_if (eq-eqb (number_of y.room) n (ap (λ p. (number_of p.room)) e ∙ is)) in omega (arith, here)
     | inr rest ↦ let more = counted_among x c is rest in omega (arith, more)
   ]
 
-  counted_in : (x : Placed V) (t : Tree V) → x.room.number ≡ n → IsIn x t → 1 ≤ leaves_at n t
+  counted_in : (x : Placed V) (t : Tree V) → (number_of x.room) ≡ n → IsIn x t → 1 ≤ leaves_at n t
   counted_in x (leaf y ys) is at = counted_among x (y ∷ ys) is at
   counted_in x (fork room b zero one) is at = elim at [
     | inl left ↦ let some = counted_in x zero is left in omega (arith, some)
     | inr right ↦ let some = counted_in x one is right in omega (arith, some)
   ]
 
-  chain_put : (x : Placed V) (c : List (Placed V)) → x.room.number ≡ n → IsAmong x c → members_at n c ≤ 1
+  chain_put : (x : Placed V) (c : List (Placed V)) → (number_of x.room) ≡ n → IsAmong x c → members_at n c ≤ 1
       → IsPut x.entry (map_entries c) (map_entries (all_valued n value c))
   chain_put x [] is among once = absurd among
   chain_put x (y ∷ c) is among once = elim among [
-    | inl e ↦ let at = eq-eqb y.room.number n (ap (λ p. p.room.number) e ∙ is) in
+    | inl e ↦ let at = eq-eqb (number_of y.room) n (ap (λ p. (number_of p.room)) e ∙ is) in
         let here = ap one_if at in
         let none : members_at n c ≡ 0 = omega (arith, here, once) in
         subst (λ p. IsPut p.entry (y.entry ∷ map_entries c) (map_entries (all_valued n value (y ∷ c)))) e (record {
@@ -70,18 +72,18 @@ module _ {V : Type 0} (n : ℕ) (value : V) where
           now = ap (λ f. f ∷ map_entries (all_valued n value c)) (here_is y at) ∙ ap (λ es. record y.entry { value = value } ∷ es) (chain_aside c none);
         })
     | inr rest ↦ let some = counted_among x c is rest in
-        let here : one_if (y.room.number == n) ≡ 0 = omega (arith, some, once) in
+        let here : one_if ((number_of y.room) == n) ≡ 0 = omega (arith, some, once) in
         let fewer : members_at n c ≤ 1 = omega (arith, once) in
         let p = chain_put x c is rest fewer in
         record {
           front = y.entry ∷ p.front;
           back = p.back;
           was = ap (λ es. y.entry ∷ es) p.was;
-          now = ap (λ f. f ∷ map_entries (all_valued n value c)) (apart y (no_use (y.room.number == n) here)) ∙ ap (λ es. y.entry ∷ es) p.now;
+          now = ap (λ f. f ∷ map_entries (all_valued n value c)) (apart y (no_use ((number_of y.room) == n) here)) ∙ ap (λ es. y.entry ∷ es) p.now;
         }
   ]
 
-  tree_put : (x : Placed V) (t : Tree V) → x.room.number ≡ n → IsIn x t → leaves_at n t ≤ 1 → IsPut x.entry (routes_of t) (routes_of (tree_valued n value t))
+  tree_put : (x : Placed V) (t : Tree V) → (number_of x.room) ≡ n → IsIn x t → leaves_at n t ≤ 1 → IsPut x.entry (routes_of t) (routes_of (tree_valued n value t))
   tree_put x (leaf y ys) is at once = chain_put x (y ∷ ys) is at once
   tree_put x (fork room b zero one) is at once = elim at [
     | inl left ↦ let some = counted_in x zero is left in
@@ -160,8 +162,8 @@ module _ {V : Type 0} where
               let l = w.listed k p (sym (v.masks k) ∙ some) in
               (valued n value l.0, in_valued n value l.0 w.part.tree l.1, l.2,
               subst (λ T. T) (sym (home_is n value l.0.entry.key l.0.entry.rank w.part.tree)) l.3);
-          all = all_valued_in n value w.part.tree (λ x. IsMarked (masks_in new) x ⊎ (nobody_late x.room.number ≡ true)) (λ x at home. elim (w.all x at home) [
-            | inl marked ↦ inl (ap is_some (v.masks x.room.number) ∙ marked)
+          all = all_valued_in n value w.part.tree (λ x. IsMarked (masks_in new) x ⊎ (nobody_late (number_of x.room) ≡ true)) (λ x at home. elim (w.all x at home) [
+            | inl marked ↦ inl (ap is_some (v.masks (number_of x.room)) ∙ marked)
             | inr late ↦ inr late
           ]);
         } in (is, shown_is is)
@@ -169,7 +171,7 @@ module _ {V : Type 0} where
     pub valued_whole : IsWhole new root
     valued_whole = (whole_and_shown).0
 
-    pub valued_shown : (x : Placed V) → x.room.number ≡ n → IsIn x w.part.tree
+    pub valued_shown : (x : Placed V) → (number_of x.room) ≡ n → IsIn x w.part.tree
         → shown new (Some root) ≡ with_entry (record x.entry { value = value }) (shown m (Some root))
     valued_shown x is at =
         let once = (once_but w).leaves n in
@@ -184,26 +186,26 @@ module _ {V : Type 0} where
   put_none n value (Some p) = refl
 
   module _ (m : Lodged V) (room : Id) (value : V) (h : Has m room) where
-    put_get : (k : ℕ) → get (put_value m room value) k ≡ (if k == room.number then Some (seen room.block value h.room.links) else get m k)
+    put_get : (k : ℕ) → get (put_value m room value) k ≡ (if k == (number_of room) then Some (seen room.block value h.room.links) else get m k)
     put_get k = ap (λ q. get q k) (put_value-is m room value h) ∙ get-put_room m room value h.room.links k
 
     kept : {A : Type 0} (r : Option (Seen V) → A) → r (Some (seen room.block value h.room.links)) ≡ r (Some h.room) → (k : ℕ)
         → r (get (put_value m room value) k) ≡ r (get m k)
-    kept r alike k = ap r (put_get k) ∙ elim (k == room.number) as (λ b. (k == room.number) ≡ b
+    kept r alike k = ap r (put_get k) ∙ elim (k == (number_of room)) as (λ b. (k == (number_of room)) ≡ b
         → r (if b then Some (seen room.block value h.room.links) else get m k) ≡ r (get m k)) [
-          | true ↦ λ is. alike ∙ ap r (sym h.at) ∙ ap (λ j. r (get m j)) (sym (eqb-true k room.number is))
+          | true ↦ λ is. alike ∙ ap r (sym h.at) ∙ ap (λ j. r (get m j)) (sym (eqb-true k (number_of room) is))
           | false ↦ λ is. refl
         ] refl
 
-    pub put_valued : IsValued m (put_value m room value) room.number value
+    pub put_valued : IsValued m (put_value m room value) (number_of room) value
     put_valued = record {
       leaves = λ k. ap leaf_in (put_get k)
-          ∙ elim (k == room.number) as (λ b. (k == room.number) ≡ b → leaf_in (if b then Some (seen room.block value h.room.links) else get m k)
-          ≡ put room.number value b (leaves_in m k)) [
+          ∙ elim (k == (number_of room)) as (λ b. (k == (number_of room)) ≡ b → leaf_in (if b then Some (seen room.block value h.room.links) else get m k)
+          ≡ put (number_of room) value b (leaves_in m k)) [
             | true ↦ λ is. ap (λ p. Some (record { block = p; value = value; leaf = leaf_of h.room.links })) (sym h.block)
-                ∙ ap (λ o. put room.number value true (leaf_in o)) (sym h.at)
-                ∙ ap (λ j. put room.number value true (leaves_in m j)) (sym (eqb-true k room.number is))
-            | false ↦ λ is. put_none room.number value (leaves_in m k)
+                ∙ ap (λ o. put (number_of room) value true (leaf_in o)) (sym h.at)
+                ∙ ap (λ j. put (number_of room) value true (leaves_in m j)) (sym (eqb-true k (number_of room) is))
+            | false ↦ λ is. put_none (number_of room) value (leaves_in m k)
           ] refl;
       bits = kept (λ (o : Option (Seen V)). bit_in o) (ap (λ p. bit_part p (bit_node_of h.room.links)) (sym h.block));
       heads = kept (λ (o : Option (Seen V)). head_in o) refl;
@@ -217,17 +219,18 @@ module _ {V : Type 0} where
     told = subst (Tells (Finds (HasPair key rank) (In w.part))) some tells
 
     pub lent_shown : shown (put_value m room value) (Some root) ≡ with_entry (record { key = key; rank = rank; value = value }) (shown m (Some root))
-    lent_shown = valued_shown (put_valued m room value h) w told.0 (ap (λ i. i.number) told.1) told.2.0
+    lent_shown = valued_shown (put_valued m room value h) w told.0 (ap (λ i. (number_of i)) told.1) told.2.0
         ∙ (λ i. with_entry (record { key = told.2.1.0 i; rank = told.2.1.1 i; value = value }) (shown m (Some root)))
 
     pub lent_counted : (counts : List ℕ) → AreCounted counts (shown m (Some root)) → AreCounted counts (shown (put_value m room value) (Some root))
     lent_counted counts counted r fits =
         let e = told.0.entry in
-        let p = tree_put room.number value told.0 w.part.tree (ap (λ i. i.number) told.1) told.2.0 ((once_but w).leaves room.number) in
+        let p = tree_put (number_of room) value told.0 w.part.tree (ap (λ i. (number_of i)) told.1) told.2.0 ((once_but w).leaves (number_of room)) in
         let put_in : Entry V = record e { value = value } in
         counted r fits ∙ ap (of_rank r) (shown_is w ∙ p.was) ∙ of_rank-append r p.front (e ∷ p.back)
         ∙ ap (λ k. of_rank r p.front + k) (of_rank-cons r e p.back ∙ sym (of_rank-cons r put_in p.back))
         ∙ sym (of_rank-append r p.front (put_in ∷ p.back)) ∙ ap (of_rank r) (sym p.now ∙ sym (whole_and_shown (put_valued m room value h) w).1)
 
-  pub lent_keys : (m : Lodged V) (room : Id) (value : V) → Has m room → keys (put_value m room value) ≡ keys m
-  lent_keys m room value h = ap keys (put_value-is m room value h) ∙ insert_keys m room.number (seen room.block value h.room.links) h.room h.at
+  pub lent_given : (m : Lodged V) (room : Id) (value : V) {given : List (ℕ × ℕ)} {last : ℕ} → Has m room → AreGiven m given last
+      → AreGiven (put_value m room value) given last
+  lent_given m room value h are = given_same m (put_value m room value) are (kept m room value h (λ (o : Option (Seen V)). is_some (leaf_in o)) refl)

@@ -3,11 +3,12 @@ use Rattle.radix_tree.proofs.Words.{◌≡◌, ℕ, ◌+◌, ◌≤◌, ◌==◌
 use Rattle.radix_tree.proofs.Words.{Tree, leaf, fork, IsAmong, IsIn, IsChain, HaveBit, IsTree, LeafPart, Leaves, Bits, Heads, Masks, leaf_part, first_room}
 use Rattle.radix_tree.proofs.Words.{name_of, ChainStands, Stands, MasksStand, Falls, IsMarked, MarkedIn, MarkedLists, one_if, members_at, leaves_at, forks_at}
 use Rattle.radix_tree.proofs.Words.{HasHome, AreIdle, HasOneFork, HaveOneFork, [], ◌⊎◌, bit_at}
+use Rattle.radix_nodes.specs.Naming.{number_of}
 
 module _ {V : Type 0} (n : ℕ) (value : V) where
   -- ---- the routes with the value in room n
   abbrev pub valued : Placed V → Placed V
-  valued x = record { room = x.room; entry = record { key = x.entry.key; rank = x.entry.rank; value = if x.room.number == n then value else x.entry.value } }
+  valued x = record { room = x.room; entry = record { key = x.entry.key; rank = x.entry.rank; value = if (number_of x.room) == n then value else x.entry.value } }
 
   abbrev pub all_valued : List (Placed V) → List (Placed V)
   all_valued [] = []
@@ -57,7 +58,7 @@ module _ {V : Type 0} (n : ℕ) (value : V) where
     chain_stands : (above previous : Option Id) (c : List (Placed V)) → ChainStands L above previous c → ChainStands M above previous (all_valued c)
     chain_stands above previous [] stands = tt
     chain_stands above previous (x ∷ xs) stands = (
-      leaves x.room.number ∙ ap (put (x.room.number == n)) stands.0 ∙ ap (λ o. Some (leaf_part (valued x) above previous o)) (sym (first_valued xs)),
+      leaves (number_of x.room) ∙ ap (put ((number_of x.room) == n)) stands.0 ∙ ap (λ o. Some (leaf_part (valued x) above previous o)) (sym (first_valued xs)),
       chain_stands None (Some x.room) xs stands.1,
     )
 
@@ -72,7 +73,7 @@ module _ {V : Type 0} (n : ℕ) (value : V) where
 
   members_valued : (k : ℕ) (c : List (Placed V)) → members_at k (all_valued c) ≡ members_at k c
   members_valued k [] = refl
-  members_valued k (x ∷ xs) = ap (λ m. one_if (x.room.number == k) + m) (members_valued k xs)
+  members_valued k (x ∷ xs) = ap (λ m. one_if ((number_of x.room) == k) + m) (members_valued k xs)
 
   pub leaves_valued : (k : ℕ) (t : Tree V) → leaves_at k (tree_valued t) ≡ leaves_at k t
   leaves_valued k (leaf x xs) = members_valued k (x ∷ xs)
@@ -81,8 +82,8 @@ module _ {V : Type 0} (n : ℕ) (value : V) where
 
   pub forks_valued : (k : ℕ) (t : Tree V) → forks_at k (tree_valued t) ≡ forks_at k t
   forks_valued k (leaf x xs) = refl
-  forks_valued k (fork room b zero one) = ap (λ m. one_if (room.number == k) + (m + forks_at k (tree_valued one))) (forks_valued k zero)
-      ∙ ap (λ m. one_if (room.number == k) + (forks_at k zero + m)) (forks_valued k one)
+  forks_valued k (fork room b zero one) = ap (λ m. one_if ((number_of room) == k) + (m + forks_at k (tree_valued one))) (forks_valued k zero)
+      ∙ ap (λ m. one_if ((number_of room) == k) + (forks_at k zero + m)) (forks_valued k one)
 
   idle_valued : (B : Bits) (c : List (Placed V)) → AreIdle B c → AreIdle B (all_valued c)
   idle_valued B [] idle = tt

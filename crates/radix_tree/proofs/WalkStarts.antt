@@ -8,6 +8,7 @@ use Rattle.radix_tree.proofs.Words.{None, refl, sym, ap, ◌∙◌, subst, inl, 
 use Rattle.radix_tree.proofs.Words.{routes_of, Leaves, Bits, Part, Run, leaves_in, bits_in, leaf_part, first_room, name_of, ForkAt, LeafAt, Way, LedTo}
 use Rattle.radix_tree.proofs.Words.{side_behind, chain_behind, ahead, Under, IsBefore, IsFirst, IsAt, chain_shown, beneath_shown, Entry, Place, Lodged}
 use Rattle.radix_tree.proofs.Words.{true≢false}
+use Rattle.radix_nodes.specs.Naming.{number_of}
 
 zero_bit : (b : ℕ) → bit_at b 0 ≡ 0
 unfolding bit_at
@@ -121,11 +122,11 @@ module _ {V : Type 0} where
     leaf_low = (subst (IsTree p.low) f.is p.is).0
 
     -- what a leaf's first room says
-    pub first_said : leaves_in m room.number ≡ Some (leaf_part f.first p.above None (first_room f.rest))
-    first_said = ap (λ i. leaves_in m i.number) (sym f.room_is) ∙ (leaf_run m f).stands.0
+    pub first_said : leaves_in m (number_of room) ≡ Some (leaf_part f.first p.above None (first_room f.rest))
+    first_said = ap (λ i. leaves_in m (number_of i)) (sym f.room_is) ∙ (leaf_run m f).stands.0
 
   pub first_behind : (m : Lodged V) {key : ℕ} {first : Id} (f : IsFirst m key first)
-      → chain_behind (leaves_in m) (bits_in m) (leaves_in m first.number) ≡ f.behind
+      → chain_behind (leaves_in m) (bits_in m) (leaves_in m (number_of first)) ≡ f.behind
   first_behind m f = ap (chain_behind (leaves_in m) (bits_in m)) (first_said f.leaf)
       ∙ up_is m 32 f.whole f.part f.behind f.ups f.leaf.first (first_in f.leaf) f.before f.top (leaf_low f.leaf)
 

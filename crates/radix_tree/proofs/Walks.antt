@@ -8,6 +8,7 @@ use Rattle.radix_tree.proofs.Words.{IsAt, IsOn, chain_shown, chain_from, Entry, 
 use Rattle.radix_tree.proofs.RoomReads.{inside, none_some, AreLinks, bit_read, bit_used, Has-leaf, leaf_read}
 use Rattle.radix_tree.proofs.WalkStarts.{beside, side_zero, side_one, under_inside, first_in, leaf_low, first_said, first_behind, run_shown, Begins}
 use Rattle.radix_tree.proofs.WalkStarts.{first_on}
+use Rattle.radix_nodes.specs.Naming.{number_of}
 
 module _ {V : Type 0} where
   -- ---- within a chain
@@ -17,7 +18,7 @@ module _ {V : Type 0} where
     pub rest : List (Placed V)
     pub is : a.run.members ≡ route ∷ rest
     pub room_is : route.room ≡ place.room
-    pub said : leaves_in m place.room.number ≡ Some (leaf_part route a.run.above a.run.previous (first_room rest))
+    pub said : leaves_in m (number_of place.room) ≡ Some (leaf_part route a.run.above a.run.previous (first_room rest))
     pub chain : IsChain a.run.key a.run.top (route ∷ rest)
     pub stands : ChainStands (leaves_in m) a.run.above a.run.previous (route ∷ rest)
 
@@ -31,7 +32,7 @@ module _ {V : Type 0} where
           rest = xs;
           is = is;
           room_is = inside begins;
-          said = ap (λ i. leaves_in m i.number) (sym (inside begins)) ∙ stands.0;
+          said = ap (λ i. leaves_in m (number_of i)) (sym (inside begins)) ∙ stands.0;
           chain = subst (IsChain a.run.key a.run.top) is a.run.is;
           stands = stands;
         }
@@ -48,7 +49,7 @@ module _ {V : Type 0} where
         let h = here in is ∙ leaf_read m place.room links h.said (ap (λ i. i.block) h.room_is) are
 
   abbrev pub behind_of : (m : Lodged V) → Id → List (Entry V)
-  behind_of m first = chain_behind (leaves_in m) (bits_in m) (leaves_in m first.number)
+  behind_of m first = chain_behind (leaves_in m) (bits_in m) (leaves_in m (number_of first))
 
   chain_rest : (m : Lodged V) (place : Place) (a : IsAt m place) (h : IsHere m place a)
       → ahead (leaves_in m) (bits_in m) (Some place) ≡ (h.route.entry ∷ map (λ (p : Placed V). p.entry) h.rest) ++ behind_of m place.first
@@ -58,7 +59,7 @@ module _ {V : Type 0} where
   -- what is told from a place on is its route, and then what is told from the next one on
   abbrev pub FollowedBy : Lodged V → Place → Option Place → Type 0
   FollowedBy m place next =
-      ahead (leaves_in m) (bits_in m) (Some place) ≡ chain_from (leaves_in m place.room.number) (λ _. ahead (leaves_in m) (bits_in m) next)
+      ahead (leaves_in m) (bits_in m) (Some place) ≡ chain_from (leaves_in m (number_of place.room)) (λ _. ahead (leaves_in m) (bits_in m) next)
 
   followed : (m : Lodged V) (place : Place) (a : IsAt m place) (h : IsHere m place a) (next : Option Place)
       → map (λ (p : Placed V). p.entry) h.rest ++ behind_of m place.first ≡ ahead (leaves_in m) (bits_in m) next → FollowedBy m place next
@@ -119,7 +120,7 @@ module _ {V : Type 0} where
     pub behind : List (Entry V)
     pub ups : List (Part m)
     pub before : IsBefore whole part behind ups
-    pub same : behind ≡ chain_behind (leaves_in m) (bits_in m) (leaves_in m first.number)
+    pub same : behind ≡ chain_behind (leaves_in m) (bits_in m) (leaves_in m (number_of first))
     pub few : steps + part.low ≤ levels
 
   pub climb_begun : {m : Lodged V} {key : ℕ} (first : Id) (f : IsFirst m key first) (links : Links) {l : Leaf} (steps : ℕ) → AreLinks m first links

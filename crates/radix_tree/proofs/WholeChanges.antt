@@ -6,19 +6,20 @@ use Rattle.radix_tree.proofs.Words.{Node, Placed, Tree, IsIn, IsTree, MaskPart, 
 use Rattle.radix_tree.proofs.Words.{HasHome, HaveOneFork, Frame, on_zero, on_one, plug, Lead, Exchanged, IsMarked, MarkedLists, IsWholeBut, Lodged}
 use Rattle.radix_tree.proofs.Plugs.{Aside, plug_leaves, plug_forks, plug_in, aside_in, in_plug, aside_at, spare_at, spare_plug, home_plug, plug_home}
 use Rattle.radix_tree.proofs.Plugs.{aside_home}
+use Rattle.radix_nodes.specs.Naming.{number_of}
 
 module _ {V : Type 0} where
   -- ---- an exchange
   module _ {m new : Lodged V} {root name : Node} {late : ℕ → Bool} {out : ℕ → ℕ} {key : ℕ} (w : IsWholeBut m root late out) {at : Part m} {under : Part new}
       (e : Exchanged m new key w.part at under name) where
     -- the room of a route aside is a leaf of the whole and none of the part
-    pub aside_out : (y : Placed V) → Aside e.frames y → (leaves_at y.room.number at.tree ≡ 0) × (1 ≤ leaves_at y.room.number w.part.tree)
+    pub aside_out : (y : Placed V) → Aside e.frames y → (leaves_at (number_of y.room) at.tree ≡ 0) × (1 ≤ leaves_at (number_of y.room) w.part.tree)
     aside_out y aside =
         let more = aside_at e.frames at.tree y aside in
-        let same = ap (leaves_at y.room.number) e.was in
-        let most = (once_but w).leaves y.room.number in
-        let none : leaves_at y.room.number at.tree ≡ 0 = omega arith in
-        let some : 1 ≤ leaves_at y.room.number w.part.tree = omega arith in (none, some)
+        let same = ap (leaves_at (number_of y.room)) e.was in
+        let most = (once_but w).leaves (number_of y.room) in
+        let none : leaves_at (number_of y.room) at.tree ≡ 0 = omega arith in
+        let some : 1 ≤ leaves_at (number_of y.room) w.part.tree = omega arith in (none, some)
 
     pub spare_changed : (HaveOneFork (bits_in m) at.tree → HaveOneFork (bits_in new) under.tree)
         → ((n : ℕ) → leaves_at n at.tree ≡ 0 → 1 ≤ leaves_at n w.part.tree → bits_in m n ≡ None → bits_in new n ≡ None)
@@ -27,7 +28,7 @@ module _ {V : Type 0} where
         let spare = subst (HaveOneFork (bits_in m)) e.was w.spare in
         subst (HaveOneFork (bits_in new)) (sym e.is_now)
         (spare_plug (bits_in m) (bits_in new) e.frames at.tree under.tree spare (own (spare_at (bits_in m) e.frames at.tree spare))
-        (λ y aside. let o = aside_out y aside in idle y.room.number o.0 o.1))
+        (λ y aside. let o = aside_out y aside in idle (number_of y.room) o.0 o.1))
 
   -- a route's own bits lead to a part that has it
   pub leads : (low : ℕ) (fs : List (Frame V)) (t : Tree V) (y : Placed V) → IsTree low (plug fs t) → IsIn y t → Lead y.entry.key fs
@@ -67,8 +68,8 @@ module _ {V : Type 0} where
     was_marked : {later : ℕ → Bool} {outs : ℕ → ℕ} → Fits m new w.part at under late later out outs → (y : Placed V) → IsMarked (masks_in new) y
         → IsMarked (masks_in m) y
     was_marked f y marked =
-        let now = some_of (masks_in new y.room.number) marked in
-        let before = f.marks y.room.number now.0 now.1 in ap is_some before.1
+        let now = some_of (masks_in new (number_of y.room)) marked in
+        let before = f.marks (number_of y.room) now.0 now.1 in ap is_some before.1
 
     keeps_above : {later : ℕ → Bool} {outs : ℕ → ℕ} → Fits m new w.part at under late later out outs
         → KeepsAbove (heads_in m) (heads_in new) (masks_in m) (masks_in new) at.low e.frames at.tree under.tree
@@ -78,7 +79,7 @@ module _ {V : Type 0} where
           let most = (once_but w).forks n in
           let none : forks_at n at.tree ≡ 0 = omega arith in
           let there : 1 ≤ forks_at n w.part.tree = omega arith in f.heads n none there;
-      aside = λ y aside. let o = aside_out w e y aside in f.masks y.room.number o.0 o.1;
+      aside = λ y aside. let o = aside_out w e y aside in f.masks (number_of y.room) o.0 o.1;
       stays = λ y is below marked.
           let same = f.masks_above y is below marked in ((f.kept y is (marked_same (masks_in m) (masks_in new) y same marked)).0, same);
       came = λ y is below marked. (f.came y is marked, was_marked f y marked);
@@ -118,7 +119,7 @@ module _ {V : Type 0} where
 
     -- a mask that is listed is that of a route with a home
     listed_now : {later : ℕ → Bool} {outs : ℕ → ℕ} → Fits m new w.part at under late later out outs → (n : ℕ) (p : MaskPart) → masks_in new n ≡ Some p
-        → (x : Placed V) → IsIn x w.part.tree → x.room.number ≡ n → HasHome x.entry.key x.entry.rank w.part.tree
+        → (x : Placed V) → IsIn x w.part.tree → (number_of x.room) ≡ n → HasHome x.entry.key x.entry.rank w.part.tree
         → IsIn x e.part.tree × HasHome x.entry.key x.entry.rank e.part.tree
     listed_now f n p said x is number home =
         let marked = ap is_some (ap (masks_in new) number ∙ said) in
@@ -141,7 +142,7 @@ module _ {V : Type 0} where
         ]
 
     listed_changed : {later : ℕ → Bool} {outs : ℕ → ℕ} → Fits m new w.part at under late later out outs → (n : ℕ) (p : MaskPart) → masks_in new n ≡ Some p
-        → (x : Placed V) × IsIn x e.part.tree × (x.room.number ≡ n) × HasHome x.entry.key x.entry.rank e.part.tree
+        → (x : Placed V) × IsIn x e.part.tree × ((number_of x.room) ≡ n) × HasHome x.entry.key x.entry.rank e.part.tree
     listed_changed f n p said =
         let before = f.marks n p said in
         let x = w.listed n before.0 before.1 in
@@ -150,18 +151,18 @@ module _ {V : Type 0} where
 
     -- a route with a home has its mask listed, or is late
     all_aside : {later : ℕ → Bool} {outs : ℕ → ℕ} → Fits m new w.part at under late later out outs → (x : Placed V) → Aside e.frames x
-        → HasHome x.entry.key x.entry.rank (plug e.frames under.tree) → IsMarked (masks_in new) x ⊎ (later x.room.number ≡ true)
+        → HasHome x.entry.key x.entry.rank (plug e.frames under.tree) → IsMarked (masks_in new) x ⊎ (later (number_of x.room) ≡ true)
     all_aside f x aside home =
         let o = aside_out w e x aside in
         let old_home = aside_home w.part.low e.frames under.tree at.tree x new_is aside home in
         elim (w.all x (in_old x (aside_in e.frames at.tree x aside))
         (subst (HasHome x.entry.key x.entry.rank) (sym e.was) old_home)) [
-          | inl marked ↦ inl (marked_same (masks_in m) (masks_in new) x (f.masks x.room.number o.0 o.1) marked)
-          | inr is_late ↦ inr (f.late_aside x.room.number o.0 o.1 is_late)
+          | inl marked ↦ inl (marked_same (masks_in m) (masks_in new) x (f.masks (number_of x.room) o.0 o.1) marked)
+          | inr is_late ↦ inr (f.late_aside (number_of x.room) o.0 o.1 is_late)
         ]
 
     all_beneath : {later : ℕ → Bool} {outs : ℕ → ℕ} → Fits m new w.part at under late later out outs → (x : Placed V) → IsIn x under.tree
-        → HasHome x.entry.key x.entry.rank (plug e.frames under.tree) → IsMarked (masks_in new) x ⊎ (later x.room.number ≡ true)
+        → HasHome x.entry.key x.entry.rank (plug e.frames under.tree) → IsMarked (masks_in new) x ⊎ (later (number_of x.room) ≡ true)
     all_beneath f x is home =
         let place = subst (λ n. (x.entry.rank < n) ⊎ HasHome x.entry.key x.entry.rank under.tree) (sym e.lowest)
         (home_plug w.part.low e.frames under.tree x new_is is home) in
@@ -175,7 +176,7 @@ module _ {V : Type 0} where
         ]
 
     all_changed : {later : ℕ → Bool} {outs : ℕ → ℕ} → Fits m new w.part at under late later out outs → (x : Placed V) → IsIn x e.part.tree
-        → HasHome x.entry.key x.entry.rank e.part.tree → IsMarked (masks_in new) x ⊎ (later x.room.number ≡ true)
+        → HasHome x.entry.key x.entry.rank e.part.tree → IsMarked (masks_in new) x ⊎ (later (number_of x.room) ≡ true)
     all_changed f x is home =
         let now = subst (HasHome x.entry.key x.entry.rank) e.is_now home in
         elim (in_plug e.frames under.tree x (subst (IsIn x) e.is_now is)) [

@@ -3,6 +3,7 @@ use Rattle.radix_tree.proofs.{TreeMembers.bit_beneath, Facts.one_if_most}
 use Rattle.radix_tree.proofs.Words.{◌≡◌, ℕ, ◌+◌, ◌<◌, ◌≤◌, ◌⊎◌, Bool, true, Some, inl, inr, arith, is_some, Node, Placed, Tree, leaf, fork, IsIn, IsTree}
 use Rattle.radix_tree.proofs.Words.{MaskPart, Heads, Masks, Part, Lists, leaves_in, bits_in, heads_in, masks_in, one_if, leaves_at, forks_at, HasHome}
 use Rattle.radix_tree.proofs.Words.{IsWhole, AreOnce, IsMarked, MarkedLists, IsWholeBut, nobody_out, Lodged, AreListed, true≢false, sym}
+use Rattle.radix_nodes.specs.Naming.{number_of}
 
 module _ {V : Type 0} where
   -- ---- no route late, and no room on its way out
@@ -30,7 +31,7 @@ module _ {V : Type 0} where
 
   -- the routes that are late may be told anew: each route with a home is marked or among them
   abbrev pub with_late : {m : Lodged V} {root : Node} {late : ℕ → Bool} {out : ℕ → ℕ} (later : ℕ → Bool) (w : IsWholeBut m root late out)
-      → ((x : Placed V) → IsIn x w.part.tree → HasHome x.entry.key x.entry.rank w.part.tree → IsMarked (masks_in m) x ⊎ (later x.room.number ≡ true))
+      → ((x : Placed V) → IsIn x w.part.tree → HasHome x.entry.key x.entry.rank w.part.tree → IsMarked (masks_in m) x ⊎ (later (number_of x.room) ≡ true))
       → IsWholeBut m root later out
   with_late later w all = record {
     part = w.part;
@@ -49,7 +50,7 @@ module _ {V : Type 0} where
   abbrev pub later_than : {m : Lodged V} {root : Node} {late : ℕ → Bool} (later : ℕ → Bool) → ((n : ℕ) → late n ≡ true → later n ≡ true)
       → IsWholeBut m root late nobody_out → IsWholeBut m root later nobody_out
   later_than later more w = with_late later w
-      (λ x in_x home. elim (w.all x in_x home) [ inl marked ↦ inl marked | inr is_late ↦ inr (more x.room.number is_late) ])
+      (λ x in_x home. elim (w.all x in_x home) [ inl marked ↦ inl marked | inr is_late ↦ inr (more (number_of x.room) is_late) ])
 
   pub once_but : {m : Lodged V} {root : Node} {late : ℕ → Bool} {out : ℕ → ℕ} (w : IsWholeBut m root late out) → AreOnce w.part.tree
   once_but {m = m} {out = out} w = record {
@@ -64,7 +65,7 @@ module _ {V : Type 0} where
     -- outside of the part, and for masks that are listed above it, the lists stay
     pub heads : (n : ℕ) → forks_at n at.tree ≡ 0 → 1 ≤ forks_at n whole.tree → heads_in new n ≡ heads_in m n
     pub masks : (n : ℕ) → leaves_at n at.tree ≡ 0 → 1 ≤ leaves_at n whole.tree → masks_in new n ≡ masks_in m n
-    pub masks_above : (y : Placed V) → IsIn y at.tree → y.entry.rank < at.low → IsMarked (masks_in m) y → masks_in new y.room.number ≡ masks_in m y.room.number
+    pub masks_above : (y : Placed V) → IsIn y at.tree → y.entry.rank < at.low → IsMarked (masks_in m) y → masks_in new (number_of y.room) ≡ masks_in m (number_of y.room)
     -- no mask is listed that wasn't; a route that goes has none, and one whose mask is listed keeps a home
     pub marks : (n : ℕ) (p : MaskPart) → masks_in new n ≡ Some p → (q : MaskPart) × (masks_in m n ≡ Some q)
     pub kept : (y : Placed V) → IsIn y at.tree → IsMarked (masks_in new) y → IsIn y under.tree
@@ -74,7 +75,7 @@ module _ {V : Type 0} where
     pub lists : MarkedLists (heads_in new) (masks_in new) at.low under.tree
     -- each route with a home has its mask listed, or is late
     pub all : (y : Placed V) → IsIn y under.tree → (y.entry.rank < at.low) ⊎ HasHome y.entry.key y.entry.rank under.tree
-        → (later y.room.number ≡ true) ⊎ (IsIn y at.tree × ((y.entry.rank < at.low) ⊎ HasHome y.entry.key y.entry.rank at.tree)
-        × (IsMarked (masks_in m) y → IsMarked (masks_in new) y) × (late y.room.number ≡ true → later y.room.number ≡ true))
+        → (later (number_of y.room) ≡ true) ⊎ (IsIn y at.tree × ((y.entry.rank < at.low) ⊎ HasHome y.entry.key y.entry.rank at.tree)
+        × (IsMarked (masks_in m) y → IsMarked (masks_in new) y) × (late (number_of y.room) ≡ true → later (number_of y.room) ≡ true))
     pub late_aside : (n : ℕ) → leaves_at n at.tree ≡ 0 → 1 ≤ leaves_at n whole.tree → late n ≡ true → later n ≡ true
     -- where bit nodes in use stay as they were beside the part

@@ -7,6 +7,7 @@ use Rattle.radix_tree.specs.Tree.{Placed, IsAmong}
 use Rattle.radix_tree.specs.Rooms.{LeafPart, Run, first_room, Lodged}
 use Rattle.radix_tree.specs.Growth.{root_after}
 use Rattle.radix_tree.specs.Writes.{lodge_leaf}
+use Rattle.radix_nodes.specs.Naming.{number_of}
 
 -- the root, once a chain has another first member
 abbrev pub root_past : Option Id → Option Id → Node → Node → Node
@@ -25,12 +26,12 @@ module _ {V : Type 0} where
   -- what number n says once a member of a chain, where there is one, names another next one
   abbrev pub name_next : Option Id → Option Id → ℕ → Option (LeafPart V) → Option (LeafPart V)
   name_next None next n said = said
-  name_next (Some room) next n said = if n == room.number then leaf_next next said else said
+  name_next (Some room) next n said = if n == (number_of room) then leaf_next next said else said
 
   -- and once it names another bit node above and another previous one
   abbrev pub name_back : Option Id → Option Id → Option Id → ℕ → Option (LeafPart V) → Option (LeafPart V)
   name_back None above previous n said = said
-  name_back (Some room) above previous n said = if n == room.number then leaf_back above previous said else said
+  name_back (Some room) above previous n said = if n == (number_of room) then leaf_back above previous said else said
 
   -- what number n says once a value is lodged in a room, which is this leaf, and its neighbours name it
   abbrev pub link_in : Id → V → Leaf → ℕ → Option (LeafPart V) → Option (LeafPart V)

@@ -12,6 +12,7 @@ use Rattle.radix_tree.specs.Searches.{Way, LedTo}
 use Rattle.radix_tree.specs.Whole.{leaves_at, forks_at, IsWhole}
 use Rattle.radix_tree.specs.Writes.{lift_leaf, lift_bit}
 use Rattle.radix_tree.specs.declared.entry.Entry.{Entry}
+use Rattle.radix_nodes.specs.Naming.{number_of}
 
 -- what a bit node says once it names another node on the side of an address
 abbrev pub with_child : ℕ → Node → Option BitPart → Option BitPart
@@ -21,7 +22,7 @@ with_child address to (Some p) = Some (if bit_at p.bit address == 1 then record 
 -- what number n says once the bit node above a place, where there is one, names another node there
 abbrev pub name_child : Option Id → ℕ → Node → ℕ → Option BitPart → Option BitPart
 name_child None address to n said = said
-name_child (Some up) address to n said = if n == up.number then with_child address to said else said
+name_child (Some up) address to n said = if n == (number_of up) then with_child address to said else said
 
 -- the root, once the place beneath this bit node, or beneath none, has another node
 abbrev pub root_after : Option Id → Node → Node → Node
@@ -30,7 +31,7 @@ root_after (Some up) to root = root
 
 -- what number n says as the head of a list, once the room has this one
 abbrev pub with_head : Id → Option Id → ℕ → Option Id → Option Id
-with_head room first n said = if n == room.number then first else said
+with_head room first n said = if n == (number_of room) then first else said
 
 -- the new bit node, with the new leaf on the side of its key
 abbrev pub forked : ℕ → ℕ → Id → Node → Option Id → BitPart
@@ -62,9 +63,8 @@ module _ {V : Type 0} where
     pub far_one : bit_at bit key ≡ 0 → HaveBit bit 1 t
     pub far_zero : bit_at bit key ≡ 1 → HaveBit bit 0 t
 
-  -- a room is made, and no route stands in it
+  -- no route stands in a room
   pub record IsSpare (nodes : Rooms V) (room : ℕ) : Type 0 where
-    pub made : room < nodes.next
     pub free : get nodes.lodged room ≡ None
 
   -- the bits of a key lead to this leaf, which has the key
@@ -103,23 +103,23 @@ module _ {V : Type 0} where
 
   -- a route stands in a room that was not in the map, which is its leaf and this bit node above that
   pub record IsLodged (m new : Lodged V) (room : Id) (e : Entry V) (node : BitPart) : Type 0 where
-    pub no_leaf : leaves_in m room.number ≡ None
-    pub no_bit : bits_in m room.number ≡ None
-    pub leaf : leaves_in new room.number ≡ Some (leaf_part (placed room e) (Some room) None None)
-    pub bit_node : bits_in new room.number ≡ Some node
-    pub leaves : (n : ℕ) → (n ≡ room.number → ⊥) → leaves_in new n ≡ leaves_in m n
-    pub bits : (n : ℕ) → (n ≡ room.number → ⊥) → bits_in new n ≡ bits_in m n
+    pub no_leaf : leaves_in m (number_of room) ≡ None
+    pub no_bit : bits_in m (number_of room) ≡ None
+    pub leaf : leaves_in new (number_of room) ≡ Some (leaf_part (placed room e) (Some room) None None)
+    pub bit_node : bits_in new (number_of room) ≡ Some node
+    pub leaves : (n : ℕ) → (n ≡ (number_of room) → ⊥) → leaves_in new n ≡ leaves_in m n
+    pub bits : (n : ℕ) → (n ≡ (number_of room) → ⊥) → bits_in new n ≡ bits_in m n
 
   -- what the rooms say once this route stands in a room of its own, beneath a new bit node in that room, which came
   -- between the bit node above a place and the node beneath it
   pub record IsBeside (m new : Lodged V) (bit : ℕ) (x : Placed V) (above : Option Id)
       (below : Node) : Type 0 where
-    pub no_leaf : leaves_in m x.room.number ≡ None
-    pub no_bit : bits_in m x.room.number ≡ None
-    pub leaf : leaves_in new x.room.number ≡ Some (leaf_part x (Some x.room) None None)
-    pub bit_node : bits_in new x.room.number ≡ Some (forked x.entry.key bit x.room below above)
-    pub leaves : (n : ℕ) → (n ≡ x.room.number → ⊥) → leaves_in new n ≡ lift_leaf below (Some x.room) n (leaves_in m n)
-    pub bits : (n : ℕ) → (n ≡ x.room.number → ⊥)
+    pub no_leaf : leaves_in m (number_of x.room) ≡ None
+    pub no_bit : bits_in m (number_of x.room) ≡ None
+    pub leaf : leaves_in new (number_of x.room) ≡ Some (leaf_part x (Some x.room) None None)
+    pub bit_node : bits_in new (number_of x.room) ≡ Some (forked x.entry.key bit x.room below above)
+    pub leaves : (n : ℕ) → (n ≡ (number_of x.room) → ⊥) → leaves_in new n ≡ lift_leaf below (Some x.room) n (leaves_in m n)
+    pub bits : (n : ℕ) → (n ≡ (number_of x.room) → ⊥)
         → bits_in new n ≡ lift_bit below (Some x.room) n (name_child above x.entry.key (BitOf x.room) n (bits_in m n))
 
   -- a key that no route has: the leaf to which its bits lead, and the first bit at which it differs from that leaf's

@@ -2,6 +2,7 @@ pub mod Bounds
 pub mod Chains
 pub mod Exchange
 pub mod Found
+pub mod Given
 pub mod Growth
 pub mod Joining
 pub mod Kept

@@ -4,12 +4,13 @@ use Rattle.radix_nodes.specs.declared.id.Id.{Id}
 use Rattle.radix_nodes.specs.declared.links.Node.{Node}
 use Rattle.radix_tree.specs.Rooms.{LeafPart, leaves_in, Lodged}
 use Rattle.radix_tree.specs.Whole.{one_if, nobody_out, IsWholeBut}
+use Rattle.radix_nodes.specs.Naming.{number_of}
 
 module _ {V : Type 0} where
   -- where masks of some routes were late, that of the route in this room is not any more
   abbrev pub ListsMaskOf : Lodged V → Lodged V → Id → Type 0
   ListsMaskOf old new room = (root : Node) (late : ℕ → Bool) → IsWholeBut old root late nobody_out
-      → IsWholeBut new root (λ n. late n && not (n == room.number)) nobody_out
+      → IsWholeBut new root (λ n. late n && not (n == (number_of room))) nobody_out
 
   -- the room has a route of this key
   abbrev pub is_of_key : ℕ → Option (LeafPart V) → Bool

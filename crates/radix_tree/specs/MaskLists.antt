@@ -6,16 +6,17 @@ use Rattle.radix_tree.specs.Tree.{Placed, IsAmong}
 use Rattle.radix_tree.specs.Rooms.{LeafPart, BitPart, MaskPart, Leaves, Part, leaves_in, bits_in, heads_in, masks_in, first_room, MasksStand, Falls, Lodged}
 use Rattle.radix_tree.specs.Searches.{Way, ForkAt}
 use Rattle.radix_tree.specs.Whole.{HasHome}
+use Rattle.radix_nodes.specs.Naming.{number_of}
 
 -- the head of a list that number n says, once a list of masks has this member behind one of them, or as its first
 abbrev pub head_linked : Id → Option Id → Option Id → ℕ → Option Id → Option Id
-head_linked fork None next n said = if n == fork.number then next else said
+head_linked fork None next n said = if n == (number_of fork) then next else said
 head_linked fork (Some before) next n said = said
 
 -- and the mask node
 abbrev pub mask_linked : Option Id → Option Id → ℕ → Option MaskPart → Option MaskPart
 mask_linked None next n said = said
-mask_linked (Some before) next n said = if n == before.number
+mask_linked (Some before) next n said = if n == (number_of before)
     then Some (record { block = before.block; next = next }) else said
 
 module _ {V : Type 0} where
@@ -56,7 +57,7 @@ module _ {V : Type 0} where
 
   -- no member's room has this number
   abbrev pub IsAside : ℕ → List (Placed V) → Type 0
-  IsAside n ms = (y : Placed V) → IsAmong y ms → y.room.number ≡ n → ⊥
+  IsAside n ms = (y : Placed V) → IsAmong y ms → (number_of y.room) ≡ n → ⊥
 
   -- no member has this rank
   abbrev pub IsNoRank : ℕ → List (Placed V) → Type 0
@@ -66,7 +67,7 @@ module _ {V : Type 0} where
   -- the route's room is a leaf of its rank
   pub record IsRanked (L : Leaves V) (x : Placed V) : Type 0 where
     pub part : LeafPart V
-    pub said : L x.room.number ≡ Some part
+    pub said : L (number_of x.room) ≡ Some part
     pub block : part.block ≡ x.room.block
     pub rank : part.leaf.rank ≡ x.entry.rank
 
@@ -83,7 +84,7 @@ module _ {V : Type 0} where
 
   -- the masks that a bit node lists
   abbrev pub MasksAt : Lodged V → Id → List (Placed V) → Type 0
-  MasksAt m fork ms = IsMasks m (heads_in m fork.number) ms
+  MasksAt m fork ms = IsMasks m (heads_in m (number_of fork)) ms
 
   -- the rooms that are not on the list of a bit node say as mask nodes what they said, and so they do but for one room
   abbrev pub KeepsAside : Lodged V → Lodged V → Id → Type 0
@@ -92,17 +93,17 @@ module _ {V : Type 0} where
 
   abbrev pub KeepsAsideBut : Lodged V → Lodged V → Id → Id → Type 0
   KeepsAsideBut old new fork room = (ms : List (Placed V)) → MasksAt old fork ms
-      → (n : ℕ) → (n ≡ room.number → ⊥) → IsAside n ms → masks_in new n ≡ masks_in old n
+      → (n : ℕ) → (n ≡ (number_of room) → ⊥) → IsAside n ms → masks_in new n ≡ masks_in old n
 
   -- the rooms whose masks are listed stay, but for one room
   abbrev pub KeepsMarksBut : Lodged V → Lodged V → Id → Type 0
-  KeepsMarksBut old new room = (n : ℕ) → (n ≡ room.number → ⊥)
+  KeepsMarksBut old new room = (n : ℕ) → (n ≡ (number_of room) → ⊥)
       → is_some (masks_in new n) ≡ is_some (masks_in old n)
 
   -- the room is a bit node in use
   pub record IsBitNode (m : Lodged V) (room : Id) : Type 0 where
     pub part : BitPart
-    pub said : bits_in m room.number ≡ Some part
+    pub said : bits_in m (number_of room) ≡ Some part
     pub block : part.block ≡ room.block
 
   -- a room that is no mask node yet
@@ -110,7 +111,7 @@ module _ {V : Type 0} where
     pub is : Placed V
     pub room_is : is.room ≡ room
     pub ranked : IsRanked (leaves_in m) is
-    pub unmarked : masks_in m room.number ≡ None
+    pub unmarked : masks_in m (number_of room) ≡ None
 
   -- ---- the bit node at which a mask is listed: the topmost one on a key's way whose bit is at or past the rank
   pub record HomeAt (m : Lodged V) (key rank : ℕ) (whole : Part m) (room : Id) : Type 0 where

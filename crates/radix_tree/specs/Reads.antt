@@ -5,6 +5,7 @@ use Rattle.radix_nodes.specs.Rooms.{Rooms}
 use Rattle.radix_nodes.specs.declared.id.Id.{Id}
 use Rattle.radix_nodes.specs.declared.links.BitNode.{BitNode}
 use Rattle.radix_tree.specs.Rooms.{bit_part, bits_in, heads_in, Lodged}
+use Rattle.radix_nodes.specs.Naming.{number_of}
 
 -- a counter went on, by so many visits at most
 pub record Reads (old new : Counter) (most : ℕ) : Type 0 where
@@ -19,11 +20,10 @@ pub record ReadsOnce (old new : Counter) : Type 0 where
 
 -- the room is this bit node in use
 pub record IsBitNodeOf {V : Type 0} (m : Lodged V) (room : Id) (node : BitNode) : Type 0 where
-  pub said : bits_in m room.number ≡ bit_part room.block (Some node)
-  pub head : heads_in m room.number ≡ node.masks
+  pub said : bits_in m (number_of room) ≡ bit_part room.block (Some node)
+  pub head : heads_in m (number_of room) ≡ node.masks
 
--- the map makes and frees no room, and begins no turn; nor does the counter change its turn
+-- the map begins no turn, nor does the counter change its own
 pub record Stays {V : Type 0} (old new : Rooms V) (before after : Counter) : Type 0 where
-  pub next : new.next ≡ old.next
   pub turn : new.turn ≡ old.turn
   pub counter : after.turn ≡ before.turn

@@ -13,6 +13,7 @@ use Rattle.radix_nodes.specs.declared.links.Leaf.{Leaf}
 use Rattle.radix_nodes.specs.declared.links.BitNode.{BitNode}
 use Rattle.radix_nodes.specs.declared.links.MaskNode.{MaskNode}
 use Rattle.radix_tree.specs.Tree.{Placed, Tree, leaf, fork, IsAmong, IsIn, IsChain, IsTree}
+use Rattle.radix_nodes.specs.Naming.{number_of}
 
 -- the lodged rooms by their numbers
 abbrev pub Lodged : Type 0 → Type 0
@@ -111,13 +112,13 @@ module _ {V : Type 0} where
   abbrev pub ChainStands : Leaves V → Option Id → Option Id → List (Placed V) → Type 0
   ChainStands L above previous [] = Unit {0}
   ChainStands L above previous (x ∷ xs) =
-      (L x.room.number ≡ Some (leaf_part x above previous (first_room xs))) × ChainStands L None (Some x.room) xs
+      (L (number_of x.room) ≡ Some (leaf_part x above previous (first_room xs))) × ChainStands L None (Some x.room) xs
 
   -- rooms stand for a tree: each bit node names those beneath it and the one above
   abbrev pub Stands : Leaves V → Bits → Option Id → Tree V → Type 0
   Stands L B above (leaf x xs) = ChainStands L above None (x ∷ xs)
   Stands L B above (fork room b zero one) =
-      (B room.number ≡ Some (record {
+      (B (number_of room) ≡ Some (record {
         block = room.block;
         bit = b;
         zero = name_of zero;
@@ -131,7 +132,7 @@ module _ {V : Type 0} where
   abbrev pub MasksStand : Masks → List (Placed V) → Type 0
   MasksStand K [] = Unit {0}
   MasksStand K (x ∷ xs) =
-      (K x.room.number ≡ Some (record { block = x.room.block; next = first_room xs })) × MasksStand K xs
+      (K (number_of x.room) ≡ Some (record { block = x.room.block; next = first_room xs })) × MasksStand K xs
 
   -- the ranks fall, from below a top down to low
   abbrev pub Falls : ℕ → ℕ → List (Placed V) → Type 0
@@ -152,12 +153,12 @@ module _ {V : Type 0} where
   abbrev pub Lists : (Placed V → Type 0) → Heads → Masks → ℕ → Tree V → Type 0
   Lists M H K low (leaf x xs) = Unit {0}
   Lists M H K low (fork room b zero one) =
-      IsMaskList K (H room.number) low b (λ x. IsIn x (fork room b zero one) × M x)
+      IsMaskList K (H (number_of room)) low b (λ x. IsIn x (fork room b zero one) × M x)
       × Lists M H K (b + 1) zero × Lists M H K (b + 1) one
 
   -- the route's mask is listed somewhere
   abbrev pub IsMarked : Masks → Placed V → Type 0
-  IsMarked K x = is_some (K x.room.number) ≡ true
+  IsMarked K x = is_some (K (number_of x.room)) ≡ true
 
   -- the routes of a tree whose masks are listed somewhere
   abbrev pub MarkedIn : Masks → Tree V → Placed V → Type 0

@@ -9,6 +9,7 @@ use Rattle.radix_tree.specs.Searches.{ForkAt, LeafAt}
 use Rattle.radix_tree.specs.Whole.{chain_shown, beneath_shown}
 use Rattle.radix_tree.specs.declared.entry.Entry.{Entry}
 use Rattle.radix_tree.specs.declared.walk.Place.{Place}
+use Rattle.radix_nodes.specs.Naming.{number_of}
 
 module _ {V : Type 0} where
   -- ---- what stands behind a place
@@ -21,7 +22,7 @@ module _ {V : Type 0} where
   unfoldable pub up_behind : ℕ → Leaves V → Bits → ℕ → Option Id → List (Entry V)
   up_behind zero L B key above = []
   up_behind (suc n) L B key None = []
-  up_behind (suc n) L B key (Some up) = side_behind key (beneath_shown levels L B) (up_behind n L B key) (B up.number)
+  up_behind (suc n) L B key (Some up) = side_behind key (beneath_shown levels L B) (up_behind n L B key) (B (number_of up))
 
   -- what stands behind the chain of a first room
   abbrev pub chain_behind : Leaves V → Bits → Option (LeafPart V) → List (Entry V)
@@ -31,7 +32,7 @@ module _ {V : Type 0} where
   -- what stands from a place on
   abbrev pub ahead : Leaves V → Bits → Option Place → List (Entry V)
   ahead L B None = []
-  ahead L B (Some place) = chain_shown ranks L (Some place.room) ++ chain_behind L B (L place.first.number)
+  ahead L B (Some place) = chain_shown ranks L (Some place.room) ++ chain_behind L B (L (number_of place.first))
 
   -- ---- where a walk can be
   -- one part is a side of the bit node that another one is; right is what stands behind it beneath that

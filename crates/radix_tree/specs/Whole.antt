@@ -8,6 +8,7 @@ use Rattle.radix_tree.specs.Tree.{Placed, Tree, leaf, fork, bit_at, IsIn}
 use Rattle.radix_tree.specs.Rooms.{LeafPart, BitPart, MaskPart, Leaves, Bits, Part, IsMarked, MarkedLists, leaves_in, bits_in, heads_in}
 use Rattle.radix_tree.specs.Rooms.{masks_in, name_of, Lodged}
 use Rattle.radix_tree.specs.declared.entry.Entry.{Entry}
+use Rattle.radix_nodes.specs.Naming.{number_of}
 
 abbrev pub one_if : Bool → ℕ
 one_if true = 1
@@ -33,7 +34,7 @@ module _ {V : Type 0} where
   unfoldable pub chain_shown : ℕ → Leaves V → Option Id → List (Entry V)
   chain_shown zero L at = []
   chain_shown (suc n) L None = []
-  chain_shown (suc n) L (Some room) = chain_from (L room.number) (chain_shown n L)
+  chain_shown (suc n) L (Some room) = chain_from (L (number_of room)) (chain_shown n L)
 
   abbrev pub sides_from : Option BitPart → (Node → List (Entry V)) → List (Entry V)
   sides_from None beneath = []
@@ -43,7 +44,7 @@ module _ {V : Type 0} where
   unfoldable pub beneath_shown : ℕ → Leaves V → Bits → Node → List (Entry V)
   beneath_shown zero L B at = []
   beneath_shown (suc n) L B (LeafOf room) = chain_shown ranks L (Some room)
-  beneath_shown (suc n) L B (BitOf room) = sides_from (B room.number) (beneath_shown n L B)
+  beneath_shown (suc n) L B (BitOf room) = sides_from (B (number_of room)) (beneath_shown n L B)
 
   abbrev pub shown : Lodged V → Option Node → List (Entry V)
   shown m None = []
@@ -53,7 +54,7 @@ module _ {V : Type 0} where
   -- how many leaves and how many bit nodes of a tree are in the room of a number
   abbrev pub members_at : ℕ → List (Placed V) → ℕ
   members_at n [] = 0
-  members_at n (x ∷ xs) = one_if (x.room.number == n) + members_at n xs
+  members_at n (x ∷ xs) = one_if ((number_of x.room) == n) + members_at n xs
 
   abbrev pub leaves_at : ℕ → Tree V → ℕ
   leaves_at n (leaf x xs) = members_at n (x ∷ xs)
@@ -61,7 +62,7 @@ module _ {V : Type 0} where
 
   abbrev pub forks_at : ℕ → Tree V → ℕ
   forks_at n (leaf x xs) = 0
-  forks_at n (fork room b left right) = one_if (room.number == n) + (forks_at n left + forks_at n right)
+  forks_at n (fork room b left right) = one_if ((number_of room) == n) + (forks_at n left + forks_at n right)
 
   -- on the way of a key there is a bit node whose bit is at or past a rank
   abbrev pub HasHome : ℕ → ℕ → Tree V → Type 0
@@ -72,11 +73,11 @@ module _ {V : Type 0} where
   -- of a chain at most one member's room has a bit node in use
   abbrev pub AreIdle : Bits → List (Placed V) → Type 0
   AreIdle B [] = Unit {0}
-  AreIdle B (x ∷ xs) = (B x.room.number ≡ None) × AreIdle B xs
+  AreIdle B (x ∷ xs) = (B (number_of x.room) ≡ None) × AreIdle B xs
 
   abbrev pub HasOneFork : Bits → List (Placed V) → Type 0
   HasOneFork B [] = Unit {0}
-  HasOneFork B (x ∷ xs) = AreIdle B xs ⊎ ((B x.room.number ≡ None) × HasOneFork B xs)
+  HasOneFork B (x ∷ xs) = AreIdle B xs ⊎ ((B (number_of x.room) ≡ None) × HasOneFork B xs)
 
   abbrev pub HaveOneFork : Bits → Tree V → Type 0
   HaveOneFork B (leaf x xs) = HasOneFork B (x ∷ xs)
@@ -95,9 +96,9 @@ module _ {V : Type 0} where
     pub spare : HaveOneFork (bits_in m) part.tree
     pub lists : MarkedLists (heads_in m) (masks_in m) part.low part.tree
     pub listed : (n : ℕ) (p : MaskPart) → masks_in m n ≡ Some p
-        → (x : Placed V) × IsIn x part.tree × (x.room.number ≡ n) × HasHome x.entry.key x.entry.rank part.tree
+        → (x : Placed V) × IsIn x part.tree × ((number_of x.room) ≡ n) × HasHome x.entry.key x.entry.rank part.tree
     pub all : (x : Placed V) → IsIn x part.tree → HasHome x.entry.key x.entry.rank part.tree
-        → IsMarked (masks_in m) x ⊎ (late x.room.number ≡ true)
+        → IsMarked (masks_in m) x ⊎ (late (number_of x.room) ≡ true)
 
   abbrev pub IsWhole : Lodged V → Node → Type 0
   IsWhole m root = IsWholeBut m root nobody_late nobody_out

@@ -7,16 +7,17 @@ use Rattle.radix_nodes.specs.declared.links.MaskNode.{MaskNode}
 use Rattle.radix_nodes.specs.declared.links.Node.{Node}
 use Rattle.radix_nodes.specs.declared.links.Node.TheVariants.{Leaf as LeafOf, Bit as BitOf}
 use Rattle.radix_tree.specs.Rooms.{LeafPart, BitPart, MaskPart, leaves_in, bits_in, heads_in, masks_in, bit_part, head_part, mask_part, Lodged}
+use Rattle.radix_nodes.specs.Naming.{number_of}
 
 -- what number n says once the room is this bit node, or none
 abbrev pub put_bit : Id → Option BitNode → ℕ → Option BitPart → Option BitPart
-put_bit room node n said = if n == room.number then bit_part room.block node else said
+put_bit room node n said = if n == (number_of room) then bit_part room.block node else said
 
 abbrev pub put_head : Id → Option BitNode → ℕ → Option Id → Option Id
-put_head room node n said = if n == room.number then head_part node else said
+put_head room node n said = if n == (number_of room) then head_part node else said
 
 abbrev pub put_mask : Id → Option MaskNode → ℕ → Option MaskPart → Option MaskPart
-put_mask room node n said = if n == room.number then mask_part room.block node else said
+put_mask room node n said = if n == (number_of room) then mask_part room.block node else said
 
 module _ {V : Type 0} where
   abbrev pub with_leaf : Leaf → Option (LeafPart V) → Option (LeafPart V)
@@ -25,11 +26,11 @@ module _ {V : Type 0} where
 
   -- what number n says once the room is this leaf
   abbrev pub put_leaf : Id → Leaf → ℕ → Option (LeafPart V) → Option (LeafPart V)
-  put_leaf room leaf n said = if n == room.number then with_leaf leaf said else said
+  put_leaf room leaf n said = if n == (number_of room) then with_leaf leaf said else said
 
   -- what number n says once a value is lodged in the room, which is this leaf
   abbrev pub lodge_leaf : Id → V → Leaf → ℕ → Option (LeafPart V) → Option (LeafPart V)
-  lodge_leaf room value leaf n said = if n == room.number
+  lodge_leaf room value leaf n said = if n == (number_of room)
       then Some (record { block = room.block; value = value; leaf = leaf }) else said
 
   -- ---- roles that stay
@@ -67,7 +68,7 @@ bit_above above (Some p) = Some (record p { above = above })
 
 abbrev pub lift_bit : Node → Option Id → ℕ → Option BitPart → Option BitPart
 lift_bit (LeafOf room) above n said = said
-lift_bit (BitOf room) above n said = if n == room.number then bit_above above said else said
+lift_bit (BitOf room) above n said = if n == (number_of room) then bit_above above said else said
 
 module _ {V : Type 0} where
   abbrev pub leaf_above : Option Id → Option (LeafPart V) → Option (LeafPart V)
@@ -75,5 +76,5 @@ module _ {V : Type 0} where
   leaf_above above (Some p) = Some (record p { leaf = record p.leaf { above = above } })
 
   abbrev pub lift_leaf : Node → Option Id → ℕ → Option (LeafPart V) → Option (LeafPart V)
-  lift_leaf (LeafOf room) above n said = if n == room.number then leaf_above above said else said
+  lift_leaf (LeafOf room) above n said = if n == (number_of room) then leaf_above above said else said
   lift_leaf (BitOf room) above n said = said

@@ -5,6 +5,7 @@ ghost use Rattle.radix_tree.specs.Reads.{Reads};
 ghost use Rattle.radix_tree.specs.Rooms.{Part, AreListed, name_of, heads_in};
 ghost use Rattle.radix_tree.specs.Searches.{Tells, Finds, Best, HasPair, In, ForkAt};
 ghost use Rattle.radix_tree.specs.Whole.{IsWhole};
+ghost use Rattle.radix_nodes.specs.Naming.{number_of};
 
 use crate::descent::leaf_for;
 use crate::roles;
@@ -41,7 +42,7 @@ fn best_listed<V>(
     visits: &mut Visits,
 ) -> Option<Id>
     requires node { (p : Part nodes.now.lodged) × ForkAt p room × AreListed nodes.now.lodged p }
-    requires first { heads_in nodes.now.lodged room.number ≡ first }
+    requires first { heads_in nodes.now.lodged (number_of room) ≡ first }
     requires turn { visits.old.turn ≡ nodes.now.turn }
     ensures best { (p : Part nodes.now.lodged) (f : ForkAt p room) → AreListed nodes.now.lodged p
         → Tells (Best address p.low (f.bit + 1) (In p)) result }

@@ -14,6 +14,7 @@ ghost use Rattle.radix_tree.specs.Tree.{Placed, IsIn};
 ghost use Rattle.radix_tree.specs.Whole.{IsWhole, shown, IsWholeBut, nobody_out};
 ghost use Rattle.radix_tree.specs.Writes.{KeepsMasks, OnlyLeaves, OnlyBits};
 ghost use Rattle.radix_tree.specs.Reads.{Stays};
+ghost use Rattle.radix_nodes.specs.Naming.{number_of};
 
 use crate::entry::Entry;
 use crate::inserting::root_after;
@@ -163,7 +164,7 @@ pub(crate) fn insert_in_chain<V>(
     ensures routes { IfOk result (λ r. Gains entry (shown nodes.old.lodged (Some root))
         (shown nodes.new.lodged (Some r.0))) }
     ensures rooms { OnOk result (HasRoomMore nodes.old.lodged nodes.new.lodged room) }
-    ensures number { IfOk result (λ r. r.1.number ≡ room) }
+    ensures number { IfOk result (λ r. (number_of r.1) ≡ room) }
     ensures here { IfOk result (λ r. Has nodes.new.lodged r.1) }
     ensures unmarked { OnOk result (masks_in nodes.new.lodged room ≡ None) }
     ensures err { OnErr result (nodes.new ≡ nodes.old) }
@@ -195,19 +196,19 @@ pub(crate) fn remove_from_chain<V>(
     visits: &mut Visits,
 ) -> Node
     requires route { IsUnlisted nodes.old.lodged root at }
-    requires chain { (p : LeafPart V) → leaves_in nodes.old.lodged at.number ≡ Some p → p.leaf.previous ≡ None
+    requires chain { (p : LeafPart V) → leaves_in nodes.old.lodged (number_of at) ≡ Some p → p.leaf.previous ≡ None
         → (behind : Id) × (p.leaf.next ≡ Some behind) }
     requires turn { visits.old.turn ≡ nodes.old.turn }
     ensures out { TakesOut nodes.old.lodged nodes.new.lodged at root result }
     ensures bits { (n : ℕ) → is_some (bits_in nodes.new.lodged n) ≡ is_some (bits_in nodes.old.lodged n) }
     ensures masks { KeepsMasks nodes.old.lodged nodes.new.lodged }
-    ensures idle { (p : LeafPart V) (b : BitPart) → leaves_in nodes.old.lodged at.number ≡ Some p
-        → bits_in nodes.new.lodged at.number ≡ Some b → (n : ℕ) → has_key nodes.new.lodged p.leaf.key n ≡ true
-        → (n ≡ at.number → ⊥) → bits_in nodes.new.lodged n ≡ None }
-    ensures neighbours { (p : LeafPart V) (to : Id) → leaves_in nodes.old.lodged at.number ≡ Some p
+    ensures idle { (p : LeafPart V) (b : BitPart) → leaves_in nodes.old.lodged (number_of at) ≡ Some p
+        → bits_in nodes.new.lodged (number_of at) ≡ Some b → (n : ℕ) → has_key nodes.new.lodged p.leaf.key n ≡ true
+        → (n ≡ (number_of at) → ⊥) → bits_in nodes.new.lodged n ≡ None }
+    ensures neighbours { (p : LeafPart V) (to : Id) → leaves_in nodes.old.lodged (number_of at) ≡ Some p
         → (p.leaf.next ≡ Some to) ⊎ (p.leaf.previous ≡ Some to)
-        → Has nodes.new.lodged to × (to.number ≡ at.number → ⊥)
-        × (has_key nodes.new.lodged p.leaf.key to.number ≡ true) }
+        → Has nodes.new.lodged to × ((number_of to) ≡ (number_of at) → ⊥)
+        × (has_key nodes.new.lodged p.leaf.key (number_of to) ≡ true) }
     ensures stays { Stays nodes.old nodes.new visits.old visits.new }
 {
     let leaf = nodes.links(at, visits).leaf();

@@ -10,6 +10,7 @@ ghost use Rattle.radix_tree.specs.Removal.{IsUnlisted, TakesOut};
 ghost use Rattle.radix_tree.specs.Searches.{ForkAt};
 ghost use Rattle.radix_tree.specs.Writes.{put_bit as bit_put, put_head as head_put, lift_leaf as leaf_lifted, lift_bit as bit_lifted, KeepsMasks, KeepsTree};
 ghost use Rattle.radix_tree.specs.Reads.{Stays};
+ghost use Rattle.radix_nodes.specs.Naming.{number_of};
 
 use crate::bits::is_one;
 use crate::inserting::root_after;
@@ -34,13 +35,13 @@ fn sibling_of(node: BitNode, key: Inet) -> Node
 /// own; above a leaf they have no bit node at or past their rank, and are unlisted.
 fn hand_masks_on<V>(nodes: &mut Nodes<V>, to: Node, first: Option<Id>, visits: &mut Visits)
     requires lone { (whole : Part nodes.old.lodged) × (at : Id) × (up : Id) × (l : IsLone nodes.old.lodged whole at up)
-        × (name_of l.other ≡ to) × (heads_in nodes.old.lodged up.number ≡ first)
-        × (masks_in nodes.old.lodged at.number ≡ None)
+        × (name_of l.other ≡ to) × (heads_in nodes.old.lodged (number_of up) ≡ first)
+        × (masks_in nodes.old.lodged (number_of at) ≡ None)
         × MarkedLists (heads_in nodes.old.lodged) (masks_in nodes.old.lodged) l.over.low l.over.tree }
     requires turn { visits.old.turn ≡ nodes.old.turn }
     ensures handed { (whole : Part nodes.old.lodged) (at : Id) (up : Id) (l : IsLone nodes.old.lodged whole at up)
-        → name_of l.other ≡ to → heads_in nodes.old.lodged up.number ≡ first
-        → masks_in nodes.old.lodged at.number ≡ None
+        → name_of l.other ≡ to → heads_in nodes.old.lodged (number_of up) ≡ first
+        → masks_in nodes.old.lodged (number_of at) ≡ None
         → MarkedLists (heads_in nodes.old.lodged) (masks_in nodes.old.lodged) l.over.low l.over.tree
         → IsHanded nodes.old.lodged nodes.new.lodged l.over.low l.over.tree l.other }
     ensures tree { KeepsTree nodes.old.lodged nodes.new.lodged }
@@ -91,9 +92,9 @@ pub(crate) fn remove_lone<V>(
     requires turn { visits.old.turn ≡ nodes.old.turn }
     ensures out { TakesOut nodes.old.lodged nodes.new.lodged at root result.0 }
     ensures there { Has nodes.new.lodged result.1 }
-    ensures free { bits_in nodes.new.lodged result.1.number ≡ None }
-    ensures idle { (p : LeafPart V) → leaves_in nodes.new.lodged result.1.number ≡ Some p → (n : ℕ)
-        → has_key nodes.new.lodged p.leaf.key n ≡ true → (n ≡ at.number → ⊥) → bits_in nodes.new.lodged n ≡ None }
+    ensures free { bits_in nodes.new.lodged (number_of result.1) ≡ None }
+    ensures idle { (p : LeafPart V) → leaves_in nodes.new.lodged (number_of result.1) ≡ Some p → (n : ℕ)
+        → has_key nodes.new.lodged p.leaf.key n ≡ true → (n ≡ (number_of at) → ⊥) → bits_in nodes.new.lodged n ≡ None }
     ensures stays { Stays nodes.old nodes.new visits.old visits.new }
 {
     let leaf = nodes.links(at, visits).leaf();

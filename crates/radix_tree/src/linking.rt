@@ -10,6 +10,7 @@ ghost use Rattle.radix_tree.specs.Writes.{put_mask as mask_put, lodge_leaf as le
 ghost use Rattle.radix_tree.specs.Writes.{lift_bit as bit_lifted, KeepsLeaves, KeepsHeads, KeepsMasks, OnlyLeaves};
 ghost use Rattle.radix_tree.specs.Writes.{OnlyBits, KeepsTree};
 ghost use Rattle.radix_tree.specs.Reads.{Stays};
+ghost use Rattle.radix_nodes.specs.Naming.{number_of};
 
 use crate::bits::is_one;
 use crate::roles;
@@ -76,7 +77,7 @@ pub(crate) fn lodge_leaf<V>(
 ) -> Id
     requires spare { IsSpare nodes.old room }
     requires turn { visits.old.turn ≡ nodes.old.turn }
-    ensures number { result.number ≡ room }
+    ensures number { (number_of result) ≡ room }
     ensures leaves { (n : ℕ) → leaves_in nodes.new.lodged n
         ≡ leaf_lodged result value leaf n (leaves_in nodes.old.lodged n) }
     ensures only { OnlyLeaves nodes.old.lodged nodes.new.lodged }

@@ -9,6 +9,7 @@ ghost use Rattle.radix_tree.specs.Whole.{IsWhole, IsWholeBut, nobody_out};
 ghost use Rattle.radix_tree.specs.Marks.{has_key, late_at, ListsMaskOf};
 ghost use Rattle.radix_tree.specs.Writes.{KeepsTree};
 ghost use Rattle.radix_tree.specs.Reads.{Stays};
+ghost use Rattle.radix_nodes.specs.Naming.{number_of};
 
 use crate::masks::{home, sort_in, sort_out};
 use radix_nodes::{Id, Nodes, Visits};
@@ -50,7 +51,7 @@ fn home_of<V>(nodes: &Nodes<V>, room: Id, visits: &mut Visits) -> Option<Id>
 pub(crate) fn list_mask<V>(nodes: &mut Nodes<V>, room: Id, visits: &mut Visits)
     requires whole { (root : Named) × (late : ℕ → Bool) × IsWholeBut nodes.old.lodged root late nobody_out }
     requires there { Has nodes.old.lodged room }
-    requires unmarked { masks_in nodes.old.lodged room.number ≡ None }
+    requires unmarked { masks_in nodes.old.lodged (number_of room) ≡ None }
     requires turn { visits.old.turn ≡ nodes.old.turn }
     ensures whole { ListsMaskOf nodes.old.lodged nodes.new.lodged room }
     ensures marks { KeepsMarksBut nodes.old.lodged nodes.new.lodged room }
@@ -82,11 +83,11 @@ fn list_late<V>(nodes: &mut Nodes<V>, room: Id, visits: &mut Visits)
 /// node for them.
 pub(crate) fn list_chain<V>(nodes: &mut Nodes<V>, first: Id, visits: &mut Visits)
     requires whole { (root : Named) × (late : ℕ → Bool) × IsWholeBut nodes.old.lodged root late nobody_out }
-    requires first { (p : LeafPart V) × (leaves_in nodes.old.lodged first.number ≡ Some p) × (p.block ≡ first.block)
+    requires first { (p : LeafPart V) × (leaves_in nodes.old.lodged (number_of first) ≡ Some p) × (p.block ≡ first.block)
         × (p.leaf.previous ≡ None) }
     requires turn { visits.old.turn ≡ nodes.old.turn }
     ensures whole { (root : Named) (late : ℕ → Bool) (p : LeafPart V) → IsWholeBut nodes.old.lodged root late nobody_out
-        → leaves_in nodes.old.lodged first.number ≡ Some p
+        → leaves_in nodes.old.lodged (number_of first) ≡ Some p
         → IsWholeBut nodes.new.lodged root (λ n. late n && not (has_key nodes.old.lodged p.leaf.key n)) nobody_out }
     ensures tree { KeepsTree nodes.old.lodged nodes.new.lodged }
     ensures stays { Stays nodes.old nodes.new visits.old visits.new }
@@ -104,8 +105,8 @@ pub(crate) fn unlist_mask<V>(nodes: &mut Nodes<V>, room: Id, visits: &mut Visits
     requires there { Has nodes.old.lodged room }
     requires turn { visits.old.turn ≡ nodes.old.turn }
     ensures whole { (root : Named) → IsWhole nodes.old.lodged root
-        → IsWholeBut nodes.new.lodged root (late_at room.number) nobody_out }
-    ensures gone { masks_in nodes.new.lodged room.number ≡ None }
+        → IsWholeBut nodes.new.lodged root (late_at (number_of room)) nobody_out }
+    ensures gone { masks_in nodes.new.lodged (number_of room) ≡ None }
     ensures tree { KeepsTree nodes.old.lodged nodes.new.lodged }
     ensures stays { Stays nodes.old nodes.new visits.old visits.new }
 {

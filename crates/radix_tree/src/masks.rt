@@ -12,6 +12,7 @@ ghost use Rattle.radix_tree.specs.MaskLists.{mask_linked, last_mask, not_below, 
 ghost use Rattle.radix_tree.specs.MaskLists.{taken_out, past_bit, up_to_bit, MasksAt, KeepsAside, KeepsAsideBut};
 ghost use Rattle.radix_tree.specs.MaskLists.{KeepsMarksBut};
 ghost use Rattle.radix_tree.specs.Reads.{Stays};
+ghost use Rattle.radix_nodes.specs.Naming.{number_of};
 
 use crate::linking::{put_bit_node, put_mask_node};
 use crate::roles;
@@ -53,7 +54,7 @@ fn gap_at<V>(nodes: &Nodes<V>, first: Option<Id>, low: u8, visits: &mut Visits) 
 fn masks_of<V>(nodes: &Nodes<V>, fork: Id, visits: &mut Visits) -> Option<Id>
     requires node { IsBitNode nodes.now.lodged fork }
     requires turn { visits.old.turn ≡ nodes.now.turn }
-    ensures head { result ≡ heads_in nodes.now.lodged fork.number }
+    ensures head { result ≡ heads_in nodes.now.lodged (number_of fork) }
     ensures counter { visits.new.turn ≡ visits.old.turn }
 {
     roles::bit_node(nodes, fork, visits).masks
@@ -105,9 +106,9 @@ pub(crate) fn sort_in<V>(nodes: &mut Nodes<V>, fork: Id, room: Id, visits: &mut 
     requires turn { visits.old.turn ≡ nodes.old.turn }
     ensures list { (ms : List (Placed V)) (f : IsFree nodes.old.lodged room) → MasksAt nodes.old.lodged fork ms
         → IsNoRank f.is.entry.rank ms → MasksAt nodes.new.lodged fork (sorted_in f.is ms) }
-    ensures heads { (n : ℕ) → (n ≡ fork.number → ⊥) → heads_in nodes.new.lodged n ≡ heads_in nodes.old.lodged n }
+    ensures heads { (n : ℕ) → (n ≡ (number_of fork) → ⊥) → heads_in nodes.new.lodged n ≡ heads_in nodes.old.lodged n }
     ensures masks { KeepsAsideBut nodes.old.lodged nodes.new.lodged fork room }
-    ensures marked { is_some (masks_in nodes.new.lodged room.number) ≡ true }
+    ensures marked { is_some (masks_in nodes.new.lodged (number_of room)) ≡ true }
     ensures marks { KeepsMarksBut nodes.old.lodged nodes.new.lodged room }
     ensures tree { KeepsTree nodes.old.lodged nodes.new.lodged }
     ensures stays { Stays nodes.old nodes.new visits.old visits.new }
@@ -127,9 +128,9 @@ pub(crate) fn sort_out<V>(nodes: &mut Nodes<V>, fork: Id, room: Id, visits: &mut
     requires turn { visits.old.turn ≡ nodes.old.turn }
     ensures list { (ms : List (Placed V)) (x : Placed V) → MasksAt nodes.old.lodged fork ms → IsAmong x ms
         → x.room ≡ room → MasksAt nodes.new.lodged fork (taken_out x.entry.rank ms) }
-    ensures heads { (n : ℕ) → (n ≡ fork.number → ⊥) → heads_in nodes.new.lodged n ≡ heads_in nodes.old.lodged n }
+    ensures heads { (n : ℕ) → (n ≡ (number_of fork) → ⊥) → heads_in nodes.new.lodged n ≡ heads_in nodes.old.lodged n }
     ensures masks { KeepsAsideBut nodes.old.lodged nodes.new.lodged fork room }
-    ensures unmarked { masks_in nodes.new.lodged room.number ≡ None }
+    ensures unmarked { masks_in nodes.new.lodged (number_of room) ≡ None }
     ensures marks { KeepsMarksBut nodes.old.lodged nodes.new.lodged room }
     ensures tree { KeepsTree nodes.old.lodged nodes.new.lodged }
     ensures stays { Stays nodes.old nodes.new visits.old visits.new }
@@ -152,7 +153,7 @@ fn cut_list<V>(nodes: &mut Nodes<V>, fork: Id, bit: u8, visits: &mut Visits) -> 
         → MasksAt nodes.new.lodged fork (past_bit bit ms) }
     ensures others { (ms : List (Placed V)) → MasksAt nodes.old.lodged fork ms
         → IsMasks nodes.new.lodged result (up_to_bit bit ms) }
-    ensures heads { (n : ℕ) → (n ≡ fork.number → ⊥) → heads_in nodes.new.lodged n ≡ heads_in nodes.old.lodged n }
+    ensures heads { (n : ℕ) → (n ≡ (number_of fork) → ⊥) → heads_in nodes.new.lodged n ≡ heads_in nodes.old.lodged n }
     ensures masks { KeepsAside nodes.old.lodged nodes.new.lodged fork }
     ensures marks { (n : ℕ) → is_some (masks_in nodes.new.lodged n) ≡ is_some (masks_in nodes.old.lodged n) }
     ensures tree { KeepsTree nodes.old.lodged nodes.new.lodged }
@@ -176,7 +177,7 @@ pub(crate) fn cut<V>(nodes: &mut Nodes<V>, at: Node, bit: u8, visits: &mut Visit
     ensures others { (fork : Id) (ms : List (Placed V)) → at ≡ BitOf fork → MasksAt nodes.old.lodged fork ms
         → IsMasks nodes.new.lodged result (up_to_bit bit ms) }
     ensures leaf { (room : Id) → at ≡ LeafOf room → (result ≡ None) × (nodes.new ≡ nodes.old) }
-    ensures heads { (n : ℕ) → ((fork : Id) → at ≡ BitOf fork → n ≡ fork.number → ⊥)
+    ensures heads { (n : ℕ) → ((fork : Id) → at ≡ BitOf fork → n ≡ (number_of fork) → ⊥)
         → heads_in nodes.new.lodged n ≡ heads_in nodes.old.lodged n }
     ensures masks { (fork : Id) → at ≡ BitOf fork → KeepsAside nodes.old.lodged nodes.new.lodged fork }
     ensures marks { (n : ℕ) → is_some (masks_in nodes.new.lodged n) ≡ is_some (masks_in nodes.old.lodged n) }
@@ -197,7 +198,7 @@ pub(crate) fn append<V>(nodes: &mut Nodes<V>, fork: Id, tail: Option<Id>, visits
     requires turn { visits.old.turn ≡ nodes.old.turn }
     ensures list { (ms ts : List (Placed V)) → MasksAt nodes.old.lodged fork ms → IsMasks nodes.old.lodged tail ts
         → Falls 0 ranks (ms ++ ts) → MasksAt nodes.new.lodged fork (ms ++ ts) }
-    ensures heads { (n : ℕ) → (n ≡ fork.number → ⊥) → heads_in nodes.new.lodged n ≡ heads_in nodes.old.lodged n }
+    ensures heads { (n : ℕ) → (n ≡ (number_of fork) → ⊥) → heads_in nodes.new.lodged n ≡ heads_in nodes.old.lodged n }
     ensures masks { KeepsAside nodes.old.lodged nodes.new.lodged fork }
     ensures marks { (n : ℕ) → is_some (masks_in nodes.new.lodged n) ≡ is_some (masks_in nodes.old.lodged n) }
     ensures tree { KeepsTree nodes.old.lodged nodes.new.lodged }
@@ -213,7 +214,7 @@ pub(crate) fn clear<V>(nodes: &mut Nodes<V>, first: Option<Id>, visits: &mut Vis
     requires list { (ms : List (Placed V)) × IsMasks nodes.old.lodged first ms }
     requires turn { visits.old.turn ≡ nodes.old.turn }
     ensures cleared { (ms : List (Placed V)) (y : Placed V) → IsMasks nodes.old.lodged first ms → IsAmong y ms
-        → masks_in nodes.new.lodged y.room.number ≡ None }
+        → masks_in nodes.new.lodged (number_of y.room) ≡ None }
     ensures masks { (ms : List (Placed V)) → IsMasks nodes.old.lodged first ms
         → (n : ℕ) → IsAside n ms → masks_in nodes.new.lodged n ≡ masks_in nodes.old.lodged n }
     ensures fewer { (n : ℕ) → (masks_in nodes.new.lodged n ≡ None)

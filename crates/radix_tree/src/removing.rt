@@ -7,6 +7,7 @@ ghost use Rattle.radix_tree.specs.Removal.{KeepsRoutes, IsOut, member_beside, Lo
 ghost use Rattle.radix_tree.specs.Rooms.{LeafPart, leaves_in};
 ghost use Rattle.radix_tree.specs.Whole.{IsWhole, Holds};
 ghost use Rattle.radix_tree.specs.Reads.{Stays};
+ghost use Rattle.radix_nodes.specs.Naming.{number_of};
 
 use crate::chains::remove_from_chain;
 use crate::joining::remove_lone;
@@ -30,7 +31,7 @@ fn other_member(leaf: Leaf) -> Option<Id>
 fn take_out<V>(nodes: &mut Nodes<V>, root: Node, at: Id, visits: &mut Visits) -> Option<Node>
     requires route { IsUnlisted nodes.old.lodged root at }
     requires turn { visits.old.turn ≡ nodes.old.turn }
-    ensures out { IsOut nodes.new.lodged result at.number }
+    ensures out { IsOut nodes.new.lodged result (number_of at) }
     ensures routes { LosesRoute nodes.old.lodged nodes.new.lodged at root result }
     ensures rooms { KeepsRoutes nodes.old.lodged nodes.new.lodged }
     ensures stays { Stays nodes.old nodes.new visits.old visits.new }
@@ -63,10 +64,10 @@ pub(crate) fn remove_route<V>(
     requires turn { visits.old.turn ≡ nodes.old.turn }
     ensures whole { Holds nodes.new.lodged result.0 }
     ensures routes { LosesRoute nodes.old.lodged nodes.new.lodged at root result.0 }
-    ensures value { (p : LeafPart V) → leaves_in nodes.old.lodged at.number ≡ Some p → result.2 ≡ p.value }
-    ensures number { result.1 ≡ at.number }
-    ensures rooms { HasRoomMore nodes.new.lodged nodes.old.lodged at.number }
-    ensures gone { get nodes.new.lodged at.number ≡ None }
+    ensures value { (p : LeafPart V) → leaves_in nodes.old.lodged (number_of at) ≡ Some p → result.2 ≡ p.value }
+    ensures number { result.1 ≡ (number_of at) }
+    ensures rooms { HasRoomMore nodes.new.lodged nodes.old.lodged (number_of at) }
+    ensures gone { get nodes.new.lodged (number_of at) ≡ None }
     ensures stays { Stays nodes.old nodes.new visits.old visits.new }
 {
     unlist_mask(nodes, at, visits);

@@ -1,7 +1,9 @@
 //! The table.
 ghost use Rattle.std.specs.Prelude.{◌≡◌, ◌+◌, [], IfOk, IsOk};
 
+use crate::given::Given;
 use mask_table::Counts;
+use memory::Numbers;
 use radix_nodes::{Node, Nodes, Visits};
 use std::alloc::{AllocError, Global};
 use std::marker::Model;
@@ -17,6 +19,10 @@ pub struct Table<V> {
     pub(crate) root: Option<Node>,
     /// How many routes there are of each rank.
     pub(crate) counts: Counts,
+    /// The numbers that were given, one with each room that was made.
+    pub(crate) numbers: Numbers,
+    /// Those of the rooms in use.
+    pub(crate) given: Given<V>,
 }
 
 impl<V> Model for Table<V> {
@@ -25,9 +31,9 @@ impl<V> Model for Table<V> {
 
     ghost Value = { Contents V };
 
-    ghost view = { λ t. contents t.nodes t.root };
+    ghost view = { λ t. contents t.nodes t.root t.given t.numbers };
 
-    ghost invariant = { λ t. IsKept t.nodes t.root t.counts };
+    ghost invariant = { λ t. IsKept t.nodes t.root t.counts t.given t.numbers };
 }
 
 impl<V> Table<V> {
@@ -40,6 +46,8 @@ impl<V> Table<V> {
             nodes: Nodes::new(alloc),
             root: None,
             counts: Counts::new(),
+            numbers: Numbers::new(),
+            given: Given::new(),
         })
     }
 

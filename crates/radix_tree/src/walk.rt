@@ -5,6 +5,7 @@ ghost use Rattle.radix_tree.specs.Rooms.{Part, leaves_in, bits_in, name_of};
 ghost use Rattle.radix_tree.specs.Searches.{LedTo};
 ghost use Rattle.radix_tree.specs.Walks.{ahead, chain_behind, IsAt, IsFirst, IsOn};
 ghost use Rattle.radix_tree.specs.Whole.{Holds, chain_from, shown};
+ghost use Rattle.radix_nodes.specs.Naming.{number_of};
 
 use crate::bits::is_one;
 use crate::descent::leaf_for;
@@ -100,7 +101,7 @@ fn place_after<V>(nodes: &Nodes<V>, place: Place, visits: &mut Visits) -> Option
     requires turn { visits.old.turn ≡ nodes.now.turn }
     ensures on { IsOn nodes.now.lodged result }
     ensures rest { ahead (leaves_in nodes.now.lodged) (bits_in nodes.now.lodged) (Some place)
-        ≡ chain_from (leaves_in nodes.now.lodged place.room.number)
+        ≡ chain_from (leaves_in nodes.now.lodged (number_of place.room))
         (λ next. ahead (leaves_in nodes.now.lodged) (bits_in nodes.now.lodged) result) }
     ensures counter { visits.new.turn ≡ visits.old.turn }
 {
@@ -122,7 +123,7 @@ fn place_behind<V>(nodes: &Nodes<V>, first: Id, key: Inet, visits: &mut Visits) 
     ensures on { IsOn nodes.now.lodged result }
     ensures rest { ahead (leaves_in nodes.now.lodged) (bits_in nodes.now.lodged) result
         ≡ chain_behind (leaves_in nodes.now.lodged) (bits_in nodes.now.lodged)
-        (leaves_in nodes.now.lodged first.number) }
+        (leaves_in nodes.now.lodged (number_of first)) }
     ensures counter { visits.new.turn ≡ visits.old.turn }
 {
     let mut above = nodes.links(first, visits).leaf().above;

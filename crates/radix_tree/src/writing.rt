@@ -12,12 +12,14 @@ use crate::entry::Entry;
 use crate::growing::insert;
 use crate::removing::remove_route;
 use crate::roles;
+use crate::room::Room;
 use crate::routes::Table;
 use mask_table::Rank;
 use memory::Memory;
-use radix_nodes::{Room, Visits};
+use radix_nodes::Visits;
 use sock_addrs::Inet;
 use std::alloc::AllocError;
+use std::snapshot::Snapshot;
 
 impl<V: Drop> Table<V> {
     /// A room for one route. `Err` where there is no memory for it, or 2^64 - 1 rooms were made.
@@ -27,7 +29,17 @@ impl<V: Drop> Table<V> {
         ensures err { OnErr result (self.new ≡ self.old) }
         ensures counted { Rises (is_err result) memory.old memory.new }
     {
-        self.nodes.make(memory)
+        let space = self.nodes.make(memory)?;
+        match memory.next(&mut self.numbers) {
+            Ok(number) => Ok(Room {
+                space,
+                number: Snapshot::of(&number),
+            }),
+            Err(refused) => {
+                self.nodes.scrap(space);
+                Err(refused)
+            }
+        }
     }
 
     /// Takes back a room of this table in which no route stands, and frees it.
@@ -36,7 +48,8 @@ impl<V: Drop> Table<V> {
         requires free { uses room self.old.numbers ≡ 0 }
         ensures { self.new ≡ self.old }
     {
-        self.nodes.scrap(room);
+        let Room { space, number: _ } = room;
+        self.nodes.scrap(space);
     }
 
     /// Puts a route into this table, in a room of this table in which none stands, at a key with no bit past its rank.
@@ -62,13 +75,17 @@ impl<V: Drop> Table<V> {
         ensures next { self.new.next ≡ self.old.next }
         ensures turn { self.new.turn ≡ self.old.turn + 1 }
     {
+        let Room { space, number } = room;
+        let space = self.nodes.spare(space);
+        let at = Snapshot::of(&space);
         let mut visits = self.nodes.begin();
         let entry = Entry::of(key, rank, value);
-        match insert(&mut self.nodes, self.root, room, entry, &mut visits) {
-            Err(back) => Err(back),
+        match insert(&mut self.nodes, self.root, space, entry, &mut visits) {
+            Err((space, value)) => Err((Room { space, number }, value)),
             Ok(root) => {
                 self.root = Some(root);
                 self.counts.added(rank);
+                self.given.put(at, number);
                 Ok(())
             }
         }
@@ -98,6 +115,7 @@ impl<V: Drop> Table<V> {
         let (root, freed, value) = remove_route(&mut self.nodes, root, at, &mut visits);
         self.root = root;
         self.counts.dropped(rank);
+        self.given.take(Snapshot::of(&freed));
         self.nodes.scrap(freed);
         Some(value)
     }

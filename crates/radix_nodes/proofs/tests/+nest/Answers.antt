@@ -17,10 +17,10 @@ evict-room-requires n c = record {
 
 pub returns-in-Ok : goal.returns-in-Ok
 returns-in-Ok n c = λ i h. rw (c.scrap.ensures, c.evict-room.ensures.evicted, c.begin-visits.ensures.turn)
-    (nested _ _ c.lodge-id.result _ _ _ _ c.lodge-id.ensures.number c.in_ok-room.ensures.number.1
-    (λ j there. c.nest-inner.ensures j (rw (c.set_links.ensures, c.lodge-id.ensures.lodged.2, c.in_ok-room.ensures.ok) there)) i h)
+    (nested _ _ c.lodge-id.result _ _ _ _ c.lodge-id.ensures.number c.in_ok-room.ensures.free
+    (λ j there. c.nest-inner.ensures j (rw (c.set_links.ensures, c.lodge-id.ensures.lodged.2, c.in_ok-room.ensures.stays) there)) i h)
 
 pub returns : goal.returns
 returns n c = λ i h. rw (c.scrap.ensures, c.evict-room.ensures.evicted, c.begin-visits.ensures.turn)
-    (nested _ _ c.lodge-id.result _ _ _ _ c.lodge-id.ensures.number c.in_ok-room.ensures.number.1
-    (λ j there. c.nest-inner.ensures j (rw (c.set_links.ensures, c.lodge-id.ensures.lodged.2, c.in_ok-room.ensures.ok) there)) i h)
+    (nested _ _ c.lodge-id.result _ _ _ _ c.lodge-id.ensures.number c.in_ok-room.ensures.free
+    (λ j there. c.nest-inner.ensures j (rw (c.set_links.ensures, c.lodge-id.ensures.lodged.2, c.in_ok-room.ensures.stays) there)) i h)

@@ -8,11 +8,12 @@ use Rattle.radix_tree.proofs.ChainRemovals.{removed_whole, removed_routes, unlin
 use Rattle.radix_tree.specs.Removal.{IsUnlisted, TakesOut}
 use Rattle.radix_tree.proofs.chains.remove_from_chain.Given as given
 use Rattle.radix_tree.proofs.chains.remove_from_chain.Goals as goal
+use Rattle.radix_nodes.specs.Naming.{number_of}
 
 -- the route in its chain, and what is read of its leaf
 at_route : {V : Type 0} {m : Lodged V} {root : Node} {at : Id} (r : IsUnlisted m root at) (links : Links) {l : Leaf} → AreLinks m at links → l ≡ leaf_of links
-    → IsMember m r.whole.part at.number (own_part r.there) × (l ≡ (own_part r.there).leaf)
-at_route {at = at} r links are leaf = (member_of r.whole at.number (own_said r.there), leaf_is links r.there (own_said r.there) are leaf)
+    → IsMember m r.whole.part (number_of at) (own_part r.there) × (l ≡ (own_part r.there).leaf)
+at_route {at = at} r links are leaf = (member_of r.whole (number_of at) (own_said r.there), leaf_is links r.there (own_said r.there) are leaf)
 
 pub link_out-requires-clause-before : goal.link_out-requires-clause-before
 link_out-requires-clause-before g c r is =
@@ -41,11 +42,11 @@ link_out-requires-2-clause-behind g c r is =
 
 -- a member of a chain, whose neighbours name each other, and what stands above the chain
 abbrev IsGone : {V : Type 0} (m new : Lodged V) (whole : Part m) (at : Id) (p : LeafPart V) (name : Node) → Type 0
-IsGone m new whole at p name = (b : IsMember m whole at.number p) × IsUnlinked m new p.leaf × IsLeft m new b.x.entry.key whole b.part b.front b.back name
+IsGone m new whole at p name = (b : IsMember m whole (number_of at) p) × IsUnlinked m new p.leaf × IsLeft m new b.x.entry.key whole b.part b.front b.back name
 
 -- such a one is out of the tree
 out_of : {V : Type 0} {m new : Lodged V} {root : Node} {at : Id} (r : IsUnlisted m root at) (name : Node)
-    → ((p : LeafPart V) → leaves_in m at.number ≡ Some p → IsGone m new r.whole.part at p name) → TakesOut m new at root name
+    → ((p : LeafPart V) → leaves_in m (number_of at) ≡ Some p → IsGone m new r.whole.part at p name) → TakesOut m new at root name
 out_of {m = m} {new = new} r name goes =
     let u = goes (own_part r.there) (own_said r.there) in record {
       whole = removed_whole r.whole _ u.0 r.unmarked u.1 u.2;
@@ -55,10 +56,10 @@ out_of {m = m} {new = new} r name goes =
     }
 
 -- where no member is behind it
-last_gone : (g : given.Over) (c : After-link_out g) {p : LeafPart g.row.V.Denot} → leaves_in c.args.nodes.now.lodged c.args.at.number ≡ Some p
+last_gone : (g : given.Over) (c : After-link_out g) {p : LeafPart g.row.V.Denot} → leaves_in c.args.nodes.now.lodged (number_of c.args.at) ≡ Some p
     → IsGone c.args.nodes.now.lodged c.link_out.new.nodes.lodged c.requires.route.whole.part c.args.at p c.args.root
 last_gone g c {p = p} said =
-    let b = member_of c.requires.route.whole c.args.at.number said in
+    let b = member_of c.requires.route.whole (number_of c.args.at) said in
     let read = leaf_is c.links.result.now c.requires.route.there said c.links.ensures.links c.leaf-leaf.ensures in (
       b,
       unlinked c.args.nodes.now.lodged c.link_out.new.nodes.lodged read c.link_out.ensures.leaves c.link_out.ensures.only.heads c.link_out.ensures.only.masks,
@@ -67,10 +68,10 @@ last_gone g c {p = p} said =
     )
 
 -- where one is
-gone : (g : given.Over) (c : After-link_out-2 g) {p : LeafPart g.row.V.Denot} → leaves_in c.args.nodes.now.lodged c.args.at.number ≡ Some p
+gone : (g : given.Over) (c : After-link_out-2 g) {p : LeafPart g.row.V.Denot} → leaves_in c.args.nodes.now.lodged (number_of c.args.at) ≡ Some p
     → IsGone c.args.nodes.now.lodged c.link_out-2.new.nodes.lodged c.requires.route.whole.part c.args.at p c.rename-root.result
 gone g c {p = p} said =
-    let b = member_of c.requires.route.whole c.args.at.number said in
+    let b = member_of c.requires.route.whole (number_of c.args.at) said in
     let read = leaf_is c.links.result.now c.requires.route.there said c.links.ensures.links c.leaf-leaf.ensures in (
       b,
       unlinked c.args.nodes.now.lodged c.link_out-2.new.nodes.lodged read (λ k. c.link_out-2.ensures.leaves k ∙ ap (link_out c.leaf-leaf.result k)

@@ -1,6 +1,7 @@
 use Rattle.radix_tree.proofs.{Kept.pair_there, Gained.gains_same, Gained.among_left}
 use Rattle.radix_tree.specs.Marks.{late_at}
 use Rattle.radix_tree.proofs.growing.insert_among.Goals as goal
+use Rattle.radix_nodes.specs.Naming.{number_of}
 
 pub returns-in-Err-clause-there : goal.returns-in-Err-clause-there
 returns-in-Err-clause-there g c =
@@ -9,7 +10,7 @@ returns-in-Err-clause-there g c =
     pair_there w c.args.entry.key c.args.entry.rank at.0 at.1 at.2
 
 pub returns-in-Ok-clause-whole : goal.returns-in-Ok-clause-whole
-returns-in-Ok-clause-whole g c = among_left c.args.room c.in-Ok.id.number c.in-Ok.ensures.number
+returns-in-Ok-clause-whole g c = among_left c.args.room (number_of c.in-Ok.id) c.in-Ok.ensures.number
     (c.list_mask.ensures.whole c.in-Ok.root (late_at c.args.room) c.in-Ok.ensures.ok)
 
 pub returns-in-Ok-clause-routes : goal.returns-in-Ok-clause-routes

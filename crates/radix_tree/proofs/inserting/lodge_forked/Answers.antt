@@ -1,14 +1,15 @@
 use Rattle.radix_tree.proofs.Words.{◌∙◌, ap, get, heads_in, with_head}
 use Rattle.radix_tree.proofs.Lodging.{Has-lodged_leaf, Has-again, lodged}
 use Rattle.radix_tree.proofs.inserting.lodge_forked.Goals as goal
+use Rattle.radix_nodes.specs.Naming.{number_of}
 
 pub put_leaf-requires-clause-there : goal.put_leaf-requires-clause-there
 put_leaf-requires-clause-there g c =
-    Has-lodged_leaf c.lodge_leaf-id.new.nodes.lodged c.lodge_leaf-id.result _ _ _ (c.lodge_leaf-id.ensures.leaves c.lodge_leaf-id.result.number)
+    Has-lodged_leaf c.lodge_leaf-id.new.nodes.lodged c.lodge_leaf-id.result _ _ _ (c.lodge_leaf-id.ensures.leaves (number_of c.lodge_leaf-id.result))
 
 pub put_bit_node-requires-clause-there : goal.put_bit_node-requires-clause-there
 put_bit_node-requires-clause-there g c = Has-again c.lodge_leaf-id.new.nodes.lodged c.put_leaf.new.nodes.lodged c.lodge_leaf-id.result _ _ _ _
-    (c.lodge_leaf-id.ensures.leaves c.lodge_leaf-id.result.number) (c.put_leaf.ensures.leaves c.lodge_leaf-id.result.number)
+    (c.lodge_leaf-id.ensures.leaves (number_of c.lodge_leaf-id.result)) (c.put_leaf.ensures.leaves (number_of c.lodge_leaf-id.result))
 
 pub returns-clause-lodged : goal.returns-clause-lodged
 returns-clause-lodged g c =

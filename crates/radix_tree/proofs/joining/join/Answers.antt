@@ -1,12 +1,13 @@
 use Rattle.radix_tree.proofs.Words.{◌∙◌, ap, None, put_bit, put_head, lift_leaf, lift_bit}
 use Rattle.radix_tree.proofs.JoinLinks.{Has-kept, below_stays}
 use Rattle.radix_tree.proofs.joining.join.Goals as goal
+use Rattle.radix_nodes.specs.Naming.{number_of}
 
 pub name_child-requires-clause-tree : goal.name_child-requires-clause-tree
 name_child-requires-clause-tree g c over is = c.requires.above over is
 
 pub put_bit_node-requires-clause-there : goal.put_bit_node-requires-clause-there
-put_bit_node-requires-clause-there g c = Has-kept c.name_child.new.nodes.lodged c.requires.up (c.name_child.ensures.only.leaves c.args.up.number)
+put_bit_node-requires-clause-there g c = Has-kept c.name_child.new.nodes.lodged c.requires.up (c.name_child.ensures.only.leaves (number_of c.args.up))
 
 pub lift-requires-clause-tree : goal.lift-requires-clause-tree
 lift-requires-clause-tree g c =

@@ -8,6 +8,7 @@ use Rattle.radix_tree.proofs.JoinLinks.{Has-kept, head_off}
 use Rattle.radix_tree.specs.Removal.{TakesOut}
 use Rattle.radix_tree.proofs.joining.remove_lone.Given as given
 use Rattle.radix_tree.proofs.joining.remove_lone.Goals as goal
+use Rattle.radix_nodes.specs.Naming.{number_of}
 
 -- the route, and the bit node above it, as they are read
 lone : (g : given.Over) (c : In-Some g) → IsLone c.args.nodes.now.lodged c.requires.route.whole.part c.args.at c.in-Some.up
@@ -71,7 +72,7 @@ hand_masks_on-requires-clause-lone g c =
 pub join-requires-clause-up : goal.join-requires-clause-up
 join-requires-clause-up g c =
     let l = lone g (goal.at.join-requires-clause-up g c).In-Some in
-    Has-kept c.hand_masks_on.new.nodes.lodged (Has-up l) (c.hand_masks_on.ensures.tree.leaves c.in-Some.up.number)
+    Has-kept c.hand_masks_on.new.nodes.lodged (Has-up l) (c.hand_masks_on.ensures.tree.leaves (number_of c.in-Some.up))
 
 pub join-requires-clause-above : goal.join-requires-clause-above
 join-requires-clause-above g c over is =

@@ -6,7 +6,6 @@ use Rattle.radix_tree.proofs.listing.list_chain.Goals as goal
 pub loop-at-init : goal.loop-at-init
 loop-at-init g c = record {
   turn = c.requires.turn;
-  next = refl;
   turns = refl;
   leaves = λ n. refl;
   bits = λ n. refl;
@@ -45,7 +44,6 @@ loop-at-smaller g c =
 pub loop-at-preserved : goal.loop-at-preserved
 loop-at-preserved g c = record {
   turn = ap (λ v. v.turn) c.links.ensures.visit ∙ c.list_late.ensures.stays.counter ∙ c.loop-at.invariant.turn ∙ sym c.list_late.ensures.stays.turn;
-  next = c.list_late.ensures.stays.next ∙ c.loop-at.invariant.next;
   turns = c.list_late.ensures.stays.turn ∙ c.loop-at.invariant.turns;
   leaves = λ n. c.list_late.ensures.tree.leaves n ∙ c.loop-at.invariant.leaves n;
   bits = λ n. c.list_late.ensures.tree.bits n ∙ c.loop-at.invariant.bits n;

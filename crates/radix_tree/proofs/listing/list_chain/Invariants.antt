@@ -1,16 +1,16 @@
 use Rattle.radix_tree.proofs.Words.{◌≡◌, Bool, ℕ, Some, None, Node, LeafPart, leaves_in, KeepsLeaves, KeepsBits, IsWholeBut, nobody_out}
 use Rattle.radix_tree.proofs.ListedChains.{Left, left_at}
 use Rattle.radix_tree.proofs.listing.list_chain.Given as goal
+use Rattle.radix_nodes.specs.Naming.{number_of}
 
 abbrev pub invariant-loop-at : goal.invariant-loop-at
 invariant-loop-at g l = record {
   turn : l.visits.turn ≡ l.nodes.turn;
-  next : l.nodes.next ≡ l.fn.nodes.next;
   turns : l.nodes.turn ≡ l.fn.nodes.turn;
   leaves : KeepsLeaves l.fn.nodes.lodged l.nodes.lodged;
   bits : KeepsBits l.fn.nodes.lodged l.nodes.lodged;
   left : (root : Node) (late : ℕ → Bool) (p : LeafPart g.row.V.Denot) → IsWholeBut l.fn.nodes.lodged root late nobody_out
-      → leaves_in l.fn.nodes.lodged l.fn.first.number ≡ Some p → p.block ≡ l.fn.first.block → p.leaf.previous ≡ None
+      → leaves_in l.fn.nodes.lodged (number_of l.fn.first) ≡ Some p → p.block ≡ l.fn.first.block → p.leaf.previous ≡ None
       → Left l.fn.nodes.lodged l.nodes.lodged root late p.leaf.key l.at;
 }
 

@@ -3,12 +3,13 @@ use Rattle.radix_tree.proofs.{Listed.listed_less, Listed.homeless, Listed.homed,
 use Rattle.radix_tree.proofs.Words.{sym, subst, nobody_late, late_at, IsHome}
 use Rattle.radix_tree.proofs.listing.unlist_mask.Goals as goal
 use Rattle.radix_tree.proofs.Words.{true≢false}
+use Rattle.radix_nodes.specs.Naming.{number_of}
 
 pub home_of-requires-clause-whole : goal.home_of-requires-clause-whole
 home_of-requires-clause-whole g c = let w = c.requires.whole in (w.0, nobody_late, w.1)
 
 pub returns-in_default-clause-whole : goal.returns-in_default-clause-whole
-returns-in_default-clause-whole g c root is = later_than (late_at c.args.room.number) (λ n never. absurd (true≢false (sym never))) is
+returns-in_default-clause-whole g c root is = later_than (late_at (number_of c.args.room)) (λ n never. absurd (true≢false (sym never))) is
 
 pub returns-in_default-clause-gone : goal.returns-in_default-clause-gone
 returns-in_default-clause-gone g c =

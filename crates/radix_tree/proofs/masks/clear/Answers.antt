@@ -8,7 +8,7 @@ loop-at-init g c = record {
   clearing = λ ms is. begun is;
   heads = λ n. refl;
   tree = record { leaves = λ n. refl; bits = λ n. refl };
-  stays = record { next = refl; turn = refl; counter = refl };
+  stays = record { turn = refl; counter = refl };
 }
 
 pub mask_node-requires-clause-listed : goal.mask_node-requires-clause-listed
@@ -32,7 +32,7 @@ loop-at-preserved g c =
       clearing = λ ms is. (cleared_one _ c.mask_node.result.1 (i.clearing ms is) c.in-Some.is c.mask_node.ensures.said e.tree.leaves e.masks).0;
       heads = λ n. e.heads n ∙ i.heads n;
       tree = record { leaves = λ n. e.tree.leaves n ∙ i.tree.leaves n; bits = λ n. e.tree.bits n ∙ i.tree.bits n };
-      stays = record { next = s.next ∙ i.stays.next; turn = s.turn ∙ i.stays.turn; counter = s.counter ∙ c.mask_node.ensures.visit.turn ∙ i.stays.counter };
+      stays = record { turn = s.turn ∙ i.stays.turn; counter = s.counter ∙ c.mask_node.ensures.visit.turn ∙ i.stays.counter };
     }
 
 pub returns-clause-cleared : goal.returns-clause-cleared

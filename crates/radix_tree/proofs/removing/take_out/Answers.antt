@@ -3,9 +3,10 @@ use Rattle.radix_tree.proofs.RemovedOnly.{can_take, leaf_at, leaf_is, alone_is, 
 use Rattle.radix_tree.proofs.MovedReads.{Has_kept}
 use Rattle.radix_tree.proofs.removing.take_out.Goals as goal
 use Rattle.radix_tree.proofs.{Facts.none_if}
+use Rattle.radix_nodes.specs.Naming.{number_of}
 
 pub vacate-requires-clause-from : goal.vacate-requires-clause-from
-vacate-requires-clause-from g c = Has_kept c.remove_from_chain-rest.new.nodes.lodged (c.remove_from_chain-rest.ensures.out.rooms c.args.at.number)
+vacate-requires-clause-from g c = Has_kept c.remove_from_chain-rest.new.nodes.lodged (c.remove_from_chain-rest.ensures.out.rooms (number_of c.args.at))
     c.requires.route.there
 
 pub vacate-requires-clause-to : goal.vacate-requires-clause-to
@@ -23,7 +24,7 @@ vacate-requires-clause-takes g c b used =
 
 pub vacate-requires-in-Some-above-clause-from : goal.vacate-requires-in-Some-above-clause-from
 vacate-requires-in-Some-above-clause-from g c =
-    Has_kept c.remove_lone-rest.new.nodes.lodged (c.remove_lone-rest.ensures.out.rooms c.args.at.number) c.requires.route.there
+    Has_kept c.remove_lone-rest.new.nodes.lodged (c.remove_lone-rest.ensures.out.rooms (number_of c.args.at)) c.requires.route.there
 
 pub returns-in-None-clause-out : goal.returns-in-None-clause-out
 returns-in-None-clause-out g c n other =
@@ -31,11 +32,11 @@ returns-in-None-clause-out g c n other =
     let a = alone_is c.links.result.now c.requires.route.there c.links.ensures.links c.leaf-leaf.ensures c.other_member.ensures
     (none_if c.other_member.result c.in_default.not-Some) p.0 p.1 in
     let above = ap (λ z. z.above) (sym (leaf_is c.links.result.now c.requires.route.there c.links.ensures.links c.leaf-leaf.ensures p.1)) ∙ c.in-None.is in
-    let o = only c.args.at.number c.requires.route.whole p.0 p.1 a.0 a.1 above in only_room _ c.requires.route.whole p.0 o n other
+    let o = only (number_of c.args.at) c.requires.route.whole p.0 p.1 a.0 a.1 above in only_room _ c.requires.route.whole p.0 o n other
 
 pub returns-in-None-clause-routes : goal.returns-in-None-clause-routes
 returns-in-None-clause-routes g c p said =
     let a = alone_is c.links.result.now c.requires.route.there c.links.ensures.links c.leaf-leaf.ensures c.other_member.ensures
     (none_if c.other_member.result c.in_default.not-Some) p said in
     let above = ap (λ z. z.above) (sym (leaf_is c.links.result.now c.requires.route.there c.links.ensures.links c.leaf-leaf.ensures said)) ∙ c.in-None.is in
-    let o = only c.args.at.number c.requires.route.whole p said a.0 a.1 above in only_shown _ c.requires.route.whole p o
+    let o = only (number_of c.args.at) c.requires.route.whole p said a.0 a.1 above in only_shown _ c.requires.route.whole p o

@@ -43,6 +43,7 @@ use Rattle.radix_nodes.specs.contracts.blocks.Blocks.get_mut.{ended, clauses}
 use Rattle.radix_nodes.specs.contracts.blocks.Blocks.get_mut.Key.{name as #self}
 use Rattle.radix_nodes.proofs.blocks.Blocks.get_mut.Statement.{statement}
 use Rattle.radix_nodes.proofs.blocks.Blocks.get_mut.Code as code
+use Rattle.radix_nodes.specs.Naming.{number_of}
 
 module _ (R : RattleType) {M : Type 1} {𝓤 : Ura M} (𝓛 : Logic 𝓤) (d : (holder.the_row R).Denot) (n : ℕ) (p : Ptr) (vs : List Val) (rb ro b o : ℕ) where
   -- all but the value
@@ -68,28 +69,28 @@ get_mut_spec 𝓤 𝓛 𝓜 𝓡 wired T L =
     proved_at 𝓛 En hs c 𝓜 𝓡 (Goes-spent_ref 𝓛 2 (0 ∷ []) tt (plain (λ _. B)), (Goes-dropped 𝓛 2 (plain (λ _. name.the_row)) yes (λ κs x f. refl), tt)) (#self at) fn (code.unfolded 𝓤 H 𝓜 𝓡 wired (T, tt)) (λ z are.
     let κs = z.0.0 in let qs = z.0.1 in let self = z.0.3.0 in let id = z.0.3.1.0 in let d = self.now in
     let Post : Val → SProp 𝓤 = (walk_of 𝓛 En hs c).post z in let Run : List Val → SProp 𝓤 = λ ws. WpFn 𝓤 H 𝓣.C 𝓣.Λ fn ws Post in
-    let rb = self.ref_ptr.0 in let ro = self.ref_ptr.1 in let w = vptr rb ro in let v = id_val id.number id.block in
+    let rb = self.ref_ptr.0 in let ro = self.ref_ptr.1 in let w = vptr rb ro in let v = id_val id.block in
     qed 𝓛 (((‵ (flft κs.0 qs.0) ⊛ ‵ (flft κs.1.0 qs.1.0) ⊛ ‵ ftrue) ⊛ ‵ (owns (types_at En.signature.params κs) z.0.3 z.0.4)) ∷ raw ((c κs z.0.3).requires z.1) ∷ []) ∵
-    move ! (1 ∷ []) $ use1 𝓛 (raw (fact 𝓤 (κs.1.0 ⊑ T.lives)) ⊛ raw (fact 𝓤 (IsAt d.cells id.number id.block))) (id⊢ 𝓤 _) $ split ! $ heard ! _ (λ _. heard ! _ (λ asked.
-    let x = asked.value in let new = with_value d id.number id.block in
+    move ! (1 ∷ []) $ use1 𝓛 (raw (fact 𝓤 (κs.1.0 ⊑ T.lives)) ⊛ raw (fact 𝓤 (IsAt d.cells (number_of id) id.block))) (id⊢ 𝓤 _) $ split ! $ heard ! _ (λ _. heard ! _ (λ asked.
+    let x = asked.value in let new = with_value d (number_of id) id.block in
     split ! $ move ! (1 ∷ []) $ fsplit ! $ fsplit3 ! $ feq_l ! (λ e0. move ! (2 ∷ []) $ drop ! $ move ! (2 ∷ []) $ split3 ! $
     let e1 = lowers.val_is id z.0.4.1.0 are.1.0 in
     suffices ! (Run (w ∷ v ∷ [])) (subst (λ (us : List Val). ent 𝓤 (Run (w ∷ v ∷ [])) (Run us)) (sym (λ i. e0 i ++ (e1 i ++ []))) (id⊢ 𝓤 (Run (w ∷ v ∷ [])))) $
-    enter ! 𝓣.C 𝓣.Λ fn (w ∷ v ∷ []) Post $ alloc_all ! (λ l. pass_all ! refl ((tt, tt), (id_good id.number id.block are.1.0.1.1.0.1, tt)) $
+    enter ! 𝓣.C 𝓣.Λ fn (w ∷ v ∷ []) Post $ alloc_all ! (λ l. pass_all ! refl ((tt, tt), (id_good id.block, tt)) $
     -- [a token; another; nothing; obs; the borrow]
     move ! (3 ∷ 4 ∷ 0 ∷ []) $ opens ! tt B {h = d} rb ro (λ vs. move ! (1 ∷ []) $ fsplit ! $ move ! (1 ∷ []) $
-    use1 𝓛 (‵ (one_owns R id.block x) ⊛ ‵ (all_own R (entries (remove d.cells id.number)))) (take_out R 𝓛 d.cells id.number (id.block, x) asked.at) $ split ! $ fsplit ! $
+    use1 𝓛 (‵ (one_owns R id.block x) ⊛ ‵ (all_own R (entries (remove d.cells (number_of id))))) (take_out R 𝓛 d.cells (number_of id) (id.block, x) asked.at) $ split ! $ fsplit ! $
     in_a_block ! id.block (λ p. lies_at R full_share p x) (id⊢ 𝓤 (never 𝓤)) (λ b o e.
-    first ! $ blocks ! $ sets ! (is ! (of_opd ! (get_in ! (fld ! refl (stop !)) (sub ! 1 refl (whole !)))) (ap ptr_val e)) refl (tt, tt) $
+    first ! $ blocks ! $ sets ! (is ! (of_opd ! (get_in ! (fld ! refl (stop !)) (sub ! 0 refl (whole !)))) (ap ptr_val e)) refl (tt, tt) $
     sets_last ! (addr ! (through ! refl (stop !))) refl (tt, tt) $
     exec ! 𝓣.C 𝓣.Λ (env fn.locals l) (after 1 fn.body) (at_ret (env fn.locals l) Post) $ sets ! (of_opd ! (get ! refl)) refl (tt, tt) $
     -- [the value; the right to free it; the other blocks; what the field owns; the cell; the open borrow; obs; auth; a token; nothing]
     move ! (3 ∷ 4 ∷ []) $ fjoin ! $ move ! (2 ∷ 3 ∷ 0 ∷ []) $ fjoin3 ! $ move ! (2 ∷ 3 ∷ 4 ∷ 1 ∷ 0 ∷ []) $ group ! 5 $
-    let rest = sem 𝓛 (Rest R 𝓛 d id.number id.block vs rb ro b o) in let way = back R 𝓛 d id.number id.block vs rb ro b o e in let code = B.coded.code d in
+    let rest = sem 𝓛 (Rest R 𝓛 d (number_of id) id.block vs rb ro b o) in let way = back R 𝓛 d (number_of id) id.block vs rb ro b o e in let code = B.coded.code d in
     use1 𝓛 (later (some (λ (δ : GName). raw (Part 𝓛 B R new (named 0) κs.0 qs.0 rb ro b o self.ghost_name rest way x δ))))
     (lends_Part 𝓛 B R new (named 0) κs.0 qs.0 rb ro b o self.ghost_name rest way code code x) $ await ! tt $ pick ! (λ δ.
     returns ! (look_at ! 0 refl) $ free_all ! refl $
-    let lent : MutBor R.Denot = record { ref_ptr = (b, o); ghost_name = δ; now = x } in let Found = get_cell d.cells id.number ≡ Some (id.block, x) in
+    let lent : MutBor R.Denot = record { ref_ptr = (b, o); ghost_name = δ; now = x } in let Found = get_cell d.cells (number_of id) ≡ Some (id.block, x) in
     use1 𝓛 (‵ ((MutRef (named 0) κs.0 R).own_val lent (vptr b o ∷ [])) ⊛ ‵ (flft κs.0 qs.0) ⊛ ‵ (follows B R self.ghost_name δ new)) (id⊢ 𝓤 _) $ split3 ! $
     move ! (2 ∷ []) $ use0 𝓛 (raw (fact 𝓤 Found)) (fact_i 𝓤 Found (emp 𝓤) asked.at) $ move ! (1 ∷ 0 ∷ []) $ join ! $
     -- [the `ensures`; the result; the tokens; nothing]

@@ -43,6 +43,7 @@ use Rattle.radix_nodes.specs.contracts.blocks.Blocks.take.{ended, clauses}
 use Rattle.radix_nodes.specs.contracts.blocks.Blocks.take.Key.{name as #self}
 use Rattle.radix_nodes.proofs.blocks.Blocks.take.Statement.{statement}
 use Rattle.radix_nodes.proofs.blocks.Blocks.take.Code as code
+use Rattle.radix_nodes.specs.Naming.{number_of}
 
 pub take_spec : {M : Type 1} → statement M
 take_spec 𝓤 𝓛 𝓜 𝓡 wired T L =
@@ -53,33 +54,33 @@ take_spec 𝓤 𝓛 𝓜 𝓡 wired T L =
     (#self at) fn (code.unfolded 𝓤 H 𝓜 𝓡 wired (T, tt)) (λ z are.
     let κs = z.0.0 in let qs = z.0.1 in let self = z.0.3.0 in let id = z.0.3.1.0 in let a = z.0.3.1.1.0 in let d = self.now in
     let Post : Val → SProp 𝓤 = (walk_of 𝓛 En hs c).post z in let Run : List Val → SProp 𝓤 = λ ws. WpFn 𝓤 H 𝓣.C 𝓣.Λ fn ws Post in
-    let rb = self.ref_ptr.0 in let ro = self.ref_ptr.1 in let w = vptr rb ro in let u = id_val id.number id.block in
+    let rb = self.ref_ptr.0 in let ro = self.ref_ptr.1 in let w = vptr rb ro in let u = id_val id.block in
     let e1 = lowers.val_is id z.0.4.1.0 are.1.0 in let e2 = heap_lowers.val_is a z.0.4.1.1.0 are.1.1.0 in
     qed 𝓛 (((‵ (flft κs.0 qs.0) ⊛ ‵ (flft κs.1.0 qs.1.0) ⊛ ‵ ftrue) ⊛ ‵ (owns (types_at En.signature.params κs) z.0.3 z.0.4)) ∷ raw ((c κs z.0.3).requires z.1) ∷ []) ∵
-    move ! (1 ∷ []) $ use1 𝓛 (raw (fact 𝓤 (κs.1.0 ⊑ T.lives)) ⊛ raw (fact 𝓤 (IsAt d.cells id.number id.block))) (id⊢ 𝓤 _) $ split ! $ heard ! _ (λ _. heard ! _ (λ asked.
-    let x = asked.value in let new : B.Denot = record { mark = d.mark; cells = remove d.cells id.number } in
+    move ! (1 ∷ []) $ use1 𝓛 (raw (fact 𝓤 (κs.1.0 ⊑ T.lives)) ⊛ raw (fact 𝓤 (IsAt d.cells (number_of id) id.block))) (id⊢ 𝓤 _) $ split ! $ heard ! _ (λ _. heard ! _ (λ asked.
+    let x = asked.value in let new : B.Denot = record { mark = d.mark; cells = remove d.cells (number_of id) } in
     split ! $ move ! (1 ∷ []) $ fsplit ! $ fsplit3 ! $ feq_l ! (λ e0. move ! (2 ∷ []) $ fsplit ! $ drop ! $ fsplit ! $
     rewrite ! 0 (λ (us : List Val). ‵ (heap.the_row.own_val a us)) e2 refl $ move ! (4 ∷ []) $ split3 ! $
     suffices ! (Run (w ∷ u ∷ heap_val ∷ [])) (subst (λ (us : List Val). ent 𝓤 (Run (w ∷ u ∷ heap_val ∷ [])) (Run us)) (sym (λ i. e0 i ++ (e1 i ++ (e2 i ++ [])))) (id⊢ 𝓤 _)) $
-    enter ! 𝓣.C 𝓣.Λ fn (w ∷ u ∷ heap_val ∷ []) Post $ alloc_all ! (λ l. pass_all ! refl ((tt, tt), (id_good id.number id.block are.1.0.1.1.0.1, ((tt, ((tt, tt), tt)), tt))) $
+    enter ! 𝓣.C 𝓣.Λ fn (w ∷ u ∷ heap_val ∷ []) Post $ alloc_all ! (λ l. pass_all ! refl ((tt, tt), (id_good id.block, ((tt, ((tt, tt), tt)), tt))) $
     let En' = env fn.locals l in
     -- [a token; another; nothing; what the allocator owns; nothing; obs; the borrow]
     move ! (5 ∷ 6 ∷ 0 ∷ []) $ opens ! tt B {h = d} rb ro (λ vs. move ! (1 ∷ []) $ fsplit ! $ move ! (1 ∷ []) $
-    use1 𝓛 (‵ (one_owns R id.block x) ⊛ ‵ (all_own R (entries new.cells))) (take_out R 𝓛 d.cells id.number (id.block, x) asked.at) $ split ! $
+    use1 𝓛 (‵ (one_owns R id.block x) ⊛ ‵ (all_own R (entries new.cells))) (take_out R 𝓛 d.cells (number_of id) (id.block, x) asked.at) $ split ! $
     move ! (2 ∷ 1 ∷ []) $ fjoin ! $ move ! (2 ∷ 0 ∷ 3 ∷ 4 ∷ 5 ∷ []) $ closes ! tt B new vs rb ro $ move ! (3 ∷ []) $ fsplit ! $
     -- [the value; the right to free its block; obs; the borrow; a token; another; nothing; what the allocator owns]
     in_a_block ! id.block (λ p. lies_at R full_share p x) (id⊢ 𝓤 (never 𝓤)) (λ b o e.
     use1 𝓛 (some (λ (v : Val). given (Good (layout T) v) (‵ (fat full_share (layout T) b o v) ⊛ ‵ (T.own_val x (v ∷ []))))) (value_out T L 𝓛 x b o) $ pick ! (λ v. learn ! (λ good. split ! $
-    sets ! (is ! (of_opd ! (get_in ! (fld ! refl (stop !)) (sub ! 1 refl (whole !)))) (ap ptr_val e)) refl (tt, tt) $
+    sets ! (is ! (of_opd ! (get_in ! (fld ! refl (stop !)) (sub ! 0 refl (whole !)))) (ap ptr_val e)) refl (tt, tt) $
     first ! $ blocks ! $ sets_last ! (of_opd ! (load ! (through ! refl (stop !)) (look ! 0 refl))) refl good $ exec ! 𝓣.C 𝓣.Λ En' (after 2 fn.body) (at_ret En' Post) $
     sets ! (of_opd ! (get ! refl)) refl good $ sets ! (of_opd ! (get ! refl)) refl good $
     sets ! (agg ! (and_then ! (get ! refl) (and_then ! (get ! refl) (no_more !)))) refl (room_good R b o) $
     sets ! (agg ! (and_then ! (get ! refl) (and_then ! (get ! refl) (no_more !)))) refl (pair_Typed (layout T) (layout (Room R)) v (room_val b o) good (room_good R b o)) $
     returns ! (look_at ! 0 refl) $ free_all ! refl $
-    let room : (Room R).Denot = record { ptr = block_ptr b o; alloc = a } in let Took = (get_cell d.cells id.number ≡ Some (id.block, x)) × (new.cells ≡ remove d.cells id.number) in
+    let room : (Room R).Denot = record { ptr = block_ptr b o; alloc = a } in let Took = (get_cell d.cells (number_of id) ≡ Some (id.block, x)) × (room.ptr ≡ id.block) × (new.cells ≡ remove d.cells (number_of id)) in
     use1 𝓛 (‵ (froom (layout T) b o)) (𝓛.laws.at_room (layout T) b o v) $ as_raw ! (layout T) b o $ move ! (0 ∷ 2 ∷ 8 ∷ []) $ rewrite ! 1 (λ (p : Ptr). ‵ (chunk (bare (lone R.mir)) p)) e refl $ room_made R ! a b o $ move ! (1 ∷ 0 ∷ []) $
     use2 𝓛 (‵ ((Tuple (R ∷ Room R ∷ [])).own_val (x, room) (pair_val v (room_val b o) ∷ []))) (pair_of 𝓛 R (Room R) x room v (room_val b o)) $
-    use0 𝓛 (raw (fact 𝓤 Took)) (fact_i 𝓤 Took (emp 𝓤) (asked.at, refl)) $
+    use0 𝓛 (raw (fact 𝓤 Took)) (fact_i 𝓤 Took (emp 𝓤) (asked.at, sym e, refl)) $
     -- [the `ensures`; the result; obs; the borrow; a token; another; nothing]
     move ! (5 ∷ 6 ∷ []) $ join ! $ move ! (5 ∷ 0 ∷ []) $ join ! $ move ! (3 ∷ 4 ∷ []) $ feq_i ! (List Val) z.0.4.0 (w ∷ []) e0 $ fjoin3 ! $
     nothing ! $ nothing ! $ fjoin ! $ nothing ! $ fjoin ! $ move ! (1 ∷ 0 ∷ []) $ fjoin ! $

@@ -1,6 +1,5 @@
 -- `nobody` makes a null pointer, and follows none. Assumes `Logic`.
 use Rattle.std.proofs.Common.{◌≡◌, [], ◌∷◌, refl}
-use lib.Dec.{lit<}
 use mir.Val.{Val}
 use base.Logic.{SProp, emp}
 use base.Fml.{ftrue}
@@ -27,9 +26,9 @@ nobody_spec 𝓤 𝓛 𝓜 𝓡 wired =
     let H = 𝓛.H in let 𝓣 = tables 𝓤 H 𝓜 𝓡 𝓡.env in let c = clauses 𝓛 𝓜.mem 𝓡.returns in
     proved 𝓛 ended tt c 𝓜 𝓡 tt #self code.function (code.unfolded 𝓤 H 𝓜 𝓡 wired) (λ κs. tt) (λ κs. tt) (λ κs qs bounds a gh are.
     let y : (walk_of 𝓛 ended tt c).Ghost = ((κs, qs, bounds, a, tt), gh) in let Post : Val → SProp 𝓤 = (walk_of 𝓛 ended tt c).post y in
-    let id : name.the_row.Denot = record { number = 0; block = null_ptr } in
+    let id : name.the_row.Denot = record { block = null_ptr } in
     qed 𝓛 ((raw (alive 𝓛 ended.signature κs qs) ⊛ ‵ ftrue) ∷ raw ((c κs a).requires gh) ∷ []) ∵ split ! $ keep ! (0 ∷ []) $
     enter ! 𝓣.C 𝓣.Λ code.function [] Post $ alloc_all ! (λ l. pass_all ! refl tt $
-    sets ! (agg ! (and_then ! (lit ! tt) (and_then ! (lit ! tt) (no_more !)))) refl (id_good 0 null_ptr (lit< tt)) $ returns ! (look_at ! 0 refl) $ free_all ! refl $
-    id_made ! 0 null_ptr (lit< tt) $ use0 𝓛 (raw (fact 𝓤 (id ≡ id))) (fact_i 𝓤 (id ≡ id) (emp 𝓤) refl) $ nothing ! $
-    keep ! (3 ∷ 0 ∷ 2 ∷ 1 ∷ []) $ by ! (leaves 𝓛 ended tt c y (id_val 0 null_ptr) id tt tt)))
+    sets ! (agg ! (and_then ! (lit ! tt) (no_more !))) refl (id_good null_ptr) $ returns ! (look_at ! 0 refl) $ free_all ! refl $
+    id_made ! null_ptr $ use0 𝓛 (raw (fact 𝓤 (id ≡ id))) (fact_i 𝓤 (id ≡ id) (emp 𝓤) refl) $ nothing ! $
+    keep ! (3 ∷ 0 ∷ 2 ∷ 1 ∷ []) $ by ! (leaves 𝓛 ended tt c y (id_val null_ptr) id tt tt)))

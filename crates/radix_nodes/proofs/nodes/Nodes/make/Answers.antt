@@ -1,6 +1,12 @@
-use Rattle.radix_nodes.proofs.RoomLemmas.{next_free, next_is}
-use Rattle.std.proofs.Common.{rules}
+use Rattle.radix_nodes.proofs.Bytes.{has_bytes}
+use Rattle.radix_nodes.proofs.RoomLemmas.{free_is}
 use Rattle.radix_nodes.proofs.nodes.Nodes.make.Goals as goal
 
-pub returns-clause-number : goal.returns-clause-number
-returns-clause-number g c = search (rules, c.next.ensures, next_is _ _ _ _ c.self.view_is (next_free _ _ c.self.invariant.1))
+pub apart-space-requires : goal.apart-space-requires
+apart-space-requires g c = (c.self.invariant.1, has_bytes g.row.V)
+
+pub invariant_of-self : goal.invariant_of-self
+invariant_of-self g c = rw c.apart-space.ensures.3 c.self.invariant
+
+pub returns-clause-free : goal.returns-clause-free
+returns-clause-free g c = rw c.apart-space.ensures.0 (free_is _ _ _ _ c.self.view_is c.apart-space.ensures.2)

@@ -1,19 +1,10 @@
 use Rattle.std.proofs.Common.{rules}
-use Rattle.radix_tree.proofs.{Counted.few_held, Counted.counted_more, Numbers.free_room, Numbers.used_more, WholeRoutes.gains_entry, Kept.shown_table}
-use Rattle.radix_tree.proofs.{Kept.shown_next, routes.Table.add.Goals.After-begin-visits, routes.Table.add.Goals.In-Ok}
-use Rattle.radix_tree.proofs.Words.{◌≡◌, ℕ, ◌+◌, ◌≤◌, ◌==◌, if◌then◌else◌, Some, None, is_some, refl, sym, ap, subst, ◌∙◌, keys, HasOneMore, AreCounted}
-use Rattle.radix_tree.proofs.Words.{entry_at, uses, with_entry, shown, true≢false}
+use Rattle.radix_tree.proofs.{Counted.few_held, Counted.counted_more, WholeRoutes.gains_entry, Kept.shown_table}
+use Rattle.radix_tree.proofs.{Kept.shown_next, Kept.given_begun, Kept.IsNext, GivenNumbers.given_more, routes.Table.add.Goals.In-Ok}
+use Rattle.radix_tree.proofs.Words.{◌≡◌, ◌+◌, ◌<◌, ◌≤◌, ◌∷◌, Some, None, is_some, sym, ap, subst, ◌∙◌, arith, HasOneMore, AreCounted, Rooms}
+use Rattle.radix_tree.proofs.Words.{entry_at, uses, with_entry, shown, leaf_in, leaves_in, true≢false}
+use Rattle.radix_tree.specs.Given.{AreGiven, numbers_in}
 use Rattle.radix_tree.proofs.routes.Table.add.Goals as goal
-
--- the numbers in use before are those that the table shows
-numbers : (g : _) (c : After-begin-visits g) (n : ℕ) → uses n (keys c.begin-visits.new.self.lodged) ≡ uses n c.args.self.now.numbers
-numbers g c n = ap (λ r. uses n (keys r.lodged)) c.begin-visits.ensures.turn ∙ ap (λ t. uses n t.numbers) c.self.view_is
-
-pub insert-requires-clause-spare : goal.insert-requires-clause-spare
-insert-requires-clause-spare g c = record {
-  made = search rules;
-  free = free_room _ c.args.room (numbers g (goal.at.insert-requires-clause-spare g c).After-begin-visits c.args.room ∙ c.requires.free);
-}
 
 pub added-requires : goal.added-requires
 added-requires g c =
@@ -21,39 +12,55 @@ added-requires g c =
     few_held c.self.inside.counts (shown c.self.inside.nodes.lodged c.self.inside.root) c.args.rank c.self.invariant.counted
     (shown_table _ c.self.inside.root c.self.invariant.holds) fits
 
+-- the turn began in the map as it was
+begins : (g : _) (c : In-Ok g) → IsNext c.self.inside.nodes c.begin-visits.new.self
+begins g c = c.begin-visits.ensures.turn ∙ ap (λ (r : Rooms g.row.V.Denot). record r { turn = r.turn + 1 }) c.spare-space.ensures.stays
+
 -- the pair was not there
 absent : (g : _) (c : In-Ok g) → entry_at c.args.key c.args.rank c.args.self.now.entries ≡ None
 absent g c = ap (entry_at c.args.key c.args.rank)
-    (sym (shown_next c.self.inside.nodes c.begin-visits.new.self c.self.inside.root _ c.self.view_is c.begin-visits.ensures.turn))
+    (sym (shown_next c.self.inside.nodes c.begin-visits.new.self c.self.inside.root _ c.self.view_is (begins g c)))
     ∙ ap (λ e. entry_at e.key e.rank (shown c.begin-visits.new.self.lodged c.self.inside.root)) (sym c.of-entry.ensures.entry)
     ∙ (gains_entry c.in-Ok.ensures.routes (shown_table c.insert.new.nodes.lodged (Some c.in-Ok.root) c.in-Ok.ensures.whole)).1
 
-pub invariant_of-self-in-Ok : goal.invariant_of-self-in-Ok
-invariant_of-self-in-Ok g c =
-    let before = shown_next c.self.inside.nodes c.begin-visits.new.self c.self.inside.root _ refl c.begin-visits.ensures.turn in
+-- the rooms in use have their numbers, and so has the new one
+numbered : (g : _) (c : In-Ok g) → AreGiven c.insert.new.nodes.lodged ((c.spare-space.result, c.room.inside.number.value) ∷ c.self.inside.given)
+    c.self.inside.numbers
+numbered g c =
+    let free = ap (λ r. leaves_in r.lodged c.spare-space.result) (begins g c) ∙ ap (leaves_in c.self.inside.nodes.lodged) c.spare-space.ensures.room
+    ∙ ap leaf_in c.spare-space.ensures.free in
+    let number = c.room.view_is in
+    let next = ap (λ t. t.next) c.self.view_is in
+    let asked = c.requires.made in
+    let made : c.room.inside.number.value < c.self.inside.numbers + 1 = omega (arith, number, next, asked) in
+    let unused = ap (λ k. uses k (numbers_in c.self.inside.given)) c.room.view_is ∙ ap (λ t. uses c.args.room t.numbers) c.self.view_is ∙ c.requires.free in
+    given_more c.begin-visits.new.self.lodged c.insert.new.nodes.lodged c.spare-space.result c.room.inside.number.value
+    (given_begun c.self.inside.nodes c.begin-visits.new.self (begins g c) c.self.invariant.numbered) free c.in-Ok.ensures.rooms made unused
+
+pub invariant_of-self-in-Ok-1 : goal.invariant_of-self-in-Ok-1
+invariant_of-self-in-Ok-1 g c =
+    let at = (goal.at.invariant_of-self-in-Ok-1 g c).In-Ok in
+    let before = ap (λ r. shown r.lodged c.self.inside.root) (begins g at) in
+    let put = c.put.ensures ∙ ap (λ k. (k, c.room.inside.number.value) ∷ c.self.inside.given) c.of-at.ensures in
     record {
       holds = c.in-Ok.ensures.whole;
       counted = counted_more _ _ c.self.inside.counts c.added.new.self
           (subst (AreCounted c.self.inside.counts) (sym before) c.self.invariant.counted) c.in-Ok.ensures.routes
           (subst (λ r. HasOneMore r c.self.inside.counts c.added.new.self) (sym (ap (λ e. e.rank) c.of-entry.ensures.entry)) c.added.ensures);
+      numbered = subst (λ p. AreGiven c.insert.new.nodes.lodged p c.self.inside.numbers) (sym put) (numbered g at);
     }
 
-pub returns-clause-there : goal.returns-clause-there
-returns-clause-there g c =
-    let none = absent g (goal.at.returns-clause-there g c).In-Ok in
+pub returns-in-Ok-clause-there : goal.returns-in-Ok-clause-there
+returns-in-Ok-clause-there g c =
+    let none = absent g (goal.at.returns-in-Ok-clause-there g c).In-Ok in
     (λ e. absurd (true≢false (sym e)), λ some. ap is_some (sym none) ∙ some)
 
-pub returns-clause-absent : goal.returns-clause-absent
-returns-clause-absent g c = absent g (goal.at.returns-clause-absent g c).In-Ok
+pub returns-in-Ok-clause-absent : goal.returns-in-Ok-clause-absent
+returns-in-Ok-clause-absent g c = absent g (goal.at.returns-in-Ok-clause-absent g c).In-Ok
 
-pub returns-clause-ok : goal.returns-clause-ok
-returns-clause-ok g c = (gains_entry c.in-Ok.ensures.routes (shown_table c.insert.new.nodes.lodged (Some c.in-Ok.root) c.in-Ok.ensures.whole)).0
+pub returns-in-Ok-clause-ok : goal.returns-in-Ok-clause-ok
+returns-in-Ok-clause-ok g c = (gains_entry c.in-Ok.ensures.routes (shown_table c.insert.new.nodes.lodged (Some c.in-Ok.root) c.in-Ok.ensures.whole)).0
     ∙ ap (λ e. with_entry e (shown c.begin-visits.new.self.lodged c.self.inside.root)) c.of-entry.ensures.entry
     ∙ ap (with_entry (record { key = c.args.key; rank = c.args.rank; value = c.args.value }))
-    (shown_next c.self.inside.nodes c.begin-visits.new.self c.self.inside.root _ c.self.view_is c.begin-visits.ensures.turn)
-
-pub returns-clause-numbers : goal.returns-clause-numbers
-returns-clause-numbers g c = λ n.
-    let at = (goal.at.returns-clause-numbers g c).After-begin-visits in
-    used_more c.begin-visits.new.self.lodged c.insert.new.nodes.lodged c.args.room (free_room _ c.args.room (numbers g at c.args.room ∙ c.requires.free))
-    c.in-Ok.ensures.rooms n ∙ ap (λ u. u + (if c.args.room == n then 1 else 0)) (numbers g at n)
+    (shown_next c.self.inside.nodes c.begin-visits.new.self c.self.inside.root _ c.self.view_is
+    (begins g (goal.at.returns-in-Ok-clause-ok g c).In-Ok))

@@ -1,6 +1,6 @@
 -- The best route is lent, as the route of a pair is, and stands in the table.
 use Rattle.radix_tree.proofs.{Showing.shown_is, LawLemmas.best_is_greatest, Valued.put_valued, Valued.valued_whole, Valued.lent_shown, Valued.lent_counted}
-use Rattle.radix_tree.proofs.{Valued.lent_keys, Kept.shown_table, Kept.whole_at, Kept.entries_at, routes.Table.best_mut.Goals.In-Some-best_room}
+use Rattle.radix_tree.proofs.{Valued.lent_given, Kept.shown_table, Kept.whole_at, Kept.entries_at, routes.Table.best_mut.Goals.In-Some-best_room}
 use Rattle.radix_tree.proofs.Answered.{Answer, answer, Has-best, best_answer, best_none, best_pair}
 use Rattle.radix_tree.specs.Lending.{with_value_at}
 use Rattle.radix_tree.proofs.Words.{◌≡◌, sym, ap, subst, ◌∙◌, inl, inr, arith, put_value, IsTable, contents, IsKept, AreCounted, best_of, with_entry, shown}
@@ -43,16 +43,17 @@ invariant_of-self-lent g c = λ v.
     let a = found g at in
     let pair = best_pair a (c.leaf-leaf.ensures.said a.part a.said) c.in-Some-best_room.is in
     let counted = subst (λ o. AreCounted c.self.inside.counts (shown m o)) c.in-Some.is c.self.invariant.counted in
-    subst (λ o. IsKept (record { lodged = put_value m room v; next = c.self.inside.nodes.next; turn = c.self.inside.nodes.turn }) o c.self.inside.counts)
-    (sym c.in-Some.is) (record {
+    subst (λ o. IsKept (record { lodged = put_value m room v; turn = c.self.inside.nodes.turn }) o c.self.inside.counts c.self.inside.given
+    c.self.inside.numbers) (sym c.in-Some.is) (record {
       holds = valued_whole (put_valued m room v (Has-best a)) w;
       counted = lent_counted m w c.leaf-leaf.result.key c.leaf-leaf.result.rank c.in-Some-best_room.is pair (Has-best a) v _ counted;
+      numbered = lent_given m room v (Has-best a) c.self.invariant.numbered;
     })
 
 -- the table once the value is given back
 lent : (g : _) (c : In-Some-best_room g) (l : Leaf) → l ≡ (found g c).part.leaf → (v : g.row.V.Denot) → contents (record
-    { lodged = put_value c.self.inside.nodes.lodged c.in-Some-best_room.room v; next = c.self.inside.nodes.next; turn = c.self.inside.nodes.turn })
-    c.self.inside.root ≡ with_value_at l.key l.rank c.args.self.now v
+    { lodged = put_value c.self.inside.nodes.lodged c.in-Some-best_room.room v; turn = c.self.inside.nodes.turn })
+    c.self.inside.root c.self.inside.given c.self.inside.numbers ≡ with_value_at l.key l.rank c.args.self.now v
 lent g c l is v =
     let m = c.self.inside.nodes.lodged in
     let room = c.in-Some-best_room.room in
@@ -61,7 +62,7 @@ lent g c l is v =
     let entries = ap (shown (put_value m room v)) c.in-Some.is
     ∙ lent_shown m (whole g c) l.key l.rank c.in-Some-best_room.is (best_pair a is c.in-Some-best_room.is) (Has-best a) v
     ∙ ap (with_entry e) (entries_at _ _ _ c.self.view_is c.in-Some.is) in
-    let numbers = lent_keys m room v (Has-best a) ∙ ap (λ t. t.numbers) c.self.view_is in
+    let numbers = ap (λ t. t.numbers) c.self.view_is in
     let next = ap (λ t. t.next) c.self.view_is in
     let turn = ap (λ t. t.turn) c.self.view_is in
     λ i. record { entries = entries i; numbers = numbers i; next = next i; turn = turn i }

@@ -1,22 +1,23 @@
-use Rattle.radix_tree.proofs.{Counted.not_held, Valued.put_valued, Valued.valued_whole, Valued.lent_shown, Valued.lent_counted, Valued.lent_keys}
-use Rattle.radix_tree.proofs.{Kept.Has-found, Kept.IsFound, Kept.found, Kept.not_found, Kept.value_found, Kept.whole_next, Kept.entries_next}
-use Rattle.radix_tree.proofs.{routes.Table.get_mut.Goals.In-Some-room_of}
 use Rattle.std.proofs.Common.{rules}
-use Rattle.radix_tree.proofs.Words.{◌≡◌, ◌+◌, ◌≤◌, Option, refl, sym, ap, subst, ◌∙◌, inl, inr, option_map, keys, Rooms, put_value, Node, contents, IsKept}
-use Rattle.radix_tree.proofs.Words.{AreCounted, with_value, Contents, entry_at, with_entry, shown, Entry}
+use Rattle.radix_tree.proofs.{Counted.not_held, Valued.put_valued, Valued.valued_whole, Valued.lent_shown, Valued.lent_counted, Valued.lent_given}
+use Rattle.radix_tree.proofs.{Kept.Has-found, Kept.IsFound, Kept.found, Kept.not_found, Kept.value_found, Kept.whole_next, Kept.entries_next, Kept.shown_begun, Kept.given_begun}
+use Rattle.radix_tree.proofs.{routes.Table.get_mut.Goals.In-Some-room_of}
+use Rattle.radix_tree.proofs.Words.{◌≡◌, ◌+◌, ◌≤◌, ℕ, List, Option, refl, sym, ap, subst, ◌∙◌, inl, inr, option_map, Rooms, put_value, Node, contents}
+use Rattle.radix_tree.proofs.Words.{IsKept, AreCounted, with_value, Contents, entry_at, with_entry, shown, Entry}
 use Rattle.radix_tree.proofs.routes.Table.get_mut.Goals as goal
 
 -- a table of which a turn began and no more
-only_begun : {V : Type 0} (old : Rooms V) {new : Rooms V} (root : Option Node) {table : Contents V} → contents old root ≡ table
-    → new ≡ record old { turn = old.turn + 1 } → contents new root ≡ record table { turn = table.turn + 1 }
-only_begun {V} old root is began = ap (λ (r : Rooms V). contents r root) began ∙ ap (λ (t : Contents V). record t { turn = t.turn + 1 }) is
+only_begun : {V : Type 0} (old : Rooms V) {new : Rooms V} (root : Option Node) (given : List (ℕ × ℕ)) (last : ℕ) {table : Contents V}
+    → contents old root given last ≡ table → new ≡ record old { turn = old.turn + 1 }
+    → contents new root given last ≡ record table { turn = table.turn + 1 }
+only_begun {V} old root given last is began = ap (λ (r : Rooms V). contents r root given last) began ∙ ap (λ (t : Contents V). record t { turn = t.turn + 1 }) is
 
 pub returns-then-not-has : goal.returns-then-not-has
 returns-then-not-has g c =
     let fits : c.args.rank ≤ 33 = search rules in
     let none = ap (λ t. entry_at c.args.key c.args.rank t.entries) (sym c.self.view_is)
     ∙ not_held c.self.inside.counts _ c.args.key c.args.rank c.self.invariant.counted fits c.has.ensures.1 c.if-not-has.true in
-    (ap inr (only_begun c.self.inside.nodes c.self.inside.root c.self.view_is c.begin-visits.ensures.turn), record { writes = tt; value = rw none refl })
+    (ap inr (only_begun c.self.inside.nodes c.self.inside.root c.self.inside.given c.self.inside.numbers c.self.view_is c.begin-visits.ensures.turn), record { writes = tt; value = rw none refl })
 
 pub room_of-requires-clause-tree : goal.room_of-requires-clause-tree
 room_of-requires-clause-tree g c =
@@ -28,7 +29,7 @@ returns-in_default-room_of g c =
     let none = ap (entry_at c.args.key c.args.rank)
     (sym (entries_next c.self.inside.nodes c.begin-visits.new.self _ c.self.view_is c.in-Some.is c.begin-visits.ensures.turn))
     ∙ not_found w c.args.key c.args.rank c.in_default-room_of.is (c.room_of.ensures.found w.part w.named) in
-    (ap inr (only_begun c.self.inside.nodes c.self.inside.root c.self.view_is c.begin-visits.ensures.turn), record { writes = tt; value = rw none refl })
+    (ap inr (only_begun c.self.inside.nodes c.self.inside.root c.self.inside.given c.self.inside.numbers c.self.view_is c.begin-visits.ensures.turn), record { writes = tt; value = rw none refl })
 
 -- the room that was found
 is_found : (g : _) (c : In-Some-room_of g) → IsFound c.begin-visits.new.self.lodged c.in-Some.root c.args.key c.args.rank c.in-Some-room_of.room
@@ -46,21 +47,20 @@ invariant_of-self-lent g c = λ v.
     let m = c.begin-visits.new.self.lodged in
     let w = whole_next c.self.inside.nodes c.begin-visits.new.self c.self.invariant.holds c.in-Some.is c.begin-visits.ensures.turn in
     let has = Has-found m f in
-    let before = entries_next c.self.inside.nodes c.begin-visits.new.self _ refl c.in-Some.is c.begin-visits.ensures.turn in
+    let before = shown_begun c.self.inside.nodes c.begin-visits.new.self c.in-Some.is c.begin-visits.ensures.turn in
     let counted = subst (AreCounted c.self.inside.counts) (sym before) c.self.invariant.counted in
-    subst (λ o. IsKept (record {
-      lodged = put_value m c.in-Some-room_of.room v;
-      next = c.begin-visits.new.self.next;
-      turn = c.begin-visits.new.self.turn;
-    }) o c.self.inside.counts) (sym c.in-Some.is) (record {
+    subst (λ o. IsKept (record { lodged = put_value m c.in-Some-room_of.room v; turn = c.begin-visits.new.self.turn }) o c.self.inside.counts
+    c.self.inside.given c.self.inside.numbers) (sym c.in-Some.is) (record {
       holds = valued_whole (put_valued m c.in-Some-room_of.room v has) w;
       counted = lent_counted m w c.args.key c.args.rank c.in-Some-room_of.is (c.room_of.ensures.found w.part w.named) has v _ counted;
+      numbered = lent_given m c.in-Some-room_of.room v has
+          (given_begun c.self.inside.nodes c.begin-visits.new.self c.begin-visits.ensures.turn c.self.invariant.numbered);
     })
 
 -- the table once the value is given back
 lent : (g : _) (c : In-Some-room_of g) (v : g.row.V.Denot) → contents (record
-    { lodged = put_value c.begin-visits.new.self.lodged c.in-Some-room_of.room v; next = c.begin-visits.new.self.next; turn = c.begin-visits.new.self.turn })
-    c.self.inside.root ≡ with_value c.args.key c.args.rank c.args.self.now v
+    { lodged = put_value c.begin-visits.new.self.lodged c.in-Some-room_of.room v; turn = c.begin-visits.new.self.turn })
+    c.self.inside.root c.self.inside.given c.self.inside.numbers ≡ with_value c.args.key c.args.rank c.args.self.now v
 lent g c v =
     let m = c.begin-visits.new.self.lodged in
     let w = whole_next c.self.inside.nodes c.begin-visits.new.self c.self.invariant.holds c.in-Some.is c.begin-visits.ensures.turn in
@@ -69,8 +69,8 @@ lent g c v =
     let entries = ap (shown (put_value m c.in-Some-room_of.room v)) c.in-Some.is
     ∙ lent_shown m w c.args.key c.args.rank c.in-Some-room_of.is (c.room_of.ensures.found w.part w.named) has v
     ∙ ap (with_entry e) (entries_next c.self.inside.nodes c.begin-visits.new.self _ c.self.view_is c.in-Some.is c.begin-visits.ensures.turn) in
-    let numbers = lent_keys m c.in-Some-room_of.room v has ∙ ap (λ r. keys r.lodged) c.begin-visits.ensures.turn ∙ ap (λ t. t.numbers) c.self.view_is in
-    let next = ap (λ r. r.next) c.begin-visits.ensures.turn ∙ ap (λ t. t.next) c.self.view_is in
+    let numbers = ap (λ t. t.numbers) c.self.view_is in
+    let next = ap (λ t. t.next) c.self.view_is in
     let turn = ap (λ r. r.turn) c.begin-visits.ensures.turn ∙ ap (λ t. t.turn + 1) c.self.view_is in
     λ i. record { entries = entries i; numbers = numbers i; next = next i; turn = turn i }
 

@@ -1,10 +1,12 @@
 use Rattle.std.proofs.Common.{rules}
-use Rattle.radix_tree.proofs.{Counted.not_held, Counted.counted_less, Numbers.used_more, TableLemmas.without_absent, Gained.lost, Kept.Has-found}
-use Rattle.radix_tree.proofs.{Kept.IsFound, Kept.found, Kept.not_found, Kept.whole_next, Kept.shown_next, Kept.entries_next}
-use Rattle.radix_tree.proofs.Words.{◌≡◌, ◌+◌, ◌≤◌, ◌==◌, if◌then◌else◌, Some, None, refl, sym, ap, subst, ◌∙◌, option_map, keys, HasOneMore, IsKept}
+use Rattle.radix_tree.proofs.{Counted.not_held, Counted.counted_less, GivenNumbers.given_less, GivenNumbers.one_there, GivenNumbers.went, TableLemmas.without_absent, Gained.lost, Kept.Has-found}
+use Rattle.radix_tree.proofs.{Kept.IsFound, Kept.found, Kept.not_found, Kept.whole_next, Kept.shown_next, Kept.entries_next, Kept.shown_begun, Kept.given_begun}
+use Rattle.radix_tree.proofs.Words.{◌≡◌, ◌+◌, ◌≤◌, ◌==◌, if◌then◌else◌, Some, None, refl, sym, ap, subst, ◌∙◌, option_map, leaf_in, HasOneMore, IsKept}
 use Rattle.radix_tree.proofs.Words.{AreCounted, entry_at, uses, without, shown}
-use Rattle.radix_tree.proofs.routes.Table.remove.Goals.{Then-not-has, In_default-room_of, In-Some-room_of}
+use Rattle.radix_tree.proofs.routes.Table.remove.Goals.{Then-not-has, In_default-room_of, In-Some-room_of, After-take}
 use Rattle.radix_tree.proofs.routes.Table.remove.Goals as goal
+use Rattle.radix_nodes.specs.Naming.{number_of}
+use Rattle.radix_tree.specs.Given.{AreGiven, beside, numbers_in}
 
 -- a rank of which no route is held
 not_there : (g : _) (c : Then-not-has g) → entry_at c.args.key c.args.rank c.args.self.now.entries ≡ None
@@ -50,17 +52,26 @@ is_found g c =
 pub remove_route-root-requires-clause-there : goal.remove_route-root-requires-clause-there
 remove_route-root-requires-clause-there g c = Has-found _ (is_found g (goal.at.remove_route-root-requires-clause-there g c).In-Some-room_of)
 
+-- what is left of the numbers in use
+taken : (g : _) (c : After-take g) → c.take.new.self ≡ beside (number_of c.in-Some-room_of.at) c.self.inside.given
+taken g c = c.take.ensures ∙ ap (λ k. beside k c.self.inside.given) (c.of.ensures ∙ c.remove_route-root.ensures.number)
+
 pub invariant_of-self-2 : goal.invariant_of-self-2
 invariant_of-self-2 g c =
     let f = is_found g (goal.at.invariant_of-self-2 g c).In-Some-room_of in
     let w = whole_next c.self.inside.nodes c.begin-visits.new.self c.self.invariant.holds c.in-Some.is c.begin-visits.ensures.turn in
     let went = lost c.remove_route-root.new.nodes.lodged c.remove_route-root.result.0 w f c.remove_route-root.ensures.routes in
-    let before = entries_next c.self.inside.nodes c.begin-visits.new.self _ refl c.in-Some.is c.begin-visits.ensures.turn in
+    let before = shown_begun c.self.inside.nodes c.begin-visits.new.self c.in-Some.is c.begin-visits.ensures.turn in
     let counted = subst (AreCounted c.self.inside.counts) (sym before) c.self.invariant.counted in
-    subst (λ r. IsKept r c.remove_route-root.result.0 c.dropped.new.self) (sym c.scrap.ensures) (record {
+    let numbered = given_less c.begin-visits.new.self.lodged c.remove_route-root.new.nodes.lodged (number_of c.in-Some-room_of.at)
+        (given_begun c.self.inside.nodes c.begin-visits.new.self c.begin-visits.ensures.turn c.self.invariant.numbered)
+        (ap leaf_in c.remove_route-root.ensures.gone) c.remove_route-root.ensures.rooms in
+    subst (λ r. IsKept r c.remove_route-root.result.0 c.dropped.new.self c.take.new.self c.self.inside.numbers) (sym c.scrap.ensures) (record {
       holds = c.remove_route-root.ensures.whole;
       counted = counted_less _ _ c.self.inside.counts c.dropped.new.self counted went.gains
           (subst (λ r. HasOneMore r c.dropped.new.self c.self.inside.counts) (sym f.has.1) c.dropped.ensures);
+      numbered = subst (λ p. AreGiven c.remove_route-root.new.nodes.lodged p c.self.inside.numbers)
+          (sym (taken g (goal.at.invariant_of-self-2 g c).After-take)) numbered;
     })
 
 pub returns-clause-value : goal.returns-clause-value
@@ -79,10 +90,12 @@ returns-clause-entries g c =
     (entries_next c.self.inside.nodes c.begin-visits.new.self _ c.self.view_is c.in-Some.is c.begin-visits.ensures.turn)
 
 pub returns-clause-numbers : goal.returns-clause-numbers
-returns-clause-numbers g c = (
-  c.in-Some-room_of.at.number,
-  λ n. ap (λ t. uses n t.numbers) (sym c.self.view_is) ∙ ap (λ r. uses n (keys r.lodged)) (sym c.begin-visits.ensures.turn)
-      ∙ used_more c.remove_route-root.new.nodes.lodged c.begin-visits.new.self.lodged c.in-Some-room_of.at.number c.remove_route-root.ensures.gone
-      c.remove_route-root.ensures.rooms n
-      ∙ ap (λ r. uses n (keys r.lodged) + (if c.in-Some-room_of.at.number == n then 1 else 0)) (sym c.scrap.ensures),
-)
+returns-clause-numbers g c =
+    let there = one_there c.begin-visits.new.self.lodged c.remove_route-root.new.nodes.lodged (number_of c.in-Some-room_of.at)
+        (given_begun c.self.inside.nodes c.begin-visits.new.self c.begin-visits.ensures.turn c.self.invariant.numbered)
+        (ap leaf_in c.remove_route-root.ensures.gone) c.remove_route-root.ensures.rooms in
+    let one = went (number_of c.in-Some-room_of.at) c.self.inside.given there in (
+      one.0,
+      λ n. ap (λ t. uses n t.numbers) (sym c.self.view_is) ∙ one.1 n
+          ∙ ap (λ p. uses n (numbers_in p) + (if one.0 == n then 1 else 0)) (sym (taken g (goal.at.returns-clause-numbers g c).After-take)),
+    )
