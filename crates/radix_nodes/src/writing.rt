@@ -30,6 +30,17 @@ impl<V> Nodes<V> {
         Ok(Room { space })
     }
 
+    /// The same room, which is none of those in the map: what is in one place has one owner. It does nothing.
+    pub fn spare(&mut self, room: Room<V>) -> Room<V>
+        ensures room { result ≡ room }
+        ensures free { get self.old.lodged room ≡ None }
+        ensures stays { self.new ≡ self.old }
+    {
+        let Room { space } = room;
+        let space = self.blocks.apart(space);
+        Room { space }
+    }
+
     /// Puts a value into a room, which is none of those in the map. Its links are blank.
     pub fn lodge(&mut self, room: Room<V>, value: V) -> Id
         ensures number { number_of result ≡ room }
