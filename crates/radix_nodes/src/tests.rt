@@ -1,6 +1,7 @@
 //! What no clause says: sizes, each call once, and a thousand rooms at a time, taken out in another order.
 ghost use Rattle.radix_nodes.specs.Keeping.{Keeps};
 
+use crate::room::Full;
 use crate::{BitNode, Id, Leaf, Links, MaskNode, Node, Nodes, Visits};
 use mask_table::Rank;
 use memory::Memory;
@@ -16,6 +17,7 @@ fn sizes(rt: HostRuntime) {
     assert_eq!(rt; size_of::<Id>(), 8);
     assert_eq!(rt; size_of::<Links>(), 80);
     assert_eq!(rt; size_of::<Visits>(), 0);
+    assert_eq!(rt; size_of::<Full<[u64; 11]>>(), 184);
 }
 
 /// Links in each role that name this room.

@@ -9,12 +9,13 @@ use Rattle.radix_tree.proofs.Words.{IsPlace, IsSpot, IsBeside, forked_tree, IsEx
 use Rattle.radix_nodes.specs.Naming.{number_of}
 
 -- a name that is not in a room is not the room's
-pub misses_leaf : {A : Type 0} (at : Node) (n : ℕ) → ((room : Id) → at ≡ LeafOf room → n ≡ (number_of room) → ⊥) → (above : Option Id) (said : Option (LeafPart A))
+pub misses_leaf : {A : Type 0} (at : Node) (n : ℕ) → ((room : Id) → at ≡ LeafOf room → n ≡ number_of room → ⊥)
+    → (above : Option Id) (said : Option (LeafPart A))
     → lift_leaf at above n said ≡ said
 misses_leaf (LeafOf room) n other above said = ap (λ t. if t then leaf_above above said else said) (ne_eqb n (number_of room) (other room refl))
 misses_leaf (BitOf room) n other above said = refl
 
-pub misses_bit : (at : Node) (n : ℕ) → ((room : Id) → at ≡ BitOf room → n ≡ (number_of room) → ⊥) → (above : Option Id) (said : Option BitPart)
+pub misses_bit : (at : Node) (n : ℕ) → ((room : Id) → at ≡ BitOf room → n ≡ number_of room → ⊥) → (above : Option Id) (said : Option BitPart)
     → lift_bit at above n said ≡ said
 misses_bit (LeafOf room) n other above said = refl
 misses_bit (BitOf room) n other above said = ap (λ t. if t then bit_above above said else said) (ne_eqb n (number_of room) (other room refl))
@@ -24,7 +25,7 @@ module _ {V : Type 0} where
   pub named_leaf : (t : Tree V) (room : Id) → name_of t ≡ LeafOf room → 1 ≤ leaves_at (number_of room) t
   named_leaf (leaf x xs) room e =
       let same : x.room ≡ room = cc in
-      let own = ap (λ i. one_if ((number_of x.room) == (number_of i))) (sym same) ∙ one_if_same (number_of x.room) in
+      let own = ap (λ i. one_if (number_of x.room == number_of i)) (sym same) ∙ one_if_same (number_of x.room) in
       omega arith
   named_leaf (fork i b zero one) room e = cc
 
@@ -32,16 +33,16 @@ module _ {V : Type 0} where
   named_bit (leaf x xs) room e = cc
   named_bit (fork i b zero one) room e =
       let same : i ≡ room = cc in
-      let own = ap (λ j. one_if ((number_of i) == (number_of j))) (sym same) ∙ one_if_same (number_of i) in omega arith
+      let own = ap (λ j. one_if (number_of i == number_of j)) (sym same) ∙ one_if_same (number_of i) in omega arith
 
   -- ---- the state before and after
   -- a room of the part isn't the new one
-  pub not_new : {m : Lodged V} (p : Part m) (room : Id) → leaves_in m (number_of room) ≡ None → (n : ℕ) → 1 ≤ leaves_at n p.tree → n ≡ (number_of room) → ⊥
+  pub not_new : {m : Lodged V} (p : Part m) (room : Id) → leaves_in m (number_of room) ≡ None → (n : ℕ) → 1 ≤ leaves_at n p.tree → n ≡ number_of room → ⊥
   not_new {m = m} p room none n some same =
       let gone = leaves_there (leaves_in m) (bits_in m) p.above p.tree (number_of room) p.stands none in
       let is = ap (λ k. leaves_at k p.tree) same in omega arith
 
-  pub not_new_bit : {m : Lodged V} (p : Part m) (room : Id) → bits_in m (number_of room) ≡ None → (n : ℕ) → 1 ≤ forks_at n p.tree → n ≡ (number_of room) → ⊥
+  pub not_new_bit : {m : Lodged V} (p : Part m) (room : Id) → bits_in m (number_of room) ≡ None → (n : ℕ) → 1 ≤ forks_at n p.tree → n ≡ number_of room → ⊥
   not_new_bit {m = m} p room none n some same =
       let gone = forks_there (leaves_in m) (bits_in m) p.above p.tree (number_of room) p.stands none in
       let is = ap (λ k. forks_at k p.tree) same in omega arith

@@ -19,10 +19,10 @@ or_true true = refl
 or_true false = refl
 
 -- the test of a room's number, either way round
-pub one_if_turned : (room : Id) (n : ℕ) → (n ≡ (number_of room) → ⊥) → one_if ((number_of room) == n) ≡ 0
+pub one_if_turned : (room : Id) (n : ℕ) → (n ≡ number_of room → ⊥) → one_if (number_of room == n) ≡ 0
 one_if_turned room n other = ap one_if (ne_eqb (number_of room) n (λ e. other (sym e)))
 
-pub one_if_here : (room : Id) (n : ℕ) → n ≡ (number_of room) → one_if ((number_of room) == n) ≡ 1
+pub one_if_here : (room : Id) (n : ℕ) → n ≡ number_of room → one_if (number_of room == n) ≡ 1
 one_if_here room n same = ap one_if (eq-eqb (number_of room) n (sym same))
 
 module _ {V : Type 0} where
@@ -35,12 +35,12 @@ module _ {V : Type 0} where
   chosen_leaf false above p = (p.leaf.above, refl)
 
   lifts : (at : Node) (above : Option Id) (n : ℕ) (p : LeafPart V) → LiftsTo (lift_leaf at above n (Some p)) p
-  lifts (LeafOf room) above n p = chosen_leaf (n == (number_of room)) above p
+  lifts (LeafOf room) above n p = chosen_leaf (n == number_of room) above p
   lifts (BitOf room) above n p = (p.leaf.above, refl)
 
   lift_leaf_some : (at : Node) (above : Option Id) (n : ℕ) (said : Option (LeafPart V)) → is_some (lift_leaf at above n said) ≡ is_some said
-  lift_leaf_some (LeafOf room) above n None = chosen (n == (number_of room)) (leaf_above above None) None refl
-  lift_leaf_some (LeafOf room) above n (Some p) = chosen (n == (number_of room)) (leaf_above above (Some p)) (Some p) refl
+  lift_leaf_some (LeafOf room) above n None = chosen (n == number_of room) (leaf_above above None) None refl
+  lift_leaf_some (LeafOf room) above n (Some p) = chosen (n == number_of room) (leaf_above above (Some p)) (Some p) refl
   lift_leaf_some (BitOf room) above n said = refl
 
   -- ---- the new bit node's tree
@@ -51,13 +51,13 @@ module _ {V : Type 0} where
     | inr set ↦ subst P (one_forked bit x t set) (one set)
   ]
 
-  pub forked_leaves : (bit : ℕ) (x : Placed V) (t : Tree V) (n : ℕ) → leaves_at n (forked_tree bit x t) ≡ one_if ((number_of x.room) == n) + leaves_at n t
+  pub forked_leaves : (bit : ℕ) (x : Placed V) (t : Tree V) (n : ℕ) → leaves_at n (forked_tree bit x t) ≡ one_if (number_of x.room == n) + leaves_at n t
   forked_leaves bit x t n =
-      forked_cases (λ (s : Tree V). leaves_at n s ≡ one_if ((number_of x.room) == n) + leaves_at n t) bit x t (λ clear. omega arith) (λ set. omega arith)
+      forked_cases (λ (s : Tree V). leaves_at n s ≡ one_if (number_of x.room == n) + leaves_at n t) bit x t (λ clear. omega arith) (λ set. omega arith)
 
-  pub forked_forks : (bit : ℕ) (x : Placed V) (t : Tree V) (n : ℕ) → forks_at n (forked_tree bit x t) ≡ one_if ((number_of x.room) == n) + forks_at n t
+  pub forked_forks : (bit : ℕ) (x : Placed V) (t : Tree V) (n : ℕ) → forks_at n (forked_tree bit x t) ≡ one_if (number_of x.room == n) + forks_at n t
   forked_forks bit x t n =
-      forked_cases (λ (s : Tree V). forks_at n s ≡ one_if ((number_of x.room) == n) + forks_at n t) bit x t (λ clear. omega arith) (λ set. omega arith)
+      forked_cases (λ (s : Tree V). forks_at n s ≡ one_if (number_of x.room == n) + forks_at n t) bit x t (λ clear. omega arith) (λ set. omega arith)
 
   in_leaf : (x y : Placed V) → IsIn y (leaf x []) → x ≡ y
   in_leaf x y is = elim is [ inl e ↦ e | inr none ↦ absurd none ]
@@ -165,10 +165,10 @@ module _ {V : Type 0} where
       pub no_bit : bits_in m (number_of x.room) ≡ None
       no_bit = sym (c.cut.bits (number_of x.room)) ∙ c.beside.no_bit
 
-      pub other_leaf : (n : ℕ) → (n ≡ (number_of x.room) → ⊥) → is_some (leaves_in new n) ≡ is_some (leaves_in m n)
+      pub other_leaf : (n : ℕ) → (n ≡ number_of x.room → ⊥) → is_some (leaves_in new n) ≡ is_some (leaves_in m n)
       other_leaf n other = ap is_some (c.beside.leaves n other) ∙ lift_leaf_some below (Some x.room) n (leaves_in mid n) ∙ ap is_some (c.cut.leaves n)
 
-      pub other_bit : (n : ℕ) → (n ≡ (number_of x.room) → ⊥) → is_some (bits_in new n) ≡ is_some (bits_in m n)
+      pub other_bit : (n : ℕ) → (n ≡ number_of x.room → ⊥) → is_some (bits_in new n) ≡ is_some (bits_in m n)
       other_bit n other = ap is_some (c.beside.bits n other) ∙ lift_used below (Some x.room) n
           (name_child above x.entry.key (BitOf x.room) n (bits_in mid n)) ∙ turn_used above x.entry.key n (BitOf x.room) (bits_in mid n)
           ∙ ap is_some (c.cut.bits n)
@@ -189,7 +189,7 @@ module _ {V : Type 0} where
       pub leaf_kept : (n : ℕ) (p : LeafPart V) → leaves_in m n ≡ Some p
           → (a : Option Id) × (leaves_in new n ≡ Some (record p { leaf = record p.leaf { above = a } }))
       leaf_kept n p is =
-          let other : n ≡ (number_of x.room) → ⊥ = λ same. some_none (sym is ∙ ap (leaves_in m) same ∙ no_leaf) in
+          let other : n ≡ number_of x.room → ⊥ = λ same. some_none (sym is ∙ ap (leaves_in m) same ∙ no_leaf) in
           let l = lifts below (Some x.room) n p in
           (l.0, c.beside.leaves n other ∙ ap (lift_leaf below (Some x.room) n) (c.cut.leaves n ∙ is) ∙ l.1)
         where

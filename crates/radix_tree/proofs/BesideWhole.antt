@@ -24,8 +24,8 @@ module _ {V : Type 0} where
 
   pub counts : (m : Lodged V) {mid : Lodged V} (new : Lodged V) {low bit : ℕ} {t : Tree V} (x : Placed V) {above : Option Id} {below : Node}
       (c : Came m mid new low bit t x above below) (n : ℕ)
-      → (one_if ((number_of x.room) == n) + one_if (is_some (leaves_in m n)) ≡ one_if (is_some (leaves_in new n)))
-      × (one_if ((number_of x.room) == n) + one_if (is_some (bits_in m n)) ≡ one_if (is_some (bits_in new n)))
+      → (one_if (number_of x.room == n) + one_if (is_some (leaves_in m n)) ≡ one_if (is_some (leaves_in new n)))
+      × (one_if (number_of x.room == n) + one_if (is_some (bits_in m n)) ≡ one_if (is_some (bits_in new n)))
   counts m new {t = t} x c n = elim (cases_eq n (number_of x.room)) [
     | inl same ↦ let here = one_if_here x.room n same in
         let l = ap (λ o. one_if (is_some o)) (ap (leaves_in m) same ∙ no_leaf x c) in
@@ -46,7 +46,7 @@ module _ {V : Type 0} where
   late_or_home m bit key room p y (leaf z zs) is tree keyed at short =
       let said = tree_said (leaves_in m) (bits_in m) p.above p.tree p.stands y at in
       let has = ap (is_of_key key) said.3 ∙ eq-eqb y.entry.key key (keyed z zs is) in
-      inl (ap (λ b. ((number_of y.room) == room) || b) has ∙ or_true ((number_of y.room) == room))
+      inl (ap (λ b. (number_of y.room == room) || b) has ∙ or_true (number_of y.room == room))
   late_or_home m bit key room p y (fork i b zero one) is tree keyed at short =
       let past = (subst (IsTree (bit + 1)) is tree).0.rises in
       let home : y.entry.rank ≤ b = omega arith in
@@ -64,7 +64,7 @@ module _ {V : Type 0} where
         let new_one : (y : Placed V) → x ≡ y → IsMarked (masks_in new) y → ⊥ =
         λ y e marked. new_unmarked x c (subst (IsMarked (masks_in new)) (sym e) marked) in
         let not_room = not_new_bit s.at x.room (no_bit x c) in
-        let off : (n : ℕ) → (n ≡ (number_of x.room) → ⊥) → heads_in new n ≡ heads_in mid n =
+        let off : (n : ℕ) → (n ≡ number_of x.room → ⊥) → heads_in new n ≡ heads_in mid n =
         λ n other. c.heads n ∙ ap (λ b. if b then c.first else heads_in mid n) (ne_eqb n (number_of x.room) other) in
         let rises = s.place.rises in
         record {
@@ -89,7 +89,8 @@ module _ {V : Type 0} where
           gone = λ y at short marked. marks (number_of y.room) ∙ marked;
           lists = subst (MarkedLists (heads_in new) (masks_in new) s.at.low) (sym tree) (forked_lists (heads_in new) s.at.low bit x s.at.tree
               (mask_list_same (masks_in mid) (masks_in new) s.at.low bit (MarkedIn (masks_in new) (forked_tree bit x s.at.tree))
-              (c.heads (number_of x.room) ∙ ap (λ b. if b then c.first else heads_in mid (number_of x.room)) (eq-eqb (number_of x.room) (number_of x.room) refl))
+              (c.heads (number_of x.room) ∙ ap (λ b. if b then c.first else heads_in mid (number_of x.room))
+              (eq-eqb (number_of x.room) (number_of x.room) refl))
               (λ y member most. (
                 (forked_in bit x s.at.tree y member.0, marked_same (masks_in mid) (masks_in new) y (c.masks (number_of y.room)) member.1),
                 c.masks (number_of y.room),
@@ -99,7 +100,8 @@ module _ {V : Type 0} where
               )) c.cut.list) (lists_same (heads_in mid) (heads_in new) (masks_in mid) (masks_in new) (bit + 1) s.at.tree (λ n some. off n (not_room n some))
               (λ y at. c.masks (number_of y.room)) c.cut.lists));
           all = λ y there home. elim (in_forked bit x s.at.tree y (subst (IsIn y) tree there)) [
-            | inl e ↦ inl (ap (λ b. b || has_key m key (number_of y.room)) (eq-eqb (number_of y.room) (number_of x.room) (ap (λ p. (number_of p.room)) (sym e))))
+            | inl e ↦ inl (ap (λ b. b || has_key m key (number_of y.room)) (eq-eqb (number_of y.room) (number_of x.room)
+                (ap (λ p. (number_of p.room)) (sym e))))
             | inr at ↦ elim home [
               | inl short ↦ inr (
                 at,
@@ -135,10 +137,11 @@ module _ {V : Type 0} where
           → HaveOneFork (bits_in new) e.part.tree
       spare_beside mid c tree =
           let none = no_leaf x c in
-          let idle : (n : ℕ) → (n ≡ (number_of x.room) → ⊥) → bits_in m n ≡ None → bits_in new n ≡ None =
+          let idle : (n : ℕ) → (n ≡ number_of x.room → ⊥) → bits_in m n ≡ None → bits_in new n ≡ None =
           λ n other. same_none (bits_in new n) (other_bit x c n other) in
           spare_changed w e (λ spare. subst (HaveOneFork (bits_in new)) (sym tree) (forked_spare (bits_in new) bit x s.at.tree
-          (spare_same (bits_in m) (bits_in new) s.at.tree (λ y at. idle (number_of y.room) (not_new s.at x.room none (number_of y.room) (counted_leaf y s.at.tree at)))
+          (spare_same (bits_in m) (bits_in new) s.at.tree (λ y at. idle (number_of y.room)
+          (not_new s.at x.room none (number_of y.room) (counted_leaf y s.at.tree at)))
           spare))) (λ n out some. idle n (not_new w.part x.room none n some))
 
       pub whole_beside : {mid : Lodged V} {room : Id} (d : LedTo x.entry.key w.part room) → Came m mid new s.at.low bit s.at.tree x above below
@@ -165,7 +168,7 @@ module _ {V : Type 0} where
       → IsMasks mid (heads_in mid (number_of fork)) (past_bit bit ms))
       → ((fork : Id) (ms : List (Placed V)) → below ≡ BitOf fork → IsMasks m (heads_in m (number_of fork)) ms → IsMasks mid first (up_to_bit bit ms))
       → ((room : Id) → below ≡ LeafOf room → (first ≡ None) × (mid ≡ m))
-      → ((n : ℕ) → ((fork : Id) → below ≡ BitOf fork → n ≡ (number_of fork) → ⊥) → heads_in mid n ≡ heads_in m n)
+      → ((n : ℕ) → ((fork : Id) → below ≡ BitOf fork → n ≡ number_of fork → ⊥) → heads_in mid n ≡ heads_in m n)
       → ((fork : Id) (ms : List (Placed V)) → below ≡ BitOf fork → IsMasks m (heads_in m (number_of fork)) ms → (n : ℕ) → IsAside n ms
       → masks_in mid n ≡ masks_in m n) → ((n : ℕ) → is_some (masks_in mid n) ≡ is_some (masks_in m n)) → KeepsLeaves m mid → KeepsBits m mid
       → IsBeside mid new bit x above below → ((n : ℕ) → heads_in new n ≡ with_head x.room first n (heads_in mid n)) → KeepsMasks mid new

@@ -31,7 +31,7 @@ module _ {V : Type 0} where
   turn_same m key whole at (p ∷ ps) way top n =
       let b = way.0 in
       ap (λ o. name_child o key (name_of at.tree) n (bits_in m n)) b.above
-      ∙ elim (n == (number_of b.room)) as (λ t. (n == (number_of b.room)) ≡ t → (if t then with_child key (name_of at.tree) (bits_in m n) else bits_in m n)
+      ∙ elim (n == number_of b.room) as (λ t. (n == number_of b.room) ≡ t → (if t then with_child key (name_of at.tree) (bits_in m n) else bits_in m n)
       ≡ bits_in m n) [
         | true ↦ λ e. ap (λ k. with_child key (name_of at.tree) (bits_in m k)) (eqb-true n (number_of b.room) e)
             ∙ sym (same_turned key p (name_of at.tree) b refl) ∙ ap (bits_in m) (sym (eqb-true n (number_of b.room) e))

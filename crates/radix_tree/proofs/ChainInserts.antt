@@ -87,7 +87,7 @@ module _ {V : Type 0} where
 
   pub next_same : (before next : Option Id) (n : ℕ) (said : Option (LeafPart V)) → content_of (name_next before next n said) ≡ content_of said
   next_same None next n said = refl
-  next_same (Some room) next n said = elim (n == (number_of room)) as (λ t. content_of (if t then leaf_next next said else said) ≡ content_of said) [
+  next_same (Some room) next n said = elim (n == number_of room) as (λ t. content_of (if t then leaf_next next said else said) ≡ content_of said) [
     | true ↦ next_content next said
     | false ↦ refl
   ]
@@ -96,21 +96,21 @@ module _ {V : Type 0} where
       → content_of (name_back behind above previous n said) ≡ content_of said
   back_same None above previous n said = refl
   back_same (Some room) above previous n said =
-      elim (n == (number_of room)) as (λ t. content_of (if t then leaf_back above previous said else said) ≡ content_of said) [
+      elim (n == number_of room) as (λ t. content_of (if t then leaf_back above previous said else said) ≡ content_of said) [
         | true ↦ back_content above previous said
         | false ↦ refl
       ]
 
   lodged_some : (room : Id) (value : V) (l : Leaf) (n : ℕ) (said : Option (LeafPart V))
-      → is_some (lodge_leaf room value l n said) ≡ (n == (number_of room)) || is_some said
+      → is_some (lodge_leaf room value l n said) ≡ (n == number_of room) || is_some said
   lodged_some room value l n said =
-      elim (n == (number_of room)) as (λ t. is_some (if t then Some (record { block = room.block; value = value; leaf = l }) else said) ≡ t || is_some said) [
+      elim (n == number_of room) as (λ t. is_some (if t then Some (record { block = room.block; value = value; leaf = l }) else said) ≡ t || is_some said) [
         | true ↦ refl
         | false ↦ refl
       ]
 
   pub linked_rooms : (m new : Lodged V) (id : Id) (value : V) (l : Leaf) → ((n : ℕ) → leaves_in new n ≡ link_in id value l n (leaves_in m n)) → (n : ℕ)
-      → is_some (leaves_in new n) ≡ (n == (number_of id)) || is_some (leaves_in m n)
+      → is_some (leaves_in new n) ≡ (n == number_of id) || is_some (leaves_in m n)
   linked_rooms m new id value l is n = ap is_some (is n) ∙ content_used (link_in id value l n (leaves_in m n)) (lodge_leaf id value l n (leaves_in m n))
       (back_same l.next None (Some id) n (name_next l.previous (Some id) n (lodge_leaf id value l n (leaves_in m n)))
       ∙ next_same l.previous (Some id) n (lodge_leaf id value l n (leaves_in m n))) ∙ lodged_some id value l n (leaves_in m n)

@@ -8,12 +8,12 @@ use Rattle.radix_nodes.specs.Naming.{number_of}
 
 module _ {V : Type 0} where
   -- ---- rooms that are not written
-  next_off : (before next : Option Id) (n : ℕ) (said : Option (LeafPart V)) → ((r : Id) → before ≡ Some r → n ≡ (number_of r) → ⊥)
+  next_off : (before next : Option Id) (n : ℕ) (said : Option (LeafPart V)) → ((r : Id) → before ≡ Some r → n ≡ number_of r → ⊥)
       → name_next before next n said ≡ said
   next_off None next n said other = refl
   next_off (Some room) next n said other = off_room room n (leaf_next next said) said (other room refl)
 
-  back_off : (behind above previous : Option Id) (n : ℕ) (said : Option (LeafPart V)) → ((r : Id) → behind ≡ Some r → n ≡ (number_of r) → ⊥)
+  back_off : (behind above previous : Option Id) (n : ℕ) (said : Option (LeafPart V)) → ((r : Id) → behind ≡ Some r → n ≡ number_of r → ⊥)
       → name_back behind above previous n said ≡ said
   back_off None above previous n said other = refl
   back_off (Some room) above previous n said other = off_room room n (leaf_back above previous said) said (other room refl)
@@ -24,7 +24,7 @@ module _ {V : Type 0} where
 
   last_in : (x : Placed V) (c : List (Placed V)) (r : Id) → last_room (Some x.room) c ≡ Some r → 1 ≤ members_at (number_of r) (x ∷ c)
   last_in x [] r is =
-      let one = ap (λ i. one_if ((number_of x.room) == (number_of i))) (sym (inside is)) ∙ one_if_same (number_of x.room) in
+      let one = ap (λ i. one_if (number_of x.room == number_of i)) (sym (inside is)) ∙ one_if_same (number_of x.room) in
       omega arith
   last_in x (y ∷ c) r is = let rest = last_in y c r is in omega arith
 
@@ -35,7 +35,7 @@ module _ {V : Type 0} where
   pub first_among : (c : List (Placed V)) (r : Id) → first_room c ≡ Some r → 1 ≤ members_at (number_of r) c
   first_among [] r is = absurd (none_some is)
   first_among (x ∷ c) r is =
-      let one = ap (λ i. one_if ((number_of x.room) == (number_of i))) (sym (inside is)) ∙ one_if_same (number_of x.room) in
+      let one = ap (λ i. one_if (number_of x.room == number_of i)) (sym (inside is)) ∙ one_if_same (number_of x.room) in
       omega arith
 
   -- ---- a chain whose end is another one
@@ -51,7 +51,7 @@ module _ {V : Type 0} where
   front_linked L M above previous (y ∷ z ∷ front) old now stands said once rest = (
     said (number_of y.room) (own_counts y (z ∷ front)) ∙ next_off (last_room (Some z.room) front) (first_room now) (number_of y.room) (L (number_of y.room))
         (λ r is same. let behind = last_in z front r is in let most = once (number_of r) in
-        let one = ap (λ k. one_if ((number_of y.room) == k)) (sym same) ∙ one_if_same (number_of y.room) in omega arith) ∙ stands.0,
+        let one = ap (λ k. one_if (number_of y.room == k)) (sym same) ∙ one_if_same (number_of y.room) in omega arith) ∙ stands.0,
     front_linked L M None (Some y.room) (z ∷ front) old now stands.1 (λ n some. said n (omega arith)) (λ n. let most = once n in omega arith) rest,
   )
 
@@ -62,7 +62,7 @@ module _ {V : Type 0} where
   back_linked L M above previous a p (y ∷ back) stands said once = (
     said (number_of y.room) (own_counts y back) ∙ own_room y.room (leaf_back a p (L (number_of y.room))) (L (number_of y.room)) ∙ ap (leaf_back a p) stands.0,
     chain_frame L M None (Some y.room) back (λ n some. said n (omega arith) ∙ off_room y.room n (leaf_back a p (L n)) (L n)
-        (λ same. let most = once n in let one = ap (λ k. one_if ((number_of y.room) == k)) same ∙ one_if_same (number_of y.room) in omega arith)) stands.1,
+        (λ same. let most = once n in let one = ap (λ k. one_if (number_of y.room == k)) same ∙ one_if_same (number_of y.room) in omega arith)) stands.1,
   )
 
   -- ---- a member more
@@ -72,7 +72,7 @@ module _ {V : Type 0} where
 
   -- a room that is not of the chain, and not the new one
   pub in_others : (L M : Leaves V) (front back : List (Placed V)) (room : Id) (value : V) (l : Leaf) (n : ℕ) → l.next ≡ first_room back
-      → l.previous ≡ last_room None front → M n ≡ link_in room value l n (L n) → (n ≡ (number_of room) → ⊥) → members_at n (front ++ back) ≡ 0 → M n ≡ L n
+      → l.previous ≡ last_room None front → M n ≡ link_in room value l n (L n) → (n ≡ number_of room → ⊥) → members_at n (front ++ back) ≡ 0 → M n ≡ L n
   in_others L M front back room value l n next previous said other out =
       let none = members_append n front back in
       let lodged = lodge_leaf room value l n (L n) in
@@ -98,19 +98,21 @@ module _ {V : Type 0} where
       ≡ L n =
       λ n some. off_room x.room n (Some (record { block = x.room.block; value = x.entry.value; leaf = leaf_at x.entry.key x.entry.rank above front back }))
       (L n) (new n some) in
-      let not_first : (n : ℕ) → members_at n back ≡ 0 → (r : Id) → first_room back ≡ Some r → n ≡ (number_of r) → ⊥ = λ n out r is same.
+      let not_first : (n : ℕ) → members_at n back ≡ 0 → (r : Id) → first_room back ≡ Some r → n ≡ number_of r → ⊥ = λ n out r is same.
       let some = first_among back r is in let at = ap (λ k. members_at k back) same in omega arith in
-      let not_last : (n : ℕ) → members_at n front ≡ 0 → (r : Id) → last_room None front ≡ Some r → n ≡ (number_of r) → ⊥ = λ n out r is same.
+      let not_last : (n : ℕ) → members_at n front ≡ 0 → (r : Id) → last_room None front ≡ Some r → n ≡ number_of r → ⊥ = λ n out r is same.
       let some = last_among front r is in let at = ap (λ k. members_at k front) same in omega arith in
       front_linked L M above None front back (x ∷ back) stands (λ n some. let both = sum n in let most = once n in
       said n ∙ back_off (first_room back) None (Some x.room) n (name_next (last_room None front) (Some x.room) n
       (lodge_leaf x.room x.entry.value (leaf_at x.entry.key x.entry.rank above front back) n (L n))) (not_first n (omega arith))
       ∙ ap (name_next (last_room None front) (Some x.room) n) (lodged n (omega arith))) (λ n. let both = sum n in let most = once n in
       omega arith) (
-        said (number_of x.room) ∙ back_off (first_room back) None (Some x.room) (number_of x.room) (name_next (last_room None front) (Some x.room) (number_of x.room)
+        said (number_of x.room) ∙ back_off (first_room back) None (Some x.room) (number_of x.room)
+            (name_next (last_room None front) (Some x.room) (number_of x.room)
             (lodge_leaf x.room x.entry.value (leaf_at x.entry.key x.entry.rank above front back) (number_of x.room) (L (number_of x.room))))
             (not_first (number_of x.room) (let both = sum (number_of x.room) in omega arith))
-            ∙ next_off (last_room None front) (Some x.room) (number_of x.room) (lodge_leaf x.room x.entry.value (leaf_at x.entry.key x.entry.rank above front back)
+            ∙ next_off (last_room None front) (Some x.room) (number_of x.room) (lodge_leaf x.room x.entry.value
+            (leaf_at x.entry.key x.entry.rank above front back)
             (number_of x.room) (L (number_of x.room))) (not_last (number_of x.room) (let both = sum (number_of x.room) in omega arith))
             ∙ own_room x.room (Some (record { block = x.room.block; value = x.entry.value; leaf = leaf_at x.entry.key x.entry.rank above front back }))
             (L (number_of x.room)),

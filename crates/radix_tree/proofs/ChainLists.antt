@@ -26,7 +26,7 @@ module _ {V : Type 0} where
       omega arith
 
   pub members_more : (n : ℕ) (front back : List (Placed V)) (x : Placed V)
-      → members_at n (front ++ (x ∷ back)) ≡ members_at n (front ++ back) + one_if ((number_of x.room) == n)
+      → members_at n (front ++ (x ∷ back)) ≡ members_at n (front ++ back) + one_if (number_of x.room == n)
   members_more n front back x =
       let more = members_append n front (x ∷ back) in
       let less = members_append n front back in omega arith
@@ -65,7 +65,8 @@ module _ {V : Type 0} where
   idle_less B [] back x idle = idle.1
   idle_less B (y ∷ front) back x idle = (idle.0, idle_less B front back x idle.1)
 
-  idle_more : (B : Bits) (front back : List (Placed V)) (x : Placed V) → AreIdle B (front ++ back) → B (number_of x.room) ≡ None → AreIdle B (front ++ (x ∷ back))
+  idle_more : (B : Bits) (front back : List (Placed V)) (x : Placed V) → AreIdle B (front ++ back) → B (number_of x.room) ≡ None
+      → AreIdle B (front ++ (x ∷ back))
   idle_more B [] back x idle none = (none, idle)
   idle_more B (y ∷ front) back x idle none = (idle.0, idle_more B front back x idle.1 none)
 
@@ -104,7 +105,8 @@ module _ {V : Type 0} where
   idle_at B (z ∷ c) y idle is = elim is [ inl e ↦ ap (λ p. B (number_of p.room)) (sym e) ∙ idle.0 | inr later ↦ idle_at B c y idle.1 later ]
 
   -- where one member's room is a bit node in use, no other one's is
-  pub others_idle : (B : Bits) (front back : List (Placed V)) (x y : Placed V) {b : BitPart} → HasOneFork B (front ++ (x ∷ back)) → B (number_of x.room) ≡ Some b
+  pub others_idle : (B : Bits) (front back : List (Placed V)) (x y : Placed V) {b : BitPart} → HasOneFork B (front ++ (x ∷ back))
+      → B (number_of x.room) ≡ Some b
       → IsAmong y (front ++ back) → B (number_of y.room) ≡ None
   others_idle B [] back x y one used is = elim one [ inl idle ↦ idle_at B back y idle is | inr own ↦ absurd (none_some (sym own.0 ∙ used)) ]
   others_idle B (z ∷ front) back x y one used is = elim one [

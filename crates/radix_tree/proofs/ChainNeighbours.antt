@@ -24,7 +24,7 @@ module _ {V : Type 0} where
     pub back : List (Placed V)
     pub is : part.tree ≡ leaf first rest
     pub split : first ∷ rest ≡ front ++ (x ∷ back)
-    pub number : (number_of x.room) ≡ n
+    pub number : number_of x.room ≡ n
     pub part_is : p ≡ leaf_part x (above_behind part.above front) (last_room None front) (first_room back)
 
   pub leaf_stands : (m : Lodged V) (at : Part m) {z : Placed V} {zs c : List (Placed V)} → at.tree ≡ leaf z zs → z ∷ zs ≡ c

@@ -115,7 +115,7 @@ module _ {V : Type 0} where
 
   pub neighbour : {m new : Lodged V} {root : Node} {late : ℕ → Bool} (w : IsWholeBut m root late nobody_out) {n : ℕ} (p : LeafPart V)
       (b : IsMember m w.part n p) → IsUnlinked m new p.leaf → (to : Id)
-      → (p.leaf.next ≡ Some to) ⊎ (p.leaf.previous ≡ Some to) → Has new to × ((number_of to) ≡ n → ⊥) × (has_key new p.leaf.key (number_of to) ≡ true)
+      → (p.leaf.next ≡ Some to) ⊎ (p.leaf.previous ≡ Some to) → Has new to × (number_of to ≡ n → ⊥) × (has_key new p.leaf.key (number_of to) ≡ true)
   neighbour {m = m} {new = new} w {n = n} p b u to side =
       let there = ⊎_elim (λ e. behind_there _ b to e) (λ e. before_there _ b to e) side in
       let sum = members_append (number_of to) b.front b.back in

@@ -7,14 +7,14 @@ use Rattle.radix_nodes.specs.Naming.{number_of}
 
 module _ {V : Type 0} where
   abbrev pub AmongAt : ℕ → List (Placed V) → Type 0
-  AmongAt n c = (y : Placed V) × IsAmong y c × ((number_of y.room) ≡ n)
+  AmongAt n c = (y : Placed V) × IsAmong y c × (number_of y.room ≡ n)
 
   abbrev pub InAt : ℕ → Tree V → Type 0
-  InAt n t = (y : Placed V) × IsIn y t × ((number_of y.room) ≡ n)
+  InAt n t = (y : Placed V) × IsIn y t × (number_of y.room ≡ n)
 
   pub among_at : (n : ℕ) (c : List (Placed V)) → 1 ≤ members_at n c → AmongAt n c
   among_at n [] some = absurd (omega arith)
-  among_at n (x ∷ c) some = elim ((number_of x.room) == n) as (λ t. ((number_of x.room) == n) ≡ t → 1 ≤ one_if t + members_at n c → AmongAt n (x ∷ c)) [
+  among_at n (x ∷ c) some = elim (number_of x.room == n) as (λ t. (number_of x.room == n) ≡ t → 1 ≤ one_if t + members_at n c → AmongAt n (x ∷ c)) [
     | true ↦ λ e many. (x, inl refl, eqb-true (number_of x.room) n e)
     | false ↦ λ e many. let y = among_at n c (omega arith) in (y.0, inr y.1, y.2)
   ] refl some
@@ -31,7 +31,7 @@ module _ {V : Type 0} where
   pub record RoomRoute (whole : Tree V) (n : ℕ) (p : LeafPart V) : Type 0 where
     pub route : Placed V
     pub is_in : IsIn route whole
-    pub number : (number_of route.room) ≡ n
+    pub number : number_of route.room ≡ n
     pub block : route.room.block ≡ p.block
     pub entry : route.entry ≡ shown_entry p
 

@@ -15,7 +15,7 @@ module _ {V : Type 0} where
   fits_in : (m new : Lodged V) (key : ℕ) (whole at : Part m) (front back : List (Placed V)) (x : Placed V)
       (r : Rechained m new key whole at (front ++ back) (front ++ (x ∷ back)))
       → leaves_in m (number_of x.room) ≡ None → masks_in m (number_of x.room) ≡ None → ((n : ℕ)
-      → is_some (leaves_in new n) ≡ (n == (number_of x.room)) || is_some (leaves_in m n))
+      → is_some (leaves_in new n) ≡ (n == number_of x.room) || is_some (leaves_in m n))
       → Fits m new whole at (under r) nobody_late (late_at (number_of x.room)) nobody_out nobody_out
   fits_in m new key whole at front back x r free unmarked rooms =
       let old = front ++ back in
@@ -55,7 +55,8 @@ module _ {V : Type 0} where
   -- ---- a member less
   fits_out : (m new : Lodged V) (key : ℕ) (whole at : Part m) (front back : List (Placed V)) (x : Placed V)
       (r : Rechained m new key whole at (front ++ (x ∷ back)) (front ++ back))
-      → ((n : ℕ) → members_at n (front ++ (x ∷ back)) ≤ 1) → masks_in m (number_of x.room) ≡ None → ((n : ℕ) → is_some (leaves_in new n) ≡ is_some (leaves_in m n))
+      → ((n : ℕ) → members_at n (front ++ (x ∷ back)) ≤ 1) → masks_in m (number_of x.room) ≡ None
+      → ((n : ℕ) → is_some (leaves_in new n) ≡ is_some (leaves_in m n))
       → Fits m new whole at (under r) (late_at (number_of x.room)) nobody_late nobody_out (out_at (number_of x.room))
   fits_out m new key whole at front back x r once unmarked rooms =
       let own_now : (y : Placed V) → IsIn y (leaf r.cons.first r.cons.rest) → IsAmong y (front ++ back) = λ y is. subst (IsAmong y) (sym r.cons.is) is in
@@ -103,7 +104,7 @@ module _ {V : Type 0} where
   module _ {m new : Lodged V} {root : Node} {key : ℕ} (w : IsWholeBut m root nobody_late nobody_out) {at : Part m} (front back : List (Placed V))
       (x : Placed V) (r : Rechained m new key w.part at (front ++ back) (front ++ (x ∷ back))) where
     pub grown_whole : (ups : List (Part m)) → Way key w.part at ups → leaves_in m (number_of x.room) ≡ None → masks_in m (number_of x.room) ≡ None
-        → bits_in m (number_of x.room) ≡ None → ((n : ℕ) → is_some (leaves_in new n) ≡ (n == (number_of x.room)) || is_some (leaves_in m n))
+        → bits_in m (number_of x.room) ≡ None → ((n : ℕ) → is_some (leaves_in new n) ≡ (n == number_of x.room) || is_some (leaves_in m n))
         → IsWholeBut new (root_after at.above (LeafOf r.cons.first.room) (name_of w.part.tree)) (late_at (number_of x.room)) nobody_out
     grown_whole ups way free unmarked idle rooms =
         rechained w r ups way (fits_in m new key w.part at front back x r free unmarked rooms) (λ one. one_fork_more (bits_in m) front back x one idle)
@@ -115,7 +116,8 @@ module _ {V : Type 0} where
   pub shrunk_whole : (m new : Lodged V) {root : Node} (key : ℕ) (front back : List (Placed V)) (x : Placed V)
       (w : IsWholeBut m root (late_at (number_of x.room)) nobody_out) (at : Part m) (ups : List (Part m)) → Way key w.part at ups
       → (r : Rechained m new key w.part at (front ++ (x ∷ back)) (front ++ back))
-      → ((n : ℕ) → members_at n (front ++ (x ∷ back)) ≤ 1) → masks_in m (number_of x.room) ≡ None → ((n : ℕ) → is_some (leaves_in new n) ≡ is_some (leaves_in m n))
+      → ((n : ℕ) → members_at n (front ++ (x ∷ back)) ≤ 1) → masks_in m (number_of x.room) ≡ None
+      → ((n : ℕ) → is_some (leaves_in new n) ≡ is_some (leaves_in m n))
       → IsWholeBut new (root_after at.above (LeafOf r.cons.first.room) (name_of w.part.tree)) nobody_late (out_at (number_of x.room))
   shrunk_whole m new key front back x w at ups way r once unmarked rooms =
       rechained w r ups way (fits_out m new key w.part at front back x r once unmarked rooms) (λ one. one_fork_less (bits_in m) front back x one)

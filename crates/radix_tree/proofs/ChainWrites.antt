@@ -17,7 +17,7 @@ module _ {V : Type 0} where
         → put_leaf room (record l { next = next }) n (leaves_in m n) ≡ (if n == (number_of room) then leaf_next next (leaves_in m n) else leaves_in m n)
     next_put links {l = l} next n are leaf =
         let read = leaf ∙ ap leaf_of (are h.room h.at) in
-        elim (n == (number_of room)) as (λ t. (n == (number_of room)) ≡ t
+        elim (n == number_of room) as (λ t. (n == number_of room) ≡ t
         → (if t then with_leaf (record l { next = next }) (leaves_in m n) else leaves_in m n) ≡
         (if t then leaf_next next (leaves_in m n) else leaves_in m n)) [
           | true ↦ λ e. let said = ap (leaves_in m) (eqb-true n (number_of room) e) ∙ own_said in
@@ -31,7 +31,7 @@ module _ {V : Type 0} where
         (if n == (number_of room) then leaf_back above previous (leaves_in m n) else leaves_in m n)
     back_put links {l = l} above previous n are leaf =
         let read = leaf ∙ ap leaf_of (are h.room h.at) in
-        elim (n == (number_of room)) as (λ t. (n == (number_of room)) ≡ t
+        elim (n == number_of room) as (λ t. (n == number_of room) ≡ t
         → (if t then with_leaf (record l { above = above; previous = previous }) (leaves_in m n) else leaves_in m n)
         ≡ (if t then leaf_back above previous (leaves_in m n) else leaves_in m n)) [
           | true ↦ λ e. let said = ap (leaves_in m) (eqb-true n (number_of room) e) ∙ own_said in
@@ -53,7 +53,7 @@ module _ {V : Type 0} where
   part_has : {m : Lodged V} {room : Id} → Has m room → IsPart (leaves_in m (number_of room)) room
   part_has h = record { part = own_part h; is = own_said h; block = h.block }
 
-  lodged_part : (room at : Id) (value : V) (l : Leaf) {said : Option (LeafPart V)} → ((number_of at) ≡ (number_of room) → ⊥)
+  lodged_part : (room at : Id) (value : V) (l : Leaf) {said : Option (LeafPart V)} → (number_of at ≡ number_of room → ⊥)
       → IsPart said at → IsPart (lodge_leaf room value l (number_of at) said) at
   lodged_part room at value l {said = said} other p = record {
     part = p.part;
@@ -75,13 +75,13 @@ module _ {V : Type 0} where
   next_part : (before next : Option Id) (at : Id) {said : Option (LeafPart V)} → IsPart said at → IsPart (name_next before next (number_of at) said) at
   next_part None next at p = p
   next_part (Some room) next at {said = said} p =
-      elim ((number_of at) == (number_of room)) as (λ t. IsPart (if t then leaf_next next said else said) at) [ true ↦ some_next next p | false ↦ p ]
+      elim (number_of at == number_of room) as (λ t. IsPart (if t then leaf_next next said else said) at) [ true ↦ some_next next p | false ↦ p ]
 
   back_part : (behind above previous : Option Id) (at : Id) {said : Option (LeafPart V)}
       → IsPart said at → IsPart (name_back behind above previous (number_of at) said) at
   back_part None above previous at p = p
   back_part (Some room) above previous at {said = said} p =
-      elim ((number_of at) == (number_of room)) as (λ t. IsPart (if t then leaf_back above previous said else said) at) [
+      elim (number_of at == number_of room) as (λ t. IsPart (if t then leaf_back above previous said else said) at) [
         | true ↦ some_back above previous p
         | false ↦ p
       ]
@@ -104,7 +104,7 @@ module _ {V : Type 0} where
         has_part new at (record { part = p.part; is = is (number_of at) ∙ p.is; block = p.block })
 
     -- a room that is in the map has no free number
-    pub not_free : (room : Id) → leaves_in m (number_of room) ≡ None → (number_of at) ≡ (number_of room) → ⊥
+    pub not_free : (room : Id) → leaves_in m (number_of room) ≡ None → number_of at ≡ number_of room → ⊥
     not_free room free same = none_some (sym free ∙ ap (leaves_in m) (sym same) ∙ own_said h)
 
     pub Has-lodged : (new : Lodged V) (room : Id) (value : V) (l : Leaf) → leaves_in m (number_of room) ≡ None

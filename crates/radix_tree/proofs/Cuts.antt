@@ -13,7 +13,7 @@ use Rattle.radix_nodes.specs.Naming.{number_of}
 
 module _ {V : Type 0} where
   -- routes of a part in one room have one key and one rank
-  pub same_pair : (m : Lodged V) (p : Part m) (x y : Placed V) → IsIn x p.tree → IsIn y p.tree → (number_of x.room) ≡ (number_of y.room)
+  pub same_pair : (m : Lodged V) (p : Part m) (x y : Placed V) → IsIn x p.tree → IsIn y p.tree → number_of x.room ≡ (number_of y.room)
       → (x.entry.key ≡ y.entry.key) × (x.entry.rank ≡ y.entry.rank)
   same_pair m p x y one other same =
       let a = tree_said (leaves_in m) (bits_in m) p.above p.tree p.stands x one in
@@ -77,7 +77,7 @@ module _ {V : Type 0} where
       → IsTree (bit + 1) p.tree → MarkedLists (heads_in m) (masks_in m) p.low p.tree
       → ((ms : List (Placed V)) → IsMasks m (heads_in m (number_of room)) ms → IsMasks new (heads_in new (number_of room)) (past_bit bit ms))
       → ((ms : List (Placed V)) → IsMasks m (heads_in m (number_of room)) ms → IsMasks new first (up_to_bit bit ms))
-      → ((n : ℕ) → (n ≡ (number_of room) → ⊥) → heads_in new n ≡ heads_in m n)
+      → ((n : ℕ) → (n ≡ number_of room → ⊥) → heads_in new n ≡ heads_in m n)
       → ((ms : List (Placed V)) → IsMasks m (heads_in m (number_of room)) ms → (n : ℕ) → IsAside n ms → masks_in new n ≡ masks_in m n)
       → ((n : ℕ) → is_some (masks_in new n) ≡ is_some (masks_in m n)) → KeepsLeaves m new → KeepsBits m new → IsCut m new p.low bit p.tree first
   cut_fork m new p room f bit first once rises is lists kept others heads masks marks leaves bits =
@@ -89,7 +89,7 @@ module _ {V : Type 0} where
       let long = kept l.masks ms in
       let short = others l.masks ms in
       let own = one_if_same (number_of room) in
-      let all_forks : (n : ℕ) → forks_at n p.tree ≡ one_if ((number_of room) == n) + (forks_at n f.zero + forks_at n f.one) = λ n. ap (forks_at n) f.is in
+      let all_forks : (n : ℕ) → forks_at n p.tree ≡ one_if (number_of room == n) + (forks_at n f.zero + forks_at n f.one) = λ n. ap (forks_at n) f.is in
       let outside : (y : Placed V) → IsIn y p.tree → ((z : Placed V) → IsAmong z l.masks → y.entry.rank ≡ z.entry.rank → ⊥)
       → masks_in new (number_of y.room) ≡ masks_in m (number_of y.room) =
       λ y at other. masks l.masks ms (number_of y.room) (λ z among same. other z among (same_pair m p y z at (l.within z among).0 (sym same)).1) in
@@ -103,7 +103,7 @@ module _ {V : Type 0} where
         leaves = leaves;
         bits = bits;
         heads = λ n out. heads n (λ same. let sum = all_forks n in
-            let here = ap (λ k. one_if ((number_of room) == k)) same ∙ own in absurd (omega arith));
+            let here = ap (λ k. one_if (number_of room == k)) same ∙ own in absurd (omega arith));
         masks = λ n out. masks l.masks ms n (λ z among same. let some = counted_leaf z p.tree (l.within z among).0 in
             let e = ap (λ k. leaves_at k p.tree) same in omega arith);
         masks_above = λ y at above. outside y at (λ z among same. let least = (falls_among p.low (f.bit + 1) l.masks l.falls z among).0 in
@@ -154,7 +154,7 @@ module _ {V : Type 0} where
         (past_bit bit ms))
         → ((fork : Id) (ms : List (Placed V)) → below ≡ BitOf fork → IsMasks m (heads_in m (number_of fork)) ms → IsMasks new first (up_to_bit bit ms))
         → ((room : Id) → below ≡ LeafOf room → (first ≡ None) × (new ≡ m))
-        → ((n : ℕ) → ((fork : Id) → below ≡ BitOf fork → n ≡ (number_of fork) → ⊥) → heads_in new n ≡ heads_in m n)
+        → ((n : ℕ) → ((fork : Id) → below ≡ BitOf fork → n ≡ number_of fork → ⊥) → heads_in new n ≡ heads_in m n)
         → ((fork : Id) (ms : List (Placed V)) → below ≡ BitOf fork → IsMasks m (heads_in m (number_of fork)) ms → (n : ℕ) → IsAside n ms → masks_in new n ≡
         masks_in m n)
         → ((n : ℕ) → is_some (masks_in new n) ≡ is_some (masks_in m n)) → KeepsLeaves m new → KeepsBits m new → IsCut m new p.low bit p.tree first

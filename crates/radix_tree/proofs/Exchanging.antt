@@ -9,7 +9,7 @@ use Rattle.radix_tree.proofs.Parts.{fork_is, fork_stands}
 use Rattle.radix_nodes.specs.Naming.{number_of}
 
 -- the bit node above a place says what it said in all other rooms, and in its own names the other node
-pub turn_misses : {above : Option Id} (over : Id) (key n : ℕ) (to : Node) (said : Option BitPart) → above ≡ Some over → (n ≡ (number_of over) → ⊥)
+pub turn_misses : {above : Option Id} (over : Id) (key n : ℕ) (to : Node) (said : Option BitPart) → above ≡ Some over → (n ≡ number_of over → ⊥)
     → name_child above key to n said ≡ said
 turn_misses over key n to said is other =
     ap (λ o. name_child o key to n said) is ∙ ap (λ t. if t then with_child key to said else said) (ne_eqb n (number_of over) other)
@@ -125,7 +125,7 @@ module _ {V : Type 0} where
   climbed : (m new : Lodged V) (key : ℕ) (at : Part m) {under : Part new} (mid over : Part m) {name : Node} (b : Beneath key mid over)
       → Climbed m new key mid at under name → AreOnce over.tree
       → ((n : ℕ) → leaves_at n mid.tree ≡ 0 → 1 ≤ leaves_at n over.tree → leaves_in new n ≡ leaves_in m n)
-      → ((n : ℕ) → (n ≡ (number_of b.room) → ⊥) → forks_at n mid.tree ≡ 0 → 1 ≤ forks_at n over.tree → bits_in new n ≡ bits_in m n)
+      → ((n : ℕ) → (n ≡ number_of b.room → ⊥) → forks_at n mid.tree ≡ 0 → 1 ≤ forks_at n over.tree → bits_in new n ≡ bits_in m n)
       → bits_in new (number_of b.room) ≡ with_child key name (bits_in m (number_of b.room)) → Climbed m new key over at under (BitOf b.room)
   climbed m new key at mid over {name = name} b g once leaves forks spine =
       let f = b.at in

@@ -39,5 +39,5 @@ same_id a b block = ap (λ p. record { block = p }) block
 pub own_room : {A : Type 0} (room : Id) (x y : A) → (if (number_of room) == (number_of room) then x else y) ≡ x
 own_room room x y = ap (λ t. if t then x else y) (eq-eqb (number_of room) (number_of room) refl)
 
-pub off_room : {A : Type 0} (room : Id) (n : ℕ) (x y : A) → (n ≡ (number_of room) → ⊥) → (if n == (number_of room) then x else y) ≡ y
+pub off_room : {A : Type 0} (room : Id) (n : ℕ) (x y : A) → (n ≡ number_of room → ⊥) → (if n == (number_of room) then x else y) ≡ y
 off_room room n x y other = ap (λ t. if t then x else y) (ne_eqb n (number_of room) other)

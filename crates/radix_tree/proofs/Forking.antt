@@ -6,7 +6,7 @@ use Rattle.radix_tree.proofs.Words.{ChainStands, Stands, one_if, members_at, lea
 use Rattle.radix_tree.proofs.Words.{lift_bit}
 use Rattle.radix_nodes.specs.Naming.{number_of}
 
-not_same : (room : Id) (n many : ℕ) → 1 ≤ many → one_if ((number_of room) == n) + many ≤ 1 → (n == (number_of room)) ≡ false
+not_same : (room : Id) (n many : ℕ) → 1 ≤ many → one_if (number_of room == n) + many ≤ 1 → (n == number_of room) ≡ false
 not_same room n many some few = ne_eqb n (number_of room) (elsewhere room n many some few)
 
 module _ {V : Type 0} where
@@ -55,7 +55,8 @@ module _ {V : Type 0} where
       )
   lifted L M B C above new (fork room b zero one) leaves forks once stands =
       let own = one_if_same (number_of room) in (
-        forks (number_of room) (omega arith) ∙ ap (λ t. if t then bit_above new (B (number_of room)) else B (number_of room)) (eq-eqb (number_of room) (number_of room) refl)
+        forks (number_of room) (omega arith) ∙ ap (λ t. if t then bit_above new (B (number_of room)) else B (number_of room))
+            (eq-eqb (number_of room) (number_of room) refl)
             ∙ ap (bit_above new) stands.0,
         frame L M B C (Some room) zero (λ n some. leaves n (omega arith)) (λ n some. let few = once.forks n in
             forks n (omega arith) ∙ ap (λ t. if t then bit_above new (B n) else B n) (not_same room n (forks_at n zero) some (omega arith))) stands.1,
@@ -68,7 +69,7 @@ module _ {V : Type 0} where
   chain_there L above previous [] n stands none = refl
   chain_there L above previous (x ∷ c) n stands none =
       let behind = chain_there L None (Some x.room) c n stands.1 none in
-      elim ((number_of x.room) == n) as (λ t. ((number_of x.room) == n) ≡ t → one_if t + members_at n c ≡ 0) [
+      elim (number_of x.room == n) as (λ t. (number_of x.room == n) ≡ t → one_if t + members_at n c ≡ 0) [
         | true ↦ λ e. absurd (none_some (sym none ∙ ap L (sym (eqb-true (number_of x.room) n e)) ∙ stands.0))
         | false ↦ λ e. omega arith
       ] refl
@@ -82,7 +83,7 @@ module _ {V : Type 0} where
   forks_there L B above (leaf x xs) n stands none = refl
   forks_there L B above (fork room b zero one) n stands none =
       let left = forks_there L B (Some room) zero n stands.1 none in let right = forks_there L B (Some room) one n stands.2 none in
-      elim ((number_of room) == n) as (λ t. ((number_of room) == n) ≡ t → one_if t + (forks_at n zero + forks_at n one) ≡ 0) [
+      elim (number_of room == n) as (λ t. (number_of room == n) ≡ t → one_if t + (forks_at n zero + forks_at n one) ≡ 0) [
         | true ↦ λ e. absurd (none_some (sym none ∙ ap B (sym (eqb-true (number_of room) n e)) ∙ stands.0))
         | false ↦ λ e. omega arith
       ] refl

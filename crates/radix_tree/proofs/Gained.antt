@@ -48,7 +48,7 @@ module _ {V : Type 0} where
         low = refl;
         top = refl;
         named = refl;
-        leaves = λ n. ap (λ b. one_if b + 0 + 0) (test_turned (number_of id) n) ∙ lodged_at id e.value l n (n == (number_of id))
+        leaves = λ n. ap (λ b. one_if b + 0 + 0) (test_turned (number_of id) n) ∙ lodged_at id e.value l n (n == number_of id)
             ∙ ap (λ o. one_if (is_some (if n == (number_of id) then lodged_part id e.value l else o))) (sym (none n))
             ∙ ap (λ o. one_if (is_some o)) (sym (leaves n));
         forks = λ n. ap (λ o. one_if (is_some (bit_in o))) (sym (gone n)) ∙ ap (λ o. one_if (is_some o)) (sym (bits n));
@@ -116,7 +116,14 @@ module _ {V : Type 0} where
       record { part = record b.part { leaf = record b.part.leaf { above = k.0 } }; at = k.1; block = b.block; key_is = b.key_is; previous = b.previous }
 
   pub same_begun : {m : Lodged V} (new : Lodged V) {key : ℕ} {first : Id} → IsBegun m key first → KeepsLeaves m new → IsBegun new key first
-  same_begun new {first = first} b leaves = record { part = b.part; at = leaves (number_of first) ∙ b.at; block = b.block; key_is = b.key_is; previous = b.previous }
+  same_begun new {first = first} b leaves = record {
+    part = b.part;
+    at = leaves (number_of first)
+        ∙ b.at;
+    block = b.block;
+    key_is = b.key_is;
+    previous = b.previous;
+  }
 
   said_key : (m : Lodged V) (key n : ℕ) (o : Option (LeafPart V)) → leaves_in m n ≡ o → is_of_key key o ≡ true
       → (p : LeafPart V) × (leaves_in m n ≡ Some p) × ((p.leaf.key == key) ≡ true)

@@ -7,7 +7,8 @@ use Rattle.std.proofs.lemmas.{List.Sums.sum_by-cons, List.length-map}
 use Rattle.radix_tree.specs.Given.{AreGiven, beside, rooms_in, numbers_in}
 use Rattle.radix_tree.proofs.{Facts.no_use}
 use Rattle.radix_tree.proofs.Words.{◌≡◌, ℕ, ◌+◌, ◌<◌, ◌≤◌, ◌==◌, ◌||◌, Bool, true, false, cond, if◌then◌else◌, nat_eq, List, [], ◌∷◌, length, None}
-use Rattle.radix_tree.proofs.Words.{not, is_some, refl, sym, ap, ◌∙◌, subst, arith, eqb-true, eq-eqb, ne_eqb, true≢false, uses, one_if, leaves_in, HasRoomMore, Lodged}
+use Rattle.radix_tree.proofs.Words.{not, is_some, refl, sym, ap, ◌∙◌, subst, arith, eqb-true, eq-eqb, ne_eqb, true≢false, uses, one_if, leaves_in}
+use Rattle.radix_tree.proofs.Words.{HasRoomMore, Lodged}
 
 one_if_cond : (b : Bool) → cond b 1 0 ≡ one_if b
 one_if_cond true = refl
@@ -77,21 +78,27 @@ went room [] once = absurd (omega (arith, once))
 went room (e ∷ es) once =
     let cons = uses_cons room e.0 (rooms_in es) in
     elim (e.0 == room) as (λ t. (e.0 == room) ≡ t
-        → (m : ℕ) × ((n : ℕ) → uses n (numbers_in (e ∷ es)) ≡ uses n (numbers_in (beside room (e ∷ es))) + (if m == n then 1 else 0))) [
-      | true ↦ λ own. (e.1, λ n.
-          let one = one_if_is own in
-          let rest = ap (λ r. uses n (numbers_in r)) (beside_own room e es own ∙ beside_none room es (omega (arith, cons, one, once))) in
-          let more = uses_cons n e.1 (numbers_in es) in
-          let test = one_of_test (e.1 == n) in
-          omega (arith, rest, more, test))
+    → (m : ℕ) × ((n : ℕ) → uses n (numbers_in (e ∷ es)) ≡ uses n (numbers_in (beside room (e ∷ es))) + (if m == n then 1 else 0))) [
+      | true ↦ λ own. (
+        e.1,
+        λ n.
+            let one = one_if_is own in
+            let rest = ap (λ r. uses n (numbers_in r)) (beside_own room e es own ∙ beside_none room es (omega (arith, cons, one, once))) in
+            let more = uses_cons n e.1 (numbers_in es) in
+            let test = one_of_test (e.1 == n) in
+            omega (arith, rest, more, test),
+      )
       | false ↦ λ other.
           let none = ap one_if other in
-          let behind = went room es (omega (arith, cons, none, once)) in (behind.0, λ n.
-          let rest = ap (λ r. uses n (numbers_in r)) (beside_other room e es other) in
-          let more = uses_cons n e.1 (numbers_in es) in
-          let left = uses_cons n e.1 (numbers_in (beside room es)) in
-          let near = behind.1 n in
-          omega (arith, rest, more, left, near))
+          let behind = went room es (omega (arith, cons, none, once)) in (
+            behind.0,
+            λ n.
+                let rest = ap (λ r. uses n (numbers_in r)) (beside_other room e es other) in
+                let more = uses_cons n e.1 (numbers_in es) in
+                let left = uses_cons n e.1 (numbers_in (beside room es)) in
+                let near = behind.1 n in
+                omega (arith, rest, more, left, near),
+          )
     ] refl
 
 -- ---- the rooms of a map

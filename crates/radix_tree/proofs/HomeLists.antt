@@ -23,11 +23,11 @@ module _ {V : Type 0} where
   abbrev told : LeafPart V → Placed V
   told p = record { room = record { block = p.block }; entry = record { key = p.leaf.key; rank = p.leaf.rank; value = p.value } }
 
-  one_said : (L : Leaves V) (x y : Placed V) → IsSaid L x → IsSaid L y → (number_of x.room) ≡ (number_of y.room) → x ≡ y
+  one_said : (L : Leaves V) (x y : Placed V) → IsSaid L x → IsSaid L y → number_of x.room ≡ number_of y.room → x ≡ y
   one_said L x y sx sy same =
       ap told (inside (sym sx.3 ∙ ap L same ∙ sy.3))
 
-  pub one_room : (m : Lodged V) (p : Part m) (x y : Placed V) → IsIn x p.tree → IsIn y p.tree → (number_of x.room) ≡ (number_of y.room) → x ≡ y
+  pub one_room : (m : Lodged V) (p : Part m) (x y : Placed V) → IsIn x p.tree → IsIn y p.tree → number_of x.room ≡ number_of y.room → x ≡ y
   one_room m p x y in_x in_y same = one_said (leaves_in m) x y (tree_said (leaves_in m) (bits_in m) p.above p.tree p.stands x in_x)
       (tree_said (leaves_in m) (bits_in m) p.above p.tree p.stands y in_y) same
 
@@ -115,7 +115,7 @@ module _ {V : Type 0} where
   -- ---- a list at a home changes, and so the lists of the whole tree
   -- rooms that list the same masks but for those of a home's list
   pub record IsRelisted (m new : Lodged V) (key rank : ℕ) (whole : Part m) (room : Id) (h : HomeAt m key rank whole room) : Type 0 where
-    pub heads : (n : ℕ) → (n ≡ (number_of room) → ⊥) → heads_in new n ≡ heads_in m n
+    pub heads : (n : ℕ) → (n ≡ number_of room → ⊥) → heads_in new n ≡ heads_in m n
     pub masks : (y : Placed V) → IsIn y whole.tree → (IsIn y h.part.tree → h.part.low ≤ y.entry.rank → y.entry.rank ≤ h.at.bit → ⊥)
         → masks_in new (number_of y.room) ≡ masks_in m (number_of y.room)
     pub list : IsMaskList (masks_in new) (heads_in new (number_of room)) h.part.low h.at.bit (MarkedIn (masks_in new) (fork room h.at.bit h.at.zero h.at.one))
@@ -132,7 +132,7 @@ module _ {V : Type 0} where
         let is = fork_is f in
         let old = lists_of h (heads_in m) (masks_in m) lists in
         let once_at = way_once key whole h.part h.ups h.way once in
-        let most : (n : ℕ) → one_if ((number_of room) == n) + (forks_at n f.zero + forks_at n f.one) ≤ 1 =
+        let most : (n : ℕ) → one_if (number_of room == n) + (forks_at n f.zero + forks_at n f.one) ≤ 1 =
         λ n. subst (λ t. forks_at n t ≤ 1) f.is (once_at.forks n) in (
           r.list,
           lists_stay (heads_in m) (heads_in new) (masks_in m) (masks_in new) (f.bit + 1) f.zero is.1
@@ -155,7 +155,8 @@ module _ {V : Type 0} where
         let leaves : (n : ℕ) → leaves_at n (plug f.frames h.part.tree) ≤ 1 = λ n. subst (λ u. leaves_at n u ≤ 1) f.was (once.leaves n) in
         let here = subst (λ u. 1 ≤ forks_at (number_of room) u) (sym h.at.is) (let one = one_if_same (number_of room) in
         omega arith) in
-        let above : (y : Placed V) → IsIn y h.part.tree → y.entry.rank < low_past whole.low f.frames → masks_in new (number_of y.room) ≡ masks_in m (number_of y.room) =
+        let above : (y : Placed V) → IsIn y h.part.tree → y.entry.rank < low_past whole.low f.frames
+        → masks_in new (number_of y.room) ≡ masks_in m (number_of y.room) =
         λ y is below. r.masks y (way_inside m key whole h.part h.ups h.way y is) (λ _ least _. omega arith) in
         let keeps : KeepsAbove (heads_in m) (heads_in new) (masks_in m) (masks_in new) (low_past whole.low f.frames) f.frames h.part.tree h.part.tree =
         record {
@@ -183,7 +184,7 @@ module _ {V : Type 0} where
 
   -- each mask that is listed is of a route with a home, and each such route's mask is listed or late
   pub record AreMarked (m new : Lodged V) (late : ℕ → Bool) (whole : Part m) : Type 0 where
-    pub listed : (n : ℕ) (p : MaskPart) → masks_in new n ≡ Some p → (x : Placed V) × IsIn x whole.tree × ((number_of x.room) ≡ n)
+    pub listed : (n : ℕ) (p : MaskPart) → masks_in new n ≡ Some p → (x : Placed V) × IsIn x whole.tree × (number_of x.room ≡ n)
         × HasHome x.entry.key x.entry.rank whole.tree
     pub all : (x : Placed V) → IsIn x whole.tree → HasHome x.entry.key x.entry.rank whole.tree → IsMarked (masks_in new) x ⊎ (late (number_of x.room) ≡ true)
 
@@ -204,7 +205,7 @@ module _ {V : Type 0} where
   }
 
   -- ---- the route in a room of the table
-  block_said : (m : Lodged V) {y : Placed V} {n : ℕ} (s : Seen V) → IsSaid (leaves_in m) y → (number_of y.room) ≡ n → leaves_in m n ≡ leaf_in (Some s)
+  block_said : (m : Lodged V) {y : Placed V} {n : ℕ} (s : Seen V) → IsSaid (leaves_in m) y → number_of y.room ≡ n → leaves_in m n ≡ leaf_in (Some s)
       → y.room.block ≡ s.block
   block_said m s is same said =
       let parts = inside (sym is.3 ∙ ap (leaves_in m) same ∙ said) in ap (λ p. p.block) parts

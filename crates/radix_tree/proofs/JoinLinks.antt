@@ -8,10 +8,10 @@ use Rattle.radix_tree.proofs.Words.{lift_bit, Lodged}
 use Rattle.radix_nodes.specs.Naming.{number_of}
 
 -- ---- a room that is not written
-pub put_off : (room : Id) (n : ℕ) (said : Option BitPart) → (n ≡ (number_of room) → ⊥) → put_bit room None n said ≡ said
+pub put_off : (room : Id) (n : ℕ) (said : Option BitPart) → (n ≡ number_of room → ⊥) → put_bit room None n said ≡ said
 put_off room n said other = ap (λ t. if t then None else said) (ne_eqb n (number_of room) other)
 
-pub head_off : (room : Id) (n : ℕ) (said : Option Id) → (n ≡ (number_of room) → ⊥) → put_head room None n said ≡ said
+pub head_off : (room : Id) (n : ℕ) (said : Option Id) → (n ≡ number_of room → ⊥) → put_head room None n said ≡ said
 head_off room n said other = ap (λ t. if t then None else said) (ne_eqb n (number_of room) other)
 
 -- ---- a room that is no bit node
@@ -20,15 +20,15 @@ both_none true x y first second = first
 both_none false x y first second = second
 
 pub put_none : (room : Id) (n : ℕ) → put_bit room None n None ≡ None
-put_none room n = both_none (n == (number_of room)) None None refl refl
+put_none room n = both_none (n == number_of room) None None refl refl
 
 pub turn_none : (above : Option Id) (key n : ℕ) (to : Node) → name_child above key to n None ≡ None
 turn_none None key n to = refl
-turn_none (Some over) key n to = both_none (n == (number_of over)) (with_child key to None) None refl refl
+turn_none (Some over) key n to = both_none (n == number_of over) (with_child key to None) None refl refl
 
 pub lift_none : (at : Node) (above : Option Id) (n : ℕ) → lift_bit at above n None ≡ None
 lift_none (LeafOf room) above n = refl
-lift_none (BitOf room) above n = both_none (n == (number_of room)) (bit_above above None) None refl refl
+lift_none (BitOf room) above n = both_none (n == number_of room) (bit_above above None) None refl refl
 
 pub put_here : (room : Id) (said : Option BitPart) → put_bit room None (number_of room) said ≡ None
 put_here room said = ap (λ t. if t then bit_part room.block None else said) (eq-eqb (number_of room) (number_of room) refl)
@@ -41,7 +41,7 @@ turned_used key to (Some p) = refl
 pub turn_used : (above : Option Id) (key n : ℕ) (to : Node) (said : Option BitPart) → is_some (name_child above key to n said) ≡ is_some said
 turn_used None key n to said = refl
 turn_used (Some over) key n to said =
-    elim (n == (number_of over)) as (λ t. is_some (if t then with_child key to said else said) ≡ is_some said) [ true ↦ turned_used key to said | false ↦ refl ]
+    elim (n == number_of over) as (λ t. is_some (if t then with_child key to said else said) ≡ is_some said) [ true ↦ turned_used key to said | false ↦ refl ]
 
 module _ {V : Type 0} where
   -- ---- a room that is there
@@ -65,7 +65,7 @@ module _ {V : Type 0} where
 
   -- ---- the other side of the bit node above a lone leaf
   out_of_above : (m : Lodged V) (key : ℕ) (whole at : Part m) (ups : List (Part m)) (over : Id) → Way key whole at ups → whole.above ≡ None
-      → AreOnce whole.tree → at.above ≡ Some over → (n : ℕ) → 1 ≤ forks_at n at.tree → n ≡ (number_of over) → ⊥
+      → AreOnce whole.tree → at.above ≡ Some over → (n : ℕ) → 1 ≤ forks_at n at.tree → n ≡ number_of over → ⊥
   out_of_above m key whole at [] over way top once is n some same = none_some (sym top ∙ sym (ap (λ p. p.above) way) ∙ is)
   out_of_above m key whole at (p ∷ ps) over way top once is n some same =
       let b = way.0 in
@@ -78,7 +78,7 @@ module _ {V : Type 0} where
     pub lone_once : AreOnce l.over.tree
     lone_once = way_once l.route.entry.key whole l.over l.ups l.way l.once
 
-    pub lone_forks : (n : ℕ) → forks_at n l.over.tree ≡ one_if ((number_of up) == n) + (0 + forks_at n l.other)
+    pub lone_forks : (n : ℕ) → forks_at n l.over.tree ≡ one_if (number_of up == n) + (0 + forks_at n l.other)
     lone_forks n = side_forks l.sides n
 
     pub lone_apart : IsApart l.other up l.over.above

@@ -18,7 +18,7 @@ unmarked_marked {A = A} K x y none same marked =
 
 module _ {V : Type 0} where
   -- one of the members is in a room, or none
-  member_or_aside : (n : ℕ) (ms : List (Placed V)) → ((y : Placed V) × IsAmong y ms × ((number_of y.room) ≡ n)) ⊎ IsAside n ms
+  member_or_aside : (n : ℕ) (ms : List (Placed V)) → ((y : Placed V) × IsAmong y ms × (number_of y.room ≡ n)) ⊎ IsAside n ms
   member_or_aside n [] = inr (λ y among same. among)
   member_or_aside n (x ∷ ms) = elim (cases_eq (number_of x.room) n) [
     | inl here ↦ inl (x, inl refl, here)
@@ -29,7 +29,7 @@ module _ {V : Type 0} where
   ]
 
   -- the routes of a part tell their ranks by their rooms
-  pub same_rank_at : (m : Lodged V) (p : Part m) (x y : Placed V) → IsIn x p.tree → IsIn y p.tree → (number_of x.room) ≡ (number_of y.room) → x.entry.rank ≡
+  pub same_rank_at : (m : Lodged V) (p : Part m) (x y : Placed V) → IsIn x p.tree → IsIn y p.tree → number_of x.room ≡ number_of y.room → x.entry.rank ≡
       y.entry.rank
   same_rank_at m p x y one other same =
       let first = ranked_in m p x one in
@@ -39,7 +39,8 @@ module _ {V : Type 0} where
   -- lists stay where their heads stay, and the masks of ranks at or past low
   lists_past : (H G : Heads) (K J : Masks) (low : ℕ) (t : Tree V) → ((n : ℕ) → 1 ≤ forks_at n t → G n ≡ H n)
       → ((y : Placed V) → IsIn y t → low ≤ y.entry.rank → J (number_of y.room) ≡ K (number_of y.room))
-      → ((y : Placed V) → IsIn y t → is_some (J (number_of y.room)) ≡ is_some (K (number_of y.room))) → IsTree low t → MarkedLists H K low t → MarkedLists G J low t
+      → ((y : Placed V) → IsIn y t → is_some (J (number_of y.room)) ≡ is_some (K (number_of y.room))) → IsTree low t → MarkedLists H K low t
+      → MarkedLists G J low t
   lists_past H G K J low (leaf x xs) heads masks marks is lists = tt
   lists_past H G K J low (fork room b zero one) heads masks marks is lists =
       let rises = is.0.rises in
@@ -143,7 +144,7 @@ module _ {V : Type 0} where
   pub record IsAppended (m new : Lodged V) (room : Id) (first : Option Id) : Type 0 where
     pub list : (ms : List (Placed V)) (ts : List (Placed V)) → IsMasks m (heads_in m (number_of room)) ms → IsMasks m first ts → Falls 0 34 (ms ++ ts)
         → IsMasks new (heads_in new (number_of room)) (ms ++ ts)
-    pub heads : (n : ℕ) → (n ≡ (number_of room) → ⊥) → heads_in new n ≡ heads_in m n
+    pub heads : (n : ℕ) → (n ≡ number_of room → ⊥) → heads_in new n ≡ heads_in m n
     pub masks : (ms : List (Placed V)) → IsMasks m (heads_in m (number_of room)) ms → (n : ℕ) → IsAside n ms → masks_in new n ≡ masks_in m n
     pub marks : (n : ℕ) → is_some (masks_in new n) ≡ is_some (masks_in m n)
 
@@ -172,13 +173,13 @@ module _ {V : Type 0} where
       (falls_wider over.low (c + 1) 0 34 (w.own.masks ++ w.gone.masks) w.falls (omega arith) (omega arith)) in
       let marked_now : (y : Placed V) → IsMarked (masks_in m) y → IsMarked (masks_in new) y = λ y marked. a.marks (number_of y.room) ∙ marked in
       let marked_then : (y : Placed V) → IsMarked (masks_in new) y → IsMarked (masks_in m) y = λ y marked. sym (a.marks (number_of y.room)) ∙ marked in
-      let most_forks : (n : ℕ) → one_if ((number_of up) == n) + (0 + (one_if ((number_of room) == n) + (forks_at n zero + forks_at n one))) ≤ 1 = λ n.
+      let most_forks : (n : ℕ) → one_if (number_of up == n) + (0 + (one_if (number_of room == n) + (forks_at n zero + forks_at n one))) ≤ 1 = λ n.
       let sum = side_forks s n in
       let most = once.forks n in omega arith in
       record {
         heads = λ n none. a.heads n (λ same.
             let sum = side_forks s n in
-            let here = ap (λ k. one_if ((number_of room) == k)) same ∙ one_if_same (number_of room) in absurd (omega arith));
+            let here = ap (λ k. one_if (number_of room == k)) same ∙ one_if_same (number_of room) in absurd (omega arith));
         masks = λ n aside. a.masks w.own.masks w.own_is n (λ z among same. aside z (beneath z (w.own.within z among).0)
             (let least = (falls_among (b + 1) (c + 1) w.own.masks w.own.falls z among).0 in omega arith) same);
         marks = λ n p said. some_of (masks_in m n) (sym (a.marks n) ∙ ap is_some said);
@@ -209,10 +210,10 @@ module _ {V : Type 0} where
             ];
           },
           lists_past (heads_in m) (heads_in new) (masks_in m) (masks_in new) (c + 1) zero (λ n some. let most =
-              most_forks n in a.heads n (λ same. let here = ap (λ k. one_if ((number_of room) == k)) same ∙ one_if_same (number_of room) in absurd (omega arith)))
+              most_forks n in a.heads n (λ same. let here = ap (λ k. one_if (number_of room == k)) same ∙ one_if_same (number_of room) in absurd (omega arith)))
               (λ y at past. rank_stays m over b c w a beneath y (beneath y (inl at)) past) (λ y at. a.marks (number_of y.room)) is.0.1 old.1,
           lists_past (heads_in m) (heads_in new) (masks_in m) (masks_in new) (c + 1) one (λ n some. let most =
-              most_forks n in a.heads n (λ same. let here = ap (λ k. one_if ((number_of room) == k)) same ∙ one_if_same (number_of room) in absurd (omega arith)))
+              most_forks n in a.heads n (λ same. let here = ap (λ k. one_if (number_of room == k)) same ∙ one_if_same (number_of room) in absurd (omega arith)))
               (λ y at past. rank_stays m over b c w a beneath y (beneath y (inr at)) past) (λ y at. a.marks (number_of y.room)) is.0.2 old.2,
         );
       }

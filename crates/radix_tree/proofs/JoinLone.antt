@@ -14,16 +14,16 @@ module _ {V : Type 0} where
   none_first (x ∷ xs) none = absurd (none_some (sym none))
 
   -- ---- a room of the tree has a route of it
-  pub chain_room : (n : ℕ) (c : List (Placed V)) → 1 ≤ members_at n c → (y : Placed V) × IsAmong y c × ((number_of y.room) ≡ n)
+  pub chain_room : (n : ℕ) (c : List (Placed V)) → 1 ≤ members_at n c → (y : Placed V) × IsAmong y c × (number_of y.room ≡ n)
   chain_room n [] some = absurd (omega arith)
   chain_room n (x ∷ c) some =
-      elim ((number_of x.room) == n) as (λ t. ((number_of x.room) == n) ≡ t → 1 ≤ one_if t + members_at n c → (y : Placed V) × IsAmong y (x ∷ c) ×
-      ((number_of y.room) ≡ n)) [
+      elim (number_of x.room == n) as (λ t. (number_of x.room == n) ≡ t → 1 ≤ one_if t + members_at n c → (y : Placed V) × IsAmong y (x ∷ c) ×
+      (number_of y.room ≡ n)) [
         | true ↦ λ e many. (x, inl refl, eqb-true (number_of x.room) n e)
         | false ↦ λ e many. let behind = chain_room n c (omega arith) in (behind.0, inr behind.1, behind.2)
       ] refl some
 
-  pub tree_room : (n : ℕ) (t : Tree V) → 1 ≤ leaves_at n t → (y : Placed V) × IsIn y t × ((number_of y.room) ≡ n)
+  pub tree_room : (n : ℕ) (t : Tree V) → 1 ≤ leaves_at n t → (y : Placed V) × IsIn y t × (number_of y.room ≡ n)
   tree_room n (leaf x xs) some = chain_room n (x ∷ xs) some
   tree_room n (fork room b zero one) some = elim (cases_eq (leaves_at n zero) 0) [
     | inl none ↦ let right = tree_room n one (omega arith) in (right.0, inr right.1, right.2)

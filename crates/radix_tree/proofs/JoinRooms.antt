@@ -99,7 +99,7 @@ module _ {V : Type 0} where
     }
 
   -- ---- of the rooms of a key one at most is a bit node
-  chain_others : (B : Bits) (xs : List (Placed V)) (y z : Placed V) → HasOneFork B xs → IsAmong y xs → IsAmong z xs → ((number_of z.room) ≡ (number_of y.room) → ⊥)
+  chain_others : (B : Bits) (xs : List (Placed V)) (y z : Placed V) → HasOneFork B xs → IsAmong y xs → IsAmong z xs → (number_of z.room ≡ number_of y.room → ⊥)
       → (B (number_of y.room) ≡ None → ⊥) → B (number_of z.room) ≡ None
   chain_others B [] y z one first second apart used = absurd first
   chain_others B (x ∷ xs) y z one first second apart used = elim one [
@@ -117,7 +117,7 @@ module _ {V : Type 0} where
   ]
 
   tree_others : (B : Bits) (low : ℕ) (t : Tree V) (y z : Placed V) → IsTree low t → HaveOneFork B t → IsIn y t → IsIn z t → y.entry.key ≡ z.entry.key
-      → ((number_of z.room) ≡ (number_of y.room) → ⊥) → (B (number_of y.room) ≡ None → ⊥) → B (number_of z.room) ≡ None
+      → (number_of z.room ≡ number_of y.room → ⊥) → (B (number_of y.room) ≡ None → ⊥) → B (number_of z.room) ≡ None
   tree_others B low (leaf x xs) y z is one first second keys apart used = chain_others B (x ∷ xs) y z one first second apart used
   tree_others B low (fork room b zero ones) y z is one first second keys apart used = elim first [
     | inl fz ↦ elim second [
@@ -136,7 +136,7 @@ module _ {V : Type 0} where
   record RouteOf (m : Lodged V) (t : Tree V) (n : ℕ) (p : LeafPart V) : Type 0 where
     pub route : Placed V
     pub is : IsIn route t
-    pub room : (number_of route.room) ≡ n
+    pub room : number_of route.room ≡ n
     pub key : route.entry.key ≡ p.leaf.key
 
   route_of : (m : Lodged V) {root : Node} {late : ℕ → Bool} (w : IsWholeBut m root late nobody_out) (n : ℕ) (p : LeafPart V) → leaves_in m n ≡ Some p

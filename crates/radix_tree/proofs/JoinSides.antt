@@ -60,8 +60,8 @@ module _ {V : Type 0} where
   side_leaves {own = own} {other = other} n s = by_sides s (λ u. leaves_at n u ≡ leaves_at n own + leaves_at n other) (λ clear. refl) (λ set. omega arith)
 
   module _ {key : ℕ} {t : Tree V} {room : Id} {b : ℕ} {own other : Tree V} (s : HasSides key t room b own other) where
-    pub side_forks : (n : ℕ) → forks_at n t ≡ one_if ((number_of room) == n) + (forks_at n own + forks_at n other)
-    side_forks n = by_sides s (λ u. forks_at n u ≡ one_if ((number_of room) == n) + (forks_at n own + forks_at n other)) (λ clear. refl) (λ set. omega arith)
+    pub side_forks : (n : ℕ) → forks_at n t ≡ one_if (number_of room == n) + (forks_at n own + forks_at n other)
+    side_forks n = by_sides s (λ u. forks_at n u ≡ one_if (number_of room == n) + (forks_at n own + forks_at n other)) (λ clear. refl) (λ set. omega arith)
 
     pub side_in : (y : Placed V) → IsIn y t → IsIn y own ⊎ IsIn y other
     side_in y = by_sides s (λ u. IsIn y u → IsIn y own ⊎ IsIn y other) (λ clear is. is) (λ set is. elim is [ inl o ↦ inr o | inr o ↦ inl o ])

@@ -31,7 +31,7 @@ module _ {V : Type 0} where
   module _ {m : Lodged V} {whole : Part m} {at up : Id} (l : IsLone m whole at up) where
     -- the list was handed on before
     pub handed_on : (handed new : Lodged V) → IsHanded m handed l.over.low l.over.tree l.other → ((n : ℕ) → masks_in new n ≡ masks_in handed n)
-        → ((n : ℕ) → (n ≡ (number_of up) → ⊥) → heads_in new n ≡ heads_in handed n) → IsHanded m new l.over.low l.over.tree l.other
+        → ((n : ℕ) → (n ≡ number_of up → ⊥) → heads_in new n ≡ heads_in handed n) → IsHanded m new l.over.low l.over.tree l.other
     handed_on handed new h masks heads =
         let own = one_if_same (number_of up) in
         let sum = lone_forks l (number_of up) in
@@ -85,7 +85,7 @@ module _ {V : Type 0} where
           let here = ap (λ k. forks_at k l.other) same in absurd (omega arith))
           l.over.above (put_bit up None n (name_child l.over.above l.route.entry.key (name_of l.other) n (bits_in m n)))
           ∙ put_off up n (name_child l.over.above l.route.entry.key (name_of l.other) n (bits_in m n))
-          (λ same. let own = ap (λ k. one_if ((number_of up) == k)) same ∙ one_if_same (number_of up) in absurd (omega arith));
+          (λ same. let own = ap (λ k. one_if (number_of up == k)) same ∙ one_if_same (number_of up) in absurd (omega arith));
     }
 
     -- ---- what the rooms say
@@ -103,7 +103,7 @@ module _ {V : Type 0} where
         (put_here up (name_child l.over.above l.route.entry.key (name_of l.other) (number_of up) (bits_in m (number_of up))))
         ∙ lift_none (name_of l.other) l.over.above (number_of up)
 
-    same_bits : (new : Lodged V) → IsJoined m new whole at up l → (n : ℕ) → (n ≡ (number_of up) → ⊥) → is_some (bits_in new n) ≡ is_some (bits_in m n)
+    same_bits : (new : Lodged V) → IsJoined m new whole at up l → (n : ℕ) → (n ≡ number_of up → ⊥) → is_some (bits_in new n) ≡ is_some (bits_in m n)
     same_bits new j n other = ap is_some (j.bits n)
         ∙ lift_used (name_of l.other) l.over.above n (put_bit up None n (name_child l.over.above l.route.entry.key (name_of l.other) n (bits_in m n)))
         ∙ ap is_some (put_off up n (name_child l.over.above l.route.entry.key (name_of l.other) n (bits_in m n)) other)
@@ -113,7 +113,7 @@ module _ {V : Type 0} where
         → forks_at n l.other + one_if (is_some (bits_in m n)) ≡ forks_at n l.over.tree + one_if (is_some (bits_in new n))
     fork_count new j n =
         let sum = lone_forks l n in
-        elim ((number_of up) == n) as (λ t. ((number_of up) == n) ≡ t → forks_at n l.over.tree ≡ one_if t + (0 + forks_at n l.other)
+        elim (number_of up == n) as (λ t. (number_of up == n) ≡ t → forks_at n l.over.tree ≡ one_if t + (0 + forks_at n l.other)
         → forks_at n l.other + one_if (is_some (bits_in m n)) ≡ forks_at n l.over.tree + one_if (is_some (bits_in new n))) [
           | true ↦ λ e all.
               let same = eqb-true (number_of up) n e in
@@ -130,7 +130,7 @@ module _ {V : Type 0} where
     own_room : (leaves_at (number_of at) l.other ≡ 0) × (leaves_at (number_of at) l.over.tree ≡ 1)
     own_room =
         let n = (number_of at) in
-        let own = ap (λ i. one_if ((number_of i) == (number_of at))) l.room_is ∙ one_if_same (number_of at) in
+        let own = ap (λ i. one_if (number_of i == number_of at)) l.room_is ∙ one_if_same (number_of at) in
         let most = (lone_once l).leaves (number_of at) in
         let sum = side_leaves (number_of at) l.sides in
         (omega arith, omega arith)
@@ -148,7 +148,7 @@ module _ {V : Type 0} where
           leaves = λ n.
               let sum = side_leaves n l.sides in
               let same = ap one_if (routes_some m new (routes_kept j) n) in
-              let flip = ap one_if (test_turned n (number_of at)) ∙ ap (λ i. one_if ((number_of i) == n)) (sym l.room_is) in omega arith;
+              let flip = ap one_if (test_turned n (number_of at)) ∙ ap (λ i. one_if (number_of i == n)) (sym l.room_is) in omega arith;
           forks = λ n. fork_count new j n;
           heads = λ n none some. h.heads n none;
           masks = λ n none some. h.masks n (λ y is past same.

@@ -21,7 +21,7 @@ module _ {V : Type 0} where
         → put_leaf room (record l { above = above }) n (leaves_in m n) ≡ (if n == (number_of room) then leaf_above above (leaves_in m n) else leaves_in m n)
     leaf_lifted links {l = l} above n are leaf =
         let read = leaf ∙ leaf_read m room links leaf_said (ap (λ i. i.block) f.room_is) are in
-        elim (n == (number_of room)) as (λ t. (n == (number_of room)) ≡ t → (if t then with_leaf (record l { above = above }) (leaves_in m n) else leaves_in m n)
+        elim (n == number_of room) as (λ t. (n == number_of room) ≡ t → (if t then with_leaf (record l { above = above }) (leaves_in m n) else leaves_in m n)
         ≡ (if t then leaf_above above (leaves_in m n) else leaves_in m n)) [
           | true ↦ λ e. let said = ap (leaves_in m) (eqb-true n (number_of room) e) ∙ leaf_said in
               ap (with_leaf (record l { above = above })) said ∙ ap (λ z. with_leaf (record z { above = above }) (Some part_at)) read
@@ -34,7 +34,7 @@ module _ {V : Type 0} where
       → change (bit_part room.block (Some node)) ≡ bit_part room.block (Some new)
       → put_bit room (Some new) n (bits_in m n) ≡ (if n == (number_of room) then change (bits_in m n) else bits_in m n)
   node_changed m {room = room} new change n is same =
-      elim (n == (number_of room)) as (λ t. (n == (number_of room)) ≡ t → (if t then bit_part room.block (Some new) else bits_in m n)
+      elim (n == number_of room) as (λ t. (n == number_of room) ≡ t → (if t then bit_part room.block (Some new) else bits_in m n)
       ≡ (if t then change (bits_in m n) else bits_in m n)) [
         | true ↦ λ e. sym same ∙ ap change (sym is.said ∙ ap (bits_in m) (sym (eqb-true n (number_of room) e)))
         | false ↦ λ e. refl
@@ -44,7 +44,7 @@ module _ {V : Type 0} where
   pub head_kept : (m : Lodged V) (room : Id) {node : BitNode} (new : BitNode) (n : ℕ) → IsBitNodeOf m room node → new.masks ≡ node.masks
       → put_head room (Some new) n (heads_in m n) ≡ heads_in m n
   head_kept m room new n is same =
-      elim (n == (number_of room)) as (λ t. (n == (number_of room)) ≡ t → (if t then head_part (Some new) else heads_in m n) ≡ heads_in m n) [
+      elim (n == number_of room) as (λ t. (n == number_of room) ≡ t → (if t then head_part (Some new) else heads_in m n) ≡ heads_in m n) [
         | true ↦ λ e. same ∙ sym is.head ∙ ap (heads_in m) (sym (eqb-true n (number_of room) e))
         | false ↦ λ e. refl
       ] refl

@@ -19,11 +19,12 @@ module _ {V : Type 0} where
   pub record IsSortedIn (m new : Lodged V) (node room : Id) : Type 0 where
     pub list : (ms : List (Placed V)) (f : IsFree m room) → IsMasks m (heads_in m (number_of node)) ms → IsNoRank f.is.entry.rank ms
         → IsMasks new (heads_in new (number_of node)) (sorted_in f.is ms)
-    pub heads : (n : ℕ) → (n ≡ (number_of node) → ⊥) → heads_in new n ≡ heads_in m n
-    pub masks : (ms : List (Placed V)) → IsMasks m (heads_in m (number_of node)) ms → (n : ℕ) → (n ≡ (number_of room) → ⊥) → IsAside n ms → masks_in new n ≡ masks_in
+    pub heads : (n : ℕ) → (n ≡ number_of node → ⊥) → heads_in new n ≡ heads_in m n
+    pub masks : (ms : List (Placed V)) → IsMasks m (heads_in m (number_of node)) ms → (n : ℕ) → (n ≡ number_of room → ⊥) → IsAside n ms
+        → masks_in new n ≡ masks_in
         m n
     pub marked : is_some (masks_in new (number_of room)) ≡ true
-    pub marks : (n : ℕ) → (n ≡ (number_of room) → ⊥) → is_some (masks_in new n) ≡ is_some (masks_in m n)
+    pub marks : (n : ℕ) → (n ≡ number_of room → ⊥) → is_some (masks_in new n) ≡ is_some (masks_in m n)
 
   -- a route of the whole in a room, and the home of its mask
   pub record Homed (m : Lodged V) (whole : Part m) (room node : Id) : Type 0 where
@@ -56,7 +57,7 @@ module _ {V : Type 0} where
 
     -- a room that is not of a route of the list's ranks is aside of it
     out_of_range : (x : Placed V) → IsIn x whole.tree → (IsIn x y.home.part.tree → y.home.part.low ≤ x.entry.rank → x.entry.rank ≤ y.home.at.bit → ⊥)
-        → (z : Placed V) → IsIn z (tree_of y.home) → y.home.part.low ≤ z.entry.rank → z.entry.rank ≤ y.home.at.bit → (number_of z.room) ≡ (number_of x.room) → ⊥
+        → (z : Placed V) → IsIn z (tree_of y.home) → y.home.part.low ≤ z.entry.rank → z.entry.rank ≤ y.home.at.bit → number_of z.room ≡ number_of x.room → ⊥
     out_of_range x in_x out z in_z least most same =
         let e = one_room m whole z x (to_whole z in_z) in_x same in
         let h = y.home in
@@ -71,7 +72,7 @@ module _ {V : Type 0} where
         out_of_range x in_x out z (l.within z among).0 range.0 (omega arith) same
 
     not_room : (x : Placed V) → IsIn x whole.tree → (IsIn x y.home.part.tree → y.home.part.low ≤ x.entry.rank → x.entry.rank ≤ y.home.at.bit → ⊥)
-        → (number_of x.room) ≡ (number_of room) → ⊥
+        → number_of x.room ≡ number_of room → ⊥
     not_room x in_x out same = out_of_range x in_x out y.is in_home y.home.past y.home.within (ap (λ i. (number_of i)) y.room_is ∙ sym same)
 
     no_rank : (l : list_at) → masks_in m (number_of room) ≡ None → IsNoRank y.is.entry.rank l.masks
@@ -116,11 +117,11 @@ module _ {V : Type 0} where
 
   pub listed_more : (m new : Lodged V) {root : Node} (late : ℕ → Bool) (w : IsWholeBut m root late nobody_out) (room node : Id) → AreOnce w.part.tree
       → Homed m w.part room node → masks_in m (number_of room) ≡ None → IsSortedIn m new node room
-      → KeepsLeaves m new → KeepsBits m new → IsWholeBut new root (λ n. late n && not (n == (number_of room))) nobody_out
+      → KeepsLeaves m new → KeepsBits m new → IsWholeBut new root (λ n. late n && not (n == number_of room)) nobody_out
   listed_more m new late w room node once y unmarked s leaves bits =
       let l = home_list y.home w.lists in
       let number = ap (λ i. (number_of i)) y.room_is in
-      whole_kept m new (λ n. late n && not (n == (number_of room))) w leaves bits
+      whole_kept m new (λ n. late n && not (n == number_of room)) w leaves bits
       (relisted y.home new once (record {
         heads = s.heads;
         masks = λ x in_x out. s.masks l.masks (are_masks y l) (number_of x.room) (not_room y x in_x out) (aside_of y l x in_x out);
@@ -134,7 +135,7 @@ module _ {V : Type 0} where
           | inl same ↦ inl (ap (λ n. is_some (masks_in new n)) same ∙ s.marked)
           | inr other ↦ elim (w.all x in_x home) [
             | inl marked ↦ inl (s.marks (number_of x.room) other ∙ marked)
-            | inr is_late ↦ inr (ap (λ t. t && not ((number_of x.room) == (number_of room))) is_late ∙ ap not (ne_eqb (number_of x.room) (number_of room) other))
+            | inr is_late ↦ inr (ap (λ t. t && not (number_of x.room == number_of room)) is_late ∙ ap not (ne_eqb (number_of x.room) (number_of room) other))
           ]
         ];
       })
@@ -143,11 +144,12 @@ module _ {V : Type 0} where
   pub record IsTakenOut (m new : Lodged V) (node room : Id) : Type 0 where
     pub list : (ms : List (Placed V)) (x : Placed V) → IsMasks m (heads_in m (number_of node)) ms → IsAmong x ms → x.room ≡ room
         → IsMasks new (heads_in new (number_of node)) (taken_out x.entry.rank ms)
-    pub heads : (n : ℕ) → (n ≡ (number_of node) → ⊥) → heads_in new n ≡ heads_in m n
-    pub masks : (ms : List (Placed V)) → IsMasks m (heads_in m (number_of node)) ms → (n : ℕ) → (n ≡ (number_of room) → ⊥) → IsAside n ms → masks_in new n ≡ masks_in
+    pub heads : (n : ℕ) → (n ≡ number_of node → ⊥) → heads_in new n ≡ heads_in m n
+    pub masks : (ms : List (Placed V)) → IsMasks m (heads_in m (number_of node)) ms → (n : ℕ) → (n ≡ number_of room → ⊥) → IsAside n ms
+        → masks_in new n ≡ masks_in
         m n
     pub unmarked : masks_in new (number_of room) ≡ None
-    pub marks : (n : ℕ) → (n ≡ (number_of room) → ⊥) → is_some (masks_in new n) ≡ is_some (masks_in m n)
+    pub marks : (n : ℕ) → (n ≡ number_of room → ⊥) → is_some (masks_in new n) ≡ is_some (masks_in m n)
 
   -- a marked route is listed at its home
   at_home : {m : Lodged V} {whole : Part m} {room node : Id} (y : Homed m whole room node) (l : list_at y) → IsMarked (masks_in m) y.is
@@ -155,7 +157,7 @@ module _ {V : Type 0} where
   at_home y l marked = l.has y.is (in_home y, marked) y.home.past y.home.within
 
   not_marked : {m : Lodged V} (new : Lodged V) {node room : Id} → IsTakenOut m new node room → (x : Placed V) → IsMarked (masks_in new) x
-      → (number_of x.room) ≡ (number_of room) → ⊥
+      → number_of x.room ≡ number_of room → ⊥
   not_marked new s x marked same = true≢false (sym marked ∙ ap (λ n. is_some (masks_in new n)) same ∙ ap is_some s.unmarked)
 
   -- the list has all but the route
@@ -178,17 +180,17 @@ module _ {V : Type 0} where
         within = λ x among.
             let old = taken_among h.part.low (h.at.bit + 1) y.is.entry.rank l.masks l.falls x among in
             let is = l.within x old.0 in
-            let other : (number_of x.room) ≡ (number_of room) → ⊥ =
+            let other : number_of x.room ≡ number_of room → ⊥ =
             λ same. old.1 (ap (λ p. p.entry.rank) (one_room m whole x y.is (to_whole y x is.0) y.inside (same ∙ sym number))) in
             (is.0, s.marks (number_of x.room) other ∙ is.1);
       }
 
   module _ {m : Lodged V} {root : Node} {late : ℕ → Bool} (w : IsWholeBut m root late nobody_out) where
     pub listed_less : (new : Lodged V) (room node : Id) → AreOnce w.part.tree → (y : Homed m w.part room node) → IsMarked (masks_in m) y.is
-        → IsTakenOut m new node room → KeepsLeaves m new → KeepsBits m new → IsWholeBut new root (λ n. late n || (n == (number_of room))) nobody_out
+        → IsTakenOut m new node room → KeepsLeaves m new → KeepsBits m new → IsWholeBut new root (λ n. late n || (n == number_of room)) nobody_out
     listed_less new room node once y marked s leaves bits =
         let l = home_list y.home w.lists in
-        whole_kept m new (λ n. late n || (n == (number_of room))) w leaves bits (relisted y.home new once (record {
+        whole_kept m new (λ n. late n || (n == number_of room)) w leaves bits (relisted y.home new once (record {
           heads = s.heads;
           masks = λ x in_x out. s.masks l.masks (are_masks y l) (number_of x.room) (not_room y x in_x out) (aside_of y l x in_x out);
           list = list_less m new w.part room y l marked s;
@@ -201,7 +203,7 @@ module _ {V : Type 0} where
             | inl same ↦ inr (or_right (late (number_of x.room)) (eq-eqb (number_of x.room) (number_of room) same))
             | inr other ↦ elim (w.all x in_x home) [
               | inl old ↦ inl (s.marks (number_of x.room) other ∙ old)
-              | inr is_late ↦ inr (ap (λ t. t || ((number_of x.room) == (number_of room))) is_late)
+              | inr is_late ↦ inr (ap (λ t. t || (number_of x.room == number_of room)) is_late)
             ]
           ];
         })
@@ -221,18 +223,18 @@ module _ {V : Type 0} where
 
     -- a room whose mask is listed, or has no home, is not late
     pub settled : (room : Id)
-        → ((x : Placed V) → IsIn x w.part.tree → HasHome x.entry.key x.entry.rank w.part.tree → (number_of x.room) ≡ (number_of room) → IsMarked (masks_in m) x)
-        → IsWholeBut m root (λ n. late n && not (n == (number_of room))) nobody_out
-    settled room here = with_late (λ n. late n && not (n == (number_of room))) w (λ x in_x home. elim (cases_eq (number_of x.room) (number_of room)) [
+        → ((x : Placed V) → IsIn x w.part.tree → HasHome x.entry.key x.entry.rank w.part.tree → number_of x.room ≡ number_of room → IsMarked (masks_in m) x)
+        → IsWholeBut m root (λ n. late n && not (n == number_of room)) nobody_out
+    settled room here = with_late (λ n. late n && not (n == number_of room)) w (λ x in_x home. elim (cases_eq (number_of x.room) (number_of room)) [
       | inl same ↦ inl (here x in_x home same)
       | inr other ↦ elim (w.all x in_x home) [
         | inl marked ↦ inl marked
-        | inr is_late ↦ inr (ap (λ t. t && not ((number_of x.room) == (number_of room))) is_late ∙ ap not (ne_eqb (number_of x.room) (number_of room) other))
+        | inr is_late ↦ inr (ap (λ t. t && not (number_of x.room == number_of room)) is_late ∙ ap not (ne_eqb (number_of x.room) (number_of room) other))
       ]
     ])
 
     pub never_late : (room : Id) (y : Placed V) → IsIn y w.part.tree → y.room ≡ room → (HasHome y.entry.key y.entry.rank w.part.tree → ⊥)
-        → IsWholeBut m root (λ n. late n && not (n == (number_of room))) nobody_out
+        → IsWholeBut m root (λ n. late n && not (n == number_of room)) nobody_out
     never_late room y in_y is none = settled room (λ x in_x home same. absurd (none (subst (λ p. HasHome p.entry.key p.entry.rank w.part.tree)
         (one_room m w.part x y in_x in_y (same ∙ sym (ap (λ i. (number_of i)) is))) home)))
 

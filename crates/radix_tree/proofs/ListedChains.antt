@@ -44,7 +44,7 @@ module _ {V : Type 0} where
 
     -- a room whose mask is listed is not late
     pub listed_late : {root : Node} (late : ℕ → Bool) (w : IsWholeBut m root late nobody_out) (links : Links) (n : MaskNode) → AreLinks m room links
-        → mask_node_of links ≡ Some n → IsWholeBut m root (λ k. late k && not (k == (number_of room))) nobody_out
+        → mask_node_of links ≡ Some n → IsWholeBut m root (λ k. late k && not (k == number_of room)) nobody_out
     listed_late late w links n are some = settled w room (λ x in_x home same. ap (λ k. is_some (masks_in m k)) same ∙ mask_some links n are some)
 
   -- ---- how far the walk has to go: one more than the rank of the route that it has come to
@@ -75,10 +75,10 @@ module _ {V : Type 0} where
     pub rest : Run m
     pub begins : first_room rest.members ≡ at
     pub less : (n : ℕ) → later n ≡ true → late n ≡ true
-    pub behind : (n : ℕ) → later n ≡ true → has_key m key n ≡ true → (x : Placed V) × IsAmong x rest.members × ((number_of x.room) ≡ n)
+    pub behind : (n : ℕ) → later n ≡ true → has_key m key n ≡ true → (x : Placed V) × IsAmong x rest.members × (number_of x.room ≡ n)
 
   -- ---- its begin
-  key_said : (m : Lodged V) (p : Part m) (y : Placed V) (q : LeafPart V) {n : ℕ} → IsIn y p.tree → (number_of y.room) ≡ n → leaves_in m n ≡ Some q
+  key_said : (m : Lodged V) (p : Part m) (y : Placed V) (q : LeafPart V) {n : ℕ} → IsIn y p.tree → number_of y.room ≡ n → leaves_in m n ≡ Some q
       → (q.leaf.key ≡ y.entry.key) × (q.block ≡ y.room.block)
   key_said m p y q is same said =
       let t = tree_said (leaves_in m) (bits_in m) p.above p.tree p.stands y is in
@@ -91,7 +91,7 @@ module _ {V : Type 0} where
 
   -- a route of the key stands in its chain
   in_its_chain : (m : Lodged V) {root : Node} {late : ℕ → Bool} (w : IsWholeBut m root late nobody_out) (y : Placed V) (is : IsIn y w.part.tree) (n : ℕ)
-      → has_key m y.entry.key n ≡ true → (x : Placed V) × IsAmong x (chain_of w.part y is).members × ((number_of x.room) ≡ n)
+      → has_key m y.entry.key n ≡ true → (x : Placed V) × IsAmong x (chain_of w.part y is).members × (number_of x.room ≡ n)
   in_its_chain m w y is n has =
       let q = of_key y.entry.key (leaves_in m n) has in
       let count = w.leaves n ∙ ap (λ o. one_if (is_some o)) q.1 in
@@ -158,18 +158,18 @@ module _ {V : Type 0} where
 
   pub passed : {m now new : Lodged V} {root : Node} {late : ℕ → Bool} {key : ℕ} {at : Option Id} (room : Id) (links : Links) {f : Leaf}
       (l : Left m now root late key at) → at ≡ Some room → KeepsLeaves m new → AreLinks new room links → f ≡ leaf_of links
-      → IsWholeBut new root (λ n. l.later n && not (n == (number_of room))) nobody_out → Left m new root late key f.next
+      → IsWholeBut new root (λ n. l.later n && not (n == number_of room)) nobody_out → Left m new root late key f.next
   passed {m = m} {new = new} room links {f = f} l is kept are leaf whole =
       let x = head_at l is in
       record {
-        later = λ n. l.later n && not (n == (number_of room));
+        later = λ n. l.later n && not (n == number_of room);
         whole = whole;
         rest = run_behind m l.rest x;
         begins = sym (next_read m new l.rest room links f x kept are leaf);
-        less = λ n is_late. l.less n (and_left (l.later n) (not (n == (number_of room))) is_late);
+        less = λ n is_late. l.less n (and_left (l.later n) (not (n == number_of room)) is_late);
         behind = λ n is_late has.
-            let y = l.behind n (and_left (l.later n) (not (n == (number_of room))) is_late) has in
-            let other = eqb_not n (number_of room) (and_right (l.later n) (not (n == (number_of room))) is_late) in (
+            let y = l.behind n (and_left (l.later n) (not (n == number_of room)) is_late) has in
+            let other = eqb_not n (number_of room) (and_right (l.later n) (not (n == number_of room)) is_late) in (
               y.0,
               elim (subst (IsAmong y.0) x.is y.1) [
                 | inl e ↦ absurd (other (sym y.2 ∙ ap (λ p. (number_of p.room)) (sym e) ∙ ap (λ i. (number_of i)) x.room_is))

@@ -9,7 +9,7 @@ use Rattle.radix_tree.proofs.Words.{lift_leaf, lift_bit, KeepsLeaves, KeepsBits,
 use Rattle.radix_nodes.specs.Naming.{number_of}
 
 -- a room that isn't the bit node above isn't turned
-pub new_turn : (above : Option Id) (key n : ℕ) (to : Node) (said : Option BitPart) → ((over : Id) → above ≡ Some over → n ≡ (number_of over) → ⊥)
+pub new_turn : (above : Option Id) (key n : ℕ) (to : Node) (said : Option BitPart) → ((over : Id) → above ≡ Some over → n ≡ number_of over → ⊥)
     → name_child above key to n said ≡ said
 new_turn None key n to said other = refl
 new_turn (Some over) key n to said other = off_room over n (with_child key to said) said (other over refl)
@@ -42,7 +42,8 @@ module _ {V : Type 0} where
   lodged m1 m2 m3 m4 room e first then_ n p free leaves2 bits2 leaves3 bits3 leaves4 bits4 leaf_is node_is = record {
     no_leaf = ap leaf_in free;
     no_bit = ap bit_in free;
-    leaf = leaves4 (number_of room) ∙ leaf_again m2 m3 room e.value first then_ (leaves_in m1 (number_of room)) (leaves2 (number_of room)) (leaves3 (number_of room))
+    leaf = leaves4 (number_of room) ∙ leaf_again m2 m3 room e.value first then_ (leaves_in m1 (number_of room)) (leaves2 (number_of room))
+        (leaves3 (number_of room))
         ∙ ap (λ l. Some (record { block = room.block; value = e.value; leaf = l })) leaf_is;
     bit_node = bits4 (number_of room) ∙ own_room room (bit_part room.block (Some n)) (bits_in m3 (number_of room)) ∙ node_is;
     leaves = λ k other. leaves4 k ∙ leaves3 k ∙ off_room room k (with_leaf then_ (leaves_in m2 k)) (leaves_in m2 k) other
@@ -98,19 +99,21 @@ module _ {V : Type 0} where
       → ((n : ℕ) → leaves_in last n ≡ lift_leaf below (Some room) n (leaves_in turned n))
       → ((n : ℕ) → bits_in last n ≡ lift_bit below (Some room) n (bits_in turned n)) → IsBeside m last bit (placed room e) above below
   beside {m = m} {new = new} turned last {room = room} {e = e} whole {above = above} {below = below} s l leaves bits lifted_leaves lifted_bits =
-      let new_above : (over : Id) → above ≡ Some over → (number_of room) ≡ (number_of over) → ⊥ = λ over is same.
+      let new_above : (over : Id) → above ≡ Some over → number_of room ≡ number_of over → ⊥ = λ over is same.
       let o = over_at m e.key whole s.at s.ups s.way s.top s.above_is is in
       none_some (sym l.no_bit ∙ ap (bits_in m) same ∙ (fork_stands o.1).0) in
       record {
         no_leaf = l.no_leaf;
         no_bit = l.no_bit;
         leaf = lifted_leaves (number_of room)
-            ∙ misses_leaf below (number_of room) (λ r is same. not_new s.at room l.no_leaf (number_of r) (named_leaf s.at.tree r (s.named ∙ is)) (sym same)) (Some room)
+            ∙ misses_leaf below (number_of room) (λ r is same. not_new s.at room l.no_leaf (number_of r) (named_leaf s.at.tree r (s.named ∙ is)) (sym same))
+            (Some room)
             (leaves_in turned (number_of room)) ∙ leaves (number_of room) ∙ l.leaf;
         bit_node = lifted_bits (number_of room)
             ∙ misses_bit below (number_of room) (λ r is same. not_new_bit s.at room l.no_bit (number_of r) (named_bit s.at.tree r (s.named ∙ is)) (sym same))
             (Some room)
-            (bits_in turned (number_of room)) ∙ bits (number_of room) ∙ new_turn above e.key (number_of room) (BitOf room) (bits_in new (number_of room)) new_above ∙ l.bit_node;
+            (bits_in turned (number_of room)) ∙ bits (number_of room) ∙ new_turn above e.key (number_of room) (BitOf room)
+            (bits_in new (number_of room)) new_above ∙ l.bit_node;
         leaves = λ n other. lifted_leaves n ∙ ap (lift_leaf below (Some room) n) (leaves n ∙ l.leaves n other);
         bits = λ n other. lifted_bits n ∙ ap (lift_bit below (Some room) n) (bits n ∙ ap (name_child above e.key (BitOf room) n) (l.bits n other));
       }

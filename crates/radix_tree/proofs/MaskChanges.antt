@@ -66,7 +66,8 @@ module _ {V : Type 0} where
   free_aside K ms room stands free y among same = some_none (ap K same ∙ free) (marked_among K ms stands y among)
 
   pub sorted : (m between new : Lodged V) (fork : Id) (x : Placed V) (room : Id) (node : MaskNode) {rank : ℕ} (ms : List (Placed V)) {before : Option Id}
-      → IsMasks m (heads_in m (number_of fork)) ms → x.room ≡ room → IsRanked (leaves_in m) x → masks_in m (number_of room) ≡ None → rank ≡ x.entry.rank → rank ≤ 33
+      → IsMasks m (heads_in m (number_of fork)) ms → x.room ≡ room → IsRanked (leaves_in m) x → masks_in m (number_of room) ≡ None → rank ≡ x.entry.rank
+      → rank ≤ 33
       → IsNoRank x.entry.rank ms → last_mask (not_below rank ms) ≡ before → first_room (below rank ms) ≡ node.next
       → KeepsLeaves m between → KeepsHeads m between → ((n : ℕ) → masks_in between n ≡ put_mask room (Some node) n (masks_in m n))
       → KeepsLeaves between new → ((n : ℕ) → heads_in new n ≡ head_linked fork before (Some room) n (heads_in between n))
@@ -77,10 +78,12 @@ module _ {V : Type 0} where
       let first_is = subst (λ n. first_room (below n ms) ≡ node.next) rank_is first in
       let aside = free_aside (masks_in m) ms room is.stands free in
       let is_one = masks_same m between keeps_one
-      (λ y among. masks_one (number_of y.room) ∙ put_aside room (Some node) (number_of y.room) (masks_in m (number_of y.room)) (aside y among)) (sym (heads_one (number_of fork)))
+      (λ y among. masks_one (number_of y.room) ∙ put_aside room (Some node) (number_of y.room) (masks_in m (number_of y.room)) (aside y among))
+      (sym (heads_one (number_of fork)))
       is in
       let all = list_parted x.entry.rank is_one in
-      let stands_own = masks (number_of x.room) ∙ aside_linked (not_below x.entry.rank ms) (Some room) (number_of x.room) (masks_in between (number_of x.room)) last_is
+      let stands_own = masks (number_of x.room) ∙ aside_linked (not_below x.entry.rank ms) (Some room) (number_of x.room)
+      (masks_in between (number_of x.room)) last_is
       (λ y among same. aside y (not_below_among x.entry.rank ms y among).0 (same ∙ ap (λ i. (number_of i)) room_is))
       ∙ masks_one (number_of x.room) ∙ put_own x node (masks_in m (number_of x.room)) room_is
       ∙ ap (λ o. Some (record { block = x.room.block; next = o })) (sym first_is) in
@@ -140,14 +143,17 @@ module _ {V : Type 0} where
       (stand_same (masks_in m) (masks_in between) (below x.entry.rank ms) stays (stands_at ms x is among).1) (falls_taken 0 34 x.entry.rank ms is.falls)
       (among_ranked (leaves_in m) (below x.entry.rank ms) (λ y behind. ranked_among (leaves_in m) ms is.ranked y
       (below_among 0 34 x.entry.rank ms is.falls y behind).0)) in
-      masks_same between new keeps_two (λ y left. masks_two (number_of y.room) ∙ put_aside room None (number_of y.room) (masks_in between (number_of y.room)) (λ same.
+      masks_same between new keeps_two (λ y left. masks_two (number_of y.room) ∙ put_aside room None (number_of y.room) (masks_in between (number_of y.room))
+      (λ same.
       let was = taken_among 0 34 x.entry.rank ms is.falls y left in
-      was.1 (one_rank (ranked_among (leaves_in m) ms is.ranked y was.0) own (same ∙ ap (λ i. (number_of i)) (sym room_is))))) (sym (heads_two (number_of fork))) list
+      was.1 (one_rank (ranked_among (leaves_in m) ms is.ranked y was.0) own (same ∙ ap (λ i. (number_of i)) (sym room_is)))))
+      (sym (heads_two (number_of fork))) list
 
   -- the members of a list stay mask nodes
   pub sorted_marks : (K J : Masks) (ms front : List (Placed V)) (room : Id) (node : MaskNode) {before : Option Id} (next : Option Id) (n : ℕ) → MasksStand K ms
       → K (number_of room) ≡ None → ((k : ℕ) → J k ≡ put_mask room (Some node) k (K k))
       → ((y : Placed V) → IsAmong y front → IsAmong y ms) → last_mask front ≡ before → is_some (mask_linked before next n (J n)) ≡ is_some (J n)
   sorted_marks K J ms front room node next n stands free one within last = marks_linked J ms front next n
-      (stand_same K J ms (λ y among. one (number_of y.room) ∙ put_aside room (Some node) (number_of y.room) (K (number_of y.room)) (free_aside K ms room stands free y among))
+      (stand_same K J ms (λ y among. one (number_of y.room) ∙ put_aside room (Some node) (number_of y.room) (K (number_of y.room))
+      (free_aside K ms room stands free y among))
       stands) within last

@@ -7,15 +7,15 @@ use Rattle.radix_tree.proofs.Words.{mask_part, first_room, MasksStand, Falls, Ke
 use Rattle.radix_nodes.specs.Naming.{number_of}
 
 put_none : (room : Id) (n : ℕ) {said : Option MaskPart} → said ≡ None → put_mask room None n said ≡ None
-put_none room n {said = said} none = elim (n == (number_of room)) as (λ t. (if t then None else said) ≡ None) [ true ↦ refl | false ↦ none ]
+put_none room n {said = said} none = elim (n == number_of room) as (λ t. (if t then None else said) ≡ None) [ true ↦ refl | false ↦ none ]
 
-put_own_none : (room : Id) {n : ℕ} (said : Option MaskPart) → n ≡ (number_of room) → put_mask room None n said ≡ None
+put_own_none : (room : Id) {n : ℕ} (said : Option MaskPart) → n ≡ number_of room → put_mask room None n said ≡ None
 put_own_none room {n = n} said same = ap (λ t. if t then None else said) (eq-eqb n (number_of room) same)
 
 put_fewer : (room : Id) (n : ℕ) (said was : Option MaskPart) → (said ≡ None) ⊎ (said ≡ was)
     → (put_mask room None n said ≡ None) ⊎ (put_mask room None n said ≡ was)
 put_fewer room n said was fewer =
-    elim (n == (number_of room)) as (λ t. ((if t then None else said) ≡ None) ⊎ ((if t then None else said) ≡ was)) [ true ↦ inl refl | false ↦ fewer ]
+    elim (n == number_of room) as (λ t. ((if t then None else said) ≡ None) ⊎ ((if t then None else said) ≡ was)) [ true ↦ inl refl | false ↦ fewer ]
 
 -- how many ranks there are up to that of a room
 abbrev pub ranks_in : {V : Type 0} → Option (LeafPart V) → ℕ

@@ -8,21 +8,21 @@ use Rattle.radix_tree.proofs.MaskLists.{in_front, in_back, falls_among, parted, 
 use Rattle.radix_nodes.specs.Naming.{number_of}
 
 -- a mask node that no link names stays
-pub linked_aside : (before next : Option Id) (n : ℕ) (said : Option MaskPart) → ((room : Id) → before ≡ Some room → n ≡ (number_of room) → ⊥)
+pub linked_aside : (before next : Option Id) (n : ℕ) (said : Option MaskPart) → ((room : Id) → before ≡ Some room → n ≡ number_of room → ⊥)
     → mask_linked before next n said ≡ said
 linked_aside None next n said aside = refl
 linked_aside (Some before) next n said aside =
     ap (λ t. if t then Some (record { block = before.block; next = next }) else said) (ne_eqb n (number_of before) (aside before refl))
 
 -- a mask node that was listed still is
-pub linked_some : (before next : Option Id) (n : ℕ) (said : Option MaskPart) → ((room : Id) → before ≡ Some room → n ≡ (number_of room) → is_some said ≡ true)
+pub linked_some : (before next : Option Id) (n : ℕ) (said : Option MaskPart) → ((room : Id) → before ≡ Some room → n ≡ number_of room → is_some said ≡ true)
     → is_some (mask_linked before next n said) ≡ is_some said
 linked_some None next n said was = refl
 linked_some (Some before) next n said was =
-    elim (n == (number_of before)) as (λ t. (n == (number_of before)) ≡ t → is_some (if t then Some (record { block = before.block; next = next }) else said)
+    elim (n == number_of before) as (λ t. (n == number_of before) ≡ t → is_some (if t then Some (record { block = before.block; next = next }) else said)
     ≡ is_some said) [ true ↦ λ e. sym (was before refl (eqb-true n (number_of before) e)) | false ↦ λ e. refl ] refl
 
-pub put_aside : (room : Id) (node : Option MaskNode) (n : ℕ) (said : Option MaskPart) → (n ≡ (number_of room) → ⊥) → put_mask room node n said ≡ said
+pub put_aside : (room : Id) (node : Option MaskNode) (n : ℕ) (said : Option MaskPart) → (n ≡ number_of room → ⊥) → put_mask room node n said ≡ said
 put_aside room node n said aside = ap (λ t. if t then mask_part room.block node else said) (ne_eqb n (number_of room) aside)
 
 pub some_none : {o : Option MaskPart} → o ≡ None → is_some o ≡ true → ⊥
@@ -48,7 +48,7 @@ module _ {V : Type 0} where
   apart_front (x ∷ xs) back is = (λ y among. is.0 y (in_front xs back y among), apart_front xs back is.1)
 
   pub apart_across : (front back : List (Placed V)) → Apart (front ++ back) → (x y : Placed V) → IsAmong x front → IsAmong y back
-      → (number_of y.room) ≡ (number_of x.room) → ⊥
+      → number_of y.room ≡ number_of x.room → ⊥
   apart_across [] back is x y one other = absurd one
   apart_across (z ∷ zs) back is x y one other = elim one [
     | inl e ↦ λ same. is.0 y (in_back zs back y other) (same ∙ sym (ap (λ p. (number_of p.room)) e))
@@ -72,7 +72,7 @@ module _ {V : Type 0} where
 
   -- no member of another list is the last one
   not_last : (front : List (Placed V)) (n : ℕ) → IsAside n front → {before : Option Id} → last_mask front ≡ before → (room : Id) → before ≡ Some room
-      → n ≡ (number_of room) → ⊥
+      → n ≡ number_of room → ⊥
   not_last front n aside last room is same =
       let x = last_among front (last ∙ is) in aside x.0 x.1 (ap (λ i. (number_of i)) x.2 ∙ sym same)
 
@@ -100,7 +100,8 @@ module _ {V : Type 0} where
   are_ranked_same m new (x ∷ xs) keeps ranked = (ranked_same m new x keeps ranked.0, are_ranked_same m new xs keeps ranked.1)
 
   pub masks_same : (m new : Lodged V) {first other : Option Id} {ms : List (Placed V)} → KeepsLeaves m new
-      → ((y : Placed V) → IsAmong y ms → masks_in new (number_of y.room) ≡ masks_in m (number_of y.room)) → first ≡ other → IsMasks m first ms → IsMasks new other ms
+      → ((y : Placed V) → IsAmong y ms → masks_in new (number_of y.room) ≡ masks_in m (number_of y.room)) → first ≡ other → IsMasks m first ms
+      → IsMasks new other ms
   masks_same m new {ms = ms} keeps same head is = record {
     begins = is.begins ∙ head;
     stands = stand_same (masks_in m) (masks_in new) ms same is.stands;

@@ -209,7 +209,7 @@ module _ {V : Type 0} where
   among_ranked L (x ∷ xs) all = (all x (inl refl), among_ranked L xs (λ y among. all y (inr among)))
 
   -- routes in one room are of one rank
-  pub one_rank : {L : Leaves V} {x y : Placed V} → IsRanked L x → IsRanked L y → (number_of x.room) ≡ (number_of y.room) → x.entry.rank ≡ y.entry.rank
+  pub one_rank : {L : Leaves V} {x y : Placed V} → IsRanked L x → IsRanked L y → number_of x.room ≡ number_of y.room → x.entry.rank ≡ y.entry.rank
   one_rank {L = L} one other same = sym one.rank ∙ ap (λ p. p.leaf.rank) (inside (sym one.said ∙ ap L same ∙ other.said)) ∙ other.rank
 
   pub ranked_in : (m : Lodged V) (p : Part m) (x : Placed V) → IsIn x p.tree → IsRanked (leaves_in m) x

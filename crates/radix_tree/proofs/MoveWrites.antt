@@ -1,6 +1,7 @@
 -- A bit node in use moves from its room to another: the rooms before the writes and after them.
 use Rattle.radix_tree.proofs.{RoomReads.inside, RoomReads.none_some, RoomReads.AreLinks, RoomReads.head_read, Parts.fork_is, Parts.fork_stands}
-use Rattle.radix_tree.proofs.{Parts.zero_part, Parts.one_part, Parts.fork_named, RoomReads.Has-bit, PartRooms.frame, PartRooms.way_once, PartRooms.way_counts, PartRooms.spine_out, Forking.forks_there}
+use Rattle.radix_tree.proofs.{Parts.zero_part, Parts.one_part, Parts.fork_named, RoomReads.Has-bit, PartRooms.frame, PartRooms.way_once, PartRooms.way_counts}
+use Rattle.radix_tree.proofs.{PartRooms.spine_out, Forking.forks_there}
 use Rattle.radix_tree.proofs.{Beside.misses_leaf, Beside.misses_bit, WaysDown.way_to_fork, WholeParts.once_but, Lodging.over_at, Parts.bit_part_of}
 use Rattle.radix_tree.proofs.Words.{◌≡◌, ℕ, ◌+◌, ◌≤◌, ◌==◌, true, false, List, [], ◌∷◌, Option, Some, None, refl, sym, ap, ◌∙◌, subst, arith, is_some}
 use Rattle.radix_tree.proofs.Words.{Has, bit_node_of, Id, Links, Node, BitNode, BitPart, Part, leaves_in, bits_in, heads_in, bit_in, bit_part, head_part}
@@ -22,7 +23,7 @@ lift_there : (at : Node) (above : Option Id) (n : ℕ) (p : BitPart) → (q : Bi
     × (q.zero ≡ p.zero) × (q.one ≡ p.one)
 lift_there (LeafOf room) above n p = (p, refl, refl, refl, refl)
 lift_there (BitOf room) above n p =
-    elim (n == (number_of room)) as (λ t. (q : BitPart) × ((if t then bit_above above (Some p) else Some p) ≡ Some q) × (q.block ≡ p.block)
+    elim (n == number_of room) as (λ t. (q : BitPart) × ((if t then bit_above above (Some p) else Some p) ≡ Some q) × (q.block ≡ p.block)
     × (q.zero ≡ p.zero) × (q.one ≡ p.one)) [
       | true ↦ (record p { above = above }, refl, refl, refl, refl)
       | false ↦ (p, refl, refl, refl, refl)
@@ -37,7 +38,7 @@ module _ {V : Type 0} where
     pub at : Part m
     pub room : Id
     pub f : ForkAt at room
-    pub number : (number_of room) ≡ (number_of from)
+    pub number : number_of room ≡ (number_of from)
     pub ups : List (Part m)
     pub way : Way key whole.part at ups
     pub bit : n.bit ≡ f.bit
@@ -99,13 +100,13 @@ module _ {V : Type 0} where
     pub at_once : AreOnce v.at.tree
     at_once = way_once v.key v.whole.part v.at v.ups v.way v.once
 
-    pub at_forks : (k : ℕ) → forks_at k v.at.tree ≡ one_if ((number_of v.room) == k) + (forks_at k v.f.zero + forks_at k v.f.one)
+    pub at_forks : (k : ℕ) → forks_at k v.at.tree ≡ one_if (number_of v.room == k) + (forks_at k v.f.zero + forks_at k v.f.one)
     at_forks k = ap (forks_at k) v.f.is
 
     pub at_leaves : (k : ℕ) → leaves_at k v.at.tree ≡ leaves_at k v.f.zero + leaves_at k v.f.one
     at_leaves k = ap (leaves_at k) v.f.is
 
-    from_here : one_if ((number_of v.room) == (number_of from)) ≡ 1
+    from_here : one_if (number_of v.room == number_of from) ≡ 1
     from_here = one_if_is (number_of from) v.number
 
     pub from_in : 1 ≤ forks_at (number_of from) v.at.tree
@@ -114,7 +115,7 @@ module _ {V : Type 0} where
         let one = from_here in omega arith
 
     -- beneath it there is no bit node of the same room
-    pub not_from : (k : ℕ) → 1 ≤ forks_at k v.f.zero + forks_at k v.f.one → k ≡ (number_of from) → ⊥
+    pub not_from : (k : ℕ) → 1 ≤ forks_at k v.f.zero + forks_at k v.f.one → k ≡ number_of from → ⊥
     not_from k some same =
         let sum = at_forks (number_of from) in
         let one = from_here in
@@ -122,14 +123,14 @@ module _ {V : Type 0} where
         let left = ap (λ j. forks_at j v.f.zero) same in
         let right = ap (λ j. forks_at j v.f.one) same in omega arith
 
-    pub out_not_from : (k : ℕ) → forks_at k v.at.tree ≡ 0 → k ≡ (number_of from) → ⊥
+    pub out_not_from : (k : ℕ) → forks_at k v.at.tree ≡ 0 → k ≡ number_of from → ⊥
     out_not_from k none same =
         let sum = at_forks (number_of from) in
         let one = from_here in
         let is = ap (λ j. forks_at j v.at.tree) same in omega arith
 
     -- the other room is no bit node of the tree
-    pub not_to : (k : ℕ) → 1 ≤ forks_at k v.whole.part.tree → k ≡ (number_of to) → ⊥
+    pub not_to : (k : ℕ) → 1 ≤ forks_at k v.whole.part.tree → k ≡ number_of to → ⊥
     not_to k some same =
         let p = v.whole.part in
         let gone = forks_there (leaves_in m) (bits_in m) p.above p.tree (number_of to) p.stands v.takes.free in
@@ -141,7 +142,7 @@ module _ {V : Type 0} where
         let le = (way_counts m v.key v.whole.part v.at v.ups k v.way).1 in omega arith
 
     -- the rooms differ
-    pub apart : (number_of from) ≡ (number_of to) → ⊥
+    pub apart : number_of from ≡ number_of to → ⊥
     apart same = none_some (sym (ap (bits_in m) (v.number ∙ same) ∙ v.takes.free) ∙ (fork_stands v.f).0)
 
   -- the bit node above is in the tree, but not in the part
@@ -157,12 +158,12 @@ module _ {V : Type 0} where
       subst (λ i. (forks_at (number_of i) at.tree ≡ 0) × (1 ≤ forks_at (number_of i) whole.tree)) same (none, omega arith)
 
   module _ {m : Lodged V} {root : Node} {from to : Id} {n : BitNode} (v : IsMove m root from to n) where
-    pub not_spine : (k : ℕ) → 1 ≤ forks_at k v.at.tree → (up : Id) → n.above ≡ Some up → k ≡ (number_of up) → ⊥
+    pub not_spine : (k : ℕ) → 1 ≤ forks_at k v.at.tree → (up : Id) → n.above ≡ Some up → k ≡ number_of up → ⊥
     not_spine k some up is same =
         let none = (spine_apart m v.key v.whole.part v.at v.ups v.way v.whole.top v.once up (sym v.above ∙ is)).0 in
         let e = ap (λ j. forks_at j v.at.tree) same in omega arith
 
-    pub to_not_spine : (up : Id) → n.above ≡ Some up → (number_of to) ≡ (number_of up) → ⊥
+    pub to_not_spine : (up : Id) → n.above ≡ Some up → number_of to ≡ number_of up → ⊥
     to_not_spine up is same = not_to v (number_of up) (spine_apart m v.key v.whole.part v.at v.ups v.way v.whole.top v.once up (sym v.above ∙ is)).1 (sym same)
 
     -- ---- before the writes
@@ -243,7 +244,7 @@ module _ {V : Type 0} where
         ∙ rename_used n.above from to k (put_bit to (Some n) k (put_bit from None k (lift_bit n.one (Some to) k (lift_bit n.zero (Some to) k (bits_in m k)))))
 
     -- a bit node is in use in each room where one was, but for the two rooms
-    pub used_stays : (k : ℕ) → (k ≡ (number_of from) → ⊥) → (k ≡ (number_of to) → ⊥) → is_some (bits_in new k) ≡ is_some (bits_in m k)
+    pub used_stays : (k : ℕ) → (k ≡ number_of from → ⊥) → (k ≡ number_of to → ⊥) → is_some (bits_in new k) ≡ is_some (bits_in m k)
     used_stays k other off =
         let lift = lift_bit n.one (Some to) k (lift_bit n.zero (Some to) k (bits_in m k)) in
         used_is k ∙ ap is_some (off_room to k (bit_part to.block (Some n))
@@ -251,11 +252,11 @@ module _ {V : Type 0} where
         ∙ ap is_some (off_room from k (bit_part from.block None) (lift_bit n.one (Some to) k (lift_bit n.zero (Some to) k (bits_in m k))) other)
         ∙ lift_used n.one (Some to) k (lift_bit n.zero (Some to) k (bits_in m k)) ∙ lift_used n.zero (Some to) k (bits_in m k)
 
-    pub used_to : (k : ℕ) → k ≡ (number_of to) → is_some (bits_in new k) ≡ true
+    pub used_to : (k : ℕ) → k ≡ number_of to → is_some (bits_in new k) ≡ true
     used_to k same = used_is k ∙ ap is_some (at_room to k (bit_part to.block (Some n))
         (put_bit from None k (lift_bit n.one (Some to) k (lift_bit n.zero (Some to) k (bits_in m k)))) same)
 
-    pub used_from : ((number_of from) ≡ (number_of to) → ⊥) → (k : ℕ) → k ≡ (number_of from) → is_some (bits_in new k) ≡ false
+    pub used_from : (number_of from ≡ number_of to → ⊥) → (k : ℕ) → k ≡ number_of from → is_some (bits_in new k) ≡ false
     used_from other k same = used_is k ∙ ap is_some (off_room to k (bit_part to.block (Some n))
         (put_bit from None k (lift_bit n.one (Some to) k (lift_bit n.zero (Some to) k (bits_in m k)))) (λ e. other (sym same ∙ e)))
         ∙ ap is_some (at_room from k (bit_part from.block None) (lift_bit n.one (Some to) k (lift_bit n.zero (Some to) k (bits_in m k))) same)
@@ -264,12 +265,12 @@ module _ {V : Type 0} where
     gone v = none_of (bits_in new (number_of from)) (used_from (apart v) (number_of from) refl)
 
     -- a room that is neither of the two
-    pub bit_lifts : (k : ℕ) → (k ≡ (number_of from) → ⊥) → (k ≡ (number_of to) → ⊥)
+    pub bit_lifts : (k : ℕ) → (k ≡ number_of from → ⊥) → (k ≡ number_of to → ⊥)
         → bits_in new k ≡ rename n.above from to k (lift_bit n.one (Some to) k (lift_bit n.zero (Some to) k (bits_in m k)))
     bit_lifts k other off = d.bits k ∙ ap (rename n.above from to k)
         (off_room to k (bit_part to.block (Some n)) (put_bit from None k (lift_bit n.one (Some to) k (lift_bit n.zero (Some to) k (bits_in m k)))) off
         ∙ off_room from k (bit_part from.block None) (lift_bit n.one (Some to) k (lift_bit n.zero (Some to) k (bits_in m k))) other)
 
-    pub head_stays : (k : ℕ) → (k ≡ (number_of from) → ⊥) → (k ≡ (number_of to) → ⊥) → heads_in new k ≡ heads_in m k
+    pub head_stays : (k : ℕ) → (k ≡ number_of from → ⊥) → (k ≡ number_of to → ⊥) → heads_in new k ≡ heads_in m k
     head_stays k other off =
         d.heads k ∙ off_room to k (head_part (Some n)) (put_head from None k (heads_in m k)) off ∙ off_room from k (head_part None) (heads_in m k) other

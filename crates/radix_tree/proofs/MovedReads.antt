@@ -16,7 +16,7 @@ pub one_if_not : (a b : ℕ) → (a ≡ b → ⊥) → one_if (a == b) ≡ 0
 one_if_not a b other = ap one_if (ne_eqb a b other)
 
 -- a write to one room
-pub at_room : {A : Type 0} (room : Id) (n : ℕ) (x y : A) → n ≡ (number_of room) → (if n == (number_of room) then x else y) ≡ x
+pub at_room : {A : Type 0} (room : Id) (n : ℕ) (x y : A) → n ≡ number_of room → (if n == (number_of room) then x else y) ≡ x
 at_room room n x y same = ap (λ t. if t then x else y) (eq-eqb n (number_of room) same)
 
 -- ---- a node is lifted
@@ -26,7 +26,7 @@ content_above above (Some p) = refl
 
 pub content_lift : {A : Type 0} (at : Node) (above : Option Id) (n : ℕ) (said : Option (LeafPart A)) → content_of (lift_leaf at above n said) ≡ content_of said
 content_lift (BitOf room) above n said = refl
-content_lift (LeafOf room) above n said = elim (n == (number_of room)) as (λ t. content_of (if t then leaf_above above said else said) ≡ content_of said) [
+content_lift (LeafOf room) above n said = elim (n == number_of room) as (λ t. content_of (if t then leaf_above above said else said) ≡ content_of said) [
   | true ↦ content_above above said
   | false ↦ refl
 ]
@@ -37,7 +37,7 @@ above_used above (Some p) = refl
 
 pub lift_used : (at : Node) (above : Option Id) (n : ℕ) (said : Option BitPart) → is_some (lift_bit at above n said) ≡ is_some said
 lift_used (LeafOf room) above n said = refl
-lift_used (BitOf room) above n said = elim (n == (number_of room)) as (λ t. is_some (if t then bit_above above said else said) ≡ is_some said) [
+lift_used (BitOf room) above n said = elim (n == number_of room) as (λ t. is_some (if t then bit_above above said else said) ≡ is_some said) [
   | true ↦ above_used above said
   | false ↦ refl
 ]
@@ -49,17 +49,17 @@ renamed_used from to (Some p) = refl
 
 pub rename_used : (above : Option Id) (from to : Id) (n : ℕ) (said : Option BitPart) → is_some (rename above from to n said) ≡ is_some said
 rename_used None from to n said = refl
-rename_used (Some up) from to n said = elim (n == (number_of up)) as (λ t. is_some (if t then with_renamed from to said else said) ≡ is_some said) [
+rename_used (Some up) from to n said = elim (n == number_of up) as (λ t. is_some (if t then with_renamed from to said else said) ≡ is_some said) [
   | true ↦ renamed_used from to said
   | false ↦ refl
 ]
 
-pub rename_misses : (above : Option Id) (from to : Id) (n : ℕ) (said : Option BitPart) → ((up : Id) → above ≡ Some up → n ≡ (number_of up) → ⊥)
+pub rename_misses : (above : Option Id) (from to : Id) (n : ℕ) (said : Option BitPart) → ((up : Id) → above ≡ Some up → n ≡ number_of up → ⊥)
     → rename above from to n said ≡ said
 rename_misses None from to n said other = refl
 rename_misses (Some up) from to n said other = off_room up n (with_renamed from to said) said (other up refl)
 
-pub renamed_to : (from to room : Id) → (number_of room) ≡ (number_of from) → renamed from to (BitOf room) ≡ BitOf to
+pub renamed_to : (from to room : Id) → number_of room ≡ number_of from → renamed from to (BitOf room) ≡ BitOf to
 renamed_to from to room same = ap (λ t. if t then BitOf to else BitOf room) (eq-eqb (number_of room) (number_of from) same)
 
 module _ {V : Type 0} where
@@ -70,12 +70,12 @@ module _ {V : Type 0} where
       (ne_eqb (number_of room) (number_of from) (λ same. let own = one_if_is (number_of from) same in omega arith))
 
   -- a room outside of a tree is not that of its name
-  pub leaf_off : (t : Tree V) {name : Node} (n : ℕ) → name ≡ name_of t → leaves_at n t ≡ 0 → (r : Id) → name ≡ LeafOf r → n ≡ (number_of r) → ⊥
+  pub leaf_off : (t : Tree V) {name : Node} (n : ℕ) → name ≡ name_of t → leaves_at n t ≡ 0 → (r : Id) → name ≡ LeafOf r → n ≡ number_of r → ⊥
   leaf_off t n named none r is same =
       let there = named_leaf t r (sym named ∙ is) in
       let e = ap (λ k. leaves_at k t) same in omega arith
 
-  pub bit_off : (t : Tree V) {name : Node} (n : ℕ) → name ≡ name_of t → forks_at n t ≡ 0 → (r : Id) → name ≡ BitOf r → n ≡ (number_of r) → ⊥
+  pub bit_off : (t : Tree V) {name : Node} (n : ℕ) → name ≡ name_of t → forks_at n t ≡ 0 → (r : Id) → name ≡ BitOf r → n ≡ number_of r → ⊥
   bit_off t n named none r is same =
       let there = named_bit t r (sym named ∙ is) in
       let e = ap (λ k. forks_at k t) same in omega arith
@@ -87,7 +87,8 @@ module _ {V : Type 0} where
   content_there m room (Some s) at e block = record { room = s; at = at; block = ap (λ d. d.block) (inside e) ∙ block }
 
   -- stays
-  pub Has_kept : {m : Lodged V} (new : Lodged V) {room : Id} → content_of (leaves_in new (number_of room)) ≡ content_of (leaves_in m (number_of room)) → Has m room
+  pub Has_kept : {m : Lodged V} (new : Lodged V) {room : Id} → content_of (leaves_in new (number_of room)) ≡ content_of (leaves_in m (number_of room))
+      → Has m room
       → Has new room
   Has_kept new {room = room} same h = content_there new room (get new (number_of room)) refl (same ∙ ap (λ o. content_of (leaf_in o)) h.at) h.block
 

@@ -57,7 +57,8 @@ module _ {V : Type 0} where
     here_said = d.bits (number_of to) ∙ rename_misses n.above from to (number_of to) (put_bit to (Some n) (number_of to)
         (put_bit from None (number_of to) (lift_bit n.one (Some to) (number_of to) (lift_bit n.zero (Some to) (number_of to) (bits_in m (number_of to))))))
         (to_not_spine v) ∙ at_room to (number_of to) (bit_part to.block (Some n)) (put_bit from None (number_of to)
-        (lift_bit n.one (Some to) (number_of to) (lift_bit n.zero (Some to) (number_of to) (bits_in m (number_of to))))) refl ∙ bit_said to n v.bit v.left v.right v.above
+        (lift_bit n.one (Some to) (number_of to) (lift_bit n.zero (Some to) (number_of to) (bits_in m (number_of to))))) refl
+        ∙ bit_said to n v.bit v.left v.right v.above
 
     abbrev pub under_of : Part new
     under_of = record {
@@ -70,7 +71,7 @@ module _ {V : Type 0} where
 
   -- ---- the bit node above
   module _ {m : Lodged V} {key : ℕ} {under over : Part m} (b : Beneath key under over) where
-    zero_named : (from to room : Id) → name_of under.tree ≡ BitOf room → (number_of room) ≡ (number_of from) → under.tree ≡ b.at.zero → bit_at b.at.bit key ≡ 0
+    zero_named : (from to room : Id) → name_of under.tree ≡ BitOf room → number_of room ≡ number_of from → under.tree ≡ b.at.zero → bit_at b.at.bit key ≡ 0
         → forks_at (number_of from) b.at.one ≡ 0 → with_renamed from to (Some (bit_part_of b.at)) ≡ with_child key (BitOf to) (Some (bit_part_of b.at))
     zero_named from to room named same tree clear none =
         let p = bit_part_of b.at in
@@ -79,7 +80,7 @@ module _ {V : Type 0} where
         ap (λ z. Some (record (bit_part_of b.at) { zero = z; one = renamed from to (name_of b.at.one) })) here
         ∙ ap (λ z. Some (record (bit_part_of b.at) { zero = BitOf to; one = z })) there ∙ sym (zero_turned key (BitOf to) (bit_part_of b.at) clear)
 
-    one_named : (from to room : Id) → name_of under.tree ≡ BitOf room → (number_of room) ≡ (number_of from) → under.tree ≡ b.at.one → bit_at b.at.bit key ≡ 1
+    one_named : (from to room : Id) → name_of under.tree ≡ BitOf room → number_of room ≡ number_of from → under.tree ≡ b.at.one → bit_at b.at.bit key ≡ 1
         → forks_at (number_of from) b.at.zero ≡ 0 → with_renamed from to (Some (bit_part_of b.at)) ≡ with_child key (BitOf to) (Some (bit_part_of b.at))
     one_named from to room named same tree set none =
         let here = ap (renamed from to) (sym (ap name_of tree) ∙ named) ∙ renamed_to from to room same in
@@ -88,7 +89,8 @@ module _ {V : Type 0} where
         ∙ ap (λ z. Some (record (bit_part_of b.at) { zero = z; one = BitOf to })) there ∙ sym (one_turned key (BitOf to) (bit_part_of b.at) set)
 
     -- to name the room by its number is to turn the bit node above on the side of the way
-    over_named : (from to room : Id) → AreOnce over.tree → 1 ≤ forks_at (number_of from) under.tree → name_of under.tree ≡ BitOf room → (number_of room) ≡ (number_of from)
+    over_named : (from to room : Id) → AreOnce over.tree → 1 ≤ forks_at (number_of from) under.tree → name_of under.tree ≡ BitOf room
+        → number_of room ≡ (number_of from)
         → with_renamed from to (bits_in m (number_of b.room)) ≡ with_child key (BitOf to) (bits_in m (number_of b.room))
     over_named from to room once some named same =
         let said = (fork_stands b.at).0 in
@@ -102,14 +104,14 @@ module _ {V : Type 0} where
         ] ∙ sym (ap (with_child key (BitOf to)) said)
 
   spine_named : (m : Lodged V) (from to room : Id) (key : ℕ) (whole at : Part m) (ups : List (Part m)) → Way key whole at ups → whole.above ≡ None
-      → AreOnce whole.tree → 1 ≤ forks_at (number_of from) at.tree → name_of at.tree ≡ BitOf room → (number_of room) ≡ (number_of from)
+      → AreOnce whole.tree → 1 ≤ forks_at (number_of from) at.tree → name_of at.tree ≡ BitOf room → number_of room ≡ (number_of from)
       → (k : ℕ) → rename at.above from to k (bits_in m k) ≡ name_child at.above key (BitOf to) k (bits_in m k)
   spine_named m from to room key whole at [] way top once some named same k =
       let none = ap (λ p. p.above) way ∙ top in
       ap (λ o. rename o from to k (bits_in m k)) none ∙ sym (ap (λ o. name_child o key (BitOf to) k (bits_in m k)) none)
   spine_named m from to room key whole at (p ∷ ps) way top once some named same k =
       let b = way.0 in
-      ap (λ o. rename o from to k (bits_in m k)) b.above ∙ elim (k == (number_of b.room)) as (λ t. (k == (number_of b.room)) ≡ t
+      ap (λ o. rename o from to k (bits_in m k)) b.above ∙ elim (k == number_of b.room) as (λ t. (k == number_of b.room) ≡ t
       → (if t then with_renamed from to (bits_in m k) else bits_in m k) ≡ (if t then with_child key (BitOf to) (bits_in m k) else bits_in m k)) [
         | true ↦ λ e. subst (λ j. with_renamed from to (bits_in m j) ≡ with_child key (BitOf to) (bits_in m j)) (sym (eqb-true k (number_of b.room) e))
             (over_named b from to room (way_once key whole p ps way.1 once) some named same)
@@ -139,7 +141,8 @@ module _ {V : Type 0} where
     lists_moved =
         let old = subst (MarkedLists (heads_in m) (masks_in m) v.at.low) v.f.is
         (way_lists (IsMarked (masks_in m)) v.key v.whole.part v.at v.ups v.way v.whole.lists) in
-        let head = d.heads (number_of to) ∙ at_room to (number_of to) (head_part (Some n)) (put_head from None (number_of to) (heads_in m (number_of to))) refl ∙ sym v.head
+        let head = d.heads (number_of to) ∙ at_room to (number_of to) (head_part (Some n)) (put_head from None (number_of to) (heads_in m (number_of to))) refl
+        ∙ sym v.head
         ∙ ap (heads_in m) (sym v.number) in
         let stays : (k : ℕ) → 1 ≤ forks_at k v.f.zero + forks_at k v.f.one → heads_in new k ≡ heads_in m k = λ k some. let le = beneath_whole v k in
         head_stays d k (not_from v k some) (not_to v k (omega arith)) in (
@@ -153,13 +156,13 @@ module _ {V : Type 0} where
         )
 
     -- what each number has in use
-    count_moved : (k : ℕ) → one_if ((number_of to) == k) + one_if (is_some (bits_in m k)) ≡ one_if ((number_of v.room) == k) + one_if (is_some (bits_in new k))
+    count_moved : (k : ℕ) → one_if (number_of to == k) + one_if (is_some (bits_in m k)) ≡ one_if (number_of v.room == k) + one_if (is_some (bits_in new k))
     count_moved k =
         let other = apart v in
         elim (cases_eq (number_of to) k) [
           | inl same ↦ let a = one_if_is k same in
               let b = ap (λ o. one_if (is_some o)) (ap (bits_in m) (sym same) ∙ v.takes.free) in
-              let c = one_if_not (number_of v.room) k (λ (e : (number_of v.room) ≡ k). other (sym v.number ∙ e ∙ sym same)) in
+              let c = one_if_not (number_of v.room) k (λ (e : number_of v.room ≡ k). other (sym v.number ∙ e ∙ sym same)) in
               let e = ap one_if (used_to d k (sym same)) in omega arith
           | inr off ↦ let a = one_if_not (number_of to) k off in
               elim (cases_eq (number_of v.room) k) [
@@ -167,7 +170,8 @@ module _ {V : Type 0} where
                     let c = one_if_is k same in
                     let e = ap one_if (used_from d other k (sym same ∙ v.number)) in omega arith
                 | inr far ↦ let c = one_if_not (number_of v.room) k far in
-                    let e = ap one_if (used_stays d k (λ (s : k ≡ (number_of from)). far (v.number ∙ sym s)) (λ (s : k ≡ (number_of to)). off (sym s))) in omega arith
+                    let e = ap one_if (used_stays d k (λ (s : k ≡ number_of from). far (v.number ∙ sym s))
+                    (λ (s : k ≡ number_of to). off (sym s))) in omega arith
               ]
         ]
 

@@ -64,11 +64,11 @@ module _ {V : Type 0} where
   -- ---- the tree
   pub moved_spare : (m : Lodged V) (C : Bits) {from : Id} (to : Id) (above : Option Id) (low : ℕ) (t : Tree V) → IsTree low t
       → Stands (leaves_in m) (bits_in m) above t → leaves_at (number_of to) t ≤ 1
-      → ((n : ℕ) → 1 ≤ leaves_at n t → (n ≡ (number_of to) → ⊥) → bits_in m n ≡ None → C n ≡ None) → ((n : ℕ) → 1 ≤ leaves_at n t → n ≡ (number_of from) → ⊥)
+      → ((n : ℕ) → 1 ≤ leaves_at n t → (n ≡ number_of to → ⊥) → bits_in m n ≡ None → C n ≡ None) → ((n : ℕ) → 1 ≤ leaves_at n t → n ≡ number_of from → ⊥)
       → CanTake m from to → HaveOneFork (bits_in m) t → HaveOneFork C t
   moved_spare m C to above low (leaf x xs) is stands once none off takes spare = elim (none_or_some (members_at (number_of to) (x ∷ xs))) [
     | inl out ↦ chain_stays (bits_in m) C (x ∷ xs)
-        (λ n some. none n some (λ (e : n ≡ (number_of to)). let same = ap (λ k. members_at k (x ∷ xs)) e in omega arith)) spare
+        (λ n some. none n some (λ (e : n ≡ number_of to). let same = ap (λ k. members_at k (x ∷ xs)) e in omega arith)) spare
     | inr there ↦ let keyed = chain_keyed m above None x.entry.key 34 (x ∷ xs) stands is.1 in
         let p = of_key x.entry.key (leaves_in m (number_of to)) (keyed (number_of to) there) in
         one_at C (number_of to) (x ∷ xs) once

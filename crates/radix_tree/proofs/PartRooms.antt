@@ -21,7 +21,7 @@ pub one_turned : (address : ℕ) (name : Node) (p : BitPart) → bit_at p.bit ad
 one_turned address name p set = ap (λ t. Some (if t then record p { one = name } else record p { zero = name })) (eq-eqb (bit_at p.bit address) 1 set)
 
 -- no other bit node of the tree is in its room
-pub elsewhere : (room : Id) (n many : ℕ) → 1 ≤ many → one_if ((number_of room) == n) + many ≤ 1 → n ≡ (number_of room) → ⊥
+pub elsewhere : (room : Id) (n many : ℕ) → 1 ≤ many → one_if (number_of room == n) + many ≤ 1 → n ≡ number_of room → ⊥
 elsewhere room n many some few same =
     let one = ap (λ k. one_if (k == n)) (sym same) ∙ one_if_same n in omega arith
 
@@ -51,7 +51,7 @@ module _ {V : Type 0} where
 
   -- how often a room is in a bit node's tree
   pub fork_forks : {m : Lodged V} {over : Part m} {room : Id} (f : ForkAt over room) (n : ℕ)
-      → forks_at n over.tree ≡ one_if ((number_of room) == n) + (forks_at n f.zero + forks_at n f.one)
+      → forks_at n over.tree ≡ one_if (number_of room == n) + (forks_at n f.zero + forks_at n f.one)
   fork_forks f n = ap (forks_at n) f.is
 
   pub fork_leaves : {m : Lodged V} {over : Part m} {room : Id} (f : ForkAt over room) (n : ℕ)

@@ -66,7 +66,8 @@ module _ {V : Type 0} where
 
   module _ {H G : Heads} {K J : Masks} {top : ℕ} {fs : List (Frame V)} {t u : Tree V} (k : KeepsAbove H G K J top fs t u) where
     -- the marked routes of ranks below top are the same
-    stays_within : (y : Placed V) → IsIn y (plug fs t) → y.entry.rank < top → IsMarked K y → MarkedIn J (plug fs u) y × (J (number_of y.room) ≡ K (number_of y.room))
+    stays_within : (y : Placed V) → IsIn y (plug fs t) → y.entry.rank < top → IsMarked K y → MarkedIn J (plug fs u) y
+        × (J (number_of y.room) ≡ K (number_of y.room))
     stays_within y is below marked = elim (in_plug fs t y is) [
       | inl aside ↦ ((aside_in fs u y aside, marked_same K J y (k.aside y aside) marked), k.aside y aside)
       | inr at ↦ let s = k.stays y at below marked in ((plug_in fs u y s.0, marked_same K J y s.1 marked), s.1)

@@ -41,7 +41,7 @@ module _ {V : Type 0} where
   pub counted_member : (x : Placed V) (xs : List (Placed V)) → IsAmong x xs → 1 ≤ members_at (number_of x.room) xs
   counted_member x [] among = absurd among
   counted_member x (y ∷ ys) among = elim among [
-    | inl e ↦ let own = ap (λ p. one_if ((number_of p.room) == (number_of x.room))) e ∙ one_if_same (number_of x.room) in
+    | inl e ↦ let own = ap (λ p. one_if (number_of p.room == number_of x.room)) e ∙ one_if_same (number_of x.room) in
         omega arith
     | inr behind ↦ let some = counted_member x ys behind in omega arith
   ]
@@ -123,7 +123,8 @@ module _ {V : Type 0} where
   idle_same B C [] same idle = tt
   idle_same B C (x ∷ xs) same idle = (same x (inl refl) idle.0, idle_same B C xs (λ y among. same y (inr among)) idle.1)
 
-  one_fork_same : (B C : Bits) (xs : List (Placed V)) → ((y : Placed V) → IsAmong y xs → B (number_of y.room) ≡ None → C (number_of y.room) ≡ None) → HasOneFork B xs
+  one_fork_same : (B C : Bits) (xs : List (Placed V)) → ((y : Placed V) → IsAmong y xs → B (number_of y.room) ≡ None → C (number_of y.room) ≡ None)
+      → HasOneFork B xs
       → HasOneFork C xs
   one_fork_same B C [] same has = tt
   one_fork_same B C (x ∷ xs) same has = elim has [
@@ -132,7 +133,8 @@ module _ {V : Type 0} where
   ]
 
   -- where no bit node comes into use there is at most one as before
-  pub spare_same : (B C : Bits) (t : Tree V) → ((y : Placed V) → IsIn y t → B (number_of y.room) ≡ None → C (number_of y.room) ≡ None) → HaveOneFork B t → HaveOneFork C t
+  pub spare_same : (B C : Bits) (t : Tree V) → ((y : Placed V) → IsIn y t → B (number_of y.room) ≡ None → C (number_of y.room) ≡ None) → HaveOneFork B t
+      → HaveOneFork C t
   spare_same B C (leaf x xs) same spare = one_fork_same B C (x ∷ xs) same spare
   spare_same B C (fork room b zero one) same spare = (
     spare_same B C zero (λ y at. same y (inl at)) spare.0,

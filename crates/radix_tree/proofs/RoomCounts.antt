@@ -53,7 +53,7 @@ module _ {V : Type 0} where
 
   uses_chain : (n : ℕ) (c : List (Placed V)) → uses n (numbers_in c) ≡ members_at n c
   uses_chain n [] = refl
-  uses_chain n (x ∷ c) = uses_cons n (number_of x.room) (numbers_in c) ∙ ap (λ u. one_if ((number_of x.room) == n) + u) (uses_chain n c)
+  uses_chain n (x ∷ c) = uses_cons n (number_of x.room) (numbers_in c) ∙ ap (λ u. one_if (number_of x.room == n) + u) (uses_chain n c)
 
   uses_tree : (n : ℕ) (t : Tree V) → uses n (numbers_of t) ≡ leaves_at n t
   uses_tree n (leaf x xs) = uses_chain n (x ∷ xs)

@@ -60,7 +60,8 @@ module _ {V : Type 0} where
       is h.room h.at ∙ ap (λ q. q.value) (inside (sym (ap leaf_in h.at) ∙ e))
 
   -- ---- as a bit node
-  bit_there : (m : Lodged V) (room : Id) (p : BitPart) (o : Option (Seen V)) → get m (number_of room) ≡ o → bit_in o ≡ Some p → p.block ≡ room.block → Has m room
+  bit_there : (m : Lodged V) (room : Id) (p : BitPart) (o : Option (Seen V)) → get m (number_of room) ≡ o → bit_in o ≡ Some p → p.block ≡ room.block
+      → Has m room
   bit_there m room p None at e block = absurd (none_some e)
   bit_there m room p (Some s) at e block = record { room = s; at = at; block = bit_block s.block (bit_node_of s.links) p e ∙ block }
 
@@ -110,7 +111,8 @@ module _ {V : Type 0} where
       → mask_part h.room.block (mask_node_of links) ≡ Some p
   mask_said p links h e are = ap (λ l. mask_part h.room.block (mask_node_of l)) (are h.room h.at) ∙ sym (ap mask_in h.at) ∙ e
 
-  pub mask_used : (m : Lodged V) (room : Id) (p : MaskPart) (links : Links) → masks_in m (number_of room) ≡ Some p → p.block ≡ room.block → AreLinks m room links
+  pub mask_used : (m : Lodged V) (room : Id) (p : MaskPart) (links : Links) → masks_in m (number_of room) ≡ Some p → p.block ≡ room.block
+      → AreLinks m room links
       → mask_node_of links ≡ None → ⊥
   mask_used m room p links e block are none =
       let h = Has-mask m room e block in

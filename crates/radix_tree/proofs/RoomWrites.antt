@@ -17,16 +17,16 @@ module _ {V : Type 0} where
     role : {A : Type 0} (f : Option (Seen V) → A) (new : Lodged V) (links : Links) → new ≡ put_links m room links → (n : ℕ)
         → f (get new n) ≡ (if n == (number_of room) then f (Some (seen room.block h.room.value links)) else f (get m n))
     role f new links is n = ap (λ k. f (get k n)) is ∙ ap f (get-put_links m room links h n)
-        ∙ through_if f (n == (number_of room)) (Some (seen room.block h.room.value links)) (get m n)
+        ∙ through_if f (n == number_of room) (Some (seen room.block h.room.value links)) (get m n)
 
-    there : (n : ℕ) → (n == (number_of room)) ≡ true → get m n ≡ Some h.room
+    there : (n : ℕ) → (n == number_of room) ≡ true → get m n ≡ Some h.room
     there n e = ap (get m) (eqb-true n (number_of room) e) ∙ h.at
 
     -- it stays where the new links say the same
     kept : {A : Type 0} (f : Option (Seen V) → A) (new : Lodged V) (links : Links) → new ≡ put_links m room links
         → f (Some (seen room.block h.room.value links)) ≡ f (Some h.room) → (n : ℕ) → f (get new n) ≡ f (get m n)
     kept f new links is same n = role f new links is n
-        ∙ elim (n == (number_of room)) as (λ t. (n == (number_of room)) ≡ t → (if t then f (Some (seen room.block h.room.value links)) else f (get m n)) ≡ f
+        ∙ elim (n == number_of room) as (λ t. (n == number_of room) ≡ t → (if t then f (Some (seen room.block h.room.value links)) else f (get m n)) ≡ f
         (get m n)) [
           | true ↦ λ e. same ∙ sym (ap f (there n e))
           | false ↦ λ e. refl
@@ -72,7 +72,7 @@ module _ {V : Type 0} where
   pub leaves_put : {m new : Lodged V} (room : Id) (links : Links) (leaf : Leaf) → Has m room → new ≡ put_links m room links → leaf_of links ≡ leaf
       → (n : ℕ) → leaves_in new n ≡ put_leaf room leaf n (leaves_in m n)
   unfolding part
-  leaves_put {m = m} {new = new} room links leaf h is said n = role h leaf_in new links is n ∙ elim (n == (number_of room)) as (λ t. (n == (number_of room)) ≡ t
+  leaves_put {m = m} {new = new} room links leaf h is said n = role h leaf_in new links is n ∙ elim (n == number_of room) as (λ t. (n == number_of room) ≡ t
       → (if t then Some (part room.block h.room.value (leaf_of links)) else leaf_in (get m n))
       ≡ (if t then with_leaf leaf (leaf_in (get m n)) else leaf_in (get m n))) [
         | true ↦ λ e. ap (λ b. Some (part b h.room.value (leaf_of links))) (sym h.block) ∙ ap (λ l. Some (part h.room.block h.room.value l)) said
@@ -84,13 +84,13 @@ module _ {V : Type 0} where
   lodged_role : {A : Type 0} (f : Option (Seen V) → A) (m : Lodged V) (room : Id) (value : V) (links : Links) (n : ℕ)
       → f (get (put_room m room value links) n) ≡ (if n == (number_of room) then f (Some (seen room.block value links)) else f (get m n))
   lodged_role f m room value links n =
-      ap f (get-put_room m room value links n) ∙ through_if f (n == (number_of room)) (Some (seen room.block value links)) (get m n)
+      ap f (get-put_room m room value links n) ∙ through_if f (n == number_of room) (Some (seen room.block value links)) (get m n)
 
   -- it says nothing new in a role in which its links say nothing
   lodged_kept : {A : Type 0} (f : Option (Seen V) → A) (m : Lodged V) (room : Id) (value : V) (links : Links) → get m (number_of room) ≡ None
       → f (Some (seen room.block value links)) ≡ f None → (n : ℕ) → f (get (put_room m room value links) n) ≡ f (get m n)
   lodged_kept f m room value links free same n = lodged_role f m room value links n
-      ∙ elim (n == (number_of room)) as (λ t. (n == (number_of room)) ≡ t → (if t then f (Some (seen room.block value links)) else f (get m n)) ≡ f (get m n)) [
+      ∙ elim (n == number_of room) as (λ t. (n == number_of room) ≡ t → (if t then f (Some (seen room.block value links)) else f (get m n)) ≡ f (get m n)) [
         | true ↦ λ e. same ∙ sym (ap f (ap (get m) (eqb-true n (number_of room) e) ∙ free))
         | false ↦ λ e. refl
       ] refl
@@ -110,7 +110,7 @@ module _ {V : Type 0} where
   pub lodged_leaves : (m new : Lodged V) (room : Id) (value : V) (links : Links) (leaf : Leaf)
       → ((n : ℕ) → leaves_in new n ≡ put_leaf room leaf n (leaves_in (put_room m room value links) n))
       → (n : ℕ) → leaves_in new n ≡ lodge_leaf room value leaf n (leaves_in m n)
-  lodged_leaves m new room value links leaf is n = is n ∙ elim (n == (number_of room)) as (λ t. leaves_in (put_room m room value links) n
+  lodged_leaves m new room value links leaf is n = is n ∙ elim (n == number_of room) as (λ t. leaves_in (put_room m room value links) n
       ≡ (if t then leaf_in (Some (seen room.block value links)) else leaf_in (get m n))
       → (if t then with_leaf leaf (leaves_in (put_room m room value links) n) else leaves_in (put_room m room value links) n)
       ≡ (if t then Some (record { block = room.block; value = value; leaf = leaf }) else leaves_in m n)) [

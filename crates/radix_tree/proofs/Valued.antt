@@ -44,21 +44,21 @@ module _ {V : Type 0} (n : ℕ) (value : V) where
       let right : leaves_at n one ≡ 0 = omega (arith, none) in
       ap (λ es. es ++ routes_of (tree_valued n value one)) (tree_aside zero left) ∙ ap (λ es. routes_of zero ++ es) (tree_aside one right)
 
-  counted_among : (x : Placed V) (c : List (Placed V)) → (number_of x.room) ≡ n → IsAmong x c → 1 ≤ members_at n c
+  counted_among : (x : Placed V) (c : List (Placed V)) → number_of x.room ≡ n → IsAmong x c → 1 ≤ members_at n c
   counted_among x [] is among = absurd among
   counted_among x (y ∷ c) is among = elim among [
     | inl e ↦ let here = ap one_if (eq-eqb (number_of y.room) n (ap (λ p. (number_of p.room)) e ∙ is)) in omega (arith, here)
     | inr rest ↦ let more = counted_among x c is rest in omega (arith, more)
   ]
 
-  counted_in : (x : Placed V) (t : Tree V) → (number_of x.room) ≡ n → IsIn x t → 1 ≤ leaves_at n t
+  counted_in : (x : Placed V) (t : Tree V) → number_of x.room ≡ n → IsIn x t → 1 ≤ leaves_at n t
   counted_in x (leaf y ys) is at = counted_among x (y ∷ ys) is at
   counted_in x (fork room b zero one) is at = elim at [
     | inl left ↦ let some = counted_in x zero is left in omega (arith, some)
     | inr right ↦ let some = counted_in x one is right in omega (arith, some)
   ]
 
-  chain_put : (x : Placed V) (c : List (Placed V)) → (number_of x.room) ≡ n → IsAmong x c → members_at n c ≤ 1
+  chain_put : (x : Placed V) (c : List (Placed V)) → number_of x.room ≡ n → IsAmong x c → members_at n c ≤ 1
       → IsPut x.entry (map_entries c) (map_entries (all_valued n value c))
   chain_put x [] is among once = absurd among
   chain_put x (y ∷ c) is among once = elim among [
@@ -83,7 +83,7 @@ module _ {V : Type 0} (n : ℕ) (value : V) where
         }
   ]
 
-  tree_put : (x : Placed V) (t : Tree V) → (number_of x.room) ≡ n → IsIn x t → leaves_at n t ≤ 1 → IsPut x.entry (routes_of t) (routes_of (tree_valued n value t))
+  tree_put : (x : Placed V) (t : Tree V) → number_of x.room ≡ n → IsIn x t → leaves_at n t ≤ 1 → IsPut x.entry (routes_of t) (routes_of (tree_valued n value t))
   tree_put x (leaf y ys) is at once = chain_put x (y ∷ ys) is at once
   tree_put x (fork room b zero one) is at once = elim at [
     | inl left ↦ let some = counted_in x zero is left in
@@ -162,7 +162,8 @@ module _ {V : Type 0} where
               let l = w.listed k p (sym (v.masks k) ∙ some) in
               (valued n value l.0, in_valued n value l.0 w.part.tree l.1, l.2,
               subst (λ T. T) (sym (home_is n value l.0.entry.key l.0.entry.rank w.part.tree)) l.3);
-          all = all_valued_in n value w.part.tree (λ x. IsMarked (masks_in new) x ⊎ (nobody_late (number_of x.room) ≡ true)) (λ x at home. elim (w.all x at home) [
+          all = all_valued_in n value w.part.tree (λ x. IsMarked (masks_in new) x ⊎ (nobody_late (number_of x.room) ≡ true))
+              (λ x at home. elim (w.all x at home) [
             | inl marked ↦ inl (ap is_some (v.masks (number_of x.room)) ∙ marked)
             | inr late ↦ inr late
           ]);
@@ -171,7 +172,7 @@ module _ {V : Type 0} where
     pub valued_whole : IsWhole new root
     valued_whole = (whole_and_shown).0
 
-    pub valued_shown : (x : Placed V) → (number_of x.room) ≡ n → IsIn x w.part.tree
+    pub valued_shown : (x : Placed V) → number_of x.room ≡ n → IsIn x w.part.tree
         → shown new (Some root) ≡ with_entry (record x.entry { value = value }) (shown m (Some root))
     valued_shown x is at =
         let once = (once_but w).leaves n in

@@ -8,7 +8,7 @@ use Rattle.radix_nodes.specs.Naming.{number_of}
 module _ {V : Type 0} (n : ℕ) (value : V) where
   -- ---- the routes with the value in room n
   abbrev pub valued : Placed V → Placed V
-  valued x = record { room = x.room; entry = record { key = x.entry.key; rank = x.entry.rank; value = if (number_of x.room) == n then value else x.entry.value } }
+  valued x = record { room = x.room; entry = record { key = x.entry.key; rank = x.entry.rank; value = if number_of x.room == n then value else x.entry.value } }
 
   abbrev pub all_valued : List (Placed V) → List (Placed V)
   all_valued [] = []

@@ -45,14 +45,14 @@ module _ {V : Type 0} where
     pub part : Part m
     pub room : Id
     pub at : ForkAt part room
-    pub number : (number_of room) ≡ n
+    pub number : number_of room ≡ n
     pub ups : List (Part m)
     pub way : Way key whole part ups
 
   -- a route beneath it
   abbrev HasOver : ℕ → Placed V → Tree V → Type 0
   HasOver n y (leaf x xs) = ⊥
-  HasOver n y (fork room b zero one) = (((number_of room) ≡ n) × IsIn y zero) ⊎ (HasOver n y zero ⊎ HasOver n y one)
+  HasOver n y (fork room b zero one) = ((number_of room ≡ n) × IsIn y zero) ⊎ (HasOver n y zero ⊎ HasOver n y one)
 
   over_in : (n : ℕ) (y : Placed V) (t : Tree V) → HasOver n y t → IsIn y t
   over_in n y (leaf x xs) o = absurd o
@@ -67,7 +67,7 @@ module _ {V : Type 0} where
 
   some_over : (n : ℕ) (t : Tree V) → 1 ≤ forks_at n t → (y : Placed V) × HasOver n y t
   some_over n (leaf x xs) some = absurd (omega arith)
-  some_over n (fork room b zero one) some = elim ((number_of room) == n) as (λ t. ((number_of room) == n) ≡ t → 1 ≤ one_if t + (forks_at n zero + forks_at n one)
+  some_over n (fork room b zero one) some = elim (number_of room == n) as (λ t. (number_of room == n) ≡ t → 1 ≤ one_if t + (forks_at n zero + forks_at n one)
       → (y : Placed V) × HasOver n y (fork room b zero one)) [
         | true ↦ λ e sum. let y = some_route zero in (y.0, inl (eqb-true (number_of room) n e, y.1))
         | false ↦ λ e sum. elim (one_of (forks_at n zero) (forks_at n one) (omega arith)) [

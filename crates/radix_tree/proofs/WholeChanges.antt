@@ -119,7 +119,7 @@ module _ {V : Type 0} where
 
     -- a mask that is listed is that of a route with a home
     listed_now : {later : ℕ → Bool} {outs : ℕ → ℕ} → Fits m new w.part at under late later out outs → (n : ℕ) (p : MaskPart) → masks_in new n ≡ Some p
-        → (x : Placed V) → IsIn x w.part.tree → (number_of x.room) ≡ n → HasHome x.entry.key x.entry.rank w.part.tree
+        → (x : Placed V) → IsIn x w.part.tree → number_of x.room ≡ n → HasHome x.entry.key x.entry.rank w.part.tree
         → IsIn x e.part.tree × HasHome x.entry.key x.entry.rank e.part.tree
     listed_now f n p said x is number home =
         let marked = ap is_some (ap (masks_in new) number ∙ said) in
@@ -142,7 +142,7 @@ module _ {V : Type 0} where
         ]
 
     listed_changed : {later : ℕ → Bool} {outs : ℕ → ℕ} → Fits m new w.part at under late later out outs → (n : ℕ) (p : MaskPart) → masks_in new n ≡ Some p
-        → (x : Placed V) × IsIn x e.part.tree × ((number_of x.room) ≡ n) × HasHome x.entry.key x.entry.rank e.part.tree
+        → (x : Placed V) × IsIn x e.part.tree × (number_of x.room ≡ n) × HasHome x.entry.key x.entry.rank e.part.tree
     listed_changed f n p said =
         let before = f.marks n p said in
         let x = w.listed n before.0 before.1 in

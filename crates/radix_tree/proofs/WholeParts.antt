@@ -65,7 +65,8 @@ module _ {V : Type 0} where
     -- outside of the part, and for masks that are listed above it, the lists stay
     pub heads : (n : ℕ) → forks_at n at.tree ≡ 0 → 1 ≤ forks_at n whole.tree → heads_in new n ≡ heads_in m n
     pub masks : (n : ℕ) → leaves_at n at.tree ≡ 0 → 1 ≤ leaves_at n whole.tree → masks_in new n ≡ masks_in m n
-    pub masks_above : (y : Placed V) → IsIn y at.tree → y.entry.rank < at.low → IsMarked (masks_in m) y → masks_in new (number_of y.room) ≡ masks_in m (number_of y.room)
+    pub masks_above : (y : Placed V) → IsIn y at.tree → y.entry.rank < at.low → IsMarked (masks_in m) y
+        → masks_in new (number_of y.room) ≡ masks_in m (number_of y.room)
     -- no mask is listed that wasn't; a route that goes has none, and one whose mask is listed keeps a home
     pub marks : (n : ℕ) (p : MaskPart) → masks_in new n ≡ Some p → (q : MaskPart) × (masks_in m n ≡ Some q)
     pub kept : (y : Placed V) → IsIn y at.tree → IsMarked (masks_in new) y → IsIn y under.tree

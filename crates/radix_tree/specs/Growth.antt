@@ -107,8 +107,8 @@ module _ {V : Type 0} where
     pub no_bit : bits_in m (number_of room) ≡ None
     pub leaf : leaves_in new (number_of room) ≡ Some (leaf_part (placed room e) (Some room) None None)
     pub bit_node : bits_in new (number_of room) ≡ Some node
-    pub leaves : (n : ℕ) → (n ≡ (number_of room) → ⊥) → leaves_in new n ≡ leaves_in m n
-    pub bits : (n : ℕ) → (n ≡ (number_of room) → ⊥) → bits_in new n ≡ bits_in m n
+    pub leaves : (n : ℕ) → (n ≡ number_of room → ⊥) → leaves_in new n ≡ leaves_in m n
+    pub bits : (n : ℕ) → (n ≡ number_of room → ⊥) → bits_in new n ≡ bits_in m n
 
   -- what the rooms say once this route stands in a room of its own, beneath a new bit node in that room, which came
   -- between the bit node above a place and the node beneath it
@@ -118,8 +118,8 @@ module _ {V : Type 0} where
     pub no_bit : bits_in m (number_of x.room) ≡ None
     pub leaf : leaves_in new (number_of x.room) ≡ Some (leaf_part x (Some x.room) None None)
     pub bit_node : bits_in new (number_of x.room) ≡ Some (forked x.entry.key bit x.room below above)
-    pub leaves : (n : ℕ) → (n ≡ (number_of x.room) → ⊥) → leaves_in new n ≡ lift_leaf below (Some x.room) n (leaves_in m n)
-    pub bits : (n : ℕ) → (n ≡ (number_of x.room) → ⊥)
+    pub leaves : (n : ℕ) → (n ≡ number_of x.room → ⊥) → leaves_in new n ≡ lift_leaf below (Some x.room) n (leaves_in m n)
+    pub bits : (n : ℕ) → (n ≡ number_of x.room → ⊥)
         → bits_in new n ≡ lift_bit below (Some x.room) n (name_child above x.entry.key (BitOf x.room) n (bits_in m n))
 
   -- a key that no route has: the leaf to which its bits lead, and the first bit at which it differs from that leaf's

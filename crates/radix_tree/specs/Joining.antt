@@ -22,8 +22,8 @@ module _ {V : Type 0} where
 
   -- no bit node of the tree is in this room, nor in that of the bit node above it
   pub record IsApart (t : Tree V) (up : Id) (above : Option Id) : Type 0 where
-    pub up_is : (n : ℕ) → 1 ≤ forks_at n t → n ≡ (number_of up) → ⊥
-    pub above_is : (over : Id) → above ≡ Some over → (n : ℕ) → 1 ≤ forks_at n t → n ≡ (number_of over) → ⊥
+    pub up_is : (n : ℕ) → 1 ≤ forks_at n t → n ≡ number_of up → ⊥
+    pub above_is : (over : Id) → above ≡ Some over → (n : ℕ) → 1 ≤ forks_at n t → n ≡ number_of over → ⊥
 
   -- a room's route is alone at its leaf, and beneath a bit node
   abbrev pub IsLonely : Lodged V → Id → Type 0
@@ -47,7 +47,7 @@ module _ {V : Type 0} where
   -- rank any more, which are not listed
   pub record IsHanded (m new : Lodged V) (low : ℕ) (t other : Tree V) : Type 0 where
     pub heads : (n : ℕ) → forks_at n t ≡ 0 → heads_in new n ≡ heads_in m n
-    pub masks : (n : ℕ) → ((y : Placed V) → IsIn y t → low ≤ y.entry.rank → (number_of y.room) ≡ n → ⊥)
+    pub masks : (n : ℕ) → ((y : Placed V) → IsIn y t → low ≤ y.entry.rank → number_of y.room ≡ n → ⊥)
         → masks_in new n ≡ masks_in m n
     pub marks : (n : ℕ) (p : MaskPart) → masks_in new n ≡ Some p → (q : MaskPart) × (masks_in m n ≡ Some q)
     pub kept : (y : Placed V) → IsIn y other → IsMarked (masks_in new) y → HasHome y.entry.key y.entry.rank t

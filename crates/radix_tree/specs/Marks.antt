@@ -10,7 +10,7 @@ module _ {V : Type 0} where
   -- where masks of some routes were late, that of the route in this room is not any more
   abbrev pub ListsMaskOf : Lodged V → Lodged V → Id → Type 0
   ListsMaskOf old new room = (root : Node) (late : ℕ → Bool) → IsWholeBut old root late nobody_out
-      → IsWholeBut new root (λ n. late n && not (n == (number_of room))) nobody_out
+      → IsWholeBut new root (λ n. late n && not (n == number_of room)) nobody_out
 
   -- the room has a route of this key
   abbrev pub is_of_key : ℕ → Option (LeafPart V) → Bool

@@ -57,7 +57,7 @@ module _ {V : Type 0} where
 
   -- no member's room has this number
   abbrev pub IsAside : ℕ → List (Placed V) → Type 0
-  IsAside n ms = (y : Placed V) → IsAmong y ms → (number_of y.room) ≡ n → ⊥
+  IsAside n ms = (y : Placed V) → IsAmong y ms → number_of y.room ≡ n → ⊥
 
   -- no member has this rank
   abbrev pub IsNoRank : ℕ → List (Placed V) → Type 0
@@ -93,11 +93,11 @@ module _ {V : Type 0} where
 
   abbrev pub KeepsAsideBut : Lodged V → Lodged V → Id → Id → Type 0
   KeepsAsideBut old new fork room = (ms : List (Placed V)) → MasksAt old fork ms
-      → (n : ℕ) → (n ≡ (number_of room) → ⊥) → IsAside n ms → masks_in new n ≡ masks_in old n
+      → (n : ℕ) → (n ≡ number_of room → ⊥) → IsAside n ms → masks_in new n ≡ masks_in old n
 
   -- the rooms whose masks are listed stay, but for one room
   abbrev pub KeepsMarksBut : Lodged V → Lodged V → Id → Type 0
-  KeepsMarksBut old new room = (n : ℕ) → (n ≡ (number_of room) → ⊥)
+  KeepsMarksBut old new room = (n : ℕ) → (n ≡ number_of room → ⊥)
       → is_some (masks_in new n) ≡ is_some (masks_in old n)
 
   -- the room is a bit node in use

@@ -68,7 +68,7 @@ module _ {V : Type 0} where
   pub record CanTake (m : Lodged V) (from to : Id) : Type 0 where
     pub free : bits_in m (number_of to) ≡ None
     pub idle : (p : LeafPart V) → leaves_in m (number_of to) ≡ Some p
-        → (n : ℕ) → has_key m p.leaf.key n ≡ true → (n ≡ (number_of from) → ⊥) → bits_in m n ≡ None
+        → (n : ℕ) → has_key m p.leaf.key n ≡ true → (n ≡ number_of from → ⊥) → bits_in m n ≡ None
 
   -- the bit nodes beneath a bit node are in the map
   abbrev pub HasNodesBeneath : Lodged V → Id → Type 0

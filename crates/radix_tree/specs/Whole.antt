@@ -54,7 +54,7 @@ module _ {V : Type 0} where
   -- how many leaves and how many bit nodes of a tree are in the room of a number
   abbrev pub members_at : ℕ → List (Placed V) → ℕ
   members_at n [] = 0
-  members_at n (x ∷ xs) = one_if ((number_of x.room) == n) + members_at n xs
+  members_at n (x ∷ xs) = one_if (number_of x.room == n) + members_at n xs
 
   abbrev pub leaves_at : ℕ → Tree V → ℕ
   leaves_at n (leaf x xs) = members_at n (x ∷ xs)
@@ -62,7 +62,7 @@ module _ {V : Type 0} where
 
   abbrev pub forks_at : ℕ → Tree V → ℕ
   forks_at n (leaf x xs) = 0
-  forks_at n (fork room b left right) = one_if ((number_of room) == n) + (forks_at n left + forks_at n right)
+  forks_at n (fork room b left right) = one_if (number_of room == n) + (forks_at n left + forks_at n right)
 
   -- on the way of a key there is a bit node whose bit is at or past a rank
   abbrev pub HasHome : ℕ → ℕ → Tree V → Type 0
@@ -96,7 +96,7 @@ module _ {V : Type 0} where
     pub spare : HaveOneFork (bits_in m) part.tree
     pub lists : MarkedLists (heads_in m) (masks_in m) part.low part.tree
     pub listed : (n : ℕ) (p : MaskPart) → masks_in m n ≡ Some p
-        → (x : Placed V) × IsIn x part.tree × ((number_of x.room) ≡ n) × HasHome x.entry.key x.entry.rank part.tree
+        → (x : Placed V) × IsIn x part.tree × (number_of x.room ≡ n) × HasHome x.entry.key x.entry.rank part.tree
     pub all : (x : Placed V) → IsIn x part.tree → HasHome x.entry.key x.entry.rank part.tree
         → IsMarked (masks_in m) x ⊎ (late (number_of x.room) ≡ true)
 

@@ -204,10 +204,10 @@ pub(crate) fn remove_from_chain<V>(
     ensures masks { KeepsMasks nodes.old.lodged nodes.new.lodged }
     ensures idle { (p : LeafPart V) (b : BitPart) → leaves_in nodes.old.lodged (number_of at) ≡ Some p
         → bits_in nodes.new.lodged (number_of at) ≡ Some b → (n : ℕ) → has_key nodes.new.lodged p.leaf.key n ≡ true
-        → (n ≡ (number_of at) → ⊥) → bits_in nodes.new.lodged n ≡ None }
+        → (n ≡ number_of at → ⊥) → bits_in nodes.new.lodged n ≡ None }
     ensures neighbours { (p : LeafPart V) (to : Id) → leaves_in nodes.old.lodged (number_of at) ≡ Some p
         → (p.leaf.next ≡ Some to) ⊎ (p.leaf.previous ≡ Some to)
-        → Has nodes.new.lodged to × ((number_of to) ≡ (number_of at) → ⊥)
+        → Has nodes.new.lodged to × (number_of to ≡ number_of at → ⊥)
         × (has_key nodes.new.lodged p.leaf.key (number_of to) ≡ true) }
     ensures stays { Stays nodes.old nodes.new visits.old visits.new }
 {

@@ -83,7 +83,7 @@ fn lodge_forked<V>(
     requires spare { IsSpare nodes.old room }
     requires bit { spot.bit ≤ last_bit }
     requires turn { visits.old.turn ≡ nodes.old.turn }
-    ensures number { (number_of result) ≡ room }
+    ensures number { number_of result ≡ room }
     ensures lodged { IsLodged nodes.old.lodged nodes.new.lodged result entry
         (forked entry.key spot.bit result spot.below spot.above) }
     ensures heads { (n : ℕ) → heads_in nodes.new.lodged n ≡ with_head result masks n (heads_in nodes.old.lodged n) }
@@ -124,7 +124,7 @@ pub(crate) fn add_beside<V>(
     requires route { IsRoute entry }
     requires spot { (p : Part nodes.old.lodged) × IsSpot nodes.old.lodged entry.key spot.bit p spot.above spot.below }
     requires turn { visits.old.turn ≡ nodes.old.turn }
-    ensures number { (number_of result.1) ≡ room }
+    ensures number { number_of result.1 ≡ room }
     ensures beside { IsBeside nodes.old.lodged nodes.new.lodged spot.bit (placed result.1 entry) spot.above spot.below }
     ensures exchanged { (p : Part nodes.old.lodged)
         (s : IsSpot nodes.old.lodged entry.key spot.bit p spot.above spot.below) → name_of p.tree ≡ root
@@ -158,7 +158,7 @@ pub(crate) fn insert_beside<V>(
     requires route { IsRoute entry }
     requires new { DiffersAt nodes.old.lodged root entry.key leaf bit }
     requires turn { visits.old.turn ≡ nodes.old.turn }
-    ensures number { (number_of result.1) ≡ room }
+    ensures number { number_of result.1 ≡ room }
     ensures whole { (w : IsWhole nodes.old.lodged root) (d : LedTo entry.key w.part leaf)
         → Differs entry.key d.leaf.first.entry.key bit → IsWholeBut nodes.new.lodged result.0
         (λ n. (n == room) || has_key nodes.old.lodged d.leaf.first.entry.key n) nobody_out }

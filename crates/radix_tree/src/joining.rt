@@ -94,7 +94,7 @@ pub(crate) fn remove_lone<V>(
     ensures there { Has nodes.new.lodged result.1 }
     ensures free { bits_in nodes.new.lodged (number_of result.1) ≡ None }
     ensures idle { (p : LeafPart V) → leaves_in nodes.new.lodged (number_of result.1) ≡ Some p → (n : ℕ)
-        → has_key nodes.new.lodged p.leaf.key n ≡ true → (n ≡ (number_of at) → ⊥) → bits_in nodes.new.lodged n ≡ None }
+        → has_key nodes.new.lodged p.leaf.key n ≡ true → (n ≡ number_of at → ⊥) → bits_in nodes.new.lodged n ≡ None }
     ensures stays { Stays nodes.old nodes.new visits.old visits.new }
 {
     let leaf = nodes.links(at, visits).leaf();

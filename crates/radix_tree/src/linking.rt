@@ -77,7 +77,7 @@ pub(crate) fn lodge_leaf<V>(
 ) -> Id
     requires spare { IsSpare nodes.old room }
     requires turn { visits.old.turn ≡ nodes.old.turn }
-    ensures number { (number_of result) ≡ room }
+    ensures number { number_of result ≡ room }
     ensures leaves { (n : ℕ) → leaves_in nodes.new.lodged n
         ≡ leaf_lodged result value leaf n (leaves_in nodes.old.lodged n) }
     ensures only { OnlyLeaves nodes.old.lodged nodes.new.lodged }

@@ -106,7 +106,7 @@ pub(crate) fn sort_in<V>(nodes: &mut Nodes<V>, fork: Id, room: Id, visits: &mut 
     requires turn { visits.old.turn ≡ nodes.old.turn }
     ensures list { (ms : List (Placed V)) (f : IsFree nodes.old.lodged room) → MasksAt nodes.old.lodged fork ms
         → IsNoRank f.is.entry.rank ms → MasksAt nodes.new.lodged fork (sorted_in f.is ms) }
-    ensures heads { (n : ℕ) → (n ≡ (number_of fork) → ⊥) → heads_in nodes.new.lodged n ≡ heads_in nodes.old.lodged n }
+    ensures heads { (n : ℕ) → (n ≡ number_of fork → ⊥) → heads_in nodes.new.lodged n ≡ heads_in nodes.old.lodged n }
     ensures masks { KeepsAsideBut nodes.old.lodged nodes.new.lodged fork room }
     ensures marked { is_some (masks_in nodes.new.lodged (number_of room)) ≡ true }
     ensures marks { KeepsMarksBut nodes.old.lodged nodes.new.lodged room }
@@ -128,7 +128,7 @@ pub(crate) fn sort_out<V>(nodes: &mut Nodes<V>, fork: Id, room: Id, visits: &mut
     requires turn { visits.old.turn ≡ nodes.old.turn }
     ensures list { (ms : List (Placed V)) (x : Placed V) → MasksAt nodes.old.lodged fork ms → IsAmong x ms
         → x.room ≡ room → MasksAt nodes.new.lodged fork (taken_out x.entry.rank ms) }
-    ensures heads { (n : ℕ) → (n ≡ (number_of fork) → ⊥) → heads_in nodes.new.lodged n ≡ heads_in nodes.old.lodged n }
+    ensures heads { (n : ℕ) → (n ≡ number_of fork → ⊥) → heads_in nodes.new.lodged n ≡ heads_in nodes.old.lodged n }
     ensures masks { KeepsAsideBut nodes.old.lodged nodes.new.lodged fork room }
     ensures unmarked { masks_in nodes.new.lodged (number_of room) ≡ None }
     ensures marks { KeepsMarksBut nodes.old.lodged nodes.new.lodged room }
@@ -153,7 +153,7 @@ fn cut_list<V>(nodes: &mut Nodes<V>, fork: Id, bit: u8, visits: &mut Visits) -> 
         → MasksAt nodes.new.lodged fork (past_bit bit ms) }
     ensures others { (ms : List (Placed V)) → MasksAt nodes.old.lodged fork ms
         → IsMasks nodes.new.lodged result (up_to_bit bit ms) }
-    ensures heads { (n : ℕ) → (n ≡ (number_of fork) → ⊥) → heads_in nodes.new.lodged n ≡ heads_in nodes.old.lodged n }
+    ensures heads { (n : ℕ) → (n ≡ number_of fork → ⊥) → heads_in nodes.new.lodged n ≡ heads_in nodes.old.lodged n }
     ensures masks { KeepsAside nodes.old.lodged nodes.new.lodged fork }
     ensures marks { (n : ℕ) → is_some (masks_in nodes.new.lodged n) ≡ is_some (masks_in nodes.old.lodged n) }
     ensures tree { KeepsTree nodes.old.lodged nodes.new.lodged }
@@ -177,7 +177,7 @@ pub(crate) fn cut<V>(nodes: &mut Nodes<V>, at: Node, bit: u8, visits: &mut Visit
     ensures others { (fork : Id) (ms : List (Placed V)) → at ≡ BitOf fork → MasksAt nodes.old.lodged fork ms
         → IsMasks nodes.new.lodged result (up_to_bit bit ms) }
     ensures leaf { (room : Id) → at ≡ LeafOf room → (result ≡ None) × (nodes.new ≡ nodes.old) }
-    ensures heads { (n : ℕ) → ((fork : Id) → at ≡ BitOf fork → n ≡ (number_of fork) → ⊥)
+    ensures heads { (n : ℕ) → ((fork : Id) → at ≡ BitOf fork → n ≡ number_of fork → ⊥)
         → heads_in nodes.new.lodged n ≡ heads_in nodes.old.lodged n }
     ensures masks { (fork : Id) → at ≡ BitOf fork → KeepsAside nodes.old.lodged nodes.new.lodged fork }
     ensures marks { (n : ℕ) → is_some (masks_in nodes.new.lodged n) ≡ is_some (masks_in nodes.old.lodged n) }
@@ -198,7 +198,7 @@ pub(crate) fn append<V>(nodes: &mut Nodes<V>, fork: Id, tail: Option<Id>, visits
     requires turn { visits.old.turn ≡ nodes.old.turn }
     ensures list { (ms ts : List (Placed V)) → MasksAt nodes.old.lodged fork ms → IsMasks nodes.old.lodged tail ts
         → Falls 0 ranks (ms ++ ts) → MasksAt nodes.new.lodged fork (ms ++ ts) }
-    ensures heads { (n : ℕ) → (n ≡ (number_of fork) → ⊥) → heads_in nodes.new.lodged n ≡ heads_in nodes.old.lodged n }
+    ensures heads { (n : ℕ) → (n ≡ number_of fork → ⊥) → heads_in nodes.new.lodged n ≡ heads_in nodes.old.lodged n }
     ensures masks { KeepsAside nodes.old.lodged nodes.new.lodged fork }
     ensures marks { (n : ℕ) → is_some (masks_in nodes.new.lodged n) ≡ is_some (masks_in nodes.old.lodged n) }
     ensures tree { KeepsTree nodes.old.lodged nodes.new.lodged }

@@ -65,7 +65,7 @@ pub(crate) fn remove_route<V>(
     ensures whole { Holds nodes.new.lodged result.0 }
     ensures routes { LosesRoute nodes.old.lodged nodes.new.lodged at root result.0 }
     ensures value { (p : LeafPart V) → leaves_in nodes.old.lodged (number_of at) ≡ Some p → result.2 ≡ p.value }
-    ensures number { result.1 ≡ (number_of at) }
+    ensures number { result.1 ≡ number_of at }
     ensures rooms { HasRoomMore nodes.new.lodged nodes.old.lodged (number_of at) }
     ensures gone { get nodes.new.lodged (number_of at) ≡ None }
     ensures stays { Stays nodes.old nodes.new visits.old visits.new }

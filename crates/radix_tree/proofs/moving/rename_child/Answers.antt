@@ -13,14 +13,16 @@ renamed-one-requires-clause-there g c room is = subst (λ r. Has r.lodged room) 
     (c.requires.beneath c.in-Some.up c.in-Some.is _ c.bit_node-node.ensures.node.said room (inr is))
 
 pub put_bit_node-requires-clause-there : goal.put_bit_node-requires-clause-there
-put_bit_node-requires-clause-there g c = 
+put_bit_node-requires-clause-there g c =
     let u = c.requires.used c.in-Some.up c.in-Some.is in
-    subst (λ r. Has r.lodged c.in-Some.up) (sym (c.renamed-one.ensures.stays ∙ c.renamed-zero.ensures.stays)) (Has-bit c.args.nodes.now.lodged c.in-Some.up u.said u.block)
+    subst (λ r. Has r.lodged c.in-Some.up) (sym (c.renamed-one.ensures.stays ∙ c.renamed-zero.ensures.stays))
+    (Has-bit c.args.nodes.now.lodged c.in-Some.up u.said u.block)
 
 pub returns-clause-bits : goal.returns-clause-bits
 returns-clause-bits g c n =
     let node : BitNode = record c.bit_node-node.result { zero = c.renamed-zero.result; one = c.renamed-one.result } in
-    c.put_bit_node.ensures.bits n ∙ ap (λ r. put_bit c.in-Some.up (Some node) n (bits_in r.lodged n)) (c.renamed-one.ensures.stays ∙ c.renamed-zero.ensures.stays)
+    c.put_bit_node.ensures.bits n ∙ ap (λ r. put_bit c.in-Some.up (Some node) n (bits_in r.lodged n))
+    (c.renamed-one.ensures.stays ∙ c.renamed-zero.ensures.stays)
     ∙ node_changed c.args.nodes.now.lodged node (with_renamed c.args.from c.args.to) n
     c.bit_node-node.ensures.node (rw (c.renamed-zero.ensures.node, c.renamed-one.ensures.node) refl)
     ∙ ap (λ o. rename o c.args.from c.args.to n (bits_in c.args.nodes.now.lodged n)) (sym c.in-Some.is)

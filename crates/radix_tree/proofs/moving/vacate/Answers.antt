@@ -51,7 +51,8 @@ rename_child-requires-clause-used g c up is = over_used (move g (goal.at.rename_
     ∙ ap (put_bit c.args.from None k) (c.lift-2.ensures.bits k ∙ ap (lift_bit c.in-Some.node.one (Some c.args.to) k) (c.lift.ensures.bits k))))
 
 pub rename_child-requires-clause-from : goal.rename_child-requires-clause-from
-rename_child-requires-clause-from g c = Has_kept c.put_bit_node-2.new.nodes.lodged (lifted_stay c.args.nodes.now.lodged c.put_bit_node-2.new.nodes.lodged c.args.to c.in-Some.node
+rename_child-requires-clause-from g c = Has_kept c.put_bit_node-2.new.nodes.lodged
+    (lifted_stay c.args.nodes.now.lodged c.put_bit_node-2.new.nodes.lodged c.args.to c.in-Some.node
     (λ k. c.put_bit_node-2.ensures.leaves k ∙ c.put_bit_node.ensures.leaves k ∙ c.lift-2.ensures.leaves k
     ∙ ap (lift_leaf c.in-Some.node.one (Some c.args.to) k) (c.lift.ensures.leaves k)) (number_of c.args.from)) c.requires.from
 
@@ -59,7 +60,8 @@ pub rename_child-requires-clause-beneath : goal.rename_child-requires-clause-ben
 rename_child-requires-clause-beneath g c up is = beneath_there (move g (goal.at.rename_child-requires-clause-beneath g c).In-Some) up is
     (λ k. c.put_bit_node-2.ensures.bits k ∙ ap (put_bit c.args.to (Some c.in-Some.node) k) (c.put_bit_node.ensures.bits k
     ∙ ap (put_bit c.args.from None k) (c.lift-2.ensures.bits k ∙ ap (lift_bit c.in-Some.node.one (Some c.args.to) k) (c.lift.ensures.bits k))))
-    (lifted_stay c.args.nodes.now.lodged c.put_bit_node-2.new.nodes.lodged c.args.to c.in-Some.node (λ k. c.put_bit_node-2.ensures.leaves k ∙ c.put_bit_node.ensures.leaves k ∙ c.lift-2.ensures.leaves k
+    (lifted_stay c.args.nodes.now.lodged c.put_bit_node-2.new.nodes.lodged c.args.to c.in-Some.node
+    (λ k. c.put_bit_node-2.ensures.leaves k ∙ c.put_bit_node.ensures.leaves k ∙ c.lift-2.ensures.leaves k
     ∙ ap (lift_leaf c.in-Some.node.one (Some c.args.to) k) (c.lift.ensures.leaves k)))
 
 pub returns-clause-whole : goal.returns-clause-whole

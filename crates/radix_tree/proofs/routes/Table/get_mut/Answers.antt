@@ -1,6 +1,7 @@
 use Rattle.std.proofs.Common.{rules}
 use Rattle.radix_tree.proofs.{Counted.not_held, Valued.put_valued, Valued.valued_whole, Valued.lent_shown, Valued.lent_counted, Valued.lent_given}
-use Rattle.radix_tree.proofs.{Kept.Has-found, Kept.IsFound, Kept.found, Kept.not_found, Kept.value_found, Kept.whole_next, Kept.entries_next, Kept.shown_begun, Kept.given_begun}
+use Rattle.radix_tree.proofs.{Kept.Has-found, Kept.IsFound, Kept.found, Kept.not_found, Kept.value_found, Kept.whole_next, Kept.entries_next}
+use Rattle.radix_tree.proofs.{Kept.shown_begun, Kept.given_begun}
 use Rattle.radix_tree.proofs.{routes.Table.get_mut.Goals.In-Some-room_of}
 use Rattle.radix_tree.proofs.Words.{◌≡◌, ◌+◌, ◌≤◌, ℕ, List, Option, refl, sym, ap, subst, ◌∙◌, inl, inr, option_map, Rooms, put_value, Node, contents}
 use Rattle.radix_tree.proofs.Words.{IsKept, AreCounted, with_value, Contents, entry_at, with_entry, shown, Entry}
@@ -10,14 +11,16 @@ use Rattle.radix_tree.proofs.routes.Table.get_mut.Goals as goal
 only_begun : {V : Type 0} (old : Rooms V) {new : Rooms V} (root : Option Node) (given : List (ℕ × ℕ)) (last : ℕ) {table : Contents V}
     → contents old root given last ≡ table → new ≡ record old { turn = old.turn + 1 }
     → contents new root given last ≡ record table { turn = table.turn + 1 }
-only_begun {V} old root given last is began = ap (λ (r : Rooms V). contents r root given last) began ∙ ap (λ (t : Contents V). record t { turn = t.turn + 1 }) is
+only_begun {V} old root given last is began = ap (λ (r : Rooms V). contents r root given last) began
+    ∙ ap (λ (t : Contents V). record t { turn = t.turn + 1 }) is
 
 pub returns-then-not-has : goal.returns-then-not-has
 returns-then-not-has g c =
     let fits : c.args.rank ≤ 33 = search rules in
     let none = ap (λ t. entry_at c.args.key c.args.rank t.entries) (sym c.self.view_is)
     ∙ not_held c.self.inside.counts _ c.args.key c.args.rank c.self.invariant.counted fits c.has.ensures.1 c.if-not-has.true in
-    (ap inr (only_begun c.self.inside.nodes c.self.inside.root c.self.inside.given c.self.inside.numbers c.self.view_is c.begin-visits.ensures.turn), record { writes = tt; value = rw none refl })
+    (ap inr (only_begun c.self.inside.nodes c.self.inside.root c.self.inside.given c.self.inside.numbers c.self.view_is c.begin-visits.ensures.turn),
+    record { writes = tt; value = rw none refl })
 
 pub room_of-requires-clause-tree : goal.room_of-requires-clause-tree
 room_of-requires-clause-tree g c =
@@ -29,7 +32,8 @@ returns-in_default-room_of g c =
     let none = ap (entry_at c.args.key c.args.rank)
     (sym (entries_next c.self.inside.nodes c.begin-visits.new.self _ c.self.view_is c.in-Some.is c.begin-visits.ensures.turn))
     ∙ not_found w c.args.key c.args.rank c.in_default-room_of.is (c.room_of.ensures.found w.part w.named) in
-    (ap inr (only_begun c.self.inside.nodes c.self.inside.root c.self.inside.given c.self.inside.numbers c.self.view_is c.begin-visits.ensures.turn), record { writes = tt; value = rw none refl })
+    (ap inr (only_begun c.self.inside.nodes c.self.inside.root c.self.inside.given c.self.inside.numbers c.self.view_is c.begin-visits.ensures.turn),
+    record { writes = tt; value = rw none refl })
 
 -- the room that was found
 is_found : (g : _) (c : In-Some-room_of g) → IsFound c.begin-visits.new.self.lodged c.in-Some.root c.args.key c.args.rank c.in-Some-room_of.room

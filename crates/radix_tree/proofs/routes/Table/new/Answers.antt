@@ -6,7 +6,8 @@ use Rattle.radix_tree.proofs.routes.Table.new.Goals as goal
 
 pub invariant_of-result : goal.invariant_of-result
 invariant_of-result g c =
-    let none : (n : ℕ) → leaves_in c.new.result.lodged n ≡ None = λ n. ap (λ r. leaves_in r.lodged n) c.new.ensures ∙ ap leaf_in (get-empty nat_cmp n) in record {
+    let none : (n : ℕ) → leaves_in c.new.result.lodged n ≡ None = λ n. ap (λ r. leaves_in r.lodged n) c.new.ensures
+    ∙ ap leaf_in (get-empty nat_cmp n) in record {
       holds = none;
       counted = counted_none g.row.V.Denot _ c.new-2.ensures;
       numbered = given_none c.new.result.lodged none c.new-4.ensures c.new-3.ensures;

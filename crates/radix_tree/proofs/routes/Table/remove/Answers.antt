@@ -1,5 +1,6 @@
 use Rattle.std.proofs.Common.{rules}
-use Rattle.radix_tree.proofs.{Counted.not_held, Counted.counted_less, GivenNumbers.given_less, GivenNumbers.one_there, GivenNumbers.went, TableLemmas.without_absent, Gained.lost, Kept.Has-found}
+use Rattle.radix_tree.proofs.{Counted.not_held, Counted.counted_less, GivenNumbers.given_less, GivenNumbers.one_there, GivenNumbers.went}
+use Rattle.radix_tree.proofs.{TableLemmas.without_absent, Gained.lost, Kept.Has-found}
 use Rattle.radix_tree.proofs.{Kept.IsFound, Kept.found, Kept.not_found, Kept.whole_next, Kept.shown_next, Kept.entries_next, Kept.shown_begun, Kept.given_begun}
 use Rattle.radix_tree.proofs.Words.{◌≡◌, ◌+◌, ◌≤◌, ◌==◌, if◌then◌else◌, Some, None, refl, sym, ap, subst, ◌∙◌, option_map, leaf_in, HasOneMore, IsKept}
 use Rattle.radix_tree.proofs.Words.{AreCounted, entry_at, uses, without, shown}
@@ -64,8 +65,8 @@ invariant_of-self-2 g c =
     let before = shown_begun c.self.inside.nodes c.begin-visits.new.self c.in-Some.is c.begin-visits.ensures.turn in
     let counted = subst (AreCounted c.self.inside.counts) (sym before) c.self.invariant.counted in
     let numbered = given_less c.begin-visits.new.self.lodged c.remove_route-root.new.nodes.lodged (number_of c.in-Some-room_of.at)
-        (given_begun c.self.inside.nodes c.begin-visits.new.self c.begin-visits.ensures.turn c.self.invariant.numbered)
-        (ap leaf_in c.remove_route-root.ensures.gone) c.remove_route-root.ensures.rooms in
+    (given_begun c.self.inside.nodes c.begin-visits.new.self c.begin-visits.ensures.turn c.self.invariant.numbered)
+    (ap leaf_in c.remove_route-root.ensures.gone) c.remove_route-root.ensures.rooms in
     subst (λ r. IsKept r c.remove_route-root.result.0 c.dropped.new.self c.take.new.self c.self.inside.numbers) (sym c.scrap.ensures) (record {
       holds = c.remove_route-root.ensures.whole;
       counted = counted_less _ _ c.self.inside.counts c.dropped.new.self counted went.gains
@@ -92,8 +93,8 @@ returns-clause-entries g c =
 pub returns-clause-numbers : goal.returns-clause-numbers
 returns-clause-numbers g c =
     let there = one_there c.begin-visits.new.self.lodged c.remove_route-root.new.nodes.lodged (number_of c.in-Some-room_of.at)
-        (given_begun c.self.inside.nodes c.begin-visits.new.self c.begin-visits.ensures.turn c.self.invariant.numbered)
-        (ap leaf_in c.remove_route-root.ensures.gone) c.remove_route-root.ensures.rooms in
+    (given_begun c.self.inside.nodes c.begin-visits.new.self c.begin-visits.ensures.turn c.self.invariant.numbered)
+    (ap leaf_in c.remove_route-root.ensures.gone) c.remove_route-root.ensures.rooms in
     let one = went (number_of c.in-Some-room_of.at) c.self.inside.given there in (
       one.0,
       λ n. ap (λ t. uses n t.numbers) (sym c.self.view_is) ∙ one.1 n
