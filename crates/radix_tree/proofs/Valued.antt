@@ -159,14 +159,17 @@ module _ {V : Type 0} where
               (subst (λ K. MarkedLists (heads_in m) K w.part.low t) (sym (λ i k. v.masks k i))
               (lists_valued n value (heads_in m) (masks_in m) w.part.low w.part.tree w.lists));
           listed = λ k p some.
-              let l = w.listed k p (sym (v.masks k) ∙ some) in
-              (valued n value l.0, in_valued n value l.0 w.part.tree l.1, l.2,
-              subst (λ T. T) (sym (home_is n value l.0.entry.key l.0.entry.rank w.part.tree)) l.3);
+              let l = w.listed k p (sym (v.masks k) ∙ some) in (
+                valued n value l.0,
+                in_valued n value l.0 w.part.tree l.1,
+                l.2,
+                subst (λ T. T) (sym (home_is n value l.0.entry.key l.0.entry.rank w.part.tree)) l.3,
+              );
           all = all_valued_in n value w.part.tree (λ x. IsMarked (masks_in new) x ⊎ (nobody_late (number_of x.room) ≡ true))
               (λ x at home. elim (w.all x at home) [
-            | inl marked ↦ inl (ap is_some (v.masks (number_of x.room)) ∙ marked)
-            | inr late ↦ inr late
-          ]);
+                | inl marked ↦ inl (ap is_some (v.masks (number_of x.room)) ∙ marked)
+                | inr late ↦ inr late
+              ]);
         } in (is, shown_is is)
 
     pub valued_whole : IsWhole new root

@@ -18,9 +18,10 @@ pub returns-then-not-has : goal.returns-then-not-has
 returns-then-not-has g c =
     let fits : c.args.rank ≤ 33 = search rules in
     let none = ap (λ t. entry_at c.args.key c.args.rank t.entries) (sym c.self.view_is)
-    ∙ not_held c.self.inside.counts _ c.args.key c.args.rank c.self.invariant.counted fits c.has.ensures.1 c.if-not-has.true in
-    (ap inr (only_begun c.self.inside.nodes c.self.inside.root c.self.inside.given c.self.inside.numbers c.self.view_is c.begin-visits.ensures.turn),
-    record { writes = tt; value = rw none refl })
+    ∙ not_held c.self.inside.counts _ c.args.key c.args.rank c.self.invariant.counted fits c.has.ensures.1 c.if-not-has.true in (
+      ap inr (only_begun c.self.inside.nodes c.self.inside.root c.self.inside.given c.self.inside.numbers c.self.view_is c.begin-visits.ensures.turn),
+      record { writes = tt; value = rw none refl },
+    )
 
 pub room_of-requires-clause-tree : goal.room_of-requires-clause-tree
 room_of-requires-clause-tree g c =
@@ -31,9 +32,10 @@ returns-in_default-room_of g c =
     let w = whole_next c.self.inside.nodes c.begin-visits.new.self c.self.invariant.holds c.in-Some.is c.begin-visits.ensures.turn in
     let none = ap (entry_at c.args.key c.args.rank)
     (sym (entries_next c.self.inside.nodes c.begin-visits.new.self _ c.self.view_is c.in-Some.is c.begin-visits.ensures.turn))
-    ∙ not_found w c.args.key c.args.rank c.in_default-room_of.is (c.room_of.ensures.found w.part w.named) in
-    (ap inr (only_begun c.self.inside.nodes c.self.inside.root c.self.inside.given c.self.inside.numbers c.self.view_is c.begin-visits.ensures.turn),
-    record { writes = tt; value = rw none refl })
+    ∙ not_found w c.args.key c.args.rank c.in_default-room_of.is (c.room_of.ensures.found w.part w.named) in (
+      ap inr (only_begun c.self.inside.nodes c.self.inside.root c.self.inside.given c.self.inside.numbers c.self.view_is c.begin-visits.ensures.turn),
+      record { writes = tt; value = rw none refl },
+    )
 
 -- the room that was found
 is_found : (g : _) (c : In-Some-room_of g) → IsFound c.begin-visits.new.self.lodged c.in-Some.root c.args.key c.args.rank c.in-Some-room_of.room
