@@ -114,6 +114,17 @@ impl Memory {
         }
     }
 
+    /// A value in a block of its own. Where there is no memory for it, it is dropped.
+    pub fn boxed<T: Drop>(&mut self, alloc: Global, value: T) -> Result<Box<T>, AllocError>
+        ensures value { IfOk result (λ block. block.value ≡ value) }
+        ensures counted { Rises (is_err result) self.old self.new }
+    {
+        match Box::new(alloc, value) {
+            Ok(block) => Ok(block),
+            Err(_) => Err(self.refuse()),
+        }
+    }
+
     /// The next number. Numbers are used up as memory is: behind `u64::MAX` there is none.
     pub fn next(&mut self, numbers: &mut Numbers) -> Result<u64, AllocError>
         ensures ok { IfOk result (λ number. (number ≡ numbers.old + 1) × (numbers.new ≡ number)) }
