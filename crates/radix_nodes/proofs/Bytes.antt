@@ -14,6 +14,6 @@ more n x y z some = omega (arith, some)
 wide : (n a s k : ℕ) → 0 < n → 0 < up k (up a n + s)
 wide n a s k some = more n (pad a n) s (pad k (up a n + s)) some
 
--- the links and the two names beside them alone take 96
+-- the links and the two names beside them alone take 88
 pub has_bytes : (V : RattleType) → 0 < type_size (full.the_row (param 0 V))
-has_bytes V = wide 96 (align (lone V.mir)) (size (lone V.mir)) (max 8 (max 8 (max 8 (max (align (lone V.mir)) 1)))) (omega arith)
+has_bytes V = wide 88 (align (lone V.mir)) (size (lone V.mir)) (max 8 (max 8 (max 8 (max (align (lone V.mir)) 1)))) (omega arith)

@@ -2,6 +2,7 @@ pub mod Callers
 pub mod Cells
 mod Apart
 mod Bytes
+mod FlagBits
 mod Memory
 mod Nested
 mod RoomLemmas

@@ -8,15 +8,15 @@ use Rattle.std.specs.FinMap.{get, insert}
 use mathlib.Core.Bool.{not, beq}
 use denote.RawPtr.{Ptr}
 use Rattle.radix_nodes.specs.At.{IsAt}
+use Rattle.radix_nodes.specs.declared.flags.Flags.{Flags}
+use Rattle.radix_nodes.specs.declared.flags.TheConstants.{IS_BIT_NODE}
 use Rattle.radix_nodes.specs.declared.links.Links.{Links}
 use Rattle.radix_nodes.specs.declared.room.Full.{Full}
+use Rattle.radix_nodes.specs.Flags.{has, turned as turned_flags}
+use Rattle.radix_nodes.proofs.FlagBits.{turned_twice, has-turned}
 use Rattle.radix_nodes.proofs.Cells.{get_put, same, same_number}
 use Rattle.radix_nodes.proofs.RoomLemmas.{inside}
 use Rattle.radix_nodes.proofs.RoomRows.{Blocks}
-
-not_not : (b : Bool) → not (not b) ≡ b
-not_not true = refl
-not_not false = refl
 
 turned_seen : (b : Bool) → not (beq b (not b)) ≡ true
 turned_seen true = refl
@@ -27,7 +27,11 @@ same_seen true = refl
 same_seen false = refl
 
 abbrev turned : Links → Links
-turned l = record l { is_mask_node = not l.is_mask_node }
+turned l = record l { flags = turned_flags l.flags }
+
+-- the flag that is turned
+abbrev flag : Links → Bool
+flag l = has l.flags IS_BIT_NODE
 
 module _ {V : Type 0} (m : Blocks V) (k : ℕ) (p : Ptr) (x : Full V) (l : Links) (at : get m k ≡ Some (p, x)) where
   abbrev after : Blocks V
@@ -51,23 +55,23 @@ module _ {V : Type 0} (m : Blocks V) (k : ℕ) (p : Ptr) (x : Full V) (l : Links
     | inr ne ↦ record { value = h.value; at = as_before n ne ∙ h.at }
   ]
 
-  pub tells : (n : ℕ) (s : Ptr) (u w : Full V) (a b : Bool) → l ≡ turned x.links → get m n ≡ Some (s, u) → get after n ≡ Some (s, w) → a ≡ u.links.is_mask_node → b ≡ w.links.is_mask_node
+  pub tells : (n : ℕ) (s : Ptr) (u w : Full V) (a b : Bool) → l ≡ turned x.links → get m n ≡ Some (s, u) → get after n ≡ Some (s, w) → a ≡ flag u.links → b ≡ flag w.links
       → not (beq a b) ≡ (k == n)
   tells n s u w a b once had has first second = (λ i. not (beq (first i) (second i))) ∙ elim (cases_eq k n) [
     | inl q ↦
         let u_is : u ≡ x = ap (λ (c : Ptr × Full V). c.1) (inside (sym had ∙ ap (get m) (sym q) ∙ at)) in
         let w_is : w ≡ record x { links = l } = ap (λ (c : Ptr × Full V). c.1) (inside (sym has ∙ ap (get after) (sym q) ∙ written)) in
-        (λ i. not (beq (u_is i).links.is_mask_node (w_is i).links.is_mask_node)) ∙ ap (λ (l : Links). not (beq x.links.is_mask_node l.is_mask_node)) once
-        ∙ turned_seen x.links.is_mask_node ∙ sym (eq-eqb k n q)
+        (λ i. not (beq (flag (u_is i).links) (flag (w_is i).links))) ∙ ap (λ (l : Links). not (beq (flag x.links) (flag l))) once
+        ∙ ap (λ (b : Bool). not (beq (flag x.links) b)) (has-turned x.links.flags) ∙ turned_seen (flag x.links) ∙ sym (eq-eqb k n q)
     | inr ne ↦
         let w_is : w ≡ u = ap (λ (c : Ptr × Full V). c.1) (inside (sym has ∙ as_before n (λ q. ne (sym q)) ∙ had)) in
-        ap (λ (f : Full V). not (beq u.links.is_mask_node f.links.is_mask_node)) w_is ∙ same_seen u.links.is_mask_node ∙ sym (ne_eqb k n ne)
+        ap (λ (f : Full V). not (beq (flag u.links) (flag f.links))) w_is ∙ same_seen (flag u.links) ∙ sym (ne_eqb k n ne)
   ]
 
   pub turned_back : (y : Full V) (r : Links) → l ≡ turned x.links → get after k ≡ Some (p, y) → r ≡ turned y.links → insert after k (p, record y { links = r }) ≡ m
   turned_back y r once has twice =
       let is : y ≡ record x { links = l } = ap (λ (c : Ptr × Full V). c.1) (inside (sym has ∙ written)) in
-      let links_back : r ≡ x.links = twice ∙ ap (λ (f : Full V). turned f.links) is ∙ ap turned once ∙ ap (λ (b : Bool). record x.links { is_mask_node = b }) (not_not x.links.is_mask_node) in
+      let links_back : r ≡ x.links = twice ∙ ap (λ (f : Full V). turned f.links) is ∙ ap turned once ∙ ap (λ (f : Flags). record x.links { flags = f }) (turned_twice x.links.flags) in
       let full_back : record y { links = r } ≡ x = ap (λ (f : Full V). record f { links = r }) is ∙ ap (λ (l : Links). record x { links = l }) links_back in
       ap (λ (f : Full V). insert after k (p, f)) full_back ∙ same _ _ (λ q. get_put after k (p, x) q
       ∙ ap (λ (o : Option (Ptr × Full V)). if q == k then Some (p, x) else o) (get_put m k (p, record x { links = l }) q)

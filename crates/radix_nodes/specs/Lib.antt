@@ -2,6 +2,7 @@ pub mod At
 pub mod Beside
 pub mod Chunk
 pub mod Counting
+pub mod Flags
 pub mod Keeping
 pub mod Lending
 pub mod LendingValue

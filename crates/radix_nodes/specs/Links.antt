@@ -1,5 +1,7 @@
 -- What a room's links say: what it is as a leaf, as a bit node and as a mask node.
 use Rattle.std.specs.Prelude.{◌≡◌, Bool, true, false, Option, Some, None}
+use Rattle.radix_nodes.specs.declared.flags.TheConstants.{IS_BIT_NODE, ZERO_IS_LEAF, ONE_IS_LEAF, HAS_BIT_ABOVE, HAS_MASKS}
+use Rattle.radix_nodes.specs.declared.flags.TheConstants.{HAS_ABOVE, HAS_NEXT, HAS_PREVIOUS, IS_MASK_NODE, HAS_NEXT_MASK}
 use Rattle.radix_nodes.specs.declared.id.Id.{Id}
 use Rattle.radix_nodes.specs.declared.links.Node.{Node}
 use Rattle.radix_nodes.specs.declared.links.Node.TheVariants.{Leaf as LeafOf, Bit as BitOf}
@@ -7,6 +9,7 @@ use Rattle.radix_nodes.specs.declared.links.Leaf.{Leaf}
 use Rattle.radix_nodes.specs.declared.links.BitNode.{BitNode}
 use Rattle.radix_nodes.specs.declared.links.MaskNode.{MaskNode}
 use Rattle.radix_nodes.specs.declared.links.Links.{Links}
+use Rattle.radix_nodes.specs.Flags.{has}
 
 -- a name that is kept as there or not
 abbrev pub id_in : Bool → Id → Option Id
@@ -22,9 +25,9 @@ abbrev pub leaf_of : Links → Leaf
 leaf_of l = record {
   key = l.key;
   rank = l.rank;
-  above = id_in l.has_above l.above;
-  next = id_in l.has_next l.next;
-  previous = id_in l.has_previous l.previous;
+  above = id_in (has l.flags HAS_ABOVE) l.above;
+  next = id_in (has l.flags HAS_NEXT) l.next;
+  previous = id_in (has l.flags HAS_PREVIOUS) l.previous;
 }
 
 -- where it is in use
@@ -33,12 +36,12 @@ kept_bit_node true node = Some node
 kept_bit_node false node = None
 
 abbrev pub bit_node_of : Links → Option BitNode
-bit_node_of l = kept_bit_node l.is_bit_node (record {
+bit_node_of l = kept_bit_node (has l.flags IS_BIT_NODE) (record {
   bit = l.bit;
-  zero = node_in l.zero_is_leaf l.zero;
-  one = node_in l.one_is_leaf l.one;
-  above = id_in l.has_bit_above l.bit_above;
-  masks = id_in l.has_masks l.masks;
+  zero = node_in (has l.flags ZERO_IS_LEAF) l.zero;
+  one = node_in (has l.flags ONE_IS_LEAF) l.one;
+  above = id_in (has l.flags HAS_BIT_ABOVE) l.bit_above;
+  masks = id_in (has l.flags HAS_MASKS) l.masks;
 })
 
 -- where it is listed
@@ -47,7 +50,7 @@ kept_mask_node true node = Some node
 kept_mask_node false node = None
 
 abbrev pub mask_node_of : Links → Option MaskNode
-mask_node_of l = kept_mask_node l.is_mask_node (record { next = id_in l.has_next_mask l.next_mask })
+mask_node_of l = kept_mask_node (has l.flags IS_MASK_NODE) (record { next = id_in (has l.flags HAS_NEXT_MASK) l.next_mask })
 
 -- the links of a room that has just been lodged: a leaf by itself, which is no bit node and no mask node
 pub record IsBlank (l : Links) : Type 0 where

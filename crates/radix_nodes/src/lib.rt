@@ -3,6 +3,7 @@
 
 mod beside;
 mod blocks;
+mod flags;
 mod id;
 mod links;
 mod nodes;

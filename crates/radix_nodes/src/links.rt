@@ -1,7 +1,12 @@
 //! What a room says of its place in a tree.
-ghost use Rattle.std.specs.Prelude.{◌≡◌, not};
+ghost use Rattle.std.specs.Prelude.{◌≡◌};
+ghost use Rattle.radix_nodes.specs.Flags.{has, turned};
 ghost use Rattle.radix_nodes.specs.Links.{leaf_of, bit_node_of, mask_node_of, id_in, node_in, IsBlank};
 
+use crate::flags::{
+    Flags, HAS_ABOVE, HAS_BIT_ABOVE, HAS_MASKS, HAS_NEXT, HAS_NEXT_MASK, HAS_PREVIOUS, IS_BIT_NODE,
+    IS_MASK_NODE, ONE_IS_LEAF, ZERO_IS_LEAF,
+};
 use crate::id::Id;
 use mask_table::Rank;
 use sock_addrs::Inet;
@@ -48,8 +53,8 @@ pub struct MaskNode {
     pub next: Option<Id>,
 }
 
-/// A room's links: what it is as a leaf, as a bit node and as a mask node. They take 80 bytes: eight names of 8 bytes each,
-/// and 16 bytes for the key, the rank, the bit, and the flags: which of the nodes beneath are leaves, which of
+/// A room's links: what it is as a leaf, as a bit node and as a mask node. They take 72 bytes: eight names of 8 bytes each,
+/// and 8 bytes for the key, the rank, the bit, and the flags: which of the nodes beneath are leaves, which of
 /// the other names are there, and in which roles the room is in use. What a descent reads comes first.
 #[derive(Clone, Copy)]
 pub struct Links {
@@ -58,16 +63,7 @@ pub struct Links {
     key: Inet,
     rank: Rank,
     bit: u8,
-    is_bit_node: bool,
-    zero_is_leaf: bool,
-    one_is_leaf: bool,
-    has_bit_above: bool,
-    has_masks: bool,
-    has_above: bool,
-    has_next: bool,
-    has_previous: bool,
-    is_mask_node: bool,
-    has_next_mask: bool,
+    flags: Flags,
     bit_above: Id,
     masks: Id,
     above: Id,
@@ -88,16 +84,7 @@ impl Links {
             key: Inet([0, 0, 0, 0]),
             rank: Rank::new(0),
             bit: 0,
-            is_bit_node: false,
-            zero_is_leaf: false,
-            one_is_leaf: false,
-            has_bit_above: false,
-            has_masks: false,
-            has_above: false,
-            has_next: false,
-            has_previous: false,
-            is_mask_node: false,
-            has_next_mask: false,
+            flags: Flags::none(),
             bit_above: nobody,
             masks: nobody,
             above: nobody,
@@ -114,9 +101,9 @@ impl Links {
         Leaf {
             key: self.key,
             rank: self.rank,
-            above: read(self.has_above, self.above),
-            next: read(self.has_next, self.next),
-            previous: read(self.has_previous, self.previous),
+            above: read(self.flags.has(HAS_ABOVE), self.above),
+            next: read(self.flags.has(HAS_NEXT), self.next),
+            previous: read(self.flags.has(HAS_PREVIOUS), self.previous),
         }
     }
 
@@ -124,15 +111,15 @@ impl Links {
     pub fn bit_node(&self) -> Option<BitNode>
         ensures { result ≡ bit_node_of self.now }
     {
-        if !self.is_bit_node {
+        if !self.flags.has(IS_BIT_NODE) {
             return None;
         }
         Some(BitNode {
             bit: self.bit,
-            zero: read_node(self.zero_is_leaf, self.zero),
-            one: read_node(self.one_is_leaf, self.one),
-            above: read(self.has_bit_above, self.bit_above),
-            masks: read(self.has_masks, self.masks),
+            zero: read_node(self.flags.has(ZERO_IS_LEAF), self.zero),
+            one: read_node(self.flags.has(ONE_IS_LEAF), self.one),
+            above: read(self.flags.has(HAS_BIT_ABOVE), self.bit_above),
+            masks: read(self.flags.has(HAS_MASKS), self.masks),
         })
     }
 
@@ -140,26 +127,26 @@ impl Links {
     pub fn mask_node(&self) -> Option<MaskNode>
         ensures { result ≡ mask_node_of self.now }
     {
-        if !self.is_mask_node {
+        if !self.flags.has(IS_MASK_NODE) {
             return None;
         }
         Some(MaskNode {
-            next: read(self.has_next_mask, self.next_mask),
+            next: read(self.flags.has(HAS_NEXT_MASK), self.next_mask),
         })
     }
 
     /// One of the flags.
     pub(crate) fn flag(&self) -> bool
-        ensures { result ≡ self.now.is_mask_node }
+        ensures { result ≡ has self.now.flags IS_BIT_NODE }
     {
-        self.is_mask_node
+        self.flags.has(IS_BIT_NODE)
     }
 
     /// Turns that flag.
     pub(crate) fn turn_flag(&mut self)
-        ensures { self.new ≡ record self.old { is_mask_node = not self.old.is_mask_node } }
+        ensures { self.new ≡ record self.old { flags = turned self.old.flags } }
     {
-        self.is_mask_node = !self.is_mask_node;
+        self.flags.turn();
     }
 
     /// The same links with another leaf.
@@ -174,11 +161,9 @@ impl Links {
         Links {
             key: leaf.key,
             rank: leaf.rank,
-            has_above,
+            flags: self.flags.with_leaf(has_above, has_next, has_previous),
             above,
-            has_next,
             next,
-            has_previous,
             previous,
             ..self
         }
@@ -192,7 +177,7 @@ impl Links {
     {
         let Some(bit_node) = bit_node else {
             return Links {
-                is_bit_node: false,
+                flags: self.flags.without_bit_node(),
                 ..self
             };
         };
@@ -201,15 +186,13 @@ impl Links {
         let (has_bit_above, bit_above) = written(bit_node.above);
         let (has_masks, masks) = written(bit_node.masks);
         Links {
-            is_bit_node: true,
             bit: bit_node.bit,
-            zero_is_leaf,
+            flags: self
+                .flags
+                .with_bit_node(zero_is_leaf, one_is_leaf, has_bit_above, has_masks),
             zero,
-            one_is_leaf,
             one,
-            has_bit_above,
             bit_above,
-            has_masks,
             masks,
             ..self
         }
@@ -223,14 +206,13 @@ impl Links {
     {
         let Some(mask_node) = mask_node else {
             return Links {
-                is_mask_node: false,
+                flags: self.flags.without_mask_node(),
                 ..self
             };
         };
         let (has_next_mask, next_mask) = written(mask_node.next);
         Links {
-            is_mask_node: true,
-            has_next_mask,
+            flags: self.flags.with_mask_node(has_next_mask),
             next_mask,
             ..self
         }

@@ -15,9 +15,9 @@ const NET: Inet = Inet([10, 1, 0, 0]);
 #[test]
 fn sizes(rt: HostRuntime) {
     assert_eq!(rt; size_of::<Id>(), 8);
-    assert_eq!(rt; size_of::<Links>(), 80);
+    assert_eq!(rt; size_of::<Links>(), 72);
     assert_eq!(rt; size_of::<Visits>(), 0);
-    assert_eq!(rt; size_of::<Full<[u64; 11]>>(), 184);
+    assert_eq!(rt; size_of::<Full<[u64; 11]>>(), 176);
 }
 
 /// Links in each role that name this room.
