@@ -2,7 +2,11 @@
 #![tactic(auto)]
 
 mod addresses;
+mod blocks;
+mod packed;
 mod route;
 
 pub use addresses::{addresses_of, destination_of};
+pub use blocks::Blocks;
+pub use packed::PackedRoute;
 pub use route::{Route, clone_of};
