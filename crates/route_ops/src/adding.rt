@@ -18,7 +18,7 @@ use crate::spare::Spare;
 use if_addrs::{IfaRef, Interfaces};
 use mask_table::{Prefix, Rank, masked};
 use radix_tree::{Entry, Table, Visits};
-use route_entries::Route;
+use route_entries::{PackedRoute, Route};
 use route_msgs::Metrics;
 use route_msgs::flags::{RTF_GATEWAY, RTF_HOST, RTF_UP};
 use sock_addrs::{Errno, Gate, Inet};
@@ -101,7 +101,7 @@ impl NewRoute {
 
 /// The interface address of a new route, where there is one for it.
 fn find_ifa(
-    table: &Table<Route>,
+    table: &Table<PackedRoute>,
     visits: &mut Visits,
     interfaces: &Interfaces,
     asked: &NewRoute,
@@ -126,7 +126,7 @@ fn find_ifa(
 /// for it; EEXIST: a route with its key and rank is there. It takes no memory, so that memory is taken for no route that
 /// is refused.
 pub fn plan_add(
-    table: &Table<Route>,
+    table: &Table<PackedRoute>,
     visits: &mut Visits,
     interfaces: &Interfaces,
     asked: &NewRoute,
@@ -154,7 +154,11 @@ pub fn plan_add(
 }
 
 /// Adds a route whose key and rank no route has, and then settles its gateway.
-pub fn add_planned(table: &mut Table<Route>, spare: &mut Spare, route: &Entry<Route>) -> Notices
+pub fn add_planned(
+    table: &mut Table<PackedRoute>,
+    spare: &mut Spare,
+    route: &Entry<Route>,
+) -> Notices
     requires absent { entry_at route.now.key route.now.rank table.old.entries ≡ None }
     requires masked { masked_by route.now.rank route.now.key ≡ route.now.key }
     requires fits { FitsSpare table.old spare.old }
@@ -177,7 +181,7 @@ pub fn add_planned(table: &mut Table<Route>, spare: &mut Spare, route: &Entry<Ro
 /// What refuses to add a route, in this order: ENETUNREACH: no interface address is found for it; EEXIST: a route
 /// with its key and rank is there. It takes no memory.
 pub fn check_add(
-    table: &Table<Route>,
+    table: &Table<PackedRoute>,
     visits: &mut Visits,
     interfaces: &Interfaces,
     asked: &NewRoute,
@@ -195,7 +199,7 @@ pub fn check_add(
 
 /// Adds a route, and then settles its gateway. Refused as `check_add` says, and nothing is changed then.
 pub fn request_add(
-    table: &mut Table<Route>,
+    table: &mut Table<PackedRoute>,
     interfaces: &Interfaces,
     spare: &mut Spare,
     asked: &NewRoute,

@@ -11,7 +11,7 @@ use crate::reading::{best_route, first_route, route_at};
 use if_addrs::{Facts, IfaRef, Kind};
 use mask_table::{Rank, masked};
 use radix_tree::{Entry, Table, Visits};
-use route_entries::Route;
+use route_entries::{PackedRoute, Route};
 use route_msgs::Metrics;
 use route_msgs::flags::{RTF_CLONING, RTF_HOST, RTF_UP};
 use sock_addrs::{Gate, Inet};
@@ -69,7 +69,7 @@ fn flags_of(facts: &Facts) -> u16
 /// Takes the route of an address that is removed out of the table, and answers it. `None`, and no route is changed:
 /// the address brought no route, the best route of its key is another interface address's by now, or there is none.
 pub fn withdraw_route(
-    table: &mut Table<Route>,
+    table: &mut Table<PackedRoute>,
     ifa: IfaRef,
     address: Inet,
     facts: &Facts,
@@ -89,7 +89,7 @@ pub fn withdraw_route(
 
 /// The route that goes with an address.
 fn route_to_withdraw(
-    table: &Table<Route>,
+    table: &Table<PackedRoute>,
     visits: &mut Visits,
     ifa: IfaRef,
     address: Inet,

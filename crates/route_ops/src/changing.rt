@@ -12,13 +12,13 @@ use crate::adding::Added;
 use crate::leading::ifa_of_route;
 use crate::looking::settle_gateway;
 use crate::notice::Notices;
-use crate::placing::rewrite;
+use crate::placing::{replace, rewrite};
 use crate::reading::{best_route, route_at};
 use crate::spare::Spare;
 use if_addrs::{IfaRef, Interfaces};
 use mask_table::{Prefix, Rank};
 use radix_tree::{Entry, Table, Visits};
-use route_entries::Route;
+use route_entries::{PackedRoute, Route};
 use route_msgs::Metrics;
 use sock_addrs::{Errno, Gate, Inet};
 
@@ -46,7 +46,7 @@ pub struct Change {
 /// The route that CHANGE or LOCK means. ESRCH: the destination has no route of its own; ETOOMANYREFS: none with this
 /// mask.
 fn target(
-    table: &Table<Route>,
+    table: &Table<PackedRoute>,
     visits: &mut Visits,
     destination: Inet,
     netmask: Option<Prefix>,
@@ -66,7 +66,7 @@ fn target(
 
 /// Locks or unlocks the metrics of a route that `inits` names. Refused as `request_change`.
 pub fn request_lock(
-    table: &mut Table<Route>,
+    table: &mut Table<PackedRoute>,
     destination: Inet,
     netmask: Option<Prefix>,
     inits: u32,
@@ -82,7 +82,7 @@ pub fn request_lock(
     let route = target(table, &mut visits, destination, netmask)?;
     let mut value = route.value;
     value.set_locks(inits, locks);
-    rewrite(table, &route, value);
+    rewrite(table, &route, &value);
     Ok(Entry { value, ..route })
 }
 
@@ -131,7 +131,7 @@ impl Change {
 
 /// The interface address that a change asks for.
 fn asked_ifa(
-    table: &Table<Route>,
+    table: &Table<PackedRoute>,
     visits: &mut Visits,
     interfaces: &Interfaces,
     asked: &Change,
@@ -169,7 +169,7 @@ fn asked_ifa(
 /// locked, another mask of its clones and other locks. ESRCH: the destination has no route of its own; ETOOMANYREFS:
 /// none with this mask. It takes no memory, so that memory is taken for no change that is refused.
 pub fn plan_change(
-    table: &Table<Route>,
+    table: &Table<PackedRoute>,
     visits: &mut Visits,
     interfaces: &Interfaces,
     asked: &Change,
@@ -190,13 +190,16 @@ pub fn plan_change(
     Ok(Entry { value, ..old })
 }
 
-/// Writes a route of the table anew, which keeps its key and its rank; where a gateway is written, it is settled last.
+/// Puts a route, which was packed before, in the place of the one with its key and rank; where a gateway is written, it
+/// is settled last.
 pub fn change_planned(
-    table: &mut Table<Route>,
+    table: &mut Table<PackedRoute>,
     spare: &mut Spare,
     written: Option<Gate>,
     route: &Entry<Route>,
+    packed: PackedRoute,
 ) -> Notices
+    requires packed { packed ≡ route.now.value }
     requires there { IsSome (entry_at route.now.key route.now.rank table.old.entries) }
     requires fits { FitsSpare table.old spare.old }
     requires rooms { rooms_to_change written ≤ length spare.old }
@@ -208,7 +211,7 @@ pub fn change_planned(
     ensures fits { FitsSpare table.new spare.new }
     ensures used { length spare.old ≤ length spare.new + 1 }
 {
-    rewrite(table, route, route.value);
+    replace(table, route.key, route.rank, packed);
     match written {
         Some(_) => settle_gateway(table, spare, &route.value),
         None => Notices::new(),
@@ -217,12 +220,13 @@ pub fn change_planned(
 
 /// Changes a route: its gateway, its interface address, its metrics whatever is locked, the mask of its clones, and
 /// its locks; where a gateway is written, it is settled last. ESRCH: the destination has no route of its own;
-/// ETOOMANYREFS: none with this mask.
+/// ETOOMANYREFS: none with this mask. The block is for the route, where it needs one.
 pub fn request_change(
-    table: &mut Table<Route>,
+    table: &mut Table<PackedRoute>,
     interfaces: &Interfaces,
     spare: &mut Spare,
     asked: &Change,
+    block: Box<Route>,
 ) -> Result<Added, Errno>
     requires of { AreOf interfaces.now table.old.entries }
     requires fits { FitsSpare table.old spare.old }
@@ -245,6 +249,7 @@ pub fn request_change(
         Ok(route) => route,
         Err(errno) => return Err(errno),
     };
-    let messages = change_planned(table, spare, asked.gateway, &route);
+    let (packed, _) = PackedRoute::of(&route.value, block);
+    let messages = change_planned(table, spare, asked.gateway, &route, packed);
     Ok(Added { route, messages })
 }

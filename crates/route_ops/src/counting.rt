@@ -10,12 +10,12 @@ use crate::placing::rewrite;
 use mask_table::Rank;
 use radix_tree::laws::is_table;
 use radix_tree::{Entry, Table, Visits};
-use route_entries::Route;
+use route_entries::{PackedRoute, Route};
 use route_msgs::flags::RTF_CLONING;
 use sock_addrs::Inet;
 
 /// Counts a packet that takes this route of the table.
-pub fn count_use(table: &mut Table<Route>, route: &Entry<Route>)
+pub fn count_use(table: &mut Table<PackedRoute>, route: &Entry<Route>)
     requires { StandsIn table.old.entries route.now }
     ensures entries { table.new.entries ≡ with_entry (entry_with_one_more_use route.now) table.old.entries }
     ensures rooms { KeepsRooms table.old table.new }
@@ -23,12 +23,12 @@ pub fn count_use(table: &mut Table<Route>, route: &Entry<Route>)
 {
     let mut value = route.value;
     value.count_use();
-    rewrite(table, route, value);
+    rewrite(table, route, &value);
 }
 
 /// The best route of an address, as it stands in the table. Unless it clones, a packet that takes it is counted, in the
 /// room where it was found.
-pub fn use_best(table: &mut Table<Route>, address: Inet) -> Option<Entry<Route>>
+pub fn use_best(table: &mut Table<PackedRoute>, address: Inet) -> Option<Entry<Route>>
     ensures best { result ≡ best_of address table.old.entries }
     ensures entries { table.new.entries ≡ with_best_used result table.old.entries }
     ensures ifa { IfSome result (λ r. HasIfaOf table.old.entries r) }
@@ -46,7 +46,7 @@ pub fn use_best(table: &mut Table<Route>, address: Inet) -> Option<Entry<Route>>
     let found = Entry {
         key,
         rank,
-        value: *route,
+        value: route.route(),
     };
     if found.value.has(RTF_CLONING) {
         return Some(found);

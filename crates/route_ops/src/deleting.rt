@@ -10,13 +10,13 @@ use crate::placing::{take_out, take_pair};
 use crate::reading::{best_route, first_route};
 use mask_table::{Prefix, Rank};
 use radix_tree::{Entry, Table, Visits};
-use route_entries::Route;
+use route_entries::{PackedRoute, Route};
 use route_msgs::flags::RTF_HOST;
 use sock_addrs::{Errno, Inet};
 
 /// Shows the best route of an address, which it neither clones nor counts. ESRCH: there is none.
 pub fn request_get(
-    table: &Table<Route>,
+    table: &Table<PackedRoute>,
     visits: &mut Visits,
     destination: Inet,
 ) -> Result<Entry<Route>, Errno>
@@ -35,7 +35,7 @@ pub fn request_get(
 /// Deletes a route: with a mask, and without the flag HOST, the route with this key and mask; otherwise the first of
 /// the key. ESRCH: there is none.
 pub fn request_delete(
-    table: &mut Table<Route>,
+    table: &mut Table<PackedRoute>,
     key: Inet,
     netmask: Option<Prefix>,
     flags: u16,
@@ -57,7 +57,7 @@ pub fn request_delete(
 
 /// Takes out the route that DELETE means, where it is there.
 fn take_meant(
-    table: &mut Table<Route>,
+    table: &mut Table<PackedRoute>,
     key: Inet,
     netmask: Option<Prefix>,
     flags: u16,
@@ -76,7 +76,7 @@ fn take_meant(
 }
 
 /// Takes out the first route of a key, where there is one.
-fn take_first(table: &mut Table<Route>, key: Inet) -> Option<Entry<Route>>
+fn take_first(table: &mut Table<PackedRoute>, key: Inet) -> Option<Entry<Route>>
     ensures route { result ≡ first_of key table.old.entries }
     ensures without { IfSome result (λ r. table.new.entries ≡ without r.key r.rank table.old.entries) }
     ensures kept { IfNone result (table.new.entries ≡ table.old.entries) }

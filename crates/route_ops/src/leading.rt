@@ -8,13 +8,13 @@ ghost use Rattle.route_ops.specs.Standing.{AreOf};
 use crate::reading::best_ifa;
 use if_addrs::{IfaRef, Interfaces};
 use radix_tree::{Table, Visits};
-use route_entries::Route;
+use route_entries::PackedRoute;
 use sock_addrs::{Gate, Inet};
 
 /// The interface address of a route with these flags to this destination, over this gateway, where there is one for it.
 /// The fallback is that of the destination's best route, which is looked up last, where nothing else is found.
 pub(crate) fn ifa_of_route(
-    table: &Table<Route>,
+    table: &Table<PackedRoute>,
     visits: &mut Visits,
     interfaces: &Interfaces,
     flags: u16,

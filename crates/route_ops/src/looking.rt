@@ -13,7 +13,7 @@ use crate::reading::best_route;
 use crate::spare::Spare;
 use mask_table::masked;
 use radix_tree::{Entry, Table, Visits};
-use route_entries::{Route, clone_of};
+use route_entries::{PackedRoute, Route, clone_of};
 use route_msgs::flags::{RTF_CLONING, RTF_GATEWAY, RTF_XRESOLVE};
 use sock_addrs::{Errno, Gate, Inet};
 
@@ -54,7 +54,7 @@ impl Found {
 /// Adds the clone of a route for an address. EEXIST: a route with its key and rank is there. It doesn't settle its
 /// gateway.
 pub fn resolve(
-    table: &mut Table<Route>,
+    table: &mut Table<PackedRoute>,
     spare: &mut Spare,
     address: Inet,
     parent: &Route,
@@ -81,7 +81,7 @@ pub fn resolve(
 }
 
 /// Looks up an address, and adds the clone of its route where it makes one.
-fn find(table: &mut Table<Route>, spare: &mut Spare, about: Gate) -> Found
+fn find(table: &mut Table<PackedRoute>, spare: &mut Spare, about: Gate) -> Found
     requires fits { FitsSpare table.old spare.old }
     requires rooms { 1 ≤ length spare.old }
     ensures found { result ≡ found about table.old.entries }
@@ -135,7 +135,7 @@ fn tell(about: &Gate, found: &Found, messages: &mut Notices)
 
 /// Settles the gateway of a route: where the route leads over one, that is looked up, and cloned where it has to be.
 /// The messages are those of this look-up.
-pub fn settle_gateway(table: &mut Table<Route>, spare: &mut Spare, route: &Route) -> Notices
+pub fn settle_gateway(table: &mut Table<PackedRoute>, spare: &mut Spare, route: &Route) -> Notices
     requires fits { FitsSpare table.old spare.old }
     requires rooms { leads_over route.now ≡ true → 1 ≤ length spare.old }
     ensures table { table.new.entries ≡ (settle route.now table.old.entries).table }
@@ -156,7 +156,12 @@ pub fn settle_gateway(table: &mut Table<Route>, spare: &mut Spare, route: &Route
 }
 
 /// Settles the gateway of a clone that a deep look-up made.
-fn settle_found(table: &mut Table<Route>, spare: &mut Spare, found: &Found, deep: bool) -> Notices
+fn settle_found(
+    table: &mut Table<PackedRoute>,
+    spare: &mut Spare,
+    found: &Found,
+    deep: bool,
+) -> Notices
     requires fits { FitsSpare table.old spare.old }
     requires rooms { deep ≡ true → 1 ≤ length spare.old }
     ensures table { table.new.entries ≡ (settled deep found.now table.old.entries).table }
@@ -176,7 +181,7 @@ fn settle_found(table: &mut Table<Route>, spare: &mut Spare, found: &Found, deep
 
 /// Looks up an address, and tells the sockets where it finds no route, can't clone, or wants a clone resolved
 /// (`rtalloc1` of 4.4BSD with its report). A deep look-up settles the gateway of the clone that it makes.
-pub fn look_up(table: &mut Table<Route>, spare: &mut Spare, about: Gate, deep: bool) -> Looked
+pub fn look_up(table: &mut Table<PackedRoute>, spare: &mut Spare, about: Gate, deep: bool) -> Looked
     requires fits { FitsSpare table.old spare.old }
     requires rooms { (if deep then 2 else 1) ≤ length spare.old }
     ensures look { look deep about table.old.entries

@@ -9,14 +9,14 @@ use crate::placing::take_out;
 use crate::reading::best_route;
 use crate::told::Told;
 use radix_tree::{Entry, Table};
-use route_entries::Route;
+use route_entries::{PackedRoute, Route};
 use route_msgs::flags::RTF_DYNAMIC;
 use sock_addrs::{Errno, Inet};
 
 /// Tells that the best route of an address seems dead, as TCP calls it when it sends again and again in vain
 /// (`in_losing` of 4.4BSD), and takes that route out of the table where a redirect made it. It makes no clone and tells
 /// of no deletion. EHOSTUNREACH: there is no route; nothing is told then.
-pub fn losing(table: &mut Table<Route>, address: Inet) -> Told
+pub fn losing(table: &mut Table<PackedRoute>, address: Inet) -> Told
     ensures losing { losing_of address table.old.entries
         ≡ record { table = table.new.entries; messages = result.messages.items; errno = result.errno } }
     ensures kept { OnSome result.errno (table.new.entries ≡ table.old.entries) }

@@ -7,12 +7,12 @@ ghost use Rattle.route_ops.specs.Standing.{IsIfaOf};
 use if_addrs::IfaRef;
 use mask_table::Rank;
 use radix_tree::{Entry, Table, Visits};
-use route_entries::Route;
+use route_entries::{PackedRoute, Route};
 use sock_addrs::Inet;
 
 /// The best route of an address.
 pub(crate) fn best_route(
-    table: &Table<Route>,
+    table: &Table<PackedRoute>,
     visits: &mut Visits,
     address: Inet,
 ) -> Option<Entry<Route>>
@@ -25,28 +25,32 @@ pub(crate) fn best_route(
         Some((key, rank, route)) => Some(Entry {
             key,
             rank,
-            value: *route,
+            value: route.route(),
         }),
         None => None,
     }
 }
 
 /// The interface address of the best route of an address.
-pub(crate) fn best_ifa(table: &Table<Route>, visits: &mut Visits, address: Inet) -> Option<IfaRef>
+pub(crate) fn best_ifa(
+    table: &Table<PackedRoute>,
+    visits: &mut Visits,
+    address: Inet,
+) -> Option<IfaRef>
     requires turn { visits.old.turn ≡ table.now.turn }
     ensures ifa { result ≡ option_map (λ r. r.value.ifa) (best_of address table.now.entries) }
     ensures of { IfSome result (λ i. IsIfaOf table.now.entries i) }
     ensures counter { visits.new.turn ≡ visits.old.turn }
 {
     match table.best(address, visits) {
-        Some((_, _, route)) => Some(route.ifa),
+        Some((_, _, route)) => Some(route.ifa()),
         None => None,
     }
 }
 
 /// The route with this key and rank.
 pub(crate) fn route_at(
-    table: &Table<Route>,
+    table: &Table<PackedRoute>,
     visits: &mut Visits,
     key: Inet,
     rank: Rank,
@@ -60,14 +64,19 @@ pub(crate) fn route_at(
         Some(value) => Some(Entry {
             key,
             rank,
-            value: *value,
+            value: value.route(),
         }),
         None => None,
     }
 }
 
 /// Whether there is a route with this key and rank.
-pub(crate) fn is_there(table: &Table<Route>, visits: &mut Visits, key: Inet, rank: Rank) -> bool
+pub(crate) fn is_there(
+    table: &Table<PackedRoute>,
+    visits: &mut Visits,
+    key: Inet,
+    rank: Rank,
+) -> bool
     requires turn { visits.old.turn ≡ table.now.turn }
     ensures there { result ≡ is_some (entry_at key rank table.now.entries) }
     ensures counter { visits.new.turn ≡ visits.old.turn }
@@ -77,7 +86,7 @@ pub(crate) fn is_there(table: &Table<Route>, visits: &mut Visits, key: Inet, ran
 
 /// The first route with this key.
 pub(crate) fn first_route(
-    table: &Table<Route>,
+    table: &Table<PackedRoute>,
     visits: &mut Visits,
     key: Inet,
 ) -> Option<Entry<Route>>
@@ -89,7 +98,7 @@ pub(crate) fn first_route(
         Some((rank, value)) => Some(Entry {
             key,
             rank,
-            value: *value,
+            value: value.route(),
         }),
         None => None,
     }

@@ -15,7 +15,7 @@ use crate::spare::Spare;
 use crate::told::Told;
 use if_addrs::{IfaRef, Interfaces};
 use radix_tree::{Entry, Table, Visits};
-use route_entries::Route;
+use route_entries::{PackedRoute, Route};
 use route_msgs::Metrics;
 use route_msgs::flags::{RTF_DONE, RTF_DYNAMIC, RTF_GATEWAY, RTF_HOST, RTF_MODIFIED};
 use sock_addrs::{Errno, Gate, Inet};
@@ -79,7 +79,7 @@ impl NewGateway {
 /// EHOSTUNREACH: the gateway is an address of an interface, or the route has no gateway; and where a route is made,
 /// as `request_add`.
 pub fn redirect(
-    table: &mut Table<Route>,
+    table: &mut Table<PackedRoute>,
     interfaces: &Interfaces,
     spare: &mut Spare,
     asked: &NewGateway,
@@ -113,7 +113,12 @@ pub fn redirect(
 }
 
 /// Gives a route of the table a new gateway, and settles that.
-fn modify(table: &mut Table<Route>, spare: &mut Spare, old: Entry<Route>, gateway: Inet) -> Added
+fn modify(
+    table: &mut Table<PackedRoute>,
+    spare: &mut Spare,
+    old: Entry<Route>,
+    gateway: Inet,
+) -> Added
     requires stands { StandsIn table.old.entries old }
     requires fits { FitsSpare table.old spare.old }
     requires rooms { 1 ≤ length spare.old }
@@ -128,7 +133,7 @@ fn modify(table: &mut Table<Route>, spare: &mut Spare, old: Entry<Route>, gatewa
     let mut value = old.value;
     value.gateway = Gate::Inet(gateway);
     value.flags |= RTF_MODIFIED;
-    rewrite(table, &old, value);
+    rewrite(table, &old, &value);
     let messages = settle_gateway(table, spare, &value);
     let route = Entry { value, ..old };
     Added { route, messages }
@@ -136,7 +141,7 @@ fn modify(table: &mut Table<Route>, spare: &mut Spare, old: Entry<Route>, gatewa
 
 /// What is done about a redirect.
 fn consider(
-    table: &Table<Route>,
+    table: &Table<PackedRoute>,
     visits: &mut Visits,
     interfaces: &Interfaces,
     asked: &NewGateway,

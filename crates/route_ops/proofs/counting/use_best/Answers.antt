@@ -29,11 +29,12 @@ pub returns-then-has-clause-entries : goal.returns-then-has-clause-entries
 returns-then-has-clause-entries c =
     let at = (goal.at.returns-then-has-clause-entries c).In-Some in
     let table = c.args.table.now.entries in
-    ap (with_entry (entry at)) (same at) ∙ put_again table (entry at) c.is_table.ensures (stands at)
-    ∙ sym (ap (λ b. if b then table else with_entry (entry_with_one_more_use (entry at)) table) (sym c.has.ensures ∙ c.if-has.true))
+    rw c.route.ensures
+    (ap (with_entry (entry at)) (same at) ∙ put_again table (entry at) c.is_table.ensures (stands at)
+    ∙ sym (ap (λ b. if b then table else with_entry (entry_with_one_more_use (entry at)) table) (sym (rw c.route.ensures at c.has.ensures) ∙ c.if-has.true)))
 
 pub returns-then-has-clause-ifa : goal.returns-then-has-clause-ifa
-returns-then-has-clause-ifa c = has_ifa (goal.at.returns-then-has-clause-ifa c).In-Some
+returns-then-has-clause-ifa c = rw c.route.ensures (has_ifa (goal.at.returns-then-has-clause-ifa c).In-Some)
 
 pub returns-then-has-clause-of : goal.returns-then-has-clause-of
 returns-then-has-clause-of c = λ interfaces are.
@@ -42,7 +43,7 @@ returns-then-has-clause-of c = λ interfaces are.
     (subst (AreOf interfaces) (sym (same at)) are)
 
 pub returns-clause-ifa : goal.returns-clause-ifa
-returns-clause-ifa c = has_ifa (goal.at.returns-clause-ifa c).In-Some
+returns-clause-ifa c = rw c.route.ensures (has_ifa (goal.at.returns-clause-ifa c).In-Some)
 
 pub returns-clause-of : goal.returns-clause-of
 returns-clause-of c = λ interfaces are.

@@ -17,7 +17,8 @@ returns-in_default-clause-of c = λ interfaces are.
 
 pub returns-clause-taken : goal.returns-clause-taken
 returns-clause-taken c =
-    taken_is c.args.key c.args.rank c.args.table.now.entries (Some c.in-Some.value) (sym c.in-Some.is ∙ c.remove.ensures.value)
+    rw c.route.ensures
+    (taken_is c.args.key c.args.rank c.args.table.now.entries (Some c.in-Some.value) (sym c.in-Some.is ∙ c.remove.ensures.value))
 
 pub returns-clause-of : goal.returns-clause-of
 returns-clause-of c = λ interfaces are.

@@ -6,4 +6,4 @@ use Rattle.route_ops.proofs.reading.best_ifa.Goals as goal
 pub returns-in-Some-clause-of : goal.returns-in-Some-clause-of
 returns-in-Some-clause-of c = λ interfaces are.
     let best : Entry Route = record { key = c.in-Some.field-0-0; rank = c.in-Some.field-0-1; value = c.in-Some.route.now } in
-    ifa_of interfaces c.args.table.now.entries best are c.in-Some.ensures.stands
+    rw c.ifa.ensures (ifa_of interfaces c.args.table.now.entries best are c.in-Some.ensures.stands)
