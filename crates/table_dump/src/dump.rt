@@ -9,23 +9,24 @@ use crate::shown::{is_asked, shown, shown_size};
 use if_addrs::Interfaces;
 use memory::Memory;
 use radix_tree::{Table, Visits};
-use route_entries::Route;
+use route_entries::PackedRoute;
 use sock_addrs::Errno;
 use std::alloc::{AllocError, Global};
 
 /// How many bytes the dump of a table takes, or `u64::MAX` where they are more: of all routes, or of those that have
 /// a flag of the filter.
 #[tactic(auto, using(crate::proofs::Showing::asked, crate::proofs::Showing::passed, crate::proofs::Showing::added))]
-pub fn total(table: &Table<Route>, visits: &mut Visits, filter: Option<u32>) -> u64
+pub fn total(table: &Table<PackedRoute>, visits: &mut Visits, filter: Option<u32>) -> u64
     requires turn { visits.old.turn ≡ table.now.turn }
     ensures total { (interfaces : List Interface) → result ≡ total_of (shown_of filter interfaces table.now.entries) }
     ensures counter { visits.new.turn ≡ visits.old.turn }
 {
     let mut walk = table.walk(visits);
     let mut total = 0u64;
-    while let Some((_, rank, route)) = walk.step(visits) {
-        if is_asked(route, filter) {
-            total = total.saturating_add(shown_size(rank, route) as u64);
+    while let Some((_, rank, packed)) = walk.step(visits) {
+        let route = packed.route();
+        if is_asked(&route, filter) {
+            total = total.saturating_add(shown_size(rank, &route) as u64);
         }
     }
     total
@@ -38,7 +39,7 @@ pub fn total(table: &Table<Route>, visits: &mut Visits, filter: Option<u32>) -> 
 pub fn dump_into(
     alloc: Global,
     memory: &mut Memory,
-    table: &Table<Route>,
+    table: &Table<PackedRoute>,
     interfaces: &Interfaces,
     visits: &mut Visits,
     room: u32,
@@ -57,11 +58,12 @@ pub fn dump_into(
     let mut walk = table.walk(visits);
     let mut bytes = Vec::new(alloc);
     let mut left = room as usize;
-    while let Some((key, rank, route)) = walk.step(visits) {
-        if !is_asked(route, filter) {
+    while let Some((key, rank, packed)) = walk.step(visits) {
+        let route = packed.route();
+        if !is_asked(&route, filter) {
             continue;
         }
-        let message = shown(interfaces.interface_of(route.ifa), key, rank, route);
+        let message = shown(interfaces.interface_of(route.ifa), key, rank, &route);
         if left < message.len() {
             return Ok((bytes, Some(Errno::ENOMEM)));
         }
