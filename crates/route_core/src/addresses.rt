@@ -15,7 +15,7 @@ use listeners::Listeners;
 use mask_table::Prefix;
 use memory::Memory;
 use radix_tree::Entry;
-use route_entries::Route;
+use route_entries::{PackedRoute, Route};
 use route_msgs::kinds::{RTM_DELADDR, RTM_NEWADDR};
 use route_ops::{route_of_address, withdraw_route};
 use sock_addrs::families::AF_INET;
@@ -85,7 +85,11 @@ impl World {
         };
         let facts = self.interfaces.facts(ifa);
         let route = route_of_address(ifa, address, &facts);
-        if let Err((room, _)) = self.table.add(room, route.key, route.rank, route.value) {
+        // it leads over the address itself, and has no metrics
+        let Some(packed) = PackedRoute::small(&route.value) else {
+            unreachable!()
+        };
+        if let Err((room, _)) = self.table.add(room, route.key, route.rank, packed) {
             self.table.give_back(room);
             return Err(Errno::EEXIST);
         }

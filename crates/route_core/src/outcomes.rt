@@ -20,7 +20,7 @@ use if_addrs::{IfaRef, Interfaces};
 use mask_table::Prefix;
 use memory::Memory;
 use radix_tree::Table;
-use route_entries::Route;
+use route_entries::{Blocks, PackedRoute};
 use route_msgs::{Header, Message};
 use route_ops::{
     Change, NewRoute, Notices, add_planned, change_planned, finish, plan_add, plan_change,
@@ -64,7 +64,8 @@ impl Done {
 /// Carries out what a process asks, and makes the reply in `own` where it isn't the written message. Refused as the
 /// calls of `route_ops` say, or by ENOBUFS for want of memory, and no route is changed then.
 pub(crate) fn carry_out(
-    table: &mut Table<Route>,
+    table: &mut Table<PackedRoute>,
+    blocks: &mut Blocks,
     interfaces: &Interfaces,
     asked: &Asked,
     pid: u32,
@@ -83,13 +84,13 @@ pub(crate) fn carry_out(
     ensures of { AreOf interfaces.now table.new.entries }
 {
     match &asked.request {
-        Request::Add(route) => add(table, interfaces, route, memory),
+        Request::Add(route) => add(table, blocks, interfaces, route, memory),
         Request::Delete {
             key,
             netmask,
             flags,
         } => delete(table, *key, *netmask, *flags),
-        Request::Change(wanted) => change(table, interfaces, wanted, memory),
+        Request::Change(wanted) => change(table, blocks, interfaces, wanted, memory),
         Request::Lock {
             destination,
             netmask,
@@ -113,7 +114,8 @@ pub(crate) fn carry_out(
 
 /// Adds a route. Refused as `request_add`, or by ENOBUFS for want of memory.
 fn add(
-    table: &mut Table<Route>,
+    table: &mut Table<PackedRoute>,
+    blocks: &mut Blocks,
     interfaces: &Interfaces,
     asked: &NewRoute,
     memory: &mut Memory,
@@ -134,15 +136,16 @@ fn add(
         Ok(route) => route,
         Err(errno) => return Err(errno),
     };
-    let mut spare = prepare_rooms(table, asked.rooms(), memory)?;
+    let mut spare = prepare_rooms(table, asked.rooms(), blocks, memory)?;
     let messages = add_planned(table, &mut spare, &route);
-    finish(table, spare);
+    finish(table, blocks, spare);
     Ok(Done::told(messages))
 }
 
 /// Changes a route. Refused as `request_change`, or by ENOBUFS for want of memory.
 fn change(
-    table: &mut Table<Route>,
+    table: &mut Table<PackedRoute>,
+    blocks: &mut Blocks,
     interfaces: &Interfaces,
     asked: &Change,
     memory: &mut Memory,
@@ -163,15 +166,16 @@ fn change(
         Ok(route) => route,
         Err(errno) => return Err(errno),
     };
-    let mut spare = prepare_rooms(table, asked.rooms(), memory)?;
-    let messages = change_planned(table, &mut spare, asked.gateway, &route);
-    finish(table, spare);
+    let packed = blocks.pack(&route.value, memory)?;
+    let mut spare = prepare_rooms(table, asked.rooms(), blocks, memory)?;
+    let messages = change_planned(table, &mut spare, asked.gateway, &route, packed);
+    finish(table, blocks, spare);
     Ok(Done::told(messages))
 }
 
 /// Deletes a route. Refused as `request_delete`.
 fn delete(
-    table: &mut Table<Route>,
+    table: &mut Table<PackedRoute>,
     key: Inet,
     netmask: Option<Prefix>,
     flags: u16,
@@ -193,7 +197,7 @@ fn delete(
 
 /// Locks and unlocks metrics of a route. Refused as `request_lock`.
 fn lock(
-    table: &mut Table<Route>,
+    table: &mut Table<PackedRoute>,
     destination: Inet,
     netmask: Option<Prefix>,
     inits: u32,
@@ -219,7 +223,7 @@ fn lock(
 
 /// Shows a route in `own`, with its interface where that is asked for. Refused as `request_get`.
 fn get(
-    table: &mut Table<Route>,
+    table: &mut Table<PackedRoute>,
     interfaces: &Interfaces,
     header: &Header,
     pid: u32,

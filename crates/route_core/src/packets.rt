@@ -71,9 +71,9 @@ impl World {
         ensures step { Steps self.old (Packet destination) (answer_of result) self.new }
         ensures counted { Rises (lacks_memory (answer_of result)) memory.old memory.new }
     {
-        let mut spare = prepare(&mut self.table, memory)?;
+        let mut spare = prepare(&mut self.table, &mut self.blocks, memory)?;
         let looked = look_up(&mut self.table, &mut spare, Gate::Inet(destination), true);
-        finish(&mut self.table, spare);
+        finish(&mut self.table, &mut self.blocks, spare);
         tell(&mut self.listeners, &looked.messages);
         let Some(route) = looked.answer else {
             unreachable!()

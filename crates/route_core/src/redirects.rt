@@ -34,9 +34,9 @@ impl World {
         ensures step { Steps self.old (Redirect asked.now) (answer_of result) self.new }
         ensures counted { Rises (lacks_memory (answer_of result)) memory.old memory.new }
     {
-        let mut spare = prepare(&mut self.table, memory)?;
+        let mut spare = prepare(&mut self.table, &mut self.blocks, memory)?;
         let redirected = redirect(&mut self.table, &self.interfaces, &mut spare, asked);
-        finish(&mut self.table, spare);
+        finish(&mut self.table, &mut self.blocks, spare);
         tell(&mut self.listeners, &redirected.messages);
         match redirected.errno {
             Some(errno) => Err(errno),

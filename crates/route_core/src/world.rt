@@ -13,7 +13,7 @@ use if_addrs::Interfaces;
 use listeners::Listeners;
 use memory::Memory;
 use radix_tree::Table;
-use route_entries::Route;
+use route_entries::{Blocks, PackedRoute};
 use sock_addrs::{Errno, Name};
 use std::alloc::{AllocError, Global};
 use std::marker::Model;
@@ -21,7 +21,9 @@ use std::marker::Model;
 /// What a script works on. A contract sees its routes, interfaces and sockets.
 #[derive(Drop)]
 pub struct World {
-    pub(crate) table: Table<Route>,
+    pub(crate) table: Table<PackedRoute>,
+    /// For routes to come that aren't kept small.
+    pub(crate) blocks: Blocks,
     pub(crate) interfaces: Interfaces,
     pub(crate) listeners: Listeners,
     pub(crate) reply: ReplyBuffer,
@@ -58,6 +60,7 @@ impl World {
         };
         Ok(World {
             table,
+            blocks: Blocks::new(alloc),
             interfaces: Interfaces::new(alloc),
             listeners: Listeners::new(alloc),
             reply: ReplyBuffer::new(alloc, memory)?,

@@ -80,6 +80,7 @@ impl World {
         let mut own = Message::new();
         match carry_out(
             &mut self.table,
+            &mut self.blocks,
             &self.interfaces,
             asked,
             pid,

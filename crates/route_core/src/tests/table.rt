@@ -5,6 +5,7 @@ ghost use Rattle.std.specs.Prelude.{◌≡◌};
 use mask_table::{Rank, masked};
 use memory::Memory;
 use radix_tree::{Table, Visits, laws};
+use route_entries::PackedRoute;
 use sock_addrs::Inet;
 use std::alloc::AllocError;
 use std::mem::size_of;
@@ -38,6 +39,11 @@ fn best_in(table: &Table<u64>, address: Inet, visits: &mut Visits) -> Option<(u8
 #[test]
 fn a_counter_has_no_bytes(rt: HostRuntime) {
     assert_eq!(rt; size_of::<Visits>(), 0);
+}
+
+#[test]
+fn a_kept_route_has_few_bytes(rt: HostRuntime) {
+    assert_eq!(rt; size_of::<PackedRoute>(), 32);
 }
 
 #[test]

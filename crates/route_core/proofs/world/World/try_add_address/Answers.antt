@@ -32,8 +32,8 @@ returns-clause-step c =
     (address_routed w c.args.name c.args.address c.args.prefix c.args.cloning c.args.far _ _ _ _ _ _ _
     (sym c.in_ok-check_addr.ensures)
     c.in-Ok.ensures.number facts c.route_of_address-route.ensures.route
-    (rw c.in_ok-room.ensures.ok at (ap is_some c.in_default.ensures.absent))
-    (rw c.in_ok-room.ensures.ok at c.in_default.ensures.ok)
+    (rw c.in_ok-room.ensures.ok at (ap is_some c.in_default-add.ensures.absent))
+    (rw (c.in_ok-room.ensures.ok, c.in-Some.ensures.route) at c.in_default-add.ensures.ok)
     c.in-Ok.ensures.added
     c.mark_routed.ensures.marked
     c.announce.ensures)
