@@ -16,7 +16,9 @@ twice : (x y : ℕ) → x < 2 → ((x + y) % 2 + y) % 2 ≡ x
 twice x y h = omega arith
 
 xor_twice : (a b : ℕ) → bit_xor (bit_xor a b) b ≡ a
-xor_twice a b = same_from_bits _ _ (λ i. bit_at_xor (bit_xor a b) b i ∙ ap (λ (n : ℕ). (n + bit_at b i) % 2) (bit_at_xor a b i) ∙ twice (bit_at a i) (bit_at b i) (bit_at-lt a i))
+xor_twice a b =
+    same_from_bits _ _ (λ i. bit_at_xor (bit_xor a b) b i ∙ ap (λ (n : ℕ). (n + bit_at b i) % 2) (bit_at_xor a b i)
+    ∙ twice (bit_at a i) (bit_at b i) (bit_at-lt a i))
 
 pub turned_twice : (f : Flags) → turned (turned f) ≡ f
 turned_twice f = ap (λ (n : ℕ). record { bits = n }) (xor_twice f.bits 1)
@@ -41,4 +43,5 @@ pub low_stays : (high n j k : ℕ) → k < j → bit_at (high * 2 ^ j + n % 2 ^ 
 low_stays high n j k h = bit_at_cat_low high j (n % 2 ^ j) k h ∙ sym (bit_at_cat_low (n / 2 ^ j) j (n % 2 ^ j) k h) ∙ split n j k
 
 pub high_stays : (low n j k : ℕ) → low < 2 ^ j → j ≤ k → bit_at (n / 2 ^ j * 2 ^ j + low) k ≡ bit_at n k
-high_stays low n j k fits h = bit_at_cat_high (n / 2 ^ j) j low k fits h ∙ sym (bit_at_cat_high (n / 2 ^ j) j (n % 2 ^ j) k (mod-lt n (pow_pos j)) h) ∙ split n j k
+high_stays low n j k fits h =
+    bit_at_cat_high (n / 2 ^ j) j low k fits h ∙ sym (bit_at_cat_high (n / 2 ^ j) j (n % 2 ^ j) k (mod-lt n (pow_pos j)) h) ∙ split n j k

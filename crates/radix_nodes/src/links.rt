@@ -53,9 +53,9 @@ pub struct MaskNode {
     pub next: Option<Id>,
 }
 
-/// A room's links: what it is as a leaf, as a bit node and as a mask node. They take 72 bytes: eight names of 8 bytes each,
-/// and 8 bytes for the key, the rank, the bit, and the flags: which of the nodes beneath are leaves, which of
-/// the other names are there, and in which roles the room is in use. What a descent reads comes first.
+/// A room's links: what it is as a leaf, as a bit node and as a mask node. They take 72 bytes: eight names of 8 bytes
+/// each, and 8 bytes for the key, the rank, the bit, and the flags: which of the nodes beneath are leaves, which of the
+/// other names are there, and in which roles the room is in use. What a descent reads comes first.
 #[derive(Clone, Copy)]
 pub struct Links {
     zero: Id,

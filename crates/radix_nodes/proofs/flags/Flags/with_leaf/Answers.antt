@@ -1,4 +1,4 @@
-use Rattle.std.proofs.Common.{◌+◌, ◌*◌, ◌%◌, ◌<◌, ◌==◌, ◌∙◌, ℕ, ap, arith}
+use Rattle.std.proofs.Common.{◌<◌, ◌==◌, ◌∙◌, ℕ, ap, arith}
 use Rattle.std.proofs.lemmas.Nat.Bits.{bit_at_cat_low}
 use Rattle.radix_nodes.specs.Flags.{has}
 use Rattle.radix_nodes.proofs.FlagBits.{low_stays, high_stays}
@@ -12,6 +12,4 @@ returns-clause-bit_node c k h =
 
 pub returns-clause-mask_node : goal.returns-clause-mask_node
 unfolding has
-returns-clause-mask_node c k h =
-    let fits : (c.from.result + 2 * c.from-2.result + 4 * c.from-3.result) * 32 + c.args.self.bits % 32 < 256 = grind arith in
-    ap (λ (n : ℕ). n == 1) (high_stays _ c.args.self.bits 8 k fits h)
+returns-clause-mask_node c k h = ap (λ (n : ℕ). n == 1) (high_stays _ c.args.self.bits 8 k (grind arith) h)
