@@ -79,3 +79,27 @@ printed_read most n word room small e =
 -- a number past the bound is not
 pub larger_refused : (most n : ℕ) (word : List ℕ) → n < 2 ^ 32 → most < n → word ≡ decimal n → number_to most word ≡ None
 larger_refused most n word small large e = read_as most n word small e ∙ stays most (length word) n _ (λ fits _. omega (arith, large, fits))
+
+-- a word that no number up to the bound prints as is none
+pub no_number : (most : ℕ) (word : List ℕ) → ((n : ℕ) → n ≤ most → word ≡ decimal n → ⊥) → number_to most word ≡ None
+no_number most word h =
+    let n = digits_value 10 word in stays most (length word) n (bytes_eq word (decimal n)) (λ fits same. h n fits ((bytes_eq-Decides word (decimal n)).0 same))
+
+-- digits of a number up to the bound, without leading zeros
+pub digits_are : (most : ℕ) (word : List ℕ) → most < 2 ^ 32 → AllDigits 10 word → 0 < length word → (get_or word 0 0 ≡ 48 → length word ≡ 1)
+    → digits_value 10 word ≤ most → number_to most word ≡ Some (digits_value 10 word)
+digits_are most word room digits some lead small =
+    printed_read most (digits_value 10 word) word room small (digits_printed word digits some lead (omega (arith, room, small)))
+
+-- a byte prints as at most three digits
+pub printed_byte : (n : ℕ) (word : List ℕ) → n ≤ 255 → word ≡ decimal n → length word ≤ 3
+printed_byte n word small e = omega (arith, ap length e, length-decimal-le 3 n (omega arith) (omega (arith, small)) (omega (arith, small)))
+
+chosen_is : (most len n m : ℕ) (same : Bool) → chosen most len same n ≡ Some m → (m ≤ most) × (m ≡ n) × (same ≡ true)
+chosen_is most len n m same h = grind arith
+
+-- a word that is a number is what that prints as
+pub is_printed : (most n : ℕ) (word : List ℕ) → number_to most word ≡ Some n → (n ≤ most) × (word ≡ decimal n)
+is_printed most n word read =
+    let is = chosen_is most (length word) (digits_value 10 word) n (bytes_eq word (decimal (digits_value 10 word))) read in
+    (is.0, (bytes_eq-Decides word (decimal (digits_value 10 word))).0 is.2 ∙ ap decimal (sym is.1))

@@ -3,6 +3,7 @@ pub mod CauseLemmas
 pub mod Composed
 pub mod Cutting
 pub mod Decimals
+pub mod DottedBytes
 pub mod Fronts
 pub mod GrammarRows
 pub mod HexPieces
@@ -15,10 +16,10 @@ pub mod MessageLines
 pub mod Places
 pub mod PrintedWords
 pub mod PutMessages
+pub mod Reaching
 pub mod ReadForms
 pub mod ReadRoutes
 pub mod ReadWords
-pub mod Reaching
 pub mod ResponseLines
 pub mod RowAddressIsAnnounced
 pub mod RowChangeAndLock

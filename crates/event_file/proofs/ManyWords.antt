@@ -1,12 +1,13 @@
--- How many words the forms have: too few are none, and no line has more than 35.
+-- How many words the forms have: too few are none, and so are more than 34 behind `route` and than 5 behind another verb.
 use Prim.Native.String.{String}
-use Rattle.std.proofs.Common.{◌≡◌, ◌<◌, ◌≤◌, ◌+◌, ◌*◌, ℕ, Bool, true, false, cond, List, [], ◌∷◌, length, refl, arith, codes, bytes_eq, nat_lt, Option, Some, None}
+use Rattle.std.proofs.Common.{◌≡◌, ◌<◌, ◌≤◌, ◌+◌, ◌*◌, ℕ, Bool, true, false, cond, List, [], ◌∷◌, length, refl, arith, codes, bytes_eq, Option, Some, None}
+use Rattle.std.specs.Prelude.{⊤}
+use Rattle.std.proofs.lemmas.Slice.Eq.{bytes_eq-Decides}
 use Rattle.event_file.specs.declared.route_words.MetricWords.{MetricWords}
 use Rattle.event_file.specs.declared.route_words.RouteWords.{RouteWords}
-use Rattle.event_file.specs.Grammar.{add_address_form, attach_form, cloning_of, close_form, command_of, dump_form, flags_form, forms, inet_if_written, loopback_form, open_form, packet_form, read_form, lost_form, losing_form, redirect_form, remove_address_form, route_form, route_forms, said_by, write_form}
-use Rattle.event_file.specs.Lines.{most_line_bytes}
+use Rattle.event_file.specs.Grammar.{Form, add_address_form, by_forms, attach_form, cloning_of, close_form, dump_form, flags_form, forms, inet_if_written, loopback_form, open_form, packet_form, read_form, lost_form, losing_form, redirect_form, remove_address_form, route_form, route_forms, write_form}
 use Rattle.event_file.specs.RouteLine.{address_options, behind_addresses, behind_bits, bit_options, destination_of, if_none_left, message_of, metric_options, number_if_written, option_behind, route_words_of, verb_of, words_behind_all}
-use Rattle.event_file.specs.Words.{name_of, number_to, option_written, parted_by, words_behind}
+use Rattle.event_file.specs.Words.{name_of, number_to, option_written, words_behind}
 use Rattle.event_file.proofs.ReadForms.{EachSays, by_forms-says}
 use Rattle.event_file.proofs.ReadWords.{bind_some}
 use Rattle.route_core.specs.Commands.{Command}
@@ -83,7 +84,7 @@ route_words_of-most words said h = cc h
 
 -- ---- forms
 
-attach_form-most : (words : List (List ℕ)) (command : Command) → attach_form words ≡ Some command → length words ≤ 34
+attach_form-most : (words : List (List ℕ)) (command : Command) → attach_form words ≡ Some command → length words ≤ 5
 attach_form-most (name ∷ kind ∷ type ∷ link ∷ []) command h = omega arith
 attach_form-most words command h = cc h
 
@@ -92,38 +93,38 @@ cloning_of-most [] cloning h = omega arith
 cloning_of-most (option ∷ []) cloning h = omega arith
 cloning_of-most words cloning h = cc h
 
-add_address_form-most : (words : List (List ℕ)) (command : Command) → add_address_form words ≡ Some command → length words ≤ 34
+add_address_form-most : (words : List (List ℕ)) (command : Command) → add_address_form words ≡ Some command → length words ≤ 5
 add_address_form-most (name ∷ address ∷ options) command h =
     let (far, _, hf) = bind_some (inet_if_written (option_written (codes "to") options)) _ command h in
     let (cloning, is, _) = bind_some (cloning_of (words_behind (codes "to") options)) _ command hf in
     omega (arith, length-words_behind (codes "to") options, cloning_of-most (words_behind (codes "to") options) cloning is)
 add_address_form-most words command h = cc h
 
-remove_address_form-most : (words : List (List ℕ)) (command : Command) → remove_address_form words ≡ Some command → length words ≤ 34
+remove_address_form-most : (words : List (List ℕ)) (command : Command) → remove_address_form words ≡ Some command → length words ≤ 5
 remove_address_form-most (name ∷ address ∷ []) command h = omega arith
 remove_address_form-most words command h = cc h
 
-open_form-most : (words : List (List ℕ)) (command : Command) → open_form words ≡ Some command → length words ≤ 34
+open_form-most : (words : List (List ℕ)) (command : Command) → open_form words ≡ Some command → length words ≤ 5
 open_form-most (id ∷ pid ∷ protocol ∷ []) command h = omega arith
 open_form-most words command h = cc h
 
-loopback_form-most : (words : List (List ℕ)) (command : Command) → loopback_form words ≡ Some command → length words ≤ 34
+loopback_form-most : (words : List (List ℕ)) (command : Command) → loopback_form words ≡ Some command → length words ≤ 5
 loopback_form-most (id ∷ switch ∷ []) command h = omega arith
 loopback_form-most words command h = cc h
 
-close_form-most : (words : List (List ℕ)) (command : Command) → close_form words ≡ Some command → length words ≤ 34
+close_form-most : (words : List (List ℕ)) (command : Command) → close_form words ≡ Some command → length words ≤ 5
 close_form-most (id ∷ []) command h = omega arith
 close_form-most words command h = cc h
 
-read_form-most : (words : List (List ℕ)) (command : Command) → read_form words ≡ Some command → length words ≤ 34
+read_form-most : (words : List (List ℕ)) (command : Command) → read_form words ≡ Some command → length words ≤ 5
 read_form-most (id ∷ []) command h = omega arith
 read_form-most words command h = cc h
 
-lost_form-most : (words : List (List ℕ)) (command : Command) → lost_form words ≡ Some command → length words ≤ 34
+lost_form-most : (words : List (List ℕ)) (command : Command) → lost_form words ≡ Some command → length words ≤ 5
 lost_form-most (id ∷ []) command h = omega arith
 lost_form-most words command h = cc h
 
-write_form-most : (words : List (List ℕ)) (command : Command) → write_form words ≡ Some command → length words ≤ 34
+write_form-most : (words : List (List ℕ)) (command : Command) → write_form words ≡ Some command → length words ≤ 5
 write_form-most (id ∷ bytes ∷ []) command h = omega arith
 write_form-most words command h = cc h
 
@@ -135,37 +136,37 @@ route_form-most (id ∷ words) command h =
     let (said, is, _) = bind_some (route_words_of words) _ m composes in
     omega (arith, route_words_of-most words said is)
 
-packet_form-most : (words : List (List ℕ)) (command : Command) → packet_form words ≡ Some command → length words ≤ 34
+packet_form-most : (words : List (List ℕ)) (command : Command) → packet_form words ≡ Some command → length words ≤ 5
 packet_form-most (destination ∷ []) command h = omega arith
 packet_form-most words command h = cc h
 
-redirect_form-most : (words : List (List ℕ)) (command : Command) → redirect_form words ≡ Some command → length words ≤ 34
+redirect_form-most : (words : List (List ℕ)) (command : Command) → redirect_form words ≡ Some command → length words ≤ 5
 redirect_form-most (destination ∷ gateway ∷ author ∷ []) command h = omega arith
 redirect_form-most words command h = cc h
 
-losing_form-most : (words : List (List ℕ)) (command : Command) → losing_form words ≡ Some command → length words ≤ 34
+losing_form-most : (words : List (List ℕ)) (command : Command) → losing_form words ≡ Some command → length words ≤ 5
 losing_form-most (destination ∷ []) command h = omega arith
 losing_form-most words command h = cc h
 
-dump_form-most : (words : List (List ℕ)) (command : Command) → dump_form words ≡ Some command → length words ≤ 34
+dump_form-most : (words : List (List ℕ)) (command : Command) → dump_form words ≡ Some command → length words ≤ 5
 dump_form-most (word ∷ []) command h = omega arith
 dump_form-most words command h = cc h
 
-flags_form-most : (words : List (List ℕ)) (command : Command) → flags_form words ≡ Some command → length words ≤ 34
+flags_form-most : (words : List (List ℕ)) (command : Command) → flags_form words ≡ Some command → length words ≤ 5
 flags_form-most (flags ∷ word ∷ []) command h = omega arith
 flags_form-most words command h = cc h
 
 -- ---- lines
 
-said_by-most : (words : List (List ℕ)) (command : Command) → said_by words ≡ Some command → length words ≤ 35
-said_by-most [] command h = omega arith
-said_by-most (verb ∷ words) command h =
-    let Few : Command → Type 0 = λ _. length words ≤ 34 in
+by_forms-most : (verb : List ℕ) (words : List (List ℕ)) (command : Command) → bytes_eq verb (codes "route") ≡ false → by_forms forms verb words ≡ Some command → length words ≤ 5
+by_forms-most verb words command other h =
+    let Few : Command → Type 0 = λ _. length words ≤ 5 in
+    let not_route : verb ≡ codes "route" → ⊥ = λ is. cc ((bytes_eq-Decides verb (codes "route")).1 is, other) in
     let of_routes : EachSays Few route_forms verb words command = (
       λ _. write_form-most words command,
-      (λ _. route_form-most words command, (λ _. packet_form-most words command, (λ _. redirect_form-most words command, (λ _. losing_form-most words command, (λ _. dump_form-most words command, (λ _. flags_form-most words command, tt)))))),
+      (λ is. absurd (not_route is), (λ _. packet_form-most words command, (λ _. redirect_form-most words command, (λ _. losing_form-most words command, (λ _. dump_form-most words command, (λ _. flags_form-most words command, tt)))))),
     ) in
-    let few : length words ≤ 34 = by_forms-says Few forms verb words command (
+    by_forms-says Few forms verb words command (
       λ _. attach_form-most words command,
       (
         λ _. add_address_form-most words command,
@@ -177,18 +178,29 @@ said_by-most (verb ∷ words) command h =
           ),
         ),
       ),
-    ) h in
-    omega (arith, few)
+    ) h
 
-said_by-many : (words : List (List ℕ)) → 35 < length words → said_by words ≡ None
-said_by-many words many = elim (said_by words) as (λ (o : Option Command). said_by words ≡ o → o ≡ None) [
-  | Some command ↦ λ is. absurd (omega (arith, said_by-most words command is, many))
-  | None ↦ λ _. refl
-] refl
+-- what is no command is none
+none_said : (P : Type 0) (o : Option Command) → ((command : Command) → o ≡ Some command → P) → (P → ⊥) → o ≡ None
+none_said P None says wrong = refl
+none_said P (Some command) says wrong = absurd (wrong (says command refl))
 
--- more words are no line
-pub too_many_words : (line : List ℕ) → 35 < length (parted_by 32 line) → command_of line ≡ None
-too_many_words line many = elim (nat_lt most_line_bytes (length line)) as (λ (t : Bool). cond t None (said_by (parted_by 32 line)) ≡ None) [
-  | true ↦ refl
-  | false ↦ said_by-many (parted_by 32 line) many
-]
+pub many_words : (verb : List ℕ) (words : List (List ℕ)) → bytes_eq verb (codes "route") ≡ false → 5 < length words → by_forms forms verb words ≡ None
+many_words verb words other many =
+    none_said (length words ≤ 5) (by_forms forms verb words) (λ command. by_forms-most verb words command other) (λ few. omega (arith, few, many))
+
+pub many_route_words : (words : List (List ℕ)) → 34 < length words → route_form words ≡ None
+many_route_words words many = none_said (length words ≤ 34) (route_form words) (route_form-most words) (λ few. omega (arith, few, many))
+
+-- a verb alone is no command
+abbrev NoneAlone : List Form → Type 0
+NoneAlone [] = ⊤
+NoneAlone (f ∷ fs) = (f.says [] ≡ None) × NoneAlone fs
+
+no_form : (fs : List Form) (verb : List ℕ) → NoneAlone fs → by_forms fs verb [] ≡ None
+no_form [] verb none = refl
+no_form (f ∷ fs) verb none =
+    elim (bytes_eq verb (codes f.verb)) as (λ t. cond t (f.says []) (by_forms fs verb []) ≡ None) [ true ↦ none.0 | false ↦ no_form fs verb none.1 ]
+
+pub verb_alone : (verb : List ℕ) → by_forms forms verb [] ≡ None
+verb_alone verb = no_form forms verb (refl, (refl, (refl, (refl, (refl, (refl, (refl, (refl, (refl, (refl, (refl, (refl, (refl, (refl, (refl, tt)))))))))))))))

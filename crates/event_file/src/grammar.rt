@@ -1,23 +1,23 @@
-ghost use Rattle.std.specs.Prelude.{◌≡◌, ◌≤◌, map, bytes_eq, length, option_map, Some, None};
+ghost use Rattle.std.specs.Prelude.{◌≡◌, map, bytes_eq, codes, length, option_map, false, Some, None};
 ghost use Rattle.std.specs.Result.{MatchResult};
 ghost use Rattle.event_file.specs.Words.{parted_by};
-ghost use Rattle.event_file.specs.Grammar.{attach_form, inet_if_written, cloning_of, address_of_parts, add_address_form, remove_address_form, open_form, loopback_form, close_form, write_form, route_form, read_form, lost_form, packet_form, redirect_of, redirect_form, losing_form, dump_into as into_room, dump_of, dump_form, flags_form, forms, route_forms, by_forms, said_by, command_of};
+ghost use Rattle.event_file.specs.Grammar.{attach_form, inet_if_written, cloning_of, address_of_parts, add_address_form, remove_address_form, open_form, loopback_form, close_form, write_form, route_form, read_form, lost_form, packet_form, redirect_of, redirect_form, losing_form, dump_into as into_room, dump_of, dump_form, flags_form, forms, route_forms, by_forms, command_of};
 
 use crate::Bad;
 use crate::line_buffer::LONGEST_LINE;
 use crate::numbers::{read_byte, read_hex, read_inet, read_number, read_prefix, read_protocol};
 use crate::route_line::read_composed;
 use crate::texts::{read_kind, read_link, read_name, read_switch, read_written};
-use crate::words::{Options, if_written, is, parted, put_parts};
+use crate::words::{Options, cut, if_written, is, parted, put_parts};
 use arrayvec::ArrayVec;
 use route_core::{Command, MOST_WRITTEN, NewGateway, Said};
 use sock_addrs::Inet;
 
-/// The most words of a line: `route ID SEQ VERB DEST` and 15 options, of a name and a word each.
-const MOST_WORDS: usize = 35;
+/// The most words behind a verb, but behind `route`: `addr NAME A/P to A cloning`.
+const MOST_WORDS: usize = 5;
 
-/// The most words of the lines that come most often (`write`, `read`, `packet`), for which less room is made.
-const FEW_WORDS: usize = 3;
+/// The most words behind `route`: `ID SEQ VERB DEST` and 15 options, of a name and a word each.
+const MOST_ROUTE_WORDS: usize = 34;
 
 // The forms are not inlined: what each makes of its words would else be cleared, and moved once more, for each other line.
 
@@ -159,13 +159,19 @@ fn write<'a>(words: &[&[u8]], room: &'a mut [u8]) -> Option<Said<'a>>
     })
 }
 
-/// `ID SEQ VERB DEST OPTION..`, behind `route`: a write of the message that they compose.
+/// `ID SEQ VERB DEST OPTION..`, behind `route`: a write of the message that they compose. More words than any other line
+/// has are cut here, so that the others need no room for them.
 #[inline(never)]
-fn route<'a>(words: &[&[u8]], room: &'a mut [u8]) -> Option<Said<'a>>
+#[tactic(auto, using(crate::proofs::ManyWords::many_route_words))]
+fn route<'a>(rest: &[u8], room: &'a mut [u8]) -> Option<Said<'a>>
     requires { length room.old ≡ MOST_WRITTEN }
-    ensures { result ≡ route_form (map (λ w. w.now) words.now) }
+    ensures { result ≡ route_form (parted_by 32 rest.now) }
 {
-    let [id, words @ ..] = words else {
+    let mut words = ArrayVec::<&[u8], MOST_ROUTE_WORDS>::new();
+    if !put_parts(b' ', rest, &mut words) {
+        return None;
+    }
+    let [id, words @ ..] = words.as_slice() else {
         return None;
     };
     Some(Command::Write {
@@ -284,9 +290,10 @@ fn flags(words: &[&[u8]]) -> Option<Said<'static>>
     filtered_dump(Some(read_hex(flags)?), word)
 }
 
-/// The command on interfaces, sockets or routes that these words are behind this verb.
+/// The command on interfaces, sockets or routes that these words are behind this verb, which is not `route`.
 fn said_behind<'a>(verb: &[u8], words: &[&[u8]], room: &'a mut [u8]) -> Option<Said<'a>>
-    requires { length room.old ≡ MOST_WRITTEN }
+    requires verb { bytes_eq verb.now (codes "route") ≡ false }
+    requires room { length room.old ≡ MOST_WRITTEN }
     ensures { result ≡ by_forms forms verb.now (map (λ w. w.now) words.now) }
 {
     if is(verb, "if") {
@@ -316,16 +323,14 @@ fn said_behind<'a>(verb: &[u8], words: &[&[u8]], room: &'a mut [u8]) -> Option<S
     said_of_routes(verb, words, room)
 }
 
-/// The command on the routes that these words are behind this verb.
+/// The command on the routes that these words are behind this verb, which is not `route`.
 fn said_of_routes<'a>(verb: &[u8], words: &[&[u8]], room: &'a mut [u8]) -> Option<Said<'a>>
-    requires { length room.old ≡ MOST_WRITTEN }
+    requires verb { bytes_eq verb.now (codes "route") ≡ false }
+    requires room { length room.old ≡ MOST_WRITTEN }
     ensures { result ≡ by_forms route_forms verb.now (map (λ w. w.now) words.now) }
 {
     if is(verb, "write") {
         return write(words, room);
-    }
-    if is(verb, "route") {
-        return route(words, room);
     }
     if is(verb, "packet") {
         return packet(words);
@@ -345,34 +350,34 @@ fn said_of_routes<'a>(verb: &[u8], words: &[&[u8]], room: &'a mut [u8]) -> Optio
     None
 }
 
-/// The command that these words are: the first chooses the form of the others.
-fn said<'a>(words: &[&[u8]], room: &'a mut [u8]) -> Option<Said<'a>>
-    requires { length room.old ≡ MOST_WRITTEN }
-    ensures { result ≡ said_by (map (λ w. w.now) words.now) }
-{
-    let [verb, words @ ..] = words else {
-        return None;
-    };
-    said_behind(verb, words, room)
-}
-
-/// What a line says that may have as many words as any.
-#[inline(never)]
-#[tactic(auto, using(crate::proofs::ManyWords::too_many_words))]
-fn read_long<'a>(line: &[u8], room: &'a mut [u8]) -> Result<Said<'a>, Bad>
-    requires length { length line.now ≤ LONGEST_LINE }
+/// The command that what stands behind a verb says, which is not `route`.
+#[tactic(auto, using(crate::proofs::ManyWords::many_words))]
+fn said_in_few<'a>(verb: &[u8], rest: &[u8], room: &'a mut [u8]) -> Option<Said<'a>>
+    requires verb { bytes_eq verb.now (codes "route") ≡ false }
     requires room { length room.old ≡ MOST_WRITTEN }
-    ensures { MatchResult result (λ s. command_of line.now ≡ Some s) (λ _. command_of line.now ≡ None) }
+    ensures { result ≡ by_forms forms verb.now (parted_by 32 rest.now) }
 {
     let mut words = ArrayVec::<&[u8], MOST_WORDS>::new();
-    if !put_parts(b' ', line, &mut words) {
-        return Err(Bad);
+    if !put_parts(b' ', rest, &mut words) {
+        return None;
     }
-    said(words.as_slice(), room).ok_or(Bad)
+    said_behind(verb, words.as_slice(), room)
+}
+
+/// The command that a verb says with what stands behind it.
+fn said<'a>(verb: &[u8], rest: &[u8], room: &'a mut [u8]) -> Option<Said<'a>>
+    requires { length room.old ≡ MOST_WRITTEN }
+    ensures { result ≡ by_forms forms verb.now (parted_by 32 rest.now) }
+{
+    if is(verb, "route") {
+        return route(rest, room);
+    }
+    said_in_few(verb, rest, room)
 }
 
 /// What a line says, without its newline, as `read_line` reads it; the bytes of a write are put into `room`, which has
 /// room for `MOST_WRITTEN` bytes, and what it held is lost.
+#[tactic(auto, using(crate::proofs::ManyWords::verb_alone))]
 pub fn read_said<'a>(line: &[u8], room: &'a mut [u8]) -> Result<Said<'a>, Bad>
     requires { length room.old ≡ MOST_WRITTEN }
     ensures { MatchResult result (λ s. command_of line.now ≡ Some s) (λ _. command_of line.now ≡ None) }
@@ -380,11 +385,10 @@ pub fn read_said<'a>(line: &[u8], room: &'a mut [u8]) -> Result<Said<'a>, Bad>
     if line.len() > LONGEST_LINE {
         return Err(Bad);
     }
-    let mut words = ArrayVec::<&[u8], FEW_WORDS>::new();
-    if !put_parts(b' ', line, &mut words) {
-        return read_long(line, room);
-    }
-    said(words.as_slice(), room).ok_or(Bad)
+    let Some((verb, rest)) = cut(b' ', line) else {
+        return Err(Bad);
+    };
+    said(verb, rest, room).ok_or(Bad)
 }
 
 /// The command that a line says, without its newline. `Bad` where the grammar has no such line, among them any of more

@@ -1,11 +1,11 @@
-ghost use Rattle.std.specs.Prelude.{◌≡◌, ◌≢◌, ◌≤◌, ◌<◌, ◌-◌, ◌^◌, ◌++◌, ℕ, decimal, length, map, replicate};
+ghost use Rattle.std.specs.Prelude.{◌≡◌, ◌≢◌, ◌≤◌, ◌<◌, ◌-◌, ◌^◌, ◌∷◌, ◌++◌, ℕ, List, Some, None, decimal, length, replicate};
 ghost use Rattle.hex.specs.Hex.{decode_of};
-ghost use Rattle.std.specs.Option.{IfSome, MatchOption};
+ghost use Rattle.std.specs.Option.{IfNone, IfSome, MatchOption};
 ghost use Rattle.std.specs.Str.Parse.{AllDigits, digits_value};
-ghost use Rattle.event_file.specs.Words.{decoded, number_to, protocol_number_of, protocol_of, hex_number_of, inet_of_parts, inet_of};
+ghost use Rattle.event_file.specs.Words.{decoded, number_to, protocol_number_of, protocol_of, hex_number_of, inet_of_parts, inet_of, parted_by};
 
 use crate::hexadecimal;
-use crate::words::{is, parted};
+use crate::words::is;
 use mask_table::Prefix;
 use sock_addrs::Inet;
 
@@ -94,22 +94,62 @@ pub(crate) fn read_prefix(word: &[u8]) -> Option<Prefix>
     Prefix::new(number as u8)
 }
 
-/// The IPv4 address of the four decimals that stand between its dots.
-fn read_inet_parts(parts: &[&[u8]]) -> Option<Inet>
-    ensures { result ≡ inet_of_parts (map (λ p. p.now) parts.now) }
+/// The decimal up to 255 before the first dot of a text, and what stands behind that dot.
+#[inline(always)]
+fn cut_byte(text: &[u8]) -> Option<(u8, &[u8])>
+    ensures some { IfSome result (λ r. (part : List ℕ) × (parted_by 46 text.now ≡ part ∷ parted_by 46 r.1.now)
+        × (number_to 255 part ≡ Some r.0)) }
+    ensures none { IfNone result ((before : List (List ℕ)) → length before ≤ 2
+        → inet_of_parts (before ++ parted_by 46 text.now) ≡ None) }
 {
-    let [a, b, c, d] = parts else {
+    let mut number = 0;
+    let mut at = 0;
+    while at < text.len() {
+        if text[at] == b'.' {
+            let part = dotted(number, &text[..at])?;
+            return Some((part, &text[at + 1..]));
+        }
+        let digit = text[at].wrapping_sub(b'0');
+        if digit > 9 {
+            return None;
+        }
+        if at == 3 {
+            return None;
+        }
+        number = 10 * number + u32::from(digit);
+        at += 1;
+    }
+    None
+}
+
+/// The number that digits write, where it is a decimal up to 255.
+#[inline(always)]
+fn dotted(number: u32, digits: &[u8]) -> Option<u8>
+    requires digits { AllDigits 10 digits.now }
+    requires number { number ≡ digits_value 10 digits.now }
+    ensures { result ≡ number_to 255 digits.now }
+{
+    if digits.is_empty() {
         return None;
-    };
-    Some(Inet([read_byte(a)?, read_byte(b)?, read_byte(c)?, read_byte(d)?]))
+    }
+    if digits[0] == b'0' && digits.len() > 1 {
+        return None;
+    }
+    if number > 255 {
+        return None;
+    }
+    Some(number as u8)
 }
 
 /// An IPv4 address: four decimals up to 255, parted by dots.
 pub(crate) fn read_inet(word: &[u8]) -> Option<Inet>
     ensures { result ≡ inet_of word.now }
 {
-    let parts = parted::<4>(b'.', word)?;
-    read_inet_parts(parts.as_slice())
+    let (a, rest) = cut_byte(word)?;
+    let (b, rest) = cut_byte(rest)?;
+    let (c, rest) = cut_byte(rest)?;
+    let d = read_byte(rest)?;
+    Some(Inet([a, b, c, d]))
 }
 
 /// The digits with zeros before them, eight in all.
