@@ -1,6 +1,5 @@
 -- An address is read a byte at a time, each up to the dot behind it.
-use Rattle.std.proofs.Common.{◌≡◌, ◌<◌, ◌≤◌, ◌+◌, ◌∙◌, ◌++◌, ◌∷◌, [], Bool, false, true, List, length, take, get_or, ap, sym, refl, arith, inl, inr, Option, Some, None, ◌==◌, ◌≢◌, ◌⊎◌, ℕ, subst, below_more}
-use Rattle.std.specs.Prelude.{slice_index}
+use Rattle.std.proofs.Common.{◌≡◌, ◌<◌, ◌≤◌, ◌+◌, ◌∙◌, ◌++◌, ◌∷◌, [], Bool, List, length, take, get_or, ap, sym, refl, arith, inl, inr, Option, Some, None, ◌==◌, ◌≢◌, ℕ, subst, below_more}
 use Rattle.std.specs.Int.{IsInRange, w32, from_be_bytes}
 use Rattle.std.specs.List.{after_first, before_first, between, position_or_len}
 use Rattle.std.specs.Str.Parse.{AllDigits}

@@ -1,5 +1,5 @@
 //! Hexadecimal as `hex` has it, by tables: a byte takes half the steps.
-ghost use Rattle.std.specs.Prelude.{◌≡◌, ◌≤◌, ◌*◌, ◌/◌, ◌%◌, length, slice_index, unwrap_or, MatchResult, true, false};
+ghost use Rattle.std.specs.Prelude.{◌≡◌, ◌<◌, ◌+◌, ◌*◌, ◌/◌, ◌%◌, ◌++◌, take, drop, length, slice_index, unwrap_or, MatchResult, true, false};
 ghost use Rattle.hex.specs.Hex.{decode_sized, encode_lower, hex_digit_value, lower_digits};
 
 /// The value of a byte that is no digit: with it a pair of digits is no byte.
@@ -44,7 +44,7 @@ fn value_of(digit: u8) -> u16
 }
 
 /// Puts the bytes that the digits spell into `out`, which has room for just as many. `false` where they are others, or
-/// some byte is no digit.
+/// some byte is no digit, which is looked at when all are read.
 pub(crate) fn decode(digits: &[u8], out: &mut [u8]) -> bool
     ensures { MatchResult (decode_sized digits.now (length out.old)) (λ bytes. (result ≡ true) × (out.new ≡ bytes))
         (λ _. result ≡ false) }
@@ -52,14 +52,13 @@ pub(crate) fn decode(digits: &[u8], out: &mut [u8]) -> bool
     if digits.len() % 2 != 0 || digits.len() / 2 != out.len() {
         return false;
     }
+    let mut all = 0;
     'bytes: for i in 0..out.len() {
         let byte = value_of(digits[2 * i]) * 16 + value_of(digits[2 * i + 1]);
-        if byte > 255 {
-            return false;
-        }
-        out[i] = byte as u8;
+        all |= byte;
+        out[i] = (byte % 256) as u8;
     }
-    true
+    all <= 255
 }
 
 /// The two digits of a byte.
@@ -71,14 +70,32 @@ fn digits_of(byte: u8) -> [u8; 2]
     [DIGITS[at], DIGITS[at + 1]]
 }
 
-/// Puts the digits of bytes into `out`, which has room for just as many.
+/// Puts the digits of a byte to their place in `out`.
+fn put_digits(bytes: &[u8], out: &mut [u8], i: usize)
+    requires byte { i < length bytes.now }
+    requires room { length out.old ≡ 2 * length bytes.now }
+    ensures { take (2 * i) out.old ++ encode_lower (drop i bytes.now) ≡ encode_lower bytes.now
+        → take (2 * (i + 1)) out.new ++ encode_lower (drop (i + 1) bytes.now) ≡ encode_lower bytes.now }
+{
+    let [high, low] = digits_of(bytes[i]);
+    out[2 * i] = high;
+    out[2 * i + 1] = low;
+}
+
+/// Puts the digits of bytes into `out`, which has room for just as many: those of four bytes at a time, and then of the
+/// rest.
 pub(crate) fn encode(bytes: &[u8], out: &mut [u8])
     requires { length out.old ≡ 2 * length bytes.now }
     ensures { out.new ≡ encode_lower bytes.now }
 {
-    'bytes: for i in 0..bytes.len() {
-        let [high, low] = digits_of(bytes[i]);
-        out[2 * i] = high;
-        out[2 * i + 1] = low;
+    let fours = bytes.len() / 4;
+    'fours: for four in 0..fours {
+        put_digits(bytes, out, 4 * four);
+        put_digits(bytes, out, 4 * four + 1);
+        put_digits(bytes, out, 4 * four + 2);
+        put_digits(bytes, out, 4 * four + 3);
+    }
+    'rest: for i in 4 * fours..bytes.len() {
+        put_digits(bytes, out, i);
     }
 }

@@ -1,4 +1,4 @@
-use Rattle.std.proofs.Common.{arith, ◌≡◌, ◌+◌, get_or, subst, sym}
+use Rattle.std.proofs.Common.{arith, ◌≡◌, get_or, subst, sym}
 use Rattle.std.proofs.lemmas.Int.Digits.{digits_more, digits_value_more}
 use Rattle.std.specs.Char.{digit_value}
 use Rattle.event_file.proofs.Decimals.{digit_is, one_more_digit}

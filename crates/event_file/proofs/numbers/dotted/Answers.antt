@@ -1,5 +1,4 @@
-use Rattle.std.proofs.Common.{arith, ◌≡◌, ◌<◌, ap, sym, get_or, length, decimal}
-use Rattle.event_file.proofs.DottedBytes.{no_dot}
+use Rattle.std.proofs.Common.{arith, ◌≡◌, ◌<◌, sym, get_or, length}
 use Rattle.event_file.proofs.Decimals.{digits_are, no_number, printed_lead, printed_some, printed_value}
 use Rattle.event_file.proofs.numbers.dotted.Goals as goal
 use Rattle.event_file.proofs.numbers.dotted.Goals.{else-digits-eq48-via-then-digits-eq48+else-digits-gt1, else-digits-eq48-via-else-digits-eq48}
