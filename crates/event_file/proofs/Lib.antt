@@ -30,6 +30,7 @@ pub mod RowOneGet
 pub mod RowPacketClonesOnce
 pub mod RowRedirect
 pub mod RowRejectAndBlackhole
+pub mod RowRoutesWithMetrics
 pub mod RowShortWrites
 pub mod RowWrongVersion
 pub mod RunsTold
