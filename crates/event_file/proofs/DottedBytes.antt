@@ -172,8 +172,12 @@ too_many a b c part (more ∷ behind) some = refl
 
 pub no_last : (a b c text : List ℕ) → number_to 255 text ≡ None → inet_of_parts (a ∷ b ∷ c ∷ parted_by 46 text) ≡ None
 no_last a b c text none = elim (cases_lt (position_or_len is_dot text) (length text)) [
-  | inl dot ↦ rw (slice_split_first is_dot text 0 dot) (too_many a b c (before_first is_dot text) _ (omega (arith, length-slice_split is_dot (after_first is_dot text))))
-  | inr all ↦ rw (slice_split_none is_dot text (λ k d l. fails_before_first is_dot text k d (omega (arith, l, all)))) (no_address (a ∷ b ∷ c ∷ []) text [] (omega arith) none)
+  | inl dot ↦
+      let some = length-slice_split is_dot (after_first is_dot text) in
+      rw (slice_split_first is_dot text 0 dot) (too_many a b c (before_first is_dot text) _ (omega (arith, some)))
+  | inr all ↦
+      let one = slice_split_none is_dot text (λ k d l. fails_before_first is_dot text k d (omega (arith, l, all))) in
+      rw one (no_address (a ∷ b ∷ c ∷ []) text [] (omega arith) none)
 ]
 
 -- ---- the address whose bytes were read

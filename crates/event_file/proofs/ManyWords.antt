@@ -158,7 +158,8 @@ flags_form-most words command h = cc h
 
 -- ---- lines
 
-by_forms-most : (verb : List ℕ) (words : List (List ℕ)) (command : Command) → bytes_eq verb (codes "route") ≡ false → by_forms forms verb words ≡ Some command → length words ≤ 5
+by_forms-most : (verb : List ℕ) (words : List (List ℕ)) (command : Command) → bytes_eq verb (codes "route") ≡ false
+    → by_forms forms verb words ≡ Some command → length words ≤ 5
 by_forms-most verb words command other h =
     let Few : Command → Type 0 = λ _. length words ≤ 5 in
     let not_route : verb ≡ codes "route" → ⊥ = λ is. cc ((bytes_eq-Decides verb (codes "route")).1 is, other) in

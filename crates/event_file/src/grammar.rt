@@ -19,6 +19,9 @@ const MOST_WORDS: usize = 5;
 /// The most words behind `route`: `ID SEQ VERB DEST` and 15 options, of a name and a word each.
 const MOST_ROUTE_WORDS: usize = 34;
 
+/// The most words behind `route` of the lines that come most often, for which less room is made: with two options.
+const FEW_ROUTE_WORDS: usize = 8;
+
 // The forms are not inlined: what each makes of its words would else be cleared, and moved once more, for each other line.
 
 /// `NAME KIND T HEX`, behind `if`.
@@ -159,11 +162,25 @@ fn write<'a>(words: &[&[u8]], room: &'a mut [u8]) -> Option<Said<'a>>
     })
 }
 
-/// `ID SEQ VERB DEST OPTION..`, behind `route`: a write of the message that they compose. More words than any other line
-/// has are cut here, so that the others need no room for them.
+/// `ID SEQ VERB DEST OPTION..`, behind `route`: a write of the message that they compose.
+#[inline(never)]
+fn route<'a>(words: &[&[u8]], room: &'a mut [u8]) -> Option<Said<'a>>
+    requires { length room.old ≡ MOST_WRITTEN }
+    ensures { result ≡ route_form (map (λ w. w.now) words.now) }
+{
+    let [id, words @ ..] = words else {
+        return None;
+    };
+    Some(Command::Write {
+        id: read_name(id)?,
+        bytes: read_composed(words, room)?,
+    })
+}
+
+/// What stands behind `route`, which may have as many words as any line.
 #[inline(never)]
 #[tactic(auto, using(crate::proofs::ManyWords::many_route_words))]
-fn route<'a>(rest: &[u8], room: &'a mut [u8]) -> Option<Said<'a>>
+fn long_route<'a>(rest: &[u8], room: &'a mut [u8]) -> Option<Said<'a>>
     requires { length room.old ≡ MOST_WRITTEN }
     ensures { result ≡ route_form (parted_by 32 rest.now) }
 {
@@ -171,13 +188,20 @@ fn route<'a>(rest: &[u8], room: &'a mut [u8]) -> Option<Said<'a>>
     if !put_parts(b' ', rest, &mut words) {
         return None;
     }
-    let [id, words @ ..] = words.as_slice() else {
-        return None;
-    };
-    Some(Command::Write {
-        id: read_name(id)?,
-        bytes: read_composed(words, room)?,
-    })
+    route(words.as_slice(), room)
+}
+
+/// What stands behind `route`.
+#[inline(never)]
+fn route_behind<'a>(rest: &[u8], room: &'a mut [u8]) -> Option<Said<'a>>
+    requires { length room.old ≡ MOST_WRITTEN }
+    ensures { result ≡ route_form (parted_by 32 rest.now) }
+{
+    let mut words = ArrayVec::<&[u8], FEW_ROUTE_WORDS>::new();
+    if !put_parts(b' ', rest, &mut words) {
+        return long_route(rest, room);
+    }
+    route(words.as_slice(), room)
 }
 
 /// `ID`, behind `read`.
@@ -370,7 +394,7 @@ fn said<'a>(verb: &[u8], rest: &[u8], room: &'a mut [u8]) -> Option<Said<'a>>
     ensures { result ≡ by_forms forms verb.now (parted_by 32 rest.now) }
 {
     if is(verb, "route") {
-        return route(rest, room);
+        return route_behind(rest, room);
     }
     said_in_few(verb, rest, room)
 }

@@ -10,7 +10,6 @@ use crate::texts::read_gate;
 use crate::words::{Options, if_written, is, parted};
 use mask_table::Prefix;
 use route_core::{Lent, MOST_WRITTEN};
-use route_msgs::Message;
 use sock_addrs::{Gate, Inet};
 
 /// What a `route` line asks for.
@@ -238,17 +237,13 @@ fn read_route_words(words: &[&[u8]]) -> Option<RouteWords>
     })
 }
 
-/// Puts the message that these words compose into the front of `room`. Its own room is cleared, so it is made here alone.
-#[inline(never)]
+/// Puts the message that these words compose into the front of `room`.
 fn lend_composed<'a>(words: &RouteWords, room: &'a mut [u8]) -> Option<Lent<'a>>
     requires { length room.old ≡ MOST_WRITTEN }
     ensures { result ≡ Some (composed words.now) }
 {
-    let mut message = Message::new();
-    put_composed(words, &mut message);
-    let bytes = &mut room[..message.len()];
-    bytes.copy_from_slice(message.as_slice());
-    Lent::new(bytes)
+    let size = put_composed(words, room);
+    Lent::new(&room[..size])
 }
 
 /// The message that the words behind `route ID` compose, put into the front of `room`.

@@ -1,15 +1,18 @@
 //! The words of a `route` line, and the message that they compose.
-ghost use Rattle.std.specs.Prelude.{◌≡◌, ◌+◌, ◌≤◌, length, option_map, IfSome};
+ghost use Rattle.std.specs.Prelude.{◌≡◌, ◌+◌, ◌≤◌, ◌++◌, drop, length, option_map};
 ghost use Rattle.sock_addrs.specs.Sockaddrs.{inet_sockaddr, mask_sockaddr};
-ghost use Rattle.route_msgs.specs.AddrInfo.{address_bytes, gate_sockaddr};
+ghost use Rattle.route_msgs.specs.AddrInfo.{address_bytes, addrs_of, bit_of, bytes_or_none, gate_sockaddr};
+ghost use Rattle.event_file.specs.Given.{pasted};
 ghost use Rattle.event_file.specs.RouteWords.{addresses_named, bit_where, composed, header_said, kind_of, metrics_said, written_bits};
 
+use crate::answer_text::put;
 use mask_table::Prefix;
+use route_msgs::bits::{RTA_DST, RTA_GATEWAY, RTA_GENMASK, RTA_IFA, RTA_IFP, RTA_NETMASK};
 use route_msgs::inits::{
     RTV_EXPIRE, RTV_HOPCOUNT, RTV_MTU, RTV_RPIPE, RTV_RTT, RTV_RTTVAR, RTV_SPIPE, RTV_SSTHRESH,
 };
 use route_msgs::kinds::{RTM_ADD, RTM_CHANGE, RTM_DELETE, RTM_GET, RTM_LOCK};
-use route_msgs::{AddrInfo, Header, Message, Metrics, Sockaddr, put_route_msg};
+use route_msgs::{Header, Message, Metrics, Sockaddr, put_route_header};
 use sock_addrs::{Gate, Inet};
 
 /// What a `route` line asks for.
@@ -95,23 +98,33 @@ pub struct RouteWords {
     pub metrics: MetricWords,
 }
 
+/// The most bytes of a message that is composed.
+pub(crate) const MOST_COMPOSED: usize = 204;
+
+/// Where the addresses of a message begin, behind its header.
+const ADDRESSES: usize = 76;
+
 /// The message that the words of a `route` line compose: version 3, the verb's type, the addresses that are named,
 /// and 0 in each field that no word names. At most 204 bytes.
 pub fn compose(words: &RouteWords) -> Message
     ensures message { result.items ≡ composed words.now }
     ensures most { length result.items ≤ 204 }
 {
-    let mut message = Message::new();
-    put_composed(words, &mut message);
-    message
+    let mut room = [0; MOST_COMPOSED];
+    let size = put_composed(words, &mut room);
+    Message::try_from(&room[..size]).unwrap()
 }
 
-/// Makes the message that the words compose in the place of what is in `message`.
-pub(crate) fn put_composed(words: &RouteWords, message: &mut Message)
-    ensures message { message.new.items ≡ composed words.now }
-    ensures most { length message.new.items ≤ 204 }
+/// Puts the message that the words compose to the front of `room`, and answers how many bytes it takes.
+pub(crate) fn put_composed(words: &RouteWords, room: &mut [u8]) -> usize
+    requires { MOST_COMPOSED ≤ length room.old }
+    ensures size { result ≡ length (composed words.now) }
+    ensures most { result ≤ MOST_COMPOSED }
+    ensures message { room.new ≡ composed words.now ++ drop result room.old }
 {
-    put_route_msg(&header(words), &addresses(words), message);
+    let size = put_addresses(words, room);
+    put_route_header(&header(words), size as u16, addrs(words), room);
+    size
 }
 
 /// Its header.
@@ -147,38 +160,72 @@ fn metrics(words: &RouteWords) -> Metrics
     }
 }
 
-/// The addresses that it names.
-fn addresses(words: &RouteWords) -> AddrInfo
-    ensures addresses { result ≡ addresses_named words.now }
-    ensures most { length (address_bytes result) ≤ 128 }
+/// The bits of the addresses that it names.
+fn addrs(words: &RouteWords) -> u32
+    ensures { result ≡ addrs_of (addresses_named words.now) }
 {
-    AddrInfo {
-        dst: Some(Sockaddr::inet(words.destination)),
-        gateway: gate(words.gateway),
-        netmask: mask(words.netmask),
-        genmask: mask(words.genmask),
-        ifp: gate(words.ifp),
-        ifa: gate(words.ifa),
-        ..AddrInfo::default()
-    }
+    RTA_DST
+        + gate_bit(&words.gateway, RTA_GATEWAY)
+        + mask_bit(words.netmask, RTA_NETMASK)
+        + mask_bit(words.genmask, RTA_GENMASK)
+        + gate_bit(&words.ifp, RTA_IFP)
+        + gate_bit(&words.ifa, RTA_IFA)
 }
 
-fn gate(gate: Option<Gate>) -> Option<Sockaddr>
-    ensures sockaddr { result ≡ option_map gate_sockaddr gate }
-    ensures most { IfSome result (λ s. length s ≤ 32) }
+fn gate_bit(gate: &Option<Gate>, bit: u32) -> u32
+    ensures { result ≡ bit_of bit (option_map gate_sockaddr gate.now) }
+{
+    if gate.is_some() { bit } else { 0 }
+}
+
+fn mask_bit(mask: Option<Prefix>, bit: u32) -> u32
+    ensures { result ≡ bit_of bit (option_map mask_sockaddr mask) }
+{
+    if mask.is_some() { bit } else { 0 }
+}
+
+/// Puts the addresses that it names to their place, and answers where they end.
+fn put_addresses(words: &RouteWords, room: &mut [u8]) -> usize
+    requires { MOST_COMPOSED ≤ length room.old }
+    ensures end { result ≡ ADDRESSES + length (address_bytes (addresses_named words.now)) }
+    ensures most { result ≤ MOST_COMPOSED }
+    ensures text { room.new ≡ pasted ADDRESSES (address_bytes (addresses_named words.now)) room.old }
+{
+    let gateway = put(
+        Sockaddr::inet(words.destination).as_bytes(),
+        room,
+        ADDRESSES,
+    );
+    let netmask = put_gate(&words.gateway, room, gateway);
+    let genmask = put_mask(words.netmask, room, netmask);
+    let ifp = put_mask(words.genmask, room, genmask);
+    let ifa = put_gate(&words.ifp, room, ifp);
+    put_gate(&words.ifa, room, ifa)
+}
+
+/// Puts a gateway or an interface's address into `room` from a place on, where it is named, and answers where it ends.
+fn put_gate(gate: &Option<Gate>, room: &mut [u8], at: usize) -> usize
+    requires { at + 32 ≤ length room.old }
+    ensures end { result ≡ at + length (bytes_or_none (option_map gate_sockaddr gate.now)) }
+    ensures most { result ≤ at + 32 }
+    ensures text { room.new ≡ pasted at (bytes_or_none (option_map gate_sockaddr gate.now)) room.old }
 {
     match gate {
-        Some(gate) => Some(Sockaddr::gate(gate)),
-        None => None,
+        Some(Gate::Inet(address)) => put(Sockaddr::inet(*address).as_bytes(), room, at),
+        Some(Gate::Link(link)) => put(Sockaddr::link(*link).as_bytes(), room, at),
+        None => at,
     }
 }
 
-fn mask(mask: Option<Prefix>) -> Option<Sockaddr>
-    ensures sockaddr { result ≡ option_map mask_sockaddr mask }
-    ensures most { IfSome result (λ s. length s ≤ 8) }
+/// Puts a mask into `room` from a place on, where it is named, and answers where it ends.
+fn put_mask(mask: Option<Prefix>, room: &mut [u8], at: usize) -> usize
+    requires { at + 8 ≤ length room.old }
+    ensures end { result ≡ at + length (bytes_or_none (option_map mask_sockaddr mask)) }
+    ensures most { result ≤ at + 8 }
+    ensures text { room.new ≡ pasted at (bytes_or_none (option_map mask_sockaddr mask)) room.old }
 {
     match mask {
-        Some(mask) => Some(Sockaddr::mask(mask.bits())),
-        None => None,
+        Some(mask) => put(Sockaddr::mask(mask.bits()).as_bytes(), room, at),
+        None => at,
     }
 }

@@ -1,4 +1,4 @@
-ghost use Rattle.std.specs.Prelude.{◌≡◌, ◌+◌, ◌≤◌, length};
+ghost use Rattle.std.specs.Prelude.{◌≡◌, ◌+◌, ◌≤◌, ◌++◌, drop, length};
 ghost use Rattle.route_msgs.specs.AddrInfo.{address_bytes};
 ghost use Rattle.route_msgs.specs.Layout.{number_at, with_fields};
 ghost use Rattle.route_msgs.specs.Headers.{ifa_head, ifa_message, metric_fields, route_head, route_message};
@@ -55,6 +55,16 @@ pub fn write_ifa_msg(header: &IfaHeader, addresses: &AddrInfo) -> Message
     message.try_extend_from_slice(&head).unwrap();
     addresses.put(&mut message);
     message
+}
+
+/// Writes the header of a message about a route to the front of `out`: with this size of the whole message, version 3,
+/// and these bits as its addrs field, whatever `header.addrs` says. What stands behind it stays.
+pub fn put_route_header(header: &Header, size: u16, addrs: u32, out: &mut [u8])
+    requires { 76 ≤ length out.old }
+    ensures { out.new ≡ route_head size addrs header.now ++ drop 76 out.old }
+{
+    let head = route_header(header, size, addrs);
+    out[..76].copy_from_slice(&head);
 }
 
 fn route_header(header: &Header, size: u16, addrs: u32) -> [u8; 76]

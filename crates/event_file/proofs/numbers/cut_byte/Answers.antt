@@ -10,7 +10,8 @@ use Rattle.event_file.proofs.numbers.cut_byte.Goals as goal
 pub returns-in_err-part-clause-none : goal.returns-in_err-part-clause-none
 returns-in_err-part-clause-none c =
     let none = sym c.in_err-part.ensures in
-    rw c.from_residual.ensures (no_first c.args.text.now _ _ (dotted_part c.args.text.now c.loop-at.at c.loop-at-test.true c.loop-at.invariant.digits c.if-text-at-eq46.true) none)
+    let parts = dotted_part c.args.text.now c.loop-at.at c.loop-at-test.true c.loop-at.invariant.digits c.if-text-at-eq46.true in
+    rw c.from_residual.ensures (no_first c.args.text.now _ _ parts none)
 
 pub returns-then-text-at-eq46-clause-some : goal.returns-then-text-at-eq46-clause-some
 returns-then-text-at-eq46-clause-some c =
@@ -18,7 +19,8 @@ returns-then-text-at-eq46-clause-some c =
 
 pub returns-then-digit-gt9-clause-none : goal.returns-then-digit-gt9-clause-none
 returns-then-digit-gt9-clause-none c =
-    no_digit c.args.text.now c.loop-at.at c.loop-at-test.true c.loop-at.invariant.digits c.if-text-at-eq46.false (λ range. omega (arith, range, c.if-digit-gt9.true))
+    no_digit c.args.text.now c.loop-at.at c.loop-at-test.true c.loop-at.invariant.digits c.if-text-at-eq46.false
+    (λ range. omega (arith, range, c.if-digit-gt9.true))
 
 pub returns-then-at-eq3-clause-none : goal.returns-then-at-eq3-clause-none
 returns-then-at-eq3-clause-none c =

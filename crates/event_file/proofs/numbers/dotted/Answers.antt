@@ -5,7 +5,8 @@ use Rattle.event_file.proofs.numbers.dotted.Goals.{else-digits-eq48-via-then-dig
 
 pub returns-then-is_empty : goal.returns-then-is_empty
 returns-then-is_empty c =
-    sym (no_number 255 c.args.digits.now (λ n small e. let some = printed_some n c.args.digits.now (omega (arith, small)) e in grind (arith, some, c.if-is_empty.ensures)))
+    sym (no_number 255 c.args.digits.now (λ n small e.
+    let some = printed_some n c.args.digits.now (omega (arith, small)) e in grind (arith, some, c.if-is_empty.ensures)))
 
 pub returns-then-digits-gt1 : goal.returns-then-digits-gt1
 returns-then-digits-gt1 c =

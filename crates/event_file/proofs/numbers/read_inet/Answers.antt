@@ -12,7 +12,8 @@ returns-in_err-c c =
 
 pub returns-in_err-d : goal.returns-in_err-d
 returns-in_err-d c =
-    rw c.from_residual-in_err-d.ensures (none_behind_three c.args.word.now c.in_ok-a.rest.now c.in_ok-b.rest.now c.in_ok-c.rest.now c.in_ok-a.a c.in_ok-b.b c.in_ok-c.c
+    rw c.from_residual-in_err-d.ensures (none_behind_three c.args.word.now c.in_ok-a.rest.now c.in_ok-b.rest.now c.in_ok-c.rest.now
+    c.in_ok-a.a c.in_ok-b.b c.in_ok-c.c
     c.in_ok-a.ensures.some c.in_ok-b.ensures.some c.in_ok-c.ensures.some c.in_err-d.ensures)
 
 pub returns : goal.returns
