@@ -10,7 +10,7 @@ use route_msgs::Metrics;
 use sock_addrs::{Gate, Inet};
 use std::marker::Model;
 
-/// A route as the table keeps it, in 32 bytes: small, as nearly all are, or in a block of its own. A contract sees the
+/// A route as the table keeps it, in 24 bytes: small, as nearly all are, or in a block of its own. A contract sees the
 /// route.
 #[derive(Drop)]
 pub struct PackedRoute {

@@ -43,7 +43,7 @@ fn a_counter_has_no_bytes(rt: HostRuntime) {
 
 #[test]
 fn a_kept_route_has_few_bytes(rt: HostRuntime) {
-    assert_eq!(rt; size_of::<PackedRoute>(), 32);
+    assert_eq!(rt; size_of::<PackedRoute>(), 24);
 }
 
 #[test]
