@@ -17,6 +17,7 @@ pub use Rattle.mask_table.specs.Agreeing.{agrees, bit, front, masked}
 pub use Rattle.mask_table.specs.Counts.{HasOneMore}
 pub use Rattle.radix_nodes.specs.Counting.{Counter}
 pub use Rattle.radix_nodes.specs.Links.{bit_node_of, leaf_of, mask_node_of}
+pub use Rattle.radix_nodes.specs.Naming.{number_of}
 pub use Rattle.radix_nodes.specs.Rooms.{Has, Rooms, Seen, put_links, put_room, put_value, seen}
 pub use Rattle.radix_nodes.specs.declared.id.Id.{Id}
 pub use Rattle.radix_nodes.specs.declared.links.BitNode.{BitNode}
