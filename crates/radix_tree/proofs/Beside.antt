@@ -1,12 +1,11 @@
 -- A route of a new key comes into the tree: what the rooms say afterwards is the tree with it.
-use Rattle.radix_tree.proofs.{AddressBits.zero_not_one, AddressBits.zero_or_one, PartRooms.one_if_same, PartRooms.way_once, PartRooms.spine_out}
-use Rattle.radix_tree.proofs.{Exchanging.exchanged, Forking.one_value, Forking.zero_fork_is, Forking.one_fork_is, Forking.lifted, Forking.leaves_there}
-use Rattle.radix_tree.proofs.{Forking.forks_there}
+use Rattle.radix_tree.proofs.{AddressBits.zero_not_one, AddressBits.zero_or_one, Exchanging.exchanged}
 use Rattle.radix_tree.proofs.Words.{◌≡◌, ℕ, ◌<◌, ◌≤◌, ◌==◌, if◌then◌else◌, List, [], ◌∷◌, Option, Some, None, refl, sym, ap, ◌∙◌, subst, arith, inl, inr}
 use Rattle.radix_tree.proofs.Words.{eq-eqb, ne_eqb, Id, Node, LeafOf, BitOf, IsRoute, Placed, Tree, leaf, fork, bit_at, HaveBit, LeafPart, BitPart, Part}
-use Rattle.radix_tree.proofs.Words.{leaves_in, bits_in, name_of, Stands, Way, one_if, leaves_at, forks_at, with_child, name_child, root_after, AreOnce}
-use Rattle.radix_tree.proofs.Words.{IsPlace, IsSpot, IsBeside, forked_tree, IsExchange, Exchanged, lift_leaf, lift_bit, leaf_above, bit_above, Lodged}
-use Rattle.radix_nodes.specs.Naming.{number_of}
+use Rattle.radix_tree.proofs.Words.{leaves_in, bits_in, name_of, Stands, Way, one_if, leaves_at, forks_at, with_child, name_child, root_after, AreOnce, IsPlace}
+use Rattle.radix_tree.proofs.Words.{IsSpot, IsBeside, forked_tree, IsExchange, Exchanged, lift_leaf, lift_bit, leaf_above, bit_above, Lodged, number_of}
+use Rattle.radix_tree.proofs.PartRooms.{one_if_same, way_once, spine_out}
+use Rattle.radix_tree.proofs.Forking.{one_value, zero_fork_is, one_fork_is, lifted, leaves_there, forks_there}
 
 -- a name that is not in a room is not the room's
 pub misses_leaf : {A : Type 0} (at : Node) (n : ℕ) → ((room : Id) → at ≡ LeafOf room → n ≡ number_of room → ⊥)

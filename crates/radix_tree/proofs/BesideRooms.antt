@@ -1,13 +1,12 @@
 -- What has come of the rooms once a route of a new key stands in them, beneath a new bit node.
 use Rattle.radix_tree.proofs.{AddressBits.zero_or_one, RoomReads.Has-leaf, TreeMembers.bit_beneath, Lodging.stays, Beside.zero_forked, Beside.one_forked}
 use Rattle.radix_tree.proofs.{Cuts.IsCut, JoinLinks.turn_used, MovedReads.lift_used}
-use Rattle.radix_tree.proofs.Words.{◌≡◌, ℕ, ◌+◌, ◌≤◌, ◌⊎◌, ◌==◌, ◌||◌, Bool, true, false, if◌then◌else◌, List, [], ◌∷◌, Option, Some, None, refl, sym, ap}
-use Rattle.radix_tree.proofs.Words.{◌∙◌, subst, inl, inr, arith, eq-eqb, ne_eqb, cases_eq, append-nil, is_some, Has, Id, Node, LeafOf, BitOf, Placed}
-use Rattle.radix_tree.proofs.Words.{Tree, leaf, fork, bit_at, IsIn, routes_of, LeafPart, Heads, Masks, Bits, Part, leaves_in, bits_in, heads_in, masks_in}
-use Rattle.radix_tree.proofs.Words.{Beneath, Way, one_if, leaves_at, forks_at, HasHome, HaveOneFork, name_child, with_head, forked_tree, Gains, IsPlace}
-use Rattle.radix_tree.proofs.Words.{IsSpot, IsBeside, Exchanged, IsMarked, IsMaskList, MarkedIn, MarkedLists, HasRoomMore, KeepsLeaves, KeepsBits}
-use Rattle.radix_tree.proofs.Words.{KeepsMasks, lift_leaf, leaf_above, Lodged, true≢false}
-use Rattle.radix_nodes.specs.Naming.{number_of}
+use Rattle.radix_tree.proofs.Words.{◌≡◌, ℕ, ◌+◌, ◌≤◌, ◌⊎◌, ◌==◌, ◌||◌, Bool, true, false, if◌then◌else◌, List, [], ◌∷◌, Option, Some, None, refl, sym, ap, ◌∙◌}
+use Rattle.radix_tree.proofs.Words.{subst, inl, inr, arith, eq-eqb, ne_eqb, cases_eq, append-nil, is_some, Has, Id, Node, LeafOf, BitOf, Placed, Tree, leaf}
+use Rattle.radix_tree.proofs.Words.{fork, bit_at, IsIn, routes_of, LeafPart, Heads, Masks, Bits, Part, leaves_in, bits_in, heads_in, masks_in, Beneath, Way}
+use Rattle.radix_tree.proofs.Words.{one_if, leaves_at, forks_at, HasHome, HaveOneFork, name_child, with_head, forked_tree, Gains, IsPlace, IsSpot, IsBeside}
+use Rattle.radix_tree.proofs.Words.{Exchanged, IsMarked, IsMaskList, MarkedIn, MarkedLists, HasRoomMore, KeepsLeaves, KeepsBits, KeepsMasks, lift_leaf}
+use Rattle.radix_tree.proofs.Words.{leaf_above, Lodged, true≢false, number_of}
 
 -- ---- what a room says stays something
 chosen : {A : Type 0} (test : Bool) (x y : Option A) → is_some x ≡ is_some y → is_some (if test then x else y) ≡ is_some y

@@ -1,20 +1,16 @@
 -- A route of a new key stands in the table's rooms, beneath a new bit node that has taken over a list of masks: the whole.
 use Rattle.radix_tree.proofs.{TreeMembers.chain_key, TreeMembers.tree_said, Beside.not_new, Beside.not_new_bit, Plugs.counted_leaf, Plugs.spare_same}
-use Rattle.radix_tree.proofs.{PlugLists.mask_list_same, PlugLists.lists_same, PlugLists.marked_same, WholeParts.Fits, Facts.some_of}
-use Rattle.radix_tree.proofs.{WholeParts.once_but, WholeChanges.spare_changed, WholeChanges.whole_changed}
+use Rattle.radix_tree.proofs.{WholeParts.Fits, WholeParts.once_but, Facts.some_of, Facts.same_none, WholeChanges.spare_changed, WholeChanges.whole_changed}
 use Rattle.radix_tree.proofs.{WholeRoutes.routes_changed, WholeRoutes.gains_spliced, LeafWays.same_leaf, Cuts.cut_at}
-use Rattle.radix_tree.proofs.Words.{◌≡◌, ℕ, ◌+◌, ◌≤◌, ◌⊎◌, ◌==◌, ◌||◌, Bool, true, false, if◌then◌else◌, List, ◌∷◌, Option, Some, None, refl, sym, ap}
-use Rattle.radix_tree.proofs.Words.{◌∙◌, subst, inl, inr, arith, eq-eqb, ne_eqb, cases_eq, is_some, Id, Node, LeafOf, BitOf, Placed, Tree, leaf, fork}
-use Rattle.radix_tree.proofs.Words.{IsIn, IsTree, routes_of, Part, leaves_in, bits_in, heads_in, masks_in, LedTo, one_if, leaves_at, forks_at, HasHome}
-use Rattle.radix_tree.proofs.Words.{HaveOneFork, IsWhole, shown, with_head, forked_tree, Gains, IsSpot, IsBeside, IsNew, Differs, Exchanged, IsMasks}
-use Rattle.radix_tree.proofs.Words.{IsAside, past_bit, up_to_bit, IsMarked, MarkedIn, MarkedLists, IsWholeBut, has_key, is_of_key, nobody_late}
-use Rattle.radix_tree.proofs.Words.{nobody_out, KeepsLeaves, KeepsBits, KeepsMasks, Lodged}
-use Rattle.radix_tree.proofs.{Facts.same_none}
-use Rattle.radix_tree.proofs.BesideRooms.{or_true, one_if_turned, one_if_here, forked_leaves, forked_forks, in_forked, forked_in}
-use Rattle.radix_tree.proofs.BesideRooms.{forked_lists, home_forked, forked_home, forked_spare, forked_gains, Came, no_leaf, no_bit, other_leaf}
-use Rattle.radix_tree.proofs.BesideRooms.{other_bit, same_marks, new_unmarked}
-use Rattle.radix_tree.proofs.Words.{true≢false}
-use Rattle.radix_nodes.specs.Naming.{number_of}
+use Rattle.radix_tree.proofs.Words.{◌≡◌, ℕ, ◌+◌, ◌≤◌, ◌⊎◌, ◌==◌, ◌||◌, Bool, true, false, if◌then◌else◌, List, ◌∷◌, Option, Some, None, refl, sym, ap, ◌∙◌}
+use Rattle.radix_tree.proofs.Words.{subst, inl, inr, arith, eq-eqb, ne_eqb, cases_eq, is_some, Id, Node, LeafOf, BitOf, Placed, Tree, leaf, fork, IsIn, IsTree}
+use Rattle.radix_tree.proofs.Words.{routes_of, Part, leaves_in, bits_in, heads_in, masks_in, LedTo, one_if, leaves_at, forks_at, HasHome, HaveOneFork, IsWhole}
+use Rattle.radix_tree.proofs.Words.{shown, with_head, forked_tree, Gains, IsSpot, IsBeside, IsNew, Differs, Exchanged, IsMasks, IsAside, past_bit, up_to_bit}
+use Rattle.radix_tree.proofs.Words.{IsMarked, MarkedIn, MarkedLists, IsWholeBut, has_key, is_of_key, nobody_late, nobody_out, KeepsLeaves, KeepsBits}
+use Rattle.radix_tree.proofs.Words.{KeepsMasks, Lodged, true≢false, number_of}
+use Rattle.radix_tree.proofs.PlugLists.{mask_list_same, lists_same, marked_same}
+use Rattle.radix_tree.proofs.BesideRooms.{or_true, one_if_turned, one_if_here, forked_leaves, forked_forks, in_forked, forked_in, forked_lists, home_forked}
+use Rattle.radix_tree.proofs.BesideRooms.{forked_home, forked_spare, forked_gains, Came, no_leaf, no_bit, other_leaf, other_bit, same_marks, new_unmarked}
 
 module _ {V : Type 0} where
   -- ---- the whole

@@ -1,14 +1,12 @@
 -- The chain of a leaf is exchanged for another one: the part that is the leaf.
 use Rattle.radix_tree.proofs.{PartRooms.same_turned, Exchanging.exchanged, WholeParts.Fits, WholeParts.once_but, WholeChanges.spare_changed}
-use Rattle.radix_tree.proofs.{WholeChanges.whole_changed, WholeRoutes.Spliced, WholeRoutes.routes_changed, ChainLists.IsCons, ChainLists.cons_at}
-use Rattle.radix_tree.proofs.{ChainLists.map_entries, ChainLists.one_fork_same, Facts.same_none, JoinLinks.turn_used}
-use Rattle.radix_tree.proofs.Words.{◌≡◌, ℕ, ◌+◌, ◌≤◌, ◌==◌, ◌||◌, Bool, true, false, true≢false, if◌then◌else◌, List, [], ◌∷◌, ◌++◌, Option, Some, None}
-use Rattle.radix_tree.proofs.Words.{refl, sym, ap, ◌∙◌, subst, arith, eqb-true, eqb-false, eq-eqb, ne_eqb, is_some, Id, Node, LeafOf, Placed, Tree, leaf}
-use Rattle.radix_tree.proofs.Words.{bit_at, HaveBit, IsAmong, IsIn, IsChain, IsTree, routes_of, Part, leaves_in, bits_in, masks_in, name_of, ChainStands}
-use Rattle.radix_tree.proofs.Words.{Way, one_if, members_at, leaves_at, forks_at, HasHome, HasOneFork, HaveOneFork, shown, name_child, with_child}
-use Rattle.radix_tree.proofs.Words.{root_after, IsExchange, Exchanged, IsMarked, IsWholeBut, KeepsHeads, KeepsMasks, above_behind, last_room, root_past}
-use Rattle.radix_tree.proofs.Words.{Lodged}
-use Rattle.radix_nodes.specs.Naming.{number_of}
+use Rattle.radix_tree.proofs.{WholeChanges.whole_changed, WholeRoutes.Spliced, WholeRoutes.routes_changed, Facts.same_none, JoinLinks.turn_used}
+use Rattle.radix_tree.proofs.Words.{◌≡◌, ℕ, ◌+◌, ◌≤◌, ◌==◌, ◌||◌, Bool, true, false, true≢false, if◌then◌else◌, List, [], ◌∷◌, ◌++◌, Option, Some, None, refl}
+use Rattle.radix_tree.proofs.Words.{sym, ap, ◌∙◌, subst, arith, eqb-true, eqb-false, eq-eqb, ne_eqb, is_some, Id, Node, LeafOf, Placed, Tree, leaf, bit_at}
+use Rattle.radix_tree.proofs.Words.{HaveBit, IsAmong, IsIn, IsChain, IsTree, routes_of, Part, leaves_in, bits_in, masks_in, name_of, ChainStands, Way, one_if}
+use Rattle.radix_tree.proofs.Words.{members_at, leaves_at, forks_at, HasHome, HasOneFork, HaveOneFork, shown, name_child, with_child, root_after, IsExchange}
+use Rattle.radix_tree.proofs.Words.{Exchanged, IsMarked, IsWholeBut, KeepsHeads, KeepsMasks, above_behind, last_room, root_past, Lodged, number_of}
+use Rattle.radix_tree.proofs.ChainLists.{IsCons, cons_at, map_entries, one_fork_same}
 
 -- ---- the bit node above
 pub one_more : (has : ℕ → Bool) (a n : ℕ) → has a ≡ false → one_if ((n == a) || has n) ≡ one_if (a == n) + one_if (has n)

@@ -1,13 +1,11 @@
 -- A walk along a chain to the gap for a rank.
-use Rattle.radix_tree.proofs.{RoomReads.none_some, RoomReads.AreLinks, RoomReads.Has-leaf, RoomReads.leaf_read, TreeMembers.IsHead, TreeMembers.head_of}
-use Rattle.radix_tree.proofs.{Scans.chain_most}
+use Rattle.radix_tree.proofs.{TreeMembers.IsHead, TreeMembers.head_of, Scans.chain_most, MaskLists.in_back}
+use Rattle.radix_tree.proofs.Words.{◌≡◌, ℕ, ◌+◌, ◌<◌, ◌≤◌, List, [], ◌∷◌, ◌++◌, length, Option, Some, None, true, true≢false, Equal, Greater, refl, sym, ap}
+use Rattle.radix_tree.proofs.Words.{◌∙◌, subst, inl, inr, arith, append_assoc, cases_eq, cases_lt, nat_cmp, is_lt, Has, leaf_of, Id, Leaf, Links, Placed}
+use Rattle.radix_tree.proofs.Words.{IsAmong, Leaves, Run, leaves_in, first_room, leaf_part, ChainStands, above_behind, last_room, ArePast, IsBelow, Passed}
+use Rattle.radix_tree.proofs.Words.{FindsGap, Lodged, number_of}
+use Rattle.radix_tree.proofs.RoomReads.{none_some, AreLinks, Has-leaf, leaf_read}
 use Rattle.std.specs.Cmp.{nat_cmp_is}
-use Rattle.radix_tree.proofs.Words.{◌≡◌, ℕ, ◌+◌, ◌<◌, ◌≤◌, List, [], ◌∷◌, ◌++◌, length, Option, Some, None, true, true≢false, Equal, Greater, refl, sym}
-use Rattle.radix_tree.proofs.Words.{ap, ◌∙◌, subst, inl, inr, arith, append_assoc, cases_eq, cases_lt, nat_cmp, is_lt, Has, leaf_of, Id, Leaf, Links}
-use Rattle.radix_tree.proofs.Words.{Placed, IsAmong, Leaves, Run, leaves_in, first_room, leaf_part, ChainStands, above_behind, last_room, ArePast}
-use Rattle.radix_tree.proofs.Words.{IsBelow, Passed, FindsGap, Lodged}
-use Rattle.radix_tree.proofs.{MaskLists.in_back}
-use Rattle.radix_nodes.specs.Naming.{number_of}
 
 -- what a comparison of ranks says
 pub less_of : (a b : ℕ) → is_lt (nat_cmp a b) ≡ true → a < b

@@ -1,17 +1,15 @@
 -- A route comes into the chain of its key.
-use Rattle.radix_tree.proofs.{TreeMembers.IsSaid, RoomReads.inside, RoomReads.none_some, RoomReads.Has-leaf, Parts.leaf_run, Parts.in_leaf}
-use Rattle.radix_tree.proofs.{Parts.way_inside, TreeMembers.chain_key, TreeMembers.tree_said, PartRooms.way_once, Lodging.over_at, Lodging.stays}
-use Rattle.radix_tree.proofs.{Beside.not_new, ChainRooms.room_route, WholeParts.once_but, ChainGaps.behind_stands, ChainLinks.linked_in}
-use Rattle.radix_tree.proofs.{ChainLinks.in_others, ChainLists.cons_at, ChainLists.chain_more, ChainExchanges.Rechained, ChainExchanges.front_named}
-use Rattle.radix_tree.proofs.{ChainExchanges.place_bits, ChainExchanges.place_root, ChainWholes.grown_whole, ChainWholes.grown_routes}
-use Rattle.radix_tree.proofs.{MovedReads.content_used, ChainExchanges.cons_head}
-use Rattle.radix_tree.proofs.Words.{◌≡◌, ℕ, ◌≤◌, ◌==◌, ◌||◌, true, false, if◌then◌else◌, List, ◌∷◌, ◌++◌, Option, Some, None, refl, sym, ap, ◌∙◌, subst}
-use Rattle.radix_tree.proofs.Words.{arith, ne_eqb, is_some, Has, Id, Leaf, Node, LeafOf, IsRoute, Placed, leaf, IsIn, IsChain, LeafPart, Part, Run}
-use Rattle.radix_tree.proofs.Words.{leaves_in, bits_in, masks_in, name_of, first_room, leaf_part, ChainStands, Way, LedTo, ForkAt, HasPair, one_if}
-use Rattle.radix_tree.proofs.Words.{members_at, leaves_at, IsWhole, shown, name_child, root_after, placed, Gains, AreOnce, IsWholeBut, late_at}
-use Rattle.radix_tree.proofs.Words.{nobody_out, lodge_leaf, KeepsBits, KeepsHeads, KeepsMasks, leaf_next, leaf_back, name_next, name_back, link_in}
-use Rattle.radix_tree.proofs.Words.{above_behind, last_room, root_past, IsGap, FindsGap, content_of, Entry, Lodged, []}
-use Rattle.radix_nodes.specs.Naming.{number_of}
+use Rattle.radix_tree.proofs.{TreeMembers.IsSaid, TreeMembers.chain_key, TreeMembers.tree_said, RoomReads.inside, RoomReads.none_some, RoomReads.Has-leaf}
+use Rattle.radix_tree.proofs.{Parts.leaf_run, Parts.in_leaf, Parts.way_inside, PartRooms.way_once, Lodging.over_at, Lodging.stays, Beside.not_new}
+use Rattle.radix_tree.proofs.{ChainRooms.room_route, WholeParts.once_but, ChainGaps.behind_stands, ChainLinks.linked_in, ChainLinks.in_others}
+use Rattle.radix_tree.proofs.{ChainLists.cons_at, ChainLists.chain_more, ChainWholes.grown_whole, ChainWholes.grown_routes, MovedReads.content_used}
+use Rattle.radix_tree.proofs.Words.{◌≡◌, ℕ, ◌≤◌, ◌==◌, ◌||◌, true, false, if◌then◌else◌, List, ◌∷◌, ◌++◌, Option, Some, None, refl, sym, ap, ◌∙◌, subst, arith}
+use Rattle.radix_tree.proofs.Words.{ne_eqb, is_some, Has, Id, Leaf, Node, LeafOf, IsRoute, Placed, leaf, IsIn, IsChain, LeafPart, Part, Run, leaves_in, bits_in}
+use Rattle.radix_tree.proofs.Words.{masks_in, name_of, first_room, leaf_part, ChainStands, Way, LedTo, ForkAt, HasPair, one_if, members_at, leaves_at, IsWhole}
+use Rattle.radix_tree.proofs.Words.{shown, name_child, root_after, placed, Gains, AreOnce, IsWholeBut, late_at, nobody_out, lodge_leaf, KeepsBits, KeepsHeads}
+use Rattle.radix_tree.proofs.Words.{KeepsMasks, leaf_next, leaf_back, name_next, name_back, link_in, above_behind, last_room, root_past, IsGap, FindsGap}
+use Rattle.radix_tree.proofs.Words.{content_of, Entry, Lodged, [], number_of}
+use Rattle.radix_tree.proofs.ChainExchanges.{Rechained, front_named, place_bits, place_root, cons_head}
 
 module _ {V : Type 0} where
   -- ---- members on both sides of a place are in the map

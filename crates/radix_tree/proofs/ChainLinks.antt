@@ -1,10 +1,9 @@
 -- The links of a chain with a member more, and without it.
-use Rattle.radix_tree.proofs.{RoomReads.inside, RoomReads.none_some, PartRooms.one_if_same, PartRooms.chain_frame, Forking.chain_there}
-use Rattle.radix_tree.proofs.{ChainGaps.behind_stands, ChainLists.members_append, ChainLists.members_more, Facts.own_room, Facts.off_room}
-use Rattle.radix_tree.proofs.Words.{◌≡◌, ℕ, ◌+◌, ◌≤◌, ◌==◌, List, [], ◌∷◌, ◌++◌, Option, Some, None, refl, sym, ap, ◌∙◌, arith, Id, Leaf, Placed}
-use Rattle.radix_tree.proofs.Words.{LeafPart, Leaves, first_room, ChainStands, one_if, members_at, lodge_leaf, leaf_next, leaf_back, name_next, name_back}
-use Rattle.radix_tree.proofs.Words.{link_in, link_out, above_behind, last_room}
-use Rattle.radix_nodes.specs.Naming.{number_of}
+use Rattle.radix_tree.proofs.{RoomReads.inside, RoomReads.none_some, PartRooms.one_if_same, PartRooms.chain_frame, Forking.chain_there, ChainGaps.behind_stands}
+use Rattle.radix_tree.proofs.{ChainLists.members_append, ChainLists.members_more, Facts.own_room, Facts.off_room}
+use Rattle.radix_tree.proofs.Words.{◌≡◌, ℕ, ◌+◌, ◌≤◌, ◌==◌, List, [], ◌∷◌, ◌++◌, Option, Some, None, refl, sym, ap, ◌∙◌, arith, Id, Leaf, Placed, LeafPart}
+use Rattle.radix_tree.proofs.Words.{Leaves, first_room, ChainStands, one_if, members_at, lodge_leaf, leaf_next, leaf_back, name_next, name_back, link_in}
+use Rattle.radix_tree.proofs.Words.{link_out, above_behind, last_room, number_of}
 
 module _ {V : Type 0} where
   -- ---- rooms that are not written

@@ -1,9 +1,8 @@
 -- A chain with a member more.
 use Rattle.radix_tree.proofs.{RoomReads.none_some}
-use Rattle.std.proofs.lemmas.List.{map-append}
 use Rattle.radix_tree.proofs.Words.{◌≡◌, ℕ, ◌+◌, ◌<◌, ◌≤◌, ◌⊎◌, ◌==◌, List, [], ◌∷◌, ◌++◌, map, Some, None, refl, sym, ap, ◌∙◌, inl, inr, arith, IsRoute}
-use Rattle.radix_tree.proofs.Words.{Placed, IsAmong, IsChain, BitPart, Bits, one_if, members_at, AreIdle, HasOneFork, Gains, ArePast, IsBelow, Entry}
-use Rattle.radix_nodes.specs.Naming.{number_of}
+use Rattle.radix_tree.proofs.Words.{Placed, IsAmong, IsChain, BitPart, Bits, one_if, members_at, AreIdle, HasOneFork, Gains, ArePast, IsBelow, Entry, number_of}
+use Rattle.std.proofs.lemmas.List.{map-append}
 
 module _ {V : Type 0} where
   -- a list has a first member

@@ -1,15 +1,13 @@
 -- A member of a chain whose neighbours name each other in its place.
 use Rattle.radix_tree.proofs.{RoomReads.inside, RoomReads.none_some, RoomReads.AreLinks, Parts.among_leaf, TreeMembers.head_of, TreeMembers.chain_key}
 use Rattle.radix_tree.proofs.{WaysDown.way_to_leaf, WholeParts.once_but, ChainWrites.own_said, ChainGaps.behind_stands, ChainLinks.linked_out}
-use Rattle.radix_tree.proofs.{ChainLinks.out_others, ChainLists.IsCons, ChainLists.cons_at, ChainLists.split_at, ChainLists.members_more}
-use Rattle.radix_tree.proofs.{ChainLists.chain_less, ChainRooms.room_route, ChainInserts.first_there, ChainInserts.last_there, ChainInserts.place_above}
-use Rattle.radix_tree.proofs.{ChainInserts.chain_once}
+use Rattle.radix_tree.proofs.{ChainLinks.out_others, ChainLists.IsCons, ChainLists.cons_at, ChainLists.split_at, ChainLists.members_more, ChainLists.chain_less}
+use Rattle.radix_tree.proofs.{ChainRooms.room_route, ChainInserts.first_there, ChainInserts.last_there, ChainInserts.place_above, ChainInserts.chain_once}
 use Rattle.radix_tree.proofs.Words.{◌≡◌, ℕ, ◌≤◌, Bool, List, [], ◌∷◌, ◌++◌, Some, None, refl, sym, ap, ◌∙◌, subst, inl, arith, eq-eqb, is_some, Has, Id}
-use Rattle.radix_tree.proofs.Words.{leaf_of, Leaf, Links, Node, LeafOf, Placed, leaf, IsAmong, IsChain, IsTree, LeafPart, Part, leaves_in, bits_in}
-use Rattle.radix_tree.proofs.Words.{name_of, first_room, leaf_part, ChainStands, Stands, Way, ForkAt, one_if, members_at, name_child, root_after}
-use Rattle.radix_tree.proofs.Words.{IsWholeBut, nobody_out, KeepsHeads, KeepsMasks, link_out, above_behind, last_room, root_past, Lodged}
+use Rattle.radix_tree.proofs.Words.{leaf_of, Leaf, Links, Node, LeafOf, Placed, leaf, IsAmong, IsChain, IsTree, LeafPart, Part, leaves_in, bits_in, name_of}
+use Rattle.radix_tree.proofs.Words.{first_room, leaf_part, ChainStands, Stands, Way, ForkAt, one_if, members_at, name_child, root_after, IsWholeBut, nobody_out}
+use Rattle.radix_tree.proofs.Words.{KeepsHeads, KeepsMasks, link_out, above_behind, last_room, root_past, Lodged, number_of}
 use Rattle.radix_tree.proofs.ChainExchanges.{Rechained, FrontNamed, front_named, place_bits, place_root, turn_same, root_same}
-use Rattle.radix_nodes.specs.Naming.{number_of}
 
 module _ {V : Type 0} where
   -- ---- a room that is a leaf of a tree

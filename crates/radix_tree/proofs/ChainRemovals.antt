@@ -1,20 +1,15 @@
 -- A route goes out of the chain of its key.
 use Rattle.radix_tree.proofs.{Parts.way_leads, TreeMembers.chain_key, TreeMembers.tree_said, WholeParts.later_than, ChainWrites.Has-linked_out}
-use Rattle.radix_tree.proofs.{ChainLinks.out_others, ChainLinks.last_among, ChainLinks.first_among, ChainLists.members_append, ChainLists.members_more}
-use Rattle.radix_tree.proofs.{ChainLists.among_own, ChainLists.among_less, ChainLists.others_idle, ChainRooms.among_at, ChainRooms.room_route}
-use Rattle.radix_tree.proofs.{Facts.same_none, ChainWholes.shrunk_whole, ChainWholes.shrunk_routes}
-use Rattle.radix_tree.proofs.{ChainInserts.next_same, ChainInserts.back_same}
-use Rattle.radix_tree.proofs.Words.{⊎_elim, ◌≡◌, ℕ, ◌≤◌, ◌⊎◌, ◌==◌, Bool, true, false, true≢false, List, [], ◌∷◌, ◌++◌, Option, Some, None, refl, sym, ap}
-use Rattle.radix_tree.proofs.Words.{◌∙◌, subst, inl, inr, arith, eqb-true, eq-eqb, is_some, Has, Id, Leaf, Node, LeafOf, Placed, leaf, IsAmong, IsIn}
-use Rattle.radix_tree.proofs.Words.{LeafPart, BitPart, Part, leaves_in, bits_in, masks_in, name_of, Way, one_if, members_at, HaveOneFork, HasOneFork}
-use Rattle.radix_tree.proofs.Words.{shown, shown_entry, root_after, Gains, IsWholeBut, is_of_key, has_key, nobody_late, late_at, nobody_out, out_at}
-use Rattle.radix_tree.proofs.Words.{Content, content_of, KeepsRoutes, name_back, link_out, Lodged}
-use Rattle.radix_tree.proofs.ChainNeighbours.{IsMember, leaf_chain, member_once, own_out, IsUnlinked, before_there, behind_there, IsLeft}
-use Rattle.radix_tree.proofs.ChainNeighbours.{out_chain}
-use Rattle.radix_tree.proofs.{Facts.some_of}
-use Rattle.radix_tree.proofs.{JoinLinks.turn_used}
-use Rattle.radix_tree.proofs.{MovedReads.content_used}
-use Rattle.radix_nodes.specs.Naming.{number_of}
+use Rattle.radix_tree.proofs.{ChainRooms.among_at, ChainRooms.room_route, Facts.same_none, Facts.some_of, ChainWholes.shrunk_whole, ChainWholes.shrunk_routes}
+use Rattle.radix_tree.proofs.{ChainInserts.next_same, ChainInserts.back_same, JoinLinks.turn_used, MovedReads.content_used}
+use Rattle.radix_tree.proofs.Words.{⊎_elim, ◌≡◌, ℕ, ◌≤◌, ◌⊎◌, ◌==◌, Bool, true, false, true≢false, List, [], ◌∷◌, ◌++◌, Option, Some, None, refl, sym, ap, ◌∙◌}
+use Rattle.radix_tree.proofs.Words.{subst, inl, inr, arith, eqb-true, eq-eqb, is_some, Has, Id, Leaf, Node, LeafOf, Placed, leaf, IsAmong, IsIn, LeafPart}
+use Rattle.radix_tree.proofs.Words.{BitPart, Part, leaves_in, bits_in, masks_in, name_of, Way, one_if, members_at, HaveOneFork, HasOneFork, shown, shown_entry}
+use Rattle.radix_tree.proofs.Words.{root_after, Gains, IsWholeBut, is_of_key, has_key, nobody_late, late_at, nobody_out, out_at, Content, content_of}
+use Rattle.radix_tree.proofs.Words.{KeepsRoutes, name_back, link_out, Lodged, number_of}
+use Rattle.radix_tree.proofs.ChainLinks.{out_others, last_among, first_among}
+use Rattle.radix_tree.proofs.ChainLists.{members_append, members_more, among_own, among_less, others_idle}
+use Rattle.radix_tree.proofs.ChainNeighbours.{IsMember, leaf_chain, member_once, own_out, IsUnlinked, before_there, behind_there, IsLeft, out_chain}
 
 module _ {V : Type 0} where
   -- ---- each room keeps its route

@@ -1,9 +1,8 @@
 -- The route of a room that is in a tree.
 use Rattle.radix_tree.proofs.{RoomReads.inside, TreeMembers.tree_said}
-use Rattle.radix_tree.proofs.Words.{◌≡◌, ℕ, ◌+◌, ◌≤◌, ◌==◌, true, false, List, [], ◌∷◌, Some, refl, sym, ap, ◌∙◌, inl, inr, arith, eqb-true, cases_lt}
-use Rattle.radix_tree.proofs.Words.{Placed, Tree, leaf, fork, IsAmong, IsIn, LeafPart, Part, leaves_in, bits_in, one_if, members_at, leaves_at}
-use Rattle.radix_tree.proofs.Words.{shown_entry, Lodged}
-use Rattle.radix_nodes.specs.Naming.{number_of}
+use Rattle.radix_tree.proofs.Words.{◌≡◌, ℕ, ◌+◌, ◌≤◌, ◌==◌, true, false, List, [], ◌∷◌, Some, refl, sym, ap, ◌∙◌, inl, inr, arith, eqb-true, cases_lt, Placed}
+use Rattle.radix_tree.proofs.Words.{Tree, leaf, fork, IsAmong, IsIn, LeafPart, Part, leaves_in, bits_in, one_if, members_at, leaves_at, shown_entry, Lodged}
+use Rattle.radix_tree.proofs.Words.{number_of}
 
 module _ {V : Type 0} where
   abbrev pub AmongAt : ℕ → List (Placed V) → Type 0

@@ -1,10 +1,9 @@
 -- A walk back along a chain, to its first member.
-use Rattle.radix_tree.proofs.{RoomReads.inside, RoomReads.none_some, RoomReads.AreLinks, RoomReads.Has-leaf, RoomReads.leaf_read, TreeMembers.chain_below}
-use Rattle.radix_tree.proofs.{TreeMembers.chain_route}
-use Rattle.radix_tree.proofs.Words.{◌≡◌, ℕ, ◌+◌, ◌≤◌, ◌<◌, ◌⊎◌, List, [], ◌∷◌, Option, Some, None, refl, inl, inr, sym, ap, ◌∙◌, subst, arith, Has}
-use Rattle.radix_tree.proofs.Words.{leaf_of, Id, Leaf, Links, Placed, IsAmong, IsChain, LeafPart, Leaves, Run, leaves_in, first_room, leaf_part}
-use Rattle.radix_tree.proofs.Words.{ChainStands, Lodged}
-use Rattle.radix_nodes.specs.Naming.{number_of}
+use Rattle.radix_tree.proofs.Words.{◌≡◌, ℕ, ◌+◌, ◌≤◌, ◌<◌, ◌⊎◌, List, [], ◌∷◌, Option, Some, None, refl, inl, inr, sym, ap, ◌∙◌, subst, arith, Has, leaf_of, Id}
+use Rattle.radix_tree.proofs.Words.{Leaf, Links, Placed, IsAmong, IsChain, LeafPart, Leaves, Run, leaves_in, first_room, leaf_part, ChainStands, Lodged}
+use Rattle.radix_tree.proofs.Words.{number_of}
+use Rattle.radix_tree.proofs.RoomReads.{inside, none_some, AreLinks, Has-leaf, leaf_read}
+use Rattle.radix_tree.proofs.TreeMembers.{chain_below, chain_route}
 
 module _ {V : Type 0} where
   -- what a member names before it: what is before the list, where it is the first, or a member of a greater rank

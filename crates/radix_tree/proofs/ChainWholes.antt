@@ -1,14 +1,11 @@
 -- The chain of a leaf has a member more, or one less, and so the whole.
-use Rattle.radix_tree.proofs.{WholeParts.Fits, WholeRoutes.gains_spliced, WholeRoutes.loses_spliced}
-use Rattle.radix_tree.proofs.Words.{◌≡◌, ℕ, ◌≤◌, ◌⊎◌, ◌==◌, ◌||◌, Bool, true≢false, List, ◌∷◌, ◌++◌, Some, None, sym, ap, ◌∙◌, subst, inl, inr, arith}
-use Rattle.radix_tree.proofs.Words.{eqb-true, eq-eqb, is_some, Node, LeafOf, Placed, leaf, IsAmong, IsIn, Part, leaves_in, bits_in, masks_in, name_of}
-use Rattle.radix_tree.proofs.Words.{Way, one_if, members_at, leaves_at, shown, root_after, Gains, IsWholeBut, nobody_late, late_at, nobody_out, out_at}
-use Rattle.radix_tree.proofs.Words.{Lodged}
-use Rattle.radix_tree.proofs.{Facts.test_turned, Plugs.counted_member}
+use Rattle.radix_tree.proofs.{WholeParts.Fits, WholeRoutes.gains_spliced, WholeRoutes.loses_spliced, Facts.test_turned, Plugs.counted_member}
+use Rattle.radix_tree.proofs.Words.{◌≡◌, ℕ, ◌≤◌, ◌⊎◌, ◌==◌, ◌||◌, Bool, true≢false, List, ◌∷◌, ◌++◌, Some, None, sym, ap, ◌∙◌, subst, inl, inr, arith, eqb-true}
+use Rattle.radix_tree.proofs.Words.{eq-eqb, is_some, Node, LeafOf, Placed, leaf, IsAmong, IsIn, Part, leaves_in, bits_in, masks_in, name_of, Way, one_if}
+use Rattle.radix_tree.proofs.Words.{members_at, leaves_at, shown, root_after, Gains, IsWholeBut, nobody_late, late_at, nobody_out, out_at, Lodged, number_of}
 use Rattle.radix_tree.proofs.ChainLists.{members_more, among_more, among_own, among_less, one_fork_less, one_fork_more, routes_more}
-use Rattle.radix_tree.proofs.ChainExchanges.{one_more, Rechained, under, old_counts, now_counts, rechained, spliced, old_among, among_old}
-use Rattle.radix_tree.proofs.ChainExchanges.{no_home, same_marks, not_marked, same_forks}
-use Rattle.radix_nodes.specs.Naming.{number_of}
+use Rattle.radix_tree.proofs.ChainExchanges.{one_more, Rechained, under, old_counts, now_counts, rechained, spliced, old_among, among_old, no_home, same_marks}
+use Rattle.radix_tree.proofs.ChainExchanges.{not_marked, same_forks}
 
 module _ {V : Type 0} where
   -- ---- a member more

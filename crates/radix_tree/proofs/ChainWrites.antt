@@ -1,9 +1,8 @@
 -- Writes to the links of a chain's members.
-use Rattle.radix_tree.proofs.Words.{◌≡◌, ℕ, ◌==◌, true, false, if◌then◌else◌, Option, Some, None, refl, sym, ap, ◌∙◌, eqb-true, eq-eqb, ne_eqb, Has}
-use Rattle.radix_tree.proofs.Words.{leaf_of, Id, Leaf, Links, LeafPart, leaf_in, leaves_in, with_leaf, put_leaf, lodge_leaf, KeepsLeaves, leaf_next}
-use Rattle.radix_tree.proofs.Words.{leaf_back, name_next, name_back, link_in, link_out, Lodged}
+use Rattle.radix_tree.proofs.Words.{◌≡◌, ℕ, ◌==◌, true, false, if◌then◌else◌, Option, Some, None, refl, sym, ap, ◌∙◌, eqb-true, eq-eqb, ne_eqb, Has, leaf_of}
+use Rattle.radix_tree.proofs.Words.{Id, Leaf, Links, LeafPart, leaf_in, leaves_in, with_leaf, put_leaf, lodge_leaf, KeepsLeaves, leaf_next, leaf_back}
+use Rattle.radix_tree.proofs.Words.{name_next, name_back, link_in, link_out, Lodged, number_of}
 use Rattle.radix_tree.proofs.RoomReads.{none_some, AreLinks, Has-leaf}
-use Rattle.radix_nodes.specs.Naming.{number_of}
 
 module _ {V : Type 0} where
   module _ {m : Lodged V} {room : Id} (h : Has m room) where

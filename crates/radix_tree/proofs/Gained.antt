@@ -3,14 +3,13 @@
 --     shown_same                     rooms that say the same of leaves and bit nodes show the same
 --     nobody, among_left, new_left   whose masks are not listed yet
 --     IsLost, lost                   what a route that goes leaves
-use Rattle.radix_tree.proofs.{RoomReads.none_some, Parts.leaf_run, Showing.shown_is, WholeParts.later_than, WholeRoutes.loses_entry, Kept.IsFound}
-use Rattle.radix_tree.proofs.{Kept.shown_table, Facts.test_turned}
-use Rattle.radix_tree.proofs.Words.{◌≡◌, ℕ, ◌+◌, ◌==◌, ◌&&◌, ◌||◌, Bool, true, false, not, if◌then◌else◌, List, Option, Some, None, is_some, refl, sym}
-use Rattle.radix_tree.proofs.Words.{ap, ◌∙◌, subst, inl, arith, eqb-true, eq-eqb, get, Seen, Id, Leaf, Node, LeafOf, IsRoute, without, leaf, LeafPart}
-use Rattle.radix_tree.proofs.Words.{Part, leaf_in, bit_in, mask_in, leaves_in, leaf_part, first_room, LedTo, Gains, placed, IsWholeBut, has_key}
-use Rattle.radix_tree.proofs.Words.{is_of_key, nobody_late, nobody_out, late_at, lodge_leaf, KeepsLeaves, KeepsBits, KeepsMasks, one_if, beneath_shown}
-use Rattle.radix_tree.proofs.Words.{shown, shown_entry, IsWhole, Holds, Entry, Lodged, [], true≢false}
-use Rattle.radix_nodes.specs.Naming.{number_of}
+use Rattle.radix_tree.proofs.{RoomReads.none_some, Parts.leaf_run, Showing.shown_is, WholeParts.later_than, WholeRoutes.loses_entry, Facts.test_turned}
+use Rattle.radix_tree.proofs.Words.{◌≡◌, ℕ, ◌+◌, ◌==◌, ◌&&◌, ◌||◌, Bool, true, false, not, if◌then◌else◌, List, Option, Some, None, is_some, refl, sym, ap, ◌∙◌}
+use Rattle.radix_tree.proofs.Words.{subst, inl, arith, eqb-true, eq-eqb, get, Seen, Id, Leaf, Node, LeafOf, IsRoute, without, leaf, LeafPart, Part, leaf_in}
+use Rattle.radix_tree.proofs.Words.{bit_in, mask_in, leaves_in, leaf_part, first_room, LedTo, Gains, placed, IsWholeBut, has_key, is_of_key, nobody_late}
+use Rattle.radix_tree.proofs.Words.{nobody_out, late_at, lodge_leaf, KeepsLeaves, KeepsBits, KeepsMasks, one_if, beneath_shown, shown, shown_entry, IsWhole}
+use Rattle.radix_tree.proofs.Words.{Holds, Entry, Lodged, [], true≢false, number_of}
+use Rattle.radix_tree.proofs.Kept.{IsFound, shown_table}
 
 and_not : (a b : Bool) → (a && not b) ≡ true → (a ≡ true) × (b ≡ false)
 and_not true true e = absurd (true≢false (sym e))

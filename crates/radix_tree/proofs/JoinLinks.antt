@@ -1,11 +1,10 @@
 -- A node comes into the place of the bit node above it, which is none from then on: what the rooms say.
 use Rattle.radix_tree.proofs.{RoomReads.inside, RoomReads.none_some, RoomReads.Has-leaf, PartRooms.elsewhere, PartRooms.way_once, PartRooms.spine_out}
-use Rattle.radix_tree.proofs.{Lodging.stays, JoinSides.side_is, JoinSides.side_stands, JoinSides.side_forks, Lodging.new_turn}
-use Rattle.radix_tree.proofs.Words.{◌≡◌, ◌+◌, ◌≤◌, ◌==◌, Bool, true, false, if◌then◌else◌, List, [], ◌∷◌, Option, Some, None, refl, sym, ap, ◌∙◌, arith}
-use Rattle.radix_tree.proofs.Words.{ℕ, eq-eqb, ne_eqb, is_some, Has, Id, Node, LeafOf, BitOf, Tree, BitPart, Part, bit_part, leaf_in, leaves_in, bits_in}
-use Rattle.radix_tree.proofs.Words.{name_of, Way, one_if, forks_at, name_child, with_child, AreOnce, IsApart, IsLone, put_bit, put_head, bit_above}
-use Rattle.radix_tree.proofs.Words.{lift_bit, Lodged}
-use Rattle.radix_nodes.specs.Naming.{number_of}
+use Rattle.radix_tree.proofs.{Lodging.stays, Lodging.new_turn, JoinSides.side_is, JoinSides.side_stands, JoinSides.side_forks}
+use Rattle.radix_tree.proofs.Words.{◌≡◌, ◌+◌, ◌≤◌, ◌==◌, Bool, true, false, if◌then◌else◌, List, [], ◌∷◌, Option, Some, None, refl, sym, ap, ◌∙◌, arith, ℕ}
+use Rattle.radix_tree.proofs.Words.{eq-eqb, ne_eqb, is_some, Has, Id, Node, LeafOf, BitOf, Tree, BitPart, Part, bit_part, leaf_in, leaves_in, bits_in, name_of}
+use Rattle.radix_tree.proofs.Words.{Way, one_if, forks_at, name_child, with_child, AreOnce, IsApart, IsLone, put_bit, put_head, bit_above, lift_bit, Lodged}
+use Rattle.radix_tree.proofs.Words.{number_of}
 
 -- ---- a room that is not written
 pub put_off : (room : Id) (n : ℕ) (said : Option BitPart) → (n ≡ number_of room → ⊥) → put_bit room None n said ≡ said

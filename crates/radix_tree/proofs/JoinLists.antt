@@ -1,15 +1,11 @@
 -- The list of masks of a bit node that goes is handed on to the node that takes its place.
-use Rattle.radix_tree.proofs.{RoomReads.inside, RoomReads.none_some, PartRooms.one_if_same, PartRooms.way_once}
-use Rattle.radix_tree.proofs.{Facts.some_of}
-use Rattle.radix_tree.proofs.Words.{◌≡◌, ◌+◌, ◌≤◌, ◌⊎◌, ◌==◌, List, [], ◌∷◌, ◌++◌, Option, Some, None, inl, inr, refl, sym, ap, ◌∙◌, subst, arith, ℕ}
-use Rattle.radix_tree.proofs.Words.{cases_lt, cases_eq, is_some, Id, LeafOf, BitOf, Placed, Tree, leaf, fork, IsAmong, IsIn, IsTree, MaskPart, Heads}
-use Rattle.radix_tree.proofs.Words.{Masks, Part, leaves_in, bits_in, heads_in, masks_in, name_of, Falls, one_if, forks_at, AreOnce, HasSides, IsLone}
-use Rattle.radix_tree.proofs.Words.{IsHanded, IsMarked, IsMaskList, MarkedIn, MarkedLists, IsMasks, IsBitNode, IsAside, Lodged}
+use Rattle.radix_tree.proofs.{RoomReads.inside, RoomReads.none_some, PartRooms.one_if_same, PartRooms.way_once, Facts.some_of, MaskLinks.stand_same}
+use Rattle.radix_tree.proofs.Words.{◌≡◌, ◌+◌, ◌≤◌, ◌⊎◌, ◌==◌, List, [], ◌∷◌, ◌++◌, Option, Some, None, inl, inr, refl, sym, ap, ◌∙◌, subst, arith, ℕ, cases_lt}
+use Rattle.radix_tree.proofs.Words.{cases_eq, is_some, Id, LeafOf, BitOf, Placed, Tree, leaf, fork, IsAmong, IsIn, IsTree, MaskPart, Heads, Masks, Part}
+use Rattle.radix_tree.proofs.Words.{leaves_in, bits_in, heads_in, masks_in, name_of, Falls, one_if, forks_at, AreOnce, HasSides, IsLone, IsHanded, IsMarked}
+use Rattle.radix_tree.proofs.Words.{IsMaskList, MarkedIn, MarkedLists, IsMasks, IsBitNode, IsAside, Lodged, true≢false, number_of}
 use Rattle.radix_tree.proofs.MaskLists.{falls_wider, falls_among, falls_appended, among_appended, in_front, in_back, ranked_in, masks_listed}
 use Rattle.radix_tree.proofs.JoinSides.{side_is, side_stands, side_forks, side_in, in_side, side_list, side_lists, side_home}
-use Rattle.radix_tree.proofs.Words.{true≢false}
-use Rattle.radix_tree.proofs.{MaskLinks.stand_same}
-use Rattle.radix_nodes.specs.Naming.{number_of}
 
 unmarked_marked : {A : Type 0} (K : Masks) (x y : Placed A) → K (number_of x.room) ≡ None → x ≡ y → IsMarked K y → ⊥
 unmarked_marked {A = A} K x y none same marked =

@@ -1,12 +1,10 @@
 -- A route that is alone at its leaf, found by its room.
-use Rattle.radix_tree.proofs.{RoomReads.inside, RoomReads.none_some, TreeMembers.tree_said, WaysDown.way_to_leaf, WholeParts.once_but, JoinSides.sides_of}
-use Rattle.radix_tree.proofs.{JoinSides.side_own_stands}
-use Rattle.radix_tree.proofs.Words.{◌≡◌, ◌+◌, ◌≤◌, ◌==◌, Bool, true, false, List, [], ◌∷◌, Option, Some, None, inl, inr, refl, sym, ap, ◌∙◌, subst, arith}
-use Rattle.radix_tree.proofs.Words.{ℕ, eqb-true, cases_eq, is_some, Id, Node, Placed, Tree, leaf, fork, IsAmong, IsIn, LeafPart, Leaves, Part, leaves_in}
-use Rattle.radix_tree.proofs.Words.{bits_in, first_room, leaf_part, ChainStands, Stands, Way, one_if, members_at, leaves_at, AreOnce, HasSides, IsLone}
-use Rattle.radix_tree.proofs.Words.{IsWholeBut, nobody_out, Lodged}
-use Rattle.radix_tree.proofs.{Facts.same_id}
-use Rattle.radix_nodes.specs.Naming.{number_of}
+use Rattle.radix_tree.proofs.{TreeMembers.tree_said, WaysDown.way_to_leaf, WholeParts.once_but, JoinSides.sides_of, JoinSides.side_own_stands, Facts.same_id}
+use Rattle.radix_tree.proofs.Words.{◌≡◌, ◌+◌, ◌≤◌, ◌==◌, Bool, true, false, List, [], ◌∷◌, Option, Some, None, inl, inr, refl, sym, ap, ◌∙◌, subst, arith, ℕ}
+use Rattle.radix_tree.proofs.Words.{eqb-true, cases_eq, is_some, Id, Node, Placed, Tree, leaf, fork, IsAmong, IsIn, LeafPart, Leaves, Part, leaves_in, bits_in}
+use Rattle.radix_tree.proofs.Words.{first_room, leaf_part, ChainStands, Stands, Way, one_if, members_at, leaves_at, AreOnce, HasSides, IsLone, IsWholeBut}
+use Rattle.radix_tree.proofs.Words.{nobody_out, Lodged, number_of}
+use Rattle.radix_tree.proofs.RoomReads.{inside, none_some}
 
 module _ {V : Type 0} where
   none_first : (xs : List (Placed V)) → first_room xs ≡ None → xs ≡ []

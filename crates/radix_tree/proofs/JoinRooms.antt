@@ -1,15 +1,14 @@
 -- A route that is alone at its leaf, and the bit node above it, as they are read of their rooms.
 use Rattle.radix_tree.proofs.{AddressBits.zero_not_one, Parts.Has-fork, TreeMembers.bit_beneath, TreeMembers.tree_said, Lodging.stays, Lodging.over_at}
-use Rattle.radix_tree.proofs.{JoinSides.SaysOther, JoinSides.side_is, JoinSides.side_says, JoinSides.side_fork, JoinLone.tree_room, JoinLone.lone}
-use Rattle.radix_tree.proofs.{JoinLone.lone_said, JoinLinks.lone_apart, JoinLinks.other_part, JoinWhole.IsJoined, ChainLists.idle_at, ListedChains.of_key}
-use Rattle.radix_tree.proofs.Words.{◌≡◌, ◌+◌, ◌≤◌, Bool, true, List, ◌∷◌, Option, Some, None, refl, sym, ap, ◌∙◌, subst, arith, ℕ, inl, inr, cases_eq}
-use Rattle.radix_tree.proofs.Words.{is_some, Has, leaf_of, bit_node_of, Id, BitNode, Leaf, Links, Node, Placed, Tree, leaf, fork, bit_at, IsAmong, IsIn}
-use Rattle.radix_tree.proofs.Words.{IsTree, LeafPart, BitPart, Bits, Part, leaf_in, leaves_in, bits_in, heads_in, name_of, ForkAt, one_if, HasOneFork}
-use Rattle.radix_tree.proofs.Words.{HaveOneFork, name_child, other_side, IsApart, IsLone, IsWholeBut, has_key, nobody_out, content_of, KeepsRoutes}
-use Rattle.radix_tree.proofs.Words.{put_bit, lift_leaf, lift_bit, Lodged, IsLonely, [], true≢false}
-use Rattle.radix_tree.proofs.{ChainWrites.own_part}
+use Rattle.radix_tree.proofs.{JoinLinks.lone_apart, JoinLinks.other_part, JoinWhole.IsJoined, ChainLists.idle_at, ListedChains.of_key, ChainWrites.own_part}
+use Rattle.radix_tree.proofs.Words.{◌≡◌, ◌+◌, ◌≤◌, Bool, true, List, ◌∷◌, Option, Some, None, refl, sym, ap, ◌∙◌, subst, arith, ℕ, inl, inr, cases_eq, is_some}
+use Rattle.radix_tree.proofs.Words.{Has, leaf_of, bit_node_of, Id, BitNode, Leaf, Links, Node, Placed, Tree, leaf, fork, bit_at, IsAmong, IsIn, IsTree}
+use Rattle.radix_tree.proofs.Words.{LeafPart, BitPart, Bits, Part, leaf_in, leaves_in, bits_in, heads_in, name_of, ForkAt, one_if, HasOneFork, HaveOneFork}
+use Rattle.radix_tree.proofs.Words.{name_child, other_side, IsApart, IsLone, IsWholeBut, has_key, nobody_out, content_of, KeepsRoutes, put_bit, lift_leaf}
+use Rattle.radix_tree.proofs.Words.{lift_bit, Lodged, IsLonely, [], true≢false, number_of}
+use Rattle.radix_tree.proofs.JoinSides.{SaysOther, side_is, side_says, side_fork}
+use Rattle.radix_tree.proofs.JoinLone.{tree_room, lone, lone_said}
 use Rattle.radix_tree.proofs.RoomReads.{inside, none_some, AreLinks, Has-leaf, bit_read, bit_used, head_read}
-use Rattle.radix_nodes.specs.Naming.{number_of}
 
 module _ {V : Type 0} where
   -- ---- the route's room

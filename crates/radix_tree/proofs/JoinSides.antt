@@ -1,10 +1,9 @@
 -- A bit node with what is on the side of a key and what is on the other side.
 use Rattle.radix_tree.proofs.{AddressBits.zero_not_one, TreeMembers.bit_beneath}
-use Rattle.radix_tree.proofs.Words.{◌≡◌, ◌+◌, ◌≤◌, ◌==◌, ◌⊎◌, if◌then◌else◌, [], Option, Some, inl, inr, refl, sym, ap, ◌∙◌, subst, arith, ℕ, eq-eqb}
-use Rattle.radix_tree.proofs.Words.{ne_eqb, append-nil, Id, Node, Placed, Tree, leaf, fork, bit_at, HaveBit, IsIn, IsTree, routes_of, BitPart, Leaves}
-use Rattle.radix_tree.proofs.Words.{Bits, Heads, Masks, Part, name_of, Stands, ForkAt, Beneath, one_if, leaves_at, forks_at, HasHome, HaveOneFork, Gains}
-use Rattle.radix_tree.proofs.Words.{other_side, HasSides, IsMaskList, MarkedIn, MarkedLists, Lodged}
-use Rattle.radix_nodes.specs.Naming.{number_of}
+use Rattle.radix_tree.proofs.Words.{◌≡◌, ◌+◌, ◌≤◌, ◌==◌, ◌⊎◌, if◌then◌else◌, [], Option, Some, inl, inr, refl, sym, ap, ◌∙◌, subst, arith, ℕ, eq-eqb, ne_eqb}
+use Rattle.radix_tree.proofs.Words.{append-nil, Id, Node, Placed, Tree, leaf, fork, bit_at, HaveBit, IsIn, IsTree, routes_of, BitPart, Leaves, Bits, Heads}
+use Rattle.radix_tree.proofs.Words.{Masks, Part, name_of, Stands, ForkAt, Beneath, one_if, leaves_at, forks_at, HasHome, HaveOneFork, Gains, other_side}
+use Rattle.radix_tree.proofs.Words.{HasSides, IsMaskList, MarkedIn, MarkedLists, Lodged, number_of}
 
 other_of_zero : (key b : ℕ) (zero one : Node) → bit_at b key ≡ 0 → other_side key b zero one ≡ one
 other_of_zero key b zero one clear = ap (λ t. if t then zero else one) (ne_eqb (bit_at b key) 1 (λ set. zero_not_one clear set))

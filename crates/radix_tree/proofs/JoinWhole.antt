@@ -1,19 +1,16 @@
 -- A route that is alone at its leaf goes, and with it the bit node above: the rooms as a whole.
-use Rattle.radix_tree.proofs.{MovedReads.content_lift}
-use Rattle.radix_tree.proofs.{RoomReads.inside, RoomReads.none_some, PartRooms.one_if_same, Forking.lifted, Beside.misses_leaf, Beside.misses_bit}
-use Rattle.radix_tree.proofs.{Beside.named_leaf, Beside.named_bit, Plugs.counted_leaf, Plugs.spare_same, PlugLists.marked_same, PlugLists.lists_same}
-use Rattle.radix_tree.proofs.{Exchanging.exchanged, WholeParts.Fits, Facts.some_of, WholeChanges.spare_changed, WholeChanges.whole_changed}
-use Rattle.radix_tree.proofs.{WholeRoutes.routes_changed, WholeRoutes.loses_spliced, JoinLists.same_rank_at, JoinLone.lone_said}
-use Rattle.radix_tree.proofs.{ChainRemovals.routes_some, MovedReads.lift_used, Facts.test_turned}
-use Rattle.radix_tree.proofs.Words.{◌≡◌, ◌+◌, ◌<◌, ◌≤◌, ◌==◌, true, false, Some, None, inl, inr, refl, sym, ap, ◌∙◌, subst, arith, ℕ, eqb-true, eq-eqb}
-use Rattle.radix_tree.proofs.Words.{is_some, Id, Node, Placed, Tree, leaf, fork, IsIn, IsTree, LeafPart, Part, leaves_in, bits_in, heads_in, masks_in}
-use Rattle.radix_tree.proofs.Words.{name_of, one_if, leaves_at, forks_at, shown, shown_entry, name_child, root_after, AreOnce, Gains, IsExchange}
-use Rattle.radix_tree.proofs.Words.{Exchanged, IsLone, IsHanded, IsWholeBut, nobody_late, nobody_out, late_at, out_at, content_of, KeepsRoutes, put_bit}
-use Rattle.radix_tree.proofs.Words.{lift_leaf, lift_bit, Lodged, true≢false}
+use Rattle.radix_tree.proofs.{MovedReads.content_lift, MovedReads.lift_used, RoomReads.inside, RoomReads.none_some, PartRooms.one_if_same, Forking.lifted}
+use Rattle.radix_tree.proofs.{Plugs.counted_leaf, Plugs.spare_same, PlugLists.marked_same, PlugLists.lists_same, Exchanging.exchanged, WholeParts.Fits}
+use Rattle.radix_tree.proofs.{Facts.some_of, Facts.test_turned, WholeChanges.spare_changed, WholeChanges.whole_changed, WholeRoutes.routes_changed}
+use Rattle.radix_tree.proofs.{WholeRoutes.loses_spliced, JoinLists.same_rank_at, JoinLone.lone_said, ChainRemovals.routes_some}
+use Rattle.radix_tree.proofs.Words.{◌≡◌, ◌+◌, ◌<◌, ◌≤◌, ◌==◌, true, false, Some, None, inl, inr, refl, sym, ap, ◌∙◌, subst, arith, ℕ, eqb-true, eq-eqb, is_some}
+use Rattle.radix_tree.proofs.Words.{Id, Node, Placed, Tree, leaf, fork, IsIn, IsTree, LeafPart, Part, leaves_in, bits_in, heads_in, masks_in, name_of, one_if}
+use Rattle.radix_tree.proofs.Words.{leaves_at, forks_at, shown, shown_entry, name_child, root_after, AreOnce, Gains, IsExchange, Exchanged, IsLone, IsHanded}
+use Rattle.radix_tree.proofs.Words.{IsWholeBut, nobody_late, nobody_out, late_at, out_at, content_of, KeepsRoutes, put_bit, lift_leaf, lift_bit, Lodged}
+use Rattle.radix_tree.proofs.Words.{true≢false, number_of}
+use Rattle.radix_tree.proofs.Beside.{misses_leaf, misses_bit, named_leaf, named_bit}
 use Rattle.radix_tree.proofs.JoinSides.{side_is, side_says, side_leaves, side_in, in_side, side_have, home_side, side_spare, side_gains}
-use Rattle.radix_tree.proofs.JoinLinks.{put_off, put_none, put_here, turn_none, turn_used, lift_none, quiet}
-use Rattle.radix_tree.proofs.JoinLinks.{lone_once, lone_forks, lone_apart, other_part}
-use Rattle.radix_nodes.specs.Naming.{number_of}
+use Rattle.radix_tree.proofs.JoinLinks.{put_off, put_none, put_here, turn_none, turn_used, lift_none, quiet, lone_once, lone_forks, lone_apart, other_part}
 
 module _ {V : Type 0} where
   -- a tree whose bits are past one is one whose bits are past a lower one

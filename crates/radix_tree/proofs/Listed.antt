@@ -1,18 +1,12 @@
 -- The mask of a route comes into the list of its bit node, or goes out of it: the table's rooms as a whole.
-use Rattle.radix_tree.proofs.{RoomReads.none_some, Parts.fork_is, Parts.way_leads, WholeParts.with_late}
-use Rattle.radix_tree.proofs.Words.{◌≡◌, ℕ, ◌+◌, ◌≤◌, ◌==◌, Bool, true, not, ◌&&◌, ◌||◌, List, Option, Some, None, refl, inl, inr, sym, ap, ◌∙◌, subst}
-use Rattle.radix_tree.proofs.Words.{arith, eq-eqb, ne_eqb, cases_eq, is_some, Id, Node, Placed, IsAmong, IsIn, MaskPart, Part, heads_in, masks_in}
-use Rattle.radix_tree.proofs.Words.{HasHome, KeepsLeaves, KeepsBits, AreOnce, IsMarked, IsMaskList, MarkedIn, IsWholeBut, nobody_late, nobody_out}
-use Rattle.radix_tree.proofs.Words.{IsMasks, IsBitNode, IsFree, IsAside, IsNoRank, HomeAt, IsHome, sorted_in, taken_out, Lodged}
-use Rattle.radix_tree.proofs.MaskLists.{sorted_here, among_sorted, sorted_among, falls_sorted, taken_among, among_taken, falls_taken, ranked_in}
-use Rattle.radix_tree.proofs.{Climbs.used}
-use Rattle.radix_tree.proofs.MaskLists.{masks_listed}
-use Rattle.radix_tree.proofs.HomeLists.{or_right, one_room, one_of_bit, home_has, tree_of, home_list, home_inside, relisted}
-use Rattle.radix_tree.proofs.HomeLists.{whole_kept}
-use Rattle.radix_tree.proofs.Words.{true≢false}
-use Rattle.radix_tree.proofs.{MaskLists.falls_among}
-use Rattle.radix_tree.proofs.{Facts.some_of}
-use Rattle.radix_nodes.specs.Naming.{number_of}
+use Rattle.radix_tree.proofs.{RoomReads.none_some, Parts.fork_is, Parts.way_leads, WholeParts.with_late, Climbs.used, Facts.some_of}
+use Rattle.radix_tree.proofs.Words.{◌≡◌, ℕ, ◌+◌, ◌≤◌, ◌==◌, Bool, true, not, ◌&&◌, ◌||◌, List, Option, Some, None, refl, inl, inr, sym, ap, ◌∙◌, subst, arith}
+use Rattle.radix_tree.proofs.Words.{eq-eqb, ne_eqb, cases_eq, is_some, Id, Node, Placed, IsAmong, IsIn, MaskPart, Part, heads_in, masks_in, HasHome}
+use Rattle.radix_tree.proofs.Words.{KeepsLeaves, KeepsBits, AreOnce, IsMarked, IsMaskList, MarkedIn, IsWholeBut, nobody_late, nobody_out, IsMasks, IsBitNode}
+use Rattle.radix_tree.proofs.Words.{IsFree, IsAside, IsNoRank, HomeAt, IsHome, sorted_in, taken_out, Lodged, true≢false, number_of}
+use Rattle.radix_tree.proofs.MaskLists.{sorted_here, among_sorted, sorted_among, falls_sorted, taken_among, among_taken, falls_taken, ranked_in, masks_listed}
+use Rattle.radix_tree.proofs.MaskLists.{falls_among}
+use Rattle.radix_tree.proofs.HomeLists.{or_right, one_room, one_of_bit, home_has, tree_of, home_list, home_inside, relisted, whole_kept}
 
 module _ {V : Type 0} where
   -- ---- a mask comes into the list of its home

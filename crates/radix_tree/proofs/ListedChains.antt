@@ -1,16 +1,12 @@
 -- A walk along a chain whose masks are listed one after the other.
-use Rattle.radix_tree.proofs.{Scans.ended_at}
-use Rattle.radix_tree.proofs.{RoomReads.inside, RoomReads.none_some, RoomReads.AreLinks, RoomReads.Has-leaf, RoomReads.leaf_read, TreeMembers.IsHead}
-use Rattle.radix_tree.proofs.{TreeMembers.head_of, TreeMembers.tree_said, Parts.among_leaf, Parts.way_leads, WaysDown.way_to_leaf, ChainStarts.member_of}
-use Rattle.radix_tree.proofs.{HomeLists.placed_in, Listed.settled, WholeParts.later_than, ListedHomes.chain_of}
-use Rattle.radix_tree.proofs.{ListedHomes.in_chain}
-use Rattle.radix_tree.proofs.Words.{◌≡◌, ℕ, ◌+◌, ◌<◌, ◌≤◌, ◌==◌, Bool, true, false, not, ◌&&◌, List, [], ◌∷◌, Option, Some, None, refl, sym, ap, ◌∙◌}
-use Rattle.radix_tree.proofs.Words.{subst, inl, inr, arith, eqb-true, eq-eqb, is_some, Has, leaf_of, mask_node_of, Id, Leaf, Links, MaskNode, Node}
-use Rattle.radix_tree.proofs.Words.{Placed, IsAmong, IsIn, IsChain, LeafPart, Leaves, Part, Run, leaves_in, bits_in, masks_in, mask_in, mask_part}
-use Rattle.radix_tree.proofs.Words.{first_room, leaf_part, ChainStands, one_if, KeepsLeaves, IsWholeBut, is_of_key, has_key, nobody_out, Lodged}
-use Rattle.radix_tree.proofs.Words.{true≢false}
-use Rattle.radix_tree.proofs.{JoinLone.tree_room}
-use Rattle.radix_nodes.specs.Naming.{number_of}
+use Rattle.radix_tree.proofs.{Scans.ended_at, Parts.among_leaf, Parts.way_leads, WaysDown.way_to_leaf, ChainStarts.member_of, HomeLists.placed_in}
+use Rattle.radix_tree.proofs.{Listed.settled, WholeParts.later_than, ListedHomes.chain_of, ListedHomes.in_chain, JoinLone.tree_room}
+use Rattle.radix_tree.proofs.Words.{◌≡◌, ℕ, ◌+◌, ◌<◌, ◌≤◌, ◌==◌, Bool, true, false, not, ◌&&◌, List, [], ◌∷◌, Option, Some, None, refl, sym, ap, ◌∙◌, subst}
+use Rattle.radix_tree.proofs.Words.{inl, inr, arith, eqb-true, eq-eqb, is_some, Has, leaf_of, mask_node_of, Id, Leaf, Links, MaskNode, Node, Placed, IsAmong}
+use Rattle.radix_tree.proofs.Words.{IsIn, IsChain, LeafPart, Leaves, Part, Run, leaves_in, bits_in, masks_in, mask_in, mask_part, first_room, leaf_part}
+use Rattle.radix_tree.proofs.Words.{ChainStands, one_if, KeepsLeaves, IsWholeBut, is_of_key, has_key, nobody_out, Lodged, true≢false, number_of}
+use Rattle.radix_tree.proofs.RoomReads.{inside, none_some, AreLinks, Has-leaf, leaf_read}
+use Rattle.radix_tree.proofs.TreeMembers.{IsHead, head_of, tree_said}
 
 and_left : (a b : Bool) → (a && b) ≡ true → a ≡ true
 and_left true b both = refl

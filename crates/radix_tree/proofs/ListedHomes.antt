@@ -1,9 +1,8 @@
 -- The way from a room to its leaf, and from there to the bit node at which its mask is listed.
-use Rattle.radix_tree.proofs.{RoomReads.inside, RoomReads.AreLinks, RoomReads.leaf_read, TreeMembers.tree_said, Parts.leaf_run, Parts.leaf_begins}
-use Rattle.radix_tree.proofs.{Parts.among_leaf, WaysDown.way_to_leaf, HomeLists.placed_in}
-use Rattle.radix_tree.proofs.Words.{◌≡◌, ℕ, Bool, Option, Some, None, refl, sym, ap, ◌∙◌, subst, Has, leaf_of, Id, Leaf, Links, Node, Placed, IsAmong}
-use Rattle.radix_tree.proofs.Words.{IsIn, Part, Run, leaves_in, bits_in, first_room, LedTo, IsWholeBut, nobody_out, IsHome, Lodged}
-use Rattle.radix_nodes.specs.Naming.{number_of}
+use Rattle.radix_tree.proofs.{TreeMembers.tree_said, Parts.leaf_run, Parts.leaf_begins, Parts.among_leaf, WaysDown.way_to_leaf, HomeLists.placed_in}
+use Rattle.radix_tree.proofs.Words.{◌≡◌, ℕ, Bool, Option, Some, None, refl, sym, ap, ◌∙◌, subst, Has, leaf_of, Id, Leaf, Links, Node, Placed, IsAmong, IsIn}
+use Rattle.radix_tree.proofs.Words.{Part, Run, leaves_in, bits_in, first_room, LedTo, IsWholeBut, nobody_out, IsHome, Lodged, number_of}
+use Rattle.radix_tree.proofs.RoomReads.{inside, AreLinks, leaf_read}
 
 module _ {V : Type 0} where
   -- the chain of a route of a tree

@@ -1,11 +1,9 @@
 -- A walk through the masks that a bit node lists.
-use Rattle.radix_tree.proofs.{RoomReads.inside, Parts.fork_is, Parts.fork_lists, Scans.ended_at, Searching.AreListed, Searching.mask_hit}
-use Rattle.radix_tree.proofs.{Searching.mask_miss, Searching.listed_behind, Searching.list_ends, TreeMembers.head_of, TreeMembers.tree_route}
-use Rattle.radix_tree.proofs.{TreeMembers.tree_said}
-use Rattle.radix_tree.proofs.Words.{◌≡◌, ℕ, ◌+◌, ◌*◌, ◌≤◌, List, ◌∷◌, Option, Some, None, refl, sym, ap, ◌∙◌, subst, inl, inr, arith, masked, Counter, Id}
-use Rattle.radix_tree.proofs.Words.{Leaf, MaskNode, Reads, LeafPart, MaskPart, Part, MasksAreListed, leaves_in, bits_in, heads_in, masks_in, mask_part}
-use Rattle.radix_tree.proofs.Words.{first_room, leaf_part, MasksStand, Falls, Tells, Finds, HasPair, Best, In, ForkAt, Placed, IsAmong, IsIn, Lodged}
-use Rattle.radix_nodes.specs.Naming.{number_of}
+use Rattle.radix_tree.proofs.{RoomReads.inside, Parts.fork_is, Parts.fork_lists, Scans.ended_at, Searching.AreListed, Searching.mask_hit, Searching.mask_miss}
+use Rattle.radix_tree.proofs.{Searching.listed_behind, Searching.list_ends, TreeMembers.head_of, TreeMembers.tree_route, TreeMembers.tree_said}
+use Rattle.radix_tree.proofs.Words.{◌≡◌, ℕ, ◌+◌, ◌*◌, ◌≤◌, List, ◌∷◌, Option, Some, None, refl, sym, ap, ◌∙◌, subst, inl, inr, arith, masked, Counter, Id, Leaf}
+use Rattle.radix_tree.proofs.Words.{MaskNode, Reads, LeafPart, MaskPart, Part, MasksAreListed, leaves_in, bits_in, heads_in, masks_in, mask_part, first_room}
+use Rattle.radix_tree.proofs.Words.{leaf_part, MasksStand, Falls, Tells, Finds, HasPair, Best, In, ForkAt, Placed, IsAmong, IsIn, Lodged, number_of}
 
 module _ {V : Type 0} {m : Lodged V} where
   -- a walk through the list of a bit node, whose masks so far were tried in vain

@@ -1,15 +1,15 @@
 -- What stands in a table, what holds of all its entries, and what is found among them; and all this with or without an entry.
-use Rattle.std.proofs.lemmas.{List.Elements.All-contains, List.Elements.All-contains_itself, List.Elements.All-from_recursion}
-use Rattle.std.proofs.lemmas.{List.Elements.recursion_from_All, List.Folds.find-append}
-use Rattle.radix_tree.proofs.Words.{◌≡◌, ℕ, ◌+◌, ◌≤◌, ◌⊎◌, Bool, true, false, cond, not, filter, length, is_some, IsTrue, nat_lt, nat_eq, ◌&&◌, ◌||◌}
-use Rattle.radix_tree.proofs.Words.{List, [], ◌∷◌, Option, Some, None, refl, sym, ap, ◌∙◌, subst, inl, inr, suc, arith, nat_tests, find, Contains}
-use Rattle.radix_tree.proofs.Words.{AllByRecursion, option_or, agrees, precedes, IsRoute, IsTable, has_pair, entry_at, first_of, without, with_entry}
-use Rattle.radix_tree.proofs.Words.{agreeing, greater, greatest, best_of, AreOnePair, StandsIn, Agrees, MembersStand, MembersAreRoutes, EntryAtIsMember}
-use Rattle.radix_tree.proofs.Words.{FirstOfIsMember, BestIsMember, FirstIsGreatest, WithStands, WithKeepsOthers, WithoutLeavesNone, WithoutKeepsOthers}
-use Rattle.radix_tree.proofs.Words.{MembersOfWith, MembersOfWithout, WithCounts, WithoutCounts, Entry}
+use Rattle.radix_tree.proofs.Words.{◌≡◌, ℕ, ◌+◌, ◌≤◌, ◌⊎◌, Bool, true, false, cond, not, filter, length, is_some, IsTrue, nat_lt, nat_eq, ◌&&◌, ◌||◌, List, []}
+use Rattle.radix_tree.proofs.Words.{◌∷◌, Option, Some, None, refl, sym, ap, ◌∙◌, subst, inl, inr, suc, arith, nat_tests, find, Contains, AllByRecursion}
+use Rattle.radix_tree.proofs.Words.{option_or, agrees, precedes, IsRoute, IsTable, has_pair, entry_at, first_of, without, with_entry, agreeing, greater}
+use Rattle.radix_tree.proofs.Words.{greatest, best_of, AreOnePair, StandsIn, Agrees, MembersStand, MembersAreRoutes, EntryAtIsMember, FirstOfIsMember}
+use Rattle.radix_tree.proofs.Words.{BestIsMember, FirstIsGreatest, WithStands, WithKeepsOthers, WithoutLeavesNone, WithoutKeepsOthers, MembersOfWith}
+use Rattle.radix_tree.proofs.Words.{MembersOfWithout, WithCounts, WithoutCounts, Entry}
 use Rattle.radix_tree.proofs.ListLemmas.{all_weaker, all_both, all_append, all_passed, all_filter, all_find, find_filter, or_none}
 use Rattle.radix_tree.proofs.TableLemmas.{later, same, sooner, with_parts, without_absent, all_behind, none_at}
 use Rattle.radix_tree.proofs.OrderLemmas.{stands_before, pair_is, own_pair, other_pair, not_pair}
+use Rattle.std.proofs.lemmas.List.Elements.{All-contains, All-contains_itself, All-from_recursion, recursion_from_All}
+use Rattle.std.proofs.lemmas.List.Folds.{find-append}
 
 -- what holds of all entries holds with one more of which it holds, and without a pair
 pub all_with : {V : Type 0} (P : Entry V → Type 0) (e : Entry V) (es : List (Entry V)) → AllByRecursion P es → P e → AllByRecursion P (with_entry e es)

@@ -1,17 +1,14 @@
 -- A bit node in use moves from its room to another: the rooms before the writes and after them.
-use Rattle.radix_tree.proofs.{RoomReads.inside, RoomReads.none_some, RoomReads.AreLinks, RoomReads.head_read, Parts.fork_is, Parts.fork_stands}
-use Rattle.radix_tree.proofs.{Parts.zero_part, Parts.one_part, Parts.fork_named, RoomReads.Has-bit, PartRooms.frame, PartRooms.way_once, PartRooms.way_counts}
-use Rattle.radix_tree.proofs.{PartRooms.spine_out, Forking.forks_there}
-use Rattle.radix_tree.proofs.{Beside.misses_leaf, Beside.misses_bit, WaysDown.way_to_fork, WholeParts.once_but, Lodging.over_at, Parts.bit_part_of}
-use Rattle.radix_tree.proofs.Words.{◌≡◌, ℕ, ◌+◌, ◌≤◌, ◌==◌, true, false, List, [], ◌∷◌, Option, Some, None, refl, sym, ap, ◌∙◌, subst, arith, is_some}
-use Rattle.radix_tree.proofs.Words.{Has, bit_node_of, Id, Links, Node, BitNode, BitPart, Part, leaves_in, bits_in, heads_in, bit_in, bit_part, head_part}
-use Rattle.radix_tree.proofs.Words.{name_of, ForkAt, Way, one_if, leaves_at, forks_at, AreOnce, IsWholeBut, nobody_late, out_at, put_bit, put_head}
-use Rattle.radix_tree.proofs.Words.{lift_leaf, lift_bit, KeepsMasks, rename, content_of, KeepsRoutes, CanTake, Lodged, IsBitNode, LeafOf, BitOf, inl, inr}
-use Rattle.radix_tree.proofs.Words.{bit_above, if◌then◌else◌}
+use Rattle.radix_tree.proofs.{PartRooms.frame, PartRooms.way_once, PartRooms.way_counts, PartRooms.spine_out, Forking.forks_there, Beside.misses_leaf}
+use Rattle.radix_tree.proofs.{Beside.misses_bit, WaysDown.way_to_fork, WholeParts.once_but, Lodging.over_at, Facts.none_of, Facts.off_room}
+use Rattle.radix_tree.proofs.Words.{◌≡◌, ℕ, ◌+◌, ◌≤◌, ◌==◌, true, false, List, [], ◌∷◌, Option, Some, None, refl, sym, ap, ◌∙◌, subst, arith, is_some, Has}
+use Rattle.radix_tree.proofs.Words.{bit_node_of, Id, Links, Node, BitNode, BitPart, Part, leaves_in, bits_in, heads_in, bit_in, bit_part, head_part, name_of}
+use Rattle.radix_tree.proofs.Words.{ForkAt, Way, one_if, leaves_at, forks_at, AreOnce, IsWholeBut, nobody_late, out_at, put_bit, put_head, lift_leaf, lift_bit}
+use Rattle.radix_tree.proofs.Words.{KeepsMasks, rename, content_of, KeepsRoutes, CanTake, Lodged, IsBitNode, LeafOf, BitOf, inl, inr, bit_above, if◌then◌else◌}
+use Rattle.radix_tree.proofs.Words.{number_of}
+use Rattle.radix_tree.proofs.RoomReads.{inside, none_some, AreLinks, head_read, Has-bit}
+use Rattle.radix_tree.proofs.Parts.{fork_is, fork_stands, zero_part, one_part, fork_named, bit_part_of}
 use Rattle.radix_tree.proofs.MovedReads.{one_if_is, at_room, content_lift, lift_used, rename_used, leaf_off, bit_off, Has_kept}
-use Rattle.radix_tree.proofs.{Facts.none_of}
-use Rattle.radix_tree.proofs.{Facts.off_room}
-use Rattle.radix_nodes.specs.Naming.{number_of}
 use Rattle.radix_tree.specs.Removal.{HasNodesBeneath}
 
 pub bit_said : (to : Id) (n : BitNode) {bit : ℕ} {left right : Node} {above : Option Id} → n.bit ≡ bit → n.zero ≡ left → n.one ≡ right → n.above ≡ above

@@ -1,10 +1,9 @@
 -- What rooms say where a bit node is renamed, moved, or has another bit node above it.
 use Rattle.radix_tree.proofs.{RoomReads.inside, RoomReads.none_some, Beside.named_leaf, Beside.named_bit, Facts.off_room}
-use Rattle.radix_tree.proofs.Words.{◌≡◌, ℕ, ◌≤◌, ◌==◌, ◌⊎◌, true, false, if◌then◌else◌, Option, Some, None, refl, sym, ap, ◌∙◌, inl, inr, arith, eq-eqb}
-use Rattle.radix_tree.proofs.Words.{ne_eqb, is_some, get, Seen, Has, Id, Node, LeafOf, BitOf, Tree, leaf, fork, LeafPart, BitPart, leaf_in, leaves_in}
-use Rattle.radix_tree.proofs.Words.{name_of, one_if, leaves_at, forks_at, lift_leaf, lift_bit, leaf_above, bit_above, renamed, with_renamed, rename}
-use Rattle.radix_tree.proofs.Words.{Content, content_of, Lodged, cases_eq}
-use Rattle.radix_nodes.specs.Naming.{number_of}
+use Rattle.radix_tree.proofs.Words.{◌≡◌, ℕ, ◌≤◌, ◌==◌, ◌⊎◌, true, false, if◌then◌else◌, Option, Some, None, refl, sym, ap, ◌∙◌, inl, inr, arith, eq-eqb, ne_eqb}
+use Rattle.radix_tree.proofs.Words.{is_some, get, Seen, Has, Id, Node, LeafOf, BitOf, Tree, leaf, fork, LeafPart, BitPart, leaf_in, leaves_in, name_of, one_if}
+use Rattle.radix_tree.proofs.Words.{leaves_at, forks_at, lift_leaf, lift_bit, leaf_above, bit_above, renamed, with_renamed, rename, Content, content_of, Lodged}
+use Rattle.radix_tree.proofs.Words.{cases_eq, number_of}
 
 pub none_or_some : (k : ℕ) → (k ≡ 0) ⊎ (1 ≤ k)
 none_or_some k = elim (cases_eq k 0) [ inl e ↦ inl e | inr other ↦ inr (omega arith) ]

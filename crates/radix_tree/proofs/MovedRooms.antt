@@ -1,17 +1,15 @@
 -- A bit node in use moves from its room to another: what the rooms say afterwards is the tree with the bit node there.
-use Rattle.radix_tree.proofs.{Parts.fork_is, Parts.fork_stands, Parts.bit_part_of, PartRooms.way_once, Forking.lifted, Beside.misses_leaf}
-use Rattle.radix_tree.proofs.{Beside.misses_bit, PlugLists.marked_same, PlugLists.mask_list_same, PlugLists.lists_same, WholeParts.Fits, Parts.way_lists}
-use Rattle.radix_tree.proofs.{PartRooms.zero_turned, PartRooms.one_turned}
+use Rattle.radix_tree.proofs.{Parts.fork_is, Parts.fork_stands, Parts.bit_part_of, Parts.way_lists, Forking.lifted, Beside.misses_leaf, Beside.misses_bit}
+use Rattle.radix_tree.proofs.{PlugLists.marked_same, PlugLists.mask_list_same, PlugLists.lists_same, WholeParts.Fits}
 use Rattle.radix_tree.proofs.Words.{◌≡◌, ℕ, ◌+◌, ◌≤◌, ◌==◌, true, false, if◌then◌else◌, List, ◌∷◌, Some, None, refl, sym, ap, ◌∙◌, subst, inl, inr, arith}
-use Rattle.radix_tree.proofs.Words.{eqb-true, is_some, Id, Node, BitOf, BitNode, fork, bit_at, HaveBit, IsIn, Part, leaves_in, bits_in, heads_in}
-use Rattle.radix_tree.proofs.Words.{masks_in, bit_part, head_part, name_of, Stands, Beneath, Way, one_if, forks_at, HasHome, name_child, with_child}
-use Rattle.radix_tree.proofs.Words.{AreOnce, MarkedLists, nobody_late, out_at, put_bit, put_head, lift_leaf, lift_bit, IsExchange, renamed, with_renamed}
-use Rattle.radix_tree.proofs.Words.{rename, Lodged, IsMarked, [], cases_eq, MarkedIn}
-use Rattle.radix_tree.proofs.MovedReads.{one_if_is, one_if_not, at_room, rename_misses, renamed_to, renamed_off}
-use Rattle.radix_tree.proofs.MovedReads.{leaf_off, bit_off, content_used}
-use Rattle.radix_tree.proofs.MoveWrites.{bit_said, IsMove, IsMoved, at_once, at_forks, at_leaves, from_in, not_from, out_not_from, not_to, beneath_whole}
-use Rattle.radix_tree.proofs.MoveWrites.{apart, not_spine, to_not_spine, contents_stay, used_stays, used_to, used_from, bit_lifts, head_stays}
-use Rattle.radix_nodes.specs.Naming.{number_of}
+use Rattle.radix_tree.proofs.Words.{eqb-true, is_some, Id, Node, BitOf, BitNode, fork, bit_at, HaveBit, IsIn, Part, leaves_in, bits_in, heads_in, masks_in}
+use Rattle.radix_tree.proofs.Words.{bit_part, head_part, name_of, Stands, Beneath, Way, one_if, forks_at, HasHome, name_child, with_child, AreOnce, MarkedLists}
+use Rattle.radix_tree.proofs.Words.{nobody_late, out_at, put_bit, put_head, lift_leaf, lift_bit, IsExchange, renamed, with_renamed, rename, Lodged, IsMarked}
+use Rattle.radix_tree.proofs.Words.{[], cases_eq, MarkedIn, number_of}
+use Rattle.radix_tree.proofs.PartRooms.{way_once, zero_turned, one_turned}
+use Rattle.radix_tree.proofs.MovedReads.{one_if_is, one_if_not, at_room, rename_misses, renamed_to, renamed_off, leaf_off, bit_off, content_used}
+use Rattle.radix_tree.proofs.MoveWrites.{bit_said, IsMove, IsMoved, at_once, at_forks, at_leaves, from_in, not_from, out_not_from, not_to, beneath_whole, apart}
+use Rattle.radix_tree.proofs.MoveWrites.{not_spine, to_not_spine, contents_stay, used_stays, used_to, used_from, bit_lifts, head_stays}
 
 module _ {V : Type 0} where
   -- ---- the part with the bit node in the other room

@@ -1,9 +1,8 @@
 -- In each chain at most one bit node is in use, also where one has moved to another room.
 use Rattle.radix_tree.proofs.Words.{◌≡◌, ℕ, ◌+◌, ◌≤◌, true, List, [], ◌∷◌, Option, Some, None, refl, sym, ap, ◌∙◌, inl, inr, arith, eqb-true, eq-eqb, Id}
-use Rattle.radix_tree.proofs.Words.{Placed, Tree, leaf, fork, IsChain, IsTree, LeafPart, Bits, leaves_in, bits_in, ChainStands, Stands, members_at}
-use Rattle.radix_tree.proofs.Words.{leaves_at, AreIdle, HasOneFork, HaveOneFork, is_of_key, has_key, CanTake, Lodged, cases_eq}
+use Rattle.radix_tree.proofs.Words.{Placed, Tree, leaf, fork, IsChain, IsTree, LeafPart, Bits, leaves_in, bits_in, ChainStands, Stands, members_at, leaves_at}
+use Rattle.radix_tree.proofs.Words.{AreIdle, HasOneFork, HaveOneFork, is_of_key, has_key, CanTake, Lodged, cases_eq, number_of}
 use Rattle.radix_tree.proofs.MovedReads.{none_or_some, one_if_is, one_if_not}
-use Rattle.radix_nodes.specs.Naming.{number_of}
 
 module _ {V : Type 0} where
   -- ---- one chain

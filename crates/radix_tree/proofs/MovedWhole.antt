@@ -1,13 +1,9 @@
 -- A bit node in use moves from its room to another: the whole afterwards.
 use Rattle.radix_tree.proofs.{Exchanging.exchanged, Plugs.spare_at, Plugs.spare_plug, WholeChanges.whole_changed, WholeRoutes.routes_changed}
-use Rattle.radix_tree.proofs.{MovedReads.one_if_is, MovedSpare.moved_spare, MoveWrites.IsMove}
-use Rattle.radix_tree.proofs.{MoveWrites.IsMoved, MoveWrites.used_stays, MovedRooms.under_of, MovedRooms.exchange, MovedRooms.fits}
-use Rattle.radix_tree.proofs.Words.{◌≡◌, ℕ, ◌≤◌, ◌++◌, Some, refl, sym, ap, ◌∙◌, subst, arith, is_some, Id, Node, BitOf, BitNode, fork, routes_of}
-use Rattle.radix_tree.proofs.Words.{leaves_in, bits_in, name_of, leaves_at, HaveOneFork, shown, root_after, Exchanged, IsWholeBut, nobody_late, out_at}
-use Rattle.radix_tree.proofs.Words.{Lodged}
-use Rattle.radix_tree.proofs.{Facts.one_if_most}
-use Rattle.radix_tree.proofs.{Facts.none_of}
-use Rattle.radix_nodes.specs.Naming.{number_of}
+use Rattle.radix_tree.proofs.{MovedReads.one_if_is, MovedSpare.moved_spare, MoveWrites.IsMove, MoveWrites.IsMoved, MoveWrites.used_stays, MovedRooms.under_of}
+use Rattle.radix_tree.proofs.{MovedRooms.exchange, MovedRooms.fits, Facts.one_if_most, Facts.none_of}
+use Rattle.radix_tree.proofs.Words.{◌≡◌, ℕ, ◌≤◌, ◌++◌, Some, refl, sym, ap, ◌∙◌, subst, arith, is_some, Id, Node, BitOf, BitNode, fork, routes_of, leaves_in}
+use Rattle.radix_tree.proofs.Words.{bits_in, name_of, leaves_at, HaveOneFork, shown, root_after, Exchanged, IsWholeBut, nobody_late, out_at, Lodged, number_of}
 
 module _ {V : Type 0} where
   module _ {m : Lodged V} {root : Node} (from : ℕ) (w : IsWholeBut m root nobody_late (out_at from)) where

@@ -1,11 +1,10 @@
 -- The only route of a tree, which has no other member in its chain and no bit node above.
-use Rattle.radix_tree.proofs.{RoomReads.inside, RoomReads.none_some, RoomReads.AreLinks, Showing.part_shown, MovedReads.none_or_some, MovedReads.one_if_not}
-use Rattle.radix_tree.proofs.{Facts.no_use, Facts.none_of}
+use Rattle.radix_tree.proofs.{Showing.part_shown, MovedReads.none_or_some, MovedReads.one_if_not, Facts.no_use, Facts.none_of}
 use Rattle.radix_tree.proofs.Words.{◌≡◌, ℕ, ◌≤◌, ◌⊎◌, true, List, [], ◌∷◌, Option, Some, None, refl, sym, ap, ◌∙◌, inl, inr, arith, eqb-true, is_some, Has}
 use Rattle.radix_tree.proofs.Words.{leaf_of, Id, Links, Leaf, Node, Placed, Tree, leaf, fork, routes_of, LeafPart, Leaves, Bits, leaf_in, leaves_in, bits_in}
 use Rattle.radix_tree.proofs.Words.{first_room, ChainStands, Stands, one_if, members_at, leaves_at, shown, shown_entry, Gains, IsWholeBut, is_of_key, has_key}
-use Rattle.radix_tree.proofs.Words.{late_at, nobody_out, CanTake, member_beside, Lodged, cases_eq}
-use Rattle.radix_nodes.specs.Naming.{number_of}
+use Rattle.radix_tree.proofs.Words.{late_at, nobody_out, CanTake, member_beside, Lodged, cases_eq, number_of}
+use Rattle.radix_tree.proofs.RoomReads.{inside, none_some, AreLinks}
 
 -- ---- the other member of a chain
 pub beside_is : (next previous : Option Id) {to : Id} → member_beside next previous ≡ Some to → (next ≡ Some to) ⊎ (previous ≡ Some to)

@@ -1,13 +1,12 @@
 -- A room that is out of the tree leaves the map: the whole and its routes stay.
 use Rattle.radix_tree.proofs.{RoomReads.inside, RoomReads.none_some, PartRooms.frame, Plugs.counted_leaf, Showing.part_shown, MovedReads.content_used}
 use Rattle.radix_tree.proofs.{PlugLists.marked_same, PlugLists.lists_same, MovedSpare.tree_stays, MovedWhole.out_leaf, MovedWhole.out_apart}
-use Rattle.radix_nodes.proofs.Callers.{get-removed}
-use Rattle.std.specs.FinMap.{remove}
 use Rattle.radix_tree.proofs.Words.{◌≡◌, ℕ, ◌+◌, ◌||◌, if◌then◌else◌, List, Option, Some, None, refl, sym, ap, ◌∙◌, inl, inr, arith, eq-eqb, ne_eqb, is_some}
 use Rattle.radix_tree.proofs.Words.{get, Ptr, Seen, Has, bit_node_of, Id, Node, BitNode, LeafPart, MaskPart, Part, leaf_in, bit_in, head_in, mask_in, bit_part}
 use Rattle.radix_tree.proofs.Words.{head_part, leaves_in, bits_in, heads_in, masks_in, one_if, leaves_at, IsWhole, Holds, shown, Gains, IsWholeBut, HasRoomMore}
-use Rattle.radix_tree.proofs.Words.{nobody_late, out_at, content_of, KeepsRoutes, IsOut, Entry, Lodged, cases_eq}
-use Rattle.radix_nodes.specs.Naming.{number_of}
+use Rattle.radix_tree.proofs.Words.{nobody_late, out_at, content_of, KeepsRoutes, IsOut, Entry, Lodged, cases_eq, number_of}
+use Rattle.radix_nodes.proofs.Callers.{get-removed}
+use Rattle.std.specs.FinMap.{remove}
 
 no_head_of : (block : Ptr) (o : Option BitNode) → bit_part block o ≡ None → head_part o ≡ None
 no_head_of block None none = refl

@@ -1,9 +1,9 @@
-use Rattle.radix_tree.proofs.{Parts.leaf_begins, ChainWrites.Has-lodged, ChainWrites.Has-kept, ChainWrites.Has-next, ChainWrites.Has-linked_in}
-use Rattle.radix_tree.proofs.{chains.insert_in_chain.Goals.In-Some, chains.insert_in_chain.Goals.After-name_back}
-use Rattle.radix_tree.proofs.Words.{◌==◌, ◌||◌, ◌∙◌, Option, Some, None, sym, ap, subst, is_some, get, LeafOf, LeafPart, leaf_in, bit_in, mask_in}
-use Rattle.radix_tree.proofs.Words.{leaves_in, name_child, Gains, shown, IsWholeBut, late_at, nobody_out, name_next, name_back, root_past, FindsGap}
-use Rattle.radix_tree.proofs.ChainInserts.{chain_of, gap_before, gap_behind, gap_above, lodged_above, linked_rooms, inserted_whole, inserted_routes}
-use Rattle.radix_tree.proofs.ChainInserts.{IsWritten, taken_there}
+use Rattle.radix_tree.proofs.{Parts.leaf_begins, chains.insert_in_chain.Goals.In-Some, chains.insert_in_chain.Goals.After-name_back}
+use Rattle.radix_tree.proofs.Words.{◌==◌, ◌||◌, ◌∙◌, Option, Some, None, sym, ap, subst, is_some, get, LeafOf, LeafPart, leaf_in, bit_in, mask_in, leaves_in}
+use Rattle.radix_tree.proofs.Words.{name_child, Gains, shown, IsWholeBut, late_at, nobody_out, name_next, name_back, root_past, FindsGap}
+use Rattle.radix_tree.proofs.ChainWrites.{Has-lodged, Has-kept, Has-next, Has-linked_in}
+use Rattle.radix_tree.proofs.ChainInserts.{chain_of, gap_before, gap_behind, gap_above, lodged_above, linked_rooms, inserted_whole, inserted_routes, IsWritten}
+use Rattle.radix_tree.proofs.ChainInserts.{taken_there}
 use Rattle.radix_tree.proofs.chains.insert_in_chain.Given as given
 use Rattle.radix_tree.proofs.chains.insert_in_chain.Goals as goal
 

@@ -1,14 +1,13 @@
-use Rattle.radix_tree.proofs.{ChainWrites.own_part, ChainWrites.own_said, ChainWrites.Has-kept, chains.remove_from_chain.Goals.After-link_out}
-use Rattle.radix_tree.proofs.{chains.remove_from_chain.Goals.After-link_out-2, RoomReads.AreLinks}
-use Rattle.radix_tree.proofs.Words.{◌≡◌, ◌∙◌, Some, sym, ap, Id, LeafOf, leaves_in, Lodged, Node, Part, LeafPart, bits_in, name_child, link_out}
-use Rattle.radix_tree.proofs.Words.{root_past, Links, Leaf, leaf_of}
-use Rattle.radix_tree.proofs.ChainNeighbours.{IsMember, IsUnlinked, IsLeft, member_of, leaf_is, unlinked, before_there, behind_there, fork_above}
-use Rattle.radix_tree.proofs.ChainNeighbours.{left_kept, left_renamed}
+use Rattle.radix_tree.proofs.{ChainWrites.own_part, ChainWrites.own_said, ChainWrites.Has-kept, RoomReads.AreLinks}
+use Rattle.radix_tree.proofs.Words.{◌≡◌, ◌∙◌, Some, sym, ap, Id, LeafOf, leaves_in, Lodged, Node, Part, LeafPart, bits_in, name_child, link_out, root_past}
+use Rattle.radix_tree.proofs.Words.{Links, Leaf, leaf_of, number_of}
+use Rattle.radix_tree.proofs.chains.remove_from_chain.Goals.{After-link_out, After-link_out-2}
+use Rattle.radix_tree.proofs.ChainNeighbours.{IsMember, IsUnlinked, IsLeft, member_of, leaf_is, unlinked, before_there, behind_there, fork_above, left_kept}
+use Rattle.radix_tree.proofs.ChainNeighbours.{left_renamed}
 use Rattle.radix_tree.proofs.ChainRemovals.{removed_whole, removed_routes, unlinked_routes, own_kept, left_bits, idle_others, neighbour}
 use Rattle.radix_tree.specs.Removal.{IsUnlisted, TakesOut}
 use Rattle.radix_tree.proofs.chains.remove_from_chain.Given as given
 use Rattle.radix_tree.proofs.chains.remove_from_chain.Goals as goal
-use Rattle.radix_nodes.specs.Naming.{number_of}
 
 -- the route in its chain, and what is read of its leaf
 at_route : {V : Type 0} {m : Lodged V} {root : Node} {at : Id} (r : IsUnlisted m root at) (links : Links) {l : Leaf} → AreLinks m at links → l ≡ leaf_of links

@@ -1,7 +1,7 @@
 use Rattle.radix_tree.proofs.{Kept.pair_there, Gained.gains_same, Gained.among_left}
+use Rattle.radix_tree.proofs.Words.{number_of}
 use Rattle.radix_tree.specs.Marks.{late_at}
 use Rattle.radix_tree.proofs.growing.insert_among.Goals as goal
-use Rattle.radix_nodes.specs.Naming.{number_of}
 
 pub returns-in-Err-clause-there : goal.returns-in-Err-clause-there
 returns-in-Err-clause-there g c =

@@ -1,7 +1,7 @@
-use Rattle.radix_tree.proofs.{Parts.fork_named, Climbs.used, Cuts.list_at, BesideWhole.new_key, BesideWhole.came_beside}
-use Rattle.radix_tree.proofs.{BesideWhole.whole_beside, BesideWhole.routes_beside}
-use Rattle.radix_tree.proofs.Words.{◌≡◌, ◌==◌, ◌||◌, sym, ap, ◌∙◌, subst, get, Part, mask_in, LedTo, IsWhole, Differs, IsSpot, forked_tree, placed}
-use Rattle.radix_tree.proofs.Words.{Exchanged, IsWholeBut, HasRoomMore, has_key, nobody_out}
+use Rattle.radix_tree.proofs.{Parts.fork_named, Climbs.used, Cuts.list_at}
+use Rattle.radix_tree.proofs.Words.{◌≡◌, ◌==◌, ◌||◌, sym, ap, ◌∙◌, subst, get, Part, mask_in, LedTo, IsWhole, Differs, IsSpot, forked_tree, placed, Exchanged}
+use Rattle.radix_tree.proofs.Words.{IsWholeBut, HasRoomMore, has_key, nobody_out}
+use Rattle.radix_tree.proofs.BesideWhole.{new_key, came_beside, whole_beside, routes_beside}
 use Rattle.radix_tree.proofs.BesideRooms.{Came, same_part, same_spot, exchanged_from, room_more, leaf_kept, new_there}
 use Rattle.radix_tree.proofs.inserting.insert_beside.Given as given
 use Rattle.radix_tree.proofs.inserting.insert_beside.Goals as goal

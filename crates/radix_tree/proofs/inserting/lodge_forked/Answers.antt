@@ -1,7 +1,6 @@
-use Rattle.radix_tree.proofs.Words.{◌∙◌, ap, get, heads_in, with_head}
+use Rattle.radix_tree.proofs.Words.{◌∙◌, ap, get, heads_in, with_head, number_of}
 use Rattle.radix_tree.proofs.Lodging.{Has-lodged_leaf, Has-again, lodged}
 use Rattle.radix_tree.proofs.inserting.lodge_forked.Goals as goal
-use Rattle.radix_nodes.specs.Naming.{number_of}
 
 pub put_leaf-requires-clause-there : goal.put_leaf-requires-clause-there
 put_leaf-requires-clause-there g c =

@@ -1,7 +1,6 @@
-use Rattle.radix_tree.proofs.Words.{◌∙◌, ap, None, put_bit, put_head, lift_leaf, lift_bit}
+use Rattle.radix_tree.proofs.Words.{◌∙◌, ap, None, put_bit, put_head, lift_leaf, lift_bit, number_of}
 use Rattle.radix_tree.proofs.JoinLinks.{Has-kept, below_stays}
 use Rattle.radix_tree.proofs.joining.join.Goals as goal
-use Rattle.radix_nodes.specs.Naming.{number_of}
 
 pub name_child-requires-clause-tree : goal.name_child-requires-clause-tree
 name_child-requires-clause-tree g c over is = c.requires.above over is

@@ -1,14 +1,12 @@
-use Rattle.radix_tree.proofs.{Parts.way_lists}
-use Rattle.radix_tree.proofs.Words.{◌∙◌, ap, sym, subst, IsLone, root_after, heads_in, name_of, IsMarked, masks_in}
+use Rattle.radix_tree.proofs.{Parts.way_lists, JoinLinks.Has-kept, JoinLinks.head_off}
+use Rattle.radix_tree.proofs.Words.{◌∙◌, ap, sym, subst, IsLone, root_after, heads_in, name_of, IsMarked, masks_in, number_of}
 use Rattle.radix_tree.proofs.JoinWhole.{IsJoined, handed_on, routes_kept, idle_stays, freed, whole_joined, routes_joined, own_leaf}
-use Rattle.radix_tree.proofs.JoinRooms.{lone_read, never_top, key_read, Has-up, Has-routes, never_unused, up_read, above_after, beneath_after}
-use Rattle.radix_tree.proofs.JoinRooms.{IsUp, joined, idle_joined}
+use Rattle.radix_tree.proofs.JoinRooms.{lone_read, never_top, key_read, Has-up, Has-routes, never_unused, up_read, above_after, beneath_after, IsUp, joined}
+use Rattle.radix_tree.proofs.JoinRooms.{idle_joined}
 use Rattle.radix_tree.proofs.joining.remove_lone.Goals.{In-Some, In-Some-bit_node, After-root_after}
-use Rattle.radix_tree.proofs.JoinLinks.{Has-kept, head_off}
 use Rattle.radix_tree.specs.Removal.{TakesOut}
 use Rattle.radix_tree.proofs.joining.remove_lone.Given as given
 use Rattle.radix_tree.proofs.joining.remove_lone.Goals as goal
-use Rattle.radix_nodes.specs.Naming.{number_of}
 
 -- the route, and the bit node above it, as they are read
 lone : (g : given.Over) (c : In-Some g) → IsLone c.args.nodes.now.lodged c.requires.route.whole.part c.args.at c.in-Some.up

@@ -1,6 +1,5 @@
+use Rattle.radix_tree.proofs.{ListedChains.begun, ListedChains.Has-at, ListedChains.passed, ListedChains.nearer, ListedChains.ended, RoomReads.inside}
 use Rattle.radix_tree.proofs.Words.{◌∙◌, refl, sym, ap}
-use Rattle.radix_tree.proofs.ListedChains.{begun, Has-at, passed, nearer, ended}
-use Rattle.radix_tree.proofs.RoomReads.{inside}
 use Rattle.radix_tree.proofs.listing.list_chain.Goals as goal
 
 pub loop-at-init : goal.loop-at-init

@@ -1,7 +1,6 @@
-use Rattle.radix_tree.proofs.Words.{◌≡◌, Bool, ℕ, Some, None, Node, LeafPart, leaves_in, KeepsLeaves, KeepsBits, IsWholeBut, nobody_out}
+use Rattle.radix_tree.proofs.Words.{◌≡◌, Bool, ℕ, Some, None, Node, LeafPart, leaves_in, KeepsLeaves, KeepsBits, IsWholeBut, nobody_out, number_of}
 use Rattle.radix_tree.proofs.ListedChains.{Left, left_at}
 use Rattle.radix_tree.proofs.listing.list_chain.Given as goal
-use Rattle.radix_nodes.specs.Naming.{number_of}
 
 abbrev pub invariant-loop-at : goal.invariant-loop-at
 invariant-loop-at g l = record {

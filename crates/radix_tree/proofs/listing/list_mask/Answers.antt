@@ -1,6 +1,6 @@
-use Rattle.radix_tree.proofs.{WholeParts.once_but, HomeLists.placed_in, Listed.listed_more, Listed.never_late, Listed.homed, Listed.home_node}
-use Rattle.radix_tree.proofs.{Listed.home_masks, Listed.home_free}
+use Rattle.radix_tree.proofs.{WholeParts.once_but, HomeLists.placed_in}
 use Rattle.radix_tree.proofs.Words.{subst, IsHome}
+use Rattle.radix_tree.proofs.Listed.{listed_more, never_late, homed, home_node, home_masks, home_free}
 use Rattle.radix_tree.proofs.listing.list_mask.Goals as goal
 
 pub returns-in_default-clause-whole : goal.returns-in_default-clause-whole

@@ -1,9 +1,7 @@
 use Rattle.radix_tree.proofs.{WholeParts.once_but, WholeParts.later_than, HomeLists.placed_in}
-use Rattle.radix_tree.proofs.{Listed.listed_less, Listed.homeless, Listed.homed, Listed.home_node, Listed.home_member, Listed.marked_at}
-use Rattle.radix_tree.proofs.Words.{sym, subst, nobody_late, late_at, IsHome}
+use Rattle.radix_tree.proofs.Words.{sym, subst, nobody_late, late_at, IsHome, true≢false, number_of}
+use Rattle.radix_tree.proofs.Listed.{listed_less, homeless, homed, home_node, home_member, marked_at}
 use Rattle.radix_tree.proofs.listing.unlist_mask.Goals as goal
-use Rattle.radix_tree.proofs.Words.{true≢false}
-use Rattle.radix_nodes.specs.Naming.{number_of}
 
 pub home_of-requires-clause-whole : goal.home_of-requires-clause-whole
 home_of-requires-clause-whole g c = let w = c.requires.whole in (w.0, nobody_late, w.1)

@@ -1,10 +1,9 @@
-use Rattle.radix_tree.proofs.{MovedReads.Has_kept, MovedReads.content_lift, MovedWhole.whole_moved, MovedWhole.routes_moved, moving.vacate.Goals.In-Some}
-use Rattle.radix_tree.proofs.{moving.vacate.Goals.After-root_after, MoveWrites.over_used}
-use Rattle.radix_tree.proofs.Words.{◌∙◌, Some, None, sym, ap, leaves_in, put_bit, put_head, lift_leaf, lift_bit, rename, content_of}
-use Rattle.radix_tree.proofs.MoveWrites.{IsMove, IsMoved, move_of, left_there, right_there, contents_stay, lifted_stay, beneath_there, gone}
+use Rattle.radix_tree.proofs.{MovedReads.Has_kept, MovedReads.content_lift, MovedWhole.whole_moved, MovedWhole.routes_moved}
+use Rattle.radix_tree.proofs.Words.{◌∙◌, Some, None, sym, ap, leaves_in, put_bit, put_head, lift_leaf, lift_bit, rename, content_of, number_of}
+use Rattle.radix_tree.proofs.moving.vacate.Goals.{In-Some, After-root_after}
+use Rattle.radix_tree.proofs.MoveWrites.{over_used, IsMove, IsMoved, move_of, left_there, right_there, contents_stay, lifted_stay, beneath_there, gone}
 use Rattle.radix_tree.proofs.moving.vacate.Given as given
 use Rattle.radix_tree.proofs.moving.vacate.Goals as goal
-use Rattle.radix_nodes.specs.Naming.{number_of}
 
 -- the bit node that moves, and its place
 move : (g : given.Over) (c : In-Some g) → IsMove c.args.nodes.now.lodged c.args.root c.args.from c.args.to c.in-Some.node

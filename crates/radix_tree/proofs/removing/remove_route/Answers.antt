@@ -1,8 +1,7 @@
-use Rattle.radix_tree.proofs.Words.{◌∙◌, sym, ap, subst, get, Holds, shown, HasRoomMore, content_of}
-use Rattle.radix_tree.proofs.RemovedRooms.{get_out, out_gone, out_shown, gains_stays, value_taken, room_less}
 use Rattle.radix_tree.proofs.{MovedReads.Has_kept, Gained.shown_same}
+use Rattle.radix_tree.proofs.Words.{◌∙◌, sym, ap, subst, get, Holds, shown, HasRoomMore, content_of, number_of}
+use Rattle.radix_tree.proofs.RemovedRooms.{get_out, out_gone, out_shown, gains_stays, value_taken, room_less}
 use Rattle.radix_tree.proofs.removing.remove_route.Goals as goal
-use Rattle.radix_nodes.specs.Naming.{number_of}
 
 pub take_out-rest-requires-clause-route : goal.take_out-rest-requires-clause-route
 take_out-rest-requires-clause-route g c = record {
