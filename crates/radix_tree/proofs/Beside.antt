@@ -1,9 +1,9 @@
 -- A route of a new key comes into the tree: what the rooms say afterwards is the tree with it.
 use Rattle.radix_tree.proofs.{AddressBits.zero_not_one, AddressBits.zero_or_one, Exchanging.exchanged}
-use Rattle.radix_tree.proofs.Words.{◌≡◌, ℕ, ◌<◌, ◌≤◌, ◌==◌, if◌then◌else◌, List, [], ◌∷◌, Option, Some, None, refl, sym, ap, ◌∙◌, subst, arith, inl, inr}
+use Rattle.radix_tree.proofs.Words.{◌≡◌, ℕ, ◌<◌, ◌≤◌, if◌then◌else◌, List, [], ◌∷◌, Option, Some, None, refl, sym, ap, ◌∙◌, subst, arith, inl, inr}
 use Rattle.radix_tree.proofs.Words.{eq-eqb, ne_eqb, Id, Node, LeafOf, BitOf, IsRoute, Placed, Tree, leaf, fork, bit_at, HaveBit, LeafPart, BitPart, Part}
-use Rattle.radix_tree.proofs.Words.{leaves_in, bits_in, name_of, Stands, Way, one_if, leaves_at, forks_at, with_child, name_child, root_after, AreOnce, IsPlace}
-use Rattle.radix_tree.proofs.Words.{IsSpot, IsBeside, forked_tree, IsExchange, Exchanged, lift_leaf, lift_bit, leaf_above, bit_above, Lodged, number_of}
+use Rattle.radix_tree.proofs.Words.{leaves_in, bits_in, name_of, Stands, Way, leaves_at, forks_at, with_child, name_child, root_after, AreOnce, IsPlace}
+use Rattle.radix_tree.proofs.Words.{IsSpot, IsBeside, forked_tree, IsExchange, Exchanged, lift_leaf, lift_bit, Lodged, number_of}
 use Rattle.radix_tree.proofs.PartRooms.{one_if_same, way_once, spine_out}
 use Rattle.radix_tree.proofs.Forking.{one_value, zero_fork_is, one_fork_is, lifted, leaves_there, forks_there}
 
@@ -11,45 +11,36 @@ use Rattle.radix_tree.proofs.Forking.{one_value, zero_fork_is, one_fork_is, lift
 pub misses_leaf : {A : Type 0} (at : Node) (n : ℕ) → ((room : Id) → at ≡ LeafOf room → n ≡ number_of room → ⊥)
     → (above : Option Id) (said : Option (LeafPart A))
     → lift_leaf at above n said ≡ said
-misses_leaf (LeafOf room) n other above said = ap (λ t. if t then leaf_above above said else said) (ne_eqb n (number_of room) (other room refl))
+misses_leaf (LeafOf room) n other above said = search (arith, ne_eqb)
 misses_leaf (BitOf room) n other above said = refl
 
 pub misses_bit : (at : Node) (n : ℕ) → ((room : Id) → at ≡ BitOf room → n ≡ number_of room → ⊥) → (above : Option Id) (said : Option BitPart)
     → lift_bit at above n said ≡ said
 misses_bit (LeafOf room) n other above said = refl
-misses_bit (BitOf room) n other above said = ap (λ t. if t then bit_above above said else said) (ne_eqb n (number_of room) (other room refl))
+misses_bit (BitOf room) n other above said = search (arith, ne_eqb)
 
 module _ {V : Type 0} where
   -- the room of a part's name is in the part
   pub named_leaf : (t : Tree V) (room : Id) → name_of t ≡ LeafOf room → 1 ≤ leaves_at (number_of room) t
-  named_leaf (leaf x xs) room e =
-      let same : x.room ≡ room = cc in
-      let own = ap (λ i. one_if (number_of x.room == number_of i)) (sym same) ∙ one_if_same (number_of x.room) in
-      omega arith
+  named_leaf (leaf x xs) room e = search (arith, one_if_same)
   named_leaf (fork i b zero one) room e = cc
 
   pub named_bit : (t : Tree V) (room : Id) → name_of t ≡ BitOf room → 1 ≤ forks_at (number_of room) t
   named_bit (leaf x xs) room e = cc
-  named_bit (fork i b zero one) room e =
-      let same : i ≡ room = cc in
-      let own = ap (λ j. one_if (number_of i == number_of j)) (sym same) ∙ one_if_same (number_of i) in omega arith
+  named_bit (fork i b zero one) room e = search (arith, one_if_same)
 
   -- ---- the state before and after
   -- a room of the part isn't the new one
   pub not_new : {m : Lodged V} (p : Part m) (room : Id) → leaves_in m (number_of room) ≡ None → (n : ℕ) → 1 ≤ leaves_at n p.tree → n ≡ number_of room → ⊥
-  not_new {m = m} p room none n some same =
-      let gone = leaves_there (leaves_in m) (bits_in m) p.above p.tree (number_of room) p.stands none in
-      let is = ap (λ k. leaves_at k p.tree) same in omega arith
+  not_new {m = m} p room none n some same = search (arith, leaves_there)
 
   pub not_new_bit : {m : Lodged V} (p : Part m) (room : Id) → bits_in m (number_of room) ≡ None → (n : ℕ) → 1 ≤ forks_at n p.tree → n ≡ number_of room → ⊥
-  not_new_bit {m = m} p room none n some same =
-      let gone = forks_there (leaves_in m) (bits_in m) p.above p.tree (number_of room) p.stands none in
-      let is = ap (λ k. forks_at k p.tree) same in omega arith
+  not_new_bit {m = m} p room none n some same = search (arith, forks_there)
 
   -- the bit node above a part is not in it
   pub not_above : (m : Lodged V) (address : ℕ) (whole at : Part m) (ups : List (Part m)) → Way address whole at ups → whole.above ≡ None → AreOnce whole.tree
       → (to : Node) (n : ℕ) → 1 ≤ forks_at n at.tree → name_child at.above address to n (bits_in m n) ≡ bits_in m n
-  not_above m address whole at [] way top once to n some = ap (λ o. name_child o address to n (bits_in m n)) (ap (λ p. p.above) way ∙ top)
+  not_above m address whole at [] way top once to n some = search arith
   not_above m address whole at (p ∷ ps) way top once to n some =
       let b = way.0 in
       let out = (spine_out m b (way_once address whole p ps way.1 once)).0 in
@@ -75,17 +66,13 @@ module _ {V : Type 0} where
 
   -- on either side of it
   pub zero_forked : (bit : ℕ) (x : Placed V) (t : Tree V) → bit_at bit x.entry.key ≡ 0 → fork x.room bit (leaf x []) t ≡ forked_tree bit x t
-  zero_forked bit x t clear = sym (ap (λ b. if b then fork x.room bit t (leaf x []) else fork x.room bit (leaf x []) t)
-      (ne_eqb (bit_at bit x.entry.key) 1 (λ set. zero_not_one clear set)))
+  zero_forked bit x t clear = search (arith, ne_eqb, zero_not_one)
 
   pub one_forked : (bit : ℕ) (x : Placed V) (t : Tree V) → bit_at bit x.entry.key ≡ 1 → fork x.room bit t (leaf x []) ≡ forked_tree bit x t
-  one_forked bit x t set = sym (ap (λ b. if b then fork x.room bit t (leaf x []) else fork x.room bit (leaf x []) t) (eq-eqb (bit_at bit x.entry.key) 1 set))
+  one_forked bit x t set = search (arith, eq-eqb)
 
   forked_name : (bit : ℕ) (x : Placed V) (t : Tree V) → name_of (forked_tree bit x t) ≡ BitOf x.room
-  forked_name bit x t = elim (zero_or_one bit x.entry.key) [
-    | inl clear ↦ ap name_of (sym (zero_forked bit x t clear))
-    | inr set ↦ ap name_of (sym (one_forked bit x t set))
-  ]
+  forked_name bit x t = search (arith, zero_or_one, zero_forked, one_forked)
 
   forked_part : (m new : Lodged V) (bit : ℕ) (x : Placed V) (whole : Part m) (above : Option Id) (below : Node)
       (s : IsSpot m x.entry.key bit whole above below) → IsBeside m new bit x above below → IsRoute x.entry → Forked m new bit x s.at
@@ -154,9 +141,7 @@ module _ {V : Type 0} where
         let e = ap (λ k. leaves_at k s.at.tree) same in absurd (omega arith)) (Some x.room) (leaves_in m n)
 
     bit_stays : (n : ℕ) → forks_at n s.at.tree ≡ 0 → 1 ≤ forks_at n whole.tree → bits_in new n ≡ name_child above x.entry.key (BitOf x.room) n (bits_in m n)
-    bit_stays n out some = b.bits n (not_new_bit whole x.room b.no_bit n some)
-        ∙ misses_bit below n (λ r is same. let there = named_bit s.at.tree r (s.named ∙ is) in
-        let e = ap (λ k. forks_at k s.at.tree) same in absurd (omega arith)) (Some x.room) (name_child above x.entry.key (BitOf x.room) n (bits_in m n))
+    bit_stays n out some = search (arith, not_new_bit, misses_bit, named_bit)
 
     pub whole_forked : {root : Node} → IsRoute x.entry → name_of whole.tree ≡ root
         → (u : Part new) × (u.tree ≡ forked_tree bit x s.at.tree) × Exchanged m new x.entry.key whole s.at u (root_after above (BitOf x.room) root)

@@ -2,9 +2,9 @@
 use Rattle.radix_tree.proofs.{AddressBits.zero_or_one, RoomReads.Has-leaf, TreeMembers.bit_beneath, Lodging.stays, Beside.zero_forked, Beside.one_forked}
 use Rattle.radix_tree.proofs.{Cuts.IsCut, JoinLinks.turn_used, MovedReads.lift_used}
 use Rattle.radix_tree.proofs.Words.{◌≡◌, ℕ, ◌+◌, ◌≤◌, ◌⊎◌, ◌==◌, ◌||◌, Bool, true, false, if◌then◌else◌, List, [], ◌∷◌, Option, Some, None, refl, sym, ap, ◌∙◌}
-use Rattle.radix_tree.proofs.Words.{subst, inl, inr, arith, eq-eqb, ne_eqb, cases_eq, append-nil, is_some, Has, Id, Node, LeafOf, BitOf, Placed, Tree, leaf}
+use Rattle.radix_tree.proofs.Words.{inl, inr, arith, eq-eqb, ne_eqb, cases_eq, append-nil, is_some, Has, Id, Node, LeafOf, BitOf, Placed, Tree, leaf}
 use Rattle.radix_tree.proofs.Words.{fork, bit_at, IsIn, routes_of, LeafPart, Heads, Masks, Bits, Part, leaves_in, bits_in, heads_in, masks_in, Beneath, Way}
-use Rattle.radix_tree.proofs.Words.{one_if, leaves_at, forks_at, HasHome, HaveOneFork, name_child, with_head, forked_tree, Gains, IsPlace, IsSpot, IsBeside}
+use Rattle.radix_tree.proofs.Words.{one_if, leaves_at, forks_at, HasHome, HaveOneFork, with_head, forked_tree, Gains, IsPlace, IsSpot, IsBeside}
 use Rattle.radix_tree.proofs.Words.{Exchanged, IsMarked, IsMaskList, MarkedIn, MarkedLists, HasRoomMore, KeepsLeaves, KeepsBits, KeepsMasks, lift_leaf}
 use Rattle.radix_tree.proofs.Words.{leaf_above, Lodged, true≢false, number_of}
 
@@ -39,32 +39,25 @@ module _ {V : Type 0} where
 
   lift_leaf_some : (at : Node) (above : Option Id) (n : ℕ) (said : Option (LeafPart V)) → is_some (lift_leaf at above n said) ≡ is_some said
   lift_leaf_some (LeafOf room) above n None = chosen (n == number_of room) (leaf_above above None) None refl
-  lift_leaf_some (LeafOf room) above n (Some p) = chosen (n == number_of room) (leaf_above above (Some p)) (Some p) refl
+  lift_leaf_some (LeafOf room) above n (Some p) = search (arith, chosen)
   lift_leaf_some (BitOf room) above n said = refl
 
   -- ---- the new bit node's tree
   forked_cases : (P : Tree V → Type 0) (bit : ℕ) (x : Placed V) (t : Tree V) → (bit_at bit x.entry.key ≡ 0 → P (fork x.room bit (leaf x []) t))
       → (bit_at bit x.entry.key ≡ 1 → P (fork x.room bit t (leaf x []))) → P (forked_tree bit x t)
-  forked_cases P bit x t zero one = elim (zero_or_one bit x.entry.key) [
-    | inl clear ↦ subst P (zero_forked bit x t clear) (zero clear)
-    | inr set ↦ subst P (one_forked bit x t set) (one set)
-  ]
+  forked_cases P bit x t zero one = search (arith, zero_or_one, zero_forked, one_forked)
 
   pub forked_leaves : (bit : ℕ) (x : Placed V) (t : Tree V) (n : ℕ) → leaves_at n (forked_tree bit x t) ≡ one_if (number_of x.room == n) + leaves_at n t
-  forked_leaves bit x t n =
-      forked_cases (λ (s : Tree V). leaves_at n s ≡ one_if (number_of x.room == n) + leaves_at n t) bit x t (λ clear. omega arith) (λ set. omega arith)
+  forked_leaves bit x t n = search (arith, forked_cases)
 
   pub forked_forks : (bit : ℕ) (x : Placed V) (t : Tree V) (n : ℕ) → forks_at n (forked_tree bit x t) ≡ one_if (number_of x.room == n) + forks_at n t
-  forked_forks bit x t n =
-      forked_cases (λ (s : Tree V). forks_at n s ≡ one_if (number_of x.room == n) + forks_at n t) bit x t (λ clear. omega arith) (λ set. omega arith)
+  forked_forks bit x t n = search (arith, forked_cases)
 
   in_leaf : (x y : Placed V) → IsIn y (leaf x []) → x ≡ y
   in_leaf x y is = elim is [ inl e ↦ e | inr none ↦ absurd none ]
 
   pub in_forked : (bit : ℕ) (x : Placed V) (t : Tree V) (y : Placed V) → IsIn y (forked_tree bit x t) → (x ≡ y) ⊎ IsIn y t
-  in_forked bit x t y = forked_cases (λ (s : Tree V). IsIn y s → (x ≡ y) ⊎ IsIn y t) bit x t
-      (λ clear is. elim is [ inl new ↦ inl (in_leaf x y new) | inr old ↦ inr old ])
-      (λ set is. elim is [ inl old ↦ inr old | inr new ↦ inl (in_leaf x y new) ])
+  in_forked bit x t y = search (arith, forked_cases, in_leaf)
 
   pub forked_in : (bit : ℕ) (x : Placed V) (t : Tree V) (y : Placed V) → IsIn y t → IsIn y (forked_tree bit x t)
   forked_in bit x t y is = forked_cases (λ (s : Tree V). IsIn y s) bit x t (λ clear. inr is) (λ set. inl is)
@@ -77,9 +70,7 @@ module _ {V : Type 0} where
 
   -- a route beneath it has its home at the new bit node, or where it had it
   pub home_forked : (bit : ℕ) (x : Placed V) (t : Tree V) (key rank : ℕ) → HasHome key rank (forked_tree bit x t) → (rank ≤ bit) ⊎ HasHome key rank t
-  home_forked bit x t key rank = forked_cases (λ (s : Tree V). HasHome key rank s → (rank ≤ bit) ⊎ HasHome key rank t) bit x t
-      (λ clear home. elim home [ inl here ↦ inl here | inr sides ↦ elim sides [ inl left ↦ absurd left.1 | inr right ↦ inr right.1 ] ])
-      (λ set home. elim home [ inl here ↦ inl here | inr sides ↦ elim sides [ inl left ↦ inr left.1 | inr right ↦ absurd right.1 ] ])
+  home_forked bit x t key rank = search (arith, forked_cases)
 
   pub forked_home : (bit : ℕ) {low : ℕ} (x : Placed V) (t : Tree V) → IsPlace x.entry.key low bit t → (y : Placed V) → IsIn y t
       → HasHome y.entry.key y.entry.rank t → HasHome y.entry.key y.entry.rank (forked_tree bit x t)
@@ -88,12 +79,10 @@ module _ {V : Type 0} where
       (λ set. inr (inl (bit_beneath (bit + 1) bit 0 t p.is (p.far_zero set) y is, home)))
 
   pub forked_spare : (B : Bits) (bit : ℕ) (x : Placed V) (t : Tree V) → HaveOneFork B t → HaveOneFork B (forked_tree bit x t)
-  forked_spare B bit x t spare = forked_cases (λ (s : Tree V). HaveOneFork B s) bit x t (λ clear. (inl tt, spare)) (λ set. (spare, inl tt))
+  forked_spare B bit x t spare = search (arith, forked_cases)
 
   pub forked_gains : (bit : ℕ) (x : Placed V) (t : Tree V) → Gains x.entry (routes_of t) (routes_of (forked_tree bit x t))
-  forked_gains bit x t = forked_cases (λ (s : Tree V). Gains x.entry (routes_of t) (routes_of s)) bit x t
-      (λ clear. record { front = []; back = routes_of t; was = refl; now = refl })
-      (λ set. record { front = routes_of t; back = []; was = sym (append-nil (routes_of t)); now = refl })
+  forked_gains bit x t = search (arith, forked_cases, append-nil)
 
   -- ---- the rooms once the list is cut
   abbrev pub same_part : {m : Lodged V} (new : Lodged V) → KeepsLeaves m new → KeepsBits m new → Part m → Part new
@@ -165,12 +154,10 @@ module _ {V : Type 0} where
       no_bit = sym (c.cut.bits (number_of x.room)) ∙ c.beside.no_bit
 
       pub other_leaf : (n : ℕ) → (n ≡ number_of x.room → ⊥) → is_some (leaves_in new n) ≡ is_some (leaves_in m n)
-      other_leaf n other = ap is_some (c.beside.leaves n other) ∙ lift_leaf_some below (Some x.room) n (leaves_in mid n) ∙ ap is_some (c.cut.leaves n)
+      other_leaf n other = search (arith, lift_leaf_some)
 
       pub other_bit : (n : ℕ) → (n ≡ number_of x.room → ⊥) → is_some (bits_in new n) ≡ is_some (bits_in m n)
-      other_bit n other = ap is_some (c.beside.bits n other) ∙ lift_used below (Some x.room) n
-          (name_child above x.entry.key (BitOf x.room) n (bits_in mid n)) ∙ turn_used above x.entry.key n (BitOf x.room) (bits_in mid n)
-          ∙ ap is_some (c.cut.bits n)
+      other_bit n other = search (arith, lift_used, turn_used)
 
       pub same_marks : (n : ℕ) → is_some (masks_in new n) ≡ is_some (masks_in m n)
       same_marks n = ap is_some (c.masks n) ∙ c.cut.marks n
@@ -179,11 +166,7 @@ module _ {V : Type 0} where
       new_unmarked marked = true≢false (sym marked ∙ same_marks (number_of x.room) ∙ ap is_some c.unmarked)
 
       pub room_more : HasRoomMore m new (number_of x.room)
-      room_more n = elim (cases_eq n (number_of x.room)) [
-        | inl same ↦ ap (λ k. is_some (leaves_in new k)) same ∙ ap is_some c.beside.leaf
-            ∙ sym (ap (λ b. b || is_some (leaves_in m n)) (eq-eqb n (number_of x.room) same))
-        | inr other ↦ other_leaf n other ∙ sym (ap (λ b. b || is_some (leaves_in m n)) (ne_eqb n (number_of x.room) other))
-      ]
+      room_more n = search (arith, cases_eq, eq-eqb, other_leaf, ne_eqb)
 
       pub leaf_kept : (n : ℕ) (p : LeafPart V) → leaves_in m n ≡ Some p
           → (a : Option Id) × (leaves_in new n ≡ Some (record p { leaf = record p.leaf { above = a } }))

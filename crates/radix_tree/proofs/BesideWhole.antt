@@ -6,7 +6,7 @@ use Rattle.radix_tree.proofs.Words.{◌≡◌, ℕ, ◌+◌, ◌≤◌, ◌⊎�
 use Rattle.radix_tree.proofs.Words.{subst, inl, inr, arith, eq-eqb, ne_eqb, cases_eq, is_some, Id, Node, LeafOf, BitOf, Placed, Tree, leaf, fork, IsIn, IsTree}
 use Rattle.radix_tree.proofs.Words.{routes_of, Part, leaves_in, bits_in, heads_in, masks_in, LedTo, one_if, leaves_at, forks_at, HasHome, HaveOneFork, IsWhole}
 use Rattle.radix_tree.proofs.Words.{shown, with_head, forked_tree, Gains, IsSpot, IsBeside, IsNew, Differs, Exchanged, IsMasks, IsAside, past_bit, up_to_bit}
-use Rattle.radix_tree.proofs.Words.{IsMarked, MarkedIn, MarkedLists, IsWholeBut, has_key, is_of_key, nobody_late, nobody_out, KeepsLeaves, KeepsBits}
+use Rattle.radix_tree.proofs.Words.{IsMarked, MarkedIn, MarkedLists, IsWholeBut, has_key, nobody_late, nobody_out, KeepsLeaves, KeepsBits}
 use Rattle.radix_tree.proofs.Words.{KeepsMasks, Lodged, true≢false, number_of}
 use Rattle.radix_tree.proofs.PlugLists.{mask_list_same, lists_same, marked_same}
 use Rattle.radix_tree.proofs.BesideRooms.{or_true, one_if_turned, one_if_here, forked_leaves, forked_forks, in_forked, forked_in, forked_lists, home_forked}
@@ -39,14 +39,8 @@ module _ {V : Type 0} where
   late_or_home : (m : Lodged V) (bit key room : ℕ) (p : Part m) (y : Placed V) (t : Tree V) → p.tree ≡ t → IsTree (bit + 1) p.tree
       → ((z : Placed V) (zs : List (Placed V)) → p.tree ≡ leaf z zs → y.entry.key ≡ key) → IsIn y p.tree → y.entry.rank ≤ bit
       → (late_beside m key room (number_of y.room) ≡ true) ⊎ HasHome y.entry.key y.entry.rank p.tree
-  late_or_home m bit key room p y (leaf z zs) is tree keyed at short =
-      let said = tree_said (leaves_in m) (bits_in m) p.above p.tree p.stands y at in
-      let has = ap (is_of_key key) said.3 ∙ eq-eqb y.entry.key key (keyed z zs is) in
-      inl (ap (λ b. (number_of y.room == room) || b) has ∙ or_true (number_of y.room == room))
-  late_or_home m bit key room p y (fork i b zero one) is tree keyed at short =
-      let past = (subst (IsTree (bit + 1)) is tree).0.rises in
-      let home : y.entry.rank ≤ b = omega arith in
-      inr (subst (HasHome y.entry.key y.entry.rank) (sym is) (inl home))
+  late_or_home m bit key room p y (leaf z zs) is tree keyed at short = search (arith, tree_said, eq-eqb, or_true)
+  late_or_home m bit key room p y (fork i b zero one) is tree keyed at short = search arith
 
   module _ {m : Lodged V} {root : Node} (w : IsWholeBut m root nobody_late nobody_out) {bit : ℕ} (x : Placed V) {above : Option Id} {below : Node}
       (s : IsSpot m x.entry.key bit w.part above below) where

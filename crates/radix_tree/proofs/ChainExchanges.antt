@@ -1,46 +1,28 @@
 -- The chain of a leaf is exchanged for another one: the part that is the leaf.
 use Rattle.radix_tree.proofs.{PartRooms.same_turned, Exchanging.exchanged, WholeParts.Fits, WholeParts.once_but, WholeChanges.spare_changed}
 use Rattle.radix_tree.proofs.{WholeChanges.whole_changed, WholeRoutes.Spliced, WholeRoutes.routes_changed, Facts.same_none, JoinLinks.turn_used}
-use Rattle.radix_tree.proofs.Words.{◌≡◌, ℕ, ◌+◌, ◌≤◌, ◌==◌, ◌||◌, Bool, true, false, true≢false, if◌then◌else◌, List, [], ◌∷◌, ◌++◌, Option, Some, None, refl}
-use Rattle.radix_tree.proofs.Words.{sym, ap, ◌∙◌, subst, arith, eqb-true, eqb-false, eq-eqb, ne_eqb, is_some, Id, Node, LeafOf, Placed, Tree, leaf, bit_at}
-use Rattle.radix_tree.proofs.Words.{HaveBit, IsAmong, IsIn, IsChain, IsTree, routes_of, Part, leaves_in, bits_in, masks_in, name_of, ChainStands, Way, one_if}
-use Rattle.radix_tree.proofs.Words.{members_at, leaves_at, forks_at, HasHome, HasOneFork, HaveOneFork, shown, name_child, with_child, root_after, IsExchange}
+use Rattle.radix_tree.proofs.Words.{◌≡◌, ℕ, ◌+◌, ◌≤◌, ◌==◌, ◌||◌, Bool, false, true≢false, List, [], ◌∷◌, ◌++◌, Option, Some, None, refl}
+use Rattle.radix_tree.proofs.Words.{sym, ap, ◌∙◌, subst, arith, eqb-true, eqb-false, eq-eqb, ne_eqb, is_some, Id, Node, LeafOf, Placed, Tree, leaf}
+use Rattle.radix_tree.proofs.Words.{IsAmong, IsIn, IsChain, IsTree, routes_of, Part, leaves_in, bits_in, masks_in, name_of, ChainStands, Way, one_if}
+use Rattle.radix_tree.proofs.Words.{members_at, leaves_at, forks_at, HasHome, HasOneFork, HaveOneFork, shown, name_child, root_after, IsExchange}
 use Rattle.radix_tree.proofs.Words.{Exchanged, IsMarked, IsWholeBut, KeepsHeads, KeepsMasks, above_behind, last_room, root_past, Lodged, number_of}
 use Rattle.radix_tree.proofs.ChainLists.{IsCons, cons_at, map_entries, one_fork_same}
 
 -- ---- the bit node above
 pub one_more : (has : ℕ → Bool) (a n : ℕ) → has a ≡ false → one_if ((n == a) || has n) ≡ one_if (a == n) + one_if (has n)
-one_more has a n free = elim (n == a) as (λ t. (n == a) ≡ t → one_if (t || has n) ≡ one_if (a == n) + one_if (has n)) [
-  | true ↦ λ e.
-      let same = eqb-true n a e in
-      let own = ap one_if (eq-eqb a n (sym same)) in
-      let none = ap (λ k. one_if (has k)) same ∙ ap one_if free in
-      omega arith
-  | false ↦ λ e.
-      let other = ap one_if (ne_eqb a n (λ same. eqb-false n a e (sym same))) in
-      omega arith
-] refl
+one_more has a n free = search (arith, eqb-true, eq-eqb, ne_eqb, eqb-false)
 
 module _ {V : Type 0} where
   -- to name the part above as before changes nothing
   pub turn_same : (m : Lodged V) (key : ℕ) (whole at : Part m) (ups : List (Part m)) → Way key whole at ups → whole.above ≡ None → (n : ℕ)
       → name_child at.above key (name_of at.tree) n (bits_in m n) ≡ bits_in m n
-  turn_same m key whole at [] way top n = ap (λ o. name_child o key (name_of at.tree) n (bits_in m n)) (ap (λ p. p.above) way ∙ top)
-  turn_same m key whole at (p ∷ ps) way top n =
-      let b = way.0 in
-      ap (λ o. name_child o key (name_of at.tree) n (bits_in m n)) b.above
-      ∙ elim (n == number_of b.room) as (λ t. (n == number_of b.room) ≡ t → (if t then with_child key (name_of at.tree) (bits_in m n) else bits_in m n)
-      ≡ bits_in m n) [
-        | true ↦ λ e. ap (λ k. with_child key (name_of at.tree) (bits_in m k)) (eqb-true n (number_of b.room) e)
-            ∙ sym (same_turned key p (name_of at.tree) b refl) ∙ ap (bits_in m) (sym (eqb-true n (number_of b.room) e))
-        | false ↦ λ e. refl
-      ] refl
+  turn_same m key whole at [] way top n = search arith
+  turn_same m key whole at (p ∷ ps) way top n = search (arith, eqb-true, same_turned)
 
   pub root_same : {m : Lodged V} (key : ℕ) (whole at : Part m) (ups : List (Part m)) → Way key whole at ups → whole.above ≡ None
       → root_after at.above (name_of at.tree) (name_of whole.tree) ≡ name_of whole.tree
-  root_same key whole at [] way top = ap (λ o. root_after o (name_of at.tree) (name_of whole.tree)) (ap (λ p. p.above) way ∙ top)
-      ∙ ap (λ p. name_of p.tree) way
-  root_same key whole at (p ∷ ps) way top = ap (λ o. root_after o (name_of at.tree) (name_of whole.tree)) way.0.above
+  root_same key whole at [] way top = search arith
+  root_same key whole at (p ∷ ps) way top = search arith
 
   -- a chain begins with the first member before a place, where there is one
   abbrev pub FrontNamed : List (Placed V) → Node → Type 0
@@ -60,8 +42,7 @@ module _ {V : Type 0} where
       → whole.above ≡ None → FrontNamed front (name_of at.tree) → (n : ℕ) → name_child (above_behind at.above front) key (LeafOf x.room) n (bits_in m n)
       ≡ name_child at.above key (LeafOf (cons_at front back x).first.room) n (bits_in m n)
   place_bits m key whole at ups [] back x way top named n = refl
-  place_bits m key whole at ups (f ∷ front) back x way top named n =
-      sym (ap (λ z. name_child at.above key z n (bits_in m n)) (sym named) ∙ turn_same m key whole at ups way top n)
+  place_bits m key whole at ups (f ∷ front) back x way top named n = search (arith, turn_same)
 
   past_root : (r : Id) (front : List (Placed V)) (above : Option Id) (to root : Node) → root_past (last_room (Some r) front) above to root ≡ root
   past_root r [] above to root = refl
@@ -72,8 +53,7 @@ module _ {V : Type 0} where
       → root_past (last_room None front) (above_behind at.above front) (LeafOf x.room) (name_of whole.tree)
       ≡ root_after at.above (LeafOf (cons_at front back x).first.room) (name_of whole.tree)
   place_root m key whole at ups [] back x way top named = refl
-  place_root m key whole at ups (f ∷ front) back x way top named = past_root f.room front None (LeafOf x.room) (name_of whole.tree)
-      ∙ sym (ap (λ z. root_after at.above z (name_of whole.tree)) (sym named) ∙ root_same key whole at ups way top)
+  place_root m key whole at ups (f ∷ front) back x way top named = search (arith, past_root, root_same)
 
   -- ---- the exchange
   pub record Rechained (m new : Lodged V) (key : ℕ) (whole at : Part m) (old now : List (Placed V)) : Type 0 where
@@ -105,13 +85,7 @@ module _ {V : Type 0} where
     now_counts n = ap (members_at n) (sym r.cons.is)
 
     pub exchange : IsExchange m new key whole at under
-    exchange = record {
-      low = refl;
-      above = refl;
-      keys = λ c value before have. ap (bit_at c) r.key_is ∙ subst (HaveBit c value) r.is have;
-      leaves = λ n none some. r.leaves n (sym (old_counts n) ∙ none) some;
-      bits = λ n none some. r.bits n;
-    }
+    exchange = search (arith, old_counts)
 
   -- the whole with the other chain
   abbrev pub with_chain : (m new : Lodged V) {root : Node} {late : ℕ → Bool} {out : ℕ → ℕ} {key : ℕ} (w : IsWholeBut m root late out) (at : Part m)
@@ -122,7 +96,7 @@ module _ {V : Type 0} where
 
   pub bits_some : (m : Lodged V) {new : Lodged V} (key : ℕ) {whole : Part m} (at : Part m) {old now : List (Placed V)} → Rechained m new key whole at old now
       → (n : ℕ) → is_some (bits_in new n) ≡ is_some (bits_in m n)
-  bits_some m key at r n = ap is_some (r.bits n) ∙ turn_used at.above key n (LeafOf r.cons.first.room) (bits_in m n)
+  bits_some m key at r n = search (arith, turn_used)
 
   module _ {m new : Lodged V} {root : Node} {late : ℕ → Bool} {out : ℕ → ℕ} {key : ℕ} (w : IsWholeBut m root late out) {at : Part m}
       {old now : List (Placed V)} (r : Rechained m new key w.part at old now) where
@@ -160,11 +134,8 @@ module _ {V : Type 0} where
     same_marks y marked = ap is_some (r.masks (number_of y.room)) ∙ marked
 
   pub not_marked : (m new : Lodged V) (x y : Placed V) → KeepsMasks m new → masks_in m (number_of x.room) ≡ None → x ≡ y → IsMarked (masks_in new) y → ⊥
-  not_marked m new x y keeps none same marked = true≢false (sym marked ∙ ap (λ p. is_some (masks_in new (number_of p.room))) (sym same)
-      ∙ ap is_some (keeps (number_of x.room) ∙ none))
+  not_marked m new x y keeps none same marked = search (arith, true≢false)
 
   pub same_forks : (m new : Lodged V) (key : ℕ) {whole : Part m} (at : Part m) {old now : List (Placed V)} (r : Rechained m new key whole at old now) (n : ℕ)
       → forks_at n (under r).tree + one_if (is_some (bits_in m n)) ≡ forks_at n at.tree + one_if (is_some (bits_in new n))
-  same_forks m new key at r n =
-      let none = ap (forks_at n) r.is in
-      let same = ap one_if (bits_some m key at r n) in omega arith
+  same_forks m new key at r n = search (arith, bits_some)

@@ -1,21 +1,14 @@
 -- A walk along a chain to the gap for a rank.
 use Rattle.radix_tree.proofs.{TreeMembers.IsHead, TreeMembers.head_of, Scans.chain_most, MaskLists.in_back}
-use Rattle.radix_tree.proofs.Words.{◌≡◌, ℕ, ◌+◌, ◌<◌, ◌≤◌, List, [], ◌∷◌, ◌++◌, length, Option, Some, None, true, true≢false, Equal, Greater, refl, sym, ap}
-use Rattle.radix_tree.proofs.Words.{◌∙◌, subst, inl, inr, arith, append_assoc, cases_eq, cases_lt, nat_cmp, is_lt, Has, leaf_of, Id, Leaf, Links, Placed}
+use Rattle.radix_tree.proofs.Words.{◌≡◌, ℕ, ◌+◌, ◌<◌, ◌≤◌, List, [], ◌∷◌, ◌++◌, length, Option, Some, None, true, true≢false, refl, sym, ap}
+use Rattle.radix_tree.proofs.Words.{◌∙◌, subst, inl, arith, append_assoc, cases_eq, cases_lt, nat_cmp, is_lt, Has, leaf_of, Id, Leaf, Links, Placed}
 use Rattle.radix_tree.proofs.Words.{IsAmong, Leaves, Run, leaves_in, first_room, leaf_part, ChainStands, above_behind, last_room, ArePast, IsBelow, Passed}
 use Rattle.radix_tree.proofs.Words.{FindsGap, Lodged, number_of}
 use Rattle.radix_tree.proofs.RoomReads.{none_some, AreLinks, Has-leaf, leaf_read}
-use Rattle.std.specs.Cmp.{nat_cmp_is}
 
 -- what a comparison of ranks says
 pub less_of : (a b : ℕ) → is_lt (nat_cmp a b) ≡ true → a < b
-less_of a b h = elim (cases_lt a b) [
-  | inl l ↦ l
-  | inr ge ↦ elim (cases_eq a b) [
-    | inl e ↦ absurd (true≢false (sym h ∙ sym (ap is_lt (nat_cmp_is a b Equal e))))
-    | inr ne ↦ absurd (true≢false (sym h ∙ sym (ap is_lt (nat_cmp_is a b Greater (omega (arith, ge, ne))))))
-  ]
-]
+less_of a b h = search (arith, cases_lt, cases_eq, true≢false)
 
 module _ {V : Type 0} where
   pub none_behind : (front : List (Placed V)) → above_behind None front ≡ None
@@ -26,8 +19,7 @@ module _ {V : Type 0} where
   pub behind_stands : (L : Leaves V) (above previous : Option Id) (front back : List (Placed V)) → ChainStands L above previous (front ++ back)
       → ChainStands L (above_behind above front) (last_room previous front) back
   behind_stands L above previous [] back stands = stands
-  behind_stands L above previous (y ∷ front) back stands = subst (λ a. ChainStands L a (last_room (Some y.room) front) back) (none_behind front)
-      (behind_stands L None (Some y.room) front back stands.1)
+  behind_stands L above previous (y ∷ front) back stands = search (arith, none_behind, behind_stands L None (Some y.room) front back stands.1)
 
   -- ---- a member more in front
   past_more : (rank : ℕ) (front : List (Placed V)) (x : Placed V) → ArePast rank front → rank < x.entry.rank → ArePast rank (front ++ (x ∷ []))
@@ -45,7 +37,7 @@ module _ {V : Type 0} where
   -- ---- the member that a walk has come to
   pub head_said : (m : Lodged V) (above previous : Option Id) {ms : List (Placed V)} {at : Id} (x : IsHead ms at) → ChainStands (leaves_in m) above previous
       ms → leaves_in m (number_of at) ≡ Some (leaf_part x.first above previous (first_room x.behind))
-  head_said m above previous x stands = ap (λ i. leaves_in m (number_of i)) (sym x.room_is) ∙ (subst (ChainStands (leaves_in m) above previous) x.is stands).0
+  head_said m above previous x stands = search arith
 
   head_there : (m : Lodged V) (above previous : Option Id) {ms : List (Placed V)} (at : Id) → IsHead ms at → ChainStands (leaves_in m) above previous ms
       → Has m at
@@ -54,42 +46,27 @@ module _ {V : Type 0} where
   head_read : (m : Lodged V) (above previous : Option Id) {ms : List (Placed V)} (at : Id) (links : Links) (l : Leaf) (x : IsHead ms at)
       → ChainStands (leaves_in m) above previous ms → AreLinks m at links → l ≡ leaf_of links
       → l ≡ record { key = x.first.entry.key; rank = x.first.entry.rank; above = above; next = first_room x.behind; previous = previous }
-  head_read m above previous at links l x stands are is = is ∙ leaf_read m at links (head_said m above previous x stands) (ap (λ i. i.block) x.room_is) are
+  head_read m above previous at links l x stands are is = search (arith, leaf_read, head_said)
 
   pub Has-first : {m : Lodged V} (c : Run m) (first : Id) → first_room c.members ≡ Some first → Has m first
-  Has-first {m = m} c first begins = head_there m c.above c.previous first (head_of c.members begins) c.stands
+  Has-first {m = m} c first begins = search (arith, head_there, head_of)
 
   pub begun : {m : Lodged V} (rank : ℕ) (c : Run m) (first : Id) (links : Links) {l : Leaf} → first_room c.members ≡ Some first → AreLinks m first links
       → l ≡ leaf_of links → Passed rank c l.above l.previous (Some first) 1
-  begun {m = m} rank c first links {l = l} begins are is =
-      let read = head_read m c.above c.previous first links l (head_of c.members begins) c.stands are is in
-      let most = chain_most c.key c.top c.members c.is in
-      record {
-        front = [];
-        back = c.members;
-        is = refl;
-        past = tt;
-        above_is = ap (λ z. z.above) read;
-        previous_is = ap (λ z. z.previous) read;
-        next_is = sym begins;
-        few = omega arith;
-      }
+  begun {m = m} rank c first links {l = l} begins are is = search (arith, head_read, head_of, chain_most)
 
   module _ {m : Lodged V} {rank : ℕ} {c : Run m} {above previous next : Option Id} {steps : ℕ} (p : Passed rank c above previous next steps) where
     rest_stands : ChainStands (leaves_in m) (above_behind c.above p.front) (last_room c.previous p.front) p.back
-    rest_stands = behind_stands (leaves_in m) c.above c.previous p.front p.back (subst (ChainStands (leaves_in m) c.above c.previous) p.is c.stands)
+    rest_stands = search (arith, behind_stands)
 
     member_at : {at : Id} → next ≡ Some at → IsHead p.back at
     member_at is = head_of p.back (sym p.next_is ∙ is)
 
     pub Has-at : (at : Id) → next ≡ Some at → Has m at
-    Has-at at is = head_there m (above_behind c.above p.front) (last_room c.previous p.front) at (member_at is) rest_stands
+    Has-at at is = search (arith, head_there, member_at, rest_stands)
 
     pub few_at : {at : Id} → next ≡ Some at → steps ≤ 34
-    few_at is =
-        let x = member_at is in
-        let some = ap length x.is in
-        let few = p.few in omega arith
+    few_at is = search (arith, member_at)
 
     read_at : (at : Id) (links : Links) (l : Leaf) (is : next ≡ Some at) → AreLinks m at links → l ≡ leaf_of links
         → (x : IsHead p.back at) × (l.rank ≡ x.first.entry.rank) × (l.next ≡ first_room x.behind)
@@ -131,16 +108,7 @@ module _ {V : Type 0} where
 
     gap_of : (key : ℕ) → IsBelow rank p.back
         → FindsGap key rank c (Some (record { key = key; rank = rank; above = above; next = next; previous = previous }))
-    gap_of key below = record {
-      front = p.front;
-      back = p.back;
-      is = p.is;
-      past = p.past;
-      below = below;
-      leaf = ap (λ o. record { key = key; rank = rank; above = o; next = next; previous = previous }) p.above_is
-          ∙ ap (λ o. record { key = key; rank = rank; above = above_behind c.above p.front; next = o; previous = previous }) p.next_is
-          ∙ ap (λ o. record { key = key; rank = rank; above = above_behind c.above p.front; next = first_room p.back; previous = o }) p.previous_is;
-    }
+    gap_of key below = search arith
 
     -- the first one of a smaller rank
     pub found : (key : ℕ) (at : Id) (links : Links) {l : Leaf} → next ≡ Some at → AreLinks m at links → l ≡ leaf_of links → l.rank < rank
@@ -159,4 +127,4 @@ module _ {V : Type 0} where
   -- the end of the chain
   pub ended : {m : Lodged V} (key rank : ℕ) {c : Run m} {above previous next : Option Id} {steps : ℕ} → Passed rank c above previous next steps → next ≡ None
       → FindsGap key rank c (Some (record { key = key; rank = rank; above = above; next = next; previous = previous }))
-  ended key rank {above = above} {previous = previous} {next = next} p is = gap_of p key (none_below rank p.back (sym p.next_is ∙ is))
+  ended key rank {above = above} {previous = previous} {next = next} p is = search (arith, gap_of, none_below)

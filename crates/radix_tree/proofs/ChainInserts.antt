@@ -3,7 +3,7 @@ use Rattle.radix_tree.proofs.{TreeMembers.IsSaid, TreeMembers.chain_key, TreeMem
 use Rattle.radix_tree.proofs.{Parts.leaf_run, Parts.in_leaf, Parts.way_inside, PartRooms.way_once, Lodging.over_at, Lodging.stays, Beside.not_new}
 use Rattle.radix_tree.proofs.{ChainRooms.room_route, WholeParts.once_but, ChainGaps.behind_stands, ChainLinks.linked_in, ChainLinks.in_others}
 use Rattle.radix_tree.proofs.{ChainLists.cons_at, ChainLists.chain_more, ChainWholes.grown_whole, ChainWholes.grown_routes, MovedReads.content_used}
-use Rattle.radix_tree.proofs.Words.{◌≡◌, ℕ, ◌≤◌, ◌==◌, ◌||◌, true, false, if◌then◌else◌, List, ◌∷◌, ◌++◌, Option, Some, None, refl, sym, ap, ◌∙◌, subst, arith}
+use Rattle.radix_tree.proofs.Words.{◌≡◌, ℕ, ◌≤◌, ◌==◌, ◌||◌, if◌then◌else◌, List, ◌∷◌, ◌++◌, Option, Some, None, refl, sym, ap, ◌∙◌, subst, arith}
 use Rattle.radix_tree.proofs.Words.{ne_eqb, is_some, Has, Id, Leaf, Node, LeafOf, IsRoute, Placed, leaf, IsIn, IsChain, LeafPart, Part, Run, leaves_in, bits_in}
 use Rattle.radix_tree.proofs.Words.{masks_in, name_of, first_room, leaf_part, ChainStands, Way, LedTo, ForkAt, HasPair, one_if, members_at, leaves_at, IsWhole}
 use Rattle.radix_tree.proofs.Words.{shown, name_child, root_after, placed, Gains, AreOnce, IsWholeBut, late_at, nobody_out, lodge_leaf, KeepsBits, KeepsHeads}
@@ -19,12 +19,12 @@ module _ {V : Type 0} where
   pub first_there : (m : Lodged V) (above previous : Option Id) (c : List (Placed V)) (r : Id) → ChainStands (leaves_in m) above previous c
       → first_room c ≡ Some r → Has m r
   first_there m above previous [] r stands is = absurd (none_some is)
-  first_there m above previous (x ∷ c) r stands is = said_there m x r (above, previous, first_room c, stands.0) (inside is)
+  first_there m above previous (x ∷ c) r stands is = search (arith, said_there, inside)
 
   pub last_there : (m : Lodged V) (above previous : Option Id) (front back : List (Placed V)) (r : Id)
       → ChainStands (leaves_in m) above previous (front ++ back) → last_room None front ≡ Some r → Has m r
   last_there m above previous [] back r stands is = absurd (none_some is)
-  last_there m above previous (x ∷ []) back r stands is = said_there m x r (above, previous, first_room back, stands.0) (inside is)
+  last_there m above previous (x ∷ []) back r stands is = search (arith, said_there, inside)
   last_there m above previous (x ∷ y ∷ front) back r stands is = last_there m None (Some x.room) (y ∷ front) back r stands.1 is
 
   -- the bit node above a place, where there is one
@@ -85,33 +85,20 @@ module _ {V : Type 0} where
 
   pub next_same : (before next : Option Id) (n : ℕ) (said : Option (LeafPart V)) → content_of (name_next before next n said) ≡ content_of said
   next_same None next n said = refl
-  next_same (Some room) next n said = elim (n == number_of room) as (λ t. content_of (if t then leaf_next next said else said) ≡ content_of said) [
-    | true ↦ next_content next said
-    | false ↦ refl
-  ]
+  next_same (Some room) next n said = search (arith, next_content)
 
   pub back_same : (behind above previous : Option Id) (n : ℕ) (said : Option (LeafPart V))
       → content_of (name_back behind above previous n said) ≡ content_of said
   back_same None above previous n said = refl
-  back_same (Some room) above previous n said =
-      elim (n == number_of room) as (λ t. content_of (if t then leaf_back above previous said else said) ≡ content_of said) [
-        | true ↦ back_content above previous said
-        | false ↦ refl
-      ]
+  back_same (Some room) above previous n said = search (arith, back_content)
 
   lodged_some : (room : Id) (value : V) (l : Leaf) (n : ℕ) (said : Option (LeafPart V))
       → is_some (lodge_leaf room value l n said) ≡ (n == number_of room) || is_some said
-  lodged_some room value l n said =
-      elim (n == number_of room) as (λ t. is_some (if t then Some (record { block = room.block; value = value; leaf = l }) else said) ≡ t || is_some said) [
-        | true ↦ refl
-        | false ↦ refl
-      ]
+  lodged_some room value l n said = search arith
 
   pub linked_rooms : (m new : Lodged V) (id : Id) (value : V) (l : Leaf) → ((n : ℕ) → leaves_in new n ≡ link_in id value l n (leaves_in m n)) → (n : ℕ)
       → is_some (leaves_in new n) ≡ (n == number_of id) || is_some (leaves_in m n)
-  linked_rooms m new id value l is n = ap is_some (is n) ∙ content_used (link_in id value l n (leaves_in m n)) (lodge_leaf id value l n (leaves_in m n))
-      (back_same l.next None (Some id) n (name_next l.previous (Some id) n (lodge_leaf id value l n (leaves_in m n)))
-      ∙ next_same l.previous (Some id) n (lodge_leaf id value l n (leaves_in m n))) ∙ lodged_some id value l n (leaves_in m n)
+  linked_rooms m new id value l is n = search (arith, content_used, back_same, next_same, lodged_some)
 
   pub cons_key : (front back : List (Placed V)) (x z : Placed V) (zs : List (Placed V)) → z ∷ zs ≡ front ++ back → z.entry.key ≡ x.entry.key
       → (cons_at front back x).first.entry.key ≡ z.entry.key
@@ -158,9 +145,7 @@ module _ {V : Type 0} where
     in_name : (new : Lodged V) (id : Id)
         → root_after d.part.above (LeafOf (cons_at g.front g.back (placed id e)).first.room) (name_of w.part.tree) ≡ root_past l.previous l.above
         (LeafOf id) root
-    in_name new id = sym (ap (λ z. root_past z.previous z.above (LeafOf id) root) g.leaf
-        ∙ ap (root_past (last_room None g.front) (above_behind d.part.above g.front) (LeafOf id)) (sym w.named)
-        ∙ place_root m e.key w.part d.part d.ups g.front g.back (placed id e) d.way w.top (front_named g.front g.back d.leaf.is g.is))
+    in_name new id = search (arith, place_root, front_named)
 
     pub inserted_whole : (new : Lodged V) (id : Id) → d.leaf.first.entry.key ≡ e.key → IsRoute e → IsWritten m new id e l
         → IsWholeBut new (root_past l.previous l.above (LeafOf id) root) (late_at (number_of id)) nobody_out

@@ -2,7 +2,7 @@
 use Rattle.radix_tree.proofs.{RoomReads.inside, RoomReads.none_some, PartRooms.one_if_same, PartRooms.chain_frame, Forking.chain_there, ChainGaps.behind_stands}
 use Rattle.radix_tree.proofs.{ChainLists.members_append, ChainLists.members_more, Facts.own_room, Facts.off_room}
 use Rattle.radix_tree.proofs.Words.{◌≡◌, ℕ, ◌+◌, ◌≤◌, ◌==◌, List, [], ◌∷◌, ◌++◌, Option, Some, None, refl, sym, ap, ◌∙◌, arith, Id, Leaf, Placed, LeafPart}
-use Rattle.radix_tree.proofs.Words.{Leaves, first_room, ChainStands, one_if, members_at, lodge_leaf, leaf_next, leaf_back, name_next, name_back, link_in}
+use Rattle.radix_tree.proofs.Words.{Leaves, first_room, ChainStands, one_if, members_at, lodge_leaf, leaf_next, name_next, name_back, link_in}
 use Rattle.radix_tree.proofs.Words.{link_out, above_behind, last_room, number_of}
 
 module _ {V : Type 0} where
@@ -15,16 +15,14 @@ module _ {V : Type 0} where
   back_off : (behind above previous : Option Id) (n : ℕ) (said : Option (LeafPart V)) → ((r : Id) → behind ≡ Some r → n ≡ number_of r → ⊥)
       → name_back behind above previous n said ≡ said
   back_off None above previous n said other = refl
-  back_off (Some room) above previous n said other = off_room room n (leaf_back above previous said) said (other room refl)
+  back_off (Some room) above previous n said other = search (arith, off_room)
 
   -- ---- the members on both sides of a place
   own_counts : (x : Placed V) (c : List (Placed V)) → 1 ≤ members_at (number_of x.room) (x ∷ c)
   own_counts x c = let one = one_if_same (number_of x.room) in omega arith
 
   last_in : (x : Placed V) (c : List (Placed V)) (r : Id) → last_room (Some x.room) c ≡ Some r → 1 ≤ members_at (number_of r) (x ∷ c)
-  last_in x [] r is =
-      let one = ap (λ i. one_if (number_of x.room == number_of i)) (sym (inside is)) ∙ one_if_same (number_of x.room) in
-      omega arith
+  last_in x [] r is = search (arith, inside, one_if_same)
   last_in x (y ∷ c) r is = let rest = last_in y c r is in omega arith
 
   pub last_among : (c : List (Placed V)) (r : Id) → last_room None c ≡ Some r → 1 ≤ members_at (number_of r) c
@@ -33,20 +31,14 @@ module _ {V : Type 0} where
 
   pub first_among : (c : List (Placed V)) (r : Id) → first_room c ≡ Some r → 1 ≤ members_at (number_of r) c
   first_among [] r is = absurd (none_some is)
-  first_among (x ∷ c) r is =
-      let one = ap (λ i. one_if (number_of x.room == number_of i)) (sym (inside is)) ∙ one_if_same (number_of x.room) in
-      omega arith
+  first_among (x ∷ c) r is = search (arith, inside, one_if_same)
 
   -- ---- a chain whose end is another one
   front_linked : (L M : Leaves V) (above previous : Option Id) (front old now : List (Placed V)) → ChainStands L above previous (front ++ old)
       → ((n : ℕ) → 1 ≤ members_at n front → M n ≡ name_next (last_room None front) (first_room now) n (L n)) → ((n : ℕ) → members_at n front ≤ 1)
       → ChainStands M (above_behind above front) (last_room previous front) now → ChainStands M above previous (front ++ now)
   front_linked L M above previous [] old now stands said once rest = rest
-  front_linked L M above previous (y ∷ []) old now stands said once rest = (
-    said (number_of y.room) (own_counts y []) ∙ own_room y.room (leaf_next (first_room now) (L (number_of y.room))) (L (number_of y.room))
-        ∙ ap (leaf_next (first_room now)) stands.0,
-    rest,
-  )
+  front_linked L M above previous (y ∷ []) old now stands said once rest = search (arith, own_counts, own_room)
   front_linked L M above previous (y ∷ z ∷ front) old now stands said once rest = (
     said (number_of y.room) (own_counts y (z ∷ front)) ∙ next_off (last_room (Some z.room) front) (first_room now) (number_of y.room) (L (number_of y.room))
         (λ r is same. let behind = last_in z front r is in let most = once (number_of r) in
@@ -58,11 +50,7 @@ module _ {V : Type 0} where
   back_linked : (L M : Leaves V) (above previous a p : Option Id) (back : List (Placed V)) → ChainStands L above previous back
       → ((n : ℕ) → 1 ≤ members_at n back → M n ≡ name_back (first_room back) a p n (L n)) → ((n : ℕ) → members_at n back ≤ 1) → ChainStands M a p back
   back_linked L M above previous a p [] stands said once = tt
-  back_linked L M above previous a p (y ∷ back) stands said once = (
-    said (number_of y.room) (own_counts y back) ∙ own_room y.room (leaf_back a p (L (number_of y.room))) (L (number_of y.room)) ∙ ap (leaf_back a p) stands.0,
-    chain_frame L M None (Some y.room) back (λ n some. said n (omega arith) ∙ off_room y.room n (leaf_back a p (L n)) (L n)
-        (λ same. let most = once n in let one = ap (λ k. one_if (number_of y.room == k)) same ∙ one_if_same (number_of y.room) in omega arith)) stands.1,
-  )
+  back_linked L M above previous a p (y ∷ back) stands said once = search (arith, own_counts, own_room, chain_frame, off_room, one_if_same)
 
   -- ---- a member more
   abbrev pub leaf_at : (key rank : ℕ) (above : Option Id) (front back : List (Placed V)) → Leaf
@@ -72,15 +60,7 @@ module _ {V : Type 0} where
   -- a room that is not of the chain, and not the new one
   pub in_others : (L M : Leaves V) (front back : List (Placed V)) (room : Id) (value : V) (l : Leaf) (n : ℕ) → l.next ≡ first_room back
       → l.previous ≡ last_room None front → M n ≡ link_in room value l n (L n) → (n ≡ number_of room → ⊥) → members_at n (front ++ back) ≡ 0 → M n ≡ L n
-  in_others L M front back room value l n next previous said other out =
-      let none = members_append n front back in
-      let lodged = lodge_leaf room value l n (L n) in
-      said ∙ back_off l.next None (Some room) n (name_next l.previous (Some room) n (lodge_leaf room value l n (L n)))
-      (λ r is same. let some = first_among back r (sym next ∙ is) in let at = ap (λ k. members_at k back) same in omega arith)
-      ∙ next_off l.previous (Some room) n (lodge_leaf room value l n (L n))
-      (λ r is same. let some = last_among front r (sym previous ∙ is) in
-      let at = ap (λ k. members_at k front) same in omega arith)
-      ∙ off_room room n (Some (record { block = room.block; value = value; leaf = l })) (L n) other
+  in_others L M front back room value l n next previous said other out = search (arith, members_append, back_off, first_among, next_off, last_among, off_room)
 
   pub linked_in : (L M : Leaves V) (above : Option Id) (front back : List (Placed V)) (x : Placed V) → ChainStands L above None (front ++ back)
       → L (number_of x.room) ≡ None → ((n : ℕ) → members_at n (front ++ back) ≤ 1)
@@ -127,12 +107,7 @@ module _ {V : Type 0} where
   -- a room that is no neighbour stays
   pub out_others : (L M : Leaves V) (front back : List (Placed V)) (l : Leaf) (n : ℕ) → l.next ≡ first_room back → l.previous ≡ last_room None front
       → M n ≡ link_out l n (L n) → members_at n (front ++ back) ≡ 0 → M n ≡ L n
-  out_others L M front back l n next previous said out =
-      let none = members_append n front back in
-      said ∙ next_off l.previous l.next n (name_back l.next l.above l.previous n (L n))
-      (λ r is same. let some = last_among front r (sym previous ∙ is) in
-      let at = ap (λ k. members_at k front) same in omega arith) ∙ back_off l.next l.above l.previous n (L n)
-      (λ r is same. let some = first_among back r (sym next ∙ is) in let at = ap (λ k. members_at k back) same in omega arith)
+  out_others L M front back l n next previous said out = search (arith, members_append, next_off, last_among, back_off, first_among)
 
   pub linked_out : (L M : Leaves V) (above : Option Id) (front back : List (Placed V)) (x : Placed V) → ChainStands L above None (front ++ (x ∷ back))
       → ((n : ℕ) → members_at n (front ++ (x ∷ back)) ≤ 1)

@@ -26,9 +26,7 @@ module _ {V : Type 0} where
 
   pub members_more : (n : ℕ) (front back : List (Placed V)) (x : Placed V)
       → members_at n (front ++ (x ∷ back)) ≡ members_at n (front ++ back) + one_if (number_of x.room == n)
-  members_more n front back x =
-      let more = members_append n front (x ∷ back) in
-      let less = members_append n front back in omega arith
+  members_more n front back x = search (arith, members_append)
 
   -- ---- what is among
   pub among_more : (front back : List (Placed V)) (x y : Placed V) → IsAmong y (front ++ back) → IsAmong y (front ++ (x ∷ back))
@@ -107,7 +105,7 @@ module _ {V : Type 0} where
   pub others_idle : (B : Bits) (front back : List (Placed V)) (x y : Placed V) {b : BitPart} → HasOneFork B (front ++ (x ∷ back))
       → B (number_of x.room) ≡ Some b
       → IsAmong y (front ++ back) → B (number_of y.room) ≡ None
-  others_idle B [] back x y one used is = elim one [ inl idle ↦ idle_at B back y idle is | inr own ↦ absurd (none_some (sym own.0 ∙ used)) ]
+  others_idle B [] back x y one used is = search (arith, idle_at, none_some)
   others_idle B (z ∷ front) back x y one used is = elim one [
     | inl idle ↦ absurd (none_some (sym (idle_at B (front ++ (x ∷ back)) x idle (among_own front back x)) ∙ used))
     | inr own ↦ elim is [ inl e ↦ ap (λ p. B (number_of p.room)) (sym e) ∙ own.0 | inr later ↦ others_idle B front back x y own.1 used later ]
@@ -128,14 +126,9 @@ module _ {V : Type 0} where
 
   pub chain_more : {key : ℕ} (top : ℕ) (front back : List (Placed V)) (x : Placed V) → IsChain key top (front ++ back) → IsRoute x.entry → x.entry.key ≡ key
       → x.entry.rank < top → ArePast x.entry.rank front → IsBelow x.entry.rank back → IsChain key top (front ++ (x ∷ back))
-  chain_more {key = key} top [] back x is route same lt past below = (route, same, lt, chain_lower key top x.entry.rank back below is)
+  chain_more {key = key} top [] back x is route same lt past below = search (arith, chain_lower)
   chain_more top (y ∷ front) back x is route same lt past below = (is.0, is.1, is.2, chain_more y.entry.rank front back x is.3 route same past.0 past.1 below)
 
   -- ---- routes
   pub routes_more : (front back : List (Placed V)) (x : Placed V) → Gains x.entry (map_entries (front ++ back)) (map_entries (front ++ (x ∷ back)))
-  routes_more front back x = record {
-    front = map_entries front;
-    back = map_entries back;
-    was = map-append (λ (p : Placed V). p.entry) front back;
-    now = map-append (λ (p : Placed V). p.entry) front (x ∷ back);
-  }
+  routes_more front back x = search (arith, map-append)

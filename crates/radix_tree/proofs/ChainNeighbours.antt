@@ -5,7 +5,7 @@ use Rattle.radix_tree.proofs.{ChainLinks.out_others, ChainLists.IsCons, ChainLis
 use Rattle.radix_tree.proofs.{ChainRooms.room_route, ChainInserts.first_there, ChainInserts.last_there, ChainInserts.place_above, ChainInserts.chain_once}
 use Rattle.radix_tree.proofs.Words.{◌≡◌, ℕ, ◌≤◌, Bool, List, [], ◌∷◌, ◌++◌, Some, None, refl, sym, ap, ◌∙◌, subst, inl, arith, eq-eqb, is_some, Has, Id}
 use Rattle.radix_tree.proofs.Words.{leaf_of, Leaf, Links, Node, LeafOf, Placed, leaf, IsAmong, IsChain, IsTree, LeafPart, Part, leaves_in, bits_in, name_of}
-use Rattle.radix_tree.proofs.Words.{first_room, leaf_part, ChainStands, Stands, Way, ForkAt, one_if, members_at, name_child, root_after, IsWholeBut, nobody_out}
+use Rattle.radix_tree.proofs.Words.{first_room, leaf_part, ChainStands, Way, ForkAt, one_if, members_at, name_child, root_after, IsWholeBut, nobody_out}
 use Rattle.radix_tree.proofs.Words.{KeepsHeads, KeepsMasks, link_out, above_behind, last_room, root_past, Lodged, number_of}
 use Rattle.radix_tree.proofs.ChainExchanges.{Rechained, FrontNamed, front_named, place_bits, place_root, turn_same, root_same}
 
@@ -27,7 +27,7 @@ module _ {V : Type 0} where
 
   pub leaf_stands : (m : Lodged V) (at : Part m) {z : Placed V} {zs c : List (Placed V)} → at.tree ≡ leaf z zs → z ∷ zs ≡ c
       → ChainStands (leaves_in m) at.above None c
-  leaf_stands m at is same = subst (ChainStands (leaves_in m) at.above None) same (subst (Stands (leaves_in m) (bits_in m) at.above) is at.stands)
+  leaf_stands m at is same = search arith
 
   pub leaf_chain : {m : Lodged V} (at : Part m) {z : Placed V} {zs c : List (Placed V)} → at.tree ≡ leaf z zs → z ∷ zs ≡ c → IsChain z.entry.key 34 c
   leaf_chain at {z = z} is same = subst (IsChain z.entry.key 34) same (subst (IsTree at.low) is at.is).1
@@ -75,12 +75,11 @@ module _ {V : Type 0} where
   -- what was read of the room is its part's leaf
   pub leaf_is : {m : Lodged V} {at : Id} (links : Links) {l : Leaf} (h : Has m at) {p : LeafPart V} → leaves_in m (number_of at) ≡ Some p → AreLinks m at links
       → l ≡ leaf_of links → l ≡ p.leaf
-  leaf_is links h said are is = is ∙ ap leaf_of (are h.room h.at) ∙ ap (λ q. q.leaf) (inside (sym (own_said h) ∙ said))
+  leaf_is links h said are is = search (arith, inside, own_said)
 
   pub unlinked : (m new : Lodged V) {l k : Leaf} → l ≡ k → ((n : ℕ) → leaves_in new n ≡ link_out l n (leaves_in m n)) → KeepsHeads m new → KeepsMasks m new
       → IsUnlinked m new k
-  unlinked m new same leaves heads masks =
-      record { leaves = λ n. leaves n ∙ ap (λ z. link_out z n (leaves_in m n)) same; heads = heads; masks = masks }
+  unlinked m new same leaves heads masks = search arith
 
   -- ---- its neighbours
   module _ {m : Lodged V} {whole : Part m} {n : ℕ} (p : LeafPart V) (b : IsMember m whole n p) where
@@ -141,9 +140,7 @@ module _ {V : Type 0} where
       (b : IsMember m w.part n p) → p.leaf.next ≡ None
       → (p.leaf.previous ≡ None → (behind : Id) × (p.leaf.next ≡ Some behind)) → ((k : ℕ) → bits_in new k ≡ bits_in m k)
       → IsLeft m new b.x.entry.key w.part b.part b.front b.back root
-  left_kept {m = m} new w b next first bits =
-      kept_at m new b.x.entry.key w.part b.part b.ups b.front b.back b.way w.top w.named (front_named b.front (b.x ∷ b.back) b.is b.split)
-      (λ none. none_some (sym next ∙ (first (ap (λ q. q.leaf.previous) b.part_is ∙ none)).1)) bits
+  left_kept {m = m} new w b next first bits = search (arith, kept_at, front_named, none_some)
 
   abbrev pub out_chain : (m new : Lodged V) {root name : Node} {late : ℕ → Bool} (w : IsWholeBut m root late nobody_out) {n : ℕ} (p : LeafPart V)
       (b : IsMember m w.part n p) → IsUnlinked m new p.leaf → IsLeft m new b.x.entry.key w.part b.part b.front b.back name

@@ -6,7 +6,7 @@ use Rattle.radix_tree.proofs.Words.{⊎_elim, ◌≡◌, ℕ, ◌≤◌, ◌⊎�
 use Rattle.radix_tree.proofs.Words.{subst, inl, inr, arith, eqb-true, eq-eqb, is_some, Has, Id, Leaf, Node, LeafOf, Placed, leaf, IsAmong, IsIn, LeafPart}
 use Rattle.radix_tree.proofs.Words.{BitPart, Part, leaves_in, bits_in, masks_in, name_of, Way, one_if, members_at, HaveOneFork, HasOneFork, shown, shown_entry}
 use Rattle.radix_tree.proofs.Words.{root_after, Gains, IsWholeBut, is_of_key, has_key, nobody_late, late_at, nobody_out, out_at, Content, content_of}
-use Rattle.radix_tree.proofs.Words.{KeepsRoutes, name_back, link_out, Lodged, number_of}
+use Rattle.radix_tree.proofs.Words.{KeepsRoutes, link_out, Lodged, number_of}
 use Rattle.radix_tree.proofs.ChainLinks.{out_others, last_among, first_among}
 use Rattle.radix_tree.proofs.ChainLists.{members_append, members_more, among_own, among_less, others_idle}
 use Rattle.radix_tree.proofs.ChainNeighbours.{IsMember, leaf_chain, member_once, own_out, IsUnlinked, before_there, behind_there, IsLeft, out_chain}
@@ -14,8 +14,7 @@ use Rattle.radix_tree.proofs.ChainNeighbours.{IsMember, leaf_chain, member_once,
 module _ {V : Type 0} where
   -- ---- each room keeps its route
   pub unlinked_routes : (m new : Lodged V) (l : Leaf) → ((n : ℕ) → leaves_in new n ≡ link_out l n (leaves_in m n)) → KeepsRoutes m new
-  unlinked_routes m new l is n = ap content_of (is n)
-      ∙ next_same l.previous l.next n (name_back l.next l.above l.previous n (leaves_in m n)) ∙ back_same l.next l.above l.previous n (leaves_in m n)
+  unlinked_routes m new l is n = search (arith, next_same, back_same)
 
   pub routes_some : (m new : Lodged V) → KeepsRoutes m new → (n : ℕ) → is_some (leaves_in new n) ≡ is_some (leaves_in m n)
   routes_some m new keeps n = content_used (leaves_in new n) (leaves_in m n) (keeps n)
@@ -29,7 +28,7 @@ module _ {V : Type 0} where
   content_key key (Some p) = refl
 
   pub routes_key : (m new : Lodged V) → KeepsRoutes m new → (key n : ℕ) → has_key new key n ≡ has_key m key n
-  routes_key m new keeps key n = sym (content_key key (leaves_in new n)) ∙ ap (of_key key) (keeps n) ∙ content_key key (leaves_in m n)
+  routes_key m new keeps key n = search (arith, content_key)
 
   -- ---- the whole
   module _ {m : Lodged V} {root : Node} {n : ℕ} (w : IsWholeBut m root (late_at n) nobody_out) (p : LeafPart V) (b : IsMember m w.part n p) where
@@ -56,15 +55,13 @@ module _ {V : Type 0} where
 
   pub left_bits : {m new : Lodged V} {key : ℕ} {whole at : Part m} {front back : List (Placed V)} {name : Node} → IsLeft m new key whole at front back name
       → (n : ℕ) → is_some (bits_in new n) ≡ is_some (bits_in m n)
-  left_bits {m = m} {key = key} {at = at} l n = ap is_some (l.bits n) ∙ turn_used at.above key n (LeafOf l.cons.first.room) (bits_in m n)
+  left_bits {m = m} {key = key} {at = at} l n = search (arith, turn_used)
 
   -- ---- the other rooms of the key
   way_spare : (m : Lodged V) (key : ℕ) (whole at : Part m) (ups : List (Part m)) → Way key whole at ups → HaveOneFork (bits_in m) whole.tree
       → HaveOneFork (bits_in m) at.tree
   way_spare m key whole at [] way spare = subst (λ p. HaveOneFork (bits_in m) p.tree) (sym way) spare
-  way_spare m key whole at (p ∷ ps) way spare =
-      let both = subst (HaveOneFork (bits_in m)) way.0.at.is (way_spare m key whole p ps way.1 spare) in
-      elim way.0.side [ inl e ↦ subst (HaveOneFork (bits_in m)) (sym e.0) both.0 | inr e ↦ subst (HaveOneFork (bits_in m)) (sym e.0) both.1 ]
+  way_spare m key whole at (p ∷ ps) way spare = search (arith, way_spare m key whole p ps way.1 spare)
 
   -- a room of a key says so
   record IsOfKey (said : Option (LeafPart V)) (key : ℕ) : Type 0 where

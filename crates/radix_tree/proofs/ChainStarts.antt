@@ -81,9 +81,7 @@ module _ {V : Type 0} where
         ]
 
     pub few_at : steps ≤ 34
-    few_at =
-        let most = (chain_route c.key c.top c.members c.is b.is b.among).rank in let few = b.few in
-        omega arith
+    few_at = search (arith, chain_route)
 
     pub ended : before ≡ None → first_room c.members ≡ Some at
-    ended none = elim b.prior [ inl first ↦ first.0 ∙ ap Some b.room_is | inr w ↦ absurd (none_some (sym none ∙ w.2)) ]
+    ended none = search (arith, none_some)

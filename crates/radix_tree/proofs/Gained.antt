@@ -130,10 +130,7 @@ module _ {V : Type 0} where
   said_key m key n (Some p) is e = (p, is, e)
 
   pub still_key : (m new last : Lodged V) (key n : ℕ) → KeepsButAbove m new → KeepsLeaves new last → has_key m key n ≡ true → has_key last key n ≡ true
-  still_key m new last key n keeps leaves has =
-      let s = said_key m key n (leaves_in m n) refl has in
-      let k = keeps n s.0 s.1 in
-      ap (is_of_key key) (leaves n ∙ k.1) ∙ s.2
+  still_key m new last key n keeps leaves has = search (arith, said_key)
 
   -- ---- a route that goes
   pub record IsLost (m new : Lodged V) (root : Node) (after : Option Node) (key rank : ℕ) (e : Entry V) : Type 0 where

@@ -2,7 +2,7 @@
 use Rattle.radix_tree.proofs.{RoomReads.inside, RoomReads.none_some, RoomReads.Has-leaf, PartRooms.elsewhere, PartRooms.way_once, PartRooms.spine_out}
 use Rattle.radix_tree.proofs.{Lodging.stays, Lodging.new_turn, JoinSides.side_is, JoinSides.side_stands, JoinSides.side_forks}
 use Rattle.radix_tree.proofs.Words.{◌≡◌, ◌+◌, ◌≤◌, ◌==◌, Bool, true, false, if◌then◌else◌, List, [], ◌∷◌, Option, Some, None, refl, sym, ap, ◌∙◌, arith, ℕ}
-use Rattle.radix_tree.proofs.Words.{eq-eqb, ne_eqb, is_some, Has, Id, Node, LeafOf, BitOf, Tree, BitPart, Part, bit_part, leaf_in, leaves_in, bits_in, name_of}
+use Rattle.radix_tree.proofs.Words.{eq-eqb, ne_eqb, is_some, Has, Id, Node, LeafOf, BitOf, Tree, BitPart, Part, leaf_in, leaves_in, bits_in, name_of}
 use Rattle.radix_tree.proofs.Words.{Way, one_if, forks_at, name_child, with_child, AreOnce, IsApart, IsLone, put_bit, put_head, bit_above, lift_bit, Lodged}
 use Rattle.radix_tree.proofs.Words.{number_of}
 
@@ -30,7 +30,7 @@ lift_none (LeafOf room) above n = refl
 lift_none (BitOf room) above n = both_none (n == number_of room) (bit_above above None) None refl refl
 
 pub put_here : (room : Id) (said : Option BitPart) → put_bit room None (number_of room) said ≡ None
-put_here room said = ap (λ t. if t then bit_part room.block None else said) (eq-eqb (number_of room) (number_of room) refl)
+put_here room said = search (arith, eq-eqb)
 
 -- ---- a room that is a bit node stays one
 pub turned_used : (key : ℕ) (to : Node) (said : Option BitPart) → is_some (with_child key to said) ≡ is_some said
@@ -39,8 +39,7 @@ turned_used key to (Some p) = refl
 
 pub turn_used : (above : Option Id) (key n : ℕ) (to : Node) (said : Option BitPart) → is_some (name_child above key to n said) ≡ is_some said
 turn_used None key n to said = refl
-turn_used (Some over) key n to said =
-    elim (n == number_of over) as (λ t. is_some (if t then with_child key to said else said) ≡ is_some said) [ true ↦ turned_used key to said | false ↦ refl ]
+turn_used (Some over) key n to said = search (arith, turned_used)
 
 module _ {V : Type 0} where
   -- ---- a room that is there
@@ -50,8 +49,7 @@ module _ {V : Type 0} where
   -- ---- the node beneath stays as it is while the bit nodes above it are written
   pub quiet : {t : Tree V} (up : Id) {above : Option Id} (key : ℕ) (to : Node) (n : ℕ) (said : Option BitPart) → IsApart t up above → 1 ≤ forks_at n t
       → put_bit up None n (name_child above key to n said) ≡ said
-  quiet up {above = above} key to n said apart some =
-      put_off up n (name_child above key to n said) (apart.up_is n some) ∙ new_turn above key n to said (λ over is. apart.above_is over is n some)
+  quiet up {above = above} key to n said apart some = search (arith, put_off, new_turn)
 
   pub below_stays : (m with_child put : Lodged V) (p : Part m) (up : Id) {above : Option Id} (key : ℕ) (to : Node) → name_of p.tree ≡ to
       → IsApart p.tree up above → ((n : ℕ) → leaves_in with_child n ≡ leaves_in m n) → ((n : ℕ) → leaves_in put n ≡ leaves_in with_child n)
@@ -65,7 +63,7 @@ module _ {V : Type 0} where
   -- ---- the other side of the bit node above a lone leaf
   out_of_above : (m : Lodged V) (key : ℕ) (whole at : Part m) (ups : List (Part m)) (over : Id) → Way key whole at ups → whole.above ≡ None
       → AreOnce whole.tree → at.above ≡ Some over → (n : ℕ) → 1 ≤ forks_at n at.tree → n ≡ number_of over → ⊥
-  out_of_above m key whole at [] over way top once is n some same = none_some (sym top ∙ sym (ap (λ p. p.above) way) ∙ is)
+  out_of_above m key whole at [] over way top once is n some same = search (arith, none_some)
   out_of_above m key whole at (p ∷ ps) over way top once is n some same =
       let b = way.0 in
       let out = (spine_out m b (way_once key whole p ps way.1 once)).0 in

@@ -8,9 +8,7 @@ use Rattle.radix_tree.proofs.MaskLists.{falls_wider, falls_among, falls_appended
 use Rattle.radix_tree.proofs.JoinSides.{side_is, side_stands, side_forks, side_in, in_side, side_list, side_lists, side_home}
 
 unmarked_marked : {A : Type 0} (K : Masks) (x y : Placed A) → K (number_of x.room) ≡ None → x ≡ y → IsMarked K y → ⊥
-unmarked_marked {A = A} K x y none same marked =
-    let never = ap is_some (ap (λ p. K (number_of p.room)) (sym same) ∙ none) in
-    true≢false (sym marked ∙ never)
+unmarked_marked {A = A} K x y none same marked = search (arith, true≢false)
 
 module _ {V : Type 0} where
   -- one of the members is in a room, or none
@@ -99,8 +97,7 @@ module _ {V : Type 0} where
 
   pub fork_of : (t : Tree V) {room : Id} → name_of t ≡ BitOf room → IsForkOf t room
   fork_of (leaf x xs) named = cc
-  fork_of (fork i b zero one) {room = room} named = let same : i ≡ room = cc in
-      record { bit = b; zero = zero; one = one; is = ap (λ j. fork j b zero one) same }
+  fork_of (fork i b zero one) {room = room} named = search arith
 
   pub record IsLeafOf (t : Tree V) (room : Id) : Type 0 where
     pub first : Placed V

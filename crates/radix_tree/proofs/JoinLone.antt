@@ -53,7 +53,7 @@ module _ {V : Type 0} where
   -- ---- and the bit node above it
   lone_over : (m : Lodged V) (whole : Part m) (at up : Id) (y : Placed V) (under : Part m) (ups : List (Part m)) → y.room ≡ at → under.tree ≡ leaf y []
       → under.above ≡ Some up → Way y.entry.key whole under ups → whole.above ≡ None → AreOnce whole.tree → IsLone m whole at up
-  lone_over m whole at up y under [] room_is tree above way top once = absurd (none_some (sym top ∙ sym (ap (λ p. p.above) way) ∙ above))
+  lone_over m whole at up y under [] room_is tree above way top once = search (arith, none_some)
   lone_over m whole at up y under (q ∷ qs) room_is tree above way top once =
       let b = way.0 in
       let found = sides_of b in
@@ -91,4 +91,4 @@ module _ {V : Type 0} where
   -- what the room says
   pub lone_said : (m : Lodged V) {whole : Part m} {at up : Id} (l : IsLone m whole at up)
       → leaves_in m (number_of at) ≡ Some (leaf_part l.route (Some up) None None)
-  lone_said m l = ap (λ i. leaves_in m (number_of i)) (sym l.room_is) ∙ (side_own_stands l.sides (leaves_in m) (bits_in m) l.over.above l.over.stands).0
+  lone_said m l = search (arith, side_own_stands)

@@ -29,9 +29,7 @@ module _ {V : Type 0} where
 
     pub key_read : {whole : Part m} {up : Id} (links : Links) {l : Leaf} (f : IsLone m whole at up) → AreLinks m at links → l ≡ leaf_of links
         → f.route.entry.key ≡ l.key
-    key_read {up = up} links f are is =
-        let same = inside (sym (lone_said m f) ∙ ap leaf_in h.at) in
-        ap (λ p. p.leaf.key) same ∙ ap (λ z. z.key) (read_is links are is)
+    key_read {up = up} links f are is = search (arith, inside, lone_said, read_is)
 
   -- ---- the bit node above
   module _ {m : Lodged V} {whole : Part m} {at up : Id} (l : IsLone m whole at up) where
@@ -87,15 +85,7 @@ module _ {V : Type 0} where
         → ((n : ℕ) → leaves_in handed n ≡ leaves_in m n) → ((n : ℕ) → bits_in handed n ≡ bits_in m n)
         → ((n : ℕ) → leaves_in new n ≡ lift_leaf to above n (leaves_in handed n))
         → ((n : ℕ) → bits_in new n ≡ lift_bit to above n (put_bit up None n (name_child above key to n (bits_in handed n)))) → IsJoined m new whole at up l
-    joined handed new {above = above} {key = key} {to = to} above_is key_is to_is leaves bits new_leaves new_bits = record {
-      leaves = λ n. new_leaves n ∙ ap (lift_leaf to above n) (leaves n) ∙ ap (λ z. lift_leaf z above n (leaves_in m n)) (sym to_is)
-          ∙ ap (λ o. lift_leaf (name_of l.other) o n (leaves_in m n)) (sym above_is);
-      bits = λ n. new_bits n ∙ ap (λ said. lift_bit to above n (put_bit up None n (name_child above key to n said))) (bits n)
-          ∙ ap (λ z. lift_bit z above n (put_bit up None n (name_child above key z n (bits_in m n)))) (sym to_is)
-          ∙ ap (λ o. lift_bit (name_of l.other) o n (put_bit up None n (name_child o key (name_of l.other) n (bits_in m n)))) (sym above_is)
-          ∙ ap (λ k. lift_bit (name_of l.other) l.over.above n (put_bit up None n (name_child l.over.above k (name_of l.other) n (bits_in m n))))
-          (sym key_is);
-    }
+    joined handed new {above = above} {key = key} {to = to} above_is key_is to_is leaves bits new_leaves new_bits = search arith
 
   -- ---- of the rooms of a key one at most is a bit node
   chain_others : (B : Bits) (xs : List (Placed V)) (y z : Placed V) → HasOneFork B xs → IsAmong y xs → IsAmong z xs → (number_of z.room ≡ number_of y.room → ⊥)

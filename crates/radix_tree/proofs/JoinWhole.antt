@@ -6,7 +6,7 @@ use Rattle.radix_tree.proofs.{WholeRoutes.loses_spliced, JoinLists.same_rank_at,
 use Rattle.radix_tree.proofs.Words.{◌≡◌, ◌+◌, ◌<◌, ◌≤◌, ◌==◌, true, false, Some, None, inl, inr, refl, sym, ap, ◌∙◌, subst, arith, ℕ, eqb-true, eq-eqb, is_some}
 use Rattle.radix_tree.proofs.Words.{Id, Node, Placed, Tree, leaf, fork, IsIn, IsTree, LeafPart, Part, leaves_in, bits_in, heads_in, masks_in, name_of, one_if}
 use Rattle.radix_tree.proofs.Words.{leaves_at, forks_at, shown, shown_entry, name_child, root_after, AreOnce, Gains, IsExchange, Exchanged, IsLone, IsHanded}
-use Rattle.radix_tree.proofs.Words.{IsWholeBut, nobody_late, nobody_out, late_at, out_at, content_of, KeepsRoutes, put_bit, lift_leaf, lift_bit, Lodged}
+use Rattle.radix_tree.proofs.Words.{IsWholeBut, nobody_late, nobody_out, late_at, out_at, KeepsRoutes, put_bit, lift_leaf, lift_bit, Lodged}
 use Rattle.radix_tree.proofs.Words.{true≢false, number_of}
 use Rattle.radix_tree.proofs.Beside.{misses_leaf, misses_bit, named_leaf, named_bit}
 use Rattle.radix_tree.proofs.JoinSides.{side_is, side_says, side_leaves, side_in, in_side, side_have, home_side, side_spare, side_gains}
@@ -16,8 +16,7 @@ module _ {V : Type 0} where
   -- a tree whose bits are past one is one whose bits are past a lower one
   pub lower : (low high : ℕ) (t : Tree V) → low ≤ high → IsTree high t → IsTree low t
   lower low high (leaf x xs) le is = let most = is.0 in (omega arith, is.1)
-  lower low high (fork room b zero one) le is =
-      let rises = is.0.rises in (record { rises = omega arith; within = is.0.within; agree = is.0.agree; zeros = is.0.zeros; ones = is.0.ones }, is.1, is.2)
+  lower low high (fork room b zero one) le is = search arith
 
   -- what the rooms say once the bit node is gone
   pub record IsJoined (m new : Lodged V) (whole : Part m) (at up : Id) (l : IsLone m whole at up) : Type 0 where
@@ -87,24 +86,17 @@ module _ {V : Type 0} where
 
     -- ---- what the rooms say
     pub routes_kept : {new : Lodged V} → IsJoined m new whole at up l → KeepsRoutes m new
-    routes_kept j n = ap content_of (j.leaves n) ∙ content_lift (name_of l.other) l.over.above n (leaves_in m n)
+    routes_kept j n = search (arith, content_lift)
 
     -- a room that is no bit node stays none
     pub idle_stays : {new : Lodged V} → IsJoined m new whole at up l → (n : ℕ) → bits_in m n ≡ None → bits_in new n ≡ None
-    idle_stays j n none = j.bits n ∙ ap (lift_bit (name_of l.other) l.over.above n) (ap (put_bit up None n)
-        (ap (name_child l.over.above l.route.entry.key (name_of l.other) n) none
-        ∙ turn_none l.over.above l.route.entry.key n (name_of l.other)) ∙ put_none up n) ∙ lift_none (name_of l.other) l.over.above n
+    idle_stays j n none = search (arith, turn_none, put_none, lift_none)
 
     pub freed : {new : Lodged V} → IsJoined m new whole at up l → bits_in new (number_of up) ≡ None
-    freed j = j.bits (number_of up) ∙ ap (lift_bit (name_of l.other) l.over.above (number_of up))
-        (put_here up (name_child l.over.above l.route.entry.key (name_of l.other) (number_of up) (bits_in m (number_of up))))
-        ∙ lift_none (name_of l.other) l.over.above (number_of up)
+    freed j = search (arith, put_here, lift_none)
 
     same_bits : (new : Lodged V) → IsJoined m new whole at up l → (n : ℕ) → (n ≡ number_of up → ⊥) → is_some (bits_in new n) ≡ is_some (bits_in m n)
-    same_bits new j n other = ap is_some (j.bits n)
-        ∙ lift_used (name_of l.other) l.over.above n (put_bit up None n (name_child l.over.above l.route.entry.key (name_of l.other) n (bits_in m n)))
-        ∙ ap is_some (put_off up n (name_child l.over.above l.route.entry.key (name_of l.other) n (bits_in m n)) other)
-        ∙ turn_used l.over.above l.route.entry.key n (name_of l.other) (bits_in m n)
+    same_bits new j n other = search (arith, lift_used, put_off, turn_used)
 
     fork_count : (new : Lodged V) → IsJoined m new whole at up l → (n : ℕ)
         → forks_at n l.other + one_if (is_some (bits_in m n)) ≡ forks_at n l.over.tree + one_if (is_some (bits_in new n))
@@ -212,7 +204,4 @@ module _ {V : Type 0} where
   -- the leaf of the route that goes stays as it is
   pub own_leaf : {m new : Lodged V} {whole : Part m} (at : Id) {up : Id} (l : IsLone m whole at up) → IsJoined m new whole at up l
       → leaves_in new (number_of at) ≡ leaves_in m (number_of at)
-  own_leaf {m = m} at l j = j.leaves (number_of at) ∙ misses_leaf (name_of l.other) (number_of at) (λ r is same.
-      let there = named_leaf l.other r is in
-      let here = ap (λ k. leaves_at k l.other) same in
-      let none = (own_room l).0 in absurd (omega arith)) l.over.above (leaves_in m (number_of at))
+  own_leaf {m = m} at l j = search (arith, misses_leaf, named_leaf, own_room)

@@ -32,7 +32,7 @@ module _ {V : Type 0} where
     list_at = IsMaskList (masks_in m) (heads_in m (number_of node)) y.home.part.low y.home.at.bit (MarkedIn (masks_in m) (tree_of y.home))
 
     in_home : IsIn y.is (tree_of y.home)
-    in_home = let h = y.home in subst (IsIn y.is) h.at.is (way_leads m {address = y.is.entry.key} whole h.part h.ups h.way y.is y.inside refl)
+    in_home = search (arith, way_leads)
 
     to_whole : (x : Placed V) → IsIn x (tree_of y.home) → IsIn x whole.tree
     to_whole x is = home_inside y.home x is
@@ -60,14 +60,11 @@ module _ {V : Type 0} where
 
     aside_of : (l : list_at) (x : Placed V) → IsIn x whole.tree
         → (IsIn x y.home.part.tree → y.home.part.low ≤ x.entry.rank → x.entry.rank ≤ y.home.at.bit → ⊥) → IsAside (number_of x.room) l.masks
-    aside_of l x in_x out z among same =
-        let range = falls_among y.home.part.low (y.home.at.bit + 1) l.masks l.falls z among in
-        let below = range.1 in
-        out_of_range x in_x out z (l.within z among).0 range.0 (omega arith) same
+    aside_of l x in_x out z among same = search (arith, falls_among, out_of_range)
 
     not_room : (x : Placed V) → IsIn x whole.tree → (IsIn x y.home.part.tree → y.home.part.low ≤ x.entry.rank → x.entry.rank ≤ y.home.at.bit → ⊥)
         → number_of x.room ≡ number_of room → ⊥
-    not_room x in_x out same = out_of_range x in_x out y.is in_home y.home.past y.home.within (ap (λ i. (number_of i)) y.room_is ∙ sym same)
+    not_room x in_x out same = search (arith, out_of_range, in_home)
 
     no_rank : (l : list_at) → masks_in m (number_of room) ≡ None → IsNoRank y.is.entry.rank l.masks
     no_rank l unmarked x among same =
@@ -78,10 +75,7 @@ module _ {V : Type 0} where
 
   marks_more : {m : Lodged V} (new : Lodged V) {node : Id} (room : Id) → IsSortedIn m new node room → (x : Placed V) → IsMarked (masks_in m) x
       → IsMarked (masks_in new) x
-  marks_more new room s x marked = elim (cases_eq (number_of x.room) (number_of room)) [
-    | inl same ↦ ap (λ n. is_some (masks_in new n)) same ∙ s.marked
-    | inr other ↦ s.marks (number_of x.room) other ∙ marked
-  ]
+  marks_more new room s x marked = search (arith, cases_eq)
 
   -- the list has the route and those of before
   list_more : (m new : Lodged V) (whole : Part m) (room node : Id) (y : Homed m whole room node) → list_at y → masks_in m (number_of room) ≡ None
@@ -152,7 +146,7 @@ module _ {V : Type 0} where
 
   not_marked : {m : Lodged V} (new : Lodged V) {node room : Id} → IsTakenOut m new node room → (x : Placed V) → IsMarked (masks_in new) x
       → number_of x.room ≡ number_of room → ⊥
-  not_marked new s x marked same = true≢false (sym marked ∙ ap (λ n. is_some (masks_in new n)) same ∙ ap is_some s.unmarked)
+  not_marked new s x marked same = search (arith, true≢false)
 
   -- the list has all but the route
   list_less : (m new : Lodged V) (whole : Part m) (room : Id) {node : Id} (y : Homed m whole room node) → list_at y → IsMarked (masks_in m) y.is

@@ -3,7 +3,7 @@ use Rattle.radix_tree.proofs.{Scans.ended_at, Parts.among_leaf, Parts.way_leads,
 use Rattle.radix_tree.proofs.{Listed.settled, WholeParts.later_than, ListedHomes.chain_of, ListedHomes.in_chain, JoinLone.tree_room}
 use Rattle.radix_tree.proofs.Words.{◌≡◌, ℕ, ◌+◌, ◌<◌, ◌≤◌, ◌==◌, Bool, true, false, not, ◌&&◌, List, [], ◌∷◌, Option, Some, None, refl, sym, ap, ◌∙◌, subst}
 use Rattle.radix_tree.proofs.Words.{inl, inr, arith, eqb-true, eq-eqb, is_some, Has, leaf_of, mask_node_of, Id, Leaf, Links, MaskNode, Node, Placed, IsAmong}
-use Rattle.radix_tree.proofs.Words.{IsIn, IsChain, LeafPart, Leaves, Part, Run, leaves_in, bits_in, masks_in, mask_in, mask_part, first_room, leaf_part}
+use Rattle.radix_tree.proofs.Words.{IsIn, IsChain, LeafPart, Leaves, Part, Run, leaves_in, masks_in, mask_part, first_room, leaf_part}
 use Rattle.radix_tree.proofs.Words.{ChainStands, one_if, KeepsLeaves, IsWholeBut, is_of_key, has_key, nobody_out, Lodged, true≢false, number_of}
 use Rattle.radix_tree.proofs.RoomReads.{inside, none_some, AreLinks, Has-leaf, leaf_read}
 use Rattle.radix_tree.proofs.TreeMembers.{IsHead, head_of, tree_said}
@@ -30,7 +30,7 @@ module _ {V : Type 0} where
   -- ---- one room
   module _ {m : Lodged V} {room : Id} (h : Has m room) where
     mask_said : (links : Links) → AreLinks m room links → masks_in m (number_of room) ≡ mask_part h.room.block (mask_node_of links)
-    mask_said links are = ap mask_in h.at ∙ ap (λ l. mask_part h.room.block (mask_node_of l)) (sym (are h.room h.at))
+    mask_said links are = search arith
 
     pub mask_none : (links : Links) → AreLinks m room links → mask_node_of links ≡ None → masks_in m (number_of room) ≡ None
     mask_none links are none = mask_said links are ∙ ap (mask_part h.room.block) none
@@ -59,8 +59,7 @@ module _ {V : Type 0} where
   chain_left : (L : Leaves V) (above previous : Option Id) (key top : ℕ) (c : List (Placed V)) → IsChain key top c → ChainStands L above previous c
       → left_at L (first_room c) ≤ top
   chain_left L above previous key top [] is stands = omega arith
-  chain_left L above previous key top (x ∷ c) is stands =
-      let same = ap left_of stands.0 in let below = is.2 in omega arith
+  chain_left L above previous key top (x ∷ c) is stands = search arith
 
   -- ---- the walk
   -- in the rooms of m, whose leaves the rooms of now have too: what is left of the chain of a key; all routes of this key
@@ -76,10 +75,7 @@ module _ {V : Type 0} where
   -- ---- its begin
   key_said : (m : Lodged V) (p : Part m) (y : Placed V) (q : LeafPart V) {n : ℕ} → IsIn y p.tree → number_of y.room ≡ n → leaves_in m n ≡ Some q
       → (q.leaf.key ≡ y.entry.key) × (q.block ≡ y.room.block)
-  key_said m p y q is same said =
-      let t = tree_said (leaves_in m) (bits_in m) p.above p.tree p.stands y is in
-      let parts = inside (sym t.3 ∙ ap (leaves_in m) same ∙ said) in
-      (ap (λ z. z.leaf.key) (sym parts), ap (λ z. z.block) (sym parts))
+  key_said m p y q is same said = search (arith, tree_said, inside)
 
   pub of_key : (key : ℕ) (o : Option (LeafPart V)) → is_of_key key o ≡ true → (q : LeafPart V) × (o ≡ Some q) × (q.leaf.key ≡ key)
   of_key key None is = absurd (true≢false (sym is))
@@ -129,7 +125,7 @@ module _ {V : Type 0} where
   part_at rest x = leaf_part x.first rest.above rest.previous (first_room x.behind)
 
   said_at : (m : Lodged V) (rest : Run m) {room : Id} (x : IsHead rest.members room) → leaves_in m (number_of room) ≡ Some (part_at rest x)
-  said_at m rest x = ap (λ i. leaves_in m (number_of i)) (sym x.room_is) ∙ (subst (ChainStands (leaves_in m) rest.above rest.previous) x.is rest.stands).0
+  said_at m rest x = search arith
 
   pub Has-at : {m now : Lodged V} (new : Lodged V) {root : Node} {late : ℕ → Bool} {key : ℕ} {at : Option Id} {room : Id}
       → Left m now root late key at → KeepsLeaves m new → at ≡ Some room → Has new room
@@ -138,8 +134,7 @@ module _ {V : Type 0} where
 
   next_read : (m new : Lodged V) (rest : Run m) (room : Id) (links : Links) (l : Leaf) (x : IsHead rest.members room) → KeepsLeaves m new
       → AreLinks new room links → l ≡ leaf_of links → l.next ≡ first_room x.behind
-  next_read m new rest room links l x kept are leaf =
-      ap (λ z. z.next) (leaf ∙ leaf_read new room links (kept (number_of room) ∙ said_at m rest x) (ap (λ i. i.block) x.room_is) are)
+  next_read m new rest room links l x kept are leaf = search (arith, leaf_read, said_at)
 
   abbrev run_behind : (m : Lodged V) (rest : Run m) {room : Id} → IsHead rest.members room → Run m
   run_behind m rest x = record {
@@ -178,14 +173,7 @@ module _ {V : Type 0} where
   pub nearer : (m now new : Lodged V) {root : Node} {late : ℕ → Bool} {key : ℕ} {at : Option Id} (room : Id) (links : Links) {f : Leaf}
       (l : Left m now root late key at) → at ≡ Some room → KeepsLeaves m now → KeepsLeaves m new → AreLinks new room links → f ≡ leaf_of links
       → left_at (leaves_in new) f.next < left_at (leaves_in now) at
-  nearer m now new room links {f = f} l is was kept are leaf =
-      let x = head_at l is in
-      let r = run_behind m l.rest x in
-      let next = next_read m new l.rest room links f x kept are leaf in
-      let few = chain_left (leaves_in m) r.above r.previous r.key r.top x.behind r.is r.stands in
-      let far = ap (left_at (leaves_in now)) is ∙ ap left_of (was (number_of room) ∙ said_at m l.rest x) in
-      let near = ap (left_at (leaves_in new)) next ∙ left_same (leaves_in new) (leaves_in m) (first_room x.behind) kept in
-      omega arith
+  nearer m now new room links {f = f} l is was kept are leaf = search (arith, head_at, next_read, chain_left, said_at, left_same)
 
   -- ---- its end
   pub ended : {m now : Lodged V} {root : Node} (late : ℕ → Bool) (key : ℕ) {at : Option Id} → Left m now root late key at → at ≡ None

@@ -121,5 +121,4 @@ module _ {V : Type 0} {m : Lodged V} where
 
   pub ended : {address : ℕ} {p : Part m} {bit : ℕ} {at : Option Id} {start now : Counter} → Through address p bit at start now → at ≡ None
       → Best address p.low (bit + 1) (In p) None
-  ended {address} {p} {bit} w is =
-      list_ends address p.low w.top (bit + 1) p.tree (λ y at least below. absurd (ended_at w.rest (w.begins ∙ is) y (w.listed y at least below))) w.tried
+  ended {address} {p} {bit} w is = search (arith, list_ends, ended_at)

@@ -1,6 +1,6 @@
 -- What stands in a table, what holds of all its entries, and what is found among them; and all this with or without an entry.
 use Rattle.radix_tree.proofs.Words.{◌≡◌, ℕ, ◌+◌, ◌≤◌, ◌⊎◌, Bool, true, false, cond, not, filter, length, is_some, IsTrue, nat_lt, nat_eq, ◌&&◌, ◌||◌, List, []}
-use Rattle.radix_tree.proofs.Words.{◌∷◌, Option, Some, None, refl, sym, ap, ◌∙◌, subst, inl, inr, suc, arith, nat_tests, find, Contains, AllByRecursion}
+use Rattle.radix_tree.proofs.Words.{◌∷◌, Option, Some, None, refl, sym, ◌∙◌, subst, inl, inr, suc, arith, nat_tests, find, Contains, AllByRecursion}
 use Rattle.radix_tree.proofs.Words.{option_or, agrees, precedes, IsRoute, IsTable, has_pair, entry_at, first_of, without, with_entry, agreeing, greater}
 use Rattle.radix_tree.proofs.Words.{greatest, best_of, AreOnePair, StandsIn, Agrees, MembersStand, MembersAreRoutes, EntryAtIsMember, FirstOfIsMember}
 use Rattle.radix_tree.proofs.Words.{BestIsMember, FirstIsGreatest, WithStands, WithKeepsOthers, WithoutLeavesNone, WithoutKeepsOthers, MembersOfWith}
@@ -13,8 +13,7 @@ use Rattle.std.proofs.lemmas.List.Folds.{find-append}
 
 -- what holds of all entries holds with one more of which it holds, and without a pair
 pub all_with : {V : Type 0} (P : Entry V → Type 0) (e : Entry V) (es : List (Entry V)) → AllByRecursion P es → P e → AllByRecursion P (with_entry e es)
-all_with P e es h k = all_append P (filter (λ x. precedes x e) es) (e ∷ filter (λ x. precedes e x) es) (all_filter P (λ x. precedes x e) es h)
-    (k, all_filter P (λ x. precedes e x) es h)
+all_with P e es h k = search (arith, all_append, all_filter)
 
 pub all_without : {V : Type 0} (P : Entry V → Type 0) (key rank : ℕ) (es : List (Entry V)) → AllByRecursion P es → AllByRecursion P (without key rank es)
 all_without P key rank es h = all_filter P (λ e. not (has_pair key rank e)) es h
@@ -27,8 +26,7 @@ all_entry_at P key rank es e h k = (all_find P (has_pair key rank) es e h k).0
 -- the greater of two is one of them
 pub greater_one : {V : Type 0} (x : Entry V) (m : Option (Entry V)) (e : Entry V) → greater x m ≡ Some e → (x ≡ e) ⊎ (m ≡ Some e)
 greater_one x None e h = inl (cc)
-greater_one x (Some f) e h =
-    elim (nat_lt x.rank f.rank) as (λ b. cond b (Some f) (Some x) ≡ Some e → (x ≡ e) ⊎ (Some f ≡ Some e)) [ true ↦ λ k. inr k | false ↦ λ k. inl (cc) ] h
+greater_one x (Some f) e h = search arith
 
 all_greatest : {V : Type 0} (P : Entry V → Type 0) (es : List (Entry V)) (e : Entry V) → AllByRecursion P es → greatest es ≡ Some e → P e
 all_greatest P [] e h k = cc
@@ -36,7 +34,7 @@ all_greatest P (x ∷ xs) e h k = elim (greater_one x (greatest xs) e k) [ inl i
 
 pub all_best_of : {V : Type 0} (P : Entry V → Type 0) (address : ℕ) (es : List (Entry V)) (e : Entry V) → AllByRecursion P es → best_of address es ≡ Some e
     → P e
-all_best_of P address es e h k = all_greatest P (agreeing address es) e (all_filter P (λ x. agrees x.rank x.key address) es h) k
+all_best_of P address es e h k = search (arith, all_greatest, all_filter)
 
 -- each entry of a list is one of its members
 pub all_members : {V : Type 0} (es : List (Entry V)) → AllByRecursion (Contains es) es
@@ -65,11 +63,7 @@ best_is_member address entries e h = all_greatest (λ x. Contains entries x × A
 -- each member of a table stands in it
 pub all_stand : {V : Type 0} (es : List (Entry V)) → IsTable es → AllByRecursion (StandsIn es) es
 all_stand [] r = tt
-all_stand (x ∷ xs) r = (
-  rw (own_pair x) refl,
-  all_both (λ f. IsTrue (precedes x f)) (StandsIn xs) (StandsIn (x ∷ xs))
-      (λ f p s. (let other : has_pair f.key f.rank x ≡ false = grind (arith, nat_tests) in rw other s)) xs r.1 (all_stand xs r.2),
-)
+all_stand (x ∷ xs) r = search (arith, own_pair, all_both, nat_tests, all_stand xs r.2)
 
 pub members_stand : {V : Type 0} → MembersStand V
 members_stand entries e r = ((λ h. (entry_at_is_member e.key e.rank entries e h).0), (λ h. all_contains (StandsIn entries) entries e (all_stand entries r) h))
@@ -142,9 +136,7 @@ without_keeps_others key rank gone_key gone_rank entries other = find_filter (ha
 
 -- so an entry stays that stood before one of another pair was put in, or another pair was taken out
 pub with_keeps : {V : Type 0} (es : List (Entry V)) (e r : Entry V) → entry_at e.key e.rank es ≡ None → StandsIn es r → StandsIn (with_entry e es) r
-with_keeps es e r none stands =
-    with_keeps_others r.key r.rank es e
-    (λ same. (let gone = sym stands ∙ (ap (λ k. entry_at k r.rank es) same.0 ∙ (ap (λ n. entry_at e.key n es) same.1 ∙ none)) in cc)) ∙ stands
+with_keeps es e r none stands = search (arith, with_keeps_others, same)
 
 pub without_keeps : {V : Type 0} (key rank : ℕ) (es : List (Entry V)) (r : Entry V) → ¬ (AreOnePair r.key r.rank key rank) → StandsIn es r
     → StandsIn (without key rank es) r
@@ -173,14 +165,7 @@ members_of_without {V} key rank entries member h =
 -- one more, unless the pair was there
 pub with_counts : {V : Type 0} → WithCounts V
 with_counts [] e r = refl
-with_counts (x ∷ xs) e r = elim (with_parts e x xs r) [
-  | later p n is ↦ rw (is, n) (
-      elim (is_some (entry_at e.key e.rank xs)) as (λ b. length (with_entry e xs) ≡ length xs + cond b 0 1
-      → suc (length (with_entry e xs)) ≡ suc (length xs) + cond b 0 1)
-      [ true ↦ λ k. omega (arith, k) | false ↦ λ k. omega (arith, k) ] (with_counts xs e r.2))
-  | same p n gone is alone ↦ rw (is, n) (omega arith)
-  | sooner p n gone is ↦ rw (is, n, gone) (omega arith)
-]
+with_counts (x ∷ xs) e r = search (arith, with_parts, later, same, sooner, with_counts xs e r.2)
 
 -- one less, where it was
 pub without_counts : {V : Type 0} → WithoutCounts V

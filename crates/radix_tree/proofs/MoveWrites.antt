@@ -2,10 +2,9 @@
 use Rattle.radix_tree.proofs.{PartRooms.frame, PartRooms.way_once, PartRooms.way_counts, PartRooms.spine_out, Forking.forks_there, Beside.misses_leaf}
 use Rattle.radix_tree.proofs.{Beside.misses_bit, WaysDown.way_to_fork, WholeParts.once_but, Lodging.over_at, Facts.none_of, Facts.off_room}
 use Rattle.radix_tree.proofs.Words.{◌≡◌, ℕ, ◌+◌, ◌≤◌, ◌==◌, true, false, List, [], ◌∷◌, Option, Some, None, refl, sym, ap, ◌∙◌, subst, arith, is_some, Has}
-use Rattle.radix_tree.proofs.Words.{bit_node_of, Id, Links, Node, BitNode, BitPart, Part, leaves_in, bits_in, heads_in, bit_in, bit_part, head_part, name_of}
-use Rattle.radix_tree.proofs.Words.{ForkAt, Way, one_if, leaves_at, forks_at, AreOnce, IsWholeBut, nobody_late, out_at, put_bit, put_head, lift_leaf, lift_bit}
-use Rattle.radix_tree.proofs.Words.{KeepsMasks, rename, content_of, KeepsRoutes, CanTake, Lodged, IsBitNode, LeafOf, BitOf, inl, inr, bit_above, if◌then◌else◌}
-use Rattle.radix_tree.proofs.Words.{number_of}
+use Rattle.radix_tree.proofs.Words.{bit_node_of, Id, Links, Node, BitNode, BitPart, Part, leaves_in, bits_in, heads_in, bit_in, bit_part, name_of, ForkAt, Way}
+use Rattle.radix_tree.proofs.Words.{one_if, leaves_at, forks_at, AreOnce, IsWholeBut, nobody_late, out_at, put_bit, put_head, lift_leaf, lift_bit, KeepsMasks}
+use Rattle.radix_tree.proofs.Words.{rename, KeepsRoutes, CanTake, Lodged, IsBitNode, LeafOf, BitOf, inl, inr, bit_above, if◌then◌else◌, number_of}
 use Rattle.radix_tree.proofs.RoomReads.{inside, none_some, AreLinks, head_read, Has-bit}
 use Rattle.radix_tree.proofs.Parts.{fork_is, fork_stands, zero_part, one_part, fork_named, bit_part_of}
 use Rattle.radix_tree.proofs.MovedReads.{one_if_is, at_room, content_lift, lift_used, rename_used, leaf_off, bit_off, Has_kept}
@@ -107,9 +106,7 @@ module _ {V : Type 0} where
     from_here = one_if_is (number_of from) v.number
 
     pub from_in : 1 ≤ forks_at (number_of from) v.at.tree
-    from_in =
-        let sum = at_forks (number_of from) in
-        let one = from_here in omega arith
+    from_in = search (arith, at_forks, from_here)
 
     -- beneath it there is no bit node of the same room
     pub not_from : (k : ℕ) → 1 ≤ forks_at k v.f.zero + forks_at k v.f.one → k ≡ number_of from → ⊥
@@ -121,10 +118,7 @@ module _ {V : Type 0} where
         let right = ap (λ j. forks_at j v.f.one) same in omega arith
 
     pub out_not_from : (k : ℕ) → forks_at k v.at.tree ≡ 0 → k ≡ number_of from → ⊥
-    out_not_from k none same =
-        let sum = at_forks (number_of from) in
-        let one = from_here in
-        let is = ap (λ j. forks_at j v.at.tree) same in omega arith
+    out_not_from k none same = search (arith, at_forks, from_here)
 
     -- the other room is no bit node of the tree
     pub not_to : (k : ℕ) → 1 ≤ forks_at k v.whole.part.tree → k ≡ number_of to → ⊥
@@ -145,7 +139,7 @@ module _ {V : Type 0} where
   -- the bit node above is in the tree, but not in the part
   pub spine_apart : (m : Lodged V) (key : ℕ) (whole at : Part m) (ups : List (Part m)) → Way key whole at ups → whole.above ≡ None → AreOnce whole.tree
       → (up : Id) → at.above ≡ Some up → (forks_at (number_of up) at.tree ≡ 0) × (1 ≤ forks_at (number_of up) whole.tree)
-  spine_apart m key whole at [] way top once up is = absurd (none_some (sym (ap (λ p. p.above) way ∙ top) ∙ is))
+  spine_apart m key whole at [] way top once up is = search (arith, none_some)
   spine_apart m key whole at (p ∷ ps) way top once up is =
       let out = spine_out m way.0 (way_once key whole p ps way.1 once) in
       let same = inside (sym way.0.above ∙ is) in
@@ -156,9 +150,7 @@ module _ {V : Type 0} where
 
   module _ {m : Lodged V} {root : Node} {from to : Id} {n : BitNode} (v : IsMove m root from to n) where
     pub not_spine : (k : ℕ) → 1 ≤ forks_at k v.at.tree → (up : Id) → n.above ≡ Some up → k ≡ number_of up → ⊥
-    not_spine k some up is same =
-        let none = (spine_apart m v.key v.whole.part v.at v.ups v.way v.whole.top v.once up (sym v.above ∙ is)).0 in
-        let e = ap (λ j. forks_at j v.at.tree) same in omega arith
+    not_spine k some up is same = search (arith, spine_apart)
 
     pub to_not_spine : (up : Id) → n.above ≡ Some up → number_of to ≡ number_of up → ⊥
     to_not_spine up is same = not_to v (number_of up) (spine_apart m v.key v.whole.part v.at v.ups v.way v.whole.top v.once up (sym v.above ∙ is)).1 (sym same)
@@ -228,8 +220,7 @@ module _ {V : Type 0} where
   -- each room has its route where the nodes beneath a bit node are lifted
   pub lifted_stay : (m new : Lodged V) (to : Id) (n : BitNode)
       → ((k : ℕ) → leaves_in new k ≡ lift_leaf n.one (Some to) k (lift_leaf n.zero (Some to) k (leaves_in m k))) → KeepsRoutes m new
-  lifted_stay m new to n leaves k = ap (λ o. content_of o) (leaves k)
-      ∙ content_lift n.one (Some to) k (lift_leaf n.zero (Some to) k (leaves_in m k)) ∙ content_lift n.zero (Some to) k (leaves_in m k)
+  lifted_stay m new to n leaves k = search (arith, content_lift)
 
   module _ {m new : Lodged V} {from to : Id} {n : BitNode} (d : IsMoved m new from to n) where
     pub contents_stay : KeepsRoutes m new
@@ -237,26 +228,17 @@ module _ {V : Type 0} where
 
     used_is : (k : ℕ) → is_some (bits_in new k) ≡ is_some (put_bit to (Some n) k
         (put_bit from None k (lift_bit n.one (Some to) k (lift_bit n.zero (Some to) k (bits_in m k)))))
-    used_is k = ap is_some (d.bits k)
-        ∙ rename_used n.above from to k (put_bit to (Some n) k (put_bit from None k (lift_bit n.one (Some to) k (lift_bit n.zero (Some to) k (bits_in m k)))))
+    used_is k = search (arith, rename_used)
 
     -- a bit node is in use in each room where one was, but for the two rooms
     pub used_stays : (k : ℕ) → (k ≡ number_of from → ⊥) → (k ≡ number_of to → ⊥) → is_some (bits_in new k) ≡ is_some (bits_in m k)
-    used_stays k other off =
-        let lift = lift_bit n.one (Some to) k (lift_bit n.zero (Some to) k (bits_in m k)) in
-        used_is k ∙ ap is_some (off_room to k (bit_part to.block (Some n))
-        (put_bit from None k (lift_bit n.one (Some to) k (lift_bit n.zero (Some to) k (bits_in m k)))) off)
-        ∙ ap is_some (off_room from k (bit_part from.block None) (lift_bit n.one (Some to) k (lift_bit n.zero (Some to) k (bits_in m k))) other)
-        ∙ lift_used n.one (Some to) k (lift_bit n.zero (Some to) k (bits_in m k)) ∙ lift_used n.zero (Some to) k (bits_in m k)
+    used_stays k other off = search (arith, used_is, off_room, lift_used)
 
     pub used_to : (k : ℕ) → k ≡ number_of to → is_some (bits_in new k) ≡ true
-    used_to k same = used_is k ∙ ap is_some (at_room to k (bit_part to.block (Some n))
-        (put_bit from None k (lift_bit n.one (Some to) k (lift_bit n.zero (Some to) k (bits_in m k)))) same)
+    used_to k same = search (arith, used_is, at_room)
 
     pub used_from : (number_of from ≡ number_of to → ⊥) → (k : ℕ) → k ≡ number_of from → is_some (bits_in new k) ≡ false
-    used_from other k same = used_is k ∙ ap is_some (off_room to k (bit_part to.block (Some n))
-        (put_bit from None k (lift_bit n.one (Some to) k (lift_bit n.zero (Some to) k (bits_in m k)))) (λ e. other (sym same ∙ e)))
-        ∙ ap is_some (at_room from k (bit_part from.block None) (lift_bit n.one (Some to) k (lift_bit n.zero (Some to) k (bits_in m k))) same)
+    used_from other k same = search (arith, used_is, off_room, at_room)
 
     pub gone : {root : Node} → IsMove m root from to n → bits_in new (number_of from) ≡ None
     gone v = none_of (bits_in new (number_of from)) (used_from (apart v) (number_of from) refl)
@@ -264,10 +246,7 @@ module _ {V : Type 0} where
     -- a room that is neither of the two
     pub bit_lifts : (k : ℕ) → (k ≡ number_of from → ⊥) → (k ≡ number_of to → ⊥)
         → bits_in new k ≡ rename n.above from to k (lift_bit n.one (Some to) k (lift_bit n.zero (Some to) k (bits_in m k)))
-    bit_lifts k other off = d.bits k ∙ ap (rename n.above from to k)
-        (off_room to k (bit_part to.block (Some n)) (put_bit from None k (lift_bit n.one (Some to) k (lift_bit n.zero (Some to) k (bits_in m k)))) off
-        ∙ off_room from k (bit_part from.block None) (lift_bit n.one (Some to) k (lift_bit n.zero (Some to) k (bits_in m k))) other)
+    bit_lifts k other off = search (arith, off_room)
 
     pub head_stays : (k : ℕ) → (k ≡ number_of from → ⊥) → (k ≡ number_of to → ⊥) → heads_in new k ≡ heads_in m k
-    head_stays k other off =
-        d.heads k ∙ off_room to k (head_part (Some n)) (put_head from None k (heads_in m k)) off ∙ off_room from k (head_part None) (heads_in m k) other
+    head_stays k other off = search (arith, off_room)

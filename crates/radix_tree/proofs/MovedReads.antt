@@ -1,6 +1,6 @@
 -- What rooms say where a bit node is renamed, moved, or has another bit node above it.
 use Rattle.radix_tree.proofs.{RoomReads.inside, RoomReads.none_some, Beside.named_leaf, Beside.named_bit, Facts.off_room}
-use Rattle.radix_tree.proofs.Words.{◌≡◌, ℕ, ◌≤◌, ◌==◌, ◌⊎◌, true, false, if◌then◌else◌, Option, Some, None, refl, sym, ap, ◌∙◌, inl, inr, arith, eq-eqb, ne_eqb}
+use Rattle.radix_tree.proofs.Words.{◌≡◌, ℕ, ◌≤◌, ◌==◌, ◌⊎◌, if◌then◌else◌, Option, Some, None, refl, sym, ap, ◌∙◌, inl, inr, arith, eq-eqb, ne_eqb}
 use Rattle.radix_tree.proofs.Words.{is_some, get, Seen, Has, Id, Node, LeafOf, BitOf, Tree, leaf, fork, LeafPart, BitPart, leaf_in, leaves_in, name_of, one_if}
 use Rattle.radix_tree.proofs.Words.{leaves_at, forks_at, lift_leaf, lift_bit, leaf_above, bit_above, renamed, with_renamed, rename, Content, content_of, Lodged}
 use Rattle.radix_tree.proofs.Words.{cases_eq, number_of}
@@ -25,10 +25,7 @@ content_above above (Some p) = refl
 
 pub content_lift : {A : Type 0} (at : Node) (above : Option Id) (n : ℕ) (said : Option (LeafPart A)) → content_of (lift_leaf at above n said) ≡ content_of said
 content_lift (BitOf room) above n said = refl
-content_lift (LeafOf room) above n said = elim (n == number_of room) as (λ t. content_of (if t then leaf_above above said else said) ≡ content_of said) [
-  | true ↦ content_above above said
-  | false ↦ refl
-]
+content_lift (LeafOf room) above n said = search (arith, content_above)
 
 pub above_used : (above : Option Id) (said : Option BitPart) → is_some (bit_above above said) ≡ is_some said
 above_used above None = refl
@@ -36,10 +33,7 @@ above_used above (Some p) = refl
 
 pub lift_used : (at : Node) (above : Option Id) (n : ℕ) (said : Option BitPart) → is_some (lift_bit at above n said) ≡ is_some said
 lift_used (LeafOf room) above n said = refl
-lift_used (BitOf room) above n said = elim (n == number_of room) as (λ t. is_some (if t then bit_above above said else said) ≡ is_some said) [
-  | true ↦ above_used above said
-  | false ↦ refl
-]
+lift_used (BitOf room) above n said = search (arith, above_used)
 
 -- ---- a bit node has another name
 renamed_used : (from to : Id) (said : Option BitPart) → is_some (with_renamed from to said) ≡ is_some said
@@ -48,10 +42,7 @@ renamed_used from to (Some p) = refl
 
 pub rename_used : (above : Option Id) (from to : Id) (n : ℕ) (said : Option BitPart) → is_some (rename above from to n said) ≡ is_some said
 rename_used None from to n said = refl
-rename_used (Some up) from to n said = elim (n == number_of up) as (λ t. is_some (if t then with_renamed from to said else said) ≡ is_some said) [
-  | true ↦ renamed_used from to said
-  | false ↦ refl
-]
+rename_used (Some up) from to n said = search (arith, renamed_used)
 
 pub rename_misses : (above : Option Id) (from to : Id) (n : ℕ) (said : Option BitPart) → ((up : Id) → above ≡ Some up → n ≡ number_of up → ⊥)
     → rename above from to n said ≡ said
@@ -59,25 +50,20 @@ rename_misses None from to n said other = refl
 rename_misses (Some up) from to n said other = off_room up n (with_renamed from to said) said (other up refl)
 
 pub renamed_to : (from to room : Id) → number_of room ≡ number_of from → renamed from to (BitOf room) ≡ BitOf to
-renamed_to from to room same = ap (λ t. if t then BitOf to else BitOf room) (eq-eqb (number_of room) (number_of from) same)
+renamed_to from to room same = search (arith, eq-eqb)
 
 module _ {V : Type 0} where
   -- a name of a tree without bit nodes in the room stays
   pub renamed_off : (from to : Id) (t : Tree V) → forks_at (number_of from) t ≡ 0 → renamed from to (name_of t) ≡ name_of t
   renamed_off from to (leaf x xs) none = refl
-  renamed_off from to (fork room b left right) none = ap (λ t. if t then BitOf to else BitOf room)
-      (ne_eqb (number_of room) (number_of from) (λ same. let own = one_if_is (number_of from) same in omega arith))
+  renamed_off from to (fork room b left right) none = search (arith, ne_eqb, one_if_is)
 
   -- a room outside of a tree is not that of its name
   pub leaf_off : (t : Tree V) {name : Node} (n : ℕ) → name ≡ name_of t → leaves_at n t ≡ 0 → (r : Id) → name ≡ LeafOf r → n ≡ number_of r → ⊥
-  leaf_off t n named none r is same =
-      let there = named_leaf t r (sym named ∙ is) in
-      let e = ap (λ k. leaves_at k t) same in omega arith
+  leaf_off t n named none r is same = search (arith, named_leaf)
 
   pub bit_off : (t : Tree V) {name : Node} (n : ℕ) → name ≡ name_of t → forks_at n t ≡ 0 → (r : Id) → name ≡ BitOf r → n ≡ number_of r → ⊥
-  bit_off t n named none r is same =
-      let there = named_bit t r (sym named ∙ is) in
-      let e = ap (λ k. forks_at k t) same in omega arith
+  bit_off t n named none r is same = search (arith, named_bit)
 
   -- ---- a room that has its route
   content_there : (m : Lodged V) (room : Id) (o : Option (Seen V)) {c : Content V} → get m (number_of room) ≡ o → content_of (leaf_in o) ≡ Some c

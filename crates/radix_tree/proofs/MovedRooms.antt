@@ -4,7 +4,7 @@ use Rattle.radix_tree.proofs.{PlugLists.marked_same, PlugLists.mask_list_same, P
 use Rattle.radix_tree.proofs.Words.{◌≡◌, ℕ, ◌+◌, ◌≤◌, ◌==◌, true, false, if◌then◌else◌, List, ◌∷◌, Some, None, refl, sym, ap, ◌∙◌, subst, inl, inr, arith}
 use Rattle.radix_tree.proofs.Words.{eqb-true, is_some, Id, Node, BitOf, BitNode, fork, bit_at, HaveBit, IsIn, Part, leaves_in, bits_in, heads_in, masks_in}
 use Rattle.radix_tree.proofs.Words.{bit_part, head_part, name_of, Stands, Beneath, Way, one_if, forks_at, HasHome, name_child, with_child, AreOnce, MarkedLists}
-use Rattle.radix_tree.proofs.Words.{nobody_late, out_at, put_bit, put_head, lift_leaf, lift_bit, IsExchange, renamed, with_renamed, rename, Lodged, IsMarked}
+use Rattle.radix_tree.proofs.Words.{nobody_late, out_at, put_bit, put_head, lift_leaf, lift_bit, IsExchange, with_renamed, rename, Lodged, IsMarked}
 use Rattle.radix_tree.proofs.Words.{[], cases_eq, MarkedIn, number_of}
 use Rattle.radix_tree.proofs.PartRooms.{way_once, zero_turned, one_turned}
 use Rattle.radix_tree.proofs.MovedReads.{one_if_is, one_if_not, at_room, rename_misses, renamed_to, renamed_off, leaf_off, bit_off, content_used}
@@ -71,20 +71,11 @@ module _ {V : Type 0} where
   module _ {m : Lodged V} {key : ℕ} {under over : Part m} (b : Beneath key under over) where
     zero_named : (from to room : Id) → name_of under.tree ≡ BitOf room → number_of room ≡ number_of from → under.tree ≡ b.at.zero → bit_at b.at.bit key ≡ 0
         → forks_at (number_of from) b.at.one ≡ 0 → with_renamed from to (Some (bit_part_of b.at)) ≡ with_child key (BitOf to) (Some (bit_part_of b.at))
-    zero_named from to room named same tree clear none =
-        let p = bit_part_of b.at in
-        let here = ap (renamed from to) (sym (ap name_of tree) ∙ named) ∙ renamed_to from to room same in
-        let there = renamed_off from to b.at.one none in
-        ap (λ z. Some (record (bit_part_of b.at) { zero = z; one = renamed from to (name_of b.at.one) })) here
-        ∙ ap (λ z. Some (record (bit_part_of b.at) { zero = BitOf to; one = z })) there ∙ sym (zero_turned key (BitOf to) (bit_part_of b.at) clear)
+    zero_named from to room named same tree clear none = search (arith, bit_part_of, renamed_to, renamed_off, zero_turned)
 
     one_named : (from to room : Id) → name_of under.tree ≡ BitOf room → number_of room ≡ number_of from → under.tree ≡ b.at.one → bit_at b.at.bit key ≡ 1
         → forks_at (number_of from) b.at.zero ≡ 0 → with_renamed from to (Some (bit_part_of b.at)) ≡ with_child key (BitOf to) (Some (bit_part_of b.at))
-    one_named from to room named same tree set none =
-        let here = ap (renamed from to) (sym (ap name_of tree) ∙ named) ∙ renamed_to from to room same in
-        let there = renamed_off from to b.at.zero none in
-        ap (λ z. Some (record (bit_part_of b.at) { zero = renamed from to (name_of b.at.zero); one = z })) here
-        ∙ ap (λ z. Some (record (bit_part_of b.at) { zero = z; one = BitOf to })) there ∙ sym (one_turned key (BitOf to) (bit_part_of b.at) set)
+    one_named from to room named same tree set none = search (arith, renamed_to, renamed_off, bit_part_of, one_turned)
 
     -- to name the room by its number is to turn the bit node above on the side of the way
     over_named : (from to room : Id) → AreOnce over.tree → 1 ≤ forks_at (number_of from) under.tree → name_of under.tree ≡ BitOf room
@@ -104,9 +95,7 @@ module _ {V : Type 0} where
   spine_named : (m : Lodged V) (from to room : Id) (key : ℕ) (whole at : Part m) (ups : List (Part m)) → Way key whole at ups → whole.above ≡ None
       → AreOnce whole.tree → 1 ≤ forks_at (number_of from) at.tree → name_of at.tree ≡ BitOf room → number_of room ≡ (number_of from)
       → (k : ℕ) → rename at.above from to k (bits_in m k) ≡ name_child at.above key (BitOf to) k (bits_in m k)
-  spine_named m from to room key whole at [] way top once some named same k =
-      let none = ap (λ p. p.above) way ∙ top in
-      ap (λ o. rename o from to k (bits_in m k)) none ∙ sym (ap (λ o. name_child o key (BitOf to) k (bits_in m k)) none)
+  spine_named m from to room key whole at [] way top once some named same k = search arith
   spine_named m from to room key whole at (p ∷ ps) way top once some named same k =
       let b = way.0 in
       ap (λ o. rename o from to k (bits_in m k)) b.above ∙ elim (k == number_of b.room) as (λ t. (k == number_of b.room) ≡ t

@@ -2,27 +2,20 @@
 use Rattle.radix_tree.proofs.{Exchanging.exchanged, Plugs.spare_at, Plugs.spare_plug, WholeChanges.whole_changed, WholeRoutes.routes_changed}
 use Rattle.radix_tree.proofs.{MovedReads.one_if_is, MovedSpare.moved_spare, MoveWrites.IsMove, MoveWrites.IsMoved, MoveWrites.used_stays, MovedRooms.under_of}
 use Rattle.radix_tree.proofs.{MovedRooms.exchange, MovedRooms.fits, Facts.one_if_most, Facts.none_of}
-use Rattle.radix_tree.proofs.Words.{◌≡◌, ℕ, ◌≤◌, ◌++◌, Some, refl, sym, ap, ◌∙◌, subst, arith, is_some, Id, Node, BitOf, BitNode, fork, routes_of, leaves_in}
+use Rattle.radix_tree.proofs.Words.{◌≡◌, ℕ, ◌≤◌, ◌++◌, Some, sym, ap, ◌∙◌, subst, arith, is_some, Id, Node, BitOf, BitNode, fork, routes_of}
 use Rattle.radix_tree.proofs.Words.{bits_in, name_of, leaves_at, HaveOneFork, shown, root_after, Exchanged, IsWholeBut, nobody_late, out_at, Lodged, number_of}
 
 module _ {V : Type 0} where
   module _ {m : Lodged V} {root : Node} (from : ℕ) (w : IsWholeBut m root nobody_late (out_at from)) where
     -- a room on its way out is no leaf of the tree
     pub out_leaf : leaves_at from w.part.tree ≡ 0
-    out_leaf =
-        let sum = w.leaves from in
-        let own = one_if_is {a = from} from refl in
-        let most = one_if_most (is_some (leaves_in m from)) in omega arith
+    out_leaf = search (arith, one_if_is, one_if_most)
 
     pub out_apart : (k : ℕ) → 1 ≤ leaves_at k w.part.tree → k ≡ from → ⊥
-    out_apart k some same =
-        let none = out_leaf in
-        let e = ap (λ j. leaves_at j w.part.tree) same in omega arith
+    out_apart k some same = search (arith, out_leaf)
 
     pub leaves_once : (k : ℕ) → leaves_at k w.part.tree ≤ 1
-    leaves_once k =
-        let sum = w.leaves k in
-        let most = one_if_most (is_some (leaves_in m k)) in omega arith
+    leaves_once k = search (arith, one_if_most)
 
   module _ {m : Lodged V} {root : Node} {from to : Id} {n : BitNode} (v : IsMove m root from to n) where
     -- in each chain of the tree of before at most one bit node is in use
@@ -48,7 +41,7 @@ module _ {V : Type 0} where
         (spare_plug (bits_in new) (bits_in new) e.frames v.at.tree (fork to v.f.bit v.f.zero v.f.one) before own (λ y aside none. none))
 
     named_now : name_now ≡ root_after n.above (BitOf to) root
-    named_now = ap (λ o. root_after o (BitOf to) (name_of v.whole.part.tree)) (sym v.above) ∙ ap (root_after n.above (BitOf to)) v.whole.named
+    named_now = search arith
 
     pub whole_moved : {new : Lodged V} {name : Node} (d : IsMoved m new from to n) → name ≡ root_after n.above (BitOf to) root
         → IsWholeBut new name nobody_late (out_at (number_of from))

@@ -22,21 +22,17 @@ module _ {V : Type 0} where
 
   pub leaf_is : {m : Lodged V} {room : Id} (links : Links) {l : Leaf} → Has m room → AreLinks m room links → l ≡ leaf_of links → {p : LeafPart V}
       → leaves_in m (number_of room) ≡ Some p → l ≡ p.leaf
-  leaf_is links h are reads said = reads ∙ ap leaf_of (are h.room h.at) ∙ ap (λ q. q.leaf) (inside (sym (ap leaf_in h.at) ∙ said))
+  leaf_is links h are reads said = search (arith, inside)
 
   pub member_is : {m : Lodged V} {room to : Id} (links : Links) {l : Leaf} {o : Option Id} → Has m room → AreLinks m room links → l ≡ leaf_of links
       → o ≡ member_beside l.next l.previous → o ≡ Some to
       → (p : LeafPart V) → leaves_in m (number_of room) ≡ Some p → (p.leaf.next ≡ Some to) ⊎ (p.leaf.previous ≡ Some to)
-  member_is links h are reads beside some p said =
-      let is = leaf_is links h are reads said in
-      beside_is p.leaf.next p.leaf.previous (ap (λ z. member_beside z.next z.previous) (sym is) ∙ sym beside ∙ some)
+  member_is links h are reads beside some p said = search (arith, leaf_is, beside_is)
 
   pub alone_is : {m : Lodged V} {room : Id} (links : Links) {l : Leaf} {o : Option Id} → Has m room → AreLinks m room links → l ≡ leaf_of links
       → o ≡ member_beside l.next l.previous → o ≡ None
       → (p : LeafPart V) → leaves_in m (number_of room) ≡ Some p → (p.leaf.next ≡ None) × (p.leaf.previous ≡ None)
-  alone_is links h are reads beside none p said =
-      let is = leaf_is links h are reads said in
-      beside_none p.leaf.next p.leaf.previous (ap (λ z. member_beside z.next z.previous) (sym is) ∙ sym beside ∙ none)
+  alone_is links h are reads beside none p said = search (arith, leaf_is, beside_none)
 
   -- ---- the other member's room takes the bit node
   same_key : (key : ℕ) {o : Option (LeafPart V)} (p : LeafPart V) → is_of_key key o ≡ true → o ≡ Some p → p.leaf.key ≡ key
@@ -44,10 +40,7 @@ module _ {V : Type 0} where
 
   pub can_take : (m : Lodged V) (from to : Id) (key : ℕ) → ((number_of to) ≡ (number_of from) → ⊥) → has_key m key (number_of to) ≡ true
       → ((n : ℕ) → has_key m key n ≡ true → (n ≡ (number_of from) → ⊥) → bits_in m n ≡ None) → CanTake m from to
-  can_take m from to key other has idle = record {
-    free = idle (number_of to) has other;
-    idle = λ p is n keyed off. idle n (ap (λ k. has_key m k n) (sym (same_key key p has is)) ∙ keyed) off;
-  }
+  can_take m from to key other has idle = search (arith, same_key)
 
   -- ---- the only route
   pub record IsOnly (t : Tree V) (n : ℕ) (p : LeafPart V) : Type 0 where
@@ -101,11 +94,7 @@ module _ {V : Type 0} where
         only_of (leaves_in m) (bits_in m) w.part.above w.part.tree n p w.part.stands (omega arith) said next previous above
 
     pub only_room : IsOnly w.part.tree n p → (k : ℕ) → (k ≡ n → ⊥) → leaves_in m k ≡ None
-    only_room o k other =
-        let count = w.leaves k in
-        let one = ap (leaves_at k) o.is in
-        let off = one_if_not (number_of o.route.room) k (λ (e : (number_of o.route.room) ≡ k). other (sym e ∙ o.number)) in
-        none_of (leaves_in m k) (no_use (is_some (leaves_in m k)) (omega arith))
+    only_room o k other = search (arith, one_if_not, none_of, no_use)
 
     pub only_shown : IsOnly w.part.tree n p → Gains (shown_entry p) [] (shown m (Some root))
     only_shown o = record {

@@ -1,7 +1,7 @@
 -- A room that is out of the tree leaves the map: the whole and its routes stay.
 use Rattle.radix_tree.proofs.{RoomReads.inside, RoomReads.none_some, PartRooms.frame, Plugs.counted_leaf, Showing.part_shown, MovedReads.content_used}
 use Rattle.radix_tree.proofs.{PlugLists.marked_same, PlugLists.lists_same, MovedSpare.tree_stays, MovedWhole.out_leaf, MovedWhole.out_apart}
-use Rattle.radix_tree.proofs.Words.{◌≡◌, ℕ, ◌+◌, ◌||◌, if◌then◌else◌, List, Option, Some, None, refl, sym, ap, ◌∙◌, inl, inr, arith, eq-eqb, ne_eqb, is_some}
+use Rattle.radix_tree.proofs.Words.{◌≡◌, ℕ, ◌+◌, if◌then◌else◌, List, Option, Some, None, refl, sym, ap, ◌∙◌, inl, inr, arith, eq-eqb, ne_eqb, is_some}
 use Rattle.radix_tree.proofs.Words.{get, Ptr, Seen, Has, bit_node_of, Id, Node, BitNode, LeafPart, MaskPart, Part, leaf_in, bit_in, head_in, mask_in, bit_part}
 use Rattle.radix_tree.proofs.Words.{head_part, leaves_in, bits_in, heads_in, masks_in, one_if, leaves_at, IsWhole, Holds, shown, Gains, IsWholeBut, HasRoomMore}
 use Rattle.radix_tree.proofs.Words.{nobody_late, out_at, content_of, KeepsRoutes, IsOut, Entry, Lodged, cases_eq, number_of}
@@ -21,10 +21,7 @@ module _ {V : Type 0} where
   get_other m n k other = get-removed m n k ∙ ap (λ t. if t then None else get m k) (ne_eqb k n other)
 
   role_stays : {A : Type 0} (f : Option (Seen V) → A) (m : Lodged V) (n : ℕ) → f (get m n) ≡ f None → (k : ℕ) → f (get (remove m n) k) ≡ f (get m k)
-  role_stays f m n none k = elim (cases_eq k n) [
-    | inl same ↦ ap (λ j. f (get (remove m n) j)) same ∙ ap f (get_out m n) ∙ sym none ∙ ap (λ j. f (get m j)) (sym same)
-    | inr other ↦ ap f (get_other m n k other)
-  ]
+  role_stays f m n none k = search (arith, cases_eq, get_out, get_other)
 
   no_head : (o : Option (Seen V)) → bit_in o ≡ None → head_in o ≡ None
   no_head None none = refl
@@ -89,10 +86,7 @@ module _ {V : Type 0} where
 
   -- ---- a room that is out, where there may be no tree left
   pub out_gone : (m : Lodged V) (rest : Option Node) (n : ℕ) → IsOut m rest n → Holds (remove m n) rest
-  out_gone m None n out = λ k. elim (cases_eq k n) [
-    | inl same ↦ ap (leaves_in (remove m n)) same ∙ ap leaf_in (get_out m n)
-    | inr other ↦ ap leaf_in (get_other m n k other) ∙ out k other
-  ]
+  out_gone m None n out = search (arith, cases_eq, get_out, get_other)
   out_gone m (Some root) n out = evicted n out.0 out.1
 
   pub out_shown : (m : Lodged V) (rest : Option Node) (n : ℕ) → IsOut m rest n → shown (remove m n) rest ≡ shown m rest
@@ -102,7 +96,7 @@ module _ {V : Type 0} where
   -- ---- a table's removal
   pub gains_stays : {e : Entry V} {old : List (Entry V)} (now : List (Entry V)) {before : List (Entry V)} (after : List (Entry V)) → Gains e old before
       → now ≡ old → after ≡ before → Gains e now after
-  gains_stays now after g same too = record { front = g.front; back = g.back; was = same ∙ g.was; now = too ∙ g.now }
+  gains_stays now after g same too = search arith
 
   -- the value that is taken is the route's
   value_of : (o : Option (Seen V)) (p : LeafPart V) (value : V) → ((s : Seen V) → o ≡ Some s → value ≡ s.value) → content_of (leaf_in o) ≡ content_of (Some p)
@@ -116,9 +110,4 @@ module _ {V : Type 0} where
 
   -- the map has one room less
   pub room_less : (m now : Lodged V) (at : Id) → Has m at → KeepsRoutes m now → HasRoomMore (remove now (number_of at)) m (number_of at)
-  room_less m now at h same k = elim (cases_eq k (number_of at)) [
-    | inl e ↦ ap (λ j. is_some (leaves_in m j)) e ∙ ap (λ o. is_some (leaf_in o)) h.at
-        ∙ sym (ap (λ t. t || is_some (leaves_in (remove now (number_of at)) k)) (eq-eqb k (number_of at) e))
-    | inr other ↦ sym (content_used (leaves_in now k) (leaves_in m k) (same k)) ∙ sym (ap (λ o. is_some (leaf_in o)) (get_other now (number_of at) k other))
-        ∙ sym (ap (λ t. t || is_some (leaves_in (remove now (number_of at)) k)) (ne_eqb k (number_of at) other))
-  ]
+  room_less m now at h same k = search (arith, cases_eq, eq-eqb, content_used, get_other, ne_eqb)
