@@ -1,8 +1,8 @@
 -- A route of a new key comes into the tree: what the rooms say afterwards is the tree with it.
 use Rattle.radix_tree.proofs.{AddressBits.zero_not_one, AddressBits.zero_or_one, Exchanging.exchanged}
-use Rattle.radix_tree.proofs.Words.{◌≡◌, ℕ, ◌<◌, ◌≤◌, if◌then◌else◌, List, [], ◌∷◌, Option, Some, None, refl, sym, ap, ◌∙◌, subst, arith, inl, inr}
+use Rattle.radix_tree.proofs.Words.{◌≡◌, ℕ, ◌<◌, ◌≤◌, List, [], ◌∷◌, Option, Some, None, refl, sym, ap, ◌∙◌, subst, arith, inl, inr}
 use Rattle.radix_tree.proofs.Words.{eq-eqb, ne_eqb, Id, Node, LeafOf, BitOf, IsRoute, Placed, Tree, leaf, fork, bit_at, HaveBit, LeafPart, BitPart, Part}
-use Rattle.radix_tree.proofs.Words.{leaves_in, bits_in, name_of, Stands, Way, leaves_at, forks_at, with_child, name_child, root_after, AreOnce, IsPlace}
+use Rattle.radix_tree.proofs.Words.{leaves_in, bits_in, name_of, Stands, Way, leaves_at, forks_at, name_child, root_after, AreOnce, IsPlace}
 use Rattle.radix_tree.proofs.Words.{IsSpot, IsBeside, forked_tree, IsExchange, Exchanged, lift_leaf, lift_bit, Lodged, number_of}
 use Rattle.radix_tree.proofs.PartRooms.{one_if_same, way_once, spine_out}
 use Rattle.radix_tree.proofs.Forking.{one_value, zero_fork_is, one_fork_is, lifted, leaves_there, forks_there}
@@ -44,18 +44,15 @@ module _ {V : Type 0} where
   not_above m address whole at (p ∷ ps) way top once to n some =
       let b = way.0 in
       let out = (spine_out m b (way_once address whole p ps way.1 once)).0 in
-      ap (λ o. name_child o address to n (bits_in m n)) b.above ∙ ap (λ t. if t then with_child address to (bits_in m n) else bits_in m n)
-      (ne_eqb n (number_of b.room) (λ same. let is = ap (λ k. forks_at k at.tree) same in absurd (omega arith)))
+      search (arith, ne_eqb)
 
   -- the part beneath stands beneath the new bit node
   beneath_stands : (m new : Lodged V) {bit : ℕ} (x : Placed V) (whole : Part m) {above : Option Id} (below : Node)
       (s : IsSpot m x.entry.key bit whole above below) → IsBeside m new bit x above below → Stands (leaves_in new) (bits_in new) (Some x.room) s.at.tree
-  beneath_stands m new x whole below s b = lifted (leaves_in m) (leaves_in new) (bits_in m) (bits_in new) s.at.above (Some x.room) s.at.tree
+  beneath_stands m new x whole below s b =
+      lifted (leaves_in m) (leaves_in new) (bits_in m) (bits_in new) s.at.above (Some x.room) s.at.tree
       (λ n some. b.leaves n (not_new s.at x.room b.no_leaf n some) ∙ ap (λ z. lift_leaf z (Some x.room) n (leaves_in m n)) (sym s.named))
-      (λ n some. b.bits n (not_new_bit s.at x.room b.no_bit n some) ∙ ap (lift_bit below (Some x.room) n)
-      (ap (λ o. name_child o x.entry.key (BitOf x.room) n (bits_in m n)) (sym s.above_is)
-      ∙ not_above m x.entry.key whole s.at s.ups s.way s.top s.once (BitOf x.room) n some)
-      ∙ ap (λ z. lift_bit z (Some x.room) n (bits_in m n)) (sym s.named)) (way_once x.entry.key whole s.at s.ups s.way s.once) s.at.stands
+      (λ n some. search (arith, not_new_bit, not_above)) (way_once x.entry.key whole s.at s.ups s.way s.once) s.at.stands
 
   -- the new bit node with what is beneath it
   record Forked (m new : Lodged V) (bit : ℕ) (x : Placed V) (at : Part m) : Type 0 where
@@ -85,15 +82,7 @@ module _ {V : Type 0} where
             low = s.at.low;
             above = s.at.above;
             is = zero_fork_is x x.room route s.place clear;
-            stands = (
-              b.bit_node ∙ ap (λ t. Some (if t then record { block = x.room.block; bit = bit; zero = below; one = LeafOf x.room; above = above }
-                  else record { block = x.room.block; bit = bit; zero = LeafOf x.room; one = below; above = above }))
-                  (ne_eqb (bit_at bit x.entry.key) 1 (λ set. zero_not_one clear set))
-                  ∙ ap (λ z. Some (record { block = x.room.block; bit = bit; zero = LeafOf x.room; one = z; above = above })) (sym s.named)
-                  ∙ ap (λ o. Some (record { block = x.room.block; bit = bit; zero = LeafOf x.room; one = name_of s.at.tree; above = o })) (sym s.above_is),
-              (b.leaf, tt),
-              stands,
-            );
+            stands = search (arith, ne_eqb, zero_not_one);
           };
           tree = zero_forked bit x s.at.tree clear;
           low = refl;
@@ -105,14 +94,7 @@ module _ {V : Type 0} where
             low = s.at.low;
             above = s.at.above;
             is = one_fork_is x x.room route s.place set;
-            stands = (
-              b.bit_node ∙ ap (λ t. Some (if t then record { block = x.room.block; bit = bit; zero = below; one = LeafOf x.room; above = above }
-                  else record { block = x.room.block; bit = bit; zero = LeafOf x.room; one = below; above = above })) (eq-eqb (bit_at bit x.entry.key) 1 set)
-                  ∙ ap (λ z. Some (record { block = x.room.block; bit = bit; zero = z; one = LeafOf x.room; above = above })) (sym s.named)
-                  ∙ ap (λ o. Some (record { block = x.room.block; bit = bit; zero = name_of s.at.tree; one = LeafOf x.room; above = o })) (sym s.above_is),
-              stands,
-              (b.leaf, tt),
-            );
+            stands = search (arith, eq-eqb);
           };
           tree = one_forked bit x s.at.tree set;
           low = refl;
@@ -126,19 +108,16 @@ module _ {V : Type 0} where
   forked_keys bit x t p c value before have =
       let rises = p.rises in
       let own = one_value c (bit_at c x.entry.key) value t (p.agree c (omega arith)) have in
-      elim (zero_or_one bit x.entry.key) [
-        | inl clear ↦ subst (HaveBit c value) (zero_forked bit x t clear) (own, have)
-        | inr set ↦ subst (HaveBit c value) (one_forked bit x t set) (have, own)
-      ]
+      search (arith, zero_or_one, zero_forked, one_forked)
 
   -- ---- the whole
   module _ {m new : Lodged V} {bit : ℕ} (x : Placed V) {whole : Part m} {above : Option Id} {below : Node} (s : IsSpot m x.entry.key bit whole above below)
       (b : IsBeside m new bit x above below) where
     -- a room that is not in the part beneath says what it said, or is the bit node above
     leaf_stays : (n : ℕ) → leaves_at n s.at.tree ≡ 0 → 1 ≤ leaves_at n whole.tree → leaves_in new n ≡ leaves_in m n
-    leaf_stays n out some = b.leaves n (not_new whole x.room b.no_leaf n some)
-        ∙ misses_leaf below n (λ r is same. let there = named_leaf s.at.tree r (s.named ∙ is) in
-        let e = ap (λ k. leaves_at k s.at.tree) same in absurd (omega arith)) (Some x.room) (leaves_in m n)
+    leaf_stays n out some =
+        b.leaves n (not_new whole x.room b.no_leaf n some)
+        ∙ misses_leaf below n (search (arith, named_leaf)) (Some x.room) (leaves_in m n)
 
     bit_stays : (n : ℕ) → forks_at n s.at.tree ≡ 0 → 1 ≤ forks_at n whole.tree → bits_in new n ≡ name_child above x.entry.key (BitOf x.room) n (bits_in m n)
     bit_stays n out some = search (arith, not_new_bit, misses_bit, named_bit)
@@ -153,12 +132,9 @@ module _ {V : Type 0} where
           above = u.above;
           keys = λ c value before have. subst (HaveBit c value) (sym u.tree) (forked_keys bit x s.at.tree s.place c value before have);
           leaves = leaf_stays;
-          bits = λ n none some. bit_stays n none some ∙ ap (λ o. name_child o x.entry.key (BitOf x.room) n (bits_in m n)) (sym s.above_is)
-              ∙ ap (λ z. name_child s.at.above x.entry.key z n (bits_in m n)) (sym name);
+          bits = search (arith, bit_stays);
         } in (
           u.part,
           u.tree,
-          subst (Exchanged m new x.entry.key whole s.at u.part) (ap (λ o. root_after o (name_of u.part.tree) (name_of whole.tree)) s.above_is
-              ∙ ap (λ z. root_after above z (name_of whole.tree)) name ∙ ap (root_after above (BitOf x.room)) named)
-              (exchanged m new whole s.at s.ups s.way s.top s.once e),
+          search (arith, exchanged),
         )

@@ -74,9 +74,10 @@ module _ {V : Type 0} where
 
   pub forked_home : (bit : ℕ) {low : ℕ} (x : Placed V) (t : Tree V) → IsPlace x.entry.key low bit t → (y : Placed V) → IsIn y t
       → HasHome y.entry.key y.entry.rank t → HasHome y.entry.key y.entry.rank (forked_tree bit x t)
-  forked_home bit x t p y is home = forked_cases (λ (s : Tree V). HasHome y.entry.key y.entry.rank s) bit x t
-      (λ clear. inr (inr (bit_beneath (bit + 1) bit 1 t p.is (p.far_one clear) y is, home)))
-      (λ set. inr (inl (bit_beneath (bit + 1) bit 0 t p.is (p.far_zero set) y is, home)))
+  forked_home bit x t p y is home =
+      forked_cases (λ (s : Tree V). HasHome y.entry.key y.entry.rank s) bit x t
+      (search (arith, bit_beneath))
+      (search (arith, bit_beneath))
 
   pub forked_spare : (B : Bits) (bit : ℕ) (x : Placed V) (t : Tree V) → HaveOneFork B t → HaveOneFork B (forked_tree bit x t)
   forked_spare B bit x t spare = search (arith, forked_cases)
@@ -94,13 +95,14 @@ module _ {V : Type 0} where
 
   same_beneath : {m : Lodged V} (new : Lodged V) (leaves : KeepsLeaves m new) (bits : KeepsBits m new) {key : ℕ} {under over : Part m}
       → Beneath key under over → Beneath key (same_part new leaves bits under) (same_part new leaves bits over)
-  same_beneath new leaves bits b = record {
-    room = b.room;
-    at = record { bit = b.at.bit; zero = b.at.zero; one = b.at.one; is = b.at.is };
-    above = b.above;
-    low = b.low;
-    side = b.side;
-  }
+  same_beneath new leaves bits b =
+      record {
+        room = b.room;
+        at = search arith;
+        above = b.above;
+        low = b.low;
+        side = b.side;
+      }
 
   pub same_way : (m new : Lodged V) (leaves : KeepsLeaves m new) (bits : KeepsBits m new) (key : ℕ) (whole at : Part m) (ups : List (Part m))
       → Way key whole at ups → Way key (same_part new leaves bits whole) (same_part new leaves bits at) (same_parts m new leaves bits ups)
@@ -163,7 +165,8 @@ module _ {V : Type 0} where
       same_marks n = ap is_some (c.masks n) ∙ c.cut.marks n
 
       pub new_unmarked : IsMarked (masks_in new) x → ⊥
-      new_unmarked marked = true≢false (sym marked ∙ same_marks (number_of x.room) ∙ ap is_some c.unmarked)
+      new_unmarked marked =
+          true≢false (search (arith, same_marks))
 
       pub room_more : HasRoomMore m new (number_of x.room)
       room_more n = search (arith, cases_eq, eq-eqb, other_leaf, ne_eqb)

@@ -2,12 +2,11 @@
 use Rattle.radix_tree.proofs.{TreeMembers.chain_key, TreeMembers.tree_said, Beside.not_new, Beside.not_new_bit, Plugs.counted_leaf, Plugs.spare_same}
 use Rattle.radix_tree.proofs.{WholeParts.Fits, WholeParts.once_but, Facts.some_of, Facts.same_none, WholeChanges.spare_changed, WholeChanges.whole_changed}
 use Rattle.radix_tree.proofs.{WholeRoutes.routes_changed, WholeRoutes.gains_spliced, LeafWays.same_leaf, Cuts.cut_at}
-use Rattle.radix_tree.proofs.Words.{◌≡◌, ℕ, ◌+◌, ◌≤◌, ◌⊎◌, ◌==◌, ◌||◌, Bool, true, false, if◌then◌else◌, List, ◌∷◌, Option, Some, None, refl, sym, ap, ◌∙◌}
-use Rattle.radix_tree.proofs.Words.{subst, inl, inr, arith, eq-eqb, ne_eqb, cases_eq, is_some, Id, Node, LeafOf, BitOf, Placed, Tree, leaf, fork, IsIn, IsTree}
-use Rattle.radix_tree.proofs.Words.{routes_of, Part, leaves_in, bits_in, heads_in, masks_in, LedTo, one_if, leaves_at, forks_at, HasHome, HaveOneFork, IsWhole}
-use Rattle.radix_tree.proofs.Words.{shown, with_head, forked_tree, Gains, IsSpot, IsBeside, IsNew, Differs, Exchanged, IsMasks, IsAside, past_bit, up_to_bit}
-use Rattle.radix_tree.proofs.Words.{IsMarked, MarkedIn, MarkedLists, IsWholeBut, has_key, nobody_late, nobody_out, KeepsLeaves, KeepsBits}
-use Rattle.radix_tree.proofs.Words.{KeepsMasks, Lodged, true≢false, number_of}
+use Rattle.radix_tree.proofs.Words.{◌≡◌, ℕ, ◌+◌, ◌≤◌, ◌⊎◌, ◌==◌, ◌||◌, Bool, true, false, List, ◌∷◌, Option, Some, None, refl, sym, ◌∙◌, subst, inl, inr, arith}
+use Rattle.radix_tree.proofs.Words.{eq-eqb, ne_eqb, cases_eq, is_some, Id, Node, LeafOf, BitOf, Placed, Tree, leaf, fork, IsIn, IsTree, Part, leaves_in}
+use Rattle.radix_tree.proofs.Words.{bits_in, heads_in, masks_in, LedTo, one_if, HasHome, HaveOneFork, IsWhole, shown, with_head, forked_tree, Gains, IsSpot}
+use Rattle.radix_tree.proofs.Words.{IsBeside, IsNew, Differs, Exchanged, IsMasks, IsAside, past_bit, up_to_bit, IsMarked, MarkedLists, IsWholeBut, has_key}
+use Rattle.radix_tree.proofs.Words.{nobody_late, nobody_out, KeepsLeaves, KeepsBits, KeepsMasks, Lodged, true≢false, number_of}
 use Rattle.radix_tree.proofs.PlugLists.{mask_list_same, lists_same, marked_same}
 use Rattle.radix_tree.proofs.BesideRooms.{or_true, one_if_turned, one_if_here, forked_leaves, forked_forks, in_forked, forked_in, forked_lists, home_forked}
 use Rattle.radix_tree.proofs.BesideRooms.{forked_home, forked_spare, forked_gains, Came, no_leaf, no_bit, other_leaf, other_bit, same_marks, new_unmarked}
@@ -22,18 +21,11 @@ module _ {V : Type 0} where
       (c : Came m mid new low bit t x above below) (n : ℕ)
       → (one_if (number_of x.room == n) + one_if (is_some (leaves_in m n)) ≡ one_if (is_some (leaves_in new n)))
       × (one_if (number_of x.room == n) + one_if (is_some (bits_in m n)) ≡ one_if (is_some (bits_in new n)))
-  counts m new {t = t} x c n = elim (cases_eq n (number_of x.room)) [
-    | inl same ↦ let here = one_if_here x.room n same in
-        let l = ap (λ o. one_if (is_some o)) (ap (leaves_in m) same ∙ no_leaf x c) in
-        let b = ap (λ o. one_if (is_some o)) (ap (bits_in m) same ∙ no_bit x c) in
-        let l2 = ap (λ o. one_if (is_some o)) (ap (leaves_in new) same ∙ c.beside.leaf) in
-        let b2 = ap (λ o. one_if (is_some o)) (ap (bits_in new) same ∙ c.beside.bit_node) in
-        (omega arith, omega arith)
-    | inr other ↦ let none = one_if_turned x.room n other in
-        let l = ap one_if (other_leaf x c n other) in
-        let b = ap one_if (other_bit x c n other) in
-        (omega arith, omega arith)
-  ]
+  counts m new {t = t} x c n =
+      elim (cases_eq n (number_of x.room)) [
+        | inl same ↦ search (arith, one_if_here, no_leaf, no_bit)
+        | inr other ↦ search (arith, one_if_turned, other_leaf, other_bit)
+      ]
 
   -- a route that the new bit node would be the home of is late, or had a home
   late_or_home : (m : Lodged V) (bit key room : ℕ) (p : Part m) (y : Placed V) (t : Tree V) → p.tree ≡ t → IsTree (bit + 1) p.tree
@@ -52,67 +44,47 @@ module _ {V : Type 0} where
         let low = s.at.low in
         let marks = same_marks x c in
         let new_one : (y : Placed V) → x ≡ y → IsMarked (masks_in new) y → ⊥ =
-        λ y e marked. new_unmarked x c (subst (IsMarked (masks_in new)) (sym e) marked) in
+        search (arith, new_unmarked) in
         let not_room = not_new_bit s.at x.room (no_bit x c) in
         let off : (n : ℕ) → (n ≡ number_of x.room → ⊥) → heads_in new n ≡ heads_in mid n =
-        λ n other. c.heads n ∙ ap (λ b. if b then c.first else heads_in mid n) (ne_eqb n (number_of x.room) other) in
+        search (arith, ne_eqb) in
         let rises = s.place.rises in
         record {
           leaves = λ n. let e = (counts m new x c n).0 in
-              let k = ap (leaves_at n) tree ∙ forked_leaves bit x s.at.tree n in
-              omega arith;
+              search (arith, forked_leaves);
           forks = λ n. let e = (counts m new x c n).1 in
-              let k = ap (forks_at n) tree ∙ forked_forks bit x s.at.tree n in
-              omega arith;
-          heads = λ n none some. off n (not_new_bit w.part x.room (no_bit x c) n some) ∙ c.cut.heads n none;
+              search (arith, forked_forks);
+          heads = λ n none some. search (arith, not_new_bit, no_bit);
           masks = λ n none some. c.masks n ∙ c.cut.masks n none;
-          masks_above = λ y at short marked. c.masks (number_of y.room) ∙ c.cut.masks_above y at short;
-          marks = λ n p is. some_of (masks_in m n) (sym (marks n) ∙ ap is_some is);
+          masks_above = search arith;
+          marks = search (arith, some_of);
           kept = λ y at marked. (
             subst (IsIn y) (sym tree) (forked_in bit x s.at.tree y at),
             λ home. inr (subst (HasHome y.entry.key y.entry.rank) (sym tree) (forked_home bit x s.at.tree s.place y at home)),
           );
-          came = λ y there marked. elim (in_forked bit x s.at.tree y (subst (IsIn y) tree there)) [
-            | inl e ↦ absurd (new_one y e marked)
-            | inr at ↦ at
-          ];
+          came = search (arith, in_forked);
           gone = λ y at short marked. marks (number_of y.room) ∙ marked;
           lists = subst (MarkedLists (heads_in new) (masks_in new) s.at.low) (sym tree) (forked_lists (heads_in new) s.at.low bit x s.at.tree
-              (mask_list_same (masks_in mid) (masks_in new) s.at.low bit (MarkedIn (masks_in new) (forked_tree bit x s.at.tree))
-              (c.heads (number_of x.room) ∙ ap (λ b. if b then c.first else heads_in mid (number_of x.room))
-              (eq-eqb (number_of x.room) (number_of x.room) refl))
-              (λ y member most. (
-                (forked_in bit x s.at.tree y member.0, marked_same (masks_in mid) (masks_in new) y (c.masks (number_of y.room)) member.1),
-                c.masks (number_of y.room),
-              )) (λ y member most. (
-                elim (in_forked bit x s.at.tree y member.0) [ inl e ↦ absurd (new_one y e member.1) | inr at ↦ at ],
-                marked_same (masks_in new) (masks_in mid) y (sym (c.masks (number_of y.room))) member.1,
-              )) c.cut.list) (lists_same (heads_in mid) (heads_in new) (masks_in mid) (masks_in new) (bit + 1) s.at.tree (λ n some. off n (not_room n some))
+              (search (arith, mask_list_same, eq-eqb, forked_in, marked_same, in_forked)) (lists_same (heads_in mid) (heads_in new) (masks_in mid) (masks_in new) (bit + 1) s.at.tree (λ n some. off n (not_room n some))
               (λ y at. c.masks (number_of y.room)) c.cut.lists));
           all = λ y there home. elim (in_forked bit x s.at.tree y (subst (IsIn y) tree there)) [
-            | inl e ↦ inl (ap (λ b. b || has_key m key (number_of y.room)) (eq-eqb (number_of y.room) (number_of x.room)
-                (ap (λ p. (number_of p.room)) (sym e))))
+            | inl e ↦ search (arith, eq-eqb)
             | inr at ↦ elim home [
-              | inl short ↦ inr (
-                at,
-                inl short,
-                (λ (marked : IsMarked (masks_in m) y). marks (number_of y.room) ∙ marked),
-                (λ (late : false ≡ true). absurd (true≢false (sym late))),
-              )
+              | inl short ↦ search (arith, true≢false)
               | inr new_home ↦ elim (home_forked bit x s.at.tree y.entry.key y.entry.rank (subst (HasHome y.entry.key y.entry.rank) tree new_home)) [
                 | inl here ↦ elim (late_or_home m bit key (number_of x.room) s.at y s.at.tree refl s.place.is (λ z zs is. keyed y z zs at is) at here) [
                   | inl late ↦ inl late
                   | inr had ↦ inr (
                     at,
                     inr had,
-                    (λ (marked : IsMarked (masks_in m) y). marks (number_of y.room) ∙ marked),
+                    search arith,
                     (λ (late : false ≡ true). absurd (true≢false (sym late))),
                   )
                 ]
                 | inr had ↦ inr (
                   at,
                   inr had,
-                  (λ (marked : IsMarked (masks_in m) y). marks (number_of y.room) ∙ marked),
+                  search arith,
                   (λ (late : false ≡ true). absurd (true≢false (sym late))),
                 )
               ]
@@ -130,8 +102,7 @@ module _ {V : Type 0} where
           let idle : (n : ℕ) → (n ≡ number_of x.room → ⊥) → bits_in m n ≡ None → bits_in new n ≡ None =
           λ n other. same_none (bits_in new n) (other_bit x c n other) in
           spare_changed w e (λ spare. subst (HaveOneFork (bits_in new)) (sym tree) (forked_spare (bits_in new) bit x s.at.tree
-          (spare_same (bits_in m) (bits_in new) s.at.tree (λ y at. idle (number_of y.room)
-          (not_new s.at x.room none (number_of y.room) (counted_leaf y s.at.tree at)))
+          (spare_same (bits_in m) (bits_in new) s.at.tree (λ y at. search (arith, not_new, counted_leaf))
           spare))) (λ n out some. idle n (not_new w.part x.room none n some))
 
       pub whole_beside : {mid : Lodged V} {room : Id} (d : LedTo x.entry.key w.part room) → Came m mid new s.at.low bit s.at.tree x above below
@@ -145,8 +116,9 @@ module _ {V : Type 0} where
           whole_changed w e (fits_beside mid new f.first.entry.key u c tree keyed) (spare_beside mid c tree)
 
       pub routes_beside : u.tree ≡ forked_tree bit x s.at.tree → Gains x.entry (shown m (Some root)) (shown new (Some name))
-      routes_beside tree = gains_spliced (routes_changed w e)
-          (subst (λ t. Gains x.entry (routes_of s.at.tree) (routes_of t)) (sym tree) (forked_gains bit x s.at.tree))
+      routes_beside tree =
+          gains_spliced (routes_changed w e)
+          (search (arith, forked_gains))
 
   -- ---- a key that no route of the table has, and the rooms once its route stands there
   abbrev pub new_key : {m : Lodged V} {root : Node} (w : IsWhole m root) {key bit : ℕ} {room : Id} (d : LedTo key w.part room)

@@ -3,8 +3,8 @@ use Rattle.radix_tree.proofs.{PartRooms.same_turned, Exchanging.exchanged, Whole
 use Rattle.radix_tree.proofs.{WholeChanges.whole_changed, WholeRoutes.Spliced, WholeRoutes.routes_changed, Facts.same_none, JoinLinks.turn_used}
 use Rattle.radix_tree.proofs.Words.{◌≡◌, ℕ, ◌+◌, ◌≤◌, ◌==◌, ◌||◌, Bool, false, true≢false, List, [], ◌∷◌, ◌++◌, Option, Some, None, refl}
 use Rattle.radix_tree.proofs.Words.{sym, ap, ◌∙◌, subst, arith, eqb-true, eqb-false, eq-eqb, ne_eqb, is_some, Id, Node, LeafOf, Placed, Tree, leaf}
-use Rattle.radix_tree.proofs.Words.{IsAmong, IsIn, IsChain, IsTree, routes_of, Part, leaves_in, bits_in, masks_in, name_of, ChainStands, Way, one_if}
-use Rattle.radix_tree.proofs.Words.{members_at, leaves_at, forks_at, HasHome, HasOneFork, HaveOneFork, shown, name_child, root_after, IsExchange}
+use Rattle.radix_tree.proofs.Words.{IsAmong, IsIn, IsChain, IsTree, Part, leaves_in, bits_in, masks_in, name_of, ChainStands, Way, one_if}
+use Rattle.radix_tree.proofs.Words.{members_at, leaves_at, forks_at, HasHome, HasOneFork, shown, name_child, root_after, IsExchange}
 use Rattle.radix_tree.proofs.Words.{Exchanged, IsMarked, IsWholeBut, KeepsHeads, KeepsMasks, above_behind, last_room, root_past, Lodged, number_of}
 use Rattle.radix_tree.proofs.ChainLists.{IsCons, cons_at, map_entries, one_fork_same}
 
@@ -104,20 +104,16 @@ module _ {V : Type 0} where
         → (HasOneFork (bits_in m) old → HasOneFork (bits_in m) now)
         → IsWholeBut new (root_after at.above (LeafOf r.cons.first.room) (name_of w.part.tree)) later outs
     rechained ups way f spare =
-        let none : (n : ℕ) → bits_in m n ≡ None → bits_in new n ≡ None = λ n gone. same_none (bits_in new n) (bits_some m key at r n) gone in
+        let none : (n : ℕ) → bits_in m n ≡ None → bits_in new n ≡ None = search (arith, same_none, bits_some) in
         whole_changed w (with_chain m new w at ups way r) f (spare_changed w (with_chain m new w at ups way r)
-        (λ one. subst (HasOneFork (bits_in new)) r.cons.is (one_fork_same (bits_in m) (bits_in new) now none
-        (spare (subst (HasOneFork (bits_in m)) (sym r.was.is) (subst (HaveOneFork (bits_in m)) r.is one))))) (λ n out_of some gone. none n gone))
+        (λ one. subst (HasOneFork (bits_in new)) r.cons.is (search (arith, one_fork_same))) (λ n out_of some gone. none n gone))
 
     pub spliced : (ups : List (Part m)) → Way key w.part at ups
         → Spliced (shown m (Some root)) (shown new (Some (root_after at.above (LeafOf r.cons.first.room) (name_of w.part.tree)))) (map_entries old)
         (map_entries now)
     spliced ups way =
         let s = routes_changed w (with_chain m new w at ups way r) in
-        subst (λ es. Spliced (shown m (Some root)) (shown new (Some (root_after at.above (LeafOf r.cons.first.room) (name_of w.part.tree))))
-        es (map_entries now)) (ap routes_of r.is ∙ ap map_entries (sym r.was.is))
-        (subst (λ es. Spliced (shown m (Some root)) (shown new (Some (root_after at.above (LeafOf r.cons.first.room) (name_of w.part.tree))))
-        (routes_of at.tree) es) (ap map_entries (sym r.cons.is)) s)
+        search (arith, map_entries)
 
   -- ---- what both have in common
   module _ {m new : Lodged V} {key : ℕ} {whole at : Part m} {old now : List (Placed V)} (r : Rechained m new key whole at old now) where

@@ -1,9 +1,8 @@
 -- A walk along a chain to the gap for a rank.
 use Rattle.radix_tree.proofs.{TreeMembers.IsHead, TreeMembers.head_of, Scans.chain_most, MaskLists.in_back}
-use Rattle.radix_tree.proofs.Words.{◌≡◌, ℕ, ◌+◌, ◌<◌, ◌≤◌, List, [], ◌∷◌, ◌++◌, length, Option, Some, None, true, true≢false, refl, sym, ap}
-use Rattle.radix_tree.proofs.Words.{◌∙◌, subst, inl, arith, append_assoc, cases_eq, cases_lt, nat_cmp, is_lt, Has, leaf_of, Id, Leaf, Links, Placed}
-use Rattle.radix_tree.proofs.Words.{IsAmong, Leaves, Run, leaves_in, first_room, leaf_part, ChainStands, above_behind, last_room, ArePast, IsBelow, Passed}
-use Rattle.radix_tree.proofs.Words.{FindsGap, Lodged, number_of}
+use Rattle.radix_tree.proofs.Words.{◌≡◌, ℕ, ◌+◌, ◌<◌, ◌≤◌, List, [], ◌∷◌, ◌++◌, length, Option, Some, None, true, true≢false, refl, sym, ap, ◌∙◌, arith}
+use Rattle.radix_tree.proofs.Words.{append_assoc, cases_eq, cases_lt, nat_cmp, is_lt, Has, leaf_of, Id, Leaf, Links, Placed, Leaves, Run, leaves_in, first_room}
+use Rattle.radix_tree.proofs.Words.{leaf_part, ChainStands, above_behind, last_room, ArePast, IsBelow, Passed, FindsGap, Lodged, number_of}
 use Rattle.radix_tree.proofs.RoomReads.{none_some, AreLinks, Has-leaf, leaf_read}
 
 -- what a comparison of ranks says
@@ -87,10 +86,10 @@ module _ {V : Type 0} where
         record {
           front = p.front ++ (x.first ∷ []);
           back = x.behind;
-          is = p.is ∙ ap (λ ms. p.front ++ ms) x.is ∙ sym (append_assoc p.front (x.first ∷ []) x.behind);
+          is = search (arith, append_assoc);
           past = past_more rank p.front x.first p.past (omega arith);
           above_is = sym (above_more c.above p.front x.first);
-          previous_is = sym (last_more c.previous p.front x.first ∙ ap Some x.room_is);
+          previous_is = search (arith, last_more);
           next_is = r.2;
           few = omega arith;
         }
@@ -102,7 +101,7 @@ module _ {V : Type 0} where
         let r = read_at at links l is are leaf in
         let x = r.0 in (
           x.first,
-          subst (IsAmong x.first) (sym p.is) (in_back p.front p.back x.first (subst (IsAmong x.first) (sym x.is) (inl refl))),
+          search (arith, in_back),
           sym r.1 ∙ same,
         )
 
@@ -115,10 +114,7 @@ module _ {V : Type 0} where
         → FindsGap key rank c (Some (record { key = key; rank = rank; above = above; next = next; previous = previous }))
     found key at links {l = l} is are leaf lt =
         let r = read_at at links l is are leaf in
-        let x = r.0 in
-        let same = r.1 in
-        let less : x.first.entry.rank < rank = omega arith in
-        gap_of key (subst (IsBelow rank) (sym x.is) less)
+        search (arith, gap_of)
 
   none_below : (rank : ℕ) (back : List (Placed V)) → first_room back ≡ None → IsBelow rank back
   none_below rank [] ends = tt

@@ -3,9 +3,9 @@ use Rattle.radix_tree.proofs.{TreeMembers.IsSaid, TreeMembers.chain_key, TreeMem
 use Rattle.radix_tree.proofs.{Parts.leaf_run, Parts.in_leaf, Parts.way_inside, PartRooms.way_once, Lodging.over_at, Lodging.stays, Beside.not_new}
 use Rattle.radix_tree.proofs.{ChainRooms.room_route, WholeParts.once_but, ChainGaps.behind_stands, ChainLinks.linked_in, ChainLinks.in_others}
 use Rattle.radix_tree.proofs.{ChainLists.cons_at, ChainLists.chain_more, ChainWholes.grown_whole, ChainWholes.grown_routes, MovedReads.content_used}
-use Rattle.radix_tree.proofs.Words.{◌≡◌, ℕ, ◌≤◌, ◌==◌, ◌||◌, if◌then◌else◌, List, ◌∷◌, ◌++◌, Option, Some, None, refl, sym, ap, ◌∙◌, subst, arith}
+use Rattle.radix_tree.proofs.Words.{◌≡◌, ℕ, ◌≤◌, ◌==◌, ◌||◌, List, ◌∷◌, ◌++◌, Option, Some, None, refl, sym, ap, ◌∙◌, subst, arith}
 use Rattle.radix_tree.proofs.Words.{ne_eqb, is_some, Has, Id, Leaf, Node, LeafOf, IsRoute, Placed, leaf, IsIn, IsChain, LeafPart, Part, Run, leaves_in, bits_in}
-use Rattle.radix_tree.proofs.Words.{masks_in, name_of, first_room, leaf_part, ChainStands, Way, LedTo, ForkAt, HasPair, one_if, members_at, leaves_at, IsWhole}
+use Rattle.radix_tree.proofs.Words.{masks_in, name_of, first_room, leaf_part, ChainStands, Way, LedTo, ForkAt, HasPair, one_if, members_at, IsWhole}
 use Rattle.radix_tree.proofs.Words.{shown, name_child, root_after, placed, Gains, AreOnce, IsWholeBut, late_at, nobody_out, lodge_leaf, KeepsBits, KeepsHeads}
 use Rattle.radix_tree.proofs.Words.{KeepsMasks, leaf_next, leaf_back, name_next, name_back, link_in, above_behind, last_room, root_past, IsGap, FindsGap}
 use Rattle.radix_tree.proofs.Words.{content_of, Entry, Lodged, [], number_of}
@@ -41,23 +41,22 @@ module _ {V : Type 0} where
     pub gap_before : {rank : ℕ} {l : Leaf} → IsGap rank chain_of key l → (r : Id) → l.previous ≡ Some r → Has m r
     gap_before g r is =
         let c = chain_of in
-        last_there m d.part.above None g.front g.back r (subst (ChainStands (leaves_in m) d.part.above None) g.is c.stands)
+        last_there m d.part.above None g.front g.back r (search arith)
         (sym (ap (λ z. z.previous) g.leaf) ∙ is)
 
     pub gap_behind : {rank : ℕ} {l : Leaf} → IsGap rank chain_of key l → (r : Id) → l.next ≡ Some r → Has m r
     gap_behind g r is =
         let c = chain_of in
         first_there m (above_behind d.part.above g.front) (last_room None g.front) g.back r
-        (behind_stands (leaves_in m) d.part.above None g.front g.back (subst (ChainStands (leaves_in m) d.part.above None) g.is c.stands))
+        (search (arith, behind_stands))
         (sym (ap (λ z. z.next) g.leaf) ∙ is)
 
   -- it is there once the room is lodged
   pub lodged_above : (m new : Lodged V) (room : Id) (value : V) (l : Leaf) (up : Id) → leaves_in m (number_of room) ≡ None
       → ((n : ℕ) → leaves_in new n ≡ lodge_leaf room value l n (leaves_in m n)) → KeepsBits m new → (p : Part m) × ForkAt p up → (p : Part new) × ForkAt p up
   lodged_above m new room value l up free leaves bits p = (
-    stays m new p.0 (λ n some. leaves n ∙ ap (λ t. if t then Some (record { block = room.block; value = value; leaf = l }) else leaves_in m n)
-        (ne_eqb n (number_of room) (not_new p.0 room free n some))) (λ n some. bits n),
-    record { bit = p.1.bit; zero = p.1.zero; one = p.1.one; is = p.1.is },
+    stays m new p.0 (search (arith, ne_eqb, not_new)) (λ n some. bits n),
+    search arith,
   )
 
   pub gap_above : (m : Lodged V) {key rank : ℕ} (whole : Part m) {first : Id} (d : LedTo key whole first) {l : Leaf} → whole.above ≡ None
@@ -110,8 +109,7 @@ module _ {V : Type 0} where
       → AreOnce whole.tree → at.tree ≡ leaf z zs → z ∷ zs ≡ c → (n : ℕ) → members_at n c ≤ 1
   chain_once key whole at ups {c = c} way once is same n =
       let few = (way_once key whole at ups way once).leaves n in
-      let counts = ap (leaves_at n) is ∙ ap (members_at n) same in
-      omega arith
+      search arith
 
   module _ {m : Lodged V} (e : Entry V) {first : Id} {root : Node} (w : IsWhole m root) (d : LedTo e.key w.part first) {l : Leaf}
       (g : IsGap e.rank (chain_of d) e.key l) where
@@ -173,5 +171,5 @@ module _ {V : Type 0} where
       let c = chain_of d in (
         r.route,
         r.is_in,
-        (ap (λ z. z.key) r.entry ∙ chain_key c.key c.top c.members c.is g.0 g.1 ∙ same, ap (λ z. z.rank) r.entry ∙ g.2),
+        search (arith, chain_key),
       )

@@ -1,9 +1,8 @@
 -- The links of a chain with a member more, and without it.
 use Rattle.radix_tree.proofs.{RoomReads.inside, RoomReads.none_some, PartRooms.one_if_same, PartRooms.chain_frame, Forking.chain_there, ChainGaps.behind_stands}
 use Rattle.radix_tree.proofs.{ChainLists.members_append, ChainLists.members_more, Facts.own_room, Facts.off_room}
-use Rattle.radix_tree.proofs.Words.{◌≡◌, ℕ, ◌+◌, ◌≤◌, ◌==◌, List, [], ◌∷◌, ◌++◌, Option, Some, None, refl, sym, ap, ◌∙◌, arith, Id, Leaf, Placed, LeafPart}
-use Rattle.radix_tree.proofs.Words.{Leaves, first_room, ChainStands, one_if, members_at, lodge_leaf, leaf_next, name_next, name_back, link_in}
-use Rattle.radix_tree.proofs.Words.{link_out, above_behind, last_room, number_of}
+use Rattle.radix_tree.proofs.Words.{◌≡◌, ℕ, ◌+◌, ◌≤◌, List, [], ◌∷◌, ◌++◌, Option, Some, None, refl, arith, Id, Leaf, Placed, LeafPart, Leaves, first_room}
+use Rattle.radix_tree.proofs.Words.{ChainStands, members_at, lodge_leaf, leaf_next, name_next, name_back, link_in, link_out, above_behind, last_room, number_of}
 
 module _ {V : Type 0} where
   -- ---- rooms that are not written
@@ -40,9 +39,7 @@ module _ {V : Type 0} where
   front_linked L M above previous [] old now stands said once rest = rest
   front_linked L M above previous (y ∷ []) old now stands said once rest = search (arith, own_counts, own_room)
   front_linked L M above previous (y ∷ z ∷ front) old now stands said once rest = (
-    said (number_of y.room) (own_counts y (z ∷ front)) ∙ next_off (last_room (Some z.room) front) (first_room now) (number_of y.room) (L (number_of y.room))
-        (λ r is same. let behind = last_in z front r is in let most = once (number_of r) in
-        let one = ap (λ k. one_if (number_of y.room == k)) (sym same) ∙ one_if_same (number_of y.room) in omega arith) ∙ stands.0,
+    search (arith, own_counts, next_off, last_in, one_if_same),
     front_linked L M None (Some y.room) (z ∷ front) old now stands.1 (λ n some. said n (omega arith)) (λ n. let most = once n in omega arith) rest,
   )
 
@@ -72,35 +69,16 @@ module _ {V : Type 0} where
       let sum : (n : ℕ) → members_at n (front ++ back) ≡ members_at n front + members_at n back = λ n. members_append n front back in
       let gone = chain_there L above None (front ++ back) (number_of x.room) stands none in
       let new : (n : ℕ) → 1 ≤ members_at n (front ++ back) → n ≡ (number_of x.room)
-      → ⊥ = λ n some same. let at = ap (λ k. members_at k (front ++ back)) same in omega arith in
+      → ⊥ = search arith in
       let lodged : (n : ℕ) → 1 ≤ members_at n (front ++ back) → lodge_leaf x.room x.entry.value (leaf_at x.entry.key x.entry.rank above front back) n (L n)
       ≡ L n =
-      λ n some. off_room x.room n (Some (record { block = x.room.block; value = x.entry.value; leaf = leaf_at x.entry.key x.entry.rank above front back }))
-      (L n) (new n some) in
-      let not_first : (n : ℕ) → members_at n back ≡ 0 → (r : Id) → first_room back ≡ Some r → n ≡ number_of r → ⊥ = λ n out r is same.
-      let some = first_among back r is in let at = ap (λ k. members_at k back) same in omega arith in
-      let not_last : (n : ℕ) → members_at n front ≡ 0 → (r : Id) → last_room None front ≡ Some r → n ≡ number_of r → ⊥ = λ n out r is same.
-      let some = last_among front r is in let at = ap (λ k. members_at k front) same in omega arith in
-      front_linked L M above None front back (x ∷ back) stands (λ n some. let both = sum n in let most = once n in
-      said n ∙ back_off (first_room back) None (Some x.room) n (name_next (last_room None front) (Some x.room) n
-      (lodge_leaf x.room x.entry.value (leaf_at x.entry.key x.entry.rank above front back) n (L n))) (not_first n (omega arith))
-      ∙ ap (name_next (last_room None front) (Some x.room) n) (lodged n (omega arith))) (λ n. let both = sum n in let most = once n in
-      omega arith) (
-        said (number_of x.room) ∙ back_off (first_room back) None (Some x.room) (number_of x.room)
-            (name_next (last_room None front) (Some x.room) (number_of x.room)
-            (lodge_leaf x.room x.entry.value (leaf_at x.entry.key x.entry.rank above front back) (number_of x.room) (L (number_of x.room))))
-            (not_first (number_of x.room) (let both = sum (number_of x.room) in omega arith))
-            ∙ next_off (last_room None front) (Some x.room) (number_of x.room) (lodge_leaf x.room x.entry.value
-            (leaf_at x.entry.key x.entry.rank above front back)
-            (number_of x.room) (L (number_of x.room))) (not_last (number_of x.room) (let both = sum (number_of x.room) in omega arith))
-            ∙ own_room x.room (Some (record { block = x.room.block; value = x.entry.value; leaf = leaf_at x.entry.key x.entry.rank above front back }))
-            (L (number_of x.room)),
+      search (arith, off_room) in
+      let not_first : (n : ℕ) → members_at n back ≡ 0 → (r : Id) → first_room back ≡ Some r → n ≡ number_of r → ⊥ = search (arith, first_among) in
+      let not_last : (n : ℕ) → members_at n front ≡ 0 → (r : Id) → last_room None front ≡ Some r → n ≡ number_of r → ⊥ = search (arith, last_among) in
+      front_linked L M above None front back (x ∷ back) stands (search (arith, back_off)) (search arith) (
+        search (arith, back_off, next_off, own_room),
         back_linked L M (above_behind above front) (last_room None front) None (Some x.room) back (behind_stands L above None front back stands)
-            (λ n some. let both = sum n in
-            let most = once n in
-            said n ∙ ap (name_back (first_room back) None (Some x.room) n)
-            (next_off (last_room None front) (Some x.room) n (lodge_leaf x.room x.entry.value (leaf_at x.entry.key x.entry.rank above front back) n (L n))
-            (not_last n (omega arith)) ∙ lodged n (omega arith))) (λ n. let both = sum n in let most = once n in omega arith),
+            (search (arith, next_off)) (λ n. let both = sum n in let most = once n in omega arith),
       )
 
   -- ---- a member less
@@ -116,12 +94,6 @@ module _ {V : Type 0} where
       let few : (n : ℕ) → members_at n front + members_at n back ≤ 1 = λ n. let sum = members_append n front back in
       let more = members_more n front back x in
       let most = once n in omega arith in
-      front_linked L M above None front (x ∷ back) back stands (λ n some. said n ∙ ap (name_next (last_room None front) (first_room back) n)
-      (back_off (first_room back) (above_behind above front) (last_room None front) n (L n)
-      (λ r is same. let own = first_among back r is in let at = ap (λ k. members_at k back) same in
-      let most = few n in omega arith))) (λ n. let most = few n in omega arith)
+      front_linked L M above None front (x ∷ back) back stands (search (arith, back_off, first_among)) (λ n. let most = few n in omega arith)
       (back_linked L M None (Some x.room) (above_behind above front) (last_room None front) back (behind_stands L above None front (x ∷ back) stands).1
-      (λ n some. said n ∙ next_off (last_room None front) (first_room back) n
-      (name_back (first_room back) (above_behind above front) (last_room None front) n (L n))
-      (λ r is same. let own = last_among front r is in let at = ap (λ k. members_at k front) same in
-      let most = few n in omega arith)) (λ n. let most = few n in omega arith))
+      (search (arith, next_off, last_among)) (λ n. let most = few n in omega arith))

@@ -39,10 +39,11 @@ module _ {V : Type 0} where
 
   pub among_less : (front back : List (Placed V)) (x y : Placed V) → IsAmong y (front ++ (x ∷ back)) → (x ≡ y) ⊎ IsAmong y (front ++ back)
   among_less [] back x y is = is
-  among_less (z ∷ front) back x y is = elim is [
-    | inl e ↦ inr (inl e)
-    | inr later ↦ elim (among_less front back x y later) [ inl e ↦ inl e | inr own ↦ inr (inr own) ]
-  ]
+  among_less (z ∷ front) back x y is =
+      elim is [
+        | inl e ↦ inr (inl e)
+        | inr later ↦ search (arith, among_less front back x y later)
+      ]
 
   -- a member splits a list
   pub record IsSplit (c : List (Placed V)) (x : Placed V) : Type 0 where

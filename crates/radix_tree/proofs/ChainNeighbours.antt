@@ -53,7 +53,7 @@ module _ {V : Type 0} where
           is = f.at.is;
           split = s.is;
           number = r.number;
-          part_is = inside (sym said ∙ ap (leaves_in m) (sym r.number) ∙ stands.0);
+          part_is = search (arith, inside);
         }
 
     pub member_once : {n : ℕ} {p : LeafPart V} (b : IsMember m w.part n p) (k : ℕ) → members_at k (b.front ++ (b.x ∷ b.back)) ≤ 1
@@ -63,8 +63,7 @@ module _ {V : Type 0} where
     pub own_out : (n : ℕ) (p : LeafPart V) (b : IsMember m w.part n p) → members_at n (b.front ++ b.back) ≡ 0
     own_out n p b =
         let most = member_once b n in
-        let more = members_more n b.front b.back b.x in
-        let one = ap one_if (eq-eqb (number_of b.x.room) n b.number) in omega arith
+        search (arith, members_more, eq-eqb)
 
   -- ---- what the writes leave
   pub record IsUnlinked (m new : Lodged V) (l : Leaf) : Type 0 where
@@ -111,18 +110,9 @@ module _ {V : Type 0} where
       let front_is = front_named b.front (b.x ∷ b.back) b.is b.split in
       record {
         cons =
-            record {
-              first = (cons_at b.front h.behind h.first).first;
-              rest = (cons_at b.front h.behind h.first).rest;
-              is = ap (λ ms. b.front ++ ms) h.is ∙ (cons_at b.front h.behind h.first).is;
-            };
-        bits = λ k. bits k ∙ ap (λ q. name_child q.leaf.above q.leaf.key (LeafOf to) k (bits_in m k)) b.part_is
-            ∙ ap (λ i. name_child (above_behind b.part.above b.front) b.x.entry.key (LeafOf i) k (bits_in m k)) (sym h.room_is)
-            ∙ place_bits m b.x.entry.key w.part b.part b.ups b.front h.behind h.first b.way w.top front_is k;
-        named = sym (named ∙ ap (λ q. root_past q.leaf.previous q.leaf.above (LeafOf to) root) b.part_is
-            ∙ ap (λ i. root_past (last_room None b.front) (above_behind b.part.above b.front) (LeafOf i) root) (sym h.room_is)
-            ∙ ap (root_past (last_room None b.front) (above_behind b.part.above b.front) (LeafOf h.first.room)) (sym w.named)
-            ∙ place_root m b.x.entry.key w.part b.part b.ups b.front h.behind h.first b.way w.top front_is);
+            search (arith, cons_at);
+        bits = search (arith, place_bits);
+        named = search (arith, place_root);
       }
 
   -- the last of a chain goes, which isn't its first
@@ -130,11 +120,12 @@ module _ {V : Type 0} where
       → whole.above ≡ None → name_of whole.tree ≡ root → FrontNamed front (name_of at.tree)
       → (last_room None front ≡ None → ⊥) → ((k : ℕ) → bits_in new k ≡ bits_in m k) → IsLeft m new key whole at front back root
   kept_at m new key whole at ups [] back way top named front_is some bits = absurd (some refl)
-  kept_at m new key whole at ups (f ∷ front) back way top named front_is some bits = record {
-    cons = record { first = f; rest = front ++ back; is = refl };
-    bits = λ k. bits k ∙ sym (ap (λ z. name_child at.above key z k (bits_in m k)) (sym front_is) ∙ turn_same m key whole at ups way top k);
-    named = ap (λ z. root_after at.above z (name_of whole.tree)) (sym front_is) ∙ root_same key whole at ups way top ∙ named;
-  }
+  kept_at m new key whole at ups (f ∷ front) back way top named front_is some bits =
+      record {
+        cons = record { first = f; rest = front ++ back; is = refl };
+        bits = search (arith, turn_same);
+        named = search (arith, root_same);
+      }
 
   pub left_kept : {m : Lodged V} (new : Lodged V) {root : Node} {late : ℕ → Bool} (w : IsWholeBut m root late nobody_out) {n : ℕ} {p : LeafPart V}
       (b : IsMember m w.part n p) → p.leaf.next ≡ None

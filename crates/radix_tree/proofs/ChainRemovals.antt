@@ -88,10 +88,10 @@ module _ {V : Type 0} where
       let at = way_leads m w.part b.part b.ups b.way r.route r.is_in key in
       let among = subst (IsAmong r.route) b.split (subst (IsIn r.route) b.is at) in
       let spare = subst (HasOneFork (bits_in m)) b.split
-      (subst (HaveOneFork (bits_in m)) b.is (way_spare m b.x.entry.key w.part b.part b.ups b.way w.spare)) in
+      (search (arith, way_spare)) in
       let own = some_of (bits_in m n) (sym (some n) ∙ ap is_some is) in
       same_none (bits_in new k) (some k) (elim (among_less b.front b.back b.x r.route among) [
-        | inl e ↦ absurd (other (sym r.number ∙ ap (λ z. (number_of z.room)) (sym e) ∙ b.number))
+        | inl e ↦ search arith
         | inr among_others ↦ ap (bits_in m) (sym r.number)
             ∙ others_idle (bits_in m) b.front b.back b.x r.route spare (ap (bits_in m) b.number ∙ own.1) among_others
       ])
@@ -101,9 +101,8 @@ module _ {V : Type 0} where
       → has_key m z.entry.key r ≡ true
   counted_key m at z {c = c} r is same some =
       let y = among_at r c some in
-      let s = tree_said (leaves_in m) (bits_in m) at.above at.tree at.stands y.0 (subst (IsIn y.0) (sym is) (subst (IsAmong y.0) (sym same) y.1)) in
-      ap (has_key m z.entry.key) (sym y.2) ∙ ap (is_of_key z.entry.key) s.3
-      ∙ eq-eqb y.0.entry.key z.entry.key (chain_key z.entry.key 34 c (leaf_chain at is same) y.0 y.1)
+      let s = tree_said (leaves_in m) (bits_in m) at.above at.tree at.stands y.0 (search arith) in
+      search (arith, eq-eqb, chain_key, leaf_chain)
 
   pub neighbour : {m new : Lodged V} {root : Node} {late : ℕ → Bool} (w : IsWholeBut m root late nobody_out) {n : ℕ} (p : LeafPart V)
       (b : IsMember m w.part n p) → IsUnlinked m new p.leaf → (to : Id)
@@ -112,17 +111,13 @@ module _ {V : Type 0} where
       let there = ⊎_elim (λ e. behind_there _ b to e) (λ e. before_there _ b to e) side in
       let sum = members_append (number_of to) b.front b.back in
       let more = members_more (number_of to) b.front b.back b.x in
-      let some : 1 ≤ members_at (number_of to) (b.front ++ b.back) = elim side [
-        | inl e ↦ let own = first_among b.back to (sym (ap (λ q. q.leaf.next) b.part_is) ∙ e) in omega arith
-        | inr e ↦ let own = last_among b.front to (sym (ap (λ q. q.leaf.previous) b.part_is) ∙ e) in omega arith
-      ] in
+      let some : 1 ≤ members_at (number_of to) (b.front ++ b.back) = search (arith, first_among, last_among) in
       let all : 1 ≤ members_at (number_of to) (b.front ++ (b.x ∷ b.back)) = omega arith in
-      let first_key = sym (chain_key b.first.entry.key 34 (b.front ++ (b.x ∷ b.back)) (leaf_chain b.part b.is b.split) b.x (among_own b.front b.back b.x))
+      let first_key = sym (search (arith, chain_key, leaf_chain, among_own))
       ∙ sym (ap (λ q. q.leaf.key) b.part_is) in
       let out = own_out w n p b in (
         Has-linked_out there new p.leaf u.leaves,
-        λ same. let at = ap (λ k. members_at k (b.front ++ b.back)) same in
-            omega arith,
+        search arith,
         routes_key m new (unlinked_routes m new p.leaf u.leaves) p.leaf.key (number_of to) ∙ ap (λ k. has_key m k (number_of to)) (sym first_key)
             ∙ counted_key m b.part b.first (number_of to) b.is b.split all,
       )

@@ -26,12 +26,13 @@ module _ {V : Type 0} where
   pub member_of : (L : Leaves V) (above previous : Option Id) (key top : ℕ) (c : List (Placed V)) → IsChain key top c → ChainStands L above previous c
       → (x : Placed V) → IsAmong x c → Member L c previous x
   member_of L above previous key top [] is stands x among = absurd among
-  member_of L above previous key top (y ∷ c) is stands x among = elim among [
-    | inl e ↦ subst (Member L (y ∷ c) previous) e
-        (record { part = leaf_part y above previous (first_room c); said = stands.0; block = refl; prior = inl (refl, refl) })
-    | inr behind ↦ let m = member_of L None (Some y.room) key y.entry.rank c is.3 stands.1 x behind in
-        record { part = m.part; said = m.said; block = m.block; prior = behind_prior key top y c previous x m.part.leaf.previous is behind m.prior }
-  ]
+  member_of L above previous key top (y ∷ c) is stands x among =
+      elim among [
+        | inl e ↦ subst (Member L (y ∷ c) previous) e
+            (record { part = leaf_part y above previous (first_room c); said = stands.0; block = refl; prior = inl (refl, refl) })
+        | inr behind ↦ let m = member_of L None (Some y.room) key y.entry.rank c is.3 stands.1 x behind in
+            search (arith, behind_prior)
+      ]
 
   -- a walk back that has come to a member, and knows what that names before it
   pub record Back {m : Lodged V} (whole : Run m) (at : Id) (before : Option Id) (steps : ℕ) : Type 0 where
@@ -42,8 +43,9 @@ module _ {V : Type 0} where
     pub few : steps ≤ is.entry.rank + 1
 
   member_in : (m : Lodged V) (c : Run m) (x : Placed V) → c.previous ≡ None → IsAmong x c.members → Member (leaves_in m) c.members None x
-  member_in m c x first among = subst (λ o. Member (leaves_in m) c.members o x) first
-      (member_of (leaves_in m) c.above c.previous c.key c.top c.members c.is c.stands x among)
+  member_in m c x first among =
+      subst (λ o. Member (leaves_in m) c.members o x) first
+      (search (arith, member_of))
 
   said_at : (m : Lodged V) (c : Run m) {x : Placed V} {room : Id} (k : Member (leaves_in m) c.members None x) → x.room ≡ room
       → leaves_in m (number_of room) ≡ Some k.part

@@ -2,7 +2,7 @@
 use Rattle.radix_tree.proofs.{WholeParts.Fits, WholeRoutes.gains_spliced, WholeRoutes.loses_spliced, Facts.test_turned, Plugs.counted_member}
 use Rattle.radix_tree.proofs.Words.{◌≡◌, ℕ, ◌≤◌, ◌⊎◌, ◌==◌, ◌||◌, Bool, true≢false, List, ◌∷◌, ◌++◌, Some, None, sym, ap, ◌∙◌, subst, inl, inr, arith, eqb-true}
 use Rattle.radix_tree.proofs.Words.{eq-eqb, is_some, Node, LeafOf, Placed, leaf, IsAmong, IsIn, Part, leaves_in, bits_in, masks_in, name_of, Way, one_if}
-use Rattle.radix_tree.proofs.Words.{members_at, leaves_at, shown, root_after, Gains, IsWholeBut, nobody_late, late_at, nobody_out, out_at, Lodged, number_of}
+use Rattle.radix_tree.proofs.Words.{members_at, shown, root_after, Gains, IsWholeBut, nobody_late, late_at, nobody_out, out_at, Lodged, number_of}
 use Rattle.radix_tree.proofs.ChainLists.{members_more, among_more, among_own, among_less, one_fork_less, one_fork_more, routes_more}
 use Rattle.radix_tree.proofs.ChainExchanges.{one_more, Rechained, under, old_counts, now_counts, rechained, spliced, old_among, among_old, no_home, same_marks}
 use Rattle.radix_tree.proofs.ChainExchanges.{not_marked, same_forks}
@@ -38,7 +38,7 @@ module _ {V : Type 0} where
         gone = λ y is below marked. same_marks r y marked;
         lists = tt;
         all = λ y is home. elim (split y is) [
-          | inl e ↦ inl (eq-eqb (number_of y.room) (number_of x.room) (ap (λ p. (number_of p.room)) (sym e)))
+          | inl e ↦ search (arith, eq-eqb)
           | inr own ↦ inr (
             among_old r y own,
             elim home [ inl lt ↦ inl lt | inr never ↦ absurd never ],
@@ -58,12 +58,7 @@ module _ {V : Type 0} where
   fits_out m new key whole at front back x r once unmarked rooms =
       let own_now : (y : Placed V) → IsIn y (leaf r.cons.first r.cons.rest) → IsAmong y (front ++ back) = λ y is. subst (IsAmong y) (sym r.cons.is) is in
       record {
-        leaves = λ n.
-            let o = old_counts r n in
-            let t = now_counts r n in
-            let more = members_more n front back x in
-            let same = ap one_if (rooms n) in
-            let about = ap one_if (test_turned n (number_of x.room)) in omega arith;
+        leaves = search (arith, old_counts, now_counts, members_more, test_turned);
         forks = λ n. same_forks m new key at r n;
         heads = λ n none some. r.heads n;
         masks = λ n none some. r.masks n;
@@ -76,25 +71,16 @@ module _ {V : Type 0} where
           ],
           λ home. absurd (no_home r y.entry.key y.entry.rank home),
         );
-        came = λ y is marked. among_old r y (among_more front back x y (own_now y is));
+        came = search (arith, among_old, among_more);
         gone = λ y is below marked. same_marks r y marked;
         lists = tt;
         all = λ y is home. inr (
           among_old r y (among_more front back x y (own_now y is)),
           elim home [ inl lt ↦ inl lt | inr never ↦ absurd never ],
           λ marked. same_marks r y marked,
-          λ late.
-              let same = eqb-true (number_of y.room) (number_of x.room) late in
-              let some = counted_member y (front ++ back) (own_now y is) in
-              let more = members_more (number_of y.room) front back x in
-              let one = ap one_if (eq-eqb (number_of x.room) (number_of y.room) (sym same)) in
-              let most = once (number_of y.room) in absurd (omega arith),
+          search (arith, eqb-true, counted_member, members_more, eq-eqb),
         );
-        late_aside = λ n none some late.
-            let same = eqb-true n (number_of x.room) late in
-            let own = counted_member x (front ++ (x ∷ back)) (among_own front back x) in
-            let counts = old_counts r (number_of x.room) in
-            let gone = ap (λ k. leaves_at k at.tree) (sym same) ∙ none in absurd (omega arith);
+        late_aside = search (arith, eqb-true, counted_member, among_own, old_counts);
       }
 
   -- ---- the whole
@@ -104,7 +90,7 @@ module _ {V : Type 0} where
         → bits_in m (number_of x.room) ≡ None → ((n : ℕ) → is_some (leaves_in new n) ≡ (n == number_of x.room) || is_some (leaves_in m n))
         → IsWholeBut new (root_after at.above (LeafOf r.cons.first.room) (name_of w.part.tree)) (late_at (number_of x.room)) nobody_out
     grown_whole ups way free unmarked idle rooms =
-        rechained w r ups way (fits_in m new key w.part at front back x r free unmarked rooms) (λ one. one_fork_more (bits_in m) front back x one idle)
+        rechained w r ups way (search (arith, fits_in)) (λ one. one_fork_more (bits_in m) front back x one idle)
 
     pub grown_routes : (ups : List (Part m)) → Way key w.part at ups
         → Gains x.entry (shown m (Some root)) (shown new (Some (root_after at.above (LeafOf r.cons.first.room) (name_of w.part.tree))))
@@ -117,7 +103,7 @@ module _ {V : Type 0} where
       → ((n : ℕ) → is_some (leaves_in new n) ≡ is_some (leaves_in m n))
       → IsWholeBut new (root_after at.above (LeafOf r.cons.first.room) (name_of w.part.tree)) nobody_late (out_at (number_of x.room))
   shrunk_whole m new key front back x w at ups way r once unmarked rooms =
-      rechained w r ups way (fits_out m new key w.part at front back x r once unmarked rooms) (λ one. one_fork_less (bits_in m) front back x one)
+      rechained w r ups way (search (arith, fits_out)) (λ one. one_fork_less (bits_in m) front back x one)
 
   pub shrunk_routes : {m new : Lodged V} {root : Node} {late : ℕ → Bool} {key : ℕ} (front back : List (Placed V)) (x : Placed V)
       (w : IsWholeBut m root late nobody_out) {at : Part m} (ups : List (Part m)) → Way key w.part at ups
