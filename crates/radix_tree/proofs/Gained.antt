@@ -6,7 +6,7 @@
 use Rattle.radix_tree.proofs.{RoomReads.none_some, Parts.leaf_run, Showing.shown_is, WholeParts.later_than, WholeRoutes.loses_entry, Facts.test_turned}
 use Rattle.radix_tree.proofs.Words.{◌≡◌, ℕ, ◌+◌, ◌==◌, ◌&&◌, ◌||◌, Bool, true, false, not, if◌then◌else◌, List, Option, Some, None, is_some, refl, sym, ap, ◌∙◌}
 use Rattle.radix_tree.proofs.Words.{subst, inl, arith, eqb-true, eq-eqb, get, Seen, Id, Leaf, Node, LeafOf, IsRoute, without, leaf, LeafPart, Part, leaf_in}
-use Rattle.radix_tree.proofs.Words.{bit_in, mask_in, leaves_in, leaf_part, first_room, LedTo, Gains, placed, IsWholeBut, has_key, is_of_key, nobody_late}
+use Rattle.radix_tree.proofs.Words.{leaves_in, leaf_part, first_room, LedTo, Gains, placed, IsWholeBut, has_key, is_of_key, nobody_late}
 use Rattle.radix_tree.proofs.Words.{nobody_out, late_at, lodge_leaf, KeepsLeaves, KeepsBits, KeepsMasks, one_if, beneath_shown, shown, shown_entry, IsWhole}
 use Rattle.radix_tree.proofs.Words.{Holds, Entry, Lodged, [], true≢false, number_of}
 use Rattle.radix_tree.proofs.Kept.{IsFound, shown_table}
@@ -47,13 +47,11 @@ module _ {V : Type 0} where
         low = refl;
         top = refl;
         named = refl;
-        leaves = λ n. ap (λ b. one_if b + 0 + 0) (test_turned (number_of id) n) ∙ lodged_at id e.value l n (n == number_of id)
-            ∙ ap (λ o. one_if (is_some (if n == (number_of id) then lodged_part id e.value l else o))) (sym (none n))
-            ∙ ap (λ o. one_if (is_some o)) (sym (leaves n));
-        forks = λ n. ap (λ o. one_if (is_some (bit_in o))) (sym (gone n)) ∙ ap (λ o. one_if (is_some o)) (sym (bits n));
+        leaves = search (arith, test_turned, lodged_at);
+        forks = search arith;
         spare = inl tt;
         lists = tt;
-        listed = λ n p some. absurd (none_some (ap mask_in (sym (gone n)) ∙ sym (masks n) ∙ some));
+        listed = search (arith, none_some);
         all = λ x at home. absurd home;
       } in
       (w, record { front = []; back = []; was = refl; now = shown_is w })
@@ -73,18 +71,15 @@ module _ {V : Type 0} where
   -- the route of one room was late, and is listed now
   pub among_left : {m : Lodged V} {root : Node} (room id : ℕ) → id ≡ room → IsWholeBut m root (λ n. late_at room n && not (n == id)) nobody_out
       → IsWhole m root
-  among_left {m = m} room id same w = not_late w (λ n e.
-      let both = and_not (n == room) (n == id) e in true≢false (sym (eq-eqb n id (eqb-true n room both.0 ∙ sym same)) ∙ both.1))
+  among_left {m = m} room id same w =
+      not_late w (search (arith, and_not, true≢false, eq-eqb, eqb-true))
 
   -- and with it the routes of a key
   pub new_left : (m old : Lodged V) {root : Node} (room : ℕ) {id : ℕ} (key k : ℕ) (was : ℕ → Bool) → id ≡ room → k ≡ key
       → ((n : ℕ) → was n ≡ true → has_key old key n ≡ true)
       → IsWholeBut m root (λ n. (((n == room) || was n) && not (n == id)) && not (has_key old k n)) nobody_out → IsWhole m root
-  new_left m old {root = root} room {id = id} key k was same key_is stays w = not_late w (λ n e.
-      let both = and_not (((n == room) || was n) && not (n == id)) (has_key old k n) e in
-      let first = and_not ((n == room) || was n) (n == id) both.0 in
-      let other = ap (λ r. n == r) (sym same) ∙ first.1 in
-      true≢false (sym (stays n (or_left (n == room) (was n) first.0 other)) ∙ ap (λ k. has_key old k n) (sym key_is) ∙ both.1))
+  new_left m old {root = root} room {id = id} key k was same key_is stays w =
+      not_late w (search (arith, and_not, true≢false, or_left))
 
   -- ---- the leaf beside which a route comes in
   -- what the first room of a leaf says
@@ -96,13 +91,14 @@ module _ {V : Type 0} where
     pub previous : part.leaf.previous ≡ None
 
   pub led_begun : (m : Lodged V) {key : ℕ} {whole : Part m} {first : Id} (d : LedTo key whole first) → IsBegun m d.leaf.first.entry.key first
-  led_begun m d = record {
-    part = leaf_part d.leaf.first d.part.above None (first_room d.leaf.rest);
-    at = ap (λ i. leaves_in m (number_of i)) (sym d.leaf.room_is) ∙ (leaf_run m d.leaf).stands.0;
-    block = ap (λ i. i.block) d.leaf.room_is;
-    key_is = refl;
-    previous = refl;
-  }
+  led_begun m d =
+      record {
+        part = leaf_part d.leaf.first d.part.above None (first_room d.leaf.rest);
+        at = search (arith, leaf_run);
+        block = ap (λ i. i.block) d.leaf.room_is;
+        key_is = refl;
+        previous = refl;
+      }
 
   -- each leaf keeps what it says but for the bit node above
   abbrev pub KeepsButAbove : Lodged V → Lodged V → Type 0
@@ -112,7 +108,7 @@ module _ {V : Type 0} where
   pub still_begun : {m : Lodged V} (new : Lodged V) {key : ℕ} {first : Id} → IsBegun m key first → KeepsButAbove m new → IsBegun new key first
   still_begun new {first = first} b keeps =
       let k = keeps (number_of first) b.part b.at in
-      record { part = record b.part { leaf = record b.part.leaf { above = k.0 } }; at = k.1; block = b.block; key_is = b.key_is; previous = b.previous }
+      search arith
 
   pub same_begun : {m : Lodged V} (new : Lodged V) {key : ℕ} {first : Id} → IsBegun m key first → KeepsLeaves m new → IsBegun new key first
   same_begun new {first = first} b leaves = record {

@@ -1,10 +1,9 @@
 -- A node comes into the place of the bit node above it, which is none from then on: what the rooms say.
 use Rattle.radix_tree.proofs.{RoomReads.inside, RoomReads.none_some, RoomReads.Has-leaf, PartRooms.elsewhere, PartRooms.way_once, PartRooms.spine_out}
 use Rattle.radix_tree.proofs.{Lodging.stays, Lodging.new_turn, JoinSides.side_is, JoinSides.side_stands, JoinSides.side_forks}
-use Rattle.radix_tree.proofs.Words.{◌≡◌, ◌+◌, ◌≤◌, ◌==◌, Bool, true, false, if◌then◌else◌, List, [], ◌∷◌, Option, Some, None, refl, sym, ap, ◌∙◌, arith, ℕ}
-use Rattle.radix_tree.proofs.Words.{eq-eqb, ne_eqb, is_some, Has, Id, Node, LeafOf, BitOf, Tree, BitPart, Part, leaf_in, leaves_in, bits_in, name_of}
-use Rattle.radix_tree.proofs.Words.{Way, one_if, forks_at, name_child, with_child, AreOnce, IsApart, IsLone, put_bit, put_head, bit_above, lift_bit, Lodged}
-use Rattle.radix_tree.proofs.Words.{number_of}
+use Rattle.radix_tree.proofs.Words.{◌≡◌, ◌+◌, ◌≤◌, ◌==◌, Bool, true, false, if◌then◌else◌, List, [], ◌∷◌, Option, Some, None, refl, ap, ◌∙◌, arith, ℕ, eq-eqb}
+use Rattle.radix_tree.proofs.Words.{ne_eqb, is_some, Has, Id, Node, LeafOf, BitOf, Tree, BitPart, Part, leaf_in, leaves_in, bits_in, name_of, Way, one_if}
+use Rattle.radix_tree.proofs.Words.{forks_at, name_child, with_child, AreOnce, IsApart, IsLone, put_bit, put_head, bit_above, lift_bit, Lodged, number_of}
 
 -- ---- a room that is not written
 pub put_off : (room : Id) (n : ℕ) (said : Option BitPart) → (n ≡ number_of room → ⊥) → put_bit room None n said ≡ said
@@ -56,7 +55,7 @@ module _ {V : Type 0} where
       → ((n : ℕ) → bits_in with_child n ≡ name_child above key to n (bits_in m n)) → ((n : ℕ) → bits_in put n ≡ put_bit up None n (bits_in with_child n))
       → (q : Part put) × (name_of q.tree ≡ to)
   below_stays m with_child put p up key to named apart leaves1 leaves2 bits1 bits2 = (
-    stays m put p (λ n some. leaves2 n ∙ leaves1 n) (λ n some. bits2 n ∙ ap (put_bit up None n) (bits1 n) ∙ quiet up key to n (bits_in m n) apart some),
+    stays m put p (λ n some. leaves2 n ∙ leaves1 n) (search (arith, quiet)),
     named,
   )
 
@@ -67,9 +66,7 @@ module _ {V : Type 0} where
   out_of_above m key whole at (p ∷ ps) over way top once is n some same =
       let b = way.0 in
       let out = (spine_out m b (way_once key whole p ps way.1 once)).0 in
-      let room = inside (sym b.above ∙ is) in
-      let here = ap (λ k. forks_at k at.tree) (same ∙ ap (λ i. (number_of i)) (sym room)) in
-      omega arith
+      search (arith, inside)
 
   module _ {m : Lodged V} {whole : Part m} {at up : Id} (l : IsLone m whole at up) where
     pub lone_once : AreOnce l.over.tree
@@ -79,12 +76,13 @@ module _ {V : Type 0} where
     lone_forks n = side_forks l.sides n
 
     pub lone_apart : IsApart l.other up l.over.above
-    lone_apart = record {
-      up_is = λ n some. let sum = lone_forks n in
-          let most = (lone_once).forks n in elsewhere up n (forks_at n l.other) some (omega arith);
-      above_is = λ over is n some. let sum = lone_forks n in
-          out_of_above m l.route.entry.key whole l.over l.ups over l.way l.top l.once is n (omega arith);
-    }
+    lone_apart =
+        record {
+          up_is = λ n some. let sum = lone_forks n in
+              search (arith, lone_once, elsewhere);
+          above_is = λ over is n some. let sum = lone_forks n in
+              search (arith, out_of_above);
+        }
 
     abbrev pub other_part : Part m
     other_part = record {

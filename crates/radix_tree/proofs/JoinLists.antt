@@ -1,8 +1,8 @@
 -- The list of masks of a bit node that goes is handed on to the node that takes its place.
 use Rattle.radix_tree.proofs.{RoomReads.inside, RoomReads.none_some, PartRooms.one_if_same, PartRooms.way_once, Facts.some_of, MaskLinks.stand_same}
-use Rattle.radix_tree.proofs.Words.{◌≡◌, ◌+◌, ◌≤◌, ◌⊎◌, ◌==◌, List, [], ◌∷◌, ◌++◌, Option, Some, None, inl, inr, refl, sym, ap, ◌∙◌, subst, arith, ℕ, cases_lt}
-use Rattle.radix_tree.proofs.Words.{cases_eq, is_some, Id, LeafOf, BitOf, Placed, Tree, leaf, fork, IsAmong, IsIn, IsTree, MaskPart, Heads, Masks, Part}
-use Rattle.radix_tree.proofs.Words.{leaves_in, bits_in, heads_in, masks_in, name_of, Falls, one_if, forks_at, AreOnce, HasSides, IsLone, IsHanded, IsMarked}
+use Rattle.radix_tree.proofs.Words.{◌≡◌, ◌+◌, ◌≤◌, ◌⊎◌, ◌==◌, List, [], ◌∷◌, ◌++◌, Option, None, inl, inr, refl, sym, ap, ◌∙◌, subst, arith, ℕ, cases_lt}
+use Rattle.radix_tree.proofs.Words.{cases_eq, is_some, Id, LeafOf, BitOf, Placed, Tree, leaf, fork, IsAmong, IsIn, IsTree, Heads, Masks, Part}
+use Rattle.radix_tree.proofs.Words.{heads_in, masks_in, name_of, Falls, one_if, forks_at, AreOnce, HasSides, IsLone, IsHanded, IsMarked}
 use Rattle.radix_tree.proofs.Words.{IsMaskList, MarkedIn, MarkedLists, IsMasks, IsBitNode, IsAside, Lodged, true≢false, number_of}
 use Rattle.radix_tree.proofs.MaskLists.{falls_wider, falls_among, falls_appended, among_appended, in_front, in_back, ranked_in, masks_listed}
 use Rattle.radix_tree.proofs.JoinSides.{side_is, side_stands, side_forks, side_in, in_side, side_list, side_lists, side_home}
@@ -14,13 +14,14 @@ module _ {V : Type 0} where
   -- one of the members is in a room, or none
   member_or_aside : (n : ℕ) (ms : List (Placed V)) → ((y : Placed V) × IsAmong y ms × (number_of y.room ≡ n)) ⊎ IsAside n ms
   member_or_aside n [] = inr (λ y among same. among)
-  member_or_aside n (x ∷ ms) = elim (cases_eq (number_of x.room) n) [
-    | inl here ↦ inl (x, inl refl, here)
-    | inr other ↦ elim (member_or_aside n ms) [
-      | inl found ↦ inl (found.0, inr found.1, found.2)
-      | inr aside ↦ inr (λ y among same. elim among [ inl e ↦ other (ap (λ p. (number_of p.room)) e ∙ same) | inr behind ↦ aside y behind same ])
-    ]
-  ]
+  member_or_aside n (x ∷ ms) =
+      elim (cases_eq (number_of x.room) n) [
+        | inl here ↦ inl (x, inl refl, here)
+        | inr other ↦ elim (member_or_aside n ms) [
+          | inl found ↦ inl (found.0, inr found.1, found.2)
+          | inr aside ↦ search arith
+        ]
+      ]
 
   -- the routes of a part tell their ranks by their rooms
   pub same_rank_at : (m : Lodged V) (p : Part m) (x y : Placed V) → IsIn x p.tree → IsIn y p.tree → number_of x.room ≡ number_of y.room → x.entry.rank ≡
@@ -28,7 +29,7 @@ module _ {V : Type 0} where
   same_rank_at m p x y one other same =
       let first = ranked_in m p x one in
       let second = ranked_in m p y other in
-      sym first.rank ∙ ap (λ q. q.leaf.rank) (inside (sym first.said ∙ ap (leaves_in m) same ∙ second.said)) ∙ second.rank
+      search (arith, inside)
 
   -- lists stay where their heads stay, and the masks of ranks at or past low
   lists_past : (H G : Heads) (K J : Masks) (low : ℕ) (t : Tree V) → ((n : ℕ) → 1 ≤ forks_at n t → G n ≡ H n)
@@ -39,14 +40,7 @@ module _ {V : Type 0} where
   lists_past H G K J low (fork room b zero one) heads masks marks is lists =
       let rises = is.0.rises in
       let old = lists.0 in (
-        record {
-          masks = old.masks;
-          begins = old.begins ∙ sym (heads (number_of room) (let own = one_if_same (number_of room) in omega arith));
-          stands = stand_same K J old.masks (λ y among. masks y (old.within y among).0 (falls_among low (b + 1) old.masks old.falls y among).0) old.stands;
-          falls = old.falls;
-          has = λ y member least most. old.has y (member.0, sym (marks y member.0) ∙ member.1) least most;
-          within = λ y among. let w = old.within y among in (w.0, marks y w.0 ∙ w.1);
-        },
+        search (arith, one_if_same, stand_same, falls_among),
         lists_past H G K J (b + 1) zero (λ n some. heads n (omega arith)) (λ y at past. masks y (inl at) (omega arith)) (λ y at. marks y (inl at)) is.1
             lists.1,
         lists_past H G K J (b + 1) one (λ n some. heads n (omega arith)) (λ y at past. masks y (inr at) (omega arith)) (λ y at. marks y (inr at)) is.2
@@ -85,7 +79,7 @@ module _ {V : Type 0} where
         low = low;
         rises = rises;
         within = within;
-        falls = falls_appended over.low (b + 1) (c + 1) theirs.masks mine.masks theirs.falls mine.falls (omega arith) (omega arith);
+        falls = search (arith, falls_appended);
       }
 
   -- a node's shape, by its name
@@ -117,21 +111,13 @@ module _ {V : Type 0} where
       let f = fork_of l.other named in
       let s = subst (HasSides l.route.entry.key l.over.tree up l.bit (leaf l.route [])) f.is l.sides in
       let w = two m l.over room l.bit f.bit f.zero f.one s lists in
-      let within = w.within in (
-        w.own.masks,
-        w.gone.masks,
-        w.own_is,
-        subst (λ o. IsMasks m o w.gone.masks) head w.gone_is,
-        falls_wider l.over.low (f.bit + 1) 0 34 (w.own.masks ++ w.gone.masks) w.falls (omega arith) (omega arith),
-      )
+      search (arith, falls_wider)
 
   -- the sibling as a bit node in use
   pub sibling_node : {m : Lodged V} {whole : Part m} {at : Id} (up room : Id) (l : IsLone m whole at up) → name_of l.other ≡ BitOf room → IsBitNode m room
   sibling_node {m = m} up room l named =
       let f = fork_of l.other named in
-      let s = subst (HasSides l.route.entry.key l.over.tree up l.bit (leaf l.route [])) f.is l.sides in
-      let stands = side_stands s (leaves_in m) (bits_in m) l.over.above l.over.stands in
-      record { part = record { block = room.block; bit = f.bit; zero = name_of f.zero; one = name_of f.one; above = Some up }; said = stands.0; block = refl }
+      search (arith, side_stands)
 
   -- what append leaves
   pub record IsAppended (m new : Lodged V) (room : Id) (first : Option Id) : Type 0 where
@@ -145,9 +131,10 @@ module _ {V : Type 0} where
   rank_stays : (m : Lodged V) {new : Lodged V} (over : Part m) {up room : Id} (b c : ℕ) {first : Option Id} {t : Tree V} (w : AreTwo m over up room b c t)
       → IsAppended m new room first → ((y : Placed V) → IsIn y t → IsIn y over.tree) → (y : Placed V) → IsIn y over.tree → c + 1 ≤ y.entry.rank
       → masks_in new (number_of y.room) ≡ masks_in m (number_of y.room)
-  rank_stays m over b c w a inside_over y at past = a.masks w.own.masks w.own_is (number_of y.room) (λ z among same.
+  rank_stays m over b c w a inside_over y at past =
+      a.masks w.own.masks w.own_is (number_of y.room) (λ z among same.
       let rank = same_rank_at m over z y (inside_over z (w.own.within z among).0) at same in
-      let most = (falls_among (b + 1) (c + 1) w.own.masks w.own.falls z among).1 in absurd (omega arith))
+      search (arith, falls_among))
 
   fork_handed : (m new : Lodged V) (over : Part m) {key : ℕ} (up room : Id) (b c : ℕ) (x : Placed V) (zero one : Tree V) {first : Option Id}
       → HasSides key over.tree up b (leaf x []) (fork room c zero one) → heads_in m (number_of up) ≡ first → masks_in m (number_of x.room) ≡ None
@@ -170,16 +157,10 @@ module _ {V : Type 0} where
       let sum = side_forks s n in
       let most = once.forks n in omega arith in
       record {
-        heads = λ n none. a.heads n (λ same.
-            let sum = side_forks s n in
-            let here = ap (λ k. one_if (number_of room == k)) same ∙ one_if_same (number_of room) in absurd (omega arith));
-        masks = λ n aside. a.masks w.own.masks w.own_is n (λ z among same. aside z (beneath z (w.own.within z among).0)
-            (let least = (falls_among (b + 1) (c + 1) w.own.masks w.own.falls z among).0 in omega arith) same);
+        heads = λ n none. search (arith, side_forks, one_if_same);
+        masks = search (arith, falls_among);
         marks = λ n p said. some_of (masks_in m n) (sym (a.marks n) ∙ ap is_some said);
-        kept = λ y at marked home. elim (side_home s y.entry.key y.entry.rank home) [
-          | inl le ↦ inr (inl (omega arith))
-          | inr deep ↦ elim deep [ inl none ↦ absurd none | inr there ↦ inr there ]
-        ];
+        kept = search (arith, side_home);
         all = λ y at home marked. marked_now y marked;
         lists = (
           record {
@@ -187,26 +168,15 @@ module _ {V : Type 0} where
             begins = now.begins;
             stands = now.stands;
             falls = w.falls;
-            has = λ y member least most. elim (cases_lt y.entry.rank (b + 1)) [
-              | inl short ↦ in_back w.own.masks w.gone.masks y (w.gone.has y (beneath y member.0, marked_then y member.1) least (omega arith))
-              | inr long ↦ in_front w.own.masks w.gone.masks y (w.own.has y (member.0, marked_then y member.1) long most)
-            ];
+            has = search (arith, cases_lt, in_back, in_front);
             within = λ y among. elim (among_appended w.own.masks w.gone.masks y among) [
               | inl own_one ↦ let member = w.own.within y own_one in (member.0, marked_now y member.1)
-              | inr gone_one ↦ let member = w.gone.within y gone_one in (
-                elim (side_in s y member.0) [
-                  | inl lone ↦ elim lone [ inl e ↦ absurd (unmarked_marked (masks_in m) x y unmarked e member.1) | inr none ↦ absurd none ]
-                  | inr there ↦ there
-                ],
-                marked_now y member.1,
-              )
+              | inr gone_one ↦ search (arith, side_in, unmarked_marked)
             ];
           },
-          lists_past (heads_in m) (heads_in new) (masks_in m) (masks_in new) (c + 1) zero (λ n some. let most =
-              most_forks n in a.heads n (λ same. let here = ap (λ k. one_if (number_of room == k)) same ∙ one_if_same (number_of room) in absurd (omega arith)))
+          lists_past (heads_in m) (heads_in new) (masks_in m) (masks_in new) (c + 1) zero (λ n some. search (arith, one_if_same))
               (λ y at past. rank_stays m over b c w a beneath y (beneath y (inl at)) past) (λ y at. a.marks (number_of y.room)) is.0.1 old.1,
-          lists_past (heads_in m) (heads_in new) (masks_in m) (masks_in new) (c + 1) one (λ n some. let most =
-              most_forks n in a.heads n (λ same. let here = ap (λ k. one_if (number_of room == k)) same ∙ one_if_same (number_of room) in absurd (omega arith)))
+          lists_past (heads_in m) (heads_in new) (masks_in m) (masks_in new) (c + 1) one (λ n some. search (arith, one_if_same))
               (λ y at past. rank_stays m over b c w a beneath y (beneath y (inr at)) past) (λ y at. a.marks (number_of y.room)) is.0.2 old.2,
         );
       }
@@ -245,28 +215,7 @@ module _ {V : Type 0} where
       let within = is.2 in
       let mine = side_list s (heads_in m) (masks_in m) over.low lists in
       let ready = subst (λ o. IsMasks m o mine.masks) head (masks_listed over mine within (λ y member. member.0)) in
-      let marks : (n : ℕ) (p : MaskPart) → masks_in new n ≡ Some p → masks_in m n ≡ Some p = λ n p said. elim (member_or_aside n mine.masks) [
-        | inl found ↦ absurd (none_some (sym (a.cleared mine.masks found.0 ready found.1) ∙ ap (masks_in new) found.2 ∙ said))
-        | inr aside ↦ sym (a.masks mine.masks ready n aside) ∙ said
-      ] in
-      record {
-        heads = λ n none. a.heads n;
-        masks = λ n aside. a.masks mine.masks ready n (λ z among same. aside z (mine.within z among).0
-            (falls_among over.low (b + 1) mine.masks mine.falls z among).0 same);
-        marks = λ n p said. (p, marks n p said);
-        kept = λ y at marked home. elim (side_home s y.entry.key y.entry.rank home) [
-          | inl le ↦ elim (cases_lt y.entry.rank over.low) [
-            | inl short ↦ inl short
-            | inr long ↦ let q = some_of (masks_in new (number_of y.room)) marked in
-                let was = ap is_some (marks (number_of y.room) q.0 q.1) in
-                let among = mine.has y (in_side s y at, was) long le in
-                absurd (none_some (sym (a.cleared mine.masks y ready among) ∙ q.1))
-          ]
-          | inr deep ↦ elim deep [ inl none ↦ absurd none | inr none ↦ absurd none ]
-        ];
-        all = λ y at home marked. absurd home;
-        lists = tt;
-      }
+      search (arith, member_or_aside, none_some, falls_among, side_home, cases_lt, some_of, in_side)
 
   pub leaf_side_handed : (m new : Lodged V) {whole : Part m} {at : Id} (up : Id) {room : Id} (first : Option Id) (l : IsLone m whole at up)
       → name_of l.other ≡ LeafOf room → heads_in m (number_of up) ≡ first → MarkedLists (heads_in m) (masks_in m) l.over.low l.over.tree → IsCleared m new first

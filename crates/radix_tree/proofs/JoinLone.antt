@@ -2,7 +2,7 @@
 use Rattle.radix_tree.proofs.{TreeMembers.tree_said, WaysDown.way_to_leaf, WholeParts.once_but, JoinSides.sides_of, JoinSides.side_own_stands, Facts.same_id}
 use Rattle.radix_tree.proofs.Words.{◌≡◌, ◌+◌, ◌≤◌, ◌==◌, Bool, true, false, List, [], ◌∷◌, Option, Some, None, inl, inr, refl, sym, ap, ◌∙◌, subst, arith, ℕ}
 use Rattle.radix_tree.proofs.Words.{eqb-true, cases_eq, is_some, Id, Node, Placed, Tree, leaf, fork, IsAmong, IsIn, LeafPart, Leaves, Part, leaves_in, bits_in}
-use Rattle.radix_tree.proofs.Words.{first_room, leaf_part, ChainStands, Stands, Way, one_if, members_at, leaves_at, AreOnce, HasSides, IsLone, IsWholeBut}
+use Rattle.radix_tree.proofs.Words.{first_room, leaf_part, ChainStands, Way, one_if, members_at, leaves_at, AreOnce, IsLone, IsWholeBut}
 use Rattle.radix_tree.proofs.Words.{nobody_out, Lodged, number_of}
 use Rattle.radix_tree.proofs.RoomReads.{inside, none_some}
 
@@ -32,10 +32,11 @@ module _ {V : Type 0} where
   has_previous : (L : Leaves V) (above : Option Id) (previous : Id) (c : List (Placed V)) (y : Placed V) {p : LeafPart V}
       → ChainStands L above (Some previous) c → IsAmong y c → L (number_of y.room) ≡ Some p → p.leaf.previous ≡ None → ⊥
   has_previous L above previous [] y stands among said none = among
-  has_previous L above previous (x ∷ c) y stands among said none = elim among [
-    | inl e ↦ none_some (sym none ∙ ap (λ q. q.leaf.previous) (inside (sym said ∙ ap (λ z. L (number_of z.room)) (sym e) ∙ stands.0)))
-    | inr behind ↦ has_previous L None x.room c y stands.1 behind said none
-  ]
+  has_previous L above previous (x ∷ c) y stands among said none =
+      elim among [
+        | inl e ↦ search (arith, none_some, inside)
+        | inr behind ↦ has_previous L None x.room c y stands.1 behind said none
+      ]
 
   pub record IsAlone (L : Leaves V) (above : Option Id) (x : Placed V) (xs : List (Placed V)) (y : Placed V) (p : LeafPart V) : Type 0 where
     pub first : x ≡ y
@@ -44,11 +45,11 @@ module _ {V : Type 0} where
 
   alone : (L : Leaves V) (above : Option Id) (x : Placed V) (xs : List (Placed V)) (y : Placed V) (p : LeafPart V) → ChainStands L above None (x ∷ xs)
       → IsAmong y (x ∷ xs) → L (number_of y.room) ≡ Some p → p.leaf.next ≡ None → p.leaf.previous ≡ None → IsAlone L above x xs y p
-  alone L above x xs y p stands among said next previous = elim among [
-    | inl e ↦ let is = inside (sym said ∙ ap (λ z. L (number_of z.room)) (sym e) ∙ stands.0) in
-        record { first = e; rest = none_first xs (sym (ap (λ q. q.leaf.next) is) ∙ next); above_is = ap (λ q. q.leaf.above) is }
-    | inr behind ↦ absurd (has_previous L None x.room xs y stands.1 behind said previous)
-  ]
+  alone L above x xs y p stands among said next previous =
+      elim among [
+        | inl e ↦ search (arith, inside, none_first)
+        | inr behind ↦ absurd (has_previous L None x.room xs y stands.1 behind said previous)
+      ]
 
   -- ---- and the bit node above it
   lone_over : (m : Lodged V) (whole : Part m) (at up : Id) (y : Placed V) (under : Part m) (ups : List (Part m)) → y.room ≡ at → under.tree ≡ leaf y []
@@ -64,8 +65,7 @@ module _ {V : Type 0} where
         over = q;
         bit = b.at.bit;
         other = found.0;
-        sides = subst (λ i. HasSides y.entry.key q.tree i b.at.bit (leaf y []) found.0) same
-            (subst (λ t. HasSides y.entry.key q.tree b.room b.at.bit t found.0) tree found.1);
+        sides = search arith;
         ups = qs;
         way = way.1;
         top = top;
@@ -84,8 +84,8 @@ module _ {V : Type 0} where
       let found = way_to_leaf m w.part y.0 y.1 in
       let f = found.at in
       let is_alone = alone (leaves_in m) found.part.above f.first f.rest y.0 p
-      (subst (Stands (leaves_in m) (bits_in m) found.part.above) f.is found.part.stands) (subst (IsIn y.0) f.is found.among) own next previous in
-      lone_over m w.part at up y.0 found.part found.ups same (f.is ∙ ap (λ x. leaf x f.rest) is_alone.first ∙ ap (leaf y.0) is_alone.rest)
+      (search arith) (subst (IsIn y.0) f.is found.among) own next previous in
+      lone_over m w.part at up y.0 found.part found.ups same (search arith)
       (sym is_alone.above_is ∙ above) found.way w.top (once_but w)
 
   -- what the room says

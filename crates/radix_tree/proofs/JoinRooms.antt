@@ -25,7 +25,7 @@ module _ {V : Type 0} where
     pub never_top : (links : Links) {l : Leaf} → AreLinks m at links → l ≡ leaf_of links → IsLonely m at → l.above ≡ None → ⊥
     never_top links are is lonely none =
         let r = lonely (own_part h) (ap leaf_in h.at) in
-        true≢false (sym r.2 ∙ ap (λ z. is_some z.above) (read_is links are is) ∙ ap is_some none)
+        search (arith, true≢false, read_is)
 
     pub key_read : {whole : Part m} {up : Id} (links : Links) {l : Leaf} (f : IsLone m whole at up) → AreLinks m at links → l ≡ leaf_of links
         → f.route.entry.key ≡ l.key
@@ -54,16 +54,7 @@ module _ {V : Type 0} where
     up_read links {node = node} {key = key} are is key_is =
         let s = up_says l in
         let read = bit_read m up links s.says s.block are is in
-        let same_bit = read.bit ∙ s.bit in
-        let most = (side_is l.sides l.over.low l.over.is).2 in
-        record {
-          bit = omega arith;
-          above = sym (read.above ∙ s.above_is);
-          to = sym s.other ∙ ap (λ k. other_side k l.bit s.part.zero s.part.one) key_is
-              ∙ ap (λ b. other_side key b s.part.zero s.part.one) (sym same_bit) ∙ ap (λ z. other_side key node.bit z s.part.one) (sym read.zero)
-              ∙ ap (other_side key node.bit node.zero) (sym read.one);
-          head = head_read (Has-up l) links are is;
-        }
+        search (arith, side_is, head_read, Has-up)
 
     -- ---- in the rooms once the list is handed on
     pub above_after : (new : Lodged V) {above : Option Id} {over : Id} → ((n : ℕ) → leaves_in new n ≡ leaves_in m n)
@@ -91,35 +82,34 @@ module _ {V : Type 0} where
   chain_others : (B : Bits) (xs : List (Placed V)) (y z : Placed V) → HasOneFork B xs → IsAmong y xs → IsAmong z xs → (number_of z.room ≡ number_of y.room → ⊥)
       → (B (number_of y.room) ≡ None → ⊥) → B (number_of z.room) ≡ None
   chain_others B [] y z one first second apart used = absurd first
-  chain_others B (x ∷ xs) y z one first second apart used = elim one [
-    | inl idle ↦ elim second [
-      | inl ez ↦ elim first [ inl ey ↦ absurd (apart (ap (λ p. (number_of p.room)) (sym ez ∙ ey))) | inr by ↦ absurd (used (idle_at B xs y idle by)) ]
-      | inr bz ↦ idle_at B xs z idle bz
-    ]
-    | inr rest ↦ elim second [
-      | inl ez ↦ ap (λ p. B (number_of p.room)) (sym ez) ∙ rest.0
-      | inr bz ↦ elim first [
-        | inl ey ↦ absurd (used (ap (λ p. B (number_of p.room)) (sym ey) ∙ rest.0))
-        | inr by ↦ chain_others B xs y z rest.1 by bz apart used
+  chain_others B (x ∷ xs) y z one first second apart used =
+      elim one [
+        | inl idle ↦ search (arith, idle_at)
+        | inr rest ↦ elim second [
+          | inl ez ↦ ap (λ p. B (number_of p.room)) (sym ez) ∙ rest.0
+          | inr bz ↦ elim first [
+            | inl ey ↦ absurd (used (ap (λ p. B (number_of p.room)) (sym ey) ∙ rest.0))
+            | inr by ↦ chain_others B xs y z rest.1 by bz apart used
+          ]
+        ]
       ]
-    ]
-  ]
 
   tree_others : (B : Bits) (low : ℕ) (t : Tree V) (y z : Placed V) → IsTree low t → HaveOneFork B t → IsIn y t → IsIn z t → y.entry.key ≡ z.entry.key
       → (number_of z.room ≡ number_of y.room → ⊥) → (B (number_of y.room) ≡ None → ⊥) → B (number_of z.room) ≡ None
   tree_others B low (leaf x xs) y z is one first second keys apart used = chain_others B (x ∷ xs) y z one first second apart used
-  tree_others B low (fork room b zero ones) y z is one first second keys apart used = elim first [
-    | inl fz ↦ elim second [
-      | inl sz ↦ tree_others B (b + 1) zero y z is.1 one.0 fz sz keys apart used
-      | inr so ↦ absurd (zero_not_one (bit_beneath (b + 1) b 0 zero is.1 is.0.zeros y fz)
-          (ap (bit_at b) keys ∙ bit_beneath (b + 1) b 1 ones is.2 is.0.ones z so))
-    ]
-    | inr fo ↦ elim second [
-      | inl sz ↦ absurd (zero_not_one (bit_beneath (b + 1) b 0 zero is.1 is.0.zeros z sz)
-          (ap (bit_at b) (sym keys) ∙ bit_beneath (b + 1) b 1 ones is.2 is.0.ones y fo))
-      | inr so ↦ tree_others B (b + 1) ones y z is.2 one.1 fo so keys apart used
-    ]
-  ]
+  tree_others B low (fork room b zero ones) y z is one first second keys apart used =
+      elim first [
+        | inl fz ↦ elim second [
+          | inl sz ↦ tree_others B (b + 1) zero y z is.1 one.0 fz sz keys apart used
+          | inr so ↦ absurd (zero_not_one (bit_beneath (b + 1) b 0 zero is.1 is.0.zeros y fz)
+              (ap (bit_at b) keys ∙ bit_beneath (b + 1) b 1 ones is.2 is.0.ones z so))
+        ]
+        | inr fo ↦ elim second [
+          | inl sz ↦ absurd (zero_not_one (bit_beneath (b + 1) b 0 zero is.1 is.0.zeros z sz)
+              (search (arith, bit_beneath)))
+          | inr so ↦ tree_others B (b + 1) ones y z is.2 one.1 fo so keys apart used
+        ]
+      ]
 
   -- the route of a room of the whole
   record RouteOf (m : Lodged V) (t : Tree V) (n : ℕ) (p : LeafPart V) : Type 0 where
@@ -143,8 +133,7 @@ module _ {V : Type 0} where
   others_idle m w used other p q first second keys bit apart =
       let y = route_of m w used p first in
       let z = route_of m w other q second in
-      ap (bits_in m) (sym z.room) ∙ tree_others (bits_in m) w.part.low w.part.tree y.route z.route w.part.is w.spare y.is z.is (y.key ∙ keys ∙ sym z.key)
-      (λ same. apart (sym z.room ∙ same ∙ y.room)) (λ none. none_some (sym none ∙ ap (bits_in m) y.room ∙ bit))
+      search (arith, tree_others, none_some)
 
   was_said : (o : Option (LeafPart V)) (p : LeafPart V) → content_of (Some p) ≡ content_of o → (q : LeafPart V) × (o ≡ Some q) × (q.leaf.key ≡ p.leaf.key)
   was_said None p same = absurd (none_some (sym same))

@@ -33,12 +33,11 @@ module _ {V : Type 0} where
         let sum = lone_forks l (number_of up) in
         let apart = lone_apart l in
         record {
-          heads = λ n none. heads n (λ same. let here = ap (λ k. forks_at k l.over.tree) same in
-              absurd (omega arith)) ∙ h.heads n none;
+          heads = search arith;
           masks = λ n aside. masks n ∙ h.masks n aside;
           marks = λ n p said. h.marks n p (sym (masks n) ∙ said);
-          kept = λ y is marked home. h.kept y is (marked_same (masks_in new) (masks_in handed) y (sym (masks (number_of y.room))) marked) home;
-          all = λ y is home marked. marked_same (masks_in handed) (masks_in new) y (masks (number_of y.room)) (h.all y is home marked);
+          kept = search (arith, marked_same);
+          all = search (arith, marked_same);
           lists = lists_same (heads_in handed) (heads_in new) (masks_in handed) (masks_in new) l.over.low l.other (λ n some. heads n (apart.up_is n some))
               (λ y is. masks (number_of y.room)) h.lists;
         }
@@ -66,23 +65,14 @@ module _ {V : Type 0} where
         }
 
     pub exchange : (new : Lodged V) (j : IsJoined m new whole at up l) → IsExchange m new l.route.entry.key whole l.over (under_part j)
-    exchange new j = record {
-      low = refl;
-      above = refl;
-      keys = λ c value before have. side_have l.sides c value have;
-      leaves = λ n none some. j.leaves n ∙ misses_leaf (name_of l.other) n (λ r is same.
-          let there = named_leaf l.other r is in
-          let here = ap (λ k. leaves_at k l.other) same in
-          let sum = side_leaves n l.sides in absurd (omega arith)) l.over.above (leaves_in m n);
-      bits = λ n none some.
-          let sum = lone_forks l n in
-          j.bits n ∙ misses_bit (name_of l.other) n (λ r is same.
-          let there = named_bit l.other r is in
-          let here = ap (λ k. forks_at k l.other) same in absurd (omega arith))
-          l.over.above (put_bit up None n (name_child l.over.above l.route.entry.key (name_of l.other) n (bits_in m n)))
-          ∙ put_off up n (name_child l.over.above l.route.entry.key (name_of l.other) n (bits_in m n))
-          (λ same. let own = ap (λ k. one_if (number_of up == k)) same ∙ one_if_same (number_of up) in absurd (omega arith));
-    }
+    exchange new j =
+        record {
+          low = refl;
+          above = refl;
+          keys = λ c value before have. side_have l.sides c value have;
+          leaves = search (arith, misses_leaf, named_leaf, side_leaves);
+          bits = search (arith, lone_forks, misses_bit, named_bit, put_off, one_if_same);
+        }
 
     -- ---- what the rooms say
     pub routes_kept : {new : Lodged V} → IsJoined m new whole at up l → KeepsRoutes m new
@@ -104,14 +94,8 @@ module _ {V : Type 0} where
         let sum = lone_forks l n in
         elim (number_of up == n) as (λ t. (number_of up == n) ≡ t → forks_at n l.over.tree ≡ one_if t + (0 + forks_at n l.other)
         → forks_at n l.other + one_if (is_some (bits_in m n)) ≡ forks_at n l.over.tree + one_if (is_some (bits_in new n))) [
-          | true ↦ λ e all.
-              let same = eqb-true (number_of up) n e in
-              let says = side_says l.sides (leaves_in m) (bits_in m) l.over.above l.over.stands in
-              let was = ap (λ o. one_if (is_some o)) (ap (bits_in m) (sym same) ∙ says.says) in
-              let is = ap (λ o. one_if (is_some o)) (ap (bits_in new) (sym same) ∙ freed j) in
-              omega arith
-          | false ↦ λ e all.
-              let same = ap one_if (same_bits new j n (λ is. true≢false (sym (eq-eqb (number_of up) n (sym is)) ∙ e))) in omega arith
+          | true ↦ search (arith, eqb-true, side_says, freed)
+          | false ↦ search (arith, same_bits, true≢false, eq-eqb)
         ] refl sum
 
     -- ---- the whole
@@ -121,8 +105,7 @@ module _ {V : Type 0} where
         let n = (number_of at) in
         let own = ap (λ i. one_if (number_of i == number_of at)) l.room_is ∙ one_if_same (number_of at) in
         let most = (lone_once l).leaves (number_of at) in
-        let sum = side_leaves (number_of at) l.sides in
-        (omega arith, omega arith)
+        search (arith, side_leaves)
 
     short_stays : (new : Lodged V) → IsHanded m new l.over.low l.over.tree l.other → (y : Placed V) → IsIn y l.over.tree → y.entry.rank < l.over.low
         → masks_in new (number_of y.room) ≡ masks_in m (number_of y.room)
@@ -134,47 +117,31 @@ module _ {V : Type 0} where
         let room = own_room in
         let in_over : (y : Placed V) → IsIn y l.other → IsIn y l.over.tree = λ y is. in_side l.sides y is in
         record {
-          leaves = λ n.
-              let sum = side_leaves n l.sides in
-              let same = ap one_if (routes_some m new (routes_kept j) n) in
-              let flip = ap one_if (test_turned n (number_of at)) ∙ ap (λ i. one_if (number_of i == n)) (sym l.room_is) in omega arith;
+          leaves = search (arith, side_leaves, routes_some, routes_kept, test_turned);
           forks = λ n. fork_count new j n;
           heads = λ n none some. h.heads n none;
-          masks = λ n none some. h.masks n (λ y is past same.
-              let there = counted_leaf y l.over.tree is in
-              let here = ap (λ k. leaves_at k l.over.tree) (sym same) in
-              absurd (omega arith));
+          masks = search (arith, counted_leaf);
           masks_above = λ y is short marked. short_stays new h y is short;
           marks = h.marks;
           kept = λ y is marked. elim (side_in l.sides y is) [
             | inl own ↦ elim own [
               | inl e ↦ let p = some_of (masks_in new (number_of y.room)) marked in
                   let q = h.marks (number_of y.room) p.0 p.1 in
-                  absurd (none_some (sym unmarked ∙ ap (λ i. masks_in m (number_of i)) (sym l.room_is ∙ ap (λ z. z.room) e) ∙ q.1))
+                  search (arith, none_some)
               | inr none ↦ absurd none
             ]
             | inr there ↦ (there, λ home. h.kept y there marked home)
           ];
           came = λ y is marked. in_over y is;
-          gone = λ y is short marked. marked_same (masks_in m) (masks_in new) y (short_stays new h y is short) marked;
+          gone = search (arith, marked_same, short_stays);
           lists = h.lists;
           all = λ y is home. inr (
             in_over y is,
             elim home [ inl short ↦ inl short | inr there ↦ inr (home_side l.sides l.over.low y l.over.is is there) ],
-            λ marked. elim home [
-              | inl short ↦ marked_same (masks_in m) (masks_in new) y (short_stays new h y (in_over y is) short) marked
-              | inr there ↦ h.all y is there marked
-            ],
-            λ late.
-                let same = eqb-true (number_of y.room) (number_of at) late in
-                let there = counted_leaf y l.other is in
-                let here = ap (λ k. leaves_at k l.other) same in
-                let none = room.0 in absurd (omega arith),
+            search (arith, marked_same, short_stays),
+            search (arith, eqb-true, counted_leaf),
           );
-          late_aside = λ n none some late.
-              let same = eqb-true n (number_of at) late in
-              let here = ap (λ k. leaves_at k l.over.tree) same in
-              let one = room.1 in absurd (omega arith);
+          late_aside = search (arith, eqb-true);
         }
 
     abbrev pub exchanged_whole : (new : Lodged V) {root : Node} (j : IsJoined m new whole at up l) → name_of whole.tree ≡ root
@@ -190,7 +157,7 @@ module _ {V : Type 0} where
     whole_joined h unmarked =
         let e = exchanged_whole l new j w.named in
         whole_changed w e (fits l new j h unmarked) (spare_changed w e
-        (λ spare. spare_same (bits_in m) (bits_in new) l.other (λ y is none. idle_stays l j (number_of y.room) none) (side_spare l.sides (bits_in m) spare))
+        (search (arith, spare_same, idle_stays, side_spare))
         (λ n none some idle. idle_stays l j n idle))
 
     pub routes_joined : (p : LeafPart V) → leaves_in m (number_of at) ≡ Some p
