@@ -54,9 +54,7 @@ module _ {V : Type 0} where
         → (z : Placed V) → IsIn z (tree_of y.home) → y.home.part.low ≤ z.entry.rank → z.entry.rank ≤ y.home.at.bit → number_of z.room ≡ number_of x.room → ⊥
     out_of_range x in_x out z in_z least most same =
         let e = one_room m whole z x (to_whole z in_z) in_x same in
-        let h = y.home in
-        out (subst (IsIn x) (sym h.at.is) (subst (λ p. IsIn p (tree_of h)) e in_z))
-        (subst (λ p. h.part.low ≤ p.entry.rank) e least) (subst (λ p. p.entry.rank ≤ h.at.bit) e most)
+        search (arith, tree_of)
 
     aside_of : (l : list_at) (x : Placed V) → IsIn x whole.tree
         → (IsIn x y.home.part.tree → y.home.part.low ≤ x.entry.rank → x.entry.rank ≤ y.home.at.bit → ⊥) → IsAside (number_of x.room) l.masks
@@ -70,8 +68,7 @@ module _ {V : Type 0} where
     no_rank l unmarked x among same =
         let is = l.within x among in
         let e = rank_is x is.0 same in
-        let marked = subst (IsMarked (masks_in m)) e is.1 in
-        true≢false (sym marked ∙ ap (λ i. is_some (masks_in m (number_of i))) y.room_is ∙ ap is_some unmarked)
+        search (arith, true≢false)
 
   marks_more : {m : Lodged V} (new : Lodged V) {node : Id} (room : Id) → IsSortedIn m new node room → (x : Placed V) → IsMarked (masks_in m) x
       → IsMarked (masks_in new) x
@@ -91,11 +88,11 @@ module _ {V : Type 0} where
         masks = sorted_in y.is l.masks;
         begins = after.begins;
         stands = after.stands;
-        falls = falls_sorted h.part.low (h.at.bit + 1) y.is l.masks l.falls h.past (omega arith) none;
+        falls = search (arith, falls_sorted);
         has = λ x is least most. elim (cases_eq (number_of x.room) (number_of room)) [
           | inl same ↦ subst (λ p. IsAmong p (sorted_in y.is l.masks)) (one_room m whole y.is x y.inside (to_whole y x is.0)
               (ap (λ i. (number_of i)) y.room_is ∙ sym same)) (sorted_here y.is l.masks)
-          | inr other ↦ among_sorted h.part.low (h.at.bit + 1) y.is l.masks l.falls x (l.has x (is.0, sym (s.marks (number_of x.room) other) ∙ is.1) least most)
+          | inr other ↦ search (arith, among_sorted)
         ];
         within = λ x among. elim (sorted_among h.part.low (h.at.bit + 1) y.is l.masks l.falls x among) [
           | inl e ↦ subst (MarkedIn (masks_in new) (tree_of h)) e (in_home y, ap (λ i. is_some (masks_in new (number_of i))) y.room_is ∙ s.marked)
@@ -121,10 +118,7 @@ module _ {V : Type 0} where
         ];
         all = λ x in_x home. elim (cases_eq (number_of x.room) (number_of room)) [
           | inl same ↦ inl (ap (λ n. is_some (masks_in new n)) same ∙ s.marked)
-          | inr other ↦ elim (w.all x in_x home) [
-            | inl marked ↦ inl (s.marks (number_of x.room) other ∙ marked)
-            | inr is_late ↦ inr (ap (λ t. t && not (number_of x.room == number_of room)) is_late ∙ ap not (ne_eqb (number_of x.room) (number_of room) other))
-          ]
+          | inr other ↦ search (arith, ne_eqb)
         ];
       })
 
@@ -188,11 +182,8 @@ module _ {V : Type 0} where
             | inr other ↦ let q = some_of (masks_in m n) (sym (s.marks n other) ∙ ap is_some said) in w.listed n q.0 q.1
           ];
           all = λ x in_x home. elim (cases_eq (number_of x.room) (number_of room)) [
-            | inl same ↦ inr (or_right (late (number_of x.room)) (eq-eqb (number_of x.room) (number_of room) same))
-            | inr other ↦ elim (w.all x in_x home) [
-              | inl old ↦ inl (s.marks (number_of x.room) other ∙ old)
-              | inr is_late ↦ inr (ap (λ t. t || (number_of x.room == number_of room)) is_late)
-            ]
+            | inl same ↦ search (arith, or_right, eq-eqb)
+            | inr other ↦ search arith
           ];
         })
 
@@ -213,13 +204,11 @@ module _ {V : Type 0} where
     pub settled : (room : Id)
         → ((x : Placed V) → IsIn x w.part.tree → HasHome x.entry.key x.entry.rank w.part.tree → number_of x.room ≡ number_of room → IsMarked (masks_in m) x)
         → IsWholeBut m root (λ n. late n && not (n == number_of room)) nobody_out
-    settled room here = with_late (λ n. late n && not (n == number_of room)) w (λ x in_x home. elim (cases_eq (number_of x.room) (number_of room)) [
-      | inl same ↦ inl (here x in_x home same)
-      | inr other ↦ elim (w.all x in_x home) [
-        | inl marked ↦ inl marked
-        | inr is_late ↦ inr (ap (λ t. t && not (number_of x.room == number_of room)) is_late ∙ ap not (ne_eqb (number_of x.room) (number_of room) other))
-      ]
-    ])
+    settled room here =
+        with_late (λ n. late n && not (n == number_of room)) w (λ x in_x home. elim (cases_eq (number_of x.room) (number_of room)) [
+          | inl same ↦ inl (here x in_x home same)
+          | inr other ↦ search (arith, ne_eqb)
+        ])
 
     pub never_late : (room : Id) (y : Placed V) → IsIn y w.part.tree → y.room ≡ room → (HasHome y.entry.key y.entry.rank w.part.tree → ⊥)
         → IsWholeBut m root (λ n. late n && not (n == number_of room)) nobody_out

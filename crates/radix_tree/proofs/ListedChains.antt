@@ -2,7 +2,7 @@
 use Rattle.radix_tree.proofs.{Scans.ended_at, Parts.among_leaf, Parts.way_leads, WaysDown.way_to_leaf, ChainStarts.member_of, HomeLists.placed_in}
 use Rattle.radix_tree.proofs.{Listed.settled, WholeParts.later_than, ListedHomes.chain_of, ListedHomes.in_chain, JoinLone.tree_room}
 use Rattle.radix_tree.proofs.Words.{◌≡◌, ℕ, ◌+◌, ◌<◌, ◌≤◌, ◌==◌, Bool, true, false, not, ◌&&◌, List, [], ◌∷◌, Option, Some, None, refl, sym, ap, ◌∙◌, subst}
-use Rattle.radix_tree.proofs.Words.{inl, inr, arith, eqb-true, eq-eqb, is_some, Has, leaf_of, mask_node_of, Id, Leaf, Links, MaskNode, Node, Placed, IsAmong}
+use Rattle.radix_tree.proofs.Words.{arith, eqb-true, eq-eqb, is_some, Has, leaf_of, mask_node_of, Id, Leaf, Links, MaskNode, Node, Placed, IsAmong}
 use Rattle.radix_tree.proofs.Words.{IsIn, IsChain, LeafPart, Leaves, Part, Run, leaves_in, masks_in, mask_part, first_room, leaf_part}
 use Rattle.radix_tree.proofs.Words.{ChainStands, one_if, KeepsLeaves, IsWholeBut, is_of_key, has_key, nobody_out, Lodged, true≢false, number_of}
 use Rattle.radix_tree.proofs.RoomReads.{inside, none_some, AreLinks, Has-leaf, leaf_read}
@@ -41,7 +41,8 @@ module _ {V : Type 0} where
     -- a room whose mask is listed is not late
     pub listed_late : {root : Node} (late : ℕ → Bool) (w : IsWholeBut m root late nobody_out) (links : Links) (n : MaskNode) → AreLinks m room links
         → mask_node_of links ≡ Some n → IsWholeBut m root (λ k. late k && not (k == number_of room)) nobody_out
-    listed_late late w links n are some = settled w room (λ x in_x home same. ap (λ k. is_some (masks_in m k)) same ∙ mask_some links n are some)
+    listed_late late w links n are some =
+        settled w room (search (arith, mask_some))
 
   -- ---- how far the walk has to go: one more than the rank of the route that it has come to
   abbrev pub left_of : Option (LeafPart V) → ℕ
@@ -98,9 +99,7 @@ module _ {V : Type 0} where
   begins_at m whole y is p said none =
       let c = chain_of whole y is in
       let k = member_of (leaves_in m) c.above None c.key c.top c.members c.is c.stands y (in_chain whole y is) in
-      let same = inside (sym k.said ∙ said) in
-      let before = ap (λ z. z.leaf.previous) same ∙ none in
-      elim k.prior [ inl first ↦ first.0 | inr other ↦ absurd (none_some (sym before ∙ other.2)) ]
+      search (arith, inside, none_some)
 
   pub begun : {m : Lodged V} {root : Node} (late : ℕ → Bool) (first : Id) (p : LeafPart V) → IsWholeBut m root late nobody_out
       → leaves_in m (number_of first) ≡ Some p → p.block ≡ first.block → p.leaf.previous ≡ None → Left m m root late p.leaf.key (Some first)
@@ -157,15 +156,12 @@ module _ {V : Type 0} where
         whole = whole;
         rest = run_behind m l.rest x;
         begins = sym (next_read m new l.rest room links f x kept are leaf);
-        less = λ n is_late. l.less n (and_left (l.later n) (not (n == number_of room)) is_late);
+        less = search (arith, and_left);
         behind = λ n is_late has.
             let y = l.behind n (and_left (l.later n) (not (n == number_of room)) is_late) has in
             let other = eqb_not n (number_of room) (and_right (l.later n) (not (n == number_of room)) is_late) in (
               y.0,
-              elim (subst (IsAmong y.0) x.is y.1) [
-                | inl e ↦ absurd (other (sym y.2 ∙ ap (λ p. (number_of p.room)) (sym e) ∙ ap (λ i. (number_of i)) x.room_is))
-                | inr among ↦ among
-              ],
+              search arith,
               y.2,
             );
       }
@@ -178,5 +174,5 @@ module _ {V : Type 0} where
   -- ---- its end
   pub ended : {m now : Lodged V} {root : Node} (late : ℕ → Bool) (key : ℕ) {at : Option Id} → Left m now root late key at → at ≡ None
       → IsWholeBut now root (λ n. late n && not (has_key m key n)) nobody_out
-  ended {m = m} late key l is = later_than (λ n. late n && not (has_key m key n)) (λ n is_late. both_true (late n) (has_key m key n) (l.less n is_late)
-      (λ has. let x = l.behind n is_late has in ended_at l.rest.members (l.begins ∙ is) x.0 x.1)) l.whole
+  ended {m = m} late key l is =
+      later_than (λ n. late n && not (has_key m key n)) (search (arith, both_true, ended_at)) l.whole

@@ -34,7 +34,7 @@ module _ {V : Type 0} {m : Lodged V} where
         stands = list.stands;
         falls = list.falls;
         inside = λ y among. subst (IsIn y) (sym f.is) (list.within y among).0;
-        listed = λ y at least below. list.has y (subst (IsIn y) f.is at, tt) least (omega arith);
+        listed = search arith;
         tried = λ y at covers below. below;
         fits = omega arith;
         past = omega arith;
@@ -117,7 +117,7 @@ module _ {V : Type 0} {m : Lodged V} where
       → key ≡ masked l.rank address → o ≡ None → Tells (Finds (HasPair key l.rank) (In p)) o → Reads now later 67 → Through address p bit n.next start later
   miss {address} {p} {bit} {start = start} {later = later} x {l = l} n {key = key} is said key_is none tells more =
       let told = asked address p None key_is (ap (λ z. z.rank) is ∙ x.rank) (subst (Tells (Finds (HasPair key l.rank) (In p))) none tells) in
-      subst (λ i. Through address p bit i start later) (ap (λ k. k.next) (inside (sym x.listed ∙ said))) (x.miss later told more)
+      search (arith, inside)
 
   pub ended : {address : ℕ} {p : Part m} {bit : ℕ} {at : Option Id} {start now : Counter} → Through address p bit at start now → at ≡ None
       → Best address p.low (bit + 1) (In p) None

@@ -1,7 +1,7 @@
 -- What stands in a table, what holds of all its entries, and what is found among them; and all this with or without an entry.
-use Rattle.radix_tree.proofs.Words.{◌≡◌, ℕ, ◌+◌, ◌≤◌, ◌⊎◌, Bool, true, false, cond, not, filter, length, is_some, IsTrue, nat_lt, nat_eq, ◌&&◌, ◌||◌, List, []}
-use Rattle.radix_tree.proofs.Words.{◌∷◌, Option, Some, None, refl, sym, ◌∙◌, subst, inl, inr, suc, arith, nat_tests, find, Contains, AllByRecursion}
-use Rattle.radix_tree.proofs.Words.{option_or, agrees, precedes, IsRoute, IsTable, has_pair, entry_at, first_of, without, with_entry, agreeing, greater}
+use Rattle.radix_tree.proofs.Words.{◌≡◌, ℕ, ◌+◌, ◌≤◌, ◌⊎◌, Bool, true, false, cond, not, filter, length, is_some, nat_lt, nat_eq, ◌&&◌, ◌||◌, List, []}
+use Rattle.radix_tree.proofs.Words.{◌∷◌, Option, Some, None, refl, sym, ◌∙◌, subst, inl, inr, arith, nat_tests, find, Contains, AllByRecursion}
+use Rattle.radix_tree.proofs.Words.{option_or, precedes, IsRoute, IsTable, has_pair, entry_at, first_of, without, with_entry, agreeing, greater}
 use Rattle.radix_tree.proofs.Words.{greatest, best_of, AreOnePair, StandsIn, Agrees, MembersStand, MembersAreRoutes, EntryAtIsMember, FirstOfIsMember}
 use Rattle.radix_tree.proofs.Words.{BestIsMember, FirstIsGreatest, WithStands, WithKeepsOthers, WithoutLeavesNone, WithoutKeepsOthers, MembersOfWith}
 use Rattle.radix_tree.proofs.Words.{MembersOfWithout, WithCounts, WithoutCounts, Entry}
@@ -57,8 +57,9 @@ first_of_is_member key entries e h =
     (found.0, grind (arith, nat_tests))
 
 pub best_is_member : {V : Type 0} → BestIsMember V
-best_is_member address entries e h = all_greatest (λ x. Contains entries x × Agrees address x) (agreeing address entries) e
-    (all_passed (Contains entries) (λ x. agrees x.rank x.key address) entries (all_members entries)) h
+best_is_member address entries e h =
+    all_greatest (λ x. Contains entries x × Agrees address x) (agreeing address entries) e
+    (search (arith, all_passed, all_members)) h
 
 -- each member of a table stands in it
 pub all_stand : {V : Type 0} (es : List (Entry V)) → IsTable es → AllByRecursion (StandsIn es) es
@@ -80,14 +81,10 @@ members_are_routes entries e r h = all_contains IsRoute entries e (all_routes en
 all_of_key : {V : Type 0} (key : ℕ) (es : List (Entry V)) (e : Entry V) → IsTable es → first_of key es ≡ Some e
     → AllByRecursion (λ o. o.key ≡ key → o.rank ≤ e.rank) es
 all_of_key key [] e r h = tt
-all_of_key {V} key (x ∷ xs) e r h = elim (nat_eq x.key key) as (λ b. nat_eq x.key key ≡ b → cond b (Some x) (first_of key xs) ≡ Some e
+all_of_key {V} key (x ∷ xs) e r h =
+    elim (nat_eq x.key key) as (λ b. nat_eq x.key key ≡ b → cond b (Some x) (first_of key xs) ≡ Some e
     → AllByRecursion (λ o. o.key ≡ key → o.rank ≤ e.rank) (x ∷ xs)) [
-      | true ↦ λ k s. (let is : x ≡ e = cc in
-          let P : Entry V → Type 0 = λ y. AllByRecursion (λ o. o.key ≡ key → o.rank ≤ y.rank) (x ∷ xs) in
-          subst P is (
-            (λ o. omega arith),
-            all_weaker (λ f. IsTrue (precedes x f)) (λ o. o.key ≡ key → o.rank ≤ x.rank) (λ f p o. grind (arith, nat_tests)) xs r.1,
-          ))
+      | true ↦ search (arith, all_weaker, nat_tests)
       | false ↦ λ k s. ((λ o. absurd (grind (arith, nat_tests))), all_of_key key xs e r.2 s)
     ] refl h
 
@@ -99,7 +96,7 @@ pub with_stands : {V : Type 0} → WithStands V
 with_stands entries e =
     let q = has_pair e.key e.rank in
     let gone = find_filter q (λ x. precedes x e) false (λ x k. grind (arith, nat_tests)) entries in
-    find-append q (filter (λ x. precedes x e) entries) (e ∷ filter (λ x. precedes e x) entries) ∙ rw (gone, own_pair e) refl
+    search (arith, find-append, own_pair)
 
 -- a pair precedes an entry
 abbrev pair_precedes : {V : Type 0} → ℕ → ℕ → Entry V → Bool
@@ -129,10 +126,9 @@ pub without_leaves_none : {V : Type 0} → WithoutLeavesNone V
 without_leaves_none key rank entries = find_filter (has_pair key rank) (λ x. not (has_pair key rank x)) false (λ x k. rw k refl) entries
 
 pub without_keeps_others : {V : Type 0} → WithoutKeepsOthers V
-without_keeps_others key rank gone_key gone_rank entries other = find_filter (has_pair key rank) (λ x. not (has_pair gone_key gone_rank x)) true
-    (λ x k. (let is = pair_is key rank x k in
-    let fails = other_pair gone_key gone_rank x (λ same. other (sym is.0 ∙ same.0, sym is.1 ∙ same.1)) in
-    rw fails refl)) entries
+without_keeps_others key rank gone_key gone_rank entries other =
+    find_filter (has_pair key rank) (λ x. not (has_pair gone_key gone_rank x)) true
+    (search (arith, pair_is, other_pair, same)) entries
 
 -- so an entry stays that stood before one of another pair was put in, or another pair was taken out
 pub with_keeps : {V : Type 0} (es : List (Entry V)) (e r : Entry V) → entry_at e.key e.rank es ≡ None → StandsIn es r → StandsIn (with_entry e es) r
@@ -147,20 +143,19 @@ pub members_of_with : {V : Type 0} → MembersOfWith V
 members_of_with {V} entries e member h =
     let Was : Entry V → Type 0 = λ x. (x ≡ e) ⊎ (Contains entries x × ¬ (AreOnePair x.key x.rank e.key e.rank)) in
     let sooner_ones = all_weaker (λ x. Contains entries x × (precedes x e ≡ true)) Was
-    (λ x k. inr (k.0, λ same. (let test = k.1 in let keys = same.0 in let ranks = same.1 in absurd (grind (arith, nat_tests)))))
-    (filter (λ x. precedes x e) entries) (all_passed (Contains entries) (λ x. precedes x e) entries (all_members entries)) in
+    (search (arith, same, nat_tests))
+    (filter (λ x. precedes x e) entries) (search (arith, all_passed, all_members)) in
     let later_ones = all_weaker (λ x. Contains entries x × (precedes e x ≡ true)) Was
-    (λ x k. inr (k.0, λ same. (let test = k.1 in let keys = same.0 in let ranks = same.1 in absurd (grind (arith, nat_tests)))))
-    (filter (λ x. precedes e x) entries) (all_passed (Contains entries) (λ x. precedes e x) entries (all_members entries)) in
-    all_contains Was (with_entry e entries) member (all_append Was (filter (λ x. precedes x e) entries) (e ∷ filter (λ x. precedes e x) entries) sooner_ones
-    (inl refl, later_ones)) h
+    (search (arith, same, nat_tests))
+    (filter (λ x. precedes e x) entries) (search (arith, all_passed, all_members)) in
+    all_contains Was (with_entry e entries) member (search (arith, all_append)) h
 
 pub members_of_without : {V : Type 0} → MembersOfWithout V
 members_of_without {V} key rank entries member h =
     let Was : Entry V → Type 0 = λ x. Contains entries x × ¬ (AreOnePair x.key x.rank key rank) in
     all_contains Was (without key rank entries) member (all_weaker (λ x. Contains entries x × (not (has_pair key rank x) ≡ true)) Was
-    (λ x k. (k.0, not_pair key rank x (let test = k.1 in grind (arith, nat_tests))))
-    (without key rank entries) (all_passed (Contains entries) (λ x. not (has_pair key rank x)) entries (all_members entries))) h
+    (search (arith, not_pair, nat_tests))
+    (without key rank entries) (search (arith, all_passed, all_members))) h
 
 -- one more, unless the pair was there
 pub with_counts : {V : Type 0} → WithCounts V
@@ -175,9 +170,6 @@ without_counts key rank (x ∷ xs) r =
     + cond (is_some (cond b (Some x) (entry_at key rank xs))) 1 0) [
       | true ↦ λ k. (
           let here : stands_before key rank x ≡ false = grind (arith, nat_tests) in
-          let none = without_absent key rank xs (none_at key rank xs (all_behind key rank x xs here r.1)) in
-          rw none (omega arith))
-      | false ↦ λ k. elim (is_some (entry_at key rank xs)) as (λ b. length xs ≡ length (without key rank xs) + cond b 1 0
-          → suc (length xs) ≡ suc (length (without key rank xs)) + cond b 1 0)
-          [ true ↦ λ e. omega (arith, e) | false ↦ λ e. omega (arith, e) ] (without_counts key rank xs r.2)
+          search (arith, without_absent, none_at, all_behind))
+      | false ↦ search (arith, without_counts key rank xs r.2)
     ] refl

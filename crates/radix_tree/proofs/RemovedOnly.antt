@@ -52,19 +52,21 @@ module _ {V : Type 0} where
   behind_named : (L : Leaves V) (above : Option Id) (before : Id) (c : List (Placed V)) (n : ℕ) {p : LeafPart V} → ChainStands L above (Some before) c
       → 1 ≤ members_at n c → L n ≡ Some p → p.leaf.previous ≡ None → ⊥
   behind_named L above before [] n stands some said none = omega arith
-  behind_named L above before (x ∷ xs) n stands some said none = elim (cases_eq (number_of x.room) n) [
-    | inl same ↦ none_some (sym none ∙ ap (λ q. q.leaf.previous) (inside (sym said ∙ ap L (sym same) ∙ stands.0)))
-    | inr other ↦ let off = one_if_not (number_of x.room) n other in
-        behind_named L None x.room xs n stands.1 (omega arith) said none
-  ]
+  behind_named L above before (x ∷ xs) n stands some said none =
+      elim (cases_eq (number_of x.room) n) [
+        | inl same ↦ search (arith, none_some, inside)
+        | inr other ↦ let off = one_if_not (number_of x.room) n other in
+            behind_named L None x.room xs n stands.1 (omega arith) said none
+      ]
 
   beneath_named : (L : Leaves V) (B : Bits) (up : Id) (t : Tree V) (n : ℕ) {p : LeafPart V} → Stands L B (Some up) t → 1 ≤ leaves_at n t → L n ≡ Some p
       → p.leaf.previous ≡ None → p.leaf.above ≡ None → ⊥
-  beneath_named L B up (leaf x xs) n stands some said previous above = elim (cases_eq (number_of x.room) n) [
-    | inl same ↦ none_some (sym above ∙ ap (λ q. q.leaf.above) (inside (sym said ∙ ap L (sym same) ∙ stands.0)))
-    | inr other ↦ let off = one_if_not (number_of x.room) n other in
-        behind_named L None x.room xs n stands.1 (omega arith) said previous
-  ]
+  beneath_named L B up (leaf x xs) n stands some said previous above =
+      elim (cases_eq (number_of x.room) n) [
+        | inl same ↦ search (arith, none_some, inside)
+        | inr other ↦ let off = one_if_not (number_of x.room) n other in
+            behind_named L None x.room xs n stands.1 (omega arith) said previous
+      ]
   beneath_named L B up (fork room b left right) n stands some said previous above = elim (none_or_some (leaves_at n left)) [
     | inl none ↦ beneath_named L B room right n stands.2 (omega arith) said previous above
     | inr there ↦ beneath_named L B room left n stands.1 there said previous above

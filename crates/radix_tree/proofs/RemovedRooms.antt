@@ -3,7 +3,7 @@ use Rattle.radix_tree.proofs.{RoomReads.inside, RoomReads.none_some, PartRooms.f
 use Rattle.radix_tree.proofs.{PlugLists.marked_same, PlugLists.lists_same, MovedSpare.tree_stays, MovedWhole.out_leaf, MovedWhole.out_apart}
 use Rattle.radix_tree.proofs.Words.{◌≡◌, ℕ, ◌+◌, if◌then◌else◌, List, Option, Some, None, refl, sym, ap, ◌∙◌, inl, inr, arith, eq-eqb, ne_eqb, is_some}
 use Rattle.radix_tree.proofs.Words.{get, Ptr, Seen, Has, bit_node_of, Id, Node, BitNode, LeafPart, MaskPart, Part, leaf_in, bit_in, head_in, mask_in, bit_part}
-use Rattle.radix_tree.proofs.Words.{head_part, leaves_in, bits_in, heads_in, masks_in, one_if, leaves_at, IsWhole, Holds, shown, Gains, IsWholeBut, HasRoomMore}
+use Rattle.radix_tree.proofs.Words.{head_part, leaves_in, bits_in, masks_in, one_if, leaves_at, IsWhole, Holds, shown, Gains, IsWholeBut, HasRoomMore}
 use Rattle.radix_tree.proofs.Words.{nobody_late, out_at, content_of, KeepsRoutes, IsOut, Entry, Lodged, cases_eq, number_of}
 use Rattle.radix_nodes.proofs.Callers.{get-removed}
 use Rattle.std.specs.FinMap.{remove}
@@ -34,8 +34,7 @@ module _ {V : Type 0} where
     no_mask (Some p) is =
         let x = w.listed n p is in
         let out = out_leaf n w in
-        let some = counted_leaf x.0 w.part.tree x.1 in
-        let same = ap (λ k. leaves_at k w.part.tree) x.2 in absurd (omega arith)
+        search (arith, counted_leaf)
 
     -- ---- the tree stays
     abbrev part_left : bits_in m n ≡ None → Part (remove m n)
@@ -49,15 +48,11 @@ module _ {V : Type 0} where
     }
 
     leaves_left : (k : ℕ) → leaves_at k w.part.tree + 0 ≡ one_if (is_some (leaves_in (remove m n) k))
-    leaves_left k = elim (cases_eq k n) [
-      | inl same ↦ let out = out_leaf n w in
-          let here = ap (λ j. leaves_at j w.part.tree) same in
-          let gone = ap (λ j. one_if (is_some (leaves_in (remove m n) j))) same ∙ ap (λ o. one_if (is_some (leaf_in o))) (get_out m n) in
-          omega arith
-      | inr other ↦ let was = w.leaves k in
-          let off = ap one_if (ne_eqb k n other) in
-          let stays = ap (λ o. one_if (is_some (leaf_in o))) (get_other m n k other) in omega arith
-    ]
+    leaves_left k =
+        elim (cases_eq k n) [
+          | inl same ↦ search (arith, out_leaf, get_out)
+          | inr other ↦ search (arith, ne_eqb, get_other)
+        ]
 
     pub evicted : bits_in m n ≡ None → IsWhole (remove m n) root
     evicted none =
@@ -71,14 +66,10 @@ module _ {V : Type 0} where
           named = w.named;
           leaves = leaves_left;
           forks = λ k. w.forks k ∙ ap (λ o. one_if (is_some o)) (sym (bits k));
-          spare = tree_stays (bits_in m) (bits_in (remove m n)) w.part.tree (λ k some idle. bits k ∙ idle) w.spare;
-          lists = lists_same (heads_in m) (heads_in (remove m n)) (masks_in m) (masks_in (remove m n)) w.part.low w.part.tree (λ k some. heads k)
-              (λ y at. masks (number_of y.room)) w.lists;
+          spare = search (arith, tree_stays);
+          lists = search (arith, lists_same);
           listed = λ k p is. w.listed k p (sym (masks k) ∙ is);
-          all = λ x is home. elim (w.all x is home) [
-            | inl marked ↦ inl (marked_same (masks_in m) (masks_in (remove m n)) x (masks (number_of x.room)) marked)
-            | inr late ↦ inr late
-          ];
+          all = search (arith, marked_same);
         }
 
     evicted_shown : bits_in m n ≡ None → shown (remove m n) (Some root) ≡ shown m (Some root)
