@@ -1,7 +1,7 @@
 -- A bit node in use moves from its room to another: the rooms before the writes and after them.
 use Rattle.radix_tree.proofs.{PartRooms.frame, PartRooms.way_once, PartRooms.way_counts, PartRooms.spine_out, Forking.forks_there, Beside.misses_leaf}
 use Rattle.radix_tree.proofs.{Beside.misses_bit, WaysDown.way_to_fork, WholeParts.once_but, Lodging.over_at, Facts.none_of, Facts.off_room}
-use Rattle.radix_tree.proofs.Words.{◌≡◌, ℕ, ◌+◌, ◌≤◌, ◌==◌, true, false, List, [], ◌∷◌, Option, Some, None, refl, sym, ap, ◌∙◌, subst, arith, is_some, Has}
+use Rattle.radix_tree.proofs.Words.{◌≡◌, ℕ, ◌+◌, ◌≤◌, ◌==◌, true, false, List, [], ◌∷◌, Option, Some, None, refl, sym, ap, ◌∙◌, arith, is_some, Has}
 use Rattle.radix_tree.proofs.Words.{bit_node_of, Id, Links, Node, BitNode, BitPart, Part, leaves_in, bits_in, heads_in, bit_in, bit_part, name_of, ForkAt, Way}
 use Rattle.radix_tree.proofs.Words.{one_if, leaves_at, forks_at, AreOnce, IsWholeBut, nobody_late, out_at, put_bit, put_head, lift_leaf, lift_bit, KeepsMasks}
 use Rattle.radix_tree.proofs.Words.{rename, KeepsRoutes, CanTake, Lodged, IsBitNode, LeafOf, BitOf, inl, inr, bit_above, if◌then◌else◌, number_of}
@@ -88,7 +88,7 @@ module _ {V : Type 0} where
         right = ap (λ p. p.one) same;
         above = ap (λ p. p.above) same;
         head = head_read h links are is;
-        takes = takes (record { block = h.room.block; bit = n.bit; zero = n.zero; one = n.one; above = n.above }) said;
+        takes = search arith;
       }
 
   -- ---- counts
@@ -112,10 +112,7 @@ module _ {V : Type 0} where
     pub not_from : (k : ℕ) → 1 ≤ forks_at k v.f.zero + forks_at k v.f.one → k ≡ number_of from → ⊥
     not_from k some same =
         let sum = at_forks (number_of from) in
-        let one = from_here in
-        let most = (at_once).forks (number_of from) in
-        let left = ap (λ j. forks_at j v.f.zero) same in
-        let right = ap (λ j. forks_at j v.f.one) same in omega arith
+        search (arith, from_here, at_once)
 
     pub out_not_from : (k : ℕ) → forks_at k v.at.tree ≡ 0 → k ≡ number_of from → ⊥
     out_not_from k none same = search (arith, at_forks, from_here)
@@ -146,7 +143,7 @@ module _ {V : Type 0} where
       let none = out.0 in
       let some = out.1 in
       let le = (way_counts m key whole p ps (number_of way.0.room) way.1).1 in
-      subst (λ i. (forks_at (number_of i) at.tree ≡ 0) × (1 ≤ forks_at (number_of i) whole.tree)) same (none, omega arith)
+      search arith
 
   module _ {m : Lodged V} {root : Node} {from to : Id} {n : BitNode} (v : IsMove m root from to n) where
     pub not_spine : (k : ℕ) → 1 ≤ forks_at k v.at.tree → (up : Id) → n.above ≡ Some up → k ≡ number_of up → ⊥

@@ -3,8 +3,8 @@ use Rattle.radix_tree.proofs.{Parts.fork_is, Parts.fork_stands, Parts.bit_part_o
 use Rattle.radix_tree.proofs.{PlugLists.marked_same, PlugLists.mask_list_same, PlugLists.lists_same, WholeParts.Fits}
 use Rattle.radix_tree.proofs.Words.{◌≡◌, ℕ, ◌+◌, ◌≤◌, ◌==◌, true, false, if◌then◌else◌, List, ◌∷◌, Some, None, refl, sym, ap, ◌∙◌, subst, inl, inr, arith}
 use Rattle.radix_tree.proofs.Words.{eqb-true, is_some, Id, Node, BitOf, BitNode, fork, bit_at, HaveBit, IsIn, Part, leaves_in, bits_in, heads_in, masks_in}
-use Rattle.radix_tree.proofs.Words.{bit_part, head_part, name_of, Stands, Beneath, Way, one_if, forks_at, HasHome, name_child, with_child, AreOnce, MarkedLists}
-use Rattle.radix_tree.proofs.Words.{nobody_late, out_at, put_bit, put_head, lift_leaf, lift_bit, IsExchange, with_renamed, rename, Lodged, IsMarked}
+use Rattle.radix_tree.proofs.Words.{bit_part, head_part, name_of, Stands, Beneath, Way, one_if, forks_at, name_child, with_child, AreOnce, MarkedLists}
+use Rattle.radix_tree.proofs.Words.{nobody_late, out_at, put_bit, put_head, lift_leaf, lift_bit, IsExchange, with_renamed, rename, Lodged}
 use Rattle.radix_tree.proofs.Words.{[], cases_eq, MarkedIn, number_of}
 use Rattle.radix_tree.proofs.PartRooms.{way_once, zero_turned, one_turned}
 use Rattle.radix_tree.proofs.MovedReads.{one_if_is, one_if_not, at_room, rename_misses, renamed_to, renamed_off, leaf_off, bit_off, content_used}
@@ -84,13 +84,7 @@ module _ {V : Type 0} where
     over_named from to room once some named same =
         let said = (fork_stands b.at).0 in
         let sum = ap (forks_at (number_of from)) b.at.is in
-        let most = once.forks (number_of from) in
-        ap (with_renamed from to) said ∙ elim b.side [
-          | inl e ↦ let is = ap (forks_at (number_of from)) e.0 in
-              zero_named from to room named same e.0 e.1 (omega arith)
-          | inr e ↦ let is = ap (forks_at (number_of from)) e.0 in
-              one_named from to room named same e.0 e.1 (omega arith)
-        ] ∙ sym (ap (with_child key (BitOf to)) said)
+        search (arith, zero_named, one_named)
 
   spine_named : (m : Lodged V) (from to room : Id) (key : ℕ) (whole at : Part m) (ups : List (Part m)) → Way key whole at ups → whole.above ≡ None
       → AreOnce whole.tree → 1 ≤ forks_at (number_of from) at.tree → name_of at.tree ≡ BitOf room → number_of room ≡ (number_of from)
@@ -100,8 +94,7 @@ module _ {V : Type 0} where
       let b = way.0 in
       ap (λ o. rename o from to k (bits_in m k)) b.above ∙ elim (k == number_of b.room) as (λ t. (k == number_of b.room) ≡ t
       → (if t then with_renamed from to (bits_in m k) else bits_in m k) ≡ (if t then with_child key (BitOf to) (bits_in m k) else bits_in m k)) [
-        | true ↦ λ e. subst (λ j. with_renamed from to (bits_in m j) ≡ with_child key (BitOf to) (bits_in m j)) (sym (eqb-true k (number_of b.room) e))
-            (over_named b from to room (way_once key whole p ps way.1 once) some named same)
+        | true ↦ search (arith, eqb-true, over_named, way_once)
         | false ↦ λ e. refl
       ] refl ∙ sym (ap (λ o. name_child o key (BitOf to) k (bits_in m k)) b.above)
 
@@ -127,19 +120,17 @@ module _ {V : Type 0} where
     lists_moved : MarkedLists (heads_in new) (masks_in new) v.at.low (fork to v.f.bit v.f.zero v.f.one)
     lists_moved =
         let old = subst (MarkedLists (heads_in m) (masks_in m) v.at.low) v.f.is
-        (way_lists (IsMarked (masks_in m)) v.key v.whole.part v.at v.ups v.way v.whole.lists) in
+        (search (arith, way_lists)) in
         let head = d.heads (number_of to) ∙ at_room to (number_of to) (head_part (Some n)) (put_head from None (number_of to) (heads_in m (number_of to))) refl
         ∙ sym v.head
         ∙ ap (heads_in m) (sym v.number) in
         let stays : (k : ℕ) → 1 ≤ forks_at k v.f.zero + forks_at k v.f.one → heads_in new k ≡ heads_in m k = λ k some. let le = beneath_whole v k in
         head_stays d k (not_from v k some) (not_to v k (omega arith)) in (
           mask_list_same (masks_in m) (masks_in new) v.at.low v.f.bit (MarkedIn (masks_in new) (fork to v.f.bit v.f.zero v.f.one)) head
-              (λ x is below. ((is.0, marked_same (masks_in m) (masks_in new) x (d.masks (number_of x.room)) is.1), d.masks (number_of x.room)))
-              (λ x is below. (is.0, marked_same (masks_in new) (masks_in m) x (sym (d.masks (number_of x.room))) is.1)) old.0,
-          lists_same (heads_in m) (heads_in new) (masks_in m) (masks_in new) (v.f.bit + 1) v.f.zero (λ k some. stays k (omega arith))
-              (λ y at. d.masks (number_of y.room)) old.1,
-          lists_same (heads_in m) (heads_in new) (masks_in m) (masks_in new) (v.f.bit + 1) v.f.one (λ k some. stays k (omega arith))
-              (λ y at. d.masks (number_of y.room)) old.2,
+              (search (arith, marked_same))
+              (search (arith, marked_same)) old.0,
+          search (arith, lists_same),
+          search (arith, lists_same),
         )
 
     -- what each number has in use
@@ -163,26 +154,25 @@ module _ {V : Type 0} where
         ]
 
     pub fits : Fits m new v.whole.part v.at (under_of v d) nobody_late nobody_late (out_at (number_of from)) (out_at (number_of from))
-    fits = record {
-      leaves = λ k.
-          let sum = at_leaves v k in
-          let used = ap one_if (content_used (leaves_in new k) (leaves_in m k) (contents_stay d k)) in omega arith;
-      forks = λ k.
-          let sum = at_forks v k in
-          let used = count_moved k in omega arith;
-      heads = λ k none some. head_stays d k (out_not_from v k none) (not_to v k some);
-      masks = λ k none some. d.masks k;
-      masks_above = λ y is below marked. d.masks (number_of y.room);
-      marks = λ k p is. (p, sym (d.masks k) ∙ is);
-      kept = λ y is marked. (subst (IsIn y) v.f.is is, λ home. inr (subst (HasHome y.entry.key y.entry.rank) v.f.is home));
-      came = λ y is marked. subst (IsIn y) (sym v.f.is) is;
-      gone = λ y is below marked. marked_same (masks_in m) (masks_in new) y (d.masks (number_of y.room)) marked;
-      lists = lists_moved;
-      all = λ y is home. inr (
-        subst (IsIn y) (sym v.f.is) is,
-        elim home [ inl below ↦ inl below | inr here ↦ inr (subst (HasHome y.entry.key y.entry.rank) (sym v.f.is) here) ],
-        λ marked. marked_same (masks_in m) (masks_in new) y (d.masks (number_of y.room)) marked,
-        λ late. late,
-      );
-      late_aside = λ k none some late. late;
-    }
+    fits =
+        record {
+          leaves = λ k.
+              let sum = at_leaves v k in
+              let used = ap one_if (content_used (leaves_in new k) (leaves_in m k) (contents_stay d k)) in omega arith;
+          forks = search (arith, at_forks, count_moved);
+          heads = λ k none some. head_stays d k (out_not_from v k none) (not_to v k some);
+          masks = λ k none some. d.masks k;
+          masks_above = λ y is below marked. d.masks (number_of y.room);
+          marks = λ k p is. (p, sym (d.masks k) ∙ is);
+          kept = search arith;
+          came = λ y is marked. subst (IsIn y) (sym v.f.is) is;
+          gone = search (arith, marked_same);
+          lists = lists_moved;
+          all = λ y is home. inr (
+            subst (IsIn y) (sym v.f.is) is,
+            search arith,
+            search (arith, marked_same),
+            λ late. late,
+          );
+          late_aside = λ k none some late. late;
+        }

@@ -2,7 +2,7 @@
 use Rattle.radix_tree.proofs.{Exchanging.exchanged, Plugs.spare_at, Plugs.spare_plug, WholeChanges.whole_changed, WholeRoutes.routes_changed}
 use Rattle.radix_tree.proofs.{MovedReads.one_if_is, MovedSpare.moved_spare, MoveWrites.IsMove, MoveWrites.IsMoved, MoveWrites.used_stays, MovedRooms.under_of}
 use Rattle.radix_tree.proofs.{MovedRooms.exchange, MovedRooms.fits, Facts.one_if_most, Facts.none_of}
-use Rattle.radix_tree.proofs.Words.{◌≡◌, ℕ, ◌≤◌, ◌++◌, Some, sym, ap, ◌∙◌, subst, arith, is_some, Id, Node, BitOf, BitNode, fork, routes_of}
+use Rattle.radix_tree.proofs.Words.{◌≡◌, ℕ, ◌≤◌, Some, sym, ap, ◌∙◌, subst, arith, is_some, Id, Node, BitOf, BitNode}
 use Rattle.radix_tree.proofs.Words.{bits_in, name_of, leaves_at, HaveOneFork, shown, root_after, Exchanged, IsWholeBut, nobody_late, out_at, Lodged, number_of}
 
 module _ {V : Type 0} where
@@ -38,7 +38,7 @@ module _ {V : Type 0} where
         let before = subst (HaveOneFork (bits_in new)) e.was (spare_before new d) in
         let own = subst (HaveOneFork (bits_in new)) v.f.is (spare_at (bits_in new) e.frames v.at.tree before) in
         subst (HaveOneFork (bits_in new)) (sym e.is_now)
-        (spare_plug (bits_in new) (bits_in new) e.frames v.at.tree (fork to v.f.bit v.f.zero v.f.one) before own (λ y aside none. none))
+        (search (arith, spare_plug))
 
     named_now : name_now ≡ root_after n.above (BitOf to) root
     named_now = search arith
@@ -54,4 +54,4 @@ module _ {V : Type 0} where
     routes_moved {new = new} d is =
         let e = changed new d in
         let s = routes_changed v.whole e in
-        ap (λ z. shown new (Some z)) (is ∙ sym named_now) ∙ s.is_now ∙ ap (λ rs. s.front ++ rs ++ s.back) (sym (ap routes_of v.f.is)) ∙ sym s.was
+        search (arith, named_now)
