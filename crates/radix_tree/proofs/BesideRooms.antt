@@ -165,8 +165,7 @@ module _ {V : Type 0} where
       same_marks n = ap is_some (c.masks n) ∙ c.cut.marks n
 
       pub new_unmarked : IsMarked (masks_in new) x → ⊥
-      new_unmarked marked =
-          true≢false (search (arith, same_marks))
+      new_unmarked marked = true≢false (search (arith, same_marks))
 
       pub room_more : HasRoomMore m new (number_of x.room)
       room_more n = search (arith, cases_eq, eq-eqb, other_leaf, ne_eqb)

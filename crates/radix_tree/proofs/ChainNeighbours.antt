@@ -109,8 +109,7 @@ module _ {V : Type 0} where
       let c = cons_at b.front h.behind h.first in
       let front_is = front_named b.front (b.x ∷ b.back) b.is b.split in
       record {
-        cons =
-            search (arith, cons_at);
+        cons = search (arith, cons_at);
         bits = search (arith, place_bits);
         named = search (arith, place_root);
       }

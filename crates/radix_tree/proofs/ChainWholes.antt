@@ -89,8 +89,7 @@ module _ {V : Type 0} where
     pub grown_whole : (ups : List (Part m)) → Way key w.part at ups → leaves_in m (number_of x.room) ≡ None → masks_in m (number_of x.room) ≡ None
         → bits_in m (number_of x.room) ≡ None → ((n : ℕ) → is_some (leaves_in new n) ≡ (n == number_of x.room) || is_some (leaves_in m n))
         → IsWholeBut new (root_after at.above (LeafOf r.cons.first.room) (name_of w.part.tree)) (late_at (number_of x.room)) nobody_out
-    grown_whole ups way free unmarked idle rooms =
-        rechained w r ups way (search (arith, fits_in)) (λ one. one_fork_more (bits_in m) front back x one idle)
+    grown_whole ups way free unmarked idle rooms = rechained w r ups way (search (arith, fits_in)) (λ one. one_fork_more (bits_in m) front back x one idle)
 
     pub grown_routes : (ups : List (Part m)) → Way key w.part at ups
         → Gains x.entry (shown m (Some root)) (shown new (Some (root_after at.above (LeafOf r.cons.first.room) (name_of w.part.tree))))

@@ -71,15 +71,13 @@ module _ {V : Type 0} where
   -- the route of one room was late, and is listed now
   pub among_left : {m : Lodged V} {root : Node} (room id : ℕ) → id ≡ room → IsWholeBut m root (λ n. late_at room n && not (n == id)) nobody_out
       → IsWhole m root
-  among_left {m = m} room id same w =
-      not_late w (search (arith, and_not, true≢false, eq-eqb, eqb-true))
+  among_left {m = m} room id same w = not_late w (search (arith, and_not, true≢false, eq-eqb, eqb-true))
 
   -- and with it the routes of a key
   pub new_left : (m old : Lodged V) {root : Node} (room : ℕ) {id : ℕ} (key k : ℕ) (was : ℕ → Bool) → id ≡ room → k ≡ key
       → ((n : ℕ) → was n ≡ true → has_key old key n ≡ true)
       → IsWholeBut m root (λ n. (((n == room) || was n) && not (n == id)) && not (has_key old k n)) nobody_out → IsWhole m root
-  new_left m old {root = root} room {id = id} key k was same key_is stays w =
-      not_late w (search (arith, and_not, true≢false, or_left))
+  new_left m old {root = root} room {id = id} key k was same key_is stays w = not_late w (search (arith, and_not, true≢false, or_left))
 
   -- ---- the leaf beside which a route comes in
   -- what the first room of a leaf says

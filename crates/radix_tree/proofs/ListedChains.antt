@@ -41,8 +41,7 @@ module _ {V : Type 0} where
     -- a room whose mask is listed is not late
     pub listed_late : {root : Node} (late : ℕ → Bool) (w : IsWholeBut m root late nobody_out) (links : Links) (n : MaskNode) → AreLinks m room links
         → mask_node_of links ≡ Some n → IsWholeBut m root (λ k. late k && not (k == number_of room)) nobody_out
-    listed_late late w links n are some =
-        settled w room (search (arith, mask_some))
+    listed_late late w links n are some = settled w room (search (arith, mask_some))
 
   -- ---- how far the walk has to go: one more than the rank of the route that it has come to
   abbrev pub left_of : Option (LeafPart V) → ℕ
@@ -174,5 +173,4 @@ module _ {V : Type 0} where
   -- ---- its end
   pub ended : {m now : Lodged V} {root : Node} (late : ℕ → Bool) (key : ℕ) {at : Option Id} → Left m now root late key at → at ≡ None
       → IsWholeBut now root (λ n. late n && not (has_key m key n)) nobody_out
-  ended {m = m} late key l is =
-      later_than (λ n. late n && not (has_key m key n)) (search (arith, both_true, ended_at)) l.whole
+  ended {m = m} late key l is = later_than (λ n. late n && not (has_key m key n)) (search (arith, both_true, ended_at)) l.whole

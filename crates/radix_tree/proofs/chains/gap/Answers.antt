@@ -1,5 +1,5 @@
 use Rattle.std.proofs.lemmas.Map.Keys.{ge_from_not_lt}
-use Rattle.radix_tree.proofs.Words.{◌≡◌, ◌<◌, ◌+◌, ◌-◌, ◌∙◌, Some, None, sym, ap, subst, arith, eqb-true, eqb-false, Passed, FindsGap}
+use Rattle.radix_tree.proofs.Words.{◌≡◌, ◌<◌, ◌+◌, ◌-◌, ◌∙◌, sym, ap, arith, eqb-true, eqb-false}
 use Rattle.radix_tree.proofs.ChainGaps.{less_of, Has-first, begun, Has-at, few_at, passed, taken, found, ended}
 use Rattle.radix_tree.proofs.chains.gap.Goals as goal
 
@@ -10,12 +10,7 @@ pub loop-next-init : goal.loop-next-init
 loop-next-init g c =
     let count = ap (λ v. v.count) c.links.ensures.visit in
     let one : 1 ≡ c.links.new.visits.count - c.args.visits.now.count = omega arith in
-    record {
-      turn = ap (λ v. v.turn) c.links.ensures.visit ∙ c.requires.turn;
-      passed = λ r begins. subst (Passed c.args.rank r c.leaf-leaf.result.above c.leaf-leaf.result.previous (Some c.args.first)) one
-          (begun c.args.rank r c.args.first c.links.result.now begins c.links.ensures.links c.leaf-leaf.ensures);
-      rises = omega arith;
-    }
+    search (arith, passed, begun)
 
 pub links-requires-in-Some-clause-there : goal.links-requires-in-Some-clause-there
 links-requires-in-Some-clause-there g c =
@@ -25,36 +20,23 @@ links-requires-in-Some-clause-there g c =
 pub returns-then-eq-clause-gap : goal.returns-then-eq-clause-gap
 returns-then-eq-clause-gap g c r begins =
     taken (c.loop-next.invariant.passed r begins) c.args.key c.in-Some.at c.links-in-Some.result.now c.in-Some.is c.links-in-Some.ensures.links
-    c.leaf-member.ensures (eqb-true c.leaf-member.result.rank c.args.rank (sym c.eq.ensures ∙ c.if-eq.true))
+    c.leaf-member.ensures (search (arith, eqb-true))
 
 pub returns-then-lt-clause-gap : goal.returns-then-lt-clause-gap
-returns-then-lt-clause-gap g c r begins = subst (λ o. FindsGap c.args.key c.args.rank r (Some (record
-    { key = c.args.key; rank = c.args.rank; above = c.loop-next.above; next = o; previous = c.loop-next.previous }))) c.in-Some.is
-    (found (c.loop-next.invariant.passed r begins) c.args.key c.in-Some.at c.links-in-Some.result.now c.in-Some.is c.links-in-Some.ensures.links
-    c.leaf-member.ensures (less_of c.leaf-member.result.rank c.args.rank (sym c.lt.ensures ∙ c.if-lt.true)))
+returns-then-lt-clause-gap g c r begins = search (arith, found, less_of)
 
 pub loop-next-smaller : goal.loop-next-smaller
-loop-next-smaller g c =
-    let r = c.requires.chain in
-    let few = few_at (c.loop-next.invariant.passed r.0 r.1) c.in-Some.is in
-    let count = ap (λ v. v.count) c.links-in-Some.ensures.visit in
-    let rises = c.loop-next.invariant.rises in omega arith
+loop-next-smaller g c = search (arith, few_at)
 
 pub loop-next-preserved : goal.loop-next-preserved
 loop-next-preserved g c =
     let count = ap (λ v. v.count) c.links-in-Some.ensures.visit in
     let rises = c.loop-next.invariant.rises in
-    let other : c.leaf-member.result.rank ≡ c.args.rank → ⊥ = λ e. eqb-false c.leaf-member.result.rank c.args.rank (sym c.eq.ensures ∙ c.if-eq.false) e in
+    let other : c.leaf-member.result.rank ≡ c.args.rank → ⊥ = search (arith, eqb-false) in
     let least = ge_from_not_lt c.leaf-member.result.rank c.args.rank (sym c.lt.ensures ∙ c.if-lt.false) in
     let past : c.args.rank < c.leaf-member.result.rank = omega (arith, other, least) in
     let next : (c.loop-next.visits.count - c.args.visits.now.count) + 1 ≡ c.links-in-Some.new.visits.count - c.args.visits.now.count = omega arith in
-    record {
-      turn = ap (λ v. v.turn) c.links-in-Some.ensures.visit ∙ c.loop-next.invariant.turn;
-      passed = λ r begins. subst (Passed c.args.rank r None (Some c.in-Some.at) c.leaf-member.result.next) next
-          (passed (c.loop-next.invariant.passed r begins) c.in-Some.at c.links-in-Some.result.now c.in-Some.is c.links-in-Some.ensures.links
-          c.leaf-member.ensures past);
-      rises = omega arith;
-    }
+    search (arith, passed)
 
 pub returns-clause-gap : goal.returns-clause-gap
-returns-clause-gap g c r begins = ended c.args.key c.args.rank (c.loop-next.invariant.passed r begins) c.in_default.is
+returns-clause-gap g c r begins = search (arith, ended)

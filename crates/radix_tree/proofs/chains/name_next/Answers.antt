@@ -1,4 +1,4 @@
-use Rattle.radix_tree.proofs.Words.{◌∙◌, sym, ap, leaves_in, name_next}
+use Rattle.radix_tree.proofs.Words.{arith}
 use Rattle.radix_tree.proofs.ChainWrites.{next_put}
 use Rattle.radix_tree.proofs.chains.name_next.Goals as goal
 
@@ -9,6 +9,4 @@ pub put_leaf-requires-clause-there : goal.put_leaf-requires-clause-there
 put_leaf-requires-clause-there g c = c.requires.there c.in-Some.room c.in-Some.is
 
 pub returns-clause-leaves : goal.returns-clause-leaves
-returns-clause-leaves g c n = c.put_leaf.ensures.leaves n
-    ∙ next_put (c.requires.there c.in-Some.room c.in-Some.is) c.links.result.now c.args.next n c.links.ensures.links c.leaf-leaf.ensures
-    ∙ ap (λ o. name_next o c.args.next n (leaves_in c.args.nodes.now.lodged n)) (sym c.in-Some.is)
+returns-clause-leaves g c n = search (arith, next_put)

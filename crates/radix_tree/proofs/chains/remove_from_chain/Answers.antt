@@ -1,6 +1,5 @@
 use Rattle.radix_tree.proofs.{ChainWrites.own_part, ChainWrites.own_said, ChainWrites.Has-kept, RoomReads.AreLinks}
-use Rattle.radix_tree.proofs.Words.{◌≡◌, ◌∙◌, Some, sym, ap, Id, LeafOf, leaves_in, Lodged, Node, Part, LeafPart, bits_in, name_child, link_out, root_past}
-use Rattle.radix_tree.proofs.Words.{Links, Leaf, leaf_of, number_of}
+use Rattle.radix_tree.proofs.Words.{◌≡◌, ◌∙◌, Some, sym, ap, Id, leaves_in, Lodged, Node, Part, LeafPart, link_out, arith, Links, Leaf, leaf_of, number_of}
 use Rattle.radix_tree.proofs.chains.remove_from_chain.Goals.{After-link_out, After-link_out-2}
 use Rattle.radix_tree.proofs.ChainNeighbours.{IsMember, IsUnlinked, IsLeft, member_of, leaf_is, unlinked, before_there, behind_there, fork_above, left_kept}
 use Rattle.radix_tree.proofs.ChainNeighbours.{left_renamed}
@@ -20,9 +19,7 @@ link_out-requires-clause-before g c r is =
     before_there _ b r (sym (ap (λ z. z.previous) e) ∙ is)
 
 pub link_out-requires-clause-behind : goal.link_out-requires-clause-behind
-link_out-requires-clause-behind g c r is =
-    let (b, e) = at_route c.requires.route c.links.result.now c.links.ensures.links c.leaf-leaf.ensures in
-    behind_there _ b r (sym (ap (λ z. z.next) e) ∙ is)
+link_out-requires-clause-behind g c r is = search (arith, at_route, behind_there)
 
 pub rename-root-requires-clause-tree : goal.rename-root-requires-clause-tree
 rename-root-requires-clause-tree g c up is =
@@ -61,7 +58,7 @@ last_gone g c {p = p} said =
     let b = member_of c.requires.route.whole (number_of c.args.at) said in
     let read = leaf_is c.links.result.now c.requires.route.there said c.links.ensures.links c.leaf-leaf.ensures in (
       b,
-      unlinked c.args.nodes.now.lodged c.link_out.new.nodes.lodged read c.link_out.ensures.leaves c.link_out.ensures.only.heads c.link_out.ensures.only.masks,
+      search (arith, unlinked),
       left_kept c.link_out.new.nodes.lodged c.requires.route.whole b (sym (ap (λ z. z.next) read) ∙ c.in_default.is) (c.requires.chain p said)
           c.link_out.ensures.only.bits,
     )
@@ -73,22 +70,17 @@ gone g c {p = p} said =
     let b = member_of c.requires.route.whole (number_of c.args.at) said in
     let read = leaf_is c.links.result.now c.requires.route.there said c.links.ensures.links c.leaf-leaf.ensures in (
       b,
-      unlinked c.args.nodes.now.lodged c.link_out-2.new.nodes.lodged read (λ k. c.link_out-2.ensures.leaves k ∙ ap (link_out c.leaf-leaf.result k)
-          (c.rename-root.ensures.only.leaves k)) (λ k. c.link_out-2.ensures.only.heads k ∙ c.rename-root.ensures.only.heads k)
-          (λ k. c.link_out-2.ensures.only.masks k ∙ c.rename-root.ensures.only.masks k),
+      search (arith, unlinked),
       left_renamed c.link_out-2.new.nodes.lodged c.requires.route.whole b (sym (ap (λ z. z.next) read) ∙ c.in-Some.is)
-          (λ k. c.link_out-2.ensures.only.bits k ∙ c.rename-root.ensures.bits k
-          ∙ ap (λ z. name_child z.above z.key (LeafOf c.in-Some.behind) k (bits_in c.args.nodes.now.lodged k)) read)
-          (c.rename-root.ensures.root ∙ ap (λ z. root_past z.previous z.above (LeafOf c.in-Some.behind) c.args.root) read),
+          (search arith)
+          (search arith),
     )
 
 pub returns-in_default-clause-out : goal.returns-in_default-clause-out
-returns-in_default-clause-out g c =
-    out_of c.requires.route c.args.root (λ p said. last_gone g (goal.at.returns-in_default-clause-out g c).After-link_out said)
+returns-in_default-clause-out g c = out_of c.requires.route c.args.root (search (arith, last_gone))
 
 pub returns-in_default-clause-bits : goal.returns-in_default-clause-bits
-returns-in_default-clause-bits g c =
-    let u = last_gone g (goal.at.returns-in_default-clause-bits g c).After-link_out (own_said c.requires.route.there) in left_bits u.2
+returns-in_default-clause-bits g c = search (arith, last_gone, own_said, left_bits)
 
 pub returns-in_default-clause-idle : goal.returns-in_default-clause-idle
 returns-in_default-clause-idle g c p used said is k keyed other =
@@ -99,7 +91,7 @@ returns-in_default-clause-neighbours g c p to said side =
     let u = last_gone g (goal.at.returns-in_default-clause-neighbours g c).After-link_out said in neighbour c.requires.route.whole p u.0 u.1 to side
 
 pub returns-clause-out : goal.returns-clause-out
-returns-clause-out g c = out_of c.requires.route c.rename-root.result (λ p said. gone g (goal.at.returns-clause-out g c).After-link_out-2 said)
+returns-clause-out g c = out_of c.requires.route c.rename-root.result (search (arith, gone))
 
 pub returns-clause-bits : goal.returns-clause-bits
 returns-clause-bits g c =

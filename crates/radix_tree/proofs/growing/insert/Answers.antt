@@ -1,5 +1,4 @@
-use Rattle.radix_tree.specs.Growth.{Differs}
-use Rattle.radix_tree.proofs.Words.{sym, ◌∙◌, subst}
+use Rattle.radix_tree.proofs.Words.{arith}
 use Rattle.radix_tree.proofs.Kept.{Has-led, leaf_key, whole_at}
 use Rattle.radix_tree.proofs.growing.insert.Goals as goal
 
@@ -17,12 +16,11 @@ insert_new-requires-clause-new g c =
     let d = c.leaf_for-leaf.ensures.leaf w.part w.named in (
       w,
       d,
-      subst (λ k. Differs c.args.entry.key k c.in-Some-first_difference.bit)
-          (leaf_key _ d c.links.result.now c.links.ensures.links c.leaf.ensures) c.in-Some-first_difference.ensures,
+      search (arith, leaf_key),
     )
 
 pub insert_among-requires-clause-led : goal.insert_among-requires-clause-led
 insert_among-requires-clause-led g c =
     let w = whole_at _ c.requires.holds c.in-Some.is in
     let d = c.leaf_for-leaf.ensures.leaf w.part w.named in
-    (w, d, sym (leaf_key _ d c.links.result.now c.links.ensures.links c.leaf.ensures) ∙ sym c.in-None.ensures)
+    (w, d, search (arith, leaf_key))

@@ -1,5 +1,5 @@
 use Rattle.radix_tree.proofs.{Kept.pair_there, Gained.gains_same, Gained.among_left}
-use Rattle.radix_tree.proofs.Words.{number_of}
+use Rattle.radix_tree.proofs.Words.{number_of, arith}
 use Rattle.radix_tree.specs.Marks.{late_at}
 use Rattle.radix_tree.proofs.growing.insert_among.Goals as goal
 
@@ -14,6 +14,4 @@ returns-in-Ok-clause-whole g c = among_left c.args.room (number_of c.in-Ok.id) c
     (c.list_mask.ensures.whole c.in-Ok.root (late_at c.args.room) c.in-Ok.ensures.ok)
 
 pub returns-in-Ok-clause-routes : goal.returns-in-Ok-clause-routes
-returns-in-Ok-clause-routes g c =
-    gains_same _ _ c.insert_in_chain.new.nodes.lodged c.list_mask.new.nodes.lodged c.in-Ok.root c.in-Ok.ensures.routes c.list_mask.ensures.tree.leaves
-    c.list_mask.ensures.tree.bits
+returns-in-Ok-clause-routes g c = search (arith, gains_same)

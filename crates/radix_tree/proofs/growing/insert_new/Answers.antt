@@ -1,4 +1,4 @@
-use Rattle.radix_tree.proofs.Words.{ap, ◌∙◌, has_key, masks_in}
+use Rattle.radix_tree.proofs.Words.{has_key, arith}
 use Rattle.radix_tree.proofs.Gained.{gains_same, new_left, led_begun, still_begun, same_begun, still_key}
 use Rattle.radix_tree.proofs.growing.insert_new.Goals as goal
 
@@ -10,8 +10,7 @@ pub list_mask-requires-clause-there : goal.list_mask-requires-clause-there
 list_mask-requires-clause-there g c = c.insert_beside-root.ensures.there
 
 pub list_mask-requires-clause-unmarked : goal.list_mask-requires-clause-unmarked
-list_mask-requires-clause-unmarked g c =
-    ap (masks_in c.insert_beside-root.new.nodes.lodged) c.insert_beside-root.ensures.number ∙ c.insert_beside-root.ensures.unmarked
+list_mask-requires-clause-unmarked g c = search arith
 
 pub list_chain-requires-clause-whole : goal.list_chain-requires-clause-whole
 list_chain-requires-clause-whole g c =
@@ -34,12 +33,9 @@ returns-clause-whole g c =
     (still_begun c.insert_beside-root.new.nodes.lodged (led_begun m i.1) c.insert_beside-root.ensures.leaves) c.list_mask.ensures.tree.leaves in
     new_left c.list_chain.new.nodes.lodged c.list_mask.new.nodes.lodged c.args.room key b.part.leaf.key (has_key m key)
     c.insert_beside-root.ensures.number b.key_is
-    (λ n has. still_key m c.insert_beside-root.new.nodes.lodged c.list_mask.new.nodes.lodged key n c.insert_beside-root.ensures.leaves
-    c.list_mask.ensures.tree.leaves has)
+    (search (arith, still_key))
     (c.list_chain.ensures.whole c.insert_beside-root.result.0 _ b.part (c.list_mask.ensures.whole c.insert_beside-root.result.0 _
     (c.insert_beside-root.ensures.whole i.0 i.1 i.2)) b.at)
 
 pub returns-clause-routes : goal.returns-clause-routes
-returns-clause-routes g c = gains_same _ _ c.list_mask.new.nodes.lodged c.list_chain.new.nodes.lodged c.insert_beside-root.result.0
-    (gains_same _ _ c.insert_beside-root.new.nodes.lodged c.list_mask.new.nodes.lodged c.insert_beside-root.result.0 c.insert_beside-root.ensures.routes
-    c.list_mask.ensures.tree.leaves c.list_mask.ensures.tree.bits) c.list_chain.ensures.tree.leaves c.list_chain.ensures.tree.bits
+returns-clause-routes g c = search (arith, gains_same)

@@ -1,5 +1,5 @@
 use Rattle.radix_tree.proofs.{Lodging.over_there, Lodging.below_there, Lodging.beside, Beside.whole_forked}
-use Rattle.radix_tree.proofs.Words.{◌≡◌, ◌∙◌, sym, subst, Part, forked_tree, placed, Exchanged}
+use Rattle.radix_tree.proofs.Words.{◌≡◌, sym, subst, Part, forked_tree, placed, Exchanged, arith}
 use Rattle.radix_tree.proofs.inserting.add_beside.Goals as goal
 
 pub name_child-requires-clause-tree : goal.name_child-requires-clause-tree
@@ -13,10 +13,7 @@ lift-requires-clause-tree g c =
     below_there _ s.1 c.lodge_forked-id.ensures.lodged c.name_child.new.nodes.lodged c.name_child.ensures.only.leaves c.name_child.ensures.bits
 
 pub returns-clause-beside : goal.returns-clause-beside
-returns-clause-beside g c =
-    let s = c.requires.spot in
-    beside c.name_child.new.nodes.lodged c.lift.new.nodes.lodged s.0 s.1
-    c.lodge_forked-id.ensures.lodged c.name_child.ensures.only.leaves c.name_child.ensures.bits c.lift.ensures.leaves c.lift.ensures.bits
+returns-clause-beside g c = search (arith, beside)
 
 pub returns-clause-exchanged : goal.returns-clause-exchanged
 returns-clause-exchanged g c p s named =
@@ -27,7 +24,7 @@ returns-clause-exchanged g c p s named =
     (whole_forked _ s b c.requires.route named)
 
 pub returns-clause-heads : goal.returns-clause-heads
-returns-clause-heads g c n = c.lift.ensures.heads n ∙ c.name_child.ensures.only.heads n ∙ c.lodge_forked-id.ensures.heads n
+returns-clause-heads g c n = search arith
 
 pub returns-clause-masks : goal.returns-clause-masks
-returns-clause-masks g c n = c.lift.ensures.masks n ∙ c.name_child.ensures.only.masks n ∙ c.lodge_forked-id.ensures.masks n
+returns-clause-masks g c n = search arith

@@ -1,5 +1,5 @@
 use Rattle.radix_tree.proofs.{Parts.fork_named, Climbs.used, Cuts.list_at}
-use Rattle.radix_tree.proofs.Words.{◌≡◌, ◌==◌, ◌||◌, sym, ap, ◌∙◌, subst, get, Part, mask_in, LedTo, IsWhole, Differs, IsSpot, forked_tree, placed, Exchanged}
+use Rattle.radix_tree.proofs.Words.{◌≡◌, ◌==◌, ◌||◌, sym, ◌∙◌, subst, Part, LedTo, IsWhole, Differs, IsSpot, forked_tree, placed, Exchanged, arith}
 use Rattle.radix_tree.proofs.Words.{IsWholeBut, HasRoomMore, has_key, nobody_out}
 use Rattle.radix_tree.proofs.BesideWhole.{new_key, came_beside, whole_beside, routes_beside}
 use Rattle.radix_tree.proofs.BesideRooms.{Came, same_part, same_spot, exchanged_from, room_more, leaf_kept, new_there}
@@ -28,8 +28,7 @@ add_beside-requires-clause-spot g c =
     let s = c.spot_above-spot.ensures.spot c.args.entry.key (new_key n.0 n.1 n.2) in (
       same_part c.cut-masks.new.nodes.lodged c.cut-masks.ensures.tree.leaves c.cut-masks.ensures.tree.bits n.0.part,
       same_spot c.cut-masks.new.nodes.lodged c.cut-masks.ensures.tree.leaves c.cut-masks.ensures.tree.bits n.0.part
-          (subst (λ b. IsSpot c.args.nodes.now.lodged c.args.entry.key b n.0.part c.spot_above-spot.result.above c.spot_above-spot.result.below)
-          (sym c.spot_above-spot.ensures.bit) s),
+          (search arith),
     )
 
 -- the spot, of the bit that it tells
@@ -44,11 +43,12 @@ came_of : (g : given.Over) (c : goal.After-add_beside g) (w : IsWhole c.args.nod
     (s : IsSpot c.args.nodes.now.lodged c.args.entry.key c.spot_above-spot.result.bit w.part c.spot_above-spot.result.above c.spot_above-spot.result.below)
     → Came c.args.nodes.now.lodged c.cut-masks.new.nodes.lodged c.add_beside.new.nodes.lodged s.at.low c.spot_above-spot.result.bit s.at.tree
     (placed c.add_beside.result.1 c.args.entry) c.spot_above-spot.result.above c.spot_above-spot.result.below
-came_of g c w s = came_beside w c.cut-masks.result s c.cut-masks.ensures.kept c.cut-masks.ensures.others
-    (λ room is. let l = c.cut-masks.ensures.leaf room is in (l.0, ap (λ n. n.lodged) l.1))
+came_of g c w s =
+    came_beside w c.cut-masks.result s c.cut-masks.ensures.kept c.cut-masks.ensures.others
+    (search arith)
     c.cut-masks.ensures.heads (λ fork ms is. c.cut-masks.ensures.masks fork is ms) c.cut-masks.ensures.marks c.cut-masks.ensures.tree.leaves
     c.cut-masks.ensures.tree.bits c.add_beside.ensures.beside c.add_beside.ensures.heads c.add_beside.ensures.masks
-    (ap (λ k. mask_in (get c.args.nodes.now.lodged k)) c.add_beside.ensures.number ∙ ap mask_in c.requires.spare.free)
+    (search arith)
 
 -- the part with the route in it
 part_of : (g : given.Over) (c : goal.After-add_beside g) (w : IsWhole c.args.nodes.now.lodged c.args.root)
@@ -59,8 +59,8 @@ part_of g c w s =
     let leaves = c.cut-masks.ensures.tree.leaves in
     let bits = c.cut-masks.ensures.tree.bits in
     let e = c.add_beside.ensures.exchanged (same_part c.cut-masks.new.nodes.lodged c.cut-masks.ensures.tree.leaves c.cut-masks.ensures.tree.bits w.part)
-    (same_spot c.cut-masks.new.nodes.lodged c.cut-masks.ensures.tree.leaves c.cut-masks.ensures.tree.bits w.part s) w.named in
-    (e.0, e.1, exchanged_from c.cut-masks.ensures.tree.leaves c.cut-masks.ensures.tree.bits w.part s.at e.2)
+    (search (arith, same_spot)) w.named in
+    search (arith, exchanged_from)
 
 pub returns-clause-whole : goal.returns-clause-whole
 returns-clause-whole g c w d differs =

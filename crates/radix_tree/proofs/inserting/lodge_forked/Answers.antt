@@ -1,4 +1,4 @@
-use Rattle.radix_tree.proofs.Words.{◌∙◌, ap, get, heads_in, with_head, number_of}
+use Rattle.radix_tree.proofs.Words.{number_of, arith}
 use Rattle.radix_tree.proofs.Lodging.{Has-lodged_leaf, Has-again, lodged}
 use Rattle.radix_tree.proofs.inserting.lodge_forked.Goals as goal
 
@@ -14,14 +14,12 @@ pub returns-clause-lodged : goal.returns-clause-lodged
 returns-clause-lodged g c =
     lodged c.args.nodes.now.lodged c.lodge_leaf-id.new.nodes.lodged c.put_leaf.new.nodes.lodged c.put_bit_node.new.nodes.lodged c.lodge_leaf-id.result
     c.args.entry c.lone_leaf.result c.lone_leaf-2.result c.forked_node-node.result _
-    (ap (get c.args.nodes.now.lodged) c.lodge_leaf-id.ensures.number ∙ c.requires.spare.free)
+    (search arith)
     c.lodge_leaf-id.ensures.leaves c.lodge_leaf-id.ensures.only.bits c.put_leaf.ensures.leaves c.put_leaf.ensures.only.bits c.put_bit_node.ensures.leaves
     c.put_bit_node.ensures.bits c.lone_leaf-2.ensures c.forked_node-node.ensures.part
 
 pub returns-clause-heads : goal.returns-clause-heads
-returns-clause-heads g c n = c.put_bit_node.ensures.heads n
-    ∙ ap (λ first. with_head c.lodge_leaf-id.result first n (heads_in c.put_leaf.new.nodes.lodged n)) c.forked_node-node.ensures.masks
-    ∙ ap (with_head c.lodge_leaf-id.result c.args.masks n) (c.put_leaf.ensures.only.heads n ∙ c.lodge_leaf-id.ensures.only.heads n)
+returns-clause-heads g c n = search arith
 
 pub returns-clause-masks : goal.returns-clause-masks
-returns-clause-masks g c n = c.put_bit_node.ensures.masks n ∙ c.put_leaf.ensures.only.masks n ∙ c.lodge_leaf-id.ensures.only.masks n
+returns-clause-masks g c n = search arith

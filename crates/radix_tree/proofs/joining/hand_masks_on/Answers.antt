@@ -1,4 +1,4 @@
-use Rattle.radix_tree.proofs.Words.{◌∙◌}
+use Rattle.radix_tree.proofs.Words.{◌∙◌, arith}
 use Rattle.radix_tree.proofs.JoinLists.{append_ready, sibling_node, bit_handed, clear_ready, leaf_side_handed}
 use Rattle.radix_tree.proofs.joining.hand_masks_on.Goals as goal
 
@@ -14,9 +14,9 @@ clear-requires-clause-list g c = let r = c.requires.lone in clear_ready r.3 r.5 
 pub returns-in-Bit-clause-handed : goal.returns-in-Bit-clause-handed
 returns-in-Bit-clause-handed g c whole at up l named head unmarked lists =
     bit_handed c.args.nodes.now.lodged c.append.new.nodes.lodged whole up c.in-Bit.room l (named ∙ c.in-Bit.is) head unmarked lists
-    (record { list = c.append.ensures.list; heads = c.append.ensures.heads; masks = c.append.ensures.masks; marks = c.append.ensures.marks })
+    (search arith)
 
 pub returns-in-Leaf-clause-handed : goal.returns-in-Leaf-clause-handed
 returns-in-Leaf-clause-handed g c whole at up l named head unmarked lists =
     leaf_side_handed c.args.nodes.now.lodged c.clear.new.nodes.lodged up c.args.first l (named ∙ c.in-Leaf.is) head lists
-    (record { cleared = c.clear.ensures.cleared; masks = c.clear.ensures.masks; heads = c.clear.ensures.heads })
+    (search arith)

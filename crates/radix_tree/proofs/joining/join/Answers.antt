@@ -1,4 +1,4 @@
-use Rattle.radix_tree.proofs.Words.{◌∙◌, ap, None, put_bit, put_head, lift_leaf, lift_bit, number_of}
+use Rattle.radix_tree.proofs.Words.{number_of, arith}
 use Rattle.radix_tree.proofs.JoinLinks.{Has-kept, below_stays}
 use Rattle.radix_tree.proofs.joining.join.Goals as goal
 
@@ -15,16 +15,13 @@ lift-requires-clause-tree g c =
     c.name_child.ensures.only.leaves c.put_bit_node.ensures.leaves c.name_child.ensures.bits c.put_bit_node.ensures.bits
 
 pub returns-clause-leaves : goal.returns-clause-leaves
-returns-clause-leaves g c n = c.lift.ensures.leaves n ∙ ap (lift_leaf c.args.to c.args.above n)
-    (c.put_bit_node.ensures.leaves n ∙ c.name_child.ensures.only.leaves n)
+returns-clause-leaves g c n = search arith
 
 pub returns-clause-bits : goal.returns-clause-bits
-returns-clause-bits g c n = c.lift.ensures.bits n ∙ ap (lift_bit c.args.to c.args.above n)
-    (c.put_bit_node.ensures.bits n ∙ ap (put_bit c.args.up None n) (c.name_child.ensures.bits n))
+returns-clause-bits g c n = search arith
 
 pub returns-clause-heads : goal.returns-clause-heads
-returns-clause-heads g c n =
-    c.lift.ensures.heads n ∙ c.put_bit_node.ensures.heads n ∙ ap (put_head c.args.up None n) (c.name_child.ensures.only.heads n)
+returns-clause-heads g c n = search arith
 
 pub returns-clause-masks : goal.returns-clause-masks
-returns-clause-masks g c n = c.lift.ensures.masks n ∙ c.put_bit_node.ensures.masks n ∙ c.name_child.ensures.only.masks n
+returns-clause-masks g c n = search arith

@@ -1,5 +1,5 @@
 use Rattle.radix_tree.proofs.{Parts.way_lists, JoinLinks.Has-kept, JoinLinks.head_off}
-use Rattle.radix_tree.proofs.Words.{◌∙◌, ap, sym, subst, IsLone, root_after, heads_in, name_of, IsMarked, masks_in, number_of}
+use Rattle.radix_tree.proofs.Words.{◌∙◌, ap, sym, subst, IsLone, root_after, name_of, arith}
 use Rattle.radix_tree.proofs.JoinWhole.{IsJoined, handed_on, routes_kept, idle_stays, freed, whole_joined, routes_joined, own_leaf}
 use Rattle.radix_tree.proofs.JoinRooms.{lone_read, never_top, key_read, Has-up, Has-routes, never_unused, up_read, above_after, beneath_after, IsUp, joined}
 use Rattle.radix_tree.proofs.JoinRooms.{idle_joined}
@@ -10,7 +10,7 @@ use Rattle.radix_tree.proofs.joining.remove_lone.Goals as goal
 
 -- the route, and the bit node above it, as they are read
 lone : (g : given.Over) (c : In-Some g) → IsLone c.args.nodes.now.lodged c.requires.route.whole.part c.args.at c.in-Some.up
-lone g c = lone_read c.requires.route.there c.requires.route.whole c.links.result.now c.links.ensures.links c.leaf-leaf.ensures c.requires.lone c.in-Some.is
+lone g c = search (arith, lone_read)
 
 read : (g : given.Over) (c : In-Some-bit_node g) → (l : IsLone c.args.nodes.now.lodged c.requires.route.whole.part c.args.at c.in-Some.up)
     × IsUp c.args.nodes.now.lodged c.requires.route.whole.part c.args.at c.in-Some.up l c.in-Some-bit_node.node c.leaf-leaf.result.key
@@ -18,8 +18,7 @@ read g c =
     let l = lone_read c.requires.route.there c.requires.route.whole c.links.result.now c.links.ensures.links c.leaf-leaf.ensures c.requires.lone c.in-Some.is
     in (
       l,
-      up_read l c.links-2.result.now c.links-2.ensures.links (sym c.bit_node.ensures ∙ c.in-Some-bit_node.is)
-          (key_read c.requires.route.there c.links.result.now l c.links.ensures.links c.leaf-leaf.ensures),
+      search (arith, up_read, key_read),
     )
 
 -- and what the writes leave
@@ -32,12 +31,11 @@ done g c =
     let u = up_read l c.links-2.result.now c.links-2.ensures.links (sym c.bit_node.ensures ∙ c.in-Some-bit_node.is) key in (
       l,
       u,
-      joined l c.hand_masks_on.new.nodes.lodged c.join.new.nodes.lodged u.above key (u.to ∙ sym c.sibling_of-to.ensures) c.hand_masks_on.ensures.tree.leaves
-          c.hand_masks_on.ensures.tree.bits c.join.ensures.leaves c.join.ensures.bits,
+      search (arith, joined),
     )
 
 pub unreachable-requires : goal.unreachable-requires
-unreachable-requires g c = never_top c.requires.route.there c.links.result.now c.links.ensures.links c.leaf-leaf.ensures c.requires.lone c.in_default.is
+unreachable-requires g c = search (arith, never_top)
 
 pub links-requires-2-clause-there : goal.links-requires-2-clause-there
 links-requires-2-clause-there g c =
@@ -47,7 +45,7 @@ links-requires-2-clause-there g c =
 pub unreachable-requires-in_default-bit_node : goal.unreachable-requires-in_default-bit_node
 unreachable-requires-in_default-bit_node g c =
     let l = lone g (goal.at.unreachable-requires-in_default-bit_node g c).In-Some in
-    never_unused l c.links-2.result.now c.links-2.ensures.links (sym c.bit_node.ensures ∙ c.in_default-bit_node.is)
+    search (arith, never_unused)
 
 pub sibling_of-to-requires : goal.sibling_of-to-requires
 sibling_of-to-requires g c =
@@ -64,13 +62,13 @@ hand_masks_on-requires-clause-lone g c =
       u.to ∙ sym c.sibling_of-to.ensures,
       u.head,
       c.requires.route.unmarked,
-      way_lists (IsMarked (masks_in c.args.nodes.now.lodged)) l.route.entry.key c.requires.route.whole.part l.over l.ups l.way c.requires.route.whole.lists,
+      search (arith, way_lists),
     )
 
 pub join-requires-clause-up : goal.join-requires-clause-up
 join-requires-clause-up g c =
     let l = lone g (goal.at.join-requires-clause-up g c).In-Some in
-    Has-kept c.hand_masks_on.new.nodes.lodged (Has-up l) (c.hand_masks_on.ensures.tree.leaves (number_of c.in-Some.up))
+    Has-kept c.hand_masks_on.new.nodes.lodged (Has-up l) (search arith)
 
 pub join-requires-clause-above : goal.join-requires-clause-above
 join-requires-clause-above g c over is =
@@ -89,20 +87,16 @@ returns-clause-out g c =
     let named = u.to ∙ sym c.sibling_of-to.ensures in
     let h = handed_on l c.hand_masks_on.new.nodes.lodged c.join.new.nodes.lodged
     (c.hand_masks_on.ensures.handed c.requires.route.whole.part c.args.at c.in-Some.up l named u.head c.requires.route.unmarked
-    (way_lists (IsMarked (masks_in c.args.nodes.now.lodged)) l.route.entry.key c.requires.route.whole.part l.over l.ups l.way c.requires.route.whole.lists))
-    c.join.ensures.masks (λ n other. c.join.ensures.heads n ∙ head_off c.in-Some.up n (heads_in c.hand_masks_on.new.nodes.lodged n) other) in
-    subst (TakesOut c.args.nodes.now.lodged c.join.new.nodes.lodged c.args.at c.args.root) (ap (λ o. root_after o (name_of l.other) c.args.root) u.above
-    ∙ ap (λ z. root_after c.in-Some-bit_node.node.above z c.args.root) named ∙ sym c.root_after.ensures) (record {
-      whole = whole_joined c.requires.route.whole l j h c.requires.route.unmarked;
-      routes = routes_joined c.requires.route.whole l j;
-      rooms = routes_kept l j;
-      own = own_leaf c.args.at l j;
-    })
+    (search (arith, way_lists)))
+    c.join.ensures.masks (search (arith, head_off)) in
+    subst (TakesOut c.args.nodes.now.lodged c.join.new.nodes.lodged c.args.at c.args.root)
+    (ap (λ o. root_after o (name_of l.other) c.args.root) u.above ∙ ap (λ z. root_after c.in-Some-bit_node.node.above z c.args.root) named ∙ sym c.root_after.ensures)
+    (search (arith, whole_joined, routes_joined, routes_kept, own_leaf))
 
 pub returns-clause-there : goal.returns-clause-there
 returns-clause-there g c =
     let (l, u, j) = done g (goal.at.returns-clause-there g c).After-root_after in
-    Has-routes c.args.nodes.now.lodged c.join.new.nodes.lodged c.in-Some.up (Has-up l) (routes_kept l j)
+    search (arith, Has-routes, Has-up, routes_kept)
 
 pub returns-clause-free : goal.returns-clause-free
 returns-clause-free g c =

@@ -34,7 +34,7 @@ loop-before-preserved g c =
     let count = ap (λ v. v.count) c.links-in-Some.ensures.visit in
     let rises = c.loop-before.invariant.rises in
     record {
-      turn = ap (λ v. v.turn) c.links-in-Some.ensures.visit ∙ c.loop-before.invariant.turn;
+      turn = search arith;
       back = λ r y first among is.
           let e = earlier (c.loop-before.invariant.back r y first among is) c.in-Some.is in
           let few = e.few in

@@ -1,4 +1,4 @@
-use Rattle.radix_tree.proofs.Words.{◌∙◌, sym}
+use Rattle.radix_tree.proofs.Words.{◌∙◌, sym, arith}
 use Rattle.radix_tree.proofs.ListedChains.{mask_none, listed_late}
 use Rattle.radix_tree.proofs.listing.list_late.Goals as goal
 
@@ -7,4 +7,4 @@ returns-in-Some-clause-whole g c root late w =
     listed_late c.requires.there late w c.links.result.now _ c.links.ensures.links (sym c.mask_node.ensures ∙ c.in-Some.is)
 
 pub list_mask-requires-clause-unmarked : goal.list_mask-requires-clause-unmarked
-list_mask-requires-clause-unmarked g c = mask_none c.requires.there c.links.result.now c.links.ensures.links (sym c.mask_node.ensures ∙ c.in-None.is)
+list_mask-requires-clause-unmarked g c = search (arith, mask_none)

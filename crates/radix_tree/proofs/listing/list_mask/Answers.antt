@@ -1,5 +1,5 @@
 use Rattle.radix_tree.proofs.{WholeParts.once_but, HomeLists.placed_in}
-use Rattle.radix_tree.proofs.Words.{subst, IsHome}
+use Rattle.radix_tree.proofs.Words.{subst, IsHome, arith}
 use Rattle.radix_tree.proofs.Listed.{listed_more, never_late, homed, home_node, home_masks, home_free}
 use Rattle.radix_tree.proofs.listing.list_mask.Goals as goal
 
@@ -31,10 +31,4 @@ pub returns-clause-whole : goal.returns-clause-whole
 returns-clause-whole g c root late w =
     let y = placed_in w c.requires.there in
     listed_more c.args.nodes.now.lodged c.sort_in.new.nodes.lodged late w c.args.room c.in-Some.fork (once_but w)
-    (homed w.part y.0 y.1 y.2 c.in-Some.is (c.home_of.ensures.home root late w y.0 y.1 y.2)) c.requires.unmarked (record {
-      list = c.sort_in.ensures.list;
-      heads = c.sort_in.ensures.heads;
-      masks = c.sort_in.ensures.masks;
-      marked = c.sort_in.ensures.marked;
-      marks = c.sort_in.ensures.marks;
-    }) c.sort_in.ensures.tree.leaves c.sort_in.ensures.tree.bits
+    (homed w.part y.0 y.1 y.2 c.in-Some.is (c.home_of.ensures.home root late w y.0 y.1 y.2)) c.requires.unmarked (search arith) c.sort_in.ensures.tree.leaves c.sort_in.ensures.tree.bits

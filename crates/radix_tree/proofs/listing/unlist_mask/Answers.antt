@@ -1,5 +1,5 @@
 use Rattle.radix_tree.proofs.{WholeParts.once_but, WholeParts.later_than, HomeLists.placed_in}
-use Rattle.radix_tree.proofs.Words.{sym, subst, nobody_late, late_at, IsHome, true≢false, number_of}
+use Rattle.radix_tree.proofs.Words.{sym, subst, nobody_late, late_at, IsHome, true≢false, number_of, arith}
 use Rattle.radix_tree.proofs.Listed.{listed_less, homeless, homed, home_node, home_member, marked_at}
 use Rattle.radix_tree.proofs.listing.unlist_mask.Goals as goal
 
@@ -37,10 +37,4 @@ returns-clause-whole g c root is =
     let w = is in
     let y = placed_in w c.requires.there in
     let h = homed w.part y.0 y.1 y.2 c.in-Some.is (c.home_of.ensures.home root nobody_late w y.0 y.1 y.2) in
-    listed_less w c.sort_out.new.nodes.lodged c.args.room c.in-Some.fork (once_but w) h (marked_at w h) (record {
-      list = c.sort_out.ensures.list;
-      heads = c.sort_out.ensures.heads;
-      masks = c.sort_out.ensures.masks;
-      unmarked = c.sort_out.ensures.unmarked;
-      marks = c.sort_out.ensures.marks;
-    }) c.sort_out.ensures.tree.leaves c.sort_out.ensures.tree.bits
+    listed_less w c.sort_out.new.nodes.lodged c.args.room c.in-Some.fork (once_but w) h (marked_at w h) (search arith) c.sort_out.ensures.tree.leaves c.sort_out.ensures.tree.bits

@@ -1,5 +1,5 @@
 use Rattle.radix_tree.proofs.{Lifts.node_changed, RoomReads.Has-bit}
-use Rattle.radix_tree.proofs.Words.{◌∙◌, Some, inl, inr, sym, ap, subst, refl, BitNode, Has, put_bit, rename, with_renamed, bits_in}
+use Rattle.radix_tree.proofs.Words.{◌∙◌, Some, inl, inr, sym, ap, subst, BitNode, Has, put_bit, rename, with_renamed, bits_in, arith}
 use Rattle.radix_tree.proofs.moving.rename_child.Goals as goal
 
 pub bit_node-node-requires-clause-used : goal.bit_node-node-requires-clause-used
@@ -24,5 +24,5 @@ returns-clause-bits g c n =
     c.put_bit_node.ensures.bits n ∙ ap (λ r. put_bit c.in-Some.up (Some node) n (bits_in r.lodged n))
     (c.renamed-one.ensures.stays ∙ c.renamed-zero.ensures.stays)
     ∙ node_changed c.args.nodes.now.lodged node (with_renamed c.args.from c.args.to) n
-    c.bit_node-node.ensures.node (rw (c.renamed-zero.ensures.node, c.renamed-one.ensures.node) refl)
+    c.bit_node-node.ensures.node (search arith)
     ∙ ap (λ o. rename o c.args.from c.args.to n (bits_in c.args.nodes.now.lodged n)) (sym c.in-Some.is)

@@ -1,5 +1,5 @@
 use Rattle.radix_tree.proofs.{MovedReads.Has_kept, MovedReads.content_lift, MovedWhole.whole_moved, MovedWhole.routes_moved}
-use Rattle.radix_tree.proofs.Words.{◌∙◌, Some, None, sym, ap, leaves_in, put_bit, put_head, lift_leaf, lift_bit, rename, content_of, number_of}
+use Rattle.radix_tree.proofs.Words.{◌∙◌, sym, number_of, arith}
 use Rattle.radix_tree.proofs.moving.vacate.Goals.{In-Some, After-root_after}
 use Rattle.radix_tree.proofs.MoveWrites.{over_used, IsMove, IsMoved, move_of, left_there, right_there, contents_stay, lifted_stay, beneath_there, gone}
 use Rattle.radix_tree.proofs.moving.vacate.Given as given
@@ -12,17 +12,7 @@ move g c = move_of c.args.from c.args.to c.links.result.now c.requires.whole c.r
 
 -- all that the writes leave
 moved : (g : given.Over) (c : After-root_after g) → IsMoved c.args.nodes.now.lodged c.rename_child.new.nodes.lodged c.args.from c.args.to c.in-Some.node
-moved g c = record {
-  leaves = λ k. c.rename_child.ensures.only.leaves k ∙ c.put_bit_node-2.ensures.leaves k ∙ c.put_bit_node.ensures.leaves k ∙ c.lift-2.ensures.leaves k
-      ∙ ap (lift_leaf c.in-Some.node.one (Some c.args.to) k) (c.lift.ensures.leaves k);
-  bits = λ k. c.rename_child.ensures.bits k ∙ ap (rename c.in-Some.node.above c.args.from c.args.to k)
-      (c.put_bit_node-2.ensures.bits k ∙ ap (put_bit c.args.to (Some c.in-Some.node) k) (c.put_bit_node.ensures.bits k ∙ ap (put_bit c.args.from None k)
-      (c.lift-2.ensures.bits k ∙ ap (lift_bit c.in-Some.node.one (Some c.args.to) k) (c.lift.ensures.bits k))));
-  heads = λ k. c.rename_child.ensures.only.heads k ∙ c.put_bit_node-2.ensures.heads k ∙ ap (put_head c.args.to (Some c.in-Some.node) k)
-      (c.put_bit_node.ensures.heads k ∙ ap (put_head c.args.from None k) (c.lift-2.ensures.heads k ∙ c.lift.ensures.heads k));
-  masks = λ k. c.rename_child.ensures.only.masks k ∙ c.put_bit_node-2.ensures.masks k ∙ c.put_bit_node.ensures.masks k ∙ c.lift-2.ensures.masks k
-      ∙ c.lift.ensures.masks k;
-}
+moved g c = search arith
 
 pub lift-requires-clause-tree : goal.lift-requires-clause-tree
 lift-requires-clause-tree g c = left_there (move g (goal.at.lift-requires-clause-tree g c).In-Some)
@@ -32,36 +22,28 @@ lift-requires-2-clause-tree g c =
     right_there (move g (goal.at.lift-requires-2-clause-tree g c).In-Some) c.lift.new.nodes.lodged c.lift.ensures.leaves c.lift.ensures.bits
 
 pub put_bit_node-requires-clause-there : goal.put_bit_node-requires-clause-there
-put_bit_node-requires-clause-there g c = Has_kept c.lift-2.new.nodes.lodged (ap content_of (c.lift-2.ensures.leaves (number_of c.args.from))
-    ∙ content_lift c.in-Some.node.one (Some c.args.to) (number_of c.args.from) (leaves_in c.lift.new.nodes.lodged (number_of c.args.from))
-    ∙ ap content_of (c.lift.ensures.leaves (number_of c.args.from))
-    ∙ content_lift c.in-Some.node.zero (Some c.args.to) (number_of c.args.from) (leaves_in c.args.nodes.now.lodged (number_of c.args.from))) c.requires.from
+put_bit_node-requires-clause-there g c = Has_kept c.lift-2.new.nodes.lodged (search (arith, content_lift)) c.requires.from
 
 pub put_bit_node-requires-2-clause-there : goal.put_bit_node-requires-2-clause-there
-put_bit_node-requires-2-clause-there g c = Has_kept c.put_bit_node.new.nodes.lodged (ap content_of (c.put_bit_node.ensures.leaves (number_of c.args.to))
-    ∙ ap content_of (c.lift-2.ensures.leaves (number_of c.args.to))
-    ∙ content_lift c.in-Some.node.one (Some c.args.to) (number_of c.args.to) (leaves_in c.lift.new.nodes.lodged (number_of c.args.to))
-    ∙ ap content_of (c.lift.ensures.leaves (number_of c.args.to))
-    ∙ content_lift c.in-Some.node.zero (Some c.args.to) (number_of c.args.to) (leaves_in c.args.nodes.now.lodged (number_of c.args.to))) c.requires.to
+put_bit_node-requires-2-clause-there g c = Has_kept c.put_bit_node.new.nodes.lodged (search (arith, content_lift)) c.requires.to
 
 pub rename_child-requires-clause-used : goal.rename_child-requires-clause-used
-rename_child-requires-clause-used g c up is = over_used (move g (goal.at.rename_child-requires-clause-used g c).In-Some) up is
-    (λ k. c.put_bit_node-2.ensures.bits k ∙ ap (put_bit c.args.to (Some c.in-Some.node) k) (c.put_bit_node.ensures.bits k
-    ∙ ap (put_bit c.args.from None k) (c.lift-2.ensures.bits k ∙ ap (lift_bit c.in-Some.node.one (Some c.args.to) k) (c.lift.ensures.bits k))))
+rename_child-requires-clause-used g c up is =
+    over_used (move g (goal.at.rename_child-requires-clause-used g c).In-Some) up is
+    (search arith)
 
 pub rename_child-requires-clause-from : goal.rename_child-requires-clause-from
-rename_child-requires-clause-from g c = Has_kept c.put_bit_node-2.new.nodes.lodged
+rename_child-requires-clause-from g c =
+    Has_kept c.put_bit_node-2.new.nodes.lodged
     (lifted_stay c.args.nodes.now.lodged c.put_bit_node-2.new.nodes.lodged c.args.to c.in-Some.node
-    (λ k. c.put_bit_node-2.ensures.leaves k ∙ c.put_bit_node.ensures.leaves k ∙ c.lift-2.ensures.leaves k
-    ∙ ap (lift_leaf c.in-Some.node.one (Some c.args.to) k) (c.lift.ensures.leaves k)) (number_of c.args.from)) c.requires.from
+    (search arith) (number_of c.args.from)) c.requires.from
 
 pub rename_child-requires-clause-beneath : goal.rename_child-requires-clause-beneath
-rename_child-requires-clause-beneath g c up is = beneath_there (move g (goal.at.rename_child-requires-clause-beneath g c).In-Some) up is
-    (λ k. c.put_bit_node-2.ensures.bits k ∙ ap (put_bit c.args.to (Some c.in-Some.node) k) (c.put_bit_node.ensures.bits k
-    ∙ ap (put_bit c.args.from None k) (c.lift-2.ensures.bits k ∙ ap (lift_bit c.in-Some.node.one (Some c.args.to) k) (c.lift.ensures.bits k))))
+rename_child-requires-clause-beneath g c up is =
+    beneath_there (move g (goal.at.rename_child-requires-clause-beneath g c).In-Some) up is
+    (search arith)
     (lifted_stay c.args.nodes.now.lodged c.put_bit_node-2.new.nodes.lodged c.args.to c.in-Some.node
-    (λ k. c.put_bit_node-2.ensures.leaves k ∙ c.put_bit_node.ensures.leaves k ∙ c.lift-2.ensures.leaves k
-    ∙ ap (lift_leaf c.in-Some.node.one (Some c.args.to) k) (c.lift.ensures.leaves k)))
+    (search arith))
 
 pub returns-clause-whole : goal.returns-clause-whole
 returns-clause-whole g c = whole_moved (move g (goal.at.returns-clause-whole g c).In-Some) (moved g c) c.root_after.ensures

@@ -1,10 +1,11 @@
 use Rattle.radix_tree.proofs.{MovedReads.Has_kept, Facts.none_if}
-use Rattle.radix_tree.proofs.Words.{◌∙◌, sym, ap, number_of}
+use Rattle.radix_tree.proofs.Words.{◌∙◌, sym, ap, number_of, arith}
 use Rattle.radix_tree.proofs.RemovedOnly.{can_take, leaf_at, leaf_is, alone_is, member_is, only, only_room, only_shown}
 use Rattle.radix_tree.proofs.removing.take_out.Goals as goal
 
 pub vacate-requires-clause-from : goal.vacate-requires-clause-from
-vacate-requires-clause-from g c = Has_kept c.remove_from_chain-rest.new.nodes.lodged (c.remove_from_chain-rest.ensures.out.rooms (number_of c.args.at))
+vacate-requires-clause-from g c =
+    Has_kept c.remove_from_chain-rest.new.nodes.lodged (search arith)
     c.requires.route.there
 
 pub vacate-requires-clause-to : goal.vacate-requires-clause-to
