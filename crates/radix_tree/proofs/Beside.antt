@@ -9,8 +9,7 @@ use Rattle.radix_tree.proofs.Forking.{one_value, zero_fork_is, one_fork_is, lift
 
 -- a name that is not in a room is not the room's
 pub misses_leaf : {A : Type 0} (at : Node) (n : ℕ) → ((room : Id) → at ≡ LeafOf room → n ≡ number_of room → ⊥)
-    → (above : Option Id) (said : Option (LeafPart A))
-    → lift_leaf at above n said ≡ said
+    → (above : Option Id) (said : Option (LeafPart A)) → lift_leaf at above n said ≡ said
 misses_leaf (LeafOf room) n other above said = search (arith, ne_eqb)
 misses_leaf (BitOf room) n other above said = refl
 
@@ -106,7 +105,6 @@ module _ {V : Type 0} where
   forked_keys : (bit : ℕ) {low : ℕ} (x : Placed V) (t : Tree V) → IsPlace x.entry.key low bit t → (c value : ℕ) → c < low → HaveBit c value t
       → HaveBit c value (forked_tree bit x t)
   forked_keys bit x t p c value before have =
-      let rises = p.rises in
       let own = one_value c (bit_at c x.entry.key) value t (p.agree c (omega arith)) have in
       search (arith, zero_or_one, zero_forked, one_forked)
 
@@ -115,9 +113,7 @@ module _ {V : Type 0} where
       (b : IsBeside m new bit x above below) where
     -- a room that is not in the part beneath says what it said, or is the bit node above
     leaf_stays : (n : ℕ) → leaves_at n s.at.tree ≡ 0 → 1 ≤ leaves_at n whole.tree → leaves_in new n ≡ leaves_in m n
-    leaf_stays n out some =
-        b.leaves n (not_new whole x.room b.no_leaf n some)
-        ∙ misses_leaf below n (search (arith, named_leaf)) (Some x.room) (leaves_in m n)
+    leaf_stays n out some = b.leaves n (not_new whole x.room b.no_leaf n some) ∙ misses_leaf below n (search (arith, named_leaf)) (Some x.room) (leaves_in m n)
 
     bit_stays : (n : ℕ) → forks_at n s.at.tree ≡ 0 → 1 ≤ forks_at n whole.tree → bits_in new n ≡ name_child above x.entry.key (BitOf x.room) n (bits_in m n)
     bit_stays n out some = search (arith, not_new_bit, misses_bit, named_bit)
@@ -133,8 +129,4 @@ module _ {V : Type 0} where
           keys = λ c value before have. subst (HaveBit c value) (sym u.tree) (forked_keys bit x s.at.tree s.place c value before have);
           leaves = leaf_stays;
           bits = search (arith, bit_stays);
-        } in (
-          u.part,
-          u.tree,
-          search (arith, exchanged),
-        )
+        } in (u.part, u.tree, search (arith, exchanged))

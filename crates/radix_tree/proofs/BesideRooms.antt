@@ -75,9 +75,7 @@ module _ {V : Type 0} where
   pub forked_home : (bit : ℕ) {low : ℕ} (x : Placed V) (t : Tree V) → IsPlace x.entry.key low bit t → (y : Placed V) → IsIn y t
       → HasHome y.entry.key y.entry.rank t → HasHome y.entry.key y.entry.rank (forked_tree bit x t)
   forked_home bit x t p y is home =
-      forked_cases (λ (s : Tree V). HasHome y.entry.key y.entry.rank s) bit x t
-      (search (arith, bit_beneath))
-      (search (arith, bit_beneath))
+      forked_cases (λ (s : Tree V). HasHome y.entry.key y.entry.rank s) bit x t (search (arith, bit_beneath)) (search (arith, bit_beneath))
 
   pub forked_spare : (B : Bits) (bit : ℕ) (x : Placed V) (t : Tree V) → HaveOneFork B t → HaveOneFork B (forked_tree bit x t)
   forked_spare B bit x t spare = search (arith, forked_cases)

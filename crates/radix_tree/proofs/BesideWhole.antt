@@ -5,11 +5,11 @@ use Rattle.radix_tree.proofs.{WholeRoutes.routes_changed, WholeRoutes.gains_spli
 use Rattle.radix_tree.proofs.Words.{◌≡◌, ℕ, ◌+◌, ◌≤◌, ◌⊎◌, ◌==◌, ◌||◌, Bool, true, false, List, ◌∷◌, Option, Some, None, refl, sym, ◌∙◌, subst, inl, inr, arith}
 use Rattle.radix_tree.proofs.Words.{eq-eqb, ne_eqb, cases_eq, is_some, Id, Node, LeafOf, BitOf, Placed, Tree, leaf, fork, IsIn, IsTree, Part, leaves_in}
 use Rattle.radix_tree.proofs.Words.{bits_in, heads_in, masks_in, LedTo, one_if, HasHome, HaveOneFork, IsWhole, shown, with_head, forked_tree, Gains, IsSpot}
-use Rattle.radix_tree.proofs.Words.{IsBeside, IsNew, Differs, Exchanged, IsMasks, IsAside, past_bit, up_to_bit, IsMarked, MarkedLists, IsWholeBut, has_key}
+use Rattle.radix_tree.proofs.Words.{IsBeside, IsNew, Differs, Exchanged, IsMasks, IsAside, past_bit, up_to_bit, MarkedLists, IsWholeBut, has_key}
 use Rattle.radix_tree.proofs.Words.{nobody_late, nobody_out, KeepsLeaves, KeepsBits, KeepsMasks, Lodged, true≢false, number_of}
 use Rattle.radix_tree.proofs.PlugLists.{mask_list_same, lists_same, marked_same}
 use Rattle.radix_tree.proofs.BesideRooms.{or_true, one_if_turned, one_if_here, forked_leaves, forked_forks, in_forked, forked_in, forked_lists, home_forked}
-use Rattle.radix_tree.proofs.BesideRooms.{forked_home, forked_spare, forked_gains, Came, no_leaf, no_bit, other_leaf, other_bit, same_marks, new_unmarked}
+use Rattle.radix_tree.proofs.BesideRooms.{forked_home, forked_spare, forked_gains, Came, no_leaf, no_bit, other_leaf, other_bit, same_marks}
 
 module _ {V : Type 0} where
   -- ---- the whole
@@ -40,15 +40,10 @@ module _ {V : Type 0} where
         → ((y z : Placed V) (zs : List (Placed V)) → IsIn y s.at.tree → s.at.tree ≡ leaf z zs → y.entry.key ≡ key)
         → Fits m new w.part s.at u nobody_late (late_beside m key (number_of x.room)) nobody_out nobody_out
     fits_beside mid new key u c tree keyed =
-        let t = s.at.tree in
-        let low = s.at.low in
         let marks = same_marks x c in
-        let new_one : (y : Placed V) → x ≡ y → IsMarked (masks_in new) y → ⊥ =
-        search (arith, new_unmarked) in
         let not_room = not_new_bit s.at x.room (no_bit x c) in
         let off : (n : ℕ) → (n ≡ number_of x.room → ⊥) → heads_in new n ≡ heads_in mid n =
         search (arith, ne_eqb) in
-        let rises = s.place.rises in
         record {
           leaves = λ n. let e = (counts m new x c n).0 in
               search (arith, forked_leaves);
@@ -74,19 +69,9 @@ module _ {V : Type 0} where
               | inr new_home ↦ elim (home_forked bit x s.at.tree y.entry.key y.entry.rank (subst (HasHome y.entry.key y.entry.rank) tree new_home)) [
                 | inl here ↦ elim (late_or_home m bit key (number_of x.room) s.at y s.at.tree refl s.place.is (λ z zs is. keyed y z zs at is) at here) [
                   | inl late ↦ inl late
-                  | inr had ↦ inr (
-                    at,
-                    inr had,
-                    search arith,
-                    (λ (late : false ≡ true). absurd (true≢false (sym late))),
-                  )
+                  | inr had ↦ inr (at, inr had, search arith, (λ (late : false ≡ true). absurd (true≢false (sym late))))
                 ]
-                | inr had ↦ inr (
-                  at,
-                  inr had,
-                  search arith,
-                  (λ (late : false ≡ true). absurd (true≢false (sym late))),
-                )
+                | inr had ↦ inr (at, inr had, search arith, (λ (late : false ≡ true). absurd (true≢false (sym late))))
               ]
             ]
           ];
@@ -116,9 +101,7 @@ module _ {V : Type 0} where
           whole_changed w e (fits_beside mid new f.first.entry.key u c tree keyed) (spare_beside mid c tree)
 
       pub routes_beside : u.tree ≡ forked_tree bit x s.at.tree → Gains x.entry (shown m (Some root)) (shown new (Some name))
-      routes_beside tree =
-          gains_spliced (routes_changed w e)
-          (search (arith, forked_gains))
+      routes_beside tree = gains_spliced (routes_changed w e) (search (arith, forked_gains))
 
   -- ---- a key that no route of the table has, and the rooms once its route stands there
   abbrev pub new_key : {m : Lodged V} {root : Node} (w : IsWhole m root) {key bit : ℕ} {room : Id} (d : LedTo key w.part room)

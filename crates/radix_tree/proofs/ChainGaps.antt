@@ -80,7 +80,6 @@ module _ {V : Type 0} where
     passed at links {l = l} is are leaf lt =
         let r = read_at at links l is are leaf in
         let x = r.0 in
-        let same = r.1 in
         let few = p.few in
         let some = ap length x.is in
         record {
@@ -99,14 +98,9 @@ module _ {V : Type 0} where
         → FindsGap key rank c None
     taken key at links {l = l} is are leaf same =
         let r = read_at at links l is are leaf in
-        let x = r.0 in (
-          x.first,
-          search (arith, in_back),
-          sym r.1 ∙ same,
-        )
+        let x = r.0 in (x.first, search (arith, in_back), sym r.1 ∙ same)
 
-    gap_of : (key : ℕ) → IsBelow rank p.back
-        → FindsGap key rank c (Some (record { key = key; rank = rank; above = above; next = next; previous = previous }))
+    gap_of : (key : ℕ) → IsBelow rank p.back → FindsGap key rank c (Some (record { key = key; rank = rank; above = above; next = next; previous = previous }))
     gap_of key below = search arith
 
     -- the first one of a smaller rank

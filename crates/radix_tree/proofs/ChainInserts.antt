@@ -5,7 +5,7 @@ use Rattle.radix_tree.proofs.{ChainRooms.room_route, WholeParts.once_but, ChainG
 use Rattle.radix_tree.proofs.{ChainLists.cons_at, ChainLists.chain_more, ChainWholes.grown_whole, ChainWholes.grown_routes, MovedReads.content_used}
 use Rattle.radix_tree.proofs.Words.{◌≡◌, ℕ, ◌≤◌, ◌==◌, ◌||◌, List, ◌∷◌, ◌++◌, Option, Some, None, refl, sym, ap, ◌∙◌, subst, arith}
 use Rattle.radix_tree.proofs.Words.{ne_eqb, is_some, Has, Id, Leaf, Node, LeafOf, IsRoute, Placed, leaf, IsIn, IsChain, LeafPart, Part, Run, leaves_in, bits_in}
-use Rattle.radix_tree.proofs.Words.{masks_in, name_of, first_room, leaf_part, ChainStands, Way, LedTo, ForkAt, HasPair, one_if, members_at, IsWhole}
+use Rattle.radix_tree.proofs.Words.{masks_in, name_of, first_room, ChainStands, Way, LedTo, ForkAt, HasPair, one_if, members_at, IsWhole}
 use Rattle.radix_tree.proofs.Words.{shown, name_child, root_after, placed, Gains, AreOnce, IsWholeBut, late_at, nobody_out, lodge_leaf, KeepsBits, KeepsHeads}
 use Rattle.radix_tree.proofs.Words.{KeepsMasks, leaf_next, leaf_back, name_next, name_back, link_in, above_behind, last_room, root_past, IsGap, FindsGap}
 use Rattle.radix_tree.proofs.Words.{content_of, Entry, Lodged, [], number_of}
@@ -39,17 +39,11 @@ module _ {V : Type 0} where
     chain_of = leaf_run m d.leaf
 
     pub gap_before : {rank : ℕ} {l : Leaf} → IsGap rank chain_of key l → (r : Id) → l.previous ≡ Some r → Has m r
-    gap_before g r is =
-        let c = chain_of in
-        last_there m d.part.above None g.front g.back r (search arith)
-        (sym (ap (λ z. z.previous) g.leaf) ∙ is)
+    gap_before g r is = last_there m d.part.above None g.front g.back r (search arith) (sym (ap (λ z. z.previous) g.leaf) ∙ is)
 
     pub gap_behind : {rank : ℕ} {l : Leaf} → IsGap rank chain_of key l → (r : Id) → l.next ≡ Some r → Has m r
     gap_behind g r is =
-        let c = chain_of in
-        first_there m (above_behind d.part.above g.front) (last_room None g.front) g.back r
-        (search (arith, behind_stands))
-        (sym (ap (λ z. z.next) g.leaf) ∙ is)
+        first_there m (above_behind d.part.above g.front) (last_room None g.front) g.back r (search (arith, behind_stands)) (sym (ap (λ z. z.next) g.leaf) ∙ is)
 
   -- it is there once the room is lodged
   pub lodged_above : (m new : Lodged V) (room : Id) (value : V) (l : Leaf) (up : Id) → leaves_in m (number_of room) ≡ None
@@ -160,16 +154,9 @@ module _ {V : Type 0} where
   pub taken_there : {m : Lodged V} (key rank : ℕ) {root : Node} {first : Id} (w v : IsWhole m root) (d : LedTo key w.part first) → d.leaf.first.entry.key ≡
       key → FindsGap key rank (chain_of d) None → (x : Placed V) × IsIn x v.part.tree × HasPair key rank x
   taken_there {m = m} key rank w v d same g =
-      let x = g.0 in
       let inside_leaf = in_leaf d.leaf g.0 g.1 in
       let own = way_inside m key w.part d.part d.ups d.way g.0 inside_leaf in
       let s = tree_said (leaves_in m) (bits_in m) w.part.above w.part.tree w.part.stands g.0 own in
-      let p = leaf_part g.0 s.0 s.1 s.2 in
-      let counts = v.leaves (number_of g.0.room) in
       let one = ap (λ o. one_if (is_some o)) s.3 in
       let r = room_route m v.part (number_of g.0.room) s.3 (omega arith) in
-      let c = chain_of d in (
-        r.route,
-        r.is_in,
-        search (arith, chain_key),
-      )
+      (r.route, r.is_in, search (arith, chain_key))

@@ -64,12 +64,8 @@ module _ {V : Type 0} where
       → ((n : ℕ) → M n ≡ link_in x.room x.entry.value (leaf_at x.entry.key x.entry.rank above front back) n (L n))
       → ChainStands M above None (front ++ (x ∷ back))
   linked_in L M above front back x stands none once said =
-      let room = x.room in
-      let l = leaf_at x.entry.key x.entry.rank above front back in
       let sum : (n : ℕ) → members_at n (front ++ back) ≡ members_at n front + members_at n back = λ n. members_append n front back in
       let gone = chain_there L above None (front ++ back) (number_of x.room) stands none in
-      let new : (n : ℕ) → 1 ≤ members_at n (front ++ back) → n ≡ (number_of x.room)
-      → ⊥ = search arith in
       let lodged : (n : ℕ) → 1 ≤ members_at n (front ++ back) → lodge_leaf x.room x.entry.value (leaf_at x.entry.key x.entry.rank above front back) n (L n)
       ≡ L n =
       search (arith, off_room) in
@@ -78,7 +74,7 @@ module _ {V : Type 0} where
       front_linked L M above None front back (x ∷ back) stands (search (arith, back_off)) (search arith) (
         search (arith, back_off, next_off, own_room),
         back_linked L M (above_behind above front) (last_room None front) None (Some x.room) back (behind_stands L above None front back stands)
-            (search (arith, next_off)) (λ n. let both = sum n in let most = once n in omega arith),
+            (search (arith, next_off)) (λ n. let both = sum n in omega arith),
       )
 
   -- ---- a member less

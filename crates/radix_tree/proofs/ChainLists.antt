@@ -104,8 +104,7 @@ module _ {V : Type 0} where
 
   -- where one member's room is a bit node in use, no other one's is
   pub others_idle : (B : Bits) (front back : List (Placed V)) (x y : Placed V) {b : BitPart} → HasOneFork B (front ++ (x ∷ back))
-      → B (number_of x.room) ≡ Some b
-      → IsAmong y (front ++ back) → B (number_of y.room) ≡ None
+      → B (number_of x.room) ≡ Some b → IsAmong y (front ++ back) → B (number_of y.room) ≡ None
   others_idle B [] back x y one used is = search (arith, idle_at, none_some)
   others_idle B (z ∷ front) back x y one used is = elim one [
     | inl idle ↦ absurd (none_some (sym (idle_at B (front ++ (x ∷ back)) x idle (among_own front back x)) ∙ used))
@@ -115,10 +114,10 @@ module _ {V : Type 0} where
   -- ---- order
   chain_raise : (key low top : ℕ) (c : List (Placed V)) → low ≤ top → IsChain key low c → IsChain key top c
   chain_raise key low top [] le is = tt
-  chain_raise key low top (y ∷ c) le is = let lt = is.2 in (is.0, is.1, omega arith, is.3)
+  chain_raise key low top (y ∷ c) le is = (is.0, is.1, omega arith, is.3)
 
   pub chain_less : (key top : ℕ) (front back : List (Placed V)) (x : Placed V) → IsChain key top (front ++ (x ∷ back)) → IsChain key top (front ++ back)
-  chain_less key top [] back x is = let lt = is.2 in chain_raise key x.entry.rank top back (omega arith) is.3
+  chain_less key top [] back x is = chain_raise key x.entry.rank top back (omega arith) is.3
   chain_less key top (y ∷ front) back x is = (is.0, is.1, is.2, chain_less key y.entry.rank front back x is.3)
 
   chain_lower : (key top rank : ℕ) (c : List (Placed V)) → IsBelow rank c → IsChain key top c → IsChain key rank c

@@ -35,7 +35,6 @@ module _ {V : Type 0} where
   module _ {m : Lodged V} {root : Node} {late : ℕ → Bool} (w : IsWholeBut m root late nobody_out) where
     pub member_of : (n : ℕ) {p : LeafPart V} → leaves_in m n ≡ Some p → IsMember m w.part n p
     member_of n said =
-        let counts = w.leaves n in
         let one = ap (λ o. one_if (is_some o)) said in
         let r = room_route m w.part n said (omega arith) in
         let f = way_to_leaf m w.part r.route r.is_in in
@@ -107,12 +106,7 @@ module _ {V : Type 0} where
   left_renamed {m = m} new {root = root} w b {to = to} next bits named =
       let h = head_of b.back (sym (ap (λ q. q.leaf.next) b.part_is) ∙ next) in
       let c = cons_at b.front h.behind h.first in
-      let front_is = front_named b.front (b.x ∷ b.back) b.is b.split in
-      record {
-        cons = search (arith, cons_at);
-        bits = search (arith, place_bits);
-        named = search (arith, place_root);
-      }
+      record { cons = search (arith, cons_at); bits = search (arith, place_bits); named = search (arith, place_root) }
 
   -- the last of a chain goes, which isn't its first
   kept_at : (m new : Lodged V) {root : Node} (key : ℕ) (whole at : Part m) (ups : List (Part m)) (front back : List (Placed V)) → Way key whole at ups

@@ -81,14 +81,12 @@ module _ {V : Type 0} where
       let some = left_bits l in
       let q =
       of_that_key (leaves_in m k) (leaves_in m k) p.leaf.key refl (sym (routes_key m new (unlinked_routes m new p.leaf u.leaves) p.leaf.key k) ∙ keyed) in
-      let counts = w.leaves k in
       let one = ap (λ o. one_if (is_some o)) q.is in
       let r = room_route m w.part k q.is (omega arith) in
       let key = ap (λ e. e.key) r.entry ∙ q.key_is ∙ ap (λ z. z.leaf.key) b.part_is in
       let at = way_leads m w.part b.part b.ups b.way r.route r.is_in key in
       let among = subst (IsAmong r.route) b.split (subst (IsIn r.route) b.is at) in
-      let spare = subst (HasOneFork (bits_in m)) b.split
-      (search (arith, way_spare)) in
+      let spare = subst (HasOneFork (bits_in m)) b.split (search (arith, way_spare)) in
       let own = some_of (bits_in m n) (sym (some n) ∙ ap is_some is) in
       same_none (bits_in new k) (some k) (elim (among_less b.front b.back b.x r.route among) [
         | inl e ↦ search arith
@@ -113,8 +111,7 @@ module _ {V : Type 0} where
       let more = members_more (number_of to) b.front b.back b.x in
       let some : 1 ≤ members_at (number_of to) (b.front ++ b.back) = search (arith, first_among, last_among) in
       let all : 1 ≤ members_at (number_of to) (b.front ++ (b.x ∷ b.back)) = omega arith in
-      let first_key = sym (search (arith, chain_key, leaf_chain, among_own))
-      ∙ sym (ap (λ q. q.leaf.key) b.part_is) in
+      let first_key = sym (search (arith, chain_key, leaf_chain, among_own)) ∙ sym (ap (λ q. q.leaf.key) b.part_is) in
       let out = own_out w n p b in (
         Has-linked_out there new p.leaf u.leaves,
         search arith,

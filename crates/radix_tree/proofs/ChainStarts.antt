@@ -43,9 +43,7 @@ module _ {V : Type 0} where
     pub few : steps ≤ is.entry.rank + 1
 
   member_in : (m : Lodged V) (c : Run m) (x : Placed V) → c.previous ≡ None → IsAmong x c.members → Member (leaves_in m) c.members None x
-  member_in m c x first among =
-      subst (λ o. Member (leaves_in m) c.members o x) first
-      (search (arith, member_of))
+  member_in m c x first among = subst (λ o. Member (leaves_in m) c.members o x) first (search (arith, member_of))
 
   said_at : (m : Lodged V) (c : Run m) {x : Placed V} {room : Id} (k : Member (leaves_in m) c.members None x) → x.room ≡ room
       → leaves_in m (number_of room) ≡ Some k.part
@@ -78,8 +76,7 @@ module _ {V : Type 0} where
         let few = b.few in
         elim b.prior [
           | inl first ↦ absurd (none_some (sym first.1 ∙ is))
-          | inr w ↦ let greater = w.3 in
-              record { is = w.0; among = w.1; room_is = inside (sym w.2 ∙ is); few = omega arith }
+          | inr w ↦ record { is = w.0; among = w.1; room_is = inside (sym w.2 ∙ is); few = omega arith }
         ]
 
     pub few_at : steps ≤ 34

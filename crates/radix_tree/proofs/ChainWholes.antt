@@ -15,8 +15,6 @@ module _ {V : Type 0} where
       → is_some (leaves_in new n) ≡ (n == number_of x.room) || is_some (leaves_in m n))
       → Fits m new whole at (under r) nobody_late (late_at (number_of x.room)) nobody_out nobody_out
   fits_in m new key whole at front back x r free unmarked rooms =
-      let old = front ++ back in
-      let now = front ++ (x ∷ back) in
       let split : (y : Placed V) → IsIn y (leaf r.cons.first r.cons.rest) → (x ≡ y) ⊎ IsAmong y (front ++ back) =
       λ y is. among_less front back x y (subst (IsAmong y) (sym r.cons.is) is) in
       record {

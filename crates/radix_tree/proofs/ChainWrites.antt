@@ -16,8 +16,7 @@ module _ {V : Type 0} where
         → put_leaf room (record l { next = next }) n (leaves_in m n) ≡ (if n == (number_of room) then leaf_next next (leaves_in m n) else leaves_in m n)
     next_put links {l = l} next n are leaf =
         let read = leaf ∙ ap leaf_of (are h.room h.at) in
-        elim (n == number_of room) as (λ t. (n == number_of room) ≡ t
-        → (if t then with_leaf (record l { next = next }) (leaves_in m n) else leaves_in m n) ≡
+        elim (n == number_of room) as (λ t. (n == number_of room) ≡ t → (if t then with_leaf (record l { next = next }) (leaves_in m n) else leaves_in m n) ≡
         (if t then leaf_next next (leaves_in m n) else leaves_in m n)) [
           | true ↦ λ e. let said = ap (leaves_in m) (eqb-true n (number_of room) e) ∙ own_said in
               ap (with_leaf (record l { next = next })) said ∙ ap (λ z. with_leaf (record z { next = next }) (Some own_part)) read
@@ -114,7 +113,6 @@ module _ {V : Type 0} where
 
     pub Has-linked_out : (new : Lodged V) (l : Leaf) → ((n : ℕ) → leaves_in new n ≡ link_out l n (leaves_in m n)) → Has new at
     Has-linked_out new l is =
-        let said = leaves_in m (number_of at) in
         let p = next_part l.previous l.next at (back_part l.next l.above l.previous at (part_has h)) in
         has_part new at (record { part = p.part; is = is (number_of at) ∙ p.is; block = p.block })
 

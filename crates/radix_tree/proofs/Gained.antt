@@ -40,7 +40,6 @@ module _ {V : Type 0} where
   first_whole m new id {e = e} l leaf_is none route leaves bits masks =
       let at = leaves (number_of id) ∙ ap (λ b. if b then lodged_part id e.value l else leaves_in m (number_of id)) (eq-eqb (number_of id) (number_of id) refl)
       ∙ ap (lodged_part id e.value) leaf_is in
-      let most = route.rank in
       let gone = λ (n : ℕ). no_room m n (get m n) refl (none n) in
       let w : IsWhole new (LeafOf id) = record {
         part = record { tree = leaf (placed id e) []; low = 0; above = None; is = (omega arith, (route, refl, omega arith, tt)); stands = (at, tt) };
@@ -69,8 +68,7 @@ module _ {V : Type 0} where
   not_late w never = later_than nobody_late (λ n is. absurd (never n is)) w
 
   -- the route of one room was late, and is listed now
-  pub among_left : {m : Lodged V} {root : Node} (room id : ℕ) → id ≡ room → IsWholeBut m root (λ n. late_at room n && not (n == id)) nobody_out
-      → IsWhole m root
+  pub among_left : {m : Lodged V} {root : Node} (room id : ℕ) → id ≡ room → IsWholeBut m root (λ n. late_at room n && not (n == id)) nobody_out → IsWhole m root
   among_left {m = m} room id same w = not_late w (search (arith, and_not, true≢false, eq-eqb, eqb-true))
 
   -- and with it the routes of a key
@@ -111,8 +109,7 @@ module _ {V : Type 0} where
   pub same_begun : {m : Lodged V} (new : Lodged V) {key : ℕ} {first : Id} → IsBegun m key first → KeepsLeaves m new → IsBegun new key first
   same_begun new {first = first} b leaves = record {
     part = b.part;
-    at = leaves (number_of first)
-        ∙ b.at;
+    at = leaves (number_of first) ∙ b.at;
     block = b.block;
     key_is = b.key_is;
     previous = b.previous;

@@ -37,15 +37,13 @@ module _ {V : Type 0} where
       → ((y : Placed V) → IsIn y t → is_some (J (number_of y.room)) ≡ is_some (K (number_of y.room))) → IsTree low t → MarkedLists H K low t
       → MarkedLists G J low t
   lists_past H G K J low (leaf x xs) heads masks marks is lists = tt
-  lists_past H G K J low (fork room b zero one) heads masks marks is lists =
-      let rises = is.0.rises in
-      let old = lists.0 in (
-        search (arith, one_if_same, stand_same, falls_among),
-        lists_past H G K J (b + 1) zero (λ n some. heads n (omega arith)) (λ y at past. masks y (inl at) (omega arith)) (λ y at. marks y (inl at)) is.1
-            lists.1,
-        lists_past H G K J (b + 1) one (λ n some. heads n (omega arith)) (λ y at past. masks y (inr at) (omega arith)) (λ y at. marks y (inr at)) is.2
-            lists.2,
-      )
+  lists_past H G K J low (fork room b zero one) heads masks marks is lists = (
+    search (arith, one_if_same, stand_same, falls_among),
+    lists_past H G K J (b + 1) zero (λ n some. heads n (omega arith)) (λ y at past. masks y (inl at) (omega arith)) (λ y at. marks y (inl at)) is.1
+        lists.1,
+    lists_past H G K J (b + 1) one (λ n some. heads n (omega arith)) (λ y at past. masks y (inr at) (omega arith)) (λ y at. marks y (inr at)) is.2
+        lists.2,
+  )
 
   -- ---- to a bit node
   -- its list, and that of the bit node that goes
@@ -63,7 +61,6 @@ module _ {V : Type 0} where
       → HasSides key over.tree up b own (fork room c zero one) → MarkedLists (heads_in m) (masks_in m) over.low over.tree
       → AreTwo m over up room b c (fork room c zero one)
   two m over room b c {own = own} zero one s lists =
-      let t = fork room c zero one in
       let is = side_is s over.low over.is in
       let low = is.1 in
       let within_b = is.2 in
@@ -144,18 +141,15 @@ module _ {V : Type 0} where
       let w = two m over room b c zero one s lists in
       let is = side_is s over.low over.is in
       let old = side_lists s (heads_in m) (masks_in m) over.low lists in
-      let low = w.low in
-      let rises = w.rises in
       let within = w.within in
       let beneath : (y : Placed V) → IsIn y (fork room c zero one) → IsIn y over.tree = λ y at. in_side s y at in
       let own = one_if_same (number_of room) in
       let now = a.list w.own.masks w.gone.masks w.own_is (subst (λ o. IsMasks m o w.gone.masks) head w.gone_is)
       (falls_wider over.low (c + 1) 0 34 (w.own.masks ++ w.gone.masks) w.falls (omega arith) (omega arith)) in
       let marked_now : (y : Placed V) → IsMarked (masks_in m) y → IsMarked (masks_in new) y = λ y marked. a.marks (number_of y.room) ∙ marked in
-      let marked_then : (y : Placed V) → IsMarked (masks_in new) y → IsMarked (masks_in m) y = λ y marked. sym (a.marks (number_of y.room)) ∙ marked in
       let most_forks : (n : ℕ) → one_if (number_of up == n) + (0 + (one_if (number_of room == n) + (forks_at n zero + forks_at n one))) ≤ 1 = λ n.
       let sum = side_forks s n in
-      let most = once.forks n in omega arith in
+      omega arith in
       record {
         heads = λ n none. search (arith, side_forks, one_if_same);
         masks = search (arith, falls_among);

@@ -58,7 +58,6 @@ module _ {V : Type 0} where
   lone_over m whole at up y under (q ∷ qs) room_is tree above way top once =
       let b = way.0 in
       let found = sides_of b in
-      let same = inside (sym b.above ∙ above) in
       record {
         route = y;
         room_is = room_is;
@@ -75,7 +74,6 @@ module _ {V : Type 0} where
   pub lone : (m : Lodged V) {root : Node} {late : ℕ → Bool} (w : IsWholeBut m root late nobody_out) (at up : Id) {p : LeafPart V}
       → leaves_in m (number_of at) ≡ Some p → p.block ≡ at.block → p.leaf.next ≡ None → p.leaf.previous ≡ None → p.leaf.above ≡ Some up → IsLone m w.part at up
   lone m w at up {p = p} said block next previous above =
-      let count = w.leaves (number_of at) in
       let used = ap (λ o. one_if (is_some o)) said in
       let y = tree_room (number_of at) w.part.tree (omega arith) in
       let own = ap (leaves_in m) y.2 ∙ said in
@@ -83,10 +81,8 @@ module _ {V : Type 0} where
       let same = same_id y.0.room at (sym (ap (λ q. q.block) (inside (sym own ∙ told.3))) ∙ block) in
       let found = way_to_leaf m w.part y.0 y.1 in
       let f = found.at in
-      let is_alone = alone (leaves_in m) found.part.above f.first f.rest y.0 p
-      (search arith) (subst (IsIn y.0) f.is found.among) own next previous in
-      lone_over m w.part at up y.0 found.part found.ups same (search arith)
-      (sym is_alone.above_is ∙ above) found.way w.top (once_but w)
+      let is_alone = alone (leaves_in m) found.part.above f.first f.rest y.0 p (search arith) (subst (IsIn y.0) f.is found.among) own next previous in
+      lone_over m w.part at up y.0 found.part found.ups same (search arith) (sym is_alone.above_is ∙ above) found.way w.top (once_but w)
 
   -- what the room says
   pub lone_said : (m : Lodged V) {whole : Part m} {at up : Id} (l : IsLone m whole at up)

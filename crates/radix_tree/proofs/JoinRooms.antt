@@ -105,8 +105,7 @@ module _ {V : Type 0} where
               (ap (bit_at b) keys ∙ bit_beneath (b + 1) b 1 ones is.2 is.0.ones z so))
         ]
         | inr fo ↦ elim second [
-          | inl sz ↦ absurd (zero_not_one (bit_beneath (b + 1) b 0 zero is.1 is.0.zeros z sz)
-              (search (arith, bit_beneath)))
+          | inl sz ↦ absurd (zero_not_one (bit_beneath (b + 1) b 0 zero is.1 is.0.zeros z sz) (search (arith, bit_beneath)))
           | inr so ↦ tree_others B (b + 1) ones y z is.2 one.1 fo so keys apart used
         ]
       ]
@@ -121,15 +120,13 @@ module _ {V : Type 0} where
   route_of : (m : Lodged V) {root : Node} {late : ℕ → Bool} (w : IsWholeBut m root late nobody_out) (n : ℕ) (p : LeafPart V) → leaves_in m n ≡ Some p
       → RouteOf m w.part.tree n p
   route_of m w n p said =
-      let count = w.leaves n in
       let used = ap (λ o. one_if (is_some o)) said in
       let y = tree_room n w.part.tree (omega arith) in
       let told = tree_said (leaves_in m) (bits_in m) w.part.above w.part.tree w.part.stands y.0 y.1 in
       record { route = y.0; is = y.1; room = y.2; key = ap (λ q. q.leaf.key) (inside (sym told.3 ∙ ap (leaves_in m) y.2 ∙ said)) }
 
   pub others_idle : (m : Lodged V) {root : Node} {late : ℕ → Bool} (w : IsWholeBut m root late nobody_out) (used other : ℕ) (p q : LeafPart V) {b : BitPart}
-      → leaves_in m used ≡ Some p → leaves_in m other ≡ Some q
-      → p.leaf.key ≡ q.leaf.key → bits_in m used ≡ Some b → (other ≡ used → ⊥) → bits_in m other ≡ None
+      → leaves_in m used ≡ Some p → leaves_in m other ≡ Some q → p.leaf.key ≡ q.leaf.key → bits_in m used ≡ Some b → (other ≡ used → ⊥) → bits_in m other ≡ None
   others_idle m w used other p q first second keys bit apart =
       let y = route_of m w used p first in
       let z = route_of m w other q second in

@@ -15,7 +15,7 @@ use Rattle.radix_tree.proofs.JoinLinks.{put_off, put_none, put_here, turn_none, 
 module _ {V : Type 0} where
   -- a tree whose bits are past one is one whose bits are past a lower one
   pub lower : (low high : ℕ) (t : Tree V) → low ≤ high → IsTree high t → IsTree low t
-  lower low high (leaf x xs) le is = let most = is.0 in (omega arith, is.1)
+  lower low high (leaf x xs) le is = (omega arith, is.1)
   lower low high (fork room b zero one) le is = search arith
 
   -- what the rooms say once the bit node is gone
@@ -102,7 +102,6 @@ module _ {V : Type 0} where
     -- the room of the route that goes is not on the other side
     own_room : (leaves_at (number_of at) l.other ≡ 0) × (leaves_at (number_of at) l.over.tree ≡ 1)
     own_room =
-        let n = (number_of at) in
         let own = ap (λ i. one_if (number_of i == number_of at)) l.room_is ∙ one_if_same (number_of at) in
         let most = (lone_once l).leaves (number_of at) in
         search (arith, side_leaves)
@@ -156,8 +155,7 @@ module _ {V : Type 0} where
         → IsWholeBut new (root_after l.over.above (name_of l.other) root) nobody_late (out_at (number_of at))
     whole_joined h unmarked =
         let e = exchanged_whole l new j w.named in
-        whole_changed w e (fits l new j h unmarked) (spare_changed w e
-        (search (arith, spare_same, idle_stays, side_spare))
+        whole_changed w e (fits l new j h unmarked) (spare_changed w e (search (arith, spare_same, idle_stays, side_spare))
         (λ n none some idle. idle_stays l j n idle))
 
     pub routes_joined : (p : LeafPart V) → leaves_in m (number_of at) ≡ Some p

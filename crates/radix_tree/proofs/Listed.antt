@@ -41,7 +41,6 @@ module _ {V : Type 0} where
     rank_is : (x : Placed V) → IsIn x (tree_of y.home) → x.entry.rank ≡ y.is.entry.rank → x ≡ y.is
     rank_is x is same =
         let h = y.home in
-        let within = h.within in
         one_of_bit h.part.low h.at.bit node h.at.zero h.at.one (fork_is h.at) x y.is is in_home same (omega arith)
 
     are_masks : (l : list_at) → IsMasks m (heads_in m (number_of node)) l.masks
@@ -106,8 +105,7 @@ module _ {V : Type 0} where
   listed_more m new late w room node once y unmarked s leaves bits =
       let l = home_list y.home w.lists in
       let number = ap (λ i. (number_of i)) y.room_is in
-      whole_kept m new (λ n. late n && not (n == number_of room)) w leaves bits
-      (relisted y.home new once (record {
+      whole_kept m new (λ n. late n && not (n == number_of room)) w leaves bits (relisted y.home new once (record {
         heads = s.heads;
         masks = λ x in_x out. s.masks l.masks (are_masks y l) (number_of x.room) (not_room y x in_x out) (aside_of y l x in_x out);
         list = list_more m new w.part room node y l unmarked s;
@@ -134,8 +132,7 @@ module _ {V : Type 0} where
     pub marks : (n : ℕ) → (n ≡ number_of room → ⊥) → is_some (masks_in new n) ≡ is_some (masks_in m n)
 
   -- a marked route is listed at its home
-  at_home : {m : Lodged V} {whole : Part m} {room node : Id} (y : Homed m whole room node) (l : list_at y) → IsMarked (masks_in m) y.is
-      → IsAmong y.is l.masks
+  at_home : {m : Lodged V} {whole : Part m} {room node : Id} (y : Homed m whole room node) (l : list_at y) → IsMarked (masks_in m) y.is → IsAmong y.is l.masks
   at_home y l marked = l.has y.is (in_home y, marked) y.home.past y.home.within
 
   not_marked : {m : Lodged V} (new : Lodged V) {node room : Id} → IsTakenOut m new node room → (x : Placed V) → IsMarked (masks_in new) x

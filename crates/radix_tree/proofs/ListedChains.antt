@@ -158,11 +158,7 @@ module _ {V : Type 0} where
         less = search (arith, and_left);
         behind = λ n is_late has.
             let y = l.behind n (and_left (l.later n) (not (n == number_of room)) is_late) has in
-            let other = eqb_not n (number_of room) (and_right (l.later n) (not (n == number_of room)) is_late) in (
-              y.0,
-              search arith,
-              y.2,
-            );
+            (y.0, search arith, y.2);
       }
 
   pub nearer : (m now new : Lodged V) {root : Node} {late : ℕ → Bool} {key : ℕ} {at : Option Id} (room : Id) (links : Links) {f : Leaf}

@@ -55,8 +55,7 @@ module _ {V : Type 0} {m : Lodged V} where
     pub turn : now.turn ≡ start.turn
     pub rises : start.count ≤ now.count
     pub soon : now.count + 67 + 67 * p.low ≤ start.count + 67 * (bit + 1)
-    pub hit : (x : Placed V) → Finds (HasPair (masked route.entry.rank address) route.entry.rank) (In p) (Some x) → Best address p.low (bit + 1) (In p)
-        (Some x)
+    pub hit : (x : Placed V) → Finds (HasPair (masked route.entry.rank address) route.entry.rank) (In p) (Some x) → Best address p.low (bit + 1) (In p) (Some x)
     pub miss : (later : Counter) → Finds (HasPair (masked route.entry.rank address) route.entry.rank) (In p) None → Reads now later 67
         → Through address p bit mask.next start later
 

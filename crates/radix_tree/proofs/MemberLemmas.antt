@@ -53,13 +53,11 @@ entry_at_is_member key rank entries e h =
 pub first_of_is_member : {V : Type 0} → FirstOfIsMember V
 first_of_is_member key entries e h =
     let found = all_find (Contains entries) (λ x. nat_eq x.key key) entries e (all_members entries) h in
-    let test = found.1 in
     (found.0, grind (arith, nat_tests))
 
 pub best_is_member : {V : Type 0} → BestIsMember V
 best_is_member address entries e h =
-    all_greatest (λ x. Contains entries x × Agrees address x) (agreeing address entries) e
-    (search (arith, all_passed, all_members)) h
+    all_greatest (λ x. Contains entries x × Agrees address x) (agreeing address entries) e (search (arith, all_passed, all_members)) h
 
 -- each member of a table stands in it
 pub all_stand : {V : Type 0} (es : List (Entry V)) → IsTable es → AllByRecursion (StandsIn es) es
@@ -127,8 +125,7 @@ without_leaves_none key rank entries = find_filter (has_pair key rank) (λ x. no
 
 pub without_keeps_others : {V : Type 0} → WithoutKeepsOthers V
 without_keeps_others key rank gone_key gone_rank entries other =
-    find_filter (has_pair key rank) (λ x. not (has_pair gone_key gone_rank x)) true
-    (search (arith, pair_is, other_pair, same)) entries
+    find_filter (has_pair key rank) (λ x. not (has_pair gone_key gone_rank x)) true (search (arith, pair_is, other_pair, same)) entries
 
 -- so an entry stays that stood before one of another pair was put in, or another pair was taken out
 pub with_keeps : {V : Type 0} (es : List (Entry V)) (e r : Entry V) → entry_at e.key e.rank es ≡ None → StandsIn es r → StandsIn (with_entry e es) r
@@ -142,11 +139,9 @@ without_keeps key rank es r other stands = without_keeps_others r.key r.rank key
 pub members_of_with : {V : Type 0} → MembersOfWith V
 members_of_with {V} entries e member h =
     let Was : Entry V → Type 0 = λ x. (x ≡ e) ⊎ (Contains entries x × ¬ (AreOnePair x.key x.rank e.key e.rank)) in
-    let sooner_ones = all_weaker (λ x. Contains entries x × (precedes x e ≡ true)) Was
-    (search (arith, same, nat_tests))
+    let sooner_ones = all_weaker (λ x. Contains entries x × (precedes x e ≡ true)) Was (search (arith, same, nat_tests))
     (filter (λ x. precedes x e) entries) (search (arith, all_passed, all_members)) in
-    let later_ones = all_weaker (λ x. Contains entries x × (precedes e x ≡ true)) Was
-    (search (arith, same, nat_tests))
+    let later_ones = all_weaker (λ x. Contains entries x × (precedes e x ≡ true)) Was (search (arith, same, nat_tests))
     (filter (λ x. precedes e x) entries) (search (arith, all_passed, all_members)) in
     all_contains Was (with_entry e entries) member (search (arith, all_append)) h
 
@@ -154,8 +149,7 @@ pub members_of_without : {V : Type 0} → MembersOfWithout V
 members_of_without {V} key rank entries member h =
     let Was : Entry V → Type 0 = λ x. Contains entries x × ¬ (AreOnePair x.key x.rank key rank) in
     all_contains Was (without key rank entries) member (all_weaker (λ x. Contains entries x × (not (has_pair key rank x) ≡ true)) Was
-    (search (arith, not_pair, nat_tests))
-    (without key rank entries) (search (arith, all_passed, all_members))) h
+    (search (arith, not_pair, nat_tests)) (without key rank entries) (search (arith, all_passed, all_members))) h
 
 -- one more, unless the pair was there
 pub with_counts : {V : Type 0} → WithCounts V

@@ -139,9 +139,6 @@ module _ {V : Type 0} where
   spine_apart m key whole at [] way top once up is = search (arith, none_some)
   spine_apart m key whole at (p ∷ ps) way top once up is =
       let out = spine_out m way.0 (way_once key whole p ps way.1 once) in
-      let same = inside (sym way.0.above ∙ is) in
-      let none = out.0 in
-      let some = out.1 in
       let le = (way_counts m key whole p ps (number_of way.0.room) way.1).1 in
       search arith
 
@@ -168,7 +165,6 @@ module _ {V : Type 0} where
             stands = frame (leaves_in m) (leaves_in new) (bits_in m) (bits_in new) (Some v.room) v.f.one
                 (λ k some. let sum = at_leaves v k in let most = once.leaves k in
                 leaves k ∙ misses_leaf n.zero k (leaf_off v.f.zero k v.left (omega arith)) (Some to) (leaves_in m k)) (λ k some. let sum = at_forks v k in
-                let most = once.forks k in
                 bits k ∙ misses_bit n.zero k (bit_off v.f.zero k v.left (omega arith)) (Some to) (bits_in m k)) (fork_stands v.f).2;
           },
           sym v.right,

@@ -73,8 +73,7 @@ module _ {V : Type 0} where
 
   -- stays
   pub Has_kept : {m : Lodged V} (new : Lodged V) {room : Id} → content_of (leaves_in new (number_of room)) ≡ content_of (leaves_in m (number_of room))
-      → Has m room
-      → Has new room
+      → Has m room → Has new room
   Has_kept new {room = room} same h = content_there new room (get new (number_of room)) refl (same ∙ ap (λ o. content_of (leaf_in o)) h.at) h.block
 
   pub content_used : (o p : Option (LeafPart V)) → content_of o ≡ content_of p → is_some o ≡ is_some p

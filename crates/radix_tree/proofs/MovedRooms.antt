@@ -29,7 +29,7 @@ module _ {V : Type 0} where
         ∙ ap (λ z. lift_bit z (Some to) k (bits_in m k)) v.left) (record {
           leaves = λ k. let sum = at_leaves v k in let most = once.leaves k in omega arith;
           forks = λ k. let sum = at_forks v k in
-              let most = once.forks k in omega arith;
+              omega arith;
         }) (fork_stands v.f).1
 
     pub right_stands : Stands (leaves_in new) (bits_in new) (Some to) v.f.one
@@ -47,7 +47,7 @@ module _ {V : Type 0} where
         ∙ ap (λ z. lift_bit z (Some to) k (bits_in m k)) v.right) (record {
           leaves = λ k. let sum = at_leaves v k in let most = once.leaves k in omega arith;
           forks = λ k. let sum = at_forks v k in
-              let most = once.forks k in omega arith;
+              omega arith;
         }) (fork_stands v.f).2
 
     pub here_said : bits_in new (number_of to) ≡ Some
@@ -79,10 +79,8 @@ module _ {V : Type 0} where
 
     -- to name the room by its number is to turn the bit node above on the side of the way
     over_named : (from to room : Id) → AreOnce over.tree → 1 ≤ forks_at (number_of from) under.tree → name_of under.tree ≡ BitOf room
-        → number_of room ≡ (number_of from)
-        → with_renamed from to (bits_in m (number_of b.room)) ≡ with_child key (BitOf to) (bits_in m (number_of b.room))
+        → number_of room ≡ (number_of from) → with_renamed from to (bits_in m (number_of b.room)) ≡ with_child key (BitOf to) (bits_in m (number_of b.room))
     over_named from to room once some named same =
-        let said = (fork_stands b.at).0 in
         let sum = ap (forks_at (number_of from)) b.at.is in
         search (arith, zero_named, one_named)
 
@@ -119,16 +117,13 @@ module _ {V : Type 0} where
     -- the masks stay, and the lists with them
     lists_moved : MarkedLists (heads_in new) (masks_in new) v.at.low (fork to v.f.bit v.f.zero v.f.one)
     lists_moved =
-        let old = subst (MarkedLists (heads_in m) (masks_in m) v.at.low) v.f.is
-        (search (arith, way_lists)) in
+        let old = subst (MarkedLists (heads_in m) (masks_in m) v.at.low) v.f.is (search (arith, way_lists)) in
         let head = d.heads (number_of to) ∙ at_room to (number_of to) (head_part (Some n)) (put_head from None (number_of to) (heads_in m (number_of to))) refl
-        ∙ sym v.head
-        ∙ ap (heads_in m) (sym v.number) in
+        ∙ sym v.head ∙ ap (heads_in m) (sym v.number) in
         let stays : (k : ℕ) → 1 ≤ forks_at k v.f.zero + forks_at k v.f.one → heads_in new k ≡ heads_in m k = λ k some. let le = beneath_whole v k in
         head_stays d k (not_from v k some) (not_to v k (omega arith)) in (
           mask_list_same (masks_in m) (masks_in new) v.at.low v.f.bit (MarkedIn (masks_in new) (fork to v.f.bit v.f.zero v.f.one)) head
-              (search (arith, marked_same))
-              (search (arith, marked_same)) old.0,
+              (search (arith, marked_same)) (search (arith, marked_same)) old.0,
           search (arith, lists_same),
           search (arith, lists_same),
         )
@@ -168,11 +163,6 @@ module _ {V : Type 0} where
           came = λ y is marked. subst (IsIn y) (sym v.f.is) is;
           gone = search (arith, marked_same);
           lists = lists_moved;
-          all = λ y is home. inr (
-            subst (IsIn y) (sym v.f.is) is,
-            search arith,
-            search (arith, marked_same),
-            λ late. late,
-          );
+          all = λ y is home. inr (subst (IsIn y) (sym v.f.is) is, search arith, search (arith, marked_same), λ late. late);
           late_aside = λ k none some late. late;
         }

@@ -66,12 +66,10 @@ module _ {V : Type 0} where
       → CanTake m from to → HaveOneFork (bits_in m) t → HaveOneFork C t
   moved_spare m C to above low (leaf x xs) is stands once none off takes spare =
       elim (none_or_some (members_at (number_of to) (x ∷ xs))) [
-        | inl out ↦ chain_stays (bits_in m) C (x ∷ xs)
-            (search arith) spare
+        | inl out ↦ chain_stays (bits_in m) C (x ∷ xs) (search arith) spare
         | inr there ↦ let keyed = chain_keyed m above None x.entry.key 34 (x ∷ xs) stands is.1 in
             let p = of_key x.entry.key (leaves_in m (number_of to)) (keyed (number_of to) there) in
-            one_at C (number_of to) (x ∷ xs) once
-            (search arith)
+            one_at C (number_of to) (x ∷ xs) once (search arith)
       ]
   moved_spare m C to above low (fork room b zero one) is stands once none off takes spare = (
     moved_spare m C to (Some room) (b + 1) zero is.1 stands.1 (omega arith) (λ n some. none n (omega arith)) (λ n some. off n (omega arith)) takes spare.0,

@@ -37,8 +37,7 @@ module _ {V : Type 0} where
     spare_now new d e =
         let before = subst (HaveOneFork (bits_in new)) e.was (spare_before new d) in
         let own = subst (HaveOneFork (bits_in new)) v.f.is (spare_at (bits_in new) e.frames v.at.tree before) in
-        subst (HaveOneFork (bits_in new)) (sym e.is_now)
-        (search (arith, spare_plug))
+        subst (HaveOneFork (bits_in new)) (sym e.is_now) (search (arith, spare_plug))
 
     named_now : name_now ≡ root_after n.above (BitOf to) root
     named_now = search arith

@@ -1,5 +1,5 @@
 use Rattle.std.proofs.lemmas.Map.Keys.{ge_from_not_lt}
-use Rattle.radix_tree.proofs.Words.{◌≡◌, ◌<◌, ◌+◌, ◌-◌, ◌∙◌, sym, ap, arith, eqb-true, eqb-false}
+use Rattle.radix_tree.proofs.Words.{◌≡◌, ◌+◌, ◌-◌, ◌∙◌, sym, ap, arith, eqb-true, eqb-false}
 use Rattle.radix_tree.proofs.ChainGaps.{less_of, Has-first, begun, Has-at, few_at, passed, taken, found, ended}
 use Rattle.radix_tree.proofs.chains.gap.Goals as goal
 
@@ -31,10 +31,8 @@ loop-next-smaller g c = search (arith, few_at)
 pub loop-next-preserved : goal.loop-next-preserved
 loop-next-preserved g c =
     let count = ap (λ v. v.count) c.links-in-Some.ensures.visit in
-    let rises = c.loop-next.invariant.rises in
     let other : c.leaf-member.result.rank ≡ c.args.rank → ⊥ = search (arith, eqb-false) in
     let least = ge_from_not_lt c.leaf-member.result.rank c.args.rank (sym c.lt.ensures ∙ c.if-lt.false) in
-    let past : c.args.rank < c.leaf-member.result.rank = omega (arith, other, least) in
     let next : (c.loop-next.visits.count - c.args.visits.now.count) + 1 ≡ c.links-in-Some.new.visits.count - c.args.visits.now.count = omega arith in
     search (arith, passed)
 

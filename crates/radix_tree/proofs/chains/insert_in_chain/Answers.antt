@@ -28,8 +28,7 @@ returns-in_default-clause-there g c v =
 pub rename-root-requires-clause-tree : goal.rename-root-requires-clause-tree
 rename-root-requires-clause-tree g c up is =
     let r = c.requires.led in
-    lodged_above c.args.nodes.now.lodged c.lodge_leaf-id.new.nodes.lodged c.lodge_leaf-id.result c.args.entry.value c.in-Some.leaf up
-    (search arith)
+    lodged_above c.args.nodes.now.lodged c.lodge_leaf-id.new.nodes.lodged c.lodge_leaf-id.result c.args.entry.value c.in-Some.leaf up (search arith)
     c.lodge_leaf-id.ensures.leaves c.lodge_leaf-id.ensures.only.bits
     (gap_above c.args.nodes.now.lodged r.0.part r.1 r.0.top (in_gap g (goal.at.rename-root-requires-clause-tree g c).In-Some) up is)
 
@@ -37,16 +36,14 @@ pub name_next-requires-clause-there : goal.name_next-requires-clause-there
 name_next-requires-clause-there g c at is =
     let r = c.requires.led in
     Has-kept (Has-lodged (gap_before r.1 (in_gap g (goal.at.name_next-requires-clause-there g c).In-Some) at is) c.lodge_leaf-id.new.nodes.lodged
-    c.lodge_leaf-id.result c.args.entry.value c.in-Some.leaf
-    (search arith) c.lodge_leaf-id.ensures.leaves)
+    c.lodge_leaf-id.result c.args.entry.value c.in-Some.leaf (search arith) c.lodge_leaf-id.ensures.leaves)
     c.rename-root.new.nodes.lodged c.rename-root.ensures.only.leaves
 
 pub name_back-requires-clause-there : goal.name_back-requires-clause-there
 name_back-requires-clause-there g c at is =
     let r = c.requires.led in
     Has-next (Has-kept (Has-lodged (gap_behind r.1 (in_gap g (goal.at.name_back-requires-clause-there g c).In-Some) at is) c.lodge_leaf-id.new.nodes.lodged
-    c.lodge_leaf-id.result c.args.entry.value c.in-Some.leaf
-    (search arith) c.lodge_leaf-id.ensures.leaves)
+    c.lodge_leaf-id.result c.args.entry.value c.in-Some.leaf (search arith) c.lodge_leaf-id.ensures.leaves)
     c.rename-root.new.nodes.lodged c.rename-root.ensures.only.leaves) c.name_next.new.nodes.lodged c.in-Some.leaf.previous _ c.name_next.ensures.leaves
 
 pub returns-clause-ok : goal.returns-clause-ok

@@ -71,9 +71,7 @@ gone g c {p = p} said =
     let read = leaf_is c.links.result.now c.requires.route.there said c.links.ensures.links c.leaf-leaf.ensures in (
       b,
       search (arith, unlinked),
-      left_renamed c.link_out-2.new.nodes.lodged c.requires.route.whole b (sym (ap (λ z. z.next) read) ∙ c.in-Some.is)
-          (search arith)
-          (search arith),
+      left_renamed c.link_out-2.new.nodes.lodged c.requires.route.whole b (sym (ap (λ z. z.next) read) ∙ c.in-Some.is) (search arith) (search arith),
     )
 
 pub returns-in_default-clause-out : goal.returns-in_default-clause-out

@@ -13,11 +13,7 @@ links-requires-clause-there g c =
 pub insert_new-requires-clause-new : goal.insert_new-requires-clause-new
 insert_new-requires-clause-new g c =
     let w = whole_at _ c.requires.holds c.in-Some.is in
-    let d = c.leaf_for-leaf.ensures.leaf w.part w.named in (
-      w,
-      d,
-      search (arith, leaf_key),
-    )
+    let d = c.leaf_for-leaf.ensures.leaf w.part w.named in (w, d, search (arith, leaf_key))
 
 pub insert_among-requires-clause-led : goal.insert_among-requires-clause-led
 insert_among-requires-clause-led g c =

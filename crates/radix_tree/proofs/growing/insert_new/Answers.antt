@@ -32,8 +32,7 @@ returns-clause-whole g c =
     let b = same_begun c.list_mask.new.nodes.lodged
     (still_begun c.insert_beside-root.new.nodes.lodged (led_begun m i.1) c.insert_beside-root.ensures.leaves) c.list_mask.ensures.tree.leaves in
     new_left c.list_chain.new.nodes.lodged c.list_mask.new.nodes.lodged c.args.room key b.part.leaf.key (has_key m key)
-    c.insert_beside-root.ensures.number b.key_is
-    (search (arith, still_key))
+    c.insert_beside-root.ensures.number b.key_is (search (arith, still_key))
     (c.list_chain.ensures.whole c.insert_beside-root.result.0 _ b.part (c.list_mask.ensures.whole c.insert_beside-root.result.0 _
     (c.insert_beside-root.ensures.whole i.0 i.1 i.2)) b.at)
 

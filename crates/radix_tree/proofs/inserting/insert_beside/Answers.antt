@@ -27,8 +27,7 @@ add_beside-requires-clause-spot g c =
     let n = c.requires.new in
     let s = c.spot_above-spot.ensures.spot c.args.entry.key (new_key n.0 n.1 n.2) in (
       same_part c.cut-masks.new.nodes.lodged c.cut-masks.ensures.tree.leaves c.cut-masks.ensures.tree.bits n.0.part,
-      same_spot c.cut-masks.new.nodes.lodged c.cut-masks.ensures.tree.leaves c.cut-masks.ensures.tree.bits n.0.part
-          (search arith),
+      same_spot c.cut-masks.new.nodes.lodged c.cut-masks.ensures.tree.leaves c.cut-masks.ensures.tree.bits n.0.part (search arith),
     )
 
 -- the spot, of the bit that it tells
@@ -44,11 +43,9 @@ came_of : (g : given.Over) (c : goal.After-add_beside g) (w : IsWhole c.args.nod
     → Came c.args.nodes.now.lodged c.cut-masks.new.nodes.lodged c.add_beside.new.nodes.lodged s.at.low c.spot_above-spot.result.bit s.at.tree
     (placed c.add_beside.result.1 c.args.entry) c.spot_above-spot.result.above c.spot_above-spot.result.below
 came_of g c w s =
-    came_beside w c.cut-masks.result s c.cut-masks.ensures.kept c.cut-masks.ensures.others
-    (search arith)
+    came_beside w c.cut-masks.result s c.cut-masks.ensures.kept c.cut-masks.ensures.others (search arith)
     c.cut-masks.ensures.heads (λ fork ms is. c.cut-masks.ensures.masks fork is ms) c.cut-masks.ensures.marks c.cut-masks.ensures.tree.leaves
-    c.cut-masks.ensures.tree.bits c.add_beside.ensures.beside c.add_beside.ensures.heads c.add_beside.ensures.masks
-    (search arith)
+    c.cut-masks.ensures.tree.bits c.add_beside.ensures.beside c.add_beside.ensures.heads c.add_beside.ensures.masks (search arith)
 
 -- the part with the route in it
 part_of : (g : given.Over) (c : goal.After-add_beside g) (w : IsWhole c.args.nodes.now.lodged c.args.root)
@@ -56,8 +53,6 @@ part_of : (g : given.Over) (c : goal.After-add_beside g) (w : IsWhole c.args.nod
     → (u : Part c.add_beside.new.nodes.lodged) × (u.tree ≡ forked_tree c.spot_above-spot.result.bit (placed c.add_beside.result.1 c.args.entry) s.at.tree)
     × Exchanged c.args.nodes.now.lodged c.add_beside.new.nodes.lodged c.args.entry.key w.part s.at u c.add_beside.result.0
 part_of g c w s =
-    let leaves = c.cut-masks.ensures.tree.leaves in
-    let bits = c.cut-masks.ensures.tree.bits in
     let e = c.add_beside.ensures.exchanged (same_part c.cut-masks.new.nodes.lodged c.cut-masks.ensures.tree.leaves c.cut-masks.ensures.tree.bits w.part)
     (search (arith, same_spot)) w.named in
     search (arith, exchanged_from)

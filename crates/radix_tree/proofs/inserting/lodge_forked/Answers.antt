@@ -13,8 +13,7 @@ put_bit_node-requires-clause-there g c = Has-again c.lodge_leaf-id.new.nodes.lod
 pub returns-clause-lodged : goal.returns-clause-lodged
 returns-clause-lodged g c =
     lodged c.args.nodes.now.lodged c.lodge_leaf-id.new.nodes.lodged c.put_leaf.new.nodes.lodged c.put_bit_node.new.nodes.lodged c.lodge_leaf-id.result
-    c.args.entry c.lone_leaf.result c.lone_leaf-2.result c.forked_node-node.result _
-    (search arith)
+    c.args.entry c.lone_leaf.result c.lone_leaf-2.result c.forked_node-node.result _ (search arith)
     c.lodge_leaf-id.ensures.leaves c.lodge_leaf-id.ensures.only.bits c.put_leaf.ensures.leaves c.put_leaf.ensures.only.bits c.put_bit_node.ensures.leaves
     c.put_bit_node.ensures.bits c.lone_leaf-2.ensures c.forked_node-node.ensures.part
 

@@ -13,10 +13,8 @@ clear-requires-clause-list g c = let r = c.requires.lone in clear_ready r.3 r.5 
 
 pub returns-in-Bit-clause-handed : goal.returns-in-Bit-clause-handed
 returns-in-Bit-clause-handed g c whole at up l named head unmarked lists =
-    bit_handed c.args.nodes.now.lodged c.append.new.nodes.lodged whole up c.in-Bit.room l (named ∙ c.in-Bit.is) head unmarked lists
-    (search arith)
+    bit_handed c.args.nodes.now.lodged c.append.new.nodes.lodged whole up c.in-Bit.room l (named ∙ c.in-Bit.is) head unmarked lists (search arith)
 
 pub returns-in-Leaf-clause-handed : goal.returns-in-Leaf-clause-handed
 returns-in-Leaf-clause-handed g c whole at up l named head unmarked lists =
-    leaf_side_handed c.args.nodes.now.lodged c.clear.new.nodes.lodged up c.args.first l (named ∙ c.in-Leaf.is) head lists
-    (search arith)
+    leaf_side_handed c.args.nodes.now.lodged c.clear.new.nodes.lodged up c.args.first l (named ∙ c.in-Leaf.is) head lists (search arith)

@@ -16,10 +16,7 @@ read : (g : given.Over) (c : In-Some-bit_node g) → (l : IsLone c.args.nodes.no
     × IsUp c.args.nodes.now.lodged c.requires.route.whole.part c.args.at c.in-Some.up l c.in-Some-bit_node.node c.leaf-leaf.result.key
 read g c =
     let l = lone_read c.requires.route.there c.requires.route.whole c.links.result.now c.links.ensures.links c.leaf-leaf.ensures c.requires.lone c.in-Some.is
-    in (
-      l,
-      search (arith, up_read, key_read),
-    )
+    in (l, search (arith, up_read, key_read))
 
 -- and what the writes leave
 done : (g : given.Over) (c : After-root_after g) → (l : IsLone c.args.nodes.now.lodged c.requires.route.whole.part c.args.at c.in-Some.up)
@@ -86,8 +83,7 @@ returns-clause-out g c =
     let (l, u, j) = done g (goal.at.returns-clause-out g c).After-root_after in
     let named = u.to ∙ sym c.sibling_of-to.ensures in
     let h = handed_on l c.hand_masks_on.new.nodes.lodged c.join.new.nodes.lodged
-    (c.hand_masks_on.ensures.handed c.requires.route.whole.part c.args.at c.in-Some.up l named u.head c.requires.route.unmarked
-    (search (arith, way_lists)))
+    (c.hand_masks_on.ensures.handed c.requires.route.whole.part c.args.at c.in-Some.up l named u.head c.requires.route.unmarked (search (arith, way_lists)))
     c.join.ensures.masks (search (arith, head_off)) in
     subst (TakesOut c.args.nodes.now.lodged c.join.new.nodes.lodged c.args.at c.args.root)
     (ap (λ o. root_after o (name_of l.other) c.args.root) u.above ∙ ap (λ z. root_after c.in-Some-bit_node.node.above z c.args.root) named ∙ sym c.root_after.ensures)

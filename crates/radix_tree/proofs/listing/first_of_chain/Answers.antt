@@ -25,7 +25,6 @@ pub loop-before-smaller : goal.loop-before-smaller
 loop-before-smaller g c =
     let r = c.requires.chain in
     let count = ap (λ v. v.count) c.links-in-Some.ensures.visit in
-    let rises = c.loop-before.invariant.rises in
     let few = few_at (c.loop-before.invariant.back r.0 r.1 r.2 r.3 r.4) in
     omega arith
 
@@ -37,7 +36,6 @@ loop-before-preserved g c =
       turn = search arith;
       back = λ r y first among is.
           let e = earlier (c.loop-before.invariant.back r y first among is) c.in-Some.is in
-          let few = e.few in
           come r e.is (c.links-in-Some.new.visits.count - c.args.visits.now.count) c.links-in-Some.result.now first e.among e.room_is (omega arith)
           c.links-in-Some.ensures.links c.leaf-before-in-Some.ensures;
       rises = omega arith;

@@ -19,6 +19,5 @@ home-requires-clause-led g c =
 
 pub returns-clause-home : goal.returns-clause-home
 returns-clause-home g c root late w y is room_is = home_is y.entry.key w.part c.home.result
-    (rank_read w.part y c.args.room c.links.result.now is room_is c.links.ensures.links c.leaf-rank.ensures)
-    (c.home.ensures.home y.entry.key w.part w.top w.low
+    (rank_read w.part y c.args.room c.links.result.now is room_is c.links.ensures.links c.leaf-rank.ensures) (c.home.ensures.home y.entry.key w.part w.top w.low
     (led_first w.part y is (c.first_of_chain-first.ensures.first (chain_of w.part y is) y refl (in_chain w.part y is) room_is)))

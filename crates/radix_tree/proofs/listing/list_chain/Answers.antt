@@ -1,5 +1,5 @@
-use Rattle.radix_tree.proofs.{ListedChains.begun, ListedChains.Has-at, ListedChains.passed, ListedChains.nearer, ListedChains.ended, RoomReads.inside}
-use Rattle.radix_tree.proofs.Words.{◌∙◌, sym, arith}
+use Rattle.radix_tree.proofs.Words.{◌∙◌, arith}
+use Rattle.radix_tree.proofs.ListedChains.{begun, Has-at, passed, nearer, ended}
 use Rattle.radix_tree.proofs.listing.list_chain.Goals as goal
 
 pub loop-at-init : goal.loop-at-init
@@ -43,13 +43,11 @@ loop-at-preserved g c =
       bits = search arith;
       left = λ root late p w said block none.
           let l = c.loop-at.invariant.left root late p w said block none in
-          passed c.in-Some.room c.links.result.now l c.in-Some.is
-          (search arith) c.links.ensures.links c.leaf-at.ensures
+          passed c.in-Some.room c.links.result.now l c.in-Some.is (search arith) c.links.ensures.links c.leaf-at.ensures
           (c.list_late.ensures.whole root l.later l.whole);
     }
 
 pub returns-clause-whole : goal.returns-clause-whole
 returns-clause-whole g c root late p w said =
     let f = c.requires.first in
-    let same = inside (sym f.1 ∙ said) in
     ended late p.leaf.key (search arith) c.in_default.is

@@ -22,7 +22,5 @@ pub returns-clause-bits : goal.returns-clause-bits
 returns-clause-bits g c n =
     let node : BitNode = record c.bit_node-node.result { zero = c.renamed-zero.result; one = c.renamed-one.result } in
     c.put_bit_node.ensures.bits n ∙ ap (λ r. put_bit c.in-Some.up (Some node) n (bits_in r.lodged n))
-    (c.renamed-one.ensures.stays ∙ c.renamed-zero.ensures.stays)
-    ∙ node_changed c.args.nodes.now.lodged node (with_renamed c.args.from c.args.to) n
-    c.bit_node-node.ensures.node (search arith)
-    ∙ ap (λ o. rename o c.args.from c.args.to n (bits_in c.args.nodes.now.lodged n)) (sym c.in-Some.is)
+    (c.renamed-one.ensures.stays ∙ c.renamed-zero.ensures.stays) ∙ node_changed c.args.nodes.now.lodged node (with_renamed c.args.from c.args.to) n
+    c.bit_node-node.ensures.node (search arith) ∙ ap (λ o. rename o c.args.from c.args.to n (bits_in c.args.nodes.now.lodged n)) (sym c.in-Some.is)

@@ -28,22 +28,17 @@ pub put_bit_node-requires-2-clause-there : goal.put_bit_node-requires-2-clause-t
 put_bit_node-requires-2-clause-there g c = Has_kept c.put_bit_node.new.nodes.lodged (search (arith, content_lift)) c.requires.to
 
 pub rename_child-requires-clause-used : goal.rename_child-requires-clause-used
-rename_child-requires-clause-used g c up is =
-    over_used (move g (goal.at.rename_child-requires-clause-used g c).In-Some) up is
-    (search arith)
+rename_child-requires-clause-used g c up is = over_used (move g (goal.at.rename_child-requires-clause-used g c).In-Some) up is (search arith)
 
 pub rename_child-requires-clause-from : goal.rename_child-requires-clause-from
 rename_child-requires-clause-from g c =
-    Has_kept c.put_bit_node-2.new.nodes.lodged
-    (lifted_stay c.args.nodes.now.lodged c.put_bit_node-2.new.nodes.lodged c.args.to c.in-Some.node
+    Has_kept c.put_bit_node-2.new.nodes.lodged (lifted_stay c.args.nodes.now.lodged c.put_bit_node-2.new.nodes.lodged c.args.to c.in-Some.node
     (search arith) (number_of c.args.from)) c.requires.from
 
 pub rename_child-requires-clause-beneath : goal.rename_child-requires-clause-beneath
 rename_child-requires-clause-beneath g c up is =
-    beneath_there (move g (goal.at.rename_child-requires-clause-beneath g c).In-Some) up is
-    (search arith)
-    (lifted_stay c.args.nodes.now.lodged c.put_bit_node-2.new.nodes.lodged c.args.to c.in-Some.node
-    (search arith))
+    beneath_there (move g (goal.at.rename_child-requires-clause-beneath g c).In-Some) up is (search arith)
+    (lifted_stay c.args.nodes.now.lodged c.put_bit_node-2.new.nodes.lodged c.args.to c.in-Some.node (search arith))
 
 pub returns-clause-whole : goal.returns-clause-whole
 returns-clause-whole g c = whole_moved (move g (goal.at.returns-clause-whole g c).In-Some) (moved g c) c.root_after.ensures

@@ -1,5 +1,5 @@
 use Rattle.radix_tree.proofs.{MovedReads.Has_kept, Gained.shown_same}
-use Rattle.radix_tree.proofs.Words.{◌∙◌, ap, number_of, arith}
+use Rattle.radix_tree.proofs.Words.{◌∙◌, number_of, arith}
 use Rattle.radix_tree.proofs.RemovedRooms.{get_out, out_gone, out_shown, gains_stays, value_taken, room_less}
 use Rattle.radix_tree.proofs.removing.remove_route.Goals as goal
 
@@ -13,16 +13,13 @@ take_out-rest-requires-clause-route g c =
 
 pub evict-room-requires : goal.evict-room-requires
 evict-room-requires g c =
-    record {
-      there = Has_kept c.take_out-rest.new.nodes.lodged (search arith) c.requires.there;
-    }
+    record { there = Has_kept c.take_out-rest.new.nodes.lodged (search arith) c.requires.there }
 
 pub returns-clause-whole : goal.returns-clause-whole
 returns-clause-whole g c = search (arith, out_gone)
 
 pub returns-clause-routes : goal.returns-clause-routes
 returns-clause-routes g c p said =
-    let e = ap (λ r. r.lodged) c.evict-room.ensures.evicted in
     gains_stays _ _ (c.take_out-rest.ensures.routes p (c.unlist_mask.ensures.tree.leaves (number_of c.args.at) ∙ said))
     (search (arith, out_shown)) (search (arith, shown_same))
 
