@@ -60,7 +60,8 @@ module _ {V : Type 0} where
           came = search (arith, in_forked);
           gone = λ y at short marked. marks (number_of y.room) ∙ marked;
           lists = subst (MarkedLists (heads_in new) (masks_in new) s.at.low) (sym tree) (forked_lists (heads_in new) s.at.low bit x s.at.tree
-              (search (arith, mask_list_same, eq-eqb, forked_in, marked_same, in_forked)) (lists_same (heads_in mid) (heads_in new) (masks_in mid) (masks_in new) (bit + 1) s.at.tree (λ n some. off n (not_room n some))
+              (search (arith, mask_list_same, eq-eqb, forked_in, marked_same, in_forked))
+              (lists_same (heads_in mid) (heads_in new) (masks_in mid) (masks_in new) (bit + 1) s.at.tree (λ n some. off n (not_room n some))
               (λ y at. c.masks (number_of y.room)) c.cut.lists));
           all = λ y there home. elim (in_forked bit x s.at.tree y (subst (IsIn y) tree there)) [
             | inl e ↦ search (arith, eq-eqb)

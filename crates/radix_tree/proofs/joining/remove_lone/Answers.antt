@@ -86,7 +86,8 @@ returns-clause-out g c =
     (c.hand_masks_on.ensures.handed c.requires.route.whole.part c.args.at c.in-Some.up l named u.head c.requires.route.unmarked (search (arith, way_lists)))
     c.join.ensures.masks (search (arith, head_off)) in
     subst (TakesOut c.args.nodes.now.lodged c.join.new.nodes.lodged c.args.at c.args.root)
-    (ap (λ o. root_after o (name_of l.other) c.args.root) u.above ∙ ap (λ z. root_after c.in-Some-bit_node.node.above z c.args.root) named ∙ sym c.root_after.ensures)
+    (ap (λ o. root_after o (name_of l.other) c.args.root) u.above ∙ ap (λ z. root_after c.in-Some-bit_node.node.above z c.args.root) named
+    ∙ sym c.root_after.ensures)
     (search (arith, whole_joined, routes_joined, routes_kept, own_leaf))
 
 pub returns-clause-there : goal.returns-clause-there

@@ -31,4 +31,5 @@ pub returns-clause-whole : goal.returns-clause-whole
 returns-clause-whole g c root late w =
     let y = placed_in w c.requires.there in
     listed_more c.args.nodes.now.lodged c.sort_in.new.nodes.lodged late w c.args.room c.in-Some.fork (once_but w)
-    (homed w.part y.0 y.1 y.2 c.in-Some.is (c.home_of.ensures.home root late w y.0 y.1 y.2)) c.requires.unmarked (search arith) c.sort_in.ensures.tree.leaves c.sort_in.ensures.tree.bits
+    (homed w.part y.0 y.1 y.2 c.in-Some.is (c.home_of.ensures.home root late w y.0 y.1 y.2)) c.requires.unmarked (search arith)
+    c.sort_in.ensures.tree.leaves c.sort_in.ensures.tree.bits

@@ -37,4 +37,5 @@ returns-clause-whole g c root is =
     let w = is in
     let y = placed_in w c.requires.there in
     let h = homed w.part y.0 y.1 y.2 c.in-Some.is (c.home_of.ensures.home root nobody_late w y.0 y.1 y.2) in
-    listed_less w c.sort_out.new.nodes.lodged c.args.room c.in-Some.fork (once_but w) h (marked_at w h) (search arith) c.sort_out.ensures.tree.leaves c.sort_out.ensures.tree.bits
+    listed_less w c.sort_out.new.nodes.lodged c.args.room c.in-Some.fork (once_but w) h (marked_at w h) (search arith)
+    c.sort_out.ensures.tree.leaves c.sort_out.ensures.tree.bits
