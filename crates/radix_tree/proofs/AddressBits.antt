@@ -1,36 +1,30 @@
 -- What bits tell of a route's key, and of an address that it covers.
-use Rattle.mask_table.proofs.Agreeing.{bit_of_front, masked_bits, agrees_where_masked_equal, masked_agrees}
+use Rattle.mask_table.proofs.Agreeing.{bit_of_front, masked_bits, masked_agrees}
 use Rattle.radix_tree.specs.Tree.{bit_at, Covers}
-use Rattle.radix_tree.proofs.Words.{◌≡◌, ℕ, ◌-◌, ◌/◌, ◌%◌, ◌^◌, ◌<◌, ◌≤◌, ◌⊎◌, inl, inr, sym, ap, ◌∙◌, subst, true, arith, eqb-true, cases_eq, front}
-use Rattle.radix_tree.proofs.Words.{agrees, masked, bit, IsRoute, Entry}
+use Rattle.radix_tree.proofs.Words.{◌≡◌, ℕ, ◌<◌, ◌≤◌, ◌⊎◌, sym, ap, ◌∙◌, subst, true, arith, agrees, masked, bit, IsRoute, Entry}
 
 pub zero_not_one : {n : ℕ} → n ≡ 0 → n ≡ 1 → ⊥
 zero_not_one zero one = omega arith
 
 pub zero_or_one : (b n : ℕ) → (bit_at b n ≡ 0) ⊎ (bit_at b n ≡ 1)
 unfolding bit_at
-zero_or_one b n = parity (n / 2 ^ (31 - b))
-  where
-    parity : (n : ℕ) → (n % 2 ≡ 0) ⊎ (n % 2 ≡ 1)
-    parity n = elim (cases_eq (n % 2) 0) [ inl zero ↦ inl zero | inr other ↦ inr (omega (arith, other)) ]
+zero_or_one b n = grind arith
 
 module _ {V : Type 0} where
   -- a bit before the rank of a route is the address's
   pub covered_bit : (address b : ℕ) (e : Entry V) → b < e.rank → b ≤ 31 → Covers address e → bit_at b e.key ≡ bit_at b address
   unfolding bit_at Covers
-  covered_bit address b e before within covers =
-      bit_of_front e.rank e.key address b before (omega arith) (eqb-true (front e.rank e.key) (front e.rank address) covers)
+  covered_bit address b e before within covers = bit_of_front e.rank e.key address b before (omega arith) (grind arith)
 
   -- one past it is 0
   pub clear_bit : (b : ℕ) {e : Entry V} → IsRoute e → e.rank ≤ b → b ≤ 31 → bit_at b e.key ≡ 0
   unfolding bit_at
-  clear_bit b {e = e} route past within =
-      let inside : b < 32 = omega arith in ap (bit b) (sym route.key) ∙ (masked_bits e.rank e.key b inside).1 past
+  clear_bit b {e = e} route past within = ap (bit b) (sym route.key) ∙ (masked_bits e.rank e.key b (omega arith)).1 past
 
   -- a route covers the addresses that are its key once they are masked by its rank
   pub covered_key : (address : ℕ) (e : Entry V) → IsRoute e → Covers address e → e.key ≡ masked e.rank address
   unfolding Covers
-  covered_key address e route covers = sym route.key ∙ (agrees_where_masked_equal e.rank e.key address).0 covers
+  covered_key address e route covers = grind arith
 
   pub key_covers : (address : ℕ) (e : Entry V) → e.key ≡ masked e.rank address → Covers address e
   unfolding Covers

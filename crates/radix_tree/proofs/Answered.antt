@@ -1,6 +1,6 @@
 -- What is read of the room that a search found.
 use Rattle.radix_tree.proofs.{BestOfTree.some_best, BestOfTree.no_best, RoomReads.Has-leaf, RoomReads.value_read, TreeMembers.tree_said}
-use Rattle.radix_tree.proofs.Words.{◌≡◌, ℕ, Option, Some, None, refl, sym, ap, ◌∙◌, subst, get, Seen, Has, Id, Leaf, LeafPart, Part, leaves_in, bits_in}
+use Rattle.radix_tree.proofs.Words.{arith, ◌≡◌, ℕ, Option, Some, None, refl, sym, ap, ◌∙◌, subst, get, Seen, Has, Id, Leaf, LeafPart, Part, leaves_in, bits_in}
 use Rattle.radix_tree.proofs.Words.{leaf_part, Tells, Finds, HasPair, Best, In, best_of, Placed, routes_of, Lodged}
 use Rattle.radix_nodes.specs.Naming.{number_of}
 
@@ -46,4 +46,4 @@ module _ {V : Type 0} {m : Lodged V} where
       (a.route, a.room_is, (a.best.0, (sym (ap (λ z. z.key) l_is ∙ ap (λ e. e.key) a.is), sym (ap (λ z. z.rank) l_is ∙ ap (λ e. e.rank) a.is))))
 
   pub best_none : (p : Part m) (address : ℕ) {o : Option Id} → o ≡ None → Tells (Best address 0 34 (In p)) o → None ≡ best_of address (routes_of p.tree)
-  best_none p address none tells = sym (no_best address p.low p.tree p.is (subst (Tells (Best address 0 34 (In p))) none tells))
+  best_none p address none tells = grind (arith, no_best)

@@ -33,7 +33,7 @@ module _ {V : Type 0} where
   among_routes : (x : Placed V) (t : Tree V) → IsIn x t → Among x.entry (routes_of t)
   among_routes x (leaf z zs) at = among_chain x (z ∷ zs) at
   among_routes x (fork room b zero one) at = elim at [
-    | inl left ↦ among_left x.entry (routes_of zero) (routes_of one) (among_routes x zero left)
+    | inl left ↦ search (among_left, among_routes x zero left)
     | inr right ↦ among_right x.entry (routes_of zero) (routes_of one) (among_routes x one right)
   ]
 
@@ -59,7 +59,7 @@ module _ {V : Type 0} where
   covering address e agrees = agrees
 
   below_34 : (low : ℕ) (t : Tree V) → IsTree low t → (y : Placed V) → IsIn y t → y.entry.rank < 34
-  below_34 low t is y at = let most = (tree_route low t is y at).rank in omega arith
+  below_34 low t is y at = omega (arith, (tree_route low t is y at).rank)
 
   pub some_best : (address low : ℕ) (t : Tree V) → IsTree low t → (x : Placed V) → Best address 0 34 (λ y. IsIn y t) (Some x)
       → best_of address (routes_of t) ≡ Some x.entry
@@ -82,4 +82,4 @@ module _ {V : Type 0} where
       absurd (omega arith)
 
   pub no_best : (address low : ℕ) (t : Tree V) → IsTree low t → Best address 0 34 (λ y. IsIn y t) None → best_of address (routes_of t) ≡ None
-  no_best address low t is best = none_of address low t is best (best_of address (routes_of t)) refl
+  no_best address low t is best = grind (arith, none_of)

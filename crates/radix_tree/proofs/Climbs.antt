@@ -1,8 +1,7 @@
 -- A walk up a tree, from a leaf of a key.
-use Rattle.radix_tree.proofs.{Lifts.part_at, Lifts.leaf_said, Parts.bit_part_of, Parts.fork_is, Parts.fork_stands, RoomReads.IsNode, RoomReads.inside}
-use Rattle.radix_tree.proofs.{RoomReads.none_some, RoomReads.node_said}
-use Rattle.radix_tree.proofs.Words.{◌≡◌, ℕ, ◌+◌, ◌≤◌, List, [], ◌∷◌, Option, Some, None, refl, sym, ap, ◌∙◌, subst, arith, Counter, Id, BitNode, Leaf}
-use Rattle.radix_tree.proofs.Words.{IsBitNode, IsBitNodeOf, ReadsOnce, LeafPart, Part, leaves_in, ForkAt, LedTo, Beneath, Way, fork, IsTree, Lodged}
+use Rattle.radix_tree.proofs.{Parts.bit_part_of, Parts.fork_stands, RoomReads.IsNode, RoomReads.inside, RoomReads.none_some, RoomReads.node_said}
+use Rattle.radix_tree.proofs.Words.{◌≡◌, ℕ, ◌+◌, ◌≤◌, List, [], ◌∷◌, Option, Some, None, sym, ap, ◌∙◌, subst, arith, Counter, Id, BitNode, Leaf, IsBitNode}
+use Rattle.radix_tree.proofs.Words.{IsBitNodeOf, ReadsOnce, LeafPart, Part, leaves_in, ForkAt, LedTo, Beneath, Way, fork, Lodged}
 use Rattle.radix_nodes.specs.Naming.{number_of}
 
 module _ {V : Type 0} {m : Lodged V} where
@@ -17,13 +16,7 @@ module _ {V : Type 0} {m : Lodged V} where
   -- from the leaf to which a key leads
   pub begun : {key : ℕ} {whole : Part m} {room : Id} {f : Leaf} {Holds : Part m → Type 0} (l : LedTo key whole room)
       → ((p : LeafPart V) → leaves_in m (number_of room) ≡ Some p → f ≡ p.leaf) → Holds l.part → Climb key whole Holds f.above
-  begun {room = room} l said holds = record {
-    part = l.part;
-    above = sym (ap (λ z. z.above) (said (part_at l.leaf) (leaf_said l.leaf)));
-    ups = l.ups;
-    way = l.way;
-    holds = holds;
-  }
+  begun {room = room} l said holds = record { part = l.part; above = grind arith; ups = l.ups; way = l.way; holds = holds }
 
   -- the bit node above a part
   pub record Over (key : ℕ) (whole under : Part m) (room : Id) : Type 0 where
@@ -35,7 +28,7 @@ module _ {V : Type 0} {m : Lodged V} where
 
   over_of : (key : ℕ) {whole under : Part m} {room : Id} (ups : List (Part m)) → Way key whole under ups → whole.above ≡ None → under.above ≡ Some room
       → Over key whole under room
-  over_of key [] way top is = absurd (none_some (sym top ∙ sym (ap (λ p. p.above) way) ∙ is))
+  over_of key [] way top is = grind arith
   over_of key (p ∷ ps) way top is = record { part = p; beneath = way.0; room_is = inside (sym way.0.above ∙ is); ups = ps; way = way.1 }
 
   pub over : {key : ℕ} {whole : Part m} {Holds : Part m → Type 0} {at : Option Id} {room : Id} → whole.above ≡ None → (c : Climb key whole Holds at)
@@ -47,7 +40,7 @@ module _ {V : Type 0} {m : Lodged V} where
       record { bit = f.bit; zero = f.zero; one = f.one; is = f.is ∙ ap (λ i. fork i f.bit f.zero f.one) o.room_is }
 
   pub used : {p : Part m} {room : Id} (f : ForkAt p room) → IsBitNode m room
-  used {p} {room} f = record { part = bit_part_of f; said = (fork_stands f).0; block = refl }
+  used {p} {room} f = grind arith
 
   -- what its room says is what the tree has there
   pub node_at : {p : Part m} {room : Id} {n : BitNode} (f : ForkAt p room) → IsBitNodeOf m room n → IsNode n (bit_part_of f)
@@ -65,7 +58,7 @@ module _ {V : Type 0} {m : Lodged V} where
   topped key Holds (p ∷ ps) way none holds = absurd (none_some (sym none ∙ way.0.above))
 
   pub ended : {key : ℕ} {whole : Part m} {Holds : Part m → Type 0} {at : Option Id} → Climb key whole Holds at → at ≡ None → Holds whole
-  ended {key} {Holds = Holds} c is = topped key Holds c.ups c.way (c.above ∙ is) c.holds
+  ended {key} {Holds = Holds} c is = grind (arith, topped)
 
   -- ---- a read for each bit node
   pub record Steps (start now : Counter) (part : Part m) : Type 0 where
@@ -73,14 +66,11 @@ module _ {V : Type 0} {m : Lodged V} where
     pub few : now.count + part.low ≤ start.count + 33
 
   pub step_begun : {key : ℕ} {whole : Part m} {room : Id} {start now : Counter} (l : LedTo key whole room) → ReadsOnce start now → Steps start now l.part
-  step_begun l once =
-      let low = (subst (IsTree l.part.low) l.leaf.is l.part.is).0 in record { rises = omega arith; few = omega (arith, low) }
+  step_begun l once = grind arith
 
   module _ {key : ℕ} {whole under : Part m} {room : Id} {start now : Counter} (o : Over key whole under room) (s : Steps start now under) where
     pub step_risen : {later : Counter} → ReadsOnce now later → Steps start later o.part
-    step_risen once =
-        let rises = (fork_is (fork_over o)).0.rises in
-        let low = o.beneath.low in record { rises = omega arith; few = omega (arith, rises, low) }
+    step_risen once = grind arith
 
     pub step_soon : now.count ≤ start.count + 32
     step_soon = omega (arith, o.beneath.low, s.few)

@@ -1,25 +1,18 @@
 -- The list of masks of a bit node is cut at a bit, or a leaf has none.
-use Rattle.radix_tree.proofs.{RoomReads.inside, TreeMembers.tree_said, Parts.fork_is, Parts.fork_named, PartRooms.one_if_same, PartRooms.elsewhere}
-use Rattle.radix_tree.proofs.{PartRooms.way_once, Plugs.counted_leaf, Plugs.home_plug, Plugs.plug_in, PlugLists.lists_at}
-use Rattle.radix_tree.proofs.{FrameLists.lists_stay, Facts.some_of, LeafWays.on_way}
-use Rattle.radix_tree.proofs.Words.{◌≡◌, ℕ, ◌+◌, ◌<◌, ◌≤◌, ◌==◌, Bool, List, [], Option, None, refl, sym, ap, ◌∙◌, subst, inl, inr, arith, is_some, Id}
-use Rattle.radix_tree.proofs.Words.{Node, LeafOf, BitOf, Placed, Tree, leaf, fork, IsAmong, IsIn, IsTree, Part, leaves_in, bits_in, heads_in, masks_in}
-use Rattle.radix_tree.proofs.Words.{name_of, ForkAt, Way, one_if, leaves_at, forks_at, HasHome, AreOnce, IsMarked, IsMaskList, MarkedIn, MarkedLists}
-use Rattle.radix_tree.proofs.Words.{IsWholeBut, IsMasks, IsAside, past_bit, up_to_bit, KeepsLeaves, KeepsBits, Lodged}
-use Rattle.radix_tree.proofs.MaskLists.{not_below_among, among_not_below, below_among, among_below, falls_not_below, falls_below, masks_listed}
-use Rattle.radix_tree.proofs.{Parts.same_bit_node}
-use Rattle.radix_tree.proofs.{MaskLists.falls_among}
+use Rattle.radix_tree.proofs.{TreeMembers.tree_said, Parts.fork_is, Parts.fork_named, PartRooms.one_if_same, PartRooms.elsewhere, PartRooms.way_once}
+use Rattle.radix_tree.proofs.{Plugs.counted_leaf, Plugs.home_plug, Plugs.plug_in, PlugLists.lists_at, FrameLists.lists_stay, Facts.some_of, LeafWays.on_way}
+use Rattle.radix_tree.proofs.Words.{◌≡◌, ℕ, ◌+◌, ◌<◌, ◌≤◌, ◌==◌, Bool, List, Option, None, sym, ap, ◌∙◌, subst, inl, inr, arith, is_some, Id, Node, LeafOf}
+use Rattle.radix_tree.proofs.Words.{BitOf, Placed, Tree, leaf, fork, IsAmong, IsIn, IsTree, Part, heads_in, masks_in, name_of, ForkAt, Way, one_if, leaves_at}
+use Rattle.radix_tree.proofs.Words.{forks_at, HasHome, AreOnce, IsMarked, IsMaskList, MarkedIn, MarkedLists, IsWholeBut, IsMasks, IsAside, past_bit, up_to_bit}
+use Rattle.radix_tree.proofs.Words.{KeepsLeaves, KeepsBits, Lodged}
+use Rattle.radix_tree.proofs.MaskLists.{not_below_among, among_not_below, below_among, among_below, falls_not_below, falls_below, masks_listed, falls_among}
 use Rattle.radix_nodes.specs.Naming.{number_of}
 
 module _ {V : Type 0} where
   -- routes of a part in one room have one key and one rank
   pub same_pair : (m : Lodged V) (p : Part m) (x y : Placed V) → IsIn x p.tree → IsIn y p.tree → number_of x.room ≡ (number_of y.room)
       → (x.entry.key ≡ y.entry.key) × (x.entry.rank ≡ y.entry.rank)
-  same_pair m p x y one other same =
-      let a = tree_said (leaves_in m) (bits_in m) p.above p.tree p.stands x one in
-      let b = tree_said (leaves_in m) (bits_in m) p.above p.tree p.stands y other in
-      let e = inside (sym a.3 ∙ ap (leaves_in m) same ∙ b.3) in
-      (ap (λ l. l.leaf.key) e, ap (λ l. l.leaf.rank) e)
+  same_pair m p x y one other same = grind (arith, tree_said)
 
   -- the masks of a part, once those of its bit node that are past a bit are listed there, and the others are a list of their own
   pub record IsCut (m new : Lodged V) (low bit : ℕ) (t : Tree V) (first : Option Id) : Type 0 where
@@ -41,36 +34,16 @@ module _ {V : Type 0} where
       let p = some_of (masks_in m (number_of x.room)) marked in
       let z = w.listed (number_of x.room) p.0 p.1 in
       let o = on_way m key w.part at ups way in
-      let whole_is = subst (IsTree w.part.low) o.was w.part.is in
-      let in_whole = subst (IsIn x) (sym o.was) (plug_in o.frames at.tree x there) in
-      let pair = same_pair m w.part z.0 x z.1 in_whole z.2 in
+      let pair = same_pair m w.part z.0 x z.1 (search (plug_in, o.was)) z.2 in
       let home = subst (λ r. HasHome x.entry.key r w.part.tree) pair.1 (subst (λ k. HasHome k z.0.entry.rank w.part.tree) pair.0 z.3) in
-      let low = o.lowest in
-      elim (home_plug w.part.low o.frames at.tree x whole_is there (subst (HasHome x.entry.key x.entry.rank) o.was home)) [
+      elim (home_plug w.part.low o.frames at.tree x (subst (IsTree w.part.low) o.was w.part.is) there (subst (HasHome x.entry.key x.entry.rank) o.was home)) [
         | inl above ↦ absurd (omega arith)
         | inr here ↦ subst (HasHome x.entry.key x.entry.rank) is here
       ]
 
   pub cut_leaf : (m : Lodged V) (low bit : ℕ) {t : Tree V} (y : Placed V) (ys : List (Placed V)) → t ≡ leaf y ys
       → ((x : Placed V) → IsIn x t → IsMarked (masks_in m) x → low ≤ x.entry.rank → ⊥) → IsCut m m low bit t None
-  cut_leaf m low bit y ys is none = record {
-    leaves = λ n. refl;
-    bits = λ n. refl;
-    heads = λ n out. refl;
-    masks = λ n out. refl;
-    masks_above = λ x at above. refl;
-    marks = λ n. refl;
-    list =
-        record {
-          masks = [];
-          begins = refl;
-          stands = tt;
-          falls = tt;
-          has = λ x member least most. absurd (none x member.0 member.1 least);
-          within = λ x among. absurd among;
-        };
-    lists = subst (MarkedLists (heads_in m) (masks_in m) (bit + 1)) (sym is) tt;
-  }
+  cut_leaf m low bit y ys is none = grind arith
 
   -- ---- a bit node
   pub cut_fork : (m new : Lodged V) (p : Part m) (room : Id) (f : ForkAt p room) (bit : ℕ) (first : Option Id) → AreOnce p.tree → p.low ≤ bit
@@ -95,7 +68,7 @@ module _ {V : Type 0} where
       λ y at other. masks l.masks ms (number_of y.room) (λ z among same. other z among (same_pair m p y z at (l.within z among).0 (sym same)).1) in
       let zeros : (y : Placed V) → IsIn y f.zero → f.bit + 1 ≤ y.entry.rank → masks_in new (number_of y.room) ≡ masks_in m (number_of y.room) =
       λ y at least. outside y (subst (IsIn y) (sym f.is) (inl at))
-      (λ z among same. let most = (falls_among p.low (f.bit + 1) l.masks l.falls z among).1 in omega arith) in
+      (λ z among same. omega (arith, (falls_among p.low (f.bit + 1) l.masks l.falls z among).1)) in
       let ones : (y : Placed V) → IsIn y f.one → f.bit + 1 ≤ y.entry.rank → masks_in new (number_of y.room) ≡ masks_in m (number_of y.room) =
       λ y at least. outside y (subst (IsIn y) (sym f.is) (inr at))
       (λ z among same. let most = (falls_among p.low (f.bit + 1) l.masks l.falls z among).1 in omega arith) in
@@ -131,10 +104,10 @@ module _ {V : Type 0} where
                 (subst (IsIn x) f.is was.0, marks (number_of x.room) ∙ was.1);
           },
           lists_stay (heads_in m) (heads_in new) (masks_in m) (masks_in new) (f.bit + 1) f.zero tree.1
-              (λ n some. heads n (elsewhere room n (forks_at n f.zero) some (let sum = all_forks n in let most = once.forks n in omega arith)))
+              (λ n some. heads n (elsewhere room n (forks_at n f.zero) some (let sum = all_forks n in omega arith)))
               zeros fork_lists.1,
           lists_stay (heads_in m) (heads_in new) (masks_in m) (masks_in new) (f.bit + 1) f.one tree.2
-              (λ n some. heads n (elsewhere room n (forks_at n f.one) some (let sum = all_forks n in let most = once.forks n in omega arith)))
+              (λ n some. heads n (elsewhere room n (forks_at n f.one) some (let sum = all_forks n in omega arith)))
               ones fork_lists.2,
         );
       }
@@ -142,10 +115,7 @@ module _ {V : Type 0} where
   module _ {m : Lodged V} {root : Node} {late : ℕ → Bool} {out : ℕ → ℕ} (w : IsWholeBut m root late out) where
     -- the lists of a part of the whole
     pub part_lists : (key : ℕ) (at : Part m) (ups : List (Part m)) → Way key w.part at ups → MarkedLists (heads_in m) (masks_in m) at.low at.tree
-    part_lists key at ups way =
-        let o = on_way m key w.part at ups way in
-        subst (λ n. MarkedLists (heads_in m) (masks_in m) n at.tree) (sym o.lowest)
-        (lists_at (heads_in m) (masks_in m) w.part.low o.frames at.tree (subst (MarkedLists (heads_in m) (masks_in m) w.part.low) o.was w.lists))
+    part_lists key at ups way = grind (arith, on_way, lists_at)
 
     -- ---- either of them
     pub cut_at : (new : Lodged V) (key bit : ℕ) (p : Part m) (ups : List (Part m)) (below : Node) (first : Option Id) (t : Tree V) → p.tree ≡ t
@@ -167,13 +137,12 @@ module _ {V : Type 0} where
         let here = sym named ∙ ap name_of is in
         cut_fork m new p room f bit first (way_once key w.part p ups way once) rises tree (part_lists key p ups way)
         (λ ms. kept room ms here) (λ ms. others room ms here)
-        (λ n other. heads n (λ i at same. other (same ∙ ap (λ j. (number_of j)) (same_bit_node (sym at ∙ here))))) (λ ms. masks room ms here) marks leaves bits
+        (grind arith) (λ ms. masks room ms here) marks leaves bits
 
     -- the list of the part's bit node
     pub list_at : (key : ℕ) (p : Part m) (ups : List (Part m)) {room : Id} → Way key w.part p ups → name_of p.tree ≡ BitOf room
         → (ms : List (Placed V)) × IsMasks m (heads_in m (number_of room)) ms
     list_at key p ups way named =
         let f = fork_named p named in
-        let tree = fork_is f in
         let l = (subst (MarkedLists (heads_in m) (masks_in m) p.low) f.is (part_lists key p ups way)).0 in
-        (l.masks, masks_listed p l tree.0.within (λ x member. subst (IsIn x) (sym f.is) member.0))
+        (l.masks, masks_listed p l (fork_is f).0.within (λ x member. subst (IsIn x) (sym f.is) member.0))

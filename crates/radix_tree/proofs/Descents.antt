@@ -1,10 +1,9 @@
 -- A walk down a tree.
+use Rattle.radix_tree.proofs.{Climbs.used, Climbs.node_at}
 use Rattle.radix_tree.proofs.Words.{◌≡◌, ℕ, ◌+◌, ◌≤◌, List, [], ◌∷◌, Option, Some, None, refl, sym, ◌∙◌, subst, arith, Counter, Id, BitNode, Node, LeafOf}
-use Rattle.radix_tree.proofs.Words.{BitOf, IsBitNode, Reads, ReadsOnce, IsBitNodeOf, Part, name_of, Tells, Finds, HasPair, In, LedTo, Way, bit_at}
-use Rattle.radix_tree.proofs.Words.{IsAmong, IsTree, Lodged}
-use Rattle.radix_tree.proofs.Parts.{fork_named, leaf_named, fork_is, zero_part, one_part, zero_beneath, one_beneath, among_leaf, in_leaf, way_inside}
-use Rattle.radix_tree.proofs.Parts.{way_leads}
-use Rattle.radix_tree.proofs.Climbs.{used, node_at}
+use Rattle.radix_tree.proofs.Words.{BitOf, IsBitNode, Reads, ReadsOnce, IsBitNodeOf, Part, name_of, Tells, Finds, HasPair, In, LedTo, Way, bit_at, IsAmong}
+use Rattle.radix_tree.proofs.Words.{Lodged}
+use Rattle.radix_tree.proofs.Parts.{fork_named, leaf_named, fork_is, zero_part, one_part, zero_beneath, one_beneath, among_leaf, in_leaf, way_inside, way_leads}
 
 module _ {V : Type 0} {m : Lodged V} where
   -- a walk down that has come to a node, by as many reads as there are bits above it at most
@@ -16,7 +15,7 @@ module _ {V : Type 0} {m : Lodged V} where
     pub reads : Reads start now part.low
 
   pub begun : {address : ℕ} {p : Part m} {from : Node} (v : Counter) → name_of p.tree ≡ from → Down address p from v v
-  begun {p = p} v named = record { part = p; named = named; ups = []; way = refl; reads = record { turn = refl; rises = omega arith; bound = omega arith } }
+  begun {p = p} v named = record { part = p; named = named; ups = []; way = refl; reads = grind arith }
 
   pub used_at : {address : ℕ} {whole : Part m} {at : Node} {room : Id} {start now : Counter} → Down address whole at start now → at ≡ BitOf room
       → IsBitNode m room
@@ -61,10 +60,7 @@ module _ {V : Type 0} {m : Lodged V} where
     led {room = room} is = record { part = d.part; leaf = leaf_named d.part (d.named ∙ is); ups = d.ups; way = d.way }
 
     pub soon_at : {room : Id} → at ≡ LeafOf room → Reads start now 32
-    soon_at {room = room} is =
-        let l = leaf_named d.part (d.named ∙ is) in
-        let low = (subst (IsTree d.part.low) l.is d.part.is).0 in
-        record { turn = d.reads.turn; rises = d.reads.rises; bound = omega arith }
+    soon_at {room = room} is = grind arith
 
   -- a pair that is found at the leaf to which its key leads, or not there, is found so in the whole tree
   pub pair_led : (rank : ℕ) {key : ℕ} {whole : Part m} {room : Id} (l : LedTo key whole room) (o : Option Id)

@@ -1,26 +1,23 @@
 -- A part of a tree is exchanged for another, and so the whole.
-use Rattle.radix_tree.proofs.Words.{◌≡◌, ℕ, ◌+◌, ◌<◌, ◌≤◌, ◌⊎◌, if◌then◌else◌, List, [], ◌∷◌, Option, Some, None, refl, sym, ap, ◌∙◌, subst, inl, inr}
-use Rattle.radix_tree.proofs.Words.{arith, eq-eqb, ne_eqb, cases_lt, Id, Node, BitOf, fork, bit_at, HaveBit, IsTree, BitPart, Part, leaves_in, bits_in}
-use Rattle.radix_tree.proofs.Words.{name_of, Stands, ForkAt, Beneath, Way, leaves_at, forks_at, with_child, name_child, root_after, AreOnce, on_zero}
-use Rattle.radix_tree.proofs.Words.{on_one, low_past, IsExchange, Exchanged, Lodged}
-use Rattle.radix_tree.proofs.PartRooms.{said, zero_turned, one_turned, elsewhere, frame, Keeps, fork_forks, fork_leaves, same_turned, way_counts}
-use Rattle.radix_tree.proofs.PartRooms.{way_once, beneath_counts, spine_out}
-use Rattle.radix_tree.proofs.Parts.{fork_is, fork_stands}
+use Rattle.radix_tree.proofs.{Parts.fork_is, Parts.fork_stands}
+use Rattle.radix_tree.proofs.Words.{◌≡◌, ℕ, ◌+◌, ◌<◌, ◌≤◌, ◌⊎◌, List, [], ◌∷◌, Option, Some, None, refl, sym, ap, ◌∙◌, subst, inl, inr, arith, Id, Node, BitOf}
+use Rattle.radix_tree.proofs.Words.{fork, bit_at, HaveBit, IsTree, BitPart, Part, leaves_in, bits_in, name_of, Stands, ForkAt, Beneath, Way, leaves_at}
+use Rattle.radix_tree.proofs.Words.{forks_at, with_child, name_child, root_after, AreOnce, on_zero, on_one, low_past, IsExchange, Exchanged, Lodged}
+use Rattle.radix_tree.proofs.PartRooms.{said, zero_turned, one_turned, elsewhere, frame, Keeps, fork_forks, fork_leaves, same_turned, way_counts, way_once}
+use Rattle.radix_tree.proofs.PartRooms.{beneath_counts, spine_out}
 use Rattle.radix_nodes.specs.Naming.{number_of}
 
 -- the bit node above a place says what it said in all other rooms, and in its own names the other node
 pub turn_misses : {above : Option Id} (over : Id) (key n : ℕ) (to : Node) (said : Option BitPart) → above ≡ Some over → (n ≡ number_of over → ⊥)
     → name_child above key to n said ≡ said
-turn_misses over key n to said is other =
-    ap (λ o. name_child o key to n said) is ∙ ap (λ t. if t then with_child key to said else said) (ne_eqb n (number_of over) other)
+turn_misses over key n to said is other = grind arith
 
 pub turn_hits : {above : Option Id} (over : Id) (key : ℕ) (to : Node) (said : Option BitPart) → above ≡ Some over
     → name_child above key to (number_of over) said ≡ with_child key to said
-turn_hits over key to said is = ap (λ o. name_child o key to (number_of over) said) is ∙ ap (λ t. if t then with_child key to said else said)
-    (eq-eqb (number_of over) (number_of over) refl)
+turn_hits over key to said is = grind arith
 
 pub one_of : (x y : ℕ) → 1 ≤ x + y → (1 ≤ x) ⊎ (1 ≤ y)
-one_of x y some = elim (cases_lt x 1) [ inl none ↦ inr (omega arith) | inr le ↦ inl le ]
+one_of x y some = grind arith
 
 module _ {V : Type 0} where
   -- the part above one in which the exchange is made; on the bits before its own its keys agree as they did
@@ -135,13 +132,13 @@ module _ {V : Type 0} where
       elim b.side [
         | inl e ↦ zero_climbed m new over b.room f e.0 e.1 b.low b.above g
             (spine ∙ ap (with_child key name) old ∙ zero_turned key name (said b.room f.bit (name_of f.zero) (name_of f.one) over.above) e.1)
-            (λ n some. let sum = all_leaves n in let most = once.leaves n in let same = ap (leaves_at n) e.0 in leaves n (omega arith) (omega arith))
-            (λ n some. let sum = all_forks n in let most = once.forks n in let same = ap (forks_at n) e.0 in
+            (λ n some. let most = once.leaves n in let same = ap (leaves_at n) e.0 in leaves n (omega arith) (omega arith))
+            (λ n some. let most = once.forks n in let same = ap (forks_at n) e.0 in
             forks n (elsewhere b.room n (forks_at n f.one) some (omega arith)) (omega arith) (omega arith))
         | inr e ↦ one_climbed m new over b.room f e.0 e.1 b.low b.above g
             (spine ∙ ap (with_child key name) old ∙ one_turned key name (said b.room f.bit (name_of f.zero) (name_of f.one) over.above) e.1)
-            (λ n some. let sum = all_leaves n in let most = once.leaves n in let same = ap (leaves_at n) e.0 in leaves n (omega arith) (omega arith))
-            (λ n some. let sum = all_forks n in let most = once.forks n in let same = ap (forks_at n) e.0 in
+            (λ n some. let most = once.leaves n in let same = ap (leaves_at n) e.0 in leaves n (omega arith) (omega arith))
+            (λ n some. let most = once.forks n in let same = ap (forks_at n) e.0 in
             forks n (elsewhere b.room n (forks_at n f.zero) some (omega arith)) (omega arith) (omega arith))
       ]
 
@@ -149,7 +146,7 @@ module _ {V : Type 0} where
   way_climbed : (m new : Lodged V) (key : ℕ) (at : Part m) (under : Part new) (whole mid : Part m) (ups : List (Part m)) → Way key whole mid ups
       → AreOnce whole.tree → Keeps m new mid.tree whole.tree
       → Climbed m new key mid at under (name_of mid.tree) → Climbed m new key whole at under (name_of whole.tree)
-  way_climbed m new key at under whole mid [] way once keeps g = subst (λ p. Climbed m new key p at under (name_of p.tree)) way g
+  way_climbed m new key at under whole mid [] way once keeps g = grind arith
   way_climbed m new key at under whole mid (p ∷ ps) way once keeps g =
       let b = way.0 in
       let once_p = way_once key whole p ps way.1 once in
@@ -157,13 +154,12 @@ module _ {V : Type 0} where
       let in_whole : (n : ℕ) → (leaves_at n p.tree ≤ leaves_at n whole.tree) × (forks_at n p.tree ≤ forks_at n whole.tree) =
       λ n. way_counts m key whole p ps n way.1 in
       let near : (n : ℕ) → (leaves_at n mid.tree ≤ leaves_at n p.tree) × (forks_at n mid.tree ≤ forks_at n p.tree) = λ n. beneath_counts m n b in
-      let next = climbed m new key at mid p b g once_p (λ n none some. let le = (in_whole n).0 in keeps.leaves n none (omega arith))
-      (λ n other none some. let le = (in_whole n).1 in keeps.forks n none (omega arith)) (let le = (in_whole (number_of b.room)).1 in
-      let some = out.1 in
+      let next = climbed m new key at mid p b g once_p (λ n none some. keeps.leaves n none (omega (arith, (in_whole n).0)))
+      (λ n other none some. keeps.forks n none (omega (arith, (in_whole n).1))) (let le = (in_whole (number_of b.room)).1 in
       keeps.forks (number_of b.room) out.0 (omega arith) ∙ same_turned key p (name_of mid.tree) b refl) in
       way_climbed m new key at under whole p ps way.1 once (record {
-        leaves = λ n none some. let le = (near n).0 in keeps.leaves n (omega arith) some;
-        forks = λ n none some. let le = (near n).1 in keeps.forks n (omega arith) some;
+        leaves = λ n none some. keeps.leaves n (omega (arith, (near n).0)) some;
+        forks = λ n none some. keeps.forks n (omega (arith, (near n).1)) some;
       }) (subst (Climbed m new key p at under) (sym (ap name_of b.at.is)) next)
 
   -- ---- the whole
@@ -176,13 +172,13 @@ module _ {V : Type 0} where
 
   renamed : (m new : Lodged V) (key : ℕ) (whole at : Part m) (under : Part new) {name root : Node} → name ≡ root → Exchanged m new key whole at under name
       → Exchanged m new key whole at under root
-  renamed m new key whole at under same e = subst (Exchanged m new key whole at under) same e
+  renamed m new key whole at under same e = grind arith
 
   pub exchanged : (m new : Lodged V) {key : ℕ} (whole at : Part m) (ups : List (Part m)) {under : Part new} → Way key whole at ups → whole.above ≡ None
       → AreOnce whole.tree → IsExchange m new key whole at under
       → Exchanged m new key whole at under (root_after at.above (name_of under.tree) (name_of whole.tree))
   exchanged m new {key = key} whole at [] {under = under} way top once e = renamed m new key whole at under
-      (sym (ap (λ o. root_after o (name_of under.tree) (name_of whole.tree)) (ap (λ p. p.above) way ∙ top)))
+      (search)
       (subst (λ p. Exchanged m new key p at under (name_of under.tree)) way (here under e).made)
   exchanged m new {key = key} whole at (p ∷ ps) {under = under} way top once e =
       let b = way.0 in
@@ -191,15 +187,14 @@ module _ {V : Type 0} where
       let in_whole : (n : ℕ) → (leaves_at n p.tree ≤ leaves_at n whole.tree) × (forks_at n p.tree ≤ forks_at n whole.tree) =
       λ n. way_counts m key whole p ps n way.1 in
       let near : (n : ℕ) → (leaves_at n at.tree ≤ leaves_at n p.tree) × (forks_at n at.tree ≤ forks_at n p.tree) = λ n. beneath_counts m n b in
-      let next = climbed m new key at at p b (here under e) once_p (λ n none some. let le = (in_whole n).0 in e.leaves n none (omega arith))
+      let next = climbed m new key at at p b (here under e) once_p (λ n none some. e.leaves n none (omega (arith, (in_whole n).0)))
       (λ n other none some. let le = (in_whole n).1 in
       e.bits n none (omega arith) ∙ turn_misses b.room key n (name_of under.tree) (bits_in m n) b.above other) (let le = (in_whole (number_of b.room)).1 in
-      let some = out.1 in
       e.bits (number_of b.room) out.0 (omega arith) ∙ turn_hits b.room key (name_of under.tree) (bits_in m (number_of b.room)) b.above) in
       renamed m new key whole at under (sym (ap (λ o. root_after o (name_of under.tree) (name_of whole.tree)) b.above))
       (way_climbed m new key at under whole p ps way.1 once (record {
-        leaves = λ n none some. let le = (near n).0 in e.leaves n (omega arith) some;
+        leaves = λ n none some. e.leaves n (omega (arith, (near n).0)) some;
         forks = λ n none some. let le = (near n).1 in
             e.bits n (omega arith) some ∙ turn_misses b.room key n (name_of under.tree) (bits_in m n) b.above
-            (λ same. let there = out.1 in let e2 = ap (λ k. forks_at k p.tree) same in absurd (omega arith));
+            (λ same. absurd (omega (arith, ap (λ k. forks_at k p.tree) same)));
       }) (subst (Climbed m new key p at under) (sym (ap name_of b.at.is)) next)).made

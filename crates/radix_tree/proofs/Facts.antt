@@ -1,6 +1,6 @@
 -- Facts of options, of tests and counts of one, and of a write to one room, which several proofs use.
-use Rattle.radix_tree.proofs.Words.{◌≡◌, ℕ, ◌≤◌, ◌==◌, Bool, true, false, if◌then◌else◌, Option, Some, None, is_some, refl, sym, ap, ◌∙◌, arith, eq-eqb}
-use Rattle.radix_tree.proofs.Words.{ne_eqb, true≢false, Id, one_if, eqb-true}
+use Rattle.radix_tree.proofs.Words.{◌≡◌, ℕ, ◌≤◌, ◌==◌, Bool, true, false, if◌then◌else◌, Option, Some, None, is_some, refl, sym, ap, ◌∙◌, arith}
+use Rattle.radix_tree.proofs.Words.{true≢false, Id, one_if}
 use Rattle.radix_nodes.specs.Naming.{number_of}
 
 pub some_of : {A : Type 0} (o : Option A) → is_some o ≡ true → (a : A) × (o ≡ Some a)
@@ -19,7 +19,7 @@ none_if None never = refl
 none_if (Some x) never = absurd (never x refl)
 
 pub no_use : (b : Bool) → one_if b ≡ 0 → b ≡ false
-no_use true e = absurd (omega (arith, e))
+no_use true e = absurd (omega arith)
 no_use false e = refl
 
 pub one_if_most : (b : Bool) → one_if b ≤ 1
@@ -28,16 +28,13 @@ one_if_most false = omega arith
 
 -- a test of two numbers, either way round
 pub test_turned : (n k : ℕ) → (n == k) ≡ (k == n)
-test_turned n k = elim (k == n) as (λ b. (k == n) ≡ b → (n == k) ≡ b) [
-  | true ↦ λ is. eq-eqb n k (sym (eqb-true k n is))
-  | false ↦ λ is. ne_eqb n k (λ (e : n ≡ k). true≢false (sym (eq-eqb k n (sym e)) ∙ is))
-] refl
+test_turned n k = grind arith
 
 pub same_id : (a b : Id) → a.block ≡ b.block → a ≡ b
 same_id a b block = ap (λ p. record { block = p }) block
 
 pub own_room : {A : Type 0} (room : Id) (x y : A) → (if (number_of room) == (number_of room) then x else y) ≡ x
-own_room room x y = ap (λ t. if t then x else y) (eq-eqb (number_of room) (number_of room) refl)
+own_room room x y = grind arith
 
 pub off_room : {A : Type 0} (room : Id) (n : ℕ) (x y : A) → (n ≡ number_of room → ⊥) → (if n == (number_of room) then x else y) ≡ y
-off_room room n x y other = ap (λ t. if t then x else y) (ne_eqb n (number_of room) other)
+off_room room n x y other = grind arith

@@ -1,13 +1,12 @@
 -- A new bit node above a part of a tree, with the new leaf on the side of its key.
-use Rattle.radix_tree.proofs.{RoomReads.none_some, PartRooms.one_if_same, PartRooms.elsewhere, PartRooms.chain_frame, PartRooms.frame}
-use Rattle.radix_tree.proofs.Words.{◌≡◌, ℕ, ◌+◌, ◌≤◌, ◌==◌, true, false, if◌then◌else◌, List, [], ◌∷◌, Option, Some, None, refl, sym, ap, ◌∙◌, arith}
-use Rattle.radix_tree.proofs.Words.{eqb-true, eq-eqb, ne_eqb, Id, IsRoute, Placed, Tree, leaf, fork, bit_at, HaveBit, IsTree, Leaves, Bits, name_of}
-use Rattle.radix_tree.proofs.Words.{ChainStands, Stands, one_if, members_at, leaves_at, forks_at, IsPlace, AreOnce, leaf_above, bit_above, lift_leaf}
-use Rattle.radix_tree.proofs.Words.{lift_bit}
+use Rattle.radix_tree.proofs.{PartRooms.one_if_same, PartRooms.chain_frame, PartRooms.frame}
+use Rattle.radix_tree.proofs.Words.{◌≡◌, ℕ, ◌+◌, ◌≤◌, ◌==◌, false, if◌then◌else◌, List, [], ◌∷◌, Option, Some, None, refl, sym, ap, ◌∙◌, arith, eq-eqb, Id}
+use Rattle.radix_tree.proofs.Words.{IsRoute, Placed, Tree, leaf, fork, bit_at, HaveBit, IsTree, Leaves, Bits, name_of, ChainStands, Stands, one_if, members_at}
+use Rattle.radix_tree.proofs.Words.{leaves_at, forks_at, IsPlace, AreOnce, leaf_above, bit_above, lift_leaf, lift_bit}
 use Rattle.radix_nodes.specs.Naming.{number_of}
 
 not_same : (room : Id) (n many : ℕ) → 1 ≤ many → one_if (number_of room == n) + many ≤ 1 → (n == number_of room) ≡ false
-not_same room n many some few = ne_eqb n (number_of room) (elsewhere room n many some few)
+not_same room n many some few = grind arith
 
 module _ {V : Type 0} where
   -- all keys of a tree have one value at most at a bit
@@ -18,29 +17,11 @@ module _ {V : Type 0} where
   -- ---- the new bit node
   pub zero_fork_is : {low bit : ℕ} (x : Placed V) (room : Id) {t : Tree V} → IsRoute x.entry → IsPlace x.entry.key low bit t → bit_at bit x.entry.key ≡ 0
       → IsTree low (fork room bit (leaf x []) t)
-  zero_fork_is x room route p clear =
-      let rank = route.rank in
-      let within = p.within in (
-        record {
-          rises = p.rises;
-          within = p.within;
-          agree = λ c before. (bit_at c x.entry.key, refl, p.agree c before);
-          zeros = clear;
-          ones = p.far_one clear;
-        },
-        (omega arith, (route, refl, omega arith, tt)),
-        p.is,
-      )
+  zero_fork_is x room route p clear = grind arith
 
   pub one_fork_is : {low bit : ℕ} (x : Placed V) (room : Id) {t : Tree V} → IsRoute x.entry → IsPlace x.entry.key low bit t → bit_at bit x.entry.key ≡ 1
       → IsTree low (fork room bit t (leaf x []))
-  one_fork_is x room route p set =
-      let rank = route.rank in
-      let within = p.within in (
-        record { rises = p.rises; within = p.within; agree = λ c before. (bit_at c x.entry.key, p.agree c before, refl); zeros = p.far_zero set; ones = set },
-        p.is,
-        (omega arith, (route, refl, omega arith, tt)),
-      )
+  one_fork_is x room route p set = grind arith
 
   -- ---- the part beneath it
   -- it is the same with another bit node above
@@ -67,23 +48,14 @@ module _ {V : Type 0} where
   -- ---- rooms of a part are in the map
   pub chain_there : (L : Leaves V) (above previous : Option Id) (c : List (Placed V)) (n : ℕ) → ChainStands L above previous c → L n ≡ None → members_at n c ≡ 0
   chain_there L above previous [] n stands none = refl
-  chain_there L above previous (x ∷ c) n stands none =
-      let behind = chain_there L None (Some x.room) c n stands.1 none in
-      elim (number_of x.room == n) as (λ t. (number_of x.room == n) ≡ t → one_if t + members_at n c ≡ 0) [
-        | true ↦ λ e. absurd (none_some (sym none ∙ ap L (sym (eqb-true (number_of x.room) n e)) ∙ stands.0))
-        | false ↦ λ e. omega arith
-      ] refl
+  chain_there L above previous (x ∷ c) n stands none = grind (arith, chain_there L None (Some x.room) c n stands.1 none)
 
   pub leaves_there : (L : Leaves V) (B : Bits) (above : Option Id) (t : Tree V) (n : ℕ) → Stands L B above t → L n ≡ None → leaves_at n t ≡ 0
-  leaves_there L B above (leaf x xs) n stands none = chain_there L above None (x ∷ xs) n stands none
+  leaves_there L B above (leaf x xs) n stands none = search (chain_there)
   leaves_there L B above (fork room b zero one) n stands none =
-      let left = leaves_there L B (Some room) zero n stands.1 none in let right = leaves_there L B (Some room) one n stands.2 none in omega arith
+      omega (arith, leaves_there L B (Some room) zero n stands.1 none, leaves_there L B (Some room) one n stands.2 none)
 
   pub forks_there : (L : Leaves V) (B : Bits) (above : Option Id) (t : Tree V) (n : ℕ) → Stands L B above t → B n ≡ None → forks_at n t ≡ 0
   forks_there L B above (leaf x xs) n stands none = refl
   forks_there L B above (fork room b zero one) n stands none =
-      let left = forks_there L B (Some room) zero n stands.1 none in let right = forks_there L B (Some room) one n stands.2 none in
-      elim (number_of room == n) as (λ t. (number_of room == n) ≡ t → one_if t + (forks_at n zero + forks_at n one) ≡ 0) [
-        | true ↦ λ e. absurd (none_some (sym none ∙ ap B (sym (eqb-true (number_of room) n e)) ∙ stands.0))
-        | false ↦ λ e. omega arith
-      ] refl
+      grind (arith, forks_there L B (Some room) zero n stands.1 none, forks_there L B (Some room) one n stands.2 none)

@@ -1,10 +1,8 @@
 -- The bit nodes above a part of a tree, and lists of masks that stay where the masks of their ranks do.
-use Rattle.radix_tree.proofs.{PartRooms.one_if_same, PlugLists.marked_same}
-use Rattle.radix_tree.proofs.Words.{◌≡◌, ℕ, ◌+◌, ◌≤◌, List, [], ◌∷◌, Option, refl, inl, inr, sym, ap, ◌∙◌, subst, arith, Id, Placed, Tree, leaf, fork}
-use Rattle.radix_tree.proofs.Words.{IsAmong, IsIn, IsTree, Heads, Masks, Part, Beneath, Way, forks_at, Frame, on_zero, on_one, plug, low_past, IsMaskList}
-use Rattle.radix_tree.proofs.Words.{MarkedIn, MarkedLists, Lodged}
-use Rattle.radix_tree.proofs.{MaskLists.falls_among}
-use Rattle.radix_tree.proofs.{MaskLinks.stand_same}
+use Rattle.radix_tree.proofs.{PartRooms.one_if_same, PlugLists.marked_same, MaskLists.falls_among, MaskLinks.stand_same}
+use Rattle.radix_tree.proofs.Words.{◌≡◌, ℕ, ◌+◌, ◌≤◌, List, [], ◌∷◌, Option, inl, inr, sym, ap, ◌∙◌, subst, arith, Id, Placed, Tree, leaf, fork, IsAmong, IsIn}
+use Rattle.radix_tree.proofs.Words.{IsTree, Heads, Masks, Part, Beneath, Way, forks_at, Frame, on_zero, on_one, plug, low_past, IsMaskList, MarkedIn}
+use Rattle.radix_tree.proofs.Words.{MarkedLists, Lodged}
 use Rattle.radix_nodes.specs.Naming.{number_of}
 
 module _ {V : Type 0} where
@@ -21,7 +19,7 @@ module _ {V : Type 0} where
       elim b.side [
         | inl e ↦ record {
           frames = on_zero b.room n.bit n.one ∷ f.frames;
-          was = n.is ∙ ap (λ t. fork b.room n.bit t n.one) (sym e.0 ∙ f.was);
+          was = search;
           lowest = low;
         }
         | inr e ↦ record {
@@ -36,7 +34,7 @@ module _ {V : Type 0} where
   up_framed m key whole mid at (p ∷ ps) way f = up_framed m key whole p at ps way.1 (beneath_framed way.0 f)
 
   pub way_framed : (m : Lodged V) (key : ℕ) (whole at : Part m) (ups : List (Part m)) → Way key whole at ups → Framed whole at
-  way_framed m key whole at ups way = up_framed m key whole at at ups way (record { frames = []; was = refl; lowest = refl })
+  way_framed m key whole at ups way = grind (arith, up_framed)
 
   -- ---- one list stays where the masks of its ranks do
   pub list_stays : (K M : Masks) {first : Option Id} (low b : ℕ) (t : Tree V)
@@ -59,7 +57,6 @@ module _ {V : Type 0} where
       → ((y : Placed V) → IsIn y t → low ≤ y.entry.rank → M (number_of y.room) ≡ K (number_of y.room)) → MarkedLists H K low t → MarkedLists J M low t
   lists_stay H J K M low (leaf x xs) is heads masks lists = tt
   lists_stay H J K M low (fork room b zero one) is heads masks lists =
-      let rises = is.0.rises in
       let here = one_if_same (number_of room) in (
         subst (λ first. IsMaskList M first low b (MarkedIn M (fork room b zero one))) (sym (heads (number_of room) (omega arith)))
             (list_stays K M low b (fork room b zero one) masks lists.0),

@@ -3,12 +3,11 @@
 --     went              without one room, one number is used once less
 --     given_none, given_more, given_less, given_same      what a map's rooms were given, after each change
 --     as_many           as many numbers as a tree has rooms
-use Rattle.std.proofs.lemmas.{List.Sums.sum_by-cons, List.length-map}
+use Rattle.std.proofs.lemmas.List.Sums.{sum_by-cons}
+use Rattle.std.proofs.lemmas.List.{length-map}
 use Rattle.radix_tree.specs.Given.{AreGiven, beside, rooms_in, numbers_in}
-use Rattle.radix_tree.proofs.{Facts.no_use}
-use Rattle.radix_tree.proofs.Words.{◌≡◌, ℕ, ◌+◌, ◌<◌, ◌≤◌, ◌==◌, ◌||◌, Bool, true, false, cond, if◌then◌else◌, nat_eq, List, [], ◌∷◌, length, None}
-use Rattle.radix_tree.proofs.Words.{not, is_some, refl, sym, ap, ◌∙◌, subst, arith, eqb-true, eq-eqb, ne_eqb, true≢false, uses, one_if, leaves_in}
-use Rattle.radix_tree.proofs.Words.{HasRoomMore, Lodged}
+use Rattle.radix_tree.proofs.Words.{◌≡◌, ℕ, ◌+◌, ◌<◌, ◌≤◌, ◌==◌, ◌||◌, Bool, true, false, cond, if◌then◌else◌, nat_eq, List, [], ◌∷◌, length, None, is_some}
+use Rattle.radix_tree.proofs.Words.{refl, sym, ap, ◌∙◌, arith, eqb-true, eq-eqb, ne_eqb, true≢false, uses, one_if, leaves_in, HasRoomMore, Lodged}
 
 one_if_cond : (b : Bool) → cond b 1 0 ≡ one_if b
 one_if_cond true = refl
@@ -19,10 +18,7 @@ uses_cons n k ks = sum_by-cons (λ j. cond (nat_eq j n) 1 0) k ks ∙ ap (λ u. 
 
 -- a test of two numbers, either way round
 turned : (a b : ℕ) → one_if (a == b) ≡ one_if (b == a)
-turned a b = elim (a == b) as (λ t. (a == b) ≡ t → one_if t ≡ one_if (b == a)) [
-  | true ↦ λ is. sym (ap one_if (eq-eqb b a (sym (eqb-true a b is))))
-  | false ↦ λ is. sym (ap one_if (ne_eqb b a (λ (e : b ≡ a). true≢false (sym (eq-eqb a b (sym e)) ∙ is))))
-] refl
+turned a b = grind arith
 
 one_of_test : (b : Bool) → one_if b ≡ (if b then 1 else 0)
 one_of_test true = refl
@@ -34,22 +30,19 @@ one_if_is is = ap one_if is
 -- ---- one room goes
 -- the pairs without a room, where the head is its own, and where it is another's
 beside_own : (room : ℕ) (e : ℕ × ℕ) (es : List (ℕ × ℕ)) → (e.0 == room) ≡ true → beside room (e ∷ es) ≡ beside room es
-beside_own room e es is = ap (λ t. cond (not t) (e ∷ beside room es) (beside room es)) is
+beside_own room e es is = search
 
 beside_other : (room : ℕ) (e : ℕ × ℕ) (es : List (ℕ × ℕ)) → (e.0 == room) ≡ false → beside room (e ∷ es) ≡ e ∷ beside room es
-beside_other room e es is = ap (λ t. cond (not t) (e ∷ beside room es) (beside room es)) is
+beside_other room e es is = search
 
 -- a room that is not among them leaves them all
 pub beside_none : (room : ℕ) (given : List (ℕ × ℕ)) → uses room (rooms_in given) ≡ 0 → beside room given ≡ given
 beside_none room [] none = refl
-beside_none room (e ∷ es) none =
-    let cons = uses_cons room e.0 (rooms_in es) in
-    let other = no_use (e.0 == room) (omega (arith, cons, none)) in
-    beside_other room e es other ∙ ap (λ r. e ∷ r) (beside_none room es (omega (arith, cons, none)))
+beside_none room (e ∷ es) none = let cons = uses_cons room e.0 (rooms_in es) in grind (arith, beside_none room es (omega arith))
 
 -- the rooms that are left
 pub rooms_left : (room : ℕ) (given : List (ℕ × ℕ)) (n : ℕ) → uses n (rooms_in (beside room given)) ≡ (if n == room then 0 else uses n (rooms_in given))
-rooms_left room [] n = elim (n == room) as (λ t. uses n (rooms_in []) ≡ (if t then 0 else uses n (rooms_in []))) [ true ↦ refl | false ↦ refl ]
+rooms_left room [] n = grind arith
 rooms_left room (e ∷ es) n =
     let behind = rooms_left room es n in
     let cons = uses_cons n e.0 (rooms_in es) in
@@ -59,22 +52,22 @@ rooms_left room (e ∷ es) n =
             | true ↦ λ is. refl
             | false ↦ λ is.
                 let apart = ap one_if (ne_eqb e.0 n (λ (s : e.0 ≡ n). true≢false (sym (eq-eqb n room (sym s ∙ eqb-true e.0 room own)) ∙ is))) in
-                omega (arith, cons, apart)
+                omega (arith, apart)
           ] refl
       | false ↦ λ other. ap (λ r. uses n (rooms_in r)) (beside_other room e es other) ∙ uses_cons n e.0 (rooms_in (beside room es))
           ∙ elim (n == room) as (λ t. (n == room) ≡ t → (uses n (rooms_in (beside room es)) ≡ (if t then 0 else uses n (rooms_in es)))
           → one_if (e.0 == n) + uses n (rooms_in (beside room es)) ≡ (if t then 0 else uses n (rooms_in (e ∷ es)))) [
             | true ↦ λ is left.
                 let apart = ap one_if (ne_eqb e.0 n (λ (s : e.0 ≡ n). true≢false (sym (eq-eqb e.0 room (s ∙ eqb-true n room is)) ∙ other))) in
-                omega (arith, left, apart)
-            | false ↦ λ is left. omega (arith, left, cons)
+                omega (arith, apart)
+            | false ↦ λ is left. omega arith
           ] refl behind
     ] refl
 
 -- where it stood once, one number is used once less
 pub went : (room : ℕ) (given : List (ℕ × ℕ)) → uses room (rooms_in given) ≡ 1
     → (m : ℕ) × ((n : ℕ) → uses n (numbers_in given) ≡ uses n (numbers_in (beside room given)) + (if m == n then 1 else 0))
-went room [] once = absurd (omega (arith, once))
+went room [] once = absurd (omega arith)
 went room (e ∷ es) once =
     let cons = uses_cons room e.0 (rooms_in es) in
     elim (e.0 == room) as (λ t. (e.0 == room) ≡ t
@@ -83,82 +76,62 @@ went room (e ∷ es) once =
         e.1,
         λ n.
             let one = one_if_is own in
-            let rest = ap (λ r. uses n (numbers_in r)) (beside_own room e es own ∙ beside_none room es (omega (arith, cons, one, once))) in
             let more = uses_cons n e.1 (numbers_in es) in
             let test = one_of_test (e.1 == n) in
-            omega (arith, rest, more, test),
+            omega (arith, ap (λ r. uses n (numbers_in r)) (beside_own room e es own ∙ beside_none room es (omega arith))),
       )
       | false ↦ λ other.
           let none = ap one_if other in
-          let behind = went room es (omega (arith, cons, none, once)) in (
+          let behind = went room es (omega arith) in (
             behind.0,
             λ n.
                 let rest = ap (λ r. uses n (numbers_in r)) (beside_other room e es other) in
                 let more = uses_cons n e.1 (numbers_in es) in
                 let left = uses_cons n e.1 (numbers_in (beside room es)) in
-                let near = behind.1 n in
-                omega (arith, rest, more, left, near),
+                omega arith,
           )
     ] refl
 
 -- ---- the rooms of a map
 more_by : (n room : ℕ) {now : Bool} (was : Bool) → now ≡ (n == room) || was → (n ≡ room → was ≡ false) → one_if now ≡ one_if (room == n) + one_if was
-more_by n room {now = now} was is free =
-    elim (n == room) as (λ b. (n == room) ≡ b → now ≡ b || was → one_if now ≡ one_if (room == n) + one_if was) [
-      | true ↦ λ same now_is.
-          let here = ap one_if (eq-eqb room n (sym (eqb-true n room same))) in
-          let before = ap one_if (free (eqb-true n room same)) in
-          let after = ap one_if now_is in omega (arith, here, before, after)
-      | false ↦ λ other now_is.
-          let here = ap one_if (ne_eqb room n (λ (e : room ≡ n). true≢false (sym (eq-eqb n room (sym e)) ∙ other))) in
-          let after = ap one_if now_is in omega (arith, here, after)
-    ] refl is
+more_by n room {now = now} was is free = grind arith
 
 module _ {V : Type 0} where
   -- a room more, which was not there
   room_more : (m new : Lodged V) (room : ℕ) → leaves_in m room ≡ None → HasRoomMore m new room → (n : ℕ)
       → one_if (is_some (leaves_in new n)) ≡ one_if (room == n) + one_if (is_some (leaves_in m n))
-  room_more m new room free more n = more_by n room (is_some (leaves_in m n)) (more n) (λ (e : n ≡ room). ap (λ k. is_some (leaves_in m k)) e ∙ ap is_some free)
+  room_more m new room free more n = grind arith
 
   none_yet : (m : Lodged V) → ((n : ℕ) → leaves_in m n ≡ None) → AreGiven m [] 0
-  none_yet m none = record {
-    rooms = λ n. sym (ap (λ o. one_if (is_some o)) (none n));
-    once = λ n. omega arith;
-    made = λ n past. refl;
-  }
+  none_yet m none = grind arith
 
   pub given_none : (m : Lodged V) {given : List (ℕ × ℕ)} {last : ℕ} → ((n : ℕ) → leaves_in m n ≡ None) → given ≡ [] → last ≡ 0 → AreGiven m given last
-  given_none m {last = last} none is begun = subst (λ g. AreGiven m g last) (sym is) (subst (AreGiven m []) (sym begun) (none_yet m none))
+  given_none m {last = last} none is begun = grind arith
 
   pub given_more : (m new : Lodged V) (room number : ℕ) {given : List (ℕ × ℕ)} {last : ℕ} → AreGiven m given last → leaves_in m room ≡ None
       → HasRoomMore m new room → number < last + 1 → uses number (numbers_in given) ≡ 0 → AreGiven new ((room, number) ∷ given) last
   given_more m new room number {given = given} {last = last} are free more made unused = record {
     rooms = λ n.
         let cons = uses_cons n room (rooms_in given) in
-        let was = are.rooms n in
-        let now = room_more m new room free more n in omega (arith, cons, was, now);
+        let now = room_more m new room free more n in omega arith;
     once = λ n.
         let cons = uses_cons n number (numbers_in given) in
         elim (number == n) as (λ t. (number == n) ≡ t → uses n (number ∷ numbers_in given) ≤ 1) [
           | true ↦ λ is.
               let one = ap one_if is in
-              let none = ap (λ k. uses k (numbers_in given)) (sym (eqb-true number n is)) in omega (arith, cons, one, none, unused)
-          | false ↦ λ is. let none = ap one_if is in let few = are.once n in omega (arith, cons, none, few)
+              let none = ap (λ k. uses k (numbers_in given)) (sym (eqb-true number n is)) in omega arith
+          | false ↦ λ is. let none = ap one_if is in omega arith
         ] refl;
     made = λ n past.
         let cons = uses_cons n number (numbers_in given) in
-        let other = ap one_if (ne_eqb number n (λ (e : number ≡ n). omega (arith, e, past, made))) in
-        let none = are.made n past in omega (arith, cons, other, none);
+        let other = ap one_if (ne_eqb number n (λ (e : number ≡ n). omega arith)) in
+        omega arith;
   }
 
   -- it goes
   pub one_there : (m new : Lodged V) (room : ℕ) {given : List (ℕ × ℕ)} {last : ℕ} → AreGiven m given last → leaves_in new room ≡ None
       → HasRoomMore new m room → uses room (rooms_in given) ≡ 1
-  one_there m new room are gone more =
-      let was = are.rooms room in
-      let more_is = room_more new m room gone more room in
-      let own = ap one_if (eq-eqb room room refl) in
-      let none = ap (λ o. one_if (is_some o)) gone in omega (arith, was, more_is, own, none)
+  one_there m new room are gone more = grind arith
 
   pub given_less : (m new : Lodged V) (room : ℕ) {given : List (ℕ × ℕ)} {last : ℕ} → AreGiven m given last → leaves_in new room ≡ None
       → HasRoomMore new m room → AreGiven new (beside room given) last
@@ -169,23 +142,20 @@ module _ {V : Type 0} where
             → (if t then 0 else uses n (rooms_in given)) ≡ one_if (is_some (leaves_in new n))) [
               | true ↦ λ is. sym (ap (λ k. one_if (is_some (leaves_in new k))) (eqb-true n room is) ∙ ap (λ o. one_if (is_some o)) gone)
               | false ↦ λ is.
-                  let was = are.rooms n in
-                  let more_is = room_more new m room gone more n in
-                  let other = ap one_if (ne_eqb room n (λ (e : room ≡ n). true≢false (sym (eq-eqb n room (sym e)) ∙ is))) in
-                  omega (arith, was, more_is, other)
+                  omega (arith, room_more new m room gone more n, ap one_if (ne_eqb room n (λ (e : room ≡ n). true≢false (sym (eq-eqb n room (sym e)) ∙ is))))
             ] refl;
-        once = λ n. let few = are.once n in let less = one.1 n in omega (arith, few, less);
-        made = λ n past. let none = are.made n past in let less = one.1 n in omega (arith, none, less);
+        once = λ n. omega (arith, one.1 n);
+        made = λ n past. omega (arith, one.1 n);
       }
 
   -- the same rooms are in use
   pub given_same : (m new : Lodged V) {given : List (ℕ × ℕ)} {last : ℕ} → AreGiven m given last
       → ((n : ℕ) → is_some (leaves_in new n) ≡ is_some (leaves_in m n)) → AreGiven new given last
-  given_same m new are same = record { rooms = λ n. are.rooms n ∙ sym (ap one_if (same n)); once = are.once; made = are.made }
+  given_same m new are same = grind arith
 
   -- the next number is new
   pub given_next : (m : Lodged V) {given : List (ℕ × ℕ)} {last : ℕ} → AreGiven m given last → AreGiven m given (last + 1)
-  given_next m {last = last} are = record { rooms = are.rooms; once = are.once; made = λ n past. are.made n (omega (arith, past)) }
+  given_next m {last = last} are = record { rooms = are.rooms; once = are.once; made = λ n past. are.made n (omega arith) }
 
 pub as_many_numbers : (given : List (ℕ × ℕ)) → length (numbers_in given) ≡ length (rooms_in given)
 as_many_numbers given = length-map given (λ (e : ℕ × ℕ). e.1) ∙ sym (length-map given (λ (e : ℕ × ℕ). e.0))

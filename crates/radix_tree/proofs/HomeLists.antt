@@ -1,16 +1,15 @@
 -- The home of a mask, and what a change of the list there leaves as it was.
+use Rattle.radix_tree.proofs.{AddressBits.zero_not_one, AddressBits.clear_bit, Parts.fork_is, Parts.way_inside, PartRooms.one_if_same, PartRooms.elsewhere}
+use Rattle.radix_tree.proofs.{PartRooms.frame, PartRooms.way_once, Plugs.aside_in, Plugs.aside_at, Plugs.counted_leaf, Plugs.spare_same, PlugLists.KeepsAbove}
+use Rattle.radix_tree.proofs.{PlugLists.plug_lists, PlugLists.lists_at, PlugLists.marked_same, FrameLists.way_framed, FrameLists.lists_stay, JoinLone.tree_room}
 use Rattle.mask_table.proofs.Agreeing.{front_of_bits}
-use Rattle.radix_tree.proofs.{RoomReads.inside, AddressBits.zero_not_one, AddressBits.clear_bit, TreeMembers.IsSaid, TreeMembers.chain_below}
-use Rattle.radix_tree.proofs.{TreeMembers.tree_route, TreeMembers.bit_beneath, TreeMembers.tree_said, Parts.fork_is, Parts.way_inside}
-use Rattle.radix_tree.proofs.{PartRooms.one_if_same, PartRooms.elsewhere, PartRooms.frame, PartRooms.way_once, Plugs.aside_in, Plugs.aside_at}
-use Rattle.radix_tree.proofs.{Plugs.counted_leaf, Plugs.spare_same, PlugLists.KeepsAbove, PlugLists.plug_lists, PlugLists.lists_at, PlugLists.marked_same}
-use Rattle.radix_tree.proofs.{FrameLists.way_framed, FrameLists.lists_stay, Facts.same_id, JoinLone.tree_room}
+use Rattle.radix_tree.proofs.TreeMembers.{IsSaid, chain_below, tree_route, bit_beneath, tree_said}
 use Rattle.radix_tree.specs.Tree.{bit_at}
-use Rattle.radix_tree.proofs.Words.{◌≡◌, ℕ, ◌+◌, ◌<◌, ◌≤◌, ◌==◌, ◌⊎◌, Bool, true, false, ◌||◌, List, [], ◌∷◌, Some, refl, inl, inr, sym, ap, ◌∙◌, subst}
-use Rattle.radix_tree.proofs.Words.{arith, cases_lt, is_some, Seen, Has, Id, Node, IsRoute, Placed, Tree, leaf, fork, IsAmong, IsIn, IsChain, IsTree}
-use Rattle.radix_tree.proofs.Words.{LeafPart, MaskPart, Leaves, Heads, Masks, Part, leaves_in, bits_in, heads_in, masks_in, leaf_in, Way}
-use Rattle.radix_tree.proofs.Words.{one_if, leaves_at, forks_at, HasHome, KeepsLeaves, KeepsBits, AreOnce, plug, low_past, IsMarked, IsMaskList, MarkedIn}
-use Rattle.radix_tree.proofs.Words.{MarkedLists, IsWholeBut, nobody_out, HomeAt, Entry, Lodged}
+use Rattle.radix_tree.proofs.Words.{◌≡◌, ℕ, ◌+◌, ◌<◌, ◌≤◌, ◌==◌, ◌⊎◌, Bool, true, false, ◌||◌, List, [], ◌∷◌, Some, refl, inl, inr, sym, ap, ◌∙◌, subst, arith}
+use Rattle.radix_tree.proofs.Words.{cases_lt, is_some, Seen, Has, Id, Node, IsRoute, Placed, Tree, leaf, fork, IsAmong, IsIn, IsChain, IsTree, LeafPart}
+use Rattle.radix_tree.proofs.Words.{MaskPart, Leaves, Heads, Masks, Part, leaves_in, bits_in, heads_in, masks_in, leaf_in, Way, one_if, leaves_at, forks_at}
+use Rattle.radix_tree.proofs.Words.{HasHome, KeepsLeaves, KeepsBits, AreOnce, plug, low_past, IsMarked, IsMaskList, MarkedIn, MarkedLists, IsWholeBut}
+use Rattle.radix_tree.proofs.Words.{nobody_out, HomeAt, Entry, Lodged}
 use Rattle.radix_nodes.specs.Naming.{number_of}
 
 pub or_right : (a : Bool) {b : Bool} → b ≡ true → (a || b) ≡ true
@@ -24,23 +23,18 @@ module _ {V : Type 0} where
   told p = record { room = record { block = p.block }; entry = record { key = p.leaf.key; rank = p.leaf.rank; value = p.value } }
 
   one_said : (L : Leaves V) (x y : Placed V) → IsSaid L x → IsSaid L y → number_of x.room ≡ number_of y.room → x ≡ y
-  one_said L x y sx sy same =
-      ap told (inside (sym sx.3 ∙ ap L same ∙ sy.3))
+  one_said L x y sx sy same = grind arith
 
   pub one_room : (m : Lodged V) (p : Part m) (x y : Placed V) → IsIn x p.tree → IsIn y p.tree → number_of x.room ≡ number_of y.room → x ≡ y
-  one_room m p x y in_x in_y same = one_said (leaves_in m) x y (tree_said (leaves_in m) (bits_in m) p.above p.tree p.stands x in_x)
-      (tree_said (leaves_in m) (bits_in m) p.above p.tree p.stands y in_y) same
+  one_room m p x y in_x in_y same = grind (arith, tree_said)
 
   -- ---- one pair, one route
   chain_one : (key top : ℕ) (c : List (Placed V)) → IsChain key top c → (x y : Placed V) → IsAmong x c → IsAmong y c → x.entry.rank ≡ y.entry.rank → x ≡ y
   chain_one key top [] is x y in_x in_y same = absurd in_x
   chain_one key top (z ∷ c) is x y in_x in_y same = elim in_x [
-    | inl e ↦ elim in_y [
-      | inl f ↦ sym e ∙ f
-      | inr behind ↦ let first = ap (λ p. p.entry.rank) e in let lower = chain_below key z.entry.rank c is.3 y behind in absurd (omega arith)
-    ]
+    | inl e ↦ grind (arith, chain_below)
     | inr behind ↦ elim in_y [
-      | inl f ↦ let first = ap (λ p. p.entry.rank) f in let lower = chain_below key z.entry.rank c is.3 x behind in absurd (omega arith)
+      | inl f ↦ grind (arith, chain_below)
       | inr other ↦ chain_one key z.entry.rank c is.3 x y behind other same
     ]
   ]
@@ -51,7 +45,7 @@ module _ {V : Type 0} where
   one_pair low (fork room b zero one) is x y in_x in_y key rank = elim in_x [
     | inl x0 ↦ elim in_y [
       | inl y0 ↦ one_pair (b + 1) zero is.1 x y x0 y0 key rank
-      | inr y1 ↦ absurd (zero_not_one (sym (ap (bit_at b) key) ∙ bit_beneath (b + 1) b 0 zero is.1 is.0.zeros x x0)
+      | inr y1 ↦ absurd (zero_not_one (grind (arith, bit_beneath))
           (bit_beneath (b + 1) b 1 one is.2 is.0.ones y y1))
     ]
     | inr x1 ↦ elim in_y [
@@ -64,48 +58,34 @@ module _ {V : Type 0} where
   -- equal bits, equal keys
   same_keys : (x y : Entry V) → IsRoute x → IsRoute y → ((c : ℕ) → c ≤ 31 → bit_at c x.key ≡ bit_at c y.key) → x.key ≡ y.key
   unfolding bit_at
-  same_keys x y rx ry same =
-      let all = front_of_bits 32 x.key y.key (omega arith) rx.address ry.address (λ c before. same c (omega arith)) in
-      omega (arith, all)
+  same_keys x y rx ry same = omega (arith, front_of_bits 32 x.key y.key (omega arith) rx.address ry.address (λ c before. same c (omega arith)))
 
   -- beneath a bit node two routes of a rank not past its bit are one
   pub one_of_bit : (low b : ℕ) (room : Id) (zero one : Tree V) → IsTree low (fork room b zero one) → (x y : Placed V) → IsIn x (fork room b zero one)
       → IsIn y (fork room b zero one) → x.entry.rank ≡ y.entry.rank → x.entry.rank ≤ b → x ≡ y
   one_of_bit low b room zero one is x y in_x in_y same most =
-      let within = is.0.within in
       let rx = tree_route low (fork room b zero one) is x in_x in
       let ry = tree_route low (fork room b zero one) is y in_y in
       one_pair low (fork room b zero one) is x y in_x in_y (same_keys x.entry y.entry rx ry (λ c fits. elim (cases_lt c x.entry.rank) [
-        | inl before ↦ let lt : c < b = omega arith in
-            let a = is.0.agree c lt in bit_beneath low c a.0 (fork room b zero one) is (a.1, a.2) x in_x
-            ∙ sym (bit_beneath low c a.0 (fork room b zero one) is (a.1, a.2) y in_y)
-        | inr past ↦ let further : y.entry.rank ≤ c = omega arith in clear_bit c rx past fits ∙ sym (clear_bit c ry further fits)
+        | inl before ↦ grind (arith, bit_beneath, is.0.agree c (omega arith))
+        | inr past ↦ clear_bit c rx past fits ∙ sym (clear_bit c ry (omega arith) fits)
       ])) same
 
   -- ---- the home of a mask
   way_home : (m : Lodged V) (key rank : ℕ) (whole at : Part m) (ups : List (Part m)) → Way key whole at ups → HasHome key rank at.tree
       → HasHome key rank whole.tree
   way_home m key rank whole at [] way home = subst (λ p. HasHome key rank p.tree) way home
-  way_home m key rank whole at (p ∷ ps) way home =
-      let b = way.0 in
-      let f = b.at in
-      way_home m key rank whole p ps way.1 (subst (HasHome key rank) (sym f.is) (elim b.side [
-        | inl e ↦ inr (inl (e.1, subst (HasHome key rank) e.0 home))
-        | inr e ↦ inr (inr (e.1, subst (HasHome key rank) e.0 home))
-      ]))
+  way_home m key rank whole at (p ∷ ps) way home = way_home m key rank whole p ps way.1 (grind arith)
 
   module _ {m : Lodged V} {key rank : ℕ} {whole : Part m} {room : Id} (h : HomeAt m key rank whole room) where
     pub home_has : HasHome key rank whole.tree
-    home_has = way_home m key rank whole h.part h.ups h.way (subst (HasHome key rank) (sym h.at.is) (inl h.within))
+    home_has = way_home m key rank whole h.part h.ups h.way (grind arith)
 
     abbrev pub tree_of : Tree V
     tree_of = fork room h.at.bit h.at.zero h.at.one
 
     lists_of : (H : Heads) (K : Masks) → MarkedLists H K whole.low whole.tree → MarkedLists H K h.part.low tree_of
-    lists_of H K lists =
-        let f = way_framed m key whole h.part h.ups h.way in
-        subst (MarkedLists H K h.part.low) h.at.is (subst (λ n. MarkedLists H K n h.part.tree) (sym f.lowest)
-        (lists_at H K whole.low f.frames h.part.tree (subst (MarkedLists H K whole.low) f.was lists)))
+    lists_of H K lists = subst (MarkedLists H K h.part.low) h.at.is (grind (arith, lists_at, way_framed m key whole h.part h.ups h.way))
 
     -- the list there
     pub home_list : MarkedLists (heads_in m) (masks_in m) whole.low whole.tree
@@ -131,15 +111,14 @@ module _ {V : Type 0} where
         let f = h.at in
         let is = fork_is f in
         let old = lists_of h (heads_in m) (masks_in m) lists in
-        let once_at = way_once key whole h.part h.ups h.way once in
         let most : (n : ℕ) → one_if (number_of room == n) + (forks_at n f.zero + forks_at n f.one) ≤ 1 =
-        λ n. subst (λ t. forks_at n t ≤ 1) f.is (once_at.forks n) in (
+        λ n. subst (λ t. forks_at n t ≤ 1) f.is ((way_once key whole h.part h.ups h.way once).forks n) in (
           r.list,
           lists_stay (heads_in m) (heads_in new) (masks_in m) (masks_in new) (f.bit + 1) f.zero is.1
-              (λ n some. r.heads n (let few = most n in elsewhere room n (forks_at n f.zero) some (omega arith)))
+              (λ n some. r.heads n (elsewhere room n (forks_at n f.zero) some (omega (arith, most n))))
               (λ y at least. r.masks y (home_inside y (inl at)) (λ _ _ short. omega arith)) old.1,
           lists_stay (heads_in m) (heads_in new) (masks_in m) (masks_in new) (f.bit + 1) f.one is.2
-              (λ n some. r.heads n (let few = most n in elsewhere room n (forks_at n f.one) some (omega arith)))
+              (λ n some. r.heads n (elsewhere room n (forks_at n f.one) some (omega (arith, most n))))
               (λ y at least. r.masks y (home_inside y (inr at)) (λ _ _ short. omega arith)) old.2,
         )
 
@@ -147,21 +126,18 @@ module _ {V : Type 0} where
         → MarkedLists (heads_in m) (masks_in m) whole.low whole.tree → MarkedLists (heads_in new) (masks_in new) whole.low whole.tree
     relisted new once r lists =
         let f = way_framed m key whole h.part h.ups h.way in
-        let lowest = f.lowest in
         let own = subst (λ n. MarkedLists (heads_in new) (masks_in new) n h.part.tree) f.lowest
         (subst (MarkedLists (heads_in new) (masks_in new) h.part.low) (sym h.at.is) (home_lists new once r lists)) in
         let in_whole : (y : Placed V) → IsIn y (plug f.frames h.part.tree) → IsIn y whole.tree = λ y is. subst (IsIn y) (sym f.was) is in
         let forks : (n : ℕ) → forks_at n (plug f.frames h.part.tree) ≤ 1 = λ n. subst (λ u. forks_at n u ≤ 1) f.was (once.forks n) in
         let leaves : (n : ℕ) → leaves_at n (plug f.frames h.part.tree) ≤ 1 = λ n. subst (λ u. leaves_at n u ≤ 1) f.was (once.leaves n) in
-        let here = subst (λ u. 1 ≤ forks_at (number_of room) u) (sym h.at.is) (let one = one_if_same (number_of room) in
-        omega arith) in
+        let here = subst (λ u. 1 ≤ forks_at (number_of room) u) (sym h.at.is) (omega (arith, one_if_same (number_of room))) in
         let above : (y : Placed V) → IsIn y h.part.tree → y.entry.rank < low_past whole.low f.frames
         → masks_in new (number_of y.room) ≡ masks_in m (number_of y.room) =
         λ y is below. r.masks y (way_inside m key whole h.part h.ups h.way y is) (λ _ least _. omega arith) in
         let keeps : KeepsAbove (heads_in m) (heads_in new) (masks_in m) (masks_in new) (low_past whole.low f.frames) f.frames h.part.tree h.part.tree =
         record {
-          heads = λ n some. r.heads n (λ e. let most = forks n in let at = subst (λ k. 1 ≤ forks_at k h.part.tree) (sym e) here in
-              omega arith);
+          heads = λ n some. r.heads n (λ e. omega (arith, forks n, subst (λ k. 1 ≤ forks_at k h.part.tree) (sym e) here));
           aside = λ y aside. r.masks y (in_whole y (aside_in f.frames h.part.tree y aside)) (λ is _ _. let own_at = counted_leaf y h.part.tree is in
               let more = aside_at f.frames h.part.tree y aside in
               let most = leaves (number_of y.room) in omega arith);
@@ -196,9 +172,9 @@ module _ {V : Type 0} where
     low = w.low;
     top = w.top;
     named = w.named;
-    leaves = λ n. w.leaves n ∙ ap (λ o. one_if (is_some o)) (sym (leaves n));
-    forks = λ n. w.forks n ∙ ap (λ o. one_if (is_some o)) (sym (bits n));
-    spare = spare_same (bits_in m) (bits_in new) w.part.tree (λ y is none. bits (number_of y.room) ∙ none) w.spare;
+    leaves = grind arith;
+    forks = grind arith;
+    spare = grind (arith, spare_same);
     lists = lists;
     listed = marked.listed;
     all = marked.all;
@@ -207,17 +183,13 @@ module _ {V : Type 0} where
   -- ---- the route in a room of the table
   block_said : (m : Lodged V) {y : Placed V} {n : ℕ} (s : Seen V) → IsSaid (leaves_in m) y → number_of y.room ≡ n → leaves_in m n ≡ leaf_in (Some s)
       → y.room.block ≡ s.block
-  block_said m s is same said =
-      let parts = inside (sym is.3 ∙ ap (leaves_in m) same ∙ said) in ap (λ p. p.block) parts
+  block_said m s is same said = grind arith
 
   pub placed_in : {m : Lodged V} {root : Node} {late : ℕ → Bool} (w : IsWholeBut m root late nobody_out) {room : Id} → Has m room
       → (y : Placed V) × IsIn y w.part.tree × (y.room ≡ room)
   placed_in {m = m} w {room = room} h =
-      let said = ap leaf_in h.at in
-      let count = w.leaves (number_of room) ∙ ap (λ o. one_if (is_some o)) said in
-      let y = tree_room (number_of room) w.part.tree (omega arith) in (
+      let y = tree_room (number_of room) w.part.tree (omega (arith, w.leaves (number_of room) ∙ ap (λ o. one_if (is_some o)) (ap leaf_in h.at))) in (
         y.0,
         y.1,
-        same_id y.0.room room (block_said m h.room (tree_said (leaves_in m) (bits_in m) w.part.above w.part.tree w.part.stands y.0 y.1) y.2
-            said ∙ h.block),
+        grind (arith, tree_said),
       )

@@ -1,17 +1,14 @@
 -- What a table's rooms show is found by its searches.
-use Rattle.radix_tree.proofs.{RoomReads.inside, RoomReads.none_some, RoomReads.AreLinks, RoomReads.Has-leaf, RoomReads.leaf_read, RoomReads.value_read}
-use Rattle.radix_tree.proofs.{TreeMembers.tree_said, TreeMembers.chain_key, TreeMembers.first_greatest, TreeOrder.tree_is_table, Parts.among_leaf}
-use Rattle.radix_tree.proofs.{Parts.in_leaf, Parts.leaf_run, Parts.way_inside, Parts.way_leads, BestOfTree.member_of, BestOfTree.stands_in}
-use Rattle.radix_tree.proofs.{Showing.shown_is}
+use Rattle.radix_tree.proofs.{RoomReads.inside, RoomReads.none_some, RoomReads.AreLinks, RoomReads.Has-leaf, TreeMembers.tree_said, TreeMembers.chain_key}
+use Rattle.radix_tree.proofs.{TreeMembers.first_greatest, TreeOrder.tree_is_table, Parts.in_leaf, Parts.leaf_run, Parts.way_inside, Parts.way_leads}
+use Rattle.radix_tree.proofs.{BestOfTree.member_of, BestOfTree.stands_in, Showing.shown_is, Facts.none_if}
 use Rattle.std.specs.Prelude.{IsSome}
 use Rattle.std.proofs.lemmas.Bool.{not-false}
-use Rattle.radix_tree.proofs.Words.{◌≡◌, ℕ, ◌+◌, ◌==◌, Bool, true, false, cond, not, List, [], ◌∷◌, Option, Some, None, refl, sym, ap, ◌∙◌, subst, inl}
-use Rattle.radix_tree.proofs.Words.{arith, eq-eqb, eqb-true, Contains, is_some, AllByRecursion, get, Seen, Rooms, Has, leaf_of, Id, Leaf, Links, Node}
-use Rattle.radix_tree.proofs.Words.{Contents, IsTable, entry_at, first_of, Placed, IsAmong, IsIn, IsChain, routes_of, LeafPart, Part, leaves_in, bits_in}
-use Rattle.radix_tree.proofs.Words.{leaf_part, Tells, Finds, HasPair, In, LeafAt, LedTo, shown, shown_entry, IsWhole, Holds, Entry, Lodged}
+use Rattle.radix_tree.proofs.Words.{◌≡◌, ℕ, ◌+◌, ◌==◌, Bool, true, false, cond, not, List, [], ◌∷◌, Option, Some, None, refl, sym, ap, ◌∙◌, subst, inl, arith}
+use Rattle.radix_tree.proofs.Words.{eq-eqb, eqb-true, Contains, AllByRecursion, get, Seen, Rooms, Has, leaf_of, Id, Leaf, Links, Node, Contents, IsTable}
+use Rattle.radix_tree.proofs.Words.{entry_at, first_of, Placed, IsAmong, IsIn, IsChain, routes_of, LeafPart, Part, leaves_in, bits_in, leaf_part, Tells, Finds}
+use Rattle.radix_tree.proofs.Words.{HasPair, In, LeafAt, LedTo, shown, shown_entry, IsWhole, Holds, Entry, Lodged, true≢false}
 use Rattle.radix_tree.proofs.MemberLemmas.{all_contains, entry_at_is_member, first_of_is_member, first_is_greatest, members_stand}
-use Rattle.radix_tree.proofs.{Facts.none_if}
-use Rattle.radix_tree.proofs.Words.{true≢false}
 use Rattle.radix_nodes.specs.Naming.{number_of}
 use Rattle.radix_tree.specs.Given.{AreGiven}
 
@@ -24,14 +21,12 @@ agree a b is fails = eqb-true a b (not-false (a == b) (sym is ∙ fails))
 
 pub entry_make : {V : Type 0} (key rank : ℕ) (value : V) (e : Entry V) → key ≡ e.key → rank ≡ e.rank → value ≡ e.value
     → record { key = key; rank = rank; value = value } ≡ e
-entry_make {V} key rank value e k r v =
-    let make : ℕ → ℕ → V → Entry V = λ k r v. record { key = k; rank = r; value = v } in
-    ap (λ k. make k rank value) k ∙ ap (λ r. make e.key r value) r ∙ ap (make e.key e.rank) v
+entry_make {V} key rank value e k r v = grind arith
 
 module _ {V : Type 0} where
   pub shown_table : (m : Lodged V) (root : Option Node) → Holds m root → IsTable (shown m root)
   shown_table m None holds = tt
-  shown_table m (Some root) w = subst IsTable (sym (shown_is w)) (tree_is_table w.part.low w.part.tree w.part.is)
+  shown_table m (Some root) w = grind (arith, shown_is, tree_is_table)
 
   -- what a route's room says
   pub record IsSaid (m : Lodged V) (room : Id) (x : Placed V) : Type 0 where
@@ -63,7 +58,7 @@ module _ {V : Type 0} where
 
   stands_at : (es : List (Entry V)) {key rank : ℕ} {e : Entry V} → entry_at e.key e.rank es ≡ Some e → e.key ≡ key → e.rank ≡ rank
       → entry_at key rank es ≡ Some e
-  stands_at es {rank = rank} {e = e} stands k r = ap (λ k. entry_at k rank es) (sym k) ∙ ap (λ r. entry_at e.key r es) (sym r) ∙ stands
+  stands_at es {rank = rank} {e = e} stands k r = search
 
   pub found : {m : Lodged V} {root : Node} (w : IsWhole m root) (key rank : ℕ) {o : Option Id} {room : Id} → o ≡ Some room
       → Tells (Finds (HasPair key rank) (In w.part)) o → IsFound m root key rank room
@@ -90,16 +85,12 @@ module _ {V : Type 0} where
   pub value_found : {m : Lodged V} {root : Node} {key rank : ℕ} {room : Id} (f : IsFound m root key rank room) (value : V)
       → ((s : Seen V) → get m (number_of room) ≡ Some s → value ≡ s.value) → Some (record { key = key; rank = rank; value = value })
       ≡ entry_at key rank (shown m (Some root))
-  value_found {m = m} {key = key} {rank = rank} {room = room} f value is =
-      let x = f.route.entry in
-      ap Some (entry_make key rank value x (sym f.has.0) (sym f.has.1)
-      (value_read m room value f.said.at f.said.block is ∙ ap (λ e. e.value) f.said.entry)) ∙ sym f.entry
+  value_found {m = m} {key = key} {rank = rank} {room = room} f value is = grind arith
 
   -- ---- the first route of a key
   module _ {m : Lodged V} {address : ℕ} {whole : Part m} {room : Id} (l : LedTo address whole room) where
     pub Has-led : Has m room
-    Has-led =
-        let s = said_of m l.part l.leaf.first (in_leaf l.leaf l.leaf.first (inl refl)) l.leaf.room_is in Has-leaf m room s.at s.block
+    Has-led = let s = said_of m l.part l.leaf.first (in_leaf l.leaf l.leaf.first (inl refl)) l.leaf.room_is in Has-leaf m room s.at s.block
 
     pub led_first : IsSaid m room l.leaf.first
     led_first = said_of m l.part l.leaf.first (in_leaf l.leaf l.leaf.first (inl refl)) l.leaf.room_is
@@ -109,11 +100,7 @@ module _ {V : Type 0} where
 
   pub leaf_is : (m : Lodged V) (room : Id) {x : Placed V} (s : IsSaid m room x) (links : Links) {l : Leaf} → AreLinks m room links → l ≡ leaf_of links
       → (l.key ≡ x.entry.key) × (l.rank ≡ x.entry.rank)
-  leaf_is m room s links are leaf =
-      let read = leaf ∙ leaf_read m room links s.at s.block are in (
-        ap (λ z. z.key) read ∙ ap (λ e. e.key) s.entry,
-        ap (λ z. z.rank) read ∙ ap (λ e. e.rank) s.entry,
-      )
+  leaf_is m room s links are leaf = grind arith
 
   pub leaf_key : (m : Lodged V) {address : ℕ} {whole : Part m} {room : Id} (d : LedTo address whole room) (links : Links) {l : Leaf} → AreLinks m room links
       → l ≡ leaf_of links → l.key ≡ d.leaf.first.entry.key
@@ -122,7 +109,7 @@ module _ {V : Type 0} where
   -- each route of the key is of the chain to which it leads
   of_chain : (m : Lodged V) {key : ℕ} (whole : Part m) {room : Id} (l : LedTo key whole room) (y : Placed V) → IsIn y whole.tree → y.entry.key ≡ key
       → IsAmong y (l.leaf.first ∷ l.leaf.rest)
-  of_chain m whole l y at is = among_leaf l.leaf y (way_leads m whole l.part l.ups l.way y at is)
+  of_chain m whole l y at is = grind (arith, way_leads)
 
   same_of_pair : (es : List (Entry V)) (e f : Entry V) → entry_at e.key e.rank es ≡ Some e → entry_at f.key f.rank es ≡ Some f → e.key ≡ f.key
       → e.rank ≡ f.rank → e ≡ f
@@ -142,13 +129,10 @@ module _ {V : Type 0} where
       let member = first_of_is_member key es e is in
       let of = member_of w.part.tree e member.0 in
       let own = of_chain m w.part l of.0 of.1 (ap (λ e. e.key) of.2 ∙ member.1) in
-      let same = chain_key x.entry.key 34 (x ∷ l.leaf.rest) chain of.0 own in
-      let key_is = sym same ∙ ap (λ e. e.key) of.2 ∙ member.1 in
+      let key_is = sym (chain_key x.entry.key 34 (x ∷ l.leaf.rest) chain of.0 own) ∙ ap (λ e. e.key) of.2 ∙ member.1 in
       let stands = stands_in w.part.low w.part.tree w.part.is x (led_inside m key w.part l) in
-      let low = first_greatest x.entry.key 34 x l.leaf.rest chain of.0 own in
       let high = first_is_greatest key es e x.entry table is ((members_stand es x.entry table).0 stands) key_is in
-      let rank = ap (λ e. e.rank) of.2 in
-      let rank_is : e.rank ≡ x.entry.rank = omega (arith, low, high, rank) in
+      let rank_is : e.rank ≡ x.entry.rank = omega (arith, first_greatest x.entry.key 34 x l.leaf.rest chain of.0 own, ap (λ e. e.rank) of.2) in
       (key_is, same_of_pair es e x.entry ((members_stand es e table).1 member.0) stands (member.1 ∙ sym key_is) rank_is)
 
   -- where the chain's key is another, no route has the key
@@ -181,14 +165,11 @@ module _ {V : Type 0} where
   first_found m w key {room = room} l links leaf value are read is same =
       let es = routes_of w.part.tree in
       let x = l.leaf.first in
-      let said = led_first l in
-      let leaf_of_x = leaf_is m room said links are read in
-      let key_is = sym leaf_of_x.0 ∙ same in
+      let key_is = sym (leaf_is m room (led_first l) links are read).0 ∙ same in
       let table = tree_is_table w.part.low w.part.tree w.part.is in
       let member = (members_stand es x.entry table).0 (stands_in w.part.low w.part.tree w.part.is x (led_inside m key w.part l)) in
       ap (first_of key) (shown_is w) ∙ first_is es key x.entry member key_is (first_of key es) refl (λ e some. (some_first m w key l e some).1)
-      ∙ ap Some (sym (entry_make key leaf.rank value x.entry (sym key_is) leaf_of_x.1
-      (value_read m room value said.at said.block is ∙ ap (λ e. e.value) said.entry)))
+      ∙ ap Some (grind arith)
 
   -- ---- a table's own rooms
   pub whole_at : (m : Lodged V) {o : Option Node} {root : Node} → Holds m o → o ≡ Some root → IsWhole m root
@@ -197,7 +178,7 @@ module _ {V : Type 0} where
   pub entries_at : (nodes : Rooms V) (o : Option Node) {root : Node} {numbers : List ℕ} {at : ℕ} (t : Contents V)
       → record { entries = shown nodes.lodged o; numbers = numbers; next = at; turn = nodes.turn } ≡ t → o ≡ Some root
       → shown nodes.lodged (Some root) ≡ t.entries
-  entries_at nodes o t view some = ap (shown nodes.lodged) (sym some) ∙ ap (λ t. t.entries) view
+  entries_at nodes o t view some = search
 
   -- in the turn that begins next
   abbrev pub IsNext : Rooms V → Rooms V → Type 0
@@ -206,16 +187,16 @@ module _ {V : Type 0} where
   pub shown_next : (nodes next : Rooms V) (o : Option Node) {numbers : List ℕ} {at : ℕ} (t : Contents V)
       → record { entries = shown nodes.lodged o; numbers = numbers; next = at; turn = nodes.turn } ≡ t → IsNext nodes next
       → shown next.lodged o ≡ t.entries
-  shown_next nodes next o t view begins = ap (λ r. shown r.lodged o) begins ∙ ap (λ t. t.entries) view
+  shown_next nodes next o t view begins = grind arith
 
   pub entries_next : (nodes next : Rooms V) {o : Option Node} {root : Node} {numbers : List ℕ} {at : ℕ} (t : Contents V)
       → record { entries = shown nodes.lodged o; numbers = numbers; next = at; turn = nodes.turn } ≡ t → o ≡ Some root → IsNext nodes next
       → shown next.lodged (Some root) ≡ t.entries
-  entries_next nodes next {o = o} t view some begins = ap (shown next.lodged) (sym some) ∙ shown_next nodes next o t view begins
+  entries_next nodes next {o = o} t view some begins = grind arith
 
   pub shown_begun : (nodes next : Rooms V) {o : Option Node} {root : Node} → o ≡ Some root → IsNext nodes next
       → shown next.lodged (Some root) ≡ shown nodes.lodged o
-  shown_begun nodes next {o = o} some begins = ap (shown next.lodged) (sym some) ∙ ap (λ r. shown r.lodged o) begins
+  shown_begun nodes next {o = o} some begins = grind arith
 
   -- the rooms in use are those of the turn before
   pub given_begun : (nodes next : Rooms V) {given : List (ℕ × ℕ)} {last : ℕ} → IsNext nodes next → AreGiven nodes.lodged given last
@@ -224,10 +205,9 @@ module _ {V : Type 0} where
 
   pub whole_next : (nodes next : Rooms V) {o : Option Node} {root : Node} → Holds nodes.lodged o → o ≡ Some root → IsNext nodes next → IsWhole next.lodged
       root
-  whole_next nodes next {root = root} holds some begins = subst (λ r. IsWhole r.lodged root) (sym begins) (whole_at nodes.lodged holds some)
+  whole_next nodes next {root = root} holds some begins = grind arith
 
   -- a pair whose route is in the tree is there
   pub pair_there : {m : Lodged V} {root : Node} (w : IsWhole m root) (key rank : ℕ) (x : Placed V) → IsIn x w.part.tree → HasPair key rank x
       → IsSome (entry_at key rank (shown m (Some root)))
-  pair_there w key rank x at has = ap is_some (ap (entry_at key rank) (shown_is w)
-      ∙ stands_at (routes_of w.part.tree) (stands_in w.part.low w.part.tree w.part.is x at) has.0 has.1)
+  pair_there w key rank x at has = grind (arith, shown_is, stands_in)

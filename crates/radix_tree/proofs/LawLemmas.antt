@@ -1,12 +1,12 @@
 -- The laws of a table: those of its best routes, and of putting an entry in and taking it out.
-use Rattle.std.specs.{Prelude.IfSome, Borrow.Bor}
 use Rattle.radix_tree.proofs.{ListLemmas.filter_filter, OrderLemmas.own_pair}
+use Rattle.std.specs.Prelude.{IfSome}
+use Rattle.std.specs.Borrow.{Bor}
 use Rattle.std.proofs.lemmas.List.Elements.{filter-append}
-use Rattle.radix_tree.proofs.Words.{◌≡◌, ℕ, ◌*◌, ◌-◌, ◌^◌, ◌≤◌, true, false, cond, filter, List, [], ◌∷◌, Option, Some, None, refl, sym, ◌∙◌, ap, inl}
-use Rattle.radix_tree.proofs.Words.{inr, arith, cases_lt, nat_tests, append-nil, option_map, agrees, masked, front, precedes, IsRoute, IsTable, has_pair}
-use Rattle.radix_tree.proofs.Words.{entry_at, without, with_entry, agreeing, greater, greatest, best_of, AreOnePair, StandsIn, Agrees, IsBest}
-use Rattle.radix_tree.proofs.Words.{BestIsGreatest, BestIsUnique, NoneAgrees, BestStays, BestIsGreater, BestStaysWithout, WithThenWithout}
-use Rattle.radix_tree.proofs.Words.{WithoutThenWith, WithTwiceIsLast, routed, Entry}
+use Rattle.radix_tree.proofs.Words.{◌≡◌, ℕ, ◌≤◌, true, false, cond, filter, List, [], ◌∷◌, Option, Some, None, refl, sym, ◌∙◌, ap, inl, inr, arith, cases_lt}
+use Rattle.radix_tree.proofs.Words.{append-nil, option_map, agrees, front, precedes, IsRoute, IsTable, has_pair, entry_at, without, with_entry, agreeing}
+use Rattle.radix_tree.proofs.Words.{greater, greatest, best_of, AreOnePair, StandsIn, Agrees, IsBest, BestIsGreatest, BestIsUnique, NoneAgrees, BestStays}
+use Rattle.radix_tree.proofs.Words.{BestIsGreater, BestStaysWithout, WithThenWithout, WithoutThenWith, WithTwiceIsLast, routed, Entry}
 use Rattle.radix_tree.proofs.TableLemmas.{later, same, sooner, with_later, with_parts, without_absent, without_is_table}
 use Rattle.radix_tree.proofs.MemberLemmas.{best_is_member, members_stand, members_are_routes, members_of_without, without_keeps}
 pub use Rattle.radix_tree.proofs.OrderLemmas.{precedes_in_words, precedes_one_way, precedes_transitively, precedes_or_same}
@@ -18,19 +18,19 @@ pub use Rattle.radix_tree.proofs.MemberLemmas.{with_counts, without_counts}
 -- the best with an entry before that the address agrees with, or not
 best_here : {V : Type 0} (address : ℕ) (x : Entry V) (xs : List (Entry V)) → agrees x.rank x.key address ≡ true
     → best_of address (x ∷ xs) ≡ greater x (best_of address xs)
-best_here address x xs h = ap (λ b. greatest (cond b (x ∷ agreeing address xs) (agreeing address xs))) h
+best_here address x xs h = search
 
 best_behind : {V : Type 0} (address : ℕ) (x : Entry V) (xs : List (Entry V)) → agrees x.rank x.key address ≡ false
     → best_of address (x ∷ xs) ≡ best_of address xs
-best_behind address x xs h = ap (λ b. greatest (cond b (x ∷ agreeing address xs) (agreeing address xs))) h
+best_behind address x xs h = search
 
 -- the greater of two is of no lesser rank than either
 greater_least : {V : Type 0} (x : Entry V) (m : Option (Entry V)) → (f : Entry V) × (greater x m ≡ Some f) × (x.rank ≤ f.rank)
     × ((y : Entry V) → m ≡ Some y → y.rank ≤ f.rank)
 greater_least x None = (x, refl, omega arith, λ y k. cc)
 greater_least x (Some f) = elim (cases_lt x.rank f.rank) [
-  | inl h ↦ (f, grind (arith, nat_tests), omega arith, λ y k. (let is : y ≡ f = cc in rw is (omega arith)))
-  | inr h ↦ (x, grind (arith, nat_tests), omega arith, λ y k. (let is : y ≡ f = cc in rw is h))
+  | inl h ↦ (f, grind arith, omega arith, λ y k. (let is : y ≡ f = cc in rw is (omega arith)))
+  | inr h ↦ (x, grind arith, omega arith, λ y k. (let is : y ≡ f = cc in rw is h))
 ]
 
 -- where an address agrees with an entry of the table there is a best route, of no lesser rank
@@ -45,8 +45,7 @@ best_reaches {V} address (x ∷ xs) o h a = elim (has_pair o.key o.rank x) as (�
           elim (agrees x.rank x.key address) as (λ b. agrees x.rank x.key address ≡ b
           → (f : Entry V) × (best_of address (x ∷ xs) ≡ Some f) × (o.rank ≤ f.rank)) [
             | true ↦ λ b. (let least = greater_least x (best_of address xs) in
-                let more = least.3 behind.0 behind.1 in
-                (least.0, best_here address x xs b ∙ least.1, omega (arith, more, behind.2)))
+                (least.0, best_here address x xs b ∙ least.1, omega (arith, behind.2)))
             | false ↦ λ b. (behind.0, best_behind address x xs b ∙ behind.1, behind.2)
           ] refl)
     ] h
@@ -59,7 +58,7 @@ best_is_greatest address entries e r h =
       stands = (members_stand entries e r).1 member.0;
       agrees = member.1;
       greatest = λ o s a. (let reached = best_reaches address entries o s a in let is : reached.0 ≡ e =
-          (let both = sym reached.1 ∙ h in cc) in rw (← is) reached.2);
+          (cc) in rw (← is) reached.2);
     }
 
 -- so what is answered as the best route stands in the table
@@ -70,23 +69,19 @@ best_stands address es (Some r) table h = (best_is_greatest address es (routed r
 
 pub none_agrees : {V : Type 0} → NoneAgrees V
 none_agrees address entries e h s = elim (agrees e.rank e.key address) as (λ b. agrees e.rank e.key address ≡ b → b ≡ false)
-    [ true ↦ λ a. (let reached = best_reaches address entries e s a in let gone = sym reached.1 ∙ h in cc) | false ↦ λ a. refl ] refl
+    [ true ↦ λ a. (let reached = best_reaches address entries e s a in cc) | false ↦ λ a. refl ] refl
 
 -- an entry of the table whose pair has the key and the rank of another is that one
 one_of_pair : {V : Type 0} (es : List (Entry V)) (e f : Entry V) → StandsIn es e → StandsIn es f → e.key ≡ f.key → e.rank ≡ f.rank → e ≡ f
-one_of_pair es e f s t k n = (let both = sym s ∙ ap (λ x. entry_at x e.rank es) k ∙ ap (λ x. entry_at f.key x es) n ∙ t in cc)
+one_of_pair es e f s t k n = search
 
 -- where an address agrees, the fronts are one
 sym_true : (rank key address : ℕ) → agrees rank key address ≡ true → front rank key ≡ front rank address
-sym_true rank key address h = grind (arith, nat_tests)
+sym_true rank key address h = grind arith
 
 -- routes of one rank with which one address agrees have one key
 same_key : {V : Type 0} (address : ℕ) (e f : Entry V) → IsRoute e → IsRoute f → Agrees address e → Agrees address f → e.rank ≡ f.rank → e.key ≡ f.key
-same_key address e f route other a b ranks =
-    let agrees_too : agrees e.rank f.key address ≡ true = rw ranks b in
-    let masked_too : masked e.rank f.key ≡ f.key = rw ranks other.key in
-    let fronts = sym_true e.rank e.key address a ∙ sym (sym_true e.rank f.key address agrees_too) in
-    sym route.key ∙ ap (λ t. t * 2 ^ (32 - e.rank)) fronts ∙ masked_too
+same_key address e f route other a b ranks = grind arith
 
 -- an entry of a table is a route
 stands_route : {V : Type 0} (es : List (Entry V)) (e : Entry V) → IsTable es → StandsIn es e → IsRoute e
@@ -97,34 +92,28 @@ best_is_unique address entries e r best =
     let reached = best_reaches address entries e best.stands best.agrees in
     let member = best_is_member address entries reached.0 reached.1 in
     let stands = (members_stand entries reached.0 r).1 member.0 in
-    let least = best.greatest reached.0 stands member.1 in
-    let ranks : e.rank ≡ reached.0.rank = omega (arith, least, reached.2) in
+    let ranks : e.rank ≡ reached.0.rank = omega (arith, reached.2, best.greatest reached.0 stands member.1) in
     let keys = same_key address e reached.0 (stands_route entries e r best.stands) (stands_route entries reached.0 r stands) best.agrees member.1 ranks in
-    let is = one_of_pair entries e reached.0 best.stands stands keys ranks in
-    reached.1 ∙ ap (λ x. Some x) (sym is)
+    reached.1 ∙ ap (λ x. Some x) (sym (one_of_pair entries e reached.0 best.stands stands keys ranks))
 
 -- an entry that an address doesn't agree with leaves those that it agrees with
 agreeing_stays : {V : Type 0} (address : ℕ) (es : List (Entry V)) (e : Entry V) → IsTable es → agrees e.rank e.key address ≡ false
     → agreeing address (with_entry e es) ≡ agreeing address es
 agreeing_stays address [] e r h = rw h refl
-agreeing_stays address (x ∷ xs) e r h = elim (with_parts e x xs r) [
-  | later p n is ↦ rw is (ap (λ t. cond (agrees x.rank x.key address) (x ∷ t) t) (agreeing_stays address xs e r.2 h))
-  | same p n gone is alone ↦ (let neither : agrees x.rank x.key address ≡ false = rw (p.0, p.1) h in rw (is, h, neither) refl)
-  | sooner p n gone is ↦ rw (is, h) refl
-]
+agreeing_stays address (x ∷ xs) e r h = grind (arith, with_parts, agreeing_stays address xs e r.2 h)
 
 pub best_stays : {V : Type 0} → BestStays V
-best_stays address entries e r h = ap (λ t. greatest t) (agreeing_stays address entries e r h)
+best_stays address entries e r h = search (agreeing_stays)
 
 -- of two entries of one rank the first counts
 greater_again : {V : Type 0} (e x : Entry V) (m : Option (Entry V)) → x.rank ≡ e.rank → greater e m ≡ greater e (greater x m)
-greater_again e x None h = grind (arith, nat_tests)
-greater_again e x (Some f) h = grind (arith, nat_tests)
+greater_again e x None h = grind arith
+greater_again e x (Some f) h = grind arith
 
 -- of two ranks their order doesn't count
 greater_swap : {V : Type 0} (e x : Entry V) (m : Option (Entry V)) → (x.rank ≡ e.rank → ⊥) → greater x (greater e m) ≡ greater e (greater x m)
-greater_swap e x None h = grind (arith, nat_tests)
-greater_swap e x (Some f) h = grind (arith, nat_tests)
+greater_swap e x None h = grind arith
+greater_swap e x (Some f) h = grind arith
 
 pub best_is_greater : {V : Type 0} → BestIsGreater V
 best_is_greater address [] e r route a = rw a refl
@@ -133,15 +122,13 @@ best_is_greater address (x ∷ xs) e r route a = elim (with_parts e x xs r) [
       elim (agrees x.rank x.key address) as (λ b. agrees x.rank x.key address ≡ b
       → best_of address (x ∷ with_entry e xs) ≡ greater e (best_of address (x ∷ xs))) [
         | true ↦ λ b. (
-            let apart : x.rank ≡ e.rank → ⊥ = λ ranks. (let keys = same_key address x e r.0 route b a ranks in grind (arith, nat_tests)) in
             best_here address x (with_entry e xs) b ∙ (ap (greater x) (best_is_greater address xs e r.2 route a)
-            ∙ (greater_swap e x (best_of address xs) apart ∙ ap (greater e) (sym (best_here address x xs b)))))
+            ∙ (greater_swap e x (best_of address xs) (λ ranks. (grind arith)) ∙ ap (greater e) (sym (best_here address x xs b)))))
         | false ↦ λ b. best_behind address x (with_entry e xs) b ∙ (best_is_greater address xs e r.2 route a
             ∙ ap (greater e) (sym (best_behind address x xs b)))
       ] refl)
   | same p n gone is alone ↦ (
-      let b : agrees x.rank x.key address ≡ true = rw (p.0, p.1) a in
-      rw is (best_here address e xs a ∙ (greater_again e x (best_of address xs) p.1 ∙ ap (greater e) (sym (best_here address x xs b)))))
+      rw is (best_here address e xs a ∙ (greater_again e x (best_of address xs) p.1 ∙ ap (greater e) (sym (best_here address x xs (rw (p.0, p.1) a))))))
   | sooner p n gone is ↦ rw is (best_here address e (x ∷ xs) a)
 ]
 
@@ -160,9 +147,7 @@ none_left : {V : Type 0} (address key rank : ℕ) (es : List (Entry V)) → IsTa
 none_left address key rank es r h None k = refl
 none_left address key rank es r h (Some e) k =
     let member = best_is_member address (without key rank es) e k in
-    let fails = none_agrees address es e h ((members_stand es e r).1 (members_of_without key rank es e member.0).0) in
-    let agrees_too = member.1 in
-    cc
+    cc (none_agrees address es e h ((members_stand es e r).1 (members_of_without key rank es e member.0).0))
 
 best_stays_by : {V : Type 0} (address key rank : ℕ) (es : List (Entry V)) → IsTable es → (m : Option (Entry V)) → best_of address es ≡ m
     → ((e : Entry V) → m ≡ Some e → ¬ (AreOnePair e.key e.rank key rank)) → best_of address (without key rank es) ≡ m
@@ -171,14 +156,14 @@ best_stays_by address key rank es r (Some e) h other = best_is_unique address (w
     (best_left key rank es e r (other e refl) (best_is_greatest address es e r h))
 
 pub best_stays_without : {V : Type 0} → BestStaysWithout V
-best_stays_without address key rank entries r other = best_stays_by address key rank entries r (best_of address entries) refl other
+best_stays_without address key rank entries r other = search (best_stays_by)
 
 -- taking out what was put in
 pub with_then_without : {V : Type 0} → WithThenWithout V
 with_then_without [] e r h = rw (own_pair e) refl
 with_then_without (x ∷ xs) e r h = elim (with_parts e x xs r) [
-  | later p n is ↦ (let absent : entry_at e.key e.rank xs ≡ None = rw n at h in rw (is, n) (ap (λ t. x ∷ t) (with_then_without xs e r.2 absent)))
-  | same p n gone is alone ↦ (let found : Some x ≡ None = rw n at h in cc)
+  | later p n is ↦ (rw (is, n) (ap (λ t. x ∷ t) (with_then_without xs e r.2 (rw n at h))))
+  | same p n gone is alone ↦ (cc)
   | sooner p n gone is ↦ rw (is, own_pair e) (without_absent e.key e.rank (x ∷ xs) h)
 ]
 
@@ -186,36 +171,31 @@ with_then_without (x ∷ xs) e r h = elim (with_parts e x xs r) [
 pub without_then_with : {V : Type 0} → WithoutThenWith V
 without_then_with [] e r h = cc
 without_then_with (x ∷ xs) e r h = elim (with_parts e x xs r) [
-  | later p n is ↦ (let there : StandsIn xs e =
-      rw n at h in rw n (with_later e x (without e.key e.rank xs) p ∙ ap (λ t. x ∷ t) (without_then_with xs e r.2 there)))
+  | later p n is ↦ (rw n (with_later e x (without e.key e.rank xs) p ∙ ap (λ t. x ∷ t) (without_then_with xs e r.2 (rw n at h))))
   | same p n gone is alone ↦ (
-      let found : Some x ≡ Some e = rw n at h in
-      let one : e ≡ x = cc in
-      rw (n, without_absent e.key e.rank xs gone) (alone ∙ ap (λ t. t ∷ xs) one))
-  | sooner p n gone is ↦ (let there : StandsIn xs e = rw n at h in let found = sym there ∙ gone in cc)
+      rw (n, without_absent e.key e.rank xs gone) (alone ∙ ap (λ t. t ∷ xs) cc))
+  | sooner p n gone is ↦ (cc)
 ]
 
 -- of two entries with one pair the last stays
 pub with_twice_is_last : {V : Type 0} → WithTwiceIsLast V
 with_twice_is_last entries e last p =
-    let keys : e.key ≡ last.key = p.0 in
-    let ranks : e.rank ≡ last.rank = p.1 in
     let before_last = λ (x : Entry _). precedes x last in
     let behind_last = λ (x : Entry _). precedes last x in
     let first : filter before_last (with_entry e entries) ≡ filter before_last entries =
     filter-append before_last (filter (λ x. precedes x e) entries) (e ∷ filter (λ x. precedes e x) entries)
-    ∙ (let fails : precedes e last ≡ false = grind (arith, nat_tests) in
+    ∙ (let fails : precedes e last ≡ false = grind arith in
     rw (
-      filter_filter before_last (λ x. precedes x e) true (λ x k. grind (arith, nat_tests)) entries,
+      filter_filter before_last (λ x. precedes x e) true (λ x k. grind arith) entries,
       fails,
-      filter_filter before_last (λ x. precedes e x) false (λ x k. grind (arith, nat_tests)) entries,
+      filter_filter before_last (λ x. precedes e x) false (λ x k. grind arith) entries,
     ) (append-nil (filter before_last entries))) in
     let second : filter behind_last (with_entry e entries) ≡ filter behind_last entries =
     filter-append behind_last (filter (λ x. precedes x e) entries) (e ∷ filter (λ x. precedes e x) entries)
-    ∙ (let fails : precedes last e ≡ false = grind (arith, nat_tests) in
+    ∙ (let fails : precedes last e ≡ false = grind arith in
     rw (
-      filter_filter behind_last (λ x. precedes x e) false (λ x k. grind (arith, nat_tests)) entries,
+      filter_filter behind_last (λ x. precedes x e) false (λ x k. grind arith) entries,
       fails,
-      filter_filter behind_last (λ x. precedes e x) true (λ x k. grind (arith, nat_tests)) entries,
+      filter_filter behind_last (λ x. precedes e x) true (λ x k. grind arith) entries,
     ) refl) in
     rw (first, second) refl

@@ -1,7 +1,6 @@
 -- The bit nodes on the way of a key to a part, and the one leaf that is on it.
-use Rattle.radix_tree.proofs.Words.{◌≡◌, ℕ, List, [], ◌∷◌, refl, sym, ap, ◌∙◌, subst, inl, inr, Id, Placed, Tree, leaf, fork, bit_at, Part, Way, Frame}
-use Rattle.radix_tree.proofs.Words.{on_zero, on_one, plug, low_past, Lead, Lodged}
-use Rattle.radix_tree.proofs.AddressBits.{zero_not_one}
+use Rattle.radix_tree.proofs.Words.{arith, ◌≡◌, ℕ, List, [], ◌∷◌, refl, sym, ap, ◌∙◌, inl, inr, Id, Placed, Tree, leaf, fork, Part, Way, Frame, on_zero, on_one}
+use Rattle.radix_tree.proofs.Words.{plug, low_past, Lead, Lodged}
 
 module _ {V : Type 0} where
   pub record OnWay (m : Lodged V) (key : ℕ) (whole at : Part m) : Type 0 where
@@ -12,12 +11,7 @@ module _ {V : Type 0} where
 
   way_from : (m : Lodged V) (key : ℕ) (whole mid at : Part m) (ups : List (Part m)) → Way key whole mid ups → (fs : List (Frame V))
       → mid.tree ≡ plug fs at.tree → Lead key fs → at.low ≡ low_past mid.low fs → OnWay m key whole at
-  way_from m key whole mid at [] way fs was lead lowest = record {
-    frames = fs;
-    was = sym (ap (λ p. p.tree) way) ∙ was;
-    lead = lead;
-    lowest = lowest ∙ ap (λ p. low_past p.low fs) way;
-  }
+  way_from m key whole mid at [] way fs was lead lowest = grind arith
   way_from m key whole mid at (p ∷ ps) way fs was lead lowest =
       let b = way.0 in
       let f = b.at in
@@ -52,19 +46,12 @@ module _ {V : Type 0} where
   one_leaf key [] (on_one j c u ∷ gs) x y xs ys e one other = absurd (not_fork e)
   one_leaf key (on_zero i b t ∷ fs) [] x y xs ys e one other = absurd (not_fork (sym e))
   one_leaf key (on_one i b s ∷ fs) [] x y xs ys e one other = absurd (not_fork (sym e))
-  one_leaf key (on_zero i b t ∷ fs) (on_zero j c v ∷ gs) x y xs ys e one other =
-      one_leaf key fs gs x y xs ys (zero_of i j b c (plug fs (leaf x xs)) t (plug gs (leaf y ys)) v e) one.1 other.1
-  one_leaf key (on_zero i b t ∷ fs) (on_one j c u ∷ gs) x y xs ys e one other =
-      absurd (zero_not_one (subst (λ n. bit_at n key ≡ 0) (bit_of i j b c e) one.0) other.0)
-  one_leaf key (on_one i b s ∷ fs) (on_zero j c v ∷ gs) x y xs ys e one other =
-      absurd (zero_not_one other.0 (subst (λ n. bit_at n key ≡ 1) (bit_of i j b c e) one.0))
-  one_leaf key (on_one i b s ∷ fs) (on_one j c u ∷ gs) x y xs ys e one other =
-      one_leaf key fs gs x y xs ys (one_of i j b c s (plug fs (leaf x xs)) u (plug gs (leaf y ys)) e) one.1 other.1
+  one_leaf key (on_zero i b t ∷ fs) (on_zero j c v ∷ gs) x y xs ys e one other = one_leaf key fs gs x y xs ys (search) one.1 other.1
+  one_leaf key (on_zero i b t ∷ fs) (on_one j c u ∷ gs) x y xs ys e one other = search
+  one_leaf key (on_one i b s ∷ fs) (on_zero j c v ∷ gs) x y xs ys e one other = search
+  one_leaf key (on_one i b s ∷ fs) (on_one j c u ∷ gs) x y xs ys e one other = one_leaf key fs gs x y xs ys (search) one.1 other.1
 
   -- a leaf on the way of a key is the only one
   pub same_leaf : (m : Lodged V) (key : ℕ) (whole p q : Part m) (ups vps : List (Part m)) (x y : Placed V) (xs ys : List (Placed V)) → Way key whole p ups
       → Way key whole q vps → p.tree ≡ leaf x xs → q.tree ≡ leaf y ys → leaf x xs ≡ leaf y ys
-  same_leaf m key whole p q ups vps x y xs ys one other left right =
-      let a = on_way m key whole p ups one in
-      let b = on_way m key whole q vps other in
-      one_leaf key a.frames b.frames x y xs ys (sym (ap (plug a.frames) left) ∙ sym a.was ∙ b.was ∙ ap (plug b.frames) right) a.lead b.lead
+  same_leaf m key whole p q ups vps x y xs ys one other left right = grind (arith, on_way, one_leaf)

@@ -1,5 +1,5 @@
 -- What holds of all elements of a list, and what is filtered from it or found in it.
-use Rattle.radix_tree.proofs.Words.{◌≡◌, Bool, true, false, cond, List, [], ◌∷◌, ◌++◌, filter, Option, Some, None, refl, ap, subst, find, AllByRecursion}
+use Rattle.radix_tree.proofs.Words.{arith, ◌≡◌, Bool, true, false, cond, List, [], ◌∷◌, ◌++◌, filter, Option, Some, None, refl, ap, find, AllByRecursion}
 use Rattle.radix_tree.proofs.Words.{option_or}
 
 module _ {X : Type 0} (P : X → Type 0) where
@@ -18,19 +18,17 @@ module _ {X : Type 0} (P : X → Type 0) where
   -- what a filter leaves has passed its test
   pub all_passed : (p : X → Bool) (xs : List X) → AllByRecursion P xs → AllByRecursion (λ x. P x × (p x ≡ true)) (filter p xs)
   all_passed p [] h = tt
-  all_passed p (x ∷ xs) h = elim (p x) as (λ b. p x ≡ b → AllByRecursion (λ y. P y × (p y ≡ true)) (cond b (x ∷ filter p xs) (filter p xs)))
-      [ true ↦ λ k. ((h.0, k), all_passed p xs h.1) | false ↦ λ k. all_passed p xs h.1 ] refl
+  all_passed p (x ∷ xs) h = grind (arith, all_passed p xs h.1)
 
   pub all_filter : (p : X → Bool) (xs : List X) → AllByRecursion P xs → AllByRecursion P (filter p xs)
   all_filter p [] h = tt
-  all_filter p (x ∷ xs) h =
-      elim (p x) as (λ b. AllByRecursion P (cond b (x ∷ filter p xs) (filter p xs))) [ true ↦ (h.0, all_filter p xs h.1) | false ↦ all_filter p xs h.1 ]
+  all_filter p (x ∷ xs) h = grind (arith, all_filter p xs h.1)
 
   -- what is found passes the test
   pub all_find : (q : X → Bool) (xs : List X) (x : X) → AllByRecursion P xs → find q xs ≡ Some x → P x × (q x ≡ true)
   all_find q [] x h k = cc
   all_find q (y ∷ ys) x h k = elim (q y) as (λ b. q y ≡ b → cond b (Some y) (find q ys) ≡ Some x → P x × (q x ≡ true))
-      [ true ↦ λ e s. (let same : y ≡ x = cc in subst (λ z. P z × (q z ≡ true)) same (h.0, e)) | false ↦ λ e s. all_find q ys x h.1 s ] refl k
+      [ true ↦ grind arith | false ↦ λ e s. all_find q ys x h.1 s ] refl k
 
 module _ {X : Type 0} where
   pub filter_all : (p : X → Bool) (xs : List X) → AllByRecursion (λ x. p x ≡ true) xs → filter p xs ≡ xs
@@ -49,27 +47,13 @@ module _ {X : Type 0} where
   pub find_filter : (q p : X → Bool) (b : Bool) → ((x : X) → q x ≡ true → p x ≡ b) → (xs : List X) → find q (filter p xs) ≡ cond b (find q xs) None
   find_filter q p true same [] = refl
   find_filter q p false same [] = refl
-  find_filter q p b same (x ∷ xs) =
-      elim (q x) as (λ t. q x ≡ t → find q (cond (p x) (x ∷ filter p xs) (filter p xs)) ≡ cond b (cond t (Some x) (find q xs)) None) [
-        | true ↦ λ k. rw (same x k) (elim b as (λ c. find q (filter p xs) ≡ cond c (find q xs) None
-            → find q (cond c (x ∷ filter p xs) (filter p xs)) ≡ cond c (Some x) None)
-            [ true ↦ λ r. rw k refl | false ↦ λ r. r ] (find_filter q p b same xs))
-        | false ↦ λ k. elim (p x) as (λ c. find q (cond c (x ∷ filter p xs) (filter p xs)) ≡ cond b (find q xs) None)
-            [ true ↦ rw k (find_filter q p b same xs) | false ↦ find_filter q p b same xs ]
-      ] refl
+  find_filter q p b same (x ∷ xs) = grind (arith, find_filter q p b same xs)
 
   -- what a filter takes stays in a filtered list or goes, likewise
   pub filter_filter : (t p : X → Bool) (b : Bool) → ((x : X) → t x ≡ true → p x ≡ b) → (xs : List X) → filter t (filter p xs) ≡ cond b (filter t xs) []
   filter_filter t p true same [] = refl
   filter_filter t p false same [] = refl
-  filter_filter t p b same (x ∷ xs) =
-      elim (t x) as (λ k. t x ≡ k → filter t (cond (p x) (x ∷ filter p xs) (filter p xs)) ≡ cond b (cond k (x ∷ filter t xs) (filter t xs)) []) [
-        | true ↦ λ k. rw (same x k) (elim b as (λ c. filter t (filter p xs) ≡ cond c (filter t xs) []
-            → filter t (cond c (x ∷ filter p xs) (filter p xs)) ≡ cond c (x ∷ filter t xs) [])
-            [ true ↦ λ r. rw k (ap (λ l. x ∷ l) r) | false ↦ λ r. r ] (filter_filter t p b same xs))
-        | false ↦ λ k. elim (p x) as (λ c. filter t (cond c (x ∷ filter p xs) (filter p xs)) ≡ cond b (filter t xs) [])
-            [ true ↦ rw k (filter_filter t p b same xs) | false ↦ filter_filter t p b same xs ]
-      ] refl
+  filter_filter t p b same (x ∷ xs) = grind (arith, filter_filter t p b same xs)
 
   pub or_none : (o : Option X) → option_or o None ≡ o
   or_none None = refl

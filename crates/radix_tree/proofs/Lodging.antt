@@ -1,18 +1,17 @@
 -- A room in which a route is lodged, as a leaf and as a bit node.
-use Rattle.radix_tree.proofs.{RoomReads.inside, RoomReads.none_some, RoomReads.Has-leaf, PartRooms.frame, Parts.fork_stands, Beside.misses_leaf}
-use Rattle.radix_tree.proofs.{Beside.misses_bit, Beside.named_leaf, Beside.named_bit, Beside.not_new, Beside.not_new_bit, Beside.not_above}
-use Rattle.radix_tree.proofs.{Facts.off_room, Facts.own_room}
-use Rattle.radix_tree.proofs.Words.{◌≡◌, ℕ, ◌≤◌, List, [], ◌∷◌, Option, Some, None, refl, sym, ap, ◌∙◌, get, Has, Id, BitNode, Leaf, Node, BitOf, fork}
-use Rattle.radix_tree.proofs.Words.{LeafPart, BitPart, Part, leaf_in, bit_in, leaves_in, bits_in, bit_part, name_of, ForkAt, Way, leaves_at, forks_at}
-use Rattle.radix_tree.proofs.Words.{name_child, with_child, IsSpot, IsLodged, IsBeside, forked, placed, lodge_leaf, put_leaf, put_bit, with_leaf}
-use Rattle.radix_tree.proofs.Words.{lift_leaf, lift_bit, KeepsLeaves, KeepsBits, Entry, Lodged}
+use Rattle.radix_tree.proofs.{RoomReads.none_some, RoomReads.Has-leaf, PartRooms.frame, Parts.fork_stands, Beside.misses_bit, Beside.not_new}
+use Rattle.radix_tree.proofs.{Beside.not_new_bit, Beside.not_above, Facts.off_room, Facts.own_room}
+use Rattle.radix_tree.proofs.Words.{arith, ◌≡◌, ℕ, ◌≤◌, List, [], ◌∷◌, Option, Some, None, refl, sym, ap, ◌∙◌, get, Has, Id, BitNode, Leaf, Node, BitOf}
+use Rattle.radix_tree.proofs.Words.{LeafPart, BitPart, Part, leaves_in, bits_in, bit_part, name_of, ForkAt, Way, leaves_at, forks_at, name_child, IsSpot}
+use Rattle.radix_tree.proofs.Words.{IsLodged, IsBeside, forked, placed, lodge_leaf, put_leaf, put_bit, lift_leaf, lift_bit, KeepsLeaves, KeepsBits, Entry}
+use Rattle.radix_tree.proofs.Words.{Lodged}
 use Rattle.radix_nodes.specs.Naming.{number_of}
 
 -- a room that isn't the bit node above isn't turned
 pub new_turn : (above : Option Id) (key n : ℕ) (to : Node) (said : Option BitPart) → ((over : Id) → above ≡ Some over → n ≡ number_of over → ⊥)
     → name_child above key to n said ≡ said
 new_turn None key n to said other = refl
-new_turn (Some over) key n to said other = off_room over n (with_child key to said) said (other over refl)
+new_turn (Some over) key n to said other = grind arith
 
 module _ {V : Type 0} where
   pub Has-lodged_leaf : (new : Lodged V) (room : Id) (value : V) (l : Leaf) (said : Option (LeafPart V))
@@ -24,8 +23,7 @@ module _ {V : Type 0} where
       → leaves_in m (number_of room) ≡ lodge_leaf room value first (number_of room) said
       → leaves_in new (number_of room) ≡ put_leaf room then_ (number_of room) (leaves_in m (number_of room))
       → leaves_in new (number_of room) ≡ Some (record { block = room.block; value = value; leaf = then_ })
-  leaf_again m new room value first then_ said was is = is ∙ own_room room (with_leaf then_ (leaves_in m (number_of room))) (leaves_in m (number_of room))
-      ∙ ap (with_leaf then_) (was ∙ own_room room (Some (record { block = room.block; value = value; leaf = first })) said)
+  leaf_again m new room value first then_ said was is = grind arith
 
   pub Has-again : (m new : Lodged V) (room : Id) (value : V) (first then_ : Leaf) (said : Option (LeafPart V))
       → leaves_in m (number_of room) ≡ lodge_leaf room value first (number_of room) said
@@ -39,17 +37,7 @@ module _ {V : Type 0} where
       → KeepsLeaves m3 m4 → ((k : ℕ) → bits_in m4 k ≡ put_bit room (Some n) k (bits_in m3 k))
       → then_ ≡ record { key = e.key; rank = e.rank; above = Some room; next = None; previous = None } → bit_part room.block (Some n) ≡ Some p
       → IsLodged m1 m4 room e p
-  lodged m1 m2 m3 m4 room e first then_ n p free leaves2 bits2 leaves3 bits3 leaves4 bits4 leaf_is node_is = record {
-    no_leaf = ap leaf_in free;
-    no_bit = ap bit_in free;
-    leaf = leaves4 (number_of room) ∙ leaf_again m2 m3 room e.value first then_ (leaves_in m1 (number_of room)) (leaves2 (number_of room))
-        (leaves3 (number_of room))
-        ∙ ap (λ l. Some (record { block = room.block; value = e.value; leaf = l })) leaf_is;
-    bit_node = bits4 (number_of room) ∙ own_room room (bit_part room.block (Some n)) (bits_in m3 (number_of room)) ∙ node_is;
-    leaves = λ k other. leaves4 k ∙ leaves3 k ∙ off_room room k (with_leaf then_ (leaves_in m2 k)) (leaves_in m2 k) other
-        ∙ leaves2 k ∙ off_room room k (Some (record { block = room.block; value = e.value; leaf = first })) (leaves_in m1 k) other;
-    bits = λ k other. bits4 k ∙ off_room room k (bit_part room.block (Some n)) (bits_in m3 k) other ∙ bits3 k ∙ bits2 k;
-  }
+  lodged m1 m2 m3 m4 room e first then_ n p free leaves2 bits2 leaves3 bits3 leaves4 bits4 leaf_is node_is = grind (arith, off_room)
 
   -- ---- parts that stay
   abbrev pub stays : (m new : Lodged V) (p : Part m) → ((n : ℕ) → 1 ≤ leaves_at n p.tree → leaves_in new n ≡ leaves_in m n)
@@ -64,12 +52,8 @@ module _ {V : Type 0} where
 
   pub over_at : (m : Lodged V) (key : ℕ) (whole at : Part m) (ups : List (Part m)) {above : Option Id} {over : Id} → Way key whole at ups → whole.above ≡ None
       → at.above ≡ above → above ≡ Some over → (p : Part m) × ForkAt p over
-  over_at m key whole at [] way top is some = absurd (none_some (sym top ∙ sym (ap (λ p. p.above) way) ∙ is ∙ some))
-  over_at m key whole at (p ∷ ps) {over = over} way top is some =
-      let b = way.0 in
-      let f = b.at in
-      let same = inside (sym b.above ∙ is ∙ some) in
-      (p, record { bit = f.bit; zero = f.zero; one = f.one; is = f.is ∙ ap (λ i. fork i f.bit f.zero f.one) same })
+  over_at m key whole at [] way top is some = absurd (grind arith)
+  over_at m key whole at (p ∷ ps) {over = over} way top is some = (p, grind arith)
 
   module _ {m new : Lodged V} {key bit : ℕ} {room : Id} {e : Entry V} (node : BitPart) {whole : Part m} {above : Option Id} {below : Node}
       (s : IsSpot m key bit whole above below) (l : IsLodged m new room e node) where
@@ -78,14 +62,14 @@ module _ {V : Type 0} where
     over_there is =
         let o = over_at m key whole s.at s.ups s.way s.top s.above_is is in (
           stays m new o.0 (λ n some. l.leaves n (not_new o.0 room l.no_leaf n some)) (λ n some. l.bits n (not_new_bit o.0 room l.no_bit n some)),
-          record { bit = o.1.bit; zero = o.1.zero; one = o.1.one; is = o.1.is },
+          search,
         )
 
     -- and the part beneath it once that names the new bit node
     pub below_there : (turned : Lodged V) → KeepsLeaves new turned → ((n : ℕ) → bits_in turned n ≡ name_child above key (BitOf room) n (bits_in new n))
         → (p : Part turned) × (name_of p.tree ≡ below)
     below_there turned leaves bits = (
-      stays m turned s.at (λ n some. leaves n ∙ l.leaves n (not_new s.at room l.no_leaf n some))
+      stays m turned s.at (grind (arith, not_new, l.leaves, l.no_leaf))
           (λ n some. bits n ∙ ap (name_child above key (BitOf room) n) (l.bits n (not_new_bit s.at room l.no_bit n some))
           ∙ ap (λ o. name_child o key (BitOf room) n (bits_in m n)) (sym s.above_is)
           ∙ not_above m key whole s.at s.ups s.way s.top s.once (BitOf room) n some),
@@ -100,20 +84,5 @@ module _ {V : Type 0} where
       → ((n : ℕ) → bits_in last n ≡ lift_bit below (Some room) n (bits_in turned n)) → IsBeside m last bit (placed room e) above below
   beside {m = m} {new = new} turned last {room = room} {e = e} whole {above = above} {below = below} s l leaves bits lifted_leaves lifted_bits =
       let new_above : (over : Id) → above ≡ Some over → number_of room ≡ number_of over → ⊥ = λ over is same.
-      let o = over_at m e.key whole s.at s.ups s.way s.top s.above_is is in
-      none_some (sym l.no_bit ∙ ap (bits_in m) same ∙ (fork_stands o.1).0) in
-      record {
-        no_leaf = l.no_leaf;
-        no_bit = l.no_bit;
-        leaf = lifted_leaves (number_of room)
-            ∙ misses_leaf below (number_of room) (λ r is same. not_new s.at room l.no_leaf (number_of r) (named_leaf s.at.tree r (s.named ∙ is)) (sym same))
-            (Some room)
-            (leaves_in turned (number_of room)) ∙ leaves (number_of room) ∙ l.leaf;
-        bit_node = lifted_bits (number_of room)
-            ∙ misses_bit below (number_of room) (λ r is same. not_new_bit s.at room l.no_bit (number_of r) (named_bit s.at.tree r (s.named ∙ is)) (sym same))
-            (Some room)
-            (bits_in turned (number_of room)) ∙ bits (number_of room) ∙ new_turn above e.key (number_of room) (BitOf room)
-            (bits_in new (number_of room)) new_above ∙ l.bit_node;
-        leaves = λ n other. lifted_leaves n ∙ ap (lift_leaf below (Some room) n) (leaves n ∙ l.leaves n other);
-        bits = λ n other. lifted_bits n ∙ ap (lift_bit below (Some room) n) (bits n ∙ ap (name_child above e.key (BitOf room) n) (l.bits n other));
-      }
+      none_some (sym l.no_bit ∙ ap (bits_in m) same ∙ (fork_stands (over_at m e.key whole s.at s.ups s.way s.top s.above_is is).1).0) in
+      grind (arith, misses_bit, new_turn)

@@ -1,14 +1,12 @@
 -- A list of masks is cut, has another one behind it, gains a mask or loses one.
-use Rattle.radix_tree.proofs.Words.{◌≡◌, ℕ, ◌+◌, ◌<◌, ◌≤◌, if◌then◌else◌, List, [], ◌∷◌, ◌++◌, Option, Some, None, is_some, refl, sym, ap, ◌∙◌, subst}
-use Rattle.radix_tree.proofs.Words.{inr, inl, arith, eq-eqb, Id, Placed, IsAmong, MaskNode, MaskPart, Masks, leaves_in, heads_in, masks_in, mask_part}
-use Rattle.radix_tree.proofs.Words.{first_room, MasksStand, Falls, KeepsLeaves, KeepsHeads, put_mask, IsMasks, IsRanked, IsAside, IsNoRank, last_mask}
-use Rattle.radix_tree.proofs.Words.{head_linked, mask_linked, not_below, below, sorted_in, taken_out, Lodged}
-use Rattle.radix_tree.proofs.MaskLists.{falls_among, falls_wider, falls_not_below, falls_behind, falls_sorted, falls_taken, not_below_long, below_short}
-use Rattle.radix_tree.proofs.MaskLists.{below_long, not_below_among, below_among, taken_among, one_rank, ranked_among, among_ranked, marked_among}
-use Rattle.radix_tree.proofs.MaskLists.{among_appended}
-use Rattle.radix_tree.proofs.MaskLinks.{put_aside, some_none, aside_linked, marks_linked, stand_same, ranked_same, masks_same, linked, stands_back}
-use Rattle.radix_tree.proofs.MaskLinks.{back_stays, list_parted, nothing_behind}
-use Rattle.radix_tree.proofs.TreeMembers.{same_rank}
+use Rattle.radix_tree.proofs.Words.{◌≡◌, ℕ, ◌+◌, ◌≤◌, List, [], ◌∷◌, ◌++◌, Option, Some, None, is_some, refl, sym, ap, ◌∙◌, subst, inr, inl, arith, Id, Placed}
+use Rattle.radix_tree.proofs.Words.{IsAmong, MaskNode, MaskPart, Masks, leaves_in, heads_in, masks_in, first_room, MasksStand, Falls, KeepsLeaves, KeepsHeads}
+use Rattle.radix_tree.proofs.Words.{put_mask, IsMasks, IsRanked, IsAside, IsNoRank, last_mask, head_linked, mask_linked, not_below, below, sorted_in, taken_out}
+use Rattle.radix_tree.proofs.Words.{Lodged}
+use Rattle.radix_tree.proofs.MaskLists.{falls_among, falls_wider, falls_not_below, falls_behind, falls_sorted, falls_taken, below_short, not_below_among}
+use Rattle.radix_tree.proofs.MaskLists.{below_among, taken_among, one_rank, ranked_among, among_ranked, marked_among, among_appended}
+use Rattle.radix_tree.proofs.MaskLinks.{put_aside, aside_linked, marks_linked, stand_same, ranked_same, masks_same, linked, stands_back, back_stays}
+use Rattle.radix_tree.proofs.MaskLinks.{list_parted, nothing_behind}
 use Rattle.radix_nodes.specs.Naming.{number_of}
 
 module _ {V : Type 0} where
@@ -31,7 +29,7 @@ module _ {V : Type 0} where
         begins = first;
         stands =
             stand_same (masks_in m) (masks_in new) (below low ms) (back_stays m new (not_below low ms) (below low ms) None all.falls all.ranked last masks)
-            (stands_back (masks_in m) (not_below low ms) (below low ms) all.stands);
+            (search (stands_back));
         falls = falls_behind 0 34 low ms is.falls;
         ranked = among_ranked (leaves_in new) (below low ms) (λ y among. ranked_same m new y keeps
             (ranked_among (leaves_in m) ms is.ranked y (below_among 0 34 low ms is.falls y among).0));
@@ -40,7 +38,7 @@ module _ {V : Type 0} where
   -- ---- a list is appended
   all_long : (ms : List (Placed V)) → not_below 0 ms ≡ ms
   all_long [] = refl
-  all_long (x ∷ xs) = not_below_long 0 x xs (omega arith) ∙ ap (λ l. x ∷ l) (all_long xs)
+  all_long (x ∷ xs) = grind (arith, all_long xs)
 
   pub appended : (m new : Lodged V) (fork : Id) (ms ts : List (Placed V)) {before : Option Id} (tail : Option Id) → IsMasks m (heads_in m (number_of fork)) ms
       → IsMasks m tail ts → Falls 0 34 (ms ++ ts) → last_mask (not_below 0 ms) ≡ before → KeepsLeaves m new
@@ -52,18 +50,17 @@ module _ {V : Type 0} where
         | inl one ↦ ranked_among (leaves_in m) ms is.ranked y one
         | inr other ↦ ranked_among (leaves_in m) ts behind.ranked y other
       ]) in
-      linked m new fork ms [] ts tail (subst (IsMasks m (heads_in m (number_of fork))) (sym (nothing_behind ms)) is) end behind.begins keeps heads masks
+      linked m new fork ms [] ts tail (search (nothing_behind)) end behind.begins keeps heads masks
       (stand_same (masks_in m) (masks_in new) ts (back_stays m new ms ts tail falls ranked end masks) behind.stands) falls behind.ranked
 
   -- ---- a mask comes in
   put_own : (x : Placed V) {room : Id} (node : MaskNode) (said : Option MaskPart) → x.room ≡ room
       → put_mask room (Some node) (number_of x.room) said ≡ Some (record { block = x.room.block; next = node.next })
-  put_own x node said room_is = subst (λ i. put_mask i (Some node) (number_of x.room) said ≡ Some (record { block = x.room.block; next = node.next })) room_is
-      (ap (λ t. if t then mask_part x.room.block (Some node) else said) (eq-eqb (number_of x.room) (number_of x.room) refl))
+  put_own x node said room_is = grind arith
 
   -- no member of a list is in a room that is no mask node
   pub free_aside : (K : Masks) (ms : List (Placed V)) (room : Id) → MasksStand K ms → K (number_of room) ≡ None → IsAside (number_of room) ms
-  free_aside K ms room stands free y among same = some_none (ap K same ∙ free) (marked_among K ms stands y among)
+  free_aside K ms room stands free y among same = grind (arith, marked_among)
 
   pub sorted : (m between new : Lodged V) (fork : Id) (x : Placed V) (room : Id) (node : MaskNode) {rank : ℕ} (ms : List (Placed V)) {before : Option Id}
       → IsMasks m (heads_in m (number_of fork)) ms → x.room ≡ room → IsRanked (leaves_in m) x → masks_in m (number_of room) ≡ None → rank ≡ x.entry.rank
@@ -75,7 +72,6 @@ module _ {V : Type 0} where
   sorted m between new fork x room node ms {before = before} is room_is own free rank_is most no_rank last first keeps_one heads_one masks_one keeps heads
       masks =
       let last_is = subst (λ n. last_mask (not_below n ms) ≡ before) rank_is last in
-      let first_is = subst (λ n. first_room (below n ms) ≡ node.next) rank_is first in
       let aside = free_aside (masks_in m) ms room is.stands free in
       let is_one = masks_same m between keeps_one
       (λ y among. masks_one (number_of y.room) ∙ put_aside room (Some node) (number_of y.room) (masks_in m (number_of y.room)) (aside y among))
@@ -86,7 +82,7 @@ module _ {V : Type 0} where
       (masks_in between (number_of x.room)) last_is
       (λ y among same. aside y (not_below_among x.entry.rank ms y among).0 (same ∙ ap (λ i. (number_of i)) room_is))
       ∙ masks_one (number_of x.room) ∙ put_own x node (masks_in m (number_of x.room)) room_is
-      ∙ ap (λ o. Some (record { block = x.room.block; next = o })) (sym first_is) in
+      ∙ ap (λ o. Some (record { block = x.room.block; next = o })) (sym (subst (λ n. first_room (below n ms) ≡ node.next) rank_is first)) in
       let stands_behind = stand_same (masks_in between) (masks_in new) (below x.entry.rank ms)
       (back_stays between new (not_below x.entry.rank ms) (below x.entry.rank ms) (Some room) all.falls all.ranked last_is masks)
       (stands_back (masks_in between) (not_below x.entry.rank ms) (below x.entry.rank ms) all.stands) in
@@ -106,16 +102,8 @@ module _ {V : Type 0} where
       → below (x.entry.rank + 1) ms ≡ x ∷ below x.entry.rank ms
   below_next least top [] x falls among = absurd among
   below_next least top (z ∷ zs) x falls among = elim among [
-    | inl e ↦ let same = same_rank e in
-        let short : z.entry.rank < x.entry.rank + 1 = omega arith in
-        let long : x.entry.rank ≤ z.entry.rank = omega arith in
-        below_short (x.entry.rank + 1) z zs short ∙ ap (λ p. p ∷ zs) e
-        ∙ ap (λ l. x ∷ l) (sym (below_long x.entry.rank z zs long ∙ all_below least x.entry.rank zs (subst (λ n. Falls least n zs) same falls.2)))
-    | inr behind ↦ let less = (falls_among least z.entry.rank zs falls.2 x behind).1 in
-        let past : x.entry.rank + 1 ≤ z.entry.rank = omega arith in
-        let long : x.entry.rank ≤ z.entry.rank = omega arith in
-        below_long (x.entry.rank + 1) z zs past ∙ below_next least z.entry.rank zs x falls.2 behind
-        ∙ ap (λ l. x ∷ l) (sym (below_long x.entry.rank z zs long))
+    | inl e ↦ grind (arith, all_below)
+    | inr behind ↦ grind (arith, falls_among, below_next least z.entry.rank zs x falls.2 behind)
   ]
 
   -- the mask behind one of a list
@@ -137,7 +125,7 @@ module _ {V : Type 0} where
       let own = ranked_among (leaves_in m) ms is.ranked x among in
       let stays = λ (y : Placed V) (behind : IsAmong y (below x.entry.rank ms)).
       back_stays m between (not_below (x.entry.rank + 1) ms) (below (x.entry.rank + 1) ms) next all.falls all.ranked last_is masks y
-      (subst (IsAmong y) (sym (below_next 0 34 ms x is.falls among)) (inr behind)) in
+      (grind (arith, below_next)) in
       let list =
       linked m between fork (not_below (x.entry.rank + 1) ms) (below (x.entry.rank + 1) ms) (below x.entry.rank ms) next all last_is first keeps heads masks
       (stand_same (masks_in m) (masks_in between) (below x.entry.rank ms) stays (stands_at ms x is among).1) (falls_taken 0 34 x.entry.rank ms is.falls)
@@ -153,7 +141,4 @@ module _ {V : Type 0} where
   pub sorted_marks : (K J : Masks) (ms front : List (Placed V)) (room : Id) (node : MaskNode) {before : Option Id} (next : Option Id) (n : ℕ) → MasksStand K ms
       → K (number_of room) ≡ None → ((k : ℕ) → J k ≡ put_mask room (Some node) k (K k))
       → ((y : Placed V) → IsAmong y front → IsAmong y ms) → last_mask front ≡ before → is_some (mask_linked before next n (J n)) ≡ is_some (J n)
-  sorted_marks K J ms front room node next n stands free one within last = marks_linked J ms front next n
-      (stand_same K J ms (λ y among. one (number_of y.room) ∙ put_aside room (Some node) (number_of y.room) (K (number_of y.room))
-      (free_aside K ms room stands free y among))
-      stands) within last
+  sorted_marks K J ms front room node next n stands free one within last = grind (arith, marks_linked)

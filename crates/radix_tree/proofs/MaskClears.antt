@@ -1,21 +1,20 @@
 -- A walk along a list of masks, whose rooms are no mask nodes any more.
-use Rattle.radix_tree.proofs.{Scans.ended_at, TreeMembers.head_of, MaskWalks.listed_as, MaskWalks.next_told, MaskLinks.apart, MaskLinks.stand_same}
+use Rattle.radix_tree.proofs.{TreeMembers.head_of, MaskWalks.listed_as, MaskWalks.next_told, MaskLinks.apart, MaskLinks.stand_same}
 use Rattle.radix_tree.proofs.{MaskLinks.are_ranked_same, MaskLinks.put_aside}
-use Rattle.radix_tree.proofs.Words.{◌≡◌, ℕ, ◌+◌, ◌<◌, ◌≤◌, ◌==◌, ◌⊎◌, true, false, if◌then◌else◌, List, [], ◌∷◌, Option, Some, None, refl, sym, ap, ◌∙◌}
-use Rattle.radix_tree.proofs.Words.{subst, inl, inr, arith, eq-eqb, Id, MaskNode, Placed, IsAmong, LeafPart, Leaves, MaskPart, leaves_in, masks_in}
+use Rattle.radix_tree.proofs.Words.{◌≡◌, ℕ, ◌+◌, ◌<◌, ◌≤◌, ◌⊎◌, List, [], ◌∷◌, Option, Some, None, refl, sym, ap, ◌∙◌}
+use Rattle.radix_tree.proofs.Words.{subst, inl, inr, arith, Id, MaskNode, Placed, IsAmong, LeafPart, Leaves, MaskPart, leaves_in, masks_in}
 use Rattle.radix_tree.proofs.Words.{mask_part, first_room, MasksStand, Falls, KeepsLeaves, put_mask, IsMasks, IsRanked, AreRanked, IsAside, Lodged}
 use Rattle.radix_nodes.specs.Naming.{number_of}
 
 put_none : (room : Id) (n : ℕ) {said : Option MaskPart} → said ≡ None → put_mask room None n said ≡ None
-put_none room n {said = said} none = elim (n == number_of room) as (λ t. (if t then None else said) ≡ None) [ true ↦ refl | false ↦ none ]
+put_none room n {said = said} none = grind arith
 
 put_own_none : (room : Id) {n : ℕ} (said : Option MaskPart) → n ≡ number_of room → put_mask room None n said ≡ None
-put_own_none room {n = n} said same = ap (λ t. if t then None else said) (eq-eqb n (number_of room) same)
+put_own_none room {n = n} said same = grind arith
 
 put_fewer : (room : Id) (n : ℕ) (said was : Option MaskPart) → (said ≡ None) ⊎ (said ≡ was)
     → (put_mask room None n said ≡ None) ⊎ (put_mask room None n said ≡ was)
-put_fewer room n said was fewer =
-    elim (n == number_of room) as (λ t. ((if t then None else said) ≡ None) ⊎ ((if t then None else said) ≡ was)) [ true ↦ inl refl | false ↦ fewer ]
+put_fewer room n said was fewer = grind arith
 
 -- how many ranks there are up to that of a room
 abbrev pub ranks_in : {V : Type 0} → Option (LeafPart V) → ℕ
@@ -29,12 +28,11 @@ ranks_from L (Some room) = ranks_in (L (number_of room))
 module _ {V : Type 0} where
   -- the ranks of rooms fall along the list
   own_ranks : {L : Leaves V} {x : Placed V} (room : Id) → IsRanked L x → x.room ≡ room → ranks_from L (Some room) ≡ x.entry.rank + 1
-  own_ranks {L = L} room r room_is = ap (λ i. ranks_in (L (number_of i))) (sym room_is) ∙ ap ranks_in r.said ∙ ap (λ n. n + 1) r.rank
+  own_ranks {L = L} room r room_is = search
 
   ranks_behind : (L : Leaves V) (top : ℕ) (ms : List (Placed V)) → Falls 0 top ms → AreRanked L ms → ranks_from L (first_room ms) ≤ top
   ranks_behind L top [] falls ranked = omega arith
-  ranks_behind L top (x ∷ xs) falls ranked =
-      let own = own_ranks x.room ranked.0 refl in let less = falls.1 in omega arith
+  ranks_behind L top (x ∷ xs) falls ranked = grind arith
 
   -- a walk along a list, whose rooms are no mask nodes any more
   pub record Clearing (m now : Lodged V) (ms : List (Placed V)) (at : Option Id) : Type 0 where
@@ -50,23 +48,11 @@ module _ {V : Type 0} where
     pub fewer : (n : ℕ) → (masks_in now n ≡ None) ⊎ (masks_in now n ≡ masks_in m n)
 
   pub begun : {m : Lodged V} {first : Option Id} {ms : List (Placed V)} → IsMasks m first ms → Clearing m m ms first
-  begun {ms = ms} is = record {
-    rest = ms;
-    top = 34;
-    begins = is.begins;
-    stands = is.stands;
-    falls = is.falls;
-    ranked = is.ranked;
-    within = λ y among. among;
-    cleared = λ y among. inr among;
-    aside = λ n aside. refl;
-    fewer = λ n. inr refl;
-  }
+  begun {ms = ms} is = grind arith
 
   pub listed_at : {m now : Lodged V} {ms : List (Placed V)} {at : Option Id} {room : Id} → Clearing m now ms at → at ≡ Some room
       → (p : MaskPart) × (masks_in now (number_of room) ≡ Some p) × (p.block ≡ room.block)
-  listed_at {now = now} {room = room} w is =
-      let x = head_of w.rest (w.begins ∙ is) in listed_as now x.first x.behind (subst (MasksStand (masks_in now)) x.is w.stands) x.room_is
+  listed_at {now = now} {room = room} w is = let x = head_of w.rest (w.begins ∙ is) in listed_as now x.first x.behind (grind arith) x.room_is
 
   pub cleared_one : {m now : Lodged V} {ms : List (Placed V)} {at : Option Id} {room : Id} (new : Lodged V) (node : MaskNode)
       → Clearing m now ms at → at ≡ Some room → masks_in now (number_of room) ≡ mask_part room.block (Some node)
@@ -83,8 +69,7 @@ module _ {V : Type 0} where
       let first_among = w.within x.first (subst (IsAmong x.first) (sym x.is) (inl refl)) in
       let next = next_told now x.first x.behind node stands x.room_is said in
       let behind = ranks_behind (leaves_in new) x.first.entry.rank x.behind falls.2 ranked_now in
-      let fewer = ap (ranks_from (leaves_in new)) next in
-      let own = ap (ranks_from (leaves_in now)) is ∙ own_ranks room ranked.0 x.room_is in (
+      let fewer = ap (ranks_from (leaves_in new)) next in (
         record {
           rest = x.behind;
           top = x.first.entry.rank;
@@ -104,9 +89,9 @@ module _ {V : Type 0} where
           aside = λ n aside. masks n ∙ put_aside room None n (masks_in now n) (λ same. aside x.first first_among (number ∙ sym same)) ∙ w.aside n aside;
           fewer = λ n. subst (λ o. (o ≡ None) ⊎ (o ≡ masks_in m n)) (sym (masks n)) (put_fewer room n (masks_in now n) (masks_in m n) (w.fewer n));
         },
-        omega arith,
+        omega (arith, ap (ranks_from (leaves_in now)) is ∙ own_ranks room ranked.0 x.room_is),
       )
 
   pub ended : {m now : Lodged V} {ms : List (Placed V)} {at : Option Id} (w : Clearing m now ms at) → at ≡ None → (y : Placed V) → IsAmong y ms
       → masks_in now (number_of y.room) ≡ None
-  ended {now = now} w is y among = elim (w.cleared y among) [ inl none ↦ none | inr left ↦ absurd (ended_at w.rest (w.begins ∙ is) y left) ]
+  ended {now = now} w is y among = grind arith

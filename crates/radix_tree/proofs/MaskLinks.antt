@@ -1,8 +1,8 @@
 -- A list of masks, once a member has another one behind it.
 use Rattle.radix_tree.proofs.{RoomReads.inside, RoomReads.none_some, MaskWalks.Has-ranked}
-use Rattle.radix_tree.proofs.Words.{◌≡◌, ℕ, ◌==◌, true, false, if◌then◌else◌, List, [], ◌∷◌, ◌++◌, Option, Some, None, is_some, refl, sym, ap, ◌∙◌, subst}
-use Rattle.radix_tree.proofs.Words.{inl, inr, arith, eq-eqb, ne_eqb, eqb-true, Has, Id, Placed, IsAmong, MaskNode, Leaves, MaskPart, Masks, leaves_in}
-use Rattle.radix_tree.proofs.Words.{heads_in, masks_in, mask_part, first_room, MasksStand, Falls, KeepsLeaves, put_mask, IsMasks, IsRanked, AreRanked}
+use Rattle.radix_tree.proofs.Words.{◌≡◌, ℕ, true, List, [], ◌∷◌, ◌++◌, Option, Some, None, is_some, refl, sym, ap, ◌∙◌, subst}
+use Rattle.radix_tree.proofs.Words.{inl, inr, arith, eq-eqb, Has, Id, Placed, IsAmong, MaskNode, Leaves, MaskPart, Masks, leaves_in}
+use Rattle.radix_tree.proofs.Words.{heads_in, masks_in, first_room, MasksStand, Falls, KeepsLeaves, put_mask, IsMasks, IsRanked, AreRanked}
 use Rattle.radix_tree.proofs.Words.{IsAside, last_from, last_mask, head_linked, mask_linked, not_below, below, Lodged}
 use Rattle.radix_tree.proofs.MaskLists.{in_front, in_back, falls_among, parted, one_rank, ranked_among, among_ranked, marked_among, among_appended}
 use Rattle.radix_nodes.specs.Naming.{number_of}
@@ -11,19 +11,16 @@ use Rattle.radix_nodes.specs.Naming.{number_of}
 pub linked_aside : (before next : Option Id) (n : ℕ) (said : Option MaskPart) → ((room : Id) → before ≡ Some room → n ≡ number_of room → ⊥)
     → mask_linked before next n said ≡ said
 linked_aside None next n said aside = refl
-linked_aside (Some before) next n said aside =
-    ap (λ t. if t then Some (record { block = before.block; next = next }) else said) (ne_eqb n (number_of before) (aside before refl))
+linked_aside (Some before) next n said aside = grind arith
 
 -- a mask node that was listed still is
 pub linked_some : (before next : Option Id) (n : ℕ) (said : Option MaskPart) → ((room : Id) → before ≡ Some room → n ≡ number_of room → is_some said ≡ true)
     → is_some (mask_linked before next n said) ≡ is_some said
 linked_some None next n said was = refl
-linked_some (Some before) next n said was =
-    elim (n == number_of before) as (λ t. (n == number_of before) ≡ t → is_some (if t then Some (record { block = before.block; next = next }) else said)
-    ≡ is_some said) [ true ↦ λ e. sym (was before refl (eqb-true n (number_of before) e)) | false ↦ λ e. refl ] refl
+linked_some (Some before) next n said was = grind arith
 
 pub put_aside : (room : Id) (node : Option MaskNode) (n : ℕ) (said : Option MaskPart) → (n ≡ number_of room → ⊥) → put_mask room node n said ≡ said
-put_aside room node n said aside = ap (λ t. if t then mask_part room.block node else said) (ne_eqb n (number_of room) aside)
+put_aside room node n said aside = grind arith
 
 pub some_none : {o : Option MaskPart} → o ≡ None → is_some o ≡ true → ⊥
 some_none none some = cc
@@ -38,20 +35,19 @@ module _ {V : Type 0} where
   apart L low top [] falls ranked = tt
   apart L low top (x ∷ xs) falls ranked = (
     λ y among same.
-        let less = (falls_among low x.entry.rank xs falls.2 y among).1 in
-        let one = one_rank (ranked_among L xs ranked.1 y among) ranked.0 same in omega arith,
+        omega (arith, (falls_among low x.entry.rank xs falls.2 y among).1, one_rank (ranked_among L xs ranked.1 y among) ranked.0 same),
     apart L low x.entry.rank xs falls.2 ranked.1,
   )
 
   pub apart_front : (front back : List (Placed V)) → Apart (front ++ back) → Apart front
   apart_front [] back is = tt
-  apart_front (x ∷ xs) back is = (λ y among. is.0 y (in_front xs back y among), apart_front xs back is.1)
+  apart_front (x ∷ xs) back is = grind (arith, in_front, apart_front xs back is.1)
 
   pub apart_across : (front back : List (Placed V)) → Apart (front ++ back) → (x y : Placed V) → IsAmong x front → IsAmong y back
       → number_of y.room ≡ number_of x.room → ⊥
   apart_across [] back is x y one other = absurd one
   apart_across (z ∷ zs) back is x y one other = elim one [
-    | inl e ↦ λ same. is.0 y (in_back zs back y other) (same ∙ sym (ap (λ p. (number_of p.room)) e))
+    | inl e ↦ grind (arith, in_back)
     | inr behind ↦ apart_across zs back is.1 x y behind other
   ]
 
@@ -73,18 +69,15 @@ module _ {V : Type 0} where
   -- no member of another list is the last one
   not_last : (front : List (Placed V)) (n : ℕ) → IsAside n front → {before : Option Id} → last_mask front ≡ before → (room : Id) → before ≡ Some room
       → n ≡ number_of room → ⊥
-  not_last front n aside last room is same =
-      let x = last_among front (last ∙ is) in aside x.0 x.1 (ap (λ i. (number_of i)) x.2 ∙ sym same)
+  not_last front n aside last room is same = grind (arith, last_among)
 
   pub aside_linked : (front : List (Placed V)) {before : Option Id} (next : Option Id) (n : ℕ) (said : Option MaskPart) → last_mask front ≡ before
       → IsAside n front → mask_linked before next n said ≡ said
-  aside_linked front {before = before} next n said last aside = linked_aside before next n said (not_last front n aside last)
+  aside_linked front {before = before} next n said last aside = search (linked_aside, not_last)
 
   pub marks_linked : (K : Masks) (ms front : List (Placed V)) {before : Option Id} (next : Option Id) (n : ℕ) → MasksStand K ms
       → ((y : Placed V) → IsAmong y front → IsAmong y ms) → last_mask front ≡ before → is_some (mask_linked before next n (K n)) ≡ is_some (K n)
-  marks_linked K ms front {before = before} next n stands within last = linked_some before next n (K n) (λ room is same.
-      let x = last_among front (last ∙ is) in
-      ap (λ k. is_some (K k)) (same ∙ sym (ap (λ i. (number_of i)) x.2)) ∙ marked_among K ms stands x.0 (within x.0 x.1))
+  marks_linked K ms front {before = before} next n stands within last = grind (arith, last_among, marked_among)
 
   -- ---- the masks of other rooms say what they said
   pub stand_same : (K J : Masks) (ms : List (Placed V)) → ((x : Placed V) → IsAmong x ms → J (number_of x.room) ≡ K (number_of x.room)) → MasksStand K ms
@@ -102,23 +95,14 @@ module _ {V : Type 0} where
   pub masks_same : (m new : Lodged V) {first other : Option Id} {ms : List (Placed V)} → KeepsLeaves m new
       → ((y : Placed V) → IsAmong y ms → masks_in new (number_of y.room) ≡ masks_in m (number_of y.room)) → first ≡ other → IsMasks m first ms
       → IsMasks new other ms
-  masks_same m new {ms = ms} keeps same head is = record {
-    begins = is.begins ∙ head;
-    stands = stand_same (masks_in m) (masks_in new) ms same is.stands;
-    falls = is.falls;
-    ranked = are_ranked_same m new ms keeps is.ranked;
-  }
+  masks_same m new {ms = ms} keeps same head is = search (stand_same, are_ranked_same)
 
   -- ---- the last member of a front has another list behind it
   relinked : (K J : Masks) (front back behind : List (Placed V)) → MasksStand K (front ++ back) → Apart front
       → ((y : Placed V) → IsAmong y front → J (number_of y.room) ≡ mask_linked (last_mask front) (first_room behind) (number_of y.room) (K (number_of y.room)))
       → MasksStand J behind → MasksStand J (front ++ behind)
   relinked K J [] back behind stands is said after = after
-  relinked K J (x ∷ []) back behind stands is said after = (
-    said x (inl refl) ∙ ap (λ t. if t then Some (record { block = x.room.block; next = first_room behind }) else K (number_of x.room))
-        (eq-eqb (number_of x.room) (number_of x.room) refl),
-    after,
-  )
+  relinked K J (x ∷ []) back behind stands is said after = grind (arith, eq-eqb)
   relinked K J (x ∷ y ∷ ys) back behind stands is said after = (
     said x (inl refl) ∙ aside_linked (y ∷ ys) {before = last_mask (y ∷ ys)} (first_room behind) (number_of x.room) (K (number_of x.room)) refl is.0 ∙ stands.0,
     relinked K J (y ∷ ys) back behind stands.1 is.1 (λ z among. said z (inr among)) after,
@@ -130,9 +114,8 @@ module _ {V : Type 0} where
 
   head_relinked : (fork : Id) (front back behind : List (Placed V)) {old new : Option Id} → first_room (front ++ back) ≡ old
       → new ≡ head_linked fork (last_mask front) (first_room behind) (number_of fork) old → first_room (front ++ behind) ≡ new
-  head_relinked fork [] back behind {old = old} begins said =
-      sym (said ∙ ap (λ t. if t then first_room behind else old) (eq-eqb (number_of fork) (number_of fork) refl))
-  head_relinked fork (x ∷ xs) back behind {old = old} begins said = begins ∙ sym (said ∙ head_stays fork x xs (first_room behind) old)
+  head_relinked fork [] back behind {old = old} begins said = grind arith
+  head_relinked fork (x ∷ xs) back behind {old = old} begins said = grind (arith, head_stays)
 
   -- a list whose front's last member has another list behind it
   pub linked : (m new : Lodged V) (fork : Id) (front back behind : List (Placed V)) {before : Option Id} (next : Option Id)
@@ -166,9 +149,7 @@ module _ {V : Type 0} where
       → AreRanked (leaves_in m) (front ++ back) → last_mask front ≡ before
       → ((n : ℕ) → masks_in new n ≡ mask_linked before next n (masks_in m n)) → (y : Placed V) → IsAmong y back
       → masks_in new (number_of y.room) ≡ masks_in m (number_of y.room)
-  back_stays m new front back next falls ranked last masks y among =
-      masks (number_of y.room) ∙ aside_linked front next (number_of y.room) (masks_in m (number_of y.room)) last
-      (λ z one same. apart_across front back (apart (leaves_in m) 0 34 (front ++ back) falls ranked) z y one among (sym same))
+  back_stays m new front back next falls ranked last masks y among = grind (arith, aside_linked, apart_across, apart)
 
   pub list_of : {m : Lodged V} {head first : Option Id} {ms : List (Placed V)} → first ≡ head → IsMasks m head ms → IsMasks m first ms
   list_of {m = m} {ms = ms} same is = subst (λ o. IsMasks m o ms) (sym same) is

@@ -1,24 +1,18 @@
 -- The members of a list of masks, and of what comes of it.
-use Rattle.radix_tree.proofs.{RoomReads.inside, TreeMembers.tree_said}
-use Rattle.std.proofs.lemmas.Bool.{ltb-true, ltb-false, lt-ltb, le-ltb}
-use Rattle.radix_tree.proofs.Words.{◌≡◌, ℕ, ◌+◌, ◌<◌, ◌≤◌, ◌⊎◌, true, false, nat_lt, if◌then◌else◌, List, [], ◌∷◌, ◌++◌, Option, is_some, refl, sym, ap}
-use Rattle.radix_tree.proofs.Words.{◌∙◌, subst, inl, inr, arith, cases_eq, Id, Placed, IsAmong, IsIn, Leaves, Masks, Part, leaves_in, bits_in, masks_in}
-use Rattle.radix_tree.proofs.Words.{leaf_part, MasksStand, Falls, IsMarked, IsMaskList, IsMasks, IsRanked, AreRanked, IsNoRank, not_below, below}
-use Rattle.radix_tree.proofs.Words.{sorted_in, taken_out, Lodged}
+use Rattle.radix_tree.proofs.{TreeMembers.tree_said}
+use Rattle.radix_tree.proofs.Words.{◌≡◌, ℕ, ◌+◌, ◌<◌, ◌≤◌, ◌⊎◌, List, [], ◌∷◌, ◌++◌, Option, is_some, refl, sym, ap, subst, inl, inr, arith, cases_eq, Id}
+use Rattle.radix_tree.proofs.Words.{Placed, IsAmong, IsIn, Leaves, Masks, Part, leaves_in, bits_in, masks_in, MasksStand, Falls, IsMarked, IsMaskList, IsMasks}
+use Rattle.radix_tree.proofs.Words.{IsRanked, AreRanked, IsNoRank, not_below, below, sorted_in, taken_out, Lodged}
 use Rattle.radix_nodes.specs.Naming.{number_of}
 
 pub short_or_long : (rank low : ℕ) → (rank < low) ⊎ (low ≤ rank)
-short_or_long rank low = elim (nat_lt rank low) as (λ t. nat_lt rank low ≡ t → (rank < low) ⊎ (low ≤ rank)) [
-  | true ↦ λ e. inl (ltb-true rank low e)
-  | false ↦ λ e. inr (ltb-false rank low e)
-] refl
+short_or_long rank low = grind arith
 
 module _ {V : Type 0} where
   -- ---- two lists
   pub among_appended : (ms ts : List (Placed V)) (y : Placed V) → IsAmong y (ms ++ ts) → IsAmong y ms ⊎ IsAmong y ts
   among_appended [] ts y among = inr among
-  among_appended (x ∷ xs) ts y among =
-      elim among [ inl e ↦ inl (inl e) | inr behind ↦ elim (among_appended xs ts y behind) [ inl front ↦ inl (inr front) | inr back ↦ inr back ] ]
+  among_appended (x ∷ xs) ts y among = elim among [ inl e ↦ inl (inl e) | inr behind ↦ grind (arith, among_appended xs ts y behind) ]
 
   pub in_front : (ms ts : List (Placed V)) (y : Placed V) → IsAmong y ms → IsAmong y (ms ++ ts)
   in_front [] ts y among = absurd among
@@ -32,78 +26,58 @@ module _ {V : Type 0} where
   pub falls_wider : (low top less more : ℕ) (ms : List (Placed V)) → Falls low top ms → less ≤ low → top ≤ more → Falls less more ms
   falls_wider low top less more [] falls least most = tt
   falls_wider low top less more (x ∷ xs) falls least most =
-      let long = falls.0 in let short = falls.1 in
       (omega arith, omega arith, falls_wider low x.entry.rank less x.entry.rank xs falls.2 least (omega arith))
 
   pub falls_among : (low top : ℕ) (ms : List (Placed V)) → Falls low top ms → (y : Placed V) → IsAmong y ms → (low ≤ y.entry.rank) × (y.entry.rank < top)
   falls_among low top [] falls y among = absurd among
   falls_among low top (x ∷ xs) falls y among = elim among [
-    | inl e ↦ subst (λ p. (low ≤ p.entry.rank) × (p.entry.rank < top)) e (falls.0, falls.1)
-    | inr behind ↦ let between = falls_among low x.entry.rank xs falls.2 y behind in
-        let first = falls.1 in let lower = between.1 in
-        let most : y.entry.rank < top = omega arith in (between.0, most)
+    | inl e ↦ grind arith
+    | inr behind ↦ grind (arith, falls_among low x.entry.rank xs falls.2 y behind)
   ]
 
   pub falls_appended : (low middle top : ℕ) (ms ts : List (Placed V)) → Falls middle top ms → Falls low middle ts → low ≤ middle → middle ≤ top
       → Falls low top (ms ++ ts)
-  falls_appended low middle top [] ts longer shorter least most = falls_wider low middle low top ts shorter (omega arith) most
+  falls_appended low middle top [] ts longer shorter least most = grind (arith, falls_wider)
   falls_appended low middle top (x ∷ xs) ts longer shorter least most =
-      let long = longer.0 in
-      (omega arith, longer.1, falls_appended low middle x.entry.rank xs ts longer.2 shorter least long)
+      (omega arith, longer.1, falls_appended low middle x.entry.rank xs ts longer.2 shorter least longer.0)
 
   -- ---- the members before the first one below a rank, and the others
   pub not_below_short : (low : ℕ) (x : Placed V) (xs : List (Placed V)) → x.entry.rank < low → not_below low (x ∷ xs) ≡ []
-  not_below_short low x xs short = ap (λ t. if t then [] else x ∷ not_below low xs) (lt-ltb x.entry.rank low short)
+  not_below_short low x xs short = grind arith
 
   pub not_below_long : (low : ℕ) (x : Placed V) (xs : List (Placed V)) → low ≤ x.entry.rank → not_below low (x ∷ xs) ≡ x ∷ not_below low xs
-  not_below_long low x xs long = ap (λ t. if t then [] else x ∷ not_below low xs) (le-ltb x.entry.rank low long)
+  not_below_long low x xs long = grind arith
 
   pub below_short : (low : ℕ) (x : Placed V) (xs : List (Placed V)) → x.entry.rank < low → below low (x ∷ xs) ≡ x ∷ xs
-  below_short low x xs short = ap (λ t. if t then x ∷ xs else below low xs) (lt-ltb x.entry.rank low short)
+  below_short low x xs short = grind arith
 
   pub below_long : (low : ℕ) (x : Placed V) (xs : List (Placed V)) → low ≤ x.entry.rank → below low (x ∷ xs) ≡ below low xs
-  below_long low x xs long = ap (λ t. if t then x ∷ xs else below low xs) (le-ltb x.entry.rank low long)
+  below_long low x xs long = grind arith
 
   -- together they are all
   pub parted : (low : ℕ) (ms : List (Placed V)) → ms ≡ not_below low ms ++ below low ms
   parted low [] = refl
-  parted low (x ∷ xs) = elim (short_or_long x.entry.rank low) [
-    | inl short ↦ sym (ap (λ l. l ++ below low (x ∷ xs)) (not_below_short low x xs short) ∙ below_short low x xs short)
-    | inr long ↦ ap (λ l. x ∷ l) (parted low xs)
-        ∙ sym (ap (λ l. l ++ below low (x ∷ xs)) (not_below_long low x xs long) ∙ ap (λ l. (x ∷ not_below low xs) ++ l) (below_long low x xs long))
-  ]
+  parted low (x ∷ xs) = grind (arith, parted low xs)
 
   pub falls_not_below : (least top low : ℕ) (ms : List (Placed V)) → Falls least top ms → Falls low top (not_below low ms)
   falls_not_below least top low [] falls = tt
-  falls_not_below least top low (x ∷ xs) falls = elim (short_or_long x.entry.rank low) [
-    | inl short ↦ subst (Falls low top) (sym (not_below_short low x xs short)) tt
-    | inr long ↦ subst (Falls low top) (sym (not_below_long low x xs long)) (long, falls.1, falls_not_below least x.entry.rank low xs falls.2)
-  ]
+  falls_not_below least top low (x ∷ xs) falls = grind (arith, falls_not_below least x.entry.rank low xs falls.2)
 
   pub falls_below : (least top low : ℕ) (ms : List (Placed V)) → Falls least top ms → Falls least low (below low ms)
   falls_below least top low [] falls = tt
-  falls_below least top low (x ∷ xs) falls = elim (short_or_long x.entry.rank low) [
-    | inl short ↦ subst (Falls least low) (sym (below_short low x xs short)) (falls.0, short, falls.2)
-    | inr long ↦ subst (Falls least low) (sym (below_long low x xs long)) (falls_below least x.entry.rank low xs falls.2)
-  ]
+  falls_below least top low (x ∷ xs) falls = grind (arith, falls_below least x.entry.rank low xs falls.2)
 
   pub falls_behind : (least top low : ℕ) (ms : List (Placed V)) → Falls least top ms → Falls least top (below low ms)
   falls_behind least top low [] falls = tt
-  falls_behind least top low (x ∷ xs) falls =
-      let first = falls.1 in
-      elim (short_or_long x.entry.rank low) [
-        | inl short ↦ subst (Falls least top) (sym (below_short low x xs short)) falls
-        | inr long ↦ subst (Falls least top) (sym (below_long low x xs long))
-            (falls_wider least x.entry.rank least top (below low xs) (falls_behind least x.entry.rank low xs falls.2) (omega arith) (omega arith))
-      ]
+  falls_behind least top low (x ∷ xs) falls = grind (arith, falls_wider, falls_behind least x.entry.rank low xs falls.2)
 
   pub not_below_among : (low : ℕ) (ms : List (Placed V)) (y : Placed V) → IsAmong y (not_below low ms) → IsAmong y ms × (low ≤ y.entry.rank)
   not_below_among low [] y among = absurd among
   not_below_among low (x ∷ xs) y among = elim (short_or_long x.entry.rank low) [
-    | inl short ↦ absurd (subst (IsAmong y) (not_below_short low x xs short) among)
+    | inl short ↦ grind arith
     | inr long ↦ elim (subst (IsAmong y) (not_below_long low x xs long) among) [
       | inl e ↦ (inl e, subst (λ p. low ≤ p.entry.rank) e long)
-      | inr behind ↦ let rest = not_below_among low xs y behind in (inr rest.0, rest.1)
+      | inr behind ↦ grind (arith, not_below_among low xs y behind)
     ]
   ]
 
@@ -119,77 +93,65 @@ module _ {V : Type 0} where
   among_not_below least top low ms falls y among long =
       elim (among_appended (not_below low ms) (below low ms) y (subst (IsAmong y) (parted low ms) among)) [
         | inl front ↦ front
-        | inr back ↦ let short = (below_among least top low ms falls y back).1 in absurd (omega arith)
+        | inr back ↦ grind (arith, below_among)
       ]
 
   pub among_below : (low : ℕ) (ms : List (Placed V)) (y : Placed V) → IsAmong y ms → y.entry.rank < low → IsAmong y (below low ms)
   among_below low ms y among short = elim (among_appended (not_below low ms) (below low ms) y (subst (IsAmong y) (parted low ms) among)) [
-    | inl front ↦ let long = (not_below_among low ms y front).1 in absurd (omega arith)
+    | inl front ↦ grind (arith, not_below_among)
     | inr back ↦ back
   ]
 
   -- ---- a mask more
   pub sorted_here : (x : Placed V) (ms : List (Placed V)) → IsAmong x (sorted_in x ms)
-  sorted_here x ms = in_back (not_below x.entry.rank ms) (x ∷ below x.entry.rank ms) x (inl refl)
+  sorted_here x ms = grind (arith, in_back)
 
   pub among_sorted : (least top : ℕ) (x : Placed V) (ms : List (Placed V)) → Falls least top ms → (y : Placed V) → IsAmong y ms → IsAmong y (sorted_in x ms)
-  among_sorted least top x ms falls y among = elim (short_or_long y.entry.rank x.entry.rank) [
-    | inl short ↦ in_back (not_below x.entry.rank ms) (x ∷ below x.entry.rank ms) y (inr (among_below x.entry.rank ms y among short))
-    | inr long ↦ in_front (not_below x.entry.rank ms) (x ∷ below x.entry.rank ms) y (among_not_below least top x.entry.rank ms falls y among long)
-  ]
+  among_sorted least top x ms falls y among = grind (arith, in_back, among_below, in_front, among_not_below)
 
   pub sorted_among : (least top : ℕ) (x : Placed V) (ms : List (Placed V)) → Falls least top ms → (y : Placed V) → IsAmong y (sorted_in x ms)
       → (x ≡ y) ⊎ IsAmong y ms
   sorted_among least top x ms falls y among = elim (among_appended (not_below x.entry.rank ms) (x ∷ below x.entry.rank ms) y among) [
     | inl front ↦ inr (not_below_among x.entry.rank ms y front).0
-    | inr back ↦ elim back [ inl e ↦ inl e | inr behind ↦ inr (below_among least top x.entry.rank ms falls y behind).0 ]
+    | inr back ↦ grind (arith, below_among)
   ]
 
   raised : (low top : ℕ) (ms : List (Placed V)) → Falls low top ms → IsNoRank low ms → Falls (low + 1) top ms
   raised low top [] falls no_rank = tt
-  raised low top (x ∷ xs) falls no_rank =
-      let least = falls.0 in let other = no_rank x (inl refl) in (
-        elim (cases_eq x.entry.rank low) [ inl e ↦ absurd (other e) | inr ne ↦ omega (arith, ne, least) ],
-        falls.1,
-        raised low x.entry.rank xs falls.2 (λ y among. no_rank y (inr among)),
-      )
+  raised low top (x ∷ xs) falls no_rank = (
+    elim (cases_eq x.entry.rank low) [ inl e ↦ absurd (no_rank x (inl refl) e) | inr ne ↦ omega arith ],
+    falls.1,
+    raised low x.entry.rank xs falls.2 (λ y among. no_rank y (inr among)),
+  )
 
   pub falls_sorted : (low top : ℕ) (x : Placed V) (ms : List (Placed V)) → Falls low top ms → low ≤ x.entry.rank → x.entry.rank < top
       → IsNoRank x.entry.rank ms → Falls low top (sorted_in x ms)
   falls_sorted low top x ms falls least most no_rank =
       let longer = raised x.entry.rank top (not_below x.entry.rank ms) (falls_not_below low top x.entry.rank ms falls)
-      (λ y among. no_rank y (not_below_among x.entry.rank ms y among).0) in
-      let own : x.entry.rank < x.entry.rank + 1 = omega arith in
-      falls_appended low (x.entry.rank + 1) top (not_below x.entry.rank ms) (x ∷ below x.entry.rank ms) longer
-      (least, own, falls_below low top x.entry.rank ms falls) (omega arith) (omega arith)
+      (grind (arith, not_below_among)) in
+      grind (arith, falls_appended, falls_below)
 
   -- ---- a mask less
   pub taken_among : (least top rank : ℕ) (ms : List (Placed V)) → Falls least top ms → (y : Placed V) → IsAmong y (taken_out rank ms)
       → IsAmong y ms × (y.entry.rank ≡ rank → ⊥)
   taken_among least top rank ms falls y among = elim (among_appended (not_below (rank + 1) ms) (below rank ms) y among) [
-    | inl front ↦ let is = not_below_among (rank + 1) ms y front in let long = is.1 in
-        let other : y.entry.rank ≡ rank → ⊥ = λ same. omega arith in (is.0, other)
-    | inr back ↦ let is = below_among least top rank ms falls y back in let short = is.1 in
-        let other : y.entry.rank ≡ rank → ⊥ = λ same. omega arith in (is.0, other)
+    | inl front ↦ let is = not_below_among (rank + 1) ms y front in (is.0, λ same. omega arith)
+    | inr back ↦ let is = below_among least top rank ms falls y back in (is.0, λ same. omega arith)
   ]
 
   pub among_taken : (least top rank : ℕ) (ms : List (Placed V)) → Falls least top ms → (y : Placed V) → IsAmong y ms → (y.entry.rank ≡ rank → ⊥)
       → IsAmong y (taken_out rank ms)
   among_taken least top rank ms falls y among differs = elim (short_or_long y.entry.rank rank) [
     | inl short ↦ in_back (not_below (rank + 1) ms) (below rank ms) y (among_below rank ms y among short)
-    | inr long ↦ let past : rank + 1 ≤ y.entry.rank = elim (cases_eq y.entry.rank rank) [ inl e ↦ absurd (differs e) | inr ne ↦ omega (arith, ne, long) ] in
+    | inr long ↦ let past : rank + 1 ≤ y.entry.rank = elim (cases_eq y.entry.rank rank) [ inl e ↦ absurd (differs e) | inr ne ↦ omega arith ] in
         in_front (not_below (rank + 1) ms) (below rank ms) y (among_not_below least top (rank + 1) ms falls y among past)
   ]
 
   pub falls_taken : (low top rank : ℕ) (ms : List (Placed V)) → Falls low top ms → Falls low top (taken_out rank ms)
   falls_taken low top rank [] falls = tt
   falls_taken low top rank (x ∷ xs) falls = elim (short_or_long x.entry.rank (rank + 1)) [
-    | inl short ↦ subst (λ l. Falls low top (l ++ below rank (x ∷ xs)))
-        (sym (not_below_short (rank + 1) x xs short)) (falls_behind low top rank (x ∷ xs) falls)
-    | inr long ↦ let past : rank ≤ x.entry.rank = omega arith in
-        subst (λ l. Falls low top (l ++ below rank (x ∷ xs))) (sym (not_below_long (rank + 1) x xs long))
-        (subst (λ l. Falls low top ((x ∷ not_below (rank + 1) xs) ++ l)) (sym (below_long rank x xs past))
-        (falls.0, falls.1, falls_taken low x.entry.rank rank xs falls.2))
+    | inl short ↦ search (not_below_short, falls_behind)
+    | inr long ↦ grind (arith, falls_taken low x.entry.rank rank xs falls.2)
   ]
 
   -- ---- the rooms
@@ -210,12 +172,10 @@ module _ {V : Type 0} where
 
   -- routes in one room are of one rank
   pub one_rank : {L : Leaves V} {x y : Placed V} → IsRanked L x → IsRanked L y → number_of x.room ≡ number_of y.room → x.entry.rank ≡ y.entry.rank
-  one_rank {L = L} one other same = sym one.rank ∙ ap (λ p. p.leaf.rank) (inside (sym one.said ∙ ap L same ∙ other.said)) ∙ other.rank
+  one_rank {L = L} one other same = search
 
   pub ranked_in : (m : Lodged V) (p : Part m) (x : Placed V) → IsIn x p.tree → IsRanked (leaves_in m) x
-  ranked_in m p x is =
-      let said = tree_said (leaves_in m) (bits_in m) p.above p.tree p.stands x is in
-      record { part = leaf_part x said.0 said.1 said.2; said = said.3; block = refl; rank = refl }
+  ranked_in m p x is = let said = tree_said (leaves_in m) (bits_in m) p.above p.tree p.stands x is in search
 
   -- the list of a bit node of a tree
   pub masks_listed : {m : Lodged V} (p : Part m) {first : Option Id} {low b : ℕ} {M : Placed V → Type 0} (l : IsMaskList (masks_in m) first low b M) → b ≤ 31
@@ -223,6 +183,6 @@ module _ {V : Type 0} where
   masks_listed {m = m} p {low = low} {b = b} l within inside_tree = record {
     begins = l.begins;
     stands = l.stands;
-    falls = falls_wider low (b + 1) 0 34 l.masks l.falls (omega arith) (omega arith);
+    falls = grind (arith, falls_wider);
     ranked = among_ranked (leaves_in m) l.masks (λ x among. ranked_in m p x (inside_tree x (l.within x among)));
   }

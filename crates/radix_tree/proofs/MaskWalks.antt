@@ -1,5 +1,5 @@
 -- A walk along a list of masks.
-use Rattle.radix_tree.proofs.{MaskLists.not_below_short, MaskLists.not_below_long, MaskLists.below_short, MaskLists.below_long, RoomReads.inside}
+use Rattle.radix_tree.proofs.{MaskLists.not_below_short, MaskLists.not_below_long, MaskLists.below_short, MaskLists.below_long}
 use Rattle.radix_tree.proofs.{RoomReads.none_some, RoomReads.Has-leaf, RoomReads.Has-mask, TreeMembers.head_of}
 use Rattle.radix_tree.proofs.Words.{◌≡◌, ℕ, ◌+◌, ◌≤◌, ◌<◌, List, [], ◌∷◌, Option, Some, None, refl, sym, ap, ◌∙◌, subst, arith, Counter, Has, Id, Leaf}
 use Rattle.radix_tree.proofs.Words.{MaskNode, IsMasks, IsRanked, AreRanked, last_from, last_mask, not_below, below, ReadsOnce, LeafPart, MaskPart}
@@ -13,7 +13,7 @@ module _ {V : Type 0} where
 
   pub rank_told : (m : Lodged V) {x : Placed V} {room : Id} (l : Leaf) → IsRanked (leaves_in m) x → x.room ≡ room
       → ((p : LeafPart V) → leaves_in m (number_of room) ≡ Some p → l ≡ p.leaf) → l.rank ≡ x.entry.rank
-  rank_told m l r room_is told = ap (λ z. z.rank) (told r.part (ap (λ i. leaves_in m (number_of i)) (sym room_is) ∙ r.said)) ∙ r.rank
+  rank_told m l r room_is told = grind arith
 
   abbrev part_of : (room : Id) (ms : List (Placed V)) → MaskPart
   part_of room ms = record { block = room.block; next = first_room ms }
@@ -28,7 +28,7 @@ module _ {V : Type 0} where
 
   pub next_told : (m : Lodged V) (x : Placed V) (xs : List (Placed V)) {room : Id} (n : MaskNode) → MasksStand (masks_in m) (x ∷ xs) → x.room ≡ room
       → masks_in m (number_of room) ≡ mask_part room.block (Some n) → first_room xs ≡ n.next
-  next_told m x xs n stands room_is said = ap (λ p. p.next) (inside (sym (listed_as m x xs stands room_is).1 ∙ said))
+  next_told m x xs n stands room_is said = grind arith
 
   ended_at : (low : ℕ) (ms rest : List (Placed V)) (before : Option Id) → first_room rest ≡ None
       → last_from before (not_below low rest) ≡ last_mask (not_below low ms) → below low rest ≡ below low ms
@@ -51,18 +51,7 @@ module _ {V : Type 0} where
     pub few : now.count + top ≤ start.count + 34
 
   pub begun : {m : Lodged V} {low : ℕ} {first : Option Id} {ms : List (Placed V)} (v : Counter) → IsMasks m first ms → Passing m low ms None first v v
-  begun {ms = ms} v is = record {
-    rest = ms;
-    top = 34;
-    begins = is.begins;
-    stands = is.stands;
-    falls = is.falls;
-    ranked = is.ranked;
-    last = refl;
-    left = refl;
-    rises = omega arith;
-    few = omega arith;
-  }
+  begun {ms = ms} v is = grind arith
 
   -- the mask that it has come to
   pub record Next (m : Lodged V) (low : ℕ) (ms : List (Placed V)) (before : Option Id) (room : Id) (start now : Counter) : Type 0 where
@@ -83,7 +72,6 @@ module _ {V : Type 0} where
       let stands = subst (MasksStand (masks_in m)) x.is w.stands in
       let falls = subst (Falls 0 w.top) x.is w.falls in
       let ranked = subst (AreRanked (leaves_in m)) x.is w.ranked in
-      let less = falls.1 in
       record {
         route = x.first;
         room_is = x.room_is;
@@ -114,4 +102,4 @@ module _ {V : Type 0} where
   -- past all
   pub ended : {m : Lodged V} {low : ℕ} {ms : List (Placed V)} {before at : Option Id} {start now : Counter} → Passing m low ms before at start now → at ≡ None
       → (last_mask (not_below low ms) ≡ before) × (first_room (below low ms) ≡ None)
-  ended {low} {ms} {before} w is = ended_at low ms w.rest before (w.begins ∙ is) w.last w.left
+  ended {low} {ms} {before} w is = grind arith

@@ -1,5 +1,5 @@
 -- Table order, and where an entry stands beside a pair in it.
-use Rattle.radix_tree.proofs.Words.{◌≡◌, ℕ, Bool, true, false, ◌&&◌, ◌||◌, nat_lt, nat_eq, IsTrue, refl, inl, inr, arith, cases_lt, nat_tests, precedes}
+use Rattle.radix_tree.proofs.Words.{◌≡◌, ℕ, Bool, true, false, ◌&&◌, ◌||◌, nat_lt, nat_eq, IsTrue, inl, inr, arith, cases_lt, precedes}
 use Rattle.radix_tree.proofs.Words.{has_pair, AreOnePair, PrecedesInWords, PrecedesOneWay, PrecedesTransitively, PrecedesOrSame, Entry}
 
 -- the entry precedes, in table order, those that have this pair
@@ -18,14 +18,14 @@ pub data Beside {V : Type 0} (key rank : ℕ) (e : Entry V) : Type 0 where
 
 pub beside : {V : Type 0} (key rank : ℕ) (e : Entry V) → Beside key rank e
 beside key rank e = elim (cases_lt e.key key) [
-  | inl less ↦ before (grind (arith, nat_tests)) (grind (arith, nat_tests)) (grind (arith, nat_tests))
+  | inl less ↦ before (grind arith) (grind arith) (grind arith)
   | inr least ↦ elim (cases_lt key e.key) [
-    | inl more ↦ behind (grind (arith, nat_tests)) (grind (arith, nat_tests)) (grind (arith, nat_tests))
+    | inl more ↦ behind (grind arith) (grind arith) (grind arith)
     | inr most ↦ elim (cases_lt rank e.rank) [
-      | inl longer ↦ before (grind (arith, nat_tests)) (grind (arith, nat_tests)) (grind (arith, nat_tests))
+      | inl longer ↦ before (grind arith) (grind arith) (grind arith)
       | inr shortest ↦ elim (cases_lt e.rank rank) [
-        | inl shorter ↦ behind (grind (arith, nat_tests)) (grind (arith, nat_tests)) (grind (arith, nat_tests))
-        | inr same ↦ here (grind (arith, nat_tests)) (grind (arith, nat_tests)) (grind (arith, nat_tests))
+        | inl shorter ↦ behind (grind arith) (grind arith) (grind arith)
+        | inr same ↦ here (grind arith) (grind arith) (grind arith)
       ]
     ]
   ]
@@ -33,48 +33,40 @@ beside key rank e = elim (cases_lt e.key key) [
 
 -- an entry with a pair has its key and its rank
 pub pair_is : {V : Type 0} (key rank : ℕ) (e : Entry V) → has_pair key rank e ≡ true → AreOnePair e.key e.rank key rank
-pair_is key rank e h = (grind (arith, nat_tests), grind (arith, nat_tests))
+pair_is key rank e h = grind arith
 
 pub is_pair : {V : Type 0} (key rank : ℕ) (e : Entry V) → AreOnePair e.key e.rank key rank → has_pair key rank e ≡ true
-is_pair key rank e same = let k = same.0 in let r = same.1 in grind (arith, nat_tests)
+is_pair key rank e same = grind arith
 
 pub own_pair : {V : Type 0} (e : Entry V) → has_pair e.key e.rank e ≡ true
-own_pair e = grind (arith, nat_tests)
+own_pair e = grind arith
 
 pub other_pair : {V : Type 0} (key rank : ℕ) (e : Entry V) → ¬ (AreOnePair e.key e.rank key rank) → has_pair key rank e ≡ false
-other_pair key rank e other =
-    elim (has_pair key rank e) as (λ b. has_pair key rank e ≡ b → b ≡ false) [ true ↦ λ k. absurd (other (pair_is key rank e k)) | false ↦ λ k. refl ] refl
+other_pair key rank e other = grind arith
 
 pub not_pair : {V : Type 0} (key rank : ℕ) (e : Entry V) → has_pair key rank e ≡ false → ¬ (AreOnePair e.key e.rank key rank)
-not_pair key rank e h = λ same. let there = is_pair key rank e same in cc
+not_pair key rank e h = grind arith
 
 -- behind an entry that doesn't stand before a pair, all stand behind the pair
 pub behind_next : {V : Type 0} (key rank : ℕ) (e f : Entry V) → stands_before key rank e ≡ false → IsTrue (precedes e f) → stands_behind key rank f ≡ true
-behind_next key rank e f h k = grind (arith, nat_tests)
+behind_next key rank e f h k = grind arith
 
 -- what stands behind a pair doesn't stand before it
 pub behind_not_before : {V : Type 0} (key rank : ℕ) (e : Entry V) → stands_behind key rank e ≡ true → stands_before key rank e ≡ false
-behind_not_before key rank e h = grind (arith, nat_tests)
+behind_not_before key rank e h = grind arith
 
 pub behind_not_pair : {V : Type 0} (key rank : ℕ) (e : Entry V) → stands_behind key rank e ≡ true → has_pair key rank e ≡ false
-behind_not_pair key rank e h = grind (arith, nat_tests)
+behind_not_pair key rank e h = grind arith
 
 -- the laws of table order
 pub precedes_in_words : {V : Type 0} → PrecedesInWords V
-precedes_in_words e f = (
-  (λ before. elim (cases_lt e.key f.key) [ inl less ↦ inl less | inr least ↦ inr (grind (arith, nat_tests), grind (arith, nat_tests)) ]),
-  (λ order. elim order [ inl less ↦ grind (arith, nat_tests) | inr same ↦ (let keys = same.0 in let ranks = same.1 in grind (arith, nat_tests)) ]),
-)
+precedes_in_words e f = (grind arith, grind arith)
 
 pub precedes_one_way : {V : Type 0} → PrecedesOneWay V
-precedes_one_way e f h = grind (arith, nat_tests)
+precedes_one_way e f h = grind arith
 
 pub precedes_transitively : {V : Type 0} → PrecedesTransitively V
-precedes_transitively e f g h k = grind (arith, nat_tests)
+precedes_transitively e f g h k = grind arith
 
 pub precedes_or_same : {V : Type 0} → PrecedesOrSame V
-precedes_or_same e f = elim (beside f.key f.rank e) [
-  | before h k n ↦ inl h
-  | here h k same ↦ inr (inr (pair_is f.key f.rank e same))
-  | behind h k n ↦ inr (inl k)
-]
+precedes_or_same e f = grind arith

@@ -1,8 +1,8 @@
 -- The parts of a tree: a bit node with what is beneath it, a leaf, and the way between one part and the whole.
 use Rattle.radix_tree.proofs.{RoomReads.Has-bit, Searching.IsSide, Searching.zero_side, Searching.one_side, Searching.side_hit}
-use Rattle.radix_tree.proofs.Words.{◌≡◌, ℕ, ◌+◌, List, ◌∷◌, Some, None, refl, sym, ap, ◌∙◌, subst, inl, inr, Has, Id, LeafOf, BitOf, Placed, Tree, leaf}
-use Rattle.radix_tree.proofs.Words.{fork, bit_at, IsAmong, IsIn, IsTree, BitPart, Part, Run, leaves_in, bits_in, heads_in, masks_in, first_room, name_of}
-use Rattle.radix_tree.proofs.Words.{Stands, Lists, Best, In, ForkAt, LeafAt, LedTo, Beneath, Way, Lodged, []}
+use Rattle.radix_tree.proofs.Words.{arith, ◌≡◌, ℕ, ◌+◌, List, ◌∷◌, Some, None, refl, sym, ap, subst, inl, inr, Has, Id, LeafOf, BitOf, Placed, Tree, leaf, fork}
+use Rattle.radix_tree.proofs.Words.{bit_at, IsAmong, IsIn, IsTree, BitPart, Part, Run, leaves_in, bits_in, heads_in, masks_in, first_room, name_of, Stands}
+use Rattle.radix_tree.proofs.Words.{Lists, Best, In, ForkAt, LeafAt, LedTo, Beneath, Way, Lodged, []}
 
 leaf_not_bit : {x y : Id} → LeafOf x ≡ BitOf y → ⊥
 leaf_not_bit e = cc
@@ -19,10 +19,10 @@ same_leaf e = cc
 module _ {V : Type 0} where
   fork_of : (m : Lodged V) (p : Part m) {room : Id} (t : Tree V) → p.tree ≡ t → name_of t ≡ BitOf room → ForkAt p room
   fork_of m p (leaf x xs) is named = absurd (leaf_not_bit named)
-  fork_of m p (fork i b zero one) is named = record { bit = b; zero = zero; one = one; is = is ∙ ap (λ j. fork j b zero one) (same_bit_node named) }
+  fork_of m p (fork i b zero one) is named = grind arith
 
   leaf_of : (m : Lodged V) (p : Part m) {room : Id} (t : Tree V) → p.tree ≡ t → name_of t ≡ LeafOf room → LeafAt p room
-  leaf_of m p (leaf x xs) is named = record { first = x; rest = xs; is = is; room_is = same_leaf named }
+  leaf_of m p (leaf x xs) is named = search (same_leaf)
   leaf_of m p (fork i b zero one) is named = absurd (bit_not_leaf named)
 
   -- a part is what its name says
@@ -44,10 +44,10 @@ module _ {V : Type 0} where
     fork_is = subst (IsTree p.low) f.is p.is
 
     pub fork_stands : Stands (leaves_in m) (bits_in m) p.above whole_of
-    fork_stands = subst (Stands (leaves_in m) (bits_in m) p.above) f.is p.stands
+    fork_stands = grind arith
 
     pub fork_lists : (M : Placed V → Type 0) → Lists M (heads_in m) (masks_in m) p.low p.tree → Lists M (heads_in m) (masks_in m) p.low whole_of
-    fork_lists M listed = subst (Lists M (heads_in m) (masks_in m) p.low) f.is listed
+    fork_lists M listed = grind arith
 
     -- what its room says
     abbrev pub bit_part_of : BitPart
@@ -116,12 +116,7 @@ module _ {V : Type 0} where
   pub way_leads : (m : Lodged V) {address : ℕ} (whole at : Part m) (ups : List (Part m)) → Way address whole at ups → (y : Placed V) → IsIn y whole.tree
       → y.entry.key ≡ address → IsIn y at.tree
   way_leads m whole at [] way y is key = subst (λ p. IsIn y p.tree) (sym way) is
-  way_leads m whole at (p ∷ ps) way y is key =
-      let side = side_of way.0 in
-      elim (side.parted y (way_leads m whole p ps way.1 y is key)) [
-        | inl here ↦ here
-        | inr differs ↦ absurd (differs (ap (bit_at way.0.at.bit) key))
-      ]
+  way_leads m whole at (p ∷ ps) way y is key = grind (arith, way_leads m whole p ps way.1 y is key, side_of way.0)
 
   -- the lists beneath
   abbrev pub ListsOf : (Placed V → Type 0) → (m : Lodged V) → Part m → Type 0
@@ -129,13 +124,7 @@ module _ {V : Type 0} where
 
   pub lists_beneath : (M : Placed V → Type 0) {m : Lodged V} {address : ℕ} (under : Part m) {over : Part m} → Beneath address under over → ListsOf M m over
       → ListsOf M m under
-  lists_beneath M {m = m} under b listed =
-      let f = b.at in
-      let lists = fork_lists f M listed in
-      subst (λ low. Lists M (heads_in m) (masks_in m) low under.tree) (sym b.low) (elim b.side [
-        | inl e ↦ subst (Lists M (heads_in m) (masks_in m) (f.bit + 1)) (sym e.0) lists.1
-        | inr e ↦ subst (Lists M (heads_in m) (masks_in m) (f.bit + 1)) (sym e.0) lists.2
-      ])
+  lists_beneath M {m = m} under b listed = grind arith
 
   pub way_lists : (M : Placed V → Type 0) {m : Lodged V} (address : ℕ) (whole at : Part m) (ups : List (Part m)) → Way address whole at ups → ListsOf M m
       whole → ListsOf M m at
@@ -145,5 +134,5 @@ module _ {V : Type 0} where
   -- the best beneath is the whole's best
   pub way_best : (m : Lodged V) (address : ℕ) (whole at : Part m) (ups : List (Part m)) → Way address whole at ups → (x : Placed V)
       → Best address at.low 34 (In at) (Some x) → Best address whole.low 34 (In whole) (Some x)
-  way_best m address whole at [] way x best = subst (λ p. Best address p.low 34 (In p) (Some x)) way best
+  way_best m address whole at [] way x best = grind arith
   way_best m address whole at (p ∷ ps) way x best = way_best m address whole p ps way.1 x (side_hit (side_of way.0) p.low x best)

@@ -1,9 +1,8 @@
 -- The lists of masks of bit nodes above a part stay where the part is exchanged and its masks that are listed further up stay.
 use Rattle.radix_tree.proofs.{PartRooms.one_if_same, Plugs.Aside, Plugs.aside_in, Plugs.in_plug, Plugs.plug_in, Plugs.forks_within, Plugs.low_rises}
 use Rattle.radix_tree.proofs.{MaskLists.falls_among, MaskLinks.stand_same}
-use Rattle.radix_tree.proofs.Words.{◌≡◌, ℕ, ◌+◌, ◌<◌, ◌≤◌, List, [], ◌∷◌, Option, sym, ap, ◌∙◌, inl, inr, arith, is_some, Id, Placed, Tree, leaf, fork}
-use Rattle.radix_tree.proofs.Words.{IsAmong, IsIn, IsTree, Heads, Masks, forks_at, Frame, on_zero, on_one, plug, low_past, IsMarked, IsMaskList, MarkedIn}
-use Rattle.radix_tree.proofs.Words.{MarkedLists}
+use Rattle.radix_tree.proofs.Words.{◌≡◌, ℕ, ◌+◌, ◌<◌, ◌≤◌, List, [], ◌∷◌, Option, sym, ap, ◌∙◌, inl, inr, arith, is_some, Id, Placed, Tree, leaf, fork, IsIn}
+use Rattle.radix_tree.proofs.Words.{IsTree, Heads, Masks, forks_at, Frame, on_zero, on_one, plug, low_past, IsMarked, IsMaskList, MarkedIn, MarkedLists}
 use Rattle.radix_nodes.specs.Naming.{number_of}
 
 module _ {V : Type 0} where
@@ -15,17 +14,7 @@ module _ {V : Type 0} where
   pub mask_list_same : (K J : Masks) {first other : Option Id} (low b : ℕ) {M : Placed V → Type 0} (N : Placed V → Type 0) → other ≡ first
       → ((x : Placed V) → M x → x.entry.rank ≤ b → N x × (J (number_of x.room) ≡ K (number_of x.room))) → ((x : Placed V) → N x → x.entry.rank ≤ b → M x)
       → IsMaskList K first low b M → IsMaskList J other low b N
-  mask_list_same K J low b N same stays came list =
-      let short = λ (x : Placed V) (among : IsAmong x list.masks).
-      (let below = (falls_among low (b + 1) list.masks list.falls x among).1 in let le : x.entry.rank ≤ b = omega arith in le) in
-      record {
-        masks = list.masks;
-        begins = list.begins ∙ sym same;
-        stands = stand_same K J list.masks (λ x among. (stays x (list.within x among) (short x among)).1) list.stands;
-        falls = list.falls;
-        has = λ x member least most. list.has x (came x member most) least most;
-        within = λ x among. (stays x (list.within x among) (short x among)).0;
-      }
+  mask_list_same K J low b N same stays came list = grind (arith, falls_among, stand_same)
 
   -- ---- the lists of a tree
   -- they stay where its heads and its masks stay
@@ -33,9 +22,9 @@ module _ {V : Type 0} where
       → ((y : Placed V) → IsIn y t → J (number_of y.room) ≡ K (number_of y.room)) → MarkedLists H K low t → MarkedLists G J low t
   lists_same H G K J low (leaf x xs) heads masks lists = tt
   lists_same H G K J low (fork room b zero one) heads masks lists = (
-    mask_list_same K J low b (MarkedIn J (fork room b zero one)) (heads (number_of room) (let own = one_if_same (number_of room) in omega arith))
-        (λ x member most. ((member.0, marked_same K J x (masks x member.0) member.1), masks x member.0))
-        (λ x member most. (member.0, marked_same J K x (sym (masks x member.0)) member.1)) lists.0,
+    mask_list_same K J low b (MarkedIn J (fork room b zero one)) (grind arith)
+        (grind arith)
+        (grind arith) lists.0,
     lists_same H G K J (b + 1) zero (λ n some. heads n (omega arith)) (λ y at. masks y (inl at)) lists.1,
     lists_same H G K J (b + 1) one (λ n some. heads n (omega arith)) (λ y at. masks y (inr at)) lists.2,
   )
@@ -56,13 +45,11 @@ module _ {V : Type 0} where
   -- what is so for a node above is so for those beneath it
   keeps_zero : {H G : Heads} {K J : Masks} {top : ℕ} (room : Id) (b : ℕ) (one : Tree V) {fs : List (Frame V)} {t u : Tree V}
       → KeepsAbove H G K J top (on_zero room b one ∷ fs) t u → KeepsAbove H G K J top fs t u
-  keeps_zero room b one k =
-      record { heads = λ n some. k.heads n (omega arith); aside = λ y at. k.aside y (inr at); stays = k.stays; came = k.came }
+  keeps_zero room b one k = grind arith
 
   keeps_one : {H G : Heads} {K J : Masks} {top : ℕ} (room : Id) (b : ℕ) (zero : Tree V) {fs : List (Frame V)} {t u : Tree V}
       → KeepsAbove H G K J top (on_one room b zero ∷ fs) t u → KeepsAbove H G K J top fs t u
-  keeps_one room b zero k =
-      record { heads = λ n some. k.heads n (omega arith); aside = λ y at. k.aside y (inr at); stays = k.stays; came = k.came }
+  keeps_one room b zero k = grind arith
 
   module _ {H G : Heads} {K J : Masks} {top : ℕ} {fs : List (Frame V)} {t u : Tree V} (k : KeepsAbove H G K J top fs t u) where
     -- the marked routes of ranks below top are the same
@@ -84,22 +71,20 @@ module _ {V : Type 0} where
       → KeepsAbove H G K J (low_past low fs) fs t u → MarkedLists H K low (plug fs t) → MarkedLists G J (low_past low fs) u → MarkedLists G J low (plug fs u)
   plug_lists low [] is k lists own = own
   plug_lists {H = H} {G = G} {K = K} {J = J} low (on_zero room b one ∷ fs) {t = t} {u = u} is k lists own =
-      let top = low_past (b + 1) fs in
       let further = low_rises (b + 1) fs t is.1 in
       let within : (n : ℕ) → forks_at n t ≤ forks_at n (plug fs t) = λ n. forks_within fs t n in (
         mask_list_same K J low b (MarkedIn J (fork room b (plug fs u) one)) (k.heads (number_of room) (let own = one_if_same (number_of room) in
-            let le = within (number_of room) in omega arith)) (λ x member most. stays_within k x member.0 (omega arith) member.1)
+            omega (arith, within (number_of room)))) (λ x member most. stays_within k x member.0 (omega arith) member.1)
             (λ x member most. came_within k x member.0 (omega arith) member.1) lists.0,
         plug_lists (b + 1) fs is.1 (keeps_zero room b one k) lists.1 own,
-        lists_same H G K J (b + 1) one (λ n some. k.heads n (let le = within n in omega arith)) (λ y at. k.aside y (inl at)) lists.2,
+        lists_same H G K J (b + 1) one (λ n some. k.heads n (omega (arith, within n))) (λ y at. k.aside y (inl at)) lists.2,
       )
   plug_lists {H = H} {G = G} {K = K} {J = J} low (on_one room b zero ∷ fs) {t = t} {u = u} is k lists own =
-      let top = low_past (b + 1) fs in
       let further = low_rises (b + 1) fs t is.2 in
       let within : (n : ℕ) → forks_at n t ≤ forks_at n (plug fs t) = λ n. forks_within fs t n in (
         mask_list_same K J low b (MarkedIn J (fork room b zero (plug fs u))) (k.heads (number_of room) (let own = one_if_same (number_of room) in
-            let le = within (number_of room) in omega arith)) (λ x member most. stays_within k x member.0 (omega arith) member.1)
+            omega (arith, within (number_of room)))) (λ x member most. stays_within k x member.0 (omega arith) member.1)
             (λ x member most. came_within k x member.0 (omega arith) member.1) lists.0,
-        lists_same H G K J (b + 1) zero (λ n some. k.heads n (let le = within n in omega arith)) (λ y at. k.aside y (inl at)) lists.1,
+        lists_same H G K J (b + 1) zero (λ n some. k.heads n (omega (arith, within n))) (λ y at. k.aside y (inl at)) lists.1,
         plug_lists (b + 1) fs is.2 (keeps_one room b zero k) lists.2 own,
       )

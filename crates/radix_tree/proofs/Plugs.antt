@@ -1,7 +1,7 @@
 -- A tree is a part of it beneath bit nodes: what it holds beside the part stays, whatever part stands there.
-use Rattle.radix_tree.proofs.{AddressBits.zero_not_one, PartRooms.one_if_same, TreeMembers.bit_beneath}
-use Rattle.radix_tree.proofs.Words.{◌≡◌, ℕ, ◌+◌, ◌<◌, ◌≤◌, ◌==◌, ◌⊎◌, List, [], ◌∷◌, ◌++◌, None, refl, sym, ap, ◌∙◌, inl, inr, arith, cases_lt}
-use Rattle.radix_tree.proofs.Words.{append_assoc, append-nil, Id, Placed, Tree, leaf, fork, IsAmong, IsIn, IsTree, routes_of, Bits, one_if, members_at}
+use Rattle.radix_tree.proofs.{AddressBits.zero_not_one, TreeMembers.bit_beneath}
+use Rattle.radix_tree.proofs.Words.{◌≡◌, ℕ, ◌+◌, ◌<◌, ◌≤◌, ◌⊎◌, List, [], ◌∷◌, ◌++◌, None, refl, sym, inl, inr, arith, cases_lt}
+use Rattle.radix_tree.proofs.Words.{append_assoc, append-nil, Id, Placed, Tree, leaf, fork, IsAmong, IsIn, IsTree, routes_of, Bits, members_at}
 use Rattle.radix_tree.proofs.Words.{leaves_at, forks_at, HasHome, AreIdle, HasOneFork, HaveOneFork, Frame, on_zero, on_one, plug, low_past, Lead, Entry}
 use Rattle.radix_nodes.specs.Naming.{number_of}
 
@@ -14,43 +14,35 @@ module _ {V : Type 0} where
 
   pub plug_leaves : (fs : List (Frame V)) (t u : Tree V) (n : ℕ) → leaves_at n (plug fs u) + leaves_at n t ≡ leaves_at n (plug fs t) + leaves_at n u
   plug_leaves [] t u n = omega arith
-  plug_leaves (on_zero room b one ∷ fs) t u n =
-      let e = plug_leaves fs t u n in omega arith
-  plug_leaves (on_one room b zero ∷ fs) t u n =
-      let e = plug_leaves fs t u n in omega arith
+  plug_leaves (on_zero room b one ∷ fs) t u n = omega (arith, plug_leaves fs t u n)
+  plug_leaves (on_one room b zero ∷ fs) t u n = omega (arith, plug_leaves fs t u n)
 
   pub plug_forks : (fs : List (Frame V)) (t u : Tree V) (n : ℕ) → forks_at n (plug fs u) + forks_at n t ≡ forks_at n (plug fs t) + forks_at n u
   plug_forks [] t u n = omega arith
-  plug_forks (on_zero room b one ∷ fs) t u n =
-      let e = plug_forks fs t u n in omega arith
-  plug_forks (on_one room b zero ∷ fs) t u n =
-      let e = plug_forks fs t u n in omega arith
+  plug_forks (on_zero room b one ∷ fs) t u n = omega (arith, plug_forks fs t u n)
+  plug_forks (on_one room b zero ∷ fs) t u n = omega (arith, plug_forks fs t u n)
 
   -- the part has no more of a room's than the whole
   pub leaves_within : (fs : List (Frame V)) (t : Tree V) (n : ℕ) → leaves_at n t ≤ leaves_at n (plug fs t)
   leaves_within [] t n = omega arith
-  leaves_within (on_zero room b one ∷ fs) t n = let le = leaves_within fs t n in omega arith
-  leaves_within (on_one room b zero ∷ fs) t n = let le = leaves_within fs t n in omega arith
+  leaves_within (on_zero room b one ∷ fs) t n = omega (arith, leaves_within fs t n)
+  leaves_within (on_one room b zero ∷ fs) t n = omega (arith, leaves_within fs t n)
 
   pub forks_within : (fs : List (Frame V)) (t : Tree V) (n : ℕ) → forks_at n t ≤ forks_at n (plug fs t)
   forks_within [] t n = omega arith
-  forks_within (on_zero room b one ∷ fs) t n = let le = forks_within fs t n in omega arith
-  forks_within (on_one room b zero ∷ fs) t n = let le = forks_within fs t n in omega arith
+  forks_within (on_zero room b one ∷ fs) t n = omega (arith, forks_within fs t n)
+  forks_within (on_one room b zero ∷ fs) t n = omega (arith, forks_within fs t n)
 
   -- a route's room is a leaf
   pub counted_member : (x : Placed V) (xs : List (Placed V)) → IsAmong x xs → 1 ≤ members_at (number_of x.room) xs
   counted_member x [] among = absurd among
-  counted_member x (y ∷ ys) among = elim among [
-    | inl e ↦ let own = ap (λ p. one_if (number_of p.room == number_of x.room)) e ∙ one_if_same (number_of x.room) in
-        omega arith
-    | inr behind ↦ let some = counted_member x ys behind in omega arith
-  ]
+  counted_member x (y ∷ ys) among = elim among [ inl e ↦ grind arith | inr behind ↦ omega (arith, counted_member x ys behind) ]
 
   pub counted_leaf : (x : Placed V) (t : Tree V) → IsIn x t → 1 ≤ leaves_at (number_of x.room) t
   counted_leaf x (leaf y ys) is = counted_member x (y ∷ ys) is
   counted_leaf x (fork room b zero one) is = elim is [
-    | inl at ↦ let some = counted_leaf x zero at in omega arith
-    | inr at ↦ let some = counted_leaf x one at in omega arith
+    | inl at ↦ omega (arith, counted_leaf x zero at)
+    | inr at ↦ omega (arith, counted_leaf x one at)
   ]
 
   pub plug_in : (fs : List (Frame V)) (t : Tree V) (y : Placed V) → IsIn y t → IsIn y (plug fs t)
@@ -65,10 +57,8 @@ module _ {V : Type 0} where
 
   pub in_plug : (fs : List (Frame V)) (t : Tree V) (y : Placed V) → IsIn y (plug fs t) → Aside fs y ⊎ IsIn y t
   in_plug [] t y is = inr is
-  in_plug (on_zero room b one ∷ fs) t y is =
-      elim is [ inl at ↦ elim (in_plug fs t y at) [ inl aside ↦ inl (inr aside) | inr beneath ↦ inr beneath ] | inr at ↦ inl (inl at) ]
-  in_plug (on_one room b zero ∷ fs) t y is =
-      elim is [ inl at ↦ inl (inl at) | inr at ↦ elim (in_plug fs t y at) [ inl aside ↦ inl (inr aside) | inr beneath ↦ inr beneath ] ]
+  in_plug (on_zero room b one ∷ fs) t y is = elim is [ inl at ↦ grind (arith, in_plug fs t y at) | inr at ↦ inl (inl at) ]
+  in_plug (on_one room b zero ∷ fs) t y is = elim is [ inl at ↦ inl (inl at) | inr at ↦ grind (arith, in_plug fs t y at) ]
 
   -- what is aside is in rooms of its own: in none of the part
   pub aside_at : (fs : List (Frame V)) (t : Tree V) (y : Placed V) → Aside fs y → 1 + leaves_at (number_of y.room) t ≤ leaves_at (number_of y.room) (plug fs t)
@@ -76,14 +66,14 @@ module _ {V : Type 0} where
   aside_at (on_zero room b one ∷ fs) t y is =
       let le = leaves_within fs t (number_of y.room) in
       elim is [
-        | inl at ↦ let some = counted_leaf y one at in omega arith
-        | inr at ↦ let more = aside_at fs t y at in omega arith
+        | inl at ↦ omega (arith, counted_leaf y one at)
+        | inr at ↦ omega (arith, aside_at fs t y at)
       ]
   aside_at (on_one room b zero ∷ fs) t y is =
       let le = leaves_within fs t (number_of y.room) in
       elim is [
-        | inl at ↦ let some = counted_leaf y zero at in omega arith
-        | inr at ↦ let more = aside_at fs t y at in omega arith
+        | inl at ↦ omega (arith, counted_leaf y zero at)
+        | inr at ↦ omega (arith, aside_at fs t y at)
       ]
 
   -- the routes before it and those behind
@@ -93,19 +83,10 @@ module _ {V : Type 0} where
     pub routes : (t : Tree V) → routes_of (plug fs t) ≡ front ++ routes_of t ++ back
 
   surround_zero : (room : Id) (b : ℕ) (one : Tree V) {fs : List (Frame V)} → Surround fs → Surround (on_zero room b one ∷ fs)
-  surround_zero room b one s = record {
-    front = s.front;
-    back = s.back ++ routes_of one;
-    routes = λ t. ap (λ es. es ++ routes_of one) (s.routes t) ∙ append_assoc (s.front ++ routes_of t) s.back (routes_of one);
-  }
+  surround_zero room b one s = record { front = s.front; back = s.back ++ routes_of one; routes = search (append_assoc, s.routes) }
 
   surround_one : (room : Id) (b : ℕ) (zero : Tree V) {fs : List (Frame V)} → Surround fs → Surround (on_one room b zero ∷ fs)
-  surround_one room b zero s = record {
-    front = routes_of zero ++ s.front;
-    back = s.back;
-    routes = λ t. ap (λ es. routes_of zero ++ es) (s.routes t) ∙ sym (append_assoc (routes_of zero) (s.front ++ routes_of t) s.back)
-        ∙ ap (λ es. es ++ s.back) (sym (append_assoc (routes_of zero) s.front (routes_of t)));
-  }
+  surround_one room b zero s = record { front = routes_of zero ++ s.front; back = s.back; routes = search (append_assoc, s.routes) }
 
   pub surround : (fs : List (Frame V)) → Surround fs
   surround [] = record { front = []; back = []; routes = λ t. sym (append-nil (routes_of t)) }
@@ -156,26 +137,22 @@ module _ {V : Type 0} where
   -- the bits of nodes above a part rise
   pub low_rises : (low : ℕ) (fs : List (Frame V)) (t : Tree V) → IsTree low (plug fs t) → low ≤ low_past low fs
   low_rises low [] t is = omega arith
-  low_rises low (on_zero room b one ∷ fs) t is =
-      let rises = is.0.rises in let further = low_rises (b + 1) fs t is.1 in omega arith
-  low_rises low (on_one room b zero ∷ fs) t is =
-      let rises = is.0.rises in let further = low_rises (b + 1) fs t is.2 in omega arith
+  low_rises low (on_zero room b one ∷ fs) t is = grind (arith, low_rises (b + 1) fs t is.1)
+  low_rises low (on_one room b zero ∷ fs) t is = grind (arith, low_rises (b + 1) fs t is.2)
 
   -- the node at or past a rank is one of the bit nodes above, or in the part
   pub home_plug : (low : ℕ) (fs : List (Frame V)) (t : Tree V) (y : Placed V) → IsTree low (plug fs t) → IsIn y t → HasHome y.entry.key y.entry.rank (plug fs t)
       → (y.entry.rank < low_past low fs) ⊎ HasHome y.entry.key y.entry.rank t
   home_plug low [] t y is at home = inr home
   home_plug low (on_zero room b one ∷ fs) t y is at home = elim home [
-    | inl here ↦ let further = low_rises (b + 1) fs t is.1 in
-        let lt : y.entry.rank < low_past (b + 1) fs = omega arith in inl lt
+    | inl here ↦ inl (omega (arith, low_rises (b + 1) fs t is.1))
     | inr beneath ↦ elim beneath [
       | inl left ↦ home_plug (b + 1) fs t y is.1 at left.1
       | inr right ↦ absurd (zero_not_one (bit_beneath (b + 1) b 0 (plug fs t) is.1 is.0.zeros y (plug_in fs t y at)) right.0)
     ]
   ]
   home_plug low (on_one room b zero ∷ fs) t y is at home = elim home [
-    | inl here ↦ let further = low_rises (b + 1) fs t is.2 in
-        let lt : y.entry.rank < low_past (b + 1) fs = omega arith in inl lt
+    | inl here ↦ inl (omega (arith, low_rises (b + 1) fs t is.2))
     | inr beneath ↦ elim beneath [
       | inl left ↦ absurd (zero_not_one left.0 (bit_beneath (b + 1) b 1 (plug fs t) is.2 is.0.ones y (plug_in fs t y at)))
       | inr right ↦ home_plug (b + 1) fs t y is.2 at right.1
@@ -184,7 +161,7 @@ module _ {V : Type 0} where
 
   pub plug_home : (low key rank : ℕ) (fs : List (Frame V)) (t : Tree V) → IsTree low (plug fs t) → Lead key fs → low ≤ rank
       → (rank < low_past low fs) ⊎ HasHome key rank t → HasHome key rank (plug fs t)
-  plug_home low key rank [] t is lead least home = elim home [ inl lt ↦ absurd (omega arith) | inr h ↦ h ]
+  plug_home low key rank [] t is lead least home = grind arith
   plug_home low key rank (on_zero room b one ∷ fs) t is lead least home =
       elim (cases_lt b rank) [ inl past ↦ inr (inl (lead.0, plug_home (b + 1) key rank fs t is.1 lead.1 (omega arith) home)) | inr here ↦ inl here ]
   plug_home low key rank (on_one room b zero ∷ fs) t is lead least home =
@@ -198,7 +175,7 @@ module _ {V : Type 0} where
     | inl here ↦ inl here
     | inr beneath ↦ elim beneath [
       | inl left ↦ elim aside [
-        | inl at ↦ absurd (zero_not_one left.0 (bit_beneath (b + 1) b 1 one is.2 is.0.ones y at))
+        | inl at ↦ grind (arith, bit_beneath)
         | inr at ↦ inr (inl (left.0, aside_home (b + 1) fs t u y is.1 at left.1))
       ]
       | inr right ↦ inr (inr right)
@@ -209,7 +186,7 @@ module _ {V : Type 0} where
     | inr beneath ↦ elim beneath [
       | inl left ↦ inr (inl left)
       | inr right ↦ elim aside [
-        | inl at ↦ absurd (zero_not_one (bit_beneath (b + 1) b 0 zero is.1 is.0.zeros y at) right.0)
+        | inl at ↦ grind (arith, bit_beneath)
         | inr at ↦ inr (inr (right.0, aside_home (b + 1) fs t u y is.2 at right.1))
       ]
     ]

@@ -20,16 +20,16 @@ record Without (k : ℕ) (ks : List ℕ) : Type 0 where
   more : (n : ℕ) → uses n ks ≡ one_if (k == n) + uses n others
 
 take_out : (k : ℕ) (ks : List ℕ) → 1 ≤ uses k ks → Without k ks
-take_out k [] some = absurd (omega (arith, some))
+take_out k [] some = absurd (omega arith)
 take_out k (j ∷ js) some = elim (j == k) as (λ b. (j == k) ≡ b → Without k (j ∷ js)) [
   | true ↦ λ is. record { others = js; longer = omega arith; more = λ n. uses_cons n j js ∙ ap (λ i. one_if (i == n) + uses n js) (eqb-true j k is) }
   | false ↦ λ is.
       let not_here = ap one_if is in
-      let behind = take_out k js (omega (arith, some, uses_cons k j js, not_here)) in
+      let behind = take_out k js (omega (arith, uses_cons k j js)) in
       let longer = behind.longer in
       record {
         others = j ∷ behind.others;
-        longer = omega (arith, longer);
+        longer = omega arith;
         more = λ n. omega (arith, uses_cons n j js, uses_cons n j behind.others, behind.more n);
       }
 ] refl
@@ -39,8 +39,7 @@ equally_long [] [] same = refl
 equally_long [] (k ∷ ks) same = absurd (omega (arith, same k, uses_cons k k ks, one_if_same k))
 equally_long (j ∷ js) ks same =
     let out = take_out j ks (omega (arith, same j, uses_cons j j js, one_if_same j)) in
-    let behind = equally_long js out.others (λ n. omega (arith, same n, uses_cons n j js, out.more n)) in
-    omega (arith, behind, out.longer)
+    omega (arith, out.longer, equally_long js out.others (λ n. omega (arith, same n, uses_cons n j js, out.more n)))
 
 module _ {V : Type 0} where
   -- ---- the rooms of a tree, from left to right
@@ -53,7 +52,7 @@ module _ {V : Type 0} where
 
   uses_chain : (n : ℕ) (c : List (Placed V)) → uses n (numbers_in c) ≡ members_at n c
   uses_chain n [] = refl
-  uses_chain n (x ∷ c) = uses_cons n (number_of x.room) (numbers_in c) ∙ ap (λ u. one_if (number_of x.room == n) + u) (uses_chain n c)
+  uses_chain n (x ∷ c) = search (uses_cons, uses_chain n c)
 
   uses_tree : (n : ℕ) (t : Tree V) → uses n (numbers_of t) ≡ leaves_at n t
   uses_tree n (leaf x xs) = uses_chain n (x ∷ xs)

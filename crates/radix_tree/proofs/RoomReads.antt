@@ -1,7 +1,7 @@
 -- What is read of a room that stands for a part of a tree.
-use Rattle.radix_tree.proofs.Words.{◌≡◌, Option, Some, None, refl, sym, ap, ◌∙◌, get, Ptr, Seen, Has, leaf_of, bit_node_of, mask_node_of, Id, BitNode}
-use Rattle.radix_tree.proofs.Words.{MaskNode, Links, LeafPart, BitPart, MaskPart, bit_part, head_part, mask_part, leaf_in, bit_in, head_in, mask_in}
-use Rattle.radix_tree.proofs.Words.{leaves_in, bits_in, heads_in, masks_in, Lodged}
+use Rattle.radix_tree.proofs.Words.{arith, ◌≡◌, Option, Some, None, ap, ◌∙◌, get, Ptr, Seen, Has, leaf_of, bit_node_of, mask_node_of, Id, BitNode, MaskNode}
+use Rattle.radix_tree.proofs.Words.{Links, LeafPart, BitPart, MaskPart, bit_part, mask_part, leaf_in, bit_in, mask_in, leaves_in, bits_in, heads_in, masks_in}
+use Rattle.radix_tree.proofs.Words.{Lodged}
 use Rattle.radix_nodes.specs.Naming.{number_of}
 
 pub inside : {A : Type 0} {x y : A} → Some x ≡ Some y → x ≡ y
@@ -26,12 +26,7 @@ pub record IsNode (n : BitNode) (p : BitPart) : Type 0 where
   pub above : n.above ≡ p.above
 
 pub node_said : {said : Option BitPart} {block : Ptr} {n : BitNode} {p : BitPart} → said ≡ bit_part block (Some n) → said ≡ Some p → IsNode n p
-node_said e is = let same = inside (sym e ∙ is) in record {
-  bit = ap (λ q. q.bit) same;
-  zero = ap (λ q. q.zero) same;
-  one = ap (λ q. q.one) same;
-  above = ap (λ q. q.above) same;
-}
+node_said e is = search
 
 module _ {V : Type 0} where
   -- these are the links of a room of the map
@@ -45,75 +40,62 @@ module _ {V : Type 0} where
   leaf_there m room p (Some s) at e block = record { room = s; at = at; block = ap (λ q. q.block) (inside e) ∙ block }
 
   pub Has-leaf : (m : Lodged V) (room : Id) {p : LeafPart V} → leaves_in m (number_of room) ≡ Some p → p.block ≡ room.block → Has m room
-  Has-leaf m room {p = p} e block = leaf_there m room p (get m (number_of room)) refl e block
+  Has-leaf m room {p = p} e block = search (leaf_there)
 
   pub leaf_read : (m : Lodged V) (room : Id) {p : LeafPart V} (links : Links) → leaves_in m (number_of room) ≡ Some p → p.block ≡ room.block → AreLinks m room
       links → leaf_of links ≡ p.leaf
-  leaf_read m room links e block are =
-      let h = Has-leaf m room e block in
-      ap leaf_of (are h.room h.at) ∙ ap (λ q. q.leaf) (inside (sym (ap leaf_in h.at) ∙ e))
+  leaf_read m room links e block are = grind arith
 
   pub value_read : (m : Lodged V) (room : Id) {p : LeafPart V} (value : V) → leaves_in m (number_of room) ≡ Some p → p.block ≡ room.block
       → ((s : Seen V) → get m (number_of room) ≡ Some s → value ≡ s.value) → value ≡ p.value
-  value_read m room value e block is =
-      let h = Has-leaf m room e block in
-      is h.room h.at ∙ ap (λ q. q.value) (inside (sym (ap leaf_in h.at) ∙ e))
+  value_read m room value e block is = grind arith
 
   -- ---- as a bit node
   bit_there : (m : Lodged V) (room : Id) (p : BitPart) (o : Option (Seen V)) → get m (number_of room) ≡ o → bit_in o ≡ Some p → p.block ≡ room.block
       → Has m room
   bit_there m room p None at e block = absurd (none_some e)
-  bit_there m room p (Some s) at e block = record { room = s; at = at; block = bit_block s.block (bit_node_of s.links) p e ∙ block }
+  bit_there m room p (Some s) at e block = record { room = s; at = at; block = grind arith }
 
   pub Has-bit : (m : Lodged V) (room : Id) {p : BitPart} → bits_in m (number_of room) ≡ Some p → p.block ≡ room.block → Has m room
-  Has-bit m room {p = p} e block = bit_there m room p (get m (number_of room)) refl e block
+  Has-bit m room {p = p} e block = search (bit_there)
 
   bit_said : {m : Lodged V} {room : Id} (p : BitPart) (links : Links) (h : Has m room) → bits_in m (number_of room) ≡ Some p → AreLinks m room links
       → bit_part h.room.block (bit_node_of links) ≡ Some p
-  bit_said p links h e are = ap (λ l. bit_part h.room.block (bit_node_of l)) (are h.room h.at) ∙ sym (ap bit_in h.at) ∙ e
+  bit_said p links h e are = grind arith
 
   pub bit_read : (m : Lodged V) (room : Id) {p : BitPart} (links : Links) {n : BitNode} → bits_in m (number_of room) ≡ Some p → p.block ≡ room.block
       → AreLinks m room links → bit_node_of links ≡ Some n → IsNode n p
-  bit_read m room {p = p} links e block are is =
-      let h = Has-bit m room e block in
-      let same = inside (sym (ap (bit_part h.room.block) is) ∙ bit_said p links h e are) in
-      record { bit = ap (λ q. q.bit) same; zero = ap (λ q. q.zero) same; one = ap (λ q. q.one) same; above = ap (λ q. q.above) same }
+  bit_read m room {p = p} links e block are is = grind arith
 
   pub bit_used : (m : Lodged V) (room : Id) {p : BitPart} (links : Links) → bits_in m (number_of room) ≡ Some p → p.block ≡ room.block → AreLinks m room links
       → bit_node_of links ≡ None → ⊥
-  bit_used m room {p = p} links e block are none =
-      let h = Has-bit m room e block in
-      none_some (sym (ap (bit_part h.room.block) none) ∙ bit_said p links h e are)
+  bit_used m room {p = p} links e block are none = grind arith
 
   module _ {m : Lodged V} {room : Id} (h : Has m room) where
     -- what the links say is what the room says
     pub bit_told : {links : Links} → AreLinks m room links → bits_in m (number_of room) ≡ bit_part room.block (bit_node_of links)
-    bit_told {links = links} are = ap bit_in h.at ∙ ap (λ l. bit_part h.room.block (bit_node_of l)) (sym (are h.room h.at))
-        ∙ ap (λ b. bit_part b (bit_node_of links)) h.block
+    bit_told {links = links} are = grind arith
 
     pub mask_told : {links : Links} → AreLinks m room links → masks_in m (number_of room) ≡ mask_part room.block (mask_node_of links)
-    mask_told {links = links} are = ap mask_in h.at ∙ ap (λ l. mask_part h.room.block (mask_node_of l)) (sym (are h.room h.at))
-        ∙ ap (λ b. mask_part b (mask_node_of links)) h.block
+    mask_told {links = links} are = grind arith
 
     pub head_read : (links : Links) {n : BitNode} → AreLinks m room links → bit_node_of links ≡ Some n → heads_in m (number_of room) ≡ n.masks
-    head_read links are is = ap head_in h.at ∙ sym (ap (λ l. head_part (bit_node_of l)) (are h.room h.at)) ∙ ap head_part is
+    head_read links are is = grind arith
 
   -- ---- as a mask node
   mask_there : (m : Lodged V) (room : Id) (p : MaskPart) (o : Option (Seen V)) → get m (number_of room) ≡ o → mask_in o ≡ Some p → p.block ≡ room.block → Has m
       room
   mask_there m room p None at e block = absurd (none_some e)
-  mask_there m room p (Some s) at e block = record { room = s; at = at; block = mask_block s.block (mask_node_of s.links) p e ∙ block }
+  mask_there m room p (Some s) at e block = record { room = s; at = at; block = grind arith }
 
   pub Has-mask : (m : Lodged V) (room : Id) {p : MaskPart} → masks_in m (number_of room) ≡ Some p → p.block ≡ room.block → Has m room
-  Has-mask m room {p = p} e block = mask_there m room p (get m (number_of room)) refl e block
+  Has-mask m room {p = p} e block = search (mask_there)
 
   mask_said : {m : Lodged V} {room : Id} (p : MaskPart) (links : Links) (h : Has m room) → masks_in m (number_of room) ≡ Some p → AreLinks m room links
       → mask_part h.room.block (mask_node_of links) ≡ Some p
-  mask_said p links h e are = ap (λ l. mask_part h.room.block (mask_node_of l)) (are h.room h.at) ∙ sym (ap mask_in h.at) ∙ e
+  mask_said p links h e are = grind arith
 
   pub mask_used : (m : Lodged V) (room : Id) (p : MaskPart) (links : Links) → masks_in m (number_of room) ≡ Some p → p.block ≡ room.block
       → AreLinks m room links
       → mask_node_of links ≡ None → ⊥
-  mask_used m room p links e block are none =
-      let h = Has-mask m room e block in
-      none_some (sym (ap (mask_part h.room.block) none) ∙ mask_said p links h e are)
+  mask_used m room p links e block are none = grind arith

@@ -34,7 +34,7 @@ module _ {V : Type 0} where
 
   -- ---- each role
   part : Ptr → V → Leaf → LeafPart V
-  part block value leaf = record { block = block; value = value; leaf = leaf }
+  part block value leaf = search
 
   pub leaves_kept : {m new : Lodged V} {room : Id} (links old : Links) → Has m room → new ≡ put_links m room links → AreLinks m room old
       → leaf_of links ≡ leaf_of old → KeepsLeaves m new

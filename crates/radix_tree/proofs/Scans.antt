@@ -9,8 +9,7 @@ use Rattle.radix_nodes.specs.Naming.{number_of}
 -- a chain has a route for each rank at most
 pub chain_most : {V : Type 0} (key top : ℕ) (c : List (Placed V)) → IsChain key top c → length c ≤ 34
 chain_most key top [] is = omega arith
-chain_most key top (x ∷ c) is =
-    let rank = is.0.rank in let behind = chain_short key x.entry.rank c is.3 in omega arith
+chain_most key top (x ∷ c) is = grind (arith, chain_short)
 
 pub ended_at : {V : Type 0} (rest : List (Placed V)) → first_room rest ≡ None → (y : Placed V) → IsAmong y rest → ⊥
 ended_at [] ends y among = among
@@ -95,7 +94,7 @@ module _ {V : Type 0} {m : Lodged V} where
   -- at its end no member has the property
   pub ended : {P : Placed V → Type 0} {whole : Run m} {at : Option Id} {start now : Counter} → Along P whole at start now → at ≡ None → (y : Placed V)
       → IsAmong y whole.members → P y → ⊥
-  ended w is y among has = ended_at w.rest.members (w.begins ∙ is) y (w.kept y among has)
+  ended w is y among has = grind arith
 
 -- whether a leaf agrees with an address is whether its route covers it
 abbrev pub CoversIt : {V : Type 0} → ℕ → Placed V → Type 0
@@ -103,8 +102,7 @@ CoversIt address y = Covers address y.entry
 
 pub agrees_is : {V : Type 0} (address : ℕ) {l : Leaf} {p : Leaf} (x : Placed V) → l ≡ p → p.key ≡ x.entry.key → p.rank ≡ x.entry.rank
     → agrees l.rank l.key address ≡ agrees x.entry.rank x.entry.key address
-agrees_is address {p = p} x is key rank =
-    ap (λ z. agrees z.rank z.key address) is ∙ ap (λ k. agrees p.rank k address) key ∙ ap (λ r. agrees r x.entry.key address) rank
+agrees_is address {p = p} x is key rank = search
 
 pub covered : {V : Type 0} (address : ℕ) (x : Placed V) → agrees x.entry.rank x.entry.key address ≡ true → CoversIt address x
 unfolding Covers
@@ -112,4 +110,4 @@ covered address x agree = agree
 
 pub not_covered : {V : Type 0} (address : ℕ) (x : Placed V) → agrees x.entry.rank x.entry.key address ≡ false → CoversIt address x → ⊥
 unfolding Covers
-not_covered address x not covers = let both = sym not ∙ covers in cc
+not_covered address x not covers = cc

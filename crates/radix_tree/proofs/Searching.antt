@@ -1,8 +1,8 @@
 -- What a search beneath a bit node, and one for each of its listed masks, tell of all that is beneath it.
-use Rattle.radix_tree.proofs.{AddressBits.zero_not_one, AddressBits.covered_bit, AddressBits.clear_bit, AddressBits.covered_key, AddressBits.key_covers}
 use Rattle.radix_tree.proofs.{TreeMembers.same_rank, TreeMembers.tree_route, TreeMembers.bit_beneath}
-use Rattle.radix_tree.proofs.Words.{◌≡◌, ℕ, ◌+◌, ◌<◌, ◌≤◌, ◌⊎◌, List, [], ◌∷◌, None, Some, inl, inr, sym, ap, ◌∙◌, arith, cases_lt, masked, IsRoute}
-use Rattle.radix_tree.proofs.Words.{Placed, Tree, fork, bit_at, Covers, IsAmong, IsIn, IsTree, Falls, Finds, HasPair, Best}
+use Rattle.radix_tree.proofs.AddressBits.{zero_not_one, covered_bit, clear_bit, covered_key, key_covers}
+use Rattle.radix_tree.proofs.Words.{◌≡◌, ℕ, ◌+◌, ◌<◌, ◌≤◌, ◌⊎◌, List, [], ◌∷◌, None, Some, inl, inr, sym, ◌∙◌, arith, masked, IsRoute, Placed, Tree, fork}
+use Rattle.radix_tree.proofs.Words.{bit_at, Covers, IsAmong, IsIn, IsTree, Falls, Finds, HasPair, Best}
 
 module _ {V : Type 0} where
   -- the routes beneath a bit node, parted by whether they have the address's bit there
@@ -36,55 +36,34 @@ module _ {V : Type 0} where
   -- a route of the other side that covers the address has a rank not past the bit, and so a 0 there
   other_side : (address b : ℕ) (y : Placed V) → b ≤ 31 → IsRoute y.entry → Covers address y.entry → (bit_at b y.entry.key ≡ bit_at b address → ⊥)
       → (y.entry.rank ≤ b) × (bit_at b y.entry.key ≡ 0)
-  other_side address b y within route covers differs =
-      let short : y.entry.rank ≤ b = elim (cases_lt b y.entry.rank) [
-        | inl long ↦ absurd (differs (covered_bit address b y.entry long within covers))
-        | inr le ↦ le
-      ] in
-      (short, clear_bit b route short within)
+  other_side address b y within route covers differs = grind (arith, covered_bit, clear_bit)
 
   module _ {address b : ℕ} {side whole : Tree V} (is : IsSide address b side whole) where
     -- so the best of the address's side is the best of both
     pub side_hit : (low : ℕ) (x : Placed V) → Best address (b + 1) 34 (λ y. IsIn y side) (Some x) → Best address low 34 (λ y. IsIn y whole) (Some x)
-    side_hit low x best = (
-      is.inside x best.0,
-      best.1,
-      λ y at covers below. elim (is.parted y at) [
-        | inl p ↦ best.2 y p covers below
-        | inr differs ↦ let other = other_side address b y is.within (is.routes y at) covers differs in
-            let short = other.0 in
-            elim (cases_lt b x.entry.rank) [
-              | inl long ↦ omega arith
-              | inr le ↦ absurd (differs (other.1 ∙ sym (clear_bit b (is.routes x (is.inside x best.0)) le is.within) ∙ is.here x best.0))
-            ]
-      ],
-    )
+    side_hit low x best = grind (arith, other_side, clear_bit)
 
     -- where that side has none, all that cover the address have a rank not past the bit
     all_short : Best address (b + 1) 34 (λ y. IsIn y side) None → (y : Placed V) → IsIn y whole → Covers address y.entry → y.entry.rank < 34
         → y.entry.rank < b + 1
-    all_short none y at covers below = elim (is.parted y at) [
-      | inl p ↦ none y p covers below
-      | inr differs ↦ let short = (other_side address b y is.within (is.routes y at) covers differs).0 in omega arith
-    ]
+    all_short none y at covers below = grind (arith, other_side)
 
     -- and the masks that the node lists decide
     pub listed_hit : (low : ℕ) (x : Placed V) → Best address (b + 1) 34 (λ y. IsIn y side) None → Best address low (b + 1) (λ y. IsIn y whole) (Some x)
         → Best address low 34 (λ y. IsIn y whole) (Some x)
-    listed_hit low x none best = (best.0, best.1, λ y at covers below. best.2 y at covers (all_short none y at covers below))
+    listed_hit low x none best = search (all_short, best.2)
 
     pub listed_miss : (low : ℕ) → Best address (b + 1) 34 (λ y. IsIn y side) None → Best address low (b + 1) (λ y. IsIn y whole) None
         → Best address low 34 (λ y. IsIn y whole) None
-    listed_miss low none best = λ y at covers below. best y at covers (all_short none y at covers below)
+    listed_miss low none best = search (all_short)
 
   -- ---- the masks of one bit node
   falls_below : (low top : ℕ) (ms : List (Placed V)) → Falls low top ms → (y : Placed V) → IsAmong y ms → y.entry.rank < top
   falls_below low top [] falls y among = absurd among
   falls_below low top (m ∷ ms) falls y among =
-      let first = falls.1 in
       elim among [
-        | inl e ↦ let same = same_rank e in omega arith
-        | inr behind ↦ let lower = falls_below low m.entry.rank ms falls.2 y behind in omega arith
+        | inl e ↦ omega (arith, same_rank e)
+        | inr behind ↦ omega (arith, falls_below low m.entry.rank ms falls.2 y behind)
       ]
 
   -- all routes of a rank from low to below top are listed
@@ -94,15 +73,7 @@ module _ {V : Type 0} where
   -- so none of a rank below top has one past the first mask's
   none_longer : (low top : ℕ) (m : Placed V) (ms : List (Placed V)) (t : Tree V) → Falls low top (m ∷ ms) → AreListed low top (m ∷ ms) t
       → (y : Placed V) → IsIn y t → y.entry.rank < top → y.entry.rank ≤ m.entry.rank
-  none_longer low top m ms t falls listed y at below =
-      let least = falls.0 in
-      elim (cases_lt m.entry.rank y.entry.rank) [
-        | inl longer ↦ elim (listed y at (omega arith) below) [
-          | inl e ↦ let same = same_rank e in omega arith
-          | inr behind ↦ let lower = falls_below low m.entry.rank ms falls.2 y behind in omega arith
-        ]
-        | inr le ↦ le
-      ]
+  none_longer low top m ms t falls listed y at below = grind (arith, falls_below)
 
   -- a route found for the first mask is the best, once longer masks were tried in vain
   pub mask_hit : (address low top past : ℕ) (m : Placed V) (ms : List (Placed V)) (t : Tree V) (x : Placed V) → Falls low top (m ∷ ms)
@@ -111,9 +82,8 @@ module _ {V : Type 0} where
       → Best address low past (λ y. IsIn y t) (Some x)
   mask_hit address low top past m ms t x falls listed tried found = (
     found.0,
-    key_covers address x.entry (found.1.0 ∙ ap (λ r. masked r address) (sym found.1.1)),
-    λ y at covers below. let le = none_longer low top m ms t falls listed y at (tried y at covers below) in
-        let same = found.1.1 in omega arith,
+    grind (arith, key_covers),
+    λ y at covers below. omega (arith, none_longer low top m ms t falls listed y at (tried y at covers below)),
   )
 
   -- where none is found, that mask was tried in vain too
@@ -122,25 +92,14 @@ module _ {V : Type 0} where
       → Best address top past (λ y. IsIn y t) None → Finds (HasPair (masked m.entry.rank address) m.entry.rank) (λ y. IsIn y t) None
       → Best address m.entry.rank past (λ y. IsIn y t) None
   mask_miss address low top past m ms t routes falls listed tried none y at covers below =
-      let le = none_longer low top m ms t falls listed y at (tried y at covers below) in
-      elim (cases_lt y.entry.rank m.entry.rank) [
-        | inl lower ↦ lower
-        | inr ge ↦ let same : y.entry.rank ≡ m.entry.rank = omega arith in
-            absurd (none y at (covered_key address y.entry (routes y at) covers ∙ ap (λ r. masked r address) same, same))
-      ]
+      grind (arith, covered_key, none_longer low top m ms t falls listed y at (tried y at covers below))
 
   -- what is listed behind the first mask
   pub listed_behind : (low top : ℕ) (m : Placed V) (ms : List (Placed V)) (t : Tree V) → Falls low top (m ∷ ms) → AreListed low top (m ∷ ms) t
       → AreListed low m.entry.rank ms t
-  listed_behind low top m ms t falls listed y at least below =
-      let first = falls.1 in
-      elim (listed y at least (omega arith)) [
-        | inl e ↦ let same = same_rank e in absurd (omega arith)
-        | inr behind ↦ behind
-      ]
+  listed_behind low top m ms t falls listed y at least below = grind arith
 
   -- at the end of the list all masks were tried
   pub list_ends : (address low top past : ℕ) (t : Tree V) → AreListed low top [] t → Best address top past (λ y. IsIn y t) None
       → Best address low past (λ y. IsIn y t) None
-  list_ends address low top past t listed tried y at covers below =
-      elim (cases_lt y.entry.rank low) [ inl lower ↦ lower | inr ge ↦ absurd (listed y at ge (tried y at covers below)) ]
+  list_ends address low top past t listed tried y at covers below = grind arith

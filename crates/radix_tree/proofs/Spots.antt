@@ -1,7 +1,7 @@
 -- A walk up from a leaf to the spot at which a route of a new key comes in.
 use Rattle.radix_tree.proofs.{AddressBits.zero_or_one, Climbs.Climb, Climbs.Over, Climbs.fork_over, Climbs.node_at, Climbs.ended, Climbs.Steps}
-use Rattle.radix_tree.proofs.{Climbs.step_begun, Climbs.step_risen, Forking.one_value, Parts.fork_is, Parts.fork_name}
-use Rattle.radix_tree.proofs.Words.{◌≡◌, ℕ, ◌+◌, ◌<◌, ◌≤◌, [], Option, None, refl, sym, ap, ◌∙◌, subst, ⊎_elim, arith, inl, inr, cases_eq, Counter, Id}
+use Rattle.radix_tree.proofs.{Climbs.step_risen, Forking.one_value, Parts.fork_is, Parts.fork_name}
+use Rattle.radix_tree.proofs.Words.{◌≡◌, ℕ, ◌+◌, ◌<◌, ◌≤◌, [], Option, None, refl, sym, ◌∙◌, subst, arith, inl, inr, cases_eq, Counter, Id}
 use Rattle.radix_tree.proofs.Words.{BitNode, Node, LeafOf, BitOf, AreOnce, IsNew, IsSpot, Differs, IsBitNodeOf, ReadsOnce, Part, name_of, ForkAt, Beneath}
 use Rattle.radix_tree.proofs.Words.{LedTo, bit_at, HaveBit, IsTree, Lodged}
 
@@ -9,33 +9,14 @@ module _ {V : Type 0} {m : Lodged V} where
   -- a value that all keys of a part have at a bit before the node's above is that of all beneath the node
   agree_up : {key : ℕ} (c value : ℕ) {under over : Part m} (b : Beneath key under over) → c < b.at.bit → HaveBit c value under.tree
       → HaveBit c value over.tree
-  agree_up c value b before have =
-      let f = b.at in
-      let a = (fork_is f).0.agree c before in
-      let same : a.0 ≡ value = elim b.side [
-        | inl e ↦ one_value c a.0 value f.zero a.1 (subst (HaveBit c value) e.0 have)
-        | inr e ↦ one_value c a.0 value f.one a.2 (subst (HaveBit c value) e.0 have)
-      ] in
-      subst (HaveBit c value) (sym f.is) (subst (λ v. HaveBit c v f.zero) same a.1, subst (λ v. HaveBit c v f.one) same a.2)
+  agree_up c value b before have = grind (arith, one_value, (fork_is b.at).0.agree c before)
 
   -- beneath a bit node on a key's side all keys have the key's bit
   own_side : (key : ℕ) {under over : Part m} (b : Beneath key under over) → HaveBit b.at.bit (bit_at b.at.bit key) under.tree
-  own_side key b =
-      let f = b.at in
-      let is = (fork_is f).0 in
-      elim b.side [
-        | inl e ↦ subst (HaveBit f.bit (bit_at f.bit key)) (sym e.0) (subst (λ v. HaveBit f.bit v f.zero) (sym e.1) is.zeros)
-        | inr e ↦ subst (HaveBit f.bit (bit_at f.bit key)) (sym e.0) (subst (λ v. HaveBit f.bit v f.one) (sym e.1) is.ones)
-      ]
+  own_side key b = grind (arith, (fork_is b.at).0)
 
   raised : {over : Part m} {room : Id} (f : ForkAt over room) (bit : ℕ) → bit < f.bit → IsTree (bit + 1) over.tree
-  raised f bit past =
-      let is = fork_is f in
-      subst (IsTree (bit + 1)) (sym f.is) (
-        record { rises = omega arith; within = is.0.within; agree = is.0.agree; zeros = is.0.zeros; ones = is.0.ones },
-        is.1,
-        is.2,
-      )
+  raised f bit past = grind (arith, fork_is f)
 
   -- a part of this name, all of whose bits are past that one
   pub record Past (key other bit : ℕ) (below : Node) (start now : Counter) (part : Part m) : Type 0 where
@@ -48,16 +29,7 @@ module _ {V : Type 0} {m : Lodged V} where
   -- the leaf is one
   pub leaf_past : {key bit : ℕ} {whole : Part m} {room : Id} {start now : Counter} (d : LedTo key whole room) → Differs key d.leaf.first.entry.key bit
       → ReadsOnce start now → Past key d.leaf.first.entry.key bit (LeafOf room) start now d.part
-  leaf_past {bit = bit} d differs once =
-      let f = d.leaf in
-      let have : (c : ℕ) → HaveBit c (bit_at c f.first.entry.key) d.part.tree = λ c. subst (HaveBit c (bit_at c f.first.entry.key)) (sym f.is) refl in
-      record {
-        named = ap name_of f.is ∙ ap LeafOf f.room_is;
-        past = subst (IsTree (bit + 1)) (sym f.is) (omega (arith, differs.within), (subst (IsTree d.part.low) f.is d.part.is).1);
-        agree = λ c before. subst (λ v. HaveBit c v d.part.tree) (sym (differs.before c before)) (have c);
-        here = have bit;
-        steps = step_begun d once;
-      }
+  leaf_past {bit = bit} d differs once = grind arith
 
   -- and so is that of a bit node above whose bit is past it
   pub over_past : {key other bit : ℕ} {below : Node} {whole under : Part m} {room : Id} {start now later : Counter} {n : BitNode}
@@ -66,11 +38,11 @@ module _ {V : Type 0} {m : Lodged V} where
   over_past {key} {other} {bit} {under = under} {room} {n = n} o r is past once =
       let b = o.beneath in
       let same = (node_at (fork_over o) is).bit in
-      let further : bit < b.at.bit = omega (arith, past, same) in
+      let further : bit < b.at.bit = omega arith in
       record {
         named = fork_name (fork_over o);
         past = raised b.at bit further;
-        agree = λ c before. agree_up c (bit_at c key) b (omega (arith, before, further)) (r.agree c before);
+        agree = λ c before. agree_up c (bit_at c key) b (omega arith) (r.agree c before);
         here = agree_up bit (bit_at bit other) b further r.here;
         steps = step_risen o r.steps once;
       }
@@ -79,24 +51,15 @@ module _ {V : Type 0} {m : Lodged V} where
       (c : Climb key whole (Past key other bit below start now) above) → whole.above ≡ None → AreOnce whole.tree → Differs key other bit
       → c.part.low ≤ bit → IsSpot m key bit whole above below
   spot_of {other = other} {bit} c top once differs low =
-      let r = c.holds in record {
+      record {
         at = c.part;
         ups = c.ups;
         way = c.way;
         top = top;
         once = once;
-        place = record {
-          rises = low;
-          within = differs.within;
-          is = r.past;
-          agree = r.agree;
-          far_one = λ clear. ⊎_elim (λ (zero : bit_at bit other ≡ 0). absurd (differs.at (clear ∙ sym zero)))
-              (λ (one : bit_at bit other ≡ 1). subst (λ v. HaveBit bit v c.part.tree) one r.here) (zero_or_one bit other);
-          far_zero = λ set. ⊎_elim (λ (zero : bit_at bit other ≡ 0). subst (λ v. HaveBit bit v c.part.tree) zero r.here)
-              (λ (one : bit_at bit other ≡ 1). absurd (differs.at (set ∙ sym one))) (zero_or_one bit other);
-        };
+        place = grind (arith, zero_or_one);
         above_is = c.above;
-        named = r.named;
+        named = c.holds.named;
       }
 
   -- the spot is beneath the first bit node whose bit is not past the one at which the keys differ
@@ -110,7 +73,7 @@ module _ {V : Type 0} {m : Lodged V} where
       let other_bit : b.at.bit ≡ bit → ⊥ = λ e. w.differs.at
       (one_value bit (bit_at bit key) (bit_at bit other) c.part.tree (subst (λ k. HaveBit k (bit_at k key) c.part.tree) e (own_side key b))
       c.holds.here) in
-      spot_of c w.top w.once w.differs (elim (cases_eq b.at.bit bit) [ inl e ↦ absurd (other_bit e) | inr ne ↦ omega (arith, ne, same, b.low, before) ])
+      spot_of c w.top w.once w.differs (elim (cases_eq b.at.bit bit) [ inl e ↦ absurd (other_bit e) | inr ne ↦ omega (arith, b.low) ])
 
   -- or above the whole tree
   pub topped : {key bit : ℕ} {leaf : Id} {below : Node} {start now : Counter} (w : IsNew m key bit leaf) {above : Option Id}

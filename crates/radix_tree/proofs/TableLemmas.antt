@@ -1,29 +1,26 @@
 -- A table with or without an entry, by its first entry; and that it stays a table.
-use Rattle.radix_tree.proofs.Words.{◌≡◌, ℕ, Bool, true, false, cond, not, filter, IsTrue, List, [], ◌∷◌, Some, None, refl, ap, AllByRecursion, precedes}
+use Rattle.radix_tree.proofs.Words.{arith, ◌≡◌, ℕ, Bool, true, false, cond, not, filter, IsTrue, List, [], ◌∷◌, Some, None, refl, ap, AllByRecursion, precedes}
 use Rattle.radix_tree.proofs.Words.{IsTable, has_pair, entry_at, without, with_entry, AreOnePair, WithIsTable, WithoutIsTable, Entry}
-use Rattle.radix_tree.proofs.OrderLemmas.{stands_before, before, here, behind, beside, stands_behind, pair_is, behind_next, behind_not_before}
-use Rattle.radix_tree.proofs.OrderLemmas.{behind_not_pair, precedes_one_way, precedes_transitively}
+use Rattle.radix_tree.proofs.OrderLemmas.{stands_before, before, here, behind, beside, stands_behind, pair_is, behind_next, behind_not_before, behind_not_pair}
+use Rattle.radix_tree.proofs.OrderLemmas.{precedes_one_way, precedes_transitively}
 use Rattle.radix_tree.proofs.ListLemmas.{all_weaker, all_filter, filter_all, filter_none, find_none}
 
 -- behind an entry that doesn't stand before a pair, all stand behind the pair
 pub all_behind : {V : Type 0} (key rank : ℕ) (x : Entry V) (xs : List (Entry V)) → stands_before key rank x ≡ false
     → AllByRecursion (λ f. IsTrue (precedes x f)) xs → AllByRecursion (λ f. stands_behind key rank f ≡ true) xs
-all_behind key rank x xs h r = all_weaker (λ f. IsTrue (precedes x f)) (λ f. stands_behind key rank f ≡ true) (λ f k. behind_next key rank x f h k) xs r
+all_behind key rank x xs h r = search (all_weaker, behind_next)
 
 -- of what stands behind a pair nothing stands before it, and nothing has it
 pub none_before : {V : Type 0} (key rank : ℕ) (xs : List (Entry V)) → AllByRecursion (λ f. stands_behind key rank f ≡ true) xs
     → filter (stands_before key rank) xs ≡ []
-none_before key rank xs h =
-    filter_none (stands_before key rank) xs (all_weaker (λ f. stands_behind key rank f ≡ true) (λ f. stands_before key rank f ≡ false)
-    (behind_not_before key rank) xs h)
+none_before key rank xs h = search (filter_none, all_weaker, behind_not_before)
 
 pub all_stay : {V : Type 0} (key rank : ℕ) (xs : List (Entry V)) → AllByRecursion (λ f. stands_behind key rank f ≡ true) xs
     → filter (stands_behind key rank) xs ≡ xs
 all_stay key rank xs h = filter_all (stands_behind key rank) xs h
 
 pub none_at : {V : Type 0} (key rank : ℕ) (xs : List (Entry V)) → AllByRecursion (λ f. stands_behind key rank f ≡ true) xs → entry_at key rank xs ≡ None
-none_at key rank xs h =
-    find_none (has_pair key rank) xs (all_weaker (λ f. stands_behind key rank f ≡ true) (λ f. has_pair key rank f ≡ false) (behind_not_pair key rank) xs h)
+none_at key rank xs h = search (find_none, all_weaker, behind_not_pair)
 
 -- where a pair isn't there, nothing goes with it
 pub without_absent : {V : Type 0} (key rank : ℕ) (es : List (Entry V)) → entry_at key rank es ≡ None → without key rank es ≡ es
@@ -61,34 +58,25 @@ with_parts e x xs r = elim (beside e.key e.rank x) [
 all_with_entry : {V : Type 0} (x e : Entry V) (xs : List (Entry V)) → IsTable xs → IsTrue (precedes x e) → AllByRecursion (λ f. IsTrue (precedes x f)) xs
     → AllByRecursion (λ f. IsTrue (precedes x f)) (with_entry e xs)
 all_with_entry x e [] r h k = (h, tt)
-all_with_entry x e (y ∷ ys) r h k = elim (with_parts e y ys r) [
-  | later p n is ↦ rw is (k.0, all_with_entry x e ys r.2 h k.1)
-  | same p n gone is alone ↦ rw is (h, k.1)
-  | sooner p n gone is ↦ rw is (h, k)
-]
+all_with_entry x e (y ∷ ys) r h k = grind (arith, with_parts, all_with_entry x e ys r.2 h k.1)
 
 -- an entry in the place of one with its pair precedes the same
 same_ahead : {V : Type 0} (e x : Entry V) (xs : List (Entry V)) → AreOnePair x.key x.rank e.key e.rank → AllByRecursion (λ f. IsTrue (precedes x f)) xs
     → AllByRecursion (λ f. IsTrue (precedes e f)) xs
-same_ahead e x xs p r = all_weaker (λ f. IsTrue (precedes x f)) (λ f. IsTrue (precedes e f)) (λ f k. rw (← p.0, ← p.1) k) xs r
+same_ahead e x xs p r = grind (arith, all_weaker)
 
 -- what an entry precedes is preceded by those that precede it
 pub all_ahead : {V : Type 0} (e x : Entry V) (xs : List (Entry V)) → IsTrue (precedes e x) → AllByRecursion (λ f. IsTrue (precedes x f)) xs
     → AllByRecursion (λ f. IsTrue (precedes e f)) xs
-all_ahead e x xs h r = all_weaker (λ f. IsTrue (precedes x f)) (λ f. IsTrue (precedes e f)) (λ f k. precedes_transitively e x f h k) xs r
+all_ahead e x xs h r = search (all_weaker, precedes_transitively)
 
 pub with_is_table : {V : Type 0} → WithIsTable V
 with_is_table [] e r route = (route, tt, tt)
-with_is_table (x ∷ xs) e r route = elim (with_parts e x xs r) [
-  | later p n is ↦ rw is (r.0, all_with_entry x e xs r.2 p r.1, with_is_table xs e r.2 route)
-  | same p n gone is alone ↦ rw is (route, same_ahead e x xs p r.1, r.2)
-  | sooner p n gone is ↦ rw is (route, (p, all_ahead e x xs p r.1), r)
-]
+with_is_table (x ∷ xs) e r route = grind (arith, with_parts, all_with_entry, all_ahead, with_is_table xs e r.2 route)
 
 pub filter_is_table : {V : Type 0} (q : Entry V → Bool) (es : List (Entry V)) → IsTable es → IsTable (filter q es)
 filter_is_table q [] r = tt
-filter_is_table q (e ∷ es) r = elim (q e) as (λ b. IsTable (cond b (e ∷ filter q es) (filter q es)))
-    [ true ↦ (r.0, all_filter (λ f. IsTrue (precedes e f)) q es r.1, filter_is_table q es r.2) | false ↦ filter_is_table q es r.2 ]
+filter_is_table q (e ∷ es) r = grind (arith, all_filter, filter_is_table q es r.2)
 
 pub without_is_table : {V : Type 0} → WithoutIsTable V
-without_is_table entries key rank r = filter_is_table (λ e. not (has_pair key rank e)) entries r
+without_is_table entries key rank r = search (filter_is_table)

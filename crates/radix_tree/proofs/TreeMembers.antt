@@ -1,8 +1,7 @@
 -- The routes of a chain and of a tree.
-use Rattle.radix_tree.proofs.Words.{◌≡◌, ℕ, ◌+◌, ◌<◌, ◌≤◌, List, [], ◌∷◌, length, Option, Some, None, refl, ap, ◌∙◌, subst, arith, inl, inr, Id, IsRoute}
-use Rattle.radix_tree.proofs.Words.{Leaves, Bits, first_room, leaf_part, ChainStands, Stands, Placed, Tree, leaf, fork, bit_at, IsAmong, IsIn, IsChain}
-use Rattle.radix_tree.proofs.Words.{IsTree, HaveBit}
-use Rattle.radix_tree.proofs.RoomReads.{inside, none_some}
+use Rattle.radix_tree.proofs.{RoomReads.inside, RoomReads.none_some}
+use Rattle.radix_tree.proofs.Words.{◌≡◌, ℕ, ◌+◌, ◌<◌, ◌≤◌, List, [], ◌∷◌, length, Option, Some, None, refl, ap, subst, arith, inl, inr, Id, IsRoute, Leaves}
+use Rattle.radix_tree.proofs.Words.{Bits, first_room, leaf_part, ChainStands, Stands, Placed, Tree, leaf, fork, bit_at, IsAmong, IsIn, IsChain, IsTree, HaveBit}
 use Rattle.radix_nodes.specs.Naming.{number_of}
 
 module _ {V : Type 0} where
@@ -22,35 +21,31 @@ module _ {V : Type 0} where
 
   pub chain_route : (key top : ℕ) (c : List (Placed V)) → IsChain key top c → (x : Placed V) → IsAmong x c → IsRoute x.entry
   chain_route key top [] is x among = absurd among
-  chain_route key top (y ∷ c) is x among =
-      elim among [ inl e ↦ subst (λ p. IsRoute p.entry) e is.0 | inr it ↦ chain_route key y.entry.rank c is.3 x it ]
+  chain_route key top (y ∷ c) is x among = elim among [ inl e ↦ subst (λ p. IsRoute p.entry) e is.0 | inr it ↦ chain_route key y.entry.rank c is.3 x it ]
 
   pub chain_key : (key top : ℕ) (c : List (Placed V)) → IsChain key top c → (x : Placed V) → IsAmong x c → x.entry.key ≡ key
   chain_key key top [] is x among = absurd among
-  chain_key key top (y ∷ c) is x among =
-      elim among [ inl e ↦ subst (λ p. p.entry.key ≡ key) e is.1 | inr it ↦ chain_key key y.entry.rank c is.3 x it ]
+  chain_key key top (y ∷ c) is x among = elim among [ inl e ↦ subst (λ p. p.entry.key ≡ key) e is.1 | inr it ↦ chain_key key y.entry.rank c is.3 x it ]
 
   pub chain_below : (key top : ℕ) (c : List (Placed V)) → IsChain key top c → (x : Placed V) → IsAmong x c → x.entry.rank < top
   chain_below key top [] is x among = absurd among
   chain_below key top (y ∷ c) is x among =
-      let first = is.2 in
       elim among [
-        | inl e ↦ subst (λ p. p.entry.rank < top) e first
-        | inr behind ↦ let lower = chain_below key y.entry.rank c is.3 x behind in omega arith
+        | inl e ↦ subst (λ p. p.entry.rank < top) e is.2
+        | inr behind ↦ omega (arith, chain_below key y.entry.rank c is.3 x behind)
       ]
 
   -- of a chain the first route is of greatest rank
   pub first_greatest : (key top : ℕ) (x : Placed V) (c : List (Placed V)) → IsChain key top (x ∷ c) → (y : Placed V) → IsAmong y (x ∷ c)
       → y.entry.rank ≤ x.entry.rank
   first_greatest key top x c is y among = elim among [
-    | inl e ↦ let same = same_rank e in omega arith
-    | inr behind ↦ let lower = chain_below key x.entry.rank c is.3 y behind in omega arith
+    | inl e ↦ omega (arith, same_rank e)
+    | inr behind ↦ omega (arith, chain_below key x.entry.rank c is.3 y behind)
   ]
 
   pub chain_short : (key top : ℕ) (c : List (Placed V)) → IsChain key top c → length c ≤ top
   chain_short key top [] is = omega arith
-  chain_short key top (x ∷ c) is =
-      let first = is.2 in let behind = chain_short key x.entry.rank c is.3 in omega arith
+  chain_short key top (x ∷ c) is = omega (arith, chain_short key x.entry.rank c is.3)
 
   pub tree_route : (low : ℕ) (t : Tree V) → IsTree low t → (x : Placed V) → IsIn x t → IsRoute x.entry
   tree_route low (leaf z zs) is x at = chain_route z.entry.key 34 (z ∷ zs) is.1 x at
@@ -58,7 +53,7 @@ module _ {V : Type 0} where
 
   -- a bit that all keys of a tree have is each one's
   pub bit_beneath : (low b value : ℕ) (t : Tree V) → IsTree low t → HaveBit b value t → (x : Placed V) → IsIn x t → bit_at b x.entry.key ≡ value
-  bit_beneath low b value (leaf z zs) is have x at = ap (bit_at b) (chain_key z.entry.key 34 (z ∷ zs) is.1 x at) ∙ have
+  bit_beneath low b value (leaf z zs) is have x at = grind (arith, chain_key)
   bit_beneath low b value (fork room c zero one) is have x at =
       elim at [ inl it ↦ bit_beneath (c + 1) b value zero is.1 have.0 x it | inr it ↦ bit_beneath (c + 1) b value one is.2 have.1 x it ]
 

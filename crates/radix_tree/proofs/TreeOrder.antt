@@ -1,29 +1,24 @@
 -- The routes of a tree, from left to right, are a table.
-use Rattle.std.proofs.Math.Nat.{div-mul-le_self}
+use Rattle.radix_tree.proofs.{ListLemmas.all_append, OrderLemmas.precedes_in_words, TreeMembers.chain_key, TreeMembers.chain_below, TreeMembers.tree_route}
+use Rattle.radix_tree.proofs.{TreeMembers.bit_beneath}
 use Rattle.mask_table.proofs.Agreeing.{front_of_bits, front_suc}
-use Rattle.radix_tree.proofs.{ListLemmas.all_append, OrderLemmas.precedes_in_words, TreeMembers.chain_key, TreeMembers.chain_below}
-use Rattle.radix_tree.proofs.{TreeMembers.tree_route, TreeMembers.bit_beneath}
-use Rattle.std.proofs.lemmas.Nat.{le-div, pow_pos}
 use Rattle.radix_tree.specs.Tree.{bit_at}
-use Rattle.radix_tree.proofs.Words.{◌≡◌, ℕ, suc, ◌+◌, ◌-◌, ◌/◌, ◌^◌, ◌<◌, ◌≤◌, IsTrue, List, [], ◌∷◌, ◌++◌, map, refl, inl, inr, sym, ◌∙◌, arith}
-use Rattle.radix_tree.proofs.Words.{cases_lt, AllByRecursion, front, precedes, IsTable, Placed, Tree, leaf, fork, IsAmong, IsIn, IsChain, IsFork, IsTree}
-use Rattle.radix_tree.proofs.Words.{routes_of, Entry}
+use Rattle.radix_tree.proofs.Words.{◌≡◌, ℕ, suc, ◌+◌, ◌-◌, ◌/◌, ◌^◌, ◌<◌, ◌≤◌, IsTrue, List, [], ◌∷◌, ◌++◌, map, refl, inl, inr, sym, ◌∙◌, arith, cases_lt}
+use Rattle.radix_tree.proofs.Words.{AllByRecursion, precedes, IsTable, Placed, Tree, leaf, fork, IsAmong, IsIn, IsChain, IsFork, IsTree, routes_of, Entry}
 
 monotone : (k x y : ℕ) → y ≤ x → y / 2 ^ k ≤ x / 2 ^ k
-monotone k x y le = let low = div-mul-le_self y (2 ^ k) in le-div (y / 2 ^ k) x (2 ^ k) (pow_pos k) (omega arith)
+monotone k x y le = grind arith
 
 -- an address is smaller where the first bit that differs is 0
 less : (b x y : ℕ) → b ≤ 31 → x < 2 ^ 32 → y < 2 ^ 32 → ((c : ℕ) → c < b → bit_at c x ≡ bit_at c y) → bit_at b x ≡ 0 → bit_at b y ≡ 1 → x < y
 unfolding bit_at
 less b x y within fits_x fits_y same zero one =
     let inside : b < 32 = omega arith in
-    let before = front_of_bits b x y (omega arith) fits_x fits_y same in
     let of_x = front_suc b x inside in
     let of_y = front_suc b y inside in
-    let more : front (suc b) x < front (suc b) y = omega (arith, before, of_x, of_y, zero, one) in
     elim (cases_lt x y) [
       | inl lt ↦ lt
-      | inr ge ↦ let le = monotone (32 - suc b) x y ge in absurd (omega (arith, more, le))
+      | inr ge ↦ let le = monotone (32 - suc b) x y ge in absurd (omega (arith, front_of_bits b x y (omega arith) fits_x fits_y same))
     ]
 
 module _ {V : Type 0} where
@@ -42,16 +37,13 @@ module _ {V : Type 0} where
   chain_is_table key top [] is = tt
   chain_is_table key top (x ∷ c) is = (
     is.0,
-    all_among (λ f. IsTrue (precedes x.entry f)) c (λ y among. (precedes_in_words x.entry y.entry).1 (inr (
-      is.1 ∙ sym (chain_key key x.entry.rank c is.3 y among),
-      chain_below key x.entry.rank c is.3 y among,
-    ))),
+    all_among (λ f. IsTrue (precedes x.entry f)) c (grind (arith, chain_key, chain_below)),
     chain_is_table key x.entry.rank c is.3,
   )
 
   joined : (xs ys : List (Entry V)) → IsTable xs → IsTable ys → AllByRecursion (λ e. AllByRecursion (λ f. IsTrue (precedes e f)) ys) xs → IsTable (xs ++ ys)
   joined [] ys left right before = right
-  joined (x ∷ xs) ys left right before = (left.0, all_append (λ f. IsTrue (precedes x f)) xs ys left.1 before.0, joined xs ys left.2 right before.1)
+  joined (x ∷ xs) ys left right before = (left.0, grind (arith, all_append), joined xs ys left.2 right before.1)
 
   -- what is beneath a bit node on the one side precedes what is on the other
   sides_precede : {low : ℕ} (b : ℕ) (zero one : Tree V) → IsFork low b zero one → IsTree (b + 1) zero → IsTree (b + 1) one → (x y : Placed V) → IsIn x zero
@@ -65,5 +57,4 @@ module _ {V : Type 0} where
   pub tree_is_table : (low : ℕ) (t : Tree V) → IsTree low t → IsTable (routes_of t)
   tree_is_table low (leaf x xs) is = chain_is_table x.entry.key 34 (x ∷ xs) is.1
   tree_is_table low (fork room b zero one) is = joined (routes_of zero) (routes_of one) (tree_is_table (b + 1) zero is.1) (tree_is_table (b + 1) one is.2)
-      (all_in (λ e. AllByRecursion (λ f. IsTrue (precedes e f)) (routes_of one)) zero
-      (λ x left. all_in (λ f. IsTrue (precedes x.entry f)) one (λ y right. sides_precede b zero one is.0 is.1 is.2 x y left right)))
+      (search (all_in, sides_precede))

@@ -1,8 +1,8 @@
 -- A walk up a tree from the leaf of an address, in search of its best route.
-use Rattle.radix_tree.proofs.{Climbs.Over, Climbs.fork_over, Parts.fork_is, Parts.among_leaf, Parts.in_leaf, Parts.side_of, Parts.way_best}
+use Rattle.radix_tree.proofs.{Climbs.Over, Climbs.fork_over, Parts.fork_is, Parts.in_leaf, Parts.side_of, Parts.way_best}
 use Rattle.radix_tree.proofs.{Searching.listed_hit, Searching.listed_miss}
 use Rattle.radix_tree.proofs.Words.{◌≡◌, ℕ, ◌+◌, ◌-◌, ◌*◌, ◌≤◌, ◌∷◌, Option, Some, None, subst, arith, Counter, Id, Reads, Part, Tells, Best, In, LedTo}
-use Rattle.radix_tree.proofs.Words.{IsAmong, IsTree, Lodged}
+use Rattle.radix_tree.proofs.Words.{IsAmong, Lodged}
 
 module _ {V : Type 0} {m : Lodged V} where
   -- all beneath a part was searched in vain
@@ -20,19 +20,12 @@ module _ {V : Type 0} {m : Lodged V} where
         told.0,
         told.1,
         way_best m address whole l.part l.ups l.way told.0
-            (in_leaf l.leaf told.0 best.0, best.1, λ y at covers below. best.2 y (among_leaf l.leaf y at) covers below),
+            (in_leaf l.leaf told.0 best.0, best.1, grind arith),
       )
 
   pub searched : {address : ℕ} {whole : Part m} {room : Id} {start now : Counter} (l : LedTo address whole room) {o : Option Id} → o ≡ None
       → Tells (Best address 0 34 (λ y. IsAmong y (l.leaf.first ∷ l.leaf.rest))) o → Reads start now 67 → Searched address start now l.part
-  searched {address} {whole} {room} l none tells soon =
-      let told = subst (Tells (Best address 0 34 (λ y. IsAmong y (l.leaf.first ∷ l.leaf.rest)))) none tells in
-      let low = (subst (IsTree l.part.low) l.leaf.is l.part.is).0 in
-      record {
-        none = λ y at covers below. let never = told y (among_leaf l.leaf y at) covers below in omega (arith, never);
-        rises = soon.rises;
-        few = omega (arith, low);
-      }
+  searched {address} {whole} {room} l none tells soon = grind arith
 
   -- ---- at a bit node above: its list has a route of the address
   pub hit : {address : ℕ} {whole under : Part m} {room found : Id} {start now : Counter} (o : Over address whole under room) {answer : Option Id}
@@ -59,5 +52,5 @@ module _ {V : Type 0} {m : Lodged V} where
       record {
         none = listed_miss (side_of b) o.part.low (subst (λ n. Best address n 34 (In under) None) b.low s.none) told;
         rises = omega arith;
-        few = omega (arith, rises, b.low, s.few);
+        few = omega (arith, b.low, s.few);
       }

@@ -1,17 +1,15 @@
 -- A value in a room changes, and with it the route that stands there.
 use Rattle.radix_tree.proofs.{Counted.of_rank-cons, Counted.of_rank-append, GivenNumbers.given_same, OrderLemmas.own_pair, TableLemmas.with_parts}
 use Rattle.radix_tree.proofs.{TableLemmas.with_later, TreeOrder.tree_is_table, Showing.shown_is, WholeParts.once_but, Facts.no_use, ChainLists.map_entries}
-use Rattle.radix_tree.proofs.{WholeRoutes.all_at}
-use Rattle.radix_tree.proofs.TableLemmas.With.{later, same, sooner}
+use Rattle.radix_tree.proofs.{WholeRoutes.all_at, TableLemmas.With.later, TableLemmas.With.same, TableLemmas.With.sooner}
 use Rattle.radix_tree.proofs.ValuedTrees.{all_valued_in, valued, all_valued, tree_valued, name_valued, tree_is_valued, put, stands_valued, leaves_valued}
 use Rattle.radix_tree.proofs.ValuedTrees.{forks_valued, spare_valued, in_valued, home_is, lists_valued}
-use Rattle.radix_nodes.proofs.Callers.{put_value-is, get-put_room}
+use Rattle.radix_nodes.proofs.Callers.{get-put_room}
 use Rattle.radix_tree.proofs.Words.{◌≡◌, ℕ, ◌+◌, ◌≤◌, ◌==◌, Bool, true, false, IsTrue, if◌then◌else◌, List, ◌∷◌, ◌++◌, Option, Some, None, is_some, refl, inl}
-use Rattle.radix_tree.proofs.Words.{inr, sym, ap, ◌∙◌, subst, arith, eqb-true, eq-eqb, append_assoc, get, Seen, Has, seen, put_value, leaf_of}
-use Rattle.radix_tree.proofs.Words.{bit_node_of, mask_node_of, Id, Node, precedes, IsTable, with_entry, Placed, Tree, leaf, fork, IsAmong, IsIn, routes_of}
-use Rattle.radix_tree.proofs.Words.{LeafPart, leaf_in, bit_in, head_in, mask_in, bit_part, mask_part, leaves_in, bits_in, heads_in, masks_in, Stands, one_if}
-use Rattle.radix_tree.proofs.Words.{members_at, leaves_at, HaveOneFork, shown, IsWhole, KeepsBits, KeepsHeads, KeepsMasks, Entry, of_rank, AreCounted, Tells}
-use Rattle.radix_tree.proofs.Words.{Finds, HasPair, In, Lodged, nobody_late, [], MarkedLists, IsMarked, ◌⊎◌, true≢false}
+use Rattle.radix_tree.proofs.Words.{inr, sym, ap, ◌∙◌, subst, arith, eqb-true, eq-eqb, append_assoc, get, Seen, Has, seen, put_value, Id, Node, precedes}
+use Rattle.radix_tree.proofs.Words.{IsTable, with_entry, Placed, Tree, leaf, fork, IsAmong, IsIn, routes_of, LeafPart, leaf_in, leaves_in, bits_in, heads_in}
+use Rattle.radix_tree.proofs.Words.{masks_in, Stands, one_if, members_at, leaves_at, HaveOneFork, shown, IsWhole, KeepsBits, KeepsHeads, KeepsMasks, Entry}
+use Rattle.radix_tree.proofs.Words.{of_rank, AreCounted, Tells, Finds, HasPair, In, Lodged, nobody_late, [], MarkedLists, IsMarked, ◌⊎◌, true≢false}
 use Rattle.radix_tree.specs.Given.{AreGiven}
 use Rattle.radix_nodes.specs.Naming.{number_of}
 
@@ -25,37 +23,30 @@ module _ {V : Type 0} (n : ℕ) (value : V) where
     now : new ≡ front ++ record e { value = value } ∷ back
 
   apart : (x : Placed V) → ((number_of x.room) == n) ≡ false → (valued n value x).entry ≡ x.entry
-  apart x other = ap (λ b. record { key = x.entry.key; rank = x.entry.rank; value = if b then value else x.entry.value }) other
+  apart x other = grind arith
 
   here_is : (x : Placed V) → ((number_of x.room) == n) ≡ true → (valued n value x).entry ≡ record x.entry { value = value }
-  here_is x is = ap (λ b. record { key = x.entry.key; rank = x.entry.rank; value = if b then value else x.entry.value }) is
+  here_is x is = search
 
   chain_aside : (c : List (Placed V)) → members_at n c ≡ 0 → map_entries (all_valued n value c) ≡ map_entries c
   chain_aside [] none = refl
   chain_aside (x ∷ xs) none =
-      let here : one_if ((number_of x.room) == n) ≡ 0 = omega (arith, none) in
-      let rest : members_at n xs ≡ 0 = omega (arith, none) in
-      ap (λ e. e ∷ map_entries (all_valued n value xs)) (apart x (no_use ((number_of x.room) == n) here)) ∙ ap (λ es. x.entry ∷ es) (chain_aside xs rest)
+      let here : one_if ((number_of x.room) == n) ≡ 0 = omega arith in
+      search (apart, no_use, chain_aside xs (omega arith))
 
   tree_aside : (t : Tree V) → leaves_at n t ≡ 0 → routes_of (tree_valued n value t) ≡ routes_of t
   tree_aside (leaf x xs) none = chain_aside (x ∷ xs) none
-  tree_aside (fork room b zero one) none =
-      let left : leaves_at n zero ≡ 0 = omega (arith, none) in
-      let right : leaves_at n one ≡ 0 = omega (arith, none) in
-      ap (λ es. es ++ routes_of (tree_valued n value one)) (tree_aside zero left) ∙ ap (λ es. routes_of zero ++ es) (tree_aside one right)
+  tree_aside (fork room b zero one) none = search (tree_aside zero (omega arith), tree_aside one (omega arith))
 
   counted_among : (x : Placed V) (c : List (Placed V)) → number_of x.room ≡ n → IsAmong x c → 1 ≤ members_at n c
   counted_among x [] is among = absurd among
-  counted_among x (y ∷ c) is among = elim among [
-    | inl e ↦ let here = ap one_if (eq-eqb (number_of y.room) n (ap (λ p. (number_of p.room)) e ∙ is)) in omega (arith, here)
-    | inr rest ↦ let more = counted_among x c is rest in omega (arith, more)
-  ]
+  counted_among x (y ∷ c) is among = elim among [ inl e ↦ grind arith | inr rest ↦ omega (arith, counted_among x c is rest) ]
 
   counted_in : (x : Placed V) (t : Tree V) → number_of x.room ≡ n → IsIn x t → 1 ≤ leaves_at n t
   counted_in x (leaf y ys) is at = counted_among x (y ∷ ys) is at
   counted_in x (fork room b zero one) is at = elim at [
-    | inl left ↦ let some = counted_in x zero is left in omega (arith, some)
-    | inr right ↦ let some = counted_in x one is right in omega (arith, some)
+    | inl left ↦ omega (arith, counted_in x zero is left)
+    | inr right ↦ omega (arith, counted_in x one is right)
   ]
 
   chain_put : (x : Placed V) (c : List (Placed V)) → number_of x.room ≡ n → IsAmong x c → members_at n c ≤ 1
@@ -63,8 +54,7 @@ module _ {V : Type 0} (n : ℕ) (value : V) where
   chain_put x [] is among once = absurd among
   chain_put x (y ∷ c) is among once = elim among [
     | inl e ↦ let at = eq-eqb (number_of y.room) n (ap (λ p. (number_of p.room)) e ∙ is) in
-        let here = ap one_if at in
-        let none : members_at n c ≡ 0 = omega (arith, here, once) in
+        let none : members_at n c ≡ 0 = omega (arith, ap one_if at) in
         subst (λ p. IsPut p.entry (y.entry ∷ map_entries c) (map_entries (all_valued n value (y ∷ c)))) e (record {
           front = [];
           back = map_entries c;
@@ -72,14 +62,12 @@ module _ {V : Type 0} (n : ℕ) (value : V) where
           now = ap (λ f. f ∷ map_entries (all_valued n value c)) (here_is y at) ∙ ap (λ es. record y.entry { value = value } ∷ es) (chain_aside c none);
         })
     | inr rest ↦ let some = counted_among x c is rest in
-        let here : one_if ((number_of y.room) == n) ≡ 0 = omega (arith, some, once) in
-        let fewer : members_at n c ≤ 1 = omega (arith, once) in
-        let p = chain_put x c is rest fewer in
+        let p = chain_put x c is rest (omega arith) in
         record {
           front = y.entry ∷ p.front;
           back = p.back;
           was = ap (λ es. y.entry ∷ es) p.was;
-          now = ap (λ f. f ∷ map_entries (all_valued n value c)) (apart y (no_use ((number_of y.room) == n) here)) ∙ ap (λ es. y.entry ∷ es) p.now;
+          now = ap (λ f. f ∷ map_entries (all_valued n value c)) (apart y (no_use ((number_of y.room) == n) (omega arith))) ∙ ap (λ es. y.entry ∷ es) p.now;
         }
   ]
 
@@ -87,26 +75,22 @@ module _ {V : Type 0} (n : ℕ) (value : V) where
   tree_put x (leaf y ys) is at once = chain_put x (y ∷ ys) is at once
   tree_put x (fork room b zero one) is at once = elim at [
     | inl left ↦ let some = counted_in x zero is left in
-        let none : leaves_at n one ≡ 0 = omega (arith, some, once) in
-        let fewer : leaves_at n zero ≤ 1 = omega (arith, once) in
-        let p = tree_put x zero is left fewer in
+        let p = tree_put x zero is left (omega arith) in
         record {
           front = p.front;
           back = p.back ++ routes_of one;
           was = ap (λ es. es ++ routes_of one) p.was ∙ append_assoc p.front (x.entry ∷ p.back) (routes_of one);
           now = ap (λ es. es ++ routes_of (tree_valued n value one)) p.now
-              ∙ ap (λ es. (p.front ++ record x.entry { value = value } ∷ p.back) ++ es) (tree_aside one none)
+              ∙ ap (λ es. (p.front ++ record x.entry { value = value } ∷ p.back) ++ es) (tree_aside one (omega arith))
               ∙ append_assoc p.front (record x.entry { value = value } ∷ p.back) (routes_of one);
         }
     | inr right ↦ let some = counted_in x one is right in
-        let none : leaves_at n zero ≡ 0 = omega (arith, some, once) in
-        let fewer : leaves_at n one ≤ 1 = omega (arith, once) in
-        let p = tree_put x one is right fewer in
+        let p = tree_put x one is right (omega arith) in
         record {
           front = routes_of zero ++ p.front;
           back = p.back;
           was = ap (λ es. routes_of zero ++ es) p.was ∙ sym (append_assoc (routes_of zero) p.front (x.entry ∷ p.back));
-          now = ap (λ es. es ++ routes_of (tree_valued n value one)) (tree_aside zero none) ∙ ap (λ es. routes_of zero ++ es) p.now
+          now = ap (λ es. es ++ routes_of (tree_valued n value one)) (tree_aside zero (omega arith)) ∙ ap (λ es. routes_of zero ++ es) p.now
               ∙ sym (append_assoc (routes_of zero) p.front (record x.entry { value = value } ∷ p.back));
         }
   ]
@@ -178,10 +162,8 @@ module _ {V : Type 0} where
     pub valued_shown : (x : Placed V) → number_of x.room ≡ n → IsIn x w.part.tree
         → shown new (Some root) ≡ with_entry (record x.entry { value = value }) (shown m (Some root))
     valued_shown x is at =
-        let once = (once_but w).leaves n in
-        let p = tree_put n value x w.part.tree is at once in
-        let table = subst IsTable p.was (tree_is_table w.part.low w.part.tree w.part.is) in
-        (whole_and_shown).1 ∙ p.now ∙ sym (placed_in n value p.front p.back x.entry table)
+        let p = tree_put n value x w.part.tree is at ((once_but w).leaves n) in
+        (whole_and_shown).1 ∙ p.now ∙ sym (placed_in n value p.front p.back x.entry (subst IsTable p.was (tree_is_table w.part.low w.part.tree w.part.is)))
         ∙ ap (with_entry (record x.entry { value = value })) (sym p.was ∙ sym (shown_is w))
 
   -- ---- a room whose value is written
@@ -191,30 +173,14 @@ module _ {V : Type 0} where
 
   module _ (m : Lodged V) (room : Id) (value : V) (h : Has m room) where
     put_get : (k : ℕ) → get (put_value m room value) k ≡ (if k == (number_of room) then Some (seen room.block value h.room.links) else get m k)
-    put_get k = ap (λ q. get q k) (put_value-is m room value h) ∙ get-put_room m room value h.room.links k
+    put_get k = grind (arith, get-put_room)
 
     kept : {A : Type 0} (r : Option (Seen V) → A) → r (Some (seen room.block value h.room.links)) ≡ r (Some h.room) → (k : ℕ)
         → r (get (put_value m room value) k) ≡ r (get m k)
-    kept r alike k = ap r (put_get k) ∙ elim (k == (number_of room)) as (λ b. (k == (number_of room)) ≡ b
-        → r (if b then Some (seen room.block value h.room.links) else get m k) ≡ r (get m k)) [
-          | true ↦ λ is. alike ∙ ap r (sym h.at) ∙ ap (λ j. r (get m j)) (sym (eqb-true k (number_of room) is))
-          | false ↦ λ is. refl
-        ] refl
+    kept r alike k = grind (arith, put_get)
 
     pub put_valued : IsValued m (put_value m room value) (number_of room) value
-    put_valued = record {
-      leaves = λ k. ap leaf_in (put_get k)
-          ∙ elim (k == (number_of room)) as (λ b. (k == (number_of room)) ≡ b → leaf_in (if b then Some (seen room.block value h.room.links) else get m k)
-          ≡ put (number_of room) value b (leaves_in m k)) [
-            | true ↦ λ is. ap (λ p. Some (record { block = p; value = value; leaf = leaf_of h.room.links })) (sym h.block)
-                ∙ ap (λ o. put (number_of room) value true (leaf_in o)) (sym h.at)
-                ∙ ap (λ j. put (number_of room) value true (leaves_in m j)) (sym (eqb-true k (number_of room) is))
-            | false ↦ λ is. put_none (number_of room) value (leaves_in m k)
-          ] refl;
-      bits = kept (λ (o : Option (Seen V)). bit_in o) (ap (λ p. bit_part p (bit_node_of h.room.links)) (sym h.block));
-      heads = kept (λ (o : Option (Seen V)). head_in o) refl;
-      masks = kept (λ (o : Option (Seen V)). mask_in o) (ap (λ p. mask_part p (mask_node_of h.room.links)) (sym h.block));
-    }
+    put_valued = grind (arith, put_get, eqb-true)
 
   -- ---- a pair's value is written
   module _ (m : Lodged V) {root : Node} (w : IsWhole m root) (key rank : ℕ) {o : Option Id} {room : Id} (some : o ≡ Some room)
@@ -224,7 +190,7 @@ module _ {V : Type 0} where
 
     pub lent_shown : shown (put_value m room value) (Some root) ≡ with_entry (record { key = key; rank = rank; value = value }) (shown m (Some root))
     lent_shown = valued_shown (put_valued m room value h) w told.0 (ap (λ i. (number_of i)) told.1) told.2.0
-        ∙ (λ i. with_entry (record { key = told.2.1.0 i; rank = told.2.1.1 i; value = value }) (shown m (Some root)))
+        ∙ (search (told.2.1.0, told.2.1.1))
 
     pub lent_counted : (counts : List ℕ) → AreCounted counts (shown m (Some root)) → AreCounted counts (shown (put_value m room value) (Some root))
     lent_counted counts counted r fits =

@@ -1,8 +1,8 @@
 -- A value in a room changes: the tree with it, which the rooms stand for as before.
-use Rattle.radix_tree.proofs.Words.{◌≡◌, ℕ, ◌+◌, ◌≤◌, ◌==◌, Bool, if◌then◌else◌, List, ◌∷◌, Option, Some, None, refl, sym, ap, ◌∙◌, subst, inl, inr, Id, Placed}
-use Rattle.radix_tree.proofs.Words.{Tree, leaf, fork, IsAmong, IsIn, IsChain, HaveBit, IsTree, LeafPart, Leaves, Bits, Heads, Masks, leaf_part, first_room}
-use Rattle.radix_tree.proofs.Words.{name_of, ChainStands, Stands, MasksStand, Falls, IsMarked, MarkedIn, MarkedLists, one_if, members_at, leaves_at, forks_at}
-use Rattle.radix_tree.proofs.Words.{HasHome, AreIdle, HasOneFork, HaveOneFork, [], ◌⊎◌, bit_at}
+use Rattle.radix_tree.proofs.Words.{arith, ◌≡◌, ℕ, ◌+◌, ◌≤◌, ◌==◌, Bool, if◌then◌else◌, List, ◌∷◌, Option, Some, None, refl, sym, ap, ◌∙◌, subst, inl, inr, Id}
+use Rattle.radix_tree.proofs.Words.{Placed, Tree, leaf, fork, IsAmong, IsIn, IsChain, HaveBit, IsTree, LeafPart, Leaves, Bits, Heads, Masks, first_room}
+use Rattle.radix_tree.proofs.Words.{name_of, ChainStands, Stands, MasksStand, Falls, IsMarked, MarkedIn, MarkedLists, members_at, leaves_at, forks_at, HasHome}
+use Rattle.radix_tree.proofs.Words.{AreIdle, HasOneFork, HaveOneFork, [], ◌⊎◌, bit_at}
 use Rattle.radix_nodes.specs.Naming.{number_of}
 
 module _ {V : Type 0} (n : ℕ) (value : V) where
@@ -33,7 +33,7 @@ module _ {V : Type 0} (n : ℕ) (value : V) where
 
   chain_valued : (key top : ℕ) (c : List (Placed V)) → IsChain key top c → IsChain key top (all_valued c)
   chain_valued key top [] is = tt
-  chain_valued key top (x ∷ xs) is = (record { rank = is.0.rank; address = is.0.address; key = is.0.key }, is.1, is.2, chain_valued key x.entry.rank xs is.3)
+  chain_valued key top (x ∷ xs) is = search (chain_valued key x.entry.rank xs is.3)
 
   pub tree_is_valued : (low : ℕ) (t : Tree V) → IsTree low t → IsTree low (tree_valued t)
   tree_is_valued low (leaf x xs) is = (is.0, chain_valued x.entry.key 34 (x ∷ xs) is.1)
@@ -57,33 +57,23 @@ module _ {V : Type 0} (n : ℕ) (value : V) where
   module _ (L M : Leaves V) (B : Bits) (leaves : (k : ℕ) → M k ≡ put (k == n) (L k)) where
     chain_stands : (above previous : Option Id) (c : List (Placed V)) → ChainStands L above previous c → ChainStands M above previous (all_valued c)
     chain_stands above previous [] stands = tt
-    chain_stands above previous (x ∷ xs) stands = (
-      leaves (number_of x.room) ∙ ap (put ((number_of x.room) == n)) stands.0 ∙ ap (λ o. Some (leaf_part (valued x) above previous o)) (sym (first_valued xs)),
-      chain_stands None (Some x.room) xs stands.1,
-    )
+    chain_stands above previous (x ∷ xs) stands = grind (arith, chain_stands None (Some x.room) xs stands.1)
 
     pub stands_valued : (above : Option Id) (t : Tree V) → Stands L B above t → Stands M B above (tree_valued t)
     stands_valued above (leaf x xs) stands = chain_stands above None (x ∷ xs) stands
-    stands_valued above (fork room b zero one) stands = (
-      stands.0 ∙ ap (λ z. Some (record { block = room.block; bit = b; zero = z; one = name_of one; above = above })) (sym (name_valued zero))
-          ∙ ap (λ o. Some (record { block = room.block; bit = b; zero = name_of (tree_valued zero); one = o; above = above })) (sym (name_valued one)),
-      stands_valued (Some room) zero stands.1,
-      stands_valued (Some room) one stands.2,
-    )
+    stands_valued above (fork room b zero one) stands = grind (arith, stands_valued (Some room) zero stands.1, stands_valued (Some room) one stands.2)
 
   members_valued : (k : ℕ) (c : List (Placed V)) → members_at k (all_valued c) ≡ members_at k c
   members_valued k [] = refl
-  members_valued k (x ∷ xs) = ap (λ m. one_if ((number_of x.room) == k) + m) (members_valued k xs)
+  members_valued k (x ∷ xs) = search (members_valued k xs)
 
   pub leaves_valued : (k : ℕ) (t : Tree V) → leaves_at k (tree_valued t) ≡ leaves_at k t
   leaves_valued k (leaf x xs) = members_valued k (x ∷ xs)
-  leaves_valued k (fork room b zero one) =
-      ap (λ m. m + leaves_at k (tree_valued one)) (leaves_valued k zero) ∙ ap (λ m. leaves_at k zero + m) (leaves_valued k one)
+  leaves_valued k (fork room b zero one) = search (leaves_valued k zero, leaves_valued k one)
 
   pub forks_valued : (k : ℕ) (t : Tree V) → forks_at k (tree_valued t) ≡ forks_at k t
   forks_valued k (leaf x xs) = refl
-  forks_valued k (fork room b zero one) = ap (λ m. one_if ((number_of room) == k) + (m + forks_at k (tree_valued one))) (forks_valued k zero)
-      ∙ ap (λ m. one_if ((number_of room) == k) + (forks_at k zero + m)) (forks_valued k one)
+  forks_valued k (fork room b zero one) = search (forks_valued k zero, forks_valued k one)
 
   idle_valued : (B : Bits) (c : List (Placed V)) → AreIdle B c → AreIdle B (all_valued c)
   idle_valued B [] idle = tt
@@ -123,14 +113,12 @@ module _ {V : Type 0} (n : ℕ) (value : V) where
   -- what has a home has it still, and what has one had it
   pub home_is : (key rank : ℕ) (t : Tree V) → HasHome key rank (tree_valued t) ≡ HasHome key rank t
   home_is key rank (leaf x xs) = refl
-  home_is key rank (fork room b zero one) =
-      λ i. (rank ≤ b) ⊎ (((bit_at b key ≡ 0) × home_is key rank zero i) ⊎ ((bit_at b key ≡ 1) × home_is key rank one i))
+  home_is key rank (fork room b zero one) = λ i. (rank ≤ b) ⊎ (((bit_at b key ≡ 0) × home_is key rank zero i) ⊎ ((bit_at b key ≡ 1) × home_is key rank one i))
 
   -- ---- its lists of masks
   masks_stand : (K : Masks) (ms : List (Placed V)) → MasksStand K ms → MasksStand K (all_valued ms)
   masks_stand K [] stands = tt
-  masks_stand K (x ∷ xs) stands =
-      (stands.0 ∙ ap (λ o. Some (record { block = x.room.block; next = o })) (sym (first_valued xs)), masks_stand K xs stands.1)
+  masks_stand K (x ∷ xs) stands = grind (arith, masks_stand K xs stands.1)
 
   falls_valued : (low top : ℕ) (ms : List (Placed V)) → Falls low top ms → Falls low top (all_valued ms)
   falls_valued low top [] falls = tt
@@ -159,6 +147,4 @@ module _ {V : Type 0} (n : ℕ) (value : V) where
   -- a route of it has its home where it had it
   pub all_valued_in : (t : Tree V) (M : Placed V → Type 0) → ((x : Placed V) → IsIn x t → HasHome x.entry.key x.entry.rank t → M (valued x))
       → (y : Placed V) → IsIn y (tree_valued t) → HasHome y.entry.key y.entry.rank (tree_valued t) → M y
-  all_valued_in t M all y at home = let w = in_was y t at in
-      subst M w.2 (all w.0 w.1 (subst (λ T. T) (home_is w.0.entry.key w.0.entry.rank t)
-      (subst (λ y. HasHome y.entry.key y.entry.rank (tree_valued t)) (sym w.2) home)))
+  all_valued_in t M all y at home = grind (arith, in_was, home_is)

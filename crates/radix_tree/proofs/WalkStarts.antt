@@ -1,13 +1,12 @@
 -- A walk over a tree: what stands behind a part of it, and the first route beneath a part.
 use Rattle.std.proofs.Math.Nat.{zero-div}
 use Rattle.radix_tree.specs.{Tree.bit_at, Walks.up_behind}
-use Rattle.radix_tree.proofs.{AddressBits.zero_not_one, AddressBits.zero_or_one, RoomReads.inside, TreeMembers.bit_beneath, Parts.fork_is}
+use Rattle.radix_tree.proofs.{AddressBits.zero_or_one, RoomReads.inside, TreeMembers.bit_beneath, Parts.fork_is}
 use Rattle.radix_tree.proofs.{Parts.fork_stands, Parts.leaf_run, Parts.leaf_begins, Scans.chain_most, Showing.beneath_is, Showing.chain_is}
 use Rattle.radix_tree.proofs.Words.{◌≡◌, ℕ, zero, suc, ◌+◌, ◌-◌, ◌%◌, ◌^◌, ◌≤◌, ◌==◌, Bool, true, false, if◌then◌else◌, List, [], ◌∷◌, ◌++◌, map, Some}
-use Rattle.radix_tree.proofs.Words.{None, refl, sym, ap, ◌∙◌, subst, inl, inr, arith, eqb-true, eq-eqb, append_assoc, Id, Placed, Tree, IsIn, IsTree}
+use Rattle.radix_tree.proofs.Words.{None, refl, sym, ap, ◌∙◌, subst, inl, inr, arith, eqb-true, append_assoc, Id, Placed, Tree, IsIn, IsTree}
 use Rattle.radix_tree.proofs.Words.{routes_of, Leaves, Bits, Part, Run, leaves_in, bits_in, leaf_part, first_room, name_of, ForkAt, LeafAt, Way, LedTo}
 use Rattle.radix_tree.proofs.Words.{side_behind, chain_behind, ahead, Under, IsBefore, IsFirst, IsAt, chain_shown, beneath_shown, Entry, Place, Lodged}
-use Rattle.radix_tree.proofs.Words.{true≢false}
 use Rattle.radix_nodes.specs.Naming.{number_of}
 
 zero_bit : (b : ℕ) → bit_at b 0 ≡ 0
@@ -22,7 +21,7 @@ at_one {v = v} x y e = ap (λ v. if v == 1 then x else y) e
 
 -- the side on which a key is, as it was tested
 pub on_zero : (b key : ℕ) {t : Bool} → t ≡ (bit_at b key == 1) → t ≡ false → bit_at b key ≡ 0
-on_zero b key is fails = elim (zero_or_one b key) [ inl e ↦ e | inr e ↦ absurd (true≢false (sym (eq-eqb (bit_at b key) 1 e) ∙ sym is ∙ fails)) ]
+on_zero b key is fails = grind (arith, zero_or_one)
 
 pub on_one : (b key : ℕ) {t : Bool} → t ≡ (bit_at b key == 1) → t ≡ true → bit_at b key ≡ 1
 on_one b key is holds = eqb-true (bit_at b key) 1 (sym is ∙ holds)
@@ -37,18 +36,15 @@ module _ {V : Type 0} where
   -- a route beneath a side has its bit
   pub side_zero : {m : Lodged V} {over : Part m} {room : Id} (f : ForkAt over room) {under : Tree V} (x : Placed V) → under ≡ f.zero → IsIn x under
       → bit_at f.bit x.entry.key ≡ 0
-  side_zero f x e at = let is = fork_is f in bit_beneath (f.bit + 1) f.bit 0 f.zero is.1 is.0.zeros x (subst (IsIn x) e at)
+  side_zero f x e at = grind (arith, bit_beneath, fork_is f)
 
   pub side_one : {m : Lodged V} {over : Part m} {room : Id} (f : ForkAt over room) {under : Tree V} (x : Placed V) → under ≡ f.one → IsIn x under
       → bit_at f.bit x.entry.key ≡ 1
-  side_one f x e at = let is = fork_is f in bit_beneath (f.bit + 1) f.bit 1 f.one is.2 is.0.ones x (subst (IsIn x) e at)
+  side_one f x e at = grind (arith, bit_beneath, fork_is f)
 
   pub under_inside : {m : Lodged V} {right : List (Entry V)} {under over : Part m} (u : Under right under over) (x : Placed V) → IsIn x under.tree
       → IsIn x over.tree
-  under_inside u x at = subst (IsIn x) (sym u.at.is) (elim u.side [
-    | inl e ↦ inl (subst (IsIn x) e.0 at)
-    | inr e ↦ inr (subst (IsIn x) e.0 at)
-  ])
+  under_inside u x at = grind arith
 
   one_shown : (m : Lodged V) {over : Part m} (room : Id) (f : ForkAt over room) → beneath_shown 33 (leaves_in m) (bits_in m) (name_of f.one) ≡ routes_of f.one
   one_shown m room f = beneath_is 33 (f.bit + 1) (leaves_in m) (bits_in m) (Some room) f.one (fork_is f).2 (fork_stands f).2 (omega arith)
@@ -73,18 +69,14 @@ module _ {V : Type 0} where
 
   pub up_is : (m : Lodged V) (n : ℕ) (whole at : Part m) (behind : List (Entry V)) (ups : List (Part m)) (x : Placed V) → IsIn x at.tree
       → IsBefore whole at behind ups → whole.above ≡ None → at.low ≤ n → up_behind (suc n) (leaves_in m) (bits_in m) x.entry.key at.above ≡ behind
-  up_is m n whole at behind [] x inside before top low = ap (up_behind (suc n) (leaves_in m) (bits_in m) x.entry.key) (ap (λ p. p.above) before.0 ∙ top)
-      ∙ up_none n x.entry.key (leaves_in m) (bits_in m) ∙ sym before.1
-  up_is m zero whole at behind (over ∷ ups) x inside before top low = let past = before.2.low in
-      absurd (omega (arith, past, low))
+  up_is m n whole at behind [] x inside before top low = search (up_none, before.0, before.1, top)
+  up_is m zero whole at behind (over ∷ ups) x inside before top low = absurd (omega arith)
   up_is m (suc n) whole at behind (over ∷ ups) x inside before top low =
       let u = before.2 in
-      let past = u.low in
-      let rises = (fork_is u.at).0.rises in
       ap (λ a. up_behind (suc (suc n)) (leaves_in m) (bits_in m) x.entry.key a) u.above ∙ up_from m (suc n) x.entry.key u.at
       ∙ ap (λ es. es ++ up_behind (suc n) (leaves_in m) (bits_in m) x.entry.key over.above) (right_is m u x inside)
       ∙ ap (λ es. before.0 ++ es) (up_is m n whole over before.1 ups x (under_inside u x inside) before.3 top
-      (omega (arith, past, rises, low))) ∙ sym before.4
+      (omega (arith, (fork_is u.at).0.rises))) ∙ sym before.4
 
   -- ---- the first route beneath a part
   record Lowest (m : Lodged V) (whole sub at : Part m) (behind : List (Entry V)) : Type 0 where
@@ -95,17 +87,12 @@ module _ {V : Type 0} where
 
   lowest : (m : Lodged V) (whole sub at : Part m) (us : List (Part m)) (behind : List (Entry V)) (vs : List (Part m)) → Way 0 sub at us
       → IsBefore whole sub behind vs → Lowest m whole sub at behind
-  lowest m whole sub at [] behind vs way before = record {
-    later = behind;
-    ups = vs;
-    before = subst (λ p. IsBefore whole p behind vs) (sym way) before;
-    same = ap (λ p. routes_of p.tree ++ behind) way;
-  }
+  lowest m whole sub at [] behind vs way before = grind arith
   lowest m whole sub at (over ∷ us) behind vs way before =
       let r = lowest m whole sub over us behind vs way.1 before in
       let b = way.0 in
       let f = b.at in
-      let left : at.tree ≡ f.zero = elim b.side [ inl e ↦ e.0 | inr e ↦ absurd (zero_not_one (zero_bit f.bit) e.1) ] in
+      let left : at.tree ≡ f.zero = grind (arith, zero_bit) in
       record {
         later = routes_of f.one ++ r.later;
         ups = over ∷ r.ups;
@@ -123,15 +110,14 @@ module _ {V : Type 0} where
 
     -- what a leaf's first room says
     pub first_said : leaves_in m (number_of room) ≡ Some (leaf_part f.first p.above None (first_room f.rest))
-    first_said = ap (λ i. leaves_in m (number_of i)) (sym f.room_is) ∙ (leaf_run m f).stands.0
+    first_said = grind arith
 
   pub first_behind : (m : Lodged V) {key : ℕ} {first : Id} (f : IsFirst m key first)
       → chain_behind (leaves_in m) (bits_in m) (leaves_in m (number_of first)) ≡ f.behind
-  first_behind m f = ap (chain_behind (leaves_in m) (bits_in m)) (first_said f.leaf)
-      ∙ up_is m 32 f.whole f.part f.behind f.ups f.leaf.first (first_in f.leaf) f.before f.top (leaf_low f.leaf)
+  first_behind m f = grind (arith, up_is)
 
   pub run_shown : (m : Lodged V) (r : Run m) → chain_shown 34 (leaves_in m) (first_room r.members) ≡ map (λ (p : Placed V). p.entry) r.members
-  run_shown m r = chain_is 34 (leaves_in m) r.above r.previous r.members (chain_most r.key r.top r.members r.is) r.stands
+  run_shown m r = search (chain_is, chain_most)
 
   -- a walk that is there has all beneath the part to give, and what is behind it
   pub record Begins (m : Lodged V) (room : Id) (es : List (Entry V)) : Type 0 where

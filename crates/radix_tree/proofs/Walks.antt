@@ -3,11 +3,10 @@ use Rattle.radix_tree.proofs.{AddressBits.zero_not_one, Parts.fork_is, Parts.for
 use Rattle.radix_tree.specs.Tree.{bit_at}
 use Rattle.radix_tree.proofs.Words.{◌≡◌, ℕ, ◌+◌, ◌≤◌, ◌⊎◌, List, [], ◌∷◌, ◌++◌, map, Option, Some, None, refl, sym, ap, ◌∙◌, subst, inr, arith, inl, Has}
 use Rattle.radix_tree.proofs.Words.{leaf_of, bit_node_of, Id, BitNode, Leaf, Links, levels, Placed, fork, IsIn, IsChain, routes_of, Part, Run, leaves_in}
-use Rattle.radix_tree.proofs.Words.{bits_in, leaf_part, first_room, name_of, ChainStands, ForkAt, LedTo, chain_behind, ahead, Under, IsBefore, IsFirst}
-use Rattle.radix_tree.proofs.Words.{IsAt, IsOn, chain_shown, chain_from, Entry, Place, Lodged}
-use Rattle.radix_tree.proofs.RoomReads.{inside, none_some, AreLinks, bit_read, bit_used, Has-leaf, leaf_read}
-use Rattle.radix_tree.proofs.WalkStarts.{beside, side_zero, side_one, under_inside, first_in, leaf_low, first_said, first_behind, run_shown, Begins}
-use Rattle.radix_tree.proofs.WalkStarts.{first_on}
+use Rattle.radix_tree.proofs.Words.{bits_in, leaf_part, first_room, name_of, ChainStands, ForkAt, LedTo, chain_behind, ahead, Under, IsBefore, IsFirst, IsAt}
+use Rattle.radix_tree.proofs.Words.{IsOn, chain_shown, chain_from, Entry, Place, Lodged}
+use Rattle.radix_tree.proofs.RoomReads.{inside, none_some, AreLinks, bit_read, bit_used, Has-leaf}
+use Rattle.radix_tree.proofs.WalkStarts.{beside, side_zero, side_one, under_inside, first_in, leaf_low, first_said, first_behind, run_shown, Begins, first_on}
 use Rattle.radix_nodes.specs.Naming.{number_of}
 
 module _ {V : Type 0} where
@@ -32,7 +31,7 @@ module _ {V : Type 0} where
           rest = xs;
           is = is;
           room_is = inside begins;
-          said = ap (λ i. leaves_in m (number_of i)) (sym (inside begins)) ∙ stands.0;
+          said = search;
           chain = subst (IsChain a.run.key a.run.top) is a.run.is;
           stands = stands;
         }
@@ -45,16 +44,14 @@ module _ {V : Type 0} where
 
     pub here_read : (links : Links) {l : Leaf} → AreLinks m place.room links → l ≡ leaf_of links
         → let h = here in l ≡ (leaf_part h.route a.run.above a.run.previous (first_room h.rest)).leaf
-    here_read links are is =
-        let h = here in is ∙ leaf_read m place.room links h.said (ap (λ i. i.block) h.room_is) are
+    here_read links are is = grind arith
 
   abbrev pub behind_of : (m : Lodged V) → Id → List (Entry V)
   behind_of m first = chain_behind (leaves_in m) (bits_in m) (leaves_in m (number_of first))
 
   chain_rest : (m : Lodged V) (place : Place) (a : IsAt m place) (h : IsHere m place a)
       → ahead (leaves_in m) (bits_in m) (Some place) ≡ (h.route.entry ∷ map (λ (p : Placed V). p.entry) h.rest) ++ behind_of m place.first
-  chain_rest m place a h = ap (λ es. es ++ behind_of m place.first)
-      (ap (chain_shown 34 (leaves_in m)) (sym a.begins) ∙ run_shown m a.run ∙ ap (λ ms. map (λ (p : Placed V). p.entry) ms) h.is)
+  chain_rest m place a h = grind (arith, run_shown)
 
   -- what is told from a place on is its route, and then what is told from the next one on
   abbrev pub FollowedBy : Lodged V → Place → Option Place → Type 0
@@ -97,15 +94,11 @@ module _ {V : Type 0} where
 
   pub last_of : {m : Lodged V} (place : Place) (a : IsAt m place) (links : Links) {l : Leaf} (next : Option Place) → AreLinks m place.room links
       → l ≡ leaf_of links → l.next ≡ None → ahead (leaves_in m) (bits_in m) next ≡ behind_of m place.first → FollowedBy m place next
-  last_of {m = m} place a links {l = l} next are is none rest =
-      let h = here m a in
-      followed m place a h next (no_more h.rest (behind_of m place.first) (sym (ap (λ l. l.next) (here_read m a links are is)) ∙ none) ∙ sym rest)
+  last_of {m = m} place a links {l = l} next are is none rest = followed m place a (here m a) next (grind arith)
 
   pub first_of_key : {m : Lodged V} (place : Place) (a : IsAt m place) (links : Links) {l : Leaf} → AreLinks m place.room links → l ≡ leaf_of links
       → IsFirst m l.key place.first
-  first_of_key {m = m} place a links {l = l} are is =
-      let h = here m a in
-      subst (λ k. IsFirst m k place.first) (sym (ap (λ l. l.key) (here_read m a links are is) ∙ h.chain.1 ∙ a.of_key)) a.first
+  first_of_key {m = m} place a links {l = l} are is = subst (λ k. IsFirst m k place.first) (grind arith) a.first
 
   -- ---- the way up
   -- a walk up from that leaf, at a node beneath this one, behind which stands what stands behind the leaf
@@ -126,13 +119,11 @@ module _ {V : Type 0} where
   pub climb_begun : {m : Lodged V} {key : ℕ} (first : Id) (f : IsFirst m key first) (links : Links) {l : Leaf} (steps : ℕ) → AreLinks m first links
       → l ≡ leaf_of links → steps ≡ 1 → Upward m key first l.above steps
   climb_begun {m = m} first f links {l = l} steps are is one =
-      let low = leaf_low f.leaf in
-      let read = is ∙ leaf_read m first links (first_said f.leaf) (ap (λ i. i.block) f.leaf.room_is) are in
       record {
         whole = f.whole;
         top = f.top;
         part = f.part;
-        above_is = sym (ap (λ l. l.above) read);
+        above_is = grind arith;
         route = f.leaf.first;
         inside = first_in f.leaf;
         own = f.own;
@@ -140,7 +131,7 @@ module _ {V : Type 0} where
         ups = f.ups;
         before = f.before;
         same = sym (first_behind m f);
-        few = omega (arith, low, one);
+        few = omega (arith, leaf_low f.leaf);
       }
 
   pub Has-first : {m : Lodged V} {key : ℕ} (first : Id) → IsFirst m key first → Has m first
@@ -163,13 +154,12 @@ module _ {V : Type 0} where
       (right later : List (Entry V)) (u : Under right at over) {room : Id} → room ≡ up → u.room ≡ room → IsBefore whole over later ups
       → behind ≡ right ++ later → Overhead m whole at behind up
   overhead_at whole up over ups right later u same own before is =
-      let name = own ∙ same in
       record {
         over = over;
         ups = ups;
         right = right;
         later = later;
-        at_up = record { bit = u.at.bit; zero = u.at.zero; one = u.at.one; is = u.at.is ∙ ap (λ i. fork i u.at.bit u.at.zero u.at.one) name };
+        at_up = record { bit = u.at.bit; zero = u.at.zero; one = u.at.one; is = u.at.is ∙ ap (λ i. fork i u.at.bit u.at.zero u.at.one) (own ∙ same) };
         under = u;
         bit = refl;
         side = u.side;
@@ -179,20 +169,19 @@ module _ {V : Type 0} where
 
   overhead_of : (m : Lodged V) (whole at : Part m) (behind : List (Entry V)) (up : Id) (ups : List (Part m)) → whole.above ≡ None → at.above ≡ Some up
       → IsBefore whole at behind ups → Overhead m whole at behind up
-  overhead_of m whole at behind up [] top above before = absurd (none_some (sym top ∙ ap (λ p. p.above) (sym before.0) ∙ above))
+  overhead_of m whole at behind up [] top above before = grind arith
   overhead_of m whole at behind up (over ∷ ups) top above before =
       overhead_at whole up over ups before.0 before.1 before.2 refl (inside (sym before.2.above ∙ above)) before.3 before.4
 
   module _ {m : Lodged V} {key : ℕ} {first : Id} {above : Option Id} {steps : ℕ} (c : Upward m key first above steps) where
     pub overhead : (up : Id) → above ≡ Some up → Overhead m c.whole c.part c.behind up
-    overhead up some = overhead_of m c.whole c.part c.behind up c.ups c.top (c.above_is ∙ some) c.before
+    overhead up some = grind (arith, overhead_of)
 
     pub Has-over : (up : Id) → above ≡ Some up → Has m up
-    Has-over up some = let o = overhead up some in Has-fork o.at_up
+    Has-over up some = Has-fork (overhead up some).at_up
 
     pub used_over : (up : Id) (links : Links) → above ≡ Some up → AreLinks m up links → bit_node_of links ≡ None → ⊥
-    used_over up links some are none =
-        let o = overhead up some in bit_used m up links (fork_stands o.at_up).0 refl are none
+    used_over up links some are none = bit_used m up links (fork_stands (overhead up some).at_up).0 refl are none
 
   -- the bit that is read is the node's
   pub record Read (m : Lodged V) (key : ℕ) (first : Id) (n : BitNode) (steps later : ℕ) : Type 0 where
@@ -210,15 +199,13 @@ module _ {V : Type 0} where
       let f = o.at_up in
       let is = fork_is f in
       let same = bit_read m up links (fork_stands f).0 refl are node in
-      let bit = same.bit in
       let within = is.0.within in
-      let rises = is.0.rises in
       let low = o.under.low ∙ ap (λ b. b + 1) o.bit in
       let few = c.few in
-      let key_bit = ap (λ b. bit_at b key) bit ∙ ap (bit_at f.bit) (sym c.own) in
+      let key_bit = ap (λ b. bit_at b key) same.bit ∙ ap (bit_at f.bit) (sym c.own) in
       record {
-        within = omega (arith, bit, within);
-        few = omega (arith, few, low);
+        within = omega arith;
+        few = omega arith;
         up = λ one.
             let nothing : o.right ≡ [] = elim o.side [
               | inl e ↦ absurd (zero_not_one (side_zero f c.route e.0 c.inside) (sym key_bit ∙ one))
@@ -236,7 +223,7 @@ module _ {V : Type 0} where
               ups = o.ups;
               before = o.before;
               same = sym (o.is ∙ ap (λ es. es ++ o.later) nothing) ∙ c.same;
-              few = omega (arith, few, low, rises, soon);
+              few = omega arith;
             };
         named = (one_part f, sym same.one);
         turn = λ zero_bit_is room led.
@@ -252,16 +239,16 @@ module _ {V : Type 0} where
 
   ended_at : (m : Lodged V) (whole at : Part m) (behind : List (Entry V)) (ups : List (Part m)) → at.above ≡ None → IsBefore whole at behind ups → behind ≡ []
   ended_at m whole at behind [] none before = before.1
-  ended_at m whole at behind (over ∷ ups) none before = absurd (none_some (sym none ∙ before.2.above))
+  ended_at m whole at behind (over ∷ ups) none before = search
 
   pub climb_ended : {m : Lodged V} {key : ℕ} {first : Id} {above : Option Id} {steps : ℕ} → Upward m key first above steps → above ≡ None
       → [] ≡ behind_of m first
-  climb_ended {m = m} c none = sym (ended_at m c.whole c.part c.behind c.ups (c.above_is ∙ none) c.before) ∙ c.same
+  climb_ended {m = m} c none = grind (arith, ended_at)
 
   module _ {m : Lodged V} (place : Place) {es : List (Entry V)} (b : Begins m place.first es) where
     -- a place at the first room of its chain
     pub begins_on : place.room ≡ place.first → IsAt m place
-    begins_on same = subst (λ i. IsAt m (record { first = place.first; room = i })) (sym same) b.on
+    begins_on same = grind arith
 
     pub begins_rest : place.room ≡ place.first → ahead (leaves_in m) (bits_in m) (Some place) ≡ es
-    begins_rest same = ap (λ i. ahead (leaves_in m) (bits_in m) (Some (record { first = place.first; room = i }))) same ∙ b.rest
+    begins_rest same = grind arith

@@ -1,8 +1,7 @@
 -- The ways to parts of a tree.
-use Rattle.radix_tree.proofs.{TreeMembers.bit_beneath, Parts.fork_is, Parts.zero_part, Parts.one_part, Parts.zero_beneath, Parts.one_beneath}
-use Rattle.radix_tree.proofs.{Exchanging.one_of}
-use Rattle.radix_tree.proofs.Words.{◌≡◌, ℕ, ◌+◌, ◌≤◌, ◌⊎◌, ◌==◌, true, false, List, [], ◌∷◌, refl, sym, subst, inl, inr, arith, eqb-true, Id, Placed}
-use Rattle.radix_tree.proofs.Words.{Tree, leaf, fork, IsIn, Part, ForkAt, LeafAt, Way, one_if, forks_at, Lodged}
+use Rattle.radix_tree.proofs.{TreeMembers.bit_beneath, Parts.fork_is, Parts.zero_part, Parts.one_part, Parts.zero_beneath, Parts.one_beneath, Exchanging.one_of}
+use Rattle.radix_tree.proofs.Words.{◌≡◌, ℕ, ◌+◌, ◌≤◌, ◌⊎◌, ◌==◌, true, false, List, [], ◌∷◌, refl, sym, subst, inl, inr, arith, eqb-true, Id, Placed, Tree}
+use Rattle.radix_tree.proofs.Words.{leaf, fork, IsIn, Part, ForkAt, LeafAt, Way, one_if, forks_at, Lodged}
 use Rattle.radix_nodes.specs.Naming.{number_of}
 
 module _ {V : Type 0} where

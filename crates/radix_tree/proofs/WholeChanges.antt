@@ -14,12 +14,7 @@ module _ {V : Type 0} where
       (e : Exchanged m new key w.part at under name) where
     -- the room of a route aside is a leaf of the whole and none of the part
     pub aside_out : (y : Placed V) → Aside e.frames y → (leaves_at (number_of y.room) at.tree ≡ 0) × (1 ≤ leaves_at (number_of y.room) w.part.tree)
-    aside_out y aside =
-        let more = aside_at e.frames at.tree y aside in
-        let same = ap (leaves_at (number_of y.room)) e.was in
-        let most = (once_but w).leaves (number_of y.room) in
-        let none : leaves_at (number_of y.room) at.tree ≡ 0 = omega arith in
-        let some : 1 ≤ leaves_at (number_of y.room) w.part.tree = omega arith in (none, some)
+    aside_out y aside = grind (arith, aside_at e.frames at.tree y aside)
 
     pub spare_changed : (HaveOneFork (bits_in m) at.tree → HaveOneFork (bits_in new) under.tree)
         → ((n : ℕ) → leaves_at n at.tree ≡ 0 → 1 ≤ leaves_at n w.part.tree → bits_in m n ≡ None → bits_in new n ≡ None)
@@ -28,13 +23,13 @@ module _ {V : Type 0} where
         let spare = subst (HaveOneFork (bits_in m)) e.was w.spare in
         subst (HaveOneFork (bits_in new)) (sym e.is_now)
         (spare_plug (bits_in m) (bits_in new) e.frames at.tree under.tree spare (own (spare_at (bits_in m) e.frames at.tree spare))
-        (λ y aside. let o = aside_out y aside in idle (number_of y.room) o.0 o.1))
+        (grind (arith, aside_out)))
 
   -- a route's own bits lead to a part that has it
   pub leads : (low : ℕ) (fs : List (Frame V)) (t : Tree V) (y : Placed V) → IsTree low (plug fs t) → IsIn y t → Lead y.entry.key fs
   leads low [] t y is at = tt
-  leads low (on_zero room b one ∷ fs) t y is at = (bit_beneath (b + 1) b 0 (plug fs t) is.1 is.0.zeros y (plug_in fs t y at), leads (b + 1) fs t y is.1 at)
-  leads low (on_one room b zero ∷ fs) t y is at = (bit_beneath (b + 1) b 1 (plug fs t) is.2 is.0.ones y (plug_in fs t y at), leads (b + 1) fs t y is.2 at)
+  leads low (on_zero room b one ∷ fs) t y is at = (grind (arith, bit_beneath, plug_in), leads (b + 1) fs t y is.1 at)
+  leads low (on_one room b zero ∷ fs) t y is at = (grind (arith, bit_beneath, plug_in), leads (b + 1) fs t y is.2 at)
 
   module _ {m new : Lodged V} {root name : Node} {late : ℕ → Bool} {out : ℕ → ℕ} {key : ℕ} (w : IsWholeBut m root late out) {at : Part m} {under : Part new}
       (e : Exchanged m new key w.part at under name) where
@@ -42,34 +37,22 @@ module _ {V : Type 0} where
     old_is = subst (IsTree w.part.low) e.was w.part.is
 
     new_is : IsTree w.part.low (plug e.frames under.tree)
-    new_is = subst (λ n. IsTree n (plug e.frames under.tree)) e.low (subst (IsTree e.part.low) e.is_now e.part.is)
+    new_is = grind arith
 
     leaves_changed : {later : ℕ → Bool} {outs : ℕ → ℕ} → Fits m new w.part at under late later out outs → (n : ℕ)
         → leaves_at n e.part.tree + outs n ≡ one_if (is_some (leaves_in new n))
-    leaves_changed f n =
-        let was = ap (leaves_at n) e.was in
-        let now = ap (leaves_at n) e.is_now in
-        let plugged = plug_leaves e.frames at.tree under.tree n in
-        let whole = w.leaves n in
-        let fits = f.leaves n in
-        omega (arith, was, now, plugged, whole, fits)
+    leaves_changed f n = omega (arith, w.leaves n, f.leaves n, ap (leaves_at n) e.was, ap (leaves_at n) e.is_now, plug_leaves e.frames at.tree under.tree n)
 
     forks_changed : {later : ℕ → Bool} {outs : ℕ → ℕ} → Fits m new w.part at under late later out outs → (n : ℕ)
         → forks_at n e.part.tree ≡ one_if (is_some (bits_in new n))
-    forks_changed f n =
-        let was = ap (forks_at n) e.was in
-        let now = ap (forks_at n) e.is_now in
-        let plugged = plug_forks e.frames at.tree under.tree n in
-        let whole = w.forks n in
-        let fits = f.forks n in
-        omega (arith, was, now, plugged, whole, fits)
+    forks_changed f n = omega (arith, w.forks n, f.forks n, ap (forks_at n) e.was, ap (forks_at n) e.is_now, plug_forks e.frames at.tree under.tree n)
 
     -- what was marked before is so where it is now
     was_marked : {later : ℕ → Bool} {outs : ℕ → ℕ} → Fits m new w.part at under late later out outs → (y : Placed V) → IsMarked (masks_in new) y
         → IsMarked (masks_in m) y
     was_marked f y marked =
         let now = some_of (masks_in new (number_of y.room)) marked in
-        let before = f.marks (number_of y.room) now.0 now.1 in ap is_some before.1
+        ap is_some (f.marks (number_of y.room) now.0 now.1).1
 
     keeps_above : {later : ℕ → Bool} {outs : ℕ → ℕ} → Fits m new w.part at under late later out outs
         → KeepsAbove (heads_in m) (heads_in new) (masks_in m) (masks_in new) at.low e.frames at.tree under.tree
@@ -77,8 +60,7 @@ module _ {V : Type 0} where
       heads = λ n some.
           let is = ap (forks_at n) e.was in
           let most = (once_but w).forks n in
-          let none : forks_at n at.tree ≡ 0 = omega arith in
-          let there : 1 ≤ forks_at n w.part.tree = omega arith in f.heads n none there;
+          f.heads n (omega arith) (omega arith);
       aside = λ y aside. let o = aside_out w e y aside in f.masks (number_of y.room) o.0 o.1;
       stays = λ y is below marked.
           let same = f.masks_above y is below marked in ((f.kept y is (marked_same (masks_in m) (masks_in new) y same marked)).0, same);
@@ -90,26 +72,24 @@ module _ {V : Type 0} where
     lists_changed f = subst (λ n. MarkedLists (heads_in new) (masks_in new) n e.part.tree) (sym e.low)
         (subst (MarkedLists (heads_in new) (masks_in new) w.part.low) (sym e.is_now) (plug_lists w.part.low e.frames old_is
         (subst (λ n. KeepsAbove (heads_in m) (heads_in new) (masks_in m) (masks_in new) n e.frames at.tree under.tree) e.lowest
-        (keeps_above f)) (subst (MarkedLists (heads_in m) (masks_in m) w.part.low) e.was w.lists)
+        (keeps_above f)) (grind arith)
         (subst (λ n. MarkedLists (heads_in new) (masks_in new) n under.tree) e.lowest f.lists)))
 
     -- a route of the other part has a home in the whole where it has one in the part, or its rank is before the part's bits
     home_in_new : (y : Placed V) → IsIn y under.tree
         → (y.entry.rank < at.low) ⊎ HasHome y.entry.key y.entry.rank under.tree → HasHome y.entry.key y.entry.rank (plug e.frames under.tree)
     home_in_new y is home =
-        let low = w.low in
         let new_tree = new_is in
         plug_home w.part.low y.entry.key y.entry.rank e.frames under.tree new_tree (leads w.part.low e.frames under.tree y new_tree is) (omega arith)
-        (subst (λ n. (y.entry.rank < n) ⊎ HasHome y.entry.key y.entry.rank under.tree) e.lowest home)
+        (grind arith)
 
     home_in_old : (y : Placed V) → IsIn y at.tree → (y.entry.rank < at.low) ⊎ HasHome y.entry.key y.entry.rank at.tree
         → HasHome y.entry.key y.entry.rank w.part.tree
     home_in_old y is home =
-        let low = w.low in
         let old_tree = old_is in
         subst (HasHome y.entry.key y.entry.rank) (sym e.was)
         (plug_home w.part.low y.entry.key y.entry.rank e.frames at.tree old_tree (leads w.part.low e.frames at.tree y old_tree is) (omega arith)
-        (subst (λ n. (y.entry.rank < n) ⊎ HasHome y.entry.key y.entry.rank at.tree) e.lowest home))
+        (grind arith))
 
     in_new : (y : Placed V) → IsIn y (plug e.frames under.tree) → IsIn y e.part.tree
     in_new y is = subst (IsIn y) (sym e.is_now) is
@@ -122,15 +102,11 @@ module _ {V : Type 0} where
         → (x : Placed V) → IsIn x w.part.tree → number_of x.room ≡ n → HasHome x.entry.key x.entry.rank w.part.tree
         → IsIn x e.part.tree × HasHome x.entry.key x.entry.rank e.part.tree
     listed_now f n p said x is number home =
-        let marked = ap is_some (ap (masks_in new) number ∙ said) in
         let old_home = subst (HasHome x.entry.key x.entry.rank) e.was home in
         let old_tree = old_is in
         elim (in_plug e.frames at.tree x (subst (IsIn x) e.was is)) [
-          | inl aside ↦ (
-            in_new x (aside_in e.frames under.tree x aside),
-            subst (HasHome x.entry.key x.entry.rank) (sym e.is_now) (aside_home w.part.low e.frames at.tree under.tree x old_tree aside old_home),
-          )
-          | inr beneath ↦ let k = f.kept x beneath marked in
+          | inl aside ↦ search (aside_in, aside_home, e.is_now)
+          | inr beneath ↦ let k = f.kept x beneath (ap is_some (ap (masks_in new) number ∙ said)) in
               let place : (x.entry.rank < at.low) ⊎ HasHome x.entry.key x.entry.rank under.tree =
               elim (home_plug w.part.low e.frames at.tree x old_tree beneath old_home) [
                 | inl before ↦ inl (subst (λ b. x.entry.rank < b) (sym e.lowest) before)
@@ -152,14 +128,7 @@ module _ {V : Type 0} where
     -- a route with a home has its mask listed, or is late
     all_aside : {later : ℕ → Bool} {outs : ℕ → ℕ} → Fits m new w.part at under late later out outs → (x : Placed V) → Aside e.frames x
         → HasHome x.entry.key x.entry.rank (plug e.frames under.tree) → IsMarked (masks_in new) x ⊎ (later (number_of x.room) ≡ true)
-    all_aside f x aside home =
-        let o = aside_out w e x aside in
-        let old_home = aside_home w.part.low e.frames under.tree at.tree x new_is aside home in
-        elim (w.all x (in_old x (aside_in e.frames at.tree x aside))
-        (subst (HasHome x.entry.key x.entry.rank) (sym e.was) old_home)) [
-          | inl marked ↦ inl (marked_same (masks_in m) (masks_in new) x (f.masks (number_of x.room) o.0 o.1) marked)
-          | inr is_late ↦ inr (f.late_aside (number_of x.room) o.0 o.1 is_late)
-        ]
+    all_aside f x aside home = grind (arith, aside_home, aside_in, aside_out w e x aside)
 
     all_beneath : {later : ℕ → Bool} {outs : ℕ → ℕ} → Fits m new w.part at under late later out outs → (x : Placed V) → IsIn x under.tree
         → HasHome x.entry.key x.entry.rank (plug e.frames under.tree) → IsMarked (masks_in new) x ⊎ (later (number_of x.room) ≡ true)

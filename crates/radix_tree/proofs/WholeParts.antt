@@ -1,8 +1,8 @@
 -- A table's rooms as a whole, where no route is late and no room is on its way out.
-use Rattle.radix_tree.proofs.{TreeMembers.bit_beneath, Facts.one_if_most}
+use Rattle.radix_tree.proofs.{TreeMembers.bit_beneath}
 use Rattle.radix_tree.proofs.Words.{◌≡◌, ℕ, ◌+◌, ◌<◌, ◌≤◌, ◌⊎◌, Bool, true, Some, inl, inr, arith, is_some, Node, Placed, Tree, leaf, fork, IsIn, IsTree}
 use Rattle.radix_tree.proofs.Words.{MaskPart, Heads, Masks, Part, Lists, leaves_in, bits_in, heads_in, masks_in, one_if, leaves_at, forks_at, HasHome}
-use Rattle.radix_tree.proofs.Words.{IsWhole, AreOnce, IsMarked, MarkedLists, IsWholeBut, nobody_out, Lodged, AreListed, true≢false, sym}
+use Rattle.radix_tree.proofs.Words.{IsWhole, AreOnce, IsMarked, MarkedLists, IsWholeBut, nobody_out, Lodged, AreListed}
 use Rattle.radix_nodes.specs.Naming.{number_of}
 
 module _ {V : Type 0} where
@@ -26,8 +26,7 @@ module _ {V : Type 0} where
       )
 
   pub whole_listed : {m : Lodged V} {root : Node} (w : IsWhole m root) → AreListed m w.part
-  whole_listed {m = m} w = marked_lists (heads_in m) (masks_in m) w.part.low w.part.tree w.part.is
-      (λ x at home. elim (w.all x at home) [ inl marked ↦ marked | inr late ↦ absurd (true≢false (sym late)) ]) w.lists
+  whole_listed {m = m} w = grind (arith, marked_lists)
 
   -- the routes that are late may be told anew: each route with a home is marked or among them
   abbrev pub with_late : {m : Lodged V} {root : Node} {late : ℕ → Bool} {out : ℕ → ℕ} (later : ℕ → Bool) (w : IsWholeBut m root late out)
@@ -53,10 +52,7 @@ module _ {V : Type 0} where
       (λ x in_x home. elim (w.all x in_x home) [ inl marked ↦ inl marked | inr is_late ↦ inr (more (number_of x.room) is_late) ])
 
   pub once_but : {m : Lodged V} {root : Node} {late : ℕ → Bool} {out : ℕ → ℕ} (w : IsWholeBut m root late out) → AreOnce w.part.tree
-  once_but {m = m} {out = out} w = record {
-    leaves = λ n. let e = w.leaves n in let most = one_if_most (is_some (leaves_in m n)) in omega arith;
-    forks = λ n. let e = w.forks n in let most = one_if_most (is_some (bits_in m n)) in omega arith;
-  }
+  once_but {m = m} {out = out} w = grind arith
 
   -- what an exchange of a part for another has to keep
   pub record Fits (m new : Lodged V) (whole at : Part m) (under : Part new) (late later : ℕ → Bool) (out outs : ℕ → ℕ) : Type 0 where

@@ -1,7 +1,7 @@
 -- The routes that a table's rooms show, and a table with an entry and without.
-use Rattle.radix_tree.proofs.{ListLemmas.all_weaker, ListLemmas.filter_all, ListLemmas.filter_none, OrderLemmas.own_pair, OrderLemmas.precedes_one_way}
+use Rattle.radix_tree.proofs.{ListLemmas.all_weaker, ListLemmas.filter_all, ListLemmas.filter_none, OrderLemmas.precedes_one_way}
 use Rattle.radix_tree.proofs.{TableLemmas.with_later, TableLemmas.without_absent, TableLemmas.none_at, Showing.part_shown, Plugs.surround}
-use Rattle.radix_tree.proofs.Words.{◌≡◌, ℕ, Bool, false, IsTrue, List, [], ◌∷◌, ◌++◌, Some, None, refl, sym, ap, ◌∙◌, subst, arith, nat_tests, append_assoc}
+use Rattle.radix_tree.proofs.Words.{◌≡◌, ℕ, Bool, false, IsTrue, List, [], ◌∷◌, ◌++◌, Some, None, refl, sym, ap, ◌∙◌, arith, append_assoc}
 use Rattle.radix_tree.proofs.Words.{AllByRecursion, Node, precedes, IsTable, has_pair, entry_at, with_entry, without, routes_of, Part, shown, Gains, Exchanged}
 use Rattle.radix_tree.proofs.Words.{IsWholeBut, Entry, Lodged}
 
@@ -17,29 +17,16 @@ module _ {V : Type 0} where
   pub routes_changed : {m new : Lodged V} {root name : Node} {late : ℕ → Bool} {out : ℕ → ℕ} {key : ℕ} (w : IsWholeBut m root late out) {at : Part m}
       {under : Part new} (e : Exchanged m new key w.part at under name)
       → Spliced (shown m (Some root)) (shown new (Some name)) (routes_of at.tree) (routes_of under.tree)
-  routes_changed w {at = at} {under = under} e =
-      let s = surround e.frames in
-      record {
-        front = s.front;
-        back = s.back;
-        was = part_shown w.part w.low w.named ∙ ap routes_of e.was ∙ s.routes at.tree;
-        is_now = part_shown e.part (e.low ∙ w.low) e.named ∙ ap routes_of e.is_now ∙ s.routes under.tree;
-      }
+  routes_changed w {at = at} {under = under} e = grind (arith, part_shown, surround e.frames)
 
   regrouped : (before front back behind : List (Entry V)) → before ++ (front ++ back) ++ behind ≡ (before ++ front) ++ (back ++ behind)
-  regrouped before front back behind = ap (λ es. es ++ behind) (sym (append_assoc before front back)) ∙ append_assoc (before ++ front) back behind
+  regrouped before front back behind = search (append_assoc)
 
   pub gains_spliced : {e : Entry V} {old new before now : List (Entry V)} → Spliced old new before now → Gains e before now → Gains e old new
-  gains_spliced {e = e} {now = now} s g = record {
-    front = s.front ++ g.front;
-    back = g.back ++ s.back;
-    was = s.was ∙ ap (λ es. s.front ++ es ++ s.back) g.was ∙ regrouped s.front g.front g.back s.back;
-    now = s.is_now ∙ ap (λ es. s.front ++ es ++ s.back) g.now ∙ regrouped s.front g.front (e ∷ g.back) s.back;
-  }
+  gains_spliced {e = e} {now = now} s g = grind (arith, regrouped)
 
   pub loses_spliced : {e : Entry V} {old new before now : List (Entry V)} → Spliced old new before now → Gains e now before → Gains e new old
-  loses_spliced {old = old} {new = new} s g =
-      gains_spliced {old = new} {new = old} (record { front = s.front; back = s.back; was = s.is_now; is_now = s.was }) g
+  loses_spliced {old = old} {new = new} s g = search (gains_spliced)
 
   -- ---- a table with an entry, and without
   -- what holds of all elements holds of one among them
@@ -48,7 +35,7 @@ module _ {V : Type 0} where
   all_at P (x ∷ front) back e all = all_at P front back e all.1
 
   ahead_not_pair : (x e : Entry V) → IsTrue (precedes x e) → has_pair e.key e.rank x ≡ false
-  ahead_not_pair x e ahead = grind (arith, nat_tests)
+  ahead_not_pair x e ahead = grind arith
 
   gained : (e : Entry V) (front back : List (Entry V)) → IsTable (front ++ e ∷ back)
       → (front ++ e ∷ back ≡ with_entry e (front ++ back)) × (entry_at e.key e.rank (front ++ back) ≡ None)
@@ -69,22 +56,14 @@ module _ {V : Type 0} where
 
   lost : (e : Entry V) (front back : List (Entry V)) → IsTable (front ++ e ∷ back)
       → (front ++ back ≡ without e.key e.rank (front ++ e ∷ back)) × (entry_at e.key e.rank (front ++ e ∷ back) ≡ Some e)
-  lost e [] back is = (rw (own_pair e) (sym (without_absent e.key e.rank back (none_at e.key e.rank back is.1))), rw (own_pair e) refl)
+  lost e [] back is = grind (arith, without_absent, none_at)
   lost e (x ∷ front) back is =
       let ahead = all_at (λ f. IsTrue (precedes x f)) front back e is.1 in
-      let rest = lost e front back is.2 in (rw (ahead_not_pair x e ahead) (ap (λ es. x ∷ es) rest.0), rw (ahead_not_pair x e ahead) rest.1)
+      search (ahead_not_pair, lost e front back is.2)
 
   pub gains_entry : {e : Entry V} {old new : List (Entry V)} → Gains e old new → IsTable new → (new ≡ with_entry e old) × (entry_at e.key e.rank old ≡ None)
-  gains_entry {e = e} g is =
-      let given = gained e g.front g.back (subst IsTable g.now is) in (
-        g.now ∙ given.0 ∙ ap (with_entry e) (sym g.was),
-        ap (entry_at e.key e.rank) g.was ∙ given.1,
-      )
+  gains_entry {e = e} g is = grind (arith, gained)
 
   pub loses_entry : (e : Entry V) {old new : List (Entry V)} → Gains e new old → IsTable old
       → (new ≡ without e.key e.rank old) × (entry_at e.key e.rank old ≡ Some e)
-  loses_entry e g is =
-      let taken = lost e g.front g.back (subst IsTable g.now is) in (
-        g.was ∙ taken.0 ∙ ap (without e.key e.rank) (sym g.now),
-        ap (entry_at e.key e.rank) g.now ∙ taken.1,
-      )
+  loses_entry e g is = grind (arith, lost)

@@ -1,9 +1,8 @@
-use Rattle.radix_tree.proofs.{Listings.begun, Listings.mask_at, Listings.hit, Listings.miss, Listings.ended, Parts.fork_is, Parts.fork_name}
-use Rattle.radix_tree.proofs.Words.{◌∙◌, arith}
+use Rattle.radix_tree.proofs.{Listings.begun, Listings.mask_at, Listings.hit, Listings.miss, Listings.ended, Parts.fork_name, Words.◌∙◌, Words.arith}
 use Rattle.radix_tree.proofs.backtracking.best_listed.Goals as goal
 
 pub loop-at-init : goal.loop-at-init
-loop-at-init g c = λ p f listed. begun c.args.visits.now f listed c.requires.first
+loop-at-init g c = search (begun)
 
 pub mask_node-requires-clause-listed : goal.mask_node-requires-clause-listed
 mask_node-requires-clause-listed g c =
@@ -13,11 +12,10 @@ pub mask_node-requires-clause-turn : goal.mask_node-requires-clause-turn
 mask_node-requires-clause-turn g c = let n = c.requires.node in (c.loop-at.invariant n.0 n.1 n.2).turn ∙ c.requires.turn
 
 pub room_of-requires-clause-tree : goal.room_of-requires-clause-tree
-room_of-requires-clause-tree g c = let n = c.requires.node in (n.0, fork_name n.1)
+room_of-requires-clause-tree g c = search (fork_name)
 
 pub room_of-requires-clause-turn : goal.room_of-requires-clause-turn
-room_of-requires-clause-turn g c =
-    let n = c.requires.node in c.mask_node.ensures.visit.turn ∙ (c.loop-at.invariant n.0 n.1 n.2).turn ∙ c.requires.turn
+room_of-requires-clause-turn g c = let n = c.requires.node in c.mask_node.ensures.visit.turn ∙ (c.loop-at.invariant n.0 n.1 n.2).turn ∙ c.requires.turn
 
 pub returns-in-Some-room_of-clause-best : goal.returns-in-Some-room_of-clause-best
 returns-in-Some-room_of-clause-best g c p f listed =
@@ -25,16 +23,10 @@ returns-in-Some-room_of-clause-best g c p f listed =
     hit x (c.mask_node.ensures.leaf x.part x.said) c.masked-key.ensures.number c.in-Some-room_of.is (c.room_of.ensures.found p (fork_name f))
 
 pub returns-in-Some-room_of-clause-visits : goal.returns-in-Some-room_of-clause-visits
-returns-in-Some-room_of-clause-visits g c p f listed =
-    let x = mask_at (c.loop-at.invariant p f listed) c.in-Some.is in
-    record { turn = c.room_of.ensures.visits.turn ∙ c.mask_node.ensures.visit.turn ∙ x.turn; rises = omega (arith, x.rises); bound = omega (arith, x.soon) }
+returns-in-Some-room_of-clause-visits g c p f listed = grind (arith, mask_at (c.loop-at.invariant p f listed) c.in-Some.is)
 
 pub loop-at-smaller : goal.loop-at-smaller
-loop-at-smaller g c =
-    let n = c.requires.node in
-    let x = mask_at (c.loop-at.invariant n.0 n.1 n.2) c.in-Some.is in
-    let within = (fork_is n.1).0.within in
-    omega (arith, x.soon, within)
+loop-at-smaller g c = let n = c.requires.node in grind (arith, mask_at (c.loop-at.invariant n.0 n.1 n.2) c.in-Some.is)
 
 pub loop-at-preserved : goal.loop-at-preserved
 loop-at-preserved g c = λ p f listed.
@@ -47,5 +39,4 @@ pub returns-clause-best : goal.returns-clause-best
 returns-clause-best g c p f listed = ended (c.loop-at.invariant p f listed) c.in_default.is
 
 pub returns-clause-visits : goal.returns-clause-visits
-returns-clause-visits g c p f listed =
-    let w = c.loop-at.invariant p f listed in record { turn = w.turn; rises = w.rises; bound = omega (arith, w.few, w.fits) }
+returns-clause-visits g c p f listed = grind (arith, c.loop-at.invariant p f listed)

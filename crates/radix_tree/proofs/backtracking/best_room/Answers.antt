@@ -4,7 +4,7 @@ use Rattle.radix_tree.proofs.Words.{◌∙◌, subst, None, arith, Best, In}
 use Rattle.radix_tree.proofs.backtracking.best_room.Goals as goal
 
 pub leaf_for-leaf-requires-clause-tree : goal.leaf_for-leaf-requires-clause-tree
-leaf_for-leaf-requires-clause-tree g c = let w = c.requires.whole in (w.part, w.named)
+leaf_for-leaf-requires-clause-tree g c = search
 
 pub first_agreeing-requires-clause-chain : goal.first_agreeing-requires-clause-chain
 first_agreeing-requires-clause-chain g c = let w = c.requires.whole in chain_led (c.leaf_for-leaf.ensures.leaf w.part w.named)
@@ -15,8 +15,7 @@ returns-in-Some-clause-best g c w =
     let r = chain_led l in leaf_hit l c.in-Some.is (c.first_agreeing.ensures.best r.0 r.1)
 
 pub leaf-at-requires-clause-there : goal.leaf-at-requires-clause-there
-leaf-at-requires-clause-there g c =
-    let w = c.requires.whole in let l = c.leaf_for-leaf.ensures.leaf w.part w.named in Has-leaf_at l.leaf
+leaf-at-requires-clause-there g c = let w = c.requires.whole in Has-leaf_at (c.leaf_for-leaf.ensures.leaf w.part w.named).leaf
 
 pub loop-at-init : goal.loop-at-init
 loop-at-init g c =
@@ -26,7 +25,7 @@ loop-at-init g c =
           let l = c.leaf_for-leaf.ensures.leaf w.part w.named in
           let r = chain_led l in
           begun l c.leaf-at.ensures.said (searched l c.in_default.is (c.first_agreeing.ensures.best r.0 r.1)
-          (record { turn = turn; rises = omega arith; bound = omega arith }));
+          (grind arith));
     }
 
 pub bit_node-node-requires-clause-used : goal.bit_node-node-requires-clause-used
@@ -47,22 +46,16 @@ returns-in-Some-best_listed-clause-best g c w =
 pub returns-in-Some-best_listed-clause-visits : goal.returns-in-Some-best_listed-clause-visits
 returns-in-Some-best_listed-clause-visits g c =
     let w = c.requires.whole in
-    let s = (c.loop-at.invariant.climb w).holds in
     let o = over w.top (c.loop-at.invariant.climb w) c.in-Some-at.is in
     let more = c.best_listed.ensures.visits o.part (fork_over o) (way_lists (λ x. Unit {0}) c.args.address w.part o.part o.ups o.way (whole_listed w)) in
-    record {
-      turn = more.turn ∙ c.bit_node-node.ensures.visit.turn ∙ c.loop-at.invariant.turn;
-      rises = omega (arith, s.rises, more.rises);
-      bound = omega (arith, more.bound, s.few, o.beneath.low);
-    }
+    grind arith
 
 pub loop-at-smaller : goal.loop-at-smaller
 loop-at-smaller g c =
     let w = c.requires.whole in
-    let s = (c.loop-at.invariant.climb w).holds in
     let o = over w.top (c.loop-at.invariant.climb w) c.in-Some-at.is in
     let more = c.best_listed.ensures.visits o.part (fork_over o) (way_lists (λ x. Unit {0}) c.args.address w.part o.part o.ups o.way (whole_listed w)) in
-    omega (arith, more.rises, s.few, o.beneath.low)
+    omega (arith, more.rises, ((c.loop-at.invariant.climb w).holds).few, o.beneath.low)
 
 pub loop-at-preserved : goal.loop-at-preserved
 loop-at-preserved g c =
@@ -83,5 +76,4 @@ pub returns-clause-best : goal.returns-clause-best
 returns-clause-best g c w = subst (λ n. Best c.args.address n 34 (In w.part) None) w.low (ended (c.loop-at.invariant.climb w) c.in_default-at.is).none
 
 pub returns-clause-visits : goal.returns-clause-visits
-returns-clause-visits g c = let s = (c.loop-at.invariant.climb c.requires.whole).holds in
-    record { turn = c.loop-at.invariant.turn; rises = s.rises; bound = omega (arith, s.few) }
+returns-clause-visits g c = grind (arith, (c.loop-at.invariant.climb c.requires.whole).holds)

@@ -1,6 +1,5 @@
+use Rattle.radix_tree.proofs.{Words.subst, Kept.shown_table}
 use Rattle.radix_tree.specs.Table.{IsTable}
-use Rattle.radix_tree.proofs.Words.{subst}
-use Rattle.radix_tree.proofs.Kept.{shown_table}
 use Rattle.radix_tree.proofs.laws.is_table.Goals as goal
 
 pub returns : goal.returns

@@ -2,4 +2,4 @@ use Rattle.radix_tree.proofs.MemberLemmas.{members_stand, members_are_routes}
 use Rattle.radix_tree.proofs.laws.members.Goals as goal
 
 pub returns : goal.returns
-returns g c = record { stand = members_stand; routes = members_are_routes }
+returns g c = search (members_stand, members_are_routes)

@@ -2,4 +2,4 @@ use Rattle.radix_tree.proofs.MemberLemmas.{with_stands, with_keeps_others, witho
 use Rattle.radix_tree.proofs.laws.pairs_after.Goals as goal
 
 pub returns : goal.returns
-returns g c = record { with = with_stands; others_with = with_keeps_others; without = without_leaves_none; others_without = without_keeps_others }
+returns g c = search (with_stands, with_keeps_others, without_leaves_none, without_keeps_others)

@@ -6,10 +6,10 @@ pub bit_node-node-requires-clause-used : goal.bit_node-node-requires-clause-used
 bit_node-node-requires-clause-used g c = used (c.requires.tree c.in-Some.up c.in-Some.is).1
 
 pub put_bit_node-requires-clause-there : goal.put_bit_node-requires-clause-there
-put_bit_node-requires-clause-there g c = let t = c.requires.tree c.in-Some.up c.in-Some.is in Has-fork t.1
+put_bit_node-requires-clause-there g c = Has-fork (c.requires.tree c.in-Some.up c.in-Some.is).1
 
 pub put_bit_node-requires-else-is_one-clause-there : goal.put_bit_node-requires-else-is_one-clause-there
-put_bit_node-requires-else-is_one-clause-there g c = let t = c.requires.tree c.in-Some.up c.in-Some.is in Has-fork t.1
+put_bit_node-requires-else-is_one-clause-there g c = Has-fork (c.requires.tree c.in-Some.up c.in-Some.is).1
 
 pub returns-then-is_one-clause-bits : goal.returns-then-is_one-clause-bits
 returns-then-is_one-clause-bits g c n = c.put_bit_node.ensures.bits n

@@ -1,5 +1,4 @@
-use Rattle.radix_tree.proofs.Words.{ap}
-use Rattle.radix_tree.proofs.RoomWrites.{leaves_kept, masks_kept, bits_put, heads_put}
+use Rattle.radix_tree.proofs.{Words.ap, RoomWrites.leaves_kept, RoomWrites.masks_kept, RoomWrites.bits_put, RoomWrites.heads_put}
 use Rattle.radix_tree.proofs.linking.put_bit_node.Goals as goal
 
 pub returns-clause-leaves : goal.returns-clause-leaves

@@ -1,5 +1,4 @@
-use Rattle.radix_tree.proofs.Words.{ap}
-use Rattle.radix_tree.proofs.RoomWrites.{bits_kept, heads_kept, masks_kept, leaves_put}
+use Rattle.radix_tree.proofs.{Words.arith, Words.ap, RoomWrites.bits_kept, RoomWrites.heads_kept, RoomWrites.masks_kept, RoomWrites.leaves_put}
 use Rattle.radix_tree.proofs.linking.put_leaf.Goals as goal
 
 pub returns-clause-only : goal.returns-clause-only
@@ -13,5 +12,4 @@ returns-clause-only g c = record {
 }
 
 pub returns-clause-leaves : goal.returns-clause-leaves
-returns-clause-leaves g c = leaves_put c.args.room c.with_leaf.result c.args.leaf c.requires.there (ap (λ r. r.lodged) c.set_links.ensures)
-    c.with_leaf.ensures.leaf
+returns-clause-leaves g c = grind (arith, leaves_put)

@@ -1,5 +1,4 @@
-use Rattle.radix_tree.proofs.Words.{ap}
-use Rattle.radix_tree.proofs.RoomWrites.{leaves_kept, bits_kept, heads_kept, masks_put}
+use Rattle.radix_tree.proofs.{Words.arith, Words.ap, RoomWrites.leaves_kept, RoomWrites.bits_kept, RoomWrites.heads_kept, RoomWrites.masks_put}
 use Rattle.radix_tree.proofs.linking.put_mask_node.Goals as goal
 
 pub returns-clause-tree : goal.returns-clause-tree
@@ -15,4 +14,4 @@ returns-clause-heads g c = heads_kept c.requires.there c.with_mask_node.result c
     c.links-links.ensures.links c.with_mask_node.ensures.bit_node
 
 pub returns-clause-masks : goal.returns-clause-masks
-returns-clause-masks g c = masks_put c.requires.there c.with_mask_node.result (ap (λ r. r.lodged) c.set_links.ensures) c.with_mask_node.ensures.mask_node
+returns-clause-masks g c = grind (arith, masks_put)

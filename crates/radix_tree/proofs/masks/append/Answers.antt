@@ -1,6 +1,5 @@
 use Rattle.radix_tree.proofs.{MaskLists.not_below_among, MaskLinks.list_of, MaskLinks.Has-last, MaskLinks.aside_linked, MaskLinks.marks_linked}
-use Rattle.radix_tree.proofs.{MaskChanges.appended}
-use Rattle.radix_tree.proofs.Words.{◌∙◌, ap, is_some, masks_in, not_below}
+use Rattle.radix_tree.proofs.{MaskChanges.appended, Words.◌∙◌, Words.ap, Words.is_some, Words.masks_in, Words.not_below}
 use Rattle.radix_tree.proofs.masks.append.Goals as goal
 
 pub link-requires-clause-there : goal.link-requires-clause-there
@@ -22,7 +21,6 @@ returns-clause-masks g c ms is n aside =
 pub returns-clause-marks : goal.returns-clause-marks
 returns-clause-marks g c n =
     let l = c.requires.list in
-    let first = list_of c.masks_of-first.ensures.head l.2 in
     ap is_some (c.link.ensures.masks n)
     ∙ marks_linked (masks_in c.args.nodes.now.lodged) l.0 (not_below 0 l.0) _ n l.2.stands (λ y among. (not_below_among 0 l.0 y among).0)
-    (c.gap_at-gap.ensures.before l.0 first)
+    (c.gap_at-gap.ensures.before l.0 (list_of c.masks_of-first.ensures.head l.2))

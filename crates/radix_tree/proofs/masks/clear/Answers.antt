@@ -1,15 +1,8 @@
-use Rattle.radix_tree.proofs.{MaskClears.begun, MaskClears.listed_at, MaskClears.cleared_one, MaskClears.ended, MaskWalks.Has-listed}
-use Rattle.radix_tree.proofs.Words.{◌∙◌, refl, sym}
+use Rattle.radix_tree.proofs.{Words.arith, Words.◌∙◌, Words.sym, MaskClears.listed_at, MaskClears.cleared_one, MaskClears.ended, MaskWalks.Has-listed}
 use Rattle.radix_tree.proofs.masks.clear.Goals as goal
 
 pub loop-at-init : goal.loop-at-init
-loop-at-init g c = record {
-  of_turn = c.requires.turn;
-  clearing = λ ms is. begun is;
-  heads = λ n. refl;
-  tree = record { leaves = λ n. refl; bits = λ n. refl };
-  stays = record { turn = refl; counter = refl };
-}
+loop-at-init g c = grind arith
 
 pub mask_node-requires-clause-listed : goal.mask_node-requires-clause-listed
 mask_node-requires-clause-listed g c = let l = c.requires.list in listed_at (c.loop-at.invariant.clearing l.0 l.1) c.in-Some.is
@@ -18,10 +11,7 @@ pub put_mask_node-requires-clause-there : goal.put_mask_node-requires-clause-the
 put_mask_node-requires-clause-there g c = let l = c.requires.list in Has-listed (listed_at (c.loop-at.invariant.clearing l.0 l.1) c.in-Some.is)
 
 pub loop-at-smaller : goal.loop-at-smaller
-loop-at-smaller g c =
-    let l = c.requires.list in
-    (cleared_one _ c.mask_node.result.1 (c.loop-at.invariant.clearing l.0 l.1) c.in-Some.is c.mask_node.ensures.said c.put_mask_node.ensures.tree.leaves
-    c.put_mask_node.ensures.masks).1
+loop-at-smaller g c = grind arith
 
 pub loop-at-preserved : goal.loop-at-preserved
 loop-at-preserved g c =
@@ -42,4 +32,4 @@ pub returns-clause-masks : goal.returns-clause-masks
 returns-clause-masks g c ms is n aside = (c.loop-at.invariant.clearing ms is).aside n aside
 
 pub returns-clause-fewer : goal.returns-clause-fewer
-returns-clause-fewer g c n = let l = c.requires.list in (c.loop-at.invariant.clearing l.0 l.1).fewer n
+returns-clause-fewer g c n = grind arith

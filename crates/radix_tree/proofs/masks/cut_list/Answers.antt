@@ -6,9 +6,8 @@ use Rattle.radix_tree.proofs.masks.cut_list.Goals as goal
 pub link-requires-clause-there : goal.link-requires-clause-there
 link-requires-clause-there g c room is =
     let l = c.requires.list in
-    let head = c.masks_of-first.ensures.head in
     Has-last c.args.nodes.now.lodged l.0 (not_below (c.args.bit + 1) l.0) l.1.ranked (λ y among. (not_below_among (c.args.bit + 1) l.0 y among).0)
-    (c.gap_at-gap.ensures.before l.0 (list_of head l.1)) is
+    (c.gap_at-gap.ensures.before l.0 (list_of c.masks_of-first.ensures.head l.1)) is
 
 pub returns-clause-kept : goal.returns-clause-kept
 returns-clause-kept g c ms is = kept_of_cut c.args.nodes.now.lodged c.link.new.nodes.lodged c.args.fork (c.args.bit + 1) ms is
@@ -29,6 +28,5 @@ returns-clause-masks g c ms is n aside =
 pub returns-clause-marks : goal.returns-clause-marks
 returns-clause-marks g c n =
     let l = c.requires.list in
-    let first = list_of c.masks_of-first.ensures.head l.1 in
     ap is_some (c.link.ensures.masks n) ∙ marks_linked (masks_in c.args.nodes.now.lodged) l.0 (not_below (c.args.bit + 1) l.0) _ n l.1.stands
-    (λ y among. (not_below_among (c.args.bit + 1) l.0 y among).0) (c.gap_at-gap.ensures.before l.0 first)
+    (λ y among. (not_below_among (c.args.bit + 1) l.0 y among).0) (c.gap_at-gap.ensures.before l.0 (list_of c.masks_of-first.ensures.head l.1))

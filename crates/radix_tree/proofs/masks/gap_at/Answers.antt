@@ -1,28 +1,20 @@
-use Rattle.radix_tree.proofs.Words.{◌≤◌, ◌<◌, ◌∙◌, refl, sym, subst, arith}
-use Rattle.radix_tree.proofs.MaskWalks.{begun, next_of, rank_told, ended}
+use Rattle.radix_tree.proofs.{Words.◌≤◌, Words.◌∙◌, Words.subst, Words.arith, MaskWalks.next_of, MaskWalks.rank_told, MaskWalks.ended}
 use Rattle.radix_tree.proofs.masks.gap_at.Goals as goal
 
 pub loop-behind-init : goal.loop-behind-init
-loop-behind-init g c = record { turn = refl; passing = λ ms is. begun c.args.visits.now is }
+loop-behind-init g c = grind arith
 
 pub mask_node-leaf-requires-clause-listed : goal.mask_node-leaf-requires-clause-listed
 mask_node-leaf-requires-clause-listed g c = let l = c.requires.list in (next_of (c.loop-behind.invariant.passing l.0 l.1) c.in-Some.is).listed
 
 pub returns-then-number-low-clause-before : goal.returns-then-number-low-clause-before
-returns-then-number-low-clause-before g c ms is =
-    let x = next_of (c.loop-behind.invariant.passing ms is) c.in-Some.is in
-    let read = c.number.ensures.number ∙ rank_told _ c.mask_node-leaf.result.0 x.ranked x.room_is c.mask_node-leaf.ensures.leaf in
-    (x.stopped (subst (λ n. n < c.args.low) read c.if-number-low.true)).0
+returns-then-number-low-clause-before g c ms is = grind (arith, next_of (c.loop-behind.invariant.passing ms is) c.in-Some.is)
 
 pub returns-then-number-low-clause-behind : goal.returns-then-number-low-clause-behind
-returns-then-number-low-clause-behind g c ms is =
-    let x = next_of (c.loop-behind.invariant.passing ms is) c.in-Some.is in
-    let read = c.number.ensures.number ∙ rank_told _ c.mask_node-leaf.result.0 x.ranked x.room_is c.mask_node-leaf.ensures.leaf in
-    (x.stopped (subst (λ n. n < c.args.low) read c.if-number-low.true)).1
+returns-then-number-low-clause-behind g c ms is = grind (arith, next_of (c.loop-behind.invariant.passing ms is) c.in-Some.is)
 
 pub loop-behind-smaller : goal.loop-behind-smaller
-loop-behind-smaller g c =
-    let l = c.requires.list in let soon = (next_of (c.loop-behind.invariant.passing l.0 l.1) c.in-Some.is).soon in omega arith
+loop-behind-smaller g c = grind arith
 
 pub loop-behind-preserved : goal.loop-behind-preserved
 loop-behind-preserved g c = record {
@@ -38,4 +30,4 @@ pub returns-clause-before : goal.returns-clause-before
 returns-clause-before g c ms is = (ended (c.loop-behind.invariant.passing ms is) c.in_default.is).0
 
 pub returns-clause-behind : goal.returns-clause-behind
-returns-clause-behind g c ms is = (ended (c.loop-behind.invariant.passing ms is) c.in_default.is).1 ∙ sym c.in_default.is
+returns-clause-behind g c ms is = grind (arith, ended)

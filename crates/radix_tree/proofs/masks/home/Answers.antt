@@ -1,20 +1,15 @@
-use Rattle.radix_tree.proofs.{Climbs.begun, Climbs.over, Climbs.fork_over, Climbs.used, Climbs.risen, Climbs.step_soon, Homes.none_passed, Homes.passed}
-use Rattle.radix_tree.proofs.{Homes.stopped, Homes.topped, Lifts.Has-leaf_at}
-use Rattle.radix_tree.proofs.Words.{◌≤◌, ◌<◌, ◌∙◌, subst, arith}
+use Rattle.radix_tree.proofs.{Climbs.begun, Climbs.over, Climbs.fork_over, Climbs.used, Climbs.risen, Homes.none_passed, Homes.passed, Homes.stopped}
+use Rattle.radix_tree.proofs.{Homes.topped, Lifts.Has-leaf_at, Words.◌≤◌, Words.◌<◌, Words.◌∙◌, Words.subst, Words.arith}
 use Rattle.radix_tree.proofs.masks.home.Goals as goal
 
 pub leaf-above-requires-clause-there : goal.leaf-above-requires-clause-there
-leaf-above-requires-clause-there g c = let l = c.requires.led.4 in Has-leaf_at l.leaf
+leaf-above-requires-clause-there g c = search (Has-leaf_at)
 
 pub loop-above-init : goal.loop-above-init
-loop-above-init g c = record {
-  turn = c.leaf-above.ensures.visit.turn;
-  climb = λ key whole top led. begun led c.leaf-above.ensures.said (none_passed c.args.rank led c.leaf-above.ensures.visit);
-}
+loop-above-init g c = record { turn = c.leaf-above.ensures.visit.turn; climb = λ key whole top led. search (begun, led, none_passed) }
 
 pub bit_node-node-requires-clause-used : goal.bit_node-node-requires-clause-used
-bit_node-node-requires-clause-used g c =
-    let l = c.requires.led in used (fork_over (over l.2 (c.loop-above.invariant.climb l.0 l.1 l.2 l.4) c.in-Some.is))
+bit_node-node-requires-clause-used g c = let l = c.requires.led in used (fork_over (over l.2 (c.loop-above.invariant.climb l.0 l.1 l.2 l.4) c.in-Some.is))
 
 pub returns-then-node-rank-clause-home : goal.returns-then-node-rank-clause-home
 returns-then-node-rank-clause-home g c key whole top low led =
@@ -22,10 +17,7 @@ returns-then-node-rank-clause-home g c key whole top low led =
     let w = c.loop-above.invariant.climb key whole top led in stopped w (over top w c.in-Some.is) c.bit_node-node.ensures.node before
 
 pub loop-above-smaller : goal.loop-above-smaller
-loop-above-smaller g c =
-    let l = c.requires.led in
-    let w = c.loop-above.invariant.climb l.0 l.1 l.2 l.4 in
-    let soon = step_soon (over l.2 w c.in-Some.is) w.holds.steps in omega arith
+loop-above-smaller g c = let l = c.requires.led in grind (arith, c.loop-above.invariant.climb l.0 l.1 l.2 l.4)
 
 pub loop-above-preserved : goal.loop-above-preserved
 loop-above-preserved g c =

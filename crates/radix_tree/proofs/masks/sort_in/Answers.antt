@@ -12,10 +12,9 @@ put_mask_node-requires-clause-there g c = let f = c.requires.free in Has-ranked 
 pub link-requires-clause-there : goal.link-requires-clause-there
 link-requires-clause-there g c room is =
     let l = c.requires.list in
-    let first = list_of c.masks_of-first.ensures.head l.1 in
     Has-last c.put_mask_node.new.nodes.lodged l.0 (not_below c.number-rank.result l.0)
     (are_ranked_same c.args.nodes.now.lodged c.put_mask_node.new.nodes.lodged l.0 c.put_mask_node.ensures.tree.leaves l.1.ranked)
-    (λ y among. (not_below_among c.number-rank.result l.0 y among).0) (c.gap_at-gap.ensures.before l.0 first) is
+    (λ y among. (not_below_among c.number-rank.result l.0 y among).0) (c.gap_at-gap.ensures.before l.0 (list_of c.masks_of-first.ensures.head l.1)) is
 
 pub returns-clause-list : goal.returns-clause-list
 returns-clause-list g c ms f is no_rank =
@@ -39,11 +38,10 @@ returns-clause-masks g c ms is n other aside =
 pub returns-clause-marks : goal.returns-clause-marks
 returns-clause-marks g c n other =
     let l = c.requires.list in
-    let first = list_of c.masks_of-first.ensures.head l.1 in
     ap is_some (c.link.ensures.masks n)
     ∙ sorted_marks (masks_in c.args.nodes.now.lodged) (masks_in c.put_mask_node.new.nodes.lodged) l.0 (not_below c.number-rank.result l.0) c.args.room
     (record { next = c.gap_at-gap.result.behind }) _ n
     l.1.stands c.requires.free.unmarked c.put_mask_node.ensures.masks (λ y among. (not_below_among c.number-rank.result l.0 y among).0)
-    (c.gap_at-gap.ensures.before l.0 first)
+    (c.gap_at-gap.ensures.before l.0 (list_of c.masks_of-first.ensures.head l.1))
     ∙ ap is_some (c.put_mask_node.ensures.masks n ∙ put_aside c.args.room (Some (record { next = c.gap_at-gap.result.behind })) n
     (masks_in c.args.nodes.now.lodged n) other)

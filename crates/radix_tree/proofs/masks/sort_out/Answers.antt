@@ -1,6 +1,6 @@
 use Rattle.radix_tree.proofs.{MaskLists.not_below_among, MaskLists.ranked_among, MaskWalks.Has-ranked, MaskWalks.rank_told, MaskWalks.listed_as}
-use Rattle.radix_tree.proofs.{MaskWalks.next_told, MaskLinks.list_of, MaskLinks.Has-last, MaskLinks.ranked_same, MaskLinks.put_aside}
-use Rattle.radix_tree.proofs.{MaskLinks.aside_linked, MaskLinks.marks_linked, MaskChanges.stands_at, MaskChanges.taken}
+use Rattle.radix_tree.proofs.{MaskWalks.next_told, MaskChanges.stands_at, MaskChanges.taken}
+use Rattle.radix_tree.proofs.MaskLinks.{list_of, Has-last, ranked_same, put_aside, aside_linked, marks_linked}
 use Rattle.radix_tree.proofs.Words.{◌∙◌, ◌+◌, None, ap, is_some, masks_in, leaves_in, not_below, below}
 use Rattle.radix_tree.proofs.masks.sort_out.Goals as goal
 
@@ -12,9 +12,8 @@ mask_node-leaf-requires-clause-listed g c =
 pub link-requires-clause-there : goal.link-requires-clause-there
 link-requires-clause-there g c room is =
     let l = c.requires.list in
-    let first = list_of c.masks_of-first.ensures.head l.2 in
     Has-last c.args.nodes.now.lodged l.0 (not_below (c.number.result + 1) l.0) l.2.ranked
-    (λ y among. (not_below_among (c.number.result + 1) l.0 y among).0) (c.gap_at-gap.ensures.before l.0 first) is
+    (λ y among. (not_below_among (c.number.result + 1) l.0 y among).0) (c.gap_at-gap.ensures.before l.0 (list_of c.masks_of-first.ensures.head l.2)) is
 
 pub put_mask_node-requires-clause-there : goal.put_mask_node-requires-clause-there
 put_mask_node-requires-clause-there g c =
@@ -24,11 +23,10 @@ put_mask_node-requires-clause-there g c =
 
 pub returns-clause-list : goal.returns-clause-list
 returns-clause-list g c ms x is among room_is =
-    let first = list_of c.masks_of-first.ensures.head is in
     let own = ranked_among (leaves_in c.args.nodes.now.lodged) ms is.ranked x among in
     let read = rank_told c.args.nodes.now.lodged c.mask_node-leaf.result.0 own room_is c.mask_node-leaf.ensures.leaf in
     taken c.args.nodes.now.lodged c.link.new.nodes.lodged c.put_mask_node.new.nodes.lodged c.args.fork x c.args.room ms
-    is among room_is (ap (λ n. n + 1) (c.number.ensures.number ∙ read)) (c.gap_at-gap.ensures.before ms first)
+    is among room_is (ap (λ n. n + 1) (c.number.ensures.number ∙ read)) (c.gap_at-gap.ensures.before ms (list_of c.masks_of-first.ensures.head is))
     (next_told c.args.nodes.now.lodged x (below x.entry.rank ms) c.mask_node-leaf.result.1 (stands_at ms x is among) room_is c.mask_node-leaf.ensures.said)
     c.link.ensures.tree.leaves c.link.ensures.heads c.link.ensures.masks c.put_mask_node.ensures.tree.leaves c.put_mask_node.ensures.heads
     c.put_mask_node.ensures.masks
@@ -43,7 +41,6 @@ returns-clause-masks g c ms is n other aside =
 pub returns-clause-marks : goal.returns-clause-marks
 returns-clause-marks g c n other =
     let l = c.requires.list in
-    let first = list_of c.masks_of-first.ensures.head l.2 in
     ap is_some (c.put_mask_node.ensures.masks n ∙ put_aside c.args.room None n (masks_in c.link.new.nodes.lodged n) other ∙ c.link.ensures.masks n)
     ∙ marks_linked (masks_in c.args.nodes.now.lodged) l.0 (not_below (c.number.result + 1) l.0) _ n l.2.stands
-    (λ y among. (not_below_among (c.number.result + 1) l.0 y among).0) (c.gap_at-gap.ensures.before l.0 first)
+    (λ y among. (not_below_among (c.number.result + 1) l.0 y among).0) (c.gap_at-gap.ensures.before l.0 (list_of c.masks_of-first.ensures.head l.2))

@@ -1,10 +1,9 @@
-use Rattle.radix_tree.proofs.{Climbs.begun, Climbs.over, Climbs.fork_over, Climbs.used, Climbs.risen, Climbs.step_soon, Lifts.Has-leaf_at}
-use Rattle.radix_tree.proofs.{Spots.leaf_past, Spots.over_past, Spots.stopped, Spots.topped}
-use Rattle.radix_tree.proofs.Words.{◌∙◌, subst, arith, IsSpot}
+use Rattle.radix_tree.proofs.{Climbs.begun, Climbs.over, Climbs.fork_over, Climbs.used, Climbs.risen, Lifts.Has-leaf_at, Spots.leaf_past, Spots.over_past}
+use Rattle.radix_tree.proofs.{Spots.stopped, Spots.topped, Words.◌∙◌, Words.subst, Words.arith, Words.IsSpot}
 use Rattle.radix_tree.proofs.placing.spot_above.Goals as goal
 
 pub leaf-above-requires-clause-there : goal.leaf-above-requires-clause-there
-leaf-above-requires-clause-there g c = let l = c.requires.new.1.led in Has-leaf_at l.leaf
+leaf-above-requires-clause-there g c = search (Has-leaf_at)
 
 pub loop-above-init : goal.loop-above-init
 loop-above-init g c = record {
@@ -13,8 +12,7 @@ loop-above-init g c = record {
 }
 
 pub bit_node-node-requires-clause-used : goal.bit_node-node-requires-clause-used
-bit_node-node-requires-clause-used g c =
-    let n = c.requires.new in used (fork_over (over n.1.top (c.loop-above.invariant.climb n.0 n.1) c.in-Some.is))
+bit_node-node-requires-clause-used g c = let n = c.requires.new in used (fork_over (over n.1.top (c.loop-above.invariant.climb n.0 n.1) c.in-Some.is))
 
 pub returns-then-node-bit-clause-spot : goal.returns-then-node-bit-clause-spot
 returns-then-node-bit-clause-spot g c key w =
@@ -23,10 +21,7 @@ returns-then-node-bit-clause-spot g c key w =
     (stopped w r (over w.top r c.in-Some.is) c.bit_node-node.ensures.node c.if-node-bit.true)
 
 pub loop-above-smaller : goal.loop-above-smaller
-loop-above-smaller g c =
-    let n = c.requires.new in
-    let r = c.loop-above.invariant.climb n.0 n.1 in
-    let soon = step_soon (over n.1.top r c.in-Some.is) r.holds.steps in omega arith
+loop-above-smaller g c = let n = c.requires.new in grind (arith, c.loop-above.invariant.climb n.0 n.1)
 
 pub loop-above-preserved : goal.loop-above-preserved
 loop-above-preserved g c = record {

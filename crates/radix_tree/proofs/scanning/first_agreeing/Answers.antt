@@ -1,5 +1,4 @@
-use Rattle.radix_tree.proofs.Words.{sym, ◌∙◌}
-use Rattle.radix_tree.proofs.Scans.{begun, member, Has-at, agrees_is, covered, not_covered}
+use Rattle.radix_tree.proofs.{Words.arith, Words.sym, Words.◌∙◌, Scans.begun, Scans.member, Scans.Has-at, Scans.agrees_is, Scans.covered, Scans.not_covered}
 use Rattle.radix_tree.proofs.scanning.first_agreeing.Goals as goal
 
 pub loop-at-init : goal.loop-at-init
@@ -10,15 +9,10 @@ leaf-leaf-requires-clause-there g c = let r = c.requires.chain in Has-at (member
 
 pub returns-then-agrees-clause-best : goal.returns-then-agrees-clause-best
 returns-then-agrees-clause-best g c r begins =
-    let x = member (c.loop-at.invariant r begins) c.in-Some.is in
-    let same = agrees_is c.args.address x.route (c.leaf-leaf.ensures.said x.part x.said) x.key x.rank in (
+    let x = member (c.loop-at.invariant r begins) c.in-Some.is in (
       x.route,
       x.room_is,
-      (
-        x.among,
-        covered c.args.address x.route (sym same ∙ sym c.agrees.ensures ∙ c.if-agrees.true),
-        λ y among covers below. x.greatest y among covers,
-      ),
+      grind (arith, covered),
     )
 
 pub loop-at-preserved : goal.loop-at-preserved

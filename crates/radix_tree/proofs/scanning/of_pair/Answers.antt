@@ -1,6 +1,5 @@
-use Rattle.radix_tree.proofs.{Scans.begun, Scans.member, Scans.Has-at, Scans.ended, scanning.of_pair.Goals.else-eq-via-then-eq+else-eq-2}
-use Rattle.radix_tree.proofs.{scanning.of_pair.Goals.else-eq-via-else-eq}
-use Rattle.radix_tree.proofs.Words.{◌≡◌, sym, ap, ◌∙◌, eqb-true, eqb-false}
+use Rattle.radix_tree.proofs.{Words.arith, Words.◌≡◌, Words.sym, Words.ap, Words.◌∙◌, Words.eqb-false, Scans.begun, Scans.member, Scans.Has-at, Scans.ended}
+use Rattle.radix_tree.proofs.{scanning.of_pair.Goals.else-eq-via-then-eq+else-eq-2, scanning.of_pair.Goals.else-eq-via-else-eq}
 use Rattle.radix_tree.proofs.scanning.of_pair.Goals as goal
 
 pub loop-at-init : goal.loop-at-init
@@ -12,10 +11,7 @@ leaf-leaf-requires-clause-there g c = let r = c.requires.chain in Has-at (member
 pub returns-then-eq-2-clause-found : goal.returns-then-eq-2-clause-found
 returns-then-eq-2-clause-found g c r begins =
     let x = member (c.loop-at.invariant r begins) c.in-Some.is in
-    let said = c.leaf-leaf.ensures.said x.part x.said in
-    let key = eqb-true c.leaf-leaf.result.key c.args.key (sym c.eq.ensures ∙ c.if-eq.true) in
-    let rank = eqb-true c.leaf-leaf.result.rank c.args.rank (sym c.eq-then-eq.ensures ∙ c.if-eq-2.true) in
-    (x.route, x.room_is, (x.among, (sym (ap (λ l. l.key) said ∙ x.key) ∙ key, sym (ap (λ l. l.rank) said ∙ x.rank) ∙ rank)))
+    (x.route, x.room_is, grind arith)
 
 pub loop-at-preserved : goal.loop-at-preserved
 loop-at-preserved g c = λ r begins.
@@ -29,4 +25,4 @@ loop-at-preserved g c = λ r begins.
     (ap (λ l. l.rank) said ∙ x.rank ∙ has.1))
 
 pub returns-clause-found : goal.returns-clause-found
-returns-clause-found g c r begins x among has = ended (c.loop-at.invariant r begins) c.in_default.is x among has
+returns-clause-found g c r begins x among has = search (ended, c.loop-at.invariant)

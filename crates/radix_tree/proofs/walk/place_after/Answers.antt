@@ -5,7 +5,7 @@ pub links-requires-clause-there : goal.links-requires-clause-there
 links-requires-clause-there g c = Has-here _ c.requires.at
 
 pub place_behind-requires-clause-first : goal.place_behind-requires-clause-first
-place_behind-requires-clause-first g c = first_of_key c.args.place c.requires.at c.links.result.now c.links.ensures.links c.leaf-leaf.ensures
+place_behind-requires-clause-first g c = search (first_of_key)
 
 pub returns-in-Some-clause-on : goal.returns-in-Some-clause-on
 returns-in-Some-clause-on g c = (next_on c.requires.at c.links.result.now c.links.ensures.links c.leaf-leaf.ensures c.in-Some.is).on

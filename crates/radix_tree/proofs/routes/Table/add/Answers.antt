@@ -1,16 +1,15 @@
 use Rattle.std.proofs.Common.{rules}
 use Rattle.radix_tree.proofs.{Counted.few_held, Counted.counted_more, WholeRoutes.gains_entry, Kept.shown_table}
 use Rattle.radix_tree.proofs.{Kept.shown_next, Kept.given_begun, Kept.IsNext, GivenNumbers.given_more, routes.Table.add.Goals.In-Ok}
-use Rattle.radix_tree.proofs.Words.{◌≡◌, ◌+◌, ◌<◌, ◌≤◌, ◌∷◌, Some, None, is_some, sym, ap, subst, ◌∙◌, arith, HasOneMore, AreCounted, Rooms}
+use Rattle.radix_tree.proofs.Words.{◌≡◌, ◌+◌, ◌<◌, ◌∷◌, Some, None, is_some, sym, ap, subst, ◌∙◌, arith, HasOneMore, AreCounted, Rooms}
 use Rattle.radix_tree.proofs.Words.{entry_at, uses, with_entry, shown, leaf_in, leaves_in, true≢false}
 use Rattle.radix_tree.specs.Given.{AreGiven, numbers_in}
 use Rattle.radix_tree.proofs.routes.Table.add.Goals as goal
 
 pub added-requires : goal.added-requires
 added-requires g c =
-    let fits : c.args.rank ≤ 33 = search rules in
     few_held c.self.inside.counts (shown c.self.inside.nodes.lodged c.self.inside.root) c.args.rank c.self.invariant.counted
-    (shown_table _ c.self.inside.root c.self.invariant.holds) fits
+    (shown_table _ c.self.inside.root c.self.invariant.holds) (search rules)
 
 -- the turn began in the map as it was
 begins : (g : _) (c : In-Ok g) → IsNext c.self.inside.nodes c.begin-visits.new.self
@@ -29,10 +28,7 @@ numbered : (g : _) (c : In-Ok g) → AreGiven c.insert.new.nodes.lodged ((c.spar
 numbered g c =
     let free = ap (λ r. leaves_in r.lodged c.spare-space.result) (begins g c) ∙ ap (leaves_in c.self.inside.nodes.lodged) c.spare-space.ensures.room
     ∙ ap leaf_in c.spare-space.ensures.free in
-    let number = c.room.view_is in
-    let next = ap (λ t. t.next) c.self.view_is in
-    let asked = c.requires.made in
-    let made : c.room.inside.number.value < c.self.inside.numbers + 1 = omega (arith, number, next, asked) in
+    let made : c.room.inside.number.value < c.self.inside.numbers + 1 = omega (arith, c.requires.made, ap (λ t. t.next) c.self.view_is) in
     let unused = ap (λ k. uses k (numbers_in c.self.inside.given)) c.room.view_is ∙ ap (λ t. uses c.args.room t.numbers) c.self.view_is ∙ c.requires.free in
     given_more c.begin-visits.new.self.lodged c.insert.new.nodes.lodged c.spare-space.result c.room.inside.number.value
     (given_begun c.self.inside.nodes c.begin-visits.new.self (begins g c) c.self.invariant.numbered) free c.in-Ok.ensures.rooms made unused
@@ -51,9 +47,7 @@ invariant_of-self-in-Ok-1 g c =
     }
 
 pub returns-in-Ok-clause-there : goal.returns-in-Ok-clause-there
-returns-in-Ok-clause-there g c =
-    let none = absent g (goal.at.returns-in-Ok-clause-there g c).In-Ok in
-    (λ e. absurd (true≢false (sym e)), λ some. ap is_some (sym none) ∙ some)
+returns-in-Ok-clause-there g c = (λ e. absurd (true≢false (sym e)), λ some. ap is_some (sym (absent g (goal.at.returns-in-Ok-clause-there g c).In-Ok)) ∙ some)
 
 pub returns-in-Ok-clause-absent : goal.returns-in-Ok-clause-absent
 returns-in-Ok-clause-absent g c = absent g (goal.at.returns-in-Ok-clause-absent g c).In-Ok

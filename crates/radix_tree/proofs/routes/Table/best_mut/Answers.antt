@@ -4,7 +4,7 @@ use Rattle.radix_tree.proofs.{Valued.lent_given, Kept.shown_table, Kept.whole_at
 use Rattle.radix_tree.proofs.Answered.{Answer, answer, Has-best, best_answer, best_none, best_pair}
 use Rattle.radix_tree.specs.Lending.{with_value_at}
 use Rattle.radix_tree.proofs.Words.{◌≡◌, sym, ap, subst, ◌∙◌, inl, inr, arith, put_value, IsTable, contents, IsKept, AreCounted, best_of, with_entry, shown}
-use Rattle.radix_tree.proofs.Words.{IsWhole, Entry, Leaf}
+use Rattle.radix_tree.proofs.Words.{IsWhole, Leaf}
 use Rattle.radix_tree.proofs.routes.Table.best_mut.Goals as goal
 
 pub returns-in_default-best_room : goal.returns-in_default-best_room
@@ -18,12 +18,12 @@ returns-in_default-best_room g c =
             ∙ ap (best_of c.args.address) (sym (shown_is w) ∙ entries_at _ _ _ c.self.view_is c.in-Some.is);
         stands = tt;
         counter = c.best_room.ensures.visits.turn;
-        bound = omega (arith, bound);
+        bound = omega arith;
       },
     )
 
 whole : (g : _) (c : In-Some-best_room g) → IsWhole c.self.inside.nodes.lodged c.in-Some.root
-whole g c = whole_at _ c.self.invariant.holds c.in-Some.is
+whole g c = grind arith
 
 found : (g : _) (c : In-Some-best_room g) → Answer (whole g c).part c.args.address c.in-Some-best_room.room
 found g c = answer (whole g c).part c.in-Some-best_room.is (c.best_room.ensures.best (whole g c))
@@ -56,12 +56,10 @@ lent : (g : _) (c : In-Some-best_room g) (l : Leaf) → l ≡ (found g c).part.l
     c.self.inside.root c.self.inside.given c.self.inside.numbers ≡ with_value_at l.key l.rank c.args.self.now v
 lent g c l is v =
     let m = c.self.inside.nodes.lodged in
-    let room = c.in-Some-best_room.room in
     let a = found g c in
-    let e : Entry g.row.V.Denot = record { key = l.key; rank = l.rank; value = v } in
-    let entries = ap (shown (put_value m room v)) c.in-Some.is
+    let entries = ap (shown (put_value m c.in-Some-best_room.room v)) c.in-Some.is
     ∙ lent_shown m (whole g c) l.key l.rank c.in-Some-best_room.is (best_pair a is c.in-Some-best_room.is) (Has-best a) v
-    ∙ ap (with_entry e) (entries_at _ _ _ c.self.view_is c.in-Some.is) in
+    ∙ ap (with_entry (record { key = l.key; rank = l.rank; value = v })) (entries_at _ _ _ c.self.view_is c.in-Some.is) in
     let numbers = ap (λ t. t.numbers) c.self.view_is in
     let next = ap (λ t. t.next) c.self.view_is in
     let turn = ap (λ t. t.turn) c.self.view_is in
@@ -75,7 +73,6 @@ returns g c =
     let best = best_answer a c.value_mut.result.now read c.value_mut.ensures.value
     ∙ ap (best_of c.args.address) (sym (shown_is (whole g at)) ∙ entries_at _ _ _ c.self.view_is c.in-Some.is) in
     let table = subst (λ t. IsTable t.entries) c.self.view_is (shown_table _ c.self.inside.root c.self.invariant.holds) in
-    let once = c.leaf-leaf.ensures.visit.count in
     let bound = c.best_room.ensures.visits.bound in (
       λ t. inl (c.value_mut.result.ghost_name, λ v. lent g at c.leaf-leaf.result read v t),
       record {
@@ -83,6 +80,6 @@ returns g c =
         best = best;
         stands = (best_is_greatest c.args.address c.args.self.now.entries _ table (sym best)).stands;
         counter = c.leaf-leaf.ensures.visit.turn ∙ c.best_room.ensures.visits.turn;
-        bound = omega (arith, once, bound);
+        bound = omega arith;
       },
     )

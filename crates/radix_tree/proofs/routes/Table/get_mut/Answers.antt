@@ -1,27 +1,18 @@
-use Rattle.std.proofs.Common.{rules}
 use Rattle.radix_tree.proofs.{Counted.not_held, Valued.put_valued, Valued.valued_whole, Valued.lent_shown, Valued.lent_counted, Valued.lent_given}
-use Rattle.radix_tree.proofs.{Kept.Has-found, Kept.IsFound, Kept.found, Kept.not_found, Kept.value_found, Kept.whole_next, Kept.entries_next}
-use Rattle.radix_tree.proofs.{Kept.shown_begun, Kept.given_begun}
-use Rattle.radix_tree.proofs.{routes.Table.get_mut.Goals.In-Some-room_of}
-use Rattle.radix_tree.proofs.Words.{◌≡◌, ◌+◌, ◌≤◌, ℕ, List, Option, refl, sym, ap, subst, ◌∙◌, inl, inr, option_map, Rooms, put_value, Node, contents}
-use Rattle.radix_tree.proofs.Words.{IsKept, AreCounted, with_value, Contents, entry_at, with_entry, shown, Entry}
+use Rattle.radix_tree.proofs.{Kept.Has-found, Kept.IsFound, Kept.found, Kept.not_found, Kept.value_found, Kept.whole_next, Kept.entries_next, Kept.shown_begun}
+use Rattle.radix_tree.proofs.{Kept.given_begun, routes.Table.get_mut.Goals.In-Some-room_of}
+use Rattle.radix_tree.proofs.Words.{arith, ◌≡◌, ◌+◌, ℕ, List, Option, sym, ap, subst, ◌∙◌, inl, option_map, Rooms, put_value, Node, contents, IsKept}
+use Rattle.radix_tree.proofs.Words.{AreCounted, with_value, Contents, entry_at, with_entry, shown, Entry}
 use Rattle.radix_tree.proofs.routes.Table.get_mut.Goals as goal
 
 -- a table of which a turn began and no more
 only_begun : {V : Type 0} (old : Rooms V) {new : Rooms V} (root : Option Node) (given : List (ℕ × ℕ)) (last : ℕ) {table : Contents V}
     → contents old root given last ≡ table → new ≡ record old { turn = old.turn + 1 }
     → contents new root given last ≡ record table { turn = table.turn + 1 }
-only_begun {V} old root given last is began = ap (λ (r : Rooms V). contents r root given last) began
-    ∙ ap (λ (t : Contents V). record t { turn = t.turn + 1 }) is
+only_begun {V} old root given last is began = grind arith
 
 pub returns-then-not-has : goal.returns-then-not-has
-returns-then-not-has g c =
-    let fits : c.args.rank ≤ 33 = search rules in
-    let none = ap (λ t. entry_at c.args.key c.args.rank t.entries) (sym c.self.view_is)
-    ∙ not_held c.self.inside.counts _ c.args.key c.args.rank c.self.invariant.counted fits c.has.ensures.1 c.if-not-has.true in (
-      ap inr (only_begun c.self.inside.nodes c.self.inside.root c.self.inside.given c.self.inside.numbers c.self.view_is c.begin-visits.ensures.turn),
-      record { writes = tt; value = rw none refl },
-    )
+returns-then-not-has g c = grind (arith, not_held)
 
 pub room_of-requires-clause-tree : goal.room_of-requires-clause-tree
 room_of-requires-clause-tree g c =
@@ -32,10 +23,7 @@ returns-in_default-room_of g c =
     let w = whole_next c.self.inside.nodes c.begin-visits.new.self c.self.invariant.holds c.in-Some.is c.begin-visits.ensures.turn in
     let none = ap (entry_at c.args.key c.args.rank)
     (sym (entries_next c.self.inside.nodes c.begin-visits.new.self _ c.self.view_is c.in-Some.is c.begin-visits.ensures.turn))
-    ∙ not_found w c.args.key c.args.rank c.in_default-room_of.is (c.room_of.ensures.found w.part w.named) in (
-      ap inr (only_begun c.self.inside.nodes c.self.inside.root c.self.inside.given c.self.inside.numbers c.self.view_is c.begin-visits.ensures.turn),
-      record { writes = tt; value = rw none refl },
-    )
+    ∙ not_found w c.args.key c.args.rank c.in_default-room_of.is (c.room_of.ensures.found w.part w.named) in grind arith
 
 -- the room that was found
 is_found : (g : _) (c : In-Some-room_of g) → IsFound c.begin-visits.new.self.lodged c.in-Some.root c.args.key c.args.rank c.in-Some-room_of.room
@@ -44,15 +32,13 @@ is_found g c =
     found w c.args.key c.args.rank c.in-Some-room_of.is (c.room_of.ensures.found w.part w.named)
 
 pub value_mut-requires : goal.value_mut-requires
-value_mut-requires g c =
-    record { there = Has-found _ (is_found g (goal.at.value_mut-requires g c).In-Some-room_of) }
+value_mut-requires g c = record { there = Has-found _ (is_found g (goal.at.value_mut-requires g c).In-Some-room_of) }
 
 pub invariant_of-self-lent : goal.invariant_of-self-lent
 invariant_of-self-lent g c = λ v.
-    let f = is_found g (goal.at.invariant_of-self-lent g c).In-Some-room_of in
     let m = c.begin-visits.new.self.lodged in
     let w = whole_next c.self.inside.nodes c.begin-visits.new.self c.self.invariant.holds c.in-Some.is c.begin-visits.ensures.turn in
-    let has = Has-found m f in
+    let has = Has-found m (is_found g (goal.at.invariant_of-self-lent g c).In-Some-room_of) in
     let before = shown_begun c.self.inside.nodes c.begin-visits.new.self c.in-Some.is c.begin-visits.ensures.turn in
     let counted = subst (AreCounted c.self.inside.counts) (sym before) c.self.invariant.counted in
     subst (λ o. IsKept (record { lodged = put_value m c.in-Some-room_of.room v; turn = c.begin-visits.new.self.turn }) o c.self.inside.counts
@@ -70,10 +56,9 @@ lent : (g : _) (c : In-Some-room_of g) (v : g.row.V.Denot) → contents (record
 lent g c v =
     let m = c.begin-visits.new.self.lodged in
     let w = whole_next c.self.inside.nodes c.begin-visits.new.self c.self.invariant.holds c.in-Some.is c.begin-visits.ensures.turn in
-    let has = Has-found m (is_found g c) in
     let e : Entry g.row.V.Denot = record { key = c.args.key; rank = c.args.rank; value = v } in
     let entries = ap (shown (put_value m c.in-Some-room_of.room v)) c.in-Some.is
-    ∙ lent_shown m w c.args.key c.args.rank c.in-Some-room_of.is (c.room_of.ensures.found w.part w.named) has v
+    ∙ lent_shown m w c.args.key c.args.rank c.in-Some-room_of.is (c.room_of.ensures.found w.part w.named) (Has-found m (is_found g c)) v
     ∙ ap (with_entry e) (entries_next c.self.inside.nodes c.begin-visits.new.self _ c.self.view_is c.in-Some.is c.begin-visits.ensures.turn) in
     let numbers = ap (λ t. t.numbers) c.self.view_is in
     let next = ap (λ t. t.next) c.self.view_is in

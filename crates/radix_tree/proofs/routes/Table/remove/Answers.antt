@@ -2,7 +2,7 @@ use Rattle.std.proofs.Common.{rules}
 use Rattle.radix_tree.proofs.{Counted.not_held, Counted.counted_less, GivenNumbers.given_less, GivenNumbers.one_there, GivenNumbers.went}
 use Rattle.radix_tree.proofs.{TableLemmas.without_absent, Gained.lost, Kept.Has-found}
 use Rattle.radix_tree.proofs.{Kept.IsFound, Kept.found, Kept.not_found, Kept.whole_next, Kept.shown_next, Kept.entries_next, Kept.shown_begun, Kept.given_begun}
-use Rattle.radix_tree.proofs.Words.{◌≡◌, ◌+◌, ◌≤◌, ◌==◌, if◌then◌else◌, Some, None, refl, sym, ap, subst, ◌∙◌, option_map, leaf_in, HasOneMore, IsKept}
+use Rattle.radix_tree.proofs.Words.{◌≡◌, ◌+◌, ◌==◌, if◌then◌else◌, Some, None, refl, sym, ap, subst, ◌∙◌, option_map, leaf_in, HasOneMore, IsKept}
 use Rattle.radix_tree.proofs.Words.{AreCounted, entry_at, uses, without, shown}
 use Rattle.radix_tree.proofs.routes.Table.remove.Goals.{Then-not-has, In_default-room_of, In-Some-room_of, After-take}
 use Rattle.radix_tree.proofs.routes.Table.remove.Goals as goal
@@ -12,9 +12,8 @@ use Rattle.radix_tree.specs.Given.{AreGiven, beside, numbers_in}
 -- a rank of which no route is held
 not_there : (g : _) (c : Then-not-has g) → entry_at c.args.key c.args.rank c.args.self.now.entries ≡ None
 not_there g c =
-    let fits : c.args.rank ≤ 33 = search rules in
     ap (λ t. entry_at c.args.key c.args.rank t.entries) (sym c.self.view_is)
-    ∙ not_held c.self.inside.counts _ c.args.key c.args.rank c.self.invariant.counted fits c.has.ensures.1 c.if-not-has.true
+    ∙ not_held c.self.inside.counts _ c.args.key c.args.rank c.self.invariant.counted (search rules) c.has.ensures.1 c.if-not-has.true
 
 pub returns-then-not-has-clause-value : goal.returns-then-not-has-clause-value
 returns-then-not-has-clause-value g c = rw (not_there g (goal.at.returns-then-not-has-clause-value g c).Then-not-has) refl

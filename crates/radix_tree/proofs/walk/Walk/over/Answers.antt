@@ -13,8 +13,7 @@ invariant_of-result-2 g c =
 
 pub returns-clause-rest : goal.returns-clause-rest
 returns-clause-rest g c =
-    let m = c.args.nodes.now.lodged in
     let w = whole_at _ c.requires.holds c.in-Some.is in
     begins_rest c.first_place-place.result (first_on _ w.part w.part [] [] w.top (c.first_place-place.ensures.led w.part w.named) (refl, refl))
     c.first_place-place.ensures.room
-    ∙ append-nil _ ∙ sym (shown_is w) ∙ ap (shown m) (sym c.in-Some.is)
+    ∙ append-nil _ ∙ sym (shown_is w) ∙ ap (shown c.args.nodes.now.lodged) (sym c.in-Some.is)
