@@ -1,7 +1,7 @@
 -- What bits tell of a route's key, and of an address that it covers.
 use Rattle.mask_table.proofs.Agreeing.{bit_of_front, masked_bits, masked_agrees}
 use Rattle.radix_tree.specs.Tree.{bit_at, Covers}
-use Rattle.radix_tree.proofs.Words.{◌≡◌, ℕ, ◌<◌, ◌≤◌, ◌⊎◌, sym, ap, ◌∙◌, subst, true, arith, agrees, masked, bit, IsRoute, Entry}
+use Rattle.radix_tree.proofs.Words.{◌≡◌, ℕ, ◌<◌, ◌≤◌, ◌⊎◌, sym, subst, true, arith, agrees, masked, IsRoute, Entry}
 
 pub zero_not_one : {n : ℕ} → n ≡ 0 → n ≡ 1 → ⊥
 zero_not_one zero one = omega arith
@@ -19,7 +19,7 @@ module _ {V : Type 0} where
   -- one past it is 0
   pub clear_bit : (b : ℕ) {e : Entry V} → IsRoute e → e.rank ≤ b → b ≤ 31 → bit_at b e.key ≡ 0
   unfolding bit_at
-  clear_bit b {e = e} route past within = ap (bit b) (sym route.key) ∙ (masked_bits e.rank e.key b (omega arith)).1 past
+  clear_bit b {e = e} route past within = grind (arith, masked_bits)
 
   -- a route covers the addresses that are its key once they are masked by its rank
   pub covered_key : (address : ℕ) (e : Entry V) → IsRoute e → Covers address e → e.key ≡ masked e.rank address

@@ -35,15 +35,27 @@ module _ {V : Type 0} {m : Lodged V} where
   pub best_answer : {p : Part m} {address : ℕ} {room : Id} (a : Answer p address room) {l : Leaf} (value : V) → l ≡ a.part.leaf
       → ((s : Seen V) → get m (number_of room) ≡ Some s → value ≡ s.value)
       → Some (record { key = l.key; rank = l.rank; value = value }) ≡ best_of address (routes_of p.tree)
-  best_answer {p} {address} {room} a value l_is value_is = ap (λ z. Some (record { key = z.key; rank = z.rank; value = value })) l_is
-      ∙ ap (λ v. Some (record { key = a.part.leaf.key; rank = a.part.leaf.rank; value = v })) (value_read m room value a.said a.block value_is)
-      ∙ ap Some a.is ∙ sym (some_best address p.low p.tree p.is a.route a.best)
+  best_answer {p} {address} {room} a value l_is value_is = grind (
+    arith,
+    value_read,
+    some_best,
+    a.part.leaf.key,
+    a.part.leaf.rank,
+    a.said,
+    a.block,
+    a.is,
+    p.low,
+    p.tree,
+    p.is,
+    a.route,
+    a.best,
+    l_is,
+  )
 
   -- its pair is found by its leaf
   pub best_pair : {p : Part m} {address : ℕ} {room : Id} (a : Answer p address room) {l : Leaf} → l ≡ a.part.leaf → {o : Option Id} → o ≡ Some room
       → Tells (Finds (HasPair l.key l.rank) (In p)) o
-  best_pair {p} a {l} l_is some = subst (Tells (Finds (HasPair l.key l.rank) (In p))) (sym some)
-      (a.route, a.room_is, (a.best.0, (sym (ap (λ z. z.key) l_is ∙ ap (λ e. e.key) a.is), sym (ap (λ z. z.rank) l_is ∙ ap (λ e. e.rank) a.is))))
+  best_pair {p} a {l} l_is some = subst (Tells (Finds (HasPair l.key l.rank) (In p))) (sym some) (a.route, a.room_is, search)
 
   pub best_none : (p : Part m) (address : ℕ) {o : Option Id} → o ≡ None → Tells (Best address 0 34 (In p)) o → None ≡ best_of address (routes_of p.tree)
   best_none p address none tells = grind (arith, no_best)

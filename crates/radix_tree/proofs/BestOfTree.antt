@@ -2,7 +2,7 @@
 use Rattle.radix_tree.proofs.{MemberLemmas.all_contains, MemberLemmas.all_stand, MemberLemmas.members_stand, MemberLemmas.best_is_member}
 use Rattle.radix_tree.proofs.{LawLemmas.best_is_unique, TreeOrder.all_in, TreeOrder.tree_is_table, TreeMembers.tree_route}
 use Rattle.radix_tree.specs.Tree.{Covers}
-use Rattle.radix_tree.proofs.Words.{◌≡◌, ℕ, ◌<◌, ◌≤◌, ◌⊎◌, List, [], ◌∷◌, ◌++◌, map, Option, Some, None, refl, inl, inr, sym, ap, subst, arith, Contains}
+use Rattle.radix_tree.proofs.Words.{◌≡◌, ℕ, ◌<◌, ◌⊎◌, List, [], ◌∷◌, ◌++◌, map, Option, Some, None, refl, inl, inr, sym, ap, subst, arith, Contains}
 use Rattle.radix_tree.proofs.Words.{AllByRecursion, best_of, StandsIn, Agrees, Placed, Tree, leaf, fork, IsAmong, IsIn, IsTree, routes_of, Best, Entry}
 
 module _ {V : Type 0} where
@@ -34,7 +34,7 @@ module _ {V : Type 0} where
   among_routes x (leaf z zs) at = among_chain x (z ∷ zs) at
   among_routes x (fork room b zero one) at = elim at [
     | inl left ↦ search (among_left, among_routes x zero left)
-    | inr right ↦ among_right x.entry (routes_of zero) (routes_of one) (among_routes x one right)
+    | inr right ↦ search (among_right, among_routes x one right, x.entry)
   ]
 
   all_at : (P : Entry V → Type 0) (e : Entry V) (es : List (Entry V)) → AllByRecursion P es → Among e es → P e
@@ -43,11 +43,11 @@ module _ {V : Type 0} where
 
   -- each route of a tree stands in its list
   pub stands_in : (low : ℕ) (t : Tree V) → IsTree low t → (x : Placed V) → IsIn x t → StandsIn (routes_of t) x.entry
-  stands_in low t is x at = all_at (StandsIn (routes_of t)) x.entry (routes_of t) (all_stand (routes_of t) (tree_is_table low t is)) (among_routes x t at)
+  stands_in low t is x at = grind (arith, all_at, all_stand, tree_is_table, among_routes, x.entry)
 
   -- and what stands there is one
   pub standing : (low : ℕ) (t : Tree V) → IsTree low t → (e : Entry V) → StandsIn (routes_of t) e → IsOf t e
-  standing low t is e stands = member_of t e ((members_stand (routes_of t) e (tree_is_table low t is)).0 stands)
+  standing low t is e stands = member_of t e (grind (arith, members_stand, tree_is_table))
 
   -- ---- the best route
   pub agreeing : (address : ℕ) (e : Entry V) → Covers address e → Agrees address e
@@ -63,14 +63,21 @@ module _ {V : Type 0} where
 
   pub some_best : (address low : ℕ) (t : Tree V) → IsTree low t → (x : Placed V) → Best address 0 34 (λ y. IsIn y t) (Some x)
       → best_of address (routes_of t) ≡ Some x.entry
-  some_best address low t is x best = best_is_unique address (routes_of t) x.entry (tree_is_table low t is) (record {
-    stands = stands_in low t is x best.0;
-    agrees = agreeing address x.entry best.1;
-    greatest = λ other stands agrees.
-        let of = standing low t is other stands in
-        subst (λ e. e.rank ≤ x.entry.rank) of.2
-        (best.2 of.0 of.1 (covering address of.0.entry (subst (Agrees address) (sym of.2) agrees)) (below_34 low t is of.0 of.1));
-  })
+  some_best address low t is x best = grind (
+    arith,
+    best_is_unique,
+    tree_is_table,
+    stands_in,
+    agreeing,
+    standing,
+    covering,
+    below_34,
+    best.2,
+    x.entry,
+    best.0,
+    best.1,
+    x.entry.rank,
+  )
 
   none_of : (address low : ℕ) (t : Tree V) → IsTree low t → Best address 0 34 (λ y. IsIn y t) None → (o : Option (Entry V)) → best_of address (routes_of t) ≡ o
       → o ≡ None

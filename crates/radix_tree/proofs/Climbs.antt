@@ -65,12 +65,6 @@ module _ {V : Type 0} {m : Lodged V} where
     pub rises : start.count ≤ now.count
     pub few : now.count + part.low ≤ start.count + 33
 
-  pub step_begun : {key : ℕ} {whole : Part m} {room : Id} {start now : Counter} (l : LedTo key whole room) → ReadsOnce start now → Steps start now l.part
-  step_begun l once = grind arith
-
   module _ {key : ℕ} {whole under : Part m} {room : Id} {start now : Counter} (o : Over key whole under room) (s : Steps start now under) where
     pub step_risen : {later : Counter} → ReadsOnce now later → Steps start later o.part
     step_risen once = grind arith
-
-    pub step_soon : now.count ≤ start.count + 32
-    step_soon = omega (arith, o.beneath.low, s.few)

@@ -2,7 +2,7 @@
 --     none_of_rank                     a rank that no route has
 --     few_of_rank                      no more than there are keys
 --     counted_more, counted_less       with a route more or less
-use Rattle.mask_table.specs.Counts.{count_of, AreNone}
+use Rattle.mask_table.specs.Counts.{count_of}
 use Rattle.radix_tree.proofs.{ListLemmas.all_weaker}
 use Rattle.std.proofs.lemmas.List.Sums.{sum_by-cons, sum_by-append}
 use Rattle.radix_tree.proofs.Words.{◌≡◌, ℕ, ◌+◌, ◌-◌, ◌^◌, ◌<◌, ◌≤◌, ◌==◌, ◌&&◌, Bool, true, false, cond, if◌then◌else◌, IsTrue, List, [], ◌∷◌, ◌++◌}
@@ -14,9 +14,6 @@ one_of b = cond b 1 0
 
 turned : (r rank : ℕ) → one_of (rank == r) ≡ (if r == rank then 1 else 0)
 turned r rank = grind arith
-
-pub counted_none : (V : Type 0) (counts : List ℕ) → AreNone counts → AreCounted {V = V} counts []
-counted_none V counts none r fits = none r fits
 
 module _ {V : Type 0} where
   pub of_rank-cons : (rank : ℕ) (e : Entry V) (es : List (Entry V)) → of_rank rank (e ∷ es) ≡ one_of (e.rank == rank) + of_rank rank es

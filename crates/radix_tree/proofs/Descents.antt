@@ -59,9 +59,6 @@ module _ {V : Type 0} {m : Lodged V} where
     pub led : {room : Id} → at ≡ LeafOf room → LedTo address whole room
     led {room = room} is = record { part = d.part; leaf = leaf_named d.part (d.named ∙ is); ups = d.ups; way = d.way }
 
-    pub soon_at : {room : Id} → at ≡ LeafOf room → Reads start now 32
-    soon_at {room = room} is = grind arith
-
   -- a pair that is found at the leaf to which its key leads, or not there, is found so in the whole tree
   pub pair_led : (rank : ℕ) {key : ℕ} {whole : Part m} {room : Id} (l : LedTo key whole room) (o : Option Id)
       → Tells (Finds (HasPair key rank) (λ y. IsAmong y (l.leaf.first ∷ l.leaf.rest))) o → Tells (Finds (HasPair key rank) (In whole)) o

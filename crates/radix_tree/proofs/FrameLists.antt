@@ -1,6 +1,6 @@
 -- The bit nodes above a part of a tree, and lists of masks that stay where the masks of their ranks do.
 use Rattle.radix_tree.proofs.{PartRooms.one_if_same, PlugLists.marked_same, MaskLists.falls_among, MaskLinks.stand_same}
-use Rattle.radix_tree.proofs.Words.{◌≡◌, ℕ, ◌+◌, ◌≤◌, List, [], ◌∷◌, Option, inl, inr, sym, ap, ◌∙◌, subst, arith, Id, Placed, Tree, leaf, fork, IsAmong, IsIn}
+use Rattle.radix_tree.proofs.Words.{◌≡◌, ℕ, ◌+◌, ◌≤◌, List, [], ◌∷◌, Option, inl, inr, sym, ap, ◌∙◌, subst, arith, Id, Placed, Tree, leaf, fork, IsIn}
 use Rattle.radix_tree.proofs.Words.{IsTree, Heads, Masks, Part, Beneath, Way, forks_at, Frame, on_zero, on_one, plug, low_past, IsMaskList, MarkedIn}
 use Rattle.radix_tree.proofs.Words.{MarkedLists, Lodged}
 use Rattle.radix_nodes.specs.Naming.{number_of}
@@ -40,17 +40,7 @@ module _ {V : Type 0} where
   pub list_stays : (K M : Masks) {first : Option Id} (low b : ℕ) (t : Tree V)
       → ((x : Placed V) → IsIn x t → low ≤ x.entry.rank → M (number_of x.room) ≡ K (number_of x.room))
       → IsMaskList K first low b (MarkedIn K t) → IsMaskList M first low b (MarkedIn M t)
-  list_stays K M low b t same list =
-      let kept : (x : Placed V) → IsAmong x list.masks → M (number_of x.room) ≡ K (number_of x.room) =
-      λ x among. same x (list.within x among).0 (falls_among low (b + 1) list.masks list.falls x among).0 in
-      record {
-        masks = list.masks;
-        begins = list.begins;
-        stands = stand_same K M list.masks kept list.stands;
-        falls = list.falls;
-        has = λ x is least most. list.has x (is.0, marked_same M K x (sym (same x is.0 least)) is.1) least most;
-        within = λ x among. let is = list.within x among in (is.0, marked_same K M x (kept x among) is.1);
-      }
+  list_stays K M low b t same list = grind (arith, falls_among, stand_same, marked_same, same)
 
   -- and so do those of a tree
   pub lists_stay : (H J : Heads) (K M : Masks) (low : ℕ) (t : Tree V) → IsTree low t → ((n : ℕ) → 1 ≤ forks_at n t → J n ≡ H n)

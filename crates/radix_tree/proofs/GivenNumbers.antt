@@ -6,7 +6,7 @@
 use Rattle.std.proofs.lemmas.List.Sums.{sum_by-cons}
 use Rattle.std.proofs.lemmas.List.{length-map}
 use Rattle.radix_tree.specs.Given.{AreGiven, beside, rooms_in, numbers_in}
-use Rattle.radix_tree.proofs.Words.{◌≡◌, ℕ, ◌+◌, ◌<◌, ◌≤◌, ◌==◌, ◌||◌, Bool, true, false, cond, if◌then◌else◌, nat_eq, List, [], ◌∷◌, length, None, is_some}
+use Rattle.radix_tree.proofs.Words.{◌≡◌, ℕ, ◌+◌, ◌<◌, ◌≤◌, ◌==◌, Bool, true, false, cond, if◌then◌else◌, nat_eq, List, [], ◌∷◌, length, None, is_some}
 use Rattle.radix_tree.proofs.Words.{refl, sym, ap, ◌∙◌, arith, eqb-true, eq-eqb, ne_eqb, true≢false, uses, one_if, leaves_in, HasRoomMore, Lodged}
 
 one_if_cond : (b : Bool) → cond b 1 0 ≡ one_if b
@@ -15,10 +15,6 @@ one_if_cond false = refl
 
 pub uses_cons : (n k : ℕ) (ks : List ℕ) → uses n (k ∷ ks) ≡ one_if (k == n) + uses n ks
 uses_cons n k ks = sum_by-cons (λ j. cond (nat_eq j n) 1 0) k ks ∙ ap (λ u. u + uses n ks) (one_if_cond (k == n))
-
--- a test of two numbers, either way round
-turned : (a b : ℕ) → one_if (a == b) ≡ one_if (b == a)
-turned a b = grind arith
 
 one_of_test : (b : Bool) → one_if b ≡ (if b then 1 else 0)
 one_of_test true = refl
@@ -93,27 +89,17 @@ went room (e ∷ es) once =
     ] refl
 
 -- ---- the rooms of a map
-more_by : (n room : ℕ) {now : Bool} (was : Bool) → now ≡ (n == room) || was → (n ≡ room → was ≡ false) → one_if now ≡ one_if (room == n) + one_if was
-more_by n room {now = now} was is free = grind arith
-
 module _ {V : Type 0} where
   -- a room more, which was not there
   room_more : (m new : Lodged V) (room : ℕ) → leaves_in m room ≡ None → HasRoomMore m new room → (n : ℕ)
       → one_if (is_some (leaves_in new n)) ≡ one_if (room == n) + one_if (is_some (leaves_in m n))
   room_more m new room free more n = grind arith
 
-  none_yet : (m : Lodged V) → ((n : ℕ) → leaves_in m n ≡ None) → AreGiven m [] 0
-  none_yet m none = grind arith
-
-  pub given_none : (m : Lodged V) {given : List (ℕ × ℕ)} {last : ℕ} → ((n : ℕ) → leaves_in m n ≡ None) → given ≡ [] → last ≡ 0 → AreGiven m given last
-  given_none m {last = last} none is begun = grind arith
-
   pub given_more : (m new : Lodged V) (room number : ℕ) {given : List (ℕ × ℕ)} {last : ℕ} → AreGiven m given last → leaves_in m room ≡ None
       → HasRoomMore m new room → number < last + 1 → uses number (numbers_in given) ≡ 0 → AreGiven new ((room, number) ∷ given) last
   given_more m new room number {given = given} {last = last} are free more made unused = record {
     rooms = λ n.
-        let cons = uses_cons n room (rooms_in given) in
-        let now = room_more m new room free more n in omega arith;
+        let now = room_more m new room free more n in omega (arith, uses_cons n room (rooms_in given));
     once = λ n.
         let cons = uses_cons n number (numbers_in given) in
         elim (number == n) as (λ t. (number == n) ≡ t → uses n (number ∷ numbers_in given) ≤ 1) [

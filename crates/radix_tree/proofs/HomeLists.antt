@@ -3,11 +3,11 @@ use Rattle.radix_tree.proofs.{AddressBits.zero_not_one, AddressBits.clear_bit, P
 use Rattle.radix_tree.proofs.{PartRooms.frame, PartRooms.way_once, Plugs.aside_in, Plugs.aside_at, Plugs.counted_leaf, Plugs.spare_same, PlugLists.KeepsAbove}
 use Rattle.radix_tree.proofs.{PlugLists.plug_lists, PlugLists.lists_at, PlugLists.marked_same, FrameLists.way_framed, FrameLists.lists_stay, JoinLone.tree_room}
 use Rattle.mask_table.proofs.Agreeing.{front_of_bits}
-use Rattle.radix_tree.proofs.TreeMembers.{IsSaid, chain_below, tree_route, bit_beneath, tree_said}
+use Rattle.radix_tree.proofs.TreeMembers.{chain_below, tree_route, bit_beneath, tree_said}
 use Rattle.radix_tree.specs.Tree.{bit_at}
 use Rattle.radix_tree.proofs.Words.{◌≡◌, ℕ, ◌+◌, ◌<◌, ◌≤◌, ◌==◌, ◌⊎◌, Bool, true, false, ◌||◌, List, [], ◌∷◌, Some, refl, inl, inr, sym, ap, ◌∙◌, subst, arith}
-use Rattle.radix_tree.proofs.Words.{cases_lt, is_some, Seen, Has, Id, Node, IsRoute, Placed, Tree, leaf, fork, IsAmong, IsIn, IsChain, IsTree, LeafPart}
-use Rattle.radix_tree.proofs.Words.{MaskPart, Leaves, Heads, Masks, Part, leaves_in, bits_in, heads_in, masks_in, leaf_in, Way, one_if, leaves_at, forks_at}
+use Rattle.radix_tree.proofs.Words.{cases_lt, is_some, Has, Id, Node, IsRoute, Placed, Tree, leaf, fork, IsAmong, IsIn, IsChain, IsTree, LeafPart}
+use Rattle.radix_tree.proofs.Words.{MaskPart, Heads, Masks, Part, leaves_in, bits_in, heads_in, masks_in, leaf_in, Way, one_if, leaves_at, forks_at}
 use Rattle.radix_tree.proofs.Words.{HasHome, KeepsLeaves, KeepsBits, AreOnce, plug, low_past, IsMarked, IsMaskList, MarkedIn, MarkedLists, IsWholeBut}
 use Rattle.radix_tree.proofs.Words.{nobody_out, HomeAt, Entry, Lodged}
 use Rattle.radix_nodes.specs.Naming.{number_of}
@@ -21,9 +21,6 @@ module _ {V : Type 0} where
   -- a route by what its room says
   abbrev told : LeafPart V → Placed V
   told p = record { room = record { block = p.block }; entry = record { key = p.leaf.key; rank = p.leaf.rank; value = p.value } }
-
-  one_said : (L : Leaves V) (x y : Placed V) → IsSaid L x → IsSaid L y → number_of x.room ≡ number_of y.room → x ≡ y
-  one_said L x y sx sy same = grind arith
 
   pub one_room : (m : Lodged V) (p : Part m) (x y : Placed V) → IsIn x p.tree → IsIn y p.tree → number_of x.room ≡ number_of y.room → x ≡ y
   one_room m p x y in_x in_y same = grind (arith, tree_said)
@@ -181,10 +178,6 @@ module _ {V : Type 0} where
   }
 
   -- ---- the route in a room of the table
-  block_said : (m : Lodged V) {y : Placed V} {n : ℕ} (s : Seen V) → IsSaid (leaves_in m) y → number_of y.room ≡ n → leaves_in m n ≡ leaf_in (Some s)
-      → y.room.block ≡ s.block
-  block_said m s is same said = grind arith
-
   pub placed_in : {m : Lodged V} {root : Node} {late : ℕ → Bool} (w : IsWholeBut m root late nobody_out) {room : Id} → Has m room
       → (y : Placed V) × IsIn y w.part.tree × (y.room ≡ room)
   placed_in {m = m} w {room = room} h =

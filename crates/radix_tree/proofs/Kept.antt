@@ -19,10 +19,6 @@ differ a b is holds e = true≢false (sym holds ∙ is ∙ ap not (eq-eqb a b e)
 pub agree : (a b : ℕ) {t : Bool} → t ≡ not (a == b) → t ≡ false → a ≡ b
 agree a b is fails = eqb-true a b (not-false (a == b) (sym is ∙ fails))
 
-pub entry_make : {V : Type 0} (key rank : ℕ) (value : V) (e : Entry V) → key ≡ e.key → rank ≡ e.rank → value ≡ e.value
-    → record { key = key; rank = rank; value = value } ≡ e
-entry_make {V} key rank value e k r v = grind arith
-
 module _ {V : Type 0} where
   pub shown_table : (m : Lodged V) (root : Option Node) → Holds m root → IsTable (shown m root)
   shown_table m None holds = tt

@@ -4,7 +4,7 @@ use Rattle.std.specs.Prelude.{IfSome}
 use Rattle.std.specs.Borrow.{Bor}
 use Rattle.std.proofs.lemmas.List.Elements.{filter-append}
 use Rattle.radix_tree.proofs.Words.{◌≡◌, ℕ, ◌≤◌, true, false, cond, filter, List, [], ◌∷◌, Option, Some, None, refl, sym, ◌∙◌, ap, inl, inr, arith, cases_lt}
-use Rattle.radix_tree.proofs.Words.{append-nil, option_map, agrees, front, precedes, IsRoute, IsTable, has_pair, entry_at, without, with_entry, agreeing}
+use Rattle.radix_tree.proofs.Words.{append-nil, option_map, agrees, precedes, IsRoute, IsTable, has_pair, entry_at, without, with_entry, agreeing}
 use Rattle.radix_tree.proofs.Words.{greater, greatest, best_of, AreOnePair, StandsIn, Agrees, IsBest, BestIsGreatest, BestIsUnique, NoneAgrees, BestStays}
 use Rattle.radix_tree.proofs.Words.{BestIsGreater, BestStaysWithout, WithThenWithout, WithoutThenWith, WithTwiceIsLast, routed, Entry}
 use Rattle.radix_tree.proofs.TableLemmas.{later, same, sooner, with_later, with_parts, without_absent, without_is_table}
@@ -74,10 +74,6 @@ none_agrees address entries e h s = elim (agrees e.rank e.key address) as (λ b.
 -- an entry of the table whose pair has the key and the rank of another is that one
 one_of_pair : {V : Type 0} (es : List (Entry V)) (e f : Entry V) → StandsIn es e → StandsIn es f → e.key ≡ f.key → e.rank ≡ f.rank → e ≡ f
 one_of_pair es e f s t k n = search
-
--- where an address agrees, the fronts are one
-sym_true : (rank key address : ℕ) → agrees rank key address ≡ true → front rank key ≡ front rank address
-sym_true rank key address h = grind arith
 
 -- routes of one rank with which one address agrees have one key
 same_key : {V : Type 0} (address : ℕ) (e f : Entry V) → IsRoute e → IsRoute f → Agrees address e → Agrees address f → e.rank ≡ f.rank → e.key ≡ f.key
@@ -152,8 +148,7 @@ none_left address key rank es r h (Some e) k =
 best_stays_by : {V : Type 0} (address key rank : ℕ) (es : List (Entry V)) → IsTable es → (m : Option (Entry V)) → best_of address es ≡ m
     → ((e : Entry V) → m ≡ Some e → ¬ (AreOnePair e.key e.rank key rank)) → best_of address (without key rank es) ≡ m
 best_stays_by address key rank es r None h other = none_left address key rank es r h (best_of address (without key rank es)) refl
-best_stays_by address key rank es r (Some e) h other = best_is_unique address (without key rank es) e (without_is_table es key rank r)
-    (best_left key rank es e r (other e refl) (best_is_greatest address es e r h))
+best_stays_by address key rank es r (Some e) h other = search (best_is_unique, without_is_table, best_left, best_is_greatest)
 
 pub best_stays_without : {V : Type 0} → BestStaysWithout V
 best_stays_without address key rank entries r other = search (best_stays_by)
@@ -162,7 +157,7 @@ best_stays_without address key rank entries r other = search (best_stays_by)
 pub with_then_without : {V : Type 0} → WithThenWithout V
 with_then_without [] e r h = rw (own_pair e) refl
 with_then_without (x ∷ xs) e r h = elim (with_parts e x xs r) [
-  | later p n is ↦ (rw (is, n) (ap (λ t. x ∷ t) (with_then_without xs e r.2 (rw n at h))))
+  | later p n is ↦ search (with_then_without xs e r.2 (rw n at h), r.2, is, n)
   | same p n gone is alone ↦ (cc)
   | sooner p n gone is ↦ rw (is, own_pair e) (without_absent e.key e.rank (x ∷ xs) h)
 ]
@@ -171,7 +166,7 @@ with_then_without (x ∷ xs) e r h = elim (with_parts e x xs r) [
 pub without_then_with : {V : Type 0} → WithoutThenWith V
 without_then_with [] e r h = cc
 without_then_with (x ∷ xs) e r h = elim (with_parts e x xs r) [
-  | later p n is ↦ (rw n (with_later e x (without e.key e.rank xs) p ∙ ap (λ t. x ∷ t) (without_then_with xs e r.2 (rw n at h))))
+  | later p n is ↦ search (with_later, without_then_with xs e r.2 (rw n at h), e.key, e.rank, r.2, n)
   | same p n gone is alone ↦ (
       rw (n, without_absent e.key e.rank xs gone) (alone ∙ ap (λ t. t ∷ xs) cc))
   | sooner p n gone is ↦ (cc)

@@ -30,15 +30,6 @@ module _ {V : Type 0} where
   not_fork : {x : Placed V} {xs : List (Placed V)} {room : Id} {b : ℕ} {s t : Tree V} → leaf x xs ≡ fork room b s t → ⊥
   not_fork e = cc
 
-  zero_of : (i j : Id) (b c : ℕ) (s t u v : Tree V) → fork i b s t ≡ fork j c u v → s ≡ u
-  zero_of i j b c s t u v e = cc
-
-  one_of : (i j : Id) (b c : ℕ) (s t u v : Tree V) → fork i b s t ≡ fork j c u v → t ≡ v
-  one_of i j b c s t u v e = cc
-
-  bit_of : (i j : Id) (b c : ℕ) {s t u v : Tree V} → fork i b s t ≡ fork j c u v → b ≡ c
-  bit_of i j b c e = cc
-
   one_leaf : (key : ℕ) (fs gs : List (Frame V)) (x y : Placed V) (xs ys : List (Placed V)) → plug fs (leaf x xs) ≡ plug gs (leaf y ys) → Lead key fs
       → Lead key gs → leaf x xs ≡ leaf y ys
   one_leaf key [] [] x y xs ys e one other = e

@@ -3,7 +3,7 @@ use Rattle.radix_tree.proofs.{TreeMembers.head_of, MaskWalks.listed_as, MaskWalk
 use Rattle.radix_tree.proofs.{MaskLinks.are_ranked_same, MaskLinks.put_aside}
 use Rattle.radix_tree.proofs.Words.{◌≡◌, ℕ, ◌+◌, ◌<◌, ◌≤◌, ◌⊎◌, List, [], ◌∷◌, Option, Some, None, refl, sym, ap, ◌∙◌}
 use Rattle.radix_tree.proofs.Words.{subst, inl, inr, arith, Id, MaskNode, Placed, IsAmong, LeafPart, Leaves, MaskPart, leaves_in, masks_in}
-use Rattle.radix_tree.proofs.Words.{mask_part, first_room, MasksStand, Falls, KeepsLeaves, put_mask, IsMasks, IsRanked, AreRanked, IsAside, Lodged}
+use Rattle.radix_tree.proofs.Words.{mask_part, first_room, MasksStand, Falls, KeepsLeaves, put_mask, IsRanked, AreRanked, IsAside, Lodged}
 use Rattle.radix_nodes.specs.Naming.{number_of}
 
 put_none : (room : Id) (n : ℕ) {said : Option MaskPart} → said ≡ None → put_mask room None n said ≡ None
@@ -46,9 +46,6 @@ module _ {V : Type 0} where
     pub cleared : (y : Placed V) → IsAmong y ms → (masks_in now (number_of y.room) ≡ None) ⊎ IsAmong y rest
     pub aside : (n : ℕ) → IsAside n ms → masks_in now n ≡ masks_in m n
     pub fewer : (n : ℕ) → (masks_in now n ≡ None) ⊎ (masks_in now n ≡ masks_in m n)
-
-  pub begun : {m : Lodged V} {first : Option Id} {ms : List (Placed V)} → IsMasks m first ms → Clearing m m ms first
-  begun {ms = ms} is = grind arith
 
   pub listed_at : {m now : Lodged V} {ms : List (Placed V)} {at : Option Id} {room : Id} → Clearing m now ms at → at ≡ Some room
       → (p : MaskPart) × (masks_in now (number_of room) ≡ Some p) × (p.block ≡ room.block)

@@ -1,6 +1,6 @@
 -- A list of masks, once a member has another one behind it.
 use Rattle.radix_tree.proofs.{RoomReads.inside, RoomReads.none_some, MaskWalks.Has-ranked}
-use Rattle.radix_tree.proofs.Words.{◌≡◌, ℕ, true, List, [], ◌∷◌, ◌++◌, Option, Some, None, is_some, refl, sym, ap, ◌∙◌, subst}
+use Rattle.radix_tree.proofs.Words.{◌≡◌, ℕ, List, [], ◌∷◌, ◌++◌, Option, Some, None, is_some, refl, sym, ap, ◌∙◌, subst}
 use Rattle.radix_tree.proofs.Words.{inl, inr, arith, eq-eqb, Has, Id, Placed, IsAmong, MaskNode, Leaves, MaskPart, Masks, leaves_in}
 use Rattle.radix_tree.proofs.Words.{heads_in, masks_in, first_room, MasksStand, Falls, KeepsLeaves, put_mask, IsMasks, IsRanked, AreRanked}
 use Rattle.radix_tree.proofs.Words.{IsAside, last_from, last_mask, head_linked, mask_linked, not_below, below, Lodged}
@@ -13,17 +13,8 @@ pub linked_aside : (before next : Option Id) (n : ℕ) (said : Option MaskPart) 
 linked_aside None next n said aside = refl
 linked_aside (Some before) next n said aside = grind arith
 
--- a mask node that was listed still is
-pub linked_some : (before next : Option Id) (n : ℕ) (said : Option MaskPart) → ((room : Id) → before ≡ Some room → n ≡ number_of room → is_some said ≡ true)
-    → is_some (mask_linked before next n said) ≡ is_some said
-linked_some None next n said was = refl
-linked_some (Some before) next n said was = grind arith
-
 pub put_aside : (room : Id) (node : Option MaskNode) (n : ℕ) (said : Option MaskPart) → (n ≡ number_of room → ⊥) → put_mask room node n said ≡ said
 put_aside room node n said aside = grind arith
-
-pub some_none : {o : Option MaskPart} → o ≡ None → is_some o ≡ true → ⊥
-some_none none some = cc
 
 module _ {V : Type 0} where
   -- ---- members' rooms are apart

@@ -141,11 +141,7 @@ module _ {V : Type 0} where
 
   pub among_taken : (least top rank : ℕ) (ms : List (Placed V)) → Falls least top ms → (y : Placed V) → IsAmong y ms → (y.entry.rank ≡ rank → ⊥)
       → IsAmong y (taken_out rank ms)
-  among_taken least top rank ms falls y among differs = elim (short_or_long y.entry.rank rank) [
-    | inl short ↦ in_back (not_below (rank + 1) ms) (below rank ms) y (among_below rank ms y among short)
-    | inr long ↦ let past : rank + 1 ≤ y.entry.rank = elim (cases_eq y.entry.rank rank) [ inl e ↦ absurd (differs e) | inr ne ↦ omega arith ] in
-        in_front (not_below (rank + 1) ms) (below rank ms) y (among_not_below least top (rank + 1) ms falls y among past)
-  ]
+  among_taken least top rank ms falls y among differs = grind (arith, short_or_long, in_back, among_below, cases_eq, in_front, among_not_below)
 
   pub falls_taken : (low top rank : ℕ) (ms : List (Placed V)) → Falls low top ms → Falls low top (taken_out rank ms)
   falls_taken low top rank [] falls = tt

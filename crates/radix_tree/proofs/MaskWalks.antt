@@ -1,8 +1,8 @@
 -- A walk along a list of masks.
 use Rattle.radix_tree.proofs.{MaskLists.not_below_short, MaskLists.not_below_long, MaskLists.below_short, MaskLists.below_long}
-use Rattle.radix_tree.proofs.{RoomReads.none_some, RoomReads.Has-leaf, RoomReads.Has-mask, TreeMembers.head_of}
-use Rattle.radix_tree.proofs.Words.{◌≡◌, ℕ, ◌+◌, ◌≤◌, ◌<◌, List, [], ◌∷◌, Option, Some, None, refl, sym, ap, ◌∙◌, subst, arith, Counter, Has, Id, Leaf}
-use Rattle.radix_tree.proofs.Words.{MaskNode, IsMasks, IsRanked, AreRanked, last_from, last_mask, not_below, below, ReadsOnce, LeafPart, MaskPart}
+use Rattle.radix_tree.proofs.{RoomReads.Has-leaf, RoomReads.Has-mask, TreeMembers.head_of}
+use Rattle.radix_tree.proofs.Words.{◌≡◌, ℕ, ◌+◌, ◌≤◌, ◌<◌, List, ◌∷◌, Option, Some, None, refl, sym, ap, ◌∙◌, subst, arith, Counter, Has, Id, Leaf}
+use Rattle.radix_tree.proofs.Words.{MaskNode, IsRanked, AreRanked, last_from, last_mask, not_below, below, ReadsOnce, LeafPart, MaskPart}
 use Rattle.radix_tree.proofs.Words.{leaves_in, masks_in, mask_part, first_room, MasksStand, Falls, Placed, Lodged}
 use Rattle.radix_nodes.specs.Naming.{number_of}
 
@@ -30,12 +30,6 @@ module _ {V : Type 0} where
       → masks_in m (number_of room) ≡ mask_part room.block (Some n) → first_room xs ≡ n.next
   next_told m x xs n stands room_is said = grind arith
 
-  ended_at : (low : ℕ) (ms rest : List (Placed V)) (before : Option Id) → first_room rest ≡ None
-      → last_from before (not_below low rest) ≡ last_mask (not_below low ms) → below low rest ≡ below low ms
-      → (last_mask (not_below low ms) ≡ before) × (first_room (below low ms) ≡ None)
-  ended_at low ms [] before ends last left = (sym last, sym (ap first_room left))
-  ended_at low ms (x ∷ xs) before ends last left = absurd (none_some (sym ends))
-
 module _ {V : Type 0} where
   -- ---- a walk past the masks of ranks at or past low
   pub record Passing (m : Lodged V) (low : ℕ) (ms : List (Placed V)) (before at : Option Id) (start now : Counter) : Type 0 where
@@ -49,9 +43,6 @@ module _ {V : Type 0} where
     pub left : below low rest ≡ below low ms
     pub rises : start.count ≤ now.count
     pub few : now.count + top ≤ start.count + 34
-
-  pub begun : {m : Lodged V} {low : ℕ} {first : Option Id} {ms : List (Placed V)} (v : Counter) → IsMasks m first ms → Passing m low ms None first v v
-  begun {ms = ms} v is = grind arith
 
   -- the mask that it has come to
   pub record Next (m : Lodged V) (low : ℕ) (ms : List (Placed V)) (before : Option Id) (room : Id) (start now : Counter) : Type 0 where

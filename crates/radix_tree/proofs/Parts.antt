@@ -10,9 +10,6 @@ leaf_not_bit e = cc
 bit_not_leaf : {x y : Id} → BitOf x ≡ LeafOf y → ⊥
 bit_not_leaf e = cc
 
-pub same_bit_node : {x y : Id} → BitOf x ≡ BitOf y → x ≡ y
-same_bit_node e = cc
-
 same_leaf : {x y : Id} → LeafOf x ≡ LeafOf y → x ≡ y
 same_leaf e = cc
 
@@ -73,7 +70,6 @@ module _ {V : Type 0} where
   side_of {address = address} {under = under} {over = over} b =
       let f = b.at in
       let is = fork_is f in
-      let whole = fork b.room f.bit f.zero f.one in
       subst (IsSide address f.bit under.tree) (sym f.is) (elim b.side [
         | inl e ↦ subst (λ c. IsSide address f.bit c (fork b.room f.bit f.zero f.one)) (sym e.0)
             (zero_side address over.low f.bit b.room f.zero f.one is e.1)

@@ -1,7 +1,7 @@
 -- The lists of masks of bit nodes above a part stay where the part is exchanged and its masks that are listed further up stay.
 use Rattle.radix_tree.proofs.{PartRooms.one_if_same, Plugs.Aside, Plugs.aside_in, Plugs.in_plug, Plugs.plug_in, Plugs.forks_within, Plugs.low_rises}
 use Rattle.radix_tree.proofs.{MaskLists.falls_among, MaskLinks.stand_same}
-use Rattle.radix_tree.proofs.Words.{◌≡◌, ℕ, ◌+◌, ◌<◌, ◌≤◌, List, [], ◌∷◌, Option, sym, ap, ◌∙◌, inl, inr, arith, is_some, Id, Placed, Tree, leaf, fork, IsIn}
+use Rattle.radix_tree.proofs.Words.{◌≡◌, ℕ, ◌+◌, ◌<◌, ◌≤◌, List, [], ◌∷◌, Option, ap, ◌∙◌, inl, inr, arith, is_some, Id, Placed, Tree, leaf, fork, IsIn}
 use Rattle.radix_tree.proofs.Words.{IsTree, Heads, Masks, forks_at, Frame, on_zero, on_one, plug, low_past, IsMarked, IsMaskList, MarkedIn, MarkedLists}
 use Rattle.radix_nodes.specs.Naming.{number_of}
 
@@ -55,16 +55,10 @@ module _ {V : Type 0} where
     -- the marked routes of ranks below top are the same
     stays_within : (y : Placed V) → IsIn y (plug fs t) → y.entry.rank < top → IsMarked K y → MarkedIn J (plug fs u) y
         × (J (number_of y.room) ≡ K (number_of y.room))
-    stays_within y is below marked = elim (in_plug fs t y is) [
-      | inl aside ↦ ((aside_in fs u y aside, marked_same K J y (k.aside y aside) marked), k.aside y aside)
-      | inr at ↦ let s = k.stays y at below marked in ((plug_in fs u y s.0, marked_same K J y s.1 marked), s.1)
-    ]
+    stays_within y is below marked = grind (arith, in_plug, aside_in, marked_same, plug_in)
 
     came_within : (y : Placed V) → IsIn y (plug fs u) → y.entry.rank < top → IsMarked J y → IsIn y (plug fs t) × IsMarked K y
-    came_within y is below marked = elim (in_plug fs u y is) [
-      | inl aside ↦ (aside_in fs t y aside, marked_same J K y (sym (k.aside y aside)) marked)
-      | inr at ↦ let c = k.came y at below marked in (plug_in fs t y c.0, c.1)
-    ]
+    came_within y is below marked = grind (arith, in_plug, aside_in, marked_same, plug_in)
 
   -- the whole's lists, once the part is exchanged
   pub plug_lists : {H G : Heads} {K J : Masks} (low : ℕ) (fs : List (Frame V)) {t u : Tree V} → IsTree low (plug fs t)

@@ -1,7 +1,6 @@
 -- What is read of a room that stands for a part of a tree.
-use Rattle.radix_tree.proofs.Words.{arith, ◌≡◌, Option, Some, None, ap, ◌∙◌, get, Ptr, Seen, Has, leaf_of, bit_node_of, mask_node_of, Id, BitNode, MaskNode}
-use Rattle.radix_tree.proofs.Words.{Links, LeafPart, BitPart, MaskPart, bit_part, mask_part, leaf_in, bit_in, mask_in, leaves_in, bits_in, heads_in, masks_in}
-use Rattle.radix_tree.proofs.Words.{Lodged}
+use Rattle.radix_tree.proofs.Words.{arith, ◌≡◌, Option, Some, None, ap, ◌∙◌, get, Ptr, Seen, Has, leaf_of, bit_node_of, Id, BitNode, Links, LeafPart, BitPart}
+use Rattle.radix_tree.proofs.Words.{MaskPart, bit_part, leaf_in, bit_in, mask_in, leaves_in, bits_in, heads_in, masks_in, Lodged}
 use Rattle.radix_nodes.specs.Naming.{number_of}
 
 pub inside : {A : Type 0} {x y : A} → Some x ≡ Some y → x ≡ y
@@ -9,14 +8,6 @@ inside e = cc
 
 pub none_some : {A : Type 0} {x : A} → None ≡ Some x → ⊥
 none_some e = cc
-
-bit_block : (block : Ptr) (o : Option BitNode) (p : BitPart) → bit_part block o ≡ Some p → block ≡ p.block
-bit_block block None p e = absurd (none_some e)
-bit_block block (Some n) p e = ap (λ q. q.block) (inside e)
-
-mask_block : (block : Ptr) (o : Option MaskNode) (p : MaskPart) → mask_part block o ≡ Some p → block ≡ p.block
-mask_block block None p e = absurd (none_some e)
-mask_block block (Some n) p e = ap (λ q. q.block) (inside e)
 
 -- the bit node is the one that the tree has there
 pub record IsNode (n : BitNode) (p : BitPart) : Type 0 where
@@ -59,10 +50,6 @@ module _ {V : Type 0} where
   pub Has-bit : (m : Lodged V) (room : Id) {p : BitPart} → bits_in m (number_of room) ≡ Some p → p.block ≡ room.block → Has m room
   Has-bit m room {p = p} e block = search (bit_there)
 
-  bit_said : {m : Lodged V} {room : Id} (p : BitPart) (links : Links) (h : Has m room) → bits_in m (number_of room) ≡ Some p → AreLinks m room links
-      → bit_part h.room.block (bit_node_of links) ≡ Some p
-  bit_said p links h e are = grind arith
-
   pub bit_read : (m : Lodged V) (room : Id) {p : BitPart} (links : Links) {n : BitNode} → bits_in m (number_of room) ≡ Some p → p.block ≡ room.block
       → AreLinks m room links → bit_node_of links ≡ Some n → IsNode n p
   bit_read m room {p = p} links e block are is = grind arith
@@ -72,13 +59,6 @@ module _ {V : Type 0} where
   bit_used m room {p = p} links e block are none = grind arith
 
   module _ {m : Lodged V} {room : Id} (h : Has m room) where
-    -- what the links say is what the room says
-    pub bit_told : {links : Links} → AreLinks m room links → bits_in m (number_of room) ≡ bit_part room.block (bit_node_of links)
-    bit_told {links = links} are = grind arith
-
-    pub mask_told : {links : Links} → AreLinks m room links → masks_in m (number_of room) ≡ mask_part room.block (mask_node_of links)
-    mask_told {links = links} are = grind arith
-
     pub head_read : (links : Links) {n : BitNode} → AreLinks m room links → bit_node_of links ≡ Some n → heads_in m (number_of room) ≡ n.masks
     head_read links are is = grind arith
 
@@ -90,12 +70,3 @@ module _ {V : Type 0} where
 
   pub Has-mask : (m : Lodged V) (room : Id) {p : MaskPart} → masks_in m (number_of room) ≡ Some p → p.block ≡ room.block → Has m room
   Has-mask m room {p = p} e block = search (mask_there)
-
-  mask_said : {m : Lodged V} {room : Id} (p : MaskPart) (links : Links) (h : Has m room) → masks_in m (number_of room) ≡ Some p → AreLinks m room links
-      → mask_part h.room.block (mask_node_of links) ≡ Some p
-  mask_said p links h e are = grind arith
-
-  pub mask_used : (m : Lodged V) (room : Id) (p : MaskPart) (links : Links) → masks_in m (number_of room) ≡ Some p → p.block ≡ room.block
-      → AreLinks m room links
-      → mask_node_of links ≡ None → ⊥
-  mask_used m room p links e block are none = grind arith

@@ -1,10 +1,10 @@
 -- What the rooms say in each role once one of them has other links.
+use Rattle.radix_tree.proofs.{RoomReads.AreLinks}
+use Rattle.radix_tree.proofs.Words.{arith, ◌≡◌, ℕ, ◌==◌, Bool, true, false, if◌then◌else◌, Option, Some, None, refl, sym, ap, ◌∙◌, eqb-true, get, Ptr, Seen}
+use Rattle.radix_tree.proofs.Words.{seen, Has, put_room, put_links, leaf_of, bit_node_of, mask_node_of, Id, Leaf, BitNode, MaskNode, Links, LeafPart, leaf_in}
+use Rattle.radix_tree.proofs.Words.{bit_in, head_in, mask_in, bit_part, head_part, mask_part, leaves_in, bits_in, heads_in, masks_in, lodge_leaf, put_leaf}
+use Rattle.radix_tree.proofs.Words.{with_leaf, put_bit, put_head, put_mask, KeepsLeaves, KeepsBits, KeepsHeads, KeepsMasks, Lodged}
 use Rattle.radix_nodes.proofs.Callers.{get-put_room, get-put_links}
-use Rattle.radix_tree.proofs.Words.{◌≡◌, ℕ, ◌==◌, Bool, true, false, if◌then◌else◌, Option, Some, None, refl, sym, ap, ◌∙◌, eqb-true, get, Ptr, Seen}
-use Rattle.radix_tree.proofs.Words.{seen, Has, put_room, put_links, leaf_of, bit_node_of, mask_node_of, Id, Leaf, BitNode, MaskNode, Links, LeafPart}
-use Rattle.radix_tree.proofs.Words.{leaf_in, bit_in, head_in, mask_in, bit_part, head_part, mask_part, leaves_in, bits_in, heads_in, masks_in, lodge_leaf}
-use Rattle.radix_tree.proofs.Words.{put_leaf, with_leaf, put_bit, put_head, put_mask, KeepsLeaves, KeepsBits, KeepsHeads, KeepsMasks, Lodged}
-use Rattle.radix_tree.proofs.RoomReads.{AreLinks}
 use Rattle.radix_nodes.specs.Naming.{number_of}
 
 through_if : {A B : Type 0} (f : A → B) (t : Bool) (x y : A) → f (if t then x else y) ≡ (if t then f x else f y)
@@ -39,14 +39,12 @@ module _ {V : Type 0} where
   pub leaves_kept : {m new : Lodged V} {room : Id} (links old : Links) → Has m room → new ≡ put_links m room links → AreLinks m room old
       → leaf_of links ≡ leaf_of old → KeepsLeaves m new
   unfolding part
-  leaves_kept {m = m} {new = new} links old h is are same = kept h leaf_in new links is (ap (λ b. Some (part b h.room.value (leaf_of links))) (sym h.block)
-      ∙ ap (λ l. Some (part h.room.block h.room.value l)) (same ∙ ap leaf_of (are h.room h.at)))
+  leaves_kept {m = m} {new = new} links old h is are same = kept h leaf_in new links is (grind arith)
 
   module _ {m : Lodged V} {room : Id} (h : Has m room) where
     pub bits_kept : {new : Lodged V} (links old : Links) → new ≡ put_links m room links → AreLinks m room old → bit_node_of links ≡ bit_node_of old
         → KeepsBits m new
-    bits_kept {new = new} links old is are same = kept h bit_in new links is
-        (ap (λ b. bit_part b (bit_node_of links)) (sym h.block) ∙ ap (bit_part h.room.block) (same ∙ ap bit_node_of (are h.room h.at)))
+    bits_kept {new = new} links old is are same = kept h bit_in new links is (grind arith)
 
     pub heads_kept : {new : Lodged V} (links old : Links) → new ≡ put_links m room links → AreLinks m room old → bit_node_of links ≡ bit_node_of old
         → KeepsHeads m new
@@ -54,8 +52,7 @@ module _ {V : Type 0} where
 
     pub masks_kept : {new : Lodged V} (links old : Links) → new ≡ put_links m room links → AreLinks m room old → mask_node_of links ≡ mask_node_of old
         → KeepsMasks m new
-    masks_kept {new = new} links old is are same = kept h mask_in new links is
-        (ap (λ b. mask_part b (mask_node_of links)) (sym h.block) ∙ ap (mask_part h.room.block) (same ∙ ap mask_node_of (are h.room h.at)))
+    masks_kept {new = new} links old is are same = kept h mask_in new links is (grind arith)
 
     pub bits_put : {new : Lodged V} (links : Links) {node : Option BitNode} → new ≡ put_links m room links → bit_node_of links ≡ node → (n : ℕ)
         → bits_in new n ≡ put_bit room node n (bits_in m n)
@@ -75,8 +72,7 @@ module _ {V : Type 0} where
   leaves_put {m = m} {new = new} room links leaf h is said n = role h leaf_in new links is n ∙ elim (n == number_of room) as (λ t. (n == number_of room) ≡ t
       → (if t then Some (part room.block h.room.value (leaf_of links)) else leaf_in (get m n))
       ≡ (if t then with_leaf leaf (leaf_in (get m n)) else leaf_in (get m n))) [
-        | true ↦ λ e. ap (λ b. Some (part b h.room.value (leaf_of links))) (sym h.block) ∙ ap (λ l. Some (part h.room.block h.room.value l)) said
-            ∙ sym (ap (λ o. with_leaf leaf (leaf_in o)) (there h n e))
+        | true ↦ grind arith
         | false ↦ λ e. refl
       ] refl
 
@@ -91,7 +87,7 @@ module _ {V : Type 0} where
       → f (Some (seen room.block value links)) ≡ f None → (n : ℕ) → f (get (put_room m room value links) n) ≡ f (get m n)
   lodged_kept f m room value links free same n = lodged_role f m room value links n
       ∙ elim (n == number_of room) as (λ t. (n == number_of room) ≡ t → (if t then f (Some (seen room.block value links)) else f (get m n)) ≡ f (get m n)) [
-        | true ↦ λ e. same ∙ sym (ap f (ap (get m) (eqb-true n (number_of room) e) ∙ free))
+        | true ↦ grind arith
         | false ↦ λ e. refl
       ] refl
 

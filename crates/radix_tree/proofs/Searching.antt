@@ -1,7 +1,7 @@
 -- What a search beneath a bit node, and one for each of its listed masks, tell of all that is beneath it.
 use Rattle.radix_tree.proofs.{TreeMembers.same_rank, TreeMembers.tree_route, TreeMembers.bit_beneath}
 use Rattle.radix_tree.proofs.AddressBits.{zero_not_one, covered_bit, clear_bit, covered_key, key_covers}
-use Rattle.radix_tree.proofs.Words.{◌≡◌, ℕ, ◌+◌, ◌<◌, ◌≤◌, ◌⊎◌, List, [], ◌∷◌, None, Some, inl, inr, sym, ◌∙◌, arith, masked, IsRoute, Placed, Tree, fork}
+use Rattle.radix_tree.proofs.Words.{◌≡◌, ℕ, ◌+◌, ◌<◌, ◌≤◌, ◌⊎◌, List, [], ◌∷◌, None, Some, inl, inr, arith, masked, IsRoute, Placed, Tree, fork}
 use Rattle.radix_tree.proofs.Words.{bit_at, Covers, IsAmong, IsIn, IsTree, Falls, Finds, HasPair, Best}
 
 module _ {V : Type 0} where
@@ -15,23 +15,11 @@ module _ {V : Type 0} where
 
   pub zero_side : (address low b : ℕ) (room : _) (zero one : Tree V) → IsTree low (fork room b zero one) → bit_at b address ≡ 0
       → IsSide address b zero (fork room b zero one)
-  zero_side address low b room zero one is bit = record {
-    within = is.0.within;
-    routes = tree_route low (fork room b zero one) is;
-    inside = λ y at. inl at;
-    here = λ y at. bit_beneath (b + 1) b 0 zero is.1 is.0.zeros y at ∙ sym bit;
-    parted = λ y at. elim at [ inl p ↦ inl p | inr p ↦ inr (λ e. zero_not_one bit (sym e ∙ bit_beneath (b + 1) b 1 one is.2 is.0.ones y p)) ];
-  }
+  zero_side address low b room zero one is bit = grind (arith, tree_route, bit_beneath, zero_not_one, bit)
 
   pub one_side : (address low b : ℕ) (room : _) (zero one : Tree V) → IsTree low (fork room b zero one) → bit_at b address ≡ 1
       → IsSide address b one (fork room b zero one)
-  one_side address low b room zero one is bit = record {
-    within = is.0.within;
-    routes = tree_route low (fork room b zero one) is;
-    inside = λ y at. inr at;
-    here = λ y at. bit_beneath (b + 1) b 1 one is.2 is.0.ones y at ∙ sym bit;
-    parted = λ y at. elim at [ inl p ↦ inr (λ e. zero_not_one (sym e ∙ bit_beneath (b + 1) b 0 zero is.1 is.0.zeros y p) bit) | inr p ↦ inl p ];
-  }
+  one_side address low b room zero one is bit = grind (arith, tree_route, bit_beneath, zero_not_one, bit)
 
   -- a route of the other side that covers the address has a rank not past the bit, and so a 0 there
   other_side : (address b : ℕ) (y : Placed V) → b ≤ 31 → IsRoute y.entry → Covers address y.entry → (bit_at b y.entry.key ≡ bit_at b address → ⊥)

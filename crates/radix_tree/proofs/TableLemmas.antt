@@ -1,7 +1,7 @@
 -- A table with or without an entry, by its first entry; and that it stays a table.
 use Rattle.radix_tree.proofs.Words.{arith, ◌≡◌, ℕ, Bool, true, false, cond, not, filter, IsTrue, List, [], ◌∷◌, Some, None, refl, ap, AllByRecursion, precedes}
 use Rattle.radix_tree.proofs.Words.{IsTable, has_pair, entry_at, without, with_entry, AreOnePair, WithIsTable, WithoutIsTable, Entry}
-use Rattle.radix_tree.proofs.OrderLemmas.{stands_before, before, here, behind, beside, stands_behind, pair_is, behind_next, behind_not_before, behind_not_pair}
+use Rattle.radix_tree.proofs.OrderLemmas.{stands_before, beside, stands_behind, pair_is, behind_next, behind_not_before, behind_not_pair}
 use Rattle.radix_tree.proofs.OrderLemmas.{precedes_one_way, precedes_transitively}
 use Rattle.radix_tree.proofs.ListLemmas.{all_weaker, all_filter, filter_all, filter_none, find_none}
 
@@ -42,28 +42,13 @@ pub data With {V : Type 0} (e x : Entry V) (xs : List (Entry V)) : Type 0 where
       → with_entry e (x ∷ xs) ≡ e ∷ x ∷ xs → With e x xs
 
 pub with_parts : {V : Type 0} (e x : Entry V) (xs : List (Entry V)) → IsTable (x ∷ xs) → With e x xs
-with_parts e x xs r = elim (beside e.key e.rank x) [
-  | before h k n ↦ later h n (with_later e x xs h)
-  | here h k n ↦ (
-      let past = all_behind e.key e.rank x xs h r.1 in
-      same (pair_is e.key e.rank x n) n (none_at e.key e.rank xs past)
-      (rw (h, k, none_before e.key e.rank xs past, all_stay e.key e.rank xs past) refl)
-      (rw (none_before e.key e.rank xs past, all_stay e.key e.rank xs past) refl))
-  | behind h k n ↦ (
-      let past = all_behind e.key e.rank x xs h r.1 in
-      sooner k n (none_at e.key e.rank xs past) (rw (h, k, none_before e.key e.rank xs past, all_stay e.key e.rank xs past) refl))
-]
+with_parts e x xs r = grind (arith, beside, with_later, all_behind, pair_is, none_at, none_before, all_stay)
 
 -- what precedes all members and the entry precedes all of the table with it
 all_with_entry : {V : Type 0} (x e : Entry V) (xs : List (Entry V)) → IsTable xs → IsTrue (precedes x e) → AllByRecursion (λ f. IsTrue (precedes x f)) xs
     → AllByRecursion (λ f. IsTrue (precedes x f)) (with_entry e xs)
 all_with_entry x e [] r h k = (h, tt)
 all_with_entry x e (y ∷ ys) r h k = grind (arith, with_parts, all_with_entry x e ys r.2 h k.1)
-
--- an entry in the place of one with its pair precedes the same
-same_ahead : {V : Type 0} (e x : Entry V) (xs : List (Entry V)) → AreOnePair x.key x.rank e.key e.rank → AllByRecursion (λ f. IsTrue (precedes x f)) xs
-    → AllByRecursion (λ f. IsTrue (precedes e f)) xs
-same_ahead e x xs p r = grind (arith, all_weaker)
 
 -- what an entry precedes is preceded by those that precede it
 pub all_ahead : {V : Type 0} (e x : Entry V) (xs : List (Entry V)) → IsTrue (precedes e x) → AllByRecursion (λ f. IsTrue (precedes x f)) xs

@@ -38,10 +38,7 @@ module _ {V : Type 0} where
   -- of a chain the first route is of greatest rank
   pub first_greatest : (key top : ℕ) (x : Placed V) (c : List (Placed V)) → IsChain key top (x ∷ c) → (y : Placed V) → IsAmong y (x ∷ c)
       → y.entry.rank ≤ x.entry.rank
-  first_greatest key top x c is y among = elim among [
-    | inl e ↦ omega (arith, same_rank e)
-    | inr behind ↦ omega (arith, chain_below key x.entry.rank c is.3 y behind)
-  ]
+  first_greatest key top x c is y among = grind (arith, same_rank, chain_below)
 
   pub chain_short : (key top : ℕ) (c : List (Placed V)) → IsChain key top c → length c ≤ top
   chain_short key top [] is = omega arith

@@ -30,9 +30,7 @@ module _ {V : Type 0} (n : ℕ) (value : V) where
 
   chain_aside : (c : List (Placed V)) → members_at n c ≡ 0 → map_entries (all_valued n value c) ≡ map_entries c
   chain_aside [] none = refl
-  chain_aside (x ∷ xs) none =
-      let here : one_if ((number_of x.room) == n) ≡ 0 = omega arith in
-      search (apart, no_use, chain_aside xs (omega arith))
+  chain_aside (x ∷ xs) none = grind (arith, apart, no_use, chain_aside xs (omega arith), x.room)
 
   tree_aside : (t : Tree V) → leaves_at n t ≡ 0 → routes_of (tree_valued n value t) ≡ routes_of t
   tree_aside (leaf x xs) none = chain_aside (x ∷ xs) none
@@ -163,14 +161,9 @@ module _ {V : Type 0} where
         → shown new (Some root) ≡ with_entry (record x.entry { value = value }) (shown m (Some root))
     valued_shown x is at =
         let p = tree_put n value x w.part.tree is at ((once_but w).leaves n) in
-        (whole_and_shown).1 ∙ p.now ∙ sym (placed_in n value p.front p.back x.entry (subst IsTable p.was (tree_is_table w.part.low w.part.tree w.part.is)))
-        ∙ ap (with_entry (record x.entry { value = value })) (sym p.was ∙ sym (shown_is w))
+        grind (arith, whole_and_shown, placed_in, tree_is_table, shown_is, p.now, p.front, p.back, x.entry, p.was, w.part.low, w.part.tree, w.part.is)
 
   -- ---- a room whose value is written
-  put_none : (n : ℕ) (value : V) (o : Option (LeafPart V)) → o ≡ put n value false o
-  put_none n value None = refl
-  put_none n value (Some p) = refl
-
   module _ (m : Lodged V) (room : Id) (value : V) (h : Has m room) where
     put_get : (k : ℕ) → get (put_value m room value) k ≡ (if k == (number_of room) then Some (seen room.block value h.room.links) else get m k)
     put_get k = grind (arith, get-put_room)

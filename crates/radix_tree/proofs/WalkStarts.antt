@@ -52,7 +52,7 @@ module _ {V : Type 0} where
   right_is : (m : Lodged V) {right : List (Entry V)} {under over : Part m} (u : Under right under over) (x : Placed V) → IsIn x under.tree
       → (if bit_at u.at.bit x.entry.key == 1 then [] else beneath_shown 33 (leaves_in m) (bits_in m) (name_of u.at.one)) ≡ right
   right_is m u x at = elim u.side [
-    | inl e ↦ at_zero [] _ (side_zero u.at x e.0 at) ∙ one_shown m u.room u.at ∙ sym e.1
+    | inl e ↦ search (at_zero, side_zero, one_shown, u.at, e.0, u.room, e.1)
     | inr e ↦ at_one [] _ (side_one u.at x e.0 at) ∙ sym e.1
   ]
 

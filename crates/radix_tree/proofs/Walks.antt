@@ -2,7 +2,7 @@
 use Rattle.radix_tree.proofs.{AddressBits.zero_not_one, Parts.fork_is, Parts.fork_stands, Parts.Has-fork, Parts.one_part}
 use Rattle.radix_tree.specs.Tree.{bit_at}
 use Rattle.radix_tree.proofs.Words.{◌≡◌, ℕ, ◌+◌, ◌≤◌, ◌⊎◌, List, [], ◌∷◌, ◌++◌, map, Option, Some, None, refl, sym, ap, ◌∙◌, subst, inr, arith, inl, Has}
-use Rattle.radix_tree.proofs.Words.{leaf_of, bit_node_of, Id, BitNode, Leaf, Links, levels, Placed, fork, IsIn, IsChain, routes_of, Part, Run, leaves_in}
+use Rattle.radix_tree.proofs.Words.{leaf_of, bit_node_of, Id, BitNode, Leaf, Links, levels, Placed, IsIn, IsChain, routes_of, Part, Run, leaves_in}
 use Rattle.radix_tree.proofs.Words.{bits_in, leaf_part, first_room, name_of, ChainStands, ForkAt, LedTo, chain_behind, ahead, Under, IsBefore, IsFirst, IsAt}
 use Rattle.radix_tree.proofs.Words.{IsOn, chain_shown, chain_from, Entry, Place, Lodged}
 use Rattle.radix_tree.proofs.RoomReads.{inside, none_some, AreLinks, bit_read, bit_used, Has-leaf}
@@ -88,10 +88,6 @@ module _ {V : Type 0} where
             (sym (run_shown m run) ∙ ap (chain_shown 34 (leaves_in m)) begins));
       }
 
-  no_more : (ms : List (Placed V)) (es : List (Entry V)) → first_room ms ≡ None → map (λ (p : Placed V). p.entry) ms ++ es ≡ es
-  no_more [] es none = refl
-  no_more (x ∷ xs) es none = absurd (none_some (sym none))
-
   pub last_of : {m : Lodged V} (place : Place) (a : IsAt m place) (links : Links) {l : Leaf} (next : Option Place) → AreLinks m place.room links
       → l ≡ leaf_of links → l.next ≡ None → ahead (leaves_in m) (bits_in m) next ≡ behind_of m place.first → FollowedBy m place next
   last_of {m = m} place a links {l = l} next are is none rest = followed m place a (here m a) next (grind arith)
@@ -159,7 +155,7 @@ module _ {V : Type 0} where
         ups = ups;
         right = right;
         later = later;
-        at_up = record { bit = u.at.bit; zero = u.at.zero; one = u.at.one; is = u.at.is ∙ ap (λ i. fork i u.at.bit u.at.zero u.at.one) (own ∙ same) };
+        at_up = grind (arith, u.at.bit, u.at.zero, u.at.one, u.at.is, same);
         under = u;
         bit = refl;
         side = u.side;

@@ -1,9 +1,8 @@
 -- A part of a table's tree is exchanged for another, and so the table's rooms as a whole change.
-use Rattle.radix_tree.proofs.{TreeMembers.bit_beneath, PlugLists.marked_same, PlugLists.plug_lists, PlugLists.KeepsAbove, Facts.some_of}
-use Rattle.radix_tree.proofs.{WholeParts.once_but, WholeParts.Fits}
-use Rattle.radix_tree.proofs.Words.{◌≡◌, ℕ, ◌+◌, ◌<◌, ◌≤◌, ◌⊎◌, Bool, true, List, [], ◌∷◌, Some, None, sym, ap, ◌∙◌, subst, inl, inr, arith, is_some}
-use Rattle.radix_tree.proofs.Words.{Node, Placed, Tree, IsIn, IsTree, MaskPart, Part, leaves_in, bits_in, heads_in, masks_in, one_if, leaves_at, forks_at}
-use Rattle.radix_tree.proofs.Words.{HasHome, HaveOneFork, Frame, on_zero, on_one, plug, Lead, Exchanged, IsMarked, MarkedLists, IsWholeBut, Lodged}
+use Rattle.radix_tree.proofs.{TreeMembers.bit_beneath, PlugLists.marked_same, PlugLists.plug_lists, PlugLists.KeepsAbove, Facts.some_of, WholeParts.Fits}
+use Rattle.radix_tree.proofs.Words.{◌≡◌, ℕ, ◌+◌, ◌<◌, ◌≤◌, ◌⊎◌, Bool, true, List, [], ◌∷◌, Some, None, sym, ap, ◌∙◌, subst, inl, inr, arith, is_some, Node}
+use Rattle.radix_tree.proofs.Words.{Placed, Tree, IsIn, IsTree, MaskPart, Part, leaves_in, bits_in, heads_in, masks_in, one_if, leaves_at, forks_at, HasHome}
+use Rattle.radix_tree.proofs.Words.{HaveOneFork, Frame, on_zero, on_one, plug, Lead, Exchanged, IsMarked, MarkedLists, IsWholeBut, Lodged}
 use Rattle.radix_tree.proofs.Plugs.{Aside, plug_leaves, plug_forks, plug_in, aside_in, in_plug, aside_at, spare_at, spare_plug, home_plug, plug_home}
 use Rattle.radix_tree.proofs.Plugs.{aside_home}
 use Rattle.radix_nodes.specs.Naming.{number_of}
@@ -57,10 +56,7 @@ module _ {V : Type 0} where
     keeps_above : {later : ℕ → Bool} {outs : ℕ → ℕ} → Fits m new w.part at under late later out outs
         → KeepsAbove (heads_in m) (heads_in new) (masks_in m) (masks_in new) at.low e.frames at.tree under.tree
     keeps_above f = record {
-      heads = λ n some.
-          let is = ap (forks_at n) e.was in
-          let most = (once_but w).forks n in
-          f.heads n (omega arith) (omega arith);
+      heads = grind arith;
       aside = λ y aside. let o = aside_out w e y aside in f.masks (number_of y.room) o.0 o.1;
       stays = λ y is below marked.
           let same = f.masks_above y is below marked in ((f.kept y is (marked_same (masks_in m) (masks_in new) y same marked)).0, same);

@@ -1,9 +1,8 @@
 -- The routes that a table's rooms show, and a table with an entry and without.
-use Rattle.radix_tree.proofs.{ListLemmas.all_weaker, ListLemmas.filter_all, ListLemmas.filter_none, OrderLemmas.precedes_one_way}
-use Rattle.radix_tree.proofs.{TableLemmas.with_later, TableLemmas.without_absent, TableLemmas.none_at, Showing.part_shown, Plugs.surround}
-use Rattle.radix_tree.proofs.Words.{◌≡◌, ℕ, Bool, false, IsTrue, List, [], ◌∷◌, ◌++◌, Some, None, refl, sym, ap, ◌∙◌, arith, append_assoc}
-use Rattle.radix_tree.proofs.Words.{AllByRecursion, Node, precedes, IsTable, has_pair, entry_at, with_entry, without, routes_of, Part, shown, Gains, Exchanged}
-use Rattle.radix_tree.proofs.Words.{IsWholeBut, Entry, Lodged}
+use Rattle.radix_tree.proofs.{ListLemmas.all_weaker, ListLemmas.filter_all, ListLemmas.filter_none, OrderLemmas.precedes_one_way, TableLemmas.with_later}
+use Rattle.radix_tree.proofs.{TableLemmas.without_absent, TableLemmas.none_at, Showing.part_shown, Plugs.surround}
+use Rattle.radix_tree.proofs.Words.{◌≡◌, ℕ, Bool, false, IsTrue, List, [], ◌∷◌, ◌++◌, Some, None, arith, append_assoc, AllByRecursion, Node, precedes, IsTable}
+use Rattle.radix_tree.proofs.Words.{has_pair, entry_at, with_entry, without, routes_of, Part, shown, Gains, Exchanged, IsWholeBut, Entry, Lodged}
 
 module _ {V : Type 0} where
   -- ---- the routes that the rooms show
@@ -39,20 +38,10 @@ module _ {V : Type 0} where
 
   gained : (e : Entry V) (front back : List (Entry V)) → IsTable (front ++ e ∷ back)
       → (front ++ e ∷ back ≡ with_entry e (front ++ back)) × (entry_at e.key e.rank (front ++ back) ≡ None)
-  gained e [] back is = (
-    rw (
-      filter_none (λ x. precedes x e) back (all_weaker (λ f. IsTrue (precedes e f)) (λ f. precedes f e ≡ false) (λ f ahead. precedes_one_way e f ahead) back
-          is.1),
-      filter_all (λ x. precedes e x) back is.1,
-    ) refl,
-    none_at e.key e.rank back is.1,
-  )
+  gained e [] back is = search (filter_none, all_weaker, precedes_one_way, filter_all, none_at, is.1, e.key, e.rank)
   gained e (x ∷ front) back is =
       let ahead = all_at (λ f. IsTrue (precedes x f)) front back e is.1 in
-      let rest = gained e front back is.2 in (
-        ap (λ es. x ∷ es) rest.0 ∙ sym (with_later e x (front ++ back) ahead),
-        rw (ahead_not_pair x e ahead) rest.1,
-      )
+      search (with_later, ahead_not_pair, gained e front back is.2, is.2)
 
   lost : (e : Entry V) (front back : List (Entry V)) → IsTable (front ++ e ∷ back)
       → (front ++ back ≡ without e.key e.rank (front ++ e ∷ back)) × (entry_at e.key e.rank (front ++ e ∷ back) ≡ Some e)

@@ -2,4 +2,4 @@ use Rattle.radix_tree.proofs.LawLemmas.{with_then_without, without_then_with, wi
 use Rattle.radix_tree.proofs.laws.with_and_without.Goals as goal
 
 pub returns : goal.returns
-returns g c = record { with_then_without = with_then_without; without_then_with = without_then_with; twice = with_twice_is_last }
+returns g c = search (with_then_without, without_then_with, with_twice_is_last)

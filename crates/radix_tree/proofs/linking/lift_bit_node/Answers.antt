@@ -1,5 +1,4 @@
 use Rattle.radix_tree.proofs.{Climbs.used, Lifts.node_changed, Lifts.head_kept, Parts.Has-fork, Words.◌∙◌, Words.refl}
-use Rattle.std.proofs.Common.{rules}
 use Rattle.radix_tree.specs.Writes.{bit_above}
 use Rattle.radix_tree.proofs.linking.lift_bit_node.Goals as goal
 
@@ -14,10 +13,4 @@ returns-clause-bits g c n = c.put_bit_node.ensures.bits n ∙ node_changed _ (re
     c.bit_node-node.ensures.node refl
 
 pub returns-clause-only : goal.returns-clause-only
-returns-clause-only g c = record {
-  leaves = search rules;
-  heads = λ n. c.put_bit_node.ensures.heads n ∙ head_kept _ c.args.room (record c.bit_node-node.result { above = c.args.above }) n
-      c.bit_node-node.ensures.node
-      refl;
-  masks = search rules;
-}
+returns-clause-only g c = search (head_kept, c.put_bit_node.ensures.heads, c.args.room, c.bit_node-node.result, c.args.above, c.bit_node-node.ensures.node)

@@ -1,4 +1,4 @@
-use Rattle.radix_tree.proofs.{Words.ap, RoomWrites.leaves_kept, RoomWrites.masks_kept, RoomWrites.bits_put, RoomWrites.heads_put}
+use Rattle.radix_tree.proofs.{Words.arith, Words.ap, RoomWrites.leaves_kept, RoomWrites.masks_kept, RoomWrites.bits_put, RoomWrites.heads_put}
 use Rattle.radix_tree.proofs.linking.put_bit_node.Goals as goal
 
 pub returns-clause-leaves : goal.returns-clause-leaves
@@ -10,7 +10,7 @@ returns-clause-masks g c = masks_kept c.requires.there c.with_bit_node.result c.
     c.links-links.ensures.links c.with_bit_node.ensures.mask_node
 
 pub returns-clause-bits : goal.returns-clause-bits
-returns-clause-bits g c = bits_put c.requires.there c.with_bit_node.result (ap (λ r. r.lodged) c.set_links.ensures) c.with_bit_node.ensures.bit_node
+returns-clause-bits g c = grind (arith, bits_put)
 
 pub returns-clause-heads : goal.returns-clause-heads
-returns-clause-heads g c = heads_put c.requires.there c.with_bit_node.result (ap (λ r. r.lodged) c.set_links.ensures) c.with_bit_node.ensures.bit_node
+returns-clause-heads g c = grind (arith, heads_put)

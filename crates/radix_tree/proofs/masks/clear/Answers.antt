@@ -8,7 +8,7 @@ pub mask_node-requires-clause-listed : goal.mask_node-requires-clause-listed
 mask_node-requires-clause-listed g c = let l = c.requires.list in listed_at (c.loop-at.invariant.clearing l.0 l.1) c.in-Some.is
 
 pub put_mask_node-requires-clause-there : goal.put_mask_node-requires-clause-there
-put_mask_node-requires-clause-there g c = let l = c.requires.list in Has-listed (listed_at (c.loop-at.invariant.clearing l.0 l.1) c.in-Some.is)
+put_mask_node-requires-clause-there g c = search (Has-listed)
 
 pub loop-at-smaller : goal.loop-at-smaller
 loop-at-smaller g c = grind arith

@@ -2,4 +2,4 @@ use Rattle.radix_tree.proofs.RoomReads.{Has-bit}
 use Rattle.radix_tree.proofs.masks.put_masks.Goals as goal
 
 pub put_bit_node-requires-clause-there : goal.put_bit_node-requires-clause-there
-put_bit_node-requires-clause-there g c = let n = c.requires.node in Has-bit c.args.nodes.now.lodged c.args.fork n.said n.block
+put_bit_node-requires-clause-there g c = search (Has-bit)

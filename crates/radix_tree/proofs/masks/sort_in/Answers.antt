@@ -4,10 +4,10 @@ use Rattle.radix_tree.proofs.Words.{◌∙◌, ◌≤◌, Some, sym, ap, subst, 
 use Rattle.radix_tree.proofs.masks.sort_in.Goals as goal
 
 pub leaf-requires-clause-there : goal.leaf-requires-clause-there
-leaf-requires-clause-there g c = let f = c.requires.free in Has-ranked c.args.nodes.now.lodged f.ranked f.room_is
+leaf-requires-clause-there g c = search (Has-ranked)
 
 pub put_mask_node-requires-clause-there : goal.put_mask_node-requires-clause-there
-put_mask_node-requires-clause-there g c = let f = c.requires.free in Has-ranked c.args.nodes.now.lodged f.ranked f.room_is
+put_mask_node-requires-clause-there g c = search (Has-ranked)
 
 pub link-requires-clause-there : goal.link-requires-clause-there
 link-requires-clause-there g c room is =

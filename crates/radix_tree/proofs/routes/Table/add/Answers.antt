@@ -1,19 +1,16 @@
-use Rattle.std.proofs.Common.{rules}
 use Rattle.radix_tree.proofs.{Counted.few_held, Counted.counted_more, WholeRoutes.gains_entry, Kept.shown_table}
 use Rattle.radix_tree.proofs.{Kept.shown_next, Kept.given_begun, Kept.IsNext, GivenNumbers.given_more, routes.Table.add.Goals.In-Ok}
-use Rattle.radix_tree.proofs.Words.{◌≡◌, ◌+◌, ◌<◌, ◌∷◌, Some, None, is_some, sym, ap, subst, ◌∙◌, arith, HasOneMore, AreCounted, Rooms}
-use Rattle.radix_tree.proofs.Words.{entry_at, uses, with_entry, shown, leaf_in, leaves_in, true≢false}
+use Rattle.radix_tree.proofs.Words.{◌≡◌, ◌+◌, ◌<◌, ◌∷◌, Some, None, sym, ap, subst, ◌∙◌, arith, HasOneMore, AreCounted}
+use Rattle.radix_tree.proofs.Words.{entry_at, uses, with_entry, shown, leaf_in, leaves_in}
 use Rattle.radix_tree.specs.Given.{AreGiven, numbers_in}
 use Rattle.radix_tree.proofs.routes.Table.add.Goals as goal
 
 pub added-requires : goal.added-requires
-added-requires g c =
-    few_held c.self.inside.counts (shown c.self.inside.nodes.lodged c.self.inside.root) c.args.rank c.self.invariant.counted
-    (shown_table _ c.self.inside.root c.self.invariant.holds) (search rules)
+added-requires g c = grind (arith, few_held, shown_table)
 
 -- the turn began in the map as it was
 begins : (g : _) (c : In-Ok g) → IsNext c.self.inside.nodes c.begin-visits.new.self
-begins g c = c.begin-visits.ensures.turn ∙ ap (λ (r : Rooms g.row.V.Denot). record r { turn = r.turn + 1 }) c.spare-space.ensures.stays
+begins g c = grind arith
 
 -- the pair was not there
 absent : (g : _) (c : In-Ok g) → entry_at c.args.key c.args.rank c.args.self.now.entries ≡ None
@@ -47,7 +44,7 @@ invariant_of-self-in-Ok-1 g c =
     }
 
 pub returns-in-Ok-clause-there : goal.returns-in-Ok-clause-there
-returns-in-Ok-clause-there g c = (λ e. absurd (true≢false (sym e)), λ some. ap is_some (sym (absent g (goal.at.returns-in-Ok-clause-there g c).In-Ok)) ∙ some)
+returns-in-Ok-clause-there g c = search (absent)
 
 pub returns-in-Ok-clause-absent : goal.returns-in-Ok-clause-absent
 returns-in-Ok-clause-absent g c = absent g (goal.at.returns-in-Ok-clause-absent g c).In-Ok

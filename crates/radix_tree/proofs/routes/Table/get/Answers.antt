@@ -1,12 +1,9 @@
-use Rattle.std.proofs.Common.{rules}
-use Rattle.radix_tree.proofs.{Counted.not_held, Kept.Has-found, Kept.found, Kept.not_found, Kept.value_found, Kept.whole_at, Kept.entries_at}
-use Rattle.radix_tree.proofs.Words.{sym, ap, ◌∙◌, entry_at}
+use Rattle.radix_tree.proofs.{Words.arith, Words.sym, Words.ap, Words.◌∙◌, Words.entry_at, Counted.not_held, Kept.Has-found, Kept.found, Kept.not_found}
+use Rattle.radix_tree.proofs.{Kept.value_found, Kept.whole_at, Kept.entries_at}
 use Rattle.radix_tree.proofs.routes.Table.get.Goals as goal
 
 pub returns-then-not-has-clause-entry : goal.returns-then-not-has-clause-entry
-returns-then-not-has-clause-entry g c =
-    sym (ap (λ t. entry_at c.args.key c.args.rank t.entries) (sym c.self.view_is)
-    ∙ not_held c.self.inside.counts _ c.args.key c.args.rank c.self.invariant.counted (search rules) c.has.ensures.1 c.if-not-has.true)
+returns-then-not-has-clause-entry g c = grind (arith, not_held)
 
 pub room_of-requires-clause-tree : goal.room_of-requires-clause-tree
 room_of-requires-clause-tree g c = let w = whole_at _ c.self.invariant.holds c.in-Some.is in (w.part, w.named)

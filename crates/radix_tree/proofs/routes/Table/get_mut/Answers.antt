@@ -1,15 +1,9 @@
 use Rattle.radix_tree.proofs.{Counted.not_held, Valued.put_valued, Valued.valued_whole, Valued.lent_shown, Valued.lent_counted, Valued.lent_given}
 use Rattle.radix_tree.proofs.{Kept.Has-found, Kept.IsFound, Kept.found, Kept.not_found, Kept.value_found, Kept.whole_next, Kept.entries_next, Kept.shown_begun}
 use Rattle.radix_tree.proofs.{Kept.given_begun, routes.Table.get_mut.Goals.In-Some-room_of}
-use Rattle.radix_tree.proofs.Words.{arith, ◌≡◌, ◌+◌, ℕ, List, Option, sym, ap, subst, ◌∙◌, inl, option_map, Rooms, put_value, Node, contents, IsKept}
-use Rattle.radix_tree.proofs.Words.{AreCounted, with_value, Contents, entry_at, with_entry, shown, Entry}
+use Rattle.radix_tree.proofs.Words.{arith, ◌≡◌, ◌+◌, sym, ap, subst, ◌∙◌, inl, option_map, put_value, contents, IsKept}
+use Rattle.radix_tree.proofs.Words.{AreCounted, with_value, entry_at, with_entry, shown, Entry}
 use Rattle.radix_tree.proofs.routes.Table.get_mut.Goals as goal
-
--- a table of which a turn began and no more
-only_begun : {V : Type 0} (old : Rooms V) {new : Rooms V} (root : Option Node) (given : List (ℕ × ℕ)) (last : ℕ) {table : Contents V}
-    → contents old root given last ≡ table → new ≡ record old { turn = old.turn + 1 }
-    → contents new root given last ≡ record table { turn = table.turn + 1 }
-only_begun {V} old root given last is began = grind arith
 
 pub returns-then-not-has : goal.returns-then-not-has
 returns-then-not-has g c = grind (arith, not_held)

@@ -1,27 +1,37 @@
-use Rattle.std.proofs.Common.{rules}
 use Rattle.radix_tree.proofs.{Counted.not_held, Counted.counted_less, GivenNumbers.given_less, GivenNumbers.one_there, GivenNumbers.went}
-use Rattle.radix_tree.proofs.{TableLemmas.without_absent, Gained.lost, Kept.Has-found}
-use Rattle.radix_tree.proofs.{Kept.IsFound, Kept.found, Kept.not_found, Kept.whole_next, Kept.shown_next, Kept.entries_next, Kept.shown_begun, Kept.given_begun}
-use Rattle.radix_tree.proofs.Words.{◌≡◌, ◌+◌, ◌==◌, if◌then◌else◌, Some, None, refl, sym, ap, subst, ◌∙◌, option_map, leaf_in, HasOneMore, IsKept}
-use Rattle.radix_tree.proofs.Words.{AreCounted, entry_at, uses, without, shown}
+use Rattle.radix_tree.proofs.{TableLemmas.without_absent, Gained.lost, Kept.Has-found, Kept.IsFound, Kept.found, Kept.not_found, Kept.whole_next}
+use Rattle.radix_tree.proofs.{Kept.shown_next, Kept.entries_next, Kept.shown_begun, Kept.given_begun}
+use Rattle.radix_tree.proofs.Words.{arith, ◌≡◌, ◌+◌, ◌==◌, if◌then◌else◌, None, sym, ap, subst, ◌∙◌, leaf_in, HasOneMore, IsKept, AreCounted, entry_at, uses}
+use Rattle.radix_tree.proofs.Words.{without, shown}
 use Rattle.radix_tree.proofs.routes.Table.remove.Goals.{Then-not-has, In_default-room_of, In-Some-room_of, After-take}
-use Rattle.radix_tree.proofs.routes.Table.remove.Goals as goal
 use Rattle.radix_nodes.specs.Naming.{number_of}
 use Rattle.radix_tree.specs.Given.{AreGiven, beside, numbers_in}
+use Rattle.radix_tree.proofs.routes.Table.remove.Goals as goal
 
 -- a rank of which no route is held
 not_there : (g : _) (c : Then-not-has g) → entry_at c.args.key c.args.rank c.args.self.now.entries ≡ None
-not_there g c =
-    ap (λ t. entry_at c.args.key c.args.rank t.entries) (sym c.self.view_is)
-    ∙ not_held c.self.inside.counts _ c.args.key c.args.rank c.self.invariant.counted (search rules) c.has.ensures.1 c.if-not-has.true
+not_there g c = grind (arith, not_held)
 
 pub returns-then-not-has-clause-value : goal.returns-then-not-has-clause-value
-returns-then-not-has-clause-value g c = rw (not_there g (goal.at.returns-then-not-has-clause-value g c).Then-not-has) refl
+returns-then-not-has-clause-value g c = search (not_there)
 
 pub returns-then-not-has-clause-entries : goal.returns-then-not-has-clause-entries
 returns-then-not-has-clause-entries g c =
-    shown_next c.self.inside.nodes c.begin-visits.new.self c.self.inside.root _ c.self.view_is c.begin-visits.ensures.turn
-    ∙ sym (without_absent c.args.key c.args.rank c.args.self.now.entries (not_there g (goal.at.returns-then-not-has-clause-entries g c).Then-not-has))
+    grind (
+      arith,
+      shown_next,
+      without_absent,
+      not_there,
+      goal.at.returns-then-not-has-clause-entries,
+      c.self.inside.nodes,
+      c.begin-visits.new.self,
+      c.self.inside.root,
+      c.self.view_is,
+      c.begin-visits.ensures.turn,
+      c.args.key,
+      c.args.rank,
+      c.args.self.now.entries,
+    )
 
 pub room_of-requires-clause-tree : goal.room_of-requires-clause-tree
 room_of-requires-clause-tree g c =
@@ -36,12 +46,10 @@ not_in g c =
     ∙ not_found w c.args.key c.args.rank c.in_default-room_of.is (c.room_of.ensures.found w.part w.named)
 
 pub returns-in_default-room_of-clause-value : goal.returns-in_default-room_of-clause-value
-returns-in_default-room_of-clause-value g c = rw (not_in g (goal.at.returns-in_default-room_of-clause-value g c).In_default-room_of) refl
+returns-in_default-room_of-clause-value g c = search (not_in)
 
 pub returns-in_default-room_of-clause-entries : goal.returns-in_default-room_of-clause-entries
-returns-in_default-room_of-clause-entries g c =
-    shown_next c.self.inside.nodes c.begin-visits.new.self c.self.inside.root _ c.self.view_is c.begin-visits.ensures.turn
-    ∙ sym (without_absent c.args.key c.args.rank c.args.self.now.entries (not_in g (goal.at.returns-in_default-room_of-clause-entries g c).In_default-room_of))
+returns-in_default-room_of-clause-entries g c = grind (arith, shown_next, without_absent, not_in)
 
 -- the room that was found
 is_found : (g : _) (c : In-Some-room_of g) → IsFound c.begin-visits.new.self.lodged c.in-Some.root c.args.key c.args.rank c.in-Some-room_of.at
@@ -75,11 +83,7 @@ invariant_of-self-2 g c =
     })
 
 pub returns-clause-value : goal.returns-clause-value
-returns-clause-value g c =
-    let f = is_found g (goal.at.returns-clause-value g c).In-Some-room_of in
-    let is = ap (entry_at c.args.key c.args.rank)
-    (sym (entries_next c.self.inside.nodes c.begin-visits.new.self _ c.self.view_is c.in-Some.is c.begin-visits.ensures.turn)) ∙ f.entry in
-    ap Some (c.remove_route-root.ensures.value f.said.part f.said.at ∙ ap (λ e. e.value) f.said.entry) ∙ ap (option_map (λ e. e.value)) (sym is)
+returns-clause-value g c = let f = is_found g (goal.at.returns-clause-value g c).In-Some-room_of in grind arith
 
 pub returns-clause-entries : goal.returns-clause-entries
 returns-clause-entries g c =
