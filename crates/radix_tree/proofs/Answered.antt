@@ -35,22 +35,7 @@ module _ {V : Type 0} {m : Lodged V} where
   pub best_answer : {p : Part m} {address : ℕ} {room : Id} (a : Answer p address room) {l : Leaf} (value : V) → l ≡ a.part.leaf
       → ((s : Seen V) → get m (number_of room) ≡ Some s → value ≡ s.value)
       → Some (record { key = l.key; rank = l.rank; value = value }) ≡ best_of address (routes_of p.tree)
-  best_answer {p} {address} {room} a value l_is value_is = grind (
-    arith,
-    value_read,
-    some_best,
-    a.part.leaf.key,
-    a.part.leaf.rank,
-    a.said,
-    a.block,
-    a.is,
-    p.low,
-    p.tree,
-    p.is,
-    a.route,
-    a.best,
-    l_is,
-  )
+  best_answer {p} {address} {room} a value l_is value_is = grind (arith, value_read, some_best, l_is)
 
   -- its pair is found by its leaf
   pub best_pair : {p : Part m} {address : ℕ} {room : Id} (a : Answer p address room) {l : Leaf} → l ≡ a.part.leaf → {o : Option Id} → o ≡ Some room

@@ -63,21 +63,8 @@ module _ {V : Type 0} where
 
   pub some_best : (address low : ℕ) (t : Tree V) → IsTree low t → (x : Placed V) → Best address 0 34 (λ y. IsIn y t) (Some x)
       → best_of address (routes_of t) ≡ Some x.entry
-  some_best address low t is x best = grind (
-    arith,
-    best_is_unique,
-    tree_is_table,
-    stands_in,
-    agreeing,
-    standing,
-    covering,
-    below_34,
-    best.2,
-    x.entry,
-    best.0,
-    best.1,
-    x.entry.rank,
-  )
+  some_best address low t is x best =
+      grind (arith, best_is_unique, tree_is_table, stands_in, agreeing, standing, covering, below_34, best.2)
 
   none_of : (address low : ℕ) (t : Tree V) → IsTree low t → Best address 0 34 (λ y. IsIn y t) None → (o : Option (Entry V)) → best_of address (routes_of t) ≡ o
       → o ≡ None

@@ -157,7 +157,7 @@ best_stays_without address key rank entries r other = search (best_stays_by)
 pub with_then_without : {V : Type 0} → WithThenWithout V
 with_then_without [] e r h = rw (own_pair e) refl
 with_then_without (x ∷ xs) e r h = elim (with_parts e x xs r) [
-  | later p n is ↦ search (with_then_without xs e r.2 (rw n at h), r.2, is, n)
+  | later p n is ↦ search (with_then_without xs e r.2 (rw n at h), is, n)
   | same p n gone is alone ↦ (cc)
   | sooner p n gone is ↦ rw (is, own_pair e) (without_absent e.key e.rank (x ∷ xs) h)
 ]
@@ -166,7 +166,7 @@ with_then_without (x ∷ xs) e r h = elim (with_parts e x xs r) [
 pub without_then_with : {V : Type 0} → WithoutThenWith V
 without_then_with [] e r h = cc
 without_then_with (x ∷ xs) e r h = elim (with_parts e x xs r) [
-  | later p n is ↦ search (with_later, without_then_with xs e r.2 (rw n at h), e.key, e.rank, r.2, n)
+  | later p n is ↦ search (with_later, without_then_with xs e r.2 (rw n at h), n)
   | same p n gone is alone ↦ (
       rw (n, without_absent e.key e.rank xs gone) (alone ∙ ap (λ t. t ∷ xs) cc))
   | sooner p n gone is ↦ (cc)

@@ -38,10 +38,10 @@ module _ {V : Type 0} where
 
   gained : (e : Entry V) (front back : List (Entry V)) → IsTable (front ++ e ∷ back)
       → (front ++ e ∷ back ≡ with_entry e (front ++ back)) × (entry_at e.key e.rank (front ++ back) ≡ None)
-  gained e [] back is = search (filter_none, all_weaker, precedes_one_way, filter_all, none_at, is.1, e.key, e.rank)
+  gained e [] back is = search (filter_none, all_weaker, precedes_one_way, filter_all, none_at, is.1)
   gained e (x ∷ front) back is =
       let ahead = all_at (λ f. IsTrue (precedes x f)) front back e is.1 in
-      search (with_later, ahead_not_pair, gained e front back is.2, is.2)
+      search (with_later, ahead_not_pair, gained e front back is.2)
 
   lost : (e : Entry V) (front back : List (Entry V)) → IsTable (front ++ e ∷ back)
       → (front ++ back ≡ without e.key e.rank (front ++ e ∷ back)) × (entry_at e.key e.rank (front ++ e ∷ back) ≡ Some e)

@@ -3,9 +3,6 @@ use Rattle.radix_tree.proofs.{Parts.way_lists, Ups.leaf_hit, Ups.searched, Ups.h
 use Rattle.radix_tree.proofs.Words.{◌∙◌, subst, None, arith, Best, In}
 use Rattle.radix_tree.proofs.backtracking.best_room.Goals as goal
 
-pub leaf_for-leaf-requires-clause-tree : goal.leaf_for-leaf-requires-clause-tree
-leaf_for-leaf-requires-clause-tree g c = search
-
 pub first_agreeing-requires-clause-chain : goal.first_agreeing-requires-clause-chain
 first_agreeing-requires-clause-chain g c = let w = c.requires.whole in chain_led (c.leaf_for-leaf.ensures.leaf w.part w.named)
 

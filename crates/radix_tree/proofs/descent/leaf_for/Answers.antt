@@ -7,20 +7,8 @@ loop-at-init g c = λ p named. begun c.args.visits.now named
 pub returns-in-Leaf-clause-leaf : goal.returns-in-Leaf-clause-leaf
 returns-in-Leaf-clause-leaf g c p named = led (c.loop-at.invariant p named) c.in-Leaf.is
 
-pub returns-in-Leaf-clause-visits : goal.returns-in-Leaf-clause-visits
-returns-in-Leaf-clause-visits g c = grind arith
-
 pub bit_node-node-requires-clause-used : goal.bit_node-node-requires-clause-used
 bit_node-node-requires-clause-used g c = search (used_at, c.loop-at.invariant)
-
-pub is_one-requires : goal.is_one-requires
-is_one-requires g c = grind arith
-
-pub loop-at-smaller-then-is_one : goal.loop-at-smaller-then-is_one
-loop-at-smaller-then-is_one g c = grind arith
-
-pub loop-at-smaller : goal.loop-at-smaller
-loop-at-smaller g c = grind arith
 
 pub loop-at-preserved-then-is_one : goal.loop-at-preserved-then-is_one
 loop-at-preserved-then-is_one g c = λ p named.

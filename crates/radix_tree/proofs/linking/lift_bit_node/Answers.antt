@@ -13,4 +13,4 @@ returns-clause-bits g c n = c.put_bit_node.ensures.bits n ∙ node_changed _ (re
     c.bit_node-node.ensures.node refl
 
 pub returns-clause-only : goal.returns-clause-only
-returns-clause-only g c = search (head_kept, c.put_bit_node.ensures.heads, c.args.room, c.bit_node-node.result, c.args.above, c.bit_node-node.ensures.node)
+returns-clause-only g c = search (head_kept, c.put_bit_node.ensures.heads, c.args.room, c.bit_node-node.result, c.bit_node-node.ensures.node)

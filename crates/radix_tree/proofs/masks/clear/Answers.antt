@@ -1,17 +1,11 @@
-use Rattle.radix_tree.proofs.{Words.arith, Words.◌∙◌, Words.sym, MaskClears.listed_at, MaskClears.cleared_one, MaskClears.ended, MaskWalks.Has-listed}
+use Rattle.radix_tree.proofs.{Words.◌∙◌, Words.sym, MaskClears.listed_at, MaskClears.cleared_one, MaskClears.ended, MaskWalks.Has-listed}
 use Rattle.radix_tree.proofs.masks.clear.Goals as goal
-
-pub loop-at-init : goal.loop-at-init
-loop-at-init g c = grind arith
 
 pub mask_node-requires-clause-listed : goal.mask_node-requires-clause-listed
 mask_node-requires-clause-listed g c = let l = c.requires.list in listed_at (c.loop-at.invariant.clearing l.0 l.1) c.in-Some.is
 
 pub put_mask_node-requires-clause-there : goal.put_mask_node-requires-clause-there
 put_mask_node-requires-clause-there g c = search (Has-listed)
-
-pub loop-at-smaller : goal.loop-at-smaller
-loop-at-smaller g c = grind arith
 
 pub loop-at-preserved : goal.loop-at-preserved
 loop-at-preserved g c =
@@ -30,6 +24,3 @@ returns-clause-cleared g c ms y is among = ended (c.loop-at.invariant.clearing m
 
 pub returns-clause-masks : goal.returns-clause-masks
 returns-clause-masks g c ms is n aside = (c.loop-at.invariant.clearing ms is).aside n aside
-
-pub returns-clause-fewer : goal.returns-clause-fewer
-returns-clause-fewer g c n = grind arith

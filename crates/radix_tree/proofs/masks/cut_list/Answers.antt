@@ -16,17 +16,7 @@ returns-clause-kept g c ms is = kept_of_cut c.args.nodes.now.lodged c.link.new.n
 pub returns-clause-others : goal.returns-clause-others
 returns-clause-others g c ms is =
     let first = list_of c.masks_of-first.ensures.head is in
-    search (
-      others_of_cut,
-      c.gap_at-gap.ensures.before,
-      c.gap_at-gap.ensures.behind,
-      c.args.nodes.now.lodged,
-      c.link.new.nodes.lodged,
-      c.args.fork,
-      c.args.bit,
-      c.link.ensures.tree.leaves,
-      c.link.ensures.masks,
-    )
+    search (others_of_cut, c.gap_at-gap.ensures.before, c.gap_at-gap.ensures.behind)
 
 pub returns-clause-masks : goal.returns-clause-masks
 returns-clause-masks g c ms is n aside =

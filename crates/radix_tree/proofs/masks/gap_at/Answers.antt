@@ -1,9 +1,6 @@
 use Rattle.radix_tree.proofs.{Words.◌≤◌, Words.◌∙◌, Words.subst, Words.arith, MaskWalks.next_of, MaskWalks.rank_told, MaskWalks.ended}
 use Rattle.radix_tree.proofs.masks.gap_at.Goals as goal
 
-pub loop-behind-init : goal.loop-behind-init
-loop-behind-init g c = grind arith
-
 pub mask_node-leaf-requires-clause-listed : goal.mask_node-leaf-requires-clause-listed
 mask_node-leaf-requires-clause-listed g c = let l = c.requires.list in (next_of (c.loop-behind.invariant.passing l.0 l.1) c.in-Some.is).listed
 
@@ -12,9 +9,6 @@ returns-then-number-low-clause-before g c ms is = grind (arith, next_of (c.loop-
 
 pub returns-then-number-low-clause-behind : goal.returns-then-number-low-clause-behind
 returns-then-number-low-clause-behind g c ms is = grind (arith, next_of (c.loop-behind.invariant.passing ms is) c.in-Some.is)
-
-pub loop-behind-smaller : goal.loop-behind-smaller
-loop-behind-smaller g c = grind arith
 
 pub loop-behind-preserved : goal.loop-behind-preserved
 loop-behind-preserved g c = record {

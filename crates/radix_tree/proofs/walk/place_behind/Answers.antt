@@ -1,5 +1,5 @@
-use Rattle.radix_tree.proofs.{WalkStarts.on_zero, WalkStarts.on_one, walk.place_behind.Goals.In-Some-bit_node, Words.◌-◌, Words.◌∙◌, Words.sym, Words.ap}
-use Rattle.radix_tree.proofs.{Words.arith}
+use Rattle.radix_tree.proofs.{WalkStarts.on_zero, WalkStarts.on_one, walk.place_behind.Goals.In-Some-bit_node}
+use Rattle.radix_tree.proofs.Words.{◌-◌, ◌∙◌, sym, ap, arith}
 use Rattle.radix_tree.proofs.Walks.{Read, climb_begun, Has-first, Has-over, used_over, read_over, climb_ended, begins_on, begins_rest}
 use Rattle.radix_tree.proofs.walk.place_behind.Goals as goal
 
@@ -38,21 +38,16 @@ returns-then-not-is_one-clause-on g c =
 pub returns-then-not-is_one-clause-rest : goal.returns-then-not-is_one-clause-rest
 returns-then-not-is_one-clause-rest g c = search (begins_rest, on_zero, (node g (goal.at.returns-then-not-is_one-clause-rest g c).In-Some-bit_node).turn)
 
-pub loop-above-smaller : goal.loop-above-smaller
-loop-above-smaller g c = grind arith
-
 pub loop-above-preserved : goal.loop-above-preserved
 loop-above-preserved g c =
-    grind (
-      arith,
-      node,
-      on_one,
-      c.loop-above.invariant.rises,
-      c.links-in-Some.ensures.visit,
-      c.loop-above.invariant.turn,
-      c.is_one.ensures,
-      c.if-not-is_one.false,
-    )
+    let n = node g (goal.at.loop-above-preserved g c).In-Some-bit_node in
+    let count = ap (λ v. v.count) c.links-in-Some.ensures.visit in
+    let rises = c.loop-above.invariant.rises in
+    record {
+      turn = ap (λ v. v.turn) c.links-in-Some.ensures.visit ∙ c.loop-above.invariant.turn;
+      climb = n.up (on_one c.in-Some-bit_node.node.bit c.args.key c.is_one.ensures c.if-not-is_one.false);
+      rises = omega arith;
+    }
 
 pub returns-clause-rest : goal.returns-clause-rest
 returns-clause-rest g c = search (climb_ended)

@@ -26,7 +26,7 @@ whole : (g : _) (c : In-Some-best_room g) → IsWhole c.self.inside.nodes.lodged
 whole g c = grind arith
 
 found : (g : _) (c : In-Some-best_room g) → Answer (whole g c).part c.args.address c.in-Some-best_room.room
-found g c = search (answer, whole, c.best_room.ensures.best, c.in-Some-best_room.is)
+found g c = search (answer, c.best_room.ensures.best, c.in-Some-best_room.is)
 
 pub leaf-leaf-requires-clause-there : goal.leaf-leaf-requires-clause-there
 leaf-leaf-requires-clause-there g c = Has-best (found g (goal.at.leaf-leaf-requires-clause-there g c).In-Some-best_room)

@@ -6,6 +6,3 @@ pub invariant_of-result : goal.invariant_of-result
 invariant_of-result g c =
     let none : (n : ℕ) → leaves_in c.new.result.lodged n ≡ None = λ n. ap (λ r. leaves_in r.lodged n) c.new.ensures
     ∙ ap leaf_in (get-empty nat_cmp n) in grind arith
-
-pub returns-clause-empty : goal.returns-clause-empty
-returns-clause-empty g c = grind arith

@@ -16,22 +16,7 @@ pub returns-then-not-has-clause-value : goal.returns-then-not-has-clause-value
 returns-then-not-has-clause-value g c = search (not_there)
 
 pub returns-then-not-has-clause-entries : goal.returns-then-not-has-clause-entries
-returns-then-not-has-clause-entries g c =
-    grind (
-      arith,
-      shown_next,
-      without_absent,
-      not_there,
-      goal.at.returns-then-not-has-clause-entries,
-      c.self.inside.nodes,
-      c.begin-visits.new.self,
-      c.self.inside.root,
-      c.self.view_is,
-      c.begin-visits.ensures.turn,
-      c.args.key,
-      c.args.rank,
-      c.args.self.now.entries,
-    )
+returns-then-not-has-clause-entries g c = grind (arith, shown_next, without_absent, not_there)
 
 pub room_of-requires-clause-tree : goal.room_of-requires-clause-tree
 room_of-requires-clause-tree g c =
