@@ -16,6 +16,7 @@ mod route_line;
 mod route_words;
 mod search;
 mod texts;
+mod verbs;
 mod words;
 
 pub use answer_text::give_text;

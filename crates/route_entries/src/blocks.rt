@@ -82,7 +82,7 @@ impl Blocks {
         }
     }
 
-    /// Keeps a block. Where there are two, it is freed.
+    /// Keeps a block. Where there are two already, one of them is freed.
     pub fn keep(&mut self, block: Box<Route>)
         ensures { self.new ≡ min (self.old + 1) 2 }
     {
@@ -116,6 +116,7 @@ impl Blocks {
     pub fn pack(&mut self, route: &Route, memory: &mut Memory) -> Result<PackedRoute, AllocError>
         ensures route { IfOk result (λ packed. packed ≡ route.now) }
         ensures small { is_small route.now ≡ true → IsOk result }
+        ensures there { 1 ≤ self.old → IsOk result }
         ensures left { self.new ≡ (if is_small route.now then self.old else self.old - 1) }
         ensures counted { Rises (is_err result) memory.old memory.new }
     {

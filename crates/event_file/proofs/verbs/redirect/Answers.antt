@@ -1,8 +1,8 @@
 use Rattle.std.proofs.Common.{◌<◌, ◌≤◌, arith, length, map, rules}
 use Rattle.std.proofs.lemmas.List.{length-map}
 use Rattle.event_file.proofs.ManyWords.{redirect_form-few, redirect_form-many}
-use Rattle.event_file.proofs.grammar.redirect.Goals.{in_default-via-then-words-lt3, in_default-via-else-words-lt3+else-words-lt4}
-use Rattle.event_file.proofs.grammar.redirect.Goals as goal
+use Rattle.event_file.proofs.verbs.redirect.Goals.{in_default-via-then-words-lt3, in_default-via-else-words-lt3+else-words-lt4}
+use Rattle.event_file.proofs.verbs.redirect.Goals as goal
 
 pub returns-in_default : goal.returns-in_default
 returns-in_default c =

@@ -1,7 +1,7 @@
 use Rattle.std.proofs.Common.{arith, map}
 use Rattle.std.proofs.lemmas.List.{length-map}
 use Rattle.event_file.proofs.ManyWords.{add_address_form-few}
-use Rattle.event_file.proofs.grammar.add_address.Goals as goal
+use Rattle.event_file.proofs.verbs.add_address.Goals as goal
 
 pub returns-in_default : goal.returns-in_default
 returns-in_default c =
