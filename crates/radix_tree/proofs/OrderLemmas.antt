@@ -35,6 +35,9 @@ beside key rank e = elim (cases_lt e.key key) [
 pub pair_is : {V : Type 0} (key rank : ℕ) (e : Entry V) → has_pair key rank e ≡ true → AreOnePair e.key e.rank key rank
 pair_is key rank e h = grind arith
 
+pub is_pair : {V : Type 0} (key rank : ℕ) (e : Entry V) → AreOnePair e.key e.rank key rank → has_pair key rank e ≡ true
+is_pair key rank e same = grind arith
+
 pub own_pair : {V : Type 0} (e : Entry V) → has_pair e.key e.rank e ≡ true
 own_pair e = grind arith
 
