@@ -1,7 +1,6 @@
 """A program's words: whose file they name, and what is told where they name none."""
 import os
 import shlex
-import shutil
 import subprocess
 import tempfile
 from dataclasses import dataclass
@@ -90,6 +89,14 @@ def folder_of(sweep, files):
     return folder
 
 
+def runnable(sweep, name, content):
+    """A file that can be run, in a folder of its own. Another process writes it: what is open for writing here is open too in a
+    process that another thread begins meanwhile, and as long as it is the file can't be run."""
+    path = Path(folder_of(sweep, {}), name)
+    subprocess.run(["sh", "-c", 'cat > "$0" && chmod 755 "$0"', path], input=content, check=True)
+    return path
+
+
 def read_words(sweep, reader):
     """Each form of words names its file, or is told so; and what was allocated is freed."""
     folder = reader.folder(sweep)
@@ -127,9 +134,8 @@ WRONG_SCRIPTS = [
 def notice_wrong_scripts(sweep, reader):
     """Words that are passed on wrongly are noticed; and none is by a script that is right."""
     for text in ('exec PROGRAM "$@"', *WRONG_SCRIPTS):
-        path = Path(folder_of(sweep, {}), "script")
-        path.write_text(f"#!/bin/sh\n{text.replace('PROGRAM', shlex.quote(str(sweep.program)))}\n")
-        path.chmod(0o755)
+        script = f"#!/bin/sh\n{text.replace('PROGRAM', shlex.quote(str(sweep.program)))}\n"
+        path = runnable(sweep, "script", script.encode())
         tried = Sweep(sweep.program, [], sweep.folder)
         pass_words_on(tried, reader, path)
         sweep.claim(f"trial of pass_words_on: {text}", (text in WRONG_SCRIPTS) == bool(tried.failed) and tried.claims() > 0)
@@ -138,8 +144,7 @@ def notice_wrong_scripts(sweep, reader):
 def read_an_unreadable_file(sweep, reader):
     """A file whose mode keeps its reader out; root is nobody here, since no mode keeps root out."""
     folder = folder_of(sweep, {"secret": reader.line})
-    program = Path(shutil.copy(sweep.program, folder))
-    program.chmod(0o755)
+    program = runnable(sweep, "program", Path(sweep.program).read_bytes())
     how = {"user": "nobody"} if os.geteuid() == 0 else {}
     for mode, told in ((0o444, reader.told_of(1)), (0, reader.told_as(READ_FAULT))):
         Path(folder, "secret").chmod(mode)
