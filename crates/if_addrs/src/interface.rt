@@ -61,7 +61,7 @@ impl Interface {
     fn has_name(&self, name: Name) -> bool
         ensures { result ≡ is_named name self.now }
     {
-        self.name.as_bytes() == name.as_bytes()
+        self.name.is(&name)
     }
 
     /// Its kind.

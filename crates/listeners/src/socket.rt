@@ -52,7 +52,7 @@ impl Socket {
     pub(crate) fn has_id(&self, id: Name) -> bool
         ensures { result ≡ has_id id (seen self.now) }
     {
-        self.id.as_bytes() == id.as_bytes()
+        self.id.is(&id)
     }
 
     /// Whether it hears a message.

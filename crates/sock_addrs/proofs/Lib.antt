@@ -2,6 +2,7 @@ pub mod Below
 pub mod FirstLemmas
 pub mod LinkCells
 pub mod MaskRead
+pub mod Names
 pub mod ReadOnce
 pub mod RoundingLaws
 pub mod Texts

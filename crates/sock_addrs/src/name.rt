@@ -1,4 +1,4 @@
-ghost use Rattle.std.specs.Prelude.{◌≡◌, ℕ, ◌≤◌, length};
+ghost use Rattle.std.specs.Prelude.{◌≡◌, ℕ, ◌≤◌, bytes_eq, length};
 ghost use Rattle.std.specs.Option.{SomeIff};
 
 use std::marker::Model;
@@ -52,4 +52,21 @@ impl Name {
     {
         &self.bytes[..self.len as usize]
     }
+
+    /// Whether the two are one name.
+    #[tactic(auto, using(crate::proofs::Names::names_compared))]
+    pub fn is(&self, other: &Name) -> bool
+        ensures { result ≡ bytes_eq self.now other.now }
+    {
+        // zeros stand behind the bytes of both
+        self.len == other.len && are_same(&self.bytes, &other.bytes)
+    }
+}
+
+/// Whether eight bytes are the same, which is asked of all of them at once.
+#[tactic(auto, using(crate::proofs::Names::numbers_compared))]
+fn are_same(a: &[u8; 8], b: &[u8; 8]) -> bool
+    ensures { result ≡ bytes_eq a.now b.now }
+{
+    u64::from_be_bytes(*a) == u64::from_be_bytes(*b)
 }
