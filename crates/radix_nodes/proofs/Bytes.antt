@@ -7,13 +7,12 @@ use denote.Param.{param}
 use Rattle.core.specs.Mem.{type_size}
 use Rattle.radix_nodes.specs.contracts.room.Full as full
 
-more : (n x y z : ℕ) → 0 < n → 0 < ((n + x) + y) + z
-more n x y z some = omega (arith, some)
+-- what has some bytes at its end, whatever stands before them
+ends : (n s k : ℕ) → 0 < s → 0 < up k (n + s)
+ends n s k some = let has : 0 < (n + s) + pad k (n + s) = omega (arith, some) in has
 
--- n bytes, and then a value
-wide : (n a s k : ℕ) → 0 < n → 0 < up k (up a n + s)
-wide n a s k some = more n (pad a n) s (pad k (up a n + s)) some
-
--- the links and the two names beside them alone take 88
+-- behind the value and the links two names of 8 bytes each
 pub has_bytes : (V : RattleType) → 0 < type_size (full.the_row (param 0 V))
-has_bytes V = wide 88 (align (lone V.mir)) (size (lone V.mir)) (max 8 (max 8 (max 8 (max (align (lone V.mir)) 1)))) (omega arith)
+has_bytes V =
+    let value = up (align (lone V.mir)) 0 + size (lone V.mir) in
+    ends (up 8 (up 8 (up 8 value + 72) + 8)) 8 (max (align (lone V.mir)) (max 8 (max 8 (max 8 1)))) (omega arith)

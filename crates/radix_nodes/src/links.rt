@@ -55,15 +55,16 @@ pub struct MaskNode {
 
 /// A room's links: what it is as a leaf, as a bit node and as a mask node. They take 72 bytes: eight names of 8 bytes
 /// each, and 8 bytes for the key, the rank, the bit, and the flags: which of the nodes beneath are leaves, which of the
-/// other names are there, and in which roles the room is in use. What a descent reads comes first.
+/// other names are there, and in which roles the room is in use. What a descent reads comes first: one of the nodes
+/// beneath, and beside either of them the bit and the flags.
 #[derive(Clone, Copy)]
 pub struct Links {
     zero: Id,
-    one: Id,
     key: Inet,
     rank: Rank,
     bit: u8,
     flags: Flags,
+    one: Id,
     bit_above: Id,
     masks: Id,
     above: Id,

@@ -5,14 +5,15 @@ use std::alloc::Global;
 use std::marker::Model;
 use std_alloc::room::Vacant;
 
-/// What stands in the block of a lodged room.
+/// What stands in the block of a lodged room. The value and what a search reads come first, in 64 bytes where the value
+/// has 24, so that it reads little memory beside them.
 pub(crate) struct Full<V> {
+    pub(crate) value: V,
     pub(crate) links: Links,
     /// Of the rooms in the map, the one that was lodged after this one. The last one has none.
     pub(crate) newer: Beside,
     /// Of the rooms in the map, the one that was lodged before this one.
     pub(crate) older: Beside,
-    pub(crate) value: V,
 }
 
 /// A block of memory for one route, made by `Nodes::make` and not in use. It is lodged or scrapped, and can't be
