@@ -192,6 +192,7 @@ fn number(errno: Option<Errno>) -> u32
 }
 
 /// Makes a message of this type about a look-up.
+#[inline(always)]
 #[tactic(auto, using(crate::proofs::WholeMessages::message_of_size))]
 fn put_looked_up(kind: u8, about: Gate, errno: Option<Errno>, message: &mut Message)
     ensures message { message.new.items ≡ looked_up_message kind about errno }

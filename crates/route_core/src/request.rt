@@ -232,7 +232,9 @@ fn mask_at(message: &Parsed, bytes: &[u8], at: usize) -> Option<Option<Prefix>>
     }
 }
 
-/// What a message asks with this header and these addresses, by its type.
+/// What a message asks with this header and these addresses, by its type. It is inlined, since what it makes would else
+/// be moved once more.
+#[inline(always)]
 fn by_type(header: &Header, destination: Inet, gates: &Gates, masks: &Masks) -> Request
     ensures { (m : List ℕ) → header.now ≡ header_in m → destination ≡ destination_in m
         → gates.now ≡ record { gateway = gate_in m RTAX_GATEWAY; ifp = gate_in m RTAX_IFP; ifa = gate_in m RTAX_IFA }

@@ -9,6 +9,8 @@ use mask_table::{Prefix, Rank};
 use route_msgs::{AddrInfo, Sockaddr};
 use sock_addrs::Inet;
 
+// Both are inlined, as what writes them into a message is: only the addresses that are there are made then.
+
 /// A mask, where there is one.
 fn mask(mask: Option<Prefix>) -> Option<Sockaddr>
     ensures { result ≡ option_map mask_sockaddr mask }
@@ -20,6 +22,7 @@ fn mask(mask: Option<Prefix>) -> Option<Sockaddr>
 }
 
 /// What a message says of where a route leads: its key as the destination, its gateway, and its mask where it has one.
+#[inline(always)]
 pub fn destination_of(key: Inet, rank: Rank, route: &Route) -> AddrInfo
     ensures addresses { result ≡ destination_addresses key rank route.now }
     ensures size { length (address_bytes result) ≤ 56 }
@@ -33,6 +36,7 @@ pub fn destination_of(key: Inet, rank: Rank, route: &Route) -> AddrInfo
 }
 
 /// What a message that shows a whole route says of it: where it leads, and the mask of its clones where it has one.
+#[inline(always)]
 pub fn addresses_of(key: Inet, rank: Rank, route: &Route) -> AddrInfo
     ensures addresses { result ≡ route_addresses key rank route.now }
     ensures size { length (address_bytes result) ≤ 64 }

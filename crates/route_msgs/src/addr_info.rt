@@ -60,6 +60,7 @@ impl AddrInfo {
     }
 
     /// Appends the bytes of all of them, one address after the other.
+    #[inline(always)]
     #[tactic(auto, using(crate::proofs::AddressSizes::sizes_added))]
     pub(crate) fn put(&self, message: &mut Message)
         requires { length message.old.items + length (address_bytes self.now) ≤ MOST_MADE }

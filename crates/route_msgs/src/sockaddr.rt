@@ -34,6 +34,7 @@ impl Sockaddr {
     ghost use Rattle.route_msgs.specs.Sockaddr.{IsSockaddr};
 
     /// An IPv4 address, in 16 bytes.
+    #[inline(always)]
     pub fn inet(address: Inet) -> Sockaddr
         ensures sockaddr { result ≡ inet_sockaddr address }
         ensures size { length result ≡ 16 }

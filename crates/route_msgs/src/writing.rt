@@ -7,8 +7,12 @@ use crate::fields::{patch_u8, patch_u16, patch_u32};
 use crate::kinds::RTM_VERSION;
 use crate::{AddrInfo, Header, IfaHeader, MOST_MADE, Message, Metrics};
 
+// What writes a message about a route is inlined, as what makes its addresses is: of the eight that there is room for
+// most messages have two or three, and where those are known the others are neither cleared, moved nor asked for.
+
 /// Writes a message about a route: the header with the message's length and version 3, and behind it the addresses. The
 /// addrs field names the addresses that are given, whatever `header.addrs` says.
+#[inline(always)]
 pub fn write_route_msg(header: &Header, addresses: &AddrInfo) -> Message
     requires { 76 + length (address_bytes addresses.now) ≤ MOST_MADE }
     ensures message { result.items ≡ route_message header.now addresses.now }
@@ -21,6 +25,7 @@ pub fn write_route_msg(header: &Header, addresses: &AddrInfo) -> Message
 }
 
 /// Writes a message about a route, as `write_route_msg`, in the place of what is in `message`.
+#[inline(always)]
 pub fn put_route_msg(header: &Header, addresses: &AddrInfo, message: &mut Message)
     requires { 76 + length (address_bytes addresses.now) ≤ MOST_MADE }
     ensures message { message.new.items ≡ route_message header.now addresses.now }

@@ -10,7 +10,8 @@ use radix_tree::{Entry, Table, Visits};
 use route_entries::{PackedRoute, Route};
 use sock_addrs::Inet;
 
-/// The best route of an address.
+/// The best route of an address. It is inlined, since a whole route would else be moved once more.
+#[inline(always)]
 pub(crate) fn best_route(
     table: &Table<PackedRoute>,
     visits: &mut Visits,
