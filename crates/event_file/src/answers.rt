@@ -1,7 +1,7 @@
 ghost use Rattle.std.specs.Prelude.{◌≡◌, ◌+◌, ◌≤◌, ◌++◌, length, flat_map, OnOk, OnErr};
 ghost use Rattle.hex.specs.Hex.{encode_lower};
 ghost use Rattle.sock_addrs.specs.Errno.{errno_number};
-ghost use Rattle.event_file.specs.Answers.{choice_line as line_of_choice, last_line, message_line, refusal_line, response_text, size_line as line_of_size};
+ghost use Rattle.event_file.specs.Answers.{answer_text, choice_line as line_of_choice, last_line, message_line, refusal_line, response_text, size_line as line_of_size};
 ghost use Rattle.event_file.specs.Given.{pasted};
 ghost use Rattle.event_file.specs.Output.{Wrote, WroteFront};
 ghost use Rattle.route_core.specs.Received.{cut, AreMessages};
@@ -24,11 +24,9 @@ const PIECE: usize = 2048;
 /// The most bytes of the lines of messages for which that room has place with the line behind them.
 const MOST_AT_ONCE: u128 = 4080;
 
-/// Writes the text of a line's answer, going on behind what a short write took: `ok`, `err` with the errno's number,
-/// `via` or `drop` with a packet's route, `size` with a number of bytes or of messages, `msg` with its bytes for each message and then
-/// `ok`, or `err` where some are left out, or `bad`. It is refused at the first write that answers an error or takes no
-/// byte, and what was taken before is then a front of that text. `buffer` is room for `TEXT_ROOM` bytes of text; what it
-/// held is lost.
+/// Writes the text of a line's answer, going on behind what a short write took: that of an answer, or `bad`. It is refused
+/// at the first write that answers an error or takes no byte, and what was taken before is then a front of that text.
+/// `buffer` is room for `TEXT_ROOM` bytes of text; what it held is lost.
 pub fn write_answer<W: Write>(
     answer: &Result<Answer<'_>, Bad>,
     buffer: &mut [u8],
@@ -40,15 +38,33 @@ pub fn write_answer<W: Write>(
     ensures err { OnErr result (WroteFront W.contents writer.old writer.new (response_text answer.now)) }
 {
     match answer {
-        Ok(Answer::Done) => write_bytes(b"ok\n", writer),
-        Ok(Answer::Refused(errno)) => write_refusal(*errno, writer),
-        Ok(Answer::Routed(choice)) => write_choice("via", choice, writer),
-        Ok(Answer::Dropped(choice)) => write_choice("drop", choice, writer),
-        Ok(Answer::Size(size)) => write_size(*size, writer),
-        Ok(Answer::Messages(received, left_out)) => {
+        Ok(answer) => write_command_answer(answer, buffer, writer),
+        Err(Bad) => write_bytes(b"bad\n", writer),
+    }
+}
+
+/// Writes the answer to a command, as `write_answer`: `ok`, `err` with the errno's number, `via` or `drop` with a packet's
+/// route, `size` with a number of bytes or of messages, or `msg` with its bytes for each message and then `ok`, or `err`
+/// where some are left out.
+pub fn write_command_answer<W: Write>(
+    answer: &Answer<'_>,
+    buffer: &mut [u8],
+    writer: &mut Counted<W>,
+) -> Result<(), Stopped>
+    requires buffer { length buffer.old ≡ TEXT_ROOM }
+    requires no_failure { writer.old.failures ≡ 0 }
+    ensures ok { OnOk result (Wrote W.contents writer.old writer.new (answer_text answer.now)) }
+    ensures err { OnErr result (WroteFront W.contents writer.old writer.new (answer_text answer.now)) }
+{
+    match answer {
+        Answer::Done => write_bytes(b"ok\n", writer),
+        Answer::Refused(errno) => write_refusal(*errno, writer),
+        Answer::Routed(choice) => write_choice("via", choice, writer),
+        Answer::Dropped(choice) => write_choice("drop", choice, writer),
+        Answer::Size(size) => write_size(*size, writer),
+        Answer::Messages(received, left_out) => {
             write_received(received.as_bytes(), *left_out, buffer, writer)
         }
-        Err(Bad) => write_bytes(b"bad\n", writer),
     }
 }
 

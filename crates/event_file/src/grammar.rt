@@ -51,6 +51,7 @@ fn route_behind<'a>(rest: &[u8], room: &'a mut [u8]) -> Option<Said<'a>>
 }
 
 /// The command on interfaces, sockets or routes that these words are behind this verb, which is not `route`.
+#[inline(never)]
 fn said_behind<'a>(verb: &[u8], words: &[&[u8]], room: &'a mut [u8]) -> Option<Said<'a>>
     requires verb { bytes_eq verb.now (codes "route") ≡ false }
     requires room { length room.old ≡ MOST_WRITTEN }
@@ -84,6 +85,7 @@ fn said_behind<'a>(verb: &[u8], words: &[&[u8]], room: &'a mut [u8]) -> Option<S
 }
 
 /// The command on the routes that these words are behind this verb, which is not `route`.
+#[inline(always)]
 fn said_of_routes<'a>(verb: &[u8], words: &[&[u8]], room: &'a mut [u8]) -> Option<Said<'a>>
     requires verb { bytes_eq verb.now (codes "route") ≡ false }
     requires room { length room.old ≡ MOST_WRITTEN }
@@ -110,45 +112,29 @@ fn said_of_routes<'a>(verb: &[u8], words: &[&[u8]], room: &'a mut [u8]) -> Optio
     None
 }
 
-/// The command that what stands behind a verb says, which is not `route`.
-#[tactic(auto, using(crate::proofs::ManyWords::many_words))]
-fn said_in_few<'a>(verb: &[u8], rest: &[u8], room: &'a mut [u8]) -> Option<Said<'a>>
-    requires verb { bytes_eq verb.now (codes "route") ≡ false }
-    requires room { length room.old ≡ MOST_WRITTEN }
-    ensures { result ≡ by_forms forms verb.now (parted_by 32 rest.now) }
+/// What a line says, without its newline, as `read_line` reads it; the bytes of a write are put into `room`, which has
+/// room for `MOST_WRITTEN` bytes, and what it held is lost. `None` where the grammar has no such line.
+///
+/// What is said is copied by each function that hands it on, so there are few of them on the way to it.
+#[tactic(auto, using(crate::proofs::ManyWords::verb_alone, crate::proofs::ManyWords::many_words))]
+pub fn read_said<'a>(line: &[u8], room: &'a mut [u8]) -> Option<Said<'a>>
+    requires { length room.old ≡ MOST_WRITTEN }
+    ensures { result ≡ command_of line.now }
 {
+    if line.len() > LONGEST_LINE {
+        return None;
+    }
+    let Some((verb, rest)) = cut(b' ', line) else {
+        return None;
+    };
+    if is(verb, "route") {
+        return route_behind(rest, room);
+    }
     let mut words = ArrayVec::<&[u8], MOST_WORDS>::new();
     if !put_parts(b' ', rest, &mut words) {
         return None;
     }
     said_behind(verb, words.as_slice(), room)
-}
-
-/// The command that a verb says with what stands behind it.
-fn said<'a>(verb: &[u8], rest: &[u8], room: &'a mut [u8]) -> Option<Said<'a>>
-    requires { length room.old ≡ MOST_WRITTEN }
-    ensures { result ≡ by_forms forms verb.now (parted_by 32 rest.now) }
-{
-    if is(verb, "route") {
-        return route_behind(rest, room);
-    }
-    said_in_few(verb, rest, room)
-}
-
-/// What a line says, without its newline, as `read_line` reads it; the bytes of a write are put into `room`, which has
-/// room for `MOST_WRITTEN` bytes, and what it held is lost.
-#[tactic(auto, using(crate::proofs::ManyWords::verb_alone))]
-pub fn read_said<'a>(line: &[u8], room: &'a mut [u8]) -> Result<Said<'a>, Bad>
-    requires { length room.old ≡ MOST_WRITTEN }
-    ensures { MatchResult result (λ s. command_of line.now ≡ Some s) (λ _. command_of line.now ≡ None) }
-{
-    if line.len() > LONGEST_LINE {
-        return Err(Bad);
-    }
-    let Some((verb, rest)) = cut(b' ', line) else {
-        return Err(Bad);
-    };
-    said(verb, rest, room).ok_or(Bad)
 }
 
 /// The command that a line says, without its newline. `Bad` where the grammar has no such line, among them any of more
@@ -157,6 +143,6 @@ pub fn read_line(line: &[u8]) -> Result<Command, Bad>
     ensures { MatchResult result (λ c. command_of line.now ≡ Some c) (λ _. command_of line.now ≡ None) }
 {
     let mut room = [0; MOST_WRITTEN];
-    let said = read_said(line, &mut room)?;
+    let said = read_said(line, &mut room).ok_or(Bad)?;
     Ok(said.command())
 }

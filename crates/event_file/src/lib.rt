@@ -20,7 +20,7 @@ mod verbs;
 mod words;
 
 pub use answer_text::give_text;
-pub use answers::{TEXT_ROOM, write_answer};
+pub use answers::{TEXT_ROOM, write_answer, write_command_answer};
 pub use bad::Bad;
 pub use counted::Counted;
 pub use grammar::{read_line, read_said};

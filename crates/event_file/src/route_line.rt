@@ -146,7 +146,10 @@ struct BitOptions {
     locks: u32,
 }
 
+// These two are inlined: most lines have few options, and what is read where none is left is known then.
+
 /// Reads the options that are words of bits, which stand behind the addresses.
+#[inline(always)]
 fn read_bits(options: &mut Options) -> Option<BitOptions>
     ensures options { result ≡ bit_options (map (λ w. w.now) options.old.words.now) }
     ensures rest { map (λ w. w.now) options.new.words.now
@@ -170,6 +173,7 @@ fn read_bits(options: &mut Options) -> Option<BitOptions>
 }
 
 /// Reads the metrics, which stand behind the words of bits and are the last.
+#[inline(always)]
 fn read_metrics(mut options: Options) -> Option<MetricWords>
     ensures { result ≡ metric_options (map (λ w. w.now) options.entry.words.now) }
 {

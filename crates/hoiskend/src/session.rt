@@ -118,8 +118,8 @@ impl Session {
         }
         let mut room = [0; MOST_WRITTEN];
         match read_said(line, &mut room) {
-            Ok(said) => self.obey(&said, memory),
-            Err(bad) => self.reject(bad),
+            Some(said) => self.obey(&said, memory),
+            None => self.reject(Bad),
         }
     }
 

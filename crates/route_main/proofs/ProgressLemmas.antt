@@ -13,7 +13,7 @@ use Rattle.route_core.specs.declared.answer.Answer.{Answer}
 use Rattle.event_file.specs.Answers.{response_text}
 use Rattle.event_file.specs.Counts.{Counts}
 use Rattle.event_file.specs.Lines.{Line, after_bytes, answered_lines, begun_line, ended_lines, extended, first_line, has_newline, is_answered, is_begun, is_passed, kept, no_line}
-use Rattle.event_file.specs.Output.{WroteFront}
+use Rattle.event_file.specs.Output.{Wrote, WroteFront}
 use Rattle.route_main.specs.Progress.{Standing, Answers, StopsWithin, Progress, Advances, Breaks, Finishes, Reached, HasRead, answered_of, fresh, standing}
 use Rattle.event_file.specs.Causes.{AnsweredCounted, IsTranscriptCounted, RespondsCounted}
 use Rattle.event_file.specs.Transcript.{command_in, has_bad_line, transcript_from}
@@ -90,6 +90,22 @@ at_ok (Err e) P is p = absurd (cc)
 -- a line that gives an answer
 answered_of-line : (line : Option (List ℕ)) → is_passed line ≡ false → answered_of line ≡ line ∷ []
 answered_of-line line is = cond-true (is_answered line) (line ∷ []) [] (ap not is)
+
+malformed : (old new : World) (line : Option (List ℕ)) (response : Result Answer Bad) (i j : ℕ) → RespondsCounted old line response new i j
+    → is_err response ≡ (is_none (command_in line) || false)
+malformed old new line (Ok answer) i j (command, is, step) = rw is refl
+malformed old new line (Err bad) i j (none, same, count) = rw none refl
+
+-- the writer took a line's answer
+pub Answers-line : {W : Type 0} (contents : W → Option (List ℕ)) (old now : Counts W) (from to : Standing) (line : Option (List ℕ)) (response : Result Answer Bad)
+    → RespondsCounted from.world line response to.world from.refused to.refused → Wrote contents old now (response_text response)
+    → to.has_bad ≡ (from.has_bad || is_err response) → Answers from to (contents old.inner) (contents now.inner) (line ∷ [])
+Answers-line contents old now from to line response responds wrote bad = record {
+  written = response_text response;
+  appends = wrote.appends;
+  answered = (response, to.world, to.refused, [], responds, sym (append-nil (response_text response)), (refl, refl, refl));
+  bad = bad ∙ ap (λ t. from.has_bad || t) (malformed from.world to.world line response from.refused to.refused responds);
+}
 
 -- the writer stopped within a line's answer
 pub StopsWithin-line : {W : Type 0} (contents : W → Option (List ℕ)) (old now : Counts W) (from : Standing) (n : ℕ) (line : Option (List ℕ)) (response : Result Answer Bad) (next : World)

@@ -1,16 +1,19 @@
-ghost use Rattle.std.specs.Prelude.{Bool, ◌||◌, [], ◌∷◌, ◌≡◌, ◌≢◌, ◌<◌, ◌≤◌, false, length, take, is_err, IfOk, OnOk, OnErr, option_copied};
+ghost use Rattle.std.specs.Prelude.{Bool, ℕ, List, Option, None, ◌||◌, [], ◌∷◌, ◌≡◌, ◌≢◌, ◌<◌, ◌≤◌, false, length, take, is_err, IfOk, OnOk, OnErr, option_copied};
 ghost use Rattle.event_file.specs.Lines.{is_passed as passes};
 ghost use Rattle.route_main.specs.Progress.{Advances, Answers, Breaks, Finishes, StopsWithin, answered_of, fresh, held, standing};
-ghost use Rattle.event_file.specs.Causes.{RespondsCounted};
+ghost use Rattle.event_file.specs.Transcript.{command_in};
+ghost use Rattle.route_core.specs.World.{World};
 ghost use Rattle.event_file.specs.declared.answers.TheConstants.{TEXT_ROOM};
 ghost use Rattle.route_core.specs.declared.written.TheConstants.{MOST_WRITTEN};
 ghost use Rattle.memory.specs.Refusing.{Rises};
 ghost use Rattle.route_main.specs.Ends.{IsAnswered};
 
-use event_file::{Bad, Counted, LineBuffer, Stopped, TEXT_ROOM, read_said, write_answer};
+use event_file::{
+    Bad, Counted, LineBuffer, Stopped, TEXT_ROOM, read_said, write_answer, write_command_answer,
+};
 use memory::Memory;
 use program_ends::Outcome;
-use route_core::{Answer, MOST_WRITTEN, Room, World};
+use route_core::{MOST_WRITTEN, Room, World};
 use std::alloc::{AllocError, Global};
 use std::io::Write;
 use std::marker::Model;
@@ -250,9 +253,33 @@ fn answer_line<W: Write>(
         (W.contents writer.old.inner) (W.contents writer.new.inner) (option_copied line.entry ∷ [])) }
     ensures failure { OnErr result (writer.new.failures ≡ 1) }
 {
-    let response = respond(world, line, written, room, memory);
-    write_answer(&response, text, writer)?;
-    Ok(response.is_err())
+    let Some(line) = line else {
+        return answer_bad(text, writer);
+    };
+    let Some(said) = &read_said(line, written) else {
+        return answer_bad(text, writer);
+    };
+    let answer = world.obey_counted(said, room, memory);
+    write_command_answer(&answer, text, writer)?;
+    Ok(false)
+}
+
+/// Answers a line that is malformed, and says that it is.
+fn answer_bad<W: Write>(text: &mut [u8], writer: &mut Counted<W>) -> Result<bool, Stopped>
+    requires text { length text.old ≡ TEXT_ROOM }
+    requires no_failure { writer.old.failures ≡ 0 }
+    ensures ok { IfOk result (λ malformed. (world : World) (has_bad : Bool) (refused : ℕ) (line : Option (List ℕ))
+        → command_in line ≡ None → Answers (standing (held world has_bad) refused)
+        (standing (held world (has_bad || malformed)) refused)
+        (W.contents writer.old.inner) (W.contents writer.new.inner) (line ∷ [])) }
+    ensures no_failure { OnOk result (writer.new.failures ≡ 0) }
+    ensures err { OnErr result ((world : World) (has_bad : Bool) (refused : ℕ) (line : Option (List ℕ))
+        → command_in line ≡ None → StopsWithin (standing (held world has_bad) refused) refused
+        (W.contents writer.old.inner) (W.contents writer.new.inner) (line ∷ [])) }
+    ensures failure { OnErr result (writer.new.failures ≡ 1) }
+{
+    write_answer(&Err(Bad), text, writer)?;
+    Ok(true)
 }
 
 /// Whether a line gives no answer: an empty one, or one that begins with `#` and is not too long.
@@ -260,23 +287,4 @@ fn is_passed(line: Option<&[u8]>) -> bool
     ensures { result ≡ passes (option_copied line.entry) }
 {
     matches!(line, Some([] | [b'#', ..]))
-}
-
-/// The world's response to a line, which is nothing where it is too long. The bytes of a write are put into `written`,
-/// and the messages of a read are lent by `room`.
-fn respond<'a>(
-    world: &mut World,
-    line: Option<&[u8]>,
-    written: &mut [u8],
-    room: &'a mut Room,
-    memory: &mut Memory,
-) -> Result<Answer<'a>, Bad>
-    requires { length written.old ≡ MOST_WRITTEN }
-    ensures { RespondsCounted world.old (option_copied line.entry) result world.new memory.old memory.new }
-{
-    let Some(line) = line else {
-        return Err(Bad);
-    };
-    let said = read_said(line, written)?;
-    Ok(world.obey_counted(&said, room, memory))
 }
