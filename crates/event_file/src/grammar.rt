@@ -50,7 +50,8 @@ fn route_behind<'a>(rest: &[u8], room: &'a mut [u8]) -> Option<Said<'a>>
     route(words.as_slice(), room)
 }
 
-/// The command on interfaces, sockets or routes that these words are behind this verb, which is not `route`.
+/// The command on interfaces, sockets or routes that these words are behind this verb, which is not `route`. It is not
+/// inlined, so that `route` lines don't pay for its locals.
 #[inline(never)]
 fn said_behind<'a>(verb: &[u8], words: &[&[u8]], room: &'a mut [u8]) -> Option<Said<'a>>
     requires verb { bytes_eq verb.now (codes "route") ≡ false }
@@ -84,7 +85,8 @@ fn said_behind<'a>(verb: &[u8], words: &[&[u8]], room: &'a mut [u8]) -> Option<S
     said_of_routes(verb, words, room)
 }
 
-/// The command on the routes that these words are behind this verb, which is not `route`.
+/// The command on the routes that these words are behind this verb, which is not `route`. It is inlined, since what is
+/// said would else be moved once more.
 #[inline(always)]
 fn said_of_routes<'a>(verb: &[u8], words: &[&[u8]], room: &'a mut [u8]) -> Option<Said<'a>>
     requires verb { bytes_eq verb.now (codes "route") ≡ false }

@@ -1,6 +1,7 @@
 -- The routing table as contracts see it: a list of entries in table order, and what is found in it. An address is a
 -- number below 2^32; a rank is 0 to 32 for a mask of that many bits, or 33 for a route without a mask.
-use Rattle.std.specs.Prelude.{◌≡◌, ℕ, ◌^◌, ◌<◌, ◌≤◌, Bool, not, ◌&&◌, ◌||◌, ◌==◌, nat_lt, if◌then◌else◌, IsTrue, List, [], ◌∷◌, ◌++◌, filter, find, count_by, Option, Some, None}
+use Rattle.std.specs.Prelude.{◌≡◌, ℕ, ◌^◌, ◌<◌, ◌≤◌, Bool, not, ◌&&◌, ◌||◌, ◌==◌, nat_lt, if◌then◌else◌, IsTrue, List}
+use Rattle.std.specs.Prelude.{[], ◌∷◌, ◌++◌, filter, find, count_by, Option, Some, None}
 use Rattle.std.specs.List.{AllByRecursion}
 use Rattle.mask_table.specs.Agreeing.{agrees, masked}
 use Rattle.radix_tree.specs.declared.entry.Entry.{Entry}

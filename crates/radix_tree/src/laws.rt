@@ -2,7 +2,13 @@
 
 ghost use Rattle.std.specs.Prelude.{◌≡◌, ◌≤◌, ℕ, length};
 ghost use Rattle.radix_tree.specs.Table.{IsTable, uses};
-ghost use Rattle.radix_tree.specs.TableLaws.{PrecedesInWords, PrecedesOneWay, PrecedesTransitively, PrecedesOrSame, MembersStand, MembersAreRoutes, EntryAtIsMember, FirstOfIsMember, BestIsMember, FirstIsGreatest, BestIsGreatest, BestIsUnique, NoneAgrees, WithIsTable, WithoutIsTable, WithStands, WithKeepsOthers, WithoutLeavesNone, WithoutKeepsOthers, MembersOfWith, MembersOfWithout, WithCounts, WithoutCounts, WithThenWithout, WithoutThenWith, WithTwiceIsLast, BestStays, BestIsGreater, BestStaysWithout};
+ghost use Rattle.radix_tree.specs.TableLaws.{PrecedesInWords, PrecedesOneWay, PrecedesTransitively, PrecedesOrSame};
+ghost use Rattle.radix_tree.specs.TableLaws.{MembersStand, MembersAreRoutes, EntryAtIsMember, FirstOfIsMember};
+ghost use Rattle.radix_tree.specs.TableLaws.{BestIsMember, FirstIsGreatest, BestIsGreatest, BestIsUnique, NoneAgrees};
+ghost use Rattle.radix_tree.specs.TableLaws.{WithIsTable, WithoutIsTable, WithStands, WithKeepsOthers};
+ghost use Rattle.radix_tree.specs.TableLaws.{WithoutLeavesNone, WithoutKeepsOthers, MembersOfWith, MembersOfWithout};
+ghost use Rattle.radix_tree.specs.TableLaws.{WithCounts, WithoutCounts, WithThenWithout, WithoutThenWith};
+ghost use Rattle.radix_tree.specs.TableLaws.{WithTwiceIsLast, BestStays, BestIsGreater, BestStaysWithout};
 
 use crate::routes::Table;
 

@@ -1,5 +1,6 @@
 //! How a table changes.
-ghost use Rattle.std.specs.Prelude.{◌≡◌, ℕ, ◌+◌, ◌<◌, ◌≤◌, ◌↔◌, ◌==◌, if◌then◌else◌, is_err, IsErr, IsSome, OnOk, OnErr, OnSome, IfOk, IfErr, IfSome, IfNone, None, Some, option_map};
+ghost use Rattle.std.specs.Prelude.{◌≡◌, ℕ, ◌+◌, ◌<◌, ◌≤◌, ◌↔◌, ◌==◌, if◌then◌else◌, is_err, IsErr, IsSome, OnOk};
+ghost use Rattle.std.specs.Prelude.{OnErr, OnSome, IfOk, IfErr, IfSome, IfNone, None, Some, option_map};
 ghost use Rattle.std.specs.Borrow.{sem};
 ghost use Rattle.mask_table.specs.Agreeing.{masked};
 ghost use Rattle.memory.specs.Refusing.{Rises};

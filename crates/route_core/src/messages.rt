@@ -191,7 +191,7 @@ fn number(errno: Option<Errno>) -> u32
     }
 }
 
-/// Makes a message of this type about a look-up.
+/// Makes a message of this type about a look-up. It is inlined, as `put_route_msg` is.
 #[inline(always)]
 #[tactic(auto, using(crate::proofs::WholeMessages::message_of_size))]
 fn put_looked_up(kind: u8, about: Gate, errno: Option<Errno>, message: &mut Message)
