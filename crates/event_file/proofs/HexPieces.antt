@@ -1,8 +1,12 @@
 -- The hexadecimal text of bytes that are written in pieces.
-use Rattle.std.proofs.Common.{◌≡◌, ℕ, ◌+◌, ◌-◌, List, [], ◌∷◌, ◌++◌, take, drop, refl, ap, sym, ◌∙◌, arith, take-append-drop}
+use Rattle.std.proofs.Common.{◌≡◌, ℕ, ◌+◌, ◌-◌, ◌*◌, ◌<◌, ◌≤◌, List, [], ◌∷◌, ◌++◌, take, drop, length, refl, ap, sym, ◌∙◌, arith, take-append-drop}
 use Rattle.std.specs.Prelude.{slice_index, ◌/◌, ◌%◌}
 use Rattle.std.proofs.Math.Seq.{take-add}
+use Rattle.std.proofs.lemmas.List.{append_assoc}
+use Rattle.std.proofs.lemmas.Slice.{take-put_mid}
+use borrow.Rule.Slice.PartMut.{put_mid}
 use Rattle.hex.specs.Hex.{encode_with, encode_lower, lower_digits}
+use Rattle.hex.proofs.Pairs.{encode_with-drop}
 
 pub encode-nil : encode_lower [] ≡ []
 unfolding encode_with
@@ -24,3 +28,20 @@ encode-whole n bytes = sym (encode_with-append lower_digits (take n bytes) (drop
 -- the bytes of `&bytes[at..at + n]`
 pub piece_is : (at n : ℕ) (bytes : List ℕ) → take ((at + n) - at) (drop at bytes) ≡ take n (drop at bytes)
 piece_is at n bytes = let e : (at + n) - at ≡ n = omega arith in ap (λ k. take k (drop at bytes)) e
+
+two_of : (l : List ℕ) → length l ≡ 2 → l ≡ slice_index l 0 ∷ slice_index l 1 ∷ []
+two_of (x ∷ y ∷ []) two = refl
+two_of [] two = absurd (omega (arith, two))
+two_of (x ∷ []) two = absurd (omega (arith, two))
+two_of (x ∷ y ∷ z ∷ l) two = absurd (omega (arith, two))
+
+-- the digits of one byte more are put behind those so far
+pub encode-put : (bytes out pair : List ℕ) (i k : ℕ) → i < length bytes → 2 * i ≤ length out → length pair ≡ 2
+    → slice_index pair 0 ≡ slice_index lower_digits (slice_index bytes i / 16) → slice_index pair 1 ≡ slice_index lower_digits (slice_index bytes i % 16)
+    → take (2 * i) out ++ encode_lower (drop i bytes) ≡ encode_lower bytes
+    → take (2 * (i + 1)) (put_mid (2 * i) k out pair) ++ encode_lower (drop (i + 1) bytes) ≡ encode_lower bytes
+encode-put bytes out pair i k within room two high low so_far =
+    let front = take-put_mid (2 * i) k out pair (2 * (i + 1)) (omega (arith, two)) room in
+    let rest = encode_with-drop lower_digits bytes i within in
+    let digits = two_of pair two in
+    rw (front, append_assoc, digits, high, low) (rw rest at so_far)

@@ -1,11 +1,11 @@
--- What stands in the tables of hexadecimal, and the pairs of digits that are read by them.
-use Rattle.std.proofs.Common.{◌≡◌, ℕ, ◌+◌, ◌*◌, ◌/◌, ◌%◌, ◌<◌, ◌≤◌, ◌==◌, inl, inr, true, slice_index, Option, Some, None, unwrap_or, Ok, Err, refl, arith}
+-- What stands in the table of hexadecimal, the pairs of digits that are read by it, and the digits that are computed.
+use Rattle.std.proofs.Common.{◌≡◌, ℕ, ◌+◌, ◌*◌, ◌/◌, ◌%◌, ◌<◌, ◌≤◌, ◌==◌, inl, inr, true, bit_and, bit_or, slice_index, Option, Some, None, unwrap_or, Ok, Err, refl, arith}
 use Rattle.std.proofs.lemmas.Bool.{cases_lt, eqb-true}
 use Rattle.sock_addrs.proofs.Below.{passes_at, passes_below}
 use Rattle.hex.specs.Hex.{digit_or_error, hex_digit_value, lower_digits, pair_value, value_at, ◌>>=◌}
 use Rattle.hex.specs.declared.error.FromHexError.{FromHexError}
 use Rattle.hex.specs.declared.error.FromHexError.TheVariants.{InvalidHexCharacter}
-use Rattle.event_file.specs.declared.hexadecimal.TheConstants.{DIGITS, NONE, VALUES}
+use Rattle.event_file.specs.declared.hexadecimal.TheConstants.{NONE, VALUES}
 
 -- the value of a byte as a digit, by the table
 abbrev pub tabled : ℕ → ℕ
@@ -18,19 +18,27 @@ values_hold = refl
 pub value_is : (byte : ℕ) → byte < 256 → slice_index VALUES byte ≡ tabled byte
 value_is byte fits = eqb-true _ _ (passes_at 256 (λ b. slice_index VALUES b == tabled b) byte values_hold fits)
 
-highs_hold : passes_below 256 (λ b. slice_index DIGITS (2 * b) == slice_index lower_digits (b / 16)) ≡ true
+-- ---- digits that are computed
+
+-- both digits of a byte, the first in the lower half
+abbrev pub digits : ℕ → ℕ
+digits byte =
+    let values = bit_or (byte / 16) (bit_and byte 15 * 256 % 65536) in
+    values + 12336 + bit_and ((values + 1542) / 16) 257 * 39
+
+firsts_hold : passes_below 256 (λ b. digits b % 256 == slice_index lower_digits (b / 16)) ≡ true
 unfolding passes_below
-highs_hold = refl
+firsts_hold = refl
 
-pub high_is : (byte : ℕ) → byte < 256 → slice_index DIGITS (2 * byte) ≡ slice_index lower_digits (byte / 16)
-high_is byte fits = eqb-true _ _ (passes_at 256 (λ b. slice_index DIGITS (2 * b) == slice_index lower_digits (b / 16)) byte highs_hold fits)
+pub first_is : (byte : ℕ) → byte < 256 → digits byte % 256 ≡ slice_index lower_digits (byte / 16)
+first_is byte fits = eqb-true _ _ (passes_at 256 (λ b. digits b % 256 == slice_index lower_digits (b / 16)) byte firsts_hold fits)
 
-lows_hold : passes_below 256 (λ b. slice_index DIGITS (2 * b + 1) == slice_index lower_digits (b % 16)) ≡ true
+seconds_hold : passes_below 256 (λ b. digits b / 256 % 256 == slice_index lower_digits (b % 16)) ≡ true
 unfolding passes_below
-lows_hold = refl
+seconds_hold = refl
 
-pub low_is : (byte : ℕ) → byte < 256 → slice_index DIGITS (2 * byte + 1) ≡ slice_index lower_digits (byte % 16)
-low_is byte fits = eqb-true _ _ (passes_at 256 (λ b. slice_index DIGITS (2 * b + 1) == slice_index lower_digits (b % 16)) byte lows_hold fits)
+pub second_is : (byte : ℕ) → byte < 256 → digits byte / 256 % 256 ≡ slice_index lower_digits (byte % 16)
+second_is byte fits = eqb-true _ _ (passes_at 256 (λ b. digits b / 256 % 256 == slice_index lower_digits (b % 16)) byte seconds_hold fits)
 
 -- ---- a pair of digits
 
