@@ -71,5 +71,5 @@ impl World {
 fn size_to_ask(total: u64) -> u64
     ensures { result ≡ size_to_ask_of total }
 {
-    u64::try_from(u128::from(total) * 11 / 10).unwrap_or(u64::MAX)
+    total.saturating_add(total / 10)
 }

@@ -165,6 +165,38 @@ impl PackedRoute {
         }
     }
 
+    // What is asked of many routes is read where it lies, without the rest of the route.
+
+    /// Its flags.
+    pub fn flags(&self) -> u16
+        ensures { result ≡ self.now.flags }
+    {
+        match &self.form {
+            Form::Small(small) => small.flags,
+            Form::Whole(route) => route.flags,
+        }
+    }
+
+    /// Its gateway.
+    pub fn gateway(&self) -> Gate
+        ensures { result ≡ self.now.gateway }
+    {
+        match &self.form {
+            Form::Small(small) => Gate::Inet(small.gateway),
+            Form::Whole(route) => route.gateway,
+        }
+    }
+
+    /// The mask of its clones, where it has one.
+    pub fn genmask(&self) -> Option<Prefix>
+        ensures { result ≡ self.now.genmask }
+    {
+        match &self.form {
+            Form::Small(small) => small.genmask,
+            Form::Whole(route) => route.genmask,
+        }
+    }
+
     /// Its interface address.
     pub fn ifa(&self) -> IfaRef
         ensures { result ≡ self.now.ifa }

@@ -1,9 +1,9 @@
 -- The longest front of a list of messages that fits.
-use Rattle.std.proofs.Common.{◌≡◌, ℕ, ◌+◌, ◌-◌, ◌<◌, ◌≤◌, ◌^◌, Bool, true, false, cond, nat_le, nat_lt, min, List, [], ◌∷◌, ◌++◌, length, Option, Some, None, refl, sym, ap, ◌∙◌, arith}
+use Rattle.std.proofs.Common.{◌≡◌, ℕ, ◌+◌, ◌-◌, ◌<◌, ◌≤◌, Bool, true, false, cond, nat_le, nat_lt, List, [], ◌∷◌, ◌++◌, length, Some, None, refl, ap, ◌∙◌, arith}
 use Rattle.std.proofs.lemmas.Bool.Decides.{nat_tests}
 use Rattle.std.proofs.lemmas.Bool.{leb-true}
 use Rattle.std.proofs.lemmas.List.Sums.{sum_by-cons}
-use Rattle.table_dump.specs.Dumps.{IsWhole, bytes_of, dump_fault, fitting, size_of, total_of}
+use Rattle.table_dump.specs.Dumps.{dump_fault, fitting, size_of, total_of}
 use Rattle.table_dump.specs.DumpLaws.{AllAreGiven, GivenFits, GivenIsFront, IsFront, NextDoesNotFit, UnrefusedAreAll}
 
 pub le_true : (m n : ℕ) → m ≤ n → nat_le m n ≡ true

@@ -1,17 +1,19 @@
 -- What one more route adds to a dump.
-use Rattle.std.proofs.Common.{◌≡◌, ◌≢◌, ℕ, zero, suc, ◌+◌, ◌-◌, ◌≤◌, ◌^◌, Bool, true, false, min, List, [], ◌∷◌, ◌++◌, filter, length, length-append, map, Option, option_map, refl, sym, ap, ◌∙◌, arith}
+use Rattle.std.proofs.Common.{◌≡◌, ◌≢◌, ℕ, zero, suc, ◌+◌, ◌-◌, ◌≤◌, ◌^◌, Bool, true, false, min, List, [], ◌∷◌, ◌++◌, filter, length, length-append, length-drop, length-take-le, append-nil, drop, take, take-append-drop, map, subst, Option, option_map, refl, sym, ap, ◌∙◌, arith}
+use Rattle.std.proofs.lemmas.List.{append_assoc, drop_at, take_at}
 use Rattle.std.proofs.lemmas.List.Sums.{sum_by-cons}
-use Rattle.route_msgs.proofs.SizesRead.{route_says}
+use Rattle.route_msgs.proofs.SizesRead.{SaysLength, route_says}
 use Rattle.sock_addrs.specs.Sockaddrs.{inet_sockaddr, mask_sockaddr}
 use Rattle.mask_table.specs.Ranks.{mask_of}
-use Rattle.route_msgs.specs.AddrInfo.{address_bytes, bytes_or_none, gate_sockaddr}
-use Rattle.route_msgs.specs.Headers.{blank}
+use Rattle.route_msgs.specs.AddrInfo.{address_bytes, addrs_of, bytes_or_none, gate_sockaddr}
+use Rattle.route_msgs.specs.Headers.{blank, route_head}
+use Rattle.route_msgs.specs.declared.header.Header.{Header}
 use Rattle.route_msgs.specs.declared.kinds.TheConstants.{RTM_GET}
 use Rattle.if_addrs.specs.Interfaces.{Interface}
 use Rattle.radix_tree.specs.declared.entry.Entry.{Entry}
 use Rattle.route_entries.specs.Addresses.{route_addresses}
 use Rattle.route_entries.specs.declared.route.Route.{Route}
-use Rattle.table_dump.specs.Dumps.{is_asked, shown, shown_as, shown_of, size_of, total_of}
+use Rattle.table_dump.specs.Dumps.{IsWhole, is_asked, shown, shown_as, shown_of, size_of}
 
 filter_yes : {X : Type 0} (p : X → Bool) (x : X) (xs : List X) → p x ≡ true → filter p (x ∷ xs) ≡ x ∷ filter p xs
 filter_yes p x xs h = rw h refl
@@ -38,19 +40,17 @@ pub mask_length : (bits : ℕ) → bits ≢ 0 → length (mask_sockaddr bits) �
 mask_length zero h = absurd (h refl)
 mask_length (suc bits) h = refl
 
--- how long a route's message is doesn't depend on its key and its interface
-pub sized : (index : ℕ) (r : Entry Route) (given : Option ℕ) (gate mask genmask : ℕ) → given ≡ mask_of r.rank
+-- how many bytes a route's addresses take
+pub addresses_sized : (r : Entry Route) (given : Option ℕ) (gate mask genmask : ℕ) → given ≡ mask_of r.rank
     → gate ≡ length (gate_sockaddr r.value.gateway) → mask ≡ length (bytes_or_none (option_map mask_sockaddr given))
-    → genmask ≡ length (bytes_or_none (option_map mask_sockaddr r.value.genmask)) → gate ≤ 32 → mask ≤ 8 → genmask ≤ 8
-    → length (shown_as index r) ≡ 92 + gate + mask + genmask
-sized index r given gate mask genmask of_rank is is_mask is_genmask most most_mask most_genmask =
-    let all = route_addresses r.key r.rank r.value in
+    → genmask ≡ length (bytes_or_none (option_map mask_sockaddr r.value.genmask))
+    → length (address_bytes (route_addresses r.key r.rank r.value)) ≡ 16 + (gate + (mask + genmask))
+addresses_sized r given gate mask genmask of_rank is is_mask is_genmask =
     let m = bytes_or_none (option_map mask_sockaddr (mask_of r.rank)) in
     let g = bytes_or_none (option_map mask_sockaddr r.value.genmask) in
     let here : mask ≡ length m = is_mask ∙ ap (λ (o : Option ℕ). length (bytes_or_none (option_map mask_sockaddr o))) of_rank in
-    let parts : address_bytes all ≡ inet_sockaddr r.key ++ (gate_sockaddr r.value.gateway ++ (m ++ (g ++ []))) = refl in
+    let parts : address_bytes (route_addresses r.key r.rank r.value) ≡ inet_sockaddr r.key ++ (gate_sockaddr r.value.gateway ++ (m ++ (g ++ []))) = refl in
     let key : length (inet_sockaddr r.key) ≡ 16 = refl in
-    let size : length (address_bytes all) ≡ 16 + (gate + (mask + genmask)) =
     ap length parts
     ∙ omega (
       arith,
@@ -62,11 +62,45 @@ sized index r given gate mask genmask of_rank is is_mask is_genmask most most_ma
       length-append (gate_sockaddr r.value.gateway) (m ++ (g ++ [])),
       length-append m (g ++ []),
       length-append g [],
-    ) in
-    (route_says
-    (record (blank RTM_GET) { index = index; flags = r.value.flags; use_count = r.value.use_count; metrics = r.value.metrics })
-    all (omega (arith, size, most, most_mask, most_genmask))).size
-    ∙ omega (arith, size)
+    )
+
+-- a route's header, which says its size
+abbrev pub header_of : ℕ → Entry Route → Header
+header_of index r = record (blank RTM_GET) { index = index; flags = r.value.flags; use_count = r.value.use_count; metrics = r.value.metrics }
+
+pub shown_says : (index : ℕ) (r : Entry Route) (size : ℕ) → 76 + length (address_bytes (route_addresses r.key r.rank r.value)) ≡ size → size ≤ 140 → SaysLength size (shown_as index r)
+shown_says index r size is most =
+    subst (λ (n : ℕ). SaysLength n (shown_as index r)) is (route_says (header_of index r) (route_addresses r.key r.rank r.value) (omega (arith, is, most)))
+
+-- it is whole
+pub shown_whole : (index : ℕ) (r : Entry Route) (size : ℕ) → 76 + length (address_bytes (route_addresses r.key r.rank r.value)) ≡ size → size ≤ 140 → IsWhole (shown_as index r)
+shown_whole index r size is most =
+    let says = shown_says index r size is most in
+    record { least = omega (arith, says.size, is); says_size = says.says ∙ sym says.size }
+
+-- ---- it is put to its place
+
+-- addresses that follow one another
+pub in_turn : (front a b c d : List ℕ) → (((front ++ a) ++ b) ++ c) ++ d ≡ front ++ (a ++ (b ++ (c ++ (d ++ []))))
+in_turn front a b c d = simp (append_assoc, append-nil)
+
+-- a header that is put in front of what was put behind its place
+pub headed : (head behind room laid after : List ℕ) (size : ℕ) → 76 ≤ length room → length laid ≡ length room → length after ≡ length laid → size ≡ 76 + length behind
+    → take size laid ≡ take 76 room ++ behind → after ≡ head ++ drop 76 laid → take size after ≡ head ++ behind
+headed head behind room laid after size fits same still is stands put =
+    let rest = drop size laid in
+    let front : length (take 76 room) ≡ 76 = length-take-le 76 room fits in
+    let whole : laid ≡ take 76 room ++ (behind ++ rest) = sym (take-append-drop size laid) ∙ ap (λ (l : List ℕ). l ++ rest) stands ∙ append_assoc (take 76 room) behind rest in
+    let dropped : drop 76 laid ≡ behind ++ rest = ap (drop 76) whole ∙ drop_at (take 76 room) (behind ++ rest) 76 front in
+    let long : length head ≡ 76 = omega (arith, ap length put, length-append head (drop 76 laid), length-drop 76 laid, fits, same, still) in
+    ap (take size) (put ∙ ap (λ (l : List ℕ). head ++ l) dropped ∙ sym (append_assoc head behind rest))
+    ∙ take_at (head ++ behind) rest size (omega (arith, length-append head behind, long, is))
+
+-- the header that says the size of the message and names its addresses
+pub head_is : (index : ℕ) (r : Entry Route) (size addrs : ℕ) (header : Header) → size ≡ 76 + length (address_bytes (route_addresses r.key r.rank r.value))
+    → addrs ≡ addrs_of (route_addresses r.key r.rank r.value) → header ≡ header_of index r
+    → route_head size addrs header ++ address_bytes (route_addresses r.key r.rank r.value) ≡ shown_as index r
+head_is index r size addrs header is named same = rw (is, named, same) refl
 
 -- the total so far, and what is still to come
 pub added : (t n : ℕ) (m : List ℕ) (ms : List (List ℕ)) → length m ≡ n → min (min (t + n) (2 ^ 64 - 1) + size_of ms) (2 ^ 64 - 1) ≡ min (t + size_of (m ∷ ms)) (2 ^ 64 - 1)

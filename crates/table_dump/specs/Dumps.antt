@@ -1,5 +1,5 @@
 -- Dumps: the routes of a table as messages, and as many of these as fit a buffer.
-use Rattle.std.specs.Prelude.{◌≡◌, ℕ, ◌-◌, ◌^◌, ◌≤◌, nat_le, nat_lt, Bool, true, not, if◌then◌else◌, min, List, [], ◌∷◌, filter, length, map, Option, Some, None}
+use Rattle.std.specs.Prelude.{◌≡◌, ℕ, ◌-◌, ◌^◌, ◌≤◌, nat_le, nat_lt, Bool, true, if◌then◌else◌, min, List, [], ◌∷◌, filter, length, map, Option, Some, None}
 use Rattle.std.specs.List.{flat_map, sum_by}
 use Rattle.sock_addrs.specs.declared.errno.Errno.{Errno}
 use Rattle.sock_addrs.specs.declared.errno.Errno.TheVariants.{ENOMEM}

@@ -5,9 +5,9 @@ ghost use Rattle.if_addrs.specs.Interfaces.{Interface, IsOf};
 ghost use Rattle.memory.specs.Refusing.{Rises};
 ghost use Rattle.table_dump.specs.Dumps.{IsWhole, bytes_of, dump_fault, fitting, shown_of, total_of};
 
-use crate::shown::{is_asked, shown, shown_size};
+use crate::shown::{MOST_SHOWN, is_asked, put_shown, shown_size};
 use if_addrs::Interfaces;
-use memory::Memory;
+use memory::{MOST_ASKED, Memory};
 use radix_tree::{Table, Visits};
 use route_entries::PackedRoute;
 use sock_addrs::Errno;
@@ -24,9 +24,8 @@ pub fn total(table: &Table<PackedRoute>, visits: &mut Visits, filter: Option<u32
     let mut walk = table.walk(visits);
     let mut total = 0u64;
     while let Some((_, rank, packed)) = walk.step(visits) {
-        let route = packed.route();
-        if is_asked(&route, filter) {
-            total = total.saturating_add(shown_size(rank, &route) as u64);
+        if is_asked(packed, filter) {
+            total = total.saturating_add(shown_size(rank, packed) as u64);
         }
     }
     total
@@ -56,19 +55,20 @@ pub fn dump_into(
     ensures counted { Rises (is_err result) memory.old memory.new }
 {
     let mut walk = table.walk(visits);
-    let mut bytes = Vec::new(alloc);
     let mut left = room as usize;
+    let mut bytes = memory.with_capacity(alloc, left.min(MOST_ASKED))?;
+    let mut message = [0; MOST_SHOWN];
     while let Some((key, rank, packed)) = walk.step(visits) {
-        let route = packed.route();
-        if !is_asked(&route, filter) {
+        if !is_asked(packed, filter) {
             continue;
         }
-        let message = shown(interfaces.interface_of(route.ifa), key, rank, &route);
-        if left < message.len() {
+        let index = interfaces.interface_of(packed.ifa());
+        let size = put_shown(index, key, rank, packed, &mut message);
+        if left < size {
             return Ok((bytes, Some(Errno::ENOMEM)));
         }
-        left -= message.len();
-        memory.extend(&mut bytes, &message)?;
+        left -= size;
+        memory.extend(&mut bytes, &message[..size])?;
     }
     Ok((bytes, None))
 }

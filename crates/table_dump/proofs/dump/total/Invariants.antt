@@ -1,4 +1,4 @@
-use Rattle.std.proofs.Common.{◌≡◌, ℕ, ◌+◌, ◌-◌, ◌≤◌, ◌^◌, length, min, List}
+use Rattle.std.proofs.Common.{◌≡◌, ◌+◌, ◌-◌, ◌≤◌, ◌^◌, length, min, List}
 use Rattle.if_addrs.specs.Interfaces.{Interface}
 use Rattle.table_dump.specs.Dumps.{shown_of, size_of, total_of}
 use Rattle.table_dump.proofs.dump.total.Given as goal
