@@ -8,7 +8,7 @@ use Rattle.std.specs.Io.{WritesAtMost}
 use Rattle.std.specs.Io.KnownBytes.{Appends, Keeps, WriteAppends}
 use Rattle.std.proofs.KnownBytes.{Appends-nil, Appends-trans}
 use Rattle.event_file.specs.Counts.{Counts, one_more, one_more_if, write_failed}
-use Rattle.event_file.specs.Output.{Wrote, WroteFront}
+use Rattle.event_file.specs.Output.{KeptBack, Wrote, WroteFront}
 
 -- what keeps the bytes appends none
 pub Appends-kept_nil : (a b : Option (List ℕ)) → Keeps a b → Appends a b []
@@ -70,6 +70,34 @@ module _ {T : Type 0} {contents : T → Option (List ℕ)} where
     failures = let e = p.failures in let f = q.failures in omega arith;
     reads = q.reads ∙ p.reads;
   }
+
+  -- nothing was written, and all is kept back
+  pub KeptBack-all : (w : Counts T) (t : List ℕ) → KeptBack contents w w t t
+  KeptBack-all w t = record { written = []; whole = refl; wrote = Wrote-nil w }
+
+  -- what stands before was written
+  pub KeptBack-behind : {a b : Counts T} {t : List ℕ} (k : List ℕ) → Wrote contents a b t → KeptBack contents a b (t ++ k) k
+  KeptBack-behind {a} {b} {t} k p = record { written = t; whole = refl; wrote = p }
+
+  -- all was written
+  pub KeptBack-none : {a b : Counts T} {t : List ℕ} → Wrote contents a b t → KeptBack contents a b t []
+  KeptBack-none {a} {b} {t} p = record { written = t; whole = sym (append-nil t); wrote = p }
+
+  -- what is kept back goes on with what comes behind it: kept back itself, written, or stopped
+  pub KeptBack-then : {a b c : Counts T} {t k now : List ℕ} (u : List ℕ) → KeptBack contents a b t k → KeptBack contents b c (k ++ u) now → KeptBack contents a c (t ++ u) now
+  KeptBack-then {a} {b} {c} {t} {k} {now} u p q = record {
+    written = p.written ++ q.written;
+    whole = ap (λ l. l ++ u) p.whole ∙ append_assoc p.written k u ∙ ap (λ l. p.written ++ l) q.whole ∙ sym (append_assoc p.written q.written now);
+    wrote = Wrote-then p.wrote q.wrote;
+  }
+
+  pub KeptBack-written : {a b c : Counts T} {t k : List ℕ} (u : List ℕ) → KeptBack contents a b t k → Wrote contents b c (k ++ u) → Wrote contents a c (t ++ u)
+  KeptBack-written {a} {b} {c} {t} {k} u p q =
+      subst (λ l. Wrote contents a c l) (sym (ap (λ l. l ++ u) p.whole ∙ append_assoc p.written k u)) (Wrote-then p.wrote q)
+
+  pub KeptBack-stopped : {a b c : Counts T} {t k : List ℕ} (u : List ℕ) → KeptBack contents a b t k → WroteFront contents b c (k ++ u) → WroteFront contents a c (t ++ u)
+  KeptBack-stopped {a} {b} {c} {t} {k} u p q =
+      subst (λ l. WroteFront contents a c l) (sym (ap (λ l. l ++ u) p.whole ∙ append_assoc p.written k u)) (WroteFront-then p.wrote q)
 
   -- a write that took some, and one that took none
   pub Wrote-taken : {E : Type 0} (a b : Counts T) (r : Result ℕ E) (bs : List ℕ) → WriteAppends (contents a.inner) (contents b.inner) r bs → b.reads ≡ a.reads

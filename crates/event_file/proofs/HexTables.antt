@@ -23,7 +23,7 @@ value_is byte fits = eqb-true _ _ (passes_at 256 (λ b. slice_index VALUES b == 
 -- both digits of a byte, the first in the lower half
 abbrev pub digits : ℕ → ℕ
 digits byte =
-    let values = bit_or (byte / 16) (bit_and byte 15 * 256 % 65536) in
+    let values = bit_or (byte * 4096 % 65536) byte / 16 in
     values + 12336 + bit_and ((values + 1542) / 16) 257 * 39
 
 firsts_hold : passes_below 256 (λ b. digits b % 256 == slice_index lower_digits (b / 16)) ≡ true

@@ -30,10 +30,26 @@ pasted-then at xs ys room fits =
     ∙ ap (λ f. f ++ drop (n + length ys) room) (append_assoc (take at room) xs ys)
     ∙ ap (λ m. (take at room ++ (xs ++ ys)) ++ drop m room) end
 
--- the line of a message, put to the front of a room
-pub line_put : (m room after : List ℕ) (end : ℕ) → end ≡ 0 + (5 + 2 * length m) → after ≡ pasted 0 (message_line m) room → take end after ≡ message_line m
-line_put m room after end ended stands =
-    ap (take end) stands ∙ take_at (message_line m) (drop (0 + length (message_line m)) room) end (omega (arith, length-message_line m, ended))
+-- three texts, each put behind the one before, are put together
+pub pasted_thrice : (at : ℕ) (xs ys zs room first second third : List ℕ) (here there : ℕ) → at + length xs + length ys ≤ length room → here ≡ at + length xs → there ≡ here + length ys
+    → first ≡ pasted at xs room → second ≡ pasted here ys first → third ≡ pasted there zs second → third ≡ pasted at (xs ++ ys ++ zs) room
+pasted_thrice at xs ys zs room first second third here there fits ends stops is_first is_second is_third =
+    let place : there ≡ at + length (xs ++ ys) = omega (arith, length-append xs ys, ends, stops) in
+    let both : second ≡ pasted at (xs ++ ys) room =
+    is_second ∙ ap (λ (n : ℕ). pasted n ys first) ends ∙ ap (λ (r : List ℕ). pasted (at + length xs) ys r) is_first ∙ pasted-then at xs ys room (omega (arith, fits)) in
+    is_third ∙ ap (λ (n : ℕ). pasted n zs second) place ∙ ap (λ (r : List ℕ). pasted (at + length (xs ++ ys)) zs r) both
+    ∙ pasted-then at (xs ++ ys) zs room (omega (arith, length-append xs ys, fits))
+
+-- what was put behind others stands behind them
+pub put_behind : (at : ℕ) (xs room after : List ℕ) (end : ℕ) → at ≤ length room → end ≡ at + length xs → after ≡ pasted at xs room → take end after ≡ take at room ++ xs
+put_behind at xs room after end fits ended stands =
+    let long : length (take at room ++ xs) ≡ at + length xs = omega (arith, length-append (take at room) xs, length-take-le at room fits) in
+    ap (λ (n : ℕ). take n after) ended ∙ ap (take (at + length xs)) stands ∙ take_at (take at room ++ xs) (drop (at + length xs) room) (at + length xs) long
+
+-- the line of a message, put behind others
+pub line_behind : (at : ℕ) (m room after : List ℕ) (end : ℕ) → at ≤ length room → end ≡ at + (5 + 2 * length m) → after ≡ pasted at (message_line m) room
+    → take end after ≡ take at room ++ message_line m
+line_behind at m room after end fits ended stands = put_behind at (message_line m) room after end fits (omega (arith, length-message_line m, ended)) stands
 
 -- of the messages of the bytes, the lines of those before the rest stand at the front of the room, up to the end
 pub record PutLines (bytes rest old new : List ℕ) (end : ℕ) : Type 0 where

@@ -1,11 +1,11 @@
 //! The text of an answer, put into a room of the caller's.
 ghost use Rattle.std.specs.Prelude.{◌≡◌, ◌≤◌, ◌+◌, ◌*◌, ◌-◌, ◌^◌, ◌++◌, drop, length, min, flat_map};
-ghost use Rattle.event_file.specs.Answers.{closing_line as line_behind, message_line, messages_in, response_text};
+ghost use Rattle.event_file.specs.Answers.{closing_line as line_behind, message_line, messages_in, response_text, size_line as line_of_size};
 ghost use Rattle.event_file.specs.Given.{given, pasted};
 ghost use Rattle.hex.specs.Hex.{encode_lower};
 ghost use Rattle.route_core.specs.Received.{cut, AreMessages};
 
-use crate::answers::{refusal, size_line};
+use crate::answers::{put_size, refusal};
 use crate::choices::choice_line;
 use crate::{Bad, hexadecimal};
 use arrayvec::ArrayVec;
@@ -47,9 +47,18 @@ fn closing_line(answer: &Result<Answer<'_>, Bad>) -> ArrayVec<u8, 128>
         Ok(Answer::Refused(errno) | Answer::Messages(_, Some(errno))) => line_of(&refusal(*errno)),
         Ok(Answer::Routed(choice)) => choice_line("via", choice),
         Ok(Answer::Dropped(choice)) => choice_line("drop", choice),
-        Ok(Answer::Size(size)) => line_of(&size_line(*size)),
+        Ok(Answer::Size(size)) => size_line(*size),
         Err(Bad) => line_of(b"bad\n"),
     }
+}
+
+/// The line of a size.
+fn size_line(size: u64) -> ArrayVec<u8, 128>
+    ensures { result.items ≡ line_of_size size }
+{
+    let mut line = [0; 32];
+    let end = put_size(size, &mut line);
+    line_of(&line[..end])
 }
 
 /// The line with these bytes.
@@ -61,7 +70,7 @@ fn line_of(bytes: &[u8]) -> ArrayVec<u8, 128>
 }
 
 /// How many bytes the lines of the messages have.
-pub(crate) fn lines_size(bytes: &[u8]) -> u128
+fn lines_size(bytes: &[u8]) -> u128
     requires { AreMessages bytes.now }
     ensures size { result ≡ length (flat_map message_line (cut bytes.now)) }
     ensures most { result ≤ 7 * length bytes.now }
@@ -77,7 +86,7 @@ pub(crate) fn lines_size(bytes: &[u8]) -> u128
 }
 
 /// Puts the lines of the messages to the front of `out`, and answers where they end.
-pub(crate) fn put_lines(bytes: &[u8], out: &mut [u8]) -> usize
+fn put_lines(bytes: &[u8], out: &mut [u8]) -> usize
     requires whole { AreMessages bytes.now }
     requires room { length (flat_map message_line (cut bytes.now)) ≤ length out.old }
     ensures end { result ≡ length (flat_map message_line (cut bytes.now)) }

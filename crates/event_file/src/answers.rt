@@ -1,12 +1,12 @@
-ghost use Rattle.std.specs.Prelude.{◌≡◌, ◌+◌, ◌≤◌, ◌++◌, length, flat_map, OnOk, OnErr};
+ghost use Rattle.std.specs.Prelude.{◌≡◌, ◌+◌, ◌≤◌, ◌++◌, length, take, flat_map, IfOk, OnOk, OnErr};
 ghost use Rattle.hex.specs.Hex.{encode_lower};
 ghost use Rattle.sock_addrs.specs.Errno.{errno_number};
 ghost use Rattle.event_file.specs.Answers.{answer_text, choice_line as line_of_choice, last_line, message_line, refusal_line, response_text, size_line as line_of_size};
 ghost use Rattle.event_file.specs.Given.{pasted};
-ghost use Rattle.event_file.specs.Output.{Wrote, WroteFront};
+ghost use Rattle.event_file.specs.Output.{KeptBack, Wrote, WroteFront};
 ghost use Rattle.route_core.specs.Received.{cut, AreMessages};
 
-use crate::answer_text::{lines_size, put, put_line, put_lines};
+use crate::answer_text::{put, put_line};
 use crate::choices::choice_line;
 use crate::output::write_bytes;
 use crate::{Bad, Counted, Stopped, hexadecimal};
@@ -21,8 +21,11 @@ pub const TEXT_ROOM: usize = 4096;
 /// The bytes whose hexadecimal text fills that room.
 const PIECE: usize = 2048;
 
-/// The most bytes of the lines of messages for which that room has place with the line behind them.
-const MOST_AT_ONCE: u128 = 4080;
+/// The most bytes of lines that are kept back in that room, behind which the line that ends an answer has place.
+const MOST_KEPT: usize = 4080;
+
+/// The longest message whose line is kept back, in bytes.
+const MOST_PUT: usize = 2037;
 
 /// Writes the text of a line's answer, going on behind what a short write took: that of an answer, or `bad`. It is refused
 /// at the first write that answers an error or takes no byte, and what was taken before is then a front of that text.
@@ -61,14 +64,14 @@ pub fn write_command_answer<W: Write>(
         Answer::Refused(errno) => write_refusal(*errno, writer),
         Answer::Routed(choice) => write_choice("via", choice, writer),
         Answer::Dropped(choice) => write_choice("drop", choice, writer),
-        Answer::Size(size) => write_size(*size, writer),
+        Answer::Size(size) => write_size(*size, buffer, writer),
         Answer::Messages(received, left_out) => {
             write_received(received.as_bytes(), *left_out, buffer, writer)
         }
     }
 }
 
-/// Writes the line of each message of `bytes` and the line behind them, at once where they fit the buffer.
+/// Writes the line of each message of `bytes` and the line behind them, as many at once as fit the buffer.
 fn write_received<W: Write>(
     bytes: &[u8],
     left_out: Option<Errno>,
@@ -86,12 +89,8 @@ fn write_received<W: Write>(
     if bytes.is_empty() {
         return write_last(left_out, writer);
     }
-    if lines_size(bytes) > MOST_AT_ONCE {
-        write_messages(bytes, buffer, writer)?;
-        return write_last(left_out, writer);
-    }
-    let at = put_lines(bytes, buffer);
-    let end = put_last(left_out, buffer, at);
+    let kept = write_messages(bytes, buffer, writer)?;
+    let end = put_last(left_out, buffer, kept);
     write_bytes(&buffer[..end], writer)
 }
 
@@ -134,13 +133,18 @@ fn write_refusal<W: Write>(errno: Errno, writer: &mut Counted<W>) -> Result<(), 
 }
 
 /// Writes the line of a size.
-#[inline(never)]
-fn write_size<W: Write>(size: u64, writer: &mut Counted<W>) -> Result<(), Stopped>
-    requires { writer.old.failures ≡ 0 }
+fn write_size<W: Write>(
+    size: u64,
+    buffer: &mut [u8],
+    writer: &mut Counted<W>,
+) -> Result<(), Stopped>
+    requires buffer { length buffer.old ≡ TEXT_ROOM }
+    requires no_failure { writer.old.failures ≡ 0 }
     ensures ok { OnOk result (Wrote W.contents writer.old writer.new (line_of_size size)) }
     ensures err { OnErr result (WroteFront W.contents writer.old writer.new (line_of_size size)) }
 {
-    write_bytes(&size_line(size), writer)
+    let end = put_size(size, buffer);
+    write_bytes(&buffer[..end], writer)
 }
 
 /// Writes the line of a packet's route, behind what becomes of the packet.
@@ -171,56 +175,72 @@ pub(crate) fn refusal(errno: Errno) -> ArrayVec<u8, 16>
     line
 }
 
-/// The line of a size: how many bytes to ask for a dump, or how many messages were lost.
-pub(crate) fn size_line(size: u64) -> ArrayVec<u8, 32>
-    ensures { result.items ≡ line_of_size size }
+/// Puts the line of a size to the front of `out`, and answers where it ends: how many bytes to ask for a dump, or how many
+/// messages were lost.
+pub(crate) fn put_size(size: u64, out: &mut [u8]) -> usize
+    requires { 32 ≤ length out.old }
+    ensures end { result ≡ length (line_of_size size) }
+    ensures most { result ≤ 32 }
+    ensures text { out.new ≡ pasted 0 (line_of_size size) out.old }
 {
     let mut digits = itoa::Buffer::new();
-    let mut line = ArrayVec::new();
-    line.try_extend_from_slice(b"size ").unwrap();
-    line.try_extend_from_slice(digits.format(size).as_bytes())
-        .unwrap();
-    line.push(b'\n');
-    line
+    let at = put(b"size ", out, 0);
+    let at = put(digits.format(size).as_bytes(), out, at);
+    put(b"\n", out, at)
 }
 
-/// Writes the line of each message of `bytes`.
+/// Writes the line of each message of `bytes`, but for the last lines, which are kept back in the buffer: answers where
+/// these end there.
 fn write_messages<W: Write>(
     bytes: &[u8],
     buffer: &mut [u8],
     writer: &mut Counted<W>,
-) -> Result<(), Stopped>
+) -> Result<usize, Stopped>
     requires whole { AreMessages bytes.now }
     requires buffer { length buffer.old ≡ TEXT_ROOM }
     requires no_failure { writer.old.failures ≡ 0 }
-    ensures ok { OnOk result (Wrote W.contents writer.old writer.new (flat_map message_line (cut bytes.now))) }
+    ensures most { IfOk result (λ end. end ≤ MOST_KEPT) }
+    ensures ok { IfOk result (λ end. KeptBack W.contents writer.old writer.new
+        (flat_map message_line (cut bytes.now)) (take end buffer.new)) }
     ensures err { OnErr result (WroteFront W.contents writer.old writer.new (flat_map message_line (cut bytes.now))) }
 {
     let mut at = 0;
+    let mut end = 0;
     while at < bytes.len() {
         let message = first_message(&bytes[at..]);
-        write_message(message, buffer, writer)?;
+        end = keep_line(message, buffer, end, writer)?;
         at += message.len();
     }
-    Ok(())
+    Ok(end)
 }
 
-/// Writes the line of one message, at once where it fits the buffer.
-fn write_message<W: Write>(
+/// Keeps the line of a message back behind the lines up to `end` in the buffer, and answers where it ends there. Where
+/// there is no room for it they are written first; a line that is longer than the room is written with them.
+fn keep_line<W: Write>(
     message: &[u8],
     buffer: &mut [u8],
+    end: usize,
     writer: &mut Counted<W>,
-) -> Result<(), Stopped>
+) -> Result<usize, Stopped>
+    requires end { end ≤ MOST_KEPT }
     requires buffer { length buffer.old ≡ TEXT_ROOM }
     requires no_failure { writer.old.failures ≡ 0 }
-    ensures ok { OnOk result (Wrote W.contents writer.old writer.new (message_line message.now)) }
-    ensures err { OnErr result (WroteFront W.contents writer.old writer.new (message_line message.now)) }
+    ensures most { IfOk result (λ now. now ≤ MOST_KEPT) }
+    ensures ok { IfOk result (λ now. KeptBack W.contents writer.old writer.new
+        (take end buffer.old ++ message_line message.now) (take now buffer.new)) }
+    ensures err { OnErr result (WroteFront W.contents writer.old writer.new
+        (take end buffer.old ++ message_line message.now)) }
 {
-    if message.len() >= PIECE - 2 {
-        return write_long_message(message, buffer, writer);
+    if message.len() > MOST_PUT {
+        write_bytes(&buffer[..end], writer)?;
+        write_long_message(message, buffer, writer)?;
+        return Ok(0);
     }
-    let end = put_line(message, buffer, 0);
-    write_bytes(&buffer[..end], writer)
+    if end + 5 + 2 * message.len() <= MOST_KEPT {
+        return Ok(put_line(message, buffer, end));
+    }
+    write_bytes(&buffer[..end], writer)?;
+    Ok(put_line(message, buffer, 0))
 }
 
 /// Writes the line of a message of any length.

@@ -69,7 +69,7 @@ fn digits_of(byte: u8) -> [u8; 2]
     ensures low { slice_index result 1 ≡ slice_index lower_digits (byte % 16) }
 {
     let byte = u16::from(byte);
-    let values = byte >> 4 | (byte & 15) << 8;
+    let values = (byte << 12 | byte) >> 4;
     let letters = (values + TO_16 >> 4) & ONES;
     (values + ZEROS + letters * PAST_9).to_le_bytes()
 }
