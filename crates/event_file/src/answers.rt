@@ -119,8 +119,8 @@ fn write_last<W: Write>(left_out: Option<Errno>, writer: &mut Counted<W>) -> Res
     }
 }
 
-// The lines of a refusal, of a size and of a packet's route are each made in a function of their own that is not
-// inlined, since the room of a line is cleared wherever one is made.
+// The lines of a refusal and of a packet's route are each made in a function of their own that is not inlined, since the
+// room of a line is cleared wherever one is made.
 
 /// Writes the line of a refusal.
 #[inline(never)]
