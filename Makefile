@@ -20,8 +20,10 @@ name = $(firstword $(subst :, ,$(1)))
 named = $(subst $(comma), ,$(lastword $(subst :, ,$(1))))
 names := $(foreach line,$(lines),$(call name,$(line)))
 built = crates/$(1)/out/built
+# The benchmark's program, which is neither built with the others nor installed (bench/run).
+benchmark = bench_main
 # The programs, by their crates, and what each is called.
-programs := $(patsubst crates/%/src/main.rt,%,$(wildcard crates/*/src/main.rt))
+programs := $(filter-out $(benchmark),$(patsubst crates/%/src/main.rt,%,$(wildcard crates/*/src/main.rt)))
 called = $(subst show_main,routeshow,$(subst route_main,routesim,$(1)))
 archive = crates/hoiskend/out/$(1)/libhoiskend.a
 
@@ -30,7 +32,7 @@ MAKEFLAGS += -j$(shell tools/jobs)
 endif
 
 .PHONY: all check install install-library clean
-all: $(foreach crate,$(names),$(call built,$(crate))) $(call archive,$(BACKEND))
+all: $(foreach crate,$(filter-out $(benchmark),$(names)),$(call built,$(crate))) $(call archive,$(BACKEND))
 
 # A crate is built again where one of its files is newer than it, or one that it stands on was.
 define rule
