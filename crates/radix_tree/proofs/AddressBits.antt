@@ -1,7 +1,7 @@
 -- What bits tell of a route's key, and of an address that it covers.
-use Rattle.mask_table.proofs.Agreeing.{bit_of_front, masked_bits, masked_agrees}
+use Rattle.mask_table.proofs.Agreeing.{bit_of_front, masked_bits}
 use Rattle.radix_tree.specs.Tree.{bit_at, Covers}
-use Rattle.radix_tree.proofs.Words.{◌≡◌, ℕ, ◌<◌, ◌≤◌, ◌⊎◌, sym, subst, true, arith, agrees, masked, IsRoute, Entry}
+use Rattle.radix_tree.proofs.Words.{◌≡◌, ℕ, ◌<◌, ◌≤◌, ◌⊎◌, arith, IsRoute, Entry}
 
 pub zero_not_one : {n : ℕ} → n ≡ 0 → n ≡ 1 → ⊥
 zero_not_one zero one = omega arith
@@ -20,12 +20,3 @@ module _ {V : Type 0} where
   pub clear_bit : (b : ℕ) {e : Entry V} → IsRoute e → e.rank ≤ b → b ≤ 31 → bit_at b e.key ≡ 0
   unfolding bit_at
   clear_bit b {e = e} route past within = grind (arith, masked_bits)
-
-  -- a route covers the addresses that are its key once they are masked by its rank
-  pub covered_key : (address : ℕ) (e : Entry V) → IsRoute e → Covers address e → e.key ≡ masked e.rank address
-  unfolding Covers
-  covered_key address e route covers = grind arith
-
-  pub key_covers : (address : ℕ) (e : Entry V) → e.key ≡ masked e.rank address → Covers address e
-  unfolding Covers
-  key_covers address e is = subst (λ k. agrees e.rank k address ≡ true) (sym is) (masked_agrees e.rank address)

@@ -1,9 +1,11 @@
 -- A walk through the masks that a bit node lists.
 use Rattle.radix_tree.proofs.{RoomReads.inside, Parts.fork_is, Parts.fork_lists, Scans.ended_at, Searching.AreListed, Searching.mask_hit, Searching.mask_miss}
-use Rattle.radix_tree.proofs.{Searching.listed_behind, Searching.list_ends, TreeMembers.head_of, TreeMembers.tree_route, TreeMembers.tree_said}
-use Rattle.radix_tree.proofs.Words.{◌≡◌, ℕ, ◌+◌, ◌*◌, ◌≤◌, List, ◌∷◌, Option, Some, None, refl, sym, ap, ◌∙◌, subst, inl, inr, arith, masked, Counter, Id, Leaf}
-use Rattle.radix_tree.proofs.Words.{MaskNode, Reads, LeafPart, MaskPart, Part, MasksAreListed, leaves_in, bits_in, heads_in, masks_in, mask_part, first_room}
-use Rattle.radix_tree.proofs.Words.{leaf_part, MasksStand, Falls, Tells, Finds, HasPair, Best, In, ForkAt, Placed, IsAmong, IsIn, Lodged, number_of}
+use Rattle.radix_tree.proofs.{Searching.listed_behind, Searching.list_ends, TreeMembers.head_of, TreeMembers.tree_said, Scans.agrees_is, Scans.covered}
+use Rattle.radix_tree.proofs.{Scans.not_covered}
+use Rattle.radix_tree.specs.Tree.{Covers}
+use Rattle.radix_tree.proofs.Words.{◌≡◌, ℕ, ◌+◌, ◌≤◌, List, ◌∷◌, Option, Some, None, Bool, true, false, refl, sym, ap, ◌∙◌, subst, inl, inr, arith, agrees}
+use Rattle.radix_tree.proofs.Words.{Counter, Id, Leaf, MaskNode, ReadsOnce, LeafPart, MaskPart, Part, MasksAreListed, leaves_in, bits_in, heads_in, masks_in}
+use Rattle.radix_tree.proofs.Words.{mask_part, first_room, leaf_part, MasksStand, Falls, Tells, Best, In, ForkAt, Placed, IsAmong, IsIn, Lodged, number_of}
 
 module _ {V : Type 0} {m : Lodged V} where
   -- a walk through the list of a bit node, whose masks so far were tried in vain
@@ -20,7 +22,7 @@ module _ {V : Type 0} {m : Lodged V} where
     pub past : top ≤ bit + 1
     pub turn : now.turn ≡ start.turn
     pub rises : start.count ≤ now.count
-    pub few : now.count + 67 * top ≤ start.count + 67 * (bit + 1)
+    pub few : now.count + top ≤ start.count + (bit + 1)
 
   pub begun : {address : ℕ} {p : Part m} {room : Id} {first : Option Id} (v : Counter) (f : ForkAt p room) → MasksAreListed m p
       → heads_in m (number_of room) ≡ first → Through address p f.bit first v v
@@ -48,16 +50,17 @@ module _ {V : Type 0} {m : Lodged V} where
     pub route : Placed V
     pub part : LeafPart V
     pub said : leaves_in m (number_of room) ≡ Some part
+    pub room_is : route.room ≡ room
+    pub key : part.leaf.key ≡ route.entry.key
     pub rank : part.leaf.rank ≡ route.entry.rank
     pub mask : MaskPart
     pub listed : masks_in m (number_of room) ≡ Some mask
     pub block : mask.block ≡ room.block
     pub turn : now.turn ≡ start.turn
     pub rises : start.count ≤ now.count
-    pub soon : now.count + 67 + 67 * p.low ≤ start.count + 67 * (bit + 1)
-    pub hit : (x : Placed V) → Finds (HasPair (masked route.entry.rank address) route.entry.rank) (In p) (Some x) → Best address p.low (bit + 1) (In p) (Some x)
-    pub miss : (later : Counter) → Finds (HasPair (masked route.entry.rank address) route.entry.rank) (In p) None → Reads now later 67
-        → Through address p bit mask.next start later
+    pub soon : now.count + 1 + p.low ≤ start.count + (bit + 1)
+    pub hit : Covers address route.entry → Best address p.low (bit + 1) (In p) (Some route)
+    pub miss : (later : Counter) → (Covers address route.entry → ⊥) → ReadsOnce now later → Through address p bit mask.next start later
 
   pub mask_at : {address : ℕ} {p : Part m} {bit : ℕ} {at : Option Id} {room : Id} {start now : Counter} → Through address p bit at start now → at ≡ Some room
       → Mask address p bit room start now
@@ -72,6 +75,8 @@ module _ {V : Type 0} {m : Lodged V} where
         route = x.first;
         part = leaf_part x.first leaf.0 leaf.1 leaf.2;
         said = ap (λ i. leaves_in m (number_of i)) (sym x.room_is) ∙ leaf.3;
+        room_is = x.room_is;
+        key = refl;
         rank = refl;
         mask = record { block = x.first.room.block; next = first_room x.behind };
         listed = ap (λ i. masks_in m (number_of i)) (sym x.room_is) ∙ stands.0;
@@ -79,8 +84,8 @@ module _ {V : Type 0} {m : Lodged V} where
         turn = w.turn;
         rises = w.rises;
         soon = omega (arith, falls.0, falls.1);
-        hit = λ y found. mask_hit address p.low w.top (bit + 1) x.first x.behind p.tree y falls listed w.tried found;
-        miss = λ later none more. record {
+        hit = mask_hit address p.low w.top (bit + 1) x.first x.behind p.tree falls listed w.tried in_tree;
+        miss = λ later not once. record {
           rest = x.behind;
           top = x.first.entry.rank;
           begins = refl;
@@ -88,34 +93,26 @@ module _ {V : Type 0} {m : Lodged V} where
           falls = falls.2;
           inside = λ y among. w.inside y (subst (IsAmong y) (sym x.is) (inr among));
           listed = listed_behind p.low w.top x.first x.behind p.tree falls listed;
-          tried = mask_miss address p.low w.top (bit + 1) x.first x.behind p.tree (tree_route p.low p.tree p.is) falls listed w.tried none;
+          tried = mask_miss address p.low w.top (bit + 1) x.first x.behind p.tree falls listed w.tried not;
           fits = omega (arith, falls.0);
           past = omega (arith, falls.1);
-          turn = more.turn ∙ w.turn;
+          turn = once.turn ∙ w.turn;
           rises = omega arith;
           few = omega (arith, falls.1);
         };
       }
 
-  -- what was asked for is the mask's pair
-  asked : (address : ℕ) (p : Part m) {key rank own : ℕ} (o : Option Id) → key ≡ masked rank address → rank ≡ own → Tells (Finds (HasPair key rank) (In p)) o
-      → Tells (Finds (HasPair (masked own address) own) (In p)) o
-  asked address p {rank = rank} o key_is rank_is found =
-      subst (λ r. Tells (Finds (HasPair (masked r address) r) (In p)) o) rank_is (subst (λ k. Tells (Finds (HasPair k rank) (In p)) o) key_is found)
-
-  pub hit : {address : ℕ} {p : Part m} {bit : ℕ} {room : Id} {start now : Counter} (x : Mask address p bit room start now) {l : Leaf} {key : ℕ}
-      {o : Option Id}
-      {found : Id} → l ≡ x.part.leaf → key ≡ masked l.rank address → o ≡ Some found
-      → Tells (Finds (HasPair key l.rank) (In p)) o → Tells (Best address p.low (bit + 1) (In p)) (Some found)
-  hit {address} {p} x {l = l} {key = key} {o} {found} is key_is some tells =
-      let told = asked address p (Some found) key_is (ap (λ z. z.rank) is ∙ x.rank) (subst (Tells (Finds (HasPair key l.rank) (In p))) some tells) in
-      (told.0, told.1, x.hit told.0 told.2)
+  -- whether its route covers the address is whether its leaf agrees
+  pub hit : {address : ℕ} {p : Part m} {bit : ℕ} {room : Id} {start now : Counter} (x : Mask address p bit room start now) {l : Leaf} {agree : Bool}
+      → l ≡ x.part.leaf → agree ≡ agrees l.rank l.key address → agree ≡ true → Tells (Best address p.low (bit + 1) (In p)) (Some room)
+  hit {address} {p} x is asked agree =
+      (x.route, x.room_is, x.hit (covered address x.route (sym (agrees_is address x.route is x.key x.rank) ∙ sym asked ∙ agree)))
 
   pub miss : {address : ℕ} {p : Part m} {bit : ℕ} {room : Id} {start now later : Counter} (x : Mask address p bit room start now) {l : Leaf} (n : MaskNode)
-      {key : ℕ} {o : Option Id} → l ≡ x.part.leaf → masks_in m (number_of room) ≡ mask_part room.block (Some n)
-      → key ≡ masked l.rank address → o ≡ None → Tells (Finds (HasPair key l.rank) (In p)) o → Reads now later 67 → Through address p bit n.next start later
-  miss {address} {p} {bit} {start = start} {later = later} x {l = l} n {key = key} is said key_is none tells more =
-      let told = asked address p None key_is (ap (λ z. z.rank) is ∙ x.rank) (subst (Tells (Finds (HasPair key l.rank) (In p))) none tells) in
+      {agree : Bool} → l ≡ x.part.leaf → masks_in m (number_of room) ≡ mask_part room.block (Some n) → agree ≡ agrees l.rank l.key address
+      → agree ≡ false → ReadsOnce now later → Through address p bit n.next start later
+  miss {address} {p} {bit} {start = start} {later = later} x {l = l} n is said asked not once =
+      let more = x.miss later (not_covered address x.route (sym (agrees_is address x.route is x.key x.rank) ∙ sym asked ∙ not)) once in
       search (arith, inside)
 
   pub ended : {address : ℕ} {p : Part m} {bit : ℕ} {at : Option Id} {start now : Counter} → Through address p bit at start now → at ≡ None

@@ -1,8 +1,8 @@
--- What a search beneath a bit node, and one for each of its listed masks, tell of all that is beneath it.
+-- What a search beneath a bit node, and a look at each of its listed masks, tell of all that is beneath it.
 use Rattle.radix_tree.proofs.{TreeMembers.same_rank, TreeMembers.tree_route, TreeMembers.bit_beneath}
-use Rattle.radix_tree.proofs.AddressBits.{zero_not_one, covered_bit, clear_bit, covered_key, key_covers}
-use Rattle.radix_tree.proofs.Words.{◌≡◌, ℕ, ◌+◌, ◌<◌, ◌≤◌, ◌⊎◌, List, [], ◌∷◌, None, Some, inl, inr, arith, masked, IsRoute, Placed, Tree, fork}
-use Rattle.radix_tree.proofs.Words.{bit_at, Covers, IsAmong, IsIn, IsTree, Falls, Finds, HasPair, Best}
+use Rattle.radix_tree.proofs.AddressBits.{zero_not_one, covered_bit, clear_bit}
+use Rattle.radix_tree.proofs.Words.{◌≡◌, ℕ, ◌+◌, ◌<◌, ◌≤◌, ◌⊎◌, List, [], ◌∷◌, None, Some, sym, subst, inl, inr, arith, IsRoute, Placed, Tree, fork}
+use Rattle.radix_tree.proofs.Words.{bit_at, Covers, IsAmong, IsIn, IsTree, Falls, Best}
 
 module _ {V : Type 0} where
   -- the routes beneath a bit node, parted by whether they have the address's bit there
@@ -63,24 +63,28 @@ module _ {V : Type 0} where
       → (y : Placed V) → IsIn y t → y.entry.rank < top → y.entry.rank ≤ m.entry.rank
   none_longer low top m ms t falls listed y at below = grind (arith, falls_below)
 
-  -- a route found for the first mask is the best, once longer masks were tried in vain
-  pub mask_hit : (address low top past : ℕ) (m : Placed V) (ms : List (Placed V)) (t : Tree V) (x : Placed V) → Falls low top (m ∷ ms)
-      → AreListed low top (m ∷ ms) t
-      → Best address top past (λ y. IsIn y t) None → Finds (HasPair (masked m.entry.rank address) m.entry.rank) (λ y. IsIn y t) (Some x)
-      → Best address low past (λ y. IsIn y t) (Some x)
-  mask_hit address low top past m ms t x falls listed tried found = (
-    found.0,
-    grind (arith, key_covers),
+  -- the first mask's route is the best if it covers the address, once longer masks were tried in vain
+  pub mask_hit : (address low top past : ℕ) (m : Placed V) (ms : List (Placed V)) (t : Tree V) → Falls low top (m ∷ ms) → AreListed low top (m ∷ ms) t
+      → Best address top past (λ y. IsIn y t) None → IsIn m t → Covers address m.entry → Best address low past (λ y. IsIn y t) (Some m)
+  mask_hit address low top past m ms t falls listed tried in_tree covers_it = (
+    in_tree,
+    covers_it,
     λ y at covers below. omega (arith, none_longer low top m ms t falls listed y at (tried y at covers below)),
   )
 
-  -- where none is found, that mask was tried in vain too
-  pub mask_miss : (address low top past : ℕ) (m : Placed V) (ms : List (Placed V)) (t : Tree V) → ((y : Placed V) → IsIn y t → IsRoute y.entry)
-      → Falls low top (m ∷ ms) → AreListed low top (m ∷ ms) t
-      → Best address top past (λ y. IsIn y t) None → Finds (HasPair (masked m.entry.rank address) m.entry.rank) (λ y. IsIn y t) None
-      → Best address m.entry.rank past (λ y. IsIn y t) None
-  mask_miss address low top past m ms t routes falls listed tried none y at covers below =
-      grind (arith, covered_key, none_longer low top m ms t falls listed y at (tried y at covers below))
+  -- a route that covers the address is behind the first mask's where that doesn't
+  behind_first : (address low : ℕ) (m : Placed V) (ms : List (Placed V)) → Falls low m.entry.rank ms → (Covers address m.entry → ⊥) → (y : Placed V)
+      → Covers address y.entry → IsAmong y (m ∷ ms) → y.entry.rank < m.entry.rank
+  behind_first address low m ms falls not y covers among = elim among [
+    | inl e ↦ absurd (not (subst (λ z. Covers address z.entry) (sym e) covers))
+    | inr behind ↦ falls_below low m.entry.rank ms falls y behind
+  ]
+
+  -- then that mask was tried in vain too
+  pub mask_miss : (address low top past : ℕ) (m : Placed V) (ms : List (Placed V)) (t : Tree V) → Falls low top (m ∷ ms) → AreListed low top (m ∷ ms) t
+      → Best address top past (λ y. IsIn y t) None → (Covers address m.entry → ⊥) → Best address m.entry.rank past (λ y. IsIn y t) None
+  mask_miss address low top past m ms t falls listed tried not y at covers below =
+      grind (arith, behind_first address low m ms falls.2 not y covers, listed y at, tried y at covers below)
 
   -- what is listed behind the first mask
   pub listed_behind : (low top : ℕ) (m : Placed V) (ms : List (Placed V)) (t : Tree V) → Falls low top (m ∷ ms) → AreListed low top (m ∷ ms) t

@@ -9,7 +9,7 @@ module _ {V : Type 0} {m : Lodged V} where
   pub record Searched (address : ℕ) (start now : Counter) (part : Part m) : Type 0 where
     pub none : Best address part.low 34 (In part) None
     pub rises : start.count ≤ now.count
-    pub few : now.count + 68 * part.low ≤ start.count + 2243
+    pub few : now.count + 2 * part.low ≤ start.count + 131
 
   -- ---- at the leaf
   pub leaf_hit : {address : ℕ} {whole : Part m} {room found : Id} (l : LedTo address whole room) {o : Option Id} → o ≡ Some found
@@ -43,7 +43,7 @@ module _ {V : Type 0} {m : Lodged V} where
   -- or none
   pub miss : {address : ℕ} {whole under : Part m} {room : Id} {start now later : Counter} (o : Over address whole under room) {answer : Option Id}
       → Searched address start now under → answer ≡ None
-      → Tells (Best address o.part.low ((fork_over o).bit + 1) (In o.part)) answer → Reads now later (67 * ((fork_over o).bit + 1 - o.part.low) + 1)
+      → Tells (Best address o.part.low ((fork_over o).bit + 1) (In o.part)) answer → Reads now later ((fork_over o).bit + 1 - o.part.low + 1)
       → Searched address start later o.part
   miss {address} {whole} {under} {room} o s none tells more =
       let b = o.beneath in

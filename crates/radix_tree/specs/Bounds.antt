@@ -1,5 +1,5 @@
 -- How wide an address is, and the bounds that follow.
-use Rattle.std.specs.Prelude.{ℕ, ◌+◌, ◌-◌, ◌*◌}
+use Rattle.std.specs.Prelude.{ℕ, ◌+◌, ◌-◌}
 
 -- an address has so many bits, of which this is the last
 abbrev pub width : ℕ
@@ -32,15 +32,11 @@ chain_reads = ranks
 abbrev pub pair_reads : ℕ
 pair_reads = way_reads + chain_reads
 
--- of a mask that is listed: the mask, and the search with it
-abbrev pub listed_reads : ℕ
-listed_reads = 1 + pair_reads
-
 -- of the best route's room: a way down, the chain at its end and the leaf again, from which it goes up; then each bit
 -- node once, and each of the masks of ranks 0 to 31 once at most, as it is listed at one bit node of a way
 abbrev pub room_reads : ℕ
-room_reads = way_reads + chain_reads + 1 + (width + width * listed_reads)
+room_reads = way_reads + chain_reads + 1 + (width + width)
 
--- of the best route: its room, its leaf and its value. They are 2,245, and 2,400 are promised
+-- of the best route: its room, its leaf and its value. They are 133, and 2,400 are promised
 abbrev pub best_reads : ℕ
 best_reads = room_reads + 2

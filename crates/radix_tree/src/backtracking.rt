@@ -1,6 +1,6 @@
-//! The way up a tree, with a search for each mask that is listed on it.
-ghost use Rattle.std.specs.Prelude.{◌≡◌, ◌+◌, ◌-◌, ◌*◌};
-ghost use Rattle.radix_tree.specs.Bounds.{ranks, pair_reads, listed_reads, room_reads};
+//! The way up a tree, past the masks that are listed on it.
+ghost use Rattle.std.specs.Prelude.{◌≡◌, ◌+◌, ◌-◌};
+ghost use Rattle.radix_tree.specs.Bounds.{ranks, pair_reads, room_reads};
 ghost use Rattle.radix_tree.specs.Reads.{Reads};
 ghost use Rattle.radix_tree.specs.Rooms.{Part, AreListed, name_of, heads_in};
 ghost use Rattle.radix_tree.specs.Searches.{Tells, Finds, Best, HasPair, In, ForkAt};
@@ -10,7 +10,7 @@ ghost use Rattle.radix_nodes.specs.Naming.{number_of};
 use crate::descent::leaf_for;
 use crate::roles;
 use crate::scanning::{first_agreeing, of_pair};
-use mask_table::{Rank, masked};
+use mask_table::{Rank, agrees};
 use radix_nodes::{Id, Node, Nodes, Visits};
 use sock_addrs::Inet;
 
@@ -32,29 +32,29 @@ pub(crate) fn room_of<V>(
     of_pair(nodes, leaf, key, rank, visits)
 }
 
-/// The best route of an address among those beneath a bit node whose masks are listed there, by its room: longer masks
-/// first, each is searched for.
+/// The best route of an address among those beneath a bit node whose masks are listed there, by its room.
+///
+/// No search is needed. All keys beneath the node are the same before its bit, and a listed mask ends before it; so a
+/// route beneath the node that has this mask has one key, and is the very route in whose room the mask is listed.
 fn best_listed<V>(
     nodes: &Nodes<V>,
-    room: Id,
     first: Option<Id>,
     address: Inet,
     visits: &mut Visits,
 ) -> Option<Id>
-    requires node { (p : Part nodes.now.lodged) × ForkAt p room × AreListed nodes.now.lodged p }
-    requires first { heads_in nodes.now.lodged (number_of room) ≡ first }
+    requires node { (p : Part nodes.now.lodged) × (room : Id) × ForkAt p room × AreListed nodes.now.lodged p
+        × (heads_in nodes.now.lodged (number_of room) ≡ first) }
     requires turn { visits.old.turn ≡ nodes.now.turn }
-    ensures best { (p : Part nodes.now.lodged) (f : ForkAt p room) → AreListed nodes.now.lodged p
-        → Tells (Best address p.low (f.bit + 1) (In p)) result }
-    ensures visits { (p : Part nodes.now.lodged) (f : ForkAt p room) → AreListed nodes.now.lodged p
-        → Reads visits.old visits.new (listed_reads * (f.bit + 1 - p.low)) }
+    ensures best { (p : Part nodes.now.lodged) (room : Id) (f : ForkAt p room) → AreListed nodes.now.lodged p
+        → heads_in nodes.now.lodged (number_of room) ≡ first → Tells (Best address p.low (f.bit + 1) (In p)) result }
+    ensures visits { (p : Part nodes.now.lodged) (room : Id) (f : ForkAt p room) → AreListed nodes.now.lodged p
+        → heads_in nodes.now.lodged (number_of room) ≡ first → Reads visits.old visits.new (f.bit + 1 - p.low) }
 {
     let mut at = first;
     while let Some(listed) = at {
         let (leaf, mask) = roles::mask_node(nodes, listed, visits);
-        let key = masked(address, leaf.rank);
-        if let Some(found) = room_of(nodes, Node::Bit(room), key, leaf.rank, visits) {
-            return Some(found);
+        if agrees(leaf.key, leaf.rank, address) {
+            return Some(listed);
         }
         at = mask.next;
     }
@@ -80,7 +80,7 @@ pub(crate) fn best_room<V>(
     let mut at = roles::leaf(nodes, leaf, visits).above;
     while let Some(room) = at {
         let node = roles::bit_node(nodes, room, visits);
-        if let Some(found) = best_listed(nodes, room, node.masks, address, visits) {
+        if let Some(found) = best_listed(nodes, node.masks, address, visits) {
             return Some(found);
         }
         at = node.above;

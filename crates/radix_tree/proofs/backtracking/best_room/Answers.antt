@@ -32,40 +32,40 @@ pub best_listed-requires-clause-node : goal.best_listed-requires-clause-node
 best_listed-requires-clause-node g c =
     let w = c.requires.whole in
     let o = over w.top (c.loop-at.invariant.climb w) c.in-Some-at.is in
-    (o.part, fork_over o, way_lists (λ x. Unit {0}) c.args.address w.part o.part o.ups o.way (whole_listed w))
+    (o.part, c.in-Some-at.room, fork_over o, way_lists (λ x. Unit {0}) c.args.address w.part o.part o.ups o.way (whole_listed w), c.bit_node-node.ensures.node.head)
 
 pub returns-in-Some-best_listed-clause-best : goal.returns-in-Some-best_listed-clause-best
 returns-in-Some-best_listed-clause-best g c w =
     let o = over w.top (c.loop-at.invariant.climb w) c.in-Some-at.is in
-    hit o (c.loop-at.invariant.climb w).holds c.in-Some-best_listed.is (c.best_listed.ensures.best o.part (fork_over o)
-    (way_lists (λ x. Unit {0}) c.args.address w.part o.part o.ups o.way (whole_listed w)))
+    hit o (c.loop-at.invariant.climb w).holds c.in-Some-best_listed.is (c.best_listed.ensures.best o.part _ (fork_over o)
+    (way_lists (λ x. Unit {0}) c.args.address w.part o.part o.ups o.way (whole_listed w)) c.bit_node-node.ensures.node.head)
 
 pub returns-in-Some-best_listed-clause-visits : goal.returns-in-Some-best_listed-clause-visits
 returns-in-Some-best_listed-clause-visits g c =
     let w = c.requires.whole in
     let o = over w.top (c.loop-at.invariant.climb w) c.in-Some-at.is in
-    let more = c.best_listed.ensures.visits o.part (fork_over o) (way_lists (λ x. Unit {0}) c.args.address w.part o.part o.ups o.way (whole_listed w)) in
+    let more = c.best_listed.ensures.visits o.part _ (fork_over o) (way_lists (λ x. Unit {0}) c.args.address w.part o.part o.ups o.way (whole_listed w)) c.bit_node-node.ensures.node.head in
     grind arith
 
 pub loop-at-smaller : goal.loop-at-smaller
 loop-at-smaller g c =
     let w = c.requires.whole in
     let o = over w.top (c.loop-at.invariant.climb w) c.in-Some-at.is in
-    let more = c.best_listed.ensures.visits o.part (fork_over o) (way_lists (λ x. Unit {0}) c.args.address w.part o.part o.ups o.way (whole_listed w)) in
+    let more = c.best_listed.ensures.visits o.part _ (fork_over o) (way_lists (λ x. Unit {0}) c.args.address w.part o.part o.ups o.way (whole_listed w)) c.bit_node-node.ensures.node.head in
     omega (arith, more.rises, ((c.loop-at.invariant.climb w).holds).few, o.beneath.low)
 
 pub loop-at-preserved : goal.loop-at-preserved
 loop-at-preserved g c =
     let w = c.requires.whole in
     let o = over w.top (c.loop-at.invariant.climb w) c.in-Some-at.is in record {
-      turn = (c.best_listed.ensures.visits o.part (fork_over o) (way_lists (λ x. Unit {0}) c.args.address w.part o.part o.ups o.way (whole_listed w))).turn
+      turn = (c.best_listed.ensures.visits o.part _ (fork_over o) (way_lists (λ x. Unit {0}) c.args.address w.part o.part o.ups o.way (whole_listed w)) c.bit_node-node.ensures.node.head).turn
           ∙ c.bit_node-node.ensures.visit.turn ∙ c.loop-at.invariant.turn;
       climb = λ w.
           let o = over w.top (c.loop-at.invariant.climb w) c.in-Some-at.is in
           let lists = way_lists (λ x. Unit {0}) c.args.address w.part o.part o.ups o.way (whole_listed w) in
-          let more = c.best_listed.ensures.visits o.part (fork_over o) lists in
+          let more = c.best_listed.ensures.visits o.part _ (fork_over o) lists c.bit_node-node.ensures.node.head in
           risen o c.bit_node-node.ensures.node (miss o (c.loop-at.invariant.climb w).holds c.in_default-best_listed.is
-          (c.best_listed.ensures.best o.part (fork_over o) lists)
+          (c.best_listed.ensures.best o.part _ (fork_over o) lists c.bit_node-node.ensures.node.head)
           (record { turn = more.turn ∙ c.bit_node-node.ensures.visit.turn; rises = omega arith; bound = omega arith }));
     }
 

@@ -10,4 +10,4 @@ invariant-loop-at g l = record {
 }
 
 abbrev pub decreases-loop-at : goal.decreases-loop-at
-decreases-loop-at g l = (l.fn.visits.count + 2244) - l.visits.count
+decreases-loop-at g l = (l.fn.visits.count + 132) - l.visits.count
