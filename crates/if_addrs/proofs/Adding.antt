@@ -14,7 +14,7 @@ use Rattle.if_addrs.specs.declared.kind.Kind.TheVariants.{Broadcast}
 use Rattle.if_addrs.specs.Interfaces.{Address, Interface, addresses_of, added, addr_fault, fits, has_name, has_number, holds, kind_of, named, new_address, with_address, with_one_more}
 use Rattle.if_addrs.specs.Numbered.{AreNumbered}
 use Rattle.if_addrs.proofs.Keeping.{Stays, stays_added}
-use Rattle.if_addrs.proofs.Numbers.{next_free, numbered_added}
+use Rattle.if_addrs.proofs.Numbers.{next_free}
 
 -- THE INTERFACE OF THE NAME
 
@@ -55,11 +55,11 @@ added_is count items name address prefix cloning far at kind new held d a place 
     (one ∙ ap (λ (i : Interface). with_one_more a i) was ∙ ap (λ (x : Address). with_one_more x (slice_index_or items at d)) same)
 
 -- it is found by its number
-none-left : (o r : Option Address) → option_or o r ≡ None → o ≡ None
+pub none-left : (o r : Option Address) → option_or o r ≡ None → o ≡ None
 none-left None r h = refl
 none-left (Some a) r h = cc
 
-none-right : (o r : Option Address) → option_or o r ≡ None → r ≡ None
+pub none-right : (o r : Option Address) → option_or o r ≡ None → r ≡ None
 none-right None r h = h
 none-right (Some a) r h = cc
 
@@ -77,16 +77,13 @@ find_added q p a (i ∷ is) one none h =
       | false ↦ λ k. find-append q i.addresses more ∙ ap (λ (o : Option Address). option_or o (find q more)) here ∙ find_added q p a is one (none-right _ _ split) k
     ] h
 
-own_number : (a : Address) → has_number a.number a ≡ true
+pub own_number : (a : Address) → has_number a.number a ≡ true
 own_number a = grind (arith, nat_tests)
 
 -- all that is known after one more
 module _ (count : ℕ) (items : List Interface) (name : List ℕ) (address prefix : ℕ) (cloning : Bool) (far : Option ℕ) (h : AreNumbered count items) (there : list_any (has_name name) items ≡ true) where
   abbrev a : Address
   a = new_address (added items + 1) (kind_of name items) address prefix cloning far
-
-  pub numbered_is : AreNumbered (count + 1) (with_address name address prefix cloning far items)
-  numbered_is = numbered_added count items (has_name name) a h there refl
 
   pub there_is : find (has_number (added items + 1)) (addresses_of (with_address name address prefix cloning far items)) ≡ Some a
   there_is = find_added (has_number (added items + 1)) (has_name name) a items (own_number a) (next_free items h.numbers) there

@@ -131,7 +131,7 @@ module _ (f : Address → Address) (same : (a : Address) → told (f a) ≡ told
 -- AFTER ONE MORE INTERFACE
 
 -- a number is an address's where an interface has it
-anywhere : (k : ℕ) (is : List Interface) → list_any (has_number k) (addresses_of is) ≡ list_any (has_numbered k) is
+pub anywhere : (k : ℕ) (is : List Interface) → list_any (has_number k) (addresses_of is) ≡ list_any (has_numbered k) is
 anywhere k [] = refl
 anywhere k (i ∷ is) = list_any-append (has_number k) i.addresses (addresses_of is) ∙ ap (λ b. has_numbered k i || b) (anywhere k is)
 
@@ -140,9 +140,6 @@ on_some k is h = sym (anywhere k is) ∙ (found (has_number k) (addresses_of is)
 
 pub from_some : (k : ℕ) (is : List Interface) → list_any (has_numbered k) is ≡ true → IsSome (find (has_number k) (addresses_of is))
 from_some k is h = sym (found (has_number k) (addresses_of is)) ∙ (anywhere k is ∙ h)
-
-pub has_number_place : (k : ℕ) (is : List Interface) → IsSome (find (has_number k) (addresses_of is)) → IsSome (position (has_numbered k) is)
-has_number_place k is h = has_place (has_numbered k) is (on_some k is h)
 
 module _ {X : Type 0} (r : X → Bool) (ys : List X) where
   first-append : (xs : List X) → list_any r xs ≡ true → position_or_len r (xs ++ ys) ≡ position_or_len r xs
@@ -164,7 +161,7 @@ module _ {X : Type 0} (r : X → Bool) (ys : List X) where
       let more : nat_lt (position_or_len r xs) (length (xs ++ ys)) ≡ true = grind (arith, nat_tests, length-append xs ys) in
       rw (first-append xs h, fits, more) refl
 
-get-append : {X : Type 0} (xs ys : List X) (k : ℕ) → k < length xs → slice_get (xs ++ ys) k ≡ slice_get xs k
+pub get-append : {X : Type 0} (xs ys : List X) (k : ℕ) → k < length xs → slice_get (xs ++ ys) k ≡ slice_get xs k
 get-append [] ys k h = absurd (omega (arith, h))
 get-append (x ∷ xs) ys zero h = refl
 get-append (x ∷ xs) ys (suc k) h = get-append xs ys k (omega (arith, h))

@@ -1,6 +1,8 @@
 pub mod Networks
 pub mod Adding
+pub mod Homes
 pub mod Keeping
+pub mod Marking
 pub mod Numbers
 pub mod ReferenceLawsProved
 pub mod SearchLawsProved

@@ -103,6 +103,7 @@ once_attached is i h none =
 pub numbered_attached : (n : ℕ) (is : List Interface) (i : Interface) → AreNumbered n is → i.addresses ≡ [] → length is < 64 → AreNumbered n (is ++ i ∷ [])
 numbered_attached n is i h none room = record {
   counted = ap (λ (xs : List Address). length xs) (same_attached is i none) ∙ h.counted;
+  none_before = ap (λ (xs : List Address). count_by (has_number 0) xs) (same_attached is i none) ∙ h.none_before;
   numbers = once_attached is i h.numbers none;
   few = omega (arith, room, length-append is (i ∷ []));
 }
@@ -115,6 +116,10 @@ one_more_once k n m false same few past = omega (arith, few)
 one_more_past : (k n m : ℕ) (b : Bool) → nat_eq (n + 1) k ≡ b → n + 1 < k → (n < k → m ≡ 0) → m + cond b 1 0 ≡ 0
 one_more_past k n m true same past none = absurd (grind (arith, nat_tests))
 one_more_past k n m false same past none = (let last : n < k = omega (arith, past) in omega (arith, none last))
+
+one_more_before : (n m : ℕ) (b : Bool) → nat_eq (n + 1) 0 ≡ b → m ≡ 0 → m + cond b 1 0 ≡ 0
+one_more_before n m true same none = absurd (grind (arith, nat_tests))
+one_more_before n m false same none = omega (arith, none)
 
 pub once_added : (is : List Interface) (p : Interface → Bool) (a : Address) → NumberedOnce is → list_any p is ≡ true → a.number ≡ added is + 1
     → NumberedOnce (change_first p (with_one_more a) is)
@@ -131,6 +136,7 @@ pub numbered_added : (n : ℕ) (is : List Interface) (p : Interface → Bool) (a
     → AreNumbered (n + 1) (change_first p (with_one_more a) is)
 numbered_added n is p a h there next = record {
   counted = added_one p a is there ∙ ap (λ (k : ℕ). k + 1) h.counted;
+  none_before = uses_added 0 p a is there ∙ one_more_before (added is) (uses 0 is) (has_number 0 a) (ap (λ (m : ℕ). nat_eq m 0) (sym next)) h.none_before;
   numbers = once_added is p a h.numbers there next;
   few = omega (arith, length-change_first p (with_one_more a) is, h.few);
 }
@@ -139,10 +145,12 @@ numbered_added n is p a h there next = record {
 all_same : (was is : List Interface) → map told (addresses_of is) ≡ map told (addresses_of was) → added is ≡ added was
 all_same was is same = sym (length-map (addresses_of is) told) ∙ ap (λ (xs : List Address). length xs) same ∙ length-map (addresses_of was) told
 
+uses_same : (k : ℕ) (was is : List Interface) → map told (addresses_of is) ≡ map told (addresses_of was) → uses k is ≡ uses k was
+uses_same k was is same = sym (count-map told (has_number k) (addresses_of is)) ∙ ap (λ (xs : List Address). count_by (has_number k) xs) same ∙ count-map told (has_number k) (addresses_of was)
+
 pub once_same : (was is : List Interface) → map told (addresses_of is) ≡ map told (addresses_of was) → NumberedOnce was → NumberedOnce is
 once_same was is same h =
-    let each : (k : ℕ) → uses k is ≡ uses k was = λ k.
-    sym (count-map told (has_number k) (addresses_of is)) ∙ ap (λ (xs : List Address). count_by (has_number k) xs) same ∙ count-map told (has_number k) (addresses_of was) in
+    let each : (k : ℕ) → uses k is ≡ uses k was = λ k. uses_same k was is same in
     record {
       once = λ k. rw (each k) (h.once k);
       none_past = λ k past. (let less : added was < k = rw (← all_same was is same) past in rw (each k) (h.none_past k less));
@@ -151,6 +159,7 @@ once_same was is same h =
 pub numbered_same : (n : ℕ) (was is : List Interface) → map told (addresses_of is) ≡ map told (addresses_of was) → length is ≡ length was → AreNumbered n was → AreNumbered n is
 numbered_same n was is same len h = record {
   counted = all_same was is same ∙ h.counted;
+  none_before = uses_same 0 was is same ∙ h.none_before;
   numbers = once_same was is same h.numbers;
   few = rw len h.few;
 }

@@ -101,7 +101,7 @@ one_of x None a h = inl cc
 one_of x (Some y) a h = elim (nat_lt x.prefix y.prefix) as (λ b. (if b then Some y else Some x) ≡ Some a → (x ≡ a) ⊎ (Some y ≡ Some a))
     [ true ↦ λ k. inr k | false ↦ λ k. inl cc ] h
 
-or_true : (b : Bool) → (b || true) ≡ true
+pub or_true : (b : Bool) → (b || true) ≡ true
 or_true true = refl
 or_true false = refl
 

@@ -1,4 +1,5 @@
 pub mod Facts
+pub mod Homes
 pub mod InterfaceLaws
 pub mod Interfaces
 pub mod Keeping

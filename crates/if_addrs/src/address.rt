@@ -1,6 +1,6 @@
 ghost use Rattle.std.specs.Prelude.{◌≡◌, filter};
-ghost use Rattle.std.specs.List.{find, position};
-ghost use Rattle.if_addrs.specs.Interfaces.{new_address, last_of_network, far_of, is_at, has_number as is_numbered, reference as reference_to};
+ghost use Rattle.std.specs.List.{find};
+ghost use Rattle.if_addrs.specs.Interfaces.{new_address, last_of_network, far_of, is_at, reference as reference_to};
 ghost use Rattle.if_addrs.specs.Facts.{facts_of};
 ghost use Rattle.if_addrs.specs.Searches.{answers_to, leads_to, network_holds, longest as longest_of};
 ghost use Rattle.if_addrs.specs.Wanted.{is_wanted, marked, better};
@@ -11,11 +11,9 @@ use mask_table::{Prefix, Rank, agrees};
 use sock_addrs::Inet;
 use std::marker::Model;
 
-/// What a search asks of an address. But for the number, it asks also that the address was not removed.
+/// What a search asks of an address, beside that it was not removed.
 #[derive(Drop)]
 pub(crate) enum Wanted {
-    /// This is its number.
-    Number(u16),
     /// It is this address.
     Same(Inet),
     /// It is this address, or this is its broadcast address.
@@ -110,19 +108,11 @@ impl Address {
         !self.removed && self.address == address
     }
 
-    /// Whether this is its number.
-    pub(crate) fn has_number(&self, number: u16) -> bool
-        ensures { result ≡ is_numbered number self.now }
-    {
-        self.number == number
-    }
-
     /// Whether it is as a search wants it.
     pub(crate) fn is_wanted(&self, wanted: &Wanted) -> bool
         ensures { result ≡ is_wanted wanted.now self.now }
     {
         match wanted {
-            Wanted::Number(number) => self.has_number(*number),
             Wanted::Same(address) => self.is_at(*address),
             Wanted::Own(address) => !self.removed && self.answers_to(*address),
             Wanted::Far(address) => !self.removed && self.leads_to(*address),
@@ -209,13 +199,6 @@ fn last_of_network(address: Inet, prefix: Prefix) -> Inet
     let network = u64::from(address.number()) >> free;
     let next = (network + 1) << free;
     Inet::new((next - 1) as u32)
-}
-
-/// The place of the address with this number.
-pub(crate) fn place_of_number(addresses: &[Address], number: u16) -> Option<usize>
-    ensures { result ≡ position (is_numbered number) addresses.now }
-{
-    addresses.iter().position(|a| a.has_number(number))
 }
 
 /// The first that is as a search wants it.

@@ -1,8 +1,8 @@
-ghost use Rattle.std.specs.Prelude.{◌≡◌, filter, is_err, option_map, OnOk, OnErr};
+ghost use Rattle.std.specs.Prelude.{◌≡◌, ◌<◌, length, filter, is_err, option_map, slice_get, Some, OnOk, OnErr};
 ghost use Rattle.std.specs.List.{find, list_any, position};
-ghost use Rattle.if_addrs.specs.Interfaces.{addresses_of, attached, has_name as is_named, named, holds, has_number, has_numbered as holds_number, with_one_more, with_changed, link_text};
+ghost use Rattle.if_addrs.specs.Interfaces.{addresses_of, attached, has_name as is_named, named, holds, with_one_more, link_text};
 ghost use Rattle.if_addrs.specs.Searches.{standing, nearest as nearest_of, longest as longest_of};
-ghost use Rattle.if_addrs.specs.Wanted.{is_wanted, marked};
+ghost use Rattle.if_addrs.specs.Wanted.{is_wanted, with_marked};
 ghost use Rattle.memory.specs.Refusing.{Rises};
 
 use crate::address::{self, Address, Mark, Wanted};
@@ -78,11 +78,19 @@ impl Interface {
         self.addresses.iter().any(|a| a.is_at(address))
     }
 
-    /// Whether it has the address with this number.
-    fn has_number(&self, number: u16) -> bool
-        ensures { result ≡ holds_number number self.now }
+    /// How many addresses it was ever given.
+    pub(crate) fn count(&self) -> usize
+        ensures { result ≡ length self.now.addresses }
     {
-        self.addresses.iter().any(|a| a.has_number(number))
+        self.addresses.len()
+    }
+
+    /// The address at this place.
+    pub(crate) fn address_at(&self, place: usize) -> Address
+        requires { place < length self.now.addresses }
+        ensures { slice_get self.now.addresses place ≡ Some result }
+    {
+        self.addresses[place]
     }
 
     /// The first of its addresses that is as a search wants it.
@@ -118,13 +126,12 @@ impl Interface {
         memory.push(&mut self.addresses, address)
     }
 
-    /// Marks the address with this number, where it has it.
-    pub(crate) fn mark(&mut self, number: u16, mark: Mark)
-        ensures { self.new ≡ with_changed number (marked mark) self.old }
+    /// Marks the address at this place.
+    pub(crate) fn mark(&mut self, place: usize, mark: Mark)
+        requires { place < length self.old.addresses }
+        ensures { self.new ≡ with_marked place mark self.old }
     {
-        if let Some(at) = address::place_of_number(&self.addresses, number) {
-            self.addresses[at].mark(mark);
-        }
+        self.addresses[place].mark(mark);
     }
 
     /// Its link-layer address as a message writes it, `index` being the interface's number.
@@ -149,15 +156,6 @@ pub(crate) fn named(interfaces: &[Interface], name: Name) -> Option<&Interface>
     ensures { option_map (λ i. i.now) result ≡ named name interfaces.now }
 {
     interfaces.iter().find(|interface| interface.has_name(name))
-}
-
-/// The place of the interface that has the address with this number.
-pub(crate) fn place_of_number(interfaces: &[Interface], number: u16) -> Option<usize>
-    ensures { result ≡ position (holds_number number) interfaces.now }
-{
-    interfaces
-        .iter()
-        .position(|interface| interface.has_number(number))
 }
 
 /// Whether one of them has this name.

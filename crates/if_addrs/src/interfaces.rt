@@ -1,14 +1,17 @@
-ghost use Rattle.std.specs.Prelude.{◌≡◌, ◌+◌, ◌≤◌, [], ◌∷◌, ◌++◌, length, unwrap_or, Some, None, IsSome, is_err, option_map, OnOk, OnErr, IfOk, IfErr};
+ghost use Rattle.std.specs.Prelude.{◌≡◌, ◌+◌, ◌≤◌, [], ◌∷◌, ◌++◌, length, unwrap_or, Some, None, IsSome, IfSome, IfNone, is_err, option_map, OnOk, OnErr, IfOk, IfErr};
 ghost use Rattle.std.specs.Result.{result_err};
 ghost use Rattle.if_addrs.specs.Facts.{facts_of};
+ghost use Rattle.if_addrs.specs.Homes.{IsHome};
 ghost use Rattle.if_addrs.specs.Interfaces.{attach_fault, attached, addr_fault, added, kind_of, new_address, with_address, address_of, find_addr, interface_of as index_of, link_text_of, text_of, marked_routed, without_addr, changed, IsOf, IsStanding};
 ghost use Rattle.if_addrs.specs.Keeping.{KeepsIfas, SameIfas};
 ghost use Rattle.if_addrs.specs.Wanted.{marked};
+ghost use Rattle.if_addrs.specs.declared.reference.IfaRef.TheVariants as ifa;
 ghost use Rattle.memory.specs.Refusing.{Rises};
 ghost use Rattle.sock_addrs.specs.Errno.{is_no_memory};
 
 use crate::address::{Address, Mark, Wanted};
-use crate::interface::{Interface, first, is_in_use, is_there, named, place_of, place_of_number};
+use crate::home::Home;
+use crate::interface::{Interface, is_in_use, is_there, named, place_of};
 use crate::kind::Kind;
 use crate::limits::{MOST_ADDRESSES, MOST_INTERFACES};
 use crate::link_address::LinkAddress;
@@ -24,8 +27,8 @@ use std::marker::Model;
 #[derive(Drop)]
 pub struct Interfaces {
     pub(crate) interfaces: Vec<Interface>,
-    /// How many addresses were ever added.
-    added: u16,
+    /// Where each address stands, by its number from 1 on.
+    homes: Vec<Home>,
     alloc: Global,
 }
 
@@ -35,11 +38,11 @@ impl Model for Interfaces {
 
     ghost Value = { List Seen };
 
-    ghost use Rattle.if_addrs.specs.Numbered.{AreNumbered};
+    ghost use Rattle.if_addrs.specs.Homes.{AreAtHome};
 
     ghost view = { λ i. i.interfaces.items };
 
-    ghost invariant = { λ i. AreNumbered i.added i.interfaces.items };
+    ghost invariant = { λ i. AreAtHome i.homes.items i.interfaces.items };
 }
 
 impl Interfaces {
@@ -49,7 +52,7 @@ impl Interfaces {
     {
         Interfaces {
             interfaces: Vec::new(alloc),
-            added: 0,
+            homes: Vec::new(alloc),
             alloc,
         }
     }
@@ -110,7 +113,7 @@ impl Interfaces {
         if is_in_use(&self.interfaces, address) {
             return Err(Errno::EADDRINUSE);
         }
-        if self.added == MOST_ADDRESSES {
+        if self.homes.len() >= usize::from(MOST_ADDRESSES) {
             return Err(Errno::ENOSPC);
         }
         Ok(())
@@ -139,12 +142,17 @@ impl Interfaces {
         ensures kept { OnErr result (self.new ≡ self.old) }
         ensures counted { Rises (is_err result) memory.old memory.new }
     {
-        let number = self.added + 1;
+        let number = self.homes.len() as u16 + 1;
         let at = place_of(&self.interfaces, name).unwrap();
+        memory.reserve(&mut self.homes, 1)?;
         let interface = &mut self.interfaces[at];
+        let home = Home {
+            interface: at as u8,
+            address: interface.count() as u16,
+        };
         let address = Address::new(number, interface.kind(), address, prefix, cloning, far);
         interface.add(address, memory)?;
-        self.added = number;
+        self.homes.push(home).unwrap();
         Ok(IfaRef::Inet(number))
     }
 
@@ -191,10 +199,18 @@ impl Interfaces {
         ensures same { SameIfas self.old self.new }
     {
         if let IfaRef::Inet(number) = ifa {
-            let at = place_of_number(&self.interfaces, number).unwrap();
-            let interface = &mut self.interfaces[at];
-            interface.mark(number, mark);
+            let home = self.home(number).unwrap();
+            let interface = &mut self.interfaces[usize::from(home.interface)];
+            interface.mark(usize::from(home.address), mark);
         }
+    }
+
+    /// Where the address with this number stands.
+    fn home(&self, number: u16) -> Option<Home>
+        ensures some { IfSome result (λ home. IsHome number home self.now) }
+        ensures none { IfNone result (address_of (ifa.Inet number) self.now ≡ None) }
+    {
+        self.homes.get(usize::from(number).checked_sub(1)?).copied()
     }
 
     /// The address itself, where it is none of a link layer.
@@ -202,7 +218,11 @@ impl Interfaces {
         ensures { result ≡ address_of ifa self.now }
     {
         match ifa {
-            IfaRef::Inet(number) => first(&self.interfaces, &Wanted::Number(number)),
+            IfaRef::Inet(number) => {
+                let home = self.home(number)?;
+                let interface = &self.interfaces[usize::from(home.interface)];
+                Some(interface.address_at(usize::from(home.address)))
+            }
             IfaRef::Link(_) => None,
         }
     }
@@ -234,10 +254,7 @@ impl Interfaces {
         ensures last { result ≤ length self.now }
     {
         match ifa {
-            IfaRef::Inet(number) => {
-                let at = place_of_number(&self.interfaces, number).unwrap();
-                at as u16 + 1
-            }
+            IfaRef::Inet(number) => u16::from(self.home(number).unwrap().interface) + 1,
             IfaRef::Link(index) => index,
         }
     }

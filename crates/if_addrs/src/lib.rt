@@ -2,6 +2,7 @@
 #![tactic(auto)]
 
 mod address;
+mod home;
 mod interface;
 mod interfaces;
 mod kind;

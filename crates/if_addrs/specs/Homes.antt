@@ -1,0 +1,21 @@
+-- Where the code finds an address by its number: it keeps the home of each.
+use Rattle.std.specs.Prelude.{◌≡◌, ℕ, ◌+◌, List, [], length, Some, slice_get}
+use Rattle.std.specs.List.{position}
+use Rattle.std.specs.Option.{option_map_or}
+use Rattle.if_addrs.specs.Interfaces.{Address, Interface, has_number, has_numbered}
+use Rattle.if_addrs.specs.Numbered.{AreNumbered}
+use Rattle.if_addrs.specs.declared.home.Home.{Home}
+
+-- the addresses of the interface at a place
+abbrev pub addresses_at : ℕ → List Interface → List Address
+addresses_at place interfaces = option_map_or (λ i. i.addresses) (slice_get interfaces place) []
+
+-- here a search for the address with this number would end
+pub record IsHome (number : ℕ) (home : Home) (interfaces : List Interface) : Type 0 where
+  pub interface : position (has_numbered number) interfaces ≡ Some home.interface
+  pub address : position (has_number number) (addresses_at home.interface interfaces) ≡ Some home.address
+
+-- there is a home for each number from 1 on
+pub record AreAtHome (homes : List Home) (interfaces : List Interface) : Type 0 where
+  pub numbered : AreNumbered (length homes) interfaces
+  pub at_home : (k : ℕ) (home : Home) → slice_get homes k ≡ Some home → IsHome (k + 1) home interfaces

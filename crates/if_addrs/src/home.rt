@@ -1,0 +1,8 @@
+/// Where an address stands.
+#[derive(Clone, Copy)]
+pub(crate) struct Home {
+    /// The place of its interface.
+    pub(crate) interface: u8,
+    /// Its place among the addresses of that interface.
+    pub(crate) address: u16,
+}
