@@ -1,5 +1,6 @@
 pub mod Facts
 pub mod Homes
+pub mod Indexed
 pub mod InterfaceLaws
 pub mod Interfaces
 pub mod Keeping

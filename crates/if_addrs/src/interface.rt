@@ -3,9 +3,11 @@ ghost use Rattle.std.specs.List.{find, list_any, position};
 ghost use Rattle.if_addrs.specs.Interfaces.{addresses_of, attached, has_name as is_named, named, holds, with_one_more, link_text};
 ghost use Rattle.if_addrs.specs.Searches.{standing, nearest as nearest_of, longest as longest_of};
 ghost use Rattle.if_addrs.specs.Wanted.{is_wanted, with_marked};
+ghost use Rattle.if_addrs.specs.declared.address.Wanted.TheVariants.{Near};
 ghost use Rattle.memory.specs.Refusing.{Rises};
 
 use crate::address::{self, Address, Mark, Wanted};
+use crate::addresses::Addresses;
 use crate::kind::Kind;
 use crate::link_address::LinkAddress;
 use memory::Memory;
@@ -20,7 +22,7 @@ pub(crate) struct Interface {
     kind: Kind,
     type_number: u8,
     link: LinkAddress,
-    addresses: Vec<Address>,
+    addresses: Addresses,
 }
 
 impl Model for Interface {
@@ -33,7 +35,7 @@ impl Model for Interface {
       kind = i.kind;
       type_number = i.type_number;
       link = i.link;
-      addresses = i.addresses.items;
+      addresses = i.addresses;
     } };
 }
 
@@ -53,7 +55,7 @@ impl Interface {
             kind,
             type_number,
             link,
-            addresses: Vec::new(alloc),
+            addresses: Addresses::new(alloc),
         }
     }
 
@@ -75,7 +77,7 @@ impl Interface {
     fn holds(&self, address: Inet) -> bool
         ensures { result ≡ holds address self.now }
     {
-        self.addresses.iter().any(|a| a.is_at(address))
+        self.addresses.first(&Wanted::Same(address)).is_some()
     }
 
     /// How many addresses it was ever given.
@@ -90,21 +92,21 @@ impl Interface {
         requires { place < length self.now.addresses }
         ensures { slice_get self.now.addresses place ≡ Some result }
     {
-        self.addresses[place]
+        self.addresses.get(place)
     }
 
     /// The first of its addresses that is as a search wants it.
     pub(crate) fn first(&self, wanted: &Wanted) -> Option<Address>
         ensures { result ≡ find (is_wanted wanted.now) self.now.addresses }
     {
-        address::first(&self.addresses, wanted)
+        self.addresses.first(wanted)
     }
 
-    /// The first of the longest prefix among its addresses that are as a search wants them.
-    fn longest(&self, wanted: &Wanted) -> Option<Address>
-        ensures { result ≡ longest_of (filter (is_wanted wanted.now) self.now.addresses) }
+    /// The first of the longest prefix among its addresses whose network holds this one.
+    fn longest(&self, sought: Inet) -> Option<Address>
+        ensures { result ≡ longest_of (filter (is_wanted (Near sought)) self.now.addresses) }
     {
-        address::longest(&self.addresses, wanted)
+        self.addresses.longest(sought)
     }
 
     /// The first of its addresses whose network holds this one, or else its first.
@@ -119,11 +121,12 @@ impl Interface {
 
     /// Appends an address.
     pub(crate) fn add(&mut self, address: Address, memory: &mut Memory) -> Result<(), AllocError>
+        requires { length self.old.addresses < 65536 }
         ensures ok { OnOk result (self.new ≡ with_one_more address self.old) }
         ensures kept { OnErr result (self.new ≡ self.old) }
         ensures counted { Rises (is_err result) memory.old memory.new }
     {
-        memory.push(&mut self.addresses, address)
+        self.addresses.add(address, memory)
     }
 
     /// Marks the address at this place.
@@ -131,7 +134,7 @@ impl Interface {
         requires { place < length self.old.addresses }
         ensures { self.new ≡ with_marked place mark self.old }
     {
-        self.addresses[place].mark(mark);
+        self.addresses.mark(place, mark);
     }
 
     /// Its link-layer address as a message writes it, `index` being the interface's number.
@@ -185,14 +188,14 @@ pub(crate) fn first(interfaces: &[Interface], wanted: &Wanted) -> Option<Address
     None
 }
 
-/// The first of the longest prefix among their addresses that are as a search wants them.
+/// The first of the longest prefix among their addresses whose network holds this one.
 #[tactic(auto, using(crate::proofs::Searching::better_none))]
-pub(crate) fn longest(interfaces: &[Interface], wanted: &Wanted) -> Option<Address>
-    ensures { result ≡ longest_of (filter (is_wanted wanted.now) (addresses_of interfaces.now)) }
+pub(crate) fn longest(interfaces: &[Interface], sought: Inet) -> Option<Address>
+    ensures { result ≡ longest_of (filter (is_wanted (Near sought)) (addresses_of interfaces.now)) }
 {
     let mut best = None;
     for interface in interfaces {
-        best = address::better(best, interface.longest(wanted));
+        best = address::better(best, interface.longest(sought));
     }
     best
 }

@@ -2,7 +2,10 @@
 #![tactic(auto)]
 
 mod address;
+mod addresses;
+mod bucket;
 mod home;
+mod index;
 mod interface;
 mod interfaces;
 mod kind;

@@ -2,12 +2,13 @@ use Rattle.std.proofs.Common.{◌∙◌, ◌+◌, ap, Option, drop, filter}
 use Rattle.if_addrs.specs.Interfaces.{Address, Interface, addresses_of}
 use Rattle.if_addrs.specs.Searches.{longest}
 use Rattle.if_addrs.specs.Wanted.{is_wanted, better}
+use Rattle.if_addrs.specs.declared.address.Wanted.TheVariants.{Near}
 use Rattle.if_addrs.proofs.Searching.{longest_from}
 use Rattle.if_addrs.proofs.interface.longest.Goals as goal
 
 pub loop-interface-preserved : goal.loop-interface-preserved
 loop-interface-preserved c =
-    let p = is_wanted c.args.wanted.now in
+    let p = is_wanted (Near c.args.sought) in
     let is = c.args.interfaces.now in
     let i = c.loop-interface.interface-index in
     let here = c.longest.ensures ∙ ap (λ (x : Interface). longest (filter p x.addresses)) c.interface-item.is in

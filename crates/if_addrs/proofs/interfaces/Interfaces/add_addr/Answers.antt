@@ -5,7 +5,7 @@ use Rattle.if_addrs.proofs.Adding.{is_named, added_is, there_is, stays_is}
 use Rattle.if_addrs.proofs.Homes.{added_at_home, few_at}
 use Rattle.if_addrs.proofs.Keeping.{Stays, has_place, keeps_by, same_by}
 use Rattle.if_addrs.proofs.interfaces.Interfaces.add_addr.Goals as goal
-use Rattle.if_addrs.proofs.interfaces.Interfaces.add_addr.Goals.{After-unwrap, In_ok-add}
+use Rattle.if_addrs.proofs.interfaces.Interfaces.add_addr.Goals.{After-index_mut-interface, After-unwrap, In_ok-add}
 
 pub unwrap-at-requires : goal.unwrap-at-requires
 unwrap-at-requires c =
@@ -29,13 +29,20 @@ changed c =
     added_is (length c.self.inside.homes.items) items c.args.name c.args.address c.args.prefix c.args.cloning c.args.far c.unwrap-at.result c.kind.result c.add.new.self c.index_mut-interface.result.now c.index_mut-interface.result.now c.new-address.result
     (place c) c.in_ok-add.ensures.ok c.index_mut-interface.ensures.value c.kind.ensures (is_new c) c.self.invariant.numbered.counted
 
-pub overflow_cast-home-2 : goal.overflow_cast-home-2
-overflow_cast-home-2 c =
+-- it has few addresses yet
+few : (c : After-index_mut-interface) → length c.index_mut-interface.result.now.addresses < 65535
+few c =
     let items = c.self.inside.interfaces.items in
     let d = c.index_mut-interface.result.now in
     let room : added items < 65535 = search rules in
     let within : c.unwrap-at.result < length items = search rules in
-    omega (arith, room, few_at items c.unwrap-at.result d within, c.count.ensures, ap (λ (i : Interface). length i.addresses) c.index_mut-interface.ensures.value)
+    omega (arith, room, few_at items c.unwrap-at.result d within, ap (λ (i : Interface). length i.addresses) c.index_mut-interface.ensures.value)
+
+pub overflow_cast-home-2 : goal.overflow_cast-home-2
+overflow_cast-home-2 c = omega (arith, few (goal.at.overflow_cast-home-2 c).After-index_mut-interface, c.count.ensures)
+
+pub add-requires : goal.add-requires
+add-requires c = omega (arith, few (goal.at.add-requires c).After-index_mut-interface)
 
 -- its home is kept
 pushed : (c : After-unwrap) → c.push.new.self.items ≡ c.self.inside.homes.items ++ record { interface = c.unwrap-at.result; address = c.count.result } ∷ []
