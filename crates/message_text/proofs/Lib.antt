@@ -3,6 +3,8 @@ pub mod AddressesTold
 pub mod BytesTold
 pub mod HeaderLines
 pub mod HeadersTold
+pub mod Digits
+pub mod HexDigits
 pub mod HexText
 pub mod Joined
 pub mod LinesTold
@@ -11,5 +13,6 @@ pub mod Onto
 pub mod Parting
 pub mod Padding
 pub mod Printable
+pub mod Rooms
 pub mod TextLines
 pub mod Told

@@ -1,12 +1,15 @@
 //! The addresses behind a header.
-ghost use Rattle.std.specs.Prelude.{◌≡◌, ◌+◌, ◌≤◌, ◌++◌, true, false, None, drop, length, MatchOption, OnOk, IfOk, is_err};
+ghost use Rattle.std.specs.Prelude.{◌≡◌, ◌+◌, ◌≤◌, ◌++◌, ◌==◌, ◌||◌, true, false, None, codes, drop, length, MatchOption, IfOk, is_err};
 ghost use Rattle.memory.specs.Refusing.{Rises};
 ghost use Rattle.sock_addrs.specs.Reading.{length_byte};
 ghost use Rattle.sock_addrs.specs.Rounding.{rounded};
 ghost use Rattle.message_text.specs.Addresses.{address_line, address_lines, address_text, behind, begins as begins_there, dotted, front, is_inet, mask_in, one_passes, passes, place, places, rest_line};
+ghost use Rattle.message_text.specs.Room.{so_far, written};
 
-use crate::link::{byte_at, is_link_sockaddr, put_link, put_named_hex};
-use crate::rows::put_number;
+use crate::hexadecimal::put_hex;
+use crate::link::{byte_at, is_link_sockaddr, put_link};
+use crate::pages::{LINE, ROOM, make_room, put_named_hex};
+use crate::room::{put, put_decimal};
 use memory::Memory;
 use route_msgs::Sockaddr;
 use route_msgs::bits::{
@@ -18,15 +21,18 @@ use std::alloc::AllocError;
 
 /// Puts bytes 4 to 7 as `10.0.0.1`.
 #[tactic(auto, unfolding(crate::specs::Addresses::dotted))]
-fn put_dotted(sockaddr: &[u8], out: &mut Vec<u8>, memory: &mut Memory) -> Result<(), AllocError>
-    ensures text { OnOk result (out.new.items ≡ out.old.items ++ dotted sockaddr.now) }
-    ensures counted { Rises (is_err result) memory.old memory.new }
+fn put_dotted(sockaddr: &[u8], room: &mut [u8], at: usize) -> usize
+    requires { at + 43 ≤ length room.old }
+    ensures most { result ≤ at + 43 }
+    ensures text { written room.new result ≡ written room.old at ++ dotted sockaddr.now }
 {
-    put_number("", u32::from(byte_at(sockaddr, 4)), ".", out, memory)?;
-    put_number("", u32::from(byte_at(sockaddr, 5)), ".", out, memory)?;
-    put_number("", u32::from(byte_at(sockaddr, 6)), ".", out, memory)?;
-    put_number("", u32::from(byte_at(sockaddr, 7)), "", out, memory)?;
-    Ok(())
+    let at = put_decimal(u32::from(byte_at(sockaddr, 4)), room, at);
+    let at = put(b".", room, at);
+    let at = put_decimal(u32::from(byte_at(sockaddr, 5)), room, at);
+    let at = put(b".", room, at);
+    let at = put_decimal(u32::from(byte_at(sockaddr, 6)), room, at);
+    let at = put(b".", room, at);
+    put_decimal(u32::from(byte_at(sockaddr, 7)), room, at)
 }
 
 /// Whether the bytes are those that are written of an IPv4 address.
@@ -61,17 +67,14 @@ fn mask_written(sockaddr: &[u8]) -> Option<u8>
 }
 
 /// Puts an address; where a mask stands also as a mask.
-fn put_address(
-    sockaddr: &[u8],
-    is_mask: bool,
-    out: &mut Vec<u8>,
-    memory: &mut Memory,
-) -> Result<(), AllocError>
-    ensures text { OnOk result (out.new.items ≡ out.old.items ++ address_text is_mask sockaddr.now) }
-    ensures counted { Rises (is_err result) memory.old memory.new }
+fn put_address(sockaddr: &[u8], is_mask: bool, room: &mut [u8], at: usize) -> usize
+    requires short { length sockaddr.now ≤ 256 }
+    requires fits { at + 582 ≤ length room.old }
+    ensures most { result ≤ at + 582 }
+    ensures text { written room.new result ≡ written room.old at ++ address_text is_mask sockaddr.now }
 {
     if is_inet_sockaddr(sockaddr) {
-        return put_dotted(sockaddr, out, memory);
+        return put_dotted(sockaddr, room, at);
     }
     let mask = if is_mask {
         mask_written(sockaddr)
@@ -79,13 +82,16 @@ fn put_address(
         None
     };
     if let Some(bits) = mask {
-        put_dotted(sockaddr, out, memory)?;
-        return put_number(" (/", u32::from(bits), ")", out, memory);
+        let at = put_dotted(sockaddr, room, at);
+        let at = put(b" (/", room, at);
+        let at = put_decimal(u32::from(bits), room, at);
+        return put(b")", room, at);
     }
     if is_link_sockaddr(sockaddr) {
-        return put_link(sockaddr, out, memory);
+        return put_link(sockaddr, room, at);
     }
-    put_named_hex("bytes ", sockaddr, "", out, memory)
+    let at = put(b"bytes ", room, at);
+    put_hex(sockaddr, room, at)
 }
 
 /// Whether the address of this bit is named, and begins before the end.
@@ -98,6 +104,7 @@ fn begins(bit: u32, addrs: u32, bytes: &[u8]) -> bool
 /// The bytes that the first address takes, with its padding where this is there, and those behind it.
 fn parted(bytes: &[u8]) -> (&[u8], &[u8])
     ensures front { result.0.now ≡ front bytes.now }
+    ensures short { length result.0.now ≤ 256 }
     ensures behind { result.1.now ≡ drop (rounded (length_byte bytes.now)) bytes.now }
 {
     let size = round(byte_at(bytes, 0)).min(bytes.len());
@@ -134,42 +141,80 @@ pub(crate) fn have_room(addrs: u32, bytes: &[u8]) -> Option<()>
     Some(())
 }
 
-/// Puts the line of the address of this bit, where it is there, and answers the bytes behind it.
+/// Puts the line of an address of this name.
+fn put_line(name: &[u8], sockaddr: &[u8], is_mask: bool, room: &mut [u8], at: usize) -> usize
+    requires name { length name.now ≤ 9 }
+    requires short { length sockaddr.now ≤ 256 }
+    requires fits { at + LINE ≤ length room.old }
+    ensures most { result ≤ at + LINE }
+    ensures text { written room.new result
+        ≡ written room.old at ++ (name.now ++ address_text is_mask sockaddr.now ++ codes "\n") }
+{
+    let at = put(name, room, at);
+    let at = put_address(sockaddr, is_mask, room, at);
+    put(b"\n", room, at)
+}
+
+/// Whether an address of this bit is a mask.
+fn is_mask(bit: u32) -> bool
+    ensures { result ≡ (bit == RTA_NETMASK || bit == RTA_GENMASK) }
+{
+    bit == RTA_NETMASK || bit == RTA_GENMASK
+}
+
+/// Puts the line of the address of this bit, where it is there. `from` is where the text ends, and the bytes that are left
+/// of all addresses: it answers both behind the address.
+#[inline(always)]
 #[tactic(auto, unfolding(crate::specs::Addresses::behind, crate::specs::Addresses::address_line))]
-fn put_address_line<'a>(
+fn put_next<'a>(
     bit: u32,
     name: &str,
-    is_mask: bool,
     addrs: u32,
-    bytes: &'a [u8],
+    from: (usize, &'a [u8]),
     out: &mut Vec<u8>,
+    room: &mut [u8],
     memory: &mut Memory,
-) -> Result<&'a [u8], AllocError>
-    requires name { length name.now ≤ 40 }
-    ensures text { OnOk result (out.new.items ≡ out.old.items ++ address_line (place bit name.now is_mask) addrs bytes.now) }
-    ensures rest { IfOk result (λ rest. rest.now ≡ behind bit addrs bytes.now) }
+) -> Result<(usize, &'a [u8]), AllocError>
+    requires name { length name.now ≤ 9 }
+    requires size { length room.old ≡ ROOM }
+    requires place { from.0 ≤ ROOM }
+    ensures text { IfOk result (λ end. so_far out.new.items room.new end.0
+        ≡ so_far out.old.items room.old from.entry.0
+        ++ address_line (place bit name.now (bit == RTA_NETMASK || bit == RTA_GENMASK)) addrs from.entry.1.now) }
+    ensures rest { IfOk result (λ end. end.1.now ≡ behind bit addrs from.entry.1.now) }
+    ensures place { IfOk result (λ end. end.0 ≤ ROOM) }
     ensures counted { Rises (is_err result) memory.old memory.new }
 {
+    let (at, bytes) = from;
     if !begins(bit, addrs, bytes) {
-        return Ok(bytes);
+        return Ok((at, bytes));
     }
     let (sockaddr, rest) = parted(bytes);
-    memory.extend(out, name.as_bytes())?;
-    put_address(sockaddr, is_mask, out, memory)?;
-    memory.extend(out, b"\n")?;
-    Ok(rest)
+    let begin = make_room(out, room, at, memory)?;
+    let end = put_line(name.as_bytes(), sockaddr, is_mask(bit), room, begin);
+    Ok((end, rest))
 }
 
 /// Puts the line of the bytes that no address has, where there are any.
 #[tactic(auto, unfolding(crate::specs::Addresses::rest_line))]
-fn put_rest(bytes: &[u8], out: &mut Vec<u8>, memory: &mut Memory) -> Result<(), AllocError>
-    ensures text { OnOk result (out.new.items ≡ out.old.items ++ rest_line bytes.now) }
+fn put_rest(
+    bytes: &[u8],
+    out: &mut Vec<u8>,
+    room: &mut [u8],
+    at: usize,
+    memory: &mut Memory,
+) -> Result<usize, AllocError>
+    requires size { length room.old ≡ ROOM }
+    requires place { at ≤ ROOM }
+    ensures text { IfOk result (λ end. so_far out.new.items room.new end
+        ≡ so_far out.old.items room.old at ++ rest_line bytes.now) }
+    ensures place { IfOk result (λ end. end ≤ ROOM) }
     ensures counted { Rises (is_err result) memory.old memory.new }
 {
     if bytes.is_empty() {
-        return Ok(());
+        return Ok(at);
     }
-    put_named_hex(" behind ", bytes, "\n", out, memory)
+    put_named_hex(b" behind ", bytes, b"\n", out, room, at, memory)
 }
 
 /// Puts the lines of all addresses.
@@ -177,19 +222,25 @@ pub(crate) fn put_addresses(
     addrs: u32,
     bytes: &[u8],
     out: &mut Vec<u8>,
+    room: &mut [u8],
+    at: usize,
     memory: &mut Memory,
-) -> Result<(), AllocError>
-    ensures text { OnOk result (out.new.items ≡ out.old.items ++ address_lines places addrs bytes.now) }
+) -> Result<usize, AllocError>
+    requires size { length room.old ≡ ROOM }
+    requires place { at ≤ ROOM }
+    ensures text { IfOk result (λ end. so_far out.new.items room.new end
+        ≡ so_far out.old.items room.old at ++ address_lines places addrs bytes.now) }
+    ensures place { IfOk result (λ end. end ≤ ROOM) }
     ensures counted { Rises (is_err result) memory.old memory.new }
 {
-    let bytes = put_address_line(RTA_DST, " DST ", false, addrs, bytes, out, memory)?;
-    let bytes = put_address_line(RTA_GATEWAY, " GATEWAY ", false, addrs, bytes, out, memory)?;
-    let bytes = put_address_line(RTA_NETMASK, " NETMASK ", true, addrs, bytes, out, memory)?;
-    let bytes = put_address_line(RTA_GENMASK, " GENMASK ", true, addrs, bytes, out, memory)?;
-    let bytes = put_address_line(RTA_IFP, " IFP ", false, addrs, bytes, out, memory)?;
-    let bytes = put_address_line(RTA_IFA, " IFA ", false, addrs, bytes, out, memory)?;
-    let bytes = put_address_line(RTA_AUTHOR, " AUTHOR ", false, addrs, bytes, out, memory)?;
-    let bytes = put_address_line(RTA_BRD, " BRD ", false, addrs, bytes, out, memory)?;
-    put_rest(bytes, out, memory)?;
-    Ok(())
+    let gateway = put_next(RTA_DST, " DST ", addrs, (at, bytes), out, room, memory)?;
+    let netmask = put_next(RTA_GATEWAY, " GATEWAY ", addrs, gateway, out, room, memory)?;
+    let genmask = put_next(RTA_NETMASK, " NETMASK ", addrs, netmask, out, room, memory)?;
+    let ifp = put_next(RTA_GENMASK, " GENMASK ", addrs, genmask, out, room, memory)?;
+    let ifa = put_next(RTA_IFP, " IFP ", addrs, ifp, out, room, memory)?;
+    let author = put_next(RTA_IFA, " IFA ", addrs, ifa, out, room, memory)?;
+    let brd = put_next(RTA_AUTHOR, " AUTHOR ", addrs, author, out, room, memory)?;
+    let behind = put_next(RTA_BRD, " BRD ", addrs, brd, out, room, memory)?;
+    let end = put_rest(behind.1, out, room, behind.0, memory)?;
+    Ok(end)
 }

@@ -4,9 +4,12 @@
 
 mod addresses;
 mod headers;
+mod hexadecimal;
 pub mod laws;
 mod link;
 mod names;
+mod pages;
+mod room;
 mod rows;
 #[cfg(test)]
 mod tests;

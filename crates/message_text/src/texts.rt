@@ -1,11 +1,16 @@
-ghost use Rattle.std.specs.Prelude.{◌≡◌, ◌≤◌, ◌++◌, true, IfNone, IfOk, OnOk, length, is_err};
+ghost use Rattle.std.specs.Prelude.{◌≡◌, ◌≤◌, ◌++◌, true, if◌then◌else◌, IfNone, IfOk, length, is_err};
 ghost use Rattle.memory.specs.Refusing.{Rises};
 ghost use Rattle.route_msgs.specs.Layout.{number_at};
+ghost use Rattle.message_text.specs.Room.{so_far, written};
+ghost use Rattle.message_text.specs.Rows.{rows_text};
+ghost use Rattle.message_text.specs.Tables.{ifa_rows, route_rows};
 ghost use Rattle.message_text.specs.Texts.{addrs_in, body_of, fault_in, fault_text, has_size as has_size_said, header_size as size_of_header, is_about_address as about_address, message_text, text_of as text};
 
 use crate::addresses::{have_room, put_addresses};
 use crate::headers::{put_ifa_header, put_route_header};
-use crate::link::{byte_at, put_named_hex};
+use crate::link::byte_at;
+use crate::pages::{ROOM, make_room, put_named_hex, take_all};
+use crate::room::put;
 use crate::rows::{u8_at, u16_at, u32_at};
 use memory::Memory;
 use route_msgs::MsgErr;
@@ -31,10 +36,12 @@ pub fn text_of_counted(
     ensures counted { Rises (is_err result) memory.old memory.new }
 {
     let mut out = Vec::new(alloc);
-    match fault_of(message) {
-        Some(fault) => put_fault(&fault, message, &mut out, memory)?,
-        None => put_message(message, &mut out, memory)?,
-    }
+    let mut room = [0; ROOM];
+    let end = match fault_of(message) {
+        Some(fault) => put_fault(&fault, message, &mut out, &mut room, memory)?,
+        None => put_message(message, &mut out, &mut room, memory)?,
+    };
+    take_all(&mut out, &room, end, memory)?;
     Ok(out)
 }
 
@@ -103,28 +110,48 @@ fn put_fault(
     fault: &MsgErr,
     message: &[u8],
     out: &mut Vec<u8>,
+    room: &mut [u8],
     memory: &mut Memory,
-) -> Result<(), AllocError>
-    ensures text { OnOk result (out.new.items ≡ out.old.items ++ fault_text fault.now message.now) }
+) -> Result<usize, AllocError>
+    requires { length room.old ≡ ROOM }
+    ensures text { IfOk result (λ end. so_far out.new.items room.new end ≡ out.old.items ++ fault_text fault.now message.now) }
+    ensures place { IfOk result (λ end. end ≤ ROOM) }
     ensures counted { Rises (is_err result) memory.old memory.new }
 {
-    put_named_hex("no message: ", message, "\n ", out, memory)?;
-    memory.extend(out, fault.text().as_bytes())?;
-    memory.extend(out, b"\n")?;
-    Ok(())
+    let digits = put_named_hex(b"no message: ", message, b"\n ", out, room, 0, memory)?;
+    let reason = make_room(out, room, digits, memory)?;
+    let end = put(fault.text().as_bytes(), room, reason);
+    Ok(put(b"\n", room, end))
+}
+
+/// Puts the header of a message to the front of the room, and answers where it ends.
+fn put_header(message: &[u8], room: &mut [u8]) -> usize
+    requires header { size_of_header message.now ≤ length message.now }
+    requires size { length room.old ≡ ROOM }
+    ensures text { written room.new result
+        ≡ (if about_address message.now then rows_text ifa_rows message.now else rows_text route_rows message.now) }
+    ensures place { result ≤ ROOM }
+{
+    if is_about_address(message) {
+        put_ifa_header(message, room, 0)
+    } else {
+        put_route_header(message, room, 0)
+    }
 }
 
 /// Puts a message: its header and its addresses.
-fn put_message(message: &[u8], out: &mut Vec<u8>, memory: &mut Memory) -> Result<(), AllocError>
-    requires { size_of_header message.now ≤ length message.now }
-    ensures text { OnOk result (out.new.items ≡ out.old.items ++ message_text message.now) }
+fn put_message(
+    message: &[u8],
+    out: &mut Vec<u8>,
+    room: &mut [u8],
+    memory: &mut Memory,
+) -> Result<usize, AllocError>
+    requires header { size_of_header message.now ≤ length message.now }
+    requires size { length room.old ≡ ROOM }
+    ensures text { IfOk result (λ end. so_far out.new.items room.new end ≡ out.old.items ++ message_text message.now) }
+    ensures place { IfOk result (λ end. end ≤ ROOM) }
     ensures counted { Rises (is_err result) memory.old memory.new }
 {
-    if is_about_address(message) {
-        put_ifa_header(message, out, memory)?;
-    } else {
-        put_route_header(message, out, memory)?;
-    }
-    put_addresses(addrs(message), body(message), out, memory)?;
-    Ok(())
+    let at = put_header(message, room);
+    put_addresses(addrs(message), body(message), out, room, at, memory)
 }

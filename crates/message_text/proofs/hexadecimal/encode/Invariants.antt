@@ -1,0 +1,7 @@
+use Rattle.std.proofs.Common.{◌≡◌, ◌*◌, ◌++◌, take, drop}
+use Rattle.hex.specs.Hex.{encode_lower}
+use Rattle.message_text.proofs.hexadecimal.encode.Given as goal
+
+-- the digits so far, and those of the bytes that are left
+abbrev pub invariant-bytes : goal.invariant-bytes
+invariant-bytes l = take (2 * l.i) l.out ++ encode_lower (drop l.i l.bytes) ≡ encode_lower l.bytes
