@@ -2,6 +2,7 @@
 //! of `routesim`, is FILE, or standard input where no FILE is named.
 #![tactic(auto)]
 
+mod digits;
 mod lines;
 mod messages;
 mod program;

@@ -3,14 +3,14 @@ use Rattle.show_main.specs.Shown.{shown_ended}
 use Rattle.show_main.proofs.ShownLemmas.{ShowedBefore-all, ShowedBefore-line, ShowedBefore-stopped, ShowedFront-more, begun_line-all, begun_line-parted, by_error, no_newline-append, shorter, shown_ended-parted}
 use Rattle.show_main.proofs.lines.show_bytes.Goals as goal
 
-pub returns-in_err-show_line-clause-fault : goal.returns-in_err-show_line-clause-fault
-returns-in_err-show_line-clause-fault g c =
+pub returns-in_err-show_ended-clause-fault : goal.returns-in_err-show_ended-clause-fault
+returns-in_err-show_ended-clause-fault g c =
     let line = c.loop-front.line.items in
     let front = c.in-Some.front.now in
     let parts = shown_ended-parted line front c.loop-front.rest.now c.in-Some.behind.now c.in-Some.ensures.whole c.loop-front.invariant.begun c.in-Some.ensures.first in
-    by_error c.from_residual-in_err-show_line.result c.from_residual-in_err-show_line.ensures.1
+    by_error c.from_residual.result c.from_residual.ensures.1
     (λ f is. ShowedBefore-stopped c.loop-front.invariant.shown (rw (parts, is) (ShowedFront-more (shown_ended c.in-Some.behind.now)
-    (rw (← c.in_ok-extend.ensures.ok, ← c.deref.ensures.value) c.in_err-show_line.ensures.fault))))
+    c.in_err-show_ended.ensures.fault)))
 
 pub loop-front-preserved : goal.loop-front-preserved
 loop-front-preserved g c =
@@ -21,9 +21,9 @@ loop-front-preserved g c =
       no_failure = search rules;
       memory = search rules;
       modest = shorter front c.in-Some.behind.now c.in-Some.ensures.whole c.loop-front.invariant.modest;
-      shown = rw c.clear.ensures.items (ShowedBefore-line line front c.loop-front.rest.now c.in-Some.behind.now c.loop-front.invariant.shown c.in-Some.ensures.whole
-          c.loop-front.invariant.begun c.in-Some.ensures.first (rw (← c.in_ok-extend.ensures.ok, ← c.deref.ensures.value) c.in_ok-show_line.ensures.shown));
-      leaves = rw c.clear.ensures.items (c.loop-front.invariant.leaves ∙ begun_line-parted line front c.loop-front.rest.now c.in-Some.behind.now c.in-Some.ensures.whole);
+      shown = rw c.in_ok-show_ended.ensures.emptied (ShowedBefore-line line front c.loop-front.rest.now c.in-Some.behind.now c.loop-front.invariant.shown c.in-Some.ensures.whole
+          c.loop-front.invariant.begun c.in-Some.ensures.first c.in_ok-show_ended.ensures.shown);
+      leaves = rw c.in_ok-show_ended.ensures.emptied (c.loop-front.invariant.leaves ∙ begun_line-parted line front c.loop-front.rest.now c.in-Some.behind.now c.in-Some.ensures.whole);
     }
 
 pub returns-clause-shown : goal.returns-clause-shown
@@ -33,6 +33,6 @@ returns-clause-shown g c =
 
 pub returns-clause-begun : goal.returns-clause-begun
 returns-clause-begun g c =
-    c.in_ok-extend-2.ensures.ok
+    c.in_ok-extend.ensures.ok
     ∙ sym (begun_line-all (c.loop-front.line.items ++ c.loop-front.rest.now) (no_newline-append c.loop-front.line.items c.loop-front.rest.now c.loop-front.invariant.begun c.in_default.ensures.none))
     ∙ sym c.loop-front.invariant.leaves
