@@ -141,6 +141,9 @@ on_some k is h = sym (anywhere k is) ∙ (found (has_number k) (addresses_of is)
 pub from_some : (k : ℕ) (is : List Interface) → list_any (has_numbered k) is ≡ true → IsSome (find (has_number k) (addresses_of is))
 from_some k is h = sym (found (has_number k) (addresses_of is)) ∙ (anywhere k is ∙ h)
 
+pub has_number_place : (k : ℕ) (is : List Interface) → IsSome (find (has_number k) (addresses_of is)) → IsSome (position (has_numbered k) is)
+has_number_place k is h = has_place (has_numbered k) is (on_some k is h)
+
 module _ {X : Type 0} (r : X → Bool) (ys : List X) where
   first-append : (xs : List X) → list_any r xs ≡ true → position_or_len r (xs ++ ys) ≡ position_or_len r xs
   first-append [] h = cc
