@@ -1,10 +1,13 @@
 //! The calls that ask for memory, and how often it was refused.
 ghost use Rattle.std.specs.Prelude.{◌≡◌, ◌+◌, ◌<◌, ◌≤◌, ◌++◌, ◌∷◌, [], length, is_err, IsOk, OnOk, OnErr, IfOk, vec_len, vec_capacity};
+ghost use Rattle.std.specs.HashMap.{get, spare};
 ghost use Rattle.memory.specs.Refusing.{Rises};
 
 use crate::number::Number;
 use crate::numbers::Numbers;
 use std::alloc::{AllocError, Global};
+use std::collections::HashMap;
+use std::hash::Hash;
 use std::marker::Model;
 use std_alloc::room::Vacant;
 
@@ -99,6 +102,19 @@ impl Memory {
         ensures counted { Rises (is_err result) self.old self.new }
     {
         match items.extend_from_slice(more) {
+            Ok(()) => Ok(()),
+            Err(_) => Err(self.refuse()),
+        }
+    }
+
+    /// Makes room for one entry more of a map.
+    pub fn entry<K: Eq + Hash, V>(&mut self, map: &mut HashMap<K, V>) -> Result<(), AllocError>
+        ensures entries { (key : K) → get K.eq map.new key ≡ get K.eq map.old key }
+        ensures room { OnOk result (0 < spare map.new) }
+        ensures there { 0 < spare map.old → IsOk result }
+        ensures counted { Rises (is_err result) self.old self.new }
+    {
+        match map.reserve(1) {
             Ok(()) => Ok(()),
             Err(_) => Err(self.refuse()),
         }

@@ -27,6 +27,8 @@ pub mod FrameLists
 pub mod Gained
 pub mod GivenNumbers
 pub mod Homes
+pub mod IndexChanges
+pub mod Indexed
 pub mod JoinLinks
 pub mod JoinLists
 pub mod JoinLone
@@ -58,6 +60,7 @@ pub mod MovedWhole
 pub mod OrderLemmas
 pub mod PartRooms
 pub mod Parts
+pub mod Places
 pub mod PlugLists
 pub mod Plugs
 pub mod RemovedOnly

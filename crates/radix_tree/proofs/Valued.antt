@@ -12,6 +12,7 @@ use Rattle.radix_tree.proofs.Words.{masks_in, Stands, one_if, members_at, leaves
 use Rattle.radix_tree.proofs.Words.{of_rank, AreCounted, Tells, Finds, HasPair, In, Lodged, nobody_late, [], MarkedLists, IsMarked, ◌⊎◌, true≢false}
 use Rattle.radix_tree.specs.Given.{AreGiven}
 use Rattle.radix_nodes.specs.Naming.{number_of}
+use Rattle.radix_tree.specs.Index.{place_of, places_in}
 
 module _ {V : Type 0} (n : ℕ) (value : V) where
   -- ---- its routes
@@ -197,3 +198,7 @@ module _ {V : Type 0} where
   pub lent_given : (m : Lodged V) (room : Id) (value : V) {given : List (ℕ × ℕ)} {last : ℕ} → Has m room → AreGiven m given last
       → AreGiven (put_value m room value) given last
   lent_given m room value h are = given_same m (put_value m room value) are (kept m room value h (λ (o : Option (Seen V)). is_some (leaf_in o)) refl)
+
+  pub lent_places : (m : Lodged V) (room : Id) (value : V) → Has m room → (n : ℕ) → places_in (put_value m room value) n ≡ places_in m n
+  lent_places m room value h =
+      kept m room value h (λ (o : Option (Seen V)). place_of (leaf_in o)) (ap (λ b. place_of (leaf_in (Some (seen b value h.room.links)))) (sym h.block))

@@ -5,9 +5,11 @@ use Rattle.radix_nodes.specs.Rooms.{Rooms}
 use Rattle.radix_nodes.specs.declared.links.Node.{Node}
 use Rattle.radix_tree.specs.Bounds.{host_rank}
 use Rattle.radix_tree.specs.Given.{AreGiven, numbers_in}
+use Rattle.radix_tree.specs.Index.{Indexes}
 use Rattle.radix_tree.specs.Table.{Contents}
 use Rattle.radix_tree.specs.Whole.{shown, Holds}
 use Rattle.radix_tree.specs.declared.entry.Entry.{Entry}
+use Rattle.radix_tree.specs.declared.index.Index.{Index}
 
 module _ {V : Type 0} where
   -- what a contract sees of the rooms beneath a root, of their numbers, and of the number that was given last
@@ -26,8 +28,10 @@ module _ {V : Type 0} where
   abbrev pub AreCounted : List ℕ → List (Entry V) → Type 0
   AreCounted counts entries = (rank : ℕ) → rank ≤ host_rank → count_of rank counts ≡ of_rank rank entries
 
-  -- the rooms are a tree beneath the root, its routes are counted, and each room has a number that was given
-  pub record IsKept (nodes : Rooms V) (root : Option Node) (counts : List ℕ) (given : List (ℕ × ℕ)) (last : ℕ) : Type 0 where
+  -- the rooms are a tree beneath the root, its routes are counted and found by the index, and each room has a number that
+  -- was given
+  pub record IsKept (nodes : Rooms V) (root : Option Node) (counts : List ℕ) (index : Index) (given : List (ℕ × ℕ)) (last : ℕ) : Type 0 where
     pub holds : Holds nodes.lodged root
     pub counted : AreCounted counts (shown nodes.lodged root)
+    pub indexed : Indexes index nodes.lodged
     pub numbered : AreGiven nodes.lodged given last

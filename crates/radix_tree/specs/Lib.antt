@@ -4,6 +4,7 @@ pub mod Exchange
 pub mod Found
 pub mod Given
 pub mod Growth
+pub mod Index
 pub mod Joining
 pub mod Kept
 pub mod Lending

@@ -5,6 +5,7 @@ ghost use Rattle.radix_nodes.specs.declared.links.Node.TheVariants.{Leaf as Leaf
 ghost use Rattle.radix_tree.specs.Chains.{name_next as next_named, name_back as back_named};
 ghost use Rattle.radix_tree.specs.Chains.{link_out as linked_out, root_past, FindsGap};
 ghost use Rattle.radix_tree.specs.Growth.{Gains, name_child as child_named, IsSpare, HasKeyAt};
+ghost use Rattle.radix_tree.specs.Index.{HasPlaceMore};
 ghost use Rattle.radix_tree.specs.Marks.{HasRoomMore, has_key, late_at};
 ghost use Rattle.radix_tree.specs.Removal.{IsUnlisted, TakesOut};
 ghost use Rattle.radix_tree.specs.Rooms.{LeafPart, BitPart, Part, Run, leaves_in, bits_in, masks_in, first_room};
@@ -164,6 +165,7 @@ pub(crate) fn insert_in_chain<V>(
     ensures routes { IfOk result (λ r. Gains entry (shown nodes.old.lodged (Some root))
         (shown nodes.new.lodged (Some r.0))) }
     ensures rooms { OnOk result (HasRoomMore nodes.old.lodged nodes.new.lodged room) }
+    ensures places { IfOk result (λ r. HasPlaceMore nodes.old.lodged nodes.new.lodged r.1 entry) }
     ensures number { IfOk result (λ r. (number_of r.1) ≡ room) }
     ensures here { IfOk result (λ r. Has nodes.new.lodged r.1) }
     ensures unmarked { OnOk result (masks_in nodes.new.lodged room ≡ None) }

@@ -6,6 +6,7 @@ ghost use Rattle.radix_tree.specs.Bounds.{last_bit};
 ghost use Rattle.radix_tree.specs.Exchange.{Exchanged};
 ghost use Rattle.radix_tree.specs.Growth.{Gains, Differs, IsSpot, IsLodged, IsBeside, forked, forked_tree, placed};
 ghost use Rattle.radix_tree.specs.Growth.{with_head, root_after as root_with, IsSpare, DiffersAt};
+ghost use Rattle.radix_tree.specs.Index.{HasPlaceMore};
 ghost use Rattle.radix_tree.specs.Marks.{HasRoomMore, has_key};
 ghost use Rattle.radix_tree.specs.Rooms.{Part, LeafPart, bit_part, leaves_in, heads_in, masks_in, name_of};
 ghost use Rattle.radix_tree.specs.Searches.{LedTo};
@@ -164,6 +165,7 @@ pub(crate) fn insert_beside<V>(
         (λ n. (n == room) || has_key nodes.old.lodged d.leaf.first.entry.key n) nobody_out }
     ensures routes { Gains entry (shown nodes.old.lodged (Some root)) (shown nodes.new.lodged (Some result.0)) }
     ensures rooms { HasRoomMore nodes.old.lodged nodes.new.lodged room }
+    ensures places { HasPlaceMore nodes.old.lodged nodes.new.lodged result.1 entry }
     ensures there { Has nodes.new.lodged result.1 }
     ensures unmarked { masks_in nodes.new.lodged room ≡ None }
     ensures leaves { (n : ℕ) (p : LeafPart V) → leaves_in nodes.old.lodged n ≡ Some p → (a : Option IdName)

@@ -3,8 +3,8 @@ ghost use Rattle.std.specs.Prelude.{◌≡◌, ◌+◌, ◌≤◌, Some, IfSome,
 ghost use Rattle.radix_tree.specs.Table.{entry_at, first_of, best_of};
 ghost use Rattle.radix_tree.specs.Found.{valued, keyed, routed};
 
-use crate::backtracking::room_of;
 use crate::descent::leaf_for;
+use crate::finding::find_room;
 use crate::laws::is_table;
 use crate::routes::Table;
 use crate::routing;
@@ -38,7 +38,7 @@ impl<V> Table<V> {
         let Some(root) = self.root else {
             return None;
         };
-        let Some(room) = room_of(&self.nodes, root, key, rank, visits) else {
+        let Some(room) = find_room(&self.nodes, &self.index, root, key, rank, visits) else {
             return None;
         };
         Some(self.nodes.value(room, visits))
@@ -75,6 +75,7 @@ impl<V> Table<V> {
         let Some(root) = self.root else {
             return None;
         };
-        routing::best(&self.nodes, root, address, visits)
+        let index = &self.index;
+        routing::best(&self.nodes, index, &self.counts, root, address, visits)
     }
 }

@@ -2,6 +2,7 @@
 ghost use Rattle.std.specs.Prelude.{◌≡◌, None, Some};
 ghost use Rattle.std.specs.FinMap.{get};
 ghost use Rattle.radix_nodes.specs.Rooms.{Has};
+ghost use Rattle.radix_tree.specs.Index.{HasPlaceLess};
 ghost use Rattle.radix_tree.specs.Marks.{HasRoomMore};
 ghost use Rattle.radix_tree.specs.Removal.{KeepsRoutes, IsOut, member_beside, LosesRoute, IsUnlisted};
 ghost use Rattle.radix_tree.specs.Rooms.{LeafPart, leaves_in};
@@ -67,6 +68,7 @@ pub(crate) fn remove_route<V>(
     ensures value { (p : LeafPart V) → leaves_in nodes.old.lodged (number_of at) ≡ Some p → result.2 ≡ p.value }
     ensures number { result.1 ≡ number_of at }
     ensures rooms { HasRoomMore nodes.new.lodged nodes.old.lodged (number_of at) }
+    ensures places { HasPlaceLess nodes.old.lodged nodes.new.lodged at }
     ensures gone { get nodes.new.lodged (number_of at) ≡ None }
     ensures stays { Stays nodes.old nodes.new visits.old visits.new }
 {

@@ -2,6 +2,7 @@
 ghost use Rattle.std.specs.Prelude.{◌≡◌, ◌+◌, [], IfOk, IsOk};
 
 use crate::given::Given;
+use crate::index::Index;
 use mask_table::Counts;
 use memory::Numbers;
 use radix_nodes::{Node, Nodes, Visits};
@@ -19,6 +20,8 @@ pub struct Table<V> {
     pub(crate) root: Option<Node>,
     /// How many routes there are of each rank.
     pub(crate) counts: Counts,
+    /// Where the room of each route is.
+    pub(crate) index: Index,
     /// The numbers that were given, one with each room that was made.
     pub(crate) numbers: Numbers,
     /// Those of the rooms in use.
@@ -33,7 +36,7 @@ impl<V> Model for Table<V> {
 
     ghost view = { λ t. contents t.nodes t.root t.given t.numbers };
 
-    ghost invariant = { λ t. IsKept t.nodes t.root t.counts t.given t.numbers };
+    ghost invariant = { λ t. IsKept t.nodes t.root t.counts t.index t.given t.numbers };
 }
 
 impl<V> Table<V> {
@@ -46,6 +49,7 @@ impl<V> Table<V> {
             nodes: Nodes::new(alloc),
             root: None,
             counts: Counts::new(),
+            index: Index::new(alloc),
             numbers: Numbers::new(),
             given: Given::new(),
         })

@@ -8,8 +8,8 @@ ghost use Rattle.radix_tree.specs.Table.{entry_at, best_of, without, with_entry,
 ghost use Rattle.radix_tree.specs.Found.{lent};
 ghost use Rattle.radix_tree.specs.Lending.{lends_value, lends_value_at};
 
-use crate::backtracking::{best_room, room_of};
 use crate::entry::Entry;
+use crate::finding::{find_best, find_room};
 use crate::growing::insert;
 use crate::removing::remove_route;
 use crate::roles;
@@ -30,6 +30,7 @@ impl<V: Drop> Table<V> {
         ensures err { OnErr result (self.new ≡ self.old) }
         ensures counted { Rises (is_err result) memory.old memory.new }
     {
+        self.index.reserve(memory)?;
         let space = self.nodes.make(memory)?;
         match memory.next(&mut self.numbers) {
             Ok(number) => Ok(Room {
@@ -83,9 +84,10 @@ impl<V: Drop> Table<V> {
         let entry = Entry::of(key, rank, value);
         match insert(&mut self.nodes, self.root, space, entry, &mut visits) {
             Err((space, value)) => Err((Room { space, number }, value)),
-            Ok(root) => {
+            Ok((root, id)) => {
                 self.root = Some(root);
                 self.counts.added(rank);
+                self.index.enter(key, rank, id);
                 self.given.put(at, number);
                 Ok(())
             }
@@ -110,12 +112,13 @@ impl<V: Drop> Table<V> {
         let Some(root) = self.root else {
             return None;
         };
-        let Some(at) = room_of(&self.nodes, root, key, rank, &mut visits) else {
+        let Some(at) = find_room(&self.nodes, &self.index, root, key, rank, &mut visits) else {
             return None;
         };
         let (root, freed, value) = remove_route(&mut self.nodes, root, at, &mut visits);
         self.root = root;
         self.counts.dropped(rank);
+        self.index.strike(key, rank, root.is_some());
         self.given.take(Snapshot::of(&freed));
         self.nodes.scrap(freed);
         Some(value)
@@ -134,7 +137,7 @@ impl<V: Drop> Table<V> {
         let Some(root) = self.root else {
             return None;
         };
-        let Some(room) = room_of(&self.nodes, root, key, rank, &mut visits) else {
+        let Some(room) = find_room(&self.nodes, &self.index, root, key, rank, &mut visits) else {
             return None;
         };
         Some(self.nodes.value_mut(room))
@@ -159,7 +162,8 @@ impl<V: Drop> Table<V> {
         let Some(root) = self.root else {
             return None;
         };
-        let Some(room) = best_room(&self.nodes, root, address, visits) else {
+        let index = &self.index;
+        let Some(room) = find_best(&self.nodes, index, &self.counts, root, address, visits) else {
             return None;
         };
         let leaf = roles::leaf(&self.nodes, room, visits);

@@ -1,9 +1,11 @@
 use Rattle.radix_tree.proofs.{Parts.leaf_begins, chains.insert_in_chain.Goals.In-Some, chains.insert_in_chain.Goals.After-name_back}
 use Rattle.radix_tree.proofs.Words.{◌==◌, ◌||◌, ◌∙◌, Some, sym, ap, subst, is_some, LeafOf, leaves_in, arith}
-use Rattle.radix_tree.proofs.Words.{Gains, shown, IsWholeBut, late_at, nobody_out, name_next, name_back, root_past, FindsGap}
+use Rattle.radix_tree.proofs.Words.{Gains, shown, IsWholeBut, late_at, nobody_out, root_past, FindsGap}
 use Rattle.radix_tree.proofs.ChainWrites.{Has-lodged, Has-kept, Has-next, Has-linked_in}
 use Rattle.radix_tree.proofs.ChainInserts.{chain_of, gap_before, gap_behind, gap_above, lodged_above, linked_rooms, inserted_whole, inserted_routes, IsWritten}
 use Rattle.radix_tree.proofs.ChainInserts.{taken_there}
+use Rattle.radix_tree.proofs.Places.{linked_place}
+use Rattle.radix_tree.specs.Index.{pair, place_of, places_in, with_place}
 use Rattle.radix_tree.proofs.chains.insert_in_chain.Given as given
 use Rattle.radix_tree.proofs.chains.insert_in_chain.Goals as goal
 
@@ -71,3 +73,10 @@ returns-clause-rooms g c n = linked_rooms c.args.nodes.now.lodged c.name_back.ne
 pub returns-clause-here : goal.returns-clause-here
 returns-clause-here g c = Has-linked_in c.args.nodes.now.lodged c.name_back.new.nodes.lodged c.lodge_leaf-id.result c.args.entry.value c.in-Some.leaf
     (linked g (goal.at.returns-clause-here g c).After-name_back).leaves
+
+pub returns-clause-places : goal.returns-clause-places
+returns-clause-places g c n =
+    let at = goal.at.returns-clause-places g c in
+    ap place_of ((linked g at.After-name_back).leaves n)
+    ∙ linked_place c.lodge_leaf-id.result c.args.entry.value c.in-Some.leaf n (leaves_in c.args.nodes.now.lodged n)
+    ∙ ap (λ l. with_place c.lodge_leaf-id.result (pair l.key l.rank) n (places_in c.args.nodes.now.lodged n)) (in_gap g at.In-Some).leaf

@@ -1,4 +1,4 @@
-use Rattle.radix_tree.proofs.{MovedReads.Has_kept, Gained.shown_same}
+use Rattle.radix_tree.proofs.{MovedReads.Has_kept, Gained.shown_same, Places.less_places}
 use Rattle.radix_tree.proofs.Words.{◌∙◌, number_of, arith}
 use Rattle.radix_tree.proofs.RemovedRooms.{get_out, out_gone, out_shown, gains_stays, value_taken, room_less}
 use Rattle.radix_tree.proofs.removing.remove_route.Goals as goal
@@ -31,3 +31,6 @@ returns-clause-rooms g c = search (arith, room_less)
 
 pub returns-clause-gone : goal.returns-clause-gone
 returns-clause-gone g c = search (arith, get_out)
+
+pub returns-clause-places : goal.returns-clause-places
+returns-clause-places g c = search (arith, less_places)

@@ -1,8 +1,10 @@
 use Rattle.radix_tree.proofs.{Counted.few_held, Counted.counted_more, WholeRoutes.gains_entry, Kept.shown_table}
+use Rattle.radix_tree.proofs.IndexChanges.{absent_place, index_begun, index_more}
 use Rattle.radix_tree.proofs.{Kept.shown_next, Kept.given_begun, Kept.IsNext, GivenNumbers.given_more, routes.Table.add.Goals.In-Ok}
-use Rattle.radix_tree.proofs.Words.{◌≡◌, ◌+◌, ◌<◌, ◌∷◌, Some, None, sym, ap, subst, ◌∙◌, arith, HasOneMore, AreCounted}
-use Rattle.radix_tree.proofs.Words.{entry_at, uses, with_entry, shown, leaf_in, leaves_in}
+use Rattle.radix_tree.proofs.Words.{◌≡◌, ℕ, ◌+◌, ◌<◌, ◌∷◌, Some, None, sym, ap, subst, ◌∙◌, arith, HasOneMore, AreCounted}
+use Rattle.radix_tree.proofs.Words.{entry_at, uses, with_entry, shown, Holds, leaf_in, leaves_in, Ptr}
 use Rattle.radix_tree.specs.Given.{AreGiven, numbers_in}
+use Rattle.radix_tree.specs.Index.{HasPlaceMore, pair, place_of, places_in}
 use Rattle.radix_tree.proofs.routes.Table.add.Goals as goal
 
 pub added-requires : goal.added-requires
@@ -19,20 +21,32 @@ absent g c = ap (entry_at c.args.key c.args.rank)
     ∙ ap (λ e. entry_at e.key e.rank (shown c.begin-visits.new.self.lodged c.self.inside.root)) (sym c.of-entry.ensures.entry)
     ∙ (gains_entry c.in-Ok.ensures.routes (shown_table c.insert.new.nodes.lodged (Some c.in-Ok.root) c.in-Ok.ensures.whole)).1
 
+-- no route stood in the room
+is_free : (g : _) (c : In-Ok g) → leaves_in c.begin-visits.new.self.lodged c.spare-space.result ≡ None
+is_free g c = ap (λ r. leaves_in r.lodged c.spare-space.result) (begins g c) ∙ ap (leaves_in c.self.inside.nodes.lodged) c.spare-space.ensures.room
+    ∙ ap leaf_in c.spare-space.ensures.free
+
 -- the rooms in use have their numbers, and so has the new one
 numbered : (g : _) (c : In-Ok g) → AreGiven c.insert.new.nodes.lodged ((c.spare-space.result, c.room.inside.number.value) ∷ c.self.inside.given)
     c.self.inside.numbers
 numbered g c =
-    let free = ap (λ r. leaves_in r.lodged c.spare-space.result) (begins g c) ∙ ap (leaves_in c.self.inside.nodes.lodged) c.spare-space.ensures.room
-    ∙ ap leaf_in c.spare-space.ensures.free in
     let made : c.room.inside.number.value < c.self.inside.numbers + 1 = omega (arith, c.requires.made, ap (λ t. t.next) c.self.view_is) in
     let unused = ap (λ k. uses k (numbers_in c.self.inside.given)) c.room.view_is ∙ ap (λ t. uses c.args.room t.numbers) c.self.view_is ∙ c.requires.free in
     given_more c.begin-visits.new.self.lodged c.insert.new.nodes.lodged c.spare-space.result c.room.inside.number.value
-    (given_begun c.self.inside.nodes c.begin-visits.new.self (begins g c) c.self.invariant.numbered) free c.in-Ok.ensures.rooms made unused
+    (given_begun c.self.inside.nodes c.begin-visits.new.self (begins g c) c.self.invariant.numbered) (is_free g c) c.in-Ok.ensures.rooms made unused
+
+-- no room had a route of the pair
+unplaced : (g : _) (c : In-Ok g) (n : ℕ) (b : Ptr) → places_in c.begin-visits.new.self.lodged n ≡ Some (b, pair c.args.key c.args.rank) → ⊥
+unplaced g c =
+    let holds = subst (λ r. Holds r.lodged c.self.inside.root) (sym (begins g c)) c.self.invariant.holds in
+    let shown_as = shown_next c.self.inside.nodes c.begin-visits.new.self c.self.inside.root _ c.self.view_is (begins g c) in
+    absent_place c.begin-visits.new.self.lodged c.self.inside.root c.args.key c.args.rank (grind arith) holds
+    (ap (entry_at c.args.key c.args.rank) shown_as ∙ absent g c)
 
 pub invariant_of-self-in-Ok-1 : goal.invariant_of-self-in-Ok-1
 invariant_of-self-in-Ok-1 g c =
     let at = (goal.at.invariant_of-self-in-Ok-1 g c).In-Ok in
+    let m = c.begin-visits.new.self.lodged in
     let before = ap (λ r. shown r.lodged c.self.inside.root) (begins g at) in
     let put = c.put.ensures ∙ ap (λ k. (k, c.room.inside.number.value) ∷ c.self.inside.given) c.of-at.ensures in
     record {
@@ -40,6 +54,11 @@ invariant_of-self-in-Ok-1 g c =
       counted = counted_more _ _ c.self.inside.counts c.added.new.self
           (subst (AreCounted c.self.inside.counts) (sym before) c.self.invariant.counted) c.in-Ok.ensures.routes
           (subst (λ r. HasOneMore r c.self.inside.counts c.added.new.self) (sym (ap (λ e. e.rank) c.of-entry.ensures.entry)) c.added.ensures);
+      indexed = index_more c.self.inside.index c.enter.new.self m c.insert.new.nodes.lodged c.in-Ok.id
+          (record { key = c.args.key; rank = c.args.rank; value = c.args.value })
+          (index_begun c.self.inside.index c.self.inside.nodes c.begin-visits.new.self (begins g at) c.self.invariant.indexed) c.enter.ensures
+          (ap place_of (ap (leaves_in m) c.in-Ok.ensures.number ∙ is_free g at))
+          (subst (HasPlaceMore m c.insert.new.nodes.lodged c.in-Ok.id) c.of-entry.ensures.entry c.in-Ok.ensures.places) (unplaced g at);
       numbered = subst (λ p. AreGiven c.insert.new.nodes.lodged p c.self.inside.numbers) (sym put) (numbered g at);
     }
 

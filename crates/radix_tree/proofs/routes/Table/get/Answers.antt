@@ -5,22 +5,22 @@ use Rattle.radix_tree.proofs.routes.Table.get.Goals as goal
 pub returns-then-not-has-clause-entry : goal.returns-then-not-has-clause-entry
 returns-then-not-has-clause-entry g c = grind (arith, not_held)
 
-pub room_of-requires-clause-tree : goal.room_of-requires-clause-tree
-room_of-requires-clause-tree g c = let w = whole_at _ c.self.invariant.holds c.in-Some.is in (w.part, w.named)
+pub find_room-requires-clause-whole : goal.find_room-requires-clause-whole
+find_room-requires-clause-whole g c = whole_at _ c.self.invariant.holds c.in-Some.is
 
-pub returns-in_default-room_of-clause-entry : goal.returns-in_default-room_of-clause-entry
-returns-in_default-room_of-clause-entry g c =
+pub returns-in_default-find_room-clause-entry : goal.returns-in_default-find_room-clause-entry
+returns-in_default-find_room-clause-entry g c =
     let w = whole_at _ c.self.invariant.holds c.in-Some.is in
     sym (ap (entry_at c.args.key c.args.rank) (sym (entries_at _ _ _ c.self.view_is c.in-Some.is))
-    ∙ not_found w c.args.key c.args.rank c.in_default-room_of.is (c.room_of.ensures.found w.part w.named))
+    ∙ not_found w c.args.key c.args.rank c.in_default-find_room.is (c.find_room.ensures.found w))
 
 pub value-requires-clause-there : goal.value-requires-clause-there
 value-requires-clause-there g c =
     let w = whole_at _ c.self.invariant.holds c.in-Some.is in
-    Has-found _ (found w c.args.key c.args.rank c.in-Some-room_of.is (c.room_of.ensures.found w.part w.named))
+    Has-found _ (found w c.args.key c.args.rank c.in-Some-find_room.is (c.find_room.ensures.found w))
 
 pub returns-clause-entry : goal.returns-clause-entry
 returns-clause-entry g c =
     let w = whole_at _ c.self.invariant.holds c.in-Some.is in
-    let f = found w c.args.key c.args.rank c.in-Some-room_of.is (c.room_of.ensures.found w.part w.named) in
+    let f = found w c.args.key c.args.rank c.in-Some-find_room.is (c.find_room.ensures.found w) in
     value_found f c.value.result.now c.value.ensures.value ∙ ap (entry_at c.args.key c.args.rank) (entries_at _ _ _ c.self.view_is c.in-Some.is)
