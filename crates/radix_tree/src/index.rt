@@ -1,5 +1,6 @@
 //! Where the room of each route is, by the route's key and rank.
-ghost use Rattle.std.specs.Prelude.{◌≡◌, ℕ, true, None, is_err};
+ghost use Rattle.std.specs.Prelude.{◌≡◌, ℕ, ◌<◌, true, None, is_err, OnOk};
+ghost use Rattle.std.specs.HashMap.{spare};
 ghost use Rattle.memory.specs.Refusing.{Rises};
 ghost use Rattle.radix_tree.specs.Index.{named, pair, Enters, IsSameIndex, Strikes};
 
@@ -47,6 +48,7 @@ impl Index {
     /// Makes room for one route more, where the index is whole.
     pub(crate) fn reserve(&mut self, memory: &mut Memory) -> Result<(), AllocError>
         ensures same { IsSameIndex self.old self.new }
+        ensures room { OnOk result (self.new.whole ≡ true → 0 < spare self.new.rooms) }
         ensures counted { Rises (is_err result) memory.old memory.new }
     {
         if self.whole {
@@ -59,7 +61,8 @@ impl Index {
     /// Enters the room of a route, where the index is whole. Where there is no room for it and memory is refused, the index
     /// is given up.
     pub(crate) fn enter(&mut self, key: Inet, rank: Rank, room: Id)
-        ensures { Enters self.old self.new (pair key rank) room }
+        ensures entered { Enters self.old self.new (pair key rank) room }
+        ensures whole { self.old.whole ≡ true → 0 < spare self.old.rooms → self.new.whole ≡ true }
     {
         if !self.whole {
             return;

@@ -56,7 +56,7 @@ invariant_of-self-in-Ok-1 g c =
           (subst (λ r. HasOneMore r c.self.inside.counts c.added.new.self) (sym (ap (λ e. e.rank) c.of-entry.ensures.entry)) c.added.ensures);
       indexed = index_more c.self.inside.index c.enter.new.self m c.insert.new.nodes.lodged c.in-Ok.id
           (record { key = c.args.key; rank = c.args.rank; value = c.args.value })
-          (index_begun c.self.inside.index c.self.inside.nodes c.begin-visits.new.self (begins g at) c.self.invariant.indexed) c.enter.ensures
+          (index_begun c.self.inside.index c.self.inside.nodes c.begin-visits.new.self (begins g at) c.self.invariant.indexed) c.enter.ensures.entered
           (ap place_of (ap (leaves_in m) c.in-Ok.ensures.number ∙ is_free g at))
           (subst (HasPlaceMore m c.insert.new.nodes.lodged c.in-Ok.id) c.of-entry.ensures.entry c.in-Ok.ensures.places) (unplaced g at);
       numbered = subst (λ p. AreGiven c.insert.new.nodes.lodged p c.self.inside.numbers) (sym put) (numbered g at);
