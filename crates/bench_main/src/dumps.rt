@@ -5,7 +5,7 @@ use crate::networks::Network;
 use crate::work::Work;
 
 /// How many times the table is dumped.
-const DUMPS: u32 = 40;
+const DUMPS: u32 = 80;
 
 /// How many routes are added between two dumps.
 const BETWEEN: u32 = 8;
