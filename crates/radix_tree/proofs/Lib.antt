@@ -78,6 +78,7 @@ pub mod TreeOrder
 pub mod Ups
 pub mod ValuedTrees
 pub mod Valued
+pub mod WalkStarts
 pub mod Walks
 pub mod WaysDown
 pub mod WholeParts

@@ -55,10 +55,10 @@ pub use Rattle.radix_tree.specs.TableLaws.{MembersStand, NoneAgrees, PrecedesInW
 pub use Rattle.radix_tree.specs.TableLaws.{WithCounts, WithIsTable, WithKeepsOthers, WithStands, WithThenWithout, WithTwiceIsLast, WithoutCounts}
 pub use Rattle.radix_tree.specs.TableLaws.{WithoutIsTable, WithoutKeepsOthers, WithoutLeavesNone, WithoutThenWith}
 pub use Rattle.radix_tree.specs.Tree.{Covers, HaveBit, IsAmong, IsChain, IsFork, IsIn, IsTree, Placed, Tree, bit_at, fork, leaf, routes_of}
-pub use Rattle.radix_tree.specs.Walks.{AreSides, IsOn, IsSide, ahead, side_shown, sides_shown}
+pub use Rattle.radix_tree.specs.Walks.{IsAt, IsBefore, IsFirst, IsOn, Under, ahead, chain_behind, side_behind}
 pub use Rattle.radix_tree.specs.Whole.{AreIdle, HasHome, HasOneFork, HaveOneFork, Holds, IsWhole, beneath_shown, chain_from, chain_shown, forks_at, leaves_at}
 pub use Rattle.radix_tree.specs.Whole.{members_at, one_if, shown, shown_entry, sides_from, IsWholeBut, nobody_late, nobody_out}
 pub use Rattle.radix_tree.specs.Writes.{KeepsBits, KeepsHeads, KeepsLeaves, KeepsMasks, KeepsTree, bit_above, leaf_above, lift_bit, lift_leaf, lodge_leaf}
 pub use Rattle.radix_tree.specs.Writes.{put_bit, put_head, put_leaf, put_mask, with_leaf}
 pub use Rattle.radix_tree.specs.declared.entry.Entry.{Entry}
-pub use Rattle.radix_tree.specs.declared.walk.Side.{Side}
+pub use Rattle.radix_tree.specs.declared.walk.Place.{Place}

@@ -1,61 +1,48 @@
 //! A walk over a table.
-ghost use Rattle.std.specs.Prelude.{◌≡◌, ◌++◌, [], ◌∷◌, ℕ, length, Some};
-ghost use Rattle.std.specs.Option.{IfNone, MatchOption};
-ghost use Rattle.radix_tree.specs.Bounds.{levels, ranks};
-ghost use Rattle.radix_tree.specs.Rooms.{Part, bits_in, leaves_in, name_of};
-ghost use Rattle.radix_tree.specs.Table.{Ahead};
+ghost use Rattle.std.specs.Prelude.{◌≡◌, [], ◌∷◌, IfNone, MatchOption, Some};
 ghost use Rattle.radix_tree.specs.Found.{routed};
-ghost use Rattle.radix_tree.specs.Walks.{ahead, AreSides, IsOn, IsSide, side_shown, sides_shown};
-ghost use Rattle.radix_tree.specs.Whole.{Holds, beneath_shown, chain_from, chain_shown, shown};
+ghost use Rattle.radix_tree.specs.Rooms.{Part, leaves_in, bits_in, name_of};
+ghost use Rattle.radix_tree.specs.Searches.{LedTo};
+ghost use Rattle.radix_tree.specs.Walks.{ahead, chain_behind, IsAt, IsFirst, IsOn};
+ghost use Rattle.radix_tree.specs.Whole.{Holds, chain_from, shown};
 ghost use Rattle.radix_nodes.specs.Naming.{number_of};
 
-use crate::roles;
-use arrayvec::ArrayVec;
+use crate::bits::is_one;
+use crate::descent::leaf_for;
 use mask_table::Rank;
 use radix_nodes::{Id, Node, Nodes, Visits};
 use sock_addrs::Inet;
 use std::marker::Model;
 
-/// The most sides that a walk has to come back to: one for each bit of an address.
-const MOST_SIDES: usize = 32;
-
-/// A node that a walk comes to, and what its room says of what is beneath it. A walk opens both nodes beneath a bit node as
-/// soon as it comes to that, so that the memory of both rooms is asked for at once.
+/// Where a walk is: the room of the next route, and the first room of its chain.
 #[derive(Clone, Copy)]
-pub(crate) enum Side {
-    /// A leaf, by its first room.
-    Chain(Id),
-    /// A bit node, by the nodes beneath it, of the keys with a 0 and of those with a 1.
-    Fork(Node, Node),
+pub(crate) struct Place {
+    pub(crate) first: Id,
+    pub(crate) room: Id,
 }
-
-/// The sides that a walk has still to come to, the next one last.
-type Sides = ArrayVec<Option<Side>, MOST_SIDES>;
 
 /// A cursor that gives a table's routes in table order. A contract sees those that it has still to give, and the
 /// table's turn.
 #[derive(Drop)]
 pub struct Walk<'a, V> {
     nodes: &'a Nodes<V>,
-    /// The room of the next route. None once all routes were given.
-    at: Option<Id>,
-    /// What stands behind the chain of that room.
-    sides: Sides,
+    /// No place once all routes were given.
+    at: Option<Place>,
 }
 
 impl<'a, V> Model for Walk<'a, V> {
     ghost use Rattle.radix_tree.specs.Table.{Ahead};
-    ghost use Rattle.radix_tree.specs.Walks.{ahead, AreSides, IsOn};
+    ghost use Rattle.radix_tree.specs.Walks.{ahead, IsOn};
     ghost use Rattle.radix_tree.specs.Rooms.{leaves_in, bits_in};
 
     ghost Value = { Ahead V };
 
     ghost view = { λ w. record {
-      rest = ahead (leaves_in w.nodes.now.lodged) (bits_in w.nodes.now.lodged) w.at w.sides.items;
+      rest = ahead (leaves_in w.nodes.now.lodged) (bits_in w.nodes.now.lodged) w.at;
       turn = w.nodes.now.turn;
     } };
 
-    ghost invariant = { λ w. IsOn w.nodes.now.lodged w.at w.sides.items × AreSides w.nodes.now.lodged 0 w.sides.items };
+    ghost invariant = { λ w. IsOn w.nodes.now.lodged w.at };
 }
 
 impl<'a, V> Walk<'a, V> {
@@ -67,20 +54,13 @@ impl<'a, V> Walk<'a, V> {
         ensures turn { result.turn ≡ nodes.now.turn }
         ensures counter { visits.new.turn ≡ visits.old.turn }
     {
-        let mut sides = Sides::new();
         let Some(root) = root else {
-            return Walk {
-                nodes,
-                at: None,
-                sides,
-            };
+            return Walk { nodes, at: None };
         };
-        let side = opened(nodes, root, visits);
-        let first = first_beneath(nodes, side, &mut sides, visits);
+        let place = first_place(nodes, root, visits);
         Walk {
             nodes,
-            at: Some(first),
-            sides,
+            at: Some(place),
         }
     }
 
@@ -92,91 +72,69 @@ impl<'a, V> Walk<'a, V> {
         ensures turn { self.new.turn ≡ self.old.turn }
         ensures counter { visits.new.turn ≡ visits.old.turn }
     {
-        let Some(room) = self.at else {
+        let Some(place) = self.at else {
             return None;
         };
-        let leaf = self.nodes.links(room, visits).leaf();
-        let value = self.nodes.value(room, visits);
-        self.at = room_after(self.nodes, room, &mut self.sides, visits);
+        let leaf = self.nodes.links(place.room, visits).leaf();
+        let value = self.nodes.value(place.room, visits);
+        self.at = place_after(self.nodes, place, visits);
         Some((leaf.key, leaf.rank, value))
     }
 }
 
-/// What the room of a node says of what is beneath it.
-fn opened<V>(nodes: &Nodes<V>, at: Node, visits: &mut Visits) -> Side
-    requires tree { (p : Part nodes.now.lodged) × (name_of p.tree ≡ at) }
+/// The first route beneath a node.
+fn first_place<V>(nodes: &Nodes<V>, from: Node, visits: &mut Visits) -> Place
+    requires tree { (p : Part nodes.now.lodged) × (name_of p.tree ≡ from) }
     requires turn { visits.old.turn ≡ nodes.now.turn }
-    ensures side { (p : Part nodes.now.lodged) → name_of p.tree ≡ at → IsSide nodes.now.lodged p.low (Some result) }
-    ensures shown { side_shown (leaves_in nodes.now.lodged) (bits_in nodes.now.lodged) (Some result)
-        ≡ beneath_shown levels (leaves_in nodes.now.lodged) (bits_in nodes.now.lodged) at }
+    ensures led { (p : Part nodes.now.lodged) → name_of p.tree ≡ from → LedTo 0 p result.first }
+    ensures room { result.room ≡ result.first }
     ensures counter { visits.new.turn ≡ visits.old.turn }
 {
-    match at {
-        Node::Leaf(room) => Side::Chain(room),
-        Node::Bit(room) => {
-            let node = roles::bit_node(nodes, room, visits);
-            Side::Fork(node.zero, node.one)
-        }
-    }
+    // All bits of this address are 0.
+    let first = leaf_for(nodes, from, Inet([0, 0, 0, 0]), visits);
+    Place { first, room: first }
 }
 
-/// The first route of a side, by its room; what stands behind its chain on this side is put to the sides.
-fn first_beneath<V>(nodes: &Nodes<V>, side: Side, sides: &mut Sides, visits: &mut Visits) -> Id
-    requires side { IsSide nodes.now.lodged (length sides.old.items) (Some side) }
-    requires sides { AreSides nodes.now.lodged 0 sides.old.items }
+/// The route behind one: the next of its chain, or else the first behind that.
+fn place_after<V>(nodes: &Nodes<V>, place: Place, visits: &mut Visits) -> Option<Place>
+    requires at { IsAt nodes.now.lodged place }
     requires turn { visits.old.turn ≡ nodes.now.turn }
-    ensures on { IsOn nodes.now.lodged (Some result) sides.new.items }
-    ensures sides { AreSides nodes.now.lodged 0 sides.new.items }
-    ensures rest { ahead (leaves_in nodes.now.lodged) (bits_in nodes.now.lodged) (Some result) sides.new.items
-        ≡ side_shown (leaves_in nodes.now.lodged) (bits_in nodes.now.lodged) (Some side)
-        ++ sides_shown (leaves_in nodes.now.lodged) (bits_in nodes.now.lodged) sides.old.items }
+    ensures on { IsOn nodes.now.lodged result }
+    ensures rest { ahead (leaves_in nodes.now.lodged) (bits_in nodes.now.lodged) (Some place)
+        ≡ chain_from (leaves_in nodes.now.lodged (number_of place.room))
+        (λ next. ahead (leaves_in nodes.now.lodged) (bits_in nodes.now.lodged) result) }
     ensures counter { visits.new.turn ≡ visits.old.turn }
 {
-    let mut at = side;
-    loop {
-        match at {
-            Side::Chain(room) => return room,
-            Side::Fork(zero, one) => {
-                let behind = opened(nodes, one, visits);
-                at = opened(nodes, zero, visits);
-                sides.push(Some(behind));
-            }
-        }
-    }
-}
-
-/// The room of the route behind one: the next of its chain, or else the first of the sides.
-fn room_after<V>(nodes: &Nodes<V>, room: Id, sides: &mut Sides, visits: &mut Visits) -> Option<Id>
-    requires on { IsOn nodes.now.lodged (Some room) sides.old.items }
-    requires sides { AreSides nodes.now.lodged 0 sides.old.items }
-    requires turn { visits.old.turn ≡ nodes.now.turn }
-    ensures on { IsOn nodes.now.lodged result sides.new.items }
-    ensures sides { AreSides nodes.now.lodged 0 sides.new.items }
-    ensures rest { ahead (leaves_in nodes.now.lodged) (bits_in nodes.now.lodged) (Some room) sides.old.items
-        ≡ chain_from (leaves_in nodes.now.lodged (number_of room))
-        (λ next. ahead (leaves_in nodes.now.lodged) (bits_in nodes.now.lodged) result sides.new.items) }
-    ensures counter { visits.new.turn ≡ visits.old.turn }
-{
-    let leaf = nodes.links(room, visits).leaf();
+    let leaf = nodes.links(place.room, visits).leaf();
     match leaf.next {
-        Some(next) => Some(next),
-        None => first_of_sides(nodes, sides, visits),
+        Some(next) => Some(Place {
+            first: place.first,
+            room: next,
+        }),
+        None => place_behind(nodes, place.first, leaf.key, visits),
     }
 }
 
-/// The first route of the sides, by its room.
-fn first_of_sides<V>(nodes: &Nodes<V>, sides: &mut Sides, visits: &mut Visits) -> Option<Id>
-    requires sides { AreSides nodes.now.lodged 0 sides.old.items }
+/// The first route behind a chain of a key: on the way up, the first one on the other side of a bit node on whose side
+/// of zeros the chain is.
+fn place_behind<V>(nodes: &Nodes<V>, first: Id, key: Inet, visits: &mut Visits) -> Option<Place>
+    requires first { IsFirst nodes.now.lodged key first }
     requires turn { visits.old.turn ≡ nodes.now.turn }
-    ensures on { IsOn nodes.now.lodged result sides.new.items }
-    ensures sides { AreSides nodes.now.lodged 0 sides.new.items }
-    ensures rest { ahead (leaves_in nodes.now.lodged) (bits_in nodes.now.lodged) result sides.new.items
-        ≡ sides_shown (leaves_in nodes.now.lodged) (bits_in nodes.now.lodged) sides.old.items }
+    ensures on { IsOn nodes.now.lodged result }
+    ensures rest { ahead (leaves_in nodes.now.lodged) (bits_in nodes.now.lodged) result
+        ≡ chain_behind (leaves_in nodes.now.lodged) (bits_in nodes.now.lodged)
+        (leaves_in nodes.now.lodged (number_of first)) }
     ensures counter { visits.new.turn ≡ visits.old.turn }
 {
-    match sides.pop() {
-        Some(Some(side)) => Some(first_beneath(nodes, side, sides, visits)),
-        Some(None) => unreachable!(),
-        None => None,
+    let mut above = nodes.links(first, visits).leaf().above;
+    while let Some(up) = above {
+        let Some(node) = nodes.links(up, visits).bit_node() else {
+            unreachable!();
+        };
+        if !is_one(key, node.bit) {
+            return Some(first_place(nodes, node.one, visits));
+        }
+        above = node.above;
     }
+    None
 }
