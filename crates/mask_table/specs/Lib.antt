@@ -1,3 +1,4 @@
 pub mod Agreeing
 pub mod Counts
+pub mod Held
 pub mod Ranks
