@@ -5,6 +5,6 @@ mod memory;
 mod number;
 mod numbers;
 
-pub use memory::{MOST_ASKED, Memory};
+pub use memory::{MOST_ASKED, Memory, give_back};
 pub use number::Number;
 pub use numbers::Numbers;

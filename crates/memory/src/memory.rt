@@ -1,13 +1,10 @@
 //! The calls that ask for memory, and how often it was refused.
-ghost use Rattle.std.specs.Prelude.{◌≡◌, ◌+◌, ◌<◌, ◌≤◌, ◌++◌, ◌∷◌, [], length, is_err, IsOk, OnOk, OnErr, IfOk, vec_len, vec_capacity};
-ghost use Rattle.std.specs.HashMap.{get, spare};
+ghost use Rattle.std.specs.Prelude.{◌≡◌, ◌+◌, ◌*◌, ◌<◌, ◌≤◌, ◌++◌, ◌∷◌, [], length, is_err, IsOk, OnOk, OnErr, IfOk, vec_len, vec_capacity};
 ghost use Rattle.memory.specs.Refusing.{Rises};
 
 use crate::number::Number;
 use crate::numbers::Numbers;
 use std::alloc::{AllocError, Global};
-use std::collections::HashMap;
-use std::hash::Hash;
 use std::marker::Model;
 use std_alloc::room::Vacant;
 
@@ -107,14 +104,14 @@ impl Memory {
         }
     }
 
-    /// Makes room for one entry more of a map.
-    pub fn entry<K: Eq + Hash, V>(&mut self, map: &mut HashMap<K, V>) -> Result<(), AllocError>
-        ensures entries { (key : K) → get K.eq map.new key ≡ get K.eq map.old key }
-        ensures room { OnOk result (0 < spare map.new) }
-        ensures there { 0 < spare map.old → IsOk result }
+    /// Makes room for as many items more as a vector has.
+    pub fn double<T>(&mut self, items: &mut Vec<T>) -> Result<(), AllocError>
+        ensures items { items.new.items ≡ items.old.items }
+        ensures room { OnOk result (2 * vec_len items.new ≤ vec_capacity items.new) }
+        ensures there { 2 * vec_len items.old ≤ vec_capacity items.old → IsOk result }
         ensures counted { Rises (is_err result) self.old self.new }
     {
-        match map.reserve(1) {
+        match items.reserve_exact(items.len()) {
             Ok(()) => Ok(()),
             Err(_) => Err(self.refuse()),
         }
@@ -161,4 +158,14 @@ impl Memory {
         self.refused.raise();
         AllocError
     }
+}
+
+/// Gives back the memory of a vector that its items don't need. It asks for no more, and is never refused: where a smaller
+/// block can't be had, the vector keeps its own.
+pub fn give_back<T>(items: &mut Vec<T>)
+    ensures items { items.new.items ≡ items.old.items }
+    ensures less { vec_capacity items.new ≤ vec_capacity items.old }
+    ensures empty { vec_len items.old ≡ 0 → vec_capacity items.new ≡ 0 }
+{
+    items.shrink_to_fit();
 }

@@ -6,7 +6,7 @@ use std::marker::Model;
 use std::snapshot::Snapshot;
 
 /// A counter of visits to rooms, without bytes at run time. A contract sees the turn of the map that it is of, and
-/// its count. Only `Nodes::begin` makes one.
+/// its count. Only `Nodes::begin` makes one. Who looks for a room elsewhere counts each place where it looks as a visit.
 #[derive(Drop)]
 pub struct Visits {
     turn: Snapshot<Number>,
@@ -34,7 +34,7 @@ impl Visits {
     }
 
     /// Counts one visit.
-    pub(crate) fn tick(&mut self)
+    pub fn tick(&mut self)
         ensures turn { self.new.turn ≡ self.old.turn }
         ensures count { self.new.count ≡ self.old.count + 1 }
     {

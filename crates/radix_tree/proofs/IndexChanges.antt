@@ -1,7 +1,7 @@
 -- An index follows the routes of a table's rooms.
 use Rattle.radix_tree.proofs.{Indexed.same_pair, Indexed.place_route, Kept.IsFound, Kept.IsNext, Kept.pair_there, RoomReads.inside, RoomReads.none_some}
-use Rattle.radix_tree.specs.Index.{Indexes, IsSameIndex, Enters, Strikes, HasPlaceMore, HasPlaceLess, named, pair, place_of, places_in}
-use Rattle.radix_tree.specs.declared.index.Index.{Index}
+use Rattle.radix_tree.specs.Index.{Indexes, HasPlaceMore, HasPlaceLess, pair, place_of, places_in}
+use Rattle.room_index.specs.Names.{Held, Names, Enters, Strikes}
 use Rattle.radix_tree.proofs.Words.{◌≡◌, ℕ, ◌≤◌, if◌then◌else◌, true≢false, Bool, true, false, Option, Some, None, refl, sym, ap, subst, ◌∙◌}
 use Rattle.radix_tree.proofs.Words.{inl, inr, cases_eq, eq-eqb, ne_eqb, arith}
 use Rattle.radix_tree.proofs.Words.{Ptr, List, Id, Node, Entry, Lodged, Rooms, Holds, shown, entry_at, is_some, IsKept}
@@ -10,28 +10,19 @@ use Rattle.radix_nodes.specs.Naming.{number_of}
 
 module _ {V : Type 0} where
   -- the rooms have the routes that they had
-  pub same_index : (i : Index) (m new : Lodged V) → ((n : ℕ) → places_in new n ≡ places_in m n) → Indexes i m → Indexes i new
-  same_index i m new keeps is = record {
-    found = λ k room named. keeps (number_of room) ∙ is.found k room named;
+  pub same_index : (h : Held) (m new : Lodged V) → ((n : ℕ) → places_in new n ≡ places_in m n) → Indexes h m → Indexes h new
+  same_index h m new keeps is = record {
+    found = λ k room names. keeps (number_of room) ∙ is.found k room names;
     all = λ whole n place at. is.all whole n place (sym (keeps n) ∙ at);
   }
 
-  -- or the index has the same rooms
-  pub index_reserved : (i j : Index) (m : Lodged V) → IsSameIndex i j → Indexes i m → Indexes j m
-  index_reserved i j m same is = record {
-    found = λ k room named. is.found k room (sym (same.rooms k) ∙ named);
-    all = λ whole n place at. let r = is.all (sym same.whole ∙ whole) n place at in (r.0, same.rooms place.1 ∙ r.1, r.2);
-  }
-
-  -- so the table is kept where no room has changed
-  pub kept_reserved : (i j : Index) (nodes now : Rooms V) {root : Option Node} {counts : List ℕ} {given : List (ℕ × ℕ)} {last : ℕ}
-      → IsKept nodes root counts i given last → IsSameIndex i j → now ≡ nodes → IsKept now root counts j given last
+  -- so the table is kept where no room has changed, and the index has what it had
+  pub kept_reserved : (i j : Held) (nodes now : Rooms V) {root : Option Node} {counts : List ℕ} {given : List (ℕ × ℕ)} {last : ℕ}
+      → IsKept nodes root counts i given last → j ≡ i → now ≡ nodes → IsKept now root counts j given last
   kept_reserved i j nodes now {root} {counts} {given} {last} kept same stays =
-      let indexed = index_reserved i j nodes.lodged same kept.indexed in
-      subst (λ r. IsKept r root counts j given last) (sym stays)
-      (record { holds = kept.holds; counted = kept.counted; indexed = indexed; numbered = kept.numbered })
+      subst (λ h. IsKept now root counts h given last) (sym same) (subst (λ r. IsKept r root counts i given last) (sym stays) kept)
 
-  pub index_begun : (i : Index) (nodes next : Rooms V) → IsNext nodes next → Indexes i nodes.lodged → Indexes i next.lodged
+  pub index_begun : (i : Held) (nodes next : Rooms V) → IsNext nodes next → Indexes i nodes.lodged → Indexes i next.lodged
   index_begun i nodes next begins is = subst (λ r. Indexes i r.lodged) (sym begins) is
 
   -- ---- a route comes
@@ -44,9 +35,8 @@ module _ {V : Type 0} where
       let there = pair_there w key rank r.route r.is_in (same_pair r.route.entry.key r.route.entry.rank key rank r.fits fits r.pair_is) in
       true≢false (sym (subst IsSome none there))
 
-  module _ (i j : Index) (m new : Lodged V) (room : Id) (e : Entry V) (is : Indexes i m) (takes : Enters i j (pair e.key e.rank) room)
-      (free : places_in m (number_of room) ≡ None) (more : HasPlaceMore m new room e)
-      (absent : (n : ℕ) (b : Ptr) → places_in m n ≡ Some (b, pair e.key e.rank) → ⊥) where
+  module _ (i j : Held) (m new : Lodged V) (room : Id) (e : Entry V) (is : Indexes i m) (takes : Enters i j (pair e.key e.rank) room)
+      (free : places_in m (number_of room) ≡ None) (more : HasPlaceMore m new room e) where
     abbrev own : ℕ
     own = pair e.key e.rank
 
@@ -57,39 +47,32 @@ module _ {V : Type 0} where
     there : (n : ℕ) → (n ≡ number_of room → ⊥) → places_in new n ≡ places_in m n
     there n other = more n ∙ ap (λ t. if t then Some (room.block, own) else places_in m n) (ne_eqb n (number_of room) other)
 
-    still : (k : ℕ) (r : Id) → named i k ≡ Some r → places_in new (number_of r) ≡ Some (r.block, k)
-    still k r at =
-        let had = is.found k r at in
+    still : (k : ℕ) (r : Id) → Names i k r → places_in new (number_of r) ≡ Some (r.block, k)
+    still k r names =
+        let had = is.found k r names in
         there (number_of r) (λ same. none_some (sym free ∙ ap (places_in m) (sym same) ∙ had)) ∙ had
 
-    found_more : (b : Bool) → j.whole ≡ b → (k : ℕ) (r : Id) → named j k ≡ Some r → places_in new (number_of r) ≡ Some (r.block, k)
-    found_more false whole k r at = still k r (takes.fewer whole k r at)
-    found_more true whole k r at =
-        let names = (takes.rooms whole).1 k in
-        elim (cases_eq k own) [
-          | inl same ↦
-              let put = ap (λ t. if t then Some room else named i k) (eq-eqb k own same) in
-              subst (λ s. places_in new (number_of s) ≡ Some (s.block, k)) (inside (sym put ∙ sym names ∙ at))
-              (here (number_of room) refl ∙ ap (λ q. Some (room.block, q)) (sym same))
-          | inr other ↦ still k r (sym (ap (λ t. if t then Some room else named i k) (ne_eqb k own other)) ∙ sym names ∙ at)
-        ]
+    found_more : (k : ℕ) (r : Id) → Names j k r → places_in new (number_of r) ≡ Some (r.block, k)
+    found_more k r names = elim (takes.only k r names) [
+      | inl own ↦ subst (λ s. places_in new (number_of s) ≡ Some (s.block, k)) (sym own.1)
+          (here (number_of room) refl ∙ ap (λ q. Some (room.block, q)) (sym own.0))
+      | inr had ↦ still k r had
+    ]
 
-    all_more : j.whole ≡ true → (n : ℕ) (place : Ptr × ℕ) → places_in new n ≡ Some place → (r : Id) × (named j place.1 ≡ Some r) × (number_of r ≡ n)
+    all_more : j.whole ≡ true → (n : ℕ) (place : Ptr × ℕ) → places_in new n ≡ Some place → (r : Id) × Names j place.1 r × (number_of r ≡ n)
     all_more whole n place at =
-        let names = (takes.rooms whole).1 place.1 in
+        let kept = takes.more whole in
         elim (cases_eq n (number_of room)) [
           | inl same ↦
               let is_own = ap (λ q. q.1) (inside (sym at ∙ here n same)) in
-              (room, names ∙ ap (λ t. if t then Some room else named i place.1) (eq-eqb place.1 own is_own), sym same)
+              (room, subst (λ k. Names j k room) (sym is_own) kept.1, sym same)
           | inr other ↦
-              let had = sym (there n other) ∙ at in
-              let r = is.all (takes.rooms whole).0 n place had in
-              let not_own : place.1 ≡ own → ⊥ = λ same. absent n place.0 (had ∙ ap (λ q. Some (place.0, q)) same) in
-              (r.0, names ∙ ap (λ t. if t then Some room else named i place.1) (ne_eqb place.1 own not_own) ∙ r.1, r.2)
+              let r = is.all kept.0 n place (sym (there n other) ∙ at) in
+              (r.0, kept.2 place.1 r.0 r.1, r.2)
         ]
 
     pub index_more : Indexes j new
-    index_more = record { found = found_more j.whole refl; all = all_more }
+    index_more = record { found = found_more; all = all_more }
 
   -- ---- a route goes
   -- the room of a pair that was found
@@ -106,30 +89,30 @@ module _ {V : Type 0} where
   none_left m None holds none n = ap place_of (holds n)
   none_left m (Some root) holds none n = absurd (true≢false none)
 
-  module _ (i j : Index) (m new : Lodged V) (at : Id) (k : ℕ) (rest : Bool) (is : Indexes i m) (loses : Strikes i j k rest)
-      (had : places_in m (number_of at) ≡ Some (at.block, k)) (less : HasPlaceLess m new at) (gone : rest ≡ false → (n : ℕ) → places_in new n ≡ None) where
+  module _ (i j : Held) (m new : Lodged V) (at : Id) (k : ℕ) (rest : Bool) (is : Indexes i m) (loses : Strikes i j k rest)
+      (once : (r s : Id) → Names i k r → Names i k s → r ≡ s) (had : places_in m (number_of at) ≡ Some (at.block, k)) (less : HasPlaceLess m new at)
+      (gone : rest ≡ false → (n : ℕ) → places_in new n ≡ None) where
     out : (n : ℕ) → n ≡ number_of at → places_in new n ≡ None
     out n same = less n ∙ ap (λ t. if t then None else places_in m n) (eq-eqb n (number_of at) same)
 
     left : (n : ℕ) → (n ≡ number_of at → ⊥) → places_in new n ≡ places_in m n
     left n other = less n ∙ ap (λ t. if t then None else places_in m n) (ne_eqb n (number_of at) other)
 
-    found_less : (q : ℕ) (r : Id) → named j q ≡ Some r → places_in new (number_of r) ≡ Some (r.block, q)
-    found_less q r named =
-        let f = loses.fewer q r named in
+    found_less : (q : ℕ) (r : Id) → Names j q r → places_in new (number_of r) ≡ Some (r.block, q)
+    found_less q r names =
+        let f = loses.fewer q r names in
         let was = is.found q r f.0 in
         left (number_of r) (λ same. f.1 (ap (λ p. p.1) (inside (sym was ∙ ap (places_in m) same ∙ had)))) ∙ was
 
-    all_less : (b : Bool) → rest ≡ b → j.whole ≡ true → (n : ℕ) (place : Ptr × ℕ) → places_in new n ≡ Some place → (r : Id)
-        × (named j place.1 ≡ Some r) × (number_of r ≡ n)
+    all_less : (b : Bool) → rest ≡ b → j.whole ≡ true → (n : ℕ) (place : Ptr × ℕ) → places_in new n ≡ Some place → (r : Id) × Names j place.1 r × (number_of r ≡ n)
     all_less false none whole n place stands = absurd (none_some (sym (gone none n) ∙ stands))
     all_less true some whole n place stands =
-        let kept = loses.kept some whole in
+        let kept = (loses.loses some).kept whole in
         let other : n ≡ number_of at → ⊥ = λ same. none_some (sym (out n same) ∙ stands) in
         let r = is.all kept.0 n place (sym (left n other) ∙ stands) in
         let o = is.all kept.0 (number_of at) (at.block, k) had in
-        let not_k : place.1 ≡ k → ⊥ = λ same. other (sym r.2 ∙ ap number_of (inside (sym r.1 ∙ ap (named i) same ∙ o.1)) ∙ o.2) in
-        (r.0, kept.1 place.1 not_k ∙ r.1, r.2)
+        let not_k : place.1 ≡ k → ⊥ = λ same. other (sym r.2 ∙ ap number_of (once r.0 o.0 (subst (λ q. Names i q r.0) same r.1) o.1) ∙ o.2) in
+        (r.0, kept.1 place.1 r.0 not_k r.1, r.2)
 
     pub index_less : Indexes j new
     index_less = record { found = found_less; all = all_less rest refl }

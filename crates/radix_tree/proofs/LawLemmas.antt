@@ -5,7 +5,7 @@ use Rattle.std.specs.Borrow.{Bor}
 use Rattle.std.proofs.lemmas.List.Elements.{filter-append}
 use Rattle.radix_tree.proofs.Words.{◌≡◌, ℕ, ◌≤◌, true, false, cond, filter, List, [], ◌∷◌, Option, Some, None, refl, sym, ◌∙◌, ap, inl, inr, arith, cases_lt}
 use Rattle.radix_tree.proofs.Words.{append-nil, option_map, agrees, precedes, IsRoute, IsTable, has_pair, entry_at, without, with_entry, agreeing}
-use Rattle.radix_tree.proofs.Words.{greater, greatest, best_of, AreOnePair, StandsIn, Agrees, IsBest, BestIsGreatest, BestIsUnique, NoneAgrees, BestStays}
+use Rattle.radix_tree.proofs.Words.{greater, best_of, AreOnePair, StandsIn, Agrees, IsBest, BestIsGreatest, BestIsUnique, NoneAgrees, BestStays}
 use Rattle.radix_tree.proofs.Words.{BestIsGreater, BestStaysWithout, WithThenWithout, WithoutThenWith, WithTwiceIsLast, routed, Entry}
 use Rattle.radix_tree.proofs.TableLemmas.{later, same, sooner, with_later, with_parts, without_absent, without_is_table}
 use Rattle.radix_tree.proofs.MemberLemmas.{best_is_member, members_stand, members_are_routes, members_of_without, without_keeps}

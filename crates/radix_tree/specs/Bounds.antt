@@ -1,5 +1,6 @@
 -- How wide an address is, and the bounds that follow.
-use Rattle.std.specs.Prelude.{ℕ, ◌+◌, ◌-◌}
+use Rattle.std.specs.Prelude.{ℕ, ◌+◌, ◌-◌, ◌*◌}
+use Rattle.room_index.specs.Looks.{pair_looks}
 
 -- an address has so many bits, of which this is the last
 abbrev pub width : ℕ
@@ -37,6 +38,10 @@ pair_reads = way_reads + chain_reads
 abbrev pub room_reads : ℕ
 room_reads = way_reads + chain_reads + 1 + (width + width)
 
--- of the best route: its room, its leaf and its value. They are 133, and 2,400 are promised
+-- of the best route's room by the index, which is asked for each rank; a way through the tree reads less
+abbrev pub asked_reads : ℕ
+asked_reads = ranks * pair_looks
+
+-- of the best route: its room, its leaf and its value. They are 1,090, and 2,400 are promised
 abbrev pub best_reads : ℕ
-best_reads = room_reads + 2
+best_reads = asked_reads + 2

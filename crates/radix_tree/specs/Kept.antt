@@ -9,7 +9,7 @@ use Rattle.radix_tree.specs.Index.{Indexes}
 use Rattle.radix_tree.specs.Table.{Contents}
 use Rattle.radix_tree.specs.Whole.{shown, Holds}
 use Rattle.radix_tree.specs.declared.entry.Entry.{Entry}
-use Rattle.radix_tree.specs.declared.index.Index.{Index}
+use Rattle.room_index.specs.Names.{Held}
 
 module _ {V : Type 0} where
   -- what a contract sees of the rooms beneath a root, of their numbers, and of the number that was given last
@@ -30,7 +30,7 @@ module _ {V : Type 0} where
 
   -- the rooms are a tree beneath the root, its routes are counted and found by the index, and each room has a number that
   -- was given
-  pub record IsKept (nodes : Rooms V) (root : Option Node) (counts : List ℕ) (index : Index) (given : List (ℕ × ℕ)) (last : ℕ) : Type 0 where
+  pub record IsKept (nodes : Rooms V) (root : Option Node) (counts : List ℕ) (index : Held) (given : List (ℕ × ℕ)) (last : ℕ) : Type 0 where
     pub holds : Holds nodes.lodged root
     pub counted : AreCounted counts (shown nodes.lodged root)
     pub indexed : Indexes index nodes.lodged

@@ -1,17 +1,12 @@
 -- What is read of rooms, and how counters of visits go on.
-use Rattle.std.specs.Prelude.{◌≡◌, ℕ, ◌+◌, ◌≤◌, Some}
+use Rattle.std.specs.Prelude.{◌≡◌, ◌+◌, Some}
 use Rattle.radix_nodes.specs.Counting.{Counter}
+pub use Rattle.room_index.specs.Looks.{Reads}
 use Rattle.radix_nodes.specs.Rooms.{Rooms}
 use Rattle.radix_nodes.specs.declared.id.Id.{Id}
 use Rattle.radix_nodes.specs.declared.links.BitNode.{BitNode}
 use Rattle.radix_tree.specs.Rooms.{bit_part, bits_in, heads_in, Lodged}
 use Rattle.radix_nodes.specs.Naming.{number_of}
-
--- a counter went on, by so many visits at most
-pub record Reads (old new : Counter) (most : ℕ) : Type 0 where
-  pub turn : new.turn ≡ old.turn
-  pub rises : old.count ≤ new.count
-  pub bound : new.count ≤ old.count + most
 
 -- by one visit
 pub record ReadsOnce (old new : Counter) : Type 0 where

@@ -9,7 +9,6 @@ mod entry;
 mod finding;
 mod given;
 mod growing;
-mod index;
 mod inserting;
 mod joining;
 pub mod laws;

@@ -87,7 +87,7 @@ impl<V: Drop> Table<V> {
             Ok((root, id)) => {
                 self.root = Some(root);
                 self.counts.added(rank);
-                self.index.enter(key, rank, id);
+                self.index.enter(key, rank, id, &mut visits);
                 self.given.put(at, number);
                 Ok(())
             }
@@ -118,7 +118,7 @@ impl<V: Drop> Table<V> {
         let (root, freed, value) = remove_route(&mut self.nodes, root, at, &mut visits);
         self.root = root;
         self.counts.dropped(rank);
-        self.index.strike(key, rank, root.is_some());
+        self.index.strike(key, rank, root.is_some(), &mut visits);
         self.given.take(Snapshot::of(&freed));
         self.nodes.scrap(freed);
         Some(value)

@@ -1,5 +1,5 @@
 use Rattle.radix_tree.proofs.{ChainWrites.own_part, ChainWrites.own_said, ChainWrites.Has-kept, RoomReads.AreLinks}
-use Rattle.radix_tree.proofs.Words.{◌≡◌, ◌∙◌, Some, sym, ap, Id, leaves_in, Lodged, Node, Part, LeafPart, link_out, arith, Links, Leaf, leaf_of, number_of}
+use Rattle.radix_tree.proofs.Words.{◌≡◌, ◌∙◌, Some, sym, ap, Id, leaves_in, Lodged, Node, Part, LeafPart, arith, Links, Leaf, leaf_of, number_of}
 use Rattle.radix_tree.proofs.chains.remove_from_chain.Goals.{After-link_out, After-link_out-2}
 use Rattle.radix_tree.proofs.ChainNeighbours.{IsMember, IsUnlinked, IsLeft, member_of, leaf_is, unlinked, before_there, behind_there, fork_above, left_kept}
 use Rattle.radix_tree.proofs.ChainNeighbours.{left_renamed}

@@ -1,29 +1,40 @@
-use Rattle.radix_tree.proofs.{Indexed.rank_hit, Indexed.rank_miss, Indexed.rank_empty}
-use Rattle.radix_tree.proofs.Words.{◌∙◌, sym, arith}
+use Rattle.radix_tree.proofs.{Indexed.rank_hit, Indexed.rank_miss, Indexed.no_rank}
+use Rattle.radix_tree.proofs.Words.{◌∙◌, arith}
 use Rattle.radix_tree.proofs.finding.best_by_rank.Goals as goal
 
-pub loop-left-init : goal.loop-left-init
-loop-left-init g c = record { within = omega arith; none = λ w y at covers below. below }
+pub returns-in-Some-find : goal.returns-in-Some-find
+returns-in-Some-find g c =
+    let was = c.loop-rank.invariant in
+    let greatest = c.in-Some.ensures in
+    record {
+      best = λ w. rank_hit w c.requires.indexed c.args.counts.now c.args.address c.loop-rank.left was.within c.requires.counted (was.rest w) greatest.0 greatest.2
+          c.masked.ensures.number c.in-Some-find.ensures.found;
+      visits = record {
+        turn = c.find.ensures.visits.turn ∙ was.reads.turn;
+        rises = omega (arith, c.find.ensures.visits.rises, was.reads.rises);
+        bound = omega (arith, c.find.ensures.visits.bound, was.reads.bound, was.within, greatest.0);
+      };
+    }
 
-pub returns-in-Some : goal.returns-in-Some
-returns-in-Some g c = record {
-  best = λ w. rank_hit w c.requires.indexed c.args.address c.loop-left-test.true c.loop-left.invariant.within c.new-rank.ensures c.masked.ensures.number
-      (sym c.find.ensures ∙ c.in-Some.is) (c.loop-left.invariant.none w);
-}
+pub loop-rank-preserved : goal.loop-rank-preserved
+loop-rank-preserved g c =
+    let was = c.loop-rank.invariant in
+    let greatest = c.in-Some.ensures in
+    record {
+      within = omega (arith, was.within, greatest.0, c.number-left.ensures.number);
+      rest = λ w y at covers below. omega (
+        arith,
+        c.number-left.ensures.number,
+        rank_miss w c.requires.indexed c.args.counts.now c.args.address c.loop-rank.left was.within c.requires.counted (was.rest w) greatest.0 greatest.2
+            c.masked.ensures.number c.requires.all c.in_default-find.ensures.found y at covers below,
+      );
+      reads = record {
+        turn = c.find.ensures.visits.turn ∙ was.reads.turn;
+        rises = omega (arith, c.find.ensures.visits.rises, was.reads.rises);
+        bound = omega (arith, c.find.ensures.visits.bound, was.reads.bound, was.within, greatest.0, c.number-left.ensures.number);
+      };
+    }
 
-pub loop-left-preserved-in_default : goal.loop-left-preserved-in_default
-loop-left-preserved-in_default g c = record {
-  within = omega (arith, c.loop-left.invariant.within);
-  none = λ w. rank_miss w c.requires.indexed c.args.address c.loop-left-test.true c.new-rank.ensures c.masked.ensures.number c.requires.all
-      (sym c.find.ensures ∙ c.in_default.is) (c.loop-left.invariant.none w);
-}
-
-pub loop-left-preserved : goal.loop-left-preserved
-loop-left-preserved g c = record {
-  within = omega (arith, c.loop-left.invariant.within);
-  none = λ w. rank_empty w c.requires.indexed c.args.counts.now c.args.address c.loop-left-test.true c.loop-left.invariant.within c.new-rank.ensures
-      c.requires.counted c.has.ensures.1 c.if-has.false (c.loop-left.invariant.none w);
-}
-
-pub returns : goal.returns
-returns g c = record { best = λ w y at covers below. omega (arith, c.loop-left-test.false, c.loop-left.invariant.none w y at covers below) }
+pub returns-clause-best : goal.returns-clause-best
+returns-clause-best g c w = no_rank w c.requires.indexed c.args.counts.now c.args.address c.loop-rank.left c.loop-rank.invariant.within c.requires.counted
+    (c.loop-rank.invariant.rest w) c.in_default.ensures

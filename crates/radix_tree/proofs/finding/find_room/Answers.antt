@@ -1,6 +1,6 @@
-use Rattle.radix_tree.proofs.{Indexed.named_pair, Words.◌∙◌, Words.sym, Words.arith}
+use Rattle.radix_tree.proofs.{Indexed.named_pair, Words.sym, Words.◌∙◌, Words.arith}
 use Rattle.radix_tree.proofs.finding.find_room.Goals as goal
 
 pub returns-then-is_whole-clause-found : goal.returns-then-is_whole-clause-found
 returns-then-is_whole-clause-found g c w =
-    named_pair w c.requires.indexed c.args.key c.args.rank (grind arith) (sym c.is_whole.ensures ∙ c.if-is_whole.true) c.find.result (sym c.find.ensures)
+    named_pair w c.requires.indexed c.args.key c.args.rank (grind arith) (sym c.is_whole.ensures ∙ c.if-is_whole.true) c.find.result c.find.ensures.found

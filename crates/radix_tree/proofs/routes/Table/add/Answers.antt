@@ -5,6 +5,7 @@ use Rattle.radix_tree.proofs.Words.{◌≡◌, ℕ, ◌+◌, ◌<◌, ◌∷◌,
 use Rattle.radix_tree.proofs.Words.{entry_at, uses, with_entry, shown, Holds, leaf_in, leaves_in, Ptr}
 use Rattle.radix_tree.specs.Given.{AreGiven, numbers_in}
 use Rattle.radix_tree.specs.Index.{HasPlaceMore, pair, place_of, places_in}
+use Rattle.radix_nodes.specs.Naming.{number_of}
 use Rattle.radix_tree.proofs.routes.Table.add.Goals as goal
 
 pub added-requires : goal.added-requires
@@ -43,6 +44,13 @@ unplaced g c =
     absent_place c.begin-visits.new.self.lodged c.self.inside.root c.args.key c.args.rank (grind arith) holds
     (ap (entry_at c.args.key c.args.rank) shown_as ∙ absent g c)
 
+-- so the index has no room for the pair
+pub enter-requires : goal.enter-requires
+enter-requires g c room names =
+    let at = (goal.at.enter-requires g c).In-Ok in
+    let is = index_begun c.self.inside.index c.self.inside.nodes c.begin-visits.new.self (begins g at) c.self.invariant.indexed in
+    unplaced g at (number_of room) room.block (is.found (pair c.args.key c.args.rank) room names)
+
 pub invariant_of-self-in-Ok-1 : goal.invariant_of-self-in-Ok-1
 invariant_of-self-in-Ok-1 g c =
     let at = (goal.at.invariant_of-self-in-Ok-1 g c).In-Ok in
@@ -58,7 +66,7 @@ invariant_of-self-in-Ok-1 g c =
           (record { key = c.args.key; rank = c.args.rank; value = c.args.value })
           (index_begun c.self.inside.index c.self.inside.nodes c.begin-visits.new.self (begins g at) c.self.invariant.indexed) c.enter.ensures.entered
           (ap place_of (ap (leaves_in m) c.in-Ok.ensures.number ∙ is_free g at))
-          (subst (HasPlaceMore m c.insert.new.nodes.lodged c.in-Ok.id) c.of-entry.ensures.entry c.in-Ok.ensures.places) (unplaced g at);
+          (subst (HasPlaceMore m c.insert.new.nodes.lodged c.in-Ok.id) c.of-entry.ensures.entry c.in-Ok.ensures.places);
       numbered = subst (λ p. AreGiven c.insert.new.nodes.lodged p c.self.inside.numbers) (sym put) (numbered g at);
     }
 

@@ -70,7 +70,7 @@ invariant_of-self-2 g c =
           (subst (λ r. HasOneMore r c.dropped.new.self c.self.inside.counts) (sym f.has.1) c.dropped.ensures);
       indexed = index_less c.self.inside.index c.strike.new.self c.begin-visits.new.self.lodged c.remove_route-root.new.nodes.lodged c.in-Some-find_room.at _ _
           (index_begun c.self.inside.index c.self.inside.nodes c.begin-visits.new.self c.begin-visits.ensures.turn c.self.invariant.indexed)
-          c.strike.ensures (found_place f) c.remove_route-root.ensures.places
+          c.strike.ensures.struck c.strike.ensures.once (found_place f) c.remove_route-root.ensures.places
           (λ none. none_left _ _ c.remove_route-root.ensures.whole (sym c.is_some.ensures ∙ none));
       numbered = subst (λ p. AreGiven c.remove_route-root.new.nodes.lodged p c.self.inside.numbers)
           (sym (taken g (goal.at.invariant_of-self-2 g c).After-take)) numbered;

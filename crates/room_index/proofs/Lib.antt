@@ -1,0 +1,7 @@
+pub mod Filing
+pub mod HomeLemmas
+pub mod Looking
+pub mod Moving
+pub mod Naming
+pub mod Sizing
+pub mod Standing

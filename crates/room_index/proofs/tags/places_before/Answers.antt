@@ -1,0 +1,30 @@
+use Rattle.std.proofs.Common.{◌≡◌, ℕ, ◌+◌, ◌≤◌, ◌==◌, ◌++◌, not, List, eqb, length, sym, ap, ◌∙◌, arith, refl, w16}
+use Rattle.std.specs.List.{prefix_len, range_with_len}
+use lib.Count.{count_trailing_zeros}
+use lib.Lanes.{chunk, pick_l}
+use Rattle.std.proofs.lemmas.List.{length-append}
+use Rattle.std.proofs.lemmas.Simd.{length-chunk, bitmask_splat, leading_from_mask_l, pick_l_whole, trailing_mask_l}
+use Rattle.room_index.proofs.tags.places_before.Goals as goal
+
+-- the lanes of one vector are the places of two buckets
+abbrev lanes : List ℕ → ℕ → ℕ → List ℕ
+lanes tags first second = pick_l 0 (chunk first 8 tags ++ chunk second 8 tags) (range_with_len 0 16)
+
+lanes_before : (tags : List ℕ) (first second tag : ℕ) → first + 8 ≤ length tags → second + 8 ≤ length tags
+    → prefix_len (λ t. not (eqb t tag)) (lanes tags first second) ≡ prefix_len (λ t. not (t == tag)) (chunk first 8 tags ++ chunk second 8 tags)
+lanes_before tags first second tag lower upper = ap (prefix_len (λ t. not (eqb t tag))) (pick_l_whole 0 (chunk first 8 tags ++ chunk second 8 tags) 16
+    (omega (arith, length-append (chunk first 8 tags) (chunk second 8 tags), length-chunk first 8 tags lower, length-chunk second 8 tags upper)))
+
+pub returns-then-hits-eq0-clause-before : goal.returns-then-hits-eq0-clause-before
+returns-then-hits-eq0-clause-before c =
+    let both = lanes c.args.tags.now c.args.first c.args.second in
+    let hits = bitmask_splat w16 eqb both 16 c.args.tag refl (omega arith) in
+    sym (leading_from_mask_l (λ t. eqb t c.args.tag) both (sym hits ∙ c.if-hits-eq0.true))
+    ∙ lanes_before c.args.tags.now c.args.first c.args.second c.args.tag c.requires.first c.requires.second
+
+pub returns-else-hits-eq0-clause-before : goal.returns-else-hits-eq0-clause-before
+returns-else-hits-eq0-clause-before c =
+    let both = lanes c.args.tags.now c.args.first c.args.second in
+    let hits = bitmask_splat w16 eqb both 16 c.args.tag refl (omega arith) in
+    ap (count_trailing_zeros 64) hits ∙ trailing_mask_l (λ t. eqb t c.args.tag) 64 both (omega arith) (omega arith)
+    ∙ lanes_before c.args.tags.now c.args.first c.args.second c.args.tag c.requires.first c.requires.second

@@ -1,0 +1,5 @@
+pub mod Homes
+pub mod Looks
+pub mod Names
+pub mod Places
+pub mod Sizes

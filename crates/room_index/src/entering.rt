@@ -1,0 +1,101 @@
+//! How an entry comes into the table of places.
+ghost use Rattle.std.specs.Prelude.{◌≡◌, ℕ, ◌+◌, ◌*◌, ◌/◌, ◌^◌, ◌<◌, ◌≤◌, ◌⊎◌, [], true, false, None, Some, IfSome, length};
+ghost use Rattle.room_index.specs.Places.{stands, Adds, HasSamePlaces, HaveSame, IsIn, IsTable};
+ghost use Rattle.room_index.specs.declared.entry.Entry.{Entry as Filed};
+
+use crate::entry::Entry;
+use crate::homes::Homes;
+use crate::places::Places;
+use crate::tags::PLACES;
+use radix_nodes::Visits;
+
+impl Places {
+    /// Puts an entry of a new pair into the table. `false` where there is no place for it: then all are given up.
+    pub(crate) fn enter(&mut self, entry: Entry, visits: &mut Visits) -> bool
+        requires table { IsTable self.old }
+        requires absent { (e : Filed) → IsIn self.old e → e.pair ≡ entry.pair → ⊥ }
+        ensures table { IsTable self.new }
+        ensures entered { result ≡ true → Adds self.old self.new entry }
+        ensures none { result ≡ false → self.new.tags.items ≡ [] }
+        ensures counter { visits.new.turn ≡ visits.old.turn }
+    {
+        if self.tags.is_empty() {
+            return false;
+        }
+        let homes = Homes::of(entry.pair, self.bits);
+        let Some(place) = self.vacant(&homes, visits) else {
+            self.give_up();
+            return false;
+        };
+        self.put(place, homes.tag, entry);
+        true
+    }
+
+    /// A free place in one of a pair's homes, in that of which the first free place is further to the front. Where both are
+    /// full, another entry makes way, if there is a place in its other home.
+    fn vacant(&mut self, homes: &Homes, visits: &mut Visits) -> Option<usize>
+        requires table { IsTable self.old }
+        requires first { 8 * homes.now.first + 8 ≤ length self.old.tags.items }
+        requires second { 8 * homes.now.second + 8 ≤ length self.old.tags.items }
+        ensures table { IsTable self.new }
+        ensures same { HaveSame self.old self.new }
+        ensures places { HasSamePlaces self.old self.new }
+        ensures free { IfSome result (λ n. (n < length self.new.tags.items) × (stands self.new n ≡ None)) }
+        ensures home { IfSome result (λ n. (n / 8 ≡ homes.now.first) ⊎ (n / 8 ≡ homes.now.second)) }
+        ensures counter { visits.new.turn ≡ visits.old.turn }
+    {
+        let first = self.free_in(homes.first, visits);
+        let second = self.free_in(homes.second, visits);
+        match (first, second) {
+            (Some(one), Some(other)) if other % PLACES < one % PLACES => Some(other),
+            (Some(one), _) => Some(one),
+            (None, Some(other)) => Some(other),
+            (None, None) => match self.cleared_in(homes.first, visits) {
+                Some(place) => Some(place),
+                None => self.cleared_in(homes.second, visits),
+            },
+        }
+    }
+
+    /// A place of a bucket from which an entry has moved to its other home.
+    fn cleared_in(&mut self, bucket: usize, visits: &mut Visits) -> Option<usize>
+        requires table { IsTable self.old }
+        requires within { 8 * bucket + 8 ≤ length self.old.tags.items }
+        ensures table { IsTable self.new }
+        ensures same { HaveSame self.old self.new }
+        ensures places { HasSamePlaces self.old self.new }
+        ensures free { IfSome result (λ n. (n < length self.new.tags.items) × (stands self.new n ≡ None)) }
+        ensures home { IfSome result (λ n. n / 8 ≡ bucket) }
+        ensures counter { visits.new.turn ≡ visits.old.turn }
+    {
+        let begin = PLACES * bucket;
+        for place in begin..begin + PLACES {
+            visits.tick();
+            if self.clear(place, visits) {
+                return Some(place);
+            }
+        }
+        None
+    }
+
+    /// Moves the entry of a place to its other home. `false` where there is no place for it.
+    fn clear(&mut self, place: usize, visits: &mut Visits) -> bool
+        requires table { IsTable self.old }
+        requires within { place < length self.old.tags.items }
+        ensures table { IsTable self.new }
+        ensures same { HaveSame self.old self.new }
+        ensures places { HasSamePlaces self.old self.new }
+        ensures free { result ≡ true → stands self.new place ≡ None }
+        ensures counter { visits.new.turn ≡ visits.old.turn }
+    {
+        let Some(entry) = self.at(place) else {
+            return true;
+        };
+        let other = Homes::of(entry.pair, self.bits).beside(place / PLACES);
+        let Some(free) = self.free_in(other, visits) else {
+            return false;
+        };
+        self.move_to(place, free);
+        true
+    }
+}

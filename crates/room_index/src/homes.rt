@@ -1,0 +1,95 @@
+//! Where a pair of a key and a rank is at home.
+ghost use Rattle.std.specs.Prelude.{◌≡◌, ◌+◌, ◌*◌, ◌≤◌, ◌<◌, ◌%◌, ◌^◌, ◌⊎◌, MatchBool};
+ghost use Rattle.room_index.specs.Homes.{pair, spread, homes, place_of};
+
+use crate::tags::{BOTH, PLACES};
+use mask_table::Rank;
+use sock_addrs::Inet;
+
+/// The most bits of a bucket's number. A number of 64 bits tells both buckets of a pair, and its tag.
+pub(crate) const MOST_BITS: u32 = 24;
+
+/// The number of a pair.
+pub(crate) fn pair_of(key: Inet, rank: Rank) -> u64
+    ensures { result ≡ pair key rank }
+{
+    u64::from(key.number()) * 64 + u64::from(rank.number())
+}
+
+/// The two buckets in which a pair is at home, and the tag that its place has there, which isn't 0.
+#[derive(Clone, Copy)]
+pub(crate) struct Homes {
+    pub(crate) tag: u16,
+    pub(crate) first: usize,
+    pub(crate) second: usize,
+}
+
+impl Homes {
+    /// Those of a pair among 2^`bits` buckets.
+    #[inline(always)]
+    pub(crate) fn of(pair: u64, bits: u32) -> Homes
+        requires { bits ≤ MOST_BITS }
+        ensures { result ≡ homes bits pair }
+    {
+        let spread = spread(pair);
+        Homes {
+            tag: ((spread >> 48) as u16).max(1),
+            first: low_bits(spread, bits),
+            second: low_bits(spread >> MOST_BITS, bits),
+        }
+    }
+
+    /// The place with this number among those of both, the first home's before the second's.
+    #[inline(always)]
+    pub(crate) fn place(&self, number: usize) -> usize
+        requires number { number < BOTH }
+        requires first { 8 * self.now.first + 8 < 2 ^ 64 }
+        requires second { 8 * self.now.second + 8 < 2 ^ 64 }
+        ensures { result ≡ place_of self.now number }
+    {
+        if number < PLACES {
+            PLACES * self.first + number
+        } else {
+            PLACES * self.second + (number - PLACES)
+        }
+    }
+
+    /// Whether a bucket is one of them.
+    pub(crate) fn has(&self, bucket: usize) -> bool
+        ensures { MatchBool result ((bucket ≡ self.now.first) ⊎ (bucket ≡ self.now.second))
+            ((bucket ≡ self.now.first → ⊥) × (bucket ≡ self.now.second → ⊥)) }
+    {
+        bucket == self.first || bucket == self.second
+    }
+
+    /// The one beside a bucket.
+    pub(crate) fn beside(&self, bucket: usize) -> usize
+        ensures { (result ≡ self.now.first) ⊎ (result ≡ self.now.second) }
+    {
+        if bucket == self.first {
+            self.second
+        } else {
+            self.first
+        }
+    }
+}
+
+/// A number of which each part depends on all of the pair. Multiplied by an odd number near 2^64 over the golden ratio, pairs
+/// that are near each other come far apart (Knuth, The Art of Computer Programming, 6.4), in the upper half; which is folded
+/// into the lower one.
+#[inline(always)]
+fn spread(pair: u64) -> u64
+    ensures { result ≡ spread pair }
+{
+    let product = pair.wrapping_mul(0x9E37_79B9_7F4A_7C15);
+    product ^ product >> 32
+}
+
+/// The lowest bits of a number.
+#[inline(always)]
+fn low_bits(number: u64, bits: u32) -> usize
+    requires { bits ≤ MOST_BITS }
+    ensures { result ≡ number % 2 ^ bits }
+{
+    (number & (1 << bits) - 1) as usize
+}
