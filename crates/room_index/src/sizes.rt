@@ -7,7 +7,7 @@ ghost use Rattle.room_index.specs.Sizes.{Folds, IsReserved, Parts, more_places};
 use crate::entry::Entry;
 use crate::homes::{Homes, MOST_BITS};
 use crate::places::Places;
-use crate::tags::PLACES;
+use crate::tags::{BOTH, PLACES};
 use memory::{Memory, give_back};
 use radix_nodes::Visits;
 use std::alloc::AllocError;
@@ -30,11 +30,11 @@ impl Places {
         self.tags.len() / PLACES <= many / DENSE
     }
 
-    /// Whether so many are few.
+    /// Whether so many are few: not one for two buckets. Then hardly ever do two that become one have more than its places.
     pub(crate) fn is_sparse(&self, many: usize) -> bool
-        ensures { result ≡ (nat_lt FEWEST_BITS self.now.bits && nat_lt many (length self.now.tags.items / PLACES)) }
+        ensures { result ≡ (nat_lt FEWEST_BITS self.now.bits && nat_lt many (length self.now.tags.items / BOTH)) }
     {
-        self.bits > FEWEST_BITS && many < self.tags.len() / PLACES
+        self.bits > FEWEST_BITS && many < self.tags.len() / BOTH
     }
 
     /// How many places more a larger table has.
