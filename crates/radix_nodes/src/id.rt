@@ -13,7 +13,7 @@ pub struct Id {
 
 impl Id {
     /// What stands in a field that names no room. No room has the number 0.
-    pub(crate) fn nobody() -> Id
+    pub fn nobody() -> Id
         ensures { result ≡ record { block = null_ptr } }
     {
         Id {

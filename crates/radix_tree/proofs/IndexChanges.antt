@@ -1,10 +1,11 @@
 -- An index follows the routes of a table's rooms.
 use Rattle.radix_tree.proofs.{Indexed.same_pair, Indexed.place_route, Kept.IsFound, Kept.IsNext, Kept.pair_there, RoomReads.inside, RoomReads.none_some}
 use Rattle.radix_tree.specs.Index.{Indexes, HasPlaceMore, HasPlaceLess, pair, place_of, places_in}
-use Rattle.room_index.specs.Names.{Held, Names, Enters, Strikes}
+use Rattle.room_index.specs.Names.{Held, Keeps, Names, Enters, Strikes}
 use Rattle.radix_tree.proofs.Words.{◌≡◌, ℕ, ◌≤◌, if◌then◌else◌, true≢false, Bool, true, false, Option, Some, None, refl, sym, ap, subst, ◌∙◌}
 use Rattle.radix_tree.proofs.Words.{inl, inr, cases_eq, eq-eqb, ne_eqb, arith}
-use Rattle.radix_tree.proofs.Words.{Ptr, List, Id, Node, Entry, Lodged, Rooms, Holds, shown, entry_at, is_some, IsKept}
+use Rattle.radix_tree.proofs.Words.{Ptr, List, Id, Node, Entry, Lodged, Rooms, Holds, shown, entry_at, is_some, AreCounted, IsKept}
+use Rattle.radix_tree.specs.Given.{AreGiven}
 use Rattle.std.specs.Prelude.{IsSome}
 use Rattle.radix_nodes.specs.Naming.{number_of}
 
@@ -24,6 +25,25 @@ module _ {V : Type 0} where
 
   pub index_begun : (i : Held) (nodes next : Rooms V) → IsNext nodes next → Indexes i nodes.lodged → Indexes i next.lodged
   index_begun i nodes next begins is = subst (λ r. Indexes i r.lodged) (sym begins) is
+
+  -- an index that has what it had, or that was given up
+  pub index_keeps : (i j : Held) (m : Lodged V) → Keeps i j → Indexes i m → Indexes j m
+  index_keeps i j m keeps is = record {
+    found = λ k room names. is.found k room (keeps.fewer k room names);
+    all = λ whole n place at.
+        let kept = keeps.kept whole in
+        let r = is.all kept.0 n place at in (r.0, kept.1 place.1 r.0 r.1, r.2);
+  }
+
+  -- so the table is kept where no room has changed
+  pub kept_keeps : (i j : Held) (nodes now : Rooms V) {root : Option Node} {counts : List ℕ} {given : List (ℕ × ℕ)} {last : ℕ}
+      → IsKept nodes root counts i given last → Keeps i j → now.lodged ≡ nodes.lodged → IsKept now root counts j given last
+  kept_keeps i j nodes now {root} {counts} {given} {last} kept keeps stays = record {
+    holds = subst (λ m. Holds m root) (sym stays) kept.holds;
+    counted = subst (λ m. AreCounted counts (shown m root)) (sym stays) kept.counted;
+    indexed = subst (Indexes j) (sym stays) (index_keeps i j nodes.lodged keeps kept.indexed);
+    numbered = subst (λ m. AreGiven m given last) (sym stays) kept.numbered;
+  }
 
   -- ---- a route comes
   -- no room has a pair that the table has not

@@ -57,6 +57,7 @@ pub mod MoveWrites
 pub mod MovedRooms
 pub mod MovedSpare
 pub mod MovedWhole
+pub mod Nearing
 pub mod OrderLemmas
 pub mod PartRooms
 pub mod Parts

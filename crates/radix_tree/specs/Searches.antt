@@ -2,7 +2,8 @@
 use Rattle.std.specs.Prelude.{◌≡◌, ℕ, ◌+◌, ◌<◌, ◌≤◌, ◌⊎◌, List, [], ◌∷◌, Option, None, Some}
 use Rattle.radix_nodes.specs.declared.id.Id.{Id}
 use Rattle.radix_tree.specs.Tree.{Placed, Tree, leaf, fork, bit_at, Covers, IsIn}
-use Rattle.radix_tree.specs.Rooms.{Part, Lodged}
+use Rattle.radix_nodes.specs.declared.links.Node.{Node}
+use Rattle.radix_tree.specs.Rooms.{Part, Lodged, name_of}
 
 module _ {V : Type 0} where
   -- a room is told, or none, by what holds of its route
@@ -60,5 +61,12 @@ module _ {V : Type 0} where
     pub record LedTo (address : ℕ) (whole : Part m) (room : Id) : Type 0 where
       pub part : Part m
       pub leaf : LeafAt part room
+      pub ups : List (Part m)
+      pub way : Way address whole part ups
+
+    -- a node on the way of an address
+    pub record IsOnWay (address : ℕ) (whole : Part m) (at : Node) : Type 0 where
+      pub part : Part m
+      pub named : name_of part.tree ≡ at
       pub ups : List (Part m)
       pub way : Way address whole part ups

@@ -2,7 +2,7 @@
 ghost use Rattle.std.specs.Prelude.{◌≡◌, Some, None, IsSome, IfOk, IfErr, OnOk, OnErr};
 ghost use Rattle.radix_tree.specs.Growth.{Gains, IsSpare, HasKeyAt, DiffersAt};
 ghost use Rattle.radix_nodes.specs.Naming.{number_of};
-ghost use Rattle.radix_tree.specs.Index.{HasPlaceMore};
+ghost use Rattle.radix_tree.specs.Index.{HasPlaceMore, Indexes};
 ghost use Rattle.radix_tree.specs.Marks.{HasRoomMore};
 ghost use Rattle.radix_tree.specs.Table.{IsRoute, entry_at};
 ghost use Rattle.radix_tree.specs.Whole.{IsWhole, Holds, shown};
@@ -10,12 +10,13 @@ ghost use Rattle.radix_tree.specs.Reads.{Stays};
 
 use crate::bits::first_difference;
 use crate::chains::insert_in_chain;
-use crate::descent::leaf_for;
+use crate::descent::leaf_by_index;
 use crate::entry::Entry;
 use crate::inserting::insert_beside;
 use crate::linking::lodge_leaf;
 use crate::listing::{list_chain, list_mask};
 use radix_nodes::{Id, Leaf, Node, Nodes, Room, Visits};
+use room_index::Index;
 
 /// Lodges a table's first route, whose leaf is all of the tree, and answers the root and the room.
 fn insert_first<V>(
@@ -113,12 +114,14 @@ fn insert_among<V>(
 /// rank, the room and the value come back.
 pub(crate) fn insert<V>(
     nodes: &mut Nodes<V>,
+    index: &Index,
     root: Option<Node>,
     room: Room<V>,
     entry: Entry<V>,
     visits: &mut Visits,
 ) -> Result<(Node, Id), (Room<V>, V)>
     requires holds { Holds nodes.old.lodged root }
+    requires indexed { Indexes index.now nodes.old.lodged }
     requires spare { IsSpare nodes.old room }
     requires route { IsRoute entry }
     requires turn { visits.old.turn ≡ nodes.old.turn }
@@ -136,7 +139,7 @@ pub(crate) fn insert<V>(
     let Some(root) = root else {
         return Ok(insert_first(nodes, room, entry, visits));
     };
-    let leaf = leaf_for(nodes, root, entry.key, visits);
+    let leaf = leaf_by_index(nodes, index, root, entry.key, visits);
     let key = nodes.links(leaf, visits).leaf().key;
     match first_difference(entry.key, key) {
         Some(bit) => Ok(insert_new(nodes, root, leaf, bit, room, entry, visits)),

@@ -15,7 +15,7 @@ use crate::masks::{home, sort_in, sort_out};
 use radix_nodes::{Id, Nodes, Visits};
 
 /// The first room of the chain that a room is in.
-fn first_of_chain<V>(nodes: &Nodes<V>, room: Id, visits: &mut Visits) -> Id
+pub(crate) fn first_of_chain<V>(nodes: &Nodes<V>, room: Id, visits: &mut Visits) -> Id
     requires chain { (c : Run nodes.now.lodged) × (y : Placed V) × (c.previous ≡ None) × IsAmong y c.members
         × (y.room ≡ room) }
     requires turn { visits.old.turn ≡ nodes.now.turn }

@@ -82,12 +82,14 @@ impl<V: Drop> Table<V> {
         let at = Snapshot::of(&space);
         let mut visits = self.nodes.begin();
         let entry = Entry::of(key, rank, value);
-        match insert(&mut self.nodes, self.root, space, entry, &mut visits) {
+        let vacancy = self.index.vacancy(key, rank, &mut visits);
+        let index = &self.index;
+        match insert(&mut self.nodes, index, self.root, space, entry, &mut visits) {
             Err((space, value)) => Err((Room { space, number }, value)),
             Ok((root, id)) => {
                 self.root = Some(root);
                 self.counts.added(rank);
-                self.index.enter(key, rank, id, &mut visits);
+                self.index.enter(vacancy, key, rank, id);
                 self.given.put(at, number);
                 Ok(())
             }

@@ -1,9 +1,9 @@
 -- A table whose entries stand where they may, while one is put, freed or moved.
-use Rattle.std.proofs.Common.{◌≡◌, ℕ, ◌*◌, ◌^◌, ◌<◌, ◌≤◌, ◌==◌, if◌then◌else◌, ◌⊎◌, Option, Some, None, slice_index, sym, ap, subst, ◌∙◌, refl, inl, inr}
+use Rattle.std.proofs.Common.{◌≡◌, ℕ, ◌*◌, ◌^◌, ◌<◌, ◌≤◌, ◌==◌, if◌then◌else◌, ◌⊎◌, Option, Some, None, slice_index, length, sym, ap, subst, ◌∙◌, refl, inl, inr}
 use Rattle.std.proofs.lemmas.Bool.{cases_eq, eq-eqb, ne_eqb}
 use Rattle.std.proofs.lemmas.Option.{none-some, same_Some}
 use Rattle.room_index.specs.Homes.{tag_of}
-use Rattle.room_index.specs.Places.{stands, tag_in, Adds, AreFiled, Changes, HasSamePlaces, HasSize, HaveSame, IsIn, Moves}
+use Rattle.room_index.specs.Places.{standing, stands, tag_in, Adds, AreFiled, Changes, HasSamePlaces, HasSize, HaveSame, IsHome, IsIn, IsTable, Moves}
 use Rattle.room_index.specs.declared.entry.Entry.{Entry}
 use Rattle.room_index.specs.declared.places.Places.{Places}
 
@@ -39,6 +39,13 @@ filed_as p q may are alike tags = record {
   places = λ n e at. are.places n e (sym (alike n) ∙ at);
   tags = λ n e at. tags n e (sym (alike n) ∙ at) ∙ are.tags n e (sym (alike n) ∙ at);
   once = λ n m e f at to same. are.once n m e f (sym (alike n) ∙ at) (sym (alike m) ∙ to) same;
+}
+
+pub table_as : (p q : Places) → IsTable p → q.tags.items ≡ p.tags.items → q.entries.items ≡ p.entries.items → q.bits ≡ p.bits → IsTable q
+table_as p q is tags entries bits = record {
+  size = size_kept p q is.size (record { tags = ap length tags; entries = ap length entries; bits = bits });
+  filed = filed_as p q (IsHome q.bits) (subst (λ b. AreFiled p (IsHome b)) (sym bits) is.filed)
+      (λ n. ap (λ ts. standing ts q.entries.items n) tags ∙ ap (λ es. standing p.tags.items es n) entries) (λ n e at. ap (λ ts. slice_index ts n) tags);
 }
 
 -- ---- one place changes

@@ -1,12 +1,17 @@
 -- Which rooms an index has for which pairs.
-use Rattle.std.specs.Prelude.{◌≡◌, ℕ, ◌⊎◌, Bool, true, false, List, Some}
+use Rattle.std.specs.Prelude.{◌≡◌, ℕ, ◌<◌, ◌⊎◌, Bool, true, false, [], List, length, None, Some}
 use Rattle.radix_nodes.specs.declared.id.Id.{Id}
-use Rattle.room_index.specs.Places.{standing}
+use Rattle.room_index.specs.Places.{standing, IsHome, IsIn, IsTable}
+use Rattle.room_index.specs.Ranges.{Has, IsByRange}
 use Rattle.room_index.specs.declared.entry.Entry.{Entry}
+use Rattle.room_index.specs.declared.index.Vacancy.{Vacancy}
+use Rattle.room_index.specs.declared.places.Places.{Places}
+use Rattle.room_index.specs.declared.ranges.Ranges.{Ranges}
 
 -- an index as contracts see it: whether it has a room for each pair that was entered and not struck out, and its places
 pub record Held : Type 0 where
   pub whole : Bool
+  pub bits : ℕ
   pub tags : List ℕ
   pub entries : List Entry
 
@@ -14,6 +19,24 @@ pub record Held : Type 0 where
 pub record Names (h : Held) (pair : ℕ) (room : Id) : Type 0 where
   pub place : ℕ
   pub stands : standing h.tags h.entries place ≡ Some (record { pair = pair; room = room })
+
+-- its places are a table, or none where it was given up, and what it has by ranges of keys stands there
+pub record IsIndex (p : Places) (r : Ranges) (given_up : Bool) : Type 0 where
+  pub table : IsTable p
+  pub none : given_up ≡ true → p.tags.items ≡ []
+  pub by_range : IsByRange r
+  pub within : (e : Entry) → Has r e → IsIn p e
+
+-- a place is kept for the room of a pair
+pub record IsKeptFor (h : Held) (pair : ℕ) (v : Vacancy) : Type 0 where
+  pub within : v.place < length h.tags
+  pub free : standing h.tags h.entries v.place ≡ None
+  pub home : IsHome h.bits v.place pair
+
+-- it has what it had; or it was given up
+pub record Keeps (old new : Held) : Type 0 where
+  pub fewer : (k : ℕ) (r : Id) → Names new k r → Names old k r
+  pub kept : new.whole ≡ true → (old.whole ≡ true) × ((k : ℕ) (r : Id) → Names old k r → Names new k r)
 
 -- it has the room of one pair more; or it was given up, and has none
 pub record Enters (old new : Held) (pair : ℕ) (room : Id) : Type 0 where

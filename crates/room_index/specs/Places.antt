@@ -35,6 +35,12 @@ pub record IsTable (p : Places) : Type 0 where
   pub size : HasSize p
   pub filed : AreFiled p (IsHome p.bits)
 
+-- the place is free for a pair, in one of its homes
+pub record IsFreeFor (p : Places) (n pair : ℕ) : Type 0 where
+  pub within : n < length p.tags.items
+  pub free : stands p n ≡ None
+  pub home : IsHome p.bits n pair
+
 -- the tag of what stands in a place
 abbrev pub tag_in : Option Entry → ℕ
 tag_in None = 0
@@ -53,6 +59,12 @@ pub record HasPlaces (old new : Places) (size : ℕ) : Type 0 where
   pub bits : new.bits ≡ old.bits
   pub stand : (n : ℕ) → stands new n ≡ stands old n
   pub same : (n : ℕ) (e : Entry) → stands old n ≡ Some e → slice_index new.tags.items n ≡ slice_index old.tags.items n
+
+-- all stands where it stood, under its tag
+pub record StandAsBefore (old new : Places) : Type 0 where
+  pub same : HasSamePlaces old new
+  pub stand : (n : ℕ) → stands new n ≡ stands old n
+  pub tags : new.tags.items ≡ old.tags.items
 
 -- one place has something else
 pub record Changes (old new : Places) (place : ℕ) (now : Option Entry) : Type 0 where

@@ -1,6 +1,6 @@
 //! How an entry comes into the table of places.
-ghost use Rattle.std.specs.Prelude.{◌≡◌, ℕ, ◌+◌, ◌*◌, ◌/◌, ◌^◌, ◌<◌, ◌≤◌, ◌⊎◌, [], true, false, None, Some, IfSome, length};
-ghost use Rattle.room_index.specs.Places.{stands, Adds, HasSamePlaces, HaveSame, IsIn, IsTable};
+ghost use Rattle.std.specs.Prelude.{◌≡◌, ℕ, ◌+◌, ◌*◌, ◌/◌, ◌^◌, ◌<◌, ◌≤◌, ◌⊎◌, [], true, false, None, Some, IfNone, IfSome, IsSome, length};
+ghost use Rattle.room_index.specs.Places.{stands, Adds, HasSamePlaces, HaveSame, IsFreeFor, IsIn, IsTable};
 ghost use Rattle.room_index.specs.declared.entry.Entry.{Entry as Filed};
 
 use crate::entry::Entry;
@@ -10,25 +10,39 @@ use crate::tags::PLACES;
 use radix_nodes::Visits;
 
 impl Places {
-    /// Puts an entry of a new pair into the table. `false` where there is no place for it: then all are given up.
-    pub(crate) fn enter(&mut self, entry: Entry, visits: &mut Visits) -> bool
-        requires table { IsTable self.old }
-        requires absent { (e : Filed) → IsIn self.old e → e.pair ≡ entry.pair → ⊥ }
+    /// A place that is free for an entry of a pair, in one of its homes. `None` where there is none: then all are given up.
+    ///
+    /// The pair is written there ahead of its room, so that the memory of the place, which hardly ever is at hand, comes
+    /// while that of the tree is waited for.
+    pub(crate) fn place_for(&mut self, pair: u64, visits: &mut Visits) -> Option<usize>
+        requires { IsTable self.old }
         ensures table { IsTable self.new }
-        ensures entered { result ≡ true → Adds self.old self.new entry }
-        ensures none { result ≡ false → self.new.tags.items ≡ [] }
+        ensures same { IsSome result → HaveSame self.old self.new }
+        ensures place { IfSome result (λ n. IsFreeFor self.new n pair) }
+        ensures none { IfNone result (self.new.tags.items ≡ []) }
         ensures counter { visits.new.turn ≡ visits.old.turn }
     {
         if self.tags.is_empty() {
-            return false;
+            return None;
         }
-        let homes = Homes::of(entry.pair, self.bits);
+        let homes = Homes::of(pair, self.bits);
         let Some(place) = self.vacant(&homes, visits) else {
             self.give_up();
-            return false;
+            return None;
         };
-        self.put(place, homes.tag, entry);
-        true
+        self.write_ahead(place, pair);
+        Some(place)
+    }
+
+    /// Puts an entry of a new pair into a place that is free for it.
+    pub(crate) fn enter(&mut self, place: usize, entry: Entry)
+        requires table { IsTable self.old }
+        requires absent { (e : Filed) → IsIn self.old e → e.pair ≡ entry.pair → ⊥ }
+        requires place { IsFreeFor self.old place entry.pair }
+        ensures table { IsTable self.new }
+        ensures entered { Adds self.old self.new entry }
+    {
+        self.put(place, Homes::of(entry.pair, self.bits).tag, entry);
     }
 
     /// A free place in one of a pair's homes, in that of which the first free place is further to the front. Where both are

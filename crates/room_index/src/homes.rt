@@ -9,6 +9,9 @@ use sock_addrs::Inet;
 /// The most bits of a bucket's number. A number of 64 bits tells both buckets of a pair, and its tag.
 pub(crate) const MOST_BITS: u32 = 24;
 
+/// How many bits the number of a pair has: those of a key, and six of a rank.
+pub(crate) const PAIR_BITS: u32 = 38;
+
 /// The number of a pair.
 pub(crate) fn pair_of(key: Inet, rank: Rank) -> u64
     ensures { result ≡ pair key rank }

@@ -8,10 +8,11 @@ mod entry;
 mod homes;
 mod index;
 mod places;
+mod ranges;
 mod sizes;
 mod tags;
 
-pub use index::Index;
+pub use index::{Index, Vacancy};
 
 #[cfg(test)]
 mod tests;

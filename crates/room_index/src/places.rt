@@ -1,13 +1,13 @@
 //! The table of places.
-ghost use Rattle.std.specs.Prelude.{◌≡◌, ℕ, ◌+◌, ◌*◌, ◌/◌, ◌<◌, ◌≤◌, [], length, slice_get, slice_index, IfSome, IfNone, Some, None};
+ghost use Rattle.std.specs.Prelude.{◌≡◌, ℕ, ◌+◌, ◌*◌, ◌/◌, ◌<◌, ◌≤◌, [], length, slice_get, slice_index, IfSome, IfNone, MatchBool, Some, None};
 ghost use Rattle.room_index.specs.Homes.{tag_of};
 ghost use Rattle.room_index.specs.Looks.{Reads, pair_looks};
-ghost use Rattle.room_index.specs.Places.{stands, Changes, HasSamePlaces, IsTable, Loses, Moves};
+ghost use Rattle.room_index.specs.Places.{stands, Changes, HasSamePlaces, IsIn, IsTable, Loses, Moves, StandAsBefore};
 ghost use Rattle.room_index.specs.declared.entry.Entry.{Entry as Filed};
 
 use crate::entry::Entry;
 use crate::homes::Homes;
-use crate::tags::{BOTH, PLACES, places_before};
+use crate::tags::{BOTH, PLACES, places_before, used_before};
 use radix_nodes::Visits;
 use std::alloc::Global;
 
@@ -73,19 +73,29 @@ impl Places {
     }
 
     /// The first free place of a bucket.
+    #[inline(always)]
     pub(crate) fn free_in(&self, bucket: usize, visits: &mut Visits) -> Option<usize>
         requires { 8 * bucket + 8 ≤ length self.now.tags.items }
         ensures free { IfSome result (λ n. (n / 8 ≡ bucket) × (n < length self.now.tags.items) × (stands self.now n ≡ None)) }
+        ensures full { IfNone result ((n : ℕ) → n / 8 ≡ bucket → slice_index self.now.tags.items n ≡ 0 → ⊥) }
         ensures counter { visits.new.turn ≡ visits.old.turn }
     {
         let begin = PLACES * bucket;
-        for place in begin..begin + PLACES {
-            visits.tick();
-            if self.tags[place] == 0 {
-                return Some(place);
-            }
+        let used = used_before(&self.tags, begin, visits);
+        if used == PLACES {
+            return None;
         }
-        None
+        Some(begin + used)
+    }
+
+    /// Writes a pair into a free place ahead of its room. The place is free still.
+    pub(crate) fn write_ahead(&mut self, place: usize, pair: u64)
+        requires within { place < length self.old.entries.items }
+        requires free { stands self.old place ≡ None }
+        ensures stand { StandAsBefore self.old self.new }
+        ensures written { IfSome (slice_get self.new.entries.items place) (λ e. e.pair ≡ pair) }
+    {
+        self.entries[place] = Entry::ahead(pair);
     }
 
     /// Puts an entry into a place.
@@ -112,6 +122,8 @@ impl Places {
         requires { IsTable self.old }
         ensures table { IsTable self.new }
         ensures loses { Loses self.old self.new pair }
+        ensures had { MatchBool result ((e : Filed) × IsIn self.old e × (e.pair ≡ pair))
+            ((e : Filed) → IsIn self.old e → e.pair ≡ pair → ⊥) }
         ensures places { HasSamePlaces self.old self.new }
         ensures counter { visits.new.turn ≡ visits.old.turn }
     {

@@ -68,8 +68,8 @@ impl Places {
     }
 
     /// Makes the table larger, where so many entries are many for it, and the memory of a larger one was asked for. The new
-    /// places are free: any entry fills them.
-    pub(crate) fn grow(&mut self, many: usize, fill: Entry, visits: &mut Visits)
+    /// places are free.
+    pub(crate) fn grow(&mut self, many: usize, visits: &mut Visits)
         requires { IsTable self.old }
         ensures table { IsTable self.new }
         ensures same { HaveSame self.old self.new }
@@ -87,14 +87,14 @@ impl Places {
             return;
         }
         if self.tags.is_empty() {
-            self.begin(fill);
+            self.begin();
         } else {
-            self.double(fill, visits);
+            self.double(visits);
         }
     }
 
     /// Makes the first places.
-    fn begin(&mut self, fill: Entry)
+    fn begin(&mut self)
         requires none { length self.old.tags.items ≡ 0 }
         requires even { length self.old.entries.items ≡ 0 }
         requires reserved { IsReserved self.old }
@@ -102,12 +102,12 @@ impl Places {
         ensures same { HaveSame self.old self.new }
         ensures larger { length self.new.tags.items ≡ 128 }
     {
-        self.lengthen(FEWEST, fill);
+        self.lengthen(FEWEST);
         self.bits = FEWEST_BITS;
     }
 
     /// Makes the lists of places so long, for which there is memory.
-    fn lengthen(&mut self, size: usize, fill: Entry)
+    fn lengthen(&mut self, size: usize)
         requires longer { length self.old.tags.items ≤ size }
         requires even { length self.old.entries.items ≡ length self.old.tags.items }
         requires tags { size ≤ vec_capacity self.old.tags }
@@ -115,11 +115,11 @@ impl Places {
         ensures { HasPlaces self.old self.new size }
     {
         self.tags.resize(size, 0).unwrap();
-        self.entries.resize(size, fill).unwrap();
+        self.entries.resize(size, Entry::ahead(0)).unwrap();
     }
 
     /// Makes as many places more: each entry stays, or moves on by so many.
-    fn double(&mut self, fill: Entry, visits: &mut Visits)
+    fn double(&mut self, visits: &mut Visits)
         requires table { IsTable self.old }
         requires some { 0 < length self.old.tags.items }
         requires few { self.old.bits < MOST_BITS }
@@ -130,7 +130,7 @@ impl Places {
         ensures counter { visits.new.turn ≡ visits.old.turn }
     {
         let many = self.tags.len();
-        self.lengthen(2 * many, fill);
+        self.lengthen(2 * many);
         for place in 0..many {
             visits.tick();
             self.part(place, many);

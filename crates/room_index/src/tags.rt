@@ -1,4 +1,4 @@
-//! Tags of places, those of two buckets at once.
+//! Tags of places, those of a bucket or of two at once.
 ghost use Rattle.std.specs.Prelude.{◌≡◌, ◌+◌, ◌≤◌, ◌==◌, ◌++◌, not, length};
 ghost use Rattle.std.specs.List.{prefix_len};
 ghost use Rattle.std.specs.Simd.Lanes.{chunk};
@@ -27,7 +27,7 @@ pub(crate) fn places_before(
     ensures before { result ≡ prefix_len (λ t. not (t == tag)) (chunk first PLACES tags.now ++ chunk second PLACES tags.now) }
     ensures visits { visits.new ≡ record visits.old { count = visits.old.count + BOTH } }
 {
-    count_both(visits);
+    count(BOTH, visits);
     let lower = u16x8::from_slice(&tags[first..]);
     let upper = u16x8::from_slice(&tags[second..]);
     let hits = lower
@@ -44,12 +44,31 @@ pub(crate) fn places_before(
     }
 }
 
-/// Counts a visit for each place of two buckets.
+/// How many places of a bucket, of which the tags begin there, come before the first free one; all of them where none is
+/// free. It reads the tags of all at once, and counts a visit for each.
 #[inline(always)]
-fn count_both(visits: &mut Visits)
-    ensures { visits.new ≡ record visits.old { count = visits.old.count + BOTH } }
+pub(crate) fn used_before(tags: &[u16], begin: usize, visits: &mut Visits) -> usize
+    requires { begin + PLACES ≤ length tags.now }
+    ensures before { result ≡ prefix_len (λ t. not (t == 0)) (chunk begin PLACES tags.now) }
+    ensures visits { visits.new ≡ record visits.old { count = visits.old.count + PLACES } }
 {
-    for _place in 0..BOTH {
+    count(PLACES, visits);
+    let free = u16x8::from_slice(&tags[begin..])
+        .simd_eq(u16x8::splat(0))
+        .to_bitmask();
+    if free == 0 {
+        PLACES
+    } else {
+        free.trailing_zeros() as usize
+    }
+}
+
+/// Counts so many visits.
+#[inline(always)]
+fn count(many: usize, visits: &mut Visits)
+    ensures { visits.new ≡ record visits.old { count = visits.old.count + many } }
+{
+    for _place in 0..many {
         visits.tick();
     }
 }

@@ -30,7 +30,10 @@ impl Trial {
         self.index.reserve(&mut self.memory)?;
         match self.index.find(key, rank, &mut self.visits) {
             Some(_room) => {}
-            None => self.index.enter(key, rank, self.room, &mut self.visits),
+            None => {
+                let vacancy = self.index.vacancy(key, rank, &mut self.visits);
+                self.index.enter(vacancy, key, rank, self.room);
+            }
         }
         Ok(())
     }
@@ -74,6 +77,15 @@ impl Trial {
     {
         let (key, rank) = (Inet::new(number * 256), Rank::new(24));
         self.index.find(key, rank, &mut self.visits).is_some()
+    }
+
+    /// Whether one with such a key is at hand.
+    fn is_near(&mut self, number: u32) -> bool
+        requires { number < 2 ^ 24 }
+    {
+        self.index
+            .near(Inet::new(number * 256), &mut self.visits)
+            .is_some()
     }
 
     /// How many places there are, or is memory for.
@@ -140,6 +152,29 @@ fn table_follows_its_pairs(rt: HostRuntime) -> Result<(), Fail> {
             assert!(rt; trial.has(number), "{number} in round {round}");
         }
     }
+    Ok(())
+}
+
+#[test]
+fn a_pair_is_near_until_it_is_struck(rt: HostRuntime) -> Result<(), Fail> {
+    let mut nodes = Nodes::new(rt.alloc());
+    let mut trial = make_trial(&rt, &mut nodes)?;
+    assert!(rt; !trial.is_near(0));
+    for number in 0..5_000u32 {
+        trial.enter(number * 3_000)?;
+        assert!(rt; trial.is_near(number * 3_000), "{number}");
+    }
+    for number in 0..5_000u32 {
+        assert!(rt; trial.is_near(number * 3_000), "{number}");
+    }
+    // as many ranges as buckets, which follow the number of pairs
+    assert_eq!(rt; trial.index.ranges.last.len(), 1_024);
+    for number in 1..5_000u32 {
+        trial.strike(number * 3_000, true);
+    }
+    assert!(rt; trial.is_near(0));
+    assert!(rt; !trial.is_near(4_999 * 3_000));
+    assert!(rt; trial.index.ranges.last.capacity() <= 32);
     Ok(())
 }
 

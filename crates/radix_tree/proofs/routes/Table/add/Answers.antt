@@ -1,10 +1,10 @@
 use Rattle.radix_tree.proofs.{Counted.few_held, Counted.counted_more, WholeRoutes.gains_entry, Kept.shown_table}
-use Rattle.radix_tree.proofs.IndexChanges.{absent_place, index_begun, index_more}
-use Rattle.radix_tree.proofs.{Kept.shown_next, Kept.given_begun, Kept.IsNext, GivenNumbers.given_more, routes.Table.add.Goals.In-Ok}
+use Rattle.radix_tree.proofs.IndexChanges.{absent_place, index_begun, index_keeps, index_more, kept_keeps}
+use Rattle.radix_tree.proofs.{Kept.shown_next, Kept.given_begun, Kept.IsNext, GivenNumbers.given_more, routes.Table.add.Goals.In-Ok, routes.Table.add.Goals.After-vacancy-vacancy}
 use Rattle.radix_tree.proofs.Words.{◌≡◌, ℕ, ◌+◌, ◌<◌, ◌∷◌, Some, None, sym, ap, subst, ◌∙◌, arith, HasOneMore, AreCounted}
 use Rattle.radix_tree.proofs.Words.{entry_at, uses, with_entry, shown, Holds, leaf_in, leaves_in, Ptr}
 use Rattle.radix_tree.specs.Given.{AreGiven, numbers_in}
-use Rattle.radix_tree.specs.Index.{HasPlaceMore, pair, place_of, places_in}
+use Rattle.radix_tree.specs.Index.{HasPlaceMore, Indexes, pair, place_of, places_in}
 use Rattle.radix_nodes.specs.Naming.{number_of}
 use Rattle.radix_tree.proofs.routes.Table.add.Goals as goal
 
@@ -44,12 +44,26 @@ unplaced g c =
     absent_place c.begin-visits.new.self.lodged c.self.inside.root c.args.key c.args.rank (grind arith) holds
     (ap (entry_at c.args.key c.args.rank) shown_as ∙ absent g c)
 
+-- what the index has for pairs, once a place was kept for the new one
+indexed : (g : _) (c : After-vacancy-vacancy g) → Indexes c.vacancy-vacancy.new.self c.begin-visits.new.self.lodged
+indexed g c = index_keeps c.self.inside.index c.vacancy-vacancy.new.self c.begin-visits.new.self.lodged c.vacancy-vacancy.ensures.keeps
+    (index_begun c.self.inside.index c.self.inside.nodes c.begin-visits.new.self (grind arith) c.self.invariant.indexed)
+
+pub insert-requires-clause-indexed : goal.insert-requires-clause-indexed
+insert-requires-clause-indexed g c = indexed g (goal.at.insert-requires-clause-indexed g c).After-vacancy-vacancy
+
 -- so the index has no room for the pair
-pub enter-requires : goal.enter-requires
-enter-requires g c room names =
-    let at = (goal.at.enter-requires g c).In-Ok in
-    let is = index_begun c.self.inside.index c.self.inside.nodes c.begin-visits.new.self (begins g at) c.self.invariant.indexed in
-    unplaced g at (number_of room) room.block (is.found (pair c.args.key c.args.rank) room names)
+pub enter-requires-clause-absent : goal.enter-requires-clause-absent
+enter-requires-clause-absent g c room names =
+    let at = (goal.at.enter-requires-clause-absent g c).In-Ok in
+    unplaced g at (number_of room) room.block ((indexed g (goal.at.enter-requires-clause-absent g c).After-vacancy-vacancy).found (pair c.args.key c.args.rank) room names)
+
+pub enter-requires-clause-kept_for : goal.enter-requires-clause-kept_for
+enter-requires-clause-kept_for g c = c.vacancy-vacancy.ensures.kept_for
+
+pub invariant_of-self : goal.invariant_of-self
+invariant_of-self g c = kept_keeps c.self.inside.index c.vacancy-vacancy.new.self c.self.inside.nodes c.insert.new.nodes c.self.invariant
+    c.vacancy-vacancy.ensures.keeps (ap (λ r. r.lodged) c.in-Err.ensures.err ∙ ap (λ r. r.lodged) c.begin-visits.ensures.turn ∙ ap (λ r. r.lodged) c.spare-space.ensures.stays)
 
 pub invariant_of-self-in-Ok-1 : goal.invariant_of-self-in-Ok-1
 invariant_of-self-in-Ok-1 g c =
@@ -62,9 +76,8 @@ invariant_of-self-in-Ok-1 g c =
       counted = counted_more _ _ c.self.inside.counts c.added.new.self
           (subst (AreCounted c.self.inside.counts) (sym before) c.self.invariant.counted) c.in-Ok.ensures.routes
           (subst (λ r. HasOneMore r c.self.inside.counts c.added.new.self) (sym (ap (λ e. e.rank) c.of-entry.ensures.entry)) c.added.ensures);
-      indexed = index_more c.self.inside.index c.enter.new.self m c.insert.new.nodes.lodged c.in-Ok.id
-          (record { key = c.args.key; rank = c.args.rank; value = c.args.value })
-          (index_begun c.self.inside.index c.self.inside.nodes c.begin-visits.new.self (begins g at) c.self.invariant.indexed) c.enter.ensures.entered
+      indexed = index_more c.vacancy-vacancy.new.self c.enter.new.self m c.insert.new.nodes.lodged c.in-Ok.id
+          (record { key = c.args.key; rank = c.args.rank; value = c.args.value }) (indexed g (goal.at.invariant_of-self-in-Ok-1 g c).After-vacancy-vacancy) c.enter.ensures
           (ap place_of (ap (leaves_in m) c.in-Ok.ensures.number ∙ is_free g at))
           (subst (HasPlaceMore m c.insert.new.nodes.lodged c.in-Ok.id) c.of-entry.ensures.entry c.in-Ok.ensures.places);
       numbered = subst (λ p. AreGiven c.insert.new.nodes.lodged p c.self.inside.numbers) (sym put) (numbered g at);

@@ -1,16 +1,36 @@
-use Rattle.std.proofs.Common.{◌≡◌, not, true, sym, ap, subst, ◌∙◌}
-use Rattle.room_index.proofs.Naming.{held, enters_or_none, is_named}
-use Rattle.room_index.specs.Names.{Enters, Names}
+use Rattle.std.proofs.Common.{◌≡◌, not, length, sym, ap, subst, ◌∙◌, inl, inr, arith}
+use Rattle.std.specs.Prelude.{MatchOption, false}
+use Rattle.room_index.proofs.Naming.{held, enters, enters_none, is_named}
+use Rattle.room_index.specs.Homes.{pair}
+use Rattle.room_index.specs.Names.{Enters, IsKeptFor, Names}
+use Rattle.room_index.specs.Places.{IsIn}
 use Rattle.room_index.proofs.index.Index.enter.Goals as goal
 
 pub enter-requires-clause-absent : goal.enter-requires-clause-absent
-enter-requires-clause-absent c e at same = c.requires e.room (subst (λ k. Names c.args.self.now k e.room) (same ∙ c.pair_of.ensures)
-    (subst (λ h. Names h e.pair e.room) c.self.view_is (is_named c.self.inside.places (not c.self.inside.given_up) e (c.grow.ensures.same.had e at))))
+enter-requires-clause-absent c e at same = c.requires.absent e.room (subst (λ k. Names c.args.self.now k e.room) (same ∙ c.pair_of.ensures)
+    (subst (λ h. Names h e.pair e.room) c.self.view_is (is_named c.self.inside.places (not c.self.inside.given_up) e at)))
 
-pub returns-clause-entered : goal.returns-clause-entered
-returns-clause-entered c =
-    let was : held c.self.inside.places true ≡ c.args.self.now = ap (λ up. held c.self.inside.places (not up)) (sym c.if-self.false) ∙ c.self.view_is in
-    let now = held c.enter.new.self (not (not c.enter.result)) in
-    subst (λ k. Enters c.args.self.now now k c.args.room) c.pair_of.ensures (subst (λ h. Enters h now c.pair_of.result c.args.room) was
-    (enters_or_none c.self.inside.places c.grow.new.self c.enter.new.self c.enter.result (record { pair = c.pair_of.result; room = c.args.room }) c.grow.ensures.same
-    c.enter.ensures.entered c.enter.ensures.none))
+pub returns : goal.returns
+returns c =
+    let now = held c.enter.new.self (not c.self.inside.given_up) in
+    subst (λ k. Enters c.args.self.now now k c.args.room) c.pair_of.ensures (subst (λ h. Enters h now c.pair_of.result c.args.room) c.self.view_is
+    (enters c.self.inside.places c.enter.new.self (not c.self.inside.given_up) (record { pair = c.pair_of.result; room = c.args.room }) c.enter.ensures.entered))
+
+pub returns-in_default : goal.returns-in_default
+returns-in_default c = enters_none c.args.self.now (pair c.args.key c.args.rank) c.args.room
+    (subst (λ v. MatchOption v (c.args.self.now.whole ≡ false) (λ x. IsKeptFor c.args.self.now (pair c.args.key c.args.rank) x)) c.in_default.is c.requires.kept_for)
+
+pub invariant_of-self : goal.invariant_of-self
+invariant_of-self c = record {
+  table = c.enter.ensures.table;
+  -- where a place was kept it wasn't given up
+  none = λ up.
+      let now = c.args.self.now in
+      let kept = subst (λ v. MatchOption v (now.whole ≡ false) (λ x. IsKeptFor now (pair c.args.key c.args.rank) x)) c.in-Some.is c.requires.kept_for in
+      absurd (omega (arith, kept.within, ap (λ h. length h.tags) c.self.view_is, ap length (c.self.invariant.none up)));
+  by_range = c.put.ensures.ranges;
+  within = λ e has. elim (c.put.ensures.only e has) [
+    | inl own ↦ subst (IsIn c.enter.new.self) (sym own) c.enter.ensures.entered.own
+    | inr had ↦ c.enter.ensures.entered.kept e (c.self.invariant.within e had)
+  ];
+}

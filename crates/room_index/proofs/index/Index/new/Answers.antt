@@ -1,0 +1,10 @@
+use Rattle.std.proofs.Common.{sym, true≢false}
+use Rattle.room_index.proofs.index.Index.new.Goals as goal
+
+pub invariant_of-result : goal.invariant_of-result
+invariant_of-result c = record {
+  table = c.none.ensures.table;
+  none = λ up. absurd (true≢false (sym up));
+  by_range = c.none-2.ensures.ranges;
+  within = λ e has. absurd (c.none-2.ensures.none e has);
+}
