@@ -8,6 +8,7 @@ use Rattle.std.proofs.lemmas.List.{get_or_default, get_or-set_other, get_or-set_
 use Rattle.std.proofs.lemmas.List.Elements.{All-append, All-cons, All-nil}
 use Rattle.std.proofs.lemmas.List.Folds.{find-append}
 use Rattle.mask_table.specs.Agreeing.{front}
+use Rattle.mask_table.specs.Counts.{count_of}
 use Rattle.if_addrs.specs.declared.index.Index.{Index}
 use Rattle.if_addrs.specs.declared.address.Wanted.{Wanted}
 use Rattle.if_addrs.specs.declared.address.Wanted.TheVariants.{Same, Own, Far, Near, Net, Standing}
@@ -48,17 +49,11 @@ more_places count k i (x ∷ xs) a =
     ∙ sym (append_assoc here rest (places_of count k (suc i + length xs) a))
     ∙ ap (λ (n : ℕ). here ++ rest ++ places_of count k n a) (omega arith)
 
--- the lengths of networks, with one more
-get_true : (l : List Bool) (p q : ℕ) → slice_index_or l q false ≡ true → slice_index_or (slice_set l p true) q false ≡ true
-get_true [] p q h = cc
-get_true (x ∷ l) zero zero h = refl
-get_true (x ∷ l) zero (suc q) h = h
-get_true (x ∷ l) (suc p) zero h = h
-get_true (x ∷ l) (suc p) (suc q) h = get_true l p q h
-
-more_lengths : (l : List Bool) (xs : List Address) (a : Address) → a.prefix < length l → AreLengths l xs → AreLengths (slice_set l a.prefix true) (xs ++ a ∷ [])
-more_lengths l [] a h all = (get_or-set_same l a.prefix true false h, tt)
-more_lengths l (x ∷ xs) a h all = (get_true l a.prefix x.prefix all.0, more_lengths l xs a h all.1)
+-- lengths that stay counted, and one more
+more_lengths : (old new : List ℕ) (xs : List Address) (a : Address) → ((r : ℕ) → r ≤ 33 → 0 < count_of r old → 0 < count_of r new)
+    → a.prefix ≤ 32 → 0 < count_of a.prefix new → AreLengths old xs → AreLengths new (xs ++ a ∷ [])
+more_lengths old new [] a stay short there all = (short, there, tt)
+more_lengths old new (x ∷ xs) a stay short there all = (all.0, stay x.prefix (omega (arith, all.0)) all.1, more_lengths old new xs a stay short there all.2)
 
 -- an address is filed once its place is in its three buckets
 module _ (old new : Index) (before : List Address) (a : Address) (place count own far network : ℕ) (b1 b2 b3 d1 d2 d3 : List ℕ) where
@@ -69,9 +64,9 @@ module _ (old new : Index) (before : List Address) (a : Address) (place count ow
       → b2 ≡ slice_index_or (slice_set old.buckets.items own b1) far d2 ++ place ∷ []
       → b3 ≡ slice_index_or (slice_set (slice_set old.buckets.items own b1) far b2) network d3 ++ place ∷ []
       → new.buckets.items ≡ slice_set (slice_set (slice_set old.buckets.items own b1) far b2) network b3
-      → new.lengths ≡ slice_set old.lengths a.prefix true → a.prefix < length old.lengths
+      → ((r : ℕ) → r ≤ 33 → 0 < count_of r old.lengths → 0 < count_of r new.lengths) → a.prefix ≤ 32 → 0 < count_of a.prefix new.lengths
       → IsIndexOf new (before ++ a ∷ [])
-  filed last was many is_own is_far is_network in_own in_far in_network e1 e2 e3 buckets lengths short =
+  filed last was many is_own is_far is_network in_own in_far in_network e1 e2 e3 buckets stay short counted =
       let bs = old.buckets.items in
       let s1 = slice_set bs own b1 in
       let s2 = slice_set s1 far b2 in
@@ -97,7 +92,7 @@ module _ (old new : Index) (before : List Address) (a : Address) (place count ow
             ∙ ap (λ (n : ℕ). places_from n k 0 (before ++ a ∷ [])) (sym n3));
         lengths = λ some. (
             let there : 0 < length bs = omega (arith, some, n3, many) in
-            subst (λ (l : List Bool). AreLengths l (before ++ a ∷ [])) (sym lengths) (more_lengths old.lengths before a short (was.lengths there)));
+            more_lengths old.lengths new.lengths before a stay short counted (was.lengths there));
       }
     where
       joined : (w x y z : List ℕ) → w ++ x ++ y ++ z ≡ w ++ (x ++ y ++ z)
@@ -114,14 +109,14 @@ same_places count k i place mark [] = refl
 same_places count k i zero mark (x ∷ xs) = ap (λ (ps : List ℕ). ps ++ places_from count k (suc i) xs) (same_place count k i mark x)
 same_places count k i (suc place) mark (x ∷ xs) = ap (λ (ps : List ℕ). places_of count k i x ++ ps) (same_places count k (suc i) place mark xs)
 
-same_length : (l : List Bool) (mark : Mark) (a : Address) → slice_index_or l a.prefix false ≡ true → slice_index_or l (marked mark a).prefix false ≡ true
-same_length l Routed a h = h
-same_length l Gone a h = h
+same_length : (mark : Mark) (a : Address) → (marked mark a).prefix ≡ a.prefix
+same_length Routed a = refl
+same_length Gone a = refl
 
-same_lengths : (l : List Bool) (place : ℕ) (mark : Mark) (xs : List Address) → AreLengths l xs → AreLengths l (marked_at place mark xs)
+same_lengths : (l : List ℕ) (place : ℕ) (mark : Mark) (xs : List Address) → AreLengths l xs → AreLengths l (marked_at place mark xs)
 same_lengths l place mark [] h = tt
-same_lengths l zero mark (x ∷ xs) h = (same_length l mark x h.0, h.1)
-same_lengths l (suc place) mark (x ∷ xs) h = (h.0, same_lengths l place mark xs h.1)
+same_lengths l zero mark (x ∷ xs) h = rw (same_length mark x) h
+same_lengths l (suc place) mark (x ∷ xs) h = (h.0, h.1, same_lengths l place mark xs h.2)
 
 pub indexed_marked : (index : Index) (place : ℕ) (mark : Mark) (xs : List Address) → IsIndexOf index xs → IsIndexOf index (marked_at place mark xs)
 indexed_marked index place mark xs h = record {

@@ -1,8 +1,9 @@
 -- The address of the longest network is found where networks are looked for by their lengths, the longest first.
-use Rattle.std.proofs.Common.{◌≡◌, ℕ, zero, suc, ◌+◌, ◌<◌, ◌≤◌, ◌&&◌, if◌then◌else◌, Bool, true, false, cond, not, nat_eq, nat_le, nat_lt, List, [], ◌∷◌, length, filter, Option, Some, None, is_some, slice_index_or, refl, sym, ap, ◌∙◌, subst, arith}
+use Rattle.std.proofs.Common.{◌≡◌, ℕ, ◌+◌, ◌<◌, ◌≤◌, ◌&&◌, if◌then◌else◌, Bool, true, false, cond, not, nat_eq, nat_le, nat_lt, List, [], ◌∷◌, filter, Option, Some, None, is_some, inl, inr, refl, sym, ap, ◌∙◌, subst, arith}
 use Rattle.std.specs.List.{find}
-use Rattle.std.proofs.lemmas.Bool.{eqb-true}
+use Rattle.std.proofs.lemmas.Bool.{cases_lt, eqb-true}
 use Rattle.std.proofs.lemmas.Bool.Decides.{nat_tests}
+use Rattle.mask_table.specs.Counts.{count_of}
 use Rattle.if_addrs.specs.declared.address.Wanted.TheVariants.{Near, Net}
 use Rattle.if_addrs.specs.Indexed.{AreLengths}
 use Rattle.if_addrs.specs.Interfaces.{Address}
@@ -38,46 +39,22 @@ found_length sought bits (x ∷ xs) a h =
 
 -- LENGTHS THAT THERE ARE NOT
 
--- none is of a length that is not known
-pub none_of_length : (lengths : List Bool) (sought bits : ℕ) (xs : List Address) → AreLengths lengths xs → slice_index_or lengths bits false ≡ false → find (is_wanted (Net sought bits)) xs ≡ None
-none_of_length lengths sought bits [] all none = refl
-none_of_length lengths sought bits (x ∷ xs) all none =
-    elim (is_wanted (Net sought bits) x) as (λ b. is_wanted (Net sought bits) x ≡ b → cond b (Some x) (find (is_wanted (Net sought bits)) xs) ≡ None) [
-      | true ↦ λ e. (
-          let there : slice_index_or lengths bits false ≡ true = ap (λ (n : ℕ). slice_index_or lengths n false) (sym (of_length sought bits x e)) ∙ all.0 in
-          cc)
-      | false ↦ λ e. none_of_length lengths sought bits xs all.1 none
-    ] refl
-
 -- an address is wanted, and its network is at least so long
 abbrev pub is_long : ℕ → ℕ → Address → Bool
 is_long sought bits a = is_wanted (Near sought) a && nat_le bits a.prefix
-
-known_within : (l : List Bool) (n : ℕ) → slice_index_or l n false ≡ true → n < length l
-known_within [] n h = cc
-known_within (b ∷ l) zero h = omega arith
-known_within (b ∷ l) (suc n) h = (let rest = known_within l n h in omega (arith, rest))
 
 and_false : (b : Bool) → (b && false) ≡ false
 and_false true = refl
 and_false false = refl
 
--- none is longer than all of them
-pub none_longer : (lengths : List Bool) (sought bits : ℕ) (xs : List Address) → length lengths ≤ bits → AreLengths lengths xs → find (is_long sought bits) xs ≡ None
-none_longer lengths sought bits [] many all = refl
-none_longer lengths sought bits (x ∷ xs) many all =
-    let within = known_within lengths x.prefix all.0 in
-    let short : nat_le bits x.prefix ≡ false = grind (arith, nat_tests) in
-    ap (λ (b : Bool). cond (is_wanted (Near sought) x && b) (Some x) (find (is_long sought bits) xs)) short
-    ∙ ap (λ (b : Bool). cond b (Some x) (find (is_long sought bits) xs)) (and_false (is_wanted (Near sought) x))
-    ∙ none_longer lengths sought bits xs many all.1
-
--- ONE LENGTH MORE
-
--- where none is longer, and none of this length, none is at least as long
-one_shorter : (b : Bool) (bits n : ℕ) → (b && nat_le (bits + 1) n) ≡ false → (b && nat_eq n bits) ≡ false → (b && nat_le bits n) ≡ false
-one_shorter true bits n h k = grind (arith, nat_tests)
-one_shorter false bits n h k = refl
+-- none is longer than an address
+pub none_longer : (lengths : List ℕ) (sought : ℕ) (xs : List Address) → AreLengths lengths xs → find (is_long sought 33) xs ≡ None
+none_longer lengths sought [] all = refl
+none_longer lengths sought (x ∷ xs) all =
+    let short : nat_le 33 x.prefix ≡ false = grind (arith, nat_tests, all.0) in
+    ap (λ (b : Bool). cond (is_wanted (Near sought) x && b) (Some x) (find (is_long sought 33) xs)) short
+    ∙ ap (λ (b : Bool). cond b (Some x) (find (is_long sought 33) xs)) (and_false (is_wanted (Near sought) x))
+    ∙ none_longer lengths sought xs all.2
 
 head_none : (b : Bool) (x : Address) (o : Option Address) → cond b (Some x) o ≡ None → b ≡ false
 head_none true x o h = cc
@@ -86,6 +63,31 @@ head_none false x o h = refl
 tail_none : (b : Bool) (x : Address) (o : Option Address) → cond b (Some x) o ≡ None → o ≡ None
 tail_none true x o h = cc
 tail_none false x o h = h
+
+shorter : (b : Bool) (bits more n : ℕ) → (b && nat_le more n) ≡ false → (bits ≤ n → n < more → ⊥) → (b && nat_le bits n) ≡ false
+shorter true bits more n h between = elim (cases_lt n bits) [
+  | inl low ↦ grind (arith, nat_tests)
+  | inr high ↦ absurd (between (omega arith) (grind (arith, nat_tests)))
+]
+shorter false bits more n h between = refl
+
+-- where none is of one length or longer, and no length from another on below it is counted, none is of that or longer
+pub none_between : (lengths : List ℕ) (sought bits more : ℕ) (xs : List Address) → AreLengths lengths xs → ((r : ℕ) → bits ≤ r → r < more → count_of r lengths ≡ 0)
+    → find (is_long sought more) xs ≡ None → find (is_long sought bits) xs ≡ None
+none_between lengths sought bits more [] all none h = refl
+none_between lengths sought bits more (x ∷ xs) all none h =
+    let rest = find (is_long sought more) xs in
+    let short : is_long sought bits x ≡ false =
+    shorter (is_wanted (Near sought) x) bits more x.prefix (head_none (is_long sought more x) x rest h) (λ from below. (let no = none x.prefix from below in omega (arith, no, all.1))) in
+    ap (λ (b : Bool). cond b (Some x) (find (is_long sought bits) xs)) short
+    ∙ none_between lengths sought bits more xs all.2 none (tail_none (is_long sought more x) x rest h)
+
+-- ONE LENGTH MORE
+
+-- where none is longer, and none of this length, none is at least as long
+one_shorter : (b : Bool) (bits n : ℕ) → (b && nat_le (bits + 1) n) ≡ false → (b && nat_eq n bits) ≡ false → (b && nat_le bits n) ≡ false
+one_shorter true bits n h k = grind (arith, nat_tests)
+one_shorter false bits n h k = refl
 
 pub none_as_long : (sought bits : ℕ) (xs : List Address) → find (is_long sought (bits + 1)) xs ≡ None → find (is_wanted (Net sought bits)) xs ≡ None → find (is_long sought bits) xs ≡ None
 none_as_long sought bits [] h k = refl

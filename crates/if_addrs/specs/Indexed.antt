@@ -1,12 +1,13 @@
 -- How the code looks for an address: by buckets that hold the places of addresses in their list.
-use Rattle.std.specs.Prelude.{◌≡◌, ℕ, suc, ◌+◌, ◌*◌, ◌/◌, ◌%◌, ◌^◌, ◌<◌, ◌==◌, Bool, true, false, List, [], ◌∷◌, ◌++◌, length, slice_index_or, if◌then◌else◌}
+use Rattle.std.specs.Prelude.{◌≡◌, ℕ, suc, ◌+◌, ◌*◌, ◌/◌, ◌%◌, ◌^◌, ◌<◌, ◌≤◌, ◌==◌, List, [], ◌∷◌, ◌++◌, length, slice_index_or, if◌then◌else◌}
 use Rattle.mask_table.specs.Agreeing.{masked}
+use Rattle.mask_table.specs.Counts.{count_of}
 use Rattle.if_addrs.specs.Interfaces.{Address}
 use Rattle.if_addrs.specs.declared.index.Index.{Index}
 
 -- which of so many buckets is for a rank and an address that is masked by it
 unfoldable pub slot : ℕ → ℕ → ℕ → ℕ
-slot count rank network = (network * 64 + rank) * 0x9E37_79B9_7F4A_7C15 % 2 ^ 64 / 2 ^ 32 % count
+slot count rank network = (network * 64 + rank) * 0x9E37_79B9_7F4A_7C15 % 2 ^ 64 / 2 ^ 32 * count / 2 ^ 32
 
 -- which is for the addresses that agree with this one at the rank
 abbrev pub slot_of : ℕ → ℕ → ℕ → ℕ
@@ -28,10 +29,10 @@ abbrev pub places_from : ℕ → ℕ → ℕ → List Address → List ℕ
 places_from count k place [] = []
 places_from count k place (a ∷ rest) = places_of count k place a ++ places_from count k (suc place) rest
 
--- each length of a network is among these
-abbrev pub AreLengths : List Bool → List Address → Type 0
+-- the length of each network is counted
+abbrev pub AreLengths : List ℕ → List Address → Type 0
 AreLengths lengths [] = Unit {0}
-AreLengths lengths (a ∷ rest) = (slice_index_or lengths a.prefix false ≡ true) × AreLengths lengths rest
+AreLengths lengths (a ∷ rest) = (a.prefix ≤ 32) × (0 < count_of a.prefix lengths) × AreLengths lengths rest
 
 -- the buckets have the places of these addresses, and the lengths of their networks are known
 pub record IsIndexOf (index : Index) (addresses : List Address) : Type 0 where

@@ -5,12 +5,13 @@ ghost use Rattle.if_addrs.specs.Indexed.{IsIndexOf, slot_of};
 ghost use Rattle.if_addrs.specs.Interfaces.{Address as Seen};
 ghost use Rattle.if_addrs.specs.Searches.{longest as longest_of};
 ghost use Rattle.if_addrs.specs.Wanted.{is_wanted};
-ghost use Rattle.if_addrs.specs.declared.address.Wanted.TheVariants.{Near, Net};
+ghost use Rattle.if_addrs.specs.declared.address.Wanted.TheVariants.{Near};
+ghost use Rattle.mask_table.specs.Counts.{count_of};
 ghost use Rattle.memory.specs.Refusing.{Rises};
 
 use crate::address::{self, Address, Wanted};
 use crate::bucket::Bucket;
-use mask_table::{Prefix, Rank, masked};
+use mask_table::{Counts, Rank, masked};
 use memory::Memory;
 use sock_addrs::Inet;
 use std::alloc::{AllocError, Global};
@@ -24,8 +25,8 @@ const FEW: usize = 16;
 #[derive(Drop)]
 pub(crate) struct Index {
     buckets: Vec<Bucket>,
-    /// Which lengths of networks there are.
-    lengths: [bool; 33],
+    /// The lengths of networks that there are, each counted once.
+    lengths: Counts,
 }
 
 impl Index {
@@ -35,7 +36,7 @@ impl Index {
     {
         Index {
             buckets: Vec::new(alloc),
-            lengths: [false; 33],
+            lengths: Counts::new(),
         }
     }
 
@@ -51,7 +52,7 @@ impl Index {
     {
         let mut index = Index {
             buckets: empty(alloc, 2 * addresses.len(), memory)?,
-            lengths: [false; 33],
+            lengths: Counts::new(),
         };
         for place in 0..addresses.len() {
             index.file(place as u16, &addresses[place], memory)?;
@@ -90,11 +91,12 @@ impl Index {
         }
         let own = slot(count, Rank::host(), address.inet());
         let far = slot(count, Rank::host(), address.far());
-        let network = slot(count, Rank::of(address.prefix()), address.inet());
+        let length = Rank::of(address.prefix());
+        let network = slot(count, length, address.inet());
         self.buckets[own].push(place, memory)?;
         self.buckets[far].push(place, memory)?;
         self.buckets[network].push(place, memory)?;
-        self.lengths[usize::from(address.prefix().bits())] = true;
+        count_once(&mut self.lengths, length);
         Ok(())
     }
 
@@ -124,35 +126,22 @@ impl Index {
         }
     }
 
-    /// So by the buckets, a length of networks after the other.
+    /// So by the buckets, a length of networks after the other, from the longest that there is on.
     fn longest_by_length(&self, addresses: &[Address], sought: Inet) -> Option<Address>
         requires some { 0 < length self.now.buckets.items }
         requires of { IsIndexOf self.now addresses.now }
         ensures { result ≡ longest_of (filter (is_wanted (Near sought)) addresses.now) }
     {
-        let mut bits = 33;
-        while bits > 0 {
-            bits -= 1;
-            let found = self.of_length(addresses, sought, bits);
+        let mut left = 33;
+        while let Some(length) = self.lengths.greatest_below(left) {
+            let prefix = length.mask().unwrap();
+            let found = self.first(addresses, &Wanted::Net(sought, prefix));
             if found.is_some() {
                 return found;
             }
+            left = length.number();
         }
         None
-    }
-
-    /// The first of these addresses whose network has this length and holds this one.
-    fn of_length(&self, addresses: &[Address], sought: Inet, bits: u8) -> Option<Address>
-        requires some { 0 < length self.now.buckets.items }
-        requires of { IsIndexOf self.now addresses.now }
-        requires length { bits ≤ 32 }
-        ensures { result ≡ find (is_wanted (Net sought bits)) addresses.now }
-    {
-        if self.lengths[usize::from(bits)] {
-            self.first(addresses, &Wanted::Net(sought, Prefix::new(bits).unwrap()))
-        } else {
-            None
-        }
     }
 }
 
@@ -169,6 +158,16 @@ fn empty(alloc: Global, count: usize, memory: &mut Memory) -> Result<Vec<Bucket>
     Ok(buckets)
 }
 
+/// Counts this length, where it isn't counted yet.
+fn count_once(lengths: &mut Counts, length: Rank)
+    ensures counted { 0 < count_of length lengths.new }
+    ensures kept { (r : ℕ) → r ≤ 33 → 0 < count_of r lengths.old → 0 < count_of r lengths.new }
+{
+    if !lengths.has(length) {
+        lengths.added(length);
+    }
+}
+
 /// Which of so many buckets is that of the addresses that agree with this one at a rank.
 fn slot(count: usize, rank: Rank, address: Inet) -> usize
     requires { 0 < count }
@@ -178,7 +177,7 @@ fn slot(count: usize, rank: Rank, address: Inet) -> usize
     // Multiplied by an odd number near 2^64 over the golden ratio, keys that are near each other come far apart.
     let key = u64::from(masked(address, rank).number()) * 64 + u64::from(rank.number());
     let spread = key.wrapping_mul(0x9E37_79B9_7F4A_7C15) >> 32;
-    spread as usize % count
+    (u128::from(spread) * count as u128 >> 32) as usize
 }
 
 /// The first of the addresses at these places that is as a search wants it.
