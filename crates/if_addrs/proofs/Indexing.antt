@@ -12,7 +12,7 @@ use Rattle.mask_table.specs.Counts.{count_of}
 use Rattle.if_addrs.specs.declared.index.Index.{Index}
 use Rattle.if_addrs.specs.declared.address.Wanted.{Wanted}
 use Rattle.if_addrs.specs.declared.address.Wanted.TheVariants.{Same, Own, Far, Near, Net, Standing}
-use Rattle.if_addrs.specs.Indexed.{AreLengths, IsIndexOf, placed, places_from, places_of, slot, slot_of}
+use Rattle.if_addrs.specs.Indexed.{AreLengths, IsIndexOf, falls_into, placed, places_from, places_of, slot, slot_of}
 use Rattle.if_addrs.specs.Interfaces.{Address, new_address}
 use Rattle.if_addrs.specs.declared.kind.Kind.TheVariants.{Loopback}
 use Rattle.if_addrs.specs.Searches.{has_broadcast, has_other_end, network_holds}
@@ -126,10 +126,6 @@ indexed_marked index place mark xs h = record {
 
 -- WHAT IS FOUND IN A BUCKET
 
--- bucket k has the place of the address
-abbrev goes : ℕ → ℕ → Address → Bool
-goes count k a = nat_eq (slot_of count 33 a.address) k || nat_eq (slot_of count 33 a.far) k || nat_eq (slot_of count a.prefix a.address) k
-
 shift_of : (i : ℕ) (y : Address) (ys : List Address) (d : Address) (b c e : Bool)
     → map (λ p. slice_index_or (y ∷ ys) p d) (cond b (suc i ∷ []) [] ++ cond c (suc i ∷ []) [] ++ cond e (suc i ∷ []) [])
     ≡ map (λ p. slice_index_or ys p d) (cond b (i ∷ []) [] ++ cond c (i ∷ []) [] ++ cond e (i ∷ []) [])
@@ -182,7 +178,7 @@ first_found p x xs d r false true false h = one_found (p x) x r
 first_found p x xs d r false false true h = one_found (p x) x r
 first_found p x xs d r false false false h = none_found (p x) x r h
 
-pub found_there : (count k : ℕ) (p : Address → Bool) → ((a : Address) → p a ≡ true → goes count k a ≡ true) → (xs : List Address) (d : Address)
+pub found_there : (count k : ℕ) (p : Address → Bool) → ((a : Address) → p a ≡ true → falls_into count k a ≡ true) → (xs : List Address) (d : Address)
     → find p (map (λ i. slice_index_or xs i d) (places_from count k 0 xs)) ≡ find p xs
 found_there count k p only [] d = refl
 found_there count k p only (x ∷ xs) d =
@@ -267,19 +263,19 @@ unfolding slot_by
 keyed count r x rank address is = ap (λ (o : Option (ℕ × ℕ)). slot_by count o) is
 
 module _ (count : ℕ) (a : Address) where
-  goes_own : (x rank address : ℕ) → key 33 x ≡ key rank address → nat_eq a.address x ≡ true → goes count (slot_of count rank address) a ≡ true
+  goes_own : (x rank address : ℕ) → key 33 x ≡ key rank address → nat_eq a.address x ≡ true → falls_into count (slot_of count rank address) a ≡ true
   goes_own x rank address is h =
       let same : a.address ≡ x = eqb-true a.address x h in
       let is_it : slot_of count 33 a.address ≡ slot_of count rank address = ap (λ (n : ℕ). slot_of count 33 n) same ∙ keyed count 33 x rank address is in
       or_first _ _ _ (eq-eqb _ _ is_it)
 
-  goes_far : (x rank address : ℕ) → key 33 x ≡ key rank address → nat_eq a.far x ≡ true → goes count (slot_of count rank address) a ≡ true
+  goes_far : (x rank address : ℕ) → key 33 x ≡ key rank address → nat_eq a.far x ≡ true → falls_into count (slot_of count rank address) a ≡ true
   goes_far x rank address is h =
       let same : a.far ≡ x = eqb-true a.far x h in
       let is_it : slot_of count 33 a.far ≡ slot_of count rank address = ap (λ (n : ℕ). slot_of count 33 n) same ∙ keyed count 33 x rank address is in
       or_second _ _ _ (eq-eqb _ _ is_it)
 
-  goes_network : (x prefix rank address : ℕ) → key prefix x ≡ key rank address → nat_eq a.prefix prefix ≡ true → network_holds x a ≡ true → goes count (slot_of count rank address) a ≡ true
+  goes_network : (x prefix rank address : ℕ) → key prefix x ≡ key rank address → nat_eq a.prefix prefix ≡ true → network_holds x a ≡ true → falls_into count (slot_of count rank address) a ≡ true
   goes_network x prefix rank address is long h =
       let same : front a.prefix a.address ≡ front a.prefix x = eqb-true _ _ h in
       let is_it : slot_of count a.prefix a.address ≡ slot_of count rank address =
@@ -288,7 +284,7 @@ module _ (count : ℕ) (a : Address) where
       ∙ keyed count prefix x rank address is in
       or_third (nat_eq (slot_of count 33 a.address) (slot_of count rank address)) (nat_eq (slot_of count 33 a.far) (slot_of count rank address)) _ (eq-eqb _ _ is_it)
 
-  pub wanted_goes : (w : Wanted) (rank address : ℕ) → key_of w ≡ key rank address → is_wanted w a ≡ true → goes count (slot_of count rank address) a ≡ true
+  pub wanted_goes : (w : Wanted) (rank address : ℕ) → key_of w ≡ key rank address → is_wanted w a ≡ true → falls_into count (slot_of count rank address) a ≡ true
   wanted_goes (Same x) rank address is h = goes_own x rank address is (then_true (not a.removed) (nat_eq a.address x) h)
   wanted_goes (Own x) rank address is h = elim (either _ _ (then_true (not a.removed) _ h)) [
     | inl own ↦ goes_own x rank address is own

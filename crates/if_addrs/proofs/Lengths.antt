@@ -19,7 +19,7 @@ by_length true false true = refl
 by_length true false false = refl
 by_length false e h = refl
 
-net_is : (sought bits : ℕ) (a : Address) → is_wanted (Net sought bits) a ≡ (is_wanted (Near sought) a && nat_eq a.prefix bits)
+pub net_is : (sought bits : ℕ) (a : Address) → is_wanted (Net sought bits) a ≡ (is_wanted (Near sought) a && nat_eq a.prefix bits)
 net_is sought bits a = by_length (not a.removed) (nat_eq a.prefix bits) (network_holds sought a)
 
 of_length : (sought bits : ℕ) (a : Address) → is_wanted (Net sought bits) a ≡ true → a.prefix ≡ bits

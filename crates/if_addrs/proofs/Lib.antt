@@ -1,5 +1,6 @@
 pub mod Networks
 pub mod Adding
+pub mod Directing
 pub mod Homes
 pub mod Indexing
 pub mod Keeping

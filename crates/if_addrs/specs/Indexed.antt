@@ -1,17 +1,21 @@
 -- How the code looks for an address: by buckets that hold the places of addresses in their list.
-use Rattle.std.specs.Prelude.{◌≡◌, ℕ, suc, ◌+◌, ◌*◌, ◌/◌, ◌%◌, ◌^◌, ◌<◌, ◌≤◌, ◌==◌, List, [], ◌∷◌, ◌++◌, length, slice_index_or, if◌then◌else◌}
+use Rattle.std.specs.Prelude.{◌≡◌, ℕ, suc, ◌+◌, ◌*◌, ◌/◌, ◌%◌, ◌^◌, ◌<◌, ◌≤◌, ◌==◌, ◌||◌, Bool, List, [], ◌∷◌, ◌++◌, length, slice_index_or, if◌then◌else◌}
 use Rattle.mask_table.specs.Agreeing.{masked}
 use Rattle.mask_table.specs.Counts.{count_of}
 use Rattle.if_addrs.specs.Interfaces.{Address}
 use Rattle.if_addrs.specs.declared.index.Index.{Index}
 
--- which of so many buckets is for a rank and an address that is masked by it
+-- which of so many slots is for a rank and an address that is masked by it
 unfoldable pub slot : ℕ → ℕ → ℕ → ℕ
 slot count rank network = (network * 64 + rank) * 0x9E37_79B9_7F4A_7C15 % 2 ^ 64 / 2 ^ 32 * count / 2 ^ 32
 
 -- which is for the addresses that agree with this one at the rank
 abbrev pub slot_of : ℕ → ℕ → ℕ → ℕ
 slot_of count rank address = slot count rank (masked rank address)
+
+-- whether an address falls into a slot: by itself, by its far address, or by its network
+abbrev pub falls_into : ℕ → ℕ → Address → Bool
+falls_into count k a = slot_of count 33 a.address == k || slot_of count 33 a.far == k || slot_of count a.prefix a.address == k
 
 -- the place, where the bucket is this one
 abbrev pub placed : ℕ → ℕ → ℕ → List ℕ

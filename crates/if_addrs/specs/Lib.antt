@@ -1,3 +1,4 @@
+pub mod Directory
 pub mod Facts
 pub mod Homes
 pub mod Indexed

@@ -1,17 +1,17 @@
 //! Where to look for an address in a long list of them.
 ghost use Rattle.std.specs.Prelude.{◌≡◌, ℕ, ◌+◌, ◌*◌, ◌<◌, ◌≤◌, ◌&&◌, nat_le, List, [], ◌∷◌, ◌++◌, length, map, filter, slice_index, slice_index_or, is_err, OnOk, IfOk};
 ghost use Rattle.std.specs.List.{All, find};
-ghost use Rattle.if_addrs.specs.Indexed.{IsIndexOf, slot_of};
+ghost use Rattle.if_addrs.specs.Indexed.{IsIndexOf};
 ghost use Rattle.if_addrs.specs.Interfaces.{Address as Seen};
 ghost use Rattle.if_addrs.specs.Searches.{longest as longest_of};
 ghost use Rattle.if_addrs.specs.Wanted.{is_wanted};
 ghost use Rattle.if_addrs.specs.declared.address.Wanted.TheVariants.{Near};
-ghost use Rattle.mask_table.specs.Counts.{count_of};
 ghost use Rattle.memory.specs.Refusing.{Rises};
 
 use crate::address::{self, Address, Wanted};
 use crate::bucket::Bucket;
-use mask_table::{Counts, Rank, masked};
+use crate::slots::{count_once, slot};
+use mask_table::{Counts, Rank};
 use memory::Memory;
 use sock_addrs::Inet;
 use std::alloc::{AllocError, Global};
@@ -156,28 +156,6 @@ fn empty(alloc: Global, count: usize, memory: &mut Memory) -> Result<Vec<Bucket>
         memory.push(&mut buckets, Bucket::new(alloc))?;
     }
     Ok(buckets)
-}
-
-/// Counts this length, where it isn't counted yet.
-fn count_once(lengths: &mut Counts, length: Rank)
-    ensures counted { 0 < count_of length lengths.new }
-    ensures kept { (r : ℕ) → r ≤ 33 → 0 < count_of r lengths.old → 0 < count_of r lengths.new }
-{
-    if !lengths.has(length) {
-        lengths.added(length);
-    }
-}
-
-/// Which of so many buckets is that of the addresses that agree with this one at a rank.
-fn slot(count: usize, rank: Rank, address: Inet) -> usize
-    requires { 0 < count }
-    ensures slot { result ≡ slot_of count rank address }
-    ensures below { result < count }
-{
-    // Multiplied by an odd number near 2^64 over the golden ratio, keys that are near each other come far apart.
-    let key = u64::from(masked(address, rank).number()) * 64 + u64::from(rank.number());
-    let spread = key.wrapping_mul(0x9E37_79B9_7F4A_7C15) >> 32;
-    (u128::from(spread) * count as u128 >> 32) as usize
 }
 
 /// The first of the addresses at these places that is as a search wants it.

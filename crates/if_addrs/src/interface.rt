@@ -1,6 +1,7 @@
 ghost use Rattle.std.specs.Prelude.{◌≡◌, ◌<◌, length, filter, is_err, option_map, slice_get, Some, OnOk, OnErr};
 ghost use Rattle.std.specs.List.{find, list_any, position};
-ghost use Rattle.if_addrs.specs.Interfaces.{addresses_of, attached, has_name as is_named, named, holds, with_one_more, link_text};
+ghost use Rattle.if_addrs.specs.Directory.{Leads};
+ghost use Rattle.if_addrs.specs.Interfaces.{addresses_of, attached, has_name as is_named, named, with_one_more, link_text};
 ghost use Rattle.if_addrs.specs.Searches.{standing, nearest as nearest_of, longest as longest_of};
 ghost use Rattle.if_addrs.specs.Wanted.{is_wanted, with_marked};
 ghost use Rattle.if_addrs.specs.declared.address.Wanted.TheVariants.{Near};
@@ -71,13 +72,6 @@ impl Interface {
         ensures { result ≡ self.now.kind }
     {
         self.kind
-    }
-
-    /// Whether it holds this address.
-    fn holds(&self, address: Inet) -> bool
-        ensures { result ≡ holds address self.now }
-    {
-        self.addresses.first(&Wanted::Same(address)).is_some()
     }
 
     /// How many addresses it was ever given.
@@ -168,34 +162,37 @@ pub(crate) fn is_there(interfaces: &[Interface], name: Name) -> bool
     interfaces.iter().any(|interface| interface.has_name(name))
 }
 
-/// Whether one of them holds this address.
-pub(crate) fn is_in_use(interfaces: &[Interface], address: Inet) -> bool
-    ensures { result ≡ list_any (holds address) interfaces.now }
-{
-    interfaces.iter().any(|interface| interface.holds(address))
-}
-
-/// The first of their addresses that is as a search wants it.
-pub(crate) fn first(interfaces: &[Interface], wanted: &Wanted) -> Option<Address>
+/// The first of their addresses that is as a search wants it; `leading` has a bit of each interface that may have one.
+pub(crate) fn first(interfaces: &[Interface], leading: u64, wanted: &Wanted) -> Option<Address>
+    requires { Leads leading (is_wanted wanted.now) interfaces.now }
     ensures { result ≡ find (is_wanted wanted.now) (addresses_of interfaces.now) }
 {
+    let mut bits = leading;
     for interface in interfaces {
-        let found = interface.first(wanted);
-        if found.is_some() {
-            return found;
+        if bits % 2 == 1 {
+            let found = interface.first(wanted);
+            if found.is_some() {
+                return found;
+            }
         }
+        bits /= 2;
     }
     None
 }
 
-/// The first of the longest prefix among their addresses whose network holds this one.
-#[tactic(auto, using(crate::proofs::Searching::better_none))]
-pub(crate) fn longest(interfaces: &[Interface], sought: Inet) -> Option<Address>
+/// The first of the longest prefix among their addresses whose network holds this one; `leading` has a bit of each
+/// interface that may have one.
+pub(crate) fn longest(interfaces: &[Interface], leading: u64, sought: Inet) -> Option<Address>
+    requires { Leads leading (is_wanted (Near sought)) interfaces.now }
     ensures { result ≡ longest_of (filter (is_wanted (Near sought)) (addresses_of interfaces.now)) }
 {
+    let mut bits = leading;
     let mut best = None;
     for interface in interfaces {
-        best = address::better(best, interface.longest(sought));
+        if bits % 2 == 1 {
+            best = address::better(best, interface.longest(sought));
+        }
+        bits /= 2;
     }
     best
 }

@@ -4,6 +4,7 @@
 mod address;
 mod addresses;
 mod bucket;
+mod directory;
 mod home;
 mod index;
 mod interface;
@@ -14,6 +15,7 @@ pub mod limits;
 mod link_address;
 mod reference;
 mod searches;
+mod slots;
 
 pub use interfaces::Interfaces;
 pub use kind::Kind;

@@ -9,7 +9,6 @@ ghost use Rattle.if_addrs.specs.declared.address.Wanted.TheVariants.{Near};
 ghost use Rattle.if_addrs.specs.declared.reference.IfaRef.TheVariants as ifa;
 
 use crate::address::Wanted;
-use crate::interface::{first, longest};
 use crate::interfaces::Interfaces;
 use crate::reference::IfaRef;
 use sock_addrs::flags::{RTF_GATEWAY, RTF_HOST};
@@ -33,7 +32,7 @@ impl Interfaces {
         ensures found { result ≡ option_map reference (find (is_wanted wanted.now) (addresses_of self.now)) }
         ensures of { IfSome result (λ i. IsOf i self.now) }
     {
-        Some(first(&self.interfaces, wanted)?.reference())
+        Some(self.directory.first(&self.interfaces, wanted)?.reference())
     }
 
     /// The first address of the longest prefix among those whose network holds this one.
@@ -42,7 +41,11 @@ impl Interfaces {
             option_map reference (longest (filter (is_wanted (Near sought)) (addresses_of self.now))) }
         ensures of { IfSome result (λ i. IsOf i self.now) }
     {
-        Some(longest(&self.interfaces, sought)?.reference())
+        Some(
+            self.directory
+                .longest(&self.interfaces, sought)?
+                .reference(),
+        )
     }
 
     /// The first interface whose link-layer address this is.

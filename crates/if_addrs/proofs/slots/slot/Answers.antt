@@ -1,6 +1,6 @@
 use Rattle.std.proofs.Common.{rules}
 use Rattle.if_addrs.specs.Indexed.{slot}
-use Rattle.if_addrs.proofs.index.slot.Goals as goal
+use Rattle.if_addrs.proofs.slots.slot.Goals as goal
 
 pub returns-clause-slot : goal.returns-clause-slot
 unfolding slot
