@@ -89,7 +89,7 @@ impl Places {
         ensures entry { result ≡ (if slice_index self.now.tags.items place == tag then slice_get self.now.entries.items place else None) }
         ensures look { visits.new ≡ record visits.old { count = visits.old.count + 1 } }
     {
-        visits.tick();
+        visits.tick(); // the look under a tag
         if self.tags[place] == tag {
             Some(self.entries[place])
         } else {
@@ -105,7 +105,7 @@ impl Places {
         ensures entry { result ≡ stands self.now place }
         ensures look { visits.new ≡ record visits.old { count = visits.old.count + 1 } }
     {
-        visits.tick();
+        visits.tick(); // the look at a place
         if self.tags[place] == 0 {
             None
         } else {
@@ -186,7 +186,7 @@ impl Places {
         ensures moved { Moves self.old self.new from to }
         ensures look { visits.new ≡ record visits.old { count = visits.old.count + 1 } }
     {
-        visits.tick();
+        visits.tick(); // the look at what moves
         let entry = self.entries[from];
         let tag = self.tags[from];
         self.free(from);

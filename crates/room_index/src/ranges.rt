@@ -114,7 +114,7 @@ impl Ranges {
         ensures near { IfSome result (λ room. (e : Filed) × Has self.now e × (e.room ≡ room)) }
         ensures look { visits.new ≡ record visits.old { count = visits.old.count + 1 } }
     {
-        visits.tick();
+        visits.tick(); // the look at a range's pair
         let range = self.range(pair);
         if range >= self.last.len() {
             return None;
@@ -134,7 +134,7 @@ impl Ranges {
         ensures told { (rank : ℕ) → rank ≤ 33 → TellsRank self.now address rank → HasRank result rank }
         ensures look { visits.new ≡ record visits.old { count = visits.old.count + 1 } }
     {
-        visits.tick();
+        visits.tick(); // the look at a range's ranks
         let range = self.range(pair_of(address, Rank::new(0)));
         if range >= self.ranks.len() {
             return Ranks::all();
@@ -225,7 +225,7 @@ impl Ranges {
         ensures bits { self.new.bits ≡ self.old.bits }
         ensures look { visits.new ≡ record visits.old { count = visits.old.count + 1 } }
     {
-        visits.tick();
+        visits.tick(); // the look at what goes
         let range = self.range(pair);
         if range < self.last.len() {
             self.last[range] = self.last[range].without(pair);

@@ -32,5 +32,8 @@ returns-then-range-len-clause-others c n other = ap entry_of (set_there c.args.s
     (λ same. other (same ∙ c.range-range.ensures)))
 
 pub returns-else-range-len-clause-fewer : goal.returns-else-range-len-clause-fewer
-returns-else-range-len-clause-fewer c e has = (has, λ same. absurd (none-some e (sym (ap entry_of (slice_get_past c.args.self.now.last.items has.0
-    (omega (arith, sym (c.requires.own has.0 e has.1) ∙ ap (range_of c.args.self.now.bits) same, c.range-range.ensures, c.len.ensures, c.if-range-len.false)))) ∙ has.1)))
+returns-else-range-len-clause-fewer c e has = (
+  has,
+  λ same. absurd (none-some e (sym (ap entry_of (slice_get_past c.args.self.now.last.items has.0
+      (omega (arith, sym (c.requires.own has.0 e has.1) ∙ ap (range_of c.args.self.now.bits) same, c.range-range.ensures, c.len.ensures, c.if-range-len.false)))) ∙ has.1)),
+)
