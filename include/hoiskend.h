@@ -150,8 +150,8 @@ uint32_t hk_attach_n(hk_world *world, const uint8_t *name, size_t name_n, uint8_
  *
  * HK_EINVAL: a prefix of more than 32. HK_ENXIO: no such interface. HK_EINVAL: another end on an interface that isn't
  * HK_POINTOPOINT, or none on one that is. HK_EADDRINUSE: an interface has this address. HK_ENOSPC: 65,535 addresses
- * were added since the world began, those that were removed or answered HK_EEXIST among them. HK_ENOBUFS. HK_EEXIST:
- * there is that route already; the address is kept without it.
+ * were added since the world began, those that were removed or are kept without a route among them. HK_ENOBUFS.
+ * HK_EEXIST: there is that route already; the address is kept without it.
  */
 uint32_t hk_add_address_n(hk_world *world, const uint8_t *name, size_t name_n, uint32_t address, uint8_t prefix,
                           bool cloning, bool has_far, uint32_t far);
