@@ -262,7 +262,7 @@ impl World {
         }
     }
 
-    /// What a transcript has of the last call: its lines, each ended by a newline.
+    /// What a transcript has of the last command or line: its lines, each ended by a newline.
     pub fn text(&mut self) -> String {
         String::from_utf8(self.handle.text()).expect("the library writes ASCII")
     }
