@@ -38,7 +38,7 @@
  *     worlds share nothing, and may be in calls at the same time.
  *   - malloc, realloc and free are one allocator, which aligns a block of 16 bytes or more to 16. No call is made in a
  *     signal handler, nor in the forked child of a process with threads.
- *   - At each call the thread has HK_STACK_BYTES of its stack left. hk_line takes about half of that, the others less.
+ *   - At each call the thread has HK_STACK_BYTES of its stack left, of which hk_line takes the most.
  *   - The processor has what x86-64-v2 names, SSE4.1 and what came before it, as those since about 2009 do: the library
  *     takes it for granted.
  *
