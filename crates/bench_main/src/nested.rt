@@ -4,12 +4,10 @@
 //! without a line and without a text, as by the library.
 use crate::chance::Chance;
 use crate::daemon::{add_routes, put_add};
-use crate::digest::Digest;
 use crate::machine::Fault;
 use crate::networks::Network;
 use crate::work::Work;
-use route_core::{Answer, Choice};
-use sock_addrs::{Gate, Inet};
+use sock_addrs::Inet;
 
 /// The length of the longest masks.
 const DEEP: u8 = 28;
@@ -71,24 +69,5 @@ fn send(work: &mut Work, last: &mut Vec<u32>) {
     }
     let which = work.chance.word() as usize % count;
     last[which] = last[which].wrapping_add(1);
-    let answer = work.machine.packet(Inet::new(last[which]));
-    take(&answer, &mut work.digest);
-}
-
-/// Puts an answer into a digest.
-fn take(answer: &Answer<'_>, digest: &mut Digest) {
-    match answer {
-        Answer::Routed(choice) | Answer::Dropped(choice) => take_choice(choice, digest),
-        Answer::Refused(errno) => digest.number(u64::from(errno.number())),
-        _ => digest.number(0),
-    }
-}
-
-/// Puts a packet's route into a digest.
-fn take_choice(choice: &Choice, digest: &mut Digest) {
-    digest.number(u64::from(choice.key.number()) << 8 | u64::from(choice.rank.number()));
-    digest.number(u64::from(choice.index) << 16 | u64::from(choice.flags));
-    if let Gate::Inet(gateway) = choice.gateway {
-        digest.number(u64::from(gateway.number()));
-    }
+    work.packet(Inet::new(last[which]));
 }
