@@ -1,5 +1,5 @@
 //! The calls that ask for memory, and how often it was refused.
-ghost use Rattle.std.specs.Prelude.{◌≡◌, ◌+◌, ◌*◌, ◌<◌, ◌≤◌, ◌++◌, ◌∷◌, [], length, is_err, IsOk, OnOk, OnErr, IfOk, vec_len, vec_capacity};
+ghost use Rattle.std.specs.Prelude.{◌≡◌, ◌+◌, ◌*◌, ◌<◌, ◌≤◌, ◌++◌, ◌∷◌, [], length, replicate, is_err, IsOk, OnOk, OnErr, IfOk, vec_len, vec_capacity};
 ghost use Rattle.memory.specs.Refusing.{Rises};
 
 use crate::number::Number;
@@ -54,6 +54,7 @@ impl Memory {
     /// As many bytes of 0.
     pub fn zeros(&mut self, alloc: Global, n: usize) -> Result<Vec<u8>, AllocError>
         requires modest { n ≤ MOST_ASKED }
+        ensures bytes { IfOk result (λ bytes. bytes.items ≡ replicate n 0) }
         ensures len { IfOk result (λ bytes. length bytes.items ≡ n) }
         ensures counted { Rises (is_err result) self.old self.new }
     {
@@ -104,7 +105,7 @@ impl Memory {
         }
     }
 
-    /// Makes room for as many items more as a vector has.
+    /// Makes room for as many items more as a vector has: so that no more is asked for than is held already.
     pub fn double<T>(&mut self, items: &mut Vec<T>) -> Result<(), AllocError>
         ensures items { items.new.items ≡ items.old.items }
         ensures room { OnOk result (2 * vec_len items.new ≤ vec_capacity items.new) }
@@ -160,7 +161,7 @@ impl Memory {
     }
 }
 
-/// Gives back the memory of a vector that its items don't need. It asks for no more, and is never refused: where a smaller
+/// Gives back the memory of a vector that its items don't need. It asks for no more, and no count rises by it: where a smaller
 /// block can't be had, the vector keeps its own.
 pub fn give_back<T>(items: &mut Vec<T>)
     ensures items { items.new.items ≡ items.old.items }
