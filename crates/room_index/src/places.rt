@@ -18,6 +18,12 @@ use std::alloc::{AllocError, Global};
 /// How many places there are at first, those of four buckets.
 pub(crate) const FEWEST: usize = 32;
 
+/// How many entries and tags there is memory for beside those that are there: 48 bytes. With what the C library puts before it each
+/// block is then as long as whole lines of the cache, so that rooms which are made after it lie in their lines as those before.
+const ENTRIES_BESIDE: usize = 3;
+
+const TAGS_BESIDE: usize = 24;
+
 /// Places for entries, eight to each of 2^`bits` buckets, or none yet. Beside each entry, in a list of its own, stands its
 /// tag, or 0 where the place is free: so the tags of a bucket are read at once.
 #[derive(Drop)]
@@ -216,11 +222,11 @@ impl Places {
         ensures counted { Rises (is_err result) memory.old memory.new }
     {
         if self.tags.is_empty() {
-            memory.reserve(&mut self.entries, FEWEST)?;
-            memory.reserve(&mut self.tags, FEWEST)?;
+            memory.reserve(&mut self.entries, FEWEST + ENTRIES_BESIDE)?;
+            memory.reserve(&mut self.tags, FEWEST + TAGS_BESIDE)?;
         } else if self.bits < MOST_BITS {
-            memory.double(&mut self.entries)?;
-            memory.double(&mut self.tags)?;
+            memory.double(&mut self.entries, ENTRIES_BESIDE)?;
+            memory.double(&mut self.tags, TAGS_BESIDE)?;
         }
         Ok(())
     }
@@ -284,7 +290,7 @@ impl Places {
         ensures no_tags { length self.old.tags.items ≡ 0 → vec_capacity self.new.tags ≡ 0 }
         ensures no_entries { length self.old.entries.items ≡ 0 → vec_capacity self.new.entries ≡ 0 }
     {
-        give_back(&mut self.tags);
-        give_back(&mut self.entries);
+        give_back(&mut self.tags, TAGS_BESIDE);
+        give_back(&mut self.entries, ENTRIES_BESIDE);
     }
 }

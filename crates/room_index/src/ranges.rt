@@ -19,6 +19,11 @@ use std::alloc::{AllocError, Global};
 /// How many ranges there are at first.
 const FEWEST: usize = 8;
 
+/// How many there is memory for beside those that are there: 48 bytes, as of the places.
+const LAST_BESIDE: usize = 2;
+
+const RANKS_BESIDE: usize = 6;
+
 /// In a range with more pairs than so many, the way from one to the next is as long as that from the root.
 const CROWDED: u32 = 16;
 
@@ -255,8 +260,8 @@ impl Ranges {
         ensures no_last { length self.old.last.items ≡ 0 → vec_capacity self.new.last ≡ 0 }
         ensures no_ranks { length self.old.ranks.items ≡ 0 → vec_capacity self.new.ranks ≡ 0 }
     {
-        give_back(&mut self.last);
-        give_back(&mut self.ranks);
+        give_back(&mut self.last, LAST_BESIDE);
+        give_back(&mut self.ranks, RANKS_BESIDE);
     }
 
     /// Asks for the memory of twice as many ranges, where there can be as many.
@@ -270,8 +275,8 @@ impl Ranges {
         ensures counted { Rises (is_err result) memory.old memory.new }
     {
         if self.bits < MOST_BITS {
-            ask_for_more(&mut self.last, memory)?;
-            ask_for_more(&mut self.ranks, memory)?;
+            ask_for_more(&mut self.last, LAST_BESIDE, memory)?;
+            ask_for_more(&mut self.ranks, RANKS_BESIDE, memory)?;
         }
         Ok(())
     }
@@ -339,15 +344,16 @@ impl Ranges {
     }
 }
 
-/// Asks for the memory of twice as many, or of the first.
-fn ask_for_more<T>(known: &mut Vec<T>, memory: &mut Memory) -> Result<(), AllocError>
+/// Asks for the memory of twice as many, or of the first, and of some beside.
+fn ask_for_more<T>(known: &mut Vec<T>, beside: usize, memory: &mut Memory) -> Result<(), AllocError>
+    requires { beside ≤ 6 }
     ensures items { known.new.items ≡ known.old.items }
     ensures room { OnOk result (more_ranges known.new ≤ vec_capacity known.new) }
     ensures counted { Rises (is_err result) memory.old memory.new }
 {
     if known.is_empty() {
-        memory.reserve(known, FEWEST)
+        memory.reserve(known, FEWEST + beside)
     } else {
-        memory.double(known)
+        memory.double(known, beside)
     }
 }

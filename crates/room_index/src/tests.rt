@@ -88,7 +88,7 @@ impl Trial {
             .is_some()
     }
 
-    /// How many places there is memory for.
+    /// How many places there is memory for, with those beside.
     fn places(&self) -> usize {
         self.index.places.capacity()
     }
@@ -135,7 +135,7 @@ fn table_follows_its_pairs(rt: HostRuntime) -> Result<(), Fail> {
         for number in 0..50_000 {
             trial.enter(number)?;
         }
-        assert_eq!(rt; trial.places(), 131_072, "in round {round}");
+        assert_eq!(rt; trial.places(), 131_072 + 24, "in round {round}");
         for number in 100..50_000 {
             trial.strike(number, true);
         }
@@ -175,7 +175,7 @@ fn a_pair_is_near_until_it_is_struck(rt: HostRuntime) -> Result<(), Fail> {
     }
     assert!(rt; trial.is_near(scattered(0)));
     assert!(rt; !trial.is_near(scattered(4_999)));
-    assert!(rt; trial.index.ranges.capacity() <= 8);
+    assert!(rt; trial.index.ranges.capacity() <= 16);
     Ok(())
 }
 
