@@ -1,0 +1,12 @@
+pub mod AddressesOn
+pub mod Counterparts
+pub mod Fitted
+pub mod HeadersOf
+pub mod HeadersRead
+pub mod NumbersRead
+pub mod OnceMore
+pub mod Onward
+pub mod Placed
+pub mod Settled
+pub mod ThereAndBack
+pub mod Walked
