@@ -334,13 +334,17 @@ impl Ranges {
         ensures none { HasNone self.new }
         ensures many { length self.new.last.items ≡ many }
     {
+        let fewer = many < self.last.len();
         self.last.clear();
         self.last.resize(many, Last::none()).unwrap();
         self.ranks.clear();
         self.ranks.resize(many, Ranks::none()).unwrap();
         self.short = Ranks::none();
         self.bits = bits;
-        self.give_back();
+        // an addition asks for no memory here, and gives none back
+        if fewer {
+            self.give_back();
+        }
     }
 }
 
