@@ -1,10 +1,13 @@
 # Proves and builds the crates of crates.txt, each once those that it stands on are built, side by side:
 #
-#   make                           the program and the library
+#   make                           the programs and the library
+#   make quick SINCE=..            of the gate what is quick, for what changed since a commit (tools/quick)
 #   make check                     the gate
-#   make install PREFIX=..         both, with their manual pages; DESTDIR stands before PREFIX
+#   make install PREFIX=..         programs and library, with their manual pages; DESTDIR stands before PREFIX
 #   make install-library PREFIX=.. the library alone, by the compiler BACKEND, which is llvm or rattle
-#   make clean                     takes away what was built and proved
+#   make uninstall PREFIX=..       takes away what was installed there
+#   make clean SURE=1              takes away what was proved and built
+#   make help                      these lines
 #
 # As many crates as processors and memory allow are built at once (tools/jobs); `make -j2` says another number.
 
@@ -26,25 +29,37 @@ benchmark = bench_main
 programs := $(filter-out $(benchmark),$(patsubst crates/%/src/main.rt,%,$(wildcard crates/*/src/main.rt)))
 called = $(subst show_main,routeshow,$(subst route_main,routesim,$(1)))
 archive = crates/hoiskend/out/$(1)/libhoiskend.a
+# Nothing for a program that is there and no older than its sources, which is also one that the gate left.
+to_build = $(if $(shell tools/current $(1) && echo yes),,$(call built,$(1)))
+# The crates that the goals are of, for those who tell how far the build is; none where all are.
+goals := $(or $(MAKECMDGOALS),all)
+export HOISKEND_WANTED := $(if $(filter all install,$(goals)),,$(if $(filter install-library,$(goals)),hoiskend) \
+	$(patsubst crates/%,%,$(foreach goal,$(filter crates/%,$(goals)),$(firstword $(subst /out/, ,$(goal))))))
 
 ifeq ($(filter -j% --jobserver%,$(MAKEFLAGS)),)
 MAKEFLAGS += -j$(shell tools/jobs)
 endif
 
-.PHONY: all check install install-library clean
-all: $(foreach crate,$(filter-out $(benchmark),$(names)),$(call built,$(crate))) $(call archive,$(BACKEND))
+.PHONY: all quick check install install-library uninstall clean help
+all: $(foreach crate,$(programs),$(call to_build,$(crate))) $(call archive,$(BACKEND))
+	@:
 
+# What stops make where there is nothing to prove with.
+with_toolchain = $(if $(shell tools/toolchain && echo yes),,$(error nothing is built))
 # A crate is built again where one of its files is newer than it, or one that it stands on was.
 define rule
 $(call built,$(1)): crates.txt $$(shell find crates/$(1) -name out -prune -o -type f -name '*.rt' -print -o -name '*.antt' -print) \
 		$(foreach crate,$(filter $(names),$(2)),$(call built,$(crate)))
-	@tools/build $(1)
+	@$$(with_toolchain)tools/build $(1)
 endef
 $(foreach line,$(lines),$(eval $(call rule,$(call name,$(line)),$(call named,$(line)))))
 
 # The static library once it is proved, by each compiler.
 $(foreach backend,llvm rattle,$(call archive,$(backend))): $(call archive,%): $(call built,hoiskend) tools/archive
 	@tools/archive $*
+
+quick:
+	@tools/quick $(SINCE)
 
 check:
 	./check
@@ -62,5 +77,23 @@ install-library: $(call archive,$(BACKEND))
 	sed 's|@PREFIX@|$(PREFIX)|' tools/hoiskend.pc > "$(DESTDIR)$(PREFIX)/lib/pkgconfig/hoiskend.pc"
 	$(INSTALL) -m 644 docs/hoiskend.3 "$(DESTDIR)$(PREFIX)/share/man/man3/"
 
+uninstall:
+	rm -f $(foreach crate,$(programs),"$(DESTDIR)$(PREFIX)/bin/$(call called,$(crate))") \
+		$(foreach page,$(notdir $(wildcard docs/*.[13])),"$(DESTDIR)$(PREFIX)/share/man/man$(lastword $(subst ., ,$(page)))/$(page)") \
+		$(foreach file,include/hoiskend.h lib/libhoiskend.a lib/pkgconfig/hoiskend.pc,"$(DESTDIR)$(PREFIX)/$(file)")
+
+# What took long to make is not thrown away by a slip.
+thrown = $(wildcard crates/*/out out bindings/rust/target)
 clean:
+ifneq ($(thrown),)
+ifndef SURE
+	@echo "make clean throws away $$(du -sch $(thrown) | tail -n 1 | cut -f 1) in crates/*/out, out and bindings/rust/target:" >&2
+	@echo "all that was proved and built, which takes $$(tools/progress anew) to make again." >&2
+	@echo "'make clean SURE=1' does it." >&2
+	@exit 1
+endif
+endif
 	rm -rf crates/*/out out bindings/rust/target
+
+help:
+	@sed -n '/^$$/q; s/^#  *\(make\)/\1/p; s/^# \{0,1\}//p' Makefile

@@ -38,6 +38,9 @@
  *     worlds share nothing, and may be in calls at the same time.
  *   - malloc, realloc and free are one allocator, which aligns a block of 16 bytes or more to 16. No call is made in a
  *     signal handler, nor in the forked child of a process with threads.
+ *   - At each call the thread has HK_STACK_BYTES of its stack left, of which hk_line takes the most.
+ *   - The processor has what x86-64-v2 names, SSE4.1 and what came before it, as those since about 2009 do: the library
+ *     takes it for granted.
  *
  * All else is proved, of the compiled library's source: no call reads or writes beyond what it was given, none hangs
  * or aborts, and each does what stands here. That nothing leaks is tested.
@@ -60,6 +63,9 @@ typedef struct hk_world {
 
 /* What a world begins as. */
 #define HK_CLOSED { NULL }
+
+/* The bytes of stack that each call is to find. */
+#define HK_STACK_BYTES 32768
 
 /* The number of an address. */
 #define HK_ADDRESS(a, b, c, d) ((uint32_t)(a) << 24 | (uint32_t)(b) << 16 | (uint32_t)(c) << 8 | (uint32_t)(d))
@@ -155,14 +161,15 @@ uint32_t hk_attach_n(hk_world *world, const uint8_t *name, size_t name_n, uint8_
  *
  * HK_EINVAL: a prefix of more than 32. HK_ENXIO: no such interface. HK_EINVAL: another end on an interface that isn't
  * HK_POINTOPOINT, or none on one that is. HK_EADDRINUSE: an interface has this address. HK_ENOSPC: 65,535 addresses
- * were added since the world began. HK_ENOBUFS. HK_EEXIST: there is that route already; the address is kept without it.
+ * were added since the world began, those that were removed or are kept without a route among them. HK_ENOBUFS.
+ * HK_EEXIST: there is that route already; the address is kept without it.
  */
 uint32_t hk_add_address_n(hk_world *world, const uint8_t *name, size_t name_n, uint32_t address, uint8_t prefix,
                           bool cloning, bool has_far, uint32_t far);
 
 /*
  * Removes an address, and the route that came with it, and tells the sockets of both; docs/FORMATS.md (`unaddr`) says
- * when the route stays, and nothing is told.
+ * when the route stays, and nothing is told. Up to 100 bytes of memory or so stay taken for it until hk_close.
  *
  * HK_ENXIO: no such interface. HK_EADDRNOTAVAIL: it doesn't have this address.
  */
@@ -172,7 +179,7 @@ uint32_t hk_remove_address_n(hk_world *world, const uint8_t *name, size_t name_n
 
 /*
  * Opens a routing socket of this process, which hears the messages of all families where `protocol` is 0, and else
- * those of this family, as HK_AF_INET, and those of none.
+ * those of this family alone, as HK_AF_INET.
  *
  * HK_EEXIST: there is one with this id. HK_EMFILE: there are 64. HK_ENOBUFS.
  */
@@ -189,7 +196,8 @@ enum { HK_MESSAGE_BYTES = 8192, HK_WRITE_BYTES = 8246 };
 
 /*
  * Writes a message to a socket: a request to add, delete, change, lock or show a route. What was done, and what was
- * refused, is told to the sockets that hear its family.
+ * refused, is told to the sockets that hear its family; but nobody hears of a write to no socket, of too many bytes, or
+ * of no whole header or another length than that says.
  *
  * HK_EINVAL: more than HK_WRITE_BYTES. HK_EBADF: no such socket. HK_EMSGSIZE: more than HK_MESSAGE_BYTES. HK_EINVAL: no
  * whole header, or it says another length. HK_EPROTONOSUPPORT: another version than 3. HK_EINVAL: an address of the
@@ -232,7 +240,8 @@ typedef struct hk_route {
 
 /*
  * The fast path: the route that a packet to this address takes, with its use counted. A route that clones first makes
- * one for the address. Where the route is known, that is the look-up and nothing else: no text, no allocation.
+ * one for the address; where the place of that one is taken, the packet takes the route that clones, and the sockets
+ * hear RTM_MISS with errno 17. Where the route is known, that is the look-up and nothing else: no text, no allocation.
  *
  * HK_EHOSTUNREACH: there is no route; the sockets hear RTM_MISS. HK_ENOBUFS: the route clones, and there is no memory.
  * HK_ENETUNREACH, HK_EHOSTUNREACH: the route refuses packets (RTF_REJECT), as a network's or as a host's. Where the
@@ -241,25 +250,27 @@ typedef struct hk_route {
 uint32_t hk_packet(hk_world *world, uint32_t destination, hk_route *route);
 
 /*
- * Follows an ICMP redirect that `author` sent: `destination` is to be reached by `gateway`. The sockets hear of it,
+ * Follows an ICMP redirect that `author` sent: `destination` is to be reached by `gateway`. Where its route has
+ * RTF_GATEWAY and RTF_HOST it gets the new gateway; else a host's route over that is added. The sockets hear of it,
  * also where it is refused, but for want of memory.
  *
  * HK_ENETUNREACH: the gateway is in no interface's network. HK_EINVAL: `author` isn't the gateway of the destination's
  * route, or the new gateway is reached from another interface address than that. HK_EHOSTUNREACH: the new gateway is
- * an address of the machine itself, or the route has no gateway and isn't the default one. HK_EEXIST: the destination
- * has a host's route. HK_ENOBUFS may come in place of any of these.
+ * an address of an interface, or the broadcast address of one, or the route has no RTF_GATEWAY and isn't the default
+ * one. HK_EEXIST: a host's route is to be added and there is one, without RTF_HOST, as a write that names no mask makes
+ * it. HK_ENOBUFS may come in place of any of these.
  */
 uint32_t hk_redirect(hk_world *world, uint32_t destination, uint32_t gateway, uint32_t author);
 
 /*
- * Gives up the route of an address, as TCP does when nothing comes back: the sockets hear RTM_LOSING, and a route that
- * a redirect made is removed. HK_EHOSTUNREACH: there is no route.
+ * Gives up the route of an address, as TCP does when nothing comes back: the sockets hear RTM_LOSING, and a route with
+ * RTF_DYNAMIC, which a redirect or a write gave it, is removed. HK_EHOSTUNREACH: there is no route.
  */
 uint32_t hk_losing(hk_world *world, uint32_t address);
 
 /* ---- dumps: of all routes, or where has_filter of those that have a flag of the filter ---- */
 
-/* Puts into `size` how many bytes to ask for: those of the dump and a tenth more. It is refused by nothing. */
+/* Puts into `size` how many bytes to ask for: those of the dump and a tenth more. No open world refuses it. */
 uint32_t hk_dump_size(hk_world *world, bool has_filter, uint32_t filter, uint64_t *size);
 
 /*
@@ -283,14 +294,15 @@ uint32_t hk_line(hk_world *world, const uint8_t *line, size_t n);
 /*
  * The messages of the last answer, one after another, each of which begins with its length (hk_message_length): answers
  * how many bytes they have, and copies them to the front of `out` where they all fit into its n bytes. The rest of
- * `out` stays, and so do the messages, until the next call but this and hk_text. Of an answer without messages, and of
- * a closed world, 0.
+ * `out` stays, and so do the messages, until there is another answer. Of an answer without messages, and of a closed
+ * world, 0.
  */
 size_t hk_fetch(hk_world *world, uint8_t *out, size_t n);
 
 /*
  * The text of the last answer, as hk_fetch gives messages: exactly the lines that routesim writes, each ended by a
- * newline. The last answer is that of the last call that a world was given and that wasn't refused for its parameters.
+ * newline. The last answer is that of the last command or line that the world was given. A call that is refused for its
+ * parameters gives it none; neither do hk_fetch, hk_text, and an hk_open of an open world.
  */
 size_t hk_text(hk_world *world, uint8_t *out, size_t n);
 

@@ -4,7 +4,7 @@ import threading
 from dataclasses import replace
 
 from calls import NO_MEMORY, OK, World
-from memory import asks_in_vain
+from memory import asks_in_vain, takes_away
 from misuse import START
 from runs import answered_lines, answers
 
@@ -99,10 +99,11 @@ def run_in_threads(sweep, examples):
         sweep.claim(f"{example.name}: from thread to thread", told == [answer for _, answer in steps_of(example)])
 
 
-def refused_in_turn(library, call, fault):
-    """What the call gives with its k-th allocation refused, for each k until none is; and then what it gives with none
-    refused. How often memory was refused stands with each."""
-    given, call_number = [], 1
+def refused_in_turn(library, call, fault, first=1):
+    """What the call gives with its k-th allocation refused, for each k from the first until none is; and then what it gives
+    with none refused. How often memory was refused stands with each. A call that is carried out all the same isn't made
+    again."""
+    given, call_number = [], first
     while not given or given[-1][1]:
         before = library.get("refused")
         library.set(**{fault: call_number})
@@ -115,23 +116,24 @@ def refused_in_turn(library, call, fault):
     return given
 
 
-def refuse_each(sweep, example, fault="refuse_at"):
-    """Each call of an example answers 55 where one of its allocations is refused, for each of these, and made again it
-    answers as it would have; so nobody heard of it, and the routes are as they were. Or it asks in vain."""
+def refuse_each(sweep, example, fault="refuse_at", first=1):
+    """Each call of an example answers 55 where one of its allocations is refused, for each of these from the first, and made
+    again it answers as it would have; so nobody heard of it, and the routes are as they were. Or it asks in vain, or takes a
+    route away, and is carried out all the same."""
     library, refusals, wrong = sweep.library(), 0, []
-    world = World(library)
-    *refused, done = refused_in_turn(library, world.open, fault)
-    sweep.claim(f"{example.name}: {fault}: open", len(refused) > 0 and done == (OK, 0))
+    name, world = f"{example.name}: {fault} {first}", World(library)
+    *refused, done = refused_in_turn(library, world.open, fault, first)
+    sweep.claim(f"{name}: open", len(refused) > 0 and done == (OK, 0))
     for line, answer in steps_of(example):
-        *refused, (got, times) = refused_in_turn(library, lambda: world.told(line), fault)
+        *refused, (got, times) = refused_in_turn(library, lambda: world.told(line), fault, first)
         refusals += len(refused)
-        in_vain = times > 0 and asks_in_vain(line, answer)
-        holds = got == answer and (times == 0 or in_vain) and not (refused and line.startswith(TAKE_NONE))
+        may_go_on = times == 0 or asks_in_vain(line, answer) or takes_away(line, answer)
+        holds = got == answer and may_go_on and not (refused and line.startswith(TAKE_NONE))
         if not holds:
             wrong.append(line[:60])
     world.close()
-    sweep.claim(f"{example.name}: {fault}: {wrong}", not wrong and library.get("refused") >= refusals)
-    sweep.claim(f"{example.name}: {fault}: all is freed", library.get("blocks") == 0)
+    sweep.claim(f"{name}: {wrong}", not wrong and library.get("refused") >= refusals)
+    sweep.claim(f"{name}: all is freed", library.get("blocks") == 0)
 
 
 def look_without_memory(sweep):
@@ -158,6 +160,8 @@ def jobs(examples):
         yield tell_by_lines, example
         yield interleave, example, other
         yield from ((refuse_each, example, fault) for fault in ("refuse_at", "refuse_from"))
+    # what gives memory back asks for several blocks to do so, and isn't made again
+    yield from ((refuse_each, examples["many-routes"], "refuse_at", first) for first in (2, 3))
 
 
 def trials(examples):

@@ -1,5 +1,7 @@
 """Memory that is refused, that is left at the end, and that grows without need."""
-from messages import ADD, CHANGE, CLONING, best_of, is_whole, number_of, routes_in, text_of
+from bisect import bisect_left
+
+from messages import ADD, CHANGE, CLONING, DELETE, best_of, is_whole, number_of, routes_in, text_of
 from runs import FAULT_TEXT, NO_MEMORY, answered_lines, answers
 
 # Commands that take no memory where they are refused with one of these errnos, and such as never take any.
@@ -27,12 +29,24 @@ def clones(line, routes):
     return best is not None and bool(best.flags & CLONING)
 
 
+def is_request(line, kinds):
+    """Whether a write or a `route` line is a request of one of these types, by their numbers and words."""
+    words = line.split(b" ")
+    if words[0] == b"route":
+        return words[3] in kinds
+    text = text_of(words[2]) if words[0] == b"write" else b""
+    return is_whole(text) and text[3] in kinds
+
+
 def makes_or_changes(line):
     """Whether a write or a `route` line is an ADD or a CHANGE."""
-    if line.startswith(b"route "):
-        return line.split(b" ")[3] in (b"add", b"change")
-    text = text_of(line.split(b" ")[2])
-    return is_whole(text) and text[3] in (ADD, CHANGE)
+    return is_request(line, (ADD, CHANGE, b"add", b"change"))
+
+
+def takes_away(line, answer):
+    """Whether a line may take a route away. What is kept beside the routes may then give memory back; where that is refused,
+    it keeps the memory, and all is as it would have been."""
+    return answer == b"ok\n" and (line.startswith((b"unaddr ", b"losing ")) or is_request(line, (DELETE, b"delete")))
 
 
 def may_want_memory(line, answer, routes):
@@ -49,7 +63,17 @@ def may_want_memory(line, answer, routes):
 
 def asks_in_vain(line, answer):
     """Whether a line is an ADD or a CHANGE that is refused: it asks for memory before it finds that it needs none."""
-    return line.split(b" ")[0] in (b"write", b"route") and answer.startswith(b"err") and makes_or_changes(line)
+    return answer.startswith(b"err") and makes_or_changes(line)
+
+
+def line_of(sweep, script, call):
+    """The answered line in which the allocation of this number comes, by its place; -1 where it comes before all."""
+    lines = [line + b"\n" for line in answered_lines(script)]
+
+    def made(count):
+        return sweep.run(b"".join(lines[:count])).counts["allocations"]
+
+    return bisect_left(range(len(lines)), call, key=made) - 1
 
 
 def lines_refused(script, transcript, ran):
@@ -68,16 +92,18 @@ def is_without(sweep, example, ran, refused):
     return rest.told() == (b"".join(got[at] for at in kept), ran.status, ran.error)
 
 
-def is_refused_well(sweep, example, ran, fault, tables):
-    """Nothing was written and the status says why; or all is as it is with memory, where a line asked for it in vain; or
-    lines were answered 55, one that may be where memory was refused once, and all else is as it is without them."""
+def is_refused_well(sweep, example, ran, fault, call, tables):
+    """Nothing was written and the status says why; or all is as it is with memory, where the first line that got none asked
+    for it in vain, or took a route away; or lines were answered 55, one that may be where memory was refused once, and all
+    else is as it is without them."""
     if not ran.left_nothing():
         return False
     if ran.told() == (b"", NO_MEMORY, FAULT_TEXT[NO_MEMORY]):
         return True
     lines, plain = answered_lines(example.script), answers(example.transcript)
     if ran.told() == example.told():
-        return any(map(asks_in_vain, lines, plain))
+        at = line_of(sweep, example.script, call)
+        return at >= 0 and (asks_in_vain(lines[at], plain[at]) or takes_away(lines[at], plain[at]))
     refused = lines_refused(example.script, example.transcript, ran)
     if fault == "refuse_alloc" and refused is not None:
         may = [may_want_memory(lines[at], plain[at], tables.get(at)) for at in refused]
@@ -91,7 +117,7 @@ def refuse_each_allocation(sweep, example, fault="refuse_alloc"):
     for call in range(1, calls + 1):
         ran = sweep.run(example.script, **{fault: call})
         met = ran.counts["faults"] == 1 if fault == "refuse_alloc" else ran.counts["faults"] >= 1
-        sweep.claim(f"{example.name}: {fault} {call}", met and is_refused_well(sweep, example, ran, fault, tables))
+        sweep.claim(f"{example.name}: {fault} {call}", met and is_refused_well(sweep, example, ran, fault, call, tables))
     beyond = sweep.run(example.script, **{fault: calls + 1})
     told = beyond.told() == example.told() and beyond.counts["faults"] == 0
     sweep.claim(f"{example.name}: {fault} comes, and ends at the last allocation", calls > 0 and told)

@@ -1,5 +1,6 @@
-"""What stands in two places: the lines, errnos and statuses of docs/FORMATS.md and of the manual page, the numbers of
-<net/route.h> and of the code, and the message that FORMATS takes apart."""
+"""What stands in two places: the lines, errnos and statuses of docs/FORMATS.md and of the manual page, the errnos of
+each call in FORMATS and in the header, the numbers of <net/route.h> and of the code, figures, and the message that
+FORMATS takes apart."""
 import re
 from dataclasses import dataclass, replace
 from pathlib import Path
@@ -15,14 +16,29 @@ NUMBERS = [CRATES / "route_msgs" / "src" / name for name in ("kinds.rt", "bits.r
 NUMBERS += CRATES.glob("sock_addrs/src/flags.rt")
 
 
+PATHS = {
+    "readme": "README.md", "formats": "docs/FORMATS.md", "manual": "docs/routesim.1", "proved": "docs/PROVED.md",
+    "daemon": "docs/DAEMON.md", "decisions": "docs/DECISIONS.md", "speed": "docs/SPEED.md", "tree": "docs/TREE.md",
+    "header": "include/hoiskend.h", "library": "docs/hoiskend.3", "rust": "bindings/rust/src/world.rs",
+}
+
+
 @dataclass(frozen=True)
 class Pages:
     """The texts that are compared, and the words of the crates."""
 
+    readme: str
     formats: str
     manual: str
-    numbers: str
     proved: str
+    daemon: str
+    decisions: str
+    speed: str
+    tree: str
+    header: str
+    library: str
+    rust: str
+    numbers: str
     words: frozenset
 
     @staticmethod
@@ -30,8 +46,7 @@ class Pages:
         numbers = "".join(path.read_text() for path in NUMBERS)
         paths = [TOP / "crates.txt", *CRATES.glob("*/src/**/*.rt"), *CRATES.glob("*/specs/**/*.antt")]
         words = frozenset(re.findall(r"\w+", "".join(path.read_text() for path in paths)))
-        formats, manual, proved = (TOP / "docs" / name for name in ("FORMATS.md", "routesim.1", "PROVED.md"))
-        return Pages(formats.read_text(), manual.read_text(), numbers, proved.read_text(), words)
+        return Pages(**{name: (TOP / path).read_text() for name, path in PATHS.items()}, numbers=numbers, words=words)
 
 
 def section(text, begin, end):
@@ -50,6 +65,98 @@ def errnos_in_formats(pages):
 
 def errnos_in_manual(pages):
     return re.findall(r"^\.It (\d+) Er (\w+)$", section(pages.manual, ".Sh DIAGNOSTICS", "\n.Sh "), re.M)
+
+
+# The call that does what a line says.
+CALLS = {
+    "if": "hk_attach_n", "addr": "hk_add_address_n", "unaddr": "hk_remove_address_n", "open": "hk_listen_n",
+    "close": "hk_shut_n", "loopback": "hk_loopback_n", "write": "hk_write_n", "read": "hk_read_n", "lost": "hk_lost_n",
+    "packet": "hk_packet", "redirect": "hk_redirect", "losing": "hk_losing", "dump N": "hk_dump",
+    "dump ask": "hk_dump_size",
+}
+NO_CALL, NO_LINE = {"route", "flags X N", "flags X ask"}, {"hk_open", "hk_line", "hk_show"}
+EINVAL, ENOBUFS = 22, 55
+
+
+def numbers_in(text):
+    return [int(number) for number in re.findall(r"\d+", text)]
+
+
+def lines_in(text):
+    return re.findall("`([^`]+)`", text)
+
+
+def errnos_by_line(pages):
+    """What each line may be answered, in order."""
+    found = rows(section(pages.formats, "| Line | Errnos |", "\n## "))
+    return {line: numbers_in(errnos) for lines, errnos in found for line in lines_in(lines)}
+
+
+def errnos_by_call(pages):
+    """What each call of the header may answer, in order, but for the EINVAL of parameters, which comes first."""
+    numbers = {name: int(number) for name, number in re.findall(r"\bHK_(E[A-Z]+) = (\d+)", pages.header)}
+    found = re.findall(r"/\*((?:(?!\*/).)*)\*/\nuint32_t (hk_\w+)\(", pages.header, re.S)
+    told = {call: [numbers[name] for name in re.findall(r"\bHK_(E[A-Z]+)", comment)] for comment, call in found}
+    return {call: errnos[errnos[:1] == [EINVAL] :] for call, errnos in told.items()}
+
+
+def reasons(pages, begin, end):
+    """The errnos of a table of FORMATS that has a row for each reason; of neighbours that are the same, one."""
+    errnos = [int(cells[1]) for cells in rows(section(pages.formats, begin, end)) if cells[1].isdigit()]
+    return [errno for errno, before in zip(errnos, [None, *errnos]) if errno != before]
+
+
+def have_their_calls(pages):
+    """Each line of FORMATS has the errnos of its call in the header."""
+    by_line, by_call = errnos_by_line(pages), errnos_by_call(pages)
+    same = all(by_line.get(line) == by_call.get(call) for line, call in CALLS.items())
+    return same and set(by_line) == {*CALLS, *NO_CALL} and set(by_call) == {*CALLS.values(), *NO_LINE}
+
+
+def have_their_reasons(pages):
+    """The tables of reasons have the same errnos, and so has that of the lines which memory refuses never or late."""
+    by_line = errnos_by_line(pages)
+    write = reasons(pages, "### What a refused write is answered", "### ")
+    redirect = reasons(pages, "| Why | Errno |\n", "**A route that is lost**")
+    requests = [errno for errno in by_line["write"] if errno != ENOBUFS]
+    late = rows(section(pages.formats, "These never answer `err 55`:", "\n## "))[1:]
+    never = {line for lines, when in late if when == "always" for line in lines_in(lines)}
+    before = {lines_in(lines)[0]: numbers_in(when) for lines, when in late if "where it is refused" in when}
+    return (
+        write == [errno for errno, last in zip(requests, [None, *requests]) if errno != last]
+        and by_line["redirect"] == [*redirect, ENOBUFS]
+        and never == {line for line, errnos in by_line.items() if ENOBUFS not in errnos}
+        and all([*errnos, ENOBUFS] == by_line[line][: len(errnos) + 1] for line, errnos in before.items())
+    )
+
+
+# Figures that stand in several pages: what they are of, and behind which words.
+FIGURES = {
+    "instructions of a packet": [
+        ("speed", "`bench/packets` counts #"), ("daemon", "`bench/packets` counts #"),
+        ("library", "text: # instructions"),
+    ],
+    "visits of a best route": [
+        ("readme", "in at most # visits"), ("proved", "best route is found in at most # visits"),
+        ("speed", "for the # visits"), ("tree", "At most # times"),
+    ],
+    "bytes of a room": [("speed", "The room is #"), ("decisions", "what the C library makes of them): #")],
+    "bytes of a block": [("speed", "takes a block of #"), ("decisions", "Any other is whole, #")],
+    "stack of a call": [
+        ("header", "#define HK_STACK_BYTES #"), ("library", ".Dv HK_STACK_BYTES , #"), ("rust", "is owed: #"),
+    ],
+}
+
+
+def figure(text, words):
+    """The number behind these words, wherever lines end."""
+    pattern = r"([\d,]*\d)".join(map(re.escape, words.rsplit("#", 1)))
+    found = re.findall(pattern, " ".join(re.sub("\n *///", " ", text).split()))
+    return int(found[0].replace(",", "")) if len(found) == 1 else None
+
+
+def figures(pages, places):
+    return {figure(getattr(pages, name), words) for name, words in places}
 
 
 def statuses_in_formats(pages):
@@ -143,7 +250,12 @@ def differences(pages):
         "claims of at most 40 words": 0 < max(len(claim.split()) for claim, _ in claims(pages)) <= 40,
         f"names of contracts, but {unnamed(pages)}": not unnamed(pages),
         "numbers": numbers_in_formats(pages) == {**numbers_in_code(pages), **NEVER_MADE},
+        "errnos of FORMATS by line and of the header by call": have_their_calls(pages),
+        "errnos of FORMATS by line and by reason": have_their_reasons(pages),
     }
+    for what, places in FIGURES.items():
+        found = figures(pages, places)
+        same[what] = len(found) == 1 and None not in found
     return [what for what, holds in same.items() if not holds]
 
 
@@ -152,6 +264,7 @@ def compare_pages(sweep):
     sweep.claim(f"what stands in two places: {', '.join(found)}", not found)
 
 
+BY_CALL, BY_REASON = "errnos of FORMATS by line and of the header by call", "errnos of FORMATS by line and by reason"
 # Slips of the pen, each in one place.
 SLIPS = [
     ("manual", ".It 48 Er EADDRINUSE", ".It 49 Er EADDRINUSE", "errnos"),
@@ -164,6 +277,19 @@ SLIPS = [
     ("numbers", "pub const RTA_BRD: u32 = 0x80;", "", "numbers"),
     ("proved", "`joined_is_cut` in", "`joined_is_not_cut` in", "names of contracts, but ['joined_is_not_cut']"),
     ("proved", "| Messages that were", "| " + "Many " * 40 + "messages that were", "claims of at most 40 words"),
+    ("header", "HK_ENXIO: no such interface. HK_EADDRNOTAVAIL", "HK_EADDRNOTAVAIL: none. HK_ENXIO", BY_CALL),
+    ("header", "HK_EMFILE: there are 64. HK_ENOBUFS.", "HK_EMFILE: there are 64.", BY_CALL),
+    ("header", "uint32_t hk_losing(", "uint32_t hk_lossless(", BY_CALL),
+    ("formats", "| `addr` | 6, 22, 48, 28, 55, 17 |", "| `addr` | 6, 22, 48, 28, 17, 55 |", BY_CALL),
+    ("formats", "| RTM_ADD without a gateway | 22 |", "| RTM_ADD without a gateway | 3 |", BY_REASON),
+    ("formats", "or its broadcast address on a broadcast interface | 65 |", "or its other end | 51 |", BY_REASON),
+    ("formats", "`close`, `unaddr`, `losing`,", "`close`, `unaddr`,", BY_REASON),
+    ("formats", "| where it is refused 17, 24 |", "| where it is refused 17 |", BY_REASON),
+    ("daemon", "`bench/packets` counts ", "`bench/packets` counts 1", "instructions of a packet"),
+    ("tree", "At most 2,400 times", "Always 2,400 times", "visits of a best route"),
+    ("speed", "The room is ", "The room is 1", "bytes of a room"),
+    ("decisions", "Any other is whole, ", "Any other is whole, 1", "bytes of a block"),
+    ("header", "#define HK_STACK_BYTES ", "#define HK_STACK_BYTES 1", "stack of a call"),
 ]
 
 

@@ -55,6 +55,7 @@ def trials(examples, tests):
     empty, one_get, bad = (examples[name] for name in ("empty-script", "one-get", "bad-lines"))
     yield "deaf", memory.refuse_each_allocation, empty
     yield "deaf", memory.refuse_each_allocation, one_get
+    yield "deaf", memory.refuse_each_allocation, example_of(("route a 1 delete 10.0.0.0/8", "ok"))
     yield "deaf", streams.fail_each_read, empty
     yield "deaf", streams.fail_each_write, one_get, "fail_writes"
     yield "deaf", streams.fail_each_write, one_get, "empty_writes"

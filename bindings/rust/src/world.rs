@@ -56,8 +56,9 @@ impl Socket {
 /// A world of interfaces, addresses, routes and routing sockets, which begins empty and shares nothing with others.
 ///
 /// Each call does one command. A name or an id of other than 1 to 8 bytes, and what a call says besides, is refused
-/// [`Errno::EINVAL`]; [`Errno::ENOBUFS`] says that there was no memory, and then nothing has changed. The manual page
-/// hoiskend(3) has each call's errnos in order.
+/// [`Errno::EINVAL`]; [`Errno::ENOBUFS`] says that there was no memory, and then nothing has changed. The header
+/// hoiskend.h has each call's errnos in order, and what a call is owed: 32,768 bytes of the thread's stack, and a
+/// processor of x86-64-v2.
 ///
 /// A world can be sent to another thread, and not be shared:
 ///
@@ -101,7 +102,7 @@ impl World {
 
     /// Gives an interface an address with a mask of `prefix` bits, and adds its route, which clones where `cloning`.
     /// `far` is the other end, of [`Kind::PointToPoint`] alone. Where that route is there already
-    /// ([`Errno::EEXIST`]) the address stays without it.
+    /// ([`Errno::EEXIST`]) the address stays without it, and counts among the 65,535 that a world takes.
     pub fn add_address(
         &mut self,
         name: impl AsRef<[u8]>,
@@ -126,7 +127,7 @@ impl World {
         done(self.handle.remove_address(name.as_ref(), address.into()))
     }
 
-    /// Opens a routing socket of this process, which hears the messages of this family, or where it is 0 of all.
+    /// Opens a routing socket of this process, which hears the messages of this family alone, or where it is 0 of all.
     pub fn listen(
         &mut self,
         id: impl AsRef<[u8]>,
@@ -148,7 +149,8 @@ impl World {
         done(self.handle.loopback(socket.id(), on))
     }
 
-    /// Writes a message to a socket.
+    /// Writes a message to a socket. Sockets hear what was done, and what was refused, but not a write to no socket,
+    /// one of too many bytes, or one of another length than it says.
     ///
     /// ```
     /// # fn main() -> Result<(), hoiskend::Errno> {
@@ -204,14 +206,16 @@ impl World {
         Ok(lost)
     }
 
-    /// The route that a packet takes, with its use counted. [`Errno::EHOSTUNREACH`] where there is none.
+    /// The route that a packet takes, with its use counted. [`Errno::EHOSTUNREACH`] where there is none. Where a
+    /// clone's place is taken it is the route that clones, and the sockets hear RTM_MISS.
     pub fn packet(&mut self, destination: Ipv4Addr) -> Result<Route, Errno> {
         let mut route = Default::default();
         done(self.handle.packet(destination.into(), &mut route))?;
         Ok(route.into())
     }
 
-    /// Follows an ICMP redirect that `author` sent.
+    /// Follows an ICMP redirect that `author` sent. [`Errno::EEXIST`] where a host's route is to be added and there is
+    /// one, without RTF_HOST.
     pub fn redirect(
         &mut self,
         destination: Ipv4Addr,
@@ -224,7 +228,7 @@ impl World {
         )
     }
 
-    /// Gives up the route of an address, as TCP does when nothing comes back.
+    /// Gives up the route of an address, as TCP does when nothing comes back; it is removed where it has RTF_DYNAMIC.
     pub fn losing(&mut self, address: Ipv4Addr) -> Result<(), Errno> {
         done(self.handle.losing(address.into()))
     }
@@ -270,7 +274,7 @@ impl World {
         }
     }
 
-    /// What a transcript has of the last call: its lines, each ended by a newline.
+    /// What a transcript has of the last command or line: its lines, each ended by a newline.
     pub fn text(&mut self) -> String {
         String::from_utf8(self.handle.text()).expect("the library writes ASCII")
     }

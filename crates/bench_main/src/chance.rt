@@ -7,6 +7,9 @@ use rand_pcg::Pcg32;
 /// The stream of numbers that all workloads draw from.
 const STREAM: u64 = 54;
 
+/// An odd number of 16 bits, which look drawn by chance.
+const FACTOR: u32 = 0x9e3b;
+
 /// Draws numbers.
 #[derive(Drop)]
 pub(crate) struct Chance {
@@ -32,4 +35,14 @@ impl Chance {
     {
         self.word() % most
     }
+}
+
+/// Another number of 16 bits for each one, in an order by chance that `order` says.
+pub(crate) fn shuffled(number: u32, order: u32) -> u32 {
+    let mut mixed = (number ^ order) % 0x1_0000;
+    for _round in 0..3 {
+        mixed = mixed.wrapping_mul(FACTOR) % 0x1_0000;
+        mixed ^= mixed >> 7;
+    }
+    mixed
 }

@@ -3,7 +3,7 @@
 use crate::chance::Chance;
 use crate::lines::Lines;
 use crate::machine::Fault;
-use crate::networks::Network;
+use crate::networks::{Network, take_one};
 use crate::work::Work;
 use route_msgs::bits::{RTA_DST, RTA_GATEWAY, RTA_NETMASK};
 use route_msgs::kinds::{RTM_ADD, RTM_CHANGE, RTM_DELETE, RTM_GET};
@@ -23,10 +23,9 @@ const FLAGS: u32 = 0x803;
 pub(crate) fn run(work: &mut Work, count: u32) -> Result<(), Fault> {
     add_routes(work, count)?;
     work.machine.lines.text("loopback d on\n");
+    let mut gone = Vec::new(work.alloc);
     for number in 0..count {
-        if let Some(network) = work.draw_network() {
-            put_request(&mut work.machine.lines, number, network, &mut work.chance);
-        }
+        put_request(work, number, &mut gone)?;
         if number % HEARD == 0 {
             work.machine.lines.text("read m\nread d\n");
         }
@@ -66,14 +65,40 @@ pub(crate) fn put_add(lines: &mut Lines, number: u32, network: Network, chance: 
     lines.text(" flags 803\n");
 }
 
-/// Puts the line that writes a request about a network: of ten five ask, three change the gateway, one deletes the route,
-/// and one adds it again.
-fn put_request(lines: &mut Lines, number: u32, network: Network, chance: &mut Chance) {
+/// Puts the line that writes a request about one of the networks by chance: of ten five ask, three change the gateway, one
+/// deletes the route, and one adds again one that is gone.
+fn put_request(work: &mut Work, number: u32, gone: &mut Vec<Network>) -> Result<(), Fault> {
+    let kind = draw_kind(&mut work.chance);
+    let drawn = match kind {
+        RTM_ADD => take_one(gone, &mut work.chance),
+        RTM_DELETE => take_one(&mut work.networks, &mut work.chance),
+        _ => work.draw_network(),
+    };
+    let Some(network) = drawn else {
+        return Ok(());
+    };
+    put_write(
+        &mut work.machine.lines,
+        kind,
+        number,
+        network,
+        &mut work.chance,
+    );
+    match kind {
+        RTM_ADD => work.keep(network)?,
+        RTM_DELETE => gone.push(network)?,
+        _ => {}
+    }
+    Ok(())
+}
+
+/// The type of a request by chance.
+fn draw_kind(chance: &mut Chance) -> u8 {
     match chance.below(10) {
-        0 => put_write(lines, RTM_ADD, number, network, chance),
-        1 => put_write(lines, RTM_DELETE, number, network, chance),
-        2..=4 => put_write(lines, RTM_CHANGE, number, network, chance),
-        _ => put_write(lines, RTM_GET, number, network, chance),
+        0 => RTM_ADD,
+        1 => RTM_DELETE,
+        2..=4 => RTM_CHANGE,
+        _ => RTM_GET,
     }
 }
 
@@ -86,7 +111,8 @@ fn addresses_of(kind: u8) -> (u32, u32) {
     }
 }
 
-/// Puts the line that writes a request of this type.
+/// Puts the line that writes a request of this type: a GET asks for an address of the network, any other names the network
+/// itself.
 fn put_write(lines: &mut Lines, kind: u8, number: u32, network: Network, chance: &mut Chance) {
     let (addrs, size) = addresses_of(kind);
     lines.text("write d ");
@@ -99,7 +125,12 @@ fn put_write(lines: &mut Lines, kind: u8, number: u32, network: Network, chance:
     for _word in 0..13 {
         lines.text("00000000");
     }
-    put_inet(lines, network.host(chance));
+    let asked = if kind == RTM_GET {
+        network.host(chance)
+    } else {
+        network.address
+    };
+    put_inet(lines, asked);
     if addrs & RTA_GATEWAY != 0 {
         put_inet(lines, draw_gateway(chance));
     }

@@ -14,6 +14,7 @@ mod nested;
 mod networks;
 mod packets;
 mod program;
+mod site;
 mod words;
 mod work;
 

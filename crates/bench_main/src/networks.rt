@@ -64,6 +64,19 @@ impl Network {
     }
 }
 
+/// Takes one of these networks by chance away, where there is one; the last one gets its place.
+pub(crate) fn take_one(networks: &mut Vec<Network>, chance: &mut Chance) -> Option<Network> {
+    let last = networks.pop()?;
+    let count = networks.len();
+    if count == 0 {
+        return Some(last);
+    }
+    let which = chance.word() as usize % count;
+    let taken = networks[which];
+    networks[which] = last;
+    Some(taken)
+}
+
 /// The length of a mask by chance.
 fn draw_length(chance: &mut Chance) -> u8
     ensures some { 1 ≤ result }

@@ -1,4 +1,6 @@
 //! Packets among as many routes as a router has that knows a large part of the Internet: each is a line.
+ghost use Rattle.std.specs.Prelude.{◌<◌};
+
 use crate::daemon::add_routes;
 use crate::machine::Fault;
 use crate::work::Work;
@@ -21,7 +23,7 @@ pub(crate) fn run(work: &mut Work, count: u32) -> Result<(), Fault> {
 /// Sends so many packets.
 fn send(work: &mut Work, count: u32) -> Result<(), Fault> {
     for _packet in 0..count {
-        let destination = draw_destination(work);
+        let destination = draw_destination(work, STRAY);
         let lines = &mut work.machine.lines;
         lines.text("packet ");
         lines.address(destination);
@@ -31,9 +33,11 @@ fn send(work: &mut Work, count: u32) -> Result<(), Fault> {
     Ok(())
 }
 
-/// An address of one of the networks, or any.
-fn draw_destination(work: &mut Work) -> u32 {
-    if work.chance.below(STRAY) == 0 {
+/// An address of one of the networks, and one of so many times any.
+pub(crate) fn draw_destination(work: &mut Work, stray: u32) -> u32
+    requires { 0 < stray }
+{
+    if work.chance.below(stray) == 0 {
         return work.chance.word();
     }
     match work.draw_network() {

@@ -2,7 +2,7 @@
 use crate::digest::Digest;
 use crate::machine::Fault;
 use crate::work::Work;
-use crate::{addresses, daemon, dumps, nested, packets, words};
+use crate::{addresses, daemon, dumps, nested, packets, site, words};
 use program_ends::{Outcome, Refusal};
 use std::alloc::Global;
 
@@ -18,16 +18,18 @@ enum Workload {
     Dumps,
     Addresses,
     Words,
+    Site,
 }
 
 /// Each workload with its name.
-const WORKLOADS: [(&str, Workload); 6] = [
+const WORKLOADS: [(&str, Workload); 7] = [
     ("daemon", Workload::Daemon),
     ("packets", Workload::Packets),
     ("nested", Workload::Nested),
     ("dumps", Workload::Dumps),
     ("addresses", Workload::Addresses),
     ("words", Workload::Words),
+    ("site", Workload::Site),
 ];
 
 /// Runs the workloads that these words name: the name of one, or `all`; a number by which it is drawn; and its size.
@@ -76,5 +78,6 @@ fn run_over(work: &mut Work, workload: Workload, count: u32) -> Result<(), Fault
         Workload::Dumps => dumps::run(work, count),
         Workload::Addresses => addresses::run(work, count),
         Workload::Words => words::run(work, count),
+        Workload::Site => site::run(work, count),
     }
 }

@@ -3,6 +3,8 @@ use crate::chance::Chance;
 use crate::digest::Digest;
 use crate::machine::{Fault, Machine};
 use crate::networks::Network;
+use route_core::{Answer, Choice};
+use sock_addrs::{Gate, Inet};
 use std::alloc::{AllocError, Global};
 
 /// A machine, what its lines are drawn from, the networks that it has routes to, and a digest of what it answered without
@@ -45,6 +47,12 @@ impl Work {
         Ok(())
     }
 
+    /// Sends a packet without a line, and puts its answer into the digest.
+    pub(crate) fn packet(&mut self, destination: Inet) {
+        let answer = self.machine.packet(destination);
+        take(&answer, &mut self.digest);
+    }
+
     /// The digest of all answers.
     pub(crate) fn end(self) -> Digest {
         let Work {
@@ -56,5 +64,23 @@ impl Work {
         digest.number(written.value());
         digest.number(written.taken());
         digest
+    }
+}
+
+/// Puts an answer into a digest.
+fn take(answer: &Answer<'_>, digest: &mut Digest) {
+    match answer {
+        Answer::Routed(choice) | Answer::Dropped(choice) => take_choice(choice, digest),
+        Answer::Refused(errno) => digest.number(u64::from(errno.number())),
+        _ => digest.number(0),
+    }
+}
+
+/// Puts a packet's route into a digest.
+fn take_choice(choice: &Choice, digest: &mut Digest) {
+    digest.number(u64::from(choice.key.number()) << 8 | u64::from(choice.rank.number()));
+    digest.number(u64::from(choice.index) << 16 | u64::from(choice.flags));
+    if let Gate::Inet(gateway) = choice.gateway {
+        digest.number(u64::from(gateway.number()));
     }
 }

@@ -20,7 +20,7 @@ use Rattle.if_addrs.specs.declared.address.Mark.{Mark}
 use Rattle.if_addrs.proofs.Adding.{none-left, none-right, own_number}
 use Rattle.if_addrs.proofs.Marking.{marked_first}
 use Rattle.if_addrs.proofs.Keeping.{anywhere, from_some, get-append, same_place, stays_added, stays_attached, stays_changed, told_same}
-use Rattle.if_addrs.proofs.Numbers.{next_free, none_used, numbered_added, numbered_attached, numbered_same, told}
+use Rattle.if_addrs.proofs.Numbers.{next_free, none_before_added, none_before_attached, none_used, numbered_added, numbered_attached, numbered_same, told, uses_same}
 use Rattle.if_addrs.proofs.Searching.{or_true}
 
 -- A PLACE BY RECURSION
@@ -111,7 +111,7 @@ no_home homes is k h none = none_used (has_number (k + 1)) (addresses_of is) (h.
     past (x ∷ hs) (suc k) e = (let rest = past hs k e in omega (arith, rest))
 
 pub none_before_one : (homes : List Home) (is : List Interface) → AreAtHome homes is → find (has_number 0) (addresses_of is) ≡ None
-none_before_one homes is h = none_used (has_number 0) (addresses_of is) h.numbered.none_before
+none_before_one homes is h = none_used (has_number 0) (addresses_of is) h.none_before
 
 -- so with what is kept of it
 pub item_got : {X : Type 0} (xs : List X) (i : ℕ) (r : Option (Bor X)) → IsItemAt xs i r → option_copied r ≡ slice_get xs i
@@ -239,12 +239,14 @@ module _ (p : Interface → Bool) (a : Address) (is : List Interface) (new : fin
 pub attached_at_home : (homes : List Home) (is : List Interface) (i : Interface) → AreAtHome homes is → i.addresses ≡ [] → length is < 64 → AreAtHome homes (is ++ i ∷ [])
 attached_at_home homes is i h none room = record {
   numbered = numbered_attached (length homes) is i h.numbered none room;
+  none_before = none_before_attached is i h.none_before none;
   at_home = λ k home there. home_attached (k + 1) home is i none (h.at_home k home there);
 }
 
 pub changed_at_home : (homes : List Home) (f : Address → Address) → ((a : Address) → told (f a) ≡ told a) → (n : ℕ) (is : List Interface) → AreAtHome homes is → AreAtHome homes (changed (ifa.Inet n) f is)
 changed_at_home homes f same n is h = record {
   numbered = numbered_same (length homes) is (changed (ifa.Inet n) f is) (told_same f same n is) (length-change_first (has_numbered n) (with_changed n f) is) h.numbered;
+  none_before = uses_same 0 is (changed (ifa.Inet n) f is) (told_same f same n is) ∙ h.none_before;
   at_home = λ k home there. home_changed f same n (k + 1) home is (h.at_home k home there);
 }
 
@@ -264,6 +266,7 @@ added_at_home homes new p a is d h place next last =
     let many : length (homes ++ new ∷ []) ≡ length homes + 1 = length-append homes (new ∷ []) in
     record {
       numbered = rw many (numbered_added (length homes) is p a h.numbered there next);
+      none_before = none_before_added is p a h.none_before there next;
       at_home = λ k home got. elim (get_pushed homes new k home got) [
         | inl old ↦ home_added p a is free (k + 1) home (another homes k home a.number (next ∙ ap (λ (n : ℕ). n + 1) h.numbered.counted) old) (h.at_home k home old)
         | inr one ↦ (

@@ -130,14 +130,10 @@ module _ (f : Address → Address) (same : (a : Address) → told (f a) ≡ told
 
 -- AFTER ONE MORE INTERFACE
 
--- one of all addresses passes a test where one does on an interface
-pub on_any : (p : Address → Bool) (is : List Interface) → list_any p (addresses_of is) ≡ list_any (λ i. list_any p i.addresses) is
-on_any p [] = refl
-on_any p (i ∷ is) = list_any-append p i.addresses (addresses_of is) ∙ ap (λ b. list_any p i.addresses || b) (on_any p is)
-
 -- a number is an address's where an interface has it
 pub anywhere : (k : ℕ) (is : List Interface) → list_any (has_number k) (addresses_of is) ≡ list_any (has_numbered k) is
-anywhere k is = on_any (has_number k) is
+anywhere k [] = refl
+anywhere k (i ∷ is) = list_any-append (has_number k) i.addresses (addresses_of is) ∙ ap (λ b. has_numbered k i || b) (anywhere k is)
 
 pub on_some : (k : ℕ) (is : List Interface) → IsSome (find (has_number k) (addresses_of is)) → list_any (has_numbered k) is ≡ true
 on_some k is h = sym (anywhere k is) ∙ (found (has_number k) (addresses_of is) ∙ h)

@@ -1,10 +1,7 @@
 pub mod Networks
 pub mod Adding
-pub mod Directing
 pub mod Homes
-pub mod Indexing
 pub mod Keeping
-pub mod Lengths
 pub mod Marking
 pub mod Numbers
 pub mod ReferenceLawsProved

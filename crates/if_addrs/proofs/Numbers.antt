@@ -100,10 +100,12 @@ once_attached is i h none =
       none_past = λ k past. (let less : added is < k = rw (← same) past in rw same (h.none_past k less));
     }
 
+pub none_before_attached : (is : List Interface) (i : Interface) → uses 0 is ≡ 0 → i.addresses ≡ [] → uses 0 (is ++ i ∷ []) ≡ 0
+none_before_attached is i h none = ap (λ (xs : List Address). count_by (has_number 0) xs) (same_attached is i none) ∙ h
+
 pub numbered_attached : (n : ℕ) (is : List Interface) (i : Interface) → AreNumbered n is → i.addresses ≡ [] → length is < 64 → AreNumbered n (is ++ i ∷ [])
 numbered_attached n is i h none room = record {
   counted = ap (λ (xs : List Address). length xs) (same_attached is i none) ∙ h.counted;
-  none_before = ap (λ (xs : List Address). count_by (has_number 0) xs) (same_attached is i none) ∙ h.none_before;
   numbers = once_attached is i h.numbers none;
   few = omega (arith, room, length-append is (i ∷ []));
 }
@@ -132,11 +134,15 @@ once_added is p a h there next =
           rw (uses_added k p a is there) (one_more_past k (added is) (uses k is) (has_number k a) (ap (λ (m : ℕ). nat_eq m k) (sym next)) far (h.none_past k)));
     }
 
+pub none_before_added : (is : List Interface) (p : Interface → Bool) (a : Address) → uses 0 is ≡ 0 → list_any p is ≡ true → a.number ≡ added is + 1
+    → uses 0 (change_first p (with_one_more a) is) ≡ 0
+none_before_added is p a h there next =
+    uses_added 0 p a is there ∙ one_more_before (added is) (uses 0 is) (has_number 0 a) (ap (λ (m : ℕ). nat_eq m 0) (sym next)) h
+
 pub numbered_added : (n : ℕ) (is : List Interface) (p : Interface → Bool) (a : Address) → AreNumbered n is → list_any p is ≡ true → a.number ≡ added is + 1
     → AreNumbered (n + 1) (change_first p (with_one_more a) is)
 numbered_added n is p a h there next = record {
   counted = added_one p a is there ∙ ap (λ (k : ℕ). k + 1) h.counted;
-  none_before = uses_added 0 p a is there ∙ one_more_before (added is) (uses 0 is) (has_number 0 a) (ap (λ (m : ℕ). nat_eq m 0) (sym next)) h.none_before;
   numbers = once_added is p a h.numbers there next;
   few = omega (arith, length-change_first p (with_one_more a) is, h.few);
 }
@@ -145,7 +151,7 @@ numbered_added n is p a h there next = record {
 all_same : (was is : List Interface) → map told (addresses_of is) ≡ map told (addresses_of was) → added is ≡ added was
 all_same was is same = sym (length-map (addresses_of is) told) ∙ ap (λ (xs : List Address). length xs) same ∙ length-map (addresses_of was) told
 
-uses_same : (k : ℕ) (was is : List Interface) → map told (addresses_of is) ≡ map told (addresses_of was) → uses k is ≡ uses k was
+pub uses_same : (k : ℕ) (was is : List Interface) → map told (addresses_of is) ≡ map told (addresses_of was) → uses k is ≡ uses k was
 uses_same k was is same = sym (count-map told (has_number k) (addresses_of is)) ∙ ap (λ (xs : List Address). count_by (has_number k) xs) same ∙ count-map told (has_number k) (addresses_of was)
 
 pub once_same : (was is : List Interface) → map told (addresses_of is) ≡ map told (addresses_of was) → NumberedOnce was → NumberedOnce is
@@ -159,7 +165,6 @@ once_same was is same h =
 pub numbered_same : (n : ℕ) (was is : List Interface) → map told (addresses_of is) ≡ map told (addresses_of was) → length is ≡ length was → AreNumbered n was → AreNumbered n is
 numbered_same n was is same len h = record {
   counted = all_same was is same ∙ h.counted;
-  none_before = uses_same 0 was is same ∙ h.none_before;
   numbers = once_same was is same h.numbers;
   few = rw len h.few;
 }

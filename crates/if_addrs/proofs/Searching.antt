@@ -56,17 +56,11 @@ pub answered : (o rest : Option Address) → is_some o ≡ true → o ≡ option
 answered None rest h = cc
 answered (Some a) rest h = refl
 
-pub none_is : (o : Option Address) → is_some o ≡ false → o ≡ None
-none_is None h = refl
-none_is (Some a) h = cc
+pub skipped : (o rest : Option Address) → is_some o ≡ false → option_or o rest ≡ rest
+skipped None rest h = refl
+skipped (Some a) rest h = cc
 
 -- THE LONGEST
-
-pub longest_of_none : (p : Address → Bool) (xs : List Address) → find p xs ≡ None → longest (filter p xs) ≡ None
-longest_of_none p [] h = refl
-longest_of_none p (x ∷ xs) h =
-    elim (p x) as (λ b. cond b (Some x) (find p xs) ≡ None → longest (cond b (x ∷ filter p xs) (filter p xs)) ≡ None)
-    [ true ↦ λ k. cc | false ↦ λ k. longest_of_none p xs k ] h
 
 pub better_none : (o : Option Address) → better o None ≡ o
 better_none None = refl

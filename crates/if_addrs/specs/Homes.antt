@@ -3,7 +3,7 @@ use Rattle.std.specs.Prelude.{◌≡◌, ℕ, ◌+◌, List, [], length, Some, s
 use Rattle.std.specs.List.{position}
 use Rattle.std.specs.Option.{option_map_or}
 use Rattle.if_addrs.specs.Interfaces.{Address, Interface, has_number, has_numbered}
-use Rattle.if_addrs.specs.Numbered.{AreNumbered}
+use Rattle.if_addrs.specs.Numbered.{AreNumbered, uses}
 use Rattle.if_addrs.specs.declared.home.Home.{Home}
 
 -- the addresses of the interface at a place
@@ -18,4 +18,5 @@ pub record IsHome (number : ℕ) (home : Home) (interfaces : List Interface) : T
 -- there is a home for each number from 1 on
 pub record AreAtHome (homes : List Home) (interfaces : List Interface) : Type 0 where
   pub numbered : AreNumbered (length homes) interfaces
+  pub none_before : uses 0 interfaces ≡ 0
   pub at_home : (k : ℕ) (home : Home) → slice_get homes k ≡ Some home → IsHome (k + 1) home interfaces

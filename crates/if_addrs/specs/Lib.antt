@@ -1,7 +1,5 @@
-pub mod Directory
 pub mod Facts
 pub mod Homes
-pub mod Indexed
 pub mod InterfaceLaws
 pub mod Interfaces
 pub mod Keeping

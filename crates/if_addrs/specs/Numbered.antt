@@ -12,9 +12,7 @@ pub record NumberedOnce (interfaces : List Interface) : Type 0 where
   pub once : (number : ℕ) → uses number interfaces ≤ 1
   pub none_past : (number : ℕ) → added interfaces < number → uses number interfaces ≡ 0
 
--- the numbers are given from 1 on, by a count
 pub record AreNumbered (count : ℕ) (interfaces : List Interface) : Type 0 where
   pub counted : added interfaces ≡ count
-  pub none_before : uses 0 interfaces ≡ 0
   pub numbers : NumberedOnce interfaces
   pub few : length interfaces ≤ MOST_INTERFACES

@@ -1,11 +1,11 @@
 -- How the code tells a search what to look for, and an address what it is marked as.
-use Rattle.std.specs.Prelude.{ℕ, zero, suc, Bool, not, ◌&&◌, ◌==◌, List, [], ◌∷◌, Option, Some, None}
+use Rattle.std.specs.Prelude.{ℕ, zero, suc, Bool, not, ◌&&◌, List, [], ◌∷◌, Option, Some, None}
 use Rattle.if_addrs.specs.Interfaces.{Address, Interface, is_at, routed, gone}
 use Rattle.if_addrs.specs.Searches.{answers_to, leads_to, network_holds, longer}
 use Rattle.if_addrs.specs.declared.address.Mark.{Mark}
 use Rattle.if_addrs.specs.declared.address.Mark.TheVariants.{Routed, Gone}
 use Rattle.if_addrs.specs.declared.address.Wanted.{Wanted}
-use Rattle.if_addrs.specs.declared.address.Wanted.TheVariants.{Same, Own, Far, Near, Net, Standing}
+use Rattle.if_addrs.specs.declared.address.Wanted.TheVariants.{Same, Own, Far, Near, Standing}
 
 -- an address is as a search wants it
 abbrev pub is_wanted : Wanted → Address → Bool
@@ -13,17 +13,7 @@ is_wanted (Same address) a = is_at address a
 is_wanted (Own address) a = not a.removed && answers_to address a
 is_wanted (Far address) a = not a.removed && leads_to address a
 is_wanted (Near address) a = not a.removed && network_holds address a
-is_wanted (Net address prefix) a = not a.removed && a.prefix == prefix && network_holds address a
 is_wanted Standing a = not a.removed
-
--- what each address that is wanted agrees with, and at which rank: by itself, its far address or its network
-abbrev pub key_of : Wanted → Option (ℕ × ℕ)
-key_of (Same address) = Some (33, address)
-key_of (Own address) = Some (33, address)
-key_of (Far address) = Some (33, address)
-key_of (Near address) = None
-key_of (Net address prefix) = Some (prefix, address)
-key_of Standing = None
 
 -- an address after it was marked
 abbrev pub marked : Mark → Address → Address

@@ -3,7 +3,7 @@ ghost use Rattle.std.specs.List.{find};
 ghost use Rattle.if_addrs.specs.Interfaces.{new_address, last_of_network, far_of, is_at, reference as reference_to};
 ghost use Rattle.if_addrs.specs.Facts.{facts_of};
 ghost use Rattle.if_addrs.specs.Searches.{answers_to, leads_to, network_holds, longest as longest_of};
-ghost use Rattle.if_addrs.specs.Wanted.{is_wanted, key_of, marked, better};
+ghost use Rattle.if_addrs.specs.Wanted.{is_wanted, marked, better};
 
 use crate::kind::Kind;
 use crate::reference::{Facts, IfaRef};
@@ -22,25 +22,8 @@ pub(crate) enum Wanted {
     Far(Inet),
     /// Its network holds this address.
     Near(Inet),
-    /// Its network holds this address, and is of this length.
-    Net(Inet, Prefix),
     /// Nothing else.
     Standing,
-}
-
-impl Wanted {
-    /// What each address that is wanted agrees with, and at which rank: by itself, its far address or its network.
-    pub(crate) fn key(&self) -> Option<(Rank, Inet)>
-        ensures { result ≡ key_of self.now }
-    {
-        match self {
-            Wanted::Same(address) | Wanted::Own(address) | Wanted::Far(address) => {
-                Some((Rank::host(), *address))
-            }
-            Wanted::Net(address, prefix) => Some((Rank::of(*prefix), *address)),
-            Wanted::Near(_) | Wanted::Standing => None,
-        }
-    }
 }
 
 /// What an address is marked as.
@@ -134,9 +117,6 @@ impl Address {
             Wanted::Own(address) => !self.removed && self.answers_to(*address),
             Wanted::Far(address) => !self.removed && self.leads_to(*address),
             Wanted::Near(address) => !self.removed && self.network_holds(*address),
-            Wanted::Net(address, prefix) => {
-                !self.removed && self.prefix == *prefix && self.network_holds(*address)
-            }
             Wanted::Standing => !self.removed,
         }
     }
@@ -167,20 +147,6 @@ impl Address {
         ensures { result ≡ self.now.address }
     {
         self.address
-    }
-
-    /// Its far address.
-    pub(crate) fn far(&self) -> Inet
-        ensures { result ≡ self.now.far }
-    {
-        self.far
-    }
-
-    /// The length of its network.
-    pub(crate) fn prefix(&self) -> Prefix
-        ensures { result ≡ self.now.prefix }
-    {
-        self.prefix
     }
 
     /// The reference to it.

@@ -1,14 +1,11 @@
 ghost use Rattle.std.specs.Prelude.{◌≡◌, ◌<◌, length, filter, is_err, option_map, slice_get, Some, OnOk, OnErr};
 ghost use Rattle.std.specs.List.{find, list_any, position};
-ghost use Rattle.if_addrs.specs.Directory.{Leads};
-ghost use Rattle.if_addrs.specs.Interfaces.{addresses_of, attached, has_name as is_named, named, with_one_more, link_text};
+ghost use Rattle.if_addrs.specs.Interfaces.{addresses_of, attached, has_name as is_named, named, holds, with_one_more, link_text};
 ghost use Rattle.if_addrs.specs.Searches.{standing, nearest as nearest_of, longest as longest_of};
 ghost use Rattle.if_addrs.specs.Wanted.{is_wanted, with_marked};
-ghost use Rattle.if_addrs.specs.declared.address.Wanted.TheVariants.{Near};
 ghost use Rattle.memory.specs.Refusing.{Rises};
 
 use crate::address::{self, Address, Mark, Wanted};
-use crate::addresses::Addresses;
 use crate::kind::Kind;
 use crate::link_address::LinkAddress;
 use memory::Memory;
@@ -23,7 +20,7 @@ pub(crate) struct Interface {
     kind: Kind,
     type_number: u8,
     link: LinkAddress,
-    addresses: Addresses,
+    addresses: Vec<Address>,
 }
 
 impl Model for Interface {
@@ -36,7 +33,7 @@ impl Model for Interface {
       kind = i.kind;
       type_number = i.type_number;
       link = i.link;
-      addresses = i.addresses;
+      addresses = i.addresses.items;
     } };
 }
 
@@ -56,7 +53,7 @@ impl Interface {
             kind,
             type_number,
             link,
-            addresses: Addresses::new(alloc),
+            addresses: Vec::new(alloc),
         }
     }
 
@@ -74,6 +71,13 @@ impl Interface {
         self.kind
     }
 
+    /// Whether it holds this address.
+    fn holds(&self, address: Inet) -> bool
+        ensures { result ≡ holds address self.now }
+    {
+        self.addresses.iter().any(|a| a.is_at(address))
+    }
+
     /// How many addresses it was ever given.
     pub(crate) fn count(&self) -> usize
         ensures { result ≡ length self.now.addresses }
@@ -86,21 +90,21 @@ impl Interface {
         requires { place < length self.now.addresses }
         ensures { slice_get self.now.addresses place ≡ Some result }
     {
-        self.addresses.get(place)
+        self.addresses[place]
     }
 
     /// The first of its addresses that is as a search wants it.
     pub(crate) fn first(&self, wanted: &Wanted) -> Option<Address>
         ensures { result ≡ find (is_wanted wanted.now) self.now.addresses }
     {
-        self.addresses.first(wanted)
+        address::first(&self.addresses, wanted)
     }
 
-    /// The first of the longest prefix among its addresses whose network holds this one.
-    fn longest(&self, sought: Inet) -> Option<Address>
-        ensures { result ≡ longest_of (filter (is_wanted (Near sought)) self.now.addresses) }
+    /// The first of the longest prefix among its addresses that are as a search wants them.
+    fn longest(&self, wanted: &Wanted) -> Option<Address>
+        ensures { result ≡ longest_of (filter (is_wanted wanted.now) self.now.addresses) }
     {
-        self.addresses.longest(sought)
+        address::longest(&self.addresses, wanted)
     }
 
     /// The first of its addresses whose network holds this one, or else its first.
@@ -115,12 +119,11 @@ impl Interface {
 
     /// Appends an address.
     pub(crate) fn add(&mut self, address: Address, memory: &mut Memory) -> Result<(), AllocError>
-        requires { length self.old.addresses < 65536 }
         ensures ok { OnOk result (self.new ≡ with_one_more address self.old) }
         ensures kept { OnErr result (self.new ≡ self.old) }
         ensures counted { Rises (is_err result) memory.old memory.new }
     {
-        self.addresses.add(address, memory)
+        memory.push(&mut self.addresses, address)
     }
 
     /// Marks the address at this place.
@@ -128,7 +131,7 @@ impl Interface {
         requires { place < length self.old.addresses }
         ensures { self.new ≡ with_marked place mark self.old }
     {
-        self.addresses.mark(place, mark);
+        self.addresses[place].mark(mark);
     }
 
     /// Its link-layer address as a message writes it, `index` being the interface's number.
@@ -162,37 +165,34 @@ pub(crate) fn is_there(interfaces: &[Interface], name: Name) -> bool
     interfaces.iter().any(|interface| interface.has_name(name))
 }
 
-/// The first of their addresses that is as a search wants it; `leading` has a bit of each interface that may have one.
-pub(crate) fn first(interfaces: &[Interface], leading: u64, wanted: &Wanted) -> Option<Address>
-    requires { Leads leading (is_wanted wanted.now) interfaces.now }
+/// Whether one of them holds this address.
+pub(crate) fn is_in_use(interfaces: &[Interface], address: Inet) -> bool
+    ensures { result ≡ list_any (holds address) interfaces.now }
+{
+    interfaces.iter().any(|interface| interface.holds(address))
+}
+
+/// The first of their addresses that is as a search wants it.
+pub(crate) fn first(interfaces: &[Interface], wanted: &Wanted) -> Option<Address>
     ensures { result ≡ find (is_wanted wanted.now) (addresses_of interfaces.now) }
 {
-    let mut bits = leading;
     for interface in interfaces {
-        if bits % 2 == 1 {
-            let found = interface.first(wanted);
-            if found.is_some() {
-                return found;
-            }
+        let found = interface.first(wanted);
+        if found.is_some() {
+            return found;
         }
-        bits /= 2;
     }
     None
 }
 
-/// The first of the longest prefix among their addresses whose network holds this one; `leading` has a bit of each
-/// interface that may have one.
-pub(crate) fn longest(interfaces: &[Interface], leading: u64, sought: Inet) -> Option<Address>
-    requires { Leads leading (is_wanted (Near sought)) interfaces.now }
-    ensures { result ≡ longest_of (filter (is_wanted (Near sought)) (addresses_of interfaces.now)) }
+/// The first of the longest prefix among their addresses that are as a search wants them.
+#[tactic(auto, using(crate::proofs::Searching::better_none))]
+pub(crate) fn longest(interfaces: &[Interface], wanted: &Wanted) -> Option<Address>
+    ensures { result ≡ longest_of (filter (is_wanted wanted.now) (addresses_of interfaces.now)) }
 {
-    let mut bits = leading;
     let mut best = None;
     for interface in interfaces {
-        if bits % 2 == 1 {
-            best = address::better(best, interface.longest(sought));
-        }
-        bits /= 2;
+        best = address::better(best, interface.longest(wanted));
     }
     best
 }

@@ -1,9 +1,8 @@
 ghost use Rattle.std.specs.Prelude.{◌≡◌, ◌+◌, ◌≤◌, [], ◌∷◌, ◌++◌, length, unwrap_or, Some, None, IsSome, IfSome, IfNone, is_err, option_map, OnOk, OnErr, IfOk, IfErr};
-ghost use Rattle.std.specs.List.{list_any};
 ghost use Rattle.std.specs.Result.{result_err};
 ghost use Rattle.if_addrs.specs.Facts.{facts_of};
 ghost use Rattle.if_addrs.specs.Homes.{IsHome};
-ghost use Rattle.if_addrs.specs.Interfaces.{holds, attach_fault, attached, addr_fault, added, kind_of, new_address, with_address, address_of, find_addr, interface_of as index_of, link_text_of, text_of, marked_routed, without_addr, changed, IsOf, IsStanding};
+ghost use Rattle.if_addrs.specs.Interfaces.{attach_fault, attached, addr_fault, added, kind_of, new_address, with_address, address_of, find_addr, interface_of as index_of, link_text_of, text_of, marked_routed, without_addr, changed, IsOf, IsStanding};
 ghost use Rattle.if_addrs.specs.Keeping.{KeepsIfas, SameIfas};
 ghost use Rattle.if_addrs.specs.Wanted.{marked};
 ghost use Rattle.if_addrs.specs.declared.reference.IfaRef.TheVariants as ifa;
@@ -11,9 +10,8 @@ ghost use Rattle.memory.specs.Refusing.{Rises};
 ghost use Rattle.sock_addrs.specs.Errno.{is_no_memory};
 
 use crate::address::{Address, Mark, Wanted};
-use crate::directory::Directory;
 use crate::home::Home;
-use crate::interface::{Interface, is_there, named, place_of};
+use crate::interface::{Interface, is_in_use, is_there, named, place_of};
 use crate::kind::Kind;
 use crate::limits::{MOST_ADDRESSES, MOST_INTERFACES};
 use crate::link_address::LinkAddress;
@@ -31,7 +29,6 @@ pub struct Interfaces {
     pub(crate) interfaces: Vec<Interface>,
     /// Where each address stands, by its number from 1 on.
     homes: Vec<Home>,
-    pub(crate) directory: Directory,
     alloc: Global,
 }
 
@@ -41,11 +38,11 @@ impl Model for Interfaces {
 
     ghost Value = { List Seen };
 
-    ghost use Rattle.if_addrs.specs.Directory.{AreKept};
+    ghost use Rattle.if_addrs.specs.Homes.{AreAtHome};
 
     ghost view = { λ i. i.interfaces.items };
 
-    ghost invariant = { λ i. AreKept i.homes.items i.directory i.interfaces.items };
+    ghost invariant = { λ i. AreAtHome i.homes.items i.interfaces.items };
 }
 
 impl Interfaces {
@@ -56,7 +53,6 @@ impl Interfaces {
         Interfaces {
             interfaces: Vec::new(alloc),
             homes: Vec::new(alloc),
-            directory: Directory::none(alloc),
             alloc,
         }
     }
@@ -114,22 +110,13 @@ impl Interfaces {
         if !interface.kind().fits(far) {
             return Err(Errno::EINVAL);
         }
-        if self.is_in_use(address) {
+        if is_in_use(&self.interfaces, address) {
             return Err(Errno::EADDRINUSE);
         }
         if self.homes.len() >= usize::from(MOST_ADDRESSES) {
             return Err(Errno::ENOSPC);
         }
         Ok(())
-    }
-
-    /// Whether an interface holds this address.
-    fn is_in_use(&self, address: Inet) -> bool
-        ensures { result ≡ list_any (holds address) self.now }
-    {
-        self.directory
-            .first(&self.interfaces, &Wanted::Same(address))
-            .is_some()
     }
 
     /// Adds an address to the interface of this name, with the next number, and answers a reference to it. `far` is the
@@ -158,8 +145,6 @@ impl Interfaces {
         let number = self.homes.len() as u16 + 1;
         let at = place_of(&self.interfaces, name).unwrap();
         memory.reserve(&mut self.homes, 1)?;
-        self.directory
-            .widen(self.alloc, &self.interfaces, self.homes.len(), memory)?;
         let interface = &mut self.interfaces[at];
         let home = Home {
             interface: at as u8,
@@ -168,7 +153,6 @@ impl Interfaces {
         let address = Address::new(number, interface.kind(), address, prefix, cloning, far);
         interface.add(address, memory)?;
         self.homes.push(home).unwrap();
-        self.directory.enter(at, &address);
         Ok(IfaRef::Inet(number))
     }
 

@@ -2,11 +2,7 @@
 #![tactic(auto)]
 
 mod address;
-mod addresses;
-mod bucket;
-mod directory;
 mod home;
-mod index;
 mod interface;
 mod interfaces;
 mod kind;
@@ -15,7 +11,6 @@ pub mod limits;
 mod link_address;
 mod reference;
 mod searches;
-mod slots;
 
 pub use interfaces::Interfaces;
 pub use kind::Kind;

@@ -5,10 +5,10 @@ ghost use Rattle.std.specs.List.{find, range_with_len};
 ghost use Rattle.if_addrs.specs.Interfaces.{addresses_of, reference, IsOf};
 ghost use Rattle.if_addrs.specs.Searches.{with_addr, with_far, with_net, of_interface, for_route, with_way, turned, has_link_text, longest};
 ghost use Rattle.if_addrs.specs.Wanted.{is_wanted};
-ghost use Rattle.if_addrs.specs.declared.address.Wanted.TheVariants.{Near};
 ghost use Rattle.if_addrs.specs.declared.reference.IfaRef.TheVariants as ifa;
 
 use crate::address::Wanted;
+use crate::interface::{first, longest};
 use crate::interfaces::Interfaces;
 use crate::reference::IfaRef;
 use sock_addrs::flags::{RTF_GATEWAY, RTF_HOST};
@@ -32,20 +32,16 @@ impl Interfaces {
         ensures found { result ≡ option_map reference (find (is_wanted wanted.now) (addresses_of self.now)) }
         ensures of { IfSome result (λ i. IsOf i self.now) }
     {
-        Some(self.directory.first(&self.interfaces, wanted)?.reference())
+        Some(first(&self.interfaces, wanted)?.reference())
     }
 
-    /// The first address of the longest prefix among those whose network holds this one.
-    fn longest(&self, sought: Inet) -> Option<IfaRef>
+    /// The first address of the longest prefix among those that are as a search wants them.
+    fn longest(&self, wanted: &Wanted) -> Option<IfaRef>
         ensures found { result ≡
-            option_map reference (longest (filter (is_wanted (Near sought)) (addresses_of self.now))) }
+            option_map reference (longest (filter (is_wanted wanted.now) (addresses_of self.now))) }
         ensures of { IfSome result (λ i. IsOf i self.now) }
     {
-        Some(
-            self.directory
-                .longest(&self.interfaces, sought)?
-                .reference(),
-        )
+        Some(longest(&self.interfaces, wanted)?.reference())
     }
 
     /// The first interface whose link-layer address this is.
@@ -82,7 +78,7 @@ impl Interfaces {
         ensures of { IfSome result (λ i. IsOf i self.now) }
     {
         match sought {
-            Gate::Inet(address) => self.longest(address),
+            Gate::Inet(address) => self.longest(&Wanted::Near(address)),
             Gate::Link(text) => {
                 let index = text.index();
                 if 1 <= index && usize::from(index) <= self.interfaces.len() {

@@ -1,4 +1,5 @@
 pub mod Agreeing
 pub mod Counts
 pub mod Held
+pub mod RankSets
 pub mod Ranks

@@ -1,16 +1,17 @@
 //! How many routes there are of each rank.
-ghost use Rattle.std.specs.Prelude.{◌≡◌, ◌+◌, ◌-◌, ◌^◌, ◌<◌, ◌≤◌, ◌↔◌, IsTrue};
-ghost use Rattle.mask_table.specs.Counts.{count_of, AreNone, HasOneMore, IsGreatestBelow};
+ghost use Rattle.std.specs.Prelude.{◌≡◌, ℕ, ◌-◌, ◌^◌, ◌<◌, ◌≤◌, ◌↔◌, IsTrue};
+ghost use Rattle.mask_table.specs.Counts.{count_of, AreNone, HasOneMore};
+ghost use Rattle.mask_table.specs.RankSets.{HasRank};
 
-use crate::Rank;
+use crate::{Rank, Ranks};
 use std::marker::Model;
 
 /// How many routes are held of each rank. A contract sees the numbers as a list, by rank.
 #[derive(Drop)]
 pub struct Counts {
     by_rank: [u64; 34],
-    /// Which ranks are held: a bit of each, the lowest that of the greatest.
-    held: u64,
+    /// The ranks of which there are any.
+    held: Ranks,
 }
 
 impl Model for Counts {
@@ -31,7 +32,7 @@ impl Counts {
     {
         Counts {
             by_rank: [0; 34],
-            held: 0,
+            held: Ranks::none(),
         }
     }
 
@@ -41,7 +42,7 @@ impl Counts {
         ensures { HasOneMore rank self.old self.new }
     {
         self.by_rank[usize::from(rank.number())] += 1;
-        self.held |= 1 << place_of(rank);
+        self.held = self.held.with(rank);
     }
 
     /// A route of this rank has been dropped. One was held before.
@@ -51,7 +52,7 @@ impl Counts {
     {
         self.by_rank[usize::from(rank.number())] -= 1;
         if self.by_rank[usize::from(rank.number())] == 0 {
-            self.held &= !(1 << place_of(rank));
+            self.held = self.held.without(rank);
         }
     }
 
@@ -62,22 +63,11 @@ impl Counts {
         self.by_rank[usize::from(rank.number())] != 0
     }
 
-    /// The greatest rank below this number of which a route is held, or `None` where there is none.
-    pub fn greatest_below(&self, number: u8) -> Option<Rank>
-        requires { number ≤ 34 }
-        ensures { IsGreatestBelow number self.now result }
+    /// The ranks of which a route is held.
+    #[inline(always)]
+    pub fn ranks(&self) -> Ranks
+        ensures { (rank : ℕ) → rank ≤ 33 → HasRank result rank ↔ (0 < count_of rank self.now) }
     {
-        let below = self.held >> (34 - number);
-        if below == 0 {
-            return None;
-        }
-        Some(Rank::new(number - 1 - below.trailing_zeros() as u8))
+        self.held
     }
-}
-
-/// Where the bit of a rank stands.
-fn place_of(rank: Rank) -> u32
-    ensures place { result + rank ≡ 33 }
-{
-    33 - u32::from(rank.number())
 }

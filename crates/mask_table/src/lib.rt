@@ -5,7 +5,9 @@ mod counts;
 pub mod laws;
 mod prefix;
 mod rank;
+mod ranks;
 
 pub use counts::Counts;
 pub use prefix::Prefix;
 pub use rank::{Rank, agrees, masked};
+pub use ranks::Ranks;

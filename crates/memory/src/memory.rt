@@ -1,5 +1,5 @@
 //! The calls that ask for memory, and how often it was refused.
-ghost use Rattle.std.specs.Prelude.{◌≡◌, ◌+◌, ◌*◌, ◌<◌, ◌≤◌, ◌++◌, ◌∷◌, [], length, is_err, IsOk, OnOk, OnErr, IfOk, vec_len, vec_capacity};
+ghost use Rattle.std.specs.Prelude.{◌≡◌, ◌+◌, ◌*◌, ◌<◌, ◌≤◌, ◌++◌, ◌∷◌, [], length, max, replicate, is_err, IsOk, OnOk, OnErr, IfOk, vec_len, vec_capacity};
 ghost use Rattle.memory.specs.Refusing.{Rises};
 
 use crate::number::Number;
@@ -54,6 +54,7 @@ impl Memory {
     /// As many bytes of 0.
     pub fn zeros(&mut self, alloc: Global, n: usize) -> Result<Vec<u8>, AllocError>
         requires modest { n ≤ MOST_ASKED }
+        ensures bytes { IfOk result (λ bytes. bytes.items ≡ replicate n 0) }
         ensures len { IfOk result (λ bytes. length bytes.items ≡ n) }
         ensures counted { Rises (is_err result) self.old self.new }
     {
@@ -104,14 +105,17 @@ impl Memory {
         }
     }
 
-    /// Makes room for as many items more as a vector has.
-    pub fn double<T>(&mut self, items: &mut Vec<T>) -> Result<(), AllocError>
+    /// Makes room for as many items more as a vector has, and for some beside: so that no more is asked for than is held already,
+    /// but for those.
+    pub fn double<T>(&mut self, items: &mut Vec<T>, beside: usize) -> Result<(), AllocError>
+        requires modest { beside ≤ MOST_ASKED }
         ensures items { items.new.items ≡ items.old.items }
         ensures room { OnOk result (2 * vec_len items.new ≤ vec_capacity items.new) }
-        ensures there { 2 * vec_len items.old ≤ vec_capacity items.old → IsOk result }
+        ensures held { vec_capacity items.new ≤ max (vec_capacity items.old) (2 * vec_len items.old + beside) }
+        ensures there { 2 * vec_len items.old + beside ≤ vec_capacity items.old → IsOk result }
         ensures counted { Rises (is_err result) self.old self.new }
     {
-        match items.reserve_exact(items.len()) {
+        match items.reserve_exact(items.len().saturating_add(beside)) {
             Ok(()) => Ok(()),
             Err(_) => Err(self.refuse()),
         }
@@ -160,12 +164,16 @@ impl Memory {
     }
 }
 
-/// Gives back the memory of a vector that its items don't need. It asks for no more, and is never refused: where a smaller
-/// block can't be had, the vector keeps its own.
-pub fn give_back<T>(items: &mut Vec<T>)
+/// Gives back the memory of a vector that its items don't need, but for some beside; all where it has no item. It asks for no more,
+/// and no count rises by it: where a smaller block can't be had, the vector keeps its own.
+pub fn give_back<T>(items: &mut Vec<T>, beside: usize)
     ensures items { items.new.items ≡ items.old.items }
     ensures less { vec_capacity items.new ≤ vec_capacity items.old }
     ensures empty { vec_len items.old ≡ 0 → vec_capacity items.new ≡ 0 }
 {
-    items.shrink_to_fit();
+    if items.is_empty() {
+        items.shrink_to_fit();
+    } else {
+        items.shrink_to(items.len().saturating_add(beside));
+    }
 }

@@ -6,8 +6,18 @@ use Rattle.radix_tree.proofs.Words.{◌≡◌, ℕ, ◌≤◌, if◌then◌else�
 use Rattle.radix_tree.proofs.Words.{inl, inr, cases_eq, eq-eqb, ne_eqb, arith}
 use Rattle.radix_tree.proofs.Words.{Ptr, List, Id, Node, Entry, Lodged, Rooms, Holds, shown, entry_at, is_some, AreCounted, IsKept}
 use Rattle.radix_tree.specs.Given.{AreGiven}
-use Rattle.std.specs.Prelude.{IsSome}
+use Rattle.std.specs.Prelude.{IsSome, MatchOption}
 use Rattle.radix_nodes.specs.Naming.{number_of}
+
+-- an index that stays has what it had
+pub keeps_itself : (h : Held) → Keeps h h
+keeps_itself h = record { fewer = λ k r names. names; kept = λ whole. (whole, λ k r names. names) }
+
+-- what an index found is a room that it has
+pub found_named : (h : Held) (k : ℕ) (o : Option Id) → is_some o ≡ true → MatchOption o ((room : Id) → Names h k room → ⊥) (λ room. Names h k room)
+    → (room : Id) × Names h k room
+found_named h k None some found = absurd (true≢false (sym some))
+found_named h k (Some room) some found = (room, found)
 
 module _ {V : Type 0} where
   -- the rooms have the routes that they had
@@ -54,6 +64,13 @@ module _ {V : Type 0} where
       let r = place_route w n at in
       let there = pair_there w key rank r.route r.is_in (same_pair r.route.entry.key r.route.entry.rank key rank r.fits fits r.pair_is) in
       true≢false (sym (subst IsSome none there))
+
+  -- and the table has each pair that the index has a room for
+  pub named_there : (h : Held) (m : Lodged V) (root : Option Node) (key rank : ℕ) → rank ≤ 33 → Holds m root → Indexes h m → (room : Id) → Names h (pair key rank) room
+      → (o : Option (Entry V)) → entry_at key rank (shown m root) ≡ o → IsSome o
+  named_there h m root key rank fits holds is room named None at = absurd
+      (absent_place m root key rank fits holds at (number_of room) room.block (is.found (pair key rank) room named))
+  named_there h m root key rank fits holds is room named (Some e) at = refl
 
   module _ (i j : Held) (m new : Lodged V) (room : Id) (e : Entry V) (is : Indexes i m) (takes : Enters i j (pair e.key e.rank) room)
       (free : places_in m (number_of room) ≡ None) (more : HasPlaceMore m new room e) where

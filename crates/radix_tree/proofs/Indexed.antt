@@ -2,7 +2,8 @@
 use Rattle.radix_tree.proofs.{BestOfTree.stands_in, ChainRooms.room_route, Counted.not_held, RoomReads.inside, RoomReads.none_some, Showing.shown_is}
 use Rattle.radix_tree.proofs.{TreeMembers.tree_route, TreeMembers.tree_said}
 use Rattle.mask_table.proofs.Agreeing.{masked_agrees, agrees_where_masked_equal}
-use Rattle.std.specs.Prelude.{◌+◌, MatchOption}
+use Rattle.std.specs.Prelude.{◌↔◌, MatchOption}
+use Rattle.mask_table.specs.RankSets.{HasRank}
 use Rattle.radix_tree.specs.Index.{Indexes, place_of, places_in}
 use Rattle.radix_tree.specs.Tree.{Covers}
 use Rattle.room_index.specs.Homes.{pair}
@@ -51,6 +52,10 @@ module _ {V : Type 0} {m : Lodged V} {root : Node} (w : IsWhole m root) where
   pub place_route : (n : ℕ) {place : Ptr × ℕ} → places_in m n ≡ Some place → PlaceRoute n place
   place_route n at = said_route n (leaves_in m n) refl at
 
+  -- all that cover the address have one of these ranks, below that number
+  abbrev pub AreLeft : ℕ → ℕ → ℕ → Type 0
+  AreLeft address left ranks = (y : Placed V) → IsIn y w.part.tree → Covers address y.entry → (y.entry.rank < left) × HasRank ranks y.entry.rank
+
 module _ {V : Type 0} {m : Lodged V} {root : Node} (w : IsWhole m root) {h : Held} (is : Indexes h m) where
   -- a pair's room has the route of the pair
   pub named_in : (key rank : ℕ) {room : Id} → rank ≤ 33 → Names h (pair key rank) room → Tells (Finds (HasPair key rank) (In w.part)) (Some room)
@@ -86,32 +91,53 @@ module _ {V : Type 0} {m : Lodged V} {root : Node} (w : IsWhole m root) {h : Hel
       let held = not_held counts (shown m (Some root)) y.entry.key rank {has = false} counted fits (λ some. absurd (omega (arith, some, none))) refl in
       none_some (sym held ∙ ap (entry_at y.entry.key rank) (shown_is w) ∙ ap (λ r. entry_at y.entry.key r (routes_of w.part.tree)) (sym same) ∙ stands)
 
-  module _ (counts : List ℕ) (address left : ℕ) (most : left ≤ 34) (counted : AreCounted counts (shown m (Some root))) (rest : Best address left 34 (In w.part) None) where
-    -- those that are left have at most the greatest rank that is held below
-    pub ranks_below : {rank : ℕ} → ((r : ℕ) → rank < r → r < left → count_of r counts ≡ 0) → Best address (rank + 1) 34 (In w.part) None
-    ranks_below {rank} none y at covers below = elim (cases_lt rank y.entry.rank) [
-      | inl above ↦ absurd (no_route counts y.entry.rank (omega arith) counted (none y.entry.rank above (rest y at covers below)) y at refl)
-      | inr low ↦ omega arith
+  -- at the beginning all ranks of which a route is held
+  pub all_left : (counts : List ℕ) (address ranks : ℕ) → AreCounted counts (shown m (Some root))
+      → ((rank : ℕ) → rank ≤ 33 → HasRank ranks rank ↔ (0 < count_of rank counts)) → AreLeft w address 34 ranks
+  all_left counts address ranks counted has y at covers =
+      let fits = (tree_route w.part.low w.part.tree w.part.is y at).rank in
+      elim (cases_eq (count_of y.entry.rank counts) 0) [
+        | inl none ↦ absurd (no_route counts y.entry.rank fits counted none y at refl)
+        | inr some ↦ (omega arith, (has y.entry.rank fits).1 (omega arith))
+      ]
+
+  module _ (address left ranks : ℕ) (most : left ≤ 34) (are : AreLeft w address left ranks) where
+    -- those that are left have at most the greatest rank below
+    pub ranks_below : {rank : ℕ} → ((r : ℕ) → rank < r → r < left → HasRank ranks r → ⊥) → (y : Placed V) → IsIn y w.part.tree → Covers address y.entry
+        → y.entry.rank ≤ rank
+    ranks_below {rank} none y at covers = elim (cases_lt rank y.entry.rank) [
+      | inl above ↦ let own = are y at covers in absurd (none y.entry.rank above own.0 own.1)
+      | inr low ↦ low
     ]
 
     -- where there is none, none is left
-    pub no_rank : ((r : ℕ) → r < left → count_of r counts ≡ 0) → Best address 0 34 (In w.part) None
-    no_rank none y at covers below = absurd (no_route counts y.entry.rank (omega arith) counted (none y.entry.rank (rest y at covers below)) y at refl)
+    pub no_rank : ((r : ℕ) → r < left → HasRank ranks r → ⊥) → Best address 0 34 (In w.part) None
+    no_rank none y at covers below = let own = are y at covers in absurd (none y.entry.rank own.0 own.1)
 
     -- what is found at that rank is the best route
-    pub rank_hit : {rank key : ℕ} {room : Id} → rank < left → ((r : ℕ) → rank < r → r < left → count_of r counts ≡ 0) → key ≡ masked rank address
+    pub rank_hit : {rank key : ℕ} {room : Id} → rank < left → ((r : ℕ) → rank < r → r < left → HasRank ranks r → ⊥) → key ≡ masked rank address
         → Names h (pair key rank) room → Tells (Best address 0 34 (In w.part)) (Some room)
     rank_hit {rank} {key} next none masks named =
         let f = named_in key rank (omega arith) named in
         let covers = covered address rank f.0 (f.2.1.0 ∙ masks, f.2.1.1) in
-        (f.0, f.1, (f.2.0, covers, λ y at covering below. omega (arith, ranks_below none y at covering below, f.2.1.1)))
+        (f.0, f.1, (f.2.0, covers, λ y at covering below. omega (arith, ranks_below none y at covering, f.2.1.1)))
 
     -- where none is, those below that rank are left
-    pub rank_miss : {rank key : ℕ} → rank < left → ((r : ℕ) → rank < r → r < left → count_of r counts ≡ 0) → key ≡ masked rank address → h.whole ≡ true
-        → ((room : Id) → Names h (pair key rank) room → ⊥) → Best address rank 34 (In w.part) None
-    rank_miss {rank} {key} next none masks all unnamed y at covers below = elim (cases_eq y.entry.rank rank) [
+    pub rank_miss : {rank key : ℕ} → ((r : ℕ) → rank < r → r < left → HasRank ranks r → ⊥) → key ≡ masked rank address → h.whole ≡ true
+        → ((room : Id) → Names h (pair key rank) room → ⊥) → AreLeft w address rank ranks
+    rank_miss {rank} {key} none masks all unnamed y at covers = elim (cases_eq y.entry.rank rank) [
       | inl same ↦
           let own = own_key address y (tree_route w.part.low w.part.tree w.part.is y at) covers in
           absurd (named_none key rank all unnamed y at (sym own ∙ ap (λ r. masked r address) same ∙ sym masks, same))
-      | inr other ↦ omega (arith, ranks_below none y at covers below)
+      | inr other ↦ (omega (arith, ranks_below none y at covers), (are y at covers).1)
     ]
+
+    -- and of these each rank at which the index has the address' key
+    pub ranks_kept : (fewer : ℕ) → h.whole ≡ true
+        → ((rank : ℕ) (room : Id) → rank ≤ 33 → Names h (pair (masked rank address) rank) room → HasRank ranks rank → HasRank fewer rank) → AreLeft w address left fewer
+    ranks_kept fewer all kept y at covers =
+        let route = tree_route w.part.low w.part.tree w.part.is y at in
+        let s = tree_said (leaves_in m) (bits_in m) w.part.above w.part.tree w.part.stands y at in
+        let named = is.all all (number_of y.room) (y.room.block, pair y.entry.key y.entry.rank) (ap place_of s.3) in
+        let own = are y at covers in
+        (own.0, kept y.entry.rank named.0 route.rank (subst (λ k. Names h (pair k y.entry.rank) named.0) (sym (own_key address y route covers)) named.1) own.1)

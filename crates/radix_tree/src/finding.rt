@@ -1,17 +1,24 @@
 //! How a table finds the room of a route: by its index, while that is whole, and else by a way down its tree.
-ghost use Rattle.std.specs.Prelude.{◌≡◌, Some, true};
+ghost use Rattle.std.specs.Prelude.{◌≡◌, ◌≤◌, ℕ, Some, true};
+ghost use Rattle.mask_table.specs.Agreeing.{masked as masked_by};
+ghost use Rattle.mask_table.specs.RankSets.{HasRank};
+ghost use Rattle.radix_nodes.specs.declared.id.Id.{Id as IdName};
 ghost use Rattle.radix_tree.specs.Bounds.{ranks, asked_reads, pair_reads};
-ghost use Rattle.radix_tree.specs.Index.{Indexes};
+ghost use Rattle.radix_tree.specs.Index.{Indexes, pair};
 ghost use Rattle.radix_tree.specs.Kept.{AreCounted};
 ghost use Rattle.radix_tree.specs.Reads.{Reads};
 ghost use Rattle.radix_tree.specs.Searches.{Tells, Finds, Best, HasPair, In};
 ghost use Rattle.radix_tree.specs.Whole.{IsWhole, shown};
+ghost use Rattle.room_index.specs.Names.{Names};
 
 use crate::backtracking::{best_room, room_of};
-use mask_table::{Counts, Rank, masked};
+use mask_table::{Counts, Rank, Ranks, masked};
 use radix_nodes::{Id, Node, Nodes, Visits};
 use room_index::Index;
 use sock_addrs::Inet;
+
+/// After so many ranks that no route of the address has, it is looked which are near. Mostly the longest ranks have one.
+const IN_VAIN: u8 = 2;
 
 /// The route of a table with this key and this rank, by its room.
 pub(crate) fn find_room<V>(
@@ -35,7 +42,7 @@ pub(crate) fn find_room<V>(
     }
 }
 
-/// The best route of an address, by its room.
+/// The best route of an address, by its room. In a small table a way through the tree takes fewest steps.
 pub(crate) fn find_best<V>(
     nodes: &Nodes<V>,
     index: &Index,
@@ -51,14 +58,15 @@ pub(crate) fn find_best<V>(
     ensures best { (w : IsWhole nodes.now.lodged root) → Tells (Best address 0 ranks (In w.part)) result }
     ensures visits { Reads visits.old visits.new asked_reads }
 {
-    if index.is_whole() {
+    if index.is_whole() && !index.is_small() {
         best_by_rank(nodes, index, counts, root, address, visits)
     } else {
         best_room(nodes, root, address, visits)
     }
 }
 
-/// So by the index: it is asked for the address masked by each rank of which there are routes, from the greatest on.
+/// So by the index: it is asked for the address masked by each rank of which there are routes, from the greatest on; and once it
+/// was asked in vain twice, for such alone as routes near the address have.
 fn best_by_rank<V>(
     nodes: &Nodes<V>,
     index: &Index,
@@ -74,12 +82,31 @@ fn best_by_rank<V>(
     ensures best { (w : IsWhole nodes.now.lodged root) → Tells (Best address 0 ranks (In w.part)) result }
     ensures visits { Reads visits.old visits.new asked_reads }
 {
+    let mut ranks = counts.ranks();
     let mut left = 34;
-    while let Some(rank) = counts.greatest_below(left) {
+    let mut asked = 0u8;
+    while let Some(rank) = ranks.greatest_below(left) {
         if let Some(room) = index.find(masked(address, rank), rank, visits) {
             return Some(room);
         }
         left = rank.number();
+        asked = asked.saturating_add(1);
+        ranks = ranks_left(index, ranks, asked, address, visits);
     }
     None
+}
+
+/// The ranks that are left to be asked for, once so many were in vain: of those the ones near the address, where that is worth
+/// the look.
+#[inline(always)]
+fn ranks_left(index: &Index, ranks: Ranks, asked: u8, address: Inet, visits: &mut Visits) -> Ranks
+    ensures kept { (rank : ℕ) (room : IdName) → rank ≤ 33 → Names index.now (pair (masked_by rank address) rank) room → HasRank ranks rank
+        → HasRank result rank }
+    ensures visits { Reads visits.old visits.new 1 }
+{
+    if asked == IN_VAIN {
+        ranks.intersection(index.ranks(address, visits))
+    } else {
+        ranks
+    }
 }

@@ -81,6 +81,9 @@ impl<V: Drop> Table<V> {
         let space = self.nodes.spare(space);
         let at = Snapshot::of(&space);
         let mut visits = self.nodes.begin();
+        if self.index.find(key, rank, &mut visits).is_some() {
+            return Err((Room { space, number }, value));
+        }
         let entry = Entry::of(key, rank, value);
         let vacancy = self.index.vacancy(key, rank, &mut visits);
         let index = &self.index;

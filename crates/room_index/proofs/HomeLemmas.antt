@@ -61,3 +61,10 @@ module _ (bits n pair : ℕ) where
     | inl first ↦ inl (stays_low bits (n / 8) (spread pair) first low)
     | inr second ↦ inr (stays_low bits (n / 8) (spread pair / 2 ^ 24) second low)
   ]
+
+  -- a home is one of the buckets
+  pub home_within : IsHome bits n pair → n / 8 < 2 ^ bits
+  home_within home = elim home [
+    | inl first ↦ omega (arith, first, mod-lt (spread pair) (pow_pos bits))
+    | inr second ↦ omega (arith, second, mod-lt (spread pair / 2 ^ 24) (pow_pos bits))
+  ]

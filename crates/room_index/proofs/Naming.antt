@@ -1,13 +1,16 @@
 -- What an index has, by its places.
-use Rattle.std.proofs.Common.{◌≡◌, ℕ, ◌≤◌, Bool, true, false, [], Option, None, Some, get_or, inl, inr, sym, ap, subst, ◌∙◌, refl, true≢false}
-use Rattle.std.specs.Prelude.{IfSome, option_map}
+use Rattle.std.proofs.Common.{◌≡◌, ℕ, ◌^◌, ◌%◌, ◌/◌, ◌<◌, ◌≤◌, Bool, true, false, [], Option, None, Some, slice_get, inl, inr, sym, ap, subst, ◌∙◌, refl, arith, true≢false}
+use Rattle.std.specs.Prelude.{IfSome}
 use Rattle.std.proofs.lemmas.Option.{none-some}
 use Rattle.radix_nodes.specs.declared.id.Id.{Id}
 use Rattle.room_index.proofs.Filing.{table_as}
 use Rattle.room_index.proofs.Standing.{stands_free}
 use Rattle.room_index.specs.Names.{Held, IsIndex, Keeps, Names, Enters, Loses, Strikes}
 use Rattle.room_index.specs.Places.{standing, Adds, HaveSame, IsIn, Loses as Less}
-use Rattle.room_index.specs.Ranges.{last_in, range_of, Has}
+use Rattle.room_index.specs.Homes.{pair}
+use Rattle.room_index.specs.Ranges.{entry_of, range_of, AreTold, Has, TellsRank}
+use Rattle.room_index.proofs.Ranging.{more_same, told_more}
+use Rattle.mask_table.specs.Agreeing.{masked}
 use Rattle.room_index.specs.declared.entry.Entry.{Entry}
 use Rattle.room_index.specs.declared.places.Places.{Places}
 use Rattle.room_index.specs.declared.ranges.Ranges.{Ranges}
@@ -33,13 +36,6 @@ pub keeps : (old new : Places) (whole : Bool) → HaveSame old new → Keeps (he
 keeps old new whole same = record {
   fewer = λ k r names. is_named old whole _ (same.had _ (is_in new whole k r names));
   kept = λ still. (still, λ k r names. is_named new whole _ (same.kept _ (is_in old whole k r names)));
-}
-
--- or none
-pub gives_up : (h : Held) (new : Places) → new.tags.items ≡ [] → Keeps h (held new false)
-gives_up h new none = record {
-  fewer = λ k r names. absurd (none_named new false none k r names);
-  kept = λ whole. absurd (true≢false (sym whole));
 }
 
 -- what isn't whole, as it is
@@ -70,13 +66,6 @@ loses old mid new whole pair less same = record {
   kept = λ still. (still, λ k r other names. is_named new whole _ (same.kept _ (less.kept _ (is_in old whole k r names) other)));
 }
 
-pub strikes_last : (old h : Held) (p : Places) (whole : Bool) (pair : ℕ) (rest : Bool) → held p whole ≡ h → Loses old h pair → rest ≡ false → Strikes old (held p true) pair rest
-strikes_last old h p whole pair rest is lost none = record {
-  fewer = λ k r names. lost.fewer k r (subst (λ x. Names x k r) is (is_named p whole _ (is_in p true k r names)));
-  loses = λ some. absurd (true≢false (sym some ∙ none));
-  begins = λ _. refl;
-}
-
 pub strikes_one : (old new : Held) (pair : ℕ) (rest : Bool) → Loses old new pair → rest ≡ true → Strikes old new pair rest
 strikes_one old new pair rest lost some = record {
   fewer = lost.fewer;
@@ -85,22 +74,46 @@ strikes_one old new pair rest lost some = record {
 }
 
 -- ---- what is near
-pub near_named : (p : Places) (r : Ranges) (whole : Bool) → ((e : Entry) → Has r e → IsIn p e) → (n : ℕ) (last : Option Entry) → last_in r n ≡ last
-    → IfSome (option_map (λ e. e.room) last) (λ room. (k : ℕ) × Names (held p whole) k room)
-near_named p r whole within n None is = tt
-near_named p r whole within n (Some e) is = (e.pair, is_named p whole e (within e (n, is)))
+pub near_named : (p : Places) (r : Ranges) (whole : Bool) → ((e : Entry) → Has r e → IsIn p e) → (o : Option Id)
+    → IfSome o (λ room. (e : Entry) × Has r e × (e.room ≡ room)) → IfSome o (λ room. (k : ℕ) × Names (held p whole) k room)
+near_named p r whole within None has = tt
+near_named p r whole within (Some room) has = (has.0.pair, subst (Names (held p whole) has.0.pair) has.2 (is_named p whole has.0 (within has.0 has.1)))
+
+-- the ranks of an address
+pub told_named : (p : Places) (r : Ranges) (whole : Bool) → AreTold r p → (address rank : ℕ) (room : Id) → address < 2 ^ 32 → rank ≤ 33
+    → Names (held p whole) (pair (masked rank address) rank) room → TellsRank r address rank
+told_named p r whole told address rank room within fits names =
+    let e : Entry = record { pair = pair (masked rank address) rank; room = room } in
+    let own : e.pair % 64 ≡ rank = omega arith in
+    let key : masked (e.pair % 64) address ≡ e.pair / 64 = ap (λ n. masked n address) own ∙ omega arith in
+    subst (TellsRank r address) own (told e (is_in p whole (pair (masked rank address) rank) room names) (omega arith) address within key)
 
 -- the same places and ranges are as much of an index
 pub index_as : (p q : Places) (r s : Ranges) (given_up : Bool) → IsIndex p r given_up → q.tags.items ≡ p.tags.items → q.entries.items ≡ p.entries.items
-    → q.bits ≡ p.bits → s.last.items ≡ r.last.items → s.bits ≡ r.bits → IsIndex q s given_up
-index_as p q r s given_up is tags entries buckets last bits = record {
-  table = table_as p q is.table tags entries buckets;
-  none = λ up. tags ∙ is.none up;
-  by_range = record {
-    few = subst (λ b. b ≤ 24) (sym bits) is.by_range.few;
-    own = λ n e at. ap (λ b. range_of b e.pair) bits ∙ is.by_range.own n e (ap (λ xs. get_or xs n None) (sym last) ∙ at);
-  };
-  within = λ e has.
-      let at = is.within e (has.0, ap (λ xs. get_or xs has.0 None) (sym last) ∙ has.1) in
-      (at.0, ap (λ ts. standing ts q.entries.items at.0) tags ∙ ap (λ es. standing p.tags.items es at.0) entries ∙ at.1);
+    → q.bits ≡ p.bits → s.last.items ≡ r.last.items → s.ranks.items ≡ r.ranks.items → s.short ≡ r.short → s.bits ≡ r.bits → IsIndex q s given_up
+index_as p q r s given_up is tags entries buckets last ranks short bits =
+    let still : (e : Entry) → IsIn q e → IsIn p e = λ e at.
+    (at.0, sym (ap (λ ts. standing ts q.entries.items at.0) tags ∙ ap (λ es. standing p.tags.items es at.0) entries) ∙ at.1) in
+    record {
+      table = table_as p q is.table tags entries buckets;
+      none = λ up. tags ∙ is.none up;
+      by_range = record {
+        few = subst (λ b. b ≤ 24) (sym bits) is.by_range.few;
+        own = λ n e at. ap (λ b. range_of b e.pair) bits ∙ is.by_range.own n e (ap (λ xs. entry_of (slice_get xs n)) (sym last) ∙ at);
+      };
+      within = λ e has.
+          let at = is.within e (has.0, ap (λ xs. entry_of (slice_get xs has.0)) (sym last) ∙ has.1) in
+          (at.0, ap (λ ts. standing ts q.entries.items at.0) tags ∙ ap (λ es. standing p.tags.items es at.0) entries ∙ at.1);
+      told = λ e at. told_more r s e.pair (more_same r s bits ranks short) (is.told e (still e at));
+    }
+
+-- without entries any ranges will do
+pub none_told : (r : Ranges) (p : Places) → p.tags.items ≡ [] → AreTold r p
+none_told r p none e at = absurd (none-some _ (sym (ap (λ tags. standing tags p.entries.items at.0) none ∙ stands_free [] p.entries.items at.0 refl) ∙ at.1))
+
+pub strikes_all : (old new : Held) (pair : ℕ) (rest : Bool) → ((k : ℕ) (room : Id) → Names new k room → ⊥) → new.whole ≡ true → rest ≡ false → Strikes old new pair rest
+strikes_all old new pair rest none whole last = record {
+  fewer = λ k r names. absurd (none k r names);
+  loses = λ some. absurd (true≢false (sym some ∙ last));
+  begins = λ _. whole;
 }

@@ -3,7 +3,7 @@ use Rattle.std.proofs.Common.{◌≡◌, ℕ, ◌+◌, ◌-◌, ◌*◌, ◌/◌
 use Rattle.std.proofs.lemmas.Bool.{cases_eq, cases_lt}
 use Rattle.std.proofs.lemmas.Option.{none-some}
 use Rattle.room_index.proofs.Filing.{filed_by, filed_moved, moved_same}
-use Rattle.room_index.proofs.HomeLemmas.{parted_home, folded_home, low_home}
+use Rattle.room_index.proofs.HomeLemmas.{parted_home, low_home, home_within}
 use Rattle.room_index.proofs.Standing.{stands_within}
 use Rattle.room_index.specs.Homes.{first_home, second_home}
 use Rattle.room_index.specs.Places.{stands, AreFiled, HaveSame, IsHome, Moves}
@@ -74,15 +74,15 @@ module _ (p : Places) (bits half place : ℕ) (are : AreFiled p (Folds bits half
   })
 
   module _ (new : Places) (near : ℕ) (e : Entry) (at : stands p place ≡ Some e) (free : stands p near ≡ None) (moves : Moves p new place near)
-      (size : half ≡ 8 * 2 ^ bits) (high : half ≤ place) (within : place < 2 * half) (bucket : near / 8 ≡ (place - half) / 8) where
+      (size : half ≡ 8 * 2 ^ bits) (within : place < 2 * half) (home : IsHome bits near e.pair) where
     pub folded_same : HaveSame p new
     folded_same = moved_same p new place near moves e at free
 
     pub folded_down : AreFiled new (Folds bits half (place + 1))
     folded_down = filed_moved p new place near moves e at free (Folds bits half place) (Folds bits half (place + 1)) are
         (record {
-          lower = λ low. folded_home bits place e.pair ((are.places place e at).upper high).1 (omega arith) near (omega arith);
-          upper = λ up. absurd (omega arith);
+          lower = λ low. home;
+          upper = λ up. absurd (omega (arith, size, up, home_within bits near e.pair home));
         })
         (λ n f other stood was. record {
           lower = was.lower;

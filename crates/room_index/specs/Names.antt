@@ -2,7 +2,7 @@
 use Rattle.std.specs.Prelude.{◌≡◌, ℕ, ◌<◌, ◌⊎◌, Bool, true, false, [], List, length, None, Some}
 use Rattle.radix_nodes.specs.declared.id.Id.{Id}
 use Rattle.room_index.specs.Places.{standing, IsHome, IsIn, IsTable}
-use Rattle.room_index.specs.Ranges.{Has, IsByRange}
+use Rattle.room_index.specs.Ranges.{AreTold, Has, IsByRange}
 use Rattle.room_index.specs.declared.entry.Entry.{Entry}
 use Rattle.room_index.specs.declared.index.Vacancy.{Vacancy}
 use Rattle.room_index.specs.declared.places.Places.{Places}
@@ -26,6 +26,7 @@ pub record IsIndex (p : Places) (r : Ranges) (given_up : Bool) : Type 0 where
   pub none : given_up ≡ true → p.tags.items ≡ []
   pub by_range : IsByRange r
   pub within : (e : Entry) → Has r e → IsIn p e
+  pub told : AreTold r p
 
 -- a place is kept for the room of a pair
 pub record IsKeptFor (h : Held) (pair : ℕ) (v : Vacancy) : Type 0 where

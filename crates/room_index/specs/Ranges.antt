@@ -1,15 +1,26 @@
--- Which entries there are by ranges of keys.
-use Rattle.std.specs.Prelude.{◌≡◌, ℕ, ◌-◌, ◌*◌, ◌/◌, ◌^◌, ◌≤◌, ◌==◌, if◌then◌else◌, get_or, length, Option, Some, None}
+-- What is known of ranges of keys.
+use Rattle.std.specs.Prelude.{◌≡◌, ℕ, ◌-◌, ◌*◌, ◌/◌, ◌%◌, ◌^◌, ◌<◌, ◌≤◌, ◌==◌, ◌⊎◌, if◌then◌else◌, true, false, slice_get, slice_index, length, Option, Some, None}
+use Rattle.std.specs.Global.{Vec}
+use Rattle.mask_table.specs.Agreeing.{masked}
+use Rattle.mask_table.specs.RankSets.{HasRank}
+use Rattle.room_index.specs.Homes.{pair}
+use Rattle.room_index.specs.Places.{IsIn}
 use Rattle.room_index.specs.declared.entry.Entry.{Entry}
+use Rattle.room_index.specs.declared.places.Places.{Places}
+use Rattle.room_index.specs.declared.ranges.Last.{Last}
 use Rattle.room_index.specs.declared.ranges.Ranges.{Ranges}
 
 -- the range of a pair among 2^bits, by the first bits of its key
 abbrev pub range_of : ℕ → ℕ → ℕ
 range_of bits pair = pair / 2 ^ (38 - bits)
 
--- the entry of a range
+-- ---- the entry of a range
+abbrev pub entry_of : Option Last → Option Entry
+entry_of None = None
+entry_of (Some l) = if l.is_there then Some l.entry else None
+
 abbrev pub last_in : Ranges → ℕ → Option Entry
-last_in r n = get_or r.last.items n None
+last_in r n = entry_of (slice_get r.last.items n)
 
 -- a range has this entry
 abbrev pub Has : Ranges → Entry → Type 0
@@ -27,6 +38,32 @@ pub record IsByRange (r : Ranges) : Type 0 where
 abbrev pub KeepsOthers : Ranges → Ranges → ℕ → Type 0
 KeepsOthers old new pair = (n : ℕ) → (n ≡ range_of old.bits pair → ⊥) → last_in new n ≡ last_in old n
 
--- twice as many ranges, or the first
-abbrev pub more_ranges : Ranges → ℕ
-more_ranges r = if length r.last.items == 0 then 16 else 2 * length r.last.items
+pub record HasSameLast (old new : Ranges) : Type 0 where
+  pub last : new.last.items ≡ old.last.items
+  pub bits : new.bits ≡ old.bits
+
+-- ---- the ranks of a range
+-- a rank is told of the range of an address, or beside all ranges; or there is no such range
+abbrev pub TellsRank : Ranges → ℕ → ℕ → Type 0
+TellsRank r address rank = (length r.ranks.items ≤ range_of r.bits (pair address 0)) ⊎ HasRank r.short rank
+    ⊎ HasRank (slice_index r.ranks.items (range_of r.bits (pair address 0))) rank
+
+-- the rank of a pair is told of each address that its network has
+abbrev pub IsTold : Ranges → ℕ → Type 0
+IsTold r of = of % 64 ≤ 33 → (address : ℕ) → address < 2 ^ 32 → masked (of % 64) address ≡ of / 64 → TellsRank r address (of % 64)
+
+-- that of each entry is
+abbrev pub AreTold : Ranges → Places → Type 0
+AreTold r p = (e : Entry) → IsIn p e → IsTold r e.pair
+
+-- what was told is told
+pub record TellsMore (old new : Ranges) : Type 0 where
+  pub bits : new.bits ≡ old.bits
+  pub many : length new.ranks.items ≡ length old.ranks.items
+  pub short : (rank : ℕ) → HasRank old.short rank → HasRank new.short rank
+  pub ranks : (n rank : ℕ) → HasRank (slice_index old.ranks.items n) rank → HasRank (slice_index new.ranks.items n) rank
+
+-- ---- how many there are
+-- twice as many, or the first
+abbrev pub more_ranges : {T : Type 0} → Vec T → ℕ
+more_ranges known = if length known.items == 0 then 8 else 2 * length known.items

@@ -5,7 +5,7 @@ use Rattle.room_index.specs.declared.places.Places.{Places}
 
 -- how many places more a larger table has
 abbrev pub more_places : Places → ℕ
-more_places p = if length p.tags.items == 0 then 128 else length p.tags.items
+more_places p = if length p.tags.items == 0 then 32 else length p.tags.items
 
 -- there is memory for these
 pub record IsReserved (p : Places) : Type 0 where

@@ -22,7 +22,7 @@ impl Places {
         ensures none { IfNone result (self.new.tags.items ≡ []) }
         ensures counter { visits.new.turn ≡ visits.old.turn }
     {
-        if self.tags.is_empty() {
+        if self.many() == 0 {
             return None;
         }
         let homes = Homes::of(pair, self.bits);
@@ -84,7 +84,6 @@ impl Places {
     {
         let begin = PLACES * bucket;
         for place in begin..begin + PLACES {
-            visits.tick();
             if self.clear(place, visits) {
                 return Some(place);
             }
@@ -102,14 +101,14 @@ impl Places {
         ensures free { result ≡ true → stands self.new place ≡ None }
         ensures counter { visits.new.turn ≡ visits.old.turn }
     {
-        let Some(entry) = self.at(place) else {
+        let Some(entry) = self.at(place, visits) else {
             return true;
         };
         let other = Homes::of(entry.pair, self.bits).beside(place / PLACES);
         let Some(free) = self.free_in(other, visits) else {
             return false;
         };
-        self.move_to(place, free);
+        self.move_to(place, free, visits);
         true
     }
 }

@@ -19,6 +19,14 @@ pub(crate) fn pair_of(key: Inet, rank: Rank) -> u64
     u64::from(key.number()) * 64 + u64::from(rank.number())
 }
 
+/// The rank of a pair.
+#[inline(always)]
+pub(crate) fn rank_of(pair: u64) -> Rank
+    ensures { pair % 64 ≤ 33 → result ≡ pair % 64 }
+{
+    Rank::new((pair % 64).min(33) as u8)
+}
+
 /// The two buckets in which a pair is at home, and the tag that its place has there, which isn't 0.
 #[derive(Clone, Copy)]
 pub(crate) struct Homes {

@@ -1,5 +1,7 @@
 //! The index.
-ghost use Rattle.std.specs.Prelude.{◌≡◌, ℕ, true, false, [], IfSome, MatchOption, is_err};
+ghost use Rattle.std.specs.Prelude.{◌≡◌, ℕ, ◌+◌, ◌≤◌, true, false, IfSome, MatchOption, is_err};
+ghost use Rattle.mask_table.specs.Agreeing.{masked};
+ghost use Rattle.mask_table.specs.RankSets.{HasRank};
 ghost use Rattle.memory.specs.Refusing.{Rises};
 ghost use Rattle.radix_nodes.specs.declared.id.Id.{Id as Room};
 ghost use Rattle.room_index.specs.Homes.{pair};
@@ -10,12 +12,15 @@ use crate::entry::Entry;
 use crate::homes::pair_of;
 use crate::places::Places;
 use crate::ranges::Ranges;
-use mask_table::Rank;
+use mask_table::{Rank, Ranks};
 use memory::Memory;
 use radix_nodes::{Id, Visits};
 use sock_addrs::Inet;
 use std::alloc::{AllocError, Global};
 use std::marker::Model;
+
+/// So few routes are found in few steps by a tree of them, all of which is at hand.
+const SMALL: usize = 16;
 
 /// The rooms of routes by their keys and ranks. A look-up takes the same few steps whatever the pairs are; where one finds no
 /// place, all are given up, and the index isn't whole until no route is left. Its memory follows the number of routes.
@@ -80,22 +85,37 @@ impl Index {
             (λ room. Names self.now (pair key rank) room) }
         ensures visits { Reads visits.old visits.new pair_looks }
     {
-        let place = self.places.find(pair_of(key, rank), visits)?;
-        Some(self.places.entries[place].room)
+        let (_place, entry) = self.places.find(pair_of(key, rank), visits)?;
+        Some(entry.room)
     }
 
-    /// The room of a route whose key begins as this one does, where one is at hand: mostly of the one that came last. It
-    /// counts as one visit.
+    /// The room of a route whose key begins as this one does, where one is at hand and few others do: mostly of the one that
+    /// came last. It counts as one visit.
     #[inline(always)]
     pub fn near(&self, key: Inet, visits: &mut Visits) -> Option<Id>
         ensures near { IfSome result (λ room. (k : ℕ) × Names self.now k room) }
-        ensures visit { Reads visits.old visits.new 1 }
+        ensures visit { visits.new ≡ record visits.old { count = visits.old.count + 1 } }
     {
-        visits.tick();
-        self.ranges.near(pair_of(key, Rank::new(0)))
+        self.ranges.near(pair_of(key, Rank::new(0)), visits)
     }
 
-    /// Asks for the memory that one route more may take: that of a table twice as large, where this one is dense.
+    /// The ranks of the routes whose networks have this address, and perhaps more. It counts as one visit.
+    #[inline(always)]
+    pub fn ranks(&self, address: Inet, visits: &mut Visits) -> Ranks
+        ensures ranks { (rank : ℕ) (room : Room) → rank ≤ 33 → Names self.now (pair (masked rank address) rank) room → HasRank result rank }
+        ensures visit { visits.new ≡ record visits.old { count = visits.old.count + 1 } }
+    {
+        self.ranges.ranks(address, visits)
+    }
+
+    /// Whether it is of so few routes that a tree of them takes few steps.
+    #[inline(always)]
+    pub fn is_small(&self) -> bool {
+        self.many <= SMALL
+    }
+
+    /// Asks for the memory that one route more may take: that of a table twice as large, where this one is dense. Where it is
+    /// refused none is kept.
     pub fn reserve(&mut self, memory: &mut Memory) -> Result<(), AllocError>
         ensures same { self.new ≡ self.old }
         ensures counted { Rises (is_err result) memory.old memory.new }
@@ -103,8 +123,26 @@ impl Index {
         if self.given_up || !self.places.is_dense(self.many) {
             return Ok(());
         }
-        self.ranges.reserve(memory)?;
-        self.places.reserve(memory)
+        match self.reserve_more(memory) {
+            Ok(()) => Ok(()),
+            Err(refused) => {
+                self.places.give_back();
+                self.ranges.give_back();
+                Err(refused)
+            }
+        }
+    }
+
+    /// Asks for that memory. The first places do without ranges.
+    fn reserve_more(&mut self, memory: &mut Memory) -> Result<(), AllocError>
+        ensures same { self.new ≡ self.old }
+        ensures counted { Rises (is_err result) memory.old memory.new }
+    {
+        self.places.reserve(memory)?;
+        if self.places.many() == 0 {
+            return Ok(());
+        }
+        self.ranges.reserve(memory)
     }
 
     /// A place for the room of a route that is to come. Where the index isn't whole there is none, and where there is none
@@ -154,10 +192,10 @@ impl Index {
     {
         // by what is known of the places each pair has one at most, on which `once` rests
         let _known = &self.places;
-        self.lose(pair_of(key, rank), visits);
-        if !rest {
-            self.given_up = false;
-            self.many = 0;
+        if rest {
+            self.lose(pair_of(key, rank), visits);
+        } else {
+            self.begin_anew();
         }
     }
 
@@ -166,7 +204,7 @@ impl Index {
         ensures lost { Loses self.old self.new pair }
         ensures counter { visits.new.turn ≡ visits.old.turn }
     {
-        self.ranges.lose(pair);
+        self.ranges.lose(pair, visits);
         let lost = self.places.take(pair, visits);
         self.many = self.many.saturating_sub(usize::from(lost));
         if !self.places.shrink(self.many, visits) {
@@ -175,5 +213,16 @@ impl Index {
             return;
         }
         self.ranges.follow(&self.places, visits);
+    }
+
+    /// Has no room of any pair, and no memory, and is whole.
+    fn begin_anew(&mut self)
+        ensures none { (k : ℕ) (room : Room) → Names self.new k room → ⊥ }
+        ensures whole { self.new.whole ≡ true }
+    {
+        self.places.give_up();
+        self.ranges.clear();
+        self.many = 0;
+        self.given_up = false;
     }
 }

@@ -1,22 +1,35 @@
-//! The table of places.
-ghost use Rattle.std.specs.Prelude.{◌≡◌, ℕ, ◌+◌, ◌*◌, ◌/◌, ◌<◌, ◌≤◌, [], length, slice_get, slice_index, IfSome, IfNone, MatchBool, Some, None};
+//! The table of places. What stands there is read by the calls of this file alone, each of which counts its looks.
+ghost use Rattle.std.specs.Prelude.{◌≡◌, ℕ, ◌+◌, ◌*◌, ◌/◌, ◌<◌, ◌≤◌, ◌==◌, if◌then◌else◌, [], length, slice_get, slice_index, vec_capacity};
+ghost use Rattle.std.specs.Prelude.{IfSome, IfNone, MatchBool, is_err, nat_le, OnOk, Some, None, ◌&&◌, ◌-◌};
+ghost use Rattle.memory.specs.Refusing.{Rises};
 ghost use Rattle.room_index.specs.Homes.{tag_of};
 ghost use Rattle.room_index.specs.Looks.{Reads, pair_looks};
-ghost use Rattle.room_index.specs.Places.{stands, Changes, HasSamePlaces, IsIn, IsTable, Loses, Moves, StandAsBefore};
+ghost use Rattle.room_index.specs.Places.{stands, Changes, HasPlaces, HasSamePlaces, IsIn, IsTable, Loses, Moves, StandAsBefore};
+ghost use Rattle.room_index.specs.Sizes.{IsReserved, more_places};
 ghost use Rattle.room_index.specs.declared.entry.Entry.{Entry as Filed};
 
 use crate::entry::Entry;
-use crate::homes::Homes;
+use crate::homes::{Homes, MOST_BITS};
 use crate::tags::{BOTH, PLACES, places_before, used_before};
+use memory::{Memory, give_back};
 use radix_nodes::Visits;
-use std::alloc::Global;
+use std::alloc::{AllocError, Global};
+
+/// How many places there are at first, those of four buckets.
+pub(crate) const FEWEST: usize = 32;
+
+/// How many entries and tags there is memory for beside those that are there: 48 bytes. With what the C library puts before it each
+/// block is then as long as whole lines of the cache, so that rooms which are made after it lie in their lines as those before.
+const ENTRIES_BESIDE: usize = 3;
+
+const TAGS_BESIDE: usize = 24;
 
 /// Places for entries, eight to each of 2^`bits` buckets, or none yet. Beside each entry, in a list of its own, stands its
 /// tag, or 0 where the place is free: so the tags of a bucket are read at once.
 #[derive(Drop)]
 pub(crate) struct Places {
-    pub(crate) tags: Vec<u16>,
-    pub(crate) entries: Vec<Entry>,
+    tags: Vec<u16>,
+    entries: Vec<Entry>,
     pub(crate) bits: u32,
 }
 
@@ -33,11 +46,27 @@ impl Places {
         }
     }
 
-    /// The place of a pair. It reads the tags of both its homes, and looks at each entry that has the pair's.
+    /// How many there are.
     #[inline(always)]
-    pub(crate) fn find(&self, pair: u64, visits: &mut Visits) -> Option<usize>
+    pub(crate) fn many(&self) -> usize
+        ensures { result ≡ length self.now.tags.items }
+    {
+        self.tags.len()
+    }
+
+    /// How many there is memory for.
+    #[cfg(test)]
+    pub(crate) fn capacity(&self) -> usize {
+        self.tags.capacity().max(self.entries.capacity())
+    }
+
+    // ---- what is read
+
+    /// The place of a pair, and its entry. It reads the tags of both its homes, and looks at each entry that has the pair's.
+    #[inline(always)]
+    pub(crate) fn find(&self, pair: u64, visits: &mut Visits) -> Option<(usize, Entry)>
         requires { IsTable self.now }
-        ensures some { IfSome result (λ n. (e : Filed) × (stands self.now n ≡ Some e) × (e.pair ≡ pair)) }
+        ensures some { IfSome result (λ f. (stands self.now f.0 ≡ Some f.1) × (f.1.pair ≡ pair)) }
         ensures none { IfNone result ((n : ℕ) (e : Filed) → stands self.now n ≡ Some e → e.pair ≡ pair → ⊥) }
         ensures visits { Reads visits.old visits.new pair_looks }
         ensures counted { 0 < length self.now.tags.items → visits.old.count + BOTH ≤ visits.new.count }
@@ -49,22 +78,40 @@ impl Places {
         let first = PLACES * homes.first;
         let second = PLACES * homes.second;
         for number in places_before(&self.tags, first, second, homes.tag, visits)..BOTH {
-            visits.tick();
             let place = homes.place(number);
-            if self.tags[place] == homes.tag && self.entries[place].pair == pair {
-                return Some(place);
+            match self.tagged(place, homes.tag, visits) {
+                Some(entry) if entry.pair == pair => return Some((place, entry)),
+                _ => {}
             }
         }
         None
     }
 
-    /// What stands in a place.
+    /// What stands in a place under this tag.
     #[inline(always)]
-    pub(crate) fn at(&self, place: usize) -> Option<Entry>
+    fn tagged(&self, place: usize, tag: u16, visits: &mut Visits) -> Option<Entry>
         requires tags { place < length self.now.tags.items }
         requires entries { length self.now.entries.items ≡ length self.now.tags.items }
-        ensures { result ≡ stands self.now place }
+        ensures entry { result ≡ (if slice_index self.now.tags.items place == tag then slice_get self.now.entries.items place else None) }
+        ensures look { visits.new ≡ record visits.old { count = visits.old.count + 1 } }
     {
+        visits.tick(); // the look under a tag
+        if self.tags[place] == tag {
+            Some(self.entries[place])
+        } else {
+            None
+        }
+    }
+
+    /// What stands in a place.
+    #[inline(always)]
+    pub(crate) fn at(&self, place: usize, visits: &mut Visits) -> Option<Entry>
+        requires tags { place < length self.now.tags.items }
+        requires entries { length self.now.entries.items ≡ length self.now.tags.items }
+        ensures entry { result ≡ stands self.now place }
+        ensures look { visits.new ≡ record visits.old { count = visits.old.count + 1 } }
+    {
+        visits.tick(); // the look at a place
         if self.tags[place] == 0 {
             None
         } else {
@@ -78,7 +125,7 @@ impl Places {
         requires { 8 * bucket + 8 ≤ length self.now.tags.items }
         ensures free { IfSome result (λ n. (n / 8 ≡ bucket) × (n < length self.now.tags.items) × (stands self.now n ≡ None)) }
         ensures full { IfNone result ((n : ℕ) → n / 8 ≡ bucket → slice_index self.now.tags.items n ≡ 0 → ⊥) }
-        ensures counter { visits.new.turn ≡ visits.old.turn }
+        ensures looks { visits.new ≡ record visits.old { count = visits.old.count + PLACES } }
     {
         let begin = PLACES * bucket;
         let used = used_before(&self.tags, begin, visits);
@@ -87,6 +134,8 @@ impl Places {
         }
         Some(begin + used)
     }
+
+    // ---- what changes
 
     /// Writes a pair into a free place ahead of its room. The place is free still.
     pub(crate) fn write_ahead(&mut self, place: usize, pair: u64)
@@ -110,7 +159,7 @@ impl Places {
     }
 
     /// Frees a place.
-    pub(crate) fn free(&mut self, place: usize)
+    fn free(&mut self, place: usize)
         requires { place < length self.old.tags.items }
         ensures { Changes self.old self.new place None }
     {
@@ -125,9 +174,9 @@ impl Places {
         ensures had { MatchBool result ((e : Filed) × IsIn self.old e × (e.pair ≡ pair))
             ((e : Filed) → IsIn self.old e → e.pair ≡ pair → ⊥) }
         ensures places { HasSamePlaces self.old self.new }
-        ensures counter { visits.new.turn ≡ visits.old.turn }
+        ensures visits { Reads visits.old visits.new pair_looks }
     {
-        let Some(place) = self.find(pair, visits) else {
+        let Some((place, _entry)) = self.find(pair, visits) else {
             return false;
         };
         self.free(place);
@@ -135,16 +184,113 @@ impl Places {
     }
 
     /// Moves what stands in a place to a free one, in which its pair may stand.
-    pub(crate) fn move_to(&mut self, from: usize, to: usize)
+    pub(crate) fn move_to(&mut self, from: usize, to: usize, visits: &mut Visits)
         requires from { from < length self.old.tags.items }
         requires to { (to < length self.old.tags.items) × (stands self.old to ≡ None) }
         requires size { length self.old.entries.items ≡ length self.old.tags.items }
         requires entry { (e : Filed) × (stands self.old from ≡ Some e) × (slice_index self.old.tags.items from ≡ tag_of e.pair) }
-        ensures { Moves self.old self.new from to }
+        ensures moved { Moves self.old self.new from to }
+        ensures look { visits.new ≡ record visits.old { count = visits.old.count + 1 } }
     {
+        visits.tick(); // the look at what moves
         let entry = self.entries[from];
         let tag = self.tags[from];
         self.free(from);
         self.put(to, tag, entry);
+    }
+
+    // ---- how many there are
+
+    /// How many places more a larger table has.
+    fn more(&self) -> usize
+        ensures { result ≡ more_places self.now }
+    {
+        if self.tags.is_empty() {
+            FEWEST
+        } else {
+            self.tags.len()
+        }
+    }
+
+    /// Asks for the memory that a larger table takes, where there can be one.
+    pub(crate) fn reserve(&mut self, memory: &mut Memory) -> Result<(), AllocError>
+        requires { length self.old.entries.items ≡ length self.old.tags.items }
+        ensures tags { self.new.tags.items ≡ self.old.tags.items }
+        ensures entries { self.new.entries.items ≡ self.old.entries.items }
+        ensures bits { self.new.bits ≡ self.old.bits }
+        ensures reserved { OnOk result (self.new.bits < MOST_BITS → IsReserved self.new) }
+        ensures counted { Rises (is_err result) memory.old memory.new }
+    {
+        if self.tags.is_empty() {
+            memory.reserve(&mut self.entries, FEWEST + ENTRIES_BESIDE)?;
+            memory.reserve(&mut self.tags, FEWEST + TAGS_BESIDE)?;
+        } else if self.bits < MOST_BITS {
+            memory.double(&mut self.entries, ENTRIES_BESIDE)?;
+            memory.double(&mut self.tags, TAGS_BESIDE)?;
+        }
+        Ok(())
+    }
+
+    /// Whether there is memory for a larger table.
+    pub(crate) fn is_reserved(&self) -> bool
+        ensures { result ≡ (nat_le (more_places self.now) (vec_capacity self.now.tags - length self.now.tags.items)
+            && nat_le (more_places self.now) (vec_capacity self.now.entries - length self.now.entries.items)) }
+    {
+        let more = self.more();
+        more <= self.tags.capacity() - self.tags.len()
+            && more <= self.entries.capacity() - self.entries.len()
+    }
+
+    /// Makes the lists of places so long, for which there is memory.
+    pub(crate) fn lengthen(&mut self, size: usize)
+        requires longer { length self.old.tags.items ≤ size }
+        requires even { length self.old.entries.items ≡ length self.old.tags.items }
+        requires tags { size ≤ vec_capacity self.old.tags }
+        requires entries { size ≤ vec_capacity self.old.entries }
+        ensures { HasPlaces self.old self.new size }
+    {
+        self.tags.resize(size, 0).unwrap();
+        self.entries.resize(size, Entry::ahead(0)).unwrap();
+    }
+
+    /// Makes the lists of places so short, of which none is used behind, and gives the memory back.
+    pub(crate) fn shorten(&mut self, size: usize)
+        requires shorter { size ≤ length self.old.tags.items }
+        requires even { length self.old.entries.items ≡ length self.old.tags.items }
+        requires free { (n : ℕ) → size ≤ n → stands self.old n ≡ None }
+        ensures places { HasPlaces self.old self.new size }
+        ensures tags { vec_capacity self.new.tags ≤ vec_capacity self.old.tags }
+        ensures entries { vec_capacity self.new.entries ≤ vec_capacity self.old.entries }
+    {
+        self.tags.truncate(size);
+        self.entries.truncate(size);
+        self.give_back();
+    }
+
+    /// Gives all places up, and their memory.
+    pub(crate) fn give_up(&mut self)
+        ensures table { IsTable self.new }
+        ensures none { self.new.tags.items ≡ [] }
+        ensures tags { vec_capacity self.new.tags ≡ 0 }
+        ensures entries { vec_capacity self.new.entries ≡ 0 }
+    {
+        self.tags.clear();
+        self.entries.clear();
+        self.bits = 0;
+        self.give_back();
+    }
+
+    /// Gives back the memory that the places don't need.
+    pub(crate) fn give_back(&mut self)
+        ensures tags { self.new.tags.items ≡ self.old.tags.items }
+        ensures entries { self.new.entries.items ≡ self.old.entries.items }
+        ensures bits { self.new.bits ≡ self.old.bits }
+        ensures less_tags { vec_capacity self.new.tags ≤ vec_capacity self.old.tags }
+        ensures less_entries { vec_capacity self.new.entries ≤ vec_capacity self.old.entries }
+        ensures no_tags { length self.old.tags.items ≡ 0 → vec_capacity self.new.tags ≡ 0 }
+        ensures no_entries { length self.old.entries.items ≡ 0 → vec_capacity self.new.entries ≡ 0 }
+    {
+        give_back(&mut self.tags, TAGS_BESIDE);
+        give_back(&mut self.entries, ENTRIES_BESIDE);
     }
 }

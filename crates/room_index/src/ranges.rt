@@ -1,28 +1,79 @@
-//! Of each range of keys a pair in it.
-ghost use Rattle.std.specs.Prelude.{◌≡◌, ◌/◌, ◌<◌, ◌≤◌, ◌⊎◌, is_err, length, option_map, vec_capacity, OnOk, Some};
+//! Of each range of keys a pair in it, and which ranks its pairs have.
+ghost use Rattle.std.specs.Prelude.{◌≡◌, ℕ, ◌+◌, ◌/◌, ◌<◌, ◌≤◌, ◌==◌, ◌&&◌, ◌⊎◌, not, false, is_err, length, slice_index, vec_capacity, IfSome, OnOk, Some};
+ghost use Rattle.mask_table.specs.RankSets.{HasRank};
 ghost use Rattle.memory.specs.Refusing.{Rises};
 ghost use Rattle.room_index.specs.Places.{IsIn, IsTable};
-ghost use Rattle.room_index.specs.Ranges.{last_in, more_ranges, range_of, Has, HasNone, IsByRange, KeepsOthers};
+ghost use Rattle.room_index.specs.Ranges.{last_in, more_ranges, range_of, AreTold, Has, HasNone, HasSameLast, IsByRange, IsTold, KeepsOthers, TellsMore, TellsRank};
 ghost use Rattle.room_index.specs.declared.entry.Entry.{Entry as Filed};
 
 use crate::entry::Entry;
-use crate::homes::{MOST_BITS, PAIR_BITS};
+use crate::homes::{MOST_BITS, PAIR_BITS, pair_of, rank_of};
 use crate::places::Places;
 use crate::tags::PLACES;
+use mask_table::{Rank, Ranks};
 use memory::{Memory, give_back};
 use radix_nodes::{Id, Visits};
+use sock_addrs::Inet;
 use std::alloc::{AllocError, Global};
 
 /// How many ranges there are at first.
-const FEWEST: usize = 16;
+const FEWEST: usize = 8;
 
-/// Entries of the table of places by the first `bits` bits of their keys, one for each of these ranges at most: that which
-/// came last, or any where none has come since their number changed. So a pair that is to come finds one whose key begins
-/// as its own does.
+/// How many there is memory for beside those that are there: 48 bytes, as of the places.
+const LAST_BESIDE: usize = 2;
+
+const RANKS_BESIDE: usize = 6;
+
+/// In a range with more pairs than so many, the way from one to the next is as long as that from the root.
+const CROWDED: u32 = 16;
+
+/// A network that has more ranges than 2^`WIDEST` is told beside them all.
+const WIDEST: u32 = 6;
+
+/// The pair that came last into a range, while it is there.
+#[derive(Clone, Copy)]
+pub(crate) struct Last {
+    entry: Entry,
+    is_there: bool,
+    /// How many pairs came into the range, less those that went.
+    many: u32,
+}
+
+/// What is known of the entries of the table of places by the first `bits` bits of their keys, of each of these ranges: the
+/// entry that came last, or any where none has come since their number changed, so that a pair that is to come finds one
+/// whose key begins as its own does; and the ranks of all that are there, or were, so that no other rank is asked for.
 #[derive(Drop)]
 pub(crate) struct Ranges {
-    pub(crate) last: Vec<Option<Entry>>,
-    pub(crate) bits: u32,
+    last: Vec<Last>,
+    ranks: Vec<Ranks>,
+    /// The ranks of networks that have many ranges.
+    short: Ranks,
+    bits: u32,
+}
+
+impl Last {
+    /// None.
+    fn none() -> Last
+        ensures { result.is_there ≡ false }
+    {
+        Last {
+            entry: Entry::ahead(0),
+            is_there: false,
+            many: 0,
+        }
+    }
+
+    /// Once a pair went.
+    fn without(self, pair: u64) -> Last
+        ensures there { result.is_there ≡ (self.is_there && not (self.entry.pair == pair)) }
+        ensures entry { result.entry ≡ self.entry }
+    {
+        Last {
+            entry: self.entry,
+            is_there: self.is_there && self.entry.pair != pair,
+            many: self.many.saturating_sub(1),
+        }
+    }
 }
 
 impl Ranges {
@@ -33,8 +84,23 @@ impl Ranges {
     {
         Ranges {
             last: Vec::new(alloc),
+            ranks: Vec::new(alloc),
+            short: Ranks::none(),
             bits: 0,
         }
+    }
+
+    /// How many there are.
+    pub(crate) fn many(&self) -> usize
+        ensures { result ≡ length self.now.last.items }
+    {
+        self.last.len()
+    }
+
+    /// How many there is memory for.
+    #[cfg(test)]
+    pub(crate) fn capacity(&self) -> usize {
+        self.last.capacity().max(self.ranks.capacity())
     }
 
     /// The range of a pair.
@@ -46,54 +112,128 @@ impl Ranges {
         (pair >> (PAIR_BITS - self.bits)) as usize
     }
 
-    /// The room of the pair that a pair's range has.
+    /// The room of the pair that a pair's range has, where that has few. It is one look.
     #[inline(always)]
-    pub(crate) fn near(&self, pair: u64) -> Option<Id>
+    pub(crate) fn near(&self, pair: u64, visits: &mut Visits) -> Option<Id>
         requires { IsByRange self.now }
-        ensures { result ≡ option_map (λ e. e.room) (last_in self.now (range_of self.now.bits pair)) }
+        ensures near { IfSome result (λ room. (e : Filed) × Has self.now e × (e.room ≡ room)) }
+        ensures look { visits.new ≡ record visits.old { count = visits.old.count + 1 } }
     {
+        visits.tick(); // the look at a range's pair
         let range = self.range(pair);
         if range >= self.last.len() {
             return None;
         }
-        match self.last[range] {
-            Some(entry) => Some(entry.room),
-            None => None,
+        let last = self.last[range];
+        if last.is_there && last.many <= CROWDED {
+            Some(last.entry.room)
+        } else {
+            None
         }
     }
 
-    /// Puts an entry in the place of that which its range has.
+    /// The ranks that pairs have whose networks have this address, and perhaps others. It is one look.
+    #[inline(always)]
+    pub(crate) fn ranks(&self, address: Inet, visits: &mut Visits) -> Ranks
+        requires { self.now.bits ≤ MOST_BITS }
+        ensures told { (rank : ℕ) → rank ≤ 33 → TellsRank self.now address rank → HasRank result rank }
+        ensures look { visits.new ≡ record visits.old { count = visits.old.count + 1 } }
+    {
+        visits.tick(); // the look at a range's ranks
+        let range = self.range(pair_of(address, Rank::new(0)));
+        if range >= self.ranks.len() {
+            return Ranks::all();
+        }
+        self.ranks[range].union(self.short)
+    }
+
+    /// An entry came.
     #[inline(always)]
     pub(crate) fn put(&mut self, entry: Entry)
         requires { IsByRange self.old }
         ensures ranges { IsByRange self.new }
-        ensures bits { self.new.bits ≡ self.old.bits }
+        ensures put { range_of self.old.bits entry.pair < length self.old.last.items
+            → last_in self.new (range_of self.old.bits entry.pair) ≡ Some entry }
+        ensures others { KeepsOthers self.old self.new entry.pair }
+        ensures only { (e : Filed) → Has self.new e → (e ≡ entry) ⊎ Has self.old e }
+        ensures told { IsTold self.new entry.pair }
+        ensures more { TellsMore self.old self.new }
+        ensures many { length self.new.last.items ≡ length self.old.last.items }
+    {
+        self.put_last(entry);
+        self.tell(entry.pair);
+    }
+
+    /// Puts an entry in the place of that which its range has.
+    #[inline(always)]
+    fn put_last(&mut self, entry: Entry)
+        requires { IsByRange self.old }
+        ensures ranges { IsByRange self.new }
         ensures put { range_of self.old.bits entry.pair < length self.old.last.items
             → last_in self.new (range_of self.old.bits entry.pair) ≡ Some entry }
         ensures others { KeepsOthers self.old self.new entry.pair }
         ensures only { (e : Filed) → Has self.new e → (e ≡ entry) ⊎ Has self.old e }
         ensures many { length self.new.last.items ≡ length self.old.last.items }
+        ensures ranks { self.new.ranks.items ≡ self.old.ranks.items }
+        ensures short { self.new.short ≡ self.old.short }
+        ensures bits { self.new.bits ≡ self.old.bits }
     {
         let range = self.range(entry.pair);
         if range < self.last.len() {
-            self.last[range] = Some(entry);
+            let many = self.last[range].many.saturating_add(1);
+            self.last[range] = Last {
+                entry,
+                is_there: true,
+                many,
+            };
         }
     }
 
-    /// Has no entry of a pair any more.
-    pub(crate) fn lose(&mut self, pair: u64)
+    /// Tells the rank of a pair in each range that its network has, or beside them all.
+    #[inline(always)]
+    fn tell(&mut self, pair: u64)
+        requires { self.old.bits ≤ MOST_BITS }
+        ensures told { IsTold self.new pair }
+        ensures more { TellsMore self.old self.new }
+        ensures last { HasSameLast self.old self.new }
+    {
+        let rank = rank_of(pair);
+        let spread = self.bits.saturating_sub(u32::from(rank.number()));
+        if spread > WIDEST {
+            self.short = self.short.with(rank);
+            return;
+        }
+        let first = self.range(pair);
+        self.tell_in(first, first + (1 << spread), rank);
+    }
+
+    /// Tells a rank in the ranges from one to another.
+    #[inline(always)]
+    fn tell_in(&mut self, from: usize, to: usize, rank: Rank)
+        ensures told { (n : ℕ) → from ≤ n → n < to → n < length self.new.ranks.items → HasRank (slice_index self.new.ranks.items n) rank }
+        ensures more { TellsMore self.old self.new }
+        ensures last { HasSameLast self.old self.new }
+    {
+        for range in from..to.min(self.ranks.len()) {
+            self.ranks[range] = self.ranks[range].with(rank);
+        }
+    }
+
+    /// Has no entry of a pair any more. It is one look.
+    pub(crate) fn lose(&mut self, pair: u64, visits: &mut Visits)
         requires { IsByRange self.old }
         ensures ranges { IsByRange self.new }
         ensures fewer { (e : Filed) → Has self.new e → Has self.old e × (e.pair ≡ pair → ⊥) }
         ensures others { KeepsOthers self.old self.new pair }
+        ensures ranks { self.new.ranks.items ≡ self.old.ranks.items }
+        ensures short { self.new.short ≡ self.old.short }
+        ensures bits { self.new.bits ≡ self.old.bits }
+        ensures look { visits.new ≡ record visits.old { count = visits.old.count + 1 } }
     {
+        visits.tick(); // the look at what goes
         let range = self.range(pair);
-        if range >= self.last.len() {
-            return;
-        }
-        match self.last[range] {
-            Some(entry) if entry.pair == pair => self.last[range] = None,
-            _ => {}
+        if range < self.last.len() {
+            self.last[range] = self.last[range].without(pair);
         }
     }
 
@@ -101,61 +241,85 @@ impl Ranges {
     pub(crate) fn clear(&mut self)
         ensures ranges { IsByRange self.new }
         ensures none { HasNone self.new }
+        ensures last { vec_capacity self.new.last ≡ 0 }
+        ensures ranks { vec_capacity self.new.ranks ≡ 0 }
     {
         self.last.clear();
+        self.ranks.clear();
+        self.short = Ranks::none();
         self.bits = 0;
-        give_back(&mut self.last);
+        self.give_back();
+    }
+
+    /// Gives back the memory that the ranges don't need.
+    pub(crate) fn give_back(&mut self)
+        ensures last { self.new.last.items ≡ self.old.last.items }
+        ensures ranks { self.new.ranks.items ≡ self.old.ranks.items }
+        ensures short { self.new.short ≡ self.old.short }
+        ensures bits { self.new.bits ≡ self.old.bits }
+        ensures no_last { length self.old.last.items ≡ 0 → vec_capacity self.new.last ≡ 0 }
+        ensures no_ranks { length self.old.ranks.items ≡ 0 → vec_capacity self.new.ranks ≡ 0 }
+    {
+        give_back(&mut self.last, LAST_BESIDE);
+        give_back(&mut self.ranks, RANKS_BESIDE);
     }
 
     /// Asks for the memory of twice as many ranges, where there can be as many.
     pub(crate) fn reserve(&mut self, memory: &mut Memory) -> Result<(), AllocError>
         ensures last { self.new.last.items ≡ self.old.last.items }
+        ensures ranks { self.new.ranks.items ≡ self.old.ranks.items }
+        ensures short { self.new.short ≡ self.old.short }
         ensures bits { self.new.bits ≡ self.old.bits }
-        ensures room { OnOk result (self.new.bits < MOST_BITS → more_ranges self.new ≤ vec_capacity self.new.last) }
+        ensures room { OnOk result (self.new.bits < MOST_BITS → more_ranges self.new.last ≤ vec_capacity self.new.last) }
+        ensures ranks_room { OnOk result (self.new.bits < MOST_BITS → more_ranges self.new.ranks ≤ vec_capacity self.new.ranks) }
         ensures counted { Rises (is_err result) memory.old memory.new }
     {
-        if self.last.is_empty() {
-            memory.reserve(&mut self.last, FEWEST)
-        } else if self.bits < MOST_BITS {
-            memory.double(&mut self.last)
-        } else {
-            Ok(())
+        if self.bits < MOST_BITS {
+            ask_for_more(&mut self.last, LAST_BESIDE, memory)?;
+            ask_for_more(&mut self.ranks, RANKS_BESIDE, memory)?;
         }
+        Ok(())
     }
 
-    /// Has as many ranges as the table of places has buckets, where there is memory for them, and of each an entry of the
-    /// table, if that has one.
+    /// Has as many ranges as the table of places has buckets, where there is memory for them, and knows of each what the
+    /// table has.
     #[inline(always)]
     pub(crate) fn follow(&mut self, places: &Places, visits: &mut Visits)
         requires table { IsTable places.now }
         requires ranges { IsByRange self.old }
         requires within { (e : Filed) → Has self.old e → IsIn places.now e }
+        requires told { AreTold self.old places.now }
         ensures ranges { IsByRange self.new }
         ensures within { (e : Filed) → Has self.new e → IsIn places.now e }
+        ensures told { AreTold self.new places.now }
         ensures many { length places.now.tags.items / PLACES ≤ vec_capacity self.old.last
+            → length places.now.tags.items / PLACES ≤ vec_capacity self.old.ranks
             → length self.new.last.items ≡ length places.now.tags.items / PLACES }
         ensures counter { visits.new.turn ≡ visits.old.turn }
     {
-        let many = places.tags.len() / PLACES;
-        if many != self.last.len() && many <= self.last.capacity() {
+        let many = places.many() / PLACES;
+        if many != self.last.len()
+            && many <= self.last.capacity()
+            && many <= self.ranks.capacity()
+        {
             self.renew(many, places, visits);
         }
     }
 
-    /// Has so many ranges, for which there is memory, and of each the last of the table's entries, by their places.
+    /// Has so many ranges, for which there is memory, and of each what the table has, of entries the last by their places.
     fn renew(&mut self, many: usize, places: &Places, visits: &mut Visits)
         requires table { IsTable places.now }
-        requires room { many ≤ vec_capacity self.old.last }
+        requires last { many ≤ vec_capacity self.old.last }
+        requires ranks { many ≤ vec_capacity self.old.ranks }
         ensures ranges { IsByRange self.new }
         ensures within { (e : Filed) → Has self.new e → IsIn places.now e }
+        ensures told { AreTold self.new places.now }
         ensures many { length self.new.last.items ≡ many }
-        ensures bits { self.new.bits ≡ places.now.bits }
         ensures counter { visits.new.turn ≡ visits.old.turn }
     {
         self.begin(many, places.bits);
-        for place in 0..places.tags.len() {
-            visits.tick();
-            if let Some(entry) = places.at(place) {
+        for place in 0..places.many() {
+            if let Some(entry) = places.at(place, visits) {
                 self.put(entry);
             }
         }
@@ -164,15 +328,32 @@ impl Ranges {
     /// So many ranges, which have no entry.
     fn begin(&mut self, many: usize, bits: u32)
         requires bits { bits ≤ MOST_BITS }
-        requires room { many ≤ vec_capacity self.old.last }
+        requires last { many ≤ vec_capacity self.old.last }
+        requires ranks { many ≤ vec_capacity self.old.ranks }
         ensures ranges { IsByRange self.new }
         ensures none { HasNone self.new }
         ensures many { length self.new.last.items ≡ many }
-        ensures bits { self.new.bits ≡ bits }
     {
         self.last.clear();
-        self.last.resize(many, None).unwrap();
+        self.last.resize(many, Last::none()).unwrap();
+        self.ranks.clear();
+        self.ranks.resize(many, Ranks::none()).unwrap();
+        self.short = Ranks::none();
         self.bits = bits;
-        give_back(&mut self.last);
+        self.give_back();
+    }
+}
+
+/// Asks for the memory of twice as many, or of the first, and of some beside.
+fn ask_for_more<T>(known: &mut Vec<T>, beside: usize, memory: &mut Memory) -> Result<(), AllocError>
+    requires { beside ≤ 6 }
+    ensures items { known.new.items ≡ known.old.items }
+    ensures room { OnOk result (more_ranges known.new ≤ vec_capacity known.new) }
+    ensures counted { Rises (is_err result) memory.old memory.new }
+{
+    if known.is_empty() {
+        memory.reserve(known, FEWEST + beside)
+    } else {
+        memory.double(known, beside)
     }
 }

@@ -1,22 +1,15 @@
 //! How the table of places becomes larger and smaller.
-ghost use Rattle.std.specs.Prelude.{◌≡◌, ℕ, ◌+◌, ◌-◌, ◌*◌, ◌/◌, ◌^◌, ◌<◌, ◌≤◌, ◌⊎◌, ◌&&◌, [], true, false, None, is_err, OnOk, length, nat_le, nat_lt, vec_capacity};
-ghost use Rattle.memory.specs.Refusing.{Rises};
-ghost use Rattle.room_index.specs.Places.{stands, AreFiled, HasPlaces, HasSamePlaces, HaveSame, IsTable};
+ghost use Rattle.std.specs.Prelude.{◌≡◌, ◌+◌, ◌*◌, ◌/◌, ◌^◌, ◌<◌, ◌≤◌, ◌⊎◌, ◌&&◌, [], true, false, None, IfSome, length, nat_le, nat_lt};
+ghost use Rattle.room_index.specs.Places.{stands, AreFiled, HasSamePlaces, HaveSame, IsHome, IsTable};
 ghost use Rattle.room_index.specs.Sizes.{Folds, IsReserved, Parts, more_places};
 
-use crate::entry::Entry;
 use crate::homes::{Homes, MOST_BITS};
-use crate::places::Places;
+use crate::places::{FEWEST, Places};
 use crate::tags::{BOTH, PLACES};
-use memory::{Memory, give_back};
 use radix_nodes::Visits;
-use std::alloc::AllocError;
 
 /// How many bits the numbers of the first buckets have.
-const FEWEST_BITS: u32 = 4;
-
-/// How many places these have.
-const FEWEST: usize = 128;
+const FEWEST_BITS: u32 = 2;
 
 /// So many entries for each bucket make a table dense. Then nearly all buckets have a free place, and an entry of one that
 /// has none mostly finds one in its other home.
@@ -27,44 +20,14 @@ impl Places {
     pub(crate) fn is_dense(&self, many: usize) -> bool
         ensures { result ≡ nat_le (length self.now.tags.items / PLACES) (many / DENSE) }
     {
-        self.tags.len() / PLACES <= many / DENSE
+        self.many() / PLACES <= many / DENSE
     }
 
     /// Whether so many are few: not one for two buckets. Then hardly ever do two that become one have more than its places.
     pub(crate) fn is_sparse(&self, many: usize) -> bool
         ensures { result ≡ (nat_lt FEWEST_BITS self.now.bits && nat_lt many (length self.now.tags.items / BOTH)) }
     {
-        self.bits > FEWEST_BITS && many < self.tags.len() / BOTH
-    }
-
-    /// How many places more a larger table has.
-    fn more(&self) -> usize
-        ensures { result ≡ more_places self.now }
-    {
-        if self.tags.is_empty() {
-            FEWEST
-        } else {
-            self.tags.len()
-        }
-    }
-
-    /// Asks for the memory that a larger table takes, where there can be one.
-    pub(crate) fn reserve(&mut self, memory: &mut Memory) -> Result<(), AllocError>
-        requires { length self.old.entries.items ≡ length self.old.tags.items }
-        ensures tags { self.new.tags.items ≡ self.old.tags.items }
-        ensures entries { self.new.entries.items ≡ self.old.entries.items }
-        ensures bits { self.new.bits ≡ self.old.bits }
-        ensures reserved { OnOk result (self.new.bits < MOST_BITS → IsReserved self.new) }
-        ensures counted { Rises (is_err result) memory.old memory.new }
-    {
-        if self.tags.is_empty() {
-            memory.reserve(&mut self.tags, FEWEST)?;
-            memory.reserve(&mut self.entries, FEWEST)?;
-        } else if self.bits < MOST_BITS {
-            memory.double(&mut self.tags)?;
-            memory.double(&mut self.entries)?;
-        }
-        Ok(())
+        self.bits > FEWEST_BITS && many < self.many() / BOTH
     }
 
     /// Makes the table larger, where so many entries are many for it, and the memory of a larger one was asked for. The new
@@ -77,16 +40,10 @@ impl Places {
             → self.old.bits < MOST_BITS → length self.new.tags.items ≡ length self.old.tags.items + more_places self.old }
         ensures counter { visits.new.turn ≡ visits.old.turn }
     {
-        if !self.is_dense(many) {
+        if !self.is_dense(many) || self.bits == MOST_BITS || !self.is_reserved() {
             return;
         }
-        let more = self.more();
-        let has_room = more <= self.tags.capacity() - self.tags.len()
-            && more <= self.entries.capacity() - self.entries.len();
-        if self.bits == MOST_BITS || !has_room {
-            return;
-        }
-        if self.tags.is_empty() {
+        if self.many() == 0 {
             self.begin();
         } else {
             self.double(visits);
@@ -100,22 +57,10 @@ impl Places {
         requires reserved { IsReserved self.old }
         ensures table { IsTable self.new }
         ensures same { HaveSame self.old self.new }
-        ensures larger { length self.new.tags.items ≡ 128 }
+        ensures larger { length self.new.tags.items ≡ FEWEST }
     {
         self.lengthen(FEWEST);
         self.bits = FEWEST_BITS;
-    }
-
-    /// Makes the lists of places so long, for which there is memory.
-    fn lengthen(&mut self, size: usize)
-        requires longer { length self.old.tags.items ≤ size }
-        requires even { length self.old.entries.items ≡ length self.old.tags.items }
-        requires tags { size ≤ vec_capacity self.old.tags }
-        requires entries { size ≤ vec_capacity self.old.entries }
-        ensures { HasPlaces self.old self.new size }
-    {
-        self.tags.resize(size, 0).unwrap();
-        self.entries.resize(size, Entry::ahead(0)).unwrap();
     }
 
     /// Makes as many places more: each entry stays, or moves on by so many.
@@ -129,17 +74,16 @@ impl Places {
         ensures larger { length self.new.tags.items ≡ 2 * length self.old.tags.items }
         ensures counter { visits.new.turn ≡ visits.old.turn }
     {
-        let many = self.tags.len();
+        let many = self.many();
         self.lengthen(2 * many);
         for place in 0..many {
-            visits.tick();
-            self.part(place, many);
+            self.part(place, many, visits);
         }
         self.bits += 1;
     }
 
     /// Moves the entry of a place on by so many places, where it isn't at home there among twice as many buckets.
-    fn part(&mut self, place: usize, many: usize)
+    fn part(&mut self, place: usize, many: usize, visits: &mut Visits)
         requires many { many ≡ 8 * 2 ^ self.old.bits }
         requires size { length self.old.tags.items ≡ 2 * many }
         requires even { length self.old.entries.items ≡ length self.old.tags.items }
@@ -149,12 +93,13 @@ impl Places {
         ensures filed { AreFiled self.new (Parts self.old.bits many (place + 1)) }
         ensures same { HaveSame self.old self.new }
         ensures places { HasSamePlaces self.old self.new }
+        ensures counter { visits.new.turn ≡ visits.old.turn }
     {
-        let Some(entry) = self.at(place) else {
+        let Some(entry) = self.at(place, visits) else {
             return;
         };
         if !Homes::of(entry.pair, self.bits + 1).has(place / PLACES) {
-            self.move_to(place, place + many);
+            self.move_to(place, place + many, visits);
         }
     }
 
@@ -178,7 +123,7 @@ impl Places {
     }
 
     /// Makes the table half as large. `false` where an entry of the upper half finds no place in the lower one.
-    pub(crate) fn halve(&mut self, visits: &mut Visits) -> bool
+    fn halve(&mut self, visits: &mut Visits) -> bool
         requires table { IsTable self.old }
         requires some { 0 < length self.old.tags.items }
         requires many { 0 < self.old.bits }
@@ -188,9 +133,8 @@ impl Places {
         ensures counter { visits.new.turn ≡ visits.old.turn }
     {
         self.bits -= 1;
-        let half = self.tags.len() / 2;
+        let half = self.many() / 2;
         for place in half..2 * half {
-            visits.tick();
             if !self.fold(place, half, visits) {
                 return false;
             }
@@ -199,34 +143,10 @@ impl Places {
         true
     }
 
-    /// Makes the lists of places so short, of which none is used behind, and gives the memory back.
-    fn shorten(&mut self, size: usize)
-        requires shorter { size ≤ length self.old.tags.items }
-        requires even { length self.old.entries.items ≡ length self.old.tags.items }
-        requires free { (n : ℕ) → size ≤ n → stands self.old n ≡ None }
-        ensures { HasPlaces self.old self.new size }
-    {
-        self.tags.truncate(size);
-        self.entries.truncate(size);
-        give_back(&mut self.tags);
-        give_back(&mut self.entries);
-    }
-
-    /// Gives all places up.
-    pub(crate) fn give_up(&mut self)
-        ensures table { IsTable self.new }
-        ensures none { self.new.tags.items ≡ [] }
-    {
-        self.tags.clear();
-        self.entries.clear();
-        self.bits = 0;
-        give_back(&mut self.tags);
-        give_back(&mut self.entries);
-    }
-
     /// Moves the entry of a place of the upper half to the lower one. `false` where there is no place for it.
     fn fold(&mut self, place: usize, half: usize, visits: &mut Visits) -> bool
         requires half { half ≡ 8 * 2 ^ self.old.bits }
+        requires bits { self.old.bits ≤ MOST_BITS }
         requires size { length self.old.tags.items ≡ 2 * half }
         requires even { length self.old.entries.items ≡ length self.old.tags.items }
         requires upper { half ≤ place }
@@ -237,13 +157,28 @@ impl Places {
         ensures places { HasSamePlaces self.old self.new }
         ensures counter { visits.new.turn ≡ visits.old.turn }
     {
-        let Some(_entry) = self.at(place) else {
+        let Some(entry) = self.at(place, visits) else {
             return true;
         };
-        let Some(free) = self.free_in((place - half) / PLACES, visits) else {
+        let Some(free) = self.free_below(entry.pair, (place - half) / PLACES, visits) else {
             return false;
         };
-        self.move_to(place, free);
+        self.move_to(place, free, visits);
         true
+    }
+
+    /// A free place in this home of a pair, or in the one beside it.
+    fn free_below(&self, pair: u64, home: usize, visits: &mut Visits) -> Option<usize>
+        requires bits { self.now.bits ≤ MOST_BITS }
+        requires size { 8 * 2 ^ self.now.bits ≤ length self.now.tags.items }
+        requires home { IsHome self.now.bits (8 * home) pair }
+        ensures free { IfSome result (λ n. (n < length self.now.tags.items) × (stands self.now n ≡ None)) }
+        ensures home { IfSome result (λ n. IsHome self.now.bits n pair) }
+        ensures counter { visits.new.turn ≡ visits.old.turn }
+    {
+        match self.free_in(home, visits) {
+            Some(free) => Some(free),
+            None => self.free_in(Homes::of(pair, self.bits).beside(home), visits),
+        }
     }
 }

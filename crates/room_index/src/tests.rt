@@ -4,7 +4,7 @@ ghost use Rattle.std.specs.Prelude.{◌<◌, ◌≤◌, ◌^◌, IfOk};
 
 use crate::Index;
 use crate::homes::{Homes, pair_of};
-use mask_table::Rank;
+use mask_table::{Rank, Ranks};
 use memory::Memory;
 use radix_nodes::{Id, Nodes, Visits};
 use sock_addrs::Inet;
@@ -38,7 +38,7 @@ impl Trial {
         Ok(())
     }
 
-    /// Enters so many networks, by their numbers from this one on, that are at home in these of 16 buckets. Gives the number
+    /// Enters so many networks, by their numbers from this one on, that are at home in these of four buckets. Gives the number
     /// of the last.
     fn enter_at_home(
         &mut self,
@@ -51,7 +51,7 @@ impl Trial {
     {
         let mut left = many;
         for number in from..100_000 {
-            let homes = Homes::of(pair_of(Inet::new(number * 256), Rank::new(24)), 4);
+            let homes = Homes::of(pair_of(Inet::new(number * 256), Rank::new(24)), 2);
             if homes.first == first && homes.second == second {
                 self.enter(number)?;
                 left = left.saturating_sub(1);
@@ -88,13 +88,9 @@ impl Trial {
             .is_some()
     }
 
-    /// How many places there are, or is memory for.
+    /// How many places there is memory for, with those beside.
     fn places(&self) -> usize {
-        self.index
-            .places
-            .tags
-            .capacity()
-            .max(self.index.places.entries.capacity())
+        self.index.places.capacity()
     }
 }
 
@@ -139,12 +135,12 @@ fn table_follows_its_pairs(rt: HostRuntime) -> Result<(), Fail> {
         for number in 0..50_000 {
             trial.enter(number)?;
         }
-        assert_eq!(rt; trial.places(), 131_072, "in round {round}");
+        assert_eq!(rt; trial.places(), 131_072 + 24, "in round {round}");
         for number in 100..50_000 {
             trial.strike(number, true);
         }
         assert!(rt;
-            trial.places() <= 1_024,
+            trial.places() <= 1_024 + 24,
             "in round {round}: {}",
             trial.places()
         );
@@ -155,26 +151,58 @@ fn table_follows_its_pairs(rt: HostRuntime) -> Result<(), Fail> {
     Ok(())
 }
 
+/// The number of another network for each, which lie evenly over all addresses (multiples of the golden ratio).
+fn scattered(number: u32) -> u32
+    ensures { result < 2 ^ 24 }
+{
+    number.wrapping_mul(10_368_889) % (1 << 24)
+}
+
 #[test]
 fn a_pair_is_near_until_it_is_struck(rt: HostRuntime) -> Result<(), Fail> {
     let mut nodes = Nodes::new(rt.alloc());
     let mut trial = make_trial(&rt, &mut nodes)?;
     assert!(rt; !trial.is_near(0));
-    for number in 0..5_000u32 {
-        trial.enter(number * 3_000)?;
-        assert!(rt; trial.is_near(number * 3_000), "{number}");
-    }
-    for number in 0..5_000u32 {
-        assert!(rt; trial.is_near(number * 3_000), "{number}");
+    for number in 0..5_000 {
+        trial.enter(scattered(number))?;
+        // the first places do without ranges
+        assert_eq!(rt; trial.is_near(scattered(number)), number >= 20, "{number}");
     }
     // as many ranges as buckets, which follow the number of pairs
-    assert_eq!(rt; trial.index.ranges.last.len(), 1_024);
-    for number in 1..5_000u32 {
-        trial.strike(number * 3_000, true);
+    assert_eq!(rt; trial.index.ranges.many(), 1_024);
+    for number in 1..5_000 {
+        trial.strike(scattered(number), true);
     }
-    assert!(rt; trial.is_near(0));
-    assert!(rt; !trial.is_near(4_999 * 3_000));
-    assert!(rt; trial.index.ranges.last.capacity() <= 32);
+    assert!(rt; trial.is_near(scattered(0)));
+    assert!(rt; !trial.is_near(scattered(4_999)));
+    assert!(rt; trial.index.ranges.capacity() <= 16);
+    Ok(())
+}
+
+#[test]
+fn a_crowded_range_has_none_near(rt: HostRuntime) -> Result<(), Fail> {
+    let mut nodes = Nodes::new(rt.alloc());
+    let mut trial = make_trial(&rt, &mut nodes)?;
+    for number in 0..1_000 {
+        trial.enter(number)?;
+    }
+    assert!(rt; !trial.is_near(999));
+    Ok(())
+}
+
+#[test]
+fn ranks_are_told_where_networks_are(rt: HostRuntime) -> Result<(), Fail> {
+    let mut nodes = Nodes::new(rt.alloc());
+    let mut trial = make_trial(&rt, &mut nodes)?;
+    for number in 0..100 {
+        trial.enter(number)?;
+    }
+    let near = trial.index.ranks(Inet::new(0), &mut trial.visits);
+    assert_eq!(rt; near, Ranks::none().with(Rank::new(24)));
+    let far = trial
+        .index
+        .ranks(Inet::new(200 * 65_536 * 256), &mut trial.visits);
+    assert_eq!(rt; far, Ranks::none());
     Ok(())
 }
 
@@ -182,18 +210,18 @@ fn a_pair_is_near_until_it_is_struck(rt: HostRuntime) -> Result<(), Fail> {
 fn an_entry_makes_way(rt: HostRuntime) -> Result<(), Fail> {
     let mut nodes = Nodes::new(rt.alloc());
     let mut trial = make_trial(&rt, &mut nodes)?;
-    let struck = trial.enter_at_home(5, 5, 0, 1)?;
-    trial.enter_at_home(5, 5, struck + 1, 7)?;
-    let moved = trial.enter_at_home(3, 5, 0, 1)?;
-    let before = trial.enter_at_home(3, 3, 0, 7)?;
+    let struck = trial.enter_at_home(1, 1, 0, 1)?;
+    trial.enter_at_home(1, 1, struck + 1, 7)?;
+    let moved = trial.enter_at_home(2, 1, 0, 1)?;
+    let before = trial.enter_at_home(2, 2, 0, 7)?;
     trial.strike(struck, true);
-    let last = trial.enter_at_home(3, 3, before + 1, 1)?;
+    let last = trial.enter_at_home(2, 2, before + 1, 1)?;
     assert!(rt; trial.index.is_whole());
     for number in [moved, before, last] {
         assert!(rt; trial.has(number), "{number}");
     }
     assert!(rt; !trial.has(struck));
-    trial.enter_at_home(3, 3, last + 1, 1)?;
+    trial.enter_at_home(2, 2, last + 1, 1)?;
     assert!(rt; !trial.index.is_whole());
     Ok(())
 }
@@ -204,7 +232,7 @@ fn pairs_of_one_bucket_are_given_up(rt: HostRuntime) -> Result<(), Fail> {
     let mut trial = make_trial(&rt, &mut nodes)?;
     let mut many = 0u32;
     for number in 0..10_000 {
-        let homes = Homes::of(pair_of(Inet::new(number * 256), Rank::new(24)), 4);
+        let homes = Homes::of(pair_of(Inet::new(number * 256), Rank::new(24)), 2);
         if homes.first == 3 && homes.second == 3 {
             trial.enter(number)?;
             many = many.saturating_add(1);

@@ -1,12 +1,9 @@
-use Rattle.std.proofs.Common.{◌≡◌, ◌/◌, ◌^◌, drop, filter}
+use Rattle.std.proofs.Common.{◌≡◌, drop, filter}
 use Rattle.if_addrs.specs.Interfaces.{addresses_of}
 use Rattle.if_addrs.specs.Searches.{longest}
 use Rattle.if_addrs.specs.Wanted.{is_wanted, better}
-use Rattle.if_addrs.specs.declared.address.Wanted.TheVariants.{Near}
 use Rattle.if_addrs.proofs.interface.longest.Given as goal
 
 abbrev pub invariant-loop-interface : goal.invariant-loop-interface
-invariant-loop-interface l = record {
-  bits : l.bits ≡ l.leading / 2 ^ l.interface-index;
-  found : better l.best (longest (filter (is_wanted (Near l.sought)) (addresses_of (drop l.interface-index l.interfaces)))) ≡ longest (filter (is_wanted (Near l.sought)) (addresses_of l.interfaces));
-}
+invariant-loop-interface l =
+    better l.best (longest (filter (is_wanted l.wanted) (addresses_of (drop l.interface-index l.interfaces)))) ≡ longest (filter (is_wanted l.wanted) (addresses_of l.interfaces))

@@ -1,4 +1,5 @@
-use Rattle.radix_tree.proofs.Words.{◌≤◌, ◌*◌, ◌-◌, None, Best, In, IsWhole}
+use Rattle.radix_tree.proofs.Words.{◌≤◌, ◌*◌, ◌+◌, ◌-◌, IsWhole}
+use Rattle.radix_tree.proofs.Indexed.{AreLeft}
 use Rattle.radix_tree.specs.Reads.{Reads}
 use Rattle.room_index.specs.Looks.{pair_looks}
 use Rattle.radix_tree.proofs.finding.best_by_rank.Given as goal
@@ -6,8 +7,8 @@ use Rattle.radix_tree.proofs.finding.best_by_rank.Given as goal
 abbrev pub invariant-loop-rank : goal.invariant-loop-rank
 invariant-loop-rank g l = record {
   within : l.left ≤ 34;
-  rest : (w : IsWhole l.fn.nodes.lodged l.fn.root) → Best l.fn.address l.left 34 (In w.part) None;
-  reads : Reads l.fn.visits l.visits ((34 - l.left) * pair_looks);
+  are : (w : IsWhole l.fn.nodes.lodged l.fn.root) → AreLeft w l.fn.address l.left l.ranks;
+  reads : Reads l.fn.visits l.visits ((34 - l.left) * (pair_looks + 1));
 }
 
 abbrev pub decreases-loop-rank : goal.decreases-loop-rank

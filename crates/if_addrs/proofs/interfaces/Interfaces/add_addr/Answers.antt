@@ -1,16 +1,11 @@
 use Rattle.std.proofs.Common.{◌≡◌, ◌<◌, ◌∙◌, ◌+◌, arith, length, refl, rules, sym, ap, true, ℕ, List, [], ◌∷◌, ◌++◌, Some, slice_set}
-use Rattle.std.specs.Prelude.{slice_get}
 use Rattle.std.specs.List.{find, position, list_any}
-use Rattle.std.proofs.lemmas.List.{length-set}
-use Rattle.std.proofs.lemmas.Option.{slice_get-get_or}
-use Rattle.if_addrs.specs.Directory.{IsOfAll}
 use Rattle.if_addrs.specs.Interfaces.{Interface, addresses_of, has_name, has_number, kind_of, with_address, new_address, added}
 use Rattle.if_addrs.proofs.Adding.{is_named, added_is, there_is, stays_is}
-use Rattle.if_addrs.proofs.Directing.{all_still, of_all_changed, of_all_still, one_more}
 use Rattle.if_addrs.proofs.Homes.{added_at_home, few_at}
 use Rattle.if_addrs.proofs.Keeping.{Stays, has_place, keeps_by, same_by}
 use Rattle.if_addrs.proofs.interfaces.Interfaces.add_addr.Goals as goal
-use Rattle.if_addrs.proofs.interfaces.Interfaces.add_addr.Goals.{After-index_mut-interface, After-unwrap, In_ok-add}
+use Rattle.if_addrs.proofs.interfaces.Interfaces.add_addr.Goals.{After-unwrap, In_ok-add}
 
 pub unwrap-at-requires : goal.unwrap-at-requires
 unwrap-at-requires c =
@@ -32,22 +27,15 @@ changed : (c : In_ok-add) → slice_set c.self.inside.interfaces.items c.unwrap-
 changed c =
     let items = c.self.inside.interfaces.items in
     added_is (length c.self.inside.homes.items) items c.args.name c.args.address c.args.prefix c.args.cloning c.args.far c.unwrap-at.result c.kind.result c.add.new.self c.index_mut-interface.result.now c.index_mut-interface.result.now c.new-address.result
-    (place c) c.in_ok-add.ensures.ok c.index_mut-interface.ensures.value c.kind.ensures (is_new c) c.self.invariant.home.numbered.counted
+    (place c) c.in_ok-add.ensures.ok c.index_mut-interface.ensures.value c.kind.ensures (is_new c) c.self.invariant.numbered.counted
 
--- it has few addresses yet
-few : (c : After-index_mut-interface) → length c.index_mut-interface.result.now.addresses < 65535
-few c =
+pub overflow_cast-home-2 : goal.overflow_cast-home-2
+overflow_cast-home-2 c =
     let items = c.self.inside.interfaces.items in
     let d = c.index_mut-interface.result.now in
     let room : added items < 65535 = search rules in
     let within : c.unwrap-at.result < length items = search rules in
-    omega (arith, room, few_at items c.unwrap-at.result d within, ap (λ (i : Interface). length i.addresses) c.index_mut-interface.ensures.value)
-
-pub overflow_cast-home-2 : goal.overflow_cast-home-2
-overflow_cast-home-2 c = omega (arith, few (goal.at.overflow_cast-home-2 c).After-index_mut-interface, c.count.ensures)
-
-pub add-requires : goal.add-requires
-add-requires c = omega (arith, few (goal.at.add-requires c).After-index_mut-interface)
+    omega (arith, room, few_at items c.unwrap-at.result d within, c.count.ensures, ap (λ (i : Interface). length i.addresses) c.index_mut-interface.ensures.value)
 
 -- its home is kept
 pushed : (c : After-unwrap) → c.push.new.self.items ≡ c.self.inside.homes.items ++ record { interface = c.unwrap-at.result; address = c.count.result } ∷ []
@@ -57,24 +45,11 @@ pub invariant_of-self-2 : goal.invariant_of-self-2
 invariant_of-self-2 c =
     let at = (goal.at.invariant_of-self-2 c).In_ok-add in
     let items = c.self.inside.interfaces.items in
-    let n = c.unwrap-at.result in
-    let a = c.new-address.result in
     let d = c.index_mut-interface.result.now in
-    let within : n < length items = search rules in
-    let here : slice_get items n ≡ Some d = slice_get-get_or items n d within ∙ ap (λ (i : Interface). Some i) (sym c.index_mut-interface.ensures.value) in
-    let of : IsOfAll c.widen.new.self items = search rules in
-    record {
-      home = rw (pushed (goal.at.invariant_of-self-2 c).After-unwrap, changed at)
-          (added_at_home c.self.inside.homes.items (record { interface = n; address = c.count.result }) (has_name c.args.name)
-          (new_address (added items + 1) (kind_of c.args.name items) c.args.address c.args.prefix c.args.cloning c.args.far) items d c.self.invariant.home (place at) refl
-          (c.count.ensures ∙ ap (λ (i : Interface). length i.addresses) c.index_mut-interface.ensures.value));
-      entered = of_all_changed c.enter.new.self items n c.add.new.self (omega (arith, of.few, length-set items n c.add.new.self))
-          (λ some.
-          let there : 0 < length c.widen.new.self.slots.items = omega (arith, some, c.enter.ensures.grows.many) in
-          let was = all_still c.widen.new.self c.enter.new.self c.enter.ensures.grows n d.addresses (of.entered there n d here) in
-          rw c.in_ok-add.ensures.ok (one_more c.enter.new.self n d.addresses a was (c.enter.ensures.entered there)))
-          (of_all_still c.widen.new.self c.enter.new.self c.enter.ensures.grows items of);
-    }
+    rw (pushed c, changed at)
+    (added_at_home c.self.inside.homes.items (record { interface = c.unwrap-at.result; address = c.count.result }) (has_name c.args.name)
+    (new_address (added items + 1) (kind_of c.args.name items) c.args.address c.args.prefix c.args.cloning c.args.far) items d c.self.invariant (place at) refl
+    (c.count.ensures ∙ ap (λ (i : Interface). length i.addresses) c.index_mut-interface.ensures.value))
 
 pub returns-clause-added : goal.returns-clause-added
 returns-clause-added c =
@@ -86,14 +61,14 @@ returns-clause-there c =
     let at = (goal.at.returns-clause-there c).In_ok-add in
     let items = c.self.inside.interfaces.items in
     let next = with_address c.args.name c.args.address c.args.prefix c.args.cloning c.args.far items in
-    let number : c.len.result ≡ added items = search (rules, c.self.invariant.home.numbered.counted) in
+    let number : c.len.result ≡ added items = search (rules, c.self.invariant.numbered.counted) in
     ap (λ (is : List Interface). find (has_number (c.len.result + 1)) (addresses_of is)) (changed at)
     ∙ ap (λ (n : ℕ). find (has_number (n + 1)) (addresses_of next)) number
-    ∙ there_is (length c.self.inside.homes.items) items c.args.name c.args.address c.args.prefix c.args.cloning c.args.far c.self.invariant.home.numbered (there at)
+    ∙ there_is (length c.self.inside.homes.items) items c.args.name c.args.address c.args.prefix c.args.cloning c.args.far c.self.invariant.numbered (there at)
     ∙ ap (λ (xs : List Interface). Some (new_address (added xs + 1) (kind_of c.args.name xs) c.args.address c.args.prefix c.args.cloning c.args.far)) c.self.view_is
 
 stays : (c : In_ok-add) → Stays c.self.inside.interfaces.items (with_address c.args.name c.args.address c.args.prefix c.args.cloning c.args.far c.self.inside.interfaces.items)
-stays c = stays_is (length c.self.inside.homes.items) c.self.inside.interfaces.items c.args.name c.args.address c.args.prefix c.args.cloning c.args.far c.self.invariant.home.numbered (there c)
+stays c = stays_is (length c.self.inside.homes.items) c.self.inside.interfaces.items c.args.name c.args.address c.args.prefix c.args.cloning c.args.far c.self.invariant.numbered (there c)
 
 pub returns-clause-keeps : goal.returns-clause-keeps
 returns-clause-keeps c =

@@ -12,7 +12,7 @@ is_found c =
     let items = c.self.inside.interfaces.items in
     let interface : named c.args.name items ≡ Some c.in-Some.interface.now = ap (λ (is : List Interface). named c.args.name is) (sym c.deref.ensures.value) ∙ sym c.in-Some.ensures in
     ap (λ (is : List Interface). find (has_number c.in-Some-first.address.number) (addresses_of is)) (sym c.self.view_is)
-    ∙ found_in (is_at c.args.address) (has_name c.args.name) items c.in-Some.interface.now c.in-Some-first.address interface (sym c.in-Some-first.ensures) (c.self.invariant.home.numbered.numbers.once c.in-Some-first.address.number)
+    ∙ found_in (is_at c.args.address) (has_name c.args.name) items c.in-Some.interface.now c.in-Some-first.address interface (sym c.in-Some-first.ensures) (c.self.invariant.numbered.numbers.once c.in-Some-first.address.number)
 
 pub returns-in-Some-first-clause-standing : goal.returns-in-Some-first-clause-standing
 returns-in-Some-first-clause-standing c = rw (c.reference.ensures, is_found c) (held_stands c.args.address c.in-Some.interface.now.addresses c.in-Some-first.address (sym c.in-Some-first.ensures))

@@ -8,7 +8,7 @@ use Rattle.if_addrs.proofs.interfaces.Interfaces.home.Goals.{After-copied}
 pub returns-in_err-checked_sub-clause-none : goal.returns-in_err-checked_sub-clause-none
 returns-in_err-checked_sub-clause-none c =
     let zero : c.args.number ≡ 0 = omega (arith, c.in_err-checked_sub.ensures, c.from.ensures) in
-    rw (c.from_residual.ensures, zero, ← c.self.view_is) (none_before_one c.self.inside.homes.items c.self.inside.interfaces.items c.self.invariant.home)
+    rw (c.from_residual.ensures, zero, ← c.self.view_is) (none_before_one c.self.inside.homes.items c.self.inside.interfaces.items c.self.invariant)
 
 number : (c : After-copied) → c.args.number ≡ c.in_ok-checked_sub.field-0 + 1
 number c = omega (arith, c.in_ok-checked_sub.ensures, c.from.ensures)
@@ -20,9 +20,9 @@ got c = c.copied.ensures ∙ item_got c.deref.result.now c.in_ok-checked_sub.fie
 pub returns-clause-some : goal.returns-clause-some
 returns-clause-some c =
     let at = (goal.at.returns-clause-some c).After-copied in
-    rw (← c.self.view_is) (got_home c.self.inside.homes.items c.self.inside.interfaces.items c.args.number c.in_ok-checked_sub.field-0 c.copied.result c.self.invariant.home (number at) (got at))
+    rw (← c.self.view_is) (got_home c.self.inside.homes.items c.self.inside.interfaces.items c.args.number c.in_ok-checked_sub.field-0 c.copied.result c.self.invariant (number at) (got at))
 
 pub returns-clause-none : goal.returns-clause-none
 returns-clause-none c =
     let at = (goal.at.returns-clause-none c).After-copied in
-    rw (← c.self.view_is) (got_none c.self.inside.homes.items c.self.inside.interfaces.items c.args.number c.in_ok-checked_sub.field-0 c.copied.result c.self.invariant.home (number at) (got at))
+    rw (← c.self.view_is) (got_none c.self.inside.homes.items c.self.inside.interfaces.items c.args.number c.in_ok-checked_sub.field-0 c.copied.result c.self.invariant (number at) (got at))

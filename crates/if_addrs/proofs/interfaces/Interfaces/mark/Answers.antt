@@ -1,12 +1,8 @@
-use Rattle.std.proofs.Common.{◌≡◌, ◌∙◌, ◌<◌, ap, arith, length, rules, sym, ℕ, List, Some, slice_index_or, slice_set}
-use Rattle.std.specs.Prelude.{slice_get}
-use Rattle.std.proofs.lemmas.List.{length-set}
-use Rattle.std.proofs.lemmas.Option.{slice_get-get_or}
+use Rattle.std.proofs.Common.{◌≡◌, ◌∙◌, ap, ℕ, List, slice_index_or, slice_set}
 use Rattle.if_addrs.specs.declared.reference.IfaRef.TheVariants as ifa
 use Rattle.if_addrs.specs.Homes.{IsHome}
 use Rattle.if_addrs.specs.Interfaces.{Interface, changed}
 use Rattle.if_addrs.specs.Wanted.{marked, with_marked}
-use Rattle.if_addrs.proofs.Directing.{all_marked, of_all_changed}
 use Rattle.if_addrs.proofs.Homes.{changed_at_home, home_marked}
 use Rattle.if_addrs.proofs.Keeping.{keeps_by, mark_untold, same_by, stays_changed}
 use Rattle.if_addrs.proofs.interfaces.Interfaces.mark.Goals as goal
@@ -29,17 +25,7 @@ is_changed c =
 pub invariant_of-self : goal.invariant_of-self
 invariant_of-self c =
     let at = (goal.at.invariant_of-self c).After-mark in
-    let items = c.self.inside.interfaces.items in
-    let n = c.from.result in
-    let d = c.index_mut-interface.result.now in
-    let was = c.self.invariant in
-    let within : n < length items = search rules in
-    let here : slice_get items n ≡ Some d = slice_get-get_or items n d within ∙ ap (λ (i : Interface). Some i) (sym c.index_mut-interface.ensures.value) in
-    record {
-      home = rw (is_changed at) (changed_at_home c.self.inside.homes.items (marked c.args.mark) (mark_untold c.args.mark) c.in-Inet.number items was.home);
-      entered = of_all_changed c.self.inside.directory items n c.mark.new.self (omega (arith, was.entered.few, length-set items n c.mark.new.self))
-          (λ some. rw c.mark.ensures (all_marked c.self.inside.directory n c.from-in-Inet.result c.args.mark d.addresses (was.entered.entered some n d here))) was.entered;
-    }
+    rw (is_changed at) (changed_at_home c.self.inside.homes.items (marked c.args.mark) (mark_untold c.args.mark) c.in-Inet.number c.self.inside.interfaces.items c.self.invariant)
 
 pub returns-in-Inet-clause-marked : goal.returns-in-Inet-clause-marked
 returns-in-Inet-clause-marked c =

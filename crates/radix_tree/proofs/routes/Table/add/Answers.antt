@@ -1,13 +1,33 @@
 use Rattle.radix_tree.proofs.{Counted.few_held, Counted.counted_more, WholeRoutes.gains_entry, Kept.shown_table}
-use Rattle.radix_tree.proofs.IndexChanges.{absent_place, index_begun, index_keeps, index_more, kept_keeps}
-use Rattle.radix_tree.proofs.{Kept.shown_next, Kept.given_begun, Kept.IsNext, GivenNumbers.given_more, routes.Table.add.Goals.In-Ok, routes.Table.add.Goals.After-vacancy-vacancy}
-use Rattle.radix_tree.proofs.Words.{◌≡◌, ℕ, ◌+◌, ◌<◌, ◌∷◌, Some, None, sym, ap, subst, ◌∙◌, arith, HasOneMore, AreCounted}
+use Rattle.radix_tree.proofs.IndexChanges.{absent_place, found_named, keeps_itself, named_there, index_begun, index_keeps, index_more, kept_keeps}
+use Rattle.radix_tree.proofs.{Kept.shown_next, Kept.given_begun, Kept.IsNext, GivenNumbers.given_more, routes.Table.add.Goals.In-Ok, routes.Table.add.Goals.After-vacancy-vacancy, routes.Table.add.Goals.Then-is_some}
+use Rattle.radix_tree.proofs.Words.{◌≡◌, ℕ, ◌+◌, ◌<◌, ◌∷◌, Some, None, refl, sym, ap, subst, ◌∙◌, arith, HasOneMore, AreCounted}
 use Rattle.radix_tree.proofs.Words.{entry_at, uses, with_entry, shown, Holds, leaf_in, leaves_in, Ptr}
 use Rattle.radix_tree.specs.Given.{AreGiven, numbers_in}
 use Rattle.radix_tree.specs.Index.{HasPlaceMore, Indexes, pair, place_of, places_in}
 use Rattle.radix_nodes.specs.Naming.{number_of}
+use Rattle.std.specs.Prelude.{IsSome}
 use Rattle.radix_tree.proofs.routes.Table.add.Goals as goal
 
+-- ---- a pair that the index has a room for
+begun : (g : _) (c : Then-is_some g) → IsNext c.self.inside.nodes c.begin-visits.new.self
+begun g c = grind arith
+
+pub returns-then-is_some-clause-there : goal.returns-then-is_some-clause-there
+returns-then-is_some-clause-there g c =
+    let at = (goal.at.returns-then-is_some-clause-there g c).Then-is_some in
+    let named = found_named c.self.inside.index (pair c.args.key c.args.rank) c.find.result (sym c.is_some.ensures ∙ c.if-is_some.true) c.find.ensures.found in
+    let shown_as = shown_next c.self.inside.nodes c.begin-visits.new.self c.self.inside.root _ c.self.view_is (begun g at) in
+    let there = named_there c.self.inside.index c.begin-visits.new.self.lodged c.self.inside.root c.args.key c.args.rank (grind arith)
+    (subst (λ r. Holds r.lodged c.self.inside.root) (sym (begun g at)) c.self.invariant.holds)
+    (index_begun c.self.inside.index c.self.inside.nodes c.begin-visits.new.self (begun g at) c.self.invariant.indexed) named.0 named.1 _ refl in
+    (λ _. subst (λ es. IsSome (entry_at c.args.key c.args.rank es)) shown_as there, λ _. refl)
+
+pub invariant_of-self : goal.invariant_of-self
+invariant_of-self g c = kept_keeps c.self.inside.index c.self.inside.index c.self.inside.nodes c.begin-visits.new.self c.self.invariant
+    (keeps_itself c.self.inside.index) (ap (λ r. r.lodged) c.begin-visits.ensures.turn ∙ ap (λ r. r.lodged) c.spare-space.ensures.stays)
+
+-- ---- one that it has none for
 pub added-requires : goal.added-requires
 added-requires g c = grind (arith, few_held, shown_table)
 
@@ -61,8 +81,8 @@ enter-requires-clause-absent g c room names =
 pub enter-requires-clause-kept_for : goal.enter-requires-clause-kept_for
 enter-requires-clause-kept_for g c = c.vacancy-vacancy.ensures.kept_for
 
-pub invariant_of-self : goal.invariant_of-self
-invariant_of-self g c = kept_keeps c.self.inside.index c.vacancy-vacancy.new.self c.self.inside.nodes c.insert.new.nodes c.self.invariant
+pub invariant_of-self-in-Err-1 : goal.invariant_of-self-in-Err-1
+invariant_of-self-in-Err-1 g c = kept_keeps c.self.inside.index c.vacancy-vacancy.new.self c.self.inside.nodes c.insert.new.nodes c.self.invariant
     c.vacancy-vacancy.ensures.keeps (ap (λ r. r.lodged) c.in-Err.ensures.err ∙ ap (λ r. r.lodged) c.begin-visits.ensures.turn ∙ ap (λ r. r.lodged) c.spare-space.ensures.stays)
 
 pub invariant_of-self-in-Ok-1 : goal.invariant_of-self-in-Ok-1

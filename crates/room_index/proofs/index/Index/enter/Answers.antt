@@ -1,9 +1,11 @@
 use Rattle.std.proofs.Common.{◌≡◌, not, length, sym, ap, subst, ◌∙◌, inl, inr, arith}
 use Rattle.std.specs.Prelude.{MatchOption, false}
 use Rattle.room_index.proofs.Naming.{held, enters, enters_none, is_named}
+use Rattle.room_index.proofs.Ranging.{told_more}
 use Rattle.room_index.specs.Homes.{pair}
 use Rattle.room_index.specs.Names.{Enters, IsKeptFor, Names}
 use Rattle.room_index.specs.Places.{IsIn}
+use Rattle.room_index.specs.Ranges.{IsTold}
 use Rattle.room_index.proofs.index.Index.enter.Goals as goal
 
 pub enter-requires-clause-absent : goal.enter-requires-clause-absent
@@ -32,5 +34,9 @@ invariant_of-self c = record {
   within = λ e has. elim (c.put.ensures.only e has) [
     | inl own ↦ subst (IsIn c.enter.new.self) (sym own) c.enter.ensures.entered.own
     | inr had ↦ c.enter.ensures.entered.kept e (c.self.invariant.within e had)
+  ];
+  told = λ e at. elim (c.enter.ensures.entered.had e at) [
+    | inl own ↦ subst (λ x. IsTold c.put.new.self x.pair) (sym own) c.put.ensures.told
+    | inr had ↦ told_more c.self.inside.ranges c.put.new.self e.pair c.put.ensures.more (c.self.invariant.told e had)
   ];
 }

@@ -1,4 +1,5 @@
-use Rattle.std.proofs.Common.{sym, true≢false}
+use Rattle.std.proofs.Common.{sym, true≢false, ◌∙◌}
+use Rattle.std.proofs.lemmas.Option.{none-some}
 use Rattle.room_index.proofs.index.Index.new.Goals as goal
 
 pub invariant_of-result : goal.invariant_of-result
@@ -7,4 +8,5 @@ invariant_of-result c = record {
   none = λ up. absurd (true≢false (sym up));
   by_range = c.none-2.ensures.ranges;
   within = λ e has. absurd (c.none-2.ensures.none e has);
+  told = λ e at. absurd (none-some e (sym (c.none.ensures.none at.0) ∙ at.1));
 }

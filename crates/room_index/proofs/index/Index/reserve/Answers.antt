@@ -1,6 +1,7 @@
 use Rattle.room_index.proofs.Naming.{index_as}
 use Rattle.room_index.proofs.index.Index.reserve.Goals as goal
 
-pub invariant_of-self-2 : goal.invariant_of-self-2
-invariant_of-self-2 c = index_as c.self.inside.places c.reserve-2.new.self c.self.inside.ranges c.reserve.new.self c.self.inside.given_up c.self.invariant
-    c.reserve-2.ensures.tags c.reserve-2.ensures.entries c.reserve-2.ensures.bits c.reserve.ensures.last c.reserve.ensures.bits
+pub invariant_of-self : goal.invariant_of-self
+invariant_of-self c = index_as c.self-2.inside.places c.give_back.new.self c.self-2.inside.ranges c.give_back-in-Err.new.self c.self-2.inside.given_up c.self-2.invariant
+    c.give_back.ensures.tags c.give_back.ensures.entries c.give_back.ensures.bits c.give_back-in-Err.ensures.last c.give_back-in-Err.ensures.ranks
+    c.give_back-in-Err.ensures.short c.give_back-in-Err.ensures.bits

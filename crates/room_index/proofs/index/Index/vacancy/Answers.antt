@@ -1,9 +1,13 @@
-use Rattle.std.proofs.Common.{not, sym, subst, refl}
+use Rattle.std.proofs.Common.{not, sym, subst, refl, true≢false, ◌∙◌}
 use Rattle.std.specs.Prelude.{IsSome}
 use Rattle.room_index.proofs.Filing.{same_then}
-use Rattle.room_index.proofs.Naming.{held, keeps}
+use Rattle.room_index.proofs.Naming.{held, keeps, none_told}
+use Rattle.room_index.proofs.Ranging.{told_fewer}
 use Rattle.room_index.specs.Names.{Keeps}
 use Rattle.room_index.proofs.index.Index.vacancy.Goals as goal
+
+pub follow-requires-clause-told : goal.follow-requires-clause-told
+follow-requires-clause-told c = told_fewer c.self.inside.ranges c.self.inside.places c.grow.new.self c.self.invariant.told c.grow.ensures.same.had
 
 pub returns-clause-keeps : goal.returns-clause-keeps
 returns-clause-keeps c =
@@ -18,4 +22,18 @@ invariant_of-self-in_default c = record {
   none = λ up. c.in_default.ensures.none;
   by_range = c.clear.ensures.ranges;
   within = λ e has. absurd (c.clear.ensures.none e has);
+  told = none_told c.clear.new.self c.place_for.new.self c.in_default.ensures.none;
 }
+
+-- the pair has a place now, and what was told is told of the same entries
+pub invariant_of-self : goal.invariant_of-self
+invariant_of-self c =
+    let found = c.place_for.ensures.same (subst IsSome (sym c.in-Some.is) refl) in
+    record {
+      table = c.place_for.ensures.table;
+      -- it wasn't given up
+      none = λ up. absurd (true≢false (sym up ∙ c.if-self.false));
+      by_range = c.follow.ensures.ranges;
+      within = λ e has. found.kept e (c.follow.ensures.within e has);
+      told = told_fewer c.follow.new.self c.grow.new.self c.place_for.new.self c.follow.ensures.told found.had;
+    }

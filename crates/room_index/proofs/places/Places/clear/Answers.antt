@@ -15,15 +15,15 @@ pub returns-clause-table : goal.returns-clause-table
 returns-clause-table c =
     let p = c.args.self.now in
     let new = c.move_to.new.self in
-    let bits = c.move_to.ensures.same.bits in
+    let bits = c.move_to.ensures.moved.same.bits in
     record {
-      size = size_kept p new c.requires.table.size c.move_to.ensures.same;
-      filed = filed_moved p new c.args.place c.in-Some-free_in.free c.move_to.ensures c.in-Some.entry (sym c.at.ensures ∙ c.in-Some.is) c.in-Some-free_in.ensures.free.2
+      size = size_kept p new c.requires.table.size c.move_to.ensures.moved.same;
+      filed = filed_moved p new c.args.place c.in-Some-free_in.free c.move_to.ensures.moved c.in-Some.entry (sym c.at.ensures.entry ∙ c.in-Some.is) c.in-Some-free_in.ensures.free.2
           (IsHome p.bits) (IsHome new.bits) c.requires.table.filed
           (subst (λ b. IsHome b c.in-Some-free_in.free c.in-Some.entry.pair) (sym bits) (home c))
           (λ n e other stood was. subst (λ b. IsHome b n e.pair) (sym bits) was);
     }
 
 pub returns-clause-same : goal.returns-clause-same
-returns-clause-same c = moved_same c.args.self.now c.move_to.new.self c.args.place c.in-Some-free_in.free c.move_to.ensures c.in-Some.entry
-    (sym c.at.ensures ∙ c.in-Some.is) c.in-Some-free_in.ensures.free.2
+returns-clause-same c = moved_same c.args.self.now c.move_to.new.self c.args.place c.in-Some-free_in.free c.move_to.ensures.moved c.in-Some.entry
+    (sym c.at.ensures.entry ∙ c.in-Some.is) c.in-Some-free_in.ensures.free.2

@@ -15,8 +15,8 @@ loop-place-init c =
       bits = c.lengthen.ensures.bits;
       tags = c.lengthen.ensures.tags;
       entries = c.lengthen.ensures.entries;
-      filed = parts_begin c.lengthen.new.self p.bits c.len-many.result filed (λ n e at.
-          omega (arith, stands_within p.tags.items p.entries.items n {e = e} (sym (c.lengthen.ensures.stand n) ∙ at), c.requires.table.size.even, c.len-many.ensures));
+      filed = parts_begin c.lengthen.new.self p.bits c.many-many.result filed (λ n e at.
+          omega (arith, stands_within p.tags.items p.entries.items n {e = e} (sym (c.lengthen.ensures.stand n) ∙ at), c.requires.table.size.even, c.many-many.ensures));
       same = same_as p c.lengthen.new.self c.lengthen.ensures.stand;
       counter = refl;
     }
@@ -28,21 +28,21 @@ loop-place-preserved c =
       bits = c.part.ensures.places.bits ∙ was.bits;
       tags = c.part.ensures.places.tags ∙ was.tags;
       entries = c.part.ensures.places.entries ∙ was.entries;
-      filed = subst (λ b. AreFiled c.part.new.self (Parts b c.len-many.result (c.loop-place.place + 1))) was.bits c.part.ensures.filed;
+      filed = subst (λ b. AreFiled c.part.new.self (Parts b c.many-many.result (c.loop-place.place + 1))) was.bits c.part.ensures.filed;
       same = same_then c.args.self.now c.loop-place.self c.part.new.self was.same c.part.ensures.same;
-      counter = c.tick.ensures.turn ∙ was.counter;
+      counter = c.part.ensures.counter ∙ was.counter;
     }
 
 pub returns-clause-table : goal.returns-clause-table
 returns-clause-table c =
     let is = c.loop-place.invariant in
-    let many = c.len-many.result in
+    let many = c.many-many.result in
     let ended : c.loop-place.place ≡ many = omega (arith, c.loop-place-test.false, c.loop-place.auto.place-end) in
     let filed = parts_end c.loop-place.self c.args.self.now.bits many (subst (λ n. AreFiled c.loop-place.self (Parts c.args.self.now.bits many n)) ended is.filed) in
     record {
       size = record {
         even = is.entries ∙ sym is.tags;
-        size = λ some. is.tags ∙ omega (arith, c.requires.table.size.size c.requires.some, c.len-many.ensures, twice c.args.self.now.bits)
+        size = λ some. is.tags ∙ omega (arith, c.requires.table.size.size c.requires.some, c.many-many.ensures, twice c.args.self.now.bits)
             ∙ ap (λ b. 8 * 2 ^ (b + 1)) (sym is.bits);
         few = omega (arith, c.requires.few, is.bits);
       };

@@ -1,18 +1,25 @@
-use Rattle.std.proofs.Common.{sym, ◌∙◌}
+use Rattle.std.proofs.Common.{◌*◌, ◌/◌, ◌-◌, sym, ◌∙◌, arith}
+use Rattle.room_index.proofs.HomeLemmas.{folded_home}
 use Rattle.room_index.proofs.Sizing.{folded_past, folded_same, folded_down}
 use Rattle.room_index.proofs.places.Places.fold.Goals as goal
 
 pub returns-in_default-clause-filed : goal.returns-in_default-clause-filed
-returns-in_default-clause-filed c done = folded_past _ c.args.self.now.bits c.args.half c.args.place c.requires.filed (sym c.at.ensures ∙ c.in_default.is)
+returns-in_default-clause-filed c done = folded_past _ c.args.self.now.bits c.args.half c.args.place c.requires.filed (sym c.at.ensures.entry ∙ c.in_default.is)
+
+pub free_below-requires-clause-home : goal.free_below-requires-clause-home
+free_below-requires-clause-home c =
+    let stood = c.requires.filed.places c.args.place c.in-Some.entry (sym c.at.ensures.entry ∙ c.in-Some.is) in
+    folded_home c.args.self.now.bits c.args.place c.in-Some.entry.pair (stood.upper c.requires.upper).1 (omega (arith, c.requires.half, c.requires.upper))
+    (8 * ((c.args.place - c.args.half) / 8)) (omega (arith, c.requires.half, c.requires.upper))
 
 pub returns-clause-filed : goal.returns-clause-filed
 returns-clause-filed c done =
-    let free = c.in-Some-free_in.ensures.free in
-    folded_down _ c.args.self.now.bits c.args.half c.args.place c.requires.filed c.move_to.new.self c.in-Some-free_in.free c.in-Some._entry
-    (sym c.at.ensures ∙ c.in-Some.is) free.2 c.move_to.ensures c.requires.half c.requires.upper c.requires.within free.0
+    let found = c.in-Some-free_below.ensures in
+    folded_down _ c.args.self.now.bits c.args.half c.args.place c.requires.filed c.move_to.new.self c.in-Some-free_below.free c.in-Some.entry
+    (sym c.at.ensures.entry ∙ c.in-Some.is) found.free.1 c.move_to.ensures.moved c.requires.half c.requires.within found.home
 
 pub returns-clause-same : goal.returns-clause-same
 returns-clause-same c done =
-    let free = c.in-Some-free_in.ensures.free in
-    folded_same _ c.args.self.now.bits c.args.half c.args.place c.requires.filed c.move_to.new.self c.in-Some-free_in.free c.in-Some._entry
-    (sym c.at.ensures ∙ c.in-Some.is) free.2 c.move_to.ensures c.requires.half c.requires.upper c.requires.within free.0
+    let found = c.in-Some-free_below.ensures in
+    folded_same _ c.args.self.now.bits c.args.half c.args.place c.requires.filed c.move_to.new.self c.in-Some-free_below.free c.in-Some.entry
+    (sym c.at.ensures.entry ∙ c.in-Some.is) found.free.1 c.move_to.ensures.moved c.requires.half c.requires.within found.home

@@ -4,24 +4,24 @@ use Rattle.room_index.proofs.HomeLemmas.{twice}
 use Rattle.room_index.proofs.Sizing.{folds_begin, folds_end, no_entry}
 use Rattle.room_index.specs.Places.{AreFiled, IsHome}
 use Rattle.room_index.specs.Sizes.{Folds}
-use Rattle.room_index.proofs.places.Places.halve.Goals.{After-len-half}
+use Rattle.room_index.proofs.places.Places.halve.Goals.{After-many-half}
 use Rattle.room_index.proofs.places.Places.halve.Goals as goal
 
 -- a bit less
-less : (c : After-len-half) → c.args.self.now.bits - 1 + 1 ≡ c.args.self.now.bits
+less : (c : After-many-half) → c.args.self.now.bits - 1 + 1 ≡ c.args.self.now.bits
 less c = omega (arith, c.requires.many)
 
 -- half of the places
-half_is : (c : After-len-half) → c.len-half.result / 2 ≡ 8 * 2 ^ (c.args.self.now.bits - 1)
-half_is c = omega (arith, c.len-half.ensures, c.requires.table.size.size c.requires.some, twice (c.args.self.now.bits - 1), ap (λ b. 2 ^ b) (less c))
+half_is : (c : After-many-half) → c.many-half.result / 2 ≡ 8 * 2 ^ (c.args.self.now.bits - 1)
+half_is c = omega (arith, c.many-half.ensures, c.requires.table.size.size c.requires.some, twice (c.args.self.now.bits - 1), ap (λ b. 2 ^ b) (less c))
 
 pub loop-place-init : goal.loop-place-init
 loop-place-init c = record {
   bits = less c;
-  tags = omega (arith, c.len-half.ensures, half_is c, c.requires.table.size.size c.requires.some, twice (c.args.self.now.bits - 1), ap (λ b. 2 ^ b) (less c));
+  tags = omega (arith, c.many-half.ensures, half_is c, c.requires.table.size.size c.requires.some, twice (c.args.self.now.bits - 1), ap (λ b. 2 ^ b) (less c));
   entries = c.requires.table.size.even
-      ∙ omega (arith, c.len-half.ensures, half_is c, c.requires.table.size.size c.requires.some, twice (c.args.self.now.bits - 1), ap (λ b. 2 ^ b) (less c));
-  filed = folds_begin _ (c.args.self.now.bits - 1) (c.len-half.result / 2) (half_is c)
+      ∙ omega (arith, c.many-half.ensures, half_is c, c.requires.table.size.size c.requires.some, twice (c.args.self.now.bits - 1), ap (λ b. 2 ^ b) (less c));
+  filed = folds_begin _ (c.args.self.now.bits - 1) (c.many-half.result / 2) (half_is c)
       (filed_as c.args.self.now _ (IsHome (c.args.self.now.bits - 1 + 1)) (subst (λ b. AreFiled c.args.self.now (IsHome b)) (sym (less c)) c.requires.table.filed)
       (λ n. refl) (λ n e at. refl));
   same = same_as c.args.self.now _ (λ n. refl);
@@ -35,16 +35,16 @@ loop-place-preserved c =
       bits = ap (λ b. b + 1) c.fold.ensures.places.bits ∙ was.bits;
       tags = c.fold.ensures.places.tags ∙ was.tags;
       entries = c.fold.ensures.places.entries ∙ was.entries;
-      filed = subst (λ b. AreFiled c.fold.new.self (Folds b (c.len-half.result / 2) (c.loop-place.place + 1))) (sym c.fold.ensures.places.bits)
+      filed = subst (λ b. AreFiled c.fold.new.self (Folds b (c.many-half.result / 2) (c.loop-place.place + 1))) (sym c.fold.ensures.places.bits)
           (c.fold.ensures.filed c.if-not-fold.false);
       same = same_then c.args.self.now c.loop-place.self c.fold.new.self was.same (c.fold.ensures.same c.if-not-fold.false);
-      counter = c.fold.ensures.counter ∙ c.tick.ensures.turn ∙ was.counter;
+      counter = c.fold.ensures.counter ∙ was.counter;
     }
 
 pub shorten-requires-clause-free : goal.shorten-requires-clause-free
 shorten-requires-clause-free c n past =
     let is = c.loop-place.invariant in
-    let lower = folds_end c.loop-place.self c.loop-place.self.bits (c.len-half.result / 2) c.loop-place.place is.filed is.entries c.loop-place-test.false
+    let lower = folds_end c.loop-place.self c.loop-place.self.bits (c.many-half.result / 2) c.loop-place.place is.filed is.entries c.loop-place-test.false
     (c.loop-place.auto.place-end (omega arith)) in
     no_entry _ (λ e at. omega (arith, (lower.places n e at).0))
 
@@ -53,20 +53,20 @@ returns-clause-table c done =
     let is = c.loop-place.invariant in
     let p = c.loop-place.self in
     let new = c.shorten.new.self in
-    let same_bits = c.shorten.ensures.bits in
-    let half = c.len-half.result / 2 in
+    let same_bits = c.shorten.ensures.places.bits in
+    let half = c.many-half.result / 2 in
     let lower = folds_end p p.bits half c.loop-place.place is.filed is.entries c.loop-place-test.false (c.loop-place.auto.place-end (omega arith)) in
     let filed = filed_by p (λ n pair. (n < half) × IsHome p.bits n pair) (IsHome p.bits) lower (λ n e at was. was.1) in
     record {
       size = record {
-        even = c.shorten.ensures.entries ∙ sym c.shorten.ensures.tags;
-        size = λ some. c.shorten.ensures.tags ∙ half_is (goal.at.returns-clause-table c).After-len-half
+        even = c.shorten.ensures.places.entries ∙ sym c.shorten.ensures.places.tags;
+        size = λ some. c.shorten.ensures.places.tags ∙ half_is (goal.at.returns-clause-table c).After-many-half
             ∙ ap (λ b. 8 * 2 ^ b) (omega (arith, is.bits, same_bits));
         few = omega (arith, c.requires.table.size.few, is.bits, same_bits);
       };
-      filed = filed_as p new (IsHome new.bits) (subst (λ b. AreFiled p (IsHome b)) (sym same_bits) filed) c.shorten.ensures.stand c.shorten.ensures.same;
+      filed = filed_as p new (IsHome new.bits) (subst (λ b. AreFiled p (IsHome b)) (sym same_bits) filed) c.shorten.ensures.places.stand c.shorten.ensures.places.same;
     }
 
 pub returns-clause-same : goal.returns-clause-same
 returns-clause-same c done = same_then c.args.self.now c.loop-place.self c.shorten.new.self c.loop-place.invariant.same
-    (same_as c.loop-place.self c.shorten.new.self c.shorten.ensures.stand)
+    (same_as c.loop-place.self c.shorten.new.self c.shorten.ensures.places.stand)

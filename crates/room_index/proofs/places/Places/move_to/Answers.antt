@@ -15,8 +15,8 @@ pub put-requires-clause-tag : goal.put-requires-clause-tag
 put-requires-clause-tag c = sym (tag_read c.args.self.now.tags.items c.args.from c.index-tag.result.now c.requires.from c.index-tag.ensures) ∙ c.requires.entry.2
     ∙ ap (λ e. tag_of e.pair) (sym (same_entry (goal.at.put-requires-clause-tag c).After-index-entry))
 
-pub returns : goal.returns
-returns c =
-    let same = same_entry (goal.at.returns c).After-index-entry in
+pub returns-clause-moved : goal.returns-clause-moved
+returns-clause-moved c =
+    let same = same_entry (goal.at.returns-clause-moved c).After-index-entry in
     moved c.args.self.now c.free.new.self c.put.new.self c.args.from c.args.to c.index-entry.result.now (c.requires.entry.1 ∙ ap Some (sym same))
     (c.requires.entry.2 ∙ ap (λ e. tag_of e.pair) (sym same)) c.free.ensures c.put.ensures

@@ -8,7 +8,7 @@ use Rattle.room_index.proofs.places.Places.part.Goals as goal
 
 pub returns-in_default-clause-filed : goal.returns-in_default-clause-filed
 returns-in_default-clause-filed c = parted_past _ c.args.self.now.bits c.args.many c.args.place c.requires.filed
-    (λ e at. absurd (none-some e (sym c.in_default.is ∙ c.at.ensures ∙ at)))
+    (λ e at. absurd (none-some e (sym c.in_default.is ∙ c.at.ensures.entry ∙ at)))
 
 pub move_to-requires-clause-to : goal.move_to-requires-clause-to
 move_to-requires-clause-to c = (omega arith, parted_free _ c.args.self.now.bits c.args.many c.args.place c.requires.filed c.requires.many)
@@ -22,14 +22,14 @@ not_second c is = c.if-not-has.ensures.1 (is ∙ ap (λ h. h.second) (sym c.of.e
 
 pub returns-then-not-has-clause-filed : goal.returns-then-not-has-clause-filed
 returns-then-not-has-clause-filed c = parted_on _ c.args.self.now.bits c.args.many c.args.place c.requires.filed c.move_to.new.self c.in-Some.entry
-    (sym c.at.ensures ∙ c.in-Some.is) c.requires.many c.requires.within c.move_to.ensures (not_first c) (not_second c)
+    (sym c.at.ensures.entry ∙ c.in-Some.is) c.requires.many c.requires.within c.move_to.ensures.moved (not_first c) (not_second c)
 
 pub returns-then-not-has-clause-same : goal.returns-then-not-has-clause-same
 returns-then-not-has-clause-same c = parted_same _ c.args.self.now.bits c.args.many c.args.place c.requires.filed c.move_to.new.self c.in-Some.entry
-    (sym c.at.ensures ∙ c.in-Some.is) c.requires.many c.requires.within c.move_to.ensures (not_first c) (not_second c)
+    (sym c.at.ensures.entry ∙ c.in-Some.is) c.requires.many c.requires.within c.move_to.ensures.moved (not_first c) (not_second c)
 
 pub returns-else-not-has-clause-filed : goal.returns-else-not-has-clause-filed
 returns-else-not-has-clause-filed c = parted_past _ c.args.self.now.bits c.args.many c.args.place c.requires.filed (λ e at.
-    let same = same_Some c.in-Some.entry e (sym c.in-Some.is ∙ c.at.ensures ∙ at) in
+    let same = same_Some c.in-Some.entry e (sym c.in-Some.is ∙ c.at.ensures.entry ∙ at) in
     subst (λ x. IsHome (c.args.self.now.bits + 1) c.args.place x.pair) same
     (elim c.if-not-has.ensures [ inl first ↦ inl (first ∙ ap (λ h. h.first) c.of.ensures) | inr second ↦ inr (second ∙ ap (λ h. h.second) c.of.ensures) ]))

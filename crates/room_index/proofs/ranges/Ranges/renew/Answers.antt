@@ -1,5 +1,10 @@
-use Rattle.std.proofs.Common.{Some, length, sym, ap, subst, ◌∙◌, refl, inl, inr}
-use Rattle.room_index.specs.Ranges.{Has, IsByRange}
+use Rattle.std.proofs.Common.{◌≡◌, Some, length, sym, ap, subst, ◌∙◌, refl, inl, inr, arith}
+use Rattle.std.proofs.lemmas.Bool.{cases_eq}
+use Rattle.std.proofs.lemmas.Option.{none-some, same_Some}
+use Rattle.room_index.proofs.Ranging.{told_more}
+use Rattle.room_index.proofs.Standing.{stands_within}
+use Rattle.room_index.specs.Places.{stands}
+use Rattle.room_index.specs.Ranges.{Has, IsByRange, IsTold}
 use Rattle.room_index.proofs.ranges.Ranges.renew.Goals.{in-Some, in_default}
 use Rattle.room_index.proofs.ranges.Ranges.renew.Goals as goal
 
@@ -7,8 +12,8 @@ pub loop-place-init : goal.loop-place-init
 loop-place-init c = record {
   ranges = c.begin.ensures.ranges;
   within = λ e has. absurd (c.begin.ensures.none e has);
+  told = λ n e before at. absurd (omega arith);
   many = c.begin.ensures.many;
-  bits = c.begin.ensures.bits;
   counter = refl;
 }
 
@@ -20,18 +25,31 @@ loop-place-preserved c = record {
   ];
   within = λ e has. elim c.match-at.branch [
     | in-Some w ↦ elim (w.put.ensures.only e (subst (λ r. Has r e) w.self-is has)) [
-      | inl own ↦ (c.loop-place.place, sym c.at.ensures ∙ w.in-Some.is ∙ ap Some (sym own))
+      | inl own ↦ (c.loop-place.place, sym c.at.ensures.entry ∙ w.in-Some.is ∙ ap Some (sym own))
       | inr had ↦ c.loop-place.invariant.within e had
     ]
     | in_default w ↦ c.loop-place.invariant.within e (subst (λ r. Has r e) w.self-is has)
+  ];
+  told = λ n e before at. elim c.match-at.branch [
+    | in-Some w ↦ elim (cases_eq n c.loop-place.place) [
+      | inl same ↦
+          let own : w.in-Some.entry ≡ e = same_Some w.in-Some.entry e (sym w.in-Some.is ∙ c.at.ensures.entry ∙ ap (stands c.args.places.now) (sym same) ∙ at) in
+          subst (λ r. IsTold r e.pair) (sym w.self-is) (subst (λ x. IsTold w.put.new.self x.pair) own w.put.ensures.told)
+      | inr other ↦ subst (λ r. IsTold r e.pair) (sym w.self-is)
+          (told_more c.loop-place.self w.put.new.self e.pair w.put.ensures.more (c.loop-place.invariant.told n e (omega arith) at))
+    ]
+    | in_default w ↦ elim (cases_eq n c.loop-place.place) [
+      | inl same ↦ absurd (none-some e (sym w.in_default.is ∙ c.at.ensures.entry ∙ ap (stands c.args.places.now) (sym same) ∙ at))
+      | inr other ↦ subst (λ r. IsTold r e.pair) (sym w.self-is) (c.loop-place.invariant.told n e (omega arith) at)
+    ]
   ];
   many = elim c.match-at.branch [
     | in-Some w ↦ ap (λ r. length r.last.items) w.self-is ∙ w.put.ensures.many ∙ c.loop-place.invariant.many
     | in_default w ↦ ap (λ r. length r.last.items) w.self-is ∙ c.loop-place.invariant.many
   ];
-  bits = elim c.match-at.branch [
-    | in-Some w ↦ ap (λ r. r.bits) w.self-is ∙ w.put.ensures.bits ∙ c.loop-place.invariant.bits
-    | in_default w ↦ ap (λ r. r.bits) w.self-is ∙ c.loop-place.invariant.bits
-  ];
-  counter = c.tick.ensures.turn ∙ c.loop-place.invariant.counter;
+  counter = ap (λ v. v.turn) c.at.ensures.look ∙ c.loop-place.invariant.counter;
 }
+
+pub returns-clause-told : goal.returns-clause-told
+returns-clause-told c e at = c.loop-place.invariant.told at.0 e
+    (omega (arith, c.loop-place-test.false, c.many-place-end.ensures, c.requires.table.size.even, stands_within c.args.places.now.tags.items c.args.places.now.entries.items at.0 {e = e} at.1)) at.1
