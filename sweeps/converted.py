@@ -14,6 +14,8 @@ from misuse import FILLED
 MOST = 2304
 FAULTS = dict(zip(("Kind", "Length", "Version", "Overrun", "Wide"), range(257, 262)))
 PAIRS = [(source, to) for source in SYSTEMS for to in SYSTEMS]
+# Names, addresses and what is behind them.
+LINKS = (b"em0", bytes(6), b""), (b"", b"", b""), (b"bridge10", bytes(8), b""), (b"em0", bytes(6), b"\1")
 
 
 class Converts:
@@ -119,7 +121,7 @@ def convert_links_of_kernels(sweep):
     converts = Converts(sweep.library())
     for source, to in PAIRS:
         for size in (20, 31, 32, 33, 54, 56, 255):
-            for name, number, rest in ((b"em0", bytes(6), b""), (b"", b"", b""), (b"bridge10", bytes(8), b""), (b"em0", bytes(6), b"\1")):
+            for name, number, rest in LINKS:
                 gateway = link(name, number, 2, size)
                 gateway = gateway[: len(gateway) - len(rest)] + rest
                 own = message(1, {DST: inet("10.0.0.0"), GATEWAY: gateway, NETMASK: mask(9)})
