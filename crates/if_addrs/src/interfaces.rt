@@ -1,4 +1,4 @@
-ghost use Rattle.std.specs.Prelude.{◌≡◌, ◌+◌, ◌≤◌, [], ◌∷◌, ◌++◌, length, unwrap_or, Some, None, IsSome, IfSome, IfNone, is_err, option_map, OnOk, OnErr, IfOk, IfErr};
+ghost use Rattle.std.specs.Prelude.{◌≡◌, ◌+◌, ◌≤◌, [], ◌∷◌, ◌++◌, length, unwrap_or, Some, None, IsSome, IfSome, IfNone, is_err, option_map, OnOk, OnErr, IfOk, IfErr, vec_len, vec_capacity};
 ghost use Rattle.std.specs.Result.{result_err};
 ghost use Rattle.if_addrs.specs.Facts.{facts_of};
 ghost use Rattle.if_addrs.specs.Homes.{IsHome};
@@ -19,8 +19,12 @@ use crate::reference::{Facts, IfaRef};
 use mask_table::Prefix;
 use memory::Memory;
 use sock_addrs::{Errno, Gate, Inet, Link, Name};
-use std::alloc::Global;
+use std::alloc::{AllocError, Global};
 use std::marker::Model;
+
+/// How many homes there is memory for at first: with what the C library puts before them as long as a line of the cache, so that
+/// what is made after them lies in its lines as without them.
+const FIRST_HOMES: usize = 14;
 
 /// The interfaces with their addresses. A contract sees them in the order in which they were attached; they are
 /// numbered from 1 on by their places. A reference to an address, and an interface's number, stay good for good.
@@ -144,7 +148,7 @@ impl Interfaces {
     {
         let number = self.homes.len() as u16 + 1;
         let at = place_of(&self.interfaces, name).unwrap();
-        memory.reserve(&mut self.homes, 1)?;
+        reserve_home(&mut self.homes, memory)?;
         let interface = &mut self.interfaces[at];
         let home = Home {
             interface: at as u8,
@@ -266,5 +270,18 @@ impl Interfaces {
         ensures { link_text_of index self.now ≡ Some result }
     {
         self.interfaces[usize::from(index) - 1].link_text(index)
+    }
+}
+
+/// Makes room for one home more.
+fn reserve_home(homes: &mut Vec<Home>, memory: &mut Memory) -> Result<(), AllocError>
+    ensures items { homes.new.items ≡ homes.old.items }
+    ensures room { OnOk result (vec_len homes.new + 1 ≤ vec_capacity homes.new) }
+    ensures counted { Rises (is_err result) memory.old memory.new }
+{
+    if homes.is_empty() {
+        memory.reserve(homes, FIRST_HOMES)
+    } else {
+        memory.reserve(homes, 1)
     }
 }

@@ -20,7 +20,7 @@ use std::alloc::{AllocError, Global};
 use std::marker::Model;
 
 /// So few routes are found in few steps by a tree of them, all of which is at hand.
-const SMALL: usize = 16;
+const SMALL: usize = 64;
 
 /// The rooms of routes by their keys and ranks. A look-up takes the same few steps whatever the pairs are; where one finds no
 /// place, all are given up, and the index isn't whole until no route is left. Its memory follows the number of routes.
