@@ -91,7 +91,13 @@ enum {
 	HK_ETOOMANYREFS = 59,
 	HK_EHOSTUNREACH = 65,
 	/* hk_line was given a line that the grammar doesn't have. */
-	HK_BAD = 256
+	HK_BAD = 256,
+	/* hk_convert was given a message that has no counterpart, the first of these that holds. */
+	HK_KIND = 257,
+	HK_LENGTH = 258,
+	HK_VERSION = 259,
+	HK_OVERRUN = 260,
+	HK_WIDE = 261
 };
 
 /* The text of an answer, and of any number. */
@@ -117,6 +123,11 @@ static inline const char *hk_strerror(uint32_t code)
 	case HK_ETOOMANYREFS: return "No route with that mask";
 	case HK_EHOSTUNREACH: return "No route to the host";
 	case HK_BAD: return "A line that is no command";
+	case HK_KIND: return "The type has no counterpart";
+	case HK_LENGTH: return "The length is wrong";
+	case HK_VERSION: return "The version is another";
+	case HK_OVERRUN: return "An address passes the end";
+	case HK_WIDE: return "A number or an address is too wide";
 	default: return "No answer of Hoiskend";
 	}
 }
@@ -339,6 +350,28 @@ static inline size_t hk_text_size(hk_world *world)
  */
 uint32_t hk_show(const uint8_t *message, size_t message_n, uint8_t *out, size_t n, size_t *size);
 
+/* ---- messages in the layouts of systems of today ---- */
+
+/* The systems: 4.4BSD as it is here, FreeBSD, OpenBSD, NetBSD up to 7 and macOS, these on 64-bit machines that keep the
+ * lowest byte first. */
+enum { HK_44BSD = 0, HK_FREEBSD = 1, HK_OPENBSD = 2, HK_NETBSD = 3, HK_MACOS = 4 };
+
+/* The most bytes of a message that was made so. */
+#define HK_MOST_CONVERTED 2304
+
+/*
+ * Gives a message of one system in the layout of another (docs/FORMATS.md, `The layouts of systems of today`). Puts into
+ * `size` how many bytes it has there, and copies it to the front of `out` where all of it fits into the n bytes; the rest
+ * of `out` stays. What has no place in the other layout is left out.
+ *
+ * This is no command. It has no world, wants no memory, and threads may call it at the same time.
+ *
+ * HK_EINVAL: a number is no system's. HK_KIND, HK_LENGTH, HK_VERSION, HK_OVERRUN, HK_WIDE: the message has no counterpart.
+ * In all these `size` and `out` stay. HK_ENOMEM: it doesn't fit; `size` says how many bytes it has, and `out` stays.
+ */
+uint32_t hk_convert(uint32_t from, uint32_t to, const uint8_t *message, size_t message_n, uint8_t *out, size_t n,
+                    size_t *size);
+
 /* ---- the same with names and ids as C strings ---- */
 
 static inline uint32_t hk_attach(hk_world *world, const char *name, uint8_t kind, uint8_t type_number,
@@ -376,6 +409,21 @@ static inline uint32_t hk_loopback(hk_world *world, const char *id, bool on)
 static inline uint32_t hk_write(hk_world *world, const char *id, const uint8_t *message, size_t n)
 {
 	return hk_write_n(world, (const uint8_t *)id, strlen(id), message, n);
+}
+
+/*
+ * Writes a message of another system. One that has no counterpart is refused at once, and heard by nobody:
+ * HK_EPROTONOSUPPORT for HK_VERSION, and else HK_EINVAL.
+ */
+static inline uint32_t hk_write_as(uint32_t system, hk_world *world, const char *id, const uint8_t *message, size_t n)
+{
+	uint8_t own[HK_MOST_CONVERTED];
+	size_t size = 0;
+	uint32_t code = hk_convert(system, HK_44BSD, message, n, own, sizeof own, &size);
+
+	if (code == HK_OK)
+		return hk_write(world, id, own, size);
+	return code == HK_VERSION ? HK_EPROTONOSUPPORT : HK_EINVAL;
 }
 
 static inline uint32_t hk_read(hk_world *world, const char *id)

@@ -107,6 +107,9 @@ ANSWERED = {
     "hk_redirect(&w, host, address, address)": ["No route to the host"], "hk_shut(&w, \"a\")": ["Done", "No such socket"],
     "hk_line(&w, line, 4)": ["A line that is no command"],
     "hk_show(out, hk_message_length(out), text, 1, &size)": ["The buffer is too small"],
+    "hk_convert(HK_44BSD, HK_OPENBSD, out, hk_message_length(out), there, 1, &size)": ["The buffer is too small"],
+    "hk_convert(HK_FREEBSD, HK_44BSD, there, size, out, sizeof out, &size)": ["The length is wrong"],
+    "hk_write_as(HK_FREEBSD, &w, \"a\", there, size)": ["A malformed request"],
     "hk_attach(&w, \"a long name\", HK_LOOPBACK, 24, link, 0)": ["A malformed request"],
 }
 

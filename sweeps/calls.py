@@ -52,6 +52,10 @@ class Library:
         """Calls hk_show, which has no world."""
         return self.loaded.hk_show(*given)
 
+    def convert(self, *given):
+        """Calls hk_convert, which has no world."""
+        return self.loaded.hk_convert(*given)
+
     def of_worlds(self):
         """The names of the functions over a world."""
         return {name for name, (_, parameters) in self.functions.items() if parameters[0][0] == "hk_world *"}

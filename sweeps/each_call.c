@@ -10,7 +10,7 @@ int main(void)
 	static const uint8_t link[] = {0x08, 0x00, 0x20, 0x01, 0x02, 0x03}, line[] = {'d', 'u', 'm', 'p', ' ', 'a', 's', 'k'};
 	const uint32_t address = HK_ADDRESS(10, 0, 0, 1), host = HK_ADDRESS(10, 9, 9, 9);
 	uint8_t out[HK_MESSAGE_BYTES] = {0};
-	uint8_t text[512];
+	uint8_t text[512], there[HK_MOST_CONVERTED];
 	uint64_t number = 0;
 	size_t size = 0;
 	hk_route route;
@@ -31,6 +31,12 @@ int main(void)
 	ANSWERS(hk_show(out, hk_message_length(out), text, 1, &size));
 	ANSWERS(hk_show(out, hk_message_length(out), text, sizeof text, &size));
 	printf("%.*s", (int)size, (const char *)text);
+	ANSWERS(hk_convert(HK_44BSD, HK_OPENBSD, out, hk_message_length(out), there, 1, &size));
+	ANSWERS(hk_convert(HK_44BSD, HK_OPENBSD, out, hk_message_length(out), there, sizeof there, &size));
+	printf("%d bytes, version %d\n", (int)size, there[2]);
+	ANSWERS(hk_convert(HK_FREEBSD, HK_44BSD, there, size, out, sizeof out, &size));
+	ANSWERS(hk_write_as(HK_OPENBSD, &w, "a", there, size));
+	ANSWERS(hk_write_as(HK_FREEBSD, &w, "a", there, size));
 	ANSWERS(hk_redirect(&w, host, address, address));
 	ANSWERS(hk_losing(&w, host));
 	ANSWERS(hk_write(&w, "a", out, hk_message_length(out)));

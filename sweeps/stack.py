@@ -4,7 +4,9 @@ import tempfile
 
 from by_calls import steps_of
 from calls import Library, World
+from converted import Converts
 from in_words import Shows, messages_of
+from layouts import SYSTEMS
 from libraries import library
 from misuse import MOST_WRITE
 from prototypes import Sources, constant
@@ -34,6 +36,9 @@ class Painted(Library):
     def show(self, *given):
         return self.on_stack("hk_show", *given)
 
+    def convert(self, *given):
+        return self.on_stack("hk_convert", *given)
+
     def on_stack(self, name, *given):
         function, depth = getattr(self.loaded, name), ctypes.c_ulong()
         words = (ctypes.c_size_t * MOST_GIVEN)(*map(word, given))
@@ -43,7 +48,8 @@ class Painted(Library):
 
 
 def tell(painted, example):
-    """A world that is told an example by calls, and one that is told it by lines; and its messages in words."""
+    """A world that is told an example by calls, and one that is told it by lines; and its messages in words and in other
+    layouts."""
     for tell_line in (World.told, World.line):
         world = World(painted)
         world.open()
@@ -51,9 +57,11 @@ def tell(painted, example):
             tell_line(world, line)
         world.line(b"write a " + b"00" * MOST_WRITE)
         world.close()
-    shows = Shows(painted)
+    shows, converts = Shows(painted), Converts(painted)
     for message in (*messages_of(example), bytes(MOST_WRITE)):
         shows.text(message)
+        for system in SYSTEMS:
+            converts.answer("bsd44", system, message)
 
 
 def take_little_stack(sweep, examples):

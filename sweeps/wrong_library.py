@@ -1,7 +1,7 @@
 """The library made wrong, for the trial of the sweeps over it."""
 import ctypes
 
-from calls import INVALID, LEFT_OUT, OK, Library
+from calls import BAD, INVALID, LEFT_OUT, OK, Library
 
 
 class WrongLibrary(Library):
@@ -10,10 +10,12 @@ class WrongLibrary(Library):
     long-names    takes the first 8 bytes of a longer name
     shares        has one world for all
     reopens       opens an open world anew
-    scribbles     writes to the room of hk_fetch, hk_text and hk_show also where it is too short
+    scribbles     writes to the room of hk_fetch, hk_text, hk_show and hk_convert also where it is too short
     forgets       empties the last answer where a call is refused for its parameters
-    welcomes      answers a closed world 0, and so a text that doesn't fit
-    cuts          shows a message without its last byte
+    welcomes      answers a closed world 0, and so a text or a message that doesn't fit
+    cuts          shows or converts a message without its last byte
+    turns         has OpenBSD's layout for FreeBSD's, and the other way round
+    excuses       answers each message that has no counterpart with the first fault
     """
 
     wrong, first = None, None
@@ -40,4 +42,15 @@ class WrongLibrary(Library):
             ctypes.memset(out, 0, n)
         cut = self.wrong == "cuts" and message_n > 0
         code = super().show(message, message_n - cut, out, n, size)
+        return OK if self.wrong == "welcomes" and code == LEFT_OUT else code
+
+    def convert(self, source, to, message, message_n, out, n, size):
+        if self.wrong == "scribbles":
+            ctypes.memset(out, 0, n)
+        if self.wrong == "turns":
+            source, to = ({1: 2, 2: 1}.get(system, system) for system in (source, to))
+        cut = self.wrong == "cuts" and message_n > 0
+        code = super().convert(source, to, message, message_n - cut, out, n, size)
+        if self.wrong == "excuses" and code > BAD:
+            return BAD + 1
         return OK if self.wrong == "welcomes" and code == LEFT_OUT else code

@@ -19,16 +19,18 @@
 //! ```
 //!
 //! Messages are the bytes of a 32-bit machine that stores the highest byte first; Hoiskend's docs/FORMATS.md has them. A
-//! [`Message`] is displayed in words.
+//! [`Message`] is displayed in words, and [`convert`] gives it in the layout of a system of today.
 #![deny(unsafe_code, missing_docs)]
 
 mod errno;
 mod messages;
 mod route;
 mod sys;
+mod system;
 mod world;
 
 pub use errno::{Errno, LineError};
 pub use messages::{Dump, Message, Messages};
 pub use route::{Gateway, LinkAddress, Route};
+pub use system::{convert, Fault, System};
 pub use world::{Kind, Socket, World};

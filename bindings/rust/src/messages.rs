@@ -1,6 +1,6 @@
 //! Messages, one after another, and one in words.
 use crate::errno::done;
-use crate::{sys, Errno};
+use crate::{convert, sys, Errno, Fault, System};
 use std::fmt;
 use std::ops::Deref;
 
@@ -58,6 +58,13 @@ impl<'a> Message<'a> {
             Ok(text) => Ok(String::from_utf8(text).expect("the library writes ASCII")),
             Err(code) => Err(done(code).expect_err("0 gives a text")),
         }
+    }
+}
+
+impl Message<'_> {
+    /// The message in the layout of another system.
+    pub fn to(self, system: System) -> Result<Vec<u8>, Fault> {
+        convert(System::Bsd44, system, self.bytes)
     }
 }
 

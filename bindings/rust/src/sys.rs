@@ -9,6 +9,8 @@ pub(crate) const LINK_BYTES: usize = 32;
 pub(crate) const AF_INET: u8 = 2;
 /// The answer to a line that the grammar doesn't have.
 pub(crate) const BAD: u32 = 256;
+/// The most bytes of a message that was made for another system.
+const MOST_CONVERTED: usize = 2304;
 /// What there is too little room for, and what there is no memory for.
 const NO_ROOM: u32 = 12;
 const NO_MEMORY: u32 = 55;
@@ -61,6 +63,9 @@ extern "C" {
     fn hk_fetch(world: *mut World, out: *mut u8, n: usize) -> usize;
     fn hk_text(world: *mut World, out: *mut u8, n: usize) -> usize;
     fn hk_show(message: *const u8, message_n: usize, out: *mut u8, n: usize, size: *mut usize) -> u32;
+    fn hk_convert(
+        from: u32, to: u32, message: *const u8, message_n: usize, out: *mut u8, n: usize, size: *mut usize,
+    ) -> u32;
 }
 
 /// A world of the library. It is not copied, and dropping it closes it.
@@ -225,5 +230,27 @@ pub(crate) fn show(message: &[u8]) -> Result<Vec<u8>, u32> {
             _ => return Err(code),
         }
         text.resize(size, 0);
+    }
+}
+
+/// A message of one system in the layout of another, or the code for which it has none there.
+pub(crate) fn convert(from: u32, to: u32, message: &[u8]) -> Result<Vec<u8>, u32> {
+    let (at, message_n) = (message.as_ptr(), message.len());
+    let (mut new, mut size) = ([0; MOST_CONVERTED], 0);
+    // SAFETY: as for the calls on a world, and this has none.
+    let code = unsafe {
+        hk_convert(
+            from,
+            to,
+            at,
+            message_n,
+            new.as_mut_ptr(),
+            new.len(),
+            &mut size,
+        )
+    };
+    match code {
+        0 => Ok(new[..size].to_vec()),
+        _ => Err(code),
     }
 }

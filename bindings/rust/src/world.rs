@@ -1,7 +1,7 @@
 //! Worlds, and what they are told.
 use crate::errno::done;
 use crate::sys::Handle;
-use crate::{Dump, Errno, LineError, Messages, Route};
+use crate::{convert, Dump, Errno, Fault, LineError, Messages, Route, System};
 use std::net::Ipv4Addr;
 
 /// The kinds of interfaces.
@@ -165,6 +165,18 @@ impl World {
     /// ```
     pub fn write(&mut self, socket: Socket, message: &[u8]) -> Result<(), Errno> {
         done(self.handle.write(socket.id(), message))
+    }
+
+    /// Writes a message of another system. One that has no counterpart is refused at once, by its fault's errno, and
+    /// heard by nobody.
+    pub fn write_as(
+        &mut self,
+        system: System,
+        socket: Socket,
+        message: &[u8],
+    ) -> Result<(), Errno> {
+        let own = convert(system, System::Bsd44, message).map_err(Fault::errno)?;
+        self.write(socket, &own)
     }
 
     /// Takes the messages that a socket has heard.

@@ -1,3 +1,4 @@
 pub mod CallsRun
 pub mod Memory
+pub mod Results
 pub mod Spared

@@ -1,4 +1,5 @@
 pub mod Asked
+pub mod Converted
 pub mod Last
 pub mod Lending
 pub mod Open

@@ -1,16 +1,18 @@
-//! The routing core for a program in C: a static library of functions over a handle, and one that shows a message in
-//! words. `include/hoiskend.h` has their types.
+//! The routing core for a program in C: a static library of functions over a handle, one that shows a message in words,
+//! and one that gives it in the layout of another system. `include/hoiskend.h` has their types.
 #![tactic(auto)]
 
 mod asked;
 mod calls;
 mod codes;
+mod convert;
+mod given;
 mod handle;
 pub mod laws;
 mod route;
 mod session;
 mod show;
 
-pub use codes::BAD;
+pub use codes::{BAD, KIND, LENGTH, OVERRUN, VERSION, WIDE};
 pub use handle::Handle;
 pub use route::{LINK_BYTES, Route};

@@ -5,6 +5,7 @@ ghost use Rattle.memory.specs.Refusing.{Rises};
 ghost use Rattle.message_text.specs.Texts.{text_of as text};
 ghost use Rattle.hoiskend.specs.Shown.{IsCodeOf, if_memory, is_want_of_memory};
 
+use crate::given::give;
 use memory::Memory;
 use message_text::text_of_counted;
 use sock_addrs::Errno;
@@ -31,10 +32,5 @@ fn show(alloc: Global, message: &[u8], out: &mut [u8], size: &mut usize, memory:
     let Ok(shown) = text_of_counted(alloc, message, memory) else {
         return Errno::ENOBUFS.number();
     };
-    *size = shown.len();
-    if shown.len() > out.len() {
-        return Errno::ENOMEM.number();
-    }
-    out[..shown.len()].copy_from_slice(&shown);
-    0
+    give(&shown, out, size)
 }
