@@ -28,7 +28,7 @@ const NETWORKS: [u32; 24] = [
 ];
 
 /// How many packets are sent for each host, before the hosts and after.
-const PACKETS: u32 = 20;
+const PACKETS: u32 = 40;
 
 /// One packet of so many goes to the world.
 const WORLD: u32 = 2;
