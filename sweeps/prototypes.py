@@ -57,8 +57,8 @@ def functions_in_header(header):
 
 NUMBERS = {"u8": "uint8_t", "u16": "uint16_t", "u32": "uint32_t", "u64": "uint64_t", "usize": "size_t", "bool": "bool"}
 IN_CRATE = {
-    **NUMBERS, "&mut Handle": "hk_world *", "&mut Route": "hk_route *", "&mut u64": "uint64_t *",
-    "&mut usize": "size_t *",
+    **NUMBERS, "&mut Handle": "hk_world *", "&mut Opening": "hk_world *", "&mut Route": "hk_route *",
+    "&mut u64": "uint64_t *", "&mut usize": "size_t *", "&mut Size": "size_t *",
 }
 IN_RUST = {
     **NUMBERS, "*mut World": "hk_world *", "*mut Route": "hk_route *", "*mut u64": "uint64_t *",

@@ -1,7 +1,10 @@
 """The library made wrong, for the trial of the sweeps over it."""
 import ctypes
 
-from calls import BAD, INVALID, LEFT_OUT, OK, Library
+from calls import BAD, INVALID, LEFT_OUT, NO_MEMORY, OK, Library
+
+# What a library that starves says that there is no memory for, by what such a call is given last or first.
+STARVED = {("hk_redirect", -1, 0), ("hk_packet", 0, 0), ("hk_write_n", -1, 4096)}
 
 
 class WrongLibrary(Library):
@@ -16,12 +19,16 @@ class WrongLibrary(Library):
     cuts          shows or converts a message without its last byte
     turns         has OpenBSD's layout for FreeBSD's, and the other way round
     excuses       answers each message that has no counterpart with the first fault
+    starves       answers now and then that there is no memory: to an author 0.0.0.0, to a packet for it, and to a message of
+                  4,096 bytes
     """
 
     wrong, first = None, None
 
     def make(self, name, handle, *given):
         is_closed = handle.core is None
+        if self.wrong == "starves" and any((name, at, given[at]) in STARVED for at in (0, -1) if given):
+            return NO_MEMORY
         if self.wrong == "long-names" and name.endswith("_n"):
             given = given[0], min(given[1], 8), *given[2:]
         if self.wrong == "shares":
@@ -40,6 +47,8 @@ class WrongLibrary(Library):
     def show(self, message, message_n, out, n, size):
         if self.wrong == "scribbles":
             ctypes.memset(out, 0, n)
+        if self.wrong == "starves" and message_n == 4096:
+            return NO_MEMORY
         cut = self.wrong == "cuts" and message_n > 0
         code = super().show(message, message_n - cut, out, n, size)
         return OK if self.wrong == "welcomes" and code == LEFT_OUT else code

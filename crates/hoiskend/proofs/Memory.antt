@@ -30,8 +30,8 @@ use Rattle.std_heap.specs.contracts.GlobalAllocator.TheImpl.{ghosts}
 use Rattle.std_heap.proofs.Global.TheLaws.{lowers}
 use Rattle.std_heap.proofs.GlobalToken.{dealloc_token-Testable}
 use Rattle.hoiskend.specs.Sessions.{Session}
-use Rattle.hoiskend.specs.contracts.session.Session.{the_row as R}
-use Rattle.hoiskend.proofs.session.Session.TheLaws.{the_row_laws}
+use Rattle.hoiskend.specs.contracts.held.Held.{the_row as R}
+use Rattle.hoiskend.proofs.held.Held.TheLaws.{the_row_laws}
 use Rattle.hoiskend.specs.Owning.{chunk, may_own}
 use Rattle.hoiskend.specs.contracts.handle.Handle as handle
 

@@ -7,7 +7,7 @@ use denote.RawPtr.{Ptr, null_ptr}
 use Rattle.std_alloc.specs.Box.Ownership.{box_owns}
 use Rattle.std_heap.specs.contracts.GlobalAllocator.TheImpl.{ghosts}
 use Rattle.hoiskend.specs.Sessions.{Session}
-use Rattle.hoiskend.specs.contracts.session.Session.{the_row}
+use Rattle.hoiskend.specs.contracts.held.Held.{the_row}
 
 -- what the allocator of the process asks for, whichever handle to it frees the block
 abbrev pub chunk : Ty → Ptr → Fml

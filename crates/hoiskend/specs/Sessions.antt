@@ -6,6 +6,7 @@ use Rattle.sock_addrs.specs.declared.gate.Gate.TheVariants as gate
 use Rattle.sock_addrs.specs.Errno.{errno_number}
 use Rattle.sock_addrs.specs.Padded.{padded_to}
 use Rattle.sock_addrs.specs.declared.errno.Errno.TheVariants.{EEXIST, EINVAL, ENOBUFS}
+use Rattle.memory.specs.Refusing.{Rises}
 use Rattle.event_file.specs.Answers.{messages_in, response_text}
 use Rattle.event_file.specs.Grammar.{command_of}
 use Rattle.event_file.specs.Lines.{is_passed, kept}
@@ -21,14 +22,16 @@ use Rattle.hoiskend.specs.declared.codes.TheConstants.{BAD}
 use Rattle.hoiskend.specs.declared.route.Route.{Route}
 use Rattle.hoiskend.specs.declared.route.TheConstants.{LINK_BYTES}
 
--- a world, and what was answered last: nothing at first, and to a line that gives no answer
+-- a world; what was answered last: nothing at first, and to a line that gives no answer; and how often memory was
+-- refused since the world was opened
 pub record Session : Type 0 where
   pub world : World
   pub response : Option (Result Answer Bad)
+  pub refused : ℕ
 
 -- before the first call
 abbrev pub fresh : Session
-fresh = record { world = empty_world; response = None }
+fresh = record { world = empty_world; response = None; refused = 0 }
 
 -- ---- what a call makes of a session
 
@@ -59,18 +62,23 @@ Answers old command code (Some (Ok answer)) new = Steps old command answer new �
 Answers old command code (Some (Err bad)) new = ⊥
 Answers old command code None new = ⊥
 
+-- that, and memory was refused where the answer says so, and only there
+abbrev pub Does : Session → Command → ℕ → Session → Type 0
+Does old command code new =
+    Answers old.world command code new.response new.world × Rises (is_short new.response) old.refused new.refused
+
 -- a call by parameters, which spell a command; where they spell none, it gives EINVAL and changes nothing, not even
 -- what was answered last
 abbrev pub Obeys : Session → Option Command → ℕ → Session → Type 0
-Obeys old (Some command) code new = Answers old.world command code new.response new.world
+Obeys old (Some command) code new = Does old command code new
 Obeys old None code new = (code ≡ errno_number EINVAL) × (new ≡ old)
 
--- a line that is to be answered, by the command that it says; where it says none, it is bad, and the world stays
+-- a line that is to be answered, by the command that it says; where it says none, it is bad, and all else stays
 abbrev pub Replies : Session → Option Command → ℕ → Session → Type 0
-Replies old (Some command) code new = Answers old.world command code new.response new.world
+Replies old (Some command) code new = Does old command code new
 Replies old None code new = (code ≡ BAD) × (new ≡ record old { response = Some (Err (record {})) })
 
--- a line of a script: one that gives no answer is done without one, and the world stays
+-- a line of a script: one that gives no answer is done without one, and all else stays
 abbrev pub HeedsWhere : Bool → Session → List ℕ → ℕ → Session → Type 0
 HeedsWhere true old line code new = (code ≡ 0) × (new ≡ record old { response = None })
 HeedsWhere false old line code new = Replies old (command_of line) code new

@@ -19,9 +19,11 @@ ghost use Rattle.hoiskend.specs.Asked.{
   filter_in,
 };
 ghost use Rattle.hoiskend.specs.Sessions.{Asks, Says, Calls, Opens, fresh, heard_by, route_in, size_in, text_by, told_for};
+ghost use Rattle.hoiskend.specs.Shown.{is_want_of_memory};
 
-use crate::session::Session;
-use crate::{Handle, Route, asked};
+use crate::count::Count;
+use crate::held::Held;
+use crate::{Handle, Opening, Route, asked};
 use memory::Memory;
 use route_core::Said;
 use sock_addrs::{Errno, Inet};
@@ -30,32 +32,45 @@ use std_alloc::room::Vacant;
 
 /// Opens an empty world. EEXIST: it is open; ENOBUFS: there is no memory, and it stays closed.
 #[unsafe(no_mangle)]
-pub extern "C" fn hk_open(alloc: Global, world: &mut Handle) -> u32
-    ensures { Opens world.old.session result world.new.session }
+pub extern "C" fn hk_open(alloc: Global, world: &mut Opening) -> u32
+    ensures opens { Opens world.old.handle.session result world.new.handle.session }
+    ensures counted { Rises (is_want_of_memory result) 0 world.new.refused.number }
+{
+    let mut memory = Memory::new();
+    let code = open(alloc, &mut world.handle, &mut memory);
+    world.refused = Count::of(&memory);
+    code
+}
+
+/// Opens an empty world, as `hk_open` does. Where it answers ENOBUFS, and only there, memory was refused, and counted.
+fn open(alloc: Global, world: &mut Handle, memory: &mut Memory) -> u32
+    ensures opens { Opens world.old.session result world.new.session }
+    ensures counted { Rises (is_want_of_memory result) memory.old memory.new }
 {
     if world.is_open() {
         return Errno::EEXIST.number();
     }
-    match session_in_a_room(alloc, &mut Memory::new()) {
-        Ok((session, room)) => {
-            world.lay(room, session);
+    match held_in_a_room(alloc, memory) {
+        Ok((held, room)) => {
+            world.lay(room, held);
             0
         }
         Err(refused) => Errno::from(refused).number(),
     }
 }
 
-/// An empty world, and a block of memory for it. `Err` where there is no memory for both, which is counted.
-fn session_in_a_room(
+/// What an open handle has, with an empty world, and a block of memory for it. `Err` where there is no memory for both,
+/// which is counted.
+fn held_in_a_room(
     alloc: Global,
     memory: &mut Memory,
-) -> Result<(Session, Vacant<Session, Global>), AllocError>
+) -> Result<(Held, Vacant<Held, Global>), AllocError>
     ensures fresh { IfOk result (λ both. both.0 ≡ fresh) }
     ensures counted { Rises (is_err result) memory.old memory.new }
 {
-    let session = Session::new(alloc, memory)?;
+    let held = Held::new(alloc, memory)?;
     let room = memory.block(alloc)?;
-    Ok((session, room))
+    Ok((held, room))
 }
 
 /// Closes a world, and frees all that it has. A closed one stays closed.
@@ -66,8 +81,8 @@ pub extern "C" fn hk_close(alloc: Global, world: &mut Handle)
     if !world.is_open() {
         return;
     }
-    let (session, room) = world.lift(alloc);
-    drop(session);
+    let (held, room) = world.lift(alloc);
+    drop(held);
     let _ = room.free();
 }
 
@@ -167,7 +182,7 @@ pub extern "C" fn hk_lost_n(world: &mut Handle, id: &[u8], lost: &mut u64) -> u3
     let Some(said) = asked::lost(id) else {
         return Errno::EINVAL.number();
     };
-    world.lend().size(&said, lost, &mut Memory::new())
+    world.lend().session.size(&said, lost)
 }
 
 /// Finds the route of a packet, and counts its use. No text is made, and memory is asked for only where the route
@@ -182,9 +197,7 @@ pub extern "C" fn hk_packet(world: &mut Handle, destination: u32, route: &mut Ro
     if !world.is_open() {
         return Errno::EINVAL.number();
     }
-    world
-        .lend()
-        .packet(Inet::new(destination), route, &mut Memory::new())
+    world.lend().session.packet(Inet::new(destination), route)
 }
 
 /// Follows a redirect.
@@ -227,7 +240,7 @@ pub extern "C" fn hk_dump_size(
         return Errno::EINVAL.number();
     }
     let said = asked::dump_size(has_filter, filter);
-    world.lend().size(&said, size, &mut Memory::new())
+    world.lend().session.size(&said, size)
 }
 
 /// Dumps routes into so many bytes, for `hk_fetch`.
@@ -249,7 +262,7 @@ pub extern "C" fn hk_line(world: &mut Handle, line: &[u8]) -> u32
     if !world.is_open() {
         return Errno::EINVAL.number();
     }
-    world.lend().heed(line, &mut Memory::new())
+    world.lend().heed(line)
 }
 
 /// Puts the messages of the last answer to the front of `out`, where there is room for all of them, and answers how
@@ -263,7 +276,7 @@ pub extern "C" fn hk_fetch(world: &mut Handle, out: &mut [u8]) -> usize
     if !world.is_open() {
         return 0;
     }
-    world.lend().fetch(out)
+    world.lend().session.fetch(out)
 }
 
 /// Puts the text of the last answer to the front of `out`, where there is room for all of it, and answers how many
@@ -277,7 +290,7 @@ pub extern "C" fn hk_text(world: &mut Handle, out: &mut [u8]) -> usize
     if !world.is_open() {
         return 0;
     }
-    world.lend().text(out)
+    world.lend().session.text(out)
 }
 
 /// Gives the world of a handle a command; nothing is done where there is none.
@@ -291,5 +304,5 @@ fn obey(world: &mut Handle, said: Option<Said<'_>>) -> u32
     let Some(said) = said else {
         return Errno::EINVAL.number();
     };
-    world.lend().obey(&said, &mut Memory::new())
+    world.lend().session.obey(&said)
 }

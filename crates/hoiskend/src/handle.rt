@@ -3,11 +3,11 @@ ghost use Rattle.std.specs.Prelude.{◌≡◌, Option, Some, None, is_some};
 ghost use Rattle.std.specs.Coded.{coded_option};
 ghost use Rattle.std.specs.Borrow.{sem};
 ghost use Rattle.hoiskend.specs.Sessions.{Session as Seen};
-ghost use Rattle.hoiskend.specs.declared.session.Session.{the_code};
+ghost use Rattle.hoiskend.specs.declared.held.Held.{the_code};
 ghost use Rattle.hoiskend.specs.Open.{IsOpen};
 ghost use Rattle.hoiskend.specs.Owning.{may_own};
 
-use crate::session::Session;
+use crate::held::Held;
 use std::alloc::Global;
 use std::marker::Model;
 use std::ptr::null_mut;
@@ -35,34 +35,34 @@ impl Handle {
     }
 
     /// Puts a session into a block of memory.
-    pub(crate) fn lay(&mut self, room: Vacant<Session, Global>, session: Session)
+    pub(crate) fn lay(&mut self, room: Vacant<Held, Global>, held: Held)
         requires { self.old.session ≡ None }
-        ensures { self.new.session ≡ Some session }
+        ensures { self.new.session ≡ Some held }
     {
         let Vacant { ptr, alloc: _ } = room;
         unsafe {
-            ptr.write(session);
+            ptr.write(held);
         }
         self.at = ptr as *mut u8;
     }
 
     /// Takes the session out of its block.
-    pub(crate) fn lift(&mut self, alloc: Global) -> (Session, Vacant<Session, Global>)
+    pub(crate) fn lift(&mut self, alloc: Global) -> (Held, Vacant<Held, Global>)
         requires { IsOpen self.old.session }
         ensures { (self.old.session ≡ Some result.0) × (self.new.session ≡ None) }
     {
-        let ptr = self.at as *mut Session;
-        let session = unsafe { ptr.read() };
+        let ptr = self.at as *mut Held;
+        let held = unsafe { ptr.read() };
         self.at = null_mut();
-        (session, Vacant { ptr, alloc })
+        (held, Vacant { ptr, alloc })
     }
 
     /// The session, to be read or changed.
-    pub(crate) fn lend(&mut self) -> &mut Session
+    pub(crate) fn lend(&mut self) -> &mut Held
         requires { IsOpen self.old.session }
         ensures* writes { sem 𝓛 (lends_session self.entry result) }
         ensures value { self.old.session ≡ Some result.now }
     {
-        unsafe { &mut *(self.at as *mut Session) }
+        unsafe { &mut *(self.at as *mut Held) }
     }
 }

@@ -6,13 +6,18 @@ mod asked;
 mod calls;
 mod codes;
 mod convert;
+mod count;
+mod counted;
 mod given;
 mod handle;
+mod held;
 pub mod laws;
 mod route;
 mod session;
 mod show;
 
 pub use codes::{BAD, KIND, LENGTH, OVERRUN, VERSION, WIDE};
+pub use count::Count;
+pub use counted::{Opening, Size};
 pub use handle::Handle;
 pub use route::{LINK_BYTES, Route};

@@ -1,4 +1,4 @@
-//! A world with what it answered last.
+//! A world with what it answered last, and with the count of refused memory.
 ghost use Rattle.std.specs.Prelude.{◌≡◌, ◌-◌, ◌^◌, IfOk, Some, None, Ok, Err, false, is_err, length, min, unwrap_or};
 ghost use Rattle.memory.specs.Refusing.{Rises};
 ghost use Rattle.event_file.specs.Answers.{response_text};
@@ -7,25 +7,27 @@ ghost use Rattle.listeners.specs.Queue.{joined};
 ghost use Rattle.route_core.specs.Step.{Steps, lacks_memory};
 ghost use Rattle.route_core.specs.declared.answer.Answer.TheVariants.{Messages};
 ghost use Rattle.route_core.specs.declared.command.Command.TheVariants.{Packet, Read as ReadOf};
-ghost use Rattle.hoiskend.specs.Sessions.{fresh, Answers, Heeds, code_of as code, heard, is_read, is_short, route_in, size_in, text_of, told_by};
+ghost use Rattle.hoiskend.specs.Sessions.{fresh, Answers, code_of as code, heard, is_read, is_short, route_in, size_in, text_of, told_by};
 
 use crate::codes::BAD;
 use crate::route::Route;
-use event_file::{Bad, give_text, is_passed, read_said};
+use event_file::{Bad, give_text};
 use memory::Memory;
 use route_core::laws::effects_have_memory;
-use route_core::{Answer, Command, MOST_WRITTEN, Queue, Received, Said, World};
+use route_core::{Answer, Command, Queue, Received, Said, World};
 use sock_addrs::{Inet, Name};
 use std::alloc::{AllocError, Global};
 use std::marker::Model;
 
-/// A world, and what was answered last. A contract sees both.
+/// A world, what was answered last, and how often memory was refused. A contract sees all three.
 #[derive(Drop)]
 pub(crate) struct Session {
     world: World,
     /// The messages of the last read.
     read: Queue,
     last: Last,
+    /// By which all memory is asked for that a call wants.
+    memory: Memory,
 }
 
 /// What was answered last.
@@ -45,7 +47,7 @@ impl Model for Session {
 
     ghost Value = { Session };
 
-    ghost view = { λ s. record { world = s.world; response = response_of s.read s.last } };
+    ghost view = { λ s. record { world = s.world; response = response_of s.read s.last; refused = s.memory } };
 }
 
 impl Session {
@@ -58,34 +60,30 @@ impl Session {
             world: World::new_counted(alloc, memory)?,
             read: Queue::new(alloc, memory)?,
             last: Last::Nothing,
+            memory: Memory::new(),
         })
     }
 
     /// Gives the world a command, and answers its code: 0, or the errno of what refused it. Where the answer is that there
     /// is no memory, and only there, it was refused, and counted.
-    pub(crate) fn obey(&mut self, said: &Said<'_>, memory: &mut Memory) -> u32
+    pub(crate) fn obey(&mut self, said: &Said<'_>) -> u32
         ensures step { Answers self.old.world said.now result self.new.response self.new.world }
-        ensures counted { Rises (is_short self.new.response) memory.old memory.new }
+        ensures counted { Rises (is_short self.new.response) self.old.refused self.new.refused }
     {
         if let Command::Read { id } = said {
             return self.read(*id);
         }
-        let answer = answer_to(&mut self.world, said, memory);
+        let answer = answer_to(&mut self.world, said, &mut self.memory);
         self.keep(answer)
     }
 
     /// Finds the route of a packet, and puts it into `route`, where there is one. Answers as `obey`.
-    pub(crate) fn packet(
-        &mut self,
-        destination: Inet,
-        route: &mut Route,
-        memory: &mut Memory,
-    ) -> u32
+    pub(crate) fn packet(&mut self, destination: Inet, route: &mut Route) -> u32
         ensures step { Answers self.old.world (Packet destination) result self.new.response self.new.world }
         ensures route { route.new ≡ unwrap_or (told_by route_in self.new.response) route.old }
-        ensures counted { Rises (is_short self.new.response) memory.old memory.new }
+        ensures counted { Rises (is_short self.new.response) self.old.refused self.new.refused }
     {
-        let answer = self.world.packet_counted(destination, memory);
+        let answer = self.world.packet_counted(destination, &mut self.memory);
         match &answer {
             Answer::Routed(choice) => *route = Route::of(choice, false),
             Answer::Dropped(choice) => *route = Route::of(choice, true),
@@ -95,32 +93,16 @@ impl Session {
     }
 
     /// Gives the world a command, and puts the size that it is answered into `size`, where it is one. Answers as `obey`.
-    pub(crate) fn size(&mut self, said: &Said<'_>, size: &mut u64, memory: &mut Memory) -> u32
+    pub(crate) fn size(&mut self, said: &Said<'_>, size: &mut u64) -> u32
         ensures step { Answers self.old.world said.now result self.new.response self.new.world }
         ensures size { size.new ≡ unwrap_or (told_by size_in self.new.response) size.old }
-        ensures counted { Rises (is_short self.new.response) memory.old memory.new }
+        ensures counted { Rises (is_short self.new.response) self.old.refused self.new.refused }
     {
-        let code = self.obey(said, memory);
+        let code = self.obey(said);
         if let Last::Response(Ok(Answer::Size(told))) = &self.last {
             *size = *told;
         }
         code
-    }
-
-    /// Takes a line of a script, without its newline, and answers the code of its command, as `obey`; 0 where it gives no
-    /// answer; or `BAD` where the grammar doesn't have it.
-    pub(crate) fn heed(&mut self, line: &[u8], memory: &mut Memory) -> u32
-        ensures heeds { Heeds self.old line.now result self.new }
-        ensures counted { Rises (is_short self.new.response) memory.old memory.new }
-    {
-        if is_passed(line) {
-            return self.pass();
-        }
-        let mut room = [0; MOST_WRITTEN];
-        match read_said(line, &mut room) {
-            Some(said) => self.obey(&said, memory),
-            None => self.reject(Bad),
-        }
     }
 
     /// Puts the bytes of the messages that were answered last to the front of `out`, where there is room for all of
@@ -158,6 +140,7 @@ impl Session {
     fn read(&mut self, id: Name) -> u32
         ensures step { Answers self.old.world (ReadOf id) result self.new.response self.new.world }
         ensures spared { is_short self.new.response ≡ false }
+        ensures uncounted { self.new.refused ≡ self.old.refused }
     {
         effects_have_memory();
         match self.world.move_to(id, &mut self.read) {
@@ -167,7 +150,7 @@ impl Session {
     }
 
     /// Has nothing to tell of a line that gives no answer.
-    fn pass(&mut self) -> u32
+    pub(crate) fn pass(&mut self) -> u32
         ensures code { result ≡ 0 }
         ensures kept { self.new ≡ record self.old { response = None } }
     {
@@ -176,7 +159,7 @@ impl Session {
     }
 
     /// Keeps that a line is bad, and answers the code of that.
-    fn reject(&mut self, bad: Bad) -> u32
+    pub(crate) fn reject(&mut self, bad: Bad) -> u32
         ensures code { result ≡ BAD }
         ensures kept { self.new ≡ record self.old { response = Some (Err bad) } }
     {

@@ -6,6 +6,7 @@ ghost use Rattle.program_ends.specs.Refusals.{Refuses};
 
 use crate::run::run;
 use event_file::Counted;
+use memory::Memory;
 use program_ends::{Outcome, Refusal, file_named};
 use std::io::{BufWriter, Read};
 use std::rt::Files;
@@ -22,14 +23,15 @@ const WRITE_ROOM: usize = 65_536;
 pub(crate) fn run_words<R: Files + Input + Print + AllocGlobal>(
     rt: &R,
     words: &[String],
+    memory: &mut Memory,
 ) -> Result<Outcome, Refusal>
     ensures right { OnOk result (faults_of (codes "routesim") (map string_bytes words.now) ≡ []) }
     ensures refused { IfErr result (λ why. Refuses (codes "routesim") (map string_bytes words.now) why) }
 {
     match file_named(rt.alloc(), PROGRAM, words)? {
-        None => Ok(run_over(rt, rt.reader())),
+        None => Ok(run_over(rt, rt.reader(), memory)),
         Some(file) => match fs::open(rt, file) {
-            Ok(script) => Ok(run_over(rt, script)),
+            Ok(script) => Ok(run_over(rt, script, memory)),
             Err(_) => Err(Refusal::Unopened),
         },
     }
@@ -37,13 +39,17 @@ pub(crate) fn run_words<R: Files + Input + Print + AllocGlobal>(
 
 /// Runs a script, and writes its transcript to standard output, as much as a read's lines make at once. After a fault
 /// nothing more is written: what was kept back goes with the buffer.
-fn run_over<R: Print + AllocGlobal, S: Read + Drop>(rt: &R, script: S) -> Outcome {
+fn run_over<R: Print + AllocGlobal, S: Read + Drop>(
+    rt: &R,
+    script: S,
+    memory: &mut Memory,
+) -> Outcome {
     let Ok(kept_back) = BufWriter::with_capacity(rt.alloc(), WRITE_ROOM, io::writer(rt)) else {
         return Outcome::NoMemory;
     };
     let mut reader = Counted::new(script);
     let mut writer = Counted::new(kept_back);
-    let outcome = run(rt.alloc(), &mut reader, &mut writer);
+    let outcome = run(rt.alloc(), &mut reader, &mut writer, memory);
     // a buffer that is dropped would be written
     let _ = writer.into_inner().into_parts();
     outcome

@@ -28,59 +28,8 @@ const READ_ROOM: usize = 4096;
 /// Reads a script, and writes its transcript: each line is answered, and its answer written, before the next is
 /// looked at; what was written is flushed before each read and at the end. The run itself takes memory at the start
 /// alone; a command that wants some and gets none is answered `err 55`. A last line without a newline is answered at
-/// the end of the script, but not where a read fault comes first.
+/// the end of the script, but not where a read fault comes first. How often memory was refused is counted.
 pub(crate) fn run<R: Read, W: Write>(
-    alloc: Global,
-    reader: &mut Counted<R>,
-    writer: &mut Counted<W>,
-) -> Outcome
-    requires no_read { reader.old.reads ≡ 0 }
-    requires no_read_failure { reader.old.failures ≡ 0 }
-    requires no_write_failure { writer.old.failures ≡ 0 }
-
-    // Where all lines were answered, what was written is a transcript of the whole script, and nothing else.
-    ensures transcript { IsAnswered result → IfSome (R.remaining reader.old.inner) (λ script. (text : List ℕ)
-        × Appends (W.contents writer.old.inner) (W.contents writer.new.inner) text × IsTranscript script text) }
-    ensures done { result ≡ Outcome.Done → IfSome (R.remaining reader.old.inner) (λ script.
-        has_bad_line (answered_lines script) ≡ false) }
-    ensures bad_line { result ≡ Outcome.BadLine → IfSome (R.remaining reader.old.inner) (λ script.
-        has_bad_line (answered_lines script) ≡ true) }
-
-    // And no listener disturbs another in that transcript: what others open, close, read and turn off or on changes no
-    // byte of what is answered to one.
-    ensures undisturbed { result ≡ Outcome.Done → IfSome (R.remaining reader.old.inner) (λ script. (text : List ℕ)
-        × Appends (W.contents writer.old.inner) (W.contents writer.new.inner) text × IsTranscript script text
-        × IsUndisturbed script text) }
-
-    // What was read and written is said for each outcome.
-    ensures ends { Ends result (R.remaining reader.old.inner) (R.remaining reader.new.inner)
-        (W.contents writer.old.inner) (W.contents writer.new.inner) }
-    ensures reads { reader.new.reads ≤ MOST_READS }
-    ensures most_reads { MOST_READS ≡ 16777216 }
-    ensures room { READ_ROOM ≤ reader.old.least_room → READ_ROOM ≤ reader.new.least_room }
-    ensures read_room { READ_ROOM ≡ 4096 }
-
-    // Before each read all that was answered is flushed, and at the end too.
-    ensures prompt { writer.old.unflushed ≡ false → reader.new.early_reads ≡ reader.old.early_reads }
-    ensures flushed { writer.old.unflushed ≡ false → result ≢ Outcome.WriteFault → writer.new.unflushed ≡ false }
-    ensures reads_needed { IfSome (R.remaining reader.old.inner) (λ script. reader.new.reads ≤ length script + 1) }
-
-    // A run goes on as long as no read and no write fails, and a fault comes only where one failed, or the reads are
-    // spent on a script of at least as many bytes; and without memory nothing begins.
-    ensures unfailed { IsAnswered result → (reader.new.failures ≡ 0) × (writer.new.failures ≡ 0) }
-    ensures read_fault { result ≡ Outcome.ReadFault → (reader.new.failures ≡ 1) ⊎ ((reader.new.reads ≡ MOST_READS)
-        × IfSome (R.remaining reader.old.inner) (λ script. MOST_READS ≤ length script)) }
-    ensures unfailed_writes { result ≡ Outcome.ReadFault → writer.new.failures ≡ 0 }
-    ensures write_fault { result ≡ Outcome.WriteFault → writer.new.failures ≡ 1 }
-    ensures unfailed_reads { result ≡ Outcome.WriteFault → reader.new.failures ≡ 0 }
-    ensures no_memory { result ≡ Outcome.NoMemory → (reader.new ≡ reader.old) × (writer.new ≡ writer.old) }
-{
-    run_counted(alloc, reader, writer, &mut Memory::new())
-}
-
-/// Reads a script, and writes its transcript, as `run` does, and counts how often memory was refused for it. What stands
-/// of `run` stands here, and beside it what the count says: each answer of 55 has its cause.
-pub(crate) fn run_counted<R: Read, W: Write>(
     alloc: Global,
     reader: &mut Counted<R>,
     writer: &mut Counted<W>,

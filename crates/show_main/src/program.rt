@@ -1,11 +1,12 @@
 //! The program round a run: the file that its words name is read, and standard output written.
-ghost use Rattle.std.specs.Prelude.{◌≡◌, [], IfErr, OnOk, codes, map};
+ghost use Rattle.std.specs.Prelude.{◌≡◌, ◌<◌, ◌⊎◌, [], IfErr, Ok, OnOk, codes, map};
 ghost use Rattle.std.specs.String.{string_bytes};
 ghost use Rattle.program_ends.specs.CommandLine.{faults_of};
 ghost use Rattle.program_ends.specs.Refusals.{Refuses};
 
 use crate::run::run;
 use event_file::Counted;
+use memory::Memory;
 use program_ends::{Outcome, Refusal, file_named};
 use std::io::{BufWriter, Read};
 use std::rt::Files;
@@ -21,14 +22,16 @@ const WRITE_ROOM: usize = 65_536;
 pub(crate) fn run_words<R: Files + Input + Print + AllocGlobal>(
     rt: &R,
     words: &[String],
+    memory: &mut Memory,
 ) -> Result<Outcome, Refusal>
     ensures right { OnOk result (faults_of (codes "routeshow") (map string_bytes words.now) ≡ []) }
     ensures refused { IfErr result (λ why. Refuses (codes "routeshow") (map string_bytes words.now) why) }
+    ensures short { memory.old < memory.new → (result ≡ Ok Outcome.NoMemory) ⊎ (result ≡ Ok Outcome.WriteFault) }
 {
     match file_named(rt.alloc(), PROGRAM, words)? {
-        None => Ok(run_over(rt, rt.reader())),
+        None => Ok(run_over(rt, rt.reader(), memory)),
         Some(file) => match fs::open(rt, file) {
-            Ok(text) => Ok(run_over(rt, text)),
+            Ok(text) => Ok(run_over(rt, text, memory)),
             Err(_) => Err(Refusal::Unopened),
         },
     }
@@ -36,13 +39,15 @@ pub(crate) fn run_words<R: Files + Input + Print + AllocGlobal>(
 
 /// Shows a text on standard output, as much as a read's lines make at once. After a fault nothing more is written: what
 /// was kept back goes with the buffer.
-fn run_over<R: Print + AllocGlobal, T: Read + Drop>(rt: &R, text: T) -> Outcome {
+fn run_over<R: Print + AllocGlobal, T: Read + Drop>(rt: &R, text: T, memory: &mut Memory) -> Outcome
+    ensures { memory.old < memory.new → (result ≡ Outcome.NoMemory) ⊎ (result ≡ Outcome.WriteFault) }
+{
     let Ok(kept_back) = BufWriter::with_capacity(rt.alloc(), WRITE_ROOM, io::writer(rt)) else {
         return Outcome::NoMemory;
     };
     let mut reader = Counted::new(text);
     let mut writer = Counted::new(kept_back);
-    let outcome = run(rt.alloc(), &mut reader, &mut writer);
+    let outcome = run(rt.alloc(), &mut reader, &mut writer, memory);
     // a buffer that is dropped would be written
     let _ = writer.into_inner().into_parts();
     outcome

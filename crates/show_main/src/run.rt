@@ -22,49 +22,8 @@ const READ_ROOM: usize = 4096;
 /// Reads a text, and writes it with each message in words: each line is shown before the next is looked at; what was
 /// written is flushed before each read and at the end. A last line without a newline is shown at the end of the text,
 /// but not where a fault comes first. A line has the room that it needs; where there is no memory for it, or for a
-/// message's text, the run ends.
+/// message's text, the run ends. How often it was refused is counted.
 pub(crate) fn run<R: Read, W: Write>(
-    alloc: Global,
-    reader: &mut Counted<R>,
-    writer: &mut Counted<W>,
-) -> Outcome
-    requires no_read { reader.old.reads ≡ 0 }
-    requires no_read_failure { reader.old.failures ≡ 0 }
-    requires no_write_failure { writer.old.failures ≡ 0 }
-
-    // Where the run is done, what was written is the whole text with each message in words, and nothing else.
-    ensures shown { result ≡ Outcome.Done → IfSome (R.remaining reader.old.inner) (λ text.
-        Appends (W.contents writer.old.inner) (W.contents writer.new.inner) (shown_text text)) }
-
-    // What was read and written is said for each outcome.
-    ensures ends { Ends result (R.remaining reader.old.inner) (R.remaining reader.new.inner)
-        (W.contents writer.old.inner) (W.contents writer.new.inner) }
-    ensures reads { reader.new.reads ≤ MOST_READS }
-    ensures most_reads { MOST_READS ≡ 16777216 }
-    ensures room { READ_ROOM ≤ reader.old.least_room → READ_ROOM ≤ reader.new.least_room }
-    ensures read_room { READ_ROOM ≡ 4096 }
-
-    // Before each read all that was shown is flushed, and at the end too.
-    ensures prompt { writer.old.unflushed ≡ false → reader.new.early_reads ≡ reader.old.early_reads }
-    ensures flushed { writer.old.unflushed ≡ false → result ≢ Outcome.WriteFault → writer.new.unflushed ≡ false }
-    ensures reads_needed { IfSome (R.remaining reader.old.inner) (λ text. reader.new.reads ≤ length text + 1) }
-
-    // A run goes on as long as no read and no write fails, and a fault comes only where one failed, or the reads are
-    // spent on a text of at least as many bytes.
-    ensures unfailed { result ≡ Outcome.Done → (reader.new.failures ≡ 0) × (writer.new.failures ≡ 0) }
-    ensures read_fault { result ≡ Outcome.ReadFault → (reader.new.failures ≡ 1) ⊎ ((reader.new.reads ≡ MOST_READS)
-        × IfSome (R.remaining reader.old.inner) (λ text. MOST_READS ≤ length text)) }
-    ensures unfailed_writes { result ≡ Outcome.ReadFault → writer.new.failures ≡ 0 }
-    ensures write_fault { result ≡ Outcome.WriteFault → writer.new.failures ≡ 1 }
-    ensures unfailed_reads { result ≡ Outcome.WriteFault → reader.new.failures ≡ 0 }
-    ensures no_memory { result ≡ Outcome.NoMemory → (reader.new.failures ≡ 0) × (writer.new.failures ≡ 0) }
-{
-    run_counted(alloc, reader, writer, &mut Memory::new())
-}
-
-/// Shows a text, as `run` does, and counts how often memory was refused for it. What stands of `run` stands here, and
-/// beside it what the count says.
-pub(crate) fn run_counted<R: Read, W: Write>(
     alloc: Global,
     reader: &mut Counted<R>,
     writer: &mut Counted<W>,

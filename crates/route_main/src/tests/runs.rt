@@ -4,6 +4,7 @@ ghost use Rattle.std.specs.Prelude.{◌<◌};
 use super::fakes::{FakeReader, FakeWriter, Fault};
 use crate::run::run;
 use event_file::Counted;
+use memory::Memory;
 use program_ends::Outcome;
 use std::alloc::Global;
 use std::test::Fail;
@@ -22,7 +23,7 @@ const NEVER: u64 = u64::MAX;
 fn run_over(alloc: Global, reader: FakeReader, writer: FakeWriter) -> (Outcome, FakeWriter) {
     let mut reader = Counted::new(reader);
     let mut writer = Counted::new(writer);
-    let outcome = run(alloc, &mut reader, &mut writer);
+    let outcome = run(alloc, &mut reader, &mut writer, &mut Memory::new());
     (outcome, writer.into_inner())
 }
 

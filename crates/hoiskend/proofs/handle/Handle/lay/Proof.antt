@@ -24,7 +24,7 @@ use Rattle.core.proofs.alloc.Calls.{Goes-blank}
 use Rattle.std.proofs.raw_atomic.Walks.{proved_at, leaves}
 use Rattle.std_alloc.proofs.RawLayout.{as_written}
 use Rattle.std_alloc.proofs.VecSteps.Shapes.{after}
-use Rattle.hoiskend.specs.contracts.session.Session.{the_row as R}
+use Rattle.hoiskend.specs.contracts.held.Held.{the_row as R}
 use Rattle.hoiskend.proofs.Memory.{handle_val, field_made, Room, room_val, room_had, room_good, value_tells}
 use Rattle.hoiskend.proofs.handle.Handle.TheLaws.{lowers}
 use Rattle.hoiskend.specs.contracts.handle.Handle.{the_row as B}

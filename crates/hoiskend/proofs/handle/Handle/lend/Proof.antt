@@ -28,7 +28,7 @@ use denote.Triple.Walked.{Stays, stay_dropped, walk_of, Goes-spent_ref}
 use Rattle.std.proofs.raw_atomic.Walks.{proved_at, leaves}
 use Rattle.std_alloc.proofs.VecSteps.Shapes.{after}
 use Rattle.hoiskend.specs.Sessions.{Session}
-use Rattle.hoiskend.specs.contracts.session.Session.{the_row as R}
+use Rattle.hoiskend.specs.contracts.held.Held.{the_row as R}
 use Rattle.hoiskend.specs.Open.{IsOpen}
 use Rattle.hoiskend.specs.Owning.{chunk, may_own}
 use Rattle.hoiskend.specs.Lending.{with_session}

@@ -30,7 +30,7 @@ use Rattle.std_alloc.proofs.VecSteps.Shapes.{after}
 use Rattle.std_heap.specs.contracts.Global as heap
 use Rattle.std_heap.proofs.Global.TheLaws.{lowers as heap_lowers}
 use Rattle.hoiskend.specs.Sessions.{Session}
-use Rattle.hoiskend.specs.contracts.session.Session.{the_row as R}
+use Rattle.hoiskend.specs.contracts.held.Held.{the_row as R}
 use Rattle.hoiskend.specs.Open.{IsOpen}
 use Rattle.hoiskend.specs.Owning.{chunk, may_own}
 use Rattle.hoiskend.proofs.Memory.{handle_val, field_made, heap_val, Room, room_val, room_good, room_made, value_out}

@@ -2,7 +2,7 @@ use Rattle.std.proofs.Common.{ℕ, subst}
 use Rattle.show_main.specs.Ends.{EndsCounted}
 use Rattle.show_main.proofs.ShownLemmas.{exact_of, short_of, shown_of_all}
 use Rattle.show_main.specs.declared.run.TheConstants.{MOST_READS}
-use Rattle.show_main.proofs.run.run_counted.Goals as goal
+use Rattle.show_main.proofs.run.run.Goals as goal
 
 pub returns-clause-shown : goal.returns-clause-shown
 returns-clause-shown g c = shown_of_all c.show_all.result (g.R.Read.remaining c.args.reader.now.inner) (g.R.Read.remaining c.show_all.new.reader.inner)

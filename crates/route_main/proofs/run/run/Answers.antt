@@ -8,7 +8,7 @@ use Rattle.event_file.specs.Runs.{IsUndisturbed, OthersLeaveTheText}
 use Rattle.event_file.specs.Transcript.{IsTranscript}
 use Rattle.route_main.specs.Ends.{AnsweredAll, Ends, EndsCounted}
 use Rattle.route_main.proofs.EndsLemmas.{computed_of_all, computed_of_counted, ends_of_counted, refused_of_counted, transcript_of_all}
-use Rattle.route_main.proofs.run.run_counted.Goals as goal
+use Rattle.route_main.proofs.run.run.Goals as goal
 
 -- no listener disturbs another in what a run wrote that was done
 undisturbed_of_all : OthersLeaveTheText → (outcome : Outcome) (before after old new : Option (List ℕ)) → Ends outcome before after old new → outcome ≡ Done
