@@ -1,7 +1,9 @@
 //! What a handle has in its block of memory.
-ghost use Rattle.std.specs.Prelude.{◌≡◌, IfOk, is_err};
+ghost use Rattle.std.specs.Prelude.{◌≡◌, IfOk, is_err, length};
+ghost use Rattle.event_file.specs.Grammar.{command_of};
 ghost use Rattle.memory.specs.Refusing.{Rises};
-ghost use Rattle.hoiskend.specs.Sessions.{Heeds, fresh};
+ghost use Rattle.route_core.specs.declared.written.TheConstants.{MOST_WRITTEN};
+ghost use Rattle.hoiskend.specs.Sessions.{Heeds, Replies, fresh};
 
 use crate::session::Session;
 use event_file::{Bad, is_passed, read_said};
@@ -49,9 +51,17 @@ impl Held {
         if is_passed(line) {
             return self.session.pass();
         }
-        match read_said(line, &mut self.written) {
-            Some(said) => self.session.obey(&said),
-            None => self.session.reject(Bad),
-        }
+        reply(&mut self.session, line, &mut self.written)
+    }
+}
+
+/// Takes a line that is to be answered. The bytes of a write that it spells are put into `room`.
+fn reply(session: &mut Session, line: &[u8], room: &mut [u8]) -> u32
+    requires { length room.old ≡ MOST_WRITTEN }
+    ensures { Replies session.old (command_of line.now) result session.new }
+{
+    match read_said(line, room) {
+        Some(said) => session.obey(&said),
+        None => session.reject(Bad),
     }
 }
