@@ -1,6 +1,6 @@
 //! A message in the layout of another system: a function that the library exports beside those over a handle, since it
 //! has no world.
-ghost use Rattle.std.specs.Prelude.{◌≡◌, Err, IfErr, IfOk, Ok, length};
+ghost use Rattle.std.specs.Prelude.{◌≡◌, Err, IfErr, Ok, OnOk, length};
 ghost use Rattle.route_layouts.specs.Conversion.{counterpart as counterpart_of};
 ghost use Rattle.route_layouts.specs.Systems.{layout_of};
 ghost use Rattle.hoiskend.specs.Converted.{code_of, code_of_fault, conversion, given_by, size_by, system_numbered};
@@ -37,14 +37,14 @@ fn fault_code(fault: Fault) -> u32
     }
 }
 
-/// The message of one system in the layout of another, or why it has none there.
-fn counterpart(from: System, to: System, message: &[u8]) -> Result<Converted, Fault>
-    ensures there { IfOk result (λ new. counterpart_of (layout_of from) (layout_of to) message.now ≡ Ok new.items) }
+/// Puts the message of one system in the layout of another into `made`, or answers why it has none there.
+fn counterpart(from: System, to: System, message: &[u8], made: &mut Converted) -> Result<(), Fault>
+    ensures there { OnOk result (counterpart_of (layout_of from) (layout_of to) message.now ≡ Ok made.new.items) }
     ensures fault { IfErr result (λ why. counterpart_of (layout_of from) (layout_of to) message.now ≡ Err why) }
 {
     let one = from.layout();
     let other = to.layout();
-    convert(&one, &other, message)
+    convert(&one, &other, message, made)
 }
 
 /// Puts a message of one system in the layout of another to the front of `out`, where there is room for all of it, and how
@@ -65,8 +65,9 @@ pub extern "C" fn hk_convert(
     let (Some(from), Some(to)) = (system_of(from), system_of(to)) else {
         return Errno::EINVAL.number();
     };
-    match counterpart(from, to, message) {
-        Ok(new) => give(&new, out, size),
+    let mut made = Converted::new();
+    match counterpart(from, to, message, &mut made) {
+        Ok(()) => give(&made, out, size),
         Err(fault) => fault_code(fault),
     }
 }

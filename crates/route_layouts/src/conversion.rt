@@ -1,4 +1,4 @@
-ghost use Rattle.std.specs.Prelude.{◌≡◌, ◌≤◌, ◌++◌, true, false, length, replicate, slice_index, IfErr, IfOk};
+ghost use Rattle.std.specs.Prelude.{◌≡◌, ◌≤◌, ◌++◌, [], true, false, length, replicate, slice_index, IfErr, OnOk};
 ghost use Rattle.std.specs.Bool.{IsTrue};
 ghost use Rattle.route_layouts.specs.Places.{are_within, with_numbers};
 ghost use Rattle.route_layouts.specs.Layouts.{IsHeader, IsLayout, header_of};
@@ -10,30 +10,31 @@ use crate::change::Change;
 use crate::numbers::{fit, put_numbers, read_numbers};
 use crate::{Converted, FIELDS, Fault, Fields, Header, Layout, Order, Place};
 
-/// A message of one layout in another.
+/// A message of one layout in another, which is put into `made`; what that held is lost, also where it is refused.
 ///
 /// Refused in this order: `Kind` for a type that is none of 1 to 13, `Length` for fewer bytes than the header has or
 /// where the message or its header says another length than it has, `Version` for another version than the layout's,
 /// `Overrun` where the length byte of an address counts bytes past the end, and `Wide` where a place of the other layout
 /// has too few bytes for its number, or a link-layer address is too long there and can't be cut. What has no place there
 /// is left out.
-pub fn convert(from: &Layout, to: &Layout, message: &[u8]) -> Result<Converted, Fault>
+pub fn convert(from: &Layout, to: &Layout, message: &[u8], new: &mut Converted) -> Result<(), Fault>
     requires from { IsLayout from.now }
     requires to { IsLayout to.now }
-    ensures converted { IfOk result (λ new. IsConverted from.now to.now message.now new.items) }
+    ensures converted { OnOk result (IsConverted from.now to.now message.now made.new.items) }
     ensures refused { IfErr result (λ fault. IsRefused from.now to.now message.now fault) }
 {
     let numbers = read_header(from, message)?;
     let kind = byte_at(message, 3);
     let size = from.header(kind).size;
     let change = Change::between(from, to);
-    let addresses = convert_addresses(&change, message, numbers.addrs, size)?;
+    let mut bytes = Converted::new();
+    let addresses = convert_addresses(&change, message, numbers.addrs, size, &mut bytes)?;
     if !addresses.fit {
         return Err(Fault::Wide);
     }
     let header = to.header(kind);
     let numbers = Fields {
-        length: (header.size + addresses.bytes.len()) as u64,
+        length: (header.size + bytes.len()) as u64,
         version: to.version,
         header_length: header.size as u64,
         errno: errno_as(from, to, numbers.errno),
@@ -41,7 +42,8 @@ pub fn convert(from: &Layout, to: &Layout, message: &[u8]) -> Result<Converted, 
         addrs: addresses.bits,
         ..numbers
     };
-    write_message(to.order, &header, &numbers, &addresses.bytes)
+    made.clear();
+    write_message(to.order, &header, &numbers, &bytes, made)
 }
 
 /// The errno by the other's number.
@@ -87,18 +89,20 @@ fn says_size(header: &Header, size: u64) -> bool
     header.places.header_length.width == 0 || size == header.size as u64
 }
 
-/// The header with these numbers, and the addresses behind it.
+/// Puts the header with these numbers, and the addresses behind it, into `message`, which is empty.
 fn write_message(
     order: Order,
     header: &Header,
     numbers: &Fields<u64>,
     addresses: &[u8],
-) -> Result<Converted, Fault>
+    message: &mut Converted,
+) -> Result<(), Fault>
+    requires empty { message.old.items ≡ [] }
     requires header { IsHeader header.now.size header.now.places }
     requires size { header.now.size ≤ 200 }
     requires room { length addresses.now ≤ 2104 }
-    ensures message { IfOk result (λ message. (is_narrow header.now numbers.now ≡ true)
-        × (message.items ≡ head_of order header.now numbers.now ++ addresses.now)) }
+    ensures message { OnOk result ((is_narrow header.now numbers.now ≡ true)
+        × (message.new.items ≡ head_of order header.now numbers.now ++ addresses.now)) }
     ensures wide { IfErr result (λ fault. (fault ≡ Fault.Wide) × (is_narrow header.now numbers.now ≡ false)) }
 {
     let places = header.places.in_order();
@@ -106,22 +110,21 @@ fn write_message(
     if !fit(&places, &numbers) {
         return Err(Fault::Wide);
     }
-    let mut message = written(order, header.size, &places, &numbers);
+    write_head(order, header.size, &places, &numbers, message);
     message.try_extend_from_slice(addresses).unwrap();
-    Ok(message)
+    Ok(())
 }
 
-/// A header of so many bytes with these numbers, and zeros elsewhere.
-fn written(order: Order, size: usize, places: &[Place], numbers: &[u64]) -> Converted
+/// Puts a header of so many bytes with these numbers, and zeros elsewhere, into `message`, which is empty.
+fn write_head(order: Order, size: usize, places: &[Place], numbers: &[u64], message: &mut Converted)
+    requires empty { message.old.items ≡ [] }
     requires count { length numbers.now ≡ length places.now }
     requires within { IsTrue (are_within size places.now) }
     requires size { size ≤ 200 }
-    ensures head { result.items ≡ with_numbers order places.now numbers.now (replicate size 0) }
-    ensures size { length result.items ≡ size }
+    ensures head { message.new.items ≡ with_numbers order places.now numbers.now (replicate size 0) }
+    ensures size { length message.new.items ≡ size }
 {
     let mut head = [0; 200];
     put_numbers(order, places, numbers, &mut head[..size]);
-    let mut message = Converted::new();
     message.try_extend_from_slice(&head[..size]).unwrap();
-    message
 }

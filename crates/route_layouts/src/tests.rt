@@ -1,5 +1,5 @@
 //! An address's announcement in each layout, made by a second writing of the layouts.
-use crate::{System, convert};
+use crate::{Converted, System, convert};
 use std::process::Abort;
 use std::test::Fail;
 
@@ -50,13 +50,14 @@ fn announced(rt: HostRuntime) -> Result<(), Fail> {
     for (system, digits) in TODAY {
         let new = system.layout();
         let wanted = message_of(&rt, digits)?;
-        let there = convert(&old, &new, &announced);
-        assert!(rt; there.is_ok(), "{digits}");
-        if let Ok(there) = there {
-            assert_eq!(rt; there.as_slice(), wanted.as_slice(), "{digits}");
-            let back = convert(&new, &old, &there);
-            assert!(rt; back.is_ok(), "{digits}");
-        }
+        let mut there = Converted::new();
+        assert!(rt;
+            convert(&old, &new, &announced, &mut there).is_ok(),
+            "{digits}"
+        );
+        assert_eq!(rt; there.as_slice(), wanted.as_slice(), "{digits}");
+        let mut back = Converted::new();
+        assert!(rt; convert(&new, &old, &there, &mut back).is_ok(), "{digits}");
     }
     Ok(())
 }

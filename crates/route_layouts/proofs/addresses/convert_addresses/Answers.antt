@@ -8,7 +8,7 @@ use Rattle.route_layouts.proofs.addresses.convert_addresses.Goals.{then-is_there
 
 pub loop-bit-init : goal.loop-bit-init
 unfolding offset_before bytes_by addrs_before has_room_before fit_before
-loop-bit-init c = record { here = refl; small = omega arith; found = c.new-bytes.ensures; size = omega (arith, ap length c.new-bytes.ensures); bits = refl; few = omega arith; fit = refl; room = refl }
+loop-bit-init c = record { here = refl; small = omega arith; found = c.requires.empty; size = omega (arith, ap length c.requires.empty); bits = refl; few = omega arith; fit = refl; room = refl }
 
 pub returns-then-at-length-clause-overrun : goal.returns-then-at-length-clause-overrun
 returns-then-at-length-clause-overrun c =
