@@ -34,10 +34,10 @@ def begun(library):
     return world, codes
 
 
-def commands(library, outs):
-    """Each call that answers a code, with what it is given and with the kinds of that."""
+def commands(library, outs, only):
+    """Each call that answers a code, or this one alone, with what it is given and with the kinds of that."""
     given = {**each_call(outs), "hk_redirect": (0x14000001, 0x0A000003, 0x0A000002)}
-    for name in sorted(library.of_worlds() - {"hk_open"}):
+    for name in [only] if only else sorted(library.of_worlds() - {"hk_open"}):
         result, parameters = library.functions[name]
         if result == "uint32_t":
             kinds = [kind for kind, _ in parameters[1:]]
@@ -49,10 +49,10 @@ def claim_none(sweep, what, codes):
     sweep.claim(f"{what}: {len(codes)} calls, {codes.count(NO_MEMORY)} without memory", codes and NO_MEMORY not in codes)
 
 
-def give_each_number(sweep):
+def give_each_number(sweep, only=None):
     """Each parameter that is a number has each value of every class, in a world that was just begun."""
     library, outs = sweep.library(), Outs()
-    for name, given, kinds in commands(library, outs):
+    for name, given, kinds in commands(library, outs, only):
         for at, kind in enumerate(kinds):
             codes = []
             for number in NUMBERS.get(kind, ()):
@@ -69,13 +69,13 @@ def contents(n):
     return bytes(n), sized(message(ADD, {DST: inet("30.0.0.0")}).ljust(n, b"\1")[:n]), b"#" * n
 
 
-def give_each_length(sweep):
+def give_each_length(sweep, only=None):
     """Each parameter that is bytes has each length."""
     library, outs = sweep.library(), Outs()
-    for name, given, kinds in commands(library, outs):
+    for name, given, kinds in commands(library, outs, only):
         for at, kind in enumerate(kinds):
             world, codes = begun(library)
-            for n in range(MOST_GIVEN if kind == BYTES else 0):
+            for n in range(MOST_GIVEN + 1 if kind == BYTES else 0):
                 codes += [world.call(name, *given[:at], text, *given[at + 1 :]) for text in contents(n)]
             world.close()
             claim_none(sweep, f"{name} with bytes of each length at {at}", codes)
@@ -84,7 +84,7 @@ def give_each_length(sweep):
 
 def write_each_address(sweep):
     """A route to each address of a class, and any messages; each is asked for, and goes."""
-    library, rng, codes = sweep.library(), random.Random(0), []
+    library, rng, codes, outs = sweep.library(), random.Random(0), [], Outs()
     for first in range(256):
         world, began = begun(library)
         codes += began
@@ -92,9 +92,9 @@ def write_each_address(sweep):
             given = {DST: bytes([16, 2, 0, 0, first, *end.to_bytes(3, "big"), *bytes(8)]), GATEWAY: inet("10.0.0.2")}
             routes = [message(kind, given, flags=0x807) for kind in (1, 4, 3, 8, 2)]
             masked = message(ADD, {**given, NETMASK: mask(first % 33)}, flags=0x103, inits=0xFF, metrics=range(1, 11))
-            texts = [*routes, masked, *(any_message(rng) for _ in range(16))]
+            texts = [*routes, masked, *(any_message(rng) for _ in range(4))]
             codes += [world.call("hk_write_n", b"a", text) for text in texts]
-            codes += [world.call("hk_packet", first << 24 | end, ctypes.byref(Outs().route)), world.call("hk_read_n", b"a")]
+            codes += [world.call("hk_packet", first << 24 | end, ctypes.byref(outs.route)), world.call("hk_read_n", b"a")]
         codes.append(world.call("hk_dump", False, 0, 1 << 20))
         world.close()
     claim_none(sweep, "writes to each address", codes)
@@ -105,7 +105,7 @@ def show_each_length(sweep):
     """Messages in words, of each length."""
     library = sweep.library()
     shows = Shows(library)
-    codes = [shows.into(text, n % 2 * (1 << 16))[0] for n in range(MOST_GIVEN) for text in contents(n)[:2]]
+    codes = [shows.into(text, n % 2 * (1 << 16))[0] for n in range(MOST_GIVEN + 1) for text in contents(n)[:2]]
     claim_none(sweep, "messages in words of each length", codes)
     claim_rest(sweep, library)
 
@@ -114,13 +114,13 @@ def claim_rest(sweep, library):
     sweep.claim("ample memory: all is freed, and none was refused", not library.get("blocks") and not library.get("refused"))
 
 
-JOBS = give_each_number, give_each_length, write_each_address, show_each_length
-
-
 def jobs():
-    yield from ((job,) for job in JOBS)
+    yield from ((job,) for job in (give_each_number, give_each_length, write_each_address, show_each_length))
 
 
 def trials():
     """A library that answers at will that there is no memory, and the sweep that has to notice it."""
-    yield from (("starves", job) for job in JOBS)
+    yield "starves", give_each_number, "hk_redirect"
+    yield "starves", give_each_length, "hk_write_n"
+    yield "starves", write_each_address
+    yield "starves", show_each_length
