@@ -268,6 +268,56 @@ uint32_t hk_redirect(hk_world *world, uint32_t destination, uint32_t gateway, ui
  */
 uint32_t hk_losing(hk_world *world, uint32_t address);
 
+/* ---- requests for routes ---- */
+
+/* What is asked of a route. hk_request_of begins one, and its fields are set then. */
+typedef struct hk_request {
+	uint32_t destination;        /* its key */
+	uint32_t gateway;            /* its gateway's address, where `family` is HK_AF_INET */
+	uint32_t flags;              /* RTF_.. of <net/route.h> */
+	uint32_t seq;                /* the number by which the writer knows the reply */
+	uint32_t inits;              /* the metrics that are set, RTV_.. of <net/route.h>: others here aren't looked at */
+	uint32_t locks;              /* the metrics that are locked, RTV_.. */
+	uint32_t mtu;
+	uint32_t hopcount;
+	uint32_t expire;
+	uint32_t recvpipe;
+	uint32_t sendpipe;
+	uint32_t ssthresh;
+	uint32_t rtt;
+	uint32_t rttvar;
+	uint8_t prefix;              /* the bits of its mask, or HK_HOST where none is named */
+	uint8_t genmask;             /* the bits of the mask of its clones, or HK_HOST where none is named */
+	uint8_t family;              /* of its gateway: HK_AF_INET or HK_AF_LINK, or 0 where none is named */
+	uint8_t link_n;              /* how many bytes its gateway has in `link`, where `family` is HK_AF_LINK */
+	uint8_t link[HK_LINK_BYTES]; /* its gateway's sockaddr_dl */
+} hk_request;
+
+/* A request about a destination and the bits of its mask, which says nothing else. */
+static inline hk_request hk_request_of(uint32_t destination, uint8_t prefix)
+{
+	hk_request request;
+
+	memset(&request, 0, sizeof request);
+	request.destination = destination;
+	request.prefix = prefix;
+	request.genmask = HK_HOST;
+	return request;
+}
+
+/*
+ * Each writes to a socket the message that a `route` line with these words would (docs/FORMATS.md), and answers as
+ * hk_write_n of that message does.
+ *
+ * HK_EINVAL: more than 32 bits of a mask, another family, or a link-layer address that isn't of 8 to 32 bytes with their
+ * number and HK_AF_LINK before all others. Then what hk_write_n says.
+ */
+uint32_t hk_add_route_n(hk_world *world, const uint8_t *id, size_t id_n, const hk_request *request);
+uint32_t hk_delete_route_n(hk_world *world, const uint8_t *id, size_t id_n, const hk_request *request);
+uint32_t hk_change_route_n(hk_world *world, const uint8_t *id, size_t id_n, const hk_request *request);
+uint32_t hk_get_route_n(hk_world *world, const uint8_t *id, size_t id_n, const hk_request *request);
+uint32_t hk_lock_route_n(hk_world *world, const uint8_t *id, size_t id_n, const hk_request *request);
+
 /* ---- dumps: of all routes, or where has_filter of those that have a flag of the filter ---- */
 
 /* Puts into `size` how many bytes to ask for: those of the dump and a tenth more. No open world refuses it. */
@@ -424,6 +474,31 @@ static inline uint32_t hk_write_as(uint32_t system, hk_world *world, const char 
 	if (code == HK_OK)
 		return hk_write(world, id, own, size);
 	return code == HK_VERSION ? HK_EPROTONOSUPPORT : HK_EINVAL;
+}
+
+static inline uint32_t hk_add_route(hk_world *world, const char *id, const hk_request *request)
+{
+	return hk_add_route_n(world, (const uint8_t *)id, strlen(id), request);
+}
+
+static inline uint32_t hk_delete_route(hk_world *world, const char *id, const hk_request *request)
+{
+	return hk_delete_route_n(world, (const uint8_t *)id, strlen(id), request);
+}
+
+static inline uint32_t hk_change_route(hk_world *world, const char *id, const hk_request *request)
+{
+	return hk_change_route_n(world, (const uint8_t *)id, strlen(id), request);
+}
+
+static inline uint32_t hk_get_route(hk_world *world, const char *id, const hk_request *request)
+{
+	return hk_get_route_n(world, (const uint8_t *)id, strlen(id), request);
+}
+
+static inline uint32_t hk_lock_route(hk_world *world, const char *id, const hk_request *request)
+{
+	return hk_lock_route_n(world, (const uint8_t *)id, strlen(id), request);
 }
 
 static inline uint32_t hk_read(hk_world *world, const char *id)

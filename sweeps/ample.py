@@ -3,7 +3,7 @@ each length."""
 import ctypes
 import random
 
-from calls import NO_MEMORY, World
+from calls import HOST, NO_MEMORY, Request, World
 from in_words import Shows
 from messages import ADD, DST, GATEWAY, NETMASK, any_message, inet, mask, message, sized
 from misuse import Outs, each_call
@@ -64,6 +64,22 @@ def give_each_number(sweep, only=None):
     claim_rest(sweep, library)
 
 
+def ask_with_each_number(sweep):
+    """Each field of a request has each value of every class."""
+    library, codes = sweep.library(), []
+    fields = [(name, kind.__name__) for name, kind in Request._fields_ if name != "link"]
+    for name, kind in fields:
+        for number in NUMBERS["uint32_t" if kind == "c_uint" else "uint8_t"]:
+            world, began = begun(library)
+            request = Request(destination=0x1E000000, prefix=8, genmask=HOST, family=2, gateway=0x0A000002, inits=0xFF)
+            setattr(request, name, number)
+            given = b"a", ctypes.byref(request)
+            codes += [*began, *(world.call(f"hk_{verb}_route_n", *given) for verb in ("add", "change", "get", "lock", "delete"))]
+            world.close()
+    claim_none(sweep, "requests with each number", codes)
+    claim_rest(sweep, library)
+
+
 def contents(n):
     """Bytes of this number: those that are no message and no line, one that has its length, and a comment."""
     return bytes(n), sized(message(ADD, {DST: inet("30.0.0.0")}).ljust(n, b"\1")[:n]), b"#" * n
@@ -115,7 +131,9 @@ def claim_rest(sweep, library):
 
 
 def jobs():
-    yield from ((job,) for job in (give_each_number, give_each_length, write_each_address, show_each_length))
+    yield from ((job,) for job in (
+        give_each_number, ask_with_each_number, give_each_length, write_each_address, show_each_length,
+    ))
 
 
 def trials():

@@ -103,6 +103,7 @@ def run_programs(sweep, compiler):
 
 # What the program answers, call by call, where that isn't `Done`.
 ANSWERED = {
+    "hk_add_route(&w, \"a\", &request)": ["Done", "It is there already"],
     "hk_losing(&w, host)": ["A malformed request", "Done"], "hk_open(&w)": ["Done", "It is there already"],
     "hk_redirect(&w, host, address, address)": ["No route to the host"], "hk_shut(&w, \"a\")": ["Done", "No such socket"],
     "hk_line(&w, line, 4)": ["A line that is no command"],

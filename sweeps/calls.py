@@ -11,8 +11,10 @@ from grammar import is_line
 from prototypes import Sources, functions_in_header
 
 OK, NO_MEMORY, EXISTS, INVALID, LEFT_OUT, BAD = 0, 55, 17, 22, 12, 256
-HOST, INET = 33, 2
+HOST, INET, LINK = 33, 2, 18
 LINK_BYTES = 32
+# What no call has of a `route` line.
+UNTYPED = {b"ifp", b"ifa"}
 
 
 class Handle(ctypes.Structure):
@@ -27,11 +29,22 @@ class Route(ctypes.Structure):
     ]
 
 
+METRICS = "mtu", "hopcount", "expire", "recvpipe", "sendpipe", "ssthresh", "rtt", "rttvar"
+
+
+class Request(ctypes.Structure):
+    _fields_ = [
+        *((name, ctypes.c_uint32) for name in ("destination", "gateway", "flags", "seq", "inits", "locks", *METRICS)),
+        *((name, ctypes.c_uint8) for name in ("prefix", "genmask", "family", "link_n")),
+        ("link", ctypes.c_uint8 * LINK_BYTES),
+    ]
+
+
 TYPES = {
     "void": None, "bool": ctypes.c_bool, "uint8_t": ctypes.c_uint8, "uint32_t": ctypes.c_uint32,
     "size_t": ctypes.c_size_t, "uint64_t *": ctypes.POINTER(ctypes.c_uint64), "hk_world *": ctypes.POINTER(Handle),
     "hk_route *": ctypes.POINTER(Route), "const uint8_t *": ctypes.c_void_p, "uint8_t *": ctypes.c_void_p,
-    "size_t *": ctypes.POINTER(ctypes.c_size_t),
+    "size_t *": ctypes.POINTER(ctypes.c_size_t), "const hk_request *": ctypes.POINTER(Request),
 }
 
 
@@ -165,7 +178,7 @@ class World:
 
     def told(self, line):
         """A line by the call of its command, and what a transcript has of what that gives."""
-        if not is_line(line) or line.startswith(b"route "):
+        if not is_line(line) or not UNTYPED.isdisjoint(line.split(b" ")):
             code = self.call("hk_line", line)
             return b"bad\n" if code == BAD else text_of(code)
         command, *words = line.decode().split(" ")
@@ -265,8 +278,37 @@ def flags(world, words):
     return dump_by(world, True, int(words[0], 16), words[1])
 
 
+def request_of(number, destination, options):
+    """The request that says what these words of a `route` line say."""
+    address, _, prefix = {"default": "0.0.0.0/0"}.get(destination, destination).partition("/")
+    request = Request(destination=number_of(address), seq=int(number), prefix=int(prefix or HOST), genmask=HOST)
+    for name, value in zip(options[::2], options[1::2]):
+        if name in METRICS:
+            setattr(request, name, int(value))
+            request.inits |= 1 << METRICS.index(name)
+        elif name == "inits":
+            request.inits |= int(value, 16)
+        elif name in ("flags", "locks"):
+            setattr(request, name, int(value, 16))
+        elif name == "genmask":
+            request.genmask = int(value)
+        elif value.startswith("link:"):
+            link = bytes.fromhex(value.removeprefix("link:"))
+            request.family, request.link_n = LINK, len(link)
+            request.link[: len(link)] = link
+        else:
+            request.family, request.gateway = INET, number_of(value)
+    return request
+
+
+def route(world, words):
+    name, number, verb, destination, *options = words
+    request = request_of(number, destination, options)
+    return text_of(world.call(f"hk_{verb}_route_n", name.encode(), ctypes.byref(request)))
+
+
 COMMANDS = {
-    "if": attach, "addr": add_address, "unaddr": remove_address, "open": listen, "close": shut, "loopback": loopback,
+    "route": route, "if": attach, "addr": add_address, "unaddr": remove_address, "open": listen, "close": shut, "loopback": loopback,
     "write": write, "read": read, "lost": lost, "packet": packet, "redirect": redirect, "losing": losing, "dump": dump,
     "flags": flags,
 }

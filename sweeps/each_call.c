@@ -14,6 +14,7 @@ int main(void)
 	uint64_t number = 0;
 	size_t size = 0;
 	hk_route route;
+	hk_request request;
 	hk_world w = HK_CLOSED;
 	ANSWERS(hk_losing(&w, host));
 	ANSWERS(hk_open(&w));
@@ -40,6 +41,16 @@ int main(void)
 	ANSWERS(hk_redirect(&w, host, address, address));
 	ANSWERS(hk_losing(&w, host));
 	ANSWERS(hk_write(&w, "a", out, hk_message_length(out)));
+	request = hk_request_of(HK_ADDRESS(30, 0, 0, 0), 8);
+	request.family = HK_AF_INET;
+	request.gateway = host;
+	request.flags = 3;
+	ANSWERS(hk_add_route(&w, "a", &request));
+	ANSWERS(hk_add_route(&w, "a", &request));
+	ANSWERS(hk_get_route(&w, "a", &request));
+	ANSWERS(hk_change_route(&w, "a", &request));
+	ANSWERS(hk_lock_route(&w, "a", &request));
+	ANSWERS(hk_delete_route(&w, "a", &request));
 	ANSWERS(hk_lost(&w, "a", &number));
 	ANSWERS(hk_read(&w, "a"));
 	printf("%d bytes\n", (int)hk_fetch_size(&w));

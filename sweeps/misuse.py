@@ -2,7 +2,7 @@
 and with numbers that say nothing."""
 import ctypes
 
-from calls import BAD, EXISTS, INVALID, OK, Handle, Route, World
+from calls import BAD, EXISTS, HOST, INET, INVALID, LINK, LINK_BYTES, OK, Handle, Request, Route, World
 from runs import MOST_LINE
 
 TOO_LONG, NO_SOCKET = 40, 9
@@ -21,6 +21,7 @@ class Outs:
         self.number = ctypes.c_uint64(FILLED)
         self.route = Route.from_buffer_copy(bytes([FILLED]) * ctypes.sizeof(Route))
         self.room = ctypes.create_string_buffer(bytes([FILLED]) * 64)
+        self.request = Request(destination=0x1E000000, prefix=8, genmask=HOST, family=INET, gateway=0x0A000002)
 
     def stay(self):
         return self.number.value == FILLED and {*bytes(self.route), *self.room.raw[:64]} == {FILLED}
@@ -29,7 +30,9 @@ class Outs:
 def each_call(outs):
     """A call of each function, with what an open world would take."""
     size, route, room = ctypes.byref(outs.number), ctypes.byref(outs.route), ctypes.addressof(outs.room)
+    request = ctypes.byref(outs.request)
     return {
+        **{f"hk_{verb}_route_n": (b"a", request) for verb in ("add", "delete", "change", "get", "lock")},
         "hk_attach_n": (b"ed0", 0, 6, b"\1\2\3"),
         "hk_add_address_n": (b"le0", 0x0A000002, 8, True, False, 0),
         "hk_remove_address_n": (b"le0", 0x0A000001),
@@ -146,6 +149,34 @@ def numbers_that_say_nothing(sweep):
         world.close()
 
 
+def request_that_says_nothing(sweep):
+    """Each number of bits of a mask, each family, each length of a link-layer address and each first two bytes of one."""
+    library = sweep.library()
+    link = bytes([20, LINK]) + bytes(LINK_BYTES - 2)
+    for number in range(256):
+        masked = number <= MOST_PREFIX or number == HOST
+        asked = {
+            ("prefix", number): masked, ("genmask", number): masked, ("family", number): number in (0, INET, LINK),
+            ("link_n", number): number == 20, ("length", number): number == 20, ("kind", number): number == LINK,
+        }
+        for (field, value), is_one in asked.items():
+            world, outs = begun(library), Outs()
+            request = outs.request
+            request.link[:] = link
+            if field in ("link_n", "length", "kind"):
+                request.family, request.link_n = LINK, 20
+            if field in ("length", "kind"):
+                request.link[field == "kind"] = value
+            else:
+                setattr(request, field, value)
+            if field == "family":
+                request.link_n = 20
+            holds = is_asked if is_one else is_refused
+            for verb in ("add", "get"):
+                sweep.claim(f"{verb} with {field} {value}", holds(world, f"hk_{verb}_route_n", b"a", ctypes.byref(request)))
+            world.close()
+
+
 def message_of_each_length(sweep):
     """What is no message is answered so up to 8,192 bytes, is too long beyond, and no command past 8,246."""
     world = begun(sweep.library())
@@ -226,6 +257,6 @@ def trials():
 
 def jobs():
     yield from ((job,) for job in (
-        call_closed_worlds, open_twice, name_of_each_length, numbers_that_say_nothing, message_of_each_length,
+        call_closed_worlds, open_twice, name_of_each_length, numbers_that_say_nothing, request_that_says_nothing, message_of_each_length,
         line_of_each_length, fetch_into_each_room, worlds_lie_anywhere,
     ))

@@ -74,7 +74,8 @@ CALLS = {
     "packet": "hk_packet", "redirect": "hk_redirect", "losing": "hk_losing", "dump N": "hk_dump",
     "dump ask": "hk_dump_size",
 }
-NO_CALL, NO_LINE = {"route", "flags X N", "flags X ask"}, {"hk_open", "hk_line", "hk_show", "hk_convert"}
+NO_CALL = {"route", "flags X N", "flags X ask"}
+NO_LINE = {"hk_open", "hk_line", "hk_show", "hk_convert", "hk_add_route_n"}
 EINVAL, ENOBUFS = 22, 55
 
 

@@ -57,11 +57,12 @@ def functions_in_header(header):
 
 NUMBERS = {"u8": "uint8_t", "u16": "uint16_t", "u32": "uint32_t", "u64": "uint64_t", "usize": "size_t", "bool": "bool"}
 IN_CRATE = {
-    **NUMBERS, "&mut Handle": "hk_world *", "&mut Opening": "hk_world *", "&mut Route": "hk_route *",
+    **NUMBERS, "&mut Handle": "hk_world *", "&mut Opening": "hk_world *", "&mut Route": "hk_route *", "&Request": "const hk_request *",
     "&mut u64": "uint64_t *", "&mut usize": "size_t *", "&mut Size": "size_t *",
 }
 IN_RUST = {
-    **NUMBERS, "*mut World": "hk_world *", "*mut Route": "hk_route *", "*mut u64": "uint64_t *",
+    **NUMBERS, "*mut World": "hk_world *", "*mut Route": "hk_route *", "*const Request": "const hk_request *",
+    "*mut u64": "uint64_t *",
     "*mut usize": "size_t *", "*const u8": "const uint8_t *", "*mut u8": "uint8_t *",
 }
 SLICES = {"&[u8]": "const uint8_t *", "&mut [u8]": "uint8_t *"}
@@ -96,20 +97,20 @@ def functions_in_rust(rust):
     return functions_in(re.search(r'extern "C" \{(.*?)\n\}', rust, re.S)[1], "", IN_RUST)
 
 
-# ---- the route, as the types and names of its fields
+# ---- a route and a request, as the types and names of their fields
 
 def constant(text, name):
     return int(re.search(rf"\b{name}\b(?:: \w+)?(?: =)? (\d+)", text)[1])
 
 
-def route_in_header(header):
-    fields = re.search(r"typedef struct hk_route \{(.*?)\}", without_comments(header), re.S)[1]
+def struct_in_header(header, struct):
+    fields = re.search(rf"typedef struct {struct} \{{(.*?)\}}", without_comments(header), re.S)[1]
     found = re.findall(r"(\w+) (\w+)(?:\[(\w+)\])?;", fields)
     return [(kind, name, constant(header, size) if size else 1) for kind, name, size in found]
 
 
-def route_in(text):
-    fields = re.search(r"pub(?:\(crate\))? struct Route \{(.*?)\n\}", without_comments(text), re.S)[1]
+def struct_in(text, struct):
+    fields = re.search(rf"pub(?:\(crate\))? struct {struct} \{{(.*?)\n\}}", without_comments(text), re.S)[1]
     found = re.findall(r"pub(?:\(crate\))? (\w+): (?:\[(\w+); (\w+)\]|(\w+)),", fields)
     return [(NUMBERS[kind or of], name, constant(text, n) if n else 1) for name, of, n, kind in found]
 
@@ -149,8 +150,10 @@ def differences(sources):
         "functions of the header and the crate": header == crate != {},
         "functions of the header and Rust": header == functions_in_rust(sources.rust),
         "inline functions": inline == {name for name in header if name.endswith("_n")},
-        "the route": as_bytes(route_in_header(sources.header)) == as_bytes(route_in(sources.crate)) != [],
-        "the route in Rust": route_in_header(sources.header) == route_in(sources.rust),
+        "the route": as_bytes(struct_in_header(sources.header, "hk_route")) == as_bytes(struct_in(sources.crate, "Route")) != [],
+        "the route in Rust": struct_in_header(sources.header, "hk_route") == struct_in(sources.rust, "Route"),
+        "the request": struct_in_header(sources.header, "hk_request") == struct_in(sources.crate, "Request") != [],
+        "the request in Rust": struct_in_header(sources.header, "hk_request") == struct_in(sources.rust, "Request"),
         "errnos of the header": errnos_in_header(sources.header) == errnos_in_crate(sources.errnos) != {},
         "errnos in Rust": errnos_in_rust(sources.rust_errnos) == errnos_in_crate(sources.errnos),
         "errnos of FORMATS": set(errnos_in_formats(Pages.of_today())) == numbers,
@@ -181,6 +184,8 @@ SLIPS = [
     ("header", "static inline uint32_t hk_shut(hk", "inline functions", "static inline uint32_t hk_shutdown(hk"),
     ("header", "\tuint16_t index;", "the route", "\tuint32_t index;"),
     ("header", "#define HK_LINK_BYTES 32", "the route", "#define HK_LINK_BYTES 31"),
+    ("header", "\tuint32_t locks;", "the request", "\tuint16_t locks;"),
+    ("rust", "    pub(crate) genmask: u8,\n", "the request in Rust", ""),
     ("header", "HK_ENOSPC = 28,", "errnos of the header", "HK_ENOSPC = 29,"),
     ("header", 'case HK_ENOSPC: return "Too', "errnos of the header", 'case HK_ENOSPC: return "To'),
     ("header", "HK_BAD = 256", "the answer to a bad line", "HK_BAD = 255"),

@@ -24,6 +24,7 @@
 
 mod errno;
 mod messages;
+mod request;
 mod route;
 mod sys;
 mod system;
@@ -31,6 +32,7 @@ mod world;
 
 pub use errno::{Errno, LineError};
 pub use messages::{Dump, Message, Messages};
+pub use request::{Metrics, Request};
 pub use route::{Gateway, LinkAddress, Route};
 pub use system::{convert, Fault, System};
 pub use world::{Kind, Socket, World};

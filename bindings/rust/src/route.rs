@@ -37,6 +37,18 @@ pub struct LinkAddress {
 }
 
 impl LinkAddress {
+    /// The address with these bytes, or `None` where they aren't 8 to 32, of which the first is their number and the second
+    /// the family, 18.
+    pub fn new(sockaddr: &[u8]) -> Option<LinkAddress> {
+        let n = sockaddr.len();
+        let is_one = (8..=sys::LINK_BYTES).contains(&n) && sockaddr[..2] == [n as u8, sys::AF_LINK];
+        is_one.then(|| {
+            let mut bytes = [0; sys::LINK_BYTES];
+            bytes[..n].copy_from_slice(sockaddr);
+            LinkAddress { bytes, n: n as u8 }
+        })
+    }
+
     /// Its bytes, of which the first is their number and the second the family, 18.
     pub fn as_bytes(&self) -> &[u8] {
         &self.bytes[..usize::from(self.n)]

@@ -7,6 +7,7 @@ use std::ptr::null_mut;
 
 pub(crate) const LINK_BYTES: usize = 32;
 pub(crate) const AF_INET: u8 = 2;
+pub(crate) const AF_LINK: u8 = 18;
 /// The answer to a line that the grammar doesn't have.
 pub(crate) const BAD: u32 = 256;
 /// The most bytes of a message that was made for another system.
@@ -36,6 +37,31 @@ pub(crate) struct Route {
     pub(crate) link: [u8; LINK_BYTES],
 }
 
+/// A request for a route as the library reads it.
+#[repr(C)]
+#[derive(Clone, Copy, Default)]
+pub(crate) struct Request {
+    pub(crate) destination: u32,
+    pub(crate) gateway: u32,
+    pub(crate) flags: u32,
+    pub(crate) seq: u32,
+    pub(crate) inits: u32,
+    pub(crate) locks: u32,
+    pub(crate) mtu: u32,
+    pub(crate) hopcount: u32,
+    pub(crate) expire: u32,
+    pub(crate) recvpipe: u32,
+    pub(crate) sendpipe: u32,
+    pub(crate) ssthresh: u32,
+    pub(crate) rtt: u32,
+    pub(crate) rttvar: u32,
+    pub(crate) prefix: u8,
+    pub(crate) genmask: u8,
+    pub(crate) family: u8,
+    pub(crate) link_n: u8,
+    pub(crate) link: [u8; LINK_BYTES],
+}
+
 #[rustfmt::skip]
 extern "C" {
     fn hk_open(world: *mut World) -> u32;
@@ -52,6 +78,11 @@ extern "C" {
     fn hk_shut_n(world: *mut World, id: *const u8, id_n: usize) -> u32;
     fn hk_loopback_n(world: *mut World, id: *const u8, id_n: usize, on: bool) -> u32;
     fn hk_write_n(world: *mut World, id: *const u8, id_n: usize, message: *const u8, n: usize) -> u32;
+    fn hk_add_route_n(world: *mut World, id: *const u8, id_n: usize, request: *const Request) -> u32;
+    fn hk_delete_route_n(world: *mut World, id: *const u8, id_n: usize, request: *const Request) -> u32;
+    fn hk_change_route_n(world: *mut World, id: *const u8, id_n: usize, request: *const Request) -> u32;
+    fn hk_get_route_n(world: *mut World, id: *const u8, id_n: usize, request: *const Request) -> u32;
+    fn hk_lock_route_n(world: *mut World, id: *const u8, id_n: usize, request: *const Request) -> u32;
     fn hk_read_n(world: *mut World, id: *const u8, id_n: usize) -> u32;
     fn hk_lost_n(world: *mut World, id: *const u8, id_n: usize, lost: *mut u64) -> u32;
     fn hk_packet(world: *mut World, destination: u32, route: *mut Route) -> u32;
@@ -154,6 +185,26 @@ impl Handle {
                 message.len(),
             )
         }
+    }
+
+    pub(crate) fn add_route(&mut self, id: &[u8], request: &Request) -> u32 {
+        unsafe { hk_add_route_n(&mut self.world, id.as_ptr(), id.len(), request) }
+    }
+
+    pub(crate) fn delete_route(&mut self, id: &[u8], request: &Request) -> u32 {
+        unsafe { hk_delete_route_n(&mut self.world, id.as_ptr(), id.len(), request) }
+    }
+
+    pub(crate) fn change_route(&mut self, id: &[u8], request: &Request) -> u32 {
+        unsafe { hk_change_route_n(&mut self.world, id.as_ptr(), id.len(), request) }
+    }
+
+    pub(crate) fn get_route(&mut self, id: &[u8], request: &Request) -> u32 {
+        unsafe { hk_get_route_n(&mut self.world, id.as_ptr(), id.len(), request) }
+    }
+
+    pub(crate) fn lock_route(&mut self, id: &[u8], request: &Request) -> u32 {
+        unsafe { hk_lock_route_n(&mut self.world, id.as_ptr(), id.len(), request) }
     }
 
     pub(crate) fn read(&mut self, id: &[u8]) -> u32 {

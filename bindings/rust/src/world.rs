@@ -1,7 +1,7 @@
 //! Worlds, and what they are told.
 use crate::errno::done;
 use crate::sys::Handle;
-use crate::{convert, Dump, Errno, Fault, LineError, Messages, Route, System};
+use crate::{convert, Dump, Errno, Fault, LineError, Messages, Request, Route, System};
 use std::net::Ipv4Addr;
 
 /// The kinds of interfaces.
@@ -165,6 +165,54 @@ impl World {
     /// ```
     pub fn write(&mut self, socket: Socket, message: &[u8]) -> Result<(), Errno> {
         done(self.handle.write(socket.id(), message))
+    }
+
+    /// Writes to a socket the message that adds a route; the sockets hear it, and what it is answered.
+    ///
+    /// ```
+    /// # fn main() -> Result<(), hoiskend::Errno> {
+    /// # use hoiskend::{Errno, Gateway, Kind, Request, World};
+    /// # use std::net::Ipv4Addr;
+    /// let mut world = World::new()?;
+    /// world.attach("le0", Kind::Broadcast, 6, &[])?;
+    /// world.add_address("le0", Ipv4Addr::new(10, 0, 0, 1), 8, false, None)?;
+    /// let socket = world.listen("a", 100, 0)?;
+    /// let mut route = Request::of(Ipv4Addr::new(20, 0, 0, 0), Some(8));
+    /// route.gateway = Some(Gateway::Inet(Ipv4Addr::new(10, 0, 0, 2)));
+    /// route.flags = 0x3;
+    /// route.metrics.mtu = Some(1400);
+    /// world.add_route(socket, &route)?;
+    /// assert_eq!(world.add_route(socket, &route), Err(Errno::EEXIST));
+    /// world.get_route(socket, &route)?;
+    /// world.change_route(socket, &route)?;
+    /// world.lock_route(socket, &route)?;
+    /// world.delete_route(socket, &route)?;
+    /// assert_eq!(world.delete_route(socket, &route), Err(Errno::ESRCH));
+    /// # Ok(())
+    /// # }
+    /// ```
+    pub fn add_route(&mut self, socket: Socket, request: &Request) -> Result<(), Errno> {
+        done(self.handle.add_route(socket.id(), &request.told()))
+    }
+
+    /// Writes the message that deletes a route.
+    pub fn delete_route(&mut self, socket: Socket, request: &Request) -> Result<(), Errno> {
+        done(self.handle.delete_route(socket.id(), &request.told()))
+    }
+
+    /// Writes the message that changes a route.
+    pub fn change_route(&mut self, socket: Socket, request: &Request) -> Result<(), Errno> {
+        done(self.handle.change_route(socket.id(), &request.told()))
+    }
+
+    /// Writes the message that asks for a route.
+    pub fn get_route(&mut self, socket: Socket, request: &Request) -> Result<(), Errno> {
+        done(self.handle.get_route(socket.id(), &request.told()))
+    }
+
+    /// Writes the message that locks metrics of a route.
+    pub fn lock_route(&mut self, socket: Socket, request: &Request) -> Result<(), Errno> {
+        done(self.handle.lock_route(socket.id(), &request.told()))
     }
 
     /// Writes a message of another system. One that has no counterpart is refused at once, by its fault's errno, and

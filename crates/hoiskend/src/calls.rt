@@ -295,7 +295,7 @@ pub extern "C" fn hk_text(world: &mut Handle, out: &mut [u8]) -> usize
 
 /// Gives the world of a handle a command; nothing is done where there is none.
 #[tactic(auto, unfolding(crate::specs::Sessions::Calls))]
-fn obey(world: &mut Handle, said: Option<Said<'_>>) -> u32
+pub(crate) fn obey(world: &mut Handle, said: Option<Said<'_>>) -> u32
     ensures { Calls world.old.session (Asks said.entry) result world.new.session }
 {
     if !world.is_open() {
