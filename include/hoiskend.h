@@ -276,7 +276,7 @@ typedef struct hk_request {
 	uint32_t gateway;            /* its gateway's address, where `family` is HK_AF_INET */
 	uint32_t flags;              /* RTF_.. of <net/route.h> */
 	uint32_t seq;                /* the number by which the writer knows the reply */
-	uint32_t inits;              /* the metrics that are set, RTV_.. of <net/route.h>: others here aren't looked at */
+	uint32_t inits;              /* the metrics that are set, RTV_.. of <net/route.h>; no other is looked at */
 	uint32_t locks;              /* the metrics that are locked, RTV_.. */
 	uint32_t mtu;
 	uint32_t hopcount;
