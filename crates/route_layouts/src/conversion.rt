@@ -17,7 +17,12 @@ use crate::{Converted, FIELDS, Fault, Fields, Header, Layout, Order, Place};
 /// `Overrun` where the length byte of an address counts bytes past the end, and `Wide` where a place of the other layout
 /// has too few bytes for its number, or a link-layer address is too long there and can't be cut. What has no place there
 /// is left out.
-pub fn convert(from: &Layout, to: &Layout, message: &[u8], new: &mut Converted) -> Result<(), Fault>
+pub fn convert(
+    from: &Layout,
+    to: &Layout,
+    message: &[u8],
+    made: &mut Converted,
+) -> Result<(), Fault>
     requires from { IsLayout from.now }
     requires to { IsLayout to.now }
     ensures converted { OnOk result (IsConverted from.now to.now message.now made.new.items) }
