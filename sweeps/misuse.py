@@ -172,7 +172,7 @@ def request_that_says_nothing(sweep):
             if field == "family":
                 request.link_n = 20
             holds = is_asked if is_one else is_refused
-            for verb in ("add", "get"):
+            for verb in ("change", "get"):
                 sweep.claim(f"{verb} with {field} {value}", holds(world, f"hk_{verb}_route_n", b"a", ctypes.byref(request)))
             world.close()
 
