@@ -38,7 +38,7 @@
  *     worlds share nothing, and may be in calls at the same time.
  *   - malloc, realloc and free are one allocator, which aligns a block of 16 bytes or more to 16. No call is made in a
  *     signal handler, nor in the forked child of a process with threads.
- *   - At each call the thread has HK_STACK_BYTES of its stack left, of which hk_line takes the most.
+ *   - At each call the thread has HK_STACK_BYTES of its stack left, of which hk_convert takes the most.
  *   - The processor has what x86-64-v2 names, SSE4.1 and what came before it, as those since about 2009 do: the library
  *     takes it for granted.
  *
@@ -65,7 +65,7 @@ typedef struct hk_world {
 #define HK_CLOSED { NULL }
 
 /* The bytes of stack that each call is to find. */
-#define HK_STACK_BYTES 32768
+#define HK_STACK_BYTES 16384
 
 /* The number of an address. */
 #define HK_ADDRESS(a, b, c, d) ((uint32_t)(a) << 24 | (uint32_t)(b) << 16 | (uint32_t)(c) << 8 | (uint32_t)(d))

@@ -57,7 +57,7 @@ impl Socket {
 ///
 /// Each call does one command. A name or an id of other than 1 to 8 bytes, and what a call says besides, is refused
 /// [`Errno::EINVAL`]; [`Errno::ENOBUFS`] says that there was no memory, and then nothing has changed. The header
-/// hoiskend.h has each call's errnos in order, and what a call is owed: 32,768 bytes of the thread's stack, and a
+/// hoiskend.h has each call's errnos in order, and what a call is owed: 16,384 bytes of the thread's stack, and a
 /// processor of x86-64-v2.
 ///
 /// A world can be sent to another thread, and not be shared:
