@@ -1,5 +1,4 @@
 //! The functions that ask for a route: each is the write, to a socket, of the message that the words of the request compose.
-ghost use Rattle.std.specs.Prelude.{◌≡◌};
 ghost use Rattle.hoiskend.specs.Requests.{request_asked};
 ghost use Rattle.hoiskend.specs.Sessions.{Asks, Calls};
 
