@@ -172,7 +172,7 @@ static void a_full_queue_loses(void)
 	for (uint32_t i = 0; i < 100; i++) {
 		CHECK(want_route(&daemon, HK_ADDRESS(172, 16, i, 0), HK_ADDRESS(10, 0, 0, 254)) == HK_OK);
 		CHECK(hk_read(&world, "witness") == HK_OK);
-		heard += hk_fetch_size(&world) / (END);
+		heard += hk_fetch_size(&world) / END;
 	}
 	CHECK(heard == 100);
 	CHECK(hk_lost(&world, "witness", &lost) == HK_OK && lost == 0);
