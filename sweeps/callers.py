@@ -14,12 +14,13 @@ EXAMPLES, RUST = TOP / "examples" / "c", TOP / "bindings" / "rust"
 HEADER, PAGE = TOP / "include" / "hoiskend.h", TOP / "docs" / "hoiskend.3"
 EACH_CALL, HEAP, DISPLAY = (Path(__file__).with_name(name) for name in ("each_call.c", "heap.c", "display.rs"))
 
-C11, CPP11 = ["-std=c11"], ["-std=c++11", "-x", "c++"]
+C11, CPP11, CPP17 = ["-std=c11"], ["-std=c++11", "-x", "c++"], ["-std=c++17", "-x", "c++"]
 STRICT = ["-Wall", "-Wextra", "-pedantic", "-Werror", "-O2"]
 WRAPPED = "-Wl,--wrap=malloc,--wrap=realloc,--wrap=free"
 REFUSING = ["-Wl,--wrap=malloc,--wrap=realloc"]
 SANITIZED = ["-fsanitize=address,undefined", "-fno-sanitize-recover=all", "-g"]
-COMPILERS = {"gcc": C11, "clang": C11, "g++": CPP11, "clang++": CPP11}
+COMPILERS = {"gcc": [C11], "clang": [C11], "g++": [CPP11, CPP17], "clang++": [CPP11, CPP17]}
+ARCHIVE, SHARED = "-l:libhoiskend.a", "-lhoiskend"
 VALGRIND = ["valgrind", "-q", "--error-exitcode=99", "--leak-check=full", "--show-leak-kinds=definite,possible"]
 
 
@@ -45,11 +46,11 @@ def ran(*command, **how):
     return done.stdout, done.returncode, done.stderr
 
 
-def compiled(sweep, compiler, source, *words):
-    """The program of a source; a warning is an error."""
+def compiled(sweep, compiler, source, *words, linked=ARCHIVE):
+    """The program of a source, linked with the archive or with the shared object; a warning is an error."""
     made = Path(tempfile.mkdtemp(dir=sweep.folder), "program")
-    include, lib = sweep.out / "include", sweep.out / "lib"
-    built = ran(compiler, *words, f"-I{include}", source, "-x", "none", f"-L{lib}", "-lhoiskend", "-o", made)
+    include, lib = sweep.out / "include", sweep.out / "lib" if linked == ARCHIVE else sweep.objects()
+    built = ran(compiler, *words, f"-I{include}", source, "-x", "none", f"-L{lib}", linked, "-o", made)
     sweep.claim(f"{compiler} {' '.join(words)} {Path(source).name}: {built[2][-600:].decode()}", built == (b"", 0, b""))
     return made
 
@@ -87,10 +88,11 @@ def programs(sweep):
 
 def run_programs(sweep, compiler):
     """Each compiler takes them without a warning, and they tell what they should; so with sanitizers."""
-    standard = COMPILERS[compiler]
+    standard, *others = COMPILERS[compiler]
     if not is_there(sweep, compiler):
         return
-    run_each_call(sweep, compiler)
+    for each in (standard, *others):
+        run_each_call(sweep, compiler, each)
     if standard is CPP11:
         return
     kinds = [STRICT, [*STRICT, *SANITIZED]] if is_there(sweep, compiler, *SANITIZED) else [STRICT]
@@ -114,10 +116,10 @@ ANSWERED = {
 }
 
 
-def run_each_call(sweep, compiler):
+def run_each_call(sweep, compiler, standard, linked=ARCHIVE, **how):
     """A program that makes each call once, in C and in C++."""
-    program = compiled(sweep, compiler, EACH_CALL, *COMPILERS[compiler], *STRICT)
-    wrote, status, error = ran(program)
+    program = compiled(sweep, compiler, EACH_CALL, *standard, *STRICT, linked=linked)
+    wrote, status, error = ran(program, **how)
     answered = {}
     for call, text in re.findall(r"^(hk_.*): (.*)$", wrote.decode(), re.M):
         answered.setdefault(call, []).append(text)

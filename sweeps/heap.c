@@ -1,6 +1,9 @@
 /*
  * The heap of the library under test, which is linked with --wrap=malloc,--wrap=realloc,--wrap=free: it counts what the
  * library asks for, and refuses where the test wants it. Worlds may be in calls of several threads.
+ *
+ * Or it is loaded before a program that loads the library (pythons.py names the functions for that), and told where the
+ * library is: what others ask for it passes on.
  */
 #include <stddef.h>
 
@@ -11,11 +14,19 @@ unsigned long heap_asked, heap_refused, heap_blocks;
 /* For the trial of the tests: keeps each fourth block that is freed; gives memory also where it was to be refused. */
 unsigned long heap_leaks, heap_deaf;
 
+/* Where the library's calls come from; where heap_to is 0 all are the library's. */
+unsigned long heap_from, heap_to;
+
 static unsigned long frees;
 
 void *__real_malloc(size_t size);
 void *__real_realloc(void *block, size_t size);
 void __real_free(void *block);
+
+static int is_of_library(void *caller)
+{
+	return heap_to == 0 || (heap_from <= (unsigned long)caller && (unsigned long)caller < heap_to);
+}
 
 static int refused(void)
 {
@@ -31,20 +42,30 @@ static int refused(void)
 
 void *__wrap_malloc(size_t size)
 {
-	void *block = refused() ? NULL : __real_malloc(size);
+	void *block;
+	if (!is_of_library(__builtin_return_address(0)))
+		return __real_malloc(size);
+	block = refused() ? NULL : __real_malloc(size);
 	__atomic_add_fetch(&heap_blocks, block != NULL, __ATOMIC_RELAXED);
 	return block;
 }
 
 void *__wrap_realloc(void *block, size_t size)
 {
-	void *moved = refused() ? NULL : __real_realloc(block, size);
+	void *moved;
+	if (!is_of_library(__builtin_return_address(0)))
+		return __real_realloc(block, size);
+	moved = refused() ? NULL : __real_realloc(block, size);
 	__atomic_add_fetch(&heap_blocks, moved && !block, __ATOMIC_RELAXED);
 	return moved;
 }
 
 void __wrap_free(void *block)
 {
+	if (!is_of_library(__builtin_return_address(0))) {
+		__real_free(block);
+		return;
+	}
 	if (block && heap_leaks && __atomic_add_fetch(&frees, 1, __ATOMIC_RELAXED) % 4 == 0)
 		return;
 	__atomic_sub_fetch(&heap_blocks, block != NULL, __ATOMIC_RELAXED);

@@ -90,6 +90,12 @@ class Sweep:
             else:
                 self.failed.append(what)
 
+    def add(self, passed, failed):
+        """Claims that were made elsewhere: how many hold, and those that don't."""
+        with self.lock:
+            self.passed += passed
+            self.failed += failed
+
 
 class Counts(dict):
     def __missing__(self, name):

@@ -9,8 +9,10 @@ import ctypes
 import os
 import re
 import subprocess
+from operator import index
 from pathlib import Path
-from typing import Any, Callable, Iterator
+from types import SimpleNamespace
+from typing import Any, Callable, Iterator, List, Optional
 
 NAME = "libhoiskend.so.0"
 VARIABLE = "HOISKEND_LIB"
@@ -65,25 +67,11 @@ class Route(ctypes.Structure):
     ]
 
 
-def number(kind: Any) -> Any:
-    """A parameter that takes the numbers of a type of C and no others, where ctypes would cut them."""
-
-    class Number:
-        @staticmethod
-        def from_param(value: int) -> Any:
-            cut = kind(value)
-            if cut.value != value:
-                raise OverflowError(f"{value} is no number of {8 * ctypes.sizeof(kind)} bits without a sign")
-            return cut
-
-    return Number
-
-
 RESULTS = {"void": None, "uint32_t": ctypes.c_uint32, "size_t": ctypes.c_size_t}
 PARAMETERS = {
     "bool": ctypes.c_bool,
-    "uint8_t": number(ctypes.c_uint8),
-    "uint32_t": number(ctypes.c_uint32),
+    "uint8_t": ctypes.c_uint8,
+    "uint32_t": ctypes.c_uint32,
     "size_t": ctypes.c_size_t,
     "hk_world *": ctypes.POINTER(Handle),
     "hk_route *": ctypes.POINTER(Route),
@@ -92,6 +80,8 @@ PARAMETERS = {
     "uint64_t *": ctypes.POINTER(ctypes.c_uint64),
     "size_t *": ctypes.POINTER(ctypes.c_size_t),
 }
+# The most that a number may be, which ctypes would cut.
+MOST = {"uint8_t": (1 << 8) - 1, "uint32_t": (1 << 32) - 1}
 
 
 def by_pkg_config() -> str:
@@ -128,15 +118,31 @@ def loaded() -> ctypes.CDLL:
     raise ImportError(f"there is no {NAME}: {'; '.join(why)}. {VARIABLE} names its folder, as ./library lays it")
 
 
-def with_prototypes(library: ctypes.CDLL) -> ctypes.CDLL:
+def checked(call: Any, most: List[Optional[int]]) -> Callable[..., int]:
+    """The call, which takes no number that is more than its type has."""
+
+    def make(*given: Any) -> int:
+        for value, limit in zip(given, most):
+            if limit is not None and not 0 <= index(value) <= limit:
+                raise OverflowError(f"{value} isn't from 0 to {limit}")
+        answer: int = call(*given)
+        return answer
+
+    return make
+
+
+def calls_of(library: ctypes.CDLL) -> SimpleNamespace:
+    """The calls by their names."""
+    made = {}
     for result, name, given in re.findall(r"(\w+) (hk_\w+)\(([^)]*)\);", PROTOTYPES):
+        types = [re.sub(r"\w+$", "", each.strip()).strip() for each in given.split(",")]
         call = getattr(library, name)
-        call.restype = RESULTS[result]
-        call.argtypes = [PARAMETERS[re.sub(r"\w+$", "", each.strip()).strip()] for each in given.split(",")]
-    return library
+        call.restype, call.argtypes = RESULTS[result], [PARAMETERS[kind] for kind in types]
+        made[name] = checked(call, [MOST.get(kind) for kind in types])
+    return SimpleNamespace(**made)
 
 
-calls = with_prototypes(loaded())
+calls = calls_of(loaded())
 
 
 def given(call: Callable[..., int], handle: Handle) -> bytes:

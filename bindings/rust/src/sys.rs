@@ -7,6 +7,7 @@ use std::ptr::null_mut;
 
 pub(crate) const LINK_BYTES: usize = 32;
 pub(crate) const AF_INET: u8 = 2;
+pub(crate) const AF_LINK: u8 = 18;
 /// The answer to a line that the grammar doesn't have.
 pub(crate) const BAD: u32 = 256;
 /// The most bytes of a message that was made for another system.

@@ -1,0 +1,72 @@
+"""The shared object: its name, programs in C and C++ that are linked with it, and the lines that ./library says."""
+import os
+import subprocess
+import tempfile
+from pathlib import Path
+
+from callers import C11, COMPILERS, CPP17, EXAMPLES, SHARED, STRICT, TOP, compiled, first_script, is_there, programs, ran
+from callers import run_each_call, shown_code, told_of
+from manual import README
+from prototypes import compare_both
+
+NAME = "libhoiskend.so.0"
+
+
+def names_in(file, kind):
+    """What an object says of its own name (SONAME), or of those that it wants (NEEDED)."""
+    told = ran("objdump", "-p", file)[0].decode()
+    return [line.split()[1] for line in told.splitlines() if line.split()[:1] == [kind]]
+
+
+def have_its_name(sweep):
+    """The object is called by loaders as the version says, and its name for the linker leads to it."""
+    folder = sweep.objects()
+    link, version = folder / "libhoiskend.so", (TOP / "tools" / "hoiskend.pc").read_text().split("Version: ")[1]
+    sweep.claim("the version's first number", NAME.rsplit(".", 1)[1] == version.split(".")[0])
+    sweep.claim("the object's name", names_in(folder / NAME, "SONAME") == [NAME] and os.readlink(link) == NAME)
+    sweep.claim("what the object wants", set(names_in(folder / NAME, "NEEDED")) <= {"libc.so.6"})
+
+
+def link_programs(sweep):
+    """The programs in C, and each call in C and C++, with -lhoiskend: they want the object, and tell what they should."""
+    found = {"env": {**os.environ, "LD_LIBRARY_PATH": str(sweep.objects())}}
+    for compiler in filter(lambda name: is_there(sweep, name), COMPILERS):
+        run_each_call(sweep, compiler, CPP17 if compiler.endswith("++") else C11, SHARED, **found)
+    compiler = os.environ.get("CC", "cc")
+    for source, others, given, told in programs(sweep):
+        if not others:
+            program = compiled(sweep, compiler, source, *C11, *STRICT, linked=SHARED)
+            holds = NAME in names_in(program, "NEEDED") and ran(program, input=given, **found) == (told, 0, b"")
+            sweep.claim(f"{source.name} with -lhoiskend", holds)
+
+
+def run_said_lines(sweep):
+    """The lines that ./library says are enough to compile README's program, and to run a program in Python. The folder's
+    name has a space in it."""
+    if not is_there(sweep, "pkg-config"):
+        return
+    room = Path(tempfile.mkdtemp(dir=sweep.folder))
+    environment = {**os.environ, "BACKEND": sweep.out.name if sweep.out.name in ("llvm", "rattle") else "llvm"}
+    wrote, status, error = ran(TOP / "library", room / "a folder", env=environment)
+    lines = [line for line in wrote.decode().splitlines() if line.startswith(("cc ", "HOISKEND_LIB="))]
+    sweep.claim(f"what ./library says: {error[-300:].decode()}", status == 0 and len(lines) == 2)
+    (room / "prog.c").write_text(dict(shown_code())["README"])
+    (room / "prog.py").write_text((TOP / "bindings" / "python" / "examples" / "first_script.py").read_text())
+    plain = {name: value for name, value in os.environ.items() if name not in ("HOISKEND_LIB", "PKG_CONFIG_PATH")}
+    plain["PYTHONDONTWRITEBYTECODE"] = "1"
+    told = [b"out of interface 1\n", told_of(sweep, first_script())]
+    for line, after, wanted in zip(lines, ("; ./prog", ""), told):
+        done = subprocess.run(["bash", "-c", line + after], cwd=room, capture_output=True, env=plain, timeout=300)
+        sweep.claim(f"{line}: {done.stderr[-300:].decode()}", (done.stdout, done.stderr) == (wanted, b""))
+
+
+def jobs():
+    yield from ((job,) for job in (have_its_name, link_programs, run_said_lines))
+
+
+def trials():
+    """What is wrong with the object, and the sweep that has to notice it."""
+    yield "nameless", have_its_name
+    yield "talks", compare_both
+    yield "mute", link_programs
+    yield "nods", link_programs
