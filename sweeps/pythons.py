@@ -5,6 +5,7 @@ import sys
 import tempfile
 from pathlib import Path
 
+import daemon
 from callers import first_script, ran, told_of
 from prototypes import PYTHON
 
@@ -55,6 +56,13 @@ def run_examples(sweep):
     sweep.claim(f"pytest: {wrote[-900:].decode()}", status == 0 and f"{tests} passed".encode() in wrote)
 
 
+def run_page(sweep):
+    """The program that the page for the authors of daemons shows first prints what it shows behind it."""
+    (program, shown), _ = daemon.programs()
+    told = ran(sys.executable, "-c", program, env=environment(sweep))
+    sweep.claim(f"the first program of DAEMON.md: {told[2][-900:].decode()}", told == (shown.encode(), 0, b""))
+
+
 def install(sweep):
     """pip installs the package without a network, with the shared object or without; and it runs there."""
     for is_along in (True, False):
@@ -96,7 +104,7 @@ def jobs(examples):
     yield try_within, "threads", *names
     yield try_within, "messages", *names
     yield from ((try_within, what) for what in ("misuse", "documentation"))
-    yield from ((job,) for job in (run_examples, install, find_none, check_types))
+    yield from ((job,) for job in (run_examples, run_page, install, find_none, check_types))
 
 
 def trials():
@@ -107,6 +115,7 @@ def trials():
     yield "mute", try_within, "examples", "one-get"
     yield "mute", try_within, "documentation"
     yield "mute", run_examples
+    yield "mute", run_page
     yield "nods", try_within, "examples", "refusals"
     yield "nods", try_within, "misuse"
     yield "nods", run_examples
