@@ -150,7 +150,8 @@ def errnos_in_rust(text):
 
 def errnos_in_python(text):
     """Those that have a number and a text, and an exception that is named for them."""
-    found = {name: (int(number), words) for name, number, words in re.findall(r'\b(E[A-Z]+) = (\d+), "([^"]*)"', text)}
+    texts = dict(re.findall(r'\bErrno\.(E[A-Z]+): "([^"]*)"', text))
+    found = {name: (int(number), texts.get(name)) for name, number in re.findall(r"\b(E[A-Z]+) = (\d+)$", text, re.M)}
     classes = re.findall(r"^class (E[A-Z]+)\(Refused\):\n    errno = Errno\.(E[A-Z]+)$", text, re.M)
     return found if classes == [(name, name) for name in found] else None
 
@@ -219,7 +220,8 @@ SLIPS = [
      "uint32_t hk_losing(hk_world *world, uint8_t address);"),
     ("python", "void hk_close(hk_world *world);\n", "functions of the header and Python", ""),
     ("python", '("flags", ctypes.c_uint16)', "the route in Python", '("flags", ctypes.c_uint32)'),
-    ("python_errnos", 'EMFILE = 24, "Too many sockets"', "errnos in Python", 'EMFILE = 24, "Too many"'),
+    ("python_errnos", 'EMFILE: "Too many sockets"', "errnos in Python", 'EMFILE: "Too many"'),
+    ("python_errnos", "    EMFILE = 24\n", "errnos in Python", "    EMFILE = 23\n"),
     ("python_errnos", "class ENXIO(Refused):\n    errno = Errno.ENXIO", "errnos in Python",
      "class ENXIO(Refused):\n    errno = Errno.ESRCH"),
     ("python_errnos", "BAD_LINE = 256", "the answer to a bad line", "BAD_LINE = 255"),

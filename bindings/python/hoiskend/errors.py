@@ -11,31 +11,48 @@ class Errno(IntEnum):
     (51, "The gateway can't be reached")
     """
 
-    text: str
+    ESRCH = 3
+    ENXIO = 6
+    EBADF = 9
+    ENOMEM = 12
+    EEXIST = 17
+    EINVAL = 22
+    EMFILE = 24
+    ENOSPC = 28
+    EMSGSIZE = 40
+    EPROTONOSUPPORT = 43
+    EOPNOTSUPP = 45
+    EADDRINUSE = 48
+    EADDRNOTAVAIL = 49
+    ENETUNREACH = 51
+    ENOBUFS = 55
+    ETOOMANYREFS = 59
+    EHOSTUNREACH = 65
 
-    def __new__(cls, number: int, text: str) -> Errno:
-        errno = int.__new__(cls, number)
-        errno._value_ = number
-        errno.text = text
-        return errno
+    @property
+    def text(self) -> str:
+        return TEXTS[self]
 
-    ESRCH = 3, "No such route"
-    ENXIO = 6, "No such interface"
-    EBADF = 9, "No such socket"
-    ENOMEM = 12, "The buffer is too small"
-    EEXIST = 17, "It is there already"
-    EINVAL = 22, "A malformed request"
-    EMFILE = 24, "Too many sockets"
-    ENOSPC = 28, "Too many interfaces or addresses"
-    EMSGSIZE = 40, "A message that is too long"
-    EPROTONOSUPPORT = 43, "A message of another version"
-    EOPNOTSUPP = 45, "A message of another type"
-    EADDRINUSE = 48, "The address is in use"
-    EADDRNOTAVAIL = 49, "No such address on the interface"
-    ENETUNREACH = 51, "The gateway can't be reached"
-    ENOBUFS = 55, "No memory"
-    ETOOMANYREFS = 59, "No route with that mask"
-    EHOSTUNREACH = 65, "No route to the host"
+
+TEXTS = {
+    Errno.ESRCH: "No such route",
+    Errno.ENXIO: "No such interface",
+    Errno.EBADF: "No such socket",
+    Errno.ENOMEM: "The buffer is too small",
+    Errno.EEXIST: "It is there already",
+    Errno.EINVAL: "A malformed request",
+    Errno.EMFILE: "Too many sockets",
+    Errno.ENOSPC: "Too many interfaces or addresses",
+    Errno.EMSGSIZE: "A message that is too long",
+    Errno.EPROTONOSUPPORT: "A message of another version",
+    Errno.EOPNOTSUPP: "A message of another type",
+    Errno.EADDRINUSE: "The address is in use",
+    Errno.EADDRNOTAVAIL: "No such address on the interface",
+    Errno.ENETUNREACH: "The gateway can't be reached",
+    Errno.ENOBUFS: "No memory",
+    Errno.ETOOMANYREFS: "No route with that mask",
+    Errno.EHOSTUNREACH: "No route to the host",
+}
 
 
 class Error(Exception):

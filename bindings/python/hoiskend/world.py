@@ -1,6 +1,7 @@
 """Worlds, and what they are told."""
 from __future__ import annotations
 
+import ctypes
 import threading
 from dataclasses import dataclass
 from enum import IntEnum
@@ -154,7 +155,9 @@ class World:
         """
         route = _library.Route()
         self._do(calls.hk_packet, number_of(destination), route)
-        gateway = IPv4Address(route.gateway) if route.family == AF_INET else LinkAddress(bytes(route.link[: route.link_n]))
+        gateway: Union[IPv4Address, LinkAddress] = IPv4Address(route.gateway)
+        if route.family != AF_INET:
+            gateway = LinkAddress(bytes(route.link)[: route.link_n])
         prefix = None if route.rank == HOST else route.rank
         return Route(IPv4Address(route.key), prefix, gateway, route.index, RTF(route.flags), route.drops)
 
@@ -169,7 +172,7 @@ class World:
 
     def dump_size(self, flags: Optional[int] = None) -> int:
         """How many bytes to ask for a dump of all routes, or of those with one of these flags."""
-        size = _library.ctypes.c_uint64()
+        size = ctypes.c_uint64()
         self._do(calls.hk_dump_size, flags is not None, flags or 0, size)
         return size.value
 
@@ -286,6 +289,6 @@ class Socket:
 
     def lost(self) -> int:
         """How many messages it has lost since it was opened."""
-        lost = _library.ctypes.c_uint64()
+        lost = ctypes.c_uint64()
         self.world._do(calls.hk_lost_n, self.id, len(self.id), lost)
         return lost.value
