@@ -37,9 +37,11 @@ def record(files, path):
 def build_wheel(folder, config_settings=None, metadata_directory=None):
     package = sorted((TOP / "hoiskend").iterdir())
     files = {f"hoiskend/{path.name}": path.read_bytes() for path in package if path.suffix in (".py", ".typed")}
-    tag = "py3-none-any"
-    if "HOISKEND_LIB" in os.environ:
-        files[f"hoiskend/{OBJECT}"] = Path(os.environ["HOISKEND_LIB"], OBJECT).read_bytes()
+    tag, along = "py3-none-any", os.environ.get("HOISKEND_LIB")
+    if along is not None:
+        if not Path(along).is_absolute():
+            raise ValueError(f"HOISKEND_LIB is to be a whole path, and is {along}")
+        files[f"hoiskend/{OBJECT}"] = Path(along, OBJECT).read_bytes()
         tag = "py3-none-" + re.sub("[-.]", "_", sysconfig.get_platform())
     name = f"hoiskend-{project('version')}"
     info = f"{name}.dist-info"

@@ -86,7 +86,7 @@ class World:
     """
 
     def __init__(self) -> None:
-        self._handle, self._lock = _library.Handle(), threading.Lock()
+        self._handle, self._lock, self._free = _library.Handle(), threading.Lock(), calls.hk_close
         self._do(calls.hk_open)
 
     def _do(self, call: Callable[..., int], *given: Any) -> None:
@@ -107,7 +107,7 @@ class World:
         self.close()
 
     def __del__(self) -> None:
-        calls.hk_close(self._handle)
+        self._free(self._handle)
 
     def attach(self, name: Union[str, bytes], kind: Kind, type_number: int = 6, link: Bytes = b"") -> None:
         """Attaches an interface with this number of <net/if_types.h> and link-layer address, of at most 8 bytes.
