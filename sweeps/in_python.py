@@ -248,7 +248,10 @@ def is_shown_as(address, words):
         got = address.name.decode(), address.address.hex(), address.index, address.type_number
         return got == (name, digits, int(index), int(number))
     prefix = re.fullmatch(r"[\d.]+ \(/(\d+)\)", words)
-    return address == int(prefix[1]) if prefix else address == IPv4Address(words)
+    if prefix or not isinstance(address, int):
+        return address == (int(prefix[1]) if prefix else IPv4Address(words))
+    # a whole sockaddr_in in the place of a mask
+    return words == str(IPv4Address((1 << 32) - (1 << 32 - address)))
 
 
 ADDRESS = re.compile(r"^ (DST|GATEWAY|NETMASK|GENMASK|IFP|IFA|AUTHOR|BRD) (.*)$", re.M)

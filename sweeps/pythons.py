@@ -17,6 +17,7 @@ SHARE = 4
 PRELOADED = [
     *(f"-D__wrap_{name}={name}" for name in ("malloc", "realloc", "free")),
     *(f"-D__real_{name}=__libc_{name}" for name in ("malloc", "realloc", "free")),
+    "-DHEAP_TO=1",
 ]
 
 
