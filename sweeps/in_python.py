@@ -228,7 +228,7 @@ def fields_in(text):
         field = re.fullmatch(r" (flags|addrs|inits|locks) ([0-9a-f]{8})<.*>", line)
         if field:
             found[field[1]] = int(field[2], 16)
-        field = re.fullmatch(r" ([a-z]+) (\d+)( \(\w+\))?", line)
+        field = re.fullmatch(r" (?!behind )([a-z]+) (\d+)( \(\w+\))?", line)
         if field:
             found[field[1]] = int(field[2])
     return found
@@ -261,10 +261,12 @@ FAULTS = {
 
 
 def is_taken_apart(data):
-    """Whether the fields and addresses of a message are those that it shows in words, and nothing else is a message."""
+    """Whether the fields and addresses of a message are those that it shows in words; and bytes that are no message are
+    refused for what these say, whose header may be read nevertheless."""
     text = hoiskend.show(data)
     try:
         message = Message(data)
+        addresses = message.addresses
     except MessageError as error:
         return text.startswith("no message: ") and FAULTS[text.splitlines()[1].strip()] is error.fault
     if text.startswith("no message: ") or str(message) != text or bytes(message) != data or len(message) != len(data):
@@ -279,8 +281,8 @@ def is_taken_apart(data):
     return (
         fields == {name: named.get(name, 0) for name in fields}
         and by_name == {name: named.get(name, 0) for name in by_name}
-        and [bit.name for bit in message.addresses] == [name for name, _ in shown]
-        and all(is_shown_as(message.addresses[RTA[name]], words) for name, words in shown)
+        and [bit.name for bit in addresses] == [name for name, _ in shown]
+        and all(is_shown_as(addresses[RTA[name]], words) for name, words in shown)
         and eval(repr(message), {"Message": Message}) == message
     )
 
@@ -288,6 +290,8 @@ def is_taken_apart(data):
 def is_made_again(data):
     """Whether a message about a route with no odd address is what its fields and addresses make."""
     message = Message(data)
+    if str(message).startswith("no message: "):
+        return True
     odd = any(isinstance(address, bytes) for address in message.addresses.values())
     if odd or message.kind in (RTM.NEWADDR, RTM.DELADDR):
         return True
@@ -307,7 +311,7 @@ def take_apart(sweep, examples):
         for data in any_shown(seed):
             sweep.claim(f"{data[:92].hex()} is taken apart", is_taken_apart(data))
     for data in told:
-        for system in System:
+        for system in System if not hoiskend.show(data).startswith("no message: ") else ():
             back = Message.of(system, Message(data).to(system))
             sweep.claim(f"{data.hex()} for {system.name} and back", back.kind == data[3])
     whole = b"".join(told)
@@ -402,7 +406,10 @@ def give_what_says_nothing(sweep):
             lambda: LinkAddress.of("le0", bytes(30)), lambda: Message.request(RTM.GET, {RTA.NETMASK: 33}),
             lambda: hoiskend.convert(5, 0, bytes(76)),
         ],
-        MessageError: [lambda: Message(b""), lambda: Message(bytes(76)), lambda: Message.of(System.MACOS, bytes(92))],
+        MessageError: [
+            lambda: Message(b""), lambda: Message(bytes(76)), lambda: Message.of(System.MACOS, bytes(92)),
+            lambda: Message(bytes([0, 76, 4]) + bytes(73)).addresses, lambda: Message(bytes([0, 75, 3]) + bytes(72)),
+        ],
         hoiskend.BadLine: [lambda: world.line("sing"), lambda: world.line("x" * 16_501), lambda: world.line(b"\xff")],
         hoiskend.EMSGSIZE: [lambda: socket.write(bytes(8193))],
     }

@@ -117,7 +117,7 @@ def trials():
     yield "mute", try_within, "documentation"
     yield "mute", run_examples
     yield "mute", run_page
-    yield "nods", try_within, "examples", "refusals"
+    yield "nods", try_within, "examples", "refused-requests"
     yield "nods", try_within, "misuse"
     yield "nods", run_examples
     yield "mumbles", try_within, "messages", "one-get"

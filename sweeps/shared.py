@@ -41,13 +41,12 @@ def link_programs(sweep):
 
 
 def run_said_lines(sweep):
-    """The lines that ./library says are enough to compile README's program, and to run a program in Python. The folder's
-    name has a space in it."""
+    """The lines that ./library says are enough to compile README's program, and to run a program in Python."""
     if not is_there(sweep, "pkg-config"):
         return
     room = Path(tempfile.mkdtemp(dir=sweep.folder))
     environment = {**os.environ, "BACKEND": sweep.out.name if sweep.out.name in ("llvm", "rattle") else "llvm"}
-    wrote, status, error = ran(TOP / "library", room / "a folder", env=environment)
+    wrote, status, error = ran(TOP / "library", room / "laid", env=environment)
     lines = [line for line in wrote.decode().splitlines() if line.startswith(("cc ", "HOISKEND_LIB="))]
     sweep.claim(f"what ./library says: {error[-300:].decode()}", status == 0 and len(lines) == 2)
     (room / "prog.c").write_text(dict(shown_code())["README"])
@@ -69,4 +68,4 @@ def trials():
     yield "nameless", have_its_name
     yield "talks", compare_both
     yield "mute", link_programs
-    yield "nods", link_programs
+    yield "mumbles", link_programs

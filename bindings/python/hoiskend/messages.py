@@ -61,10 +61,11 @@ def convert(source: System, to: System, data: Bytes) -> bytes:
 
 @dataclass(frozen=True)
 class Message:
-    """A whole message of a routing socket, by its bytes: `bytes(message)`. `str(message)` has it in words.
+    """A message of a routing socket, by its bytes: `bytes(message)`. `str(message)` has it in words.
 
-    Bytes that are no message raise MessageError, whose fault is the first of these that holds: LENGTH of fewer bytes
-    than a header, or where they say another length than they have, VERSION, OVERRUN where an address passes the end.
+    Fewer bytes than a header, and bytes that say another length than they have, raise MessageError of Fault.LENGTH. All
+    else is taken, since a socket also hears what was refused: `addresses` raises MessageError where the version isn't 3
+    (VERSION), or an address passes the end (OVERRUN).
 
     A field that the message's header hasn't is 0: RTM.NEWADDR and RTM.DELADDR have no pid, seq, errno, use, inits and
     metrics, and the others no metric.
@@ -87,10 +88,6 @@ class Message:
     def __post_init__(self) -> None:
         if len(self.data) < header_of(self.data)[1] or self.length != len(self.data):
             raise MessageError(Fault.LENGTH)
-        if self.version != RTM_VERSION:
-            raise MessageError(Fault.VERSION)
-        for _ in self.slots():
-            pass
 
     @classmethod
     def of(cls, system: System, data: Bytes) -> Message:
@@ -196,11 +193,13 @@ class Message:
     @property
     def addresses(self) -> Dict[RTA, Address]:
         """The addresses that are there, in their order: IPv4 addresses, of a mask the number of its bits, link-layer
-        addresses, and bytes of what is none of these."""
+        addresses, and bytes of what is none of these. Raises MessageError."""
         return {bit: address_in(bit, data) for bit, data in self.slots()}
 
     def slots(self) -> Iterator[tuple[RTA, bytes]]:
-        """The bytes of each address that is there, without padding."""
+        """The bytes of each address that is there, without padding. Raises MessageError."""
+        if self.version != RTM_VERSION:
+            raise MessageError(Fault.VERSION)
         at, addrs = header_of(self.data)[1], self.field("addrs")
         for bit in RTA:
             if addrs & bit and at < len(self.data):

@@ -45,10 +45,10 @@ fn number(bytes: &[u8], at: usize, width: usize) -> u32 {
 /// What a header hasn't.
 const NONE: (usize, usize) = (0, 0);
 
-/// The message's parts. Bytes that are no message are refused with the first of these that holds: [`Fault::Length`] for
-/// fewer than a header has, or where they say another length than they have, [`Fault::Version`], [`Fault::Overrun`] where
-/// an address passes the end. A field that the header hasn't is 0: RTM_NEWADDR and RTM_DELADDR have no pid, seq, errno,
-/// use, inits and metrics, and the others no metric.
+/// The message's parts. Each call refuses fewer bytes than a header has, and bytes that say another length than they have
+/// ([`Fault::Length`]). All else has a header, since a socket also hears what was refused; addresses are refused of another
+/// version than 3 ([`Fault::Version`]), and where one passes the end ([`Fault::Overrun`]). A field that the header hasn't is
+/// 0: RTM_NEWADDR and RTM_DELADDR have no pid, seq, errno, use, inits and metrics, and the others no metric.
 ///
 /// ```
 /// # fn main() -> Result<(), Box<dyn std::error::Error>> {
@@ -76,20 +76,16 @@ impl<'a> Message<'a> {
         }
     }
 
-    /// Its bytes, where they are a message.
+    /// Its bytes, where they have a header and its length.
     fn whole(self) -> Result<&'a [u8], Fault> {
         let bytes = self.as_bytes();
         if bytes.len() < self.end() || number(bytes, at::LENGTH, 2) as usize != bytes.len() {
             return Err(Fault::Length);
         }
-        if bytes[at::VERSION] != RTM_VERSION {
-            return Err(Fault::Version);
-        }
-        self.slots().try_for_each(|slot| slot.map(|_| ()))?;
         Ok(bytes)
     }
 
-    /// Its slots, which has a whole header.
+    /// Its slots, where it has a header.
     fn slots(self) -> Slots<'a> {
         let (bytes, end) = (self.as_bytes(), self.end());
         let addrs = if end == at::END {
@@ -181,7 +177,10 @@ impl<'a> Message<'a> {
 
     /// The addresses that are there, in their order, each with its bit, RTA_..
     pub fn addresses(self) -> Result<impl Iterator<Item = (u32, Address<'a>)>, Fault> {
-        self.whole()?;
+        if self.whole()?[at::VERSION] != RTM_VERSION {
+            return Err(Fault::Version);
+        }
+        self.slots().try_for_each(|slot| slot.map(|_| ()))?;
         let slots = self.slots().filter_map(Result::ok);
         Ok(slots.map(|(bit, bytes)| (bit, Address::at(bit, bytes))))
     }
