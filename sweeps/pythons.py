@@ -66,20 +66,19 @@ def run_page(sweep):
 
 def install(sweep):
     """pip installs the package without a network, with the shared object or without; and it runs there."""
-    for is_along in (True, False):
-        room = Path(tempfile.mkdtemp(dir=sweep.folder))
-        if ran(sys.executable, "-m", "venv", room)[1] != 0:
-            sweep.skip("venv")
-            return
-        found = {"HOISKEND_LIB": str(sweep.objects())}
-        plain = {name: value for name, value in os.environ.items() if name not in ("HOISKEND_LIB", "PYTHONPATH")}
-        plain["PYTHONDONTWRITEBYTECODE"] = "1"
-        made, run = (found, {}) if is_along else ({}, found)
-        words = ("-m", "pip", "install", "--quiet", "--no-index", "--disable-pip-version-check", PYTHON)
-        done = ran(room / "bin" / "python", *words, env={**plain, **made})
+    if ran(sys.executable, "-m", "pip", "--version")[1] != 0:
+        sweep.skip("pip")
+        return
+    plain = {name: value for name, value in os.environ.items() if name not in ("HOISKEND_LIB", "PYTHONPATH")}
+    plain["PYTHONDONTWRITEBYTECODE"] = "1"
+    found, told = {"HOISKEND_LIB": str(sweep.objects())}, told_of(sweep, first_script())
+    for made, run in ((found, {}), ({}, found)):
+        room = tempfile.mkdtemp(dir=sweep.folder)
+        words = ("-m", "pip", "install", "--quiet", "--no-index", "--disable-pip-version-check", "--target", room, PYTHON)
+        done = ran(sys.executable, *words, env={**plain, **made})
         sweep.claim(f"pip: {done[2][-900:].decode()}", done[1] == 0)
-        wrote, status, error = ran(room / "bin" / "python", PYTHON / "examples" / "first_script.py", env={**plain, **run})
-        told = told_of(sweep, first_script())
+        there = {**plain, **run, "PYTHONPATH": room}
+        wrote, status, error = ran(sys.executable, PYTHON / "examples" / "first_script.py", env=there)
         sweep.claim(f"the installed package: {error[-900:].decode()}", (wrote, status) == (told, 0))
 
 
