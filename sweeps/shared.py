@@ -1,5 +1,6 @@
 """The shared object: its name, programs in C and C++ that are linked with it, and the lines that ./library says."""
 import os
+import re
 import subprocess
 import tempfile
 from pathlib import Path
@@ -41,7 +42,8 @@ def link_programs(sweep):
 
 
 def run_said_lines(sweep):
-    """The lines that ./library says are enough to compile README's program, and to run a program in Python."""
+    """The lines that ./library says are enough to compile README's program, and to run a program in Python; and that of
+    README runs the daemon's test."""
     if not is_there(sweep, "pkg-config"):
         return
     room = Path(tempfile.mkdtemp(dir=sweep.folder))
@@ -54,8 +56,11 @@ def run_said_lines(sweep):
     plain = {name: value for name, value in os.environ.items() if name not in ("HOISKEND_LIB", "PKG_CONFIG_PATH")}
     plain["PYTHONDONTWRITEBYTECODE"] = "1"
     told = [b"out of interface 1\n", told_of(sweep, first_script())]
-    for line, after, wanted in zip(lines, ("; ./prog", ""), told):
-        done = subprocess.run(["bash", "-c", line + after], cwd=room, capture_output=True, env=plain, timeout=300)
+    commands = [*zip([room] * 2, lines, ("; ./prog", ""), told)]
+    test = re.search(r"^    (HOISKEND_LIB=\S* PYTHONPATH=.*)$", README.read_text(), re.M)[1]
+    commands.append((TOP, test.replace("$PWD/out/lib", str(room / "laid" / "lib")), "", b"the daemon's test passes\n"))
+    for folder, line, after, wanted in commands:
+        done = subprocess.run(["bash", "-c", line + after], cwd=folder, capture_output=True, env=plain, timeout=300)
         sweep.claim(f"{line}: {done.stderr[-300:].decode()}", (done.stdout, done.stderr) == (wanted, b""))
 
 
