@@ -23,7 +23,8 @@ PRELOADED = [
 
 def environment(sweep, **more):
     """That in which the package finds the shared object."""
-    own = {"PYTHONPATH": str(PYTHON), "HOISKEND_LIB": str(sweep.objects()), "PYTHONDONTWRITEBYTECODE": "1"}
+    path = os.pathsep.join(filter(None, [str(PYTHON), os.environ.get("PYTHONPATH")]))
+    own = {"PYTHONPATH": path, "HOISKEND_LIB": str(sweep.objects()), "PYTHONDONTWRITEBYTECODE": "1"}
     return {**os.environ, **own, **more}
 
 
@@ -48,7 +49,7 @@ def run_examples(sweep):
     sweep.claim(f"first_script.py: {error[-900:].decode()}", (wrote, status) == (told_of(sweep, first_script()), 0))
     told = ran(sys.executable, examples / "test_daemon.py", env=found)
     sweep.claim(f"test_daemon.py: {told[2][-900:].decode()}", told == (b"the daemon's test passes\n", 0, b""))
-    if ran(sys.executable, "-c", "import pytest")[1] != 0:
+    if ran(sys.executable, "-c", "import pytest", env=found)[1] != 0:
         sweep.skip("pytest")
         return
     words = ("-m", "pytest", "-q", "-p", "no:cacheprovider", examples / "test_daemon.py")
