@@ -41,13 +41,18 @@ def link_programs(sweep):
             sweep.claim(f"{source.name} with -lhoiskend", holds)
 
 
+def backend_of(sweep):
+    """The compiler of the library that is tried, where its folder says so."""
+    return sweep.out.name if sweep.out.name in ("llvm", "rattle") else "llvm"
+
+
 def run_said_lines(sweep):
     """The lines that ./library says are enough to compile README's program, and to run a program in Python; and that of
     README runs the daemon's test."""
     if not is_there(sweep, "pkg-config"):
         return
     room = Path(tempfile.mkdtemp(dir=sweep.folder))
-    environment = {**os.environ, "BACKEND": sweep.out.name if sweep.out.name in ("llvm", "rattle") else "llvm"}
+    environment = {**os.environ, "BACKEND": backend_of(sweep)}
     wrote, status, error = ran(TOP / "library", room / "laid", env=environment)
     lines = [line for line in wrote.decode().splitlines() if line.startswith(("cc ", "HOISKEND_LIB="))]
     sweep.claim(f"what ./library says: {error[-300:].decode()}", status == 0 and len(lines) == 2)
@@ -64,8 +69,21 @@ def run_said_lines(sweep):
         sweep.claim(f"{line}: {done.stderr[-300:].decode()}", (done.stdout, done.stderr) == (wanted, b""))
 
 
+def take_away(sweep):
+    """What `make uninstall` takes away is all that ./library laid."""
+    room, backend = Path(tempfile.mkdtemp(dir=sweep.folder)), backend_of(sweep)
+    laid = ran(TOP / "library", room, env={**os.environ, "BACKEND": backend})
+    there = sorted(str(path.relative_to(room)) for path in room.rglob("*") if not path.is_dir())
+    gone = ran("make", "-s", "-C", TOP, "uninstall", f"PREFIX={room}", "DESTDIR=")
+    left = [str(path) for path in room.rglob("*") if not path.is_dir()]
+    wanted = ["include/hoiskend.h", "lib/libhoiskend.a", "lib/libhoiskend.so", f"lib/{NAME}"]
+    wanted += ["lib/pkgconfig/hoiskend.pc", "share/man/man3/hoiskend.3"]
+    sweep.claim(f"what ./library lays: {there}", laid[1] == 0 and there == wanted)
+    sweep.claim(f"what make uninstall leaves: {left}", gone[1] == 0 and not left)
+
+
 def jobs():
-    yield from ((job,) for job in (have_its_name, link_programs, run_said_lines))
+    yield from ((job,) for job in (have_its_name, link_programs, run_said_lines, take_away))
 
 
 def trials():
