@@ -106,4 +106,4 @@ def take_apart(sweep, examples):
             back = Message.of(system, Message(data).to(system))
             sweep.claim(f"{data.hex()} for {system.name} and back", back.kind == data[3])
     whole = b"".join(told)
-    sweep.claim("messages one after another", [bytes(message) for message in hoiskend.messages(whole)] == told != [])
+    sweep.claim("messages one after another", [bytes(message) for message in hoiskend.messages_in(whole)] == told != [])

@@ -40,8 +40,14 @@ from .errors import (
     MessageError,
     Refused,
 )
-from .messages import Message, Metrics, System, convert, messages, show
+from .messages import Message, Metrics, System, convert, messages_in, show
 from .net_route import RTA, RTF, RTM, RTV
 from .world import Dump, Kind, Route, Socket, World
 
-__all__ = [name for name in dir() if not name.startswith("_")]
+__all__ = [
+    "Address", "AddressLike", "LinkAddress", "EADDRINUSE", "EADDRNOTAVAIL", "EBADF", "EEXIST", "EHOSTUNREACH",
+    "EINVAL", "EMFILE", "EMSGSIZE", "ENETUNREACH", "ENOBUFS", "ENOMEM", "ENOSPC", "ENXIO", "EOPNOTSUPP",
+    "EPROTONOSUPPORT", "ESRCH", "ETOOMANYREFS", "BadLine", "Errno", "Error", "Fault", "MessageError", "Refused",
+    "Message", "Metrics", "System", "convert", "messages_in", "show", "RTA", "RTF", "RTM", "RTV", "Dump", "Kind",
+    "Route", "Socket", "World",
+]

@@ -232,7 +232,7 @@ def header_of(data: bytes) -> tuple[Mapping[str, tuple[int, int]], int]:
     return (IFA_AT, IFA_HEADER_BYTES) if is_of_address else (AT, HEADER_BYTES)
 
 
-def messages(data: bytes) -> Iterator[Message]:
+def messages_in(data: bytes) -> Iterator[Message]:
     """The messages of a fetch, one after another."""
     at = 0
     while at < len(data):

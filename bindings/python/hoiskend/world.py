@@ -13,7 +13,7 @@ from . import _library
 from ._library import calls
 from .addresses import LinkAddress
 from .errors import EBADF, EINVAL, ENOMEM, EPROTONOSUPPORT, Errno, Fault, MessageError, check
-from .messages import Bytes, Message, System, convert, messages
+from .messages import Bytes, Message, System, convert, messages_in
 from .net_route import AF_INET, RTF
 
 # What IPv4Address takes.
@@ -227,7 +227,7 @@ class World:
             return self._fetched()
 
     def _fetched(self) -> List[Message]:
-        return list(messages(_library.given(calls.hk_fetch, self._handle)))
+        return list(messages_in(_library.given(calls.hk_fetch, self._handle)))
 
 
 class Socket:
