@@ -12,7 +12,8 @@ from prototypes import Sources, functions_in_header
 TOP = Path(__file__).resolve().parents[1]
 EXAMPLES, RUST = TOP / "examples" / "c", TOP / "bindings" / "rust"
 HEADER, PAGE = TOP / "include" / "hoiskend.h", TOP / "docs" / "hoiskend.3"
-EACH_CALL, HEAP, DISPLAY = (Path(__file__).with_name(name) for name in ("each_call.c", "heap.c", "display.rs"))
+EACH_CALL, HEAP = (Path(__file__).with_name(name) for name in ("each_call.c", "heap.c"))
+DISPLAY, REFUSED = (Path(__file__).with_name(name) for name in ("display.rs", "refused.rs"))
 
 C11, CPP11, CPP17 = ["-std=c11"], ["-std=c++11", "-x", "c++"], ["-std=c++17", "-x", "c++"]
 STRICT = ["-Wall", "-Wextra", "-pedantic", "-Werror", "-O2"]
@@ -238,23 +239,25 @@ def run_rust(sweep):
         wrote, status, error = ran("cargo", "run", *manifest, "--example", "first_script", env=environment)
         told = told_of(sweep, first_script())
         sweep.claim(f"the example in Rust: {error[-900:].decode()}", (wrote, status) == (told, 0))
-    refuse_display(sweep, ran("cargo", "build", *manifest, env=by_folder), target / "debug" / "libhoiskend.rlib")
+    built, package = ran("cargo", "build", *manifest, env=by_folder), target / "debug" / "libhoiskend.rlib"
+    refuse_in_rust(sweep, built, package, DISPLAY, 3)
+    refuse_in_rust(sweep, built, package, REFUSED, 500)
     unsafe = [path.name for path in (RUST / "src").glob("*.rs") if re.search(r"\bunsafe\b(?!_)", path.read_text())]
     sweep.claim(f"unsafe in {unsafe}", unsafe == ["sys.rs"])
 
 
-def refuse_display(sweep, built, package):
-    """A message's display is an error where memory is refused: of the library, which is asked twice for its text, and
-    once of the package."""
+def refuse_in_rust(sweep, built, package, source, least):
+    """A program in Rust in which each allocation is refused in turn, and which tells how many were: the display of a message,
+    for whose text the library is asked twice and the package once; and the examples by typed calls."""
     if not is_there(sweep, "rustc"):
         return
-    heap, made = package.with_name("heap.o"), package.with_name("display")
+    heap, made = package.with_name("heap.o"), package.with_name(source.stem)
     counted = ran(os.environ.get("CC", "cc"), "-O2", "-c", "-o", heap, HEAP)
     words = ["-D", "warnings", "--edition", "2021", "--extern", f"hoiskend={package}"]
-    linked = ran("rustc", *words, "-C", f"link-arg={heap}", "-C", f"link-arg={WRAPPED}", "-o", made, DISPLAY)
-    wrote, status, error = ran(made)
+    linked = ran("rustc", *words, "-C", f"link-arg={heap}", "-C", f"link-arg={WRAPPED}", "-o", made, source)
+    wrote, status, error = ran(made, TOP / "examples")
     said = (built[2] + counted[2] + linked[2] + error)[-900:].decode()
-    sweep.claim(f"a message displayed without memory: {said}", status == 0 and int(wrote) >= 3)
+    sweep.claim(f"{source.name}: {wrote} refused: {said}", status == 0 and int(wrote) >= least)
 
 
 def jobs(examples):
