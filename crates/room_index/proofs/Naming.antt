@@ -90,12 +90,12 @@ told_named p r whole told address rank room within fits names =
 
 -- the same places and ranges are as much of an index
 pub index_as : (p q : Places) (r s : Ranges) (given_up : Bool) → IsIndex p r given_up → q.tags.items ≡ p.tags.items → q.entries.items ≡ p.entries.items
-    → q.bits ≡ p.bits → s.last.items ≡ r.last.items → s.ranks.items ≡ r.ranks.items → s.short ≡ r.short → s.bits ≡ r.bits → IsIndex q s given_up
-index_as p q r s given_up is tags entries buckets last ranks short bits =
+    → q.bits ≡ p.bits → q.used ≡ p.used → s.last.items ≡ r.last.items → s.ranks.items ≡ r.ranks.items → s.short ≡ r.short → s.bits ≡ r.bits → IsIndex q s given_up
+index_as p q r s given_up is tags entries buckets used last ranks short bits =
     let still : (e : Entry) → IsIn q e → IsIn p e = λ e at.
     (at.0, sym (ap (λ ts. standing ts q.entries.items at.0) tags ∙ ap (λ es. standing p.tags.items es at.0) entries) ∙ at.1) in
     record {
-      table = table_as p q is.table tags entries buckets;
+      table = table_as p q is.table tags entries buckets used;
       none = λ up. tags ∙ is.none up;
       by_range = record {
         few = subst (λ b. b ≤ 24) (sym bits) is.by_range.few;
