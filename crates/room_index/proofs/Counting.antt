@@ -39,7 +39,7 @@ module _ (tags : List ℕ) (place : ℕ) (within : place < length tags) (free : 
 pub used_before : (tags : List ℕ) (size : ℕ) → ((n : ℕ) → size ≤ n → slice_index tags n ≡ 0) → used_in (take size tags) ≡ used_in tags
 used_before tags size free =
     let none = sum_by-le counts 0 (drop size tags) (All-from_get_or (λ tag. counts tag ≤ 0) (drop size tags) 0 (λ i within.
-        let at : slice_index (drop size tags) i ≡ 0 = get_or-drop size tags i 0 ∙ free (size + i) (omega arith) in
-        let zero : counts (slice_index (drop size tags) i) ≡ 0 = ap (λ b. cond (not b) 1 0) (eq-eqb (slice_index (drop size tags) i) 0 at) in
-        omega (arith, zero))) in
+    let at : slice_index (drop size tags) i ≡ 0 = get_or-drop size tags i 0 ∙ free (size + i) (omega arith) in
+    let zero : counts (slice_index (drop size tags) i) ≡ 0 = ap (λ b. cond (not b) 1 0) (eq-eqb (slice_index (drop size tags) i) 0 at) in
+    omega (arith, zero))) in
     omega (arith, sum_by-take-drop counts tags size, none)

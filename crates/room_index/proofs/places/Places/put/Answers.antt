@@ -6,8 +6,13 @@ use Rattle.room_index.proofs.places.Places.put.Goals as goal
 pub overflow_add-self : goal.overflow_add-self
 overflow_add-self c =
     let p = c.args.self.now in
-    omega (arith, fewer_used p.tags.items c.args.place c.requires.tags (tag_of_free p.tags.items p.entries.items c.args.place c.requires.entries c.requires.free),
-    c.requires.used, c.write.ensures.used, p.tags.ok.0)
+    omega (
+      arith,
+      fewer_used p.tags.items c.args.place c.requires.tags (tag_of_free p.tags.items p.entries.items c.args.place c.requires.entries c.requires.free),
+      c.requires.used,
+      c.write.ensures.used,
+      p.tags.ok.0,
+    )
 
 pub returns-clause-put : goal.returns-clause-put
 returns-clause-put c = record {
