@@ -21,7 +21,7 @@ use std::alloc::{AllocError, Global};
 use std::marker::Model;
 
 /// So few routes are found in few steps by a tree of them, all of which is at hand.
-const SMALL: usize = 64;
+const SMALL: usize = 256;
 
 /// The rooms of routes by their keys and ranks. A look-up takes the same few steps whatever the pairs are; where one finds no
 /// place, all are given up, and the index isn't whole until no route is left. Its memory follows the number of routes.
@@ -106,7 +106,7 @@ impl Index {
         self.ranges.ranks(address, visits)
     }
 
-    /// Whether it is of so few routes, at most 64, that a tree of them takes few steps.
+    /// Whether it is of so few routes, at most 256, that a tree of them takes few steps.
     #[inline(always)]
     pub fn is_small(&self) -> bool
         ensures { result ≡ nat_le (used_in self.now.tags) SMALL }
