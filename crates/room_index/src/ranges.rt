@@ -376,8 +376,8 @@ impl Ranges {
         }
     }
 
-    /// How many bits more than a range's the pairs of a slot are to share, by how many of so many entries one slot has: a few
-    /// more where they are crowded, and fewer where each is alone.
+    /// How many bits more than a range's the pairs of a slot are to share, by how many of so many entries one slot has: as many
+    /// more as leave it four where they lie close together, and fewer where each is alone.
     fn finer_for(&self, entries: usize) -> u32
         requires { self.now.finer ≤ KEY_BITS }
     {
@@ -386,7 +386,7 @@ impl Ranges {
             return self.finer;
         };
         if each > LOOSE {
-            self.finer + each.ilog2() - 1
+            self.finer + each.ilog2() - 2
         } else if each <= 1 {
             self.finer.saturating_sub(1)
         } else {
