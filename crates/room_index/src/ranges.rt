@@ -386,7 +386,7 @@ impl Ranges {
             return self.finer;
         };
         if each > LOOSE {
-            self.finer + each.ilog2() - 2
+            (self.finer + each.ilog2()).saturating_sub(2)
         } else if each <= 1 {
             self.finer.saturating_sub(1)
         } else {
