@@ -1,6 +1,7 @@
 //! How an entry comes into the table of places.
 ghost use Rattle.std.specs.Prelude.{◌≡◌, ℕ, ◌+◌, ◌*◌, ◌/◌, ◌^◌, ◌<◌, ◌≤◌, ◌⊎◌, [], true, false, None, Some, IfNone, IfSome, IsSome, length};
-ghost use Rattle.room_index.specs.Places.{stands, Adds, HasSamePlaces, HaveSame, IsFreeFor, IsIn, IsTable};
+ghost use Rattle.room_index.specs.Homes.{first_home, second_home};
+ghost use Rattle.room_index.specs.Places.{stands, Adds, HasSamePlaces, HaveSame, IsFreeFor, IsFull, IsIn, IsTable};
 ghost use Rattle.room_index.specs.declared.entry.Entry.{Entry as Filed};
 
 use crate::entry::Entry;
@@ -20,6 +21,8 @@ impl Places {
         ensures same { IsSome result → HaveSame self.old self.new }
         ensures place { IfSome result (λ n. IsFreeFor self.new n pair) }
         ensures none { IfNone result (self.new.tags.items ≡ []) }
+        ensures full { IfNone result ((self.old.tags.items ≡ [])
+            ⊎ (IsFull self.old (first_home self.old.bits pair) × IsFull self.old (second_home self.old.bits pair))) }
         ensures counter { visits.new.turn ≡ visits.old.turn }
     {
         if self.many() == 0 {
@@ -56,6 +59,7 @@ impl Places {
         ensures places { HasSamePlaces self.old self.new }
         ensures free { IfSome result (λ n. (n < length self.new.tags.items) × (stands self.new n ≡ None)) }
         ensures home { IfSome result (λ n. (n / 8 ≡ homes.now.first) ⊎ (n / 8 ≡ homes.now.second)) }
+        ensures full { IfNone result (IsFull self.old homes.now.first × IsFull self.old homes.now.second) }
         ensures counter { visits.new.turn ≡ visits.old.turn }
     {
         let first = self.free_in(homes.first, visits);
