@@ -15,6 +15,7 @@ impl Places {
     ///
     /// The pair is written there ahead of its room, so that the memory of the place, which hardly ever is at hand, comes
     /// while that of the tree is waited for.
+    #[inline(always)]
     pub(crate) fn place_for(&mut self, pair: u64, visits: &mut Visits) -> Option<usize>
         requires { IsTable self.old }
         ensures table { IsTable self.new }
@@ -38,6 +39,7 @@ impl Places {
     }
 
     /// Puts an entry of a new pair into a place that is free for it.
+    #[inline(always)]
     pub(crate) fn enter(&mut self, place: usize, entry: Entry)
         requires table { IsTable self.old }
         requires absent { (e : Filed) → IsIn self.old e → e.pair ≡ entry.pair → ⊥ }
@@ -50,6 +52,7 @@ impl Places {
 
     /// A free place in one of a pair's homes, in that of which the first free place is further to the front. Where both are
     /// full, another entry makes way, if there is a place in its other home.
+    #[inline(always)]
     fn vacant(&mut self, homes: &Homes, visits: &mut Visits) -> Option<usize>
         requires table { IsTable self.old }
         requires first { 8 * homes.now.first + 8 ≤ length self.old.tags.items }
@@ -76,6 +79,7 @@ impl Places {
     }
 
     /// A place of a bucket from which an entry has moved to its other home.
+    #[inline(never)]
     fn cleared_in(&mut self, bucket: usize, visits: &mut Visits) -> Option<usize>
         requires table { IsTable self.old }
         requires within { 8 * bucket + 8 ≤ length self.old.tags.items }

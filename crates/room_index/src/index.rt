@@ -147,6 +147,7 @@ impl Index {
 
     /// A place for the room of a route that is to come. Where the index isn't whole there is none, and where there is none
     /// the index is given up.
+    #[inline(always)]
     pub fn vacancy(&mut self, key: Inet, rank: Rank, visits: &mut Visits) -> Option<Vacancy>
         ensures keeps { Keeps self.old self.new }
         ensures kept_for { MatchOption result (self.new.whole ≡ false) (λ v. IsKeptFor self.new (pair key rank) v) }
@@ -166,6 +167,7 @@ impl Index {
     }
 
     /// Enters the room of a route, of whose pair it has none, where a place was kept for it.
+    #[inline(always)]
     pub fn enter(&mut self, vacancy: Option<Vacancy>, key: Inet, rank: Rank, room: Id)
         requires kept_for { MatchOption vacancy (self.old.whole ≡ false) (λ v. IsKeptFor self.old (pair key rank) v) }
         requires absent { (other : Room) → Names self.old (pair key rank) other → ⊥ }

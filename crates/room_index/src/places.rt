@@ -149,6 +149,7 @@ impl Places {
     // ---- what changes
 
     /// Writes a pair into a free place ahead of its room. The place is free still.
+    #[inline(always)]
     pub(crate) fn write_ahead(&mut self, place: usize, pair: u64)
         requires within { place < length self.old.entries.items }
         requires free { stands self.old place ≡ None }
@@ -160,6 +161,7 @@ impl Places {
     }
 
     /// Puts an entry into a free place.
+    #[inline(always)]
     pub(crate) fn put(&mut self, place: usize, tag: u16, entry: Entry)
         requires tags { place < length self.old.tags.items }
         requires entries { length self.old.entries.items ≡ length self.old.tags.items }
@@ -304,6 +306,7 @@ impl Places {
     }
 
     /// Gives all places up, and their memory.
+    #[inline(never)]
     pub(crate) fn give_up(&mut self)
         ensures table { IsTable self.new }
         ensures none { self.new.tags.items ≡ [] }

@@ -254,6 +254,7 @@ impl Ranges {
     }
 
     /// Tells a rank in the ranges from one to another.
+    #[inline(never)]
     fn tell_in(&mut self, from: usize, to: usize, rank: Rank)
         ensures told { (n : ℕ) → from ≤ n → n < to → n < length self.new.ranks.items → HasRank (slice_index self.new.ranks.items n) rank }
         ensures more { TellsMore self.old self.new }
@@ -356,6 +357,7 @@ impl Ranges {
     }
 
     /// Has so many ranges, for which there is memory, and of each what the table has, of entries the last by their places.
+    #[inline(never)]
     fn renew(&mut self, many: usize, places: &Places, visits: &mut Visits)
         requires table { IsTable places.now }
         requires last { many ≤ vec_capacity self.old.last }

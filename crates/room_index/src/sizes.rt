@@ -32,6 +32,7 @@ impl Places {
 
     /// Makes the table larger, where its entries are many for it, and the memory of a larger one was asked for. The new
     /// places are free.
+    #[inline(always)]
     pub(crate) fn grow(&mut self, visits: &mut Visits)
         requires { IsTable self.old }
         ensures table { IsTable self.new }
@@ -51,6 +52,7 @@ impl Places {
     }
 
     /// Makes the first places.
+    #[inline(never)]
     fn begin(&mut self)
         requires none { length self.old.tags.items ≡ 0 }
         requires even { length self.old.entries.items ≡ 0 }
@@ -65,6 +67,7 @@ impl Places {
     }
 
     /// Makes as many places more: each entry stays, or moves on by so many.
+    #[inline(never)]
     fn double(&mut self, visits: &mut Visits)
         requires table { IsTable self.old }
         requires some { 0 < length self.old.tags.items }
