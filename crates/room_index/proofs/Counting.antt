@@ -1,7 +1,7 @@
 -- In how many places entries stand.
-use Rattle.std.proofs.Common.{◌≡◌, ℕ, ◌+◌, ◌*◌, ◌<◌, ◌≤◌, ◌==◌, not, cond, List, length, slice_get, slice_index, slice_set, take, drop, Some, None, inl, inr, sym, ap, subst, ◌∙◌, refl, arith}
+use Rattle.std.proofs.Common.{◌≡◌, ℕ, ◌+◌, ◌<◌, ◌≤◌, ◌==◌, not, cond, List, length, slice_index, slice_set, take, drop, None, inl, inr, sym, ap, ◌∙◌, arith}
 use Rattle.std.proofs.lemmas.Bool.{cases_eq, eq-eqb, ne_eqb}
-use Rattle.std.proofs.lemmas.List.{length-set, length-drop, get_or-drop, get_or_past}
+use Rattle.std.proofs.lemmas.List.{length-set, get_or-drop, get_or_past}
 use Rattle.std.proofs.lemmas.List.Elements.{All-from_get_or}
 use Rattle.std.proofs.lemmas.List.Sums.{sum_by-set, sum_by-le, sum_by-take-drop, count_by-le-length}
 use Rattle.std.proofs.lemmas.Option.{none-some, slice_get_cases}

@@ -8,7 +8,7 @@ use Rattle.room_index.proofs.Standing.{stands_free}
 use Rattle.room_index.specs.Names.{Held, IsIndex, Keeps, Names, Enters, Loses, Strikes}
 use Rattle.room_index.specs.Places.{standing, Adds, HaveSame, IsIn, Loses as Less}
 use Rattle.room_index.specs.Homes.{pair}
-use Rattle.room_index.specs.Ranges.{entry_of, range_of, AreTold, Has, TellsRank}
+use Rattle.room_index.specs.Ranges.{entry_of, AreTold, Has, TellsRank}
 use Rattle.room_index.proofs.Ranging.{more_same, told_more}
 use Rattle.mask_table.specs.Agreeing.{masked}
 use Rattle.room_index.specs.declared.entry.Entry.{Entry}

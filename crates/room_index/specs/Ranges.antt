@@ -1,5 +1,5 @@
 -- What is known of ranges of keys.
-use Rattle.std.specs.Prelude.{◌≡◌, ℕ, ◌+◌, ◌-◌, ◌*◌, ◌/◌, ◌%◌, ◌^◌, ◌<◌, ◌≤◌, ◌==◌, ◌⊎◌, if◌then◌else◌, true, false, slice_get, slice_index, length, Option, Some, None}
+use Rattle.std.specs.Prelude.{◌≡◌, ℕ, ◌+◌, ◌-◌, ◌*◌, ◌/◌, ◌%◌, ◌^◌, ◌<◌, ◌≤◌, ◌==◌, ◌⊎◌, if◌then◌else◌, slice_get, slice_index, length, Option, Some, None}
 use Rattle.std.specs.Global.{Vec}
 use Rattle.mask_table.specs.Agreeing.{masked}
 use Rattle.mask_table.specs.RankSets.{HasRank}

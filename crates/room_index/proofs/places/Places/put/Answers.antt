@@ -1,4 +1,4 @@
-use Rattle.std.proofs.Common.{◌≡◌, ◌<◌, length, slice_index, slice_set, sym, ap, ◌∙◌, arith}
+use Rattle.std.proofs.Common.{ap, arith}
 use Rattle.room_index.proofs.Counting.{fewer_used, tag_of_free, used_more}
 use Rattle.room_index.specs.Places.{used_in}
 use Rattle.room_index.proofs.places.Places.put.Goals as goal

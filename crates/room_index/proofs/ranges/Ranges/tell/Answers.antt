@@ -1,4 +1,4 @@
-use Rattle.std.proofs.Common.{◌≡◌, ◌-◌, ◌%◌, ◌^◌, ◌≤◌, ◌<◌, ◌+◌, slice_index, arith, ap, sym, subst, pow_mono, ◌∙◌}
+use Rattle.std.proofs.Common.{◌≡◌, ◌-◌, ◌%◌, ◌^◌, ◌≤◌, ◌+◌, slice_index, arith, ap, sym, subst, pow_mono, ◌∙◌}
 use Rattle.mask_table.specs.RankSets.{HasRank}
 use Rattle.room_index.proofs.Ranging.{range_low, told_in}
 use Rattle.room_index.specs.Ranges.{range_of}
