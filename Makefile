@@ -29,6 +29,9 @@ benchmark = bench_main
 programs := $(filter-out $(benchmark),$(patsubst crates/%/src/main.rt,%,$(wildcard crates/*/src/main.rt)))
 called = $(subst show_main,routeshow,$(subst route_main,routesim,$(1)))
 archive = crates/hoiskend/out/$(1)/libhoiskend.a
+shared = crates/hoiskend/out/$(1)/libhoiskend.so
+# What loaders call the shared object (tools/shared).
+soname = libhoiskend.so.$(shell sed -n 's/^Version: \([0-9]*\)\..*/\1/p' tools/hoiskend.pc)
 # Nothing for a program that is there and no older than its sources, which is also one that the gate left.
 to_build = $(if $(shell tools/current $(1) && echo yes),,$(call built,$(1)))
 # The crates that the goals are of, for those who tell how far the build is; none where all are.
@@ -41,7 +44,7 @@ MAKEFLAGS += -j$(shell tools/jobs)
 endif
 
 .PHONY: all quick check install install-library uninstall clean help
-all: $(foreach crate,$(programs),$(call to_build,$(crate))) $(call archive,$(BACKEND))
+all: $(foreach crate,$(programs),$(call to_build,$(crate))) $(call archive,$(BACKEND)) $(call shared,$(BACKEND))
 	@:
 
 # What stops make where there is nothing to prove with.
@@ -54,8 +57,8 @@ $(call built,$(1)): crates.txt $$(shell find crates/$(1) -name out -prune -o -ty
 endef
 $(foreach line,$(lines),$(eval $(call rule,$(call name,$(line)),$(call named,$(line)))))
 
-# The static library once it is proved, by each compiler.
-$(foreach backend,llvm rattle,$(call archive,$(backend))): $(call archive,%): $(call built,hoiskend) tools/archive
+# The library once it is proved, by each compiler, as an archive and as a shared object.
+$(call archive,%) $(call shared,%): $(call built,hoiskend) tools/archive tools/shared
 	@tools/archive $*
 
 quick:
@@ -70,17 +73,20 @@ install: all install-library
 		"$(DESTDIR)$(PREFIX)/bin/$(call called,$(crate))" &&) :
 	$(foreach page,$(wildcard docs/*.1),$(INSTALL) -m 644 $(page) "$(DESTDIR)$(PREFIX)/share/man/man1/" &&) :
 
-install-library: $(call archive,$(BACKEND))
+install-library: $(call archive,$(BACKEND)) $(call shared,$(BACKEND))
 	$(INSTALL) -d $(foreach folder,include lib/pkgconfig share/man/man3,"$(DESTDIR)$(PREFIX)/$(folder)")
 	$(INSTALL) -m 644 include/hoiskend.h "$(DESTDIR)$(PREFIX)/include/"
 	$(INSTALL) -m 644 $(call archive,$(BACKEND)) "$(DESTDIR)$(PREFIX)/lib/"
+	$(INSTALL) $(call shared,$(BACKEND)) "$(DESTDIR)$(PREFIX)/lib/$(soname)"
+	ln -sf $(soname) "$(DESTDIR)$(PREFIX)/lib/libhoiskend.so"
 	sed 's|@PREFIX@|$(PREFIX)|' tools/hoiskend.pc > "$(DESTDIR)$(PREFIX)/lib/pkgconfig/hoiskend.pc"
 	$(INSTALL) -m 644 docs/hoiskend.3 "$(DESTDIR)$(PREFIX)/share/man/man3/"
 
 uninstall:
 	rm -f $(foreach crate,$(programs),"$(DESTDIR)$(PREFIX)/bin/$(call called,$(crate))") \
 		$(foreach page,$(notdir $(wildcard docs/*.[13])),"$(DESTDIR)$(PREFIX)/share/man/man$(lastword $(subst ., ,$(page)))/$(page)") \
-		$(foreach file,include/hoiskend.h lib/libhoiskend.a lib/pkgconfig/hoiskend.pc,"$(DESTDIR)$(PREFIX)/$(file)")
+		$(foreach file,include/hoiskend.h lib/libhoiskend.a lib/libhoiskend.so lib/$(soname) lib/pkgconfig/hoiskend.pc,\
+			"$(DESTDIR)$(PREFIX)/$(file)")
 
 # What took long to make is not thrown away by a slip.
 thrown = $(wildcard crates/*/out out bindings/rust/target)

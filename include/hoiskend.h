@@ -230,7 +230,7 @@ typedef struct hk_route {
 	uint32_t key;                /* its destination */
 	uint32_t gateway;            /* its gateway's address, or 0 where that is no IPv4 address */
 	uint16_t index;              /* the number of the interface that it leaves by */
-	uint16_t flags;              /* RTF_.. of <net/route.h> */
+	uint16_t flags;              /* HK_RTF_.. */
 	uint8_t rank;                /* the bits of its mask, or HK_HOST */
 	uint8_t family;              /* of its gateway: HK_AF_INET or HK_AF_LINK */
 	bool drops;                  /* the packet is dropped without an error: RTF_BLACKHOLE */
@@ -374,6 +374,112 @@ static inline size_t hk_text_size(hk_world *world)
 	uint8_t none;
 	return hk_text(world, &none, 0);
 }
+
+/* ---- the numbers of messages, which <net/route.h> of 4.4BSD names without HK_ ---- */
+
+/* The version, and the types. */
+enum {
+	HK_RTM_VERSION = 3,
+	HK_RTM_ADD = 1,
+	HK_RTM_DELETE = 2,
+	HK_RTM_CHANGE = 3,
+	HK_RTM_GET = 4,
+	HK_RTM_LOSING = 5,
+	HK_RTM_REDIRECT = 6,
+	HK_RTM_MISS = 7,
+	HK_RTM_LOCK = 8,
+	HK_RTM_OLDADD = 9,
+	HK_RTM_OLDDEL = 10,
+	HK_RTM_RESOLVE = 11,
+	HK_RTM_NEWADDR = 12,
+	HK_RTM_DELADDR = 13,
+	HK_RTM_IFINFO = 14
+};
+
+/* Which addresses stand behind the header, in this order: the bits of addrs. */
+enum {
+	HK_RTA_DST = 0x1,
+	HK_RTA_GATEWAY = 0x2,
+	HK_RTA_NETMASK = 0x4,
+	HK_RTA_GENMASK = 0x8,
+	HK_RTA_IFP = 0x10,
+	HK_RTA_IFA = 0x20,
+	HK_RTA_AUTHOR = 0x40,
+	HK_RTA_BRD = 0x80
+};
+
+/* The flags of a route; of an interface's address HK_IFA_ROUTE and HK_RTF_CLONING. */
+enum {
+	HK_RTF_UP = 0x1,
+	HK_RTF_GATEWAY = 0x2,
+	HK_RTF_HOST = 0x4,
+	HK_RTF_REJECT = 0x8,
+	HK_RTF_DYNAMIC = 0x10,
+	HK_RTF_MODIFIED = 0x20,
+	HK_RTF_DONE = 0x40,
+	HK_RTF_MASK = 0x80,
+	HK_RTF_CLONING = 0x100,
+	HK_RTF_XRESOLVE = 0x200,
+	HK_RTF_LLINFO = 0x400,
+	HK_RTF_STATIC = 0x800,
+	HK_RTF_BLACKHOLE = 0x1000,
+	HK_RTF_PROTO2 = 0x4000,
+	HK_RTF_PROTO1 = 0x8000,
+	HK_IFA_ROUTE = 0x1
+};
+
+/* The metrics that a message sets, and those that are locked: the bits of inits and of locks. */
+enum {
+	HK_RTV_MTU = 0x1,
+	HK_RTV_HOPCOUNT = 0x2,
+	HK_RTV_EXPIRE = 0x4,
+	HK_RTV_RPIPE = 0x8,
+	HK_RTV_SPIPE = 0x10,
+	HK_RTV_SSTHRESH = 0x20,
+	HK_RTV_RTT = 0x40,
+	HK_RTV_RTTVAR = 0x80
+};
+
+/* Where the fields of a header begin, how many bytes each has, the highest first, and where the header ends: of an
+ * rt_msghdr, */
+enum {
+	HK_AT_LENGTH = 0,    /* 2, of the whole message */
+	HK_AT_VERSION = 2,   /* 1 */
+	HK_AT_KIND = 3,      /* 1, the type */
+	HK_AT_INDEX = 4,     /* 2 */
+	HK_AT_PADDING = 6,   /* 2 */
+	HK_AT_FLAGS = 8,     /* 4 */
+	HK_AT_ADDRS = 12,    /* 4 */
+	HK_AT_PID = 16,      /* 4 */
+	HK_AT_SEQ = 20,      /* 4 */
+	HK_AT_ERRNO = 24,    /* 4 */
+	HK_AT_USE = 28,      /* 4 */
+	HK_AT_INITS = 32,    /* 4 */
+	HK_AT_LOCKS = 36,    /* 4, the first of the ten metrics */
+	HK_AT_MTU = 40,      /* 4 */
+	HK_AT_HOPCOUNT = 44, /* 4 */
+	HK_AT_EXPIRE = 48,   /* 4 */
+	HK_AT_RECVPIPE = 52, /* 4 */
+	HK_AT_SENDPIPE = 56, /* 4 */
+	HK_AT_SSTHRESH = 60, /* 4 */
+	HK_AT_RTT = 64,      /* 4 */
+	HK_AT_RTTVAR = 68,   /* 4 */
+	HK_AT_PKSENT = 72,   /* 4 */
+	HK_HEADER_BYTES = 76
+};
+
+/* and of an ifa_msghdr, which HK_RTM_NEWADDR and HK_RTM_DELADDR have, with the same three in front. */
+enum {
+	HK_IFA_AT_ADDRS = 4,    /* 4 */
+	HK_IFA_AT_FLAGS = 8,    /* 4 */
+	HK_IFA_AT_INDEX = 12,   /* 2 */
+	HK_IFA_AT_PADDING = 14, /* 2 */
+	HK_IFA_AT_METRIC = 16,  /* 4 */
+	HK_IFA_HEADER_BYTES = 20
+};
+
+/* The bytes of an IPv4 address in a message, the most of a mask as the machine makes one, and of a socket's queue. */
+enum { HK_INET_BYTES = 16, HK_MASK_BYTES = 8, HK_QUEUE_BYTES = 8192 };
 
 /* ---- messages in words ---- */
 

@@ -3,7 +3,7 @@ refused in turn."""
 import threading
 from dataclasses import replace
 
-from calls import NO_MEMORY, OK, World
+from calls import NO_MEMORY, OK
 from memory import asks_in_vain, takes_away
 from misuse import START
 from runs import answered_lines, answers
@@ -19,7 +19,7 @@ def steps_of(example):
 
 
 def opened(library):
-    world = World(library)
+    world = library.world()
     return world if world.open() == OK else None
 
 
@@ -121,7 +121,7 @@ def refuse_each(sweep, example, fault="refuse_at", first=1):
     again it answers as it would have; so nobody heard of it, and the routes are as they were. Or it asks in vain, or takes a
     route away, and is carried out all the same."""
     library, refusals, wrong = sweep.library(), 0, []
-    name, world = f"{example.name}: {fault} {first}", World(library)
+    name, world = f"{example.name}: {fault} {first}", library.world()
     *refused, done = refused_in_turn(library, world.open, fault, first)
     sweep.claim(f"{name}: open", len(refused) > 0 and done == (OK, 0))
     for line, answer in steps_of(example):

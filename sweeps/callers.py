@@ -12,14 +12,16 @@ from prototypes import Sources, functions_in_header
 TOP = Path(__file__).resolve().parents[1]
 EXAMPLES, RUST = TOP / "examples" / "c", TOP / "bindings" / "rust"
 HEADER, PAGE = TOP / "include" / "hoiskend.h", TOP / "docs" / "hoiskend.3"
-EACH_CALL, HEAP, DISPLAY = (Path(__file__).with_name(name) for name in ("each_call.c", "heap.c", "display.rs"))
+EACH_CALL, HEAP = (Path(__file__).with_name(name) for name in ("each_call.c", "heap.c"))
+DISPLAY, REFUSED = (Path(__file__).with_name(name) for name in ("display.rs", "refused.rs"))
 
-C11, CPP11 = ["-std=c11"], ["-std=c++11", "-x", "c++"]
+C11, CPP11, CPP17 = ["-std=c11"], ["-std=c++11", "-x", "c++"], ["-std=c++17", "-x", "c++"]
 STRICT = ["-Wall", "-Wextra", "-pedantic", "-Werror", "-O2"]
 WRAPPED = "-Wl,--wrap=malloc,--wrap=realloc,--wrap=free"
 REFUSING = ["-Wl,--wrap=malloc,--wrap=realloc"]
 SANITIZED = ["-fsanitize=address,undefined", "-fno-sanitize-recover=all", "-g"]
-COMPILERS = {"gcc": C11, "clang": C11, "g++": CPP11, "clang++": CPP11}
+COMPILERS = {"gcc": [C11], "clang": [C11], "g++": [CPP11, CPP17], "clang++": [CPP11, CPP17]}
+ARCHIVE, SHARED = "-l:libhoiskend.a", "-lhoiskend"
 VALGRIND = ["valgrind", "-q", "--error-exitcode=99", "--leak-check=full", "--show-leak-kinds=definite,possible"]
 
 
@@ -45,11 +47,11 @@ def ran(*command, **how):
     return done.stdout, done.returncode, done.stderr
 
 
-def compiled(sweep, compiler, source, *words):
-    """The program of a source; a warning is an error."""
+def compiled(sweep, compiler, source, *words, linked=ARCHIVE):
+    """The program of a source, linked with the archive or with the shared object; a warning is an error."""
     made = Path(tempfile.mkdtemp(dir=sweep.folder), "program")
-    include, lib = sweep.out / "include", sweep.out / "lib"
-    built = ran(compiler, *words, f"-I{include}", source, "-x", "none", f"-L{lib}", "-lhoiskend", "-o", made)
+    include, lib = sweep.out / "include", sweep.out / "lib" if linked == ARCHIVE else sweep.objects()
+    built = ran(compiler, *words, f"-I{include}", source, "-x", "none", f"-L{lib}", linked, "-o", made)
     sweep.claim(f"{compiler} {' '.join(words)} {Path(source).name}: {built[2][-600:].decode()}", built == (b"", 0, b""))
     return made
 
@@ -87,10 +89,11 @@ def programs(sweep):
 
 def run_programs(sweep, compiler):
     """Each compiler takes them without a warning, and they tell what they should; so with sanitizers."""
-    standard = COMPILERS[compiler]
+    standard, *others = COMPILERS[compiler]
     if not is_there(sweep, compiler):
         return
-    run_each_call(sweep, compiler)
+    for each in (standard, *others):
+        run_each_call(sweep, compiler, each)
     if standard is CPP11:
         return
     kinds = [STRICT, [*STRICT, *SANITIZED]] if is_there(sweep, compiler, *SANITIZED) else [STRICT]
@@ -115,10 +118,10 @@ ANSWERED = {
 }
 
 
-def run_each_call(sweep, compiler):
+def run_each_call(sweep, compiler, standard, linked=ARCHIVE, **how):
     """A program that makes each call once, in C and in C++."""
-    program = compiled(sweep, compiler, EACH_CALL, *COMPILERS[compiler], *STRICT)
-    wrote, status, error = ran(program)
+    program = compiled(sweep, compiler, EACH_CALL, *standard, *STRICT, linked=linked)
+    wrote, status, error = ran(program, **how)
     answered = {}
     for call, text in re.findall(r"^(hk_.*): (.*)$", wrote.decode(), re.M):
         answered.setdefault(call, []).append(text)
@@ -237,23 +240,25 @@ def run_rust(sweep):
         wrote, status, error = ran("cargo", "run", *manifest, "--example", "first_script", env=environment)
         told = told_of(sweep, first_script())
         sweep.claim(f"the example in Rust: {error[-900:].decode()}", (wrote, status) == (told, 0))
-    refuse_display(sweep, ran("cargo", "build", *manifest, env=by_folder), target / "debug" / "libhoiskend.rlib")
+    built, package = ran("cargo", "build", *manifest, env=by_folder), target / "debug" / "libhoiskend.rlib"
+    refuse_in_rust(sweep, built, package, DISPLAY, 3)
+    refuse_in_rust(sweep, built, package, REFUSED, 500)
     unsafe = [path.name for path in (RUST / "src").glob("*.rs") if re.search(r"\bunsafe\b(?!_)", path.read_text())]
     sweep.claim(f"unsafe in {unsafe}", unsafe == ["sys.rs"])
 
 
-def refuse_display(sweep, built, package):
-    """A message's display is an error where memory is refused: of the library, which is asked twice for its text, and
-    once of the package."""
+def refuse_in_rust(sweep, built, package, source, least):
+    """A program in Rust in which each allocation is refused in turn, and which tells how many were: the display of a message,
+    for whose text the library is asked twice and the package once; and the examples by typed calls."""
     if not is_there(sweep, "rustc"):
         return
-    heap, made = package.with_name("heap.o"), package.with_name("display")
+    heap, made = package.with_name("heap.o"), package.with_name(source.stem)
     counted = ran(os.environ.get("CC", "cc"), "-O2", "-c", "-o", heap, HEAP)
     words = ["-D", "warnings", "--edition", "2021", "--extern", f"hoiskend={package}"]
-    linked = ran("rustc", *words, "-C", f"link-arg={heap}", "-C", f"link-arg={WRAPPED}", "-o", made, DISPLAY)
-    wrote, status, error = ran(made)
+    linked = ran("rustc", *words, "-C", f"link-arg={heap}", "-C", f"link-arg={WRAPPED}", "-o", made, source)
+    wrote, status, error = ran(made, TOP / "examples")
     said = (built[2] + counted[2] + linked[2] + error)[-900:].decode()
-    sweep.claim(f"a message displayed without memory: {said}", status == 0 and int(wrote) >= 3)
+    sweep.claim(f"{source.name}: {wrote} refused: {said}", status == 0 and int(wrote) >= least)
 
 
 def jobs(examples):

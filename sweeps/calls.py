@@ -61,6 +61,10 @@ class Library:
     def make(self, name, handle, *given):
         return getattr(self.loaded, name)(ctypes.byref(handle), *given)
 
+    def world(self):
+        """A world of this library, which is closed."""
+        return World(self)
+
     def show(self, *given):
         """Calls hk_show, which has no world."""
         return self.loaded.hk_show(*given)

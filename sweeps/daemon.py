@@ -9,9 +9,14 @@ from pathlib import Path
 PAGE = Path(__file__).resolve().parents[1] / "docs" / "DAEMON.md"
 
 
+def programs():
+    """The programs in Python that the page shows, the one over the package first, each with what it prints."""
+    return re.findall(r"^```python\n([^`]*)```\n\nIt prints\n\n```\n([^`]*)```", PAGE.read_text(), re.M)
+
+
 def run_its_client(sweep):
     """The client drives the program, and prints what the page shows behind it."""
-    (client, shown), = re.findall(r"```python\n(.*?)```\n\nIt prints\n\n```\n(.*?)```", PAGE.read_text(), re.S)
+    _, (client, shown) = programs()
     folder = Path(tempfile.mkdtemp(dir=sweep.folder))
     Path(folder, "routesim").symlink_to(sweep.program)
     command = [sys.executable, "-c", client]

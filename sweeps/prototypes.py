@@ -1,5 +1,5 @@
-"""The library's functions in four places: the header, the crate, the declarations in Rust, and the archive's symbols;
-and its structs and errnos in three. All have to say the same."""
+"""The library's functions in five places: the header, the crate, the declarations in Rust and in Python, and the symbols
+of the archive and of the shared object; and its structs and errnos in four. All have to say the same."""
 import re
 import subprocess
 from dataclasses import dataclass, replace
@@ -8,7 +8,7 @@ from pathlib import Path
 from pages import errnos_in_formats, Pages
 
 TOP = Path(__file__).resolve().parents[1]
-CRATE, RUST = TOP / "crates" / "hoiskend", TOP / "bindings" / "rust"
+CRATE, RUST, PYTHON = TOP / "crates" / "hoiskend", TOP / "bindings" / "rust", TOP / "bindings" / "python"
 
 # What the archive may want of a program, beside the heap.
 WANTED = {"malloc", "realloc", "free", "memcpy", "memmove", "memset", "memcmp", "bcmp"}
@@ -23,14 +23,18 @@ class Sources:
     crate: str
     rust: str
     rust_errnos: str
+    python: str
+    python_errnos: str
     errnos: str
 
     @staticmethod
     def of_today():
         crate = "".join(path.read_text() for path in sorted(CRATE.glob("src/*.rt")))
         rust, rust_errnos = ((RUST / "src" / name).read_text() for name in ("sys.rs", "errno.rs"))
+        python, python_errnos = ((PYTHON / "hoiskend" / name).read_text() for name in ("_library.py", "errors.py"))
         errnos = (TOP / "crates" / "sock_addrs" / "src" / "errno.rt").read_text()
-        return Sources((TOP / "include" / "hoiskend.h").read_text(), crate, rust, rust_errnos, errnos)
+        header = (TOP / "include" / "hoiskend.h").read_text()
+        return Sources(header, crate, rust, rust_errnos, python, python_errnos, errnos)
 
 
 def without_comments(text):
@@ -115,6 +119,13 @@ def struct_in(text, struct):
     return [(NUMBERS[kind or of], name, constant(text, n) if n else 1) for name, of, n, kind in found]
 
 
+def struct_in_python(python, struct):
+    fields = re.search(rf"class {struct}\(.*?_fields_ = \[\n(.*?)\n    \]", python, re.S)[1]
+    found = re.findall(r'\("(\w+)", ctypes\.c_(\w+)(?: \* (\w+))?\)', fields)
+    types = {"bool": "bool", **{f"uint{bits}": f"uint{bits}_t" for bits in (8, 16, 32)}}
+    return [(types[kind], name, constant(python, n) if n else 1) for name, kind, n in found]
+
+
 def as_bytes(route):
     """A bool is a byte of 0 or 1."""
     return [("uint8_t" if kind == "bool" else kind, name, n) for kind, name, n in route]
@@ -138,6 +149,14 @@ def errnos_in_rust(text):
     return {name: (int(number), texts.get(name)) for name, number in re.findall(r"\b(E[A-Z]+) = (\d+),", text)}
 
 
+def errnos_in_python(text):
+    """Those that have a number and a text, and an exception that is named for them."""
+    texts = dict(re.findall(r'\bErrno\.(E[A-Z]+): "([^"]*)"', text))
+    found = {name: (int(number), texts.get(name)) for name, number in re.findall(r"\b(E[A-Z]+) = (\d+)$", text, re.M)}
+    classes = re.findall(r"^class (E[A-Z]+)\(Refused\):\n    errno = Errno\.(E[A-Z]+)$", text, re.M)
+    return found if classes == [(name, name) for name in found] else None
+
+
 # ---- what is compared
 
 def differences(sources):
@@ -145,17 +164,22 @@ def differences(sources):
     header, crate = functions_in_header(sources.header), functions_in_crate(sources.crate)
     numbers = {(str(number), name) for name, (number, _) in errnos_in_crate(sources.errnos).items()}
     bad = {constant(sources.header, "HK_BAD"), constant(sources.rust, "BAD"), constant(sources.crate, "BAD")}
+    bad.add(constant(sources.python_errnos, "BAD_LINE"))
     inline = {name + "_n" for name in re.findall(r"static inline uint32_t (hk_\w+)\(hk_world", sources.header)}
     same = {
         "functions of the header and the crate": header == crate != {},
         "functions of the header and Rust": header == functions_in_rust(sources.rust),
+        "functions of the header and Python": header == functions_in_header(sources.python),
         "inline functions": inline == {name for name in header if name.endswith("_n")},
         "the route": as_bytes(struct_in_header(sources.header, "hk_route")) == as_bytes(struct_in(sources.crate, "Route")) != [],
         "the route in Rust": struct_in_header(sources.header, "hk_route") == struct_in(sources.rust, "Route"),
         "the request": struct_in_header(sources.header, "hk_request") == struct_in(sources.crate, "Request") != [],
         "the request in Rust": struct_in_header(sources.header, "hk_request") == struct_in(sources.rust, "Request"),
+        "the route in Python": struct_in_header(sources.header, "hk_route") == struct_in_python(sources.python, "Route"),
+        "the request in Python": struct_in_header(sources.header, "hk_request") == struct_in_python(sources.python, "Request"),
         "errnos of the header": errnos_in_header(sources.header) == errnos_in_crate(sources.errnos) != {},
         "errnos in Rust": errnos_in_rust(sources.rust_errnos) == errnos_in_crate(sources.errnos),
+        "errnos in Python": errnos_in_python(sources.python_errnos) == errnos_in_crate(sources.errnos),
         "errnos of FORMATS": set(errnos_in_formats(Pages.of_today())) == numbers,
         "the answer to a bad line": len(bad) == 1,
     }
@@ -199,6 +223,15 @@ SLIPS = [
     ("rust", "    pub(crate) rank: u8,\n    pub(crate) family: u8,\n", "the route in Rust",
      "    pub(crate) family: u8,\n    pub(crate) rank: u8,\n"),
     ("rust_errnos", "    EMFILE = 24,", "errnos in Rust", "    EMFILE = 23,"),
+    ("python", "uint32_t hk_losing(hk_world *world, uint32_t address);", "functions of the header and Python",
+     "uint32_t hk_losing(hk_world *world, uint8_t address);"),
+    ("python", "void hk_close(hk_world *world);\n", "functions of the header and Python", ""),
+    ("python", '("flags", ctypes.c_uint16)', "the route in Python", '("flags", ctypes.c_uint32)'),
+    ("python_errnos", 'EMFILE: "Too many sockets"', "errnos in Python", 'EMFILE: "Too many"'),
+    ("python_errnos", "    EMFILE = 24\n", "errnos in Python", "    EMFILE = 23\n"),
+    ("python_errnos", "class ENXIO(Refused):\n    errno = Errno.ENXIO", "errnos in Python",
+     "class ENXIO(Refused):\n    errno = Errno.ESRCH"),
+    ("python_errnos", "BAD_LINE = 256", "the answer to a bad line", "BAD_LINE = 255"),
     ("errnos", "    ETOOMANYREFS = 59,", "errnos of FORMATS", "    ETOOMANYREFS = 60,"),
 ]
 
@@ -212,16 +245,23 @@ def notice_slips(sweep):
         sweep.claim(f"a slip of the pen: {old} to {new}", text.count(old) == 1 and what in found)
 
 
-def symbols(archive, *words):
-    """The names of an archive's global symbols."""
-    told = subprocess.run(["nm", "-g", "-P", *words, archive], capture_output=True, text=True, check=True).stdout
-    return {line.split()[0] for line in told.splitlines() if len(line.split()) > 1}
+def symbols(file, *words):
+    """The names of a file's global symbols, without their versions and without those that needn't be there."""
+    told = subprocess.run(["nm", "-g", "-P", *words, file], capture_output=True, text=True, check=True).stdout
+    found = [line.split() for line in told.splitlines()]
+    return {words[0].split("@")[0] for words in found if len(words) > 1 and words[1] not in "wv"}
 
 
-def compare_symbols(sweep):
-    """The archive has the functions of the header and nothing else, and wants of a program what every C program has."""
+def compare_symbols(sweep, file, *words):
+    """The archive or the shared object has the functions of the header and nothing else, and wants of a program what every
+    C program has."""
     functions = set(functions_in_header(Sources.of_today().header))
-    has, wants = (symbols(sweep.archive, words) for words in ("--defined-only", "--undefined-only"))
-    sweep.claim(f"symbols of the archive, but {functions ^ has}", has == functions != set())
+    has, wants = (symbols(file, *words, which) for which in ("--defined-only", "--undefined-only"))
+    sweep.claim(f"symbols of {file.name}, but {functions ^ has}", has == functions != set())
     wants -= NO_SYMBOL
-    sweep.claim(f"what the archive wants, but {wants - WANTED}", "malloc" in wants <= WANTED)
+    sweep.claim(f"what {file.name} wants, but {wants - WANTED}", "malloc" in wants <= WANTED)
+
+
+def compare_both(sweep):
+    compare_symbols(sweep, sweep.archive)
+    compare_symbols(sweep, sweep.objects() / "libhoiskend.so", "-D")

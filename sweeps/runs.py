@@ -65,6 +65,10 @@ class Sweep:
         faults = {name.upper(): str(value) for name, value in faults.items()}
         return {"LD_PRELOAD": ":".join(map(str, self.libraries)), **faults}
 
+    def wrongs(self):
+        """The environment by which the program is made wrong; here it isn't."""
+        return {}
+
     def run(self, script, words=(), program=None, **faults):
         """Runs a script on standard input, which is a file: so a read gives all the bytes that it has room for. `words`
         stand behind the program's name; another program may stand in its place."""
@@ -89,6 +93,12 @@ class Sweep:
                 self.passed += 1
             else:
                 self.failed.append(what)
+
+    def add(self, passed, failed):
+        """Claims that were made elsewhere: how many hold, and those that don't."""
+        with self.lock:
+            self.passed += passed
+            self.failed += failed
 
 
 class Counts(dict):

@@ -1,4 +1,5 @@
 """A trial of the sweeps themselves: the program is made wrong, and a sweep that looks for that has to fail."""
+import costs
 import generated
 import leaks
 import memory
@@ -92,6 +93,8 @@ def trials(examples, tests):
     yield "lies", generated.run_fronts
     yield "lies", streams.read_in_pieces, bad
     yield "late", streams.answer_each_line_at_once, one_get
+    if costs.can_count():
+        yield "sluggish", costs.count_instructions, costs.within_one_network
     yield "deaf", words.refuse_memory_of_words, words.ROUTESIM
     yield "deaf", words.read_a_file, one_get
     yield "blind", words.refuse_memory_of_words, words.ROUTESIM
@@ -109,6 +112,10 @@ class Wrong(Sweep):
     def __init__(self, sweep, wrongs, wrong):
         super().__init__(sweep.program, [wrongs, *sweep.libraries], sweep.folder)
         self.wrong = wrong
+
+    def wrongs(self):
+        # whose own instructions would count too
+        return {} if self.wrong == RIGHT else {"LD_PRELOAD": str(self.libraries[0]), "WRONG": self.wrong}
 
     def environment(self, **faults):
         return super().environment(wrong=self.wrong, **faults)

@@ -1,10 +1,41 @@
-"""The library made wrong, for the trial of the sweeps over it."""
+"""The library made wrong, and the shared object, for the trial of the sweeps over them."""
 import ctypes
+import os
+import shutil
+import subprocess
+import tempfile
+from pathlib import Path
 
 from calls import BAD, INVALID, LEFT_OUT, NO_MEMORY, OK, Library
 
 # What a library that starves says that there is no memory for, by what such a call is given last or first.
 STARVED = {("hk_redirect", -1, 0), ("hk_packet", 0, 0), ("hk_write_n", -1, 4096)}
+
+TOP = Path(__file__).resolve().parents[1]
+SOURCE, NAME = Path(__file__).with_name("wrong_object.c"), "libhoiskend.so.0"
+# Of the wrong shared objects, the call that another stands in the place of: wrong_object.c has these. `talks` has a symbol
+# that is no call, and `nameless` no name for loaders.
+WRONG_CALLS = {"mute": "hk_fetch", "nods": "hk_write_n", "mumbles": "hk_show"}
+WRONG_OBJECTS = {*WRONG_CALLS, "talks", "nameless"}
+
+
+def wrong_object(archive, folder, wrong):
+    """A folder with the shared object of this archive, made wrong."""
+    room, compiler = Path(tempfile.mkdtemp(dir=folder)), os.environ.get("CC", "cc")
+    copy, own, made = room / "libhoiskend.a", room / "wrong.o", room / NAME
+    shutil.copyfile(archive, copy)
+    commands = [[compiler, "-c", "-fPIC", f"-D{wrong.upper()}", "-o", own, SOURCE], ["ar", "rs", copy, own]]
+    if wrong in WRONG_CALLS:
+        call = WRONG_CALLS[wrong]
+        commands.insert(0, ["objcopy", "--redefine-sym", f"{call}=right_{call}", copy])
+    whole = ["-Wl,--whole-archive", copy, "-Wl,--no-whole-archive"]
+    named = [] if wrong == "nameless" else [f"-Wl,-soname,{NAME}"]
+    alone = wrong in ("talks", "nameless")
+    commands.append([compiler, "-shared", "-o", made, *named, *whole] if alone else [TOP / "tools" / "shared", copy, made])
+    for command in commands:
+        subprocess.run([*map(str, command)], check=True, capture_output=True)
+    (room / "libhoiskend.so").symlink_to(NAME)
+    return room
 
 
 class WrongLibrary(Library):

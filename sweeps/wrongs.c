@@ -23,6 +23,7 @@
  *   stops         ends the script at the 1,000th read
  *   lies          answers `ok` in place of `bad`
  *   late          keeps what it writes until it has read once more
+ *   sluggish      goes a long way round at each allocation
  *   mumbles       writes a question mark in place of a text to standard error
  */
 #define _GNU_SOURCE
@@ -52,6 +53,9 @@ static int is(const char *wrong)
 static int refuses(void)
 {
 	allocations++;
+	if (is("sluggish"))
+		for (volatile int turn = 0; turn < 1000; turn++)
+			;
 	return is("refuses-late") && allocations > 5000;
 }
 

@@ -11,9 +11,9 @@
 
 /* ---- the daemon: it keeps routes in a kernel, which it reaches by two functions ---- */
 
-enum { HEADER = 76, INET = 16, MASK = 8, RTM_VERSION = 3, RTM_ADD = 1, RTM_GET = 4 };
-enum { RTA_DST = 1, RTA_GATEWAY = 2, RTA_NETMASK = 4 };
-enum { RTF_UP = 1, RTF_GATEWAY = 2, RTF_DONE = 0x40, RTF_STATIC = 0x800 };
+/* Where the addresses of its requests begin, and where these end. */
+enum { GATEWAY = HK_HEADER_BYTES + HK_INET_BYTES, NETMASK = GATEWAY + HK_INET_BYTES, END = NETMASK + HK_MASK_BYTES };
+enum { WANTED = HK_RTF_UP | HK_RTF_GATEWAY | HK_RTF_STATIC };
 
 struct kernel {
 	void *state;
@@ -41,7 +41,7 @@ static uint32_t get(const uint8_t *at)
 
 static void put_inet(uint8_t *at, uint32_t address)
 {
-	at[0] = INET;
+	at[0] = HK_INET_BYTES;
 	at[1] = HK_AF_INET;
 	put(at + 4, address);
 }
@@ -50,15 +50,15 @@ static void put_inet(uint8_t *at, uint32_t address)
  * once more; a route that is there already is as good. */
 static uint32_t want_route(struct daemon *daemon, uint32_t network, uint32_t gateway)
 {
-	uint8_t add[HEADER + INET + INET + MASK] = {0, sizeof add, RTM_VERSION, RTM_ADD};
+	uint8_t add[END] = {0, sizeof add, HK_RTM_VERSION, HK_RTM_ADD};
 	uint32_t code = 0;
-	put(add + 8, RTF_UP | RTF_GATEWAY | RTF_STATIC);
-	put(add + 12, RTA_DST | RTA_GATEWAY | RTA_NETMASK);
-	put(add + 20, ++daemon->seq);
-	put_inet(add + HEADER, network);
-	put_inet(add + HEADER + INET, gateway);
-	add[HEADER + INET + INET] = 4 + 3;
-	put(add + HEADER + INET + INET + 4, 0xffffff00);
+	put(add + HK_AT_FLAGS, WANTED);
+	put(add + HK_AT_ADDRS, HK_RTA_DST | HK_RTA_GATEWAY | HK_RTA_NETMASK);
+	put(add + HK_AT_SEQ, ++daemon->seq);
+	put_inet(add + HK_HEADER_BYTES, network);
+	put_inet(add + GATEWAY, gateway);
+	add[NETMASK] = 4 + 3;
+	put(add + NETMASK + 4, 0xffffff00);
 	for (int tries = 0; tries < 2; tries++) {
 		code = daemon->kernel.write(daemon->kernel.state, add, sizeof add);
 		if (code != HK_ENOBUFS)
@@ -70,10 +70,10 @@ static uint32_t want_route(struct daemon *daemon, uint32_t network, uint32_t gat
 /* Counts the routes that the kernel says were added, by whomever. */
 static void hear(struct daemon *daemon)
 {
-	uint8_t messages[HK_MESSAGE_BYTES];
+	uint8_t messages[HK_QUEUE_BYTES];
 	size_t n = daemon->kernel.read(daemon->kernel.state, messages, sizeof messages);
 	for (size_t at = 0; at < n; at += hk_message_length(messages + at))
-		daemon->confirmed += messages[at + 3] == RTM_ADD && get(messages + at + 24) == 0;
+		daemon->confirmed += messages[at + HK_AT_KIND] == HK_RTM_ADD && get(messages + at + HK_AT_ERRNO) == 0;
 }
 
 /* ---- the kernel of its test ---- */
@@ -135,7 +135,7 @@ static void requests_are_answered(void)
 {
 	hk_world world = HK_CLOSED;
 	hk_route route;
-	uint8_t heard[HK_MESSAGE_BYTES];
+	uint8_t heard[HK_QUEUE_BYTES];
 	struct daemon daemon = start(&world);
 
 	CHECK(want_route(&daemon, HK_ADDRESS(172, 16, 1, 0), HK_ADDRESS(10, 0, 0, 254)) == HK_OK);
@@ -146,13 +146,13 @@ static void requests_are_answered(void)
 	CHECK(hk_packet(&world, HK_ADDRESS(172, 16, 1, 9), &route) == HK_OK);
 	CHECK(route.key == HK_ADDRESS(172, 16, 1, 0) && route.rank == 24);
 	CHECK(route.family == HK_AF_INET && route.gateway == HK_ADDRESS(10, 0, 0, 254));
-	CHECK(route.index == 1 && route.flags == (RTF_UP | RTF_GATEWAY | RTF_STATIC));
+	CHECK(route.index == 1 && route.flags == WANTED);
 
 	/* the witness hears the reply, with the daemon's pid and seq */
 	CHECK(hk_read(&world, "witness") == HK_OK);
-	CHECK(hk_fetch(&world, heard, sizeof heard) == HEADER + INET + INET + MASK);
-	CHECK(heard[3] == RTM_ADD && get(heard + 16) == 88 && get(heard + 20) == 1);
-	CHECK(get(heard + 8) == (RTF_UP | RTF_GATEWAY | RTF_DONE | RTF_STATIC));
+	CHECK(hk_fetch(&world, heard, sizeof heard) == END && heard[HK_AT_KIND] == HK_RTM_ADD);
+	CHECK(get(heard + HK_AT_PID) == 88 && get(heard + HK_AT_SEQ) == 1);
+	CHECK(get(heard + HK_AT_FLAGS) == (WANTED | HK_RTF_DONE));
 
 	/* what is there already is no fault to this daemon; a gateway out of reach is */
 	CHECK(want_route(&daemon, HK_ADDRESS(172, 16, 1, 0), HK_ADDRESS(10, 0, 0, 254)) == HK_OK);
@@ -165,26 +165,26 @@ static void a_full_queue_loses(void)
 {
 	hk_world world = HK_CLOSED;
 	uint64_t lost, size;
-	uint8_t messages[HK_MESSAGE_BYTES * 4];
+	uint8_t messages[HK_QUEUE_BYTES * 4];
 	size_t heard = 0, n;
 	uint32_t routes = 0;
 	struct daemon daemon = start(&world);
 	for (uint32_t i = 0; i < 100; i++) {
 		CHECK(want_route(&daemon, HK_ADDRESS(172, 16, i, 0), HK_ADDRESS(10, 0, 0, 254)) == HK_OK);
 		CHECK(hk_read(&world, "witness") == HK_OK);
-		heard += hk_fetch_size(&world) / (HEADER + INET + INET + MASK);
+		heard += hk_fetch_size(&world) / END;
 	}
 	CHECK(heard == 100);
 	CHECK(hk_lost(&world, "witness", &lost) == HK_OK && lost == 0);
 	hear(&daemon);
-	CHECK(daemon.confirmed == HK_MESSAGE_BYTES / (HEADER + INET + INET + MASK));
+	CHECK(daemon.confirmed == HK_QUEUE_BYTES / END);
 	CHECK(hk_lost(&world, "rd", &lost) == HK_OK && lost == 100 - daemon.confirmed);
 
 	CHECK(hk_dump_size(&world, false, 0, &size) == HK_OK && size <= sizeof messages);
-	CHECK(hk_dump(&world, true, RTF_STATIC, (uint32_t)size) == HK_OK);
+	CHECK(hk_dump(&world, true, HK_RTF_STATIC, (uint32_t)size) == HK_OK);
 	n = hk_fetch(&world, messages, sizeof messages);
 	for (size_t at = 0; at < n; at += hk_message_length(messages + at))
-		routes += messages[at + 3] == RTM_GET;
+		routes += messages[at + HK_AT_KIND] == HK_RTM_GET;
 	CHECK(routes == 100);
 	hk_close(&world);
 }
@@ -208,7 +208,7 @@ static void memory_runs_out(void)
 		hear(&daemon);
 		CHECK(daemon.confirmed == 1);
 		CHECK(hk_packet(&world, HK_ADDRESS(172, 16, 1, 9), &route) == HK_OK && route.rank == 24);
-		CHECK(hk_read(&world, "witness") == HK_OK && hk_fetch_size(&world) == HEADER + INET + INET + MASK);
+		CHECK(hk_read(&world, "witness") == HK_OK && hk_fetch_size(&world) == END);
 		hk_close(&world);
 	}
 	CHECK(call > 2);

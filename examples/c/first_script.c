@@ -8,12 +8,12 @@
 #include <stdio.h>
 #include <stdlib.h>
 
-/* A GET of the route of 10.9.9.9: the rt_msghdr, of which what isn't named is 0, and the destination behind it. */
-enum { HEADER = 76, INET = 16, RTM_VERSION = 3, RTM_GET = 4, RTA_DST = 1 };
-
-static const uint8_t GET[HEADER + INET] = {
-	[1] = HEADER + INET, [2] = RTM_VERSION, [3] = RTM_GET, [15] = RTA_DST, [23] = 1,
-	[HEADER] = INET, [HEADER + 1] = HK_AF_INET, [HEADER + 4] = 10, 9, 9, 9,
+/* A GET of the route of 10.9.9.9: the rt_msghdr, of which what isn't named is 0, and the destination behind it. Numbers
+ * stand highest byte first, so a small one is in the last of its four bytes. */
+static const uint8_t GET[HK_HEADER_BYTES + HK_INET_BYTES] = {
+	[HK_AT_LENGTH + 1] = sizeof GET, [HK_AT_VERSION] = HK_RTM_VERSION, [HK_AT_KIND] = HK_RTM_GET,
+	[HK_AT_ADDRS + 3] = HK_RTA_DST, [HK_AT_SEQ + 3] = 1,
+	[HK_HEADER_BYTES] = HK_INET_BYTES, [HK_HEADER_BYTES + 1] = HK_AF_INET, [HK_HEADER_BYTES + 4] = 10, 9, 9, 9,
 };
 
 static void print_answer(uint32_t code)

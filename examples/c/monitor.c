@@ -39,7 +39,7 @@ static uint32_t print_message(const uint8_t *message)
 /* Prints what the socket has heard since it was last read. */
 static uint32_t print_heard(hk_world *world, const char *id)
 {
-	uint8_t heard[HK_MESSAGE_BYTES];
+	uint8_t heard[HK_QUEUE_BYTES];
 	uint32_t code = hk_read(world, id);
 	size_t n = code ? 0 : hk_fetch(world, heard, sizeof heard);
 	for (size_t at = 0; !code && at < n; at += hk_message_length(heard + at))

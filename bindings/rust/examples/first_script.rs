@@ -1,14 +1,17 @@
 //! Hoiskend's first script by calls: it prints what `routesim` prints of it.
+use hoiskend::net_route::{at, INET_BYTES, RTA_DST, RTM_GET, RTM_VERSION};
 use hoiskend::{Errno, Kind, Socket, World};
 use std::net::Ipv4Addr;
 
-/// A GET of the route of 10.9.9.9: an `rt_msghdr` of 76 bytes, of which what isn't named is 0, and the destination.
-fn get() -> [u8; 92] {
-    let mut message = [0; 92];
-    message[..4].copy_from_slice(&[0, 92, 3, 4]);
-    message[15] = 1;
-    message[23] = 1;
-    message[76..84].copy_from_slice(&[16, 2, 0, 0, 10, 9, 9, 9]);
+const SIZE: usize = at::END + INET_BYTES;
+
+/// A GET of the route of 10.9.9.9: an `rt_msghdr`, of which what isn't named is 0, and the destination.
+fn get() -> [u8; SIZE] {
+    let mut message = [0; SIZE];
+    message[..4].copy_from_slice(&[0, SIZE as u8, RTM_VERSION, RTM_GET]);
+    message[at::ADDRS..at::PID].copy_from_slice(&RTA_DST.to_be_bytes());
+    message[at::SEQ..at::ERRNO].copy_from_slice(&1u32.to_be_bytes());
+    message[at::END..at::END + 8].copy_from_slice(&[INET_BYTES as u8, 2, 0, 0, 10, 9, 9, 9]);
     message
 }
 

@@ -19,11 +19,14 @@
 //! ```
 //!
 //! Messages are the bytes of a 32-bit machine that stores the highest byte first; Hoiskend's docs/FORMATS.md has them. A
-//! [`Message`] is displayed in words, and [`convert`] gives it in the layout of a system of today.
+//! [`Message`] is taken apart by its methods and displayed in words, and [`convert`] gives it in the layout of a system of
+//! today. [`net_route`] has the numbers by name.
 #![deny(unsafe_code, missing_docs)]
 
 mod errno;
 mod messages;
+pub mod net_route;
+mod parts;
 mod request;
 mod route;
 mod sys;
@@ -32,7 +35,8 @@ mod world;
 
 pub use errno::{Errno, LineError};
 pub use messages::{Dump, Message, Messages};
-pub use request::{Metrics, Request};
+pub use parts::{Address, Metrics};
+pub use request::{Request, SetMetrics};
 pub use route::{Gateway, LinkAddress, Route};
 pub use system::{convert, Fault, System};
 pub use world::{Kind, Socket, World};

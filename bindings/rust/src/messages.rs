@@ -15,7 +15,7 @@ use std::ops::Deref;
 /// world.attach("le0", Kind::Broadcast, 6, &[8, 0, 0x20, 1, 2, 3])?;
 /// world.add_address("le0", "10.0.0.1".parse().unwrap(), 8, true, None)?;
 /// let heard = world.read(socket)?;
-/// let added = heard.iter().find(|message| message[3] == 1).unwrap();
+/// let added = heard.iter().find(|message| message.kind() == Ok(1)).unwrap();
 /// assert_eq!(
 ///     added.to_string(),
 ///     "RTM_ADD: length 116, version 3, pid 0, seq 0, index 1\n\

@@ -24,12 +24,12 @@ pub struct Request {
     /// The bits of the metrics that are locked, `RTV_..`.
     pub locks: u32,
     /// Metrics, each where it is set.
-    pub metrics: Metrics,
+    pub metrics: SetMetrics,
 }
 
 /// The metrics of a request, each where it is set.
 #[derive(Clone, Copy, Debug, Default, PartialEq, Eq)]
-pub struct Metrics {
+pub struct SetMetrics {
     /// The most bytes of a packet.
     pub mtu: Option<u32>,
     /// The most hops that are expected.
@@ -48,7 +48,7 @@ pub struct Metrics {
     pub rttvar: Option<u32>,
 }
 
-impl Metrics {
+impl SetMetrics {
     /// In the order of their bits, `RTV_..`.
     fn in_order(&self) -> [Option<u32>; 8] {
         [
@@ -83,7 +83,7 @@ impl Request {
             flags: 0,
             seq: 0,
             locks: 0,
-            metrics: Metrics::default(),
+            metrics: SetMetrics::default(),
         }
     }
 

@@ -14,7 +14,7 @@ pub struct Route {
     pub gateway: Gateway,
     /// The number of the interface that it leaves by, from 1.
     pub index: u16,
-    /// RTF_.. of <net/route.h>.
+    /// RTF_.. of [`crate::net_route`].
     pub flags: u16,
     /// Whether the packet is dropped without an error (RTF_BLACKHOLE).
     pub drops: bool,
@@ -42,11 +42,39 @@ impl LinkAddress {
     pub fn new(sockaddr: &[u8]) -> Option<LinkAddress> {
         let n = sockaddr.len();
         let is_one = (8..=sys::LINK_BYTES).contains(&n) && sockaddr[..2] == [n as u8, sys::AF_LINK];
-        is_one.then(|| {
-            let mut bytes = [0; sys::LINK_BYTES];
-            bytes[..n].copy_from_slice(sockaddr);
-            LinkAddress { bytes, n: n as u8 }
-        })
+        is_one.then(|| LinkAddress::of(sockaddr))
+    }
+
+    /// That of 8 to 32 bytes.
+    pub(crate) fn of(text: &[u8]) -> LinkAddress {
+        let (mut bytes, n) = ([0; sys::LINK_BYTES], text.len() as u8);
+        bytes[..text.len()].copy_from_slice(text);
+        LinkAddress { bytes, n }
+    }
+
+    /// The number of its interface.
+    pub fn index(&self) -> u16 {
+        u16::from_be_bytes([self.bytes[2], self.bytes[3]])
+    }
+
+    /// That of <net/if_types.h>.
+    pub fn type_number(&self) -> u8 {
+        self.bytes[4]
+    }
+
+    /// The name of its interface, as far as its bytes go.
+    pub fn name(&self) -> &[u8] {
+        self.part(8, self.bytes[5])
+    }
+
+    /// The address alone, as far as its bytes go.
+    pub fn address(&self) -> &[u8] {
+        self.part(8 + usize::from(self.bytes[5]), self.bytes[6])
+    }
+
+    fn part(&self, at: usize, n: u8) -> &[u8] {
+        let rest = self.as_bytes().get(at..).unwrap_or(&[]);
+        &rest[..rest.len().min(n.into())]
     }
 
     /// Its bytes, of which the first is their number and the second the family, 18.

@@ -232,12 +232,13 @@ impl World {
     /// ```
     /// # fn main() -> Result<(), hoiskend::Errno> {
     /// # use hoiskend::{Kind, World};
+    /// use hoiskend::net_route::{RTM_ADD, RTM_NEWADDR};
     /// let mut world = World::new()?;
     /// let socket = world.listen("a", 100, 0)?;
     /// world.attach("lo0", Kind::Loopback, 24, &[])?;
     /// world.add_address("lo0", "127.0.0.1".parse().unwrap(), 8, false, None)?;
-    /// let types: Vec<u8> = world.read(socket)?.iter().map(|message| message[3]).collect();
-    /// assert_eq!(types, [12, 1]);
+    /// let types: Vec<_> = world.read(socket)?.iter().map(|message| message.kind()).collect();
+    /// assert_eq!(types, [Ok(RTM_NEWADDR), Ok(RTM_ADD)]);
     /// assert!(world.read(socket)?.is_empty());
     /// # Ok(())
     /// # }

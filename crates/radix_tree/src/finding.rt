@@ -18,7 +18,7 @@ use room_index::Index;
 use sock_addrs::Inet;
 
 /// After so many ranks that no route of the address has, it is looked which are near. Mostly the longest ranks have one.
-const IN_VAIN: u8 = 2;
+const IN_VAIN: u8 = 1;
 
 /// The route of a table with this key and this rank, by its room.
 pub(crate) fn find_room<V>(
@@ -66,7 +66,7 @@ pub(crate) fn find_best<V>(
 }
 
 /// So by the index: it is asked for the address masked by each rank of which there are routes, from the greatest on; and once it
-/// was asked in vain twice, for such alone as routes near the address have.
+/// was asked in vain, for such alone as routes near the address have.
 fn best_by_rank<V>(
     nodes: &Nodes<V>,
     index: &Index,

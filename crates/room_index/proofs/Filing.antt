@@ -3,7 +3,7 @@ use Rattle.std.proofs.Common.{◌≡◌, ℕ, ◌*◌, ◌^◌, ◌<◌, ◌≤�
 use Rattle.std.proofs.lemmas.Bool.{cases_eq, eq-eqb, ne_eqb}
 use Rattle.std.proofs.lemmas.Option.{none-some, same_Some}
 use Rattle.room_index.specs.Homes.{tag_of}
-use Rattle.room_index.specs.Places.{standing, stands, tag_in, Adds, AreFiled, Changes, HasSamePlaces, HasSize, HaveSame, IsHome, IsIn, IsTable, Moves}
+use Rattle.room_index.specs.Places.{standing, stands, tag_in, used_in, Adds, AreFiled, Changes, HasSamePlaces, HasSize, HaveSame, IsHome, IsIn, IsTable, Moves}
 use Rattle.room_index.specs.declared.entry.Entry.{Entry}
 use Rattle.room_index.specs.declared.places.Places.{Places}
 
@@ -41,8 +41,9 @@ filed_as p q may are alike tags = record {
   once = λ n m e f at to same. are.once n m e f (sym (alike n) ∙ at) (sym (alike m) ∙ to) same;
 }
 
-pub table_as : (p q : Places) → IsTable p → q.tags.items ≡ p.tags.items → q.entries.items ≡ p.entries.items → q.bits ≡ p.bits → IsTable q
-table_as p q is tags entries bits = record {
+pub table_as : (p q : Places) → IsTable p → q.tags.items ≡ p.tags.items → q.entries.items ≡ p.entries.items → q.bits ≡ p.bits → q.used ≡ p.used → IsTable q
+table_as p q is tags entries bits used = record {
+  used = used ∙ is.used ∙ ap used_in (sym tags);
   size = size_kept p q is.size (record { tags = ap length tags; entries = ap length entries; bits = bits });
   filed = filed_as p q (IsHome q.bits) (subst (λ b. AreFiled p (IsHome b)) (sym bits) is.filed)
       (λ n. ap (λ ts. standing ts q.entries.items n) tags ∙ ap (λ es. standing p.tags.items es n) entries) (λ n e at. ap (λ ts. slice_index ts n) tags);

@@ -1,3 +1,4 @@
+pub mod Counting
 pub mod Filing
 pub mod HomeLemmas
 pub mod Looking

@@ -1,5 +1,5 @@
 -- What an index has, by its places.
-use Rattle.std.proofs.Common.{◌≡◌, ℕ, ◌^◌, ◌%◌, ◌/◌, ◌<◌, ◌≤◌, Bool, true, false, [], Option, None, Some, slice_get, inl, inr, sym, ap, subst, ◌∙◌, refl, arith, true≢false}
+use Rattle.std.proofs.Common.{◌≡◌, ℕ, ◌+◌, ◌-◌, ◌^◌, ◌%◌, ◌/◌, ◌<◌, ◌≤◌, Bool, true, false, [], Option, None, Some, slice_get, inl, inr, sym, ap, subst, ◌∙◌, refl, arith, true≢false}
 use Rattle.std.specs.Prelude.{IfSome}
 use Rattle.std.proofs.lemmas.Option.{none-some}
 use Rattle.radix_nodes.specs.declared.id.Id.{Id}
@@ -8,7 +8,7 @@ use Rattle.room_index.proofs.Standing.{stands_free}
 use Rattle.room_index.specs.Names.{Held, IsIndex, Keeps, Names, Enters, Loses, Strikes}
 use Rattle.room_index.specs.Places.{standing, Adds, HaveSame, IsIn, Loses as Less}
 use Rattle.room_index.specs.Homes.{pair}
-use Rattle.room_index.specs.Ranges.{entry_of, range_of, AreTold, Has, TellsRank}
+use Rattle.room_index.specs.Ranges.{entry_of, AreTold, Has, TellsRank}
 use Rattle.room_index.proofs.Ranging.{more_same, told_more}
 use Rattle.mask_table.specs.Agreeing.{masked}
 use Rattle.room_index.specs.declared.entry.Entry.{Entry}
@@ -90,16 +90,18 @@ told_named p r whole told address rank room within fits names =
 
 -- the same places and ranges are as much of an index
 pub index_as : (p q : Places) (r s : Ranges) (given_up : Bool) → IsIndex p r given_up → q.tags.items ≡ p.tags.items → q.entries.items ≡ p.entries.items
-    → q.bits ≡ p.bits → s.last.items ≡ r.last.items → s.ranks.items ≡ r.ranks.items → s.short ≡ r.short → s.bits ≡ r.bits → IsIndex q s given_up
-index_as p q r s given_up is tags entries buckets last ranks short bits =
+    → q.bits ≡ p.bits → q.used ≡ p.used → s.last.items ≡ r.last.items → s.ranks.items ≡ r.ranks.items → s.short ≡ r.short → s.bits ≡ r.bits → s.finer ≡ r.finer → IsIndex q s given_up
+index_as p q r s given_up is tags entries buckets used last ranks short bits finer =
     let still : (e : Entry) → IsIn q e → IsIn p e = λ e at.
     (at.0, sym (ap (λ ts. standing ts q.entries.items at.0) tags ∙ ap (λ es. standing p.tags.items es at.0) entries) ∙ at.1) in
     record {
-      table = table_as p q is.table tags entries buckets;
+      table = table_as p q is.table tags entries buckets used;
       none = λ up. tags ∙ is.none up;
       by_range = record {
         few = subst (λ b. b ≤ 24) (sym bits) is.by_range.few;
-        own = λ n e at. ap (λ b. range_of b e.pair) bits ∙ is.by_range.own n e (ap (λ xs. entry_of (slice_get xs n)) (sym last) ∙ at);
+        finer = omega (arith, bits, finer, is.by_range.finer);
+        own = λ n e at. ap (λ b. e.pair / 2 ^ (38 - (b + s.finer)) % 2 ^ b) bits ∙ ap (λ f. e.pair / 2 ^ (38 - (r.bits + f)) % 2 ^ r.bits) finer
+            ∙ is.by_range.own n e (ap (λ xs. entry_of (slice_get xs n)) (sym last) ∙ at);
       };
       within = λ e has.
           let at = is.within e (has.0, ap (λ xs. entry_of (slice_get xs has.0)) (sym last) ∙ has.1) in

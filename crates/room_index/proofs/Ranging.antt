@@ -1,6 +1,6 @@
 -- Ranges of keys: what each knows, and which of them a network has.
-use Rattle.std.proofs.Common.{◌≡◌, ℕ, ◌+◌, ◌-◌, ◌*◌, ◌/◌, ◌%◌, ◌^◌, ◌<◌, ◌≤◌, ◌==◌, ◌&&◌, if◌then◌else◌, not, Bool, true, false, List, length, slice_get, slice_index, slice_set, Option, Some, None, inl, inr, sym, ap, subst, ◌∙◌, refl, arith, true≢false}
-use Rattle.std.proofs.lemmas.Bool.{cases_eq, cases_lt, eq-eqb, ne_eqb, eqb-true}
+use Rattle.std.proofs.Common.{◌≡◌, ℕ, ◌+◌, ◌-◌, ◌*◌, ◌/◌, ◌%◌, ◌^◌, ◌<◌, ◌≤◌, ◌==◌, ◌&&◌, if◌then◌else◌, not, Bool, true, false, List, length, slice_get, slice_index, slice_set, Some, None, inl, inr, sym, ap, subst, ◌∙◌, refl, arith, true≢false}
+use Rattle.std.proofs.lemmas.Bool.{cases_eq, cases_lt, eq-eqb, eqb-true}
 use Rattle.std.proofs.lemmas.List.{get_or-set_same, get_or-set_other}
 use Rattle.std.proofs.lemmas.Option.{none-some, same_Some, slice_get-get_or, slice_get_past}
 use Rattle.std.proofs.Math.ListN.{length-set}
@@ -10,8 +10,8 @@ use Rattle.mask_table.proofs.Agreeing.{masked_agrees, agrees_at_smaller_ranks}
 use Rattle.mask_table.specs.Agreeing.{front, masked}
 use Rattle.mask_table.specs.RankSets.{HasRank}
 use Rattle.room_index.specs.Homes.{pair}
-use Rattle.room_index.specs.Places.{HaveSame, IsIn}
-use Rattle.room_index.specs.Ranges.{entry_of, last_in, range_of, AreTold, IsByRange, IsTold, KeepsOthers, TellsMore, TellsRank, Has}
+use Rattle.room_index.specs.Places.{IsIn}
+use Rattle.room_index.specs.Ranges.{entry_of, range_of, AreTold, IsTold, TellsMore}
 use Rattle.room_index.specs.declared.entry.Entry.{Entry}
 use Rattle.room_index.specs.declared.places.Places.{Places}
 use Rattle.room_index.specs.declared.ranges.Last.{Last}

@@ -1,5 +1,5 @@
 -- What stands in the places of a table, and where.
-use Rattle.std.specs.Prelude.{◌≡◌, ℕ, ◌*◌, ◌/◌, ◌^◌, ◌<◌, ◌≤◌, ◌==◌, ◌⊎◌, if◌then◌else◌, List, length, slice_get, slice_index, Option, Some, None}
+use Rattle.std.specs.Prelude.{◌≡◌, ℕ, ◌*◌, ◌/◌, ◌^◌, ◌<◌, ◌≤◌, ◌==◌, ◌⊎◌, if◌then◌else◌, List, length, slice_get, slice_index, count_by, not, Option, Some, None}
 use Rattle.room_index.specs.Homes.{first_home, second_home, tag_of}
 use Rattle.room_index.specs.declared.entry.Entry.{Entry}
 use Rattle.room_index.specs.declared.places.Places.{Places}
@@ -30,9 +30,21 @@ pub record HasSize (p : Places) : Type 0 where
   pub size : 0 < length p.tags.items → length p.tags.items ≡ 8 * 2 ^ p.bits
   pub few : p.bits ≤ 24
 
+-- in how many of the places an entry stands
+abbrev pub used_in : List ℕ → ℕ
+used_in tags = count_by (λ tag. not (tag == 0)) tags
+
+abbrev pub IsCounted : Places → Type 0
+IsCounted p = p.used ≡ used_in p.tags.items
+
+-- no place of a bucket is free
+abbrev pub IsFull : Places → ℕ → Type 0
+IsFull p bucket = (n : ℕ) → n / 8 ≡ bucket → slice_index p.tags.items n ≡ 0 → ⊥
+
 -- a table of pairs at home
 pub record IsTable (p : Places) : Type 0 where
   pub size : HasSize p
+  pub used : IsCounted p
   pub filed : AreFiled p (IsHome p.bits)
 
 -- the place is free for a pair, in one of its homes

@@ -1,5 +1,5 @@
 -- What is known of ranges of keys.
-use Rattle.std.specs.Prelude.{◌≡◌, ℕ, ◌-◌, ◌*◌, ◌/◌, ◌%◌, ◌^◌, ◌<◌, ◌≤◌, ◌==◌, ◌⊎◌, if◌then◌else◌, true, false, slice_get, slice_index, length, Option, Some, None}
+use Rattle.std.specs.Prelude.{◌≡◌, ℕ, ◌+◌, ◌-◌, ◌*◌, ◌/◌, ◌%◌, ◌^◌, ◌<◌, ◌≤◌, ◌==◌, ◌⊎◌, if◌then◌else◌, slice_get, slice_index, length, Option, Some, None}
 use Rattle.std.specs.Global.{Vec}
 use Rattle.mask_table.specs.Agreeing.{masked}
 use Rattle.mask_table.specs.RankSets.{HasRank}
@@ -14,7 +14,11 @@ use Rattle.room_index.specs.declared.ranges.Ranges.{Ranges}
 abbrev pub range_of : ℕ → ℕ → ℕ
 range_of bits pair = pair / 2 ^ (38 - bits)
 
--- ---- the entry of a range
+-- ---- the entry that is near
+-- which of 2^bits a pair has, by the last ones of a few bits more
+abbrev pub slot_of : Ranges → ℕ → ℕ
+slot_of r pair = pair / 2 ^ (38 - (r.bits + r.finer)) % 2 ^ r.bits
+
 abbrev pub entry_of : Option Last → Option Entry
 entry_of None = None
 entry_of (Some l) = if l.is_there then Some l.entry else None
@@ -22,25 +26,27 @@ entry_of (Some l) = if l.is_there then Some l.entry else None
 abbrev pub last_in : Ranges → ℕ → Option Entry
 last_in r n = entry_of (slice_get r.last.items n)
 
--- a range has this entry
+-- one of them has this entry
 abbrev pub Has : Ranges → Entry → Type 0
 Has r e = (n : ℕ) × (last_in r n ≡ Some e)
 
 abbrev pub HasNone : Ranges → Type 0
 HasNone r = (e : Entry) → Has r e → ⊥
 
--- each range has an entry of its own pairs, or none
+-- each has an entry of its own pairs, or none
 pub record IsByRange (r : Ranges) : Type 0 where
   pub few : r.bits ≤ 24
-  pub own : (n : ℕ) (e : Entry) → last_in r n ≡ Some e → range_of r.bits e.pair ≡ n
+  pub finer : r.bits + r.finer ≤ 32
+  pub own : (n : ℕ) (e : Entry) → last_in r n ≡ Some e → slot_of r e.pair ≡ n
 
--- each other range has the entry that it had
+-- each other has the entry that it had
 abbrev pub KeepsOthers : Ranges → Ranges → ℕ → Type 0
-KeepsOthers old new pair = (n : ℕ) → (n ≡ range_of old.bits pair → ⊥) → last_in new n ≡ last_in old n
+KeepsOthers old new pair = (n : ℕ) → (n ≡ slot_of old pair → ⊥) → last_in new n ≡ last_in old n
 
 pub record HasSameLast (old new : Ranges) : Type 0 where
   pub last : new.last.items ≡ old.last.items
   pub bits : new.bits ≡ old.bits
+  pub finer : new.finer ≡ old.finer
 
 -- ---- the ranks of a range
 -- a rank is told of the range of an address, or beside all ranges; or there is no such range

@@ -1,6 +1,7 @@
 //! How an entry comes into the table of places.
 ghost use Rattle.std.specs.Prelude.{◌≡◌, ℕ, ◌+◌, ◌*◌, ◌/◌, ◌^◌, ◌<◌, ◌≤◌, ◌⊎◌, [], true, false, None, Some, IfNone, IfSome, IsSome, length};
-ghost use Rattle.room_index.specs.Places.{stands, Adds, HasSamePlaces, HaveSame, IsFreeFor, IsIn, IsTable};
+ghost use Rattle.room_index.specs.Homes.{first_home, second_home};
+ghost use Rattle.room_index.specs.Places.{stands, Adds, HasSamePlaces, HaveSame, IsFreeFor, IsFull, IsIn, IsTable};
 ghost use Rattle.room_index.specs.declared.entry.Entry.{Entry as Filed};
 
 use crate::entry::Entry;
@@ -14,12 +15,15 @@ impl Places {
     ///
     /// The pair is written there ahead of its room, so that the memory of the place, which hardly ever is at hand, comes
     /// while that of the tree is waited for.
+    #[inline(always)]
     pub(crate) fn place_for(&mut self, pair: u64, visits: &mut Visits) -> Option<usize>
         requires { IsTable self.old }
         ensures table { IsTable self.new }
         ensures same { IsSome result → HaveSame self.old self.new }
         ensures place { IfSome result (λ n. IsFreeFor self.new n pair) }
         ensures none { IfNone result (self.new.tags.items ≡ []) }
+        ensures full { IfNone result ((self.old.tags.items ≡ [])
+            ⊎ (IsFull self.old (first_home self.old.bits pair) × IsFull self.old (second_home self.old.bits pair))) }
         ensures counter { visits.new.turn ≡ visits.old.turn }
     {
         if self.many() == 0 {
@@ -35,6 +39,7 @@ impl Places {
     }
 
     /// Puts an entry of a new pair into a place that is free for it.
+    #[inline(always)]
     pub(crate) fn enter(&mut self, place: usize, entry: Entry)
         requires table { IsTable self.old }
         requires absent { (e : Filed) → IsIn self.old e → e.pair ≡ entry.pair → ⊥ }
@@ -47,6 +52,7 @@ impl Places {
 
     /// A free place in one of a pair's homes, in that of which the first free place is further to the front. Where both are
     /// full, another entry makes way, if there is a place in its other home.
+    #[inline(always)]
     fn vacant(&mut self, homes: &Homes, visits: &mut Visits) -> Option<usize>
         requires table { IsTable self.old }
         requires first { 8 * homes.now.first + 8 ≤ length self.old.tags.items }
@@ -56,6 +62,7 @@ impl Places {
         ensures places { HasSamePlaces self.old self.new }
         ensures free { IfSome result (λ n. (n < length self.new.tags.items) × (stands self.new n ≡ None)) }
         ensures home { IfSome result (λ n. (n / 8 ≡ homes.now.first) ⊎ (n / 8 ≡ homes.now.second)) }
+        ensures full { IfNone result (IsFull self.old homes.now.first × IsFull self.old homes.now.second) }
         ensures counter { visits.new.turn ≡ visits.old.turn }
     {
         let first = self.free_in(homes.first, visits);
@@ -72,6 +79,7 @@ impl Places {
     }
 
     /// A place of a bucket from which an entry has moved to its other home.
+    #[inline(never)]
     fn cleared_in(&mut self, bucket: usize, visits: &mut Visits) -> Option<usize>
         requires table { IsTable self.old }
         requires within { 8 * bucket + 8 ≤ length self.old.tags.items }

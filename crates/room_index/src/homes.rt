@@ -98,7 +98,7 @@ fn spread(pair: u64) -> u64
 
 /// The lowest bits of a number.
 #[inline(always)]
-fn low_bits(number: u64, bits: u32) -> usize
+pub(crate) fn low_bits(number: u64, bits: u32) -> usize
     requires { bits ≤ MOST_BITS }
     ensures { result ≡ number % 2 ^ bits }
 {

@@ -1,11 +1,12 @@
 //! The index.
-ghost use Rattle.std.specs.Prelude.{◌≡◌, ℕ, ◌+◌, ◌≤◌, true, false, IfSome, MatchOption, is_err};
+ghost use Rattle.std.specs.Prelude.{◌≡◌, ℕ, ◌+◌, ◌≤◌, true, false, IfSome, MatchOption, is_err, nat_le};
 ghost use Rattle.mask_table.specs.Agreeing.{masked};
 ghost use Rattle.mask_table.specs.RankSets.{HasRank};
 ghost use Rattle.memory.specs.Refusing.{Rises};
 ghost use Rattle.radix_nodes.specs.declared.id.Id.{Id as Room};
 ghost use Rattle.room_index.specs.Homes.{pair};
 ghost use Rattle.room_index.specs.Looks.{Reads, pair_looks};
+ghost use Rattle.room_index.specs.Places.{used_in};
 ghost use Rattle.room_index.specs.Names.{Enters, IsKeptFor, Keeps, Loses, Names, Strikes};
 
 use crate::entry::Entry;
@@ -20,7 +21,7 @@ use std::alloc::{AllocError, Global};
 use std::marker::Model;
 
 /// So few routes are found in few steps by a tree of them, all of which is at hand.
-const SMALL: usize = 64;
+const SMALL: usize = 256;
 
 /// The rooms of routes by their keys and ranks. A look-up takes the same few steps whatever the pairs are; where one finds no
 /// place, all are given up, and the index isn't whole until no route is left. Its memory follows the number of routes.
@@ -30,8 +31,6 @@ const SMALL: usize = 64;
 pub struct Index {
     pub(crate) places: Places,
     pub(crate) ranges: Ranges,
-    /// How many pairs there are, by which the table becomes larger and smaller.
-    many: usize,
     given_up: bool,
 }
 
@@ -66,7 +65,6 @@ impl Index {
         Index {
             places: Places::none(alloc),
             ranges: Ranges::none(alloc),
-            many: 0,
             given_up: false,
         }
     }
@@ -108,10 +106,12 @@ impl Index {
         self.ranges.ranks(address, visits)
     }
 
-    /// Whether it is of so few routes that a tree of them takes few steps.
+    /// Whether it is of so few routes, at most 256, that a tree of them takes few steps.
     #[inline(always)]
-    pub fn is_small(&self) -> bool {
-        self.many <= SMALL
+    pub fn is_small(&self) -> bool
+        ensures { result ≡ nat_le (used_in self.now.tags) SMALL }
+    {
+        self.places.used() <= SMALL
     }
 
     /// Asks for the memory that one route more may take: that of a table twice as large, where this one is dense. Where it is
@@ -120,7 +120,7 @@ impl Index {
         ensures same { self.new ≡ self.old }
         ensures counted { Rises (is_err result) memory.old memory.new }
     {
-        if self.given_up || !self.places.is_dense(self.many) {
+        if self.given_up || !self.places.is_dense() {
             return Ok(());
         }
         match self.reserve_more(memory) {
@@ -147,6 +147,7 @@ impl Index {
 
     /// A place for the room of a route that is to come. Where the index isn't whole there is none, and where there is none
     /// the index is given up.
+    #[inline(always)]
     pub fn vacancy(&mut self, key: Inet, rank: Rank, visits: &mut Visits) -> Option<Vacancy>
         ensures keeps { Keeps self.old self.new }
         ensures kept_for { MatchOption result (self.new.whole ≡ false) (λ v. IsKeptFor self.new (pair key rank) v) }
@@ -155,7 +156,7 @@ impl Index {
         if self.given_up {
             return None;
         }
-        self.places.grow(self.many, visits);
+        self.places.grow(visits);
         self.ranges.follow(&self.places, visits);
         let Some(place) = self.places.place_for(pair_of(key, rank), visits) else {
             self.ranges.clear();
@@ -166,6 +167,7 @@ impl Index {
     }
 
     /// Enters the room of a route, of whose pair it has none, where a place was kept for it.
+    #[inline(always)]
     pub fn enter(&mut self, vacancy: Option<Vacancy>, key: Inet, rank: Rank, room: Id)
         requires kept_for { MatchOption vacancy (self.old.whole ≡ false) (λ v. IsKeptFor self.old (pair key rank) v) }
         requires absent { (other : Room) → Names self.old (pair key rank) other → ⊥ }
@@ -180,7 +182,6 @@ impl Index {
         };
         self.places.enter(place, entry);
         self.ranges.put(entry);
-        self.many = self.many.saturating_add(1);
     }
 
     /// Strikes the room of a route out. Where no route is left, the index is whole again.
@@ -205,9 +206,8 @@ impl Index {
         ensures counter { visits.new.turn ≡ visits.old.turn }
     {
         self.ranges.lose(pair, visits);
-        let lost = self.places.take(pair, visits);
-        self.many = self.many.saturating_sub(usize::from(lost));
-        if !self.places.shrink(self.many, visits) {
+        self.places.take(pair, visits);
+        if !self.places.shrink(visits) {
             self.ranges.clear();
             self.given_up = true;
             return;
@@ -222,7 +222,6 @@ impl Index {
     {
         self.places.give_up();
         self.ranges.clear();
-        self.many = 0;
         self.given_up = false;
     }
 }

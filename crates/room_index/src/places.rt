@@ -1,10 +1,10 @@
 //! The table of places. What stands there is read by the calls of this file alone, each of which counts its looks.
-ghost use Rattle.std.specs.Prelude.{◌≡◌, ℕ, ◌+◌, ◌*◌, ◌/◌, ◌<◌, ◌≤◌, ◌==◌, if◌then◌else◌, [], length, slice_get, slice_index, vec_capacity};
+ghost use Rattle.std.specs.Prelude.{◌≡◌, ℕ, ◌+◌, ◌*◌, ◌/◌, ◌<◌, ◌≤◌, ◌==◌, if◌then◌else◌, [], length, slice_get, slice_index, slice_set, vec_capacity};
 ghost use Rattle.std.specs.Prelude.{IfSome, IfNone, MatchBool, is_err, nat_le, OnOk, Some, None, ◌&&◌, ◌-◌};
 ghost use Rattle.memory.specs.Refusing.{Rises};
 ghost use Rattle.room_index.specs.Homes.{tag_of};
 ghost use Rattle.room_index.specs.Looks.{Reads, pair_looks};
-ghost use Rattle.room_index.specs.Places.{stands, Changes, HasPlaces, HasSamePlaces, IsIn, IsTable, Loses, Moves, StandAsBefore};
+ghost use Rattle.room_index.specs.Places.{stands, Changes, HasPlaces, HasSamePlaces, IsCounted, IsIn, IsTable, Loses, Moves, StandAsBefore};
 ghost use Rattle.room_index.specs.Sizes.{IsReserved, more_places};
 ghost use Rattle.room_index.specs.declared.entry.Entry.{Entry as Filed};
 
@@ -31,6 +31,8 @@ pub(crate) struct Places {
     tags: Vec<u16>,
     entries: Vec<Entry>,
     pub(crate) bits: u32,
+    /// In how many of them an entry stands.
+    used: usize,
 }
 
 impl Places {
@@ -43,6 +45,7 @@ impl Places {
             tags: Vec::new(alloc),
             entries: Vec::new(alloc),
             bits: 0,
+            used: 0,
         }
     }
 
@@ -52,6 +55,14 @@ impl Places {
         ensures { result ≡ length self.now.tags.items }
     {
         self.tags.len()
+    }
+
+    /// In how many an entry stands.
+    #[inline(always)]
+    pub(crate) fn used(&self) -> usize
+        ensures { result ≡ self.now.used }
+    {
+        self.used
     }
 
     /// How many there is memory for.
@@ -138,49 +149,69 @@ impl Places {
     // ---- what changes
 
     /// Writes a pair into a free place ahead of its room. The place is free still.
+    #[inline(always)]
     pub(crate) fn write_ahead(&mut self, place: usize, pair: u64)
         requires within { place < length self.old.entries.items }
         requires free { stands self.old place ≡ None }
         ensures stand { StandAsBefore self.old self.new }
+        ensures used { self.new.used ≡ self.old.used }
         ensures written { IfSome (slice_get self.new.entries.items place) (λ e. e.pair ≡ pair) }
     {
         self.entries[place] = Entry::ahead(pair);
     }
 
-    /// Puts an entry into a place.
+    /// Puts an entry into a free place.
+    #[inline(always)]
     pub(crate) fn put(&mut self, place: usize, tag: u16, entry: Entry)
         requires tags { place < length self.old.tags.items }
         requires entries { length self.old.entries.items ≡ length self.old.tags.items }
         requires tag { tag ≡ tag_of entry.pair }
-        ensures { Changes self.old self.new place (Some entry) }
+        requires free { stands self.old place ≡ None }
+        requires used { IsCounted self.old }
+        ensures put { Changes self.old self.new place (Some entry) }
+        ensures used { IsCounted self.new }
+    {
+        self.write(place, tag, entry);
+        self.used += 1;
+    }
+
+    /// Writes an entry and its tag into a place.
+    #[inline(always)]
+    fn write(&mut self, place: usize, tag: u16, entry: Entry)
+        requires tags { place < length self.old.tags.items }
+        requires entries { length self.old.entries.items ≡ length self.old.tags.items }
+        requires tag { tag ≡ tag_of entry.pair }
+        ensures written { Changes self.old self.new place (Some entry) }
+        ensures tags { self.new.tags.items ≡ slice_set self.old.tags.items place tag }
+        ensures used { self.new.used ≡ self.old.used }
     {
         self.tags[place] = tag;
         self.entries[place] = entry;
     }
 
-    /// Frees a place.
+    /// Frees a place in which an entry stands.
     fn free(&mut self, place: usize)
-        requires { place < length self.old.tags.items }
-        ensures { Changes self.old self.new place None }
+        requires within { place < length self.old.tags.items }
+        requires stood { stands self.old place ≡ None → ⊥ }
+        requires used { IsCounted self.old }
+        ensures freed { Changes self.old self.new place None }
+        ensures used { IsCounted self.new }
     {
         self.tags[place] = 0;
+        self.used -= 1;
     }
 
-    /// Takes out the entry of a pair, and says whether there is one.
-    pub(crate) fn take(&mut self, pair: u64, visits: &mut Visits) -> bool
+    /// Takes out the entry of a pair, where there is one.
+    pub(crate) fn take(&mut self, pair: u64, visits: &mut Visits)
         requires { IsTable self.old }
         ensures table { IsTable self.new }
         ensures loses { Loses self.old self.new pair }
-        ensures had { MatchBool result ((e : Filed) × IsIn self.old e × (e.pair ≡ pair))
-            ((e : Filed) → IsIn self.old e → e.pair ≡ pair → ⊥) }
         ensures places { HasSamePlaces self.old self.new }
         ensures visits { Reads visits.old visits.new pair_looks }
     {
-        let Some((place, _entry)) = self.find(pair, visits) else {
-            return false;
-        };
-        self.free(place);
-        true
+        if let Some((place, _entry)) = self.find(pair, visits) {
+            self.free(place);
+        }
     }
 
     /// Moves what stands in a place to a free one, in which its pair may stand.
@@ -189,7 +220,9 @@ impl Places {
         requires to { (to < length self.old.tags.items) × (stands self.old to ≡ None) }
         requires size { length self.old.entries.items ≡ length self.old.tags.items }
         requires entry { (e : Filed) × (stands self.old from ≡ Some e) × (slice_index self.old.tags.items from ≡ tag_of e.pair) }
+        requires used { IsCounted self.old }
         ensures moved { Moves self.old self.new from to }
+        ensures used { IsCounted self.new }
         ensures look { visits.new ≡ record visits.old { count = visits.old.count + 1 } }
     {
         visits.tick(); // the look at what moves
@@ -218,6 +251,7 @@ impl Places {
         ensures tags { self.new.tags.items ≡ self.old.tags.items }
         ensures entries { self.new.entries.items ≡ self.old.entries.items }
         ensures bits { self.new.bits ≡ self.old.bits }
+        ensures used { self.new.used ≡ self.old.used }
         ensures reserved { OnOk result (self.new.bits < MOST_BITS → IsReserved self.new) }
         ensures counted { Rises (is_err result) memory.old memory.new }
     {
@@ -247,7 +281,9 @@ impl Places {
         requires even { length self.old.entries.items ≡ length self.old.tags.items }
         requires tags { size ≤ vec_capacity self.old.tags }
         requires entries { size ≤ vec_capacity self.old.entries }
-        ensures { HasPlaces self.old self.new size }
+        requires used { IsCounted self.old }
+        ensures places { HasPlaces self.old self.new size }
+        ensures used { IsCounted self.new }
     {
         self.tags.resize(size, 0).unwrap();
         self.entries.resize(size, Entry::ahead(0)).unwrap();
@@ -258,7 +294,9 @@ impl Places {
         requires shorter { size ≤ length self.old.tags.items }
         requires even { length self.old.entries.items ≡ length self.old.tags.items }
         requires free { (n : ℕ) → size ≤ n → stands self.old n ≡ None }
+        requires used { IsCounted self.old }
         ensures places { HasPlaces self.old self.new size }
+        ensures used { IsCounted self.new }
         ensures tags { vec_capacity self.new.tags ≤ vec_capacity self.old.tags }
         ensures entries { vec_capacity self.new.entries ≤ vec_capacity self.old.entries }
     {
@@ -268,6 +306,7 @@ impl Places {
     }
 
     /// Gives all places up, and their memory.
+    #[inline(never)]
     pub(crate) fn give_up(&mut self)
         ensures table { IsTable self.new }
         ensures none { self.new.tags.items ≡ [] }
@@ -277,6 +316,7 @@ impl Places {
         self.tags.clear();
         self.entries.clear();
         self.bits = 0;
+        self.used = 0;
         self.give_back();
     }
 
@@ -285,6 +325,7 @@ impl Places {
         ensures tags { self.new.tags.items ≡ self.old.tags.items }
         ensures entries { self.new.entries.items ≡ self.old.entries.items }
         ensures bits { self.new.bits ≡ self.old.bits }
+        ensures used { self.new.used ≡ self.old.used }
         ensures less_tags { vec_capacity self.new.tags ≤ vec_capacity self.old.tags }
         ensures less_entries { vec_capacity self.new.entries ≤ vec_capacity self.old.entries }
         ensures no_tags { length self.old.tags.items ≡ 0 → vec_capacity self.new.tags ≡ 0 }

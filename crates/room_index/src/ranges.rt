@@ -3,11 +3,11 @@ ghost use Rattle.std.specs.Prelude.{◌≡◌, ℕ, ◌+◌, ◌/◌, ◌<◌, �
 ghost use Rattle.mask_table.specs.RankSets.{HasRank};
 ghost use Rattle.memory.specs.Refusing.{Rises};
 ghost use Rattle.room_index.specs.Places.{IsIn, IsTable};
-ghost use Rattle.room_index.specs.Ranges.{last_in, more_ranges, range_of, AreTold, Has, HasNone, HasSameLast, IsByRange, IsTold, KeepsOthers, TellsMore, TellsRank};
+ghost use Rattle.room_index.specs.Ranges.{last_in, more_ranges, range_of, slot_of, AreTold, Has, HasNone, HasSameLast, IsByRange, IsTold, KeepsOthers, TellsMore, TellsRank};
 ghost use Rattle.room_index.specs.declared.entry.Entry.{Entry as Filed};
 
 use crate::entry::Entry;
-use crate::homes::{MOST_BITS, PAIR_BITS, pair_of, rank_of};
+use crate::homes::{MOST_BITS, PAIR_BITS, low_bits, pair_of, rank_of};
 use crate::places::Places;
 use crate::tags::PLACES;
 use mask_table::{Rank, Ranks};
@@ -24,24 +24,33 @@ const LAST_BESIDE: usize = 2;
 
 const RANKS_BESIDE: usize = 6;
 
-/// In a range with more pairs than so many, the way from one to the next is as long as that from the root.
+/// Of more pairs than so many, the way from one to the next is as long as that from the root.
 const CROWDED: u32 = 16;
+
+/// So many bits has a key.
+const KEY_BITS: u32 = 32;
+
+/// Where the entries are so many to each slot that has one, their keys lie close together, and slots are cut finer.
+const LOOSE: usize = 8;
 
 /// A network that has more ranges than 2^`WIDEST` is told beside them all.
 const WIDEST: u32 = 6;
 
-/// The pair that came last into a range, while it is there.
+/// Of the pairs that share a slot the one that came last, while it is there.
 #[derive(Clone, Copy)]
 pub(crate) struct Last {
     entry: Entry,
     is_there: bool,
-    /// How many pairs came into the range, less those that went.
+    /// How many pairs came into the slot, less those that went.
     many: u32,
 }
 
-/// What is known of the entries of the table of places by the first `bits` bits of their keys, of each of these ranges: the
-/// entry that came last, or any where none has come since their number changed, so that a pair that is to come finds one
-/// whose key begins as its own does; and the ranks of all that are there, or were, so that no other rank is asked for.
+/// What is known of the entries of the table of places by the first bits of their keys.
+///
+/// Of each of 2^`bits` ranges the ranks of all that are there, or were, so that no other rank is asked for. And of each of as
+/// many slots the entry that came last, or any where none has come since their number changed, so that a pair that is to come
+/// finds one whose key begins as its own does. Where all keys are of a few ranges the pairs of one are too many to be near each
+/// other: so those of a slot share `finer` bits more, of which the last `bits` number it.
 #[derive(Drop)]
 pub(crate) struct Ranges {
     last: Vec<Last>,
@@ -49,6 +58,7 @@ pub(crate) struct Ranges {
     /// The ranks of networks that have many ranges.
     short: Ranks,
     bits: u32,
+    finer: u32,
 }
 
 impl Last {
@@ -87,6 +97,7 @@ impl Ranges {
             ranks: Vec::new(alloc),
             short: Ranks::none(),
             bits: 0,
+            finer: 0,
         }
     }
 
@@ -112,20 +123,40 @@ impl Ranges {
         (pair >> (PAIR_BITS - self.bits)) as usize
     }
 
-    /// The room of the pair that a pair's range has, where that has few. It is one look.
+    /// By how many bits at its end a pair's number is more than the key's bits that the pairs of a slot share.
+    #[inline(always)]
+    fn rest(&self) -> u32
+        requires { self.now.bits + self.now.finer ≤ KEY_BITS }
+        ensures { result + (self.now.bits + self.now.finer) ≡ PAIR_BITS }
+    {
+        PAIR_BITS - (self.bits + self.finer)
+    }
+
+    /// The slot of a pair.
+    #[inline(always)]
+    fn slot(&self, pair: u64) -> usize
+        requires few { self.now.bits ≤ MOST_BITS }
+        requires finer { self.now.bits + self.now.finer ≤ KEY_BITS }
+        ensures { result ≡ slot_of self.now pair }
+    {
+        low_bits(pair >> self.rest(), self.bits)
+    }
+
+    /// The room of the pair that a pair's slot has, where that one's key begins as this one's does, and the slot has few. It is
+    /// one look.
     #[inline(always)]
     pub(crate) fn near(&self, pair: u64, visits: &mut Visits) -> Option<Id>
         requires { IsByRange self.now }
         ensures near { IfSome result (λ room. (e : Filed) × Has self.now e × (e.room ≡ room)) }
         ensures look { visits.new ≡ record visits.old { count = visits.old.count + 1 } }
     {
-        visits.tick(); // the look at a range's pair
-        let range = self.range(pair);
-        if range >= self.last.len() {
+        visits.tick(); // the look at a slot's pair
+        let slot = self.slot(pair);
+        if slot >= self.last.len() {
             return None;
         }
-        let last = self.last[range];
-        if last.is_there && last.many <= CROWDED {
+        let last = self.last[slot];
+        if last.is_there && last.many <= CROWDED && (last.entry.pair ^ pair) >> self.rest() == 0 {
             Some(last.entry.room)
         } else {
             None
@@ -152,8 +183,8 @@ impl Ranges {
     pub(crate) fn put(&mut self, entry: Entry)
         requires { IsByRange self.old }
         ensures ranges { IsByRange self.new }
-        ensures put { range_of self.old.bits entry.pair < length self.old.last.items
-            → last_in self.new (range_of self.old.bits entry.pair) ≡ Some entry }
+        ensures put { slot_of self.old entry.pair < length self.old.last.items
+            → last_in self.new (slot_of self.old entry.pair) ≡ Some entry }
         ensures others { KeepsOthers self.old self.new entry.pair }
         ensures only { (e : Filed) → Has self.new e → (e ≡ entry) ⊎ Has self.old e }
         ensures told { IsTold self.new entry.pair }
@@ -164,24 +195,25 @@ impl Ranges {
         self.tell(entry.pair);
     }
 
-    /// Puts an entry in the place of that which its range has.
+    /// Puts an entry in the place of that which its slot has.
     #[inline(always)]
     fn put_last(&mut self, entry: Entry)
         requires { IsByRange self.old }
         ensures ranges { IsByRange self.new }
-        ensures put { range_of self.old.bits entry.pair < length self.old.last.items
-            → last_in self.new (range_of self.old.bits entry.pair) ≡ Some entry }
+        ensures put { slot_of self.old entry.pair < length self.old.last.items
+            → last_in self.new (slot_of self.old entry.pair) ≡ Some entry }
         ensures others { KeepsOthers self.old self.new entry.pair }
         ensures only { (e : Filed) → Has self.new e → (e ≡ entry) ⊎ Has self.old e }
         ensures many { length self.new.last.items ≡ length self.old.last.items }
         ensures ranks { self.new.ranks.items ≡ self.old.ranks.items }
         ensures short { self.new.short ≡ self.old.short }
         ensures bits { self.new.bits ≡ self.old.bits }
+        ensures finer { self.new.finer ≡ self.old.finer }
     {
-        let range = self.range(entry.pair);
-        if range < self.last.len() {
-            let many = self.last[range].many.saturating_add(1);
-            self.last[range] = Last {
+        let slot = self.slot(entry.pair);
+        if slot < self.last.len() {
+            let many = self.last[slot].many.saturating_add(1);
+            self.last[slot] = Last {
                 entry,
                 is_there: true,
                 many,
@@ -198,24 +230,38 @@ impl Ranges {
         ensures last { HasSameLast self.old self.new }
     {
         let rank = rank_of(pair);
-        let spread = self.bits.saturating_sub(u32::from(rank.number()));
-        if spread > WIDEST {
-            self.short = self.short.with(rank);
-            return;
-        }
         let first = self.range(pair);
-        self.tell_in(first, first + (1 << spread), rank);
+        let spread = self.bits.saturating_sub(u32::from(rank.number()));
+        if spread == 0 {
+            self.tell_at(first, rank);
+        } else if spread <= WIDEST {
+            self.tell_in(first, first + (1 << spread), rank);
+        } else {
+            self.short = self.short.with(rank);
+        }
+    }
+
+    /// Tells a rank in a range.
+    #[inline(always)]
+    fn tell_at(&mut self, range: usize, rank: Rank)
+        ensures told { range < length self.new.ranks.items → HasRank (slice_index self.new.ranks.items range) rank }
+        ensures more { TellsMore self.old self.new }
+        ensures last { HasSameLast self.old self.new }
+    {
+        if range < self.ranks.len() {
+            self.ranks[range] = self.ranks[range].with(rank);
+        }
     }
 
     /// Tells a rank in the ranges from one to another.
-    #[inline(always)]
+    #[inline(never)]
     fn tell_in(&mut self, from: usize, to: usize, rank: Rank)
         ensures told { (n : ℕ) → from ≤ n → n < to → n < length self.new.ranks.items → HasRank (slice_index self.new.ranks.items n) rank }
         ensures more { TellsMore self.old self.new }
         ensures last { HasSameLast self.old self.new }
     {
         for range in from..to.min(self.ranks.len()) {
-            self.ranks[range] = self.ranks[range].with(rank);
+            self.tell_at(range, rank);
         }
     }
 
@@ -228,12 +274,13 @@ impl Ranges {
         ensures ranks { self.new.ranks.items ≡ self.old.ranks.items }
         ensures short { self.new.short ≡ self.old.short }
         ensures bits { self.new.bits ≡ self.old.bits }
+        ensures finer { self.new.finer ≡ self.old.finer }
         ensures look { visits.new ≡ record visits.old { count = visits.old.count + 1 } }
     {
         visits.tick(); // the look at what goes
-        let range = self.range(pair);
-        if range < self.last.len() {
-            self.last[range] = self.last[range].without(pair);
+        let slot = self.slot(pair);
+        if slot < self.last.len() {
+            self.last[slot] = self.last[slot].without(pair);
         }
     }
 
@@ -248,6 +295,7 @@ impl Ranges {
         self.ranks.clear();
         self.short = Ranks::none();
         self.bits = 0;
+        self.finer = 0;
         self.give_back();
     }
 
@@ -257,6 +305,7 @@ impl Ranges {
         ensures ranks { self.new.ranks.items ≡ self.old.ranks.items }
         ensures short { self.new.short ≡ self.old.short }
         ensures bits { self.new.bits ≡ self.old.bits }
+        ensures finer { self.new.finer ≡ self.old.finer }
         ensures no_last { length self.old.last.items ≡ 0 → vec_capacity self.new.last ≡ 0 }
         ensures no_ranks { length self.old.ranks.items ≡ 0 → vec_capacity self.new.ranks ≡ 0 }
     {
@@ -270,6 +319,7 @@ impl Ranges {
         ensures ranks { self.new.ranks.items ≡ self.old.ranks.items }
         ensures short { self.new.short ≡ self.old.short }
         ensures bits { self.new.bits ≡ self.old.bits }
+        ensures finer { self.new.finer ≡ self.old.finer }
         ensures room { OnOk result (self.new.bits < MOST_BITS → more_ranges self.new.last ≤ vec_capacity self.new.last) }
         ensures ranks_room { OnOk result (self.new.bits < MOST_BITS → more_ranges self.new.ranks ≤ vec_capacity self.new.ranks) }
         ensures counted { Rises (is_err result) memory.old memory.new }
@@ -307,17 +357,20 @@ impl Ranges {
     }
 
     /// Has so many ranges, for which there is memory, and of each what the table has, of entries the last by their places.
+    #[inline(never)]
     fn renew(&mut self, many: usize, places: &Places, visits: &mut Visits)
         requires table { IsTable places.now }
         requires last { many ≤ vec_capacity self.old.last }
         requires ranks { many ≤ vec_capacity self.old.ranks }
+        requires finer { self.old.finer ≤ KEY_BITS }
         ensures ranges { IsByRange self.new }
         ensures within { (e : Filed) → Has self.new e → IsIn places.now e }
         ensures told { AreTold self.new places.now }
         ensures many { length self.new.last.items ≡ many }
         ensures counter { visits.new.turn ≡ visits.old.turn }
     {
-        self.begin(many, places.bits);
+        let finer = self.finer_for(places.used());
+        self.begin(many, places.bits, finer.min(KEY_BITS - places.bits));
         for place in 0..places.many() {
             if let Some(entry) = places.at(place, visits) {
                 self.put(entry);
@@ -325,9 +378,28 @@ impl Ranges {
         }
     }
 
+    /// How many bits more than a range's the pairs of a slot are to share, by how many of so many entries one slot has: as many
+    /// more as leave it four where they lie close together, and fewer where each is alone.
+    fn finer_for(&self, entries: usize) -> u32
+        requires { self.now.finer ≤ KEY_BITS }
+    {
+        let used = self.last.iter().filter(|last| last.is_there).count();
+        let Some(each) = entries.checked_div(used) else {
+            return self.finer;
+        };
+        if each > LOOSE {
+            (self.finer + each.ilog2()).saturating_sub(2)
+        } else if each <= 1 {
+            self.finer.saturating_sub(1)
+        } else {
+            self.finer
+        }
+    }
+
     /// So many ranges, which have no entry.
-    fn begin(&mut self, many: usize, bits: u32)
+    fn begin(&mut self, many: usize, bits: u32, finer: u32)
         requires bits { bits ≤ MOST_BITS }
+        requires finer { bits + finer ≤ KEY_BITS }
         requires last { many ≤ vec_capacity self.old.last }
         requires ranks { many ≤ vec_capacity self.old.ranks }
         ensures ranges { IsByRange self.new }
@@ -341,6 +413,7 @@ impl Ranges {
         self.ranks.resize(many, Ranks::none()).unwrap();
         self.short = Ranks::none();
         self.bits = bits;
+        self.finer = finer;
         // an addition asks for no memory here, and gives none back
         if fewer {
             self.give_back();

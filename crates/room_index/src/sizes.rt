@@ -1,6 +1,6 @@
 //! How the table of places becomes larger and smaller.
 ghost use Rattle.std.specs.Prelude.{◌≡◌, ◌+◌, ◌*◌, ◌/◌, ◌^◌, ◌<◌, ◌≤◌, ◌⊎◌, ◌&&◌, [], true, false, None, IfSome, length, nat_le, nat_lt};
-ghost use Rattle.room_index.specs.Places.{stands, AreFiled, HasSamePlaces, HaveSame, IsHome, IsTable};
+ghost use Rattle.room_index.specs.Places.{stands, AreFiled, HasSamePlaces, HaveSame, IsCounted, IsHome, IsTable};
 ghost use Rattle.room_index.specs.Sizes.{Folds, IsReserved, Parts, more_places};
 
 use crate::homes::{Homes, MOST_BITS};
@@ -16,31 +16,32 @@ const FEWEST_BITS: u32 = 2;
 const DENSE: usize = 5;
 
 impl Places {
-    /// Whether so many entries are many for it.
-    pub(crate) fn is_dense(&self, many: usize) -> bool
-        ensures { result ≡ nat_le (length self.now.tags.items / PLACES) (many / DENSE) }
+    /// Whether its entries are many for it.
+    pub(crate) fn is_dense(&self) -> bool
+        ensures { result ≡ nat_le (length self.now.tags.items / PLACES) (self.now.used / DENSE) }
     {
-        self.many() / PLACES <= many / DENSE
+        self.many() / PLACES <= self.used() / DENSE
     }
 
-    /// Whether so many are few: not one for two buckets. Then hardly ever do two that become one have more than its places.
-    pub(crate) fn is_sparse(&self, many: usize) -> bool
-        ensures { result ≡ (nat_lt FEWEST_BITS self.now.bits && nat_lt many (length self.now.tags.items / BOTH)) }
+    /// Whether they are few: not one for two buckets. Then hardly ever do two that become one have more than its places.
+    pub(crate) fn is_sparse(&self) -> bool
+        ensures { result ≡ (nat_lt FEWEST_BITS self.now.bits && nat_lt self.now.used (length self.now.tags.items / BOTH)) }
     {
-        self.bits > FEWEST_BITS && many < self.many() / BOTH
+        self.bits > FEWEST_BITS && self.used() < self.many() / BOTH
     }
 
-    /// Makes the table larger, where so many entries are many for it, and the memory of a larger one was asked for. The new
+    /// Makes the table larger, where its entries are many for it, and the memory of a larger one was asked for. The new
     /// places are free.
-    pub(crate) fn grow(&mut self, many: usize, visits: &mut Visits)
+    #[inline(always)]
+    pub(crate) fn grow(&mut self, visits: &mut Visits)
         requires { IsTable self.old }
         ensures table { IsTable self.new }
         ensures same { HaveSame self.old self.new }
-        ensures larger { nat_le (length self.old.tags.items / PLACES) (many / DENSE) ≡ true → IsReserved self.old
+        ensures larger { nat_le (length self.old.tags.items / PLACES) (self.old.used / DENSE) ≡ true → IsReserved self.old
             → self.old.bits < MOST_BITS → length self.new.tags.items ≡ length self.old.tags.items + more_places self.old }
         ensures counter { visits.new.turn ≡ visits.old.turn }
     {
-        if !self.is_dense(many) || self.bits == MOST_BITS || !self.is_reserved() {
+        if !self.is_dense() || self.bits == MOST_BITS || !self.is_reserved() {
             return;
         }
         if self.many() == 0 {
@@ -51,10 +52,12 @@ impl Places {
     }
 
     /// Makes the first places.
+    #[inline(never)]
     fn begin(&mut self)
         requires none { length self.old.tags.items ≡ 0 }
         requires even { length self.old.entries.items ≡ 0 }
         requires reserved { IsReserved self.old }
+        requires used { IsCounted self.old }
         ensures table { IsTable self.new }
         ensures same { HaveSame self.old self.new }
         ensures larger { length self.new.tags.items ≡ FEWEST }
@@ -64,6 +67,7 @@ impl Places {
     }
 
     /// Makes as many places more: each entry stays, or moves on by so many.
+    #[inline(never)]
     fn double(&mut self, visits: &mut Visits)
         requires table { IsTable self.old }
         requires some { 0 < length self.old.tags.items }
@@ -90,7 +94,9 @@ impl Places {
         requires few { self.old.bits < MOST_BITS }
         requires within { place < many }
         requires filed { AreFiled self.old (Parts self.old.bits many place) }
+        requires used { IsCounted self.old }
         ensures filed { AreFiled self.new (Parts self.old.bits many (place + 1)) }
+        ensures used { IsCounted self.new }
         ensures same { HaveSame self.old self.new }
         ensures places { HasSamePlaces self.old self.new }
         ensures counter { visits.new.turn ≡ visits.old.turn }
@@ -103,16 +109,16 @@ impl Places {
         }
     }
 
-    /// Makes the table smaller, where so many entries are few for it. `false` where one finds no place there: then all are
-    /// given up.
-    pub(crate) fn shrink(&mut self, many: usize, visits: &mut Visits) -> bool
+    /// Makes the table smaller, where its entries are few for it. `false` where one finds no place there: then all are given
+    /// up.
+    pub(crate) fn shrink(&mut self, visits: &mut Visits) -> bool
         requires { IsTable self.old }
         ensures table { IsTable self.new }
         ensures same { result ≡ true → HaveSame self.old self.new }
         ensures none { (result ≡ false) ⊎ (self.old.tags.items ≡ []) → self.new.tags.items ≡ [] }
         ensures counter { visits.new.turn ≡ visits.old.turn }
     {
-        if !self.is_sparse(many) {
+        if !self.is_sparse() {
             return true;
         }
         if !self.halve(visits) {
@@ -152,6 +158,8 @@ impl Places {
         requires upper { half ≤ place }
         requires within { place < 2 * half }
         requires filed { AreFiled self.old (Folds self.old.bits half place) }
+        requires used { IsCounted self.old }
+        ensures used { IsCounted self.new }
         ensures filed { result ≡ true → AreFiled self.new (Folds self.old.bits half (place + 1)) }
         ensures same { result ≡ true → HaveSame self.old self.new }
         ensures places { HasSamePlaces self.old self.new }

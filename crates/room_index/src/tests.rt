@@ -180,13 +180,17 @@ fn a_pair_is_near_until_it_is_struck(rt: HostRuntime) -> Result<(), Fail> {
 }
 
 #[test]
-fn a_crowded_range_has_none_near(rt: HostRuntime) -> Result<(), Fail> {
+fn a_crowded_slot_has_none_near_until_slots_are_finer(rt: HostRuntime) -> Result<(), Fail> {
     let mut nodes = Nodes::new(rt.alloc());
     let mut trial = make_trial(&rt, &mut nodes)?;
-    for number in 0..1_000 {
+    for number in 0..100 {
         trial.enter(number)?;
     }
-    assert!(rt; !trial.is_near(999));
+    assert!(rt; !trial.is_near(99));
+    for number in 100..1_000 {
+        trial.enter(number)?;
+    }
+    assert!(rt; trial.is_near(999));
     Ok(())
 }
 

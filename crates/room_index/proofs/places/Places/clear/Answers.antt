@@ -17,6 +17,7 @@ returns-clause-table c =
     let new = c.move_to.new.self in
     let bits = c.move_to.ensures.moved.same.bits in
     record {
+      used = c.move_to.ensures.used;
       size = size_kept p new c.requires.table.size c.move_to.ensures.moved.same;
       filed = filed_moved p new c.args.place c.in-Some-free_in.free c.move_to.ensures.moved c.in-Some.entry (sym c.at.ensures.entry ∙ c.in-Some.is) c.in-Some-free_in.ensures.free.2
           (IsHome p.bits) (IsHome new.bits) c.requires.table.filed

@@ -10,14 +10,15 @@ use Rattle.room_index.proofs.places.Places.double.Goals as goal
 pub loop-place-init : goal.loop-place-init
 loop-place-init c =
     let p = c.args.self.now in
-    let filed = filed_as p c.lengthen.new.self (IsHome p.bits) c.requires.table.filed c.lengthen.ensures.stand c.lengthen.ensures.same in
+    let filed = filed_as p c.lengthen.new.self (IsHome p.bits) c.requires.table.filed c.lengthen.ensures.places.stand c.lengthen.ensures.places.same in
     record {
-      bits = c.lengthen.ensures.bits;
-      tags = c.lengthen.ensures.tags;
-      entries = c.lengthen.ensures.entries;
+      bits = c.lengthen.ensures.places.bits;
+      tags = c.lengthen.ensures.places.tags;
+      entries = c.lengthen.ensures.places.entries;
       filed = parts_begin c.lengthen.new.self p.bits c.many-many.result filed (λ n e at.
-          omega (arith, stands_within p.tags.items p.entries.items n {e = e} (sym (c.lengthen.ensures.stand n) ∙ at), c.requires.table.size.even, c.many-many.ensures));
-      same = same_as p c.lengthen.new.self c.lengthen.ensures.stand;
+          omega (arith, stands_within p.tags.items p.entries.items n {e = e} (sym (c.lengthen.ensures.places.stand n) ∙ at), c.requires.table.size.even, c.many-many.ensures));
+      same = same_as p c.lengthen.new.self c.lengthen.ensures.places.stand;
+      used = c.lengthen.ensures.used;
       counter = refl;
     }
 
@@ -30,6 +31,7 @@ loop-place-preserved c =
       entries = c.part.ensures.places.entries ∙ was.entries;
       filed = subst (λ b. AreFiled c.part.new.self (Parts b c.many-many.result (c.loop-place.place + 1))) was.bits c.part.ensures.filed;
       same = same_then c.args.self.now c.loop-place.self c.part.new.self was.same c.part.ensures.same;
+      used = c.part.ensures.used;
       counter = c.part.ensures.counter ∙ was.counter;
     }
 
@@ -40,6 +42,7 @@ returns-clause-table c =
     let ended : c.loop-place.place ≡ many = omega (arith, c.loop-place-test.false, c.loop-place.auto.place-end) in
     let filed = parts_end c.loop-place.self c.args.self.now.bits many (subst (λ n. AreFiled c.loop-place.self (Parts c.args.self.now.bits many n)) ended is.filed) in
     record {
+      used = is.used;
       size = record {
         even = is.entries ∙ sym is.tags;
         size = λ some. is.tags ∙ omega (arith, c.requires.table.size.size c.requires.some, c.many-many.ensures, twice c.args.self.now.bits)

@@ -8,11 +8,12 @@ returns-clause-table c =
     let old = c.args.self.now in
     let new = c.put.new.self in
     record {
-      size = size_kept old new c.requires.table.size c.put.ensures.same;
-      filed = subst (λ b. AreFiled new (IsHome b)) (sym c.put.ensures.same.bits)
-          (filed_put old new (IsHome old.bits) c.requires.table.filed c.args.place c.args.entry c.put.ensures c.requires.place.free c.requires.place.home c.requires.absent);
+      used = c.put.ensures.used;
+      size = size_kept old new c.requires.table.size c.put.ensures.put.same;
+      filed = subst (λ b. AreFiled new (IsHome b)) (sym c.put.ensures.put.same.bits)
+          (filed_put old new (IsHome old.bits) c.requires.table.filed c.args.place c.args.entry c.put.ensures.put c.requires.place.free c.requires.place.home c.requires.absent);
     }
 
 pub returns-clause-entered : goal.returns-clause-entered
-returns-clause-entered c = put_adds c.args.self.now c.put.new.self (IsHome c.args.self.now.bits) c.requires.table.filed c.args.place c.args.entry c.put.ensures
+returns-clause-entered c = put_adds c.args.self.now c.put.new.self (IsHome c.args.self.now.bits) c.requires.table.filed c.args.place c.args.entry c.put.ensures.put
     c.requires.place.free c.requires.place.home c.requires.absent

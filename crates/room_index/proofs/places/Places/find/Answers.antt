@@ -1,4 +1,4 @@
-use Rattle.std.proofs.Common.{◌≡◌, ap, subst, ◌∙◌, arith}
+use Rattle.std.proofs.Common.{ap, subst, ◌∙◌, arith}
 use Rattle.room_index.specs.Places.{stands}
 use Rattle.room_index.proofs.Looking.{IsBefore, not_before, number_of}
 use Rattle.room_index.proofs.places.Places.find.Goals as goal

@@ -25,6 +25,7 @@ loop-place-init c = record {
       (filed_as c.args.self.now _ (IsHome (c.args.self.now.bits - 1 + 1)) (subst (λ b. AreFiled c.args.self.now (IsHome b)) (sym (less c)) c.requires.table.filed)
       (λ n. refl) (λ n e at. refl));
   same = same_as c.args.self.now _ (λ n. refl);
+  used = c.requires.table.used;
   counter = refl;
 }
 
@@ -38,6 +39,7 @@ loop-place-preserved c =
       filed = subst (λ b. AreFiled c.fold.new.self (Folds b (c.many-half.result / 2) (c.loop-place.place + 1))) (sym c.fold.ensures.places.bits)
           (c.fold.ensures.filed c.if-not-fold.false);
       same = same_then c.args.self.now c.loop-place.self c.fold.new.self was.same (c.fold.ensures.same c.if-not-fold.false);
+      used = c.fold.ensures.used;
       counter = c.fold.ensures.counter ∙ was.counter;
     }
 
@@ -58,6 +60,7 @@ returns-clause-table c done =
     let lower = folds_end p p.bits half c.loop-place.place is.filed is.entries c.loop-place-test.false (c.loop-place.auto.place-end (omega arith)) in
     let filed = filed_by p (λ n pair. (n < half) × IsHome p.bits n pair) (IsHome p.bits) lower (λ n e at was. was.1) in
     record {
+      used = c.shorten.ensures.used;
       size = record {
         even = c.shorten.ensures.places.entries ∙ sym c.shorten.ensures.places.tags;
         size = λ some. c.shorten.ensures.places.tags ∙ half_is (goal.at.returns-clause-table c).After-many-half

@@ -1,5 +1,5 @@
 use Rattle.std.proofs.Common.{◌≡◌, ◌+◌, ◌*◌, length}
-use Rattle.room_index.specs.Places.{AreFiled, HaveSame}
+use Rattle.room_index.specs.Places.{AreFiled, HaveSame, IsCounted}
 use Rattle.room_index.specs.Sizes.{Folds}
 use Rattle.room_index.proofs.places.Places.halve.Given as goal
 
@@ -10,5 +10,6 @@ invariant-loop-place l = record {
   entries : length l.self.entries.items ≡ 2 * l.half;
   filed : AreFiled l.self (Folds l.self.bits l.half l.place);
   same : HaveSame l.fn.self l.self;
+  used : IsCounted l.self;
   counter : l.visits.turn ≡ l.fn.visits.turn;
 }

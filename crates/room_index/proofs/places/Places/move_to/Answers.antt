@@ -19,4 +19,4 @@ pub returns-clause-moved : goal.returns-clause-moved
 returns-clause-moved c =
     let same = same_entry (goal.at.returns-clause-moved c).After-index-entry in
     moved c.args.self.now c.free.new.self c.put.new.self c.args.from c.args.to c.index-entry.result.now (c.requires.entry.1 ∙ ap Some (sym same))
-    (c.requires.entry.2 ∙ ap (λ e. tag_of e.pair) (sym same)) c.free.ensures c.put.ensures
+    (c.requires.entry.2 ∙ ap (λ e. tag_of e.pair) (sym same)) c.free.ensures.freed c.put.ensures.put

@@ -1,4 +1,3 @@
-use Rattle.std.proofs.Common.{ap, subst, sym, ◌∙◌}
 use Rattle.room_index.proofs.Ranging.{more_same, more_then}
 use Rattle.room_index.proofs.ranges.Ranges.put.Goals as goal
 
