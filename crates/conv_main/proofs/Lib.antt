@@ -1,0 +1,4 @@
+pub mod CommandWords
+pub mod Grown
+pub mod LineParts
+pub mod Runs
