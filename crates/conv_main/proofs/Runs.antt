@@ -308,20 +308,23 @@ module _ {w : Way} {refused : Bool} {before mid c d e f : Option (List ℕ)} {pi
   front_at_end after g h r consumes end p = record {
     read = r.read;
     consumes = subst (Consumes before after) (append-nil r.read) (Consumes-trans before mid after r.read [] r.consumes consumes);
-    front = inr (end, record {
-      out = record {
-        written = converted_whole w r.read ++ p.out.written;
-        unwritten = p.out.unwritten;
-        appends = Appends-trans c d g (converted_whole w r.read) p.out.written r.appends p.out.appends;
-        whole = converted_last r ∙ ap (λ l. converted_whole w r.read ++ l) p.out.whole ∙ sym (append_assoc (converted_whole w r.read) p.out.written p.out.unwritten);
-      };
-      told = record {
-        written = told_whole w r.read ++ p.told.written;
-        unwritten = p.told.unwritten;
-        appends = Appends-trans e f h (told_whole w r.read) p.told.written r.tells p.told.appends;
-        whole = told_last r ∙ ap (λ l. told_whole w r.read ++ l) p.told.whole ∙ sym (append_assoc (told_whole w r.read) p.told.written p.told.unwritten);
-      };
-    });
+    front = inr (
+      end,
+      record {
+        out = record {
+          written = converted_whole w r.read ++ p.out.written;
+          unwritten = p.out.unwritten;
+          appends = Appends-trans c d g (converted_whole w r.read) p.out.written r.appends p.out.appends;
+          whole = converted_last r ∙ ap (λ l. converted_whole w r.read ++ l) p.out.whole ∙ sym (append_assoc (converted_whole w r.read) p.out.written p.out.unwritten);
+        };
+        told = record {
+          written = told_whole w r.read ++ p.told.written;
+          unwritten = p.told.unwritten;
+          appends = Appends-trans e f h (told_whole w r.read) p.told.written r.tells p.told.appends;
+          whole = told_last r ∙ ap (λ l. told_whole w r.read ++ l) p.told.whole ∙ sym (append_assoc (told_whole w r.read) p.told.written p.told.unwritten);
+        };
+      },
+    );
   }
 
   all_at_end : (some : Bool) (after g h : Option (List ℕ)) → Reached w refused before mid c d e f piece place → Consumes mid after [] → IsAtEnd after

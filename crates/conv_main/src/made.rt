@@ -173,12 +173,7 @@ impl Made {
     }
 
     /// Appends what stands for a piece without a message.
-    fn put_plain(
-        &mut self,
-        way: &Way,
-        piece: &[u8],
-        memory: &mut Memory,
-    ) -> Result<(), AllocError>
+    fn put_plain(&mut self, way: &Way, piece: &[u8], memory: &mut Memory) -> Result<(), AllocError>
         ensures out { OnOk result (self.new.out.items ≡ self.old.out.items ++ kept_in way.now.written piece.now) }
         ensures err_out { OnErr result (Begins self.old.out.items self.new.out.items) }
         ensures told { self.new.told ≡ self.old.told }

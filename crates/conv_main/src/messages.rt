@@ -114,11 +114,7 @@ pub(crate) fn bytes_on(
 }
 
 /// The bytes that digits spell, where there is one. `Err` for want of memory alone, which is counted.
-fn decoded(
-    alloc: Global,
-    digits: &[u8],
-    memory: &mut Memory,
-) -> Result<Option<Vec<u8>>, AllocError>
+fn decoded(alloc: Global, digits: &[u8], memory: &mut Memory) -> Result<Option<Vec<u8>>, AllocError>
     ensures bytes { IfOk result (λ bytes. option_map (λ b. b.items) bytes ≡ spelled digits.now) }
     ensures counted { Rises (is_err result) memory.old memory.new }
 {

@@ -103,17 +103,15 @@ impl Progress {
     }
 
     /// Converts the piece that has come, and begins the next. Where there is no memory, nothing changes.
-    fn put_piece(
-        &mut self,
-        alloc: Global,
-        way: &Way,
-        memory: &mut Memory,
-    ) -> Result<(), AllocError>
+    fn put_piece(&mut self, alloc: Global, way: &Way, memory: &mut Memory) -> Result<(), AllocError>
         requires way { IsWay way.now }
+        requires some { 1 ≤ length self.old.piece.items }
         requires number { self.old.place.messages ≤ self.old.place.offset }
         requires modest { self.old.place.offset + length self.old.piece.items ≤ MOST_BYTES }
         ensures piece { OnOk result (self.new.piece.items ≡ []) }
         ensures place { OnOk result (self.new.place ≡ place_behind way.now self.old.place self.old.piece.items) }
+        ensures number { OnOk result (self.new.place.messages ≤ self.new.place.offset) }
+        ensures count { OnOk result (self.new.place.offset ≡ self.old.place.offset + length self.old.piece.items) }
         ensures out { OnOk result (self.new.made.out.items ≡ self.old.made.out.items
             ++ converted_piece way.now self.old.piece.items) }
         ensures told { OnOk result (self.new.made.told.items ≡ self.old.made.told.items

@@ -17,7 +17,11 @@ const MOST_LINE: usize = 128;
 
 /// Appends bytes, however many these are: more than may be asked for at once one by one. Where there is no memory, some of them.
 #[tactic(auto, using(crate::proofs::Grown::begins_self))]
-pub(crate) fn append(text: &mut Vec<u8>, bytes: &[u8], memory: &mut Memory) -> Result<(), AllocError>
+pub(crate) fn append(
+    text: &mut Vec<u8>,
+    bytes: &[u8],
+    memory: &mut Memory,
+) -> Result<(), AllocError>
     ensures ok { OnOk result (text.new.items ≡ text.old.items ++ bytes.now) }
     ensures err { OnErr result (Begins text.old.items text.new.items) }
     ensures counted { Rises (is_err result) memory.old memory.new }

@@ -58,8 +58,7 @@ returns-clause-sides c =
     ∙ ap₂ with_rule (ap app_of_fields c.disable_help_flag.ensures ∙ ap without_help c.new.ensures.app) c.new-from.ensures.rule)
     c.new-to.ensures.rule) c.new-file.ensures.rule in
     let rows = (c.in_ok-matches.ensures.matches (ap is_simple command_is ∙ is_plain)).0
-    ∙ ap (λ a. matches_of a (map string_bytes c.args.words.now)) command_is in
-    (
+    ∙ ap (λ a. matches_of a (map string_bytes c.args.words.now)) command_is in (
       ap side_of (sym (c.get_str.ensures ∙ first_value-rows (found_of c.in_ok-matches.matches) (codes "FROM") ∙ ap (first_of (codes "FROM")) rows)) ∙ sym c.side_in.ensures ∙ c.in-Some.is,
       ap side_of (sym (c.get_str-2.ensures ∙ first_value-rows (found_of c.in_ok-matches.matches) (codes "TO") ∙ ap (first_of (codes "TO")) rows)) ∙ sym c.side_in-2.ensures ∙ c.in-Some-side_in.is,
     )

@@ -1,4 +1,4 @@
-use Rattle.std.proofs.Common.{◌≡◌, ◌≤◌, ◌+◌, ◌++◌, ◌∷◌, [], ◌∙◌, true, false, ap, sym, subst, drop, length, slice_index, arith, rules}
+use Rattle.std.proofs.Common.{◌≡◌, ◌≤◌, ◌+◌, ◌++◌, ◌∷◌, [], ◌∙◌, true, false, ap, sym, subst, drop, length, length-append, slice_index, arith, rules}
 use Rattle.conv_main.specs.Pieces.{begun_piece, is_whole, whole_pieces}
 use Rattle.conv_main.specs.Progress.{Took}
 use Rattle.conv_main.proofs.Grown.{dropped_one}
@@ -22,14 +22,15 @@ bytes-preserved c =
     let pushed : c.push.new.items.items ≡ begun ++ byte ∷ [] = c.in_ok-push.ensures.ok in
     let took = subst (λ l. Took w c.args.self.now.place c.bytes.self.place (whole_pieces w c.args.self.now.piece.items bytes) (whole_pieces w begun l)
     c.args.self.now.made.out.items c.bytes.self.made.out.items c.args.self.now.made.told.items c.bytes.self.made.told.items) here c.bytes.invariant.took in
+    let size = ap length pushed ∙ length-append begun (byte ∷ []) in
     record {
       number = elim c.if-is_whole.branch [
-        | then-is_whole+in_ok-put_piece b ↦ search rules
-        | else-is_whole b ↦ search rules
+        | then-is_whole+in_ok-put_piece b ↦ rw b.self-is b.in_ok-put_piece.ensures.number
+        | else-is_whole b ↦ rw b.self-is c.bytes.invariant.number
       ];
       count = elim c.if-is_whole.branch [
-        | then-is_whole+in_ok-put_piece b ↦ search rules
-        | else-is_whole b ↦ search rules
+        | then-is_whole+in_ok-put_piece b ↦ rw b.self-is (omega (arith, b.in_ok-put_piece.ensures.count, ap length b.in_ok-put_piece.ensures.piece, size, c.bytes.invariant.count))
+        | else-is_whole b ↦ rw b.self-is (omega (arith, size, c.bytes.invariant.count))
       ];
       memory = elim c.if-is_whole.branch [
         | then-is_whole+in_ok-put_piece b ↦ search rules
