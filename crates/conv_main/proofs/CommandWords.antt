@@ -1,5 +1,5 @@
 -- What the crate that reads words makes of them.
-use Rattle.std.proofs.Common.{arith, ℕ, List, ◌≡◌, ◌≢◌, ◌⊎◌, ◌∙◌, [], ◌∷◌, length, Option, Result, Ok, Err, inl, inr, ap, refl, sym, true, codes}
+use Rattle.std.proofs.Common.{arith, ◌≡◌, ◌≢◌, ◌⊎◌, ◌∙◌, [], ◌∷◌, length, Result, Ok, Err, inl, inr, ap, refl, true}
 use Rattle.std.specs.Prelude.{IfErr}
 use Rattle.std.specs.Result.{IsErrAnd}
 use Rattle.clap.specs.Words.{App, HasKind, Kinds, is_simple, is_simple_and_free, kind_of}

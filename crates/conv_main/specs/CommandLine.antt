@@ -1,5 +1,5 @@
 -- The words of the command line, by what the crate that reads them makes of words.
-use Rattle.std.specs.Prelude.{◌≡◌, ◌≢◌, ◌⊎◌, ⊤, ℕ, bytes_eq, codes, if◌then◌else◌, List, [], ◌∷◌, Option, Some, None, is_some, option_map, take, drop, true, false}
+use Rattle.std.specs.Prelude.{◌≡◌, ◌≢◌, ◌⊎◌, ⊤, ℕ, bytes_eq, codes, if◌then◌else◌, List, [], Option, Some, None, is_some, take, drop, true}
 use Rattle.clap.specs.Words.{App, Kinds, Text, fault_of, first_of, matches_of, new_app, new_rule, with_rule}
 use Rattle.program_ends.specs.declared.refusal.Refusal.{Refusal}
 use Rattle.program_ends.specs.declared.refusal.Refusal.TheVariants.{Usage, NoMemory, Unopened}

@@ -6,7 +6,7 @@ use Rattle.route_layouts.specs.Faults.{text_of}
 use Rattle.route_layouts.specs.Layouts.{IsLayout}
 use Rattle.route_layouts.specs.declared.fault.Fault.{Fault}
 use Rattle.conv_main.specs.Messages.{Message, message_in}
-use Rattle.conv_main.specs.Pieces.{begun_piece, pieces_of, whole_pieces}
+use Rattle.conv_main.specs.Pieces.{pieces_of, whole_pieces}
 use Rattle.conv_main.specs.declared.way.Form.{Form}
 use Rattle.conv_main.specs.declared.way.Form.TheVariants.{Lines, Raw}
 use Rattle.conv_main.specs.declared.way.Place.{Place}

@@ -3,7 +3,6 @@
 use Rattle.std.specs.Prelude.{ℕ, ◌+◌, nat_le, ◌==◌, ◌&&◌, Bool, if◌then◌else◌, List, [], ◌∷◌, length, take, drop, bytes_eq, codes, position, Option, Some, None}
 use Rattle.std.specs.List.{list_all}
 use Rattle.std.specs.Result.{result_ok}
-use Rattle.std.specs.Char.{is_ascii_lowercase, is_ascii_digit}
 use Rattle.hex.specs.Hex.{decode_of}
 use Rattle.event_file.specs.Lines.{first_line}
 use Rattle.event_file.specs.Words.{is_name_byte}

@@ -1,5 +1,5 @@
-use Rattle.std.proofs.Common.{◌≡◌, ◌≤◌, ◌+◌, ◌++◌, ◌∷◌, [], ◌∙◌, true, false, ap, sym, subst, drop, length, length-append, slice_index, arith, rules}
-use Rattle.conv_main.specs.Pieces.{begun_piece, is_whole, whole_pieces}
+use Rattle.std.proofs.Common.{◌≡◌, ◌+◌, ◌++◌, ◌∷◌, [], ◌∙◌, ap, subst, drop, length, length-append, slice_index, arith, rules}
+use Rattle.conv_main.specs.Pieces.{begun_piece, whole_pieces}
 use Rattle.conv_main.specs.Progress.{Took}
 use Rattle.conv_main.proofs.Grown.{dropped_one}
 use Rattle.conv_main.proofs.Runs.{Took-ended, Took-going, Took-same, begun-ended, begun-going, took_error}
