@@ -73,7 +73,7 @@ class Text:
         wrote = told = b""
         for piece, own, line in self.pieces:
             size -= len(piece)
-            if size < 0 or self.way.raw_in is False and not piece.endswith(b"\n"):
+            if size < 0 or not is_whole(self.way, piece):
                 break
             wrote, told = wrote + own, told + line
         return wrote, told
@@ -89,6 +89,12 @@ def pieces_in(way, text):
         pieces.append(text[:size])
         text = text[size:]
     return pieces
+
+
+def is_whole(way, piece):
+    if not way.raw_in:
+        return piece.endswith(b"\n")
+    return len(piece) >= 4 and len(piece) >= struct.unpack(ORDER[way.source] + "H", piece[:2])[0]
 
 
 def message_in(way, piece):
