@@ -63,7 +63,8 @@ class Reader:
         yield from (([*self.before, *words], self.told_of(SCRIPTS.get(file, GIVEN))) for words, file in NAMED)
         yield from (([*self.before, *words], self.told_as(READ_FAULT)) for words in UNOPENED)
         yield from (([*self.before, *words], self.told_as(USAGE)) for words in REFUSED)
-        yield from ((words, self.told_as(USAGE)) for words in (self.before[:n] for n in range(len(self.before))))
+        yield from ((self.before[:n], self.told_as(USAGE)) for n in range(len(self.before)))
+        yield ["-h", *self.before], self.told_as(USAGE)
 
     def folder(self, sweep):
         """A folder with the files, a folder, and a link to itself."""

@@ -1,5 +1,6 @@
 -- The pieces of a text, each of which is converted by itself: its lines, or the messages of a capture.
-use Rattle.std.specs.Prelude.{ℕ, ◌-◌, nat_le, ◌==◌, max, Bool, cond, List, [], ◌∷◌, ◌++◌, length, slice_index}
+use Rattle.std.specs.Prelude.{◌≡◌, ◌≢◌, ℕ, ◌-◌, nat_le, ◌==◌, max, Bool, cond, List, [], ◌∷◌, ◌++◌, length, slice_index, flat_map, true, false}
+use Rattle.std.specs.List.{All}
 use Rattle.route_layouts.specs.Places.{number_of}
 use Rattle.conv_main.specs.declared.way.Form.{Form}
 use Rattle.conv_main.specs.declared.way.Form.TheVariants.{Lines, Raw}
@@ -40,3 +41,23 @@ last_piece (b ∷ bs) = (b ∷ bs) ∷ []
 -- the pieces of a text
 abbrev pub pieces_of : Way → List ℕ → List (List ℕ)
 pieces_of w text = whole_pieces w [] text ++ last_piece (begun_piece w [] text)
+
+-- ---- what pieces are
+
+-- it isn't whole, and no front of it is
+abbrev pub IsBegun : Way → List ℕ → Type 0
+IsBegun w piece = (front rest : List ℕ) → piece ≡ front ++ rest → front ≢ [] → is_whole w front ≡ false
+
+-- it is whole, and no shorter front of it is
+pub record IsPiece (w : Way) (piece : List ℕ) : Type 0 where
+  pub whole : is_whole w piece ≡ true
+  pub first : (front rest : List ℕ) → piece ≡ front ++ rest → front ≢ [] → rest ≢ [] → is_whole w front ≡ false
+
+-- a text is its whole pieces one behind the other, and behind them what has come of the next
+pub record IsCut (w : Way) (text : List ℕ) : Type 0 where
+  pub pieces : All (IsPiece w) (whole_pieces w [] text)
+  pub begun : IsBegun w (begun_piece w [] text)
+  pub all : flat_map (λ piece. piece) (whole_pieces w [] text) ++ begun_piece w [] text ≡ text
+
+abbrev pub TextsAreCut : Type 0
+TextsAreCut = (w : Way) (text : List ℕ) → IsCut w text

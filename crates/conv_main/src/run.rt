@@ -5,6 +5,7 @@ ghost use Rattle.event_file.specs.Output.{Wrote, WroteFront};
 ghost use Rattle.conv_main.specs.declared.progress.TheConstants.{MOST_BYTES};
 ghost use Rattle.conv_main.specs.Converted.{IsWay, converted_text, first_place, told_text};
 ghost use Rattle.conv_main.specs.Ends.{Ends, EndsCounted, Fronts, has_line};
+ghost use Rattle.conv_main.specs.Pieces.{TextsAreCut};
 ghost use Rattle.conv_main.specs.Progress.{Finishes};
 
 use crate::made::Made;
@@ -59,6 +60,9 @@ pub(crate) fn run<R: Read, W: Write, E: Write>(
     ensures room { READ_ROOM ≤ reader.old.least_room → READ_ROOM ≤ reader.new.least_room }
     ensures read_room { READ_ROOM ≡ 4096 }
 
+    // The pieces that are converted are the text, each of them up to where it is whole first.
+    ensures cut { TextsAreCut }
+
     // Before each read all that was made is flushed, and at the end too.
     ensures prompt { writer.old.unflushed ≡ false → reader.new.early_reads ≡ reader.old.early_reads }
     ensures flushed { writer.old.unflushed ≡ false → result ≢ Outcome.WriteFault → writer.new.unflushed ≡ false }
@@ -111,6 +115,9 @@ pub(crate) fn run_counted<R: Read, W: Write, E: Write>(
     ensures most_reads { MOST_READS ≡ 16777216 }
     ensures room { READ_ROOM ≤ reader.old.least_room → READ_ROOM ≤ reader.new.least_room }
     ensures read_room { READ_ROOM ≡ 4096 }
+
+    // The pieces that are converted are the text, each of them up to where it is whole first.
+    ensures cut { TextsAreCut }
 
     // Before each read all that was made is flushed, and at the end too.
     ensures prompt { writer.old.unflushed ≡ false → reader.new.early_reads ≡ reader.old.early_reads }

@@ -2,7 +2,7 @@ use Rattle.std.proofs.Common.{◌≡◌, ◌+◌, ◌++◌, ◌∷◌, [], ◌�
 use Rattle.conv_main.specs.Pieces.{begun_piece, whole_pieces}
 use Rattle.conv_main.specs.Progress.{Took}
 use Rattle.conv_main.proofs.Grown.{dropped_one}
-use Rattle.conv_main.proofs.Runs.{Took-ended, Took-going, Took-same, begun-ended, begun-going, took_error}
+use Rattle.conv_main.proofs.Taken.{Took-ended, Took-going, Took-same, begun-ended, begun-going, took_error}
 use Rattle.conv_main.proofs.progress.Progress.take_bytes.Goals.{then-is_whole+in_ok-put_piece, else-is_whole}
 use Rattle.conv_main.proofs.progress.Progress.take_bytes.Goals as goal
 
