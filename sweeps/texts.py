@@ -30,7 +30,8 @@ NO_MESSAGES = [
     b"msg 00 \n", b" msg 00\n", b"msg  00\n", b"Msg 00\n", b"msg-00\n", b"# msg 00\n", b"msg x 00\n", b"\xff\0\x80\n\0",
     b"write\n", b"write \n", b"write a\n", b"write a \n", b"write a -\n", b"write a 0\n", b"write a  00\n", b"write  a 00\n",
     b"write  00\n", b"write A 00\n", b"write abcdefghi 00\n", b"write a 00 00\n", b"write a- 00\n", b"writes a 00\n",
-    b"write a\t00\n", b"write a0000\n", b"msg " + b"0" * 40_001 + b"\n", b"x" * 1_000_000, b"x" * 100_000 + b"\nok\n" + b"y" * 4096 + b"\n",
+    b"write a\t00\n", b"write a0000\n", b"msg " + b"0" * 40_001 + b"\n", b"x" * 1_000_000,
+    b"x" * 100_000 + b"\nok\n" + b"y" * 4096 + b"\n",
 ]
 
 
