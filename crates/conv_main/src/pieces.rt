@@ -36,5 +36,5 @@ fn is_message(way: &Way, piece: &[u8]) -> bool
         Order::Big => BigEndian::read_u16(piece),
         Order::Little => LittleEndian::read_u16(piece),
     };
-    piece.len() >= usize::from(size).max(4)
+    piece.len() >= usize::from(size)
 }
