@@ -58,10 +58,10 @@ def gives(stream, text):
     return not text
 
 
-def is_in_step(sweep, turns, status):
+def is_in_step(sweep, turns, status, words=()):
     """Whether the program writes for each line what is wanted of it before the next line is sent, and ends so."""
     pipes = {"stdin": subprocess.PIPE, "stdout": subprocess.PIPE, "bufsize": 0}
-    with subprocess.Popen([sweep.program], env=sweep.environment(), **pipes) as process:
+    with subprocess.Popen([sweep.program, *words], env=sweep.environment(), **pipes) as process:
         holds = True
         for line, wanted in turns:
             process.stdin.write(line)

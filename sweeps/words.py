@@ -44,11 +44,13 @@ REFUSED = [
 
 @dataclass(frozen=True)
 class Reader:
-    """A program that reads `[FILE]`: its name, a line, and what it writes of that, wherever the line stands."""
+    """A program that reads `[FILE]`: its name, a line, what it writes of that, wherever the line stands, and the words that
+    stand before FILE."""
 
     name: str
     line: bytes
     written: bytes
+    before: tuple = ()
 
     def told_of(self, lines):
         return self.written * lines, DONE, b""
@@ -58,9 +60,11 @@ class Reader:
 
     def forms(self):
         """Each form of words, and what is told of it."""
-        yield from ((words, self.told_of(SCRIPTS.get(file, GIVEN))) for words, file in NAMED)
-        yield from ((words, self.told_as(READ_FAULT)) for words in UNOPENED)
-        yield from ((words, self.told_as(USAGE)) for words in REFUSED)
+        yield from (([*self.before, *words], self.told_of(SCRIPTS.get(file, GIVEN))) for words, file in NAMED)
+        yield from (([*self.before, *words], self.told_as(READ_FAULT)) for words in UNOPENED)
+        yield from (([*self.before, *words], self.told_as(USAGE)) for words in REFUSED)
+        yield from ((self.before[:n], self.told_as(USAGE)) for n in range(len(self.before)))
+        yield ["-h", *self.before], self.told_as(USAGE)
 
     def folder(self, sweep):
         """A folder with the files, a folder, and a link to itself."""
@@ -78,6 +82,8 @@ class Reader:
 
 ROUTESIM = Reader("routesim", b"read z\n", b"err 9\n")
 ROUTESHOW = Reader("routeshow", b"msg 00\n", b"no message: 00\n the length is wrong\n")
+DELADDR = b"msg 0014030d0000000000000101000200050000000a\n", b"msg 1400050d0000000001010000020000000a000000\n"
+ROUTECONV = Reader("routeconv", *DELADDR, ("4.4bsd", "freebsd"))
 
 
 def folder_of(sweep, files):
@@ -148,7 +154,7 @@ def read_an_unreadable_file(sweep, reader):
     how = {"user": "nobody"} if os.geteuid() == 0 else {}
     for mode, told in ((0o444, reader.told_of(1)), (0, reader.told_as(READ_FAULT))):
         Path(folder, "secret").chmod(mode)
-        sweep.claim(f"{reader.name}: a file of mode {mode:o}", reader.run(folder, [program, "secret"], {}, **how) == told)
+        sweep.claim(f"{reader.name}: a file of mode {mode:o}", reader.run(folder, [program, *reader.before, "secret"], {}, **how) == told)
 
 
 # The descriptor of the file that a program opens first.
@@ -179,6 +185,7 @@ def refuse_memory_of_words(sweep, reader):
     for words, status in (
         ([], DONE), ([empty], DONE), ([absent], READ_FAULT), (["-x"], USAGE), ([empty, empty], USAGE), ([b"\xff"], USAGE),
     ):
+        words = [*reader.before, *words]
         plain = sweep.run(b"", words)
         sweep.claim(f"{reader.name} {words}", plain.told() == reader.told_as(status) and plain.counts["allocations"] > 0)
         for fault in ("refuse_alloc", "refuse_from"):
