@@ -9,6 +9,7 @@ APART = {"memory", "bench_main"}
 
 # Where a count begins: a session of the library, and what has no session; and what the programs share, or do before they run.
 BEGINS = {
+    "conv_main/src/main.rt",
     "hoiskend/src/calls.rt",
     "hoiskend/src/session.rt",
     "hoiskend/src/show.rt",

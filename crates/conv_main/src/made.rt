@@ -9,7 +9,7 @@ use crate::messages::{Message, bytes_on, cut_line, size_before};
 use crate::texts::{append, append_digits, line_about};
 use crate::way::{Form, Place, Way};
 use memory::Memory;
-use route_layouts::{MOST_CONVERTED, convert};
+use route_layouts::{Converted, MOST_CONVERTED, convert};
 use std::alloc::{AllocError, Global};
 
 /// The most messages that are told apart.
@@ -116,8 +116,9 @@ impl Made {
         ensures err_told { OnErr result (Begins self.old.told.items self.new.told.items) }
         ensures counted { Rises (is_err result) memory.old memory.new }
     {
-        match convert(&way.from, &way.to, message.bytes) {
-            Ok(new) => self.put_converted(way, message, &new, memory),
+        let mut new = Converted::new();
+        match convert(&way.from, &way.to, message.bytes, &mut new) {
+            Ok(()) => self.put_converted(way, message, &new, memory),
             Err(why) => {
                 memory.extend(&mut self.told, &line_about(place, why))?;
                 self.put_refused(way, piece, memory)

@@ -12,13 +12,15 @@ mod texts;
 mod way;
 mod words;
 
+use memory::Memory;
 use program::{end_run, run_words};
 use program_ends::words_of;
 use std::process::ExitCode;
 
 fn main(rt: HostRuntime) -> ExitCode {
+    let mut memory = Memory::new();
     let ended = match words_of(&rt) {
-        Ok(words) => run_words(&rt, &rt.stderr(), words.as_slice()),
+        Ok(words) => run_words(&rt, &rt.stderr(), words.as_slice(), &mut memory),
         Err(refusal) => Err(refusal),
     };
     end_run(&rt, ended)

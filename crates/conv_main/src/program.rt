@@ -1,6 +1,6 @@
 //! The program round a run: the file that its words name is read, standard output written, and standard error told of what is
 //! refused.
-ghost use Rattle.std.specs.Prelude.{◌≡◌, [], IfErr, OnOk, map};
+ghost use Rattle.std.specs.Prelude.{◌≡◌, ◌<◌, ◌⊎◌, [], IfErr, Ok, OnOk, map};
 ghost use Rattle.std.specs.Process.{exit_status};
 ghost use Rattle.std.specs.String.{string_bytes};
 ghost use Rattle.program_ends.specs.Endings.{status_of_end};
@@ -12,6 +12,7 @@ use crate::run::run;
 use crate::way::Way;
 use crate::words::{PROGRAM, Side, asked_by};
 use event_file::Counted;
+use memory::Memory;
 use program_ends::{Outcome, Refusal, end, status};
 use std::io::Read;
 use std::process::ExitCode;
@@ -23,16 +24,18 @@ pub(crate) fn run_words<R: Files + Input + Print + AllocGlobal, E: Print>(
     rt: &R,
     errors: &E,
     words: &[String],
+    memory: &mut Memory,
 ) -> Result<Outcome, Refusal>
     ensures right { OnOk result (faults_of (map string_bytes words.now) ≡ []) }
     ensures refused { IfErr result (λ why. Refuses (map string_bytes words.now) why) }
+    ensures short { memory.old < memory.new → (result ≡ Ok Outcome.NoMemory) ⊎ (result ≡ Ok Outcome.WriteFault) }
 {
     let asked = asked_by(rt.alloc(), words)?;
     let way = way_between(asked.read, asked.written);
     match asked.file {
-        None => Ok(run_over(rt, errors, &way, rt.reader())),
+        None => Ok(run_over(rt, errors, &way, rt.reader(), memory)),
         Some(file) => match fs::open(rt, file) {
-            Ok(text) => Ok(run_over(rt, errors, &way, text)),
+            Ok(text) => Ok(run_over(rt, errors, &way, text, memory)),
             Err(_) => Err(Refusal::Unopened),
         },
     }
@@ -60,13 +63,22 @@ fn run_over<R: Print + AllocGlobal, E: Print, T: Read + Drop>(
     errors: &E,
     way: &Way,
     text: T,
+    memory: &mut Memory,
 ) -> Outcome
     requires { IsWay way.now }
+    ensures { memory.old < memory.new → (result ≡ Outcome.NoMemory) ⊎ (result ≡ Outcome.WriteFault) }
 {
     let mut reader = Counted::new(text);
     let mut writer = Counted::new(io::writer(rt));
     let mut teller = Counted::new(io::writer(errors));
-    run(rt.alloc(), way, &mut reader, &mut writer, &mut teller)
+    run(
+        rt.alloc(),
+        way,
+        &mut reader,
+        &mut writer,
+        &mut teller,
+        memory,
+    )
 }
 
 /// Ends the program as `end` does, but for a run that refused a message: standard error was told of each already.

@@ -26,63 +26,8 @@ const READ_ROOM: usize = 4096;
 /// Reads a text, and writes it with each message in the other layout: what each read ends is written before the next read. A
 /// message that has no counterpart there is told of, and what stands for it is written. What is left at the end of the text is
 /// converted there, but not where a fault comes first. A line or a message has the room that it needs; where there is no memory
-/// for it, the run ends.
+/// for it, the run ends; how often it was refused is counted.
 pub(crate) fn run<R: Read, W: Write, E: Write>(
-    alloc: Global,
-    way: &Way,
-    reader: &mut Counted<R>,
-    writer: &mut Counted<W>,
-    teller: &mut Counted<E>,
-) -> Outcome
-    requires way { IsWay way.now }
-    requires no_read { reader.old.reads ≡ 0 }
-    requires no_read_failure { reader.old.failures ≡ 0 }
-    requires no_write_failure { writer.old.failures ≡ 0 }
-    requires no_failure_to_tell { teller.old.failures ≡ 0 }
-
-    // Where the run is done, what was written is the whole text with each message in the other layout, and nothing else; and
-    // nothing was told.
-    ensures converted { result ≡ Outcome.Done → IfSome (R.remaining reader.old.inner) (λ text.
-        Appends (W.contents writer.old.inner) (W.contents writer.new.inner) (converted_text way.now text)
-        × (told_text way.now text ≡ [])) }
-
-    // Where a message has no counterpart, that is told of each such message, and all else is converted.
-    ensures refused { result ≡ Outcome.BadLine → IfSome (R.remaining reader.old.inner) (λ text.
-        Appends (W.contents writer.old.inner) (W.contents writer.new.inner) (converted_text way.now text)
-        × Appends (E.contents teller.old.inner) (E.contents teller.new.inner) (told_text way.now text)
-        × (told_text way.now text ≢ [])) }
-
-    // What was read, written and told is said for each outcome.
-    ensures ends { Ends result way.now (R.remaining reader.old.inner) (R.remaining reader.new.inner)
-        (W.contents writer.old.inner) (W.contents writer.new.inner) (E.contents teller.old.inner) (E.contents teller.new.inner) }
-    ensures reads { reader.new.reads ≤ MOST_READS }
-    ensures most_reads { MOST_READS ≡ 16777216 }
-    ensures room { READ_ROOM ≤ reader.old.least_room → READ_ROOM ≤ reader.new.least_room }
-    ensures read_room { READ_ROOM ≡ 4096 }
-
-    // The pieces that are converted are the text, each of them up to where it is whole first.
-    ensures cut { TextsAreCut }
-
-    // Before each read all that was made is flushed, and at the end too.
-    ensures prompt { writer.old.unflushed ≡ false → reader.new.early_reads ≡ reader.old.early_reads }
-    ensures flushed { writer.old.unflushed ≡ false → result ≢ Outcome.WriteFault → writer.new.unflushed ≡ false }
-    ensures flushed_lines { teller.old.unflushed ≡ false → result ≢ Outcome.WriteFault → teller.new.unflushed ≡ false }
-    ensures reads_needed { IfSome (R.remaining reader.old.inner) (λ text. reader.new.reads ≤ length text + 1) }
-
-    // A run goes on as long as no read and no write fails, and a fault comes only where one failed, or the reads are
-    // spent on a text of at least as many bytes.
-    ensures read_fault { result ≡ Outcome.ReadFault → (reader.new.failures ≡ 1) ⊎ ((reader.new.reads ≡ MOST_READS)
-        × IfSome (R.remaining reader.old.inner) (λ text. MOST_READS ≤ length text)) }
-    ensures unfailed_reads { result ≢ Outcome.ReadFault → reader.new.failures ≡ 0 }
-    ensures write_fault { result ≡ Outcome.WriteFault → writer.new.failures + teller.new.failures ≡ 1 }
-    ensures unfailed_writes { result ≢ Outcome.WriteFault → writer.new.failures + teller.new.failures ≡ 0 }
-{
-    run_counted(alloc, way, reader, writer, teller, &mut Memory::new())
-}
-
-/// Converts a text, as `run` does, and counts how often memory was refused for it. What stands of `run` stands here, and
-/// beside it what the count says.
-pub(crate) fn run_counted<R: Read, W: Write, E: Write>(
     alloc: Global,
     way: &Way,
     reader: &mut Counted<R>,

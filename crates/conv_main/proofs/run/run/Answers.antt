@@ -1,5 +1,5 @@
 use Rattle.conv_main.proofs.Cut.{texts_are_cut}
-use Rattle.conv_main.proofs.run.run_counted.Goals as goal
+use Rattle.conv_main.proofs.run.run.Goals as goal
 
 pub returns-clause-cut : goal.returns-clause-cut
 returns-clause-cut g c = texts_are_cut
