@@ -14,7 +14,7 @@ use Rattle.room_index.specs.Places.{IsIn}
 use Rattle.room_index.specs.Ranges.{entry_of, range_of, AreTold, IsTold, TellsMore}
 use Rattle.room_index.specs.declared.entry.Entry.{Entry}
 use Rattle.room_index.specs.declared.places.Places.{Places}
-use Rattle.room_index.specs.declared.ranges.Last.{Last}
+use Rattle.room_index.specs.declared.last.Last.{Last}
 use Rattle.room_index.specs.declared.ranges.Ranges.{Ranges}
 
 -- ---- one range is written

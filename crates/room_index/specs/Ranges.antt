@@ -7,7 +7,7 @@ use Rattle.room_index.specs.Homes.{pair}
 use Rattle.room_index.specs.Places.{IsIn}
 use Rattle.room_index.specs.declared.entry.Entry.{Entry}
 use Rattle.room_index.specs.declared.places.Places.{Places}
-use Rattle.room_index.specs.declared.ranges.Last.{Last}
+use Rattle.room_index.specs.declared.last.Last.{Last}
 use Rattle.room_index.specs.declared.ranges.Ranges.{Ranges}
 
 -- the range of a pair among 2^bits, by the first bits of its key

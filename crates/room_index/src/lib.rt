@@ -7,6 +7,7 @@ mod entering;
 mod entry;
 mod homes;
 mod index;
+mod last;
 mod places;
 mod ranges;
 mod sizes;

@@ -1,5 +1,5 @@
 //! Of each range of keys a pair in it, and which ranks its pairs have.
-ghost use Rattle.std.specs.Prelude.{◌≡◌, ℕ, ◌+◌, ◌/◌, ◌<◌, ◌≤◌, ◌==◌, ◌&&◌, ◌⊎◌, not, false, is_err, length, slice_index, vec_capacity, IfSome, OnOk, Some};
+ghost use Rattle.std.specs.Prelude.{◌≡◌, ℕ, ◌+◌, ◌/◌, ◌<◌, ◌≤◌, ◌==◌, ◌⊎◌, is_err, length, slice_index, vec_capacity, IfSome, OnOk, Some};
 ghost use Rattle.mask_table.specs.RankSets.{HasRank};
 ghost use Rattle.memory.specs.Refusing.{Rises};
 ghost use Rattle.room_index.specs.Places.{IsIn, IsTable};
@@ -8,6 +8,7 @@ ghost use Rattle.room_index.specs.declared.entry.Entry.{Entry as Filed};
 
 use crate::entry::Entry;
 use crate::homes::{MOST_BITS, PAIR_BITS, low_bits, pair_of, rank_of};
+use crate::last::{Last, finer_by};
 use crate::places::Places;
 use crate::tags::PLACES;
 use mask_table::{Rank, Ranks};
@@ -30,20 +31,8 @@ const CROWDED: u32 = 16;
 /// So many bits has a key.
 const KEY_BITS: u32 = 32;
 
-/// Where the entries are so many to each slot that has one, their keys lie close together, and slots are cut finer.
-const LOOSE: usize = 8;
-
 /// A network that has more ranges than 2^`WIDEST` is told beside them all.
 const WIDEST: u32 = 6;
-
-/// Of the pairs that share a slot the one that came last, while it is there.
-#[derive(Clone, Copy)]
-pub(crate) struct Last {
-    entry: Entry,
-    is_there: bool,
-    /// How many pairs came into the slot, less those that went.
-    many: u32,
-}
 
 /// What is known of the entries of the table of places by the first bits of their keys.
 ///
@@ -59,31 +48,6 @@ pub(crate) struct Ranges {
     short: Ranks,
     bits: u32,
     finer: u32,
-}
-
-impl Last {
-    /// None.
-    fn none() -> Last
-        ensures { result.is_there ≡ false }
-    {
-        Last {
-            entry: Entry::ahead(0),
-            is_there: false,
-            many: 0,
-        }
-    }
-
-    /// Once a pair went.
-    fn without(self, pair: u64) -> Last
-        ensures there { result.is_there ≡ (self.is_there && not (self.entry.pair == pair)) }
-        ensures entry { result.entry ≡ self.entry }
-    {
-        Last {
-            entry: self.entry,
-            is_there: self.is_there && self.entry.pair != pair,
-            many: self.many.saturating_sub(1),
-        }
-    }
 }
 
 impl Ranges {
@@ -369,30 +333,12 @@ impl Ranges {
         ensures many { length self.new.last.items ≡ many }
         ensures counter { visits.new.turn ≡ visits.old.turn }
     {
-        let finer = self.finer_for(places.used());
+        let finer = finer_by(self.finer, &self.last, places.used());
         self.begin(many, places.bits, finer.min(KEY_BITS - places.bits));
         for place in 0..places.many() {
             if let Some(entry) = places.at(place, visits) {
                 self.put(entry);
             }
-        }
-    }
-
-    /// How many bits more than a range's the pairs of a slot are to share, by how many of so many entries one slot has: as many
-    /// more as leave it four where they lie close together, and fewer where each is alone.
-    fn finer_for(&self, entries: usize) -> u32
-        requires { self.now.finer ≤ KEY_BITS }
-    {
-        let used = self.last.iter().filter(|last| last.is_there).count();
-        let Some(each) = entries.checked_div(used) else {
-            return self.finer;
-        };
-        if each > LOOSE {
-            (self.finer + each.ilog2()).saturating_sub(2)
-        } else if each <= 1 {
-            self.finer.saturating_sub(1)
-        } else {
-            self.finer
         }
     }
 
