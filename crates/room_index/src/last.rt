@@ -40,12 +40,11 @@ impl Last {
     }
 }
 
-/// How many bits more than a range's the pairs of a slot are to share, and shared so far, by how many of so many entries one slot
-/// has: as many more as leave it four where they lie close together, and fewer where each is alone.
-pub(crate) fn finer_by(finer: u32, slots: &[Last], entries: usize) -> u32
+/// How many bits more than a range's the pairs of a slot are to share, and shared so far, by how many entries there are to so many
+/// slots that have one: as many more as leave it four where they lie close together, and fewer where each is alone.
+pub(crate) fn finer_by(finer: u32, entries: usize, used: usize) -> u32
     requires { finer ≤ 32 }
 {
-    let used = slots.iter().filter(|slot| slot.is_there).count();
     let Some(each) = entries.checked_div(used) else {
         return finer;
     };

@@ -333,13 +333,27 @@ impl Ranges {
         ensures many { length self.new.last.items ≡ many }
         ensures counter { visits.new.turn ≡ visits.old.turn }
     {
-        let finer = finer_by(self.finer, &self.last, places.used());
+        let finer = finer_by(self.finer, places.used(), self.used(visits));
         self.begin(many, places.bits, finer.min(KEY_BITS - places.bits));
         for place in 0..places.many() {
             if let Some(entry) = places.at(place, visits) {
                 self.put(entry);
             }
         }
+    }
+
+    /// How many slots have an entry. It is a look at each.
+    fn used(&self, visits: &mut Visits) -> usize
+        ensures looks { visits.new ≡ record visits.old { count = visits.old.count + length self.now.last.items } }
+    {
+        let mut used = 0;
+        for slot in 0..self.last.len() {
+            visits.tick(); // the look whether a slot is used
+            if self.last[slot].is_there {
+                used += 1;
+            }
+        }
+        used
     }
 
     /// So many ranges, which have no entry.

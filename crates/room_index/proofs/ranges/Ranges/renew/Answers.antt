@@ -14,7 +14,7 @@ loop-place-init c = record {
   within = λ e has. absurd (c.begin.ensures.none e has);
   told = λ n e before at. absurd (omega arith);
   many = c.begin.ensures.many;
-  counter = refl;
+  counter = ap (λ v. v.turn) c.used-2.ensures.looks;
 }
 
 pub loop-place-preserved : goal.loop-place-preserved
