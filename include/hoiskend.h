@@ -582,6 +582,25 @@ static inline uint32_t hk_write_as(uint32_t system, hk_world *world, const char 
 	return code == HK_VERSION ? HK_EPROTONOSUPPORT : HK_EINVAL;
 }
 
+/*
+ * Of the n bytes of messages that hk_fetch gave, the one at `at` in the layout of a system, as hk_convert puts it into
+ * `out`; then `at` is behind it. Where that answers otherwise than HK_OK `at` stays, and so says which message it is.
+ * HK_EINVAL, too: no whole message is there, as at the end.
+ */
+static inline uint32_t hk_next_as(uint32_t system, const uint8_t *messages, size_t n, size_t *at, uint8_t *out, size_t room, size_t *size)
+{
+	size_t left = *at < n ? n - *at : 0;
+	size_t length = left < 2 ? 0 : hk_message_length(messages + *at);
+	uint32_t code;
+
+	if (length == 0 || length > left)
+		return HK_EINVAL;
+	code = hk_convert(HK_44BSD, system, messages + *at, length, out, room, size);
+	if (code == HK_OK)
+		*at += length;
+	return code;
+}
+
 static inline uint32_t hk_add_route(hk_world *world, const char *id, const hk_request *request)
 {
 	return hk_add_route_n(world, (const uint8_t *)id, strlen(id), request);

@@ -113,6 +113,9 @@ ANSWERED = {
     "hk_show(out, hk_message_length(out), text, 1, &size)": ["The buffer is too small"],
     "hk_convert(HK_44BSD, HK_OPENBSD, out, hk_message_length(out), there, 1, &size)": ["The buffer is too small"],
     "hk_convert(HK_FREEBSD, HK_44BSD, there, size, out, sizeof out, &size)": ["The length is wrong"],
+    "hk_next_as(HK_OPENBSD, out, bytes, &at, there, sizeof there, &size)": ["Done", "A malformed request"],
+    "hk_next_as(HK_OPENBSD, out, bytes, &at, there, 1, &size)": ["The buffer is too small"],
+    "hk_next_as(HK_OPENBSD, out, 1, &at, there, sizeof there, &size)": ["A malformed request"],
     "hk_write_as(HK_FREEBSD, &w, \"a\", there, size)": ["A malformed request"],
     "hk_attach(&w, \"a long name\", HK_LOOPBACK, 24, link, 0)": ["A malformed request"],
 }
@@ -127,6 +130,8 @@ def run_each_call(sweep, compiler, standard, linked=ARCHIVE, **how):
         answered.setdefault(call, []).append(text)
     wrong = {call: texts for call, texts in answered.items() if texts != ANSWERED.get(call, ["Done"])}
     sweep.claim(f"each call in {compiler}, but {wrong}", (wrong, status, error) == ({}, 0, b""))
+    steps = b"1 behind the first, 136 bytes", b"2 messages, 1 at the end", b"1 at the first still"
+    sweep.claim(f"message after message in {compiler}", all(step in wrote.splitlines() for step in steps))
     called = {name.removesuffix("_n") for name in functions_in_header(Sources.of_today().header)}
     sweep.claim("each call is made", called <= set(re.findall(r"hk_\w+", EACH_CALL.read_text())))
 

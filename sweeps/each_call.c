@@ -12,7 +12,8 @@ int main(void)
 	uint8_t out[HK_MESSAGE_BYTES] = {0};
 	uint8_t text[512], there[HK_MOST_CONVERTED];
 	uint64_t number = 0;
-	size_t size = 0;
+	size_t size = 0, at = 0, bytes;
+	int last;
 	hk_route route;
 	hk_request request;
 	hk_world w = HK_CLOSED;
@@ -28,7 +29,8 @@ int main(void)
 	ANSWERS(hk_dump_size(&w, false, 0, &number));
 	printf("%d bytes\n", (int)number);
 	ANSWERS(hk_dump(&w, false, 0, (uint32_t)number));
-	printf("%d bytes\n", (int)hk_fetch(&w, out, sizeof out));
+	bytes = hk_fetch(&w, out, sizeof out);
+	printf("%d bytes\n", (int)bytes);
 	ANSWERS(hk_show(out, hk_message_length(out), text, 1, &size));
 	ANSWERS(hk_show(out, hk_message_length(out), text, sizeof text, &size));
 	printf("%.*s", (int)size, (const char *)text);
@@ -38,6 +40,16 @@ int main(void)
 	ANSWERS(hk_convert(HK_FREEBSD, HK_44BSD, there, size, out, sizeof out, &size));
 	ANSWERS(hk_write_as(HK_OPENBSD, &w, "a", there, size));
 	ANSWERS(hk_write_as(HK_FREEBSD, &w, "a", there, size));
+	ANSWERS(hk_next_as(HK_OPENBSD, out, bytes, &at, there, sizeof there, &size));
+	printf("%d behind the first, %d bytes\n", at == hk_message_length(out), (int)size);
+	for (last = 1; hk_next_as(HK_OPENBSD, out, bytes, &at, there, sizeof there, &size) == HK_OK; last++)
+		;
+	printf("%d messages, %d at the end\n", last, at == bytes);
+	ANSWERS(hk_next_as(HK_OPENBSD, out, bytes, &at, there, sizeof there, &size));
+	at = 0;
+	ANSWERS(hk_next_as(HK_OPENBSD, out, bytes, &at, there, 1, &size));
+	ANSWERS(hk_next_as(HK_OPENBSD, out, 1, &at, there, sizeof there, &size));
+	printf("%d at the first still\n", at == 0);
 	ANSWERS(hk_redirect(&w, host, address, address));
 	ANSWERS(hk_losing(&w, host));
 	ANSWERS(hk_write(&w, "a", out, hk_message_length(out)));
