@@ -78,14 +78,13 @@ install-library: $(call archive,$(BACKEND)) $(call shared,$(BACKEND))
 	$(INSTALL) -m 644 include/hoiskend.h "$(DESTDIR)$(PREFIX)/include/"
 	$(INSTALL) -m 644 $(call archive,$(BACKEND)) "$(DESTDIR)$(PREFIX)/lib/"
 	$(INSTALL) $(call shared,$(BACKEND)) "$(DESTDIR)$(PREFIX)/lib/$(soname)"
-	ln -sf $(soname) "$(DESTDIR)$(PREFIX)/lib/libhoiskend.so"
 	sed 's|@PREFIX@|$(PREFIX)|' tools/hoiskend.pc > "$(DESTDIR)$(PREFIX)/lib/pkgconfig/hoiskend.pc"
 	$(INSTALL) -m 644 docs/hoiskend.3 "$(DESTDIR)$(PREFIX)/share/man/man3/"
 
 uninstall:
 	rm -f $(foreach crate,$(programs),"$(DESTDIR)$(PREFIX)/bin/$(call called,$(crate))") \
 		$(foreach page,$(notdir $(wildcard docs/*.[13])),"$(DESTDIR)$(PREFIX)/share/man/man$(lastword $(subst ., ,$(page)))/$(page)") \
-		$(foreach file,include/hoiskend.h lib/libhoiskend.a lib/libhoiskend.so lib/$(soname) lib/pkgconfig/hoiskend.pc,\
+		$(foreach file,include/hoiskend.h lib/libhoiskend.a lib/$(soname) lib/pkgconfig/hoiskend.pc,\
 			"$(DESTDIR)$(PREFIX)/$(file)")
 
 # What took long to make is not thrown away by a slip.

@@ -21,7 +21,7 @@ WRAPPED = "-Wl,--wrap=malloc,--wrap=realloc,--wrap=free"
 REFUSING = ["-Wl,--wrap=malloc,--wrap=realloc"]
 SANITIZED = ["-fsanitize=address,undefined", "-fno-sanitize-recover=all", "-g"]
 COMPILERS = {"gcc": [C11], "clang": [C11], "g++": [CPP11, CPP17], "clang++": [CPP11, CPP17]}
-ARCHIVE, SHARED = "-l:libhoiskend.a", "-lhoiskend"
+ARCHIVE, SHARED = "-lhoiskend", "-l:libhoiskend.so.0"
 VALGRIND = ["valgrind", "-q", "--error-exitcode=99", "--leak-check=full", "--show-leak-kinds=definite,possible"]
 
 

@@ -264,4 +264,4 @@ def compare_symbols(sweep, file, *words):
 
 def compare_both(sweep):
     compare_symbols(sweep, sweep.archive)
-    compare_symbols(sweep, sweep.objects() / "libhoiskend.so", "-D")
+    compare_symbols(sweep, sweep.objects() / "libhoiskend.so.0", "-D")

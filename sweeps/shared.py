@@ -20,16 +20,15 @@ def names_in(file, kind):
 
 
 def have_its_name(sweep):
-    """The object is called by loaders as the version says, and its name for the linker leads to it."""
-    folder = sweep.objects()
-    link, version = folder / "libhoiskend.so", (TOP / "tools" / "hoiskend.pc").read_text().split("Version: ")[1]
+    """The object is called by loaders as the version says."""
+    folder, version = sweep.objects(), (TOP / "tools" / "hoiskend.pc").read_text().split("Version: ")[1]
     sweep.claim("the version's first number", NAME.rsplit(".", 1)[1] == version.split(".")[0])
-    sweep.claim("the object's name", names_in(folder / NAME, "SONAME") == [NAME] and os.readlink(link) == NAME)
+    sweep.claim("the object's name", names_in(folder / NAME, "SONAME") == [NAME])
     sweep.claim("what the object wants", set(names_in(folder / NAME, "NEEDED")) <= {"libc.so.6"})
 
 
 def link_programs(sweep):
-    """The programs in C, and each call in C and C++, with -lhoiskend: they want the object, and tell what they should."""
+    """The programs in C, and each call in C and C++, linked with the object: they want the object, and tell what they should."""
     found = {"env": {**os.environ, "LD_LIBRARY_PATH": str(sweep.objects())}}
     for compiler in filter(lambda name: is_there(sweep, name), COMPILERS):
         run_each_call(sweep, compiler, CPP17 if compiler.endswith("++") else C11, SHARED, **found)
@@ -38,7 +37,7 @@ def link_programs(sweep):
         if not others:
             program = compiled(sweep, compiler, source, *C11, *STRICT, linked=SHARED)
             holds = NAME in names_in(program, "NEEDED") and ran(program, input=given, **found) == (told, 0, b"")
-            sweep.claim(f"{source.name} with -lhoiskend", holds)
+            sweep.claim(f"{source.name} with {SHARED}", holds)
 
 
 def backend_of(sweep):
@@ -76,7 +75,7 @@ def take_away(sweep):
     there = sorted(str(path.relative_to(room)) for path in room.rglob("*") if not path.is_dir())
     gone = ran("make", "-s", "-C", TOP, "uninstall", f"PREFIX={room}", "DESTDIR=")
     left = [str(path) for path in room.rglob("*") if not path.is_dir()]
-    wanted = ["include/hoiskend.h", "lib/libhoiskend.a", "lib/libhoiskend.so", f"lib/{NAME}"]
+    wanted = ["include/hoiskend.h", "lib/libhoiskend.a", f"lib/{NAME}"]
     wanted += ["lib/pkgconfig/hoiskend.pc", "share/man/man3/hoiskend.3"]
     sweep.claim(f"what ./library lays: {there}", laid[1] == 0 and there == wanted)
     sweep.claim(f"what make uninstall leaves: {left}", gone[1] == 0 and not left)

@@ -34,7 +34,6 @@ def wrong_object(archive, folder, wrong):
     commands.append([compiler, "-shared", "-o", made, *named, *whole] if alone else [TOP / "tools" / "shared", copy, made])
     for command in commands:
         subprocess.run([*map(str, command)], check=True, capture_output=True)
-    (room / "libhoiskend.so").symlink_to(NAME)
     return room
 
 
