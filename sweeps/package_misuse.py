@@ -28,6 +28,9 @@ def calls_of(world, socket):
         "routes": world.routes, "line": lambda: world.line("read a"), "close": socket.close,
         "loopback": lambda: socket.loopback(True), "write": lambda: socket.write(get), "read": socket.read,
         "write_as": lambda: socket.write_as(System.FREEBSD, get.to(System.FREEBSD)), "lost": socket.lost,
+        "add_route": lambda: socket.add_route("30.0.0.0/8", "10.0.0.2"), "delete_route": lambda: socket.delete_route("10.0.0.0/8"),
+        "change_route": lambda: socket.change_route("10.0.0.0/8", mtu=9), "get_route": lambda: socket.get_route("10.9.9.9"),
+        "lock_route": lambda: socket.lock_route("10.0.0.0/8", inits=1, locks=1),
     }
 
 
