@@ -1,7 +1,8 @@
 """What scripts cost, in instructions that callgrind of valgrind counts: no contract says that a faster way is taken, and where one
-is lost all is answered as before. Each kind's figure is that of costs.txt, or at most a tenth more.
+is lost all is answered as before. Each kind's figure is that of costs.txt, or at most a tenth more. A program is compiled by LLVM or
+by Rattle's own compiler, each of which has its figures; lines that are bad, which no faster way meets, tell which it was.
 
-    sweeps/costs.py PROGRAM        counts each kind, and writes costs.txt anew
+    sweeps/costs.py BY_LLVM BY_RATTLE        counts each kind of two programs, and writes costs.txt anew
 """
 import os
 import random
@@ -10,6 +11,7 @@ import shutil
 import subprocess
 import sys
 import tempfile
+from functools import lru_cache
 from pathlib import Path
 
 TABLE = Path(__file__).resolve().with_name("costs.txt")
@@ -39,6 +41,10 @@ def networks(by_chance, count):
     lengths = by_chance.choices((24, 22, 20, 19, 16), (60, 15, 10, 10, 5), k=count)
     pairs = {(by_chance.randrange(11 << 24, 224 << 24) >> 32 - length << 32 - length, length) for length in lengths}
     return sorted(pair for pair in pairs if pair[0] >> 24 != 127)
+
+
+def bad_lines(by_chance):
+    return ["hello"] * 20_000
 
 
 def to_networks(by_chance):
@@ -77,7 +83,7 @@ def dumps(by_chance):
     return additions(networks(by_chance, 1_000)) + ["dump 1000000"] * 3
 
 
-KINDS = to_networks, to_the_world, within_one_network, come_and_go, an_address_comes_and_goes, dumps
+KINDS = bad_lines, to_networks, to_the_world, within_one_network, come_and_go, an_address_comes_and_goes, dumps
 
 
 def script_of(kind):
@@ -103,12 +109,22 @@ def for_each_line(program, kind, environment=os.environ):
 
 
 def table():
-    return {name: int(count) for name, count in (line.split() for line in TABLE.read_text().splitlines() if line[0] != "#")}
+    """Of each kind what it takes by each compiler."""
+    lines = (line.split() for line in TABLE.read_text().splitlines() if line[0] != "#")
+    return {name: [int(count) for count in counts] for name, *counts in lines}
+
+
+@lru_cache
+def compiler_of(program):
+    """Which of the compilers a program's bad lines look like."""
+    count = for_each_line(program, bad_lines)
+    return min(range(2), key=lambda which: abs(count - table()[bad_lines.__name__][which]))
 
 
 def count_instructions(sweep, kind):
     """A kind's lines take no more instructions than they did, and a tenth."""
-    known, count = table()[kind.__name__], for_each_line(sweep.program, kind, os.environ | sweep.wrongs())
+    known = table()[kind.__name__][compiler_of(sweep.program)]
+    count = for_each_line(sweep.program, kind, os.environ | sweep.wrongs())
     sweep.claim(f"{kind.__name__}: {count:,} instructions a line, and it took {known:,}", count <= known * SLACK)
 
 
@@ -122,5 +138,5 @@ def jobs():
 
 
 if __name__ == "__main__":
-    counts = "".join(f"{kind.__name__} {for_each_line(sys.argv[1], kind)}\n" for kind in KINDS)
-    TABLE.write_text("# Instructions for each line of a script of this kind (costs.py), which sweeps/costs.py PROGRAM writes anew.\n" + counts)
+    counts = "".join(f"{kind.__name__} {' '.join(str(for_each_line(each, kind)) for each in sys.argv[1:3])}\n" for kind in KINDS)
+    TABLE.write_text("# Instructions for each line of a script of a kind, by LLVM and by Rattle's own compiler (costs.py).\n" + counts)
