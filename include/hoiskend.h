@@ -92,12 +92,14 @@ enum {
 	HK_EHOSTUNREACH = 65,
 	/* hk_line was given a line that the grammar doesn't have. */
 	HK_BAD = 256,
-	/* hk_convert was given a message that has no counterpart, the first of these that holds. */
+	/* What is wrong with a message that has no counterpart, or that can't be taken apart: the first of these that holds. */
 	HK_KIND = 257,
 	HK_LENGTH = 258,
 	HK_VERSION = 259,
 	HK_OVERRUN = 260,
-	HK_WIDE = 261
+	HK_WIDE = 261,
+	/* hk_message_address was asked for an address that isn't there. */
+	HK_ABSENT = 262
 };
 
 /* The text of an answer, and of any number. */
@@ -128,6 +130,7 @@ static inline const char *hk_strerror(uint32_t code)
 	case HK_VERSION: return "The version is another";
 	case HK_OVERRUN: return "An address passes the end";
 	case HK_WIDE: return "A number or an address is too wide";
+	case HK_ABSENT: return "The address isn't there";
 	default: return "No answer of Hoiskend";
 	}
 }
@@ -506,6 +509,65 @@ enum { HK_INET_BYTES = 16, HK_MASK_BYTES = 8, HK_QUEUE_BYTES = 8192 };
  */
 uint32_t hk_show(const uint8_t *message, size_t message_n, uint8_t *out, size_t n, size_t *size);
 
+/* ---- a message taken apart ---- */
+
+/* The fields of a message's header. Those that it hasn't are 0: HK_RTM_NEWADDR and HK_RTM_DELADDR have no pid, seq, error,
+ * use_count, inits and metrics, and the others no metric. */
+typedef struct hk_header {
+	uint32_t flags;     /* HK_RTF_.. of its route, or those of its interface's address */
+	uint32_t addrs;     /* which addresses it names, HK_RTA_.. */
+	uint32_t pid;       /* the process that wrote it */
+	uint32_t seq;       /* the number by which its writer knows it */
+	uint32_t error;     /* the errno by which it was refused, or 0 */
+	uint32_t use_count; /* how often its route was used */
+	uint32_t inits;     /* the metrics that it sets, HK_RTV_.. */
+	uint32_t locks;     /* the metrics that are locked, HK_RTV_.. */
+	uint32_t mtu;
+	uint32_t hopcount;
+	uint32_t expire;
+	uint32_t recvpipe;
+	uint32_t sendpipe;
+	uint32_t ssthresh;
+	uint32_t rtt;
+	uint32_t rttvar;
+	uint32_t pksent;
+	uint32_t metric;    /* of its interface's address */
+	uint16_t index;     /* the number of its interface */
+	uint8_t kind;       /* its type, HK_RTM_.. */
+} hk_header;
+
+/*
+ * Puts the fields of a message's header into `header`. This, as all that follows here, is no command: it has no world,
+ * wants no memory, and threads may call it at the same time.
+ *
+ * HK_LENGTH: fewer bytes than the header of its type has, or another length than it says; `header` stays. HK_VERSION:
+ * another version than 3. HK_OVERRUN: an address passes the end. In these two `header` has the fields all the same, since
+ * a socket also hears what was refused.
+ */
+uint32_t hk_message_header(const uint8_t *message, size_t n, hk_header *header);
+
+/* What an address is read as: none of the others, an IPv4 address, a mask, a link-layer address. */
+enum { HK_FORM_BYTES = 0, HK_FORM_INET = 1, HK_FORM_MASK = 2, HK_FORM_LINK = 3 };
+
+/* An address as it stands in a message. */
+typedef struct hk_sockaddr {
+	size_t at;       /* where its bytes begin in the message */
+	uint32_t inet;   /* its number where it is an IPv4 address, or else 0 */
+	uint8_t n;       /* how many bytes it has, without padding; at least 1 */
+	uint8_t form;    /* HK_FORM_.. */
+	uint8_t bits;    /* how many bits it has where it is a mask, or else 0 */
+	uint8_t family;  /* HK_AF_.., or 0 where it has none, as a mask */
+} hk_sockaddr;
+
+/*
+ * Puts the address of this bit, HK_RTA_.., into `address`. HK_RTA_NETMASK and HK_RTA_GENMASK are read as a mask where
+ * they are one; each address is else an IPv4 address of 8 to 16 bytes, a link-layer address of 8 to 32, or bytes.
+ *
+ * HK_LENGTH, HK_VERSION, HK_OVERRUN: as of hk_message_header. HK_ABSENT: no address of this bit is named, or the message
+ * ends before it; or there is no such bit. In all these `address` stays.
+ */
+uint32_t hk_message_address(const uint8_t *message, size_t n, uint32_t bit, hk_sockaddr *address);
+
 /* ---- messages in the layouts of systems of today ---- */
 
 /* The systems: 4.4BSD as it is here, FreeBSD, OpenBSD, NetBSD up to 7 and macOS, these on 64-bit machines that keep the
@@ -527,6 +589,109 @@ enum { HK_44BSD = 0, HK_FREEBSD = 1, HK_OPENBSD = 2, HK_NETBSD = 3, HK_MACOS = 4
  */
 uint32_t hk_convert(uint32_t from, uint32_t to, const uint8_t *message, size_t message_n, uint8_t *out, size_t n,
                     size_t *size);
+
+/* ---- one field of a header: each answers as hk_message_header, and where that leaves `header`, the number stays ---- */
+
+static inline uint32_t hk_message_kind(const uint8_t *message, size_t n, uint8_t *kind)
+{
+	hk_header header;
+	uint32_t code = hk_message_header(message, n, &header);
+
+	if (code != HK_LENGTH)
+		*kind = header.kind;
+	return code;
+}
+
+static inline uint32_t hk_message_flags(const uint8_t *message, size_t n, uint32_t *flags)
+{
+	hk_header header;
+	uint32_t code = hk_message_header(message, n, &header);
+
+	if (code != HK_LENGTH)
+		*flags = header.flags;
+	return code;
+}
+
+static inline uint32_t hk_message_index(const uint8_t *message, size_t n, uint16_t *index)
+{
+	hk_header header;
+	uint32_t code = hk_message_header(message, n, &header);
+
+	if (code != HK_LENGTH)
+		*index = header.index;
+	return code;
+}
+
+static inline uint32_t hk_message_pid(const uint8_t *message, size_t n, uint32_t *pid)
+{
+	hk_header header;
+	uint32_t code = hk_message_header(message, n, &header);
+
+	if (code != HK_LENGTH)
+		*pid = header.pid;
+	return code;
+}
+
+static inline uint32_t hk_message_seq(const uint8_t *message, size_t n, uint32_t *seq)
+{
+	hk_header header;
+	uint32_t code = hk_message_header(message, n, &header);
+
+	if (code != HK_LENGTH)
+		*seq = header.seq;
+	return code;
+}
+
+static inline uint32_t hk_message_errno(const uint8_t *message, size_t n, uint32_t *error)
+{
+	hk_header header;
+	uint32_t code = hk_message_header(message, n, &header);
+
+	if (code != HK_LENGTH)
+		*error = header.error;
+	return code;
+}
+
+static inline uint32_t hk_message_use(const uint8_t *message, size_t n, uint32_t *use_count)
+{
+	hk_header header;
+	uint32_t code = hk_message_header(message, n, &header);
+
+	if (code != HK_LENGTH)
+		*use_count = header.use_count;
+	return code;
+}
+
+static inline uint32_t hk_message_inits(const uint8_t *message, size_t n, uint32_t *inits)
+{
+	hk_header header;
+	uint32_t code = hk_message_header(message, n, &header);
+
+	if (code != HK_LENGTH)
+		*inits = header.inits;
+	return code;
+}
+
+/* A metric, by its bit HK_RTV_... HK_EINVAL: it is no such bit. */
+static inline uint32_t hk_message_metric(const uint8_t *message, size_t n, uint32_t bit, uint32_t *metric)
+{
+	hk_header header;
+	uint32_t code = hk_message_header(message, n, &header);
+
+	if (code == HK_LENGTH)
+		return code;
+	switch (bit) {
+	case HK_RTV_MTU: *metric = header.mtu; return code;
+	case HK_RTV_HOPCOUNT: *metric = header.hopcount; return code;
+	case HK_RTV_EXPIRE: *metric = header.expire; return code;
+	case HK_RTV_RPIPE: *metric = header.recvpipe; return code;
+	case HK_RTV_SPIPE: *metric = header.sendpipe; return code;
+	case HK_RTV_SSTHRESH: *metric = header.ssthresh; return code;
+	case HK_RTV_RTT: *metric = header.rtt; return code;
+	case HK_RTV_RTTVAR: *metric = header.rttvar; return code;
+	default: return HK_EINVAL;
+	}
+}
 
 /* ---- the same with names and ids as C strings ---- */
 

@@ -117,6 +117,9 @@ ANSWERED = {
     "hk_next_as(HK_OPENBSD, out, bytes, &at, there, 1, &size)": ["The buffer is too small"],
     "hk_next_as(HK_OPENBSD, out, 1, &at, there, sizeof there, &size)": ["A malformed request"],
     "hk_write_as(HK_FREEBSD, &w, \"a\", there, size)": ["A malformed request"],
+    "hk_message_header(out, HK_HEADER_BYTES, &header)": ["The length is wrong"],
+    "hk_message_address(out, hk_message_length(out), HK_RTA_BRD, &part)": ["The address isn't there"],
+    "hk_message_metric(out, hk_message_length(out), 3, &found)": ["A malformed request"],
     "hk_attach(&w, \"a long name\", HK_LOOPBACK, 24, link, 0)": ["A malformed request"],
 }
 
@@ -132,6 +135,8 @@ def run_each_call(sweep, compiler, standard, linked=ARCHIVE, **how):
     sweep.claim(f"each call in {compiler}, but {wrong}", (wrong, status, error) == ({}, 0, b""))
     steps = b"1 behind the first, 136 bytes", b"2 messages, 1 at the end", b"1 at the first still"
     sweep.claim(f"message after message in {compiler}", all(step in wrote.splitlines() for step in steps))
+    parts = b"kind 4, flags 321, interface 0", b"1 at 76", b"a mask of 8 bits in 5 bytes"
+    sweep.claim(f"a message's parts in {compiler}", all(part in wrote.splitlines() for part in parts))
     called = {name.removesuffix("_n") for name in functions_in_header(Sources.of_today().header)}
     sweep.claim("each call is made", called <= set(re.findall(r"hk_\w+", EACH_CALL.read_text())))
 

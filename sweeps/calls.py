@@ -40,11 +40,27 @@ class Request(ctypes.Structure):
     ]
 
 
+class Header(ctypes.Structure):
+    _fields_ = [
+        *((name, ctypes.c_uint32) for name in ("flags", "addrs", "pid", "seq", "error", "use_count", "inits", "locks")),
+        *((name, ctypes.c_uint32) for name in (*METRICS, "pksent", "metric")),
+        ("index", ctypes.c_uint16), ("kind", ctypes.c_uint8),
+    ]
+
+
+class Sockaddr(ctypes.Structure):
+    _fields_ = [
+        ("at", ctypes.c_size_t), ("inet", ctypes.c_uint32),
+        *((name, ctypes.c_uint8) for name in ("n", "form", "bits", "family")),
+    ]
+
+
 TYPES = {
     "void": None, "bool": ctypes.c_bool, "uint8_t": ctypes.c_uint8, "uint32_t": ctypes.c_uint32,
     "size_t": ctypes.c_size_t, "uint64_t *": ctypes.POINTER(ctypes.c_uint64), "hk_world *": ctypes.POINTER(Handle),
     "hk_route *": ctypes.POINTER(Route), "const uint8_t *": ctypes.c_void_p, "uint8_t *": ctypes.c_void_p,
     "size_t *": ctypes.POINTER(ctypes.c_size_t), "const hk_request *": ctypes.POINTER(Request),
+    "hk_header *": ctypes.c_void_p, "hk_sockaddr *": ctypes.c_void_p,
 }
 
 
@@ -72,6 +88,14 @@ class Library:
     def convert(self, *given):
         """Calls hk_convert, which has no world."""
         return self.loaded.hk_convert(*given)
+
+    def header(self, *given):
+        """Calls hk_message_header, which has no world."""
+        return self.loaded.hk_message_header(*given)
+
+    def address(self, *given):
+        """Calls hk_message_address, which has no world."""
+        return self.loaded.hk_message_address(*given)
 
     def of_worlds(self):
         """The names of the functions over a world."""

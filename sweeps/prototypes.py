@@ -62,11 +62,12 @@ def functions_in_header(header):
 NUMBERS = {"u8": "uint8_t", "u16": "uint16_t", "u32": "uint32_t", "u64": "uint64_t", "usize": "size_t", "bool": "bool"}
 IN_CRATE = {
     **NUMBERS, "&mut Handle": "hk_world *", "&mut Opening": "hk_world *", "&mut Route": "hk_route *", "&Request": "const hk_request *",
+    "&mut Header": "hk_header *", "&mut Address": "hk_sockaddr *",
     "&mut u64": "uint64_t *", "&mut usize": "size_t *", "&mut Size": "size_t *",
 }
 IN_RUST = {
     **NUMBERS, "*mut World": "hk_world *", "*mut Route": "hk_route *", "*const Request": "const hk_request *",
-    "*mut u64": "uint64_t *",
+    "*mut Header": "hk_header *", "*mut Sockaddr": "hk_sockaddr *", "*mut u64": "uint64_t *",
     "*mut usize": "size_t *", "*const u8": "const uint8_t *", "*mut u8": "uint8_t *",
 }
 SLICES = {"&[u8]": "const uint8_t *", "&mut [u8]": "uint8_t *"}
@@ -101,7 +102,7 @@ def functions_in_rust(rust):
     return functions_in(re.search(r'extern "C" \{(.*?)\n\}', rust, re.S)[1], "", IN_RUST)
 
 
-# ---- a route and a request, as the types and names of their fields
+# ---- a route, a request, a header and an address, as the types and names of their fields
 
 def constant(text, name):
     return int(re.search(rf"\b{name}\b(?:: \w+)?(?: =)? (\d+)", text)[1])
@@ -122,8 +123,18 @@ def struct_in(text, struct):
 def struct_in_python(python, struct):
     fields = re.search(rf"class {struct}\(.*?_fields_ = \[\n(.*?)\n    \]", python, re.S)[1]
     found = re.findall(r'\("(\w+)", ctypes\.c_(\w+)(?: \* (\w+))?\)', fields)
-    types = {"bool": "bool", **{f"uint{bits}": f"uint{bits}_t" for bits in (8, 16, 32)}}
+    types = {"bool": "bool", "size_t": "size_t", **{f"uint{bits}": f"uint{bits}_t" for bits in (8, 16, 32)}}
     return [(types[kind], name, constant(python, n) if n else 1) for name, kind, n in found]
+
+
+def forms_in(text):
+    """The forms of addresses, each by its number."""
+    named = {first or last: int(number) for first, last, number in re.findall(
+        r"\b(?:HK_)?(?:FORM_([A-Z]+)|([A-Z]+)_FORM)(?:: u8)? = (\d)", text)}
+    together = re.search(r"^(FORM_\w+(?:, FORM_\w+)*) = ([\d, ]+)$", text, re.M)
+    if together:
+        named.update(zip((name[5:] for name in together[1].split(", ")), map(int, together[2].split(", "))))
+    return named
 
 
 def as_bytes(route):
@@ -175,6 +186,15 @@ def differences(sources):
         "the route in Rust": struct_in_header(sources.header, "hk_route") == struct_in(sources.rust, "Route"),
         "the request": struct_in_header(sources.header, "hk_request") == struct_in(sources.crate, "Request") != [],
         "the request in Rust": struct_in_header(sources.header, "hk_request") == struct_in(sources.rust, "Request"),
+        "the header": struct_in_header(sources.header, "hk_header") == struct_in(sources.crate, "Header") != [],
+        "the header in Rust": struct_in_header(sources.header, "hk_header") == struct_in(sources.rust, "Header"),
+        "the header in Python": struct_in_header(sources.header, "hk_header") == struct_in_python(sources.python, "Header"),
+        "the address": struct_in_header(sources.header, "hk_sockaddr") == struct_in(sources.crate, "Address") != [],
+        "the address in Rust": struct_in_header(sources.header, "hk_sockaddr") == struct_in(sources.rust, "Sockaddr"),
+        "the address in Python": struct_in_header(sources.header, "hk_sockaddr") == struct_in_python(sources.python, "Sockaddr"),
+        "the forms": forms_in(sources.header) == forms_in(sources.crate) != {},
+        "the forms in Rust": forms_in(sources.rust).items() <= forms_in(sources.header).items() and forms_in(sources.rust) != {},
+        "the forms in Python": forms_in(sources.python).items() <= forms_in(sources.header).items() and forms_in(sources.python) != {},
         "the route in Python": struct_in_header(sources.header, "hk_route") == struct_in_python(sources.python, "Route"),
         "the request in Python": struct_in_header(sources.header, "hk_request") == struct_in_python(sources.python, "Request"),
         "errnos of the header": errnos_in_header(sources.header) == errnos_in_crate(sources.errnos) != {},
@@ -206,10 +226,18 @@ SLIPS = [
     ("header", "hk_show(const uint8_t *message, size_t message_n, uint8_t *out, size_t n",
      "functions of the header and Rust", "hk_show(uint8_t *out, size_t n, const uint8_t *message, size_t message_n"),
     ("header", "static inline uint32_t hk_shut(hk", "inline functions", "static inline uint32_t hk_shutdown(hk"),
-    ("header", "\tuint16_t index;", "the route", "\tuint32_t index;"),
+    ("header", "\tuint16_t flags;", "the route", "\tuint32_t flags;"),
     ("header", "#define HK_LINK_BYTES 32", "the route", "#define HK_LINK_BYTES 31"),
-    ("header", "\tuint32_t locks;", "the request", "\tuint16_t locks;"),
+    ("header", "\tuint8_t prefix;", "the request", "\tuint16_t prefix;"),
     ("rust", "    pub(crate) genmask: u8,\n", "the request in Rust", ""),
+    ("header", "\tuint32_t pksent;", "the header", "\tuint16_t pksent;"),
+    ("header", "HK_FORM_MASK = 2", "the forms", "HK_FORM_MASK = 3"),
+    ("rust", "    pub(crate) pksent: u32,\n", "the header in Rust", ""),
+    ("rust", "    pub(crate) form: u8,\n", "the address in Rust", ""),
+    ("rust", "FORM_LINK: u8 = 3", "the forms in Rust", "FORM_LINK: u8 = 2"),
+    ("python", '        ("use_count", ctypes.c_uint32),\n', "the header in Python", ""),
+    ("python", '("at", ctypes.c_size_t)', "the address in Python", '("at", ctypes.c_uint32)'),
+    ("python", "FORM_INET, FORM_MASK, FORM_LINK = 1, 2, 3", "the forms in Python", "FORM_INET, FORM_MASK, FORM_LINK = 1, 3, 2"),
     ("header", "HK_ENOSPC = 28,", "errnos of the header", "HK_ENOSPC = 29,"),
     ("header", 'case HK_ENOSPC: return "Too', "errnos of the header", 'case HK_ENOSPC: return "To'),
     ("header", "HK_BAD = 256", "the answer to a bad line", "HK_BAD = 255"),

@@ -38,6 +38,18 @@ def link_programs(sweep):
             program = compiled(sweep, compiler, source, *C11, *STRICT, linked=SHARED)
             holds = NAME in names_in(program, "NEEDED") and ran(program, input=given, **found) == (told, 0, b"")
             sweep.claim(f"{source.name} with {SHARED}", holds)
+    link_by_name(sweep, found)
+
+
+def link_by_name(sweep, found):
+    """-lhoiskend takes the object where a folder has it by the linker's name, and no archive."""
+    folder = Path(tempfile.mkdtemp(dir=sweep.folder))
+    (folder / "libhoiskend.so").symlink_to(sweep.objects() / NAME)
+    words = [*C11, *STRICT, f"-I{sweep.out / 'include'}", EXAMPLES / "first_script.c", f"-L{folder}", "-lhoiskend"]
+    built = ran(os.environ.get("CC", "cc"), *words, "-o", folder / "program")
+    told = ran(folder / "program", **found)
+    holds = NAME in names_in(folder / "program", "NEEDED") and told == (told_of(sweep, first_script()), 0, b"")
+    sweep.claim(f"first_script.c with -lhoiskend: {built[2][-300:]}", holds)
 
 
 def backend_of(sweep):

@@ -9,6 +9,7 @@ from in_words import Shows, messages_of
 from layouts import SYSTEMS
 from libraries import library
 from misuse import MOST_WRITE
+from parts import BITS, Parts
 from prototypes import Sources, constant
 
 MOST_GIVEN = 8
@@ -39,6 +40,12 @@ class Painted(Library):
     def convert(self, *given):
         return self.on_stack("hk_convert", *given)
 
+    def header(self, *given):
+        return self.on_stack("hk_message_header", *given)
+
+    def address(self, *given):
+        return self.on_stack("hk_message_address", *given)
+
     def on_stack(self, name, *given):
         function, depth = getattr(self.loaded, name), ctypes.c_ulong()
         words = (ctypes.c_size_t * MOST_GIVEN)(*map(word, given))
@@ -48,8 +55,8 @@ class Painted(Library):
 
 
 def tell(painted, example):
-    """A world that is told an example by calls, and one that is told it by lines; and its messages in words and in other
-    layouts."""
+    """A world that is told an example by calls, and one that is told it by lines; and its messages in words, taken
+    apart and in other layouts."""
     for tell_line in (World.told, World.line):
         world = World(painted)
         world.open()
@@ -57,9 +64,12 @@ def tell(painted, example):
             tell_line(world, line)
         world.line(b"write a " + b"00" * MOST_WRITE)
         world.close()
-    shows, converts = Shows(painted), Converts(painted)
+    shows, converts, parts = Shows(painted), Converts(painted), Parts(painted)
     for message in (*messages_of(example), bytes(MOST_WRITE)):
         shows.text(message)
+        parts.header(message)
+        for bit in BITS:
+            parts.address(message, bit)
         for system in SYSTEMS:
             converts.answer("bsd44", system, message)
 

@@ -6,7 +6,7 @@ import subprocess
 import tempfile
 from pathlib import Path
 
-from calls import BAD, INVALID, LEFT_OUT, NO_MEMORY, OK, Library
+from calls import BAD, INVALID, LEFT_OUT, NO_MEMORY, OK, Header, Library, Sockaddr
 
 # What a library that starves says that there is no memory for, by what such a call is given last or first.
 STARVED = {("hk_redirect", -1, 0), ("hk_packet", 0, 0), ("hk_write_n", -1, 4096)}
@@ -43,12 +43,14 @@ class WrongLibrary(Library):
     long-names    takes the first 8 bytes of a longer name
     shares        has one world for all
     reopens       opens an open world anew
-    scribbles     writes to the room of hk_fetch, hk_text, hk_show and hk_convert also where it is too short
+    scribbles     writes to the room of hk_fetch, hk_text, hk_show and hk_convert also where it is too short, and to that of
+                  a message's part where there is none
     forgets       empties the last answer where a call is refused for its parameters
-    welcomes      answers a closed world 0, and so a text or a message that doesn't fit
-    cuts          shows or converts a message without its last byte
+    welcomes      answers a closed world 0, and so a text or a message that doesn't fit, and an address that isn't there
+    cuts          shows, converts or takes apart a message without its last byte
+    mixes         has a message's gateway for its destination, and the other way round
     turns         has OpenBSD's layout for FreeBSD's, and the other way round
-    excuses       answers each message that has no counterpart with the first fault
+    excuses       answers each message that has no counterpart, or is none, with the first fault
     starves       answers now and then that there is no memory: to an author 0.0.0.0, to a packet for it, and to a message of
                   4,096 bytes
     """
@@ -93,3 +95,17 @@ class WrongLibrary(Library):
         if self.wrong == "excuses" and code > BAD:
             return BAD + 1
         return OK if self.wrong == "welcomes" and code == LEFT_OUT else code
+
+    def header(self, message, n, header):
+        if self.wrong == "scribbles":
+            ctypes.memset(header, 0, ctypes.sizeof(Header))
+        code = super().header(message, n - (self.wrong == "cuts" and n > 0), header)
+        return BAD + 1 if self.wrong == "excuses" and code > BAD else code
+
+    def address(self, message, n, bit, address):
+        if self.wrong == "scribbles":
+            ctypes.memset(address, 0, ctypes.sizeof(Sockaddr))
+        if self.wrong == "mixes":
+            bit = {1: 2, 2: 1}.get(bit, bit)
+        code = super().address(message, n, bit, address)
+        return OK if self.wrong == "welcomes" and code > BAD else code

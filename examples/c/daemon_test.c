@@ -135,7 +135,10 @@ static void requests_are_answered(void)
 {
 	hk_world world = HK_CLOSED;
 	hk_route route;
+	hk_header header;
+	hk_sockaddr mask;
 	uint8_t heard[HK_QUEUE_BYTES];
+	size_t n;
 	struct daemon daemon = start(&world);
 
 	CHECK(want_route(&daemon, HK_ADDRESS(172, 16, 1, 0), HK_ADDRESS(10, 0, 0, 254)) == HK_OK);
@@ -150,9 +153,11 @@ static void requests_are_answered(void)
 
 	/* the witness hears the reply, with the daemon's pid and seq */
 	CHECK(hk_read(&world, "witness") == HK_OK);
-	CHECK(hk_fetch(&world, heard, sizeof heard) == END && heard[HK_AT_KIND] == HK_RTM_ADD);
-	CHECK(get(heard + HK_AT_PID) == 88 && get(heard + HK_AT_SEQ) == 1);
-	CHECK(get(heard + HK_AT_FLAGS) == (WANTED | HK_RTF_DONE));
+	n = hk_fetch(&world, heard, sizeof heard);
+	CHECK(n == END && hk_message_header(heard, n, &header) == HK_OK);
+	CHECK(header.kind == HK_RTM_ADD && header.pid == 88 && header.seq == 1);
+	CHECK(header.flags == (WANTED | HK_RTF_DONE) && header.error == 0);
+	CHECK(hk_message_address(heard, n, HK_RTA_NETMASK, &mask) == HK_OK && mask.bits == 24);
 
 	/* what is there already is no fault to this daemon; a gateway out of reach is */
 	CHECK(want_route(&daemon, HK_ADDRESS(172, 16, 1, 0), HK_ADDRESS(10, 0, 0, 254)) == HK_OK);

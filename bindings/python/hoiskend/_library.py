@@ -49,6 +49,8 @@ uint32_t hk_line(hk_world *world, const uint8_t *line, size_t n);
 size_t hk_fetch(hk_world *world, uint8_t *out, size_t n);
 size_t hk_text(hk_world *world, uint8_t *out, size_t n);
 uint32_t hk_show(const uint8_t *message, size_t message_n, uint8_t *out, size_t n, size_t *size);
+uint32_t hk_message_header(const uint8_t *message, size_t n, hk_header *header);
+uint32_t hk_message_address(const uint8_t *message, size_t n, uint32_t bit, hk_sockaddr *address);
 uint32_t hk_convert(uint32_t from, uint32_t to, const uint8_t *message, size_t message_n, uint8_t *out, size_t n,
                     size_t *size);
 """
@@ -96,6 +98,44 @@ class Request(ctypes.Structure):
     ]
 
 
+class Header(ctypes.Structure):
+    _fields_ = [
+        ("flags", ctypes.c_uint32),
+        ("addrs", ctypes.c_uint32),
+        ("pid", ctypes.c_uint32),
+        ("seq", ctypes.c_uint32),
+        ("error", ctypes.c_uint32),
+        ("use_count", ctypes.c_uint32),
+        ("inits", ctypes.c_uint32),
+        ("locks", ctypes.c_uint32),
+        ("mtu", ctypes.c_uint32),
+        ("hopcount", ctypes.c_uint32),
+        ("expire", ctypes.c_uint32),
+        ("recvpipe", ctypes.c_uint32),
+        ("sendpipe", ctypes.c_uint32),
+        ("ssthresh", ctypes.c_uint32),
+        ("rtt", ctypes.c_uint32),
+        ("rttvar", ctypes.c_uint32),
+        ("pksent", ctypes.c_uint32),
+        ("metric", ctypes.c_uint32),
+        ("index", ctypes.c_uint16),
+        ("kind", ctypes.c_uint8),
+    ]
+
+
+class Sockaddr(ctypes.Structure):
+    _fields_ = [
+        ("at", ctypes.c_size_t),
+        ("inet", ctypes.c_uint32),
+        ("n", ctypes.c_uint8),
+        ("form", ctypes.c_uint8),
+        ("bits", ctypes.c_uint8),
+        ("family", ctypes.c_uint8),
+    ]
+
+
+FORM_INET, FORM_MASK, FORM_LINK = 1, 2, 3
+
 RESULTS = {"void": None, "uint32_t": ctypes.c_uint32, "size_t": ctypes.c_size_t}
 PARAMETERS = {
     "bool": ctypes.c_bool,
@@ -105,6 +145,8 @@ PARAMETERS = {
     "hk_world *": ctypes.POINTER(Handle),
     "hk_route *": ctypes.POINTER(Route),
     "const hk_request *": ctypes.POINTER(Request),
+    "hk_header *": ctypes.POINTER(Header),
+    "hk_sockaddr *": ctypes.POINTER(Sockaddr),
     "const uint8_t *": ctypes.c_char_p,
     "uint8_t *": ctypes.c_char_p,
     "uint64_t *": ctypes.POINTER(ctypes.c_uint64),
@@ -198,3 +240,15 @@ def convert(source: int, to: int, message: bytes) -> tuple[int, bytes]:
     size, out = ctypes.c_size_t(), ctypes.create_string_buffer(MOST_CONVERTED)
     code = calls.hk_convert(source, to, message, len(message), out, MOST_CONVERTED, size)
     return code, out.raw[: size.value]
+
+
+def header(message: bytes) -> tuple[int, Header]:
+    """What hk_message_header answers, and the fields."""
+    found = Header()
+    return calls.hk_message_header(message, len(message), found), found
+
+
+def address(message: bytes, bit: int) -> tuple[int, Sockaddr]:
+    """What hk_message_address answers, and the address."""
+    found = Sockaddr()
+    return calls.hk_message_address(message, len(message), bit, found), found

@@ -3,8 +3,9 @@ from __future__ import annotations
 
 from dataclasses import dataclass
 from ipaddress import IPv4Address
-from typing import Optional, Union
+from typing import Union
 
+from . import _library
 from .net_route import AF_INET, AF_LINK, INET_BYTES, LINK_BYTES, RTA
 
 MASKS = RTA.NETMASK | RTA.GENMASK
@@ -79,30 +80,18 @@ def rounded(size: int) -> int:
     return max(4, size + -size % 4)
 
 
-def mask_in(data: bytes) -> Optional[int]:
-    """How many bits the mask of these bytes has, where they are one."""
-    if data[0] > 16:
-        return None
-    mask = int.from_bytes(data[4:8].ljust(4, b"\0"), "big")
-    bits = mask.bit_count() if hasattr(mask, "bit_count") else bin(mask).count("1")
-    return bits if mask == mask_number(bits) else None
-
-
 def mask_number(bits: int) -> int:
     return (1 << 32) - (1 << (32 - bits))
 
 
-def address_in(bit: RTA, data: bytes) -> Address:
-    """The address of these bytes at this bit, without padding."""
-    bits = mask_in(data) if bit & MASKS else None
-    if bits is not None:
-        return bits
-    family = data[1] if len(data) > 1 else 0
-    if family == AF_INET and 8 <= data[0] <= INET_BYTES:
-        return IPv4Address(data[4:8])
-    if family == AF_LINK and FRONT_OF_LINK <= data[0] <= LINK_BYTES:
-        return LinkAddress(data)
-    return data
+def address_in(message: bytes, found: _library.Sockaddr) -> Address:
+    """The address that the library found in a message."""
+    data = message[found.at :][: found.n]
+    if found.form == _library.FORM_INET:
+        return IPv4Address(found.inet)
+    if found.form == _library.FORM_MASK:
+        return int(found.bits)
+    return LinkAddress(data) if found.form == _library.FORM_LINK else data
 
 
 def bytes_of(bit: RTA, address: AddressLike) -> bytes:

@@ -6,7 +6,7 @@ from enum import IntEnum
 from typing import Dict, Iterator, Mapping, NamedTuple, Union
 
 from . import _library
-from .addresses import Address, AddressLike, address_in, bytes_of, rounded
+from .addresses import Address, AddressLike, address_in, bytes_of
 from .errors import Fault, MessageError, check
 from .net_route import AT, HEADER_BYTES, IFA_AT, IFA_HEADER_BYTES, MESSAGE_BYTES, RTA, RTF, RTM, RTM_VERSION, RTV
 
@@ -86,7 +86,8 @@ class Message:
     data: bytes
 
     def __post_init__(self) -> None:
-        if len(self.data) < header_of(self.data)[1] or self.length != len(self.data):
+        object.__setattr__(self, "data", bytes(memoryview(self.data)))
+        if _library.header(self.data)[0] == Fault.LENGTH:
             raise MessageError(Fault.LENGTH)
 
     @classmethod
@@ -131,8 +132,12 @@ class Message:
         return int.from_bytes(self.data[at : at + width], "big")
 
     @property
+    def _header(self) -> _library.Header:
+        return _library.header(self.data)[1]
+
+    @property
     def length(self) -> int:
-        return self.field("length")
+        return len(self.data)
 
     @property
     def version(self) -> int:
@@ -141,7 +146,7 @@ class Message:
     @property
     def kind(self) -> Union[RTM, int]:
         """Its type, or the number of one that has no name."""
-        kind = self.field("kind")
+        kind: int = self._header.kind
         try:
             return RTM(kind)
         except ValueError:
@@ -150,64 +155,54 @@ class Message:
     @property
     def index(self) -> int:
         """The number of its interface."""
-        return self.field("index")
+        return int(self._header.index)
 
     @property
     def flags(self) -> RTF:
-        return RTF(self.field("flags"))
+        return RTF(self._header.flags)
 
     @property
     def pid(self) -> int:
         """The process that wrote it."""
-        return self.field("pid")
+        return int(self._header.pid)
 
     @property
     def seq(self) -> int:
         """The number by which its writer knows it."""
-        return self.field("seq")
+        return int(self._header.seq)
 
     @property
     def errno(self) -> int:
         """Why it was refused, or 0; `Errno(message.errno)` has its name."""
-        return self.field("errno")
+        return int(self._header.error)
 
     @property
     def use(self) -> int:
         """How often its route was used."""
-        return self.field("use")
+        return int(self._header.use_count)
 
     @property
     def inits(self) -> RTV:
         """Which metrics it sets."""
-        return RTV(self.field("inits"))
+        return RTV(self._header.inits)
 
     @property
     def metrics(self) -> Metrics:
-        return Metrics(*map(self.field, Metrics._fields))
+        header = self._header
+        return Metrics(*(getattr(header, name) for name in Metrics._fields))
 
     @property
     def metric(self) -> int:
         """Of RTM.NEWADDR and RTM.DELADDR."""
-        return self.field("metric")
+        return int(self._header.metric)
 
     @property
     def addresses(self) -> Dict[RTA, Address]:
         """The addresses that are there, in their order: IPv4 addresses, of a mask the number of its bits, link-layer
         addresses, and bytes of what is none of these. Raises MessageError."""
-        return {bit: address_in(bit, data) for bit, data in self.slots()}
-
-    def slots(self) -> Iterator[tuple[RTA, bytes]]:
-        """The bytes of each address that is there, without padding. Raises MessageError."""
-        if self.version != RTM_VERSION:
-            raise MessageError(Fault.VERSION)
-        at, addrs = header_of(self.data)[1], self.field("addrs")
-        for bit in RTA:
-            if addrs & bit and at < len(self.data):
-                size = self.data[at]
-                if at + size > len(self.data):
-                    raise MessageError(Fault.OVERRUN)
-                yield bit, self.data[at : at + max(size, 1)]
-                at += rounded(size)
+        check(_library.header(self.data)[0])
+        found = ((bit, *_library.address(self.data, bit)) for bit in RTA)
+        return {bit: address_in(self.data, address) for bit, code, address in found if code == 0}
 
     def to(self, system: System) -> bytes:
         """The message in the layout of another system."""

@@ -62,6 +62,48 @@ pub(crate) struct Request {
     pub(crate) link: [u8; LINK_BYTES],
 }
 
+/// The fields of a message's header as the library writes them.
+#[repr(C)]
+#[derive(Clone, Copy, Default)]
+pub(crate) struct Header {
+    pub(crate) flags: u32,
+    pub(crate) addrs: u32,
+    pub(crate) pid: u32,
+    pub(crate) seq: u32,
+    pub(crate) error: u32,
+    pub(crate) use_count: u32,
+    pub(crate) inits: u32,
+    pub(crate) locks: u32,
+    pub(crate) mtu: u32,
+    pub(crate) hopcount: u32,
+    pub(crate) expire: u32,
+    pub(crate) recvpipe: u32,
+    pub(crate) sendpipe: u32,
+    pub(crate) ssthresh: u32,
+    pub(crate) rtt: u32,
+    pub(crate) rttvar: u32,
+    pub(crate) pksent: u32,
+    pub(crate) metric: u32,
+    pub(crate) index: u16,
+    pub(crate) kind: u8,
+}
+
+/// An address in a message as the library writes it.
+#[repr(C)]
+#[derive(Clone, Copy, Default)]
+pub(crate) struct Sockaddr {
+    pub(crate) at: usize,
+    pub(crate) inet: u32,
+    pub(crate) n: u8,
+    pub(crate) form: u8,
+    pub(crate) bits: u8,
+    pub(crate) family: u8,
+}
+
+pub(crate) const FORM_INET: u8 = 1;
+pub(crate) const FORM_MASK: u8 = 2;
+pub(crate) const FORM_LINK: u8 = 3;
+
 #[rustfmt::skip]
 extern "C" {
     fn hk_open(world: *mut World) -> u32;
@@ -94,6 +136,8 @@ extern "C" {
     fn hk_fetch(world: *mut World, out: *mut u8, n: usize) -> usize;
     fn hk_text(world: *mut World, out: *mut u8, n: usize) -> usize;
     fn hk_show(message: *const u8, message_n: usize, out: *mut u8, n: usize, size: *mut usize) -> u32;
+    fn hk_message_header(message: *const u8, n: usize, header: *mut Header) -> u32;
+    fn hk_message_address(message: *const u8, n: usize, bit: u32, address: *mut Sockaddr) -> u32;
     fn hk_convert(
         from: u32, to: u32, message: *const u8, message_n: usize, out: *mut u8, n: usize, size: *mut usize,
     ) -> u32;
@@ -302,6 +346,26 @@ pub(crate) fn convert(from: u32, to: u32, message: &[u8]) -> Result<Vec<u8>, u32
     };
     match code {
         0 => Ok(new[..size].to_vec()),
+        _ => Err(code),
+    }
+}
+
+/// What is wrong with a message, by its code, and the fields of its header where its length is right.
+pub(crate) fn header(message: &[u8]) -> (u32, Header) {
+    let mut header = Header::default();
+    // SAFETY: as for the calls on a world, and this has none.
+    let code = unsafe { hk_message_header(message.as_ptr(), message.len(), &mut header) };
+    (code, header)
+}
+
+/// The address of this bit in a message, or the code for which there is none.
+pub(crate) fn address(message: &[u8], bit: u32) -> Result<Sockaddr, u32> {
+    let mut address = Sockaddr::default();
+    // SAFETY: as for the calls on a world, and this has none.
+    let code =
+        unsafe { hk_message_address(message.as_ptr(), message.len(), bit, &mut address) };
+    match code {
+        0 => Ok(address),
         _ => Err(code),
     }
 }

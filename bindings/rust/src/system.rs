@@ -43,6 +43,12 @@ const FAULTS: [(Fault, &str); 5] = [
 ];
 
 impl Fault {
+    /// The fault of this code, where it is one's.
+    pub(crate) fn of(code: u32) -> Option<Fault> {
+        let found = FAULTS.iter().find(|(fault, _)| *fault as u32 == code);
+        found.map(|(fault, _)| *fault)
+    }
+
     /// The errno by which a write of such a message is refused.
     pub fn errno(self) -> Errno {
         match self {
@@ -73,8 +79,6 @@ impl Error for Fault {}
 /// assert_eq!(convert(System::FreeBsd, System::Bsd44, &there), Err(Fault::Length));
 /// ```
 pub fn convert(from: System, to: System, message: &[u8]) -> Result<Vec<u8>, Fault> {
-    sys::convert(from as u32, to as u32, message).map_err(|code| {
-        let fault = FAULTS.iter().find(|(fault, _)| *fault as u32 == code);
-        fault.expect("the library answers faults alone").0
-    })
+    sys::convert(from as u32, to as u32, message)
+        .map_err(|code| Fault::of(code).expect("the library answers faults alone"))
 }

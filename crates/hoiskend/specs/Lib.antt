@@ -4,6 +4,7 @@ pub mod Last
 pub mod Lending
 pub mod Open
 pub mod Owning
+pub mod Parts
 pub mod Requests
 pub mod Runs
 pub mod Sessions

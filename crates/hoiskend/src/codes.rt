@@ -13,3 +13,5 @@ pub const VERSION: u32 = 259;
 pub const OVERRUN: u32 = 260;
 /// The code of a message without a counterpart: a number or an address is too wide.
 pub const WIDE: u32 = 261;
+/// The code of a message whose address isn't there.
+pub const ABSENT: u32 = 262;

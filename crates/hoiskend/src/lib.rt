@@ -1,5 +1,5 @@
-//! The routing core for a program in C: a static library of functions over a handle, one that shows a message in words,
-//! and one that gives it in the layout of another system. `include/hoiskend.h` has their types.
+//! The routing core for a program in C: a static library of functions over a handle, and of some that have a message alone:
+//! they show it in words, take it apart, and give it in the layout of another system. `include/hoiskend.h` has their types.
 #![tactic(auto)]
 
 mod asked;
@@ -12,15 +12,17 @@ mod given;
 mod handle;
 mod held;
 pub mod laws;
+mod parts;
 mod request;
 mod requests;
 mod route;
 mod session;
 mod show;
 
-pub use codes::{BAD, KIND, LENGTH, OVERRUN, VERSION, WIDE};
+pub use codes::{ABSENT, BAD, KIND, LENGTH, OVERRUN, VERSION, WIDE};
 pub use count::Count;
 pub use counted::{Opening, Size};
 pub use handle::Handle;
+pub use parts::{Address, BYTES_FORM, Header, INET_FORM, LINK_FORM, MASK_FORM};
 pub use request::{NO_MASK, Request};
 pub use route::{LINK_BYTES, Route};

@@ -15,9 +15,10 @@ use Rattle.route_msgs.specs.declared.parsed.MsgErr.TheVariants as fault
 use Rattle.message_text.specs.Addresses.{address_lines, one_passes, places}
 use Rattle.message_text.specs.Laws.{TextsTellTheirBytes}
 use Rattle.message_text.specs.Names.{kind_text}
+use Rattle.message_text.specs.Parts.{addrs_in, body_of, fault_in, has_size, header_size, is_about_address}
 use Rattle.message_text.specs.Rows.{Row, kind_row, rows_text}
 use Rattle.message_text.specs.Tables.{ifa_first_rows, ifa_rows, route_first_rows, route_rows}
-use Rattle.message_text.specs.Texts.{addrs_in, body_of, fault_in, fault_text, has_size, header_size, is_about_address, message_text, text_by}
+use Rattle.message_text.specs.Texts.{fault_text, message_text, text_by}
 use Rattle.message_text.proofs.HeadersTold.{ifa_header_told, one_told, route_header_told}
 use Rattle.message_text.proofs.LinesTold.{lines_told}
 use Rattle.message_text.proofs.Parting.{differs}

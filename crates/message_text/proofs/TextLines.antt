@@ -14,9 +14,10 @@ use Rattle.sock_addrs.specs.Rounding.{rounded}
 use Rattle.message_text.specs.Addresses.{Place, address_line, address_lines, address_text, begins, behind, front, places, rest_line}
 use Rattle.message_text.specs.Laws.{AreLines, TextsAreLines, is_line_byte}
 use Rattle.message_text.specs.Names.{address_names, ifa_flag_names, names_from}
+use Rattle.message_text.specs.Parts.{addrs_in, body_of, fault_in, header_size, is_about_address}
 use Rattle.message_text.specs.Rows.{bits_line, number_line, row_text, rows_text}
 use Rattle.message_text.specs.Tables.{ifa_field_rows, ifa_first_rows, ifa_rows, path_rows, route_addrs_rows, route_field_rows, route_first_rows, route_rows, time_rows}
-use Rattle.message_text.specs.Texts.{addrs_in, body_of, fault_in, fault_text, header_size, is_about_address, message_text, text_by}
+use Rattle.message_text.specs.Texts.{fault_text, message_text, text_by}
 use Rattle.message_text.proofs.HeaderLines.{lined, lined_ifa, lined_route}
 use Rattle.message_text.proofs.Joined.{ifa_rows_parted, route_rows_parted}
 use Rattle.message_text.proofs.LinesTold.{printed_address}

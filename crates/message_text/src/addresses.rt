@@ -95,14 +95,14 @@ fn put_address(sockaddr: &[u8], is_mask: bool, room: &mut [u8], at: usize) -> us
 }
 
 /// Whether the address of this bit is named, and begins before the end.
-fn begins(bit: u32, addrs: u32, bytes: &[u8]) -> bool
+pub(crate) fn begins(bit: u32, addrs: u32, bytes: &[u8]) -> bool
     ensures { result ≡ begins_there bit addrs bytes.now }
 {
     addrs & bit != 0 && !bytes.is_empty()
 }
 
 /// The bytes that the first address takes, with its padding where this is there, and those behind it.
-fn parted(bytes: &[u8]) -> (&[u8], &[u8])
+pub(crate) fn parted(bytes: &[u8]) -> (&[u8], &[u8])
     ensures front { result.0.now ≡ front bytes.now }
     ensures short { length result.0.now ≤ 256 }
     ensures behind { result.1.now ≡ drop (rounded (length_byte bytes.now)) bytes.now }

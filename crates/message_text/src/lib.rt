@@ -9,10 +9,12 @@ pub mod laws;
 mod link;
 mod names;
 mod pages;
+mod parts;
 mod room;
 mod rows;
 #[cfg(test)]
 mod tests;
 mod texts;
 
+pub use parts::{MessageHeader, address_of, fault_of, header_of};
 pub use texts::{text_of, text_of_counted};

@@ -1,5 +1,7 @@
 //! Messages in words, worked by hand from the tables of docs/FORMATS.md.
-use crate::text_of;
+use crate::{MessageHeader, address_of, fault_of, header_of, text_of};
+use route_msgs::MsgErr;
+use route_msgs::bits::{RTA_BRD, RTA_NETMASK};
 use std::process::Abort;
 use std::test::Fail;
 
@@ -120,5 +122,33 @@ fn shows_each_message(rt: HostRuntime) -> Result<(), Fail> {
         let shown = text_of(rt.alloc(), &message)?;
         assert_eq!(rt; shown.as_slice(), text.as_bytes(), "{text}");
     }
+    Ok(())
+}
+
+/// The reply to a GET of a network, taken apart, whole and without its last byte.
+#[test]
+fn takes_a_message_apart(rt: HostRuntime) -> Result<(), Fail> {
+    let (head, zeros, tail, _) = &CASES[2];
+    let mut message = Vec::new(rt.alloc());
+    put(&rt, head, &mut message)?;
+    for _zero in 0..*zeros {
+        message.push(0)?;
+    }
+    put(&rt, tail, &mut message)?;
+    assert!(rt; fault_of(&message).is_none());
+    let told = match header_of(&message) {
+        Some(MessageHeader::OfRoute(header)) => (header.kind, header.pid, header.seq),
+        _ => (0, 0, 0),
+    };
+    assert_eq!(rt; told, (4, 100, 1));
+    let mask = match address_of(RTA_NETMASK, &message) {
+        Some((at, bytes)) => (at, bytes.len()),
+        None => (0, 0),
+    };
+    assert_eq!(rt; mask, (108, 5));
+    assert!(rt; address_of(RTA_BRD, &message).is_none());
+    let cut = &message[..message.len() - 1];
+    assert!(rt; matches!(fault_of(cut), Some(MsgErr::Length)));
+    assert!(rt; header_of(cut).is_none());
     Ok(())
 }

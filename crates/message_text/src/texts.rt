@@ -1,20 +1,18 @@
-ghost use Rattle.std.specs.Prelude.{◌≡◌, ◌≤◌, ◌++◌, true, if◌then◌else◌, IfNone, IfOk, length, is_err};
+ghost use Rattle.std.specs.Prelude.{◌≡◌, ◌≤◌, ◌++◌, if◌then◌else◌, IfOk, length, is_err};
 ghost use Rattle.memory.specs.Refusing.{Rises};
-ghost use Rattle.route_msgs.specs.Layout.{number_at};
+ghost use Rattle.message_text.specs.Parts.{header_size as size_of_header, is_about_address as about_address};
 ghost use Rattle.message_text.specs.Room.{so_far, written};
 ghost use Rattle.message_text.specs.Rows.{rows_text};
 ghost use Rattle.message_text.specs.Tables.{ifa_rows, route_rows};
-ghost use Rattle.message_text.specs.Texts.{addrs_in, body_of, fault_in, fault_text, has_size as has_size_said, header_size as size_of_header, is_about_address as about_address, message_text, text_of as text};
+ghost use Rattle.message_text.specs.Texts.{fault_text, message_text, text_of as text};
 
-use crate::addresses::{have_room, put_addresses};
+use crate::addresses::put_addresses;
 use crate::headers::{put_ifa_header, put_route_header};
-use crate::link::byte_at;
 use crate::pages::{ROOM, make_room, put_named_hex, take_all};
+use crate::parts::{addrs, body, fault_of, is_about_address};
 use crate::room::put;
-use crate::rows::{u8_at, u16_at, u32_at};
 use memory::Memory;
 use route_msgs::MsgErr;
-use route_msgs::kinds::{RTM_DELADDR, RTM_NEWADDR, RTM_VERSION};
 use std::alloc::{AllocError, Global};
 
 /// The text of a message, in lines of ASCII that each end in a newline: the type by its name and the other fields of its
@@ -43,66 +41,6 @@ pub fn text_of_counted(
     };
     take_all(&mut out, &room, end, memory)?;
     Ok(out)
-}
-
-/// Whether the type says that a message is about an interface's address.
-fn is_about_address(message: &[u8]) -> bool
-    ensures { result ≡ about_address message.now }
-{
-    let kind = byte_at(message, 3);
-    kind == RTM_NEWADDR || kind == RTM_DELADDR
-}
-
-/// The bytes of its header.
-fn header_size(message: &[u8]) -> usize
-    ensures { result ≡ size_of_header message.now }
-{
-    if is_about_address(message) { 20 } else { 76 }
-}
-
-/// Whether it has its header, and the length that this says.
-fn has_size(message: &[u8]) -> bool
-    ensures size { result ≡ has_size_said message.now }
-    ensures header { result ≡ true → size_of_header message.now ≤ length message.now }
-{
-    message.len() >= header_size(message) && usize::from(u16_at(message, 0)) == message.len()
-}
-
-/// The field that names its addresses.
-fn addrs(message: &[u8]) -> u32
-    requires { size_of_header message.now ≤ length message.now }
-    ensures { result ≡ addrs_in message.now }
-{
-    if is_about_address(message) {
-        u32_at(message, 4)
-    } else {
-        u32_at(message, 12)
-    }
-}
-
-/// The bytes behind its header.
-fn body(message: &[u8]) -> &[u8]
-    requires { size_of_header message.now ≤ length message.now }
-    ensures { result.now ≡ body_of message.now }
-{
-    &message[header_size(message)..]
-}
-
-/// Why bytes are no message, the first reason that holds.
-fn fault_of(message: &[u8]) -> Option<MsgErr>
-    ensures fault { result ≡ fault_in message.now }
-    ensures none { IfNone result (size_of_header message.now ≤ length message.now) }
-{
-    if !has_size(message) {
-        return Some(MsgErr::Length);
-    }
-    if u8_at(message, 2) != RTM_VERSION {
-        return Some(MsgErr::Version);
-    }
-    if have_room(addrs(message), body(message)).is_none() {
-        return Some(MsgErr::Overrun);
-    }
-    None
 }
 
 /// Puts bytes that are no message, and the reason.
