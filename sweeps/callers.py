@@ -94,9 +94,12 @@ def run_programs(sweep, compiler):
         return
     for each in (standard, *others):
         run_each_call(sweep, compiler, each)
+    is_sanitized = is_there(sweep, compiler, *SANITIZED)
+    if is_sanitized:
+        run_each_call(sweep, compiler, standard, more=SANITIZED)
     if standard is CPP11:
         return
-    kinds = [STRICT, [*STRICT, *SANITIZED]] if is_there(sweep, compiler, *SANITIZED) else [STRICT]
+    kinds = [STRICT, [*STRICT, *SANITIZED]] if is_sanitized else [STRICT]
     for words in kinds:
         for source, others, given, told in programs(sweep):
             program = compiled(sweep, compiler, source, *standard, *words, *others)
@@ -124,9 +127,9 @@ ANSWERED = {
 }
 
 
-def run_each_call(sweep, compiler, standard, linked=ARCHIVE, **how):
+def run_each_call(sweep, compiler, standard, linked=ARCHIVE, more=(), **how):
     """A program that makes each call once, in C and in C++."""
-    program = compiled(sweep, compiler, EACH_CALL, *standard, *STRICT, linked=linked)
+    program = compiled(sweep, compiler, EACH_CALL, *standard, *STRICT, *more, linked=linked)
     wrote, status, error = ran(program, **how)
     answered = {}
     for call, text in re.findall(r"^(hk_.*): (.*)$", wrote.decode(), re.M):
