@@ -88,9 +88,12 @@ header_told m = option_map of_either (header_in m)
 -- ---- an address
 
 -- as a gateway
+abbrev pub form_by : Gate → Form
+form_by (gate.Inet address) = AsInet address
+form_by (gate.Link link) = AsLink
+
 abbrev pub form_by_gate : Result Gate BadAddr → Form
-form_by_gate (Ok (gate.Inet address)) = AsInet address
-form_by_gate (Ok (gate.Link link)) = AsLink
+form_by_gate (Ok g) = form_by g
 form_by_gate (Err bad) = AsBytes
 
 -- as a mask where it can be read as one, and else as a gateway

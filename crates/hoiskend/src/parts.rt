@@ -1,13 +1,14 @@
 //! A message taken apart: functions that the library exports beside those over a handle, since they have no world.
 ghost use Rattle.std.specs.Prelude.{◌≡◌, ◌<◌, Some, length, unwrap_or};
 ghost use Rattle.message_text.specs.Parts.{fault_in};
-ghost use Rattle.hoiskend.specs.Parts.{address_code, address_of, address_told, bits_of, code_of as code_of_fault, form_at, header_told, inet_of, number_of, of_address, of_either, of_route};
+ghost use Rattle.sock_addrs.specs.Reading.{read_gate_of, read_mask_of};
+ghost use Rattle.hoiskend.specs.Parts.{address_code, address_of, address_told, bits_of, code_of as code_of_fault, form_at, form_by, form_by_gate, form_by_mask, header_told, inet_of, is_mask as is_mask_bit, number_of, of_address, of_either, of_route};
 
 use crate::codes::{ABSENT, LENGTH, OVERRUN, VERSION};
 use message_text::{MessageHeader, address_of as sockaddr_of, fault_of, header_of};
 use route_msgs::bits::{RTA_GENMASK, RTA_NETMASK};
 use route_msgs::{Header as RouteHeader, IfaHeader, MsgErr};
-use sock_addrs::{Gate, Inet, family_of, read_gate, read_mask};
+use sock_addrs::{Gate, family_of, read_gate, read_mask};
 
 /// The form of an address that is none of the others.
 pub const BYTES_FORM: u8 = 0;
@@ -142,26 +143,51 @@ impl Header {
 /// What an address is read as.
 #[derive(Drop)]
 enum Form {
-    AsInet(Inet),
+    /// The IPv4 address of this number.
+    AsInet(u32),
+    /// The mask of so many bits.
     AsMask(u8),
     AsLink,
     AsBytes,
 }
 
 impl Form {
-    /// What the bytes of an address of this bit are read as: where a mask stands, as one first.
+    /// What the bytes of an address of this bit are read as.
     fn of(bit: u32, sockaddr: &[u8]) -> Form
         ensures { result ≡ form_at bit sockaddr.now }
     {
-        if bit == RTA_NETMASK || bit == RTA_GENMASK {
-            if let Ok(bits) = read_mask(sockaddr) {
-                return Form::AsMask(bits);
-            }
+        if is_mask(bit) {
+            Form::of_mask(sockaddr)
+        } else {
+            Form::of_gate(sockaddr)
         }
+    }
+
+    /// A mask, where they are one.
+    fn of_mask(sockaddr: &[u8]) -> Form
+        ensures { result ≡ form_by_mask (read_mask_of sockaddr.now) sockaddr.now }
+    {
+        match read_mask(sockaddr) {
+            Ok(bits) => Form::AsMask(bits),
+            Err(_) => Form::of_gate(sockaddr),
+        }
+    }
+
+    fn of_gate(sockaddr: &[u8]) -> Form
+        ensures { result ≡ form_by_gate (read_gate_of sockaddr.now) }
+    {
         match read_gate(sockaddr) {
-            Ok(Gate::Inet(address)) => Form::AsInet(address),
-            Ok(Gate::Link(_)) => Form::AsLink,
+            Ok(gate) => Form::by(gate),
             Err(_) => Form::AsBytes,
+        }
+    }
+
+    fn by(gate: Gate) -> Form
+        ensures { result ≡ form_by gate }
+    {
+        match gate {
+            Gate::Inet(address) => Form::AsInet(address.number()),
+            Gate::Link(_) => Form::AsLink,
         }
     }
 
@@ -169,7 +195,7 @@ impl Form {
         ensures { result ≡ inet_of self.now }
     {
         match self {
-            Form::AsInet(address) => address.number(),
+            Form::AsInet(address) => *address,
             _ => 0,
         }
     }
@@ -211,6 +237,13 @@ impl Address {
             family: family_of(sockaddr),
         }
     }
+}
+
+/// Whether an address of this bit is a mask.
+fn is_mask(bit: u32) -> bool
+    ensures { result ≡ is_mask_bit bit }
+{
+    bit == RTA_NETMASK || bit == RTA_GENMASK
 }
 
 /// The code of a fault.
