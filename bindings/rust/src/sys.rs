@@ -362,8 +362,7 @@ pub(crate) fn header(message: &[u8]) -> (u32, Header) {
 pub(crate) fn address(message: &[u8], bit: u32) -> Result<Sockaddr, u32> {
     let mut address = Sockaddr::default();
     // SAFETY: as for the calls on a world, and this has none.
-    let code =
-        unsafe { hk_message_address(message.as_ptr(), message.len(), bit, &mut address) };
+    let code = unsafe { hk_message_address(message.as_ptr(), message.len(), bit, &mut address) };
     match code {
         0 => Ok(address),
         _ => Err(code),
