@@ -75,7 +75,9 @@ CALLS = {
     "dump ask": "hk_dump_size",
 }
 NO_CALL = {"route", "flags X N", "flags X ask"}
-NO_LINE = {"hk_open", "hk_line", "hk_show", "hk_convert", "hk_add_route_n"}
+NO_LINE = {
+    "hk_open", "hk_line", "hk_show", "hk_message_header", "hk_message_address", "hk_convert", "hk_add_route_n",
+}
 EINVAL, ENOBUFS = 22, 55
 
 
