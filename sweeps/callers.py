@@ -138,7 +138,7 @@ def run_each_call(sweep, compiler, standard, linked=ARCHIVE, more=(), **how):
     sweep.claim(f"each call in {compiler}, but {wrong}", (wrong, status, error) == ({}, 0, b""))
     steps = b"1 behind the first, 136 bytes", b"2 messages, 1 at the end", b"1 at the first still"
     sweep.claim(f"message after message in {compiler}", all(step in wrote.splitlines() for step in steps))
-    parts = b"kind 4, flags 321, interface 0", b"1 at 76", b"a mask of 8 bits in 5 bytes"
+    parts = b"kind 4, flags 257, interface 1", b"1 at 76", b"a mask of 8 bits in 5 bytes"
     sweep.claim(f"a message's parts in {compiler}", all(part in wrote.splitlines() for part in parts))
     called = {name.removesuffix("_n") for name in functions_in_header(Sources.of_today().header)}
     sweep.claim("each call is made", called <= set(re.findall(r"hk_\w+", EACH_CALL.read_text())))
