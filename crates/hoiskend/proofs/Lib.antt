@@ -1,4 +1,3 @@
 pub mod CallsRun
 pub mod Memory
 pub mod Results
-pub mod Spared

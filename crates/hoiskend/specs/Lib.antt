@@ -9,3 +9,4 @@ pub mod Requests
 pub mod Runs
 pub mod Sessions
 pub mod Shown
+pub mod There

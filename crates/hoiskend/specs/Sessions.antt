@@ -17,7 +17,6 @@ use Rattle.route_core.specs.World.{World, empty_world}
 use Rattle.route_core.specs.declared.answer.Answer.{Answer}
 use Rattle.route_core.specs.declared.answer.Answer.TheVariants.{Done, Refused, Routed, Dropped, Size, Messages}
 use Rattle.route_core.specs.declared.answer.Choice.{Choice}
-use Rattle.route_core.specs.declared.command.Command.TheVariants.{Read}
 use Rattle.hoiskend.specs.declared.codes.TheConstants.{BAD}
 use Rattle.hoiskend.specs.declared.route.Route.{Route}
 use Rattle.hoiskend.specs.declared.route.TheConstants.{LINK_BYTES}
@@ -50,11 +49,6 @@ abbrev pub is_short : Option (Result Answer Bad) → Bool
 is_short None = false
 is_short (Some (Ok answer)) = lacks_memory answer
 is_short (Some (Err bad)) = false
-
--- the command reads a socket
-abbrev pub is_read : Command → Bool
-is_read (Read id) = true
-is_read c = false
 
 -- the machine's step answers a command, and the code is the number of its answer
 abbrev pub Answers : World → Command → ℕ → Option (Result Answer Bad) → World → Type 0

@@ -18,6 +18,7 @@ mod requests;
 mod route;
 mod session;
 mod show;
+mod there;
 
 pub use codes::{ABSENT, BAD, KIND, LENGTH, OVERRUN, VERSION, WIDE};
 pub use count::Count;
@@ -26,3 +27,4 @@ pub use handle::Handle;
 pub use parts::{Address, BYTES_FORM, Header, INET_FORM, LINK_FORM, MASK_FORM};
 pub use request::{NO_MASK, Request};
 pub use route::{LINK_BYTES, Route};
+pub use there::{Entry, Interface, InterfaceAddress, LINK_ADDRESS_BYTES, NAME_BYTES, Socket};

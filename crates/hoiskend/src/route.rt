@@ -88,8 +88,9 @@ fn link_of(gate: Gate) -> (u8, [u8; LINK_BYTES])
     }
 }
 
-fn number_of(drops: bool) -> u8
-    ensures { result ≡ number drops }
+/// 1 where it is so, or else 0.
+pub(crate) fn number_of(is: bool) -> u8
+    ensures { result ≡ number is }
 {
-    if drops { 1 } else { 0 }
+    if is { 1 } else { 0 }
 }

@@ -3,18 +3,23 @@ ghost use Rattle.std.specs.Prelude.{◌≡◌, ◌-◌, ◌^◌, IfOk, Some, Non
 ghost use Rattle.memory.specs.Refusing.{Rises};
 ghost use Rattle.event_file.specs.Answers.{response_text};
 ghost use Rattle.event_file.specs.Given.{given};
+ghost use Rattle.if_addrs.specs.Told.{interface_told, next_address};
 ghost use Rattle.listeners.specs.Queue.{joined};
-ghost use Rattle.route_core.specs.Step.{Steps, lacks_memory};
+ghost use Rattle.listeners.specs.Told.{socket_told};
+ghost use Rattle.route_core.specs.Told.{stored};
 ghost use Rattle.route_core.specs.declared.answer.Answer.TheVariants.{Messages};
 ghost use Rattle.route_core.specs.declared.command.Command.TheVariants.{Packet, Read as ReadOf};
-ghost use Rattle.hoiskend.specs.Sessions.{fresh, Answers, code_of as code, heard, is_read, is_short, route_in, size_in, text_of, told_by};
+ghost use Rattle.hoiskend.specs.Sessions.{fresh, Answers, code_of as code, heard, is_short, route_in, size_in, text_of, told_by};
 
 use crate::codes::BAD;
 use crate::route::Route;
 use event_file::{Bad, give_text};
+use if_addrs::{AddressTold, InterfaceTold};
+use listeners::SocketTold;
+use mask_table::Rank;
 use memory::Memory;
 use route_core::laws::effects_have_memory;
-use route_core::{Answer, Command, Queue, Received, Said, World};
+use route_core::{Answer, Command, Queue, Received, RouteTold, Said, World};
 use sock_addrs::{Inet, Name};
 use std::alloc::{AllocError, Global};
 use std::marker::Model;
@@ -73,7 +78,7 @@ impl Session {
         if let Command::Read { id } = said {
             return self.read(*id);
         }
-        let answer = answer_to(&mut self.world, said, &mut self.memory);
+        let answer = self.world.answer_counted(said, &mut self.memory);
         self.keep(answer)
     }
 
@@ -136,6 +141,35 @@ impl Session {
         }
     }
 
+    /// The interface with this number.
+    pub(crate) fn interface(&self, index: u16) -> Option<InterfaceTold>
+        ensures { result ≡ interface_told index self.now.world.interfaces }
+    {
+        self.world.interface(index)
+    }
+
+    /// The first address, from this place on, of the interface with this number.
+    pub(crate) fn next_address(&self, index: u16, place: usize) -> Option<AddressTold>
+        ensures { result ≡ next_address index place self.now.world.interfaces }
+    {
+        self.world.next_address(index, place)
+    }
+
+    /// The socket at this place.
+    pub(crate) fn socket(&self, place: usize) -> Option<SocketTold>
+        ensures { result ≡ socket_told place self.now.world.sockets }
+    {
+        self.world.socket(place)
+    }
+
+    /// The route with this key and rank.
+    pub(crate) fn route(&mut self, key: Inet, rank: Rank) -> Option<RouteTold>
+        ensures told { result ≡ stored key rank self.old.world }
+        ensures kept { self.new ≡ self.old }
+    {
+        self.world.route(key, rank)
+    }
+
     /// Takes the messages of a socket. Answers as `obey`.
     fn read(&mut self, id: Name) -> u32
         ensures step { Answers self.old.world (ReadOf id) result self.new.response self.new.world }
@@ -185,42 +219,6 @@ fn told_read(last: &mut Last) -> u32
 {
     *last = Last::Read;
     0
-}
-
-/// Gives a world a command that is no read.
-fn answer_to(world: &mut World, said: &Said<'_>, memory: &mut Memory) -> Answer<'static>
-    requires { is_read said.now ≡ false }
-    ensures step { Steps world.old said.now result world.new }
-    ensures counted { Rises (lacks_memory result) memory.old memory.new }
-{
-    effects_have_memory();
-    match said {
-        Command::Attach {
-            name,
-            kind,
-            type_number,
-            link,
-        } => world.attach_counted(*name, *kind, *type_number, *link, memory),
-        Command::AddAddress {
-            name,
-            address,
-            prefix,
-            cloning,
-            far,
-        } => world.add_address_counted(*name, *address, *prefix, *cloning, *far, memory),
-        Command::RemoveAddress { name, address } => world.remove_address(*name, *address),
-        Command::Open { id, pid, protocol } => world.listen_counted(*id, *pid, *protocol, memory),
-        Command::Close { id } => world.shut(*id),
-        Command::Loopback { id, on } => world.set_loopback(*id, *on),
-        Command::Write { id, bytes } => world.write_counted(*id, bytes.as_slice(), memory),
-        Command::Read { .. } => unreachable!(),
-        Command::Lost { id } => world.lost(*id),
-        Command::Packet { destination } => world.packet_counted(*destination, memory),
-        Command::Redirect(asked) => world.redirect_counted(asked, memory),
-        Command::Losing { destination } => world.losing(*destination),
-        Command::DumpSize { filter } => world.dump_size(*filter),
-        Command::Dump { filter, room } => world.dump_counted(*filter, *room, memory),
-    }
 }
 
 /// Puts the text of a read's answer to the front of `out`, as `give_text`.

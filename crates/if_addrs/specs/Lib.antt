@@ -8,4 +8,5 @@ pub mod Numbered
 pub mod ReferenceLaws
 pub mod SearchLaws
 pub mod Searches
+pub mod Told
 pub mod Wanted

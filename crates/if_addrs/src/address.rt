@@ -1,12 +1,14 @@
 ghost use Rattle.std.specs.Prelude.{◌≡◌, filter};
-ghost use Rattle.std.specs.List.{find};
+ghost use Rattle.std.specs.List.{find, position};
 ghost use Rattle.if_addrs.specs.Interfaces.{new_address, last_of_network, far_of, is_at, reference as reference_to};
 ghost use Rattle.if_addrs.specs.Facts.{facts_of};
 ghost use Rattle.if_addrs.specs.Searches.{answers_to, leads_to, network_holds, longest as longest_of};
+ghost use Rattle.if_addrs.specs.Told.{is_standing, told_before};
 ghost use Rattle.if_addrs.specs.Wanted.{is_wanted, marked, better};
 
 use crate::kind::Kind;
 use crate::reference::{Facts, IfaRef};
+use crate::told::AddressTold;
 use mask_table::{Prefix, Rank, agrees};
 use sock_addrs::Inet;
 use std::marker::Model;
@@ -142,6 +144,13 @@ impl Address {
         agrees(self.address, Rank::of(self.prefix), address)
     }
 
+    /// Whether it was not removed.
+    pub(crate) fn stands(&self) -> bool
+        ensures { result ≡ is_standing self.now }
+    {
+        !self.removed
+    }
+
     /// The address itself.
     pub(crate) fn inet(&self) -> Inet
         ensures { result ≡ self.now.address }
@@ -166,6 +175,17 @@ impl Address {
             cloning: self.cloning,
             routed: self.routed,
             far: self.far,
+        }
+    }
+
+    /// What is told of it, with this place behind it.
+    pub(crate) fn told(&self, next: usize) -> AddressTold
+        ensures { result ≡ told_before next self.now }
+    {
+        AddressTold {
+            address: self.address,
+            facts: self.facts(),
+            next,
         }
     }
 
@@ -211,6 +231,13 @@ pub(crate) fn first(addresses: &[Address], wanted: &Wanted) -> Option<Address>
         }
     }
     None
+}
+
+/// The place of the first that was not removed.
+pub(crate) fn place_of_standing(addresses: &[Address]) -> Option<usize>
+    ensures { result ≡ position is_standing addresses.now }
+{
+    addresses.iter().position(|address| address.stands())
 }
 
 /// The first of the longest prefix among those that are as a search wants them.

@@ -2,12 +2,14 @@ ghost use Rattle.std.specs.Prelude.{◌≡◌, ◌<◌, length, filter, is_err, 
 ghost use Rattle.std.specs.List.{find, list_any, position};
 ghost use Rattle.if_addrs.specs.Interfaces.{addresses_of, attached, has_name as is_named, named, holds, with_one_more, link_text};
 ghost use Rattle.if_addrs.specs.Searches.{standing, nearest as nearest_of, longest as longest_of};
+ghost use Rattle.if_addrs.specs.Told.{next_of, told_of};
 ghost use Rattle.if_addrs.specs.Wanted.{is_wanted, with_marked};
 ghost use Rattle.memory.specs.Refusing.{Rises};
 
 use crate::address::{self, Address, Mark, Wanted};
 use crate::kind::Kind;
 use crate::link_address::LinkAddress;
+use crate::told::{AddressTold, InterfaceTold};
 use memory::Memory;
 use sock_addrs::{Inet, Link, Name};
 use std::alloc::{AllocError, Global};
@@ -139,6 +141,29 @@ impl Interface {
         ensures { result ≡ link_text index self.now }
     {
         Link::of_interface(index, self.type_number, self.name, self.link.as_slice())
+    }
+
+    /// What is told of it.
+    pub(crate) fn told(&self) -> InterfaceTold
+        ensures { result ≡ told_of self.now }
+    {
+        InterfaceTold {
+            name: self.name,
+            kind: self.kind,
+            type_number: self.type_number,
+            link: self.link,
+        }
+    }
+
+    /// What is told of its first address, from this place on, that was not removed.
+    pub(crate) fn next_address(&self, place: usize) -> Option<AddressTold>
+        ensures { result ≡ next_of place self.now }
+    {
+        if place > self.addresses.len() {
+            return None;
+        }
+        let at = place + address::place_of_standing(&self.addresses[place..])?;
+        Some(self.addresses[at].told(at + 1))
     }
 }
 

@@ -11,8 +11,10 @@ pub mod limits;
 mod link_address;
 mod reference;
 mod searches;
+mod told;
 
 pub use interfaces::Interfaces;
 pub use kind::Kind;
 pub use link_address::LinkAddress;
 pub use reference::{Facts, IfaRef};
+pub use told::{AddressTold, InterfaceTold};

@@ -4,3 +4,4 @@ pub mod Queue
 pub mod QueueLaws
 pub mod SocketLaws
 pub mod Sockets
+pub mod Told

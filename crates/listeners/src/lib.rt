@@ -8,8 +8,10 @@ mod listeners;
 mod queue;
 mod room;
 mod socket;
+mod told;
 
 pub use cutting::first_message;
 pub use listeners::Listeners;
 pub use queue::Queue;
 pub use room::Room;
+pub use told::SocketTold;

@@ -3,6 +3,7 @@ ghost use Rattle.std.specs.List.{list_any};
 ghost use Rattle.std.specs.Result.{result_err};
 ghost use Rattle.listeners.specs.Queue.{cut, IsMessage, AreMessages};
 ghost use Rattle.listeners.specs.Sockets.{closed_fault, has_id, listen_fault, opened, pid_of, lost_of, messages_of, delivered, taken, without, with_loopback};
+ghost use Rattle.listeners.specs.Told.{socket_told};
 ghost use Rattle.memory.specs.Refusing.{Rises};
 ghost use Rattle.sock_addrs.specs.Errno.{is_no_memory};
 
@@ -10,6 +11,7 @@ use crate::limits::MOST_SOCKETS;
 use crate::queue::Queue;
 use crate::room::Room;
 use crate::socket::{self, Message, Socket, is_open, place_of};
+use crate::told::SocketTold;
 use memory::Memory;
 use sock_addrs::{Errno, Name};
 use std::alloc::Global;
@@ -191,5 +193,13 @@ impl Listeners {
             }
             None => Err(Errno::EBADF),
         }
+    }
+
+    /// What the socket at this place is, in the order in which they were opened, from 0 on, or `None` where there are not so
+    /// many.
+    pub fn socket(&self, place: usize) -> Option<SocketTold>
+        ensures { result ≡ socket_told place self.now }
+    {
+        Some(self.sockets.get(place)?.told())
     }
 }

@@ -70,6 +70,13 @@ impl Queue {
         &self.bytes
     }
 
+    /// How many bytes its messages have.
+    pub(crate) fn size(&self) -> usize
+        ensures { result ≡ length (joined self.now) }
+    {
+        self.bytes.len()
+    }
+
     /// Moves all messages into another queue, whose own are lost: the memory of the two is exchanged.
     pub(crate) fn move_to(&mut self, other: &mut Queue)
         ensures messages { other.new ≡ self.old }

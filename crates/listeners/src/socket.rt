@@ -3,9 +3,11 @@ ghost use Rattle.std.specs.List.{list_any, position};
 ghost use Rattle.listeners.specs.Open.{seen};
 ghost use Rattle.listeners.specs.Queue.{cut, IsMessage, AreMessages};
 ghost use Rattle.listeners.specs.Sockets.{opened, emptied, has_id, hears, after_delivery, delivered as delivered_to};
+ghost use Rattle.listeners.specs.Told.{told_of};
 
 use crate::queue::Queue;
 use crate::room::Room;
+use crate::told::SocketTold;
 use sock_addrs::Name;
 
 /// A message to be delivered.
@@ -105,6 +107,20 @@ impl Socket {
         ensures empty { seen self.new ≡ emptied (seen self.old) }
     {
         self.queue.move_to(queue);
+    }
+
+    /// What is told of it.
+    pub(crate) fn told(&self) -> SocketTold
+        ensures { result ≡ told_of (seen self.now) }
+    {
+        SocketTold {
+            id: self.id,
+            pid: self.pid,
+            protocol: self.protocol,
+            loopback: self.loopback,
+            waiting: self.queue.size(),
+            lost: self.lost,
+        }
     }
 }
 

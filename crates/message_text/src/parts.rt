@@ -1,8 +1,5 @@
 //! A message taken apart: its faults, its header and its addresses.
-ghost use Rattle.std.specs.Prelude.{◌≡◌, ◌<◌, ◌≤◌, true, IfNone, IfSome, MatchOption, None, Some, length, max, take};
-ghost use Rattle.sock_addrs.specs.Reading.{length_byte};
-ghost use Rattle.route_msgs.specs.Headers.{header_in as route_header_in, metrics_in};
-ghost use Rattle.route_msgs.specs.Layout.{number_at};
+ghost use Rattle.std.specs.Prelude.{◌≡◌, ◌<◌, ◌≤◌, true, IfNone, IfSome, MatchOption, None, Some, length, max};
 ghost use Rattle.message_text.specs.Addresses.{behind, places};
 ghost use Rattle.message_text.specs.Parts.{address_in, addrs_in, body_of, fault_in, from_address, has_size as has_size_said, header_in, header_size as size_of_header, ifa_header_in, is_about_address as about_address};
 
@@ -13,7 +10,7 @@ use route_msgs::bits::{
     RTA_AUTHOR, RTA_BRD, RTA_DST, RTA_GATEWAY, RTA_GENMASK, RTA_IFA, RTA_IFP, RTA_NETMASK,
 };
 use route_msgs::kinds::{RTM_DELADDR, RTM_NEWADDR, RTM_VERSION};
-use route_msgs::{Header, IfaHeader, Metrics, MsgErr};
+use route_msgs::{Header, IfaHeader, MsgErr, read_header};
 
 /// Whether the type says that a message is about an interface's address.
 pub(crate) fn is_about_address(message: &[u8]) -> bool
@@ -94,7 +91,7 @@ pub fn header_of(message: &[u8]) -> Option<MessageHeader>
     Some(if is_about_address(message) {
         MessageHeader::OfAddress(ifa_header(message))
     } else {
-        MessageHeader::OfRoute(route_header(message))
+        MessageHeader::OfRoute(read_header(message))
     })
 }
 
@@ -109,43 +106,6 @@ fn ifa_header(message: &[u8]) -> IfaHeader
         index: u16_at(message, 12),
         padding: u16_at(message, 14),
         metric: u32_at(message, 16),
-    }
-}
-
-fn route_header(message: &[u8]) -> Header
-    requires { 76 ≤ length message.now }
-    ensures { result ≡ route_header_in message.now }
-{
-    Header {
-        kind: u8_at(message, 3),
-        index: u16_at(message, 4),
-        padding: u16_at(message, 6),
-        flags: u32_at(message, 8),
-        addrs: u32_at(message, 12),
-        pid: u32_at(message, 16),
-        seq: u32_at(message, 20),
-        errno: u32_at(message, 24),
-        use_count: u32_at(message, 28),
-        inits: u32_at(message, 32),
-        metrics: route_metrics(message),
-    }
-}
-
-fn route_metrics(message: &[u8]) -> Metrics
-    requires { 76 ≤ length message.now }
-    ensures { result ≡ metrics_in message.now }
-{
-    Metrics {
-        locks: u32_at(message, 36),
-        mtu: u32_at(message, 40),
-        hopcount: u32_at(message, 44),
-        expire: u32_at(message, 48),
-        recvpipe: u32_at(message, 52),
-        sendpipe: u32_at(message, 56),
-        ssthresh: u32_at(message, 60),
-        rtt: u32_at(message, 64),
-        rttvar: u32_at(message, 68),
-        pksent: u32_at(message, 72),
     }
 }
 

@@ -12,6 +12,7 @@ pub mod RefusalLaws
 pub mod Requests
 pub mod Step
 pub mod Telling
+pub mod Told
 pub mod Tried
 pub mod Undisturbed
 pub mod World

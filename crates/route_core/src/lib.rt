@@ -18,6 +18,7 @@ mod request;
 mod telling;
 #[cfg(test)]
 mod tests;
+mod told;
 mod tried;
 mod world;
 mod writes;
@@ -25,10 +26,11 @@ mod written;
 
 pub use answer::{Answer, Choice};
 pub use command::{Command, Said};
-pub use if_addrs::{Kind, LinkAddress};
-pub use listeners::{Queue, Room, first_message};
+pub use if_addrs::{AddressTold, Facts, InterfaceTold, Kind, LinkAddress};
+pub use listeners::{Queue, Room, SocketTold, first_message};
 pub use received::Received;
 pub use route_entries::Route;
 pub use route_ops::NewGateway;
+pub use told::RouteTold;
 pub use world::World;
 pub use written::{Lent, MOST_WRITTEN, Written};

@@ -110,7 +110,7 @@ fn rejection(route: &Route) -> Errno
 }
 
 /// What is told of the route that a packet takes.
-fn choice(interfaces: &Interfaces, route: &Entry<Route>) -> Choice
+pub(crate) fn choice(interfaces: &Interfaces, route: &Entry<Route>) -> Choice
     requires { IsOf route.now.value.ifa interfaces.now }
     ensures { result ≡ choice_of interfaces.now route.now }
 {

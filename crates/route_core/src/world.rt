@@ -1,6 +1,7 @@
-ghost use Rattle.std.specs.Prelude.{◌≡◌, ◌≤◌, length, is_err, IfOk};
+ghost use Rattle.std.specs.Prelude.{◌≡◌, ◌≤◌, false, length, is_err, IfOk};
 ghost use Rattle.memory.specs.Refusing.{Rises};
 ghost use Rattle.route_ops.specs.Standing.{brought};
+ghost use Rattle.route_core.specs.Commands.{is_read};
 ghost use Rattle.route_core.specs.Tried.{answer_to as answer_of, read_or_refused};
 ghost use Rattle.route_core.specs.World.{empty_world};
 ghost use Rattle.route_core.specs.Step.{IsStep, Steps, StepsCounted, effect, lacks_memory};
@@ -95,7 +96,9 @@ impl World {
 
     /// Takes one command whose bytes lie elsewhere, as `step` takes it.
     pub fn obey<'a>(&mut self, said: &Said<'_>, room: &'a mut Room) -> Answer<'a>
-        ensures { Steps self.old said.now result self.new }
+        ensures step { Steps self.old said.now result self.new }
+        ensures few_routes { brought self.old.table self.new.table ≤ 2 }
+        ensures few_messages { length (effect self.old said.now).told ≤ 2 }
     {
         self.obey_counted(said, room, &mut Memory::new())
     }
@@ -108,18 +111,33 @@ impl World {
         room: &'a mut Room,
         memory: &mut Memory,
     ) -> Answer<'a>
-        ensures { StepsCounted self.old said.now result self.new memory.old memory.new }
+        ensures step { StepsCounted self.old said.now result self.new memory.old memory.new }
+        ensures few_routes { brought self.old.table self.new.table ≤ 2 }
+        ensures few_messages { length (effect self.old said.now).told ≤ 2 }
     {
         self.take_command(said, room, memory)
     }
 
-    /// Takes one command, each by the call of its name.
+    /// Takes one command, of which a read alone wants the room.
     fn take_command<'a>(
         &mut self,
         said: &Said<'_>,
         room: &'a mut Room,
         memory: &mut Memory,
     ) -> Answer<'a>
+        ensures step { Steps self.old said.now result self.new }
+        ensures counted { Rises (lacks_memory result) memory.old memory.new }
+    {
+        if let Command::Read { id } = said {
+            return self.take(*id, room);
+        }
+        self.answer_counted(said, memory)
+    }
+
+    /// Takes one command that reads no socket, each by the call of its name; nothing of its answer is lent. The answer is
+    /// ENOBUFS exactly where memory was refused, which is counted.
+    pub fn answer_counted(&mut self, said: &Said<'_>, memory: &mut Memory) -> Answer<'static>
+        requires { is_read said.now ≡ false }
         ensures step { Steps self.old said.now result self.new }
         ensures counted { Rises (lacks_memory result) memory.old memory.new }
     {
@@ -144,7 +162,7 @@ impl World {
             Command::Close { id } => self.shut(*id),
             Command::Loopback { id, on } => self.set_loopback(*id, *on),
             Command::Write { id, bytes } => self.write_counted(*id, bytes.as_slice(), memory),
-            Command::Read { id } => self.take(*id, room),
+            Command::Read { .. } => unreachable!(),
             Command::Lost { id } => self.lost(*id),
             Command::Packet { destination } => self.packet_counted(*destination, memory),
             Command::Redirect(asked) => self.redirect_counted(asked, memory),

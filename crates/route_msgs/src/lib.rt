@@ -25,7 +25,7 @@ pub use message::{MOST_MADE, Message};
 pub use metrics::Metrics;
 pub use parsed::{MsgErr, Parsed, Slot};
 pub use patches::{ERRNO_OFFSET, FLAGS_OFFSET, PID_OFFSET, set_errno, set_flags, set_pid};
-pub use reading::read_message;
+pub use reading::{read_header, read_message};
 pub use sockaddr::Sockaddr;
 pub use writing::{
     put_route_header, put_route_msg, route_msg_size, write_ifa_msg, write_route_msg,

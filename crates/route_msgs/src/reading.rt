@@ -39,7 +39,8 @@ fn has_length(message: &[u8]) -> bool
     message.len() >= 76 && usize::from(u16_at(message, 0)) == message.len()
 }
 
-fn read_header(message: &[u8]) -> Header
+/// The header of a message about a route, by whatever version and lengths it says.
+pub fn read_header(message: &[u8]) -> Header
     requires { 76 ≤ length message.now }
     ensures { result ≡ header_in message.now }
 {

@@ -25,6 +25,7 @@ pub use deleting::{request_delete, request_get};
 pub use looking::{Looked, look_up, resolve, settle_gateway};
 pub use losses::losing;
 pub use notice::{MOST_NOTICES, Notice, Notices};
+pub use reading::route_at;
 pub use redirecting::{NewGateway, redirect};
 pub use spare::{Spare, finish, prepare, prepare_rooms};
 pub use told::Told;

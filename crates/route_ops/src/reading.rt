@@ -2,7 +2,7 @@
 ghost use Rattle.std.specs.Prelude.{◌≡◌, IfSome, is_some, option_map};
 ghost use Rattle.radix_tree.specs.Table.{best_of, entry_at, first_of};
 ghost use Rattle.radix_tree.specs.TableLaws.{StandsIn};
-ghost use Rattle.route_ops.specs.Standing.{IsIfaOf};
+ghost use Rattle.route_ops.specs.Standing.{HasIfaOf, IsIfaOf};
 
 use if_addrs::IfaRef;
 use mask_table::Rank;
@@ -50,7 +50,7 @@ pub(crate) fn best_ifa(
 }
 
 /// The route with this key and rank.
-pub(crate) fn route_at(
+pub fn route_at(
     table: &Table<PackedRoute>,
     visits: &mut Visits,
     key: Inet,
@@ -59,6 +59,7 @@ pub(crate) fn route_at(
     requires turn { visits.old.turn ≡ table.now.turn }
     ensures route { result ≡ entry_at key rank table.now.entries }
     ensures stands { IfSome result (λ r. StandsIn table.now.entries r) }
+    ensures ifa { IfSome result (λ r. HasIfaOf table.now.entries r) }
     ensures counter { visits.new.turn ≡ visits.old.turn }
 {
     match table.get(key, rank, visits) {

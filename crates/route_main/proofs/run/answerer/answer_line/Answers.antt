@@ -9,7 +9,7 @@ pub returns-in_err-write_command_answer-clause-err : goal.returns-in_err-write_c
 returns-in_err-write_command_answer-clause-err g c = on_err c.from_residual.result _ (λ has_bad.
     StopsWithin-line g.W.Write.contents c.args.writer.now c.write_command_answer.new.writer (standing (held c.args.world.now has_bad) c.args.memory.now)
     c.obey_counted-answer.new.memory (option_copied c.args.line) (Ok c.obey_counted-answer.result) c.obey_counted-answer.new.self
-    (c.in-Some-read_said.said, ap command_in (ap option_copied c.in-Some.is) ∙ sym c.read_said.ensures ∙ c.in-Some-read_said.is, c.obey_counted-answer.ensures) c.in_err-write_command_answer.ensures.err)
+    (c.in-Some-read_said.said, ap command_in (ap option_copied c.in-Some.is) ∙ sym c.read_said.ensures ∙ c.in-Some-read_said.is, c.obey_counted-answer.ensures.step) c.in_err-write_command_answer.ensures.err)
 
 pub returns-clause-ok : goal.returns-clause-ok
 returns-clause-ok g c = λ has_bad.
@@ -17,4 +17,4 @@ returns-clause-ok g c = λ has_bad.
     (standing (held c.args.world.now has_bad) c.args.memory.now)
     (standing (held c.obey_counted-answer.new.self (has_bad || false)) c.obey_counted-answer.new.memory)
     (option_copied c.args.line) (Ok c.obey_counted-answer.result)
-    (c.in-Some-read_said.said, ap command_in (ap option_copied c.in-Some.is) ∙ sym c.read_said.ensures ∙ c.in-Some-read_said.is, c.obey_counted-answer.ensures) c.in_ok-write_command_answer.ensures.ok refl
+    (c.in-Some-read_said.said, ap command_in (ap option_copied c.in-Some.is) ∙ sym c.read_said.ensures ∙ c.in-Some-read_said.is, c.obey_counted-answer.ensures.step) c.in_ok-write_command_answer.ensures.ok refl
