@@ -333,6 +333,84 @@ uint32_t hk_dump_size(hk_world *world, bool has_filter, uint32_t filter, uint64_
  */
 uint32_t hk_dump(hk_world *world, bool has_filter, uint32_t filter, uint32_t room);
 
+/* ---- what is there: these calls change nothing, not even the last answer, and want no memory ---- */
+
+/* The room for a name or an id, which a zero ends, and the most bytes of an interface's link-layer address. */
+#define HK_NAME_BYTES 9
+#define HK_LINK_ADDRESS_BYTES 8
+
+typedef struct hk_interface {
+	uint16_t index;                      /* its number */
+	uint8_t kind;                        /* HK_BROADCAST, HK_LOOPBACK or HK_POINTOPOINT */
+	uint8_t type_number;                 /* of <net/if_types.h> */
+	uint8_t name_n;                      /* how many bytes its name has */
+	uint8_t link_n;                      /* how many bytes its link-layer address has */
+	char name[HK_NAME_BYTES];            /* its name, and zeros behind it */
+	uint8_t link[HK_LINK_ADDRESS_BYTES]; /* its link-layer address, and zeros behind it */
+} hk_interface;
+
+/*
+ * Puts the interface with this number into `interface`; they are numbered from 1, without a gap. HK_ENXIO: there are
+ * fewer; `interface` stays.
+ */
+uint32_t hk_interface_of(hk_world *world, uint16_t index, hk_interface *interface);
+
+typedef struct hk_ifaddr {
+	uint32_t address; /* the address itself */
+	uint32_t far;     /* the broadcast address, the address itself (HK_LOOPBACK), the other end (HK_POINTOPOINT) */
+	uint8_t prefix;   /* the bits of its mask */
+	bool cloning;     /* the route that came with it clones */
+	bool routed;      /* that route was added */
+} hk_ifaddr;
+
+/*
+ * Puts the first address of an interface, from `place` on, into `address`, and the place behind it into `place`; so a
+ * loop that begins with 0 goes through all that were not removed, in the order in which they were added:
+ *
+ *     for (place = 0; !hk_next_address(&world, index, &place, &address);)
+ *
+ * HK_ENXIO: no such interface. HK_EADDRNOTAVAIL: it has no address from there on. `place` and `address` stay.
+ */
+uint32_t hk_next_address(hk_world *world, uint16_t index, size_t *place, hk_ifaddr *address);
+
+typedef struct hk_socket {
+	uint64_t lost;          /* how many messages it has lost since it was opened */
+	size_t waiting;         /* how many bytes the messages have that wait for it */
+	uint32_t pid;           /* the process that opened it */
+	uint8_t protocol;       /* the family that it hears, or 0 for all */
+	bool loopback;          /* it hears the replies to its own writes */
+	uint8_t id_n;           /* how many bytes its id has */
+	char id[HK_NAME_BYTES]; /* its id, and zeros behind it */
+} hk_socket;
+
+/*
+ * Puts the open socket at this place into `socket`; the places are from 0, without a gap, in the order in which they
+ * were opened. HK_EBADF: there are fewer; `socket` stays.
+ */
+uint32_t hk_socket_at(hk_world *world, size_t place, hk_socket *socket);
+
+typedef struct hk_entry {
+	hk_route route;     /* as hk_packet tells it */
+	uint32_t use_count; /* how many packets took it; it wraps */
+	uint32_t locks;     /* the metrics that are locked, HK_RTV_.. */
+	uint32_t mtu;
+	uint32_t hopcount;
+	uint32_t expire;
+	uint32_t recvpipe;
+	uint32_t sendpipe;
+	uint32_t ssthresh;
+	uint32_t rtt;
+	uint32_t rttvar;
+	uint32_t pksent;
+	uint8_t genmask;    /* the bits of the mask of its clones, or HK_HOST where it has none */
+} hk_entry;
+
+/*
+ * Puts the route of the table with this key and rank, the bits of its mask or HK_HOST, into `entry`; no use is counted.
+ * HK_EINVAL: another rank than 0 to 33. HK_ESRCH: there is no such route. `entry` stays.
+ */
+uint32_t hk_route_of(hk_world *world, uint32_t key, uint8_t rank, hk_entry *entry);
+
 /* ---- lines ---- */
 
 /*
