@@ -21,6 +21,8 @@ BYTES, OUTS = "const uint8_t *", ("uint64_t *", "hk_route *", "uint8_t *", "size
 NUMBERS = {
     "bool": (False, True),
     "uint8_t": range(256),
+    "uint16_t": [number << shift for number in range(256) for shift in (0, 8)],
+    "size_t": [*range(256), (1 << 32) - 1, (1 << 64) - 1],
     "uint32_t": [
         *(first << 24 | end for first in range(256) for end in ENDS),
         *(number << shift for number in range(256) for shift in (0, 8, 16)),

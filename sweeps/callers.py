@@ -122,6 +122,11 @@ ANSWERED = {
     "hk_write_as(HK_FREEBSD, &w, \"a\", there, size)": ["A malformed request"],
     "hk_message_header(out, HK_HEADER_BYTES, &header)": ["The length is wrong"],
     "hk_message_address(out, hk_message_length(out), HK_RTA_BRD, &part)": ["The address isn't there"],
+    "hk_interface_of(&w, 2, &interface)": ["No such interface"],
+    "hk_next_address(&w, 1, &at, &own)": ["No such address on the interface"],
+    "hk_next_address(&w, 2, &at, &own)": ["No such interface"],
+    "hk_socket_at(&w, 1, &opened)": ["No such socket"], "hk_route_of(&w, host, 32, &entry)": ["No such route"],
+    "hk_route_of(&w, host, 34, &entry)": ["A malformed request"],
     "hk_message_metric(out, hk_message_length(out), 3, &found)": ["A malformed request"],
     "hk_attach(&w, \"a long name\", HK_LOOPBACK, 24, link, 0)": ["A malformed request"],
 }
@@ -140,6 +145,8 @@ def run_each_call(sweep, compiler, standard, linked=ARCHIVE, more=(), **how):
     sweep.claim(f"message after message in {compiler}", all(step in wrote.splitlines() for step in steps))
     parts = b"kind 4, flags 257, interface 1", b"1 at 76", b"a mask of 8 bits in 5 bytes"
     sweep.claim(f"a message's parts in {compiler}", all(part in wrote.splitlines() for part in parts))
+    there = b"le0 with 6 bytes", b"1 address, 1 1", b"a hears 2, of process 100", b"1 packet by 33"
+    sweep.claim(f"what is there in {compiler}", all(each in wrote.splitlines() for each in there))
     called = {name.removesuffix("_n") for name in functions_in_header(Sources.of_today().header)}
     sweep.claim("each call is made", called <= set(re.findall(r"hk_\w+", EACH_CALL.read_text())))
 

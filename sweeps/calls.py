@@ -12,7 +12,7 @@ from prototypes import Sources, functions_in_header
 
 OK, NO_MEMORY, EXISTS, INVALID, LEFT_OUT, BAD = 0, 55, 17, 22, 12, 256
 HOST, INET, LINK = 33, 2, 18
-LINK_BYTES = 32
+LINK_BYTES, NAME_BYTES, LINK_ADDRESS_BYTES = 32, 9, 8
 # What no call has of a `route` line.
 UNTYPED = {b"ifp", b"ifa"}
 
@@ -55,12 +55,42 @@ class Sockaddr(ctypes.Structure):
     ]
 
 
+class Interface(ctypes.Structure):
+    _fields_ = [
+        ("index", ctypes.c_uint16), *((name, ctypes.c_uint8) for name in ("kind", "type_number", "name_n", "link_n")),
+        ("name", ctypes.c_uint8 * NAME_BYTES), ("link", ctypes.c_uint8 * LINK_ADDRESS_BYTES),
+    ]
+
+
+class InterfaceAddress(ctypes.Structure):
+    _fields_ = [
+        ("address", ctypes.c_uint32), ("far", ctypes.c_uint32),
+        *((name, ctypes.c_uint8) for name in ("prefix", "cloning", "routed")),
+    ]
+
+
+class SocketTold(ctypes.Structure):
+    _fields_ = [
+        ("lost", ctypes.c_uint64), ("waiting", ctypes.c_size_t), ("pid", ctypes.c_uint32),
+        *((name, ctypes.c_uint8) for name in ("protocol", "loopback", "id_n")), ("id", ctypes.c_uint8 * NAME_BYTES),
+    ]
+
+
+class Entry(ctypes.Structure):
+    _fields_ = [
+        ("route", Route), *((name, ctypes.c_uint32) for name in ("use_count", "locks", *METRICS, "pksent")),
+        ("genmask", ctypes.c_uint8),
+    ]
+
+
 TYPES = {
-    "void": None, "bool": ctypes.c_bool, "uint8_t": ctypes.c_uint8, "uint32_t": ctypes.c_uint32,
-    "size_t": ctypes.c_size_t, "uint64_t *": ctypes.POINTER(ctypes.c_uint64), "hk_world *": ctypes.POINTER(Handle),
+    "void": None, "bool": ctypes.c_bool, "uint8_t": ctypes.c_uint8, "uint16_t": ctypes.c_uint16,
+    "uint32_t": ctypes.c_uint32, "size_t": ctypes.c_size_t, "uint64_t *": ctypes.POINTER(ctypes.c_uint64), "hk_world *": ctypes.POINTER(Handle),
     "hk_route *": ctypes.POINTER(Route), "const uint8_t *": ctypes.c_void_p, "uint8_t *": ctypes.c_void_p,
     "size_t *": ctypes.POINTER(ctypes.c_size_t), "const hk_request *": ctypes.POINTER(Request),
-    "hk_header *": ctypes.c_void_p, "hk_sockaddr *": ctypes.c_void_p,
+    **dict.fromkeys((
+        "hk_header *", "hk_sockaddr *", "hk_interface *", "hk_ifaddr *", "hk_socket *", "hk_entry *",
+    ), ctypes.c_void_p),
 }
 
 

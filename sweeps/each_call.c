@@ -21,6 +21,10 @@ int main(void)
 	hk_header header;
 	hk_sockaddr part;
 	hk_request request;
+	hk_interface interface;
+	hk_ifaddr own;
+	hk_socket opened;
+	hk_entry entry;
 	hk_world w = HK_CLOSED;
 	ANSWERS(hk_losing(&w, host));
 	ANSWERS(hk_open(&w));
@@ -31,6 +35,23 @@ int main(void)
 	ANSWERS(hk_add_address(&w, "le0", address, 8, true, false, 0));
 	ANSWERS(hk_packet(&w, host, &route));
 	printf("%d %d %d\n", route.rank == HK_HOST, route.family == HK_AF_INET, route.gateway == address);
+	ANSWERS(hk_interface_of(&w, 1, &interface));
+	ANSWERS(hk_interface_of(&w, 2, &interface));
+	printf("%s with %d bytes\n", interface.name, interface.link_n);
+	for (last = 0; hk_next_address(&w, interface.index, &at, &own) == HK_OK; last++)
+		;
+	printf("%d address, %d %d\n", last, own.address == address, own.far == HK_ADDRESS(10, 255, 255, 255));
+	ANSWERS(hk_next_address(&w, 1, &at, &own));
+	ANSWERS(hk_next_address(&w, 2, &at, &own));
+	ANSWERS(hk_socket_at(&w, 0, &opened));
+	ANSWERS(hk_socket_at(&w, 1, &opened));
+	printf("%s hears %d, of process %d\n", opened.id, opened.protocol, (int)opened.pid);
+	ANSWERS(hk_route_of(&w, HK_ADDRESS(10, 0, 0, 0), 8, &entry));
+	ANSWERS(hk_route_of(&w, host, HK_HOST, &entry));
+	printf("%d packet by %d\n", (int)entry.use_count, entry.route.rank);
+	ANSWERS(hk_route_of(&w, host, 32, &entry));
+	ANSWERS(hk_route_of(&w, host, 34, &entry));
+	at = 0;
 	ANSWERS(hk_dump_size(&w, false, 0, &number));
 	printf("%d bytes\n", (int)number);
 	ANSWERS(hk_dump(&w, false, 0, (uint32_t)number));

@@ -12,6 +12,8 @@ KINDS = 3
 START = (b"if le0 broadcast 6 080020010203", b"addr le0 10.0.0.1/8 cloning", b"open a 100 any")
 ASK = b"dump 100000"
 FILLED = 0xA5
+# The bytes of a room that each struct fits into.
+ROOM = 128
 
 
 class Outs:
@@ -20,11 +22,11 @@ class Outs:
     def __init__(self):
         self.number = ctypes.c_uint64(FILLED)
         self.route = Route.from_buffer_copy(bytes([FILLED]) * ctypes.sizeof(Route))
-        self.room = ctypes.create_string_buffer(bytes([FILLED]) * 64)
+        self.room = ctypes.create_string_buffer(bytes([FILLED]) * ROOM)
         self.request = Request(destination=0x1E000000, prefix=8, genmask=HOST, family=INET, gateway=0x0A000002)
 
     def stay(self):
-        return self.number.value == FILLED and {*bytes(self.route), *self.room.raw[:64]} == {FILLED}
+        return self.number.value == FILLED and {*bytes(self.route), *self.room.raw[:ROOM]} == {FILLED}
 
 
 def each_call(outs):
@@ -48,8 +50,12 @@ def each_call(outs):
         "hk_dump_size": (False, 0, size),
         "hk_dump": (False, 0, 1000),
         "hk_line": (b"dump ask",),
-        "hk_fetch": (room, 64),
-        "hk_text": (room, 64),
+        "hk_interface_of": (1, room),
+        "hk_next_address": (1, size, room),
+        "hk_socket_at": (0, room),
+        "hk_route_of": (0x0A000000, 8, room),
+        "hk_fetch": (room, ROOM),
+        "hk_text": (room, ROOM),
     }
 
 

@@ -77,6 +77,7 @@ CALLS = {
 NO_CALL = {"route", "flags X N", "flags X ask"}
 NO_LINE = {
     "hk_open", "hk_line", "hk_show", "hk_message_header", "hk_message_address", "hk_convert", "hk_add_route_n",
+    "hk_interface_of", "hk_next_address", "hk_socket_at", "hk_route_of",
 }
 EINVAL, ENOBUFS = 22, 55
 

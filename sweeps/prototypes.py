@@ -62,12 +62,14 @@ def functions_in_header(header):
 NUMBERS = {"u8": "uint8_t", "u16": "uint16_t", "u32": "uint32_t", "u64": "uint64_t", "usize": "size_t", "bool": "bool"}
 IN_CRATE = {
     **NUMBERS, "&mut Handle": "hk_world *", "&mut Opening": "hk_world *", "&mut Route": "hk_route *", "&Request": "const hk_request *",
-    "&mut Header": "hk_header *", "&mut Address": "hk_sockaddr *",
+    "&mut Header": "hk_header *", "&mut Address": "hk_sockaddr *", "&mut Interface": "hk_interface *",
+    "&mut InterfaceAddress": "hk_ifaddr *", "&mut Socket": "hk_socket *", "&mut Entry": "hk_entry *",
     "&mut u64": "uint64_t *", "&mut usize": "size_t *", "&mut Size": "size_t *",
 }
 IN_RUST = {
     **NUMBERS, "*mut World": "hk_world *", "*mut Route": "hk_route *", "*const Request": "const hk_request *",
-    "*mut Header": "hk_header *", "*mut Sockaddr": "hk_sockaddr *", "*mut u64": "uint64_t *",
+    "*mut Header": "hk_header *", "*mut Sockaddr": "hk_sockaddr *", "*mut Interface": "hk_interface *",
+    "*mut InterfaceAddress": "hk_ifaddr *", "*mut SocketState": "hk_socket *", "*mut Entry": "hk_entry *", "*mut u64": "uint64_t *",
     "*mut usize": "size_t *", "*const u8": "const uint8_t *", "*mut u8": "uint8_t *",
 }
 SLICES = {"&[u8]": "const uint8_t *", "&mut [u8]": "uint8_t *"}
@@ -102,7 +104,21 @@ def functions_in_rust(rust):
     return functions_in(re.search(r'extern "C" \{(.*?)\n\}', rust, re.S)[1], "", IN_RUST)
 
 
-# ---- a route, a request, a header and an address, as the types and names of their fields
+# ---- structs, as the types and names of their fields
+
+# The structs by what they are, each with its name in the header, the crate, Rust and Python.
+STRUCTS = {
+    "route": ("hk_route", "Route", "Route", "Route"),
+    "request": ("hk_request", "Request", "Request", "Request"),
+    "header": ("hk_header", "Header", "Header", "Header"),
+    "address": ("hk_sockaddr", "Address", "Sockaddr", "Sockaddr"),
+    "interface": ("hk_interface", "Interface", "Interface", "Interface"),
+    "interface's address": ("hk_ifaddr", "InterfaceAddress", "InterfaceAddress", "InterfaceAddress"),
+    "socket": ("hk_socket", "Socket", "SocketState", "SocketState"),
+    "entry": ("hk_entry", "Entry", "Entry", "Entry"),
+}
+# What stands in a struct as a whole one.
+WITHIN = {"Route": "hk_route"}
 
 def constant(text, name):
     return int(re.search(rf"\b{name}\b(?:: \w+)?(?: =)? (\d+)", text)[1])
@@ -117,13 +133,14 @@ def struct_in_header(header, struct):
 def struct_in(text, struct):
     fields = re.search(rf"pub(?:\(crate\))? struct {struct} \{{(.*?)\n\}}", without_comments(text), re.S)[1]
     found = re.findall(r"pub(?:\(crate\))? (\w+): (?:\[(\w+); (\w+)\]|(\w+)),", fields)
-    return [(NUMBERS[kind or of], name, constant(text, n) if n else 1) for name, of, n, kind in found]
+    types = {**NUMBERS, **WITHIN}
+    return [(types[kind or of], name, constant(text, n) if n else 1) for name, of, n, kind in found]
 
 
 def struct_in_python(python, struct):
     fields = re.search(rf"class {struct}\(.*?_fields_ = \[\n(.*?)\n    \]", python, re.S)[1]
-    found = re.findall(r'\("(\w+)", ctypes\.c_(\w+)(?: \* (\w+))?\)', fields)
-    types = {"bool": "bool", "size_t": "size_t", **{f"uint{bits}": f"uint{bits}_t" for bits in (8, 16, 32)}}
+    found = re.findall(r'\("(\w+)", (?:ctypes\.c_)?(\w+)(?: \* (\w+))?\)', fields)
+    types = {"bool": "bool", "size_t": "size_t", **WITHIN, **{f"uint{bits}": f"uint{bits}_t" for bits in (8, 16, 32, 64)}}
     return [(types[kind], name, constant(python, n) if n else 1) for name, kind, n in found]
 
 
@@ -137,9 +154,20 @@ def forms_in(text):
     return named
 
 
-def as_bytes(route):
-    """A bool is a byte of 0 or 1."""
-    return [("uint8_t" if kind == "bool" else kind, name, n) for kind, name, n in route]
+def as_bytes(struct):
+    """A bool is a byte of 0 or 1, and a char is one."""
+    return [("uint8_t" if kind in ("bool", "char") else kind, name, n) for kind, name, n in struct]
+
+
+def structs_alike(sources):
+    """Whether each struct of the header is the crate's, that of Rust and that of Python."""
+    same = {}
+    for what, (c, crate, rust, python) in STRUCTS.items():
+        struct = struct_in_header(sources.header, c)
+        same[f"the {what}"] = as_bytes(struct) == as_bytes(struct_in(sources.crate, crate)) != []
+        same[f"the {what} in Rust"] = as_bytes(struct) == as_bytes(struct_in(sources.rust, rust))
+        same[f"the {what} in Python"] = as_bytes(struct) == as_bytes(struct_in_python(sources.python, python))
+    return same
 
 
 # ---- errnos, each as its number and its text
@@ -182,21 +210,10 @@ def differences(sources):
         "functions of the header and Rust": header == functions_in_rust(sources.rust),
         "functions of the header and Python": header == functions_in_header(sources.python),
         "inline functions": inline == {name for name in header if name.endswith("_n")},
-        "the route": as_bytes(struct_in_header(sources.header, "hk_route")) == as_bytes(struct_in(sources.crate, "Route")) != [],
-        "the route in Rust": struct_in_header(sources.header, "hk_route") == struct_in(sources.rust, "Route"),
-        "the request": struct_in_header(sources.header, "hk_request") == struct_in(sources.crate, "Request") != [],
-        "the request in Rust": struct_in_header(sources.header, "hk_request") == struct_in(sources.rust, "Request"),
-        "the header": struct_in_header(sources.header, "hk_header") == struct_in(sources.crate, "Header") != [],
-        "the header in Rust": struct_in_header(sources.header, "hk_header") == struct_in(sources.rust, "Header"),
-        "the header in Python": struct_in_header(sources.header, "hk_header") == struct_in_python(sources.python, "Header"),
-        "the address": struct_in_header(sources.header, "hk_sockaddr") == struct_in(sources.crate, "Address") != [],
-        "the address in Rust": struct_in_header(sources.header, "hk_sockaddr") == struct_in(sources.rust, "Sockaddr"),
-        "the address in Python": struct_in_header(sources.header, "hk_sockaddr") == struct_in_python(sources.python, "Sockaddr"),
+        **structs_alike(sources),
         "the forms": forms_in(sources.header) == forms_in(sources.crate) != {},
         "the forms in Rust": forms_in(sources.rust).items() <= forms_in(sources.header).items() and forms_in(sources.rust) != {},
         "the forms in Python": forms_in(sources.python).items() <= forms_in(sources.header).items() and forms_in(sources.python) != {},
-        "the route in Python": struct_in_header(sources.header, "hk_route") == struct_in_python(sources.python, "Route"),
-        "the request in Python": struct_in_header(sources.header, "hk_request") == struct_in_python(sources.python, "Request"),
         "errnos of the header": errnos_in_header(sources.header) == errnos_in_crate(sources.errnos) != {},
         "errnos in Rust": errnos_in_rust(sources.rust_errnos) == errnos_in_crate(sources.errnos),
         "errnos in Python": errnos_in_python(sources.python_errnos) == errnos_in_crate(sources.errnos),
@@ -228,14 +245,20 @@ SLIPS = [
     ("header", "static inline uint32_t hk_shut(hk", "inline functions", "static inline uint32_t hk_shutdown(hk"),
     ("header", "\tuint16_t flags;", "the route", "\tuint32_t flags;"),
     ("header", "#define HK_LINK_BYTES 32", "the route", "#define HK_LINK_BYTES 31"),
-    ("header", "\tuint8_t prefix;", "the request", "\tuint16_t prefix;"),
-    ("rust", "    pub(crate) genmask: u8,\n", "the request in Rust", ""),
-    ("header", "\tuint32_t pksent;", "the header", "\tuint16_t pksent;"),
+    ("header", "\tuint32_t destination;", "the request", "\tuint16_t destination;"),
+    ("rust", "    pub(crate) destination: u32,\n", "the request in Rust", ""),
+    ("header", "\tuint32_t metric;", "the header", "\tuint16_t metric;"),
+    ("header", "\tuint32_t use_count; /* how", "the entry", "\tuint16_t use_count; /* how"),
+    ("header", "#define HK_NAME_BYTES 9", "the interface", "#define HK_NAME_BYTES 8"),
+    ("header", "\tbool routed;", "the interface's address", "\tuint32_t routed;"),
+    ("header", "\tsize_t waiting;", "the socket", "\tuint32_t waiting;"),
+    ("rust", "    pub(crate) waiting: usize,\n", "the socket in Rust", ""),
+    ("python", '        ("waiting", ctypes.c_size_t),\n', "the socket in Python", ""),
     ("header", "HK_FORM_MASK = 2", "the forms", "HK_FORM_MASK = 3"),
-    ("rust", "    pub(crate) pksent: u32,\n", "the header in Rust", ""),
+    ("rust", "    pub(crate) metric: u32,\n", "the header in Rust", ""),
     ("rust", "    pub(crate) form: u8,\n", "the address in Rust", ""),
     ("rust", "FORM_LINK: u8 = 3", "the forms in Rust", "FORM_LINK: u8 = 2"),
-    ("python", '        ("use_count", ctypes.c_uint32),\n', "the header in Python", ""),
+    ("python", '        ("metric", ctypes.c_uint32),\n', "the header in Python", ""),
     ("python", '("at", ctypes.c_size_t)', "the address in Python", '("at", ctypes.c_uint32)'),
     ("python", "FORM_INET, FORM_MASK, FORM_LINK = 1, 2, 3", "the forms in Python", "FORM_INET, FORM_MASK, FORM_LINK = 1, 3, 2"),
     ("header", "HK_ENOSPC = 28,", "errnos of the header", "HK_ENOSPC = 29,"),
@@ -244,7 +267,7 @@ SLIPS = [
     ("crate", "pub extern \"C\" fn hk_redirect(\n    world: &mut Handle,\n    destination: u32,",
      "functions of the header and the crate", "pub extern \"C\" fn hk_redirect(\n    world: &mut Handle,\n"),
     ("crate", "    pub drops: u8,\n", "the route", ""),
-    ("crate", "    pub genmask: u8,\n", "the request", ""),
+    ("crate", "    pub destination: u32,\n", "the request", ""),
     ("rust", "fn hk_losing(world: *mut World, address: u32) -> u32;", "functions of the header and Rust",
      "fn hk_losing(world: *mut World, address: u64) -> u32;"),
     ("rust", "fn hk_close(world: *mut World);", "functions of the header and Rust", ""),

@@ -3,7 +3,7 @@ import ctypes
 import tempfile
 
 from by_calls import steps_of
-from calls import Library, World
+from calls import HOST, Library, World
 from converted import Converts
 from in_words import Shows, messages_of
 from layouts import SYSTEMS
@@ -11,6 +11,7 @@ from libraries import library
 from misuse import MOST_WRITE
 from parts import BITS, Parts
 from prototypes import Sources, constant
+from there import There, routes_of
 
 MOST_GIVEN = 8
 
@@ -63,6 +64,7 @@ def tell(painted, example):
         for line, _ in steps_of(example):
             tell_line(world, line)
         world.line(b"write a " + b"00" * MOST_WRITE)
+        tell_what_is_there(world)
         world.close()
     shows, converts, parts = Shows(painted), Converts(painted), Parts(painted)
     for message in (*messages_of(example), bytes(MOST_WRITE)):
@@ -72,6 +74,14 @@ def tell(painted, example):
             parts.address(message, bit)
         for system in SYSTEMS:
             converts.answer("bsd44", system, message)
+
+
+def tell_what_is_there(world):
+    there = There(world)
+    there.interfaces()
+    there.sockets()
+    for pair in (*routes_of(world), (0, HOST)):
+        there.entry(*pair)
 
 
 def take_little_stack(sweep, examples):

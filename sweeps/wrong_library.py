@@ -6,7 +6,14 @@ import subprocess
 import tempfile
 from pathlib import Path
 
-from calls import BAD, INVALID, LEFT_OUT, NO_MEMORY, OK, Header, Library, Sockaddr
+from calls import (
+    BAD, INVALID, LEFT_OUT, NO_MEMORY, OK, Entry, Header, Interface, InterfaceAddress, Library, Sockaddr, SocketTold,
+)
+
+# What the calls that tell what is in a world write to.
+TOLD = {
+    "hk_interface_of": Interface, "hk_next_address": InterfaceAddress, "hk_socket_at": SocketTold, "hk_route_of": Entry,
+}
 
 # What a library that starves says that there is no memory for, by what such a call is given last or first.
 STARVED = {("hk_redirect", -1, 0), ("hk_packet", 0, 0), ("hk_write_n", -1, 4096)}
@@ -44,13 +51,15 @@ class WrongLibrary(Library):
     shares        has one world for all
     reopens       opens an open world anew
     scribbles     writes to the room of hk_fetch, hk_text, hk_show and hk_convert also where it is too short, and to that of
-                  a message's part where there is none
+                  a message's part or of what is in a world where there is none
     forgets       empties the last answer where a call is refused for its parameters
     welcomes      answers a closed world 0, and so a text or a message that doesn't fit, and an address that isn't there
     cuts          shows, converts or takes apart a message without its last byte
     mixes         has a message's gateway for its destination, and the other way round
     turns         has OpenBSD's layout for FreeBSD's, and the other way round
     excuses       answers each message that has no counterpart, or is none, with the first fault
+    skips         passes over the first interface and the first socket
+    widens        tells the route of a mask that is a bit shorter
     starves       answers now and then that there is no memory: to an author 0.0.0.0, to a packet for it, and to a message of
                   4,096 bytes
     """
@@ -71,6 +80,12 @@ class WrongLibrary(Library):
             handle.core = None
         if self.wrong == "scribbles" and name in ("hk_fetch", "hk_text"):
             ctypes.memset(given[0], 0, given[1])
+        if self.wrong == "scribbles" and name in TOLD:
+            ctypes.memset(given[-1], 0, ctypes.sizeof(TOLD[name]))
+        if self.wrong == "skips" and name in ("hk_interface_of", "hk_socket_at"):
+            given = given[0] + 1, given[1]
+        if self.wrong == "widens" and name == "hk_route_of":
+            given = given[0], max(given[1] - 1, 0), given[2]
         answer = super().make(name, handle, *given)
         if self.wrong == "forgets" and answer == INVALID and not is_closed:
             super().make("hk_line", handle, handle.core, 0)
