@@ -7,7 +7,8 @@ ghost use Rattle.event_file.specs.RouteLine.{address_options, behind_addresses, 
 use crate::numbers::{read_hex, read_inet, read_number, read_prefix};
 use crate::route_words::{MetricWords, RouteWords, Verb, put_composed};
 use crate::texts::read_gate;
-use crate::words::{Options, if_written, is, parted};
+use crate::words::{Options, if_written, is, put_parts};
+use arrayvec::ArrayVec;
 use mask_table::Prefix;
 use route_core::{Lent, MOST_WRITTEN};
 use sock_addrs::{Gate, Inet};
@@ -68,7 +69,10 @@ fn read_destination(word: &[u8]) -> Option<Destination>
             mask: Prefix::new(0),
         });
     }
-    let parts = parted::<2>(b'/', word)?;
+    let mut parts = ArrayVec::<&[u8], 2>::new();
+    if !put_parts(b'/', word, &mut parts) {
+        return None;
+    }
     read_destination_parts(parts.as_slice())
 }
 
@@ -174,12 +178,20 @@ fn read_bits(options: &mut Options) -> Option<BitOptions>
 
 /// Reads the metrics, which stand behind the words of bits and are the last.
 #[inline(always)]
-fn read_metrics(mut options: Options) -> Option<MetricWords>
+fn read_metrics(options: Options) -> Option<MetricWords>
     ensures { result ≡ metric_options (map (λ w. w.now) options.entry.words.now) }
 {
     if options.words.is_empty() {
         return Some(MetricWords::default());
     }
+    read_some_metrics(options)
+}
+
+/// Reads the metrics of a line that has some. It is not inlined: what it makes would else be cleared for each other line.
+#[inline(never)]
+fn read_some_metrics(mut options: Options) -> Option<MetricWords>
+    ensures { result ≡ metric_options (map (λ w. w.now) options.entry.words.now) }
+{
     let mtu = options.word("mtu");
     let hopcount = options.word("hopcount");
     let expire = options.word("expire");

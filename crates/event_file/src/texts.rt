@@ -6,7 +6,8 @@ ghost use Rattle.event_file.specs.Words.{is_name_byte, name_of, interface_kind_o
 
 use crate::hexadecimal;
 use crate::numbers::read_inet;
-use crate::words::{is, parted};
+use crate::words::{is, put_parts};
+use arrayvec::ArrayVec;
 use route_core::{Kind, Lent, LinkAddress, MOST_WRITTEN};
 use sock_addrs::{Gate, Link, Name};
 
@@ -124,6 +125,9 @@ fn read_gate_parts(parts: &[&[u8]]) -> Option<Gate>
 pub(crate) fn read_gate(word: &[u8]) -> Option<Gate>
     ensures { result ≡ gate_of word.now }
 {
-    let parts = parted::<2>(b':', word)?;
+    let mut parts = ArrayVec::<&[u8], 2>::new();
+    if !put_parts(b':', word, &mut parts) {
+        return None;
+    }
     read_gate_parts(parts.as_slice())
 }

@@ -1,5 +1,5 @@
 ghost use Rattle.std.specs.Prelude.{◌≡◌, ◌<◌, [], ◌∷◌, length, map, bytes_eq, option_map, Option, Some, None, MatchBool};
-ghost use Rattle.std.specs.Option.{MatchOption, IfSome, IfNone};
+ghost use Rattle.std.specs.Option.{IfSome, IfNone};
 ghost use Rattle.event_file.specs.Words.{parted_by, option_written, words_behind};
 
 use crate::search::place_of;
@@ -33,18 +33,6 @@ pub(crate) fn cut(byte: u8, text: &[u8]) -> Option<(&[u8], &[u8])>
 {
     let at = place_of(byte, text)?;
     Some((&text[..at], &text[at + 1..]))
-}
-
-/// The parts of a text between the bytes of this value, or `None` where there are more than N.
-pub(crate) fn parted<const N: usize>(byte: u8, text: &[u8]) -> Option<ArrayVec<&[u8], N>>
-    ensures { MatchOption result (N < length (parted_by byte text.now))
-        (λ parts. map (λ p. p.now) parts.items ≡ parted_by byte text.now) }
-{
-    let mut parts = ArrayVec::new();
-    if !put_parts(byte, text, &mut parts) {
-        return None;
-    }
-    Some(parts)
 }
 
 /// Puts the parts of a text between the bytes of this value into a room that has none: one of many words would else be
