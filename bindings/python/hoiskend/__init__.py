@@ -42,12 +42,14 @@ from .errors import (
 )
 from .messages import Message, Metrics, System, convert, messages_in, show
 from .net_route import RTA, RTF, RTM, RTV
-from .world import Dump, Kind, Route, Socket, World
+from .routes import Route
+from .there import Entry, Interface, InterfaceAddress, Kind, SocketState
+from .world import Dump, Socket, World
 
 __all__ = [
     "Address", "AddressLike", "LinkAddress", "EADDRINUSE", "EADDRNOTAVAIL", "EBADF", "EEXIST", "EHOSTUNREACH",
     "EINVAL", "EMFILE", "EMSGSIZE", "ENETUNREACH", "ENOBUFS", "ENOMEM", "ENOSPC", "ENXIO", "EOPNOTSUPP",
     "EPROTONOSUPPORT", "ESRCH", "ETOOMANYREFS", "BadLine", "Errno", "Error", "Fault", "MessageError", "Refused",
-    "Message", "Metrics", "System", "convert", "messages_in", "show", "RTA", "RTF", "RTM", "RTV", "Dump", "Kind",
-    "Route", "Socket", "World",
+    "Message", "Metrics", "System", "convert", "messages_in", "show", "RTA", "RTF", "RTM", "RTV", "Route", "Entry",
+    "Interface", "InterfaceAddress", "Kind", "SocketState", "Dump", "Socket", "World",
 ]

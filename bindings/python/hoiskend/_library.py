@@ -17,6 +17,8 @@ from typing import Any, Callable, Iterator, List, Optional
 NAME = "libhoiskend.so.0"
 VARIABLE = "HOISKEND_LIB"
 LINK_BYTES = 32
+NAME_BYTES = 9
+LINK_ADDRESS_BYTES = 8
 MOST_CONVERTED = 2304
 NO_ROOM = 12
 
@@ -45,6 +47,10 @@ uint32_t hk_get_route_n(hk_world *world, const uint8_t *id, size_t id_n, const h
 uint32_t hk_lock_route_n(hk_world *world, const uint8_t *id, size_t id_n, const hk_request *request);
 uint32_t hk_dump_size(hk_world *world, bool has_filter, uint32_t filter, uint64_t *size);
 uint32_t hk_dump(hk_world *world, bool has_filter, uint32_t filter, uint32_t room);
+uint32_t hk_interface_of(hk_world *world, uint16_t index, hk_interface *interface);
+uint32_t hk_next_address(hk_world *world, uint16_t index, size_t *place, hk_ifaddr *address);
+uint32_t hk_socket_at(hk_world *world, size_t place, hk_socket *socket);
+uint32_t hk_route_of(hk_world *world, uint32_t key, uint8_t rank, hk_entry *entry);
 uint32_t hk_line(hk_world *world, const uint8_t *line, size_t n);
 size_t hk_fetch(hk_world *world, uint8_t *out, size_t n);
 size_t hk_text(hk_world *world, uint8_t *out, size_t n);
@@ -98,6 +104,58 @@ class Request(ctypes.Structure):
     ]
 
 
+class Interface(ctypes.Structure):
+    _fields_ = [
+        ("index", ctypes.c_uint16),
+        ("kind", ctypes.c_uint8),
+        ("type_number", ctypes.c_uint8),
+        ("name_n", ctypes.c_uint8),
+        ("link_n", ctypes.c_uint8),
+        ("name", ctypes.c_uint8 * NAME_BYTES),
+        ("link", ctypes.c_uint8 * LINK_ADDRESS_BYTES),
+    ]
+
+
+class Ifaddr(ctypes.Structure):
+    _fields_ = [
+        ("address", ctypes.c_uint32),
+        ("far", ctypes.c_uint32),
+        ("prefix", ctypes.c_uint8),
+        ("cloning", ctypes.c_bool),
+        ("routed", ctypes.c_bool),
+    ]
+
+
+class Socket(ctypes.Structure):
+    _fields_ = [
+        ("lost", ctypes.c_uint64),
+        ("waiting", ctypes.c_size_t),
+        ("pid", ctypes.c_uint32),
+        ("protocol", ctypes.c_uint8),
+        ("loopback", ctypes.c_bool),
+        ("id_n", ctypes.c_uint8),
+        ("id", ctypes.c_uint8 * NAME_BYTES),
+    ]
+
+
+class Entry(ctypes.Structure):
+    _fields_ = [
+        ("route", Route),
+        ("use_count", ctypes.c_uint32),
+        ("locks", ctypes.c_uint32),
+        ("mtu", ctypes.c_uint32),
+        ("hopcount", ctypes.c_uint32),
+        ("expire", ctypes.c_uint32),
+        ("recvpipe", ctypes.c_uint32),
+        ("sendpipe", ctypes.c_uint32),
+        ("ssthresh", ctypes.c_uint32),
+        ("rtt", ctypes.c_uint32),
+        ("rttvar", ctypes.c_uint32),
+        ("pksent", ctypes.c_uint32),
+        ("genmask", ctypes.c_uint8),
+    ]
+
+
 class Header(ctypes.Structure):
     _fields_ = [
         ("flags", ctypes.c_uint32),
@@ -140,11 +198,16 @@ RESULTS = {"void": None, "uint32_t": ctypes.c_uint32, "size_t": ctypes.c_size_t}
 PARAMETERS = {
     "bool": ctypes.c_bool,
     "uint8_t": ctypes.c_uint8,
+    "uint16_t": ctypes.c_uint16,
     "uint32_t": ctypes.c_uint32,
     "size_t": ctypes.c_size_t,
     "hk_world *": ctypes.POINTER(Handle),
     "hk_route *": ctypes.POINTER(Route),
     "const hk_request *": ctypes.POINTER(Request),
+    "hk_interface *": ctypes.POINTER(Interface),
+    "hk_ifaddr *": ctypes.POINTER(Ifaddr),
+    "hk_socket *": ctypes.POINTER(Socket),
+    "hk_entry *": ctypes.POINTER(Entry),
     "hk_header *": ctypes.POINTER(Header),
     "hk_sockaddr *": ctypes.POINTER(Sockaddr),
     "const uint8_t *": ctypes.c_char_p,
@@ -153,7 +216,7 @@ PARAMETERS = {
     "size_t *": ctypes.POINTER(ctypes.c_size_t),
 }
 # The most that a number may be, which ctypes would cut.
-MOST = {"uint8_t": (1 << 8) - 1, "uint32_t": (1 << 32) - 1}
+MOST = {"uint8_t": (1 << 8) - 1, "uint16_t": (1 << 16) - 1, "uint32_t": (1 << 32) - 1}
 
 
 def by_pkg_config() -> str:

@@ -3,83 +3,18 @@ from __future__ import annotations
 
 import ctypes
 import threading
-from dataclasses import dataclass
-from enum import IntEnum
-from ipaddress import IPv4Address, IPv4Interface, IPv4Network
-from operator import index
+from ipaddress import IPv4Interface
 from types import TracebackType
 from typing import Any, Callable, Dict, List, NamedTuple, Optional, Type, Union
 
 from . import _library
 from ._library import calls
-from .addresses import LinkAddress
 from .errors import EBADF, EINVAL, ENOMEM, EPROTONOSUPPORT, Errno, Fault, MessageError, check
 from .messages import Bytes, Message, System, convert, messages_in
-from .net_route import AF_INET, AF_LINK, RTF
+from .routes import Destination, Gateway, InetLike, Route, key_and_rank, number_of, request_of
+from .there import Entry, Interface, InterfaceAddress, Kind, SocketState, addresses_in, interfaces_in, sockets_in
 
-# What IPv4Address takes.
-InetLike = Union[str, int, bytes, IPv4Address]
-HOST = 33
 MOST_ROOM = (1 << 32) - 1
-
-
-# A network, or an address, which is a host's: "20.0.0.0/8", "20.0.0.1".
-Destination = Union[InetLike, IPv4Network]
-Gateway = Union[InetLike, LinkAddress, None]
-METRICS = "mtu", "hopcount", "expire", "recvpipe", "sendpipe", "ssthresh", "rtt", "rttvar"
-OTHERS = {"flags", "seq", "genmask", "inits", "locks", *METRICS}
-
-
-def request_of(destination: Destination, gateway: Gateway, others: Dict[str, int]) -> _library.Request:
-    """The request that says this, as the library reads it."""
-    if not OTHERS.issuperset(others):
-        raise TypeError(f"a request has no {', '.join(sorted(set(others) - OTHERS))}")
-    if isinstance(destination, str) and "/" in destination:
-        destination = IPv4Network(destination)
-    address = destination.network_address if isinstance(destination, IPv4Network) else destination
-    request = _library.Request(destination=number_of(address), genmask=HOST, prefix=HOST)
-    if isinstance(destination, IPv4Network):
-        request.prefix = destination.prefixlen
-    for name, value in others.items():
-        most = 255 if name == "genmask" else (1 << 32) - 1
-        if not 0 <= index(value) <= most:
-            raise OverflowError(f"{name} isn't from 0 to {most}")
-        setattr(request, name, value)
-    request.inits |= sum(1 << bit for bit, name in enumerate(METRICS) if name in others)
-    if isinstance(gateway, LinkAddress):
-        request.family, request.link_n = AF_LINK, len(gateway.data)
-        request.link[: len(gateway.data)] = gateway.data
-    elif gateway is not None:
-        request.family, request.gateway = AF_INET, number_of(gateway)
-    return request
-
-
-class Kind(IntEnum):
-    """The kinds of interfaces."""
-
-    BROADCAST = 0
-    LOOPBACK = 1
-    POINTOPOINT = 2
-
-
-@dataclass(frozen=True)
-class Route:
-    """The route that a packet takes."""
-
-    key: IPv4Address
-    # The bits of its mask, or None where it is a host's and has none.
-    prefix: Optional[int]
-    gateway: Union[IPv4Address, LinkAddress]
-    # The number of the interface that it leaves by, from 1.
-    index: int
-    flags: RTF
-    # Whether the packet is dropped without an error.
-    drops: bool
-
-    @property
-    def network(self) -> IPv4Network:
-        """What it leads to; of a host's route the host alone."""
-        return IPv4Network((self.key, 32 if self.prefix is None else self.prefix), strict=False)
 
 
 class Dump(NamedTuple):
@@ -87,10 +22,6 @@ class Dump(NamedTuple):
 
     messages: List[Message]
     is_whole: bool
-
-
-def number_of(address: InetLike) -> int:
-    return int(IPv4Address(address))
 
 
 def name_of(name: Union[str, bytes]) -> bytes:
@@ -185,13 +116,9 @@ class World:
 
         Raises EHOSTUNREACH where there is none, ENOBUFS, and of a route that refuses packets ENETUNREACH or EHOSTUNREACH.
         """
-        route = _library.Route()
-        self._do(calls.hk_packet, number_of(destination), route)
-        gateway: Union[IPv4Address, LinkAddress] = IPv4Address(route.gateway)
-        if route.family != AF_INET:
-            gateway = LinkAddress(bytes(route.link)[: route.link_n])
-        prefix = None if route.rank == HOST else route.rank
-        return Route(IPv4Address(route.key), prefix, gateway, route.index, RTF(route.flags), route.drops)
+        found = _library.Route()
+        self._do(calls.hk_packet, number_of(destination), found)
+        return Route.of(found)
 
     def redirect(self, destination: InetLike, gateway: InetLike, author: InetLike) -> None:
         """Follows an ICMP redirect that `author` sent. Raises ENETUNREACH, EINVAL, EHOSTUNREACH, EEXIST or ENOBUFS."""
@@ -231,6 +158,65 @@ class World:
             raise ENOMEM()
         return found
 
+    def interfaces(self) -> List[Interface]:
+        """The interfaces, in the order of their numbers. This, as the three that follow, changes nothing, not even what
+        `text` gives.
+
+        >>> world = World()
+        >>> world.attach("le0", Kind.BROADCAST, 6, bytes(6))
+        >>> [(interface.index, interface.name, interface.kind.name) for interface in world.interfaces()]
+        [(1, b'le0', 'BROADCAST')]
+        """
+        with self._lock:
+            return list(interfaces_in(self._handle))
+
+    def addresses(self, interface: Union[Interface, int]) -> List[InterfaceAddress]:
+        """The addresses of an interface, or of the one with this number, but those that were removed, in the order in which
+        they were added. Raises ENXIO.
+
+        >>> world = World()
+        >>> world.attach("le0", Kind.BROADCAST)
+        >>> world.addresses(1)
+        []
+        >>> world.add_address("le0", "10.0.0.1/8", cloning=True)
+        >>> [(own.prefix, own.far, own.cloning, own.routed) for own in world.addresses(1)]
+        [(8, IPv4Address('10.255.255.255'), True, True)]
+        """
+        number = interface.index if isinstance(interface, Interface) else interface
+        with self._lock:
+            return list(addresses_in(self._handle, number))
+
+    def sockets(self) -> List[SocketState]:
+        """The open sockets, in the order in which they were opened.
+
+        >>> world = World()
+        >>> a = world.listen("a", pid=100)
+        >>> world.attach("lo0", Kind.LOOPBACK, 24)
+        >>> world.add_address("lo0", "127.0.0.1/8")
+        >>> state, = world.sockets()
+        >>> state.socket == a, state.pid, state.lost, state.waiting == sum(map(len, a.read()))
+        (True, 100, 0, True)
+        """
+        with self._lock:
+            return [SocketState.of(found, Socket(self, id)) for id, found in sockets_in(self._handle)]
+
+    def route(self, destination: Destination) -> Entry:
+        """The route of the table with this destination, as `20.0.0.0/8`, or `20.0.0.1` for a host's; no use is counted.
+        Raises ESRCH.
+
+        >>> world = World()
+        >>> world.attach("le0", Kind.BROADCAST)
+        >>> world.add_address("le0", "10.0.0.1/8", cloning=True)
+        >>> world.route("10.0.0.0/8").route.gateway
+        IPv4Address('10.0.0.1')
+        >>> world.route("10.9.9.9")
+        Traceback (most recent call last):
+        hoiskend.errors.ESRCH: ESRCH (3): No such route
+        """
+        found = _library.Entry()
+        self._do(calls.hk_route_of, *key_and_rank(destination), found)
+        return Entry.of(found)
+
     def line(self, line: Union[str, bytes]) -> None:
         """Does what a line of a script says, without its newline, or raises BadLine; `text` is what a transcript has of it,
         and `fetch` has its messages.
@@ -263,7 +249,8 @@ class World:
 
 
 class Socket:
-    """A routing socket of a world, by its id. Once it is closed each call raises EBADF.
+    """A routing socket of a world, by its id; two of the same world and id are equal. Once it is closed each call raises
+    EBADF.
 
     >>> with World() as world, world.listen("a", 100) as a:
     ...     world.attach("lo0", Kind.LOOPBACK, 24)
@@ -274,6 +261,12 @@ class Socket:
 
     def __init__(self, world: World, id: bytes) -> None:
         self.world, self.id = world, id
+
+    def __eq__(self, other: object) -> bool:
+        return isinstance(other, Socket) and self.world is other.world and self.id == other.id
+
+    def __hash__(self) -> int:
+        return hash((self.world, self.id))
 
     def __repr__(self) -> str:
         return f"<Socket {self.id!r}>"

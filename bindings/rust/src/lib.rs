@@ -29,8 +29,10 @@ pub mod net_route;
 mod parts;
 mod request;
 mod route;
+mod structs;
 mod sys;
 mod system;
+mod there;
 mod world;
 
 pub use errno::{Errno, LineError};
@@ -39,4 +41,5 @@ pub use parts::{Address, Metrics};
 pub use request::{Request, SetMetrics};
 pub use route::{Gateway, LinkAddress, Route};
 pub use system::{convert, Fault, System};
+pub use there::{Entry, Interface, InterfaceAddress, SocketState};
 pub use world::{Kind, Socket, World};

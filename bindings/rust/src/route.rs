@@ -92,7 +92,7 @@ impl fmt::Debug for LinkAddress {
 }
 
 /// What stands for the rank of a route without a mask.
-const HOST: u8 = 33;
+pub(crate) const HOST: u8 = 33;
 
 impl From<sys::Route> for Route {
     fn from(route: sys::Route) -> Route {

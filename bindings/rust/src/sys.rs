@@ -3,9 +3,11 @@
 //! `bool`s of Rust. Of what the header has the caller owe, that leaves the C library's heap.
 #![allow(unsafe_code)]
 
+pub(crate) use crate::structs::{
+    Entry, Header, Ifaddr, Interface, Request, Route, Sockaddr, Socket, LINK_BYTES,
+};
 use std::ptr::null_mut;
 
-pub(crate) const LINK_BYTES: usize = 32;
 pub(crate) const AF_INET: u8 = 2;
 pub(crate) const AF_LINK: u8 = 18;
 /// The answer to a line that the grammar doesn't have.
@@ -20,84 +22,6 @@ const NO_MEMORY: u32 = 55;
 #[derive(Debug)]
 struct World {
     core: *mut u8,
-}
-
-/// A route as the library writes it.
-#[repr(C)]
-#[derive(Clone, Copy, Default)]
-pub(crate) struct Route {
-    pub(crate) key: u32,
-    pub(crate) gateway: u32,
-    pub(crate) index: u16,
-    pub(crate) flags: u16,
-    pub(crate) rank: u8,
-    pub(crate) family: u8,
-    pub(crate) drops: bool,
-    pub(crate) link_n: u8,
-    pub(crate) link: [u8; LINK_BYTES],
-}
-
-/// A request for a route as the library reads it.
-#[repr(C)]
-#[derive(Clone, Copy, Default)]
-pub(crate) struct Request {
-    pub(crate) destination: u32,
-    pub(crate) gateway: u32,
-    pub(crate) flags: u32,
-    pub(crate) seq: u32,
-    pub(crate) inits: u32,
-    pub(crate) locks: u32,
-    pub(crate) mtu: u32,
-    pub(crate) hopcount: u32,
-    pub(crate) expire: u32,
-    pub(crate) recvpipe: u32,
-    pub(crate) sendpipe: u32,
-    pub(crate) ssthresh: u32,
-    pub(crate) rtt: u32,
-    pub(crate) rttvar: u32,
-    pub(crate) prefix: u8,
-    pub(crate) genmask: u8,
-    pub(crate) family: u8,
-    pub(crate) link_n: u8,
-    pub(crate) link: [u8; LINK_BYTES],
-}
-
-/// The fields of a message's header as the library writes them.
-#[repr(C)]
-#[derive(Clone, Copy, Default)]
-pub(crate) struct Header {
-    pub(crate) flags: u32,
-    pub(crate) addrs: u32,
-    pub(crate) pid: u32,
-    pub(crate) seq: u32,
-    pub(crate) error: u32,
-    pub(crate) use_count: u32,
-    pub(crate) inits: u32,
-    pub(crate) locks: u32,
-    pub(crate) mtu: u32,
-    pub(crate) hopcount: u32,
-    pub(crate) expire: u32,
-    pub(crate) recvpipe: u32,
-    pub(crate) sendpipe: u32,
-    pub(crate) ssthresh: u32,
-    pub(crate) rtt: u32,
-    pub(crate) rttvar: u32,
-    pub(crate) pksent: u32,
-    pub(crate) metric: u32,
-    pub(crate) index: u16,
-    pub(crate) kind: u8,
-}
-
-/// An address in a message as the library writes it.
-#[repr(C)]
-#[derive(Clone, Copy, Default)]
-pub(crate) struct Sockaddr {
-    pub(crate) at: usize,
-    pub(crate) inet: u32,
-    pub(crate) n: u8,
-    pub(crate) form: u8,
-    pub(crate) bits: u8,
-    pub(crate) family: u8,
 }
 
 pub(crate) const FORM_INET: u8 = 1;
@@ -132,6 +56,10 @@ extern "C" {
     fn hk_losing(world: *mut World, address: u32) -> u32;
     fn hk_dump_size(world: *mut World, has_filter: bool, filter: u32, size: *mut u64) -> u32;
     fn hk_dump(world: *mut World, has_filter: bool, filter: u32, room: u32) -> u32;
+    fn hk_interface_of(world: *mut World, index: u16, interface: *mut Interface) -> u32;
+    fn hk_next_address(world: *mut World, index: u16, place: *mut usize, address: *mut Ifaddr) -> u32;
+    fn hk_socket_at(world: *mut World, place: usize, socket: *mut Socket) -> u32;
+    fn hk_route_of(world: *mut World, key: u32, rank: u8, entry: *mut Entry) -> u32;
     fn hk_line(world: *mut World, line: *const u8, n: usize) -> u32;
     fn hk_fetch(world: *mut World, out: *mut u8, n: usize) -> usize;
     fn hk_text(world: *mut World, out: *mut u8, n: usize) -> usize;
@@ -277,6 +205,27 @@ impl Handle {
 
     pub(crate) fn dump(&mut self, filter: Option<u32>, room: u32) -> u32 {
         unsafe { hk_dump(&mut self.world, filter.is_some(), filter.unwrap_or(0), room) }
+    }
+
+    pub(crate) fn interface_of(&mut self, index: u16, interface: &mut Interface) -> u32 {
+        unsafe { hk_interface_of(&mut self.world, index, interface) }
+    }
+
+    pub(crate) fn next_address(
+        &mut self,
+        index: u16,
+        place: &mut usize,
+        address: &mut Ifaddr,
+    ) -> u32 {
+        unsafe { hk_next_address(&mut self.world, index, place, address) }
+    }
+
+    pub(crate) fn socket_at(&mut self, place: usize, socket: &mut Socket) -> u32 {
+        unsafe { hk_socket_at(&mut self.world, place, socket) }
+    }
+
+    pub(crate) fn route_of(&mut self, key: u32, rank: u8, entry: &mut Entry) -> u32 {
+        unsafe { hk_route_of(&mut self.world, key, rank, entry) }
     }
 
     pub(crate) fn line(&mut self, line: &[u8]) -> u32 {

@@ -75,7 +75,7 @@ impl Socket {
 /// ```
 #[derive(Debug)]
 pub struct World {
-    handle: Handle,
+    pub(crate) handle: Handle,
 }
 
 impl World {
