@@ -30,11 +30,11 @@ class Sources:
     @staticmethod
     def of_today():
         crate = "".join(path.read_text() for path in sorted(CRATE.glob("src/*.rt")))
-        rust, rust_errnos = ((RUST / "src" / name).read_text() for name in ("sys.rs", "errno.rs"))
+        structs, calls, rust_errnos = ((RUST / "src" / name).read_text() for name in ("structs.rs", "sys.rs", "errno.rs"))
         python, python_errnos = ((PYTHON / "hoiskend" / name).read_text() for name in ("_library.py", "errors.py"))
         errnos = (TOP / "crates" / "sock_addrs" / "src" / "errno.rt").read_text()
         header = (TOP / "include" / "hoiskend.h").read_text()
-        return Sources(header, crate, rust, rust_errnos, python, python_errnos, errnos)
+        return Sources(header, crate, structs + calls, rust_errnos, python, python_errnos, errnos)
 
 
 def without_comments(text):
@@ -69,7 +69,7 @@ IN_CRATE = {
 IN_RUST = {
     **NUMBERS, "*mut World": "hk_world *", "*mut Route": "hk_route *", "*const Request": "const hk_request *",
     "*mut Header": "hk_header *", "*mut Sockaddr": "hk_sockaddr *", "*mut Interface": "hk_interface *",
-    "*mut InterfaceAddress": "hk_ifaddr *", "*mut SocketState": "hk_socket *", "*mut Entry": "hk_entry *", "*mut u64": "uint64_t *",
+    "*mut Ifaddr": "hk_ifaddr *", "*mut Socket": "hk_socket *", "*mut Entry": "hk_entry *", "*mut u64": "uint64_t *",
     "*mut usize": "size_t *", "*const u8": "const uint8_t *", "*mut u8": "uint8_t *",
 }
 SLICES = {"&[u8]": "const uint8_t *", "&mut [u8]": "uint8_t *"}
@@ -113,8 +113,8 @@ STRUCTS = {
     "header": ("hk_header", "Header", "Header", "Header"),
     "address": ("hk_sockaddr", "Address", "Sockaddr", "Sockaddr"),
     "interface": ("hk_interface", "Interface", "Interface", "Interface"),
-    "interface's address": ("hk_ifaddr", "InterfaceAddress", "InterfaceAddress", "InterfaceAddress"),
-    "socket": ("hk_socket", "Socket", "SocketState", "SocketState"),
+    "interface's address": ("hk_ifaddr", "InterfaceAddress", "Ifaddr", "Ifaddr"),
+    "socket": ("hk_socket", "Socket", "Socket", "Socket"),
     "entry": ("hk_entry", "Entry", "Entry", "Entry"),
 }
 # What stands in a struct as a whole one.
@@ -248,7 +248,7 @@ SLIPS = [
     ("header", "\tuint32_t destination;", "the request", "\tuint16_t destination;"),
     ("rust", "    pub(crate) destination: u32,\n", "the request in Rust", ""),
     ("header", "\tuint32_t metric;", "the header", "\tuint16_t metric;"),
-    ("header", "\tuint32_t use_count; /* how", "the entry", "\tuint16_t use_count; /* how"),
+    ("header", "\thk_route route;", "the entry", "\thk_request route;"),
     ("header", "#define HK_NAME_BYTES 9", "the interface", "#define HK_NAME_BYTES 8"),
     ("header", "\tbool routed;", "the interface's address", "\tuint32_t routed;"),
     ("header", "\tsize_t waiting;", "the socket", "\tuint32_t waiting;"),
