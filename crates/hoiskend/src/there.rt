@@ -3,6 +3,7 @@
 ghost use Rattle.std.specs.Prelude.{◌≡◌, unwrap_or};
 ghost use Rattle.sock_addrs.specs.Padded.{padded_to};
 ghost use Rattle.sock_addrs.specs.declared.errno.Errno.TheVariants.{EBADF, ENXIO, ESRCH};
+ghost use Rattle.hoiskend.specs.Sessions.{Calls, Looks};
 ghost use Rattle.hoiskend.specs.There.{address_code, address_of, address_seen, code_by, entry_code, entry_of, entry_seen, interface_of, interface_seen, kind_number as number_of_kind, next_of, no_address as why_no_address, seen_by, socket_of, socket_seen};
 
 use crate::Handle;
@@ -212,7 +213,9 @@ fn cells_of_link(link: LinkAddress) -> [u8; LINK_ADDRESS_BYTES]
 
 /// Puts the interface with this number into `interface`. ENXIO: none has it, and `interface` stays.
 #[unsafe(no_mangle)]
+#[tactic(auto, unfolding(crate::specs::Sessions::Calls))]
 pub extern "C" fn hk_interface_of(world: &mut Handle, index: u16, interface: &mut Interface) -> u32
+    ensures looks { Calls world.old.session Looks result world.new.session }
     ensures kept { world.new.session ≡ world.old.session }
     ensures code { result ≡ code_by (interface_seen index) ENXIO world.old.session }
     ensures interface { interface.new ≡ unwrap_or (seen_by (interface_seen index) world.old.session) interface.old }
@@ -230,12 +233,14 @@ pub extern "C" fn hk_interface_of(world: &mut Handle, index: u16, interface: &mu
 /// Puts the first address, from this place on, of the interface with this number into `address`, and the place behind it
 /// into `place`. ENXIO: there is no such interface; EADDRNOTAVAIL: it has no address from there on; both stay.
 #[unsafe(no_mangle)]
+#[tactic(auto, unfolding(crate::specs::Sessions::Calls))]
 pub extern "C" fn hk_next_address(
     world: &mut Handle,
     index: u16,
     place: &mut usize,
     address: &mut InterfaceAddress,
 ) -> u32
+    ensures looks { Calls world.old.session Looks result world.new.session }
     ensures kept { world.new.session ≡ world.old.session }
     ensures code { result ≡ address_code index place.old world.old.session }
     ensures address { address.new ≡ unwrap_or (seen_by (address_seen index place.old) world.old.session) address.old }
@@ -255,7 +260,9 @@ pub extern "C" fn hk_next_address(
 
 /// Puts the socket at this place into `socket`. EBADF: there are not so many, and `socket` stays.
 #[unsafe(no_mangle)]
+#[tactic(auto, unfolding(crate::specs::Sessions::Calls))]
 pub extern "C" fn hk_socket_at(world: &mut Handle, place: usize, socket: &mut Socket) -> u32
+    ensures looks { Calls world.old.session Looks result world.new.session }
     ensures kept { world.new.session ≡ world.old.session }
     ensures code { result ≡ code_by (socket_seen place) EBADF world.old.session }
     ensures socket { socket.new ≡ unwrap_or (seen_by (socket_seen place) world.old.session) socket.old }
@@ -273,7 +280,9 @@ pub extern "C" fn hk_socket_at(world: &mut Handle, place: usize, socket: &mut So
 /// Puts the route with this key and rank into `entry`. EINVAL: a rank of more than 33; ESRCH: there is no such route;
 /// `entry` stays.
 #[unsafe(no_mangle)]
+#[tactic(auto, unfolding(crate::specs::Sessions::Calls))]
 pub extern "C" fn hk_route_of(world: &mut Handle, key: u32, rank: u8, entry: &mut Entry) -> u32
+    ensures looks { Calls world.old.session Looks result world.new.session }
     ensures kept { world.new.session ≡ world.old.session }
     ensures code { result ≡ entry_code key rank world.old.session }
     ensures entry { entry.new ≡ unwrap_or (seen_by (entry_seen key rank) world.old.session) entry.old }
