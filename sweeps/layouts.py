@@ -1,4 +1,4 @@
-"""A second reading of the layouts of systems of today, from docs/FORMATS.md: a message of one of them in another."""
+"""A second writing of the layouts of systems of today, from docs/FORMATS.md: a message of one of them in another."""
 import struct
 
 # The members of the two headers one behind the other, as struct's letters and names; x is padding, and so is what has no

@@ -5,11 +5,11 @@ pub const BAD: u32 = 256;
 
 /// The code of a message without a counterpart: its type has none.
 pub const KIND: u32 = 257;
-/// The code of a message without a counterpart: a length is wrong.
+/// The code of a message that can't be taken apart or converted: a length is wrong.
 pub const LENGTH: u32 = 258;
-/// The code of a message without a counterpart: it is of another version.
+/// The code of a message that can't be taken apart or converted: it is of another version.
 pub const VERSION: u32 = 259;
-/// The code of a message without a counterpart: an address passes its end.
+/// The code of a message that can't be taken apart or converted: an address passes its end.
 pub const OVERRUN: u32 = 260;
 /// The code of a message without a counterpart: a number or an address is too wide.
 pub const WIDE: u32 = 261;
