@@ -129,3 +129,7 @@ address_code index place (Some s) =
 abbrev pub entry_code : ℕ → ℕ → Option Session → ℕ
 entry_code key rank session =
     if nat_le rank 33 then code_by (entry_seen key rank) ESRCH session else errno_number EINVAL
+
+-- of a rank beyond that nothing is told
+abbrev pub entry_told : ℕ → ℕ → Option Session → Option Entry
+entry_told key rank session = if nat_le rank 33 then seen_by (entry_seen key rank) session else None

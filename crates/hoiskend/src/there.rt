@@ -4,7 +4,7 @@ ghost use Rattle.std.specs.Prelude.{◌≡◌, unwrap_or};
 ghost use Rattle.sock_addrs.specs.Padded.{padded_to};
 ghost use Rattle.sock_addrs.specs.declared.errno.Errno.TheVariants.{EBADF, ENXIO, ESRCH};
 ghost use Rattle.hoiskend.specs.Sessions.{Calls, Looks};
-ghost use Rattle.hoiskend.specs.There.{address_code, address_of, address_seen, code_by, entry_code, entry_of, entry_seen, interface_of, interface_seen, kind_number as number_of_kind, next_of, no_address as why_no_address, seen_by, socket_of, socket_seen};
+ghost use Rattle.hoiskend.specs.There.{address_code, address_of, address_seen, code_by, entry_code, entry_of, entry_told, interface_of, interface_seen, kind_number as number_of_kind, next_of, no_address as why_no_address, seen_by, socket_of, socket_seen};
 
 use crate::Handle;
 use crate::route::{Route, number_of};
@@ -285,7 +285,7 @@ pub extern "C" fn hk_route_of(world: &mut Handle, key: u32, rank: u8, entry: &mu
     ensures looks { Calls world.old.session Looks result world.new.session }
     ensures kept { world.new.session ≡ world.old.session }
     ensures code { result ≡ entry_code key rank world.old.session }
-    ensures entry { entry.new ≡ unwrap_or (seen_by (entry_seen key rank) world.old.session) entry.old }
+    ensures entry { entry.new ≡ unwrap_or (entry_told key rank world.old.session) entry.old }
 {
     if !world.is_open() || rank > Rank::host().number() {
         return Errno::EINVAL.number();
