@@ -105,8 +105,8 @@ class Lines:
     def add(self, answer, name, place, *others):
         address, prefix = place.split("/")
         number, bits, interface = number_of(address), int(prefix), self.of_name(name)
-        far = [number | (1 << 32 - bits) - 1, number, number_of(others[1]) if others[:1] == ["to"] else 0]
-        own = number, far[interface["kind"]], bits, others[-1:] == ["cloning"], answer == b"ok\n"
+        far = [number | (1 << 32 - bits) - 1, number, number_of(others[1]) if others[:1] == ("to",) else 0]
+        own = number, far[interface["kind"]], bits, others[-1:] == ("cloning",), answer == b"ok\n"
         interface["addresses"].append(own)
 
     def remove(self, answer, name, address):
