@@ -8,6 +8,7 @@ from runs import MOST_LINE
 TOO_LONG, NO_SOCKET = 40, 9
 MOST_NAME, MOST_LINK, MOST_PREFIX, MOST_MESSAGE, MOST_WRITE = 8, 8, 32, 8192, 8246
 KINDS = 3
+VERBS = ("add", "delete", "change", "get", "lock")
 
 START = (b"if le0 broadcast 6 080020010203", b"addr le0 10.0.0.1/8 cloning", b"open a 100 any")
 ASK = b"dump 100000"
@@ -34,7 +35,7 @@ def each_call(outs):
     size, route, room = ctypes.byref(outs.number), ctypes.byref(outs.route), ctypes.addressof(outs.room)
     request = ctypes.byref(outs.request)
     return {
-        **{f"hk_{verb}_route_n": (b"a", request) for verb in ("add", "delete", "change", "get", "lock")},
+        **{f"hk_{verb}_route_n": (b"a", request) for verb in VERBS},
         "hk_attach_n": (b"ed0", 0, 6, b"\1\2\3"),
         "hk_add_address_n": (b"le0", 0x0A000002, 8, True, False, 0),
         "hk_remove_address_n": (b"le0", 0x0A000001),
@@ -128,6 +129,12 @@ def is_asked(world, name, *given):
     return code != INVALID and world.given("hk_text") != b""
 
 
+def is_answered_invalid(world, name, *given):
+    """Whether a call is a command that is answered EINVAL, as an ADD without a gateway is."""
+    world.told(b"# nothing is told of a comment")
+    return world.call(name, *given) == INVALID and world.given("hk_text") == b"err %d\n" % INVALID
+
+
 def name_of_each_length(sweep):
     """Names and ids have 1 to 8 bytes, of any value."""
     library, outs = sweep.library(), Outs()
@@ -177,8 +184,9 @@ def request_that_says_nothing(sweep):
                 setattr(request, field, value)
             if field == "family":
                 request.link_n = 20
-            holds = is_asked if is_one else is_refused
-            for verb in ("change", "get"):
+            for verb in VERBS:
+                lacks_gateway = verb == "add" and request.family == 0
+                holds = is_refused if not is_one else is_answered_invalid if lacks_gateway else is_asked
                 sweep.claim(f"{verb} with {field} {value}", holds(world, f"hk_{verb}_route_n", b"a", ctypes.byref(request)))
             world.close()
 

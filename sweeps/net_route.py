@@ -11,7 +11,8 @@ PATHS = {
     "header": "include/hoiskend.h", "rust": "bindings/rust/src/net_route.rs",
     "python": "bindings/python/hoiskend/net_route.py", "writing": "crates/route_msgs/src/writing.rt",
     "limits": "crates/listeners/src/limits.rt", "sockaddrs": "crates/sock_addrs/src/writing.rt",
-    "families": "crates/sock_addrs/src/families.rt",
+    "families": "crates/sock_addrs/src/families.rt", "links": "crates/sock_addrs/src/link.rt",
+    "asked": "crates/route_core/src/request.rt", "written": "crates/route_core/src/written.rt",
 }
 PREFIXES = "RTM|RTA|RTF|RTV|IFA"
 NAMED = rf"(?:{PREFIXES})_(?!AT_|HEADER)[A-Z0-9]+"
@@ -28,6 +29,9 @@ class Sources:
     limits: str
     sockaddrs: str
     families: str
+    links: str
+    asked: str
+    written: str
     numbers: str
 
     @staticmethod
@@ -120,23 +124,24 @@ def size(text, name, begin=""):
 
 
 def sizes_agree(sources):
-    """Those of the header in Rust and in Python; the address and the queue are those of the crates."""
-    header = {name: size(sources.header, name, "HK_") for name in SIZES}
-    rust = {name: size(sources.rust, name) for name in SIZES if name != "LINK_BYTES"}
-    inet = re.search(r"put\(&\[(\d+), 2, 0, 0,", sources.sockaddrs)
-    return (
-        header == {name: size(sources.python, name) for name in SIZES}
-        and rust == {name: header[name] for name in rust}
-        and header["QUEUE_BYTES"] == size(sources.limits, "MOST_QUEUED")
-        and header["INET_BYTES"] == int(inet[1])
-    )
+    """Those of the header, of Rust and of Python are those of the crates."""
+    put, most_link = re.search(r"put\(&\[4 \+ ([^]]*)\], out", sources.sockaddrs), re.search(r"bytes: \[u8; (\d+)\]", sources.links)
+    crates = {
+        "INET_BYTES": int(re.search(r"put\(&\[(\d+), 2, 0, 0,", sources.sockaddrs)[1]),
+        "MASK_BYTES": len(put[1].split(",")), "LINK_BYTES": int(most_link[1]),
+        "QUEUE_BYTES": size(sources.limits, "MOST_QUEUED"), "MESSAGE_BYTES": size(sources.asked, "MOST_BYTES"),
+        "WRITE_BYTES": size(sources.written, "MOST_WRITTEN"),
+    }
+    texts = (sources.header, "HK_"), (sources.rust, ""), (sources.python, "")
+    return all({name: size(text, name, begin) for name in SIZES} == crates for text, begin in texts)
 
 
 def families_agree(sources):
-    crate = dict(re.findall(r"pub const (AF_\w+): u8 = (\d+);", sources.families))
+    in_rust = r"pub const (AF_\w+): u8 = (\d+);"
+    crate, rust = (dict(re.findall(in_rust, text)) for text in (sources.families, sources.rust))
     header = dict(re.findall(r"\bHK_(AF_\w+) = (\d+)", sources.header))
     python = re.search(r"^AF_INET, AF_LINK = (\d+), (\d+)$", sources.python, re.M).groups()
-    return crate == header == dict(zip(("AF_INET", "AF_LINK"), python)) != {}
+    return crate == header == rust == dict(zip(("AF_INET", "AF_LINK"), python)) != {}
 
 
 def differences(sources):
@@ -174,10 +179,14 @@ SLIPS = [
     ("header", "HK_IFA_AT_INDEX = 12,", "HK_IFA_AT_INDEX = 14,", "fields of the header"),
     ("header", "HK_HEADER_BYTES = 76", "HK_HEADER_BYTES = 72", "ends"),
     ("header", "HK_QUEUE_BYTES = 8192", "HK_QUEUE_BYTES = 8191", "sizes"),
+    ("written", "MOST_WRITTEN: usize = 8246", "MOST_WRITTEN: usize = 8247", "sizes"),
     ("header", "HK_AF_LINK = 18", "HK_AF_LINK = 17", "families"),
     ("rust", "pub const RTV_MTU: u32 = 0x1;", "pub const RTV_MTU: u32 = 0x2;", "numbers in Rust"),
     ("rust", "pub const ERRNO: usize = 24;", "pub const ERRNO: usize = 28;", "offsets in Rust"),
     ("rust", "pub const INET_BYTES: usize = 16;", "pub const INET_BYTES: usize = 8;", "sizes"),
+    ("rust", "pub const LINK_BYTES: usize = 32;", "pub const LINK_BYTES: usize = 31;", "sizes"),
+    ("rust", "pub const AF_LINK: u8 = 18;", "pub const AF_LINK: u8 = 17;", "families"),
+    ("rust", "pub const AF_INET: u8 = 2;\n", "", "families"),
     ("python", "    DELADDR = 13\n", "", "numbers in Python"),
     ("python", "    BRD = 0x80\n", "    BRD = 0x100\n", "numbers in Python"),
     ("python", '    "metric": (16, 4),\n', '    "metric": (16, 2),\n', "fields in Python"),

@@ -8,6 +8,7 @@ from package_worlds import answered
 
 import hoiskend
 from hoiskend import RTA, RTM, Kind, LinkAddress, Message, MessageError, Socket, System, World
+from hoiskend.routes import OTHERS
 
 
 def begun():
@@ -85,20 +86,27 @@ def give_what_says_nothing(sweep):
             lambda: world.attach("ed0", Kind.BROADCAST, 256), lambda: world.attach("ed0", -1), lambda: world.dump(1 << 32),
             lambda: world.dump(1, -1), lambda: world.dump_size(1 << 32), lambda: Message.request(RTM.GET, {}, seq=-1),
             lambda: Message.request(RTM.GET, {}, index=1 << 16), lambda: Message.request(RTM.GET, {}, flags=1 << 32),
+            lambda: world.addresses(1 << 16), lambda: world.addresses(-1), lambda: socket.get_route("10.9.9.9", genmask=256),
+            *(lambda name=name: socket.add_route("30.0.0.0/8", "10.0.0.2", **{name: 1 << 32}) for name in OTHERS - {"genmask"}),
+            *(lambda name=name: socket.add_route("30.0.0.0/8", "10.0.0.2", **{name: -1}) for name in OTHERS),
         ],
         hoiskend.EINVAL: [
             lambda: world.attach("ed0", 3), lambda: world.attach("ed0", Kind.BROADCAST, 6, bytes(9)),
             lambda: socket.write(bytes(8247)), lambda: socket.write(b""), lambda: world.add_address("le0", "11.0.0.1/8", far=1),
-            lambda: socket.write_as(System.OPENBSD, b""),
+            lambda: socket.write_as(System.OPENBSD, b""), lambda: socket.add_route("30.0.0.0/8", "10.0.0.2", genmask=34),
+            lambda: socket.add_route("30.0.0.0/8", LinkAddress(bytes(20))), lambda: socket.add_route("30.0.0.0/8", LinkAddress(b"")),
+            lambda: socket.add_route("30.0.0.0/8"),
         ],
         TypeError: [
             lambda: socket.write(92), lambda: socket.write("text"), lambda: world.attach(5, Kind.BROADCAST),
             lambda: world.line(7), lambda: world.line(None), lambda: world.listen("b", 1.5), lambda: world.listen("b", "1"),
             lambda: hoiskend.show("text"), lambda: hoiskend.convert(0, 1, 76),
+            lambda: socket.add_route("30.0.0.0/8", "10.0.0.2", mut=1400), lambda: socket.lock_route("10.0.0.0/8", mtu="9"),
         ],
         ValueError: [
             lambda: LinkAddress.of("le0", bytes(30)), lambda: Message.request(RTM.GET, {RTA.NETMASK: 33}),
-            lambda: hoiskend.convert(5, 0, bytes(76)),
+            lambda: hoiskend.convert(5, 0, bytes(76)), lambda: socket.get_route("10.0.0.1/8"),
+            lambda: socket.add_route("30.0.0.0/8", LinkAddress(bytes([33, 18, *bytes(31)]))),
         ],
         MessageError: [
             lambda: Message(b""), lambda: Message(bytes(76)), lambda: Message.of(System.MACOS, bytes(92)),
@@ -114,6 +122,8 @@ def give_what_says_nothing(sweep):
     sweep.claim("nothing has changed", world.routes() == before)
     for name in ("10.0.0.256", "10.0.0", "", "10.0.0.1/33"):
         sweep.claim(f"the address {name!r}", raises(ValueError, lambda: world.add_address("le0", name), at_least=True))
+        sweep.claim(f"the key {name!r}", raises(ValueError, lambda: world.route(name), at_least=True))
+        sweep.claim(f"a request for {name!r}", raises(ValueError, lambda: socket.get_route(name), at_least=True))
 
 
 def share_a_world(sweep):

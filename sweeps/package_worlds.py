@@ -132,32 +132,52 @@ BITS_OF_METRICS = {
     "mtu": RTV.MTU, "hopcount": RTV.HOPCOUNT, "expire": RTV.EXPIRE, "recvpipe": RTV.RPIPE, "sendpipe": RTV.SPIPE,
     "ssthresh": RTV.SSTHRESH, "rtt": RTV.RTT, "rttvar": RTV.RTTVAR,
 }
+IN_HEXADECIMAL = {"flags", "inits", "locks"}
+ALL_ONES = 0xFFFFFFFF
 
 
-def request_of(seq, verb, dest, options):
+def number_of(option, word):
+    return int(word, 16 if option in IN_HEXADECIMAL else 10)
+
+
+def message_of(seq, verb, place, options):
     """The message of the words of a `route` line."""
-    place, *prefix = ("0.0.0.0/0" if dest == "default" else dest).split("/")
-    addresses, flags, inits, metrics = {RTA.DST: place}, 0, 0, {}
+    address, *prefix = place.split("/")
+    addresses, flags, inits, metrics = {RTA.DST: address}, 0, 0, {}
     if prefix:
         addresses[RTA.NETMASK] = int(prefix[0])
-    for option, word in zip(options[::2], options[1::2]):
+    for option, word in options.items():
         if option in GATES:
             addresses[GATES[option]] = gate(word)
         elif option == "genmask":
             addresses[RTA.GENMASK] = int(word)
         elif option == "flags":
-            flags = int(word, 16)
+            flags = number_of(option, word)
         elif option == "inits":
-            inits |= int(word, 16)
+            inits |= number_of(option, word)
         else:
-            metrics[option] = int(word, 16 if option == "locks" else 10)
+            metrics[option] = number_of(option, word)
             inits |= BITS_OF_METRICS.get(option, 0)
     return Message.request(VERBS[verb], addresses, flags=flags, seq=int(seq), inits=inits, metrics=Metrics(**metrics))
 
 
+def has_call(verb, place, options):
+    """Whether a typed request has all that a line says: a key without bits past its mask, no interface, and a gateway where the
+    verb takes one."""
+    address, _, bits = place.partition("/")
+    is_key = not bits or int(IPv4Address(address)) & ALL_ONES >> int(bits) == 0
+    return is_key and not {"ifp", "ifa"} & options.keys() and (verb in ("add", "change") or "via" not in options)
+
+
 def route(world, words):
-    id, seq, verb, dest, *options = words
-    return done(socket_of(world, id).write, request_of(seq, verb, dest, options))
+    id, seq, verb, dest, *others = words
+    socket, options = socket_of(world, id), dict(zip(others[::2], others[1::2]))
+    place = "0.0.0.0/0" if dest == "default" else dest
+    if not has_call(verb, place, options):
+        return done(socket.write, message_of(seq, verb, place, options))
+    gateway = [gate(options.pop("via"))] if "via" in options else []
+    named = {option: number_of(option, word) for option, word in options.items()}
+    return done(getattr(socket, f"{verb}_route"), place, *gateway, seq=int(seq), **named)
 
 
 def read(world, words):

@@ -19,7 +19,7 @@ NUMBERS += CRATES.glob("sock_addrs/src/flags.rt")
 PATHS = {
     "readme": "README.md", "formats": "docs/FORMATS.md", "manual": "docs/routesim.1", "proved": "docs/PROVED.md",
     "daemon": "docs/DAEMON.md", "decisions": "docs/DECISIONS.md", "speed": "docs/SPEED.md", "tree": "docs/TREE.md",
-    "header": "include/hoiskend.h", "library": "docs/hoiskend.3", "rust": "bindings/rust/src/world.rs",
+    "perf": "docs/PERF.md", "header": "include/hoiskend.h", "library": "docs/hoiskend.3", "rust": "bindings/rust/src/world.rs",
 }
 
 
@@ -35,6 +35,7 @@ class Pages:
     decisions: str
     speed: str
     tree: str
+    perf: str
     header: str
     library: str
     rust: str
@@ -138,8 +139,10 @@ def have_their_reasons(pages):
 FIGURES = {
     "instructions of a packet": [
         ("speed", "`bench/packets` counts #"), ("daemon", "`bench/packets` counts #"),
-        ("library", "text: # instructions"),
+        ("library", "text: # instructions"), ("perf", "and # by an index"),
     ],
+    "instructions of a packet by a default route": [("speed", "by the tree; #"), ("perf", "by a default route takes #")],
+    "instructions of a packet without a route": [("speed", "a route # among 1,000"), ("perf", "a route # among 1,000")],
     "visits of a best route": [
         ("readme", "in at most # visits"), ("proved", "best route is found in at most # visits"),
         ("speed", "for the # visits"), ("tree", "At most # times"),
@@ -291,6 +294,7 @@ SLIPS = [
     ("formats", "`close`, `unaddr`, `losing`,", "`close`, `unaddr`,", BY_REASON),
     ("formats", "| where it is refused 17, 24 |", "| where it is refused 17 |", BY_REASON),
     ("daemon", "`bench/packets` counts ", "`bench/packets` counts 1", "instructions of a packet"),
+    ("perf", "by a default route takes ", "by a default route takes 1", "instructions of a packet by a default route"),
     ("tree", "At most 2,400 times", "Always 2,400 times", "visits of a best route"),
     ("speed", "The room is ", "The room is 1", "bytes of a room"),
     ("decisions", "Any other is whole, ", "Any other is whole, 1", "bytes of a block"),

@@ -15,6 +15,11 @@ WANTED = {"malloc", "realloc", "free", "memcpy", "memmove", "memset", "memcmp", 
 NO_SYMBOL = {"_GLOBAL_OFFSET_TABLE_"}
 
 
+def texts_of(*names):
+    """The text of these files of the package for Rust; net_route.rs has a length that a struct takes."""
+    return "".join((RUST / "src" / name).read_text() for name in names)
+
+
 @dataclass(frozen=True)
 class Sources:
     """The texts that are compared."""
@@ -30,11 +35,11 @@ class Sources:
     @staticmethod
     def of_today():
         crate = "".join(path.read_text() for path in sorted(CRATE.glob("src/*.rt")))
-        structs, calls, rust_errnos = ((RUST / "src" / name).read_text() for name in ("structs.rs", "sys.rs", "errno.rs"))
+        rust, rust_errnos = (texts_of(*names) for names in (("structs.rs", "sys.rs", "net_route.rs"), ("errno.rs",)))
         python, python_errnos = ((PYTHON / "hoiskend" / name).read_text() for name in ("_library.py", "errors.py"))
         errnos = (TOP / "crates" / "sock_addrs" / "src" / "errno.rt").read_text()
         header = (TOP / "include" / "hoiskend.h").read_text()
-        return Sources(header, crate, structs + calls, rust_errnos, python, python_errnos, errnos)
+        return Sources(header, crate, rust, rust_errnos, python, python_errnos, errnos)
 
 
 def without_comments(text):
@@ -257,6 +262,7 @@ SLIPS = [
     ("header", "HK_FORM_MASK = 2", "the forms", "HK_FORM_MASK = 3"),
     ("rust", "    pub(crate) metric: u32,\n", "the header in Rust", ""),
     ("rust", "    pub(crate) form: u8,\n", "the address in Rust", ""),
+    ("rust", "LINK_BYTES: usize = 32;", "the request in Rust", "LINK_BYTES: usize = 31;"),
     ("rust", "FORM_LINK: u8 = 3", "the forms in Rust", "FORM_LINK: u8 = 2"),
     ("python", '        ("metric", ctypes.c_uint32),\n', "the header in Python", ""),
     ("python", '("at", ctypes.c_size_t)', "the address in Python", '("at", ctypes.c_uint32)'),

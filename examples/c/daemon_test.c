@@ -1,7 +1,8 @@
 /*
  * The test of a routing daemon, as its author would write it: Hoiskend is the kernel. The daemon's requests are
  * answered, a witness hears what any process would, a queue that nobody reads runs full, and memory runs out where the
- * test wants it to.
+ * test wants it to. The daemon makes its messages as it does for a kernel, byte by byte; what the test itself asks for,
+ * as another process, it asks by calls.
  *
  *     cc daemon_test.c $(pkg-config --cflags --libs hoiskend) -Wl,--wrap=malloc,--wrap=realloc -o daemon_test
  */
@@ -34,11 +35,6 @@ static void put(uint8_t *at, uint32_t number)
 		at[i] = (uint8_t)(number >> (24 - 8 * i));
 }
 
-static uint32_t get(const uint8_t *at)
-{
-	return HK_ADDRESS(at[0], at[1], at[2], at[3]);
-}
-
 static void put_inet(uint8_t *at, uint32_t address)
 {
 	at[0] = HK_INET_BYTES;
@@ -50,7 +46,9 @@ static void put_inet(uint8_t *at, uint32_t address)
  * once more; a route that is there already is as good. */
 static uint32_t want_route(struct daemon *daemon, uint32_t network, uint32_t gateway)
 {
-	uint8_t add[END] = {0, sizeof add, HK_RTM_VERSION, HK_RTM_ADD};
+	uint8_t add[END] = {
+		[HK_AT_LENGTH + 1] = END, [HK_AT_VERSION] = HK_RTM_VERSION, [HK_AT_KIND] = HK_RTM_ADD,
+	};
 	uint32_t code = 0;
 	put(add + HK_AT_FLAGS, WANTED);
 	put(add + HK_AT_ADDRS, HK_RTA_DST | HK_RTA_GATEWAY | HK_RTA_NETMASK);
@@ -72,8 +70,11 @@ static void hear(struct daemon *daemon)
 {
 	uint8_t messages[HK_QUEUE_BYTES];
 	size_t n = daemon->kernel.read(daemon->kernel.state, messages, sizeof messages);
-	for (size_t at = 0; at < n; at += hk_message_length(messages + at))
-		daemon->confirmed += messages[at + HK_AT_KIND] == HK_RTM_ADD && get(messages + at + HK_AT_ERRNO) == 0;
+	for (size_t at = 0; at < n; at += hk_message_length(messages + at)) {
+		hk_header header;
+		if (hk_message_header(messages + at, hk_message_length(messages + at), &header) == HK_OK)
+			daemon->confirmed += header.kind == HK_RTM_ADD && header.error == 0;
+	}
 }
 
 /* ---- the kernel of its test ---- */
@@ -135,6 +136,7 @@ static void requests_are_answered(void)
 {
 	hk_world world = HK_CLOSED;
 	hk_route route;
+	hk_entry entry;
 	hk_header header;
 	hk_sockaddr mask;
 	uint8_t heard[HK_QUEUE_BYTES];
@@ -145,11 +147,12 @@ static void requests_are_answered(void)
 	hear(&daemon);
 	CHECK(daemon.confirmed == 1);
 
-	/* a packet takes the route */
+	/* a packet takes the route, and is counted in the table */
 	CHECK(hk_packet(&world, HK_ADDRESS(172, 16, 1, 9), &route) == HK_OK);
 	CHECK(route.key == HK_ADDRESS(172, 16, 1, 0) && route.rank == 24);
 	CHECK(route.family == HK_AF_INET && route.gateway == HK_ADDRESS(10, 0, 0, 254));
 	CHECK(route.index == 1 && route.flags == WANTED);
+	CHECK(hk_route_of(&world, route.key, route.rank, &entry) == HK_OK && entry.use_count == 1);
 
 	/* the witness hears the reply, with the daemon's pid and seq */
 	CHECK(hk_read(&world, "witness") == HK_OK);
@@ -159,9 +162,31 @@ static void requests_are_answered(void)
 	CHECK(header.flags == (WANTED | HK_RTF_DONE) && header.error == 0);
 	CHECK(hk_message_address(heard, n, HK_RTA_NETMASK, &mask) == HK_OK && mask.bits == 24);
 
-	/* what is there already is no fault to this daemon; a gateway out of reach is */
-	CHECK(want_route(&daemon, HK_ADDRESS(172, 16, 1, 0), HK_ADDRESS(10, 0, 0, 254)) == HK_OK);
+	/* a gateway out of reach is refused */
 	CHECK(want_route(&daemon, HK_ADDRESS(172, 16, 2, 0), HK_ADDRESS(192, 168, 0, 1)) == HK_ENETUNREACH);
+	hk_close(&world);
+}
+
+/* The daemon hears of a route that another process adds. When it wants that itself, it is as good as its own, and stays
+ * as the other asked for it. */
+static void another_was_first(void)
+{
+	hk_world world = HK_CLOSED;
+	hk_entry entry;
+	hk_request add = hk_request_of(HK_ADDRESS(172, 16, 3, 0), 24);
+	struct daemon daemon = start(&world);
+
+	add.family = HK_AF_INET;
+	add.gateway = HK_ADDRESS(10, 0, 0, 253);
+	add.flags = WANTED;
+	add.inits = HK_RTV_MTU;
+	add.mtu = 1400;
+	CHECK(hk_add_route(&world, "witness", &add) == HK_OK);
+	CHECK(want_route(&daemon, add.destination, HK_ADDRESS(10, 0, 0, 254)) == HK_OK);
+	hear(&daemon);
+	CHECK(daemon.confirmed == 1);
+	CHECK(hk_route_of(&world, add.destination, add.prefix, &entry) == HK_OK);
+	CHECK(entry.route.gateway == add.gateway && entry.mtu == add.mtu);
 	hk_close(&world);
 }
 
@@ -173,6 +198,7 @@ static void a_full_queue_loses(void)
 	uint8_t messages[HK_QUEUE_BYTES * 4];
 	size_t heard = 0, n;
 	uint32_t routes = 0;
+	uint8_t kind;
 	struct daemon daemon = start(&world);
 	for (uint32_t i = 0; i < 100; i++) {
 		CHECK(want_route(&daemon, HK_ADDRESS(172, 16, i, 0), HK_ADDRESS(10, 0, 0, 254)) == HK_OK);
@@ -189,7 +215,8 @@ static void a_full_queue_loses(void)
 	CHECK(hk_dump(&world, true, HK_RTF_STATIC, (uint32_t)size) == HK_OK);
 	n = hk_fetch(&world, messages, sizeof messages);
 	for (size_t at = 0; at < n; at += hk_message_length(messages + at))
-		routes += messages[at + HK_AT_KIND] == HK_RTM_GET;
+		if (hk_message_kind(messages + at, hk_message_length(messages + at), &kind) == HK_OK)
+			routes += kind == HK_RTM_GET;
 	CHECK(routes == 100);
 	hk_close(&world);
 }
@@ -222,6 +249,7 @@ static void memory_runs_out(void)
 int main(void)
 {
 	requests_are_answered();
+	another_was_first();
 	a_full_queue_loses();
 	memory_runs_out();
 	puts(wrong ? "the daemon's test fails" : "the daemon's test passes");

@@ -8,14 +8,6 @@
 #include <stdio.h>
 #include <stdlib.h>
 
-/* A GET of the route of 10.9.9.9: the rt_msghdr, of which what isn't named is 0, and the destination behind it. Numbers
- * stand highest byte first, so a small one is in the last of its four bytes. */
-static const uint8_t GET[HK_HEADER_BYTES + HK_INET_BYTES] = {
-	[HK_AT_LENGTH + 1] = sizeof GET, [HK_AT_VERSION] = HK_RTM_VERSION, [HK_AT_KIND] = HK_RTM_GET,
-	[HK_AT_ADDRS + 3] = HK_RTA_DST, [HK_AT_SEQ + 3] = 1,
-	[HK_HEADER_BYTES] = HK_INET_BYTES, [HK_HEADER_BYTES + 1] = HK_AF_INET, [HK_HEADER_BYTES + 4] = 10, 9, 9, 9,
-};
-
 static void print_answer(uint32_t code)
 {
 	if (code)
@@ -52,7 +44,9 @@ static void read_and_print(hk_world *world, const char *id)
 int main(void)
 {
 	static const uint8_t link[] = {0x08, 0x00, 0x20, 0x01, 0x02, 0x03};
+	hk_request get = hk_request_of(HK_ADDRESS(10, 9, 9, 9), HK_HOST);
 	hk_world world = HK_CLOSED;
+	get.seq = 1;
 	if (hk_open(&world)) {
 		fprintf(stderr, "first_script: %s\n", hk_strerror(HK_ENOBUFS));
 		return 1;
@@ -61,7 +55,7 @@ int main(void)
 	print_answer(hk_listen(&world, "a", 100, 0));
 	print_answer(hk_add_address(&world, "le0", HK_ADDRESS(10, 0, 0, 1), 8, true, false, 0));
 	read_and_print(&world, "a");
-	print_answer(hk_write(&world, "a", GET, sizeof GET));
+	print_answer(hk_get_route(&world, "a", &get));
 	read_and_print(&world, "a");
 	hk_close(&world);
 	return 0;

@@ -1,5 +1,5 @@
 """Hoiskend's first script by calls: it prints what `routesim` prints of it."""
-from hoiskend import RTA, RTM, Kind, Message, World
+from hoiskend import Kind, World
 
 
 def print_messages(socket):
@@ -16,6 +16,6 @@ with World() as world:
     world.add_address("le0", "10.0.0.1/8", cloning=True)
     print("ok")
     print_messages(a)
-    a.write(Message.request(RTM.GET, {RTA.DST: "10.9.9.9"}))
+    a.get_route("10.9.9.9", seq=1)
     print("ok")
     print_messages(a)

@@ -162,10 +162,17 @@ pub mod ifa_at {
     pub const END: usize = 20;
 }
 
+/// The family of IPv4 addresses (`struct sockaddr_in`), as <sys/socket.h> has it.
+pub const AF_INET: u8 = 2;
+/// The family of link-layer addresses (`struct sockaddr_dl`), as <sys/socket.h> has it.
+pub const AF_LINK: u8 = 18;
+
 /// The bytes of an IPv4 address in a message.
 pub const INET_BYTES: usize = 16;
 /// The most bytes of a mask as the machine makes one.
 pub const MASK_BYTES: usize = 8;
+/// The most bytes of a gateway that is a link-layer address, as a `sockaddr_dl`.
+pub const LINK_BYTES: usize = 32;
 /// The bytes of a socket's queue.
 pub const QUEUE_BYTES: usize = 8192;
 /// The most bytes of a message that is written.

@@ -1,4 +1,5 @@
 //! What is asked of a route.
+use crate::net_route::{AF_INET, AF_LINK};
 use crate::sys;
 use crate::Gateway;
 use std::net::Ipv4Addr;
@@ -21,6 +22,9 @@ pub struct Request {
     pub flags: u32,
     /// The number by which the writer knows the reply.
     pub seq: u32,
+    /// The bits of the metrics that the request names, `RTV_..`, beside those that are set. One that is
+    /// named alone is 0.
+    pub inits: u32,
     /// The bits of the metrics that are locked, `RTV_..`.
     pub locks: u32,
     /// Metrics, each where it is set.
@@ -82,6 +86,7 @@ impl Request {
             genmask: None,
             flags: 0,
             seq: 0,
+            inits: 0,
             locks: 0,
             metrics: SetMetrics::default(),
         }
@@ -95,7 +100,7 @@ impl Request {
             destination: self.destination.into(),
             flags: self.flags,
             seq: self.seq,
-            inits: self.metrics.bits(),
+            inits: self.inits | self.metrics.bits(),
             locks: self.locks,
             mtu,
             hopcount,
@@ -112,12 +117,12 @@ impl Request {
         match self.gateway {
             None => {}
             Some(Gateway::Inet(address)) => {
-                told.family = sys::AF_INET;
+                told.family = AF_INET;
                 told.gateway = address.into();
             }
             Some(Gateway::Link(address)) => {
                 let bytes = address.as_bytes();
-                told.family = sys::AF_LINK;
+                told.family = AF_LINK;
                 told.link_n = bytes.len() as u8;
                 told.link[..bytes.len()].copy_from_slice(bytes);
             }

@@ -1,4 +1,5 @@
 //! The route that a packet takes.
+use crate::net_route::{AF_INET, AF_LINK, LINK_BYTES};
 use crate::sys;
 use std::fmt;
 use std::net::Ipv4Addr;
@@ -32,22 +33,22 @@ pub enum Gateway {
 /// A link-layer address as a message writes it (`sockaddr_dl`): 8 to 32 bytes.
 #[derive(Clone, Copy, PartialEq, Eq, Hash)]
 pub struct LinkAddress {
-    bytes: [u8; sys::LINK_BYTES],
+    bytes: [u8; LINK_BYTES],
     n: u8,
 }
 
 impl LinkAddress {
     /// The address with these bytes, or `None` where they aren't 8 to 32, of which the first is their number and the second
-    /// the family, 18.
+    /// the family, [`AF_LINK`].
     pub fn new(sockaddr: &[u8]) -> Option<LinkAddress> {
         let n = sockaddr.len();
-        let is_one = (8..=sys::LINK_BYTES).contains(&n) && sockaddr[..2] == [n as u8, sys::AF_LINK];
+        let is_one = (8..=LINK_BYTES).contains(&n) && sockaddr[..2] == [n as u8, AF_LINK];
         is_one.then(|| LinkAddress::of(sockaddr))
     }
 
     /// That of 8 to 32 bytes.
     pub(crate) fn of(text: &[u8]) -> LinkAddress {
-        let (mut bytes, n) = ([0; sys::LINK_BYTES], text.len() as u8);
+        let (mut bytes, n) = ([0; LINK_BYTES], text.len() as u8);
         bytes[..text.len()].copy_from_slice(text);
         LinkAddress { bytes, n }
     }
@@ -77,7 +78,7 @@ impl LinkAddress {
         &rest[..rest.len().min(n.into())]
     }
 
-    /// Its bytes, of which the first is their number and the second the family, 18.
+    /// Its bytes, of which the first is their number and the second the family, [`AF_LINK`].
     pub fn as_bytes(&self) -> &[u8] {
         &self.bytes[..usize::from(self.n)]
     }
@@ -97,7 +98,7 @@ pub(crate) const HOST: u8 = 33;
 impl From<sys::Route> for Route {
     fn from(route: sys::Route) -> Route {
         let gateway = match route.family {
-            sys::AF_INET => Gateway::Inet(route.gateway.into()),
+            AF_INET => Gateway::Inet(route.gateway.into()),
             _ => Gateway::Link(LinkAddress {
                 bytes: route.link,
                 n: route.link_n,

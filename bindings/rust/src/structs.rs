@@ -1,6 +1,7 @@
 //! The structs of hoiskend.h, but that of a world.
 
-pub(crate) const LINK_BYTES: usize = 32;
+use crate::net_route::LINK_BYTES;
+
 const NAME_BYTES: usize = 9;
 const LINK_ADDRESS_BYTES: usize = 8;
 

@@ -4,12 +4,10 @@
 #![allow(unsafe_code)]
 
 pub(crate) use crate::structs::{
-    Entry, Header, Ifaddr, Interface, Request, Route, Sockaddr, Socket, LINK_BYTES,
+    Entry, Header, Ifaddr, Interface, Request, Route, Sockaddr, Socket,
 };
 use std::ptr::null_mut;
 
-pub(crate) const AF_INET: u8 = 2;
-pub(crate) const AF_LINK: u8 = 18;
 /// The answer to a line that the grammar doesn't have.
 pub(crate) const BAD: u32 = 256;
 /// The most bytes of a message that was made for another system.

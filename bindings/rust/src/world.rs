@@ -127,7 +127,8 @@ impl World {
         done(self.handle.remove_address(name.as_ref(), address.into()))
     }
 
-    /// Opens a routing socket of this process, which hears the messages of this family alone, or where it is 0 of all.
+    /// Opens a routing socket of this process, which hears the messages of this family alone, as
+    /// [`AF_INET`](crate::net_route::AF_INET), or where it is 0 of all.
     pub fn listen(
         &mut self,
         id: impl AsRef<[u8]>,
@@ -173,13 +174,14 @@ impl World {
     /// # fn main() -> Result<(), hoiskend::Errno> {
     /// # use hoiskend::{Errno, Gateway, Kind, Request, World};
     /// # use std::net::Ipv4Addr;
+    /// use hoiskend::net_route::{RTF_GATEWAY, RTF_UP};
     /// let mut world = World::new()?;
     /// world.attach("le0", Kind::Broadcast, 6, &[])?;
     /// world.add_address("le0", Ipv4Addr::new(10, 0, 0, 1), 8, false, None)?;
     /// let socket = world.listen("a", 100, 0)?;
     /// let mut route = Request::of(Ipv4Addr::new(20, 0, 0, 0), Some(8));
     /// route.gateway = Some(Gateway::Inet(Ipv4Addr::new(10, 0, 0, 2)));
-    /// route.flags = 0x3;
+    /// route.flags = RTF_UP | RTF_GATEWAY;
     /// route.metrics.mtu = Some(1400);
     /// world.add_route(socket, &route)?;
     /// assert_eq!(world.add_route(socket, &route), Err(Errno::EEXIST));
@@ -211,6 +213,24 @@ impl World {
     }
 
     /// Writes the message that locks metrics of a route.
+    ///
+    /// ```
+    /// # fn main() -> Result<(), hoiskend::Errno> {
+    /// # use hoiskend::{Kind, Request, World};
+    /// # use std::net::Ipv4Addr;
+    /// use hoiskend::net_route::RTV_MTU;
+    /// let mut world = World::new()?;
+    /// world.attach("le0", Kind::Broadcast, 6, &[])?;
+    /// world.add_address("le0", Ipv4Addr::new(10, 0, 0, 1), 8, false, None)?;
+    /// let socket = world.listen("a", 100, 0)?;
+    /// let network = Ipv4Addr::new(10, 0, 0, 0);
+    /// let mut lock = Request::of(network, Some(8));
+    /// (lock.inits, lock.locks) = (RTV_MTU, RTV_MTU);
+    /// world.lock_route(socket, &lock)?;
+    /// assert_eq!(world.route(network, Some(8))?.metrics.locks, RTV_MTU);
+    /// # Ok(())
+    /// # }
+    /// ```
     pub fn lock_route(&mut self, socket: Socket, request: &Request) -> Result<(), Errno> {
         done(self.handle.lock_route(socket.id(), &request.told()))
     }

@@ -64,7 +64,7 @@ pub(crate) fn run<R: Read, W: Write, E: Write>(
     // The pieces that are converted are the text, each of them up to where it is whole first.
     ensures cut { TextsAreCut }
 
-    // Before each read all that was made is flushed, and at the end too.
+    // Before each read all that was written is flushed, and at the end too.
     ensures prompt { writer.old.unflushed ≡ false → reader.new.early_reads ≡ reader.old.early_reads }
     ensures flushed { writer.old.unflushed ≡ false → result ≢ Outcome.WriteFault → writer.new.unflushed ≡ false }
     ensures flushed_lines { teller.old.unflushed ≡ false → result ≢ Outcome.WriteFault → teller.new.unflushed ≡ false }

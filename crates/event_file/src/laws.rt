@@ -164,9 +164,9 @@ pub fn transcript_is_run()
 {}
 
 /// Listeners do not disturb each other in a transcript. Let x be an id, and let a script without a malformed line have
-/// a transcript without a line `err 24` or `err 55`. Take out of its commands every `loopback` and `read` of other ids,
-/// and every `open` and `close` of other ids that no write names: a script of the commands that are left has for a
-/// transcript the texts that their lines had, and no other without a line `err 24` or `err 55`.
+/// a transcript without a line `err 24` or `err 55`. Take out of its commands every `loopback`, `read` and `lost` of
+/// other ids, and every `open` and `close` of other ids that no write names: a script of the commands that are left has
+/// for a transcript the texts that their lines had, and no other without a line `err 24` or `err 55`.
 pub fn others_leave_the_text()
     ensures { OthersLeaveTheText }
 {

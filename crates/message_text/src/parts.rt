@@ -110,7 +110,7 @@ fn ifa_header(message: &[u8]) -> IfaHeader
 }
 
 /// The address of this bit, one of `bits`, where it is there: how many bytes stand before it, and its own, without
-/// padding. Nothing is there of a message whose length is wrong.
+/// padding.
 pub fn address_of(bit: u32, message: &[u8]) -> Option<(usize, &[u8])>
     requires { size_of_header message.now ≤ length message.now }
     ensures address { let address = address_in bit message.now

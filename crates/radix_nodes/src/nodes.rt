@@ -4,7 +4,7 @@ ghost use Rattle.std.specs.FinMap.{empty};
 
 use crate::blocks::Blocks;
 use crate::id::Id;
-use crate::room::Full;
+use crate::room::{Full, Room, free};
 use crate::visits::Visits;
 use memory::Number;
 use std::alloc::Global;
@@ -19,6 +19,8 @@ pub struct Nodes<V> {
     /// The room that was lodged last, of those in the map. It leads to all others.
     pub(crate) newest: Option<Id>,
     pub(crate) blocks: Blocks<Full<V>>,
+    /// A room that was scrapped, for the next one that is made.
+    pub(crate) kept: Option<Room<V>>,
 }
 
 impl<V> Model for Nodes<V> {
@@ -46,6 +48,7 @@ impl<V> Nodes<V> {
             turn: Number::zero(),
             newest: None,
             blocks: Blocks::new(),
+            kept: None,
         }
     }
 
@@ -67,7 +70,9 @@ impl<V: Drop> Drop for Nodes<V> {
             turn: _,
             newest,
             blocks,
+            kept,
         } = self;
+        free(kept);
         let mut newest = newest;
         let mut blocks = blocks;
         while let Some(id) = newest {

@@ -30,3 +30,11 @@ impl<V> Model for Room<V> {
 
     ghost view = { λ r. number_at r.space.ptr };
 }
+
+/// Frees a room, where there is one.
+pub(crate) fn free<V>(room: Option<Room<V>>) {
+    if let Some(Room { space }) = room {
+        // What it answers is the allocator, which has no bytes.
+        let _ = space.free();
+    }
+}

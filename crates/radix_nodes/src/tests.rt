@@ -99,6 +99,33 @@ fn a_room_read_and_written(rt: HostRuntime) -> Result<(), AllocError> {
     Ok(())
 }
 
+/// Two rooms beside a lodged one come back. One of them is kept, for the next that is made, and in the end for none.
+#[test]
+fn a_room_that_is_kept(rt: HostRuntime) -> Result<(), AllocError> {
+    let mut nodes = Nodes::new(rt.alloc());
+    let room = nodes.make(&mut Memory::new())?;
+    nodes.lodge(room, 7u64);
+    let room = nodes.make(&mut Memory::new())?;
+    match nodes.make(&mut Memory::new()) {
+        Ok(other) => {
+            nodes.scrap(room);
+            nodes.scrap(other);
+        }
+        Err(refused) => {
+            nodes.scrap(room);
+            return Err(refused);
+        }
+    }
+    let room = nodes.make(&mut Memory::new())?;
+    let id = nodes.lodge(room, 8);
+    let mut visits = nodes.begin();
+    let value = *nodes.value(id, &mut visits);
+    let room = nodes.make(&mut Memory::new())?;
+    nodes.scrap(room);
+    assert_eq!(rt; value, 8);
+    Ok(())
+}
+
 /// What is in the map when it is let go is freed with it; that nothing is left is counted from outside.
 #[test]
 fn a_thousand_rooms_let_go(rt: HostRuntime) -> Result<(), Fail> {

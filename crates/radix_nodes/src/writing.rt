@@ -11,23 +11,36 @@ use crate::beside::Beside;
 use crate::id::Id;
 use crate::links::Links;
 use crate::nodes::Nodes;
-use crate::room::{Full, Room};
+use crate::room::{Full, Room, free};
 use crate::row::{name_newer, name_older, newest_without};
 use memory::Memory;
-use std::alloc::AllocError;
+use std::alloc::{AllocError, Global};
+use std_alloc::room::Vacant;
 
 impl<V> Nodes<V> {
     ghost use Rattle.radix_nodes.specs.LendingValue.{lends_value};
 
-    /// A room, which is none of those in the map. `Err` where there is no memory for it.
+    /// A room, which is none of those in the map: the one that is kept, or a new one. `Err` where there is no memory for
+    /// it.
     pub fn make(&mut self, memory: &mut Memory) -> Result<Room<V>, AllocError>
         ensures stays { self.new ≡ self.old }
         ensures free { IfOk result (λ room. get self.old.lodged room ≡ None) }
         ensures counted { Rises (is_err result) memory.old memory.new }
     {
-        let space = memory.block(self.alloc)?;
+        let space = self.block(memory)?;
         let space = self.blocks.apart(space);
         Ok(Room { space })
+    }
+
+    /// The block of the room that is kept, or a new one.
+    fn block(&mut self, memory: &mut Memory) -> Result<Vacant<Full<V>, Global>, AllocError>
+        ensures stays { self.new ≡ self.old }
+        ensures counted { Rises (is_err result) memory.old memory.new }
+    {
+        match self.kept.take() {
+            Some(Room { space }) => Ok(space),
+            None => memory.block(self.alloc),
+        }
     }
 
     /// The same room, which is none of those in the map: what is in one place has one owner. It does nothing.
@@ -85,13 +98,17 @@ impl<V> Nodes<V> {
         (room, value)
     }
 
-    /// Frees a room. The map stays as it is.
+    /// Takes a room back, for the next one that is made; where one is kept already, that one is freed, and where no room is
+    /// lodged, both are. The map stays as it is.
     pub fn scrap(&mut self, room: Room<V>)
         ensures { self.new ≡ self.old }
     {
-        let Room { space } = room;
-        // What it answers is the allocator, which has no bytes.
-        let _ = space.free();
+        if self.newest.is_none() {
+            free(self.kept.take());
+            free(Some(room));
+        } else {
+            free(self.kept.replace(room));
+        }
     }
 
     /// Writes the links of a room.

@@ -30,8 +30,11 @@ impl<V: Drop> Table<V> {
         ensures err { OnErr result (self.new ≡ self.old) }
         ensures counted { Rises (is_err result) memory.old memory.new }
     {
-        self.index.reserve(memory)?;
         let space = self.nodes.make(memory)?;
+        if let Err(refused) = self.index.reserve(memory) {
+            self.nodes.scrap(space);
+            return Err(refused);
+        }
         match memory.next(&mut self.numbers) {
             Ok(number) => Ok(Room {
                 space,
@@ -44,7 +47,7 @@ impl<V: Drop> Table<V> {
         }
     }
 
-    /// Takes back a room of this table in which no route stands, and frees it.
+    /// Takes back a room of this table in which no route stands. Where the table has no route, it keeps no memory for one.
     pub fn give_back(&mut self, room: Room<V>)
         requires made { room < self.old.next }
         requires free { uses room self.old.numbers ≡ 0 }
@@ -52,6 +55,9 @@ impl<V: Drop> Table<V> {
     {
         let Room { space, number: _ } = room;
         self.nodes.scrap(space);
+        if self.root.is_none() {
+            self.index.give_back();
+        }
     }
 
     /// Puts a route into this table, in a room of this table in which none stands, at a key with no bit past its rank.
@@ -92,14 +98,14 @@ impl<V: Drop> Table<V> {
             Ok((root, id)) => {
                 self.root = Some(root);
                 self.counts.added(rank);
-                self.index.enter(vacancy, key, rank, id);
+                self.index.enter(vacancy, key, rank, id, &mut visits);
                 self.given.put(at, number);
                 Ok(())
             }
         }
     }
 
-    /// Takes the route with this key and rank out of the table and frees its room. `None` where the table has no such
+    /// Takes the route with this key and rank out of the table and gives its room up. `None` where the table has no such
     /// route.
     pub fn remove(&mut self, key: Inet, rank: Rank) -> Option<V>
         ensures value { result ≡ option_map (λ e. e.value) (entry_at key rank self.old.entries) }

@@ -126,11 +126,18 @@ impl Index {
         match self.reserve_more(memory) {
             Ok(()) => Ok(()),
             Err(refused) => {
-                self.places.give_back();
-                self.ranges.give_back();
+                self.give_back();
                 Err(refused)
             }
         }
+    }
+
+    /// Gives back the memory that was asked for and isn't used.
+    pub fn give_back(&mut self)
+        ensures { self.new ≡ self.old }
+    {
+        self.places.give_back();
+        self.ranges.give_back();
     }
 
     /// Asks for that memory. The first places do without ranges.
@@ -168,10 +175,18 @@ impl Index {
 
     /// Enters the room of a route, of whose pair it has none, where a place was kept for it.
     #[inline(always)]
-    pub fn enter(&mut self, vacancy: Option<Vacancy>, key: Inet, rank: Rank, room: Id)
+    pub fn enter(
+        &mut self,
+        vacancy: Option<Vacancy>,
+        key: Inet,
+        rank: Rank,
+        room: Id,
+        visits: &mut Visits,
+    )
         requires kept_for { MatchOption vacancy (self.old.whole ≡ false) (λ v. IsKeptFor self.old (pair key rank) v) }
         requires absent { (other : Room) → Names self.old (pair key rank) other → ⊥ }
-        ensures { Enters self.old self.new (pair key rank) room }
+        ensures entered { Enters self.old self.new (pair key rank) room }
+        ensures counter { visits.new.turn ≡ visits.old.turn }
     {
         let Some(Vacancy { place }) = vacancy else {
             return;
@@ -181,7 +196,7 @@ impl Index {
             room,
         };
         self.places.enter(place, entry);
-        self.ranges.put(entry);
+        self.ranges.put(entry, visits);
     }
 
     /// Strikes the room of a route out. Where no route is left, the index is whole again.

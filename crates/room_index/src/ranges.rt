@@ -1,4 +1,4 @@
-//! Of each range of keys a pair in it, and which ranks its pairs have.
+//! Which ranks the pairs of each range of keys have, and of each slot the last pair that came into it.
 ghost use Rattle.std.specs.Prelude.{◌≡◌, ℕ, ◌+◌, ◌/◌, ◌<◌, ◌≤◌, ◌==◌, ◌⊎◌, is_err, length, slice_index, vec_capacity, IfSome, OnOk, Some};
 ghost use Rattle.mask_table.specs.RankSets.{HasRank};
 ghost use Rattle.memory.specs.Refusing.{Rises};
@@ -142,9 +142,9 @@ impl Ranges {
         self.ranks[range].union(self.short)
     }
 
-    /// An entry came.
+    /// An entry came. It is a look at its slot, and one at each range in which its rank is told.
     #[inline(always)]
-    pub(crate) fn put(&mut self, entry: Entry)
+    pub(crate) fn put(&mut self, entry: Entry, visits: &mut Visits)
         requires { IsByRange self.old }
         ensures ranges { IsByRange self.new }
         ensures put { slot_of self.old entry.pair < length self.old.last.items
@@ -154,14 +154,15 @@ impl Ranges {
         ensures told { IsTold self.new entry.pair }
         ensures more { TellsMore self.old self.new }
         ensures many { length self.new.last.items ≡ length self.old.last.items }
+        ensures counter { visits.new.turn ≡ visits.old.turn }
     {
-        self.put_last(entry);
-        self.tell(entry.pair);
+        self.put_last(entry, visits);
+        self.tell(entry.pair, visits);
     }
 
-    /// Puts an entry in the place of that which its slot has.
+    /// Puts an entry in the place of that which its slot has. It is one look.
     #[inline(always)]
-    fn put_last(&mut self, entry: Entry)
+    fn put_last(&mut self, entry: Entry, visits: &mut Visits)
         requires { IsByRange self.old }
         ensures ranges { IsByRange self.new }
         ensures put { slot_of self.old entry.pair < length self.old.last.items
@@ -173,7 +174,9 @@ impl Ranges {
         ensures short { self.new.short ≡ self.old.short }
         ensures bits { self.new.bits ≡ self.old.bits }
         ensures finer { self.new.finer ≡ self.old.finer }
+        ensures look { visits.new ≡ record visits.old { count = visits.old.count + 1 } }
     {
+        visits.tick(); // the look at what its slot has
         let slot = self.slot(entry.pair);
         if slot < self.last.len() {
             let many = self.last[slot].many.saturating_add(1);
@@ -187,31 +190,34 @@ impl Ranges {
 
     /// Tells the rank of a pair in each range that its network has, or beside them all.
     #[inline(always)]
-    fn tell(&mut self, pair: u64)
+    fn tell(&mut self, pair: u64, visits: &mut Visits)
         requires { self.old.bits ≤ MOST_BITS }
         ensures told { IsTold self.new pair }
         ensures more { TellsMore self.old self.new }
         ensures last { HasSameLast self.old self.new }
+        ensures counter { visits.new.turn ≡ visits.old.turn }
     {
         let rank = rank_of(pair);
         let first = self.range(pair);
         let spread = self.bits.saturating_sub(u32::from(rank.number()));
         if spread == 0 {
-            self.tell_at(first, rank);
+            self.tell_at(first, rank, visits);
         } else if spread <= WIDEST {
-            self.tell_in(first, first + (1 << spread), rank);
+            self.tell_in(first, first + (1 << spread), rank, visits);
         } else {
             self.short = self.short.with(rank);
         }
     }
 
-    /// Tells a rank in a range.
+    /// Tells a rank in a range. It is one look.
     #[inline(always)]
-    fn tell_at(&mut self, range: usize, rank: Rank)
+    fn tell_at(&mut self, range: usize, rank: Rank, visits: &mut Visits)
         ensures told { range < length self.new.ranks.items → HasRank (slice_index self.new.ranks.items range) rank }
         ensures more { TellsMore self.old self.new }
         ensures last { HasSameLast self.old self.new }
+        ensures look { visits.new ≡ record visits.old { count = visits.old.count + 1 } }
     {
+        visits.tick(); // the look at the ranks that are told
         if range < self.ranks.len() {
             self.ranks[range] = self.ranks[range].with(rank);
         }
@@ -219,13 +225,14 @@ impl Ranges {
 
     /// Tells a rank in the ranges from one to another.
     #[inline(never)]
-    fn tell_in(&mut self, from: usize, to: usize, rank: Rank)
+    fn tell_in(&mut self, from: usize, to: usize, rank: Rank, visits: &mut Visits)
         ensures told { (n : ℕ) → from ≤ n → n < to → n < length self.new.ranks.items → HasRank (slice_index self.new.ranks.items n) rank }
         ensures more { TellsMore self.old self.new }
         ensures last { HasSameLast self.old self.new }
+        ensures counter { visits.new.turn ≡ visits.old.turn }
     {
         for range in from..to.min(self.ranks.len()) {
-            self.tell_at(range, rank);
+            self.tell_at(range, rank, visits);
         }
     }
 
@@ -337,7 +344,7 @@ impl Ranges {
         self.begin(many, places.bits, finer.min(KEY_BITS - places.bits));
         for place in 0..places.many() {
             if let Some(entry) = places.at(place, visits) {
-                self.put(entry);
+                self.put(entry, visits);
             }
         }
     }

@@ -32,7 +32,8 @@ impl Trial {
             Some(_room) => {}
             None => {
                 let vacancy = self.index.vacancy(key, rank, &mut self.visits);
-                self.index.enter(vacancy, key, rank, self.room);
+                let visits = &mut self.visits;
+                self.index.enter(vacancy, key, rank, self.room, visits);
             }
         }
         Ok(())

@@ -1,5 +1,5 @@
--- Listeners do not disturb each other: one may open, close, read and turn its loopback as it likes, and the others hear
--- and are answered the same.
+-- Listeners do not disturb each other: one may open, close, read, ask for its losses and turn its loopback as it likes,
+-- and the others hear and are answered the same.
 use Rattle.std.specs.Prelude.{◌≡◌, ◌||◌, ℕ, Bool, true, false, List, [], ◌∷◌, map, filter, bytes_eq}
 use Rattle.std.specs.List.{AllByRecursion, list_any}
 use Rattle.sock_addrs.specs.declared.errno.Errno.TheVariants.{EMFILE, ENOBUFS}

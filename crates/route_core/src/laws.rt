@@ -80,9 +80,9 @@ pub fn steps_bring_few()
     ensures steps { StepsBringFew }
 {}
 
-/// Listeners do not disturb each other. Let x be an id, and take out of a list of commands every `loopback` and
-/// `read` of other ids, and every `open` and `close` of other ids that no write of the list names. Where nothing is
-/// answered 24 or 55, before and after, each command that is left has the answer that it had, and in the end the
+/// Listeners do not disturb each other. Let x be an id, and take out of a list of commands every `loopback`, `read`
+/// and `lost` of other ids, and every `open` and `close` of other ids that no write of the list names. Where nothing
+/// is answered 24 or 55, before and after, each command that is left has the answer that it had, and in the end the
 /// table, the interfaces and x's socket with its messages are the same. From the empty world on it is enough that
 /// nothing was answered so before: then the commands that are left may have those answers.
 pub fn others_do_not_disturb()

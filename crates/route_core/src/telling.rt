@@ -1,4 +1,4 @@
-//! The messages of look-ups and redirects, told to the sockets.
+//! The messages of look-ups, redirects and doubted routes, told to the sockets.
 ghost use Rattle.std.specs.Prelude.{◌≡◌, None, map};
 ghost use Rattle.listeners.specs.Sockets.{delivered};
 ghost use Rattle.route_core.specs.Messages.{gate_family as family_of_gate, notice_family as family_of, notice_message as message_of, notice_told};
@@ -21,7 +21,7 @@ pub(crate) fn tell(listeners: &mut Listeners, notices: &[Notice])
     }
 }
 
-/// Tells the sockets of a look-up or a redirect.
+/// Tells the sockets of one of them.
 pub(crate) fn tell_one(listeners: &mut Listeners, notice: &Notice)
     ensures { listeners.new ≡ delivered (message_of notice.now) (family_of notice.now) None listeners.old }
 {

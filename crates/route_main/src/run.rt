@@ -47,8 +47,8 @@ pub(crate) fn run<R: Read, W: Write>(
     ensures bad_line { result ≡ Outcome.BadLine → IfSome (R.remaining reader.old.inner) (λ script.
         has_bad_line (answered_lines script) ≡ true) }
 
-    // And no listener disturbs another in that transcript: what others open, close, read and turn off or on changes no
-    // byte of what is answered to one.
+    // And no listener disturbs another in that transcript: what others open, close and read, the losses that they
+    // ask for and the loopback that they turn change no byte of what is answered to one.
     ensures undisturbed { result ≡ Outcome.Done → IfSome (R.remaining reader.old.inner) (λ script. (text : List ℕ)
         × Appends (W.contents writer.old.inner) (W.contents writer.new.inner) text × IsTranscript script text
         × IsUndisturbed script text) }

@@ -77,7 +77,7 @@ pub(crate) fn replace(table: &mut Table<PackedRoute>, key: Inet, rank: Rank, pac
     }
 }
 
-/// Takes the route with this key and rank out of the table, where it is there, and frees its room.
+/// Takes the route with this key and rank out of the table, where it is there, and gives its room up.
 pub(crate) fn take_out(table: &mut Table<PackedRoute>, key: Inet, rank: Rank)
     ensures without { table.new.entries ≡ without key rank table.old.entries }
     ensures free { KeepsFree table.old table.new }
@@ -87,7 +87,7 @@ pub(crate) fn take_out(table: &mut Table<PackedRoute>, key: Inet, rank: Rank)
     let _ = table.remove(key, rank);
 }
 
-/// Takes the route with this key and rank out of the table, frees its room, and answers it. `None` where there is none.
+/// Takes the route with this key and rank out of the table, gives its room up, and answers it. `None` where there is none.
 pub(crate) fn take_pair(
     table: &mut Table<PackedRoute>,
     key: Inet,

@@ -4,6 +4,8 @@ use std::fs;
 use std::net::Ipv4Addr;
 use std::path::{Path, PathBuf};
 
+mod route_words;
+
 /// A comment of more bytes is a line that the grammar doesn't have.
 const MOST_LINE: usize = 16_500;
 
@@ -117,6 +119,7 @@ pub fn call_of(line: &str) -> Option<Call> {
                 world.redirect(*to, *by, *author)
             })
         }
+        ["route", id, seq, verb, to, ref options @ ..] => ask(id, verb, (seq, to, options))?,
         _ => return None,
     })
 }
@@ -161,7 +164,20 @@ fn listen(id: Socket, pid: u32, family: u8) -> Call {
     })
 }
 
-/// What a line of the grammar is answered by the typed call of its command; `route` has none.
+/// The call of a `route` line, where the grammar has it and a request says it.
+fn ask(id: &str, verb: &str, (seq, to, options): (&str, &str, &[&str])) -> Option<Call> {
+    let given = (
+        route_words::socket(id)?,
+        route_words::asking(verb)?,
+        route_words::request(seq, to, options)?,
+    );
+    Some(with(given, |world, (id, call, request)| {
+        call(world, *id, request)
+    }))
+}
+
+/// What a line of the grammar is answered by the typed call of its command. A `route` line with `ifp`
+/// or `ifa` has none, and neither has one that the grammar refuses; these go by `by_line`.
 pub fn told(world: &mut World, line: &str) -> String {
     let words: Vec<&str> = line.split(' ').collect();
     match words[..] {

@@ -1,4 +1,4 @@
-//! The one call of the requests that the program doesn't make.
+//! `check_add`, which no program calls.
 use crate::{Kind, LinkAddress, World};
 use mask_table::Prefix;
 use route_msgs::Metrics;

@@ -97,7 +97,7 @@ invariant_of-self-in-Ok-1 g c =
           (subst (AreCounted c.self.inside.counts) (sym before) c.self.invariant.counted) c.in-Ok.ensures.routes
           (subst (λ r. HasOneMore r c.self.inside.counts c.added.new.self) (sym (ap (λ e. e.rank) c.of-entry.ensures.entry)) c.added.ensures);
       indexed = index_more c.vacancy-vacancy.new.self c.enter.new.self m c.insert.new.nodes.lodged c.in-Ok.id
-          (record { key = c.args.key; rank = c.args.rank; value = c.args.value }) (indexed g (goal.at.invariant_of-self-in-Ok-1 g c).After-vacancy-vacancy) c.enter.ensures
+          (record { key = c.args.key; rank = c.args.rank; value = c.args.value }) (indexed g (goal.at.invariant_of-self-in-Ok-1 g c).After-vacancy-vacancy) c.enter.ensures.entered
           (ap place_of (ap (leaves_in m) c.in-Ok.ensures.number ∙ is_free g at))
           (subst (HasPlaceMore m c.insert.new.nodes.lodged c.in-Ok.id) c.of-entry.ensures.entry c.in-Ok.ensures.places);
       numbered = subst (λ p. AreGiven c.insert.new.nodes.lodged p c.self.inside.numbers) (sym put) (numbered g at);

@@ -15,15 +15,9 @@ invariant_of-self-in-Ok g c =
       numbered = subst (AreGiven c.make.new.self.lodged c.self.inside.given) (sym (next.1 ∙ next.0)) (given_next c.make.new.self.lodged k.numbered);
     }
 
-pub invariant_of-self-in_err-space : goal.invariant_of-self-in_err-space
-invariant_of-self-in_err-space g c = kept_reserved c.self.inside.index c.reserve.new.self c.self.inside.nodes c.make.new.self c.self.invariant
-    c.reserve.ensures.same c.make.ensures.stays
-
 pub invariant_of-self-in-Err : goal.invariant_of-self-in-Err
-invariant_of-self-in-Err g c =
-    subst (IsKept c.scrap.new.self c.self.inside.root c.self.inside.counts c.reserve.new.self c.self.inside.given) (sym c.in-Err.ensures.kept)
-    (kept_reserved c.self.inside.index c.reserve.new.self c.self.inside.nodes c.scrap.new.self c.self.invariant c.reserve.ensures.same
-    (c.scrap.ensures ∙ c.make.ensures.stays))
+invariant_of-self-in-Err g c = kept_reserved c.self.inside.index c.reserve.new.self c.self.inside.nodes c.scrap.new.self c.self.invariant
+    c.reserve.ensures.same (c.scrap.ensures ∙ c.make.ensures.stays)
 
 pub returns-in-Ok-clause-number : goal.returns-in-Ok-clause-number
 returns-in-Ok-clause-number g c =

@@ -12,14 +12,14 @@ pub enter-requires-clause-absent : goal.enter-requires-clause-absent
 enter-requires-clause-absent c e at same = c.requires.absent e.room (subst (λ k. Names c.args.self.now k e.room) (same ∙ c.pair_of.ensures)
     (subst (λ h. Names h e.pair e.room) c.self.view_is (is_named c.self.inside.places (not c.self.inside.given_up) e at)))
 
-pub returns : goal.returns
-returns c =
+pub returns-clause-entered : goal.returns-clause-entered
+returns-clause-entered c =
     let now = held c.enter.new.self (not c.self.inside.given_up) in
     subst (λ k. Enters c.args.self.now now k c.args.room) c.pair_of.ensures (subst (λ h. Enters h now c.pair_of.result c.args.room) c.self.view_is
     (enters c.self.inside.places c.enter.new.self (not c.self.inside.given_up) (record { pair = c.pair_of.result; room = c.args.room }) c.enter.ensures.entered))
 
-pub returns-in_default : goal.returns-in_default
-returns-in_default c = enters_none c.args.self.now (pair c.args.key c.args.rank) c.args.room
+pub returns-in_default-clause-entered : goal.returns-in_default-clause-entered
+returns-in_default-clause-entered c = enters_none c.args.self.now (pair c.args.key c.args.rank) c.args.room
     (subst (λ v. MatchOption v (c.args.self.now.whole ≡ false) (λ x. IsKeptFor c.args.self.now (pair c.args.key c.args.rank) x)) c.in_default.is c.requires.kept_for)
 
 pub invariant_of-self : goal.invariant_of-self

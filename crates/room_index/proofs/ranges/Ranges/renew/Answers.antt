@@ -47,7 +47,10 @@ loop-place-preserved c = record {
     | in-Some w ↦ ap (λ r. length r.last.items) w.self-is ∙ w.put.ensures.many ∙ c.loop-place.invariant.many
     | in_default w ↦ ap (λ r. length r.last.items) w.self-is ∙ c.loop-place.invariant.many
   ];
-  counter = ap (λ v. v.turn) c.at.ensures.look ∙ c.loop-place.invariant.counter;
+  counter = elim c.match-at.branch [
+    | in-Some w ↦ ap (λ v. v.turn) w.visits-is ∙ w.put.ensures.counter ∙ ap (λ v. v.turn) c.at.ensures.look ∙ c.loop-place.invariant.counter
+    | in_default w ↦ ap (λ v. v.turn) w.visits-is ∙ ap (λ v. v.turn) c.at.ensures.look ∙ c.loop-place.invariant.counter
+  ];
 }
 
 pub returns-clause-told : goal.returns-clause-told
