@@ -99,23 +99,22 @@ fn a_room_read_and_written(rt: HostRuntime) -> Result<(), AllocError> {
     Ok(())
 }
 
+/// Makes two rooms and gives both back.
+fn two_given_back(nodes: &mut Nodes<u64>) -> Result<(), AllocError> {
+    let room = nodes.make(&mut Memory::new())?;
+    let other = nodes.make(&mut Memory::new());
+    nodes.scrap(room);
+    nodes.scrap(other?);
+    Ok(())
+}
+
 /// Two rooms beside a lodged one come back. One of them is kept, for the next that is made, and in the end for none.
 #[test]
 fn a_room_that_is_kept(rt: HostRuntime) -> Result<(), AllocError> {
     let mut nodes = Nodes::new(rt.alloc());
     let room = nodes.make(&mut Memory::new())?;
     nodes.lodge(room, 7u64);
-    let room = nodes.make(&mut Memory::new())?;
-    match nodes.make(&mut Memory::new()) {
-        Ok(other) => {
-            nodes.scrap(room);
-            nodes.scrap(other);
-        }
-        Err(refused) => {
-            nodes.scrap(room);
-            return Err(refused);
-        }
-    }
+    two_given_back(&mut nodes)?;
     let room = nodes.make(&mut Memory::new())?;
     let id = nodes.lodge(room, 8);
     let mut visits = nodes.begin();
