@@ -136,6 +136,8 @@ impl World {
 
     /// Takes one command that reads no socket, each by the call of its name; nothing of its answer is lent. The answer is
     /// ENOBUFS exactly where memory was refused, which is counted.
+    // It is inlined, so that the answer is made in the caller's place: to move it took 9 to 60 instructions a line.
+    #[inline(always)]
     pub fn answer_counted(&mut self, said: &Said<'_>, memory: &mut Memory) -> Answer<'static>
         requires { is_read said.now ≡ false }
         ensures step { Steps self.old said.now result self.new }
