@@ -21,7 +21,7 @@
  *
  * NAMES, of interfaces, and IDS, of sockets, are bytes of any value; lines, and routesim, take `a` to `z` and `0` to
  * `9` alone. The functions whose names end in _n take them counted. Behind them stand inline functions without the _n,
- * which take them as C strings and are the same but for that.
+ * which take them as C strings and are the same but for that; hk_write_as has this form alone.
  *
  * ADDRESSES are numbers, 10.0.0.1 being 0x0a000001, in the order of the host: no htonl. MESSAGES are the bytes of a
  * 32-bit machine that stores the highest byte first (docs/FORMATS.md).
@@ -277,10 +277,10 @@ uint32_t hk_losing(hk_world *world, uint32_t address);
 typedef struct hk_request {
 	uint32_t destination;        /* its key */
 	uint32_t gateway;            /* its gateway's address, where `family` is HK_AF_INET */
-	uint32_t flags;              /* RTF_.. of <net/route.h> */
+	uint32_t flags;              /* HK_RTF_.. */
 	uint32_t seq;                /* the number by which the writer knows the reply */
-	uint32_t inits;              /* the metrics that are set, RTV_.. of <net/route.h>; no other is looked at */
-	uint32_t locks;              /* the metrics that are locked, RTV_.. */
+	uint32_t inits;              /* the metrics that are set, HK_RTV_..; no other is looked at */
+	uint32_t locks;              /* the metrics that are locked, HK_RTV_.. */
 	uint32_t mtu;
 	uint32_t hopcount;
 	uint32_t expire;
@@ -312,8 +312,8 @@ static inline hk_request hk_request_of(uint32_t destination, uint8_t prefix)
  * Each writes to a socket the message that a `route` line with these words would (docs/FORMATS.md), and answers as
  * hk_write_n of that message does.
  *
- * HK_EINVAL: more than 32 bits of a mask, another family, or a link-layer address that isn't of 8 to 32 bytes with their
- * number and HK_AF_LINK before all others. Then what hk_write_n says.
+ * HK_EINVAL: more than 32 bits of a mask but HK_HOST, another family, or a link-layer address that isn't of 8 to 32
+ * bytes with their number and HK_AF_LINK before all others. Then what hk_write_n says.
  */
 uint32_t hk_add_route_n(hk_world *world, const uint8_t *id, size_t id_n, const hk_request *request);
 uint32_t hk_delete_route_n(hk_world *world, const uint8_t *id, size_t id_n, const hk_request *request);

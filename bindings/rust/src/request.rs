@@ -18,7 +18,7 @@ pub struct Request {
     pub gateway: Option<Gateway>,
     /// The bits of the mask of its clones.
     pub genmask: Option<u8>,
-    /// `RTF_..` of <net/route.h>.
+    /// `RTF_..` of [`crate::net_route`].
     pub flags: u32,
     /// The number by which the writer knows the reply.
     pub seq: u32,
