@@ -24,7 +24,13 @@ BEGIN = re.compile(r"\bMemory::new\(\)")
 # a form that is its counted one under a count of its own, which nobody below it sees
 UNCOUNTED = re.compile(r"fn (\w+)(?:<[^>]*>)?\((?:(?!\n    \}|\n\}).)*\b\1_counted\([^;{}]*&mut Memory::new\(\)\)\s*\}", re.DOTALL)
 ASK = re.compile(r"\b(?:Vec|VecDeque|String|BufWriter|BufReader)::with_capacity\(|\bvec!\[|\bBox::|\.to_vec\(")
-GROW = re.compile(r"(?<!\bmemory)\.(?:push|extend|extend_from_slice|resize|reserve|insert|append)\([^;{}]*?\)\s*(?:\?|\.(?:is_ok|is_err|ok|unwrap_or\w*)\b)")
+CALLS = r"(?:push|extend|extend_from_slice|resize|reserve|reserve_exact|insert|append)"
+GROW = re.compile(rf"(?<!\bmemory)\.{CALLS}\([^;{{}}]*?\)\s*(?:\?|\.(?:is_ok|is_err|ok|unwrap_or\w*)\b)")
+# the same where what is answered is taken apart, or is let go
+TAKEN = re.compile(
+    r"(?:\blet\s+(?:_|(?:Ok|Err)\(.*?\))\s*=|\bmatch)"
+    rf"\s[^;{{}}]*(?<!\bmemory)\.{CALLS}\([^;{{}}]*?\)(?=\s*(?:;|\{{|else\b))"
+)
 # what is asked for under the caller's count
 BY_COUNT = re.compile(r"\bmemory\s*\)")
 
@@ -42,7 +48,7 @@ def faults(name, text):
         yield "begins a count"
     if name not in ASKS and ASK.search(code):
         yield "asks by itself"
-    if any(not BY_COUNT.search(found[0]) for found in GROW.finditer(code)):
+    if any(not BY_COUNT.search(found[0]) for form in (GROW, TAKEN) for found in form.finditer(code)):
         yield "sees by itself whether there was memory"
 
 
@@ -67,6 +73,11 @@ IN_SECRET = [
     "    if items.reserve(8).is_err() {\n        return false;\n    }\n",
     "    let _ = items.push(byte).is_ok();\n",
     "    items.extend_from_slice(bytes)?;\n",
+    "    let _ = items.reserve(8);\n",
+    "    let Ok(()) = items.push(byte) else {\n        return false;\n    };\n",
+    "    match items.reserve(8) {\n        Ok(()) => {}\n        Err(_) => return false,\n    }\n",
+    "    if let Err(_) = items.push(byte) {\n        return false;\n    }\n",
+    "    if items.reserve_exact(8).is_err() {\n        return false;\n    }\n",
     "    let items = Vec::with_capacity(alloc, 8);\n",
     "    fn grow(&mut self) { self.other_counted(&mut Memory::new()) }\n",
 ]
