@@ -27,7 +27,7 @@ built = crates/$(1)/out/built
 benchmark = bench_main
 # The programs, by their crates, and what each is called.
 programs := $(filter-out $(benchmark),$(patsubst crates/%/src/main.rt,%,$(wildcard crates/*/src/main.rt)))
-called = $(subst conv_main,routeconv,$(subst show_main,routeshow,$(subst route_main,routesim,$(1))))
+called = $(subst lab_main,routelab,$(subst conv_main,routeconv,$(subst show_main,routeshow,$(subst route_main,routesim,$(1)))))
 archive = crates/hoiskend/out/$(1)/libhoiskend.a
 shared = crates/hoiskend/out/$(1)/libhoiskend.so
 # What loaders call the shared object (tools/shared).

@@ -13,6 +13,7 @@ BEGINS = {
     "hoiskend/src/calls.rt",
     "hoiskend/src/session.rt",
     "hoiskend/src/show.rt",
+    "lab_main/src/main.rt",
     "program_ends/src/words.rt",
     "route_main/src/main.rt",
     "show_main/src/main.rt",

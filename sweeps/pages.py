@@ -1,6 +1,6 @@
 """What stands in two places: the lines, errnos and statuses of docs/FORMATS.md and of the manual page, the errnos of
-each call in FORMATS and in the header, the numbers of <net/route.h> and of the code, figures, and the message that
-FORMATS takes apart."""
+each call in FORMATS and in the header, the numbers of <net/route.h> and of the code, figures, the trees that TREE shows, and
+the message that FORMATS takes apart."""
 import re
 from dataclasses import dataclass, replace
 from pathlib import Path
@@ -20,6 +20,7 @@ PATHS = {
     "readme": "README.md", "formats": "docs/FORMATS.md", "manual": "docs/routesim.1", "proved": "docs/PROVED.md",
     "daemon": "docs/DAEMON.md", "decisions": "docs/DECISIONS.md", "speed": "docs/SPEED.md", "tree": "docs/TREE.md",
     "perf": "docs/PERF.md", "header": "include/hoiskend.h", "library": "docs/hoiskend.3", "rust": "bindings/rust/src/world.rs",
+    "drawn": "examples/longest-mask.lab.shown",
 }
 
 
@@ -39,6 +40,7 @@ class Pages:
     header: str
     library: str
     rust: str
+    drawn: str
     numbers: str
     words: frozenset
 
@@ -245,6 +247,13 @@ def unnamed(pages):
     return sorted({*re.findall(r"\w+", " ".join(carried))} - pages.words)
 
 
+def has_its_pictures(pages):
+    """The trees and the ways that TREE shows are those that `routelab` drew."""
+    parts = section(pages.tree, "## As `routelab` draws it\n", "\n## ").split("\n\n")
+    shown = [part for part in parts if part.startswith("    ")]
+    return shown != [] and all(f"\n{part}\n" in pages.drawn for part in shown)
+
+
 def differences(pages):
     """What stands otherwise in one place than in another."""
     texts = {status: text.decode().strip() for status, text in FAULT_TEXT.items()}
@@ -259,6 +268,7 @@ def differences(pages):
         "numbers": numbers_in_formats(pages) == {**numbers_in_code(pages), **NEVER_MADE},
         "errnos of FORMATS by line and of the header by call": have_their_calls(pages),
         "errnos of FORMATS by line and by reason": have_their_reasons(pages),
+        "pictures of TREE and of the example": has_its_pictures(pages),
     }
     for what, places in FIGURES.items():
         found = figures(pages, places)
@@ -296,6 +306,7 @@ SLIPS = [
     ("daemon", "`bench/packets` counts ", "`bench/packets` counts 1", "instructions of a packet"),
     ("perf", "by a default route takes ", "by a default route takes 1", "instructions of a packet by a default route"),
     ("tree", "At most 2,400 times", "Always 2,400 times", "visits of a best route"),
+    ("tree", "    up to bit 22, masks", "    up to bit 23, masks", "pictures of TREE and of the example"),
     ("speed", "The room is ", "The room is 1", "bytes of a room"),
     ("decisions", "Any other is whole, ", "Any other is whole, 1", "bytes of a block"),
     ("header", "#define HK_STACK_BYTES ", "#define HK_STACK_BYTES 1", "stack of a call"),

@@ -58,8 +58,9 @@ def gives(stream, text):
     return not text
 
 
-def is_in_step(sweep, turns, status, words=()):
-    """Whether the program writes for each line what is wanted of it before the next line is sent, and ends so."""
+def is_in_step(sweep, turns, status, words=(), behind=b""):
+    """Whether the program writes for each line what is wanted of it before the next line is sent, and ends so, with this
+    behind all."""
     pipes = {"stdin": subprocess.PIPE, "stdout": subprocess.PIPE, "bufsize": 0}
     with subprocess.Popen([sweep.program, *words], env=sweep.environment(), **pipes) as process:
         holds = True
@@ -67,7 +68,7 @@ def is_in_step(sweep, turns, status, words=()):
             process.stdin.write(line)
             holds = holds and gives(process.stdout, wanted)
         process.stdin.close()
-        return holds and process.stdout.read() == b"" and process.wait() == status
+        return holds and process.stdout.read() == behind and process.wait() == status
 
 
 def answer_each_line_at_once(sweep, example):

@@ -25,5 +25,6 @@ pub use bad::Bad;
 pub use counted::Counted;
 pub use grammar::{read_line, read_said};
 pub use line_buffer::{LineBuffer, is_passed};
+pub use numbers::read_inet;
 pub use output::{Stopped, write_bytes};
 pub use route_words::{MetricWords, RouteWords, Verb, compose};

@@ -141,8 +141,8 @@ fn dotted(number: u32, digits: &[u8]) -> Option<u8>
     Some(number as u8)
 }
 
-/// An IPv4 address: four decimals up to 255, parted by dots.
-pub(crate) fn read_inet(word: &[u8]) -> Option<Inet>
+/// An IPv4 address: four decimals up to 255, parted by dots. `None` where the word is no such address.
+pub fn read_inet(word: &[u8]) -> Option<Inet>
     ensures { result ≡ inet_of word.now }
 {
     let (a, rest) = cut_byte(word)?;

@@ -1,5 +1,5 @@
 -- What is told of a route of the table.
-use Rattle.std.specs.Prelude.{ℕ, List, Option, option_map}
+use Rattle.std.specs.Prelude.{ℕ, List, Option, map, option_map}
 use Rattle.if_addrs.specs.Interfaces.{Interface}
 use Rattle.radix_tree.specs.Table.{entry_at}
 use Rattle.radix_tree.specs.declared.entry.Entry.{Entry}
@@ -20,3 +20,7 @@ route_told interfaces r = record {
 -- the route with this key and rank
 abbrev pub stored : ℕ → ℕ → World → Option RouteTold
 stored key rank w = option_map (route_told w.interfaces) (entry_at key rank w.table)
+
+-- all routes, in table order
+abbrev pub all_told : World → List RouteTold
+all_told w = map (route_told w.interfaces) w.table

@@ -1,0 +1,5 @@
+pub mod Commanding
+pub mod Indenting
+pub mod Reaching
+pub mod Running
+pub mod Turning

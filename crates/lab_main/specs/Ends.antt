@@ -1,0 +1,96 @@
+-- What a run with an outcome did to its reader, which had `before` and has `after` left, and to its writer, which held `old`
+-- and holds `new`.
+use Rattle.std.specs.Prelude.{◌≡◌, ◌≢◌, ◌⊎◌, Bool, true, false, List, [], ◌∷◌, ◌++◌, ℕ, Option}
+use Rattle.std.specs.Io.KnownBytes.{Appends, Consumes, IsAtEnd}
+use Rattle.event_file.specs.Lines.{AreLines, has_newline, with_newlines}
+use Rattle.program_ends.specs.declared.outcome.Outcome.{Outcome}
+use Rattle.program_ends.specs.declared.outcome.Outcome.TheVariants.{Done, BadLine, ReadFault, WriteFault, NoMemory}
+use Rattle.line_reader.specs.Given.{Spent}
+use Rattle.lab_main.specs.Telling.{Point, Told, fresh, if_any, point}
+use Rattle.lab_main.specs.Texts.{ending}
+use Rattle.lab_main.specs.declared.shows.Shows.{Shows}
+
+-- these bytes were read: whole lines, each with a newline behind it, and then this
+pub record Cut (before after : Option (List ℕ)) (lines : List (List ℕ)) (behind : List ℕ) : Type 0 where
+  pub read : List ℕ
+  pub consumes : Consumes before after read
+  pub are : AreLines lines
+  pub parts : read ≡ with_newlines lines ++ behind
+
+-- so were these, and the last line at the end of the text is one without a newline
+pub record CutLast (before after : Option (List ℕ)) (lines : List (List ℕ)) : Type 0 where
+  pub whole : List (List ℕ)
+  pub last : List ℕ
+  pub cut : Cut before after whole last
+  pub line : has_newline last ≡ false
+  pub some : last ≢ []
+  pub lines_are : lines ≡ whole ++ last ∷ []
+  pub at_end : IsAtEnd after
+
+-- these are the first lines of what was read, with this behind them
+abbrev pub AreFirst : Option (List ℕ) → Option (List ℕ) → List (List ℕ) → List ℕ → Type 0
+AreFirst before after lines behind = Cut before after lines behind ⊎ (CutLast before after lines × (behind ≡ []))
+
+-- and they are all, or those up to the one by which the text was quit
+abbrev pub AreAll : Option (List ℕ) → Option (List ℕ) → List (List ℕ) → Point → Type 0
+AreAll before after lines last = (behind : List ℕ) × AreFirst before after lines behind
+    × ((last.state.over ≡ true) ⊎ ((behind ≡ []) × IsAtEnd after))
+
+-- all lines were told, and then what is told behind them; some line was bad or none was
+pub record ToldAll (o : Shows) (count : ℕ) (before after old new : Option (List ℕ)) (bad : Bool) : Type 0 where
+  pub lines : List (List ℕ)
+  pub text : List ℕ
+  pub last : Point
+  pub all : AreAll before after lines last
+  pub told : Told o (point fresh count) lines text last
+  pub bad_is : if_any last.state.bad ≡ bad
+  pub appends : Appends old new (text ++ ending last.state.bad)
+
+-- exactly the lines that were read to their ends were told, or as many as there are turns
+pub record ToldEnded (o : Shows) (count : ℕ) (before after old new : Option (List ℕ)) : Type 0 where
+  pub lines : List (List ℕ)
+  pub begun : List ℕ
+  pub text : List ℕ
+  pub last : Point
+  pub cut : Cut before after lines begun
+  pub whole : (has_newline begun ≡ false) ⊎ Spent before after
+  pub told : Told o (point fresh count) lines text last
+  pub appends : Appends old new text
+
+-- what was written stands before an unwritten rest of what may be told of lines that were read, and behind all of them
+pub record ToldFront (o : Shows) (count : ℕ) (before after old new : Option (List ℕ)) : Type 0 where
+  pub lines : List (List ℕ)
+  pub behind : List ℕ
+  pub text : List ℕ
+  pub last : Point
+  pub written : List ℕ
+  pub unwritten : List ℕ
+  pub first : AreFirst before after lines behind
+  pub told : Told o (point fresh count) lines text last
+  pub whole : text ++ ending last.state.bad ≡ written ++ unwritten
+  pub appends : Appends old new written
+
+-- memory was refused so often before the run
+abbrev pub Ends : Shows → ℕ → Outcome → Option (List ℕ) → Option (List ℕ) → Option (List ℕ) → Option (List ℕ) → Type 0
+Ends o count Done before after old new = ToldAll o count before after old new false
+Ends o count BadLine before after old new = ToldAll o count before after old new true
+Ends o count ReadFault before after old new = ToldEnded o count before after old new
+Ends o count WriteFault before after old new = ToldFront o count before after old new
+Ends o count NoMemory before after old new = ToldFront o count before after old new
+
+-- ---- behind the last line
+
+-- it wrote a front of what is told behind all lines
+pub record EndingFront (old new : Option (List ℕ)) (bad : List ℕ) : Type 0 where
+  pub written : List ℕ
+  pub unwritten : List ℕ
+  pub whole : ending bad ≡ written ++ unwritten
+  pub appends : Appends old new written
+
+-- how a run ended whose lines were told
+abbrev pub Finishes : Outcome → Option (List ℕ) → Option (List ℕ) → List ℕ → Type 0
+Finishes Done old new bad = Appends old new (ending bad) × (if_any bad ≡ false)
+Finishes BadLine old new bad = Appends old new (ending bad) × (if_any bad ≡ true)
+Finishes ReadFault old new bad = ⊥
+Finishes WriteFault old new bad = EndingFront old new bad
+Finishes NoMemory old new bad = EndingFront old new bad

@@ -1,0 +1,10 @@
+pub mod Ends
+pub mod Faults
+pub mod Help
+pub mod Pairs
+pub mod Progress
+pub mod Questions
+pub mod Runs
+pub mod Telling
+pub mod Texts
+pub mod Turns

@@ -1,0 +1,214 @@
+//! What is answered to a line.
+ghost use Rattle.std.specs.Prelude.{◌≡◌, ◌<◌, ◌≤◌, ◌++◌, [], false, IfOk, OnErr, OnOk, Some, codes, is_err, is_none, length};
+ghost use Rattle.event_file.specs.Grammar.{command_of};
+ghost use Rattle.lab_main.specs.Telling.{Answers, Obeys, answer_to, pairs_of, plainly};
+ghost use Rattle.lab_main.specs.Questions.{ends_all};
+ghost use Rattle.lab_main.specs.Turns.{ComesTo, is_bad_turn, is_last_turn};
+ghost use Rattle.memory.specs.Refusing.{Rises};
+ghost use Rattle.plain_lines.specs.PlainLines.{plain_of};
+ghost use Rattle.tree_pictures.specs.Dot.{graph_text};
+
+use crate::questions::{Question, is_question, question_of};
+use crate::texts::{put_fault, put_help, put_no_question};
+use event_file::{is_passed, read_said};
+use lab_text::Text;
+use memory::Memory;
+use plain_lines::put_plain;
+use route_core::{MOST_WRITTEN, Room, World};
+use std::alloc::{AllocError, Global};
+use tree_pictures::{Pair, put_find, put_graph, put_tree};
+use world_words::{put_agreeing, put_answer, put_interfaces, put_sockets, put_table};
+
+/// What a line came to.
+#[derive(Clone, Copy, Debug, PartialEq, Eq)]
+pub(crate) enum Turn {
+    /// Something was answered, or there was nothing to answer.
+    On,
+    /// It is neither a question nor a command.
+    Bad,
+    /// It is the last.
+    Quit,
+}
+
+/// Puts what is answered to a line in the place of no text.
+pub(crate) fn answer_line(
+    alloc: Global,
+    world: &mut World,
+    written: &mut [u8],
+    room: &mut Room,
+    line: &[u8],
+    body: &mut Text,
+    memory: &mut Memory,
+) -> Result<Turn, AllocError>
+    requires written { length written.old ≡ MOST_WRITTEN }
+    requires empty { body.old ≡ [] }
+    ensures answers { OnOk result (Answers world.old line.now body.new world.new memory.old memory.new) }
+    ensures turn { IfOk result (λ turn. ComesTo line.now turn) }
+    ensures rises { OnOk result (memory.old ≤ memory.new) }
+    ensures short { OnErr result (memory.old < memory.new) }
+{
+    if is_question(line) {
+        return answer_question(alloc, world, question_of(line), body, memory);
+    }
+    if is_passed(line) {
+        return Ok(Turn::On);
+    }
+    answer_command(alloc, world, written, room, line, body, memory)
+}
+
+/// Obeys a line by its plain line, which is told before where it is another.
+fn answer_command(
+    alloc: Global,
+    world: &mut World,
+    written: &mut [u8],
+    room: &mut Room,
+    line: &[u8],
+    body: &mut Text,
+    memory: &mut Memory,
+) -> Result<Turn, AllocError>
+    requires written { length written.old ≡ MOST_WRITTEN }
+    requires empty { body.old ≡ [] }
+    ensures obeys { OnOk result (Obeys world.old (plain_of line.now) (plainly line.now) body.new world.new memory.old memory.new) }
+    ensures turn { IfOk result (λ turn. (is_bad_turn turn ≡ is_none (command_of (plain_of line.now))) × (is_last_turn turn ≡ false)) }
+    ensures rises { OnOk result (memory.old ≤ memory.new) }
+    ensures short { OnErr result (memory.old < memory.new) }
+{
+    let mut plain = Text::new(alloc);
+    tell_plain(line, &mut plain, body, memory)?;
+    obey(alloc, world, written, room, &plain, body, memory)
+}
+
+/// Makes the plain line of a line, and appends it to what is told where it is another.
+fn tell_plain(
+    line: &[u8],
+    plain: &mut Text,
+    body: &mut Text,
+    memory: &mut Memory,
+) -> Result<(), AllocError>
+    requires { plain.old ≡ [] }
+    ensures plain { OnOk result (plain.new ≡ plain_of line.now) }
+    ensures told { OnOk result (body.new ≡ body.old ++ plainly line.now) }
+    ensures counted { Rises (is_err result) memory.old memory.new }
+{
+    if !put_plain(plain, line, memory)? {
+        return Ok(());
+    }
+    put_plainly(plain, body, memory)?;
+    Ok(())
+}
+
+/// Appends a plain line that stands for another one.
+fn put_plainly(plain: &Text, body: &mut Text, memory: &mut Memory) -> Result<(), AllocError>
+    ensures put { OnOk result (body.new ≡ body.old ++ codes "= " ++ plain.now ++ codes "\n") }
+    ensures counted { Rises (is_err result) memory.old memory.new }
+{
+    body.put(b"= ", memory)?;
+    body.put(plain.as_bytes(), memory)?;
+    body.put(b"\n", memory)
+}
+
+/// Obeys a plain line and appends what that is answered, or which of its words is wrong.
+fn obey(
+    alloc: Global,
+    world: &mut World,
+    written: &mut [u8],
+    room: &mut Room,
+    line: &Text,
+    body: &mut Text,
+    memory: &mut Memory,
+) -> Result<Turn, AllocError>
+    requires { length written.old ≡ MOST_WRITTEN }
+    ensures obeys { OnOk result (Obeys world.old line.now body.old body.new world.new memory.old memory.new) }
+    ensures turn { IfOk result (λ turn. (is_bad_turn turn ≡ is_none (command_of line.now)) × (is_last_turn turn ≡ false)) }
+    ensures rises { OnOk result (memory.old ≤ memory.new) }
+    ensures short { OnErr result (memory.old < memory.new) }
+{
+    let Some(said) = &read_said(line.as_bytes(), written) else {
+        put_fault(body, line.as_bytes(), memory)?;
+        return Ok(Turn::Bad);
+    };
+    let answer = world.obey_counted(said, room, memory);
+    put_answer(body, said, &answer, world, alloc, memory)?;
+    Ok(Turn::On)
+}
+
+/// Appends the answer to a question, or which questions there are.
+fn answer_question(
+    alloc: Global,
+    world: &mut World,
+    question: Option<Question>,
+    body: &mut Text,
+    memory: &mut Memory,
+) -> Result<Turn, AllocError>
+    ensures answer { OnOk result (body.new ≡ body.old ++ answer_to question world.old) }
+    ensures kept { world.new ≡ world.old }
+    ensures bad { IfOk result (λ turn. is_bad_turn turn ≡ is_none question) }
+    ensures last { IfOk result (λ turn. is_last_turn turn ≡ ends_all question) }
+    ensures counted { Rises (is_err result) memory.old memory.new }
+{
+    let Some(question) = question else {
+        put_no_question(body, memory)?;
+        return Ok(Turn::Bad);
+    };
+    if question == Question::Quit {
+        return Ok(Turn::Quit);
+    }
+    put_told(alloc, world, question, body, memory)?;
+    Ok(Turn::On)
+}
+
+/// Appends what a question asks for.
+fn put_told(
+    alloc: Global,
+    world: &mut World,
+    question: Question,
+    body: &mut Text,
+    memory: &mut Memory,
+) -> Result<(), AllocError>
+    ensures put { OnOk result (body.new ≡ body.old ++ answer_to (Some question) world.old) }
+    ensures kept { world.new ≡ world.old }
+    ensures counted { Rises (is_err result) memory.old memory.new }
+{
+    match question {
+        Question::Table => put_table(body, &world.routes(memory)?, world, memory),
+        Question::Tree => put_tree(body, &pairs(alloc, world, memory)?, memory),
+        Question::Find(address) => put_find(body, address, &pairs(alloc, world, memory)?, memory),
+        Question::Why(address) => put_agreeing(body, address, &world.routes(memory)?, memory),
+        Question::Interfaces => put_interfaces(body, world, memory),
+        Question::Sockets => put_sockets(body, world, memory),
+        Question::Help => put_help(body, memory),
+        Question::Quit => Ok(()),
+    }
+}
+
+/// Appends the radix tree of the routes as a graph.
+pub(crate) fn put_world_graph(
+    alloc: Global,
+    world: &mut World,
+    text: &mut Text,
+    memory: &mut Memory,
+) -> Result<(), AllocError>
+    ensures put { OnOk result (text.new ≡ text.old ++ graph_text (pairs_of world.old)) }
+    ensures kept { world.new ≡ world.old }
+    ensures counted { Rises (is_err result) memory.old memory.new }
+{
+    put_graph(text, &pairs(alloc, world, memory)?, memory)
+}
+
+/// The routes by their pairs, in table order.
+fn pairs(alloc: Global, world: &mut World, memory: &mut Memory) -> Result<Vec<Pair>, AllocError>
+    ensures pairs { IfOk result (λ pairs. pairs.items ≡ pairs_of world.old) }
+    ensures kept { world.new ≡ world.old }
+    ensures counted { Rises (is_err result) memory.old memory.new }
+{
+    let routes = world.routes(memory)?;
+    let mut pairs = Vec::new(alloc);
+    for route in &routes {
+        let pair = Pair {
+            key: route.choice.key,
+            rank: route.choice.rank,
+        };
+        memory.push(&mut pairs, pair)?;
+    }
+    Ok(pairs)
+}

@@ -1,0 +1,128 @@
+//! A world to which lines are told, and what is told of each.
+ghost use Rattle.std.specs.Prelude.{◌≡◌, ◌<◌, ◌≤◌, ◌++◌, [], IfOk, OnErr, OnOk, is_err};
+ghost use Rattle.lab_main.specs.Telling.{Tells, fresh, if_any, point};
+ghost use Rattle.lab_main.specs.Texts.{ending};
+ghost use Rattle.lab_main.specs.Turns.{Took};
+ghost use Rattle.memory.specs.Refusing.{Rises};
+
+use crate::answering::{Turn, answer_line};
+use crate::shows::Shows;
+use crate::texts::{put_ending, put_shown};
+use lab_text::Text;
+use memory::Memory;
+use route_core::{MOST_WRITTEN, Room, World};
+use std::alloc::{AllocError, Global};
+use std::marker::Model;
+
+/// A world to which lines are told. A contract sees the world, how many lines were told, which of them were bad, and
+/// whether it is over.
+#[derive(Drop)]
+pub(crate) struct Lab {
+    pub(crate) world: World,
+    lines: u64,
+    bad: Vec<u64>,
+    over: bool,
+    /// For the bytes that are written to a socket.
+    written: Vec<u8>,
+    /// For the messages that are read from one.
+    room: Room,
+    alloc: Global,
+}
+
+impl Model for Lab {
+    ghost use Rattle.std.specs.Prelude.{◌≡◌, length};
+    ghost use Rattle.route_core.specs.declared.written.TheConstants.{MOST_WRITTEN};
+    ghost use Rattle.lab_main.specs.Telling.{State};
+
+    ghost Value = { State };
+
+    ghost view = { λ l. record { world = l.world; lines = l.lines; bad = l.bad.items; over = l.over } };
+
+    ghost invariant = { λ l. length l.written.items ≡ MOST_WRITTEN };
+}
+
+impl Lab {
+    /// An empty world, to which no line was told.
+    pub(crate) fn new(alloc: Global, memory: &mut Memory) -> Result<Lab, AllocError>
+        ensures fresh { IfOk result (λ lab. lab ≡ fresh) }
+        ensures counted { Rises (is_err result) memory.old memory.new }
+    {
+        let world = World::new_counted(alloc, memory)?;
+        let written = memory.zeros(alloc, MOST_WRITTEN)?;
+        let room = Room::new(alloc, memory)?;
+        Ok(Lab {
+            world,
+            lines: 0,
+            bad: Vec::new(alloc),
+            over: false,
+            written,
+            room,
+            alloc,
+        })
+    }
+
+    /// Puts what is told of a line in the place of what `text` has; `body` is room for a part of it.
+    pub(crate) fn tell(
+        &mut self,
+        shows: Shows,
+        line: &[u8],
+        body: &mut Text,
+        text: &mut Text,
+        memory: &mut Memory,
+    ) -> Result<(), AllocError>
+        ensures told { OnOk result (Tells shows (point self.old memory.old) line.now text.new (point self.new memory.new)) }
+        ensures rises { OnOk result (memory.old ≤ memory.new) }
+        ensures short { OnErr result (memory.old < memory.new) }
+    {
+        body.clear();
+        text.clear();
+        let turn = answer_line(
+            self.alloc,
+            &mut self.world,
+            &mut self.written,
+            &mut self.room,
+            line,
+            body,
+            memory,
+        )?;
+        self.take(turn, memory)?;
+        put_shown(shows, self.lines, line, body.as_bytes(), text, memory)?;
+        Ok(())
+    }
+
+    /// Counts a line, which may be bad, or the last.
+    fn take(&mut self, turn: Turn, memory: &mut Memory) -> Result<(), AllocError>
+        ensures took { OnOk result (Took turn self.old self.new) }
+        ensures counted { Rises (is_err result) memory.old memory.new }
+    {
+        self.lines = self.lines.saturating_add(1);
+        match turn {
+            Turn::On => {}
+            Turn::Bad => memory.push(&mut self.bad, self.lines)?,
+            Turn::Quit => self.over = true,
+        }
+        Ok(())
+    }
+
+    /// Appends what is told behind all lines: which of them were bad, where some were.
+    pub(crate) fn put_ending(&self, text: &mut Text, memory: &mut Memory) -> Result<(), AllocError>
+        ensures put { OnOk result (text.new ≡ text.old ++ ending self.now.bad) }
+        ensures counted { Rises (is_err result) memory.old memory.new }
+    {
+        put_ending(text, &self.bad, memory)
+    }
+
+    /// Whether some line was bad.
+    pub(crate) fn has_bad(&self) -> bool
+        ensures { result ≡ if_any self.now.bad }
+    {
+        !self.bad.is_empty()
+    }
+
+    /// Whether `?quit` was told.
+    pub(crate) fn is_over(&self) -> bool
+        ensures { result ≡ self.now.over }
+    {
+        self.over
+    }
+}

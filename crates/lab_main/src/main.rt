@@ -1,0 +1,34 @@
+//! Tells in words what becomes of each line of a script of routing-socket commands: `routelab [OPTION..] [FILE]`.
+#![tactic(auto)]
+
+mod answering;
+mod lab;
+mod laws;
+mod program;
+mod prompt;
+mod questions;
+mod run;
+mod shows;
+mod texts;
+mod words;
+
+use memory::Memory;
+use program::{end_refused, run_asked};
+use program_ends::{end, status, words_of};
+use std::io::IsTerminal;
+use std::process::ExitCode;
+use words::{PROGRAM, asked_by};
+
+fn main(rt: HostRuntime) -> ExitCode {
+    let words = match words_of(&rt) {
+        Ok(words) => words,
+        Err(refusal) => return end(&rt, PROGRAM, Err(refusal)),
+    };
+    match asked_by(rt.alloc(), words.as_slice()) {
+        Ok(asked) => {
+            let at_terminal = rt.stdin().is_terminal();
+            ExitCode::from(status(run_asked(&rt, &asked, at_terminal, &mut Memory::new())))
+        }
+        Err(error) => end_refused(&rt, &error),
+    }
+}

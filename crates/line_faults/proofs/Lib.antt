@@ -1,0 +1,11 @@
+pub mod Choosing
+pub mod Cuts
+pub mod FormRows
+pub mod Fronts
+pub mod Grammatical
+pub mod Judging
+pub mod Lengths
+pub mod OptionRows
+pub mod Places
+pub mod ProbeRows
+pub mod RouteRows

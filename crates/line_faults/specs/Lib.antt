@@ -1,0 +1,9 @@
+pub mod Faults
+pub mod Kinds
+pub mod Laws
+pub mod Options
+pub mod Probes
+pub mod Texts
+pub mod Verbs
+pub mod Wanted
+pub mod Words

@@ -1,0 +1,6 @@
+use Rattle.message_text.specs.Names.{flag_names, high_flag_names, low_flag_names}
+use Rattle.plain_lines.proofs.names.flag_named.Goals as goal
+
+pub returns : goal.returns
+unfolding flag_names low_flag_names high_flag_names
+returns c = c.flag_among.ensures

@@ -1,0 +1,4 @@
+pub mod Behind
+pub mod Flags
+pub mod PlainLaws
+pub mod PlainLines

@@ -1,0 +1,10 @@
+pub mod Bests
+pub mod Listed
+pub mod Lists
+pub mod Made
+pub mod Pictures
+pub mod Puts
+pub mod Searches
+pub mod Shapes
+pub mod Splits
+pub mod Trees

@@ -1,0 +1,5 @@
+pub mod Dot
+pub mod Drawing
+pub mod Laws
+pub mod Steps
+pub mod Tree
