@@ -24,16 +24,17 @@ write ID HEX: writes bytes to a socket
 route ID SEQ VERB DEST [OPTION WORD]..: writes the message of these words to a socket
 packet A: looks up the route of a packet to an address
 redirect A GATEWAY AUTHOR: follows a redirect of an address to a gateway
-losing A: gives up the route of an address
-dump ask|N: dumps the table into N bytes, or says how many to ask for
-flags BITS ask|N: the same of the routes that have one of these flags
-?table       the routes, as netstat -rn shows them
+losing A: tells that the route of an address seems dead, and takes it away if a redirect made it
+dump ask|all|N: dumps the table into N bytes, or says how many to ask for
+flags FLAGS ask|all|N: the same of the routes that have one of these flags
+?table       the routes, in the way of netstat -rn
 ?tree        the radix tree of the routes
 ?find A      how the best route of an address is found
 ?why A       which routes an address agrees with
 ?interfaces  the interfaces, with their addresses
 ?sockets     the open routing sockets
 ?help        this
+?help VERB   how a line with this verb is written, word by word
 ?quit        the end
 """
 
@@ -90,6 +91,11 @@ def route_of(message):
 
 
 # ---- the table and its tree
+
+
+def toward(route):
+    """Where a route leads: RTF_GATEWAY says that it has a gateway."""
+    return f" to {route.gateway}" if route.flags & 2 else " straight there"
 
 
 def table(routes, names):
@@ -187,12 +193,12 @@ def find(address, routes):
     return f"{text}the best route of {dotted(address)} is {best.name()}\n"
 
 
-def why(address, routes):
+def why(address, routes, names):
     agree = sorted((route for route in routes if route.is_for(address)), key=lambda route: -route.rank)
     if not agree:
         return f"no route agrees with {dotted(address)}\n"
     return f"routes that agree with {dotted(address)}, the longest mask first, which is taken:\n" + "".join(
-        f"  {route.name()} leads to {route.gateway} out of interface {route.index} (flags {named(route.flags)})\n"
+        f"  {route.name()} leads{toward(route)} out of {names[route.index]} (flags {named(route.flags)})\n"
         for route in agree
     )
 
@@ -203,7 +209,7 @@ def why(address, routes):
 def address_line(kind, address, far, prefix, cloning, routed):
     text = f"    {dotted(address)}/{prefix}"
     text += {0: f", broadcast address {dotted(far)}", 1: "", 2: f", other end {dotted(far)}"}[kind]
-    return text + ", cloning" * cloning + ", with its route" * routed + "\n"
+    return text + ", cloning" * cloning + ", which brought a route" * routed + "\n"
 
 
 def interfaces(told):

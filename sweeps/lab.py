@@ -1,4 +1,5 @@
 """Scripts that are told in words: the examples, any lines, and what comes in pieces, fails, or has no memory."""
+import os
 import random
 import re
 from dataclasses import dataclass, replace
@@ -20,8 +21,11 @@ SHOWS = [
 ]
 # What may be told on standard error where there is no memory to begin.
 UNBEGUN = b"", b"routelab: no memory\n", b"error: out of memory\n"
+UNREAD = b"Input/output error"
 NO_ROOM = b"    ENOBUFS (55): there is no memory; nothing was changed\n"
 LINES_A_SEED = 200
+# What is written of a line: itself behind its number, and below it what is told.
+TOLD = re.compile(rb"\d+: [^\n]*\n(?:    [^\n]*\n)*")
 
 
 @dataclass(frozen=True)
@@ -44,6 +48,11 @@ class Given:
 
     def told(self, sim):
         return told_of(self.name, self.script, lambda script: sim.run(script).wrote, self.transcript)
+
+
+def fault_of(file, why=UNREAD):
+    """What standard error says of a file that can't be read or written."""
+    return b"routelab: %s: %s\n" % (os.fsencode(file), why)
 
 
 def as_told(ran):
@@ -81,7 +90,7 @@ def any_question(rng):
     address = rng.choice([*ADDRESSES, "10.0.0", ""]).encode()
     return rng.choice([
         b"?table", b"?tree", b"?find " + address, b"?why " + address, b"?interfaces", b"?sockets", b"?help", b"?", b"??",
-        b"?table ", b"?tre", b"?find", b"? tree", b"?why  10.0.0.1", b"?TREE", b"?help if",
+        b"?table ", b"?tre", b"?find", b"? tree", b"?why  10.0.0.1", b"?TREE", b"?help if", b"?help route", b"?help addr", b"?help ", b"?help tree",
     ])
 
 
@@ -128,13 +137,13 @@ def tell_many_routes(sweep, sim, seed):
 def tell_at_borders(sweep, sim):
     """Long lines, and texts that end without a newline, with empty lines or with none."""
     bad = b"1: %s\n    bad: word %d (`%s`) is wrong; wanted: %s\n1 bad line: 1\n"
+    too_long = b"1: %s\n    bad: wanted: a line of at most 16500 bytes\n1 bad line: 1\n"
     wanted = b"a message: at most 8246 bytes in hexadecimal, or - for none"
     long, longer = b"write a " + b"0" * 16_491 + b"g", b"write a " + b"0" * 16_493
-    short = b"a line of at most 16500 bytes"
     for line, wrote in (
-        (long, bad % (long, 3, long[8:], wanted)), (longer, bad % (longer, 1, b"write", short)),
-        (b"#" * 16_500, b"1: " + b"#" * 16_500 + b"\n"), (b"#" * 16_501, bad % (b"#" * 16_501, 1, b"#" * 16_501, short)),
-        (b"x" * 100_000, bad % (b"x" * 100_000, 1, b"x" * 100_000, short)),
+        (long, bad % (long, 3, long[8:], wanted)), (longer, too_long % longer),
+        (b"#" * 16_500, b"1: " + b"#" * 16_500 + b"\n"), (b"#" * 16_501, too_long % (b"#" * 16_501)),
+        (b"x" * 100_000, too_long % (b"x" * 100_000)),
         (b"?" * 20_000, b"1: %s\n    %s1 bad line: 1\n" % (b"?" * 20_000, NO_QUESTION)),
     ):
         for end in (b"", b"\n"):
@@ -184,7 +193,8 @@ def fail_each_read(sweep, sim, given):
     told, piece = given.told(sim), 7
     for call in range(1, reads_of(len(given.script), piece) + 1):
         ran = sweep.run(given.script, fail_read=call, piece=piece)
-        holds = as_told(ran) == (told.ended(piece * (call - 1)), READ_FAULT, b"") and ran.left_nothing()
+        ended = told.ended(piece * (call - 1)), READ_FAULT, fault_of("standard input")
+        holds = as_told(ran) == ended and ran.left_nothing()
         sweep.claim(f"{given.name} in words: read {call} fails", holds)
 
 
@@ -196,16 +206,17 @@ def fail_each_read_of_a_file(sweep, sim, given):
     sweep.claim(f"{given.name} as FILE", holds and ran.left_nothing())
     for call in range(1, reads_of(len(given.script), READ_ROOM) + 1):
         ran = sweep.run(b"x\n", [path], reads_of=FIRST_OPENED, fail_read=call)
-        holds = as_told(ran) == (told.ended(READ_ROOM * (call - 1)), READ_FAULT, b"") and ran.left_nothing()
+        holds = as_told(ran) == (told.ended(READ_ROOM * (call - 1)), READ_FAULT, fault_of(path)) and ran.left_nothing()
         sweep.claim(f"{given.name} as FILE: read {call} fails", holds)
 
 
 def fail_each_write(sweep, sim, given, fault):
-    """Each write of one byte fails, or takes none: in the copy that goes on from there no more is written, and nothing told."""
+    """Each write of one byte fails, or takes none: in the copy that goes on from there no more is written, and it tells so."""
     told = given.told(sim)
     ran = sweep.run(given.script, one_byte=1, **{fault: 1})
     copies = ran.counts["copies"], ran.counts["copies_well"]
-    holds = as_told(ran) == (told.whole(), told.status(), b"") and copies == (len(ran.wrote), len(ran.wrote))
+    faults = fault_of("standard output") * len(ran.wrote)
+    holds = as_told(ran) == (told.whole(), told.status(), faults) and copies == (len(ran.wrote), len(ran.wrote))
     sweep.claim(f"{given.name} in words: {fault}, first at byte {ran.counts['first_wrong']}", holds and ran.left_nothing())
 
 
@@ -219,7 +230,7 @@ def tell_each_line_at_once(sweep, sim, given):
 
 def texts_in(wrote, told):
     """What was written cut behind what is told of each line; of refusals with their reasons."""
-    texts = re.findall(rb"\d+: [^\n]*\n(?:    [^\n]*\n)*", wrote.removesuffix(told.ending()))
+    texts = TOLD.findall(wrote.removesuffix(told.ending()))
     return texts if [*map(without_reasons, texts)] == [*told.texts()] else []
 
 
@@ -253,11 +264,12 @@ def is_refused_well(sweep, sim, given, ran, fault, call):
     """The run ended with the lines before one that had no memory; or a line that may want memory was refused, and all else is as
     it is with a comment in its place; or the line asked in vain, or gave memory back."""
     told, lines = given.told(sim), lines_of(given.script)
-    texts = re.findall(rb"\d+: [^\n]*\n(?:    [^\n]*\n)*", ran.wrote)
+    texts = TOLD.findall(ran.wrote)
     refused = [at for at, text in enumerate(texts) if text.endswith(b"\n" + NO_ROOM)]
     if ran.status == NO_MEMORY and ran.wrote == b"":
         return ran.error in UNBEGUN and ran.left_nothing()
-    if ran.error or not ran.left_nothing() or ran.status not in (NO_MEMORY, told.status()):
+    is_excused = ran.error == (b"routelab: no memory\n" if ran.status == NO_MEMORY else b"")
+    if not is_excused or not ran.left_nothing() or ran.status not in (NO_MEMORY, told.status()):
         return False
     if any(is_question(lines[at]) for at in refused):
         return False

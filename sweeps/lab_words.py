@@ -7,8 +7,8 @@ import select
 import subprocess
 from dataclasses import dataclass
 
-from asked import HELP, graph, route_of
-from lab import UNBEGUN
+from asked import HELP, graph, route_of, svg
+from lab import UNBEGUN, as_told, fault_of
 from manual import TOP
 from plain import NUMBERS
 from runs import DONE, NO_MEMORY, READ_FAULT, USAGE, WRITE_FAULT, answers, fault_texts
@@ -18,22 +18,26 @@ from words import GIVEN, NAMED, REFUSED, SCRIPTS, UNOPENED, Reader, folder_of, n
 from words import read_an_unreadable_file, read_words, tell_nobody
 
 PAGE = TOP / "docs" / "routelab.1"
-OPTIONS = {"--quiet", "--no-echo", "--dot", "--help", "--version"}
+OPTIONS = {"--quiet", "--no-echo", "--dot", "--svg", "--help", "--version"}
+# The options that name a file for the tree, and a second reading of what it then has.
+PICTURES = {"--dot": graph, "--svg": svg}
 VERSION = b"routelab 0.1.0\n"
 ASKED = "-h", "--help", "-V", "--version"
 ASKS = ["-h"], ["--help"], ["-V"], ["--version"], ["-h", "-x"], ["absent", "--version"], ["--dot", "absent", "--help"]
 WITH_OPTIONS = [
     (["-q"], None), (["--quiet", "script"], "script"), (["script", "-q"], "script"), (["--", "script"], "script"),
     (["-q", "--", "-x"], "-x"), (["--dot", "folder/graph", "script"], "script"),
-    (["script", "--dot=folder/graph"], "script"),
+    (["script", "--dot=folder/graph"], "script"), (["--svg", "folder/drawing", "script"], "script"),
+    (["--svg=folder/drawing", "script", "--dot=folder/graph"], "script"),
 ]
 UNFIT = [
-    ["--dot"], ["script", "--dot"], ["--dot", "a", "--dot", "b"], ["-qq"], ["-q", "--quiet"], ["--no-echo"], ["--no-echo=1"],
+    ["--dot"], ["script", "--dot"], ["--dot", "a", "--dot", "b"], ["--svg"], ["script", "--svg"], ["--svg=a", "--svg=b"], ["-qq"], ["-q", "--quiet"], ["--no-echo"], ["--no-echo=1"],
     ["--quiet=yes"], ["--qui"], ["--echo"], ["-s", "a"], ["-q", "script", "script"], ["-qx"], ["--no-ech"], ["--Quiet"],
 ]
-# Why a file can't be opened, but that it isn't there.
+# Why a file can't be read, but that it isn't there.
 REASONS = {
     **dict.fromkeys(("script/script", "loop", "s" * 300, "s" * 5_000), "Input/output error"), "secret": "Permission denied",
+    "folder": "Is a directory",
 }
 MISTAKE = re.compile(rb"error: [^\n]+\n\n(  tip: [^\n]+\n+)*(Usage: \S+ [^\n]+\n\n)?For more information, try '--help'\.\n")
 
@@ -43,9 +47,9 @@ def is_help(text):
     return b"Usage: " in text and {option.decode() for option in re.findall(rb"--[a-z-]+", text)} == OPTIONS
 
 
-def is_graph(word):
-    """Whether a word asks for a graph."""
-    return os.fsencode(word).split(b"=")[0] == b"--dot"
+def is_picture(word):
+    """Whether a word asks for a picture of the tree."""
+    return os.fsencode(word).split(b"=")[0].decode("latin-1") in PICTURES
 
 
 @dataclass(frozen=True)
@@ -53,16 +57,14 @@ class LabReader(Reader):
     """Of what is written of help and of mistakes only its form is compared: by `usage` and `help` in its place."""
 
     def fault_of(self, file):
-        if file == "folder":
-            return b""
-        return f"{self.name}: {file}: {REASONS.get(file, 'No such file')}\n".encode()
+        return fault_of(file, REASONS.get(file, "No such file").encode())
 
     def told_as(self, status):
         return b"", status, self.fault_of("secret") if status == READ_FAULT else super().told_as(status)[2]
 
     def forms(self):
-        """Each form of words, and what is told of it; those last that ask for a graph."""
-        return sorted(self.all_forms(), key=lambda form: any(is_graph(word) for word in form[0]))
+        """Each form of words, and what is told of it; those last that ask for a picture."""
+        return sorted(self.all_forms(), key=lambda form: any(is_picture(word) for word in form[0]))
 
     def all_forms(self):
         named = [(words, file) for words, file in [*NAMED, *WITH_OPTIONS]]
@@ -105,12 +107,16 @@ def refuse_memory_of_words(sweep, reader):
 
 # ---- a terminal
 
-PROMPT, END = b"> ", b"\x04"
+END = b"\x04"
+
+
+def prompt(number):
+    return b"%d> " % number
 
 
 def until_prompt(stream):
     wrote = b""
-    while not wrote.endswith(PROMPT) and select.select([stream], [], [], PATIENCE)[0]:
+    while not wrote.endswith(b"> ") and select.select([stream], [], [], PATIENCE)[0]:
         piece = os.read(stream.fileno(), 1 << 16)
         if not piece:
             break
@@ -135,22 +141,22 @@ def typed(sweep, lines, words=()):
 
 
 def type_lines(sweep, sim, given):
-    """At a terminal there is a prompt before each line, and no line is shown again; its user ends it, or `?quit`."""
+    """At a terminal there is a prompt with its number before each line, and no line is shown again; its user ends it, or `?quit`."""
     told, lines = given.told(sim), [line + b"\n" for line in lines_of(given.script)]
     for words, shows in (((), {"echo": False}), (("-q",), {"echo": False, "done": False})):
         texts = [b"", *told.texts(**shows)]
-        wanted = [*(text + PROMPT for text in texts), told.ending()]
+        wanted = [*(text + prompt(number) for number, text in enumerate(texts, 1)), b"\n" + told.ending()]
         wrote, status, error = typed(sweep, [*lines, END], words)
         holds = [*map(without_reasons, wrote)] == wanted and (status, error) == (told.status(), b"")
         sweep.claim(f"{given.name} at a terminal {words}", holds)
-    wrote = [PROMPT, b"    the table is empty\n" + PROMPT, b""], DONE, b""
+    wrote = [prompt(1), b"    the table is empty\n" + prompt(2), b""], DONE, b""
     sweep.claim("?quit at a terminal", typed(sweep, [b"?tree\n", b"?quit\n"]) == wrote)
     path = folder_of(sweep, {"text": b"?tree\n"}) / "text"
     shown = [b"1: ?tree\n    the table is empty\n"], DONE, b""
     sweep.claim("a file, and a terminal that is not read", typed(sweep, [], [path]) == shown)
 
 
-# ---- the tree as a graph
+# ---- pictures of the tree
 
 
 def routes_behind(sim, given, told):
@@ -159,44 +165,61 @@ def routes_behind(sim, given, told):
     return [route_of(message) for message in messages_in(answers(sim.run(b"\n".join([*shadows, DUMP])).wrote)[-1])]
 
 
-def write_the_graph(sweep, sim, given):
+def write_pictures(sweep, sim, given):
     """The tree that there is at the end is written, in the place of what was in the file; all else is as it is without."""
-    told, folder = given.told(sim), folder_of(sweep, {"graph": b"x" * 100_000})
-    wanted = graph(routes_behind(sim, given, told)).encode()
-    for name in ("graph", "other"):
-        ran = sweep.run(given.script, ["--dot", folder / name])
-        holds = (without_reasons(ran.wrote), ran.status, ran.error) == (told.whole(), told.status(), b"") and ran.left_nothing()
-        sweep.claim(f"{given.name} as a graph", holds and (folder / name).read_bytes() == wanted)
-    for place, why in (
-        ("/dev/full", "No space left on device"), (folder / "absent" / "graph", "No such file"), (folder, "Is a directory"),
-    ):
-        ran = sweep.run(given.script, ["--dot", place])
-        faults = f"routelab: {place}: {why}\n".encode()
-        holds = (without_reasons(ran.wrote), ran.status, ran.error) == (told.whole(), WRITE_FAULT, faults)
-        sweep.claim(f"{given.name} as a graph in {place}", holds and ran.left_nothing())
+    told, folder = given.told(sim), folder_of(sweep, {"picture": b"x" * 100_000})
+    plain, routes = (told.whole(), told.status(), b""), routes_behind(sim, given, told)
+    for option, picture in PICTURES.items():
+        for name in ("picture", "other"):
+            ran = sweep.run(given.script, [option, folder / name])
+            holds = as_told(ran) == plain and ran.left_nothing()
+            sweep.claim(f"{given.name} {option}", holds and (folder / name).read_bytes() == picture(routes).encode())
+        for place, why in (
+            ("/dev/full", b"No space left on device"), (folder / "absent" / "picture", b"No such file"), (folder, b"Is a directory"),
+        ):
+            ran = sweep.run(given.script, [option, place])
+            holds = as_told(ran) == (told.whole(), WRITE_FAULT, fault_of(place, why)) and ran.left_nothing()
+            sweep.claim(f"{given.name} {option} {place}", holds)
+    files = {option: folder / option for option in PICTURES}
+    ran = sweep.run(given.script, [word for option in files.items() for word in option])
+    same = all(file.read_bytes() == PICTURES[option](routes).encode() for option, file in files.items())
+    sweep.claim(f"{given.name} in each picture at once", as_told(ran) == plain and same)
 
 
-def write_no_graph(sweep, given):
+def write_no_picture(sweep, given, option):
     """Where a run ends with a fault nothing is written: the read k fails, or the allocation k is refused, for each k."""
-    path = folder_of(sweep, {}) / "graph"
-    calls = sweep.run(given.script, ["--dot", path]).counts
+    path = folder_of(sweep, {}) / "picture"
+    calls = sweep.run(given.script, [option, path]).counts
     for fault, call in (*(("fail_read", call + 1) for call in range(calls["reads"])),
                         *(("refuse_alloc", call + 1) for call in range(calls["allocations"]))):
         path.unlink(missing_ok=True)
-        ran = sweep.run(given.script, ["--dot", path], **{fault: call})
+        ran = sweep.run(given.script, [option, path], **{fault: call})
         is_fault = ran.status == (READ_FAULT if fault == "fail_read" else NO_MEMORY)
         is_told = is_fault or fault == "refuse_alloc" and ran.status == given.status
-        sweep.claim(f"{given.name} as no graph: {fault} {call}", is_told and path.exists() != is_fault and ran.left_nothing())
+        holds = is_told and path.exists() != is_fault and ran.left_nothing()
+        sweep.claim(f"{given.name}, nothing written by {option}: {fault} {call}", holds)
 
 
-def leave_the_file(sweep, given):
+def leave_the_file(sweep, given, option):
     """Where standard output takes nothing, what is in the file stays there."""
-    path = folder_of(sweep, {"graph": b"x"}) / "graph"
-    command, how = [sweep.program, "--dot", path], {"stderr": subprocess.PIPE, "env": sweep.environment()}
+    path = folder_of(sweep, {"picture": b"x"}) / "picture"
+    command, how = [sweep.program, option, path], {"stderr": subprocess.PIPE, "env": sweep.environment()}
     with open("/dev/full", "wb") as full:
         ran = subprocess.run(command, input=given.script, stdout=full, **how)
-    holds = (ran.returncode, ran.stderr) == (WRITE_FAULT, b"") and path.read_bytes() == b"x"
-    sweep.claim(f"{given.name} as no graph: standard output is full", holds)
+    fault = fault_of("standard output", b"No space left on device")
+    holds = (ran.returncode, ran.stderr) == (WRITE_FAULT, fault) and path.read_bytes() == b"x"
+    sweep.claim(f"{given.name}, nothing written by {option}: standard output is full", holds)
+
+
+def end_with_its_reader(sweep):
+    """Where nobody reads what is told any more, that is no fault to tell of."""
+    own, other = os.pipe()
+    os.close(own)
+    how = {"stdin": subprocess.DEVNULL, "stdout": other, "stderr": subprocess.PIPE}
+    with subprocess.Popen([sweep.program], **{**how, "stdin": subprocess.PIPE}) as process:
+        os.close(other)
+        _, error = process.communicate(b"?tree\n")
+    sweep.claim("nobody reads what is told", error == b"" and process.returncode != DONE)
 
 
 # ---- the manual page
@@ -225,7 +248,7 @@ def flags_in(page):
     return set(re.findall(r"[A-Z][A-Z0-9]+", shown))
 
 
-QUESTIONS = [(name, bool(about)) for name, about in re.findall(r"^\?(\w+)( A)? ", HELP, re.M)]
+QUESTIONS = [(name, bool(about)) for name, about in re.findall(r"^\?(\w+)( A| VERB)? ", HELP, re.M)]
 
 
 def differences(page):

@@ -20,6 +20,7 @@
  *   loses       tells of no byte that waits for a socket
  *   widens      tells another length of an address's network
  *   grafts      hangs both nodes beneath a bit node on its side of 0, in the graph
+ *   bends       does so in the drawing
  */
 #define _GNU_SOURCE
 #include <dlfcn.h>
@@ -78,6 +79,12 @@ static void cut(const char *wrong, const char *from, size_t size)
 	line_size -= size;
 }
 
+/* A prompt, the number of a line and then this, has no newline. */
+static int is_prompt(void)
+{
+	return line_size > 2 && strspn(line, "0123456789") == line_size - 2 && !memcmp(line + line_size - 2, "> ", 2);
+}
+
 static int is_left_out(void)
 {
 	return (is("swallows") && line_size == 7 && begins("    ok\n")) || (is("complicates") && begins("    = "))
@@ -114,15 +121,15 @@ static void put_line(void)
 	put(line, line_size);
 }
 
-/* Writes the graph, behind all lines, with each edge marked as that of the side of 0. */
-static ssize_t put_graph(int file, const char *text, size_t size)
+/* Writes a picture, behind all lines, with each mark of a side of 1, which has that number at a place, as one of the side of 0. */
+static ssize_t put_picture(int file, const char *text, size_t size, const char *mark, size_t place)
 {
 	char *at = line;
 	if (size > ROOM)
 		size = ROOM;
 	memcpy(line, text, size);
-	while ((at = memmem(at, line + size - at, "[label=1]", 9)))
-		at[7] = '0';
+	while ((at = memmem(at, line + size - at, mark, strlen(mark))))
+		at[place] = '0';
 	return NEXT(write)(file, line, size);
 }
 
@@ -130,13 +137,14 @@ ssize_t write(int file, const void *data, size_t size)
 {
 	const char *text = data;
 	if (file > STDERR_FILENO && is("grafts"))
-		return put_graph(file, data, size);
+		return put_picture(file, data, size, "[label=1]", 7);
+	if (file > STDERR_FILENO && is("bends"))
+		return put_picture(file, data, size, ">1</text>", 1);
 	if (file != STDOUT_FILENO || is("right"))
 		return NEXT(write)(file, data, size);
 	for (size_t k = 0; k < size; k++) {
 		line[line_size++] = text[k];
-		/* a prompt has no newline */
-		if (text[k] != '\n' && line_size < ROOM && !(line_size == 2 && begins("> ")))
+		if (text[k] != '\n' && line_size < ROOM && !is_prompt())
 			continue;
 		put_line();
 		line_size = 0;

@@ -45,10 +45,10 @@ VERBS = {
     "if": "interface kind type hardware", "addr": "interface network", "unaddr": "interface address",
     "open": "socket process protocol", "loopback": "socket switch", "close": "socket", "read": "socket", "lost": "socket",
     "write": "socket bytes", "route": "socket sequence request destination", "packet": "address",
-    "redirect": "address address address", "losing": "address", "dump": "room", "flags": "bits room",
+    "redirect": "address address address", "losing": "address", "dump": "room", "flags": "flags room",
 }
 OPTIONS = {
-    "via": "gateway", "genmask": "mask", "ifp": "leading", "ifa": "leading", "flags": "bits", "inits": "bits", "locks": "bits",
+    "via": "gateway", "genmask": "mask", "ifp": "leading", "ifa": "leading", "flags": "flags", "inits": "bits", "locks": "bits",
     **dict.fromkeys(METRICS, "metric"),
 }
 MOST = 4294967295
@@ -68,12 +68,13 @@ WANTED = {
     "sequence": ("NUMBER", f"a sequence number: from 0 to {MOST}"),
     "request": ("VERB", "one of add, delete, change, get, lock"),
     "destination": ("DEST", "a destination: an address as 10.0.0.1, a network as 10.0.0.0/8, or default"),
-    "gateway": ("GATE", "a gateway: an IPv4 address, or link: and a link-layer address in hexadecimal"),
-    "leading": ("GATE", "an interface: an IPv4 address, or link: and a link-layer address in hexadecimal"),
+    "gateway": ("GATE", "a gateway: an IPv4 address, or link: and the 8 to 32 bytes of a sockaddr_dl in hexadecimal"),
+    "leading": ("GATE", "an interface: an IPv4 address, or link: and the 8 to 32 bytes of a sockaddr_dl in hexadecimal"),
     "mask": ("PREFIX", "a mask's length: a number from 0 to 32"),
+    "flags": ("FLAGS", "flags: their names, as UP,GATEWAY, or 1 to 8 hexadecimal digits"),
     "bits": ("FLAGS", "bits: 1 to 8 hexadecimal digits"),
     "metric": ("NUMBER", f"a metric: a number from 0 to {MOST}"),
-    "room": ("ask|NUMBER", f"ask, or how many bytes there is room for: a number from 0 to {MOST}"),
+    "room": ("ask|NUMBER", f"ask, all, or how many bytes there is room for: a number from 0 to {MOST}"),
 }
 FORMS = {
     what: re.compile(re.sub("[A-Z]+", lambda word: f"(?:{WORDS[word[0]].form})", form).encode()) for what, (form, _) in WANTED.items()
@@ -94,7 +95,7 @@ def listed(names):
     """The options of which one may come."""
     if len(names) < 2:
         return f"{names[0]}, or {NOTHING}" if names else NOTHING
-    return f"one of {', '.join(names)}, in this order"
+    return f"{NOTHING}, or of these, in this order: {', '.join(names)}"
 
 
 def behind_destination(words):
@@ -118,7 +119,7 @@ def fault_of(line):
     verb, *words = line.split(b" ")
     kinds = VERBS.get(verb.decode("latin-1"))
     if kinds is None:
-        return 0, f"one of {', '.join(VERBS)}"
+        return 0, f"one of {', '.join(VERBS)}; ?help tells of them"
     for at, what in enumerate(kinds.split()):
         if at == len(words) or not FORMS[what].fullmatch(words[at]):
             return 1 + at, WANTED[what][1]
@@ -130,9 +131,23 @@ def fault_of(line):
 def told_of_bad(line):
     """What is told of a plain line that the grammar doesn't have."""
     place, wanted = fault_of(line)
+    if wanted == SHORTER:
+        return b"bad: wanted: %s\n" % wanted.encode()
     words = line.split(b" ")
     what = b" is missing" if place == len(words) else b" (`" + words[place] + b"`) is wrong"
+    if words[place : place + 1] == [b""]:
+        what = b" is empty, since words are parted by single spaces"
     return b"bad: word %d%s; wanted: %s\n" % (place + 1, what, wanted.encode())
+
+
+def help_on(verb, usage):
+    """What is told of a verb, whose usage is given: what each of its words is, and what may stand behind them."""
+    lines = [usage, *(f"  word {at}: {WANTED[what][1]}" for at, what in enumerate(VERBS[verb].split(), 2))]
+    if verb == "addr":
+        lines.append(f"  then {behind_address([])[1]}")
+    if verb == "route":
+        lines += ["  then options, in this order:", *(f"  {option} and {WANTED[what][1]}" for option, what in OPTIONS.items())]
+    return "".join(f"{line}\n" for line in lines)
 
 
 # ---- lines and what they stand for, worked by hand
@@ -153,7 +168,7 @@ PLAIN = [
     (b"packet all", b"packet all"),
 ]
 MISSPELT = [
-    (b" if le0 ptp 6 -", 1, "one of if, addr, unaddr, open, loopback, close, read, lost, write, route, packet, redirect, losing, dump, flags"),
+    (b" if le0 ptp 6 -", 1, "one of if, addr, unaddr, open, loopback, close, read, lost, write, route, packet, redirect, losing, dump, flags; ?help tells of them"),
     (b"if le0 brodcast 6 -", 3, "one of broadcast, loopback, ptp"),
     (b"if le0 ptp 256 -", 4, "the interface's type: a number from 0 to 255"),
     (b"if le0 ptp 6", 5, "a link-layer address: 1 to 8 bytes in hexadecimal, or - for none"),
@@ -171,16 +186,17 @@ MISSPELT = [
     (b"route a -1 add default", 3, "a sequence number: from 0 to 4294967295"),
     (b"route a 1 put default", 4, "one of add, delete, change, get, lock"),
     (b"route a 1 add 10.0.0.0/33", 5, "a destination: an address as 10.0.0.1, a network as 10.0.0.0/8, or default"),
-    (b"route a 1 add default via", 7, "a gateway: an IPv4 address, or link: and a link-layer address in hexadecimal"),
+    (b"route a 1 add default via", 7, "a gateway: an IPv4 address, or link: and the 8 to 32 bytes of a sockaddr_dl in hexadecimal"),
     (b"route a 1 add default genmask 33", 7, "a mask's length: a number from 0 to 32"),
-    (b"route a 1 add default ifa le0", 7, "an interface: an IPv4 address, or link: and a link-layer address in hexadecimal"),
-    (b"route a 1 add default flags up", 7, "bits: 1 to 8 hexadecimal digits"),
+    (b"route a 1 add default ifa le0", 7, "an interface: an IPv4 address, or link: and the 8 to 32 bytes of a sockaddr_dl in hexadecimal"),
+    (b"route a 1 add default flags up", 7, "flags: their names, as UP,GATEWAY, or 1 to 8 hexadecimal digits"),
+    (b"route a 1 add default locks MTU", 7, "bits: 1 to 8 hexadecimal digits"),
     (b"route a 1 add default mtu -", 7, "a metric: a number from 0 to 4294967295"),
-    (b"route a 1 add default ssthresh 1 mtu 1", 8, "one of rtt, rttvar, in this order"),
+    (b"route a 1 add default ssthresh 1 mtu 1", 8, "nothing more, or of these, in this order: rtt, rttvar"),
     (b"route a 1 add default rtt 1 mtu 1", 8, "rttvar, or nothing more"),
     (b"route a 1 add default rttvar 1 mtu 1", 8, "nothing more"),
-    (b"dump", 2, "ask, or how many bytes there is room for: a number from 0 to 4294967295"),
-    (b"flags 1 none", 3, "ask, or how many bytes there is room for: a number from 0 to 4294967295"),
+    (b"dump", 2, "ask, all, or how many bytes there is room for: a number from 0 to 4294967295"),
+    (b"flags 1 none", 3, "ask, all, or how many bytes there is room for: a number from 0 to 4294967295"),
     (b"losing 10.0.0.1 10.0.0.1", 3, "nothing more"),
 ]
 

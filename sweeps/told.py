@@ -6,69 +6,73 @@ from asked import HELP, dotted, find, interfaces, is_table_order, named, route_o
 from grammar import INET, is_line
 from messages import ADD, CHANGE, DELETE, DST, GATEWAY, GET, LOCK, number_of
 from parts import LENGTH, OK, OVERRUN, family_of, fault_of, slots_of
-from plain import plain_of, told_of_bad
+from plain import ALL, help_on, plain_of, told_of_bad
+from plain import VERBS as LINE_VERBS
 from reading import ERRNOS, reading
 from runs import BAD_LINE, DONE, MOST_LINE, answers
 from there import Lines
 
-NO_QUESTION = b"bad: wanted: one of ?table, ?tree, ?find A, ?why A, ?interfaces, ?sockets, ?help, ?quit\n"
+NO_QUESTION = b"bad: wanted: one of ?table, ?tree, ?find A, ?why A, ?interfaces, ?sockets, ?help, ?help VERB, ?quit\n"
 # Questions that are answered from a dump, and the others.
 OF_ROUTES = re.compile(rf"\?(?:table|tree|(?:find|why) (?:{INET}))".encode())
-OF_WORLD = b"?interfaces", b"?sockets", b"?help", b"?quit"
-DUMP = b"dump 4294967295"
+OF_WORLD = b"?interfaces", b"?sockets", b"?help", b"?quit", *(f"?help {verb}".encode() for verb in LINE_VERBS)
+USAGES = {line.split(" ")[0]: line for line in HELP.splitlines()}
+DUMP = b"dump " + ALL
 
 WRITES = ("write", "route")
+# What isn't there that a message is about, by its type; else, and of one that isn't of IPv4.
+MISSING = {GET: "no route leads there", CHANGE: "no route has this destination", LOCK: "no route has this destination"}
+NO_ROUTE, NOT_INET = "there is no such route", "the destination is no IPv4 address"
+# What is wrong with a message: as a whole, in its addresses, or that there is none of a gateway.
+WRONG_WHOLE = {LENGTH: "the length is wrong", OVERRUN: "an address passes the end"}
+NO_DESTINATION = "there is no destination"
+WRONG_FORMS = (
+    "the destination's length is none of a sockaddr_in", "the gateway, IFP or IFA is neither an IPv4 nor a link-layer sockaddr",
+    "a mask is not ones and then zeros",
+)
+WITHOUT_GATEWAY = "a route to be added wants a gateway"
 # Why lines are refused: what may be told of an errno, by the first word of the line.
 REASONS = {
-    3: {
-        **dict.fromkeys(WRITES, (
-            "there is no such route", "no route leads there", "no route has this destination",
-            "the destination is no IPv4 address",
-        )),
-    },
+    3: dict.fromkeys(WRITES, (*MISSING.values(), NO_ROUTE, NOT_INET)),
     6: dict.fromkeys(("addr", "unaddr"), ("there is no interface of this name",)),
     9: dict.fromkeys((*WRITES, "read", "lost", "loopback", "close"), ("no socket of this id is open",)),
-    12: dict.fromkeys(("dump", "flags"), ("the room is too small for all routes",)),
+    12: dict.fromkeys(("dump", "flags"), ("the room is too small for all that is asked for",)),
     17: {
         "if": ("there is an interface of this name",),
-        "addr": ("its route is there already; the interface keeps the address without one",),
+        "addr": ("a route of its network and mask is there already; the interface keeps the address without one",),
         "open": ("a socket of this id is open",),
         **dict.fromkeys(WRITES, ("there is a route with this key and mask",)),
-        "redirect": ("the destination has a host's route already",),
+        "redirect": ("the destination has a route without a mask that lacks the flag HOST",),
     },
     22: {
         "addr": (
             "only a point-to-point interface has another end",
             "a point-to-point interface wants the address of its other end",
         ),
-        **dict.fromkeys(WRITES, (
-            "the length is wrong", "an address passes the end", "there is no destination",
-            "the destination has a length that no IPv4 address has", "the gateway, IFP or IFA has a form that none has",
-            "a mask has a form that none has", "a route to be added wants a gateway",
-        )),
+        **dict.fromkeys(WRITES, (*WRONG_WHOLE.values(), NO_DESTINATION, *WRONG_FORMS, WITHOUT_GATEWAY)),
         "redirect": (
-            "who says so is not the gateway of the destination's route, or the new gateway is in another network",
+            "who says so is not the gateway of the destination's route, or the new gateway is reached by another interface address than that route's",
         ),
     },
     24: {"open": ("64 sockets are open",)},
     28: {"if": ("there are 64 interfaces",), "addr": ("65535 addresses were added, and no more can be",)},
     40: dict.fromkeys(WRITES, ("the message has more than 8192 bytes",)),
     43: dict.fromkeys(WRITES, ("the version is not 3",)),
-    45: dict.fromkeys(WRITES, ("a message of this type asks for nothing",)),
+    45: dict.fromkeys(WRITES, ("a message of this type is no request",)),
     48: {"addr": ("an interface holds the address already",)},
     49: {"unaddr": ("the interface does not hold the address",)},
     51: {
         **dict.fromkeys(WRITES, ("no interface leads to the gateway",)),
-        "packet": ("its route refuses packets",),
+        "packet": ("its route has the flag REJECT",),
         "redirect": ("the new gateway is in no interface's network",),
     },
     55: dict.fromkeys(("if", "addr", "open", "packet", "redirect", "dump", "flags", *WRITES), (
         "there is no memory; nothing was changed",
     )),
-    59: dict.fromkeys(WRITES, ("no route of this destination has this mask",)),
+    59: dict.fromkeys(WRITES, ("no route of this destination has this mask; without a mask a host's route is meant",)),
     65: {
-        "packet": ("no route leads there, or a host's route that refuses packets",),
-        "redirect": ("the new gateway is an address of an interface, or the destination's route has no gateway",),
+        "packet": ("no route leads there, or a host's route that has the flag REJECT",),
+        "redirect": ("the new gateway is an address or a broadcast address of an interface, or the destination's route lacks the flag GATEWAY",),
         "losing": ("no route leads there",),
     },
 }
@@ -128,11 +132,15 @@ def told_of_question(line, answer, world):
         return sockets(world.lines.sockets, world.counts())
     if line in (b"?help", b"?quit"):
         return HELP if line == b"?help" else ""
+    if words[0] == "?help":
+        return help_on(words[1], USAGES[words[1]])
     routes = [route_of(message) for message in messages_in(answer)]
     assert is_table_order(routes)
     told = {"?table": lambda: table(routes, world.names()), "?tree": lambda: tree(routes)}
-    about = {"?find": find, "?why": why}
-    return told[words[0]]() if words[0] in told else about[words[0]](number_of(words[1]), routes)
+    if words[0] in told:
+        return told[words[0]]()
+    address = number_of(words[1])
+    return find(address, routes) if words[0] == "?find" else why(address, routes, world.names())
 
 
 def told_of_packet(words, fate, key, rank, gateway, index, flags, names):
@@ -141,7 +149,8 @@ def told_of_packet(words, fate, key, rank, gateway, index, flags, names):
     by = by.replace("the route 0.0.0.0/0 ", "the route default ")
     if fate == "drop":
         return f"{words[1]} is dropped without a word by {by}"
-    return f"{words[1]} goes to {gateway} out of {names[int(index)]}, by {by}"
+    toward = f"to {gateway}" if int(flags, 16) & 2 else "straight there"
+    return f"{words[1]} goes {toward} out of {names[int(index)]}, by {by}"
 
 
 def told_of_size(words, size):
@@ -241,9 +250,7 @@ def without_reasons(wrote):
     return re.sub(rb"^(    E[A-Z]+ \(\d+\): )[^\n]*$", rb"\1?", wrote, flags=re.M)
 
 
-MISSING = {GET: "no route leads there", CHANGE: "no route has this destination", LOCK: "no route has this destination"}
 VERBS = {"add": ADD, "delete": DELETE, "change": CHANGE, "get": GET, "lock": LOCK}
-WITHOUT_GATEWAY = "a route to be added wants a gateway"
 
 
 def reasons_of_message(message, errno):
@@ -251,13 +258,12 @@ def reasons_of_message(message, errno):
     slots = slots_of(message) if fault_of(message) == OK else {}
     if errno == 3:
         is_inet = DST in slots and family_of(slots[DST][1]) == 2
-        return [MISSING.get(message[3], "there is no such route") if is_inet else "the destination is no IPv4 address"]
+        return [MISSING.get(message[3], NO_ROUTE) if is_inet else NOT_INET]
     if fault_of(message) != OK:
-        return [{LENGTH: "the length is wrong", OVERRUN: "an address passes the end"}[fault_of(message)]]
+        return [WRONG_WHOLE[fault_of(message)]]
     if DST not in slots:
-        return ["there is no destination"]
-    forms = REASONS[22]["write"][3:-1]
-    return [*forms, WITHOUT_GATEWAY] if message[3] == ADD and GATEWAY not in slots else forms
+        return [NO_DESTINATION]
+    return [*WRONG_FORMS, *([WITHOUT_GATEWAY] if message[3] == ADD and GATEWAY not in slots else [])]
 
 
 def reasons_of(words, errno):
@@ -265,7 +271,7 @@ def reasons_of(words, errno):
     if errno in (3, 22) and words[0] == "write":
         return reasons_of_message(bytes.fromhex(words[2].replace("-", "")), errno)
     if errno in (3, 22) and words[0] == "route":
-        return [WITHOUT_GATEWAY if errno == 22 else MISSING.get(VERBS[words[3]], "there is no such route")]
+        return [WITHOUT_GATEWAY if errno == 22 else MISSING.get(VERBS[words[3]], NO_ROUTE)]
     return REASONS[errno].get(words[0], ())
 
 

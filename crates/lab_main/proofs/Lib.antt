@@ -1,5 +1,6 @@
 pub mod Commanding
 pub mod Indenting
 pub mod Reaching
+pub mod Rewording
 pub mod Running
 pub mod Turning

@@ -14,7 +14,7 @@ use Rattle.line_reader.specs.declared.fault.Fault.TheVariants as broken
 use Rattle.program_ends.proofs.ReadLemmas.{Appends-kept}
 use Rattle.program_ends.specs.declared.outcome.Outcome.{Outcome}
 use Rattle.program_ends.specs.declared.outcome.Outcome.TheVariants.{Done, BadLine, ReadFault, WriteFault, NoMemory}
-use Rattle.lab_main.specs.Ends.{AreAll, AreFirst, Cut, CutLast, Ends, EndingFront, Finishes, ToldAll, ToldEnded, ToldFront}
+use Rattle.lab_main.specs.Ends.{AreAll, AreFirst, Cut, CutLast, Ends, EndingFront, Finishes, ToldAll, ToldEnded, ToldFront, ToldLines}
 use Rattle.lab_main.specs.Faults.{Broke}
 use Rattle.lab_main.specs.Progress.{Reached}
 use Rattle.lab_main.specs.Telling.{Point, State, Tells, Told, fresh, if_any, point}
@@ -164,6 +164,18 @@ finished_front o k a b c d e lines text s all told appends front = record {
   appends = Appends-trans c d e text front.written appends front.appends;
 }
 
+finished_lines : (o : Shows) (k : ℕ) (a b c d e : Option (List ℕ)) (lines : List (List ℕ)) (text : List ℕ) (s : Point) → AreAll a b lines s
+    → Told o (point fresh k) lines text s → Appends c d text → Keeps d e → ToldLines o k a b c e
+finished_lines o k a b c d e lines text s all told appends keeps = record {
+  lines = lines;
+  behind = all.0;
+  text = text;
+  last = s;
+  first = all.1;
+  told = told;
+  appends = Appends-kept c d e text appends keeps;
+}
+
 -- behind all lines, or behind `?quit`
 Ends-finished : (outcome : Outcome) (o : Shows) (k : ℕ) (a b c d e : Option (List ℕ)) (lines : List (List ℕ)) (text : List ℕ) (s : Point) → AreAll a b lines s
     → Told o (point fresh k) lines text s → Appends c d text → Finishes outcome d e s.state.bad → Ends o k outcome a b c e
@@ -171,7 +183,7 @@ Ends-finished Done o k a b c d e lines text s all told appends (more, is) = fini
 Ends-finished BadLine o k a b c d e lines text s all told appends (more, is) = finished_all o k a b c d e lines text s true all told appends more is
 Ends-finished ReadFault o k a b c d e lines text s all told appends f = absurd f
 Ends-finished WriteFault o k a b c d e lines text s all told appends f = finished_front o k a b c d e lines text s all told appends f
-Ends-finished NoMemory o k a b c d e lines text s all told appends f = finished_front o k a b c d e lines text s all told appends f
+Ends-finished NoMemory o k a b c d e lines text s all told appends f = finished_lines o k a b c d e lines text s all told appends f
 
 -- at the end of the text
 pub Ends-at_end : (outcome : Outcome) {n : ℕ} {o : Shows} {k : ℕ} {a b d e : Option (List ℕ)} (c f : Option (List ℕ)) {s : Point} {old : List ℕ} → Reached n o k a b d e s old
@@ -211,6 +223,19 @@ Front-between {d = d} {e = e} {f = f} {s = s} {old = old} p read keeps = record 
   appends = Appends-kept d e f p.text p.appends keeps;
 }
 
+-- and no more was told
+pub Lines-between : {n : ℕ} {o : Shows} {k : ℕ} {a b c d e f : Option (List ℕ)} {s : Point} {old : List ℕ} → Reached n o k a b d e s old → Consumed b c → Keeps e f
+    → ToldLines o k a c d f
+Lines-between {d = d} {e = e} {f = f} {s = s} {old = old} p read keeps = record {
+  lines = p.lines;
+  behind = old ++ read.read;
+  text = p.text;
+  last = s;
+  first = inl (Cut-read p.cut read);
+  told = p.told;
+  appends = Appends-kept d e f p.text p.appends keeps;
+}
+
 pub Ended-between : {n : ℕ} {o : Shows} {k : ℕ} {a b c d e f : Option (List ℕ)} {s : Point} {old : List ℕ} (line : List ℕ) → Reached n o k a b d e s old
     → Begun b c old line → Keeps e f → ToldEnded o k a c d f
 Ended-between {a = a} {b = b} {c = c} {d = d} {e = e} {f = f} {s = s} line p begun keeps = record {
@@ -233,7 +258,7 @@ pub Ends-between : (outcome : Outcome) {n : ℕ} {o : Shows} {k : ℕ} {a b c d 
     → (outcome ≡ ReadFault) ⊎ (outcome ≡ WriteFault) ⊎ (outcome ≡ NoMemory) → Ends o k outcome a c d g
 Ends-between ReadFault {e = e} f g line p begun read keeps kept is = Ended-between line p (begun refl) (Keeps-trans e f g keeps kept)
 Ends-between WriteFault {e = e} f g line p begun read keeps kept is = Front-between p read (Keeps-trans e f g keeps kept)
-Ends-between NoMemory {e = e} f g line p begun read keeps kept is = Front-between p read (Keeps-trans e f g keeps kept)
+Ends-between NoMemory {e = e} f g line p begun read keeps kept is = Lines-between p read (Keeps-trans e f g keeps kept)
 Ends-between Done f g line p begun read keeps kept (inl is) = absurd (cc)
 Ends-between Done f g line p begun read keeps kept (inr (inl is)) = absurd (cc)
 Ends-between Done f g line p begun read keeps kept (inr (inr is)) = absurd (cc)
@@ -295,18 +320,27 @@ Front-last contents w v {o = o} {k = k} {a = a} {c = c} {d = d} e {s = s} broken
 Front-last contents w v e broken.NoMemory line t p (parted, end, some) broke keeps =
     Front-between p (Consumed-of parted) (subst (λ (x : Counts _). Keeps (contents x.inner) e) broke keeps)
 
+-- where there was no memory for a line it isn't told at all
+pub Lines-line : {W : Type 0} (contents : W → Option (List ℕ)) (w v : Counts W) {n : ℕ} {o : Shows} {k : ℕ} {a b c d : Option (List ℕ)} (e : Option (List ℕ)) {s : Point} {old : List ℕ}
+    (fault : Fault) (line : List ℕ) (t : Point) → Reached n o k a b d (contents w.inner) s old → Consumed b c
+    → Broke contents o fault s line t w v → fault ≡ broken.NoMemory → Keeps (contents v.inner) e → ToldLines o k a c d e
+Lines-line contents w v e broken.Read line t p read broke is keeps = absurd broke
+Lines-line contents w v e broken.Write line t p read broke is keeps = absurd (cc)
+Lines-line contents w v e broken.NoMemory line t p read broke is keeps =
+    Lines-between p read (subst (λ (x : Counts _). Keeps (contents x.inner) e) broke keeps)
+
 -- so the run ends, which no read did
-pub Ends-front : (outcome : Outcome) {o : Shows} {k : ℕ} {a c d e : Option (List ℕ)} → ToldFront o k a c d e → outcome ≢ ReadFault
+pub Ends-front : (outcome : Outcome) {o : Shows} {k : ℕ} {a c d e : Option (List ℕ)} → ToldFront o k a c d e → (outcome ≡ NoMemory → ToldLines o k a c d e) → outcome ≢ ReadFault
     → (outcome ≡ ReadFault) ⊎ (outcome ≡ WriteFault) ⊎ (outcome ≡ NoMemory) → Ends o k outcome a c d e
-Ends-front WriteFault p not is = p
-Ends-front NoMemory p not is = p
-Ends-front ReadFault p not is = absurd (not refl)
-Ends-front Done p not (inl is) = absurd (cc)
-Ends-front Done p not (inr (inl is)) = absurd (cc)
-Ends-front Done p not (inr (inr is)) = absurd (cc)
-Ends-front BadLine p not (inl is) = absurd (cc)
-Ends-front BadLine p not (inr (inl is)) = absurd (cc)
-Ends-front BadLine p not (inr (inr is)) = absurd (cc)
+Ends-front WriteFault p lines not is = p
+Ends-front NoMemory p lines not is = lines refl
+Ends-front ReadFault p lines not is = absurd (not refl)
+Ends-front Done p lines not (inl is) = absurd (cc)
+Ends-front Done p lines not (inr (inl is)) = absurd (cc)
+Ends-front Done p lines not (inr (inr is)) = absurd (cc)
+Ends-front BadLine p lines not (inl is) = absurd (cc)
+Ends-front BadLine p lines not (inr (inl is)) = absurd (cc)
+Ends-front BadLine p lines not (inr (inr is)) = absurd (cc)
 
 -- a fault that isn't of reading stops as none
 pub not_read : {W : Type 0} (contents : W → Option (List ℕ)) (w v : Counts W) (o : Shows) (s t : Point) (line : List ℕ) (fault : Fault) → Broke contents o fault s line t w v → fault ≢ broken.Read
@@ -317,17 +351,14 @@ not_read contents w v o s t line broken.NoMemory broke is = absurd (cc)
 -- ---- ends that come of nothing that was read
 
 -- memory for the reader of lines can't be had
-pub Front-none : (o : Shows) (k : ℕ) (a c : Option (List ℕ)) → ToldFront o k a a c c
-Front-none o k a c = record {
+pub Lines-none : (o : Shows) (k : ℕ) (a c : Option (List ℕ)) → ToldLines o k a a c c
+Lines-none o k a c = record {
   lines = [];
   behind = [];
   text = [];
   last = point fresh k;
-  written = [];
-  unwritten = [];
   first = inl (Cut-none a);
   told = (refl, refl);
-  whole = refl;
   appends = Appends-nil c;
 }
 

@@ -19,7 +19,7 @@ use Rattle.lab_main.specs.declared.shows.Shows.{Shows}
 abbrev RunOf : List Command → World → World → Type 0
 RunOf commands old new = (turns : List Turn) × (commands_of turns ≡ commands) × Runs old turns new
 
-step_of : (old new : World) (c : Command) (answer : Answer) (before after : ℕ) → StepsCounted old c answer new before after → Steps old c answer new
+pub step_of : (old new : World) (c : Command) (answer : Answer) (before after : ℕ) → StepsCounted old c answer new before after → Steps old c answer new
 step_of old new c answer before after (inl (step, count)) = inl step
 step_of old new c answer before after (inr (takes, is, kept, more)) = inr (takes, is, kept)
 

@@ -1,7 +1,7 @@
 -- What a run with an outcome did to its reader, which had `before` and has `after` left, and to its writer, which held `old`
 -- and holds `new`.
 use Rattle.std.specs.Prelude.{◌≡◌, ◌≢◌, ◌⊎◌, Bool, true, false, List, [], ◌∷◌, ◌++◌, ℕ, Option}
-use Rattle.std.specs.Io.KnownBytes.{Appends, Consumes, IsAtEnd}
+use Rattle.std.specs.Io.KnownBytes.{Appends, Consumes, IsAtEnd, Keeps}
 use Rattle.event_file.specs.Lines.{AreLines, has_newline, with_newlines}
 use Rattle.program_ends.specs.declared.outcome.Outcome.{Outcome}
 use Rattle.program_ends.specs.declared.outcome.Outcome.TheVariants.{Done, BadLine, ReadFault, WriteFault, NoMemory}
@@ -70,13 +70,23 @@ pub record ToldFront (o : Shows) (count : ℕ) (before after old new : Option (L
   pub whole : text ++ ending last.state.bad ≡ written ++ unwritten
   pub appends : Appends old new written
 
+-- exactly these lines were told, to their ends, of those that were read
+pub record ToldLines (o : Shows) (count : ℕ) (before after old new : Option (List ℕ)) : Type 0 where
+  pub lines : List (List ℕ)
+  pub behind : List ℕ
+  pub text : List ℕ
+  pub last : Point
+  pub first : AreFirst before after lines behind
+  pub told : Told o (point fresh count) lines text last
+  pub appends : Appends old new text
+
 -- memory was refused so often before the run
 abbrev pub Ends : Shows → ℕ → Outcome → Option (List ℕ) → Option (List ℕ) → Option (List ℕ) → Option (List ℕ) → Type 0
 Ends o count Done before after old new = ToldAll o count before after old new false
 Ends o count BadLine before after old new = ToldAll o count before after old new true
 Ends o count ReadFault before after old new = ToldEnded o count before after old new
 Ends o count WriteFault before after old new = ToldFront o count before after old new
-Ends o count NoMemory before after old new = ToldFront o count before after old new
+Ends o count NoMemory before after old new = ToldLines o count before after old new
 
 -- ---- behind the last line
 
@@ -93,4 +103,4 @@ Finishes Done old new bad = Appends old new (ending bad) × (if_any bad ≡ fals
 Finishes BadLine old new bad = Appends old new (ending bad) × (if_any bad ≡ true)
 Finishes ReadFault old new bad = ⊥
 Finishes WriteFault old new bad = EndingFront old new bad
-Finishes NoMemory old new bad = EndingFront old new bad
+Finishes NoMemory old new bad = Keeps old new

@@ -1,6 +1,7 @@
 pub mod Ends
 pub mod Faults
 pub mod Help
+pub mod InWords
 pub mod Pairs
 pub mod Progress
 pub mod Questions

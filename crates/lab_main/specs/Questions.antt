@@ -1,19 +1,25 @@
 -- The questions that lines ask.
 use Rattle.std.specs.Prelude.{ℕ, Bool, true, false, ◌==◌, List, [], ◌∷◌, take, drop, bytes_eq, codes, if◌then◌else◌, Option, Some, None, option_map}
 use Rattle.event_file.specs.Words.{inet_of}
+use Rattle.line_faults.specs.Verbs.{verb_of}
 use Rattle.lab_main.specs.declared.questions.Question.{Question}
-use Rattle.lab_main.specs.declared.questions.Question.TheVariants.{Table, Tree, Find, Why, Interfaces, Sockets, Help, Quit}
+use Rattle.lab_main.specs.declared.questions.Question.TheVariants.{Table, Tree, Find, Why, Interfaces, Sockets, Help, HelpOn, Quit}
 
 -- a question begins with `?`
 abbrev pub is_question : List ℕ → Bool
 is_question [] = false
 is_question (b ∷ bs) = b == 63
 
-abbrev pub about_an_address : List ℕ → Option Question
-about_an_address line =
+-- a verb behind the word that asks about it
+abbrev pub about_a_verb : List ℕ → Option Question
+about_a_verb line = if bytes_eq (take 6 line) (codes "?help ") then option_map HelpOn (verb_of (drop 6 line)) else None
+
+-- an address or a verb
+abbrev pub about_something : List ℕ → Option Question
+about_something line =
     if bytes_eq (take 6 line) (codes "?find ") then option_map Find (inet_of (drop 6 line))
     else if bytes_eq (take 5 line) (codes "?why ") then option_map Why (inet_of (drop 5 line))
-    else None
+    else about_a_verb line
 
 abbrev pub question_of : List ℕ → Option Question
 question_of line =
@@ -23,7 +29,7 @@ question_of line =
     else if bytes_eq line (codes "?sockets") then Some Sockets
     else if bytes_eq line (codes "?help") then Some Help
     else if bytes_eq line (codes "?quit") then Some Quit
-    else about_an_address line
+    else about_something line
 
 -- no line is told behind the one that asks this
 abbrev pub ends_all : Option Question → Bool

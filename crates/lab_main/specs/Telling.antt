@@ -1,13 +1,16 @@
 -- What is told of each line of a text, and of all of them one after another.
-use Rattle.std.specs.Prelude.{◌≡◌, ◌+◌, ◌&&◌, ◌||◌, ℕ, Bool, true, false, not, List, [], ◌∷◌, ◌++◌, bytes_eq, codes, decimal, map, MatchBool, if◌then◌else◌, Option, Some, None, is_none}
+use Rattle.std.specs.Prelude.{◌≡◌, ◌+◌, ◌==◌, ◌&&◌, ◌||◌, ℕ, Bool, true, false, not, List, [], ◌∷◌, ◌++◌, bytes_eq, codes, decimal, length, map, MatchBool, if◌then◌else◌, Option, Some, None, is_none}
 use Rattle.event_file.specs.Counts.{one_more}
 use Rattle.event_file.specs.Grammar.{command_of}
 use Rattle.event_file.specs.Lines.{is_passed, kept}
 use Rattle.event_file.specs.Words.{parted_by}
 use Rattle.line_faults.specs.Faults.{fault_in}
+use Rattle.line_faults.specs.Help.{help_on}
 use Rattle.line_faults.specs.Texts.{wanted_text}
 use Rattle.line_faults.specs.Words.{word_of}
 use Rattle.line_faults.specs.declared.faults.LineFault.{LineFault}
+use Rattle.line_faults.specs.declared.wanted.Wanted.{Wanted}
+use Rattle.line_faults.specs.declared.wanted.Wanted.TheVariants.{ShorterLine}
 use Rattle.plain_lines.specs.PlainLines.{plain_of}
 use Rattle.route_core.specs.Commands.{Command}
 use Rattle.route_core.specs.Step.{StepsCounted}
@@ -28,7 +31,7 @@ use Rattle.lab_main.specs.Pairs.{pair_of}
 use Rattle.lab_main.specs.Questions.{ends_all, is_question, question_of}
 use Rattle.lab_main.specs.Texts.{echoed, indented}
 use Rattle.lab_main.specs.declared.questions.Question.{Question}
-use Rattle.lab_main.specs.declared.questions.Question.TheVariants.{Table, Tree, Find, Why, Interfaces, Sockets, Help, Quit}
+use Rattle.lab_main.specs.declared.questions.Question.TheVariants.{Table, Tree, Find, Why, Interfaces, Sockets, Help, HelpOn, Quit}
 use Rattle.lab_main.specs.declared.shows.Shows.{Shows}
 
 -- what stands between two lines: the world, how many lines were told, the numbers of those that were bad, and whether
@@ -62,10 +65,11 @@ answer_to None w = no_question
 answer_to (Some Table) w = table_words (all_told w) w
 answer_to (Some Tree) w = tree_text (pairs_of w)
 answer_to (Some (Find address)) w = find_text address (pairs_of w)
-answer_to (Some (Why address)) w = agreeing_words address (all_told w)
+answer_to (Some (Why address)) w = agreeing_words address (all_told w) w
 answer_to (Some Interfaces) w = interfaces_words w
 answer_to (Some Sockets) w = sockets_words w
 answer_to (Some Help) w = help
+answer_to (Some (HelpOn verb)) w = help_on verb
 answer_to (Some Quit) w = []
 
 -- ---- a command
@@ -75,15 +79,29 @@ abbrev pub plainly : List ℕ → List ℕ
 plainly line =
     if bytes_eq (plain_of line) line then [] else codes "= " ++ plain_of line ++ codes "\n"
 
+abbrev pub wrong_text : List ℕ → List ℕ
+wrong_text word =
+    if length word == 0 then codes " is empty, since words are parted by single spaces"
+    else codes " (`" ++ word ++ codes "`) is wrong"
+
 abbrev pub word_shown : Option (List ℕ) → List ℕ
 word_shown None = codes " is missing"
-word_shown (Some word) = codes " (`" ++ word ++ codes "`) is wrong"
+word_shown (Some word) = wrong_text word
 
 -- which word is wrong, counted from 1 on, and what is wanted there
+abbrev pub wrong_word : List ℕ → LineFault → List ℕ
+wrong_word line f = codes "bad: word " ++ decimal (one_more f.place) ++ word_shown (word_of (parted_by 32 line) f.place)
+    ++ codes "; wanted: " ++ wanted_text f.wanted ++ codes "\n"
+
+-- where a line is too long, no word is at fault
+abbrev pub wrong_by : List ℕ → LineFault → Wanted → List ℕ
+wrong_by line f ShorterLine = codes "bad: wanted: a line of at most 16500 bytes\n"
+wrong_by line f wanted = wrong_word line f
+
+-- why a line is no command
 abbrev pub fault_words : List ℕ → Option LineFault → List ℕ
 fault_words line None = codes "bad\n"
-fault_words line (Some f) = codes "bad: word " ++ decimal (one_more f.place) ++ word_shown (word_of (parted_by 32 line) f.place)
-    ++ codes "; wanted: " ++ wanted_text f.wanted ++ codes "\n"
+fault_words line (Some f) = wrong_by line f f.wanted
 
 -- behind a front a step answers the command of a plain line, between two counts of refused memory; of a line that is none
 -- it is told why

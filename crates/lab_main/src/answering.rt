@@ -7,16 +7,18 @@ ghost use Rattle.lab_main.specs.Turns.{ComesTo, is_bad_turn, is_last_turn};
 ghost use Rattle.memory.specs.Refusing.{Rises};
 ghost use Rattle.plain_lines.specs.PlainLines.{plain_of};
 ghost use Rattle.tree_pictures.specs.Dot.{graph_text};
+ghost use Rattle.tree_pictures.specs.Svg.{svg_text};
 
 use crate::questions::{Question, is_question, question_of};
 use crate::texts::{put_fault, put_help, put_no_question};
 use event_file::{is_passed, read_said};
 use lab_text::Text;
+use line_faults::put_help_on;
 use memory::Memory;
 use plain_lines::put_plain;
 use route_core::{MOST_WRITTEN, Room, World};
 use std::alloc::{AllocError, Global};
-use tree_pictures::{Pair, put_find, put_graph, put_tree};
+use tree_pictures::{Pair, put_find, put_graph, put_svg, put_tree};
 use world_words::{put_agreeing, put_answer, put_interfaces, put_sockets, put_table};
 
 /// What a line came to.
@@ -173,10 +175,13 @@ fn put_told(
         Question::Table => put_table(body, &world.routes(memory)?, world, memory),
         Question::Tree => put_tree(body, &pairs(alloc, world, memory)?, memory),
         Question::Find(address) => put_find(body, address, &pairs(alloc, world, memory)?, memory),
-        Question::Why(address) => put_agreeing(body, address, &world.routes(memory)?, memory),
+        Question::Why(address) => {
+            put_agreeing(body, address, &world.routes(memory)?, world, memory)
+        }
         Question::Interfaces => put_interfaces(body, world, memory),
         Question::Sockets => put_sockets(body, world, memory),
         Question::Help => put_help(body, memory),
+        Question::HelpOn(verb) => put_help_on(body, verb, memory),
         Question::Quit => Ok(()),
     }
 }
@@ -193,6 +198,20 @@ pub(crate) fn put_world_graph(
     ensures counted { Rises (is_err result) memory.old memory.new }
 {
     put_graph(text, &pairs(alloc, world, memory)?, memory)
+}
+
+/// Appends the radix tree of the routes as a drawing.
+pub(crate) fn put_world_svg(
+    alloc: Global,
+    world: &mut World,
+    text: &mut Text,
+    memory: &mut Memory,
+) -> Result<(), AllocError>
+    ensures put { OnOk result (text.new ≡ text.old ++ svg_text (pairs_of world.old)) }
+    ensures kept { world.new ≡ world.old }
+    ensures counted { Rises (is_err result) memory.old memory.new }
+{
+    put_svg(text, &pairs(alloc, world, memory)?, memory)
 }
 
 /// The routes by their pairs, in table order.

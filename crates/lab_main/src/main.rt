@@ -4,6 +4,8 @@
 mod answering;
 mod lab;
 mod laws;
+mod noting;
+mod pictures;
 mod program;
 mod prompt;
 mod questions;
@@ -12,9 +14,8 @@ mod shows;
 mod texts;
 mod words;
 
-use memory::Memory;
-use program::{end_refused, run_asked};
-use program_ends::{end, status, words_of};
+use program::{end_of_run, end_refused};
+use program_ends::{end, words_of};
 use std::io::IsTerminal;
 use std::process::ExitCode;
 use words::{PROGRAM, asked_by};
@@ -25,10 +26,7 @@ fn main(rt: HostRuntime) -> ExitCode {
         Err(refusal) => return end(&rt, PROGRAM, Err(refusal)),
     };
     match asked_by(rt.alloc(), words.as_slice()) {
-        Ok(asked) => {
-            let at_terminal = rt.stdin().is_terminal();
-            ExitCode::from(status(run_asked(&rt, &asked, at_terminal, &mut Memory::new())))
-        }
+        Ok(asked) => end_of_run(&rt, &asked, rt.stdin().is_terminal()),
         Err(error) => end_refused(&rt, &error),
     }
 }

@@ -3,26 +3,38 @@
 ghost use Rattle.std.specs.Prelude.{◌≡◌};
 ghost use Rattle.lab_main.specs.Telling.{fresh};
 
-use crate::answering::put_world_graph;
 use crate::lab::Lab;
+use crate::noting::Noting;
+use crate::pictures::write_pictures;
 use crate::prompt::Prompting;
 use crate::run::run;
 use crate::shows::Shows;
 use crate::words::{Asked, PROGRAM};
 use clap::error::ErrorKind as Mistake;
 use event_file::Counted;
-use lab_text::Text;
 use memory::Memory;
-use program_ends::{Outcome, Refusal, refusal_status};
-use route_core::World;
+use program_ends::{Outcome, Refusal, fault_text, refusal_status, status};
 use std::fs;
-use std::io::{self, ErrorKind, Read, Write};
+use std::io::{self, ErrorKind, Read};
 use std::process::ExitCode;
 use std::rt::Files;
 
-/// Tells the lines of the text that is asked for, and then writes the tree where that is asked for. `at_terminal` says that
-/// standard input is one: then there is a prompt, and no line is shown again.
-pub(crate) fn run_asked<R: Files + Input + Print + Eprint + AllocGlobal>(
+/// Tells the lines of the text that is asked for, writes the pictures that are, and answers the exit status. `at_terminal`
+/// says that standard input is one: then there is a prompt, and no line is shown again.
+pub(crate) fn end_of_run<R: Files + Input + Print + Eprint + AllocGlobal>(
+    rt: &R,
+    asked: &Asked<'_>,
+    at_terminal: bool,
+) -> ExitCode {
+    let outcome = run_asked(rt, asked, at_terminal, &mut Memory::new());
+    if outcome == Outcome::NoMemory {
+        let _ = eprintln!(rt; "{PROGRAM}: {}", fault_text(outcome));
+    }
+    ExitCode::from(status(outcome))
+}
+
+/// Tells the lines of the text that is asked for, and then writes the pictures of the tree that are.
+fn run_asked<R: Files + Input + Print + Eprint + AllocGlobal>(
     rt: &R,
     asked: &Asked<'_>,
     at_terminal: bool,
@@ -32,9 +44,9 @@ pub(crate) fn run_asked<R: Files + Input + Print + Eprint + AllocGlobal>(
         return Outcome::NoMemory;
     };
     let outcome = tell_text(rt, asked, at_terminal, &mut lab, memory);
-    match (outcome, asked.graph) {
-        (Outcome::Done | Outcome::BadLine, Some(file)) => {
-            match write_graph(rt, file, &mut lab.world, memory) {
+    match outcome {
+        Outcome::Done | Outcome::BadLine => {
+            match write_pictures(rt, asked, &mut lab.world, memory) {
                 Ok(()) => outcome,
                 Err(fault) => fault,
             }
@@ -60,68 +72,60 @@ fn tell_text<R: Files + Input + Print + Eprint + AllocGlobal>(
                 ..asked.shows
             };
             let reader = Prompting::new(rt.reader(), io::writer(rt));
-            run_over(rt, shows, lab, reader, memory)
+            run_over(rt, shows, lab, STANDARD_INPUT, reader, memory)
         }
-        None => run_over(rt, asked.shows, lab, rt.reader(), memory),
+        None => run_over(rt, asked.shows, lab, STANDARD_INPUT, rt.reader(), memory),
         Some(file) => match fs::open(rt, file) {
-            Ok(text) => run_over(rt, asked.shows, lab, text, memory),
+            Ok(text) => run_over(rt, asked.shows, lab, file, text, memory),
             Err(error) => {
-                excuse(rt, file, &error);
+                excuse(rt, file, Some(error.kind()));
                 Outcome::ReadFault
             }
         },
     }
 }
 
-/// Tells the lines of a text on standard output.
-fn run_over<R: Print + AllocGlobal, T: Read + Drop>(
+/// What is read where no file is named, for people.
+const STANDARD_INPUT: &str = "standard input";
+
+/// Tells the lines of a text, which people know by this name, on standard output.
+fn run_over<R: Print + Eprint + AllocGlobal, T: Read + Drop>(
     rt: &R,
     shows: Shows,
     lab: &mut Lab,
+    name: &str,
     text: T,
     memory: &mut Memory,
 ) -> Outcome
     requires { lab.old ≡ fresh }
 {
-    let mut reader = Counted::new(text);
-    let mut writer = Counted::new(io::writer(rt));
-    run(rt.alloc(), shows, lab, &mut reader, &mut writer, memory)
-}
-
-/// Writes the tree into a file, in the place of what is there.
-fn write_graph<R: Files + Eprint + AllocGlobal>(
-    rt: &R,
-    file: &str,
-    world: &mut World,
-    memory: &mut Memory,
-) -> Result<(), Outcome> {
-    let mut text = Text::new(rt.alloc());
-    if put_world_graph(rt.alloc(), world, &mut text, memory).is_err() {
-        return Err(Outcome::NoMemory);
+    let mut reader = Counted::new(Noting::new(text));
+    let mut writer = Counted::new(Noting::new(io::writer(rt)));
+    let outcome = run(rt.alloc(), shows, lab, &mut reader, &mut writer, memory);
+    match outcome {
+        Outcome::ReadFault => excuse(rt, name, reader.into_inner().why()),
+        Outcome::WriteFault => excuse(rt, "standard output", writer.into_inner().why()),
+        _ => {}
     }
-    let written = match fs::create(rt, file) {
-        Ok(mut graph) => graph.write_all(text.as_bytes()),
-        Err(error) => Err(error),
-    };
-    written.map_err(|error| {
-        excuse(rt, file, &error);
-        Outcome::WriteFault
-    })
+    outcome
 }
 
-/// Tells standard error why a file can't be read or written.
-fn excuse<R: Eprint>(rt: &R, file: &str, error: &io::Error) {
-    let why = reason(error.kind());
+/// Tells standard error why a file can't be read or written; nothing where its reader has gone.
+pub(crate) fn excuse<R: Eprint>(rt: &R, file: &str, why: Option<ErrorKind>) {
+    if why == Some(ErrorKind::BrokenPipe) {
+        return;
+    }
+    let why = reason(why);
     let _ = eprintln!(rt; "{PROGRAM}: {file}: {why}");
 }
 
 /// Why a file can't be read or written.
-fn reason(kind: ErrorKind) -> &'static str {
-    match kind {
-        ErrorKind::NotFound => "No such file",
-        ErrorKind::PermissionDenied => "Permission denied",
-        ErrorKind::IsADirectory => "Is a directory",
-        ErrorKind::StorageFull => "No space left on device",
+fn reason(why: Option<ErrorKind>) -> &'static str {
+    match why {
+        Some(ErrorKind::NotFound) => "No such file",
+        Some(ErrorKind::PermissionDenied) => "Permission denied",
+        Some(ErrorKind::IsADirectory) => "Is a directory",
+        Some(ErrorKind::StorageFull) => "No space left on device",
         _ => "Input/output error",
     }
 }

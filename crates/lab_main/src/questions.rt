@@ -1,8 +1,9 @@
 //! The questions that a line may ask of the world.
 ghost use Rattle.std.specs.Prelude.{◌≡◌};
-ghost use Rattle.lab_main.specs.Questions.{about_an_address, is_question as asks, question_of as question_in};
+ghost use Rattle.lab_main.specs.Questions.{about_a_verb, about_something, is_question as asks, question_of as question_in};
 
 use event_file::read_inet;
+use line_faults::{Verb, verb_of};
 use sock_addrs::Inet;
 
 /// A question, which changes nothing.
@@ -22,6 +23,8 @@ pub(crate) enum Question {
     Sockets,
     /// What lines and questions there are: `?help`.
     Help,
+    /// How a line with this verb is written, word by word: `?help VERB`.
+    HelpOn(Verb),
     /// No line is told behind this one: `?quit`.
     Quit,
 }
@@ -55,18 +58,28 @@ pub(crate) fn question_of(line: &[u8]) -> Option<Question>
     if line == b"?quit".as_slice() {
         return Some(Question::Quit);
     }
-    about_address(line)
+    question_about(line)
 }
 
-/// The question about an address that a line asks.
-fn about_address(line: &[u8]) -> Option<Question>
-    ensures { result ≡ about_an_address line.now }
+/// The question about an address or a verb that a line asks.
+fn question_about(line: &[u8]) -> Option<Question>
+    ensures { result ≡ about_something line.now }
 {
     match line {
         [b'?', b'f', b'i', b'n', b'd', b' ', address @ ..] => Some(Question::Find(read_inet(
             address,
         )?)),
         [b'?', b'w', b'h', b'y', b' ', address @ ..] => Some(Question::Why(read_inet(address)?)),
+        _ => question_about_verb(line),
+    }
+}
+
+/// The question about a verb that a line asks.
+fn question_about_verb(line: &[u8]) -> Option<Question>
+    ensures { result ≡ about_a_verb line.now }
+{
+    match line {
+        [b'?', b'h', b'e', b'l', b'p', b' ', word @ ..] => Some(Question::HelpOn(verb_of(word)?)),
         _ => None,
     }
 }

@@ -43,7 +43,7 @@ pub(crate) fn run<R: Read, W: Write>(
     ensures ends { Ends shows memory.old result (R.remaining reader.old.inner) (R.remaining reader.new.inner)
         (W.contents writer.old.inner) (W.contents writer.new.inner) }
 
-    // Before each read all that was told is flushed, and at the end too.
+    // Before each read all that was written is flushed, and at the end too.
     ensures prompt { reader.new.early_reads ≡ reader.old.early_reads }
     ensures flushed { writer.old.unflushed ≡ false → result ≢ Outcome.WriteFault → writer.new.unflushed ≡ false }
 
@@ -173,7 +173,7 @@ fn finish<W: Write>(
     Outcome::Done
 }
 
-/// Flushes what was told before a want of memory, and says how the run ended.
+/// Flushes what was told before a fault that isn't the writer's, and says how the run ended.
 fn stop<W: Write>(fault: Fault, writer: &mut Counted<W>) -> Outcome
     requires failed { fault ≡ Fault.Write → writer.old.failures ≡ 1 }
     requires unfailed { fault ≢ Fault.Write → writer.old.failures ≡ 0 }

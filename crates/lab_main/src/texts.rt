@@ -3,7 +3,7 @@ ghost use Rattle.std.specs.Prelude.{◌≡◌, ◌≢◌, ◌≤◌, ◌⊎◌, 
 ghost use Rattle.event_file.specs.Lines.{has_newline};
 ghost use Rattle.event_file.specs.Words.{parted_by};
 ghost use Rattle.lab_main.specs.Help.{help, no_question};
-ghost use Rattle.lab_main.specs.Telling.{fault_words, shown, word_shown};
+ghost use Rattle.lab_main.specs.Telling.{fault_words, shown, word_shown, wrong_text, wrong_word};
 ghost use Rattle.lab_main.specs.Texts.{echoed, ending, indented, lines_word as lines_word_of, numbered};
 ghost use Rattle.line_faults.specs.Faults.{fault_in};
 ghost use Rattle.line_faults.specs.Words.{word_of};
@@ -11,7 +11,7 @@ ghost use Rattle.memory.specs.Refusing.{Rises};
 
 use crate::shows::Shows;
 use lab_text::Text;
-use line_faults::{fault_of, put_usages, word_at};
+use line_faults::{LineFault, Wanted, fault_of, put_usages, word_at};
 use line_reader::newline_in;
 use memory::Memory;
 use std::alloc::AllocError;
@@ -125,8 +125,7 @@ fn put_numbered(text: &mut Text, numbers: &[u64], memory: &mut Memory) -> Result
     Ok(())
 }
 
-/// Appends which word of a line is wrong, and what is wanted there.
-#[tactic(auto, using(crate::proofs::Indenting::six))]
+/// Appends why a line is no command.
 pub(crate) fn put_fault(text: &mut Text, line: &[u8], memory: &mut Memory) -> Result<(), AllocError>
     ensures put { OnOk result (text.new ≡ text.old ++ fault_words line.now (fault_in line.now)) }
     ensures counted { Rises (is_err result) memory.old memory.new }
@@ -134,6 +133,23 @@ pub(crate) fn put_fault(text: &mut Text, line: &[u8], memory: &mut Memory) -> Re
     let Some(fault) = fault_of(line) else {
         return text.put(b"bad\n", memory);
     };
+    if fault.wanted == Wanted::ShorterLine {
+        return text.put(b"bad: wanted: a line of at most 16500 bytes\n", memory);
+    }
+    put_wrong_word(text, line, &fault, memory)
+}
+
+/// Appends which word of a line is wrong, and what is wanted there.
+#[tactic(auto, using(crate::proofs::Indenting::six))]
+fn put_wrong_word(
+    text: &mut Text,
+    line: &[u8],
+    fault: &LineFault,
+    memory: &mut Memory,
+) -> Result<(), AllocError>
+    ensures put { OnOk result (text.new ≡ text.old ++ wrong_word line.now fault.now) }
+    ensures counted { Rises (is_err result) memory.old memory.new }
+{
     text.put(b"bad: word ", memory)?;
     text.put_number((fault.place as u64).saturating_add(1), memory)?;
     put_word(text, line, fault.place, memory)?;
@@ -156,10 +172,20 @@ fn put_word(
     let Some(word) = word_at(line, place) else {
         return text.put(b" is missing", memory);
     };
+    put_wrong(text, word, memory)
+}
+
+/// Appends that a word is wrong, or that it is empty.
+fn put_wrong(text: &mut Text, word: &[u8], memory: &mut Memory) -> Result<(), AllocError>
+    ensures put { OnOk result (text.new ≡ text.old ++ wrong_text word.now) }
+    ensures counted { Rises (is_err result) memory.old memory.new }
+{
+    if word.is_empty() {
+        return text.put(b" is empty, since words are parted by single spaces", memory);
+    }
     text.put(b" (`", memory)?;
     text.put(word, memory)?;
-    text.put(b"`) is wrong", memory)?;
-    Ok(())
+    text.put(b"`) is wrong", memory)
 }
 
 /// Appends which questions there are, of a line behind `?` that is none.
@@ -168,7 +194,7 @@ pub(crate) fn put_no_question(text: &mut Text, memory: &mut Memory) -> Result<()
     ensures counted { Rises (is_err result) memory.old memory.new }
 {
     text.put(
-        b"bad: wanted: one of ?table, ?tree, ?find A, ?why A, ?interfaces, ?sockets, ?help, ?quit\n",
+        b"bad: wanted: one of ?table, ?tree, ?find A, ?why A, ?interfaces, ?sockets, ?help, ?help VERB, ?quit\n",
         memory,
     )
 }
@@ -181,13 +207,14 @@ pub(crate) fn put_help(text: &mut Text, memory: &mut Memory) -> Result<(), Alloc
     put_usages(text, memory)?;
     text.put(
         b"\
-?table       the routes, as netstat -rn shows them
+?table       the routes, in the way of netstat -rn
 ?tree        the radix tree of the routes
 ?find A      how the best route of an address is found
 ?why A       which routes an address agrees with
 ?interfaces  the interfaces, with their addresses
 ?sockets     the open routing sockets
 ?help        this
+?help VERB   how a line with this verb is written, word by word
 ?quit        the end
 ",
         memory,

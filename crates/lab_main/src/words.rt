@@ -16,6 +16,8 @@ pub(crate) struct Asked<'a> {
     pub(crate) shows: Shows,
     /// The file to which the tree goes at the end, as a graph, if any.
     pub(crate) graph: Option<&'a str>,
+    /// The one to which it goes as a drawing, if any.
+    pub(crate) svg: Option<&'a str>,
     /// The file that is read, or else standard input.
     pub(crate) file: Option<&'a str>,
 }
@@ -34,6 +36,10 @@ fn command<'a>(alloc: Global) -> Result<Command<'a>, Error> {
     let graph = Arg::new(alloc, "dot").long("dot").value_name("GRAPH").help(
         "Write the radix tree into this file for Graphviz, as it is at the end",
     );
+    let svg = Arg::new(alloc, "svg")
+        .long("svg")
+        .value_name("DRAWING")
+        .help("Draw the radix tree into this file, as it is at the end");
     let file = Arg::new(alloc, "FILE").help("The script; standard input where none is named");
     let command = Command::new(alloc, PROGRAM)
         .version(VERSION)
@@ -41,6 +47,7 @@ fn command<'a>(alloc: Global) -> Result<Command<'a>, Error> {
         .arg(quiet)?
         .arg(no_echo)?
         .arg(graph)?
+        .arg(svg)?
         .arg(file)?;
     Ok(command)
 }
@@ -55,6 +62,7 @@ pub(crate) fn asked_by<'a>(alloc: Global, words: &'a [String]) -> Result<Asked<'
             done: !quiet,
         },
         graph: matches.get_str("dot"),
+        svg: matches.get_str("svg"),
         file: matches.get_str("FILE"),
     })
 }

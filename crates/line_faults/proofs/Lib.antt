@@ -8,4 +8,5 @@ pub mod Lengths
 pub mod OptionRows
 pub mod Places
 pub mod ProbeRows
+pub mod Putting
 pub mod RouteRows

@@ -4,7 +4,7 @@ use Rattle.event_file.specs.Grammar.{most_link_bytes}
 use Rattle.event_file.specs.RouteLine.{destination_of, verb_of}
 use Rattle.event_file.specs.Words.{bytes_to, gate_of, hex_number_of, inet_of, interface_kind_of, name_of, number_to, parted_by, protocol_of, switch_of}
 use Rattle.line_faults.specs.declared.kinds.WordKind.{WordKind}
-use Rattle.line_faults.specs.declared.kinds.WordKind.TheVariants.{InterfaceName, SocketId, InterfaceKind, TypeNumber, LinkBytes, Address, AddressPrefix, Pid, Protocol, Switch, Written, SequenceNumber, RouteVerb, Destination, Gateway, MaskLength, InterfaceAddress, Bits, Metric, DumpRoom}
+use Rattle.line_faults.specs.declared.kinds.WordKind.TheVariants.{InterfaceName, SocketId, InterfaceKind, TypeNumber, LinkBytes, Address, AddressPrefix, Pid, Protocol, Switch, Written, SequenceNumber, RouteVerb, Destination, Gateway, MaskLength, InterfaceAddress, FlagBits, Bits, Metric, DumpRoom}
 use Rattle.route_core.specs.declared.written.TheConstants.{MOST_WRITTEN}
 
 -- the parts of `A/P`
@@ -31,6 +31,7 @@ is_of Destination word = is_some (destination_of word)
 is_of Gateway word = is_some (gate_of word)
 is_of MaskLength word = is_some (number_to 32 word)
 is_of InterfaceAddress word = is_some (gate_of word)
+is_of FlagBits word = is_some (hex_number_of word)
 is_of Bits word = is_some (hex_number_of word)
 is_of Metric word = is_some (number_to 4294967295 word)
 is_of DumpRoom word = bytes_eq word (codes "ask") || is_some (number_to 4294967295 word)

@@ -1,4 +1,5 @@
 pub mod Faults
+pub mod Help
 pub mod Kinds
 pub mod Laws
 pub mod Options

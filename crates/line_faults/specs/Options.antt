@@ -1,7 +1,7 @@
 -- The options of a `route` line.
 use Rattle.std.specs.Prelude.{ℕ, Bool, false, ◌||◌, List, [], ◌∷◌, drop, codes, bytes_eq}
 use Rattle.line_faults.specs.declared.kinds.WordKind.{WordKind}
-use Rattle.line_faults.specs.declared.kinds.WordKind.TheVariants.{Gateway, MaskLength, InterfaceAddress, Bits, Metric}
+use Rattle.line_faults.specs.declared.kinds.WordKind.TheVariants.{Gateway, MaskLength, InterfaceAddress, FlagBits, Bits, Metric}
 use Rattle.line_faults.specs.declared.options.RouteOption.{RouteOption}
 use Rattle.line_faults.specs.declared.options.RouteOption.TheVariants as option
 
@@ -35,7 +35,7 @@ option_kind option.Via = Gateway
 option_kind option.Genmask = MaskLength
 option_kind option.Ifp = InterfaceAddress
 option_kind option.Ifa = InterfaceAddress
-option_kind option.Flags = Bits
+option_kind option.Flags = FlagBits
 option_kind option.Inits = Bits
 option_kind option.Locks = Bits
 option_kind option.Mtu = Metric

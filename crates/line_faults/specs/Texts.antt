@@ -1,11 +1,11 @@
 -- What people are told.
-use Rattle.std.specs.Prelude.{ℕ, List, [], ◌∷◌, ◌++◌, codes, map, Option, option_map}
-use Rattle.line_faults.specs.Verbs.{all_verbs, verb_of}
+use Rattle.std.specs.Prelude.{ℕ, List, [], ◌∷◌, ◌++◌, codes, map}
+use Rattle.line_faults.specs.Verbs.{all_verbs}
 use Rattle.line_faults.specs.Options.{option_text, options_from}
 use Rattle.line_faults.specs.declared.verbs.Verb.{Verb as VerbWord}
 use Rattle.line_faults.specs.declared.verbs.Verb.TheVariants as verb
 use Rattle.line_faults.specs.declared.kinds.WordKind.{WordKind}
-use Rattle.line_faults.specs.declared.kinds.WordKind.TheVariants.{InterfaceName, SocketId, InterfaceKind, TypeNumber, LinkBytes, Address, AddressPrefix, Pid, Protocol, Switch, Written, SequenceNumber, RouteVerb, Destination, Gateway, MaskLength, InterfaceAddress, Bits, Metric, DumpRoom}
+use Rattle.line_faults.specs.declared.kinds.WordKind.TheVariants.{InterfaceName, SocketId, InterfaceKind, TypeNumber, LinkBytes, Address, AddressPrefix, Pid, Protocol, Switch, Written, SequenceNumber, RouteVerb, Destination, Gateway, MaskLength, InterfaceAddress, FlagBits, Bits, Metric, DumpRoom}
 use Rattle.line_faults.specs.declared.options.RouteOption.{RouteOption}
 use Rattle.line_faults.specs.declared.options.RouteOption.TheVariants as option
 use Rattle.line_faults.specs.declared.wanted.Wanted.{Wanted}
@@ -20,7 +20,7 @@ listed (word ∷ words) = word ++ codes ", " ++ listed words
 -- the options from this one on, one of which may come
 abbrev pub options_text : RouteOption → List ℕ
 options_text option.Rttvar = codes "rttvar, or nothing more"
-options_text o = codes "one of " ++ listed (map option_text (options_from o)) ++ codes ", in this order"
+options_text o = codes "nothing more, or of these, in this order: " ++ listed (map option_text (options_from o))
 
 -- the kind of a word
 abbrev pub kind_text : WordKind → List ℕ
@@ -38,16 +38,17 @@ kind_text Written = codes "a message: at most 8246 bytes in hexadecimal, or - fo
 kind_text SequenceNumber = codes "a sequence number: from 0 to 4294967295"
 kind_text RouteVerb = codes "one of add, delete, change, get, lock"
 kind_text Destination = codes "a destination: an address as 10.0.0.1, a network as 10.0.0.0/8, or default"
-kind_text Gateway = codes "a gateway: an IPv4 address, or link: and a link-layer address in hexadecimal"
+kind_text Gateway = codes "a gateway: an IPv4 address, or link: and the 8 to 32 bytes of a sockaddr_dl in hexadecimal"
 kind_text MaskLength = codes "a mask's length: a number from 0 to 32"
-kind_text InterfaceAddress = codes "an interface: an IPv4 address, or link: and a link-layer address in hexadecimal"
+kind_text InterfaceAddress = codes "an interface: an IPv4 address, or link: and the 8 to 32 bytes of a sockaddr_dl in hexadecimal"
+kind_text FlagBits = codes "flags: their names, as UP,GATEWAY, or 1 to 8 hexadecimal digits"
 kind_text Bits = codes "bits: 1 to 8 hexadecimal digits"
 kind_text Metric = codes "a metric: a number from 0 to 4294967295"
-kind_text DumpRoom = codes "ask, or how many bytes there is room for: a number from 0 to 4294967295"
+kind_text DumpRoom = codes "ask, all, or how many bytes there is room for: a number from 0 to 4294967295"
 
 -- what is wanted
 abbrev pub wanted_text : Wanted → List ℕ
-wanted_text Verb = codes "one of if, addr, unaddr, open, loopback, close, read, lost, write, route, packet, redirect, losing, dump, flags"
+wanted_text Verb = codes "one of if, addr, unaddr, open, loopback, close, read, lost, write, route, packet, redirect, losing, dump, flags; ?help tells of them"
 wanted_text (Word kind) = kind_text kind
 wanted_text ToOrCloning = codes "to and an address, cloning, or nothing more"
 wanted_text Cloning = codes "cloning, or nothing more"
@@ -69,13 +70,9 @@ usage_text verb.Write = codes "write ID HEX: writes bytes to a socket"
 usage_text verb.Route = codes "route ID SEQ VERB DEST [OPTION WORD]..: writes the message of these words to a socket"
 usage_text verb.Packet = codes "packet A: looks up the route of a packet to an address"
 usage_text verb.Redirect = codes "redirect A GATEWAY AUTHOR: follows a redirect of an address to a gateway"
-usage_text verb.Losing = codes "losing A: gives up the route of an address"
-usage_text verb.Dump = codes "dump ask|N: dumps the table into N bytes, or says how many to ask for"
-usage_text verb.Flags = codes "flags BITS ask|N: the same of the routes that have one of these flags"
-
--- of the verb that a word is
-abbrev pub usage_of : List ℕ → Option (List ℕ)
-usage_of word = option_map usage_text (verb_of word)
+usage_text verb.Losing = codes "losing A: tells that the route of an address seems dead, and takes it away if a redirect made it"
+usage_text verb.Dump = codes "dump ask|all|N: dumps the table into N bytes, or says how many to ask for"
+usage_text verb.Flags = codes "flags FLAGS ask|all|N: the same of the routes that have one of these flags"
 
 -- of these verbs, each with a newline behind it
 abbrev pub usages_of : List VerbWord → List ℕ

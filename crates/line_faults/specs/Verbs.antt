@@ -3,7 +3,7 @@ use Rattle.std.specs.Prelude.{ℕ, if◌then◌else◌, List, [], ◌∷◌, cod
 use Rattle.line_faults.specs.declared.verbs.Verb.{Verb}
 use Rattle.line_faults.specs.declared.verbs.Verb.TheVariants.{If, Addr, Unaddr, Open, Loopback, Close, Read, Lost, Write, Route, Packet, Redirect, Losing, Dump, Flags}
 use Rattle.line_faults.specs.declared.kinds.WordKind.{WordKind}
-use Rattle.line_faults.specs.declared.kinds.WordKind.TheVariants.{InterfaceName, SocketId, InterfaceKind, TypeNumber, LinkBytes, Address, AddressPrefix, Pid, Protocol, Switch, Written, SequenceNumber, RouteVerb, Destination, Bits, DumpRoom}
+use Rattle.line_faults.specs.declared.kinds.WordKind.TheVariants.{InterfaceName, SocketId, InterfaceKind, TypeNumber, LinkBytes, Address, AddressPrefix, Pid, Protocol, Switch, Written, SequenceNumber, RouteVerb, Destination, FlagBits, DumpRoom}
 
 -- every verb
 abbrev pub all_verbs : List Verb
@@ -52,4 +52,4 @@ words_of Packet = Address ∷ []
 words_of Redirect = Address ∷ Address ∷ Address ∷ []
 words_of Losing = Address ∷ []
 words_of Dump = DumpRoom ∷ []
-words_of Flags = Bits ∷ DumpRoom ∷ []
+words_of Flags = FlagBits ∷ DumpRoom ∷ []

@@ -39,6 +39,8 @@ pub enum WordKind {
     MaskLength,
     /// The interface, or its address, of a request.
     InterfaceAddress,
+    /// A route's flags in hexadecimal, for which people may write their names.
+    FlagBits,
     /// Bits in hexadecimal.
     Bits,
     /// A metric.
@@ -70,14 +72,16 @@ impl WordKind {
             WordKind::Destination =>
                 "a destination: an address as 10.0.0.1, a network as 10.0.0.0/8, or default",
             WordKind::Gateway =>
-                "a gateway: an IPv4 address, or link: and a link-layer address in hexadecimal",
+                "a gateway: an IPv4 address, or link: and the 8 to 32 bytes of a sockaddr_dl in hexadecimal",
             WordKind::MaskLength => "a mask's length: a number from 0 to 32",
             WordKind::InterfaceAddress =>
-                "an interface: an IPv4 address, or link: and a link-layer address in hexadecimal",
+                "an interface: an IPv4 address, or link: and the 8 to 32 bytes of a sockaddr_dl in hexadecimal",
+            WordKind::FlagBits =>
+                "flags: their names, as UP,GATEWAY, or 1 to 8 hexadecimal digits",
             WordKind::Bits => "bits: 1 to 8 hexadecimal digits",
             WordKind::Metric => "a metric: a number from 0 to 4294967295",
             WordKind::DumpRoom =>
-                "ask, or how many bytes there is room for: a number from 0 to 4294967295",
+                "ask, all, or how many bytes there is room for: a number from 0 to 4294967295",
         }
     }
 }

@@ -2,19 +2,19 @@
 #![tactic(auto)]
 
 mod faults;
+mod help;
 mod kinds;
 pub mod laws;
 mod options;
 mod probes;
-#[cfg(test)]
-mod tests;
 mod verbs;
 mod wanted;
 mod words;
 
 pub use faults::{LineFault, fault_of};
+pub use help::put_help_on;
 pub use kinds::WordKind;
 pub use options::RouteOption;
-pub use verbs::{put_usages, usage_of};
+pub use verbs::{Verb, put_usages, verb_of};
 pub use wanted::Wanted;
 pub use words::word_at;

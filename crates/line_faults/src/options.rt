@@ -91,7 +91,8 @@ impl RouteOption {
             RouteOption::Via => WordKind::Gateway,
             RouteOption::Genmask => WordKind::MaskLength,
             RouteOption::Ifp | RouteOption::Ifa => WordKind::InterfaceAddress,
-            RouteOption::Flags | RouteOption::Inits | RouteOption::Locks => WordKind::Bits,
+            RouteOption::Flags => WordKind::FlagBits,
+            RouteOption::Inits | RouteOption::Locks => WordKind::Bits,
             RouteOption::Mtu
             | RouteOption::Hopcount
             | RouteOption::Expire
@@ -109,30 +110,30 @@ impl RouteOption {
     {
         match self {
             RouteOption::Via =>
-                "one of via, genmask, ifp, ifa, flags, inits, locks, mtu, hopcount, expire, recvpipe, sendpipe, ssthresh, rtt, rttvar, in this order",
+                "nothing more, or of these, in this order: via, genmask, ifp, ifa, flags, inits, locks, mtu, hopcount, expire, recvpipe, sendpipe, ssthresh, rtt, rttvar",
             RouteOption::Genmask =>
-                "one of genmask, ifp, ifa, flags, inits, locks, mtu, hopcount, expire, recvpipe, sendpipe, ssthresh, rtt, rttvar, in this order",
+                "nothing more, or of these, in this order: genmask, ifp, ifa, flags, inits, locks, mtu, hopcount, expire, recvpipe, sendpipe, ssthresh, rtt, rttvar",
             RouteOption::Ifp =>
-                "one of ifp, ifa, flags, inits, locks, mtu, hopcount, expire, recvpipe, sendpipe, ssthresh, rtt, rttvar, in this order",
+                "nothing more, or of these, in this order: ifp, ifa, flags, inits, locks, mtu, hopcount, expire, recvpipe, sendpipe, ssthresh, rtt, rttvar",
             RouteOption::Ifa =>
-                "one of ifa, flags, inits, locks, mtu, hopcount, expire, recvpipe, sendpipe, ssthresh, rtt, rttvar, in this order",
+                "nothing more, or of these, in this order: ifa, flags, inits, locks, mtu, hopcount, expire, recvpipe, sendpipe, ssthresh, rtt, rttvar",
             RouteOption::Flags =>
-                "one of flags, inits, locks, mtu, hopcount, expire, recvpipe, sendpipe, ssthresh, rtt, rttvar, in this order",
+                "nothing more, or of these, in this order: flags, inits, locks, mtu, hopcount, expire, recvpipe, sendpipe, ssthresh, rtt, rttvar",
             RouteOption::Inits =>
-                "one of inits, locks, mtu, hopcount, expire, recvpipe, sendpipe, ssthresh, rtt, rttvar, in this order",
+                "nothing more, or of these, in this order: inits, locks, mtu, hopcount, expire, recvpipe, sendpipe, ssthresh, rtt, rttvar",
             RouteOption::Locks =>
-                "one of locks, mtu, hopcount, expire, recvpipe, sendpipe, ssthresh, rtt, rttvar, in this order",
+                "nothing more, or of these, in this order: locks, mtu, hopcount, expire, recvpipe, sendpipe, ssthresh, rtt, rttvar",
             RouteOption::Mtu =>
-                "one of mtu, hopcount, expire, recvpipe, sendpipe, ssthresh, rtt, rttvar, in this order",
+                "nothing more, or of these, in this order: mtu, hopcount, expire, recvpipe, sendpipe, ssthresh, rtt, rttvar",
             RouteOption::Hopcount =>
-                "one of hopcount, expire, recvpipe, sendpipe, ssthresh, rtt, rttvar, in this order",
+                "nothing more, or of these, in this order: hopcount, expire, recvpipe, sendpipe, ssthresh, rtt, rttvar",
             RouteOption::Expire =>
-                "one of expire, recvpipe, sendpipe, ssthresh, rtt, rttvar, in this order",
+                "nothing more, or of these, in this order: expire, recvpipe, sendpipe, ssthresh, rtt, rttvar",
             RouteOption::Recvpipe =>
-                "one of recvpipe, sendpipe, ssthresh, rtt, rttvar, in this order",
-            RouteOption::Sendpipe => "one of sendpipe, ssthresh, rtt, rttvar, in this order",
-            RouteOption::Ssthresh => "one of ssthresh, rtt, rttvar, in this order",
-            RouteOption::Rtt => "one of rtt, rttvar, in this order",
+                "nothing more, or of these, in this order: recvpipe, sendpipe, ssthresh, rtt, rttvar",
+            RouteOption::Sendpipe => "nothing more, or of these, in this order: sendpipe, ssthresh, rtt, rttvar",
+            RouteOption::Ssthresh => "nothing more, or of these, in this order: ssthresh, rtt, rttvar",
+            RouteOption::Rtt => "nothing more, or of these, in this order: rtt, rttvar",
             RouteOption::Rttvar => "rttvar, or nothing more",
         }
     }

@@ -37,6 +37,7 @@ fn probe_of(kind: WordKind) -> Probe
         WordKind::Gateway => (b"route a 0 get default via ", b""),
         WordKind::MaskLength => (b"route a 0 get default genmask ", b""),
         WordKind::InterfaceAddress => (b"route a 0 get default via ", b""),
+        WordKind::FlagBits => (b"flags ", b" ask"),
         WordKind::Bits => (b"flags ", b" ask"),
         WordKind::Metric => (b"open a ", b" any"),
         WordKind::DumpRoom => (b"dump ", b""),

@@ -1,7 +1,7 @@
 //! How a line begins: its verb, and the words that each verb has behind it.
-ghost use Rattle.std.specs.Prelude.{◌≡◌, ◌++◌, OnOk, is_err, option_map};
+ghost use Rattle.std.specs.Prelude.{◌≡◌, ◌++◌, OnOk, is_err};
 ghost use Rattle.memory.specs.Refusing.{Rises};
-ghost use Rattle.line_faults.specs.Texts.{all_usages, usage_of as usage_by, usage_text, usages_of};
+ghost use Rattle.line_faults.specs.Texts.{all_usages, usage_text, usages_of};
 ghost use Rattle.line_faults.specs.Verbs.{verb_among as verb_in, verb_of as verb_by, verb_text, words_of};
 
 use crate::WordKind;
@@ -12,7 +12,7 @@ use std::alloc::AllocError;
 
 /// How a line begins.
 #[derive(Clone, Copy, Debug, PartialEq, Eq)]
-pub(crate) enum Verb {
+pub enum Verb {
     /// Attaches an interface.
     If,
     /// Gives an interface an address.
@@ -108,9 +108,9 @@ impl Verb {
             Verb::Packet => "packet A: looks up the route of a packet to an address",
             Verb::Redirect =>
                 "redirect A GATEWAY AUTHOR: follows a redirect of an address to a gateway",
-            Verb::Losing => "losing A: gives up the route of an address",
-            Verb::Dump => "dump ask|N: dumps the table into N bytes, or says how many to ask for",
-            Verb::Flags => "flags BITS ask|N: the same of the routes that have one of these flags",
+            Verb::Losing => "losing A: tells that the route of an address seems dead, and takes it away if a redirect made it",
+            Verb::Dump => "dump ask|all|N: dumps the table into N bytes, or says how many to ask for",
+            Verb::Flags => "flags FLAGS ask|all|N: the same of the routes that have one of these flags",
         }
     }
 
@@ -140,7 +140,7 @@ impl Verb {
             Verb::Packet | Verb::Losing => &[WordKind::Address],
             Verb::Redirect => &[WordKind::Address, WordKind::Address, WordKind::Address],
             Verb::Dump => &[WordKind::DumpRoom],
-            Verb::Flags => &[WordKind::Bits, WordKind::DumpRoom],
+            Verb::Flags => &[WordKind::FlagBits, WordKind::DumpRoom],
         }
     }
 }
@@ -159,18 +159,11 @@ fn verb_among(verbs: &[Verb], word: &[u8]) -> Option<Verb>
     None
 }
 
-/// The verb that a word is.
-pub(crate) fn verb_of(word: &[u8]) -> Option<Verb>
+/// The verb that a word is; `None` where no line begins so.
+pub fn verb_of(word: &[u8]) -> Option<Verb>
     ensures { result ≡ verb_by word.now }
 {
     verb_among(&VERBS, word)
-}
-
-/// How a line with this verb is written, and what that does, without a newline; `None` where no line begins so.
-pub fn usage_of(word: &[u8]) -> Option<&'static str>
-    ensures { option_map (λ text. text.now) result ≡ usage_by word.now }
-{
-    Some(verb_of(word)?.usage())
 }
 
 /// Appends the usages of these verbs.

@@ -30,7 +30,7 @@ impl Wanted {
     {
         match self {
             Wanted::Verb =>
-                "one of if, addr, unaddr, open, loopback, close, read, lost, write, route, packet, redirect, losing, dump, flags",
+                "one of if, addr, unaddr, open, loopback, close, read, lost, write, route, packet, redirect, losing, dump, flags; ?help tells of them",
             Wanted::Word(kind) => kind.text(),
             Wanted::ToOrCloning => "to and an address, cloning, or nothing more",
             Wanted::Cloning => "cloning, or nothing more",

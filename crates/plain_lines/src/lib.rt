@@ -5,8 +5,6 @@
 pub mod laws;
 mod names;
 mod plain;
-#[cfg(test)]
-mod tests;
 mod words;
 
 pub use names::{FLAG_NAMES, flags_named};

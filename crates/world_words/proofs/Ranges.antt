@@ -3,6 +3,7 @@ use Rattle.std.proofs.Common.{◌≡◌, ℕ, ◌+◌, ◌-◌, zero, suc, List,
 use Rattle.std.proofs.lemmas.List.{append-nil}
 use Rattle.std.proofs.lemmas.List.Concat.{flat_map-append}
 use Rattle.std.specs.List.{range_with_len}
+use Rattle.route_core.specs.World.{World}
 use Rattle.route_core.specs.declared.told.RouteTold.{RouteTold}
 use Rattle.world_words.specs.Agreeing.{agreeing_line, of_rank, of_ranks}
 
@@ -42,19 +43,19 @@ put_more_from_one f n old one two e put =
     onto old (flat_map f (range_with_len 1 n)) (f (n + 1)) one two e put
     ∙ ap (λ (l : List ℕ). old ++ l) (sym (one_more_from_one f n))
 
-ranks_more : (address : ℕ) (routes : List RouteTold) (i : ℕ)
-    → flat_map agreeing_line (of_ranks address routes (i + 1))
-    ≡ flat_map agreeing_line (of_ranks address routes i) ++ flat_map agreeing_line (of_rank address routes (33 - i))
-ranks_more address routes i =
-    ap (λ (l : List RouteTold). flat_map agreeing_line l) (one_more (λ k. of_rank address routes (33 - k)) i)
-    ∙ flat_map-append agreeing_line (of_ranks address routes i) (of_rank address routes (33 - i))
+ranks_more : (w : World) (address : ℕ) (routes : List RouteTold) (i : ℕ)
+    → flat_map (agreeing_line w) (of_ranks address routes (i + 1))
+    ≡ flat_map (agreeing_line w) (of_ranks address routes i) ++ flat_map (agreeing_line w) (of_rank address routes (33 - i))
+ranks_more w address routes i =
+    ap (λ (l : List RouteTold). flat_map (agreeing_line w) l) (one_more (λ k. of_rank address routes (33 - k)) i)
+    ∙ flat_map-append (agreeing_line w) (of_ranks address routes i) (of_rank address routes (33 - i))
 
 -- what is put of the routes of one rank more
-pub put_rank_more : (address : ℕ) (routes : List RouteTold) (i : ℕ) (old one two : List ℕ)
-    → one ≡ old ++ flat_map agreeing_line (of_ranks address routes i)
-    → two ≡ one ++ flat_map agreeing_line (of_rank address routes (33 - i))
-    → two ≡ old ++ flat_map agreeing_line (of_ranks address routes (i + 1))
-put_rank_more address routes i old one two e put =
-    onto old (flat_map agreeing_line (of_ranks address routes i)) (flat_map agreeing_line (of_rank address routes (33 - i)))
+pub put_rank_more : (w : World) (address : ℕ) (routes : List RouteTold) (i : ℕ) (old one two : List ℕ)
+    → one ≡ old ++ flat_map (agreeing_line w) (of_ranks address routes i)
+    → two ≡ one ++ flat_map (agreeing_line w) (of_rank address routes (33 - i))
+    → two ≡ old ++ flat_map (agreeing_line w) (of_ranks address routes (i + 1))
+put_rank_more w address routes i old one two e put =
+    onto old (flat_map (agreeing_line w) (of_ranks address routes i)) (flat_map (agreeing_line w) (of_rank address routes (33 - i)))
     one two e put
-    ∙ ap (λ (l : List ℕ). old ++ l) (sym (ranks_more address routes i))
+    ∙ ap (λ (l : List ℕ). old ++ l) (sym (ranks_more w address routes i))

@@ -1,7 +1,6 @@
 -- The routes that agree with an address, the longest mask first.
-use Rattle.std.specs.Prelude.{◌≡◌, ℕ, ◌-◌, ◌==◌, ◌&&◌, Bool, if◌then◌else◌, List, ◌++◌, codes, decimal, filter, flat_map, option_map}
+use Rattle.std.specs.Prelude.{◌≡◌, ℕ, ◌-◌, ◌==◌, ◌&&◌, Bool, if◌then◌else◌, List, ◌++◌, codes, filter, flat_map, option_map}
 use Rattle.std.specs.List.{list_any, range_with_len, slice_get}
-use Rattle.event_file.specs.Answers.{gate_word}
 use Rattle.event_file.specs.Printed.{inet_word}
 use Rattle.lab_text.specs.Words.{destination_word}
 use Rattle.mask_table.specs.Agreeing.{agrees}
@@ -9,6 +8,7 @@ use Rattle.radix_tree.specs.Table.{IsTable, best_of}
 use Rattle.route_core.specs.Told.{all_told, route_told}
 use Rattle.route_core.specs.World.{World}
 use Rattle.route_core.specs.declared.told.RouteTold.{RouteTold}
+use Rattle.world_words.specs.Answers.{interface_word, toward_words}
 use Rattle.world_words.specs.Flags.{flags_word}
 
 -- the address agrees with the route
@@ -28,10 +28,10 @@ unfoldable pub in_order : ℕ → List RouteTold → List RouteTold
 in_order address routes = of_ranks address routes 34
 
 -- a route, with what it says
-abbrev pub agreeing_line : RouteTold → List ℕ
-agreeing_line r =
-    codes "  " ++ destination_word r.choice.key r.choice.rank ++ codes " leads to " ++ gate_word r.choice.gateway
-    ++ codes " out of interface " ++ decimal r.choice.index ++ codes " (flags " ++ flags_word r.choice.flags ++ codes ")\n"
+abbrev pub agreeing_line : World → RouteTold → List ℕ
+agreeing_line w r =
+    codes "  " ++ destination_word r.choice.key r.choice.rank ++ codes " leads" ++ toward_words r.choice
+    ++ codes " out of " ++ interface_word r.choice.index w ++ codes " (flags " ++ flags_word r.choice.flags ++ codes ")\n"
 
 abbrev pub agreeing_heading : ℕ → List RouteTold → List ℕ
 agreeing_heading address routes =
@@ -40,8 +40,8 @@ agreeing_heading address routes =
     else codes "no route agrees with " ++ inet_word address ++ codes "\n"
 
 -- which routes agree with an address, and which of them is taken
-abbrev pub agreeing_words : ℕ → List RouteTold → List ℕ
-agreeing_words address routes = agreeing_heading address routes ++ flat_map agreeing_line (in_order address routes)
+abbrev pub agreeing_words : ℕ → List RouteTold → World → List ℕ
+agreeing_words address routes w = agreeing_heading address routes ++ flat_map (agreeing_line w) (in_order address routes)
 
 -- ---- a law
 

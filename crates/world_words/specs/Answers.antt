@@ -6,12 +6,14 @@ use Rattle.event_file.specs.Answers.{gate_word}
 use Rattle.event_file.specs.Printed.{inet_word}
 use Rattle.if_addrs.specs.Told.{interface_told}
 use Rattle.lab_text.specs.Words.{destination_word}
+use Rattle.message_text.specs.Names.{has_bit}
 use Rattle.message_text.specs.Texts.{text_of}
 use Rattle.route_core.specs.Commands.{Command}
 use Rattle.route_core.specs.World.{World}
 use Rattle.route_core.specs.declared.answer.Answer.{Answer}
 use Rattle.route_core.specs.declared.answer.Answer.TheVariants.{Done, Dropped, Messages, Refused, Routed, Size}
 use Rattle.route_core.specs.declared.answer.Choice.{Choice}
+use Rattle.route_msgs.specs.declared.flags.TheConstants.{RTF_GATEWAY}
 use Rattle.route_core.specs.declared.command.Command.TheVariants.{Lost, Packet, Read}
 use Rattle.world_words.specs.Flags.{flags_word}
 use Rattle.world_words.specs.Reasons.{refusal_words}
@@ -27,13 +29,17 @@ abbrev pub packet_word : Command → List ℕ
 packet_word (Packet destination) = inet_word destination
 packet_word c = codes "the packet"
 
+-- where a route leads: to its gateway, or straight to each destination where it has no gateway
+abbrev pub toward_words : Choice → List ℕ
+toward_words r = if has_bit r.flags RTF_GATEWAY then codes " to " ++ gate_word r.gateway else codes " straight there"
+
 -- the route that it takes, at the end of a line
 abbrev pub route_words : Choice → List ℕ
 route_words r = codes "the route " ++ destination_word r.key r.rank ++ codes " (flags " ++ flags_word r.flags ++ codes ")\n"
 
 abbrev pub routed_words : Command → Choice → World → List ℕ
 routed_words c r w =
-    packet_word c ++ codes " goes to " ++ gate_word r.gateway ++ codes " out of " ++ interface_word r.index w
+    packet_word c ++ codes " goes" ++ toward_words r ++ codes " out of " ++ interface_word r.index w
     ++ codes ", by " ++ route_words r
 
 abbrev pub dropped_words : Command → Choice → List ℕ

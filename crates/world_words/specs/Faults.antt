@@ -17,9 +17,9 @@ abbrev pub address_fault : List ℕ → List ℕ
 address_fault m = unwrap_or (first_fault
     (rule (is_none (address_in m RTAX_DST)) (codes "there is no destination")
     ∷ rule (has_bad_length (read_inet_of (destination_bytes m)))
-    (codes "the destination has a length that no IPv4 address has")
-    ∷ rule (has_bad_gate m) (codes "the gateway, IFP or IFA has a form that none has")
-    ∷ rule (has_bad_mask m) (codes "a mask has a form that none has")
+    (codes "the destination's length is none of a sockaddr_in")
+    ∷ rule (has_bad_gate m) (codes "the gateway, IFP or IFA is neither an IPv4 nor a link-layer sockaddr")
+    ∷ rule (has_bad_mask m) (codes "a mask is not ones and then zeros")
     ∷ [])) (codes "a route to be added wants a gateway")
 
 -- what is wrong with a message as a whole, the first that holds

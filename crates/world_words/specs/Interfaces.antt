@@ -47,12 +47,12 @@ words_where false words = []
 abbrev pub address_line : ℕ → Facts → List ℕ
 address_line address facts =
     codes "    " ++ inet_word address ++ codes "/" ++ decimal facts.prefix ++ far_words facts.kind facts.far
-    ++ words_where facts.cloning (codes ", cloning") ++ words_where facts.routed (codes ", with its route") ++ codes "\n"
+    ++ words_where facts.cloning (codes ", cloning") ++ words_where facts.routed (codes ", which brought a route") ++ codes "\n"
 
 abbrev pub line_of : Address → List ℕ
 line_of a = address_line a.address (facts_of a)
 
--- the addresses of an interface that were not removed, from a place on
+-- the addresses of an interface that were not removed
 abbrev pub standing : Interface → List Address
 standing i = filter is_standing i.addresses
 

@@ -3,13 +3,14 @@ ghost use Rattle.std.specs.Prelude.{◌≡◌, ◌<◌, ◌++◌, OnOk, flat_map
 ghost use Rattle.listeners.specs.Queue.{cut, AreMessages};
 ghost use Rattle.memory.specs.Refusing.{Rises};
 ghost use Rattle.message_text.specs.Texts.{text_of};
-ghost use Rattle.world_words.specs.Answers.{answer_words, asked_words, dropped_words, ending_words, heard_words, interface_word, lost_words, packet_word, route_words, routed_words, silence_words, size_words};
+ghost use Rattle.world_words.specs.Answers.{answer_words, asked_words, dropped_words, ending_words, heard_words, interface_word, lost_words, packet_word, route_words, routed_words, silence_words, size_words, toward_words};
 
 use crate::flags::put_flag_names;
 use crate::reasons::put_refusal;
 use lab_text::Text;
 use memory::Memory;
 use message_text::text_of_counted;
+use route_msgs::flags::RTF_GATEWAY;
 use route_core::{Answer, Choice, Received, Said, World, first_message};
 use sock_addrs::Errno;
 use std::alloc::{AllocError, Global};
@@ -52,12 +53,28 @@ fn put_routed(
     ensures counted { Rises (is_err result) memory.old memory.new }
 {
     put_packet(text, asked, memory)?;
-    text.put(b" goes to ", memory)?;
-    text.put_gate(&choice.gateway, memory)?;
+    text.put(b" goes", memory)?;
+    put_toward(text, choice, memory)?;
     text.put(b" out of ", memory)?;
     put_interface_name(text, choice.index, world, memory)?;
     text.put(b", by ", memory)?;
     put_route(text, choice, memory)
+}
+
+/// Appends where a route leads: to its gateway, or straight to each destination where it has no gateway.
+pub(crate) fn put_toward(
+    text: &mut Text,
+    choice: &Choice,
+    memory: &mut Memory,
+) -> Result<(), AllocError>
+    ensures put { OnOk result (text.new ≡ text.old ++ toward_words choice.now) }
+    ensures counted { Rises (is_err result) memory.old memory.new }
+{
+    if choice.flags & RTF_GATEWAY == 0 {
+        return text.put(b" straight there", memory);
+    }
+    text.put(b" to ", memory)?;
+    text.put_gate(&choice.gateway, memory)
 }
 
 /// Appends by which route a packet is dropped.

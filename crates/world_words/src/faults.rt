@@ -32,13 +32,13 @@ fn address_fault(message: &Parsed, bytes: &[u8]) -> &'static str
         return "there is no destination";
     };
     if has_bad_length(destination) {
-        return "the destination has a length that no IPv4 address has";
+        return "the destination's length is none of a sockaddr_in";
     }
     if has_bad_gate(message, bytes) {
-        return "the gateway, IFP or IFA has a form that none has";
+        return "the gateway, IFP or IFA is neither an IPv4 nor a link-layer sockaddr";
     }
     if has_bad_mask(message, bytes) {
-        return "a mask has a form that none has";
+        return "a mask is not ones and then zeros";
     }
     "a route to be added wants a gateway"
 }

@@ -177,7 +177,7 @@ fn put_address(
     text.put_number(u64::from(facts.prefix.bits()), memory)?;
     put_far(text, facts.kind, facts.far, memory)?;
     put_where(text, facts.cloning, b", cloning", memory)?;
-    put_where(text, facts.routed, b", with its route", memory)?;
+    put_where(text, facts.routed, b", which brought a route", memory)?;
     text.put(b"\n", memory)
 }
 

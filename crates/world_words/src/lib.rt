@@ -13,8 +13,6 @@ mod letters;
 mod reasons;
 mod sockets;
 mod table;
-#[cfg(test)]
-mod tests;
 
 pub use agreeing::put_agreeing;
 pub use answers::put_answer;

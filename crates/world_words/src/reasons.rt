@@ -37,19 +37,19 @@ fn reason(asked: &Said<'_>, errno: Errno) -> &'static str
         Errno::ESRCH => absent_reason(asked),
         Errno::ENXIO => "there is no interface of this name",
         Errno::EBADF => "no socket of this id is open",
-        Errno::ENOMEM => "the room is too small for all routes",
+        Errno::ENOMEM => "the room is too small for all that is asked for",
         Errno::EEXIST => taken_reason(asked),
         Errno::EINVAL => invalid_reason(asked),
         Errno::EMFILE => "64 sockets are open",
         Errno::ENOSPC => full_reason(asked),
         Errno::EMSGSIZE => "the message has more than 8192 bytes",
         Errno::EPROTONOSUPPORT => "the version is not 3",
-        Errno::EOPNOTSUPP => "a message of this type asks for nothing",
+        Errno::EOPNOTSUPP => "a message of this type is no request",
         Errno::EADDRINUSE => "an interface holds the address already",
         Errno::EADDRNOTAVAIL => "the interface does not hold the address",
         Errno::ENETUNREACH => network_reason(asked),
         Errno::ENOBUFS => "there is no memory; nothing was changed",
-        Errno::ETOOMANYREFS => "no route of this destination has this mask",
+        Errno::ETOOMANYREFS => "no route of this destination has this mask; without a mask a host's route is meant",
         Errno::EHOSTUNREACH => host_reason(asked),
     }
 }
@@ -71,11 +71,11 @@ fn taken_reason(asked: &Said<'_>) -> &'static str
     match asked {
         Said::Attach { .. } => "there is an interface of this name",
         Said::AddAddress { .. } => {
-            "its route is there already; the interface keeps the address without one"
+            "a route of its network and mask is there already; the interface keeps the address without one"
         }
         Said::Open { .. } => "a socket of this id is open",
         Said::Write { .. } => "there is a route with this key and mask",
-        Said::Redirect(_) => "the destination has a host's route already",
+        Said::Redirect(_) => "the destination has a route without a mask that lacks the flag HOST",
         _ => "it is there already",
     }
 }
@@ -88,7 +88,7 @@ fn invalid_reason(asked: &Said<'_>) -> &'static str
         Said::AddAddress { far, .. } => misfit_reason(*far),
         Said::Write { bytes, .. } => message_fault(bytes.as_slice()),
         Said::Redirect(_) => {
-            "who says so is not the gateway of the destination's route, or the new gateway is in another network"
+            "who says so is not the gateway of the destination's route, or the new gateway is reached by another interface address than that route's"
         }
         _ => "it can't be done so",
     }
@@ -121,7 +121,7 @@ fn network_reason(asked: &Said<'_>) -> &'static str
 {
     match asked {
         Said::Write { .. } => "no interface leads to the gateway",
-        Said::Packet { .. } => "its route refuses packets",
+        Said::Packet { .. } => "its route has the flag REJECT",
         Said::Redirect(_) => "the new gateway is in no interface's network",
         _ => "the network can't be reached",
     }
@@ -132,9 +132,9 @@ fn host_reason(asked: &Said<'_>) -> &'static str
     ensures { result.now ≡ host_of asked.now }
 {
     match asked {
-        Said::Packet { .. } => "no route leads there, or a host's route that refuses packets",
+        Said::Packet { .. } => "no route leads there, or a host's route that has the flag REJECT",
         Said::Redirect(_) => {
-            "the new gateway is an address of an interface, or the destination's route has no gateway"
+            "the new gateway is an address or a broadcast address of an interface, or the destination's route lacks the flag GATEWAY"
         }
         Said::Losing { .. } => "no route leads there",
         _ => "the host can't be reached",

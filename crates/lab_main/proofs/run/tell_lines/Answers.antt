@@ -1,8 +1,9 @@
 use Rattle.std.proofs.Common.{◌≡◌, ◌≢◌, ◌∙◌, ◌∷◌, [], ap, arith, rules, sym, inl, inr, Err, subst, List, ℕ}
 use Rattle.std.specs.Io.KnownBytes.{IsAtEnd}
 use Rattle.lab_main.specs.Telling.{point}
+use Rattle.line_reader.proofs.Parting.{Consumed-of}
 use Rattle.line_reader.specs.Given.{Parted}
-use Rattle.lab_main.proofs.Reaching.{Ended-turns, Ends-at_end, Ends-between, Ends-front, Ends-last, Ends-over, Front-last, Front-line, Front-now, Reached-line, Reached-on, Spent-behind, Spent-turns, not_read}
+use Rattle.lab_main.proofs.Reaching.{Ended-turns, Ends-at_end, Ends-between, Ends-front, Ends-last, Ends-over, Front-last, Front-line, Front-now, Lines-line, Reached-line, Reached-on, Spent-behind, Spent-turns, not_read}
 use Rattle.lab_main.proofs.run.tell_lines.Goals as goal
 
 pub returns-in-Err-tell_line-clause-ends : goal.returns-in-Err-tell_line-clause-ends
@@ -13,6 +14,8 @@ returns-in-Err-tell_line-clause-ends g c =
     Ends-front c.stop.result
     (Front-line g.W.Write.contents c.next_line.new.writer c.tell_line.new.writer (g.W.Write.contents c.stop.new.writer.inner) c.in-Err-tell_line.fault c.deref.result.now c.next_line.new.self
     (point c.tell_line.new.lab c.tell_line.new.memory) reached parted c.in-Err-tell_line.ensures.fault c.stop.ensures.keeps)
+    (λ is. Lines-line g.W.Write.contents c.next_line.new.writer c.tell_line.new.writer (g.W.Write.contents c.stop.new.writer.inner) c.in-Err-tell_line.fault c.deref.result.now
+    (point c.tell_line.new.lab c.tell_line.new.memory) reached (Consumed-of parted) c.in-Err-tell_line.ensures.fault (c.stop.ensures.no_memory is) c.stop.ensures.keeps)
     (λ is. not_read g.W.Write.contents _ _ _ _ _ _ c.in-Err-tell_line.fault c.in-Err-tell_line.ensures.fault (c.stop.ensures.read_fault is)) c.stop.ensures.read
 
 pub returns-then-is_over-clause-ends : goal.returns-then-is_over-clause-ends
@@ -34,6 +37,8 @@ returns-in-Err-tell_line-2-clause-ends g c =
     Ends-front stop.result
     (Front-last g.W.Write.contents c.next_line.new.writer c.tell_line-in-Ok-Last.new.writer (g.W.Write.contents stop.new.writer.inner) c.in-Err-tell_line-2.fault line
     (point c.tell_line-in-Ok-Last.new.lab c.tell_line-in-Ok-Last.new.memory) reached parted c.in-Err-tell_line-2.ensures.fault stop.ensures.keeps)
+    (λ is. Lines-line g.W.Write.contents c.next_line.new.writer c.tell_line-in-Ok-Last.new.writer (g.W.Write.contents stop.new.writer.inner) c.in-Err-tell_line-2.fault line
+    (point c.tell_line-in-Ok-Last.new.lab c.tell_line-in-Ok-Last.new.memory) reached (Consumed-of parted.0) c.in-Err-tell_line-2.ensures.fault (stop.ensures.no_memory is) stop.ensures.keeps)
     (λ is. not_read g.W.Write.contents _ _ _ _ _ _ c.in-Err-tell_line-2.fault c.in-Err-tell_line-2.ensures.fault (stop.ensures.read_fault is)) stop.ensures.read
 
 pub returns-in-Ok-Last-clause-ends : goal.returns-in-Ok-Last-clause-ends

@@ -54,6 +54,9 @@ returns-in-MaskLength c = subst (λ kind. Probes kind (codes "route a 0 get defa
 pub returns-in-InterfaceAddress : goal.returns-in-InterfaceAddress
 returns-in-InterfaceAddress c = subst (λ kind. Probes kind (codes "route a 0 get default via ") []) (sym c.in-InterfaceAddress.is) gate_row
 
+pub returns-in-FlagBits : goal.returns-in-FlagBits
+returns-in-FlagBits c = subst (λ kind. Probes kind (codes "flags ") (codes " ask")) (sym c.in-FlagBits.is) bits_row
+
 pub returns-in-Bits : goal.returns-in-Bits
 returns-in-Bits c = subst (λ kind. Probes kind (codes "flags ") (codes " ask")) (sym c.in-Bits.is) bits_row
 
