@@ -161,6 +161,42 @@ def graph(routes):
     return "digraph tree {\n" + tree_of + "}\n"
 
 
+def boxes(node, row=0):
+    """Each box with its row, from left to right: a bit node stands between its sides."""
+    zero, one = node.sides or (None, None)
+    if zero:
+        yield from boxes(zero, row + 1)
+    yield node, row
+    if one:
+        yield from boxes(one, row + 1)
+
+
+def drawn_boxes(node, points, label=""):
+    """The edge to each side of a node with what is beneath it, and the node's own box, at points by the nodes' identities."""
+    for below, side, x in zip(node.sides, "01", (-8, 8)):
+        yield f'<path d="M{points[id(node)]} {points[id(below)]}"/>\n'
+        yield from drawn_boxes(below, points, f'<text x="{x}" y="-3">{side}</text>')
+    lines = [f"bit {node.bit}"] * bool(node.sides) + [route.name() for route in node.listed]
+    corners = ' rx="7"' if node.sides else ""
+    yield f'<g transform="translate({points[id(node)]})">{label}'
+    yield f'<rect x="-47" width="94" height="{len(lines)}4"{corners}/><text>'
+    yield "".join(f'<tspan x="0" dy="10">{line}</tspan>' for line in lines) + "</text></g>\n"
+
+
+def svg(routes):
+    """The tree as a picture, a hundred for each column and row."""
+    first = '<svg xmlns="http://www.w3.org/2000/svg" viewBox='
+    if not routes:
+        return f'{first}"0 0 200 50"><text x="20" y="30">the table is empty</text></svg>\n'
+    root = node_of(routes)
+    placed = list(boxes(root))
+    points = {id(node): f"{column}00,{row}00" for column, (node, row) in enumerate(placed)}
+    size = f"{len(placed) + 1}00 {max(row for _, row in placed) + 4}00"
+    text = f'{first}"-100 -50 {size}" font-family="monospace" font-size="8" text-anchor="middle">\n'
+    text += "<style>rect,path{fill:white;stroke:black}</style>\n"
+    return text + "".join(drawn_boxes(root, points)) + "</svg>\n"
+
+
 def tried(address, routes):
     """Of routes one after another whether they agree, up to the first that does; and that one."""
     text = ""

@@ -1,6 +1,6 @@
 -- The texts of drawings and searches, step by step.
 use Rattle.std.proofs.Common.{◌≡◌, ℕ, ◌+◌, ◌-◌, ◌<◌, ◌≤◌, ◌⊎◌, ◌==◌, Bool, true, false, cond, List, [], ◌++◌, Some, length, take, drop}
-use Rattle.std.proofs.Common.{get_or, refl, ap, ◌∙◌}
+use Rattle.std.proofs.Common.{get_or, refl, ap, sym, ◌∙◌}
 use Rattle.std.proofs.lemmas.List.{at_drop_more}
 use Rattle.std.specs.Prelude.{find, codes}
 use Rattle.std.specs.Option.{option_or}
@@ -9,7 +9,8 @@ use Rattle.lab_text.specs.Words.{destination_word}
 use Rattle.tree_pictures.specs.Dot.{node_dot, edge_dot, graph}
 use Rattle.tree_pictures.specs.Drawing.{routes_words, leaf_line, node_line, zero_mark, one_mark, zero_indent, one_indent, drawing}
 use Rattle.tree_pictures.specs.Steps.{try_line, tries, down_line, up_lines, way_text}
-use Rattle.tree_pictures.specs.Tree.{fork, routes_of, masks_of, covers, found, tree_from}
+use Rattle.tree_pictures.specs.Svg.{columns, columns_before, edge_svg, zero_label, one_label, route_svg, lines_svg, leaf_svg, node_svg, picture}
+use Rattle.tree_pictures.specs.Tree.{Tree, fork, routes_of, masks_of, covers, found, tree_from}
 use Rattle.tree_pictures.proofs.Trees.{IsCut, cut_fork, same_tree, routes_cut, leaf_from}
 use Rattle.tree_pictures.specs.declared.pair.Pair.{Pair}
 
@@ -65,6 +66,36 @@ graph_fork name low left k ps cut some less =
     ∙ ap (λ beneath. node_dot name (node_line (32 - left) (masks_of low (32 - left) beneath))
     ++ edge_dot name (codes "0") ++ graph (name ++ codes "0") (32 - left + 1) (tree_from (left - 1) (take k ps))
     ++ edge_dot name (codes "1") ++ graph (name ++ codes "1") (32 - left + 1) (tree_from (left - 1) (drop k ps))) (routes_cut (left - 1) k ps)
+
+-- ---- pictures in SVG
+pub picture_leaf : (label : List ℕ) (start row low : ℕ) (ps : List Pair) → picture label start row low (tree_from 0 ps) ≡ leaf_svg label start row ps
+unfolding picture
+picture_leaf label start row low ps = rw (leaf_from ps) refl
+
+pub picture_same : (label : List ℕ) (start row low left k : ℕ) (ps : List Pair) → IsCut left k ps → (k ≡ 0) ⊎ (length ps ≤ k)
+    → picture label start row low (tree_from left ps) ≡ picture label start row low (tree_from (left - 1) ps)
+picture_same label start row low left k ps cut none = ap (picture label start row low) (same_tree left k ps cut none)
+
+pub lines_more : (ps : List Pair) (i : ℕ) (p : Pair) → i < length ps → p ≡ get_or ps i p
+    → lines_svg (drop i ps) ≡ route_svg p ++ lines_svg (drop (i + 1) ps)
+lines_more ps i p h is = at_drop_more lines_svg ps i p h ∙ ap (λ q. route_svg q ++ lines_svg (drop (i + 1) ps)) (sym is)
+
+-- a bit node's box behind its two sides and the edges to them
+abbrev pub fork_svg : List ℕ → ℕ → ℕ → ℕ → Tree → Tree → List Pair → List ℕ
+fork_svg label start row b zeros ones masks = edge_svg (start + columns zeros) row (start + columns_before zeros)
+    ++ picture zero_label start (row + 1) (b + 1) zeros
+    ++ edge_svg (start + columns zeros) row (start + columns zeros + 1 + columns_before ones)
+    ++ picture one_label (start + columns zeros + 1) (row + 1) (b + 1) ones
+    ++ node_svg label (start + columns zeros) row b masks
+
+pub picture_fork : (label : List ℕ) (start row low left k : ℕ) (ps : List Pair) → IsCut left k ps → 0 < k → k < length ps
+    → picture label start row low (tree_from left ps)
+    ≡ fork_svg label start row (32 - left) (tree_from (left - 1) (take k ps)) (tree_from (left - 1) (drop k ps)) (masks_of low (32 - left) ps)
+unfolding picture
+picture_fork label start row low left k ps cut some less =
+    ap (picture label start row low) (cut_fork left k ps cut some less)
+    ∙ ap (λ beneath. fork_svg label start row (32 - left) (tree_from (left - 1) (take k ps)) (tree_from (left - 1) (drop k ps)) (masks_of low (32 - left) beneath))
+    (routes_cut (left - 1) k ps)
 
 -- ---- searches
 pub way_leaf : (a low : ℕ) (ps : List Pair) → way_text low a (tree_from 0 ps) ≡ leaf_line ps ++ tries a ps

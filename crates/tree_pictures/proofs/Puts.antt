@@ -10,8 +10,9 @@ use Rattle.lab_text.specs.Words.{destination_word}
 use Rattle.tree_pictures.specs.Dot.{node_dot, edge_dot, graph, graph_text}
 use Rattle.tree_pictures.specs.Drawing.{empty_line, leaf_line, node_line, zero_mark, one_mark, zero_indent, one_indent, drawing}
 use Rattle.tree_pictures.specs.Steps.{verdict, try_line, tries, side_words, down_line, up_lines, way_text, best_line, answer_line, find_text}
+use Rattle.tree_pictures.specs.Svg.{columns, columns_before, rows, edge_svg, zero_label, one_label, leaf_svg, node_svg, svg_start, picture, svg_text}
 use Rattle.tree_pictures.specs.Tree.{masks_of, covers, found, tree_from}
-use Rattle.tree_pictures.proofs.Pictures.{draws_leaf, draws_fork, graph_leaf, graph_fork, way_leaf, way_fork, found_fork}
+use Rattle.tree_pictures.proofs.Pictures.{draws_leaf, draws_fork, graph_leaf, graph_fork, picture_leaf, picture_fork, way_leaf, way_fork, found_fork}
 use Rattle.tree_pictures.proofs.Trees.{IsCut}
 use Rattle.tree_pictures.specs.declared.pair.Pair.{Pair}
 
@@ -26,6 +27,15 @@ module _ {T E : Type 0} (r : Result T E) where
 
   pub put_as : (t v : List ℕ) {x y : List ℕ} → x ≡ y → OnOk r (v ≡ t ++ x) → OnOk r (v ≡ t ++ y)
   put_as t v e h = subst (λ w. OnOk r (v ≡ t ++ w)) e h
+
+  -- three of them, and five
+  pub three_put : (t a b c v : List ℕ) {u1 u2 : List ℕ} → u1 ≡ t ++ a → u2 ≡ u1 ++ b → OnOk r (v ≡ u2 ++ c) → OnOk r (v ≡ t ++ (a ++ b ++ c))
+  three_put t a b c v e1 e2 h = put_last t (a ++ b) c v (then_put t a b e1 e2) h
+
+  pub five_put : (t a b c d e v : List ℕ) {u1 u2 u3 u4 : List ℕ} → u1 ≡ t ++ a → u2 ≡ u1 ++ b → u3 ≡ u2 ++ c → u4 ≡ u3 ++ d → OnOk r (v ≡ u4 ++ e)
+      → OnOk r (v ≡ t ++ (a ++ b ++ c ++ d ++ e))
+  five_put t a b c d e v e1 e2 e3 e4 h =
+      put_last t (a ++ b ++ c ++ d) e v (then_put t (a ++ b ++ c) d (then_put t (a ++ b) c (then_put t a b e1 e2) e3) e4) h
 
   -- ---- lines
   pub down_put : (t u5 : List ℕ) (b a : ℕ) (one : Bool) {u1 u2 u3 u4 : List ℕ} → one ≡ (bit b a == 1) → u1 ≡ t ++ codes "bit " → u2 ≡ u1 ++ decimal b
@@ -123,6 +133,42 @@ module _ {T E : Type 0} (r : Result T E) where
       let first = codes "digraph tree {\nnode [shape=box]\n" in
       let all = graph (codes "n") 0 (tree_from 32 (p ∷ ps)) in
       put_last t (first ++ all) (codes "}\n") v (then_put t first all e1 e2) h
+
+  -- ---- a picture in SVG
+  pub leaf_pictured : (t u label : List ℕ) (start row low left : ℕ) (ps : List Pair) → left ≡ 0 → OnOk r (u ≡ t ++ leaf_svg label start row ps)
+      → OnOk r (u ≡ t ++ picture label start row low (tree_from left ps))
+  leaf_pictured t u label start row low left ps is h =
+      put_as t u (sym (ap (λ n. picture label start row low (tree_from n ps)) is ∙ picture_leaf label start row low ps)) h
+
+  pub fork_pictured : (t u5 label : List ℕ) (start row low left k : ℕ) (ps : List Pair) {masks zs os : List Pair} {width zeros_before ones_before : ℕ}
+      {u1 u2 u3 u4 : List ℕ} → IsCut left k ps → 0 < k → k < length ps → masks ≡ masks_of low (32 - left) ps → zs ≡ take k ps → os ≡ drop k ps
+      → width ≡ columns (tree_from (left - 1) zs) → zeros_before ≡ columns_before (tree_from (left - 1) zs) → ones_before ≡ columns_before (tree_from (left - 1) os)
+      → u1 ≡ t ++ edge_svg (start + width) row (start + zeros_before)
+      → u2 ≡ u1 ++ picture zero_label start (row + 1) (32 - left + 1) (tree_from (left - 1) zs)
+      → u3 ≡ u2 ++ edge_svg (start + width) row (start + width + 1 + ones_before)
+      → u4 ≡ u3 ++ picture one_label (start + width + 1) (row + 1) (32 - left + 1) (tree_from (left - 1) os)
+      → OnOk r (u5 ≡ u4 ++ node_svg label (start + width) row (32 - left) masks) → OnOk r (u5 ≡ t ++ picture label start row low (tree_from left ps))
+  fork_pictured t u5 label start row low left k ps {masks = masks} {zs = zs} {os = os} {width = w} {zeros_before = z} {ones_before = o}
+      cut some less masks_is zs_is os_is w_is z_is o_is e1 e2 e3 e4 h =
+      let zero = edge_svg (start + w) row (start + z) in
+      let Zs = picture zero_label start (row + 1) (32 - left + 1) (tree_from (left - 1) zs) in
+      let one = edge_svg (start + w) row (start + w + 1 + o) in
+      let Os = picture one_label (start + w + 1) (row + 1) (32 - left + 1) (tree_from (left - 1) os) in
+      let N = node_svg label (start + w) row (32 - left) masks in
+      let four = then_put t (zero ++ Zs ++ one) Os (then_put t (zero ++ Zs) one (then_put t zero Zs e1 e2) e3) e4 in
+      let whole : zero ++ Zs ++ one ++ Os ++ N ≡ picture label start row low (tree_from left ps) =
+      rw (w_is, z_is, o_is, masks_is, zs_is, os_is) (sym (picture_fork label start row low left k ps cut some less)) in
+      put_as t u5 whole (put_last t (zero ++ Zs ++ one ++ Os) N u5 four h)
+
+  pub whole_pictured : (t v : List ℕ) (ps : List Pair) {width height : ℕ} {u1 u2 : List ℕ} → 0 < length ps → width ≡ columns (tree_from 32 ps)
+      → height ≡ rows (tree_from 32 ps) → u1 ≡ t ++ svg_start (width + 1) (height + 3) → u2 ≡ u1 ++ picture [] 0 0 0 (tree_from 32 ps)
+      → OnOk r (v ≡ u2 ++ codes "</svg>\n") → OnOk r (v ≡ t ++ svg_text ps)
+  whole_pictured t v [] some w_is h_is e1 e2 h = absurd (omega (arith, some))
+  whole_pictured t v (p ∷ ps) {width = w} {height = n} some w_is n_is e1 e2 h =
+      let first = svg_start (w + 1) (n + 3) in
+      let all = picture [] 0 0 0 (tree_from 32 (p ∷ ps)) in
+      let whole : first ++ all ++ codes "</svg>\n" ≡ svg_text (p ∷ ps) = rw (w_is, n_is) refl in
+      put_as t v whole (put_last t (first ++ all) (codes "</svg>\n") v (then_put t first all e1 e2) h)
 
   -- ---- a search
   pub leaf_told : (t v : List ℕ) (a low left : ℕ) (ps : List Pair) {u : List ℕ} → left ≡ 0 → u ≡ t ++ leaf_line ps → OnOk r (v ≡ u ++ tries a ps)

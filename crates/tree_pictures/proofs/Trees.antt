@@ -1,6 +1,6 @@
 -- The tree of a list, step by step, and its routes.
 use Rattle.std.proofs.Common.{◌≡◌, ℕ, ◌+◌, ◌-◌, ◌<◌, ◌≤◌, ◌⊎◌, inl, inr, zero, suc, List, [], ◌∷◌, ◌++◌, length, take, drop, refl}
-use Rattle.std.proofs.Common.{ap, ◌∙◌, arith}
+use Rattle.std.proofs.Common.{ap, sym, ◌∙◌, arith, length-append}
 use Rattle.std.proofs.lemmas.List.{append-nil}
 use Rattle.std.specs.Prelude.{find}
 use Rattle.std.specs.List.{cons_option}
@@ -93,10 +93,21 @@ cut_fork (suc n) k ps cut some less =
     ∙ ap (λ b. fork b (tree_from n (take k ps)) (tree_from n (drop k ps))) here
     ∙ ap (λ m. fork (32 - suc n) (tree_from m (take k ps)) (tree_from m (drop k ps))) next
 
+-- ---- the two, for trees that are given as such
+pub leaf_at : (left : ℕ) (ps : List Pair) → left ≡ 0 → leaf ps ≡ tree_from left ps
+leaf_at left ps is = sym (ap (λ n. tree_from n ps) is ∙ leaf_from ps)
+
+pub fork_at : (left k : ℕ) (ps : List Pair) {zs os : List Pair} → IsCut left k ps → 0 < k → k < length ps → zs ≡ take k ps → os ≡ drop k ps
+    → fork (32 - left) (tree_from (left - 1) zs) (tree_from (left - 1) os) ≡ tree_from left ps
+fork_at left k ps cut some less zs_is os_is = rw (zs_is, os_is) (sym (cut_fork left k ps cut some less))
+
 take_drop : (k : ℕ) (ps : List Pair) → take k ps ++ drop k ps ≡ ps
 take_drop zero ps = refl
 take_drop (suc k) [] = refl
 take_drop (suc k) (p ∷ ps) = ap (λ s. p ∷ s) (take_drop k ps)
+
+pub both_lengths : (k : ℕ) (ps : List Pair) {zs os : List Pair} → zs ≡ take k ps → os ≡ drop k ps → length zs + length os ≡ length ps
+both_lengths k ps zs_is os_is = rw (zs_is, os_is) (omega (arith, length-append (take k ps) (drop k ps), ap (λ (s : List Pair). length s) (take_drop k ps)))
 
 -- its routes are all
 pub routes_cut : (n k : ℕ) (ps : List Pair) → routes_of (tree_from n (take k ps)) ++ routes_of (tree_from n (drop k ps)) ≡ ps

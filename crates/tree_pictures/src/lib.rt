@@ -7,8 +7,10 @@ pub mod laws;
 mod lines;
 mod masks;
 mod pair;
+mod sizes;
 mod splitting;
 mod steps;
+mod svg;
 #[cfg(test)]
 mod tests;
 
@@ -16,3 +18,4 @@ pub use drawing::put_tree;
 pub use graph::put_graph;
 pub use pair::Pair;
 pub use steps::put_find;
+pub use svg::put_svg;
