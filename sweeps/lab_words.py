@@ -180,6 +180,10 @@ def write_pictures(sweep, sim, given):
             ran = sweep.run(given.script, [option, place])
             holds = as_told(ran) == (told.whole(), WRITE_FAULT, fault_of(place, why)) and ran.left_nothing()
             sweep.claim(f"{given.name} {option} {place}", holds)
+    for option, form in (("--dot", "dot"), ("--svg", "svg")):
+        stored = (TOP / "examples" / given.name).with_suffix(f".{form}")
+        if stored.exists():
+            sweep.claim(f"{given.name} {option} as it is stored", stored.read_bytes() == PICTURES[option](routes).encode())
     files = {option: folder / option for option in PICTURES}
     ran = sweep.run(given.script, [word for option in files.items() for word in option])
     same = all(file.read_bytes() == PICTURES[option](routes).encode() for option, file in files.items())

@@ -10,16 +10,23 @@ abbrev pub is_question : List ℕ → Bool
 is_question [] = false
 is_question (b ∷ bs) = b == 63
 
--- a verb behind the word that asks about it
-abbrev pub about_a_verb : List ℕ → Option Question
-about_a_verb line = if bytes_eq (take 6 line) (codes "?help ") then option_map HelpOn (verb_of (drop 6 line)) else None
-
--- an address or a verb
-abbrev pub about_something : List ℕ → Option Question
-about_something line =
+abbrev pub about_an_address : List ℕ → Option Question
+about_an_address line =
     if bytes_eq (take 6 line) (codes "?find ") then option_map Find (inet_of (drop 6 line))
     else if bytes_eq (take 5 line) (codes "?why ") then option_map Why (inet_of (drop 5 line))
-    else about_a_verb line
+    else None
+
+-- the word on which help is asked
+abbrev pub word_asked : List ℕ → Option (List ℕ)
+word_asked line = if bytes_eq (take 6 line) (codes "?help ") then Some (drop 6 line) else None
+
+abbrev pub about_word : Option (List ℕ) → List ℕ → Option Question
+about_word (Some word) line = option_map HelpOn (verb_of word)
+about_word None line = about_an_address line
+
+-- a question about a verb or an address
+abbrev pub about_something : List ℕ → Option Question
+about_something line = about_word (word_asked line) line
 
 abbrev pub question_of : List ℕ → Option Question
 question_of line =

@@ -79,10 +79,11 @@ abbrev pub plainly : List ℕ → List ℕ
 plainly line =
     if bytes_eq (plain_of line) line then [] else codes "= " ++ plain_of line ++ codes "\n"
 
+abbrev pub quoted_wrong : List ℕ → List ℕ
+quoted_wrong word = codes " (`" ++ word ++ codes "`) is wrong"
+
 abbrev pub wrong_text : List ℕ → List ℕ
-wrong_text word =
-    if length word == 0 then codes " is empty, since words are parted by single spaces"
-    else codes " (`" ++ word ++ codes "`) is wrong"
+wrong_text word = if length word == 0 then codes " is empty, since words are parted by single spaces" else quoted_wrong word
 
 abbrev pub word_shown : Option (List ℕ) → List ℕ
 word_shown None = codes " is missing"

@@ -1,6 +1,6 @@
 //! The questions that a line may ask of the world.
-ghost use Rattle.std.specs.Prelude.{◌≡◌};
-ghost use Rattle.lab_main.specs.Questions.{about_a_verb, about_something, is_question as asks, question_of as question_in};
+ghost use Rattle.std.specs.Prelude.{◌≡◌, option_map};
+ghost use Rattle.lab_main.specs.Questions.{about_an_address, about_something, is_question as asks, question_of as question_in, word_asked as word_asked_in};
 
 use event_file::read_inet;
 use line_faults::{Verb, verb_of};
@@ -61,25 +61,35 @@ pub(crate) fn question_of(line: &[u8]) -> Option<Question>
     question_about(line)
 }
 
-/// The question about an address or a verb that a line asks.
+/// The question about a verb or an address that a line asks.
 fn question_about(line: &[u8]) -> Option<Question>
     ensures { result ≡ about_something line.now }
+{
+    match word_asked(line) {
+        Some(word) => Some(Question::HelpOn(verb_of(word)?)),
+        None => about_address(line),
+    }
+}
+
+/// The word on which a line asks help.
+fn word_asked(line: &[u8]) -> Option<&[u8]>
+    ensures { option_map (λ word. word.now) result ≡ word_asked_in line.now }
+{
+    match line {
+        [b'?', b'h', b'e', b'l', b'p', b' ', word @ ..] => Some(word),
+        _ => None,
+    }
+}
+
+/// The question about an address that a line asks.
+fn about_address(line: &[u8]) -> Option<Question>
+    ensures { result ≡ about_an_address line.now }
 {
     match line {
         [b'?', b'f', b'i', b'n', b'd', b' ', address @ ..] => Some(Question::Find(read_inet(
             address,
         )?)),
         [b'?', b'w', b'h', b'y', b' ', address @ ..] => Some(Question::Why(read_inet(address)?)),
-        _ => question_about_verb(line),
-    }
-}
-
-/// The question about a verb that a line asks.
-fn question_about_verb(line: &[u8]) -> Option<Question>
-    ensures { result ≡ about_a_verb line.now }
-{
-    match line {
-        [b'?', b'h', b'e', b'l', b'p', b' ', word @ ..] => Some(Question::HelpOn(verb_of(word)?)),
         _ => None,
     }
 }

@@ -3,7 +3,7 @@ ghost use Rattle.std.specs.Prelude.{◌≡◌, ◌≢◌, ◌≤◌, ◌⊎◌, 
 ghost use Rattle.event_file.specs.Lines.{has_newline};
 ghost use Rattle.event_file.specs.Words.{parted_by};
 ghost use Rattle.lab_main.specs.Help.{help, no_question};
-ghost use Rattle.lab_main.specs.Telling.{fault_words, shown, word_shown, wrong_text, wrong_word};
+ghost use Rattle.lab_main.specs.Telling.{fault_words, quoted_wrong, shown, word_shown, wrong_text, wrong_word};
 ghost use Rattle.lab_main.specs.Texts.{echoed, ending, indented, lines_word as lines_word_of, numbered};
 ghost use Rattle.line_faults.specs.Faults.{fault_in};
 ghost use Rattle.line_faults.specs.Words.{word_of};
@@ -183,9 +183,18 @@ fn put_wrong(text: &mut Text, word: &[u8], memory: &mut Memory) -> Result<(), Al
     if word.is_empty() {
         return text.put(b" is empty, since words are parted by single spaces", memory);
     }
+    put_quoted_wrong(text, word, memory)
+}
+
+/// Appends that this word is wrong.
+fn put_quoted_wrong(text: &mut Text, word: &[u8], memory: &mut Memory) -> Result<(), AllocError>
+    ensures put { OnOk result (text.new ≡ text.old ++ quoted_wrong word.now) }
+    ensures counted { Rises (is_err result) memory.old memory.new }
+{
     text.put(b" (`", memory)?;
     text.put(word, memory)?;
-    text.put(b"`) is wrong", memory)
+    text.put(b"`) is wrong", memory)?;
+    Ok(())
 }
 
 /// Appends which questions there are, of a line behind `?` that is none.

@@ -11,8 +11,6 @@ mod sizes;
 mod splitting;
 mod steps;
 mod svg;
-#[cfg(test)]
-mod tests;
 
 pub use drawing::put_tree;
 pub use graph::put_graph;
