@@ -76,8 +76,7 @@ impl WordKind {
             WordKind::MaskLength => "a mask's length: a number from 0 to 32",
             WordKind::InterfaceAddress =>
                 "an interface: an IPv4 address, or link: and the 8 to 32 bytes of a sockaddr_dl in hexadecimal",
-            WordKind::FlagBits =>
-                "flags: their names, as UP,GATEWAY, or 1 to 8 hexadecimal digits",
+            WordKind::FlagBits => "flags: their names, as UP,GATEWAY, or 1 to 8 hexadecimal digits",
             WordKind::Bits => "bits: 1 to 8 hexadecimal digits",
             WordKind::Metric => "a metric: a number from 0 to 4294967295",
             WordKind::DumpRoom =>

@@ -131,8 +131,10 @@ impl RouteOption {
                 "nothing more, or of these, in this order: expire, recvpipe, sendpipe, ssthresh, rtt, rttvar",
             RouteOption::Recvpipe =>
                 "nothing more, or of these, in this order: recvpipe, sendpipe, ssthresh, rtt, rttvar",
-            RouteOption::Sendpipe => "nothing more, or of these, in this order: sendpipe, ssthresh, rtt, rttvar",
-            RouteOption::Ssthresh => "nothing more, or of these, in this order: ssthresh, rtt, rttvar",
+            RouteOption::Sendpipe =>
+                "nothing more, or of these, in this order: sendpipe, ssthresh, rtt, rttvar",
+            RouteOption::Ssthresh =>
+                "nothing more, or of these, in this order: ssthresh, rtt, rttvar",
             RouteOption::Rtt => "nothing more, or of these, in this order: rtt, rttvar",
             RouteOption::Rttvar => "rttvar, or nothing more",
         }

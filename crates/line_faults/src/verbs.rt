@@ -108,9 +108,12 @@ impl Verb {
             Verb::Packet => "packet A: looks up the route of a packet to an address",
             Verb::Redirect =>
                 "redirect A GATEWAY AUTHOR: follows a redirect of an address to a gateway",
-            Verb::Losing => "losing A: tells that the route of an address seems dead, and takes it away if a redirect made it",
-            Verb::Dump => "dump ask|all|N: dumps the table into N bytes, or says how many to ask for",
-            Verb::Flags => "flags FLAGS ask|all|N: the same of the routes that have one of these flags",
+            Verb::Losing =>
+                "losing A: tells that the route of an address seems dead, and takes it away if a redirect made it",
+            Verb::Dump =>
+                "dump ask|all|N: dumps the table into N bytes, or says how many to ask for",
+            Verb::Flags =>
+                "flags FLAGS ask|all|N: the same of the routes that have one of these flags",
         }
     }
 

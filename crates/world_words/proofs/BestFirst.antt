@@ -1,17 +1,15 @@
 -- Of the routes that agree, by falling ranks, the first is the best.
-use Rattle.std.proofs.Common.{◌≡◌, ℕ, ◌+◌, ◌-◌, ◌<◌, ◌≤◌, ◌==◌, zero, suc, nat_lt, cond, Bool, true, false, List, [], ◌∷◌, ◌++◌, map, flat_map, refl, ap, subst, ◌∙◌, sym, arith, if◌then◌else◌}
+use Rattle.std.proofs.Common.{◌≡◌, ℕ, ◌+◌, ◌-◌, ◌<◌, ◌≤◌, ◌==◌, zero, suc, nat_lt, cond, Bool, true, false, List, [], ◌∷◌, ◌++◌, map, flat_map, refl, ap, subst, ◌∙◌, sym, arith}
 use Rattle.std.specs.Prelude.{filter, Option, Some, None, option_map, IfSome}
 use Rattle.std.specs.List.{AllByRecursion, range_with_len, slice_get}
 use Rattle.std.specs.Option.{option_or}
 use Rattle.if_addrs.specs.Interfaces.{Interface}
 use Rattle.mask_table.specs.Agreeing.{agrees}
-use Rattle.radix_tree.specs.Table.{IsTable, agreeing, best_of, greater, greatest}
+use Rattle.radix_tree.specs.Table.{IsTable, agreeing, greater, greatest}
 use Rattle.radix_tree.specs.declared.entry.Entry.{Entry}
 use Rattle.route_core.specs.Told.{all_told, route_told}
-use Rattle.route_core.specs.World.{World}
-use Rattle.route_core.specs.declared.told.RouteTold.{RouteTold}
 use Rattle.route_entries.specs.declared.route.Route.{Route}
-use Rattle.world_words.specs.Agreeing.{FirstIsBest, in_order, is_for, of_rank}
+use Rattle.world_words.specs.Agreeing.{FirstIsBest, in_order, of_rank}
 use borrow.Author.Tests.{eqb-true, eqb-false, ltb-true, ltb-false}
 
 -- ---- the first by falling ranks

@@ -1,5 +1,5 @@
 -- A word in a column, put piece by piece.
-use Rattle.std.proofs.Common.{◌≡◌, ◌-◌, ℕ, List, ◌++◌, length, replicate, codes, append_assoc, length-append, ap, ◌∙◌, sym, arith}
+use Rattle.std.proofs.Common.{◌≡◌, ◌-◌, ℕ, List, ◌++◌, length, replicate, codes, append_assoc, length-append, arith}
 use Rattle.lab_text.specs.Words.{column}
 
 behind : (t w : List ℕ) → length (t ++ w) - length t ≡ length w

@@ -1,10 +1,9 @@
 -- The addresses of an interface that were not removed, from a place on.
-use Rattle.std.proofs.Common.{◌≡◌, ℕ, ◌+◌, ◌-◌, ◌<◌, ◌≤◌, zero, suc, nat_lt, cond, Bool, true, false, not, List, [], ◌∷◌, ◌++◌, length, drop, flat_map, refl, ap, subst, ◌∙◌, sym, arith, add-one, length-drop}
+use Rattle.std.proofs.Common.{◌≡◌, ℕ, ◌+◌, ◌<◌, ◌≤◌, zero, suc, nat_lt, cond, Bool, true, false, not, List, [], ◌∷◌, ◌++◌, length, drop, flat_map, refl, ap, subst, ◌∙◌, sym, arith, length-drop}
 use Rattle.std.proofs.lemmas.List.{drop-drop}
 use Rattle.std.specs.Prelude.{filter, Option, Some, None, option_map, MatchOption}
-use Rattle.std.specs.List.{position, position_or_len, slice_get}
+use Rattle.std.specs.List.{position_or_len, slice_get}
 use Rattle.std.specs.Option.{option_map_or}
-use Rattle.if_addrs.specs.Facts.{facts_of}
 use Rattle.if_addrs.specs.Interfaces.{Address, Interface, interface_numbered}
 use Rattle.if_addrs.specs.Told.{is_standing, next_address, next_of, next_of_it, told_before, told_where}
 use Rattle.if_addrs.specs.declared.told.AddressTold.{AddressTold}

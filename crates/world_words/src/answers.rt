@@ -10,8 +10,8 @@ use crate::reasons::put_refusal;
 use lab_text::Text;
 use memory::Memory;
 use message_text::text_of_counted;
-use route_msgs::flags::RTF_GATEWAY;
 use route_core::{Answer, Choice, Received, Said, World, first_message};
+use route_msgs::flags::RTF_GATEWAY;
 use sock_addrs::Errno;
 use std::alloc::{AllocError, Global};
 

@@ -49,7 +49,8 @@ fn reason(asked: &Said<'_>, errno: Errno) -> &'static str
         Errno::EADDRNOTAVAIL => "the interface does not hold the address",
         Errno::ENETUNREACH => network_reason(asked),
         Errno::ENOBUFS => "there is no memory; nothing was changed",
-        Errno::ETOOMANYREFS => "no route of this destination has this mask; without a mask a host's route is meant",
+        Errno::ETOOMANYREFS =>
+            "no route of this destination has this mask; without a mask a host's route is meant",
         Errno::EHOSTUNREACH => host_reason(asked),
     }
 }
