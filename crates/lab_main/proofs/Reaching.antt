@@ -1,11 +1,10 @@
 -- How the lines of a run are put together.
 use Rattle.std.proofs.Common.{◌≡◌, ◌∙◌, ◌≢◌, ◌⊎◌, ◌+◌, ◌≤◌, ◌^◌, ◌-◌, ℕ, Bool, true, false, List, [], ◌∷◌, ◌++◌, Option, length, refl, sym, ap, subst, append_assoc, append-nil, length-append, inl, inr, arith}
-use Rattle.std.specs.Io.KnownBytes.{Appends, Consumes, IsAtEnd, Keeps}
+use Rattle.std.specs.Io.KnownBytes.{Appends, IsAtEnd, Keeps}
 use Rattle.std.proofs.KnownBytes.{Appends-nil, Appends-trans, Consumes-nil, Consumes-trans, Keeps-trans}
-use Rattle.std.specs.List.{All}
 use Rattle.std.proofs.lemmas.List.Elements.{All-append, All-cons}
 use Rattle.event_file.specs.Lines.{AreLines, has_newline, with_newlines}
-use Rattle.event_file.specs.Output.{Wrote, WroteFront}
+use Rattle.event_file.specs.Output.{WroteFront}
 use Rattle.event_file.specs.Counts.{Counts}
 use Rattle.line_reader.proofs.Parting.{Consumed-of}
 use Rattle.line_reader.specs.Given.{Begun, Consumed, Parted, Spent}

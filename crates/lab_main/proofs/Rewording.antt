@@ -1,23 +1,19 @@
 -- The replies whose words are told of lines, and whose bytes are a transcript.
 use Rattle.std.proofs.Common.{◌≡◌, ◌∙◌, ◌++◌, ℕ, Bool, true, false, not, List, [], ◌∷◌, Option, Some, None, Result, Ok, Err, refl, sym, ap, subst, append-nil}
 use Rattle.std.specs.Prelude.{flat_map, if◌then◌else◌, MatchBool, nat_lt, cond, length}
-use Rattle.event_file.specs.Answers.{response_text}
 use Rattle.event_file.specs.Counts.{one_more}
 use Rattle.event_file.specs.Grammar.{command_of, said_by}
 use Rattle.event_file.specs.Lines.{is_passed, kept, most_line_bytes}
 use Rattle.event_file.specs.Transcript.{Answered, Responds, command_in}
 use Rattle.event_file.specs.Words.{parted_by}
 use Rattle.event_file.specs.declared.bad.Bad.{Bad}
-use Rattle.line_faults.specs.Faults.{fault_in}
 use Rattle.plain_lines.specs.PlainLines.{plain_of}
 use Rattle.route_core.specs.Commands.{Command}
-use Rattle.route_core.specs.Step.{Steps, StepsCounted}
 use Rattle.route_core.specs.World.{World}
 use Rattle.route_core.specs.declared.answer.Answer.{Answer}
-use Rattle.world_words.specs.Answers.{answer_words}
 use Rattle.lab_main.specs.InWords.{Fits, Replied, Reply, given_of, is_answered, own_words, reply_words, response_bytes, told_text, transcript_text, words_by}
 use Rattle.lab_main.specs.Questions.{is_question, question_of}
-use Rattle.lab_main.specs.Telling.{Answers, Obeys, ObeysBy, Point, Says, Tells, Told, answer_to, fault_words, plainly, shown}
+use Rattle.lab_main.specs.Telling.{Obeys, ObeysBy, Point, Says, Tells, Told, answer_to, plainly, shown}
 use Rattle.lab_main.specs.declared.shows.Shows.{Shows}
 use Rattle.lab_main.proofs.Running.{step_of}
 
@@ -104,14 +100,13 @@ first_then o old mid new line first rest text lines tells is (r, before, after, 
     let here : first ≡ shown o (one_more old.state.lines) line told =
     tells.text_is ∙ ap (λ b. shown o mid.state.lines line b) body ∙ ap (λ n. shown o n line told) tells.lines_are in
     let later : rest ≡ told_text o (one_more old.state.lines) lines replies =
-    same ∙ ap (λ n. told_text o n lines replies) tells.lines_are in
-    (
+    same ∙ ap (λ n. told_text o n lines replies) tells.lines_are in (
       r ∷ replies,
       (before, fits, subst (λ w. Replied w lines replies new.state.world) (sym after) replied),
       is ∙ ap (λ x. x ++ rest) here ∙ ap (λ x. shown o (one_more old.state.lines) line told ++ x) later,
       subst (λ w. Answered w (given_of line ++ flat_map given_of lines) (response_bytes r.response ++ transcript_text replies) new.state.world) before
-      (answered_then (is_answered line) line (transcript_text replies) r (flat_map given_of lines) new.state.world fits
-      (subst (λ w. Answered w (flat_map given_of lines) (transcript_text replies) new.state.world) (sym after) answered)),
+          (answered_then (is_answered line) line (transcript_text replies) r (flat_map given_of lines) new.state.world fits
+          (subst (λ w. Answered w (flat_map given_of lines) (transcript_text replies) new.state.world) (sym after) answered)),
     )
 
 pub reworded : (o : Shows) (old new : Point) (lines : List (List ℕ)) (text : List ℕ) → Told o old lines text new

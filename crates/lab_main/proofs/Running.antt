@@ -1,5 +1,5 @@
 -- The run of the machine that lines are.
-use Rattle.std.proofs.Common.{◌≡◌, ◌∙◌, ◌⊎◌, ◌++◌, ℕ, Bool, true, false, List, [], ◌∷◌, Option, Some, None, refl, sym, ap, subst, inl, inr}
+use Rattle.std.proofs.Common.{◌≡◌, ◌∙◌, ◌++◌, ℕ, Bool, true, false, List, [], ◌∷◌, Option, Some, None, refl, ap, subst, inl, inr}
 use Rattle.std.specs.Prelude.{flat_map, if◌then◌else◌, MatchBool}
 use Rattle.std.proofs.lemmas.List.{map-append}
 use Rattle.event_file.specs.Grammar.{command_of}
@@ -12,7 +12,7 @@ use Rattle.route_core.specs.World.{World}
 use Rattle.route_core.specs.declared.answer.Answer.{Answer}
 use Rattle.lab_main.specs.Questions.{is_question, question_of}
 use Rattle.lab_main.specs.Runs.{as_list, command_said}
-use Rattle.lab_main.specs.Telling.{Answers, ObeysBy, Point, Says, Tells, Told, answer_to, plainly}
+use Rattle.lab_main.specs.Telling.{ObeysBy, Point, Says, Told, answer_to, plainly}
 use Rattle.lab_main.specs.declared.shows.Shows.{Shows}
 
 -- the turns of some commands

@@ -3,7 +3,7 @@ use Rattle.std.proofs.Common.{◌≡◌, ◌∙◌, ℕ, Bool, true, false, List
 use Rattle.std.specs.Prelude.{◌||◌, if◌then◌else◌}
 use Rattle.event_file.specs.Counts.{one_more}
 use Rattle.lab_main.specs.Telling.{State, is_bad, is_quit}
-use Rattle.lab_main.specs.Turns.{ComesTo, Took, taken}
+use Rattle.lab_main.specs.Turns.{ComesTo, Took}
 use Rattle.lab_main.specs.declared.answering.Turn.{Turn}
 use Rattle.lab_main.specs.declared.answering.Turn.TheVariants.{On, Bad, Quit}
 

@@ -1,5 +1,5 @@
 -- What is told of each line of a text, and of all of them one after another.
-use Rattle.std.specs.Prelude.{◌≡◌, ◌+◌, ◌==◌, ◌&&◌, ◌||◌, ℕ, Bool, true, false, not, List, [], ◌∷◌, ◌++◌, bytes_eq, codes, decimal, length, map, MatchBool, if◌then◌else◌, Option, Some, None, is_none}
+use Rattle.std.specs.Prelude.{◌≡◌, ◌==◌, ◌&&◌, ◌||◌, ℕ, Bool, true, false, not, List, [], ◌∷◌, ◌++◌, bytes_eq, codes, decimal, length, map, MatchBool, if◌then◌else◌, Option, Some, None, is_none}
 use Rattle.event_file.specs.Counts.{one_more}
 use Rattle.event_file.specs.Grammar.{command_of}
 use Rattle.event_file.specs.Lines.{is_passed, kept}
@@ -17,7 +17,6 @@ use Rattle.route_core.specs.Step.{StepsCounted}
 use Rattle.route_core.specs.Told.{all_told}
 use Rattle.route_core.specs.World.{World, empty_world}
 use Rattle.route_core.specs.declared.answer.Answer.{Answer}
-use Rattle.route_core.specs.declared.told.RouteTold.{RouteTold}
 use Rattle.world_words.specs.Agreeing.{agreeing_words}
 use Rattle.world_words.specs.Answers.{answer_words}
 use Rattle.world_words.specs.Interfaces.{interfaces_words}

@@ -1,5 +1,5 @@
 -- The texts that stand about what is told.
-use Rattle.std.specs.Prelude.{ℕ, ◌+◌, List, [], ◌∷◌, ◌++◌, codes, decimal, flat_map, length}
+use Rattle.std.specs.Prelude.{ℕ, List, [], ◌∷◌, ◌++◌, codes, decimal, flat_map, length}
 use Rattle.event_file.specs.Lines.{lines_of}
 
 -- a line behind its number

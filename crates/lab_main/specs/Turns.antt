@@ -1,5 +1,5 @@
 -- What a line comes to, beside what is told of it.
-use Rattle.std.specs.Prelude.{◌≡◌, ◌+◌, ◌||◌, ℕ, Bool, true, false, List, [], ◌∷◌, ◌++◌}
+use Rattle.std.specs.Prelude.{◌≡◌, ℕ, Bool, true, false, List, [], ◌∷◌, ◌++◌}
 use Rattle.event_file.specs.Counts.{one_more}
 use Rattle.lab_main.specs.Telling.{State, is_bad, is_quit}
 use Rattle.lab_main.specs.declared.answering.Turn.{Turn}

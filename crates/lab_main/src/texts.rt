@@ -181,7 +181,10 @@ fn put_wrong(text: &mut Text, word: &[u8], memory: &mut Memory) -> Result<(), Al
     ensures counted { Rises (is_err result) memory.old memory.new }
 {
     if word.is_empty() {
-        return text.put(b" is empty, since words are parted by single spaces", memory);
+        return text.put(
+            b" is empty, since words are parted by single spaces",
+            memory,
+        );
     }
     put_quoted_wrong(text, word, memory)
 }

@@ -1,4 +1,4 @@
-use Rattle.std.proofs.Common.{◌≡◌, ◌++◌, [], List, ℕ, append-nil, rules, sym, subst}
+use Rattle.std.proofs.Common.{◌≡◌, [], List, ℕ, append-nil, rules, sym, subst}
 use Rattle.std.specs.Io.KnownBytes.{Appends}
 use Rattle.lab_main.specs.Texts.{ending}
 use Rattle.program_ends.proofs.ReadLemmas.{Appends-kept}

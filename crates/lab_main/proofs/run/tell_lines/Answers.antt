@@ -1,4 +1,4 @@
-use Rattle.std.proofs.Common.{◌≡◌, ◌≢◌, ◌∙◌, ◌∷◌, [], ap, arith, rules, sym, inl, inr, Err, subst, List, ℕ}
+use Rattle.std.proofs.Common.{◌≢◌, ◌∙◌, ◌∷◌, [], ap, rules, sym, inl, inr, Err}
 use Rattle.std.specs.Io.KnownBytes.{IsAtEnd}
 use Rattle.lab_main.specs.Telling.{point}
 use Rattle.line_reader.proofs.Parting.{Consumed-of}

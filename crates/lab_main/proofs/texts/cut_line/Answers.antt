@@ -1,4 +1,4 @@
-use Rattle.std.proofs.Common.{◌≡◌, ◌∙◌, ◌+◌, ◌++◌, ◌∷◌, ap, sym, inl, rules, take}
+use Rattle.std.proofs.Common.{◌∙◌, ◌+◌, ◌++◌, ◌∷◌, ap, sym, inl, rules, take}
 use Rattle.std.proofs.lemmas.List.{take_rest}
 use Rattle.line_reader.proofs.Parting.{cut_at, line_uncut}
 use Rattle.lab_main.proofs.texts.cut_line.Goals as goal

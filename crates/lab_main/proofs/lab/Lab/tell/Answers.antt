@@ -1,4 +1,4 @@
-use Rattle.std.proofs.Common.{◌≡◌, ◌∙◌, ◌++◌, ◌∷◌, [], ap, rules}
+use Rattle.std.proofs.Common.{◌∙◌, ◌++◌, ◌∷◌, [], ap, rules}
 use Rattle.std.specs.Prelude.{◌||◌, if◌then◌else◌}
 use Rattle.event_file.specs.Counts.{one_more}
 use Rattle.lab_main.specs.Telling.{is_bad, is_quit}
