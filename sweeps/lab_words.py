@@ -266,7 +266,7 @@ def differences(page):
 # Slips of the pen, each in one place.
 SLIPS = [
     (".It 5\n", ".It 7\n", "statuses"), (".It Fl -no-echo\n", ".It Fl -silent\n", "options"),
-    (".It Ic \\&?tree\n", ".It Ic \\&?trie\n", "questions"), (" XRESOLVE ,", " RESOLVE ,", "flags"),
+    (".It Ic \\&?tree\n", ".It Ic \\&?trie\n", "questions"), (" XRESOLVE , ", " RESOLVE , ", "flags"),
 ]
 
 
