@@ -8,7 +8,7 @@ from generator import BLEMISHES, START
 from grammar import LINES, any_line
 from memory import asks_in_vain, may_want_memory, tables_before, takes_away
 from messages import ADDRESSES
-from plain import ALL, NUMBERS
+from plain import ALL, NUMBERS, visible
 from runs import BAD_LINE, DONE, NO_MEMORY, READ_FAULT, Example, answers
 from streams import READ_ROOM, is_in_step, reads_of
 from told import NO_QUESTION, have_reasons, is_passed, is_question, lines_of, shadow_of, told_of, without_reasons
@@ -145,6 +145,7 @@ def tell_at_borders(sweep, sim):
         (b"#" * 16_500, b"1: " + b"#" * 16_500 + b"\n"), (b"#" * 16_501, too_long % (b"#" * 16_501)),
         (b"x" * 100_000, too_long % (b"x" * 100_000)),
         (b"?" * 20_000, b"1: %s\n    %s1 bad line: 1\n" % (b"?" * 20_000, NO_QUESTION)),
+        (b"#\x1b]0;x\x07\x7f \xc3\xa9#", b"1: #\\x1b]0;x\\x07\\x7f \xc3\xa9#\n"),
     ):
         for end in (b"", b"\n"):
             ran = sweep.run(line + end)
@@ -282,8 +283,8 @@ def is_refused_well(sweep, sim, given, ran, fault, call):
     wanted = [*rest.told(sim).texts()]
     for at in refused:
         plain = shadow_of(lines[at])
-        shown = b"" if plain == lines[at] else b"    = " + plain + b"\n"
-        wanted[at] = b"%d: %s\n" % (at + 1, lines[at]) + shown + NO_ROOM
+        shown = b"" if plain == lines[at] else b"    = " + visible(plain) + b"\n"
+        wanted[at] = b"%d: %s\n" % (at + 1, visible(lines[at])) + shown + NO_ROOM
     wanted = wanted[: len(texts)] if ran.status == NO_MEMORY else [*wanted, rest.told(sim).ending()]
     holds = without_reasons(b"".join(wanted)) == without_reasons(ran.wrote)
     if fault == "refuse_alloc" and refused:

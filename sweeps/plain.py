@@ -128,13 +128,18 @@ def fault_of(line):
     return 1 + count + at, wanted
 
 
+def visible(text):
+    """A text in which each byte that a terminal would obey stands by its number."""
+    return re.sub(rb"[\x00-\x1f\x7f]", lambda found: b"\\x%02x" % found[0][0], text)
+
+
 def told_of_bad(line):
     """What is told of a plain line that the grammar doesn't have."""
     place, wanted = fault_of(line)
     if wanted == SHORTER:
         return b"bad: wanted: %s\n" % wanted.encode()
     words = line.split(b" ")
-    what = b" is missing" if place == len(words) else b" (`" + words[place] + b"`) is wrong"
+    what = b" is missing" if place == len(words) else b" (`" + visible(words[place]) + b"`) is wrong"
     if words[place : place + 1] == [b""]:
         what = b" is empty, since words are parted by single spaces"
     return b"bad: word %d%s; wanted: %s\n" % (place + 1, what, wanted.encode())

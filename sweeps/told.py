@@ -6,7 +6,7 @@ from asked import HELP, dotted, find, interfaces, is_table_order, named, route_o
 from grammar import INET, is_line
 from messages import ADD, CHANGE, DELETE, DST, GATEWAY, GET, LOCK, number_of
 from parts import LENGTH, OK, OVERRUN, family_of, fault_of, slots_of
-from plain import ALL, help_on, plain_of, told_of_bad
+from plain import ALL, help_on, plain_of, told_of_bad, visible
 from plain import VERBS as LINE_VERBS
 from reading import ERRNOS, reading
 from runs import BAD_LINE, DONE, MOST_LINE, answers
@@ -199,7 +199,7 @@ class Told:
     def texts(self, echo=True, done=True):
         """What is written of each line."""
         for number, piece in enumerate(self.pieces, 1):
-            echoed = b"%d: %s\n" % (number, piece.line) if echo else b""
+            echoed = b"%d: %s\n" % (number, visible(piece.line)) if echo else b""
             is_left_out = not done and piece.told == b"ok\n"
             yield echoed + (b"" if is_left_out else re.sub(rb"([^\n]*\n)", rb"    \1", piece.told))
 
@@ -222,7 +222,7 @@ def piece_of(line, shadow, answer, world):
         is_one = bool(OF_ROUTES.fullmatch(line)) or line in OF_WORLD
         told = told_of_question(line, answer, world).encode() if is_one else NO_QUESTION
         return Piece(line, told, not is_one, line == b"?quit")
-    plainly = b"" if shadow == line else b"= " + shadow + b"\n"
+    plainly = b"" if shadow == line else b"= " + visible(shadow) + b"\n"
     if not is_line(shadow):
         return Piece(line, plainly + told_of_bad(shadow), True)
     world.lines.take(shadow, answer)

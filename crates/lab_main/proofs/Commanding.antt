@@ -1,12 +1,13 @@
 -- What is answered to a line that is a command, or was meant to be one.
 use Rattle.std.proofs.Common.{◌≡◌, ◌≢◌, ◌++◌, ℕ, Bool, true, false, List, [], Result, Ok, Err, refl, sym, subst}
-use Rattle.std.specs.Prelude.{Decides, OnOk, MatchBool, codes, if◌then◌else◌}
+use Rattle.std.specs.Prelude.{Decides, OnOk, MatchBool, if◌then◌else◌}
 use Rattle.std.proofs.lemmas.Slice.Eq.{bytes_eq-Decides}
 use Rattle.std.specs.Str.{bytes_eq}
 use Rattle.event_file.specs.Lines.{is_passed, kept}
 use Rattle.plain_lines.specs.PlainLines.{plain_of}
 use Rattle.route_core.specs.World.{World}
 use Rattle.lab_main.specs.Questions.{is_question, question_of}
+use Rattle.lab_main.specs.Texts.{told_plainly}
 use Rattle.lab_main.specs.Telling.{Answers, Obeys, Says, answer_to, plainly}
 
 pub on_ok : {A E P Q : Type 0} (r : Result A E) → (P → Q) → OnOk r P → OnOk r Q
@@ -17,8 +18,8 @@ other_else : (b : Bool) (p line xs : List ℕ) → Decides b (p ≡ line) → p 
 other_else true p line xs d differs = absurd (differs (d.0 refl))
 other_else false p line xs d differs = refl
 
-pub plainly_other : (line : List ℕ) → plain_of line ≢ line → plainly line ≡ codes "= " ++ plain_of line ++ codes "\n"
-plainly_other line differs = other_else (bytes_eq (plain_of line) line) (plain_of line) line (codes "= " ++ plain_of line ++ codes "\n")
+pub plainly_other : (line : List ℕ) → plain_of line ≢ line → plainly line ≡ told_plainly (plain_of line)
+plainly_other line differs = other_else (bytes_eq (plain_of line) line) (plain_of line) line (told_plainly (plain_of line))
     (bytes_eq-Decides (plain_of line) line) differs
 
 pub command_answered : (old : World) (line body : List ℕ) (new : World) (before after : ℕ) → is_question line ≡ false → is_passed (kept line) ≡ false

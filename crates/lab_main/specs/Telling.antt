@@ -28,7 +28,7 @@ use Rattle.tree_pictures.specs.declared.pair.Pair.{Pair}
 use Rattle.lab_main.specs.Help.{help, no_question}
 use Rattle.lab_main.specs.Pairs.{pair_of}
 use Rattle.lab_main.specs.Questions.{ends_all, is_question, question_of}
-use Rattle.lab_main.specs.Texts.{echoed, indented}
+use Rattle.lab_main.specs.Texts.{echoed, indented, quoted_wrong, told_plainly}
 use Rattle.lab_main.specs.declared.questions.Question.{Question}
 use Rattle.lab_main.specs.declared.questions.Question.TheVariants.{Table, Tree, Find, Why, Interfaces, Sockets, Help, HelpOn, Quit}
 use Rattle.lab_main.specs.declared.shows.Shows.{Shows}
@@ -75,11 +75,7 @@ answer_to (Some Quit) w = []
 
 -- the plain line, where the line is one of the easier forms
 abbrev pub plainly : List ℕ → List ℕ
-plainly line =
-    if bytes_eq (plain_of line) line then [] else codes "= " ++ plain_of line ++ codes "\n"
-
-abbrev pub quoted_wrong : List ℕ → List ℕ
-quoted_wrong word = codes " (`" ++ word ++ codes "`) is wrong"
+plainly line = if bytes_eq (plain_of line) line then [] else told_plainly (plain_of line)
 
 abbrev pub wrong_text : List ℕ → List ℕ
 wrong_text word = if length word == 0 then codes " is empty, since words are parted by single spaces" else quoted_wrong word

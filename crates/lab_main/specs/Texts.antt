@@ -1,10 +1,33 @@
 -- The texts that stand about what is told.
-use Rattle.std.specs.Prelude.{ℕ, List, [], ◌∷◌, ◌++◌, codes, decimal, flat_map, length}
+use Rattle.std.specs.Prelude.{ℕ, List, [], ◌∷◌, ◌++◌, codes, decimal, flat_map, length, Bool, ◌||◌, ◌==◌, nat_lt, if◌then◌else◌}
+use Rattle.hex.specs.Hex.{encode_lower}
 use Rattle.event_file.specs.Lines.{lines_of}
+
+-- ---- what came from outside, of which no byte is to be obeyed by a terminal
+
+abbrev pub is_control : ℕ → Bool
+is_control b = nat_lt b 32 || b == 127
+
+-- `\x1b` in the place of such a byte
+abbrev pub visible_byte : ℕ → List ℕ
+visible_byte b = if is_control b then codes "\\x" ++ encode_lower (b ∷ []) else b ∷ []
+
+abbrev pub visible : List ℕ → List ℕ
+visible bytes = flat_map visible_byte bytes
+
+-- ---- texts about it
 
 -- a line behind its number
 abbrev pub echoed : ℕ → List ℕ → List ℕ
-echoed number line = decimal number ++ codes ": " ++ line ++ codes "\n"
+echoed number line = decimal number ++ codes ": " ++ visible line ++ codes "\n"
+
+-- the plain line of another one
+abbrev pub told_plainly : List ℕ → List ℕ
+told_plainly plain = codes "= " ++ visible plain ++ codes "\n"
+
+-- that a word is wrong
+abbrev pub quoted_wrong : List ℕ → List ℕ
+quoted_wrong word = codes " (`" ++ visible word ++ codes "`) is wrong"
 
 -- each line of a text behind four spaces
 unfoldable pub indented : List ℕ → List ℕ

@@ -1,5 +1,5 @@
 //! What is answered to a line.
-ghost use Rattle.std.specs.Prelude.{◌≡◌, ◌<◌, ◌≤◌, ◌++◌, [], false, IfOk, OnErr, OnOk, Some, codes, is_err, is_none, length};
+ghost use Rattle.std.specs.Prelude.{◌≡◌, ◌<◌, ◌≤◌, ◌++◌, [], false, IfOk, OnErr, OnOk, Some, is_err, is_none, length};
 ghost use Rattle.event_file.specs.Grammar.{command_of};
 ghost use Rattle.lab_main.specs.Telling.{Answers, Obeys, answer_to, pairs_of, plainly};
 ghost use Rattle.lab_main.specs.Questions.{ends_all};
@@ -11,6 +11,7 @@ ghost use Rattle.tree_pictures.specs.Svg.{svg_text};
 
 use crate::questions::{Question, is_question, question_of};
 use crate::texts::{put_fault, put_help, put_no_question};
+use crate::visible::put_plainly;
 use event_file::{is_passed, read_said};
 use lab_text::Text;
 use line_faults::put_help_on;
@@ -95,18 +96,8 @@ fn tell_plain(
     if !put_plain(plain, line, memory)? {
         return Ok(());
     }
-    put_plainly(plain, body, memory)?;
+    put_plainly(body, plain.as_bytes(), memory)?;
     Ok(())
-}
-
-/// Appends a plain line that stands for another one.
-fn put_plainly(plain: &Text, body: &mut Text, memory: &mut Memory) -> Result<(), AllocError>
-    ensures put { OnOk result (body.new ≡ body.old ++ codes "= " ++ plain.now ++ codes "\n") }
-    ensures counted { Rises (is_err result) memory.old memory.new }
-{
-    body.put(b"= ", memory)?;
-    body.put(plain.as_bytes(), memory)?;
-    body.put(b"\n", memory)
 }
 
 /// Obeys a plain line and appends what that is answered, or which of its words is wrong.

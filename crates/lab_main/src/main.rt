@@ -12,6 +12,7 @@ mod questions;
 mod run;
 mod shows;
 mod texts;
+mod visible;
 mod words;
 
 use program::{end_of_run, end_refused};

@@ -3,13 +3,14 @@ ghost use Rattle.std.specs.Prelude.{◌≡◌, ◌≢◌, ◌≤◌, ◌⊎◌, 
 ghost use Rattle.event_file.specs.Lines.{has_newline};
 ghost use Rattle.event_file.specs.Words.{parted_by};
 ghost use Rattle.lab_main.specs.Help.{help, no_question};
-ghost use Rattle.lab_main.specs.Telling.{fault_words, quoted_wrong, shown, word_shown, wrong_text, wrong_word};
-ghost use Rattle.lab_main.specs.Texts.{echoed, ending, indented, lines_word as lines_word_of, numbered};
+ghost use Rattle.lab_main.specs.Telling.{fault_words, shown, word_shown, wrong_text, wrong_word};
+ghost use Rattle.lab_main.specs.Texts.{ending, indented, lines_word as lines_word_of, numbered};
 ghost use Rattle.line_faults.specs.Faults.{fault_in};
 ghost use Rattle.line_faults.specs.Words.{word_of};
 ghost use Rattle.memory.specs.Refusing.{Rises};
 
 use crate::shows::Shows;
+use crate::visible::{put_echo, put_quoted_wrong};
 use lab_text::Text;
 use line_faults::{LineFault, Wanted, fault_of, put_usages, word_at};
 use line_reader::newline_in;
@@ -35,22 +36,6 @@ pub(crate) fn put_shown(
         return Ok(());
     }
     put_indented(text, body, memory)
-}
-
-/// Appends a line behind its number.
-fn put_echo(
-    text: &mut Text,
-    number: u64,
-    line: &[u8],
-    memory: &mut Memory,
-) -> Result<(), AllocError>
-    ensures put { OnOk result (text.new ≡ text.old ++ echoed number line.now) }
-    ensures counted { Rises (is_err result) memory.old memory.new }
-{
-    text.put_number(number, memory)?;
-    text.put(b": ", memory)?;
-    text.put(line, memory)?;
-    text.put(b"\n", memory)
 }
 
 /// Appends each line of a text behind four spaces.
@@ -187,17 +172,6 @@ fn put_wrong(text: &mut Text, word: &[u8], memory: &mut Memory) -> Result<(), Al
         );
     }
     put_quoted_wrong(text, word, memory)
-}
-
-/// Appends that this word is wrong.
-fn put_quoted_wrong(text: &mut Text, word: &[u8], memory: &mut Memory) -> Result<(), AllocError>
-    ensures put { OnOk result (text.new ≡ text.old ++ quoted_wrong word.now) }
-    ensures counted { Rises (is_err result) memory.old memory.new }
-{
-    text.put(b" (`", memory)?;
-    text.put(word, memory)?;
-    text.put(b"`) is wrong", memory)?;
-    Ok(())
 }
 
 /// Appends which questions there are, of a line behind `?` that is none.
