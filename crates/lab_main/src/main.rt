@@ -15,6 +15,7 @@ mod texts;
 mod visible;
 mod words;
 
+use memory::Memory;
 use program::{end_of_run, end_refused};
 use program_ends::{end, words_of};
 use std::io::IsTerminal;
@@ -27,7 +28,10 @@ fn main(rt: HostRuntime) -> ExitCode {
         Err(refusal) => return end(&rt, PROGRAM, Err(refusal)),
     };
     match asked_by(rt.alloc(), words.as_slice()) {
-        Ok(asked) => end_of_run(&rt, &asked, rt.stdin().is_terminal()),
+        Ok(asked) => {
+            let at_terminal = rt.stdin().is_terminal();
+            end_of_run(&rt, &asked, at_terminal, &mut Memory::new())
+        }
         Err(error) => end_refused(&rt, &error),
     }
 }

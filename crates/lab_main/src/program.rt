@@ -25,8 +25,9 @@ pub(crate) fn end_of_run<R: Files + Input + Print + Eprint + AllocGlobal>(
     rt: &R,
     asked: &Asked<'_>,
     at_terminal: bool,
+    memory: &mut Memory,
 ) -> ExitCode {
-    let outcome = run_asked(rt, asked, at_terminal, &mut Memory::new());
+    let outcome = run_asked(rt, asked, at_terminal, memory);
     if outcome == Outcome::NoMemory {
         let _ = eprintln!(rt; "{PROGRAM}: {}", fault_text(outcome));
     }
