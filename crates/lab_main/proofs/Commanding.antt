@@ -30,6 +30,7 @@ command_answered old line body new before after asks passed obeys =
     subst (λ b. MatchBool b (Says (answer_to (question_of line) old) old body new before after) (MatchBool (is_passed (kept line)) nothing obeyed)) (sym asks)
     (subst (λ b. MatchBool b nothing obeyed) (sym passed) obeys)
 
-pub answers_as : (line body : List ℕ) (a b c d : World) (k m n : ℕ) → c ≡ a → d ≡ b → n ≡ m → Answers a line body b k m → Answers c line body d k n
-answers_as line body a b c d k m n old new count answers =
-    subst (λ w. Answers w line body d k n) (sym old) (subst (λ w. Answers a line body w k n) (sym new) (subst (λ r. Answers a line body b k r) (sym count) answers))
+pub answers_as : (line body : List ℕ) (a b c d : World) (k l m n : ℕ) → c ≡ a → d ≡ b → l ≡ k → n ≡ m → Answers a line body b k m → Answers c line body d l n
+answers_as line body a b c d k l m n old new before after answers =
+    subst (λ w. Answers w line body d l n) (sym old) (subst (λ w. Answers a line body w l n) (sym new)
+    (subst (λ r. Answers a line body b r n) (sym before) (subst (λ r. Answers a line body b k r) (sym after) answers)))

@@ -10,13 +10,14 @@ use Rattle.line_reader.proofs.Parting.{Consumed-of}
 use Rattle.line_reader.specs.Given.{Begun, Consumed, Parted, Spent}
 use Rattle.line_reader.specs.declared.fault.Fault.{Fault}
 use Rattle.line_reader.specs.declared.fault.Fault.TheVariants as broken
+use Rattle.line_reader.specs.declared.reader.TheConstants.{READ_ROOM}
 use Rattle.program_ends.proofs.ReadLemmas.{Appends-kept}
 use Rattle.program_ends.specs.declared.outcome.Outcome.{Outcome}
 use Rattle.program_ends.specs.declared.outcome.Outcome.TheVariants.{Done, BadLine, ReadFault, WriteFault, NoMemory}
 use Rattle.lab_main.specs.Ends.{AreAll, AreFirst, Cut, CutLast, Ends, EndingFront, Finishes, ToldAll, ToldEnded, ToldFront, ToldLines}
 use Rattle.lab_main.specs.Faults.{Broke}
 use Rattle.lab_main.specs.Progress.{Reached}
-use Rattle.lab_main.specs.Telling.{Point, State, Tells, Told, fresh, if_any, point}
+use Rattle.lab_main.specs.Telling.{State, Tells, Told, fresh, if_any}
 use Rattle.lab_main.specs.Texts.{ending}
 use Rattle.lab_main.specs.declared.shows.Shows.{Shows}
 
@@ -86,28 +87,29 @@ Cut-read {a} {b} {c} {lines} {old} p q = record {
 
 -- ---- what is told of lines
 
-Told-then : (o : Shows) (l m : List (List ℕ)) (a b c : Point) (s t : List ℕ) → Told o a l s b → Told o b m t c → Told o a (l ++ m) (s ++ t) c
+Told-then : (o : Shows) (l m : List (List ℕ)) (a b c : State) (s t : List ℕ) → Told o a l s b → Told o b m t c → Told o a (l ++ m) (s ++ t) c
 Told-then o [] m a b c s t p q = subst (λ x. Told o x m (s ++ t) c) p.1 (subst (λ x. Told o b m (x ++ t) c) (sym p.0) q)
 Told-then o (line ∷ l) m a b c s t (mid, first, rest, tells, text, more) q =
     (mid, first, rest ++ t, tells, ap (λ x. x ++ t) text ∙ append_assoc first rest t, Told-then o l m mid b c rest t more q)
 
-Told-one : (o : Shows) (a b : Point) (line text : List ℕ) → Tells o a line text b → Told o a (line ∷ []) text b
+Told-one : (o : Shows) (a b : State) (line text : List ℕ) → Tells o a line text b → Told o a (line ∷ []) text b
 Told-one o a b line text tells = (b, text, [], tells, sym (append-nil text), (refl, refl))
 
 -- ---- how far a run has come
 
-pub Reached-none : (o : Shows) (n : ℕ) (a c : Option (List ℕ)) (s : State) → s ≡ fresh → Reached 0 o n a a c c (point s n) []
-Reached-none o n a c s is = record {
+pub Reached-none : (o : Shows) (a c : Option (List ℕ)) (s : State) → s ≡ fresh → Reached 0 o a a c c s []
+Reached-none o a c s is = record {
   lines = [];
   text = [];
   cut = Cut-none a;
-  told = (refl, ap (λ x. point x n) is);
+  told = (refl, is);
   appends = Appends-nil c;
   many = omega arith;
 }
 
-pub Reached-kept : {n : ℕ} {o : Shows} {k : ℕ} {a b c d e : Option (List ℕ)} {s : Point} {behind : List ℕ} → Reached n o k a b c d s behind → Keeps d e
-    → Reached n o k a b c e s behind
+-- where the writer kept what it had
+pub Reached-kept : {n : ℕ} {o : Shows} {a b c d e : Option (List ℕ)} {s : State} {behind : List ℕ} → Reached n o a b c d s behind → Keeps d e
+    → Reached n o a b c e s behind
 Reached-kept {c = c} {d = d} {e = e} p keeps = record {
   lines = p.lines;
   text = p.text;
@@ -117,40 +119,34 @@ Reached-kept {c = c} {d = d} {e = e} p keeps = record {
   many = p.many;
 }
 
--- where the writer kept what it had, and no memory was refused
-pub Reached-on : {n : ℕ} {o : Shows} {k : ℕ} {a b c d e : Option (List ℕ)} {s : State} {r : ℕ} {behind : List ℕ} (m : ℕ) → Reached n o k a b c d (point s r) behind → Keeps d e
-    → m ≡ r → Reached n o k a b c e (point s m) behind
-Reached-on {n} {o} {k} {a} {b} {c} {e = e} {s = s} {behind = behind} m p keeps is =
-    subst (λ x. Reached n o k a b c e (point s x) behind) (sym is) (Reached-kept p keeps)
-
-pub Reached-line : {n : ℕ} {o : Shows} {k : ℕ} {a b c d e f : Option (List ℕ)} {s t : Point} {old : List ℕ} (line rest said : List ℕ)
-    → Reached n o k a b d e s old → Parted b c old line (10 ∷ rest) → Tells o s line said t → Appends e f said → Reached (n + 1) o k a c d f t rest
-Reached-line {o = o} {k = k} {d = d} {e = e} {f = f} {s = s} {t = t} line rest said p parted tells appends = record {
+pub Reached-line : {n : ℕ} {o : Shows} {a b c d e f : Option (List ℕ)} {s t : State} {old : List ℕ} (line rest said : List ℕ)
+    → Reached n o a b d e s old → Parted b c old line (10 ∷ rest) → Tells o s line said t → Appends e f said → Reached (n + 1) o a c d f t rest
+Reached-line {o = o} {d = d} {e = e} {f = f} {s = s} {t = t} line rest said p parted tells appends = record {
   lines = p.lines ++ line ∷ [];
   text = p.text ++ said;
   cut = Cut-line line rest p.cut parted;
-  told = Told-then o p.lines (line ∷ []) (point fresh k) s t p.text said p.told (Told-one o s t line said tells);
+  told = Told-then o p.lines (line ∷ []) fresh s t p.text said p.told (Told-one o s t line said tells);
   appends = Appends-trans d e f p.text said p.appends appends;
   many = omega (arith, p.many, length-append p.lines (line ∷ []));
 }
 
 -- ---- how it ends
 
-finished_all : (o : Shows) (k : ℕ) (a b c d e : Option (List ℕ)) (lines : List (List ℕ)) (text : List ℕ) (s : Point) (bad : Bool) → AreAll a b lines s
-    → Told o (point fresh k) lines text s → Appends c d text → Appends d e (ending s.state.bad) → if_any s.state.bad ≡ bad → ToldAll o k a b c e bad
-finished_all o k a b c d e lines text s bad all told appends more is = record {
+finished_all : (o : Shows) (a b c d e : Option (List ℕ)) (lines : List (List ℕ)) (text : List ℕ) (s : State) (bad : Bool) → AreAll a b lines s
+    → Told o fresh lines text s → Appends c d text → Appends d e (ending s.bad) → if_any s.bad ≡ bad → ToldAll o a b c e bad
+finished_all o a b c d e lines text s bad all told appends more is = record {
   lines = lines;
   text = text;
   last = s;
   all = all;
   told = told;
   bad_is = is;
-  appends = Appends-trans c d e text (ending s.state.bad) appends more;
+  appends = Appends-trans c d e text (ending s.bad) appends more;
 }
 
-finished_front : (o : Shows) (k : ℕ) (a b c d e : Option (List ℕ)) (lines : List (List ℕ)) (text : List ℕ) (s : Point) → AreAll a b lines s
-    → Told o (point fresh k) lines text s → Appends c d text → EndingFront d e s.state.bad → ToldFront o k a b c e
-finished_front o k a b c d e lines text s all told appends front = record {
+finished_front : (o : Shows) (a b c d e : Option (List ℕ)) (lines : List (List ℕ)) (text : List ℕ) (s : State) → AreAll a b lines s
+    → Told o fresh lines text s → Appends c d text → EndingFront d e s.bad → ToldFront o a b c e
+finished_front o a b c d e lines text s all told appends front = record {
   lines = lines;
   behind = all.0;
   text = text;
@@ -163,9 +159,9 @@ finished_front o k a b c d e lines text s all told appends front = record {
   appends = Appends-trans c d e text front.written appends front.appends;
 }
 
-finished_lines : (o : Shows) (k : ℕ) (a b c d e : Option (List ℕ)) (lines : List (List ℕ)) (text : List ℕ) (s : Point) → AreAll a b lines s
-    → Told o (point fresh k) lines text s → Appends c d text → Keeps d e → ToldLines o k a b c e
-finished_lines o k a b c d e lines text s all told appends keeps = record {
+finished_lines : (o : Shows) (a b c d e : Option (List ℕ)) (lines : List (List ℕ)) (text : List ℕ) (s : State) → AreAll a b lines s
+    → Told o fresh lines text s → Appends c d text → Keeps d e → ToldLines o a b c e
+finished_lines o a b c d e lines text s all told appends keeps = record {
   lines = lines;
   behind = all.0;
   text = text;
@@ -176,46 +172,46 @@ finished_lines o k a b c d e lines text s all told appends keeps = record {
 }
 
 -- behind all lines, or behind `?quit`
-Ends-finished : (outcome : Outcome) (o : Shows) (k : ℕ) (a b c d e : Option (List ℕ)) (lines : List (List ℕ)) (text : List ℕ) (s : Point) → AreAll a b lines s
-    → Told o (point fresh k) lines text s → Appends c d text → Finishes outcome d e s.state.bad → Ends o k outcome a b c e
-Ends-finished Done o k a b c d e lines text s all told appends (more, is) = finished_all o k a b c d e lines text s false all told appends more is
-Ends-finished BadLine o k a b c d e lines text s all told appends (more, is) = finished_all o k a b c d e lines text s true all told appends more is
-Ends-finished ReadFault o k a b c d e lines text s all told appends f = absurd f
-Ends-finished WriteFault o k a b c d e lines text s all told appends f = finished_front o k a b c d e lines text s all told appends f
-Ends-finished NoMemory o k a b c d e lines text s all told appends f = finished_lines o k a b c d e lines text s all told appends f
+Ends-finished : (outcome : Outcome) (o : Shows) (a b c d e : Option (List ℕ)) (lines : List (List ℕ)) (text : List ℕ) (s : State) → AreAll a b lines s
+    → Told o fresh lines text s → Appends c d text → Finishes outcome d e s.bad → Ends o outcome a b c e
+Ends-finished Done o a b c d e lines text s all told appends (more, is) = finished_all o a b c d e lines text s false all told appends more is
+Ends-finished BadLine o a b c d e lines text s all told appends (more, is) = finished_all o a b c d e lines text s true all told appends more is
+Ends-finished ReadFault o a b c d e lines text s all told appends f = absurd f
+Ends-finished WriteFault o a b c d e lines text s all told appends f = finished_front o a b c d e lines text s all told appends f
+Ends-finished NoMemory o a b c d e lines text s all told appends f = finished_lines o a b c d e lines text s all told appends f
 
 -- at the end of the text
-pub Ends-at_end : (outcome : Outcome) {n : ℕ} {o : Shows} {k : ℕ} {a b d e : Option (List ℕ)} (c f : Option (List ℕ)) {s : Point} {old : List ℕ} → Reached n o k a b d e s old
-    → Parted b c old [] [] × IsAtEnd c → Finishes outcome e f s.state.bad → Ends o k outcome a c d f
-Ends-at_end outcome {o = o} {k = k} {a = a} {d = d} {e = e} c f {s = s} p (parted, end) finishes =
-    Ends-finished outcome o k a c d e f p.lines p.text s ([], inl (Cut-rest [] p.cut parted), inr (refl, end)) p.told p.appends finishes
+pub Ends-at_end : (outcome : Outcome) {n : ℕ} {o : Shows} {a b d e : Option (List ℕ)} (c f : Option (List ℕ)) {s : State} {old : List ℕ} → Reached n o a b d e s old
+    → Parted b c old [] [] × IsAtEnd c → Finishes outcome e f s.bad → Ends o outcome a c d f
+Ends-at_end outcome {o = o} {a = a} {d = d} {e = e} c f {s = s} p (parted, end) finishes =
+    Ends-finished outcome o a c d e f p.lines p.text s ([], inl (Cut-rest [] p.cut parted), inr (refl, end)) p.told p.appends finishes
 
 -- behind a last line
-pub Ends-last : (outcome : Outcome) {n : ℕ} {o : Shows} {k : ℕ} {a b d e : Option (List ℕ)} (c f g : Option (List ℕ)) {s t : Point} {old : List ℕ} (line said : List ℕ)
-    → Reached n o k a b d e s old → Parted b c old line [] × IsAtEnd c × (line ≢ []) → Tells o s line said t → Appends e f said → Finishes outcome f g t.state.bad
-    → Ends o k outcome a c d g
-Ends-last outcome {o = o} {k = k} {a = a} {d = d} {e = e} c f g {s = s} {t = t} line said p (parted, end, some) tells appends finishes =
+pub Ends-last : (outcome : Outcome) {n : ℕ} {o : Shows} {a b d e : Option (List ℕ)} (c f g : Option (List ℕ)) {s t : State} {old : List ℕ} (line said : List ℕ)
+    → Reached n o a b d e s old → Parted b c old line [] × IsAtEnd c × (line ≢ []) → Tells o s line said t → Appends e f said → Finishes outcome f g t.bad
+    → Ends o outcome a c d g
+Ends-last outcome {o = o} {a = a} {d = d} {e = e} c f g {s = s} {t = t} line said p (parted, end, some) tells appends finishes =
     let cut = Cut-rest line p.cut parted in
     let last : CutLast a c (p.lines ++ line ∷ []) = record { whole = p.lines; last = line; cut = cut; line = parted.whole; some = some; lines_are = refl; at_end = end } in
-    Ends-finished outcome o k a c d f g (p.lines ++ line ∷ []) (p.text ++ said) t ([], inr (last, refl), inr (refl, end))
-    (Told-then o p.lines (line ∷ []) (point fresh k) s t p.text said p.told (Told-one o s t line said tells)) (Appends-trans d e f p.text said p.appends appends) finishes
+    Ends-finished outcome o a c d f g (p.lines ++ line ∷ []) (p.text ++ said) t ([], inr (last, refl), inr (refl, end))
+    (Told-then o p.lines (line ∷ []) fresh s t p.text said p.told (Told-one o s t line said tells)) (Appends-trans d e f p.text said p.appends appends) finishes
 
 -- behind `?quit`
-pub Ends-over : (outcome : Outcome) {n : ℕ} {o : Shows} {k : ℕ} {a b c d : Option (List ℕ)} (e : Option (List ℕ)) {s : Point} {behind : List ℕ} → Reached n o k a b c d s behind
-    → s.state.over ≡ true → Finishes outcome d e s.state.bad → Ends o k outcome a b c e
-Ends-over outcome {o = o} {k = k} {a = a} {b = b} {c = c} {d = d} e {s = s} {behind = behind} p over finishes =
-    Ends-finished outcome o k a b c d e p.lines p.text s (behind, inl p.cut, inl over) p.told p.appends finishes
+pub Ends-over : (outcome : Outcome) {n : ℕ} {o : Shows} {a b c d : Option (List ℕ)} (e : Option (List ℕ)) {s : State} {behind : List ℕ} → Reached n o a b c d s behind
+    → s.over ≡ true → length behind ≤ READ_ROOM → Finishes outcome d e s.bad → Ends o outcome a b c e
+Ends-over outcome {o = o} {a = a} {b = b} {c = c} {d = d} e {s = s} {behind = behind} p over few finishes =
+    Ends-finished outcome o a b c d e p.lines p.text s (behind, inl p.cut, inl (over, few)) p.told p.appends finishes
 
 -- at a fault between lines
-pub Front-between : {n : ℕ} {o : Shows} {k : ℕ} {a b c d e f : Option (List ℕ)} {s : Point} {old : List ℕ} → Reached n o k a b d e s old → Consumed b c → Keeps e f
-    → ToldFront o k a c d f
+pub Front-between : {n : ℕ} {o : Shows} {a b c d e f : Option (List ℕ)} {s : State} {old : List ℕ} → Reached n o a b d e s old → Consumed b c → Keeps e f
+    → ToldFront o a c d f
 Front-between {d = d} {e = e} {f = f} {s = s} {old = old} p read keeps = record {
   lines = p.lines;
   behind = old ++ read.read;
   text = p.text;
   last = s;
   written = p.text;
-  unwritten = ending s.state.bad;
+  unwritten = ending s.bad;
   first = inl (Cut-read p.cut read);
   told = p.told;
   whole = refl;
@@ -223,8 +219,8 @@ Front-between {d = d} {e = e} {f = f} {s = s} {old = old} p read keeps = record 
 }
 
 -- and no more was told
-pub Lines-between : {n : ℕ} {o : Shows} {k : ℕ} {a b c d e f : Option (List ℕ)} {s : Point} {old : List ℕ} → Reached n o k a b d e s old → Consumed b c → Keeps e f
-    → ToldLines o k a c d f
+pub Lines-between : {n : ℕ} {o : Shows} {a b c d e f : Option (List ℕ)} {s : State} {old : List ℕ} → Reached n o a b d e s old → Consumed b c → Keeps e f
+    → ToldLines o a c d f
 Lines-between {d = d} {e = e} {f = f} {s = s} {old = old} p read keeps = record {
   lines = p.lines;
   behind = old ++ read.read;
@@ -235,8 +231,8 @@ Lines-between {d = d} {e = e} {f = f} {s = s} {old = old} p read keeps = record 
   appends = Appends-kept d e f p.text p.appends keeps;
 }
 
-pub Ended-between : {n : ℕ} {o : Shows} {k : ℕ} {a b c d e f : Option (List ℕ)} {s : Point} {old : List ℕ} (line : List ℕ) → Reached n o k a b d e s old
-    → Begun b c old line → Keeps e f → ToldEnded o k a c d f
+pub Ended-between : {n : ℕ} {o : Shows} {a b c d e f : Option (List ℕ)} {s : State} {old : List ℕ} (line : List ℕ) → Reached n o a b d e s old
+    → Begun b c old line → Keeps e f → ToldEnded o a c d f
 Ended-between {a = a} {b = b} {c = c} {d = d} {e = e} {f = f} {s = s} line p begun keeps = record {
   lines = p.lines;
   begun = line ++ begun.behind;
@@ -252,9 +248,9 @@ Ended-between {a = a} {b = b} {c = c} {d = d} {e = e} {f = f} {s = s} line p beg
 }
 
 -- where the next line can't be had
-pub Ends-between : (outcome : Outcome) {n : ℕ} {o : Shows} {k : ℕ} {a b c d e : Option (List ℕ)} (f g : Option (List ℕ)) {s : Point} {old : List ℕ} (line : List ℕ)
-    → Reached n o k a b d e s old → (outcome ≡ ReadFault → Begun b c old line) → Consumed b c → Keeps e f → Keeps f g
-    → (outcome ≡ ReadFault) ⊎ (outcome ≡ WriteFault) ⊎ (outcome ≡ NoMemory) → Ends o k outcome a c d g
+pub Ends-between : (outcome : Outcome) {n : ℕ} {o : Shows} {a b c d e : Option (List ℕ)} (f g : Option (List ℕ)) {s : State} {old : List ℕ} (line : List ℕ)
+    → Reached n o a b d e s old → (outcome ≡ ReadFault → Begun b c old line) → Consumed b c → Keeps e f → Keeps f g
+    → (outcome ≡ ReadFault) ⊎ (outcome ≡ WriteFault) ⊎ (outcome ≡ NoMemory) → Ends o outcome a c d g
 Ends-between ReadFault {e = e} f g line p begun read keeps kept is = Ended-between line p (begun refl) (Keeps-trans e f g keeps kept)
 Ends-between WriteFault {e = e} f g line p begun read keeps kept is = Front-between p read (Keeps-trans e f g keeps kept)
 Ends-between NoMemory {e = e} f g line p begun read keeps kept is = Lines-between p read (Keeps-trans e f g keeps kept)
@@ -266,25 +262,25 @@ Ends-between BadLine f g line p begun read keeps kept (inr (inl is)) = absurd (c
 Ends-between BadLine f g line p begun read keeps kept (inr (inr is)) = absurd (cc)
 
 -- the writer stopped within what is told of a line
-front_within : {W : Type 0} (contents : W → Option (List ℕ)) (w v : Counts W) (o : Shows) (k : ℕ) (a c d : Option (List ℕ)) (lines : List (List ℕ)) (line behind text said : List ℕ) (s t : Point)
-    → AreFirst a c (lines ++ line ∷ []) behind → Told o (point fresh k) lines text s → Appends d (contents w.inner) text → Tells o s line said t
-    → WroteFront contents w v said → ToldFront o k a c d (contents v.inner)
-front_within contents w v o k a c d lines line behind text said s t first told appends tells front = record {
+front_within : {W : Type 0} (contents : W → Option (List ℕ)) (w v : Counts W) (o : Shows) (a c d : Option (List ℕ)) (lines : List (List ℕ)) (line behind text said : List ℕ) (s t : State)
+    → AreFirst a c (lines ++ line ∷ []) behind → Told o fresh lines text s → Appends d (contents w.inner) text → Tells o s line said t
+    → WroteFront contents w v said → ToldFront o a c d (contents v.inner)
+front_within contents w v o a c d lines line behind text said s t first told appends tells front = record {
   lines = lines ++ line ∷ [];
   behind = behind;
   text = text ++ said;
   last = t;
   written = text ++ front.written;
-  unwritten = front.unwritten ++ ending t.state.bad;
+  unwritten = front.unwritten ++ ending t.bad;
   first = first;
-  told = Told-then o lines (line ∷ []) (point fresh k) s t text said told (Told-one o s t line said tells);
-  whole = ap (λ x. (text ++ x) ++ ending t.state.bad) front.whole
-      ∙ ap (λ x. x ++ ending t.state.bad) (sym (append_assoc text front.written front.unwritten))
-      ∙ append_assoc (text ++ front.written) front.unwritten (ending t.state.bad);
+  told = Told-then o lines (line ∷ []) fresh s t text said told (Told-one o s t line said tells);
+  whole = ap (λ x. (text ++ x) ++ ending t.bad) front.whole
+      ∙ ap (λ x. x ++ ending t.bad) (sym (append_assoc text front.written front.unwritten))
+      ∙ append_assoc (text ++ front.written) front.unwritten (ending t.bad);
   appends = Appends-trans d (contents w.inner) (contents v.inner) text front.written appends front.appends;
 }
 
-front_kept : {o : Shows} {k : ℕ} {a c d e f : Option (List ℕ)} → ToldFront o k a c d e → Keeps e f → ToldFront o k a c d f
+front_kept : {o : Shows} {a c d e f : Option (List ℕ)} → ToldFront o a c d e → Keeps e f → ToldFront o a c d f
 front_kept {d = d} {e = e} {f = f} p keeps = record {
   lines = p.lines;
   behind = p.behind;
@@ -299,38 +295,38 @@ front_kept {d = d} {e = e} {f = f} p keeps = record {
 }
 
 -- a line can't be told to its end
-pub Front-line : {W : Type 0} (contents : W → Option (List ℕ)) (w v : Counts W) {n : ℕ} {o : Shows} {k : ℕ} {a b c d : Option (List ℕ)} (e : Option (List ℕ)) {s : Point} {old : List ℕ}
-    (fault : Fault) (line rest : List ℕ) (t : Point) → Reached n o k a b d (contents w.inner) s old → Parted b c old line (10 ∷ rest)
-    → Broke contents o fault s line t w v → Keeps (contents v.inner) e → ToldFront o k a c d e
+pub Front-line : {W : Type 0} (contents : W → Option (List ℕ)) (w v : Counts W) {n : ℕ} {o : Shows} {a b c d : Option (List ℕ)} (e : Option (List ℕ)) {s : State} {old : List ℕ}
+    (fault : Fault) (line rest : List ℕ) (t : State) → Reached n o a b d (contents w.inner) s old → Parted b c old line (10 ∷ rest)
+    → Broke contents o fault s line t w v → Keeps (contents v.inner) e → ToldFront o a c d e
 Front-line contents w v e broken.Read line rest t p parted broke keeps = absurd broke
-Front-line contents w v {o = o} {k = k} {a = a} {c = c} {d = d} e {s = s} broken.Write line rest t p parted (said, tells, front) keeps =
-    front_kept (front_within contents w v o k a c d p.lines line rest p.text said s t (inl (Cut-line line rest p.cut parted)) p.told p.appends tells front) keeps
+Front-line contents w v {o = o} {a = a} {c = c} {d = d} e {s = s} broken.Write line rest t p parted (said, tells, front) keeps =
+    front_kept (front_within contents w v o a c d p.lines line rest p.text said s t (inl (Cut-line line rest p.cut parted)) p.told p.appends tells front) keeps
 Front-line contents w v {d = d} e broken.NoMemory line rest t p parted broke keeps =
     Front-between p (Consumed-of parted) (subst (λ (x : Counts _). Keeps (contents x.inner) e) broke keeps)
 
 -- nor can the last one
-pub Front-last : {W : Type 0} (contents : W → Option (List ℕ)) (w v : Counts W) {n : ℕ} {o : Shows} {k : ℕ} {a b c d : Option (List ℕ)} (e : Option (List ℕ)) {s : Point} {old : List ℕ}
-    (fault : Fault) (line : List ℕ) (t : Point) → Reached n o k a b d (contents w.inner) s old → Parted b c old line [] × IsAtEnd c × (line ≢ [])
-    → Broke contents o fault s line t w v → Keeps (contents v.inner) e → ToldFront o k a c d e
+pub Front-last : {W : Type 0} (contents : W → Option (List ℕ)) (w v : Counts W) {n : ℕ} {o : Shows} {a b c d : Option (List ℕ)} (e : Option (List ℕ)) {s : State} {old : List ℕ}
+    (fault : Fault) (line : List ℕ) (t : State) → Reached n o a b d (contents w.inner) s old → Parted b c old line [] × IsAtEnd c × (line ≢ [])
+    → Broke contents o fault s line t w v → Keeps (contents v.inner) e → ToldFront o a c d e
 Front-last contents w v e broken.Read line t p parted broke keeps = absurd broke
-Front-last contents w v {o = o} {k = k} {a = a} {c = c} {d = d} e {s = s} broken.Write line t p (parted, end, some) (said, tells, front) keeps =
+Front-last contents w v {o = o} {a = a} {c = c} {d = d} e {s = s} broken.Write line t p (parted, end, some) (said, tells, front) keeps =
     let last : CutLast a c (p.lines ++ line ∷ []) = record { whole = p.lines; last = line; cut = Cut-rest line p.cut parted; line = parted.whole; some = some; lines_are = refl; at_end = end } in
-    front_kept (front_within contents w v o k a c d p.lines line [] p.text said s t (inr (last, refl)) p.told p.appends tells front) keeps
+    front_kept (front_within contents w v o a c d p.lines line [] p.text said s t (inr (last, refl)) p.told p.appends tells front) keeps
 Front-last contents w v e broken.NoMemory line t p (parted, end, some) broke keeps =
     Front-between p (Consumed-of parted) (subst (λ (x : Counts _). Keeps (contents x.inner) e) broke keeps)
 
 -- where there was no memory for a line it isn't told at all
-pub Lines-line : {W : Type 0} (contents : W → Option (List ℕ)) (w v : Counts W) {n : ℕ} {o : Shows} {k : ℕ} {a b c d : Option (List ℕ)} (e : Option (List ℕ)) {s : Point} {old : List ℕ}
-    (fault : Fault) (line : List ℕ) (t : Point) → Reached n o k a b d (contents w.inner) s old → Consumed b c
-    → Broke contents o fault s line t w v → fault ≡ broken.NoMemory → Keeps (contents v.inner) e → ToldLines o k a c d e
+pub Lines-line : {W : Type 0} (contents : W → Option (List ℕ)) (w v : Counts W) {n : ℕ} {o : Shows} {a b c d : Option (List ℕ)} (e : Option (List ℕ)) {s : State} {old : List ℕ}
+    (fault : Fault) (line : List ℕ) (t : State) → Reached n o a b d (contents w.inner) s old → Consumed b c
+    → Broke contents o fault s line t w v → fault ≡ broken.NoMemory → Keeps (contents v.inner) e → ToldLines o a c d e
 Lines-line contents w v e broken.Read line t p read broke is keeps = absurd broke
 Lines-line contents w v e broken.Write line t p read broke is keeps = absurd (cc)
 Lines-line contents w v e broken.NoMemory line t p read broke is keeps =
     Lines-between p read (subst (λ (x : Counts _). Keeps (contents x.inner) e) broke keeps)
 
 -- so the run ends, which no read did
-pub Ends-front : (outcome : Outcome) {o : Shows} {k : ℕ} {a c d e : Option (List ℕ)} → ToldFront o k a c d e → (outcome ≡ NoMemory → ToldLines o k a c d e) → outcome ≢ ReadFault
-    → (outcome ≡ ReadFault) ⊎ (outcome ≡ WriteFault) ⊎ (outcome ≡ NoMemory) → Ends o k outcome a c d e
+pub Ends-front : (outcome : Outcome) {o : Shows} {a c d e : Option (List ℕ)} → ToldFront o a c d e → (outcome ≡ NoMemory → ToldLines o a c d e) → outcome ≢ ReadFault
+    → (outcome ≡ ReadFault) ⊎ (outcome ≡ WriteFault) ⊎ (outcome ≡ NoMemory) → Ends o outcome a c d e
 Ends-front WriteFault p lines not is = p
 Ends-front NoMemory p lines not is = lines refl
 Ends-front ReadFault p lines not is = absurd (not refl)
@@ -342,7 +338,7 @@ Ends-front BadLine p lines not (inr (inl is)) = absurd (cc)
 Ends-front BadLine p lines not (inr (inr is)) = absurd (cc)
 
 -- a fault that isn't of reading stops as none
-pub not_read : {W : Type 0} (contents : W → Option (List ℕ)) (w v : Counts W) (o : Shows) (s t : Point) (line : List ℕ) (fault : Fault) → Broke contents o fault s line t w v → fault ≢ broken.Read
+pub not_read : {W : Type 0} (contents : W → Option (List ℕ)) (w v : Counts W) (o : Shows) (s t : State) (line : List ℕ) (fault : Fault) → Broke contents o fault s line t w v → fault ≢ broken.Read
 not_read contents w v o s t line broken.Read broke is = broke
 not_read contents w v o s t line broken.Write broke is = absurd (cc)
 not_read contents w v o s t line broken.NoMemory broke is = absurd (cc)
@@ -350,18 +346,18 @@ not_read contents w v o s t line broken.NoMemory broke is = absurd (cc)
 -- ---- ends that come of nothing that was read
 
 -- memory for the reader of lines can't be had
-pub Lines-none : (o : Shows) (k : ℕ) (a c : Option (List ℕ)) → ToldLines o k a a c c
-Lines-none o k a c = record {
+pub Lines-none : (o : Shows) (a c : Option (List ℕ)) → ToldLines o a a c c
+Lines-none o a c = record {
   lines = [];
   behind = [];
   text = [];
-  last = point fresh k;
+  last = fresh;
   first = inl (Cut-none a);
   told = (refl, refl);
   appends = Appends-nil c;
 }
 
-pub Front-now : {n : ℕ} {o : Shows} {k : ℕ} {a b d e f : Option (List ℕ)} {s : Point} {old : List ℕ} → Reached n o k a b d e s old → Keeps e f → ToldFront o k a b d f
+pub Front-now : {n : ℕ} {o : Shows} {a b d e f : Option (List ℕ)} {s : State} {old : List ℕ} → Reached n o a b d e s old → Keeps e f → ToldFront o a b d f
 Front-now {b = b} p keeps = Front-between p (record { read = []; consumes = Consumes-nil b }) keeps
 
 -- each line has a newline behind it
@@ -370,14 +366,14 @@ newlines_many [] = omega arith
 newlines_many (l ∷ lines) = omega (arith, newlines_many lines, length-append l (10 ∷ with_newlines lines))
 
 -- as many lines were told as there are turns
-pub Spent-turns : {n : ℕ} {o : Shows} {k : ℕ} {a b d e : Option (List ℕ)} {s : Point} {old : List ℕ} → Reached n o k a b d e s old → 2 ^ 64 - 1 ≤ n → Spent a b
+pub Spent-turns : {n : ℕ} {o : Shows} {a b d e : Option (List ℕ)} {s : State} {old : List ℕ} → Reached n o a b d e s old → 2 ^ 64 - 1 ≤ n → Spent a b
 Spent-turns {old = old} p all = record {
   read = p.cut.read;
   consumes = p.cut.consumes;
   many = omega (arith, all, p.many, newlines_many p.lines, ap length p.cut.parts, length-append (with_newlines p.lines) old);
 }
 
-pub Ended-turns : {n : ℕ} {o : Shows} {k : ℕ} {a b d e f : Option (List ℕ)} {s : Point} {old : List ℕ} → Reached n o k a b d e s old → 2 ^ 64 - 1 ≤ n → Keeps e f → ToldEnded o k a b d f
+pub Ended-turns : {n : ℕ} {o : Shows} {a b d e f : Option (List ℕ)} {s : State} {old : List ℕ} → Reached n o a b d e s old → 2 ^ 64 - 1 ≤ n → Keeps e f → ToldEnded o a b d f
 Ended-turns {d = d} {e = e} {f = f} {s = s} {old = old} p all keeps = record {
   lines = p.lines;
   begun = old;

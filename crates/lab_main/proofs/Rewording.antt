@@ -13,7 +13,7 @@ use Rattle.route_core.specs.World.{World}
 use Rattle.route_core.specs.declared.answer.Answer.{Answer}
 use Rattle.lab_main.specs.InWords.{Fits, Replied, Reply, given_of, is_answered, own_words, reply_words, response_bytes, told_text, transcript_text, words_by}
 use Rattle.lab_main.specs.Questions.{is_question, question_of}
-use Rattle.lab_main.specs.Telling.{Obeys, ObeysBy, Point, Says, Tells, Told, answer_to, plainly, shown}
+use Rattle.lab_main.specs.Telling.{Obeys, ObeysBy, Says, State, Tells, Told, answer_to, plainly, shown}
 use Rattle.lab_main.specs.declared.shows.Shows.{Shows}
 use Rattle.lab_main.proofs.Running.{step_of}
 
@@ -91,28 +91,28 @@ abbrev Reworded : Shows → World → ℕ → World → List (List ℕ) → List
 Reworded o old count new lines text = (replies : List Reply) × Replied old lines replies new × (text ≡ told_text o count lines replies)
     × Answered old (flat_map given_of lines) (transcript_text replies) new
 
-first_then : (o : Shows) (old mid new : Point) (line first rest text : List ℕ) (lines : List (List ℕ)) → (tells : Tells o old line first mid) → text ≡ first ++ rest
-    → ReplyTo line tells.body old.state.world mid.state.world
-    → Reworded o mid.state.world mid.state.lines new.state.world lines rest
-    → Reworded o old.state.world old.state.lines new.state.world (line ∷ lines) text
+first_then : (o : Shows) (old mid new : State) (line first rest text : List ℕ) (lines : List (List ℕ)) → (tells : Tells o old line first mid) → text ≡ first ++ rest
+    → ReplyTo line tells.body old.world mid.world
+    → Reworded o mid.world mid.lines new.world lines rest
+    → Reworded o old.world old.lines new.world (line ∷ lines) text
 first_then o old mid new line first rest text lines tells is (r, before, after, fits, body) (replies, replied, same, answered) =
     let told : List ℕ = own_words line r.before ++ reply_words line r in
-    let here : first ≡ shown o (one_more old.state.lines) line told =
-    tells.text_is ∙ ap (λ b. shown o mid.state.lines line b) body ∙ ap (λ n. shown o n line told) tells.lines_are in
-    let later : rest ≡ told_text o (one_more old.state.lines) lines replies =
+    let here : first ≡ shown o (one_more old.lines) line told =
+    tells.text_is ∙ ap (λ b. shown o mid.lines line b) body ∙ ap (λ n. shown o n line told) tells.lines_are in
+    let later : rest ≡ told_text o (one_more old.lines) lines replies =
     same ∙ ap (λ n. told_text o n lines replies) tells.lines_are in (
       r ∷ replies,
-      (before, fits, subst (λ w. Replied w lines replies new.state.world) (sym after) replied),
-      is ∙ ap (λ x. x ++ rest) here ∙ ap (λ x. shown o (one_more old.state.lines) line told ++ x) later,
-      subst (λ w. Answered w (given_of line ++ flat_map given_of lines) (response_bytes r.response ++ transcript_text replies) new.state.world) before
-          (answered_then (is_answered line) line (transcript_text replies) r (flat_map given_of lines) new.state.world fits
-          (subst (λ w. Answered w (flat_map given_of lines) (transcript_text replies) new.state.world) (sym after) answered)),
+      (before, fits, subst (λ w. Replied w lines replies new.world) (sym after) replied),
+      is ∙ ap (λ x. x ++ rest) here ∙ ap (λ x. shown o (one_more old.lines) line told ++ x) later,
+      subst (λ w. Answered w (given_of line ++ flat_map given_of lines) (response_bytes r.response ++ transcript_text replies) new.world) before
+          (answered_then (is_answered line) line (transcript_text replies) r (flat_map given_of lines) new.world fits
+          (subst (λ w. Answered w (flat_map given_of lines) (transcript_text replies) new.world) (sym after) answered)),
     )
 
-pub reworded : (o : Shows) (old new : Point) (lines : List (List ℕ)) (text : List ℕ) → Told o old lines text new
-    → Reworded o old.state.world old.state.lines new.state.world lines text
-reworded o old new [] text (none, is) = ([], ap (λ p. p.state.world) is, none, (refl, ap (λ p. p.state.world) is))
+pub reworded : (o : Shows) (old new : State) (lines : List (List ℕ)) (text : List ℕ) → Told o old lines text new
+    → Reworded o old.world old.lines new.world lines text
+reworded o old new [] text (none, is) = ([], ap (λ p. p.world) is, none, (refl, ap (λ p. p.world) is))
 reworded o old new (line ∷ lines) text (mid, first, rest, tells, is, told) =
     first_then o old mid new line first rest text lines tells is
-    (replied_by (is_question line) (is_passed (kept line)) line tells.body old.state.world mid.state.world old.refused mid.refused refl refl tells.answers)
+    (replied_by (is_question line) (is_passed (kept line)) line tells.body old.world mid.world old.refused mid.refused refl refl tells.answers)
     (reworded o mid new lines rest told)

@@ -12,7 +12,7 @@ use Rattle.route_core.specs.World.{World}
 use Rattle.route_core.specs.declared.answer.Answer.{Answer}
 use Rattle.lab_main.specs.Questions.{is_question, question_of}
 use Rattle.lab_main.specs.Runs.{as_list, command_said}
-use Rattle.lab_main.specs.Telling.{ObeysBy, Point, Says, Told, answer_to, plainly}
+use Rattle.lab_main.specs.Telling.{ObeysBy, Says, State, Told, answer_to, plainly}
 use Rattle.lab_main.specs.declared.shows.Shows.{Shows}
 
 -- the turns of some commands
@@ -45,11 +45,11 @@ run_then : (a b : List Command) (old mid new : World) → RunOf a old mid → Ru
 run_then a b old mid new (s, is, runs) (t, are, more) =
     (s ++ t, map-append (λ u. u.command) s t ∙ ap (λ c. c ++ commands_of t) is ∙ ap (λ c. a ++ c) are, runs_then old mid new s t runs more)
 
-pub run_of : (o : Shows) (old new : Point) (lines : List (List ℕ)) (text : List ℕ) → Told o old lines text new
-    → (turns : List Turn) × (commands_of turns ≡ flat_map command_said lines) × Runs old.state.world turns new.state.world
-run_of o old new [] text (none, is) = ([], refl, ap (λ p. p.state.world) is)
+pub run_of : (o : Shows) (old new : State) (lines : List (List ℕ)) (text : List ℕ) → Told o old lines text new
+    → (turns : List Turn) × (commands_of turns ≡ flat_map command_said lines) × Runs old.world turns new.world
+run_of o old new [] text (none, is) = ([], refl, ap (λ p. p.world) is)
 run_of o old new (line ∷ lines) text (mid, first, rest, tells, is, told) =
-    run_then (command_said line) (flat_map command_said lines) old.state.world mid.state.world new.state.world
-    (answered (plain_of line) (plainly line) tells.body (answer_to (question_of line) old.state.world) old.state.world mid.state.world (is_question line)
+    run_then (command_said line) (flat_map command_said lines) old.world mid.world new.world
+    (answered (plain_of line) (plainly line) tells.body (answer_to (question_of line) old.world) old.world mid.world (is_question line)
     (is_passed (kept line)) (command_of (plain_of line)) old.refused mid.refused tells.answers)
     (run_of o mid new lines rest told)

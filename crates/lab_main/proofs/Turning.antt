@@ -20,6 +20,11 @@ world_stays On s t is = ap (λ x. x.world) is
 world_stays Bad s t is = ap (λ x. x.world) is
 world_stays Quit s t is = ap (λ x. x.world) is
 
+pub refused_stays : (turn : Turn) (s t : State) → Took turn s t → t.refused ≡ s.refused
+refused_stays On s t is = ap (λ x. x.refused) is
+refused_stays Bad s t is = ap (λ x. x.refused) is
+refused_stays Quit s t is = ap (λ x. x.refused) is
+
 pub lines_taken : (turn : Turn) (s t : State) → Took turn s t → t.lines ≡ one_more s.lines
 lines_taken On s t is = ap (λ x. x.lines) is
 lines_taken Bad s t is = ap (λ x. x.lines) is

@@ -1,12 +1,13 @@
 -- What a run with an outcome did to its reader, which had `before` and has `after` left, and to its writer, which held `old`
 -- and holds `new`.
-use Rattle.std.specs.Prelude.{◌≡◌, ◌≢◌, ◌⊎◌, Bool, true, false, List, [], ◌∷◌, ◌++◌, ℕ, Option}
+use Rattle.std.specs.Prelude.{◌≡◌, ◌≢◌, ◌≤◌, ◌⊎◌, Bool, true, false, List, [], ◌∷◌, ◌++◌, ℕ, Option, length}
 use Rattle.std.specs.Io.KnownBytes.{Appends, Consumes, IsAtEnd, Keeps}
 use Rattle.event_file.specs.Lines.{AreLines, has_newline, with_newlines}
 use Rattle.program_ends.specs.declared.outcome.Outcome.{Outcome}
 use Rattle.program_ends.specs.declared.outcome.Outcome.TheVariants.{Done, BadLine, ReadFault, WriteFault, NoMemory}
 use Rattle.line_reader.specs.Given.{Spent}
-use Rattle.lab_main.specs.Telling.{Point, Told, fresh, if_any, point}
+use Rattle.line_reader.specs.declared.reader.TheConstants.{READ_ROOM}
+use Rattle.lab_main.specs.Telling.{State, Told, fresh, if_any}
 use Rattle.lab_main.specs.Texts.{ending}
 use Rattle.lab_main.specs.declared.shows.Shows.{Shows}
 
@@ -31,62 +32,61 @@ pub record CutLast (before after : Option (List ℕ)) (lines : List (List ℕ)) 
 abbrev pub AreFirst : Option (List ℕ) → Option (List ℕ) → List (List ℕ) → List ℕ → Type 0
 AreFirst before after lines behind = Cut before after lines behind ⊎ (CutLast before after lines × (behind ≡ []))
 
--- and they are all, or those up to the one by which the text was quit
-abbrev pub AreAll : Option (List ℕ) → Option (List ℕ) → List (List ℕ) → Point → Type 0
+-- and they are all; or those up to the one by which the text was quit, behind which no more was read than at once with it
+abbrev pub AreAll : Option (List ℕ) → Option (List ℕ) → List (List ℕ) → State → Type 0
 AreAll before after lines last = (behind : List ℕ) × AreFirst before after lines behind
-    × ((last.state.over ≡ true) ⊎ ((behind ≡ []) × IsAtEnd after))
+    × (((last.over ≡ true) × (length behind ≤ READ_ROOM)) ⊎ ((behind ≡ []) × IsAtEnd after))
 
 -- all lines were told, and then what is told behind them; some line was bad or none was
-pub record ToldAll (o : Shows) (count : ℕ) (before after old new : Option (List ℕ)) (bad : Bool) : Type 0 where
+pub record ToldAll (o : Shows) (before after old new : Option (List ℕ)) (bad : Bool) : Type 0 where
   pub lines : List (List ℕ)
   pub text : List ℕ
-  pub last : Point
+  pub last : State
   pub all : AreAll before after lines last
-  pub told : Told o (point fresh count) lines text last
-  pub bad_is : if_any last.state.bad ≡ bad
-  pub appends : Appends old new (text ++ ending last.state.bad)
+  pub told : Told o fresh lines text last
+  pub bad_is : if_any last.bad ≡ bad
+  pub appends : Appends old new (text ++ ending last.bad)
 
 -- exactly the lines that were read to their ends were told, or as many as there are turns
-pub record ToldEnded (o : Shows) (count : ℕ) (before after old new : Option (List ℕ)) : Type 0 where
+pub record ToldEnded (o : Shows) (before after old new : Option (List ℕ)) : Type 0 where
   pub lines : List (List ℕ)
   pub begun : List ℕ
   pub text : List ℕ
-  pub last : Point
+  pub last : State
   pub cut : Cut before after lines begun
   pub whole : (has_newline begun ≡ false) ⊎ Spent before after
-  pub told : Told o (point fresh count) lines text last
+  pub told : Told o fresh lines text last
   pub appends : Appends old new text
 
 -- what was written stands before an unwritten rest of what may be told of lines that were read, and behind all of them
-pub record ToldFront (o : Shows) (count : ℕ) (before after old new : Option (List ℕ)) : Type 0 where
+pub record ToldFront (o : Shows) (before after old new : Option (List ℕ)) : Type 0 where
   pub lines : List (List ℕ)
   pub behind : List ℕ
   pub text : List ℕ
-  pub last : Point
+  pub last : State
   pub written : List ℕ
   pub unwritten : List ℕ
   pub first : AreFirst before after lines behind
-  pub told : Told o (point fresh count) lines text last
-  pub whole : text ++ ending last.state.bad ≡ written ++ unwritten
+  pub told : Told o fresh lines text last
+  pub whole : text ++ ending last.bad ≡ written ++ unwritten
   pub appends : Appends old new written
 
 -- exactly these lines were told, to their ends, of those that were read
-pub record ToldLines (o : Shows) (count : ℕ) (before after old new : Option (List ℕ)) : Type 0 where
+pub record ToldLines (o : Shows) (before after old new : Option (List ℕ)) : Type 0 where
   pub lines : List (List ℕ)
   pub behind : List ℕ
   pub text : List ℕ
-  pub last : Point
+  pub last : State
   pub first : AreFirst before after lines behind
-  pub told : Told o (point fresh count) lines text last
+  pub told : Told o fresh lines text last
   pub appends : Appends old new text
 
--- memory was refused so often before the run
-abbrev pub Ends : Shows → ℕ → Outcome → Option (List ℕ) → Option (List ℕ) → Option (List ℕ) → Option (List ℕ) → Type 0
-Ends o count Done before after old new = ToldAll o count before after old new false
-Ends o count BadLine before after old new = ToldAll o count before after old new true
-Ends o count ReadFault before after old new = ToldEnded o count before after old new
-Ends o count WriteFault before after old new = ToldFront o count before after old new
-Ends o count NoMemory before after old new = ToldLines o count before after old new
+abbrev pub Ends : Shows → Outcome → Option (List ℕ) → Option (List ℕ) → Option (List ℕ) → Option (List ℕ) → Type 0
+Ends o Done before after old new = ToldAll o before after old new false
+Ends o BadLine before after old new = ToldAll o before after old new true
+Ends o ReadFault before after old new = ToldEnded o before after old new
+Ends o WriteFault before after old new = ToldFront o before after old new
+Ends o NoMemory before after old new = ToldLines o before after old new
 
 -- ---- behind the last line
 

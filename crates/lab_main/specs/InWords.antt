@@ -13,7 +13,7 @@ use Rattle.route_core.specs.World.{World}
 use Rattle.route_core.specs.declared.answer.Answer.{Answer}
 use Rattle.world_words.specs.Answers.{answer_words}
 use Rattle.lab_main.specs.Questions.{is_question, question_of}
-use Rattle.lab_main.specs.Telling.{Point, Told, answer_to, fault_words, plainly, shown}
+use Rattle.lab_main.specs.Telling.{State, Told, answer_to, fault_words, plainly, shown}
 use Rattle.lab_main.specs.declared.shows.Shows.{Shows}
 
 -- a line, between two worlds, and how routesim responds to its plain line; to a question, an empty line and a comment it
@@ -82,7 +82,7 @@ Replied old (line ∷ lines) (r ∷ replies) new =
 
 -- lines that are told have replies whose words are told, and whose bytes are a transcript of their plain lines
 abbrev pub ToldInWords : Type 0
-ToldInWords = (o : Shows) (old new : Point) (lines : List (List ℕ)) (text : List ℕ) → Told o old lines text new
-    → (replies : List Reply) × Replied old.state.world lines replies new.state.world
-    × (text ≡ told_text o old.state.lines lines replies)
-    × Answered old.state.world (flat_map given_of lines) (transcript_text replies) new.state.world
+ToldInWords = (o : Shows) (old new : State) (lines : List (List ℕ)) (text : List ℕ) → Told o old lines text new
+    → (replies : List Reply) × Replied old.world lines replies new.world
+    × (text ≡ told_text o old.lines lines replies)
+    × Answered old.world (flat_map given_of lines) (transcript_text replies) new.world

@@ -6,7 +6,7 @@ use Rattle.plain_lines.specs.PlainLines.{plain_of}
 use Rattle.route_core.specs.Commands.{Command}
 use Rattle.route_core.specs.Undisturbed.{Runs, Turn, commands_of}
 use Rattle.lab_main.specs.Questions.{is_question}
-use Rattle.lab_main.specs.Telling.{Point, Told}
+use Rattle.lab_main.specs.Telling.{State, Told}
 use Rattle.lab_main.specs.declared.shows.Shows.{Shows}
 
 abbrev pub as_list : Option Command → List Command
@@ -20,5 +20,5 @@ command_said line =
 
 -- the machine goes from the world before lines that are told to the world behind them by the commands that they say
 abbrev pub ToldIsRun : Type 0
-ToldIsRun = (o : Shows) (old new : Point) (lines : List (List ℕ)) (text : List ℕ) → Told o old lines text new
-    → (turns : List Turn) × (commands_of turns ≡ flat_map command_said lines) × Runs old.state.world turns new.state.world
+ToldIsRun = (o : Shows) (old new : State) (lines : List (List ℕ)) (text : List ℕ) → Told o old lines text new
+    → (turns : List Turn) × (commands_of turns ≡ flat_map command_said lines) × Runs old.world turns new.world

@@ -33,25 +33,23 @@ use Rattle.lab_main.specs.declared.questions.Question.{Question}
 use Rattle.lab_main.specs.declared.questions.Question.TheVariants.{Table, Tree, Find, Why, Interfaces, Sockets, Help, HelpOn, Quit}
 use Rattle.lab_main.specs.declared.shows.Shows.{Shows}
 
--- what stands between two lines: the world, how many lines were told, the numbers of those that were bad, and whether
--- `?quit` was among them
+-- a world, and how often it was refused memory until then
+pub record Point : Type 0 where
+  pub world : World
+  pub refused : ℕ
+
+-- what stands between two lines: the world, how often it was refused memory until then, how many lines were told, the numbers
+-- of those that were bad, and whether `?quit` was among them
 pub record State : Type 0 where
   pub world : World
+  pub refused : ℕ
   pub lines : ℕ
   pub bad : List ℕ
   pub over : Bool
 
 -- before the first line
 abbrev pub fresh : State
-fresh = record { world = empty_world; lines = 0; bad = []; over = false }
-
--- a state, and how often memory was refused until then
-pub record Point : Type 0 where
-  pub state : State
-  pub refused : ℕ
-
-abbrev pub point : State → ℕ → Point
-point state refused = record { state = state; refused = refused }
+fresh = record { world = empty_world; refused = 0; lines = 0; bad = []; over = false }
 
 -- ---- a question
 
@@ -140,20 +138,20 @@ shown o number line body =
     (if o.echo then echoed number line else [])
     ++ (if not o.done && bytes_eq body (codes "ok\n") then [] else indented body)
 
--- a line may be told so at one point, and the next is then the other
-pub record Tells (o : Shows) (old : Point) (line text : List ℕ) (new : Point) : Type 0 where
+-- a line may be told so in one state, and the next is then the other
+pub record Tells (o : Shows) (old : State) (line text : List ℕ) (new : State) : Type 0 where
   pub body : List ℕ
-  pub answers : Answers old.state.world line body new.state.world old.refused new.refused
-  pub text_is : text ≡ shown o new.state.lines line body
-  pub lines_are : new.state.lines ≡ one_more old.state.lines
-  pub bad_are : new.state.bad ≡ old.state.bad ++ (if is_bad line then new.state.lines ∷ [] else [])
-  pub over_is : new.state.over ≡ (old.state.over || is_quit line)
+  pub answers : Answers old.world line body new.world old.refused new.refused
+  pub text_is : text ≡ shown o new.lines line body
+  pub lines_are : new.lines ≡ one_more old.lines
+  pub bad_are : new.bad ≡ old.bad ++ (if is_bad line then new.lines ∷ [] else [])
+  pub over_is : new.over ≡ (old.over || is_quit line)
 
 -- ---- lines one after another
 
-abbrev pub Told : Shows → Point → List (List ℕ) → List ℕ → Point → Type 0
+abbrev pub Told : Shows → State → List (List ℕ) → List ℕ → State → Type 0
 Told o old [] text new = (text ≡ []) × (new ≡ old)
-Told o old (line ∷ lines) text new = (mid : Point) × (first rest : List ℕ) × Tells o old line first mid
+Told o old (line ∷ lines) text new = (mid : State) × (first rest : List ℕ) × Tells o old line first mid
     × (text ≡ first ++ rest) × Told o mid lines rest new
 
 -- some line was bad

@@ -20,7 +20,7 @@ pub record ComesTo (line : List ℕ) (turn : Turn) : Type 0 where
   pub bad : is_bad_turn turn ≡ is_bad line
   pub last : is_last_turn turn ≡ is_quit line
 
--- what stays is the world
+-- the world stays, and what it was refused
 abbrev pub taken : Turn → State → State
 taken On s = record s { lines = one_more s.lines }
 taken Bad s = record s { lines = one_more s.lines; bad = s.bad ++ one_more s.lines ∷ [] }

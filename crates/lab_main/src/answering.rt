@@ -1,5 +1,5 @@
 //! What is answered to a line.
-ghost use Rattle.std.specs.Prelude.{◌≡◌, ◌<◌, ◌≤◌, ◌++◌, [], false, IfOk, OnErr, OnOk, Some, is_err, is_none, length};
+ghost use Rattle.std.specs.Prelude.{◌≡◌, ◌++◌, [], false, IfOk, OnOk, Some, is_err, is_none};
 ghost use Rattle.event_file.specs.Grammar.{command_of};
 ghost use Rattle.lab_main.specs.Telling.{Answers, Obeys, answer_to, pairs_of, plainly};
 ghost use Rattle.lab_main.specs.Questions.{ends_all};
@@ -9,18 +9,19 @@ ghost use Rattle.plain_lines.specs.PlainLines.{plain_of};
 ghost use Rattle.tree_pictures.specs.Dot.{graph_text};
 ghost use Rattle.tree_pictures.specs.Svg.{svg_text};
 
+use crate::machine::Machine;
 use crate::questions::{Question, is_question, question_of};
-use crate::texts::{put_fault, put_help, put_no_question};
+use crate::texts::{put_help, put_no_question};
 use crate::visible::put_plainly;
-use event_file::{is_passed, read_said};
+use event_file::is_passed;
 use lab_text::Text;
 use line_faults::put_help_on;
 use memory::Memory;
 use plain_lines::put_plain;
-use route_core::{MOST_WRITTEN, Room, World};
+use route_core::World;
 use std::alloc::{AllocError, Global};
 use tree_pictures::{Pair, put_find, put_graph, put_svg, put_tree};
-use world_words::{put_agreeing, put_answer, put_interfaces, put_sockets, put_table};
+use world_words::{put_agreeing, put_interfaces, put_sockets, put_table};
 
 /// What a line came to.
 #[derive(Clone, Copy, Debug, PartialEq, Eq)]
@@ -36,49 +37,42 @@ pub(crate) enum Turn {
 /// Puts what is answered to a line in the place of no text.
 pub(crate) fn answer_line(
     alloc: Global,
-    world: &mut World,
-    written: &mut [u8],
-    room: &mut Room,
+    machine: &mut Machine,
     line: &[u8],
     body: &mut Text,
     memory: &mut Memory,
 ) -> Result<Turn, AllocError>
-    requires written { length written.old ≡ MOST_WRITTEN }
-    requires empty { body.old ≡ [] }
-    ensures answers { OnOk result (Answers world.old line.now body.new world.new memory.old memory.new) }
+    requires { body.old ≡ [] }
+    ensures answers { OnOk result (Answers machine.old.world line.now body.new machine.new.world machine.old.refused machine.new.refused) }
     ensures turn { IfOk result (λ turn. ComesTo line.now turn) }
-    ensures rises { OnOk result (memory.old ≤ memory.new) }
-    ensures short { OnErr result (memory.old < memory.new) }
+    ensures counted { Rises (is_err result) memory.old memory.new }
 {
     if is_question(line) {
-        return answer_question(alloc, world, question_of(line), body, memory);
+        return answer_question(alloc, &mut machine.world, question_of(line), body, memory);
     }
     if is_passed(line) {
         return Ok(Turn::On);
     }
-    answer_command(alloc, world, written, room, line, body, memory)
+    answer_command(alloc, machine, line, body, memory)
 }
 
 /// Obeys a line by its plain line, which is told before where it is another.
 fn answer_command(
     alloc: Global,
-    world: &mut World,
-    written: &mut [u8],
-    room: &mut Room,
+    machine: &mut Machine,
     line: &[u8],
     body: &mut Text,
     memory: &mut Memory,
 ) -> Result<Turn, AllocError>
-    requires written { length written.old ≡ MOST_WRITTEN }
-    requires empty { body.old ≡ [] }
-    ensures obeys { OnOk result (Obeys world.old (plain_of line.now) (plainly line.now) body.new world.new memory.old memory.new) }
+    requires { body.old ≡ [] }
+    ensures obeys { OnOk result (Obeys machine.old.world (plain_of line.now) (plainly line.now) body.new machine.new.world
+        machine.old.refused machine.new.refused) }
     ensures turn { IfOk result (λ turn. (is_bad_turn turn ≡ is_none (command_of (plain_of line.now))) × (is_last_turn turn ≡ false)) }
-    ensures rises { OnOk result (memory.old ≤ memory.new) }
-    ensures short { OnErr result (memory.old < memory.new) }
+    ensures counted { Rises (is_err result) memory.old memory.new }
 {
     let mut plain = Text::new(alloc);
     tell_plain(line, &mut plain, body, memory)?;
-    obey(alloc, world, written, room, &plain, body, memory)
+    machine.obey(alloc, &plain, body, memory)
 }
 
 /// Makes the plain line of a line, and appends it to what is told where it is another.
@@ -98,31 +92,6 @@ fn tell_plain(
     }
     put_plainly(body, plain.as_bytes(), memory)?;
     Ok(())
-}
-
-/// Obeys a plain line and appends what that is answered, or which of its words is wrong.
-fn obey(
-    alloc: Global,
-    world: &mut World,
-    written: &mut [u8],
-    room: &mut Room,
-    line: &Text,
-    body: &mut Text,
-    memory: &mut Memory,
-) -> Result<Turn, AllocError>
-    requires { length written.old ≡ MOST_WRITTEN }
-    ensures obeys { OnOk result (Obeys world.old line.now body.old body.new world.new memory.old memory.new) }
-    ensures turn { IfOk result (λ turn. (is_bad_turn turn ≡ is_none (command_of line.now)) × (is_last_turn turn ≡ false)) }
-    ensures rises { OnOk result (memory.old ≤ memory.new) }
-    ensures short { OnErr result (memory.old < memory.new) }
-{
-    let Some(said) = &read_said(line.as_bytes(), written) else {
-        put_fault(body, line.as_bytes(), memory)?;
-        return Ok(Turn::Bad);
-    };
-    let answer = world.obey_counted(said, room, memory);
-    put_answer(body, said, &answer, world, alloc, memory)?;
-    Ok(Turn::On)
 }
 
 /// Appends the answer to a question, or which questions there are.

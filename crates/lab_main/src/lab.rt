@@ -1,62 +1,60 @@
-//! A world to which lines are told, and what is told of each.
-ghost use Rattle.std.specs.Prelude.{◌≡◌, ◌<◌, ◌≤◌, ◌++◌, [], IfOk, OnErr, OnOk, is_err};
-ghost use Rattle.lab_main.specs.Telling.{Tells, fresh, if_any, point};
+//! A machine to which lines are told, and what is told of each.
+ghost use Rattle.std.specs.Prelude.{◌≡◌, ◌++◌, IfOk, OnOk, is_err};
+ghost use Rattle.lab_main.specs.Telling.{Tells, fresh, if_any};
 ghost use Rattle.lab_main.specs.Texts.{ending};
 ghost use Rattle.lab_main.specs.Turns.{Took};
 ghost use Rattle.memory.specs.Refusing.{Rises};
 
 use crate::answering::{Turn, answer_line};
+use crate::machine::Machine;
 use crate::shows::Shows;
 use crate::texts::{put_ending, put_shown};
 use lab_text::Text;
 use memory::Memory;
-use route_core::{MOST_WRITTEN, Room, World};
 use std::alloc::{AllocError, Global};
 use std::marker::Model;
 
-/// A world to which lines are told. A contract sees the world, how many lines were told, which of them were bad, and
-/// whether it is over.
+/// A machine to which lines are told. A contract sees its world and what that was refused, how many lines were told, which of
+/// them were bad, and whether it is over.
 #[derive(Drop)]
 pub(crate) struct Lab {
-    pub(crate) world: World,
+    pub(crate) machine: Machine,
     lines: u64,
     bad: Vec<u64>,
     over: bool,
-    /// For the bytes that are written to a socket.
-    written: Vec<u8>,
-    /// For the messages that are read from one.
-    room: Room,
     alloc: Global,
 }
 
 impl Model for Lab {
-    ghost use Rattle.std.specs.Prelude.{◌≡◌, length};
-    ghost use Rattle.route_core.specs.declared.written.TheConstants.{MOST_WRITTEN};
     ghost use Rattle.lab_main.specs.Telling.{State};
 
     ghost Value = { State };
 
-    ghost view = { λ l. record { world = l.world; lines = l.lines; bad = l.bad.items; over = l.over } };
-
-    ghost invariant = { λ l. length l.written.items ≡ MOST_WRITTEN };
+    ghost view = { λ l. record {
+      world = l.machine.world;
+      refused = l.machine.refused;
+      lines = l.lines;
+      bad = l.bad.items;
+      over = l.over;
+    } };
 }
 
 impl Lab {
     /// An empty world, to which no line was told.
-    pub(crate) fn new(alloc: Global, memory: &mut Memory) -> Result<Lab, AllocError>
+    pub(crate) fn new(
+        alloc: Global,
+        refusals: Memory,
+        memory: &mut Memory,
+    ) -> Result<Lab, AllocError>
+        requires { refusals ≡ 0 }
         ensures fresh { IfOk result (λ lab. lab ≡ fresh) }
         ensures counted { Rises (is_err result) memory.old memory.new }
     {
-        let world = World::new_counted(alloc, memory)?;
-        let written = memory.zeros(alloc, MOST_WRITTEN)?;
-        let room = Room::new(alloc, memory)?;
         Ok(Lab {
-            world,
+            machine: Machine::new(alloc, refusals, memory)?,
             lines: 0,
             bad: Vec::new(alloc),
             over: false,
-            written,
-            room,
             alloc,
         })
     }
@@ -70,21 +68,12 @@ impl Lab {
         text: &mut Text,
         memory: &mut Memory,
     ) -> Result<(), AllocError>
-        ensures told { OnOk result (Tells shows (point self.old memory.old) line.now text.new (point self.new memory.new)) }
-        ensures rises { OnOk result (memory.old ≤ memory.new) }
-        ensures short { OnErr result (memory.old < memory.new) }
+        ensures told { OnOk result (Tells shows self.old line.now text.new self.new) }
+        ensures counted { Rises (is_err result) memory.old memory.new }
     {
         body.clear();
         text.clear();
-        let turn = answer_line(
-            self.alloc,
-            &mut self.world,
-            &mut self.written,
-            &mut self.room,
-            line,
-            body,
-            memory,
-        )?;
+        let turn = answer_line(self.alloc, &mut self.machine, line, body, memory)?;
         self.take(turn, memory)?;
         put_shown(shows, self.lines, line, body.as_bytes(), text, memory)?;
         Ok(())

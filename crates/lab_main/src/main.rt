@@ -4,6 +4,7 @@
 mod answering;
 mod lab;
 mod laws;
+mod machine;
 mod noting;
 mod pictures;
 mod program;
@@ -30,7 +31,9 @@ fn main(rt: HostRuntime) -> ExitCode {
     match asked_by(rt.alloc(), words.as_slice()) {
         Ok(asked) => {
             let at_terminal = rt.stdin().is_terminal();
-            end_of_run(&rt, &asked, at_terminal, &mut Memory::new())
+            // what the machine is refused is counted apart from what texts are
+            let (machine, mut texts) = (Memory::new(), Memory::new());
+            end_of_run(&rt, &asked, at_terminal, machine, &mut texts)
         }
         Err(error) => end_refused(&rt, &error),
     }

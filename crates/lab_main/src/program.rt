@@ -20,14 +20,18 @@ use std::process::ExitCode;
 use std::rt::Files;
 
 /// Tells the lines of the text that is asked for, writes the pictures that are, and answers the exit status. `at_terminal`
-/// says that standard input is one: then there is a prompt, and no line is shown again.
+/// says that standard input is one: then there is a prompt, and no line is shown again. The machine's refusals of memory are
+/// counted in `refusals`, and those of texts in `memory`.
 pub(crate) fn end_of_run<R: Files + Input + Print + Eprint + AllocGlobal>(
     rt: &R,
     asked: &Asked<'_>,
     at_terminal: bool,
+    refusals: Memory,
     memory: &mut Memory,
-) -> ExitCode {
-    let outcome = run_asked(rt, asked, at_terminal, memory);
+) -> ExitCode
+    requires { refusals ≡ 0 }
+{
+    let outcome = run_asked(rt, asked, at_terminal, refusals, memory);
     if outcome == Outcome::NoMemory {
         let _ = eprintln!(rt; "{PROGRAM}: {}", fault_text(outcome));
     }
@@ -39,15 +43,18 @@ fn run_asked<R: Files + Input + Print + Eprint + AllocGlobal>(
     rt: &R,
     asked: &Asked<'_>,
     at_terminal: bool,
+    refusals: Memory,
     memory: &mut Memory,
-) -> Outcome {
-    let Ok(mut lab) = Lab::new(rt.alloc(), memory) else {
+) -> Outcome
+    requires { refusals ≡ 0 }
+{
+    let Ok(mut lab) = Lab::new(rt.alloc(), refusals, memory) else {
         return Outcome::NoMemory;
     };
     let outcome = tell_text(rt, asked, at_terminal, &mut lab, memory);
     match outcome {
         Outcome::Done | Outcome::BadLine => {
-            match write_pictures(rt, asked, &mut lab.world, memory) {
+            match write_pictures(rt, asked, &mut lab.machine.world, memory) {
                 Ok(()) => outcome,
                 Err(fault) => fault,
             }

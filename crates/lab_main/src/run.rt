@@ -4,8 +4,9 @@ ghost use Rattle.std.specs.Io.KnownBytes.{Appends, Keeps};
 ghost use Rattle.event_file.specs.Output.{Wrote};
 ghost use Rattle.lab_main.specs.Ends.{Ends, Finishes};
 ghost use Rattle.lab_main.specs.Faults.{Broke};
-ghost use Rattle.lab_main.specs.Telling.{Tells, fresh, point};
-ghost use Rattle.line_reader.specs.Given.{Spent};
+ghost use Rattle.lab_main.specs.Telling.{Tells, fresh};
+ghost use Rattle.line_reader.specs.Given.{Spent, wants_memory};
+ghost use Rattle.memory.specs.Refusing.{Rises};
 
 use crate::lab::Lab;
 use crate::shows::Shows;
@@ -40,7 +41,7 @@ pub(crate) fn run<R: Read, W: Write>(
     requires no_write_failure { writer.old.failures ≡ 0 }
 
     // What was read and written is said for each outcome.
-    ensures ends { Ends shows memory.old result (R.remaining reader.old.inner) (R.remaining reader.new.inner)
+    ensures ends { Ends shows result (R.remaining reader.old.inner) (R.remaining reader.new.inner)
         (W.contents writer.old.inner) (W.contents writer.new.inner) }
 
     // Before each read all that was written is flushed, and at the end too.
@@ -55,8 +56,10 @@ pub(crate) fn run<R: Read, W: Write>(
     ensures write_fault { result ≡ Outcome.WriteFault → writer.new.failures ≡ 1 }
     ensures unfailed_writes { result ≢ Outcome.WriteFault → writer.new.failures ≡ 0 }
 
-    // It ends for want of memory only where a growth was refused.
+    // It ends for want of memory where a growth was refused to a text, and only there; but where what was told can't be
+    // flushed then. What the machine was refused is no such want: it is counted with the world, and answered 55.
     ensures no_memory { result ≡ Outcome.NoMemory → memory.old < memory.new }
+    ensures unrefused { result ≢ Outcome.NoMemory → result ≢ Outcome.WriteFault → memory.new ≡ memory.old }
 {
     let Ok(mut lines) = LineReader::new(alloc, memory) else {
         return Outcome::NoMemory;
@@ -78,7 +81,7 @@ fn tell_lines<R: Read, W: Write>(
     requires nothing { lines.old ≡ [] }
     requires no_read_failure { reader.old.failures ≡ 0 }
     requires no_write_failure { writer.old.failures ≡ 0 }
-    ensures ends { Ends shows memory.old result (R.remaining reader.old.inner) (R.remaining reader.new.inner)
+    ensures ends { Ends shows result (R.remaining reader.old.inner) (R.remaining reader.new.inner)
         (W.contents writer.old.inner) (W.contents writer.new.inner) }
     ensures prompt { reader.new.early_reads ≡ reader.old.early_reads }
     ensures flushed { result ≢ Outcome.WriteFault → writer.new.unflushed ≡ false }
@@ -88,6 +91,7 @@ fn tell_lines<R: Read, W: Write>(
     ensures write_fault { result ≡ Outcome.WriteFault → writer.new.failures ≡ 1 }
     ensures unfailed_writes { result ≢ Outcome.WriteFault → writer.new.failures ≡ 0 }
     ensures no_memory { result ≡ Outcome.NoMemory → memory.old < memory.new }
+    ensures unrefused { result ≢ Outcome.NoMemory → result ≢ Outcome.WriteFault → memory.new ≡ memory.old }
 {
     let mut line = Vec::new(alloc);
     let mut texts = Texts {
@@ -130,12 +134,10 @@ fn tell_line<W: Write>(
     memory: &mut Memory,
 ) -> Result<(), Fault>
     requires { writer.old.failures ≡ 0 }
-    ensures told { OnOk result ((said : List ℕ) × Tells shows (point lab.old memory.old) line.now said (point lab.new memory.new)
+    ensures told { OnOk result ((said : List ℕ) × Tells shows lab.old line.now said lab.new
         × Wrote W.contents writer.old writer.new said) }
-    ensures fault { IfErr result (λ fault. Broke W.contents shows fault (point lab.old memory.old) line.now
-        (point lab.new memory.new) writer.old writer.new) }
-    ensures rises { OnOk result (memory.old ≤ memory.new) }
-    ensures no_memory { result ≡ Err Fault.NoMemory → memory.old < memory.new }
+    ensures fault { IfErr result (λ fault. Broke W.contents shows fault lab.old line.now lab.new writer.old writer.new) }
+    ensures counted { Rises (wants_memory result) memory.old memory.new }
 {
     lab.tell(shows, line, &mut texts.body, &mut texts.text, memory)?;
     write_bytes(texts.text.as_bytes(), writer)?;
@@ -156,6 +158,7 @@ fn finish<W: Write>(
     ensures write_fault { result ≡ Outcome.WriteFault → writer.new.failures ≡ 1 }
     ensures unfailed { result ≢ Outcome.WriteFault → writer.new.failures ≡ 0 }
     ensures no_memory { result ≡ Outcome.NoMemory → memory.old < memory.new }
+    ensures unrefused { result ≢ Outcome.NoMemory → result ≢ Outcome.WriteFault → memory.new ≡ memory.old }
 {
     text.clear();
     if lab.put_ending(text, memory).is_err() {

@@ -7,7 +7,8 @@ use Rattle.std.proofs.KnownBytes.{Consumes-kept, Consumes-nil, Consumes-trans}
 use Rattle.event_file.specs.Lines.{first_line, has_newline, is_newline}
 use Rattle.event_file.proofs.LineLemmas.{first_line-no_newline, has_newline-append, newline_at, take-first_line}
 use Rattle.program_ends.specs.Reads.{HasRead}
-use Rattle.line_reader.specs.Given.{Consumed, Parted, Spent, TookLine}
+use Rattle.line_reader.specs.Given.{Consumed, Needed, Parted, Spent, TookLine}
+use Rattle.line_reader.specs.declared.reader.TheConstants.{READ_ROOM}
 
 -- before a read all that is left is behind a line without a byte
 pub Parted-none : (a : Option (List ℕ)) (old : List ℕ) → Parted a a old [] old
@@ -63,6 +64,23 @@ Parted-kept {a} {b} {c} p keeps = record { read = p.read; consumes = Consumes-ke
 pub Consumed-of : {a b : Option (List ℕ)} {old line behind : List ℕ} → Parted a b old line behind → Consumed a b
 Consumed-of p = record { read = p.read; consumes = p.consumes }
 
+-- a read is needed where all that has come is of the line
+pub Needed-read : {a b c : Option (List ℕ)} {old line : List ℕ} (new : List ℕ) → Parted a b old line [] → Consumes b c new → length new ≤ READ_ROOM
+    → Needed a c old
+Needed-read {b = b} {line = line} new p consumes few = record {
+  mid = b;
+  early = p.read;
+  last = new;
+  first = p.consumes;
+  then = consumes;
+  none = ap has_newline (p.parts ∙ append-nil line) ∙ p.whole;
+  one_read = few;
+}
+
+-- one that failed brought nothing
+pub Needed-failed : {a b c : Option (List ℕ)} {old line : List ℕ} → Parted a b old line [] → Keeps b c → Needed a c old
+Needed-failed {a} {b} {c} p keeps = Needed-read [] p (Consumes-kept b b c [] (Consumes-nil b) keeps) (omega arith)
+
 -- at least one byte more was read
 pub HasRead-one : {n : ℕ} {a b c : Option (List ℕ)} (new : List ℕ) → HasRead n a b → Consumes b c new → 1 ≤ length new → HasRead (n + 1) a c
 HasRead-one {n} {a} {b} {c} new p consumes some = record {
@@ -114,6 +132,10 @@ line_cut chunk bytes at end place is found =
 
 pub line_uncut : (bytes : List ℕ) → position is_newline bytes ≡ None → has_newline bytes ≡ false
 line_uncut bytes none = (newline_at bytes None (sym none)).0
+
+-- what stands ahead is of one read
+pub is_of_chunk : (chunk : List ℕ) (at end : ℕ) → end ≤ READ_ROOM → length (take (end - at) (drop at chunk)) ≤ READ_ROOM
+is_of_chunk chunk at end within = omega (arith, within, length-take (end - at) (drop at chunk))
 
 pub nothing_ahead : (chunk : List ℕ) (end : ℕ) → take (end - end) (drop end chunk) ≡ []
 nothing_ahead chunk end = let none : end - end ≡ 0 = omega arith in ap (λ n. take n (drop end chunk)) none

@@ -1,15 +1,26 @@
 -- What a call that asks for the next line did to its reader, which had `before` and has `after` left.
-use Rattle.std.specs.Prelude.{◌≡◌, ◌⊎◌, ◌-◌, ◌^◌, ℕ, Bool, true, false, List, [], ◌∷◌, ◌++◌, Option, Result, Ok, Err}
+use Rattle.std.specs.Prelude.{◌≡◌, ◌≤◌, ◌⊎◌, ◌-◌, ◌^◌, ℕ, Bool, true, false, List, [], ◌∷◌, ◌++◌, length, Option, Result, Ok, Err}
 use Rattle.std.specs.Io.KnownBytes.{Consumes}
 use Rattle.event_file.specs.Lines.{has_newline}
 use Rattle.program_ends.specs.Reads.{HasRead}
 use Rattle.line_reader.specs.declared.fault.Fault.{Fault}
 use Rattle.line_reader.specs.declared.fault.Fault.TheVariants as fault
+use Rattle.line_reader.specs.declared.reader.TheConstants.{READ_ROOM}
 
 -- some bytes were read
 pub record Consumed (before after : Option (List ℕ)) : Type 0 where
   pub read : List ℕ
   pub consumes : Consumes before after read
+
+-- the last read was needed: in what was left over, and was read before it, there is no newline
+pub record Needed (before after : Option (List ℕ)) (old : List ℕ) : Type 0 where
+  pub mid : Option (List ℕ)
+  pub early : List ℕ
+  pub last : List ℕ
+  pub first : Consumes before mid early
+  pub then : Consumes mid after last
+  pub none : has_newline (old ++ early) ≡ false
+  pub one_read : length last ≤ READ_ROOM
 
 -- what was left over before, and then what was read, are the line, which has no newline in it, and what stands behind it
 pub record Parted (before after : Option (List ℕ)) (old line behind : List ℕ) : Type 0 where

@@ -1,8 +1,8 @@
 //! A reader's bytes, cut into lines.
-ghost use Rattle.std.specs.Prelude.{◌≡◌, ◌≢◌, ◌⊎◌, ◌∷◌, [], Ok, Err, IfErr, IfOk, OnOk, is_err, length, position};
+ghost use Rattle.std.specs.Prelude.{◌≡◌, ◌≢◌, ◌≤◌, ◌⊎◌, ◌∷◌, [], Ok, Err, IfErr, IfOk, OnOk, is_err, length, position};
 ghost use Rattle.std.specs.Io.KnownBytes.{Consumes, IsAtEnd, Keeps};
 ghost use Rattle.event_file.specs.Lines.{is_newline};
-ghost use Rattle.line_reader.specs.Given.{Begun, Consumed, Parted, Spent, TookLine, wants_memory};
+ghost use Rattle.line_reader.specs.Given.{Begun, Consumed, Needed, Parted, Spent, TookLine, wants_memory};
 ghost use Rattle.memory.specs.Refusing.{Rises};
 
 use crate::Fault;
@@ -61,8 +61,8 @@ impl LineReader {
         })
     }
 
-    /// Puts the next line in the place of what `line` has, and reads no more than it needs. Before each read the writer is
-    /// flushed, so that who reads it has seen all that was said of the lines before.
+    /// Puts the next line in the place of what `line` has, and reads no more than it needs: only while there is no newline in
+    /// what has come. Before each read the writer is flushed, so that who reads it has seen all that was said of the lines before.
     pub fn next_line<R: Read, W: Write>(
         &mut self,
         line: &mut Vec<u8>,
@@ -81,6 +81,8 @@ impl LineReader {
         ensures begun { result ≡ Err Fault.Read → Begun (R.remaining reader.old.inner) (R.remaining reader.new.inner)
             self.old line.new.items }
         ensures fault { IfErr result (λ _. Consumed (R.remaining reader.old.inner) (R.remaining reader.new.inner)) }
+        ensures needed { (reader.new ≡ reader.old) ⊎ Needed (R.remaining reader.old.inner) (R.remaining reader.new.inner) self.old }
+        ensures ahead { result ≡ Ok Next.Line → length self.new ≤ READ_ROOM }
         ensures keeps { Keeps (W.contents writer.old.inner) (W.contents writer.new.inner) }
         ensures prompt { reader.new.early_reads ≡ reader.old.early_reads }
         ensures read_fault { result ≡ Err Fault.Read → (reader.new.failures ≡ 1)
@@ -110,6 +112,7 @@ impl LineReader {
     /// is none, all that was read.
     fn take_line(&mut self, line: &mut Vec<u8>, memory: &mut Memory) -> Result<bool, AllocError>
         ensures took { IfOk result (λ ended. TookLine ended self.old self.new line.old.items line.new.items) }
+        ensures ahead { length self.new ≤ READ_ROOM }
         ensures counted { Rises (is_err result) memory.old memory.new }
     {
         let bytes = &self.chunk[self.at..self.end];
@@ -138,6 +141,7 @@ impl LineReader {
         requires no_write_failure { writer.old.failures ≡ 0 }
         ensures read { OnOk result (Consumes (R.remaining reader.old.inner) (R.remaining reader.new.inner) self.new) }
         ensures some { IfOk result (λ taken. taken ≡ length self.new) }
+        ensures ahead { length self.new ≤ READ_ROOM }
         ensures end { result ≡ Ok 0 → IsAtEnd (R.remaining reader.new.inner) }
         ensures fault { IfErr result (λ _. Keeps (R.remaining reader.old.inner) (R.remaining reader.new.inner)) }
         ensures stands { IfErr result (λ _. self.new ≡ []) }

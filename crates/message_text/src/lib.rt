@@ -12,8 +12,6 @@ mod pages;
 mod parts;
 mod room;
 mod rows;
-#[cfg(test)]
-mod tests;
 mod texts;
 
 pub use parts::{MessageHeader, address_of, fault_of, header_of};

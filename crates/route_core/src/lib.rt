@@ -16,8 +16,6 @@ mod refusal;
 mod replies;
 mod request;
 mod telling;
-#[cfg(test)]
-mod tests;
 mod told;
 mod tried;
 mod world;

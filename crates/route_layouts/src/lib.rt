@@ -15,8 +15,6 @@ mod numbers;
 mod order;
 mod place;
 mod tables;
-#[cfg(test)]
-mod tests;
 
 pub use addresses::{Converted, MOST_CONVERTED};
 pub use conversion::convert;

@@ -1,44 +1,43 @@
 use Rattle.std.proofs.Common.{◌≢◌, ◌∙◌, ◌∷◌, [], ap, rules, sym, inl, inr, Err}
 use Rattle.std.specs.Io.KnownBytes.{IsAtEnd}
-use Rattle.lab_main.specs.Telling.{point}
 use Rattle.line_reader.proofs.Parting.{Consumed-of}
 use Rattle.line_reader.specs.Given.{Parted}
-use Rattle.lab_main.proofs.Reaching.{Ended-turns, Ends-at_end, Ends-between, Ends-front, Ends-last, Ends-over, Front-last, Front-line, Front-now, Lines-line, Reached-line, Reached-on, Spent-behind, Spent-turns, not_read}
+use Rattle.lab_main.proofs.Reaching.{Ended-turns, Ends-at_end, Ends-between, Ends-front, Ends-last, Ends-over, Front-last, Front-line, Front-now, Lines-line, Reached-kept, Reached-line, Spent-behind, Spent-turns, not_read}
 use Rattle.lab_main.proofs.run.tell_lines.Goals as goal
 
 pub returns-in-Err-tell_line-clause-ends : goal.returns-in-Err-tell_line-clause-ends
 returns-in-Err-tell_line-clause-ends g c =
     let parted : Parted (g.R.Read.remaining c.loop-turn.reader.inner) (g.R.Read.remaining c.next_line.new.reader.inner) c.loop-turn.lines c.deref.result.now (10 ∷ c.next_line.new.self) =
     search rules in
-    let reached = Reached-on c.next_line.new.memory c.loop-turn.invariant.reached c.in-Ok-Line.ensures.keeps (search rules) in
+    let reached = Reached-kept c.loop-turn.invariant.reached c.in-Ok-Line.ensures.keeps in
     Ends-front c.stop.result
     (Front-line g.W.Write.contents c.next_line.new.writer c.tell_line.new.writer (g.W.Write.contents c.stop.new.writer.inner) c.in-Err-tell_line.fault c.deref.result.now c.next_line.new.self
-    (point c.tell_line.new.lab c.tell_line.new.memory) reached parted c.in-Err-tell_line.ensures.fault c.stop.ensures.keeps)
+    c.tell_line.new.lab reached parted c.in-Err-tell_line.ensures.fault c.stop.ensures.keeps)
     (λ is. Lines-line g.W.Write.contents c.next_line.new.writer c.tell_line.new.writer (g.W.Write.contents c.stop.new.writer.inner) c.in-Err-tell_line.fault c.deref.result.now
-    (point c.tell_line.new.lab c.tell_line.new.memory) reached (Consumed-of parted) c.in-Err-tell_line.ensures.fault (c.stop.ensures.no_memory is) c.stop.ensures.keeps)
+    c.tell_line.new.lab reached (Consumed-of parted) c.in-Err-tell_line.ensures.fault (c.stop.ensures.no_memory is) c.stop.ensures.keeps)
     (λ is. not_read g.W.Write.contents _ _ _ _ _ _ c.in-Err-tell_line.fault c.in-Err-tell_line.ensures.fault (c.stop.ensures.read_fault is)) c.stop.ensures.read
 
 pub returns-then-is_over-clause-ends : goal.returns-then-is_over-clause-ends
 returns-then-is_over-clause-ends g c =
     let parted : Parted (g.R.Read.remaining c.loop-turn.reader.inner) (g.R.Read.remaining c.next_line.new.reader.inner) c.loop-turn.lines c.deref.result.now (10 ∷ c.next_line.new.self) =
     search rules in
-    let reached = Reached-on c.next_line.new.memory c.loop-turn.invariant.reached c.in-Ok-Line.ensures.keeps (search rules) in
+    let reached = Reached-kept c.loop-turn.invariant.reached c.in-Ok-Line.ensures.keeps in
     let told = c.in_default.ensures.told in
     Ends-over c.finish.result (g.W.Write.contents c.finish.new.writer.inner)
-    (Reached-line c.deref.result.now c.next_line.new.self told.0 reached parted told.1 told.2.appends) (sym c.is_over.ensures ∙ c.if-is_over.true) c.finish.ensures.ends
+    (Reached-line c.deref.result.now c.next_line.new.self told.0 reached parted told.1 told.2.appends) (sym c.is_over.ensures ∙ c.if-is_over.true) c.in-Ok-Line.ensures.ahead c.finish.ensures.ends
 
 pub returns-in-Err-tell_line-2-clause-ends : goal.returns-in-Err-tell_line-2-clause-ends
 returns-in-Err-tell_line-2-clause-ends g c =
     let line = c.deref-in-Ok-Last.result.now in
     let parted : Parted (g.R.Read.remaining c.loop-turn.reader.inner) (g.R.Read.remaining c.next_line.new.reader.inner) c.loop-turn.lines line []
     × IsAtEnd (g.R.Read.remaining c.next_line.new.reader.inner) × (line ≢ []) = search rules in
-    let reached = Reached-on c.next_line.new.memory c.loop-turn.invariant.reached c.in-Ok-Last.ensures.keeps (search rules) in
+    let reached = Reached-kept c.loop-turn.invariant.reached c.in-Ok-Last.ensures.keeps in
     let stop = c.stop-in-Err-tell_line-2 in
     Ends-front stop.result
     (Front-last g.W.Write.contents c.next_line.new.writer c.tell_line-in-Ok-Last.new.writer (g.W.Write.contents stop.new.writer.inner) c.in-Err-tell_line-2.fault line
-    (point c.tell_line-in-Ok-Last.new.lab c.tell_line-in-Ok-Last.new.memory) reached parted c.in-Err-tell_line-2.ensures.fault stop.ensures.keeps)
+    c.tell_line-in-Ok-Last.new.lab reached parted c.in-Err-tell_line-2.ensures.fault stop.ensures.keeps)
     (λ is. Lines-line g.W.Write.contents c.next_line.new.writer c.tell_line-in-Ok-Last.new.writer (g.W.Write.contents stop.new.writer.inner) c.in-Err-tell_line-2.fault line
-    (point c.tell_line-in-Ok-Last.new.lab c.tell_line-in-Ok-Last.new.memory) reached (Consumed-of parted.0) c.in-Err-tell_line-2.ensures.fault (stop.ensures.no_memory is) stop.ensures.keeps)
+    c.tell_line-in-Ok-Last.new.lab reached (Consumed-of parted.0) c.in-Err-tell_line-2.ensures.fault (stop.ensures.no_memory is) stop.ensures.keeps)
     (λ is. not_read g.W.Write.contents _ _ _ _ _ _ c.in-Err-tell_line-2.fault c.in-Err-tell_line-2.ensures.fault (stop.ensures.read_fault is)) stop.ensures.read
 
 pub returns-in-Ok-Last-clause-ends : goal.returns-in-Ok-Last-clause-ends
@@ -46,7 +45,7 @@ returns-in-Ok-Last-clause-ends g c =
     let line = c.deref-in-Ok-Last.result.now in
     let parted : Parted (g.R.Read.remaining c.loop-turn.reader.inner) (g.R.Read.remaining c.next_line.new.reader.inner) c.loop-turn.lines line []
     × IsAtEnd (g.R.Read.remaining c.next_line.new.reader.inner) × (line ≢ []) = search rules in
-    let reached = Reached-on c.next_line.new.memory c.loop-turn.invariant.reached c.in-Ok-Last.ensures.keeps (search rules) in
+    let reached = Reached-kept c.loop-turn.invariant.reached c.in-Ok-Last.ensures.keeps in
     let told = c.in_default-tell_line.ensures.told in
     Ends-last c.finish-in-Ok-Last.result (g.R.Read.remaining c.next_line.new.reader.inner) (g.W.Write.contents c.tell_line-in-Ok-Last.new.writer.inner)
     (g.W.Write.contents c.finish-in-Ok-Last.new.writer.inner) line told.0 reached parted told.1 told.2.appends c.finish-in-Ok-Last.ensures.ends
@@ -55,7 +54,7 @@ pub returns-in-Ok-End-clause-ends : goal.returns-in-Ok-End-clause-ends
 returns-in-Ok-End-clause-ends g c =
     let parted : Parted (g.R.Read.remaining c.loop-turn.reader.inner) (g.R.Read.remaining c.next_line.new.reader.inner) c.loop-turn.lines [] []
     × IsAtEnd (g.R.Read.remaining c.next_line.new.reader.inner) = search rules in
-    let reached = Reached-on c.next_line.new.memory c.loop-turn.invariant.reached c.in-Ok-End.ensures.keeps (search rules) in
+    let reached = Reached-kept c.loop-turn.invariant.reached c.in-Ok-End.ensures.keeps in
     Ends-at_end c.finish-in-Ok-End.result (g.R.Read.remaining c.next_line.new.reader.inner) (g.W.Write.contents c.finish-in-Ok-End.new.writer.inner) reached parted
     c.finish-in-Ok-End.ensures.ends
 
@@ -84,7 +83,7 @@ pub loop-turn-preserved : goal.loop-turn-preserved
 loop-turn-preserved g c =
     let parted : Parted (g.R.Read.remaining c.loop-turn.reader.inner) (g.R.Read.remaining c.next_line.new.reader.inner) c.loop-turn.lines c.deref.result.now (10 ∷ c.next_line.new.self) =
     search rules in
-    let reached = Reached-on c.next_line.new.memory c.loop-turn.invariant.reached c.in-Ok-Line.ensures.keeps (search rules) in
+    let reached = Reached-kept c.loop-turn.invariant.reached c.in-Ok-Line.ensures.keeps in
     let told = c.in_default.ensures.told in
     record {
       reached = Reached-line c.deref.result.now c.next_line.new.self told.0 reached parted told.1 told.2.appends;

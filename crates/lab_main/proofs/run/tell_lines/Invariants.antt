@@ -1,15 +1,14 @@
-use Rattle.std.proofs.Common.{◌≡◌, ◌≤◌}
+use Rattle.std.proofs.Common.{◌≡◌}
 use Rattle.lab_main.specs.Progress.{Reached}
-use Rattle.lab_main.specs.Telling.{point}
 use Rattle.lab_main.proofs.run.tell_lines.Given as goal
 
 -- the lines so far were told
 abbrev pub invariant-loop-turn : goal.invariant-loop-turn
 invariant-loop-turn g l = record {
-  reached : Reached l._turn l.shows l.initial.memory (g.R.Read.remaining l.initial.reader.inner) (g.R.Read.remaining l.reader.inner)
-      (g.W.Write.contents l.initial.writer.inner) (g.W.Write.contents l.writer.inner) (point l.lab l.memory) l.lines;
+  reached : Reached l._turn l.shows (g.R.Read.remaining l.initial.reader.inner) (g.R.Read.remaining l.reader.inner)
+      (g.W.Write.contents l.initial.writer.inner) (g.W.Write.contents l.writer.inner) l.lab l.lines;
   reads : l.reader.failures ≡ 0;
   writes : l.writer.failures ≡ 0;
   prompt : l.reader.early_reads ≡ l.initial.reader.early_reads;
-  memory : l.initial.memory ≤ l.memory;
+  memory : l.memory ≡ l.initial.memory;
 }

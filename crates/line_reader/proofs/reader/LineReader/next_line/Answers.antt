@@ -1,7 +1,7 @@
 use Rattle.std.proofs.Common.{◌≤◌, [], ℕ, List, length, refl, rules, subst, arith, inl, inr}
 use Rattle.std.proofs.KnownBytes.{Keeps-trans}
 use Rattle.line_reader.specs.Given.{Parted}
-use Rattle.line_reader.proofs.Parting.{HasRead-last, HasRead-one, Parted-ended, Parted-kept, Parted-more, Parted-unended, is_begun, nothing_new}
+use Rattle.line_reader.proofs.Parting.{HasRead-last, HasRead-one, Needed-failed, Needed-read, Parted-ended, Parted-kept, Parted-more, Parted-unended, is_begun, nothing_new}
 use Rattle.line_reader.proofs.reader.LineReader.next_line.Goals as goal
 
 pub returns-then-branch-clause-line : goal.returns-then-branch-clause-line
@@ -15,6 +15,11 @@ returns-in_err-read_more-clause-begun g c = λ _. record {
       c.in_err-read_more.ensures.fault;
   none = inl refl;
 }
+
+pub returns-in_err-read_more-clause-needed : goal.returns-in_err-read_more-clause-needed
+returns-in_err-read_more-clause-needed g c = inr (Needed-failed
+    (Parted-unended c.in_ok-take_line.field-0 _ _ c.if-branch.false c.in_ok-take_line.ensures.took c.loop-turn.invariant.parted)
+    c.in_err-read_more.ensures.fault)
 
 pub returns-else-is_empty-clause-last : goal.returns-else-is_empty-clause-last
 returns-else-is_empty-clause-last g c = λ _.
@@ -32,6 +37,7 @@ loop-turn-preserved g c =
     let some : 1 ≤ length c.read_more.new.self = omega (arith, c.in_ok-read_more.ensures.some, c.if-branch-eq0.false) in
     record {
       parted = Parted-more c.read_more.new.self unended c.in_ok-read_more.ensures.read;
+      needed = inr (Needed-read c.read_more.new.self unended c.in_ok-read_more.ensures.read c.read_more.ensures.ahead);
       many = HasRead-one c.read_more.new.self c.loop-turn.invariant.many c.in_ok-read_more.ensures.read some;
       keeps = Keeps-trans _ _ _ c.loop-turn.invariant.keeps c.read_more.ensures.keeps;
       prompt = search rules;

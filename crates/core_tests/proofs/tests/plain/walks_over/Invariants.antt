@@ -1,5 +1,5 @@
 use Rattle.std.proofs.Common.{◌≡◌}
-use Rattle.route_core.proofs.tests.plain.walks_over.Given as goal
+use Rattle.core_tests.proofs.tests.plain.walks_over.Given as goal
 
 abbrev pub invariant-loop-route : goal.invariant-loop-route
 invariant-loop-route l = l.visits.turn ≡ l.walk.turn

@@ -1,5 +1,5 @@
 //! An address's announcement in each layout, made by a second writing of the layouts.
-use crate::{Converted, System, convert};
+use route_layouts::{Converted, System, convert};
 use std::process::Abort;
 use std::test::Fail;
 

@@ -1,5 +1,5 @@
 //! Messages in words, worked by hand from the tables of docs/FORMATS.md.
-use crate::{MessageHeader, address_of, fault_of, header_of, text_of};
+use message_text::{MessageHeader, address_of, fault_of, header_of, text_of};
 use route_msgs::MsgErr;
 use route_msgs::bits::{RTA_BRD, RTA_NETMASK};
 use std::process::Abort;
