@@ -1,5 +1,5 @@
 //! The way down a tree.
-ghost use Rattle.std.specs.Prelude.{◌≡◌, ℕ, ◌<◌, None};
+ghost use Rattle.std.specs.Prelude.{◌≡◌, ℕ, ◌<◌, IfSome, None};
 ghost use Rattle.radix_nodes.specs.Rooms.{Has};
 ghost use Rattle.radix_nodes.specs.declared.links.Node.{Node as Named};
 ghost use Rattle.radix_tree.specs.Bounds.{way_reads};
@@ -40,40 +40,61 @@ pub(crate) fn leaf_for<V>(nodes: &Nodes<V>, from: Node, address: Inet, visits: &
     }
 }
 
-/// The leaf to which an address's bits lead from a root, by its first room. Where the index has a room near, the way
-/// begins there, and so passes few nodes, most of which an addition changes.
-pub(crate) fn leaf_by_index<V>(
+/// The first room of a leaf that is near an address, where the index has one. Asked for before all else that an addition looks
+/// at, it comes from memory meanwhile.
+pub(crate) fn near_leaf<V>(
     nodes: &Nodes<V>,
     index: &Index,
+    root: Node,
+    address: Inet,
+    visits: &mut Visits,
+) -> Option<Id>
+    requires whole { IsWhole nodes.now.lodged root }
+    requires indexed { Indexes index.now nodes.now.lodged }
+    requires turn { visits.old.turn ≡ nodes.now.turn }
+    ensures there { IfSome result (λ room. Has nodes.now.lodged room) }
+    ensures counter { visits.new.turn ≡ visits.old.turn }
+{
+    match index.near(address, visits) {
+        Some(room) => Some(first_of_chain(nodes, room, visits)),
+        None => None,
+    }
+}
+
+/// The leaf to which an address's bits lead from a root, by its first room. Where a room is near, the way begins there, and so
+/// passes few nodes, most of which an addition changes.
+pub(crate) fn leaf_from<V>(
+    nodes: &Nodes<V>,
+    near: Option<Id>,
     root: Node,
     address: Inet,
     visits: &mut Visits,
 ) -> Id
     requires whole { IsWhole nodes.now.lodged root }
-    requires indexed { Indexes index.now nodes.now.lodged }
+    requires near { IfSome near (λ room. Has nodes.now.lodged room) }
     requires turn { visits.old.turn ≡ nodes.now.turn }
     ensures leaf { (w : IsWhole nodes.now.lodged root) → LedTo address w.part result }
     ensures counter { visits.new.turn ≡ visits.old.turn }
 {
-    let from = node_by_index(nodes, index, root, address, visits);
+    let from = node_from(nodes, near, root, address, visits);
     leaf_for(nodes, from, address, visits)
 }
 
 /// A node on the way of an address from a root.
-fn node_by_index<V>(
+fn node_from<V>(
     nodes: &Nodes<V>,
-    index: &Index,
+    near: Option<Id>,
     root: Node,
     address: Inet,
     visits: &mut Visits,
 ) -> Node
     requires whole { IsWhole nodes.now.lodged root }
-    requires indexed { Indexes index.now nodes.now.lodged }
+    requires near { IfSome near (λ room. Has nodes.now.lodged room) }
     requires turn { visits.old.turn ≡ nodes.now.turn }
     ensures on_way { (w : IsWhole nodes.now.lodged root) → IsOnWay address w.part result }
     ensures counter { visits.new.turn ≡ visits.old.turn }
 {
-    match index.near(address, visits) {
+    match near {
         Some(room) => node_near(nodes, room, address, visits),
         None => root,
     }

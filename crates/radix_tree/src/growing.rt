@@ -1,8 +1,9 @@
 //! How a table's tree gains a route.
-ghost use Rattle.std.specs.Prelude.{◌≡◌, Some, None, IsSome, IfOk, IfErr, OnOk, OnErr};
-ghost use Rattle.radix_tree.specs.Growth.{Gains, IsSpare, HasKeyAt, DiffersAt};
+ghost use Rattle.std.specs.Prelude.{◌≡◌, Some, None, IsSome, IfOk, IfErr, IfSome, OnOk, OnErr};
 ghost use Rattle.radix_nodes.specs.Naming.{number_of};
-ghost use Rattle.radix_tree.specs.Index.{HasPlaceMore, Indexes};
+ghost use Rattle.radix_nodes.specs.Rooms.{Has};
+ghost use Rattle.radix_tree.specs.Growth.{Gains, IsSpare, HasKeyAt, DiffersAt};
+ghost use Rattle.radix_tree.specs.Index.{HasPlaceMore};
 ghost use Rattle.radix_tree.specs.Marks.{HasRoomMore};
 ghost use Rattle.radix_tree.specs.Table.{IsRoute, entry_at};
 ghost use Rattle.radix_tree.specs.Whole.{IsWhole, Holds, shown};
@@ -10,13 +11,12 @@ ghost use Rattle.radix_tree.specs.Reads.{Stays};
 
 use crate::bits::first_difference;
 use crate::chains::insert_in_chain;
-use crate::descent::leaf_by_index;
+use crate::descent::leaf_from;
 use crate::entry::Entry;
 use crate::inserting::insert_beside;
 use crate::linking::lodge_leaf;
 use crate::listing::{list_chain, list_mask};
 use radix_nodes::{Id, Leaf, Node, Nodes, Room, Visits};
-use room_index::Index;
 
 /// Lodges a table's first route, whose leaf is all of the tree, and answers the root and the room.
 fn insert_first<V>(
@@ -111,17 +111,17 @@ fn insert_among<V>(
 }
 
 /// Puts a route into a table's tree, and answers the root and the room from then on. Where the table has its key and
-/// rank, the room and the value come back.
+/// rank, the room and the value come back. A room may be said that is near, from which the way is short.
 pub(crate) fn insert<V>(
     nodes: &mut Nodes<V>,
-    index: &Index,
+    near: Option<Id>,
     root: Option<Node>,
     room: Room<V>,
     entry: Entry<V>,
     visits: &mut Visits,
 ) -> Result<(Node, Id), (Room<V>, V)>
     requires holds { Holds nodes.old.lodged root }
-    requires indexed { Indexes index.now nodes.old.lodged }
+    requires near { IfSome near (λ room. Has nodes.old.lodged room) }
     requires spare { IsSpare nodes.old room }
     requires route { IsRoute entry }
     requires turn { visits.old.turn ≡ nodes.old.turn }
@@ -139,7 +139,7 @@ pub(crate) fn insert<V>(
     let Some(root) = root else {
         return Ok(insert_first(nodes, room, entry, visits));
     };
-    let leaf = leaf_by_index(nodes, index, root, entry.key, visits);
+    let leaf = leaf_from(nodes, near, root, entry.key, visits);
     let key = nodes.links(leaf, visits).leaf().key;
     match first_difference(entry.key, key) {
         Some(bit) => Ok(insert_new(nodes, root, leaf, bit, room, entry, visits)),

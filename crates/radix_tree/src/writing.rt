@@ -8,6 +8,7 @@ ghost use Rattle.radix_tree.specs.Table.{entry_at, best_of, without, with_entry,
 ghost use Rattle.radix_tree.specs.Found.{lent};
 ghost use Rattle.radix_tree.specs.Lending.{lends_value, lends_value_at};
 
+use crate::descent::near_leaf;
 use crate::entry::Entry;
 use crate::finding::{find_best, find_room};
 use crate::growing::insert;
@@ -87,13 +88,16 @@ impl<V: Drop> Table<V> {
         let space = self.nodes.spare(space);
         let at = Snapshot::of(&space);
         let mut visits = self.nodes.begin();
+        let near = match self.root {
+            Some(root) => near_leaf(&self.nodes, &self.index, root, key, &mut visits),
+            None => None,
+        };
         if self.index.find(key, rank, &mut visits).is_some() {
             return Err((Room { space, number }, value));
         }
         let entry = Entry::of(key, rank, value);
         let vacancy = self.index.vacancy(key, rank, &mut visits);
-        let index = &self.index;
-        match insert(&mut self.nodes, index, self.root, space, entry, &mut visits) {
+        match insert(&mut self.nodes, near, self.root, space, entry, &mut visits) {
             Err((space, value)) => Err((Room { space, number }, value)),
             Ok((root, id)) => {
                 self.root = Some(root);

@@ -165,11 +165,14 @@ impl Index {
         }
         self.places.grow(visits);
         self.ranges.follow(&self.places, visits);
-        let Some(place) = self.places.place_for(pair_of(key, rank), visits) else {
+        let pair = pair_of(key, rank);
+        let Some(place) = self.places.place_for(pair, visits) else {
             self.ranges.clear();
             self.given_up = true;
             return None;
         };
+        // ahead too: the memory of its range comes while that of the tree is waited for
+        self.ranges.tell(pair, visits);
         Some(Vacancy { place })
     }
 

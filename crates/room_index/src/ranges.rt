@@ -190,7 +190,7 @@ impl Ranges {
 
     /// Tells the rank of a pair in each range that its network has, or beside them all.
     #[inline(always)]
-    fn tell(&mut self, pair: u64, visits: &mut Visits)
+    pub(crate) fn tell(&mut self, pair: u64, visits: &mut Visits)
         requires { self.old.bits ≤ MOST_BITS }
         ensures told { IsTold self.new pair }
         ensures more { TellsMore self.old self.new }

@@ -1,4 +1,4 @@
-use Rattle.radix_tree.proofs.{Counted.few_held, Counted.counted_more, WholeRoutes.gains_entry, Kept.shown_table}
+use Rattle.radix_tree.proofs.{Counted.few_held, Counted.counted_more, WholeRoutes.gains_entry, Kept.shown_table, Kept.whole_at}
 use Rattle.radix_tree.proofs.IndexChanges.{absent_place, found_named, keeps_itself, named_there, index_begun, index_keeps, index_more, kept_keeps}
 use Rattle.radix_tree.proofs.{Kept.shown_next, Kept.given_begun, Kept.IsNext, GivenNumbers.given_more, routes.Table.add.Goals.In-Ok, routes.Table.add.Goals.After-vacancy-vacancy, routes.Table.add.Goals.Then-is_some}
 use Rattle.radix_tree.proofs.Words.{◌≡◌, ℕ, ◌+◌, ◌<◌, ◌∷◌, Some, None, refl, sym, ap, subst, ◌∙◌, arith, HasOneMore, AreCounted}
@@ -8,6 +8,14 @@ use Rattle.radix_tree.specs.Index.{HasPlaceMore, Indexes, pair, place_of, places
 use Rattle.radix_nodes.specs.Naming.{number_of}
 use Rattle.std.specs.Prelude.{IsSome}
 use Rattle.radix_tree.proofs.routes.Table.add.Goals as goal
+
+pub near_leaf-near-requires-clause-indexed : goal.near_leaf-near-requires-clause-indexed
+near_leaf-near-requires-clause-indexed g c = index_begun c.self.inside.index c.self.inside.nodes c.begin-visits.new.self (grind arith) c.self.invariant.indexed
+
+pub near_leaf-near-requires-clause-whole : goal.near_leaf-near-requires-clause-whole
+near_leaf-near-requires-clause-whole g c =
+    let next : IsNext c.self.inside.nodes c.begin-visits.new.self = grind arith in
+    whole_at _ (subst (λ r. Holds r.lodged c.self.inside.root) (sym next) c.self.invariant.holds) c.in-Some.is
 
 -- ---- a pair that the index has a room for
 begun : (g : _) (c : Then-is_some g) → IsNext c.self.inside.nodes c.begin-visits.new.self
@@ -68,9 +76,6 @@ unplaced g c =
 indexed : (g : _) (c : After-vacancy-vacancy g) → Indexes c.vacancy-vacancy.new.self c.begin-visits.new.self.lodged
 indexed g c = index_keeps c.self.inside.index c.vacancy-vacancy.new.self c.begin-visits.new.self.lodged c.vacancy-vacancy.ensures.keeps
     (index_begun c.self.inside.index c.self.inside.nodes c.begin-visits.new.self (grind arith) c.self.invariant.indexed)
-
-pub insert-requires-clause-indexed : goal.insert-requires-clause-indexed
-insert-requires-clause-indexed g c = indexed g (goal.at.insert-requires-clause-indexed g c).After-vacancy-vacancy
 
 -- so the index has no room for the pair
 pub enter-requires-clause-absent : goal.enter-requires-clause-absent

@@ -1,8 +1,8 @@
-use Rattle.std.proofs.Common.{not, sym, subst, refl, true≢false, ◌∙◌}
+use Rattle.std.proofs.Common.{not, rules, sym, subst, refl, true≢false, ◌∙◌}
 use Rattle.std.specs.Prelude.{IsSome}
 use Rattle.room_index.proofs.Filing.{same_then}
 use Rattle.room_index.proofs.Naming.{held, keeps, none_told}
-use Rattle.room_index.proofs.Ranging.{told_fewer}
+use Rattle.room_index.proofs.Ranging.{told_fewer, told_more}
 use Rattle.room_index.specs.Names.{Keeps}
 use Rattle.room_index.proofs.index.Index.vacancy.Goals as goal
 
@@ -16,8 +16,8 @@ returns-clause-keeps c =
     (keeps c.self.inside.places c.place_for.new.self (not c.self.inside.given_up) (same_then c.self.inside.places c.grow.new.self c.place_for.new.self c.grow.ensures.same found))
 
 -- where there is no place for it, nothing is left
-pub invariant_of-self-in_default : goal.invariant_of-self-in_default
-invariant_of-self-in_default c = record {
+pub invariant_of-self : goal.invariant_of-self
+invariant_of-self c = record {
   table = c.place_for.ensures.table;
   none = λ up. c.in_default.ensures.none;
   by_range = c.clear.ensures.ranges;
@@ -26,14 +26,15 @@ invariant_of-self-in_default c = record {
 }
 
 -- the pair has a place now, and what was told is told of the same entries
-pub invariant_of-self : goal.invariant_of-self
-invariant_of-self c =
+pub invariant_of-self-2 : goal.invariant_of-self-2
+invariant_of-self-2 c =
     let found = c.place_for.ensures.same (subst IsSome (sym c.in-Some.is) refl) in
     record {
       table = c.place_for.ensures.table;
       -- it wasn't given up
       none = λ up. absurd (true≢false (sym up ∙ c.if-self.false));
-      by_range = c.follow.ensures.ranges;
-      within = λ e has. found.kept e (c.follow.ensures.within e has);
-      told = told_fewer c.follow.new.self c.grow.new.self c.place_for.new.self c.follow.ensures.told found.had;
+      by_range = search rules;
+      within = λ e has. found.kept e (c.follow.ensures.within e (search rules));
+      told = λ e at. told_more c.follow.new.self c.tell.new.self e.pair c.tell.ensures.more
+          (told_fewer c.follow.new.self c.grow.new.self c.place_for.new.self c.follow.ensures.told found.had e at);
     }

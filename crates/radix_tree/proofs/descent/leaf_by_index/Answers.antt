@@ -1,8 +1,0 @@
-use Rattle.radix_tree.proofs.{Nearing.led_on}
-use Rattle.radix_tree.proofs.descent.leaf_by_index.Goals as goal
-
-pub leaf_for-requires-clause-tree : goal.leaf_for-requires-clause-tree
-leaf_for-requires-clause-tree g c = let o = c.node_by_index-from.ensures.on_way c.requires.whole in (o.part, o.named)
-
-pub returns-clause-leaf : goal.returns-clause-leaf
-returns-clause-leaf g c w = let o = c.node_by_index-from.ensures.on_way w in led_on o (c.leaf_for.ensures.leaf o.part o.named)
