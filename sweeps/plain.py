@@ -62,7 +62,7 @@ WANTED = {
     "network": ("INET/PREFIX", "an address and its prefix's length, as 10.0.0.1/8"),
     "address": ("INET", "an IPv4 address, as 10.0.0.1"),
     "process": ("NUMBER", f"a process id: a number from 0 to {MOST}"),
-    "protocol": ("PROTOCOL", "a protocol: any, or a number from 1 to 255"),
+    "protocol": ("PROTOCOL", "a protocol: any, or an address family's number from 1 to 255, as 2 for IPv4"),
     "switch": ("on|off", "on or off"),
     "bytes": ("MESSAGE", "a message: at most 8246 bytes in hexadecimal, or - for none"),
     "sequence": ("NUMBER", f"a sequence number: from 0 to {MOST}"),
@@ -112,6 +112,9 @@ def behind_destination(words):
 BEHIND = {"addr": behind_address, "route": behind_destination}
 
 
+ANY_VERB = f"one of {', '.join(VERBS)}; ?help tells of them"
+
+
 def fault_of(line):
     """The place of the first word that is wrong, from 0 on, and what is wanted there, of a plain line that is none."""
     if len(line) > MOST_LINE:
@@ -119,7 +122,7 @@ def fault_of(line):
     verb, *words = line.split(b" ")
     kinds = VERBS.get(verb.decode("latin-1"))
     if kinds is None:
-        return 0, f"one of {', '.join(VERBS)}; ?help tells of them"
+        return 0, ANY_VERB
     for at, what in enumerate(kinds.split()):
         if at == len(words) or not FORMS[what].fullmatch(words[at]):
             return 1 + at, WANTED[what][1]
@@ -133,16 +136,21 @@ def visible(text):
     return re.sub(rb"[\x00-\x1f\x7f]", lambda found: b"\\x%02x" % found[0][0], text)
 
 
+def told_of_word(place, word, wanted):
+    """What is told of a word that is wrong, or missing, and of what is wanted at its place, from 0 on."""
+    what = b" is missing" if word is None else b" (`" + visible(word) + b"`) is wrong"
+    if word == b"":
+        what = b" is empty, since words are parted by single spaces"
+    return b"bad: word %d%s; wanted: %s\n" % (place + 1, what, wanted.encode())
+
+
 def told_of_bad(line):
     """What is told of a plain line that the grammar doesn't have."""
     place, wanted = fault_of(line)
     if wanted == SHORTER:
         return b"bad: wanted: %s\n" % wanted.encode()
     words = line.split(b" ")
-    what = b" is missing" if place == len(words) else b" (`" + visible(words[place]) + b"`) is wrong"
-    if words[place : place + 1] == [b""]:
-        what = b" is empty, since words are parted by single spaces"
-    return b"bad: word %d%s; wanted: %s\n" % (place + 1, what, wanted.encode())
+    return told_of_word(place, None if place == len(words) else words[place], wanted)
 
 
 def help_on(verb, usage):
@@ -185,7 +193,7 @@ MISSPELT = [
     (b"addr le0 10.0.0.1/8 cloning to", 5, "nothing more"),
     (b"open  a 1 any", 2, "a socket's id: 1 to 8 of a to z and 0 to 9"),
     (b"open a 01 any", 3, "a process id: a number from 0 to 4294967295"),
-    (b"open a 1 0", 4, "a protocol: any, or a number from 1 to 255"),
+    (b"open a 1 0", 4, "a protocol: any, or an address family's number from 1 to 255, as 2 for IPv4"),
     (b"loopback a yes", 3, "on or off"),
     (b"write a 0", 3, "a message: at most 8246 bytes in hexadecimal, or - for none"),
     (b"route a -1 add default", 3, "a sequence number: from 0 to 4294967295"),

@@ -6,7 +6,7 @@ from asked import HELP, dotted, find, interfaces, is_table_order, named, route_o
 from grammar import INET, is_line
 from messages import ADD, CHANGE, DELETE, DST, GATEWAY, GET, LOCK, number_of
 from parts import LENGTH, OK, OVERRUN, family_of, fault_of, slots_of
-from plain import ALL, help_on, plain_of, told_of_bad, visible
+from plain import ALL, ANY_VERB, WANTED, help_on, plain_of, told_of_bad, told_of_word, visible
 from plain import VERBS as LINE_VERBS
 from reading import ERRNOS, reading
 from runs import BAD_LINE, DONE, MOST_LINE, answers
@@ -215,12 +215,19 @@ class Told:
         return b"".join([*self.texts(**shows)][: self.script.count(b"\n", 0, size)])
 
 
+def told_of_no_question(line):
+    """What is told of a line behind `?` that asks nothing: of what stands where an address or a verb is to stand, or of all."""
+    asked, space, word = line.partition(b" ")
+    wanted = {b"?find": WANTED["address"][1], b"?why": WANTED["address"][1], b"?help": ANY_VERB}.get(asked)
+    return told_of_word(1, word, wanted) if space and wanted else NO_QUESTION
+
+
 def piece_of(line, shadow, answer, world):
     if is_passed(line):
         return Piece(line, b"")
     if is_question(line):
         is_one = bool(OF_ROUTES.fullmatch(line)) or line in OF_WORLD
-        told = told_of_question(line, answer, world).encode() if is_one else NO_QUESTION
+        told = told_of_question(line, answer, world).encode() if is_one else told_of_no_question(line)
         return Piece(line, told, not is_one, line == b"?quit")
     plainly = b"" if shadow == line else b"= " + visible(shadow) + b"\n"
     if not is_line(shadow):

@@ -6,7 +6,7 @@ use Rattle.std.specs.Str.{bytes_eq}
 use Rattle.event_file.specs.Lines.{is_passed, kept}
 use Rattle.plain_lines.specs.PlainLines.{plain_of}
 use Rattle.route_core.specs.World.{World}
-use Rattle.lab_main.specs.Questions.{is_question, question_of}
+use Rattle.lab_main.specs.Questions.{is_question}
 use Rattle.lab_main.specs.Texts.{told_plainly}
 use Rattle.lab_main.specs.Telling.{Answers, Obeys, Says, answer_to, plainly}
 
@@ -27,7 +27,7 @@ pub command_answered : (old : World) (line body : List ℕ) (new : World) (befor
 command_answered old line body new before after asks passed obeys =
     let obeyed = Obeys old (plain_of line) (plainly line) body new before after in
     let nothing = Says [] old body new before after in
-    subst (λ b. MatchBool b (Says (answer_to (question_of line) old) old body new before after) (MatchBool (is_passed (kept line)) nothing obeyed)) (sym asks)
+    subst (λ b. MatchBool b (Says (answer_to line old) old body new before after) (MatchBool (is_passed (kept line)) nothing obeyed)) (sym asks)
     (subst (λ b. MatchBool b nothing obeyed) (sym passed) obeys)
 
 pub answers_as : (line body : List ℕ) (a b c d : World) (k l m n : ℕ) → c ≡ a → d ≡ b → l ≡ k → n ≡ m → Answers a line body b k m → Answers c line body d l n

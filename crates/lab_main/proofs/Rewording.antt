@@ -12,7 +12,7 @@ use Rattle.route_core.specs.Commands.{Command}
 use Rattle.route_core.specs.World.{World}
 use Rattle.route_core.specs.declared.answer.Answer.{Answer}
 use Rattle.lab_main.specs.InWords.{Fits, Replied, Reply, given_of, is_answered, own_words, reply_words, response_bytes, told_text, transcript_text, words_by}
-use Rattle.lab_main.specs.Questions.{is_question, question_of}
+use Rattle.lab_main.specs.Questions.{is_question}
 use Rattle.lab_main.specs.Telling.{Obeys, ObeysBy, Says, State, Tells, Told, answer_to, plainly, shown}
 use Rattle.lab_main.specs.declared.shows.Shows.{Shows}
 use Rattle.lab_main.proofs.Running.{step_of}
@@ -38,7 +38,7 @@ responded line front body old new (Some c) before after says (answer, step, is) 
     (Ok answer, (c, kept_says line ∙ says, step_of old new c answer before after step), is)
 
 abbrev own_by : List ℕ → World → Bool → Bool → List ℕ
-own_by line w asks passed = if asks then answer_to (question_of line) w else if passed then [] else plainly line
+own_by line w asks passed = if asks then answer_to line w else if passed then [] else plainly line
 
 -- nothing is responded
 silent : (line body : List ℕ) (old new : World) (before after : ℕ) (told : List ℕ) → is_answered line ≡ false → own_words line old ≡ told
@@ -59,11 +59,11 @@ spoken line body old new some own (response, responds, is) =
     (r, refl, refl, fits, is ∙ ap (λ x. x ++ reply_words line r) (sym own))
 
 replied_by : (asks passed : Bool) (line body : List ℕ) (old new : World) (before after : ℕ) → is_question line ≡ asks → is_passed (kept line) ≡ passed
-    → MatchBool asks (Says (answer_to (question_of line) old) old body new before after)
+    → MatchBool asks (Says (answer_to line old) old body new before after)
     (MatchBool passed (Says [] old body new before after) (Obeys old (plain_of line) (plainly line) body new before after))
     → ReplyTo line body old new
 replied_by true passed line body old new before after a p says =
-    silent line body old new before after (answer_to (question_of line) old)
+    silent line body old new before after (answer_to line old)
     (ap (λ b. if b then false else not (is_passed (kept line))) a) (ap (λ b. own_by line old b (is_passed (kept line))) a) says
 replied_by false true line body old new before after a p says =
     silent line body old new before after []

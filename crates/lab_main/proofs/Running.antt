@@ -10,7 +10,7 @@ use Rattle.route_core.specs.Step.{Steps, StepsCounted}
 use Rattle.route_core.specs.Undisturbed.{Runs, Turn, commands_of}
 use Rattle.route_core.specs.World.{World}
 use Rattle.route_core.specs.declared.answer.Answer.{Answer}
-use Rattle.lab_main.specs.Questions.{is_question, question_of}
+use Rattle.lab_main.specs.Questions.{is_question}
 use Rattle.lab_main.specs.Runs.{as_list, command_said}
 use Rattle.lab_main.specs.Telling.{ObeysBy, Says, State, Told, answer_to, plainly}
 use Rattle.lab_main.specs.declared.shows.Shows.{Shows}
@@ -50,6 +50,6 @@ pub run_of : (o : Shows) (old new : State) (lines : List (List ℕ)) (text : Lis
 run_of o old new [] text (none, is) = ([], refl, ap (λ p. p.world) is)
 run_of o old new (line ∷ lines) text (mid, first, rest, tells, is, told) =
     run_then (command_said line) (flat_map command_said lines) old.world mid.world new.world
-    (answered (plain_of line) (plainly line) tells.body (answer_to (question_of line) old.world) old.world mid.world (is_question line)
+    (answered (plain_of line) (plainly line) tells.body (answer_to line old.world) old.world mid.world (is_question line)
     (is_passed (kept line)) (command_of (plain_of line)) old.refused mid.refused tells.answers)
     (run_of o mid new lines rest told)

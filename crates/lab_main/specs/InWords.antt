@@ -12,7 +12,7 @@ use Rattle.route_core.specs.Commands.{Command}
 use Rattle.route_core.specs.World.{World}
 use Rattle.route_core.specs.declared.answer.Answer.{Answer}
 use Rattle.world_words.specs.Answers.{answer_words}
-use Rattle.lab_main.specs.Questions.{is_question, question_of}
+use Rattle.lab_main.specs.Questions.{is_question}
 use Rattle.lab_main.specs.Telling.{State, Told, answer_to, fault_words, plainly, shown}
 use Rattle.lab_main.specs.declared.shows.Shows.{Shows}
 
@@ -46,7 +46,7 @@ given_of line = if is_answered line then kept (plain_of line) ∷ [] else []
 -- what routelab tells of its own: the answer to a question, or the plain line of an easier form
 abbrev pub own_words : List ℕ → World → List ℕ
 own_words line w =
-    if is_question line then answer_to (question_of line) w else if is_passed (kept line) then [] else plainly line
+    if is_question line then answer_to line w else if is_passed (kept line) then [] else plainly line
 
 -- a response to the plain line, in words: what its command was answered, or why it is none
 abbrev pub words_by : List ℕ → Option Command → Option (Result Answer Bad) → World → List ℕ

@@ -16,6 +16,13 @@ about_an_address line =
     else if bytes_eq (take 5 line) (codes "?why ") then option_map Why (inet_of (drop 5 line))
     else None
 
+-- the word that is to be an address
+abbrev pub address_asked : List ℕ → Option (List ℕ)
+address_asked line =
+    if bytes_eq (take 6 line) (codes "?find ") then Some (drop 6 line)
+    else if bytes_eq (take 5 line) (codes "?why ") then Some (drop 5 line)
+    else None
+
 -- the word on which help is asked
 abbrev pub word_asked : List ℕ → Option (List ℕ)
 word_asked line = if bytes_eq (take 6 line) (codes "?help ") then Some (drop 6 line) else None

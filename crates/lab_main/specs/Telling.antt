@@ -28,7 +28,7 @@ use Rattle.tree_pictures.specs.declared.pair.Pair.{Pair}
 use Rattle.lab_main.specs.Help.{help, no_question}
 use Rattle.lab_main.specs.Pairs.{pair_of}
 use Rattle.lab_main.specs.Questions.{ends_all, is_question, question_of}
-use Rattle.lab_main.specs.Texts.{echoed, indented, quoted_wrong, told_plainly}
+use Rattle.lab_main.specs.Texts.{echoed, indented, told_plainly, wrong_text}
 use Rattle.lab_main.specs.declared.questions.Question.{Question}
 use Rattle.lab_main.specs.declared.questions.Question.TheVariants.{Table, Tree, Find, Why, Interfaces, Sockets, Help, HelpOn, Quit}
 use Rattle.lab_main.specs.declared.shows.Shows.{Shows}
@@ -57,26 +57,30 @@ fresh = record { world = empty_world; refused = 0; lines = 0; bad = []; over = f
 abbrev pub pairs_of : World → List Pair
 pairs_of w = map pair_of (all_told w)
 
-abbrev pub answer_to : Option Question → World → List ℕ
-answer_to None w = no_question
-answer_to (Some Table) w = table_words (all_told w) w
-answer_to (Some Tree) w = tree_text (pairs_of w)
-answer_to (Some (Find address)) w = find_text address (pairs_of w)
-answer_to (Some (Why address)) w = agreeing_words address (all_told w) w
-answer_to (Some Interfaces) w = interfaces_words w
-answer_to (Some Sockets) w = sockets_words w
-answer_to (Some Help) w = help
-answer_to (Some (HelpOn verb)) w = help_on verb
-answer_to (Some Quit) w = []
+abbrev pub told_of : Question → World → List ℕ
+told_of Table w = table_words (all_told w) w
+told_of Tree w = tree_text (pairs_of w)
+told_of (Find address) w = find_text address (pairs_of w)
+told_of (Why address) w = agreeing_words address (all_told w) w
+told_of Interfaces w = interfaces_words w
+told_of Sockets w = sockets_words w
+told_of Help w = help
+told_of (HelpOn verb) w = help_on verb
+told_of Quit w = []
+
+abbrev pub answer_by : Option Question → List ℕ → World → List ℕ
+answer_by None line w = no_question line
+answer_by (Some question) line w = told_of question w
+
+-- to a line behind `?`
+abbrev pub answer_to : List ℕ → World → List ℕ
+answer_to line w = answer_by (question_of line) line w
 
 -- ---- a command
 
 -- the plain line, where the line is one of the easier forms
 abbrev pub plainly : List ℕ → List ℕ
 plainly line = if bytes_eq (plain_of line) line then [] else told_plainly (plain_of line)
-
-abbrev pub wrong_text : List ℕ → List ℕ
-wrong_text word = if length word == 0 then codes " is empty, since words are parted by single spaces" else quoted_wrong word
 
 abbrev pub word_shown : Option (List ℕ) → List ℕ
 word_shown None = codes " is missing"
@@ -119,7 +123,7 @@ pub record Says (text : List ℕ) (old : World) (body : List ℕ) (new : World) 
 -- a question is answered, an empty line and a comment are told nothing, and any other line is obeyed
 abbrev pub Answers : World → List ℕ → List ℕ → World → ℕ → ℕ → Type 0
 Answers old line body new before after = MatchBool (is_question line)
-    (Says (answer_to (question_of line) old) old body new before after)
+    (Says (answer_to line old) old body new before after)
     (MatchBool (is_passed (kept line)) (Says [] old body new before after)
     (Obeys old (plain_of line) (plainly line) body new before after))
 

@@ -29,6 +29,9 @@ told_plainly plain = codes "= " ++ visible plain ++ codes "\n"
 abbrev pub quoted_wrong : List ℕ → List ℕ
 quoted_wrong word = codes " (`" ++ visible word ++ codes "`) is wrong"
 
+abbrev pub wrong_text : List ℕ → List ℕ
+wrong_text word = if length word == 0 then codes " is empty, since words are parted by single spaces" else quoted_wrong word
+
 -- each line of a text behind four spaces
 unfoldable pub indented : List ℕ → List ℕ
 indented text = flat_map (λ line. codes "    " ++ line ++ codes "\n") (lines_of text)

@@ -1,8 +1,8 @@
 //! What is answered to a line.
 ghost use Rattle.std.specs.Prelude.{◌≡◌, ◌++◌, [], false, IfOk, OnOk, Some, is_err, is_none};
 ghost use Rattle.event_file.specs.Grammar.{command_of};
-ghost use Rattle.lab_main.specs.Telling.{Answers, Obeys, answer_to, pairs_of, plainly};
-ghost use Rattle.lab_main.specs.Questions.{ends_all};
+ghost use Rattle.lab_main.specs.Telling.{Answers, Obeys, answer_to, pairs_of, plainly, told_of};
+ghost use Rattle.lab_main.specs.Questions.{ends_all, question_of as question_in};
 ghost use Rattle.lab_main.specs.Turns.{ComesTo, is_bad_turn, is_last_turn};
 ghost use Rattle.memory.specs.Refusing.{Rises};
 ghost use Rattle.plain_lines.specs.PlainLines.{plain_of};
@@ -48,7 +48,7 @@ pub(crate) fn answer_line(
     ensures counted { Rises (is_err result) memory.old memory.new }
 {
     if is_question(line) {
-        return answer_question(alloc, &mut machine.world, question_of(line), body, memory);
+        return answer_question(alloc, &mut machine.world, line, body, memory);
     }
     if is_passed(line) {
         return Ok(Turn::On);
@@ -94,22 +94,22 @@ fn tell_plain(
     Ok(())
 }
 
-/// Appends the answer to a question, or which questions there are.
+/// Appends the answer to a question, or why the line is none.
 fn answer_question(
     alloc: Global,
     world: &mut World,
-    question: Option<Question>,
+    line: &[u8],
     body: &mut Text,
     memory: &mut Memory,
 ) -> Result<Turn, AllocError>
-    ensures answer { OnOk result (body.new ≡ body.old ++ answer_to question world.old) }
+    ensures answer { OnOk result (body.new ≡ body.old ++ answer_to line.now world.old) }
     ensures kept { world.new ≡ world.old }
-    ensures bad { IfOk result (λ turn. is_bad_turn turn ≡ is_none question) }
-    ensures last { IfOk result (λ turn. is_last_turn turn ≡ ends_all question) }
+    ensures bad { IfOk result (λ turn. is_bad_turn turn ≡ is_none (question_in line.now)) }
+    ensures last { IfOk result (λ turn. is_last_turn turn ≡ ends_all (question_in line.now)) }
     ensures counted { Rises (is_err result) memory.old memory.new }
 {
-    let Some(question) = question else {
-        put_no_question(body, memory)?;
+    let Some(question) = question_of(line) else {
+        put_no_question(body, line, memory)?;
         return Ok(Turn::Bad);
     };
     if question == Question::Quit {
@@ -127,7 +127,7 @@ fn put_told(
     body: &mut Text,
     memory: &mut Memory,
 ) -> Result<(), AllocError>
-    ensures put { OnOk result (body.new ≡ body.old ++ answer_to (Some question) world.old) }
+    ensures put { OnOk result (body.new ≡ body.old ++ told_of question world.old) }
     ensures kept { world.new ≡ world.old }
     ensures counted { Rises (is_err result) memory.old memory.new }
 {

@@ -1,6 +1,6 @@
 //! The questions that a line may ask of the world.
 ghost use Rattle.std.specs.Prelude.{◌≡◌, option_map};
-ghost use Rattle.lab_main.specs.Questions.{about_an_address, about_something, is_question as asks, question_of as question_in, word_asked as word_asked_in};
+ghost use Rattle.lab_main.specs.Questions.{about_an_address, about_something, address_asked as address_asked_in, is_question as asks, question_of as question_in, word_asked as word_asked_in};
 
 use event_file::read_inet;
 use line_faults::{Verb, verb_of};
@@ -72,11 +72,22 @@ fn question_about(line: &[u8]) -> Option<Question>
 }
 
 /// The word on which a line asks help.
-fn word_asked(line: &[u8]) -> Option<&[u8]>
+pub(crate) fn word_asked(line: &[u8]) -> Option<&[u8]>
     ensures { option_map (λ word. word.now) result ≡ word_asked_in line.now }
 {
     match line {
         [b'?', b'h', b'e', b'l', b'p', b' ', word @ ..] => Some(word),
+        _ => None,
+    }
+}
+
+/// The word of a line that is to be an address.
+pub(crate) fn address_asked(line: &[u8]) -> Option<&[u8]>
+    ensures { option_map (λ word. word.now) result ≡ address_asked_in line.now }
+{
+    match line {
+        [b'?', b'f', b'i', b'n', b'd', b' ', word @ ..] => Some(word),
+        [b'?', b'w', b'h', b'y', b' ', word @ ..] => Some(word),
         _ => None,
     }
 }

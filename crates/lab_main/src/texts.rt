@@ -2,17 +2,18 @@
 ghost use Rattle.std.specs.Prelude.{◌≡◌, ◌≢◌, ◌≤◌, ◌⊎◌, ◌++◌, ◌∷◌, [], OnOk, false, is_err, length};
 ghost use Rattle.event_file.specs.Lines.{has_newline};
 ghost use Rattle.event_file.specs.Words.{parted_by};
-ghost use Rattle.lab_main.specs.Help.{help, no_question};
-ghost use Rattle.lab_main.specs.Telling.{fault_words, shown, word_shown, wrong_text, wrong_word};
-ghost use Rattle.lab_main.specs.Texts.{ending, indented, lines_word as lines_word_of, numbered};
+ghost use Rattle.lab_main.specs.Help.{help, no_question, second_wrong};
+ghost use Rattle.lab_main.specs.Telling.{fault_words, shown, word_shown, wrong_word};
+ghost use Rattle.lab_main.specs.Texts.{ending, indented, lines_word as lines_word_of, numbered, wrong_text};
 ghost use Rattle.line_faults.specs.Faults.{fault_in};
 ghost use Rattle.line_faults.specs.Words.{word_of};
 ghost use Rattle.memory.specs.Refusing.{Rises};
 
+use crate::questions::{address_asked, word_asked};
 use crate::shows::Shows;
 use crate::visible::{put_echo, put_quoted_wrong};
 use lab_text::Text;
-use line_faults::{LineFault, Wanted, fault_of, put_usages, word_at};
+use line_faults::{LineFault, Wanted, WordKind, fault_of, put_usages, word_at};
 use line_reader::newline_in;
 use memory::Memory;
 use std::alloc::AllocError;
@@ -174,15 +175,43 @@ fn put_wrong(text: &mut Text, word: &[u8], memory: &mut Memory) -> Result<(), Al
     put_quoted_wrong(text, word, memory)
 }
 
-/// Appends which questions there are, of a line behind `?` that is none.
-pub(crate) fn put_no_question(text: &mut Text, memory: &mut Memory) -> Result<(), AllocError>
-    ensures put { OnOk result (text.new ≡ text.old ++ no_question) }
+/// Appends why a line behind `?` is no question: its second word, or else which questions there are.
+pub(crate) fn put_no_question(
+    text: &mut Text,
+    line: &[u8],
+    memory: &mut Memory,
+) -> Result<(), AllocError>
+    ensures put { OnOk result (text.new ≡ text.old ++ no_question line.now) }
     ensures counted { Rises (is_err result) memory.old memory.new }
 {
+    if let Some(word) = word_asked(line) {
+        return put_second_wrong(text, word, Wanted::Verb, memory);
+    }
+    if let Some(word) = address_asked(line) {
+        return put_second_wrong(text, word, Wanted::Word(WordKind::Address), memory);
+    }
     text.put(
         b"bad: wanted: one of ?table, ?tree, ?find A, ?why A, ?interfaces, ?sockets, ?help, ?help VERB, ?quit\n",
         memory,
     )
+}
+
+/// Appends that the second word of a question is wrong, and what is wanted there.
+fn put_second_wrong(
+    text: &mut Text,
+    word: &[u8],
+    wanted: Wanted,
+    memory: &mut Memory,
+) -> Result<(), AllocError>
+    ensures put { OnOk result (text.new ≡ text.old ++ second_wrong word.now wanted) }
+    ensures counted { Rises (is_err result) memory.old memory.new }
+{
+    text.put(b"bad: word 2", memory)?;
+    put_wrong(text, word, memory)?;
+    text.put(b"; wanted: ", memory)?;
+    text.put(wanted.text().as_bytes(), memory)?;
+    text.put(b"\n", memory)?;
+    Ok(())
 }
 
 /// Appends how each line and each question is written.

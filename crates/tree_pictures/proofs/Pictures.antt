@@ -1,7 +1,6 @@
 -- The texts of drawings and searches, step by step.
 use Rattle.std.proofs.Common.{◌≡◌, ℕ, ◌+◌, ◌-◌, ◌<◌, ◌≤◌, ◌⊎◌, ◌==◌, Bool, true, false, cond, List, [], ◌++◌, Some, length, take, drop}
 use Rattle.std.proofs.Common.{get_or, refl, ap, sym, ◌∙◌}
-use Rattle.std.proofs.lemmas.List.{at_drop_more}
 use Rattle.std.specs.Prelude.{find, codes}
 use Rattle.std.specs.Option.{option_or}
 use Rattle.mask_table.specs.Agreeing.{bit}
@@ -13,19 +12,6 @@ use Rattle.tree_pictures.specs.Svg.{columns, columns_before, edge_svg, zero_labe
 use Rattle.tree_pictures.specs.Tree.{Tree, fork, routes_of, masks_of, covers, found, tree_from}
 use Rattle.tree_pictures.proofs.Trees.{IsCut, cut_fork, same_tree, routes_cut, leaf_from}
 use Rattle.tree_pictures.specs.declared.pair.Pair.{Pair}
-
--- ---- routes in a row
-pub routes_more : (ps : List Pair) (i : ℕ) (d : Pair) → i < length ps
-    → routes_words (drop i ps) ≡ codes " " ++ destination_word (get_or ps i d).key (get_or ps i d).rank ++ routes_words (drop (i + 1) ps)
-routes_more ps i d h = at_drop_more routes_words ps i d h
-
-pub tries_more : (a : ℕ) (ps : List Pair) (i : ℕ) (d : Pair) → i < length ps
-    → tries a (drop i ps) ≡ try_line a (get_or ps i d) ++ cond (covers a (get_or ps i d)) [] (tries a (drop (i + 1) ps))
-tries_more a ps i d h = at_drop_more (tries a) ps i d h
-
-pub find_more : (a : ℕ) (ps : List Pair) (i : ℕ) (d : Pair) → i < length ps
-    → find (covers a) (drop i ps) ≡ cond (covers a (get_or ps i d)) (Some (get_or ps i d)) (find (covers a) (drop (i + 1) ps))
-find_more a ps i d h = at_drop_more (find (covers a)) ps i d h
 
 -- ---- drawings
 pub draws_leaf : (indent : List ℕ) (low : ℕ) (ps : List Pair) → drawing indent low (tree_from 0 ps) ≡ leaf_line ps

@@ -90,22 +90,6 @@ module _ {T E : Type 0} (r : Result T E) where
       put_as t u5 whole (put_last t (N ++ indent ++ zero_mark ++ Zs ++ indent ++ one_mark) Os u5 four h)
 
   -- ---- a graph
-  pub box_put : (t v name line : List ℕ) {u1 u2 u3 : List ℕ} → u1 ≡ t ++ name → u2 ≡ u1 ++ codes " [label=\"" → u3 ≡ u2 ++ line
-      → OnOk r (v ≡ u3 ++ codes "\"]\n") → OnOk r (v ≡ t ++ node_dot name line)
-  box_put t v name line e1 e2 e3 h =
-      put_last t (name ++ codes " [label=\"" ++ line) (codes "\"]\n") v
-      (then_put t (name ++ codes " [label=\"") line (then_put t name (codes " [label=\"") e1 e2) e3) h
-
-  pub edge_put : (t v name side : List ℕ) {u1 u2 u3 u4 u5 u6 : List ℕ} → u1 ≡ t ++ name → u2 ≡ u1 ++ codes " -> " → u3 ≡ u2 ++ name → u4 ≡ u3 ++ side
-      → u5 ≡ u4 ++ codes " [label=" → u6 ≡ u5 ++ side → OnOk r (v ≡ u6 ++ codes "]\n") → OnOk r (v ≡ t ++ edge_dot name side)
-  edge_put t v name side e1 e2 e3 e4 e5 e6 h =
-      put_last t (name ++ codes " -> " ++ name ++ side ++ codes " [label=" ++ side) (codes "]\n") v (
-      then_put t (name ++ codes " -> " ++ name ++ side ++ codes " [label=") side (
-      then_put t (name ++ codes " -> " ++ name ++ side) (codes " [label=")
-      (then_put t (name ++ codes " -> " ++ name) side (then_put t (name ++ codes " -> ") name (then_put t name (codes " -> ") e1 e2) e3) e4) e5
-      ) e6
-      ) h
-
   pub leaf_graphed : (t u name : List ℕ) (low left : ℕ) (ps : List Pair) → left ≡ 0 → OnOk r (u ≡ t ++ node_dot name (leaf_line ps))
       → OnOk r (u ≡ t ++ graph name low (tree_from left ps))
   leaf_graphed t u name low left ps is h = put_as t u (sym (ap (λ n. graph name low (tree_from n ps)) is ∙ graph_leaf name low ps)) h
