@@ -21,6 +21,16 @@ returns-in_err-read_more-clause-needed g c = inr (Needed-failed
     (Parted-unended c.in_ok-take_line.field-0 _ _ c.if-branch.false c.in_ok-take_line.ensures.took c.loop-turn.invariant.parted)
     c.in_err-read_more.ensures.fault)
 
+pub returns-then-is_empty-clause-needed : goal.returns-then-is_empty-clause-needed
+returns-then-is_empty-clause-needed g c = inr (Needed-read c.read_more.new.self
+    (Parted-unended c.in_ok-take_line.field-0 _ _ c.if-branch.false c.in_ok-take_line.ensures.took c.loop-turn.invariant.parted)
+    c.in_ok-read_more.ensures.read c.in_ok-read_more.ensures.ahead)
+
+pub returns-else-is_empty-clause-needed : goal.returns-else-is_empty-clause-needed
+returns-else-is_empty-clause-needed g c = inr (Needed-read c.read_more.new.self
+    (Parted-unended c.in_ok-take_line.field-0 _ _ c.if-branch.false c.in_ok-take_line.ensures.took c.loop-turn.invariant.parted)
+    c.in_ok-read_more.ensures.read c.in_ok-read_more.ensures.ahead)
+
 pub returns-else-is_empty-clause-last : goal.returns-else-is_empty-clause-last
 returns-else-is_empty-clause-last g c = λ _.
     let unended = Parted-unended c.in_ok-take_line.field-0 _ _ c.if-branch.false c.in_ok-take_line.ensures.took c.loop-turn.invariant.parted in
