@@ -1,5 +1,5 @@
 -- Ranges of keys: what each knows, and which of them a network has.
-use Rattle.std.proofs.Common.{◌≡◌, ℕ, ◌+◌, ◌-◌, ◌*◌, ◌/◌, ◌%◌, ◌^◌, ◌<◌, ◌≤◌, ◌==◌, ◌&&◌, if◌then◌else◌, not, Bool, true, false, List, length, slice_get, slice_index, slice_set, Some, None, inl, inr, sym, ap, subst, ◌∙◌, refl, arith, true≢false}
+use Rattle.std.proofs.Common.{◌≡◌, ℕ, ◌+◌, ◌-◌, ◌*◌, ◌/◌, ◌%◌, ◌^◌, ◌<◌, ◌≤◌, ◌==◌, ◌&&◌, if◌then◌else◌, not, Bool, true, false, List, get_or, length, slice_get, slice_index, slice_set, Some, None, inl, inr, sym, ap, subst, ◌∙◌, refl, arith, true≢false}
 use Rattle.std.proofs.lemmas.Bool.{cases_eq, cases_lt, eq-eqb, eqb-true}
 use Rattle.std.proofs.lemmas.List.{get_or-set_same, get_or-set_other}
 use Rattle.std.proofs.lemmas.Option.{none-some, same_Some, slice_get-get_or, slice_get_past}
@@ -11,11 +11,16 @@ use Rattle.mask_table.specs.Agreeing.{front, masked}
 use Rattle.mask_table.specs.RankSets.{HasRank}
 use Rattle.room_index.specs.Homes.{pair}
 use Rattle.room_index.specs.Places.{IsIn}
-use Rattle.room_index.specs.Ranges.{entry_of, range_of, AreTold, IsTold, TellsMore}
+use Rattle.room_index.specs.Ranges.{entry_of, range_of, AreTold, Has, IsTold, TellsMore}
 use Rattle.room_index.specs.declared.entry.Entry.{Entry}
 use Rattle.room_index.specs.declared.places.Places.{Places}
 use Rattle.room_index.specs.declared.last.Last.{Last}
 use Rattle.room_index.specs.declared.ranges.Ranges.{Ranges}
+
+-- what is there in a slot is of the ranges
+pub has_last : (r : Ranges) (n : ℕ) (l : Last) → n < length r.last.items → get_or r.last.items n l ≡ l → l.is_there ≡ true → Has r l.entry
+has_last r n l within at there =
+    (n, ap entry_of (slice_get-get_or r.last.items n l within ∙ ap Some at) ∙ ap (λ b. if b then Some l.entry else None) there)
 
 -- ---- one range is written
 module _ (items : List Last) (range : ℕ) (now : Last) where

@@ -5,7 +5,7 @@ ghost use Rattle.mask_table.specs.RankSets.{HasRank};
 ghost use Rattle.memory.specs.Refusing.{Rises};
 ghost use Rattle.radix_nodes.specs.declared.id.Id.{Id as Room};
 ghost use Rattle.room_index.specs.Homes.{pair};
-ghost use Rattle.room_index.specs.Looks.{Reads, pair_looks};
+ghost use Rattle.room_index.specs.Looks.{Reads, near_looks, pair_looks};
 ghost use Rattle.room_index.specs.Places.{used_in};
 ghost use Rattle.room_index.specs.Names.{Enters, IsKeptFor, Keeps, Loses, Names, Strikes};
 
@@ -88,11 +88,12 @@ impl Index {
     }
 
     /// The room of a route whose key begins as this one does, where one is at hand and few others do: mostly of the one that
-    /// came last. It counts as one visit.
+    /// came last. It counts as one visit at least, and eight at most.
     #[inline(always)]
     pub fn near(&self, key: Inet, visits: &mut Visits) -> Option<Id>
         ensures near { IfSome result (λ room. (k : ℕ) × Names self.now k room) }
-        ensures visit { visits.new ≡ record visits.old { count = visits.old.count + 1 } }
+        ensures visits { Reads visits.old visits.new near_looks }
+        ensures counted { visits.old.count + 1 ≤ visits.new.count }
     {
         self.ranges.near(pair_of(key, Rank::new(0)), visits)
     }

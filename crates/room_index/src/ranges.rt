@@ -2,6 +2,7 @@
 ghost use Rattle.std.specs.Prelude.{◌≡◌, ℕ, ◌+◌, ◌/◌, ◌<◌, ◌≤◌, ◌==◌, ◌⊎◌, is_err, length, slice_index, vec_capacity, IfSome, OnOk, Some};
 ghost use Rattle.mask_table.specs.RankSets.{HasRank};
 ghost use Rattle.memory.specs.Refusing.{Rises};
+ghost use Rattle.room_index.specs.Looks.{Reads, near_looks};
 ghost use Rattle.room_index.specs.Places.{IsIn, IsTable};
 ghost use Rattle.room_index.specs.Ranges.{last_in, more_ranges, range_of, slot_of, AreTold, Has, HasNone, HasSameLast, IsByRange, IsTold, KeepsOthers, TellsMore, TellsRank};
 ghost use Rattle.room_index.specs.declared.entry.Entry.{Entry as Filed};
@@ -26,7 +27,11 @@ const LAST_BESIDE: usize = 2;
 const RANKS_BESIDE: usize = 6;
 
 /// Of more pairs than so many, the way from one to the next is as long as that from the root.
-const CROWDED: u32 = 16;
+const CROWDED: u32 = 64;
+
+/// So many slots beside one another are looked at for a pair that is near: those of keys that differ in three bits at most, the
+/// last of those by which slots are parted. They lie in a few lines of memory.
+const BESIDE: usize = 8;
 
 /// So many bits has a key.
 const KEY_BITS: u32 = 32;
@@ -106,21 +111,46 @@ impl Ranges {
         low_bits(pair >> self.rest(), self.bits)
     }
 
-    /// The room of the pair that a pair's slot has, where that one's key begins as this one's does, and the slot has few. It is
-    /// one look.
+    /// The room of the pair that a pair's slot has, or one beside it, where that one's key begins as this one's does but for the
+    /// bits that part those slots, and the slot has few. It is one look at each slot.
     #[inline(always)]
     pub(crate) fn near(&self, pair: u64, visits: &mut Visits) -> Option<Id>
         requires { IsByRange self.now }
         ensures near { IfSome result (λ room. (e : Filed) × Has self.now e × (e.room ≡ room)) }
+        ensures looks { Reads visits.old visits.new near_looks }
+        ensures counted { visits.old.count + 1 ≤ visits.new.count }
+    {
+        let slot = self.slot(pair);
+        for beside in 0..BESIDE {
+            let near = self.near_in(slot ^ beside, pair, visits);
+            if near.is_some() {
+                return near;
+            }
+        }
+        None
+    }
+
+    /// Whether two pairs have keys that differ in the last bits alone of those by which slots are parted.
+    #[inline(always)]
+    fn is_beside(&self, one: u64, other: u64) -> bool
+        requires { self.now.bits + self.now.finer ≤ KEY_BITS }
+    {
+        (one ^ other) >> self.rest() < BESIDE as u64
+    }
+
+    /// The room of the pair that such a slot has. It is one look.
+    #[inline(always)]
+    fn near_in(&self, slot: usize, pair: u64, visits: &mut Visits) -> Option<Id>
+        requires { self.now.bits + self.now.finer ≤ KEY_BITS }
+        ensures near { IfSome result (λ room. (e : Filed) × Has self.now e × (e.room ≡ room)) }
         ensures look { visits.new ≡ record visits.old { count = visits.old.count + 1 } }
     {
         visits.tick(); // the look at a slot's pair
-        let slot = self.slot(pair);
         if slot >= self.last.len() {
             return None;
         }
         let last = self.last[slot];
-        if last.is_there && last.many <= CROWDED && (last.entry.pair ^ pair) >> self.rest() == 0 {
+        if last.is_there && last.many <= CROWDED && self.is_beside(last.entry.pair, pair) {
             Some(last.entry.room)
         } else {
             None

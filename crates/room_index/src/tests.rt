@@ -174,9 +174,12 @@ fn a_pair_is_near_until_it_is_struck(rt: HostRuntime) -> Result<(), Fail> {
     for number in 1..5_000 {
         trial.strike(scattered(number), true);
     }
+    // so few slots are all beside one another
     assert!(rt; trial.is_near(scattered(0)));
-    assert!(rt; !trial.is_near(scattered(4_999)));
+    assert!(rt; trial.is_near(scattered(4_999)));
     assert!(rt; trial.index.ranges.capacity() <= 16);
+    trial.strike(scattered(0), true);
+    assert!(rt; !trial.is_near(scattered(0)));
     Ok(())
 }
 
