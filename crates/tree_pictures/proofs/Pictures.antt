@@ -1,13 +1,13 @@
 -- The texts of drawings and searches, step by step.
-use Rattle.std.proofs.Common.{◌≡◌, ℕ, ◌+◌, ◌-◌, ◌<◌, ◌≤◌, ◌⊎◌, ◌==◌, Bool, true, false, cond, List, [], ◌++◌, Some, length, take, drop}
+use Rattle.std.proofs.Common.{◌≡◌, ℕ, ◌+◌, ◌-◌, ◌<◌, ◌≤◌, ◌⊎◌, ◌==◌, Bool, true, false, cond, List, ◌++◌, length, take, drop}
 use Rattle.std.proofs.Common.{get_or, refl, ap, sym, ◌∙◌}
+use Rattle.std.proofs.lemmas.List.{at_drop_more}
 use Rattle.std.specs.Prelude.{find, codes}
 use Rattle.std.specs.Option.{option_or}
 use Rattle.mask_table.specs.Agreeing.{bit}
-use Rattle.lab_text.specs.Words.{destination_word}
 use Rattle.tree_pictures.specs.Dot.{node_dot, edge_dot, graph}
-use Rattle.tree_pictures.specs.Drawing.{routes_words, leaf_line, node_line, zero_mark, one_mark, zero_indent, one_indent, drawing}
-use Rattle.tree_pictures.specs.Steps.{try_line, tries, down_line, up_lines, way_text}
+use Rattle.tree_pictures.specs.Drawing.{leaf_line, node_line, zero_mark, one_mark, zero_indent, one_indent, drawing}
+use Rattle.tree_pictures.specs.Steps.{tries, down_line, up_lines, way_text}
 use Rattle.tree_pictures.specs.Svg.{columns, columns_before, edge_svg, zero_label, one_label, route_svg, lines_svg, leaf_svg, node_svg, picture}
 use Rattle.tree_pictures.specs.Tree.{Tree, fork, routes_of, masks_of, covers, found, tree_from}
 use Rattle.tree_pictures.proofs.Trees.{IsCut, cut_fork, same_tree, routes_cut, leaf_from}
