@@ -1,5 +1,5 @@
 //! The machine to which plain lines are told.
-ghost use Rattle.std.specs.Prelude.{◌≡◌, IfOk, OnOk, false, is_err, is_none};
+ghost use Rattle.std.specs.Prelude.{◌≡◌, IfOk, OnOk, false, is_err, is_none, length};
 ghost use Rattle.event_file.specs.Grammar.{command_of};
 ghost use Rattle.lab_main.specs.Telling.{Obeys};
 ghost use Rattle.lab_main.specs.Turns.{is_bad_turn, is_last_turn};
@@ -73,14 +73,40 @@ impl Machine {
         ensures turn { IfOk result (λ turn. (is_bad_turn turn ≡ is_none (command_of line.now)) × (is_last_turn turn ≡ false)) }
         ensures counted { Rises (is_err result) memory.old memory.new }
     {
-        let Some(said) = &read_said(line.as_bytes(), &mut self.written) else {
-            put_fault(body, line.as_bytes(), memory)?;
-            return Ok(Turn::Bad);
-        };
-        let answer = self
-            .world
-            .obey_counted(said, &mut self.room, &mut self.refusals);
-        put_answer(body, said, &answer, &mut self.world, alloc, memory)?;
-        Ok(Turn::On)
+        obey(
+            alloc,
+            &mut self.world,
+            &mut self.refusals,
+            &mut self.written,
+            &mut self.room,
+            line,
+            body,
+            memory,
+        )
     }
+}
+
+/// So does a world whose refusals are counted, with these rooms.
+fn obey(
+    alloc: Global,
+    world: &mut World,
+    refusals: &mut Memory,
+    written: &mut [u8],
+    room: &mut Room,
+    line: &Text,
+    body: &mut Text,
+    memory: &mut Memory,
+) -> Result<Turn, AllocError>
+    requires { length written.old ≡ MOST_WRITTEN }
+    ensures obeys { OnOk result (Obeys world.old line.now body.old body.new world.new refusals.old refusals.new) }
+    ensures turn { IfOk result (λ turn. (is_bad_turn turn ≡ is_none (command_of line.now)) × (is_last_turn turn ≡ false)) }
+    ensures counted { Rises (is_err result) memory.old memory.new }
+{
+    let Some(said) = &read_said(line.as_bytes(), written) else {
+        put_fault(body, line.as_bytes(), memory)?;
+        return Ok(Turn::Bad);
+    };
+    let answer = world.obey_counted(said, room, refusals);
+    put_answer(body, said, &answer, world, alloc, memory)?;
+    Ok(Turn::On)
 }

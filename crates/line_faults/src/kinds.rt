@@ -64,7 +64,8 @@ impl WordKind {
             WordKind::Address => "an IPv4 address, as 10.0.0.1",
             WordKind::AddressPrefix => "an address and its prefix's length, as 10.0.0.1/8",
             WordKind::Pid => "a process id: a number from 0 to 4294967295",
-            WordKind::Protocol => "a protocol: any, or an address family's number from 1 to 255, as 2 for IPv4",
+            WordKind::Protocol =>
+                "a protocol: any, or an address family's number from 1 to 255, as 2 for IPv4",
             WordKind::Switch => "on or off",
             WordKind::Written => "a message: at most 8246 bytes in hexadecimal, or - for none",
             WordKind::SequenceNumber => "a sequence number: from 0 to 4294967295",

@@ -1,7 +1,8 @@
-use Rattle.std.proofs.Common.{◌≢◌, ◌∙◌, ◌∷◌, [], ap, rules, sym, inl, inr, Err}
+use Rattle.std.proofs.Common.{◌≢◌, ◌≤◌, ◌∙◌, ◌∷◌, [], ap, length, rules, sym, inl, inr, Err}
 use Rattle.std.specs.Io.KnownBytes.{IsAtEnd}
 use Rattle.line_reader.proofs.Parting.{Consumed-of}
 use Rattle.line_reader.specs.Given.{Parted}
+use Rattle.line_reader.specs.declared.reader.TheConstants.{READ_ROOM}
 use Rattle.lab_main.proofs.Reaching.{Ended-turns, Ends-at_end, Ends-between, Ends-front, Ends-last, Ends-over, Front-last, Front-line, Front-now, Lines-line, Reached-kept, Reached-line, Spent-behind, Spent-turns, not_read}
 use Rattle.lab_main.proofs.run.tell_lines.Goals as goal
 
@@ -22,9 +23,10 @@ returns-then-is_over-clause-ends g c =
     let parted : Parted (g.R.Read.remaining c.loop-turn.reader.inner) (g.R.Read.remaining c.next_line.new.reader.inner) c.loop-turn.lines c.deref.result.now (10 ∷ c.next_line.new.self) =
     search rules in
     let reached = Reached-kept c.loop-turn.invariant.reached c.in-Ok-Line.ensures.keeps in
+    let few : length c.next_line.new.self ≤ READ_ROOM = search rules in
     let told = c.in_default.ensures.told in
     Ends-over c.finish.result (g.W.Write.contents c.finish.new.writer.inner)
-    (Reached-line c.deref.result.now c.next_line.new.self told.0 reached parted told.1 told.2.appends) (sym c.is_over.ensures ∙ c.if-is_over.true) c.in-Ok-Line.ensures.ahead c.finish.ensures.ends
+    (Reached-line c.deref.result.now c.next_line.new.self told.0 reached parted told.1 told.2.appends) (sym c.is_over.ensures ∙ c.if-is_over.true) few c.finish.ensures.ends
 
 pub returns-in-Err-tell_line-2-clause-ends : goal.returns-in-Err-tell_line-2-clause-ends
 returns-in-Err-tell_line-2-clause-ends g c =
