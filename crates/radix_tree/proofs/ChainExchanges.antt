@@ -1,12 +1,12 @@
 -- The chain of a leaf is exchanged for another one: the part that is the leaf.
-use Rattle.radix_tree.proofs.{PartRooms.same_turned, Exchanging.exchanged, WholeParts.Fits, WholeParts.once_but, WholeChanges.spare_changed}
+use Rattle.radix_tree.proofs.{Plugs.one_fork_same, PartRooms.same_turned, Exchanging.exchanged, WholeParts.Fits, WholeParts.once_but, WholeChanges.spare_changed}
 use Rattle.radix_tree.proofs.{WholeChanges.whole_changed, WholeRoutes.Spliced, WholeRoutes.routes_changed, Facts.same_none, JoinLinks.turn_used}
 use Rattle.radix_tree.proofs.Words.{◌≡◌, ℕ, ◌+◌, ◌≤◌, ◌==◌, ◌||◌, Bool, false, true≢false, List, [], ◌∷◌, ◌++◌, Option, Some, None, refl}
 use Rattle.radix_tree.proofs.Words.{sym, ap, ◌∙◌, subst, arith, eqb-true, eqb-false, eq-eqb, ne_eqb, is_some, Id, Node, LeafOf, Placed, Tree, leaf}
 use Rattle.radix_tree.proofs.Words.{IsAmong, IsIn, IsChain, IsTree, Part, leaves_in, bits_in, masks_in, name_of, ChainStands, Way, one_if}
 use Rattle.radix_tree.proofs.Words.{members_at, leaves_at, forks_at, HasHome, HasOneFork, shown, name_child, root_after, IsExchange}
 use Rattle.radix_tree.proofs.Words.{Exchanged, IsMarked, IsWholeBut, KeepsHeads, KeepsMasks, above_behind, last_room, root_past, Lodged, number_of}
-use Rattle.radix_tree.proofs.ChainLists.{IsCons, cons_at, map_entries, one_fork_same}
+use Rattle.radix_tree.proofs.ChainLists.{IsCons, cons_at, map_entries}
 
 -- ---- the bit node above
 pub one_more : (has : ℕ → Bool) (a n : ℕ) → has a ≡ false → one_if ((n == a) || has n) ≡ one_if (a == n) + one_if (has n)

@@ -1,8 +1,8 @@
 -- A route comes into the chain of its key.
 use Rattle.radix_tree.proofs.{TreeMembers.IsSaid, TreeMembers.chain_key, TreeMembers.tree_said, RoomReads.inside, RoomReads.none_some, RoomReads.Has-leaf}
 use Rattle.radix_tree.proofs.{Parts.leaf_run, Parts.in_leaf, Parts.way_inside, PartRooms.way_once, Lodging.over_at, Lodging.stays, Beside.not_new}
-use Rattle.radix_tree.proofs.{ChainRooms.room_route, WholeParts.once_but, ChainGaps.behind_stands, ChainLinks.linked_in, ChainLinks.in_others}
-use Rattle.radix_tree.proofs.{ChainLists.cons_at, ChainLists.chain_more, ChainWholes.grown_whole, ChainWholes.grown_routes, MovedReads.content_used}
+use Rattle.radix_tree.proofs.{ChainRooms.whole_route, WholeParts.once_but, ChainGaps.behind_stands, ChainLinks.linked_in, ChainLinks.in_others}
+use Rattle.radix_tree.proofs.{ChainWrites.next_same, ChainWrites.back_same, ChainLists.cons_at, ChainLists.chain_more, ChainWholes.grown_whole, ChainWholes.grown_routes, MovedReads.content_used}
 use Rattle.radix_tree.proofs.Words.{◌≡◌, ℕ, ◌≤◌, ◌==◌, ◌||◌, List, ◌∷◌, ◌++◌, Option, Some, None, refl, sym, ap, ◌∙◌, subst, arith}
 use Rattle.radix_tree.proofs.Words.{ne_eqb, is_some, Has, Id, Leaf, Node, LeafOf, IsRoute, Placed, leaf, IsIn, IsChain, LeafPart, Part, Run, leaves_in, bits_in}
 use Rattle.radix_tree.proofs.Words.{masks_in, name_of, first_room, ChainStands, Way, LedTo, ForkAt, HasPair, one_if, members_at, IsWhole}
@@ -66,24 +66,6 @@ module _ {V : Type 0} where
     pub bits : (n : ℕ) → bits_in new n ≡ name_child l.above e.key (LeafOf id) n (bits_in m n)
     pub heads : KeepsHeads m new
     pub masks : KeepsMasks m new
-
-  -- a member that names others has the route that it had
-  next_content : (next : Option Id) (said : Option (LeafPart V)) → content_of (leaf_next next said) ≡ content_of said
-  next_content next None = refl
-  next_content next (Some p) = refl
-
-  back_content : (above previous : Option Id) (said : Option (LeafPart V)) → content_of (leaf_back above previous said) ≡ content_of said
-  back_content above previous None = refl
-  back_content above previous (Some p) = refl
-
-  pub next_same : (before next : Option Id) (n : ℕ) (said : Option (LeafPart V)) → content_of (name_next before next n said) ≡ content_of said
-  next_same None next n said = refl
-  next_same (Some room) next n said = search (arith, next_content)
-
-  pub back_same : (behind above previous : Option Id) (n : ℕ) (said : Option (LeafPart V))
-      → content_of (name_back behind above previous n said) ≡ content_of said
-  back_same None above previous n said = refl
-  back_same (Some room) above previous n said = search (arith, back_content)
 
   lodged_some : (room : Id) (value : V) (l : Leaf) (n : ℕ) (said : Option (LeafPart V))
       → is_some (lodge_leaf room value l n said) ≡ (n == number_of room) || is_some said
@@ -157,6 +139,5 @@ module _ {V : Type 0} where
       let inside_leaf = in_leaf d.leaf g.0 g.1 in
       let own = way_inside m key w.part d.part d.ups d.way g.0 inside_leaf in
       let s = tree_said (leaves_in m) (bits_in m) w.part.above w.part.tree w.part.stands g.0 own in
-      let one = ap (λ o. one_if (is_some o)) s.3 in
-      let r = room_route m v.part (number_of g.0.room) s.3 (omega arith) in
+      let r = whole_route v (number_of g.0.room) s.3 in
       (r.route, r.is_in, search (arith, chain_key))

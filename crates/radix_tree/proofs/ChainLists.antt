@@ -87,17 +87,6 @@ module _ {V : Type 0} where
     | inr own ↦ inr (own.0, one_fork_more B front back x own.1 none)
   ]
 
-  idle_same : (B C : Bits) (c : List (Placed V)) → ((n : ℕ) → B n ≡ None → C n ≡ None) → AreIdle B c → AreIdle C c
-  idle_same B C [] same idle = tt
-  idle_same B C (y ∷ c) same idle = (same (number_of y.room) idle.0, idle_same B C c same idle.1)
-
-  pub one_fork_same : (B C : Bits) (c : List (Placed V)) → ((n : ℕ) → B n ≡ None → C n ≡ None) → HasOneFork B c → HasOneFork C c
-  one_fork_same B C [] same one = tt
-  one_fork_same B C (y ∷ c) same one = elim one [
-    | inl idle ↦ inl (idle_same B C c same idle)
-    | inr own ↦ inr (same (number_of y.room) own.0, one_fork_same B C c same own.1)
-  ]
-
   pub idle_at : (B : Bits) (c : List (Placed V)) (y : Placed V) → AreIdle B c → IsAmong y c → B (number_of y.room) ≡ None
   idle_at B [] y idle is = absurd is
   idle_at B (z ∷ c) y idle is = elim is [ inl e ↦ ap (λ p. B (number_of p.room)) (sym e) ∙ idle.0 | inr later ↦ idle_at B c y idle.1 later ]

@@ -2,7 +2,7 @@
 use Rattle.radix_tree.proofs.{RoomReads.inside, RoomReads.none_some, RoomReads.AreLinks, Parts.among_leaf, TreeMembers.head_of, TreeMembers.chain_key}
 use Rattle.radix_tree.proofs.{WaysDown.way_to_leaf, WholeParts.once_but, ChainWrites.own_said, ChainGaps.behind_stands, ChainLinks.linked_out}
 use Rattle.radix_tree.proofs.{ChainLinks.out_others, ChainLists.IsCons, ChainLists.cons_at, ChainLists.split_at, ChainLists.members_more, ChainLists.chain_less}
-use Rattle.radix_tree.proofs.{ChainRooms.room_route, ChainInserts.first_there, ChainInserts.last_there, ChainInserts.place_above, ChainInserts.chain_once}
+use Rattle.radix_tree.proofs.{ChainRooms.whole_route, ChainInserts.first_there, ChainInserts.last_there, ChainInserts.place_above, ChainInserts.chain_once}
 use Rattle.radix_tree.proofs.Words.{◌≡◌, ℕ, ◌≤◌, Bool, List, [], ◌∷◌, ◌++◌, Some, None, refl, sym, ap, ◌∙◌, subst, inl, arith, eq-eqb, is_some, Has, Id}
 use Rattle.radix_tree.proofs.Words.{leaf_of, Leaf, Links, Node, LeafOf, Placed, leaf, IsAmong, IsChain, IsTree, LeafPart, Part, leaves_in, bits_in, name_of}
 use Rattle.radix_tree.proofs.Words.{first_room, leaf_part, ChainStands, Way, ForkAt, one_if, members_at, name_child, root_after, IsWholeBut, nobody_out}
@@ -35,8 +35,7 @@ module _ {V : Type 0} where
   module _ {m : Lodged V} {root : Node} {late : ℕ → Bool} (w : IsWholeBut m root late nobody_out) where
     pub member_of : (n : ℕ) {p : LeafPart V} → leaves_in m n ≡ Some p → IsMember m w.part n p
     member_of n said =
-        let one = ap (λ o. one_if (is_some o)) said in
-        let r = room_route m w.part n said (omega arith) in
+        let r = whole_route w n said in
         let f = way_to_leaf m w.part r.route r.is_in in
         let s = split_at (f.at.first ∷ f.at.rest) r.route (among_leaf f.at r.route f.among) in
         let stands = behind_stands (leaves_in m) f.part.above None s.front (r.route ∷ s.back) (leaf_stands m f.part f.at.is s.is) in

@@ -1,7 +1,7 @@
 -- A route goes out of the chain of its key.
 use Rattle.radix_tree.proofs.{Parts.way_leads, TreeMembers.chain_key, TreeMembers.tree_said, WholeParts.later_than, ChainWrites.Has-linked_out}
-use Rattle.radix_tree.proofs.{ChainRooms.among_at, ChainRooms.room_route, Facts.same_none, Facts.some_of, ChainWholes.shrunk_whole, ChainWholes.shrunk_routes}
-use Rattle.radix_tree.proofs.{ChainInserts.next_same, ChainInserts.back_same, JoinLinks.turn_used, MovedReads.content_used}
+use Rattle.radix_tree.proofs.{ChainRooms.among_at, ChainRooms.whole_route, Facts.same_none, Facts.some_of, ChainWholes.shrunk_whole, ChainWholes.shrunk_routes}
+use Rattle.radix_tree.proofs.{ChainWrites.next_same, ChainWrites.back_same, JoinLinks.turn_used, MovedReads.content_used}
 use Rattle.radix_tree.proofs.Words.{⊎_elim, ◌≡◌, ℕ, ◌≤◌, ◌⊎◌, ◌==◌, Bool, true, false, true≢false, List, [], ◌∷◌, ◌++◌, Option, Some, None, refl, sym, ap, ◌∙◌}
 use Rattle.radix_tree.proofs.Words.{subst, inl, inr, arith, eqb-true, eq-eqb, is_some, Has, Id, Leaf, Node, LeafOf, Placed, leaf, IsAmong, IsIn, LeafPart}
 use Rattle.radix_tree.proofs.Words.{BitPart, Part, leaves_in, bits_in, masks_in, name_of, Way, one_if, members_at, HaveOneFork, HasOneFork, shown, shown_entry}
@@ -81,8 +81,7 @@ module _ {V : Type 0} where
       let some = left_bits l in
       let q =
       of_that_key (leaves_in m k) (leaves_in m k) p.leaf.key refl (sym (routes_key m new (unlinked_routes m new p.leaf u.leaves) p.leaf.key k) ∙ keyed) in
-      let one = ap (λ o. one_if (is_some o)) q.is in
-      let r = room_route m w.part k q.is (omega arith) in
+      let r = whole_route w k q.is in
       let key = ap (λ e. e.key) r.entry ∙ q.key_is ∙ ap (λ z. z.leaf.key) b.part_is in
       let at = way_leads m w.part b.part b.ups b.way r.route r.is_in key in
       let among = subst (IsAmong r.route) b.split (subst (IsIn r.route) b.is at) in

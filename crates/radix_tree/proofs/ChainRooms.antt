@@ -2,7 +2,7 @@
 use Rattle.radix_tree.proofs.{RoomReads.inside, TreeMembers.tree_said}
 use Rattle.radix_tree.proofs.Words.{◌≡◌, ℕ, ◌+◌, ◌≤◌, ◌==◌, true, false, List, [], ◌∷◌, Some, refl, sym, ap, ◌∙◌, inl, inr, arith, eqb-true, cases_lt, Placed}
 use Rattle.radix_tree.proofs.Words.{Tree, leaf, fork, IsAmong, IsIn, LeafPart, Part, leaves_in, bits_in, one_if, members_at, leaves_at, shown_entry, Lodged}
-use Rattle.radix_tree.proofs.Words.{number_of}
+use Rattle.radix_tree.proofs.Words.{Bool, Node, IsWholeBut, nobody_out, is_some, number_of}
 
 module _ {V : Type 0} where
   abbrev pub AmongAt : ℕ → List (Placed V) → Type 0
@@ -40,3 +40,7 @@ module _ {V : Type 0} where
       let s = tree_said (leaves_in m) (bits_in m) whole.above whole.tree whole.stands y.0 y.1 in
       let same = inside (sym s.3 ∙ ap (leaves_in m) y.2 ∙ said) in
       record { route = y.0; is_in = y.1; number = y.2; block = ap (λ q. q.block) same; entry = ap shown_entry same }
+
+  pub whole_route : {m : Lodged V} {root : Node} {late : ℕ → Bool} (w : IsWholeBut m root late nobody_out) (n : ℕ) {p : LeafPart V} → leaves_in m n ≡ Some p
+      → RoomRoute w.part.tree n p
+  whole_route {m = m} w n said = let one = ap (λ o. one_if (is_some o)) said in room_route m w.part n said (omega arith)

@@ -1,4 +1,4 @@
--- The bit nodes above a part of a tree, and lists of masks that stay where the masks of their ranks do.
+-- Lists of masks that stay where the masks of their ranks do.
 use Rattle.radix_tree.proofs.{PartRooms.one_if_same, PlugLists.marked_same, MaskLists.falls_among, MaskLinks.stand_same}
 use Rattle.radix_tree.proofs.Words.{◌≡◌, ℕ, ◌+◌, ◌≤◌, List, [], ◌∷◌, Option, inl, inr, sym, ap, ◌∙◌, subst, arith, Id, Placed, Tree, leaf, fork, IsIn}
 use Rattle.radix_tree.proofs.Words.{IsTree, Heads, Masks, Part, Beneath, Way, forks_at, Frame, on_zero, on_one, plug, low_past, IsMaskList, MarkedIn}
@@ -6,36 +6,6 @@ use Rattle.radix_tree.proofs.Words.{MarkedLists, Lodged}
 use Rattle.radix_nodes.specs.Naming.{number_of}
 
 module _ {V : Type 0} where
-  -- ---- the bit nodes above a part
-  pub record Framed {m : Lodged V} (whole at : Part m) : Type 0 where
-    pub frames : List (Frame V)
-    pub was : whole.tree ≡ plug frames at.tree
-    pub lowest : at.low ≡ low_past whole.low frames
-
-  beneath_framed : {m : Lodged V} {key : ℕ} {at under over : Part m} → Beneath key under over → Framed under at → Framed over at
-  beneath_framed b f =
-      let n = b.at in
-      let low = f.lowest ∙ ap (λ k. low_past k f.frames) b.low in
-      elim b.side [
-        | inl e ↦ record {
-          frames = on_zero b.room n.bit n.one ∷ f.frames;
-          was = search;
-          lowest = low;
-        }
-        | inr e ↦ record {
-          frames = on_one b.room n.bit n.zero ∷ f.frames;
-          was = n.is ∙ ap (fork b.room n.bit n.zero) (sym e.0 ∙ f.was);
-          lowest = low;
-        }
-      ]
-
-  up_framed : (m : Lodged V) (key : ℕ) (whole mid at : Part m) (ups : List (Part m)) → Way key whole mid ups → Framed mid at → Framed whole at
-  up_framed m key whole mid at [] way f = subst (λ p. Framed p at) way f
-  up_framed m key whole mid at (p ∷ ps) way f = up_framed m key whole p at ps way.1 (beneath_framed way.0 f)
-
-  pub way_framed : (m : Lodged V) (key : ℕ) (whole at : Part m) (ups : List (Part m)) → Way key whole at ups → Framed whole at
-  way_framed m key whole at ups way = grind (arith, up_framed)
-
   -- ---- one list stays where the masks of its ranks do
   pub list_stays : (K M : Masks) {first : Option Id} (low b : ℕ) (t : Tree V)
       → ((x : Placed V) → IsIn x t → low ≤ x.entry.rank → M (number_of x.room) ≡ K (number_of x.room))

@@ -1,7 +1,7 @@
 -- The home of a mask, and what a change of the list there leaves as it was.
 use Rattle.radix_tree.proofs.{AddressBits.zero_not_one, AddressBits.clear_bit, Parts.fork_is, Parts.way_inside, PartRooms.one_if_same, PartRooms.elsewhere}
-use Rattle.radix_tree.proofs.{PartRooms.frame, PartRooms.way_once, Plugs.aside_in, Plugs.aside_at, Plugs.counted_leaf, Plugs.spare_same, PlugLists.KeepsAbove}
-use Rattle.radix_tree.proofs.{PlugLists.plug_lists, PlugLists.lists_at, PlugLists.marked_same, FrameLists.way_framed, FrameLists.lists_stay, JoinLone.tree_room}
+use Rattle.radix_tree.proofs.{Lodging.stays, PartRooms.way_once, Plugs.aside_in, Plugs.aside_at, Plugs.counted_leaf, Plugs.spare_same, PlugLists.KeepsAbove}
+use Rattle.radix_tree.proofs.{PlugLists.plug_lists, PlugLists.lists_at, PlugLists.marked_same, LeafWays.on_way, FrameLists.lists_stay, ChainRooms.whole_route}
 use Rattle.mask_table.proofs.Agreeing.{front_of_bits}
 use Rattle.radix_tree.proofs.TreeMembers.{chain_below, tree_route, bit_beneath, tree_said}
 use Rattle.radix_tree.specs.Tree.{bit_at}
@@ -82,7 +82,7 @@ module _ {V : Type 0} where
     tree_of = fork room h.at.bit h.at.zero h.at.one
 
     lists_of : (H : Heads) (K : Masks) → MarkedLists H K whole.low whole.tree → MarkedLists H K h.part.low tree_of
-    lists_of H K lists = subst (MarkedLists H K h.part.low) h.at.is (grind (arith, lists_at, way_framed m key whole h.part h.ups h.way))
+    lists_of H K lists = subst (MarkedLists H K h.part.low) h.at.is (grind (arith, lists_at, on_way m key whole h.part h.ups h.way))
 
     -- the list there
     pub home_list : MarkedLists (heads_in m) (masks_in m) whole.low whole.tree
@@ -122,7 +122,7 @@ module _ {V : Type 0} where
     pub relisted : (new : Lodged V) → AreOnce whole.tree → IsRelisted m new key rank whole room h
         → MarkedLists (heads_in m) (masks_in m) whole.low whole.tree → MarkedLists (heads_in new) (masks_in new) whole.low whole.tree
     relisted new once r lists =
-        let f = way_framed m key whole h.part h.ups h.way in
+        let f = on_way m key whole h.part h.ups h.way in
         let own = subst (λ n. MarkedLists (heads_in new) (masks_in new) n h.part.tree) f.lowest
         (subst (MarkedLists (heads_in new) (masks_in new) h.part.low) (sym h.at.is) (home_lists new once r lists)) in
         let in_whole : (y : Placed V) → IsIn y (plug f.frames h.part.tree) → IsIn y whole.tree = λ y is. subst (IsIn y) (sym f.was) is in
@@ -146,15 +146,6 @@ module _ {V : Type 0} where
         own)
 
   -- ---- the whole, where leaves and bit nodes stay
-  abbrev pub kept_part : (m new : Lodged V) → KeepsLeaves m new → KeepsBits m new → Part m → Part new
-  kept_part m new leaves bits p = record {
-    tree = p.tree;
-    low = p.low;
-    above = p.above;
-    is = p.is;
-    stands = frame (leaves_in m) (leaves_in new) (bits_in m) (bits_in new) p.above p.tree (λ n _. leaves n) (λ n _. bits n) p.stands;
-  }
-
   -- each mask that is listed is of a route with a home, and each such route's mask is listed or late
   pub record AreMarked (m new : Lodged V) (late : ℕ → Bool) (whole : Part m) : Type 0 where
     pub listed : (n : ℕ) (p : MaskPart) → masks_in new n ≡ Some p → (x : Placed V) × IsIn x whole.tree × (number_of x.room ≡ n)
@@ -165,7 +156,7 @@ module _ {V : Type 0} where
       → KeepsBits m new → MarkedLists (heads_in new) (masks_in new) w.part.low w.part.tree → AreMarked m new later w.part
       → IsWholeBut new root later nobody_out
   whole_kept m new later w leaves bits lists marked = record {
-    part = kept_part m new leaves bits w.part;
+    part = stays m new w.part (λ n _. leaves n) (λ n _. bits n);
     low = w.low;
     top = w.top;
     named = w.named;
@@ -181,8 +172,6 @@ module _ {V : Type 0} where
   pub placed_in : {m : Lodged V} {root : Node} {late : ℕ → Bool} (w : IsWholeBut m root late nobody_out) {room : Id} → Has m room
       → (y : Placed V) × IsIn y w.part.tree × (y.room ≡ room)
   placed_in {m = m} w {room = room} h =
-      let y = tree_room (number_of room) w.part.tree (omega (arith, w.leaves (number_of room) ∙ ap (λ o. one_if (is_some o)) (ap leaf_in h.at))) in (
-        y.0,
-        y.1,
-        grind (arith, tree_said),
-      )
+      let y = whole_route w (number_of room) (ap leaf_in h.at) in
+      let block = y.block ∙ h.block in
+      (y.route, y.is_in, λ i. record { block = block i })

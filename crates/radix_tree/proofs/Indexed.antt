@@ -1,5 +1,5 @@
 -- What an index tells of the routes of a tree.
-use Rattle.radix_tree.proofs.{BestOfTree.stands_in, ChainRooms.room_route, Counted.not_held, RoomReads.inside, RoomReads.none_some, Showing.shown_is}
+use Rattle.radix_tree.proofs.{BestOfTree.stands_in, ChainRooms.whole_route, Counted.not_held, RoomReads.inside, RoomReads.none_some, Showing.shown_is}
 use Rattle.radix_tree.proofs.{TreeMembers.tree_route, TreeMembers.tree_said}
 use Rattle.mask_table.proofs.Agreeing.{masked_agrees, agrees_where_masked_equal}
 use Rattle.std.specs.Prelude.{◌↔◌, MatchOption}
@@ -38,7 +38,7 @@ module _ {V : Type 0} {m : Lodged V} {root : Node} (w : IsWhole m root) where
   said_route : (n : ℕ) (o : Option (LeafPart V)) → leaves_in m n ≡ o → {place : Ptr × ℕ} → place_of o ≡ Some place → PlaceRoute n place
   said_route n None said at = absurd (none_some at)
   said_route n (Some p) said at =
-      let r = room_route m w.part n said (grind (arith, w.leaves n, said)) in
+      let r = whole_route w n said in
       let place = inside at in
       record {
         route = r.route;

@@ -41,10 +41,6 @@ turn_used None key n to said = refl
 turn_used (Some over) key n to said = search (arith, turned_used)
 
 module _ {V : Type 0} where
-  -- ---- a room that is there
-  pub Has-kept : {m : Lodged V} (new : Lodged V) {room : Id} → Has m room → leaves_in new (number_of room) ≡ leaves_in m (number_of room) → Has new room
-  Has-kept new {room = room} h same = Has-leaf new room (same ∙ ap leaf_in h.at) h.block
-
   -- ---- the node beneath stays as it is while the bit nodes above it are written
   pub quiet : {t : Tree V} (up : Id) {above : Option Id} (key : ℕ) (to : Node) (n : ℕ) (said : Option BitPart) → IsApart t up above → 1 ≤ forks_at n t
       → put_bit up None n (name_child above key to n said) ≡ said

@@ -1,5 +1,5 @@
 -- The list of masks of a bit node that goes is handed on to the node that takes its place.
-use Rattle.radix_tree.proofs.{RoomReads.inside, RoomReads.none_some, PartRooms.one_if_same, PartRooms.way_once, Facts.some_of, MaskLinks.stand_same}
+use Rattle.radix_tree.proofs.{FrameLists.lists_stay, RoomReads.inside, RoomReads.none_some, PartRooms.one_if_same, PartRooms.way_once, Facts.some_of, MaskLinks.stand_same}
 use Rattle.radix_tree.proofs.Words.{◌≡◌, ◌+◌, ◌≤◌, ◌⊎◌, ◌==◌, List, [], ◌∷◌, ◌++◌, Option, None, inl, inr, refl, sym, ap, ◌∙◌, subst, arith, ℕ, cases_lt}
 use Rattle.radix_tree.proofs.Words.{cases_eq, is_some, Id, LeafOf, BitOf, Placed, Tree, leaf, fork, IsAmong, IsIn, IsTree, Heads, Masks, Part}
 use Rattle.radix_tree.proofs.Words.{heads_in, masks_in, name_of, Falls, one_if, forks_at, AreOnce, HasSides, IsLone, IsHanded, IsMarked}
@@ -30,20 +30,6 @@ module _ {V : Type 0} where
       let first = ranked_in m p x one in
       let second = ranked_in m p y other in
       search (arith, inside)
-
-  -- lists stay where their heads stay, and the masks of ranks at or past low
-  lists_past : (H G : Heads) (K J : Masks) (low : ℕ) (t : Tree V) → ((n : ℕ) → 1 ≤ forks_at n t → G n ≡ H n)
-      → ((y : Placed V) → IsIn y t → low ≤ y.entry.rank → J (number_of y.room) ≡ K (number_of y.room))
-      → ((y : Placed V) → IsIn y t → is_some (J (number_of y.room)) ≡ is_some (K (number_of y.room))) → IsTree low t → MarkedLists H K low t
-      → MarkedLists G J low t
-  lists_past H G K J low (leaf x xs) heads masks marks is lists = tt
-  lists_past H G K J low (fork room b zero one) heads masks marks is lists = (
-    search (arith, one_if_same, stand_same, falls_among),
-    lists_past H G K J (b + 1) zero (λ n some. heads n (omega arith)) (λ y at past. masks y (inl at) (omega arith)) (λ y at. marks y (inl at)) is.1
-        lists.1,
-    lists_past H G K J (b + 1) one (λ n some. heads n (omega arith)) (λ y at past. masks y (inr at) (omega arith)) (λ y at. marks y (inr at)) is.2
-        lists.2,
-  )
 
   -- ---- to a bit node
   -- its list, and that of the bit node that goes
@@ -168,10 +154,10 @@ module _ {V : Type 0} where
               | inr gone_one ↦ search (arith, side_in, unmarked_marked)
             ];
           },
-          lists_past (heads_in m) (heads_in new) (masks_in m) (masks_in new) (c + 1) zero (λ n some. search (arith, one_if_same))
-              (λ y at past. rank_stays m over b c w a beneath y (beneath y (inl at)) past) (λ y at. a.marks (number_of y.room)) is.0.1 old.1,
-          lists_past (heads_in m) (heads_in new) (masks_in m) (masks_in new) (c + 1) one (λ n some. search (arith, one_if_same))
-              (λ y at past. rank_stays m over b c w a beneath y (beneath y (inr at)) past) (λ y at. a.marks (number_of y.room)) is.0.2 old.2,
+          lists_stay (heads_in m) (heads_in new) (masks_in m) (masks_in new) (c + 1) zero is.0.1 (λ n some. search (arith, one_if_same))
+              (λ y at past. rank_stays m over b c w a beneath y (beneath y (inl at)) past) old.1,
+          lists_stay (heads_in m) (heads_in new) (masks_in m) (masks_in new) (c + 1) one is.0.2 (λ n some. search (arith, one_if_same))
+              (λ y at past. rank_stays m over b c w a beneath y (beneath y (inr at)) past) old.2,
         );
       }
 

@@ -1,5 +1,5 @@
 -- A route that is alone at its leaf, found by its room.
-use Rattle.radix_tree.proofs.{TreeMembers.tree_said, WaysDown.way_to_leaf, WholeParts.once_but, JoinSides.sides_of, JoinSides.side_own_stands, Facts.same_id}
+use Rattle.radix_tree.proofs.{TreeMembers.tree_said, WaysDown.way_to_leaf, WholeParts.once_but, ChainRooms.in_at, JoinSides.sides_of, JoinSides.side_own_stands, Facts.same_id}
 use Rattle.radix_tree.proofs.Words.{◌≡◌, ◌+◌, ◌≤◌, ◌==◌, Bool, true, false, List, [], ◌∷◌, Option, Some, None, inl, inr, refl, sym, ap, ◌∙◌, subst, arith, ℕ}
 use Rattle.radix_tree.proofs.Words.{eqb-true, cases_eq, is_some, Id, Node, Placed, Tree, leaf, fork, IsAmong, IsIn, LeafPart, Leaves, Part, leaves_in, bits_in}
 use Rattle.radix_tree.proofs.Words.{first_room, leaf_part, ChainStands, Way, one_if, members_at, leaves_at, AreOnce, IsLone, IsWholeBut}
@@ -10,23 +10,6 @@ module _ {V : Type 0} where
   none_first : (xs : List (Placed V)) → first_room xs ≡ None → xs ≡ []
   none_first [] none = refl
   none_first (x ∷ xs) none = absurd (none_some (sym none))
-
-  -- ---- a room of the tree has a route of it
-  pub chain_room : (n : ℕ) (c : List (Placed V)) → 1 ≤ members_at n c → (y : Placed V) × IsAmong y c × (number_of y.room ≡ n)
-  chain_room n [] some = absurd (omega arith)
-  chain_room n (x ∷ c) some =
-      elim (number_of x.room == n) as (λ t. (number_of x.room == n) ≡ t → 1 ≤ one_if t + members_at n c → (y : Placed V) × IsAmong y (x ∷ c) ×
-      (number_of y.room ≡ n)) [
-        | true ↦ λ e many. (x, inl refl, eqb-true (number_of x.room) n e)
-        | false ↦ λ e many. let behind = chain_room n c (omega arith) in (behind.0, inr behind.1, behind.2)
-      ] refl some
-
-  pub tree_room : (n : ℕ) (t : Tree V) → 1 ≤ leaves_at n t → (y : Placed V) × IsIn y t × (number_of y.room ≡ n)
-  tree_room n (leaf x xs) some = chain_room n (x ∷ xs) some
-  tree_room n (fork room b zero one) some = elim (cases_eq (leaves_at n zero) 0) [
-    | inl none ↦ let right = tree_room n one (omega arith) in (right.0, inr right.1, right.2)
-    | inr ne ↦ let left = tree_room n zero (omega (arith, ne)) in (left.0, inl left.1, left.2)
-  ]
 
   -- ---- alone in its chain
   has_previous : (L : Leaves V) (above : Option Id) (previous : Id) (c : List (Placed V)) (y : Placed V) {p : LeafPart V}
@@ -75,7 +58,7 @@ module _ {V : Type 0} where
       → leaves_in m (number_of at) ≡ Some p → p.block ≡ at.block → p.leaf.next ≡ None → p.leaf.previous ≡ None → p.leaf.above ≡ Some up → IsLone m w.part at up
   lone m w at up {p = p} said block next previous above =
       let used = ap (λ o. one_if (is_some o)) said in
-      let y = tree_room (number_of at) w.part.tree (omega arith) in
+      let y = in_at (number_of at) w.part.tree (omega arith) in
       let own = ap (leaves_in m) y.2 ∙ said in
       let told = tree_said (leaves_in m) (bits_in m) w.part.above w.part.tree w.part.stands y.0 y.1 in
       let same = same_id y.0.room at (sym (ap (λ q. q.block) (inside (sym own ∙ told.3))) ∙ block) in

@@ -1,13 +1,13 @@
 -- A route that is alone at its leaf, and the bit node above it, as they are read of their rooms.
 use Rattle.radix_tree.proofs.{AddressBits.zero_not_one, Parts.Has-fork, TreeMembers.bit_beneath, TreeMembers.tree_said, Lodging.stays, Lodging.over_at}
-use Rattle.radix_tree.proofs.{JoinLinks.lone_apart, JoinLinks.other_part, JoinWhole.IsJoined, ChainLists.idle_at, ListedChains.of_key, ChainWrites.own_part}
+use Rattle.radix_tree.proofs.{JoinLinks.lone_apart, JoinLinks.other_part, JoinWhole.IsJoined, ChainLists.idle_at, ListedChains.of_key, ChainRooms.whole_route, ChainWrites.own_part}
 use Rattle.radix_tree.proofs.Words.{◌≡◌, ◌+◌, ◌≤◌, Bool, true, List, ◌∷◌, Option, Some, None, refl, sym, ap, ◌∙◌, subst, arith, ℕ, inl, inr, cases_eq, is_some}
 use Rattle.radix_tree.proofs.Words.{Has, leaf_of, bit_node_of, Id, BitNode, Leaf, Links, Node, Placed, Tree, leaf, fork, bit_at, IsAmong, IsIn, IsTree}
 use Rattle.radix_tree.proofs.Words.{LeafPart, BitPart, Bits, Part, leaf_in, leaves_in, bits_in, heads_in, name_of, ForkAt, one_if, HasOneFork, HaveOneFork}
 use Rattle.radix_tree.proofs.Words.{name_child, other_side, IsApart, IsLone, IsWholeBut, has_key, nobody_out, content_of, KeepsRoutes, put_bit, lift_leaf}
 use Rattle.radix_tree.proofs.Words.{lift_bit, Lodged, IsLonely, [], true≢false, number_of}
 use Rattle.radix_tree.proofs.JoinSides.{SaysOther, side_is, side_says, side_fork}
-use Rattle.radix_tree.proofs.JoinLone.{tree_room, lone, lone_said}
+use Rattle.radix_tree.proofs.JoinLone.{lone, lone_said}
 use Rattle.radix_tree.proofs.RoomReads.{inside, none_some, AreLinks, Has-leaf, bit_read, bit_used, head_read}
 
 module _ {V : Type 0} where
@@ -110,40 +110,16 @@ module _ {V : Type 0} where
         ]
       ]
 
-  -- the route of a room of the whole
-  record RouteOf (m : Lodged V) (t : Tree V) (n : ℕ) (p : LeafPart V) : Type 0 where
-    pub route : Placed V
-    pub is : IsIn route t
-    pub room : number_of route.room ≡ n
-    pub key : route.entry.key ≡ p.leaf.key
-
-  route_of : (m : Lodged V) {root : Node} {late : ℕ → Bool} (w : IsWholeBut m root late nobody_out) (n : ℕ) (p : LeafPart V) → leaves_in m n ≡ Some p
-      → RouteOf m w.part.tree n p
-  route_of m w n p said =
-      let used = ap (λ o. one_if (is_some o)) said in
-      let y = tree_room n w.part.tree (omega arith) in
-      let told = tree_said (leaves_in m) (bits_in m) w.part.above w.part.tree w.part.stands y.0 y.1 in
-      record { route = y.0; is = y.1; room = y.2; key = ap (λ q. q.leaf.key) (inside (sym told.3 ∙ ap (leaves_in m) y.2 ∙ said)) }
-
   pub others_idle : (m : Lodged V) {root : Node} {late : ℕ → Bool} (w : IsWholeBut m root late nobody_out) (used other : ℕ) (p q : LeafPart V) {b : BitPart}
       → leaves_in m used ≡ Some p → leaves_in m other ≡ Some q → p.leaf.key ≡ q.leaf.key → bits_in m used ≡ Some b → (other ≡ used → ⊥) → bits_in m other ≡ None
   others_idle m w used other p q first second keys bit apart =
-      let y = route_of m w used p first in
-      let z = route_of m w other q second in
+      let y = whole_route w used first in
+      let z = whole_route w other second in
       search (arith, tree_others, none_some)
 
   was_said : (o : Option (LeafPart V)) (p : LeafPart V) → content_of (Some p) ≡ content_of o → (q : LeafPart V) × (o ≡ Some q) × (q.leaf.key ≡ p.leaf.key)
   was_said None p same = absurd (none_some (sym same))
   was_said (Some q) p same = (q, refl, sym (ap (λ c. c.entry.key) (inside same)))
-
-  -- a room with its route is there
-  there_by : {m : Lodged V} (new : Lodged V) (room : Id) (h : Has m room) (o : Option (LeafPart V)) → leaves_in new (number_of room) ≡ o
-      → content_of o ≡ content_of (Some (own_part h)) → Has new room
-  there_by new room h None said same = absurd (none_some same)
-  there_by new room h (Some p) said same = Has-leaf new room said (ap (λ c. c.block) (inside same) ∙ h.block)
-
-  pub Has-routes : (m new : Lodged V) (room : Id) → Has m room → KeepsRoutes m new → Has new room
-  Has-routes m new room h keeps = there_by new room h (leaves_in new (number_of room)) refl (keeps (number_of room) ∙ ap (λ o. content_of (leaf_in o)) h.at)
 
   pub idle_joined : (m new : Lodged V) {root : Node} {late : ℕ → Bool} (w : IsWholeBut m root late nobody_out) {at : Id} (up : Id)
       (l : IsLone m w.part at up) → KeepsRoutes m new → ((n : ℕ) → bits_in m n ≡ None → bits_in new n ≡ None) → bits_in new (number_of up) ≡ None

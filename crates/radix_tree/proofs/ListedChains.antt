@@ -1,6 +1,6 @@
 -- A walk along a chain whose masks are listed one after the other.
 use Rattle.radix_tree.proofs.{Scans.ended_at, Parts.among_leaf, Parts.way_leads, WaysDown.way_to_leaf, ChainStarts.member_of, HomeLists.placed_in}
-use Rattle.radix_tree.proofs.{Listed.settled, WholeParts.later_than, ListedHomes.chain_of, ListedHomes.in_chain, JoinLone.tree_room}
+use Rattle.radix_tree.proofs.{Listed.settled, WholeParts.later_than, ListedHomes.chain_of, ListedHomes.in_chain, ChainRooms.whole_route}
 use Rattle.radix_tree.proofs.Words.{◌≡◌, ℕ, ◌+◌, ◌<◌, ◌≤◌, ◌==◌, Bool, true, false, not, ◌&&◌, List, [], ◌∷◌, Option, Some, None, refl, sym, ap, ◌∙◌, subst}
 use Rattle.radix_tree.proofs.Words.{arith, eqb-true, eq-eqb, is_some, Has, leaf_of, mask_node_of, Id, Leaf, Links, MaskNode, Node, Placed, IsAmong}
 use Rattle.radix_tree.proofs.Words.{IsIn, IsChain, LeafPart, Leaves, Part, Run, leaves_in, masks_in, mask_part, first_room, leaf_part}
@@ -86,11 +86,9 @@ module _ {V : Type 0} where
       → has_key m y.entry.key n ≡ true → (x : Placed V) × IsAmong x (chain_of w.part y is).members × (number_of x.room ≡ n)
   in_its_chain m w y is n has =
       let q = of_key y.entry.key (leaves_in m n) has in
-      let count = w.leaves n ∙ ap (λ o. one_if (is_some o)) q.1 in
-      let x = tree_room n w.part.tree (omega arith) in
+      let x = whole_route w n q.1 in
       let f = way_to_leaf m w.part y is in
-      let key = sym (key_said m w.part x.0 q.0 x.1 x.2 q.1).0 ∙ q.2 in
-      (x.0, among_leaf f.at x.0 (way_leads m w.part f.part f.ups f.way x.0 x.1 key), x.2)
+      (x.route, among_leaf f.at x.route (way_leads m w.part f.part f.ups f.way x.route x.is_in (ap (λ e. e.key) x.entry ∙ q.2)), x.number)
 
   -- a route that names none before it is the first of its chain
   begins_at : (m : Lodged V) (whole : Part m) (y : Placed V) (is : IsIn y whole.tree) (p : LeafPart V) → leaves_in m (number_of y.room) ≡ Some p

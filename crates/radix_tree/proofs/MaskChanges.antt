@@ -1,12 +1,12 @@
 -- A list of masks is cut, has another one behind it, gains a mask or loses one.
-use Rattle.radix_tree.proofs.Words.{◌≡◌, ℕ, ◌+◌, ◌≤◌, List, [], ◌∷◌, ◌++◌, Option, Some, None, is_some, refl, sym, ap, ◌∙◌, subst, inr, inl, arith, Id, Placed}
+use Rattle.radix_tree.proofs.Words.{append-nil, ◌≡◌, ℕ, ◌+◌, ◌≤◌, List, [], ◌∷◌, ◌++◌, Option, Some, None, is_some, refl, sym, ap, ◌∙◌, subst, inr, inl, arith, Id, Placed}
 use Rattle.radix_tree.proofs.Words.{IsAmong, MaskNode, MaskPart, Masks, leaves_in, heads_in, masks_in, first_room, MasksStand, Falls, KeepsLeaves, KeepsHeads}
 use Rattle.radix_tree.proofs.Words.{put_mask, IsMasks, IsRanked, IsAside, IsNoRank, last_mask, head_linked, mask_linked, not_below, below, sorted_in, taken_out}
 use Rattle.radix_tree.proofs.Words.{Lodged}
 use Rattle.radix_tree.proofs.MaskLists.{falls_among, falls_wider, falls_not_below, falls_behind, falls_sorted, falls_taken, below_short, not_below_among}
 use Rattle.radix_tree.proofs.MaskLists.{below_among, taken_among, one_rank, ranked_among, among_ranked, marked_among, among_appended}
 use Rattle.radix_tree.proofs.MaskLinks.{put_aside, aside_linked, marks_linked, stand_same, ranked_same, masks_same, linked, stands_back, back_stays}
-use Rattle.radix_tree.proofs.MaskLinks.{list_parted, nothing_behind}
+use Rattle.radix_tree.proofs.MaskLinks.{list_parted}
 use Rattle.radix_nodes.specs.Naming.{number_of}
 
 module _ {V : Type 0} where
@@ -15,9 +15,9 @@ module _ {V : Type 0} where
       → last_mask (not_below low ms) ≡ before → KeepsLeaves m new
       → ((n : ℕ) → heads_in new n ≡ head_linked fork before None n (heads_in m n)) → ((n : ℕ) → masks_in new n ≡ mask_linked before None n (masks_in m n))
       → IsMasks new (heads_in new (number_of fork)) (not_below low ms)
-  kept_of_cut m new fork low ms is last keeps heads masks = subst (IsMasks new (heads_in new (number_of fork))) (nothing_behind (not_below low ms))
+  kept_of_cut m new fork low ms is last keeps heads masks = subst (IsMasks new (heads_in new (number_of fork))) (append-nil (not_below low ms))
       (linked m new fork (not_below low ms) (below low ms) [] None (list_parted low is) last refl keeps heads masks tt
-      (subst (Falls 0 34) (sym (nothing_behind (not_below low ms))) (falls_wider low 34 0 34 (not_below low ms) (falls_not_below 0 34 low ms is.falls)
+      (subst (Falls 0 34) (sym (append-nil (not_below low ms))) (falls_wider low 34 0 34 (not_below low ms) (falls_not_below 0 34 low ms is.falls)
       (omega arith) (omega arith))) tt)
 
   pub others_of_cut : (m new : Lodged V) (fork : Id) (low : ℕ) (ms : List (Placed V)) {before behind : Option Id} → IsMasks m (heads_in m (number_of fork)) ms
@@ -50,7 +50,7 @@ module _ {V : Type 0} where
         | inl one ↦ ranked_among (leaves_in m) ms is.ranked y one
         | inr other ↦ ranked_among (leaves_in m) ts behind.ranked y other
       ]) in
-      linked m new fork ms [] ts tail (search (nothing_behind)) end behind.begins keeps heads masks
+      linked m new fork ms [] ts tail (search (append-nil)) end behind.begins keeps heads masks
       (stand_same (masks_in m) (masks_in new) ts (back_stays m new ms ts tail falls ranked end masks) behind.stands) falls behind.ranked
 
   -- ---- a mask comes in

@@ -148,7 +148,3 @@ module _ {V : Type 0} where
   pub list_parted : {m : Lodged V} {first : Option Id} (low : ℕ) {ms : List (Placed V)} → IsMasks m first ms
       → IsMasks m first (not_below low ms ++ below low ms)
   list_parted {m = m} {first = first} low {ms = ms} is = subst (IsMasks m first) (parted low ms) is
-
-  pub nothing_behind : (ms : List (Placed V)) → ms ++ [] ≡ ms
-  nothing_behind [] = refl
-  nothing_behind (x ∷ xs) = ap (λ l. x ∷ l) (nothing_behind xs)

@@ -66,7 +66,7 @@ module _ {V : Type 0} where
   bit_off t n named none r is same = search (arith, named_bit)
 
   -- ---- a room that has its route
-  content_there : (m : Lodged V) (room : Id) (o : Option (Seen V)) {c : Content V} → get m (number_of room) ≡ o → content_of (leaf_in o) ≡ Some c
+  pub content_there : (m : Lodged V) (room : Id) (o : Option (Seen V)) {c : Content V} → get m (number_of room) ≡ o → content_of (leaf_in o) ≡ Some c
       → c.block ≡ room.block → Has m room
   content_there m room None at e block = absurd (none_some e)
   content_there m room (Some s) at e block = record { room = s; at = at; block = ap (λ d. d.block) (inside e) ∙ block }

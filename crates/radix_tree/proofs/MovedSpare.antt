@@ -2,26 +2,10 @@
 use Rattle.radix_tree.proofs.Words.{◌≡◌, ℕ, ◌+◌, ◌≤◌, true, List, [], ◌∷◌, Option, Some, None, refl, inl, inr, arith, eqb-true, eq-eqb, Id}
 use Rattle.radix_tree.proofs.Words.{Placed, Tree, leaf, fork, IsChain, IsTree, LeafPart, Bits, leaves_in, bits_in, ChainStands, Stands, members_at, leaves_at}
 use Rattle.radix_tree.proofs.Words.{AreIdle, HasOneFork, HaveOneFork, is_of_key, has_key, CanTake, Lodged, cases_eq, number_of}
-use Rattle.radix_tree.proofs.MovedReads.{none_or_some, one_if_is, one_if_not}
+use Rattle.radix_tree.proofs.{MovedReads.none_or_some, MovedReads.one_if_is, MovedReads.one_if_not, Plugs.one_fork_same, Plugs.counted_member}
 
 module _ {V : Type 0} where
   -- ---- one chain
-  -- where no bit node comes into use
-  chain_idle_stays : (B C : Bits) (c : List (Placed V)) → ((n : ℕ) → 1 ≤ members_at n c → B n ≡ None → C n ≡ None) → AreIdle B c → AreIdle C c
-  chain_idle_stays B C [] none idle = tt
-  chain_idle_stays B C (x ∷ xs) none idle =
-      let here = one_if_is {a = (number_of x.room)} (number_of x.room) refl in
-      (none (number_of x.room) (omega arith) idle.0, chain_idle_stays B C xs (λ n some. none n (omega arith)) idle.1)
-
-  pub chain_stays : (B C : Bits) (c : List (Placed V)) → ((n : ℕ) → 1 ≤ members_at n c → B n ≡ None → C n ≡ None) → HasOneFork B c → HasOneFork C c
-  chain_stays B C [] none spare = tt
-  chain_stays B C (x ∷ xs) none spare =
-      let here = one_if_is {a = (number_of x.room)} (number_of x.room) refl in
-      elim spare [
-        | inl idle ↦ inl (chain_idle_stays B C xs (λ n some. none n (omega arith)) idle)
-        | inr rest ↦ inr (none (number_of x.room) (omega arith) rest.0, chain_stays B C xs (λ n some. none n (omega arith)) rest.1)
-      ]
-
   -- where all are idle but for one room's
   all_idle : (C : Bits) (c : List (Placed V)) → ((n : ℕ) → 1 ≤ members_at n c → C n ≡ None) → AreIdle C c
   all_idle C [] none = tt
@@ -66,7 +50,7 @@ module _ {V : Type 0} where
       → CanTake m from to → HaveOneFork (bits_in m) t → HaveOneFork C t
   moved_spare m C to above low (leaf x xs) is stands once none off takes spare =
       elim (none_or_some (members_at (number_of to) (x ∷ xs))) [
-        | inl out ↦ chain_stays (bits_in m) C (x ∷ xs) (search arith) spare
+        | inl out ↦ one_fork_same (bits_in m) C (x ∷ xs) (search (arith, counted_member)) spare
         | inr there ↦ let keyed = chain_keyed m above None x.entry.key 34 (x ∷ xs) stands is.1 in
             let p = of_key x.entry.key (leaves_in m (number_of to)) (keyed (number_of to) there) in
             one_at C (number_of to) (x ∷ xs) once (search arith)
@@ -75,8 +59,3 @@ module _ {V : Type 0} where
     moved_spare m C to (Some room) (b + 1) zero is.1 stands.1 (omega arith) (λ n some. none n (omega arith)) (λ n some. off n (omega arith)) takes spare.0,
     moved_spare m C to (Some room) (b + 1) one is.2 stands.2 (omega arith) (λ n some. none n (omega arith)) (λ n some. off n (omega arith)) takes spare.1,
   )
-
-  pub tree_stays : (B C : Bits) (t : Tree V) → ((n : ℕ) → 1 ≤ leaves_at n t → B n ≡ None → C n ≡ None) → HaveOneFork B t → HaveOneFork C t
-  tree_stays B C (leaf x xs) none spare = chain_stays B C (x ∷ xs) none spare
-  tree_stays B C (fork room b zero one) none spare =
-      (tree_stays B C zero (λ n some. none n (omega arith)) spare.0, tree_stays B C one (λ n some. none n (omega arith)) spare.1)

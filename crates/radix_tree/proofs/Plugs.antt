@@ -104,7 +104,7 @@ module _ {V : Type 0} where
   idle_same B C [] same idle = tt
   idle_same B C (x ∷ xs) same idle = (same x (inl refl) idle.0, idle_same B C xs (λ y among. same y (inr among)) idle.1)
 
-  one_fork_same : (B C : Bits) (xs : List (Placed V)) → ((y : Placed V) → IsAmong y xs → B (number_of y.room) ≡ None → C (number_of y.room) ≡ None)
+  pub one_fork_same : (B C : Bits) (xs : List (Placed V)) → ((y : Placed V) → IsAmong y xs → B (number_of y.room) ≡ None → C (number_of y.room) ≡ None)
       → HasOneFork B xs
       → HasOneFork C xs
   one_fork_same B C [] same has = tt

@@ -1,6 +1,6 @@
 -- A room that is out of the tree leaves the map: the whole and its routes stay.
-use Rattle.radix_tree.proofs.{RoomReads.inside, RoomReads.none_some, PartRooms.frame, Plugs.counted_leaf, Showing.part_shown, MovedReads.content_used}
-use Rattle.radix_tree.proofs.{PlugLists.marked_same, PlugLists.lists_same, MovedSpare.tree_stays, MovedWhole.out_leaf, MovedWhole.out_apart}
+use Rattle.radix_tree.proofs.{RoomReads.inside, RoomReads.none_some, Lodging.stays, Plugs.counted_leaf, Showing.part_shown, MovedReads.content_used}
+use Rattle.radix_tree.proofs.{PlugLists.marked_same, PlugLists.lists_same, Plugs.spare_same, MovedWhole.out_leaf, MovedWhole.out_apart}
 use Rattle.radix_tree.proofs.Words.{◌≡◌, ℕ, ◌+◌, if◌then◌else◌, List, Option, Some, None, refl, sym, ap, ◌∙◌, inl, inr, arith, eq-eqb, ne_eqb, is_some}
 use Rattle.radix_tree.proofs.Words.{get, Ptr, Seen, Has, bit_node_of, Id, Node, BitNode, LeafPart, MaskPart, Part, leaf_in, bit_in, head_in, mask_in, bit_part}
 use Rattle.radix_tree.proofs.Words.{head_part, leaves_in, bits_in, masks_in, one_if, leaves_at, IsWhole, Holds, shown, Gains, IsWholeBut, HasRoomMore}
@@ -38,14 +38,7 @@ module _ {V : Type 0} where
 
     -- ---- the tree stays
     abbrev part_left : bits_in m n ≡ None → Part (remove m n)
-    part_left none = record {
-      tree = w.part.tree;
-      low = w.part.low;
-      above = w.part.above;
-      is = w.part.is;
-      stands = frame (leaves_in m) (leaves_in (remove m n)) (bits_in m) (bits_in (remove m n)) w.part.above w.part.tree
-          (λ k some. ap leaf_in (get_other m n k (out_apart n w k some))) (λ k some. role_stays bit_in m n none k) w.part.stands;
-    }
+    part_left none = stays m (remove m n) w.part (λ k some. ap leaf_in (get_other m n k (out_apart n w k some))) (λ k some. role_stays bit_in m n none k)
 
     leaves_left : (k : ℕ) → leaves_at k w.part.tree + 0 ≡ one_if (is_some (leaves_in (remove m n) k))
     leaves_left k =
@@ -66,7 +59,7 @@ module _ {V : Type 0} where
           named = w.named;
           leaves = leaves_left;
           forks = λ k. w.forks k ∙ ap (λ o. one_if (is_some o)) (sym (bits k));
-          spare = search (arith, tree_stays);
+          spare = search (arith, spare_same, counted_leaf);
           lists = search (arith, lists_same);
           listed = λ k p is. w.listed k p (sym (masks k) ∙ is);
           all = search (arith, marked_same);

@@ -1,7 +1,7 @@
 -- A value in a room changes, and with it the route that stands there.
 use Rattle.radix_tree.proofs.{Counted.of_rank-cons, Counted.of_rank-append, GivenNumbers.given_same, OrderLemmas.own_pair, TableLemmas.with_parts}
 use Rattle.radix_tree.proofs.{TableLemmas.with_later, TreeOrder.tree_is_table, Showing.shown_is, WholeParts.once_but, Facts.no_use, ChainLists.map_entries}
-use Rattle.radix_tree.proofs.{WholeRoutes.all_at, TableLemmas.With.later, TableLemmas.With.same, TableLemmas.With.sooner}
+use Rattle.radix_tree.proofs.{WholeRoutes.all_at, TableLemmas.With.later, TableLemmas.With.same, TableLemmas.With.sooner, Plugs.counted_member, Plugs.counted_leaf}
 use Rattle.radix_tree.proofs.ValuedTrees.{all_valued_in, valued, all_valued, tree_valued, name_valued, tree_is_valued, put, stands_valued, leaves_valued}
 use Rattle.radix_tree.proofs.ValuedTrees.{forks_valued, spare_valued, in_valued, home_is, lists_valued}
 use Rattle.radix_nodes.proofs.Callers.{get-put_room}
@@ -37,17 +37,6 @@ module _ {V : Type 0} (n : ℕ) (value : V) where
   tree_aside (leaf x xs) none = chain_aside (x ∷ xs) none
   tree_aside (fork room b zero one) none = search (tree_aside zero (omega arith), tree_aside one (omega arith))
 
-  counted_among : (x : Placed V) (c : List (Placed V)) → number_of x.room ≡ n → IsAmong x c → 1 ≤ members_at n c
-  counted_among x [] is among = absurd among
-  counted_among x (y ∷ c) is among = elim among [ inl e ↦ grind arith | inr rest ↦ omega (arith, counted_among x c is rest) ]
-
-  counted_in : (x : Placed V) (t : Tree V) → number_of x.room ≡ n → IsIn x t → 1 ≤ leaves_at n t
-  counted_in x (leaf y ys) is at = counted_among x (y ∷ ys) is at
-  counted_in x (fork room b zero one) is at = elim at [
-    | inl left ↦ omega (arith, counted_in x zero is left)
-    | inr right ↦ omega (arith, counted_in x one is right)
-  ]
-
   chain_put : (x : Placed V) (c : List (Placed V)) → number_of x.room ≡ n → IsAmong x c → members_at n c ≤ 1
       → IsPut x.entry (map_entries c) (map_entries (all_valued n value c))
   chain_put x [] is among once = absurd among
@@ -60,7 +49,7 @@ module _ {V : Type 0} (n : ℕ) (value : V) where
           was = refl;
           now = ap (λ f. f ∷ map_entries (all_valued n value c)) (here_is y at) ∙ ap (λ es. record y.entry { value = value } ∷ es) (chain_aside c none);
         })
-    | inr rest ↦ let some = counted_among x c is rest in
+    | inr rest ↦ let some = subst (λ k. 1 ≤ members_at k c) is (counted_member x c rest) in
         let p = chain_put x c is rest (omega arith) in
         record {
           front = y.entry ∷ p.front;
@@ -73,7 +62,7 @@ module _ {V : Type 0} (n : ℕ) (value : V) where
   tree_put : (x : Placed V) (t : Tree V) → number_of x.room ≡ n → IsIn x t → leaves_at n t ≤ 1 → IsPut x.entry (routes_of t) (routes_of (tree_valued n value t))
   tree_put x (leaf y ys) is at once = chain_put x (y ∷ ys) is at once
   tree_put x (fork room b zero one) is at once = elim at [
-    | inl left ↦ let some = counted_in x zero is left in
+    | inl left ↦ let some = subst (λ k. 1 ≤ leaves_at k zero) is (counted_leaf x zero left) in
         let p = tree_put x zero is left (omega arith) in
         record {
           front = p.front;
@@ -83,7 +72,7 @@ module _ {V : Type 0} (n : ℕ) (value : V) where
               ∙ ap (λ es. (p.front ++ record x.entry { value = value } ∷ p.back) ++ es) (tree_aside one (omega arith))
               ∙ append_assoc p.front (record x.entry { value = value } ∷ p.back) (routes_of one);
         }
-    | inr right ↦ let some = counted_in x one is right in
+    | inr right ↦ let some = subst (λ k. 1 ≤ leaves_at k one) is (counted_leaf x one right) in
         let p = tree_put x one is right (omega arith) in
         record {
           front = routes_of zero ++ p.front;

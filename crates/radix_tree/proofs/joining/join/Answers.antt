@@ -1,12 +1,11 @@
-use Rattle.radix_tree.proofs.Words.{number_of, arith}
-use Rattle.radix_tree.proofs.JoinLinks.{Has-kept, below_stays}
+use Rattle.radix_tree.proofs.{Words.arith, ChainWrites.Has-kept, JoinLinks.below_stays}
 use Rattle.radix_tree.proofs.joining.join.Goals as goal
 
 pub name_child-requires-clause-tree : goal.name_child-requires-clause-tree
 name_child-requires-clause-tree g c over is = c.requires.above over is
 
 pub put_bit_node-requires-clause-there : goal.put_bit_node-requires-clause-there
-put_bit_node-requires-clause-there g c = Has-kept c.name_child.new.nodes.lodged c.requires.up (c.name_child.ensures.only.leaves (number_of c.args.up))
+put_bit_node-requires-clause-there g c = Has-kept c.requires.up c.name_child.new.nodes.lodged c.name_child.ensures.only.leaves
 
 pub lift-requires-clause-tree : goal.lift-requires-clause-tree
 lift-requires-clause-tree g c =

@@ -1,7 +1,7 @@
-use Rattle.radix_tree.proofs.{Parts.way_lists, JoinLinks.Has-kept, JoinLinks.head_off}
+use Rattle.radix_tree.proofs.{Parts.way_lists, ChainWrites.Has-kept, MovedReads.Has_kept, JoinLinks.head_off}
 use Rattle.radix_tree.proofs.Words.{◌∙◌, ap, sym, subst, IsLone, root_after, name_of, arith}
 use Rattle.radix_tree.proofs.JoinWhole.{IsJoined, handed_on, routes_kept, idle_stays, freed, whole_joined, routes_joined, own_leaf}
-use Rattle.radix_tree.proofs.JoinRooms.{lone_read, never_top, key_read, Has-up, Has-routes, never_unused, up_read, above_after, beneath_after, IsUp, joined}
+use Rattle.radix_tree.proofs.JoinRooms.{lone_read, never_top, key_read, Has-up, never_unused, up_read, above_after, beneath_after, IsUp, joined}
 use Rattle.radix_tree.proofs.JoinRooms.{idle_joined}
 use Rattle.radix_tree.proofs.joining.remove_lone.Goals.{In-Some, In-Some-bit_node, After-root_after}
 use Rattle.radix_tree.specs.Removal.{TakesOut}
@@ -65,7 +65,7 @@ hand_masks_on-requires-clause-lone g c =
 pub join-requires-clause-up : goal.join-requires-clause-up
 join-requires-clause-up g c =
     let l = lone g (goal.at.join-requires-clause-up g c).In-Some in
-    Has-kept c.hand_masks_on.new.nodes.lodged (Has-up l) (search arith)
+    Has-kept (Has-up l) c.hand_masks_on.new.nodes.lodged c.hand_masks_on.ensures.tree.leaves
 
 pub join-requires-clause-above : goal.join-requires-clause-above
 join-requires-clause-above g c over is =
@@ -93,7 +93,7 @@ returns-clause-out g c =
 pub returns-clause-there : goal.returns-clause-there
 returns-clause-there g c =
     let (l, u, j) = done g (goal.at.returns-clause-there g c).After-root_after in
-    search (arith, Has-routes, Has-up, routes_kept)
+    Has_kept c.join.new.nodes.lodged (routes_kept l j _) (Has-up l)
 
 pub returns-clause-free : goal.returns-clause-free
 returns-clause-free g c =
