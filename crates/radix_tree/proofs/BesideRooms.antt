@@ -17,13 +17,6 @@ pub or_true : (b : Bool) → b || true ≡ true
 or_true true = refl
 or_true false = refl
 
--- the test of a room's number, either way round
-pub one_if_turned : (room : Id) (n : ℕ) → (n ≡ number_of room → ⊥) → one_if (number_of room == n) ≡ 0
-one_if_turned room n other = ap one_if (ne_eqb (number_of room) n (λ e. other (sym e)))
-
-pub one_if_here : (room : Id) (n : ℕ) → n ≡ number_of room → one_if (number_of room == n) ≡ 1
-one_if_here room n same = ap one_if (eq-eqb (number_of room) n (sym same))
-
 module _ {V : Type 0} where
   -- a room's leaf has another bit node above it, or the same
   abbrev LiftsTo : Option (LeafPart V) → LeafPart V → Type 0

@@ -8,7 +8,7 @@ use Rattle.radix_tree.proofs.Words.{bits_in, heads_in, masks_in, LedTo, one_if, 
 use Rattle.radix_tree.proofs.Words.{IsBeside, IsNew, Differs, Exchanged, IsMasks, IsAside, past_bit, up_to_bit, MarkedLists, IsWholeBut, has_key}
 use Rattle.radix_tree.proofs.Words.{nobody_late, nobody_out, KeepsLeaves, KeepsBits, KeepsMasks, Lodged, true≢false, number_of}
 use Rattle.radix_tree.proofs.PlugLists.{mask_list_same, lists_same, marked_same}
-use Rattle.radix_tree.proofs.BesideRooms.{or_true, one_if_turned, one_if_here, forked_leaves, forked_forks, in_forked, forked_in, forked_lists, home_forked}
+use Rattle.radix_tree.proofs.BesideRooms.{or_true, forked_leaves, forked_forks, in_forked, forked_in, forked_lists, home_forked}
 use Rattle.radix_tree.proofs.BesideRooms.{forked_home, forked_spare, forked_gains, Came, no_leaf, no_bit, other_leaf, other_bit, same_marks}
 
 module _ {V : Type 0} where
@@ -23,8 +23,8 @@ module _ {V : Type 0} where
       × (one_if (number_of x.room == n) + one_if (is_some (bits_in m n)) ≡ one_if (is_some (bits_in new n)))
   counts m new {t = t} x c n =
       elim (cases_eq n (number_of x.room)) [
-        | inl same ↦ search (arith, one_if_here, no_leaf, no_bit)
-        | inr other ↦ search (arith, one_if_turned, other_leaf, other_bit)
+        | inl same ↦ search (arith, eq-eqb, no_leaf, no_bit)
+        | inr other ↦ search (arith, ne_eqb, other_leaf, other_bit)
       ]
 
   -- a route that the new bit node would be the home of is late, or had a home

@@ -14,36 +14,24 @@ module _ {V : Type 0} where
   pub member_of : (t : Tree V) (e : Entry V) → Contains (routes_of t) e → IsOf t e
   member_of t e member = all_contains (IsOf t) (routes_of t) e (all_in (IsOf t) t (λ y at. (y, at, refl))) member
 
-  abbrev Among : Entry V → List (Entry V) → Type 0
-  Among e [] = ⊥
-  Among e (f ∷ fs) = (f ≡ e) ⊎ Among e fs
+  -- what holds of all members holds of each route
+  all_parted : (P : Entry V → Type 0) (es fs : List (Entry V)) → AllByRecursion P (es ++ fs) → AllByRecursion P es × AllByRecursion P fs
+  all_parted P [] fs all = (tt, all)
+  all_parted P (e ∷ es) fs all = let rest = all_parted P es fs all.1 in ((all.0, rest.0), rest.1)
 
-  among_left : (e : Entry V) (es fs : List (Entry V)) → Among e es → Among e (es ++ fs)
-  among_left e [] fs among = absurd among
-  among_left e (f ∷ es) fs among = elim among [ inl is ↦ inl is | inr later ↦ inr (among_left e es fs later) ]
+  of_chain : (P : Entry V → Type 0) (c : List (Placed V)) → AllByRecursion P (map (λ (p : Placed V). p.entry) c) → (x : Placed V) → IsAmong x c → P x.entry
+  of_chain P [] all x among = absurd among
+  of_chain P (y ∷ c) all x among = elim among [ inl is ↦ subst (λ p. P p.entry) is all.0 | inr later ↦ of_chain P c all.1 x later ]
 
-  among_right : (e : Entry V) (es fs : List (Entry V)) → Among e fs → Among e (es ++ fs)
-  among_right e [] fs among = among
-  among_right e (f ∷ es) fs among = inr (among_right e es fs among)
-
-  among_chain : (x : Placed V) (c : List (Placed V)) → IsAmong x c → Among x.entry (map (λ (p : Placed V). p.entry) c)
-  among_chain x [] among = absurd among
-  among_chain x (y ∷ c) among = elim among [ inl is ↦ inl (ap (λ p. p.entry) is) | inr later ↦ inr (among_chain x c later) ]
-
-  among_routes : (x : Placed V) (t : Tree V) → IsIn x t → Among x.entry (routes_of t)
-  among_routes x (leaf z zs) at = among_chain x (z ∷ zs) at
-  among_routes x (fork room b zero one) at = elim at [
-    | inl left ↦ search (among_left, among_routes x zero left)
-    | inr right ↦ search (among_right, among_routes x one right, x.entry)
-  ]
-
-  all_at : (P : Entry V → Type 0) (e : Entry V) (es : List (Entry V)) → AllByRecursion P es → Among e es → P e
-  all_at P e [] all among = absurd among
-  all_at P e (f ∷ es) all among = elim among [ inl is ↦ subst P is all.0 | inr later ↦ all_at P e es all.1 later ]
+  of_all : (P : Entry V → Type 0) (t : Tree V) → AllByRecursion P (routes_of t) → (x : Placed V) → IsIn x t → P x.entry
+  of_all P (leaf z zs) all x at = of_chain P (z ∷ zs) all x at
+  of_all P (fork room b zero one) all x at =
+      let both = all_parted P (routes_of zero) (routes_of one) all in
+      elim at [ inl left ↦ of_all P zero both.0 x left | inr right ↦ of_all P one both.1 x right ]
 
   -- each route of a tree stands in its list
   pub stands_in : (low : ℕ) (t : Tree V) → IsTree low t → (x : Placed V) → IsIn x t → StandsIn (routes_of t) x.entry
-  stands_in low t is x at = grind (arith, all_at, all_stand, tree_is_table, among_routes, x.entry)
+  stands_in low t is x at = of_all (StandsIn (routes_of t)) t (all_stand (routes_of t) (tree_is_table low t is)) x at
 
   -- and what stands there is one
   pub standing : (low : ℕ) (t : Tree V) → IsTree low t → (e : Entry V) → StandsIn (routes_of t) e → IsOf t e

@@ -1,5 +1,5 @@
 -- The list of masks of a bit node is cut at a bit, or a leaf has none.
-use Rattle.radix_tree.proofs.{TreeMembers.tree_said, Parts.fork_is, Parts.fork_named, PartRooms.one_if_same, PartRooms.elsewhere, PartRooms.way_once}
+use Rattle.radix_tree.proofs.{HomeLists.one_room, Parts.fork_is, Parts.fork_named, PartRooms.one_if_same, PartRooms.elsewhere, PartRooms.way_once}
 use Rattle.radix_tree.proofs.{Plugs.counted_leaf, Plugs.home_plug, Plugs.plug_in, PlugLists.lists_at, FrameLists.lists_stay, Facts.some_of, LeafWays.on_way}
 use Rattle.radix_tree.proofs.Words.{◌≡◌, ℕ, ◌+◌, ◌<◌, ◌≤◌, ◌==◌, Bool, List, Option, None, sym, ap, ◌∙◌, subst, inl, inr, arith, is_some, Id, Node, LeafOf}
 use Rattle.radix_tree.proofs.Words.{BitOf, Placed, Tree, leaf, fork, IsAmong, IsIn, IsTree, Part, heads_in, masks_in, name_of, ForkAt, Way, one_if, leaves_at}
@@ -9,11 +9,6 @@ use Rattle.radix_tree.proofs.MaskLists.{not_below_among, among_not_below, below_
 use Rattle.radix_nodes.specs.Naming.{number_of}
 
 module _ {V : Type 0} where
-  -- routes of a part in one room have one key and one rank
-  pub same_pair : (m : Lodged V) (p : Part m) (x y : Placed V) → IsIn x p.tree → IsIn y p.tree → number_of x.room ≡ (number_of y.room)
-      → (x.entry.key ≡ y.entry.key) × (x.entry.rank ≡ y.entry.rank)
-  same_pair m p x y one other same = grind (arith, tree_said)
-
   -- the masks of a part, once those of its bit node that are past a bit are listed there, and the others are a list of their own
   pub record IsCut (m new : Lodged V) (low bit : ℕ) (t : Tree V) (first : Option Id) : Type 0 where
     pub leaves : KeepsLeaves m new
@@ -34,8 +29,8 @@ module _ {V : Type 0} where
       let p = some_of (masks_in m (number_of x.room)) marked in
       let z = w.listed (number_of x.room) p.0 p.1 in
       let o = on_way m key w.part at ups way in
-      let pair = same_pair m w.part z.0 x z.1 (search (plug_in, o.was)) z.2 in
-      let home = subst (λ r. HasHome x.entry.key r w.part.tree) pair.1 (subst (λ k. HasHome k z.0.entry.rank w.part.tree) pair.0 z.3) in
+      let same = one_room m w.part z.0 x z.1 (search (plug_in, o.was)) z.2 in
+      let home = subst (λ p. HasHome p.entry.key p.entry.rank w.part.tree) same z.3 in
       elim (home_plug w.part.low o.frames at.tree x (subst (IsTree w.part.low) o.was w.part.is) there (subst (HasHome x.entry.key x.entry.rank) o.was home)) [
         | inl above ↦ absurd (omega arith)
         | inr here ↦ subst (HasHome x.entry.key x.entry.rank) is here
@@ -65,7 +60,7 @@ module _ {V : Type 0} where
       let all_forks : (n : ℕ) → forks_at n p.tree ≡ one_if (number_of room == n) + (forks_at n f.zero + forks_at n f.one) = λ n. ap (forks_at n) f.is in
       let outside : (y : Placed V) → IsIn y p.tree → ((z : Placed V) → IsAmong z l.masks → y.entry.rank ≡ z.entry.rank → ⊥)
       → masks_in new (number_of y.room) ≡ masks_in m (number_of y.room) =
-      λ y at other. masks l.masks ms (number_of y.room) (λ z among same. other z among (same_pair m p y z at (l.within z among).0 (sym same)).1) in
+      λ y at other. masks l.masks ms (number_of y.room) (λ z among same. other z among (ap (λ p. p.entry.rank) (one_room m p y z at (l.within z among).0 (sym same)))) in
       let zeros : (y : Placed V) → IsIn y f.zero → f.bit + 1 ≤ y.entry.rank → masks_in new (number_of y.room) ≡ masks_in m (number_of y.room) =
       λ y at least. outside y (subst (IsIn y) (sym f.is) (inl at))
       (λ z among same. omega (arith, (falls_among p.low (f.bit + 1) l.masks l.falls z among).1)) in

@@ -1,5 +1,5 @@
 -- The list of masks of a bit node that goes is handed on to the node that takes its place.
-use Rattle.radix_tree.proofs.{FrameLists.lists_stay, RoomReads.inside, RoomReads.none_some, PartRooms.one_if_same, PartRooms.way_once, Facts.some_of, MaskLinks.stand_same}
+use Rattle.radix_tree.proofs.{FrameLists.lists_stay, HomeLists.one_room, RoomReads.inside, RoomReads.none_some, PartRooms.one_if_same, PartRooms.way_once, Facts.some_of, MaskLinks.stand_same}
 use Rattle.radix_tree.proofs.Words.{◌≡◌, ◌+◌, ◌≤◌, ◌⊎◌, ◌==◌, List, [], ◌∷◌, ◌++◌, Option, None, inl, inr, refl, sym, ap, ◌∙◌, subst, arith, ℕ, cases_lt}
 use Rattle.radix_tree.proofs.Words.{cases_eq, is_some, Id, LeafOf, BitOf, Placed, Tree, leaf, fork, IsAmong, IsIn, IsTree, Heads, Masks, Part}
 use Rattle.radix_tree.proofs.Words.{heads_in, masks_in, name_of, Falls, one_if, forks_at, AreOnce, HasSides, IsLone, IsHanded, IsMarked}
@@ -22,14 +22,6 @@ module _ {V : Type 0} where
           | inr aside ↦ search arith
         ]
       ]
-
-  -- the routes of a part tell their ranks by their rooms
-  pub same_rank_at : (m : Lodged V) (p : Part m) (x y : Placed V) → IsIn x p.tree → IsIn y p.tree → number_of x.room ≡ number_of y.room → x.entry.rank ≡
-      y.entry.rank
-  same_rank_at m p x y one other same =
-      let first = ranked_in m p x one in
-      let second = ranked_in m p y other in
-      search (arith, inside)
 
   -- ---- to a bit node
   -- its list, and that of the bit node that goes
@@ -116,7 +108,7 @@ module _ {V : Type 0} where
       → masks_in new (number_of y.room) ≡ masks_in m (number_of y.room)
   rank_stays m over b c w a inside_over y at past =
       a.masks w.own.masks w.own_is (number_of y.room) (λ z among same.
-      let rank = same_rank_at m over z y (inside_over z (w.own.within z among).0) at same in
+      let rank = ap (λ p. p.entry.rank) (one_room m over z y (inside_over z (w.own.within z among).0) at same) in
       search (arith, falls_among))
 
   fork_handed : (m new : Lodged V) (over : Part m) {key : ℕ} (up room : Id) (b c : ℕ) (x : Placed V) (zero one : Tree V) {first : Option Id}

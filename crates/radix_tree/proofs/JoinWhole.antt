@@ -2,7 +2,7 @@
 use Rattle.radix_tree.proofs.{MovedReads.content_lift, MovedReads.lift_used, RoomReads.inside, RoomReads.none_some, PartRooms.one_if_same, Forking.lifted}
 use Rattle.radix_tree.proofs.{Plugs.counted_leaf, Plugs.spare_same, PlugLists.marked_same, PlugLists.lists_same, Exchanging.exchanged, WholeParts.Fits}
 use Rattle.radix_tree.proofs.{Facts.some_of, Facts.test_turned, WholeChanges.spare_changed, WholeChanges.whole_changed, WholeRoutes.routes_changed}
-use Rattle.radix_tree.proofs.{WholeRoutes.loses_spliced, JoinLists.same_rank_at, JoinLone.lone_said, ChainRemovals.routes_some}
+use Rattle.radix_tree.proofs.{WholeRoutes.loses_spliced, HomeLists.one_room, JoinLone.lone_said, ChainRemovals.routes_some}
 use Rattle.radix_tree.proofs.Words.{◌≡◌, ◌+◌, ◌<◌, ◌≤◌, ◌==◌, true, false, Some, None, inl, inr, refl, sym, ap, ◌∙◌, subst, arith, ℕ, eqb-true, eq-eqb, is_some}
 use Rattle.radix_tree.proofs.Words.{Id, Node, Placed, Tree, leaf, fork, IsIn, IsTree, LeafPart, Part, leaves_in, bits_in, heads_in, masks_in, name_of, one_if}
 use Rattle.radix_tree.proofs.Words.{leaves_at, forks_at, shown, shown_entry, name_child, root_after, AreOnce, Gains, IsExchange, Exchanged, IsLone, IsHanded}
@@ -108,7 +108,7 @@ module _ {V : Type 0} where
 
     short_stays : (new : Lodged V) → IsHanded m new l.over.low l.over.tree l.other → (y : Placed V) → IsIn y l.over.tree → y.entry.rank < l.over.low
         → masks_in new (number_of y.room) ≡ masks_in m (number_of y.room)
-    short_stays new h y is short = h.masks (number_of y.room) (λ z there past same. let rank = same_rank_at m l.over z y there is same in absurd (omega arith))
+    short_stays new h y is short = h.masks (number_of y.room) (λ z there past same. let rank = ap (λ p. p.entry.rank) (one_room m l.over z y there is same) in absurd (omega arith))
 
     pub fits : (new : Lodged V) (j : IsJoined m new whole at up l) → IsHanded m new l.over.low l.over.tree l.other → masks_in m (number_of at) ≡ None
         → Fits m new whole l.over (under_part j) (late_at (number_of at)) nobody_late nobody_out (out_at (number_of at))

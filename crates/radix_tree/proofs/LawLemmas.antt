@@ -9,11 +9,6 @@ use Rattle.radix_tree.proofs.Words.{greater, best_of, AreOnePair, StandsIn, Agre
 use Rattle.radix_tree.proofs.Words.{BestIsGreater, BestStaysWithout, WithThenWithout, WithoutThenWith, WithTwiceIsLast, routed, Entry}
 use Rattle.radix_tree.proofs.TableLemmas.{later, same, sooner, with_later, with_parts, without_absent, without_is_table}
 use Rattle.radix_tree.proofs.MemberLemmas.{best_is_member, members_stand, members_are_routes, members_of_without, without_keeps}
-pub use Rattle.radix_tree.proofs.OrderLemmas.{precedes_in_words, precedes_one_way, precedes_transitively, precedes_or_same}
-pub use Rattle.radix_tree.proofs.TableLemmas.{with_is_table, without_is_table}
-pub use Rattle.radix_tree.proofs.MemberLemmas.{members_stand, members_are_routes, entry_at_is_member, first_of_is_member, best_is_member, first_is_greatest}
-pub use Rattle.radix_tree.proofs.MemberLemmas.{with_stands, with_keeps_others, without_leaves_none, without_keeps_others, members_of_with, members_of_without}
-pub use Rattle.radix_tree.proofs.MemberLemmas.{with_counts, without_counts}
 
 -- the best with an entry before that the address agrees with, or not
 best_here : {V : Type 0} (address : ℕ) (x : Entry V) (xs : List (Entry V)) → agrees x.rank x.key address ≡ true

@@ -12,19 +12,9 @@ and_left : (a b : Bool) → (a && b) ≡ true → a ≡ true
 and_left true b both = refl
 and_left false b both = absurd (true≢false (sym both))
 
-and_right : (a b : Bool) → (a && b) ≡ true → b ≡ true
-and_right true b both = both
-and_right false b both = absurd (true≢false (sym both))
-
-not_true : {b : Bool} → not b ≡ true → b ≡ true → ⊥
-not_true none is = true≢false (sym none ∙ ap not is)
-
 both_true : (a b : Bool) → a ≡ true → (b ≡ true → ⊥) → (a && not b) ≡ true
 both_true a true is other = absurd (other refl)
 both_true a false is other = ap (λ t. t && true) is
-
-eqb_not : (n k : ℕ) → not (n == k) ≡ true → n ≡ k → ⊥
-eqb_not n k none same = not_true none (eq-eqb n k same)
 
 module _ {V : Type 0} where
   -- ---- one room

@@ -1,6 +1,6 @@
 -- Table order, and where an entry stands beside a pair in it.
 use Rattle.radix_tree.proofs.Words.{◌≡◌, ℕ, Bool, true, false, ◌&&◌, ◌||◌, nat_lt, nat_eq, IsTrue, inl, inr, arith, cases_lt, precedes}
-use Rattle.radix_tree.proofs.Words.{has_pair, AreOnePair, PrecedesInWords, PrecedesOneWay, PrecedesTransitively, PrecedesOrSame, Entry}
+use Rattle.radix_tree.proofs.Words.{has_pair, AreOnePair, PrecedesInWords, PrecedesOneWay, PrecedesTransitively, Entry}
 
 -- the entry precedes, in table order, those that have this pair
 abbrev pub stands_before : {V : Type 0} → ℕ → ℕ → Entry V → Bool
@@ -67,6 +67,3 @@ precedes_one_way e f h = grind arith
 
 pub precedes_transitively : {V : Type 0} → PrecedesTransitively V
 precedes_transitively e f g h k = grind arith
-
-pub precedes_or_same : {V : Type 0} → PrecedesOrSame V
-precedes_or_same e f = grind arith

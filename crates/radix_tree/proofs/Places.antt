@@ -1,7 +1,7 @@
 -- What rooms have as leaves, their blocks and pairs, while their links change.
 use Rattle.radix_tree.specs.Index.{pair, place_of, places_in, with_place, HasPlaceLess}
 use Rattle.radix_tree.specs.Chains.{name_next, name_back, link_in}
-use Rattle.radix_tree.proofs.RemovedRooms.{get_out, get_other}
+use Rattle.radix_tree.proofs.{RemovedRooms.get_out, RemovedRooms.get_other, ChainWrites.back_same, ChainWrites.next_same}
 use Rattle.std.specs.FinMap.{remove}
 use Rattle.radix_tree.specs.Removal.{content_of, KeepsRoutes}
 use Rattle.radix_tree.specs.Writes.{lodge_leaf, lift_leaf}
@@ -11,20 +11,11 @@ use Rattle.radix_nodes.specs.Naming.{number_of}
 
 module _ {V : Type 0} where
   -- ---- the links of leaves are no part of it
-  lifted_place : (below : Node) (new : Option Id) (n : ℕ) (o : Option (LeafPart V)) → place_of (lift_leaf below new n o) ≡ place_of o
-  lifted_place (BitOf room) new n o = refl
-  lifted_place (LeafOf room) new n None = grind arith
-  lifted_place (LeafOf room) new n (Some p) = grind arith
-
-  next_place : (at next : Option Id) (n : ℕ) (o : Option (LeafPart V)) → place_of (name_next at next n o) ≡ place_of o
-  next_place None next n o = refl
-  next_place (Some room) next n None = grind arith
-  next_place (Some room) next n (Some p) = grind arith
-
-  back_place : (at above previous : Option Id) (n : ℕ) (o : Option (LeafPart V)) → place_of (name_back at above previous n o) ≡ place_of o
-  back_place None above previous n o = refl
-  back_place (Some room) above previous n None = grind arith
-  back_place (Some room) above previous n (Some p) = grind arith
+  content_place : (o p : Option (LeafPart V)) → content_of o ≡ content_of p → place_of o ≡ place_of p
+  content_place None None is = refl
+  content_place None (Some p) is = grind arith
+  content_place (Some q) None is = grind arith
+  content_place (Some q) (Some p) is = grind arith
 
   -- ---- a route comes into a room
   pub lodged_place : (room : Id) (value : V) (leaf : Leaf) (n : ℕ) (o : Option (LeafPart V)) → place_of (lodge_leaf room value leaf n o)
@@ -33,16 +24,10 @@ module _ {V : Type 0} where
 
   pub linked_place : (room : Id) (value : V) (leaf : Leaf) (n : ℕ) (o : Option (LeafPart V)) → place_of (link_in room value leaf n o)
       ≡ with_place room (pair leaf.key leaf.rank) n (place_of o)
-  linked_place room value leaf n o =
-      back_place leaf.next None (Some room) n _ ∙ next_place leaf.previous (Some room) n _ ∙ lodged_place room value leaf n o
+  linked_place room value leaf n o = content_place (link_in room value leaf n o) (lodge_leaf room value leaf n o) (search (arith, back_same, next_same))
+      ∙ lodged_place room value leaf n o
 
   -- ---- rooms keep their routes
-  content_place : (o p : Option (LeafPart V)) → content_of o ≡ content_of p → place_of o ≡ place_of p
-  content_place None None is = refl
-  content_place None (Some p) is = grind arith
-  content_place (Some q) None is = grind arith
-  content_place (Some q) (Some p) is = grind arith
-
   pub kept_places : (m new : Lodged V) → KeepsRoutes m new → (n : ℕ) → places_in new n ≡ places_in m n
   kept_places m new keeps n = content_place (leaves_in new n) (leaves_in m n) (keeps n)
 

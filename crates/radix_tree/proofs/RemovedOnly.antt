@@ -1,5 +1,5 @@
 -- The only route of a tree, which has no other member in its chain and no bit node above.
-use Rattle.radix_tree.proofs.{Showing.part_shown, MovedReads.none_or_some, MovedReads.one_if_not, Facts.no_use, Facts.none_of}
+use Rattle.radix_tree.proofs.{Showing.part_shown, MovedReads.none_or_some, MovedReads.one_if_not, Facts.no_use, Facts.none_of, ChainNeighbours.leaf_is}
 use Rattle.radix_tree.proofs.Words.{◌≡◌, ℕ, ◌≤◌, ◌⊎◌, true, List, [], ◌∷◌, Option, Some, None, refl, sym, ap, ◌∙◌, inl, inr, arith, eqb-true, is_some, Has}
 use Rattle.radix_tree.proofs.Words.{leaf_of, Id, Links, Leaf, Node, Placed, Tree, leaf, fork, routes_of, LeafPart, Leaves, Bits, leaf_in, leaves_in, bits_in}
 use Rattle.radix_tree.proofs.Words.{first_room, ChainStands, Stands, one_if, members_at, leaves_at, shown, shown_entry, Gains, IsWholeBut, is_of_key, has_key}
@@ -19,10 +19,6 @@ module _ {V : Type 0} where
   -- ---- a room's leaf
   pub leaf_at : {m : Lodged V} {room : Id} → Has m room → (p : LeafPart V) × (leaves_in m (number_of room) ≡ Some p)
   leaf_at h = (record { block = h.room.block; value = h.room.value; leaf = leaf_of h.room.links }, ap leaf_in h.at)
-
-  pub leaf_is : {m : Lodged V} {room : Id} (links : Links) {l : Leaf} → Has m room → AreLinks m room links → l ≡ leaf_of links → {p : LeafPart V}
-      → leaves_in m (number_of room) ≡ Some p → l ≡ p.leaf
-  leaf_is links h are reads said = search (arith, inside)
 
   pub member_is : {m : Lodged V} {room to : Id} (links : Links) {l : Leaf} {o : Option Id} → Has m room → AreLinks m room links → l ≡ leaf_of links
       → o ≡ member_beside l.next l.previous → o ≡ Some to

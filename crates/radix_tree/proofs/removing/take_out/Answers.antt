@@ -1,6 +1,6 @@
-use Rattle.radix_tree.proofs.{MovedReads.Has_kept, Facts.none_if}
+use Rattle.radix_tree.proofs.{MovedReads.Has_kept, Facts.none_if, ChainNeighbours.leaf_is}
 use Rattle.radix_tree.proofs.Words.{◌∙◌, sym, ap, number_of, arith}
-use Rattle.radix_tree.proofs.RemovedOnly.{can_take, leaf_at, leaf_is, alone_is, member_is, only, only_room, only_shown}
+use Rattle.radix_tree.proofs.RemovedOnly.{can_take, leaf_at, alone_is, member_is, only, only_room, only_shown}
 use Rattle.radix_tree.proofs.removing.take_out.Goals as goal
 
 pub vacate-requires-clause-from : goal.vacate-requires-clause-from
@@ -30,12 +30,12 @@ returns-in-None-clause-out g c n other =
     let p = leaf_at c.requires.route.there in
     let a = alone_is c.links.result.now c.requires.route.there c.links.ensures.links c.leaf-leaf.ensures c.other_member.ensures
     (none_if c.other_member.result c.in_default.not-Some) p.0 p.1 in
-    let above = ap (λ z. z.above) (sym (leaf_is c.links.result.now c.requires.route.there c.links.ensures.links c.leaf-leaf.ensures p.1)) ∙ c.in-None.is in
+    let above = ap (λ z. z.above) (sym (leaf_is c.links.result.now c.requires.route.there p.1 c.links.ensures.links c.leaf-leaf.ensures)) ∙ c.in-None.is in
     let o = only (number_of c.args.at) c.requires.route.whole p.0 p.1 a.0 a.1 above in only_room _ c.requires.route.whole p.0 o n other
 
 pub returns-in-None-clause-routes : goal.returns-in-None-clause-routes
 returns-in-None-clause-routes g c p said =
     let a = alone_is c.links.result.now c.requires.route.there c.links.ensures.links c.leaf-leaf.ensures c.other_member.ensures
     (none_if c.other_member.result c.in_default.not-Some) p said in
-    let above = ap (λ z. z.above) (sym (leaf_is c.links.result.now c.requires.route.there c.links.ensures.links c.leaf-leaf.ensures said)) ∙ c.in-None.is in
+    let above = ap (λ z. z.above) (sym (leaf_is c.links.result.now c.requires.route.there said c.links.ensures.links c.leaf-leaf.ensures)) ∙ c.in-None.is in
     let o = only (number_of c.args.at) c.requires.route.whole p said a.0 a.1 above in only_shown _ c.requires.route.whole p o
