@@ -6,12 +6,17 @@ use Rattle.room_index.specs.declared.homes.Homes.{Homes}
 abbrev pub pair : ℕ → ℕ → ℕ
 pair key rank = key * 64 + rank
 
+-- the last two bits of its key
+abbrev side : ℕ → ℕ
+side pair = pair / 64 % 4
+
 -- multiplied by an odd number near 2^64 over the golden ratio, and its upper half folded into the lower one
 abbrev folded : ℕ → ℕ
 folded product = bit_xor product (product / 2 ^ 32)
 
+-- hosts that differ in these two bits alone have numbers that do, in the lowest bits of either home
 unfoldable pub spread : ℕ → ℕ
-spread pair = folded (pair * 0x9E37_79B9_7F4A_7C15 % 2 ^ 64)
+spread pair = bit_xor (folded ((pair - side pair * 64) * 0x9E37_79B9_7F4A_7C15 % 2 ^ 64)) (side pair * (2 ^ 24 + 1))
 
 -- the tag, which isn't 0
 abbrev pub tag_of : ℕ → ℕ

@@ -85,15 +85,21 @@ impl Homes {
     }
 }
 
-/// A number of which each part depends on all of the pair. Multiplied by an odd number near 2^64 over the golden ratio, pairs
-/// that are near each other come far apart (Knuth, The Art of Computer Programming, 6.4), in the upper half; which is folded
-/// into the lower one.
+/// In which bits of `spread` the last two of a key stand: in the lowest of those that tell either bucket.
+const SIDES: u64 = 1 << MOST_BITS | 1;
+
+/// A number that tells both buckets and the tag. Each part of it depends on all of the pair, but for the last two bits of the
+/// key, which stand in it as they are: so hosts that lie side by side have buckets that do, and those who come or go in order
+/// read one line of memory for four of them. The rest is multiplied by an odd number near 2^64 over the golden ratio, by which
+/// what is near comes far apart (Knuth, The Art of Computer Programming, 6.4), in the upper half; which is folded into the
+/// lower one.
 #[inline(always)]
 fn spread(pair: u64) -> u64
     ensures { result ≡ spread pair }
 {
-    let product = pair.wrapping_mul(0x9E37_79B9_7F4A_7C15);
-    product ^ product >> 32
+    let side = pair / 64 % 4;
+    let product = (pair - side * 64).wrapping_mul(0x9E37_79B9_7F4A_7C15);
+    product ^ product >> 32 ^ side * SIDES
 }
 
 /// The lowest bits of a number.
