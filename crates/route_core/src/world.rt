@@ -15,6 +15,7 @@ use listeners::Listeners;
 use memory::Memory;
 use radix_tree::Table;
 use route_entries::{Blocks, PackedRoute};
+use route_msgs::Message;
 use sock_addrs::{Errno, Name};
 use std::alloc::{AllocError, Global};
 use std::marker::Model;
@@ -28,6 +29,8 @@ pub struct World {
     pub(crate) interfaces: Interfaces,
     pub(crate) listeners: Listeners,
     pub(crate) reply: ReplyBuffer,
+    /// Room for the reply to a GET, which isn't the written message.
+    pub(crate) got: Message,
     pub(crate) alloc: Global,
 }
 
@@ -65,6 +68,7 @@ impl World {
             interfaces: Interfaces::new(alloc),
             listeners: Listeners::new(alloc),
             reply: ReplyBuffer::new(alloc, memory)?,
+            got: Message::new(),
             alloc,
         })
     }

@@ -77,14 +77,13 @@ impl World {
             self.old (answer_of result) self.new }
         ensures counted { Rises (lacks_memory (answer_of result)) memory.old memory.new }
     {
-        let mut own = Message::new();
         match carry_out(
             &mut self.table,
             &mut self.blocks,
             &self.interfaces,
             asked,
             pid,
-            &mut own,
+            &mut self.got,
             memory,
         ) {
             Ok(done) => {
@@ -97,7 +96,7 @@ impl World {
                     bytes,
                     &asked.header,
                     &done,
-                    &own,
+                    &self.got,
                 );
                 Ok(())
             }
