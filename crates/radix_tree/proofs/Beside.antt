@@ -1,32 +1,29 @@
 -- A route of a new key comes into the tree: what the rooms say afterwards is the tree with it.
-use Rattle.radix_tree.proofs.{AddressBits.zero_not_one, AddressBits.zero_or_one, Exchanging.exchanged}
-use Rattle.radix_tree.proofs.Words.{◌≡◌, ℕ, ◌<◌, ◌≤◌, List, [], ◌∷◌, Option, Some, None, refl, sym, ap, ◌∙◌, subst, arith, inl, inr}
-use Rattle.radix_tree.proofs.Words.{eq-eqb, ne_eqb, Id, Node, LeafOf, BitOf, IsRoute, Placed, Tree, leaf, fork, bit_at, HaveBit, LeafPart, BitPart, Part}
-use Rattle.radix_tree.proofs.Words.{leaves_in, bits_in, name_of, Stands, Way, leaves_at, forks_at, name_child, root_after, AreOnce, IsPlace}
-use Rattle.radix_tree.proofs.Words.{IsSpot, IsBeside, forked_tree, IsExchange, Exchanged, lift_leaf, lift_bit, Lodged, number_of}
-use Rattle.radix_tree.proofs.PartRooms.{one_if_same, way_once, spine_out}
-use Rattle.radix_tree.proofs.Forking.{one_value, zero_fork_is, one_fork_is, lifted, leaves_there, forks_there}
+use Rattle.radix_tree.proofs.{Exchanging.exchanged, RoomReads.Has-leaf, Parts.fork_stands}
+use Rattle.radix_tree.proofs.Facts.{zero_not_one, zero_or_one, off_room, own_room}
+use Rattle.radix_tree.proofs.PartRooms.{one_if_same, way_once, spine_out, one_value, zero_fork_is, one_fork_is, lifted, leaves_there, forks_there, frame}
+use Rattle.radix_tree.proofs.Words.{◌≡◌, ℕ, ◌<◌, ◌≤◌, List, [], ◌∷◌, Option, Some, None, refl, sym, ap, ◌∙◌, subst, arith, inl, inr, eq-eqb, ne_eqb, Id, Node}
+use Rattle.radix_tree.proofs.Words.{LeafOf, BitOf, IsRoute, Placed, Tree, leaf, fork, bit_at, HaveBit, LeafPart, BitPart, Part, leaves_in, bits_in, name_of}
+use Rattle.radix_tree.proofs.Words.{Stands, Way, leaves_at, forks_at, name_child, root_after, AreOnce, IsPlace, IsSpot, IsBeside, forked_tree, IsExchange}
+use Rattle.radix_tree.proofs.Words.{Exchanged, lift_leaf, lift_bit, Lodged, number_of, none_some, get, Has, BitNode, Leaf, bit_part, ForkAt, IsLodged, forked}
+use Rattle.radix_tree.proofs.Words.{placed, lodge_leaf, put_leaf, put_bit, KeepsLeaves, KeepsBits, Entry}
 
 -- a name that is not in a room is not the room's
 pub misses_leaf : {A : Type 0} (at : Node) (n : ℕ) → ((room : Id) → at ≡ LeafOf room → n ≡ number_of room → ⊥)
     → (above : Option Id) (said : Option (LeafPart A)) → lift_leaf at above n said ≡ said
-misses_leaf (LeafOf room) n other above said = search (arith, ne_eqb)
-misses_leaf (BitOf room) n other above said = refl
+misses_leaf at n other above said = search arith
 
 pub misses_bit : (at : Node) (n : ℕ) → ((room : Id) → at ≡ BitOf room → n ≡ number_of room → ⊥) → (above : Option Id) (said : Option BitPart)
     → lift_bit at above n said ≡ said
-misses_bit (LeafOf room) n other above said = refl
-misses_bit (BitOf room) n other above said = search (arith, ne_eqb)
+misses_bit at n other above said = search arith
 
 module _ {V : Type 0} where
   -- the room of a part's name is in the part
   pub named_leaf : (t : Tree V) (room : Id) → name_of t ≡ LeafOf room → 1 ≤ leaves_at (number_of room) t
-  named_leaf (leaf x xs) room e = search (arith, one_if_same)
-  named_leaf (fork i b zero one) room e = cc
+  named_leaf t room e = search arith
 
   pub named_bit : (t : Tree V) (room : Id) → name_of t ≡ BitOf room → 1 ≤ forks_at (number_of room) t
-  named_bit (leaf x xs) room e = cc
-  named_bit (fork i b zero one) room e = search (arith, one_if_same)
+  named_bit t room e = search arith
 
   -- ---- the state before and after
   -- a room of the part isn't the new one
@@ -130,3 +127,83 @@ module _ {V : Type 0} where
           leaves = leaf_stays;
           bits = search (arith, bit_stays);
         } in (u.part, u.tree, search (arith, exchanged))
+
+-- -------- a room in which a route is lodged, as a leaf and as a bit node
+-- a room that isn't the bit node above isn't turned
+pub new_turn : (above : Option Id) (key n : ℕ) (to : Node) (said : Option BitPart) → ((over : Id) → above ≡ Some over → n ≡ number_of over → ⊥)
+    → name_child above key to n said ≡ said
+new_turn above key n to said other = search arith
+
+module _ {V : Type 0} where
+  pub Has-lodged_leaf : (new : Lodged V) (room : Id) (value : V) (l : Leaf) (said : Option (LeafPart V))
+      → leaves_in new (number_of room) ≡ lodge_leaf room value l (number_of room) said → Has new room
+  Has-lodged_leaf new room value l said is = Has-leaf new room (is ∙ own_room room (Some (record { block = room.block; value = value; leaf = l })) said) refl
+
+  -- a leaf that was lodged and written again
+  pub leaf_again : (m new : Lodged V) (room : Id) (value : V) (first then_ : Leaf) (said : Option (LeafPart V))
+      → leaves_in m (number_of room) ≡ lodge_leaf room value first (number_of room) said
+      → leaves_in new (number_of room) ≡ put_leaf room then_ (number_of room) (leaves_in m (number_of room))
+      → leaves_in new (number_of room) ≡ Some (record { block = room.block; value = value; leaf = then_ })
+  leaf_again m new room value first then_ said was is = grind arith
+
+  pub Has-again : (m new : Lodged V) (room : Id) (value : V) (first then_ : Leaf) (said : Option (LeafPart V))
+      → leaves_in m (number_of room) ≡ lodge_leaf room value first (number_of room) said
+      → leaves_in new (number_of room) ≡ put_leaf room then_ (number_of room) (leaves_in m (number_of room)) → Has new room
+  Has-again m new room value first then_ said was is = Has-leaf new room (leaf_again m new room value first then_ said was is) refl
+
+  -- the three writes together
+  pub lodged : (m1 m2 m3 m4 : Lodged V) (room : Id) (e : Entry V) (first then_ : Leaf) (n : BitNode) (p : BitPart) → get m1 (number_of room) ≡ None
+      → ((k : ℕ) → leaves_in m2 k ≡ lodge_leaf room e.value first k (leaves_in m1 k)) → KeepsBits m1 m2
+      → ((k : ℕ) → leaves_in m3 k ≡ put_leaf room then_ k (leaves_in m2 k)) → KeepsBits m2 m3
+      → KeepsLeaves m3 m4 → ((k : ℕ) → bits_in m4 k ≡ put_bit room (Some n) k (bits_in m3 k))
+      → then_ ≡ record { key = e.key; rank = e.rank; above = Some room; next = None; previous = None } → bit_part room.block (Some n) ≡ Some p
+      → IsLodged m1 m4 room e p
+  lodged m1 m2 m3 m4 room e first then_ n p free leaves2 bits2 leaves3 bits3 leaves4 bits4 leaf_is node_is = grind (arith, off_room)
+
+  -- ---- parts that stay
+  abbrev pub stays : (m new : Lodged V) (p : Part m) → ((n : ℕ) → 1 ≤ leaves_at n p.tree → leaves_in new n ≡ leaves_in m n)
+      → ((n : ℕ) → 1 ≤ forks_at n p.tree → bits_in new n ≡ bits_in m n) → Part new
+  stays m new p leaves forks = record {
+    tree = p.tree;
+    low = p.low;
+    above = p.above;
+    is = p.is;
+    stands = frame (leaves_in m) (leaves_in new) (bits_in m) (bits_in new) p.above p.tree leaves forks p.stands;
+  }
+
+  pub over_at : (m : Lodged V) (key : ℕ) (whole at : Part m) (ups : List (Part m)) {above : Option Id} {over : Id} → Way key whole at ups → whole.above ≡ None
+      → at.above ≡ above → above ≡ Some over → (p : Part m) × ForkAt p over
+  over_at m key whole at [] way top is some = absurd (grind arith)
+  over_at m key whole at (p ∷ ps) {over = over} way top is some = (p, grind arith)
+
+  module _ {m new : Lodged V} {key bit : ℕ} {room : Id} {e : Entry V} (node : BitPart) {whole : Part m} {above : Option Id} {below : Node}
+      (s : IsSpot m key bit whole above below) (l : IsLodged m new room e node) where
+    -- the bit node above the spot is there once the room is lodged
+    pub over_there : {over : Id} → above ≡ Some over → (p : Part new) × ForkAt p over
+    over_there is =
+        let o = over_at m key whole s.at s.ups s.way s.top s.above_is is in (
+          stays m new o.0 (λ n some. l.leaves n (not_new o.0 room l.no_leaf n some)) (λ n some. l.bits n (not_new_bit o.0 room l.no_bit n some)),
+          search,
+        )
+
+    -- and the part beneath it once that names the new bit node
+    pub below_there : (turned : Lodged V) → KeepsLeaves new turned → ((n : ℕ) → bits_in turned n ≡ name_child above key (BitOf room) n (bits_in new n))
+        → (p : Part turned) × (name_of p.tree ≡ below)
+    below_there turned leaves bits = (
+      stays m turned s.at (grind (arith, not_new, l.leaves, l.no_leaf))
+          (λ n some. bits n ∙ ap (name_child above key (BitOf room) n) (l.bits n (not_new_bit s.at room l.no_bit n some))
+          ∙ ap (λ o. name_child o key (BitOf room) n (bits_in m n)) (sym s.above_is)
+          ∙ not_above m key whole s.at s.ups s.way s.top s.once (BitOf room) n some),
+      s.named,
+    )
+
+  -- what all writes together leave
+  pub beside : {m new : Lodged V} (turned last : Lodged V) {bit : ℕ} {room : Id} {e : Entry V} (whole : Part m) {above : Option Id} {below : Node}
+      → IsSpot m e.key bit whole above below → IsLodged m new room e (forked e.key bit room below above)
+      → KeepsLeaves new turned → ((n : ℕ) → bits_in turned n ≡ name_child above e.key (BitOf room) n (bits_in new n))
+      → ((n : ℕ) → leaves_in last n ≡ lift_leaf below (Some room) n (leaves_in turned n))
+      → ((n : ℕ) → bits_in last n ≡ lift_bit below (Some room) n (bits_in turned n)) → IsBeside m last bit (placed room e) above below
+  beside {m = m} {new = new} turned last {room = room} {e = e} whole {above = above} {below = below} s l leaves bits lifted_leaves lifted_bits =
+      let new_above : (over : Id) → above ≡ Some over → number_of room ≡ number_of over → ⊥ = λ over is same.
+      none_some (sym l.no_bit ∙ ap (bits_in m) same ∙ (fork_stands (over_at m e.key whole s.at s.ups s.way s.top s.above_is is).1).0) in
+      grind (arith, misses_bit, new_turn)

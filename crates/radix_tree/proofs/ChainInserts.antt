@@ -1,15 +1,15 @@
 -- A route comes into the chain of its key.
-use Rattle.radix_tree.proofs.{TreeMembers.IsSaid, TreeMembers.chain_key, TreeMembers.tree_said, RoomReads.inside, RoomReads.none_some, RoomReads.Has-leaf}
-use Rattle.radix_tree.proofs.{Parts.leaf_run, Parts.in_leaf, Parts.way_inside, PartRooms.way_once, Lodging.over_at, Lodging.stays, Beside.not_new}
-use Rattle.radix_tree.proofs.{ChainRooms.whole_route, WholeParts.once_but, ChainGaps.behind_stands, ChainLinks.linked_in, ChainLinks.in_others}
-use Rattle.radix_tree.proofs.{ChainWrites.next_same, ChainWrites.back_same, ChainLists.cons_at, ChainLists.chain_more, ChainWholes.grown_whole, ChainWholes.grown_routes, MovedReads.content_used}
-use Rattle.radix_tree.proofs.Words.{◌≡◌, ℕ, ◌≤◌, ◌==◌, ◌||◌, List, ◌∷◌, ◌++◌, Option, Some, None, refl, sym, ap, ◌∙◌, subst, arith}
-use Rattle.radix_tree.proofs.Words.{ne_eqb, is_some, Has, Id, Leaf, Node, LeafOf, IsRoute, Placed, leaf, IsIn, IsChain, LeafPart, Part, Run, leaves_in, bits_in}
-use Rattle.radix_tree.proofs.Words.{masks_in, name_of, first_room, ChainStands, Way, LedTo, ForkAt, HasPair, one_if, members_at, IsWhole}
-use Rattle.radix_tree.proofs.Words.{shown, name_child, root_after, placed, Gains, AreOnce, IsWholeBut, late_at, nobody_out, lodge_leaf, KeepsBits, KeepsHeads}
-use Rattle.radix_tree.proofs.Words.{KeepsMasks, leaf_next, leaf_back, name_next, name_back, link_in, above_behind, last_room, root_past, IsGap, FindsGap}
-use Rattle.radix_tree.proofs.Words.{content_of, Entry, Lodged, [], number_of}
-use Rattle.radix_tree.proofs.ChainExchanges.{Rechained, front_named, place_bits, place_root, cons_head}
+use Rattle.radix_tree.proofs.{TreeMembers.IsSaid, TreeMembers.chain_key, TreeMembers.tree_said, TreeMembers.whole_route, RoomReads.Has-leaf, Parts.leaf_run}
+use Rattle.radix_tree.proofs.{Parts.in_leaf, Parts.way_inside, PartRooms.way_once, Beside.over_at, Beside.stays, Beside.not_new, WholeChanges.once_but}
+use Rattle.radix_tree.proofs.{ChainGaps.behind_stands, ChainLists.linked_in, ChainLists.in_others, ChainLists.cons_at, ChainLists.chain_more}
+use Rattle.radix_tree.proofs.{MovedReads.next_same, MovedReads.back_same, MovedReads.content_used}
+use Rattle.radix_tree.proofs.ChainWholes.{grown_whole, grown_routes, Rechained, front_named, place_bits, place_root}
+use Rattle.radix_tree.proofs.Words.{inside, none_some, ◌≡◌, ℕ, ◌≤◌, ◌==◌, ◌||◌, List, ◌∷◌, ◌++◌, Option, Some, None, refl, sym, ap, ◌∙◌, subst, arith, ne_eqb}
+use Rattle.radix_tree.proofs.Words.{is_some, Has, Id, Leaf, Node, LeafOf, IsRoute, Placed, leaf, IsIn, IsChain, LeafPart, Part, Run, leaves_in, bits_in}
+use Rattle.radix_tree.proofs.Words.{masks_in, name_of, first_room, ChainStands, Way, LedTo, ForkAt, HasPair, one_if, members_at, IsWhole, shown, name_child}
+use Rattle.radix_tree.proofs.Words.{root_after, placed, Gains, AreOnce, IsWholeBut, late_at, nobody_out, lodge_leaf, KeepsBits, KeepsHeads, KeepsMasks}
+use Rattle.radix_tree.proofs.Words.{leaf_next, leaf_back, name_next, name_back, link_in, above_behind, last_room, root_past, IsGap, FindsGap, content_of, Entry}
+use Rattle.radix_tree.proofs.Words.{Lodged, [], number_of}
 
 module _ {V : Type 0} where
   -- ---- members on both sides of a place are in the map
@@ -77,8 +77,7 @@ module _ {V : Type 0} where
 
   pub cons_key : (front back : List (Placed V)) (x z : Placed V) (zs : List (Placed V)) → z ∷ zs ≡ front ++ back → z.entry.key ≡ x.entry.key
       → (cons_at front back x).first.entry.key ≡ z.entry.key
-  cons_key [] back x z zs is same = sym same
-  cons_key (f ∷ front) back x z zs is same = ap (λ p. p.entry.key) (sym (cons_head is))
+  cons_key front back x z zs is same = search arith
 
   -- no room is twice in the chain
   pub chain_once : {m : Lodged V} (key : ℕ) (whole at : Part m) (ups : List (Part m)) {z : Placed V} {zs c : List (Placed V)} → Way key whole at ups
@@ -102,9 +101,7 @@ module _ {V : Type 0} where
           cons = cons_at g.front g.back (placed id e);
           is = d.leaf.is;
           key_is = key;
-          chain = subst (λ k. IsChain k 34 (g.front ++ (placed id e ∷ g.back))) (sym key)
-              (chain_more 34 g.front g.back (placed id e) (subst (IsChain d.leaf.first.entry.key 34) g.is c.is) route (sym same) (omega arith) g.past
-              g.below);
+          chain = search (arith, chain_more);
           stands = linked_in (leaves_in m) (leaves_in new) d.part.above g.front g.back (placed id e)
               (subst (ChainStands (leaves_in m) d.part.above None) g.is c.stands) wr.free once
               (λ n. wr.leaves n ∙ ap (λ z. link_in id e.value z n (leaves_in m n)) g.leaf);

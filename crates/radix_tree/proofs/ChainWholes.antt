@@ -1,13 +1,138 @@
--- The chain of a leaf has a member more, or one less, and so the whole.
-use Rattle.radix_tree.proofs.{WholeParts.Fits, WholeRoutes.gains_spliced, WholeRoutes.loses_spliced, Facts.test_turned, Plugs.counted_member}
-use Rattle.radix_tree.proofs.Words.{◌≡◌, ℕ, ◌≤◌, ◌⊎◌, ◌==◌, ◌||◌, Bool, true≢false, List, ◌∷◌, ◌++◌, Some, None, sym, ap, ◌∙◌, subst, inl, inr, arith, eqb-true}
-use Rattle.radix_tree.proofs.Words.{eq-eqb, is_some, Node, LeafOf, Placed, leaf, IsAmong, IsIn, Part, leaves_in, bits_in, masks_in, name_of, Way, one_if}
-use Rattle.radix_tree.proofs.Words.{members_at, shown, root_after, Gains, IsWholeBut, nobody_late, late_at, nobody_out, out_at, Lodged, number_of}
-use Rattle.radix_tree.proofs.ChainLists.{members_more, among_more, among_own, among_less, one_fork_less, one_fork_more, routes_more}
-use Rattle.radix_tree.proofs.ChainExchanges.{one_more, Rechained, under, old_counts, now_counts, rechained, spliced, old_among, among_old, no_home, same_marks}
-use Rattle.radix_tree.proofs.ChainExchanges.{not_marked, same_forks}
+-- The chain of a leaf is exchanged for another one, with a member more or one less, and so the whole.
+use Rattle.radix_tree.proofs.{Plugs.one_fork_same, Plugs.counted_member, PartRooms.same_turned, Exchanging.exchanged, WholeRoutes.Spliced}
+use Rattle.radix_tree.proofs.{WholeRoutes.routes_changed, WholeRoutes.gains_spliced, WholeRoutes.loses_spliced, Facts.same_none, Facts.test_turned}
+use Rattle.radix_tree.proofs.{JoinSides.turn_used, WholeChanges.Fits, WholeChanges.once_but, WholeChanges.spare_changed, WholeChanges.whole_changed}
+use Rattle.radix_tree.proofs.ChainLists.{IsCons, cons_at, map_entries, members_more, among_more, among_own, among_less, one_fork_less, one_fork_more}
+use Rattle.radix_tree.proofs.ChainLists.{routes_more}
+use Rattle.radix_tree.proofs.Words.{◌≡◌, ℕ, ◌+◌, ◌≤◌, ◌==◌, ◌||◌, Bool, false, true≢false, List, [], ◌∷◌, ◌++◌, Option, Some, None, refl, sym, ap, ◌∙◌, subst}
+use Rattle.radix_tree.proofs.Words.{arith, eqb-true, eqb-false, eq-eqb, ne_eqb, is_some, Id, Node, LeafOf, Placed, Tree, leaf, IsAmong, IsIn, IsChain, IsTree}
+use Rattle.radix_tree.proofs.Words.{Part, leaves_in, bits_in, masks_in, name_of, ChainStands, Way, one_if, members_at, leaves_at, forks_at, HasHome, HasOneFork}
+use Rattle.radix_tree.proofs.Words.{shown, name_child, root_after, IsExchange, Exchanged, IsMarked, IsWholeBut, KeepsHeads, KeepsMasks, above_behind, last_room}
+use Rattle.radix_tree.proofs.Words.{root_past, Lodged, number_of, ◌⊎◌, inl, inr, Gains, nobody_late, late_at, nobody_out, out_at}
+
+-- ---- the bit node above
+pub one_more : (has : ℕ → Bool) (a n : ℕ) → has a ≡ false → one_if ((n == a) || has n) ≡ one_if (a == n) + one_if (has n)
+one_more has a n free = search (arith, eqb-true, eq-eqb, ne_eqb, eqb-false)
 
 module _ {V : Type 0} where
+  -- to name the part above as before changes nothing
+  pub turn_same : (m : Lodged V) (key : ℕ) (whole at : Part m) (ups : List (Part m)) → Way key whole at ups → whole.above ≡ None → (n : ℕ)
+      → name_child at.above key (name_of at.tree) n (bits_in m n) ≡ bits_in m n
+  turn_same m key whole at [] way top n = search arith
+  turn_same m key whole at (p ∷ ps) way top n = search (arith, eqb-true, same_turned)
+
+  pub root_same : {m : Lodged V} (key : ℕ) (whole at : Part m) (ups : List (Part m)) → Way key whole at ups → whole.above ≡ None
+      → root_after at.above (name_of at.tree) (name_of whole.tree) ≡ name_of whole.tree
+  root_same key whole at [] way top = search arith
+  root_same key whole at (p ∷ ps) way top = search arith
+
+  -- a chain begins with the first member before a place, where there is one
+  abbrev pub FrontNamed : List (Placed V) → Node → Type 0
+  FrontNamed [] name = Unit {0}
+  FrontNamed (f ∷ fs) name = name ≡ LeafOf f.room
+
+  pub front_named : {t : Tree V} {z : Placed V} {zs : List (Placed V)} (front back : List (Placed V)) → t ≡ leaf z zs → z ∷ zs ≡ front ++ back
+      → FrontNamed front (name_of t)
+  front_named front back is same = search arith
+
+  -- the member behind a place is named above where it is the first
+  pub place_bits : (m : Lodged V) (key : ℕ) (whole at : Part m) (ups : List (Part m)) (front back : List (Placed V)) (x : Placed V) → Way key whole at ups
+      → whole.above ≡ None → FrontNamed front (name_of at.tree) → (n : ℕ) → name_child (above_behind at.above front) key (LeafOf x.room) n (bits_in m n)
+      ≡ name_child at.above key (LeafOf (cons_at front back x).first.room) n (bits_in m n)
+  place_bits m key whole at ups front back x way top named n = search (arith, turn_same)
+
+  past_root : (r : Id) (front : List (Placed V)) (above : Option Id) (to root : Node) → root_past (last_room (Some r) front) above to root ≡ root
+  past_root r [] above to root = refl
+  past_root r (f ∷ front) above to root = past_root f.room front above to root
+
+  pub place_root : (m : Lodged V) (key : ℕ) (whole at : Part m) (ups : List (Part m)) (front back : List (Placed V)) (x : Placed V) → Way key whole at ups
+      → whole.above ≡ None → FrontNamed front (name_of at.tree)
+      → root_past (last_room None front) (above_behind at.above front) (LeafOf x.room) (name_of whole.tree)
+      ≡ root_after at.above (LeafOf (cons_at front back x).first.room) (name_of whole.tree)
+  place_root m key whole at ups front back x way top named = search (arith, past_root, root_same)
+
+  -- ---- the exchange
+  pub record Rechained (m new : Lodged V) (key : ℕ) (whole at : Part m) (old now : List (Placed V)) : Type 0 where
+    pub was : IsCons old
+    pub cons : IsCons now
+    pub is : at.tree ≡ leaf was.first was.rest
+    pub key_is : cons.first.entry.key ≡ was.first.entry.key
+    pub chain : IsChain cons.first.entry.key 34 now
+    pub stands : ChainStands (leaves_in new) at.above None now
+    pub leaves : (n : ℕ) → members_at n old ≡ 0 → 1 ≤ leaves_at n whole.tree → leaves_in new n ≡ leaves_in m n
+    pub bits : (n : ℕ) → bits_in new n ≡ name_child at.above key (LeafOf cons.first.room) n (bits_in m n)
+    pub heads : KeepsHeads m new
+    pub masks : KeepsMasks m new
+
+  module _ {m new : Lodged V} {key : ℕ} {whole at : Part m} {old now : List (Placed V)} (r : Rechained m new key whole at old now) where
+    abbrev pub under : Part new
+    under = record {
+      tree = leaf r.cons.first r.cons.rest;
+      low = at.low;
+      above = at.above;
+      is = ((subst (IsTree at.low) r.is at.is).0, subst (IsChain r.cons.first.entry.key 34) r.cons.is r.chain);
+      stands = subst (ChainStands (leaves_in new) at.above None) r.cons.is r.stands;
+    }
+
+    pub old_counts : (n : ℕ) → leaves_at n at.tree ≡ members_at n old
+    old_counts n = ap (leaves_at n) r.is ∙ ap (members_at n) (sym r.was.is)
+
+    pub now_counts : (n : ℕ) → leaves_at n under.tree ≡ members_at n now
+    now_counts n = ap (members_at n) (sym r.cons.is)
+
+    pub exchange : IsExchange m new key whole at under
+    exchange = search (arith, old_counts)
+
+  -- the whole with the other chain
+  abbrev pub with_chain : (m new : Lodged V) {root : Node} {late : ℕ → Bool} {out : ℕ → ℕ} {key : ℕ} (w : IsWholeBut m root late out) (at : Part m)
+      (ups : List (Part m)) {old now : List (Placed V)} → Way key w.part at ups
+      → (r : Rechained m new key w.part at old now) → Exchanged m new key w.part at (under r)
+      (root_after at.above (LeafOf r.cons.first.room) (name_of w.part.tree))
+  with_chain m new w at ups way r = exchanged m new w.part at ups way w.top (once_but w) (exchange r)
+
+  pub bits_some : (m : Lodged V) {new : Lodged V} (key : ℕ) {whole : Part m} (at : Part m) {old now : List (Placed V)} → Rechained m new key whole at old now
+      → (n : ℕ) → is_some (bits_in new n) ≡ is_some (bits_in m n)
+  bits_some m key at r n = search (arith, turn_used)
+
+  module _ {m new : Lodged V} {root : Node} {late : ℕ → Bool} {out : ℕ → ℕ} {key : ℕ} (w : IsWholeBut m root late out) {at : Part m}
+      {old now : List (Placed V)} (r : Rechained m new key w.part at old now) where
+    pub rechained : {later : ℕ → Bool} {outs : ℕ → ℕ} (ups : List (Part m)) → Way key w.part at ups → Fits m new w.part at (under r) late later out outs
+        → (HasOneFork (bits_in m) old → HasOneFork (bits_in m) now)
+        → IsWholeBut new (root_after at.above (LeafOf r.cons.first.room) (name_of w.part.tree)) later outs
+    rechained ups way f spare =
+        let none : (n : ℕ) → bits_in m n ≡ None → bits_in new n ≡ None = search (arith, same_none, bits_some) in
+        whole_changed w (with_chain m new w at ups way r) f (spare_changed w (with_chain m new w at ups way r)
+        (λ one. subst (HasOneFork (bits_in new)) r.cons.is (search (arith, one_fork_same))) (λ n out_of some gone. none n gone))
+
+    pub spliced : (ups : List (Part m)) → Way key w.part at ups
+        → Spliced (shown m (Some root)) (shown new (Some (root_after at.above (LeafOf r.cons.first.room) (name_of w.part.tree)))) (map_entries old)
+        (map_entries now)
+    spliced ups way =
+        let s = routes_changed w (with_chain m new w at ups way r) in
+        search (arith, map_entries)
+
+  -- ---- what both have in common
+  module _ {m new : Lodged V} {key : ℕ} {whole at : Part m} {old now : List (Placed V)} (r : Rechained m new key whole at old now) where
+    pub old_among : (y : Placed V) → IsIn y at.tree → IsAmong y old
+    old_among y is = subst (IsAmong y) (sym r.was.is) (subst (IsIn y) r.is is)
+
+    pub among_old : (y : Placed V) → IsAmong y old → IsIn y at.tree
+    among_old y is = subst (IsIn y) (sym r.is) (subst (IsAmong y) r.was.is is)
+
+    pub no_home : (k rank : ℕ) → HasHome k rank at.tree → ⊥
+    no_home k rank home = subst (HasHome k rank) r.is home
+
+    pub same_marks : (y : Placed V) → IsMarked (masks_in m) y → IsMarked (masks_in new) y
+    same_marks y marked = ap is_some (r.masks (number_of y.room)) ∙ marked
+
+  pub not_marked : (m new : Lodged V) (x y : Placed V) → KeepsMasks m new → masks_in m (number_of x.room) ≡ None → x ≡ y → IsMarked (masks_in new) y → ⊥
+  not_marked m new x y keeps none same marked = search (arith, true≢false)
+
+  pub same_forks : (m new : Lodged V) (key : ℕ) {whole : Part m} (at : Part m) {old now : List (Placed V)} (r : Rechained m new key whole at old now) (n : ℕ)
+      → forks_at n (under r).tree + one_if (is_some (bits_in m n)) ≡ forks_at n at.tree + one_if (is_some (bits_in new n))
+  same_forks m new key at r n = search (arith, bits_some)
+
+  -- -------- the chain of a leaf has a member more, or one less, and so the whole
   -- ---- a member more
   fits_in : (m new : Lodged V) (key : ℕ) (whole at : Part m) (front back : List (Placed V)) (x : Placed V)
       (r : Rechained m new key whole at (front ++ back) (front ++ (x ∷ back)))

@@ -1,12 +1,11 @@
 -- The list of masks of a bit node is cut at a bit, or a leaf has none.
 use Rattle.radix_tree.proofs.{HomeLists.one_room, Parts.fork_is, Parts.fork_named, PartRooms.one_if_same, PartRooms.elsewhere, PartRooms.way_once}
-use Rattle.radix_tree.proofs.{Plugs.counted_leaf, Plugs.home_plug, Plugs.plug_in, PlugLists.lists_at, FrameLists.lists_stay, Facts.some_of, LeafWays.on_way}
+use Rattle.radix_tree.proofs.{Plugs.counted_leaf, Plugs.home_plug, Plugs.plug_in, Plugs.on_way, PlugLists.lists_at, PlugLists.lists_stay, Facts.some_of}
+use Rattle.radix_tree.proofs.MaskLists.{not_below_among, among_not_below, below_among, among_below, falls_not_below, falls_below, masks_listed, falls_among}
 use Rattle.radix_tree.proofs.Words.{◌≡◌, ℕ, ◌+◌, ◌<◌, ◌≤◌, ◌==◌, Bool, List, Option, None, sym, ap, ◌∙◌, subst, inl, inr, arith, is_some, Id, Node, LeafOf}
 use Rattle.radix_tree.proofs.Words.{BitOf, Placed, Tree, leaf, fork, IsAmong, IsIn, IsTree, Part, heads_in, masks_in, name_of, ForkAt, Way, one_if, leaves_at}
-use Rattle.radix_tree.proofs.Words.{forks_at, HasHome, AreOnce, IsMarked, IsMaskList, MarkedIn, MarkedLists, IsWholeBut, IsMasks, IsAside, past_bit, up_to_bit}
-use Rattle.radix_tree.proofs.Words.{KeepsLeaves, KeepsBits, Lodged}
-use Rattle.radix_tree.proofs.MaskLists.{not_below_among, among_not_below, below_among, among_below, falls_not_below, falls_below, masks_listed, falls_among}
-use Rattle.radix_nodes.specs.Naming.{number_of}
+use Rattle.radix_tree.proofs.Words.{forks_at, HasHome, AreOnce, IsMarked, IsMaskList, MarkedIn, MarkedLists, IsWholeBut, IsMasks, MasksAt, KeepsAside, past_bit}
+use Rattle.radix_tree.proofs.Words.{up_to_bit, KeepsLeaves, KeepsBits, Lodged, number_of}
 
 module _ {V : Type 0} where
   -- the masks of a part, once those of its bit node that are past a bit are listed there, and the others are a list of their own
@@ -43,10 +42,9 @@ module _ {V : Type 0} where
   -- ---- a bit node
   pub cut_fork : (m new : Lodged V) (p : Part m) (room : Id) (f : ForkAt p room) (bit : ℕ) (first : Option Id) → AreOnce p.tree → p.low ≤ bit
       → IsTree (bit + 1) p.tree → MarkedLists (heads_in m) (masks_in m) p.low p.tree
-      → ((ms : List (Placed V)) → IsMasks m (heads_in m (number_of room)) ms → IsMasks new (heads_in new (number_of room)) (past_bit bit ms))
-      → ((ms : List (Placed V)) → IsMasks m (heads_in m (number_of room)) ms → IsMasks new first (up_to_bit bit ms))
-      → ((n : ℕ) → (n ≡ number_of room → ⊥) → heads_in new n ≡ heads_in m n)
-      → ((ms : List (Placed V)) → IsMasks m (heads_in m (number_of room)) ms → (n : ℕ) → IsAside n ms → masks_in new n ≡ masks_in m n)
+      → ((ms : List (Placed V)) → MasksAt m room ms → MasksAt new room (past_bit bit ms))
+      → ((ms : List (Placed V)) → MasksAt m room ms → IsMasks new first (up_to_bit bit ms))
+      → ((n : ℕ) → (n ≡ number_of room → ⊥) → heads_in new n ≡ heads_in m n) → KeepsAside m new room
       → ((n : ℕ) → is_some (masks_in new n) ≡ is_some (masks_in m n)) → KeepsLeaves m new → KeepsBits m new → IsCut m new p.low bit p.tree first
   cut_fork m new p room f bit first once rises is lists kept others heads masks marks leaves bits =
       let fork_lists = subst (MarkedLists (heads_in m) (masks_in m) p.low) f.is lists in
@@ -60,7 +58,8 @@ module _ {V : Type 0} where
       let all_forks : (n : ℕ) → forks_at n p.tree ≡ one_if (number_of room == n) + (forks_at n f.zero + forks_at n f.one) = λ n. ap (forks_at n) f.is in
       let outside : (y : Placed V) → IsIn y p.tree → ((z : Placed V) → IsAmong z l.masks → y.entry.rank ≡ z.entry.rank → ⊥)
       → masks_in new (number_of y.room) ≡ masks_in m (number_of y.room) =
-      λ y at other. masks l.masks ms (number_of y.room) (λ z among same. other z among (ap (λ p. p.entry.rank) (one_room m p y z at (l.within z among).0 (sym same)))) in
+      λ y at other. masks l.masks ms (number_of y.room) (λ z among same.
+      other z among (ap (λ p. p.entry.rank) (one_room m p y z at (l.within z among).0 (sym same)))) in
       let zeros : (y : Placed V) → IsIn y f.zero → f.bit + 1 ≤ y.entry.rank → masks_in new (number_of y.room) ≡ masks_in m (number_of y.room) =
       λ y at least. outside y (subst (IsIn y) (sym f.is) (inl at))
       (λ z among same. omega (arith, (falls_among p.low (f.bit + 1) l.masks l.falls z among).1)) in
@@ -115,13 +114,11 @@ module _ {V : Type 0} where
     -- ---- either of them
     pub cut_at : (new : Lodged V) (key bit : ℕ) (p : Part m) (ups : List (Part m)) (below : Node) (first : Option Id) (t : Tree V) → p.tree ≡ t
         → Way key w.part p ups → AreOnce w.part.tree → p.low ≤ bit → IsTree (bit + 1) p.tree → name_of p.tree ≡ below
-        → ((fork : Id) (ms : List (Placed V)) → below ≡ BitOf fork → IsMasks m (heads_in m (number_of fork)) ms → IsMasks new (heads_in new (number_of fork))
-        (past_bit bit ms))
-        → ((fork : Id) (ms : List (Placed V)) → below ≡ BitOf fork → IsMasks m (heads_in m (number_of fork)) ms → IsMasks new first (up_to_bit bit ms))
+        → ((fork : Id) (ms : List (Placed V)) → below ≡ BitOf fork → MasksAt m fork ms → MasksAt new fork (past_bit bit ms))
+        → ((fork : Id) (ms : List (Placed V)) → below ≡ BitOf fork → MasksAt m fork ms → IsMasks new first (up_to_bit bit ms))
         → ((room : Id) → below ≡ LeafOf room → (first ≡ None) × (new ≡ m))
         → ((n : ℕ) → ((fork : Id) → below ≡ BitOf fork → n ≡ number_of fork → ⊥) → heads_in new n ≡ heads_in m n)
-        → ((fork : Id) (ms : List (Placed V)) → below ≡ BitOf fork → IsMasks m (heads_in m (number_of fork)) ms → (n : ℕ) → IsAside n ms → masks_in new n ≡
-        masks_in m n)
+        → ((fork : Id) → below ≡ BitOf fork → KeepsAside m new fork)
         → ((n : ℕ) → is_some (masks_in new n) ≡ is_some (masks_in m n)) → KeepsLeaves m new → KeepsBits m new → IsCut m new p.low bit p.tree first
     cut_at new key bit p ups below first (leaf y ys) is way once rises tree named kept others same heads masks marks leaves bits =
         let s = same y.room (sym named ∙ ap name_of is) in
@@ -131,12 +128,11 @@ module _ {V : Type 0} where
         let f : ForkAt p room = record { bit = b; zero = zero; one = one; is = is } in
         let here = sym named ∙ ap name_of is in
         cut_fork m new p room f bit first (way_once key w.part p ups way once) rises tree (part_lists key p ups way)
-        (λ ms. kept room ms here) (λ ms. others room ms here)
-        (grind arith) (λ ms. masks room ms here) marks leaves bits
+        (λ ms. kept room ms here) (λ ms. others room ms here) (grind arith) (masks room here) marks leaves bits
 
     -- the list of the part's bit node
     pub list_at : (key : ℕ) (p : Part m) (ups : List (Part m)) {room : Id} → Way key w.part p ups → name_of p.tree ≡ BitOf room
-        → (ms : List (Placed V)) × IsMasks m (heads_in m (number_of room)) ms
+        → (ms : List (Placed V)) × MasksAt m room ms
     list_at key p ups way named =
         let f = fork_named p named in
         let l = (subst (MarkedLists (heads_in m) (masks_in m) p.low) f.is (part_lists key p ups way)).0 in

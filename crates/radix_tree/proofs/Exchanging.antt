@@ -1,11 +1,10 @@
 -- A part of a tree is exchanged for another, and so the whole.
-use Rattle.radix_tree.proofs.{Parts.fork_is, Parts.fork_stands}
-use Rattle.radix_tree.proofs.Words.{◌≡◌, ℕ, ◌+◌, ◌<◌, ◌≤◌, ◌⊎◌, List, [], ◌∷◌, Option, Some, None, refl, sym, ap, ◌∙◌, subst, inl, inr, arith, Id, Node, BitOf}
-use Rattle.radix_tree.proofs.Words.{fork, bit_at, HaveBit, IsTree, BitPart, Part, leaves_in, bits_in, name_of, Stands, ForkAt, Beneath, Way, leaves_at}
-use Rattle.radix_tree.proofs.Words.{forks_at, with_child, name_child, root_after, AreOnce, on_zero, on_one, low_past, IsExchange, Exchanged, Lodged}
+use Rattle.radix_tree.proofs.Parts.{fork_is, fork_stands}
 use Rattle.radix_tree.proofs.PartRooms.{said, zero_turned, one_turned, elsewhere, frame, Keeps, fork_forks, fork_leaves, same_turned, way_counts, way_once}
 use Rattle.radix_tree.proofs.PartRooms.{beneath_counts, spine_out}
-use Rattle.radix_nodes.specs.Naming.{number_of}
+use Rattle.radix_tree.proofs.Words.{◌≡◌, ℕ, ◌+◌, ◌<◌, ◌≤◌, ◌⊎◌, List, [], ◌∷◌, Option, Some, None, refl, sym, ap, ◌∙◌, subst, inl, inr, arith, Id, Node, BitOf}
+use Rattle.radix_tree.proofs.Words.{fork, bit_at, HaveBit, IsTree, BitPart, Part, leaves_in, bits_in, name_of, Stands, ForkAt, Beneath, Way, leaves_at}
+use Rattle.radix_tree.proofs.Words.{forks_at, with_child, name_child, root_after, AreOnce, on_zero, on_one, low_past, IsExchange, Exchanged, Lodged, number_of}
 
 -- the bit node above a place says what it said in all other rooms, and in its own names the other node
 pub turn_misses : {above : Option Id} (over : Id) (key n : ℕ) (to : Node) (said : Option BitPart) → above ≡ Some over → (n ≡ number_of over → ⊥)
@@ -15,9 +14,6 @@ turn_misses over key n to said is other = grind arith
 pub turn_hits : {above : Option Id} (over : Id) (key : ℕ) (to : Node) (said : Option BitPart) → above ≡ Some over
     → name_child above key to (number_of over) said ≡ with_child key to said
 turn_hits over key to said is = grind arith
-
-pub one_of : (x y : ℕ) → 1 ≤ x + y → (1 ≤ x) ⊎ (1 ≤ y)
-one_of x y some = grind arith
 
 module _ {V : Type 0} where
   -- the part above one in which the exchange is made; on the bits before its own its keys agree as they did
@@ -58,11 +54,7 @@ module _ {V : Type 0} where
               subst (λ n. IsTree n e.part.tree) (e.low ∙ low) e.part.is,
               is.2,
             );
-            stands = (
-              spine ∙ ap (λ z. Some (said room f.bit z (name_of f.one) over.above)) (sym e.named),
-              subst (λ a. Stands (leaves_in new) (bits_in new) a e.part.tree) (e.above ∙ above) e.part.stands,
-              frame (leaves_in m) (leaves_in new) (bits_in m) (bits_in new) (Some room) f.one leaves forks (fork_stands f).2,
-            );
+            stands = search (arith, frame, fork_stands);
           };
           is_now = ap (λ t. fork room f.bit t f.one) e.is_now;
           low = refl;
@@ -105,11 +97,7 @@ module _ {V : Type 0} where
               is.1,
               subst (λ n. IsTree n e.part.tree) (e.low ∙ low) e.part.is,
             );
-            stands = (
-              spine ∙ ap (λ z. Some (said room f.bit (name_of f.zero) z over.above)) (sym e.named),
-              frame (leaves_in m) (leaves_in new) (bits_in m) (bits_in new) (Some room) f.zero leaves forks (fork_stands f).1,
-              subst (λ a. Stands (leaves_in new) (bits_in new) a e.part.tree) (e.above ∙ above) e.part.stands,
-            );
+            stands = search (arith, frame, fork_stands);
           };
           is_now = ap (fork room f.bit f.zero) e.is_now;
           low = refl;
@@ -194,7 +182,5 @@ module _ {V : Type 0} where
       renamed m new key whole at under (sym (ap (λ o. root_after o (name_of under.tree) (name_of whole.tree)) b.above))
       (way_climbed m new key at under whole p ps way.1 once (record {
         leaves = λ n none some. e.leaves n (omega (arith, (near n).0)) some;
-        forks = λ n none some. let le = (near n).1 in
-            e.bits n (omega arith) some ∙ turn_misses b.room key n (name_of under.tree) (bits_in m n) b.above
-            (λ same. absurd (omega (arith, ap (λ k. forks_at k p.tree) same)));
+        forks = λ n none some. let le = (near n).1 in search (arith, turn_misses);
       }) (subst (Climbed m new key p at under) (sym (ap name_of b.at.is)) next)).made

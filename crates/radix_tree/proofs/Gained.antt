@@ -3,35 +3,30 @@
 --     shown_same                     rooms that say the same of leaves and bit nodes show the same
 --     nobody, among_left, new_left   whose masks are not listed yet
 --     IsLost, lost                   what a route that goes leaves
-use Rattle.radix_tree.proofs.{RoomReads.none_some, Parts.leaf_run, Showing.shown_is, WholeParts.later_than, WholeRoutes.loses_entry, Facts.test_turned}
-use Rattle.radix_tree.proofs.Words.{◌≡◌, ℕ, ◌+◌, ◌==◌, ◌&&◌, ◌||◌, Bool, true, false, not, if◌then◌else◌, List, Option, Some, None, is_some, refl, sym, ap, ◌∙◌}
-use Rattle.radix_tree.proofs.Words.{subst, inl, arith, eqb-true, eq-eqb, get, Seen, Id, Leaf, Node, LeafOf, IsRoute, without, leaf, LeafPart, Part, leaf_in}
-use Rattle.radix_tree.proofs.Words.{leaves_in, leaf_part, first_room, LedTo, Gains, placed, IsWholeBut, has_key, is_of_key, nobody_late}
+use Rattle.radix_tree.proofs.{Parts.leaf_run, WholeRoutes.shown_is, WholeRoutes.loses_entry, WholeChanges.later_than, Facts.test_turned, TreeMembers.of_key}
+use Rattle.radix_tree.proofs.{Kept.IsFound, Kept.shown_table}
+use Rattle.radix_tree.proofs.Words.{none_some, ◌≡◌, ℕ, ◌+◌, ◌==◌, ◌&&◌, ◌||◌, Bool, true, false, not, if◌then◌else◌, List, Option, Some, None, is_some, refl}
+use Rattle.radix_tree.proofs.Words.{sym, ap, ◌∙◌, subst, inl, arith, eqb-true, eq-eqb, get, Seen, Id, Leaf, Node, LeafOf, IsRoute, without, leaf, LeafPart}
+use Rattle.radix_tree.proofs.Words.{Part, leaf_in, leaves_in, leaf_part, first_room, LedTo, Gains, placed, IsWholeBut, has_key, is_of_key, nobody_late}
 use Rattle.radix_tree.proofs.Words.{nobody_out, late_at, lodge_leaf, KeepsLeaves, KeepsBits, KeepsMasks, one_if, beneath_shown, shown, shown_entry, IsWhole}
 use Rattle.radix_tree.proofs.Words.{Holds, Entry, Lodged, [], true≢false, number_of}
-use Rattle.radix_tree.proofs.Kept.{IsFound, shown_table}
 
 and_not : (a b : Bool) → (a && not b) ≡ true → (a ≡ true) × (b ≡ false)
-and_not true true e = absurd (true≢false (sym e))
-and_not true false e = (refl, refl)
-and_not false b e = absurd (true≢false (sym e))
+and_not a b e = search arith
 
 or_left : (a b : Bool) → (a || b) ≡ true → a ≡ false → b ≡ true
-or_left true b e none = absurd (true≢false none)
-or_left false b e none = e
+or_left a b e none = search arith
 
 module _ {V : Type 0} where
   -- ---- the first route
   no_room : (m : Lodged V) (n : ℕ) (o : Option (Seen V)) → get m n ≡ o → leaves_in m n ≡ None → get m n ≡ None
-  no_room m n None is none = is
-  no_room m n (Some s) is none = absurd (none_some (sym none ∙ ap leaf_in is))
+  no_room m n o is none = search arith
 
   abbrev lodged_part : Id → V → Leaf → Option (LeafPart V)
   lodged_part id value l = Some (record { block = id.block; value = value; leaf = l })
 
   lodged_at : (id : Id) (value : V) (l : Leaf) (n : ℕ) (b : Bool) → one_if b + 0 + 0 ≡ one_if (is_some (if b then lodged_part id value l else None))
-  lodged_at id value l n true = refl
-  lodged_at id value l n false = refl
+  lodged_at id value l n b = search arith
 
   pub first_whole : (m new : Lodged V) (id : Id) {e : Entry V} (l : Leaf)
       → l ≡ record { key = e.key; rank = e.rank; above = None; next = None; previous = None } → Holds m None → IsRoute e
@@ -115,13 +110,8 @@ module _ {V : Type 0} where
     previous = b.previous;
   }
 
-  said_key : (m : Lodged V) (key n : ℕ) (o : Option (LeafPart V)) → leaves_in m n ≡ o → is_of_key key o ≡ true
-      → (p : LeafPart V) × (leaves_in m n ≡ Some p) × ((p.leaf.key == key) ≡ true)
-  said_key m key n None is e = absurd (true≢false (sym e))
-  said_key m key n (Some p) is e = (p, is, e)
-
   pub still_key : (m new last : Lodged V) (key n : ℕ) → KeepsButAbove m new → KeepsLeaves new last → has_key m key n ≡ true → has_key last key n ≡ true
-  still_key m new last key n keeps leaves has = search (arith, said_key)
+  still_key m new last key n keeps leaves has = search (arith, of_key)
 
   -- ---- a route that goes
   pub record IsLost (m new : Lodged V) (root : Node) (after : Option Node) (key rank : ℕ) (e : Entry V) : Type 0 where

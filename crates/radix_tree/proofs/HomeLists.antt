@@ -1,20 +1,19 @@
--- The home of a mask, and what a change of the list there leaves as it was.
-use Rattle.radix_tree.proofs.{AddressBits.zero_not_one, AddressBits.clear_bit, Parts.fork_is, Parts.way_inside, PartRooms.one_if_same, PartRooms.elsewhere}
-use Rattle.radix_tree.proofs.{Lodging.stays, PartRooms.way_once, Plugs.aside_in, Plugs.aside_at, Plugs.counted_leaf, Plugs.spare_same, PlugLists.KeepsAbove}
-use Rattle.radix_tree.proofs.{PlugLists.plug_lists, PlugLists.lists_at, PlugLists.marked_same, LeafWays.on_way, FrameLists.lists_stay, ChainRooms.whole_route}
-use Rattle.mask_table.proofs.Agreeing.{front_of_bits}
-use Rattle.radix_tree.proofs.TreeMembers.{chain_below, tree_route, bit_beneath, tree_said}
-use Rattle.radix_tree.specs.Tree.{bit_at}
+-- The home of a mask, the way to it, and what a change of the list there leaves as it was.
+use Rattle.radix_tree.proofs.{Facts.zero_not_one, Facts.clear_bit, PartRooms.one_if_same, PartRooms.elsewhere, PartRooms.way_once, Beside.stays, Plugs.aside_in}
+use Rattle.radix_tree.proofs.{Plugs.aside_at, Plugs.counted_leaf, Plugs.spare_same, Plugs.on_way, PlugLists.KeepsAbove, PlugLists.plug_lists}
+use Rattle.radix_tree.proofs.{PlugLists.lists_at, PlugLists.marked_same, PlugLists.lists_stay, TreeMembers.whole_route, TreeMembers.chain_below}
+use Rattle.radix_tree.proofs.{TreeMembers.tree_route, TreeMembers.bit_beneath, TreeMembers.tree_said, RoomReads.AreLinks, RoomReads.leaf_read}
+use Rattle.radix_tree.proofs.Parts.{fork_is, way_inside, way_to_leaf, leaf_run, leaf_begins, among_leaf}
 use Rattle.radix_tree.proofs.Words.{◌≡◌, ℕ, ◌+◌, ◌<◌, ◌≤◌, ◌==◌, ◌⊎◌, Bool, true, false, ◌||◌, List, [], ◌∷◌, Some, refl, inl, inr, sym, ap, ◌∙◌, subst, arith}
-use Rattle.radix_tree.proofs.Words.{cases_lt, is_some, Has, Id, Node, IsRoute, Placed, Tree, leaf, fork, IsAmong, IsIn, IsChain, IsTree, LeafPart}
-use Rattle.radix_tree.proofs.Words.{MaskPart, Heads, Masks, Part, leaves_in, bits_in, heads_in, masks_in, leaf_in, Way, one_if, leaves_at, forks_at}
-use Rattle.radix_tree.proofs.Words.{HasHome, KeepsLeaves, KeepsBits, AreOnce, plug, low_past, IsMarked, IsMaskList, MarkedIn, MarkedLists, IsWholeBut}
-use Rattle.radix_tree.proofs.Words.{nobody_out, HomeAt, Entry, Lodged}
-use Rattle.radix_nodes.specs.Naming.{number_of}
+use Rattle.radix_tree.proofs.Words.{cases_lt, is_some, Has, Id, Node, IsRoute, Placed, Tree, leaf, fork, IsAmong, IsIn, IsChain, IsTree, LeafPart, MaskPart}
+use Rattle.radix_tree.proofs.Words.{Heads, Masks, Part, leaves_in, bits_in, heads_in, masks_in, leaf_in, Way, one_if, leaves_at, forks_at, HasHome, KeepsLeaves}
+use Rattle.radix_tree.proofs.Words.{KeepsBits, AreOnce, plug, low_past, IsMarked, IsMaskList, MarkedIn, MarkedLists, IsWholeBut, nobody_out, HomeAt, Entry}
+use Rattle.radix_tree.proofs.Words.{Lodged, number_of, Option, None, leaf_of, Leaf, Links, Run, first_room, LedTo, IsHome, inside}
+use Rattle.mask_table.proofs.Agreeing.{front_of_bits}
+use Rattle.radix_tree.specs.Tree.{bit_at}
 
 pub or_right : (a : Bool) {b : Bool} → b ≡ true → (a || b) ≡ true
-or_right true is = refl
-or_right false is = is
+or_right a is = search arith
 
 module _ {V : Type 0} where
   -- ---- one room, one route
@@ -28,13 +27,7 @@ module _ {V : Type 0} where
   -- ---- one pair, one route
   chain_one : (key top : ℕ) (c : List (Placed V)) → IsChain key top c → (x y : Placed V) → IsAmong x c → IsAmong y c → x.entry.rank ≡ y.entry.rank → x ≡ y
   chain_one key top [] is x y in_x in_y same = absurd in_x
-  chain_one key top (z ∷ c) is x y in_x in_y same = elim in_x [
-    | inl e ↦ grind (arith, chain_below)
-    | inr behind ↦ elim in_y [
-      | inl f ↦ grind (arith, chain_below)
-      | inr other ↦ chain_one key z.entry.rank c is.3 x y behind other same
-    ]
-  ]
+  chain_one key top (z ∷ c) is x y in_x in_y same = search (arith, chain_below, chain_one key z.entry.rank c is.3 x y)
 
   pub one_pair : (low : ℕ) (t : Tree V) → IsTree low t → (x y : Placed V) → IsIn x t → IsIn y t → x.entry.key ≡ y.entry.key → x.entry.rank ≡ y.entry.rank
       → x ≡ y
@@ -141,9 +134,7 @@ module _ {V : Type 0} where
           stays = λ y is below marked. (is, above y is below);
           came = λ y is below marked. (is, marked_same (masks_in new) (masks_in m) y (sym (above y is below)) marked);
         } in
-        subst (MarkedLists (heads_in new) (masks_in new) whole.low) (sym f.was)
-        (plug_lists whole.low f.frames (subst (IsTree whole.low) f.was whole.is) keeps (subst (MarkedLists (heads_in m) (masks_in m) whole.low) f.was lists)
-        own)
+        search (arith, plug_lists)
 
   -- ---- the whole, where leaves and bit nodes stay
   -- each mask that is listed is of a route with a home, and each such route's mask is listed or late
@@ -175,3 +166,32 @@ module _ {V : Type 0} where
       let y = whole_route w (number_of room) (ap leaf_in h.at) in
       let block = y.block ∙ h.block in
       (y.route, y.is_in, λ i. record { block = block i })
+
+  -- -------- the way from a room to its leaf, and from there to the bit node at which its mask is listed
+  -- the chain of a route of a tree
+  abbrev pub chain_of : {m : Lodged V} (whole : Part m) (y : Placed V) → IsIn y whole.tree → Run m
+  chain_of {m = m} whole y is = let f = way_to_leaf m whole y is in leaf_run m f.at
+
+  pub in_chain : {m : Lodged V} (whole : Part m) (y : Placed V) (is : IsIn y whole.tree) → IsAmong y (chain_of whole y is).members
+  in_chain {m = m} whole y is = let f = way_to_leaf m whole y is in among_leaf f.at y f.among
+
+  pub led_first : {m : Lodged V} (whole : Part m) (y : Placed V) (is : IsIn y whole.tree) {first : Id} → first_room (chain_of whole y is).members ≡ Some first
+      → LedTo y.entry.key whole first
+  led_first {m = m} whole y is begins =
+      let f = way_to_leaf m whole y is in
+      subst (LedTo y.entry.key whole) (inside (sym (leaf_begins f.at) ∙ begins)) (record { part = f.part; leaf = f.at; ups = f.ups; way = f.way })
+
+  pub chain_at : {m : Lodged V} {root : Node} {late : ℕ → Bool} (w : IsWholeBut m root late nobody_out) {room : Id} → Has m room
+      → (c : Run m) × (y : Placed V) × (c.previous ≡ None) × IsAmong y c.members × (y.room ≡ room)
+  chain_at w h = let y = placed_in w h in (chain_of w.part y.0 y.1, y.0, refl, in_chain w.part y.0 y.1, y.2)
+
+  -- what a route's room says of its rank
+  pub rank_read : {m : Lodged V} (p : Part m) (y : Placed V) (room : Id) (links : Links) {l : Leaf} → IsIn y p.tree → y.room ≡ room → AreLinks m room links
+      → l ≡ leaf_of links → l.rank ≡ y.entry.rank
+  rank_read {m = m} p y room links at is are read =
+      let said = tree_said (leaves_in m) (bits_in m) p.above p.tree p.stands y at in
+      ap (λ z. z.rank) (read ∙ leaf_read m room links (ap (λ i. leaves_in m (number_of i)) (sym is) ∙ said.3) (ap (λ i. i.block) is) are)
+
+  pub home_is : {m : Lodged V} (key : ℕ) {rank other : ℕ} (whole : Part m) (o : Option Id) → rank ≡ other → IsHome m key rank whole o
+      → IsHome m key other whole o
+  home_is {m = m} key whole o same home = subst (λ r. IsHome m key r whole o) same home

@@ -1,19 +1,20 @@
--- What an index tells of the routes of a tree.
-use Rattle.radix_tree.proofs.{BestOfTree.stands_in, ChainRooms.whole_route, Counted.not_held, RoomReads.inside, RoomReads.none_some, Showing.shown_is}
-use Rattle.radix_tree.proofs.{TreeMembers.tree_route, TreeMembers.tree_said}
+-- What an index tells of the routes of a tree, and how it follows them.
+use Rattle.radix_tree.proofs.{BestOfTree.stands_in, Counted.not_held, WholeRoutes.shown_is, TreeMembers.whole_route, TreeMembers.tree_route}
+use Rattle.radix_tree.proofs.{TreeMembers.tree_said, Kept.IsFound, Kept.IsNext, Kept.pair_there, RemovedRooms.get_out, RemovedRooms.get_other}
+use Rattle.radix_tree.proofs.{MovedReads.back_same, MovedReads.next_same}
+use Rattle.radix_tree.proofs.Words.{inside, none_some, MatchOption, Indexes, place_of, places_in, ◌≡◌, ℕ, ◌<◌, ◌≤◌, true, false, List, Option, Some, None, refl}
+use Rattle.radix_tree.proofs.Words.{sym, ap, subst, ◌∙◌, arith, Id, Node, Placed, Ptr, IsIn, LeafPart, leaves_in, Tells, Finds, Best, HasPair, In, shown}
+use Rattle.radix_tree.proofs.Words.{IsWhole, AreCounted, Lodged, IsRoute, agrees, bits_in, inl, inr, cases_eq, cases_lt, entry_at, routes_of, masked, number_of}
+use Rattle.radix_tree.proofs.Words.{HasPlaceMore, HasPlaceLess, pair, if◌then◌else◌, true≢false, Bool, eq-eqb, ne_eqb, Entry, Rooms, Holds, is_some, IsKept}
+use Rattle.radix_tree.proofs.Words.{AreGiven, IsSome, with_place, name_next, name_back, link_in, content_of, KeepsRoutes, lodge_leaf, lift_leaf, Leaf, LeafOf}
+use Rattle.radix_tree.proofs.Words.{BitOf}
 use Rattle.mask_table.proofs.Agreeing.{masked_agrees, agrees_where_masked_equal}
-use Rattle.std.specs.Prelude.{◌↔◌, MatchOption}
+use Rattle.std.specs.Prelude.{◌↔◌}
 use Rattle.mask_table.specs.RankSets.{HasRank}
-use Rattle.radix_tree.specs.Index.{Indexes, place_of, places_in}
 use Rattle.radix_tree.specs.Tree.{Covers}
-use Rattle.room_index.specs.Homes.{pair}
-use Rattle.room_index.specs.Names.{Held, Names}
-use Rattle.radix_tree.proofs.Words.{◌≡◌, ℕ, ◌<◌, ◌≤◌, true, false, List, Option, Some, None, refl, sym, ap, subst, ◌∙◌, arith, Id, Node, Placed}
-use Rattle.radix_tree.proofs.Words.{Ptr, IsIn, LeafPart, leaves_in, Tells, Finds, Best, HasPair, In, shown, IsWhole, AreCounted}
-use Rattle.radix_tree.proofs.Words.{Lodged, IsRoute, agrees, bits_in, inl, inr, cases_eq, cases_lt, entry_at, routes_of}
-use Rattle.mask_table.specs.Agreeing.{masked}
+use Rattle.room_index.specs.Names.{Held, Names, Keeps, Enters, Strikes}
 use Rattle.mask_table.specs.Counts.{count_of}
-use Rattle.radix_nodes.specs.Naming.{number_of}
+use Rattle.std.specs.FinMap.{remove}
 
 -- a pair's number tells both
 pub same_pair : (key rank other least : ℕ) → rank ≤ 33 → least ≤ 33 → pair key rank ≡ pair other least → (key ≡ other) × (rank ≡ least)
@@ -22,8 +23,7 @@ same_pair key rank other least fits too is = (omega arith, omega arith)
 -- a pair of the address' key at a rank covers it
 covered : {V : Type 0} (address rank : ℕ) (x : Placed V) → HasPair (masked rank address) rank x → Covers address x.entry
 unfolding Covers
-covered address rank x has =
-    subst (λ r. agrees r x.entry.key address ≡ true) (sym has.1) (subst (λ k. agrees rank k address ≡ true) (sym has.0) (masked_agrees rank address))
+covered address rank x has = search (arith, masked_agrees)
 
 module _ {V : Type 0} {m : Lodged V} {root : Node} (w : IsWhole m root) where
   -- a room that has a pair has a route of it in the tree
@@ -105,10 +105,7 @@ module _ {V : Type 0} {m : Lodged V} {root : Node} (w : IsWhole m root) {h : Hel
     -- those that are left have at most the greatest rank below
     pub ranks_below : {rank : ℕ} → ((r : ℕ) → rank < r → r < left → HasRank ranks r → ⊥) → (y : Placed V) → IsIn y w.part.tree → Covers address y.entry
         → y.entry.rank ≤ rank
-    ranks_below {rank} none y at covers = elim (cases_lt rank y.entry.rank) [
-      | inl above ↦ let own = are y at covers in absurd (none y.entry.rank above own.0 own.1)
-      | inr low ↦ low
-    ]
+    ranks_below {rank} none y at covers = search arith
 
     -- where there is none, none is left
     pub no_rank : ((r : ℕ) → r < left → HasRank ranks r → ⊥) → Best address 0 34 (In w.part) None
@@ -141,3 +138,150 @@ module _ {V : Type 0} {m : Lodged V} {root : Node} (w : IsWhole m root) {h : Hel
         let named = is.all all (number_of y.room) (y.room.block, pair y.entry.key y.entry.rank) (ap place_of s.3) in
         let own = are y at covers in
         (own.0, kept y.entry.rank named.0 route.rank (subst (λ k. Names h (pair k y.entry.rank) named.0) (sym (own_key address y route covers)) named.1) own.1)
+
+-- -------- an index follows the routes of a table's rooms
+-- an index that stays has what it had
+pub keeps_itself : (h : Held) → Keeps h h
+keeps_itself h = record { fewer = λ k r names. names; kept = λ whole. (whole, λ k r names. names) }
+
+-- what an index found is a room that it has
+pub found_named : (h : Held) (k : ℕ) (o : Option Id) → is_some o ≡ true → MatchOption o ((room : Id) → Names h k room → ⊥) (λ room. Names h k room)
+    → (room : Id) × Names h k room
+found_named h k o some found = search arith
+
+module _ {V : Type 0} where
+  -- the rooms have the routes that they had
+  pub same_index : (h : Held) (m new : Lodged V) → ((n : ℕ) → places_in new n ≡ places_in m n) → Indexes h m → Indexes h new
+  same_index h m new keeps is = record {
+    found = λ k room names. keeps (number_of room) ∙ is.found k room names;
+    all = λ whole n place at. is.all whole n place (sym (keeps n) ∙ at);
+  }
+
+  -- so the table is kept where no room has changed, and the index has what it had
+  pub kept_reserved : (i j : Held) (nodes now : Rooms V) {root : Option Node} {counts : List ℕ} {given : List (ℕ × ℕ)} {last : ℕ}
+      → IsKept nodes root counts i given last → j ≡ i → now ≡ nodes → IsKept now root counts j given last
+  kept_reserved i j nodes now {root} {counts} {given} {last} kept same stays = search arith
+
+  pub index_begun : (i : Held) (nodes next : Rooms V) → IsNext nodes next → Indexes i nodes.lodged → Indexes i next.lodged
+  index_begun i nodes next begins is = subst (λ r. Indexes i r.lodged) (sym begins) is
+
+  -- an index that has what it had, or that was given up
+  pub index_keeps : (i j : Held) (m : Lodged V) → Keeps i j → Indexes i m → Indexes j m
+  index_keeps i j m keeps is = record {
+    found = λ k room names. is.found k room (keeps.fewer k room names);
+    all = λ whole n place at.
+        let kept = keeps.kept whole in
+        let r = is.all kept.0 n place at in (r.0, kept.1 place.1 r.0 r.1, r.2);
+  }
+
+  -- so the table is kept where no room has changed
+  pub kept_keeps : (i j : Held) (nodes now : Rooms V) {root : Option Node} {counts : List ℕ} {given : List (ℕ × ℕ)} {last : ℕ}
+      → IsKept nodes root counts i given last → Keeps i j → now.lodged ≡ nodes.lodged → IsKept now root counts j given last
+  kept_keeps i j nodes now {root} {counts} {given} {last} kept keeps stays = search (arith, index_keeps)
+
+  -- ---- a route comes
+  -- no room has a pair that the table has not
+  pub absent_place : (m : Lodged V) (root : Option Node) (key rank : ℕ) → rank ≤ 33 → Holds m root → entry_at key rank (shown m root) ≡ None → (n : ℕ) (b : _)
+      → places_in m n ≡ Some (b, pair key rank) → ⊥
+  absent_place m None key rank fits holds none n b at = grind (arith, holds n)
+  absent_place m (Some root) key rank fits w none n b at =
+      let r = place_route w n at in
+      let there = pair_there w key rank r.route r.is_in (same_pair r.route.entry.key r.route.entry.rank key rank r.fits fits r.pair_is) in
+      true≢false (sym (subst IsSome none there))
+
+  -- and the table has each pair that the index has a room for
+  pub named_there : (h : Held) (m : Lodged V) (root : Option Node) (key rank : ℕ) → rank ≤ 33 → Holds m root → Indexes h m → (room : Id) → Names h (pair key rank) room
+      → (o : Option (Entry V)) → entry_at key rank (shown m root) ≡ o → IsSome o
+  named_there h m root key rank fits holds is room named None at = absurd
+      (absent_place m root key rank fits holds at (number_of room) room.block (is.found (pair key rank) room named))
+  named_there h m root key rank fits holds is room named (Some e) at = refl
+
+  module _ (i j : Held) (m new : Lodged V) (room : Id) (e : Entry V) (is : Indexes i m) (takes : Enters i j (pair e.key e.rank) room)
+      (free : places_in m (number_of room) ≡ None) (more : HasPlaceMore m new room e) where
+    abbrev own : ℕ
+    own = pair e.key e.rank
+
+    -- the new room, and what each other one had
+    here : (n : ℕ) → n ≡ number_of room → places_in new n ≡ Some (room.block, own)
+    here n same = more n ∙ ap (λ t. if t then Some (room.block, own) else places_in m n) (eq-eqb n (number_of room) same)
+
+    there : (n : ℕ) → (n ≡ number_of room → ⊥) → places_in new n ≡ places_in m n
+    there n other = more n ∙ ap (λ t. if t then Some (room.block, own) else places_in m n) (ne_eqb n (number_of room) other)
+
+    still : (k : ℕ) (r : Id) → Names i k r → places_in new (number_of r) ≡ Some (r.block, k)
+    still k r names =
+        let had = is.found k r names in
+        there (number_of r) (λ same. none_some (sym free ∙ ap (places_in m) (sym same) ∙ had)) ∙ had
+
+    found_more : (k : ℕ) (r : Id) → Names j k r → places_in new (number_of r) ≡ Some (r.block, k)
+    found_more k r names = elim (takes.only k r names) [
+      | inl own ↦ subst (λ s. places_in new (number_of s) ≡ Some (s.block, k)) (sym own.1)
+          (here (number_of room) refl ∙ ap (λ q. Some (room.block, q)) (sym own.0))
+      | inr had ↦ still k r had
+    ]
+
+    all_more : j.whole ≡ true → (n : ℕ) (place : Ptr × ℕ) → places_in new n ≡ Some place → (r : Id) × Names j place.1 r × (number_of r ≡ n)
+    all_more whole n place at = search (arith, inside, here, there)
+
+    pub index_more : Indexes j new
+    index_more = record { found = found_more; all = all_more }
+
+  -- ---- a route goes
+  -- the room of a pair that was found
+  pub found_place : {m : Lodged V} {root : Node} {key rank : ℕ} {room : Id} → IsFound m root key rank room
+      → places_in m (number_of room) ≡ Some (room.block, pair key rank)
+  found_place f = search arith
+
+  -- where no route is left, no room has one
+  pub none_left : (m : Lodged V) (root : Option Node) → Holds m root → is_some root ≡ false → (n : ℕ) → places_in m n ≡ None
+  none_left m None holds none n = ap place_of (holds n)
+  none_left m (Some root) holds none n = absurd (true≢false none)
+
+  module _ (i j : Held) (m new : Lodged V) (at : Id) (k : ℕ) (rest : Bool) (is : Indexes i m) (loses : Strikes i j k rest)
+      (once : (r s : Id) → Names i k r → Names i k s → r ≡ s) (had : places_in m (number_of at) ≡ Some (at.block, k)) (less : HasPlaceLess m new at)
+      (gone : rest ≡ false → (n : ℕ) → places_in new n ≡ None) where
+    out : (n : ℕ) → n ≡ number_of at → places_in new n ≡ None
+    out n same = less n ∙ ap (λ t. if t then None else places_in m n) (eq-eqb n (number_of at) same)
+
+    left : (n : ℕ) → (n ≡ number_of at → ⊥) → places_in new n ≡ places_in m n
+    left n other = less n ∙ ap (λ t. if t then None else places_in m n) (ne_eqb n (number_of at) other)
+
+    found_less : (q : ℕ) (r : Id) → Names j q r → places_in new (number_of r) ≡ Some (r.block, q)
+    found_less q r names =
+        let f = loses.fewer q r names in
+        let was = is.found q r f.0 in
+        left (number_of r) (λ same. f.1 (ap (λ p. p.1) (inside (sym was ∙ ap (places_in m) same ∙ had)))) ∙ was
+
+    all_less : (b : Bool) → rest ≡ b → j.whole ≡ true → (n : ℕ) (place : Ptr × ℕ) → places_in new n ≡ Some place → (r : Id) × Names j place.1 r × (number_of r ≡ n)
+    all_less false none whole n place stands = absurd (none_some (sym (gone none n) ∙ stands))
+    all_less true some whole n place stands =
+        let kept = (loses.loses some).kept whole in
+        let other : n ≡ number_of at → ⊥ = λ same. none_some (sym (out n same) ∙ stands) in
+        let r = is.all kept.0 n place (sym (left n other) ∙ stands) in
+        let o = is.all kept.0 (number_of at) (at.block, k) had in
+        let not_k : place.1 ≡ k → ⊥ = λ same. other (sym r.2 ∙ ap number_of (once r.0 o.0 (subst (λ q. Names i q r.0) same r.1) o.1) ∙ o.2) in
+        (r.0, kept.1 place.1 r.0 not_k r.1, r.2)
+
+    pub index_less : Indexes j new
+    index_less = record { found = found_less; all = all_less rest refl }
+
+  -- -------- what rooms have as leaves, their blocks and pairs, while their links change
+  -- ---- the links of leaves are no part of it
+  content_place : (o p : Option (LeafPart V)) → content_of o ≡ content_of p → place_of o ≡ place_of p
+  content_place o p is = search arith
+
+  -- ---- a route comes into a room
+  pub lodged_place : (room : Id) (value : V) (leaf : Leaf) (n : ℕ) (o : Option (LeafPart V)) → place_of (lodge_leaf room value leaf n o)
+      ≡ with_place room (pair leaf.key leaf.rank) n (place_of o)
+  lodged_place room value leaf n o = grind arith
+
+  pub linked_place : (room : Id) (value : V) (leaf : Leaf) (n : ℕ) (o : Option (LeafPart V)) → place_of (link_in room value leaf n o)
+      ≡ with_place room (pair leaf.key leaf.rank) n (place_of o)
+  linked_place room value leaf n o =
+      content_place (link_in room value leaf n o) (lodge_leaf room value leaf n o) (search (arith, back_same, next_same))
+      ∙ lodged_place room value leaf n o
+
+  -- ---- rooms keep their routes
+  -- but one that is out of the map
+  pub less_places : (m now : Lodged V) (at : Id) → KeepsRoutes m now → HasPlaceLess m (remove now (number_of at)) at
+  less_places m now at keeps n = search (arith, cases_eq, get_out, get_other)

@@ -1,11 +1,12 @@
 -- The list of masks of a bit node that goes is handed on to the node that takes its place.
-use Rattle.radix_tree.proofs.{FrameLists.lists_stay, HomeLists.one_room, RoomReads.inside, RoomReads.none_some, PartRooms.one_if_same, PartRooms.way_once, Facts.some_of, MaskLinks.stand_same}
-use Rattle.radix_tree.proofs.Words.{◌≡◌, ◌+◌, ◌≤◌, ◌⊎◌, ◌==◌, List, [], ◌∷◌, ◌++◌, Option, None, inl, inr, refl, sym, ap, ◌∙◌, subst, arith, ℕ, cases_lt}
-use Rattle.radix_tree.proofs.Words.{cases_eq, is_some, Id, LeafOf, BitOf, Placed, Tree, leaf, fork, IsAmong, IsIn, IsTree, Heads, Masks, Part}
-use Rattle.radix_tree.proofs.Words.{heads_in, masks_in, name_of, Falls, one_if, forks_at, AreOnce, HasSides, IsLone, IsHanded, IsMarked}
-use Rattle.radix_tree.proofs.Words.{IsMaskList, MarkedIn, MarkedLists, IsMasks, IsBitNode, IsAside, Lodged, true≢false, number_of}
+use Rattle.radix_tree.proofs.{Parts.fork_named, Parts.leaf_named, PlugLists.lists_stay, HomeLists.one_room, PartRooms.one_if_same, PartRooms.way_once}
+use Rattle.radix_tree.proofs.{Facts.some_of, MaskChanges.stand_same}
+use Rattle.radix_tree.proofs.JoinSides.{other_part, side_is, side_stands, side_forks, side_in, in_side, side_list, side_lists, side_home}
 use Rattle.radix_tree.proofs.MaskLists.{falls_wider, falls_among, falls_appended, among_appended, in_front, in_back, ranked_in, masks_listed}
-use Rattle.radix_tree.proofs.JoinSides.{side_is, side_stands, side_forks, side_in, in_side, side_list, side_lists, side_home}
+use Rattle.radix_tree.proofs.Words.{inside, none_some, ◌≡◌, ◌+◌, ◌≤◌, ◌⊎◌, ◌==◌, List, [], ◌∷◌, ◌++◌, Option, None, inl, inr, refl, sym, ap, ◌∙◌, subst, arith}
+use Rattle.radix_tree.proofs.Words.{ℕ, cases_lt, cases_eq, is_some, Id, LeafOf, BitOf, Placed, Tree, leaf, fork, IsAmong, IsIn, IsTree, Heads, Masks, Part}
+use Rattle.radix_tree.proofs.Words.{heads_in, masks_in, name_of, Falls, one_if, forks_at, AreOnce, HasSides, IsLone, IsHanded, IsMarked, IsMaskList, MarkedIn}
+use Rattle.radix_tree.proofs.Words.{MarkedLists, IsMasks, MasksAt, KeepsAside, IsBitNode, IsAside, Lodged, true≢false, number_of}
 
 unmarked_marked : {A : Type 0} (K : Masks) (x y : Placed A) → K (number_of x.room) ≡ None → x ≡ y → IsMarked K y → ⊥
 unmarked_marked {A = A} K x y none same marked = search (arith, true≢false)
@@ -28,8 +29,8 @@ module _ {V : Type 0} where
   pub record AreTwo (m : Lodged V) (over : Part m) (up room : Id) (b c : ℕ) (t : Tree V) : Type 0 where
     pub own : IsMaskList (masks_in m) (heads_in m (number_of room)) (b + 1) c (MarkedIn (masks_in m) t)
     pub gone : IsMaskList (masks_in m) (heads_in m (number_of up)) over.low b (MarkedIn (masks_in m) over.tree)
-    pub own_is : IsMasks m (heads_in m (number_of room)) own.masks
-    pub gone_is : IsMasks m (heads_in m (number_of up)) gone.masks
+    pub own_is : MasksAt m room own.masks
+    pub gone_is : MasksAt m up gone.masks
     pub low : over.low ≤ b
     pub rises : b + 1 ≤ c
     pub within : c ≤ 31
@@ -57,33 +58,13 @@ module _ {V : Type 0} where
         falls = search (arith, falls_appended);
       }
 
-  -- a node's shape, by its name
-  pub record IsForkOf (t : Tree V) (room : Id) : Type 0 where
-    pub bit : ℕ
-    pub zero : Tree V
-    pub one : Tree V
-    pub is : t ≡ fork room bit zero one
-
-  pub fork_of : (t : Tree V) {room : Id} → name_of t ≡ BitOf room → IsForkOf t room
-  fork_of (leaf x xs) named = cc
-  fork_of (fork i b zero one) {room = room} named = search arith
-
-  pub record IsLeafOf (t : Tree V) (room : Id) : Type 0 where
-    pub first : Placed V
-    pub rest : List (Placed V)
-    pub is : t ≡ leaf first rest
-
-  pub leaf_of : (t : Tree V) {room : Id} → name_of t ≡ LeafOf room → IsLeafOf t room
-  leaf_of (leaf x xs) named = record { first = x; rest = xs; is = refl }
-  leaf_of (fork i b zero one) named = cc
-
   abbrev pub Ready : (m : Lodged V) (room : Id) (first : Option Id) → Type 0
-  Ready m room first = (ms : List (Placed V)) × (ts : List (Placed V)) × IsMasks m (heads_in m (number_of room)) ms × IsMasks m first ts × Falls 0 34 (ms ++ ts)
+  Ready m room first = (ms : List (Placed V)) × (ts : List (Placed V)) × MasksAt m room ms × IsMasks m first ts × Falls 0 34 (ms ++ ts)
 
   pub append_ready : {m : Lodged V} {whole : Part m} {at : Id} (up room : Id) {first : Option Id} (l : IsLone m whole at up) → name_of l.other ≡ BitOf room
       → heads_in m (number_of up) ≡ first → MarkedLists (heads_in m) (masks_in m) l.over.low l.over.tree → Ready m room first
   append_ready {m = m} up room l named head lists =
-      let f = fork_of l.other named in
+      let f = fork_named (other_part l) named in
       let s = subst (HasSides l.route.entry.key l.over.tree up l.bit (leaf l.route [])) f.is l.sides in
       let w = two m l.over room l.bit f.bit f.zero f.one s lists in
       search (arith, falls_wider)
@@ -91,15 +72,15 @@ module _ {V : Type 0} where
   -- the sibling as a bit node in use
   pub sibling_node : {m : Lodged V} {whole : Part m} {at : Id} (up room : Id) (l : IsLone m whole at up) → name_of l.other ≡ BitOf room → IsBitNode m room
   sibling_node {m = m} up room l named =
-      let f = fork_of l.other named in
+      let f = fork_named (other_part l) named in
       search (arith, side_stands)
 
   -- what append leaves
   pub record IsAppended (m new : Lodged V) (room : Id) (first : Option Id) : Type 0 where
-    pub list : (ms : List (Placed V)) (ts : List (Placed V)) → IsMasks m (heads_in m (number_of room)) ms → IsMasks m first ts → Falls 0 34 (ms ++ ts)
-        → IsMasks new (heads_in new (number_of room)) (ms ++ ts)
+    pub list : (ms : List (Placed V)) (ts : List (Placed V)) → MasksAt m room ms → IsMasks m first ts
+        → Falls 0 34 (ms ++ ts) → MasksAt new room (ms ++ ts)
     pub heads : (n : ℕ) → (n ≡ number_of room → ⊥) → heads_in new n ≡ heads_in m n
-    pub masks : (ms : List (Placed V)) → IsMasks m (heads_in m (number_of room)) ms → (n : ℕ) → IsAside n ms → masks_in new n ≡ masks_in m n
+    pub masks : KeepsAside m new room
     pub marks : (n : ℕ) → is_some (masks_in new n) ≡ is_some (masks_in m n)
 
   -- a mask of another rank than the members' stays
@@ -157,7 +138,7 @@ module _ {V : Type 0} where
       → heads_in m (number_of up) ≡ first → masks_in m (number_of at) ≡ None → MarkedLists (heads_in m) (masks_in m) l.over.low l.over.tree
       → IsAppended m new room first → IsHanded m new l.over.low l.over.tree l.other
   bit_handed m new whole up room l named head unmarked lists a =
-      let f = fork_of l.other named in
+      let f = fork_named (other_part l) named in
       let s = subst (HasSides l.route.entry.key l.over.tree up l.bit (leaf l.route [])) f.is l.sides in
       let once = way_once l.route.entry.key whole l.over l.ups l.way l.once in
       subst (IsHanded m new l.over.low l.over.tree) (sym f.is)
@@ -193,6 +174,6 @@ module _ {V : Type 0} where
       → name_of l.other ≡ LeafOf room → heads_in m (number_of up) ≡ first → MarkedLists (heads_in m) (masks_in m) l.over.low l.over.tree → IsCleared m new first
       → IsHanded m new l.over.low l.over.tree l.other
   leaf_side_handed m new up first l named head lists a =
-      let f = leaf_of l.other named in
+      let f = leaf_named (other_part l) named in
       let s = subst (HasSides l.route.entry.key l.over.tree up l.bit (leaf l.route [])) f.is l.sides in
       subst (IsHanded m new l.over.low l.over.tree) (sym f.is) (leaf_handed m new l.over l.bit s head lists a)

@@ -1,16 +1,14 @@
 -- What a table's rooms show is found by its searches.
-use Rattle.radix_tree.proofs.{RoomReads.inside, RoomReads.none_some, RoomReads.AreLinks, RoomReads.Has-leaf, TreeMembers.tree_said, TreeMembers.chain_key}
-use Rattle.radix_tree.proofs.{TreeMembers.first_greatest, TreeOrder.tree_is_table, Parts.in_leaf, Parts.leaf_run, Parts.way_inside, Parts.way_leads}
-use Rattle.radix_tree.proofs.{BestOfTree.member_of, BestOfTree.stands_in, Showing.shown_is, Facts.none_if}
-use Rattle.std.specs.Prelude.{IsSome}
-use Rattle.std.proofs.lemmas.Bool.{not-false}
-use Rattle.radix_tree.proofs.Words.{◌≡◌, ℕ, ◌+◌, ◌==◌, Bool, true, false, cond, not, List, [], ◌∷◌, Option, Some, None, refl, sym, ap, ◌∙◌, subst, inl, arith}
-use Rattle.radix_tree.proofs.Words.{eq-eqb, eqb-true, Contains, AllByRecursion, get, Seen, Rooms, Has, leaf_of, Id, Leaf, Links, Node, Contents, IsTable}
-use Rattle.radix_tree.proofs.Words.{entry_at, first_of, Placed, IsAmong, IsIn, IsChain, routes_of, LeafPart, Part, leaves_in, bits_in, leaf_part, Tells, Finds}
-use Rattle.radix_tree.proofs.Words.{HasPair, In, LeafAt, LedTo, shown, shown_entry, IsWhole, Holds, Entry, Lodged, true≢false}
+use Rattle.radix_tree.proofs.{RoomReads.Has-leaf_at, RoomReads.AreLinks, RoomReads.Has-leaf, TreeMembers.tree_said, TreeMembers.chain_key}
+use Rattle.radix_tree.proofs.{TreeMembers.first_greatest, BestOfTree.tree_is_table, BestOfTree.member_of, BestOfTree.stands_in, WholeRoutes.shown_is}
+use Rattle.radix_tree.proofs.{Facts.none_if, Parts.in_leaf, Parts.leaf_run, Parts.way_inside, Parts.way_leads}
 use Rattle.radix_tree.proofs.MemberLemmas.{all_contains, entry_at_is_member, first_of_is_member, first_is_greatest, members_stand}
-use Rattle.radix_nodes.specs.Naming.{number_of}
-use Rattle.radix_tree.specs.Given.{AreGiven}
+use Rattle.radix_tree.proofs.Words.{inside, none_some, IsSome, ◌≡◌, ℕ, ◌+◌, ◌==◌, Bool, true, false, cond, not, List, [], ◌∷◌, Option, Some, None, refl, sym}
+use Rattle.radix_tree.proofs.Words.{ap, ◌∙◌, subst, inl, arith, eq-eqb, eqb-true, Contains, AllByRecursion, get, Seen, Rooms, Has, leaf_of, Id, Leaf, Links}
+use Rattle.radix_tree.proofs.Words.{Node, Contents, IsTable, entry_at, first_of, Placed, IsAmong, IsIn, IsChain, routes_of, LeafPart, Part, leaves_in, bits_in}
+use Rattle.radix_tree.proofs.Words.{leaf_part, Tells, Finds, HasPair, In, LeafAt, LedTo, shown, shown_entry, IsWhole, Holds, Entry, Lodged, true≢false}
+use Rattle.radix_tree.proofs.Words.{number_of, AreGiven}
+use Rattle.std.proofs.lemmas.Bool.{not-false}
 
 -- what a comparison tells
 pub differ : (a b : ℕ) {t : Bool} → t ≡ not (a == b) → t ≡ true → a ≡ b → ⊥
@@ -86,7 +84,7 @@ module _ {V : Type 0} where
   -- ---- the first route of a key
   module _ {m : Lodged V} {address : ℕ} {whole : Part m} {room : Id} (l : LedTo address whole room) where
     pub Has-led : Has m room
-    Has-led = let s = said_of m l.part l.leaf.first (in_leaf l.leaf l.leaf.first (inl refl)) l.leaf.room_is in Has-leaf m room s.at s.block
+    Has-led = Has-leaf_at l.leaf
 
     pub led_first : IsSaid m room l.leaf.first
     led_first = said_of m l.part l.leaf.first (in_leaf l.leaf l.leaf.first (inl refl)) l.leaf.room_is

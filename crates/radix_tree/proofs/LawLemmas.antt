@@ -1,14 +1,13 @@
 -- The laws of a table: those of its best routes, and of putting an entry in and taking it out.
 use Rattle.radix_tree.proofs.{ListLemmas.filter_filter, OrderLemmas.own_pair}
-use Rattle.std.specs.Prelude.{IfSome}
-use Rattle.std.specs.Borrow.{Bor}
-use Rattle.std.proofs.lemmas.List.Elements.{filter-append}
-use Rattle.radix_tree.proofs.Words.{◌≡◌, ℕ, ◌≤◌, true, false, cond, filter, List, [], ◌∷◌, Option, Some, None, refl, sym, ◌∙◌, ap, inl, inr, arith, cases_lt}
-use Rattle.radix_tree.proofs.Words.{append-nil, option_map, agrees, precedes, IsRoute, IsTable, has_pair, entry_at, without, with_entry, agreeing}
-use Rattle.radix_tree.proofs.Words.{greater, best_of, AreOnePair, StandsIn, Agrees, IsBest, BestIsGreatest, BestIsUnique, NoneAgrees, BestStays}
-use Rattle.radix_tree.proofs.Words.{BestIsGreater, BestStaysWithout, WithThenWithout, WithoutThenWith, WithTwiceIsLast, routed, Entry}
 use Rattle.radix_tree.proofs.TableLemmas.{later, same, sooner, with_later, with_parts, without_absent, without_is_table}
 use Rattle.radix_tree.proofs.MemberLemmas.{best_is_member, members_stand, members_are_routes, members_of_without, without_keeps}
+use Rattle.radix_tree.proofs.Words.{IfSome, ◌≡◌, ℕ, ◌≤◌, true, false, cond, filter, List, [], ◌∷◌, Option, Some, None, refl, sym, ◌∙◌, ap, inl, inr, arith}
+use Rattle.radix_tree.proofs.Words.{cases_lt, append-nil, option_map, agrees, precedes, IsRoute, IsTable, has_pair, entry_at, without, with_entry, agreeing}
+use Rattle.radix_tree.proofs.Words.{greater, best_of, AreOnePair, StandsIn, Agrees, IsBest, BestIsGreatest, BestIsUnique, NoneAgrees, BestStays, BestIsGreater}
+use Rattle.radix_tree.proofs.Words.{BestStaysWithout, WithThenWithout, WithoutThenWith, WithTwiceIsLast, routed, Entry}
+use Rattle.std.specs.Borrow.{Bor}
+use Rattle.std.proofs.lemmas.List.Elements.{filter-append}
 
 -- the best with an entry before that the address agrees with, or not
 best_here : {V : Type 0} (address : ℕ) (x : Entry V) (xs : List (Entry V)) → agrees x.rank x.key address ≡ true
@@ -48,13 +47,7 @@ best_reaches {V} address (x ∷ xs) o h a = elim (has_pair o.key o.rank x) as (�
 -- the laws of the best route
 pub best_is_greatest : {V : Type 0} → BestIsGreatest V
 best_is_greatest address entries e r h =
-    let member = best_is_member address entries e h in
-    record {
-      stands = (members_stand entries e r).1 member.0;
-      agrees = member.1;
-      greatest = λ o s a. (let reached = best_reaches address entries o s a in let is : reached.0 ≡ e =
-          (cc) in rw (← is) reached.2);
-    }
+    let member = best_is_member address entries e h in search (arith, members_stand, best_reaches)
 
 -- so what is answered as the best route stands in the table
 pub best_stands : {V : Type 0} (address : ℕ) (es : List (Entry V)) (o : Option (ℕ × ℕ × Bor V)) → IsTable es → option_map routed o ≡ best_of address es
@@ -63,8 +56,7 @@ best_stands address es None table h = tt
 best_stands address es (Some r) table h = (best_is_greatest address es (routed r) table (sym h)).stands
 
 pub none_agrees : {V : Type 0} → NoneAgrees V
-none_agrees address entries e h s = elim (agrees e.rank e.key address) as (λ b. agrees e.rank e.key address ≡ b → b ≡ false)
-    [ true ↦ λ a. (let reached = best_reaches address entries e s a in cc) | false ↦ λ a. refl ] refl
+none_agrees address entries e h s = search (arith, best_reaches)
 
 -- an entry of the table whose pair has the key and the rank of another is that one
 one_of_pair : {V : Type 0} (es : List (Entry V)) (e f : Entry V) → StandsIn es e → StandsIn es f → e.key ≡ f.key → e.rank ≡ f.rank → e ≡ f
@@ -98,13 +90,11 @@ best_stays address entries e r h = search (agreeing_stays)
 
 -- of two entries of one rank the first counts
 greater_again : {V : Type 0} (e x : Entry V) (m : Option (Entry V)) → x.rank ≡ e.rank → greater e m ≡ greater e (greater x m)
-greater_again e x None h = grind arith
-greater_again e x (Some f) h = grind arith
+greater_again e x m h = search arith
 
 -- of two ranks their order doesn't count
 greater_swap : {V : Type 0} (e x : Entry V) (m : Option (Entry V)) → (x.rank ≡ e.rank → ⊥) → greater x (greater e m) ≡ greater e (greater x m)
-greater_swap e x None h = grind arith
-greater_swap e x (Some f) h = grind arith
+greater_swap e x m h = search arith
 
 pub best_is_greater : {V : Type 0} → BestIsGreater V
 best_is_greater address [] e r route a = rw a refl
@@ -151,19 +141,15 @@ best_stays_without address key rank entries r other = search (best_stays_by)
 -- taking out what was put in
 pub with_then_without : {V : Type 0} → WithThenWithout V
 with_then_without [] e r h = rw (own_pair e) refl
-with_then_without (x ∷ xs) e r h = elim (with_parts e x xs r) [
-  | later p n is ↦ search (with_then_without xs e r.2 (rw n at h), is, n)
-  | same p n gone is alone ↦ (cc)
-  | sooner p n gone is ↦ rw (is, own_pair e) (without_absent e.key e.rank (x ∷ xs) h)
-]
+with_then_without (x ∷ xs) e r h =
+    search (arith, with_parts, later, same, sooner, without_absent, with_then_without xs e r.2)
 
 -- putting in again what was taken out
 pub without_then_with : {V : Type 0} → WithoutThenWith V
 without_then_with [] e r h = cc
 without_then_with (x ∷ xs) e r h = elim (with_parts e x xs r) [
   | later p n is ↦ search (with_later, without_then_with xs e r.2 (rw n at h), n)
-  | same p n gone is alone ↦ (
-      rw (n, without_absent e.key e.rank xs gone) (alone ∙ ap (λ t. t ∷ xs) cc))
+  | same p n gone is alone ↦ search (arith, without_absent)
   | sooner p n gone is ↦ (cc)
 ]
 

@@ -27,8 +27,7 @@ module _ {X : Type 0} (P : X → Type 0) where
   -- what is found passes the test
   pub all_find : (q : X → Bool) (xs : List X) (x : X) → AllByRecursion P xs → find q xs ≡ Some x → P x × (q x ≡ true)
   all_find q [] x h k = cc
-  all_find q (y ∷ ys) x h k = elim (q y) as (λ b. q y ≡ b → cond b (Some y) (find q ys) ≡ Some x → P x × (q x ≡ true))
-      [ true ↦ grind arith | false ↦ λ e s. all_find q ys x h.1 s ] refl k
+  all_find q (y ∷ ys) x h k = search (arith, all_find q ys x h.1)
 
 module _ {X : Type 0} where
   pub filter_all : (p : X → Bool) (xs : List X) → AllByRecursion (λ x. p x ≡ true) xs → filter p xs ≡ xs
@@ -56,5 +55,4 @@ module _ {X : Type 0} where
   filter_filter t p b same (x ∷ xs) = grind (arith, filter_filter t p b same xs)
 
   pub or_none : (o : Option X) → option_or o None ≡ o
-  or_none None = refl
-  or_none (Some x) = refl
+  or_none o = search arith

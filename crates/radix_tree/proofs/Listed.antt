@@ -1,24 +1,22 @@
 -- The mask of a route comes into the list of its bit node, or goes out of it: the table's rooms as a whole.
-use Rattle.radix_tree.proofs.{RoomReads.none_some, Parts.fork_is, Parts.way_leads, WholeParts.with_late, Climbs.used, Facts.some_of}
-use Rattle.radix_tree.proofs.Words.{◌≡◌, ℕ, ◌+◌, ◌≤◌, ◌==◌, Bool, true, not, ◌&&◌, ◌||◌, List, Option, Some, None, refl, inl, inr, sym, ap, ◌∙◌, subst, arith}
-use Rattle.radix_tree.proofs.Words.{eq-eqb, ne_eqb, cases_eq, is_some, Id, Node, Placed, IsAmong, IsIn, MaskPart, Part, heads_in, masks_in, HasHome}
-use Rattle.radix_tree.proofs.Words.{KeepsLeaves, KeepsBits, AreOnce, IsMarked, IsMaskList, MarkedIn, IsWholeBut, nobody_late, nobody_out, IsMasks, IsBitNode}
-use Rattle.radix_tree.proofs.Words.{IsFree, IsAside, IsNoRank, HomeAt, IsHome, sorted_in, taken_out, Lodged, true≢false, number_of}
+use Rattle.radix_tree.proofs.{Parts.fork_is, Parts.way_leads, WholeChanges.with_late, Climbs.used, Facts.some_of}
 use Rattle.radix_tree.proofs.MaskLists.{sorted_here, among_sorted, sorted_among, falls_sorted, taken_among, among_taken, falls_taken, ranked_in, masks_listed}
 use Rattle.radix_tree.proofs.MaskLists.{falls_among}
 use Rattle.radix_tree.proofs.HomeLists.{or_right, one_room, one_of_bit, home_has, tree_of, home_list, home_inside, relisted, whole_kept}
+use Rattle.radix_tree.proofs.Words.{none_some, ◌≡◌, ℕ, ◌+◌, ◌≤◌, ◌==◌, Bool, true, not, ◌&&◌, ◌||◌, List, Option, Some, None, refl, inl, inr, sym, ap, ◌∙◌}
+use Rattle.radix_tree.proofs.Words.{subst, arith, eq-eqb, ne_eqb, cases_eq, is_some, Id, Node, Placed, IsAmong, IsIn, MaskPart, Part, heads_in, masks_in}
+use Rattle.radix_tree.proofs.Words.{HasHome, KeepsLeaves, KeepsBits, AreOnce, IsMarked, IsMaskList, MarkedIn, IsWholeBut, nobody_late, nobody_out, IsMasks}
+use Rattle.radix_tree.proofs.Words.{MasksAt, KeepsAsideBut, KeepsMarksBut, IsBitNode, IsFree, IsAside, IsNoRank, HomeAt, IsHome, sorted_in, taken_out, Lodged}
+use Rattle.radix_tree.proofs.Words.{true≢false, number_of}
 
 module _ {V : Type 0} where
   -- ---- a mask comes into the list of its home
   pub record IsSortedIn (m new : Lodged V) (node room : Id) : Type 0 where
-    pub list : (ms : List (Placed V)) (f : IsFree m room) → IsMasks m (heads_in m (number_of node)) ms → IsNoRank f.is.entry.rank ms
-        → IsMasks new (heads_in new (number_of node)) (sorted_in f.is ms)
+    pub list : (ms : List (Placed V)) (f : IsFree m room) → MasksAt m node ms → IsNoRank f.is.entry.rank ms → MasksAt new node (sorted_in f.is ms)
     pub heads : (n : ℕ) → (n ≡ number_of node → ⊥) → heads_in new n ≡ heads_in m n
-    pub masks : (ms : List (Placed V)) → IsMasks m (heads_in m (number_of node)) ms → (n : ℕ) → (n ≡ number_of room → ⊥) → IsAside n ms
-        → masks_in new n ≡ masks_in
-        m n
+    pub masks : KeepsAsideBut m new node room
     pub marked : is_some (masks_in new (number_of room)) ≡ true
-    pub marks : (n : ℕ) → (n ≡ number_of room → ⊥) → is_some (masks_in new n) ≡ is_some (masks_in m n)
+    pub marks : KeepsMarksBut m new room
 
   -- a route of the whole in a room, and the home of its mask
   pub record Homed (m : Lodged V) (whole : Part m) (room node : Id) : Type 0 where
@@ -43,7 +41,7 @@ module _ {V : Type 0} where
         let h = y.home in
         one_of_bit h.part.low h.at.bit node h.at.zero h.at.one (fork_is h.at) x y.is is in_home same (omega arith)
 
-    are_masks : (l : list_at) → IsMasks m (heads_in m (number_of node)) l.masks
+    are_masks : (l : list_at) → MasksAt m node l.masks
     are_masks l =
         let h = y.home in
         masks_listed h.part l (fork_is h.at).0.within (λ x is. subst (IsIn x) (sym h.at.is) is.0)
@@ -122,14 +120,11 @@ module _ {V : Type 0} where
 
   -- ---- a mask goes out of the list of its home
   pub record IsTakenOut (m new : Lodged V) (node room : Id) : Type 0 where
-    pub list : (ms : List (Placed V)) (x : Placed V) → IsMasks m (heads_in m (number_of node)) ms → IsAmong x ms → x.room ≡ room
-        → IsMasks new (heads_in new (number_of node)) (taken_out x.entry.rank ms)
+    pub list : (ms : List (Placed V)) (x : Placed V) → MasksAt m node ms → IsAmong x ms → x.room ≡ room → MasksAt new node (taken_out x.entry.rank ms)
     pub heads : (n : ℕ) → (n ≡ number_of node → ⊥) → heads_in new n ≡ heads_in m n
-    pub masks : (ms : List (Placed V)) → IsMasks m (heads_in m (number_of node)) ms → (n : ℕ) → (n ≡ number_of room → ⊥) → IsAside n ms
-        → masks_in new n ≡ masks_in
-        m n
+    pub masks : KeepsAsideBut m new node room
     pub unmarked : masks_in new (number_of room) ≡ None
-    pub marks : (n : ℕ) → (n ≡ number_of room → ⊥) → is_some (masks_in new n) ≡ is_some (masks_in m n)
+    pub marks : KeepsMarksBut m new room
 
   -- a marked route is listed at its home
   at_home : {m : Lodged V} {whole : Part m} {room node : Id} (y : Homed m whole room node) (l : list_at y) → IsMarked (masks_in m) y.is → IsAmong y.is l.masks
@@ -222,7 +217,7 @@ module _ {V : Type 0} where
   home_node {m = m} y = used y.home.at
 
   pub home_masks : {m : Lodged V} {root : Node} {late : ℕ → Bool} (w : IsWholeBut m root late nobody_out) {room node : Id} → Homed m w.part room node
-      → (ms : List (Placed V)) × IsMasks m (heads_in m (number_of node)) ms
+      → (ms : List (Placed V)) × MasksAt m node ms
   home_masks {m = m} w y =
       let l = home_list y.home w.lists in (l.masks, are_masks y l)
 
@@ -230,7 +225,7 @@ module _ {V : Type 0} where
   home_free {m = m} whole y unmarked = record { is = y.is; room_is = y.room_is; ranked = ranked_in m whole y.is y.inside; unmarked = unmarked }
 
   pub home_member : {m : Lodged V} {root : Node} {late : ℕ → Bool} (w : IsWholeBut m root late nobody_out) {room node : Id} (y : Homed m w.part room node)
-      → IsMarked (masks_in m) y.is → (ms : List (Placed V)) × (x : Placed V) × IsMasks m (heads_in m (number_of node)) ms × IsAmong x ms × (x.room ≡ room)
+      → IsMarked (masks_in m) y.is → (ms : List (Placed V)) × (x : Placed V) × MasksAt m node ms × IsAmong x ms × (x.room ≡ room)
   home_member {m = m} w y marked =
       let l = home_list y.home w.lists in
       (l.masks, y.is, are_masks y l, at_home y l marked, y.room_is)

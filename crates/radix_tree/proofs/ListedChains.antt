@@ -1,20 +1,18 @@
 -- A walk along a chain whose masks are listed one after the other.
-use Rattle.radix_tree.proofs.{Scans.ended_at, Parts.among_leaf, Parts.way_leads, WaysDown.way_to_leaf, ChainStarts.member_of, HomeLists.placed_in}
-use Rattle.radix_tree.proofs.{Listed.settled, WholeParts.later_than, ListedHomes.chain_of, ListedHomes.in_chain, ChainRooms.whole_route}
+use Rattle.radix_tree.proofs.{ChainGaps.head_said, ChainGaps.member_of, MaskWalks.ranks_from, Scans.ended_at, Parts.among_leaf, Parts.way_leads}
+use Rattle.radix_tree.proofs.{Parts.way_to_leaf, HomeLists.placed_in, HomeLists.chain_of, HomeLists.in_chain, Listed.settled, WholeChanges.later_than}
+use Rattle.radix_tree.proofs.{RoomReads.AreLinks, RoomReads.Has-leaf, RoomReads.leaf_read}
+use Rattle.radix_tree.proofs.TreeMembers.{whole_route, of_key, IsHead, head_of, tree_said}
 use Rattle.radix_tree.proofs.Words.{◌≡◌, ℕ, ◌+◌, ◌<◌, ◌≤◌, ◌==◌, Bool, true, false, not, ◌&&◌, List, [], ◌∷◌, Option, Some, None, refl, sym, ap, ◌∙◌, subst}
-use Rattle.radix_tree.proofs.Words.{arith, eqb-true, eq-eqb, is_some, Has, leaf_of, mask_node_of, Id, Leaf, Links, MaskNode, Node, Placed, IsAmong}
-use Rattle.radix_tree.proofs.Words.{IsIn, IsChain, LeafPart, Leaves, Part, Run, leaves_in, masks_in, mask_part, first_room, leaf_part}
-use Rattle.radix_tree.proofs.Words.{ChainStands, one_if, KeepsLeaves, IsWholeBut, is_of_key, has_key, nobody_out, Lodged, true≢false, number_of}
-use Rattle.radix_tree.proofs.RoomReads.{inside, none_some, AreLinks, Has-leaf, leaf_read}
-use Rattle.radix_tree.proofs.TreeMembers.{IsHead, head_of, tree_said}
+use Rattle.radix_tree.proofs.Words.{arith, eqb-true, eq-eqb, is_some, Has, leaf_of, mask_node_of, Id, Leaf, Links, MaskNode, Node, Placed, IsAmong, IsIn}
+use Rattle.radix_tree.proofs.Words.{IsChain, LeafPart, Leaves, Part, Run, leaves_in, masks_in, mask_part, first_room, leaf_part, ChainStands, one_if}
+use Rattle.radix_tree.proofs.Words.{KeepsLeaves, IsWholeBut, is_of_key, has_key, nobody_out, Lodged, true≢false, number_of, inside, none_some}
 
 and_left : (a b : Bool) → (a && b) ≡ true → a ≡ true
-and_left true b both = refl
-and_left false b both = absurd (true≢false (sym both))
+and_left a b both = search arith
 
 both_true : (a b : Bool) → a ≡ true → (b ≡ true → ⊥) → (a && not b) ≡ true
-both_true a true is other = absurd (other refl)
-both_true a false is other = ap (λ t. t && true) is
+both_true a b is other = search arith
 
 module _ {V : Type 0} where
   -- ---- one room
@@ -34,22 +32,12 @@ module _ {V : Type 0} where
     listed_late late w links n are some = settled w room (search (arith, mask_some))
 
   -- ---- how far the walk has to go: one more than the rank of the route that it has come to
-  abbrev pub left_of : Option (LeafPart V) → ℕ
-  left_of None = 0
-  left_of (Some p) = p.leaf.rank + 1
-
-  abbrev pub left_at : Leaves V → Option Id → ℕ
-  left_at L None = 0
-  left_at L (Some room) = left_of (L (number_of room))
-
-  left_same : (L M : Leaves V) (at : Option Id) → ((n : ℕ) → L n ≡ M n) → left_at L at ≡ left_at M at
-  left_same L M None same = refl
-  left_same L M (Some room) same = ap left_of (same (number_of room))
+  left_same : (L M : Leaves V) (at : Option Id) → ((n : ℕ) → L n ≡ M n) → ranks_from L at ≡ ranks_from M at
+  left_same L M at same = search arith
 
   chain_left : (L : Leaves V) (above previous : Option Id) (key top : ℕ) (c : List (Placed V)) → IsChain key top c → ChainStands L above previous c
-      → left_at L (first_room c) ≤ top
-  chain_left L above previous key top [] is stands = omega arith
-  chain_left L above previous key top (x ∷ c) is stands = search arith
+      → ranks_from L (first_room c) ≤ top
+  chain_left L above previous key top c is stands = search arith
 
   -- ---- the walk
   -- in the rooms of m, whose leaves the rooms of now have too: what is left of the chain of a key; all routes of this key
@@ -66,10 +54,6 @@ module _ {V : Type 0} where
   key_said : (m : Lodged V) (p : Part m) (y : Placed V) (q : LeafPart V) {n : ℕ} → IsIn y p.tree → number_of y.room ≡ n → leaves_in m n ≡ Some q
       → (q.leaf.key ≡ y.entry.key) × (q.block ≡ y.room.block)
   key_said m p y q is same said = search (arith, tree_said, inside)
-
-  pub of_key : (key : ℕ) (o : Option (LeafPart V)) → is_of_key key o ≡ true → (q : LeafPart V) × (o ≡ Some q) × (q.leaf.key ≡ key)
-  of_key key None is = absurd (true≢false (sym is))
-  of_key key (Some q) is = (q, refl, eqb-true q.leaf.key key is)
 
   -- a route of the key stands in its chain
   in_its_chain : (m : Lodged V) {root : Node} {late : ℕ → Bool} (w : IsWholeBut m root late nobody_out) (y : Placed V) (is : IsIn y w.part.tree) (n : ℕ)
@@ -107,20 +91,14 @@ module _ {V : Type 0} where
       → IsHead l.rest.members room
   head_at l is = head_of l.rest.members (l.begins ∙ is)
 
-  abbrev part_at : {m : Lodged V} (rest : Run m) {room : Id} → IsHead rest.members room → LeafPart V
-  part_at rest x = leaf_part x.first rest.above rest.previous (first_room x.behind)
-
-  said_at : (m : Lodged V) (rest : Run m) {room : Id} (x : IsHead rest.members room) → leaves_in m (number_of room) ≡ Some (part_at rest x)
-  said_at m rest x = search arith
-
   pub Has-at : {m now : Lodged V} (new : Lodged V) {root : Node} {late : ℕ → Bool} {key : ℕ} {at : Option Id} {room : Id}
       → Left m now root late key at → KeepsLeaves m new → at ≡ Some room → Has new room
   Has-at {m = m} new {room = room} l kept is =
-      let x = head_at l is in Has-leaf new room (kept (number_of room) ∙ said_at m l.rest x) (ap (λ i. i.block) x.room_is)
+      let x = head_at l is in Has-leaf new room (kept (number_of room) ∙ head_said m l.rest.above l.rest.previous x l.rest.stands) (ap (λ i. i.block) x.room_is)
 
   next_read : (m new : Lodged V) (rest : Run m) (room : Id) (links : Links) (l : Leaf) (x : IsHead rest.members room) → KeepsLeaves m new
       → AreLinks new room links → l ≡ leaf_of links → l.next ≡ first_room x.behind
-  next_read m new rest room links l x kept are leaf = search (arith, leaf_read, said_at)
+  next_read m new rest room links l x kept are leaf = search (arith, leaf_read, head_said)
 
   abbrev run_behind : (m : Lodged V) (rest : Run m) {room : Id} → IsHead rest.members room → Run m
   run_behind m rest x = record {
@@ -151,8 +129,8 @@ module _ {V : Type 0} where
 
   pub nearer : (m now new : Lodged V) {root : Node} {late : ℕ → Bool} {key : ℕ} {at : Option Id} (room : Id) (links : Links) {f : Leaf}
       (l : Left m now root late key at) → at ≡ Some room → KeepsLeaves m now → KeepsLeaves m new → AreLinks new room links → f ≡ leaf_of links
-      → left_at (leaves_in new) f.next < left_at (leaves_in now) at
-  nearer m now new room links {f = f} l is was kept are leaf = search (arith, head_at, next_read, chain_left, said_at, left_same)
+      → ranks_from (leaves_in new) f.next < ranks_from (leaves_in now) at
+  nearer m now new room links {f = f} l is was kept are leaf = search (arith, head_at, next_read, chain_left, head_said, left_same)
 
   -- ---- its end
   pub ended : {m now : Lodged V} {root : Node} (late : ℕ → Bool) (key : ℕ) {at : Option Id} → Left m now root late key at → at ≡ None

@@ -1,11 +1,11 @@
--- A walk through the masks that a bit node lists.
-use Rattle.radix_tree.proofs.{RoomReads.inside, Parts.fork_is, Parts.fork_lists, Scans.ended_at, Searching.AreListed, Searching.mask_hit, Searching.mask_miss}
-use Rattle.radix_tree.proofs.{Searching.listed_behind, Searching.list_ends, TreeMembers.head_of, TreeMembers.tree_said, Scans.agrees_is, Scans.covered}
-use Rattle.radix_tree.proofs.{Scans.not_covered}
-use Rattle.radix_tree.specs.Tree.{Covers}
-use Rattle.radix_tree.proofs.Words.{◌≡◌, ℕ, ◌+◌, ◌≤◌, List, ◌∷◌, Option, Some, None, Bool, true, false, refl, sym, ap, ◌∙◌, subst, inl, inr, arith, agrees}
-use Rattle.radix_tree.proofs.Words.{Counter, Id, Leaf, MaskNode, ReadsOnce, LeafPart, MaskPart, Part, MasksAreListed, leaves_in, bits_in, heads_in, masks_in}
-use Rattle.radix_tree.proofs.Words.{mask_part, first_room, leaf_part, MasksStand, Falls, Tells, Best, In, ForkAt, Placed, IsAmong, IsIn, Lodged, number_of}
+-- The search on the way up: a walk through the masks that a bit node lists, and one up from the leaf of an address.
+use Rattle.radix_tree.proofs.{Scans.ended_at, Scans.agrees_is, Scans.covered, Scans.not_covered, TreeMembers.head_of, TreeMembers.tree_said, Parts.fork_is}
+use Rattle.radix_tree.proofs.{Parts.fork_lists, Parts.AreListed, Parts.mask_hit, Parts.mask_miss, Parts.listed_behind, Parts.list_ends, Parts.listed_hit}
+use Rattle.radix_tree.proofs.{Parts.listed_miss, Parts.in_leaf, Parts.side_of, Parts.way_best, Climbs.Over, Climbs.fork_over}
+use Rattle.radix_tree.proofs.Words.{inside, Covers, ◌≡◌, ℕ, ◌+◌, ◌≤◌, List, ◌∷◌, Option, Some, None, Bool, true, false, refl, sym, ap, ◌∙◌, subst, inl, inr}
+use Rattle.radix_tree.proofs.Words.{arith, agrees, Counter, Id, Leaf, MaskNode, ReadsOnce, LeafPart, MaskPart, Part, MasksAreListed, leaves_in, bits_in}
+use Rattle.radix_tree.proofs.Words.{heads_in, masks_in, mask_part, first_room, leaf_part, MasksStand, Falls, Tells, Best, In, ForkAt, Placed, IsAmong, IsIn}
+use Rattle.radix_tree.proofs.Words.{Lodged, number_of, ◌-◌, ◌*◌, Reads, LedTo}
 
 module _ {V : Type 0} {m : Lodged V} where
   -- a walk through the list of a bit node, whose masks so far were tried in vain
@@ -118,3 +118,54 @@ module _ {V : Type 0} {m : Lodged V} where
   pub ended : {address : ℕ} {p : Part m} {bit : ℕ} {at : Option Id} {start now : Counter} → Through address p bit at start now → at ≡ None
       → Best address p.low (bit + 1) (In p) None
   ended {address} {p} {bit} w is = search (arith, list_ends, ended_at)
+
+  -- -------- a walk up a tree from the leaf of an address, in search of its best route
+  -- all beneath a part was searched in vain
+  pub record Searched (address : ℕ) (start now : Counter) (part : Part m) : Type 0 where
+    pub none : Best address part.low 34 (In part) None
+    pub rises : start.count ≤ now.count
+    pub few : now.count + 2 * part.low ≤ start.count + 131
+
+  -- ---- at the leaf
+  pub leaf_hit : {address : ℕ} {whole : Part m} {room found : Id} (l : LedTo address whole room) {o : Option Id} → o ≡ Some found
+      → Tells (Best address 0 34 (λ y. IsAmong y (l.leaf.first ∷ l.leaf.rest))) o → Tells (Best address 0 34 (In whole)) (Some found)
+  leaf_hit {address} {whole} {room} l some tells =
+      let told = subst (Tells (Best address 0 34 (λ y. IsAmong y (l.leaf.first ∷ l.leaf.rest)))) some tells in
+      let best = told.2 in (
+        told.0,
+        told.1,
+        way_best m address whole l.part l.ups l.way told.0
+            (in_leaf l.leaf told.0 best.0, best.1, grind arith),
+      )
+
+  pub searched : {address : ℕ} {whole : Part m} {room : Id} {start now : Counter} (l : LedTo address whole room) {o : Option Id} → o ≡ None
+      → Tells (Best address 0 34 (λ y. IsAmong y (l.leaf.first ∷ l.leaf.rest))) o → Reads start now 67 → Searched address start now l.part
+  searched {address} {whole} {room} l none tells soon = grind arith
+
+  -- ---- at a bit node above: its list has a route of the address
+  pub hit_above : {address : ℕ} {whole under : Part m} {room found : Id} {start now : Counter} (o : Over address whole under room) {answer : Option Id}
+      → Searched address start now under → answer ≡ Some found
+      → Tells (Best address o.part.low ((fork_over o).bit + 1) (In o.part)) answer → Tells (Best address 0 34 (In whole)) (Some found)
+  hit_above {address} {whole} {under} o s some tells =
+      let b = o.beneath in
+      let told = subst (Tells (Best address o.part.low (b.at.bit + 1) (In o.part))) some tells in (
+        told.0,
+        told.1,
+        way_best m address whole o.part o.ups o.way told.0
+            (listed_hit (side_of b) o.part.low told.0 (subst (λ n. Best address n 34 (In under) None) b.low s.none) told.2),
+      )
+
+  -- or none
+  pub miss_above : {address : ℕ} {whole under : Part m} {room : Id} {start now later : Counter} (o : Over address whole under room) {answer : Option Id}
+      → Searched address start now under → answer ≡ None
+      → Tells (Best address o.part.low ((fork_over o).bit + 1) (In o.part)) answer → Reads now later ((fork_over o).bit + 1 - o.part.low + 1)
+      → Searched address start later o.part
+  miss_above {address} {whole} {under} {room} o s none tells more =
+      let b = o.beneath in
+      let told = subst (Tells (Best address o.part.low (b.at.bit + 1) (In o.part))) none tells in
+      let rises = (fork_is (fork_over o)).0.rises in
+      record {
+        none = listed_miss (side_of b) o.part.low (subst (λ n. Best address n 34 (In under) None) b.low s.none) told;
+        rises = omega arith;
+        few = omega (arith, b.low, s.few);
+      }

@@ -1,9 +1,8 @@
 -- The members of a list of masks, and of what comes of it.
-use Rattle.radix_tree.proofs.{TreeMembers.tree_said}
+use Rattle.radix_tree.proofs.{RoomReads.Has-leaf, TreeMembers.tree_said}
 use Rattle.radix_tree.proofs.Words.{◌≡◌, ℕ, ◌+◌, ◌<◌, ◌≤◌, ◌⊎◌, List, [], ◌∷◌, ◌++◌, Option, is_some, refl, sym, ap, subst, inl, inr, arith, cases_eq, Id}
 use Rattle.radix_tree.proofs.Words.{Placed, IsAmong, IsIn, Leaves, Masks, Part, leaves_in, bits_in, masks_in, MasksStand, Falls, IsMarked, IsMaskList, IsMasks}
-use Rattle.radix_tree.proofs.Words.{IsRanked, AreRanked, IsNoRank, not_below, below, sorted_in, taken_out, Lodged}
-use Rattle.radix_nodes.specs.Naming.{number_of}
+use Rattle.radix_tree.proofs.Words.{Has, IsRanked, AreRanked, IsNoRank, not_below, below, sorted_in, taken_out, Lodged, number_of}
 
 pub short_or_long : (rank low : ℕ) → (rank < low) ⊎ (low ≤ rank)
 short_or_long rank low = grind arith
@@ -30,10 +29,7 @@ module _ {V : Type 0} where
 
   pub falls_among : (low top : ℕ) (ms : List (Placed V)) → Falls low top ms → (y : Placed V) → IsAmong y ms → (low ≤ y.entry.rank) × (y.entry.rank < top)
   falls_among low top [] falls y among = absurd among
-  falls_among low top (x ∷ xs) falls y among = elim among [
-    | inl e ↦ grind arith
-    | inr behind ↦ grind (arith, falls_among low x.entry.rank xs falls.2 y behind)
-  ]
+  falls_among low top (x ∷ xs) falls y among = search (arith, falls_among low x.entry.rank xs falls.2 y)
 
   pub falls_appended : (low middle top : ℕ) (ms ts : List (Placed V)) → Falls middle top ms → Falls low middle ts → low ≤ middle → middle ≤ top
       → Falls low top (ms ++ ts)
@@ -73,13 +69,7 @@ module _ {V : Type 0} where
 
   pub not_below_among : (low : ℕ) (ms : List (Placed V)) (y : Placed V) → IsAmong y (not_below low ms) → IsAmong y ms × (low ≤ y.entry.rank)
   not_below_among low [] y among = absurd among
-  not_below_among low (x ∷ xs) y among = elim (short_or_long x.entry.rank low) [
-    | inl short ↦ grind arith
-    | inr long ↦ elim (subst (IsAmong y) (not_below_long low x xs long) among) [
-      | inl e ↦ (inl e, subst (λ p. low ≤ p.entry.rank) e long)
-      | inr behind ↦ grind (arith, not_below_among low xs y behind)
-    ]
-  ]
+  not_below_among low (x ∷ xs) y among = search (arith, short_or_long, not_below_among low xs y)
 
   pub below_among : (least top low : ℕ) (ms : List (Placed V)) → Falls least top ms → (y : Placed V) → IsAmong y (below low ms)
       → IsAmong y ms × (y.entry.rank < low)
@@ -153,10 +143,7 @@ module _ {V : Type 0} where
   -- ---- the rooms
   pub marked_among : (K : Masks) (ms : List (Placed V)) → MasksStand K ms → (y : Placed V) → IsAmong y ms → IsMarked K y
   marked_among K [] stands y among = absurd among
-  marked_among K (x ∷ xs) stands y among = elim among [
-    | inl e ↦ subst (IsMarked K) e (ap is_some stands.0)
-    | inr behind ↦ marked_among K xs stands.1 y behind
-  ]
+  marked_among K (x ∷ xs) stands y among = search (arith, marked_among K xs stands.1 y)
 
   pub ranked_among : (L : Leaves V) (ms : List (Placed V)) → AreRanked L ms → (y : Placed V) → IsAmong y ms → IsRanked L y
   ranked_among L [] ranked y among = absurd among
@@ -165,6 +152,10 @@ module _ {V : Type 0} where
   pub among_ranked : (L : Leaves V) (ms : List (Placed V)) → ((y : Placed V) → IsAmong y ms → IsRanked L y) → AreRanked L ms
   among_ranked L [] all = tt
   among_ranked L (x ∷ xs) all = (all x (inl refl), among_ranked L xs (λ y among. all y (inr among)))
+
+  -- the room of a mask's route is there
+  pub Has-ranked : (m : Lodged V) {x : Placed V} {room : Id} → IsRanked (leaves_in m) x → x.room ≡ room → Has m room
+  Has-ranked m {x = x} r room_is = subst (Has m) room_is (Has-leaf m x.room r.said r.block)
 
   -- routes in one room are of one rank
   pub one_rank : {L : Leaves V} {x y : Placed V} → IsRanked L x → IsRanked L y → number_of x.room ≡ number_of y.room → x.entry.rank ≡ y.entry.rank

@@ -1,13 +1,13 @@
 -- What stands in a table, what holds of all its entries, and what is found among them; and all this with or without an entry.
-use Rattle.radix_tree.proofs.Words.{◌≡◌, ℕ, ◌+◌, ◌≤◌, ◌⊎◌, Bool, true, false, cond, not, filter, length, is_some, nat_lt, nat_eq, ◌&&◌, ◌||◌, List, []}
-use Rattle.radix_tree.proofs.Words.{◌∷◌, Option, Some, None, refl, sym, ◌∙◌, subst, inl, inr, arith, nat_tests, find, Contains, AllByRecursion}
-use Rattle.radix_tree.proofs.Words.{option_or, precedes, IsRoute, IsTable, has_pair, entry_at, first_of, without, with_entry, agreeing, greater}
-use Rattle.radix_tree.proofs.Words.{greatest, best_of, AreOnePair, StandsIn, Agrees, MembersStand, MembersAreRoutes, EntryAtIsMember, FirstOfIsMember}
-use Rattle.radix_tree.proofs.Words.{BestIsMember, FirstIsGreatest, WithStands, WithKeepsOthers, WithoutLeavesNone, WithoutKeepsOthers, MembersOfWith}
-use Rattle.radix_tree.proofs.Words.{MembersOfWithout, WithCounts, WithoutCounts, Entry}
 use Rattle.radix_tree.proofs.ListLemmas.{all_weaker, all_both, all_append, all_passed, all_filter, all_find, find_filter, or_none}
 use Rattle.radix_tree.proofs.TableLemmas.{later, same, sooner, with_parts, without_absent, all_behind, none_at}
-use Rattle.radix_tree.proofs.OrderLemmas.{stands_before, pair_is, own_pair, other_pair, not_pair}
+use Rattle.radix_tree.proofs.OrderLemmas.{stands_before, stands_behind, pair_is, own_pair, other_pair, not_pair}
+use Rattle.radix_tree.proofs.Words.{◌≡◌, ℕ, ◌+◌, ◌≤◌, ◌⊎◌, Bool, true, false, cond, not, filter, length, is_some, nat_lt, nat_eq, ◌&&◌, ◌||◌, List, [], ◌∷◌}
+use Rattle.radix_tree.proofs.Words.{Option, Some, None, refl, sym, ◌∙◌, subst, inl, inr, arith, nat_tests, find, Contains, AllByRecursion, option_or, precedes}
+use Rattle.radix_tree.proofs.Words.{IsRoute, IsTable, has_pair, entry_at, first_of, without, with_entry, agreeing, greater, greatest, best_of, AreOnePair}
+use Rattle.radix_tree.proofs.Words.{StandsIn, Agrees, MembersStand, MembersAreRoutes, EntryAtIsMember, FirstOfIsMember, BestIsMember, FirstIsGreatest}
+use Rattle.radix_tree.proofs.Words.{WithStands, WithKeepsOthers, WithoutLeavesNone, WithoutKeepsOthers, MembersOfWith, MembersOfWithout, WithCounts}
+use Rattle.radix_tree.proofs.Words.{WithoutCounts, Entry}
 use Rattle.std.proofs.lemmas.List.Elements.{All-contains, All-contains_itself, All-from_recursion, recursion_from_All}
 use Rattle.std.proofs.lemmas.List.Folds.{find-append}
 
@@ -96,17 +96,13 @@ with_stands entries e =
     let gone = find_filter q (λ x. precedes x e) false (λ x k. grind (arith, nat_tests)) entries in
     search (arith, find-append, own_pair)
 
--- a pair precedes an entry
-abbrev pair_precedes : {V : Type 0} → ℕ → ℕ → Entry V → Bool
-pair_precedes key rank e = nat_lt key e.key || (nat_eq key e.key && nat_lt e.rank rank)
-
 -- and at each other pair stands what stood there
 pub with_keeps_others : {V : Type 0} → WithKeepsOthers V
 with_keeps_others key rank entries e other =
     let q = has_pair key rank in
     let fails = other_pair key rank e (λ same. other (sym same.0, sym same.1)) in
     find-append q (filter (λ x. precedes x e) entries) (e ∷ filter (λ x. precedes e x) entries)
-    ∙ (elim (pair_precedes key rank e) as (λ b. pair_precedes key rank e ≡ b
+    ∙ (elim (stands_behind key rank e) as (λ b. stands_behind key rank e ≡ b
     → option_or (find q (filter (λ x. precedes x e) entries)) (find q (e ∷ filter (λ x. precedes e x) entries)) ≡ find q entries) [
       | true ↦ λ k. rw (
         find_filter q (λ x. precedes x e) true (λ x s. grind (arith, nat_tests)) entries,

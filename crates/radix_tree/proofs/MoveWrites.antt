@@ -1,13 +1,14 @@
 -- A bit node in use moves from its room to another: the rooms before the writes and after them.
-use Rattle.radix_tree.proofs.{PartRooms.frame, PartRooms.way_once, PartRooms.way_counts, PartRooms.spine_out, Forking.forks_there, Beside.misses_leaf}
-use Rattle.radix_tree.proofs.{Beside.misses_bit, WaysDown.way_to_fork, WholeParts.once_but, Lodging.over_at, Facts.none_of, Facts.off_room}
+use Rattle.radix_tree.proofs.{Beside.misses_leaf, Beside.misses_bit, Beside.over_at, WholeChanges.once_but, Facts.none_of, Facts.off_room, RoomReads.AreLinks}
+use Rattle.radix_tree.proofs.{RoomReads.head_read, RoomReads.Has-bit}
+use Rattle.radix_tree.proofs.Parts.{way_to_fork, fork_is, fork_stands, zero_part, one_part, fork_named, bit_part_of}
+use Rattle.radix_tree.proofs.PartRooms.{forks_there, frame, way_once, way_counts, spine_out}
+use Rattle.radix_tree.proofs.MovedReads.{one_if_is, at_room, content_lift, lift_used, rename_used, leaf_off, bit_off, Has_kept}
 use Rattle.radix_tree.proofs.Words.{◌≡◌, ℕ, ◌+◌, ◌≤◌, ◌==◌, true, false, List, [], ◌∷◌, Option, Some, None, refl, sym, ap, ◌∙◌, arith, is_some, Has}
 use Rattle.radix_tree.proofs.Words.{bit_node_of, Id, Links, Node, BitNode, BitPart, Part, leaves_in, bits_in, heads_in, bit_in, bit_part, name_of, ForkAt, Way}
 use Rattle.radix_tree.proofs.Words.{one_if, leaves_at, forks_at, AreOnce, IsWholeBut, nobody_late, out_at, put_bit, put_head, lift_leaf, lift_bit, KeepsMasks}
-use Rattle.radix_tree.proofs.Words.{rename, KeepsRoutes, CanTake, Lodged, IsBitNode, LeafOf, BitOf, inl, inr, bit_above, if◌then◌else◌, number_of}
-use Rattle.radix_tree.proofs.RoomReads.{inside, none_some, AreLinks, head_read, Has-bit}
-use Rattle.radix_tree.proofs.Parts.{fork_is, fork_stands, zero_part, one_part, fork_named, bit_part_of}
-use Rattle.radix_tree.proofs.MovedReads.{one_if_is, at_room, content_lift, lift_used, rename_used, leaf_off, bit_off, Has_kept}
+use Rattle.radix_tree.proofs.Words.{rename, KeepsRoutes, CanTake, Lodged, IsBitNode, LeafOf, BitOf, inl, inr, bit_above, if◌then◌else◌, number_of, inside}
+use Rattle.radix_tree.proofs.Words.{none_some}
 use Rattle.radix_tree.specs.Removal.{HasNodesBeneath}
 
 pub bit_said : (to : Id) (n : BitNode) {bit : ℕ} {left right : Node} {above : Option Id} → n.bit ≡ bit → n.zero ≡ left → n.one ≡ right → n.above ≡ above
@@ -119,10 +120,7 @@ module _ {V : Type 0} where
 
     -- the other room is no bit node of the tree
     pub not_to : (k : ℕ) → 1 ≤ forks_at k v.whole.part.tree → k ≡ number_of to → ⊥
-    not_to k some same =
-        let p = v.whole.part in
-        let gone = forks_there (leaves_in m) (bits_in m) p.above p.tree (number_of to) p.stands v.takes.free in
-        let is = ap (λ j. forks_at j v.whole.part.tree) same in omega arith
+    not_to k some same = search (arith, forks_there)
 
     pub beneath_whole : (k : ℕ) → forks_at k v.f.zero + forks_at k v.f.one ≤ forks_at k v.whole.part.tree
     beneath_whole k =

@@ -1,6 +1,6 @@
 -- Table order, and where an entry stands beside a pair in it.
-use Rattle.radix_tree.proofs.Words.{◌≡◌, ℕ, Bool, true, false, ◌&&◌, ◌||◌, nat_lt, nat_eq, IsTrue, inl, inr, arith, cases_lt, precedes}
-use Rattle.radix_tree.proofs.Words.{has_pair, AreOnePair, PrecedesInWords, PrecedesOneWay, PrecedesTransitively, Entry}
+use Rattle.radix_tree.proofs.Words.{◌≡◌, ℕ, Bool, true, false, ◌&&◌, ◌||◌, nat_lt, nat_eq, IsTrue, inl, inr, arith, cases_lt, precedes, has_pair, AreOnePair}
+use Rattle.radix_tree.proofs.Words.{PrecedesInWords, PrecedesOneWay, PrecedesTransitively, Entry}
 
 -- the entry precedes, in table order, those that have this pair
 abbrev pub stands_before : {V : Type 0} → ℕ → ℕ → Entry V → Bool
@@ -17,19 +17,7 @@ pub data Beside {V : Type 0} (key rank : ℕ) (e : Entry V) : Type 0 where
   behind : stands_before key rank e ≡ false → stands_behind key rank e ≡ true → has_pair key rank e ≡ false → Beside key rank e
 
 pub beside : {V : Type 0} (key rank : ℕ) (e : Entry V) → Beside key rank e
-beside key rank e = elim (cases_lt e.key key) [
-  | inl less ↦ before (grind arith) (grind arith) (grind arith)
-  | inr least ↦ elim (cases_lt key e.key) [
-    | inl more ↦ behind (grind arith) (grind arith) (grind arith)
-    | inr most ↦ elim (cases_lt rank e.rank) [
-      | inl longer ↦ before (grind arith) (grind arith) (grind arith)
-      | inr shortest ↦ elim (cases_lt e.rank rank) [
-        | inl shorter ↦ behind (grind arith) (grind arith) (grind arith)
-        | inr same ↦ here (grind arith) (grind arith) (grind arith)
-      ]
-    ]
-  ]
-]
+beside key rank e = search (arith, cases_lt)
 
 -- an entry with a pair has its key and its rank
 pub pair_is : {V : Type 0} (key rank : ℕ) (e : Entry V) → has_pair key rank e ≡ true → AreOnePair e.key e.rank key rank

@@ -1,12 +1,92 @@
--- The parts of a tree: a bit node with what is beneath it, a leaf, and the way between one part and the whole.
-use Rattle.radix_tree.proofs.{RoomReads.Has-bit, Searching.IsSide, Searching.zero_side, Searching.one_side, Searching.side_hit}
-use Rattle.radix_tree.proofs.Words.{arith, ◌≡◌, ℕ, ◌+◌, List, ◌∷◌, Some, None, refl, sym, ap, subst, inl, inr, Has, Id, LeafOf, BitOf, Placed, Tree, leaf, fork}
-use Rattle.radix_tree.proofs.Words.{bit_at, IsAmong, IsIn, IsTree, BitPart, Part, Run, leaves_in, bits_in, heads_in, masks_in, first_room, name_of, Stands}
-use Rattle.radix_tree.proofs.Words.{Lists, Best, In, ForkAt, LeafAt, LedTo, Beneath, Way, Lodged, []}
+-- The parts of a tree and the ways to them, and what a search beneath a bit node tells of all that is beneath it.
+use Rattle.radix_tree.proofs.{TreeMembers.same_rank, TreeMembers.tree_route, TreeMembers.bit_beneath, Facts.zero_not_one, Facts.covered_bit, Facts.clear_bit}
+use Rattle.radix_tree.proofs.{RoomReads.Has-bit}
+use Rattle.radix_tree.proofs.Words.{◌≡◌, ℕ, ◌+◌, ◌<◌, ◌≤◌, ◌⊎◌, List, [], ◌∷◌, None, Some, sym, subst, inl, inr, arith, IsRoute, Placed, Tree, fork, bit_at}
+use Rattle.radix_tree.proofs.Words.{Covers, IsAmong, IsIn, IsTree, Falls, Best, refl, ap, Has, Id, LeafOf, BitOf, leaf, BitPart, Part, Run, leaves_in, bits_in}
+use Rattle.radix_tree.proofs.Words.{heads_in, masks_in, first_room, name_of, Stands, Lists, In, ForkAt, LeafAt, LedTo, Beneath, Way, Lodged, cases_lt, ◌==◌}
+use Rattle.radix_tree.proofs.Words.{true, false, eqb-true, one_if, forks_at, number_of}
 
-leaf_not_bit : {x y : Id} → LeafOf x ≡ BitOf y → ⊥
-leaf_not_bit e = cc
+module _ {V : Type 0} where
+  -- the routes beneath a bit node, parted by whether they have the address's bit there
+  pub record IsSide (address b : ℕ) (side whole : Tree V) : Type 0 where
+    pub within : b ≤ 31
+    pub routes : (y : Placed V) → IsIn y whole → IsRoute y.entry
+    pub inside : (y : Placed V) → IsIn y side → IsIn y whole
+    pub here : (y : Placed V) → IsIn y side → bit_at b y.entry.key ≡ bit_at b address
+    pub parted : (y : Placed V) → IsIn y whole → IsIn y side ⊎ (bit_at b y.entry.key ≡ bit_at b address → ⊥)
 
+  pub zero_side : (address low b : ℕ) (room : _) (zero one : Tree V) → IsTree low (fork room b zero one) → bit_at b address ≡ 0
+      → IsSide address b zero (fork room b zero one)
+  zero_side address low b room zero one is bit = grind (arith, tree_route, bit_beneath, zero_not_one, bit)
+
+  pub one_side : (address low b : ℕ) (room : _) (zero one : Tree V) → IsTree low (fork room b zero one) → bit_at b address ≡ 1
+      → IsSide address b one (fork room b zero one)
+  one_side address low b room zero one is bit = grind (arith, tree_route, bit_beneath, zero_not_one, bit)
+
+  -- a route of the other side that covers the address has a rank not past the bit, and so a 0 there
+  other_side : (address b : ℕ) (y : Placed V) → b ≤ 31 → IsRoute y.entry → Covers address y.entry → (bit_at b y.entry.key ≡ bit_at b address → ⊥)
+      → (y.entry.rank ≤ b) × (bit_at b y.entry.key ≡ 0)
+  other_side address b y within route covers differs = grind (arith, covered_bit, clear_bit)
+
+  module _ {address b : ℕ} {side whole : Tree V} (is : IsSide address b side whole) where
+    -- so the best of the address's side is the best of both
+    pub side_hit : (low : ℕ) (x : Placed V) → Best address (b + 1) 34 (λ y. IsIn y side) (Some x) → Best address low 34 (λ y. IsIn y whole) (Some x)
+    side_hit low x best = grind (arith, other_side, clear_bit)
+
+    -- where that side has none, all that cover the address have a rank not past the bit
+    all_short : Best address (b + 1) 34 (λ y. IsIn y side) None → (y : Placed V) → IsIn y whole → Covers address y.entry → y.entry.rank < 34
+        → y.entry.rank < b + 1
+    all_short none y at covers below = grind (arith, other_side)
+
+    -- and the masks that the node lists decide
+    pub listed_hit : (low : ℕ) (x : Placed V) → Best address (b + 1) 34 (λ y. IsIn y side) None → Best address low (b + 1) (λ y. IsIn y whole) (Some x)
+        → Best address low 34 (λ y. IsIn y whole) (Some x)
+    listed_hit low x none best = search (all_short, best.2)
+
+    pub listed_miss : (low : ℕ) → Best address (b + 1) 34 (λ y. IsIn y side) None → Best address low (b + 1) (λ y. IsIn y whole) None
+        → Best address low 34 (λ y. IsIn y whole) None
+    listed_miss low none best = search (all_short)
+
+  -- ---- the masks of one bit node
+  falls_below : (low top : ℕ) (ms : List (Placed V)) → Falls low top ms → (y : Placed V) → IsAmong y ms → y.entry.rank < top
+  falls_below low top [] falls y among = absurd among
+  falls_below low top (m ∷ ms) falls y among = search (arith, falls_below low m.entry.rank ms falls.2 y)
+
+  -- all routes of a rank from low to below top are listed
+  abbrev pub AreListed : ℕ → ℕ → List (Placed V) → Tree V → Type 0
+  AreListed low top ms t = (y : Placed V) → IsIn y t → low ≤ y.entry.rank → y.entry.rank < top → IsAmong y ms
+
+  -- so none of a rank below top has one past the first mask's
+  none_longer : (low top : ℕ) (m : Placed V) (ms : List (Placed V)) (t : Tree V) → Falls low top (m ∷ ms) → AreListed low top (m ∷ ms) t
+      → (y : Placed V) → IsIn y t → y.entry.rank < top → y.entry.rank ≤ m.entry.rank
+  none_longer low top m ms t falls listed y at below = grind (arith, falls_below)
+
+  -- the first mask's route is the best if it covers the address, once longer masks were tried in vain
+  pub mask_hit : (address low top past : ℕ) (m : Placed V) (ms : List (Placed V)) (t : Tree V) → Falls low top (m ∷ ms) → AreListed low top (m ∷ ms) t
+      → Best address top past (λ y. IsIn y t) None → IsIn m t → Covers address m.entry → Best address low past (λ y. IsIn y t) (Some m)
+  mask_hit address low top past m ms t falls listed tried in_tree covers_it = search (arith, none_longer)
+
+  -- a route that covers the address is behind the first mask's where that doesn't
+  behind_first : (address low : ℕ) (m : Placed V) (ms : List (Placed V)) → Falls low m.entry.rank ms → (Covers address m.entry → ⊥) → (y : Placed V)
+      → Covers address y.entry → IsAmong y (m ∷ ms) → y.entry.rank < m.entry.rank
+  behind_first address low m ms falls not y covers among = search (arith, falls_below)
+
+  -- then that mask was tried in vain too
+  pub mask_miss : (address low top past : ℕ) (m : Placed V) (ms : List (Placed V)) (t : Tree V) → Falls low top (m ∷ ms) → AreListed low top (m ∷ ms) t
+      → Best address top past (λ y. IsIn y t) None → (Covers address m.entry → ⊥) → Best address m.entry.rank past (λ y. IsIn y t) None
+  mask_miss address low top past m ms t falls listed tried not y at covers below = search (arith, behind_first)
+
+  -- what is listed behind the first mask
+  pub listed_behind : (low top : ℕ) (m : Placed V) (ms : List (Placed V)) (t : Tree V) → Falls low top (m ∷ ms) → AreListed low top (m ∷ ms) t
+      → AreListed low m.entry.rank ms t
+  listed_behind low top m ms t falls listed y at least below = grind arith
+
+  -- at the end of the list all masks were tried
+  pub list_ends : (address low top past : ℕ) (t : Tree V) → AreListed low top [] t → Best address top past (λ y. IsIn y t) None
+      → Best address low past (λ y. IsIn y t) None
+  list_ends address low top past t listed tried y at covers below = grind arith
+
+-- -------- the parts of a tree: a bit node with what is beneath it, a leaf, and the way between one part and the whole
 bit_not_leaf : {x y : Id} → BitOf x ≡ LeafOf y → ⊥
 bit_not_leaf e = cc
 
@@ -15,8 +95,7 @@ same_leaf e = cc
 
 module _ {V : Type 0} where
   fork_of : (m : Lodged V) (p : Part m) {room : Id} (t : Tree V) → p.tree ≡ t → name_of t ≡ BitOf room → ForkAt p room
-  fork_of m p (leaf x xs) is named = absurd (leaf_not_bit named)
-  fork_of m p (fork i b zero one) is named = grind arith
+  fork_of m p t is named = search arith
 
   leaf_of : (m : Lodged V) (p : Part m) {room : Id} (t : Tree V) → p.tree ≡ t → name_of t ≡ LeafOf room → LeafAt p room
   leaf_of m p (leaf x xs) is named = search (same_leaf)
@@ -132,3 +211,90 @@ module _ {V : Type 0} where
       → Best address at.low 34 (In at) (Some x) → Best address whole.low 34 (In whole) (Some x)
   way_best m address whole at [] way x best = grind arith
   way_best m address whole at (p ∷ ps) way x best = way_best m address whole p ps way.1 x (side_hit (side_of way.0) p.low x best)
+
+  -- -------- the ways to parts of a tree
+  -- ---- the ways to parts
+  -- the leaf of a route
+  pub record FoundLeaf (m : Lodged V) (whole : Part m) (y : Placed V) : Type 0 where
+    pub part : Part m
+    pub room : Id
+    pub at : LeafAt part room
+    pub among : IsIn y part.tree
+    pub ups : List (Part m)
+    pub way : Way y.entry.key whole part ups
+
+  leaf_down : (m : Lodged V) (whole : Part m) (y : Placed V) (at : Part m) (ups : List (Part m)) (t : Tree V) → at.tree ≡ t → Way y.entry.key whole at ups
+      → IsIn y t → FoundLeaf m whole y
+  leaf_down m whole y at ups (leaf x xs) is way there = record {
+    part = at;
+    room = x.room;
+    at = record { first = x; rest = xs; is = is; room_is = refl };
+    among = subst (IsIn y) (sym is) there;
+    ups = ups;
+    way = way;
+  }
+  leaf_down m whole y at ups (fork room b zero one) is way there =
+      let f : ForkAt at room = record { bit = b; zero = zero; one = one; is = is } in
+      let tree = fork_is f in
+      elim there [
+        | inl z ↦ leaf_down m whole y (zero_part f) (at ∷ ups) zero refl
+            (zero_beneath f y.entry.key (bit_beneath (b + 1) b 0 zero tree.1 tree.0.zeros y z), way) z
+        | inr o ↦ leaf_down m whole y (one_part f) (at ∷ ups) one refl
+            (one_beneath f y.entry.key (bit_beneath (b + 1) b 1 one tree.2 tree.0.ones y o), way) o
+      ]
+
+  pub way_to_leaf : (m : Lodged V) (whole : Part m) (y : Placed V) → IsIn y whole.tree → FoundLeaf m whole y
+  way_to_leaf m whole y is = leaf_down m whole y whole [] whole.tree refl refl is
+
+  -- the bit node in a room
+  pub record FoundFork (m : Lodged V) (whole : Part m) (n : ℕ) : Type 0 where
+    pub key : ℕ
+    pub part : Part m
+    pub room : Id
+    pub at : ForkAt part room
+    pub number : number_of room ≡ n
+    pub ups : List (Part m)
+    pub way : Way key whole part ups
+
+  -- a route beneath it
+  abbrev HasOver : ℕ → Placed V → Tree V → Type 0
+  HasOver n y (leaf x xs) = ⊥
+  HasOver n y (fork room b zero one) = ((number_of room ≡ n) × IsIn y zero) ⊎ (HasOver n y zero ⊎ HasOver n y one)
+
+  over_in : (n : ℕ) (y : Placed V) (t : Tree V) → HasOver n y t → IsIn y t
+  over_in n y (leaf x xs) o = absurd o
+  over_in n y (fork room b zero one) o = search (arith, over_in n y zero, over_in n y one)
+
+  some_route : (t : Tree V) → (y : Placed V) × IsIn y t
+  some_route (leaf x xs) = (x, inl refl)
+  some_route (fork room b zero one) = let y = some_route zero in (y.0, inl y.1)
+
+  some_over : (n : ℕ) (t : Tree V) → 1 ≤ forks_at n t → (y : Placed V) × HasOver n y t
+  some_over n (leaf x xs) some = absurd (omega arith)
+  some_over n (fork room b zero one) some = elim (number_of room == n) as (λ t. (number_of room == n) ≡ t → 1 ≤ one_if t + (forks_at n zero + forks_at n one)
+      → (y : Placed V) × HasOver n y (fork room b zero one)) [
+        | true ↦ λ e sum. let y = some_route zero in (y.0, inl (eqb-true (number_of room) n e, y.1))
+        | false ↦ λ e sum. elim (cases_lt 0 (forks_at n zero)) [
+          | inl lt ↦ let y = some_over n zero lt in (y.0, inr (inl y.1))
+          | inr le ↦ let y = some_over n one (omega arith) in (y.0, inr (inr y.1))
+        ]
+      ] refl some
+
+  fork_down : (m : Lodged V) (whole : Part m) (n : ℕ) (y : Placed V) (at : Part m) (ups : List (Part m)) (t : Tree V) → at.tree ≡ t
+      → Way y.entry.key whole at ups → HasOver n y t → FoundFork m whole n
+  fork_down m whole n y at ups (leaf x xs) is way o = absurd o
+  fork_down m whole n y at ups (fork room b zero one) is way o =
+      let f : ForkAt at room = record { bit = b; zero = zero; one = one; is = is } in
+      let tree = fork_is f in
+      elim o [
+        | inl h ↦ record { key = y.entry.key; part = at; room = room; at = f; number = h.0; ups = ups; way = way }
+        | inr s ↦ elim s [
+          | inl z ↦ fork_down m whole n y (zero_part f) (at ∷ ups) zero refl
+              (zero_beneath f y.entry.key (bit_beneath (b + 1) b 0 zero tree.1 tree.0.zeros y (over_in n y zero z)), way) z
+          | inr u ↦ fork_down m whole n y (one_part f) (at ∷ ups) one refl
+              (one_beneath f y.entry.key (bit_beneath (b + 1) b 1 one tree.2 tree.0.ones y (over_in n y one u)), way) u
+        ]
+      ]
+
+  pub way_to_fork : (m : Lodged V) (whole : Part m) (n : ℕ) → 1 ≤ forks_at n whole.tree → FoundFork m whole n
+  way_to_fork m whole n some = let y = some_over n whole.tree some in fork_down m whole n y.0 whole [] whole.tree refl refl y.1

@@ -1,9 +1,9 @@
--- The lists of masks of bit nodes above a part stay where the part is exchanged and its masks that are listed further up stay.
-use Rattle.radix_tree.proofs.{PartRooms.one_if_same, Plugs.Aside, Plugs.aside_in, Plugs.in_plug, Plugs.plug_in, Plugs.forks_within, Plugs.low_rises}
-use Rattle.radix_tree.proofs.{MaskLists.falls_among, MaskLinks.stand_same}
-use Rattle.radix_tree.proofs.Words.{◌≡◌, ℕ, ◌+◌, ◌<◌, ◌≤◌, List, [], ◌∷◌, Option, ap, ◌∙◌, inl, inr, arith, is_some, Id, Placed, Tree, leaf, fork, IsIn}
-use Rattle.radix_tree.proofs.Words.{IsTree, Heads, Masks, forks_at, Frame, on_zero, on_one, plug, low_past, IsMarked, IsMaskList, MarkedIn, MarkedLists}
-use Rattle.radix_nodes.specs.Naming.{number_of}
+-- The lists of masks of bit nodes above a part stay where the part is exchanged and its masks listed further up stay.
+use Rattle.radix_tree.proofs.{PartRooms.one_if_same, MaskLists.falls_among, MaskChanges.stand_same}
+use Rattle.radix_tree.proofs.Plugs.{Aside, aside_in, in_plug, plug_in, forks_within, low_rises}
+use Rattle.radix_tree.proofs.Words.{◌≡◌, ℕ, ◌+◌, ◌<◌, ◌≤◌, List, [], ◌∷◌, Option, ap, ◌∙◌, inl, inr, arith, is_some, Id, Placed, Tree, leaf, fork, IsIn, IsTree}
+use Rattle.radix_tree.proofs.Words.{Heads, Masks, forks_at, Frame, on_zero, on_one, plug, low_past, IsMarked, IsMaskList, MarkedIn, MarkedLists, number_of, sym}
+use Rattle.radix_tree.proofs.Words.{subst, Part, Beneath, Way, Lodged}
 
 module _ {V : Type 0} where
   -- ---- one list
@@ -81,4 +81,23 @@ module _ {V : Type 0} where
             (λ x member most. came_within k x member.0 (omega arith) member.1) lists.0,
         lists_same H G K J (b + 1) zero (λ n some. k.heads n (omega (arith, within n))) (λ y at. k.aside y (inl at)) lists.1,
         plug_lists (b + 1) fs is.2 (keeps_one room b zero k) lists.2 own,
+      )
+
+  -- -------- lists of masks that stay where the masks of their ranks do
+  -- ---- one list stays where the masks of its ranks do
+  pub list_stays : (K M : Masks) {first : Option Id} (low b : ℕ) (t : Tree V)
+      → ((x : Placed V) → IsIn x t → low ≤ x.entry.rank → M (number_of x.room) ≡ K (number_of x.room))
+      → IsMaskList K first low b (MarkedIn K t) → IsMaskList M first low b (MarkedIn M t)
+  list_stays K M low b t same list = grind (arith, falls_among, stand_same, marked_same, same)
+
+  -- and so do those of a tree
+  pub lists_stay : (H J : Heads) (K M : Masks) (low : ℕ) (t : Tree V) → IsTree low t → ((n : ℕ) → 1 ≤ forks_at n t → J n ≡ H n)
+      → ((y : Placed V) → IsIn y t → low ≤ y.entry.rank → M (number_of y.room) ≡ K (number_of y.room)) → MarkedLists H K low t → MarkedLists J M low t
+  lists_stay H J K M low (leaf x xs) is heads masks lists = tt
+  lists_stay H J K M low (fork room b zero one) is heads masks lists =
+      let here = one_if_same (number_of room) in (
+        subst (λ first. IsMaskList M first low b (MarkedIn M (fork room b zero one))) (sym (heads (number_of room) (omega arith)))
+            (list_stays K M low b (fork room b zero one) masks lists.0),
+        lists_stay H J K M (b + 1) zero is.1 (λ n some. heads n (omega arith)) (λ y at least. masks y (inl at) (omega arith)) lists.1,
+        lists_stay H J K M (b + 1) one is.2 (λ n some. heads n (omega arith)) (λ y at least. masks y (inr at) (omega arith)) lists.2,
       )

@@ -1,9 +1,8 @@
--- A tree is a part of it beneath bit nodes: what it holds beside the part stays, whatever part stands there.
-use Rattle.radix_tree.proofs.{AddressBits.zero_not_one, TreeMembers.bit_beneath}
-use Rattle.radix_tree.proofs.Words.{◌≡◌, ℕ, ◌+◌, ◌<◌, ◌≤◌, ◌⊎◌, List, [], ◌∷◌, ◌++◌, None, refl, sym, inl, inr, arith, cases_lt}
-use Rattle.radix_tree.proofs.Words.{append_assoc, append-nil, Id, Placed, Tree, leaf, fork, IsAmong, IsIn, IsTree, routes_of, Bits, members_at}
-use Rattle.radix_tree.proofs.Words.{leaves_at, forks_at, HasHome, AreIdle, HasOneFork, HaveOneFork, Frame, on_zero, on_one, plug, low_past, Lead, Entry}
-use Rattle.radix_nodes.specs.Naming.{number_of}
+-- A tree is a part of it beneath bit nodes: what it holds beside the part stays; and the way of a key to it.
+use Rattle.radix_tree.proofs.{Facts.zero_not_one, TreeMembers.bit_beneath}
+use Rattle.radix_tree.proofs.Words.{◌≡◌, ℕ, ◌+◌, ◌<◌, ◌≤◌, ◌⊎◌, List, [], ◌∷◌, ◌++◌, None, refl, sym, inl, inr, arith, cases_lt, append_assoc, append-nil, Id}
+use Rattle.radix_tree.proofs.Words.{Placed, Tree, leaf, fork, IsAmong, IsIn, IsTree, routes_of, Bits, members_at, leaves_at, forks_at, HasHome, AreIdle}
+use Rattle.radix_tree.proofs.Words.{HasOneFork, HaveOneFork, Frame, on_zero, on_one, plug, low_past, Lead, Entry, number_of, ap, ◌∙◌, Part, Way, Lodged}
 
 module _ {V : Type 0} where
   -- what the bit nodes have on their other sides
@@ -40,10 +39,7 @@ module _ {V : Type 0} where
 
   pub counted_leaf : (x : Placed V) (t : Tree V) → IsIn x t → 1 ≤ leaves_at (number_of x.room) t
   counted_leaf x (leaf y ys) is = counted_member x (y ∷ ys) is
-  counted_leaf x (fork room b zero one) is = elim is [
-    | inl at ↦ omega (arith, counted_leaf x zero at)
-    | inr at ↦ omega (arith, counted_leaf x one at)
-  ]
+  counted_leaf x (fork room b zero one) is = search (arith, counted_leaf x zero, counted_leaf x one)
 
   pub plug_in : (fs : List (Frame V)) (t : Tree V) (y : Placed V) → IsIn y t → IsIn y (plug fs t)
   plug_in [] t y is = is
@@ -63,18 +59,8 @@ module _ {V : Type 0} where
   -- what is aside is in rooms of its own: in none of the part
   pub aside_at : (fs : List (Frame V)) (t : Tree V) (y : Placed V) → Aside fs y → 1 + leaves_at (number_of y.room) t ≤ leaves_at (number_of y.room) (plug fs t)
   aside_at [] t y is = absurd is
-  aside_at (on_zero room b one ∷ fs) t y is =
-      let le = leaves_within fs t (number_of y.room) in
-      elim is [
-        | inl at ↦ omega (arith, counted_leaf y one at)
-        | inr at ↦ omega (arith, aside_at fs t y at)
-      ]
-  aside_at (on_one room b zero ∷ fs) t y is =
-      let le = leaves_within fs t (number_of y.room) in
-      elim is [
-        | inl at ↦ omega (arith, counted_leaf y zero at)
-        | inr at ↦ omega (arith, aside_at fs t y at)
-      ]
+  aside_at (on_zero room b one ∷ fs) t y is = search (arith, leaves_within, counted_leaf, aside_at fs t y)
+  aside_at (on_one room b zero ∷ fs) t y is = search (arith, leaves_within, counted_leaf, aside_at fs t y)
 
   -- the routes before it and those behind
   pub record Surround (fs : List (Frame V)) : Type 0 where
@@ -108,31 +94,21 @@ module _ {V : Type 0} where
       → HasOneFork B xs
       → HasOneFork C xs
   one_fork_same B C [] same has = tt
-  one_fork_same B C (x ∷ xs) same has = elim has [
-    | inl idle ↦ inl (idle_same B C xs (λ y among. same y (inr among)) idle)
-    | inr h ↦ inr (same x (inl refl) h.0, one_fork_same B C xs (λ y among. same y (inr among)) h.1)
-  ]
+  one_fork_same B C (x ∷ xs) same has = search (arith, idle_same, one_fork_same B C xs)
 
   -- where no bit node comes into use there is at most one as before
   pub spare_same : (B C : Bits) (t : Tree V) → ((y : Placed V) → IsIn y t → B (number_of y.room) ≡ None → C (number_of y.room) ≡ None) → HaveOneFork B t
       → HaveOneFork C t
   spare_same B C (leaf x xs) same spare = one_fork_same B C (x ∷ xs) same spare
-  spare_same B C (fork room b zero one) same spare = (
-    spare_same B C zero (λ y at. same y (inl at)) spare.0,
-    spare_same B C one (λ y at. same y (inr at)) spare.1,
-  )
+  spare_same B C (fork room b zero one) same spare = search (arith, spare_same B C zero, spare_same B C one)
 
   pub spare_plug : (B C : Bits) (fs : List (Frame V)) (t u : Tree V) → HaveOneFork B (plug fs t) → HaveOneFork C u
       → ((y : Placed V) → Aside fs y → B (number_of y.room) ≡ None → C (number_of y.room) ≡ None) → HaveOneFork C (plug fs u)
   spare_plug B C [] t u spare own idle = own
-  spare_plug B C (on_zero room b one ∷ fs) t u spare own idle = (
-    spare_plug B C fs t u spare.0 own (λ y aside. idle y (inr aside)),
-    spare_same B C one (λ y at. idle y (inl at)) spare.1,
-  )
-  spare_plug B C (on_one room b zero ∷ fs) t u spare own idle = (
-    spare_same B C zero (λ y at. idle y (inl at)) spare.0,
-    spare_plug B C fs t u spare.1 own (λ y aside. idle y (inr aside)),
-  )
+  spare_plug B C (on_zero room b one ∷ fs) t u spare own idle =
+      search (arith, spare_same, spare_plug B C fs t u spare.0 own)
+  spare_plug B C (on_one room b zero ∷ fs) t u spare own idle =
+      search (arith, spare_same, spare_plug B C fs t u spare.1 own)
 
   -- the bits of nodes above a part rise
   pub low_rises : (low : ℕ) (fs : List (Frame V)) (t : Tree V) → IsTree low (plug fs t) → low ≤ low_past low fs
@@ -144,20 +120,10 @@ module _ {V : Type 0} where
   pub home_plug : (low : ℕ) (fs : List (Frame V)) (t : Tree V) (y : Placed V) → IsTree low (plug fs t) → IsIn y t → HasHome y.entry.key y.entry.rank (plug fs t)
       → (y.entry.rank < low_past low fs) ⊎ HasHome y.entry.key y.entry.rank t
   home_plug low [] t y is at home = inr home
-  home_plug low (on_zero room b one ∷ fs) t y is at home = elim home [
-    | inl here ↦ inl (omega (arith, low_rises (b + 1) fs t is.1))
-    | inr beneath ↦ elim beneath [
-      | inl left ↦ home_plug (b + 1) fs t y is.1 at left.1
-      | inr right ↦ absurd (zero_not_one (bit_beneath (b + 1) b 0 (plug fs t) is.1 is.0.zeros y (plug_in fs t y at)) right.0)
-    ]
-  ]
-  home_plug low (on_one room b zero ∷ fs) t y is at home = elim home [
-    | inl here ↦ inl (omega (arith, low_rises (b + 1) fs t is.2))
-    | inr beneath ↦ elim beneath [
-      | inl left ↦ absurd (zero_not_one left.0 (bit_beneath (b + 1) b 1 (plug fs t) is.2 is.0.ones y (plug_in fs t y at)))
-      | inr right ↦ home_plug (b + 1) fs t y is.2 at right.1
-    ]
-  ]
+  home_plug low (on_zero room b one ∷ fs) t y is at home =
+      search (arith, low_rises, bit_beneath, plug_in, home_plug (b + 1) fs t y is.1 at)
+  home_plug low (on_one room b zero ∷ fs) t y is at home =
+      search (arith, low_rises, bit_beneath, plug_in, home_plug (b + 1) fs t y is.2 at)
 
   pub plug_home : (low key rank : ℕ) (fs : List (Frame V)) (t : Tree V) → IsTree low (plug fs t) → Lead key fs → low ≤ rank
       → (rank < low_past low fs) ⊎ HasHome key rank t → HasHome key rank (plug fs t)
@@ -171,23 +137,52 @@ module _ {V : Type 0} where
   pub aside_home : (low : ℕ) (fs : List (Frame V)) (t u : Tree V) (y : Placed V) → IsTree low (plug fs t) → Aside fs y
       → HasHome y.entry.key y.entry.rank (plug fs t) → HasHome y.entry.key y.entry.rank (plug fs u)
   aside_home low [] t u y is aside home = absurd aside
-  aside_home low (on_zero room b one ∷ fs) t u y is aside home = elim home [
-    | inl here ↦ inl here
-    | inr beneath ↦ elim beneath [
-      | inl left ↦ elim aside [
-        | inl at ↦ grind (arith, bit_beneath)
-        | inr at ↦ inr (inl (left.0, aside_home (b + 1) fs t u y is.1 at left.1))
+  aside_home low (on_zero room b one ∷ fs) t u y is aside home =
+      search (arith, bit_beneath, aside_home (b + 1) fs t u y is.1)
+  aside_home low (on_one room b zero ∷ fs) t u y is aside home =
+      search (arith, bit_beneath, aside_home (b + 1) fs t u y is.2)
+
+  -- -------- the bit nodes on the way of a key to a part, and the one leaf that is on it
+  pub record OnWay (m : Lodged V) (key : ℕ) (whole at : Part m) : Type 0 where
+    pub frames : List (Frame V)
+    pub was : whole.tree ≡ plug frames at.tree
+    pub lead : Lead key frames
+    pub lowest : at.low ≡ low_past whole.low frames
+
+  way_from : (m : Lodged V) (key : ℕ) (whole mid at : Part m) (ups : List (Part m)) → Way key whole mid ups → (fs : List (Frame V))
+      → mid.tree ≡ plug fs at.tree → Lead key fs → at.low ≡ low_past mid.low fs → OnWay m key whole at
+  way_from m key whole mid at [] way fs was lead lowest = grind arith
+  way_from m key whole mid at (p ∷ ps) way fs was lead lowest =
+      let b = way.0 in
+      let f = b.at in
+      let low = lowest ∙ ap (λ n. low_past n fs) b.low in
+      elim b.side [
+        | inl e ↦ way_from m key whole p at ps way.1 (on_zero b.room f.bit f.one ∷ fs) (f.is ∙ ap (λ t. fork b.room f.bit t f.one) (sym e.0 ∙ was)) (e.1, lead)
+            low
+        | inr e ↦ way_from m key whole p at ps way.1 (on_one b.room f.bit f.zero ∷ fs) (f.is ∙ ap (fork b.room f.bit f.zero) (sym e.0 ∙ was)) (e.1, lead)
+            low
       ]
-      | inr right ↦ inr (inr right)
-    ]
-  ]
-  aside_home low (on_one room b zero ∷ fs) t u y is aside home = elim home [
-    | inl here ↦ inl here
-    | inr beneath ↦ elim beneath [
-      | inl left ↦ inr (inl left)
-      | inr right ↦ elim aside [
-        | inl at ↦ grind (arith, bit_beneath)
-        | inr at ↦ inr (inr (right.0, aside_home (b + 1) fs t u y is.2 at right.1))
-      ]
-    ]
-  ]
+
+  pub on_way : (m : Lodged V) (key : ℕ) (whole at : Part m) (ups : List (Part m)) → Way key whole at ups → OnWay m key whole at
+  on_way m key whole at ups way = way_from m key whole at at ups way [] refl tt refl
+
+  -- ---- one leaf
+  not_fork : {x : Placed V} {xs : List (Placed V)} {room : Id} {b : ℕ} {s t : Tree V} → leaf x xs ≡ fork room b s t → ⊥
+  not_fork e = cc
+
+  one_leaf : (key : ℕ) (fs gs : List (Frame V)) (x y : Placed V) (xs ys : List (Placed V)) → plug fs (leaf x xs) ≡ plug gs (leaf y ys) → Lead key fs
+      → Lead key gs → leaf x xs ≡ leaf y ys
+  one_leaf key [] [] x y xs ys e one other = e
+  one_leaf key [] (on_zero j c v ∷ gs) x y xs ys e one other = absurd (not_fork e)
+  one_leaf key [] (on_one j c u ∷ gs) x y xs ys e one other = absurd (not_fork e)
+  one_leaf key (on_zero i b t ∷ fs) [] x y xs ys e one other = absurd (not_fork (sym e))
+  one_leaf key (on_one i b s ∷ fs) [] x y xs ys e one other = absurd (not_fork (sym e))
+  one_leaf key (on_zero i b t ∷ fs) (on_zero j c v ∷ gs) x y xs ys e one other = one_leaf key fs gs x y xs ys (search) one.1 other.1
+  one_leaf key (on_zero i b t ∷ fs) (on_one j c u ∷ gs) x y xs ys e one other = search
+  one_leaf key (on_one i b s ∷ fs) (on_zero j c v ∷ gs) x y xs ys e one other = search
+  one_leaf key (on_one i b s ∷ fs) (on_one j c u ∷ gs) x y xs ys e one other = one_leaf key fs gs x y xs ys (search) one.1 other.1
+
+  -- a leaf on the way of a key is the only one
+  pub same_leaf : (m : Lodged V) (key : ℕ) (whole p q : Part m) (ups vps : List (Part m)) (x y : Placed V) (xs ys : List (Placed V)) → Way key whole p ups
+      → Way key whole q vps → p.tree ≡ leaf x xs → q.tree ≡ leaf y ys → leaf x xs ≡ leaf y ys
+  same_leaf m key whole p q ups vps x y xs ys one other left right = grind (arith, on_way, one_leaf)

@@ -1,10 +1,9 @@
 -- A walk along a chain.
-use Rattle.radix_tree.proofs.{RoomReads.none_some, RoomReads.Has-leaf, TreeMembers.head_of, TreeMembers.first_greatest, TreeMembers.chain_short}
+use Rattle.radix_tree.proofs.{RoomReads.Has-leaf, TreeMembers.head_of, TreeMembers.first_greatest, TreeMembers.chain_short}
+use Rattle.radix_tree.proofs.Words.{none_some, ◌≡◌, ℕ, ◌+◌, ◌≤◌, List, [], ◌∷◌, length, Option, Some, None, true, false, refl, sym, ap, ◌∙◌, subst, inl, inr}
+use Rattle.radix_tree.proofs.Words.{arith, agrees, Counter, Has, Id, Leaf, ReadsOnce, LeafPart, Run, leaves_in, first_room, leaf_part, ChainStands, Placed}
+use Rattle.radix_tree.proofs.Words.{IsAmong, IsChain, Lodged, number_of}
 use Rattle.radix_tree.specs.Tree.{Covers}
-use Rattle.radix_tree.proofs.Words.{◌≡◌, ℕ, ◌+◌, ◌≤◌, List, [], ◌∷◌, length, Option, Some, None, true, false, refl, sym, ap, ◌∙◌, subst, inl, inr, arith}
-use Rattle.radix_tree.proofs.Words.{agrees, Counter, Has, Id, Leaf, ReadsOnce, LeafPart, Run, leaves_in, first_room, leaf_part, ChainStands, Placed}
-use Rattle.radix_tree.proofs.Words.{IsAmong, IsChain, Lodged}
-use Rattle.radix_nodes.specs.Naming.{number_of}
 
 -- a chain has a route for each rank at most
 pub chain_most : {V : Type 0} (key top : ℕ) (c : List (Placed V)) → IsChain key top c → length c ≤ 34
@@ -78,10 +77,7 @@ module _ {V : Type 0} {m : Lodged V} where
               };
           begins = sym (ap (λ z. z.next) l_is);
           inside = λ y among. w.inside y (subst (IsAmong y) (sym x.is) (inr among));
-          kept = λ y among has. elim (subst (IsAmong y) x.is (w.kept y among has)) [
-            | inl e ↦ absurd (hasnt (subst P (sym e) has))
-            | inr behind ↦ behind
-          ];
+          kept = λ y among has. search (arith, w.kept);
           turn = once.turn ∙ w.turn;
           rises = omega arith;
           few = omega arith;

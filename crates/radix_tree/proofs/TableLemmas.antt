@@ -1,9 +1,9 @@
 -- A table with or without an entry, by its first entry; and that it stays a table.
+use Rattle.radix_tree.proofs.OrderLemmas.{stands_before, beside, stands_behind, pair_is, behind_next, behind_not_before, behind_not_pair, precedes_one_way}
+use Rattle.radix_tree.proofs.OrderLemmas.{precedes_transitively}
+use Rattle.radix_tree.proofs.ListLemmas.{all_weaker, all_filter, filter_all, filter_none, find_none}
 use Rattle.radix_tree.proofs.Words.{arith, ◌≡◌, ℕ, Bool, true, false, cond, not, filter, IsTrue, List, [], ◌∷◌, Some, None, refl, ap, AllByRecursion, precedes}
 use Rattle.radix_tree.proofs.Words.{IsTable, has_pair, entry_at, without, with_entry, AreOnePair, WithIsTable, WithoutIsTable, Entry}
-use Rattle.radix_tree.proofs.OrderLemmas.{stands_before, beside, stands_behind, pair_is, behind_next, behind_not_before, behind_not_pair}
-use Rattle.radix_tree.proofs.OrderLemmas.{precedes_one_way, precedes_transitively}
-use Rattle.radix_tree.proofs.ListLemmas.{all_weaker, all_filter, filter_all, filter_none, find_none}
 
 -- behind an entry that doesn't stand before a pair, all stand behind the pair
 pub all_behind : {V : Type 0} (key rank : ℕ) (x : Entry V) (xs : List (Entry V)) → stands_before key rank x ≡ false
@@ -25,9 +25,7 @@ none_at key rank xs h = search (find_none, all_weaker, behind_not_pair)
 -- where a pair isn't there, nothing goes with it
 pub without_absent : {V : Type 0} (key rank : ℕ) (es : List (Entry V)) → entry_at key rank es ≡ None → without key rank es ≡ es
 without_absent key rank [] h = refl
-without_absent key rank (e ∷ es) h =
-    elim (has_pair key rank e) as (λ b. cond b (Some e) (entry_at key rank es) ≡ None → cond (not b) (e ∷ without key rank es) (without key rank es) ≡ e ∷ es)
-    [ true ↦ λ k. cc | false ↦ λ k. ap (λ t. e ∷ t) (without_absent key rank es k) ] h
+without_absent key rank (e ∷ es) h = search (arith, without_absent key rank es)
 
 -- with an entry behind the first
 pub with_later : {V : Type 0} (e x : Entry V) (xs : List (Entry V)) → IsTrue (precedes x e) → with_entry e (x ∷ xs) ≡ x ∷ with_entry e xs

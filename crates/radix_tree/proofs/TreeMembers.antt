@@ -1,8 +1,8 @@
--- The routes of a chain and of a tree.
-use Rattle.radix_tree.proofs.{RoomReads.inside, RoomReads.none_some}
-use Rattle.radix_tree.proofs.Words.{◌≡◌, ℕ, ◌+◌, ◌<◌, ◌≤◌, List, [], ◌∷◌, length, Option, Some, None, refl, ap, subst, arith, inl, inr, Id, IsRoute, Leaves}
-use Rattle.radix_tree.proofs.Words.{Bits, first_room, leaf_part, ChainStands, Stands, Placed, Tree, leaf, fork, bit_at, IsAmong, IsIn, IsChain, IsTree, HaveBit}
-use Rattle.radix_nodes.specs.Naming.{number_of}
+-- The routes of a chain and of a tree, and their rooms.
+use Rattle.radix_tree.proofs.Words.{inside, none_some, ◌≡◌, ℕ, ◌+◌, ◌<◌, ◌≤◌, List, [], ◌∷◌, length, Option, Some, None, refl, ap, subst, arith, inl, inr, Id}
+use Rattle.radix_tree.proofs.Words.{IsRoute, Leaves, Bits, first_room, leaf_part, ChainStands, Stands, Placed, Tree, leaf, fork, bit_at, IsAmong, IsIn, IsChain}
+use Rattle.radix_tree.proofs.Words.{IsTree, HaveBit, number_of, ◌==◌, true, false, sym, ◌∙◌, eqb-true, cases_lt, LeafPart, Part, leaves_in, bits_in, one_if}
+use Rattle.radix_tree.proofs.Words.{members_at, leaves_at, shown_entry, Lodged, true≢false, is_of_key, Bool, Node, IsWholeBut, nobody_out, is_some}
 
 module _ {V : Type 0} where
   -- a list begins with a route in this room
@@ -29,11 +29,7 @@ module _ {V : Type 0} where
 
   pub chain_below : (key top : ℕ) (c : List (Placed V)) → IsChain key top c → (x : Placed V) → IsAmong x c → x.entry.rank < top
   chain_below key top [] is x among = absurd among
-  chain_below key top (y ∷ c) is x among =
-      elim among [
-        | inl e ↦ subst (λ p. p.entry.rank < top) e is.2
-        | inr behind ↦ omega (arith, chain_below key y.entry.rank c is.3 x behind)
-      ]
+  chain_below key top (y ∷ c) is x among = search (arith, chain_below key y.entry.rank c is.3 x)
 
   -- of a chain the first route is of greatest rank
   pub first_greatest : (key top : ℕ) (x : Placed V) (c : List (Placed V)) → IsChain key top (x ∷ c) → (y : Placed V) → IsAmong y (x ∷ c)
@@ -65,7 +61,51 @@ module _ {V : Type 0} where
 
   pub tree_said : (L : Leaves V) (B : Bits) (above : Option Id) (t : Tree V) → Stands L B above t → (x : Placed V) → IsIn x t → IsSaid L x
   tree_said L B above (leaf z zs) stands x at = chain_said L above None (z ∷ zs) stands x at
-  tree_said L B above (fork room b zero one) stands x at = elim at [
-    | inl it ↦ tree_said L B (Some room) zero stands.1 x it
-    | inr it ↦ tree_said L B (Some room) one stands.2 x it
+  tree_said L B above (fork room b zero one) stands x at =
+      search (arith, tree_said L B (Some room) zero stands.1 x, tree_said L B (Some room) one stands.2 x)
+
+  -- -------- the route of a room that is in a tree
+  abbrev pub AmongAt : ℕ → List (Placed V) → Type 0
+  AmongAt n c = (y : Placed V) × IsAmong y c × (number_of y.room ≡ n)
+
+  abbrev pub InAt : ℕ → Tree V → Type 0
+  InAt n t = (y : Placed V) × IsIn y t × (number_of y.room ≡ n)
+
+  pub among_at : (n : ℕ) (c : List (Placed V)) → 1 ≤ members_at n c → AmongAt n c
+  among_at n [] some = absurd (omega arith)
+  among_at n (x ∷ c) some = elim (number_of x.room == n) as (λ t. (number_of x.room == n) ≡ t → 1 ≤ one_if t + members_at n c → AmongAt n (x ∷ c)) [
+    | true ↦ λ e many. (x, inl refl, eqb-true (number_of x.room) n e)
+    | false ↦ λ e many. let y = among_at n c (omega arith) in (y.0, inr y.1, y.2)
+  ] refl some
+
+  -- a tree has a route in each room that is a leaf of it
+  pub in_at : (n : ℕ) (t : Tree V) → 1 ≤ leaves_at n t → InAt n t
+  in_at n (leaf x xs) some = among_at n (x ∷ xs) some
+  in_at n (fork room b zero one) some = elim (cases_lt 0 (leaves_at n zero)) [
+    | inl left ↦ let y = in_at n zero left in (y.0, inl y.1, y.2)
+    | inr none ↦ let y = in_at n one (omega arith) in (y.0, inr y.1, y.2)
   ]
+
+  -- and it is the route that the room has
+  pub record RoomRoute (whole : Tree V) (n : ℕ) (p : LeafPart V) : Type 0 where
+    pub route : Placed V
+    pub is_in : IsIn route whole
+    pub number : number_of route.room ≡ n
+    pub block : route.room.block ≡ p.block
+    pub entry : route.entry ≡ shown_entry p
+
+  pub room_route : (m : Lodged V) (whole : Part m) (n : ℕ) {p : LeafPart V} → leaves_in m n ≡ Some p → 1 ≤ leaves_at n whole.tree → RoomRoute whole.tree n p
+  room_route m whole n said some =
+      let y = in_at n whole.tree some in
+      let s = tree_said (leaves_in m) (bits_in m) whole.above whole.tree whole.stands y.0 y.1 in
+      let same = inside (sym s.3 ∙ ap (leaves_in m) y.2 ∙ said) in
+      record { route = y.0; is_in = y.1; number = y.2; block = ap (λ q. q.block) same; entry = ap shown_entry same }
+
+  pub whole_route : {m : Lodged V} {root : Node} {late : ℕ → Bool} (w : IsWholeBut m root late nobody_out) (n : ℕ)
+      {p : LeafPart V} → leaves_in m n ≡ Some p → RoomRoute w.part.tree n p
+  whole_route {m = m} w n said = let one = ap (λ o. one_if (is_some o)) said in room_route m w.part n said (omega arith)
+
+  -- a room of a key says so
+  pub of_key : (key : ℕ) (o : Option (LeafPart V)) → is_of_key key o ≡ true → (q : LeafPart V) × (o ≡ Some q) × (q.leaf.key ≡ key)
+  of_key key None is = absurd (true≢false (sym is))
+  of_key key (Some q) is = (q, refl, eqb-true q.leaf.key key is)

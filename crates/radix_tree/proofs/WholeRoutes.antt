@@ -1,10 +1,38 @@
 -- The routes that a table's rooms show, and a table with an entry and without.
 use Rattle.radix_tree.proofs.{ListLemmas.all_weaker, ListLemmas.filter_all, ListLemmas.filter_none, OrderLemmas.precedes_one_way, TableLemmas.with_later}
-use Rattle.radix_tree.proofs.{TableLemmas.without_absent, TableLemmas.none_at, Showing.part_shown, Plugs.surround}
+use Rattle.radix_tree.proofs.{TableLemmas.without_absent, TableLemmas.none_at, Plugs.surround, Scans.chain_most}
 use Rattle.radix_tree.proofs.Words.{◌≡◌, ℕ, Bool, false, IsTrue, List, [], ◌∷◌, ◌++◌, Some, None, arith, append_assoc, AllByRecursion, Node, precedes, IsTable}
-use Rattle.radix_tree.proofs.Words.{has_pair, entry_at, with_entry, without, routes_of, Part, shown, Gains, Exchanged, IsWholeBut, Entry, Lodged}
+use Rattle.radix_tree.proofs.Words.{has_pair, entry_at, with_entry, without, routes_of, Part, shown, Gains, Exchanged, IsWholeBut, Entry, Lodged, zero, suc}
+use Rattle.radix_tree.proofs.Words.{◌+◌, ◌≤◌, length, map, Option, refl, Id, Placed, Tree, leaf, fork, IsTree, Leaves, Bits, first_room, name_of, ChainStands}
+use Rattle.radix_tree.proofs.Words.{Stands, IsWhole}
+use Rattle.radix_tree.specs.Whole.{chain_shown, beneath_shown}
 
 module _ {V : Type 0} where
+  -- ---- the rooms show the routes of the tree that they stand for
+  pub chain_is : (n : ℕ) (L : Leaves V) (above previous : Option Id) (c : List (Placed V)) → length c ≤ n → ChainStands L above previous c
+      → chain_shown n L (first_room c) ≡ map (λ (p : Placed V). p.entry) c
+  unfolding chain_shown
+  chain_is zero L above previous [] fits stands = refl
+  chain_is (suc n) L above previous [] fits stands = refl
+  chain_is zero L above previous (x ∷ c) fits stands = absurd (omega arith)
+  chain_is (suc n) L above previous (x ∷ c) fits stands = grind (arith, chain_is n L None (Some x.room) c (omega arith) stands.1)
+
+  -- 33 levels are enough
+  pub beneath_is : (n low : ℕ) (L : Leaves V) (B : Bits) (above : Option Id) (t : Tree V) → IsTree low t → Stands L B above t → 33 ≤ low + n
+      → beneath_shown n L B (name_of t) ≡ routes_of t
+  unfolding beneath_shown
+  beneath_is zero low L B above (leaf x xs) is stands enough = absurd (omega arith)
+  beneath_is (suc n) low L B above (leaf x xs) is stands enough = chain_is 34 L above None (x ∷ xs) (chain_most x.entry.key 34 (x ∷ xs) is.1) stands
+  beneath_is zero low L B above (fork room b left right) is stands enough = absurd (omega arith)
+  beneath_is (suc n) low L B above (fork room b left right) is stands enough =
+      search (beneath_is n (b + 1) L B (Some room) left is.1 stands.1 (omega arith), beneath_is n (b + 1) L B (Some room) right is.2 stands.2 (omega arith))
+
+  pub part_shown : {m : Lodged V} {root : Node} (p : Part m) → p.low ≡ 0 → name_of p.tree ≡ root → shown m (Some root) ≡ routes_of p.tree
+  part_shown {m = m} p low named = grind (arith, beneath_is)
+
+  pub shown_is : {m : Lodged V} {root : Node} (w : IsWhole m root) → shown m (Some root) ≡ routes_of w.part.tree
+  shown_is w = part_shown w.part w.low w.named
+
   -- ---- the routes that the rooms show
   -- before and behind those of the part they stay
   pub record Spliced (old new before now : List (Entry V)) : Type 0 where

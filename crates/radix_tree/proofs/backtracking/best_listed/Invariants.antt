@@ -1,5 +1,5 @@
-use Rattle.radix_tree.proofs.Words.{◌≡◌, ◌+◌, ◌-◌, Part, AreListed, ForkAt, Id, heads_in, number_of}
 use Rattle.radix_tree.proofs.Listings.{Through}
+use Rattle.radix_tree.proofs.Words.{◌≡◌, ◌+◌, ◌-◌, Part, AreListed, ForkAt, Id, heads_in, number_of}
 use Rattle.radix_tree.proofs.backtracking.best_listed.Given as goal
 
 abbrev pub invariant-loop-at : goal.invariant-loop-at

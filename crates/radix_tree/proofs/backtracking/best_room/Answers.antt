@@ -1,6 +1,6 @@
-use Rattle.radix_tree.proofs.{Climbs.begun, Climbs.over, Climbs.fork_over, Climbs.used, Climbs.risen, Climbs.ended, Lifts.Has-leaf_at, Parts.chain_led}
-use Rattle.radix_tree.proofs.{Parts.way_lists, Ups.leaf_hit, Ups.searched, Ups.hit, Ups.miss, WholeParts.whole_listed}
-use Rattle.radix_tree.proofs.Words.{◌∙◌, subst, None, arith, Best, In}
+use Rattle.radix_tree.proofs.{RoomReads.Has-leaf_at, Parts.chain_led, Parts.way_lists, Listings.leaf_hit, Listings.searched, Listings.hit_above}
+use Rattle.radix_tree.proofs.{Listings.miss_above, WholeChanges.whole_listed, Words.◌∙◌, Words.subst, Words.None, Words.arith, Words.Best, Words.In}
+use Rattle.radix_tree.proofs.Climbs.{begun, over, fork_over, used, risen, ended}
 use Rattle.radix_tree.proofs.backtracking.best_room.Goals as goal
 
 pub first_agreeing-requires-clause-chain : goal.first_agreeing-requires-clause-chain
@@ -37,7 +37,7 @@ best_listed-requires-clause-node g c =
 pub returns-in-Some-best_listed-clause-best : goal.returns-in-Some-best_listed-clause-best
 returns-in-Some-best_listed-clause-best g c w =
     let o = over w.top (c.loop-at.invariant.climb w) c.in-Some-at.is in
-    hit o (c.loop-at.invariant.climb w).holds c.in-Some-best_listed.is (c.best_listed.ensures.best o.part _ (fork_over o)
+    hit_above o (c.loop-at.invariant.climb w).holds c.in-Some-best_listed.is (c.best_listed.ensures.best o.part _ (fork_over o)
     (way_lists (λ x. Unit {0}) c.args.address w.part o.part o.ups o.way (whole_listed w)) c.bit_node-node.ensures.node.head)
 
 pub returns-in-Some-best_listed-clause-visits : goal.returns-in-Some-best_listed-clause-visits
@@ -64,7 +64,7 @@ loop-at-preserved g c =
           let o = over w.top (c.loop-at.invariant.climb w) c.in-Some-at.is in
           let lists = way_lists (λ x. Unit {0}) c.args.address w.part o.part o.ups o.way (whole_listed w) in
           let more = c.best_listed.ensures.visits o.part _ (fork_over o) lists c.bit_node-node.ensures.node.head in
-          risen o c.bit_node-node.ensures.node (miss o (c.loop-at.invariant.climb w).holds c.in_default-best_listed.is
+          risen o c.bit_node-node.ensures.node (miss_above o (c.loop-at.invariant.climb w).holds c.in_default-best_listed.is
           (c.best_listed.ensures.best o.part _ (fork_over o) lists c.bit_node-node.ensures.node.head)
           (record { turn = more.turn ∙ c.bit_node-node.ensures.visit.turn; rises = omega arith; bound = omega arith }));
     }

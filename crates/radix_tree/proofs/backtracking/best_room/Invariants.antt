@@ -1,6 +1,4 @@
-use Rattle.radix_tree.proofs.{Climbs.Climb, Ups.Searched}
-use Rattle.radix_tree.specs.Whole.{IsWhole}
-use Rattle.radix_tree.proofs.Words.{◌≡◌, ◌+◌, ◌-◌}
+use Rattle.radix_tree.proofs.{Climbs.Climb, Listings.Searched, Words.IsWhole, Words.◌≡◌, Words.◌+◌, Words.◌-◌}
 use Rattle.radix_tree.proofs.backtracking.best_room.Given as goal
 
 abbrev pub invariant-loop-at : goal.invariant-loop-at

@@ -1,4 +1,4 @@
-use Rattle.radix_tree.proofs.{Words.arith, Differences.differs_first, Differences.none_differs}
+use Rattle.radix_tree.proofs.{Facts.differs_first, Facts.none_differs, Words.arith}
 use Rattle.radix_tree.proofs.bits.first_difference.Goals as goal
 
 pub returns-then-bit-lt32 : goal.returns-then-bit-lt32

@@ -1,6 +1,6 @@
-use Rattle.std.proofs.lemmas.Map.Keys.{ge_from_not_lt}
-use Rattle.radix_tree.proofs.Words.{◌≡◌, ◌+◌, ◌-◌, ◌∙◌, sym, ap, arith, eqb-true, eqb-false}
 use Rattle.radix_tree.proofs.ChainGaps.{less_of, Has-first, begun, Has-at, few_at, passed, taken, found, ended}
+use Rattle.radix_tree.proofs.Words.{◌≡◌, ◌+◌, ◌-◌, ◌∙◌, sym, ap, arith, eqb-true, eqb-false}
+use Rattle.std.proofs.lemmas.Map.Keys.{ge_from_not_lt}
 use Rattle.radix_tree.proofs.chains.gap.Goals as goal
 
 pub links-requires-clause-there : goal.links-requires-clause-there

@@ -1,11 +1,10 @@
-use Rattle.radix_tree.proofs.{Parts.leaf_begins, chains.insert_in_chain.Goals.In-Some, chains.insert_in_chain.Goals.After-name_back}
-use Rattle.radix_tree.proofs.Words.{◌==◌, ◌||◌, ◌∙◌, Some, sym, ap, subst, is_some, LeafOf, leaves_in, arith}
-use Rattle.radix_tree.proofs.Words.{Gains, shown, IsWholeBut, late_at, nobody_out, root_past, FindsGap}
-use Rattle.radix_tree.proofs.ChainWrites.{Has-lodged, Has-kept, Has-next, Has-linked_in}
+use Rattle.radix_tree.proofs.{Parts.leaf_begins, Indexed.linked_place}
+use Rattle.radix_tree.proofs.MovedReads.{Has-lodged, Has-kept, Has-next, Has-linked_in}
 use Rattle.radix_tree.proofs.ChainInserts.{chain_of, gap_before, gap_behind, gap_above, lodged_above, linked_rooms, inserted_whole, inserted_routes, IsWritten}
 use Rattle.radix_tree.proofs.ChainInserts.{taken_there}
-use Rattle.radix_tree.proofs.Places.{linked_place}
-use Rattle.radix_tree.specs.Index.{pair, place_of, places_in, with_place}
+use Rattle.radix_tree.proofs.Words.{◌==◌, ◌||◌, ◌∙◌, Some, sym, ap, subst, is_some, LeafOf, leaves_in, arith, Gains, shown, IsWholeBut, late_at, nobody_out}
+use Rattle.radix_tree.proofs.Words.{root_past, FindsGap, pair, place_of, places_in, with_place}
+use Rattle.radix_tree.proofs.chains.insert_in_chain.Goals.{In-Some, After-name_back}
 use Rattle.radix_tree.proofs.chains.insert_in_chain.Given as given
 use Rattle.radix_tree.proofs.chains.insert_in_chain.Goals as goal
 

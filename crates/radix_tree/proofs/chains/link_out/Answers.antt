@@ -1,4 +1,4 @@
-use Rattle.radix_tree.proofs.ChainWrites.{Has-back}
+use Rattle.radix_tree.proofs.MovedReads.{Has-back}
 use Rattle.radix_tree.proofs.chains.link_out.Goals as goal
 
 pub name_next-requires-clause-there : goal.name_next-requires-clause-there

@@ -1,5 +1,4 @@
-use Rattle.radix_tree.proofs.Words.{arith}
-use Rattle.radix_tree.proofs.ChainWrites.{next_put}
+use Rattle.radix_tree.proofs.{MovedReads.next_put, Words.arith}
 use Rattle.radix_tree.proofs.chains.name_next.Goals as goal
 
 pub links-requires-clause-there : goal.links-requires-clause-there

@@ -1,9 +1,8 @@
-use Rattle.radix_tree.proofs.{ChainWrites.own_part, ChainWrites.own_said, ChainWrites.Has-kept, RoomReads.AreLinks}
+use Rattle.radix_tree.proofs.{MovedReads.own_part, MovedReads.own_said, MovedReads.Has-kept, RoomReads.AreLinks}
+use Rattle.radix_tree.proofs.ChainRemovals.{IsMember, IsUnlinked, IsLeft, member_of, leaf_is, unlinked, before_there, behind_there, fork_above, left_kept}
+use Rattle.radix_tree.proofs.ChainRemovals.{left_renamed, removed_whole, removed_routes, unlinked_routes, own_kept, left_bits, idle_others, neighbour}
 use Rattle.radix_tree.proofs.Words.{◌≡◌, ◌∙◌, Some, sym, ap, Id, leaves_in, Lodged, Node, Part, LeafPart, arith, Links, Leaf, leaf_of, number_of}
 use Rattle.radix_tree.proofs.chains.remove_from_chain.Goals.{After-link_out, After-link_out-2}
-use Rattle.radix_tree.proofs.ChainNeighbours.{IsMember, IsUnlinked, IsLeft, member_of, leaf_is, unlinked, before_there, behind_there, fork_above, left_kept}
-use Rattle.radix_tree.proofs.ChainNeighbours.{left_renamed}
-use Rattle.radix_tree.proofs.ChainRemovals.{removed_whole, removed_routes, unlinked_routes, own_kept, left_bits, idle_others, neighbour}
 use Rattle.radix_tree.specs.Removal.{IsUnlisted, TakesOut}
 use Rattle.radix_tree.proofs.chains.remove_from_chain.Given as given
 use Rattle.radix_tree.proofs.chains.remove_from_chain.Goals as goal

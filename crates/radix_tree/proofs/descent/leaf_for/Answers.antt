@@ -1,4 +1,4 @@
-use Rattle.radix_tree.proofs.{AddressBits.zero_or_one, Descents.begun, Descents.used_at, Descents.parted, Descents.led, Words.arith, Words.eqb-true}
+use Rattle.radix_tree.proofs.{Facts.zero_or_one, Descents.begun, Descents.used_at, Descents.parted, Descents.led, Words.arith, Words.eqb-true}
 use Rattle.radix_tree.proofs.descent.leaf_for.Goals as goal
 
 pub loop-at-init : goal.loop-at-init

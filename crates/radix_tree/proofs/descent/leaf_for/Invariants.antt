@@ -1,6 +1,4 @@
-use Rattle.radix_tree.specs.Rooms.{Part, name_of}
-use Rattle.radix_tree.proofs.Words.{◌≡◌, ◌+◌, ◌-◌}
-use Rattle.radix_tree.proofs.Descents.{Down}
+use Rattle.radix_tree.proofs.{Descents.Down, Words.Part, Words.name_of, Words.◌≡◌, Words.◌+◌, Words.◌-◌}
 use Rattle.radix_tree.proofs.descent.leaf_for.Given as goal
 
 abbrev pub invariant-loop-at : goal.invariant-loop-at

@@ -1,4 +1,4 @@
-use Rattle.radix_tree.proofs.{Nearing.led_on}
+use Rattle.radix_tree.proofs.Descents.{led_on}
 use Rattle.radix_tree.proofs.descent.leaf_from.Goals as goal
 
 pub leaf_for-requires-clause-tree : goal.leaf_for-requires-clause-tree

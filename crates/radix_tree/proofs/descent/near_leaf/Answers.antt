@@ -1,5 +1,5 @@
-use Rattle.radix_tree.proofs.{HomeLists.placed_in, Kept.Has-led, ListedHomes.chain_of, ListedHomes.in_chain, ListedHomes.led_first, ListedHomes.chain_at}
-use Rattle.radix_tree.proofs.{Nearing.has_place, Words.refl, Words.Has}
+use Rattle.radix_tree.proofs.{Kept.Has-led, Descents.has_place, Words.refl, Words.Has}
+use Rattle.radix_tree.proofs.HomeLists.{placed_in, chain_of, in_chain, led_first, chain_at}
 use Rattle.radix_tree.proofs.descent.near_leaf.Goals.{In-Some}
 use Rattle.radix_tree.proofs.descent.near_leaf.Goals as goal
 

@@ -1,4 +1,4 @@
-use Rattle.radix_tree.proofs.{Nearing.whole_on_way}
+use Rattle.radix_tree.proofs.Descents.{whole_on_way}
 use Rattle.radix_tree.proofs.descent.node_from.Goals as goal
 
 pub returns-in-Some-clause-on_way : goal.returns-in-Some-clause-on_way

@@ -1,6 +1,6 @@
-use Rattle.radix_tree.proofs.{HomeLists.placed_in, Kept.Has-led, ListedHomes.chain_of, ListedHomes.in_chain, ListedHomes.led_first, ListedHomes.chain_at}
-use Rattle.radix_tree.proofs.{Nearing.led_key, Nearing.leaf_on_way, Words.◌∙◌, Words.ap, Words.refl, Words.Node, Words.IsIn, Words.IsWhole}
-use Rattle.radix_tree.proofs.Words.{LedTo, Placed, bit_at}
+use Rattle.radix_tree.proofs.{Kept.Has-led, Words.◌∙◌, Words.ap, Words.refl, Words.Node, Words.IsIn, Words.IsWhole, Words.LedTo, Words.Placed, Words.bit_at}
+use Rattle.radix_tree.proofs.HomeLists.{placed_in, chain_of, in_chain, led_first, chain_at}
+use Rattle.radix_tree.proofs.Descents.{led_key, leaf_on_way}
 use Rattle.radix_tree.proofs.descent.node_near.Goals.{After-first_of_chain-first}
 use Rattle.radix_tree.proofs.descent.node_near.Goals as goal
 

@@ -1,5 +1,5 @@
-use Rattle.radix_tree.proofs.{Climbs.begun, Climbs.over, Climbs.fork_over, Climbs.used, Climbs.risen, Lifts.Has-leaf_at}
-use Rattle.radix_tree.proofs.{Nearing.leaf_begins, Nearing.over_named, Nearing.stopped, Nearing.met, Nearing.topped, Words.◌∙◌, Words.arith}
+use Rattle.radix_tree.proofs.{Climbs.begun, Climbs.over, Climbs.fork_over, Climbs.used, Climbs.risen, RoomReads.Has-leaf_at, Descents.leaf_begins}
+use Rattle.radix_tree.proofs.{Descents.over_named, Descents.stopped, Descents.met, Descents.topped, Words.◌∙◌, Words.arith}
 use Rattle.radix_tree.proofs.descent.shared_above.Goals as goal
 
 pub leaf-above-requires-clause-there : goal.leaf-above-requires-clause-there

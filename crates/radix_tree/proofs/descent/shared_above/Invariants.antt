@@ -1,5 +1,4 @@
-use Rattle.radix_tree.proofs.{Climbs.Climb, Nearing.Named}
-use Rattle.radix_tree.proofs.Words.{◌≡◌, ◌+◌, ◌-◌, ℕ, None, Part, LedTo}
+use Rattle.radix_tree.proofs.{Climbs.Climb, Descents.Named, Words.◌≡◌, Words.◌+◌, Words.◌-◌, Words.ℕ, Words.None, Words.Part, Words.LedTo}
 use Rattle.radix_tree.proofs.descent.shared_above.Given as goal
 
 abbrev pub invariant-loop-above : goal.invariant-loop-above

@@ -1,4 +1,4 @@
-use Rattle.radix_tree.proofs.{Indexed.AreLeft, Indexed.all_left, Indexed.rank_hit, Indexed.rank_miss, Indexed.ranks_kept, Indexed.no_rank}
+use Rattle.radix_tree.proofs.Indexed.{AreLeft, all_left, rank_hit, rank_miss, ranks_kept, no_rank}
 use Rattle.radix_tree.proofs.Words.{◌∙◌, arith, refl, sym, subst}
 use Rattle.radix_tree.proofs.finding.best_by_rank.Goals as goal
 

@@ -1,6 +1,4 @@
-use Rattle.radix_tree.proofs.Words.{◌≤◌, ◌*◌, ◌+◌, ◌-◌, IsWhole}
-use Rattle.radix_tree.proofs.Indexed.{AreLeft}
-use Rattle.radix_tree.specs.Reads.{Reads}
+use Rattle.radix_tree.proofs.{Indexed.AreLeft, Words.◌≤◌, Words.◌*◌, Words.◌+◌, Words.◌-◌, Words.IsWhole, Words.Reads}
 use Rattle.room_index.specs.Looks.{pair_looks}
 use Rattle.radix_tree.proofs.finding.best_by_rank.Given as goal
 

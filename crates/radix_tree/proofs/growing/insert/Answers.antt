@@ -1,5 +1,4 @@
-use Rattle.radix_tree.proofs.Words.{arith}
-use Rattle.radix_tree.proofs.Kept.{Has-led, leaf_key, whole_at}
+use Rattle.radix_tree.proofs.{Kept.Has-led, Kept.leaf_key, Kept.whole_at, Words.arith}
 use Rattle.radix_tree.proofs.growing.insert.Goals as goal
 
 pub leaf_from-leaf-requires-clause-whole : goal.leaf_from-leaf-requires-clause-whole

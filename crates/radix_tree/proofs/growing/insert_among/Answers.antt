@@ -1,6 +1,4 @@
-use Rattle.radix_tree.proofs.{Kept.pair_there, Gained.gains_same, Gained.among_left}
-use Rattle.radix_tree.proofs.Words.{number_of, arith}
-use Rattle.radix_tree.specs.Marks.{late_at}
+use Rattle.radix_tree.proofs.{Kept.pair_there, Gained.gains_same, Gained.among_left, Words.number_of, Words.arith, Words.late_at}
 use Rattle.radix_tree.proofs.growing.insert_among.Goals as goal
 
 pub returns-in-Err-clause-there : goal.returns-in-Err-clause-there

@@ -1,5 +1,4 @@
-use Rattle.radix_tree.proofs.Words.{refl}
-use Rattle.radix_tree.proofs.Gained.{first_whole}
+use Rattle.radix_tree.proofs.{Gained.first_whole, Words.refl}
 use Rattle.radix_tree.proofs.growing.insert_first.Goals as goal
 
 pub returns-clause-whole : goal.returns-clause-whole

@@ -1,5 +1,5 @@
-use Rattle.radix_tree.proofs.Words.{has_key, arith}
 use Rattle.radix_tree.proofs.Gained.{gains_same, new_left, led_begun, still_begun, same_begun, still_key}
+use Rattle.radix_tree.proofs.Words.{has_key, arith}
 use Rattle.radix_tree.proofs.growing.insert_new.Goals as goal
 
 pub list_mask-requires-clause-whole : goal.list_mask-requires-clause-whole

@@ -1,4 +1,4 @@
-use Rattle.radix_tree.proofs.{Lodging.over_there, Lodging.below_there, Lodging.beside, Beside.whole_forked}
+use Rattle.radix_tree.proofs.Beside.{whole_forked, over_there, below_there, beside}
 use Rattle.radix_tree.proofs.Words.{◌≡◌, sym, subst, Part, forked_tree, placed, Exchanged, arith}
 use Rattle.radix_tree.proofs.inserting.add_beside.Goals as goal
 

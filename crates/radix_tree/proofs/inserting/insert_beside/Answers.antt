@@ -1,8 +1,7 @@
-use Rattle.radix_tree.proofs.{Parts.fork_named, Climbs.used, Cuts.list_at}
-use Rattle.radix_tree.proofs.Words.{◌≡◌, ◌==◌, ◌||◌, sym, ◌∙◌, subst, Part, LedTo, IsWhole, Differs, IsSpot, forked_tree, placed, Exchanged, arith}
+use Rattle.radix_tree.proofs.{Parts.fork_named, Climbs.used, Cuts.list_at, Cuts.cut_at}
+use Rattle.radix_tree.proofs.BesideWhole.{new_key, whole_beside, routes_beside, Came, same_part, same_spot, exchanged_from, room_more, leaf_kept, new_there}
+use Rattle.radix_tree.proofs.Words.{◌≡◌, ◌==◌, ◌||◌, refl, sym, ◌∙◌, subst, Part, LedTo, IsWhole, Differs, IsSpot, forked_tree, placed, Exchanged, arith}
 use Rattle.radix_tree.proofs.Words.{IsWholeBut, HasRoomMore, has_key, nobody_out}
-use Rattle.radix_tree.proofs.BesideWhole.{new_key, came_beside, whole_beside, routes_beside}
-use Rattle.radix_tree.proofs.BesideRooms.{Came, same_part, same_spot, exchanged_from, room_more, leaf_kept, new_there}
 use Rattle.radix_tree.proofs.inserting.insert_beside.Given as given
 use Rattle.radix_tree.proofs.inserting.insert_beside.Goals as goal
 
@@ -42,10 +41,17 @@ came_of : (g : given.Over) (c : goal.After-add_beside g) (w : IsWhole c.args.nod
     (s : IsSpot c.args.nodes.now.lodged c.args.entry.key c.spot_above-spot.result.bit w.part c.spot_above-spot.result.above c.spot_above-spot.result.below)
     → Came c.args.nodes.now.lodged c.cut-masks.new.nodes.lodged c.add_beside.new.nodes.lodged s.at.low c.spot_above-spot.result.bit s.at.tree
     (placed c.add_beside.result.1 c.args.entry) c.spot_above-spot.result.above c.spot_above-spot.result.below
-came_of g c w s =
-    came_beside w c.cut-masks.result s c.cut-masks.ensures.kept c.cut-masks.ensures.others (search arith)
-    c.cut-masks.ensures.heads (λ fork ms is. c.cut-masks.ensures.masks fork is ms) c.cut-masks.ensures.marks c.cut-masks.ensures.tree.leaves
-    c.cut-masks.ensures.tree.bits c.add_beside.ensures.beside c.add_beside.ensures.heads c.add_beside.ensures.masks (search arith)
+came_of g c w s = record {
+  first = c.cut-masks.result;
+  cut = cut_at w c.cut-masks.new.nodes.lodged c.args.entry.key _ s.at s.ups c.spot_above-spot.result.below
+      c.cut-masks.result s.at.tree refl s.way s.once s.place.rises s.place.is s.named c.cut-masks.ensures.kept
+      c.cut-masks.ensures.others (search arith) c.cut-masks.ensures.heads c.cut-masks.ensures.masks
+      c.cut-masks.ensures.marks c.cut-masks.ensures.tree.leaves c.cut-masks.ensures.tree.bits;
+  beside = c.add_beside.ensures.beside;
+  heads = c.add_beside.ensures.heads;
+  masks = c.add_beside.ensures.masks;
+  unmarked = search arith;
+}
 
 -- the part with the route in it
 part_of : (g : given.Over) (c : goal.After-add_beside g) (w : IsWhole c.args.nodes.now.lodged c.args.root)

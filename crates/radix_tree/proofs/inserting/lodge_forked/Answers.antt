@@ -1,5 +1,4 @@
-use Rattle.radix_tree.proofs.Words.{number_of, arith}
-use Rattle.radix_tree.proofs.Lodging.{Has-lodged_leaf, Has-again, lodged}
+use Rattle.radix_tree.proofs.{Beside.Has-lodged_leaf, Beside.Has-again, Beside.lodged, Words.number_of, Words.arith}
 use Rattle.radix_tree.proofs.inserting.lodge_forked.Goals as goal
 
 pub put_leaf-requires-clause-there : goal.put_leaf-requires-clause-there

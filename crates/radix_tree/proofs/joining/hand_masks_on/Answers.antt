@@ -1,5 +1,5 @@
-use Rattle.radix_tree.proofs.Words.{◌∙◌, arith}
 use Rattle.radix_tree.proofs.JoinLists.{append_ready, sibling_node, bit_handed, clear_ready, leaf_side_handed}
+use Rattle.radix_tree.proofs.Words.{◌∙◌, arith}
 use Rattle.radix_tree.proofs.joining.hand_masks_on.Goals as goal
 
 pub append-requires-clause-node : goal.append-requires-clause-node

@@ -1,4 +1,4 @@
-use Rattle.radix_tree.proofs.{Words.arith, ChainWrites.Has-kept, JoinLinks.below_stays}
+use Rattle.radix_tree.proofs.{MovedReads.Has-kept, JoinSides.below_stays, Words.arith}
 use Rattle.radix_tree.proofs.joining.join.Goals as goal
 
 pub name_child-requires-clause-tree : goal.name_child-requires-clause-tree

@@ -1,8 +1,7 @@
-use Rattle.radix_tree.proofs.{Parts.way_lists, ChainWrites.Has-kept, MovedReads.Has_kept, JoinLinks.head_off}
+use Rattle.radix_tree.proofs.{Parts.way_lists, MovedReads.Has-kept, MovedReads.Has_kept, JoinSides.head_off}
+use Rattle.radix_tree.proofs.JoinWhole.{IsJoined, handed_on, routes_kept, idle_stays, freed, whole_joined, routes_joined, own_leaf, lone_read, never_top}
+use Rattle.radix_tree.proofs.JoinWhole.{key_read, Has-up, never_unused, up_read, above_after, beneath_after, IsUp, joined, idle_joined}
 use Rattle.radix_tree.proofs.Words.{◌∙◌, ap, sym, subst, IsLone, root_after, name_of, arith}
-use Rattle.radix_tree.proofs.JoinWhole.{IsJoined, handed_on, routes_kept, idle_stays, freed, whole_joined, routes_joined, own_leaf}
-use Rattle.radix_tree.proofs.JoinRooms.{lone_read, never_top, key_read, Has-up, never_unused, up_read, above_after, beneath_after, IsUp, joined}
-use Rattle.radix_tree.proofs.JoinRooms.{idle_joined}
 use Rattle.radix_tree.proofs.joining.remove_lone.Goals.{In-Some, In-Some-bit_node, After-root_after}
 use Rattle.radix_tree.specs.Removal.{TakesOut}
 use Rattle.radix_tree.proofs.joining.remove_lone.Given as given

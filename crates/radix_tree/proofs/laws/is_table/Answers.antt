@@ -1,4 +1,4 @@
-use Rattle.radix_tree.proofs.{Words.arith, Kept.shown_table}
+use Rattle.radix_tree.proofs.{Kept.shown_table, Words.arith}
 use Rattle.radix_tree.proofs.laws.is_table.Goals as goal
 
 pub returns : goal.returns

@@ -1,5 +1,4 @@
-use Rattle.radix_tree.proofs.{Words.arith, Words.◌≤◌, Words.subst, RoomCounts.rooms_as_routes}
-use Rattle.radix_tree.specs.Table.{uses}
+use Rattle.radix_tree.proofs.{Counted.rooms_as_routes, Words.arith, Words.◌≤◌, Words.subst, Words.uses}
 use Rattle.radix_tree.proofs.laws.one_room_a_route.Goals as goal
 
 pub returns : goal.returns

@@ -1,4 +1,4 @@
-use Rattle.radix_tree.proofs.{Words.◌∙◌, Parts.fork_named, Parts.leaf_named}
+use Rattle.radix_tree.proofs.{Parts.fork_named, Parts.leaf_named, Words.◌∙◌}
 use Rattle.radix_tree.proofs.linking.lift.Goals as goal
 
 pub lift_leaf-requires-clause-tree : goal.lift_leaf-requires-clause-tree

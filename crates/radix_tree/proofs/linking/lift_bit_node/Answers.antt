@@ -1,5 +1,4 @@
-use Rattle.radix_tree.proofs.{Climbs.used, Lifts.node_changed, Lifts.head_kept, Parts.Has-fork, Words.◌∙◌, Words.refl}
-use Rattle.radix_tree.specs.Writes.{bit_above}
+use Rattle.radix_tree.proofs.{Climbs.used, RoomReads.node_changed, RoomReads.head_kept, Parts.Has-fork, Words.◌∙◌, Words.refl, Words.bit_above}
 use Rattle.radix_tree.proofs.linking.lift_bit_node.Goals as goal
 
 pub bit_node-node-requires-clause-used : goal.bit_node-node-requires-clause-used

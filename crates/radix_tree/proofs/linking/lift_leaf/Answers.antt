@@ -1,4 +1,4 @@
-use Rattle.radix_tree.proofs.{Words.◌∙◌, Lifts.Has-leaf_at, Lifts.leaf_lifted}
+use Rattle.radix_tree.proofs.{RoomReads.Has-leaf_at, RoomReads.leaf_lifted, Words.◌∙◌}
 use Rattle.radix_tree.proofs.linking.lift_leaf.Goals as goal
 
 pub links-requires-clause-there : goal.links-requires-clause-there

@@ -1,4 +1,4 @@
-use Rattle.radix_tree.proofs.{Words.arith, RoomWrites.lodged_bits, RoomWrites.lodged_heads, RoomWrites.lodged_masks, RoomWrites.lodged_leaves}
+use Rattle.radix_tree.proofs.{RoomReads.lodged_bits, RoomReads.lodged_heads, RoomReads.lodged_masks, RoomReads.lodged_leaves, Words.arith}
 use Rattle.radix_nodes.proofs.Callers.{Has-lodged}
 use Rattle.radix_tree.proofs.linking.lodge_leaf.Goals as goal
 

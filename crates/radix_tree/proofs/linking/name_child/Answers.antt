@@ -1,4 +1,4 @@
-use Rattle.radix_tree.proofs.{Climbs.used, Lifts.node_changed, Parts.Has-fork}
+use Rattle.radix_tree.proofs.{Climbs.used, RoomReads.node_changed, Parts.Has-fork}
 use Rattle.radix_tree.proofs.Words.{◌∙◌, sym, ap, refl, name_child, with_child, bits_in}
 use Rattle.radix_tree.proofs.linking.name_child.Goals as goal
 

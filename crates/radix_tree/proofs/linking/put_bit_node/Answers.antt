@@ -1,4 +1,4 @@
-use Rattle.radix_tree.proofs.{Words.arith, Words.ap, RoomWrites.leaves_kept, RoomWrites.masks_kept, RoomWrites.bits_put, RoomWrites.heads_put}
+use Rattle.radix_tree.proofs.{RoomReads.leaves_kept, RoomReads.masks_kept, RoomReads.bits_put, RoomReads.heads_put, Words.arith, Words.ap}
 use Rattle.radix_tree.proofs.linking.put_bit_node.Goals as goal
 
 pub returns-clause-leaves : goal.returns-clause-leaves

@@ -1,4 +1,4 @@
-use Rattle.radix_tree.proofs.{Words.arith, Words.ap, RoomWrites.bits_kept, RoomWrites.heads_kept, RoomWrites.masks_kept, RoomWrites.leaves_put}
+use Rattle.radix_tree.proofs.{RoomReads.bits_kept, RoomReads.heads_kept, RoomReads.masks_kept, RoomReads.leaves_put, Words.arith, Words.ap}
 use Rattle.radix_tree.proofs.linking.put_leaf.Goals as goal
 
 pub returns-clause-only : goal.returns-clause-only

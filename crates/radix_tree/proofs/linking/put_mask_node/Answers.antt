@@ -1,4 +1,4 @@
-use Rattle.radix_tree.proofs.{Words.arith, Words.ap, RoomWrites.leaves_kept, RoomWrites.bits_kept, RoomWrites.heads_kept, RoomWrites.masks_put}
+use Rattle.radix_tree.proofs.{RoomReads.leaves_kept, RoomReads.bits_kept, RoomReads.heads_kept, RoomReads.masks_put, Words.arith, Words.ap}
 use Rattle.radix_tree.proofs.linking.put_mask_node.Goals as goal
 
 pub returns-clause-tree : goal.returns-clause-tree

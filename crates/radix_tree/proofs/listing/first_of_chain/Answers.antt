@@ -1,5 +1,5 @@
+use Rattle.radix_tree.proofs.ChainGaps.{Has-member, come, earlier, few_back, first_reached}
 use Rattle.radix_tree.proofs.Words.{◌-◌, ◌∙◌, ap, arith}
-use Rattle.radix_tree.proofs.ChainStarts.{Has-member, come, earlier, few_at, ended}
 use Rattle.radix_tree.proofs.listing.first_of_chain.Goals as goal
 
 pub links-requires-clause-there : goal.links-requires-clause-there
@@ -25,7 +25,7 @@ pub loop-before-smaller : goal.loop-before-smaller
 loop-before-smaller g c =
     let r = c.requires.chain in
     let count = ap (λ v. v.count) c.links-in-Some.ensures.visit in
-    let few = few_at (c.loop-before.invariant.back r.0 r.1 r.2 r.3 r.4) in
+    let few = few_back (c.loop-before.invariant.back r.0 r.1 r.2 r.3 r.4) in
     omega arith
 
 pub loop-before-preserved : goal.loop-before-preserved
@@ -42,4 +42,4 @@ loop-before-preserved g c =
     }
 
 pub returns-clause-first : goal.returns-clause-first
-returns-clause-first g c r y first among is = ended (c.loop-before.invariant.back r y first among is) c.in_default.is
+returns-clause-first g c r y first among is = first_reached (c.loop-before.invariant.back r y first among is) c.in_default.is

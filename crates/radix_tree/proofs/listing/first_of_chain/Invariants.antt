@@ -1,5 +1,4 @@
-use Rattle.radix_tree.proofs.Words.{◌≡◌, ◌≤◌, ◌+◌, ◌-◌, None, Placed, IsAmong, Run}
-use Rattle.radix_tree.proofs.ChainStarts.{Back}
+use Rattle.radix_tree.proofs.{ChainGaps.Back, Words.◌≡◌, Words.◌≤◌, Words.◌+◌, Words.◌-◌, Words.None, Words.Placed, Words.IsAmong, Words.Run}
 use Rattle.radix_tree.proofs.listing.first_of_chain.Given as goal
 
 abbrev pub invariant-loop-before : goal.invariant-loop-before

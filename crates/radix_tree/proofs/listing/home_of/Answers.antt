@@ -1,6 +1,5 @@
+use Rattle.radix_tree.proofs.HomeLists.{placed_in, chain_of, in_chain, led_first, chain_at, rank_read, home_is}
 use Rattle.radix_tree.proofs.Words.{refl}
-use Rattle.radix_tree.proofs.ListedHomes.{chain_of, in_chain, led_first, chain_at, rank_read, home_is}
-use Rattle.radix_tree.proofs.HomeLists.{placed_in}
 use Rattle.radix_tree.proofs.listing.home_of.Goals as goal
 
 pub first_of_chain-first-requires-clause-chain : goal.first_of_chain-first-requires-clause-chain

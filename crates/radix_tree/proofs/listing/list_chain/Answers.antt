@@ -1,5 +1,4 @@
-use Rattle.radix_tree.proofs.Words.{◌∙◌, arith}
-use Rattle.radix_tree.proofs.ListedChains.{begun, Has-at, passed, nearer, ended}
+use Rattle.radix_tree.proofs.{ListedChains.begun, ListedChains.Has-at, ListedChains.passed, ListedChains.nearer, ListedChains.ended, Words.◌∙◌, Words.arith}
 use Rattle.radix_tree.proofs.listing.list_chain.Goals as goal
 
 pub loop-at-init : goal.loop-at-init

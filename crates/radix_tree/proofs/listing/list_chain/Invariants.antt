@@ -1,5 +1,5 @@
+use Rattle.radix_tree.proofs.{ListedChains.Left, MaskWalks.ranks_from}
 use Rattle.radix_tree.proofs.Words.{◌≡◌, Bool, ℕ, Some, None, Node, LeafPart, leaves_in, KeepsLeaves, KeepsBits, IsWholeBut, nobody_out, number_of}
-use Rattle.radix_tree.proofs.ListedChains.{Left, left_at}
 use Rattle.radix_tree.proofs.listing.list_chain.Given as goal
 
 abbrev pub invariant-loop-at : goal.invariant-loop-at
@@ -14,4 +14,4 @@ invariant-loop-at g l = record {
 }
 
 abbrev pub decreases-loop-at : goal.decreases-loop-at
-decreases-loop-at g l = left_at (leaves_in l.nodes.lodged) l.at
+decreases-loop-at g l = ranks_from (leaves_in l.nodes.lodged) l.at

@@ -1,5 +1,4 @@
-use Rattle.radix_tree.proofs.Words.{◌∙◌, sym, arith}
-use Rattle.radix_tree.proofs.ListedChains.{mask_none, listed_late}
+use Rattle.radix_tree.proofs.{ListedChains.mask_none, ListedChains.listed_late, Words.◌∙◌, Words.sym, Words.arith}
 use Rattle.radix_tree.proofs.listing.list_late.Goals as goal
 
 pub returns-in-Some-clause-whole : goal.returns-in-Some-clause-whole

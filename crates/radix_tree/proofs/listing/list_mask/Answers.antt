@@ -1,5 +1,4 @@
-use Rattle.radix_tree.proofs.{WholeParts.once_but, HomeLists.placed_in}
-use Rattle.radix_tree.proofs.Words.{subst, IsHome, arith}
+use Rattle.radix_tree.proofs.{WholeChanges.once_but, HomeLists.placed_in, Words.subst, Words.IsHome, Words.arith}
 use Rattle.radix_tree.proofs.Listed.{listed_more, never_late, homed, home_node, home_masks, home_free}
 use Rattle.radix_tree.proofs.listing.list_mask.Goals as goal
 

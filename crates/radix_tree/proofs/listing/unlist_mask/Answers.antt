@@ -1,6 +1,6 @@
-use Rattle.radix_tree.proofs.{WholeParts.once_but, WholeParts.later_than, HomeLists.placed_in}
-use Rattle.radix_tree.proofs.Words.{sym, subst, nobody_late, late_at, IsHome, true≢false, number_of, arith}
+use Rattle.radix_tree.proofs.{WholeChanges.once_but, WholeChanges.later_than, HomeLists.placed_in}
 use Rattle.radix_tree.proofs.Listed.{listed_less, homeless, homed, home_node, home_member, marked_at}
+use Rattle.radix_tree.proofs.Words.{sym, subst, nobody_late, late_at, IsHome, true≢false, number_of, arith}
 use Rattle.radix_tree.proofs.listing.unlist_mask.Goals as goal
 
 pub home_of-requires-clause-whole : goal.home_of-requires-clause-whole

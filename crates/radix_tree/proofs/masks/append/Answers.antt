@@ -1,5 +1,5 @@
-use Rattle.radix_tree.proofs.{MaskLists.not_below_among, MaskLinks.list_of, MaskLinks.Has-last, MaskLinks.aside_linked, MaskLinks.marks_linked}
-use Rattle.radix_tree.proofs.{MaskChanges.appended, Words.◌∙◌, Words.ap, Words.is_some, Words.masks_in, Words.not_below}
+use Rattle.radix_tree.proofs.{MaskLists.not_below_among, Words.◌∙◌, Words.ap, Words.is_some, Words.masks_in, Words.not_below}
+use Rattle.radix_tree.proofs.MaskChanges.{appended, list_of, Has-last, aside_linked, marks_linked}
 use Rattle.radix_tree.proofs.masks.append.Goals as goal
 
 pub link-requires-clause-there : goal.link-requires-clause-there

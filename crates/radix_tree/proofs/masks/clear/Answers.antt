@@ -1,4 +1,4 @@
-use Rattle.radix_tree.proofs.{Words.◌∙◌, Words.sym, MaskClears.listed_at, MaskClears.cleared_one, MaskClears.ended, MaskWalks.Has-listed}
+use Rattle.radix_tree.proofs.{MaskWalks.listed_at, MaskWalks.cleared_one, MaskWalks.all_cleared, MaskWalks.Has-listed, Words.◌∙◌, Words.sym}
 use Rattle.radix_tree.proofs.masks.clear.Goals as goal
 
 pub mask_node-requires-clause-listed : goal.mask_node-requires-clause-listed
@@ -20,7 +20,7 @@ loop-at-preserved g c =
     }
 
 pub returns-clause-cleared : goal.returns-clause-cleared
-returns-clause-cleared g c ms y is among = ended (c.loop-at.invariant.clearing ms is) c.in_default.is y among
+returns-clause-cleared g c ms y is among = all_cleared (c.loop-at.invariant.clearing ms is) c.in_default.is y among
 
 pub returns-clause-masks : goal.returns-clause-masks
 returns-clause-masks g c ms is n aside = (c.loop-at.invariant.clearing ms is).aside n aside

@@ -1,5 +1,5 @@
+use Rattle.radix_tree.proofs.MaskWalks.{Clearing, ranks_from}
 use Rattle.radix_tree.proofs.Words.{◌≡◌, List, IsMasks, Stays, leaves_in, Placed, KeepsTree, KeepsHeads}
-use Rattle.radix_tree.proofs.MaskClears.{Clearing, ranks_from}
 use Rattle.radix_tree.proofs.masks.clear.Given as goal
 
 abbrev pub invariant-loop-at : goal.invariant-loop-at

@@ -1,6 +1,5 @@
-use Rattle.radix_tree.proofs.{MaskLists.not_below_among, MaskLinks.list_of, MaskLinks.Has-last, MaskLinks.aside_linked, MaskLinks.marks_linked}
-use Rattle.radix_tree.proofs.{MaskChanges.kept_of_cut, MaskChanges.others_of_cut}
-use Rattle.radix_tree.proofs.Words.{◌+◌, ◌∙◌, ap, is_some, masks_in, not_below}
+use Rattle.radix_tree.proofs.{MaskLists.not_below_among, Words.◌+◌, Words.◌∙◌, Words.ap, Words.is_some, Words.masks_in, Words.not_below}
+use Rattle.radix_tree.proofs.MaskChanges.{list_of, Has-last, aside_linked, marks_linked, kept_of_cut, others_of_cut}
 use Rattle.radix_tree.proofs.masks.cut_list.Goals as goal
 
 pub link-requires-clause-there : goal.link-requires-clause-there

@@ -1,4 +1,4 @@
-use Rattle.radix_tree.proofs.{Words.◌≤◌, Words.◌∙◌, Words.subst, Words.arith, MaskWalks.next_of, MaskWalks.rank_told, MaskWalks.ended}
+use Rattle.radix_tree.proofs.{MaskWalks.next_of, MaskWalks.rank_told, MaskWalks.ended, Words.◌≤◌, Words.◌∙◌, Words.subst, Words.arith}
 use Rattle.radix_tree.proofs.masks.gap_at.Goals as goal
 
 pub mask_node-leaf-requires-clause-listed : goal.mask_node-leaf-requires-clause-listed

@@ -1,5 +1,4 @@
-use Rattle.radix_tree.proofs.Words.{◌≡◌, ◌+◌, ◌-◌, List, IsMasks, Placed}
-use Rattle.radix_tree.proofs.MaskWalks.{Passing}
+use Rattle.radix_tree.proofs.{MaskWalks.Passing, Words.◌≡◌, Words.◌+◌, Words.◌-◌, Words.List, Words.IsMasks, Words.Placed}
 use Rattle.radix_tree.proofs.masks.gap_at.Given as goal
 
 abbrev pub invariant-loop-behind : goal.invariant-loop-behind

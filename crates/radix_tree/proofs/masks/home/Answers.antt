@@ -1,5 +1,5 @@
-use Rattle.radix_tree.proofs.{Climbs.begun, Climbs.over, Climbs.fork_over, Climbs.used, Climbs.risen, Homes.none_passed, Homes.passed, Homes.stopped}
-use Rattle.radix_tree.proofs.{Homes.topped, Lifts.Has-leaf_at, Words.◌≤◌, Words.◌<◌, Words.◌∙◌, Words.subst, Words.arith}
+use Rattle.radix_tree.proofs.{RoomReads.Has-leaf_at, Words.◌≤◌, Words.◌<◌, Words.◌∙◌, Words.subst, Words.arith}
+use Rattle.radix_tree.proofs.Climbs.{begun, over, fork_over, used, risen, none_passed, home_passed, home_stopped, home_topped}
 use Rattle.radix_tree.proofs.masks.home.Goals as goal
 
 pub leaf-above-requires-clause-there : goal.leaf-above-requires-clause-there
@@ -14,7 +14,7 @@ bit_node-node-requires-clause-used g c = let l = c.requires.led in used (fork_ov
 pub returns-then-node-rank-clause-home : goal.returns-then-node-rank-clause-home
 returns-then-node-rank-clause-home g c key whole top low led =
     let before = subst (λ n. c.bit_node-node.result.bit < n) c.number-rank.ensures.number c.if-node-rank.true in
-    let w = c.loop-above.invariant.climb key whole top led in stopped w (over top w c.in-Some.is) c.bit_node-node.ensures.node before
+    let w = c.loop-above.invariant.climb key whole top led in home_stopped w (over top w c.in-Some.is) c.bit_node-node.ensures.node before
 
 pub loop-above-smaller : goal.loop-above-smaller
 loop-above-smaller g c = let l = c.requires.led in grind (arith, c.loop-above.invariant.climb l.0 l.1 l.2 l.4)
@@ -26,8 +26,8 @@ loop-above-preserved g c =
       climb = λ key whole top led.
           let w = c.loop-above.invariant.climb key whole top led in
           let o = over top w c.in-Some.is in risen o c.bit_node-node.ensures.node
-          (passed o w.holds c.bit_node-node.ensures.node past c.bit_node-node.ensures.visit);
+          (home_passed o w.holds c.bit_node-node.ensures.node past c.bit_node-node.ensures.visit);
     }
 
 pub returns-clause-home : goal.returns-clause-home
-returns-clause-home g c key whole top low led = topped low (c.loop-above.invariant.climb key whole top led) c.in_default.is
+returns-clause-home g c key whole top low led = home_topped low (c.loop-above.invariant.climb key whole top led) c.in_default.is

@@ -1,12 +1,11 @@
-use Rattle.radix_tree.proofs.{Climbs.Climb, Homes.Passed}
-use Rattle.radix_tree.proofs.Words.{◌≡◌, ◌+◌, ◌-◌, ℕ, None, Part, LedTo}
+use Rattle.radix_tree.proofs.{Climbs.Climb, Climbs.HomePassed, Words.◌≡◌, Words.◌+◌, Words.◌-◌, Words.ℕ, Words.None, Words.Part, Words.LedTo}
 use Rattle.radix_tree.proofs.masks.home.Given as goal
 
 abbrev pub invariant-loop-above : goal.invariant-loop-above
 invariant-loop-above g l = record {
   turn : l.visits.turn ≡ l.fn.visits.turn;
   climb : (key : ℕ) (whole : Part l.fn.nodes.lodged) → whole.above ≡ None → LedTo key whole l.fn.leaf
-      → Climb key whole (Passed key l.fn.rank l.home l.fn.visits l.visits) l.above;
+      → Climb key whole (HomePassed key l.fn.rank l.home l.fn.visits l.visits) l.above;
 }
 
 abbrev pub decreases-loop-above : goal.decreases-loop-above

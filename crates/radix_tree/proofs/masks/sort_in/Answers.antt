@@ -1,5 +1,5 @@
-use Rattle.radix_tree.proofs.{MaskLists.not_below_among, MaskWalks.Has-ranked, MaskWalks.rank_told, MaskLinks.list_of, MaskLinks.Has-last}
-use Rattle.radix_tree.proofs.{MaskLinks.are_ranked_same, MaskLinks.put_aside, MaskLinks.aside_linked, MaskChanges.sorted, MaskChanges.sorted_marks}
+use Rattle.radix_tree.proofs.{MaskLists.not_below_among, MaskLists.Has-ranked, MaskWalks.rank_told}
+use Rattle.radix_tree.proofs.MaskChanges.{sorted, sorted_marks, list_of, Has-last, are_ranked_same, put_aside, aside_linked}
 use Rattle.radix_tree.proofs.Words.{◌∙◌, ◌≤◌, Some, sym, ap, subst, is_some, masks_in, not_below}
 use Rattle.radix_tree.proofs.masks.sort_in.Goals as goal
 

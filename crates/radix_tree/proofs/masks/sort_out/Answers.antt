@@ -1,6 +1,6 @@
-use Rattle.radix_tree.proofs.{MaskLists.not_below_among, MaskLists.ranked_among, MaskWalks.Has-ranked, MaskWalks.rank_told, MaskWalks.listed_as}
-use Rattle.radix_tree.proofs.{MaskWalks.next_told, MaskChanges.stands_at, MaskChanges.taken}
-use Rattle.radix_tree.proofs.MaskLinks.{list_of, Has-last, ranked_same, put_aside, aside_linked, marks_linked}
+use Rattle.radix_tree.proofs.MaskLists.{not_below_among, ranked_among, Has-ranked}
+use Rattle.radix_tree.proofs.MaskWalks.{rank_told, listed_as, next_told}
+use Rattle.radix_tree.proofs.MaskChanges.{stands_at, taken, list_of, Has-last, ranked_same, put_aside, aside_linked, marks_linked}
 use Rattle.radix_tree.proofs.Words.{◌∙◌, ◌+◌, None, ap, is_some, masks_in, leaves_in, not_below, below}
 use Rattle.radix_tree.proofs.masks.sort_out.Goals as goal
 

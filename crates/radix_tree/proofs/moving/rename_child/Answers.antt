@@ -1,4 +1,4 @@
-use Rattle.radix_tree.proofs.{Lifts.node_changed, RoomReads.Has-bit}
+use Rattle.radix_tree.proofs.RoomReads.{node_changed, Has-bit}
 use Rattle.radix_tree.proofs.Words.{◌∙◌, Some, inl, inr, sym, ap, subst, BitNode, Has, put_bit, rename, with_renamed, bits_in, arith}
 use Rattle.radix_tree.proofs.moving.rename_child.Goals as goal
 

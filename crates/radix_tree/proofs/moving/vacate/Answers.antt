@@ -1,7 +1,7 @@
 use Rattle.radix_tree.proofs.{MovedReads.Has_kept, MovedReads.content_lift, MovedWhole.whole_moved, MovedWhole.routes_moved}
+use Rattle.radix_tree.proofs.MoveWrites.{over_used, IsMove, IsMoved, move_of, left_there, right_there, contents_stay, lifted_stay, beneath_there, gone}
 use Rattle.radix_tree.proofs.Words.{◌∙◌, sym, number_of, arith}
 use Rattle.radix_tree.proofs.moving.vacate.Goals.{In-Some, After-root_after}
-use Rattle.radix_tree.proofs.MoveWrites.{over_used, IsMove, IsMoved, move_of, left_there, right_there, contents_stay, lifted_stay, beneath_there, gone}
 use Rattle.radix_tree.proofs.moving.vacate.Given as given
 use Rattle.radix_tree.proofs.moving.vacate.Goals as goal
 

@@ -1,5 +1,5 @@
-use Rattle.radix_tree.proofs.{Climbs.begun, Climbs.over, Climbs.fork_over, Climbs.used, Climbs.risen, Lifts.Has-leaf_at, Spots.leaf_past, Spots.over_past}
-use Rattle.radix_tree.proofs.{Spots.stopped, Spots.topped, Words.◌∙◌, Words.subst, Words.arith, Words.IsSpot}
+use Rattle.radix_tree.proofs.{RoomReads.Has-leaf_at, Words.◌∙◌, Words.subst, Words.arith, Words.IsSpot}
+use Rattle.radix_tree.proofs.Climbs.{begun, over, fork_over, used, risen, leaf_past, over_past, spot_stopped, spot_topped}
 use Rattle.radix_tree.proofs.placing.spot_above.Goals as goal
 
 pub leaf-above-requires-clause-there : goal.leaf-above-requires-clause-there
@@ -18,7 +18,7 @@ pub returns-then-node-bit-clause-spot : goal.returns-then-node-bit-clause-spot
 returns-then-node-bit-clause-spot g c key w =
     let r = c.loop-above.invariant.climb key w in
     subst (λ o. IsSpot c.args.nodes.now.lodged key c.args.bit w.whole o c.loop-above.below) c.in-Some.is
-    (stopped w r (over w.top r c.in-Some.is) c.bit_node-node.ensures.node c.if-node-bit.true)
+    (spot_stopped w r (over w.top r c.in-Some.is) c.bit_node-node.ensures.node c.if-node-bit.true)
 
 pub loop-above-smaller : goal.loop-above-smaller
 loop-above-smaller g c = let n = c.requires.new in grind (arith, c.loop-above.invariant.climb n.0 n.1)
@@ -33,4 +33,4 @@ loop-above-preserved g c = record {
 }
 
 pub returns-clause-spot : goal.returns-clause-spot
-returns-clause-spot g c key w = topped w (c.loop-above.invariant.climb key w) c.in_default.is
+returns-clause-spot g c key w = spot_topped w (c.loop-above.invariant.climb key w) c.in_default.is

@@ -1,6 +1,4 @@
-use Rattle.radix_tree.proofs.{Climbs.Climb, Spots.Past}
-use Rattle.radix_tree.specs.Growth.{IsNew}
-use Rattle.radix_tree.proofs.Words.{◌≡◌, ◌+◌, ◌-◌, ℕ}
+use Rattle.radix_tree.proofs.{Climbs.Climb, Climbs.Past, Words.IsNew, Words.◌≡◌, Words.◌+◌, Words.◌-◌, Words.ℕ}
 use Rattle.radix_tree.proofs.placing.spot_above.Given as goal
 
 abbrev pub invariant-loop-above : goal.invariant-loop-above

@@ -1,5 +1,4 @@
-use Rattle.radix_tree.proofs.{MovedReads.Has_kept, Gained.shown_same, Places.less_places}
-use Rattle.radix_tree.proofs.Words.{◌∙◌, number_of, arith}
+use Rattle.radix_tree.proofs.{MovedReads.Has_kept, Gained.shown_same, Indexed.less_places, Words.◌∙◌, Words.number_of, Words.arith}
 use Rattle.radix_tree.proofs.RemovedRooms.{get_out, out_gone, out_shown, gains_stays, value_taken, room_less}
 use Rattle.radix_tree.proofs.removing.remove_route.Goals as goal
 

@@ -1,6 +1,5 @@
-use Rattle.radix_tree.proofs.{MovedReads.Has_kept, Facts.none_if, ChainNeighbours.leaf_is}
-use Rattle.radix_tree.proofs.Words.{◌∙◌, sym, ap, number_of, arith}
-use Rattle.radix_tree.proofs.RemovedOnly.{can_take, leaf_at, alone_is, member_is, only, only_room, only_shown}
+use Rattle.radix_tree.proofs.{MovedReads.Has_kept, Facts.none_if, ChainRemovals.leaf_is, Words.◌∙◌, Words.sym, Words.ap, Words.number_of, Words.arith}
+use Rattle.radix_tree.proofs.RemovedRooms.{can_take, leaf_at, alone_is, member_is, only, only_room, only_shown}
 use Rattle.radix_tree.proofs.removing.take_out.Goals as goal
 
 pub vacate-requires-clause-from : goal.vacate-requires-clause-from

@@ -1,5 +1,5 @@
-use Rattle.radix_tree.proofs.{Answered.answer, Answered.Has-best, Answered.best_answer, Answered.best_none, Showing.shown_is}
-use Rattle.radix_tree.proofs.Words.{◌∙◌, sym, ap, best_of}
+use Rattle.radix_tree.proofs.{WholeRoutes.shown_is, Words.◌∙◌, Words.sym, Words.ap, Words.best_of}
+use Rattle.radix_tree.proofs.BestOfTree.{answer, Has-best, best_answer, best_none}
 use Rattle.radix_tree.proofs.routing.best.Goals as goal
 
 pub leaf-leaf-requires-clause-there : goal.leaf-leaf-requires-clause-there

@@ -1,4 +1,4 @@
-use Rattle.radix_tree.proofs.{Words.arith, Words.sym, Words.◌∙◌, Scans.begun, Scans.member, Scans.Has-at, Scans.agrees_is, Scans.covered, Scans.not_covered}
+use Rattle.radix_tree.proofs.{Scans.begun, Scans.member, Scans.Has-at, Scans.agrees_is, Scans.covered, Scans.not_covered, Words.arith, Words.sym, Words.◌∙◌}
 use Rattle.radix_tree.proofs.scanning.first_agreeing.Goals as goal
 
 pub loop-at-init : goal.loop-at-init

@@ -1,6 +1,4 @@
-use Rattle.radix_tree.specs.Rooms.{Run, first_room}
-use Rattle.radix_tree.proofs.Words.{◌≡◌, ◌+◌, ◌-◌, Some}
-use Rattle.radix_tree.proofs.Scans.{Along, CoversIt}
+use Rattle.radix_tree.proofs.{Scans.Along, Scans.CoversIt, Words.Run, Words.first_room, Words.◌≡◌, Words.◌+◌, Words.◌-◌, Words.Some}
 use Rattle.radix_tree.proofs.scanning.first_agreeing.Given as goal
 
 abbrev pub invariant-loop-at : goal.invariant-loop-at

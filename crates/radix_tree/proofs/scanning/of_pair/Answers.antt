@@ -1,5 +1,5 @@
-use Rattle.radix_tree.proofs.{Words.arith, Words.◌≡◌, Words.sym, Words.ap, Words.◌∙◌, Words.eqb-false, Scans.begun, Scans.member, Scans.Has-at, Scans.ended}
-use Rattle.radix_tree.proofs.{scanning.of_pair.Goals.else-eq-via-then-eq+else-eq-2, scanning.of_pair.Goals.else-eq-via-else-eq}
+use Rattle.radix_tree.proofs.{Scans.begun, Scans.member, Scans.Has-at, Scans.ended, Words.arith, Words.◌≡◌, Words.sym, Words.ap, Words.◌∙◌, Words.eqb-false}
+use Rattle.radix_tree.proofs.scanning.of_pair.Goals.{else-eq-via-then-eq+else-eq-2, else-eq-via-else-eq}
 use Rattle.radix_tree.proofs.scanning.of_pair.Goals as goal
 
 pub loop-at-init : goal.loop-at-init

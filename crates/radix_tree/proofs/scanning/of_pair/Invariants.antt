@@ -1,5 +1,4 @@
-use Rattle.radix_tree.proofs.Words.{◌≡◌, ◌+◌, ◌-◌, Some, Run, first_room, HasPair}
-use Rattle.radix_tree.proofs.Scans.{Along}
+use Rattle.radix_tree.proofs.{Scans.Along, Words.◌≡◌, Words.◌+◌, Words.◌-◌, Words.Some, Words.Run, Words.first_room, Words.HasPair}
 use Rattle.radix_tree.proofs.scanning.of_pair.Given as goal
 
 abbrev pub invariant-loop-at : goal.invariant-loop-at

@@ -1,6 +1,6 @@
-use Rattle.radix_tree.proofs.{WalkStarts.on_zero, WalkStarts.on_one, walk.place_behind.Goals.In-Some-bit_node}
+use Rattle.radix_tree.proofs.Walks.{on_zero, on_one, Read, climb_begun, Has-first, Has-over, used_over, read_over, climb_ended, begins_on, begins_rest}
 use Rattle.radix_tree.proofs.Words.{◌-◌, ◌∙◌, sym, ap, arith}
-use Rattle.radix_tree.proofs.Walks.{Read, climb_begun, Has-first, Has-over, used_over, read_over, climb_ended, begins_on, begins_rest}
+use Rattle.radix_tree.proofs.walk.place_behind.Goals.{In-Some-bit_node}
 use Rattle.radix_tree.proofs.walk.place_behind.Goals as goal
 
 pub links-requires-clause-there : goal.links-requires-clause-there

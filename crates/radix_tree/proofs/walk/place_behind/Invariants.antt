@@ -1,5 +1,4 @@
-use Rattle.radix_tree.proofs.Words.{◌≡◌, ◌≤◌, ◌+◌, ◌-◌}
-use Rattle.radix_tree.proofs.Walks.{Upward}
+use Rattle.radix_tree.proofs.{Walks.Upward, Words.◌≡◌, Words.◌≤◌, Words.◌+◌, Words.◌-◌}
 use Rattle.radix_tree.proofs.walk.place_behind.Given as goal
 
 abbrev pub invariant-loop-above : goal.invariant-loop-above

@@ -1,12 +1,10 @@
-use Rattle.radix_tree.proofs.{Counted.few_held, Counted.counted_more, WholeRoutes.gains_entry, Kept.shown_table, Kept.whole_at}
-use Rattle.radix_tree.proofs.IndexChanges.{absent_place, found_named, keeps_itself, named_there, index_begun, index_keeps, index_more, kept_keeps}
-use Rattle.radix_tree.proofs.{Kept.shown_next, Kept.given_begun, Kept.IsNext, GivenNumbers.given_more, routes.Table.add.Goals.In-Ok, routes.Table.add.Goals.After-vacancy-vacancy, routes.Table.add.Goals.Then-is_some}
-use Rattle.radix_tree.proofs.Words.{◌≡◌, ℕ, ◌+◌, ◌<◌, ◌∷◌, Some, None, refl, sym, ap, subst, ◌∙◌, arith, HasOneMore, AreCounted}
-use Rattle.radix_tree.proofs.Words.{entry_at, uses, with_entry, shown, Holds, leaf_in, leaves_in, Ptr}
-use Rattle.radix_tree.specs.Given.{AreGiven, numbers_in}
-use Rattle.radix_tree.specs.Index.{HasPlaceMore, Indexes, pair, place_of, places_in}
-use Rattle.radix_nodes.specs.Naming.{number_of}
-use Rattle.std.specs.Prelude.{IsSome}
+use Rattle.radix_tree.proofs.{Counted.few_held, Counted.counted_more, Counted.given_more, WholeRoutes.gains_entry}
+use Rattle.radix_tree.proofs.Kept.{shown_table, whole_at, shown_next, given_begun, IsNext}
+use Rattle.radix_tree.proofs.Indexed.{absent_place, found_named, keeps_itself, named_there, index_begun, index_keeps, index_more, kept_keeps}
+use Rattle.radix_tree.proofs.Words.{◌≡◌, ℕ, ◌+◌, ◌<◌, ◌∷◌, Some, None, refl, sym, ap, subst, ◌∙◌, arith, HasOneMore, AreCounted, entry_at, uses, with_entry}
+use Rattle.radix_tree.proofs.Words.{shown, Holds, leaf_in, leaves_in, Ptr, AreGiven, numbers_in, HasPlaceMore, Indexes, pair, place_of, places_in, number_of}
+use Rattle.radix_tree.proofs.Words.{IsSome}
+use Rattle.radix_tree.proofs.routes.Table.add.Goals.{In-Ok, After-vacancy-vacancy, Then-is_some}
 use Rattle.radix_tree.proofs.routes.Table.add.Goals as goal
 
 pub near_leaf-near-requires-clause-indexed : goal.near_leaf-near-requires-clause-indexed

@@ -1,5 +1,5 @@
 -- The best route stands in the table.
-use Rattle.radix_tree.proofs.{Words.arith, LawLemmas.best_stands}
+use Rattle.radix_tree.proofs.{LawLemmas.best_stands, Words.arith}
 use Rattle.radix_tree.proofs.routes.Table.best.Goals as goal
 
 pub returns-clause-stands : goal.returns-clause-stands

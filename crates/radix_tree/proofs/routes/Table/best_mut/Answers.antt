@@ -1,11 +1,11 @@
 -- The best route is lent, as the route of a pair is, and stands in the table.
-use Rattle.radix_tree.proofs.{Showing.shown_is, LawLemmas.best_is_greatest, Valued.put_valued, Valued.valued_whole, Valued.lent_shown, Valued.lent_counted}
-use Rattle.radix_tree.proofs.{Valued.lent_places, IndexChanges.same_index}
-use Rattle.radix_tree.proofs.{Valued.lent_given, Kept.shown_table, Kept.whole_at, Kept.entries_at, routes.Table.best_mut.Goals.In-Some-find_best}
-use Rattle.radix_tree.proofs.Answered.{Answer, answer, Has-best, best_answer, best_none, best_pair}
-use Rattle.radix_tree.specs.Lending.{with_value_at}
+use Rattle.radix_tree.proofs.{WholeRoutes.shown_is, LawLemmas.best_is_greatest, Indexed.same_index, Kept.shown_table, Kept.whole_at, Kept.entries_at}
+use Rattle.radix_tree.proofs.Valued.{put_valued, valued_whole, lent_shown, lent_counted, lent_places, lent_given}
+use Rattle.radix_tree.proofs.BestOfTree.{Answer, answer, Has-best, best_answer, best_none, best_pair}
 use Rattle.radix_tree.proofs.Words.{◌≡◌, sym, ap, subst, ◌∙◌, inl, inr, arith, put_value, IsTable, contents, IsKept, AreCounted, best_of, with_entry, shown}
 use Rattle.radix_tree.proofs.Words.{IsWhole, Leaf}
+use Rattle.radix_tree.proofs.routes.Table.best_mut.Goals.{In-Some-find_best}
+use Rattle.radix_tree.specs.Lending.{with_value_at}
 use Rattle.radix_tree.proofs.routes.Table.best_mut.Goals as goal
 
 pub returns-in_default-find_best : goal.returns-in_default-find_best

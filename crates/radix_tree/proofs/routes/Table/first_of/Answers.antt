@@ -1,5 +1,5 @@
-use Rattle.radix_tree.proofs.Words.{sym, ap, ◌∙◌, first_of}
 use Rattle.radix_tree.proofs.Kept.{differ, agree, Has-led, no_first, first_found, whole_at, entries_at}
+use Rattle.radix_tree.proofs.Words.{sym, ap, ◌∙◌, first_of}
 use Rattle.radix_tree.proofs.routes.Table.first_of.Goals as goal
 
 pub leaf_for-first-requires-clause-tree : goal.leaf_for-first-requires-clause-tree

@@ -1,5 +1,5 @@
-use Rattle.radix_tree.proofs.{Words.arith, Words.sym, Words.ap, Words.◌∙◌, Words.entry_at, Counted.not_held, Kept.Has-found, Kept.found, Kept.not_found}
-use Rattle.radix_tree.proofs.{Kept.value_found, Kept.whole_at, Kept.entries_at}
+use Rattle.radix_tree.proofs.{Counted.not_held, Words.arith, Words.sym, Words.ap, Words.◌∙◌, Words.entry_at}
+use Rattle.radix_tree.proofs.Kept.{Has-found, found, not_found, value_found, whole_at, entries_at}
 use Rattle.radix_tree.proofs.routes.Table.get.Goals as goal
 
 pub returns-then-not-has-clause-entry : goal.returns-then-not-has-clause-entry

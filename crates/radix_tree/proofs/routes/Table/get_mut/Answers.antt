@@ -1,9 +1,9 @@
-use Rattle.radix_tree.proofs.{Counted.not_held, Valued.put_valued, Valued.valued_whole, Valued.lent_shown, Valued.lent_counted, Valued.lent_given}
-use Rattle.radix_tree.proofs.{Valued.lent_places, IndexChanges.index_begun, IndexChanges.same_index}
-use Rattle.radix_tree.proofs.{Kept.Has-found, Kept.IsFound, Kept.found, Kept.not_found, Kept.value_found, Kept.whole_next, Kept.entries_next, Kept.shown_begun}
-use Rattle.radix_tree.proofs.{Kept.given_begun, routes.Table.get_mut.Goals.In-Some-find_room}
-use Rattle.radix_tree.proofs.Words.{arith, ◌≡◌, ◌+◌, sym, ap, subst, ◌∙◌, inl, option_map, put_value, contents, IsKept}
-use Rattle.radix_tree.proofs.Words.{AreCounted, with_value, entry_at, with_entry, shown, Entry}
+use Rattle.radix_tree.proofs.{Counted.not_held, Indexed.index_begun, Indexed.same_index}
+use Rattle.radix_tree.proofs.Valued.{put_valued, valued_whole, lent_shown, lent_counted, lent_given, lent_places}
+use Rattle.radix_tree.proofs.Kept.{Has-found, IsFound, found, not_found, value_found, whole_next, entries_next, shown_begun, given_begun}
+use Rattle.radix_tree.proofs.Words.{arith, ◌≡◌, ◌+◌, sym, ap, subst, ◌∙◌, inl, option_map, put_value, contents, IsKept, AreCounted, with_value, entry_at}
+use Rattle.radix_tree.proofs.Words.{with_entry, shown, Entry}
+use Rattle.radix_tree.proofs.routes.Table.get_mut.Goals.{In-Some-find_room}
 use Rattle.radix_tree.proofs.routes.Table.get_mut.Goals as goal
 
 pub returns-then-not-has : goal.returns-then-not-has

@@ -1,6 +1,4 @@
-use Rattle.radix_tree.proofs.Words.{arith, ◌≡◌, ℕ, None, sym, ap, ◌∙◌, nat_cmp, leaf_in, leaves_in}
-use Rattle.radix_tree.proofs.RoomReads.{none_some}
-use Rattle.radix_tree.specs.Index.{place_of}
+use Rattle.radix_tree.proofs.Words.{arith, ◌≡◌, ℕ, None, sym, ap, ◌∙◌, nat_cmp, leaf_in, leaves_in, none_some, place_of}
 use Rattle.std.specs.FinMap.{get-empty}
 use Rattle.radix_tree.proofs.routes.Table.new.Goals as goal
 

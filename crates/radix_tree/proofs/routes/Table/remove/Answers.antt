@@ -1,12 +1,10 @@
-use Rattle.radix_tree.proofs.{Counted.not_held, Counted.counted_less, GivenNumbers.given_less, GivenNumbers.one_there, GivenNumbers.went}
-use Rattle.radix_tree.proofs.{TableLemmas.without_absent, Gained.lost, Kept.Has-found, Kept.IsFound, Kept.found, Kept.not_found, Kept.whole_next}
-use Rattle.radix_tree.proofs.{Kept.shown_next, Kept.entries_next, Kept.shown_begun, Kept.given_begun, IndexChanges.index_begun, IndexChanges.index_less}
-use Rattle.radix_tree.proofs.IndexChanges.{found_place, none_left}
+use Rattle.radix_tree.proofs.{TableLemmas.without_absent, Gained.lost, Indexed.index_begun, Indexed.index_less, Indexed.found_place, Indexed.none_left}
+use Rattle.radix_tree.proofs.Counted.{not_held, counted_less, given_less, one_there, went}
+use Rattle.radix_tree.proofs.Kept.{Has-found, IsFound, found, not_found, whole_next, shown_next, entries_next, shown_begun, given_begun}
 use Rattle.radix_tree.proofs.Words.{arith, ◌≡◌, ◌+◌, ◌==◌, if◌then◌else◌, None, sym, ap, subst, ◌∙◌, leaf_in, HasOneMore, IsKept, AreCounted, entry_at, uses}
-use Rattle.radix_tree.proofs.Words.{without, shown}
+use Rattle.radix_tree.proofs.Words.{without, shown, number_of, AreGiven, numbers_in}
 use Rattle.radix_tree.proofs.routes.Table.remove.Goals.{Then-not-has, In_default-find_room, In-Some-find_room, After-take}
-use Rattle.radix_nodes.specs.Naming.{number_of}
-use Rattle.radix_tree.specs.Given.{AreGiven, beside, numbers_in}
+use Rattle.radix_tree.specs.Given.{beside}
 use Rattle.radix_tree.proofs.routes.Table.remove.Goals as goal
 
 -- a rank of which no route is held

@@ -1,6 +1,5 @@
-use Rattle.radix_tree.proofs.{GivenNumbers.given_next, IndexChanges.kept_reserved}
-use Rattle.radix_tree.proofs.Words.{sym, ap, subst, ◌∙◌, arith, uses, IsKept}
-use Rattle.radix_tree.specs.Given.{AreGiven}
+use Rattle.radix_tree.proofs.{Counted.given_next, Indexed.kept_reserved}
+use Rattle.radix_tree.proofs.Words.{sym, ap, subst, ◌∙◌, arith, uses, IsKept, AreGiven}
 use Rattle.radix_tree.proofs.routes.Table.room.Goals as goal
 
 pub invariant_of-self-in-Ok : goal.invariant_of-self-in-Ok

@@ -1,5 +1,5 @@
-use Rattle.radix_tree.proofs.{Kept.whole_at, Showing.shown_is, WalkStarts.first_on, Walks.begins_on, Walks.begins_rest}
-use Rattle.radix_tree.proofs.Words.{[], ◌∙◌, sym, ap, refl, append-nil, shown}
+use Rattle.radix_tree.proofs.{Kept.whole_at, WholeRoutes.shown_is, Words.[], Words.◌∙◌, Words.sym, Words.ap, Words.refl, Words.append-nil, Words.shown}
+use Rattle.radix_tree.proofs.Walks.{first_on, begins_on, begins_rest}
 use Rattle.radix_tree.proofs.walk.Walk.over.Goals as goal
 
 pub first_place-place-requires-clause-tree : goal.first_place-place-requires-clause-tree

@@ -1,5 +1,4 @@
-use Rattle.radix_tree.proofs.{Words.subst, Walks.Has-here}
-use Rattle.radix_tree.specs.Walks.{IsOn}
+use Rattle.radix_tree.proofs.{Walks.Has-here, Words.subst, Words.IsOn}
 use Rattle.radix_tree.proofs.walk.Walk.step.Goals as goal
 
 pub links-requires-clause-there : goal.links-requires-clause-there
