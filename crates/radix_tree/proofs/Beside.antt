@@ -1,7 +1,7 @@
 -- A route of a new key comes into the tree: what the rooms say afterwards is the tree with it.
 use Rattle.radix_tree.proofs.{Exchanging.exchanged, RoomReads.Has-leaf, Parts.fork_stands}
 use Rattle.radix_tree.proofs.Facts.{zero_not_one, zero_or_one, off_room, own_room}
-use Rattle.radix_tree.proofs.PartRooms.{one_if_same, way_once, spine_out, one_value, zero_fork_is, one_fork_is, lifted, leaves_there, forks_there, frame}
+use Rattle.radix_tree.proofs.PartRooms.{way_once, spine_out, one_value, zero_fork_is, one_fork_is, lifted, leaves_there, forks_there, frame}
 use Rattle.radix_tree.proofs.Words.{◌≡◌, ℕ, ◌<◌, ◌≤◌, List, [], ◌∷◌, Option, Some, None, refl, sym, ap, ◌∙◌, subst, arith, inl, inr, eq-eqb, ne_eqb, Id, Node}
 use Rattle.radix_tree.proofs.Words.{LeafOf, BitOf, IsRoute, Placed, Tree, leaf, fork, bit_at, HaveBit, LeafPart, BitPart, Part, leaves_in, bits_in, name_of}
 use Rattle.radix_tree.proofs.Words.{Stands, Way, leaves_at, forks_at, name_child, root_after, AreOnce, IsPlace, IsSpot, IsBeside, forked_tree, IsExchange}

@@ -2,8 +2,8 @@
 use Rattle.radix_tree.proofs.{ListLemmas.all_append, OrderLemmas.precedes_in_words, LawLemmas.best_is_unique, RoomReads.Has-leaf, RoomReads.value_read}
 use Rattle.radix_tree.proofs.TreeMembers.{chain_key, chain_below, tree_route, bit_beneath, tree_said}
 use Rattle.radix_tree.proofs.MemberLemmas.{all_contains, all_stand, members_stand, best_is_member}
-use Rattle.radix_tree.proofs.Words.{◌≡◌, ℕ, suc, ◌+◌, ◌-◌, ◌/◌, ◌^◌, ◌<◌, ◌≤◌, IsTrue, List, [], ◌∷◌, ◌++◌, map, refl, inl, inr, sym, ◌∙◌, arith, cases_lt}
-use Rattle.radix_tree.proofs.Words.{AllByRecursion, precedes, IsTable, Placed, Tree, leaf, fork, IsAmong, IsIn, IsChain, IsFork, IsTree, routes_of, Entry, ◌⊎◌}
+use Rattle.radix_tree.proofs.Words.{◌≡◌, ℕ, ◌+◌, ◌/◌, ◌^◌, ◌<◌, ◌≤◌, IsTrue, List, [], ◌∷◌, ◌++◌, map, refl, inl, inr, sym, ◌∙◌, arith, cases_lt}
+use Rattle.radix_tree.proofs.Words.{AllByRecursion, precedes, IsTable, Placed, Tree, leaf, fork, IsAmong, IsIn, IsChain, IsFork, IsTree, routes_of, Entry}
 use Rattle.radix_tree.proofs.Words.{Option, Some, None, ap, subst, Contains, best_of, StandsIn, Agrees, Best, get, Seen, Has, Id, Leaf, LeafPart, Part}
 use Rattle.radix_tree.proofs.Words.{leaves_in, bits_in, leaf_part, Tells, Finds, HasPair, In, Lodged, number_of}
 use Rattle.mask_table.proofs.Agreeing.{front_of_bits, front_suc}

@@ -5,11 +5,10 @@ use Rattle.radix_tree.proofs.{ChainGaps.behind_stands, ChainLists.linked_in, Cha
 use Rattle.radix_tree.proofs.{MovedReads.next_same, MovedReads.back_same, MovedReads.content_used}
 use Rattle.radix_tree.proofs.ChainWholes.{grown_whole, grown_routes, Rechained, front_named, place_bits, place_root}
 use Rattle.radix_tree.proofs.Words.{inside, none_some, ◌≡◌, ℕ, ◌≤◌, ◌==◌, ◌||◌, List, ◌∷◌, ◌++◌, Option, Some, None, refl, sym, ap, ◌∙◌, subst, arith, ne_eqb}
-use Rattle.radix_tree.proofs.Words.{is_some, Has, Id, Leaf, Node, LeafOf, IsRoute, Placed, leaf, IsIn, IsChain, LeafPart, Part, Run, leaves_in, bits_in}
-use Rattle.radix_tree.proofs.Words.{masks_in, name_of, first_room, ChainStands, Way, LedTo, ForkAt, HasPair, one_if, members_at, IsWhole, shown, name_child}
-use Rattle.radix_tree.proofs.Words.{root_after, placed, Gains, AreOnce, IsWholeBut, late_at, nobody_out, lodge_leaf, KeepsBits, KeepsHeads, KeepsMasks}
-use Rattle.radix_tree.proofs.Words.{leaf_next, leaf_back, name_next, name_back, link_in, above_behind, last_room, root_past, IsGap, FindsGap, content_of, Entry}
-use Rattle.radix_tree.proofs.Words.{Lodged, [], number_of}
+use Rattle.radix_tree.proofs.Words.{is_some, Has, Id, Leaf, Node, LeafOf, IsRoute, Placed, leaf, IsIn, LeafPart, Part, Run, leaves_in, bits_in, masks_in}
+use Rattle.radix_tree.proofs.Words.{name_of, first_room, ChainStands, Way, LedTo, ForkAt, HasPair, members_at, IsWhole, shown, name_child, root_after, placed}
+use Rattle.radix_tree.proofs.Words.{Gains, AreOnce, IsWholeBut, late_at, nobody_out, lodge_leaf, KeepsBits, KeepsHeads, KeepsMasks, link_in, above_behind}
+use Rattle.radix_tree.proofs.Words.{last_room, root_past, IsGap, FindsGap, Entry, Lodged, [], number_of}
 
 module _ {V : Type 0} where
   -- ---- members on both sides of a place are in the map

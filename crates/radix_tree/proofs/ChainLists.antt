@@ -2,8 +2,8 @@
 use Rattle.radix_tree.proofs.{ChainGaps.behind_stands, Facts.own_room, Facts.off_room, PartRooms.one_if_same, PartRooms.chain_frame, PartRooms.chain_there}
 use Rattle.radix_tree.proofs.Words.{none_some, ◌≡◌, ℕ, ◌+◌, ◌<◌, ◌≤◌, ◌⊎◌, ◌==◌, List, [], ◌∷◌, ◌++◌, map, Some, None, refl, sym, ap, ◌∙◌, inl, inr, arith}
 use Rattle.radix_tree.proofs.Words.{IsRoute, Placed, IsAmong, IsChain, BitPart, Bits, one_if, members_at, AreIdle, HasOneFork, Gains, ArePast, IsBelow, Entry}
-use Rattle.radix_tree.proofs.Words.{number_of, inside, Option, Id, Leaf, LeafPart, Leaves, first_room, ChainStands, lodge_leaf, leaf_next, name_next, name_back}
-use Rattle.radix_tree.proofs.Words.{link_in, link_out, above_behind, last_room}
+use Rattle.radix_tree.proofs.Words.{number_of, inside, Option, Id, Leaf, LeafPart, Leaves, first_room, ChainStands, lodge_leaf, name_next, name_back, link_in}
+use Rattle.radix_tree.proofs.Words.{link_out, above_behind, last_room}
 use Rattle.std.proofs.lemmas.List.{map-append}
 
 module _ {V : Type 0} where

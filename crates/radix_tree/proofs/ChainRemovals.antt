@@ -9,10 +9,10 @@ use Rattle.radix_tree.proofs.ChainInserts.{first_there, last_there, place_above,
 use Rattle.radix_tree.proofs.ChainWholes.{Rechained, FrontNamed, front_named, place_bits, place_root, turn_same, root_same, shrunk_whole, shrunk_routes}
 use Rattle.radix_tree.proofs.Words.{inside, none_some, ◌≡◌, ℕ, ◌≤◌, Bool, List, [], ◌∷◌, ◌++◌, Some, None, refl, sym, ap, ◌∙◌, subst, inl, arith, eq-eqb}
 use Rattle.radix_tree.proofs.Words.{is_some, Has, Id, leaf_of, Leaf, Links, Node, LeafOf, Placed, leaf, IsAmong, IsChain, IsTree, LeafPart, Part, leaves_in}
-use Rattle.radix_tree.proofs.Words.{bits_in, name_of, first_room, leaf_part, ChainStands, Way, ForkAt, one_if, members_at, name_child, root_after, IsWholeBut}
+use Rattle.radix_tree.proofs.Words.{bits_in, name_of, first_room, leaf_part, ChainStands, Way, ForkAt, members_at, name_child, root_after, IsWholeBut}
 use Rattle.radix_tree.proofs.Words.{nobody_out, KeepsHeads, KeepsMasks, link_out, above_behind, last_room, root_past, Lodged, number_of, ⊎_elim, ◌⊎◌, ◌==◌}
-use Rattle.radix_tree.proofs.Words.{true, false, true≢false, Option, inr, eqb-true, IsIn, BitPart, masks_in, HaveOneFork, HasOneFork, shown, shown_entry, Gains}
-use Rattle.radix_tree.proofs.Words.{is_of_key, has_key, nobody_late, late_at, out_at, Content, content_of, KeepsRoutes}
+use Rattle.radix_tree.proofs.Words.{true, false, Option, inr, IsIn, BitPart, masks_in, HaveOneFork, HasOneFork, shown, shown_entry, Gains, is_of_key, has_key}
+use Rattle.radix_tree.proofs.Words.{nobody_late, late_at, out_at, Content, content_of, KeepsRoutes}
 
 module _ {V : Type 0} where
   -- ---- a room that is a leaf of a tree

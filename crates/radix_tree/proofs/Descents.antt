@@ -4,8 +4,8 @@ use Rattle.radix_tree.proofs.{Parts.fork_named, Parts.leaf_named, Parts.fork_is,
 use Rattle.radix_tree.proofs.{Parts.among_leaf, Parts.in_leaf, Parts.way_inside, Parts.way_leads, Parts.fork_name, TreeMembers.chain_key}
 use Rattle.radix_tree.proofs.Words.{◌≡◌, ℕ, ◌+◌, ◌≤◌, List, [], ◌∷◌, Option, Some, None, refl, sym, ◌∙◌, subst, arith, Counter, Id, BitNode, Node, LeafOf}
 use Rattle.radix_tree.proofs.Words.{BitOf, IsBitNode, Reads, ReadsOnce, IsBitNodeOf, Part, name_of, Tells, Finds, HasPair, In, LedTo, Way, bit_at, IsAmong}
-use Rattle.radix_tree.proofs.Words.{Lodged, inside, none_some, ◌<◌, ◌++◌, ap, inl, inr, Has, Seen, get, leaf_in, number_of, IsIn, IsTree, Leaf, LeafPart}
-use Rattle.radix_tree.proofs.Words.{Placed, leaves_in, place_of, places_in}
+use Rattle.radix_tree.proofs.Words.{Lodged, inside, none_some, ◌<◌, ◌++◌, ap, inl, inr, Has, Seen, get, leaf_in, number_of, IsIn, Leaf, LeafPart, Placed}
+use Rattle.radix_tree.proofs.Words.{leaves_in, place_of, places_in}
 use Rattle.radix_tree.specs.Searches.{IsOnWay}
 
 module _ {V : Type 0} {m : Lodged V} where

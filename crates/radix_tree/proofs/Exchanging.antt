@@ -2,9 +2,9 @@
 use Rattle.radix_tree.proofs.Parts.{fork_is, fork_stands}
 use Rattle.radix_tree.proofs.PartRooms.{said, zero_turned, one_turned, elsewhere, frame, Keeps, fork_forks, fork_leaves, same_turned, way_counts, way_once}
 use Rattle.radix_tree.proofs.PartRooms.{beneath_counts, spine_out}
-use Rattle.radix_tree.proofs.Words.{◌≡◌, ℕ, ◌+◌, ◌<◌, ◌≤◌, ◌⊎◌, List, [], ◌∷◌, Option, Some, None, refl, sym, ap, ◌∙◌, subst, inl, inr, arith, Id, Node, BitOf}
-use Rattle.radix_tree.proofs.Words.{fork, bit_at, HaveBit, IsTree, BitPart, Part, leaves_in, bits_in, name_of, Stands, ForkAt, Beneath, Way, leaves_at}
-use Rattle.radix_tree.proofs.Words.{forks_at, with_child, name_child, root_after, AreOnce, on_zero, on_one, low_past, IsExchange, Exchanged, Lodged, number_of}
+use Rattle.radix_tree.proofs.Words.{◌≡◌, ℕ, ◌+◌, ◌<◌, ◌≤◌, List, [], ◌∷◌, Option, Some, None, refl, sym, ap, ◌∙◌, subst, inl, inr, arith, Id, Node, BitOf, fork}
+use Rattle.radix_tree.proofs.Words.{bit_at, HaveBit, IsTree, BitPart, Part, leaves_in, bits_in, name_of, ForkAt, Beneath, Way, leaves_at, forks_at, with_child}
+use Rattle.radix_tree.proofs.Words.{name_child, root_after, AreOnce, on_zero, on_one, low_past, IsExchange, Exchanged, Lodged, number_of}
 
 -- the bit node above a place says what it said in all other rooms, and in its own names the other node
 pub turn_misses : {above : Option Id} (over : Id) (key n : ℕ) (to : Node) (said : Option BitPart) → above ≡ Some over → (n ≡ number_of over → ⊥)

@@ -7,9 +7,9 @@ use Rattle.radix_tree.proofs.{Parts.leaf_run, WholeRoutes.shown_is, WholeRoutes.
 use Rattle.radix_tree.proofs.{Kept.IsFound, Kept.shown_table}
 use Rattle.radix_tree.proofs.Words.{none_some, ◌≡◌, ℕ, ◌+◌, ◌==◌, ◌&&◌, ◌||◌, Bool, true, false, not, if◌then◌else◌, List, Option, Some, None, is_some, refl}
 use Rattle.radix_tree.proofs.Words.{sym, ap, ◌∙◌, subst, inl, arith, eqb-true, eq-eqb, get, Seen, Id, Leaf, Node, LeafOf, IsRoute, without, leaf, LeafPart}
-use Rattle.radix_tree.proofs.Words.{Part, leaf_in, leaves_in, leaf_part, first_room, LedTo, Gains, placed, IsWholeBut, has_key, is_of_key, nobody_late}
-use Rattle.radix_tree.proofs.Words.{nobody_out, late_at, lodge_leaf, KeepsLeaves, KeepsBits, KeepsMasks, one_if, beneath_shown, shown, shown_entry, IsWhole}
-use Rattle.radix_tree.proofs.Words.{Holds, Entry, Lodged, [], true≢false, number_of}
+use Rattle.radix_tree.proofs.Words.{Part, leaves_in, leaf_part, first_room, LedTo, Gains, placed, IsWholeBut, has_key, nobody_late, nobody_out, late_at}
+use Rattle.radix_tree.proofs.Words.{lodge_leaf, KeepsLeaves, KeepsBits, KeepsMasks, one_if, beneath_shown, shown, shown_entry, IsWhole, Holds, Entry, Lodged}
+use Rattle.radix_tree.proofs.Words.{[], true≢false, number_of}
 
 and_not : (a b : Bool) → (a && not b) ≡ true → (a ≡ true) × (b ≡ false)
 and_not a b e = search arith

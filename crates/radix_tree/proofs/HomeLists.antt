@@ -4,9 +4,9 @@ use Rattle.radix_tree.proofs.{Plugs.aside_at, Plugs.counted_leaf, Plugs.spare_sa
 use Rattle.radix_tree.proofs.{PlugLists.lists_at, PlugLists.marked_same, PlugLists.lists_stay, TreeMembers.whole_route, TreeMembers.chain_below}
 use Rattle.radix_tree.proofs.{TreeMembers.tree_route, TreeMembers.bit_beneath, TreeMembers.tree_said, RoomReads.AreLinks, RoomReads.leaf_read}
 use Rattle.radix_tree.proofs.Parts.{fork_is, way_inside, way_to_leaf, leaf_run, leaf_begins, among_leaf}
-use Rattle.radix_tree.proofs.Words.{◌≡◌, ℕ, ◌+◌, ◌<◌, ◌≤◌, ◌==◌, ◌⊎◌, Bool, true, false, ◌||◌, List, [], ◌∷◌, Some, refl, inl, inr, sym, ap, ◌∙◌, subst, arith}
-use Rattle.radix_tree.proofs.Words.{cases_lt, is_some, Has, Id, Node, IsRoute, Placed, Tree, leaf, fork, IsAmong, IsIn, IsChain, IsTree, LeafPart, MaskPart}
-use Rattle.radix_tree.proofs.Words.{Heads, Masks, Part, leaves_in, bits_in, heads_in, masks_in, leaf_in, Way, one_if, leaves_at, forks_at, HasHome, KeepsLeaves}
+use Rattle.radix_tree.proofs.Words.{◌≡◌, ℕ, ◌+◌, ◌<◌, ◌≤◌, ◌==◌, ◌⊎◌, Bool, true, ◌||◌, List, [], ◌∷◌, Some, refl, inl, inr, sym, ap, ◌∙◌, subst, arith}
+use Rattle.radix_tree.proofs.Words.{cases_lt, Has, Id, Node, IsRoute, Placed, Tree, leaf, fork, IsAmong, IsIn, IsChain, IsTree, LeafPart, MaskPart, Heads}
+use Rattle.radix_tree.proofs.Words.{Masks, Part, leaves_in, bits_in, heads_in, masks_in, leaf_in, Way, one_if, leaves_at, forks_at, HasHome, KeepsLeaves}
 use Rattle.radix_tree.proofs.Words.{KeepsBits, AreOnce, plug, low_past, IsMarked, IsMaskList, MarkedIn, MarkedLists, IsWholeBut, nobody_out, HomeAt, Entry}
 use Rattle.radix_tree.proofs.Words.{Lodged, number_of, Option, None, leaf_of, Leaf, Links, Run, first_room, LedTo, IsHome, inside}
 use Rattle.mask_table.proofs.Agreeing.{front_of_bits}

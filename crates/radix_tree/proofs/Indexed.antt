@@ -4,10 +4,9 @@ use Rattle.radix_tree.proofs.{TreeMembers.tree_said, Kept.IsFound, Kept.IsNext, 
 use Rattle.radix_tree.proofs.{MovedReads.back_same, MovedReads.next_same}
 use Rattle.radix_tree.proofs.Words.{inside, none_some, MatchOption, Indexes, place_of, places_in, ◌≡◌, ℕ, ◌<◌, ◌≤◌, true, false, List, Option, Some, None, refl}
 use Rattle.radix_tree.proofs.Words.{sym, ap, subst, ◌∙◌, arith, Id, Node, Placed, Ptr, IsIn, LeafPart, leaves_in, Tells, Finds, Best, HasPair, In, shown}
-use Rattle.radix_tree.proofs.Words.{IsWhole, AreCounted, Lodged, IsRoute, agrees, bits_in, inl, inr, cases_eq, cases_lt, entry_at, routes_of, masked, number_of}
-use Rattle.radix_tree.proofs.Words.{HasPlaceMore, HasPlaceLess, pair, if◌then◌else◌, true≢false, Bool, eq-eqb, ne_eqb, Entry, Rooms, Holds, is_some, IsKept}
-use Rattle.radix_tree.proofs.Words.{AreGiven, IsSome, with_place, name_next, name_back, link_in, content_of, KeepsRoutes, lodge_leaf, lift_leaf, Leaf, LeafOf}
-use Rattle.radix_tree.proofs.Words.{BitOf}
+use Rattle.radix_tree.proofs.Words.{IsWhole, AreCounted, Lodged, IsRoute, bits_in, inl, inr, cases_eq, entry_at, routes_of, masked, number_of, HasPlaceMore}
+use Rattle.radix_tree.proofs.Words.{HasPlaceLess, pair, if◌then◌else◌, true≢false, Bool, eq-eqb, ne_eqb, Entry, Rooms, Holds, is_some, IsKept, IsSome}
+use Rattle.radix_tree.proofs.Words.{with_place, link_in, content_of, KeepsRoutes, lodge_leaf, Leaf}
 use Rattle.mask_table.proofs.Agreeing.{masked_agrees, agrees_where_masked_equal}
 use Rattle.std.specs.Prelude.{◌↔◌}
 use Rattle.mask_table.specs.RankSets.{HasRank}

@@ -1,12 +1,12 @@
 -- The list of masks of a bit node that goes is handed on to the node that takes its place.
 use Rattle.radix_tree.proofs.{Parts.fork_named, Parts.leaf_named, PlugLists.lists_stay, HomeLists.one_room, PartRooms.one_if_same, PartRooms.way_once}
-use Rattle.radix_tree.proofs.{Facts.some_of, MaskChanges.stand_same}
+use Rattle.radix_tree.proofs.{Facts.some_of}
 use Rattle.radix_tree.proofs.JoinSides.{other_part, side_is, side_stands, side_forks, side_in, in_side, side_list, side_lists, side_home}
-use Rattle.radix_tree.proofs.MaskLists.{falls_wider, falls_among, falls_appended, among_appended, in_front, in_back, ranked_in, masks_listed}
-use Rattle.radix_tree.proofs.Words.{inside, none_some, ◌≡◌, ◌+◌, ◌≤◌, ◌⊎◌, ◌==◌, List, [], ◌∷◌, ◌++◌, Option, None, inl, inr, refl, sym, ap, ◌∙◌, subst, arith}
-use Rattle.radix_tree.proofs.Words.{ℕ, cases_lt, cases_eq, is_some, Id, LeafOf, BitOf, Placed, Tree, leaf, fork, IsAmong, IsIn, IsTree, Heads, Masks, Part}
-use Rattle.radix_tree.proofs.Words.{heads_in, masks_in, name_of, Falls, one_if, forks_at, AreOnce, HasSides, IsLone, IsHanded, IsMarked, IsMaskList, MarkedIn}
-use Rattle.radix_tree.proofs.Words.{MarkedLists, IsMasks, MasksAt, KeepsAside, IsBitNode, IsAside, Lodged, true≢false, number_of}
+use Rattle.radix_tree.proofs.MaskLists.{falls_wider, falls_among, falls_appended, among_appended, in_front, in_back, masks_listed}
+use Rattle.radix_tree.proofs.Words.{none_some, ◌≡◌, ◌+◌, ◌≤◌, ◌⊎◌, ◌==◌, List, [], ◌∷◌, ◌++◌, Option, None, inl, inr, refl, sym, ap, ◌∙◌, subst, arith, ℕ}
+use Rattle.radix_tree.proofs.Words.{cases_lt, cases_eq, is_some, Id, LeafOf, BitOf, Placed, Tree, leaf, fork, IsAmong, IsIn, Masks, Part, heads_in, masks_in}
+use Rattle.radix_tree.proofs.Words.{name_of, Falls, one_if, forks_at, AreOnce, HasSides, IsLone, IsHanded, IsMarked, IsMaskList, MarkedIn, MarkedLists, IsMasks}
+use Rattle.radix_tree.proofs.Words.{MasksAt, KeepsAside, IsBitNode, IsAside, Lodged, true≢false, number_of}
 
 unmarked_marked : {A : Type 0} (K : Masks) (x y : Placed A) → K (number_of x.room) ≡ None → x ≡ y → IsMarked K y → ⊥
 unmarked_marked {A = A} K x y none same marked = search (arith, true≢false)

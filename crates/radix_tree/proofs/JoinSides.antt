@@ -1,13 +1,12 @@
 -- A bit node with what is on a key's side and what is on the other, which comes into its place as a lone route goes.
-use Rattle.radix_tree.proofs.{Facts.zero_not_one, Facts.same_id, RoomReads.Has-leaf, Beside.stays, Beside.new_turn, Parts.way_to_leaf, WholeChanges.once_but}
+use Rattle.radix_tree.proofs.{Facts.zero_not_one, Facts.same_id, Beside.stays, Beside.new_turn, Parts.way_to_leaf, WholeChanges.once_but}
 use Rattle.radix_tree.proofs.{TreeMembers.bit_beneath, TreeMembers.tree_said, TreeMembers.in_at, PartRooms.elsewhere, PartRooms.way_once, PartRooms.spine_out}
 use Rattle.radix_tree.proofs.Words.{◌≡◌, ◌+◌, ◌≤◌, ◌==◌, ◌⊎◌, if◌then◌else◌, [], Option, Some, inl, inr, ap, arith, ℕ, eq-eqb, ne_eqb, append-nil, Id, Node}
 use Rattle.radix_tree.proofs.Words.{Placed, Tree, leaf, fork, bit_at, HaveBit, IsIn, IsTree, routes_of, BitPart, Leaves, Bits, Heads, Masks, Part, name_of}
 use Rattle.radix_tree.proofs.Words.{Stands, ForkAt, Beneath, one_if, leaves_at, forks_at, HasHome, HaveOneFork, Gains, other_side, HasSides, IsMaskList}
-use Rattle.radix_tree.proofs.Words.{MarkedIn, MarkedLists, Lodged, number_of, inside, none_some, Bool, true, false, List, ◌∷◌, None, refl, ◌∙◌, is_some, Has}
-use Rattle.radix_tree.proofs.Words.{LeafOf, BitOf, leaf_in, leaves_in, bits_in, Way, name_child, with_child, AreOnce, IsApart, IsLone, put_bit, put_head}
-use Rattle.radix_tree.proofs.Words.{bit_above, lift_bit, sym, subst, eqb-true, cases_eq, IsAmong, LeafPart, first_room, leaf_part, ChainStands, members_at}
-use Rattle.radix_tree.proofs.Words.{IsWholeBut, nobody_out}
+use Rattle.radix_tree.proofs.Words.{MarkedIn, MarkedLists, Lodged, number_of, inside, none_some, Bool, List, ◌∷◌, None, refl, ◌∙◌, is_some, leaves_in, bits_in}
+use Rattle.radix_tree.proofs.Words.{Way, name_child, with_child, AreOnce, IsApart, IsLone, put_bit, put_head, lift_bit, sym, subst, IsAmong, LeafPart}
+use Rattle.radix_tree.proofs.Words.{first_room, leaf_part, ChainStands, IsWholeBut, nobody_out}
 
 other_of_zero : (key b : ℕ) (zero one : Node) → bit_at b key ≡ 0 → other_side key b zero one ≡ one
 other_of_zero key b zero one clear = search (arith, ne_eqb, zero_not_one)

@@ -3,12 +3,12 @@ use Rattle.radix_tree.proofs.{MovedReads.content_lift, MovedReads.lift_used, Mov
 use Rattle.radix_tree.proofs.{Plugs.spare_same, PlugLists.marked_same, PlugLists.lists_same, Exchanging.exchanged, WholeChanges.Fits}
 use Rattle.radix_tree.proofs.{WholeChanges.spare_changed, WholeChanges.whole_changed, Facts.some_of, Facts.test_turned, Facts.zero_not_one}
 use Rattle.radix_tree.proofs.{WholeRoutes.routes_changed, WholeRoutes.loses_spliced, HomeLists.one_room, ChainRemovals.routes_some, Parts.Has-fork}
-use Rattle.radix_tree.proofs.{ChainLists.idle_at, TreeMembers.bit_beneath, TreeMembers.tree_said, TreeMembers.of_key, TreeMembers.whole_route}
+use Rattle.radix_tree.proofs.{ChainLists.idle_at, TreeMembers.bit_beneath, TreeMembers.of_key, TreeMembers.whole_route}
 use Rattle.radix_tree.proofs.Beside.{misses_leaf, misses_bit, named_leaf, named_bit, stays, over_at}
 use Rattle.radix_tree.proofs.JoinSides.{lone_said, side_is, side_says, side_leaves, side_in, in_side, side_have, home_side, side_spare, side_gains, put_off}
 use Rattle.radix_tree.proofs.JoinSides.{put_none, put_here, turn_none, turn_used, lift_none, quiet, lone_once, lone_forks, lone_apart, other_part, lone}
 use Rattle.radix_tree.proofs.JoinSides.{SaysOther, side_fork}
-use Rattle.radix_tree.proofs.RoomReads.{AreLinks, Has-leaf, bit_read, bit_used, head_read}
+use Rattle.radix_tree.proofs.RoomReads.{AreLinks, bit_read, bit_used, head_read}
 use Rattle.radix_tree.proofs.Words.{inside, none_some, ◌≡◌, ◌+◌, ◌<◌, ◌≤◌, ◌==◌, true, false, Some, None, inl, inr, refl, sym, ap, ◌∙◌, subst, arith, ℕ}
 use Rattle.radix_tree.proofs.Words.{eqb-true, eq-eqb, is_some, Id, Node, Placed, Tree, leaf, fork, IsIn, IsTree, LeafPart, Part, leaves_in, bits_in, heads_in}
 use Rattle.radix_tree.proofs.Words.{masks_in, name_of, one_if, leaves_at, forks_at, shown, shown_entry, name_child, root_after, AreOnce, Gains, IsExchange}

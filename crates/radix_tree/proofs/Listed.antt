@@ -5,8 +5,8 @@ use Rattle.radix_tree.proofs.MaskLists.{falls_among}
 use Rattle.radix_tree.proofs.HomeLists.{or_right, one_room, one_of_bit, home_has, tree_of, home_list, home_inside, relisted, whole_kept}
 use Rattle.radix_tree.proofs.Words.{none_some, ◌≡◌, ℕ, ◌+◌, ◌≤◌, ◌==◌, Bool, true, not, ◌&&◌, ◌||◌, List, Option, Some, None, refl, inl, inr, sym, ap, ◌∙◌}
 use Rattle.radix_tree.proofs.Words.{subst, arith, eq-eqb, ne_eqb, cases_eq, is_some, Id, Node, Placed, IsAmong, IsIn, MaskPart, Part, heads_in, masks_in}
-use Rattle.radix_tree.proofs.Words.{HasHome, KeepsLeaves, KeepsBits, AreOnce, IsMarked, IsMaskList, MarkedIn, IsWholeBut, nobody_late, nobody_out, IsMasks}
-use Rattle.radix_tree.proofs.Words.{MasksAt, KeepsAsideBut, KeepsMarksBut, IsBitNode, IsFree, IsAside, IsNoRank, HomeAt, IsHome, sorted_in, taken_out, Lodged}
+use Rattle.radix_tree.proofs.Words.{HasHome, KeepsLeaves, KeepsBits, AreOnce, IsMarked, IsMaskList, MarkedIn, IsWholeBut, nobody_late, nobody_out, MasksAt}
+use Rattle.radix_tree.proofs.Words.{KeepsAsideBut, KeepsMarksBut, IsBitNode, IsFree, IsAside, IsNoRank, HomeAt, IsHome, sorted_in, taken_out, Lodged}
 use Rattle.radix_tree.proofs.Words.{true≢false, number_of}
 
 module _ {V : Type 0} where

@@ -3,10 +3,10 @@ use Rattle.radix_tree.proofs.{ChainGaps.head_said, ChainGaps.member_of, MaskWalk
 use Rattle.radix_tree.proofs.{Parts.way_to_leaf, HomeLists.placed_in, HomeLists.chain_of, HomeLists.in_chain, Listed.settled, WholeChanges.later_than}
 use Rattle.radix_tree.proofs.{RoomReads.AreLinks, RoomReads.Has-leaf, RoomReads.leaf_read}
 use Rattle.radix_tree.proofs.TreeMembers.{whole_route, of_key, IsHead, head_of, tree_said}
-use Rattle.radix_tree.proofs.Words.{◌≡◌, ℕ, ◌+◌, ◌<◌, ◌≤◌, ◌==◌, Bool, true, false, not, ◌&&◌, List, [], ◌∷◌, Option, Some, None, refl, sym, ap, ◌∙◌, subst}
-use Rattle.radix_tree.proofs.Words.{arith, eqb-true, eq-eqb, is_some, Has, leaf_of, mask_node_of, Id, Leaf, Links, MaskNode, Node, Placed, IsAmong, IsIn}
-use Rattle.radix_tree.proofs.Words.{IsChain, LeafPart, Leaves, Part, Run, leaves_in, masks_in, mask_part, first_room, leaf_part, ChainStands, one_if}
-use Rattle.radix_tree.proofs.Words.{KeepsLeaves, IsWholeBut, is_of_key, has_key, nobody_out, Lodged, true≢false, number_of, inside, none_some}
+use Rattle.radix_tree.proofs.Words.{◌≡◌, ℕ, ◌<◌, ◌≤◌, ◌==◌, Bool, true, not, ◌&&◌, List, Option, Some, None, sym, ap, ◌∙◌, subst, arith, is_some, Has, leaf_of}
+use Rattle.radix_tree.proofs.Words.{mask_node_of, Id, Leaf, Links, MaskNode, Node, Placed, IsAmong, IsIn, IsChain, LeafPart, Leaves, Part, Run, leaves_in}
+use Rattle.radix_tree.proofs.Words.{masks_in, mask_part, first_room, ChainStands, KeepsLeaves, IsWholeBut, has_key, nobody_out, Lodged, number_of, inside}
+use Rattle.radix_tree.proofs.Words.{none_some}
 
 and_left : (a b : Bool) → (a && b) ≡ true → a ≡ true
 and_left a b both = search arith

@@ -1,8 +1,8 @@
 -- The members of a list of masks, and of what comes of it.
 use Rattle.radix_tree.proofs.{RoomReads.Has-leaf, TreeMembers.tree_said}
-use Rattle.radix_tree.proofs.Words.{◌≡◌, ℕ, ◌+◌, ◌<◌, ◌≤◌, ◌⊎◌, List, [], ◌∷◌, ◌++◌, Option, is_some, refl, sym, ap, subst, inl, inr, arith, cases_eq, Id}
-use Rattle.radix_tree.proofs.Words.{Placed, IsAmong, IsIn, Leaves, Masks, Part, leaves_in, bits_in, masks_in, MasksStand, Falls, IsMarked, IsMaskList, IsMasks}
-use Rattle.radix_tree.proofs.Words.{Has, IsRanked, AreRanked, IsNoRank, not_below, below, sorted_in, taken_out, Lodged, number_of}
+use Rattle.radix_tree.proofs.Words.{◌≡◌, ℕ, ◌+◌, ◌<◌, ◌≤◌, ◌⊎◌, List, [], ◌∷◌, ◌++◌, Option, refl, sym, subst, inl, inr, arith, cases_eq, Id, Placed, IsAmong}
+use Rattle.radix_tree.proofs.Words.{IsIn, Leaves, Masks, Part, leaves_in, bits_in, masks_in, MasksStand, Falls, IsMarked, IsMaskList, IsMasks, Has, IsRanked}
+use Rattle.radix_tree.proofs.Words.{AreRanked, IsNoRank, not_below, below, sorted_in, taken_out, Lodged, number_of}
 
 pub short_or_long : (rank low : ℕ) → (rank < low) ⊎ (low ≤ rank)
 short_or_long rank low = grind arith

@@ -1,11 +1,9 @@
 -- Walks along a list of masks: to a rank, and to its end where all are cleared.
-use Rattle.radix_tree.proofs.{RoomReads.Has-leaf, RoomReads.Has-mask, TreeMembers.head_of}
-use Rattle.radix_tree.proofs.MaskLists.{not_below_short, not_below_long, below_short, below_long}
-use Rattle.radix_tree.proofs.MaskChanges.{apart, stand_same, are_ranked_same, put_aside}
+use Rattle.radix_tree.proofs.{RoomReads.Has-mask, TreeMembers.head_of, MaskLists.not_below_short, MaskLists.not_below_long, MaskLists.below_short}
+use Rattle.radix_tree.proofs.{MaskLists.below_long, MaskChanges.apart, MaskChanges.stand_same, MaskChanges.are_ranked_same, MaskChanges.put_aside}
 use Rattle.radix_tree.proofs.Words.{◌≡◌, ℕ, ◌+◌, ◌≤◌, ◌<◌, List, ◌∷◌, Option, Some, None, refl, sym, ap, ◌∙◌, subst, arith, Counter, Has, Id, Leaf, MaskNode}
 use Rattle.radix_tree.proofs.Words.{IsRanked, AreRanked, last_from, last_mask, not_below, below, ReadsOnce, LeafPart, MaskPart, leaves_in, masks_in, mask_part}
-use Rattle.radix_tree.proofs.Words.{first_room, MasksStand, Falls, Placed, Lodged, number_of, ◌⊎◌, [], inl, inr, IsAmong, Leaves, KeepsLeaves, put_mask}
-use Rattle.radix_tree.proofs.Words.{IsAside}
+use Rattle.radix_tree.proofs.Words.{first_room, MasksStand, Falls, Placed, Lodged, number_of, ◌⊎◌, inl, inr, IsAmong, Leaves, KeepsLeaves, put_mask, IsAside}
 
 module _ {V : Type 0} where
   -- ---- the room of a mask's route

@@ -2,12 +2,11 @@
 use Rattle.radix_tree.proofs.ListLemmas.{all_weaker, all_both, all_append, all_passed, all_filter, all_find, find_filter, or_none}
 use Rattle.radix_tree.proofs.TableLemmas.{later, same, sooner, with_parts, without_absent, all_behind, none_at}
 use Rattle.radix_tree.proofs.OrderLemmas.{stands_before, stands_behind, pair_is, own_pair, other_pair, not_pair}
-use Rattle.radix_tree.proofs.Words.{◌≡◌, ℕ, ◌+◌, ◌≤◌, ◌⊎◌, Bool, true, false, cond, not, filter, length, is_some, nat_lt, nat_eq, ◌&&◌, ◌||◌, List, [], ◌∷◌}
-use Rattle.radix_tree.proofs.Words.{Option, Some, None, refl, sym, ◌∙◌, subst, inl, inr, arith, nat_tests, find, Contains, AllByRecursion, option_or, precedes}
-use Rattle.radix_tree.proofs.Words.{IsRoute, IsTable, has_pair, entry_at, first_of, without, with_entry, agreeing, greater, greatest, best_of, AreOnePair}
-use Rattle.radix_tree.proofs.Words.{StandsIn, Agrees, MembersStand, MembersAreRoutes, EntryAtIsMember, FirstOfIsMember, BestIsMember, FirstIsGreatest}
-use Rattle.radix_tree.proofs.Words.{WithStands, WithKeepsOthers, WithoutLeavesNone, WithoutKeepsOthers, MembersOfWith, MembersOfWithout, WithCounts}
-use Rattle.radix_tree.proofs.Words.{WithoutCounts, Entry}
+use Rattle.radix_tree.proofs.Words.{◌≡◌, ℕ, ◌+◌, ◌≤◌, ◌⊎◌, true, false, cond, not, filter, length, is_some, nat_eq, List, [], ◌∷◌, Option, Some, None, refl}
+use Rattle.radix_tree.proofs.Words.{sym, ◌∙◌, subst, inl, inr, arith, nat_tests, find, Contains, AllByRecursion, option_or, precedes, IsRoute, IsTable}
+use Rattle.radix_tree.proofs.Words.{has_pair, entry_at, first_of, without, with_entry, agreeing, greater, greatest, best_of, AreOnePair, StandsIn, Agrees}
+use Rattle.radix_tree.proofs.Words.{MembersStand, MembersAreRoutes, EntryAtIsMember, FirstOfIsMember, BestIsMember, FirstIsGreatest, WithStands}
+use Rattle.radix_tree.proofs.Words.{WithKeepsOthers, WithoutLeavesNone, WithoutKeepsOthers, MembersOfWith, MembersOfWithout, WithCounts, WithoutCounts, Entry}
 use Rattle.std.proofs.lemmas.List.Elements.{All-contains, All-contains_itself, All-from_recursion, recursion_from_All}
 use Rattle.std.proofs.lemmas.List.Folds.{find-append}
 

@@ -1,10 +1,9 @@
 -- What rooms say where a bit node is renamed, moved or lifted, and where the links of a chain change.
 use Rattle.radix_tree.proofs.{Beside.named_leaf, Beside.named_bit, Facts.off_room, Facts.own_room, RoomReads.AreLinks}
-use Rattle.radix_tree.proofs.Words.{inside, none_some, ◌≡◌, ℕ, ◌≤◌, ◌==◌, ◌⊎◌, if◌then◌else◌, Option, Some, None, refl, sym, ap, ◌∙◌, inl, inr, arith, eq-eqb}
-use Rattle.radix_tree.proofs.Words.{ne_eqb, is_some, get, Seen, Has, Id, Node, LeafOf, BitOf, Tree, leaf, fork, LeafPart, BitPart, leaf_in, leaves_in, name_of}
-use Rattle.radix_tree.proofs.Words.{one_if, leaves_at, forks_at, lift_leaf, lift_bit, leaf_above, bit_above, renamed, with_renamed, rename, Content, content_of}
-use Rattle.radix_tree.proofs.Words.{Lodged, cases_eq, number_of, true, false, eqb-true, leaf_of, Leaf, Links, with_leaf, put_leaf, lodge_leaf, KeepsLeaves}
-use Rattle.radix_tree.proofs.Words.{leaf_next, leaf_back, name_next, name_back, link_in, link_out}
+use Rattle.radix_tree.proofs.Words.{inside, none_some, ◌≡◌, ℕ, ◌≤◌, ◌==◌, ◌⊎◌, if◌then◌else◌, Option, Some, None, refl, ap, ◌∙◌, inl, inr, arith, eq-eqb}
+use Rattle.radix_tree.proofs.Words.{ne_eqb, is_some, get, Seen, Has, Id, Node, LeafOf, BitOf, Tree, LeafPart, BitPart, leaf_in, leaves_in, name_of, one_if}
+use Rattle.radix_tree.proofs.Words.{leaves_at, forks_at, lift_leaf, lift_bit, renamed, rename, Content, content_of, Lodged, cases_eq, number_of, eqb-true}
+use Rattle.radix_tree.proofs.Words.{leaf_of, Leaf, Links, put_leaf, lodge_leaf, KeepsLeaves, leaf_next, leaf_back, name_next, name_back, link_in, link_out}
 
 pub none_or_some : (k : ℕ) → (k ≡ 0) ⊎ (1 ≤ k)
 none_or_some k = elim (cases_eq k 0) [ inl e ↦ inl e | inr other ↦ inr (omega arith) ]

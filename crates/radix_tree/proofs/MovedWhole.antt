@@ -10,8 +10,8 @@ use Rattle.radix_tree.proofs.Words.{◌≡◌, ℕ, ◌+◌, ◌≤◌, ◌==◌
 use Rattle.radix_tree.proofs.Words.{eqb-true, is_some, Id, Node, BitOf, BitNode, fork, bit_at, HaveBit, IsIn, Part, leaves_in, bits_in, heads_in, masks_in}
 use Rattle.radix_tree.proofs.Words.{bit_part, head_part, name_of, Stands, Beneath, Way, one_if, forks_at, name_child, with_child, AreOnce, MarkedLists}
 use Rattle.radix_tree.proofs.Words.{nobody_late, out_at, put_bit, put_head, lift_leaf, lift_bit, IsExchange, with_renamed, rename, Lodged, [], cases_eq}
-use Rattle.radix_tree.proofs.Words.{MarkedIn, number_of, Option, eq-eqb, Placed, Tree, leaf, IsChain, IsTree, LeafPart, Bits, ChainStands, members_at}
-use Rattle.radix_tree.proofs.Words.{leaves_at, AreIdle, HasOneFork, HaveOneFork, is_of_key, has_key, CanTake, shown, root_after, Exchanged, IsWholeBut}
+use Rattle.radix_tree.proofs.Words.{MarkedIn, number_of, Option, eq-eqb, Placed, Tree, leaf, IsChain, IsTree, Bits, ChainStands, members_at, leaves_at, AreIdle}
+use Rattle.radix_tree.proofs.Words.{HasOneFork, HaveOneFork, has_key, CanTake, shown, root_after, Exchanged, IsWholeBut}
 
 module _ {V : Type 0} where
   -- ---- the part with the bit node in the other room

@@ -1,5 +1,5 @@
 -- Table order, and where an entry stands beside a pair in it.
-use Rattle.radix_tree.proofs.Words.{◌≡◌, ℕ, Bool, true, false, ◌&&◌, ◌||◌, nat_lt, nat_eq, IsTrue, inl, inr, arith, cases_lt, precedes, has_pair, AreOnePair}
+use Rattle.radix_tree.proofs.Words.{◌≡◌, ℕ, Bool, true, false, ◌&&◌, ◌||◌, nat_lt, nat_eq, IsTrue, arith, cases_lt, precedes, has_pair, AreOnePair}
 use Rattle.radix_tree.proofs.Words.{PrecedesInWords, PrecedesOneWay, PrecedesTransitively, Entry}
 
 -- the entry precedes, in table order, those that have this pair

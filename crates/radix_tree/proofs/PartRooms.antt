@@ -1,8 +1,8 @@
 -- The rooms of a tree that stay, the bit node above a part, how often a room is in both, and a new bit node.
-use Rattle.radix_tree.proofs.Words.{◌≡◌, ℕ, ◌+◌, ◌≤◌, ◌==◌, List, [], ◌∷◌, Option, Some, None, refl, ap, arith, inl, inr, eq-eqb, Id, Node, Placed, Tree, leaf}
-use Rattle.radix_tree.proofs.Words.{fork, bit_at, BitPart, Leaves, Bits, Part, leaves_in, bits_in, name_of, ChainStands, Stands, ForkAt, Beneath, Way, one_if}
-use Rattle.radix_tree.proofs.Words.{members_at, leaves_at, forks_at, with_child, AreOnce, Lodged, number_of, false, if◌then◌else◌, sym, ◌∙◌, IsRoute, HaveBit}
-use Rattle.radix_tree.proofs.Words.{IsTree, IsPlace, leaf_above, bit_above, lift_leaf, lift_bit}
+use Rattle.radix_tree.proofs.Words.{◌≡◌, ℕ, ◌+◌, ◌≤◌, ◌==◌, List, [], ◌∷◌, Option, Some, None, refl, ap, arith, eq-eqb, Id, Node, Placed, Tree, leaf, fork}
+use Rattle.radix_tree.proofs.Words.{bit_at, BitPart, Leaves, Bits, Part, leaves_in, bits_in, name_of, ChainStands, Stands, ForkAt, Beneath, Way, one_if}
+use Rattle.radix_tree.proofs.Words.{members_at, leaves_at, forks_at, with_child, AreOnce, Lodged, number_of, false, sym, ◌∙◌, IsRoute, HaveBit, IsTree, IsPlace}
+use Rattle.radix_tree.proofs.Words.{lift_leaf, lift_bit}
 
 pub one_if_same : (n : ℕ) → one_if (n == n) ≡ 1
 one_if_same n = ap one_if (eq-eqb n n refl)

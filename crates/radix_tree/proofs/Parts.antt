@@ -1,6 +1,5 @@
 -- The parts of a tree and the ways to them, and what a search beneath a bit node tells of all that is beneath it.
-use Rattle.radix_tree.proofs.{TreeMembers.same_rank, TreeMembers.tree_route, TreeMembers.bit_beneath, Facts.zero_not_one, Facts.covered_bit, Facts.clear_bit}
-use Rattle.radix_tree.proofs.{RoomReads.Has-bit}
+use Rattle.radix_tree.proofs.{TreeMembers.tree_route, TreeMembers.bit_beneath, Facts.zero_not_one, Facts.covered_bit, Facts.clear_bit, RoomReads.Has-bit}
 use Rattle.radix_tree.proofs.Words.{◌≡◌, ℕ, ◌+◌, ◌<◌, ◌≤◌, ◌⊎◌, List, [], ◌∷◌, None, Some, sym, subst, inl, inr, arith, IsRoute, Placed, Tree, fork, bit_at}
 use Rattle.radix_tree.proofs.Words.{Covers, IsAmong, IsIn, IsTree, Falls, Best, refl, ap, Has, Id, LeafOf, BitOf, leaf, BitPart, Part, Run, leaves_in, bits_in}
 use Rattle.radix_tree.proofs.Words.{heads_in, masks_in, first_room, name_of, Stands, Lists, In, ForkAt, LeafAt, LedTo, Beneath, Way, Lodged, cases_lt, ◌==◌}

@@ -3,7 +3,7 @@ use Rattle.radix_tree.proofs.{PartRooms.one_if_same, MaskLists.falls_among, Mask
 use Rattle.radix_tree.proofs.Plugs.{Aside, aside_in, in_plug, plug_in, forks_within, low_rises}
 use Rattle.radix_tree.proofs.Words.{◌≡◌, ℕ, ◌+◌, ◌<◌, ◌≤◌, List, [], ◌∷◌, Option, ap, ◌∙◌, inl, inr, arith, is_some, Id, Placed, Tree, leaf, fork, IsIn, IsTree}
 use Rattle.radix_tree.proofs.Words.{Heads, Masks, forks_at, Frame, on_zero, on_one, plug, low_past, IsMarked, IsMaskList, MarkedIn, MarkedLists, number_of, sym}
-use Rattle.radix_tree.proofs.Words.{subst, Part, Beneath, Way, Lodged}
+use Rattle.radix_tree.proofs.Words.{subst}
 
 module _ {V : Type 0} where
   -- ---- one list

@@ -1,5 +1,5 @@
 -- A tree is a part of it beneath bit nodes: what it holds beside the part stays; and the way of a key to it.
-use Rattle.radix_tree.proofs.{Facts.zero_not_one, TreeMembers.bit_beneath}
+use Rattle.radix_tree.proofs.TreeMembers.{bit_beneath}
 use Rattle.radix_tree.proofs.Words.{◌≡◌, ℕ, ◌+◌, ◌<◌, ◌≤◌, ◌⊎◌, List, [], ◌∷◌, ◌++◌, None, refl, sym, inl, inr, arith, cases_lt, append_assoc, append-nil, Id}
 use Rattle.radix_tree.proofs.Words.{Placed, Tree, leaf, fork, IsAmong, IsIn, IsTree, routes_of, Bits, members_at, leaves_at, forks_at, HasHome, AreIdle}
 use Rattle.radix_tree.proofs.Words.{HasOneFork, HaveOneFork, Frame, on_zero, on_one, plug, low_past, Lead, Entry, number_of, ap, ◌∙◌, Part, Way, Lodged}

@@ -6,8 +6,8 @@ use Rattle.radix_tree.proofs.Words.{◌≡◌, ℕ, ◌≤◌, ◌⊎◌, true, 
 use Rattle.radix_tree.proofs.Words.{leaf_of, Id, Links, Leaf, Node, Placed, Tree, leaf, fork, routes_of, LeafPart, Leaves, Bits, leaf_in, leaves_in, bits_in}
 use Rattle.radix_tree.proofs.Words.{first_room, ChainStands, Stands, one_if, members_at, leaves_at, shown, shown_entry, Gains, IsWholeBut, is_of_key, has_key}
 use Rattle.radix_tree.proofs.Words.{late_at, nobody_out, CanTake, member_beside, Lodged, cases_eq, number_of, inside, none_some, ◌+◌, if◌then◌else◌, eq-eqb}
-use Rattle.radix_tree.proofs.Words.{ne_eqb, get, Ptr, Seen, bit_node_of, BitNode, MaskPart, Part, bit_in, head_in, mask_in, bit_part, head_part, masks_in}
-use Rattle.radix_tree.proofs.Words.{IsWhole, Holds, HasRoomMore, nobody_late, out_at, content_of, KeepsRoutes, IsOut, Entry}
+use Rattle.radix_tree.proofs.Words.{ne_eqb, get, Seen, MaskPart, Part, bit_in, head_in, mask_in, masks_in, IsWhole, Holds, HasRoomMore, nobody_late, out_at}
+use Rattle.radix_tree.proofs.Words.{content_of, KeepsRoutes, IsOut, Entry}
 use Rattle.radix_nodes.proofs.Callers.{get-removed}
 use Rattle.std.specs.FinMap.{remove}
 

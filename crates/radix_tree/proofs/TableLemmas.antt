@@ -2,8 +2,8 @@
 use Rattle.radix_tree.proofs.OrderLemmas.{stands_before, beside, stands_behind, pair_is, behind_next, behind_not_before, behind_not_pair, precedes_one_way}
 use Rattle.radix_tree.proofs.OrderLemmas.{precedes_transitively}
 use Rattle.radix_tree.proofs.ListLemmas.{all_weaker, all_filter, filter_all, filter_none, find_none}
-use Rattle.radix_tree.proofs.Words.{arith, ◌≡◌, ℕ, Bool, true, false, cond, not, filter, IsTrue, List, [], ◌∷◌, Some, None, refl, ap, AllByRecursion, precedes}
-use Rattle.radix_tree.proofs.Words.{IsTable, has_pair, entry_at, without, with_entry, AreOnePair, WithIsTable, WithoutIsTable, Entry}
+use Rattle.radix_tree.proofs.Words.{arith, ◌≡◌, ℕ, Bool, true, false, filter, IsTrue, List, [], ◌∷◌, None, refl, AllByRecursion, precedes, IsTable, has_pair}
+use Rattle.radix_tree.proofs.Words.{entry_at, without, with_entry, AreOnePair, WithIsTable, WithoutIsTable, Entry}
 
 -- behind an entry that doesn't stand before a pair, all stand behind the pair
 pub all_behind : {V : Type 0} (key rank : ℕ) (x : Entry V) (xs : List (Entry V)) → stands_before key rank x ≡ false

@@ -1,5 +1,4 @@
-use Rattle.radix_tree.proofs.{Counted.given_next, Indexed.kept_reserved}
-use Rattle.radix_tree.proofs.Words.{sym, ap, subst, ◌∙◌, arith, uses, IsKept, AreGiven}
+use Rattle.radix_tree.proofs.{Counted.given_next, Indexed.kept_reserved, Words.sym, Words.ap, Words.subst, Words.◌∙◌, Words.arith, Words.uses, Words.AreGiven}
 use Rattle.radix_tree.proofs.routes.Table.room.Goals as goal
 
 pub invariant_of-self-in-Ok : goal.invariant_of-self-in-Ok
