@@ -9,7 +9,7 @@ use Rattle.event_file.specs.Output.{Wrote, WroteFront}
 use Rattle.program_ends.specs.declared.outcome.Outcome.{Outcome}
 use Rattle.program_ends.specs.declared.outcome.Outcome.TheVariants.{Done, BadLine, ReadFault, WriteFault, NoMemory}
 use Rattle.conv_main.specs.Converted.{converted, converted_text, converted_whole, first_place, place_after, told, told_text, told_whole}
-use Rattle.conv_main.specs.Ends.{ConvertedAll, ConvertedFront, Ends, EndsCounted, Fronts, WroteFrontOf, has_line}
+use Rattle.conv_main.specs.Ends.{ConvertedAll, ConvertedFirst, ConvertedFront, Ends, EndsCounted, Fronts, WroteFrontOf, has_line}
 use Rattle.conv_main.specs.Pieces.{begun_piece, last_piece, whole_pieces}
 use Rattle.conv_main.specs.Progress.{Finished, Finishes, Reached, Took}
 use Rattle.conv_main.specs.declared.way.Place.{Place}
@@ -43,6 +43,18 @@ pub Fronts-whole : {T U : Type 0} {contents : T → Option (List ℕ)} {lines_of
 Fronts-whole {out = out} {lines = lines} p q = record { out = Front-all [] out p (sym (append-nil out)); told = Front-all [] lines q (sym (append-nil lines)) }
 
 -- ---- a run that reads
+
+-- where it can't begin
+pub First-none : (w : Way) (before old old_told : Option (List ℕ)) → ConvertedFirst w before before old old old_told old_told
+First-none w before old old_told = record {
+  read = [];
+  done = [];
+  rest = [];
+  consumes = Consumes-nil before;
+  pieces = refl;
+  appends = Appends-nil old;
+  tells = Appends-nil old_told;
+}
 
 pub Reached-start : (w : Way) (before old old_told : Option (List ℕ)) (piece : List ℕ) (place : Place) → piece ≡ [] → place ≡ first_place
     → Reached w false before before old old old_told old_told piece place
@@ -152,6 +164,28 @@ module _ {w : Way} {refused : Bool} {before mid c d e f : Option (List ℕ)} {pi
         told = Front-longer (told w q t.0) (told w place (whole_pieces w piece bytes)) p.told (Took-front_lines t.0 t.1 no_lines);
       })
 
+  -- a run that found no memory behind these bytes, and wrote what was made
+  pub Ends-short : (q : Place) (left : List (List ℕ)) (old_out out old_lines lines : List ℕ) (after g h : Option (List ℕ)) (bytes : List ℕ)
+      → Reached w refused before mid c d e f piece place → Consumes mid after bytes → old_out ≡ [] → old_lines ≡ []
+      → Took w place q (whole_pieces w piece bytes) left old_out out old_lines lines → Appends d g out → Appends f h lines
+      → ConvertedFirst w before after c g e h
+  Ends-short q left old_out out old_lines lines after g h bytes r consumes no_out no_lines t appends tells =
+      let out_is : out ≡ converted w t.done = t.out ∙ ap (λ l. l ++ converted w t.done) no_out in
+      let lines_are : lines ≡ told w place t.done = t.lines ∙ ap (λ l. l ++ told w place t.done) no_lines in
+      let whole = whole_pieces w [] r.read in
+      record {
+        read = r.read ++ bytes;
+        done = whole ++ t.done;
+        rest = left;
+        consumes = Consumes-trans before mid after r.read bytes r.consumes consumes;
+        pieces = whole_pieces-append w [] r.read bytes ∙ ap (λ l. whole ++ whole_pieces w l bytes) (sym r.piece_is)
+            ∙ ap (λ l. whole ++ l) t.whole ∙ sym (append_assoc whole t.done left);
+        appends = subst (Appends c g) (sym (converted-append w whole t.done))
+            (Appends-trans c d g (converted_whole w r.read) (converted w t.done) r.appends (subst (Appends d g) out_is appends));
+        tells = subst (Appends e h) (sym (told-append w first_place whole t.done ∙ ap (λ p. told_whole w r.read ++ told w p t.done) (sym r.place_is)))
+            (Appends-trans e f h (told_whole w r.read) (told w place t.done) r.tells (subst (Appends f h) lines_are tells));
+      }
+
   -- a run that took all pieces of these bytes
   pub Reached-took : (q : Place) (old_out out old_lines lines next : List ℕ) (said : Bool) (after g h : Option (List ℕ)) (bytes : List ℕ)
       → Reached w refused before mid c d e f piece place → Consumes mid after bytes → old_out ≡ [] → old_lines ≡ []
@@ -188,6 +222,19 @@ module _ {w : Way} {refused : Bool} {before mid c d e f : Option (List ℕ)} {pi
     );
   }
 
+  -- nothing of it was written or told
+  none_at_end : (after g h : Option (List ℕ)) → Reached w refused before mid c d e f piece place → Consumes mid after [] → (g ≡ d) × (h ≡ f)
+      → ConvertedFirst w before after c g e h
+  none_at_end after g h r consumes (same, same_lines) = record {
+    read = r.read;
+    done = whole_pieces w [] r.read;
+    rest = [];
+    consumes = subst (Consumes before after) (append-nil r.read) (Consumes-trans before mid after r.read [] r.consumes consumes);
+    pieces = sym (append-nil (whole_pieces w [] r.read));
+    appends = subst (λ n. Appends c n (converted_whole w r.read)) (sym same) r.appends;
+    tells = subst (λ n. Appends e n (told_whole w r.read)) (sym same_lines) r.tells;
+  }
+
   all_at_end : (some : Bool) (after g h : Option (List ℕ)) → Reached w refused before mid c d e f piece place → Consumes mid after [] → IsAtEnd after
       → Finished w some refused place piece d g f h → ConvertedAll w some before after c g e h
   all_at_end some after g h r consumes end p = record {
@@ -206,4 +253,4 @@ module _ {w : Way} {refused : Bool} {before mid c d e f : Option (List ℕ)} {pi
   Ends-finish BadLine after g h r consumes end p = all_at_end true after g h r consumes end p
   Ends-finish ReadFault after g h r consumes end p = absurd p
   Ends-finish WriteFault after g h r consumes end p = front_at_end after g h r consumes end p
-  Ends-finish NoMemory after g h r consumes end p = front_at_end after g h r consumes end p
+  Ends-finish NoMemory after g h r consumes end p = none_at_end after g h r consumes p

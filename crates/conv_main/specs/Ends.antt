@@ -4,7 +4,8 @@ use Rattle.std.specs.Prelude.{◌≡◌, ◌<◌, ◌≤◌, Bool, true, false, 
 use Rattle.std.specs.Io.KnownBytes.{Appends, Consumes, IsAtEnd}
 use Rattle.program_ends.specs.declared.outcome.Outcome.{Outcome}
 use Rattle.program_ends.specs.declared.outcome.Outcome.TheVariants.{Done, BadLine, ReadFault, WriteFault, NoMemory}
-use Rattle.conv_main.specs.Converted.{converted_text, converted_whole, told_text, told_whole}
+use Rattle.conv_main.specs.Converted.{converted, converted_text, converted_whole, first_place, told, told_text, told_whole}
+use Rattle.conv_main.specs.Pieces.{whole_pieces}
 use Rattle.conv_main.specs.declared.way.Way.{Way}
 
 -- something was told
@@ -49,13 +50,24 @@ pub record ConvertedFront (w : Way) (before after old new old_told new_told : Op
   pub front : Fronts (converted_whole w read) (told_whole w read) old new old_told new_told
       ⊎ (IsAtEnd after × Fronts (converted_text w read) (told_text w read) old new old_told new_told)
 
+-- it wrote the first of the pieces that were read to their ends, each converted, and told of those of them that have no
+-- counterpart, and nothing of the others
+pub record ConvertedFirst (w : Way) (before after old new old_told new_told : Option (List ℕ)) : Type 0 where
+  pub read : List ℕ
+  pub done : List (List ℕ)
+  pub rest : List (List ℕ)
+  pub consumes : Consumes before after read
+  pub pieces : whole_pieces w [] read ≡ done ++ rest
+  pub appends : Appends old new (converted w done)
+  pub tells : Appends old_told new_told (told w first_place done)
+
 -- what a run with this outcome did
 abbrev pub Ends : Outcome → Way → Option (List ℕ) → Option (List ℕ) → Option (List ℕ) → Option (List ℕ) → Option (List ℕ) → Option (List ℕ) → Type 0
 Ends Done w before after old new old_told new_told = ConvertedAll w false before after old new old_told new_told
 Ends BadLine w before after old new old_told new_told = ConvertedAll w true before after old new old_told new_told
 Ends ReadFault w before after old new old_told new_told = ConvertedWhole w before after old new old_told new_told
 Ends WriteFault w before after old new old_told new_told = ConvertedFront w before after old new old_told new_told
-Ends NoMemory w before after old new old_told new_told = ConvertedFront w before after old new old_told new_told
+Ends NoMemory w before after old new old_told new_told = ConvertedFirst w before after old new old_told new_told
 
 -- how often memory was refused before a run with this outcome, and after it. A want of memory ends the run, with its own
 -- outcome, or as a write fault where what was made before it can't be written

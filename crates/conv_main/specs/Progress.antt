@@ -46,5 +46,4 @@ Finishes BadLine w before p piece old new old_told new_told = Finished w true be
 Finishes ReadFault w before p piece old new old_told new_told = ⊥
 Finishes WriteFault w before p piece old new old_told new_told =
     Fronts (converted w (last_piece piece)) (told w p (last_piece piece)) old new old_told new_told
-Finishes NoMemory w before p piece old new old_told new_told =
-    Fronts (converted w (last_piece piece)) (told w p (last_piece piece)) old new old_told new_told
+Finishes NoMemory w before p piece old new old_told new_told = (new ≡ old) × (new_told ≡ old_told)

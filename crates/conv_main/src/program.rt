@@ -4,7 +4,7 @@ ghost use Rattle.std.specs.Prelude.{◌≡◌, ◌<◌, ◌⊎◌, [], IfErr, Ok
 ghost use Rattle.std.specs.Process.{exit_status};
 ghost use Rattle.std.specs.String.{string_bytes};
 ghost use Rattle.program_ends.specs.Endings.{status_of_end};
-ghost use Rattle.conv_main.specs.CommandLine.{Refuses, faults_of};
+ghost use Rattle.conv_main.specs.CommandLine.{NamesNone, Refuses, faults_of};
 ghost use Rattle.conv_main.specs.Converted.{IsWay};
 ghost use Rattle.route_layouts.specs.Systems.{layout_of};
 
@@ -27,6 +27,7 @@ pub(crate) fn run_words<R: Files + Input + Print + AllocGlobal, E: Print>(
     memory: &mut Memory,
 ) -> Result<Outcome, Refusal>
     ensures right { OnOk result (faults_of (map string_bytes words.now) ≡ []) }
+    ensures sides { OnOk result (NamesNone (map string_bytes words.now) → ⊥) }
     ensures refused { IfErr result (λ why. Refuses (map string_bytes words.now) why) }
     ensures short { memory.old < memory.new → (result ≡ Ok Outcome.NoMemory) ⊎ (result ≡ Ok Outcome.WriteFault) }
 {

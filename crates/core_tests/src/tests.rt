@@ -11,3 +11,4 @@ mod sockets;
 mod table;
 mod texts;
 mod words;
+mod worlds;

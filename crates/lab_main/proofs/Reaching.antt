@@ -133,11 +133,10 @@ Reached-line {o = o} {d = d} {e = e} {f = f} {s = s} {t = t} line rest said p pa
 -- ---- how it ends
 
 finished_all : (o : Shows) (a b c d e : Option (List ℕ)) (lines : List (List ℕ)) (text : List ℕ) (s : State) (bad : Bool) → AreAll a b lines s
-    → Told o fresh lines text s → Appends c d text → Appends d e (ending s.bad) → if_any s.bad ≡ bad → ToldAll o a b c e bad
+    → Told o fresh lines text s → Appends c d text → Appends d e (ending s.bad) → if_any s.bad ≡ bad → ToldAll o a b c e s bad
 finished_all o a b c d e lines text s bad all told appends more is = record {
   lines = lines;
   text = text;
-  last = s;
   all = all;
   told = told;
   bad_is = is;
@@ -173,7 +172,7 @@ finished_lines o a b c d e lines text s all told appends keeps = record {
 
 -- behind all lines, or behind `?quit`
 Ends-finished : (outcome : Outcome) (o : Shows) (a b c d e : Option (List ℕ)) (lines : List (List ℕ)) (text : List ℕ) (s : State) → AreAll a b lines s
-    → Told o fresh lines text s → Appends c d text → Finishes outcome d e s.bad → Ends o outcome a b c e
+    → Told o fresh lines text s → Appends c d text → Finishes outcome d e s.bad → Ends o outcome a b c e s
 Ends-finished Done o a b c d e lines text s all told appends (more, is) = finished_all o a b c d e lines text s false all told appends more is
 Ends-finished BadLine o a b c d e lines text s all told appends (more, is) = finished_all o a b c d e lines text s true all told appends more is
 Ends-finished ReadFault o a b c d e lines text s all told appends f = absurd f
@@ -182,14 +181,14 @@ Ends-finished NoMemory o a b c d e lines text s all told appends f = finished_li
 
 -- at the end of the text
 pub Ends-at_end : (outcome : Outcome) {n : ℕ} {o : Shows} {a b d e : Option (List ℕ)} (c f : Option (List ℕ)) {s : State} {old : List ℕ} → Reached n o a b d e s old
-    → Parted b c old [] [] × IsAtEnd c → Finishes outcome e f s.bad → Ends o outcome a c d f
+    → Parted b c old [] [] × IsAtEnd c → Finishes outcome e f s.bad → Ends o outcome a c d f s
 Ends-at_end outcome {o = o} {a = a} {d = d} {e = e} c f {s = s} p (parted, end) finishes =
     Ends-finished outcome o a c d e f p.lines p.text s ([], inl (Cut-rest [] p.cut parted), inr (refl, end)) p.told p.appends finishes
 
 -- behind a last line
 pub Ends-last : (outcome : Outcome) {n : ℕ} {o : Shows} {a b d e : Option (List ℕ)} (c f g : Option (List ℕ)) {s t : State} {old : List ℕ} (line said : List ℕ)
     → Reached n o a b d e s old → Parted b c old line [] × IsAtEnd c × (line ≢ []) → Tells o s line said t → Appends e f said → Finishes outcome f g t.bad
-    → Ends o outcome a c d g
+    → Ends o outcome a c d g t
 Ends-last outcome {o = o} {a = a} {d = d} {e = e} c f g {s = s} {t = t} line said p (parted, end, some) tells appends finishes =
     let cut = Cut-rest line p.cut parted in
     let last : CutLast a c (p.lines ++ line ∷ []) = record { whole = p.lines; last = line; cut = cut; line = parted.whole; some = some; lines_are = refl; at_end = end } in
@@ -198,7 +197,7 @@ Ends-last outcome {o = o} {a = a} {d = d} {e = e} c f g {s = s} {t = t} line sai
 
 -- behind `?quit`
 pub Ends-over : (outcome : Outcome) {n : ℕ} {o : Shows} {a b c d : Option (List ℕ)} (e : Option (List ℕ)) {s : State} {behind : List ℕ} → Reached n o a b c d s behind
-    → s.over ≡ true → length behind ≤ READ_ROOM → Finishes outcome d e s.bad → Ends o outcome a b c e
+    → s.over ≡ true → length behind ≤ READ_ROOM → Finishes outcome d e s.bad → Ends o outcome a b c e s
 Ends-over outcome {o = o} {a = a} {b = b} {c = c} {d = d} e {s = s} {behind = behind} p over few finishes =
     Ends-finished outcome o a b c d e p.lines p.text s (behind, inl p.cut, inl (over, few)) p.told p.appends finishes
 
@@ -232,12 +231,11 @@ Lines-between {d = d} {e = e} {f = f} {s = s} {old = old} p read keeps = record 
 }
 
 pub Ended-between : {n : ℕ} {o : Shows} {a b c d e f : Option (List ℕ)} {s : State} {old : List ℕ} (line : List ℕ) → Reached n o a b d e s old
-    → Begun b c old line → Keeps e f → ToldEnded o a c d f
+    → Begun b c old line → Keeps e f → ToldEnded o a c d f s
 Ended-between {a = a} {b = b} {c = c} {d = d} {e = e} {f = f} {s = s} line p begun keeps = record {
   lines = p.lines;
   begun = line ++ begun.behind;
   text = p.text;
-  last = s;
   cut = Cut-behind line begun.behind p.cut begun.parted;
   whole = elim begun.none [
     | inl none ↦ inl (ap (λ l. has_newline (line ++ l)) none ∙ ap has_newline (append-nil line) ∙ begun.parted.whole)
@@ -250,7 +248,7 @@ Ended-between {a = a} {b = b} {c = c} {d = d} {e = e} {f = f} {s = s} line p beg
 -- where the next line can't be had
 pub Ends-between : (outcome : Outcome) {n : ℕ} {o : Shows} {a b c d e : Option (List ℕ)} (f g : Option (List ℕ)) {s : State} {old : List ℕ} (line : List ℕ)
     → Reached n o a b d e s old → (outcome ≡ ReadFault → Begun b c old line) → Consumed b c → Keeps e f → Keeps f g
-    → (outcome ≡ ReadFault) ⊎ (outcome ≡ WriteFault) ⊎ (outcome ≡ NoMemory) → Ends o outcome a c d g
+    → (outcome ≡ ReadFault) ⊎ (outcome ≡ WriteFault) ⊎ (outcome ≡ NoMemory) → Ends o outcome a c d g s
 Ends-between ReadFault {e = e} f g line p begun read keeps kept is = Ended-between line p (begun refl) (Keeps-trans e f g keeps kept)
 Ends-between WriteFault {e = e} f g line p begun read keeps kept is = Front-between p read (Keeps-trans e f g keeps kept)
 Ends-between NoMemory {e = e} f g line p begun read keeps kept is = Lines-between p read (Keeps-trans e f g keeps kept)
@@ -325,8 +323,8 @@ Lines-line contents w v e broken.NoMemory line t p read broke is keeps =
     Lines-between p read (subst (λ (x : Counts _). Keeps (contents x.inner) e) broke keeps)
 
 -- so the run ends, which no read did
-pub Ends-front : (outcome : Outcome) {o : Shows} {a c d e : Option (List ℕ)} → ToldFront o a c d e → (outcome ≡ NoMemory → ToldLines o a c d e) → outcome ≢ ReadFault
-    → (outcome ≡ ReadFault) ⊎ (outcome ≡ WriteFault) ⊎ (outcome ≡ NoMemory) → Ends o outcome a c d e
+pub Ends-front : (outcome : Outcome) {o : Shows} {a c d e : Option (List ℕ)} {s : State} → ToldFront o a c d e → (outcome ≡ NoMemory → ToldLines o a c d e) → outcome ≢ ReadFault
+    → (outcome ≡ ReadFault) ⊎ (outcome ≡ WriteFault) ⊎ (outcome ≡ NoMemory) → Ends o outcome a c d e s
 Ends-front WriteFault p lines not is = p
 Ends-front NoMemory p lines not is = lines refl
 Ends-front ReadFault p lines not is = absurd (not refl)
@@ -373,12 +371,11 @@ Spent-turns {old = old} p all = record {
   many = omega (arith, all, p.many, newlines_many p.lines, ap length p.cut.parts, length-append (with_newlines p.lines) old);
 }
 
-pub Ended-turns : {n : ℕ} {o : Shows} {a b d e f : Option (List ℕ)} {s : State} {old : List ℕ} → Reached n o a b d e s old → 2 ^ 64 - 1 ≤ n → Keeps e f → ToldEnded o a b d f
+pub Ended-turns : {n : ℕ} {o : Shows} {a b d e f : Option (List ℕ)} {s : State} {old : List ℕ} → Reached n o a b d e s old → 2 ^ 64 - 1 ≤ n → Keeps e f → ToldEnded o a b d f s
 Ended-turns {d = d} {e = e} {f = f} {s = s} {old = old} p all keeps = record {
   lines = p.lines;
   begun = old;
   text = p.text;
-  last = s;
   cut = p.cut;
   whole = inr (Spent-turns p all);
   told = p.told;

@@ -1,19 +1,11 @@
 -- What a line changes beside the world.
-use Rattle.std.proofs.Common.{◌≡◌, ◌∙◌, ℕ, Bool, true, false, List, [], ◌∷◌, ◌++◌, refl, sym, ap, append-nil}
-use Rattle.std.specs.Prelude.{◌||◌, if◌then◌else◌}
+use Rattle.std.proofs.Common.{◌≡◌, ◌∙◌, ℕ, true, false, List, [], ◌∷◌, ◌++◌, sym, ap, append-nil}
+use Rattle.std.specs.Prelude.{if◌then◌else◌}
 use Rattle.event_file.specs.Counts.{one_more}
 use Rattle.lab_main.specs.Telling.{State, is_bad, is_quit}
 use Rattle.lab_main.specs.Turns.{ComesTo, Took}
 use Rattle.lab_main.specs.declared.answering.Turn.{Turn}
 use Rattle.lab_main.specs.declared.answering.Turn.TheVariants.{On, Bad, Quit}
-
-or_false : (b : Bool) → b ≡ (b || false)
-or_false true = refl
-or_false false = refl
-
-or_true : (b : Bool) → true ≡ (b || true)
-or_true true = refl
-or_true false = refl
 
 pub world_stays : (turn : Turn) (s t : State) → Took turn s t → t.world ≡ s.world
 world_stays On s t is = ap (λ x. x.world) is
@@ -40,7 +32,7 @@ bad_taken Bad line s t comes is = ap (λ x. x.bad) is ∙ ap (λ n. s.bad ++ n �
     ∙ ap (λ b. s.bad ++ (if b then t.lines ∷ [] else [])) comes.bad
 bad_taken Quit line s t comes is = none_bad line s t comes.bad (ap (λ x. x.bad) is)
 
-pub over_taken : (turn : Turn) (line : List ℕ) (s t : State) → ComesTo line turn → Took turn s t → t.over ≡ (s.over || is_quit line)
-over_taken On line s t comes is = ap (λ x. x.over) is ∙ or_false s.over ∙ ap (λ b. s.over || b) comes.last
-over_taken Bad line s t comes is = ap (λ x. x.over) is ∙ or_false s.over ∙ ap (λ b. s.over || b) comes.last
-over_taken Quit line s t comes is = ap (λ x. x.over) is ∙ or_true s.over ∙ ap (λ b. s.over || b) comes.last
+pub over_taken : (turn : Turn) (line : List ℕ) (s t : State) → s.over ≡ false → ComesTo line turn → Took turn s t → t.over ≡ is_quit line
+over_taken On line s t goes comes is = ap (λ x. x.over) is ∙ goes ∙ comes.last
+over_taken Bad line s t goes comes is = ap (λ x. x.over) is ∙ goes ∙ comes.last
+over_taken Quit line s t goes comes is = ap (λ x. x.over) is ∙ comes.last

@@ -37,22 +37,20 @@ abbrev pub AreAll : Option (List ℕ) → Option (List ℕ) → List (List ℕ) 
 AreAll before after lines last = (behind : List ℕ) × AreFirst before after lines behind
     × (((last.over ≡ true) × (length behind ≤ READ_ROOM)) ⊎ ((behind ≡ []) × IsAtEnd after))
 
--- all lines were told, and then what is told behind them; some line was bad or none was
-pub record ToldAll (o : Shows) (before after old new : Option (List ℕ)) (bad : Bool) : Type 0 where
+-- all lines were told up to this state, and then what is told behind them; some line was bad or none was
+pub record ToldAll (o : Shows) (before after old new : Option (List ℕ)) (last : State) (bad : Bool) : Type 0 where
   pub lines : List (List ℕ)
   pub text : List ℕ
-  pub last : State
   pub all : AreAll before after lines last
   pub told : Told o fresh lines text last
   pub bad_is : if_any last.bad ≡ bad
   pub appends : Appends old new (text ++ ending last.bad)
 
--- exactly the lines that were read to their ends were told, or as many as there are turns
-pub record ToldEnded (o : Shows) (before after old new : Option (List ℕ)) : Type 0 where
+-- exactly the lines that were read to their ends were told, or as many as there are turns, up to this state
+pub record ToldEnded (o : Shows) (before after old new : Option (List ℕ)) (last : State) : Type 0 where
   pub lines : List (List ℕ)
   pub begun : List ℕ
   pub text : List ℕ
-  pub last : State
   pub cut : Cut before after lines begun
   pub whole : (has_newline begun ≡ false) ⊎ Spent before after
   pub told : Told o fresh lines text last
@@ -81,12 +79,13 @@ pub record ToldLines (o : Shows) (before after old new : Option (List ℕ)) : Ty
   pub told : Told o fresh lines text last
   pub appends : Appends old new text
 
-abbrev pub Ends : Shows → Outcome → Option (List ℕ) → Option (List ℕ) → Option (List ℕ) → Option (List ℕ) → Type 0
-Ends o Done before after old new = ToldAll o before after old new false
-Ends o BadLine before after old new = ToldAll o before after old new true
-Ends o ReadFault before after old new = ToldEnded o before after old new
-Ends o WriteFault before after old new = ToldFront o before after old new
-Ends o NoMemory before after old new = ToldLines o before after old new
+-- so a run ended, and left its lab in this state
+abbrev pub Ends : Shows → Outcome → Option (List ℕ) → Option (List ℕ) → Option (List ℕ) → Option (List ℕ) → State → Type 0
+Ends o Done before after old new last = ToldAll o before after old new last false
+Ends o BadLine before after old new last = ToldAll o before after old new last true
+Ends o ReadFault before after old new last = ToldEnded o before after old new last
+Ends o WriteFault before after old new last = ToldFront o before after old new
+Ends o NoMemory before after old new last = ToldLines o before after old new
 
 -- ---- behind the last line
 

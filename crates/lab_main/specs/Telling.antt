@@ -1,5 +1,5 @@
 -- What is told of each line of a text, and of all of them one after another.
-use Rattle.std.specs.Prelude.{◌≡◌, ◌==◌, ◌&&◌, ◌||◌, ℕ, Bool, true, false, not, List, [], ◌∷◌, ◌++◌, bytes_eq, codes, decimal, length, map, MatchBool, if◌then◌else◌, Option, Some, None, is_none}
+use Rattle.std.specs.Prelude.{◌≡◌, ◌==◌, ◌&&◌, ℕ, Bool, true, false, not, List, [], ◌∷◌, ◌++◌, bytes_eq, codes, decimal, length, map, MatchBool, if◌then◌else◌, Option, Some, None, is_none}
 use Rattle.event_file.specs.Counts.{one_more}
 use Rattle.event_file.specs.Grammar.{command_of}
 use Rattle.event_file.specs.Lines.{is_passed, kept}
@@ -142,14 +142,15 @@ shown o number line body =
     (if o.echo then echoed number line else [])
     ++ (if not o.done && bytes_eq body (codes "ok\n") then [] else indented body)
 
--- a line may be told so in one state, and the next is then the other
+-- a line may be told so in one state, and the next is then the other; none is behind `?quit`
 pub record Tells (o : Shows) (old : State) (line text : List ℕ) (new : State) : Type 0 where
+  pub goes_on : old.over ≡ false
   pub body : List ℕ
   pub answers : Answers old.world line body new.world old.refused new.refused
   pub text_is : text ≡ shown o new.lines line body
   pub lines_are : new.lines ≡ one_more old.lines
   pub bad_are : new.bad ≡ old.bad ++ (if is_bad line then new.lines ∷ [] else [])
-  pub over_is : new.over ≡ (old.over || is_quit line)
+  pub over_is : new.over ≡ is_quit line
 
 -- ---- lines one after another
 

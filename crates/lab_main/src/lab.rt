@@ -59,7 +59,8 @@ impl Lab {
         })
     }
 
-    /// Puts what is told of a line in the place of what `text` has; `body` is room for a part of it.
+    /// Puts what is told of a line in the place of what `text` has; `body` is room for a part of it. Behind `?quit` no line is
+    /// told.
     pub(crate) fn tell(
         &mut self,
         shows: Shows,
@@ -68,6 +69,7 @@ impl Lab {
         text: &mut Text,
         memory: &mut Memory,
     ) -> Result<(), AllocError>
+        requires goes_on { self.old.over ≡ false }
         ensures told { OnOk result (Tells shows self.old line.now text.new self.new) }
         ensures counted { Rises (is_err result) memory.old memory.new }
     {

@@ -40,9 +40,9 @@ pub(crate) fn run<R: Read, W: Write>(
     requires no_read_failure { reader.old.failures ≡ 0 }
     requires no_write_failure { writer.old.failures ≡ 0 }
 
-    // What was read and written is said for each outcome.
+    // What was read and written is said for each outcome, and the state behind the lines that were told.
     ensures ends { Ends shows result (R.remaining reader.old.inner) (R.remaining reader.new.inner)
-        (W.contents writer.old.inner) (W.contents writer.new.inner) }
+        (W.contents writer.old.inner) (W.contents writer.new.inner) lab.new }
 
     // Before each read all that was written is flushed, and at the end too.
     ensures prompt { reader.new.early_reads ≡ reader.old.early_reads }
@@ -82,7 +82,7 @@ fn tell_lines<R: Read, W: Write>(
     requires no_read_failure { reader.old.failures ≡ 0 }
     requires no_write_failure { writer.old.failures ≡ 0 }
     ensures ends { Ends shows result (R.remaining reader.old.inner) (R.remaining reader.new.inner)
-        (W.contents writer.old.inner) (W.contents writer.new.inner) }
+        (W.contents writer.old.inner) (W.contents writer.new.inner) lab.new }
     ensures prompt { reader.new.early_reads ≡ reader.old.early_reads }
     ensures flushed { result ≢ Outcome.WriteFault → writer.new.unflushed ≡ false }
     ensures read_fault { result ≡ Outcome.ReadFault → (reader.new.failures ≡ 1)
@@ -133,7 +133,8 @@ fn tell_line<W: Write>(
     writer: &mut Counted<W>,
     memory: &mut Memory,
 ) -> Result<(), Fault>
-    requires { writer.old.failures ≡ 0 }
+    requires goes_on { lab.old.over ≡ false }
+    requires no_write_failure { writer.old.failures ≡ 0 }
     ensures told { OnOk result ((said : List ℕ) × Tells shows lab.old line.now said lab.new
         × Wrote W.contents writer.old writer.new said) }
     ensures fault { IfErr result (λ fault. Broke W.contents shows fault lab.old line.now lab.new writer.old writer.new) }

@@ -82,7 +82,10 @@ impl LineReader {
             self.old line.new.items }
         ensures fault { IfErr result (λ _. Consumed (R.remaining reader.old.inner) (R.remaining reader.new.inner)) }
         ensures needed { (reader.new ≡ reader.old) ⊎ Needed (R.remaining reader.old.inner) (R.remaining reader.new.inner) self.old }
+        ensures none_behind { result ≡ Ok Next.Last → self.new ≡ [] }
+        ensures none_left { result ≡ Ok Next.End → self.new ≡ [] }
         ensures ahead { result ≡ Ok Next.Line → length self.new ≤ READ_ROOM }
+        ensures read_room { READ_ROOM ≡ 4096 }
         ensures keeps { Keeps (W.contents writer.old.inner) (W.contents writer.new.inner) }
         ensures prompt { reader.new.early_reads ≡ reader.old.early_reads }
         ensures read_fault { result ≡ Err Fault.Read → (reader.new.failures ≡ 1)

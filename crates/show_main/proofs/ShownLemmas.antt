@@ -1,6 +1,6 @@
 -- How what is shown of the parts of a text is put together, and the steps of a run.
 use Rattle.std.proofs.Common.{◌≡◌, ◌⊎◌, ◌||◌, ℕ, true, false, cond, List, [], ◌∷◌, ◌++◌, Option, Some, None, Result, Ok, Err, refl, sym, ap, ◌∙◌, subst, append_assoc, append-nil, inl, inr, ◌+◌, length, length-take-le, take, drop, take-append-drop, length-append, suc, ◌<◌, ◌≤◌, arith}
-use Rattle.std.specs.Prelude.{IfErr, IfSome, flat_map}
+use Rattle.std.specs.Prelude.{IfErr, IfSome}
 use Rattle.std.specs.Result.{IsErrAnd}
 use Rattle.std.specs.Io.KnownBytes.{Appends, Consumes, IsAtEnd, Keeps}
 use Rattle.std.proofs.KnownBytes.{Appends-nil, Appends-trans, Consumes-kept, Consumes-nil, Consumes-trans, Consumes-whole}
@@ -16,10 +16,10 @@ use Rattle.program_ends.specs.declared.outcome.Outcome.TheVariants.{Done, BadLin
 use Rattle.show_main.specs.declared.lines.Fault.{Fault}
 use Rattle.show_main.specs.declared.lines.Fault.TheVariants as fault
 use Rattle.memory.specs.Refusing.{Rises}
-use Rattle.show_main.specs.Ends.{Ends, EndsCounted, ShowedFrontOf, WroteFrontOf}
-use Rattle.show_main.specs.Faults.{ShowedBefore, ShowedFront, failures_of, is_want_of_memory}
+use Rattle.show_main.specs.Ends.{Ends, EndsCounted, ShowedFirst, ShowedFrontOf, WroteFrontOf}
+use Rattle.show_main.specs.Faults.{ShowedFront, ShowedLines, failures_of, is_want_of_memory}
 use Rattle.show_main.specs.Progress.{Finishes, Reached}
-use Rattle.show_main.specs.Shown.{shown_ended, shown_line, shown_text}
+use Rattle.show_main.specs.Shown.{shown_ended, shown_line, shown_lines, shown_text, whole_lines}
 
 -- ---- a text in parts
 
@@ -34,26 +34,27 @@ begun_line-append (b ∷ bs) ys = elim (has_newline (b ∷ bs)) as (λ t. has_ne
       | false ↦ λ _. refl
     ] refl
 
--- whole lines are shown alike whatever follows
-pub shown_ended-append : (xs ys : List ℕ) → shown_ended (xs ++ ys) ≡ shown_ended xs ++ shown_ended (begun_line xs ++ ys)
-shown_ended-append xs ys =
-    ap (λ text. flat_map (λ line. shown_line line (10 ∷ [])) (lines_of text)) (ended_lines-append xs ys)
-    ∙ ap (flat_map (λ line. shown_line line (10 ∷ []))) (lines_of-ended xs (ended_lines (begun_line xs ++ ys)))
-    ∙ flat_map-append (λ line. shown_line line (10 ∷ [])) (lines_of (ended_lines xs)) (lines_of (ended_lines (begun_line xs ++ ys)))
+-- the whole lines of two texts, one behind the other
+pub whole_lines-append : (xs ys : List ℕ) → whole_lines (xs ++ ys) ≡ whole_lines xs ++ whole_lines (begun_line xs ++ ys)
+whole_lines-append xs ys = ap lines_of (ended_lines-append xs ys) ∙ lines_of-ended xs (ended_lines (begun_line xs ++ ys))
 
 -- bytes without a newline end no line
-pub shown_ended-none : (xs : List ℕ) → has_newline xs ≡ false → shown_ended xs ≡ []
-shown_ended-none xs none = ap (λ text. flat_map (λ line. shown_line line (10 ∷ [])) (lines_of text)) (ended_lines-more [] xs none)
+pub whole_lines-none : (xs : List ℕ) → has_newline xs ≡ false → whole_lines xs ≡ []
+whole_lines-none xs none = ap lines_of (ended_lines-more [] xs none)
 
--- a line that ends is shown, and then those behind it
-pub shown_ended-line : (line rest : List ℕ) → has_newline line ≡ false → shown_ended (line ++ 10 ∷ rest) ≡ shown_line line (10 ∷ []) ++ shown_ended rest
-shown_ended-line line rest none =
-    let front : shown_ended (line ++ 10 ∷ []) ≡ shown_line line (10 ∷ []) =
-    ap (λ text. flat_map (λ l. shown_line l (10 ∷ [])) (lines_of text)) (ended_lines-end line)
-    ∙ ap (flat_map (λ l. shown_line l (10 ∷ []))) (lines_of-line line [] none) ∙ append-nil (shown_line line (10 ∷ [])) in
-    ap shown_ended (sym (append_assoc line (10 ∷ []) rest)) ∙ shown_ended-append (line ++ 10 ∷ []) rest
-    ∙ ap (λ x. shown_ended (line ++ 10 ∷ []) ++ shown_ended (x ++ rest)) (begun_line-end line)
-    ∙ ap (λ x. x ++ shown_ended rest) front
+-- a line that ends, and those behind it
+pub whole_lines-line : (line rest : List ℕ) → has_newline line ≡ false → whole_lines (line ++ 10 ∷ rest) ≡ line ∷ whole_lines rest
+whole_lines-line line rest none =
+    ap whole_lines (sym (append_assoc line (10 ∷ []) rest)) ∙ whole_lines-append (line ++ 10 ∷ []) rest
+    ∙ ap (λ x. whole_lines (line ++ 10 ∷ []) ++ whole_lines (x ++ rest)) (begun_line-end line)
+    ∙ ap (λ ls. ls ++ whole_lines rest) (ap lines_of (ended_lines-end line) ∙ lines_of-line line [] none)
+
+-- lines are shown alike whatever follows
+shown_lines-append : (ls ms : List (List ℕ)) → shown_lines (ls ++ ms) ≡ shown_lines ls ++ shown_lines ms
+shown_lines-append ls ms = flat_map-append (λ line. shown_line line (10 ∷ [])) ls ms
+
+pub shown_ended-append : (xs ys : List ℕ) → shown_ended (xs ++ ys) ≡ shown_ended xs ++ shown_ended (begun_line xs ++ ys)
+shown_ended-append xs ys = ap shown_lines (whole_lines-append xs ys) ∙ shown_lines-append (whole_lines xs) (whole_lines (begun_line xs ++ ys))
 
 pub begun_line-line : (line rest : List ℕ) → begun_line (line ++ 10 ∷ rest) ≡ begun_line rest
 begun_line-line line rest =
@@ -67,11 +68,15 @@ pub no_newline-append : (xs ys : List ℕ) → has_newline xs ≡ false → has_
 no_newline-append xs ys p q = has_newline-append xs ys ∙ ap (λ t. t || has_newline ys) p ∙ q
 
 -- bytes that end the line that has begun, in their parts
+pub whole_lines-parted : (line front bytes behind : List ℕ) → bytes ≡ front ++ 10 ∷ behind → has_newline line ≡ false → has_newline front ≡ false
+    → whole_lines (line ++ bytes) ≡ (line ++ front) ∷ whole_lines behind
+whole_lines-parted line front bytes behind is begun first =
+    ap (λ x. whole_lines (line ++ x)) is ∙ ap whole_lines (sym (append_assoc line front (10 ∷ behind)))
+    ∙ whole_lines-line (line ++ front) behind (no_newline-append line front begun first)
+
 pub shown_ended-parted : (line front bytes behind : List ℕ) → bytes ≡ front ++ 10 ∷ behind → has_newline line ≡ false → has_newline front ≡ false
     → shown_ended (line ++ bytes) ≡ shown_line (line ++ front) (10 ∷ []) ++ shown_ended behind
-shown_ended-parted line front bytes behind is begun first =
-    ap (λ x. shown_ended (line ++ x)) is ∙ ap shown_ended (sym (append_assoc line front (10 ∷ behind)))
-    ∙ shown_ended-line (line ++ front) behind (no_newline-append line front begun first)
+shown_ended-parted line front bytes behind is begun first = ap shown_lines (whole_lines-parted line front bytes behind is begun first)
 
 pub begun_line-parted : (line front bytes behind : List ℕ) → bytes ≡ front ++ 10 ∷ behind → begun_line (line ++ bytes) ≡ begun_line behind
 begun_line-parted line front bytes behind is =
@@ -139,6 +144,10 @@ Reached-read {before} {mid} {c} {d} {line} {next} after e f bytes r consumes app
 
 -- ---- how a run ends
 
+-- where it can't begin
+pub First-none : (before old : Option (List ℕ)) → ShowedFirst before before old old
+First-none before old = record { read = []; done = []; rest = []; consumes = Consumes-nil before; lines = refl; appends = Appends-nil old }
+
 pub Ends-read_fault : {before mid after c d : Option (List ℕ)} {l : List ℕ} → Reached before mid c d l → Keeps mid after → Ends ReadFault before after c d
 Ends-read_fault {before} {mid} {after} r keeps = record {
   read = r.read;
@@ -146,26 +155,47 @@ Ends-read_fault {before} {mid} {after} r keeps = record {
   appends = r.appends;
 }
 
-by_fault : (outcome : Outcome) (before after old new : Option (List ℕ)) → (outcome ≡ WriteFault) ⊎ (outcome ≡ NoMemory) → ShowedFrontOf before after old new → Ends outcome before after old new
-by_fault outcome before after old new (inl is) p = subst (λ (o : Outcome). Ends o before after old new) (sym is) p
-by_fault outcome before after old new (inr is) p = subst (λ (o : Outcome). Ends o before after old new) (sym is) p
+-- the writer stopped within what these bytes are shown as
+stopped_within : {T : Type 0} {contents : T → Option (List ℕ)} {f : Fault} {a b : Counts T} {before mid c : Option (List ℕ)} {line : List ℕ} (after e : Option (List ℕ)) (bytes : List ℕ)
+    → Reached before mid c (contents a.inner) line → Consumes mid after bytes → ShowedFront f contents a b (shown_ended (line ++ bytes))
+    → Keeps (contents b.inner) e → ShowedFrontOf before after c e
+stopped_within {contents = contents} {a = a} {b = b} {before = before} {mid = mid} {c = c} after e bytes r consumes p keeps = record {
+  read = r.read ++ bytes;
+  consumes = Consumes-trans before mid after r.read bytes r.consumes consumes;
+  front = inl (record {
+    written = shown_ended r.read ++ p.written;
+    unwritten = p.unwritten;
+    appends = Appends-kept c (contents b.inner) e (shown_ended r.read ++ p.written)
+        (Appends-trans c (contents a.inner) (contents b.inner) (shown_ended r.read) p.written r.appends p.appends) keeps;
+    whole = shown_after bytes r ∙ ap (λ x. shown_ended r.read ++ x) p.whole ∙ sym (append_assoc (shown_ended r.read) p.written p.unwritten);
+  });
+}
 
--- the writer stopped, or memory ended, within what these bytes are shown as
+-- memory ended behind some of the lines that these bytes end
+short_behind : {T : Type 0} {contents : T → Option (List ℕ)} {a b : Counts T} {before mid c : Option (List ℕ)} {line : List ℕ} (after e : Option (List ℕ)) (bytes : List ℕ)
+    (rest : List (List ℕ)) → Reached before mid c (contents a.inner) line → Consumes mid after bytes → ShowedLines contents a b (line ++ bytes) rest
+    → Keeps (contents b.inner) e → ShowedFirst before after c e
+short_behind {contents = contents} {a = a} {b = b} {before = before} {mid = mid} {c = c} {line = line} after e bytes rest r consumes p keeps =
+    let whole = whole_lines r.read in
+    record {
+      read = r.read ++ bytes;
+      done = whole ++ p.done;
+      rest = rest;
+      consumes = Consumes-trans before mid after r.read bytes r.consumes consumes;
+      lines = whole_lines-append r.read bytes ∙ ap (λ l. whole ++ whole_lines (l ++ bytes)) (sym r.line_is) ∙ ap (λ ls. whole ++ ls) p.lines
+          ∙ sym (append_assoc whole p.done rest);
+      appends = Appends-kept c (contents b.inner) e (shown_lines (whole ++ p.done)) (subst (Appends c (contents b.inner)) (sym (shown_lines-append whole p.done))
+          (Appends-trans c (contents a.inner) (contents b.inner) (shown_ended r.read) (shown_lines p.done) r.appends p.wrote.appends)) keeps;
+    }
+
 pub Ends-stopped : {T : Type 0} {contents : T → Option (List ℕ)} {f : Fault} {a b : Counts T} {before mid c : Option (List ℕ)} {line : List ℕ} (outcome : Outcome) (after e : Option (List ℕ)) (bytes : List ℕ)
     → (outcome ≡ WriteFault) ⊎ (outcome ≡ NoMemory) → Reached before mid c (contents a.inner) line → Consumes mid after bytes
-    → ShowedFront f contents a b (shown_ended (line ++ bytes)) → Keeps (contents b.inner) e → Ends outcome before after c e
-Ends-stopped {contents = contents} {a = a} {b = b} {before = before} {mid = mid} {c = c} outcome after e bytes is r consumes p keeps =
-    by_fault outcome before after c e is (record {
-      read = r.read ++ bytes;
-      consumes = Consumes-trans before mid after r.read bytes r.consumes consumes;
-      front = inl (record {
-        written = shown_ended r.read ++ p.written;
-        unwritten = p.unwritten;
-        appends = Appends-kept c (contents b.inner) e (shown_ended r.read ++ p.written)
-            (Appends-trans c (contents a.inner) (contents b.inner) (shown_ended r.read) p.written r.appends p.appends) keeps;
-        whole = shown_after bytes r ∙ ap (λ x. shown_ended r.read ++ x) p.whole ∙ sym (append_assoc (shown_ended r.read) p.written p.unwritten);
-      });
-    })
+    → ShowedFront f contents a b (shown_ended (line ++ bytes)) → (outcome ≡ NoMemory → (rest : List (List ℕ)) × ShowedLines contents a b (line ++ bytes) rest)
+    → Keeps (contents b.inner) e → Ends outcome before after c e
+Ends-stopped {before = before} {c = c} outcome after e bytes (inl is) r consumes p first keeps =
+    subst (λ (o : Outcome). Ends o before after c e) (sym is) (stopped_within after e bytes r consumes p keeps)
+Ends-stopped {before = before} {c = c} outcome after e bytes (inr is) r consumes p first keeps =
+    let f = first is in subst (λ (o : Outcome). Ends o before after c e) (sym is) (short_behind after e bytes f.0 r consumes f.1 keeps)
 
 pub Ends-flush_fault : {before after c d : Option (List ℕ)} {l : List ℕ} → Reached before after c d l → Ends WriteFault before after c d
 Ends-flush_fault r = record {
@@ -191,6 +221,18 @@ front_at_end {before} {mid} {c} {d} after e r consumes end p = record {
   );
 }
 
+-- nothing of it was written
+first_at_end : {before mid c d : Option (List ℕ)} {l : List ℕ} (after e : Option (List ℕ)) → Reached before mid c d l → Consumes mid after [] → Keeps d e
+    → ShowedFirst before after c e
+first_at_end {before} {mid} {c} {d} after e r consumes keeps = record {
+  read = r.read;
+  done = whole_lines r.read;
+  rest = [];
+  consumes = subst (Consumes before after) (append-nil r.read) (Consumes-trans before mid after r.read [] r.consumes consumes);
+  lines = sym (append-nil (whole_lines r.read));
+  appends = Appends-kept c d e (shown_ended r.read) r.appends keeps;
+}
+
 pub Ends-finish : {before mid c d : Option (List ℕ)} {l : List ℕ} (outcome : Outcome) (after e : Option (List ℕ)) → Reached before mid c d l → Consumes mid after [] → IsAtEnd after
     → Finishes outcome d e l → Ends outcome before after c e
 Ends-finish {before} {mid} {c} {d} {l} Done after e r consumes end p = record {
@@ -202,7 +244,21 @@ Ends-finish {before} {mid} {c} {d} {l} Done after e r consumes end p = record {
 Ends-finish BadLine after e r consumes end p = absurd p
 Ends-finish ReadFault after e r consumes end p = absurd p
 Ends-finish WriteFault after e r consumes end p = front_at_end after e r consumes end p
-Ends-finish NoMemory after e r consumes end p = front_at_end after e r consumes end p
+Ends-finish NoMemory after e r consumes end p = first_at_end after e r consumes p
+
+-- how a run ends whose last line can't be shown
+pub Finishes-stopped : {T : Type 0} {contents : T → Option (List ℕ)} {f : Fault} {a b : Counts T} (outcome : Outcome) (e : Option (List ℕ)) (line : List ℕ)
+    → (outcome ≡ WriteFault) ⊎ (outcome ≡ NoMemory) → ShowedFront f contents a b (shown_line line []) → (outcome ≡ NoMemory → b ≡ a) → Keeps (contents b.inner) e
+    → Finishes outcome (contents a.inner) e line
+Finishes-stopped {contents = contents} {a = a} {b = b} outcome e line (inl is) p same keeps =
+    subst (λ (o : Outcome). Finishes o (contents a.inner) e line) (sym is) (record {
+      written = p.written;
+      unwritten = p.unwritten;
+      appends = Appends-kept (contents a.inner) (contents b.inner) e p.written p.appends keeps;
+      whole = p.whole;
+    })
+Finishes-stopped {contents = contents} {a = a} outcome e line (inr is) p same keeps =
+    subst (λ (o : Outcome). Finishes o (contents a.inner) e line) (sym is) (subst (λ (w : Counts _). Keeps (contents w.inner) e) (same is) keeps)
 
 pub shown_of_all : (outcome : Outcome) (before after old new : Option (List ℕ)) → Ends outcome before after old new → outcome ≡ Done
     → IfSome before (λ text. Appends old new (shown_text text))
@@ -212,30 +268,39 @@ shown_of_all outcome before after old new p is =
 
 -- ---- a line that is shown
 
--- what was taken of a text whose rest is shown next
-pub ShowedBefore-none : {T : Type 0} {contents : T → Option (List ℕ)} (w : Counts T) (text : List ℕ) → ShowedBefore contents w w text text
-ShowedBefore-none w text = record { written = []; wrote = Wrote-nil w; whole = refl }
+-- none was shown yet
+pub ShowedLines-none : {T : Type 0} {contents : T → Option (List ℕ)} (w : Counts T) (text : List ℕ) → ShowedLines contents w w text (whole_lines text)
+ShowedLines-none w text = record { done = []; lines = refl; wrote = Wrote-nil w }
 
 -- the line that ended was shown
-pub ShowedBefore-line : {T : Type 0} {contents : T → Option (List ℕ)} {a b d : Counts T} {text : List ℕ} (line front bytes behind : List ℕ) → ShowedBefore contents a b text (shown_ended (line ++ bytes))
+pub ShowedLines-line : {T : Type 0} {contents : T → Option (List ℕ)} {a b d : Counts T} {text : List ℕ} (line front bytes behind : List ℕ) → ShowedLines contents a b text (whole_lines (line ++ bytes))
     → bytes ≡ front ++ 10 ∷ behind → has_newline line ≡ false → has_newline front ≡ false → Wrote contents b d (shown_line (line ++ front) (10 ∷ []))
-    → ShowedBefore contents a d text (shown_ended behind)
-ShowedBefore-line line front bytes behind p is begun first wrote = record {
-  written = p.written ++ shown_line (line ++ front) (10 ∷ []);
-  wrote = Wrote-then p.wrote wrote;
-  whole = p.whole ∙ ap (λ x. p.written ++ x) (shown_ended-parted line front bytes behind is begun first) ∙ sym (append_assoc p.written (shown_line (line ++ front) (10 ∷ [])) (shown_ended behind));
-}
+    → ShowedLines contents a d text (whole_lines behind)
+ShowedLines-line {contents = contents} {a = a} {d = d} line front bytes behind p is begun first wrote =
+    let shown = shown_line (line ++ front) (10 ∷ []) in
+    record {
+      done = p.done ++ (line ++ front) ∷ [];
+      lines = p.lines ∙ ap (λ ls. p.done ++ ls) (whole_lines-parted line front bytes behind is begun first) ∙ sym (append_assoc p.done ((line ++ front) ∷ []) (whole_lines behind));
+      wrote = subst (Wrote contents a d) (ap (λ t. shown_lines p.done ++ t) (sym (append-nil shown)) ∙ sym (shown_lines-append p.done ((line ++ front) ∷ [])))
+          (Wrote-then p.wrote wrote);
+    }
 
 -- no more lines end
-pub ShowedBefore-all : {T : Type 0} {contents : T → Option (List ℕ)} {a b : Counts T} {text : List ℕ} (rest : List ℕ) → ShowedBefore contents a b text (shown_ended rest) → has_newline rest ≡ false
-    → Wrote contents a b text
-ShowedBefore-all {contents = contents} {a = a} {b = b} rest p none =
-    subst (Wrote contents a b) (sym (p.whole ∙ ap (λ x. p.written ++ x) (shown_ended-none rest none) ∙ append-nil p.written)) p.wrote
+pub ShowedLines-all : {T : Type 0} {contents : T → Option (List ℕ)} {a b : Counts T} {text : List ℕ} (rest : List ℕ) → ShowedLines contents a b text (whole_lines rest) → has_newline rest ≡ false
+    → Wrote contents a b (shown_ended text)
+ShowedLines-all {contents = contents} {a = a} {b = b} rest p none =
+    subst (Wrote contents a b) (ap shown_lines (sym (p.lines ∙ ap (λ ls. p.done ++ ls) (whole_lines-none rest none) ∙ append-nil p.done))) p.wrote
 
 -- the rest was shown in part
-pub ShowedBefore-stopped : {T : Type 0} {contents : T → Option (List ℕ)} {f : Fault} {a b d : Counts T} {text rest : List ℕ} → ShowedBefore contents a b text rest → ShowedFront f contents b d rest
-    → ShowedFront f contents a d text
-ShowedBefore-stopped {contents = contents} {f = f} {a = a} {d = d} p q = subst (ShowedFront f contents a d) (sym p.whole) (ShowedFront-then p.wrote q)
+pub ShowedLines-stopped : {T : Type 0} {contents : T → Option (List ℕ)} {f : Fault} {a b d : Counts T} {text : List ℕ} {rest : List (List ℕ)} → ShowedLines contents a b text rest
+    → ShowedFront f contents b d (shown_lines rest) → ShowedFront f contents a d (shown_ended text)
+ShowedLines-stopped {contents = contents} {f = f} {a = a} {d = d} {rest = rest} p q =
+    subst (ShowedFront f contents a d) (sym (ap shown_lines p.lines ∙ shown_lines-append p.done rest)) (ShowedFront-then p.wrote q)
+
+-- nothing of it was
+pub ShowedLines-short : {T : Type 0} {contents : T → Option (List ℕ)} (f : Fault) {a b : Counts T} {text : List ℕ} {rest : List (List ℕ)} → ShowedLines contents a b text rest
+    → failures_of f ≡ 0 → ShowedFront f contents a b (shown_ended text)
+ShowedLines-short f {b = b} {rest = rest} p none = ShowedLines-stopped p (ShowedFront-none f b b (shown_lines rest) refl none)
 
 -- what holds of the error that `?` makes of another
 pub by_error : {X E : Type 0} (r : Result X E) {P Q : E → Type 0} → IsErrAnd r P → ((e : E) → P e → Q e) → IfErr r Q

@@ -4,7 +4,7 @@ use Rattle.std.specs.Prelude.{◌≡◌, ◌<◌, ◌≤◌, List, ◌++◌, ℕ
 use Rattle.std.specs.Io.KnownBytes.{Appends, Consumes, IsAtEnd}
 use Rattle.program_ends.specs.declared.outcome.Outcome.{Outcome}
 use Rattle.program_ends.specs.declared.outcome.Outcome.TheVariants.{Done, BadLine, ReadFault, WriteFault, NoMemory}
-use Rattle.show_main.specs.Shown.{shown_ended, shown_text}
+use Rattle.show_main.specs.Shown.{shown_ended, shown_lines, shown_text, whole_lines}
 
 -- it wrote all that the reader had, with each message in words
 pub record ShowedAll (before after old new : Option (List ℕ)) : Type 0 where
@@ -32,13 +32,22 @@ pub record ShowedFrontOf (before after old new : Option (List ℕ)) : Type 0 whe
   pub consumes : Consumes before after read
   pub front : WroteFrontOf (shown_ended read) old new ⊎ (IsAtEnd after × WroteFrontOf (shown_text read) old new)
 
+-- it wrote the first of the lines that were read to their ends, with each message in words, and nothing of the others
+pub record ShowedFirst (before after old new : Option (List ℕ)) : Type 0 where
+  pub read : List ℕ
+  pub done : List (List ℕ)
+  pub rest : List (List ℕ)
+  pub consumes : Consumes before after read
+  pub lines : whole_lines read ≡ done ++ rest
+  pub appends : Appends old new (shown_lines done)
+
 -- what a run with this outcome did; none meets a bad line
 abbrev pub Ends : Outcome → Option (List ℕ) → Option (List ℕ) → Option (List ℕ) → Option (List ℕ) → Type 0
 Ends Done before after old new = ShowedAll before after old new
 Ends BadLine before after old new = ⊥
 Ends ReadFault before after old new = ShowedEnded before after old new
 Ends WriteFault before after old new = ShowedFrontOf before after old new
-Ends NoMemory before after old new = ShowedFrontOf before after old new
+Ends NoMemory before after old new = ShowedFirst before after old new
 
 -- how often memory was refused before a run with this outcome, and after it. A want of memory ends the run, with its own
 -- outcome, or as a write fault where what was shown before it can't be flushed

@@ -3,6 +3,7 @@ use Rattle.std.specs.Prelude.{◌≡◌, ℕ, ◌+◌, Bool, true, false, List, 
 use Rattle.std.specs.Io.KnownBytes.{Appends}
 use Rattle.event_file.specs.Counts.{Counts}
 use Rattle.event_file.specs.Output.{Wrote}
+use Rattle.show_main.specs.Shown.{shown_lines, whole_lines}
 use Rattle.show_main.specs.declared.lines.Fault.{Fault}
 use Rattle.show_main.specs.declared.lines.Fault.TheVariants.{Stopped, NoMemory}
 
@@ -24,8 +25,8 @@ pub record ShowedFront (fault : Fault) {T : Type 0} (contents : T → Option (Li
   pub appends : Appends (contents old.inner) (contents new.inner) written
   pub failures : new.failures ≡ old.failures + failures_of fault
 
--- the writer took of a text what stands before this rest of it
-pub record ShowedBefore {T : Type 0} (contents : T → Option (List ℕ)) (old new : Counts T) (text rest : List ℕ) : Type 0 where
-  pub written : List ℕ
-  pub wrote : Wrote contents old new written
-  pub whole : text ≡ written ++ rest
+-- of the whole lines of a text those were shown that stand before this rest of them
+pub record ShowedLines {T : Type 0} (contents : T → Option (List ℕ)) (old new : Counts T) (text : List ℕ) (rest : List (List ℕ)) : Type 0 where
+  pub done : List (List ℕ)
+  pub lines : whole_lines text ≡ done ++ rest
+  pub wrote : Wrote contents old new (shown_lines done)

@@ -1,6 +1,6 @@
 -- How far a run has come: what its writer took, beside what was read.
 use Rattle.std.specs.Prelude.{◌≡◌, List, ℕ, [], Option}
-use Rattle.std.specs.Io.KnownBytes.{Appends, Consumes}
+use Rattle.std.specs.Io.KnownBytes.{Appends, Consumes, Keeps}
 use Rattle.event_file.specs.Lines.{begun_line}
 use Rattle.program_ends.specs.declared.outcome.Outcome.{Outcome}
 use Rattle.program_ends.specs.declared.outcome.Outcome.TheVariants.{Done, BadLine, ReadFault, WriteFault, NoMemory}
@@ -20,4 +20,4 @@ Finishes Done old new line = Appends old new (shown_line line [])
 Finishes BadLine old new line = ⊥
 Finishes ReadFault old new line = ⊥
 Finishes WriteFault old new line = WroteFrontOf (shown_line line []) old new
-Finishes NoMemory old new line = WroteFrontOf (shown_line line []) old new
+Finishes NoMemory old new line = Keeps old new

@@ -35,9 +35,16 @@ told (Some message) line = text_of message
 abbrev pub shown_line : List ℕ → List ℕ → List ℕ
 shown_line line end = told (message_in line) (line ++ end)
 
--- the lines that are whole, each as it is shown
+-- the lines of a text that are whole
+abbrev pub whole_lines : List ℕ → List (List ℕ)
+whole_lines text = lines_of (ended_lines text)
+
+-- lines as they are shown, one after another
+abbrev pub shown_lines : List (List ℕ) → List ℕ
+shown_lines lines = flat_map (λ line. shown_line line (10 ∷ [])) lines
+
 abbrev pub shown_ended : List ℕ → List ℕ
-shown_ended text = flat_map (λ line. shown_line line (10 ∷ [])) (lines_of (ended_lines text))
+shown_ended text = shown_lines (whole_lines text)
 
 -- the text with each message in words, also of a last line without a newline
 abbrev pub shown_text : List ℕ → List ℕ

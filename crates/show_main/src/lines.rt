@@ -1,10 +1,10 @@
 //! The lines of a text, each shown as it ends.
-ghost use Rattle.std.specs.Prelude.{◌≡◌, ◌≤◌, ◌∷◌, ◌++◌, [], false, length, IfErr, IfNone, IfSome, OnOk, position};
+ghost use Rattle.std.specs.Prelude.{◌≡◌, ◌≤◌, ◌∷◌, ◌++◌, [], ℕ, List, Err, false, length, IfErr, IfNone, IfSome, OnOk, position};
 ghost use Rattle.event_file.specs.Lines.{begun_line, has_newline, is_newline};
 ghost use Rattle.event_file.specs.Output.{Wrote};
 ghost use Rattle.memory.specs.Refusing.{Rises};
 ghost use Rattle.message_text.specs.Texts.{text_of};
-ghost use Rattle.show_main.specs.Faults.{ShowedFront, is_want_of_memory};
+ghost use Rattle.show_main.specs.Faults.{ShowedFront, ShowedLines, is_want_of_memory};
 ghost use Rattle.show_main.specs.Shown.{shown_ended, shown_line as shown};
 ghost use Rattle.show_main.specs.declared.lines.Fault.TheVariants.{NoMemory, Stopped as WriterStopped};
 
@@ -56,6 +56,8 @@ pub(crate) fn show_bytes<W: Write>(
     ensures begun { OnOk result (line.new.items ≡ begun_line (line.old.items ++ bytes.now)) }
     ensures fault { IfErr result (λ fault. ShowedFront fault W.contents writer.old writer.new
         (shown_ended (line.old.items ++ bytes.now))) }
+    ensures first { result ≡ Err Fault.NoMemory → (rest : List (List ℕ))
+        × ShowedLines W.contents writer.old writer.new (line.old.items ++ bytes.now) rest }
     ensures kept { OnOk result (memory.new ≡ memory.old) }
     ensures refused { IfErr result (λ fault. Rises (is_want_of_memory fault) memory.old memory.new) }
 {
@@ -83,6 +85,7 @@ fn show_ended<W: Write>(
     ensures emptied { OnOk result (line.new.items ≡ []) }
     ensures fault { IfErr result (λ fault. ShowedFront fault W.contents writer.old writer.new
         (shown (line.old.items ++ front.now) (10 ∷ []))) }
+    ensures unwritten { result ≡ Err Fault.NoMemory → writer.new ≡ writer.old }
     ensures kept { OnOk result (memory.new ≡ memory.old) }
     ensures refused { IfErr result (λ fault. Rises (is_want_of_memory fault) memory.old memory.new) }
 {
@@ -123,6 +126,7 @@ pub(crate) fn show_line<W: Write>(
     requires no_failure { writer.old.failures ≡ 0 }
     ensures shown { OnOk result (Wrote W.contents writer.old writer.new (shown line.now end.now)) }
     ensures fault { IfErr result (λ fault. ShowedFront fault W.contents writer.old writer.new (shown line.now end.now)) }
+    ensures unwritten { result ≡ Err Fault.NoMemory → writer.new ≡ writer.old }
     ensures kept { OnOk result (memory.new ≡ memory.old) }
     ensures refused { IfErr result (λ fault. Rises (is_want_of_memory fault) memory.old memory.new) }
 {
@@ -150,6 +154,7 @@ fn show_message<W: Write>(
     requires no_failure { writer.old.failures ≡ 0 }
     ensures shown { OnOk result (Wrote W.contents writer.old writer.new (text_of message.now)) }
     ensures fault { IfErr result (λ fault. ShowedFront fault W.contents writer.old writer.new (text_of message.now)) }
+    ensures unwritten { result ≡ Err Fault.NoMemory → writer.new ≡ writer.old }
     ensures kept { OnOk result (memory.new ≡ memory.old) }
     ensures refused { IfErr result (λ fault. Rises (is_want_of_memory fault) memory.old memory.new) }
 {

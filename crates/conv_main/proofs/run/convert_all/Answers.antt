@@ -6,7 +6,8 @@ use Rattle.program_ends.proofs.ReadLemmas.{HasRead-more}
 use Rattle.conv_main.specs.Pieces.{begun_piece, whole_pieces}
 use Rattle.conv_main.specs.Progress.{Took}
 use Rattle.conv_main.proofs.Grown.{from_ok}
-use Rattle.conv_main.proofs.Runs.{Ends-finish, Ends-stopped, Fronts-whole, Reached-took}
+use Rattle.conv_main.proofs.Runs.{Ends-finish, Ends-short, Ends-stopped, Reached-took}
+use Rattle.conv_main.proofs.Taken.{either_took}
 use Rattle.conv_main.proofs.run.convert_all.Goals as goal
 
 pub returns-then-taken-eq0-clause-ends : goal.returns-then-taken-eq0-clause-ends
@@ -25,12 +26,13 @@ returns-in_default-deliver-clause-ends g c =
 
 pub returns-then-is_err-clause-ends : goal.returns-then-is_err-clause-ends
 returns-then-is_err-clause-ends g c =
-    Ends-stopped c.take_bytes-took.result c.take_bytes-took.new.self.place
-    c.loop-turn.progress.made.out.items c.take_bytes-took.new.self.made.out.items c.loop-turn.progress.made.told.items c.take_bytes-took.new.self.made.told.items
+    let old = c.loop-turn.progress in let new = c.take_bytes-took.new.self in let bytes = take c.in-Ok.taken c.read_behind.new.buf in
+    let t = either_took c.take_bytes-took.result c.args.way.now old.place new.place (whole_pieces c.args.way.now old.piece.items bytes)
+    old.made.out.items new.made.out.items old.made.told.items new.made.told.items c.take_bytes-took.ensures.took c.take_bytes-took.ensures.err in
+    Ends-short new.place t.0 old.made.out.items new.made.out.items old.made.told.items new.made.told.items
     (g.R.Read.remaining c.read_behind.new.self.inner) (g.W.Write.contents c.deliver.new.writer.inner) (g.E.Write.contents c.deliver.new.teller.inner)
-    (take c.in-Ok.taken c.read_behind.new.buf) c.loop-turn.invariant.reached c.in-Ok.ensures.bytes.0
-    c.loop-turn.invariant.no_out c.loop-turn.invariant.no_line c.take_bytes-took.ensures.took c.take_bytes-took.ensures.err
-    (Fronts-whole c.in-Ok-deliver.ensures.out c.in-Ok-deliver.ensures.lines)
+    bytes c.loop-turn.invariant.reached c.in-Ok.ensures.bytes.0 c.loop-turn.invariant.no_out c.loop-turn.invariant.no_line t.1
+    c.in-Ok-deliver.ensures.out.appends c.in-Ok-deliver.ensures.lines.appends
 
 pub loop-turn-preserved : goal.loop-turn-preserved
 loop-turn-preserved g c =

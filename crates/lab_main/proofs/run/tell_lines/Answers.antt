@@ -89,6 +89,7 @@ loop-turn-preserved g c =
     let told = c.in_default.ensures.told in
     record {
       reached = Reached-line c.deref.result.now c.next_line.new.self told.0 reached parted told.1 told.2.appends;
+      goes_on = sym c.is_over.ensures ∙ c.if-is_over.false;
       reads = search rules;
       writes = search rules;
       prompt = search rules;

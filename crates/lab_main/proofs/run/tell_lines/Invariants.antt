@@ -1,4 +1,4 @@
-use Rattle.std.proofs.Common.{◌≡◌}
+use Rattle.std.proofs.Common.{◌≡◌, false}
 use Rattle.lab_main.specs.Progress.{Reached}
 use Rattle.lab_main.proofs.run.tell_lines.Given as goal
 
@@ -7,6 +7,7 @@ abbrev pub invariant-loop-turn : goal.invariant-loop-turn
 invariant-loop-turn g l = record {
   reached : Reached l._turn l.shows (g.R.Read.remaining l.initial.reader.inner) (g.R.Read.remaining l.reader.inner)
       (g.W.Write.contents l.initial.writer.inner) (g.W.Write.contents l.writer.inner) l.lab l.lines;
+  goes_on : l.lab.over ≡ false;
   reads : l.reader.failures ≡ 0;
   writes : l.writer.failures ≡ 0;
   prompt : l.reader.early_reads ≡ l.initial.reader.early_reads;

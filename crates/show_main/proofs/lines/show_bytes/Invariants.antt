@@ -1,8 +1,8 @@
 use Rattle.std.proofs.Common.{◌≡◌, ◌≤◌, ◌++◌, false, length}
 use Rattle.event_file.specs.Lines.{begun_line, has_newline}
 use Rattle.memory.specs.declared.memory.TheConstants.{MOST_ASKED}
-use Rattle.show_main.specs.Faults.{ShowedBefore}
-use Rattle.show_main.specs.Shown.{shown_ended}
+use Rattle.show_main.specs.Faults.{ShowedLines}
+use Rattle.show_main.specs.Shown.{whole_lines}
 use Rattle.show_main.proofs.lines.show_bytes.Given as goal
 
 abbrev pub invariant-loop-front : goal.invariant-loop-front
@@ -11,7 +11,7 @@ invariant-loop-front g l = record {
   no_failure : l.writer.failures ≡ 0;
   memory : l.memory ≡ l.initial.memory;
   modest : length l.rest ≤ MOST_ASKED;
-  shown : ShowedBefore g.W.Write.contents l.initial.writer l.writer (shown_ended (l.initial.line.items ++ l.bytes)) (shown_ended (l.line.items ++ l.rest));
+  shown : ShowedLines g.W.Write.contents l.initial.writer l.writer (l.initial.line.items ++ l.bytes) (whole_lines (l.line.items ++ l.rest));
   leaves : begun_line (l.initial.line.items ++ l.bytes) ≡ begun_line (l.line.items ++ l.rest);
 }
 

@@ -1,4 +1,4 @@
-use Rattle.std.proofs.Common.{◌≡◌, inr, ◌≤◌, length, ◌++◌, ◌∙◌, ap, arith, rules, subst, take}
+use Rattle.std.proofs.Common.{◌≡◌, Err, inr, ◌≤◌, length, ◌++◌, ◌∙◌, ap, arith, rules, subst, take}
 use Rattle.std.specs.Prelude.{IfSome}
 use Rattle.std.specs.Io.KnownBytes.{Consumes}
 use Rattle.event_file.specs.Lines.{has_newline}
@@ -17,7 +17,7 @@ returns-then-taken-eq0-clause-ends g c =
 pub returns-in-Err-clause-ends : goal.returns-in-Err-clause-ends
 returns-in-Err-clause-ends g c =
     Ends-stopped c.stop.result (g.R.Read.remaining c.read_behind.new.self.inner) (g.W.Write.contents c.stop.new.writer.inner) (take c.in-Ok.taken c.read_behind.new.buf) c.stop.ensures.ends
-    c.loop-turn.invariant.reached c.in-Ok.ensures.bytes.0 c.in-Err.ensures.fault c.stop.ensures.keeps
+    c.loop-turn.invariant.reached c.in-Ok.ensures.bytes.0 c.in-Err.ensures.fault (λ none. c.in-Err.ensures.first (ap Err (c.stop.ensures.cause none))) c.stop.ensures.keeps
 
 pub loop-turn-preserved : goal.loop-turn-preserved
 loop-turn-preserved g c =

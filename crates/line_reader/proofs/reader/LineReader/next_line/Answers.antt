@@ -41,6 +41,14 @@ returns-else-is_empty-clause-last g c = λ _.
       is_begun c.take_line.new.line.items (search rules),
     )
 
+pub returns-else-is_empty-clause-none_behind : goal.returns-else-is_empty-clause-none_behind
+returns-else-is_empty-clause-none_behind g c = λ _.
+    nothing_new c.read_more.new.self c.in_ok-read_more.field-0 c.in_ok-read_more.ensures.some c.if-branch-eq0.true
+
+pub returns-then-is_empty-clause-none_left : goal.returns-then-is_empty-clause-none_left
+returns-then-is_empty-clause-none_left g c = λ _.
+    nothing_new c.read_more.new.self c.in_ok-read_more.field-0 c.in_ok-read_more.ensures.some c.if-branch-eq0.true
+
 pub loop-turn-preserved : goal.loop-turn-preserved
 loop-turn-preserved g c =
     let unended = Parted-unended c.in_ok-take_line.field-0 _ _ c.if-branch.false c.in_ok-take_line.ensures.took c.loop-turn.invariant.parted in
