@@ -1,15 +1,14 @@
 -- The steps of a run, and how it ends.
-use Rattle.std.proofs.Common.{◌≡◌, ◌≢◌, ◌⊎◌, ◌||◌, ℕ, Bool, true, false, List, [], ◌∷◌, ◌++◌, Option, Some, None, Result, refl, sym, ap, ◌∙◌, subst, append_assoc, append-nil, inl, inr, length, ◌<◌, ◌≤◌, arith}
-use Rattle.std.specs.Prelude.{IfSome, OnErr, OnOk}
+use Rattle.std.proofs.Common.{◌≡◌, ◌||◌, ℕ, Bool, true, false, List, [], ◌++◌, Option, Result, refl, sym, ap, ◌∙◌, subst, append_assoc, append-nil, inl, inr}
+use Rattle.std.specs.Prelude.{OnErr, OnOk}
 use Rattle.std.specs.Io.KnownBytes.{Appends, Consumes, IsAtEnd, Keeps}
-use Rattle.std.proofs.KnownBytes.{Appends-nil, Appends-trans, Consumes-kept, Consumes-nil, Consumes-trans, Consumes-whole}
-use Rattle.std.proofs.lemmas.Bool.{false≢true, true≢false}
+use Rattle.std.proofs.KnownBytes.{Appends-nil, Appends-trans, Consumes-kept, Consumes-nil, Consumes-trans}
 use Rattle.event_file.specs.Counts.{Counts}
 use Rattle.event_file.specs.Output.{Wrote, WroteFront}
 use Rattle.program_ends.specs.declared.outcome.Outcome.{Outcome}
 use Rattle.program_ends.specs.declared.outcome.Outcome.TheVariants.{Done, BadLine, ReadFault, WriteFault, NoMemory}
 use Rattle.conv_main.specs.Converted.{converted, converted_text, converted_whole, first_place, place_after, told, told_text, told_whole}
-use Rattle.conv_main.specs.Ends.{ConvertedAll, ConvertedFirst, ConvertedFront, Ends, EndsCounted, Fronts, WroteFrontOf, has_line}
+use Rattle.conv_main.specs.Ends.{ConvertedAll, ConvertedFirst, ConvertedFront, Ends, Fronts, WroteFrontOf, has_line}
 use Rattle.conv_main.specs.Pieces.{begun_piece, last_piece, whole_pieces}
 use Rattle.conv_main.specs.Progress.{Finished, Finishes, Reached, Took}
 use Rattle.conv_main.specs.declared.way.Place.{Place}
@@ -37,10 +36,6 @@ Front-longer rest whole p is = record {
   appends = p.appends;
   whole = is ∙ ap (λ l. l ++ rest) p.whole ∙ append_assoc p.written p.unwritten rest;
 }
-
-pub Fronts-whole : {T U : Type 0} {contents : T → Option (List ℕ)} {lines_of : U → Option (List ℕ)} {a b : Counts T} {m n : Counts U} {out lines : List ℕ}
-    → Wrote contents a b out → Wrote lines_of m n lines → Fronts out lines (contents a.inner) (contents b.inner) (lines_of m.inner) (lines_of n.inner)
-Fronts-whole {out = out} {lines = lines} p q = record { out = Front-all [] out p (sym (append-nil out)); told = Front-all [] lines q (sym (append-nil lines)) }
 
 -- ---- a run that reads
 

@@ -323,17 +323,17 @@ Lines-line contents w v e broken.NoMemory line t p read broke is keeps =
     Lines-between p read (subst (λ (x : Counts _). Keeps (contents x.inner) e) broke keeps)
 
 -- so the run ends, which no read did
-pub Ends-front : (outcome : Outcome) {o : Shows} {a c d e : Option (List ℕ)} {s : State} → ToldFront o a c d e → (outcome ≡ NoMemory → ToldLines o a c d e) → outcome ≢ ReadFault
+pub Ends-front : (outcome : Outcome) {o : Shows} {a c d e : Option (List ℕ)} (s : State) → ToldFront o a c d e → (outcome ≡ NoMemory → ToldLines o a c d e) → outcome ≢ ReadFault
     → (outcome ≡ ReadFault) ⊎ (outcome ≡ WriteFault) ⊎ (outcome ≡ NoMemory) → Ends o outcome a c d e s
-Ends-front WriteFault p lines not is = p
-Ends-front NoMemory p lines not is = lines refl
-Ends-front ReadFault p lines not is = absurd (not refl)
-Ends-front Done p lines not (inl is) = absurd (cc)
-Ends-front Done p lines not (inr (inl is)) = absurd (cc)
-Ends-front Done p lines not (inr (inr is)) = absurd (cc)
-Ends-front BadLine p lines not (inl is) = absurd (cc)
-Ends-front BadLine p lines not (inr (inl is)) = absurd (cc)
-Ends-front BadLine p lines not (inr (inr is)) = absurd (cc)
+Ends-front WriteFault s p lines not is = p
+Ends-front NoMemory s p lines not is = lines refl
+Ends-front ReadFault s p lines not is = absurd (not refl)
+Ends-front Done s p lines not (inl is) = absurd (cc)
+Ends-front Done s p lines not (inr (inl is)) = absurd (cc)
+Ends-front Done s p lines not (inr (inr is)) = absurd (cc)
+Ends-front BadLine s p lines not (inl is) = absurd (cc)
+Ends-front BadLine s p lines not (inr (inl is)) = absurd (cc)
+Ends-front BadLine s p lines not (inr (inr is)) = absurd (cc)
 
 -- a fault that isn't of reading stops as none
 pub not_read : {W : Type 0} (contents : W → Option (List ℕ)) (w v : Counts W) (o : Shows) (s t : State) (line : List ℕ) (fault : Fault) → Broke contents o fault s line t w v → fault ≢ broken.Read

@@ -1,5 +1,5 @@
 -- What a line changes beside the world.
-use Rattle.std.proofs.Common.{◌≡◌, ◌∙◌, ℕ, true, false, List, [], ◌∷◌, ◌++◌, sym, ap, append-nil}
+use Rattle.std.proofs.Common.{◌≡◌, ◌∙◌, ℕ, false, List, [], ◌∷◌, ◌++◌, sym, ap, append-nil}
 use Rattle.std.specs.Prelude.{if◌then◌else◌}
 use Rattle.event_file.specs.Counts.{one_more}
 use Rattle.lab_main.specs.Telling.{State, is_bad, is_quit}

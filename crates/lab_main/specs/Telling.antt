@@ -1,5 +1,5 @@
 -- What is told of each line of a text, and of all of them one after another.
-use Rattle.std.specs.Prelude.{◌≡◌, ◌==◌, ◌&&◌, ℕ, Bool, true, false, not, List, [], ◌∷◌, ◌++◌, bytes_eq, codes, decimal, length, map, MatchBool, if◌then◌else◌, Option, Some, None, is_none}
+use Rattle.std.specs.Prelude.{◌≡◌, ◌&&◌, ℕ, Bool, true, false, not, List, [], ◌∷◌, ◌++◌, bytes_eq, codes, decimal, map, MatchBool, if◌then◌else◌, Option, Some, None, is_none}
 use Rattle.event_file.specs.Counts.{one_more}
 use Rattle.event_file.specs.Grammar.{command_of}
 use Rattle.event_file.specs.Lines.{is_passed, kept}

@@ -1,5 +1,5 @@
 //! A machine to which lines are told, and what is told of each.
-ghost use Rattle.std.specs.Prelude.{◌≡◌, ◌++◌, IfOk, OnOk, is_err};
+ghost use Rattle.std.specs.Prelude.{◌≡◌, ◌++◌, IfOk, OnOk, false, is_err};
 ghost use Rattle.lab_main.specs.Telling.{Tells, fresh, if_any};
 ghost use Rattle.lab_main.specs.Texts.{ending};
 ghost use Rattle.lab_main.specs.Turns.{Took};

@@ -1,6 +1,6 @@
 //! A run: a text's lines in, and what is told of each out.
-ghost use Rattle.std.specs.Prelude.{◌≡◌, ◌≢◌, ◌⊎◌, ◌<◌, ◌≤◌, [], ℕ, List, Err, IfErr, OnOk, false};
-ghost use Rattle.std.specs.Io.KnownBytes.{Appends, Keeps};
+ghost use Rattle.std.specs.Prelude.{◌≡◌, ◌≢◌, ◌⊎◌, ◌<◌, [], ℕ, List, Err, IfErr, OnOk, false};
+ghost use Rattle.std.specs.Io.KnownBytes.{Keeps};
 ghost use Rattle.event_file.specs.Output.{Wrote};
 ghost use Rattle.lab_main.specs.Ends.{Ends, Finishes};
 ghost use Rattle.lab_main.specs.Faults.{Broke};

@@ -11,7 +11,7 @@ returns-in-Err-tell_line-clause-ends g c =
     let parted : Parted (g.R.Read.remaining c.loop-turn.reader.inner) (g.R.Read.remaining c.next_line.new.reader.inner) c.loop-turn.lines c.deref.result.now (10 ∷ c.next_line.new.self) =
     search rules in
     let reached = Reached-kept c.loop-turn.invariant.reached c.in-Ok-Line.ensures.keeps in
-    Ends-front c.stop.result
+    Ends-front c.stop.result _
     (Front-line g.W.Write.contents c.next_line.new.writer c.tell_line.new.writer (g.W.Write.contents c.stop.new.writer.inner) c.in-Err-tell_line.fault c.deref.result.now c.next_line.new.self
     c.tell_line.new.lab reached parted c.in-Err-tell_line.ensures.fault c.stop.ensures.keeps)
     (λ is. Lines-line g.W.Write.contents c.next_line.new.writer c.tell_line.new.writer (g.W.Write.contents c.stop.new.writer.inner) c.in-Err-tell_line.fault c.deref.result.now
@@ -35,7 +35,7 @@ returns-in-Err-tell_line-2-clause-ends g c =
     × IsAtEnd (g.R.Read.remaining c.next_line.new.reader.inner) × (line ≢ []) = search rules in
     let reached = Reached-kept c.loop-turn.invariant.reached c.in-Ok-Last.ensures.keeps in
     let stop = c.stop-in-Err-tell_line-2 in
-    Ends-front stop.result
+    Ends-front stop.result _
     (Front-last g.W.Write.contents c.next_line.new.writer c.tell_line-in-Ok-Last.new.writer (g.W.Write.contents stop.new.writer.inner) c.in-Err-tell_line-2.fault line
     c.tell_line-in-Ok-Last.new.lab reached parted c.in-Err-tell_line-2.ensures.fault stop.ensures.keeps)
     (λ is. Lines-line g.W.Write.contents c.next_line.new.writer c.tell_line-in-Ok-Last.new.writer (g.W.Write.contents stop.new.writer.inner) c.in-Err-tell_line-2.fault line

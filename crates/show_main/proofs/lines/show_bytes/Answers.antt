@@ -1,6 +1,6 @@
 use Rattle.std.proofs.Common.{◌∙◌, ◌++◌, sym, rules}
 use Rattle.show_main.specs.Shown.{shown_ended}
-use Rattle.show_main.proofs.ShownLemmas.{ShowedFront-more, ShowedLines-all, ShowedLines-line, ShowedLines-short, ShowedLines-stopped, begun_line-all, begun_line-parted, by_error, no_newline-append, shorter, shown_ended-parted}
+use Rattle.show_main.proofs.ShownLemmas.{ShowedFront-more, ShowedLines-all, ShowedLines-line, ShowedLines-stopped, begun_line-all, begun_line-parted, by_error, no_newline-append, shorter, shown_ended-parted}
 use Rattle.show_main.proofs.lines.show_bytes.Goals as goal
 
 pub returns-in_err-show_ended-clause-fault : goal.returns-in_err-show_ended-clause-fault
