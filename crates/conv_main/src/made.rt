@@ -58,7 +58,7 @@ impl Made {
         }
     }
 
-    /// The same of a line.
+    /// The same of a piece that is a line, which tells a message, behind `msg ` or `write ID `, or none and is kept among lines.
     fn put_line(
         &mut self,
         alloc: Global,
@@ -97,7 +97,8 @@ impl Made {
         }
     }
 
-    /// The same of a piece with this message.
+    /// The same of a piece whose message is this one: appends the converted message, or, where that has no counterpart, tells why
+    /// and appends what stands for the piece then.
     fn put_message(
         &mut self,
         way: &Way,

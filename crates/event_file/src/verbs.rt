@@ -80,6 +80,7 @@ pub(crate) fn add_address(words: &[&[u8]]) -> Option<Said<'static>>
     let [name, word, words @ ..] = words else {
         return None;
     };
+    // An option that is read is taken off, so what is left behind `to` may be `cloning`.
     let mut options = Options { words };
     let far = far(options.word("to"))?;
     let cloning = cloning(options.words)?;

@@ -1,3 +1,4 @@
+//! The words of a line: how it is parted into them, whether one is a given word, and options, which are a name and a word.
 ghost use Rattle.std.specs.Prelude.{◌≡◌, ◌<◌, [], ◌∷◌, length, map, bytes_eq, option_map, Option, Some, None, MatchBool};
 ghost use Rattle.std.specs.Option.{IfSome, IfNone};
 ghost use Rattle.event_file.specs.Words.{parted_by, option_written, words_behind};

@@ -79,7 +79,8 @@ pub record ToldLines (o : Shows) (before after old new : Option (List ℕ)) : Ty
   pub told : Told o fresh lines text last
   pub appends : Appends old new text
 
--- so a run ended, and left its lab in this state
+-- what a run did that ended with an outcome: how much it read, told and wrote. Where all lines were told, or a read failed, its
+-- lab was left in this state, behind the last line that was told; of the other outcomes nothing is said of that
 abbrev pub Ends : Shows → Outcome → Option (List ℕ) → Option (List ℕ) → Option (List ℕ) → Option (List ℕ) → State → Type 0
 Ends o Done before after old new last = ToldAll o before after old new last false
 Ends o BadLine before after old new last = ToldAll o before after old new last true

@@ -1,7 +1,7 @@
 //! A reader and a writer that note why they failed.
 use std::io::{self, ErrorKind, Read, Write};
 
-/// A reader, or a writer, and why its last call that failed did.
+/// A reader or a writer, and why the last of its calls that failed did so. A call that succeeds later doesn't clear it.
 #[derive(Drop)]
 pub(crate) struct Noting<T> {
     inner: T,
@@ -9,12 +9,12 @@ pub(crate) struct Noting<T> {
 }
 
 impl<T> Noting<T> {
-    /// It, before any call.
+    /// Around a reader or a writer, before any call.
     pub(crate) fn new(inner: T) -> Noting<T> {
         Noting { inner, why: None }
     }
 
-    /// Why its last call that failed did, if one told.
+    /// Why the last call that failed did; `None` where none has failed yet.
     pub(crate) fn why(&self) -> Option<ErrorKind> {
         self.why
     }

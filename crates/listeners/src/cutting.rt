@@ -1,3 +1,4 @@
+//! A queue's bytes are cut into messages again, one after another, by the length at the front of each.
 ghost use Rattle.std.specs.Prelude.{◌≡◌, ◌∷◌, ◌<◌, ◌≤◌, length, take, drop};
 ghost use Rattle.listeners.specs.Queue.{cut, AreMessages};
 

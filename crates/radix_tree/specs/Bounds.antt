@@ -9,10 +9,11 @@ width = 32
 abbrev pub last_bit : ℕ
 last_bit = width - 1
 
--- the rank of a route of one host, which is the greatest, and how many ranks there are
+-- the rank of a route of one host, which is the greatest
 abbrev pub host_rank : ℕ
 host_rank = width + 1
 
+-- how many ranks there are, 0 to 33; the code's `Ranks` is a set of some of them
 abbrev pub ranks : ℕ
 ranks = host_rank + 1
 

@@ -1,4 +1,5 @@
-//! How a table finds the room of a route: by its index, while that is whole, and else by a way down its tree.
+//! How a table finds the room of a route. That of a key and a rank is found by the index, while that is whole; that of the best
+//! route of an address likewise, where there are more than 256 routes. Else both are found by a way down the tree.
 ghost use Rattle.std.specs.Prelude.{◌≡◌, ◌≤◌, ℕ, Some, true};
 ghost use Rattle.mask_table.specs.Agreeing.{masked as masked_by};
 ghost use Rattle.mask_table.specs.RankSets.{HasRank};
@@ -65,8 +66,9 @@ pub(crate) fn find_best<V>(
     }
 }
 
-/// So by the index: it is asked for the address masked by each rank of which there are routes, from the greatest on; and once it
-/// was asked in vain, for such alone as routes near the address have.
+/// The best route by the index: it is asked for the address masked by each rank of which there are routes, from the greatest on;
+/// and once it was asked in vain, for such alone as routes near the address have. The `ranks` of its body is the set of those
+/// that are left, not the number of all ranks, which the contract names so (`specs/Bounds.antt`).
 fn best_by_rank<V>(
     nodes: &Nodes<V>,
     index: &Index,

@@ -34,12 +34,15 @@ pub record IsKeptFor (h : Held) (pair : ℕ) (v : Vacancy) : Type 0 where
   pub free : standing h.tags h.entries v.place ≡ None
   pub home : IsHome h.bits v.place pair
 
+-- The next four say what a change of an index leaves: what it names then is no more than is said, in any case; and all of that
+-- where it is still whole, as it isn't once it was given up.
+
 -- it has what it had; or it was given up
 pub record Keeps (old new : Held) : Type 0 where
   pub fewer : (k : ℕ) (r : Id) → Names new k r → Names old k r
   pub kept : new.whole ≡ true → (old.whole ≡ true) × ((k : ℕ) (r : Id) → Names old k r → Names new k r)
 
--- it has the room of one pair more; or it was given up, and has none
+-- it has the room of one pair more; or it was given up, and has no room at all
 pub record Enters (old new : Held) (pair : ℕ) (room : Id) : Type 0 where
   pub only : (k : ℕ) (r : Id) → Names new k r → ((k ≡ pair) × (r ≡ room)) ⊎ Names old k r
   pub more : new.whole ≡ true → (old.whole ≡ true) × Names new pair room × ((k : ℕ) (r : Id) → Names old k r → Names new k r)
@@ -49,7 +52,7 @@ pub record Loses (old new : Held) (pair : ℕ) : Type 0 where
   pub fewer : (k : ℕ) (r : Id) → Names new k r → Names old k r × (k ≡ pair → ⊥)
   pub kept : new.whole ≡ true → (old.whole ≡ true) × ((k : ℕ) (r : Id) → (k ≡ pair → ⊥) → Names old k r → Names new k r)
 
--- so; but where no other pair is left, it begins anew
+-- the same of a strike, which is told whether a rest of pairs is left: without one the index begins anew and is whole
 pub record Strikes (old new : Held) (pair : ℕ) (rest : Bool) : Type 0 where
   pub fewer : (k : ℕ) (r : Id) → Names new k r → Names old k r × (k ≡ pair → ⊥)
   pub loses : rest ≡ true → Loses old new pair

@@ -1,3 +1,4 @@
+//! The addresses of a message by their names, and the bits and bytes that they take in it.
 ghost use Rattle.std.specs.Prelude.{◌≡◌, ◌+◌, ◌≤◌, ◌++◌, length};
 
 use crate::bits::{

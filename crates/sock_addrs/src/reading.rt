@@ -1,3 +1,4 @@
+//! Sockaddrs are read: IPv4 addresses, gateways and masks, each with the first fault.
 ghost use Rattle.std.specs.Prelude.{◌≡◌, ◌≢◌, ◌≤◌, ℕ, slice_index, IfOk, IfErr};
 ghost use Rattle.std.specs.Option.{MatchOption};
 ghost use Rattle.sock_addrs.specs.Reading.{IsShort, IsWhole, ReadsGate, ReadsInet, ReadsMask, length_byte, read_gate_of, read_inet_of, read_mask_of};
